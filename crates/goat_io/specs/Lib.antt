@@ -1,0 +1,7 @@
+pub mod Count
+pub mod Fault
+pub mod Files
+pub mod Written
+pub mod FileMap
+pub mod MemFolder
+pub mod MemSink
