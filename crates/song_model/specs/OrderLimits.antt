@@ -1,0 +1,11 @@
+-- The ranges of an orderlist, from the GoatTracker 2 readme's format.
+use Rattle.std.specs.Prelude.{ℕ, ◌<◌, List}
+use Rattle.song_model.specs.Basics.{KeepsLimit}
+
+-- a pattern number, a repeat or a transpose; $FF is the endmark, which isn't an entry
+abbrev pub IsEntry : ℕ → Type 0
+IsEntry byte = byte < 0xFF
+
+-- at most 254 entries before the endmark
+abbrev pub AreEntries : List ℕ → Type 0
+AreEntries entries = KeepsLimit 254 IsEntry entries

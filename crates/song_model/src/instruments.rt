@@ -1,0 +1,35 @@
+//! Instruments, and the bits that name what a song makes use of.
+
+use crate::Bounded;
+
+/// An instrument, as the GoatTracker 2 readme's format has it.
+#[derive(Clone, Copy, Debug, PartialEq, Eq)]
+pub struct Instrument {
+    /// Attack and decay.
+    pub ad: u8,
+    /// Sustain and release.
+    pub sr: u8,
+    /// The first row of its wave program, 0 for none.
+    pub wave: u8,
+    /// The first row of its pulse program, 0 for none.
+    pub pulse: u8,
+    /// The first row of its filter program, 0 for none.
+    pub filter: u8,
+    /// The vibrato's row of the speed table, 0 for none.
+    pub vibrato: u8,
+    /// Frames before the vibrato begins; 0 for never.
+    pub vibrato_delay: u8,
+    /// In the low six bits the frames before a note at which the gate goes off; `$40` keeps the gate,
+    /// `$80` keeps the envelope.
+    pub gate_timer: u8,
+    /// The waveform of a note's first frame.
+    pub first_wave: u8,
+    pub name: [u8; 16],
+}
+
+/// The instruments of a song: at most 63, numbered from 1.
+pub type InstrumentList = Bounded<Instrument, 63>;
+
+/// A set of features of the player, one bit each.
+#[derive(Clone, Copy, Debug, PartialEq, Eq)]
+pub struct FeatureBits(pub u32);

@@ -1,0 +1,31 @@
+//! The song: what a GoatTracker 2 file of the format GTS5 holds, as types that keep the format's limits.
+//!
+//! The layer's one contract: a value of these types is within the limits of the format, a constructor
+//! keeps exactly the items that it was given, and a refusal leaves everything as it was.
+//! Its definitions say how a song is spelled (`canonical`), what an orderlist plays (`played`), and
+//! what a look-up finds where nothing is stored.
+//! It stands on nothing but std. Readers, editors, the playroutine and the packer stand on it.
+#![tactic(auto)]
+
+mod faults;
+mod instruments;
+mod laws;
+mod lists;
+mod orders;
+mod patterns;
+mod rows;
+mod songs;
+mod tables;
+
+pub use faults::{LimitFault, NoMemory, PushFault};
+pub use instruments::{FeatureBits, Instrument, InstrumentList};
+pub use laws::silence_spelling;
+pub use lists::{Bounded, ByteList};
+pub use orders::{Order, OrderEntries, OrderPlace, Step, Subtune, SubtuneList};
+pub use patterns::{Pattern, PatternList};
+pub use rows::Row;
+pub use songs::Song;
+pub use tables::{Table, TableName, TableRow};
+
+#[cfg(test)]
+mod tests;
