@@ -1,0 +1,4 @@
+mod Forms
+mod Fronts
+mod Exits
+mod Silences

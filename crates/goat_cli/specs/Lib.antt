@@ -1,0 +1,5 @@
+pub mod Words
+pub mod PackJob
+pub mod Plain
+pub mod Pieces
+pub mod PlainFault
