@@ -1,0 +1,5 @@
+pub mod Opcodes
+pub mod Effects
+pub mod Step
+pub mod Call
+pub mod Log
