@@ -2,14 +2,14 @@
 use Rattle.std.proofs.Common.{◌≡◌, ℕ, zero, suc, ◌+◌, ◌<◌, ◌≤◌, ◌⊎◌, List, ◌++◌, Result, Ok, Err, refl, sym, ap, ◌∙◌, subst, arith, inl, inr}
 use Rattle.std.proofs.lemmas.Bool.{cases_lt}
 use Rattle.cpu6502.specs.declared.machine.Machine.{Machine}
-use Rattle.cpu6502.specs.declared.log.WriteLog.{WriteLog}
 use Rattle.cpu6502.specs.declared.stop.Stop.{Stop}
 use Rattle.cpu6502.specs.declared.stop.CallStop.{CallStop}
 use Rattle.cpu6502.specs.declared.stop.CallStop.TheVariants.{Stopped, Budget}
 use Rattle.cpu6502.specs.Step.{step}
 use Rattle.cpu6502.specs.Call.{run, entered, HasReturned, IsOutFor, Called, MeetsStop, IsUnderWay, FailsBy, writes_in}
-use Rattle.cpu6502.specs.Log.{log_of, sid_writes}
-use Rattle.cpu6502.proofs.Steps.{run-suc, run_stopped}
+use Rattle.cpu6502.specs.Log.{log_of, sid_write, sid_writes}
+use Rattle.std.proofs.lemmas.List.Elements.{filter_map-append}
+use Rattle.cpu6502.proofs.Steps.{run_stopped, writes_in-add, writes_in-stopped}
 
 -- one more machine that has not returned
 pub out_longer : (m : Machine) (address a n : ℕ) (now : Machine) → IsOutFor m address a n → run n (entered m address a) ≡ Ok now → (HasReturned m now → ⊥) → IsOutFor m address a (n + 1)
@@ -86,3 +86,14 @@ under_way_fails m address a budget after after' Budget u f = refl
 pub stopped_fails : (m : Machine) (address a budget n : ℕ) (stop : Stop) (after after' : Machine) (reason : CallStop) → MeetsStop m address a n stop after → n < budget → FailsBy m address a budget reason after' → Stopped stop ≡ reason
 stopped_fails m address a budget n stop after after' (Stopped stop') s lt f = ap Stopped (one_stop m address a n f.0 stop stop' after after' s f.2)
 stopped_fails m address a budget n stop after after' Budget s lt f = absurd (no_stop_yet m address a budget n stop after' after f s lt)
+
+-- the log of one step more
+pub log-suc : (n : ℕ) (m between : Machine) → run n m ≡ Ok between → log_of (sid_writes (writes_in n m) ++ sid_writes (writes_in 1 between)) ≡ log_of (sid_writes (writes_in (n + 1) m))
+log-suc n m between e =
+    sym (ap log_of (ap sid_writes (writes_in-add n 1 m between e) ∙ filter_map-append sid_write (writes_in n m) (writes_in 1 between)))
+
+-- the log up to a stop is that of the whole budget
+pub log_stopped : (n budget : ℕ) (m between : Machine) (stop : Stop) → run n m ≡ Ok between → step between ≡ Err stop → n < budget → log_of (sid_writes (writes_in n m) ++ sid_writes (writes_in 1 between)) ≡ log_of (sid_writes (writes_in budget m))
+log_stopped n budget m between stop e s lt =
+    log-suc n m between e
+    ∙ ap (λ writes. log_of (sid_writes writes)) (writes_in-stopped n (n + 1) m between stop e s (omega arith) ∙ sym (writes_in-stopped n budget m between stop e s lt))
