@@ -3,3 +3,5 @@ pub mod Effects
 pub mod Step
 pub mod Call
 pub mod Log
+pub mod Runs
+pub mod Code
