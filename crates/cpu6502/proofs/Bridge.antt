@@ -99,8 +99,8 @@ call_returns W below m address a n end size leads at_zero same_stack =
   away_not_back pc away e = omega arith
 
 -- the memory of a call as it begins
-pub entered_view : (m : Machine) (address a : ℕ) → length m.memory ≡ 65536 → slice_index (written m.memory (return_address m.cpu.sp)) ≡ put_all (slice_index m.memory) (return_address m.cpu.sp)
-entered_view m address a size =
+pub entered_view : (m : Machine) → length m.memory ≡ 65536 → slice_index (written m.memory (return_address m.cpu.sp)) ≡ put_all (slice_index m.memory) (return_address m.cpu.sp)
+entered_view m size =
     written_view (λ q. q < 65536) (λ q lt. lt) m.memory (return_address m.cpu.sp) size (stack_below m.cpu.sp, (stack_below (m.cpu.sp + 255), tt)) where
   stack_below : (sp : ℕ) → stack_place sp < 65536
   stack_below sp = omega arith

@@ -5,3 +5,4 @@ pub mod Moves
 pub mod Bridge
 pub mod Instructions
 pub mod Standing
+pub mod Entry

@@ -1,0 +1,3 @@
+pub mod ImageCode
+pub mod ImageLoop
+pub mod ImageRun
