@@ -1,16 +1,14 @@
 -- From runs on a function memory to the machine and its calls.
-use Rattle.std.proofs.Common.{◌≡◌, ℕ, zero, suc, ◌+◌, ◌*◌, ◌%◌, ◌<◌, ◌≤◌, Bool, true, false, List, [], ◌∷◌, Result, Ok, Err, length, nat_eq, refl, sym, ap, ◌∙◌, subst, arith, length-set}
+use Rattle.std.proofs.Common.{◌≡◌, ℕ, zero, suc, ◌+◌, ◌<◌, Bool, true, false, List, [], ◌∷◌, Ok, length, nat_eq, refl, sym, ap, ◌∙◌, subst, arith, length-set}
 use Rattle.std.specs.Prelude.{slice_index, slice_set}
 use Rattle.std.proofs.lemmas.Bool.{eqb-true, eq-eqb, false≢true}
 use Rattle.std.proofs.lemmas.List.{get_or-set_other, get_or-set_same}
 use mathlib.Core.Path.{fun_ext}
-use Rattle.cpu6502.specs.declared.cpu.Cpu.{Cpu}
 use Rattle.cpu6502.specs.declared.effect.Write.{Write}
-use Rattle.cpu6502.specs.declared.effect.Effect.{Effect}
 use Rattle.cpu6502.specs.declared.machine.Machine.{Machine}
-use Rattle.cpu6502.specs.Effects.{effect, stack_place}
+use Rattle.cpu6502.specs.Effects.{stack_place}
 use Rattle.cpu6502.specs.Step.{written, changed, stepped, step}
-use Rattle.cpu6502.specs.Call.{after_step, run, return_address, entered, HasReturned, IsOutFor, Called}
+use Rattle.cpu6502.specs.Call.{after_step, run, return_address, entered, Called}
 use Rattle.cpu6502.specs.Runs.{State, view, put, put_all, left, Allowed, Runs, Leads}
 
 -- a byte written to the list is a byte put to the function
@@ -54,7 +52,7 @@ one_on n m m1 end e away rest = record {
   runs = rw e rest.runs;
   seen = rest.seen;
   size = rest.size;
-  away = later
+  away = later;
 } where
   later : (k : ℕ) (between : Machine) → k < suc n → run k m ≡ Ok between → 0 < between.cpu.pc
   later zero between lt r =
@@ -90,17 +88,17 @@ call_returns W below m address a n end size leads at_zero same_stack =
       called = record {
         runs = there.runs;
         returned = record { at_zero = ap (λ s. s.cpu.pc) there.seen ∙ at_zero; same_stack = ap (λ s. s.cpu.sp) there.seen ∙ same_stack };
-        first = record { out = λ k between lt e back. away_not_back between.cpu.pc (there.away k between lt e) back.at_zero }
+        first = record { out = λ k between lt e back. away_not_back between.cpu.pc (there.away k between lt e) back.at_zero };
       };
       seen = there.seen;
-      size = there.size
+      size = there.size;
     } where
-  away_not_back : (pc : ℕ) → 0 < pc → pc ≡ 0 → ⊥
-  away_not_back pc away e = omega arith
+      away_not_back : (pc : ℕ) → 0 < pc → pc ≡ 0 → ⊥
+      away_not_back pc away e = omega arith
 
 -- the memory of a call as it begins
 pub entered_view : (m : Machine) → length m.memory ≡ 65536 → slice_index (written m.memory (return_address m.cpu.sp)) ≡ put_all (slice_index m.memory) (return_address m.cpu.sp)
 entered_view m size =
     written_view (λ q. q < 65536) (λ q lt. lt) m.memory (return_address m.cpu.sp) size (stack_below m.cpu.sp, (stack_below (m.cpu.sp + 255), tt)) where
-  stack_below : (sp : ℕ) → stack_place sp < 65536
-  stack_below sp = omega arith
+      stack_below : (sp : ℕ) → stack_place sp < 65536
+      stack_below sp = omega arith

@@ -1,5 +1,5 @@
 -- A call ends in one way: it returns, or meets a stop, or uses its budget up.
-use Rattle.std.proofs.Common.{◌≡◌, ℕ, zero, suc, ◌+◌, ◌<◌, ◌≤◌, ◌⊎◌, List, ◌++◌, Result, Ok, Err, refl, sym, ap, ◌∙◌, subst, arith, inl, inr}
+use Rattle.std.proofs.Common.{◌≡◌, ℕ, ◌+◌, ◌<◌, ◌≤◌, ◌++◌, Result, Ok, Err, refl, sym, ap, ◌∙◌, subst, arith, inl, inr}
 use Rattle.std.proofs.lemmas.Bool.{cases_lt}
 use Rattle.cpu6502.specs.declared.machine.Machine.{Machine}
 use Rattle.cpu6502.specs.declared.stop.Stop.{Stop}
@@ -15,23 +15,23 @@ use Rattle.cpu6502.proofs.Steps.{run_stopped, writes_in-add, writes_in-stopped}
 pub out_longer : (m : Machine) (address a n : ℕ) (now : Machine) → IsOutFor m address a n → run n (entered m address a) ≡ Ok now → (HasReturned m now → ⊥) → IsOutFor m address a (n + 1)
 out_longer m address a n now before runs here = record {
   out = λ k between lt e back. elim (cases_lt k n) [
-    inl below ↦ before.out k between below e back
-  | inr above ↦
-      let same : k ≡ n = omega arith in
-      let e' = subst (λ j. run j (entered m address a) ≡ Ok between) same e in
-      let one : between ≡ now = cc in
-      here (subst (λ b. HasReturned m b) one back)
-  ]
+    | inl below ↦ before.out k between below e back
+    | inr above ↦
+        let same : k ≡ n = omega arith in
+        let e' = subst (λ j. run j (entered m address a) ≡ Ok between) same e in
+        let one : between ≡ now = cc in
+        here (subst (λ b. HasReturned m b) one back)
+  ];
 }
 
 -- a call returns once
 pub called_once : (m : Machine) (address a n k : ℕ) (after after' : Machine) → Called m address a n after → Called m address a k after' → n ≡ k
 called_once m address a n k after after' c c' =
     elim (cases_lt n k) [
-      inl below ↦ absurd (c'.first.out n after below c.runs c.returned)
-    | inr above ↦ elim (cases_lt k n) [
-        inl below ↦ absurd (c.first.out k after' below c'.runs c'.returned)
-      | inr above' ↦ omega arith
+      | inl below ↦ absurd (c'.first.out n after below c.runs c.returned)
+      | inr above ↦ elim (cases_lt k n) [
+        | inl below ↦ absurd (c.first.out k after' below c'.runs c'.returned)
+        | inr above' ↦ omega arith
       ]
     ]
 
@@ -43,8 +43,8 @@ not_under_way m address a n budget after after' c le u = u.out.out n after (omeg
 pub no_stop : (m : Machine) (address a n k : ℕ) (stop : Stop) (after after' : Machine) → Called m address a n after → MeetsStop m address a k stop after' → ⊥
 no_stop m address a n k stop after after' c s =
     elim (cases_lt k n) [
-      inl below ↦ let e = run_stopped k n (entered m address a) after' stop s.runs s.stops below in let r = c.runs in cc
-    | inr above ↦ s.out.out n after (omega arith) c.runs c.returned
+      | inl below ↦ let e = run_stopped k n (entered m address a) after' stop s.runs s.stops below in let r = c.runs in cc
+      | inr above ↦ s.out.out n after (omega arith) c.runs c.returned
     ]
 
 -- a call that has used up its budget has met no stop within it
@@ -58,17 +58,17 @@ no_stop_yet m address a budget k stop after after' u s lt =
 pub one_stop : (m : Machine) (address a n k : ℕ) (stop stop' : Stop) (after after' : Machine) → MeetsStop m address a n stop after → MeetsStop m address a k stop' after' → stop ≡ stop'
 one_stop m address a n k stop stop' after after' s s' =
     elim (cases_lt n k) [
-      inl below ↦ let e = run_stopped n k (entered m address a) after stop s.runs s.stops below in let r = s'.runs in cc
-    | inr above ↦ elim (cases_lt k n) [
-        inl below ↦ let e = run_stopped k n (entered m address a) after' stop' s'.runs s'.stops below in let r = s.runs in cc
-      | inr above' ↦
-          let same : n ≡ k = omega arith in
-          let r = subst (λ j. run j (entered m address a) ≡ Ok after) same s.runs in
-          let r' = s'.runs in
-          let one : after ≡ after' = cc in
-          let t = subst (λ b. step b ≡ Err stop) one s.stops in
-          let t' = s'.stops in
-          cc
+      | inl below ↦ let e = run_stopped n k (entered m address a) after stop s.runs s.stops below in let r = s'.runs in cc
+      | inr above ↦ elim (cases_lt k n) [
+        | inl below ↦ let e = run_stopped k n (entered m address a) after' stop' s'.runs s'.stops below in let r = s.runs in cc
+        | inr above' ↦
+            let same : n ≡ k = omega arith in
+            let r = subst (λ j. run j (entered m address a) ≡ Ok after) same s.runs in
+            let r' = s'.runs in
+            let one : after ≡ after' = cc in
+            let t = subst (λ b. step b ≡ Err stop) one s.stops in
+            let t' = s'.stops in
+            cc
       ]
     ]
 

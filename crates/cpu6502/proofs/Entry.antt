@@ -1,5 +1,5 @@
 -- The memory of a call as it begins: the return address is there, and what is not on the stack is as it was.
-use Rattle.std.proofs.Common.{◌≡◌, ℕ, ◌+◌, ◌%◌, ◌<◌, ◌≤◌, List, length, refl, sym, ap, ◌∙◌, arith}
+use Rattle.std.proofs.Common.{◌≡◌, ℕ, ◌+◌, ◌%◌, ◌≤◌, length, ap, ◌∙◌, arith}
 use Rattle.std.specs.Prelude.{slice_index}
 use Rattle.cpu6502.specs.declared.machine.Machine.{Machine}
 use Rattle.cpu6502.specs.Effects.{stack_place}
@@ -24,7 +24,7 @@ pushed_pulls at sp =
       high_is =
           ap (put_all at (return_address sp)) second
           ∙ put_other (put at (stack_place sp) 255) (stack_place (sp + 255)) 255 (stack_place sp) (places_differ sp)
-          ∙ put_same at (stack_place sp) 255
+          ∙ put_same at (stack_place sp) 255;
     }
 
 pub entry_pulls : (m : Machine) → length m.memory ≡ 65536 → Pulls (slice_index (written m.memory (return_address m.cpu.sp))) ((m.cpu.sp + 254) % 256) 255 255
@@ -36,5 +36,5 @@ entry_kept m q size above =
     ap (λ at. at q) (entered_view m size)
     ∙ put_other (put (slice_index m.memory) (stack_place m.cpu.sp) 255) (stack_place (m.cpu.sp + 255)) 255 q (off_stack (m.cpu.sp + 255))
     ∙ put_other (slice_index m.memory) (stack_place m.cpu.sp) 255 q (off_stack m.cpu.sp) where
-  off_stack : (sp : ℕ) → q ≡ stack_place sp → ⊥
-  off_stack sp e = omega arith
+      off_stack : (sp : ℕ) → q ≡ stack_place sp → ⊥
+      off_stack sp e = omega arith

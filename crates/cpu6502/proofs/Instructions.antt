@@ -1,15 +1,12 @@
 -- One step of an instruction that stands at the program counter: by addressing mode first, then for each instruction. Each number that a result computes is a parameter with an equation.
-use Rattle.std.proofs.Common.{◌≡◌, ℕ, suc, ◌+◌, ◌*◌, ◌%◌, ◌<◌, Bool, true, false, Some, Result, Ok, nat_le, nat_eq, refl, sym, ap, ◌∙◌, arith}
+use Rattle.std.proofs.Common.{◌≡◌, ℕ, ◌+◌, ◌*◌, ◌%◌, ◌<◌, true, false, Some, refl, ap, ◌∙◌}
 use Rattle.cpu6502.specs.declared.cpu.Cpu.{Cpu}
-use Rattle.cpu6502.specs.declared.effect.Effect.{Effect}
-use Rattle.cpu6502.specs.declared.stop.Stop.{Stop}
 use Rattle.cpu6502.specs.declared.mnemonic.Mnemonic.{Mnemonic}
 use Rattle.cpu6502.specs.declared.mnemonic.Mnemonic.TheVariants.{Jmp, Rts, Bpl, Sta, Lda, Ldx, Dex}
 use Rattle.cpu6502.specs.declared.mnemonic.Mode.{Mode}
 use Rattle.cpu6502.specs.declared.mnemonic.Mode.TheVariants.{Implied, Immediate, Absolute, AbsoluteX, Relative}
 use Rattle.cpu6502.specs.Opcodes.{meaning_of, length_of}
 use Rattle.cpu6502.specs.Effects.{address_of, stack_place, with_sign_and_zero, effect_of, moved, done_by, effect}
-use Rattle.cpu6502.specs.Runs.{State}
 use Rattle.cpu6502.specs.Code.{Stands}
 use Rattle.cpu6502.proofs.Moves.{Goes, Puts}
 

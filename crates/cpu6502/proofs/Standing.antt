@@ -1,5 +1,5 @@
 -- When instructions stand in memory: from the bytes, and after writes elsewhere.
-use Rattle.std.proofs.Common.{◌≡◌, ℕ, ◌+◌, ◌*◌, ◌%◌, ◌<◌, ◌≤◌, List, [], ◌∷◌, Some, refl, sym, ap, ◌∙◌, arith}
+use Rattle.std.proofs.Common.{◌≡◌, ℕ, ◌+◌, ◌*◌, ◌%◌, ◌<◌, ◌≤◌, List, [], ◌∷◌, Some, refl, ap, ◌∙◌, arith}
 use Rattle.cpu6502.specs.declared.mnemonic.Mnemonic.{Mnemonic}
 use Rattle.cpu6502.specs.declared.mnemonic.Mode.{Mode}
 use Rattle.cpu6502.specs.declared.mnemonic.Mode.TheVariants.{Implied, Accumulator, Immediate, ZeroPage, ZeroPageX, ZeroPageY, Absolute, AbsoluteX, AbsoluteY, IndirectX, IndirectY, Indirect, Relative}
@@ -83,7 +83,7 @@ length_of-pos Relative = omega arith
 pub stands_stay : (at at' : ℕ → ℕ) (pc high operand : ℕ) (mn : Mnemonic) (mode : Mode) → pc + length_of mode ≤ high → high ≤ 65536 → SameFrom pc high at at' → Stands at pc mn mode operand → Stands at' pc mn mode operand
 stands_stay at at' pc high operand mn mode within below s stands = record {
   decoded = ap meaning_of (s.same pc (omega arith) (omega (arith, length_of-pos mode))) ∙ stands.decoded;
-  operand_is = operand_stays at at' pc high mode within below s ∙ stands.operand_is
+  operand_is = operand_stays at at' pc high mode within below s ∙ stands.operand_is;
 }
 
 -- the same of code
@@ -91,5 +91,5 @@ pub code_stays : (at at' : ℕ → ℕ) (pc high : ℕ) (code : List Instruction
 code_stays at at' pc high [] within below s c = tt
 code_stays at at' pc high (i ∷ rest) within below s c = (
   stands_stay at at' pc high i.operand i.mnemonic i.mode (omega arith) below s c.0,
-  code_stays at at' (pc + length_of i.mode) high rest (omega arith) below (record { same = λ q lo hi. s.same q (omega arith) hi }) c.1
+  code_stays at at' (pc + length_of i.mode) high rest (omega arith) below (record { same = λ q lo hi. s.same q (omega arith) hi }) c.1,
 )

@@ -1,11 +1,10 @@
 -- Runs of the machine: how they join, and what a stop does to them.
-use Rattle.std.proofs.Common.{◌≡◌, ℕ, zero, suc, ◌+◌, ◌-◌, ◌<◌, ◌≤◌, List, [], ◌∷◌, ◌++◌, Result, Ok, Err, refl, sym, ap, ◌∙◌, subst, arith, append_assoc}
+use Rattle.std.proofs.Common.{◌≡◌, ℕ, zero, suc, ◌+◌, ◌-◌, ◌<◌, [], ◌++◌, Result, Ok, Err, refl, sym, ap, ◌∙◌, arith, append_assoc}
 use Rattle.std.proofs.lemmas.List.{append-nil}
-use Rattle.cpu6502.specs.declared.effect.Write.{Write}
 use Rattle.cpu6502.specs.declared.effect.Effect.{Effect}
 use Rattle.cpu6502.specs.declared.machine.Machine.{Machine}
 use Rattle.cpu6502.specs.declared.stop.Stop.{Stop}
-use Rattle.cpu6502.specs.Step.{changed, stepped, next_effect, step}
+use Rattle.cpu6502.specs.Step.{stepped, next_effect, step}
 use Rattle.cpu6502.specs.Call.{after_step, run, writes_by, writes_after, writes_in}
 
 -- what holds after a step that was made holds behind it

@@ -1,5 +1,5 @@
 -- A call of machine code: how a machine enters it, what it is to return, and how a call that does not return ends.
-use Rattle.std.specs.Prelude.{◌≡◌, ℕ, zero, suc, ◌+◌, ◌%◌, ◌<◌, ◌≤◌, List, [], ◌∷◌, ◌++◌, Result, Ok, Err}
+use Rattle.std.specs.Prelude.{◌≡◌, ℕ, zero, suc, ◌+◌, ◌%◌, ◌<◌, List, [], ◌∷◌, ◌++◌, Result, Ok, Err}
 use Rattle.cpu6502.specs.declared.effect.Write.{Write}
 use Rattle.cpu6502.specs.declared.effect.Effect.{Effect}
 use Rattle.cpu6502.specs.declared.machine.Machine.{Machine}
@@ -28,7 +28,7 @@ return_address sp =
 abbrev pub entered : Machine → ℕ → ℕ → Machine
 entered machine address a = record {
   cpu = record machine.cpu { a = a; sp = (machine.cpu.sp + 254) % 256; pc = address };
-  memory = written machine.memory (return_address machine.cpu.sp)
+  memory = written machine.memory (return_address machine.cpu.sp);
 }
 
 -- a call from the first machine is back in the second: at address 0, with the stack pointer of the first

@@ -1,11 +1,10 @@
 -- What one instruction does, from a memory that is read by place and from the registers: the registers after it, and what it writes. Source: the MOS 6502 programming manual.
-use Rattle.std.specs.Prelude.{ℕ, ◌+◌, ◌*◌, ◌/◌, ◌%◌, Bool, List, [], ◌∷◌, Option, Some, None, Result, Ok, Err, nat_eq, nat_le, nat_lt, if◌then◌else◌}
+use Rattle.std.specs.Prelude.{ℕ, ◌+◌, ◌*◌, ◌/◌, ◌%◌, [], ◌∷◌, Option, Some, None, Result, Ok, Err, nat_eq, nat_le, nat_lt, if◌then◌else◌}
 use Rattle.cpu6502.specs.declared.mnemonic.Mnemonic.{Mnemonic}
 use Rattle.cpu6502.specs.declared.mnemonic.Mnemonic.TheVariants.{Jmp, Rts, Bpl, Sta, Lda, Ldx, Dex}
 use Rattle.cpu6502.specs.declared.mnemonic.Mode.{Mode}
 use Rattle.cpu6502.specs.declared.mnemonic.Mode.TheVariants.{Implied, Accumulator, Immediate, ZeroPage, ZeroPageX, ZeroPageY, Absolute, AbsoluteX, AbsoluteY, IndirectX, IndirectY, Indirect, Relative}
 use Rattle.cpu6502.specs.declared.cpu.Cpu.{Cpu}
-use Rattle.cpu6502.specs.declared.effect.Write.{Write}
 use Rattle.cpu6502.specs.declared.effect.Effect.{Effect}
 use Rattle.cpu6502.specs.declared.stop.Stop.{Stop}
 use Rattle.cpu6502.specs.declared.stop.Stop.TheVariants.{Illegal}
@@ -51,6 +50,13 @@ stack_place sp = 256 + sp % 256
 abbrev pub with_sign_and_zero : Cpu → ℕ → Cpu
 with_sign_and_zero cpu byte = record cpu { n = nat_le 128 byte; z = nat_eq byte 0 }
 
+-- the registers with a byte in A, and with one in X, and its N and Z
+abbrev pub with_a : Cpu → ℕ → Cpu
+with_a cpu byte = with_sign_and_zero (record cpu { a = byte }) byte
+
+abbrev pub with_x : Cpu → ℕ → Cpu
+with_x cpu byte = with_sign_and_zero (record cpu { x = byte }) byte
+
 -- an effect that writes nothing
 abbrev pub quiet : Cpu → Effect
 quiet cpu = record { cpu = cpu; writes = [] }
@@ -63,7 +69,7 @@ storing cpu place byte = record { cpu = cpu; writes = (record { place = place; v
 abbrev pub pulled_return : (ℕ → ℕ) → Cpu → Cpu
 pulled_return at cpu = record cpu {
   sp = (cpu.sp + 2) % 256;
-  pc = (at (stack_place (cpu.sp + 1)) + 256 * at (stack_place (cpu.sp + 2)) + 1) % 65536
+  pc = (at (stack_place (cpu.sp + 1)) + 256 * at (stack_place (cpu.sp + 2)) + 1) % 65536;
 }
 
 -- the effect of an instruction on registers whose program counter is at the next one; own is its own place, place that of its operand
@@ -72,10 +78,9 @@ effect_of Jmp own place at cpu = Ok (quiet (record cpu { pc = place }))
 effect_of Rts own place at cpu = Ok (quiet (pulled_return at cpu))
 effect_of Bpl own place at cpu = Ok (quiet (if cpu.n then cpu else record cpu { pc = place }))
 effect_of Sta own place at cpu = Ok (storing cpu place cpu.a)
-effect_of Lda own place at cpu = Ok (quiet (with_sign_and_zero (record cpu { a = at place }) (at place)))
-effect_of Ldx own place at cpu = Ok (quiet (with_sign_and_zero (record cpu { x = at place }) (at place)))
-effect_of Dex own place at cpu =
-    Ok (quiet (with_sign_and_zero (record cpu { x = (cpu.x + 255) % 256 }) ((cpu.x + 255) % 256)))
+effect_of Lda own place at cpu = Ok (quiet (with_a cpu (at place)))
+effect_of Ldx own place at cpu = Ok (quiet (with_x cpu (at place)))
+effect_of Dex own place at cpu = Ok (quiet (with_x cpu ((cpu.x + 255) % 256)))
 -- a name that has no row yet
 effect_of _ own place at cpu = Err (Illegal own)
 

@@ -1,5 +1,5 @@
 -- The log of what a call writes to the SID, whose 25 registers stand at $D400 to $D418.
-use Rattle.std.specs.Prelude.{ℕ, ◌-◌, ◌<◌, min, ◌&&◌, List, take, length, filter_map, Option, Some, None, nat_le, if◌then◌else◌}
+use Rattle.std.specs.Prelude.{◌-◌, min, ◌&&◌, List, take, length, filter_map, Option, Some, None, nat_le, if◌then◌else◌}
 use Rattle.cpu6502.specs.declared.effect.Write.{Write}
 use Rattle.cpu6502.specs.declared.log.SidWrite.{SidWrite}
 use Rattle.cpu6502.specs.declared.log.WriteLog.{WriteLog}

@@ -25,7 +25,10 @@ pub fn operand_place(mode: Mode, memory: &Memory, cpu: Cpu) -> u16
             zero_page(memory, memory.read(operand)).wrapping_add(u16::from(cpu.y))
         }
         Mode::Indirect => same_page(memory, word(memory, operand)),
-        Mode::Relative => cpu.pc.wrapping_add(2).wrapping_add(distance(memory.read(operand))),
+        Mode::Relative => cpu
+            .pc
+            .wrapping_add(2)
+            .wrapping_add(distance(memory.read(operand))),
     }
 }
 

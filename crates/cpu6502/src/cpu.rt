@@ -1,5 +1,5 @@
 ghost use Rattle.std.specs.Prelude.{◌≡◌};
-ghost use Rattle.cpu6502.specs.Effects.{with_sign_and_zero};
+ghost use Rattle.cpu6502.specs.Effects.{with_sign_and_zero, with_a, with_x};
 
 /// The registers: accumulator, two index registers, stack pointer (into page 1), program counter, and the flags.
 #[derive(Clone, Copy, Debug, PartialEq, Eq)]
@@ -24,13 +24,27 @@ pub struct Cpu {
 }
 
 impl Cpu {
+    /// These registers with a byte in A, and its flags N and Z.
+    pub fn with_a(self, byte: u8) -> Cpu
+        ensures { result ≡ with_a self byte }
+    {
+        Cpu { a: byte, ..self }.with_sign_and_zero(byte)
+    }
+
+    /// These registers with a byte in X, and its flags N and Z.
+    pub fn with_x(self, byte: u8) -> Cpu
+        ensures { result ≡ with_x self byte }
+    {
+        Cpu { x: byte, ..self }.with_sign_and_zero(byte)
+    }
+
     /// These registers with the flags N and Z of a result.
-    pub fn with_sign_and_zero(self, result_byte: u8) -> Cpu
-        ensures { result ≡ with_sign_and_zero self result_byte }
+    fn with_sign_and_zero(self, byte: u8) -> Cpu
+        ensures { result ≡ with_sign_and_zero self byte }
     {
         Cpu {
-            n: result_byte >= 128,
-            z: result_byte == 0,
+            n: byte >= 128,
+            z: byte == 0,
             ..self
         }
     }

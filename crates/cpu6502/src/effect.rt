@@ -1,8 +1,7 @@
-use std::marker::Model;
-
 use crate::cpu::Cpu;
 use crate::log::WriteLog;
 use crate::memory::Memory;
+use std::marker::Model;
 
 /// One byte written to memory.
 #[derive(Clone, Copy, Debug, PartialEq, Eq)]

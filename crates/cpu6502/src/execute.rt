@@ -47,18 +47,9 @@ fn execute(
         Mnemonic::Rts => Ok(quiet(returned(memory, cpu))),
         Mnemonic::Bpl => Ok(quiet(if cpu.n { cpu } else { Cpu { pc: place, ..cpu } })),
         Mnemonic::Sta => Ok(storing(cpu, place, cpu.a)),
-        Mnemonic::Lda => {
-            let a = memory.read(place);
-            Ok(quiet(Cpu { a, ..cpu }.with_sign_and_zero(a)))
-        }
-        Mnemonic::Ldx => {
-            let x = memory.read(place);
-            Ok(quiet(Cpu { x, ..cpu }.with_sign_and_zero(x)))
-        }
-        Mnemonic::Dex => {
-            let x = cpu.x.wrapping_sub(1);
-            Ok(quiet(Cpu { x, ..cpu }.with_sign_and_zero(x)))
-        }
+        Mnemonic::Lda => Ok(quiet(cpu.with_a(memory.read(place)))),
+        Mnemonic::Ldx => Ok(quiet(cpu.with_x(memory.read(place)))),
+        Mnemonic::Dex => Ok(quiet(cpu.with_x(cpu.x.wrapping_sub(1)))),
         _ => Err(Stop::Illegal { at: own }),
     }
 }

@@ -19,6 +19,8 @@ mod memory;
 mod mnemonic;
 mod opcode;
 mod stop;
+#[cfg(test)]
+mod tests;
 
 pub use cpu::Cpu;
 pub use effect::{Effect, Write, Writes};

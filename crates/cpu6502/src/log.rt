@@ -1,7 +1,6 @@
+use crate::effect::Write;
 use arrayvec::ArrayVec;
 use std::marker::Model;
-
-use crate::effect::Write;
 
 /// The number of register writes that a log holds.
 const CAPACITY: usize = 512;

@@ -28,8 +28,8 @@ impl Machine {
         ensures stopped { IfErr result (λ stop. step self.old ≡ Err stop) }
         ensures same { OnErr result (self.new ≡ self.old) }
     {
-        let effect = next_effect(&self.memory, self.cpu)?;
-        self.take(&effect);
+        let done = next_effect(&self.memory, self.cpu)?;
+        self.take(&done);
         Ok(())
     }
 

@@ -1,9 +1,8 @@
 ghost use Rattle.std.specs.Prelude.{◌≡◌, IfOk, All, length, slice_index, slice_set};
 
+use crate::stop::NoMemory;
 use std::alloc::{AllocError, Global};
 use std::marker::Model;
-
-use crate::stop::NoMemory;
 
 /// The machine's memory: 65,536 bytes. Contracts see the list of them.
 #[derive(Drop)]

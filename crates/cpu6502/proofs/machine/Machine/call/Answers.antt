@@ -1,4 +1,4 @@
-use Rattle.std.proofs.Common.{◌≡◌, ℕ, ◌+◌, ◌<◌, ◌≤◌, Ok, Err, ap, sym, ◌∙◌, refl, subst, arith}
+use Rattle.std.proofs.Common.{◌≡◌, ℕ, ◌+◌, ◌<◌, ◌≤◌, Ok, Err, ap, ◌∙◌, refl, subst, arith}
 use Rattle.std.proofs.lemmas.Bool.{false≢true}
 use Rattle.cpu6502.specs.declared.machine.Machine.{Machine}
 use Rattle.cpu6502.specs.declared.stop.Stop.{Stop}
@@ -59,7 +59,7 @@ stepping-preserved c =
       within = below c.stepping.steps c.args.budget i.within c.if-steps-budget.false;
       runs = run-suc c.stepping.steps (entered c.args.self.now c.args.address c.args.a) c.stepping.self i.runs ∙ c.in_default.ensures.done;
       out = out_longer c.args.self.now c.args.address c.args.a c.stepping.steps c.stepping.self i.out i.runs here;
-      logged = c.step_noted.ensures.noted _ i.logged ∙ log-suc c.stepping.steps (entered c.args.self.now c.args.address c.args.a) c.stepping.self i.runs
+      logged = c.step_noted.ensures.noted _ i.logged ∙ log-suc c.stepping.steps (entered c.args.self.now c.args.address c.args.a) c.stepping.self i.runs;
     }
 
 pub returns-clause-fails : goal.returns-clause-fails
@@ -67,5 +67,5 @@ returns-clause-fails c = λ reason after fails.
     let i = c.stepping.invariant in
     let back = c.stepping-test.ensures.0 refl in
     let called : Called c.args.self.now c.args.address c.args.a c.stepping.steps c.stepping.self =
-      record { runs = i.runs; returned = record { at_zero = back.0; same_stack = back.1 }; first = i.out } in
+    record { runs = i.runs; returned = record { at_zero = back.0; same_stack = back.1 }; first = i.out } in
     returned_fails c.args.self.now c.args.address c.args.a c.stepping.steps c.args.budget c.stepping.self after reason (Ok c.stepping.steps) called i.within fails

@@ -1,4 +1,4 @@
-use Rattle.std.proofs.Common.{◌≡◌, ℕ, ◌≤◌, ◌-◌, Ok}
+use Rattle.std.proofs.Common.{◌≡◌, ◌≤◌, ◌-◌, Ok}
 use Rattle.cpu6502.specs.Call.{entered, run, IsOutFor, writes_in}
 use Rattle.cpu6502.specs.Log.{log_of, sid_writes}
 use Rattle.cpu6502.proofs.machine.Machine.call.Given as goal
@@ -9,7 +9,7 @@ invariant-stepping l = record {
   within : l.steps ≤ l.budget;
   runs : run l.steps (entered l.fn.self l.address l.a) ≡ Ok l.self;
   out : IsOutFor l.fn.self l.address l.a l.steps;
-  logged : l.log ≡ log_of (sid_writes (writes_in l.steps (entered l.fn.self l.address l.a)))
+  logged : l.log ≡ log_of (sid_writes (writes_in l.steps (entered l.fn.self l.address l.a)));
 }
 
 abbrev pub decreases-stepping : goal.decreases-stepping
