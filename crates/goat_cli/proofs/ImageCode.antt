@@ -1,6 +1,6 @@
 -- The silent player's bytes as instructions that stand at their places.
-use Rattle.std.proofs.Common.{◌≡◌, ℕ, suc, ◌+◌, ◌*◌, ◌/◌, ◌%◌, ◌<◌, ◌≤◌, List, [], ◌∷◌, refl, sym, ap, ◌∙◌, arith, lit<}
-use Rattle.std.specs.Prelude.{slice_index, length}
+use Rattle.std.proofs.Common.{◌≡◌, ℕ, ◌+◌, ◌*◌, ◌/◌, ◌%◌, ◌<◌, ◌≤◌, List, [], ◌∷◌, refl, ap, ◌∙◌, arith, lit<}
+use Rattle.std.specs.Prelude.{slice_index}
 use Rattle.cpu6502.specs.declared.mnemonic.Mnemonic.{Mnemonic}
 use Rattle.cpu6502.specs.declared.mnemonic.Mnemonic.TheVariants.{Jmp, Rts, Bpl, Sta, Lda, Ldx, Dex}
 use Rattle.cpu6502.specs.declared.mnemonic.Mode.{Mode}
@@ -80,23 +80,49 @@ module _ (at : ℕ → ℕ) (a pc k : ℕ) (b : InBounds a) (lt : k < 30) (place
       stands_relative at pc 0x10 (a + (k + 1)) 250 target Bpl (ap at place ∙ e) refl (omega (arith, b.below)) f (omega (arith, b.below))
 
 pub play_stands : (at : ℕ → ℕ) (a : ℕ) → InBounds a → ImageAt at a → CodeAt at (a + 3) (play_code a)
-play_stands at a b h =
-  (immediate_at at a _ 3 b (lit< tt) refl 0xA9 0 Lda (h.byte 3 (lit< tt)) refl (h.byte 4 (lit< tt)),
-  (immediate_at at a _ 5 b (lit< tt) (omega arith) 0xA2 23 Ldx (h.byte 5 (lit< tt)) refl (h.byte 6 (lit< tt)),
-  (absolute_x_at at a _ 7 b (lit< tt) (omega arith) 0x9D 0 212 0xD400 Sta (h.byte 7 (lit< tt)) refl (h.byte 8 (lit< tt)) (h.byte 9 (lit< tt)) refl,
-  (implied_at at a _ 10 b (lit< tt) (omega arith) 0xCA Dex (h.byte 10 (lit< tt)) refl,
-  (back_at at a _ 11 b (lit< tt) (omega arith) (a + 3 + 2 + 2) (omega arith) (h.byte 11 (lit< tt)) (h.byte 12 (lit< tt)),
-  (immediate_at at a _ 13 b (lit< tt) (omega arith) 0xA9 15 Lda (h.byte 13 (lit< tt)) refl (h.byte 14 (lit< tt)),
-  (absolute_at at a _ 15 b (lit< tt) (omega arith) 0x8D 24 212 0xD418 Sta (h.byte 15 (lit< tt)) refl (h.byte 16 (lit< tt)) (h.byte 17 (lit< tt)) refl,
-  (implied_at at a _ 18 b (lit< tt) (omega arith) 0x60 Rts (h.byte 18 (lit< tt)) refl,
-  tt))))))))
+play_stands at a b h = (
+  immediate_at at a _ 3 b (lit< tt) refl 0xA9 0 Lda (h.byte 3 (lit< tt)) refl (h.byte 4 (lit< tt)),
+  (
+    immediate_at at a _ 5 b (lit< tt) (omega arith) 0xA2 23 Ldx (h.byte 5 (lit< tt)) refl (h.byte 6 (lit< tt)),
+    (
+      absolute_x_at at a _ 7 b (lit< tt) (omega arith) 0x9D 0 212 0xD400 Sta (h.byte 7 (lit< tt)) refl (h.byte 8 (lit< tt)) (h.byte 9 (lit< tt)) refl,
+      (
+        implied_at at a _ 10 b (lit< tt) (omega arith) 0xCA Dex (h.byte 10 (lit< tt)) refl,
+        (
+          back_at at a _ 11 b (lit< tt) (omega arith) (a + 3 + 2 + 2) (omega arith) (h.byte 11 (lit< tt)) (h.byte 12 (lit< tt)),
+          (
+            immediate_at at a _ 13 b (lit< tt) (omega arith) 0xA9 15 Lda (h.byte 13 (lit< tt)) refl (h.byte 14 (lit< tt)),
+            (
+              absolute_at at a _ 15 b (lit< tt) (omega arith) 0x8D 24 212 0xD418 Sta (h.byte 15 (lit< tt)) refl (h.byte 16 (lit< tt)) (h.byte 17 (lit< tt)) refl,
+              (
+                implied_at at a _ 18 b (lit< tt) (omega arith) 0x60 Rts (h.byte 18 (lit< tt)) refl,
+                tt,
+              ),
+            ),
+          ),
+        ),
+      ),
+    ),
+  ),
+)
 
 pub init_stands : (at : ℕ → ℕ) (a : ℕ) → InBounds a → ImageAt at a → CodeAt at (a + 19) (init_code a)
-init_stands at a b h =
-  (immediate_at at a _ 19 b (lit< tt) refl 0xA9 0 Lda (h.byte 19 (lit< tt)) refl (h.byte 20 (lit< tt)),
-  (immediate_at at a _ 21 b (lit< tt) (omega arith) 0xA2 24 Ldx (h.byte 21 (lit< tt)) refl (h.byte 22 (lit< tt)),
-  (absolute_x_at at a _ 23 b (lit< tt) (omega arith) 0x9D 0 212 0xD400 Sta (h.byte 23 (lit< tt)) refl (h.byte 24 (lit< tt)) (h.byte 25 (lit< tt)) refl,
-  (implied_at at a _ 26 b (lit< tt) (omega arith) 0xCA Dex (h.byte 26 (lit< tt)) refl,
-  (back_at at a _ 27 b (lit< tt) (omega arith) (a + 19 + 2 + 2) (omega arith) (h.byte 27 (lit< tt)) (h.byte 28 (lit< tt)),
-  (implied_at at a _ 29 b (lit< tt) (omega arith) 0x60 Rts (h.byte 29 (lit< tt)) refl,
-  tt))))))
+init_stands at a b h = (
+  immediate_at at a _ 19 b (lit< tt) refl 0xA9 0 Lda (h.byte 19 (lit< tt)) refl (h.byte 20 (lit< tt)),
+  (
+    immediate_at at a _ 21 b (lit< tt) (omega arith) 0xA2 24 Ldx (h.byte 21 (lit< tt)) refl (h.byte 22 (lit< tt)),
+    (
+      absolute_x_at at a _ 23 b (lit< tt) (omega arith) 0x9D 0 212 0xD400 Sta (h.byte 23 (lit< tt)) refl (h.byte 24 (lit< tt)) (h.byte 25 (lit< tt)) refl,
+      (
+        implied_at at a _ 26 b (lit< tt) (omega arith) 0xCA Dex (h.byte 26 (lit< tt)) refl,
+        (
+          back_at at a _ 27 b (lit< tt) (omega arith) (a + 19 + 2 + 2) (omega arith) (h.byte 27 (lit< tt)) (h.byte 28 (lit< tt)),
+          (
+            implied_at at a _ 29 b (lit< tt) (omega arith) 0x60 Rts (h.byte 29 (lit< tt)) refl,
+            tt,
+          ),
+        ),
+      ),
+    ),
+  ),
+)

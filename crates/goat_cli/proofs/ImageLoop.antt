@@ -1,5 +1,5 @@
 -- The loop that writes A to the SID's registers from X down to 0: its steps, and the memory behind it.
-use Rattle.std.proofs.Common.{◌≡◌, ℕ, zero, suc, ◌+◌, ◌%◌, ◌<◌, ◌≤◌, Bool, true, false, List, [], ◌∷◌, refl, sym, ap, ◌∙◌, arith}
+use Rattle.std.proofs.Common.{◌≡◌, ℕ, zero, suc, ◌+◌, ◌<◌, ◌≤◌, true, false, List, refl, arith}
 use Rattle.std.proofs.lemmas.Bool.{lt-leb}
 use Rattle.cpu6502.specs.declared.cpu.Cpu.{Cpu}
 use Rattle.cpu6502.specs.Effects.{with_sign_and_zero}
@@ -7,7 +7,7 @@ use Rattle.cpu6502.specs.Runs.{State, put, Leads}
 use Rattle.cpu6502.specs.Code.{Instruction, CodeAt, size_of}
 use Rattle.cpu6502.proofs.Moves.{goes, puts, stay, put_other, leads_stay}
 use Rattle.cpu6502.proofs.Instructions.{sta_absolute_x, dex, bpl_taken, bpl_passed}
-use Rattle.cpu6502.proofs.Standing.{SameFrom, code_stays}
+use Rattle.cpu6502.proofs.Standing.{code_stays}
 use Rattle.goat_cli.proofs.ImageCode.{clear_then}
 
 -- the places of the SID's registers
@@ -19,15 +19,15 @@ pub record IsSid (q : ℕ) : Type 0 where
 pub code_kept : {n : ℕ} {state after : State} (pc : ℕ) (code : List Instruction) → Leads IsSid n state after → pc + size_of code ≤ 54272 → CodeAt state.at pc code → CodeAt after.at pc code
 code_kept {n = n} {state = state} {after = after} pc code leads within stands =
     code_stays state.at after.at pc 54272 code within (omega arith) (record { same = λ q lo hi. leads_stay leads q (λ sid. apart q hi sid.low) }) stands where
-  apart : (q : ℕ) → q < 54272 → 54272 ≤ q → ⊥
-  apart q hi lo = omega arith
+      apart : (q : ℕ) → q < 54272 → 54272 ≤ q → ⊥
+      apart q hi lo = omega arith
 
 -- the same over one byte put there
 pub put_kept : (at : ℕ → ℕ) (pc place byte : ℕ) (code : List Instruction) → 54272 ≤ place → pc + size_of code ≤ 54272 → CodeAt at pc code → CodeAt (put at place byte) pc code
 put_kept at pc place byte code above within stands =
     code_stays at (put at place byte) pc 54272 code within (omega arith) (record { same = λ q lo hi. put_other at place byte q (λ e. apart q e hi) }) stands where
-  apart : (q : ℕ) → q ≡ place → q < 54272 → ⊥
-  apart q e hi = omega arith
+      apart : (q : ℕ) → q ≡ place → q < 54272 → ⊥
+      apart q e hi = omega arith
 
 -- a byte in each register from number x down to 0
 abbrev pub filled : (ℕ → ℕ) → ℕ → ℕ → ℕ → ℕ

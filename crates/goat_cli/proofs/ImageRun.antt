@@ -1,28 +1,27 @@
 -- The two calls of the silent player, from entry to return.
-use Rattle.std.proofs.Common.{◌≡◌, ℕ, suc, ◌+◌, ◌*◌, ◌%◌, ◌<◌, ◌≤◌, true, false, List, [], ◌∷◌, ◌++◌, length, replicate, refl, sym, ap, ◌∙◌, arith}
+use Rattle.std.proofs.Common.{◌≡◌, ℕ, ◌+◌, ◌%◌, ◌<◌, ◌≤◌, true, false, List, [], ◌∷◌, ◌++◌, length, replicate, refl, ap, ◌∙◌, arith}
 use Rattle.std.specs.Prelude.{slice_index}
 use Rattle.cpu6502.specs.declared.cpu.Cpu.{Cpu}
 use Rattle.cpu6502.specs.declared.machine.Machine.{Machine}
 use Rattle.cpu6502.specs.Effects.{stack_place, with_sign_and_zero}
-use Rattle.cpu6502.specs.Step.{written}
-use Rattle.cpu6502.specs.Call.{return_address, entered}
+use Rattle.cpu6502.specs.Call.{entered}
 use Rattle.cpu6502.specs.Runs.{State, view, put, Leads}
-use Rattle.cpu6502.specs.Code.{IsMachine, Holds, bytes_at, CodeAt, Instruction}
+use Rattle.cpu6502.specs.Code.{IsMachine, Holds, bytes_at, CodeAt}
 use Rattle.cpu6502.proofs.Moves.{goes, puts, stay, leads_on, leads_stay, put_other}
 use Rattle.cpu6502.proofs.Instructions.{jumped, Pulls, lda_immediate, ldx_immediate, sta_absolute, jmp_absolute, rts}
 use Rattle.cpu6502.proofs.Bridge.{call_returns}
 use Rattle.cpu6502.proofs.Entry.{entry_pulls, entry_kept}
-use Rattle.goat_cli.specs.Confined.{IsConfined, in_sid, memory_at_entry}
+use Rattle.goat_cli.specs.Confined.{in_sid, memory_at_entry}
 use Rattle.goat_cli.specs.Image.{silent_image, IsImageAddress}
-use Rattle.goat_cli.specs.SilentRun.{Leaves, sid_registers, InitIsSilent, PlayIsSilent}
-use Rattle.goat_cli.proofs.ImageCode.{play_code, init_code, play_rest, init_rest, clear_then, ImageAt, InBounds, jump_stands, play_stands, init_stands}
-use Rattle.goat_cli.proofs.ImageLoop.{IsSid, code_kept, put_kept, filled, turns, counted, counting, loop_leads}
+use Rattle.goat_cli.specs.SilentRun.{Leaves, InitIsSilent, PlayIsSilent}
+use Rattle.goat_cli.proofs.ImageCode.{play_code, play_rest, init_rest, clear_then, ImageAt, InBounds, jump_stands, play_stands, init_stands}
+use Rattle.goat_cli.proofs.ImageLoop.{IsSid, code_kept, put_kept, filled, counted, counting, loop_leads}
 
 -- the stack is not the SID
 pulls_kept : {n : ℕ} {state after : State} (sp low high : ℕ) → Leads IsSid n state after → Pulls state.at sp low high → Pulls after.at sp low high
 pulls_kept sp low high leads pulls = record {
   low_is = leads_stay leads (stack_place (sp + 1)) (λ sid. apart (sp + 1) sid.low) ∙ pulls.low_is;
-  high_is = leads_stay leads (stack_place (sp + 2)) (λ sid. apart (sp + 2) sid.low) ∙ pulls.high_is
+  high_is = leads_stay leads (stack_place (sp + 2)) (λ sid. apart (sp + 2) sid.low) ∙ pulls.high_is;
 } where
   apart : (sp : ℕ) → 54272 ≤ stack_place sp → ⊥
   apart sp lo = omega arith
@@ -30,7 +29,7 @@ pulls_kept sp low high leads pulls = record {
 pulls_put : (at : ℕ → ℕ) (place byte sp low high : ℕ) → 54272 ≤ place → Pulls at sp low high → Pulls (put at place byte) sp low high
 pulls_put at place byte sp low high above pulls = record {
   low_is = put_other at place byte (stack_place (sp + 1)) (apart (sp + 1)) ∙ pulls.low_is;
-  high_is = put_other at place byte (stack_place (sp + 2)) (apart (sp + 2)) ∙ pulls.high_is
+  high_is = put_other at place byte (stack_place (sp + 2)) (apart (sp + 2)) ∙ pulls.high_is;
 } where
   apart : (sp : ℕ) → stack_place sp ≡ place → ⊥
   apart sp e = omega arith
@@ -54,18 +53,18 @@ init_end p sp at cpu away code pulls e =
 play_loop : (l sp : ℕ) (at : ℕ → ℕ) (cpu : Cpu) → 0 < l → l + 12 ≤ 54272 → CodeAt at l (clear_then l play_rest) → Pulls at cpu.sp 255 255 → (cpu.sp + 2) % 256 ≡ sp → Leads IsSid 75 (record { cpu = counting cpu l 23; at = at }) (record { cpu = record cpu { a = 15; x = 255; n = false; z = false; sp = sp; pc = 0 }; at = put (filled at 23 cpu.a) 54296 15 })
 play_loop l sp at cpu away within code pulls e =
     behind (loop_leads l 23 play_rest at cpu away within (omega arith) code) where
-  behind : Leads IsSid 72 (record { cpu = counting cpu l 23; at = at }) (record { cpu = counted cpu (l + 3 + 1 + 2); at = filled at 23 cpu.a }) → Leads IsSid 75 (record { cpu = counting cpu l 23; at = at }) (record { cpu = record cpu { a = 15; x = 255; n = false; z = false; sp = sp; pc = 0 }; at = put (filled at 23 cpu.a) 54296 15 })
-  behind loop =
-      let code' = code_kept l (clear_then l play_rest) loop within code in
-      leads_on loop (play_end (l + 3 + 1 + 2) sp (filled at 23 cpu.a) (record cpu { x = 255; n = true; z = false }) (omega arith) (omega arith) code'.1.1.1 (pulls_kept cpu.sp 255 255 loop pulls) e)
+      behind : Leads IsSid 72 (record { cpu = counting cpu l 23; at = at }) (record { cpu = counted cpu (l + 3 + 1 + 2); at = filled at 23 cpu.a }) → Leads IsSid 75 (record { cpu = counting cpu l 23; at = at }) (record { cpu = record cpu { a = 15; x = 255; n = false; z = false; sp = sp; pc = 0 }; at = put (filled at 23 cpu.a) 54296 15 })
+      behind loop =
+          let code' = code_kept l (clear_then l play_rest) loop within code in
+          leads_on loop (play_end (l + 3 + 1 + 2) sp (filled at 23 cpu.a) (record cpu { x = 255; n = true; z = false }) (omega arith) (omega arith) code'.1.1.1 (pulls_kept cpu.sp 255 255 loop pulls) e)
 
 init_loop : (l sp : ℕ) (at : ℕ → ℕ) (cpu : Cpu) → 0 < l → l + 7 ≤ 54272 → CodeAt at l (clear_then l init_rest) → Pulls at cpu.sp 255 255 → (cpu.sp + 2) % 256 ≡ sp → Leads IsSid 76 (record { cpu = counting cpu l 24; at = at }) (record { cpu = record cpu { x = 255; n = true; z = false; sp = sp; pc = 0 }; at = filled at 24 cpu.a })
 init_loop l sp at cpu away within code pulls e =
     behind (loop_leads l 24 init_rest at cpu away within (omega arith) code) where
-  behind : Leads IsSid 75 (record { cpu = counting cpu l 24; at = at }) (record { cpu = counted cpu (l + 3 + 1 + 2); at = filled at 24 cpu.a }) → Leads IsSid 76 (record { cpu = counting cpu l 24; at = at }) (record { cpu = record cpu { x = 255; n = true; z = false; sp = sp; pc = 0 }; at = filled at 24 cpu.a })
-  behind loop =
-      let code' = code_kept l (clear_then l init_rest) loop within code in
-      leads_on loop (init_end (l + 3 + 1 + 2) sp (filled at 24 cpu.a) (record cpu { x = 255; n = true; z = false }) (omega arith) code'.1.1.1 (pulls_kept cpu.sp 255 255 loop pulls) e)
+      behind : Leads IsSid 75 (record { cpu = counting cpu l 24; at = at }) (record { cpu = counted cpu (l + 3 + 1 + 2); at = filled at 24 cpu.a }) → Leads IsSid 76 (record { cpu = counting cpu l 24; at = at }) (record { cpu = record cpu { x = 255; n = true; z = false; sp = sp; pc = 0 }; at = filled at 24 cpu.a })
+      behind loop =
+          let code' = code_kept l (clear_then l init_rest) loop within code in
+          leads_on loop (init_end (l + 3 + 1 + 2) sp (filled at 24 cpu.a) (record cpu { x = 255; n = true; z = false }) (omega arith) code'.1.1.1 (pulls_kept cpu.sp 255 255 loop pulls) e)
 
 -- all of play, and all of init
 play_leads : (a sp : ℕ) (at : ℕ → ℕ) (cpu : Cpu) → InBounds a → CodeAt at (a + 3) (play_code a) → Pulls at cpu.sp 255 255 → (cpu.sp + 2) % 256 ≡ sp → Leads IsSid 77 (record { cpu = jumped cpu (a + 3); at = at }) (record { cpu = record cpu { a = 15; x = 255; n = false; z = false; sp = sp; pc = 0 }; at = put (filled at 23 0) 54296 15 })
@@ -98,9 +97,9 @@ as_call m a entry number steps zero_page image registers end is above below hold
             ap (λ s. s.at (a + k)) call.seen
             ∙ leads_stay leads (a + k) (λ sid. absurd (omega (arith, sid.low)))
             ∙ entry_kept m (a + k) is.size (omega arith)
-            ∙ holds.byte k lt
+            ∙ holds.byte k lt;
       };
-      registers_are = ap (λ s. bytes_at s.at 54272 25) call.seen ∙ regs
+      registers_are = ap (λ s. bytes_at s.at 54272 25) call.seen ∙ regs;
     }
 
 -- the image as a call finds it

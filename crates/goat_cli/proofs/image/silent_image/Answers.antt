@@ -1,4 +1,4 @@
-use Rattle.std.proofs.Common.{◌≡◌, ℕ, List, subst, sym, ap, ◌∙◌, flat_map}
+use Rattle.std.proofs.Common.{◌≡◌, subst, sym, ap, ◌∙◌, flat_map}
 use Rattle.goat_cli.specs.Image.{silent_image, bytes_of}
 use Rattle.goat_cli.specs.SilentRun.{InitIsSilent, PlayIsSilent}
 use Rattle.goat_cli.proofs.ImageRun.{init_is_silent, play_is_silent}
