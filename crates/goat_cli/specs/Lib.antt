@@ -3,3 +3,6 @@ pub mod PackJob
 pub mod Plain
 pub mod Pieces
 pub mod PlainFault
+pub mod Image
+pub mod Confined
+pub mod SilentRun

@@ -1,0 +1,104 @@
+-- From runs on a function memory to the machine and its calls.
+use Rattle.std.proofs.Common.{◌≡◌, ℕ, zero, suc, ◌+◌, ◌<◌, Bool, true, false, List, [], ◌∷◌, Ok, length, nat_eq, refl, sym, ap, ◌∙◌, subst, arith, length-set}
+use Rattle.std.specs.Prelude.{slice_index, slice_set}
+use Rattle.std.proofs.lemmas.Bool.{eqb-true, eq-eqb, false≢true}
+use Rattle.std.proofs.lemmas.List.{get_or-set_other, get_or-set_same}
+use mathlib.Core.Path.{fun_ext}
+use Rattle.cpu6502.specs.declared.effect.Write.{Write}
+use Rattle.cpu6502.specs.declared.machine.Machine.{Machine}
+use Rattle.cpu6502.specs.Effects.{stack_place}
+use Rattle.cpu6502.specs.Step.{written, changed, stepped, step}
+use Rattle.cpu6502.specs.Call.{after_step, run, return_address, entered, Called}
+use Rattle.cpu6502.specs.Runs.{State, view, put, put_all, left, Allowed, Runs, Leads}
+
+-- a byte written to the list is a byte put to the function
+slice_set_byte : (memory : List ℕ) (place byte q : ℕ) → place < length memory → slice_index (slice_set memory place byte) q ≡ put (slice_index memory) place byte q
+slice_set_byte memory place byte q within = chosen (nat_eq q place) refl where
+  chosen : (z : Bool) → nat_eq q place ≡ z → slice_index (slice_set memory place byte) q ≡ put (slice_index memory) place byte q
+  chosen true e =
+      let same = eqb-true q place e in
+      rw e (subst (λ p. slice_index (slice_set memory place byte) p ≡ byte) (sym same) (get_or-set_same memory place byte 0 within))
+  chosen false e = rw e (get_or-set_other memory place q byte 0 (λ same. false≢true (sym e ∙ eq-eqb q place same)))
+
+pub slice_set_view : (memory : List ℕ) (place byte : ℕ) → place < length memory → slice_index (slice_set memory place byte) ≡ put (slice_index memory) place byte
+slice_set_view memory place byte within = fun_ext (λ q. slice_set_byte memory place byte q within)
+
+-- the same of a list of writes
+pub length-written : (memory : List ℕ) (writes : List Write) → length (written memory writes) ≡ length memory
+length-written memory [] = refl
+length-written memory (write ∷ writes) =
+    length-written (slice_set memory write.place write.value) writes ∙ length-set memory write.place write.value
+
+pub written_view : (W : ℕ → Type 0) (below : (q : ℕ) → W q → q < 65536) (memory : List ℕ) (writes : List Write) → length memory ≡ 65536 → Allowed W writes → slice_index (written memory writes) ≡ put_all (slice_index memory) writes
+written_view W below memory [] size all = refl
+written_view W below memory (write ∷ writes) size all =
+    let within : write.place < length memory = omega (arith, below write.place all.0) in
+    let size' : length (slice_set memory write.place write.value) ≡ 65536 = length-set memory write.place write.value ∙ size in
+    written_view W below (slice_set memory write.place write.value) writes size' all.1
+    ∙ ap (λ at. put_all at writes) (slice_set_view memory write.place write.value within)
+
+-- a machine reaches the end of a run on its view, in so many steps, and begins none of them at address 0
+pub record Arrives (n : ℕ) (machine : Machine) (end : State) : Type 0 where
+  pub after : Machine
+  pub runs : run n machine ≡ Ok after
+  pub seen : view after ≡ end
+  pub size : length after.memory ≡ 65536
+  pub away : (k : ℕ) (between : Machine) → k < n → run k machine ≡ Ok between → 0 < between.cpu.pc
+
+-- the first of the steps, and the way of the others
+one_on : (n : ℕ) (m m1 : Machine) (end : State) → step m ≡ Ok m1 → 0 < m.cpu.pc → Arrives n m1 end → Arrives (suc n) m end
+one_on n m m1 end e away rest = record {
+  after = rest.after;
+  runs = rw e rest.runs;
+  seen = rest.seen;
+  size = rest.size;
+  away = later;
+} where
+  later : (k : ℕ) (between : Machine) → k < suc n → run k m ≡ Ok between → 0 < between.cpu.pc
+  later zero between lt r =
+      let same : m ≡ between = cc in
+      subst (λ (b : Machine). 0 < b.cpu.pc) same away
+  later (suc k) between lt r =
+      let r' : after_step (Ok m1) (run k) ≡ Ok between = rw e at r in
+      rest.away k between (omega arith) r'
+
+pub list_runs : (W : ℕ → Type 0) (below : (q : ℕ) → W q → q < 65536) (n : ℕ) (m : Machine) (end : State) → length m.memory ≡ 65536 → Runs W n (view m) end → Arrives n m end
+list_runs W below zero m end size r =
+    record { after = m; runs = refl; seen = r; size = size; away = λ k between lt e. absurd (omega arith) }
+list_runs W below (suc n) m end size r =
+    let m1 = changed m r.0 in
+    let e : step m ≡ Ok m1 = ap (stepped m) r.1 in
+    let seen : view m1 ≡ left (view m) r.0 = ap (λ (at : ℕ → ℕ). record { cpu = r.0.cpu; at = at }) (written_view W below m.memory r.0.writes size r.3) in
+    let size' = length-written m.memory r.0.writes ∙ size in
+    one_on n m m1 end e r.2 (list_runs W below n m1 end size' (subst (λ s. Runs W n s end) (sym seen) r.4))
+
+-- a call leads to a state in so many steps
+pub record CallsTo (machine : Machine) (address a n : ℕ) (end : State) : Type 0 where
+  pub after : Machine
+  pub called : Called machine address a n after
+  pub seen : view after ≡ end
+  pub size : length after.memory ≡ 65536
+
+-- a run from the entry to the return is a call
+pub call_returns : (W : ℕ → Type 0) (below : (q : ℕ) → W q → q < 65536) (m : Machine) (address a n : ℕ) (end : State) → length m.memory ≡ 65536 → Leads W n (view (entered m address a)) end → end.cpu.pc ≡ 0 → end.cpu.sp ≡ m.cpu.sp → CallsTo m address a n end
+call_returns W below m address a n end size leads at_zero same_stack =
+    let there = list_runs W below n (entered m address a) end (length-written m.memory (return_address m.cpu.sp) ∙ size) leads.runs in
+    record {
+      after = there.after;
+      called = record {
+        runs = there.runs;
+        returned = record { at_zero = ap (λ s. s.cpu.pc) there.seen ∙ at_zero; same_stack = ap (λ s. s.cpu.sp) there.seen ∙ same_stack };
+        first = record { out = λ k between lt e back. away_not_back between.cpu.pc (there.away k between lt e) back.at_zero };
+      };
+      seen = there.seen;
+      size = there.size;
+    } where
+      away_not_back : (pc : ℕ) → 0 < pc → pc ≡ 0 → ⊥
+      away_not_back pc away e = omega arith
+
+-- the memory of a call as it begins
+pub entered_view : (m : Machine) → length m.memory ≡ 65536 → slice_index (written m.memory (return_address m.cpu.sp)) ≡ put_all (slice_index m.memory) (return_address m.cpu.sp)
+entered_view m size =
+    written_view (λ q. q < 65536) (λ q lt. lt) m.memory (return_address m.cpu.sp) size (stack_below m.cpu.sp, (stack_below (m.cpu.sp + 255), tt)) where
+      stack_below : (sp : ℕ) → stack_place sp < 65536
+      stack_below sp = omega arith

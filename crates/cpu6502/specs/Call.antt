@@ -1,0 +1,79 @@
+-- A call of machine code: how a machine enters it, what it is to return, and how a call that does not return ends.
+use Rattle.std.specs.Prelude.{◌≡◌, ℕ, zero, suc, ◌+◌, ◌%◌, ◌<◌, List, [], ◌∷◌, ◌++◌, Result, Ok, Err}
+use Rattle.cpu6502.specs.declared.effect.Write.{Write}
+use Rattle.cpu6502.specs.declared.effect.Effect.{Effect}
+use Rattle.cpu6502.specs.declared.machine.Machine.{Machine}
+use Rattle.cpu6502.specs.declared.stop.Stop.{Stop}
+use Rattle.cpu6502.specs.declared.stop.CallStop.{CallStop}
+use Rattle.cpu6502.specs.declared.stop.CallStop.TheVariants.{Stopped, Budget}
+use Rattle.cpu6502.specs.Effects.{stack_place}
+use Rattle.cpu6502.specs.Step.{written, next_effect, step}
+
+-- what follows a step, or its stop
+abbrev pub after_step : Result Machine Stop → (Machine → Result Machine Stop) → Result Machine Stop
+after_step (Ok machine) go = go machine
+after_step (Err stop) go = Err stop
+
+-- the machine after so many steps, or the stop that one of them meets
+abbrev pub run : ℕ → Machine → Result Machine Stop
+run zero machine = Ok machine
+run (suc n) machine = after_step (step machine) (run n)
+
+-- the two writes of a caller that pushes $FF and $FF
+abbrev pub return_address : ℕ → List Write
+return_address sp =
+    (record { place = stack_place sp; value = 255 }) ∷ (record { place = stack_place (sp + 255); value = 255 }) ∷ []
+
+-- a machine as a call begins: $FF and $FF pushed, a in the accumulator, the address in the program counter
+abbrev pub entered : Machine → ℕ → ℕ → Machine
+entered machine address a = record {
+  cpu = record machine.cpu { a = a; sp = (machine.cpu.sp + 254) % 256; pc = address };
+  memory = written machine.memory (return_address machine.cpu.sp);
+}
+
+-- a call from the first machine is back in the second: at address 0, with the stack pointer of the first
+pub record HasReturned (machine after : Machine) : Type 0 where
+  pub at_zero : after.cpu.pc ≡ 0
+  pub same_stack : after.cpu.sp ≡ machine.cpu.sp
+
+-- no machine of the first so many steps, of those that the call is entered at and passes, has returned
+pub record IsOutFor (machine : Machine) (address a steps : ℕ) : Type 0 where
+  pub out : (k : ℕ) (between : Machine) → k < steps → run k (entered machine address a) ≡ Ok between → HasReturned machine between → ⊥
+
+-- a call at an address, with a in the accumulator, returns after exactly so many steps, in the last machine
+pub record Called (machine : Machine) (address a steps : ℕ) (after : Machine) : Type 0 where
+  pub runs : run steps (entered machine address a) ≡ Ok after
+  pub returned : HasReturned machine after
+  pub first : IsOutFor machine address a steps
+
+-- a call meets a stop after so many steps, in this machine
+pub record MeetsStop (machine : Machine) (address a steps : ℕ) (stop : Stop) (after : Machine) : Type 0 where
+  pub runs : run steps (entered machine address a) ≡ Ok after
+  pub stops : step after ≡ Err stop
+  pub out : IsOutFor machine address a (steps + 1)
+
+-- a call has made so many steps and has not returned, and is in this machine
+pub record IsUnderWay (machine : Machine) (address a steps : ℕ) (after : Machine) : Type 0 where
+  pub runs : run steps (entered machine address a) ≡ Ok after
+  pub out : IsOutFor machine address a (steps + 1)
+
+-- why a call with this budget of steps does not return: it meets a stop within the budget, or the budget is used up
+abbrev pub FailsBy : Machine → ℕ → ℕ → ℕ → CallStop → Machine → Type 0
+FailsBy machine address a budget (Stopped stop) after =
+    (steps : ℕ) × (steps < budget) × MeetsStop machine address a steps stop after
+FailsBy machine address a budget Budget after = IsUnderWay machine address a budget after
+
+-- what an instruction writes; a stop writes nothing
+abbrev pub writes_by : Result Effect Stop → List Write
+writes_by (Ok done) = done.writes
+writes_by (Err stop) = []
+
+-- what follows a step in a list of writes; nothing follows a stop
+abbrev pub writes_after : Result Machine Stop → (Machine → List Write) → List Write
+writes_after (Ok machine) go = go machine
+writes_after (Err stop) go = []
+
+-- what a machine writes in its next so many steps, in order; a stop ends them
+abbrev pub writes_in : ℕ → Machine → List Write
+writes_in zero machine = []
+writes_in (suc n) machine = writes_by (next_effect machine) ++ writes_after (step machine) (writes_in n)

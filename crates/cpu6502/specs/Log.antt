@@ -1,0 +1,20 @@
+-- The log of what a call writes to the SID, whose 25 registers stand at $D400 to $D418.
+use Rattle.std.specs.Prelude.{◌-◌, min, ◌&&◌, List, take, length, filter_map, Option, Some, None, nat_le, if◌then◌else◌}
+use Rattle.cpu6502.specs.declared.effect.Write.{Write}
+use Rattle.cpu6502.specs.declared.log.SidWrite.{SidWrite}
+use Rattle.cpu6502.specs.declared.log.WriteLog.{WriteLog}
+
+-- a write to a register of the SID; none where the place is no such register
+abbrev pub sid_write : Write → Option SidWrite
+sid_write write =
+    if nat_le 0xD400 write.place && nat_le write.place 0xD418
+    then Some (record { register = write.place - 0xD400; value = write.value })
+    else None
+
+-- the writes to the SID among these, in order
+abbrev pub sid_writes : List Write → List SidWrite
+sid_writes writes = filter_map sid_write writes
+
+-- the log of these writes: the first 512, and how many more there were, counted up to 4,294,967,295
+abbrev pub log_of : List SidWrite → WriteLog
+log_of writes = record { writes = take 512 writes; beyond = min (length writes - 512) 4294967295 }

@@ -1,0 +1,51 @@
+ghost use Rattle.std.specs.Prelude.{◌≡◌};
+ghost use Rattle.cpu6502.specs.Effects.{with_sign_and_zero, with_a, with_x};
+
+/// The registers: accumulator, two index registers, stack pointer (into page 1), program counter, and the flags.
+#[derive(Clone, Copy, Debug, PartialEq, Eq)]
+pub struct Cpu {
+    pub a: u8,
+    pub x: u8,
+    pub y: u8,
+    pub sp: u8,
+    pub pc: u16,
+    /// Negative: bit 7 of the last result.
+    pub n: bool,
+    /// Overflow of a signed sum.
+    pub v: bool,
+    /// Decimal mode.
+    pub d: bool,
+    /// Interrupts are off.
+    pub i: bool,
+    /// The last result was zero.
+    pub z: bool,
+    /// Carry.
+    pub c: bool,
+}
+
+impl Cpu {
+    /// These registers with a byte in A, and its flags N and Z.
+    pub fn with_a(self, byte: u8) -> Cpu
+        ensures { result ≡ with_a self byte }
+    {
+        Cpu { a: byte, ..self }.with_sign_and_zero(byte)
+    }
+
+    /// These registers with a byte in X, and its flags N and Z.
+    pub fn with_x(self, byte: u8) -> Cpu
+        ensures { result ≡ with_x self byte }
+    {
+        Cpu { x: byte, ..self }.with_sign_and_zero(byte)
+    }
+
+    /// These registers with the flags N and Z of a result.
+    fn with_sign_and_zero(self, byte: u8) -> Cpu
+        ensures { result ≡ with_sign_and_zero self byte }
+    {
+        Cpu {
+            n: byte >= 128,
+            z: byte == 0,
+            ..self
+        }
+    }
+}

@@ -1,0 +1,111 @@
+ghost use Rattle.std.specs.Prelude.{◌≡◌, ℕ, ◌≤◌, Ok, Err, OnOk, OnErr, IfOk, IfErr, ◌++◌, [], List, ◌↔◌, IsTrue};
+ghost use Rattle.cpu6502.specs.Step.{step, changed};
+ghost use Rattle.cpu6502.specs.Call.{entered, HasReturned, Called, FailsBy, writes_in};
+ghost use Rattle.cpu6502.specs.declared.log.SidWrite.{SidWrite};
+ghost use Rattle.cpu6502.specs.Log.{log_of, sid_writes};
+
+use crate::cpu::Cpu;
+use crate::effect::Effect;
+use crate::execute::{next_effect, stack};
+use crate::log::WriteLog;
+use crate::memory::Memory;
+use crate::stop::{CallStop, Stop};
+
+/// A processor and its memory.
+#[derive(Drop)]
+pub struct Machine {
+    pub cpu: Cpu,
+    pub memory: Memory,
+}
+
+/// The byte that a caller pushes twice, so that a return leads to address 0.
+const RETURN_BYTE: u8 = 0xFF;
+
+impl Machine {
+    /// Does the instruction at the program counter.
+    pub fn step(&mut self) -> Result<(), Stop>
+        ensures done { OnOk result (step self.old ≡ Ok self.new) }
+        ensures stopped { IfErr result (λ stop. step self.old ≡ Err stop) }
+        ensures same { OnErr result (self.new ≡ self.old) }
+    {
+        let done = next_effect(&self.memory, self.cpu)?;
+        self.take(&done);
+        Ok(())
+    }
+
+    /// Calls the code at an address with a number in the accumulator: pushes `$FF` twice and steps until the program
+    /// counter is 0 and the stack pointer is what it was before the pushes. Answers the number of steps, at most
+    /// `budget`. The log is emptied first, and then holds what the call writes to the SID, up to its end or its stop.
+    pub fn call(
+        &mut self,
+        address: u16,
+        a: u8,
+        budget: u32,
+        log: &mut WriteLog,
+    ) -> Result<u32, CallStop>
+        ensures returned { IfOk result (λ steps. Called self.old address a steps self.new) }
+        ensures in_budget { IfOk result (λ steps. steps ≤ budget) }
+        ensures failed { IfErr result (λ reason. FailsBy self.old address a budget reason self.new) }
+
+        ensures returns { (steps : ℕ) (after : Machine) → Called self.old address a steps after → steps ≤ budget → result ≡ Ok steps }
+        ensures fails { (reason : CallStop) (after : Machine) → FailsBy self.old address a budget reason after → result ≡ Err reason }
+
+        ensures log { IfOk result (λ steps. log.new ≡ log_of (sid_writes (writes_in steps (entered self.old address a)))) }
+        ensures log_failed { OnErr result (log.new ≡ log_of (sid_writes (writes_in budget (entered self.old address a)))) }
+    {
+        log.clear();
+        let home = self.cpu.sp;
+        self.enter(address, a);
+        let mut steps = 0;
+        'stepping: while !self.is_back(home) {
+            if steps == budget {
+                return Err(CallStop::Budget);
+            }
+            if let Err(stop) = self.step_noted(log) {
+                return Err(CallStop::Stopped(stop));
+            }
+            steps += 1;
+        }
+        Ok(steps)
+    }
+
+    /// Pushes `$FF` twice, and goes to an address with a number in the accumulator.
+    fn enter(&mut self, address: u16, a: u8)
+        ensures { self.new ≡ entered self.old address a }
+    {
+        let sp = self.cpu.sp;
+        self.memory.write(stack(sp), RETURN_BYTE);
+        self.memory.write(stack(sp.wrapping_sub(1)), RETURN_BYTE);
+        self.cpu.a = a;
+        self.cpu.sp = sp.wrapping_sub(2);
+        self.cpu.pc = address;
+    }
+
+    /// Whether a call that began with this stack pointer has returned.
+    fn is_back(&self, home: u8) -> bool
+        ensures { IsTrue result ↔ ((self.now.cpu.pc ≡ 0) × (self.now.cpu.sp ≡ home)) }
+    {
+        self.cpu.pc == 0 && self.cpu.sp == home
+    }
+
+    /// Does the instruction at the program counter, and notes what it writes.
+    fn step_noted(&mut self, log: &mut WriteLog) -> Result<(), Stop>
+        ensures done { OnOk result (step self.old ≡ Ok self.new) }
+        ensures stopped { IfErr result (λ stop. step self.old ≡ Err stop) }
+        ensures same { OnErr result (self.new ≡ self.old) }
+        ensures noted { (before : List SidWrite) → log.old ≡ log_of before → log.new ≡ log_of (before ++ sid_writes (writes_in 1 self.old)) }
+    {
+        let effect = next_effect(&self.memory, self.cpu)?;
+        effect.writes.note_in(log);
+        self.take(&effect);
+        Ok(())
+    }
+
+    /// Takes over what an instruction does.
+    fn take(&mut self, effect: &Effect)
+        ensures { self.new ≡ changed self.old effect.now }
+    {
+        self.cpu = effect.cpu;
+        effect.writes.put_into(&mut self.memory);
+    }
+}

@@ -1,0 +1,56 @@
+ghost use Rattle.std.specs.Prelude.{◌≡◌, IfOk, All, length, slice_index, slice_set};
+
+use crate::stop::NoMemory;
+use std::alloc::{AllocError, Global};
+use std::marker::Model;
+
+/// The machine's memory: 65,536 bytes. Contracts see the list of them.
+#[derive(Drop)]
+pub struct Memory {
+    bytes: Vec<u8>,
+}
+
+impl Model for Memory {
+    ghost use Rattle.std.specs.Prelude.{List, ℕ, ◌≡◌, vec_len};
+
+    ghost Value = { List ℕ };
+
+    ghost view = { λ memory. memory.bytes.items };
+
+    ghost invariant = { λ memory. vec_len memory.bytes ≡ 65536 };
+}
+
+impl Memory {
+    /// Memory with this value in each byte.
+    pub fn filled(alloc: Global, value: u8) -> Result<Memory, NoMemory>
+        ensures size { IfOk result (λ memory. length memory ≡ 65536) }
+        ensures bytes { IfOk result (All (λ byte. byte ≡ value)) }
+    {
+        match bytes_of(alloc, 65_536, value) {
+            Ok(bytes) => Ok(Memory { bytes }),
+            Err(_) => Err(NoMemory),
+        }
+    }
+
+    /// The byte at a place.
+    pub fn read(&self, at: u16) -> u8
+        ensures { result ≡ slice_index self.now at }
+    {
+        self.bytes[usize::from(at)]
+    }
+
+    /// Puts a byte at a place.
+    pub fn write(&mut self, at: u16, value: u8)
+        ensures { self.new ≡ slice_set self.old at value }
+    {
+        self.bytes[usize::from(at)] = value;
+    }
+}
+
+/// So many bytes of one value.
+fn bytes_of(alloc: Global, count: usize, value: u8) -> Result<Vec<u8>, AllocError>
+    ensures size { IfOk result (λ bytes. length bytes.items ≡ count) }
+    ensures bytes { IfOk result (λ bytes. All (λ byte. byte ≡ value) bytes.items) }
+{
+    vec![in alloc; value; count]
+}

@@ -1,0 +1,104 @@
+/// The name of an instruction, as the MOS 6502 programming manual writes it.
+#[derive(Clone, Copy, Debug)]
+pub enum Mnemonic {
+    Adc,
+    And,
+    Asl,
+    Bcc,
+    Bcs,
+    Beq,
+    Bit,
+    Bmi,
+    Bne,
+    Bpl,
+    Brk,
+    Bvc,
+    Bvs,
+    Clc,
+    Cld,
+    Cli,
+    Clv,
+    Cmp,
+    Cpx,
+    Cpy,
+    Dec,
+    Dex,
+    Dey,
+    Eor,
+    Inc,
+    Inx,
+    Iny,
+    Jmp,
+    Jsr,
+    Lda,
+    Ldx,
+    Ldy,
+    Lsr,
+    Nop,
+    Ora,
+    Pha,
+    Php,
+    Pla,
+    Plp,
+    Rol,
+    Ror,
+    Rti,
+    Rts,
+    Sbc,
+    Sec,
+    Sed,
+    Sei,
+    Sta,
+    Stx,
+    Sty,
+    Tax,
+    Tay,
+    Tsx,
+    Txa,
+    Txs,
+    Tya,
+}
+
+/// How an instruction finds its operand.
+#[derive(Clone, Copy, Debug)]
+pub enum Mode {
+    Implied,
+    Accumulator,
+    Immediate,
+    ZeroPage,
+    ZeroPageX,
+    ZeroPageY,
+    Absolute,
+    AbsoluteX,
+    AbsoluteY,
+    /// `(place,X)`: the address stands in page 0 at the place plus X.
+    IndirectX,
+    /// `(place),Y`: Y is added to the address that stands in page 0 at the place.
+    IndirectY,
+    /// `(address)`, of JMP alone.
+    Indirect,
+    /// A displacement from -128 to 127 from the next instruction, of the branches.
+    Relative,
+}
+
+impl Mode {
+    ghost use Rattle.std.specs.Prelude.{◌≡◌};
+    ghost use Rattle.cpu6502.specs.Opcodes.{length_of};
+
+    /// The bytes that an instruction of this mode takes, with its opcode: 1 to 3.
+    pub fn length(self) -> u8
+        ensures { result ≡ length_of self }
+    {
+        match self {
+            Mode::Implied | Mode::Accumulator => 1,
+            Mode::Absolute | Mode::AbsoluteX | Mode::AbsoluteY | Mode::Indirect => 3,
+            Mode::Immediate
+            | Mode::ZeroPage
+            | Mode::ZeroPageX
+            | Mode::ZeroPageY
+            | Mode::IndirectX
+            | Mode::IndirectY
+            | Mode::Relative => 2,
+        }
+    }
+}

@@ -1,0 +1,23 @@
+/// Memory for 65,536 bytes was not to be had.
+#[derive(Clone, Copy, Debug, PartialEq, Eq)]
+pub struct NoMemory;
+
+/// Why a step stopped, with the address of the opcode. A stop changes nothing.
+#[derive(Clone, Copy, Debug, PartialEq, Eq)]
+pub enum Stop {
+    /// An opcode with no row.
+    Illegal { at: u16 },
+    /// BRK.
+    Break { at: u16 },
+    /// ADC or SBC with the decimal flag set.
+    Decimal { at: u16 },
+}
+
+/// Why a call did not return.
+#[derive(Clone, Copy, Debug, PartialEq, Eq)]
+pub enum CallStop {
+    /// A step stopped.
+    Stopped(Stop),
+    /// As many steps as the budget allows were made.
+    Budget,
+}
