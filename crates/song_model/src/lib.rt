@@ -19,7 +19,7 @@ mod tables;
 
 pub use faults::{LimitFault, NoMemory, PushFault};
 pub use instruments::{FeatureBits, Instrument, InstrumentList};
-pub use laws::silence_spelling;
+pub use laws::{silence_spelling, worked_walks};
 pub use lists::{Bounded, ByteList};
 pub use orders::{Order, OrderEntries, OrderPlace, Step, Subtune, SubtuneList};
 pub use patterns::{Pattern, PatternList};
