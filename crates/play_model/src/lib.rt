@@ -7,6 +7,5 @@
 //! It stands on `song_model`.
 #![tactic(auto)]
 
-mod laws;
-
-pub use laws::{one_note_sounds, worked_frequencies};
+/// The worked examples.
+pub mod laws;
