@@ -12,3 +12,4 @@ pub mod Frame
 pub mod WorkedFrequencies
 pub mod WorkedSongs
 pub mod WorkedFrames
+pub mod SilentTrace

@@ -1,7 +1,14 @@
 //! Facts about the definitions of this crate, each the contract of a function that does nothing.
 
+ghost use Rattle.play_model.specs.SilentTrace.{SilentSongsAreSilent};
 ghost use Rattle.play_model.specs.WorkedFrequencies.{FrequenciesAreAsWorked};
 ghost use Rattle.play_model.specs.WorkedFrames.{OneNoteSounds, LowNoteIsMute, VibratoWraps, SlideStops, FunkTempoWraps, GateTimerBits, WaveProgramWaits, VibratoChangesAlone, FilterFollows};
+
+/// Each play call of a silent song leaves zeros and the volume, whatever the song's length.
+pub fn silent_songs_are_silent()
+    ensures { SilentSongsAreSilent }
+{
+}
 
 /// Frequencies at the ends of the octaves and beyond the last note.
 pub fn worked_frequencies()
