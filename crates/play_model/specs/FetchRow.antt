@@ -1,5 +1,5 @@
 -- Fetching a row: what it says waits for tick 0, but keyoff, keyon and a note's gate are seen at once.
-use Rattle.std.specs.Prelude.{◌≡◌, ℕ, ◌+◌, ◌%◌, ℤ, pos, ◌+ℤ◌, Bool, not, ◌&&◌, ◌||◌, ◌==◌, List, length, if◌then◌else◌, nat_le, bit_and}
+use Rattle.std.specs.Prelude.{ℕ, ◌+◌, ℤ, pos, ◌+ℤ◌, Bool, not, ◌&&◌, ◌||◌, ◌==◌, List, length, if◌then◌else◌, nat_le, bit_and}
 use Rattle.std.specs.Int.{cast_unsigned, w8}
 use Rattle.song_model.specs.declared.rows.Row.{Row}
 use Rattle.song_model.specs.declared.orders.Order.{Order}
@@ -21,9 +21,9 @@ row_taken row v = record v {
 -- $BE is keyoff, $BF keyon
 abbrev pub gate_keyed : ℕ → Voice → Voice
 gate_keyed note v =
-  if note == 0xBE then record v { gate = 0xFE }
-  else if note == 0xBF then record v { gate = 0xFF }
-  else v
+    if note == 0xBE then record v { gate = 0xFE }
+    else if note == 0xBF then record v { gate = 0xFF }
+    else v
 
 abbrev pub is_note : ℕ → Bool
 is_note note = nat_le 0x60 note && nat_le note 0xBC
@@ -36,20 +36,20 @@ transposed note transpose = cast_unsigned w8 (pos note +ℤ transpose)
 -- goes off, bit $80 keeps the envelope, which else is shut.
 abbrev pub gate_shut : ℕ → Voice → Voice
 gate_shut timer v =
-  if (v.new_command == 3) || not (bit_and timer 0x40 == 0) then v
-  else if bit_and timer 0x80 == 0 then record v { gate = 0xFE; ad = 0x0F; sr = 0 }
-  else record v { gate = 0xFE }
+    if (v.new_command == 3) || not (bit_and timer 0x40 == 0) then v
+    else if bit_and timer 0x80 == 0 then record v { gate = 0xFE; ad = 0x0F; sr = 0 }
+    else record v { gate = 0xFE }
 
 abbrev pub note_waits : Song → ℕ → ℤ → Voice → Voice
 note_waits song note transpose v =
-  if is_note note
-  then gate_shut (instrument_at song v.instrument).gate_timer (record v { new_note = transposed note transpose })
-  else v
+    if is_note note
+    then gate_shut (instrument_at song v.instrument).gate_timer (record v { new_note = transposed note transpose })
+    else v
 
 -- behind the last row of the pattern the orderlist goes to its next play
 abbrev pub row_moved : ℕ → Voice → Voice
 row_moved rows v =
-  if byte_plus v.row 1 == rows then record v { row = 0; plays = v.plays + 1 } else record v { row = byte_plus v.row 1 }
+    if byte_plus v.row 1 == rows then record v { row = 0; plays = v.plays + 1 } else record v { row = byte_plus v.row 1 }
 
 abbrev pub row_done : Song → Row → ℤ → Voice → Voice
 row_done song row transpose v = note_waits song row.note transpose (gate_keyed row.note (row_taken row v))

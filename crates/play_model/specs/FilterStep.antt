@@ -1,5 +1,5 @@
 -- The filter step: the first thing in a frame. One row of the filter program, or one frame of it.
-use Rattle.std.specs.Prelude.{ℕ, ◌+◌, Bool, ◌&&◌, ◌==◌, if◌then◌else◌, nat_le, bit_and}
+use Rattle.std.specs.Prelude.{ℕ, ◌+◌, ◌&&◌, ◌==◌, if◌then◌else◌, nat_le, bit_and}
 use Rattle.song_model.specs.declared.tables.TableRow.{TableRow}
 use Rattle.song_model.specs.declared.tables.TableName.TheVariants.{Filter}
 use Rattle.song_model.specs.declared.songs.Song.{Song}
@@ -12,18 +12,18 @@ use Rattle.play_model.specs.Helpers.{next_row}
 -- belongs to it and sets the cutoff
 abbrev pub filter_set : Song → TableRow → TableRow → Common → Common
 filter_set song row following c =
-  if following.left == 0
-  then record c {
-    filter_type = bit_and row.left 0x70;
-    filter_control = row.right;
-    cutoff = following.right;
-    filter_ptr = next_row song Filter (c.filter_ptr + 1);
-  }
-  else record c {
-    filter_type = bit_and row.left 0x70;
-    filter_control = row.right;
-    filter_ptr = next_row song Filter c.filter_ptr;
-  }
+    if following.left == 0
+    then record c {
+      filter_type = bit_and row.left 0x70;
+      filter_control = row.right;
+      cutoff = following.right;
+      filter_ptr = next_row song Filter (c.filter_ptr + 1);
+    }
+    else record c {
+      filter_type = bit_and row.left 0x70;
+      filter_control = row.right;
+      filter_ptr = next_row song Filter c.filter_ptr;
+    }
 
 -- a row $00 sets the cutoff
 abbrev pub filter_cutoff : Song → TableRow → Common → Common
@@ -39,9 +39,9 @@ filter_slide song row time c = record c {
 
 abbrev pub filter_row : Song → TableRow → Common → Common
 filter_row song row c =
-  if (c.filter_time == 0) && nat_le 0x80 row.left then filter_set song row (table_row song Filter (c.filter_ptr + 1)) c
-  else if (c.filter_time == 0) && (row.left == 0) then filter_cutoff song row c
-  else filter_slide song row (if c.filter_time == 0 then row.left else c.filter_time) c
+    if (c.filter_time == 0) && nat_le 0x80 row.left then filter_set song row (table_row song Filter (c.filter_ptr + 1)) c
+    else if (c.filter_time == 0) && (row.left == 0) then filter_cutoff song row c
+    else filter_slide song row (if c.filter_time == 0 then row.left else c.filter_time) c
 
 unfoldable pub filter_step : Song → Common → Common
 filter_step song c = if c.filter_ptr == 0 then c else filter_row song (table_row song Filter c.filter_ptr) c

@@ -1,6 +1,6 @@
 -- A frame: the filter, its registers, and the three voices in turn. This is this project's profile of
 -- the playroutine, and the meaning of a song.
-use Rattle.std.specs.Prelude.{ℕ, zero, suc, ◌+◌, ◌/◌, ◌%◌, Bool, ◌==◌, List, [], ◌∷◌, ◌++◌, replicate, if◌then◌else◌, slice_index_or, bit_and, bit_or}
+use Rattle.std.specs.Prelude.{ℕ, zero, suc, ◌/◌, ◌%◌, ◌==◌, List, [], ◌∷◌, ◌++◌, replicate, if◌then◌else◌, slice_index_or, bit_and, bit_or}
 use Rattle.song_model.specs.declared.orders.Order.{Order}
 use Rattle.song_model.specs.declared.orders.Subtune.{Subtune}
 use Rattle.song_model.specs.declared.songs.Song.{Song}
@@ -15,19 +15,19 @@ use Rattle.play_model.specs.FetchRow.{fetch_row}
 
 abbrev pub effect_done : Song → Waved → Playing
 effect_done song w =
-  if w.effect then record w.playing { voice = effect_step song w.playing.voice } else w.playing
+    if w.effect then record w.playing { voice = effect_step song w.playing.voice } else w.playing
 
 abbrev pub pulse_done : Song → Playing → Playing
 pulse_done song s = record s { voice = pulse_step song s.voice }
 
 abbrev pub row_fetched : Song → Order → Playing → Playing
 row_fetched song order s =
-  if s.voice.tick == s.voice.gate_timer then record s { voice = fetch_row song order s.voice } else s
+    if s.voice.tick == s.voice.gate_timer then record s { voice = fetch_row song order s.voice } else s
 
 -- a started note ends the voice step
 abbrev pub behind_tick : Song → Order → Ticked → Playing
 behind_tick song order t =
-  if t.started then t.playing else row_fetched song order (pulse_done song (effect_done song (wave_step song t.playing)))
+    if t.started then t.playing else row_fetched song order (pulse_done song (effect_done song (wave_step song t.playing)))
 
 -- the voice of channel 1, 2 or 3, which plays this orderlist
 unfoldable pub voice_step : ℕ → Song → Order → Playing → Playing
@@ -36,7 +36,7 @@ voice_step channel song order s = behind_tick song order (tick_step channel song
 -- frequency, pulse width, waveform under its mask, envelope
 unfoldable pub voice_registers : Voice → List ℕ
 voice_registers v =
-  v.freq % 256 ∷ v.freq / 256 ∷ v.pulse % 256 ∷ v.pulse / 256 ∷ bit_and v.wave v.gate ∷ v.ad ∷ v.sr ∷ []
+    v.freq % 256 ∷ v.freq / 256 ∷ v.pulse % 256 ∷ v.pulse / 256 ∷ bit_and v.wave v.gate ∷ v.ad ∷ v.sr ∷ []
 
 -- registers 21 to 24
 unfoldable pub filter_registers : Common → List ℕ
@@ -56,16 +56,16 @@ third_voice song subtune filter one two p = record {
 
 abbrev pub second_voice : Song → Subtune → List ℕ → Voice → Voice → Playing → Framed
 second_voice song subtune filter one three p =
-  third_voice song subtune filter one p.voice (voice_step 3 song subtune.three (record { voice = three; common = p.common }))
+    third_voice song subtune filter one p.voice (voice_step 3 song subtune.three (record { voice = three; common = p.common }))
 
 abbrev pub first_voice : Song → Subtune → List ℕ → Voice → Voice → Playing → Framed
 first_voice song subtune filter two three p =
-  second_voice song subtune filter p.voice three (voice_step 2 song subtune.two (record { voice = two; common = p.common }))
+    second_voice song subtune filter p.voice three (voice_step 2 song subtune.two (record { voice = two; common = p.common }))
 
 -- what a voice does to the filter and the volume is seen in the next frame's registers
 abbrev pub voices_done : Song → Subtune → FrameState → Common → Framed
 voices_done song subtune state c =
-  first_voice song subtune (filter_registers c) state.two state.three
+    first_voice song subtune (filter_registers c) state.two state.three
     (voice_step 1 song subtune.one (record { voice = state.one; common = c }))
 
 abbrev pub void_order : Order

@@ -21,9 +21,9 @@ half_tone n = freq_minus (freq (n + 1)) (freq n)
 -- note, shifted right, and 0 for shifts of 16 and more
 abbrev pub slide_of : TableRow → ℕ → ℕ
 slide_of row last =
-  if nat_lt row.left 0x80 then 256 * row.left + row.right
-  else if nat_lt row.right 16 then shifted_right (half_tone last) row.right
-  else 0
+    if nat_lt row.left 0x80 then 256 * row.left + row.right
+    else if nat_lt row.right 16 then shifted_right (half_tone last) row.right
+    else 0
 
 unfoldable pub slide : Song → ℕ → ℕ → ℕ
 slide song pointer last = slide_of (speed_row song pointer) last

@@ -1,13 +1,13 @@
 -- What several rules of a frame have in common: the next row of a program, the slides, the vibrato,
 -- and the commands that rows and the wave table share.
-use Rattle.std.specs.Prelude.{ℕ, ◌+◌, ◌-◌, ◌%◌, Bool, ◌&&◌, ◌||◌, ◌==◌, if◌then◌else◌, nat_lt, nat_le}
+use Rattle.std.specs.Prelude.{ℕ, ◌+◌, ◌-◌, ◌%◌, ◌&&◌, ◌||◌, ◌==◌, if◌then◌else◌, nat_lt, nat_le}
 use Rattle.song_model.specs.declared.tables.TableRow.{TableRow}
 use Rattle.song_model.specs.declared.tables.TableName.{TableName}
 use Rattle.song_model.specs.declared.songs.Song.{Song}
 use Rattle.song_model.specs.LookUp.{table_row, speed_row}
-use Rattle.play_model.specs.Wrap.{byte_plus, byte_minus, freq_plus, freq_minus, distance}
+use Rattle.play_model.specs.Wrap.{byte_plus, freq_plus, freq_minus, distance}
 use Rattle.play_model.specs.Freq.{freq, slide}
-use Rattle.play_model.specs.State.{Voice, Common, Playing}
+use Rattle.play_model.specs.State.{Voice, Playing}
 
 -- behind row p: row p + 1, but where that is a jump (left side $FF) the row that the jump names
 abbrev pub behind : TableRow → ℕ → ℕ
@@ -34,7 +34,7 @@ towards target step v = record v { freq = if nat_lt v.freq target then freq_plus
 
 abbrev pub tone_by : ℕ → ℕ → ℕ → Voice → Voice
 tone_by d target step v =
-  if (d == 0) || nat_le (distance v.freq target) step then at_target target v else towards target step v
+    if (d == 0) || nat_le (distance v.freq target) step then at_target target v else towards target step v
 
 -- a slide that ends at the note, and with parameter 0 the note at once
 unfoldable pub tone : Song → ℕ → Voice → Voice
@@ -56,20 +56,22 @@ depth_of song d row last = if nat_lt row.left 0x80 then row.right else slide son
 
 unfoldable pub vibrato : Song → ℕ → Voice → Voice
 vibrato song d v =
-  swung (byte_plus (turned ((speed_row song d).left % 128) v.vib_time) 2) (depth_of song d (speed_row song d) v.last_note) v
+    swung (byte_plus (turned ((speed_row song d).left % 128) v.vib_time) 2) (depth_of song d (speed_row song d) v.last_note) v
 
 -- the commands that rows and the wave table share; another number does nothing
 unfoldable pub do_command : ℕ → ℕ → Playing → Playing
 do_command c d s =
-  if c == 5 then record s { voice = record s.voice { ad = d } }
-  else if c == 6 then record s { voice = record s.voice { sr = d } }
-  else if c == 7 then record s { voice = record s.voice { wave = d } }
-  else if c == 9 then record s { voice = record s.voice { pulse_ptr = d; pulse_time = 0 } }
-  else if c == 0xA then record s { common = record s.common { filter_ptr = d; filter_time = 0 } }
-  else if c == 0xB then record s { common = record s.common {
-    filter_control = d;
-    filter_ptr = if d == 0 then 0 else s.common.filter_ptr;
-  } }
-  else if c == 0xC then record s { common = record s.common { cutoff = d } }
-  else if c == 0xD then record s { common = record s.common { volume = if nat_lt d 0x10 then d else s.common.volume } }
-  else s
+    if c == 5 then record s { voice = record s.voice { ad = d } }
+    else if c == 6 then record s { voice = record s.voice { sr = d } }
+    else if c == 7 then record s { voice = record s.voice { wave = d } }
+    else if c == 9 then record s { voice = record s.voice { pulse_ptr = d; pulse_time = 0 } }
+    else if c == 0xA then record s { common = record s.common { filter_ptr = d; filter_time = 0 } }
+    else if c == 0xB then record s {
+      common = record s.common {
+        filter_control = d;
+        filter_ptr = if d == 0 then 0 else s.common.filter_ptr;
+      };
+    }
+    else if c == 0xC then record s { common = record s.common { cutoff = d } }
+    else if c == 0xD then record s { common = record s.common { volume = if nat_lt d 0x10 then d else s.common.volume } }
+    else s

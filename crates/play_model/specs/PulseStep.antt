@@ -1,5 +1,5 @@
 -- The pulse step: one row of the pulse program, or one frame of it.
-use Rattle.std.specs.Prelude.{ℕ, ◌+◌, ◌-◌, ◌*◌, ◌%◌, Bool, ◌&&◌, ◌==◌, if◌then◌else◌, nat_lt, nat_le}
+use Rattle.std.specs.Prelude.{ℕ, ◌+◌, ◌-◌, ◌*◌, ◌%◌, ◌&&◌, ◌==◌, if◌then◌else◌, nat_lt, nat_le}
 use Rattle.song_model.specs.declared.tables.TableRow.{TableRow}
 use Rattle.song_model.specs.declared.tables.TableName.TheVariants.{Pulse}
 use Rattle.song_model.specs.declared.songs.Song.{Song}
@@ -30,9 +30,9 @@ pulse_slide song row time v = record v {
 -- a row $00 stops the program
 abbrev pub pulse_row : Song → TableRow → Voice → Voice
 pulse_row song row v =
-  if (v.pulse_time == 0) && nat_le 0x80 row.left then pulse_set song row v
-  else if (v.pulse_time == 0) && (row.left == 0) then v
-  else pulse_slide song row (if v.pulse_time == 0 then row.left else v.pulse_time) v
+    if (v.pulse_time == 0) && nat_le 0x80 row.left then pulse_set song row v
+    else if (v.pulse_time == 0) && (row.left == 0) then v
+    else pulse_slide song row (if v.pulse_time == 0 then row.left else v.pulse_time) v
 
 unfoldable pub pulse_step : Song → Voice → Voice
 pulse_step song v = if v.pulse_ptr == 0 then v else pulse_row song (table_row song Pulse v.pulse_ptr) v

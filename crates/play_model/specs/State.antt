@@ -1,5 +1,5 @@
 -- What the playroutine keeps from one frame to the next, with the values at the start.
-use Rattle.std.specs.Prelude.{ℕ, Bool}
+use Rattle.std.specs.Prelude.{ℕ}
 
 -- what each voice keeps
 pub record Voice : Type 0 where
@@ -62,15 +62,45 @@ pub record Playing : Type 0 where
 
 abbrev pub start_voice : Voice
 start_voice = record {
-  plays = 0; row = 0; tick = 1; gate_timer = 0; instrument = 1; note = 0; new_note = 0; new_command = 0; new_param = 0;
-  command = 0; param = 0; ad = 0; sr = 0; vib_time = 0; vib_delay = 0; wave = 0; gate = 0xFE; freq = 0; last_note = 0;
-  wave_ptr = 0; wave_time = 0; pulse_ptr = 0; pulse_time = 0; pulse = 0;
+  plays = 0;
+  row = 0;
+  tick = 1;
+  gate_timer = 0;
+  instrument = 1;
+  note = 0;
+  new_note = 0;
+  new_command = 0;
+  new_param = 0;
+  command = 0;
+  param = 0;
+  ad = 0;
+  sr = 0;
+  vib_time = 0;
+  vib_delay = 0;
+  wave = 0;
+  gate = 0xFE;
+  freq = 0;
+  last_note = 0;
+  wave_ptr = 0;
+  wave_time = 0;
+  pulse_ptr = 0;
+  pulse_time = 0;
+  pulse = 0;
 }
 
 abbrev pub start_common : Common
 start_common = record {
-  tempo_one = 5; tempo_two = 5; tempo_three = 5; funk_one = 8; funk_two = 5;
-  filter_ptr = 0; filter_time = 0; filter_type = 0; filter_control = 0; cutoff = 0; volume = 15;
+  tempo_one = 5;
+  tempo_two = 5;
+  tempo_three = 5;
+  funk_one = 8;
+  funk_two = 5;
+  filter_ptr = 0;
+  filter_time = 0;
+  filter_type = 0;
+  filter_control = 0;
+  cutoff = 0;
+  volume = 15;
 }
 
 abbrev pub start_state : FrameState

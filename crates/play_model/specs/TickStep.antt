@@ -1,5 +1,5 @@
 -- The tick step: the voice counts frames, and at tick 0 starts the note that waits and does the row's command.
-use Rattle.std.specs.Prelude.{ℕ, ◌+◌, ◌-◌, ◌%◌, Bool, false, not, ◌&&◌, ◌||◌, ◌==◌, if◌then◌else◌, nat_lt, nat_le}
+use Rattle.std.specs.Prelude.{ℕ, ◌-◌, ◌%◌, Bool, false, not, ◌&&◌, ◌==◌, if◌then◌else◌, nat_le}
 use Rattle.song_model.specs.declared.instruments.Instrument.{Instrument}
 use Rattle.song_model.specs.declared.tables.TableRow.{TableRow}
 use Rattle.song_model.specs.declared.songs.Song.{Song}
@@ -19,9 +19,9 @@ tempo_of channel c = if channel == 1 then c.tempo_one else if channel == 2 then 
 
 abbrev pub with_tempo : ℕ → ℕ → Common → Common
 with_tempo channel tempo c =
-  if channel == 1 then record c { tempo_one = tempo }
-  else if channel == 2 then record c { tempo_two = tempo }
-  else record c { tempo_three = tempo }
+    if channel == 1 then record c { tempo_one = tempo }
+    else if channel == 2 then record c { tempo_two = tempo }
+    else record c { tempo_three = tempo }
 
 abbrev pub with_all_tempos : ℕ → Common → Common
 with_all_tempos tempo c = record c { tempo_one = tempo; tempo_two = tempo; tempo_three = tempo }
@@ -30,11 +30,11 @@ with_all_tempos tempo c = record c { tempo_one = tempo; tempo_two = tempo; tempo
 -- and 1 the two funk values in turn.
 abbrev pub reloaded : ℕ → ℕ → Playing → Playing
 reloaded channel tempo s =
-  if nat_le 2 tempo then record s { voice = record s.voice { tick = tempo } }
-  else record {
-    voice = record s.voice { tick = if tempo == 0 then s.common.funk_one else s.common.funk_two };
-    common = with_tempo channel (1 - tempo) s.common;
-  }
+    if nat_le 2 tempo then record s { voice = record s.voice { tick = tempo } }
+    else record {
+      voice = record s.voice { tick = if tempo == 0 then s.common.funk_one else s.common.funk_two };
+      common = with_tempo channel (1 - tempo) s.common;
+    }
 
 unfoldable pub between_rows : ℕ → Playing → Playing
 between_rows channel s = if nat_le 0x80 s.voice.tick then reloaded channel (tempo_of channel s.common) s else s
@@ -51,9 +51,9 @@ note_taken i v = record v {
 -- the first frame's waveform: $FE and $FF are masks, and 0 changes nothing
 abbrev pub first_wave_set : ℕ → Voice → Voice
 first_wave_set wave v =
-  if nat_le 0xFE wave then record v { gate = wave }
-  else if wave == 0 then v
-  else record v { wave = wave; gate = 0xFF }
+    if nat_le 0xFE wave then record v { gate = wave }
+    else if wave == 0 then v
+    else record v { wave = wave; gate = 0xFF }
 
 -- the instrument's programs begin, where it has them, and its envelope is set
 abbrev pub programs_begun : Instrument → Playing → Playing
@@ -78,8 +78,8 @@ sound_begun i s = programs_begun i (record s { voice = first_wave_set i.first_wa
 -- with command 3 the sound goes on and slides to the new note
 abbrev pub taken : Instrument → Playing → Playing
 taken i s =
-  if s.voice.new_command == 3 then record s { voice = note_taken i s.voice }
-  else sound_begun i (record s { voice = note_taken i s.voice })
+    if s.voice.new_command == 3 then record s { voice = note_taken i s.voice }
+    else sound_begun i (record s { voice = note_taken i s.voice })
 
 unfoldable pub note_started : Instrument → Playing → Playing
 note_started i s = if s.voice.new_note == 0 then s else taken i s
@@ -94,21 +94,21 @@ funk_tempo song d c = with_all_tempos 0 (if d == 0 then c else funk_set (speed_r
 -- command $F: 0 and 1 are funk tempos, $03-$7F is a row length for all channels, $83-$FF for this one
 abbrev pub tempo_set : ℕ → ℕ → Common → Common
 tempo_set channel d c =
-  if nat_le d 1 then with_all_tempos d c
-  else if nat_le 0x03 d && nat_le d 0x7F then with_all_tempos (d - 1) c
-  else if nat_le 0x83 d then with_tempo channel (d - 0x81) c
-  else c
+    if nat_le d 1 then with_all_tempos d c
+    else if nat_le 0x03 d && nat_le d 0x7F then with_all_tempos (d - 1) c
+    else if nat_le 0x83 d then with_tempo channel (d - 0x81) c
+    else c
 
 -- The row's command. Commands 0 to 4 run from now on, the others are done once.
 unfoldable pub row_command : ℕ → Song → Instrument → ℕ → ℕ → Playing → Playing
 row_command channel song i c d s =
-  if c == 0 then record s { voice = record s.voice { command = 0; param = i.vibrato } }
-  else if nat_le c 2 then record s { voice = record s.voice { vib_time = 0; command = c; param = d } }
-  else if nat_le c 4 then record s { voice = record s.voice { command = c; param = d } }
-  else if c == 8 then record s { voice = record s.voice { wave_ptr = d; wave_time = 0 } }
-  else if c == 0xE then record s { common = funk_tempo song d s.common }
-  else if c == 0xF then record s { common = tempo_set channel d s.common }
-  else do_command c d s
+    if c == 0 then record s { voice = record s.voice { command = 0; param = i.vibrato } }
+    else if nat_le c 2 then record s { voice = record s.voice { vib_time = 0; command = c; param = d } }
+    else if nat_le c 4 then record s { voice = record s.voice { command = c; param = d } }
+    else if c == 8 then record s { voice = record s.voice { wave_ptr = d; wave_time = 0 } }
+    else if c == 0xE then record s { common = funk_tempo song d s.common }
+    else if c == 0xF then record s { common = tempo_set channel d s.common }
+    else do_command c d s
 
 -- The waiting note is used up, and has started unless it slides.
 abbrev pub note_ended : Playing → Ticked
@@ -123,12 +123,12 @@ gate_timer_set i s = record s { voice = record s.voice { gate_timer = i.gate_tim
 -- the order of what is done at tick 0
 unfoldable pub at_row : ℕ → Song → Instrument → Playing → Ticked
 at_row channel song i s =
-  note_ended (row_command channel song i s.voice.new_command s.voice.new_param (note_started i (gate_timer_set i s)))
+    note_ended (row_command channel song i s.voice.new_command s.voice.new_param (note_started i (gate_timer_set i s)))
 
 abbrev pub ticked : ℕ → Song → Playing → Ticked
 ticked channel song s =
-  if s.voice.tick == 0 then at_row channel song (instrument_at song s.voice.instrument) s
-  else record { playing = between_rows channel s; started = false }
+    if s.voice.tick == 0 then at_row channel song (instrument_at song s.voice.instrument) s
+    else record { playing = between_rows channel s; started = false }
 
 unfoldable pub tick_step : ℕ → Song → Playing → Ticked
 tick_step channel song s = ticked channel song (record s { voice = record s.voice { tick = byte_minus s.voice.tick 1 } })

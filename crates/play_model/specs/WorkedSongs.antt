@@ -23,7 +23,15 @@ table_row left right = record { left = left; right = right }
 -- attack 0, decay 9, sustain 10, release 0; wave and pulse program 1; gate off two frames before a note
 abbrev pub plucked : Instrument
 plucked = record {
-  ad = 0x09; sr = 0xA0; wave = 1; pulse = 1; filter = 0; vibrato = 0; vibrato_delay = 0; gate_timer = 2; first_wave = 0x09;
+  ad = 0x09;
+  sr = 0xA0;
+  wave = 1;
+  pulse = 1;
+  filter = 0;
+  vibrato = 0;
+  vibrato_delay = 0;
+  gate_timer = 2;
+  first_wave = 0x09;
   name = replicate 16 0;
 }
 
@@ -99,7 +107,7 @@ waiting_wave = record (with_rows (row 0x90 1 0 0 ∷ rests 3 ++ row 0xBD 0 8 1 �
 abbrev pub other_vibrato : Song
 other_vibrato = record (with_rows (row 0x90 1 0 0 ∷ row 0xBD 2 0 0 ∷ []) plain_note) {
   instruments = record plain { vibrato_delay = 1 }
-    ∷ record plain { ad = 0; sr = 0; wave = 0; vibrato = 1; first_wave = 0 } ∷ [];
+      ∷ record plain { ad = 0; sr = 0; wave = 0; vibrato = 1; first_wave = 0 } ∷ [];
   speed = table_row 0x03 0x10 ∷ [];
 }
 
@@ -113,8 +121,8 @@ abbrev pub small_song : Song
 small_song = record empty_song {
   subtunes = subtune (0 ∷ []) (1 ∷ []) (2 ∷ []) ∷ subtune (0xF2 ∷ 0 ∷ []) (0xD1 ∷ 3 ∷ 1 ∷ []) (3 ∷ []) ∷ [];
   instruments = plucked
-    ∷ record plucked { ad = 0x00; sr = 0xF9; wave = 3; pulse = 0; vibrato = 1; vibrato_delay = 8 }
-    ∷ record plucked { ad = 0x0A; sr = 0x88; wave = 3; pulse = 0; filter = 1 } ∷ [];
+      ∷ record plucked { ad = 0x00; sr = 0xF9; wave = 3; pulse = 0; vibrato = 1; vibrato_delay = 8 }
+      ∷ record plucked { ad = 0x0A; sr = 0x88; wave = 3; pulse = 0; filter = 1 } ∷ [];
   wave = table_row 0x41 0 ∷ table_row 0xFF 0 ∷ table_row 0x21 0 ∷ table_row 0x21 4 ∷ table_row 0x21 7 ∷ table_row 0xFF 3 ∷ [];
   pulse = table_row 0x88 0 ∷ table_row 0x40 0x20 ∷ table_row 0x40 0xE0 ∷ table_row 0xFF 2 ∷ [];
   filter = table_row 0x90 0xF1 ∷ table_row 0 0x20 ∷ table_row 0x40 1 ∷ table_row 0xFF 0 ∷ [];
