@@ -17,8 +17,8 @@ subtune one two three = record { one = order one; two = order two; three = order
 abbrev pub row : ℕ → ℕ → ℕ → ℕ → Row
 row note instrument command param = record { note = note; instrument = instrument; command = command; param = param }
 
-abbrev pub table_row : ℕ → ℕ → TableRow
-table_row left right = record { left = left; right = right }
+abbrev pub sides : ℕ → ℕ → TableRow
+sides left right = record { left = left; right = right }
 
 -- attack 0, decay 9, sustain 10, release 0; wave and pulse program 1; gate off two frames before a note
 abbrev pub plucked : Instrument
@@ -43,8 +43,8 @@ abbrev pub one_note : Song
 one_note = record empty_song {
   subtunes = subtune (0 ∷ []) (1 ∷ []) (1 ∷ []) ∷ [];
   instruments = plucked ∷ [];
-  wave = table_row 0x41 0 ∷ table_row 0xFF 0 ∷ [];
-  pulse = table_row 0x88 0 ∷ table_row 0xFF 0 ∷ [];
+  wave = sides 0x41 0 ∷ sides 0xFF 0 ∷ [];
+  pulse = sides 0x88 0 ∷ sides 0xFF 0 ∷ [];
   patterns = (row 0x90 1 0 0 ∷ row 0xBE 0 0 0 ∷ []) ∷ rests 1 ∷ [];
 }
 
@@ -76,21 +76,21 @@ low_note = record (with_rows (row 0x60 1 0 0 ∷ row 0xBE 0 0 0 ∷ []) one_note
 abbrev pub wrapping_note : Song
 wrapping_note = record (with_rows (row 0x90 1 0 0 ∷ rests 1) one_note) {
   instruments = record plucked { pulse = 0; vibrato = 1; vibrato_delay = 1 } ∷ [];
-  wave = table_row 0x11 0xDF ∷ table_row 0xFF 0 ∷ [];
+  wave = sides 0x11 0xDF ∷ sides 0xFF 0 ∷ [];
   pulse = [];
-  speed = table_row 0x80 0 ∷ [];
+  speed = sides 0x80 0 ∷ [];
 }
 
 -- a slide to a note two half tones up, and that note tied
 abbrev pub sliding_note : Song
 sliding_note = record (with_rows (row 0x90 1 0 0 ∷ row 0x92 0 3 1 ∷ row 0x92 0 3 0 ∷ []) one_note) {
-  speed = table_row 0x10 0 ∷ [];
+  speed = sides 0x10 0 ∷ [];
 }
 
 -- funk values of 1 less than 0 and 1 frames
 abbrev pub funk_song : Song
 funk_song = record (with_rows (row 0xBD 0 0xE 1 ∷ row 0x90 1 0 0 ∷ []) one_note) {
-  speed = table_row 0 1 ∷ [];
+  speed = sides 0 1 ∷ [];
 }
 
 -- a rest behind the note
@@ -100,7 +100,7 @@ long_note = with_rows (row 0x90 1 0 0 ∷ rests 1) one_note
 -- a wave program that waits 15 frames and goes an octave up, begun anew by a row
 abbrev pub waiting_wave : Song
 waiting_wave = record (with_rows (row 0x90 1 0 0 ∷ rests 3 ++ row 0xBD 0 8 1 ∷ rests 3) plain_note) {
-  wave = table_row 0x11 0 ∷ table_row 0x0F 0x0C ∷ table_row 0xFF 0 ∷ [];
+  wave = sides 0x11 0 ∷ sides 0x0F 0x0C ∷ sides 0xFF 0 ∷ [];
 }
 
 -- a row that changes the instrument without a note: its vibrato pointer goes with the first one's delay
@@ -108,7 +108,7 @@ abbrev pub other_vibrato : Song
 other_vibrato = record (with_rows (row 0x90 1 0 0 ∷ row 0xBD 2 0 0 ∷ []) plain_note) {
   instruments = record plain { vibrato_delay = 1 }
       ∷ record plain { ad = 0; sr = 0; wave = 0; vibrato = 1; first_wave = 0 } ∷ [];
-  speed = table_row 0x03 0x10 ∷ [];
+  speed = sides 0x03 0x10 ∷ [];
 }
 
 -- a note on every eighth row of 64
@@ -123,9 +123,9 @@ small_song = record empty_song {
   instruments = plucked
       ∷ record plucked { ad = 0x00; sr = 0xF9; wave = 3; pulse = 0; vibrato = 1; vibrato_delay = 8 }
       ∷ record plucked { ad = 0x0A; sr = 0x88; wave = 3; pulse = 0; filter = 1 } ∷ [];
-  wave = table_row 0x41 0 ∷ table_row 0xFF 0 ∷ table_row 0x21 0 ∷ table_row 0x21 4 ∷ table_row 0x21 7 ∷ table_row 0xFF 3 ∷ [];
-  pulse = table_row 0x88 0 ∷ table_row 0x40 0x20 ∷ table_row 0x40 0xE0 ∷ table_row 0xFF 2 ∷ [];
-  filter = table_row 0x90 0xF1 ∷ table_row 0 0x20 ∷ table_row 0x40 1 ∷ table_row 0xFF 0 ∷ [];
-  speed = table_row 4 0x30 ∷ [];
+  wave = sides 0x41 0 ∷ sides 0xFF 0 ∷ sides 0x21 0 ∷ sides 0x21 4 ∷ sides 0x21 7 ∷ sides 0xFF 3 ∷ [];
+  pulse = sides 0x88 0 ∷ sides 0x40 0x20 ∷ sides 0x40 0xE0 ∷ sides 0xFF 2 ∷ [];
+  filter = sides 0x90 0xF1 ∷ sides 0 0x20 ∷ sides 0x40 1 ∷ sides 0xFF 0 ∷ [];
+  speed = sides 4 0x30 ∷ [];
   patterns = every_eighth 1 8 ∷ every_eighth 2 8 ∷ every_eighth 3 8 ∷ rests 64 ∷ [];
 }
