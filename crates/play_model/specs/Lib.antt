@@ -9,7 +9,7 @@ pub mod EffectStep
 pub mod PulseStep
 pub mod FetchRow
 pub mod Frame
+pub mod SilentTrace
 pub mod WorkedFrequencies
 pub mod WorkedSongs
 pub mod WorkedFrames
-pub mod SilentTrace

@@ -2,6 +2,7 @@
 use Rattle.std.specs.Prelude.{◌≡◌, ℕ, zero, suc, ◌+◌, ◌*◌, List, [], ◌∷◌, ◌++◌, take, drop, replicate, slice_index}
 use Rattle.song_model.specs.declared.songs.Song.{Song}
 use Rattle.play_model.specs.Frame.{trace, state_after}
+use Rattle.play_model.specs.SilentTrace.{silent_registers}
 use Rattle.play_model.specs.WorkedSongs.{one_note, low_note, wrapping_note, sliding_note, funk_song, long_note, with_gate_timer, waiting_wave, other_vibrato, small_song}
 
 -- the seven registers of voice 1 after a call
@@ -43,7 +44,11 @@ SlideStops = from_call (frequency_at sliding_note) 8 12 ≡ replicate 5 0x1168 +
 pub record FunkTempoWraps : Type 0 where
   pub one : from_call (λ call. (state_after funk_song 0 call).common.funk_one) 7 3 ≡ replicate 3 255
   pub two : from_call (λ call. (state_after funk_song 0 call).common.funk_two) 7 3 ≡ replicate 3 0
-  pub alike : from_call (trace funk_song 0) 1 20 ≡ replicate 20 (replicate 24 0 ++ 15 ∷ [])
+  pub alike : from_call (trace funk_song 0) 1 20 ≡ replicate 20 silent_registers
+
+-- a gateoff timer that is longer than the row is never met, and no row is fetched
+abbrev pub LongTimerIsNeverMet : Type 0
+LongTimerIsNeverMet = from_call (trace (with_gate_timer 0x3F one_note) 0) 1 300 ≡ replicate 300 silent_registers
 
 -- bit $40 of the gateoff timer keeps the gate, bit $80 the envelope
 pub record GateTimerBits : Type 0 where

@@ -2,7 +2,7 @@
 
 ghost use Rattle.play_model.specs.SilentTrace.{SilentSongsAreSilent};
 ghost use Rattle.play_model.specs.WorkedFrequencies.{FrequenciesAreAsWorked};
-ghost use Rattle.play_model.specs.WorkedFrames.{OneNoteSounds, LowNoteIsMute, VibratoWraps, SlideStops, FunkTempoWraps, GateTimerBits, WaveProgramWaits, VibratoChangesAlone, FilterFollows};
+ghost use Rattle.play_model.specs.WorkedFrames.{OneNoteSounds, LowNoteIsMute, VibratoWraps, SlideStops, FunkTempoWraps, GateTimerBits, LongTimerIsNeverMet, WaveProgramWaits, VibratoChangesAlone, FilterFollows};
 
 /// Each play call of a silent song leaves zeros and the volume, whatever the song's length.
 pub fn silent_songs_are_silent()
@@ -57,4 +57,9 @@ pub fn vibrato_changes_alone()
 /// A filter program.
 pub fn filter_follows()
     ensures { FilterFollows }
+{}
+
+/// A gateoff timer that is longer than a row.
+pub fn long_timer_is_never_met()
+    ensures { LongTimerIsNeverMet }
 {}

@@ -8,3 +8,4 @@ pub mod Silent
 pub mod Walk
 pub mod LookUp
 pub mod WorkedWalks
+pub mod WalkLaws

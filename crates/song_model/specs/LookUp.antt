@@ -15,7 +15,15 @@ numbered items n zero_item = if n == 0 then zero_item else slice_index_or items 
 
 abbrev pub zero_instrument : Instrument
 zero_instrument = record {
-  ad = 0; sr = 0; wave = 0; pulse = 0; filter = 0; vibrato = 0; vibrato_delay = 0; gate_timer = 0; first_wave = 0;
+  ad = 0;
+  sr = 0;
+  wave = 0;
+  pulse = 0;
+  filter = 0;
+  vibrato = 0;
+  vibrato_delay = 0;
+  gate_timer = 0;
+  first_wave = 0;
   name = replicate 16 0;
 }
 

@@ -1,6 +1,6 @@
 -- What an orderlist plays. A walk goes along its entries with a transpose and a repeat; the text is
 -- that of the GoatTracker 2 readme, the exact walk is this project's profile.
-use Rattle.std.specs.Prelude.{◌≡◌, ℕ, ◌+◌, ◌-◌, ◌%◌, ℤ, pos, ◌-ℤ◌, List, [], ◌∷◌, ◌++◌, length, drop, replicate, if◌then◌else◌, nat_lt, slice_index_or}
+use Rattle.std.specs.Prelude.{ℕ, ◌+◌, ◌-◌, ◌%◌, ℤ, pos, ◌-ℤ◌, List, [], ◌∷◌, ◌++◌, length, drop, replicate, if◌then◌else◌, nat_lt, slice_index_or}
 use Rattle.song_model.specs.declared.orders.Order.{Order}
 use Rattle.song_model.specs.declared.orders.Step.{Step}
 
@@ -17,13 +17,13 @@ repeat_after byte repeat = if nat_lt byte 0xD0 then 0 else if nat_lt byte 0xE0 t
 -- what a byte plays: a pattern is played once more than the repeat says
 abbrev pub plays_of : ℕ → ℤ → ℕ → List Step
 plays_of byte transpose repeat =
-  if nat_lt byte 0xD0 then replicate (repeat + 1) (record { pattern = byte; transpose = transpose }) else []
+    if nat_lt byte 0xD0 then replicate (repeat + 1) (record { pattern = byte; transpose = transpose }) else []
 
 -- what a walk along these bytes plays, begun with this transpose and this repeat
 abbrev pub walk_plays : List ℕ → ℤ → ℕ → List Step
 walk_plays [] transpose repeat = []
 walk_plays (byte ∷ bytes) transpose repeat =
-  plays_of byte transpose repeat ++ walk_plays bytes (transpose_after byte transpose) (repeat_after byte repeat)
+    plays_of byte transpose repeat ++ walk_plays bytes (transpose_after byte transpose) (repeat_after byte repeat)
 
 -- the transpose and the repeat at the end of a walk
 abbrev pub end_transpose : List ℕ → ℤ → ℤ
@@ -41,7 +41,7 @@ prefix_of order = walk_plays order.entries (pos 0) 0
 -- the plays from the restart position to the end, with the transpose and the repeat that stand at the end
 unfoldable pub cycle_of : Order → List Step
 cycle_of order =
-  walk_plays (drop order.restart order.entries) (end_transpose order.entries (pos 0)) (end_repeat order.entries 0)
+    walk_plays (drop order.restart order.entries) (end_transpose order.entries (pos 0)) (end_repeat order.entries 0)
 
 abbrev pub no_step : Step
 no_step = record { pattern = 0; transpose = pos 0 }
@@ -49,5 +49,5 @@ no_step = record { pattern = 0; transpose = pos 0 }
 -- play i of an orderlist, counted from 0: the prefix, and then the cycle again and again
 unfoldable pub played : Order → ℕ → Step
 played order i =
-  if nat_lt i (length (prefix_of order)) then slice_index_or (prefix_of order) i no_step
-  else slice_index_or (cycle_of order) ((i - length (prefix_of order)) % length (cycle_of order)) no_step
+    if nat_lt i (length (prefix_of order)) then slice_index_or (prefix_of order) i no_step
+    else slice_index_or (cycle_of order) ((i - length (prefix_of order)) % length (cycle_of order)) no_step
