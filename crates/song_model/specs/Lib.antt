@@ -5,3 +5,7 @@ pub mod Limits
 pub mod Canonical
 pub mod Silence
 pub mod Silent
+pub mod Walk
+pub mod LookUp
+pub mod WorkedWalks
+pub mod WalkLaws

@@ -3,9 +3,37 @@
 ghost use Rattle.std.specs.Prelude.{◌≡◌};
 ghost use Rattle.song_model.specs.Canonical.{canonical};
 ghost use Rattle.song_model.specs.Silence.{silence, silence_bytes};
+ghost use Rattle.song_model.specs.Limits.{KeepsLimits};
+ghost use Rattle.song_model.specs.Silent.{IsSilent};
+ghost use Rattle.song_model.specs.WalkLaws.{PlaysAreEntries, OneCycleIsEnough};
+ghost use Rattle.song_model.specs.WorkedWalks.{TransposesAreKept, RepeatsAreUsedUp, RepeatsReachTheRestart};
 
-#[tactic(auto, unfolding(crate::specs::Canonical::canonical))]
 /// How a silent song is spelled.
+#[tactic(auto, unfolding(crate::specs::Canonical::canonical))]
 pub fn silence_spelling()
     ensures { canonical silence ≡ silence_bytes }
+{}
+
+/// What orderlists with transposes, with repeats, and with a restart behind a repeat play.
+#[tactic(auto, unfolding(crate::specs::Walk::prefix_of, crate::specs::Walk::cycle_of, crate::specs::Walk::played))]
+pub fn worked_walks()
+    ensures transposes { TransposesAreKept }
+    ensures repeats { RepeatsAreUsedUp }
+    ensures restart { RepeatsReachTheRestart }
+{}
+
+/// Where a pattern stands from the restart position on, each play names an entry of its orderlist.
+pub fn plays_are_entries()
+    ensures { PlaysAreEntries }
+{}
+
+/// A walk's second round is like its first, so that one cycle says what comes for ever.
+pub fn one_cycle_is_enough()
+    ensures { OneCycleIsEnough }
+{}
+
+/// The silent song keeps the limits of the format, and is silent.
+pub fn silence_is_silent()
+    ensures limits { KeepsLimits silence }
+    ensures silent { IsSilent silence }
 {}

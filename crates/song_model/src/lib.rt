@@ -9,7 +9,8 @@
 
 mod faults;
 mod instruments;
-mod laws;
+/// Facts about the definitions.
+pub mod laws;
 mod lists;
 mod orders;
 mod patterns;
@@ -19,7 +20,6 @@ mod tables;
 
 pub use faults::{LimitFault, NoMemory, PushFault};
 pub use instruments::{FeatureBits, Instrument, InstrumentList};
-pub use laws::silence_spelling;
 pub use lists::{Bounded, ByteList};
 pub use orders::{Order, OrderEntries, OrderPlace, Step, Subtune, SubtuneList};
 pub use patterns::{Pattern, PatternList};

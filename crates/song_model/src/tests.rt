@@ -1,5 +1,5 @@
 //! What no clause says: that the calls succeed where there is memory.
-use crate::{LimitFault, Order, Pattern, Row, Song, Subtune};
+use crate::{ByteList, LimitFault, Order, Pattern, Row, Song, Subtune};
 use std::alloc::Global;
 use std::test::Fail;
 
@@ -49,5 +49,8 @@ fn constructors_refuse_what_is_out_of_its_limit(rt: HostRuntime) -> Result<(), F
     assert_eq!(rt; fault, Some(LimitFault::BadLength));
     song.add_pattern(Pattern::from_rows(alloc, &[rest(0xbe)])?)?;
     assert_eq!(rt; song.patterns.as_slice().len(), 1);
+    let mut bytes = ByteList::new(alloc);
+    bytes.push(7)?;
+    assert_eq!(rt; bytes.as_slice(), [7].as_slice());
     Ok(())
 }

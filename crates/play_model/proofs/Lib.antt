@@ -1,0 +1,4 @@
+pub mod Computed
+pub mod QuietVoice
+pub mod QuietOrder
+pub mod QuietTrace

@@ -1,0 +1,64 @@
+-- Fetching a row: what it says waits for tick 0, but keyoff, keyon and a note's gate are seen at once.
+use Rattle.std.specs.Prelude.{ℕ, ◌+◌, ℤ, pos, ◌+ℤ◌, Bool, not, ◌&&◌, ◌||◌, ◌==◌, List, length, if◌then◌else◌, nat_le, bit_and}
+use Rattle.std.specs.Int.{cast_unsigned, w8}
+use Rattle.song_model.specs.declared.rows.Row.{Row}
+use Rattle.song_model.specs.declared.orders.Order.{Order}
+use Rattle.song_model.specs.declared.orders.Step.{Step}
+use Rattle.song_model.specs.declared.songs.Song.{Song}
+use Rattle.song_model.specs.Walk.{played}
+use Rattle.song_model.specs.LookUp.{instrument_at, pattern_at, pattern_row}
+use Rattle.play_model.specs.Wrap.{byte_plus}
+use Rattle.play_model.specs.State.{Voice}
+
+-- instrument 0 keeps the one that the voice has
+abbrev pub row_taken : Row → Voice → Voice
+row_taken row v = record v {
+  instrument = if row.instrument == 0 then v.instrument else row.instrument;
+  new_command = row.command;
+  new_param = row.param;
+}
+
+-- $BE is keyoff, $BF keyon
+abbrev pub gate_keyed : ℕ → Voice → Voice
+gate_keyed note v =
+    if note == 0xBE then record v { gate = 0xFE }
+    else if note == 0xBF then record v { gate = 0xFF }
+    else v
+
+abbrev pub is_note : ℕ → Bool
+is_note note = nat_le 0x60 note && nat_le note 0xBC
+
+-- from $50 to $CA
+abbrev pub transposed : ℕ → ℤ → ℕ
+transposed note transpose = cast_unsigned w8 (pos note +ℤ transpose)
+
+-- Bit $40 of the gateoff timer keeps the gate before a note, and so does command 3. Where the gate
+-- goes off, bit $80 keeps the envelope, which else is shut.
+abbrev pub gate_shut : ℕ → Voice → Voice
+gate_shut timer v =
+    if (v.new_command == 3) || not (bit_and timer 0x40 == 0) then v
+    else if bit_and timer 0x80 == 0 then record v { gate = 0xFE; ad = 0x0F; sr = 0 }
+    else record v { gate = 0xFE }
+
+abbrev pub note_waits : Song → ℕ → ℤ → Voice → Voice
+note_waits song note transpose v =
+    if is_note note
+    then gate_shut (instrument_at song v.instrument).gate_timer (record v { new_note = transposed note transpose })
+    else v
+
+-- behind the last row of the pattern the orderlist goes to its next play
+abbrev pub row_moved : ℕ → Voice → Voice
+row_moved rows v =
+    if byte_plus v.row 1 == rows then record v { row = 0; plays = v.plays + 1 } else record v { row = byte_plus v.row 1 }
+
+abbrev pub row_done : Song → Row → ℤ → Voice → Voice
+row_done song row transpose v = note_waits song row.note transpose (gate_keyed row.note (row_taken row v))
+
+abbrev pub fetched_from : Song → List Row → ℤ → Voice → Voice
+fetched_from song rows transpose v = row_moved (length rows) (row_done song (pattern_row rows v.row) transpose v)
+
+abbrev pub fetched : Song → Step → Voice → Voice
+fetched song play v = fetched_from song (pattern_at song play.pattern) play.transpose v
+
+unfoldable pub fetch_row : Song → Order → Voice → Voice
+fetch_row song order v = fetched song (played order v.plays) v

@@ -1,0 +1,77 @@
+-- What several rules of a frame have in common: the next row of a program, the slides, the vibrato,
+-- and the commands that rows and the wave table share.
+use Rattle.std.specs.Prelude.{ℕ, ◌+◌, ◌-◌, ◌%◌, ◌&&◌, ◌||◌, ◌==◌, if◌then◌else◌, nat_lt, nat_le}
+use Rattle.song_model.specs.declared.tables.TableRow.{TableRow}
+use Rattle.song_model.specs.declared.tables.TableName.{TableName}
+use Rattle.song_model.specs.declared.songs.Song.{Song}
+use Rattle.song_model.specs.LookUp.{table_row, speed_row}
+use Rattle.play_model.specs.Wrap.{byte_plus, freq_plus, freq_minus, distance}
+use Rattle.play_model.specs.Freq.{freq, slide}
+use Rattle.play_model.specs.State.{Voice, Playing}
+
+-- behind row p: row p + 1, but where that is a jump (left side $FF) the row that the jump names
+abbrev pub behind : TableRow → ℕ → ℕ
+behind following p = if following.left == 0xFF then following.right else byte_plus p 1
+
+unfoldable pub next_row : Song → TableName → ℕ → ℕ
+next_row song name p = behind (table_row song name (p + 1)) p
+
+-- the frequency rises by the speed
+unfoldable pub porta_up : Song → ℕ → Voice → Voice
+porta_up song d v = record v { freq = freq_plus v.freq (slide song d v.last_note) }
+
+-- the frequency falls by the speed
+unfoldable pub porta_down : Song → ℕ → Voice → Voice
+porta_down song d v = record v { freq = freq_minus v.freq (slide song d v.last_note) }
+
+-- the note's own frequency
+abbrev pub at_target : ℕ → Voice → Voice
+at_target target v = record v { freq = target; vib_time = 0; last_note = v.note % 128 }
+
+-- towards the target by this much
+abbrev pub towards : ℕ → ℕ → Voice → Voice
+towards target step v = record v { freq = if nat_lt v.freq target then freq_plus v.freq step else freq_minus v.freq step }
+
+abbrev pub tone_by : ℕ → ℕ → ℕ → Voice → Voice
+tone_by d target step v =
+    if (d == 0) || nat_le (distance v.freq target) step then at_target target v else towards target step v
+
+-- a slide that ends at the note, and with parameter 0 the note at once
+unfoldable pub tone : Song → ℕ → Voice → Voice
+tone song d v = tone_by d (freq v.note) (slide song d v.last_note) v
+
+-- past the period the time turns round; it goes in steps of 2, and odd numbers are the way down
+abbrev pub turned : ℕ → ℕ → ℕ
+turned period time = if nat_lt time 128 && nat_lt period time then 255 - time else time
+
+abbrev pub swung : ℕ → ℕ → Voice → Voice
+swung time depth v = record v {
+  vib_time = time;
+  freq = if time % 2 == 1 then freq_minus v.freq depth else freq_plus v.freq depth;
+}
+
+-- the depth of a vibrato: the right side, or with a left side of $80 or more the slide at the last note
+abbrev pub depth_of : Song → ℕ → TableRow → ℕ → ℕ
+depth_of song d row last = if nat_lt row.left 0x80 then row.right else slide song d last
+
+unfoldable pub vibrato : Song → ℕ → Voice → Voice
+vibrato song d v =
+    swung (byte_plus (turned ((speed_row song d).left % 128) v.vib_time) 2) (depth_of song d (speed_row song d) v.last_note) v
+
+-- the commands that rows and the wave table share; another number does nothing
+unfoldable pub do_command : ℕ → ℕ → Playing → Playing
+do_command c d s =
+    if c == 5 then record s { voice = record s.voice { ad = d } }
+    else if c == 6 then record s { voice = record s.voice { sr = d } }
+    else if c == 7 then record s { voice = record s.voice { wave = d } }
+    else if c == 9 then record s { voice = record s.voice { pulse_ptr = d; pulse_time = 0 } }
+    else if c == 0xA then record s { common = record s.common { filter_ptr = d; filter_time = 0 } }
+    else if c == 0xB then record s {
+      common = record s.common {
+        filter_control = d;
+        filter_ptr = if d == 0 then 0 else s.common.filter_ptr;
+      };
+    }
+    else if c == 0xC then record s { common = record s.common { cutoff = d } }
+    else if c == 0xD then record s { common = record s.common { volume = if nat_lt d 0x10 then d else s.common.volume } }
+    else s

@@ -1,0 +1,15 @@
+pub mod Wrap
+pub mod Freq
+pub mod State
+pub mod Helpers
+pub mod FilterStep
+pub mod TickStep
+pub mod WaveStep
+pub mod EffectStep
+pub mod PulseStep
+pub mod FetchRow
+pub mod Frame
+pub mod SilentTrace
+pub mod WorkedFrequencies
+pub mod WorkedSongs
+pub mod WorkedFrames

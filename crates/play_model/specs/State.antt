@@ -1,0 +1,107 @@
+-- What the playroutine keeps from one frame to the next, with the values at the start.
+use Rattle.std.specs.Prelude.{ℕ}
+
+-- what each voice keeps
+pub record Voice : Type 0 where
+  -- how many plays of its orderlist it has ended, and the row in the pattern of the play that is on
+  pub plays : ℕ
+  pub row : ℕ
+  -- frames until the next row, and how many before it the row is fetched
+  pub tick : ℕ
+  pub gate_timer : ℕ
+  pub instrument : ℕ
+  -- the note that sounds, and the one that waits, 0 for none
+  pub note : ℕ
+  pub new_note : ℕ
+  -- what the fetched row says
+  pub new_command : ℕ
+  pub new_param : ℕ
+  -- what runs in each frame
+  pub command : ℕ
+  pub param : ℕ
+  pub ad : ℕ
+  pub sr : ℕ
+  pub vib_time : ℕ
+  pub vib_delay : ℕ
+  -- the waveform, and the mask $FE or $FF that goes over it
+  pub wave : ℕ
+  pub gate : ℕ
+  pub freq : ℕ
+  -- the note whose half tone a speed may be taken from
+  pub last_note : ℕ
+  pub wave_ptr : ℕ
+  pub wave_time : ℕ
+  pub pulse_ptr : ℕ
+  pub pulse_time : ℕ
+  pub pulse : ℕ
+
+-- what the three voices share
+pub record Common : Type 0 where
+  pub tempo_one : ℕ
+  pub tempo_two : ℕ
+  pub tempo_three : ℕ
+  pub funk_one : ℕ
+  pub funk_two : ℕ
+  pub filter_ptr : ℕ
+  pub filter_time : ℕ
+  pub filter_type : ℕ
+  pub filter_control : ℕ
+  pub cutoff : ℕ
+  pub volume : ℕ
+
+pub record FrameState : Type 0 where
+  pub common : Common
+  pub one : Voice
+  pub two : Voice
+  pub three : Voice
+
+-- a voice at its step, with what the voices share as it stands then
+pub record Playing : Type 0 where
+  pub voice : Voice
+  pub common : Common
+
+abbrev pub start_voice : Voice
+start_voice = record {
+  plays = 0;
+  row = 0;
+  tick = 1;
+  gate_timer = 0;
+  instrument = 1;
+  note = 0;
+  new_note = 0;
+  new_command = 0;
+  new_param = 0;
+  command = 0;
+  param = 0;
+  ad = 0;
+  sr = 0;
+  vib_time = 0;
+  vib_delay = 0;
+  wave = 0;
+  gate = 0xFE;
+  freq = 0;
+  last_note = 0;
+  wave_ptr = 0;
+  wave_time = 0;
+  pulse_ptr = 0;
+  pulse_time = 0;
+  pulse = 0;
+}
+
+abbrev pub start_common : Common
+start_common = record {
+  tempo_one = 5;
+  tempo_two = 5;
+  tempo_three = 5;
+  funk_one = 8;
+  funk_two = 5;
+  filter_ptr = 0;
+  filter_time = 0;
+  filter_type = 0;
+  filter_control = 0;
+  cutoff = 0;
+  volume = 15;
+}
+
+abbrev pub start_state : FrameState
+start_state = record { common = start_common; one = start_voice; two = start_voice; three = start_voice }

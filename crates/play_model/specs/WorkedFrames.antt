@@ -1,0 +1,71 @@
+-- Frames of the small songs, worked out by hand.
+use Rattle.std.specs.Prelude.{◌≡◌, ℕ, zero, suc, ◌+◌, ◌*◌, List, [], ◌∷◌, ◌++◌, take, drop, replicate, slice_index}
+use Rattle.song_model.specs.declared.songs.Song.{Song}
+use Rattle.play_model.specs.Frame.{trace, state_after}
+use Rattle.play_model.specs.SilentTrace.{silent_registers}
+use Rattle.play_model.specs.WorkedSongs.{one_note, low_note, wrapping_note, sliding_note, funk_song, long_note, with_gate_timer, waiting_wave, other_vibrato, small_song}
+
+-- the seven registers of voice 1 after a call
+abbrev pub first_voice_at : Song → ℕ → List ℕ
+first_voice_at song call = take 7 (trace song 0 call)
+
+-- the frequency of voice 1 after a call
+abbrev pub frequency_at : Song → ℕ → ℕ
+frequency_at song call = slice_index (trace song 0 call) 0 + 256 * slice_index (trace song 0 call) 1
+
+-- something of so many calls, from this one on
+abbrev pub from_call : {X : Type 0} → (ℕ → X) → ℕ → ℕ → List X
+from_call of call zero = []
+from_call of call (suc n) = of call ∷ from_call of (call + 1) n
+
+-- a note is fetched two frames before it starts, sounds, and is released
+pub record OneNoteSounds : Type 0 where
+  pub silent : first_voice_at one_note 4 ≡ 0 ∷ 0 ∷ 0 ∷ 0 ∷ 0 ∷ 0 ∷ 0 ∷ []
+  pub fetched : first_voice_at one_note 5 ≡ 0 ∷ 0 ∷ 0 ∷ 0 ∷ 0 ∷ 0x0F ∷ 0 ∷ []
+  pub started : first_voice_at one_note 7 ≡ 0 ∷ 0 ∷ 0 ∷ 0 ∷ 0x09 ∷ 0x09 ∷ 0xA0 ∷ []
+  pub sounds : first_voice_at one_note 8 ≡ 0x68 ∷ 0x11 ∷ 0 ∷ 0x08 ∷ 0x41 ∷ 0x09 ∷ 0xA0 ∷ []
+  pub released : first_voice_at one_note 11 ≡ 0x68 ∷ 0x11 ∷ 0 ∷ 0x08 ∷ 0x40 ∷ 0x09 ∷ 0xA0 ∷ []
+  pub again : first_voice_at one_note 17 ≡ 0x68 ∷ 0x11 ∷ 0 ∷ 0x08 ∷ 0x40 ∷ 0x0F ∷ 0 ∷ []
+
+-- the lowest note with the lowest transpose wraps to a note that has no frequency
+pub record LowNoteIsMute : Type 0 where
+  pub note : (state_after low_note 0 8).one.note ≡ 0xF0
+  pub sounds : first_voice_at low_note 8 ≡ 0 ∷ 0 ∷ 0 ∷ 0x08 ∷ 0x41 ∷ 0x09 ∷ 0xA0 ∷ []
+
+-- frequencies wrap both ways
+abbrev pub VibratoWraps : Type 0
+VibratoWraps = from_call (frequency_at wrapping_note) 8 6 ≡ 0xFFFF ∷ 0 ∷ 0xFFFF ∷ 0xFFFE ∷ 0xFFFF ∷ 0 ∷ []
+
+-- the slide stops at its target, and the tie note keeps it
+abbrev pub SlideStops : Type 0
+SlideStops = from_call (frequency_at sliding_note) 8 12 ≡ replicate 5 0x1168 ++ replicate 7 0x1389
+
+-- a funk value of 0 frames wraps, and the row behind it is never fetched
+pub record FunkTempoWraps : Type 0 where
+  pub one : from_call (λ call. (state_after funk_song 0 call).common.funk_one) 7 3 ≡ replicate 3 255
+  pub two : from_call (λ call. (state_after funk_song 0 call).common.funk_two) 7 3 ≡ replicate 3 0
+  pub alike : from_call (trace funk_song 0) 1 20 ≡ replicate 20 silent_registers
+
+-- a gateoff timer that is longer than the row is never met, and no row is fetched
+abbrev pub LongTimerIsNeverMet : Type 0
+LongTimerIsNeverMet = from_call (trace (with_gate_timer 0x3F one_note) 0) 1 300 ≡ replicate 300 silent_registers
+
+-- bit $40 of the gateoff timer keeps the gate, bit $80 the envelope
+pub record GateTimerBits : Type 0 where
+  pub neither : first_voice_at (with_gate_timer 0x02 long_note) 17 ≡ 0x68 ∷ 0x11 ∷ 0 ∷ 0x08 ∷ 0x40 ∷ 0x0F ∷ 0 ∷ []
+  pub gate_kept : first_voice_at (with_gate_timer 0x42 long_note) 17 ≡ 0x68 ∷ 0x11 ∷ 0 ∷ 0x08 ∷ 0x41 ∷ 0x09 ∷ 0xA0 ∷ []
+  pub envelope_kept : first_voice_at (with_gate_timer 0x82 long_note) 17 ≡ 0x68 ∷ 0x11 ∷ 0 ∷ 0x08 ∷ 0x40 ∷ 0x09 ∷ 0xA0 ∷ []
+
+-- a wave row that waits 15 frames, and command 8 that begins the program anew
+abbrev pub WaveProgramWaits : Type 0
+WaveProgramWaits = from_call (frequency_at waiting_wave) 8 24 ≡ replicate 16 0x1168 ++ replicate 7 0x22D0 ++ 0x1168 ∷ []
+
+-- an instrument without a note brings its vibrato pointer, and the delay stays
+pub record VibratoChangesAlone : Type 0 where
+  pub before : frequency_at other_vibrato 12 ≡ 0x1168
+  pub after : frequency_at other_vibrato 13 ≡ 0x1178
+
+-- the filter's registers follow one frame behind the note
+pub record FilterFollows : Type 0 where
+  pub set : drop 21 (trace small_song 0 8) ≡ 0 ∷ 0x20 ∷ 0xF1 ∷ 0x1F ∷ []
+  pub slides : drop 21 (trace small_song 0 9) ≡ 0 ∷ 0x21 ∷ 0xF1 ∷ 0x1F ∷ []

@@ -1,0 +1,65 @@
+//! Facts about the definitions of this crate, each the contract of a function that does nothing.
+
+ghost use Rattle.play_model.specs.SilentTrace.{SilentSongsAreSilent};
+ghost use Rattle.play_model.specs.WorkedFrequencies.{FrequenciesAreAsWorked};
+ghost use Rattle.play_model.specs.WorkedFrames.{OneNoteSounds, LowNoteIsMute, VibratoWraps, SlideStops, FunkTempoWraps, GateTimerBits, LongTimerIsNeverMet, WaveProgramWaits, VibratoChangesAlone, FilterFollows};
+
+/// Each play call of a silent song leaves zeros and the volume, whatever the song's length.
+pub fn silent_songs_are_silent()
+    ensures { SilentSongsAreSilent }
+{}
+
+/// Frequencies at the ends of the octaves and beyond the last note.
+pub fn worked_frequencies()
+    ensures { FrequenciesAreAsWorked }
+{}
+
+/// A note that is fetched, starts, sounds and is released.
+pub fn one_note_sounds()
+    ensures { OneNoteSounds }
+{}
+
+/// The lowest note with the lowest transpose.
+pub fn low_note_is_mute()
+    ensures { LowNoteIsMute }
+{}
+
+/// A vibrato at the highest frequency.
+pub fn vibrato_wraps()
+    ensures { VibratoWraps }
+{}
+
+/// A slide to a note, and a tie note.
+pub fn slide_stops()
+    ensures { SlideStops }
+{}
+
+/// A funk value of 0 frames.
+pub fn funk_tempo_wraps()
+    ensures { FunkTempoWraps }
+{}
+
+/// What the two high bits of the gateoff timer keep.
+pub fn gate_timer_bits()
+    ensures { GateTimerBits }
+{}
+
+/// A wave program that waits and is begun anew.
+pub fn wave_program_waits()
+    ensures { WaveProgramWaits }
+{}
+
+/// An instrument that a row changes without a note.
+pub fn vibrato_changes_alone()
+    ensures { VibratoChangesAlone }
+{}
+
+/// A filter program.
+pub fn filter_follows()
+    ensures { FilterFollows }
+{}
+
+/// A gateoff timer that is longer than a row.
+pub fn long_timer_is_never_met()
+    ensures { LongTimerIsNeverMet }
+{}

@@ -1,0 +1,11 @@
+//! What a song sounds like: the state of the playroutine, one definition for each of its rules, and
+//! the frame and the trace that they make up. The playroutine, the packed form and the 6502 player are
+//! all measured by these definitions, which are this project's profile of the GoatTracker 2 readme.
+//!
+//! The layer's one contract: the definitions are total, say for every song what each frame leaves in
+//! the SID's 25 registers, and give the values that were worked out by hand for small songs.
+//! It stands on `song_model`.
+#![tactic(auto)]
+
+/// The worked examples.
+pub mod laws;
