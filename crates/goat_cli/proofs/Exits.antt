@@ -126,8 +126,8 @@ length-texts t are = omega (arith, length-append t.name (t.author ++ t.copyright
 pub after_header : (bytes : List ℕ) (texts : Texts) (r0 : List ℕ) (parts : Parts) → StartsWith header_text AreTexts bytes texts r0 → AreParts parts → bytes ≡ parts_text parts → r0 ≡ one_subtune_text parts.subtune ++ (empty_lists_text ++ patterns_text parts.patterns)
 after_header bytes texts r0 parts found are e =
     (same_front (header_text texts) (header_text parts.texts) _ _
-        (omega (arith, length-texts texts found.within, length-texts parts.texts are.texts))
-        (sym found.spelled ∙ e)).1
+    (omega (arith, length-texts texts found.within, length-texts parts.texts are.texts))
+    (sym found.spelled ∙ e)).1
 
 -- behind its subtune
 pub after_subtune : (bytes : List ℕ) (subtune : Subtune) (r0 : List ℕ) (other : Subtune) (more : List ℕ) → bytes ≡ one_subtune_text subtune ++ r0 → bytes ≡ one_subtune_text other ++ more → r0 ≡ more

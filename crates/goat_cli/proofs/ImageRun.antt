@@ -12,8 +12,9 @@ use Rattle.cpu6502.proofs.Instructions.{jumped, Pulls, lda_immediate, ldx_immedi
 use Rattle.cpu6502.proofs.Bridge.{call_returns}
 use Rattle.cpu6502.proofs.Entry.{entry_pulls, entry_kept}
 use Rattle.goat_cli.specs.Confined.{in_sid, memory_at_entry}
-use Rattle.goat_cli.specs.Image.{silent_image, IsImageAddress}
-use Rattle.goat_cli.specs.SilentRun.{Leaves, InitIsSilent, PlayIsSilent}
+use Rattle.goat_cli.specs.Image.{silent_image}
+use Rattle.goat_cli.specs.Place.{IsAddress}
+use Rattle.goat_cli.specs.SilentRun.{ReturnsWith, InitIsSilent, PlayIsSilent}
 use Rattle.goat_cli.proofs.ImageCode.{play_code, play_rest, init_rest, clear_then, ImageAt, InBounds, jump_stands, play_stands, init_stands}
 use Rattle.goat_cli.proofs.ImageLoop.{IsSid, code_kept, put_kept, filled, counted, counting, loop_leads}
 
@@ -85,7 +86,7 @@ init_leads a sp at cpu b image pulls e =
     (init_loop (a + 19 + 2 + 2) sp at (record cpu { a = 0; n = false; z = false }) (omega arith) (omega arith) code.1.1 pulls e)))
 
 -- a run that writes to the SID only, as a call
-as_call : (m : Machine) (a entry number steps zero_page : ℕ) (image registers : List ℕ) (end : State) → IsMachine m → 512 ≤ a → a + length image ≤ 54272 → Holds m.memory a image → Leads IsSid steps (view (entered m entry number)) end → end.cpu.pc ≡ 0 → end.cpu.sp ≡ m.cpu.sp → bytes_at end.at 54272 25 ≡ registers → Leaves m entry number steps image a zero_page registers
+as_call : (m : Machine) (a entry number steps zero_page : ℕ) (image registers : List ℕ) (end : State) → IsMachine m → 512 ≤ a → a + length image ≤ 54272 → Holds m.memory a image → Leads IsSid steps (view (entered m entry number)) end → end.cpu.pc ≡ 0 → end.cpu.sp ≡ m.cpu.sp → bytes_at end.at 54272 25 ≡ registers → ReturnsWith m entry number steps image a zero_page registers
 as_call m a entry number steps zero_page image registers end is above below holds leads at_zero same_stack regs =
     let call = call_returns IsSid (λ q sid. omega (arith, sid.high)) m entry number steps end is.size leads at_zero same_stack in
     record {
@@ -111,14 +112,13 @@ image_at_entry m a is b holds =
 back_up : (sp : ℕ) → sp < 256 → ((sp + 254) % 256 + 2) % 256 ≡ sp
 back_up sp lt = omega arith
 
-in_bounds : (a : ℕ) → IsImageAddress a → InBounds a
+in_bounds : (a : ℕ) → IsAddress a → InBounds a
 in_bounds a is =
-    let e = is.whole_page in
-    let lo = is.above in
-    let hi = is.below in
+    let least = is.least in
+    let most = is.most in
     record { above = omega arith; below = omega arith }
 
-pub init_is_silent : (a : ℕ) → IsImageAddress a → InitIsSilent (silent_image a) a
+pub init_is_silent : (a : ℕ) → IsAddress a → InitIsSilent (silent_image a) a
 init_is_silent a place m number zero_page is holds =
     let b = in_bounds a place in
     let at = slice_index (memory_at_entry m) in
@@ -126,7 +126,7 @@ init_is_silent a place m number zero_page is holds =
     (init_leads a m.cpu.sp at (record m.cpu { a = number; sp = (m.cpu.sp + 254) % 256 }) b (image_at_entry m a is b holds) (entry_pulls m is.size) (back_up m.cpu.sp is.sp))
     refl refl refl
 
-pub play_is_silent : (a : ℕ) → IsImageAddress a → PlayIsSilent (silent_image a) a
+pub play_is_silent : (a : ℕ) → IsAddress a → PlayIsSilent (silent_image a) a
 play_is_silent a place m number zero_page is holds =
     let b = in_bounds a place in
     let at = slice_index (memory_at_entry m) in

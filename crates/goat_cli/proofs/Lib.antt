@@ -2,6 +2,8 @@ mod Forms
 mod Fronts
 mod Exits
 mod Silences
-mod ImageLoop
-mod ImageCode
-mod ImageRun
+pub mod ImageLoop
+pub mod ImageCode
+pub mod ImageRun
+mod FaithfulSilence
+mod Accounts

@@ -34,15 +34,16 @@ canonical-parts song subtune subtunes instruments wave pulse filter speed =
 
 pub parts_from_silent : (song : Song) → KeepsLimits song → IsSilent song → (parts : Parts) × AreParts parts × (canonical song ≡ parts_text parts) × IsSilentSubtune parts.patterns parts.subtune
 parts_from_silent song limits silent =
-    let one = only_one song.subtunes silent.one_subtune in
-    (parts_of song one.0,
-    record {
-      texts = record { name = limits.name; author = limits.author; copyright = limits.copyright };
-      subtune = All-head IsSubtune one.0 [] (subst (All IsSubtune) one.1 limits.subtunes.each);
-      patterns = limits.patterns;
-    },
-    canonical-parts song one.0 one.1 silent.instruments silent.wave silent.pulse silent.filter silent.speed,
-    All-head (IsSilentSubtune song.patterns) one.0 [] (subst (All (IsSilentSubtune song.patterns)) one.1 silent.subtunes))
+    let one = only_one song.subtunes silent.one_subtune in (
+      parts_of song one.0,
+      record {
+        texts = record { name = limits.name; author = limits.author; copyright = limits.copyright };
+        subtune = All-head IsSubtune one.0 [] (subst (All IsSubtune) one.1 limits.subtunes.each);
+        patterns = limits.patterns;
+      },
+      canonical-parts song one.0 one.1 silent.instruments silent.wave silent.pulse silent.filter silent.speed,
+      All-head (IsSilentSubtune song.patterns) one.0 [] (subst (All (IsSilentSubtune song.patterns)) one.1 silent.subtunes),
+    )
 
 -- bytes that are no plain song's parts are no plain song
 pub no_parts : (bytes : List ℕ) → ((parts : Parts) → AreParts parts → bytes ≡ parts_text parts → ⊥) → IsPlain bytes → ⊥

@@ -1,5 +1,5 @@
 -- The image of the silent player: its instructions, and their bytes.
-use Rattle.std.specs.Prelude.{◌≡◌, ℕ, ◌+◌, ◌*◌, ◌/◌, ◌%◌, ◌≤◌, List, [], ◌∷◌, flat_map}
+use Rattle.std.specs.Prelude.{ℕ, ◌+◌, ◌/◌, ◌%◌, List, [], ◌∷◌, flat_map}
 use Rattle.goat_cli.specs.declared.image.Instruction.{Instruction}
 use Rattle.goat_cli.specs.declared.image.Instruction.TheVariants.{JmpTo, LdaNumber, LdxNumber, StaAt, StaAtX, Dex, BplBy, Rts}
 
@@ -25,10 +25,3 @@ silent_code address =
 -- the thirty bytes of the silent player at an address
 abbrev pub silent_image : ℕ → List ℕ
 silent_image address = flat_map bytes_of (silent_code address)
-
--- the addresses that an image may stand at: the multiples of 256 from $0800 to $CF00
-pub record IsImageAddress (address : ℕ) : Type 0 where
-  pub page : ℕ
-  pub whole_page : address ≡ 256 * page
-  pub above : 8 ≤ page
-  pub below : page ≤ 207

@@ -1,3 +1,4 @@
+pub mod Place
 pub mod Words
 pub mod PackJob
 pub mod Plain
@@ -6,3 +7,9 @@ pub mod PlainFault
 pub mod Image
 pub mod Confined
 pub mod SilentRun
+pub mod Faithful
+pub mod Lines
+pub mod Ending
+pub mod Outcome
+pub mod Rows
+pub mod Endings

@@ -10,7 +10,7 @@ abbrev pub sid_registers : Machine → List ℕ
 sid_registers machine = bytes_at (slice_index machine.memory) 0xD400 25
 
 -- a call of a player's image, at an entry with a number in the accumulator, returns after exactly so many steps, has written in its own places only, leaves the image as it was, and leaves these registers
-pub record Leaves (machine : Machine) (entry number steps : ℕ) (image : List ℕ) (address zero_page : ℕ) (registers : List ℕ) : Type 0 where
+pub record ReturnsWith (machine : Machine) (entry number steps : ℕ) (image : List ℕ) (address zero_page : ℕ) (registers : List ℕ) : Type 0 where
   pub after : Machine
   pub called : Called machine entry number steps after
   pub confined : IsConfined machine after (length image) address zero_page
@@ -21,10 +21,10 @@ pub record Leaves (machine : Machine) (entry number steps : ℕ) (image : List �
 abbrev pub InitIsSilent : List ℕ → ℕ → Type 0
 InitIsSilent image address =
     (machine : Machine) (number zero_page : ℕ) → IsMachine machine → Holds machine.memory address image →
-    Leaves machine address number 79 image address zero_page (replicate 25 0)
+    ReturnsWith machine address number 79 image address zero_page (replicate 25 0)
 
 -- play leaves 24 zeros and full volume, from any machine that holds the image
 abbrev pub PlayIsSilent : List ℕ → ℕ → Type 0
 PlayIsSilent image address =
     (machine : Machine) (number zero_page : ℕ) → IsMachine machine → Holds machine.memory address image →
-    Leaves machine (address + 3) number 77 image address zero_page (replicate 24 0 ++ 15 ∷ [])
+    ReturnsWith machine (address + 3) number 77 image address zero_page (replicate 24 0 ++ 15 ∷ [])

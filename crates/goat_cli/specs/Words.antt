@@ -1,23 +1,13 @@
 -- The command line's words, and the job that they ask for.
-use Rattle.std.specs.Prelude.{◌≡◌, ◌≢◌, ℕ, ◌+◌, ◌*◌, ◌%◌, ◌≤◌, List, [], ◌∷◌, map, codes, String, Ok}
+use Rattle.std.specs.Prelude.{◌≡◌, ◌≢◌, ℕ, ◌+◌, ◌*◌, List, [], ◌∷◌, map, codes, String, Ok}
 use Rattle.std.specs.Global.{Global}
 use Rattle.std.specs.String.{string_bytes}
 use Rattle.hex.specs.Hex.{decode_sized}
+use Rattle.goat_cli.specs.Place.{IsAddress, IsZeroPage}
 
 -- the words' bytes
 abbrev pub texts : List (String Global) → List (List ℕ)
 texts words = map string_bytes words
-
--- where an image may stand: at a multiple of 256 from $0800 to $CF00
-pub record IsAddress (address : ℕ) : Type 0 where
-  pub whole_page : address % 256 ≡ 0
-  pub least : 0x0800 ≤ address
-  pub most : address ≤ 0xCF00
-
--- the first of the two zero page bytes that a player may have
-pub record IsZeroPage (zero_page : ℕ) : Type 0 where
-  pub least : 0x02 ≤ zero_page
-  pub most : zero_page ≤ 0xFE
 
 -- four hexadecimal digits, in either case, that spell an allowed address
 pub record IsAddressWord (word : List ℕ) (address : ℕ) : Type 0 where

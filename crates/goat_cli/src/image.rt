@@ -1,8 +1,9 @@
 ghost use Rattle.std.specs.Prelude.{◌≡◌, ◌++◌, ◌∷◌, [], ◌%◌, ◌/◌, IfOk, OnOk, flat_map};
-ghost use Rattle.goat_cli.specs.Image.{silent_image, silent_code, bytes_of, IsImageAddress};
+ghost use Rattle.goat_cli.specs.Image.{silent_image, silent_code, bytes_of};
+ghost use Rattle.goat_cli.specs.Place.{IsAddress};
 ghost use Rattle.goat_cli.specs.SilentRun.{InitIsSilent, PlayIsSilent};
 
-use cpu6502::NoMemory;
+use song_model::NoMemory;
 use std::alloc::{AllocError, Global};
 
 /// The opcodes of the image, as the MOS 6502 programming manual has them.
@@ -53,8 +54,8 @@ enum Instruction {
 /// writes 0 to all 25 registers of the SID, and play writes 0 to the first 24 of them and full volume to the last.
 pub fn silent_image(alloc: Global, address: u16) -> Result<Vec<u8>, NoMemory>
     ensures bytes { IfOk result (λ image. image.items ≡ silent_image address) }
-    ensures init { IfOk result (λ image. IsImageAddress address → InitIsSilent image.items address) }
-    ensures play { IfOk result (λ image. IsImageAddress address → PlayIsSilent image.items address) }
+    ensures init { IfOk result (λ image. IsAddress address → InitIsSilent image.items address) }
+    ensures play { IfOk result (λ image. IsAddress address → PlayIsSilent image.items address) }
 {
     match assembled(alloc, &silent_code(address)) {
         Ok(image) => Ok(image),
@@ -139,63 +140,4 @@ fn append_word(bytes: &mut Vec<u8>, opcode: u8, operand: u16) -> Result<(), Allo
     bytes.push((operand % 256) as u8)?;
     bytes.push((operand / 256) as u8)?;
     Ok(())
-}
-
-#[cfg(test)]
-mod tests {
-    use super::*;
-    use cpu6502::{Cpu, Machine, Memory, WriteLog};
-    use std::test::Fail;
-
-    /// Memory of `$FF` with these bytes at an address.
-    fn loaded(alloc: Global, image: &[u8], address: u16) -> Result<Memory, NoMemory> {
-        let mut memory = Memory::filled(alloc, 0xFF)?;
-        let mut place = address;
-        for byte in image {
-            memory.write(place, *byte);
-            place = place.wrapping_add(1);
-        }
-        Ok(memory)
-    }
-
-    /// Registers that a player must not count on: the decimal flag among them.
-    const ANY: Cpu = Cpu {
-        a: 0x81,
-        x: 0x7E,
-        y: 0x3C,
-        sp: 0x01,
-        pc: 0xBEEF,
-        n: true,
-        v: true,
-        d: true,
-        i: false,
-        z: true,
-        c: true,
-    };
-
-    #[test]
-    fn one_init_and_three_plays(rt: HostRuntime) -> Result<(), Fail> {
-        let image = silent_image(rt.alloc(), 0x1000)?;
-        assert_eq!(rt; image.len(), 30);
-        let memory = loaded(rt.alloc(), &image, 0x1000)?;
-        let mut machine = Machine { cpu: ANY, memory };
-        let mut log = WriteLog::new();
-        assert_eq!(rt; machine.call(0x1000, 0, 1_000, &mut log), Ok(79));
-        for register in 0..25 {
-            assert_eq!(rt; machine.memory.read(0xD400 + register), 0, "{register}");
-        }
-        for _ in 0..3 {
-            assert_eq!(rt; machine.call(0x1003, 0, 1_000, &mut log), Ok(77));
-            assert_eq!(rt; log.writes.as_slice().len(), 25);
-            for register in 0..25 {
-                let wanted = if register == 24 { 15 } else { 0 };
-                assert_eq!(rt;
-                    machine.memory.read(0xD400 + register),
-                    wanted,
-                    "{register}"
-                );
-            }
-        }
-        Ok(())
-    }
 }

@@ -230,7 +230,11 @@ fn take_pattern_count(bytes: &[u8]) -> Option<(usize, &[u8])>
 }
 
 // So many patterns, one after the other.
-fn take_patterns(alloc: Global, count: usize, bytes: &[u8]) -> Result<(PatternList, &[u8]), PlainFault>
+fn take_patterns(
+    alloc: Global,
+    count: usize,
+    bytes: &[u8],
+) -> Result<(PatternList, &[u8]), PlainFault>
     requires { count ≤ 208 }
     ensures found { IfOk result (λ x. StartsWith (flat_map pattern_text) (AreCounted IsPattern count) bytes.now x.0 x.1.now) }
     ensures none { IsErrOf result PlainFault.Other → StartsWithNone (flat_map pattern_text) (AreCounted IsPattern count) bytes.now }

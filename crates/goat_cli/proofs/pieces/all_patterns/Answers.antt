@@ -7,8 +7,8 @@ pub returns-in_err-patterns-clause-none : goal.returns-in_err-patterns-clause-no
 returns-in_err-patterns-clause-none c =
     let p = err_from_is_err_and c.from_residual.result c.from_residual.ensures.1 in
     rw p.1 (λ other x limit spelled.
-        let parts = all_of_patterns c.args.bytes.now c.in-Some.rest.now c.in-Some.count x c.in-Some.ensures.found spelled in
-        c.in_err-patterns.ensures.none (cc) x [] (record { spelled = parts.1; within = record { number = parts.0; each = limit.each } }))
+    let parts = all_of_patterns c.args.bytes.now c.in-Some.rest.now c.in-Some.count x c.in-Some.ensures.found spelled in
+    c.in_err-patterns.ensures.none (cc) x [] (record { spelled = parts.1; within = record { number = parts.0; each = limit.each } }))
 
 pub returns-else-is_empty-clause-none : goal.returns-else-is_empty-clause-none
 returns-else-is_empty-clause-none c = λ _ x limit spelled.

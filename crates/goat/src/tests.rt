@@ -1,0 +1,269 @@
+//! Worked examples from outside: words, files, the status, the line and what was written.
+
+use cpu6502::{Cpu, Machine, Memory, WriteLog};
+use goat_cli::goat;
+use goat_io::{MemFolder, MemSink};
+use std::alloc::Global;
+use std::process::Abort;
+use std::test::Fail;
+
+const USAGE: &str = "usage: goat check|trace|pack|run|edit|copy|selftest\n";
+
+const PACK: [&str; 6] = ["pack", "s0", "o", "raw", "1000", "FC"];
+
+/// The bytes of a silent song behind its three texts: one subtune whose orderlists play pattern 0, which is one rest.
+const SILENCE: [u8; 28] = [
+    1, 2, 0, 0xff, 0, 2, 0, 0xff, 0, 2, 0, 0xff, 0, 0, 0, 0, 0, 0, 1, 2, 0xbd, 0, 0, 0, 0xff, 0, 0,
+    0,
+];
+
+/// What a run answered: its status, its lines, and the file `o`.
+#[derive(Drop)]
+struct Answer {
+    status: u8,
+    text: Vec<u8>,
+    output: Option<Vec<u8>>,
+}
+
+/// The silent song's 128 bytes.
+fn silence(alloc: Global) -> Result<Vec<u8>, Fail> {
+    let mut bytes = vec![in alloc; 0; 100]?;
+    for (i, letter) in b"GTS5".iter().enumerate() {
+        bytes[i] = *letter;
+    }
+    bytes.extend_from_slice(&SILENCE)?;
+    Ok(bytes)
+}
+
+/// A run over a folder with this song as `s0`, whose listed calls fail, and a sink whose listed puts fail.
+fn run_failing(
+    alloc: Global,
+    words: &[&str],
+    song: &[u8],
+    calls: &[u32],
+    puts: &[u32],
+) -> Result<Answer, Fail> {
+    let mut folder = MemFolder::new(alloc, calls.to_vec(alloc)?);
+    folder.add("s0", song)?;
+    let mut out = MemSink::new(alloc, puts.to_vec(alloc)?);
+    let mut owned = Vec::new(alloc);
+    for word in words {
+        owned.push(word.to_string(alloc)?)?;
+    }
+    let status = goat(alloc, &owned, &mut folder, &mut out);
+    let output = match folder.get("o") {
+        Some(bytes) => Some(bytes.to_vec(alloc)?),
+        None => None,
+    };
+    Ok(Answer {
+        status,
+        text: out.bytes().to_vec(alloc)?,
+        output,
+    })
+}
+
+/// A run on whole devices.
+fn run(alloc: Global, words: &[&str], song: &[u8]) -> Result<Answer, Fail> {
+    run_failing(alloc, words, song, &[], &[])
+}
+
+/// Asserts the status and the text of a run, and that it wrote nothing.
+fn assert_refused(rt: &impl Abort, answer: &Answer, status: u8, text: &str) {
+    assert_eq!(rt; answer.status, status, "{text}");
+    assert_eq!(rt; answer.text.as_slice(), text.as_bytes(), "{text}");
+    assert!(rt; answer.output.is_none(), "{text}");
+}
+
+#[test]
+fn a_silent_song_is_packed(rt: HostRuntime) -> Result<(), Fail> {
+    let alloc = rt.alloc();
+    let answer = run(alloc, &PACK, &silence(alloc)?)?;
+    assert_eq!(rt; answer.status, 0);
+    assert_eq!(rt; answer.text.as_slice(), b"wrote 32 bytes\n".as_slice());
+    let file = answer.output.ok_or("no file")?;
+    assert_eq!(rt; file.len(), 32);
+    assert!(rt; file.starts_with(&[0x00, 0x10]));
+    Ok(())
+}
+
+#[test]
+fn digits_in_either_case_are_taken(rt: HostRuntime) -> Result<(), Fail> {
+    let alloc = rt.alloc();
+    let song = silence(alloc)?;
+    for (address, zero_page, high) in [
+        ("cf00", "fe", 0xcf),
+        ("Ce00", "Fd", 0xce),
+        ("0800", "02", 0x08),
+    ] {
+        let answer = run(
+            alloc,
+            &["pack", "s0", "o", "raw", address, zero_page],
+            &song,
+        )?;
+        assert_eq!(rt; answer.status, 0, "{address}");
+        let file = answer.output.ok_or("no file")?;
+        assert!(rt; file.starts_with(&[0x00, high]), "{address}");
+    }
+    Ok(())
+}
+
+#[test]
+fn other_words_are_answered_by_the_usage(rt: HostRuntime) -> Result<(), Fail> {
+    let alloc = rt.alloc();
+    let song = silence(alloc)?;
+    assert_refused(&rt, &run(alloc, &[], &song)?, 1, USAGE);
+    assert_refused(
+        &rt,
+        &run(alloc, &["pack", "s0", "o", "raw", "1000"], &song)?,
+        1,
+        USAGE,
+    );
+    let more = ["pack", "s0", "o", "raw", "1000", "FC", "FC"];
+    assert_refused(&rt, &run(alloc, &more, &song)?, 1, USAGE);
+    assert_refused(
+        &rt,
+        &run(alloc, &["Pack", "s0", "o", "raw", "1000", "FC"], &song)?,
+        1,
+        USAGE,
+    );
+    assert_refused(
+        &rt,
+        &run(alloc, &["pack", "s0", "o", "rau", "1000", "FC"], &song)?,
+        1,
+        USAGE,
+    );
+    assert_refused(
+        &rt,
+        &run(alloc, &["pack", "", "o", "raw", "1000", "FC"], &song)?,
+        1,
+        USAGE,
+    );
+    assert_refused(
+        &rt,
+        &run(alloc, &["pack", "s0", "", "raw", "1000", "FC"], &song)?,
+        1,
+        USAGE,
+    );
+    Ok(())
+}
+
+#[test]
+fn places_out_of_range_are_answered_by_the_usage(rt: HostRuntime) -> Result<(), Fail> {
+    let alloc = rt.alloc();
+    let song = silence(alloc)?;
+    for address in [
+        "07FF", "0700", "0801", "D000", "d00", "1000 ", "10000", "", "10g0", "+100",
+    ] {
+        let words = ["pack", "s0", "o", "raw", address, "FC"];
+        assert_refused(&rt, &run(alloc, &words, &song)?, 1, USAGE);
+    }
+    for zero_page in ["01", "FF", "ff", "0FC", "F", "", "$2", "0x"] {
+        let words = ["pack", "s0", "o", "raw", "1000", zero_page];
+        assert_refused(&rt, &run(alloc, &words, &song)?, 1, USAGE);
+    }
+    Ok(())
+}
+
+#[test]
+fn files_that_are_not_there_or_too_long(rt: HostRuntime) -> Result<(), Fail> {
+    let alloc = rt.alloc();
+    let none = run(alloc, &["pack", "nofile", "o", "raw", "1000", "FC"], &[])?;
+    assert_refused(&rt, &none, 2, "missing: nofile\n");
+    let long = vec![in alloc; 0; 262_145]?;
+    assert_refused(&rt, &run(alloc, &PACK, &long)?, 3, "too long: s0\n");
+    let just = vec![in alloc; 0; 262_144]?;
+    assert_refused(&rt, &run(alloc, &PACK, &just)?, 15, "not built\n");
+    Ok(())
+}
+
+#[test]
+fn other_songs_are_not_built(rt: HostRuntime) -> Result<(), Fail> {
+    let alloc = rt.alloc();
+    assert_refused(&rt, &run(alloc, &PACK, &[])?, 15, "not built\n");
+    let song = silence(alloc)?;
+    assert_refused(
+        &rt,
+        &run(alloc, &PACK, song.get(..101).ok_or("short")?)?,
+        15,
+        "not built\n",
+    );
+    let mut more = song.clone()?;
+    more.push(0)?;
+    assert_refused(&rt, &run(alloc, &PACK, &more)?, 15, "not built\n");
+    // An instrument, a pattern that isn't stored, a restart past the end, a note, a magic of another format.
+    for (offset, byte) in [(121, 1), (106, 1), (104, 1), (120, 0x60), (3, b'4')] {
+        let mut changed = song.clone()?;
+        *changed.get_mut(offset).ok_or("short")? = byte;
+        assert_refused(&rt, &run(alloc, &PACK, &changed)?, 15, "not built\n");
+    }
+    Ok(())
+}
+
+#[test]
+fn failing_devices_are_told(rt: HostRuntime) -> Result<(), Fail> {
+    let alloc = rt.alloc();
+    let song = silence(alloc)?;
+    let read = run_failing(alloc, &PACK, &song, &[0], &[])?;
+    assert_refused(&rt, &read, 4, "read fault: s0\n");
+    let write = run_failing(alloc, &PACK, &song, &[1], &[])?;
+    assert_eq!(rt; write.status, 9);
+    assert_eq!(rt; write.text.as_slice(), b"write fault: o\n".as_slice());
+    assert_eq!(rt; write.output.ok_or("no file")?.len(), 16);
+    let sink = run_failing(alloc, &PACK, &song, &[], &[0])?;
+    assert_eq!(rt; sink.status, 10);
+    assert_eq!(rt; sink.text.as_slice(), b"wrote 3".as_slice());
+    assert_eq!(rt; sink.output.ok_or("no file")?.len(), 32);
+    Ok(())
+}
+
+/// Registers that a player must not count on, the decimal flag among them.
+const ANY: Cpu = Cpu {
+    a: 0x81,
+    x: 0x7e,
+    y: 0x3c,
+    sp: 0x01,
+    pc: 0xbeef,
+    n: true,
+    v: true,
+    d: true,
+    i: false,
+    z: true,
+    c: true,
+};
+
+/// A memory of `$FF` with the image of a raw file at `$1000`.
+fn loaded(alloc: Global, file: &[u8]) -> Result<Memory, Fail> {
+    let mut memory = Memory::filled(alloc, 0xff)?;
+    let mut place: u16 = 0x1000;
+    for byte in file.get(2..).ok_or("short")? {
+        memory.write(place, *byte);
+        place = place.wrapping_add(1);
+    }
+    Ok(memory)
+}
+
+#[test]
+fn the_packed_file_plays_silence(rt: HostRuntime) -> Result<(), Fail> {
+    let alloc = rt.alloc();
+    let answer = run(alloc, &PACK, &silence(alloc)?)?;
+    let file = answer.output.ok_or("no file")?;
+    let memory = loaded(alloc, &file)?;
+    let mut machine = Machine { cpu: ANY, memory };
+    let mut log = WriteLog::new();
+    assert!(rt; machine.call(0x1000, 0, 200_000, &mut log).is_ok());
+    for register in 0..25 {
+        assert_eq!(rt; machine.memory.read(0xd400 + register), 0, "{register}");
+    }
+    for _ in 0..3 {
+        assert!(rt; machine.call(0x1003, 0, 200_000, &mut log).is_ok());
+        for register in 0..25 {
+            let wanted = if register == 24 { 15 } else { 0 };
+            assert_eq!(rt;
+                machine.memory.read(0xd400 + register),
+                wanted,
+                "{register}"
+            );
+        }
+    }
+    Ok(())
+}

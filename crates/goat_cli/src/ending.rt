@@ -1,0 +1,44 @@
+//! How a run ends.
+
+ghost use Rattle.std.specs.Prelude.{◌≡◌};
+
+/// How a run of the program ends: what its line says, and its status.
+#[derive(Clone, Copy, Debug)]
+pub enum Ending<'a> {
+    /// A file of so many bytes was written.
+    Wrote(usize),
+    /// No form of the command line has the words.
+    Usage,
+    /// No file has the name.
+    Missing(&'a str),
+    /// The file has more bytes than may be read.
+    TooLong(&'a str),
+    /// The folder failed to read the file.
+    ReadFault(&'a str),
+    /// The folder failed to write the file.
+    WriteFault(&'a str),
+    /// Memory was wanting.
+    NoMemory,
+    /// The file can't be packed yet.
+    NotBuilt,
+}
+
+impl Ending<'_> {
+    ghost use Rattle.goat_cli.specs.Ending.{status_of};
+
+    /// The program's exit status.
+    pub fn status(&self) -> u8
+        ensures { result ≡ status_of self.now }
+    {
+        match self {
+            Ending::Wrote(_) => 0,
+            Ending::Usage => 1,
+            Ending::Missing(_) => 2,
+            Ending::TooLong(_) => 3,
+            Ending::ReadFault(_) => 4,
+            Ending::WriteFault(_) => 9,
+            Ending::NoMemory => 14,
+            Ending::NotBuilt => 15,
+        }
+    }
+}

@@ -1,0 +1,187 @@
+//! The top call: words, files and the sink.
+
+ghost use Rattle.std.specs.Prelude.{◌≡◌, ◌≢◌, ◌∷◌, [], length, IfOk, MatchOption, Some, IfSome};
+ghost use Rattle.goat_io.specs.Count.{Rose};
+ghost use Rattle.goat_io.specs.Written.{told_with_piece};
+ghost use Rattle.goat_cli.specs.Words.{texts, IsNoForm};
+ghost use Rattle.goat_cli.specs.Plain.{IsPlain};
+ghost use Rattle.goat_cli.specs.Outcome.{IsMissing, IsTooLong, IsNotBuilt, IsPackable, PacksTo};
+ghost use Rattle.goat_cli.specs.Rows.{IsOneOf, IsOrdinary, IsPrinted, IsPastReading, IsBeforeWriting, ComesWhere, ComesAbout, Printed, LineOf};
+ghost use Rattle.goat_cli.specs.Ending.{status_of, line_of};
+ghost use Rattle.goat_cli.specs.Place.{IsAddress};
+ghost use Rattle.goat_cli.specs.PackJob.{job_of};
+ghost use Rattle.goat_cli.specs.Faithful.{raw_file};
+ghost use Rattle.goat_cli.specs.Endings.{EndsAs, PacksAs, WritesAs, NamesOf};
+
+use crate::ending::Ending;
+use crate::image::silent_image;
+use crate::line::Line;
+use crate::plain::read_plain;
+use crate::words::PackJob;
+use goat_io::{Folder, ReadFault, Sink, SinkFault, WriteFault};
+use song_model::NoMemory;
+use std::alloc::Global;
+
+/// The greatest song file, in bytes.
+const SONG_LIMIT: u32 = 262_144;
+
+/// The status of a sink that failed.
+const SINK_FAILED: u8 = 10;
+
+/// The status of a want of memory.
+const NO_MEMORY: u8 = 14;
+
+/// Does all that the program does, and answers its exit status: 0 done, 1 usage, 2 missing, 3 too long, 4 read
+/// fault, 9 write fault, 10 sink fault, 14 no memory, 15 not built.
+///
+/// The words are those of the command line without the program's name. Each run prints one line, in one piece, behind
+/// all else that it does.
+pub fn goat<F: Folder, K: Sink>(alloc: Global, words: &[String], folder: &mut F, out: &mut K) -> u8
+    // What comes about where no device fails and memory is found.
+    ensures outcome { IfSome (F.files folder.old) (λ files. IsOrdinary result → ComesAbout (texts words.now) files result (K.written out.old) (K.written out.new) (F.files folder.new)) }
+
+    // When each status comes.
+    ensures statuses { IsOneOf (0 ∷ 1 ∷ 2 ∷ 3 ∷ 4 ∷ 9 ∷ 10 ∷ 14 ∷ 15 ∷ []) result }
+    ensures done { IfSome (F.files folder.old) (λ files. ComesWhere (IsPackable (texts words.now) files) result 0 (4 ∷ 9 ∷ 10 ∷ 14 ∷ [])) }
+    ensures usage { ComesWhere (IsNoForm (texts words.now)) result 1 (10 ∷ 14 ∷ []) }
+    ensures missing { IfSome (F.files folder.old) (λ files. ComesWhere (IsMissing (texts words.now) files) result 2 (4 ∷ 10 ∷ 14 ∷ [])) }
+    ensures missing_counted { result ≡ 2 → Rose (F.misses folder.old) (F.misses folder.new) }
+    ensures too_long { IfSome (F.files folder.old) (λ files. ComesWhere (IsTooLong (texts words.now) files) result 3 (4 ∷ 10 ∷ 14 ∷ [])) }
+    ensures too_long_counted { result ≡ 3 → Rose (F.excesses folder.old) (F.excesses folder.new) }
+    ensures read_fault { result ≡ 4 → Rose (F.read_faults folder.old) (F.read_faults folder.new) }
+    ensures write_fault { result ≡ 9 → Rose (F.write_faults folder.old) (F.write_faults folder.new) }
+    ensures write_fault_at_the_end { IfSome (F.files folder.old) (λ files. result ≡ 9 → IsPackable (texts words.now) files) }
+    ensures sink_fault { result ≡ 10 → Rose (K.faults out.old) (K.faults out.new) }
+    ensures sink_fault_told { result ≢ 10 → K.faults out.new ≡ K.faults out.old }
+    ensures not_built { IfSome (F.files folder.old) (λ files. ComesWhere (IsNotBuilt (texts words.now) files) result 15 (4 ∷ 10 ∷ 14 ∷ [])) }
+
+    // What stands after it, whether the folder tells its files or not.
+    ensures printed { IsPrinted result → Printed (texts words.now) result (K.written out.old) (K.written out.new) }
+    ensures files_stay { IsBeforeWriting result → F.files folder.new ≡ F.files folder.old }
+{
+    let Ok(mut line) = Line::with_room(alloc, words) else {
+        return want_memory(out);
+    };
+    let ending = run(alloc, words, folder);
+    print(&mut line, &ending, out)
+}
+
+// Does what the words ask for, but for the line.
+fn run<'a, F: Folder>(alloc: Global, words: &'a [String], folder: &mut F) -> Ending<'a>
+    ensures outcome { IfSome (F.files folder.old) (λ files. IsOrdinary (status_of result) → EndsAs (texts words.now) files (status_of result) (line_of result) (F.files folder.new)) }
+    ensures statuses { IsOneOf (0 ∷ 1 ∷ 2 ∷ 3 ∷ 4 ∷ 9 ∷ 14 ∷ 15 ∷ []) (status_of result) }
+    ensures usage { ComesWhere (IsNoForm (texts words.now)) (status_of result) 1 [] }
+    ensures missing_counted { status_of result ≡ 2 → Rose (F.misses folder.old) (F.misses folder.new) }
+    ensures too_long_counted { status_of result ≡ 3 → Rose (F.excesses folder.old) (F.excesses folder.new) }
+    ensures read_fault { status_of result ≡ 4 → Rose (F.read_faults folder.old) (F.read_faults folder.new) }
+    ensures write_fault { status_of result ≡ 9 → Rose (F.write_faults folder.old) (F.write_faults folder.new) }
+    ensures write_fault_at_the_end { IfSome (F.files folder.old) (λ files. status_of result ≡ 9 → IsPackable (texts words.now) files) }
+    ensures line { status_of result ≢ 14 → LineOf (texts words.now) (status_of result) (line_of result) }
+    ensures files_stay { IsBeforeWriting (status_of result) → F.files folder.new ≡ F.files folder.old }
+{
+    match PackJob::from_words(words) {
+        Some(job) => pack(alloc, &job, folder),
+        None => Ending::Usage,
+    }
+}
+
+// Reads the song, packs it and writes the file.
+fn pack<'a, F: Folder>(alloc: Global, job: &PackJob<'a>, folder: &mut F) -> Ending<'a>
+    requires { IsAddress job.now.address }
+    ensures told { IfSome (F.files folder.old) (λ files. PacksAs (job_of job.now) files (F.files folder.new) result) }
+    ensures names { NamesOf (job_of job.now) result }
+    ensures missing_counted { status_of result ≡ 2 → Rose (F.misses folder.old) (F.misses folder.new) }
+    ensures too_long_counted { status_of result ≡ 3 → Rose (F.excesses folder.old) (F.excesses folder.new) }
+    ensures read_fault { status_of result ≡ 4 → Rose (F.read_faults folder.old) (F.read_faults folder.new) }
+    ensures write_fault { status_of result ≡ 9 → Rose (F.write_faults folder.old) (F.write_faults folder.new) }
+    ensures files_stay { IsBeforeWriting (status_of result) → F.files folder.new ≡ F.files folder.old }
+{
+    match folder.read(alloc, job.input, SONG_LIMIT) {
+        Ok(bytes) => write_packed(alloc, job, &bytes, folder),
+        Err(ReadFault::Missing) => Ending::Missing(job.input),
+        Err(ReadFault::TooLong) => Ending::TooLong(job.input),
+        Err(ReadFault::Failed) => Ending::ReadFault(job.input),
+        Err(ReadFault::NoMemory) => Ending::NoMemory,
+    }
+}
+
+// Packs the song that these bytes spell and writes the file.
+fn write_packed<'a, F: Folder>(
+    alloc: Global,
+    job: &PackJob<'a>,
+    bytes: &[u8],
+    folder: &mut F,
+) -> Ending<'a>
+    requires { IsAddress job.now.address }
+    ensures told { IfSome (F.files folder.old) (λ files. WritesAs (job_of job.now) bytes.now files (F.files folder.new) result) }
+    ensures names { NamesOf (job_of job.now) result }
+    ensures read { IsPastReading (status_of result) }
+    ensures write_fault { status_of result ≡ 9 → Rose (F.write_faults folder.old) (F.write_faults folder.new) }
+    ensures files_stay { IsBeforeWriting (status_of result) → F.files folder.new ≡ F.files folder.old }
+{
+    let file = match packed_file(alloc, job, bytes) {
+        Ok(Some(file)) => file,
+        Ok(None) => return Ending::NotBuilt,
+        Err(NoMemory) => return Ending::NoMemory,
+    };
+    match folder.write(job.output, &file) {
+        Ok(()) => Ending::Wrote(file.len()),
+        Err(WriteFault::Failed) => Ending::WriteFault(job.output),
+        Err(WriteFault::NoMemory) => Ending::NoMemory,
+    }
+}
+
+// The raw file of the song that these bytes spell, or `None` where they can't be packed yet.
+fn packed_file(alloc: Global, job: &PackJob<'_>, bytes: &[u8]) -> Result<Option<Vec<u8>>, NoMemory>
+    requires { IsAddress job.now.address }
+    ensures { IfOk result (λ found. MatchOption found (¬ IsPlain bytes.now) (λ file. PacksTo (job_of job.now) bytes.now file.items)) }
+{
+    let found = read_plain(alloc, bytes)?;
+    match found {
+        Some(_song) => {
+            let image = silent_image(alloc, job.address)?;
+            Ok(Some(raw_file(alloc, job.address, &image)?))
+        }
+        None => Ok(None),
+    }
+}
+
+// A raw file: the address, low byte first, and the image.
+fn raw_file(alloc: Global, address: u16, image: &[u8]) -> Result<Vec<u8>, NoMemory>
+    ensures { IfOk result (λ file. file.items ≡ raw_file address image.now) }
+{
+    let mut file = Vec::new(alloc);
+    file.push((address % 256) as u8)?;
+    file.push((address / 256) as u8)?;
+    file.extend_from_slice(image)?;
+    Ok(file)
+}
+
+// Prints the line of an ending, and answers the status.
+fn print<K: Sink>(line: &mut Line, ending: &Ending, out: &mut K) -> u8
+    ensures statuses { IsOneOf (status_of ending.now ∷ 10 ∷ 14 ∷ []) result }
+    ensures printed { IsPrinted result → K.written out.new ≡ told_with_piece (K.written out.old) (line_of ending.now) }
+    ensures sink_fault { result ≡ 10 → Rose (K.faults out.old) (K.faults out.new) }
+    ensures sink_fault_told { result ≢ 10 → K.faults out.new ≡ K.faults out.old }
+{
+    let Ok(()) = line.tell(ending) else {
+        return want_memory(out);
+    };
+    match out.put(line.as_slice()) {
+        Ok(()) => ending.status(),
+        Err(SinkFault::Failed) => SINK_FAILED,
+        Err(SinkFault::NoMemory) => want_memory(out),
+    }
+}
+
+// Prints that memory is wanting, and answers the status.
+fn want_memory<K: Sink>(out: &mut K) -> u8
+    ensures statuses { IsOneOf (10 ∷ 14 ∷ []) result }
+    ensures sink_fault { result ≡ 10 → Rose (K.faults out.old) (K.faults out.new) }
+    ensures sink_fault_told { result ≢ 10 → K.faults out.new ≡ K.faults out.old }
+{
+    match out.put(b"no memory\n") {
+        Err(SinkFault::Failed) => SINK_FAILED,
+        _ => NO_MEMORY,
+    }
+}
