@@ -56,7 +56,7 @@ impl Machine {
         log.clear();
         let home = self.cpu.sp;
         self.enter(address, a);
-        let mut steps = 0;
+        let mut steps: u32 = 0;
         'stepping: while !self.is_back(home) {
             if steps == budget {
                 return Err(CallStop::Budget);
