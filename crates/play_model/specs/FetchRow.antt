@@ -28,7 +28,7 @@ gate_keyed note v =
 abbrev pub is_note : ℕ → Bool
 is_note note = nat_le 0x60 note && nat_le note 0xBC
 
--- from $50 to $CA
+-- the note with the transpose added, as a byte: from $50 to $CA
 abbrev pub transposed : ℕ → ℤ → ℕ
 transposed note transpose = cast_unsigned w8 (pos note +ℤ transpose)
 

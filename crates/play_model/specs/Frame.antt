@@ -1,6 +1,6 @@
 -- A frame: the filter, its registers, and the three voices in turn. This is this project's profile of
 -- the playroutine, and the meaning of a song.
-use Rattle.std.specs.Prelude.{ℕ, zero, suc, ◌/◌, ◌%◌, ◌==◌, List, [], ◌∷◌, ◌++◌, replicate, if◌then◌else◌, slice_index_or, bit_and, bit_or}
+use Rattle.std.specs.Prelude.{◌≡◌, length, ℕ, zero, suc, ◌/◌, ◌%◌, ◌==◌, List, [], ◌∷◌, ◌++◌, replicate, if◌then◌else◌, slice_index_or, bit_and, bit_or}
 use Rattle.song_model.specs.declared.orders.Order.{Order}
 use Rattle.song_model.specs.declared.orders.Subtune.{Subtune}
 use Rattle.song_model.specs.declared.songs.Song.{Song}
@@ -90,3 +90,7 @@ state_after song k (suc n) = (frame song k (state_after song k n)).state
 unfoldable pub trace : Song → ℕ → ℕ → List ℕ
 trace song k zero = replicate 25 0
 trace song k (suc n) = (frame song k (state_after song k n)).registers
+
+-- each call leaves a value for each of the 25 registers
+abbrev pub TracesHaveAllRegisters : Type 0
+TracesHaveAllRegisters = (song : Song) (k i : ℕ) → length (trace song k i) ≡ 25

@@ -1,8 +1,14 @@
 //! Facts about the definitions of this crate, each the contract of a function that does nothing.
 
+ghost use Rattle.play_model.specs.Frame.{TracesHaveAllRegisters};
 ghost use Rattle.play_model.specs.SilentTrace.{SilentSongsAreSilent};
 ghost use Rattle.play_model.specs.WorkedFrequencies.{FrequenciesAreAsWorked};
 ghost use Rattle.play_model.specs.WorkedFrames.{OneNoteSounds, LowNoteIsMute, VibratoWraps, SlideStops, FunkTempoWraps, GateTimerBits, LongTimerIsNeverMet, WaveProgramWaits, VibratoChangesAlone, FilterFollows};
+
+/// Each call leaves 25 registers.
+pub fn traces_have_all_registers()
+    ensures { TracesHaveAllRegisters }
+{}
 
 /// Each play call of a silent song leaves zeros and the volume, whatever the song's length.
 pub fn silent_songs_are_silent()

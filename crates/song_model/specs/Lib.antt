@@ -9,3 +9,4 @@ pub mod Walk
 pub mod LookUp
 pub mod WorkedWalks
 pub mod WalkLaws
+pub mod CanonicalLaws

@@ -3,6 +3,7 @@
 ghost use Rattle.std.specs.Prelude.{◌≡◌};
 ghost use Rattle.song_model.specs.Canonical.{canonical};
 ghost use Rattle.song_model.specs.Silence.{silence, silence_bytes};
+ghost use Rattle.song_model.specs.CanonicalLaws.{SpellingsDiffer};
 ghost use Rattle.song_model.specs.Limits.{KeepsLimits};
 ghost use Rattle.song_model.specs.Silent.{IsSilent};
 ghost use Rattle.song_model.specs.WalkLaws.{PlaysAreEntries, OneCycleIsEnough};
@@ -12,6 +13,11 @@ ghost use Rattle.song_model.specs.WorkedWalks.{TransposesAreKept, RepeatsAreUsed
 #[tactic(auto, unfolding(crate::specs::Canonical::canonical))]
 pub fn silence_spelling()
     ensures { canonical silence ≡ silence_bytes }
+{}
+
+/// No two songs within the limits are spelled alike.
+pub fn spellings_differ()
+    ensures { SpellingsDiffer }
 {}
 
 /// What orderlists with transposes, with repeats, and with a restart behind a repeat play.

@@ -1,5 +1,5 @@
 //! What no clause says: that the calls succeed where there is memory.
-use crate::{ByteList, LimitFault, Order, Pattern, Row, Song, Subtune};
+use crate::{ByteList, LimitFault, Order, Pattern, Row, Song, Subtune, Table, TableRow};
 use std::alloc::Global;
 use std::test::Fail;
 
@@ -21,32 +21,52 @@ fn silent_subtune(alloc: Global) -> Result<Subtune, LimitFault> {
 }
 
 #[test]
-fn constructors_refuse_what_is_out_of_its_limit(rt: HostRuntime) -> Result<(), Fail> {
+fn patterns_have_1_to_128_rows(rt: HostRuntime) -> Result<(), Fail> {
     let alloc = rt.alloc();
-    let rows = [
-        (vec![in alloc; rest(0xbd); 0]?, Some(LimitFault::BadLength)),
-        (
-            vec![in alloc; rest(0xff); 1]?,
-            Some(LimitFault::BadItem { place: 0 }),
-        ),
-        (
-            vec![in alloc; rest(0xbd); 129]?,
-            Some(LimitFault::BadLength),
-        ),
-        (vec![in alloc; rest(0xbd); 128]?, None),
+    let cases = [
+        (0, 0xbd, Some(LimitFault::BadLength)),
+        (1, 0xff, Some(LimitFault::BadItem { place: 0 })),
+        (129, 0xbd, Some(LimitFault::BadLength)),
+        (128, 0xbd, None),
     ];
-    for (rows, fault) in &rows {
-        assert_eq!(rt; Pattern::from_rows(alloc, rows.as_slice()).err(), *fault);
+    for (count, note, fault) in cases {
+        let rows = vec![in alloc; rest(note); count]?;
+        assert_eq!(rt; Pattern::from_rows(alloc, rows.as_slice()).err(), fault);
     }
+    Ok(())
+}
+
+#[test]
+fn tables_have_at_most_255_rows(rt: HostRuntime) -> Result<(), Fail> {
+    let alloc = rt.alloc();
+    for (count, fault) in [(256, Some(LimitFault::BadLength)), (255, None)] {
+        let rows = vec![in alloc; TableRow {
+            left: 0xff,
+            right: 0
+        }; count]?;
+        assert_eq!(rt; Table::from_rows(alloc, rows.as_slice()).err(), fault);
+    }
+    Ok(())
+}
+
+#[test]
+fn songs_have_at_most_32_subtunes(rt: HostRuntime) -> Result<(), Fail> {
+    let alloc = rt.alloc();
     let fault = Order::from_bytes(alloc, &[0x00, 0xff], 0).err();
     assert_eq!(rt; fault, Some(LimitFault::BadItem { place: 1 }));
-
     let mut song = Song::empty(alloc);
     for _ in 0..32 {
         song.add_subtune(silent_subtune(alloc)?)?;
     }
     let fault = song.add_subtune(silent_subtune(alloc)?).err();
     assert_eq!(rt; fault, Some(LimitFault::BadLength));
+    Ok(())
+}
+
+#[test]
+fn lists_take_items(rt: HostRuntime) -> Result<(), Fail> {
+    let alloc = rt.alloc();
+    let mut song = Song::empty(alloc);
     song.add_pattern(Pattern::from_rows(alloc, &[rest(0xbe)])?)?;
     assert_eq!(rt; song.patterns.as_slice().len(), 1);
     let mut bytes = ByteList::new(alloc);

@@ -1,0 +1,12 @@
+use Rattle.std.proofs.Common.{◌≡◌, ℕ, zero, suc, length, refl}
+use Rattle.song_model.specs.declared.songs.Song.{Song}
+use Rattle.play_model.specs.Frame.{voice_registers, filter_registers, frame, trace, TracesHaveAllRegisters}
+use Rattle.play_model.proofs.laws.traces_have_all_registers.Goals as goal
+
+of_each_call : TracesHaveAllRegisters
+unfolding voice_registers filter_registers frame trace
+of_each_call song k zero = refl
+of_each_call song k (suc n) = refl
+
+pub returns : goal.returns
+returns c = of_each_call
