@@ -5,14 +5,14 @@ use Rattle.goat_io.specs.Written.{told_with_piece}
 use Rattle.goat_cli.specs.declared.ending.Ending.{Ending}
 use Rattle.goat_cli.specs.declared.ending.Ending.TheVariants.{Wrote, Usage, Missing, TooLong, ReadFault, WriteFault, NoMemory, NotBuilt}
 use Rattle.goat_cli.specs.Words.{Job, WordsOf, IsNoForm}
-use Rattle.goat_cli.specs.Plain.{IsPlain, IsPlainSong}
+use Rattle.goat_cli.specs.Plain.{IsPlain}
 use Rattle.goat_cli.specs.Lines.{missing_line, too_long_line, read_fault_line, write_fault_line, wrote_line, usage_line}
 use Rattle.goat_cli.specs.Ending.{status_of, line_of}
-use Rattle.goat_cli.specs.Endings.{EndsAs, NamesOf, Writes, WritesAs, PacksAs}
+use Rattle.goat_cli.specs.Endings.{EndsAs, NamesOf, PacksAs}
 use Rattle.goat_cli.specs.Outcome as outcome
 use Rattle.goat_cli.specs.Outcome.{Outcome, IsMissing, IsTooLong, IsNotBuilt, IsPackable, Finds, PacksTo, files_after}
 use Rattle.goat_cli.specs.Rows as rows
-use Rattle.goat_cli.specs.Rows.{IsOneOf, IsOrdinary, IsPrinted, ComesWhere, ComesAbout, Printed, LineOf}
+use Rattle.goat_cli.specs.Rows.{IsOneOf, IsOrdinary, IsPrinted, ComesWhere, ComesAbout, HoldsPackedSong, Printed, LineOf}
 
 -- what follows for the files that are told, if they are
 pub IfSome-weaker : {A : Type 0} (o : Option A) (P Q : A → Type 0) → ((a : A) → P a → Q a) → IfSome o P → IfSome o Q
@@ -113,6 +113,38 @@ module _ (words : List (List ℕ)) (ending : Ending) (answer : ℕ) (answered : 
   pub nine_from_ending : (P : Type 0) → (status_of ending ≡ 9 → P) → answer ≡ 9 → P
   nine_from_ending P h is = h (sym (same_status (λ failed. omega arith) (λ want. omega arith)) ∙ is)
 
+pub ordinary_from : (answer n : ℕ) → answer ≡ n → n ≢ 4 → n ≢ 9 → n ≢ 10 → n ≢ 14 → IsOrdinary answer
+ordinary_from answer n is four nine ten fourteen = record {
+  no_read_fault = λ e. four (sym is ∙ e);
+  no_write_fault = λ e. nine (sym is ∙ e);
+  no_sink_fault = λ e. ten (sym is ∙ e);
+  no_want = λ e. fourteen (sym is ∙ e);
+}
+
+pub zero_is_ordinary : (answer : ℕ) → answer ≡ 0 → IsOrdinary answer
+zero_is_ordinary answer is = ordinary_from answer 0 is (λ e. omega arith) (λ e. omega arith) (λ e. omega arith) (λ e. omega arith)
+
+-- status 0 says that the song is packed
+pub headline_of : (words : List (List ℕ)) (files : Files) (answer : ℕ) (text : List ℕ) (write : Option (List ℕ × List ℕ)) (now : Option Files) → answer ≡ 0 → Outcome words files answer text write → now ≡ Some (files_after files write) → HoldsPackedSong words files now
+headline_of words files answer text write now is (outcome.usage none status line written) are = absurd (omega arith)
+headline_of words files answer text write now is (outcome.missing other status line written) are = absurd (omega arith)
+headline_of words files answer text write now is (outcome.too_long other status line written) are = absurd (omega arith)
+headline_of words files answer text write now is (outcome.not_built other status line written) are = absurd (omega arith)
+headline_of words files answer text write now is (outcome.packed job bytes file finds packs status line written) are = record {
+  job = job;
+  bytes = bytes;
+  file = file;
+  finds = finds;
+  packs = packs;
+  files_are = are ∙ ap (λ w. Some (files_after files w)) written;
+}
+
+pub headline_from : (told : Option Files) (words : List (List ℕ)) (answer : ℕ) (before after : Option (List ℕ)) (now : Option Files) → IfSome told (λ files. IsOrdinary answer → ComesAbout words files answer before after now) → IfSome told (λ files. answer ≡ 0 → HoldsPackedSong words files now)
+headline_from None words answer before after now about = tt
+headline_from (Some files) words answer before after now about = λ is.
+    let came = about (zero_is_ordinary answer is) in
+    headline_of words files answer came.text came.write now is came.outcome came.files_are
+
 abbrev pub statuses : List ℕ
 statuses = 0 ∷ 1 ∷ 2 ∷ 3 ∷ 4 ∷ 9 ∷ 10 ∷ 14 ∷ 15 ∷ []
 
@@ -137,14 +169,6 @@ among_statuses NotBuilt answer (inl is) = inr (inr (inr (inr (inr (inr (inr (inr
 -- nothing was found wrong with the devices or the memory: an outcome came about
 abbrev pub HasOutcome : List (List ℕ) → Files → ℕ → Type 0
 HasOutcome words files answer = (text : List ℕ) × (write : Option (List ℕ × List ℕ)) × Outcome words files answer text write
-
-ordinary_from : (answer n : ℕ) → answer ≡ n → n ≢ 4 → n ≢ 9 → n ≢ 10 → n ≢ 14 → IsOrdinary answer
-ordinary_from answer n is four nine ten fourteen = record {
-  no_read_fault = λ e. four (sym is ∙ e);
-  no_write_fault = λ e. nine (sym is ∙ e);
-  no_sink_fault = λ e. ten (sym is ∙ e);
-  no_want = λ e. fourteen (sym is ∙ e);
-}
 
 -- one of the statuses is ordinary or tells of a device or of memory
 split : (answer : ℕ) → IsOneOf statuses answer → IsOrdinary answer ⊎ IsOneOf (4 ∷ 9 ∷ 10 ∷ 14 ∷ []) answer

@@ -1,5 +1,5 @@
 -- Where a piece of a plain song is refused, no plain song is spelled: the pieces before it are known.
-use Rattle.std.proofs.Common.{◌≡◌, ℕ, ◌+◌, ◌-◌, ◌*◌, ◌<◌, ◌≤◌, List, [], ◌∷◌, ◌++◌, length, drop, take, get_or, codes, refl, sym, ap, ◌∙◌, subst, append_assoc, arith, Err, Result, IsErrOf, Fits, w8, take-append-drop, length-append, drop-cons, add-one}
+use Rattle.std.proofs.Common.{◌≡◌, ℕ, ◌+◌, ◌<◌, List, [], ◌∷◌, ◌++◌, length, drop, take, get_or, codes, refl, sym, ap, ◌∙◌, subst, append_assoc, arith, Fits, w8, take-append-drop, length-append, drop-cons, add-one}
 use Rattle.std.specs.List.{flat_map, All}
 use Rattle.std.proofs.lemmas.List.Elements.{All-from_get_or, All-push, All-get_or, All-take}
 use Rattle.std.proofs.lemmas.List.Concat.{flat_map-append}
@@ -9,8 +9,8 @@ use Rattle.song_model.specs.declared.orders.Order.{Order}
 use Rattle.song_model.specs.declared.orders.Subtune.{Subtune}
 use Rattle.song_model.specs.declared.faults.LimitFault.{LimitFault}
 use Rattle.song_model.specs.declared.faults.LimitFault.TheVariants as limit
-use Rattle.song_model.specs.Basics.{IsByte, IsFirstBad, KeepsLimit}
-use Rattle.song_model.specs.Limits.{IsText, IsOrder, IsSubtune}
+use Rattle.song_model.specs.Basics.{IsByte, IsFirstBad}
+use Rattle.song_model.specs.Limits.{IsText}
 use Rattle.song_model.specs.OrderLimits.{IsEntry, AreEntries}
 use Rattle.song_model.specs.PatternLimits.{IsRow, IsPattern, IsPatternLength}
 use Rattle.song_model.specs.Canonical.{order_text, subtune_text, patterns_text, row_text, end_row_text, pattern_text}

@@ -1,5 +1,5 @@
 -- The silent player plays silent songs.
-use Rattle.std.proofs.Common.{◌≡◌, ℕ, zero, suc, ◌+◌, ◌<◌, ◌≤◌, List, length, replicate, refl, sym, ap, ◌∙◌, subst, arith, lit≤, add-one, Bool, filter}
+use Rattle.std.proofs.Common.{◌≡◌, ℕ, zero, suc, ◌<◌, ◌≤◌, List, length, replicate, refl, sym, ◌∙◌, subst, arith, lit≤, add-one}
 use Rattle.std.proofs.lemmas.List.Sums.{length-filter, count_by-le-length}
 use Rattle.song_model.specs.declared.songs.Song.{Song}
 use Rattle.song_model.specs.LookUp.{playable_subtunes, is_playable_subtune}
@@ -9,7 +9,7 @@ use Rattle.play_model.specs.SilentTrace.{silent_registers}
 use Rattle.play_model.proofs.QuietTrace.{silent_songs_lem}
 use Rattle.cpu6502.specs.declared.machine.Machine.{Machine}
 use Rattle.cpu6502.specs.Code.{IsMachine, Holds}
-use Rattle.goat_cli.specs.SilentRun.{ReturnsWith, InitIsSilent, PlayIsSilent}
+use Rattle.goat_cli.specs.SilentRun.{InitIsSilent, PlayIsSilent}
 use Rattle.goat_cli.specs.Faithful.{Leaves, AgreesOn, PlaysOn, IsFaithful, raw_file}
 use Rattle.goat_cli.specs.Image.{silent_image}
 use Rattle.goat_cli.specs.Words.{Job}
@@ -30,37 +30,41 @@ module _ (image : List ℕ) (address zero_page : ℕ) (song : Song) (init : Init
   plays_on : (n i : ℕ) (before : Machine) → Holds before.memory address image → PlaysOn image address zero_page song 0 (suc i) n before
   plays_on zero i before holds = tt
   plays_on (suc n) i before holds = λ machine number is small agrees.
-      let returns = play machine number zero_page is (still_held before machine holds agrees) in
-      (returns.after,
-      record {
-        steps = 77;
-        within = lit≤ tt;
-        called = returns.called;
-        confined = returns.confined;
-        registers_are = returns.registers_are ∙ sym (play_trace i);
-      },
-      plays_on n (suc i) returns.after returns.kept)
+      let returns = play machine number zero_page is (still_held before machine holds agrees) in (
+        returns.after,
+        record {
+          steps = 77;
+          within = lit≤ tt;
+          called = returns.called;
+          confined = returns.confined;
+          registers_are = returns.registers_are ∙ sym (play_trace i);
+        },
+        plays_on n (suc i) returns.after returns.kept,
+      )
 
   one_playable : (k : ℕ) → k < length (playable_subtunes song) → k ≡ 0
   one_playable k inside = omega (arith, length-filter is_playable_subtune song.subtunes, count_by-le-length is_playable_subtune song.subtunes, silent.one_subtune)
 
   begins : (n : ℕ) (machine : Machine) → IsMachine machine → Holds machine.memory address image → (after : Machine) × Leaves image address zero_page machine address 0 (trace song 0 0) after × PlaysOn image address zero_page song 0 1 n after
   begins n machine is holds =
-      let returns = init machine 0 zero_page is holds in
-      (returns.after,
-      record {
-        steps = 79;
-        within = lit≤ tt;
-        called = returns.called;
-        confined = returns.confined;
-        registers_are = returns.registers_are ∙ sym (init_trace song 0);
-      },
-      plays_on n 0 returns.after returns.kept)
+      let returns = init machine 0 zero_page is holds in (
+        returns.after,
+        record {
+          steps = 79;
+          within = lit≤ tt;
+          called = returns.called;
+          confined = returns.confined;
+          registers_are = returns.registers_are ∙ sym (init_trace song 0);
+        },
+        plays_on n 0 returns.after returns.kept,
+      )
 
   pub faithful_silence : IsFaithful image address zero_page song
-  faithful_silence = record { plays = λ k n machine inside is holds.
-      subst (λ j. (after : Machine) × Leaves image address zero_page machine address j (trace song j 0) after × PlaysOn image address zero_page song j 1 n after)
-      (sym (one_playable k inside)) (begins n machine is holds) }
+  faithful_silence = record {
+    plays = λ k n machine inside is holds.
+        subst (λ j. (after : Machine) × Leaves image address zero_page machine address j (trace song j 0) after × PlaysOn image address zero_page song j 1 n after)
+        (sym (one_playable k inside)) (begins n machine is holds);
+  }
 
 -- a raw file of the silent player packs a silent song
 pub packs_silence : (job : Job) (bytes image file : List ℕ) (song : Song) → IsPlainSong bytes song → file ≡ raw_file job.address image → image ≡ silent_image job.address → InitIsSilent image job.address → PlayIsSilent image job.address → PacksTo job bytes file

@@ -1,11 +1,9 @@
 -- Plain songs and their parts.
-use Rattle.std.proofs.Common.{◌≡◌, ℕ, List, [], ◌∷◌, ◌++◌, length, codes, refl, sym, ap, ◌∙◌, subst, append_assoc, arith, All, slice_index_or}
-use Rattle.std.specs.List.{flat_map}
+use Rattle.std.proofs.Common.{◌≡◌, ℕ, List, [], ◌∷◌, ◌++◌, length, refl, sym, ap, ◌∙◌, subst, append_assoc, arith, All}
 use Rattle.std.proofs.lemmas.List.{append-nil}
 use Rattle.std.proofs.lemmas.List.Elements.{All-nil, All-cons, All-head}
 use Rattle.song_model.specs.declared.songs.Song.{Song}
 use Rattle.song_model.specs.declared.orders.Subtune.{Subtune}
-use Rattle.song_model.specs.Basics.{KeepsLimit}
 use Rattle.song_model.specs.Limits.{KeepsLimits, IsSubtune, IsInstrument, IsTableRow}
 use Rattle.song_model.specs.Silent.{IsSilent, IsSilentSubtune}
 use Rattle.song_model.specs.Canonical.{canonical, subtune_text, patterns_text}

@@ -1,5 +1,5 @@
 -- What the program answers where no device fails and memory is found: its status, its line, and the file that it writes. It is a relation, since the player's bytes may be chosen.
-use Rattle.std.specs.Prelude.{◌≡◌, ◌≢◌, ℕ, ◌≤◌, List, Option, Some, None, length}
+use Rattle.std.specs.Prelude.{◌≡◌, ℕ, ◌≤◌, List, Option, Some, None, length}
 use Rattle.song_model.specs.declared.songs.Song.{Song}
 use Rattle.goat_io.specs.Files.{Files, file_of, with_file, IsAbsent, IsAbove}
 use Rattle.goat_cli.specs.Words.{Job, WordsOf, IsNoForm}

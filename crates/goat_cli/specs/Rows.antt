@@ -1,10 +1,10 @@
 -- When each status comes.
-use Rattle.std.specs.Prelude.{◌≡◌, ◌≢◌, ℕ, List, [], ◌∷◌, ◌⊎◌, Option, Some, length}
-use Rattle.goat_io.specs.Files.{Files}
+use Rattle.std.specs.Prelude.{◌≡◌, ◌≢◌, ℕ, List, [], ◌∷◌, ◌⊎◌, Option, Some}
+use Rattle.goat_io.specs.Files.{Files, with_file}
 use Rattle.goat_io.specs.Written.{told_with_piece}
-use Rattle.goat_cli.specs.Words.{Job, WordsOf, IsNoForm}
+use Rattle.goat_cli.specs.Words.{Job, WordsOf}
 use Rattle.goat_cli.specs.Lines.{usage_line, missing_line, too_long_line, read_fault_line, write_fault_line, not_built_line, wrote_line}
-use Rattle.goat_cli.specs.Outcome.{Outcome, files_after}
+use Rattle.goat_cli.specs.Outcome.{Outcome, Finds, PacksTo, files_after}
 
 -- one of these numbers
 abbrev pub IsOneOf : List ℕ → ℕ → Type 0
@@ -64,3 +64,12 @@ pub record ComesAbout (words : List (List ℕ)) (files : Files) (status : ℕ) (
   pub outcome : Outcome words files status text write
   pub appended : printed_after ≡ told_with_piece printed_before text
   pub files_are : files_now ≡ Some (files_after files write)
+
+-- the file OUT holds a packed file of the song that the file IN spells, and every other file is as before
+pub record HoldsPackedSong (words : List (List ℕ)) (files : Files) (files_now : Option Files) : Type 0 where
+  pub job : Job
+  pub bytes : List ℕ
+  pub file : List ℕ
+  pub finds : Finds words files job bytes
+  pub packs : PacksTo job bytes file
+  pub files_are : files_now ≡ Some (with_file files job.output file)

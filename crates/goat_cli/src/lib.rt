@@ -1,4 +1,13 @@
-//! The program's top call.
+//! The program's top call: words, a folder and a sink go in, and a status comes out.
+//!
+//! The one contract: where no device fails and memory is found, one of the outcomes comes about, with its line and its
+//! file; a file that is written holds an image that plays the song that was read, whatever else is in memory. Each
+//! status comes only where its cause does.
+//!
+//! Today silent songs in their canonical spelling are packed, with one fixed player, and other songs are refused.
+//!
+//! It stands on `goat_io` for folders and sinks, on `song_model` for the song, on `play_model` for what a song sounds
+//! like and on `cpu6502` for what machine code does.
 #![tactic(auto)]
 
 mod ending;
@@ -9,7 +18,6 @@ mod plain;
 mod top;
 mod words;
 
-pub use ending::Ending;
 pub use image::silent_image;
 pub use plain::read_plain;
 pub use top::goat;

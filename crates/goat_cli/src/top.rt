@@ -6,7 +6,7 @@ ghost use Rattle.goat_io.specs.Written.{told_with_piece};
 ghost use Rattle.goat_cli.specs.Words.{texts, IsNoForm};
 ghost use Rattle.goat_cli.specs.Plain.{IsPlain};
 ghost use Rattle.goat_cli.specs.Outcome.{IsMissing, IsTooLong, IsNotBuilt, IsPackable, PacksTo};
-ghost use Rattle.goat_cli.specs.Rows.{IsOneOf, IsOrdinary, IsPrinted, IsPastReading, IsBeforeWriting, ComesWhere, ComesAbout, Printed, LineOf};
+ghost use Rattle.goat_cli.specs.Rows.{IsOneOf, IsOrdinary, IsPrinted, IsPastReading, IsBeforeWriting, ComesWhere, ComesAbout, HoldsPackedSong, Printed, LineOf};
 ghost use Rattle.goat_cli.specs.Ending.{status_of, line_of};
 ghost use Rattle.goat_cli.specs.Place.{IsAddress};
 ghost use Rattle.goat_cli.specs.PackJob.{job_of};
@@ -37,6 +37,9 @@ const NO_MEMORY: u8 = 14;
 /// The words are those of the command line without the program's name. Each run prints one line, in one piece, behind
 /// all else that it does.
 pub fn goat<F: Folder, K: Sink>(alloc: Global, words: &[String], folder: &mut F, out: &mut K) -> u8
+    // After status 0 the file that was written plays the song, whatever else is in memory.
+    ensures headline { IfSome (F.files folder.old) (λ files. result ≡ 0 → HoldsPackedSong (texts words.now) files (F.files folder.new)) }
+
     // What comes about where no device fails and memory is found.
     ensures outcome { IfSome (F.files folder.old) (λ files. IsOrdinary result → ComesAbout (texts words.now) files result (K.written out.old) (K.written out.new) (F.files folder.new)) }
 

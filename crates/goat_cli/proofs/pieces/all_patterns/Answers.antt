@@ -1,4 +1,4 @@
-use Rattle.std.proofs.Common.{◌≡◌, [], sym, ◌∙◌, ap, length, arith, rules}
+use Rattle.std.proofs.Common.{[], ap, length, rules}
 use Rattle.std.proofs.lemmas.Result.{err_from_is_err_and}
 use Rattle.goat_cli.proofs.Exits.{all_of_patterns, nothing_left}
 use Rattle.goat_cli.proofs.pieces.all_patterns.Goals as goal

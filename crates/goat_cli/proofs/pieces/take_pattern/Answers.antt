@@ -1,4 +1,4 @@
-use Rattle.std.proofs.Common.{◌≡◌, Err, ap, subst, sym, ◌∙◌, rules}
+use Rattle.std.proofs.Common.{◌≡◌, Err, ap, subst, sym, ◌∙◌}
 use Rattle.std.proofs.lemmas.Result.{err_from_is_err_and}
 use Rattle.song_model.specs.PatternLimits.{IsPattern}
 use Rattle.goat_cli.specs.declared.pieces.PlainFault.TheVariants.{Other}

@@ -1,4 +1,3 @@
-use Rattle.std.proofs.Common.{◌≡◌, ◌++◌}
 use Rattle.std.specs.List.{flat_map}
 use Rattle.song_model.specs.PatternLimits.{IsPattern}
 use Rattle.song_model.specs.Canonical.{pattern_text}

@@ -1,5 +1,5 @@
 use Rattle.goat_cli.specs.Words.{texts}
-use Rattle.goat_cli.proofs.Accounts.{IfSome-weaker, IfSome-both, comes_about, outcome_of, is_printed, usage_row, nine_from_ending, among_statuses, done_row, missing_row, too_long_row, not_built_row}
+use Rattle.goat_cli.proofs.Accounts.{IfSome-weaker, IfSome-both, comes_about, outcome_of, headline_from, is_printed, usage_row, nine_from_ending, among_statuses, done_row, missing_row, too_long_row, not_built_row}
 use Rattle.goat_cli.proofs.top.goat.Goals as goal
 
 pub returns-clause-outcome : goal.returns-clause-outcome
@@ -15,6 +15,9 @@ returns-clause-write_fault_at_the_end g c =
 
 pub returns-clause-printed : goal.returns-clause-printed
 returns-clause-printed g c = is_printed (texts c.args.words.now) c.run-ending.result c.print.result c.print.ensures.statuses _ _ c.print.ensures.printed c.run-ending.ensures.line
+
+pub returns-clause-headline : goal.returns-clause-headline
+returns-clause-headline g c = headline_from _ (texts c.args.words.now) c.print.result _ _ _ (returns-clause-outcome g c)
 
 -- for the files that are told, the outcome and what a failed write tells
 pub returns-clause-done : goal.returns-clause-done
@@ -36,4 +39,3 @@ pub returns-clause-not_built : goal.returns-clause-not_built
 returns-clause-not_built g c =
     let among = among_statuses c.run-ending.result c.print.result c.print.ensures.statuses in
     IfSome-weaker _ _ _ (λ files both. not_built_row (texts c.args.words.now) files c.print.result among (outcome_of _ files _ _ _ _ both.0) both.1) (IfSome-both _ _ _ (returns-clause-outcome g c) (returns-clause-write_fault_at_the_end g c))
-

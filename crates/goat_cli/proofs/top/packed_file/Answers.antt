@@ -1,4 +1,4 @@
-use Rattle.std.proofs.Common.{sym, ap, ◌∙◌}
+use Rattle.std.proofs.Common.{ap, ◌∙◌}
 use Rattle.goat_cli.specs.PackJob.{job_of}
 use Rattle.goat_cli.specs.Faithful.{raw_file}
 use Rattle.goat_cli.proofs.FaithfulSilence.{packs_silence}

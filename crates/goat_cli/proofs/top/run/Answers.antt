@@ -1,9 +1,5 @@
-use Rattle.std.proofs.Common.{Some}
 use Rattle.goat_cli.specs.Words.{texts}
 use Rattle.goat_cli.specs.PackJob.{job_of}
-use Rattle.goat_cli.specs.Rows.{IsOrdinary}
-use Rattle.goat_cli.specs.Ending.{status_of, line_of}
-use Rattle.goat_cli.specs.Endings.{EndsAs, PacksAs}
 use Rattle.goat_cli.proofs.Accounts.{IfSome-weaker, ends_as, line_fits}
 use Rattle.goat_cli.proofs.top.run.Goals as goal
 

@@ -1,6 +1,5 @@
-use Rattle.std.proofs.Common.{◌≡◌, ◌≢◌, [], codes, rules, arith, sym, ◌∙◌}
+use Rattle.std.proofs.Common.{◌≡◌, ◌≢◌, [], codes, rules, sym}
 use Rattle.std.specs.String.{string_bytes}
-use Rattle.goat_cli.specs.PackJob.{job_of}
 use Rattle.goat_cli.proofs.Forms.{six_texts, no_address, no_zero_page, is_form}
 use Rattle.goat_cli.proofs.words.PackJob.from_words.Goals as goal
 
