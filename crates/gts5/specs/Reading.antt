@@ -141,12 +141,14 @@ tables_at total bytes = do
 
 -- ---- patterns
 
--- the rows of a piece, four bytes each
+-- the row at the front: four bytes
+abbrev pub row_of : List ℕ → Row
+row_of bytes = record { note = slice_index bytes 0; instrument = slice_index bytes 1; command = slice_index bytes 2; param = slice_index bytes 3 }
+
+-- so many rows
 abbrev pub rows_of : ℕ → List ℕ → List Row
 rows_of zero bytes = []
-rows_of (suc m) bytes =
-    record { note = slice_index bytes 0; instrument = slice_index bytes 1; command = slice_index bytes 2; param = slice_index bytes 3 }
-    ∷ rows_of m (drop 4 bytes)
+rows_of (suc m) bytes = row_of bytes ∷ rows_of m (drop 4 bytes)
 
 -- note, instrument and command are in their ranges
 abbrev pub has_ranges : Row → Bool

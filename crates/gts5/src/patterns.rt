@@ -1,7 +1,7 @@
 //! Patterns.
 
-ghost use Rattle.std.specs.Prelude.{◌≡◌, ◌≤◌, ◌*◌, length};
-ghost use Rattle.gts5.specs.Reading.{ends_at, cut_at, rows_of, pattern_at, patterns_at, each_at};
+ghost use Rattle.std.specs.Prelude.{◌≡◌, ◌<◌, ◌≤◌, ◌*◌, length, drop, IfSome, IfNone};
+ghost use Rattle.gts5.specs.Reading.{ends_at, cut_at, row_of, rows_of, pattern_at, patterns_at, each_at};
 ghost use Rattle.gts5.specs.Gives.{Gives};
 
 use crate::SongFault;
@@ -69,14 +69,8 @@ fn rows_before_end(
     let mut rows = Vec::new(alloc);
     let mut left = piece;
     for i in 0..count {
-        let [note, instrument, command, param, after @ ..] = left else {
+        let Some((row, after)) = front_row(left) else {
             return Err(SongFault::Truncated { offset: at });
-        };
-        let row = Row {
-            note: *note,
-            instrument: *instrument,
-            command: *command,
-            param: *param,
         };
         if is_end(at, i, row)? {
             return Ok(rows);
@@ -85,6 +79,26 @@ fn rows_before_end(
         left = after;
     }
     Err(SongFault::BadRow { offset: at })
+}
+
+/// The row at the front, and the bytes after it.
+fn front_row(bytes: &[u8]) -> Option<(Row, &[u8])>
+    ensures row { IfSome result (λ x. x.0 ≡ row_of bytes.now) }
+    ensures rest { IfSome result (λ x. x.1.now ≡ drop 4 bytes.now) }
+    ensures none { IfNone result (length bytes.now < 4) }
+{
+    match bytes {
+        [note, instrument, command, param, rest @ ..] => {
+            let row = Row {
+                note: *note,
+                instrument: *instrument,
+                command: *command,
+                param: *param,
+            };
+            Some((row, rest))
+        }
+        _ => None,
+    }
 }
 
 /// Whether row `i` of a pattern, counted from 0, is its end row; `at` is the offset of the pattern's count.

@@ -1,0 +1,14 @@
+use Rattle.std.proofs.Common.{◌≡◌, Err, sym, ap, ◌∙◌, arith}
+use Rattle.std.proofs.lemmas.Result.{err_from_is_err_and}
+use Rattle.gts5.specs.Reading.{instrument_at}
+use Rattle.gts5.proofs.Loops.{goes_on, ends}
+use Rattle.gts5.proofs.reader.Reader.some_instruments.Goals as goal
+
+pub returns-in_err-instrument : goal.returns-in_err-instrument
+returns-in_err-instrument c =
+    let p = err_from_is_err_and c.from_residual.result c.from_residual.ensures.1 in
+    let same : p.0 ≡ c.in_err-instrument.field-0.0 = cc in
+    rw p.1 (λ known. ends (instrument_at c.args.self.length) c.loop-i.instruments c.args.count c.loop-i._i c.loop-i.rest.now p.0 _ (omega arith) (c.in_err-instrument.ensures (λ e. known (same ∙ e)) ∙ ap Err (sym same)) c.loop-i.invariant)
+
+pub loop-i-preserved : goal.loop-i-preserved
+loop-i-preserved c = rw c.in_ok-push.ensures.ok (goes_on (instrument_at c.args.self.length) c.loop-i.instruments c.args.count c.loop-i._i c.loop-i.rest.now c.in_ok-instrument.instrument c.in_ok-instrument.after.now _ (omega arith) c.in_ok-instrument.ensures c.loop-i.invariant)
