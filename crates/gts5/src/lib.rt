@@ -16,7 +16,9 @@ mod reader;
 mod songs;
 mod tables;
 mod texts;
+mod writing;
 
 pub use faults::SongFault;
 pub use songs::read;
+pub use writing::write;
 pub use song_model::NoMemory;
