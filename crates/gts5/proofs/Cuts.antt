@@ -2,7 +2,7 @@
 use Rattle.std.proofs.Common.{◌≡◌, ◌≢◌, ℕ, zero, suc, ◌+◌, ◌-◌, ◌*◌, ◌<◌, ◌≤◌, Bool, true, false, cond, eqb, leb, List, [], ◌∷◌, ◌++◌, length, get_or, take, drop, Result, Ok, Err, refl, sym, ap, subst, ◌∙◌, append_assoc, arith, inl, inr, add-one, take-append-drop}
 use Rattle.std.specs.List.{All, flat_map}
 use Rattle.std.proofs.lemmas.Bool.{cases_eq, eq-eqb, ne_eqb}
-use Rattle.std.proofs.lemmas.List.{drop_more}
+use Rattle.std.proofs.lemmas.List.{drop_more, length-take, get_or-take}
 use Rattle.std.proofs.lemmas.List.Elements.{All-head, All-tail}
 use Rattle.song_model.specs.Basics.{IsByte}
 use Rattle.song_model.specs.OrderLimits.{IsEntry}
@@ -33,8 +33,12 @@ at_endmark (x ∷ xs) d l =
 
 -- the bytes before the endmark are entries
 pub entries_before : (bytes : List ℕ) → All IsByte bytes → All IsEntry (take (endmark_of bytes) bytes)
-entries_before [] are = λ k d inside. absurd (omega arith)
-entries_before (x ∷ xs) are = ?
+entries_before bytes are = λ k d inside.
+    let before : k < endmark_of bytes = omega (arith, length-take (endmark_of bytes) bytes) in
+    let within : k < length bytes = omega (arith, length-take (endmark_of bytes) bytes) in
+    let byte = are k d within in
+    let other = before_endmark bytes k d before in
+    rw (get_or-take (endmark_of bytes) bytes k d before) (omega arith)
 
 -- the bytes up to the endmark, and what follows
 pub cut_endmark : (bytes : List ℕ) → endmark_of bytes < length bytes → bytes ≡ take (endmark_of bytes) bytes ++ 255 ∷ drop (endmark_of bytes + 1) bytes

@@ -1,3 +1,6 @@
 pub mod Loops
 pub mod Takes
 pub mod Cuts
+pub mod OrderPieces
+pub mod FieldPieces
+pub mod PatternPieces
