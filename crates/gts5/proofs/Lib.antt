@@ -4,3 +4,5 @@ pub mod Cuts
 pub mod OrderPieces
 pub mod FieldPieces
 pub mod PatternPieces
+pub mod Whole
+pub mod Canonicals

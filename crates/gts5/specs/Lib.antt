@@ -1,3 +1,5 @@
 pub mod Reading
 pub mod Gives
 pub mod Spells
+pub mod FormatLaws
+pub mod WorkedFaults

@@ -1,6 +1,6 @@
 -- Reading a song of the format GTS5, as the GoatTracker 2 readme has it, piece by piece from left to right:
 -- each piece gives its part of the song and the bytes after it, or the fault that stops the reading.
-use Rattle.std.specs.Prelude.{◌≡◌, ℕ, zero, suc, ◌+◌, ◌-◌, ◌*◌, Bool, true, false, ◌&&◌, not, nat_lt, nat_le, ◌==◌, if◌then◌else◌, List, [], ◌∷◌, length, take, drop, slice_index, codes, Result, Ok, Err}
+use Rattle.std.specs.Prelude.{◌≡◌, ℕ, zero, suc, ◌+◌, ◌-◌, ◌*◌, Bool, true, false, ◌&&◌, not, nat_lt, nat_le, ◌==◌, if◌then◌else◌, List, [], ◌∷◌, length, take, drop, slice_index, codes, Option, Some, None, Result, Ok, Err}
 use Rattle.std.specs.Str.{bytes_eq}
 use Rattle.song_model.specs.declared.rows.Row.{Row}
 use Rattle.song_model.specs.declared.orders.Order.{Order}
@@ -205,3 +205,11 @@ song_of bytes = do
     speed = tables.0.speed;
     patterns = patterns.0;
   })
+
+abbrev pub fault_in : {A : Type 0} → Result A SongFault → Option SongFault
+fault_in (Ok x) = None
+fault_in (Err fault) = Some fault
+
+-- the first fault of a text, or none where it spells a song
+unfoldable pub fault_of : List ℕ → Option SongFault
+fault_of bytes = fault_in (song_of bytes)

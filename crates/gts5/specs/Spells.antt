@@ -1,6 +1,6 @@
 -- What a text of the format GTS5 spells, as the GoatTracker 2 readme has it: the text is cut into pieces, one after
 -- the other, and each spells its part of the song.
-use Rattle.std.specs.Prelude.{◌≡◌, ℕ, ◌+◌, ◌*◌, List, [], ◌∷◌, ◌++◌, length, codes, All, Option, Some, None, Result, Ok, Err}
+use Rattle.std.specs.Prelude.{◌≡◌, ℕ, ◌+◌, ◌*◌, List, [], ◌∷◌, ◌++◌, length, codes, All}
 use Rattle.std.specs.List.{flat_map}
 use Rattle.song_model.specs.declared.rows.Row.{Row}
 use Rattle.song_model.specs.declared.orders.Order.{Order}
@@ -10,8 +10,6 @@ use Rattle.song_model.specs.OrderLimits.{IsEntry}
 use Rattle.song_model.specs.PatternLimits.{IsRow}
 use Rattle.song_model.specs.Limits.{KeepsLimits}
 use Rattle.song_model.specs.Canonical.{texts_text, instruments_text, tables_text, row_text}
-use Rattle.gts5.specs.declared.faults.SongFault.{SongFault}
-use Rattle.gts5.specs.Reading.{song_of}
 
 -- an orderlist: a byte n, the entries, the first $FF, the restart position, and bytes that are ignored; n counts
 -- all of them but itself and one
@@ -54,11 +52,3 @@ pub record Spells (bytes : List ℕ) (song : Song) : Type 0 where
       ++ (tables_text song ++ (length song.patterns ∷ (patterns ++ ignored)))))))
   pub spells_subtunes : SpellsEach SpellsSubtune song.subtunes subtunes
   pub spells_patterns : SpellsEach SpellsPattern song.patterns patterns
-
-abbrev pub fault_in : Result Song SongFault → Option SongFault
-fault_in (Ok song) = None
-fault_in (Err fault) = Some fault
-
--- the first fault that stops the reading
-unfoldable pub fault_of : List ℕ → Option SongFault
-fault_of bytes = fault_in (song_of bytes)

@@ -10,6 +10,8 @@
 
 mod faults;
 mod instruments;
+/// Facts about the definitions.
+pub mod laws;
 mod orders;
 mod patterns;
 mod reader;

@@ -1,8 +1,11 @@
 //! Songs.
 
-ghost use Rattle.std.specs.Prelude.{◌≤◌, length};
-ghost use Rattle.gts5.specs.Reading.{song_of};
-ghost use Rattle.gts5.specs.Gives.{Gives};
+ghost use Rattle.std.specs.Prelude.{◌≡◌, ◌≤◌, ◌⊎◌, length, IfOk, IfErr};
+ghost use Rattle.song_model.specs.declared.songs.Song.{Song};
+ghost use Rattle.gts5.specs.declared.faults.SongFault.{SongFault};
+ghost use Rattle.gts5.specs.Reading.{song_of, fault_of};
+ghost use Rattle.gts5.specs.Gives.{Gives, IsAnswer};
+ghost use Rattle.gts5.specs.Spells.{Spells};
 
 use crate::SongFault;
 use crate::reader::{Reader, after_magic};
@@ -11,9 +14,25 @@ use crate::texts::Texts;
 use song_model::Song;
 use std::alloc::Global;
 
-/// The song that the bytes spell.
-#[tactic(auto, unfolding(crate::specs::Reading::song_of))]
+/// The song that a file's bytes spell, in any spelling of the format GTS5; what the format lets a reader
+/// ignore is ignored. Where they spell none, the first fault that stops the reading.
 pub fn read(alloc: Global, bytes: &[u8]) -> Result<Song, SongFault>
+    requires { length bytes.now ≤ 262144 }
+    // A song that is read is spelled by the bytes.
+    ensures found { IfOk result (Spells bytes.now) }
+    // A song that the bytes spell is read.
+    ensures only { (song : Song) → Spells bytes.now song → IsAnswer result (Ok song) }
+    // A fault that is answered is the first one.
+    ensures fault { IfErr result (λ fault. (fault ≡ SongFault.NoMemory) ⊎ (fault_of bytes.now ≡ Some fault)) }
+    // Where there is a fault it is answered.
+    ensures exact { (fault : SongFault) → fault_of bytes.now ≡ Some fault → IsAnswer result (Err fault) }
+{
+    read_pieces(alloc, bytes)
+}
+
+/// The song of a file, piece by piece.
+#[tactic(auto, unfolding(crate::specs::Reading::song_of))]
+fn read_pieces(alloc: Global, bytes: &[u8]) -> Result<Song, SongFault>
     requires { length bytes.now ≤ 262144 }
     ensures { Gives (λ song. song) result (song_of bytes.now) }
 {
