@@ -15,10 +15,12 @@ use Rattle.song_model.specs.Limits.{KeepsLimits, IsOrder, IsSubtune, IsInstrumen
 use Rattle.song_model.specs.PatternLimits.{IsPattern}
 use Rattle.song_model.specs.Canonical.{canonical, order_text, subtune_text, subtunes_text, instrument_text, instruments_text, table_text, tables_text, row_text, end_row_text, pattern_text, patterns_text, texts_text}
 use Rattle.gts5.specs.declared.faults.SongFault.{SongFault}
-use Rattle.gts5.specs.Reading.{song_of, fault_in, fault_of}
+use Rattle.gts5.specs.Faults.{fault_in, fault_of}
+use Rattle.gts5.specs.Reading.{song_of}
 use Rattle.gts5.specs.Spells.{SpellsOrder, SpellsSubtune, SpellsPattern, SpellsEach, Spells}
 use Rattle.gts5.specs.FormatLaws.{SpellsOnly, SpellsNone, OneSongOrOneFault, CanonicalIsSpelled, CanonicalHasNoFault, CanonicalIsShort}
 use Rattle.gts5.proofs.Takes.{ok_is, text_each}
+use Rattle.gts5.proofs.SameFaults.{same_fault}
 use Rattle.gts5.proofs.Whole.{song_takes, song_again}
 
 pub bytes_are : (xs : List ℕ) → ((i : ℕ) → Fits w8 (get_or xs i 0)) → All IsByte xs
@@ -35,8 +37,7 @@ cases_song bytes are (Ok song) e = (song, record { spelled = song_takes bytes so
 cases_song bytes are (Err fault) e = λ song spelled. let read = song_again bytes song spelled in cc
 
 pub one_or_other : OneSongOrOneFault
-unfolding fault_of
-one_or_other bytes are = cases_song bytes are (song_of bytes) refl
+one_or_other bytes are = rw (same_fault bytes) (cases_song bytes are (song_of bytes) refl)
 
 -- ---- the canonical spelling
 
@@ -90,8 +91,7 @@ canonical_is_spelled song within =
     record { spelled = spelled; only = λ other also. same_song (canonical song) song other (song_again (canonical song) song spelled) also }
 
 pub canonical_has_no_fault : CanonicalHasNoFault
-unfolding fault_of
-canonical_has_no_fault song within = ap fault_in (song_again (canonical song) song (canonical_spells song within))
+canonical_has_no_fault song within = same_fault (canonical song) ∙ ap fault_in (song_again (canonical song) song (canonical_spells song within))
 
 -- ---- its length
 

@@ -11,7 +11,8 @@ use Rattle.song_model.specs.Canonical.{instrument_text, table_text}
 use Rattle.gts5.specs.declared.faults.SongFault.{SongFault}
 use Rattle.gts5.specs.declared.tables.Tables.{Tables}
 use Rattle.gts5.specs.declared.texts.Texts.{Texts}
-use Rattle.gts5.specs.Reading.{◌>>=◌, bytes_at, byte_at, texts_at, instrument_at, table_rows, table_at, tables_at}
+use Rattle.gts5.specs.Faults.{◌>>=◌}
+use Rattle.gts5.specs.Reading.{bytes_at, byte_at, texts_at, instrument_at, table_rows, table_at, tables_at}
 use Rattle.gts5.proofs.Takes.{bind_ok, ok_is, Takes, TakesBytes, TakesCount, bytes_take, bytes_again, byte_takes, byte_again}
 
 -- ---- texts

@@ -4,5 +4,6 @@ pub mod Cuts
 pub mod OrderPieces
 pub mod FieldPieces
 pub mod PatternPieces
+pub mod SameFaults
 pub mod Whole
 pub mod Canonicals

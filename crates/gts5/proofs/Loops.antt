@@ -4,7 +4,8 @@ use Rattle.std.proofs.lemmas.List.{append-nil}
 use Rattle.song_model.specs.declared.rows.Row.{Row}
 use Rattle.gts5.specs.declared.faults.SongFault.{SongFault}
 use Rattle.gts5.specs.declared.faults.SongFault.TheVariants.{BadRow}
-use Rattle.gts5.specs.Reading.{◌>>=◌, each_at, row_of, rows_of, cut_at, ends_at}
+use Rattle.gts5.specs.Faults.{◌>>=◌, row_of}
+use Rattle.gts5.specs.Reading.{each_at, rows_of, cut_at, ends_at}
 
 -- ---- so many pieces
 

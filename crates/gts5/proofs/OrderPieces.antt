@@ -9,7 +9,8 @@ use Rattle.song_model.specs.Basics.{IsByte, KeepsLimit}
 use Rattle.song_model.specs.Limits.{IsOrder, IsSubtune}
 use Rattle.gts5.specs.declared.faults.SongFault.{SongFault}
 use Rattle.gts5.specs.declared.faults.SongFault.TheVariants.{BadOrder}
-use Rattle.gts5.specs.Reading.{◌>>=◌, offset_of, bytes_at, byte_at, endmark_of, order_at, subtune_at}
+use Rattle.gts5.specs.Faults.{◌>>=◌, offset_of}
+use Rattle.gts5.specs.Reading.{bytes_at, byte_at, endmark_of, order_at, subtune_at}
 use Rattle.gts5.specs.Spells.{SpellsOrder, SpellsSubtune}
 use Rattle.gts5.proofs.Takes.{bind_ok, ok_is, Takes, TakesBytes, TakesCount, bytes_take, bytes_again, byte_takes, byte_again}
 use Rattle.gts5.proofs.Cuts.{entries_before, cut_endmark, endmark_behind}

@@ -10,7 +10,8 @@ use Rattle.song_model.specs.Basics.{IsByte}
 use Rattle.song_model.specs.PatternLimits.{IsRow, IsPattern}
 use Rattle.song_model.specs.Canonical.{row_text}
 use Rattle.gts5.specs.declared.faults.SongFault.{SongFault}
-use Rattle.gts5.specs.Reading.{◌>>=◌, offset_of, bytes_at, byte_at, row_of, rows_of, has_ranges, ends_at, cut_at, pattern_at}
+use Rattle.gts5.specs.Faults.{◌>>=◌, offset_of, row_of, has_ranges}
+use Rattle.gts5.specs.Reading.{bytes_at, byte_at, rows_of, ends_at, cut_at, pattern_at}
 use Rattle.gts5.specs.Spells.{SpellsPattern}
 use Rattle.gts5.proofs.Takes.{bind_ok, ok_is, Takes, TakesBytes, TakesCount, bytes_take, bytes_again, byte_takes, byte_again}
 

@@ -7,7 +7,8 @@ use Rattle.std.proofs.lemmas.List.Elements.{All-nil, All-cons, All-head, All-tai
 use Rattle.song_model.specs.Basics.{IsByte}
 use Rattle.gts5.specs.declared.faults.SongFault.{SongFault}
 use Rattle.gts5.specs.declared.faults.SongFault.TheVariants.{Truncated, OutOfLimit}
-use Rattle.gts5.specs.Reading.{◌>>=◌, offset_of, bytes_at, byte_at, count_at, each_at}
+use Rattle.gts5.specs.Faults.{◌>>=◌, offset_of}
+use Rattle.gts5.specs.Reading.{bytes_at, byte_at, count_at, each_at}
 use Rattle.gts5.specs.Spells.{SpellsEach}
 
 -- the value of a step that had no fault

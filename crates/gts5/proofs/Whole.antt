@@ -18,10 +18,12 @@ use Rattle.gts5.specs.declared.faults.SongFault.{SongFault}
 use Rattle.gts5.specs.declared.faults.SongFault.TheVariants.{NotGts5, Truncated, OutOfLimit, BadOrder, BadRow, NoMemory}
 use Rattle.gts5.specs.declared.tables.Tables.{Tables}
 use Rattle.gts5.specs.declared.texts.Texts.{Texts}
-use Rattle.gts5.specs.Reading.{◌>>=◌, magic_at, texts_at, each_at, count_at, subtune_at, subtunes_at, instrument_at, instruments_at, tables_at, pattern_at, patterns_at, song_of, fault_in, fault_of}
+use Rattle.gts5.specs.Faults.{◌>>=◌, after_magic, fault_in, fault_of}
+use Rattle.gts5.specs.Reading.{texts_at, each_at, count_at, subtune_at, subtunes_at, instrument_at, instruments_at, tables_at, pattern_at, patterns_at, song_of}
 use Rattle.gts5.specs.Spells.{SpellsEach, SpellsSubtune, SpellsPattern, Spells}
 use Rattle.gts5.specs.Gives.{Gives, IsAnswer}
 use Rattle.gts5.proofs.Takes.{bind_ok, ok_is, Takes, TakesCount, AreMany, count_takes, count_again, each_takes, each_again, each_text, text_each}
+use Rattle.gts5.proofs.SameFaults.{same_fault}
 use Rattle.gts5.proofs.OrderPieces.{subtune_takes, subtune_again}
 use Rattle.gts5.proofs.FieldPieces.{texts_take, texts_again, AreTexts, IsInstrumentText, instrument_takes, instrument_again, tables_take, tables_again, AreTables}
 use Rattle.gts5.proofs.PatternPieces.{pattern_takes, pattern_again}
@@ -32,15 +34,15 @@ magic_ok : (b : Bool) (x y : List ℕ) (fault : SongFault) → cond b (Ok x) (Er
 magic_ok true x y fault e = (refl, ok_is x y e)
 magic_ok false x y fault e = absurd cc
 
-magic_takes : (bytes rest : List ℕ) → All IsByte bytes → magic_at bytes ≡ Ok rest → (bytes ≡ codes "GTS5" ++ rest) × All IsByte rest
-unfolding magic_at
+magic_takes : (bytes rest : List ℕ) → All IsByte bytes → after_magic bytes ≡ Ok rest → (bytes ≡ codes "GTS5" ++ rest) × All IsByte rest
+unfolding after_magic
 magic_takes bytes rest are e =
     let g = magic_ok (bytes_eq (take 4 bytes) (codes "GTS5")) (drop 4 bytes) rest NotGts5 e in
     let front : take 4 bytes ≡ codes "GTS5" = (bytes_eq-Decides (take 4 bytes) (codes "GTS5")).0 g.0 in
     (sym (take-append-drop 4 bytes) ∙ ap (λ (t : List ℕ). t ++ drop 4 bytes) front ∙ ap (λ (t : List ℕ). codes "GTS5" ++ t) g.1, subst (All IsByte) g.1 (All-drop IsByte 4 bytes are))
 
-magic_again : (rest : List ℕ) → magic_at (codes "GTS5" ++ rest) ≡ Ok rest
-unfolding magic_at
+magic_again : (rest : List ℕ) → after_magic (codes "GTS5" ++ rest) ≡ Ok rest
+unfolding after_magic
 magic_again rest = refl
 
 -- ---- counted pieces
@@ -139,7 +141,7 @@ pub song_takes : (bytes : List ℕ) (song : Song) → All IsByte bytes → song_
 unfolding song_of
 song_takes bytes song are e =
     let total = length bytes in
-    let a = bind_ok (magic_at bytes) _ song e in
+    let a = bind_ok (after_magic bytes) _ song e in
     let b = bind_ok (texts_at total a.0) _ song a.2 in
     let c = bind_ok (subtunes_at total b.0.1) _ song b.2 in
     let d = bind_ok (instruments_at total c.0.1) _ song c.2 in
@@ -191,7 +193,7 @@ song_again bytes song spelled =
     let r3 = instruments_text song.instruments ++ r4 in
     let r2 = length song.subtunes ∷ (spelled.subtunes ++ r3) in
     let r1 = texts_text song ++ r2 in
-    let magic : magic_at bytes ≡ Ok r1 = ap magic_at spelled.parts ∙ magic_again r1 in
+    let magic : after_magic bytes ≡ Ok r1 = ap after_magic spelled.parts ∙ magic_again r1 in
     let first : texts_at total r1 ≡ Ok (texts, r2) = ap (texts_at total) (simp append_assoc) ∙ texts_again total texts r2 (record { name = within.name; author = within.author; copyright = within.copyright }) in
     let second : subtunes_at total r2 ≡ Ok (song.subtunes, r3) = subtunes_again total song.subtunes spelled.subtunes r3 within.subtunes spelled.spells_subtunes in
     let third : instruments_at total r3 ≡ Ok (song.instruments, r4) = instruments_again total song.instruments r4 within.instruments in
@@ -225,12 +227,11 @@ is_answer bytes (Err fault) wanted given e =
     ]
 
 pub is_fault : (bytes : List ℕ) (r : Result Song SongFault) → GivesSong r bytes → IfErr r (λ fault. (fault ≡ NoMemory) ⊎ (fault_of bytes ≡ Some fault))
-unfolding fault_of
 is_fault bytes (Ok song) given = tt
 is_fault bytes (Err fault) given =
     elim (memory_or_not fault) [
       | inl memory ↦ inl memory
-      | inr other ↦ inr (ap fault_in (given other))
+      | inr other ↦ inr (same_fault bytes ∙ ap fault_in (given other))
     ]
 
 fault_is : (r : Result Song SongFault) (fault : SongFault) → fault_in r ≡ Some fault → r ≡ Err fault
@@ -238,5 +239,4 @@ fault_is (Ok song) fault e = absurd cc
 fault_is (Err other) fault e = cc
 
 pub faults : (bytes : List ℕ) (fault : SongFault) → fault_of bytes ≡ Some fault → song_of bytes ≡ Err fault
-unfolding fault_of
-faults bytes fault e = fault_is (song_of bytes) fault e
+faults bytes fault e = fault_is (song_of bytes) fault (sym (same_fault bytes) ∙ e)

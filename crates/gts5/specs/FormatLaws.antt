@@ -5,7 +5,7 @@ use Rattle.song_model.specs.Basics.{IsByte}
 use Rattle.song_model.specs.Limits.{KeepsLimits}
 use Rattle.song_model.specs.Canonical.{canonical}
 use Rattle.gts5.specs.Spells.{Spells}
-use Rattle.gts5.specs.Reading.{fault_of}
+use Rattle.gts5.specs.Faults.{fault_of}
 
 -- the bytes spell this song and no other
 pub record SpellsOnly (bytes : List ℕ) (song : Song) : Type 0 where

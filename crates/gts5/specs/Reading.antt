@@ -1,7 +1,6 @@
--- Reading a song of the format GTS5, as the GoatTracker 2 readme has it, piece by piece from left to right:
--- each piece gives its part of the song and the bytes after it, or the fault that stops the reading.
-use Rattle.std.specs.Prelude.{◌≡◌, ℕ, zero, suc, ◌+◌, ◌-◌, ◌*◌, Bool, true, false, ◌&&◌, not, nat_lt, nat_le, ◌==◌, if◌then◌else◌, List, [], ◌∷◌, length, take, drop, slice_index, codes, Option, Some, None, Result, Ok, Err}
-use Rattle.std.specs.Str.{bytes_eq}
+-- How the reader goes through a text, piece by piece from left to right: each piece gives its part of the song and
+-- the bytes after it, or the fault that stops the reading. That this is what `Spells` and `fault_of` say is proved.
+use Rattle.std.specs.Prelude.{ℕ, zero, suc, ◌+◌, ◌*◌, Bool, true, false, nat_lt, ◌==◌, if◌then◌else◌, List, [], ◌∷◌, length, take, drop, slice_index, Result, Ok, Err}
 use Rattle.song_model.specs.declared.rows.Row.{Row}
 use Rattle.song_model.specs.declared.orders.Order.{Order}
 use Rattle.song_model.specs.declared.orders.Subtune.{Subtune}
@@ -9,21 +8,12 @@ use Rattle.song_model.specs.declared.instruments.Instrument.{Instrument}
 use Rattle.song_model.specs.declared.tables.TableRow.{TableRow}
 use Rattle.song_model.specs.declared.songs.Song.{Song}
 use Rattle.gts5.specs.declared.faults.SongFault.{SongFault}
-use Rattle.gts5.specs.declared.faults.SongFault.TheVariants.{NotGts5, Truncated, OutOfLimit, BadOrder, BadRow}
+use Rattle.gts5.specs.declared.faults.SongFault.TheVariants.{Truncated, OutOfLimit, BadOrder, BadRow}
+use Rattle.gts5.specs.Faults.{◌>>=◌, offset_of, after_magic, row_of, has_ranges}
 use Rattle.gts5.specs.declared.tables.Tables.{Tables}
 use Rattle.gts5.specs.declared.texts.Texts.{Texts}
 
--- the next piece is read where this one has no fault
-infixl 10 ◌>>=◌
-abbrev pub ◌>>=◌ : {A B : Type 0} → Result A SongFault → (A → Result B SongFault) → Result B SongFault
-(Ok x) >>= f = f x
-(Err fault) >>= f = Err fault
-
 -- ---- bytes: of a file of `total` bytes these are left
-
--- where they begin
-abbrev pub offset_of : ℕ → List ℕ → ℕ
-offset_of total bytes = total - length bytes
 
 -- so many bytes; where one of them is missing the file is truncated, at its length
 unfoldable pub bytes_at : ℕ → ℕ → List ℕ → Result (List ℕ × List ℕ) SongFault
@@ -48,10 +38,7 @@ each_at piece_at (suc n) bytes = do
   others ← each_at piece_at n first.1
   Ok (first.0 ∷ others.0, others.1)
 
--- ---- the magic and the texts
-
-unfoldable pub magic_at : List ℕ → Result (List ℕ) SongFault
-magic_at bytes = if bytes_eq (take 4 bytes) (codes "GTS5") then Ok (drop 4 bytes) else Err NotGts5
+-- ---- the texts
 
 -- 32 bytes each
 unfoldable pub texts_at : ℕ → List ℕ → Result (Texts × List ℕ) SongFault
@@ -141,18 +128,10 @@ tables_at total bytes = do
 
 -- ---- patterns
 
--- the row at the front: four bytes
-abbrev pub row_of : List ℕ → Row
-row_of bytes = record { note = slice_index bytes 0; instrument = slice_index bytes 1; command = slice_index bytes 2; param = slice_index bytes 3 }
-
 -- so many rows
 abbrev pub rows_of : ℕ → List ℕ → List Row
 rows_of zero bytes = []
 rows_of (suc m) bytes = row_of bytes ∷ rows_of m (drop 4 bytes)
-
--- note, instrument and command are in their ranges
-abbrev pub has_ranges : Row → Bool
-has_ranges row = nat_le 0x60 row.note && nat_le row.note 0xBF && nat_le row.instrument 0x3F && nat_le row.command 0x0F
 
 -- row i of a pattern whose count stands at the place `at`: is it the end?
 unfoldable pub ends_at : ℕ → ℕ → Row → Result Bool SongFault
@@ -187,7 +166,7 @@ patterns_at total bytes = do
 -- the bytes after the last pattern are ignored
 unfoldable pub song_of : List ℕ → Result Song SongFault
 song_of bytes = do
-  rest ← magic_at bytes
+  rest ← after_magic bytes
   texts ← texts_at (length bytes) rest
   subtunes ← subtunes_at (length bytes) texts.1
   instruments ← instruments_at (length bytes) subtunes.1
@@ -205,11 +184,3 @@ song_of bytes = do
     speed = tables.0.speed;
     patterns = patterns.0;
   })
-
-abbrev pub fault_in : {A : Type 0} → Result A SongFault → Option SongFault
-fault_in (Ok x) = None
-fault_in (Err fault) = Some fault
-
--- the first fault of a text, or none where it spells a song
-unfoldable pub fault_of : List ℕ → Option SongFault
-fault_of bytes = fault_in (song_of bytes)

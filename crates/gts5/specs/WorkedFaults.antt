@@ -3,7 +3,7 @@ use Rattle.std.specs.Prelude.{◌≡◌, ℕ, List, [], take, slice_set, Some}
 use Rattle.song_model.specs.Silence.{silence_bytes}
 use Rattle.gts5.specs.declared.faults.SongFault.{SongFault}
 use Rattle.gts5.specs.declared.faults.SongFault.TheVariants.{NotGts5, Truncated, OutOfLimit, BadOrder, BadRow}
-use Rattle.gts5.specs.Reading.{fault_of}
+use Rattle.gts5.specs.Faults.{fault_of}
 
 -- these bytes have this fault
 abbrev pub HasFault : List ℕ → SongFault → Type 0

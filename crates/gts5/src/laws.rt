@@ -17,7 +17,7 @@ pub fn what_is_written_is_read()
 {}
 
 /// The faults of the silent song, cut or with one byte changed.
-#[tactic(auto, unfolding(crate::specs::Reading::fault_of, crate::specs::Reading::song_of, crate::specs::Reading::magic_at, crate::specs::Reading::texts_at, crate::specs::Reading::subtunes_at, crate::specs::Reading::subtune_at, crate::specs::Reading::order_at, crate::specs::Reading::instruments_at, crate::specs::Reading::tables_at, crate::specs::Reading::table_at, crate::specs::Reading::patterns_at, crate::specs::Reading::pattern_at, crate::specs::Reading::ends_at, crate::specs::Reading::bytes_at, crate::specs::Reading::byte_at, crate::specs::Reading::count_at))]
+#[tactic(auto, unfolding(crate::specs::Faults::fault_of, crate::specs::Faults::after_song, crate::specs::Faults::after_magic, crate::specs::Faults::after_bytes, crate::specs::Faults::after_counted, crate::specs::Faults::after_order, crate::specs::Faults::after_table, crate::specs::Faults::after_pattern))]
 pub fn worked_faults()
     ensures cuts { CutsAreTruncated }
     ensures counts { CountsAreLimited }

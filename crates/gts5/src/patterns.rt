@@ -1,7 +1,8 @@
 //! Patterns.
 
 ghost use Rattle.std.specs.Prelude.{◌≡◌, ◌<◌, ◌≤◌, ◌*◌, length, drop, IfSome, IfNone};
-ghost use Rattle.gts5.specs.Reading.{ends_at, cut_at, row_of, rows_of, pattern_at, patterns_at, each_at};
+ghost use Rattle.gts5.specs.Faults.{row_of};
+ghost use Rattle.gts5.specs.Reading.{ends_at, cut_at, rows_of, pattern_at, patterns_at, each_at};
 ghost use Rattle.gts5.specs.Gives.{Gives};
 
 use crate::SongFault;

@@ -1,7 +1,8 @@
 //! Counts and runs of bytes, taken from the front of what is left of a file.
 
 ghost use Rattle.std.specs.Prelude.{◌≡◌, ◌≤◌, length, IfOk};
-ghost use Rattle.gts5.specs.Reading.{offset_of, bytes_at, byte_at, count_at, magic_at};
+ghost use Rattle.gts5.specs.Faults.{offset_of, after_magic};
+ghost use Rattle.gts5.specs.Reading.{bytes_at, byte_at, count_at};
 ghost use Rattle.gts5.specs.Gives.{Gives};
 
 use crate::SongFault;
@@ -91,9 +92,9 @@ impl Reader {
 }
 
 /// What follows the magic.
-#[tactic(auto, unfolding(crate::specs::Reading::magic_at))]
-pub fn after_magic(file: &[u8]) -> Result<&[u8], SongFault>
-    ensures { Gives (λ rest. rest.now) result (magic_at file.now) }
+#[tactic(auto, unfolding(crate::specs::Faults::after_magic))]
+pub fn skip_magic(file: &[u8]) -> Result<&[u8], SongFault>
+    ensures { Gives (λ rest. rest.now) result (after_magic file.now) }
 {
     match file {
         [b'G', b'T', b'S', b'5', rest @ ..] => Ok(rest),

@@ -3,12 +3,13 @@
 ghost use Rattle.std.specs.Prelude.{◌≡◌, ◌≤◌, ◌⊎◌, length, IfOk, IfErr};
 ghost use Rattle.song_model.specs.declared.songs.Song.{Song};
 ghost use Rattle.gts5.specs.declared.faults.SongFault.{SongFault};
-ghost use Rattle.gts5.specs.Reading.{song_of, fault_of};
+ghost use Rattle.gts5.specs.Faults.{fault_of};
+ghost use Rattle.gts5.specs.Reading.{song_of};
 ghost use Rattle.gts5.specs.Gives.{Gives, IsAnswer};
 ghost use Rattle.gts5.specs.Spells.{Spells};
 
 use crate::SongFault;
-use crate::reader::{Reader, after_magic};
+use crate::reader::{Reader, skip_magic};
 use crate::tables::Tables;
 use crate::texts::Texts;
 use song_model::Song;
@@ -37,7 +38,7 @@ fn read_pieces(alloc: Global, bytes: &[u8]) -> Result<Song, SongFault>
     ensures { Gives (λ song. song) result (song_of bytes.now) }
 {
     let reader = Reader::of(bytes);
-    let left = after_magic(bytes)?;
+    let left = skip_magic(bytes)?;
     let (texts, left) = reader.texts(left)?;
     let (subtunes, left) = reader.subtunes(alloc, left)?;
     let (instruments, left) = reader.instruments(alloc, left)?;
