@@ -80,7 +80,7 @@ canonical_spells song within = record {
   ignored = [];
   parts = regroup6 (codes "GTS5") (texts_text song) (subtunes_text song.subtunes) (instruments_text song.instruments) (tables_text song) (patterns_text song.patterns)
       ∙ ap (λ (t : List ℕ). codes "GTS5" ++ (texts_text song ++ (subtunes_text song.subtunes ++ (instruments_text song.instruments ++ (tables_text song ++ (length song.patterns ∷ t))))))
-        (sym (append-nil (flat_map pattern_text song.patterns)));
+      (sym (append-nil (flat_map pattern_text song.patterns)));
   spells_subtunes = text_each subtune_text SpellsSubtune IsSubtune subtune_spells song.subtunes within.subtunes.each;
   spells_patterns = text_each pattern_text SpellsPattern IsPattern pattern_spells song.patterns within.patterns.each;
 }
@@ -131,8 +131,16 @@ texts_length song within =
 
 tables_short : (song : Song) → KeepsLimits song → length (tables_text song) ≤ 2044
 tables_short song within =
-    omega (arith, length-append (table_text song.wave ++ table_text song.pulse ++ table_text song.filter) (table_text song.speed), length-append (table_text song.wave ++ table_text song.pulse) (table_text song.filter),
-      length-append (table_text song.wave) (table_text song.pulse), table_short song.wave within.wave, table_short song.pulse within.pulse, table_short song.filter within.filter, table_short song.speed within.speed)
+    omega (
+      arith,
+      length-append (table_text song.wave ++ table_text song.pulse ++ table_text song.filter) (table_text song.speed),
+      length-append (table_text song.wave ++ table_text song.pulse) (table_text song.filter),
+      length-append (table_text song.wave) (table_text song.pulse),
+      table_short song.wave within.wave,
+      table_short song.pulse within.pulse,
+      table_short song.filter within.filter,
+      table_short song.speed within.speed,
+    )
 
 pub canonical_is_short : CanonicalIsShort
 unfolding canonical

@@ -73,18 +73,21 @@ instrument_takes total bytes x are e =
     let name = bytes_take total 16 a.0.1 b.0 fields.left b.1 in
     let f = a.0.0 in
     let size = fields.size in
-    let made : Instrument × List ℕ = (record {
-      ad = get_or f 0 0;
-      sr = get_or f 1 0;
-      wave = get_or f 2 0;
-      pulse = get_or f 3 0;
-      filter = get_or f 4 0;
-      vibrato = get_or f 5 0;
-      vibrato_delay = get_or f 6 0;
-      gate_timer = get_or f 7 0;
-      first_wave = get_or f 8 0;
-      name = b.0.0;
-    }, b.0.1) in
+    let made : Instrument × List ℕ = (
+      record {
+        ad = get_or f 0 0;
+        sr = get_or f 1 0;
+        wave = get_or f 2 0;
+        pulse = get_or f 3 0;
+        filter = get_or f 4 0;
+        vibrato = get_or f 5 0;
+        vibrato_delay = get_or f 6 0;
+        gate_timer = get_or f 7 0;
+        first_wave = get_or f 8 0;
+        name = b.0.0;
+      },
+      b.0.1,
+    ) in
     subst (λ (y : Instrument × List ℕ). Takes IsInstrumentText IsInstrument bytes y.0 y.1) (ok_is made x b.2) (record {
       piece = f ++ b.0.0;
       spelled = ap (λ (t : List ℕ). t ++ b.0.0) (nine f size);

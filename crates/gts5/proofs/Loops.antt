@@ -57,7 +57,7 @@ pub row_goes_on : (at : ℕ) (front : List Row) (count i : ℕ) (left : List ℕ
     → with_rows front (cut_at at i (rows_of (count - i) left)) ≡ total → with_rows (front ++ row ∷ []) (cut_at at (i + 1) (rows_of (count - (i + 1)) after)) ≡ total
 row_goes_on at front count i left row after total lt is_row is_after h so_far =
     let next : with_rows front (cut_at at i (row ∷ rows_of (count - (i + 1)) after)) ≡ with_rows (front ++ row ∷ []) (cut_at at (i + 1) (rows_of (count - (i + 1)) after)) =
-        rw h (regroup_rows front row (cut_at at (i + 1) (rows_of (count - (i + 1)) after))) in
+    rw h (regroup_rows front row (cut_at at (i + 1) (rows_of (count - (i + 1)) after))) in
     sym (ap (λ rows. with_rows front (cut_at at i rows)) (one_row count i left row after lt is_row is_after) ∙ next) ∙ so_far
 
 pub row_ends : (at : ℕ) (front : List Row) (count i : ℕ) (left : List ℕ) (row : Row) (total : Result (List Row) SongFault) → i < count → row ≡ row_of left → ends_at at i row ≡ Ok true

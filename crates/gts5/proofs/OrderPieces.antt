@@ -35,7 +35,7 @@ cut_is_spelled n piece size mark are =
       entries = entries_before piece are;
       parts = ap (λ (k : ℕ). k ∷ piece) counted
           ∙ ap (λ (t : List ℕ). (length (take place piece) + 1 + length (drop (place + 1 + 1) piece)) ∷ t)
-            (cut_endmark piece (omega arith) ∙ ap (λ (t : List ℕ). take place piece ++ 255 ∷ t) more);
+          (cut_endmark piece (omega arith) ∙ ap (λ (t : List ℕ). take place piece ++ 255 ∷ t) more);
     }
 
 cut_is_within : (n : ℕ) (piece : List ℕ) → length piece ≡ n + 1 → n < 256 → endmark_of piece < n → All IsByte piece → IsOrder (cut_order piece)

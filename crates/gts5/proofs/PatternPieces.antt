@@ -51,7 +51,7 @@ row_is : (row : Row) → IsRow row → has_ranges row ≡ true
 row_is row is =
     and_from (leb 96 row.note && leb row.note 191 && leb row.instrument 63) (leb row.command 15)
     (and_from (leb 96 row.note && leb row.note 191) (leb row.instrument 63)
-      (and_from (leb 96 row.note) (leb row.note 191) (le-leb _ _ is.note_from) (le-leb _ _ is.note_to)) (le-leb _ _ is.instrument))
+    (and_from (leb 96 row.note) (leb row.note 191) (le-leb _ _ is.note_from) (le-leb _ _ is.note_to)) (le-leb _ _ is.instrument))
     (le-leb _ _ is.command)
 
 ends_true : (at i : ℕ) (row : Row) → ends_at at i row ≡ Ok true → (row.note ≡ 255) × (1 ≤ i)

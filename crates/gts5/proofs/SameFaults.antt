@@ -48,10 +48,10 @@ two_runs total m n bytes =
     elim (cases_lt (length bytes) m) [
       | inl short ↦ rw (lt-ltb (length bytes) m short, lt-ltb (length bytes) (m + n) (omega arith)) refl
       | inr long ↦
-        elim (cases_lt (length bytes) (m + n)) [
-          | inl short ↦ rw (le-ltb (length bytes) m long, lt-ltb (length bytes) (m + n) short, lt-ltb (length (drop m bytes)) n (omega (arith, length-drop m bytes))) refl
-          | inr all ↦ rw (le-ltb (length bytes) m long, le-ltb (length bytes) (m + n) all, le-ltb (length (drop m bytes)) n (omega (arith, length-drop m bytes)), drop-drop n m bytes) refl
-        ]
+          elim (cases_lt (length bytes) (m + n)) [
+            | inl short ↦ rw (le-ltb (length bytes) m long, lt-ltb (length bytes) (m + n) short, lt-ltb (length (drop m bytes)) n (omega (arith, length-drop m bytes))) refl
+            | inr all ↦ rw (le-ltb (length bytes) m long, le-ltb (length bytes) (m + n) all, le-ltb (length (drop m bytes)) n (omega (arith, length-drop m bytes)), drop-drop n m bytes) refl
+          ]
     ]
 
 no_bytes : (total : ℕ) (bytes : List ℕ) → after_bytes total 0 bytes ≡ Ok bytes
@@ -85,8 +85,8 @@ unfolding texts_at
 texts_follow total bytes =
     bind_follows (bytes_at total 32 bytes) _ (λ rest. after_bytes total 64 rest) (after_bytes total 32 bytes) (bytes_follow total 32 bytes)
     (λ name. bind_follows (bytes_at total 32 name.1) _ (λ rest. after_bytes total 32 rest) (after_bytes total 32 name.1) (bytes_follow total 32 name.1)
-      (λ author. last_follows (bytes_at total 32 author.1) (λ copyright. record { name = name.0; author = author.0; copyright = copyright }) (after_bytes total 32 author.1) (bytes_follow total 32 author.1))
-      ∙ two_runs total 32 32 name.1)
+    (λ author. last_follows (bytes_at total 32 author.1) (λ copyright. record { name = name.0; author = author.0; copyright = copyright }) (after_bytes total 32 author.1) (bytes_follow total 32 author.1))
+    ∙ two_runs total 32 32 name.1)
     ∙ two_runs total 32 64 bytes
 
 instrument_follows : (total : ℕ) (bytes : List ℕ) → follows (instrument_at total bytes) ≡ after_bytes total 25 bytes
@@ -194,7 +194,7 @@ rows_follow at i zero piece behind = refl
 rows_follow at i (suc m) piece behind =
     row_test (eqb (row_of piece).note 255) (eqb i 0) (eqb i 128) (has_ranges (row_of piece)) (BadRow (at + 1)) (OutOfLimit at) (BadRow (at + 1 + 4 * i)) (cut_at at (i + 1) (rows_of m (drop 4 piece))) (row_of piece) behind
     ∙ ap (λ (next : Result (List ℕ) SongFault). cond (eqb (row_of piece).note 255) (cond (eqb i 0) (Err (BadRow (at + 1))) (Ok behind)) (cond (eqb i 128) (Err (OutOfLimit at)) (cond (has_ranges (row_of piece)) next (Err (BadRow (at + 1 + 4 * i))))))
-      (rows_follow at (i + 1) m (drop 4 piece) behind)
+    (rows_follow at (i + 1) m (drop 4 piece) behind)
 
 rows_kept : (r : Result (List Row) SongFault) (rest : List ℕ) → follows (r >>= λ rows. Ok (rows, rest)) ≡ keep r rest
 rows_kept (Ok rows) rest = refl

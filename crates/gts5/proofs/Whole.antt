@@ -104,7 +104,7 @@ unfolding instruments_at
 instruments_again total items rest within =
     rw (count_again total 63 (length items) (flat_map instrument_text items ++ rest) within.count)
     (each_again (instrument_at total) IsInstrumentText IsInstrument (instrument_piece total) items (flat_map instrument_text items) rest within.each
-      (text_each instrument_text IsInstrumentText IsInstrument (λ x is. refl) items within.each))
+    (text_each instrument_text IsInstrumentText IsInstrument (λ x is. refl) items within.each))
 
 patterns_again : (total : ℕ) (items : List (List Row)) (text rest : List ℕ) → KeepsLimit 208 IsPattern items → SpellsEach SpellsPattern items text → patterns_at total (length items ∷ (text ++ rest)) ≡ Ok (items, rest)
 unfolding patterns_at
@@ -176,7 +176,7 @@ song_takes bytes song are e =
       patterns = patterns.text;
       ignored = g.0.1;
       parts = magic.0 ∙ ap (λ (p : List ℕ). codes "GTS5" ++ p) (texts_are ∙ ap (λ (p : List ℕ). texts_text made ++ p) (subtunes.parts ∙ ap (λ (p : List ℕ). length c.0.0 ∷ (subtunes.text ++ p))
-        (instruments_are ∙ ap (λ (p : List ℕ). instruments_text made.instruments ++ p) (tables_are ∙ ap (λ (p : List ℕ). tables_text made ++ p) patterns.parts))));
+          (instruments_are ∙ ap (λ (p : List ℕ). instruments_text made.instruments ++ p) (tables_are ∙ ap (λ (p : List ℕ). tables_text made ++ p) patterns.parts))));
       spells_subtunes = subtunes.spelled;
       spells_patterns = patterns.spelled;
     })

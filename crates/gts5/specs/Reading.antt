@@ -62,8 +62,8 @@ order_at total bytes = do
   n ← byte_at total bytes
   piece ← bytes_at total (n.0 + 1) n.1
   if nat_lt (endmark_of piece.0) n.0
-    then Ok (record { entries = take (endmark_of piece.0) piece.0; restart = slice_index piece.0 (endmark_of piece.0 + 1) }, piece.1)
-    else Err (BadOrder (offset_of total bytes))
+      then Ok (record { entries = take (endmark_of piece.0) piece.0; restart = slice_index piece.0 (endmark_of piece.0 + 1) }, piece.1)
+      else Err (BadOrder (offset_of total bytes))
 
 unfoldable pub subtune_at : ℕ → List ℕ → Result (Subtune × List ℕ) SongFault
 subtune_at total bytes = do
@@ -84,18 +84,21 @@ unfoldable pub instrument_at : ℕ → List ℕ → Result (Instrument × List �
 instrument_at total bytes = do
   fields ← bytes_at total 9 bytes
   name ← bytes_at total 16 fields.1
-  Ok (record {
-    ad = slice_index fields.0 0;
-    sr = slice_index fields.0 1;
-    wave = slice_index fields.0 2;
-    pulse = slice_index fields.0 3;
-    filter = slice_index fields.0 4;
-    vibrato = slice_index fields.0 5;
-    vibrato_delay = slice_index fields.0 6;
-    gate_timer = slice_index fields.0 7;
-    first_wave = slice_index fields.0 8;
-    name = name.0;
-  }, name.1)
+  Ok (
+    record {
+      ad = slice_index fields.0 0;
+      sr = slice_index fields.0 1;
+      wave = slice_index fields.0 2;
+      pulse = slice_index fields.0 3;
+      filter = slice_index fields.0 4;
+      vibrato = slice_index fields.0 5;
+      vibrato_delay = slice_index fields.0 6;
+      gate_timer = slice_index fields.0 7;
+      first_wave = slice_index fields.0 8;
+      name = name.0;
+    },
+    name.1,
+  )
 
 unfoldable pub instruments_at : ℕ → List ℕ → Result (List Instrument × List ℕ) SongFault
 instruments_at total bytes = do

@@ -1,7 +1,7 @@
 //! Facts about the format, each the contract of a function that does nothing.
 
 ghost use Rattle.gts5.specs.FormatLaws.{OneSongOrOneFault, CanonicalIsSpelled, CanonicalHasNoFault, CanonicalIsShort};
-ghost use Rattle.gts5.specs.WorkedFaults.{CutsAreTruncated, CountsAreLimited, OrdersHaveEndmarks, RowsAreJudged};
+ghost use Rattle.gts5.specs.WorkedFaults.{MagicIsWanted, CutsAreTruncated, CountsAreLimited, OrdersHaveEndmarks, RowsAreInRange, PatternsEnd, LooseTextsHaveNoFault};
 
 /// Each list of bytes spells exactly one song, or has exactly one fault and spells none.
 pub fn one_song_or_one_fault()
@@ -16,11 +16,14 @@ pub fn what_is_written_is_read()
     ensures short { CanonicalIsShort }
 {}
 
-/// The faults of the silent song, cut or with one byte changed.
+/// The faults of the silent song, cut or with some bytes changed.
 #[tactic(auto, unfolding(crate::specs::Faults::fault_of, crate::specs::Faults::after_song, crate::specs::Faults::after_magic, crate::specs::Faults::after_bytes, crate::specs::Faults::after_counted, crate::specs::Faults::after_order, crate::specs::Faults::after_table, crate::specs::Faults::after_pattern))]
 pub fn worked_faults()
+    ensures magic { MagicIsWanted }
     ensures cuts { CutsAreTruncated }
     ensures counts { CountsAreLimited }
     ensures orders { OrdersHaveEndmarks }
-    ensures rows { RowsAreJudged }
+    ensures rows { RowsAreInRange }
+    ensures ends { PatternsEnd }
+    ensures loose { LooseTextsHaveNoFault }
 {}

@@ -21,6 +21,9 @@ mod texts;
 mod writing;
 
 pub use faults::SongFault;
+pub use song_model::NoMemory;
 pub use songs::read;
 pub use writing::write;
-pub use song_model::NoMemory;
+
+#[cfg(test)]
+mod tests;

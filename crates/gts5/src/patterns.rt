@@ -57,12 +57,7 @@ impl Reader {
 }
 
 /// The rows before the end row of a pattern whose count stands at offset `at`.
-fn rows_before_end(
-    alloc: Global,
-    at: u32,
-    count: u8,
-    piece: &[u8],
-) -> Result<Vec<Row>, SongFault>
+fn rows_before_end(alloc: Global, at: u32, count: u8, piece: &[u8]) -> Result<Vec<Row>, SongFault>
     requires place { at ≤ 262144 }
     requires size { length piece.now ≡ 4 * count }
     ensures { Gives (λ rows. rows.items) result (cut_at at 0 (rows_of count piece.now)) }

@@ -21,9 +21,7 @@ impl Reader {
         requires { length file.now ≤ 262144 }
         ensures { result.length ≡ length file.now }
     {
-        Reader {
-            length: file.len(),
-        }
+        Reader { length: file.len() }
     }
 
     /// Where these bytes begin in the file.

@@ -33,11 +33,7 @@ impl Reader {
 
     /// The four tables.
     #[tactic(auto, unfolding(crate::specs::Reading::tables_at))]
-    pub fn tables<'a>(
-        self,
-        alloc: Global,
-        left: &'a [u8],
-    ) -> Result<(Tables, &'a [u8]), SongFault>
+    pub fn tables<'a>(self, alloc: Global, left: &'a [u8]) -> Result<(Tables, &'a [u8]), SongFault>
         ensures { Gives (λ x. (x.0, x.1.now)) result (tables_at self.length left.now) }
     {
         let (wave, left) = self.table(alloc, left)?;
