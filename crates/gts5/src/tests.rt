@@ -52,15 +52,17 @@ fn fault_of_change(alloc: Global, at: usize, byte: u8) -> Result<Option<SongFaul
     Ok(fault(alloc, &bytes))
 }
 
-fn fault_of_pattern(alloc: Global, rows: u8, end: &[u8]) -> Result<Option<SongFault>, AllocError> {
+fn fault_of_pattern(
+    alloc: Global,
+    count: u8,
+    rests: usize,
+) -> Result<Option<SongFault>, AllocError> {
     let mut bytes = file(alloc, &SILENCE[..19])?;
-    bytes.push(rows)?;
-    for _ in 0..rows {
+    bytes.push(count)?;
+    for _ in 0..rests {
         bytes.extend_from_slice(&[0xbd, 0, 0, 0])?;
     }
-    let length = bytes.len() - 4;
-    bytes.truncate(length);
-    bytes.extend_from_slice(end)?;
+    bytes.extend_from_slice(&[0xff, 0, 0, 0])?;
     Ok(fault(alloc, &bytes))
 }
 
@@ -106,17 +108,15 @@ fn changed_bytes_are_faults(rt: HostRuntime) -> Result<(), Fail> {
 #[test]
 fn patterns_have_1_to_128_rows(rt: HostRuntime) -> Result<(), Fail> {
     let alloc = rt.alloc();
-    let end = [0xff, 0, 0, 0];
-    let rest = [0xbd, 0, 0, 0];
-    assert_eq!(rt; fault_of_pattern(alloc, 129, &end)?, None);
-    assert_eq!(rt;
-        fault_of_pattern(alloc, 128, &rest)?,
-        Some(SongFault::BadRow { offset: 119 })
-    );
-    assert_eq!(rt;
-        fault_of_pattern(alloc, 130, &end)?,
-        Some(SongFault::OutOfLimit { offset: 119 })
-    );
+    let cases = [
+        (129, 128, None),
+        (128, 128, Some(SongFault::BadRow { offset: 119 })),
+        (130, 129, Some(SongFault::OutOfLimit { offset: 119 })),
+        (0, 0, Some(SongFault::BadRow { offset: 119 })),
+    ];
+    for (count, rests, fault) in cases {
+        assert_eq!(rt; fault_of_pattern(alloc, count, rests)?, fault);
+    }
     Ok(())
 }
 
