@@ -31,7 +31,7 @@ vibrato_wraps_lem = refl
 
 pub slide_stops_lem : SlideStops
 unfolding prefix_of cycle_of played instrument_at table_row pattern_at freq half_tone slide next_row porta_up porta_down tone vibrato do_command filter_step between_rows note_started row_command at_row tick_step wave_command wave_step effect_step pulse_step fetch_row voice_step voice_registers filter_registers frame state_after trace
-slide_stops_lem = refl
+slide_stops_lem = record { slides = refl; tied = refl }
 
 pub funk_tempo_wraps_lem : FunkTempoWraps
 unfolding prefix_of cycle_of played instrument_at table_row pattern_at freq half_tone slide next_row porta_up porta_down tone vibrato do_command filter_step between_rows note_started row_command at_row tick_step wave_command wave_step effect_step pulse_step fetch_row voice_step voice_registers filter_registers frame state_after trace

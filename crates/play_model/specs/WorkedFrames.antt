@@ -3,7 +3,7 @@ use Rattle.std.specs.Prelude.{◌≡◌, ℕ, zero, suc, ◌+◌, ◌*◌, List,
 use Rattle.song_model.specs.declared.songs.Song.{Song}
 use Rattle.play_model.specs.Frame.{trace, state_after}
 use Rattle.play_model.specs.SilentTrace.{silent_registers}
-use Rattle.play_model.specs.WorkedSongs.{one_note, low_note, wrapping_note, sliding_note, funk_song, long_note, with_gate_timer, waiting_wave, other_vibrato, small_song}
+use Rattle.play_model.specs.WorkedSongs.{one_note, low_note, wrapping_note, sliding_note, tied_note, funk_song, long_note, with_gate_timer, waiting_wave, other_vibrato, small_song}
 
 -- the seven registers of voice 1 after a call
 abbrev pub first_voice_at : Song → ℕ → List ℕ
@@ -36,9 +36,10 @@ pub record LowNoteIsMute : Type 0 where
 abbrev pub VibratoWraps : Type 0
 VibratoWraps = from_call (frequency_at wrapping_note) 8 6 ≡ 0xFFFF ∷ 0 ∷ 0xFFFF ∷ 0xFFFE ∷ 0xFFFF ∷ 0 ∷ []
 
--- the slide stops at its target, and the tie note keeps it
-abbrev pub SlideStops : Type 0
-SlideStops = from_call (frequency_at sliding_note) 8 12 ≡ replicate 5 0x1168 ++ replicate 7 0x1389
+-- the slide stops at its target, which a tie note keeps; behind another note a tie note has its frequency at once
+pub record SlideStops : Type 0 where
+  pub slides : from_call (frequency_at sliding_note) 8 12 ≡ replicate 5 0x1168 ++ replicate 7 0x1389
+  pub tied : from_call (frequency_at tied_note) 8 7 ≡ replicate 5 0x1168 ++ replicate 2 0x1389
 
 -- a funk value of 0 frames wraps, and the row behind it is never fetched
 pub record FunkTempoWraps : Type 0 where

@@ -87,6 +87,10 @@ sliding_note = record (with_rows (row 0x90 1 0 0 ∷ row 0x92 0 3 1 ∷ row 0x92
   speed = sides 0x10 0 ∷ [];
 }
 
+-- a note two half tones up that is tied at once
+abbrev pub tied_note : Song
+tied_note = with_rows (row 0x90 1 0 0 ∷ row 0x92 0 3 0 ∷ []) one_note
+
 -- funk values of 1 less than 0 and 1 frames
 abbrev pub funk_song : Song
 funk_song = record (with_rows (row 0xBD 0 0xE 1 ∷ row 0x90 1 0 0 ∷ []) one_note) {

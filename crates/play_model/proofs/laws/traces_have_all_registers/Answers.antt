@@ -1,5 +1,4 @@
-use Rattle.std.proofs.Common.{◌≡◌, ℕ, zero, suc, length, refl}
-use Rattle.song_model.specs.declared.songs.Song.{Song}
+use Rattle.std.proofs.Common.{zero, suc, refl}
 use Rattle.play_model.specs.Frame.{voice_registers, filter_registers, frame, trace, TracesHaveAllRegisters}
 use Rattle.play_model.proofs.laws.traces_have_all_registers.Goals as goal
 
