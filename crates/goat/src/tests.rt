@@ -1,5 +1,8 @@
 //! Worked examples from outside: words, files, the status, the line and what was written.
 
+mod broken;
+mod copying;
+
 use cpu6502::{Cpu, Machine, Memory, WriteLog};
 use goat_cli::goat;
 use goat_io::{MemFolder, MemSink};
@@ -17,6 +20,14 @@ const SILENCE: [u8; 28] = [
     0,
 ];
 
+/// The bytes of a song with one note behind its three texts: orderlists `00`, `01`, `01`, one instrument with a wave
+/// and a pulse program, and two patterns.
+const ONE_NOTE: [u8; 74] = [
+    1, 2, 0, 0xff, 0, 2, 1, 0xff, 0, 2, 1, 0xff, 0, 1, 0x09, 0xa0, 1, 1, 0, 0, 0, 2, 9, 0, 0, 0, 0,
+    0, 0, 0, 0, 0, 0, 0, 0, 0, 0, 0, 0, 2, 0x41, 0xff, 0, 0, 2, 0x88, 0xff, 0, 0, 0, 0, 2, 3, 0x90,
+    1, 0, 0, 0xbe, 0, 0, 0, 0xff, 0, 0, 0, 2, 0xbd, 0, 0, 0, 0xff, 0, 0, 0,
+];
+
 /// What a run answered: its status, its lines, and the file `o`.
 #[derive(Drop)]
 struct Answer {
@@ -25,14 +36,23 @@ struct Answer {
     output: Option<Vec<u8>>,
 }
 
+/// The magic, three texts of zeros, and these bytes.
+fn song_with(alloc: Global, parts: &[u8]) -> Result<Vec<u8>, Fail> {
+    let mut bytes = Vec::new(alloc);
+    bytes.extend_from_slice(b"GTS5")?;
+    bytes.resize(100, 0)?;
+    bytes.extend_from_slice(parts)?;
+    Ok(bytes)
+}
+
 /// The silent song's 128 bytes.
 fn silence(alloc: Global) -> Result<Vec<u8>, Fail> {
-    let mut bytes = vec![in alloc; 0; 100]?;
-    for (i, letter) in b"GTS5".iter().enumerate() {
-        bytes[i] = *letter;
-    }
-    bytes.extend_from_slice(&SILENCE)?;
-    Ok(bytes)
+    song_with(alloc, &SILENCE)
+}
+
+/// The 174 bytes of the song with one note.
+fn one_note(alloc: Global) -> Result<Vec<u8>, Fail> {
+    song_with(alloc, &ONE_NOTE)
 }
 
 /// A run over a folder with this song as `s0`, whose listed calls fail, and a sink whose listed puts fail.
@@ -172,30 +192,39 @@ fn files_that_are_not_there_or_too_long(rt: HostRuntime) -> Result<(), Fail> {
     let long = vec![in alloc; 0; 262_145]?;
     assert_refused(&rt, &run(alloc, &PACK, &long)?, 3, "too long: s0\n");
     let just = vec![in alloc; 0; 262_144]?;
-    assert_refused(&rt, &run(alloc, &PACK, &just)?, 15, "not built\n");
+    assert_refused(
+        &rt,
+        &run(alloc, &PACK, &just)?,
+        5,
+        "not a song: bad magic\n",
+    );
     Ok(())
 }
 
 #[test]
-fn other_songs_are_not_built(rt: HostRuntime) -> Result<(), Fail> {
+fn songs_that_sound_are_not_packed_yet(rt: HostRuntime) -> Result<(), Fail> {
     let alloc = rt.alloc();
-    assert_refused(&rt, &run(alloc, &PACK, &[])?, 15, "not built\n");
+    assert_refused(&rt, &run(alloc, &PACK, &one_note(alloc)?)?, 15, "not built\n");
     let song = silence(alloc)?;
-    assert_refused(
-        &rt,
-        &run(alloc, &PACK, song.get(..101).ok_or("short")?)?,
-        15,
-        "not built\n",
-    );
-    let mut more = song.clone()?;
-    more.push(0)?;
-    assert_refused(&rt, &run(alloc, &PACK, &more)?, 15, "not built\n");
-    // An instrument, a pattern that isn't stored, a restart past the end, a note, a magic of another format.
-    for (offset, byte) in [(121, 1), (106, 1), (104, 1), (120, 0x60), (3, b'4')] {
+    // A pattern that isn't stored, a restart past the end, a note, no subtune.
+    for (offset, byte) in [(106, 1), (104, 1), (120, 0x60), (120, 0xbe)] {
         let mut changed = song.clone()?;
         *changed.get_mut(offset).ok_or("short")? = byte;
         assert_refused(&rt, &run(alloc, &PACK, &changed)?, 15, "not built\n");
     }
+    Ok(())
+}
+
+#[test]
+fn a_silent_song_in_another_spelling_is_packed(rt: HostRuntime) -> Result<(), Fail> {
+    let alloc = rt.alloc();
+    let canonical = run(alloc, &PACK, &silence(alloc)?)?;
+    let mut loose = silence(alloc)?;
+    *loose.get_mut(127).ok_or("short")? = 7;
+    loose.push(9)?;
+    let answer = run(alloc, &PACK, &loose)?;
+    assert_eq!(rt; answer.status, 0);
+    assert_eq!(rt; answer.output.ok_or("no file")?, canonical.output.ok_or("no file")?);
     Ok(())
 }
 

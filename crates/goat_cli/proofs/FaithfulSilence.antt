@@ -12,9 +12,7 @@ use Rattle.cpu6502.specs.Code.{IsMachine, Holds}
 use Rattle.goat_cli.specs.SilentRun.{InitIsSilent, PlayIsSilent}
 use Rattle.goat_cli.specs.Faithful.{Leaves, AgreesOn, PlaysOn, IsFaithful, raw_file}
 use Rattle.goat_cli.specs.Image.{silent_image}
-use Rattle.goat_cli.specs.Words.{Job}
-use Rattle.goat_cli.specs.Plain.{IsPlainSong}
-use Rattle.goat_cli.specs.Outcome.{PacksTo}
+use Rattle.goat_cli.specs.Outcome.{IsPackedFile}
 
 init_trace : (song : Song) (k : ℕ) → trace song k 0 ≡ replicate 25 0
 unfolding trace
@@ -67,14 +65,10 @@ module _ (image : List ℕ) (address zero_page : ℕ) (song : Song) (init : Init
   }
 
 -- a raw file of the silent player packs a silent song
-pub packs_silence : (job : Job) (bytes image file : List ℕ) (song : Song) → IsPlainSong bytes song → file ≡ raw_file job.address image → image ≡ silent_image job.address → InitIsSilent image job.address → PlayIsSilent image job.address → PacksTo job bytes file
-packs_silence job bytes image file song plain raw is init play = record {
-  song = song;
-  plain = plain;
-  packed = record {
-    image = image;
-    raw = raw;
-    small = subst (λ b. length b ≤ 64) (sym is) (lit≤ tt);
-    faithful = faithful_silence image job.address job.zero_page song init play plain.silent;
-  };
+pub packs_silence : (address : ℕ) (image file : List ℕ) (song : Song) → IsSilent song → file ≡ raw_file address image → image ≡ silent_image address → InitIsSilent image address → PlayIsSilent image address → (zero_page : ℕ) → IsPackedFile address zero_page song file
+packs_silence address image file song silent raw is init play zero_page = record {
+  image = image;
+  raw = raw;
+  small = subst (λ b. length b ≤ 64) (sym is) (lit≤ tt);
+  faithful = faithful_silence image address zero_page song init play silent;
 }

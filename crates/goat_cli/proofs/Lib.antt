@@ -1,9 +1,8 @@
 mod Forms
-mod Fronts
-mod Exits
-mod Silences
 pub mod ImageLoop
 pub mod ImageCode
 pub mod ImageRun
+mod SongLaws
+mod Told
 mod FaithfulSilence
 mod Accounts

@@ -1,8 +1,8 @@
 -- How a run ends: its status, and its line.
 use Rattle.std.specs.Prelude.{ℕ, List}
 use Rattle.goat_cli.specs.declared.ending.Ending.{Ending}
-use Rattle.goat_cli.specs.declared.ending.Ending.TheVariants.{Wrote, Usage, Missing, TooLong, ReadFault, WriteFault, NoMemory, NotBuilt}
-use Rattle.goat_cli.specs.Lines.{usage_line, missing_line, too_long_line, read_fault_line, write_fault_line, not_built_line, no_memory_line, wrote_line}
+use Rattle.goat_cli.specs.declared.ending.Ending.TheVariants.{Wrote, Usage, Missing, TooLong, ReadFault, NotASong, WriteFault, NoMemory, NotBuilt}
+use Rattle.goat_cli.specs.Lines.{usage_line, missing_line, too_long_line, read_fault_line, song_fault_line, write_fault_line, not_built_line, no_memory_line, wrote_line}
 
 abbrev pub status_of : Ending → ℕ
 status_of (Wrote count) = 0
@@ -10,6 +10,7 @@ status_of Usage = 1
 status_of (Missing name) = 2
 status_of (TooLong name) = 3
 status_of (ReadFault name) = 4
+status_of (NotASong fault) = 5
 status_of (WriteFault name) = 9
 status_of NoMemory = 14
 status_of NotBuilt = 15
@@ -20,6 +21,7 @@ line_of Usage = usage_line
 line_of (Missing name) = missing_line name.now
 line_of (TooLong name) = too_long_line name.now
 line_of (ReadFault name) = read_fault_line name.now
+line_of (NotASong fault) = song_fault_line fault
 line_of (WriteFault name) = write_fault_line name.now
 line_of NoMemory = no_memory_line
 line_of NotBuilt = not_built_line

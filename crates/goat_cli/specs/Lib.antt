@@ -1,9 +1,7 @@
 pub mod Place
 pub mod Words
-pub mod PackJob
-pub mod Plain
-pub mod Pieces
-pub mod PlainFault
+pub mod Job
+pub mod SilentParts
 pub mod Image
 pub mod Confined
 pub mod SilentRun
@@ -11,5 +9,6 @@ pub mod Faithful
 pub mod Lines
 pub mod Ending
 pub mod Outcome
+pub mod Refusal
 pub mod Rows
 pub mod Endings

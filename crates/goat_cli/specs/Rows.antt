@@ -1,10 +1,11 @@
 -- When each status comes.
 use Rattle.std.specs.Prelude.{◌≡◌, ◌≢◌, ℕ, List, [], ◌∷◌, ◌⊎◌, Option, Some}
+use Rattle.gts5.specs.declared.faults.SongFault.{SongFault}
 use Rattle.goat_io.specs.Files.{Files, with_file}
 use Rattle.goat_io.specs.Written.{told_with_piece}
-use Rattle.goat_cli.specs.Words.{Job, WordsOf}
-use Rattle.goat_cli.specs.Lines.{usage_line, missing_line, too_long_line, read_fault_line, write_fault_line, not_built_line, wrote_line}
-use Rattle.goat_cli.specs.Outcome.{Outcome, Finds, PacksTo, files_after}
+use Rattle.goat_cli.specs.Words.{Job, WordsOf, input_of, output_of}
+use Rattle.goat_cli.specs.Lines.{usage_line, missing_line, too_long_line, read_fault_line, song_fault_line, write_fault_line, not_built_line, wrote_line}
+use Rattle.goat_cli.specs.Outcome.{Outcome, IsDone, files_after}
 
 -- one of these numbers
 abbrev pub IsOneOf : List ℕ → ℕ → Type 0
@@ -45,10 +46,11 @@ pub record ComesWhere (P : Type 0) (answer status : ℕ) (instead : List ℕ) : 
 pub data LineOf (words : List (List ℕ)) (status : ℕ) (text : List ℕ) : Type 0 where
   wrote : (count : ℕ) → status ≡ 0 → text ≡ wrote_line count → LineOf words status text
   usage : status ≡ 1 → text ≡ usage_line → LineOf words status text
-  missing : (job : Job) → WordsOf words job → status ≡ 2 → text ≡ missing_line job.input → LineOf words status text
-  too_long : (job : Job) → WordsOf words job → status ≡ 3 → text ≡ too_long_line job.input → LineOf words status text
-  read_fault : (job : Job) → WordsOf words job → status ≡ 4 → text ≡ read_fault_line job.input → LineOf words status text
-  write_fault : (job : Job) → WordsOf words job → status ≡ 9 → text ≡ write_fault_line job.output → LineOf words status text
+  missing : (job : Job) → WordsOf words job → status ≡ 2 → text ≡ missing_line (input_of job) → LineOf words status text
+  too_long : (job : Job) → WordsOf words job → status ≡ 3 → text ≡ too_long_line (input_of job) → LineOf words status text
+  read_fault : (job : Job) → WordsOf words job → status ≡ 4 → text ≡ read_fault_line (input_of job) → LineOf words status text
+  no_song : (fault : SongFault) → status ≡ 5 → text ≡ song_fault_line fault → LineOf words status text
+  write_fault : (job : Job) → WordsOf words job → status ≡ 9 → text ≡ write_fault_line (output_of job) → LineOf words status text
   not_built : status ≡ 15 → text ≡ not_built_line → LineOf words status text
 
 -- what is in the sink behind the line of a status
@@ -65,11 +67,9 @@ pub record ComesAbout (words : List (List ℕ)) (files : Files) (status : ℕ) (
   pub appended : printed_after ≡ told_with_piece printed_before text
   pub files_are : files_now ≡ Some (files_after files write)
 
--- the file OUT holds a packed file of the song that the file IN spells, and every other file is as before
-pub record HoldsPackedSong (words : List (List ℕ)) (files : Files) (files_now : Option Files) : Type 0 where
+-- the job's file OUT holds what the job makes of the song that its file IN spells, and every other file is as before
+pub record HoldsDone (words : List (List ℕ)) (files : Files) (files_now : Option Files) : Type 0 where
   pub job : Job
-  pub bytes : List ℕ
   pub file : List ℕ
-  pub finds : Finds words files job bytes
-  pub packs : PacksTo job bytes file
-  pub files_are : files_now ≡ Some (with_file files job.output file)
+  pub done : IsDone words files job file
+  pub files_are : files_now ≡ Some (with_file files (output_of job) file)

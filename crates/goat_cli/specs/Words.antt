@@ -22,22 +22,41 @@ pub record IsZeroPageWord (word : List ℕ) (zero_page : ℕ) : Type 0 where
   pub digits : decode_sized word 1 ≡ Ok (zero_page ∷ [])
   pub allowed : IsZeroPage zero_page
 
--- what the program is asked to do: pack the song in one file into another
-pub record Job : Type 0 where
-  pub input : List ℕ
-  pub output : List ℕ
-  pub address : ℕ
-  pub zero_page : ℕ
+-- what the program is asked to do: pack the song in one file into a raw file, or copy it into another file
+pub data Job : Type 0 where
+  Pack : (input output : List ℕ) (address zero_page : ℕ) → Job
+  Copy : (input output : List ℕ) → Job
 
--- the words are `pack IN OUT raw ADDRESS ZP`, and this is the job that they name
-pub record WordsOf (words : List (List ℕ)) (job : Job) : Type 0 where
+-- the file that a job reads
+abbrev pub input_of : Job → List ℕ
+input_of (Pack input output address zero_page) = input
+input_of (Copy input output) = input
+
+-- the file that it writes
+abbrev pub output_of : Job → List ℕ
+output_of (Pack input output address zero_page) = output
+output_of (Copy input output) = output
+
+-- the words are `pack IN OUT raw ADDRESS ZP`
+pub record IsPackForm (words : List (List ℕ)) (input output : List ℕ) (address zero_page : ℕ) : Type 0 where
   pub address_word : List ℕ
   pub zero_page_word : List ℕ
-  pub form : words ≡ codes "pack" ∷ job.input ∷ job.output ∷ codes "raw" ∷ address_word ∷ zero_page_word ∷ []
-  pub input : job.input ≢ []
-  pub output : job.output ≢ []
-  pub address : IsAddressWord address_word job.address
-  pub zero_page : IsZeroPageWord zero_page_word job.zero_page
+  pub form : words ≡ codes "pack" ∷ input ∷ output ∷ codes "raw" ∷ address_word ∷ zero_page_word ∷ []
+  pub in_named : input ≢ []
+  pub out_named : output ≢ []
+  pub address_spelled : IsAddressWord address_word address
+  pub zero_page_spelled : IsZeroPageWord zero_page_word zero_page
+
+-- the words are `copy IN OUT`
+pub record IsCopyForm (words : List (List ℕ)) (input output : List ℕ) : Type 0 where
+  pub form : words ≡ codes "copy" ∷ input ∷ output ∷ []
+  pub in_named : input ≢ []
+  pub out_named : output ≢ []
+
+-- the words are of a form, and this is the job that they name
+abbrev pub WordsOf : List (List ℕ) → Job → Type 0
+WordsOf words (Pack input output address zero_page) = IsPackForm words input output address zero_page
+WordsOf words (Copy input output) = IsCopyForm words input output
 
 -- no form of the command line has these words
 abbrev pub IsNoForm : List (List ℕ) → Type 0

@@ -2,6 +2,8 @@
 
 ghost use Rattle.std.specs.Prelude.{◌≡◌};
 
+use gts5::SongFault;
+
 /// How a run of the program ends: what its line says, and its status.
 #[derive(Clone, Copy, Debug)]
 pub enum Ending<'a> {
@@ -15,11 +17,13 @@ pub enum Ending<'a> {
     TooLong(&'a str),
     /// The folder failed to read the file.
     ReadFault(&'a str),
+    /// The file breaks the format of songs.
+    NotASong(SongFault),
     /// The folder failed to write the file.
     WriteFault(&'a str),
     /// Memory was wanting.
     NoMemory,
-    /// The file can't be packed yet.
+    /// The song can't be packed yet.
     NotBuilt,
 }
 
@@ -36,6 +40,7 @@ impl Ending<'_> {
             Ending::Missing(_) => 2,
             Ending::TooLong(_) => 3,
             Ending::ReadFault(_) => 4,
+            Ending::NotASong(_) => 5,
             Ending::WriteFault(_) => 9,
             Ending::NoMemory => 14,
             Ending::NotBuilt => 15,

@@ -4,21 +4,21 @@
 //! file; a file that is written holds an image that plays the song that was read, whatever else is in memory. Each
 //! status comes only where its cause does.
 //!
-//! Today silent songs in their canonical spelling are packed, with one fixed player, and other songs are refused.
+//! Today every song is copied, and silent songs are packed, with one fixed player; other songs aren't packed yet.
 //!
-//! It stands on `goat_io` for folders and sinks, on `song_model` for the song, on `play_model` for what a song sounds
-//! like and on `cpu6502` for what machine code does.
+//! It stands on `goat_io` for folders and sinks, on `gts5` and `song_model` for the song, on `play_model` for what a
+//! song sounds like and on `cpu6502` for what machine code does.
 #![tactic(auto)]
 
 mod ending;
 mod image;
 mod line;
-mod pieces;
-mod plain;
+mod refusal;
+mod silent;
 mod top;
 mod words;
 
 pub use image::silent_image;
-pub use plain::read_plain;
+pub use silent::is_silent;
 pub use top::goat;
-pub use words::PackJob;
+pub use words::{Job, WordsFault, parse_words};

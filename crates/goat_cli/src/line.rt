@@ -1,8 +1,9 @@
 //! The line that a run prints.
 
-ghost use Rattle.std.specs.Prelude.{◌≡◌, ◌++◌, [], IfOk, OnOk};
+ghost use Rattle.std.specs.Prelude.{◌≡◌, ◌++◌, [], codes, decimal, IfOk, OnOk};
 
 use crate::ending::Ending;
+use gts5::SongFault;
 use song_model::NoMemory;
 use std::alloc::Global;
 use std::marker::Model;
@@ -26,7 +27,7 @@ impl Model for Line {
 
 impl Line {
     ghost use Rattle.goat_cli.specs.Ending.{line_of};
-    ghost use Rattle.goat_cli.specs.Lines.{wrote_line};
+    ghost use Rattle.goat_cli.specs.Lines.{wrote_line, song_fault_line};
 
     /// An empty line with room for each line that these words can lead to.
     pub fn with_room(alloc: Global, words: &[String]) -> Result<Self, NoMemory>
@@ -59,10 +60,37 @@ impl Line {
             Ending::Missing(name) => self.set(b"missing: ", name.as_bytes(), b"\n"),
             Ending::TooLong(name) => self.set(b"too long: ", name.as_bytes(), b"\n"),
             Ending::ReadFault(name) => self.set(b"read fault: ", name.as_bytes(), b"\n"),
+            Ending::NotASong(fault) => self.tell_fault(*fault),
             Ending::WriteFault(name) => self.set(b"write fault: ", name.as_bytes(), b"\n"),
             Ending::NoMemory => self.set(b"no memory", b"", b"\n"),
             Ending::NotBuilt => self.set(b"not built", b"", b"\n"),
         }
+    }
+
+    fn tell_fault(&mut self, fault: SongFault) -> Result<(), NoMemory>
+        ensures { OnOk result (self.new ≡ song_fault_line fault) }
+    {
+        match fault {
+            SongFault::NotGts5 => self.set(b"not a song: bad magic", b"", b"\n"),
+            SongFault::Truncated { offset } => self.tell_place(
+                b"not a song: truncated at ",
+                offset,
+            ),
+            SongFault::OutOfLimit { offset } => {
+                self.tell_place(b"not a song: over limit at ", offset)
+            }
+            SongFault::BadOrder { offset } => self.tell_place(b"not a song: bad order at ", offset),
+            SongFault::BadRow { offset } => self.tell_place(b"not a song: bad row at ", offset),
+            SongFault::NoMemory => self.set(b"no memory", b"", b"\n"),
+        }
+    }
+
+    // Makes the line these words and a place in a file.
+    fn tell_place(&mut self, front: &[u8], offset: u32) -> Result<(), NoMemory>
+        ensures { OnOk result (self.new ≡ front.now ++ decimal offset ++ codes "\n") }
+    {
+        let mut digits = itoa::Buffer::new();
+        self.set(front, digits.format(offset).as_bytes(), b"\n")
     }
 
     fn tell_count(&mut self, count: usize) -> Result<(), NoMemory>

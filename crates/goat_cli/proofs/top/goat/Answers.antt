@@ -1,5 +1,6 @@
 use Rattle.goat_cli.specs.Words.{texts}
-use Rattle.goat_cli.proofs.Accounts.{IfSome-weaker, IfSome-both, comes_about, outcome_of, headline_from, is_printed, usage_row, nine_from_ending, among_statuses, done_row, missing_row, too_long_row, not_built_row}
+use Rattle.goat_cli.proofs.Told.{IfSome-weaker, IfSome-both}
+use Rattle.goat_cli.proofs.Accounts.{comes_about, outcome_of, headline_from, is_printed, usage_row, nine_from_ending, among_statuses, done_row, missing_row, too_long_row, no_song_row, not_built_row}
 use Rattle.goat_cli.proofs.top.goat.Goals as goal
 
 pub returns-clause-outcome : goal.returns-clause-outcome
@@ -39,3 +40,8 @@ pub returns-clause-not_built : goal.returns-clause-not_built
 returns-clause-not_built g c =
     let among = among_statuses c.run-ending.result c.print.result c.print.ensures.statuses in
     IfSome-weaker _ _ _ (λ files both. not_built_row (texts c.args.words.now) files c.print.result among (outcome_of _ files _ _ _ _ both.0) both.1) (IfSome-both _ _ _ (returns-clause-outcome g c) (returns-clause-write_fault_at_the_end g c))
+
+pub returns-clause-no_song : goal.returns-clause-no_song
+returns-clause-no_song g c =
+    let among = among_statuses c.run-ending.result c.print.result c.print.ensures.statuses in
+    IfSome-weaker _ _ _ (λ files both. no_song_row (texts c.args.words.now) files c.print.result among (outcome_of _ files _ _ _ _ both.0) both.1) (IfSome-both _ _ _ (returns-clause-outcome g c) (returns-clause-write_fault_at_the_end g c))

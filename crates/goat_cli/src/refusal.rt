@@ -1,0 +1,39 @@
+//! Why nothing is made of a file.
+
+use gts5::SongFault;
+use song_model::NoMemory;
+
+/// Why a job makes nothing of a file's bytes.
+#[derive(Clone, Copy, Debug)]
+pub enum Refusal {
+    /// The bytes break the format of songs.
+    NotASong(SongFault),
+    /// The song can't be packed yet.
+    NotBuilt,
+    /// Memory was wanting.
+    NoMemory,
+}
+
+impl From<NoMemory> for Refusal {
+    ghost use Rattle.std.specs.Prelude.{◌≡◌};
+    ghost use Rattle.goat_cli.specs.declared.refusal.Refusal.TheVariants as refusal;
+
+    ghost from_gives = { λ _ it. it ≡ refusal.NoMemory };
+
+    fn from(_: NoMemory) -> Self {
+        Refusal::NoMemory
+    }
+}
+
+impl From<SongFault> for Refusal {
+    ghost use Rattle.goat_cli.specs.Refusal.{TellsFault};
+
+    ghost from_gives = { TellsFault };
+
+    fn from(fault: SongFault) -> Self {
+        match fault {
+            SongFault::NoMemory => Refusal::NoMemory,
+            _ => Refusal::NotASong(fault),
+        }
+    }
+}
