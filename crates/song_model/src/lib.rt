@@ -12,6 +12,7 @@ mod instruments;
 /// Facts about the definitions.
 pub mod laws;
 mod lists;
+mod look_ups;
 mod orders;
 mod patterns;
 mod rows;
