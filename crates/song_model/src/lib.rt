@@ -17,6 +17,7 @@ mod orders;
 mod patterns;
 mod rows;
 mod songs;
+mod steps;
 mod tables;
 
 pub use faults::{LimitFault, NoMemory, PushFault};

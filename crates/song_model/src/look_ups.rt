@@ -62,7 +62,7 @@ impl Song {
         self.patterns.as_slice().get(usize::from(n))
     }
 
-    /// How many subtunes have no empty orderlist.
+    /// How many subtunes are playable, that is, have no empty orderlist: 0 to 32.
     pub fn playable_count(&self) -> u8
         ensures { result ≡ length (playable_subtunes self.now) }
     {
@@ -76,7 +76,7 @@ impl Song {
         count
     }
 
-    /// The playable subtune `k`, counted from 0 among those that have no empty orderlist; none past the last.
+    /// Playable subtune `k`, counted from 0; none past the last.
     #[tactic(auto, unfolding(crate::specs::LookUp::playable_subtune))]
     pub fn playable(&self, k: u8) -> Option<&Subtune>
         ensures subtune { option_copied result ≡ playable_subtune self.now k }

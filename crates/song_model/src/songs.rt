@@ -59,7 +59,8 @@ impl Song {
         }
     }
 
-    /// Appends an instrument.
+    /// Appends an instrument. It is refused as `BadLength` where the song has 63, and else only for
+    /// want of memory; the song then stays as it was.
     pub fn add_instrument(&mut self, instrument: Instrument) -> Result<(), LimitFault>
         ensures ok { OnOk result (self.new ≡ record self.old { instruments = self.old.instruments ++ instrument ∷ [] }) }
         ensures bad_length { IsErrOf result LimitFault.BadLength ↔ (length self.old.instruments ≡ 63) }
@@ -87,7 +88,7 @@ impl Song {
         }
     }
 
-    /// Puts this table in place of the one of that name.
+    /// Puts this table in place of the one of that name; all else stays.
     pub fn set_table(&mut self, name: TableName, table: Table)
         ensures { self.new ≡ with_table self.old name table }
     {
@@ -99,7 +100,7 @@ impl Song {
         }
     }
 
-    /// An equal song.
+    /// An equal song. `NoMemory` is the one refusal.
     pub fn copy(&self, alloc: Global) -> Result<Song, NoMemory>
         ensures { IfOk result (λ copy. copy ≡ self.now) }
     {
