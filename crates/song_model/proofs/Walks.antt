@@ -71,10 +71,10 @@ byte_some byte t r h =
     let step : Step = record { pattern = byte; transpose = t } in
     rw test (omega (arith, length-replicate {A = Step} (r + 1) step))
 
-longer : (xs ys : List Step) → 0 < length xs → 0 < length (xs ++ ys)
+pub longer : (xs ys : List Step) → 0 < length xs → 0 < length (xs ++ ys)
 longer xs ys h = omega (arith, length-append xs ys)
 
-walk_some : (byte : ℕ) (bytes : List ℕ) (t : ℤ) (r : ℕ) → byte < 0xD0 → 0 < length (walk_plays (byte ∷ bytes) t r)
+pub walk_some : (byte : ℕ) (bytes : List ℕ) (t : ℤ) (r : ℕ) → byte < 0xD0 → 0 < length (walk_plays (byte ∷ bytes) t r)
 walk_some byte bytes t r h =
     longer (plays_of byte t r) (walk_plays bytes (transpose_after byte t) (repeat_after byte r)) (byte_some byte t r h)
 

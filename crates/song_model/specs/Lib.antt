@@ -6,7 +6,11 @@ pub mod Canonical
 pub mod Silence
 pub mod Silent
 pub mod Walk
+pub mod Sound
+pub mod Places
+pub mod WalkRest
 pub mod LookUp
 pub mod WorkedWalks
+pub mod WorkedPlaces
 pub mod WalkLaws
 pub mod CanonicalLaws

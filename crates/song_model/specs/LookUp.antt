@@ -1,5 +1,5 @@
 -- What stands at a number, with zeros where nothing is stored.
-use Rattle.std.specs.Prelude.{ℕ, ◌-◌, Bool, not, ◌&&◌, ◌==◌, List, [], length, replicate, filter, Option, if◌then◌else◌, slice_get, slice_index_or}
+use Rattle.std.specs.Prelude.{ℕ, ◌-◌, ◌≤◌, Bool, not, ◌&&◌, ◌==◌, List, [], length, replicate, filter, Option, if◌then◌else◌, slice_get, slice_index_or}
 use Rattle.song_model.specs.declared.rows.Row.{Row}
 use Rattle.song_model.specs.declared.orders.Order.{Order}
 use Rattle.song_model.specs.declared.orders.Subtune.{Subtune}
@@ -12,6 +12,11 @@ use Rattle.song_model.specs.declared.songs.Song.{Song}
 -- item n of a list that is counted from 1, and this item where none is stored
 abbrev pub numbered : {X : Type 0} → List X → ℕ → X → X
 numbered items n zero_item = if n == 0 then zero_item else slice_index_or items (n - 1) zero_item
+
+-- an item with this number is stored
+pub record IsNumbered {X : Type 0} (items : List X) (n : ℕ) : Type 0 where
+  pub first : 1 ≤ n
+  pub last : n ≤ length items
 
 abbrev pub zero_instrument : Instrument
 zero_instrument = record {
@@ -38,6 +43,13 @@ table_of song Wave = song.wave
 table_of song Pulse = song.pulse
 table_of song Filter = song.filter
 table_of song Speed = song.speed
+
+-- the song with this table in place of the one of that name
+abbrev pub with_table : Song → TableName → List TableRow → Song
+with_table song Wave table = record song { wave = table }
+with_table song Pulse table = record song { pulse = table }
+with_table song Filter table = record song { filter = table }
+with_table song Speed table = record song { speed = table }
 
 unfoldable pub table_row : Song → TableName → ℕ → TableRow
 table_row song name p = numbered (table_of song name) p zero_table_row

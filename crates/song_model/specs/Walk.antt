@@ -46,8 +46,12 @@ cycle_of order =
 abbrev pub no_step : Step
 no_step = record { pattern = 0; transpose = pos 0 }
 
--- play i of an orderlist, counted from 0: the prefix, and then the cycle again and again
+-- item i, counted from 0, of a prefix and then a cycle again and again
+abbrev pub unrolled : {X : Type 0} → List X → List X → X → ℕ → X
+unrolled prefix cycle no_item i =
+    if nat_lt i (length prefix) then slice_index_or prefix i no_item
+    else slice_index_or cycle ((i - length prefix) % length cycle) no_item
+
+-- play i of an orderlist, counted from 0
 unfoldable pub played : Order → ℕ → Step
-played order i =
-    if nat_lt i (length (prefix_of order)) then slice_index_or (prefix_of order) i no_step
-    else slice_index_or (cycle_of order) ((i - length (prefix_of order)) % length (cycle_of order)) no_step
+played order i = unrolled (prefix_of order) (cycle_of order) no_step i

@@ -8,6 +8,7 @@ ghost use Rattle.song_model.specs.Limits.{KeepsLimits};
 ghost use Rattle.song_model.specs.Silent.{IsSilent};
 ghost use Rattle.song_model.specs.WalkLaws.{PlaysAreEntries, OneCycleIsEnough};
 ghost use Rattle.song_model.specs.WorkedWalks.{TransposesAreKept, RepeatsAreUsedUp, RepeatsReachTheRestart};
+ghost use Rattle.song_model.specs.WorkedPlaces.{RepeatsStay, TransposesStay, RestartsInTheMiddle, RepeatsArePending};
 
 /// How a silent song is spelled.
 #[tactic(auto, unfolding(crate::specs::Canonical::canonical))]
@@ -26,6 +27,16 @@ pub fn worked_walks()
     ensures transposes { TransposesAreKept }
     ensures repeats { RepeatsAreUsedUp }
     ensures restart { RepeatsReachTheRestart }
+{}
+
+/// Where walks with a repeat, with a transpose, with a restart in the middle, and with a repeat that
+/// is pending at the end stand.
+#[tactic(auto, unfolding(crate::specs::Walk::prefix_of, crate::specs::Walk::cycle_of, crate::specs::Places::prefix_places, crate::specs::Places::cycle_places, crate::specs::Places::place_after, crate::specs::Places::place_of))]
+pub fn worked_places()
+    ensures repeat { RepeatsStay }
+    ensures transpose { TransposesStay }
+    ensures middle { RestartsInTheMiddle }
+    ensures pending { RepeatsArePending }
 {}
 
 /// Where a pattern stands from the restart position on, each play names an entry of its orderlist.

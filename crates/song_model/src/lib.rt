@@ -12,10 +12,12 @@ mod instruments;
 /// Facts about the definitions.
 pub mod laws;
 mod lists;
+mod look_ups;
 mod orders;
 mod patterns;
 mod rows;
 mod songs;
+mod steps;
 mod tables;
 
 pub use faults::{LimitFault, NoMemory, PushFault};

@@ -1,6 +1,7 @@
 //! Lists that grow up to a limit.
 
-ghost use Rattle.std.specs.Prelude.{◌≡◌, ◌<◌, ◌≤◌, ◌↔◌, ◌⊎◌, [], ◌∷◌, ◌++◌, length, IfOk, IfErr, IsErrOf, OnOk, OnErr};
+ghost use Rattle.std.specs.Prelude.{◌≡◌, ◌<◌, ◌≤◌, ◌↔◌, ◌⊎◌, [], ◌∷◌, ◌++◌, length, IsNone, IfSome, IfOk, IfErr, IsErrOf, OnOk, OnErr};
+ghost use Rattle.song_model.specs.LookUp.{IsNumbered, numbered};
 
 use crate::{LimitFault, NoMemory, PushFault};
 use std::alloc::Global;
@@ -42,6 +43,25 @@ impl<T, const LIMIT: usize> Bounded<T, LIMIT> {
     {
         self.items.as_slice()
     }
+
+    /// Item `n`, counted from 1; none at 0 or past the last.
+    pub(crate) fn numbered(&self, n: u8) -> Option<&T>
+        ensures none { IsNone result ↔ ¬ IsNumbered self.now n }
+        ensures some { (zero_item : T) → IfSome result (λ item. item.now ≡ numbered self.now n zero_item) }
+    {
+        if n == 0 {
+            return None;
+        }
+        self.items.get(usize::from(n) - 1)
+    }
+
+    /// The list of these items.
+    pub(crate) fn from_vec(items: Vec<T>) -> Self
+        requires { length items.items ≤ LIMIT }
+        ensures { result ≡ items.items }
+    {
+        Bounded { items }
+    }
 }
 
 impl<T: Drop, const LIMIT: usize> Bounded<T, LIMIT> {
@@ -75,6 +95,14 @@ impl<T: Copy, const LIMIT: usize> Bounded<T, LIMIT> {
             Ok(items) => Ok(Bounded { items }),
             Err(_) => Err(LimitFault::NoMemory),
         }
+    }
+
+    /// A list of the same items.
+    pub fn copy(&self, alloc: Global) -> Result<Self, NoMemory>
+        ensures { IfOk result (λ copy. copy ≡ self.now) }
+    {
+        let items = Vec::from_slice(alloc, self.items.as_slice())?;
+        Ok(Bounded { items })
     }
 }
 

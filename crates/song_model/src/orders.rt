@@ -3,8 +3,9 @@
 ghost use Rattle.std.specs.Prelude.{◌≡◌, ℕ, ◌≤◌, ◌<◌, ◌↔◌, length, All, IfOk, IfSome, IfNone, IsErrOf};
 ghost use Rattle.song_model.specs.Basics.{IsFirstBad};
 ghost use Rattle.song_model.specs.OrderLimits.{IsEntry, AreEntries};
+ghost use Rattle.song_model.specs.LookUp.{is_playable_subtune};
 
-use crate::{Bounded, LimitFault};
+use crate::{Bounded, LimitFault, NoMemory};
 use std::alloc::Global;
 use std::marker::Model;
 
@@ -33,6 +34,14 @@ impl OrderEntries {
         ensures limits { AreEntries self.now }
     {
         self.bytes.as_slice()
+    }
+
+    /// The same bytes.
+    pub fn copy(&self, alloc: Global) -> Result<OrderEntries, NoMemory>
+        ensures { IfOk result (λ copy. copy ≡ self.now) }
+    {
+        let bytes = Vec::from_slice(alloc, self.bytes.as_slice())?;
+        Ok(OrderEntries { bytes })
     }
 }
 
@@ -66,6 +75,16 @@ impl Order {
             Err(_) => Err(LimitFault::NoMemory),
         }
     }
+
+    /// An equal orderlist.
+    pub fn copy(&self, alloc: Global) -> Result<Order, NoMemory>
+        ensures { IfOk result (λ copy. copy ≡ self.now) }
+    {
+        Ok(Order {
+            entries: self.entries.copy(alloc)?,
+            restart: self.restart,
+        })
+    }
 }
 
 /// The least place of an endmark.
@@ -88,6 +107,29 @@ pub struct Subtune {
     pub one: Order,
     pub two: Order,
     pub three: Order,
+}
+
+impl Subtune {
+    /// An equal subtune.
+    pub fn copy(&self, alloc: Global) -> Result<Subtune, NoMemory>
+        ensures { IfOk result (λ copy. copy ≡ self.now) }
+    {
+        Ok(Subtune {
+            one: self.one.copy(alloc)?,
+            two: self.two.copy(alloc)?,
+            three: self.three.copy(alloc)?,
+        })
+    }
+
+    /// Whether none of its orderlists is empty.
+    pub(crate) fn is_playable(&self) -> bool
+        ensures { result ≡ is_playable_subtune self.now }
+    {
+        let one = self.one.entries.as_slice();
+        let two = self.two.entries.as_slice();
+        let three = self.three.entries.as_slice();
+        !one.is_empty() && !two.is_empty() && !three.is_empty()
+    }
 }
 
 /// The subtunes of a song: at most 32.

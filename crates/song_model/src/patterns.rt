@@ -4,7 +4,7 @@ ghost use Rattle.std.specs.Prelude.{◌≡◌, ℕ, ◌↔◌, length, All, IfOk
 ghost use Rattle.song_model.specs.Basics.{IsFirstBad};
 ghost use Rattle.song_model.specs.PatternLimits.{IsRow, IsPatternLength, IsPattern};
 
-use crate::{Bounded, LimitFault, Row};
+use crate::{Bounded, LimitFault, NoMemory, Row};
 use std::alloc::Global;
 use std::marker::Model;
 
@@ -55,6 +55,14 @@ impl Pattern {
         ensures limits { IsPattern self.now }
     {
         self.rows.as_slice()
+    }
+
+    /// A pattern of the same rows.
+    pub fn copy(&self, alloc: Global) -> Result<Pattern, NoMemory>
+        ensures { IfOk result (λ copy. copy ≡ self.now) }
+    {
+        let rows = Vec::from_slice(alloc, self.rows.as_slice())?;
+        Ok(Pattern { rows })
     }
 }
 

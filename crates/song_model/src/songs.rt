@@ -1,11 +1,12 @@
 //! The song.
 
-ghost use Rattle.std.specs.Prelude.{◌≡◌, ◌↔◌, [], ◌∷◌, ◌++◌, ◌⊎◌, length, IsErrOf, IfErr, OnOk, OnErr};
+ghost use Rattle.std.specs.Prelude.{◌≡◌, ◌↔◌, [], ◌∷◌, ◌++◌, ◌⊎◌, length, IsErrOf, IfOk, IfErr, OnOk, OnErr};
 ghost use Rattle.song_model.specs.Silence.{empty_song};
+ghost use Rattle.song_model.specs.LookUp.{with_table};
 
 use crate::{
-    Bounded, InstrumentList, LimitFault, Pattern, PatternList, PushFault, Subtune, SubtuneList,
-    Table,
+    Bounded, Instrument, InstrumentList, LimitFault, NoMemory, Pattern, PatternList, PushFault,
+    Subtune, SubtuneList, Table, TableName,
 };
 use std::alloc::Global;
 
@@ -58,6 +59,21 @@ impl Song {
         }
     }
 
+    /// Appends an instrument. It is refused as `BadLength` where the song has 63, and else only for
+    /// want of memory; the song then stays as it was.
+    pub fn add_instrument(&mut self, instrument: Instrument) -> Result<(), LimitFault>
+        ensures ok { OnOk result (self.new ≡ record self.old { instruments = self.old.instruments ++ instrument ∷ [] }) }
+        ensures bad_length { IsErrOf result LimitFault.BadLength ↔ (length self.old.instruments ≡ 63) }
+        ensures no_other { IfErr result (λ fault. (fault ≡ LimitFault.BadLength) ⊎ (fault ≡ LimitFault.NoMemory)) }
+        ensures err { OnErr result (self.new ≡ self.old) }
+    {
+        match self.instruments.push(instrument) {
+            Ok(()) => Ok(()),
+            Err(PushFault::Full) => Err(LimitFault::BadLength),
+            Err(PushFault::NoMemory) => Err(LimitFault::NoMemory),
+        }
+    }
+
     /// Appends a pattern.
     pub fn add_pattern(&mut self, pattern: Pattern) -> Result<(), LimitFault>
         ensures ok { OnOk result (self.new ≡ record self.old { patterns = self.old.patterns ++ pattern ∷ [] }) }
@@ -71,4 +87,58 @@ impl Song {
             Err(PushFault::NoMemory) => Err(LimitFault::NoMemory),
         }
     }
+
+    /// Puts this table in place of the one of that name; all else stays.
+    pub fn set_table(&mut self, name: TableName, table: Table)
+        ensures { self.new ≡ with_table self.old name table }
+    {
+        match name {
+            TableName::Wave => self.wave = table,
+            TableName::Pulse => self.pulse = table,
+            TableName::Filter => self.filter = table,
+            TableName::Speed => self.speed = table,
+        }
+    }
+
+    /// An equal song. `NoMemory` is the one refusal.
+    pub fn copy(&self, alloc: Global) -> Result<Song, NoMemory>
+        ensures { IfOk result (λ copy. copy ≡ self.now) }
+    {
+        Ok(Song {
+            name: self.name,
+            author: self.author,
+            copyright: self.copyright,
+            subtunes: copy_subtunes(alloc, &self.subtunes)?,
+            instruments: self.instruments.copy(alloc)?,
+            wave: self.wave.copy(alloc)?,
+            pulse: self.pulse.copy(alloc)?,
+            filter: self.filter.copy(alloc)?,
+            speed: self.speed.copy(alloc)?,
+            patterns: copy_patterns(alloc, &self.patterns)?,
+        })
+    }
+}
+
+/// A list of equal subtunes.
+fn copy_subtunes(alloc: Global, subtunes: &SubtuneList) -> Result<SubtuneList, NoMemory>
+    ensures { IfOk result (λ copy. copy ≡ subtunes.now) }
+{
+    let stored = subtunes.as_slice();
+    let mut copies = Vec::new(alloc);
+    for subtune in stored {
+        copies.push(subtune.copy(alloc)?)?;
+    }
+    Ok(Bounded::from_vec(copies))
+}
+
+/// A list of equal patterns.
+fn copy_patterns(alloc: Global, patterns: &PatternList) -> Result<PatternList, NoMemory>
+    ensures { IfOk result (λ copy. copy ≡ patterns.now) }
+{
+    let stored = patterns.as_slice();
+    let mut copies = Vec::new(alloc);
+    for pattern in stored {
+        copies.push(pattern.copy(alloc)?)?;
+    }
+    Ok(Bounded::from_vec(copies))
 }
