@@ -1,5 +1,5 @@
 -- The laws of the format: one song or one fault, and what the canonical spelling spells.
-use Rattle.std.proofs.Common.{◌≡◌, ℕ, zero, suc, ◌+◌, ◌*◌, ◌<◌, ◌≤◌, List, [], ◌∷◌, ◌++◌, length, map, get_or, codes, Option, Some, None, Result, Ok, Err, refl, sym, ap, ◌∙◌, append_assoc, arith, add-zero, Fits, w8}
+use Rattle.std.proofs.Common.{◌≡◌, ℕ, ◌*◌, ◌≤◌, List, [], ◌∷◌, ◌++◌, length, map, get_or, codes, Result, Ok, Err, refl, sym, ap, ◌∙◌, append_assoc, arith, Fits, w8}
 use Rattle.std.specs.Prelude.{MatchOption}
 use Rattle.std.specs.List.{All, flat_map}
 use Rattle.std.proofs.lemmas.List.{append-nil, length-append, length-map}
@@ -10,14 +10,14 @@ use Rattle.song_model.specs.declared.orders.Subtune.{Subtune}
 use Rattle.song_model.specs.declared.instruments.Instrument.{Instrument}
 use Rattle.song_model.specs.declared.tables.TableRow.{TableRow}
 use Rattle.song_model.specs.declared.songs.Song.{Song}
-use Rattle.song_model.specs.Basics.{IsByte, KeepsLimit}
+use Rattle.song_model.specs.Basics.{IsByte}
 use Rattle.song_model.specs.Limits.{KeepsLimits, IsOrder, IsSubtune, IsInstrument, IsTable}
 use Rattle.song_model.specs.PatternLimits.{IsPattern}
 use Rattle.song_model.specs.Canonical.{canonical, order_text, subtune_text, subtunes_text, instrument_text, instruments_text, table_text, tables_text, row_text, end_row_text, pattern_text, patterns_text, texts_text}
 use Rattle.gts5.specs.declared.faults.SongFault.{SongFault}
-use Rattle.gts5.specs.Faults.{fault_in, fault_of}
+use Rattle.gts5.specs.Faults.{fault_in}
 use Rattle.gts5.specs.Reading.{song_of}
-use Rattle.gts5.specs.Spells.{SpellsOrder, SpellsSubtune, SpellsPattern, SpellsEach, Spells}
+use Rattle.gts5.specs.Spells.{SpellsOrder, SpellsSubtune, SpellsPattern, Spells}
 use Rattle.gts5.specs.FormatLaws.{SpellsOnly, SpellsNone, OneSongOrOneFault, CanonicalIsSpelled, CanonicalHasNoFault, CanonicalIsShort}
 use Rattle.gts5.proofs.Takes.{ok_is, text_each}
 use Rattle.gts5.proofs.SameFaults.{same_fault}

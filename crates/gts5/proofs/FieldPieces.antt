@@ -1,19 +1,17 @@
 -- Texts, instruments and tables: what is read is spelled, and what is spelled is read.
-use Rattle.std.proofs.Common.{◌≡◌, ℕ, zero, suc, ◌+◌, ◌<◌, ◌≤◌, List, [], ◌∷◌, ◌++◌, length, get_or, map, Result, Ok, Err, refl, sym, ap, subst, ◌∙◌, append_assoc, arith}
+use Rattle.std.proofs.Common.{◌≡◌, ℕ, suc, List, [], ◌∷◌, ◌++◌, length, get_or, map, Ok, refl, sym, ap, subst, ◌∙◌, append_assoc, arith}
 use Rattle.std.specs.List.{All}
-use Rattle.std.proofs.lemmas.List.{length-append, length-map}
+use Rattle.std.proofs.lemmas.List.{length-map}
 use Rattle.std.proofs.lemmas.List.Elements.{All-nil, All-cons, All-head, All-tail}
 use Rattle.song_model.specs.declared.instruments.Instrument.{Instrument}
 use Rattle.song_model.specs.declared.tables.TableRow.{TableRow}
-use Rattle.song_model.specs.Basics.{IsByte, KeepsLimit}
+use Rattle.song_model.specs.Basics.{IsByte}
 use Rattle.song_model.specs.Limits.{IsText, IsInstrument, IsTableRow, IsTable}
 use Rattle.song_model.specs.Canonical.{instrument_text, table_text}
-use Rattle.gts5.specs.declared.faults.SongFault.{SongFault}
 use Rattle.gts5.specs.declared.tables.Tables.{Tables}
 use Rattle.gts5.specs.declared.texts.Texts.{Texts}
-use Rattle.gts5.specs.Faults.{◌>>=◌}
 use Rattle.gts5.specs.Reading.{bytes_at, byte_at, texts_at, instrument_at, table_rows, table_at, tables_at}
-use Rattle.gts5.proofs.Takes.{bind_ok, ok_is, Takes, TakesBytes, TakesCount, bytes_take, bytes_again, byte_takes, byte_again}
+use Rattle.gts5.proofs.Takes.{bind_ok, ok_is, Takes, bytes_take, bytes_again, byte_takes, byte_again}
 
 -- ---- texts
 

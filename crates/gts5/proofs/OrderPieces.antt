@@ -1,18 +1,18 @@
 -- An orderlist that is read is spelled by its piece, and one that is spelled is read.
-use Rattle.std.proofs.Common.{◌≡◌, ℕ, suc, ◌+◌, ◌-◌, ◌<◌, ◌≤◌, Bool, true, false, cond, ltb, List, [], ◌∷◌, ◌++◌, length, get_or, take, drop, Result, Ok, Err, refl, sym, ap, subst, ◌∙◌, append_assoc, arith}
+use Rattle.std.proofs.Common.{◌≡◌, ℕ, ◌+◌, ◌<◌, Bool, true, false, cond, ltb, List, ◌∷◌, ◌++◌, length, get_or, take, drop, Ok, Err, refl, sym, ap, subst, ◌∙◌, append_assoc, arith}
 use Rattle.std.specs.List.{All}
 use Rattle.std.proofs.lemmas.Bool.{ltb-true, lt-ltb}
 use Rattle.std.proofs.lemmas.List.{length-take-le, length-drop, length-append, drop_more, take_at, get_or-append-add}
 use Rattle.song_model.specs.declared.orders.Order.{Order}
 use Rattle.song_model.specs.declared.orders.Subtune.{Subtune}
-use Rattle.song_model.specs.Basics.{IsByte, KeepsLimit}
+use Rattle.song_model.specs.Basics.{IsByte}
 use Rattle.song_model.specs.Limits.{IsOrder, IsSubtune}
 use Rattle.gts5.specs.declared.faults.SongFault.{SongFault}
 use Rattle.gts5.specs.declared.faults.SongFault.TheVariants.{BadOrder}
-use Rattle.gts5.specs.Faults.{◌>>=◌, offset_of}
+use Rattle.gts5.specs.Faults.{offset_of}
 use Rattle.gts5.specs.Reading.{bytes_at, byte_at, endmark_of, order_at, subtune_at}
 use Rattle.gts5.specs.Spells.{SpellsOrder, SpellsSubtune}
-use Rattle.gts5.proofs.Takes.{bind_ok, ok_is, Takes, TakesBytes, TakesCount, bytes_take, bytes_again, byte_takes, byte_again}
+use Rattle.gts5.proofs.Takes.{bind_ok, ok_is, Takes, bytes_take, bytes_again, byte_takes, byte_again}
 use Rattle.gts5.proofs.Cuts.{entries_before, cut_endmark, endmark_behind}
 
 -- a test that passed

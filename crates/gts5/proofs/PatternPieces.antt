@@ -1,9 +1,8 @@
 -- A pattern that is read is spelled by its piece, and one that is spelled is read.
-use Rattle.std.proofs.Common.{◌≡◌, ◌≢◌, ◌⊎◌, ℕ, zero, suc, ◌+◌, ◌*◌, ◌<◌, ◌≤◌, Bool, true, false, cond, eqb, leb, ◌&&◌, List, [], ◌∷◌, ◌++◌, length, get_or, drop, Result, Ok, Err, refl, sym, ap, subst, ◌∙◌, append_assoc, arith, inl, inr}
+use Rattle.std.proofs.Common.{◌≡◌, ◌≢◌, ℕ, zero, suc, ◌+◌, ◌*◌, ◌<◌, ◌≤◌, Bool, true, false, cond, eqb, leb, ◌&&◌, List, [], ◌∷◌, ◌++◌, length, get_or, drop, Result, Ok, Err, refl, ap, subst, ◌∙◌, arith}
 use Rattle.std.specs.List.{All, flat_map}
 use Rattle.std.proofs.lemmas.Bool.{eqb-true, eqb-false, eq-eqb, ne_eqb, leb-true, le-leb, and_parts, and_from}
 use Rattle.std.proofs.lemmas.List.{drop_more, length-drop, length-append}
-use Rattle.std.proofs.lemmas.List.Concat.{length-flat_map}
 use Rattle.std.proofs.lemmas.List.Elements.{All-nil, All-cons, All-head, All-tail, All-drop}
 use Rattle.song_model.specs.declared.rows.Row.{Row}
 use Rattle.song_model.specs.Basics.{IsByte}
@@ -13,7 +12,7 @@ use Rattle.gts5.specs.declared.faults.SongFault.{SongFault}
 use Rattle.gts5.specs.Faults.{◌>>=◌, offset_of, row_of, has_ranges}
 use Rattle.gts5.specs.Reading.{bytes_at, byte_at, rows_of, ends_at, cut_at, pattern_at}
 use Rattle.gts5.specs.Spells.{SpellsPattern}
-use Rattle.gts5.proofs.Takes.{bind_ok, ok_is, Takes, TakesBytes, TakesCount, bytes_take, bytes_again, byte_takes, byte_again}
+use Rattle.gts5.proofs.Takes.{bind_ok, ok_is, Takes, bytes_take, bytes_again, byte_takes, byte_again}
 
 -- ---- one row
 

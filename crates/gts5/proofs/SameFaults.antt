@@ -1,12 +1,10 @@
 -- The reader's walk stops at the fault that the rules of the format name.
-use Rattle.std.proofs.Common.{◌≡◌, ℕ, zero, suc, ◌+◌, ◌*◌, ◌<◌, ◌≤◌, Bool, true, false, cond, eqb, ltb, ◌||◌, List, [], ◌∷◌, length, get_or, take, drop, Result, Ok, Err, refl, sym, ap, ◌∙◌, arith, add-one, inl, inr}
+use Rattle.std.proofs.Common.{◌≡◌, ℕ, zero, suc, ◌+◌, ◌*◌, ◌<◌, ◌≤◌, Bool, true, false, cond, eqb, ltb, List, [], ◌∷◌, length, get_or, take, drop, Result, Ok, Err, refl, sym, ap, ◌∙◌, arith, add-one, inl, inr}
 use Rattle.std.specs.List.{list_any}
 use Rattle.std.proofs.lemmas.Bool.{cases_lt, cases_eq, lt-ltb, le-ltb, eq-eqb, ne_eqb, ltb-false}
 use Rattle.std.proofs.lemmas.List.{length-drop, drop-drop}
 use Rattle.song_model.specs.declared.rows.Row.{Row}
 use Rattle.song_model.specs.declared.orders.Order.{Order}
-use Rattle.song_model.specs.declared.orders.Subtune.{Subtune}
-use Rattle.song_model.specs.declared.instruments.Instrument.{Instrument}
 use Rattle.song_model.specs.declared.songs.Song.{Song}
 use Rattle.gts5.specs.declared.faults.SongFault.{SongFault}
 use Rattle.gts5.specs.declared.faults.SongFault.TheVariants.{Truncated, OutOfLimit, BadOrder, BadRow}

@@ -1,31 +1,30 @@
 -- A song that is read is the one that is spelled, and one that is spelled is read.
-use Rattle.std.proofs.Common.{◌≡◌, ◌≢◌, ◌⊎◌, ℕ, suc, ◌+◌, ◌*◌, ◌<◌, ◌≤◌, Bool, true, false, cond, List, [], ◌∷◌, ◌++◌, length, take, drop, codes, Option, Some, None, Result, Ok, Err, refl, sym, ap, subst, ◌∙◌, append_assoc, arith, inl, inr, take-append-drop}
-use Rattle.std.specs.Prelude.{IfOk, IfErr, MatchOption}
+use Rattle.std.proofs.Common.{◌≡◌, ◌≢◌, ◌⊎◌, ℕ, ◌≤◌, Bool, true, false, cond, List, ◌∷◌, ◌++◌, length, take, drop, codes, Some, Result, Ok, Err, refl, sym, ap, subst, ◌∙◌, append_assoc, arith, inl, inr, take-append-drop}
+use Rattle.std.specs.Prelude.{IfOk, IfErr}
 use Rattle.std.specs.List.{All, flat_map}
 use Rattle.std.specs.Str.{bytes_eq}
-use Rattle.std.proofs.lemmas.List.Elements.{All-drop, All-weaker}
+use Rattle.std.proofs.lemmas.List.Elements.{All-drop}
 use Rattle.std.proofs.lemmas.Slice.Eq.{bytes_eq-Decides}
 use Rattle.song_model.specs.declared.rows.Row.{Row}
-use Rattle.song_model.specs.declared.orders.Order.{Order}
 use Rattle.song_model.specs.declared.orders.Subtune.{Subtune}
 use Rattle.song_model.specs.declared.instruments.Instrument.{Instrument}
 use Rattle.song_model.specs.declared.songs.Song.{Song}
 use Rattle.song_model.specs.Basics.{IsByte, KeepsLimit}
-use Rattle.song_model.specs.Limits.{KeepsLimits, IsSubtune, IsInstrument}
+use Rattle.song_model.specs.Limits.{IsSubtune, IsInstrument}
 use Rattle.song_model.specs.PatternLimits.{IsPattern}
-use Rattle.song_model.specs.Canonical.{canonical, texts_text, instruments_text, instrument_text, tables_text, table_text}
+use Rattle.song_model.specs.Canonical.{texts_text, instruments_text, instrument_text, tables_text, table_text}
 use Rattle.gts5.specs.declared.faults.SongFault.{SongFault}
 use Rattle.gts5.specs.declared.faults.SongFault.TheVariants.{NotGts5, Truncated, OutOfLimit, BadOrder, BadRow, NoMemory}
 use Rattle.gts5.specs.declared.tables.Tables.{Tables}
 use Rattle.gts5.specs.declared.texts.Texts.{Texts}
-use Rattle.gts5.specs.Faults.{◌>>=◌, after_magic, fault_in, fault_of}
+use Rattle.gts5.specs.Faults.{after_magic, fault_in, fault_of}
 use Rattle.gts5.specs.Reading.{texts_at, each_at, count_at, subtune_at, subtunes_at, instrument_at, instruments_at, tables_at, pattern_at, patterns_at, song_of}
 use Rattle.gts5.specs.Spells.{SpellsEach, SpellsSubtune, SpellsPattern, Spells}
 use Rattle.gts5.specs.Gives.{Gives, IsAnswer}
 use Rattle.gts5.proofs.Takes.{bind_ok, ok_is, Takes, TakesCount, AreMany, count_takes, count_again, each_takes, each_again, each_text, text_each}
 use Rattle.gts5.proofs.SameFaults.{same_fault}
 use Rattle.gts5.proofs.OrderPieces.{subtune_takes, subtune_again}
-use Rattle.gts5.proofs.FieldPieces.{texts_take, texts_again, AreTexts, IsInstrumentText, instrument_takes, instrument_again, tables_take, tables_again, AreTables}
+use Rattle.gts5.proofs.FieldPieces.{texts_take, texts_again, IsInstrumentText, instrument_takes, instrument_again, tables_take, tables_again}
 use Rattle.gts5.proofs.PatternPieces.{pattern_takes, pattern_again}
 
 -- ---- the magic
