@@ -65,8 +65,9 @@ fn rows_before_end(alloc: Global, at: u32, count: u8, piece: &[u8]) -> Result<Ve
     let mut rows = Vec::new(alloc);
     let mut left = piece;
     for i in 0..count {
+        // (the piece has four bytes for each row)
         let Some((row, after)) = front_row(left) else {
-            return Err(SongFault::Truncated { offset: at });
+            return Err(SongFault::BadRow { offset: at });
         };
         if is_end(at, i, row)? {
             return Ok(rows);
