@@ -5,7 +5,7 @@ use Rattle.cpu6502.specs.declared.mnemonic.Mnemonic.{Mnemonic}
 use Rattle.cpu6502.specs.declared.mnemonic.Mnemonic.TheVariants.{Jmp, Rts, Bpl, Sta, Lda, Ldx, Dex}
 use Rattle.cpu6502.specs.declared.mnemonic.Mode.{Mode}
 use Rattle.cpu6502.specs.declared.mnemonic.Mode.TheVariants.{Implied, Immediate, Absolute, AbsoluteX, Relative}
-use Rattle.cpu6502.specs.Opcodes.{meaning_of, length_of}
+use Rattle.cpu6502.specs.Opcodes.{meaning_of, length_of, is_accumulator}
 use Rattle.cpu6502.specs.Effects.{address_of, stack_place, with_sign_and_zero, effect_of, moved, done_by, effect}
 use Rattle.cpu6502.specs.Code.{Stands}
 use Rattle.cpu6502.proofs.Moves.{Goes, Puts}
@@ -14,34 +14,34 @@ use Rattle.cpu6502.proofs.Moves.{Goes, Puts}
 abbrev pub jumped : Cpu → ℕ → Cpu
 jumped cpu pc = record cpu { pc = pc }
 
--- an instruction that is decoded has its effect
-pub fetched : (at : ℕ → ℕ) (cpu : Cpu) (mn : Mnemonic) (mode : Mode) → meaning_of (at cpu.pc) ≡ Some (mn, mode) → effect at cpu ≡ effect_of mn cpu.pc (address_of mode at cpu.pc cpu.x cpu.y) at (moved cpu (length_of mode))
-fetched at cpu mn mode e = ap (λ meaning. done_by meaning at cpu) e
+-- an instruction that is decoded, and does not work on the accumulator in the place of memory, has its effect
+pub fetched : (at : ℕ → ℕ) (cpu : Cpu) (mn : Mnemonic) (mode : Mode) → is_accumulator mode ≡ false → meaning_of (at cpu.pc) ≡ Some (mn, mode) → effect at cpu ≡ effect_of mn cpu.pc (address_of mode at cpu.pc cpu.x cpu.y) at (moved cpu (length_of mode))
+fetched at cpu mn mode memory e = ap (λ meaning. done_by meaning at cpu) e ∙ rw memory refl
 
 -- by addressing mode: the effect with the operand's place, and the next program counter
 pub by_implied : (at : ℕ → ℕ) (cpu : Cpu) (mn : Mnemonic) (x next : ℕ) → Stands at cpu.pc mn Implied x → (cpu.pc + 1) % 65536 ≡ next → effect at cpu ≡ effect_of mn cpu.pc 0 at (jumped cpu next)
-by_implied at cpu mn x next s e = fetched at cpu mn Implied s.decoded ∙ ap (λ pc. effect_of mn cpu.pc 0 at (jumped cpu pc)) e
+by_implied at cpu mn x next s e = fetched at cpu mn Implied refl s.decoded ∙ ap (λ pc. effect_of mn cpu.pc 0 at (jumped cpu pc)) e
 
 pub by_immediate : (at : ℕ → ℕ) (cpu : Cpu) (mn : Mnemonic) (x next : ℕ) → Stands at cpu.pc mn Immediate x → (cpu.pc + 2) % 65536 ≡ next → effect at cpu ≡ effect_of mn cpu.pc ((cpu.pc + 1) % 65536) at (jumped cpu next)
 by_immediate at cpu mn x next s e =
-    fetched at cpu mn Immediate s.decoded ∙ ap (λ pc. effect_of mn cpu.pc ((cpu.pc + 1) % 65536) at (jumped cpu pc)) e
+    fetched at cpu mn Immediate refl s.decoded ∙ ap (λ pc. effect_of mn cpu.pc ((cpu.pc + 1) % 65536) at (jumped cpu pc)) e
 
 pub by_absolute : (at : ℕ → ℕ) (cpu : Cpu) (mn : Mnemonic) (x next : ℕ) → Stands at cpu.pc mn Absolute x → (cpu.pc + 3) % 65536 ≡ next → effect at cpu ≡ effect_of mn cpu.pc x at (jumped cpu next)
 by_absolute at cpu mn x next s e =
-    fetched at cpu mn Absolute s.decoded
+    fetched at cpu mn Absolute refl s.decoded
     ∙ ap (λ place. effect_of mn cpu.pc place at (moved cpu 3)) s.operand_is
     ∙ ap (λ pc. effect_of mn cpu.pc x at (jumped cpu pc)) e
 
 pub by_absolute_x : (at : ℕ → ℕ) (cpu : Cpu) (mn : Mnemonic) (x place next : ℕ) → Stands at cpu.pc mn AbsoluteX x → (x + cpu.x) % 65536 ≡ place → (cpu.pc + 3) % 65536 ≡ next → effect at cpu ≡ effect_of mn cpu.pc place at (jumped cpu next)
 by_absolute_x at cpu mn x place next s p e =
-    fetched at cpu mn AbsoluteX s.decoded
+    fetched at cpu mn AbsoluteX refl s.decoded
     ∙ ap (λ base. effect_of mn cpu.pc ((base + cpu.x) % 65536) at (moved cpu 3)) s.operand_is
     ∙ ap (λ q. effect_of mn cpu.pc q at (moved cpu 3)) p
     ∙ ap (λ pc. effect_of mn cpu.pc place at (jumped cpu pc)) e
 
 pub by_relative : (at : ℕ → ℕ) (cpu : Cpu) (mn : Mnemonic) (x next : ℕ) → Stands at cpu.pc mn Relative x → (cpu.pc + 2) % 65536 ≡ next → effect at cpu ≡ effect_of mn cpu.pc x at (jumped cpu next)
 by_relative at cpu mn x next s e =
-    fetched at cpu mn Relative s.decoded
+    fetched at cpu mn Relative refl s.decoded
     ∙ ap (λ place. effect_of mn cpu.pc place at (moved cpu 2)) s.operand_is
     ∙ ap (λ pc. effect_of mn cpu.pc x at (jumped cpu pc)) e
 

@@ -6,3 +6,4 @@ pub mod Bridge
 pub mod Instructions
 pub mod Standing
 pub mod Entry
+pub mod Inverse

@@ -1,14 +1,27 @@
 -- What one instruction does, from a memory that is read by place and from the registers: the registers after it, and what it writes. Source: the MOS 6502 programming manual.
-use Rattle.std.specs.Prelude.{ℕ, ◌+◌, ◌*◌, ◌/◌, ◌%◌, [], ◌∷◌, Option, Some, None, Result, Ok, Err, nat_eq, nat_le, nat_lt, if◌then◌else◌}
+use Rattle.std.specs.Prelude.{ℕ, ◌+◌, ◌*◌, ◌/◌, ◌%◌, Option, Some, None, Result, Ok, Err, nat_lt, if◌then◌else◌}
 use Rattle.cpu6502.specs.declared.mnemonic.Mnemonic.{Mnemonic}
-use Rattle.cpu6502.specs.declared.mnemonic.Mnemonic.TheVariants.{Jmp, Rts, Bpl, Sta, Lda, Ldx, Dex}
+use Rattle.cpu6502.specs.declared.mnemonic.Mnemonic.TheVariants.{Adc, Sbc, Brk}
 use Rattle.cpu6502.specs.declared.mnemonic.Mode.{Mode}
 use Rattle.cpu6502.specs.declared.mnemonic.Mode.TheVariants.{Implied, Accumulator, Immediate, ZeroPage, ZeroPageX, ZeroPageY, Absolute, AbsoluteX, AbsoluteY, IndirectX, IndirectY, Indirect, Relative}
 use Rattle.cpu6502.specs.declared.cpu.Cpu.{Cpu}
 use Rattle.cpu6502.specs.declared.effect.Effect.{Effect}
 use Rattle.cpu6502.specs.declared.stop.Stop.{Stop}
-use Rattle.cpu6502.specs.declared.stop.Stop.TheVariants.{Illegal}
-use Rattle.cpu6502.specs.Opcodes.{Meaning, meaning_of, length_of}
+use Rattle.cpu6502.specs.declared.stop.Stop.TheVariants.{Illegal, Break, Decimal}
+use Rattle.cpu6502.specs.Opcodes.{Meaning, meaning_of, length_of, is_accumulator}
+use Rattle.cpu6502.specs.Loads.{load_effect}
+use Rattle.cpu6502.specs.Arithmetic.{arithmetic_effect}
+use Rattle.cpu6502.specs.Compares.{compare_effect}
+use Rattle.cpu6502.specs.Logic.{logic_effect}
+use Rattle.cpu6502.specs.Shifts.{shift_effect, accumulator_effect}
+use Rattle.cpu6502.specs.Counts.{count_effect}
+use Rattle.cpu6502.specs.Branches.{branch_effect}
+use Rattle.cpu6502.specs.Stack.{stack_effect}
+use Rattle.cpu6502.specs.Jumps.{jump_effect}
+use Rattle.cpu6502.specs.Flags.{flag_effect}
+use Rattle.cpu6502.specs.Transfers.{transfer_effect}
+pub use Rattle.cpu6502.specs.Registers.{stack_place, with_sign_and_zero, with_a, with_x, quiet, storing}
+pub use Rattle.cpu6502.specs.Jumps.{pulled_return}
 
 -- the two bytes at a place, the low one first; the place behind the last is 0
 abbrev pub word_at : (ℕ → ℕ) → ℕ → ℕ
@@ -42,47 +55,38 @@ address_of IndirectY at pc x y = (zero_page_word at (at ((pc + 1) % 65536)) + y)
 address_of Indirect at pc x y = same_page_word at (word_at at ((pc + 1) % 65536))
 address_of Relative at pc x y = (pc + 2 + displacement (at ((pc + 1) % 65536))) % 65536
 
--- the place of the stack that a stack pointer names, in page 1
-abbrev pub stack_place : ℕ → ℕ
-stack_place sp = 256 + sp % 256
+-- an effect, or the other one where there is none
+abbrev pub or_effect : Option Effect → Option Effect → Option Effect
+or_effect (Some done) other = Some done
+or_effect None other = other
 
--- the registers with N and Z of a result
-abbrev pub with_sign_and_zero : Cpu → ℕ → Cpu
-with_sign_and_zero cpu byte = record cpu { n = nat_le 128 byte; z = nat_eq byte 0 }
+-- what the instructions do that work on bytes
+abbrev pub data_effect : Mnemonic → ℕ → (ℕ → ℕ) → Cpu → Option Effect
+data_effect mnemonic place at cpu =
+    or_effect (load_effect mnemonic place at cpu) (or_effect (arithmetic_effect mnemonic place at cpu) (or_effect (compare_effect mnemonic place at cpu) (or_effect (logic_effect mnemonic place at cpu) (or_effect (shift_effect mnemonic place at cpu) (count_effect mnemonic place at cpu)))))
 
--- the registers with a byte in A, and with one in X, and its N and Z
-abbrev pub with_a : Cpu → ℕ → Cpu
-with_a cpu byte = with_sign_and_zero (record cpu { a = byte }) byte
+-- what the others do
+abbrev pub other_effect : Mnemonic → ℕ → ℕ → (ℕ → ℕ) → Cpu → Option Effect
+other_effect mnemonic own place at cpu =
+    or_effect (branch_effect mnemonic place cpu) (or_effect (jump_effect mnemonic own place at cpu) (or_effect (stack_effect mnemonic at cpu) (or_effect (flag_effect mnemonic cpu) (transfer_effect mnemonic cpu))))
 
-abbrev pub with_x : Cpu → ℕ → Cpu
-with_x cpu byte = with_sign_and_zero (record cpu { x = byte }) byte
+-- where an instruction stops instead: BRK always, sums and differences with the decimal flag set
+abbrev pub stop_of : Mnemonic → ℕ → Cpu → Option Stop
+stop_of Brk own cpu = Some (Break own)
+stop_of Adc own cpu = if cpu.d then Some (Decimal own) else None
+stop_of Sbc own cpu = if cpu.d then Some (Decimal own) else None
+stop_of _ own cpu = None
 
--- an effect that writes nothing
-abbrev pub quiet : Cpu → Effect
-quiet cpu = record { cpu = cpu; writes = [] }
+-- a stop, or else an effect; each name but BRK has one
+abbrev pub unless_stopped : Option Stop → ℕ → Option Effect → Result Effect Stop
+unless_stopped (Some stop) own outcome = Err stop
+unless_stopped None own (Some outcome) = Ok outcome
+unless_stopped None own None = Err (Illegal own)
 
--- an effect on memory alone
-abbrev pub storing : Cpu → ℕ → ℕ → Effect
-storing cpu place byte = record { cpu = cpu; writes = (record { place = place; value = byte }) ∷ [] }
-
--- the registers after a pull of two bytes, the low one first: the program counter is one more than their number
-abbrev pub pulled_return : (ℕ → ℕ) → Cpu → Cpu
-pulled_return at cpu = record cpu {
-  sp = (cpu.sp + 2) % 256;
-  pc = (at (stack_place (cpu.sp + 1)) + 256 * at (stack_place (cpu.sp + 2)) + 1) % 65536;
-}
-
--- the effect of an instruction on registers whose program counter is at the next one; own is its own place, place that of its operand
+-- the effect of an instruction on registers whose program counter is at the next one; own is its own place, place that of its operand in memory
 abbrev pub effect_of : Mnemonic → ℕ → ℕ → (ℕ → ℕ) → Cpu → Result Effect Stop
-effect_of Jmp own place at cpu = Ok (quiet (record cpu { pc = place }))
-effect_of Rts own place at cpu = Ok (quiet (pulled_return at cpu))
-effect_of Bpl own place at cpu = Ok (quiet (if cpu.n then cpu else record cpu { pc = place }))
-effect_of Sta own place at cpu = Ok (storing cpu place cpu.a)
-effect_of Lda own place at cpu = Ok (quiet (with_a cpu (at place)))
-effect_of Ldx own place at cpu = Ok (quiet (with_x cpu (at place)))
-effect_of Dex own place at cpu = Ok (quiet (with_x cpu ((cpu.x + 255) % 256)))
--- a name that has no row yet
-effect_of _ own place at cpu = Err (Illegal own)
+effect_of mnemonic own place at cpu =
+    unless_stopped (stop_of mnemonic own cpu) own (or_effect (data_effect mnemonic place at cpu) (other_effect mnemonic own place at cpu))
 
 -- the registers behind an instruction of so many bytes
 abbrev pub moved : Cpu → ℕ → Cpu
@@ -92,7 +96,9 @@ moved cpu length = record cpu { pc = (cpu.pc + length) % 65536 }
 abbrev pub done_by : Option Meaning → (ℕ → ℕ) → Cpu → Result Effect Stop
 done_by None at cpu = Err (Illegal cpu.pc)
 done_by (Some meaning) at cpu =
-    effect_of meaning.0 cpu.pc (address_of meaning.1 at cpu.pc cpu.x cpu.y) at (moved cpu (length_of meaning.1))
+    if is_accumulator meaning.1
+    then accumulator_effect meaning.0 cpu.pc (moved cpu (length_of meaning.1))
+    else effect_of meaning.0 cpu.pc (address_of meaning.1 at cpu.pc cpu.x cpu.y) at (moved cpu (length_of meaning.1))
 
 -- the effect of the instruction at the program counter
 abbrev pub effect : (ℕ → ℕ) → Cpu → Result Effect Stop

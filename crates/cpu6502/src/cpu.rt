@@ -1,5 +1,5 @@
-ghost use Rattle.std.specs.Prelude.{◌≡◌};
-ghost use Rattle.cpu6502.specs.Effects.{with_sign_and_zero, with_a, with_x};
+ghost use Rattle.std.specs.Prelude.{◌≡◌, ◌≤◌};
+ghost use Rattle.cpu6502.specs.Registers.{one_if, with_sign_and_zero, with_a, with_x, with_y};
 
 /// The registers: accumulator, two index registers, stack pointer (into page 1), program counter, and the flags.
 #[derive(Clone, Copy, Debug, PartialEq, Eq)]
@@ -38,8 +38,15 @@ impl Cpu {
         Cpu { x: byte, ..self }.with_sign_and_zero(byte)
     }
 
+    /// These registers with a byte in Y, and its flags N and Z.
+    pub fn with_y(self, byte: u8) -> Cpu
+        ensures { result ≡ with_y self byte }
+    {
+        Cpu { y: byte, ..self }.with_sign_and_zero(byte)
+    }
+
     /// These registers with the flags N and Z of a result.
-    fn with_sign_and_zero(self, byte: u8) -> Cpu
+    pub fn with_sign_and_zero(self, byte: u8) -> Cpu
         ensures { result ≡ with_sign_and_zero self byte }
     {
         Cpu {
@@ -48,4 +55,12 @@ impl Cpu {
             ..self
         }
     }
+}
+
+/// A flag as a number.
+pub fn one_if(flag: bool) -> u8
+    ensures value { result ≡ one_if flag }
+    ensures bound { result ≤ 1 }
+{
+    if flag { 1 } else { 0 }
 }

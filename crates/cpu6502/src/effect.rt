@@ -1,3 +1,6 @@
+ghost use Rattle.std.specs.Prelude.{◌≡◌};
+ghost use Rattle.cpu6502.specs.Registers.{quiet, storing};
+
 use crate::cpu::Cpu;
 use crate::log::WriteLog;
 use crate::memory::Memory;
@@ -92,4 +95,24 @@ impl Writes {
 pub struct Effect {
     pub cpu: Cpu,
     pub writes: Writes,
+}
+
+/// An effect that writes nothing.
+pub fn quiet(cpu: Cpu) -> Effect
+    ensures { result ≡ quiet cpu }
+{
+    Effect {
+        cpu,
+        writes: Writes::none(),
+    }
+}
+
+/// An effect that writes one byte.
+pub fn storing(cpu: Cpu, place: u16, value: u8) -> Effect
+    ensures { result ≡ storing cpu place value }
+{
+    Effect {
+        cpu,
+        writes: Writes::one(Write { place, value }),
+    }
 }

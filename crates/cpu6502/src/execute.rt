@@ -1,13 +1,24 @@
 ghost use Rattle.std.specs.Prelude.{◌≡◌, slice_index};
-ghost use Rattle.cpu6502.specs.Effects.{effect_of, done_by, effect, quiet, storing, pulled_return, stack_place, moved};
+ghost use Rattle.cpu6502.specs.Effects.{effect_of, done_by, effect, data_effect, other_effect, stop_of, moved};
 
-use crate::address::{joined, operand_place};
+use crate::address::operand_place;
+use crate::arithmetic::arithmetic;
+use crate::branch::branch;
+use crate::compare::compare;
+use crate::count::count;
 use crate::cpu::Cpu;
-use crate::effect::{Effect, Write, Writes};
+use crate::decode::meaning;
+use crate::effect::Effect;
+use crate::flags::flag;
+use crate::jump::jump;
+use crate::load::load;
+use crate::logic::logic;
 use crate::memory::Memory;
 use crate::mnemonic::Mnemonic;
-use crate::opcode::meaning;
+use crate::shift::{shift, shift_accumulator};
+use crate::stack::on_stack;
 use crate::stop::Stop;
+use crate::transfer::transfer;
 
 /// What the instruction at the program counter does.
 pub fn next_effect(memory: &Memory, cpu: Cpu) -> Result<Effect, Stop>
@@ -16,8 +27,13 @@ pub fn next_effect(memory: &Memory, cpu: Cpu) -> Result<Effect, Stop>
     match meaning(memory.read(cpu.pc)) {
         None => Err(Stop::Illegal { at: cpu.pc }),
         Some((mnemonic, mode)) => {
-            let place = operand_place(mode, memory, cpu);
-            execute(mnemonic, cpu.pc, place, memory, behind(cpu, mode.length()))
+            let next = behind(cpu, mode.length());
+            if mode.is_accumulator() {
+                shift_accumulator(mnemonic, cpu.pc, next)
+            } else {
+                let place = operand_place(mode, memory, cpu);
+                execute(mnemonic, cpu.pc, place, memory, next)
+            }
         }
     }
 }
@@ -42,54 +58,72 @@ fn execute(
 ) -> Result<Effect, Stop>
     ensures { result ≡ effect_of mnemonic own place (slice_index memory.now) cpu }
 {
+    if let Some(stop) = stop(mnemonic, own, cpu) {
+        return Err(stop);
+    }
+    if let Some(effect) = on_data(mnemonic, place, memory, cpu) {
+        return Ok(effect);
+    }
+    match other(mnemonic, own, place, memory, cpu) {
+        Some(effect) => Ok(effect),
+        None => Err(Stop::Illegal { at: own }),
+    }
+}
+
+/// Where an instruction stops instead of its effect.
+fn stop(mnemonic: Mnemonic, own: u16, cpu: Cpu) -> Option<Stop>
+    ensures { result ≡ stop_of mnemonic own cpu }
+{
     match mnemonic {
-        Mnemonic::Jmp => Ok(quiet(Cpu { pc: place, ..cpu })),
-        Mnemonic::Rts => Ok(quiet(returned(memory, cpu))),
-        Mnemonic::Bpl => Ok(quiet(if cpu.n { cpu } else { Cpu { pc: place, ..cpu } })),
-        Mnemonic::Sta => Ok(storing(cpu, place, cpu.a)),
-        Mnemonic::Lda => Ok(quiet(cpu.with_a(memory.read(place)))),
-        Mnemonic::Ldx => Ok(quiet(cpu.with_x(memory.read(place)))),
-        Mnemonic::Dex => Ok(quiet(cpu.with_x(cpu.x.wrapping_sub(1)))),
-        _ => Err(Stop::Illegal { at: own }),
+        Mnemonic::Brk => Some(Stop::Break { at: own }),
+        Mnemonic::Adc | Mnemonic::Sbc => {
+            if cpu.d {
+                Some(Stop::Decimal { at: own })
+            } else {
+                None
+            }
+        }
+        _ => None,
     }
 }
 
-/// An effect that writes nothing.
-fn quiet(cpu: Cpu) -> Effect
-    ensures { result ≡ quiet cpu }
+/// What the instructions do that work on bytes.
+fn on_data(mnemonic: Mnemonic, place: u16, memory: &Memory, cpu: Cpu) -> Option<Effect>
+    ensures { result ≡ data_effect mnemonic place (slice_index memory.now) cpu }
 {
-    Effect {
-        cpu,
-        writes: Writes::none(),
+    if let Some(effect) = load(mnemonic, place, memory, cpu) {
+        return Some(effect);
     }
+    if let Some(effect) = arithmetic(mnemonic, place, memory, cpu) {
+        return Some(effect);
+    }
+    if let Some(effect) = compare(mnemonic, place, memory, cpu) {
+        return Some(effect);
+    }
+    if let Some(effect) = logic(mnemonic, place, memory, cpu) {
+        return Some(effect);
+    }
+    if let Some(effect) = shift(mnemonic, place, memory, cpu) {
+        return Some(effect);
+    }
+    count(mnemonic, place, memory, cpu)
 }
 
-/// An effect on memory alone.
-fn storing(cpu: Cpu, place: u16, value: u8) -> Effect
-    ensures { result ≡ storing cpu place value }
+/// What the others do.
+fn other(mnemonic: Mnemonic, own: u16, place: u16, memory: &Memory, cpu: Cpu) -> Option<Effect>
+    ensures { result ≡ other_effect mnemonic own place (slice_index memory.now) cpu }
 {
-    Effect {
-        cpu,
-        writes: Writes::one(Write { place, value }),
+    if let Some(effect) = branch(mnemonic, place, cpu) {
+        return Some(effect);
     }
-}
-
-/// The registers after a pull of the address of a call's last byte: the program counter is one more.
-fn returned(memory: &Memory, cpu: Cpu) -> Cpu
-    ensures { result ≡ pulled_return (slice_index memory.now) cpu }
-{
-    let low = memory.read(stack(cpu.sp.wrapping_add(1)));
-    let high = memory.read(stack(cpu.sp.wrapping_add(2)));
-    Cpu {
-        sp: cpu.sp.wrapping_add(2),
-        pc: joined(low, high).wrapping_add(1),
-        ..cpu
+    if let Some(effect) = jump(mnemonic, own, place, memory, cpu) {
+        return Some(effect);
     }
-}
-
-/// The place of the stack that a stack pointer names, in page 1.
-pub fn stack(sp: u8) -> u16
-    ensures { result ≡ stack_place sp }
-{
-    256 + u16::from(sp)
+    if let Some(effect) = on_stack(mnemonic, memory, cpu) {
+        return Some(effect);
+    }
+    if let Some(effect) = flag(mnemonic, cpu) {
+        return Some(effect);
+    }
+    transfer(mnemonic, cpu)
 }

@@ -10,20 +10,39 @@
 #![tactic(auto)]
 
 mod address;
+mod arithmetic;
+mod branch;
+mod compare;
+mod count;
 mod cpu;
+mod decode;
 mod effect;
+mod encode;
 mod execute;
+mod flags;
+mod jump;
+pub mod laws;
+mod load;
 mod log;
+mod logic;
 mod machine;
 mod memory;
 mod mnemonic;
-mod opcode;
+#[cfg(test)]
+mod mode_tests;
+#[cfg(test)]
+mod row_tests;
+mod shift;
+mod stack;
 mod stop;
 #[cfg(test)]
 mod tests;
+mod transfer;
 
 pub use cpu::Cpu;
+pub use decode::meaning;
 pub use effect::{Effect, Write, Writes};
+pub use encode::opcode;
 pub use log::{SidWrite, SidWrites, WriteLog};
 pub use machine::Machine;
 pub use memory::Memory;

@@ -6,9 +6,10 @@ ghost use Rattle.cpu6502.specs.Log.{log_of, sid_writes};
 
 use crate::cpu::Cpu;
 use crate::effect::Effect;
-use crate::execute::{next_effect, stack};
+use crate::execute::next_effect;
 use crate::log::WriteLog;
 use crate::memory::Memory;
+use crate::stack::stack;
 use crate::stop::{CallStop, Stop};
 
 /// A processor and its memory.

@@ -83,7 +83,7 @@ pub enum Mode {
 
 impl Mode {
     ghost use Rattle.std.specs.Prelude.{◌≡◌};
-    ghost use Rattle.cpu6502.specs.Opcodes.{length_of};
+    ghost use Rattle.cpu6502.specs.Opcodes.{length_of, is_accumulator};
 
     /// The bytes that an instruction of this mode takes, with its opcode: 1 to 3.
     pub fn length(self) -> u8
@@ -99,6 +99,16 @@ impl Mode {
             | Mode::IndirectX
             | Mode::IndirectY
             | Mode::Relative => 2,
+        }
+    }
+
+    /// Whether an instruction of this mode works on the accumulator in the place of memory.
+    pub fn is_accumulator(self) -> bool
+        ensures { result ≡ is_accumulator self }
+    {
+        match self {
+            Mode::Accumulator => true,
+            _ => false,
         }
     }
 }

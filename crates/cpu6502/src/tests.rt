@@ -3,10 +3,10 @@ use std::alloc::Global;
 use std::test::Fail;
 
 /// The byte of memory where nothing else stands: no opcode of this machine.
-const ELSEWHERE: u8 = 0x02;
+pub const ELSEWHERE: u8 = 0x02;
 
 /// Registers that no row of the tables leaves out.
-const START: Cpu = Cpu {
+pub const START: Cpu = Cpu {
     a: 0x5A,
     x: 1,
     y: 0x33,
@@ -23,17 +23,17 @@ const START: Cpu = Cpu {
 /// One step by the MOS 6502 programming manual: three bytes at the program counter, the registers before and after, and
 /// a place with the byte that it has afterwards.
 #[derive(Clone, Copy)]
-struct Row {
-    name: &'static str,
-    code: [u8; 3],
-    before: Cpu,
-    after: Cpu,
-    place: u16,
-    byte: u8,
+pub struct Row {
+    pub name: &'static str,
+    pub code: [u8; 3],
+    pub before: Cpu,
+    pub after: Cpu,
+    pub place: u16,
+    pub byte: u8,
 }
 
 /// A row that writes nothing.
-fn quiet(name: &'static str, code: [u8; 3], before: Cpu, after: Cpu) -> Row {
+pub fn quiet(name: &'static str, code: [u8; 3], before: Cpu, after: Cpu) -> Row {
     Row {
         name,
         code,
@@ -241,7 +241,7 @@ fn machine(alloc: Global, cpu: Cpu, code: &[u8]) -> Result<Machine, NoMemory> {
 }
 
 /// One step of a machine with this code at its program counter: the registers after it, and a byte of memory.
-fn stepped(
+pub fn stepped(
     alloc: Global,
     before: Cpu,
     code: [u8; 3],

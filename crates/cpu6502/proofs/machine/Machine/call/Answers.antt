@@ -1,4 +1,4 @@
-use Rattle.std.proofs.Common.{◌≡◌, ℕ, ◌+◌, ◌<◌, ◌≤◌, Ok, Err, ap, ◌∙◌, refl, subst, arith}
+use Rattle.std.proofs.Common.{◌≡◌, ℕ, ◌+◌, ◌<◌, ◌≤◌, Ok, Err, ap, ◌∙◌, refl, sym, subst, arith}
 use Rattle.std.proofs.lemmas.Bool.{false≢true}
 use Rattle.cpu6502.specs.declared.machine.Machine.{Machine}
 use Rattle.cpu6502.specs.declared.stop.Stop.{Stop}
@@ -27,6 +27,15 @@ returns-then-steps-budget-clause-fails c = λ reason after fails.
     let here = λ (back : HasReturned c.args.self.now c.stepping.self). false≢true (c.stepping-test.ensures.1 (back.at_zero, back.same_stack)) in
     let under_way = used_up c.args.self.now c.stepping.self c.args.address c.args.a c.stepping.steps c.args.budget i.runs i.out here c.if-steps-budget.true in
     ap Err (under_way_fails c.args.self.now c.args.address c.args.a c.args.budget c.stepping.self after reason under_way fails)
+
+pub returns-in-Err-clause-failed : goal.returns-in-Err-clause-failed
+returns-in-Err-clause-failed c =
+    let i = c.stepping.invariant in
+    let here = λ (back : HasReturned c.args.self.now c.stepping.self). false≢true (c.stepping-test.ensures.1 (back.at_zero, back.same_stack)) in
+    let stopped = stopped_at c.args.self.now c.stepping.self c.args.address c.args.a c.stepping.steps c.in-Err.stop i.runs i.out here c.in-Err.ensures.stopped in
+    let lt : c.stepping.steps < c.args.budget = omega (arith, below c.stepping.steps c.args.budget i.within c.if-steps-budget.false) in
+    let there = subst (λ (after : Machine). MeetsStop c.args.self.now c.args.address c.args.a c.stepping.steps c.in-Err.stop after) (sym c.in-Err.ensures.same) stopped in
+    (c.stepping.steps, lt, there)
 
 pub returns-in-Err-clause-returns : goal.returns-in-Err-clause-returns
 returns-in-Err-clause-returns c = λ steps after called le.

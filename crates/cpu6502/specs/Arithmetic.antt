@@ -1,0 +1,27 @@
+-- Sums and differences with the carry.
+use Rattle.std.specs.Prelude.{ℕ, ◌+◌, ◌-◌, ◌%◌, Bool, ◌&&◌, Option, Some, None, nat_le, nat_lt, if◌then◌else◌}
+use Rattle.cpu6502.specs.declared.mnemonic.Mnemonic.{Mnemonic}
+use Rattle.cpu6502.specs.declared.mnemonic.Mnemonic.TheVariants.{Adc, Sbc}
+use Rattle.cpu6502.specs.declared.cpu.Cpu.{Cpu}
+use Rattle.cpu6502.specs.declared.effect.Effect.{Effect}
+use Rattle.cpu6502.specs.Registers.{one_if, with_a, quiet}
+
+-- whether the signed sum of two bytes does not fit: two negative numbers have a sum byte that is not, or two others one that is
+abbrev pub overflows : ℕ → ℕ → ℕ → Bool
+overflows a byte sum =
+    if nat_le 128 a then nat_le 128 byte && nat_lt sum 128 else nat_lt byte 128 && nat_le 128 sum
+
+-- the registers with a sum in A: N and Z of its byte, C where it passes 255, and V
+abbrev pub with_sum : Cpu → ℕ → ℕ → Cpu
+with_sum cpu byte sum =
+    with_a (record cpu { v = overflows cpu.a byte (sum % 256); c = nat_le 256 sum }) (sum % 256)
+
+-- A and a byte and the carry
+abbrev pub added : Cpu → ℕ → Cpu
+added cpu byte = with_sum cpu byte (cpu.a + byte + one_if cpu.c)
+
+-- a difference is the sum with the byte's complement: A - M - (1 - C) is A + (255 - M) + C - 256
+abbrev pub arithmetic_effect : Mnemonic → ℕ → (ℕ → ℕ) → Cpu → Option Effect
+arithmetic_effect Adc place at cpu = Some (quiet (added cpu (at place)))
+arithmetic_effect Sbc place at cpu = Some (quiet (added cpu (255 - at place)))
+arithmetic_effect _ place at cpu = None

@@ -1,0 +1,18 @@
+-- Comparisons of a register with memory.
+use Rattle.std.specs.Prelude.{ℕ, ◌+◌, ◌-◌, ◌%◌, Option, Some, None, nat_le}
+use Rattle.cpu6502.specs.declared.mnemonic.Mnemonic.{Mnemonic}
+use Rattle.cpu6502.specs.declared.mnemonic.Mnemonic.TheVariants.{Cmp, Cpx, Cpy}
+use Rattle.cpu6502.specs.declared.cpu.Cpu.{Cpu}
+use Rattle.cpu6502.specs.declared.effect.Effect.{Effect}
+use Rattle.cpu6502.specs.Registers.{with_sign_and_zero, quiet}
+
+-- N and Z of the difference; C where the register is not below the byte
+abbrev pub compared : Cpu → ℕ → ℕ → Cpu
+compared cpu register byte =
+    with_sign_and_zero (record cpu { c = nat_le byte register }) ((register + (256 - byte)) % 256)
+
+abbrev pub compare_effect : Mnemonic → ℕ → (ℕ → ℕ) → Cpu → Option Effect
+compare_effect Cmp place at cpu = Some (quiet (compared cpu cpu.a (at place)))
+compare_effect Cpx place at cpu = Some (quiet (compared cpu cpu.x (at place)))
+compare_effect Cpy place at cpu = Some (quiet (compared cpu cpu.y (at place)))
+compare_effect _ place at cpu = None

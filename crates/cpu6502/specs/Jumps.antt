@@ -1,0 +1,39 @@
+-- Jumps, the call, and the returns.
+use Rattle.std.specs.Prelude.{ℕ, ◌+◌, ◌*◌, ◌/◌, ◌%◌, [], ◌∷◌, Option, Some, None}
+use Rattle.cpu6502.specs.declared.mnemonic.Mnemonic.{Mnemonic}
+use Rattle.cpu6502.specs.declared.mnemonic.Mnemonic.TheVariants.{Jmp, Jsr, Rts, Rti}
+use Rattle.cpu6502.specs.declared.cpu.Cpu.{Cpu}
+use Rattle.cpu6502.specs.declared.effect.Effect.{Effect}
+use Rattle.cpu6502.specs.Registers.{stack_place, quiet}
+use Rattle.cpu6502.specs.Stack.{with_status}
+
+-- a call pushes the address of its own last byte, the high byte first
+abbrev pub called : Cpu → ℕ → ℕ → Effect
+called cpu last place = record {
+  cpu = record cpu { sp = (cpu.sp + 254) % 256; pc = place };
+  writes = (record { place = stack_place cpu.sp; value = last / 256 }) ∷ (record { place = stack_place (cpu.sp + 255); value = last % 256 }) ∷ [];
+}
+
+-- the registers after a pull of two bytes, the low one first: the program counter is one more than their number
+abbrev pub pulled_return : (ℕ → ℕ) → Cpu → Cpu
+pulled_return at cpu = record cpu {
+  sp = (cpu.sp + 2) % 256;
+  pc = (at (stack_place (cpu.sp + 1)) + 256 * at (stack_place (cpu.sp + 2)) + 1) % 65536;
+}
+
+-- the registers after a pull of the flags and of an address, to which nothing is added
+abbrev pub pulled_interrupt : (ℕ → ℕ) → Cpu → Cpu
+pulled_interrupt at cpu =
+    with_status
+    (record cpu {
+      sp = (cpu.sp + 3) % 256;
+      pc = at (stack_place (cpu.sp + 2)) + 256 * at (stack_place (cpu.sp + 3));
+    })
+    (at (stack_place (cpu.sp + 1)))
+
+abbrev pub jump_effect : Mnemonic → ℕ → ℕ → (ℕ → ℕ) → Cpu → Option Effect
+jump_effect Jmp own place at cpu = Some (quiet (record cpu { pc = place }))
+jump_effect Jsr own place at cpu = Some (called cpu ((own + 2) % 65536) place)
+jump_effect Rts own place at cpu = Some (quiet (pulled_return at cpu))
+jump_effect Rti own place at cpu = Some (quiet (pulled_interrupt at cpu))
+jump_effect _ own place at cpu = None
