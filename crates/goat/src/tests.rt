@@ -204,7 +204,12 @@ fn files_that_are_not_there_or_too_long(rt: HostRuntime) -> Result<(), Fail> {
 #[test]
 fn songs_that_sound_are_not_packed_yet(rt: HostRuntime) -> Result<(), Fail> {
     let alloc = rt.alloc();
-    assert_refused(&rt, &run(alloc, &PACK, &one_note(alloc)?)?, 15, "not built\n");
+    assert_refused(
+        &rt,
+        &run(alloc, &PACK, &one_note(alloc)?)?,
+        15,
+        "not built\n",
+    );
     let song = silence(alloc)?;
     // A pattern that isn't stored, a restart past the end, a note, no subtune.
     for (offset, byte) in [(106, 1), (104, 1), (120, 0x60), (120, 0xbe)] {
@@ -224,7 +229,10 @@ fn a_silent_song_in_another_spelling_is_packed(rt: HostRuntime) -> Result<(), Fa
     loose.push(9)?;
     let answer = run(alloc, &PACK, &loose)?;
     assert_eq!(rt; answer.status, 0);
-    assert_eq!(rt; answer.output.ok_or("no file")?, canonical.output.ok_or("no file")?);
+    assert_eq!(rt;
+        answer.output.ok_or("no file")?,
+        canonical.output.ok_or("no file")?
+    );
     Ok(())
 }
 

@@ -93,7 +93,9 @@ fn a_song_with_an_instrument_is_cut(rt: HostRuntime) -> Result<(), Fail> {
 /// A song of one pattern whose count is `count`, with so many rows, and an end row behind them or none.
 fn with_rows(alloc: Global, count: u8, rows: usize, has_end: bool) -> Result<Vec<u8>, Fail> {
     let mut parts = Vec::new(alloc);
-    parts.extend_from_slice(&[1, 2, 0, 0xff, 0, 2, 0, 0xff, 0, 2, 0, 0xff, 0, 0, 0, 0, 0, 0, 1, count])?;
+    parts.extend_from_slice(&[
+        1, 2, 0, 0xff, 0, 2, 0, 0xff, 0, 2, 0, 0xff, 0, 0, 0, 0, 0, 0, 1, count,
+    ])?;
     for _ in 0..rows {
         parts.extend_from_slice(&[0xbd, 0, 0, 0])?;
     }

@@ -18,7 +18,11 @@ fn assert_copied(
     let answer = run(alloc, &COPY, song)?;
     assert_eq!(rt; answer.status, 0, "{text}");
     assert_eq!(rt; answer.text.as_slice(), text.as_bytes());
-    assert_eq!(rt; answer.output.ok_or("no file")?.as_slice(), wanted, "{text}");
+    assert_eq!(rt;
+        answer.output.ok_or("no file")?.as_slice(),
+        wanted,
+        "{text}"
+    );
     Ok(())
 }
 
@@ -47,8 +51,8 @@ fn bytes_behind_an_endmark_are_left_out(rt: HostRuntime) -> Result<(), Fail> {
     let loose = song_with(
         alloc,
         &[
-            1, 5, 0, 0xff, 0, 0xff, 2, 3, 2, 0, 0xff, 0, 2, 0, 0xff, 0, 0, 0, 0, 0, 0, 1, 3, 0xbd, 0,
-            0, 0, 0xff, 1, 2, 3, 0x11, 0x22, 0x33, 0x44,
+            1, 5, 0, 0xff, 0, 0xff, 2, 3, 2, 0, 0xff, 0, 2, 0, 0xff, 0, 0, 0, 0, 0, 0, 1, 3, 0xbd,
+            0, 0, 0, 0xff, 1, 2, 3, 0x11, 0x22, 0x33, 0x44,
         ],
     )?;
     assert_copied(&rt, alloc, &loose, &silence(alloc)?, "wrote 128 bytes\n")
@@ -59,7 +63,9 @@ fn the_longest_orderlist_and_pattern_are_copied(rt: HostRuntime) -> Result<(), F
     let alloc = rt.alloc();
     let mut parts = vec![in alloc; 1, 255]?;
     parts.resize(256, 0)?;
-    parts.extend_from_slice(&[0xff, 253, 2, 0, 0xff, 0, 2, 0, 0xff, 0, 0, 0, 0, 0, 0, 1, 129])?;
+    parts.extend_from_slice(&[
+        0xff, 253, 2, 0, 0xff, 0, 2, 0, 0xff, 0, 0, 0, 0, 0, 0, 1, 129,
+    ])?;
     for _ in 0..128 {
         parts.extend_from_slice(&[0xbf, 0x3f, 0x0f, 0xff])?;
     }
