@@ -1,0 +1,162 @@
+//! A file worked out by hand, and the same file cut or changed at the edges of the six rules.
+
+use crate::{ByteList, Header, NoMemory, Psid, PsidFault, read, write};
+use std::alloc::{AllocError, Global};
+use std::test::Fail;
+
+/// One song at `$1000`, on a PAL machine with a 6581.
+const HEADER: Header = Header {
+    init: 0x1000,
+    play: 0x1003,
+    songs: 1,
+    start_song: 1,
+    speed: 0,
+    name: [0x41; 32],
+    author: [0x42; 32],
+    released: [0x43; 32],
+    flags: 0x0014,
+};
+
+const IMAGE: [u8; 2] = [0x60, 0xEA];
+
+/// A change of the file: this word, high byte first, at this offset, and then this length. What the file is read as:
+/// a fault, or a file.
+#[derive(Clone, Copy)]
+struct Case {
+    at: usize,
+    word: u16,
+    length: usize,
+    fault: Option<PsidFault>,
+}
+
+/// A changed word that is a fault, or isn't.
+const fn changed(at: usize, word: u16, fault: Option<PsidFault>) -> Case {
+    Case {
+        at,
+        word,
+        length: 128,
+        fault,
+    }
+}
+
+/// A file that is cut, with its version as it is.
+const fn cut(length: usize, fault: Option<PsidFault>) -> Case {
+    Case {
+        at: 0x04,
+        word: 2,
+        length,
+        fault,
+    }
+}
+
+fn cases() -> [Case; 28] {
+    let truncated = Some(PsidFault::Truncated);
+    let unsupported = Some(PsidFault::Unsupported);
+    let bad_field = Some(PsidFault::BadField);
+    [
+        cut(0, Some(PsidFault::NotPsid)),
+        cut(3, Some(PsidFault::NotPsid)),
+        changed(0x00, 0x5253, Some(PsidFault::NotPsid)),
+        cut(4, truncated),
+        cut(123, truncated),
+        changed(0x04, 1, unsupported),
+        changed(0x04, 3, unsupported),
+        changed(0x0C, 0, unsupported),
+        changed(0x76, 0x0015, unsupported),
+        changed(0x76, 0x0016, unsupported),
+        changed(0x76, 0xFFFC, None),
+        changed(0x06, 0x0076, bad_field),
+        changed(0x0E, 0, bad_field),
+        changed(0x0E, 1, None),
+        changed(0x0E, 256, None),
+        changed(0x0E, 257, bad_field),
+        changed(0x10, 0, bad_field),
+        changed(0x10, 2, bad_field),
+        cut(124, truncated),
+        cut(125, truncated),
+        cut(126, None),
+        // An image of two bytes at $FFFE, and at $FFFF: the address stands low byte first.
+        changed(0x7C, 0xFEFF, None),
+        changed(0x7C, 0xFFFF, bad_field),
+        // A load word that isn't 0, with an image of four bytes at $FFFC and at $FFFD, and with no image.
+        changed(0x08, 0xFFFC, None),
+        changed(0x08, 0xFFFD, bad_field),
+        Case {
+            at: 0x08,
+            word: 0xFFFF,
+            length: 124,
+            fault: None,
+        },
+        // Init 0 stands for the image's address.
+        changed(0x0A, 0, None),
+        changed(0x12, 0xFFFF, None),
+    ]
+}
+
+/// What the changed file is read as.
+fn fault_of(alloc: Global, case: Case) -> Result<Option<PsidFault>, NoMemory> {
+    let mut file = write(alloc, &HEADER, 0x1000, &IMAGE)?;
+    for (byte, changed) in file.iter_mut().skip(case.at).zip(case.word.to_be_bytes()) {
+        *byte = changed;
+    }
+    file.truncate(case.length);
+    Ok(read(alloc, &file).err())
+}
+
+#[test]
+fn rules_have_their_edges(rt: HostRuntime) -> Result<(), Fail> {
+    for case in cases() {
+        assert_eq!(rt; fault_of(rt.alloc(), case)?, case.fault);
+    }
+    Ok(())
+}
+
+/// The file of the header and the image, from $00 to the speed and from the flags to the end.
+const FRONT: [u8; 22] = [
+    0x50, 0x53, 0x49, 0x44, 0x00, 0x02, 0x00, 0x7C, 0x00, 0x00, 0x10, 0x00, 0x10, 0x03, 0x00, 0x01,
+    0x00, 0x01, 0x00, 0x00, 0x00, 0x00,
+];
+
+const END: [u8; 10] = [0x00, 0x14, 0x00, 0x00, 0x00, 0x00, 0x00, 0x10, 0x60, 0xEA];
+
+#[test]
+fn a_file_is_written_and_read(rt: HostRuntime) -> Result<(), Fail> {
+    let file = write(rt.alloc(), &HEADER, 0x1000, &IMAGE)?;
+    assert!(rt; file.starts_with(&FRONT));
+    assert!(rt; file.ends_with(&END));
+    let Psid {
+        header,
+        load,
+        image,
+    } = read(rt.alloc(), &file)?;
+    assert_eq!(rt; header, HEADER);
+    assert_eq!(rt; load, 0x1000);
+    assert_eq!(rt; image.as_slice(), IMAGE.as_slice());
+    Ok(())
+}
+
+#[test]
+fn faults_have_texts(rt: HostRuntime) -> Result<(), Fail> {
+    let texts = [
+        (PsidFault::NotPsid, "not a PSID: bad magic"),
+        (PsidFault::Truncated, "not a PSID: truncated"),
+        (PsidFault::Unsupported, "not a PSID: unsupported"),
+        (PsidFault::BadField, "not a PSID: bad field"),
+        (PsidFault::NoMemory, "no memory"),
+    ];
+    for (fault, text) in texts {
+        assert_eq!(rt; fault.to_string(rt.alloc())?.as_str(), text);
+    }
+    Ok(())
+}
+
+#[test]
+fn lists_grow(rt: HostRuntime) -> Result<(), Fail> {
+    let mut list = ByteList::new(rt.alloc());
+    list.push(0x60)?;
+    list.push(0xEA)?;
+    assert_eq!(rt; list.as_slice(), IMAGE.as_slice());
+    let list = ByteList::from_vec(vec![in rt.alloc(); 0x60, 0xEA]?);
+    assert_eq!(rt; list.as_slice(), IMAGE.as_slice());
+    Ok(())
+}
