@@ -1,0 +1,79 @@
+-- An image in memory that holds 0, put in byte by byte; and what stands where in it.
+use Rattle.std.proofs.Common.{◌≡◌, ℕ, zero, suc, ◌+◌, ◌-◌, ◌≤◌, ◌<◌, List, [], ◌∷◌, ◌++◌, length, take, drop, replicate, get_or, slice_index, slice_set, refl, sym, ap, ◌∙◌, arith, append_assoc, append-nil, length-append}
+use Rattle.std.specs.Prelude.{All}
+use Rattle.std.proofs.lemmas.List.{set_at, take_more, take_all, length-replicate, length-take-le, replicate-append-replicate, get_or-append-add, get_or_append_left, get_or-replicate, ext_get_or}
+use Rattle.std.proofs.lemmas.List.Elements.{All-append, All-replicate}
+use Rattle.cpu6502.specs.Code.{Holds, IsMachine}
+use Rattle.psid.specs.declared.header.Psid.{Psid}
+use Rattle.sid_run.specs.State.{loaded_memory, loaded_machine}
+use Rattle.sid_run.specs.Laws.{ImageStands, LoadedIsMachine}
+
+-- memory with the first i bytes of an image
+abbrev pub partly_loaded : ℕ → List ℕ → ℕ → List ℕ
+partly_loaded load image i = (replicate load 0 ++ take i image) ++ replicate (65536 - (load + i)) 0
+
+zeros_are : (xs : List ℕ) → All (λ byte. byte ≡ 0) xs → xs ≡ replicate (length xs) 0
+zeros_are xs h =
+    ext_get_or 0 xs (replicate (length xs) 0) (sym (length-replicate (length xs) 0))
+    (λ i lt. h i 0 lt ∙ sym (get_or-replicate (length xs) i 0 0 lt))
+
+zeros_in_parts : (size load : ℕ) (memory : List ℕ) → length memory ≡ size → All (λ byte. byte ≡ 0) memory → load ≤ size
+    → memory ≡ (replicate load 0 ++ []) ++ replicate (size - (load + 0)) 0
+zeros_in_parts size load memory l z f =
+    let back : size - load ≡ size - (load + 0) = omega arith in
+    let whole : size ≡ load + (size - load) = omega arith in
+    zeros_are memory z
+    ∙ ap (λ (n : ℕ). replicate {A = ℕ} n 0) (l ∙ whole)
+    ∙ sym (replicate-append-replicate load (size - load) 0)
+    ∙ ap (λ (xs : List ℕ). xs ++ replicate (size - load) 0) (sym (append-nil (replicate load 0)))
+    ∙ ap (λ (n : ℕ). (replicate load 0 ++ []) ++ replicate n 0) back
+
+-- none of its bytes
+pub partly_loaded-none : (load : ℕ) (image memory : List ℕ) → length memory ≡ 65536 → All (λ byte. byte ≡ 0) memory → load + length image ≤ 65536
+    → memory ≡ partly_loaded load image 0
+partly_loaded-none load image memory l z f = zeros_in_parts 65536 load memory l z (omega arith)
+
+-- one byte more
+pub partly_loaded-more : (load : ℕ) (image : List ℕ) (i : ℕ) → i < length image → load + length image ≤ 65536
+    → slice_set (partly_loaded load image i) (load + i) (get_or image i 0) ≡ partly_loaded load image (i + 1)
+partly_loaded-more load image i h f =
+    let left : 65536 - (load + i) ≡ suc (65536 - (load + (i + 1))) = omega arith in
+    let taken : length (take i image) ≡ i = length-take-le i image (omega arith) in
+    let zeros : length (replicate {A = ℕ} load 0) ≡ load = length-replicate load 0 in
+    let front : length (replicate load 0 ++ take i image) ≡ load + i = omega (arith, length-append (replicate load 0) (take i image)) in
+    let more : take (i + 1) image ≡ take i image ++ get_or image i 0 ∷ [] = take_more image i 0 h in
+    ap (λ (n : ℕ). slice_set ((replicate load 0 ++ take i image) ++ replicate n 0) (load + i) (get_or image i 0)) left
+    ∙ set_at (replicate load 0 ++ take i image) 0 (replicate (65536 - (load + (i + 1))) 0) (get_or image i 0) (load + i) front
+    ∙ rw more (simp append_assoc)
+
+-- all of its bytes
+pub partly_loaded-all : (load : ℕ) (image : List ℕ) → partly_loaded load image (length image) ≡ loaded_memory load image
+unfolding loaded_memory
+partly_loaded-all load image = let all = take_all (length image) image (omega arith) in rw all
+
+pub image_stands : ImageStands
+unfolding loaded_memory
+image_stands psid f = record {
+  byte =
+      λ k lt.
+      let zeros : length (replicate {A = ℕ} psid.load 0) ≡ psid.load = length-replicate psid.load 0 in
+      let front : psid.load + k < length (replicate psid.load 0 ++ psid.image) = omega (arith, length-append (replicate psid.load 0) psid.image) in
+      get_or_append_left (replicate psid.load 0 ++ psid.image) (replicate (65536 - (psid.load + length psid.image)) 0) 0 (psid.load + k) front
+      ∙ ap (λ (n : ℕ). get_or (replicate psid.load 0 ++ psid.image) (n + k) 0) (sym zeros)
+      ∙ get_or-append-add (replicate psid.load 0) psid.image k 0;
+}
+
+pub loaded_is_machine : LoadedIsMachine
+unfolding loaded_memory
+loaded_is_machine psid f bytes = record {
+  size = simp (length-append, length-replicate) (omega arith);
+  bytes =
+      All-append (λ (byte : ℕ). byte < 256) (replicate psid.load 0 ++ psid.image) (replicate (65536 - (psid.load + length psid.image)) 0)
+      (All-append (λ (byte : ℕ). byte < 256) (replicate psid.load 0) psid.image (All-replicate (λ (byte : ℕ). byte < 256) psid.load 0 (omega arith)) bytes)
+      (All-replicate (λ (byte : ℕ). byte < 256) (65536 - (psid.load + length psid.image)) 0 (omega arith));
+  a = omega arith;
+  x = omega arith;
+  y = omega arith;
+  sp = omega arith;
+  pc = omega arith;
+}

@@ -1,0 +1,8 @@
+use Rattle.sid_run.proofs.Images.{image_stands, loaded_is_machine}
+use Rattle.sid_run.proofs.laws.files_are_loaded.Goals as goal
+
+pub returns-clause-image : goal.returns-clause-image
+returns-clause-image c = image_stands
+
+pub returns-clause-machine : goal.returns-clause-machine
+returns-clause-machine c = loaded_is_machine

@@ -1,0 +1,65 @@
+-- A runner as contracts see it, the machine that a PSID v2 file is loaded into, and what a call leaves of a runner.
+use Rattle.std.specs.Prelude.{◌≡◌, ℕ, ◌+◌, ◌-◌, List, [], ◌++◌, length, slice_index, replicate, false, Option, None}
+use Rattle.cpu6502.specs.declared.cpu.Cpu.{Cpu}
+use Rattle.cpu6502.specs.declared.machine.Machine.{Machine}
+use Rattle.cpu6502.specs.declared.log.WriteLog.{WriteLog}
+use Rattle.cpu6502.specs.declared.stop.CallStop.{CallStop}
+use Rattle.cpu6502.specs.Call.{entered, writes_in}
+use Rattle.cpu6502.specs.Code.{bytes_at}
+use Rattle.cpu6502.specs.Log.{log_of, sid_writes}
+use Rattle.psid.specs.declared.header.Psid.{Psid}
+
+-- its machine, the addresses of init and play, why it stopped if it did, the steps of the last call that returned, and what the last call wrote to the SID
+pub record RunnerState : Type 0 where
+  pub machine : Machine
+  pub init : ℕ
+  pub play : ℕ
+  pub stopped : Option CallStop
+  pub spent : ℕ
+  pub log : WriteLog
+
+-- the registers of a machine that nothing has run on
+abbrev pub cleared_cpu : Cpu
+cleared_cpu = record {
+  a = 0;
+  x = 0;
+  y = 0;
+  sp = 0xFF;
+  pc = 0;
+  n = false;
+  v = false;
+  d = false;
+  i = false;
+  z = false;
+  c = false;
+}
+
+-- 65,536 bytes: the image at its address, and 0 elsewhere
+unfoldable pub loaded_memory : ℕ → List ℕ → List ℕ
+loaded_memory load image = replicate load 0 ++ image ++ replicate (65536 - (load + length image)) 0
+
+abbrev pub loaded_machine : Psid → Machine
+loaded_machine psid = record { cpu = cleared_cpu; memory = loaded_memory psid.load psid.image }
+
+-- a file as it is loaded
+abbrev pub loaded : Psid → RunnerState
+loaded psid = record {
+  machine = loaded_machine psid;
+  init = psid.header.init;
+  play = psid.header.play;
+  stopped = None;
+  spent = 0;
+  log = log_of [];
+}
+
+-- the steps that a call may take
+abbrev pub most_steps : ℕ
+most_steps = 200000
+
+-- the SID's registers, the 25 bytes at $D400 to $D418
+abbrev pub sid_registers : Machine → List ℕ
+sid_registers machine = bytes_at (slice_index machine.memory) 0xD400 25
+
+-- a log holds what a call at an address, with a in the accumulator, writes to the SID in so many steps
+pub record LogsCall (log : WriteLog) (machine : Machine) (address a steps : ℕ) : Type 0 where
+  pub logged : log ≡ log_of (sid_writes (writes_in steps (entered machine address a)))

@@ -1,0 +1,33 @@
+//! What a runner puts into its machine's memory, and what it reads there.
+
+ghost use Rattle.std.specs.Prelude.{◌≡◌, ◌+◌, ◌≤◌, length, slice_index, All};
+ghost use Rattle.cpu6502.specs.Code.{bytes_at};
+ghost use Rattle.sid_run.specs.State.{loaded_memory};
+
+use cpu6502::Memory;
+
+/// The place of the SID's first register.
+const SID_BASE: u16 = 0xD400;
+
+/// Puts an image into memory that holds 0.
+pub fn put_image(memory: &mut Memory, load: u16, image: &[u8])
+    requires size { length memory.old ≡ 65536 }
+    requires zero { All (λ byte. byte ≡ 0) memory.old }
+    requires fits { load + length image.now ≤ 65536 }
+    ensures { memory.new ≡ loaded_memory load image.now }
+{
+    for (i, byte) in image.iter().enumerate() {
+        memory.write(load + i as u16, *byte);
+    }
+}
+
+/// The SID's 25 registers.
+pub fn sid_registers(memory: &Memory) -> [u8; 25]
+    ensures { result ≡ bytes_at (slice_index memory.now) 0xD400 25 }
+{
+    let mut registers = [0; 25];
+    for (i, register) in registers.iter_mut().enumerate() {
+        *register = memory.read(SID_BASE + i as u16);
+    }
+    registers
+}
