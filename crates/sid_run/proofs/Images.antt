@@ -1,12 +1,10 @@
 -- An image in memory that holds 0, put in byte by byte; and what stands where in it.
-use Rattle.std.proofs.Common.{◌≡◌, ℕ, zero, suc, ◌+◌, ◌-◌, ◌≤◌, ◌<◌, List, [], ◌∷◌, ◌++◌, length, take, drop, replicate, get_or, slice_index, slice_set, refl, sym, ap, ◌∙◌, arith, append_assoc, append-nil, length-append}
+use Rattle.std.proofs.Common.{◌≡◌, ℕ, zero, suc, ◌+◌, ◌-◌, ◌≤◌, ◌<◌, List, [], ◌∷◌, ◌++◌, length, take, replicate, get_or, slice_index, slice_set, refl, sym, ap, ◌∙◌, arith, append_assoc, append-nil, length-append, inl, inr}
 use Rattle.std.specs.Prelude.{All}
-use Rattle.std.proofs.lemmas.List.{set_at, take_more, take_all, length-replicate, length-take-le, replicate-append-replicate, get_or-append-add, get_or_append_left, get_or-replicate, ext_get_or}
+use Rattle.std.proofs.lemmas.List.{set_at, take_more, take_all, length-replicate, length-take-le, replicate-append-replicate, get_or-append-add, get_or-append_right, get_or_append_left, get_or-replicate, ext_get_or}
 use Rattle.std.proofs.lemmas.List.Elements.{All-append, All-replicate}
-use Rattle.cpu6502.specs.Code.{Holds, IsMachine}
-use Rattle.psid.specs.declared.header.Psid.{Psid}
-use Rattle.sid_run.specs.State.{loaded_memory, loaded_machine}
-use Rattle.sid_run.specs.Laws.{ImageStands, LoadedIsMachine}
+use Rattle.sid_run.specs.State.{loaded_memory}
+use Rattle.sid_run.specs.Laws.{ImageStands, ElsewhereIsZero, LoadedIsMachine}
 
 -- memory with the first i bytes of an image
 abbrev pub partly_loaded : ℕ → List ℕ → ℕ → List ℕ
@@ -51,6 +49,12 @@ pub partly_loaded-all : (load : ℕ) (image : List ℕ) → partly_loaded load i
 unfolding loaded_memory
 partly_loaded-all load image = let all = take_all (length image) image (omega arith) in rw all
 
+-- each byte of zeros is 0, and so is what is read past their end
+get_or-zeros : (n i : ℕ) → slice_index (replicate n 0) i ≡ 0
+get_or-zeros zero i = refl
+get_or-zeros (suc n) zero = refl
+get_or-zeros (suc n) (suc i) = get_or-zeros n i
+
 pub image_stands : ImageStands
 unfolding loaded_memory
 image_stands psid f = record {
@@ -62,6 +66,20 @@ image_stands psid f = record {
       ∙ ap (λ (n : ℕ). get_or (replicate psid.load 0 ++ psid.image) (n + k) 0) (sym zeros)
       ∙ get_or-append-add (replicate psid.load 0) psid.image k 0;
 }
+
+pub elsewhere_is_zero : ElsewhereIsZero
+unfolding loaded_memory
+elsewhere_is_zero psid place (inl before) =
+    let zeros : length (replicate {A = ℕ} psid.load 0) ≡ psid.load = length-replicate psid.load 0 in
+    let front : place < length (replicate psid.load 0 ++ psid.image) = omega (arith, length-append (replicate psid.load 0) psid.image) in
+    get_or_append_left (replicate psid.load 0 ++ psid.image) (replicate (65536 - (psid.load + length psid.image)) 0) 0 place front
+    ∙ get_or_append_left (replicate psid.load 0) psid.image 0 place (omega arith)
+    ∙ get_or-replicate psid.load place 0 0 before
+elsewhere_is_zero psid place (inr behind) =
+    let zeros : length (replicate {A = ℕ} psid.load 0) ≡ psid.load = length-replicate psid.load 0 in
+    let front : length (replicate psid.load 0 ++ psid.image) ≡ psid.load + length psid.image = omega (arith, length-append (replicate psid.load 0) psid.image) in
+    get_or-append_right (replicate psid.load 0 ++ psid.image) (replicate (65536 - (psid.load + length psid.image)) 0) (psid.load + length psid.image) place 0 front behind
+    ∙ get_or-zeros (65536 - (psid.load + length psid.image)) (place - (psid.load + length psid.image))
 
 pub loaded_is_machine : LoadedIsMachine
 unfolding loaded_memory

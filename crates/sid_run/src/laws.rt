@@ -1,9 +1,16 @@
 //! Facts about the definitions, each the contract of a function that does nothing.
 
-ghost use Rattle.sid_run.specs.Laws.{ImageStands, LoadedIsMachine};
+ghost use Rattle.sid_run.specs.Laws.{ImageStands, ElsewhereIsZero, LoadedIsMachine, OneByteIsLoaded};
 
-/// The machine that a file is loaded into holds the image at its address, and is a machine.
+/// The machine that a file is loaded into holds the image at its address and 0 elsewhere, and is a machine.
 pub fn files_are_loaded()
     ensures image { ImageStands }
+    ensures elsewhere { ElsewhereIsZero }
     ensures machine { LoadedIsMachine }
+{}
+
+/// One byte, loaded at address 2.
+#[tactic(auto, unfolding(crate::specs::State::loaded_memory))]
+pub fn worked_memory()
+    ensures { OneByteIsLoaded }
 {}

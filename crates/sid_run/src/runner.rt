@@ -85,7 +85,8 @@ impl Runner {
         ensures returned { OnOk result (Called self.old.machine self.old.init subtune self.new.spent self.new.machine) }
         ensures in_budget { OnOk result (self.new.spent ≤ most_steps) }
         ensures registers { IfOk result (λ registers. registers ≡ sid_registers self.new.machine) }
-        ensures running { OnOk result ((self.old.stopped ≡ None) × (self.new.stopped ≡ None)) }
+        ensures was_running { OnOk result (self.old.stopped ≡ None) }
+        ensures is_running { OnOk result (self.new.stopped ≡ None) }
 
         // No answer: the call didn't return, and the reason is kept.
         ensures failed { self.old.stopped ≡ None → IfErr result (λ reason. FailsBy self.old.machine self.old.init subtune most_steps reason self.new.machine) }
@@ -117,7 +118,8 @@ impl Runner {
         ensures returned { OnOk result (Called self.old.machine self.old.play self.old.machine.cpu.a self.new.spent self.new.machine) }
         ensures in_budget { OnOk result (self.new.spent ≤ most_steps) }
         ensures registers { IfOk result (λ registers. registers ≡ sid_registers self.new.machine) }
-        ensures running { OnOk result ((self.old.stopped ≡ None) × (self.new.stopped ≡ None)) }
+        ensures was_running { OnOk result (self.old.stopped ≡ None) }
+        ensures is_running { OnOk result (self.new.stopped ≡ None) }
 
         // No answer: the call didn't return, and the reason is kept.
         ensures failed { self.old.stopped ≡ None → IfErr result (λ reason. FailsBy self.old.machine self.old.play self.old.machine.cpu.a most_steps reason self.new.machine) }
@@ -161,7 +163,8 @@ impl Runner {
         ensures returned { OnOk result (Called self.old.machine address a self.new.spent self.new.machine) }
         ensures in_budget { OnOk result (self.new.spent ≤ budget) }
         ensures registers { IfOk result (λ registers. registers ≡ sid_registers self.new.machine) }
-        ensures running { OnOk result ((self.old.stopped ≡ None) × (self.new.stopped ≡ None)) }
+        ensures was_running { OnOk result (self.old.stopped ≡ None) }
+        ensures is_running { OnOk result (self.new.stopped ≡ None) }
 
         ensures failed { self.old.stopped ≡ None → IfErr result (λ reason. FailsBy self.old.machine address a budget reason self.new.machine) }
         ensures kept { IfErr result (λ reason. self.new.stopped ≡ Some reason) }

@@ -1,5 +1,5 @@
-use Rattle.std.proofs.Common.{◌≡◌, ◌+◌, List, ℕ, ap, sym, ◌∙◌, slice_set, get_or, length, arith}
-use Rattle.sid_run.proofs.Images.{partly_loaded, partly_loaded-none, partly_loaded-more, partly_loaded-all}
+use Rattle.std.proofs.Common.{◌≡◌, ◌+◌, List, ℕ, ap, ◌∙◌, slice_set, get_or, length, arith}
+use Rattle.sid_run.proofs.Images.{partly_loaded, partly_loaded-more, partly_loaded-all}
 use Rattle.sid_run.proofs.memory.put_image.Goals as goal
 
 pub loop-i-preserved : goal.loop-i-preserved
