@@ -1,3 +1,4 @@
 pub mod Pieces
 pub mod HeaderPieces
 pub mod Written
+pub mod Taken

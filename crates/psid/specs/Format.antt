@@ -38,7 +38,7 @@ header_bytes header = flat_map (λ field. field.bytes) (header_fields header)
 abbrev pub psid_bytes : Header → ℕ → List ℕ → List ℕ
 psid_bytes header load image = header_bytes header ++ address_bytes load ++ image
 
--- what may be written: a header that a reader takes, and an image that doesn't pass $FFFF
+-- what may be written: an address of a play routine, bits 0 and 1 of the flags clear, 1 to 256 songs with the start song among them, and an image that doesn't pass $FFFF
 pub record IsWritable (header : Header) (load : ℕ) (image : List ℕ) : Type 0 where
   pub has_play : 0 < header.play
   pub has_no_kind : header.flags % 4 ≡ 0

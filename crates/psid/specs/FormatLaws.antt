@@ -1,6 +1,7 @@
 -- What a reader may rely on in the definitions of the format.
 use Rattle.std.specs.Prelude.{◌≡◌, ◌≢◌, ℕ, ◌+◌, ◌<◌, ◌^◌, List, [], ◌∷◌, length, Ok}
 use Rattle.psid.specs.declared.header.Header.{Header}
+use Rattle.psid.specs.declared.header.Psid.{Psid}
 use Rattle.psid.specs.Format.{Field, header_fields, header_bytes, psid_bytes, IsWritable, IsHeader}
 use Rattle.psid.specs.Reading.{psid_read, init_or_load}
 
@@ -22,3 +23,7 @@ WrittenIsRead = (header : Header) (load : ℕ) (image : List ℕ) → IsHeader h
 abbrev pub WrittenIsReadAsIs : Type 0
 WrittenIsReadAsIs = (header : Header) (load : ℕ) (image : List ℕ) → IsHeader header → load < 2 ^ 16 → IsWritable header load image → header.init ≢ 0
     → psid_read (psid_bytes header load image) ≡ Ok (record { header = header; load = load; image = image })
+
+-- what is read may be written: its image doesn't pass $FFFF, it has 1 to 256 songs, and so on
+abbrev pub ReadIsWritable : Type 0
+ReadIsWritable = (bytes : List ℕ) (psid : Psid) → psid_read bytes ≡ Ok psid → IsWritable psid.header psid.load psid.image

@@ -1,6 +1,6 @@
 //! Facts about the format, each the contract of a function that does nothing.
 
-ghost use Rattle.psid.specs.FormatLaws.{FieldsStand, WrittenIsRead, WrittenIsReadAsIs};
+ghost use Rattle.psid.specs.FormatLaws.{FieldsStand, WrittenIsRead, WrittenIsReadAsIs, ReadIsWritable};
 ghost use Rattle.psid.specs.WorkedFile.{HeaderIsSpelled, EndIsSpelled, FileIsRead, HeaderIsWanted, KindsAreUnsupported, FieldsAreInRange, ImageIsPlaced};
 
 /// Each field of the header stands at the offset that the table gives it.
@@ -12,6 +12,11 @@ pub fn fields_stand_at_their_offsets()
 pub fn what_is_written_is_read()
     ensures with_init { WrittenIsRead }
     ensures as_is { WrittenIsReadAsIs }
+{}
+
+/// A file that is read may be written.
+pub fn what_is_read_may_be_written()
+    ensures { ReadIsWritable }
 {}
 
 /// The file of one song at `$1000`, and the faults of the same file, cut or with some bytes changed.

@@ -3,6 +3,7 @@
 ghost use Rattle.std.specs.Prelude.{◌≡◌, ◌≤◌, ◌⊎◌, length, IfOk, IfErr, true};
 ghost use Rattle.psid.specs.declared.header.Psid.{Psid};
 ghost use Rattle.psid.specs.declared.faults.PsidFault.{PsidFault};
+ghost use Rattle.psid.specs.Format.{IsWritable};
 ghost use Rattle.psid.specs.Reading.{is_supported, has_good_fields, has_address, load_of, image_of, header_of, psid_read};
 
 use crate::fields::{DATA_OFFSET, MAGIC, VERSION, address_at, number_at, offset, text_at, word_at};
@@ -26,6 +27,9 @@ pub fn read(alloc: Global, bytes: &[u8]) -> Result<Psid, PsidFault>
     // What is answered is what the rules say.
     ensures found { IfOk result (λ psid. psid_read bytes.now ≡ Ok psid) }
     ensures fault { IfErr result (λ fault. (fault ≡ PsidFault.NoMemory) ⊎ (psid_read bytes.now ≡ Err fault)) }
+
+    // What is answered may be written: its image doesn't pass $FFFF, it has 1 to 256 songs, and so on.
+    ensures writable { IfOk result (λ psid. IsWritable psid.header psid.load psid.image) }
 
     // What the rules say is answered; a fault takes no memory.
     ensures only { (psid : Psid) → psid_read bytes.now ≡ Ok psid → (result ≡ Ok psid) ⊎ (result ≡ Err PsidFault.NoMemory) }
