@@ -30,7 +30,7 @@ struct Case {
 }
 
 /// A changed word that is a fault, or isn't.
-const fn changed(at: usize, word: u16, fault: Option<PsidFault>) -> Case {
+fn changed(at: usize, word: u16, fault: Option<PsidFault>) -> Case {
     Case {
         at,
         word,
@@ -40,7 +40,7 @@ const fn changed(at: usize, word: u16, fault: Option<PsidFault>) -> Case {
 }
 
 /// A file that is cut, with its version as it is.
-const fn cut(length: usize, fault: Option<PsidFault>) -> Case {
+fn cut(length: usize, fault: Option<PsidFault>) -> Case {
     Case {
         at: 0x04,
         word: 2,
@@ -49,14 +49,16 @@ const fn cut(length: usize, fault: Option<PsidFault>) -> Case {
     }
 }
 
-fn cases() -> [Case; 28] {
+/// The header's fields at their edges.
+fn header_cases() -> [Case; 20] {
+    let not_psid = Some(PsidFault::NotPsid);
     let truncated = Some(PsidFault::Truncated);
     let unsupported = Some(PsidFault::Unsupported);
     let bad_field = Some(PsidFault::BadField);
     [
-        cut(0, Some(PsidFault::NotPsid)),
-        cut(3, Some(PsidFault::NotPsid)),
-        changed(0x00, 0x5253, Some(PsidFault::NotPsid)),
+        cut(0, not_psid),
+        cut(3, not_psid),
+        changed(0x00, 0x5253, not_psid),
         cut(4, truncated),
         cut(123, truncated),
         changed(0x04, 1, unsupported),
@@ -66,12 +68,22 @@ fn cases() -> [Case; 28] {
         changed(0x76, 0x0016, unsupported),
         changed(0x76, 0xFFFC, None),
         changed(0x06, 0x0076, bad_field),
+        changed(0x0A, 0, None),
         changed(0x0E, 0, bad_field),
         changed(0x0E, 1, None),
         changed(0x0E, 256, None),
         changed(0x0E, 257, bad_field),
         changed(0x10, 0, bad_field),
         changed(0x10, 2, bad_field),
+        changed(0x12, 0xFFFF, None),
+    ]
+}
+
+/// The image and its address at their edges.
+fn image_cases() -> [Case; 8] {
+    let truncated = Some(PsidFault::Truncated);
+    let bad_field = Some(PsidFault::BadField);
+    [
         cut(124, truncated),
         cut(125, truncated),
         cut(126, None),
@@ -87,9 +99,6 @@ fn cases() -> [Case; 28] {
             length: 124,
             fault: None,
         },
-        // Init 0 stands for the image's address.
-        changed(0x0A, 0, None),
-        changed(0x12, 0xFFFF, None),
     ]
 }
 
@@ -104,8 +113,16 @@ fn fault_of(alloc: Global, case: Case) -> Result<Option<PsidFault>, NoMemory> {
 }
 
 #[test]
-fn rules_have_their_edges(rt: HostRuntime) -> Result<(), Fail> {
-    for case in cases() {
+fn header_fields_have_their_edges(rt: HostRuntime) -> Result<(), Fail> {
+    for case in header_cases() {
+        assert_eq!(rt; fault_of(rt.alloc(), case)?, case.fault);
+    }
+    Ok(())
+}
+
+#[test]
+fn images_have_their_edges(rt: HostRuntime) -> Result<(), Fail> {
+    for case in image_cases() {
         assert_eq!(rt; fault_of(rt.alloc(), case)?, case.fault);
     }
     Ok(())
