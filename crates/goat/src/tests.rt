@@ -2,6 +2,7 @@
 
 mod broken;
 mod copying;
+mod running;
 
 use cpu6502::{Cpu, Machine, Memory, WriteLog};
 use goat_cli::goat;
@@ -148,7 +149,7 @@ fn other_words_are_answered_by_the_usage(rt: HostRuntime) -> Result<(), Fail> {
     );
     assert_refused(
         &rt,
-        &run(alloc, &["pack", "s0", "o", "rau", "1000", "FC"], &song)?,
+        &run(alloc, &["pack", "s0", "o", "PSID", "1000", "FC"], &song)?,
         1,
         USAGE,
     );

@@ -1,370 +1,314 @@
--- From what a run did to what the program answers.
-use Rattle.std.proofs.Common.{◌≡◌, ◌≢◌, ◌⊎◌, inl, inr, ℕ, ◌≤◌, arith, List, [], ◌∷◌, Option, Some, None, IfSome, refl, sym, ap, ◌∙◌, subst, length}
-use Rattle.goat_io.specs.Files.{Files, file_of}
+-- From what the parts of a run did to what the run did.
+use Rattle.std.proofs.Common.{◌≡◌, ◌≢◌, ℕ, ◌+◌, ◌-◌, ◌≤◌, ◌⊎◌, inl, inr, List, [], ◌∷◌, ◌++◌, Option, Some, None, IfSome, Result, Ok, IfOk, IsErrOf, Vec, Bor, Bool, length, take, refl, sym, ap, ◌∙◌, subst, arith}
+use Rattle.std.specs.Global.{Global}
+use Rattle.std.proofs.lemmas.List.{append-nil}
+use Rattle.std.proofs.Math.Seq.{take-length}
+use Rattle.std.proofs.lemmas.Bool.{cases_lt}
+use Rattle.goat_io.specs.Files.{Files, file_of, with_file, IsAbsent, IsAbove}
 use Rattle.goat_io.specs.Written.{told_with_piece}
-use Rattle.goat_cli.specs.declared.ending.Ending.{Ending}
-use Rattle.goat_cli.specs.declared.ending.Ending.TheVariants.{Wrote, Usage, Missing, TooLong, ReadFault, NotASong, WriteFault, NoMemory, NotBuilt}
 use Rattle.song_model.specs.declared.songs.Song.{Song}
-use Rattle.gts5.specs.Spells.{Spells}
-use Rattle.gts5.specs.Faults.{fault_of}
-use Rattle.goat_cli.proofs.SongLaws.{spells_once, spells_has_no_fault}
-use Rattle.goat_cli.specs.Words.{Job, Pack, Copy, WordsOf, IsNoForm, input_of, output_of}
-use Rattle.goat_cli.specs.Lines.{missing_line, too_long_line, read_fault_line, write_fault_line, wrote_line, usage_line}
+use Rattle.song_model.specs.Silent.{IsSilent}
+use Rattle.psid.specs.declared.header.Psid.{Psid}
+use Rattle.psid.specs.Reading.{psid_read}
+use Rattle.sid_run.specs.State.{loaded}
+use Rattle.goat_cli.specs.declared.ending.Ending.{Ending}
+use Rattle.goat_cli.specs.declared.ending.Ending.TheVariants as ending
+use Rattle.goat_cli.specs.declared.refusal.Refusal.{Refusal}
+use Rattle.goat_cli.specs.declared.refusal.Refusal.TheVariants as refusal
+use Rattle.goat_cli.specs.Refusal.{HasCause, ending_of}
 use Rattle.goat_cli.specs.Ending.{status_of, line_of}
-use Rattle.goat_cli.specs.Endings.{EndsAs, NamesOf, EndsJob}
+use Rattle.goat_cli.specs.Words.{Job, Pack, Copy, Run, WordsOf, IsNoForm, input_of, output_of}
+use Rattle.goat_cli.specs.Lines.{missing_line, too_long_line, read_fault_line, wrote_line}
+use Rattle.goat_cli.specs.RegisterText.{register_text}
+use Rattle.goat_cli.specs.Packed.{IsPackedFile}
+use Rattle.cpu6502.specs.declared.machine.Machine.{Machine}
+use Rattle.goat_cli.specs.Calls.{HasSubtune, FirstCalls}
 use Rattle.goat_cli.specs.Outcome as outcome
-use Rattle.goat_cli.specs.Outcome.{Outcome, IsMissing, IsTooLong, IsNoSong, IsNotBuilt, IsDoable, IsBuilt, IsDone, Finds, FindsSong, files_after}
+use Rattle.goat_cli.specs.Outcome.{Outcome, SongOutcome, RunOutcome, JobOutcome, MadeOf, IsAny, IsCanonical, Finds, files_after, input_limit}
 use Rattle.goat_cli.specs.Rows as rows
-use Rattle.goat_cli.specs.Rows.{IsOneOf, IsOrdinary, IsPrinted, ComesWhere, ComesAbout, HoldsDone, Printed, LineOf}
+use Rattle.goat_cli.specs.Rows.{IsOneOf, IsOrdinary, IsPrinted, OfFile, SpellsOne, IsDoable, JobText, TextOf, MayPrint, CallsShown, CallsText, LeavesFiles}
+use Rattle.goat_cli.specs.Endings as ends
+use Rattle.goat_cli.specs.Endings.{WritesMade, SaysMade, SongEnds, CallsEnd, ShowEnds, Begins, JobEnds, JobSays, RunEnds, RunSays}
+use Rattle.goat_cli.proofs.Told.{told_nothing}
 
--- ---- an ending, its line and the files
+pub same_or_other : (a b : ℕ) → (a ≡ b) ⊎ (a ≢ b)
+same_or_other a b = elim (cases_lt a b) [
+  | inl below ↦ inr (λ same. omega arith)
+  | inr above ↦ elim (cases_lt b a) [ inl below ↦ inr (λ same. omega arith) | inr above' ↦ inl (omega arith) ]
+]
 
-pub no_form_ends : (words : List (List ℕ)) (files : Files) → IsNoForm words → EndsAs words files 1 usage_line (Some files)
-no_form_ends words files none = record { write = None; outcome = outcome.usage none refl refl refl; files_are = refl }
+-- ---- a song
 
-module _ (words : List (List ℕ)) (job : Job) (form : WordsOf words job) where
-  finds_of : (files : Files) (bytes : List ℕ) → file_of files (input_of job) ≡ Some bytes → length bytes ≤ outcome.song_limit → Finds words files job bytes
-  finds_of files bytes found limit = record { form = form; found = found; limit = limit }
+module _ (built : Song → Type 0) (makes : Song → List ℕ → Type 0) (output bytes : List ℕ) (files : Files) (now : Option Files) where
+  wrote_ends : (file : List ℕ) → MadeOf built makes bytes file → now ≡ Some (with_file files output file) → SongEnds built makes output bytes files now (ending.Wrote (length file))
+  wrote_ends file made are = record {
+    outcome = λ ordinary. (Some (output, file), outcome.done file made refl refl refl, are);
+    at_the_end = λ nine. absurd (omega arith);
+    leaves = inr (file, length file, made, are ∙ ap (λ f. Some (with_file files output f)) (sym (take-length file)));
+  }
 
-  pub ends_as : (files : Files) (now : Option Files) (ending : Ending) → NamesOf job ending → EndsJob job files now ending → IsOrdinary (status_of ending) → EndsAs words files (status_of ending) (line_of ending) now
-  ends_as files now (Wrote count) names did ordinary =
-      let writes = did.3 in
+  refused_ends : (r : Refusal) → HasCause built bytes r → now ≡ Some files → SongEnds built makes output bytes files now (ending_of r)
+  refused_ends (refusal.NotASong fault) cause are = record {
+    outcome = λ ordinary. (None, outcome.no_song fault cause refl refl refl, are);
+    at_the_end = λ nine. absurd (omega arith);
+    leaves = inl are;
+  }
+  refused_ends refusal.NotBuilt cause are = record {
+    outcome = λ ordinary. (None, outcome.not_built cause.0 cause.1 cause.2 refl refl refl, are);
+    at_the_end = λ nine. absurd (omega arith);
+    leaves = inl are;
+  }
+  refused_ends refusal.NoMemory cause are = record {
+    outcome = λ ordinary. absurd (ordinary.no_want refl);
+    at_the_end = λ nine. absurd (omega arith);
+    leaves = inl are;
+  }
+
+  song_ends : (made : Result (Vec ℕ Global) Refusal) (e : Ending) → IfOk made (λ file. MadeOf built makes bytes file.items) → ((r : Refusal) → IsErrOf made r → HasCause built bytes r) → WritesMade made output files now e → SongEnds built makes output bytes files now e
+  song_ends made e ok err (ends.refused r is same are) = subst (SongEnds built makes output bytes files now) (sym same) (refused_ends r (err r (subst (λ m. IsErrOf m r) (sym is) refl)) are)
+  song_ends made e ok err (ends.wrote file is same are) = subst (SongEnds built makes output bytes files now) (sym same) (wrote_ends file.items (subst (λ m. IfOk m (λ f. MadeOf built makes bytes f.items)) is ok) are)
+  song_ends made e ok err (ends.failed file is nine part) =
+      let has : MadeOf built makes bytes file.items = subst (λ m. IfOk m (λ f. MadeOf built makes bytes f.items)) is ok in
       record {
-        write = Some (output_of job, writes.file);
-        outcome = outcome.done job writes.file (record { song = writes.made.song; finds = record { bytes = did.0; finds = finds_of files did.0 did.1 did.2; spells = writes.made.spells }; built = writes.made.built; makes = writes.made.makes }) refl (ap wrote_line writes.size) refl;
-        files_are = writes.files_are;
+        outcome = λ ordinary. absurd (ordinary.no_write_fault nine);
+        at_the_end = λ same. (has.song, has.spells, has.is_built);
+        leaves = elim part [ inl are ↦ inl are | inr some ↦ inr (file.items, some.0, has, some.1) ];
       }
-  ends_as files now Usage names did ordinary = absurd names
-  ends_as files now (Missing name) names did ordinary = record {
-    write = None;
-    outcome = outcome.missing (record { job = job; form = form; absent = did.0 }) refl (ap missing_line names) refl;
-    files_are = did.1;
-  }
-  ends_as files now (TooLong name) names did ordinary = record {
-    write = None;
-    outcome = outcome.too_long (record { job = job; form = form; above = did.0 }) refl (ap too_long_line names) refl;
-    files_are = did.1;
-  }
-  ends_as files now (ReadFault name) names did ordinary = absurd (ordinary.no_read_fault refl)
-  ends_as files now (NotASong fault) names did ordinary = record {
-    write = None;
-    outcome = outcome.no_song (record { job = job; bytes = did.0; finds = finds_of files did.0 did.1 did.2; fault = fault; broken = did.3.0 }) refl refl refl;
-    files_are = did.3.1;
-  }
-  ends_as files now (WriteFault name) names did ordinary = absurd (ordinary.no_write_fault refl)
-  ends_as files now NoMemory names did ordinary = absurd (ordinary.no_want refl)
-  ends_as files now NotBuilt names did ordinary = record {
-    write = None;
-    outcome = outcome.not_built (record { job = job; song = did.3.0.0; finds = record { bytes = did.0; finds = finds_of files did.0 did.1 did.2; spells = did.3.0.1 }; other = did.3.0.2 }) refl refl refl;
-    files_are = did.3.1;
+  song_ends made e ok err (ends.wanting same are) = record {
+    outcome = λ ordinary. absurd (ordinary.no_want (ap status_of same));
+    at_the_end = λ nine. let never : 14 ≡ 9 = sym (ap status_of same) ∙ nine in absurd (omega (arith, never));
+    leaves = inl are;
   }
 
-  pub line_fits : (ending : Ending) → NamesOf job ending → status_of ending ≢ 14 → LineOf words (status_of ending) (line_of ending)
-  line_fits (Wrote count) names told = rows.wrote count refl refl
-  line_fits Usage names told = absurd names
-  line_fits (Missing name) names told = rows.missing job form refl (ap missing_line names)
-  line_fits (TooLong name) names told = rows.too_long job form refl (ap too_long_line names)
-  line_fits (ReadFault name) names told = rows.read_fault job form refl (ap read_fault_line names)
-  line_fits (NotASong fault) names told = rows.no_song fault refl refl
-  line_fits (WriteFault name) names told = rows.write_fault job form refl (ap write_fault_line names)
-  line_fits NoMemory names told = absurd (told refl)
-  line_fits NotBuilt names told = rows.not_built refl refl
+-- nothing was printed by a job for a song
+module _ (before after : Option (List ℕ)) (same : after ≡ before) where
+  none_shown : after ≡ told_with_piece before []
+  none_shown = same ∙ sym (told_nothing before)
 
--- ---- the program's answer is the ending's status, or 10 or 14
-
-module _ (words : List (List ℕ)) (ending : Ending) (answer : ℕ) (answered : IsOneOf (status_of ending ∷ 10 ∷ 14 ∷ []) answer) where
-  same_status : answer ≢ 10 → answer ≢ 14 → answer ≡ status_of ending
-  same_status fine found = elim answered [ inl same ↦ same | inr other ↦ elim other [ inl failed ↦ absurd (fine failed) | inr more ↦ elim more [ inl want ↦ absurd (found want) | inr none ↦ absurd none ] ] ]
-
-  pub comes_about : (files : Files) (before after : Option (List ℕ)) (now : Option Files) → (IsPrinted answer → after ≡ told_with_piece before (line_of ending)) → (IsOrdinary (status_of ending) → EndsAs words files (status_of ending) (line_of ending) now) → IsOrdinary answer → ComesAbout words files answer before after now
-  comes_about files before after now printed ends ordinary =
-      let same = same_status ordinary.no_sink_fault ordinary.no_want in
-      let end = ends (subst IsOrdinary same ordinary) in
+  pub pack_ends : (input output : List ℕ) (psid : Bool) (address zero_page : ℕ) (bytes : List ℕ) (files : Files) (now : Option Files) (made : Result (Vec ℕ Global) Refusal) (e : Ending) →
+      IfOk made (λ file. MadeOf IsSilent (IsPackedFile psid address zero_page) bytes file.items) → ((r : Refusal) → IsErrOf made r → HasCause IsSilent bytes r) → WritesMade made output files now e → SaysMade output e → JobEnds (Pack input output psid address zero_page) bytes files now before after e
+  pack_ends input output psid address zero_page bytes files now made e ok err writes says =
+      let song = song_ends IsSilent (IsPackedFile psid address zero_page) output bytes files now made e ok err writes in
       record {
-        text = line_of ending;
-        write = end.write;
-        outcome = subst (λ s. Outcome words files s (line_of ending) end.write) (sym same) end.outcome;
-        appended = printed (record { no_sink_fault = ordinary.no_sink_fault; no_want = ordinary.no_want });
-        files_are = end.files_are;
-      }
-
-  pub is_printed : (before after : Option (List ℕ)) → (IsPrinted answer → after ≡ told_with_piece before (line_of ending)) → (status_of ending ≢ 14 → LineOf words (status_of ending) (line_of ending)) → IsPrinted answer → Printed words answer before after
-  is_printed before after printed line full =
-      let same = same_status full.no_sink_fault full.no_want in
-      record {
-        text = line_of ending;
-        line = subst (λ s. LineOf words s (line_of ending)) (sym same) (line (λ want. full.no_want (same ∙ want)));
-        appended = printed full;
+        front = [];
+        shown = none_shown;
+        outcome = song.outcome;
+        at_the_end = song.at_the_end;
+        text = says (Pack input output psid address zero_page) refl;
+        begins = inl refl;
+        leaves = elim song.leaves [ inl are ↦ inl are | inr some ↦ inr (wrote_line (length some.0), output, some.0, some.1, outcome.done some.0 some.2 refl refl refl, some.3) ];
       }
 
-  pub usage_row : ComesWhere (IsNoForm words) (status_of ending) 1 [] → ComesWhere (IsNoForm words) answer 1 (10 ∷ 14 ∷ [])
-  usage_row row = record {
-    only = λ is. row.only (sym (same_status (λ failed. omega arith) (λ want. omega arith)) ∙ is);
-    always = λ none. elim (row.always none) [
-      | inl one ↦ elim answered [ inl same ↦ inl (same ∙ one) | inr other ↦ inr other ]
-      | inr never ↦ absurd never
-    ];
+  pub copy_ends : (input output bytes : List ℕ) (files : Files) (now : Option Files) (made : Result (Vec ℕ Global) Refusal) (e : Ending) →
+      IfOk made (λ file. MadeOf IsAny IsCanonical bytes file.items) → ((r : Refusal) → IsErrOf made r → HasCause IsAny bytes r) → WritesMade made output files now e → SaysMade output e → JobEnds (Copy input output) bytes files now before after e
+  copy_ends input output bytes files now made e ok err writes says =
+      let song = song_ends IsAny IsCanonical output bytes files now made e ok err writes in
+      record {
+        front = [];
+        shown = none_shown;
+        outcome = song.outcome;
+        at_the_end = song.at_the_end;
+        text = says (Copy input output) refl;
+        begins = inl refl;
+        leaves = elim song.leaves [ inl are ↦ inl are | inr some ↦ inr (wrote_line (length some.0), output, some.0, some.1, outcome.done some.0 some.2 refl refl refl, some.3) ];
+      }
+
+  pub made_says : (job : Job) (output : List ℕ) (e : Ending) → output_of job ≡ Some output → SaysMade output e → JobSays job before after e
+  made_says job output e named says = record { front = []; shown = none_shown; text = says job named }
+
+-- ---- a PSID file
+
+-- an ending before the first call
+pub show_nothing : (subtune frames : ℕ) (bytes : List ℕ) (before after : Option (List ℕ)) (e : Ending) → after ≡ before → (IsOrdinary (status_of e) → RunOutcome subtune frames bytes (status_of e) (line_of e) None) → ShowEnds subtune frames bytes before after e
+show_nothing subtune frames bytes before after e same o = record { front = []; shown = same ∙ sym (told_nothing before); outcome = o; begins = inl refl }
+
+module _ (subtune frames : ℕ) (bytes : List ℕ) (psid : Psid) (reads : psid_read bytes ≡ Ok psid) (has : HasSubtune psid subtune) (before after : Option (List ℕ)) where
+  -- the lines of calls that returned
+  shown_so_far : (calls : ℕ) (registers : List (List ℕ)) (machine : Machine) → calls ≤ frames + 1 → FirstCalls (loaded psid) (subtune - 1) calls registers machine → CallsShown subtune frames bytes (register_text registers)
+  shown_so_far calls registers machine within first = record { psid = psid; reads = reads; has = has; calls = calls; within = within; registers = registers; after = machine; returned = first; text_is = refl }
+
+  all_shown : (text : List ℕ) → CallsShown subtune frames bytes text → (text ≡ []) ⊎ ((whole : List ℕ) × (kept : ℕ) × CallsShown subtune frames bytes whole × (text ≡ take kept whole))
+  all_shown text calls = inr (text, length text, calls, sym (take-length text))
+
+  pub calls_end : (e : Ending) → CallsEnd (loaded psid) (subtune - 1) frames before after e → ShowEnds subtune frames bytes before after e
+  calls_end e (ends.played registers machine first same told) = subst (ShowEnds subtune frames bytes before after) (sym same) (record {
+    front = register_text registers;
+    shown = told;
+    outcome = λ ordinary. outcome.done (record { psid = psid; reads = reads; has = has; registers = registers; after = machine; calls = first }) refl (append-nil (register_text registers)) refl;
+    begins = all_shown (register_text registers) (shown_so_far (frames + 1) registers machine (omega arith) first);
+  })
+  calls_end e (ends.stopped call registers reason within meets same told) = subst (ShowEnds subtune frames bytes before after) (sym same) (record {
+    front = register_text registers;
+    shown = told;
+    outcome = λ ordinary. outcome.stopped (record { psid = psid; reads = reads; has = has; call = call; within = within; registers = registers; reason = reason; meets = meets }) refl refl refl;
+    begins = all_shown (register_text registers) (shown_so_far call registers meets.before (omega (arith, within)) meets.calls);
+  })
+  calls_end e (ends.cut_short calls kept registers machine within first same told) = record {
+    front = take kept (register_text registers);
+    shown = told;
+    outcome = λ ordinary. elim same [ inl sink ↦ absurd (ordinary.no_sink_fault (ap status_of sink)) | inr want ↦ absurd (ordinary.no_want (ap status_of want)) ];
+    begins = inr (register_text registers, kept, shown_so_far calls registers machine within first, refl);
   }
 
-  pub nine_from_ending : (P : Type 0) → (status_of ending ≡ 9 → P) → answer ≡ 9 → P
-  nine_from_ending P h is = h (sym (same_status (λ failed. omega arith) (λ want. omega arith)) ∙ is)
+run_text : (job : Job) (subtune frames : ℕ) (bytes : List ℕ) (status : ℕ) (text : List ℕ) → RunOutcome subtune frames bytes status text None → JobText job status text
+run_text job subtune frames bytes status text (outcome.no_psid fault is s t w) = rows.no_psid fault s t
+run_text job subtune frames bytes status text (outcome.no_subtune psid reads lacks s t w) = rows.no_subtune subtune psid.header.songs s t
+run_text job subtune frames bytes status text (outcome.stopped stops s t w) = rows.stopped stops.registers stops.reason stops.call s t
+run_text job subtune frames bytes status text (outcome.done plays s t w) = rows.shown plays.registers s t
 
-pub ordinary_from : (answer n : ℕ) → answer ≡ n → n ≢ 4 → n ≢ 9 → n ≢ 10 → n ≢ 14 → IsOrdinary answer
-ordinary_from answer n is four nine ten fourteen = record {
-  no_read_fault = λ e. four (sym is ∙ e);
-  no_write_fault = λ e. nine (sym is ∙ e);
-  no_sink_fault = λ e. ten (sym is ∙ e);
-  no_want = λ e. fourteen (sym is ∙ e);
+not_among : (n : ℕ) → IsOneOf (0 ∷ 10 ∷ 11 ∷ 12 ∷ 13 ∷ 14 ∷ []) n → 1 ≤ n → n ≤ 9 → ⊥
+not_among n (inl is) least most = omega arith
+not_among n (inr (inl is)) least most = omega arith
+not_among n (inr (inr (inl is))) least most = omega arith
+not_among n (inr (inr (inr (inl is)))) least most = omega arith
+not_among n (inr (inr (inr (inr (inl is))))) least most = omega arith
+not_among n (inr (inr (inr (inr (inr (inl is)))))) least most = omega arith
+not_among n (inr (inr (inr (inr (inr (inr never)))))) least most = never
+
+-- a run of a PSID file meets no fault of the folder
+ordinary_show : (e : Ending) → IsOneOf (0 ∷ 10 ∷ 11 ∷ 12 ∷ 13 ∷ 14 ∷ []) (status_of e) → IsPrinted (status_of e) → IsOrdinary (status_of e)
+ordinary_show e among full = record {
+  no_read_fault = λ four. not_among (status_of e) among (omega (arith, four)) (omega (arith, four));
+  no_write_fault = λ nine. not_among (status_of e) among (omega (arith, nine)) (omega (arith, nine));
+  no_sink_fault = full.no_sink_fault;
+  no_want = full.no_want;
 }
 
-pub zero_is_ordinary : (answer : ℕ) → answer ≡ 0 → IsOrdinary answer
-zero_is_ordinary answer is = ordinary_from answer 0 is (λ e. omega arith) (λ e. omega arith) (λ e. omega arith) (λ e. omega arith)
-
--- status 0 says that the song is packed
-pub headline_of : (words : List (List ℕ)) (files : Files) (answer : ℕ) (text : List ℕ) (write : Option (List ℕ × List ℕ)) (now : Option Files) → answer ≡ 0 → Outcome words files answer text write → now ≡ Some (files_after files write) → HoldsDone words files now
-headline_of words files answer text write now is (outcome.usage none status line written) are = absurd (omega arith)
-headline_of words files answer text write now is (outcome.missing other status line written) are = absurd (omega arith)
-headline_of words files answer text write now is (outcome.too_long other status line written) are = absurd (omega arith)
-headline_of words files answer text write now is (outcome.no_song other status line written) are = absurd (omega arith)
-headline_of words files answer text write now is (outcome.not_built other status line written) are = absurd (omega arith)
-headline_of words files answer text write now is (outcome.done job file done status line written) are = record {
-  job = job;
-  file = file;
-  done = done;
-  files_are = are ∙ ap (λ w. Some (files_after files w)) written;
+pub run_ends : (input : List ℕ) (subtune frames : ℕ) (bytes : List ℕ) (files : Files) (now : Option Files) (before after : Option (List ℕ)) (e : Ending) → IsOneOf (0 ∷ 10 ∷ 11 ∷ 12 ∷ 13 ∷ 14 ∷ []) (status_of e) → now ≡ Some files → ShowEnds subtune frames bytes before after e → JobEnds (Run input subtune frames) bytes files now before after e
+run_ends input subtune frames bytes files now before after e among stay show = record {
+  front = show.front;
+  shown = show.shown;
+  outcome = λ ordinary. (None, show.outcome ordinary, stay);
+  at_the_end = λ nine. absurd (not_among (status_of e) among (omega (arith, nine)) (omega (arith, nine)));
+  text = λ full. run_text (Run input subtune frames) subtune frames bytes (status_of e) (show.front ++ line_of e) (show.outcome (ordinary_show e among full));
+  begins = show.begins;
+  leaves = inl stay;
 }
 
-pub headline_from : (told : Option Files) (words : List (List ℕ)) (answer : ℕ) (before after : Option (List ℕ)) (now : Option Files) → IfSome told (λ files. IsOrdinary answer → ComesAbout words files answer before after now) → IfSome told (λ files. answer ≡ 0 → HoldsDone words files now)
-headline_from None words answer before after now about = tt
-headline_from (Some files) words answer before after now about = λ is.
-    let came = about (zero_is_ordinary answer is) in
-    headline_of words files answer came.text came.write now is came.outcome came.files_are
+pub run_says : (job : Job) (subtune frames : ℕ) (bytes : List ℕ) (before after : Option (List ℕ)) (e : Ending) → IsOneOf (0 ∷ 10 ∷ 11 ∷ 12 ∷ 13 ∷ 14 ∷ []) (status_of e) → ShowEnds subtune frames bytes before after e → JobSays job before after e
+run_says job subtune frames bytes before after e among show = record {
+  front = show.front;
+  shown = show.shown;
+  text = λ full. run_text job subtune frames bytes (status_of e) (show.front ++ line_of e) (show.outcome (ordinary_show e among full));
+}
 
-abbrev pub statuses : List ℕ
-statuses = 0 ∷ 1 ∷ 2 ∷ 3 ∷ 4 ∷ 5 ∷ 9 ∷ 10 ∷ 14 ∷ 15 ∷ []
+-- ---- a run
 
-at_end : (answer : ℕ) → IsOneOf (10 ∷ 14 ∷ []) answer → IsOneOf statuses answer
-at_end answer (inl ten) = inr (inr (inr (inr (inr (inr (inr (inl ten)))))))
-at_end answer (inr (inl fourteen)) = inr (inr (inr (inr (inr (inr (inr (inr (inl fourteen))))))))
-at_end answer (inr (inr never)) = absurd never
+module _ (words : List (List ℕ)) (job : Job) (form : WordsOf words job) (files : Files) (now : Option Files) (before after : Option (List ℕ)) where
+  begins_may : (bytes front : List ℕ) → Finds words files job bytes → Begins job bytes front → (text : List ℕ) × (kept : ℕ) × MayPrint words files text × (front ≡ take kept text)
+  begins_may bytes front finds (inl none) = ([], 0, rows.nothing refl, none)
+  begins_may bytes front finds (inr some) = (some.0, some.1, rows.calls job bytes finds some.2, some.3)
 
-pub among_statuses : (ending : Ending) (answer : ℕ) → IsOneOf (status_of ending ∷ 10 ∷ 14 ∷ []) answer → IsOneOf statuses answer
-among_statuses ending answer (inr other) = at_end answer other
-among_statuses (Wrote count) answer (inl is) = inl is
-among_statuses Usage answer (inl is) = inr (inl is)
-among_statuses (Missing name) answer (inl is) = inr (inr (inl is))
-among_statuses (TooLong name) answer (inl is) = inr (inr (inr (inl is)))
-among_statuses (ReadFault name) answer (inl is) = inr (inr (inr (inr (inl is))))
-among_statuses (NotASong fault) answer (inl is) = inr (inr (inr (inr (inr (inl is)))))
-among_statuses (WriteFault name) answer (inl is) = inr (inr (inr (inr (inr (inr (inl is))))))
-among_statuses NoMemory answer (inl is) = inr (inr (inr (inr (inr (inr (inr (inr (inl is))))))))
-among_statuses NotBuilt answer (inl is) = inr (inr (inr (inr (inr (inr (inr (inr (inr (inl is)))))))))
+  last_may : (bytes : List ℕ) (e : Ending) (finds : Finds words files job bytes) (did : JobEnds job bytes files now before after e) → status_of e ≢ 4 → IsPrinted (status_of e) → MayPrint words files (did.front ++ line_of e)
+  last_may bytes e finds did four full = elim (same_or_other (status_of e) 9) [
+    | inl nine ↦ rows.fault job (status_of e) form (inr (inl nine)) (did.text full)
+    | inr other ↦
+        let o = did.outcome (record { no_read_fault = four; no_write_fault = other; no_sink_fault = full.no_sink_fault; no_want = full.no_want }) in
+        rows.outcome (status_of e) o.0 (outcome.found job bytes finds o.1)
+  ]
 
--- ---- when each status comes, from the outcome
+  pub found_ends : (bytes : List ℕ) (e : Ending) → file_of files (input_of job) ≡ Some bytes → length bytes ≤ input_limit → status_of e ≢ 4 → JobEnds job bytes files now before after e → RunEnds words files now before after e
+  found_ends bytes e found limit four did =
+      let finds : Finds words files job bytes = record { form = form; found = found; limit = limit } in
+      record {
+        front = did.front;
+        shown = did.shown;
+        outcome = λ ordinary. let o = did.outcome ordinary in (o.0, outcome.found job bytes finds o.1, o.2);
+        at_the_end = λ nine. record { job = job; bytes = bytes; finds = finds; holds = did.at_the_end nine };
+        begins = begins_may bytes did.front finds did.begins;
+        last_line = last_may bytes e finds did four;
+        leaves = elim did.leaves [ inl are ↦ rows.as_before are | inr some ↦ rows.begun some.0 some.1 some.2 some.3 (outcome.found job bytes finds some.4) some.5 ];
+      }
 
--- nothing was found wrong with the devices or the memory: an outcome came about
-abbrev pub HasOutcome : List (List ℕ) → Files → ℕ → Type 0
-HasOutcome words files answer = (text : List ℕ) × (write : Option (List ℕ × List ℕ)) × Outcome words files answer text write
+-- an ending at which no file was found, or none was read
+unread : (words : List (List ℕ)) (files : Files) (now : Option Files) (before after : Option (List ℕ)) (e : Ending) → after ≡ before → now ≡ Some files → status_of e ≢ 9 → (IsOrdinary (status_of e) → Outcome words files (status_of e) (line_of e) None) → (IsPrinted (status_of e) → MayPrint words files (line_of e)) → RunEnds words files now before after e
+unread words files now before after e same stay nine o last = record {
+  front = [];
+  shown = same ∙ sym (told_nothing before);
+  outcome = λ ordinary. (None, o ordinary, stay);
+  at_the_end = λ is. absurd (nine is);
+  begins = ([], 0, rows.nothing refl, refl);
+  last_line = last;
+  leaves = rows.as_before stay;
+}
 
--- one of the statuses is ordinary or tells of a device or of memory
-split : (answer : ℕ) → IsOneOf statuses answer → IsOrdinary answer ⊎ IsOneOf (4 ∷ 9 ∷ 10 ∷ 14 ∷ []) answer
-split answer (inl is) = inl (ordinary_from answer 0 is (λ e. omega arith) (λ e. omega arith) (λ e. omega arith) (λ e. omega arith))
-split answer (inr (inl is)) = inl (ordinary_from answer 1 is (λ e. omega arith) (λ e. omega arith) (λ e. omega arith) (λ e. omega arith))
-split answer (inr (inr (inl is))) = inl (ordinary_from answer 2 is (λ e. omega arith) (λ e. omega arith) (λ e. omega arith) (λ e. omega arith))
-split answer (inr (inr (inr (inl is)))) = inl (ordinary_from answer 3 is (λ e. omega arith) (λ e. omega arith) (λ e. omega arith) (λ e. omega arith))
-split answer (inr (inr (inr (inr (inl is))))) = inr (inl is)
-split answer (inr (inr (inr (inr (inr (inl is)))))) = inl (ordinary_from answer 5 is (λ e. omega arith) (λ e. omega arith) (λ e. omega arith) (λ e. omega arith))
-split answer (inr (inr (inr (inr (inr (inr (inl is))))))) = inr (inr (inl is))
-split answer (inr (inr (inr (inr (inr (inr (inr (inl is)))))))) = inr (inr (inr (inl is)))
-split answer (inr (inr (inr (inr (inr (inr (inr (inr (inl is))))))))) = inr (inr (inr (inr (inl is))))
-split answer (inr (inr (inr (inr (inr (inr (inr (inr (inr (inl is)))))))))) = inl (ordinary_from answer 15 is (λ e. omega arith) (λ e. omega arith) (λ e. omega arith) (λ e. omega arith))
-split answer (inr (inr (inr (inr (inr (inr (inr (inr (inr (inr never)))))))))) = absurd never
+module _ (words : List (List ℕ)) (files : Files) (now : Option Files) (before after : Option (List ℕ)) (same : after ≡ before) (stay : now ≡ Some files) where
+  pub usage_ends : IsNoForm words → RunEnds words files now before after ending.Usage
+  usage_ends none =
+      let o = outcome.usage none refl refl refl in
+      unread words files now before after ending.Usage same stay (λ e. omega arith) (λ ordinary. o) (λ full. rows.outcome 1 None o)
 
--- the words name one file to read
-same_input : (words : List (List ℕ)) (a b : Job) → WordsOf words a → WordsOf words b → input_of a ≡ input_of b
-same_input words (Pack i o a z) (Pack i2 o2 a2 z2) p q = cc (p.form, q.form)
-same_input words (Pack i o a z) (Copy i2 o2) p q = cc (p.form, q.form)
-same_input words (Copy i o) (Pack i2 o2 a2 z2) p q = cc (p.form, q.form)
-same_input words (Copy i o) (Copy i2 o2) p q = cc (p.form, q.form)
+  pub want_ends : RunEnds words files now before after ending.NoMemory
+  want_ends = unread words files now before after ending.NoMemory same stay (λ e. omega arith) (λ ordinary. absurd (ordinary.no_want refl)) (λ full. absurd (full.no_want refl))
 
--- and one kind of job
-same_built : (words : List (List ℕ)) (a b : Job) (song : Song) → WordsOf words a → WordsOf words b → IsBuilt a song → IsBuilt b song
-same_built words (Pack i o a z) (Pack i2 o2 a2 z2) song p q built = built
-same_built words (Pack i o a z) (Copy i2 o2) song p q built = tt
-same_built words (Copy i o) (Pack i2 o2 a2 z2) song p q built = absurd (cc (p.form, q.form))
-same_built words (Copy i o) (Copy i2 o2) song p q built = tt
+  module _ (job : Job) (form : WordsOf words job) where
+    pub missing_ends : (name : Bor (List ℕ)) → name.now ≡ input_of job → IsAbsent (input_of job) files → RunEnds words files now before after (ending.Missing name)
+    missing_ends name is absent =
+        let o = outcome.missing (record { job = job; form = form; absent = absent }) refl (ap missing_line is) refl in
+        unread words files now before after (ending.Missing name) same stay (λ e. omega arith) (λ ordinary. o) (λ full. rows.outcome 2 None o)
 
--- the song's file is there or not, whatever job the words are read as
-missing_and_found : (words : List (List ℕ)) (files : Files) → IsMissing words files → (job : Job) (bytes : List ℕ) → Finds words files job bytes → ⊥
-missing_and_found words files is job bytes finds =
-    let same = same_input words is.job job is.form finds.form in
-    let absent = is.absent in
-    let found : file_of files (input_of is.job) ≡ Some bytes = ap (file_of files) same ∙ finds.found in
-    cc
+    pub long_ends : (name : Bor (List ℕ)) → name.now ≡ input_of job → IsAbove input_limit (input_of job) files → RunEnds words files now before after (ending.TooLong name)
+    long_ends name is above =
+        let o = outcome.too_long (record { job = job; form = form; above = above }) refl (ap too_long_line is) refl in
+        unread words files now before after (ending.TooLong name) same stay (λ e. omega arith) (λ ordinary. o) (λ full. rows.outcome 3 None o)
 
-missing_and_long : (words : List (List ℕ)) (files : Files) → IsMissing words files → IsTooLong words files → ⊥
-missing_and_long words files is long =
-    let same = same_input words is.job long.job is.form long.form in
-    let absent = is.absent in
-    let found : file_of files (input_of is.job) ≡ Some long.above.0 = ap (file_of files) same ∙ long.above.1 in
-    cc
+    pub fault_ends : (name : Bor (List ℕ)) → name.now ≡ input_of job → RunEnds words files now before after (ending.ReadFault name)
+    fault_ends name is =
+        unread words files now before after (ending.ReadFault name) same stay (λ e. omega arith) (λ ordinary. absurd (ordinary.no_read_fault refl)) (λ full. rows.fault job 4 form (inl refl) (rows.read_fault refl (ap read_fault_line is)))
 
-long_and_found : (words : List (List ℕ)) (files : Files) → IsTooLong words files → (job : Job) (bytes : List ℕ) → Finds words files job bytes → ⊥
-long_and_found words files long job bytes finds =
-    let same = same_input words long.job job long.form finds.form in
-    let one = long.above.1 in
-    let two : file_of files (input_of long.job) ≡ Some bytes = ap (file_of files) same ∙ finds.found in
-    let bytes_are : long.above.0 ≡ bytes = cc in
-    omega (arith, ap length bytes_are, long.above.2, finds.limit)
+-- ---- what was printed, whether the folder tells its files or not
 
-same_bytes : (words : List (List ℕ)) (files : Files) (a b : Job) (x y : List ℕ) → Finds words files a x → Finds words files b y → x ≡ y
-same_bytes words files a b x y p q =
-    let same = same_input words a b p.form q.form in
-    let one = p.found in
-    let two : file_of files (input_of a) ≡ Some y = ap (file_of files) same ∙ q.found in
-    cc
+pub unread_says : (job : Job) (before after : Option (List ℕ)) (e : Ending) → after ≡ before → (IsPrinted (status_of e) → JobText job (status_of e) (line_of e)) → JobSays job before after e
+unread_says job before after e same text = record { front = []; shown = same ∙ sym (told_nothing before); text = text }
 
-pub outcome_of : (words : List (List ℕ)) (files : Files) (answer : ℕ) (before after : Option (List ℕ)) (now : Option Files) → (IsOrdinary answer → ComesAbout words files answer before after now) → IsOrdinary answer → HasOutcome words files answer
-outcome_of words files answer before after now about ordinary = let came = about ordinary in (came.text, came.write, came.outcome)
+pub job_says : (words : List (List ℕ)) (job : Job) (before after : Option (List ℕ)) (e : Ending) → WordsOf words job → JobSays job before after e → RunSays words before after e
+job_says words job before after e form says = record { front = says.front; shown = says.shown; text = λ full. rows.job job form (says.text full) }
 
--- one file spells one song
-same_song : (words : List (List ℕ)) (files : Files) (a b : Job) (x y : Song) → FindsSong words files a x → FindsSong words files b y → x ≡ y
-same_song words files a b x y p q =
-    let same : p.bytes ≡ q.bytes = same_bytes words files a b p.bytes q.bytes p.finds q.finds in
-    spells_once q.bytes x y (subst (λ bytes. Spells bytes x) same p.spells) q.spells
+pub usage_says : (words : List (List ℕ)) (before after : Option (List ℕ)) → after ≡ before → RunSays words before after ending.Usage
+usage_says words before after same = record { front = []; shown = same ∙ sym (told_nothing before); text = λ full. rows.usage refl refl }
 
--- a file that spells a song has no fault
-song_and_fault : (words : List (List ℕ)) (files : Files) (job : Job) (song : Song) → FindsSong words files job song → IsNoSong words files → ⊥
-song_and_fault words files job song finds broken =
-    let same : finds.bytes ≡ broken.bytes = same_bytes words files job broken.job finds.bytes broken.bytes finds.finds broken.finds in
-    let none : fault_of broken.bytes ≡ None = spells_has_no_fault broken.bytes song (subst (λ bytes. Spells bytes song) same finds.spells) in
-    let some = broken.broken in
-    cc
+-- a job past its reading meets no read fault
+pub not_four : (n : ℕ) → IsOneOf (0 ∷ 5 ∷ 9 ∷ 10 ∷ 11 ∷ 12 ∷ 13 ∷ 14 ∷ 15 ∷ []) n → n ≢ 4
+not_four n (inl is) = λ four. omega arith
+not_four n (inr (inl is)) = λ four. omega arith
+not_four n (inr (inr (inl is))) = λ four. omega arith
+not_four n (inr (inr (inr (inl is)))) = λ four. omega arith
+not_four n (inr (inr (inr (inr (inl is))))) = λ four. omega arith
+not_four n (inr (inr (inr (inr (inr (inl is)))))) = λ four. omega arith
+not_four n (inr (inr (inr (inr (inr (inr (inl is))))))) = λ four. omega arith
+not_four n (inr (inr (inr (inr (inr (inr (inr (inl is)))))))) = λ four. omega arith
+not_four n (inr (inr (inr (inr (inr (inr (inr (inr (inl is))))))))) = λ four. omega arith
+not_four n (inr (inr (inr (inr (inr (inr (inr (inr (inr never))))))))) = absurd never
 
--- a job that is built isn't one that isn't
-doable_and_not : (words : List (List ℕ)) (files : Files) (job : Job) (song : Song) → FindsSong words files job song → IsBuilt job song → IsNotBuilt words files → ⊥
-doable_and_not words files job song finds built other =
-    let same : song ≡ other.song = same_song words files job other.job song other.song finds other.finds in
-    other.other (same_built words job other.job other.song finds.finds.form other.finds.finds.form (subst (IsBuilt job) same built))
+-- ---- the same of a folder that may tell its files or not
 
-module _ (words : List (List ℕ)) (files : Files) (answer : ℕ) where
-  missing_is : IsMissing words files → HasOutcome words files answer → answer ≡ 2
-  missing_is is (text, write, outcome.usage none status line written) = absurd (none is.job is.form)
-  missing_is is (text, write, outcome.missing other status line written) = status
-  missing_is is (text, write, outcome.too_long other status line written) = absurd (missing_and_long words files is other)
-  missing_is is (text, write, outcome.no_song other status line written) = absurd (missing_and_found words files is other.job other.bytes other.finds)
-  missing_is is (text, write, outcome.not_built other status line written) = absurd (missing_and_found words files is other.job other.finds.bytes other.finds.finds)
-  missing_is is (text, write, outcome.done job file done status line written) = absurd (missing_and_found words files is job done.finds.bytes done.finds.finds)
+module _ (job : Job) (told now : Option Files) (before : Option (List ℕ)) where
+  told_found_as : (t : Option Files) (after : Option (List ℕ)) (e : Ending) (name items bytes : List ℕ) → name ≡ input_of job → bytes ≡ items → length bytes ≤ input_limit → status_of e ≢ 4 →
+      IfSome t (λ files. file_of files name ≡ Some items) → IfSome t (λ files. JobEnds job bytes files now before after e) → IfSome t (λ files. (words : List (List ℕ)) → WordsOf words job → RunEnds words files now before after e)
+  told_found_as None after e name items bytes is are limit four found did = tt
+  told_found_as (Some files) after e name items bytes is are limit four found did = λ words form. found_ends words job form files now before after bytes e (sym (ap (file_of files) is) ∙ found ∙ ap Some (sym are)) limit four did
 
-  too_long_is : IsTooLong words files → HasOutcome words files answer → answer ≡ 3
-  too_long_is is (text, write, outcome.usage none status line written) = absurd (none is.job is.form)
-  too_long_is is (text, write, outcome.missing other status line written) = absurd (missing_and_long words files other is)
-  too_long_is is (text, write, outcome.too_long other status line written) = status
-  too_long_is is (text, write, outcome.no_song other status line written) = absurd (long_and_found words files is other.job other.bytes other.finds)
-  too_long_is is (text, write, outcome.not_built other status line written) = absurd (long_and_found words files is other.job other.finds.bytes other.finds.finds)
-  too_long_is is (text, write, outcome.done job file done status line written) = absurd (long_and_found words files is job done.finds.bytes done.finds.finds)
+  pub told_found : (between : Option Files) (after : Option (List ℕ)) (e : Ending) (name items bytes : List ℕ) → between ≡ told → name ≡ input_of job → bytes ≡ items → length bytes ≤ input_limit → status_of e ≢ 4 →
+      IfSome told (λ files. file_of files name ≡ Some items) → IfSome between (λ files. JobEnds job bytes files now before after e) → IfSome told (λ files. (words : List (List ℕ)) → WordsOf words job → RunEnds words files now before after e)
+  told_found between after e name items bytes same is are limit four found did =
+      told_found_as told after e name items bytes is are limit four found (subst (λ t. IfSome t (λ files. JobEnds job bytes files now before after e)) same did)
 
-  no_song_is : IsNoSong words files → HasOutcome words files answer → answer ≡ 5
-  no_song_is is (text, write, outcome.usage none status line written) = absurd (none is.job is.finds.form)
-  no_song_is is (text, write, outcome.missing other status line written) = absurd (missing_and_found words files other is.job is.bytes is.finds)
-  no_song_is is (text, write, outcome.too_long other status line written) = absurd (long_and_found words files other is.job is.bytes is.finds)
-  no_song_is is (text, write, outcome.no_song other status line written) = status
-  no_song_is is (text, write, outcome.not_built other status line written) = absurd (song_and_fault words files other.job other.song other.finds is)
-  no_song_is is (text, write, outcome.done job file done status line written) = absurd (song_and_fault words files job done.song done.finds is)
+pub told_missing : (job : Job) (told now : Option Files) (before : Option (List ℕ)) (name : Bor (List ℕ)) → now ≡ told → name.now ≡ input_of job → IfSome told (IsAbsent name.now) → IfSome told (λ files. (words : List (List ℕ)) → WordsOf words job → RunEnds words files now before before (ending.Missing name))
+told_missing job None now before name same is absent = tt
+told_missing job (Some files) now before name same is absent = λ words form. missing_ends words files now before before refl same job form name is (subst (λ n. IsAbsent n files) is absent)
 
-  not_built_is : IsNotBuilt words files → HasOutcome words files answer → answer ≡ 15
-  not_built_is is (text, write, outcome.usage none status line written) = absurd (none is.job is.finds.finds.form)
-  not_built_is is (text, write, outcome.missing other status line written) = absurd (missing_and_found words files other is.job is.finds.bytes is.finds.finds)
-  not_built_is is (text, write, outcome.too_long other status line written) = absurd (long_and_found words files other is.job is.finds.bytes is.finds.finds)
-  not_built_is is (text, write, outcome.no_song other status line written) = absurd (song_and_fault words files is.job is.song is.finds other)
-  not_built_is is (text, write, outcome.not_built other status line written) = status
-  not_built_is is (text, write, outcome.done job file done status line written) = absurd (doable_and_not words files job done.song done.finds done.built is)
+pub told_long : (job : Job) (told now : Option Files) (before : Option (List ℕ)) (name : Bor (List ℕ)) → now ≡ told → name.now ≡ input_of job → IfSome told (IsAbove input_limit name.now) → IfSome told (λ files. (words : List (List ℕ)) → WordsOf words job → RunEnds words files now before before (ending.TooLong name))
+told_long job None now before name same is above = tt
+told_long job (Some files) now before name same is above = λ words form. long_ends words files now before before refl same job form name is (subst (λ n. IsAbove input_limit n files) is above)
 
-  doable_is : IsDoable words files → HasOutcome words files answer → answer ≡ 0
-  doable_is is (text, write, outcome.usage none status line written) = absurd (none is.job is.finds.finds.form)
-  doable_is is (text, write, outcome.missing other status line written) = absurd (missing_and_found words files other is.job is.finds.bytes is.finds.finds)
-  doable_is is (text, write, outcome.too_long other status line written) = absurd (long_and_found words files other is.job is.finds.bytes is.finds.finds)
-  doable_is is (text, write, outcome.no_song other status line written) = absurd (song_and_fault words files is.job is.song is.finds other)
-  doable_is is (text, write, outcome.not_built other status line written) = absurd (doable_and_not words files is.job is.song is.finds is.built other)
-  doable_is is (text, write, outcome.done job file done status line written) = status
+pub told_fault : (job : Job) (told now : Option Files) (before : Option (List ℕ)) (name : Bor (List ℕ)) → now ≡ told → name.now ≡ input_of job → IfSome told (λ files. (words : List (List ℕ)) → WordsOf words job → RunEnds words files now before before (ending.ReadFault name))
+told_fault job None now before name same is = tt
+told_fault job (Some files) now before name same is = λ words form. fault_ends words files now before before refl same job form name is
 
-  missing_only : answer ≡ 2 → HasOutcome words files answer → IsMissing words files
-  missing_only is (text, write, outcome.usage none status line written) = absurd (omega arith)
-  missing_only is (text, write, outcome.missing other status line written) = other
-  missing_only is (text, write, outcome.too_long other status line written) = absurd (omega arith)
-  missing_only is (text, write, outcome.no_song other status line written) = absurd (omega arith)
-  missing_only is (text, write, outcome.not_built other status line written) = absurd (omega arith)
-  missing_only is (text, write, outcome.done job file done status line written) = absurd (omega arith)
+pub told_want : (job : Job) (told now : Option Files) (before : Option (List ℕ)) → now ≡ told → IfSome told (λ files. (words : List (List ℕ)) → WordsOf words job → RunEnds words files now before before ending.NoMemory)
+told_want job None now before same = tt
+told_want job (Some files) now before same = λ words form. want_ends words files now before before refl same
 
-  too_long_only : answer ≡ 3 → HasOutcome words files answer → IsTooLong words files
-  too_long_only is (text, write, outcome.usage none status line written) = absurd (omega arith)
-  too_long_only is (text, write, outcome.missing other status line written) = absurd (omega arith)
-  too_long_only is (text, write, outcome.too_long other status line written) = other
-  too_long_only is (text, write, outcome.no_song other status line written) = absurd (omega arith)
-  too_long_only is (text, write, outcome.not_built other status line written) = absurd (omega arith)
-  too_long_only is (text, write, outcome.done job file done status line written) = absurd (omega arith)
-
-  no_song_only : answer ≡ 5 → HasOutcome words files answer → IsNoSong words files
-  no_song_only is (text, write, outcome.usage none status line written) = absurd (omega arith)
-  no_song_only is (text, write, outcome.missing other status line written) = absurd (omega arith)
-  no_song_only is (text, write, outcome.too_long other status line written) = absurd (omega arith)
-  no_song_only is (text, write, outcome.no_song other status line written) = other
-  no_song_only is (text, write, outcome.not_built other status line written) = absurd (omega arith)
-  no_song_only is (text, write, outcome.done job file done status line written) = absurd (omega arith)
-
-  not_built_only : answer ≡ 15 → HasOutcome words files answer → IsNotBuilt words files
-  not_built_only is (text, write, outcome.usage none status line written) = absurd (omega arith)
-  not_built_only is (text, write, outcome.missing other status line written) = absurd (omega arith)
-  not_built_only is (text, write, outcome.too_long other status line written) = absurd (omega arith)
-  not_built_only is (text, write, outcome.no_song other status line written) = absurd (omega arith)
-  not_built_only is (text, write, outcome.not_built other status line written) = other
-  not_built_only is (text, write, outcome.done job file done status line written) = absurd (omega arith)
-
-  doable_only : answer ≡ 0 → HasOutcome words files answer → IsDoable words files
-  doable_only is (text, write, outcome.usage none status line written) = absurd (omega arith)
-  doable_only is (text, write, outcome.missing other status line written) = absurd (omega arith)
-  doable_only is (text, write, outcome.too_long other status line written) = absurd (omega arith)
-  doable_only is (text, write, outcome.no_song other status line written) = absurd (omega arith)
-  doable_only is (text, write, outcome.not_built other status line written) = absurd (omega arith)
-  doable_only is (text, write, outcome.done job file done status line written) = record { job = job; song = done.song; finds = done.finds; built = done.built }
-
-  module _ (among : IsOneOf statuses answer) (came : IsOrdinary answer → HasOutcome words files answer) (at_the_end : answer ≡ 9 → IsDoable words files) where
-    pub done_row : ComesWhere (IsDoable words files) answer 0 (4 ∷ 9 ∷ 10 ∷ 14 ∷ [])
-    done_row = record {
-      only = λ is. doable_only is (came (ordinary_from answer 0 is (λ e. omega arith) (λ e. omega arith) (λ e. omega arith) (λ e. omega arith)));
-      always = λ doable. elim (split answer among) [ inl ordinary ↦ inl (doable_is doable (came ordinary)) | inr other ↦ inr other ];
-    }
-
-    -- before anything is written, a write can't fail
-    not_nine : (n : ℕ) → (IsDoable words files → ⊥) → (IsOrdinary answer → answer ≡ n) → IsOneOf (n ∷ 4 ∷ 10 ∷ 14 ∷ []) answer
-    not_nine n other ordinary_is = elim (split answer among) [
-      | inl ordinary ↦ inl (ordinary_is ordinary)
-      | inr more ↦ elim more [
-        | inl four ↦ inr (inl four)
-        | inr rest ↦ elim rest [ inl nine ↦ absurd (other (at_the_end nine)) | inr last ↦ inr (inr last) ]
-      ]
-    ]
-
-    pub missing_row : ComesWhere (IsMissing words files) answer 2 (4 ∷ 10 ∷ 14 ∷ [])
-    missing_row = record {
-      only = λ is. missing_only is (came (ordinary_from answer 2 is (λ e. omega arith) (λ e. omega arith) (λ e. omega arith) (λ e. omega arith)));
-      always = λ is. not_nine 2 (λ doable. missing_and_found words files is doable.job doable.finds.bytes doable.finds.finds) (λ ordinary. missing_is is (came ordinary));
-    }
-
-    pub too_long_row : ComesWhere (IsTooLong words files) answer 3 (4 ∷ 10 ∷ 14 ∷ [])
-    too_long_row = record {
-      only = λ is. too_long_only is (came (ordinary_from answer 3 is (λ e. omega arith) (λ e. omega arith) (λ e. omega arith) (λ e. omega arith)));
-      always = λ is. not_nine 3 (λ doable. long_and_found words files is doable.job doable.finds.bytes doable.finds.finds) (λ ordinary. too_long_is is (came ordinary));
-    }
-
-    pub no_song_row : ComesWhere (IsNoSong words files) answer 5 (4 ∷ 10 ∷ 14 ∷ [])
-    no_song_row = record {
-      only = λ is. no_song_only is (came (ordinary_from answer 5 is (λ e. omega arith) (λ e. omega arith) (λ e. omega arith) (λ e. omega arith)));
-      always = λ is. not_nine 5 (λ doable. song_and_fault words files doable.job doable.song doable.finds is) (λ ordinary. no_song_is is (came ordinary));
-    }
-
-    pub not_built_row : ComesWhere (IsNotBuilt words files) answer 15 (4 ∷ 10 ∷ 14 ∷ [])
-    not_built_row = record {
-      only = λ is. not_built_only is (came (ordinary_from answer 15 is (λ e. omega arith) (λ e. omega arith) (λ e. omega arith) (λ e. omega arith)));
-      always = λ is. not_nine 15 (λ doable. doable_and_not words files doable.job doable.song doable.finds doable.built is) (λ ordinary. not_built_is is (came ordinary));
-    }
+pub told_usage : (words : List (List ℕ)) (told : Option Files) (before : Option (List ℕ)) → IsNoForm words → IfSome told (λ files. RunEnds words files told before before ending.Usage)
+told_usage words None before none = tt
+told_usage words (Some files) before none = usage_ends words files (Some files) before before refl refl none

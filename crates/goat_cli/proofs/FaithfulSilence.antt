@@ -1,18 +1,23 @@
 -- The silent player plays silent songs.
-use Rattle.std.proofs.Common.{◌≡◌, ℕ, zero, suc, ◌<◌, ◌≤◌, List, length, replicate, refl, sym, ◌∙◌, subst, arith, lit≤, add-one}
+use Rattle.std.proofs.Common.{◌≡◌, ℕ, zero, suc, ◌<◌, ◌≤◌, List, [], ◌∷◌, length, replicate, true, All, refl, sym, ◌∙◌, subst, arith, lit≤, add-one, Bool}
 use Rattle.std.proofs.lemmas.List.Sums.{length-filter, count_by-le-length}
 use Rattle.song_model.specs.declared.songs.Song.{Song}
-use Rattle.song_model.specs.LookUp.{playable_subtunes, is_playable_subtune}
-use Rattle.song_model.specs.Silent.{IsSilent}
+use Rattle.std.specs.List.{filter}
+use Rattle.std.proofs.lemmas.Bool.{ne_eqb}
+use Rattle.song_model.specs.declared.rows.Row.{Row}
+use Rattle.song_model.specs.declared.orders.Order.{Order}
+use Rattle.song_model.specs.declared.orders.Subtune.{Subtune}
+use Rattle.song_model.specs.LookUp.{playable_subtunes, is_playable_subtune, has_entries}
+use Rattle.song_model.specs.Silent.{IsSilent, IsSilentSubtune}
 use Rattle.play_model.specs.Frame.{trace}
 use Rattle.play_model.specs.SilentTrace.{silent_registers}
 use Rattle.play_model.proofs.QuietTrace.{silent_songs_lem}
 use Rattle.cpu6502.specs.declared.machine.Machine.{Machine}
 use Rattle.cpu6502.specs.Code.{IsMachine, Holds}
 use Rattle.goat_cli.specs.SilentRun.{InitIsSilent, PlayIsSilent}
-use Rattle.goat_cli.specs.Faithful.{Leaves, AgreesOn, PlaysOn, IsFaithful, raw_file}
+use Rattle.goat_cli.specs.Faithful.{Leaves, AgreesOn, PlaysOn, IsFaithful}
 use Rattle.goat_cli.specs.Image.{silent_image}
-use Rattle.goat_cli.specs.Outcome.{IsPackedFile}
+use Rattle.goat_cli.specs.Packed.{IsPackedFile, packed_file}
 
 init_trace : (song : Song) (k : ℕ) → trace song k 0 ≡ replicate 25 0
 unfolding trace
@@ -64,11 +69,28 @@ module _ (image : List ℕ) (address zero_page : ℕ) (song : Song) (init : Init
         (sym (one_playable k inside)) (begins n machine is holds);
   }
 
--- a raw file of the silent player packs a silent song
-pub packs_silence : (address : ℕ) (image file : List ℕ) (song : Song) → IsSilent song → file ≡ raw_file address image → image ≡ silent_image address → InitIsSilent image address → PlayIsSilent image address → (zero_page : ℕ) → IsPackedFile address zero_page song file
-packs_silence address image file song silent raw is init play zero_page = record {
+-- a file of the silent player packs a silent song
+pub packs_silence : (psid : Bool) (address : ℕ) (image file : List ℕ) (song : Song) → IsSilent song → file ≡ packed_file psid song address image → image ≡ silent_image address → InitIsSilent image address → PlayIsSilent image address → (zero_page : ℕ) → IsPackedFile psid address zero_page song file
+packs_silence psid address image file song silent holds is init play zero_page = record {
   image = image;
-  raw = raw;
+  holds = holds;
   small = subst (λ b. length b ≤ 64) (sym is) (lit≤ tt);
   faithful = faithful_silence image address zero_page song init play silent;
 }
+
+has_entries_of : (order : Order) → 0 < length order.entries → has_entries order ≡ true
+has_entries_of order some = rw (ne_eqb (length order.entries) 0 (λ none. omega arith)) refl
+
+playable_once : (patterns : List (List Row)) (subtunes : List Subtune) → length subtunes ≡ 1 → All (IsSilentSubtune patterns) subtunes → length (filter is_playable_subtune subtunes) ≡ 1
+playable_once patterns [] one all = absurd (omega arith)
+playable_once patterns (s ∷ []) one all =
+    let silent = all 0 s (lit≤ tt) in
+    let a = has_entries_of s.one silent.one.entry in
+    let b = has_entries_of s.two silent.two.entry in
+    let c = has_entries_of s.three silent.three.entry in
+    rw (a, b, c) refl
+playable_once patterns (s ∷ t ∷ rest) one all = absurd (omega arith)
+
+-- a silent song has one subtune that can be played
+pub one_song : (song : Song) → IsSilent song → length (playable_subtunes song) ≡ 1
+one_song song silent = playable_once song.patterns song.subtunes silent.one_subtune silent.subtunes

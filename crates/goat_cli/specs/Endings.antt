@@ -1,56 +1,99 @@
--- What a run did, ending by ending, before its line is printed.
-use Rattle.std.specs.Prelude.{◌≡◌, ℕ, ◌≤◌, List, Option, Some, length}
-use Rattle.gts5.specs.Faults.{fault_of}
-use Rattle.goat_io.specs.Files.{Files, file_of, with_file, IsAbsent, IsAbove}
+-- What a run did before its last line is printed, as the parts of the top call tell each other.
+use Rattle.std.specs.Prelude.{◌≡◌, ℕ, ◌+◌, ◌≤◌, List, [], ◌++◌, ◌⊎◌, Option, Some, None, Result, Ok, Err, Vec, length, take}
+use Rattle.std.specs.Global.{Global}
+use Rattle.song_model.specs.declared.songs.Song.{Song}
+use Rattle.goat_io.specs.Files.{Files, with_file, IsWrittenInPart}
+use Rattle.goat_io.specs.Written.{told_with_piece}
+use Rattle.cpu6502.specs.declared.machine.Machine.{Machine}
+use Rattle.cpu6502.specs.declared.stop.CallStop.{CallStop}
+use Rattle.sid_run.specs.State.{RunnerState}
 use Rattle.goat_cli.specs.declared.ending.Ending.{Ending}
-use Rattle.goat_cli.specs.declared.ending.Ending.TheVariants.{Wrote, Usage, Missing, TooLong, ReadFault, NotASong, WriteFault, NoMemory, NotBuilt}
-use Rattle.goat_cli.specs.Words.{Job, input_of, output_of}
-use Rattle.goat_cli.specs.Outcome.{Outcome, files_after, song_limit}
-use Rattle.goat_cli.specs.Refusal.{MadeOf, SpellsDoable, SpellsOther}
+use Rattle.goat_cli.specs.declared.ending.Ending.TheVariants.{Wrote, Shown, SinkFault, Stopped, NoMemory}
+use Rattle.goat_cli.specs.Ending.{status_of, line_of}
+use Rattle.goat_cli.specs.declared.refusal.Refusal.{Refusal}
+use Rattle.goat_cli.specs.Refusal.{ending_of}
+use Rattle.goat_cli.specs.Lines.{no_memory_line}
+use Rattle.goat_cli.specs.Words.{Job, output_of}
+use Rattle.goat_cli.specs.Calls.{FirstCalls, MeetsStopAt}
+use Rattle.goat_cli.specs.RegisterText.{register_text}
+use Rattle.goat_cli.specs.Outcome.{Outcome, JobOutcome, SongOutcome, RunOutcome, MadeOf, files_after}
+use Rattle.goat_cli.specs.Rows.{IsOrdinary, IsPrinted, IsDoable, SpellsOne, OfFile, JobText, TextOf, MayPrint, CallsShown, CallsText, LeavesFiles}
 
--- an ending with its line, and the files as it says
-pub record EndsAs (words : List (List ℕ)) (files : Files) (status : ℕ) (text : List ℕ) (files_now : Option Files) : Type 0 where
-  pub write : Option (List ℕ × List ℕ)
-  pub outcome : Outcome words files status text write
-  pub files_are : files_now ≡ Some (files_after files write)
+-- ---- the calls of a PSID file
 
--- a name in an ending is the job's
-abbrev pub NamesOf : Job → Ending → Type 0
-NamesOf job (Wrote count) = Unit {0}
-NamesOf job Usage = ⊥
-NamesOf job (Missing name) = name.now ≡ input_of job
-NamesOf job (TooLong name) = name.now ≡ input_of job
-NamesOf job (ReadFault name) = name.now ≡ input_of job
-NamesOf job (NotASong fault) = Unit {0}
-NamesOf job (WriteFault name) = name.now ≡ output_of job
-NamesOf job NoMemory = Unit {0}
-NamesOf job NotBuilt = Unit {0}
+-- what became of init and so many frames of a loaded file
+pub data CallsEnd (file : RunnerState) (subtune frames : ℕ) (before after : Option (List ℕ)) (ending : Ending) : Type 0 where
+  played : (registers : List (List ℕ)) (machine : Machine) → FirstCalls file subtune (frames + 1) registers machine → ending ≡ Shown → after ≡ told_with_piece before (register_text registers) → CallsEnd file subtune frames before after ending
+  stopped : (call : ℕ) (registers : List (List ℕ)) (reason : CallStop) → call ≤ frames → MeetsStopAt file subtune call registers reason → ending ≡ Stopped reason call → after ≡ told_with_piece before (register_text registers) → CallsEnd file subtune frames before after ending
+  cut_short : (calls kept : ℕ) (registers : List (List ℕ)) (machine : Machine) → calls ≤ frames + 1 → FirstCalls file subtune calls registers machine → (ending ≡ SinkFault) ⊎ (ending ≡ NoMemory) → after ≡ told_with_piece before (take kept (register_text registers)) → CallsEnd file subtune frames before after ending
 
--- the file of a job was written
-pub record Writes (job : Job) (bytes : List ℕ) (files : Files) (files_now : Option Files) (count : ℕ) : Type 0 where
-  pub file : List ℕ
-  pub made : MadeOf job bytes file
-  pub size : count ≡ length file
-  pub files_are : files_now ≡ Some (with_file files (output_of job) file)
+-- what became of a run of a PSID file
+pub record ShowEnds (subtune frames : ℕ) (bytes : List ℕ) (before after : Option (List ℕ)) (ending : Ending) : Type 0 where
+  pub front : List ℕ
+  pub shown : after ≡ told_with_piece before front
+  pub outcome : IsOrdinary (status_of ending) → RunOutcome subtune frames bytes (status_of ending) (front ++ line_of ending) None
+  pub begins : (front ≡ []) ⊎ ((text : List ℕ) × (kept : ℕ) × CallsShown subtune frames bytes text × (front ≡ take kept text))
 
--- what becomes of the bytes of a job's file
-abbrev pub WritesAs : Job → List ℕ → Files → Option Files → Ending → Type 0
-WritesAs job bytes files files_now (Wrote count) = Writes job bytes files files_now count
-WritesAs job bytes files files_now Usage = ⊥
-WritesAs job bytes files files_now (Missing name) = ⊥
-WritesAs job bytes files files_now (TooLong name) = ⊥
-WritesAs job bytes files files_now (ReadFault name) = ⊥
-WritesAs job bytes files files_now (NotASong fault) = (fault_of bytes ≡ Some fault) × (files_now ≡ Some files)
-WritesAs job bytes files files_now (WriteFault name) = SpellsDoable job bytes
-WritesAs job bytes files files_now NoMemory = Unit {0}
-WritesAs job bytes files files_now NotBuilt = SpellsOther job bytes × (files_now ≡ Some files)
+-- a beginning of the lines of calls was printed, or nothing
+abbrev pub Begins : Job → List ℕ → List ℕ → Type 0
+Begins job bytes front = (front ≡ []) ⊎ ((text : List ℕ) × (kept : ℕ) × CallsText job bytes text × (front ≡ take kept text))
 
--- what becomes of a job
-abbrev pub EndsJob : Job → Files → Option Files → Ending → Type 0
-EndsJob job files files_now Usage = ⊥
-EndsJob job files files_now (Missing name) = IsAbsent (input_of job) files × (files_now ≡ Some files)
-EndsJob job files files_now (TooLong name) = IsAbove song_limit (input_of job) files × (files_now ≡ Some files)
-EndsJob job files files_now (ReadFault name) = files_now ≡ Some files
-EndsJob job files files_now NoMemory = Unit {0}
-EndsJob job files files_now ending =
-    (bytes : List ℕ) × (file_of files (input_of job) ≡ Some bytes) × (length bytes ≤ song_limit) × WritesAs job bytes files files_now ending
+-- ---- a job for a song
+
+-- what became of a file that was made, or of the refusal to make one
+pub data WritesMade (made : Result (Vec ℕ Global) Refusal) (output : List ℕ) (files : Files) (files_now : Option Files) (ending : Ending) : Type 0 where
+  refused : (refusal : Refusal) → made ≡ Err refusal → ending ≡ ending_of refusal → files_now ≡ Some files → WritesMade made output files files_now ending
+  wrote : (file : Vec ℕ Global) → made ≡ Ok file → ending ≡ Wrote (length file.items) → files_now ≡ Some (with_file files output file.items) → WritesMade made output files files_now ending
+  failed : (file : Vec ℕ Global) → made ≡ Ok file → status_of ending ≡ 9 → IsWrittenInPart (Some files) files_now output file.items → WritesMade made output files files_now ending
+  wanting : ending ≡ NoMemory → files_now ≡ Some files → WritesMade made output files files_now ending
+
+-- a name in the ending is that of the file
+abbrev pub SaysMade : List ℕ → Ending → Type 0
+SaysMade output ending = (job : Job) → output_of job ≡ Some output → IsPrinted (status_of ending) → JobText job (status_of ending) (line_of ending)
+
+-- what became of the file that a job makes of a song
+pub record SongEnds (built : Song → Type 0) (makes : Song → List ℕ → Type 0) (output bytes : List ℕ) (files : Files) (files_now : Option Files) (ending : Ending) : Type 0 where
+  pub outcome : IsOrdinary (status_of ending) → (write : Option (List ℕ × List ℕ)) × SongOutcome built makes output bytes (status_of ending) (line_of ending) write × (files_now ≡ Some (files_after files write))
+  pub at_the_end : status_of ending ≡ 9 → SpellsOne built bytes
+  pub leaves : (files_now ≡ Some files) ⊎ ((file : List ℕ) × (kept : ℕ) × MadeOf built makes bytes file × (files_now ≡ Some (with_file files output (take kept file))))
+
+-- ---- the last line
+
+-- a beginning of a line was printed, or of the line that memory is wanting
+pub record PrintsPart (line : List ℕ) (before after : Option (List ℕ)) : Type 0 where
+  pub kept : ℕ
+  pub part : (after ≡ told_with_piece before (take kept line)) ⊎ (after ≡ told_with_piece before (take kept no_memory_line))
+
+-- ---- a job, and a run
+
+-- what became of a job with the bytes of its file, where the folder tells its files
+pub record JobEnds (job : Job) (bytes : List ℕ) (files : Files) (files_now : Option Files) (before after : Option (List ℕ)) (ending : Ending) : Type 0 where
+  pub front : List ℕ
+  pub shown : after ≡ told_with_piece before front
+  pub outcome : IsOrdinary (status_of ending) → (write : Option (List ℕ × List ℕ)) × JobOutcome job bytes (status_of ending) (front ++ line_of ending) write × (files_now ≡ Some (files_after files write))
+  pub at_the_end : status_of ending ≡ 9 → IsDoable job bytes
+  pub text : IsPrinted (status_of ending) → JobText job (status_of ending) (front ++ line_of ending)
+  pub begins : Begins job bytes front
+  pub leaves : (files_now ≡ Some files) ⊎ ((text output file : List ℕ) × (kept : ℕ) × JobOutcome job bytes 0 text (Some (output, file)) × (files_now ≡ Some (with_file files output (take kept file))))
+
+-- what a job printed, whether the folder tells its files or not
+pub record JobSays (job : Job) (before after : Option (List ℕ)) (ending : Ending) : Type 0 where
+  pub front : List ℕ
+  pub shown : after ≡ told_with_piece before front
+  pub text : IsPrinted (status_of ending) → JobText job (status_of ending) (front ++ line_of ending)
+
+-- what became of a run, where the folder tells its files
+pub record RunEnds (words : List (List ℕ)) (files : Files) (files_now : Option Files) (before after : Option (List ℕ)) (ending : Ending) : Type 0 where
+  pub front : List ℕ
+  pub shown : after ≡ told_with_piece before front
+  pub outcome : IsOrdinary (status_of ending) → (write : Option (List ℕ × List ℕ)) × Outcome words files (status_of ending) (front ++ line_of ending) write × (files_now ≡ Some (files_after files write))
+  pub at_the_end : status_of ending ≡ 9 → OfFile words files IsDoable
+  pub begins : (text : List ℕ) × (kept : ℕ) × MayPrint words files text × (front ≡ take kept text)
+  pub last_line : IsPrinted (status_of ending) → MayPrint words files (front ++ line_of ending)
+  pub leaves : LeavesFiles words files files_now
+
+-- what a run printed, whether the folder tells its files or not
+pub record RunSays (words : List (List ℕ)) (before after : Option (List ℕ)) (ending : Ending) : Type 0 where
+  pub front : List ℕ
+  pub shown : after ≡ told_with_piece before front
+  pub text : IsPrinted (status_of ending) → TextOf words (status_of ending) (front ++ line_of ending)

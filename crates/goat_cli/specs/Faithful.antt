@@ -1,5 +1,5 @@
 -- When an image plays a song: whatever else is in memory, init and each play return, write in their own places only, and leave the SID's registers as the song's frames do.
-use Rattle.std.specs.Prelude.{◌≡◌, ℕ, zero, suc, ◌+◌, ◌%◌, ◌/◌, ◌<◌, ◌≤◌, List, ◌∷◌, length, slice_index}
+use Rattle.std.specs.Prelude.{◌≡◌, ℕ, zero, suc, ◌+◌, ◌<◌, ◌≤◌, List, length, slice_index}
 use Rattle.song_model.specs.declared.songs.Song.{Song}
 use Rattle.song_model.specs.LookUp.{playable_subtunes}
 use Rattle.play_model.specs.Frame.{trace}
@@ -7,7 +7,7 @@ use Rattle.cpu6502.specs.declared.machine.Machine.{Machine}
 use Rattle.cpu6502.specs.Call.{Called}
 use Rattle.cpu6502.specs.Code.{IsMachine, Holds}
 use Rattle.goat_cli.specs.Confined.{IsConfined}
-use Rattle.goat_cli.specs.SilentRun.{sid_registers}
+use Rattle.sid_run.specs.State.{sid_registers}
 
 -- a call of an image at an entry, with a number in the accumulator: it returns within 200,000 steps in the machine after, has written in its own places only, and leaves these registers
 pub record Leaves (image : List ℕ) (address zero_page : ℕ) (machine : Machine) (entry number : ℕ) (registers : List ℕ) (after : Machine) : Type 0 where
@@ -32,7 +32,3 @@ PlaysOn image address zero_page song k i (suc n) before =
 pub record IsFaithful (image : List ℕ) (address zero_page : ℕ) (song : Song) : Type 0 where
   pub plays : (k n : ℕ) (machine : Machine) → k < length (playable_subtunes song) → IsMachine machine → Holds machine.memory address image →
       (after : Machine) × Leaves image address zero_page machine address k (trace song k 0) after × PlaysOn image address zero_page song k 1 n after
-
--- a raw file: the address, low byte first, and the image
-abbrev pub raw_file : ℕ → List ℕ → List ℕ
-raw_file address image = (address % 256) ∷ (address / 256) ∷ image

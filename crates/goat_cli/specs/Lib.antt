@@ -6,9 +6,12 @@ pub mod Image
 pub mod Confined
 pub mod SilentRun
 pub mod Faithful
+pub mod Packed
+pub mod Calls
+pub mod RegisterText
 pub mod Lines
 pub mod Ending
 pub mod Outcome
-pub mod Refusal
 pub mod Rows
+pub mod Refusal
 pub mod Endings

@@ -1,7 +1,13 @@
--- The lines that the program prints.
-use Rattle.std.specs.Prelude.{ℕ, List, ◌++◌, codes, decimal}
+-- The lines that the program prints, but for those of registers.
+use Rattle.std.specs.Prelude.{ℕ, ◌/◌, ◌%◌, List, [], ◌∷◌, ◌++◌, codes, decimal}
+use Rattle.hex.specs.Hex.{encode_upper}
 use Rattle.gts5.specs.declared.faults.SongFault.{SongFault}
-use Rattle.gts5.specs.declared.faults.SongFault.TheVariants.{NotGts5, Truncated, OutOfLimit, BadOrder, BadRow, NoMemory}
+use Rattle.gts5.specs.declared.faults.SongFault.TheVariants as song
+use Rattle.psid.specs.declared.faults.PsidFault.{PsidFault}
+use Rattle.psid.specs.declared.faults.PsidFault.TheVariants as psid
+use Rattle.cpu6502.specs.declared.stop.Stop.TheVariants.{Illegal, Break, Decimal}
+use Rattle.cpu6502.specs.declared.stop.CallStop.{CallStop}
+use Rattle.cpu6502.specs.declared.stop.CallStop.TheVariants.{Stopped, Budget}
 
 abbrev pub usage_line : List ℕ
 usage_line = codes "usage: goat check|trace|pack|run|edit|copy|selftest\n"
@@ -17,12 +23,39 @@ read_fault_line name = codes "read fault: " ++ name ++ codes "\n"
 
 -- the faults of a file that spells no song; want of memory is none of the file's
 abbrev pub song_fault_line : SongFault → List ℕ
-song_fault_line NotGts5 = codes "not a song: bad magic\n"
-song_fault_line (Truncated offset) = codes "not a song: truncated at " ++ decimal offset ++ codes "\n"
-song_fault_line (OutOfLimit offset) = codes "not a song: over limit at " ++ decimal offset ++ codes "\n"
-song_fault_line (BadOrder offset) = codes "not a song: bad order at " ++ decimal offset ++ codes "\n"
-song_fault_line (BadRow offset) = codes "not a song: bad row at " ++ decimal offset ++ codes "\n"
-song_fault_line NoMemory = codes "no memory\n"
+song_fault_line song.NotGts5 = codes "not a song: bad magic\n"
+song_fault_line (song.Truncated offset) = codes "not a song: truncated at " ++ decimal offset ++ codes "\n"
+song_fault_line (song.OutOfLimit offset) = codes "not a song: over limit at " ++ decimal offset ++ codes "\n"
+song_fault_line (song.BadOrder offset) = codes "not a song: bad order at " ++ decimal offset ++ codes "\n"
+song_fault_line (song.BadRow offset) = codes "not a song: bad row at " ++ decimal offset ++ codes "\n"
+song_fault_line song.NoMemory = codes "no memory\n"
+
+-- the faults of a file that is no PSID file; want of memory is none of the file's
+abbrev pub psid_fault_line : PsidFault → List ℕ
+psid_fault_line psid.NotPsid = codes "not a PSID: bad magic\n"
+psid_fault_line psid.Truncated = codes "not a PSID: truncated\n"
+psid_fault_line psid.Unsupported = codes "not a PSID: unsupported\n"
+psid_fault_line psid.BadField = codes "not a PSID: bad field\n"
+psid_fault_line psid.NoMemory = codes "no memory\n"
+
+-- for a subtune that a file of so many songs doesn't have
+abbrev pub no_subtune_line : ℕ → ℕ → List ℕ
+no_subtune_line asked songs = codes "no such subtune: " ++ decimal asked ++ codes " of " ++ decimal songs ++ codes "\n"
+
+-- an address as four hexadecimal digits in upper case
+abbrev pub address_digits : ℕ → List ℕ
+address_digits address = encode_upper ((address / 256) ∷ (address % 256) ∷ [])
+
+-- how a call ended that did not return
+abbrev pub stop_text : CallStop → List ℕ
+stop_text (Stopped (Illegal place)) = codes "illegal at $" ++ address_digits place
+stop_text (Stopped (Break place)) = codes "break at $" ++ address_digits place
+stop_text (Stopped (Decimal place)) = codes "decimal at $" ++ address_digits place
+stop_text Budget = codes "no return"
+
+-- for a call with this number
+abbrev pub stop_line : CallStop → ℕ → List ℕ
+stop_line reason call = codes "machine stopped: " ++ stop_text reason ++ codes " in call " ++ decimal call ++ codes "\n"
 
 abbrev pub write_fault_line : List ℕ → List ℕ
 write_fault_line name = codes "write fault: " ++ name ++ codes "\n"

@@ -1,13 +1,10 @@
 -- What the calls of the silent player do on the machine.
-use Rattle.std.specs.Prelude.{◌≡◌, ℕ, ◌+◌, List, [], ◌∷◌, ◌++◌, length, replicate, slice_index}
+use Rattle.std.specs.Prelude.{◌≡◌, ℕ, ◌+◌, List, [], ◌∷◌, ◌++◌, length, replicate}
 use Rattle.cpu6502.specs.declared.machine.Machine.{Machine}
 use Rattle.cpu6502.specs.Call.{Called}
-use Rattle.cpu6502.specs.Code.{IsMachine, Holds, bytes_at}
+use Rattle.cpu6502.specs.Code.{IsMachine, Holds}
+use Rattle.sid_run.specs.State.{sid_registers}
 use Rattle.goat_cli.specs.Confined.{IsConfined}
-
--- the 25 bytes of the SID's registers
-abbrev pub sid_registers : Machine → List ℕ
-sid_registers machine = bytes_at (slice_index machine.memory) 0xD400 25
 
 -- a call of a player's image, at an entry with a number in the accumulator, returns after exactly so many steps, has written in its own places only, leaves the image as it was, and leaves these registers
 pub record ReturnsWith (machine : Machine) (entry number steps : ℕ) (image : List ℕ) (address zero_page : ℕ) (registers : List ℕ) : Type 0 where

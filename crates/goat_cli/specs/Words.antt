@@ -1,5 +1,5 @@
 -- The command line's words, and the job that they ask for.
-use Rattle.std.specs.Prelude.{◌≡◌, ◌≢◌, ℕ, ◌+◌, ◌*◌, List, [], ◌∷◌, map, codes, String, Ok}
+use Rattle.std.specs.Prelude.{◌≡◌, ◌≢◌, ℕ, ◌+◌, ◌*◌, ◌≤◌, List, [], ◌∷◌, map, codes, decimal, String, Ok, Option, Some, None, Bool, true, false}
 use Rattle.std.specs.Global.{Global}
 use Rattle.std.specs.String.{string_bytes}
 use Rattle.hex.specs.Hex.{decode_sized}
@@ -22,26 +22,43 @@ pub record IsZeroPageWord (word : List ℕ) (zero_page : ℕ) : Type 0 where
   pub digits : decode_sized word 1 ≡ Ok (zero_page ∷ [])
   pub allowed : IsZeroPage zero_page
 
--- what the program is asked to do: pack the song in one file into a raw file, or copy it into another file
+-- a number in decimal, without leading zeros, that is at most the limit
+pub record IsNumberWord (limit : ℕ) (word : List ℕ) (number : ℕ) : Type 0 where
+  pub spelled : word ≡ decimal number
+  pub allowed : number ≤ limit
+
+-- the most frames that a run may be asked for
+abbrev pub frame_limit : ℕ
+frame_limit = 100000
+
+-- what the program is asked to do: pack the song in one file into another, a PSID file or a raw one; copy it into another file; or run a PSID file, from a subtune counted from 1, for so many frames
 pub data Job : Type 0 where
-  Pack : (input output : List ℕ) (address zero_page : ℕ) → Job
+  Pack : (input output : List ℕ) (psid : Bool) (address zero_page : ℕ) → Job
   Copy : (input output : List ℕ) → Job
+  Run : (input : List ℕ) (subtune frames : ℕ) → Job
 
 -- the file that a job reads
 abbrev pub input_of : Job → List ℕ
-input_of (Pack input output address zero_page) = input
+input_of (Pack input output psid address zero_page) = input
 input_of (Copy input output) = input
+input_of (Run input subtune frames) = input
 
--- the file that it writes
-abbrev pub output_of : Job → List ℕ
-output_of (Pack input output address zero_page) = output
-output_of (Copy input output) = output
+-- the file that it writes, if it writes one
+abbrev pub output_of : Job → Option (List ℕ)
+output_of (Pack input output psid address zero_page) = Some output
+output_of (Copy input output) = Some output
+output_of (Run input subtune frames) = None
 
--- the words are `pack IN OUT raw ADDRESS ZP`
-pub record IsPackForm (words : List (List ℕ)) (input output : List ℕ) (address zero_page : ℕ) : Type 0 where
+-- the word for the format of a packed file
+abbrev pub format_word : Bool → List ℕ
+format_word true = codes "psid"
+format_word false = codes "raw"
+
+-- the words are `pack IN OUT psid ADDRESS ZP`, or `raw` in place of `psid`
+pub record IsPackForm (words : List (List ℕ)) (input output : List ℕ) (psid : Bool) (address zero_page : ℕ) : Type 0 where
   pub address_word : List ℕ
   pub zero_page_word : List ℕ
-  pub form : words ≡ codes "pack" ∷ input ∷ output ∷ codes "raw" ∷ address_word ∷ zero_page_word ∷ []
+  pub form : words ≡ codes "pack" ∷ input ∷ output ∷ format_word psid ∷ address_word ∷ zero_page_word ∷ []
   pub in_named : input ≢ []
   pub out_named : output ≢ []
   pub address_spelled : IsAddressWord address_word address
@@ -53,11 +70,27 @@ pub record IsCopyForm (words : List (List ℕ)) (input output : List ℕ) : Type
   pub in_named : input ≢ []
   pub out_named : output ≢ []
 
+-- the words are `run IN SUBTUNE FRAMES`, with a subtune of at most 255 and at most 100,000 frames
+pub record IsRunForm (words : List (List ℕ)) (input : List ℕ) (subtune frames : ℕ) : Type 0 where
+  pub subtune_word : List ℕ
+  pub frames_word : List ℕ
+  pub form : words ≡ codes "run" ∷ input ∷ subtune_word ∷ frames_word ∷ []
+  pub in_named : input ≢ []
+  pub subtune_spelled : IsNumberWord 255 subtune_word subtune
+  pub frames_spelled : IsNumberWord frame_limit frames_word frames
+
 -- the words are of a form, and this is the job that they name
 abbrev pub WordsOf : List (List ℕ) → Job → Type 0
-WordsOf words (Pack input output address zero_page) = IsPackForm words input output address zero_page
+WordsOf words (Pack input output psid address zero_page) = IsPackForm words input output psid address zero_page
 WordsOf words (Copy input output) = IsCopyForm words input output
+WordsOf words (Run input subtune frames) = IsRunForm words input subtune frames
 
 -- no form of the command line has these words
 abbrev pub IsNoForm : List (List ℕ) → Type 0
 IsNoForm words = (job : Job) → ¬ WordsOf words job
+
+-- an image can stand at the job's address, if it has one, and its frames are not too many
+abbrev pub KeepsLimits : Job → Type 0
+KeepsLimits (Pack input output psid address zero_page) = IsAddress address
+KeepsLimits (Copy input output) = Unit {0}
+KeepsLimits (Run input subtune frames) = frames ≤ frame_limit

@@ -13,7 +13,9 @@
 mod ending;
 mod image;
 mod line;
+mod made;
 mod refusal;
+mod shown;
 mod silent;
 mod top;
 mod words;

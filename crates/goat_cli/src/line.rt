@@ -1,17 +1,23 @@
-//! The line that a run prints.
+//! The lines that a run prints.
 
 ghost use Rattle.std.specs.Prelude.{◌≡◌, ◌++◌, [], codes, decimal, IfOk, OnOk};
+ghost use Rattle.goat_cli.specs.Lines.{address_digits};
 
 use crate::ending::Ending;
+use cpu6502::{CallStop, Stop};
 use gts5::SongFault;
+use psid::PsidFault;
 use song_model::NoMemory;
 use std::alloc::Global;
 use std::marker::Model;
 
-/// Room for the words around a name or a number.
+/// Room for the words around a name or a number, and for a line of registers.
 const ROOM_FOR_WORDS: usize = 64;
 
-/// One line, in memory that is taken before the run begins: printing takes none.
+/// The digits of a call's number in a line of registers.
+const CALL_DIGITS: usize = 6;
+
+/// One line, in memory that is taken before the run begins and used again from line to line: printing takes none.
 #[derive(Drop)]
 pub struct Line {
     text: Vec<u8>,
@@ -27,7 +33,9 @@ impl Model for Line {
 
 impl Line {
     ghost use Rattle.goat_cli.specs.Ending.{line_of};
-    ghost use Rattle.goat_cli.specs.Lines.{wrote_line, song_fault_line};
+    ghost use Rattle.goat_cli.specs.Lines.{wrote_line, song_fault_line, psid_fault_line, no_subtune_line, stop_line, stop_text};
+    ghost use Rattle.goat_cli.specs.RegisterText.{register_line, call_digits};
+    ghost use Rattle.hex.specs.Hex.{encode_lower};
 
     /// An empty line with room for each line that these words can lead to.
     pub fn with_room(alloc: Global, words: &[String]) -> Result<Self, NoMemory>
@@ -52,6 +60,7 @@ impl Line {
     {
         match ending {
             Ending::Wrote(count) => self.tell_count(*count),
+            Ending::Shown | Ending::SinkFault => self.set(b"", b"", b""),
             Ending::Usage => self.set(
                 b"usage: goat check|trace|pack|run|edit|copy|selftest",
                 b"",
@@ -60,14 +69,31 @@ impl Line {
             Ending::Missing(name) => self.set(b"missing: ", name.as_bytes(), b"\n"),
             Ending::TooLong(name) => self.set(b"too long: ", name.as_bytes(), b"\n"),
             Ending::ReadFault(name) => self.set(b"read fault: ", name.as_bytes(), b"\n"),
-            Ending::NotASong(fault) => self.tell_fault(*fault),
+            Ending::NotASong(fault) => self.tell_song_fault(*fault),
             Ending::WriteFault(name) => self.set(b"write fault: ", name.as_bytes(), b"\n"),
+            Ending::NoSubtune { asked, songs } => self.tell_no_subtune(*asked, *songs),
+            Ending::NotAPsid(fault) => self.tell_psid_fault(*fault),
+            Ending::Stopped { reason, call } => self.tell_stop(*reason, *call),
             Ending::NoMemory => self.set(b"no memory", b"", b"\n"),
             Ending::NotBuilt => self.set(b"not built", b"", b"\n"),
         }
     }
 
-    fn tell_fault(&mut self, fault: SongFault) -> Result<(), NoMemory>
+    /// Makes the line that of a call: its number, and the SID's registers after it.
+    pub fn tell_registers(&mut self, call: u32, registers: &[u8; 25]) -> Result<(), NoMemory>
+        ensures { OnOk result (self.new ≡ register_line call registers.now) }
+    {
+        let mut digits = [0; 50];
+        if hex::encode_to_slice(registers.as_slice(), &mut digits).is_err() {
+            return Err(NoMemory);
+        }
+        self.set_call_digits(call)?;
+        self.add(b" ")?;
+        self.add(&digits)?;
+        self.add(b"\n")
+    }
+
+    fn tell_song_fault(&mut self, fault: SongFault) -> Result<(), NoMemory>
         ensures { OnOk result (self.new ≡ song_fault_line fault) }
     {
         match fault {
@@ -85,6 +111,38 @@ impl Line {
         }
     }
 
+    fn tell_psid_fault(&mut self, fault: PsidFault) -> Result<(), NoMemory>
+        ensures { OnOk result (self.new ≡ psid_fault_line fault) }
+    {
+        match fault {
+            PsidFault::NotPsid => self.set(b"not a PSID: bad magic", b"", b"\n"),
+            PsidFault::Truncated => self.set(b"not a PSID: truncated", b"", b"\n"),
+            PsidFault::Unsupported => self.set(b"not a PSID: unsupported", b"", b"\n"),
+            PsidFault::BadField => self.set(b"not a PSID: bad field", b"", b"\n"),
+            PsidFault::NoMemory => self.set(b"no memory", b"", b"\n"),
+        }
+    }
+
+    fn tell_no_subtune(&mut self, asked: u8, songs: u16) -> Result<(), NoMemory>
+        ensures { OnOk result (self.new ≡ no_subtune_line asked songs) }
+    {
+        self.set(b"no such subtune: ", b"", b"")?;
+        self.add_number(u32::from(asked))?;
+        self.add(b" of ")?;
+        self.add_number(u32::from(songs))?;
+        self.add(b"\n")
+    }
+
+    fn tell_stop(&mut self, reason: CallStop, call: u32) -> Result<(), NoMemory>
+        ensures { OnOk result (self.new ≡ stop_line reason call) }
+    {
+        self.set(b"machine stopped: ", b"", b"")?;
+        self.add_stop(reason)?;
+        self.add(b" in call ")?;
+        self.add_number(call)?;
+        self.add(b"\n")
+    }
+
     // Makes the line these words and a place in a file.
     fn tell_place(&mut self, front: &[u8], offset: u32) -> Result<(), NoMemory>
         ensures { OnOk result (self.new ≡ front.now ++ decimal offset ++ codes "\n") }
@@ -100,14 +158,73 @@ impl Line {
         self.set(b"wrote ", digits.format(count).as_bytes(), b" bytes\n")
     }
 
+    // Appends how a call ended that did not return.
+    fn add_stop(&mut self, reason: CallStop) -> Result<(), NoMemory>
+        ensures { OnOk result (self.new ≡ self.old ++ stop_text reason) }
+    {
+        match reason {
+            CallStop::Stopped(Stop::Illegal { at }) => self.add_place(b"illegal at $", at),
+            CallStop::Stopped(Stop::Break { at }) => self.add_place(b"break at $", at),
+            CallStop::Stopped(Stop::Decimal { at }) => self.add_place(b"decimal at $", at),
+            CallStop::Budget => self.add(b"no return"),
+        }
+    }
+
+    // Appends these words, and an address as four hexadecimal digits in upper case.
+    fn add_place(&mut self, front: &[u8], place: u16) -> Result<(), NoMemory>
+        ensures { OnOk result (self.new ≡ self.old ++ front.now ++ address_digits place) }
+    {
+        let digits = upper_digits(place);
+        self.add(front)?;
+        self.add(&digits)
+    }
+
+    // Makes the line a number in six digits, with leading zeros.
+    fn set_call_digits(&mut self, call: u32) -> Result<(), NoMemory>
+        ensures { OnOk result (self.new ≡ call_digits call) }
+    {
+        let mut buffer = itoa::Buffer::new();
+        let digits = buffer.format(call).as_bytes();
+        self.text.clear();
+        self.text
+            .resize(CALL_DIGITS.saturating_sub(digits.len()), b'0')?;
+        self.add(digits)
+    }
+
+    // Appends a number in decimal.
+    fn add_number(&mut self, number: u32) -> Result<(), NoMemory>
+        ensures { OnOk result (self.new ≡ self.old ++ decimal number) }
+    {
+        let mut digits = itoa::Buffer::new();
+        self.add(digits.format(number).as_bytes())
+    }
+
     // Makes the line these three texts, one after the other.
     fn set(&mut self, front: &[u8], middle: &[u8], end: &[u8]) -> Result<(), NoMemory>
         ensures { OnOk result (self.new ≡ front.now ++ middle.now ++ end.now) }
     {
         self.text.clear();
-        self.text.extend_from_slice(front)?;
-        self.text.extend_from_slice(middle)?;
-        self.text.extend_from_slice(end)?;
+        self.add(front)?;
+        self.add(middle)?;
+        self.add(end)
+    }
+
+    // Appends a text.
+    fn add(&mut self, text: &[u8]) -> Result<(), NoMemory>
+        ensures { OnOk result (self.new ≡ self.old ++ text.now) }
+    {
+        self.text.extend_from_slice(text)?;
         Ok(())
     }
+}
+
+// An address as four hexadecimal digits in upper case.
+fn upper_digits(address: u16) -> [u8; 4]
+    ensures { result ≡ address_digits address }
+{
+    let [low, high] = address.to_le_bytes();
+    let mut digits = [0; 4];
+    let _written = hex::encode_to_slice([high, low], &mut digits);
+    digits.make_ascii_uppercase();
+    digits
 }

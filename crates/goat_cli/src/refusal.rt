@@ -1,9 +1,12 @@
 //! Why nothing is made of a file.
 
+ghost use Rattle.std.specs.Prelude.{◌≡◌};
+
+use crate::ending::Ending;
 use gts5::SongFault;
 use song_model::NoMemory;
 
-/// Why a job makes nothing of a file's bytes.
+/// Why a job makes nothing of a song file's bytes.
 #[derive(Clone, Copy, Debug)]
 pub enum Refusal {
     /// The bytes break the format of songs.
@@ -12,6 +15,21 @@ pub enum Refusal {
     NotBuilt,
     /// Memory was wanting.
     NoMemory,
+}
+
+impl Refusal {
+    ghost use Rattle.goat_cli.specs.Refusal.{ending_of};
+
+    /// How a run with this refusal ends.
+    pub fn ending(self) -> Ending<'static>
+        ensures { result ≡ ending_of self }
+    {
+        match self {
+            Refusal::NotASong(fault) => Ending::NotASong(fault),
+            Refusal::NotBuilt => Ending::NotBuilt,
+            Refusal::NoMemory => Ending::NoMemory,
+        }
+    }
 }
 
 impl From<NoMemory> for Refusal {

@@ -1,16 +1,24 @@
 //! The command line's words.
 
-ghost use Rattle.std.specs.Prelude.{◌≡◌, ℕ, List, MatchOption, IfSome, IfNone, IfOk, OnErr};
-ghost use Rattle.goat_cli.specs.Words.{texts, IsAddressWord, IsZeroPageWord, IsNoForm, WordsOf, input_of, output_of, IsPackForm, IsCopyForm};
+ghost use Rattle.std.specs.Prelude.{◌≡◌, ℕ, List, Bool, MatchOption, IfSome, IfNone, IfOk, OnErr, ◌<◌};
+ghost use Rattle.goat_cli.specs.Words.{texts, format_word, IsAddressWord, IsZeroPageWord, IsNumberWord, IsNoForm, WordsOf, input_of, IsPackForm, IsCopyForm, IsRunForm};
 ghost use Rattle.goat_cli.specs.Job.{job_of};
+
+/// The greatest number of frames that a run may be asked for.
+const FRAME_LIMIT: u32 = 100_000;
+
+/// The greatest number that a subtune may be asked for by.
+const SUBTUNE_LIMIT: u32 = 255;
 
 /// What the program is asked to do.
 #[derive(Clone, Copy)]
 pub enum Job<'a> {
-    /// `pack IN OUT raw ADDRESS ZP`: pack the song in the file IN into the raw file OUT.
+    /// `pack IN OUT psid ADDRESS ZP`, or `raw` in place of `psid`: pack the song in the file IN into the file OUT.
     Pack {
         input: &'a str,
         output: &'a str,
+        /// Whether OUT is a PSID file; else it is a raw one.
+        psid: bool,
         /// Where the image will stand: a multiple of 256 from `$0800` to `$CF00`.
         address: u16,
         /// The first of the player's two zero page bytes, `$02` to `$FE`.
@@ -21,6 +29,14 @@ pub enum Job<'a> {
         input: &'a str,
         output: &'a str,
     },
+    /// `run IN SUBTUNE FRAMES`: run the PSID file IN, and print the SID's registers after each call.
+    Run {
+        input: &'a str,
+        /// The subtune, counted from 1.
+        subtune: u8,
+        /// How often play is called, at most 100,000 times.
+        frames: u32,
+    },
 }
 
 impl<'a> Job<'a> {
@@ -29,16 +45,7 @@ impl<'a> Job<'a> {
         ensures { result.now ≡ input_of (job_of self.now) }
     {
         match self {
-            Job::Pack { input, .. } | Job::Copy { input, .. } => input,
-        }
-    }
-
-    /// The name of the file that is written.
-    pub fn output(&self) -> &'a str
-        ensures { result.now ≡ output_of (job_of self.now) }
-    {
-        match self {
-            Job::Pack { output, .. } | Job::Copy { output, .. } => output,
+            Job::Pack { input, .. } | Job::Copy { input, .. } | Job::Run { input, .. } => input,
         }
     }
 }
@@ -58,28 +65,30 @@ pub fn parse_words(words: &[String]) -> Result<Job<'_>, WordsFault>
     if let Some(job) = copy_job(words) {
         return Ok(job);
     }
+    if let Some(job) = run_job(words) {
+        return Ok(job);
+    }
     Err(WordsFault)
 }
 
-// The form `pack IN OUT raw ADDRESS ZP`.
+// The form `pack IN OUT psid ADDRESS ZP`, or `raw` in place of `psid`.
 fn pack_job(words: &[String]) -> Option<Job<'_>>
     ensures found { IfSome result (λ job. WordsOf (texts words.now) (job_of job)) }
-    ensures none { IfNone result ((input output : List ℕ) (address zero_page : ℕ) → ¬ IsPackForm (texts words.now) input output address zero_page) }
+    ensures none { IfNone result ((input output : List ℕ) (psid : Bool) (address zero_page : ℕ) → ¬ IsPackForm (texts words.now) input output psid address zero_page) }
 {
     let [command, input, output, format, address, zero_page] = words else {
         return None;
     };
-    if command.as_str() != "pack" || format.as_str() != "raw" {
+    if command.as_str() != "pack" || input.is_empty() || output.is_empty() {
         return None;
     }
-    if input.is_empty() || output.is_empty() {
-        return None;
-    }
+    let psid = is_psid(format.as_str())?;
     let address = address_of(address.as_str())?;
     let zero_page = zero_page_of(zero_page.as_str())?;
     Some(Job::Pack {
         input: input.as_str(),
         output: output.as_str(),
+        psid,
         address,
         zero_page,
     })
@@ -100,6 +109,50 @@ fn copy_job(words: &[String]) -> Option<Job<'_>>
         input: input.as_str(),
         output: output.as_str(),
     })
+}
+
+// The form `run IN SUBTUNE FRAMES`.
+fn run_job(words: &[String]) -> Option<Job<'_>>
+    ensures found { IfSome result (λ job. WordsOf (texts words.now) (job_of job)) }
+    ensures none { IfNone result ((input : List ℕ) (subtune frames : ℕ) → ¬ IsRunForm (texts words.now) input subtune frames) }
+{
+    let [command, input, subtune, frames] = words else {
+        return None;
+    };
+    if command.as_str() != "run" || input.is_empty() {
+        return None;
+    }
+    let subtune = number_of(subtune.as_str(), SUBTUNE_LIMIT)?;
+    let frames = number_of(frames.as_str(), FRAME_LIMIT)?;
+    Some(Job::Run {
+        input: input.as_str(),
+        subtune: subtune as u8,
+        frames,
+    })
+}
+
+// Whether a word for the format of a packed file says PSID; none where it is no such word.
+fn is_psid(word: &str) -> Option<bool>
+    ensures { MatchOption result ((psid : Bool) → ¬ (word.now ≡ format_word psid)) (λ psid. word.now ≡ format_word psid) }
+{
+    match word {
+        "psid" => Some(true),
+        "raw" => Some(false),
+        _ => None,
+    }
+}
+
+// The number of at most so much that a word spells in decimal, without leading zeros.
+fn number_of(word: &str, limit: u32) -> Option<u32>
+    ensures { MatchOption result ((number : ℕ) → ¬ IsNumberWord limit word.now number) (IsNumberWord limit word.now) }
+{
+    let number: u32 = word.parse().ok()?;
+    let mut digits = itoa::Buffer::new();
+    if number <= limit && digits.format(number) == word {
+        Some(number)
+    } else {
+        None
+    }
 }
 
 // The allowed address that four hexadecimal digits spell.

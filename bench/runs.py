@@ -1,0 +1,83 @@
+#!/usr/bin/env python3
+"""Times `goat run`: machine steps a second over an image that works long, and lines a second over the silent song.
+
+Usage: bench/runs.py [PROGRAM]
+
+PROGRAM is the built program; without it `./goat` of this repository is called once, so that it is built, and its
+binary is used. Output goes to the null device. Times are processor time, less that of a run of no frames.
+"""
+
+import os
+import subprocess
+import sys
+import tempfile
+
+TOP = os.path.dirname(os.path.dirname(os.path.abspath(__file__)))
+ADDRESS = 0x1000
+ROUNDS = 190
+
+# Play: ROUNDS times 256 bytes are copied from $2000 to $0400, four instructions a byte.
+WORK = bytes([
+    0x60, 0xEA, 0xEA,                   # init: RTS
+    0xA0, ROUNDS,                       # LDY #ROUNDS
+    0xA2, 0x00,                         # LDX #0
+    0xBD, 0x00, 0x20, 0x9D, 0x00, 0x04, # LDA $2000,X; STA $0400,X
+    0xCA, 0xD0, 0xF7,                   # DEX; BNE
+    0x88, 0xD0, 0xF2,                   # DEY; BNE
+    0x60,                               # RTS
+])
+STEPS_OF_PLAY = 1 + ROUNDS * (1 + 256 * 4 + 2) + 1
+
+
+def psid_file(image):
+    """A PSID v2 file of one song, with init at the address and play three bytes behind it."""
+    words = [2, 0x7C, 0, ADDRESS, ADDRESS + 3, 1, 1, 0, 0]
+    header = b"PSID" + b"".join(word.to_bytes(2, "big") for word in words)
+    header = header.ljust(0x76, b"\0") + bytes([0, 0x14, 0, 0, 0, 0])
+    return header + ADDRESS.to_bytes(2, "little") + image
+
+
+def run(program, path, frames):
+    """Runs the file for so many frames; answers processor seconds and the most kilobytes that were held."""
+    arguments = [program, "run", path, "1", str(frames)]
+    with open(os.devnull, "wb") as null:
+        process = subprocess.Popen(arguments, stdout=null)
+        _, status, usage = os.wait4(process.pid, 0)
+    process.returncode = os.waitstatus_to_exitcode(status)
+    if process.returncode != 0:
+        sys.exit(f"{' '.join(arguments)} ended with status {process.returncode}")
+    return usage.ru_utime + usage.ru_stime, usage.ru_maxrss
+
+
+def best(program, path, frames, times=3):
+    """The shortest of some runs."""
+    return min(run(program, path, frames) for _ in range(times))
+
+
+def built_program():
+    """The binary of this repository, built if it wasn't."""
+    subprocess.run([os.path.join(TOP, "goat")], stdout=subprocess.DEVNULL, check=False)
+    return os.path.join(TOP, "crates", "goat", "out", "goat")
+
+
+def main():
+    program = os.path.abspath(sys.argv[1]) if len(sys.argv) > 1 else built_program()
+    with tempfile.TemporaryDirectory() as folder:
+        work = os.path.join(folder, "work.sid")
+        with open(work, "wb") as file:
+            file.write(psid_file(WORK))
+        silent = os.path.join(folder, "silent.sid")
+        song = os.path.join(TOP, "demo", "silence.sng")
+        subprocess.run([program, "pack", song, silent, "psid", "1000", "FC"], stdout=subprocess.DEVNULL, check=True)
+        start, own = best(program, work, 0)
+        frames = 500
+        seconds = best(program, work, frames)[0] - start
+        print(f"steps: {STEPS_OF_PLAY * frames / seconds / 1e6:.1f} million a second ({frames} calls of {STEPS_OF_PLAY})")
+        for frames in (25_000, 50_000, 100_000):
+            seconds, held = best(program, silent, frames)
+            seconds -= start
+            print(f"lines: {frames / seconds:,.0f} a second ({frames} frames in {seconds:.2f} s, {held - own} KB above a run of none)")
+
+
+if __name__ == "__main__":
+    main()

@@ -1,0 +1,168 @@
+-- The calls of a loaded file: one after the other, each in one way.
+use Rattle.std.proofs.Common.{◌≡◌, ◌≢◌, ℕ, zero, suc, ◌+◌, ◌≤◌, ◌<◌, ◌⊎◌, inl, inr, List, [], ◌∷◌, ◌++◌, Option, None, Result, Ok, Err, IfOk, OnOk, length, take, refl, sym, ap, ◌∙◌, subst, arith, add-one}
+use Rattle.std.proofs.lemmas.List.{append-nil, append_assoc, length-append}
+use Rattle.std.proofs.lemmas.Bool.{cases_lt}
+use Rattle.std.proofs.Math.Seq.{take-append-add}
+use Rattle.cpu6502.specs.declared.machine.Machine.{Machine}
+use Rattle.cpu6502.specs.declared.stop.CallStop.{CallStop}
+use Rattle.cpu6502.specs.Call.{run, entered, Called, FailsBy}
+use Rattle.cpu6502.proofs.Calls.{called_once, returned_fails}
+use Rattle.goat_io.specs.Written.{told_with_piece}
+use Rattle.sid_run.specs.State.{RunnerState, sid_registers, most_steps}
+use Rattle.goat_cli.specs.Calls.{entry_of, number_of, ReturnsWith, FirstCalls, MeetsStopAt}
+use Rattle.goat_cli.specs.RegisterText.{register_line, lines_from, register_text}
+use Rattle.goat_cli.specs.declared.ending.Ending.{Ending}
+use Rattle.goat_cli.specs.declared.ending.Ending.TheVariants.{Shown, SinkFault, NoMemory}
+use Rattle.goat_cli.specs.Endings.{CallsEnd, played, cut_short}
+use Rattle.goat_cli.proofs.Told.{told_both}
+
+-- ---- one call
+
+-- what the runner says of a call that returned
+pub returns_with : (r : Result (List ℕ) CallStop) (machine after : Machine) (entry number steps : ℕ) → OnOk r (Called machine entry number steps after) → OnOk r (steps ≤ most_steps) → IfOk r (λ registers. registers ≡ sid_registers after) → IfOk r (λ registers. ReturnsWith machine entry number registers after)
+returns_with (Ok registers) machine after entry number steps called within are = record { steps = steps; within = within; called = called; registers_are = sym are }
+returns_with (Err reason) machine after entry number steps called within are = tt
+
+-- a call with a number other than 0 is play
+pub later_entry : (file : RunnerState) (call : ℕ) → call ≢ 0 → entry_of file call ≡ file.play
+later_entry file zero later = absurd (later refl)
+later_entry file (suc call) later = refl
+
+pub later_number : (subtune call : ℕ) (machine : Machine) → call ≢ 0 → number_of subtune call machine ≡ machine.cpu.a
+later_number subtune zero machine later = absurd (later refl)
+later_number subtune (suc call) machine later = refl
+
+-- a call returns in one machine
+returns_once : (m : Machine) (entry number : ℕ) (registers registers' : List ℕ) (after after' : Machine) → ReturnsWith m entry number registers after → ReturnsWith m entry number registers' after' → after ≡ after'
+returns_once m entry number registers registers' after after' p q =
+    let same = called_once m entry number p.steps q.steps after after' p.called q.called in
+    let one = p.called.runs in
+    let two = q.called.runs in
+    let both : Ok after ≡ Ok after' = sym one ∙ ap (λ n. run n (entered m entry number)) same ∙ two in
+    cc (both)
+
+-- and not at all where it fails
+returns_or_fails : (m : Machine) (entry number : ℕ) (registers : List ℕ) (after after' : Machine) (reason : CallStop) → ReturnsWith m entry number registers after → FailsBy m entry number most_steps reason after' → ⊥
+returns_or_fails m entry number registers after after' reason p fails =
+    let never : Ok 0 ≡ Err reason = returned_fails m entry number p.steps most_steps after after' reason (Ok 0) p.called p.within fails in
+    cc (never)
+
+-- ---- the first calls
+
+module _ (file : RunnerState) (subtune : ℕ) where
+  pub as_many_registers : (calls : ℕ) (registers : List (List ℕ)) (machine : Machine) → FirstCalls file subtune calls registers machine → length registers ≡ calls
+  as_many_registers zero registers machine first = ap length first.0
+  as_many_registers (suc calls) registers machine (earlier, before, last, first, returns, are) =
+      ap length are ∙ length-append earlier (last ∷ []) ∙ ap (λ n. n + 1) (as_many_registers calls earlier before first) ∙ add-one calls
+
+  one_machine : (calls : ℕ) (registers registers' : List (List ℕ)) (machine machine' : Machine) → FirstCalls file subtune calls registers machine → FirstCalls file subtune calls registers' machine' → machine ≡ machine'
+  one_machine zero registers registers' machine machine' p q = p.1 ∙ sym q.1
+  one_machine (suc calls) registers registers' machine machine' (earlier, before, last, first, returns, are) (earlier', before', last', first', returns', are') =
+      let same : before ≡ before' = one_machine calls earlier earlier' before before' first first' in
+      let moved = subst (λ b. ReturnsWith b (entry_of file calls) (number_of subtune calls b) last machine) same returns in
+      returns_once before' (entry_of file calls) (number_of subtune calls before') last last' machine machine' moved returns'
+
+  -- each of the first calls returned
+  pub record Returned (call : ℕ) : Type 0 where
+    pub registers : List (List ℕ)
+    pub before : Machine
+    pub calls : FirstCalls file subtune call registers before
+    pub last : List ℕ
+    pub after : Machine
+    pub returns : ReturnsWith before (entry_of file call) (number_of subtune call before) last after
+
+  returned_before : (calls call : ℕ) (registers : List (List ℕ)) (machine : Machine) → FirstCalls file subtune calls registers machine → call < calls → Returned call
+  returned_before zero call registers machine first inside = absurd (omega arith)
+  returned_before (suc calls) call registers machine (earlier, before, last, first, returns, are) inside =
+      elim (cases_lt call calls) [
+        | inl below ↦ returned_before calls call earlier before first below
+        | inr above ↦
+            let same : calls ≡ call = omega arith in
+            subst Returned same (record { registers = earlier; before = before; calls = first; last = last; after = machine; returns = returns })
+      ]
+
+  -- none of them meets a stop
+  pub returned_or_stopped : (calls call : ℕ) (registers registers' : List (List ℕ)) (machine : Machine) (reason : CallStop) → FirstCalls file subtune calls registers machine → call < calls → MeetsStopAt file subtune call registers' reason → ⊥
+  returned_or_stopped calls call registers registers' machine reason first inside meets =
+      let r = returned_before calls call registers machine first inside in
+      let same = one_machine call r.registers registers' r.before meets.before r.calls meets.calls in
+      let moved = subst (λ b. ReturnsWith b (entry_of file call) (number_of subtune call b) r.last r.after) same r.returns in
+      returns_or_fails meets.before (entry_of file call) (number_of subtune call meets.before) r.last r.after meets.after reason moved meets.fails
+
+-- ---- their lines
+
+lines-append : (call : ℕ) (registers : List (List ℕ)) (last : List ℕ) → lines_from call (registers ++ last ∷ []) ≡ lines_from call registers ++ register_line (call + length registers) last
+lines-append call [] last = let z : call + 0 ≡ call = omega arith in rw z (append-nil (register_line call last))
+lines-append call (first ∷ rest) last =
+    let z : call + 1 + length rest ≡ call + suc (length rest) = omega arith in
+    ap (λ text. register_line call first ++ text) (lines-append (call + 1) rest last)
+    ∙ sym (append_assoc (register_line call first) (lines_from (call + 1) rest) (register_line (call + 1 + length rest) last))
+    ∙ ap (λ n. (register_line call first ++ lines_from (call + 1) rest) ++ register_line n last) z
+
+-- the calls so far returned and their lines are printed
+pub record CallsSoFar (file : RunnerState) (subtune calls : ℕ) (now : RunnerState) (before after : Option (List ℕ)) : Type 0 where
+  pub registers : List (List ℕ)
+  pub returned : FirstCalls file subtune calls registers now.machine
+  pub running : now.stopped ≡ None
+  pub same_init : now.init ≡ file.init
+  pub same_play : now.play ≡ file.play
+  pub printed : after ≡ told_with_piece before (register_text registers)
+
+same_entry : (file now : RunnerState) (call : ℕ) → now.init ≡ file.init → now.play ≡ file.play → entry_of now call ≡ entry_of file call
+same_entry file now zero init play = init
+same_entry file now (suc call) init play = play
+
+module _ (file : RunnerState) (subtune calls : ℕ) (now later : RunnerState) (before after : Option (List ℕ)) (so_far : CallsSoFar file subtune calls now before after) where
+  -- one call more
+  pub calls_on : (last : List ℕ) → ReturnsWith now.machine (entry_of now calls) (number_of subtune calls now.machine) last later.machine → FirstCalls file subtune (suc calls) (so_far.registers ++ last ∷ []) later.machine
+  calls_on last returns = (so_far.registers, now.machine, last, so_far.returned, subst (λ e. ReturnsWith now.machine e (number_of subtune calls now.machine) last later.machine) (same_entry file now calls so_far.same_init so_far.same_play) returns, refl)
+
+  pub text_on : (last : List ℕ) → register_text (so_far.registers ++ last ∷ []) ≡ register_text so_far.registers ++ register_line calls last
+  text_on last =
+      let many = as_many_registers file subtune calls so_far.registers now.machine so_far.returned in
+      let z : 0 + length so_far.registers ≡ calls = omega (arith, many) in
+      lines-append 0 so_far.registers last ∙ ap (λ n. register_text so_far.registers ++ register_line n last) z
+
+  pub so_far_on : (last : List ℕ) (shown : Option (List ℕ)) → ReturnsWith now.machine (entry_of now calls) (number_of subtune calls now.machine) last later.machine → later.stopped ≡ None → later.init ≡ now.init → later.play ≡ now.play → shown ≡ told_with_piece after (register_line calls last) → CallsSoFar file subtune (suc calls) later before shown
+  so_far_on last shown returns running init play told = record {
+    registers = so_far.registers ++ last ∷ [];
+    returned = calls_on last returns;
+    running = running;
+    same_init = init ∙ so_far.same_init;
+    same_play = play ∙ so_far.same_play;
+    printed = told ∙ ap (λ w. told_with_piece w (register_line calls last)) so_far.printed ∙ told_both before (register_text so_far.registers) (register_line calls last) ∙ ap (told_with_piece before) (sym (text_on last));
+  }
+
+  -- the run is cut short in the line of the call
+  pub cut_in_line : (frames n : ℕ) (last : List ℕ) (shown : Option (List ℕ)) (e : Ending) → calls ≤ frames → ReturnsWith now.machine (entry_of now calls) (number_of subtune calls now.machine) last later.machine → shown ≡ told_with_piece after (take n (register_line calls last)) → (e ≡ SinkFault) ⊎ (e ≡ NoMemory) → CallsEnd file subtune frames before shown e
+  cut_in_line frames n last shown e within returns told or =
+      let text = register_text so_far.registers in
+      let line = register_line calls last in
+      let whole : told_with_piece before (text ++ take n line) ≡ told_with_piece before (take (length text + n) (register_text (so_far.registers ++ last ∷ []))) =
+      ap (told_with_piece before) (sym (take-append-add text line n) ∙ ap (take (length text + n)) (sym (text_on last))) in
+      cut_short (suc calls) (length text + n) (so_far.registers ++ last ∷ []) later.machine (omega (arith, within)) (calls_on last returns) or
+      (told ∙ ap (λ w. told_with_piece w (take n line)) so_far.printed ∙ told_both before text (take n line) ∙ whole)
+
+  pub stop_met : (reason : CallStop) → FailsBy now.machine (entry_of now calls) (number_of subtune calls now.machine) most_steps reason later.machine → MeetsStopAt file subtune calls so_far.registers reason
+  stop_met reason fails = record {
+    before = now.machine;
+    calls = so_far.returned;
+    after = later.machine;
+    fails = subst (λ e. FailsBy now.machine e (number_of subtune calls now.machine) most_steps reason later.machine) (same_entry file now calls so_far.same_init so_far.same_play) fails;
+  }
+
+pub none_so_far : (file : RunnerState) (subtune : ℕ) (shown : Option (List ℕ)) → file.stopped ≡ None → shown ≡ told_with_piece shown [] → CallsSoFar file subtune 0 file shown shown
+none_so_far file subtune shown running told = record {
+  registers = [];
+  returned = (refl, refl);
+  running = running;
+  same_init = refl;
+  same_play = refl;
+  printed = told;
+}
+
+-- all calls returned
+pub all_played : (file now : RunnerState) (subtune frames calls : ℕ) (before after : Option (List ℕ)) → CallsSoFar file subtune calls now before after → calls ≡ frames + 1 → CallsEnd file subtune frames before after Shown
+all_played file now subtune frames calls before after so is =
+    let moved = subst (λ n. CallsSoFar file subtune n now before after) is so in
+    played moved.registers now.machine moved.returned refl moved.printed

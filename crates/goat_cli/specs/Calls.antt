@@ -1,0 +1,66 @@
+-- The calls that a run of a PSID file makes. Call 0 is init, with the subtune's number from 0 in A; the others are play, with A as it stands. The first begins at the machine with the file loaded, each other one at the machine that the call before it left.
+use Rattle.std.specs.Prelude.{◌≡◌, ℕ, zero, suc, ◌+◌, ◌-◌, ◌≤◌, List, [], ◌∷◌, ◌++◌, Ok}
+use Rattle.cpu6502.specs.declared.machine.Machine.{Machine}
+use Rattle.cpu6502.specs.declared.stop.CallStop.{CallStop}
+use Rattle.cpu6502.specs.Call.{Called, FailsBy}
+use Rattle.psid.specs.declared.header.Psid.{Psid}
+use Rattle.psid.specs.Reading.{psid_read}
+use Rattle.sid_run.specs.State.{RunnerState, loaded, sid_registers, most_steps}
+
+-- the address at which a call begins
+abbrev pub entry_of : RunnerState → ℕ → ℕ
+entry_of file zero = file.init
+entry_of file (suc call) = file.play
+
+-- what stands in A as a call begins
+abbrev pub number_of : ℕ → ℕ → Machine → ℕ
+number_of subtune zero machine = subtune
+number_of subtune (suc call) machine = machine.cpu.a
+
+-- a call returns within 200,000 steps, in a machine with these registers of the SID
+pub record ReturnsWith (machine : Machine) (entry number : ℕ) (registers : List ℕ) (after : Machine) : Type 0 where
+  pub steps : ℕ
+  pub within : steps ≤ most_steps
+  pub called : Called machine entry number steps after
+  pub registers_are : sid_registers after ≡ registers
+
+-- the first so many calls of a loaded file return: the registers after each of them, and the machine after the last
+abbrev pub FirstCalls : RunnerState → ℕ → ℕ → List (List ℕ) → Machine → Type 0
+FirstCalls file subtune zero registers machine = (registers ≡ []) × (machine ≡ file.machine)
+FirstCalls file subtune (suc call) registers machine =
+    (earlier : List (List ℕ)) × (before : Machine) × (last : List ℕ) ×
+    FirstCalls file subtune call earlier before ×
+    ReturnsWith before (entry_of file call) (number_of subtune call before) last machine ×
+    (registers ≡ earlier ++ last ∷ [])
+
+-- the calls before this one return and leave these registers, and this one does not return, for this reason
+pub record MeetsStopAt (file : RunnerState) (subtune call : ℕ) (registers : List (List ℕ)) (reason : CallStop) : Type 0 where
+  pub before : Machine
+  pub calls : FirstCalls file subtune call registers before
+  pub after : Machine
+  pub fails : FailsBy before (entry_of file call) (number_of subtune call before) most_steps reason after
+
+-- a PSID file has this subtune, counted from 1
+pub record HasSubtune (psid : Psid) (subtune : ℕ) : Type 0 where
+  pub first : 1 ≤ subtune
+  pub last : subtune ≤ psid.header.songs
+
+-- init and so many frames return, and leave these registers
+pub record Plays (bytes : List ℕ) (subtune frames : ℕ) : Type 0 where
+  pub psid : Psid
+  pub reads : psid_read bytes ≡ Ok psid
+  pub has : HasSubtune psid subtune
+  pub registers : List (List ℕ)
+  pub after : Machine
+  pub calls : FirstCalls (loaded psid) (subtune - 1) (frames + 1) registers after
+
+-- one of the calls does not return
+pub record StopsIn (bytes : List ℕ) (subtune frames : ℕ) : Type 0 where
+  pub psid : Psid
+  pub reads : psid_read bytes ≡ Ok psid
+  pub has : HasSubtune psid subtune
+  pub call : ℕ
+  pub within : call ≤ frames
+  pub registers : List (List ℕ)
+  pub reason : CallStop
+  pub meets : MeetsStopAt (loaded psid) (subtune - 1) call registers reason
