@@ -1,6 +1,6 @@
 //! Lists that grow up to a limit.
 
-ghost use Rattle.std.specs.Prelude.{◌≡◌, ◌<◌, ◌≤◌, ◌↔◌, ◌⊎◌, [], ◌∷◌, ◌++◌, length, IsNone, IfSome, IfOk, IfErr, IsErrOf, OnOk, OnErr};
+ghost use Rattle.std.specs.Prelude.{◌≡◌, ◌<◌, ◌≤◌, ◌↔◌, ◌⊎◌, [], ◌∷◌, ◌++◌, length, slice_set, IsNone, IfSome, IfOk, IfErr, IsErrOf, OnOk, OnErr};
 ghost use Rattle.song_model.specs.LookUp.{IsNumbered, numbered};
 
 use crate::{LimitFault, NoMemory, PushFault};
@@ -144,5 +144,22 @@ impl ByteList {
     {
         self.bytes.push(byte)?;
         Ok(())
+    }
+
+    /// Appends these bytes.
+    pub fn extend(&mut self, bytes: &[u8]) -> Result<(), NoMemory>
+        ensures ok { OnOk result (self.new ≡ self.old ++ bytes.now) }
+        ensures err { OnErr result (self.new ≡ self.old) }
+    {
+        self.bytes.extend_from_slice(bytes)?;
+        Ok(())
+    }
+
+    /// Puts a byte in the place of the one that stands there.
+    pub fn set(&mut self, at: usize, byte: u8)
+        requires { at < length self.old }
+        ensures { self.new ≡ slice_set self.old at byte }
+    {
+        self.bytes[at] = byte;
     }
 }
