@@ -6,3 +6,6 @@ pub mod Sound
 pub mod Writing
 pub mod Numbers
 pub mod Shifts
+pub mod Reaches
+pub mod Standing
+pub mod Whole

@@ -101,7 +101,7 @@ pub record Encodes (address : ℕ → ℕ) (pc : ℕ) (mn : Mnemonic) (mode : Mo
   pub is : encoding (instr_at address pc mn mode x) ≡ Some bytes
   pub size : length bytes ≡ length_of mode
 
-both : (y z : Bool) → (y && z) ≡ true → (y ≡ true) × (z ≡ true)
+pub both : (y z : Bool) → (y && z) ≡ true → (y ≡ true) × (z ≡ true)
 both true true h = (refl, refl)
 both true false h = absurd (cc)
 both false z h = absurd (cc)

@@ -1,9 +1,10 @@
 -- An assembled listing at another origin. This is the assembler's own profile.
-use Rattle.std.specs.Prelude.{◌≡◌, ℕ, ◌≤◌, ◌+◌, List, length, slice_index}
+use Rattle.std.specs.Prelude.{◌≡◌, ℕ, List, length, slice_index, None}
 use Rattle.asm6502.specs.declared.lines.Line.{Line}
 use Rattle.asm6502.specs.declared.assembled.Assembled.{Assembled}
 use Rattle.asm6502.specs.Fixes.{with_numbers, IsFixed}
 use Rattle.asm6502.specs.Assembly.{assembled_bytes, assembled_fixes}
+use Rattle.asm6502.specs.Faults.{fault_of}
 
 -- the same at another origin: each fix has its new number, and the other bytes and the fixes stay
 pub record IsMoved (old new : Assembled) (origin : ℕ) : Type 0 where
@@ -18,3 +19,8 @@ pub record IsAssembly (result : Assembled) (set origin : ℕ) (lines : List Line
   pub origin_is : result.origin ≡ origin
   pub bytes_are : result.bytes ≡ assembled_bytes set origin lines
   pub fixes_are : result.fixes ≡ assembled_fixes set lines
+
+-- wherever it is moved, it is what assembling the listing there gives
+abbrev pub MovesAsAssembled : ℕ → List Line → Assembled → Type 0
+MovesAsAssembled set lines result =
+    (other : ℕ) (moved : Assembled) → IsMoved result moved other → IsAssembly moved set other lines × (fault_of set other lines ≡ None)

@@ -1,11 +1,13 @@
 -- Lines of a listing that stand in memory, as they are decoded and not as bytes: the form in which a program that was assembled is reasoned about.
-use Rattle.std.specs.Prelude.{◌≡◌, ℕ, ◌+◌, ◌<◌, ◌≤◌, List, [], ◌∷◌, ◌++◌, length, slice_index}
+use Rattle.std.specs.Prelude.{◌≡◌, ℕ, ◌+◌, ◌<◌, ◌≤◌, List, [], ◌∷◌, ◌++◌, length, slice_index, None}
 use Rattle.cpu6502.specs.Code.{Stands}
 use Rattle.asm6502.specs.declared.lines.Item.{Item}
 use Rattle.asm6502.specs.declared.lines.Item.TheVariants.{Label, Code, Bytes}
 use Rattle.asm6502.specs.declared.lines.Line.{Line}
 use Rattle.asm6502.specs.Operands.{number_of}
-use Rattle.asm6502.specs.Lines.{kept, item_size, size_of}
+use Rattle.asm6502.specs.Lines.{kept, item_size, size_of, address_in}
+use Rattle.asm6502.specs.Assembly.{assembled_bytes}
+use Rattle.asm6502.specs.Faults.{fault_of}
 
 -- these bytes stand in a memory from a place on
 pub record BytesStand (at : ℕ → ℕ) (place : ℕ) (bytes : List ℕ) : Type 0 where
@@ -21,6 +23,16 @@ ItemAt address at pc (Bytes bytes) = BytesStand at pc bytes
 abbrev pub LinesAt : (ℕ → ℕ) → (ℕ → ℕ) → ℕ → List Line → Type 0
 LinesAt address at pc [] = Unit {0}
 LinesAt address at pc (line ∷ rest) = ItemAt address at pc line.item × LinesAt address at (pc + item_size line.item) rest
+
+-- in any memory that holds these bytes from the origin on, the kept lines of a listing stand there, with the addresses of its labels
+abbrev pub KeptLinesStand : ℕ → ℕ → List Line → List ℕ → Type 0
+KeptLinesStand set origin lines bytes =
+    (at : ℕ → ℕ) → BytesStand at origin bytes → LinesAt (address_in (kept set lines) origin) at origin (kept set lines)
+
+-- where nothing is wrong with a listing, its bytes are such
+abbrev pub AssembledLinesStand : Type 0
+AssembledLinesStand =
+    (set origin : ℕ) (lines : List Line) → fault_of set origin lines ≡ None → KeptLinesStand set origin lines (assembled_bytes set origin lines)
 
 -- two lists of lines, one behind the other, take the bytes of both
 abbrev pub SizesAdd : Type 0

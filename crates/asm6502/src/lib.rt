@@ -2,6 +2,7 @@
 #![tactic(auto)]
 
 mod assembled;
+mod assembling;
 mod bytes;
 mod encodings;
 mod faults;
@@ -14,6 +15,7 @@ mod moving;
 mod output;
 
 pub use assembled::Assembled;
+pub use assembling::assemble;
 pub use bytes::CodeBytes;
 pub use encodings::{decode, encode};
 pub use faults::{AsmFault, PastEnd};
