@@ -36,9 +36,10 @@ number_behind High bytes at number q l = let a : q ≢ at = omega arith in get_o
 -- the number stands there
 number_put : (kind : FixKind) (bytes : List ℕ) (at number : ℕ) → at + width_of kind ≤ length bytes → NumberStands kind (with_number kind bytes at number) at number
 number_put Word bytes at number l =
-    let a : at ≢ at + 1 = omega arith in
-    (get_or-set_other (set bytes at (number % 256)) (at + 1) at (number / 256) 0 a ∙ get_or-set_same bytes at (number % 256) 0 (omega arith),
-     get_or-set_same (set bytes at (number % 256)) (at + 1) (number / 256) 0 (omega (arith, length-set bytes at (number % 256))))
+    let a : at ≢ at + 1 = omega arith in (
+      get_or-set_other (set bytes at (number % 256)) (at + 1) at (number / 256) 0 a ∙ get_or-set_same bytes at (number % 256) 0 (omega arith),
+      get_or-set_same (set bytes at (number % 256)) (at + 1) (number / 256) 0 (omega (arith, length-set bytes at (number % 256))),
+    )
 number_put Low bytes at number l = get_or-set_same bytes at (number % 256) 0 (omega arith)
 number_put High bytes at number l = get_or-set_same bytes at (number / 256) 0 (omega arith)
 
@@ -64,7 +65,7 @@ numbers_stand origin low n bytes (fix ∷ rest) e o =
     let put = number_put fix.kind bytes fix.at ((origin + fix.to) % 65536) (omega arith) in
     let size = length-with_number fix.kind bytes fix.at ((origin + fix.to) % 65536) in (
       number_stays fix.kind (with_number fix.kind bytes fix.at ((origin + fix.to) % 65536)) (with_numbers origin (with_number fix.kind bytes fix.at ((origin + fix.to) % 65536)) rest) fix.at ((origin + fix.to) % 65536)
-        (λ (q : ℕ) l. below_stays origin (fix.at + width_of fix.kind) n (with_number fix.kind bytes fix.at ((origin + fix.to) % 65536)) rest o.1.1 q l) put,
+          (λ (q : ℕ) l. below_stays origin (fix.at + width_of fix.kind) n (with_number fix.kind bytes fix.at ((origin + fix.to) % 65536)) rest o.1.1 q l) put,
       numbers_stand origin (fix.at + width_of fix.kind) n (with_number fix.kind bytes fix.at ((origin + fix.to) % 65536)) rest (omega arith) o.1.1,
     )
 
@@ -72,7 +73,7 @@ numbers_stand origin low n bytes (fix ∷ rest) e o =
 apart : (at width q : ℕ) → ((at ≤ q) × (q < at + width) → ⊥) → (q < at) ⊎ (at + width ≤ q)
 apart at width q h =
     elim (cases_lt q at) [
-      inl l ↦ inl l
+      | inl l ↦ inl l
       | inr g ↦ elim (cases_lt q (at + width)) [ inl l ↦ absurd (h (g, l)) | inr k ↦ inr k ]
     ]
 

@@ -51,6 +51,7 @@ only_way pc target d l t k h =
   where
     split : (n s : ℕ) → n % 65536 ≡ s → n ≡ 65536 * (n / 65536) + s
     split n s h = omega arith
+
     met : (pc target d r q way : ℕ) → pc + 2 + d ≡ 65536 * r + target → target + 131072 - (pc + 2) ≡ 65536 * q + way → pc ≤ 65536 → target < 65536 → d < 65536 → way < 65536 → way ≡ d
     met pc target d r q way e f l t k w = omega arith
 

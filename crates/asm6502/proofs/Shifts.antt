@@ -38,6 +38,7 @@ number_shifts origin p d =
   where
     wrap : (o n q r : ℕ) → n ≡ 65536 * q + r → (o + r) % 65536 ≡ (o + n) % 65536
     wrap o n q r e = omega arith
+
     plus : (o p d : ℕ) → o + (p + d) ≡ o + p + d
     plus o p d = omega arith
 

@@ -42,8 +42,8 @@ front_stands at pc front back s = record {
 back_stands : (at : ℕ → ℕ) (pc n : ℕ) (front back : List ℕ) → length front ≡ n → BytesStand at pc (front ++ back) → BytesStand at (pc + n) back
 back_stands at pc n front back e s = record {
   byte = λ k l.
-    let i : pc + n + k ≡ pc + (length front + k) = omega arith in
-    ap at i ∙ s.byte (length front + k) (omega (arith, length-append front back)) ∙ get_or-append-add front back k 0;
+      let i : pc + n + k ≡ pc + (length front + k) = omega arith in
+      ap at i ∙ s.byte (length front + k) (omega (arith, length-append front back)) ∙ get_or-append-add front back k 0;
 }
 
 -- what is read as the operand, where the operand bytes stand
@@ -166,7 +166,7 @@ label_address set origin before x rest l k e h =
     let free = not_named_before set before x l (is_some (place_of (kept set before) l)) k e refl h in
     let here : place_of (x ∷ rest) l ≡ Some 0 = rw (e, same_name l) refl in
     let place : place_of (kept set before ++ (x ∷ rest)) l ≡ Some (size_of (kept set before)) =
-      place_of-append (kept set before) (x ∷ rest) l ∙ ap (λ (o : Option ℕ). option_or (place_of (kept set before) l) (option_map (λ (p : ℕ). size_of (kept set before) + p) o)) here ∙ or_first (place_of (kept set before) l) (size_of (kept set before)) free in
+    place_of-append (kept set before) (x ∷ rest) l ∙ ap (λ (o : Option ℕ). option_or (place_of (kept set before) l) (option_map (λ (p : ℕ). size_of (kept set before) + p) o)) here ∙ or_first (place_of (kept set before) l) (size_of (kept set before)) free in
     ap (λ (o : Option ℕ). origin + unwrap_or o 0) place
 
 -- a kept line that isn't refused as too far
@@ -202,18 +202,18 @@ lines_stand rows set origin at lines (x ∷ rest) before e l w s =
     let split : lines ≡ (before ++ x ∷ []) ++ rest = e ∙ sym (append_assoc before (x ∷ []) rest) in
     let tail = lines_stand rows set origin at lines rest (before ++ x ∷ []) split l wrong in
     line_stands (address_in (kept set lines) origin) at (origin + size_of (kept set before)) x (kept set rest) (is_kept set x)
-      (sound_line set before x bad.0)
-      (λ k b. item_stands rows (address_in (kept set lines) origin) at (origin + size_of (kept set before)) x.item (sound_line set before x bad.0 k)
-        (near_line (address_in (kept set lines) origin) set origin before x (is_kept set x) (is_far_item (address_in (kept set lines) origin) (origin + size_of (kept set before)) x.item) _ far.0 k)
-        (λ n i. ap (λ (ls : List Line). address_in ls origin n) (all_split set lines before x rest e k) ∙ label_address set origin before x (kept set rest) n k i double.0)
-        (size_split set origin lines before x rest e k l) b)
-      (λ k b.
-        let size : origin + size_of (kept set (before ++ x ∷ [])) ≡ origin + size_of (kept set before) + item_size x.item = grown set origin before x k in
-        subst (λ (p : ℕ). LinesAt (address_in (kept set lines) origin) at p (kept set rest)) size (tail (subst (λ (p : ℕ). BytesStand at p (bytes_of (address_in (kept set lines) origin) p (kept set rest))) (sym size) b)))
-      (λ k b.
-        let size : origin + size_of (kept set (before ++ x ∷ [])) ≡ origin + size_of (kept set before) = ap (λ (ls : List Line). origin + size_of ls) (kept_same set before x k) in
-        subst (λ (p : ℕ). LinesAt (address_in (kept set lines) origin) at p (kept set rest)) size (tail (subst (λ (p : ℕ). BytesStand at p (bytes_of (address_in (kept set lines) origin) p (kept set rest))) (sym size) b)))
-      s
+    (sound_line set before x bad.0)
+    (λ k b. item_stands rows (address_in (kept set lines) origin) at (origin + size_of (kept set before)) x.item (sound_line set before x bad.0 k)
+    (near_line (address_in (kept set lines) origin) set origin before x (is_kept set x) (is_far_item (address_in (kept set lines) origin) (origin + size_of (kept set before)) x.item) _ far.0 k)
+    (λ n i. ap (λ (ls : List Line). address_in ls origin n) (all_split set lines before x rest e k) ∙ label_address set origin before x (kept set rest) n k i double.0)
+    (size_split set origin lines before x rest e k l) b)
+    (λ k b.
+    let size : origin + size_of (kept set (before ++ x ∷ [])) ≡ origin + size_of (kept set before) + item_size x.item = grown set origin before x k in
+    subst (λ (p : ℕ). LinesAt (address_in (kept set lines) origin) at p (kept set rest)) size (tail (subst (λ (p : ℕ). BytesStand at p (bytes_of (address_in (kept set lines) origin) p (kept set rest))) (sym size) b)))
+    (λ k b.
+    let size : origin + size_of (kept set (before ++ x ∷ [])) ≡ origin + size_of (kept set before) = ap (λ (ls : List Line). origin + size_of ls) (kept_same set before x k) in
+    subst (λ (p : ℕ). LinesAt (address_in (kept set lines) origin) at p (kept set rest)) size (tail (subst (λ (p : ℕ). BytesStand at p (bytes_of (address_in (kept set lines) origin) p (kept set rest))) (sym size) b)))
+    s
   where
     grown : (set origin : ℕ) (before : List Line) (x : Line) → is_kept set x ≡ true → origin + size_of (kept set (before ++ x ∷ [])) ≡ origin + size_of (kept set before) + item_size x.item
     grown set origin before x k =

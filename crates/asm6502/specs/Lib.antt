@@ -8,3 +8,4 @@ pub mod Fixes
 pub mod Standing
 pub mod Places
 pub mod Moving
+pub mod WorkedListings

@@ -19,7 +19,12 @@ use std::alloc::Global;
 /// kept lines before it, and operands with labels have their addresses. The listing has at most 1,000,000 lines, and at
 /// most 1,000,000 bytes in its items of bytes. The refusals are those of `AsmFault`, in their order, each at its first
 /// place in the listing.
-pub fn assemble(alloc: Global, listing: &Listing, origin: u16, set: FeatureBits) -> Result<Assembled, AsmFault>
+pub fn assemble(
+    alloc: Global,
+    listing: &Listing,
+    origin: u16,
+    set: FeatureBits,
+) -> Result<Assembled, AsmFault>
     requires lines { length listing.now ≤ 1000000 }
     requires data { data_size listing.now ≤ 1000000 }
 

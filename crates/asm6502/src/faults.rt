@@ -5,7 +5,7 @@ ghost use Rattle.asm6502.specs.declared.faults.AsmFault.TheVariants.{NoMemory};
 
 /// Why a listing wasn't assembled. The refusals are tried in this order, each at its first place in the listing; from
 /// the second on only kept lines count.
-#[derive(Clone, Copy, Debug)]
+#[derive(Clone, Copy, Debug, PartialEq, Eq)]
 pub enum AsmFault {
     /// The line, counted from 0, has a part from 32 to 254; or it is kept, and its instruction has no opcode, its number
     /// doesn't fit, or its operand doesn't suit its mode.

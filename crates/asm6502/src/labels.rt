@@ -195,7 +195,11 @@ pub(crate) fn check_lines(lines: &[Line], set: FeatureBits) -> Result<(), AsmFau
 }
 
 /// Refuses a kept line whose operand has a label that isn't named.
-pub(crate) fn check_operands(lines: &[Line], set: FeatureBits, labels: &Labels) -> Result<(), AsmFault>
+pub(crate) fn check_operands(
+    lines: &[Line],
+    set: FeatureBits,
+    labels: &Labels,
+) -> Result<(), AsmFault>
     requires { HasPlaces labels.now (kept set.0 lines.now) }
     ensures { MatchResult result (λ _. first_fault (unknown_label set.0 lines.now) [] lines.now ≡ None) (λ fault. first_fault (unknown_label set.0 lines.now) [] lines.now ≡ Some fault) }
 {

@@ -2,6 +2,7 @@
 
 ghost use Rattle.asm6502.specs.Instructions.{WhatIsEncodedDecodes, NothingElseDecodes};
 ghost use Rattle.asm6502.specs.Branches.{BranchesReach, FarIsOutOfReach};
+ghost use Rattle.asm6502.specs.WorkedListings.{TonePlays, ToneWithPart, LabelsHaveAddresses, FarBranchIsRefused, OrderOfRefusals};
 ghost use Rattle.asm6502.specs.Standing.{AssembledLinesStand, SizesAdd, KeptAppend, FrontsStand, BacksStand, BothStand, LinesStay};
 
 /// `encode` and `decode` are each other's inverse.
@@ -34,4 +35,13 @@ pub fn lines_that_stand()
     ensures back { BacksStand }
     ensures both { BothStand }
     ensures stay { LinesStay }
+{}
+
+/// Listings that are worked by hand.
+pub fn worked_listings()
+    ensures tone { TonePlays }
+    ensures with_part { ToneWithPart }
+    ensures labels { LabelsHaveAddresses }
+    ensures far { FarBranchIsRefused }
+    ensures order { OrderOfRefusals }
 {}

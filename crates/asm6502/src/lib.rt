@@ -13,6 +13,8 @@ pub mod laws;
 mod lines;
 mod moving;
 mod output;
+#[cfg(test)]
+mod tests;
 
 pub use assembled::Assembled;
 pub use assembling::assemble;

@@ -91,7 +91,7 @@ pub enum Item {
 
 impl Item {
     ghost use Rattle.std.specs.Prelude.{◌≡◌};
-    ghost use Rattle.asm6502.specs.Lines.{item_size, is_sound, label_used, label_named};
+    ghost use Rattle.asm6502.specs.Lines.{item_size, item_data, is_sound, label_used, label_named};
 
     /// The bytes that it takes.
     pub(crate) fn size(&self) -> usize
@@ -100,6 +100,16 @@ impl Item {
         match self {
             Item::Label(_) => 0,
             Item::Code(_, mode, _) => usize::from(mode.length()),
+            Item::Bytes(bytes) => bytes.as_slice().len(),
+        }
+    }
+
+    /// The bytes in it that stand as they are.
+    fn data_size(&self) -> usize
+        ensures { result ≡ item_data self.now }
+    {
+        match self {
+            Item::Label(_) | Item::Code(_, _, _) => 0,
             Item::Bytes(bytes) => bytes.as_slice().len(),
         }
     }
@@ -184,7 +194,8 @@ impl Model for Listing {
 }
 
 impl Listing {
-    ghost use Rattle.std.specs.Prelude.{◌≡◌, [], ◌∷◌, ◌++◌, OnOk, OnErr};
+    ghost use Rattle.std.specs.Prelude.{◌≡◌, ◌≤◌, ◌↔◌, [], ◌∷◌, ◌++◌, length, IsTrue, OnOk, OnErr};
+    ghost use Rattle.asm6502.specs.Lines.{data_size};
 
     /// No lines.
     pub fn new(alloc: Global) -> Listing
@@ -209,5 +220,24 @@ impl Listing {
         ensures { result.now ≡ self.now }
     {
         self.lines.as_slice()
+    }
+
+    /// Whether it is in the limits of `assemble`: at most 1,000,000 lines, and at most 1,000,000 bytes in its items of
+    /// bytes.
+    pub fn is_within_limits(&self) -> bool
+        ensures { IsTrue result ↔ ((length self.now ≤ 1000000) × (data_size self.now ≤ 1000000)) }
+    {
+        if self.lines.len() > 1_000_000 {
+            return false;
+        }
+        let mut room: usize = 1_000_000;
+        for line in self.lines.as_slice() {
+            let size = line.item.data_size();
+            if size > room {
+                return false;
+            }
+            room -= size;
+        }
+        true
     }
 }

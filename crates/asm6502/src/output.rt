@@ -46,7 +46,15 @@ impl Output {
     }
 
     /// Writes an instruction.
-    fn put_code(&mut self, labels: &Labels, origin: u16, line: u32, mnemonic: Mnemonic, mode: Mode, operand: Operand) -> Result<(), AsmFault>
+    fn put_code(
+        &mut self,
+        labels: &Labels,
+        origin: u16,
+        line: u32,
+        mnemonic: Mnemonic,
+        mode: Mode,
+        operand: Operand,
+    ) -> Result<(), AsmFault>
         requires fits { origin + length self.old.bytes ≤ 65536 }
         requires sound { is_sound (Code mnemonic mode operand) ≡ true }
         ensures bytes { OnOk result (self.new.bytes ≡ self.old.bytes ++ item_bytes (address_by labels.now origin) (origin + length self.old.bytes) (Code mnemonic mode operand)) }
@@ -74,7 +82,13 @@ impl Output {
     }
 
     /// Writes an item.
-    fn put_item(&mut self, labels: &Labels, origin: u16, line: u32, item: &Item) -> Result<(), AsmFault>
+    fn put_item(
+        &mut self,
+        labels: &Labels,
+        origin: u16,
+        line: u32,
+        item: &Item,
+    ) -> Result<(), AsmFault>
         requires fits { origin + length self.old.bytes ≤ 65536 }
         requires sound { is_sound item.now ≡ true }
         ensures bytes { OnOk result (self.new.bytes ≡ self.old.bytes ++ item_bytes (address_by labels.now origin) (origin + length self.old.bytes) item.now) }
@@ -95,7 +109,14 @@ impl Output {
     }
 
     /// Writes a line if it is kept.
-    fn put(&mut self, labels: &Labels, set: FeatureBits, origin: u16, number: u32, line: &Line) -> Result<(), AsmFault>
+    fn put(
+        &mut self,
+        labels: &Labels,
+        set: FeatureBits,
+        origin: u16,
+        number: u32,
+        line: &Line,
+    ) -> Result<(), AsmFault>
         requires fits { origin + length self.old.bytes ≤ 65536 }
         requires sound { is_kept set.0 line.now ≡ true → is_sound line.now.item ≡ true }
         ensures { (before : List Line) → length before ≡ number → IsWritten self.old labels.now set.0 origin before → MatchResult result (λ _. IsWritten self.new labels.now set.0 origin (before ++ line.now ∷ []) × (far_by (address_by labels.now origin) set.0 origin before line.now ≡ None)) (λ fault. (fault ≡ NoMemory) ⊎ (far_by (address_by labels.now origin) set.0 origin before line.now ≡ Some fault)) }
@@ -109,7 +130,13 @@ impl Output {
 }
 
 /// The bytes and the fixes of the kept lines; refused where a branch goes to a label that it doesn't reach.
-pub(crate) fn output_of(alloc: Global, lines: &[Line], set: FeatureBits, origin: u16, labels: &Labels) -> Result<Output, AsmFault>
+pub(crate) fn output_of(
+    alloc: Global,
+    lines: &[Line],
+    set: FeatureBits,
+    origin: u16,
+    labels: &Labels,
+) -> Result<Output, AsmFault>
     requires lines { length lines.now ≤ 1000000 }
     requires fits { origin + size_of (kept set.0 lines.now) ≤ 65536 }
     requires sound { first_fault (bad_line set.0) [] lines.now ≡ None }
