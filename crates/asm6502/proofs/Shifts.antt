@@ -1,6 +1,6 @@
 -- Lines that are assembled at one origin and moved to another are the lines assembled there.
-use Rattle.std.proofs.Common.{◌≡◌, ℕ, zero, suc, ◌+◌, ◌-◌, ◌*◌, ◌/◌, ◌%◌, ◌<◌, ◌≤◌, Bool, true, false, not, List, [], ◌∷◌, ◌++◌, length, set, Option, Some, None, unwrap_or, nat_eq, nat_lt, if◌then◌else◌, refl, ap, sym, ◌∙◌, subst, arith, append_assoc, length-append}
-use Rattle.std.specs.Option.{option_map, option_and_then, is_some}
+use Rattle.std.proofs.Common.{◌≡◌, ℕ, ◌+◌, ◌-◌, ◌*◌, ◌/◌, ◌%◌, ◌<◌, ◌≤◌, true, List, [], ◌∷◌, ◌++◌, length, set, Option, Some, None, unwrap_or, nat_lt, if◌then◌else◌, refl, ap, sym, ◌∙◌, arith, append_assoc, length-append}
+use Rattle.std.specs.Option.{is_some}
 use Rattle.std.proofs.lemmas.Bool.{lt-ltb}
 use Rattle.std.proofs.lemmas.List.{set-append_right}
 use Rattle.cpu6502.specs.declared.mnemonic.Mnemonic.{Mnemonic}
@@ -18,9 +18,9 @@ use Rattle.asm6502.specs.declared.fixes.FixKind.{FixKind}
 use Rattle.asm6502.specs.declared.fixes.FixKind.TheVariants.{Word, Low, High}
 use Rattle.asm6502.specs.Branches.{way_from, branch_byte}
 use Rattle.asm6502.specs.Instructions.{operand_bytes, encoding}
-use Rattle.asm6502.specs.Operands.{is_relative, suits, operand_of, is_far}
+use Rattle.asm6502.specs.Operands.{suits}
 use Rattle.asm6502.specs.Lines.{item_size, size_of, is_sound}
-use Rattle.asm6502.specs.Assembly.{instr_at, item_bytes, bytes_of, item_fixes, fixes_of}
+use Rattle.asm6502.specs.Assembly.{item_bytes, bytes_of, item_fixes, fixes_of}
 use Rattle.asm6502.specs.Fixes.{operand_fixes, width_of, with_number, with_numbers, InOrder}
 use Rattle.asm6502.proofs.Sound.{both, item_length, AllSound}
 

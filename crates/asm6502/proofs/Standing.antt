@@ -1,8 +1,8 @@
 -- Lines that stand in memory: from their bytes, and the tools of those who stand on them.
-use Rattle.std.proofs.Common.{◌≡◌, ℕ, zero, suc, ◌+◌, ◌*◌, ◌/◌, ◌%◌, ◌<◌, ◌≤◌, Bool, true, false, ◌&&◌, not, List, [], ◌∷◌, ◌++◌, length, get_or, Option, Some, None, unwrap_or, nat_eq, nat_lt, if◌then◌else◌, refl, ap, sym, ◌∙◌, subst, arith, append_assoc, length-append}
+use Rattle.std.proofs.Common.{◌≡◌, ℕ, ◌+◌, ◌*◌, ◌/◌, ◌%◌, ◌<◌, ◌≤◌, Bool, true, false, ◌&&◌, not, List, [], ◌∷◌, ◌++◌, length, Option, Some, None, unwrap_or, nat_eq, nat_lt, if◌then◌else◌, refl, ap, sym, ◌∙◌, subst, arith, append_assoc, length-append}
 use Rattle.std.specs.Option.{option_or, option_map, is_some}
 use Rattle.std.proofs.lemmas.Bool.{eqb-true, eq-eqb}
-use Rattle.std.proofs.lemmas.List.{get_or_append_left, get_or-append-add, get_or-append_right}
+use Rattle.std.proofs.lemmas.List.{get_or_append_left, get_or-append-add}
 use Rattle.cpu6502.specs.declared.mnemonic.Mnemonic.{Mnemonic}
 use Rattle.cpu6502.specs.declared.mnemonic.Mode.{Mode}
 use Rattle.cpu6502.specs.declared.mnemonic.Mode.TheVariants.{Implied, Accumulator, Immediate, ZeroPage, ZeroPageX, ZeroPageY, Absolute, AbsoluteX, AbsoluteY, IndirectX, IndirectY, Indirect, Relative}
@@ -10,7 +10,6 @@ use Rattle.cpu6502.specs.Opcodes.{meaning_of, length_of}
 use Rattle.cpu6502.specs.Encoding.{opcode_of, OpcodesHaveRows}
 use Rattle.cpu6502.specs.Effects.{displacement, word_at}
 use Rattle.cpu6502.specs.Code.{operand_at, Stands}
-use Rattle.asm6502.specs.declared.instructions.Instr.{Instr}
 use Rattle.asm6502.specs.declared.lines.Operand.{Operand}
 use Rattle.asm6502.specs.declared.lines.Operand.TheVariants.{Nothing, Number, Label, Low, High}
 use Rattle.asm6502.specs.declared.lines.Item.{Item}
@@ -19,9 +18,9 @@ use Rattle.asm6502.specs.declared.lines.Line.{Line}
 use Rattle.asm6502.specs.declared.faults.AsmFault.{AsmFault}
 use Rattle.asm6502.specs.declared.faults.AsmFault.TheVariants.{DoubleLabel}
 use Rattle.asm6502.specs.Branches.{branch_byte}
-use Rattle.asm6502.specs.Instructions.{operand_bytes, encoding}
-use Rattle.asm6502.specs.Operands.{is_relative, suits, fits, operand_of, number_of, is_far}
-use Rattle.asm6502.specs.Lines.{is_kept, kept, item_size, size_of, names, place_of, address_in, is_sound}
+use Rattle.asm6502.specs.Instructions.{operand_bytes}
+use Rattle.asm6502.specs.Operands.{is_relative, suits, operand_of, number_of, is_far}
+use Rattle.asm6502.specs.Lines.{is_kept, kept, item_size, size_of, place_of, address_in, is_sound}
 use Rattle.asm6502.specs.Assembly.{item_bytes, bytes_of}
 use Rattle.asm6502.specs.Faults.{first_fault, bad_line, double_label, far_by, is_far_item}
 use Rattle.asm6502.specs.Standing.{BytesStand, ItemAt, LinesAt}

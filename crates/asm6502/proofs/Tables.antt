@@ -1,14 +1,11 @@
 -- The table of labels after one more line.
-use Rattle.std.proofs.Common.{◌≡◌, ℕ, ◌+◌, Bool, true, false, List, [], ◌∷◌, ◌++◌, Option, Some, None, nat_eq, if◌then◌else◌, refl, ap, sym, ◌∙◌, subst, arith}
-use Rattle.std.specs.Option.{option_map, is_some}
+use Rattle.std.proofs.Common.{◌≡◌, ℕ, ◌+◌, true, List, [], ◌∷◌, ◌++◌, Option, Some, None, nat_eq, if◌then◌else◌, refl, ap, sym, ◌∙◌, arith}
 use Rattle.std.proofs.Common.{nat_cmp}
 use Rattle.std.specs.BTreeMap.{get}
 use Rattle.asm6502.specs.declared.lines.Line.{Line}
 use Rattle.asm6502.specs.declared.labels.Labels.{Labels}
-use Rattle.asm6502.specs.declared.faults.AsmFault.{AsmFault}
-use Rattle.asm6502.specs.declared.faults.AsmFault.TheVariants.{DoubleLabel, UnknownLabel}
-use Rattle.asm6502.specs.Lines.{is_kept, kept, item_size, size_of, place_of, label_named, label_used}
-use Rattle.asm6502.specs.Faults.{double_in, double_label, unknown_in, unknown_label}
+use Rattle.asm6502.specs.Lines.{is_kept, kept, item_size, size_of, place_of, label_named}
+use Rattle.asm6502.specs.Faults.{double_label}
 use Rattle.asm6502.specs.Places.{HasPlaces}
 use Rattle.asm6502.proofs.Naming.{kept_more, size_of-append, placed_label, placed_other}
 

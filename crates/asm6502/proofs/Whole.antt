@@ -1,13 +1,9 @@
 -- What a listing with which nothing is wrong is assembled to, here and at another origin.
-use Rattle.std.proofs.Common.{◌≡◌, ℕ, ◌+◌, ◌%◌, ◌<◌, ◌≤◌, Bool, true, false, ◌&&◌, not, List, [], ◌∷◌, ◌++◌, length, Option, Some, None, unwrap_or, nat_lt, if◌then◌else◌, refl, ap, sym, ◌∙◌, subst, inl, inr, arith, append_assoc, ◌⊎◌}
+use Rattle.std.proofs.Common.{◌≡◌, ℕ, ◌+◌, ◌≤◌, Bool, true, false, ◌&&◌, not, List, [], ◌∷◌, ◌++◌, length, Option, Some, None, unwrap_or, nat_lt, if◌then◌else◌, refl, ap, sym, ◌∙◌, subst, inl, inr, arith, append_assoc, ◌⊎◌}
 use mathlib.Core.Path.{fun_ext}
 use Rattle.std.specs.Option.{option_or, is_some}
-use Rattle.std.specs.BTreeMap.{get}
-use Rattle.std.proofs.Common.{nat_cmp}
 use Rattle.std.proofs.lemmas.Bool.{le-ltb, ltb-false}
-use Rattle.cpu6502.specs.declared.mnemonic.Mode.{Mode}
 use Rattle.cpu6502.specs.Encoding.{OpcodesHaveRows}
-use Rattle.asm6502.specs.declared.lines.Operand.{Operand}
 use Rattle.asm6502.specs.declared.lines.Operand.TheVariants.{Nothing, Number, Label, Low, High}
 use Rattle.asm6502.specs.declared.lines.Item.{Item}
 use Rattle.asm6502.specs.declared.lines.Item.TheVariants.{Label as Named, Code, Bytes}
@@ -18,8 +14,7 @@ use Rattle.asm6502.specs.declared.output.Output.{Output}
 use Rattle.asm6502.specs.declared.assembled.Assembled.{Assembled}
 use Rattle.asm6502.specs.declared.faults.AsmFault.{AsmFault}
 use Rattle.asm6502.specs.declared.faults.AsmFault.TheVariants.{PastEnd, BranchTooFar, NoMemory}
-use Rattle.asm6502.specs.Branches.{branch_byte}
-use Rattle.asm6502.specs.Operands.{is_relative, is_far}
+use Rattle.asm6502.specs.Operands.{is_relative}
 use Rattle.asm6502.specs.Lines.{is_kept, kept, size_of, address_in}
 use Rattle.asm6502.specs.Assembly.{bytes_of, fixes_of, assembled_bytes, assembled_fixes}
 use Rattle.asm6502.specs.Faults.{first_fault, bad_line, double_label, unknown_label, past_end, is_far_item, far_by, far_branch, fault_of}

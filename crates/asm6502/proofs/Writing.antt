@@ -1,10 +1,9 @@
 -- What is written after one more line.
-use Rattle.std.proofs.Common.{◌≡◌, ℕ, ◌+◌, ◌<◌, ◌≤◌, Bool, true, false, ◌&&◌, List, [], ◌∷◌, ◌++◌, length, take, drop, Option, Some, None, unwrap_or, if◌then◌else◌, refl, ap, sym, ◌∙◌, subst, arith, append_assoc, length-append}
+use Rattle.std.proofs.Common.{◌≡◌, ℕ, ◌+◌, ◌≤◌, Bool, true, false, List, [], ◌∷◌, ◌++◌, length, take, drop, Option, Some, None, unwrap_or, if◌then◌else◌, refl, ap, sym, ◌∙◌, arith, append_assoc, length-append}
 use Rattle.std.proofs.lemmas.List.{append-nil, take-append-drop}
 use Rattle.cpu6502.specs.declared.mnemonic.Mnemonic.{Mnemonic}
 use Rattle.cpu6502.specs.declared.mnemonic.Mode.{Mode}
 use Rattle.asm6502.specs.declared.lines.Operand.{Operand}
-use Rattle.asm6502.specs.declared.lines.Item.{Item}
 use Rattle.asm6502.specs.declared.lines.Item.TheVariants.{Code}
 use Rattle.asm6502.specs.Instructions.{encoding}
 use Rattle.asm6502.specs.Operands.{operand_of}
@@ -12,7 +11,6 @@ use Rattle.asm6502.specs.declared.lines.Line.{Line}
 use Rattle.asm6502.specs.declared.fixes.Fix.{Fix}
 use Rattle.asm6502.specs.declared.labels.Labels.{Labels}
 use Rattle.asm6502.specs.declared.output.Output.{Output}
-use Rattle.asm6502.specs.declared.faults.AsmFault.{AsmFault}
 use Rattle.asm6502.specs.declared.faults.AsmFault.TheVariants.{BranchTooFar}
 use Rattle.asm6502.specs.Lines.{is_kept, kept, item_size, size_of, is_sound}
 use Rattle.asm6502.specs.Assembly.{instr_at, item_bytes, bytes_of, item_fixes, fixes_of}

@@ -1,5 +1,5 @@
 -- What is wrong with a listing: the first of five refusals, in their order, each at its first place in the listing. This is the assembler's own profile.
-use Rattle.std.specs.Prelude.{ℕ, ◌+◌, ◌&&◌, ◌||◌, Bool, true, false, List, [], ◌∷◌, ◌++◌, length, Option, Some, None, nat_lt, not, if◌then◌else◌}
+use Rattle.std.specs.Prelude.{ℕ, ◌+◌, ◌&&◌, ◌||◌, Bool, false, List, [], ◌∷◌, ◌++◌, length, Option, Some, None, nat_lt, not, if◌then◌else◌}
 use Rattle.std.specs.Option.{option_or, option_and_then, is_some}
 use Rattle.asm6502.specs.declared.lines.Item.{Item}
 use Rattle.asm6502.specs.declared.lines.Item.TheVariants.{Code}

@@ -1,6 +1,6 @@
 -- Lines of a listing that stand in memory, as they are decoded and not as bytes: the form in which a program that was assembled is reasoned about.
 use Rattle.std.specs.Prelude.{◌≡◌, ℕ, ◌+◌, ◌<◌, ◌≤◌, List, [], ◌∷◌, ◌++◌, length, slice_index, None}
-use Rattle.cpu6502.specs.Code.{Stands}
+use Rattle.cpu6502.specs.Code.{Stands, Holds}
 use Rattle.asm6502.specs.declared.lines.Item.{Item}
 use Rattle.asm6502.specs.declared.lines.Item.TheVariants.{Label, Code, Bytes}
 use Rattle.asm6502.specs.declared.lines.Line.{Line}
@@ -12,6 +12,10 @@ use Rattle.asm6502.specs.Faults.{fault_of}
 -- these bytes stand in a memory from a place on
 pub record BytesStand (at : ℕ → ℕ) (place : ℕ) (bytes : List ℕ) : Type 0 where
   pub byte : (k : ℕ) → k < length bytes → at (place + k) ≡ slice_index bytes k
+
+-- what a machine's memory holds stands in it
+abbrev pub HeldBytesStand : Type 0
+HeldBytesStand = (memory : List ℕ) (address : ℕ) (bytes : List ℕ) → Holds memory address bytes → BytesStand (slice_index memory) address bytes
 
 -- an item stands at pc: a label has this address; an instruction decodes, by the machine's own table, to its name and mode, with the number that its operand names, so a branch goes to its label; bytes are there
 abbrev pub ItemAt : (ℕ → ℕ) → (ℕ → ℕ) → ℕ → Item → Type 0

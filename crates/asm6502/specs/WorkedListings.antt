@@ -1,12 +1,11 @@
 -- Listings that are worked by hand from the manual's opcodes.
-use Rattle.std.specs.Prelude.{◌≡◌, ℕ, List, [], ◌∷◌, replicate, Option, Some, None}
+use Rattle.std.specs.Prelude.{◌≡◌, ℕ, List, [], ◌∷◌, replicate, Some, None}
 use Rattle.cpu6502.specs.declared.mnemonic.Mnemonic.TheVariants.{Bne, Jmp, Lda, Ldx, Nop, Rts, Sta}
 use Rattle.cpu6502.specs.declared.mnemonic.Mode.TheVariants.{Implied, Immediate, Absolute, Relative}
 use Rattle.asm6502.specs.declared.lines.Operand.TheVariants.{Nothing, Number, Label, Low, High}
 use Rattle.asm6502.specs.declared.lines.Item.{Item}
 use Rattle.asm6502.specs.declared.lines.Item.TheVariants.{Label as Named, Code, Bytes}
 use Rattle.asm6502.specs.declared.lines.Line.{Line}
-use Rattle.asm6502.specs.declared.fixes.Fix.{Fix}
 use Rattle.asm6502.specs.declared.fixes.FixKind.TheVariants.{Word, Low as LowByte, High as HighByte}
 use Rattle.asm6502.specs.declared.faults.AsmFault.TheVariants.{BadLine, DoubleLabel, UnknownLabel, PastEnd, BranchTooFar}
 use Rattle.asm6502.specs.Assembly.{assembled_bytes, assembled_fixes}

@@ -26,7 +26,7 @@ pub fn assemble(
     set: FeatureBits,
 ) -> Result<Assembled, AsmFault>
     requires lines { length listing.now ≤ 1000000 }
-    requires data { data_size listing.now ≤ 1000000 }
+    requires bytes { data_size listing.now ≤ 1000000 }
 
     // Want of memory aside, it is refused exactly where something is wrong with the listing, with that fault.
     ensures faults { MatchResult result (λ _. fault_of set.0 origin listing.now ≡ None) (λ fault. (fault ≡ NoMemory) ⊎ (fault_of set.0 origin listing.now ≡ Some fault)) }

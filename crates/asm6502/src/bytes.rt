@@ -1,3 +1,5 @@
+//! The bytes of a program.
+
 ghost use Rattle.std.specs.Prelude.{◌≡◌, ◌<◌, [], ◌∷◌, ◌++◌, length, slice_set, OnOk, OnErr};
 
 use song_model::NoMemory;

@@ -18,7 +18,7 @@ use std::collections::BTreeMap;
 
 /// The places of the labels that some lines name, and the bytes that these lines take.
 #[derive(Drop)]
-pub struct Labels {
+pub(crate) struct Labels {
     places: BTreeMap<u16, u32>,
     size: u32,
 }
@@ -171,7 +171,7 @@ fn branch_byte(pc: u32, target: u16) -> Option<u8>
 /// The labels of the kept lines; refused where one of them is named a second time.
 pub(crate) fn labels_of(alloc: Global, lines: &[Line], set: FeatureBits) -> Result<Labels, AsmFault>
     requires lines { length lines.now ≤ 1000000 }
-    requires data { data_size lines.now ≤ 1000000 }
+    requires bytes { data_size lines.now ≤ 1000000 }
     ensures { MatchResult result (λ labels. HasPlaces labels (kept set.0 lines.now) × (first_fault (double_label set.0) [] lines.now ≡ None)) (λ fault. (fault ≡ NoMemory) ⊎ (first_fault (double_label set.0) [] lines.now ≡ Some fault)) }
 {
     let mut labels = Labels::new(alloc);

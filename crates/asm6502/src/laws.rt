@@ -3,7 +3,7 @@
 ghost use Rattle.asm6502.specs.Instructions.{WhatIsEncodedDecodes, NothingElseDecodes};
 ghost use Rattle.asm6502.specs.Branches.{BranchesReach, FarIsOutOfReach};
 ghost use Rattle.asm6502.specs.WorkedListings.{TonePlays, ToneWithPart, LabelsHaveAddresses, FarBranchIsRefused, OrderOfRefusals};
-ghost use Rattle.asm6502.specs.Standing.{AssembledLinesStand, SizesAdd, KeptAppend, FrontsStand, BacksStand, BothStand, LinesStay};
+ghost use Rattle.asm6502.specs.Standing.{AssembledLinesStand, HeldBytesStand, SizesAdd, KeptAppend, FrontsStand, BacksStand, BothStand, LinesStay};
 
 /// `encode` and `decode` are each other's inverse.
 pub fn decode_is_inverse_of_encode()
@@ -29,6 +29,7 @@ pub fn assembled_lines_stand()
 
 /// What stands at a place can be taken apart and put together, and stays while its bytes stay.
 pub fn lines_that_stand()
+    ensures held { HeldBytesStand }
     ensures sizes { SizesAdd }
     ensures kept { KeptAppend }
     ensures front { FrontsStand }

@@ -19,7 +19,7 @@ use std::alloc::Global;
 
 /// What is written so far.
 #[derive(Drop)]
-pub struct Output {
+pub(crate) struct Output {
     pub(crate) bytes: CodeBytes,
     pub(crate) fixes: FixList,
 }

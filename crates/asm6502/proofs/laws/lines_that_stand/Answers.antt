@@ -2,6 +2,9 @@ use Rattle.asm6502.proofs.Naming.{size_of-append, kept-append}
 use Rattle.asm6502.proofs.Standing.{fronts_stand, backs_stand, both_stand, lines_stay}
 use Rattle.asm6502.proofs.laws.lines_that_stand.Goals as goal
 
+pub returns-clause-held : goal.returns-clause-held
+returns-clause-held c memory address bytes held = record { byte = held.byte }
+
 pub returns-clause-sizes : goal.returns-clause-sizes
 returns-clause-sizes c = size_of-append
 

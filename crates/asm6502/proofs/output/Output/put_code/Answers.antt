@@ -1,4 +1,4 @@
-use Rattle.std.proofs.Common.{ap, ◌∙◌, length}
+use Rattle.std.proofs.Common.{ap, length}
 use Rattle.asm6502.specs.Places.{address_by}
 use Rattle.asm6502.proofs.Writing.{code_bytes}
 use Rattle.asm6502.proofs.output.Output.put_code.Goals as goal
