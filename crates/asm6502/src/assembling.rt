@@ -29,7 +29,9 @@ pub fn assemble(
     requires bytes { data_size listing.now ≤ 1000000 }
 
     // Want of memory aside, it is refused exactly where something is wrong with the listing, with that fault.
-    ensures faults { MatchResult result (λ _. fault_of set.0 origin listing.now ≡ None) (λ fault. (fault ≡ NoMemory) ⊎ (fault_of set.0 origin listing.now ≡ Some fault)) }
+    ensures faults { MatchResult result
+        (λ _. fault_of set.0 origin listing.now ≡ None)
+        (λ fault. (fault ≡ NoMemory) ⊎ (fault_of set.0 origin listing.now ≡ Some fault)) }
 
     ensures assembled { IfOk result (λ done. IsAssembly done set.0 origin listing.now) }
     ensures stands { IfOk result (λ done. KeptLinesStand set.0 origin listing.now done.bytes) }
@@ -51,7 +53,9 @@ pub fn assemble(
 
 /// Refuses bytes that pass the end of memory.
 fn check_end(origin: u16, length: u32) -> Result<(), AsmFault>
-    ensures { MatchResult result (λ _. origin + length ≤ 65536) (λ fault. (if nat_lt 65536 (origin + length) then Some (PastEnd length) else None) ≡ Some fault) }
+    ensures { MatchResult result
+        (λ _. origin + length ≤ 65536)
+        (λ fault. (if nat_lt 65536 (origin + length) then Some (PastEnd length) else None) ≡ Some fault) }
 {
     if u64::from(origin) + u64::from(length) > 65_536 {
         return Err(AsmFault::PastEnd { length });

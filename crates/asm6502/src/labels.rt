@@ -49,7 +49,11 @@ impl Labels {
     /// Notes the label that one more line names, if it is kept, and the bytes that it takes.
     fn note(&mut self, line: &Line, set: FeatureBits) -> Result<(), AsmFault>
         requires { self.old.size + item_size line.now.item < 2 ^ 32 }
-        ensures { (before : List Line) → HasPlaces self.old (kept set.0 before) → MatchResult result (λ _. HasPlaces self.new (kept set.0 (before ++ line.now ∷ [])) × (double_label set.0 before line.now ≡ None)) (λ fault. (fault ≡ NoMemory) ⊎ (double_label set.0 before line.now ≡ Some fault)) }
+        ensures { (before : List Line) →
+            HasPlaces self.old (kept set.0 before) →
+            MatchResult result
+            (λ _. HasPlaces self.new (kept set.0 (before ++ line.now ∷ [])) × (double_label set.0 before line.now ≡ None))
+            (λ fault. (fault ≡ NoMemory) ⊎ (double_label set.0 before line.now ≡ Some fault)) }
     {
         if !line.is_kept(set) {
             return Ok(());
@@ -64,7 +68,9 @@ impl Labels {
     /// Notes that a label is named behind the bytes so far.
     fn name(&mut self, label: u16) -> Result<(), AsmFault>
         ensures size { self.new.size ≡ self.old.size }
-        ensures noted { MatchResult result (λ _. (get nat_cmp self.old.places label ≡ None) × ((other : _) → get nat_cmp self.new.places other ≡ (if nat_eq label other then Some self.old.size else get nat_cmp self.old.places other))) (λ fault. (fault ≡ NoMemory) ⊎ (IsSome (get nat_cmp self.old.places label) × (fault ≡ DoubleLabel label))) }
+        ensures noted { MatchResult result
+            (λ _. (get nat_cmp self.old.places label ≡ None) × ((other : _) → get nat_cmp self.new.places other ≡ (if nat_eq label other then Some self.old.size else get nat_cmp self.old.places other)))
+            (λ fault. (fault ≡ NoMemory) ⊎ (IsSome (get nat_cmp self.old.places label) × (fault ≡ DoubleLabel label))) }
     {
         if self.places.contains_key(&label) {
             return Err(AsmFault::DoubleLabel { label });
@@ -84,7 +90,9 @@ impl Labels {
 
     /// The label in the operand of a line, if the line is kept and the label isn't named.
     fn unknown(&self, line: &Line, set: FeatureBits) -> Option<u16>
-        ensures { (lines before : List Line) → HasPlaces self.now (kept set.0 lines) → option_map UnknownLabel result ≡ unknown_label set.0 lines before line.now }
+        ensures { (lines before : List Line) →
+            HasPlaces self.now (kept set.0 lines) →
+            option_map UnknownLabel result ≡ unknown_label set.0 lines before line.now }
     {
         if !line.is_kept(set) {
             return None;
@@ -109,7 +117,9 @@ impl Labels {
     /// it is a label that the branch doesn't reach.
     pub(crate) fn operand(&self, origin: u16, at: u32, mode: Mode, operand: Operand) -> Option<u16>
         requires { origin + at ≤ 65536 }
-        ensures { MatchOption result (is_far (address_by self.now origin) (origin + at) mode operand ≡ true) (λ number. (number ≡ operand_of (address_by self.now origin) (origin + at) mode operand) × (is_far (address_by self.now origin) (origin + at) mode operand ≡ false)) }
+        ensures { MatchOption result
+            (is_far (address_by self.now origin) (origin + at) mode operand ≡ true)
+            (λ number. (number ≡ operand_of (address_by self.now origin) (origin + at) mode operand) × (is_far (address_by self.now origin) (origin + at) mode operand ≡ false)) }
     {
         match operand {
             Operand::Nothing => Some(0),
@@ -172,7 +182,9 @@ fn branch_byte(pc: u32, target: u16) -> Option<u8>
 pub(crate) fn labels_of(alloc: Global, lines: &[Line], set: FeatureBits) -> Result<Labels, AsmFault>
     requires lines { length lines.now ≤ 1000000 }
     requires bytes { data_size lines.now ≤ 1000000 }
-    ensures { MatchResult result (λ labels. HasPlaces labels (kept set.0 lines.now) × (first_fault (double_label set.0) [] lines.now ≡ None)) (λ fault. (fault ≡ NoMemory) ⊎ (first_fault (double_label set.0) [] lines.now ≡ Some fault)) }
+    ensures { MatchResult result
+        (λ labels. HasPlaces labels (kept set.0 lines.now) × (first_fault (double_label set.0) [] lines.now ≡ None))
+        (λ fault. (fault ≡ NoMemory) ⊎ (first_fault (double_label set.0) [] lines.now ≡ Some fault)) }
 {
     let mut labels = Labels::new(alloc);
     for line in lines {
@@ -184,7 +196,9 @@ pub(crate) fn labels_of(alloc: Global, lines: &[Line], set: FeatureBits) -> Resu
 /// Refuses a line that can't stand in a listing.
 pub(crate) fn check_lines(lines: &[Line], set: FeatureBits) -> Result<(), AsmFault>
     requires { length lines.now ≤ 1000000 }
-    ensures { MatchResult result (λ _. first_fault (bad_line set.0) [] lines.now ≡ None) (λ fault. first_fault (bad_line set.0) [] lines.now ≡ Some fault) }
+    ensures { MatchResult result
+        (λ _. first_fault (bad_line set.0) [] lines.now ≡ None)
+        (λ fault. first_fault (bad_line set.0) [] lines.now ≡ Some fault) }
 {
     for (place, line) in lines.iter().enumerate() {
         if line.is_bad(set) {
@@ -201,7 +215,9 @@ pub(crate) fn check_operands(
     labels: &Labels,
 ) -> Result<(), AsmFault>
     requires { HasPlaces labels.now (kept set.0 lines.now) }
-    ensures { MatchResult result (λ _. first_fault (unknown_label set.0 lines.now) [] lines.now ≡ None) (λ fault. first_fault (unknown_label set.0 lines.now) [] lines.now ≡ Some fault) }
+    ensures { MatchResult result
+        (λ _. first_fault (unknown_label set.0 lines.now) [] lines.now ≡ None)
+        (λ fault. first_fault (unknown_label set.0 lines.now) [] lines.now ≡ Some fault) }
 {
     for line in lines {
         if let Some(label) = labels.unknown(line, set) {

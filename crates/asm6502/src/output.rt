@@ -57,10 +57,14 @@ impl Output {
     ) -> Result<(), AsmFault>
         requires fits { origin + length self.old.bytes ≤ 65536 }
         requires sound { is_sound (Code mnemonic mode operand) ≡ true }
-        ensures bytes { OnOk result (self.new.bytes ≡ self.old.bytes ++ item_bytes (address_by labels.now origin) (origin + length self.old.bytes) (Code mnemonic mode operand)) }
-        ensures fixes { OnOk result (self.new.fixes ≡ self.old.fixes ++ item_fixes (address_by labels.now 0) (length self.old.bytes) (Code mnemonic mode operand)) }
-        ensures near { OnOk result (is_far_item (address_by labels.now origin) (origin + length self.old.bytes) (Code mnemonic mode operand) ≡ false) }
-        ensures far { IfErr result (λ fault. (fault ≡ NoMemory) ⊎ (is_far_item (address_by labels.now origin) (origin + length self.old.bytes) (Code mnemonic mode operand) ≡ true) × (fault ≡ BranchTooFar line)) }
+        ensures bytes { OnOk result
+            (self.new.bytes ≡ self.old.bytes ++ item_bytes (address_by labels.now origin) (origin + length self.old.bytes) (Code mnemonic mode operand)) }
+        ensures fixes { OnOk result
+            (self.new.fixes ≡ self.old.fixes ++ item_fixes (address_by labels.now 0) (length self.old.bytes) (Code mnemonic mode operand)) }
+        ensures near { OnOk result
+            (is_far_item (address_by labels.now origin) (origin + length self.old.bytes) (Code mnemonic mode operand) ≡ false) }
+        ensures far { IfErr result
+            (λ fault. (fault ≡ NoMemory) ⊎ (is_far_item (address_by labels.now origin) (origin + length self.old.bytes) (Code mnemonic mode operand) ≡ true) × (fault ≡ BranchTooFar line)) }
     {
         let at = self.bytes.as_slice().len() as u32;
         let Some(number) = labels.operand(origin, at, mode, operand) else {
@@ -91,10 +95,14 @@ impl Output {
     ) -> Result<(), AsmFault>
         requires fits { origin + length self.old.bytes ≤ 65536 }
         requires sound { is_sound item.now ≡ true }
-        ensures bytes { OnOk result (self.new.bytes ≡ self.old.bytes ++ item_bytes (address_by labels.now origin) (origin + length self.old.bytes) item.now) }
-        ensures fixes { OnOk result (self.new.fixes ≡ self.old.fixes ++ item_fixes (address_by labels.now 0) (length self.old.bytes) item.now) }
-        ensures near { OnOk result (is_far_item (address_by labels.now origin) (origin + length self.old.bytes) item.now ≡ false) }
-        ensures far { IfErr result (λ fault. (fault ≡ NoMemory) ⊎ (is_far_item (address_by labels.now origin) (origin + length self.old.bytes) item.now ≡ true) × (fault ≡ BranchTooFar line)) }
+        ensures bytes { OnOk result
+            (self.new.bytes ≡ self.old.bytes ++ item_bytes (address_by labels.now origin) (origin + length self.old.bytes) item.now) }
+        ensures fixes { OnOk result
+            (self.new.fixes ≡ self.old.fixes ++ item_fixes (address_by labels.now 0) (length self.old.bytes) item.now) }
+        ensures near { OnOk result
+            (is_far_item (address_by labels.now origin) (origin + length self.old.bytes) item.now ≡ false) }
+        ensures far { IfErr result
+            (λ fault. (fault ≡ NoMemory) ⊎ (is_far_item (address_by labels.now origin) (origin + length self.old.bytes) item.now ≡ true) × (fault ≡ BranchTooFar line)) }
     {
         match item {
             Item::Label(_) => Ok(()),
@@ -119,7 +127,12 @@ impl Output {
     ) -> Result<(), AsmFault>
         requires fits { origin + length self.old.bytes ≤ 65536 }
         requires sound { is_kept set.0 line.now ≡ true → is_sound line.now.item ≡ true }
-        ensures { (before : List Line) → length before ≡ number → IsWritten self.old labels.now set.0 origin before → MatchResult result (λ _. IsWritten self.new labels.now set.0 origin (before ++ line.now ∷ []) × (far_by (address_by labels.now origin) set.0 origin before line.now ≡ None)) (λ fault. (fault ≡ NoMemory) ⊎ (far_by (address_by labels.now origin) set.0 origin before line.now ≡ Some fault)) }
+        ensures { (before : List Line) →
+            length before ≡ number →
+            IsWritten self.old labels.now set.0 origin before →
+            MatchResult result
+            (λ _. IsWritten self.new labels.now set.0 origin (before ++ line.now ∷ []) × (far_by (address_by labels.now origin) set.0 origin before line.now ≡ None))
+            (λ fault. (fault ≡ NoMemory) ⊎ (far_by (address_by labels.now origin) set.0 origin before line.now ≡ Some fault)) }
     {
         if !line.is_kept(set) {
             return Ok(());
@@ -140,7 +153,9 @@ pub(crate) fn output_of(
     requires lines { length lines.now ≤ 1000000 }
     requires fits { origin + size_of (kept set.0 lines.now) ≤ 65536 }
     requires sound { first_fault (bad_line set.0) [] lines.now ≡ None }
-    ensures { MatchResult result (λ output. IsWritten output labels.now set.0 origin lines.now × (first_fault (far_by (address_by labels.now origin) set.0 origin) [] lines.now ≡ None)) (λ fault. (fault ≡ NoMemory) ⊎ (first_fault (far_by (address_by labels.now origin) set.0 origin) [] lines.now ≡ Some fault)) }
+    ensures { MatchResult result
+        (λ output. IsWritten output labels.now set.0 origin lines.now × (first_fault (far_by (address_by labels.now origin) set.0 origin) [] lines.now ≡ None))
+        (λ fault. (fault ≡ NoMemory) ⊎ (first_fault (far_by (address_by labels.now origin) set.0 origin) [] lines.now ≡ Some fault)) }
 {
     let mut output = Output::new(alloc);
     for (number, line) in lines.iter().enumerate() {
