@@ -9,3 +9,4 @@ pub mod Shifts
 pub mod Reaches
 pub mod Standing
 pub mod Whole
+pub mod Found

@@ -1,5 +1,5 @@
 -- What is wrong with a listing: the first of five refusals, in their order, each at its first place in the listing. This is the assembler's own profile.
-use Rattle.std.specs.Prelude.{ℕ, ◌+◌, ◌&&◌, ◌||◌, Bool, false, List, [], ◌∷◌, ◌++◌, length, Option, Some, None, nat_lt, not, if◌then◌else◌}
+use Rattle.std.specs.Prelude.{◌≡◌, ℕ, ◌+◌, ◌&&◌, ◌||◌, Bool, false, List, [], ◌∷◌, ◌++◌, length, Option, Some, None, nat_lt, not, if◌then◌else◌}
 use Rattle.std.specs.Option.{option_or, option_and_then, is_some}
 use Rattle.asm6502.specs.declared.lines.Item.{Item}
 use Rattle.asm6502.specs.declared.lines.Item.TheVariants.{Code}
@@ -62,3 +62,26 @@ fault_of set origin lines =
     (option_or (first_fault (unknown_label set lines) [] lines)
     (option_or (past_end set origin lines)
     (first_fault (far_branch set origin lines) [] lines))))
+
+-- a test finds this fault at a line, and nothing at the lines before it
+pub record FoundFirst (test : List Line → Line → Option AsmFault) (lines : List Line) (fault : AsmFault) : Type 0 where
+  pub front : List Line
+  pub line : Line
+  pub back : List Line
+  pub split : lines ≡ front ++ line ∷ back
+  pub found : test front line ≡ Some fault
+  pub earlier : (before : List Line) (other : Line) (after : List Line) → front ≡ before ++ other ∷ after → test before other ≡ None
+
+-- the first fault is found first
+abbrev pub FirstIsFirst : Type 0
+FirstIsFirst =
+    (test : List Line → Line → Option AsmFault) (lines : List Line) (fault : AsmFault) → first_fault test [] lines ≡ Some fault → FoundFirst test lines fault
+
+-- there is none exactly where the test finds nothing at any line
+abbrev pub NoneIsFound : Type 0
+NoneIsFound =
+    (test : List Line → Line → Option AsmFault) (lines front : List Line) (line : Line) (back : List Line) → first_fault test [] lines ≡ None → lines ≡ front ++ line ∷ back → test front line ≡ None
+
+abbrev pub AllPassed : Type 0
+AllPassed =
+    (test : List Line → Line → Option AsmFault) (lines : List Line) → ((front : List Line) (line : Line) (back : List Line) → lines ≡ front ++ line ∷ back → test front line ≡ None) → first_fault test [] lines ≡ None

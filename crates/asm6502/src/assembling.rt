@@ -1,7 +1,7 @@
 //! From a listing to its bytes.
 
 ghost use Rattle.std.specs.Prelude.{◌≡◌, ◌≤◌, ◌+◌, ◌⊎◌, length, nat_lt, if◌then◌else◌, MatchResult, IfOk, None, Some};
-ghost use Rattle.asm6502.specs.Lines.{data_size};
+ghost use Rattle.asm6502.specs.Lines.{kept, size_of, data_size};
 ghost use Rattle.asm6502.specs.Faults.{fault_of};
 ghost use Rattle.asm6502.specs.Moving.{IsAssembly, MovesAsAssembled};
 ghost use Rattle.asm6502.specs.Standing.{KeptLinesStand};
@@ -34,6 +34,7 @@ pub fn assemble(
         (λ fault. (fault ≡ NoMemory) ⊎ (fault_of set.0 origin listing.now ≡ Some fault)) }
 
     ensures assembled { IfOk result (λ done. IsAssembly done set.0 origin listing.now) }
+    ensures size { IfOk result (λ done. length done.bytes ≡ size_of (kept set.0 listing.now)) }
     ensures stands { IfOk result (λ done. KeptLinesStand set.0 origin listing.now done.bytes) }
     ensures moves { IfOk result (MovesAsAssembled set.0 listing.now) }
 {

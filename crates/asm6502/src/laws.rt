@@ -1,6 +1,7 @@
 //! Facts about the definitions of this crate, each the contract of a function that does nothing.
 
 ghost use Rattle.asm6502.specs.Instructions.{WhatIsEncodedDecodes, NothingElseDecodes};
+ghost use Rattle.asm6502.specs.Faults.{FirstIsFirst, NoneIsFound, AllPassed};
 ghost use Rattle.asm6502.specs.Branches.{BranchesReach, FarIsOutOfReach};
 ghost use Rattle.asm6502.specs.WorkedListings.{TonePlays, ToneWithPart, LabelsHaveAddresses, FarBranchIsRefused, OrderOfRefusals};
 ghost use Rattle.asm6502.specs.Standing.{AssembledLinesStand, HeldBytesStand, SizesAdd, KeptAppend, FrontsStand, BacksStand, BothStand, LinesStay};
@@ -45,4 +46,12 @@ pub fn worked_listings()
     ensures labels { LabelsHaveAddresses }
     ensures far { FarBranchIsRefused }
     ensures order { OrderOfRefusals }
+{}
+
+/// The first fault of a listing is found at a line before which nothing is found; and there is none exactly where nothing
+/// is found at any line.
+pub fn first_faults_are_first()
+    ensures first { FirstIsFirst }
+    ensures none { NoneIsFound }
+    ensures passed { AllPassed }
 {}

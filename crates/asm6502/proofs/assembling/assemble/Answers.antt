@@ -24,6 +24,11 @@ returns-clause-assembled c =
     let d = done_from c.in_ok-output.output c.in_ok-labels.labels c.args.set.0 c.args.origin c.size.result c.as_slice-lines.result.now c.args.listing.now c.as_slice-lines.ensures c.in_ok-labels.ensures.0 c.in_ok-check_lines.ensures c.in_ok-labels.ensures.1 c.in_ok-check_operands.ensures c.size.ensures c.in_ok-check_end.ensures c.in_ok-output.ensures.0 c.in_ok-output.ensures.1 in
     record { origin_is = refl; bytes_are = d.bytes_are; fixes_are = d.fixes_are }
 
+pub returns-clause-size : goal.returns-clause-size
+returns-clause-size c =
+    let d = done_from c.in_ok-output.output c.in_ok-labels.labels c.args.set.0 c.args.origin c.size.result c.as_slice-lines.result.now c.args.listing.now c.as_slice-lines.ensures c.in_ok-labels.ensures.0 c.in_ok-check_lines.ensures c.in_ok-labels.ensures.1 c.in_ok-check_operands.ensures c.size.ensures c.in_ok-check_end.ensures c.in_ok-output.ensures.0 c.in_ok-output.ensures.1 in
+    d.size
+
 pub returns-clause-stands : goal.returns-clause-stands
 returns-clause-stands c =
     let d = done_from c.in_ok-output.output c.in_ok-labels.labels c.args.set.0 c.args.origin c.size.result c.as_slice-lines.result.now c.args.listing.now c.as_slice-lines.ensures c.in_ok-labels.ensures.0 c.in_ok-check_lines.ensures c.in_ok-labels.ensures.1 c.in_ok-check_operands.ensures c.size.ensures c.in_ok-check_end.ensures c.in_ok-output.ensures.0 c.in_ok-output.ensures.1 in
