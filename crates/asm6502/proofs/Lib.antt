@@ -1,0 +1,12 @@
+pub mod Rounds
+pub mod Firsts
+pub mod Naming
+pub mod Tables
+pub mod Sound
+pub mod Writing
+pub mod Numbers
+pub mod Shifts
+pub mod Reaches
+pub mod Standing
+pub mod Whole
+pub mod Found

@@ -1,0 +1,78 @@
+-- The displacement byte of a branch leads to its target, and where there is none, no displacement does.
+use Rattle.std.proofs.Common.{◌≡◌, ◌≢◌, ℕ, ◌+◌, ◌-◌, ◌*◌, ◌/◌, ◌%◌, ◌<◌, ◌≤◌, Bool, true, false, Some, None, nat_lt, if◌then◌else◌, refl, ap, sym, ◌∙◌, arith}
+use Rattle.std.proofs.lemmas.Bool.{ltb-true, lt-ltb}
+use Rattle.std.proofs.lemmas.Bool.{ltb-false, le-ltb}
+use Rattle.cpu6502.specs.Effects.{displacement}
+use Rattle.asm6502.specs.Branches.{way_from, branch_byte}
+
+-- a way leads back to the target
+back : (pc target q way r s : ℕ) → target + 131072 - (pc + 2) ≡ 65536 * q + way → pc + 2 + way ≡ 65536 * r + s → pc ≤ 65536 → target < 65536 → s < 65536 → s ≡ target
+back pc target q way r s e f l t k = omega arith
+
+pub way_back : (pc target : ℕ) → pc ≤ 65536 → target < 65536 → (pc + 2 + way_from pc target) % 65536 ≡ target
+way_back pc target l t =
+    let e : target + 131072 - (pc + 2) ≡ 65536 * ((target + 131072 - (pc + 2)) / 65536) + way_from pc target = omega arith in
+    ended pc target ((target + 131072 - (pc + 2)) / 65536) (way_from pc target) e l t
+  where
+    ended : (pc target q way : ℕ) → target + 131072 - (pc + 2) ≡ 65536 * q + way → pc ≤ 65536 → target < 65536 → (pc + 2 + way) % 65536 ≡ target
+    ended pc target q way e l t =
+        let f : pc + 2 + way ≡ 65536 * ((pc + 2 + way) / 65536) + (pc + 2 + way) % 65536 = omega arith in
+        back pc target q way ((pc + 2 + way) / 65536) ((pc + 2 + way) % 65536) e f l t (omega arith)
+
+-- the displacement of each byte
+low_displacement : (byte : ℕ) → byte < 128 → displacement byte ≡ byte
+low_displacement byte h = let t : nat_lt byte 128 ≡ true = lt-ltb byte 128 h in rw t refl
+
+high_displacement : (byte : ℕ) → 128 ≤ byte → displacement byte ≡ byte + 65280
+high_displacement byte h = let t : nat_lt byte 128 ≡ false = le-ltb byte 128 h in rw t refl
+
+reach_by : (pc target byte way : ℕ) (y z : Bool) → way < 65536 → (pc + 2 + way) % 65536 ≡ target → nat_lt way 128 ≡ y → nat_lt way 65408 ≡ z → (if y then Some way else if z then None else Some (way - 65280)) ≡ Some byte → (byte < 256) × ((pc + 2 + displacement byte) % 65536 ≡ target)
+reach_by pc target byte way true z w b e f h =
+    let small : way < 128 = ltb-true way 128 e in
+    let same : way ≡ byte = cc in
+    (omega arith, ap (λ (d : ℕ). (pc + 2 + d) % 65536) (low_displacement byte (omega arith) ∙ sym same) ∙ b)
+reach_by pc target byte way false true w b e f h = absurd (cc)
+reach_by pc target byte way false false w b e f h =
+    let big : 65408 ≤ way = ltb-false way 65408 f in
+    let same : way - 65280 ≡ byte = cc in
+    let whole : byte + 65280 ≡ way = omega arith in
+    (omega arith, ap (λ (d : ℕ). (pc + 2 + d) % 65536) (high_displacement byte (omega arith) ∙ whole) ∙ b)
+
+pub branches_reach : (pc target byte : ℕ) → pc ≤ 65536 → target < 65536 → branch_byte pc target ≡ Some byte → (byte < 256) × ((pc + 2 + displacement byte) % 65536 ≡ target)
+branches_reach pc target byte l t h =
+    reach_by pc target byte (way_from pc target) (nat_lt (way_from pc target) 128) (nat_lt (way_from pc target) 65408) (omega arith) (way_back pc target l t) refl refl h
+
+-- a displacement that leads to the target is the way
+only_way : (pc target d : ℕ) → pc ≤ 65536 → target < 65536 → d < 65536 → (pc + 2 + d) % 65536 ≡ target → way_from pc target ≡ d
+only_way pc target d l t k h =
+    let e : pc + 2 + d ≡ 65536 * ((pc + 2 + d) / 65536) + target = split (pc + 2 + d) target h in
+    let f : target + 131072 - (pc + 2) ≡ 65536 * ((target + 131072 - (pc + 2)) / 65536) + way_from pc target = omega arith in
+    met pc target d ((pc + 2 + d) / 65536) ((target + 131072 - (pc + 2)) / 65536) (way_from pc target) e f l t k (omega arith)
+  where
+    split : (n s : ℕ) → n % 65536 ≡ s → n ≡ 65536 * (n / 65536) + s
+    split n s h = omega arith
+
+    met : (pc target d r q way : ℕ) → pc + 2 + d ≡ 65536 * r + target → target + 131072 - (pc + 2) ≡ 65536 * q + way → pc ≤ 65536 → target < 65536 → d < 65536 → way < 65536 → way ≡ d
+    met pc target d r q way e f l t k w = omega arith
+
+far_by_way : (way : ℕ) (y z : Bool) → nat_lt way 128 ≡ y → nat_lt way 65408 ≡ z → (if y then Some way else if z then None else Some (way - 65280)) ≡ None → (128 ≤ way) × (way < 65408)
+far_by_way way true z e f h = absurd (cc)
+far_by_way way false true e f h = (ltb-false way 128 e, ltb-true way 65408 f)
+far_by_way way false false e f h = absurd (cc)
+
+displaced : (byte : ℕ) (z : Bool) → byte < 256 → nat_lt byte 128 ≡ z → (displacement byte < 65536) × ((128 ≤ displacement byte) × (displacement byte < 65408) → ⊥)
+displaced byte true h e =
+    let small : byte < 128 = ltb-true byte 128 e in
+    let d = low_displacement byte small in
+    (omega arith, λ r. absurd (omega (arith, r.0, r.1)))
+displaced byte false h e =
+    let big : 128 ≤ byte = ltb-false byte 128 e in
+    let d = high_displacement byte big in
+    (omega arith, λ r. absurd (omega (arith, r.0, r.1)))
+
+pub far_is_out_of_reach : (pc target byte : ℕ) → pc ≤ 65536 → target < 65536 → branch_byte pc target ≡ None → byte < 256 → (pc + 2 + displacement byte) % 65536 ≢ target
+far_is_out_of_reach pc target byte l t h b e =
+    let far = far_by_way (way_from pc target) (nat_lt (way_from pc target) 128) (nat_lt (way_from pc target) 65408) refl refl h in
+    let d = displaced byte (nat_lt byte 128) b refl in
+    let w = only_way pc target (displacement byte) l t d.0 e in
+    d.1 (omega arith, omega arith)

@@ -1,0 +1,24 @@
+-- How far a branch reaches. Source: the MOS 6502 programming manual.
+use Rattle.std.specs.Prelude.{◌≡◌, ◌≢◌, ℕ, ◌+◌, ◌-◌, ◌%◌, ◌<◌, ◌≤◌, Option, Some, None, nat_lt, if◌then◌else◌}
+use Rattle.cpu6502.specs.Effects.{displacement}
+
+-- what has to be added, mod 65,536, to the address behind the branch at pc to come to the target
+abbrev pub way_from : ℕ → ℕ → ℕ
+way_from pc target = (target + 131072 - (pc + 2)) % 65536
+
+-- the displacement byte that leads to the target from a branch at pc: a way of 0 to 127 is its own byte, one of -128 to -1 has the bytes from 128 on; none where it is further
+abbrev pub branch_byte : ℕ → ℕ → Option ℕ
+branch_byte pc target =
+    if nat_lt (way_from pc target) 128 then Some (way_from pc target)
+    else if nat_lt (way_from pc target) 65408 then None
+    else Some (way_from pc target - 65280)
+
+-- the displacement byte is one that leads to the target
+abbrev pub BranchesReach : Type 0
+BranchesReach =
+    (pc target byte : ℕ) → pc ≤ 65536 → target < 65536 → branch_byte pc target ≡ Some byte → (byte < 256) × ((pc + 2 + displacement byte) % 65536 ≡ target)
+
+-- and where there is none, no displacement leads there
+abbrev pub FarIsOutOfReach : Type 0
+FarIsOutOfReach =
+    (pc target byte : ℕ) → pc ≤ 65536 → target < 65536 → branch_byte pc target ≡ None → byte < 256 → (pc + 2 + displacement byte) % 65536 ≢ target

@@ -1,0 +1,11 @@
+pub mod Instructions
+pub mod Operands
+pub mod Lines
+pub mod Branches
+pub mod Assembly
+pub mod Faults
+pub mod Fixes
+pub mod Standing
+pub mod Places
+pub mod Moving
+pub mod WorkedListings

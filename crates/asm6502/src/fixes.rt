@@ -1,0 +1,69 @@
+//! The places of assembled bytes that hold addresses.
+
+use song_model::NoMemory;
+use std::alloc::Global;
+use std::marker::Model;
+
+/// How a number stands in bytes.
+#[derive(Clone, Copy, Debug)]
+pub enum FixKind {
+    /// Two bytes, the low one first.
+    Word,
+    /// The low byte alone.
+    Low,
+    /// The high byte alone.
+    High,
+}
+
+/// At place `at` of the bytes stands the number `(origin + to) mod 65,536`.
+#[derive(Clone, Copy, Debug)]
+pub struct Fix {
+    /// The place in the bytes, counted from 0.
+    pub at: u32,
+    pub kind: FixKind,
+    pub to: u16,
+}
+
+/// Fixes in ascending places. Contracts see the list.
+#[derive(Drop)]
+pub struct FixList {
+    fixes: Vec<Fix>,
+}
+
+impl Model for FixList {
+    ghost use Rattle.std.specs.Prelude.{List};
+    ghost use Rattle.asm6502.specs.declared.fixes.Fix.{Fix};
+
+    ghost Value = { List Fix };
+
+    ghost view = { λ list. list.fixes.items };
+}
+
+impl FixList {
+    ghost use Rattle.std.specs.Prelude.{◌≡◌, [], ◌∷◌, ◌++◌, OnOk, OnErr};
+
+    /// No fixes.
+    pub(crate) fn new(alloc: Global) -> FixList
+        ensures { result ≡ [] }
+    {
+        FixList {
+            fixes: Vec::new(alloc),
+        }
+    }
+
+    /// Appends a fix.
+    pub(crate) fn push(&mut self, fix: Fix) -> Result<(), NoMemory>
+        ensures ok { OnOk result (self.new ≡ self.old ++ fix ∷ []) }
+        ensures err { OnErr result (self.new ≡ self.old) }
+    {
+        self.fixes.push(fix)?;
+        Ok(())
+    }
+
+    /// The fixes in order.
+    pub fn as_slice(&self) -> &[Fix]
+        ensures { result.now ≡ self.now }
+    {
+        self.fixes.as_slice()
+    }
+}
