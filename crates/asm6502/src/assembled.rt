@@ -3,15 +3,15 @@
 ghost use Rattle.std.specs.Prelude.{◌≤◌, ◌+◌, length};
 ghost use Rattle.asm6502.specs.Fixes.{InOrder, InOrder-prop, NumbersStand, NumbersStand-prop};
 
-use crate::bytes::CodeBytes;
 use crate::fixes::FixList;
+use song_model::ByteList;
 
 /// The bytes of a listing that was assembled to stand at an origin. At the place of each fix stands its number.
 #[derive(Drop)]
 pub struct Assembled {
     /// The address of the first byte.
     pub origin: u16,
-    pub bytes: CodeBytes,
+    pub bytes: ByteList,
     pub fixes: FixList,
     ghost fits: { origin + length bytes ≤ 65536 },
     ghost in_order: { InOrder 0 (length bytes) fixes } by { InOrder-prop 0 (length bytes) fixes },

@@ -12,7 +12,6 @@
 
 mod assembled;
 mod assembling;
-mod bytes;
 mod encodings;
 mod faults;
 mod fixes;
@@ -27,9 +26,9 @@ mod tests;
 
 pub use assembled::Assembled;
 pub use assembling::assemble;
-pub use bytes::CodeBytes;
 pub use encodings::{decode, encode};
 pub use faults::{AsmFault, PastEnd};
 pub use fixes::{Fix, FixKind, FixList};
 pub use instructions::{Encoded, Instr};
 pub use lines::{Item, Line, Listing, Operand};
+pub use song_model::{ByteList, FeatureBits};

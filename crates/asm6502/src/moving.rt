@@ -4,9 +4,9 @@ ghost use Rattle.std.specs.Prelude.{◌≡◌, ◌≤◌, ◌+◌, length};
 ghost use Rattle.asm6502.specs.Fixes.{InOrder, width_of, with_number, with_numbers};
 
 use crate::assembled::Assembled;
-use crate::bytes::CodeBytes;
 use crate::faults::PastEnd;
 use crate::fixes::{Fix, FixKind};
+use song_model::ByteList;
 
 impl Assembled {
     ghost use Rattle.std.specs.Prelude.{◌≡◌, ◌≤◌, ◌+◌, ◌↔◌, length, OnOk, OnErr, IfErr, IsOk};
@@ -32,7 +32,7 @@ impl Assembled {
 }
 
 /// Puts the number of each fix at its place.
-fn put_numbers(bytes: &mut CodeBytes, fixes: &[Fix], origin: u16)
+fn put_numbers(bytes: &mut ByteList, fixes: &[Fix], origin: u16)
     requires { InOrder 0 (length bytes.old) fixes.now }
     ensures { bytes.new ≡ with_numbers origin bytes.old fixes.now }
 {
@@ -43,7 +43,7 @@ fn put_numbers(bytes: &mut CodeBytes, fixes: &[Fix], origin: u16)
 }
 
 /// Puts a number at a place.
-fn put_number(bytes: &mut CodeBytes, kind: FixKind, at: u32, number: u16)
+fn put_number(bytes: &mut ByteList, kind: FixKind, at: u32, number: u16)
     requires { at + width_of kind ≤ length bytes.old }
     ensures { bytes.new ≡ with_number kind bytes.old at number }
 {

@@ -6,7 +6,6 @@ ghost use Rattle.asm6502.specs.Faults.{first_fault, bad_line, far_by};
 ghost use Rattle.asm6502.specs.declared.faults.AsmFault.TheVariants.{NoMemory};
 ghost use Rattle.asm6502.specs.Places.{IsWritten, address_by};
 
-use crate::bytes::CodeBytes;
 use crate::encodings::encode;
 use crate::faults::AsmFault;
 use crate::fixes::FixList;
@@ -14,13 +13,13 @@ use crate::instructions::Instr;
 use crate::labels::Labels;
 use crate::lines::{Item, Line, Operand};
 use cpu6502::{Mnemonic, Mode};
-use song_model::FeatureBits;
+use song_model::{ByteList, FeatureBits};
 use std::alloc::Global;
 
 /// What is written so far.
 #[derive(Drop)]
 pub(crate) struct Output {
-    pub(crate) bytes: CodeBytes,
+    pub(crate) bytes: ByteList,
     pub(crate) fixes: FixList,
 }
 
@@ -40,7 +39,7 @@ impl Output {
         ensures fixes { result.fixes ≡ [] }
     {
         Output {
-            bytes: CodeBytes::new(alloc),
+            bytes: ByteList::new(alloc),
             fixes: FixList::new(alloc),
         }
     }
