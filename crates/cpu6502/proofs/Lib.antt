@@ -7,3 +7,5 @@ pub mod Instructions
 pub mod Standing
 pub mod Entry
 pub mod Inverse
+pub mod Causes
+pub mod Sums

@@ -1,4 +1,4 @@
--- Sums and differences with the carry.
+-- Sums and differences with the carry: ADC and SBC. Source: the MOS 6502 programming manual.
 use Rattle.std.specs.Prelude.{ℕ, ◌+◌, ◌-◌, ◌%◌, Bool, ◌&&◌, Option, Some, None, nat_le, nat_lt, if◌then◌else◌}
 use Rattle.cpu6502.specs.declared.mnemonic.Mnemonic.{Mnemonic}
 use Rattle.cpu6502.specs.declared.mnemonic.Mnemonic.TheVariants.{Adc, Sbc}
@@ -16,11 +16,11 @@ abbrev pub with_sum : Cpu → ℕ → ℕ → Cpu
 with_sum cpu byte sum =
     with_a (record cpu { v = overflows cpu.a byte (sum % 256); c = nat_le 256 sum }) (sum % 256)
 
--- A and a byte and the carry
+-- the registers after A, a byte and the carry are added: the sum in A, with N, Z, C and V
 abbrev pub added : Cpu → ℕ → Cpu
 added cpu byte = with_sum cpu byte (cpu.a + byte + one_if cpu.c)
 
--- a difference is the sum with the byte's complement: A - M - (1 - C) is A + (255 - M) + C - 256
+-- what ADC and SBC do with the byte at a place; none for any other name. A difference is the sum with the byte's complement: A - M - (1 - C) is A + (255 - M) + C - 256
 abbrev pub arithmetic_effect : Mnemonic → ℕ → (ℕ → ℕ) → Cpu → Option Effect
 arithmetic_effect Adc place at cpu = Some (quiet (added cpu (at place)))
 arithmetic_effect Sbc place at cpu = Some (quiet (added cpu (255 - at place)))

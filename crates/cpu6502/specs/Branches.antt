@@ -1,4 +1,4 @@
--- Branches, each on one flag.
+-- Branches, each on one flag. Source: the MOS 6502 programming manual.
 use Rattle.std.specs.Prelude.{ℕ, Bool, not, Option, Some, None, if◌then◌else◌}
 use Rattle.cpu6502.specs.declared.mnemonic.Mnemonic.{Mnemonic}
 use Rattle.cpu6502.specs.declared.mnemonic.Mnemonic.TheVariants.{Bcc, Bcs, Beq, Bmi, Bne, Bpl, Bvc, Bvs}
@@ -10,6 +10,7 @@ use Rattle.cpu6502.specs.Registers.{quiet}
 abbrev pub branched : Cpu → Bool → ℕ → Cpu
 branched cpu taken place = if taken then record cpu { pc = place } else cpu
 
+-- what a branch to a place does: it is taken where its flag is clear or set, as its name says, and writes nothing; none for any other name
 abbrev pub branch_effect : Mnemonic → ℕ → Cpu → Option Effect
 branch_effect Bcc place cpu = Some (quiet (branched cpu (not cpu.c) place))
 branch_effect Bcs place cpu = Some (quiet (branched cpu cpu.c place))

@@ -1,4 +1,4 @@
--- A call of machine code: how a machine enters it, what it is to return, and how a call that does not return ends.
+-- A call of machine code: how a machine enters it, what it is to return, and how a call that does not return ends. JSR and RTS are those of the MOS 6502 programming manual; the return address $FFFF, which RTS makes 0, is this project's own.
 use Rattle.std.specs.Prelude.{◌≡◌, ℕ, zero, suc, ◌+◌, ◌%◌, ◌<◌, List, [], ◌∷◌, ◌++◌, Result, Ok, Err}
 use Rattle.cpu6502.specs.declared.effect.Write.{Write}
 use Rattle.cpu6502.specs.declared.effect.Effect.{Effect}
@@ -36,7 +36,7 @@ pub record HasReturned (machine after : Machine) : Type 0 where
   pub at_zero : after.cpu.pc ≡ 0
   pub same_stack : after.cpu.sp ≡ machine.cpu.sp
 
--- no machine of the first so many steps, of those that the call is entered at and passes, has returned
+-- a call is not back before it has made so many steps: the machine that it is entered at, after 0 steps, has not returned, nor has that after 1 step, and so on up to one less than this number
 pub record IsOutFor (machine : Machine) (address a steps : ℕ) : Type 0 where
   pub out : (k : ℕ) (between : Machine) → k < steps → run k (entered machine address a) ≡ Ok between → HasReturned machine between → ⊥
 
@@ -46,7 +46,7 @@ pub record Called (machine : Machine) (address a steps : ℕ) (after : Machine) 
   pub returned : HasReturned machine after
   pub first : IsOutFor machine address a steps
 
--- a call meets a stop after so many steps, in this machine
+-- a call makes so many steps, and its next one meets a stop, in this machine; no machine on the way has returned, nor has this one
 pub record MeetsStop (machine : Machine) (address a steps : ℕ) (stop : Stop) (after : Machine) : Type 0 where
   pub runs : run steps (entered machine address a) ≡ Ok after
   pub stops : step after ≡ Err stop

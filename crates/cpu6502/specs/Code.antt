@@ -1,4 +1,4 @@
--- Instructions that stand in memory, as they are decoded and not as bytes.
+-- Instructions that stand in memory, as they are decoded and not as bytes. Source: the MOS 6502 programming manual, whose modes say what an operand is.
 use Rattle.std.specs.Prelude.{◌≡◌, ℕ, zero, suc, ◌+◌, ◌%◌, ◌<◌, List, [], ◌∷◌, length, Some, slice_index, All}
 use Rattle.cpu6502.specs.declared.machine.Machine.{Machine}
 use Rattle.cpu6502.specs.declared.mnemonic.Mnemonic.{Mnemonic}
@@ -17,11 +17,11 @@ pub record IsMachine (machine : Machine) : Type 0 where
   pub sp : machine.cpu.sp < 256
   pub pc : machine.cpu.pc < 65536
 
--- a memory holds these bytes from an address on
+-- a memory holds these bytes from an address on, one place after the other; places are not taken mod 65,536, so bytes that would go beyond the last place are held by no memory of that size
 pub record Holds (memory : List ℕ) (address : ℕ) (bytes : List ℕ) : Type 0 where
   pub byte : (k : ℕ) → k < length bytes → slice_index memory (address + k) ≡ slice_index bytes k
 
--- so many bytes from a place on
+-- so many bytes from a place on, one place after the other; places are not taken mod 65,536
 abbrev pub bytes_at : (ℕ → ℕ) → ℕ → ℕ → List ℕ
 bytes_at at place zero = []
 bytes_at at place (suc n) = at place ∷ bytes_at at (place + 1) n
@@ -53,7 +53,7 @@ pub record Stands (at : ℕ → ℕ) (pc : ℕ) (mnemonic : Mnemonic) (mode : Mo
   pub decoded : meaning_of (at pc) ≡ Some (mnemonic, mode)
   pub operand_is : operand_at mode at pc ≡ operand
 
--- these instructions stand from pc on, one behind the other
+-- these instructions stand from pc on, each where the one before it ends; places are not taken mod 65,536, so this is for code that ends below the end of memory
 abbrev pub CodeAt : (ℕ → ℕ) → ℕ → List Instruction → Type 0
 CodeAt at pc [] = Unit {0}
 CodeAt at pc (i ∷ rest) = Stands at pc i.mnemonic i.mode i.operand × CodeAt at (pc + length_of i.mode) rest

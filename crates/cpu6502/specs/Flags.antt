@@ -1,4 +1,4 @@
--- Flags that are cleared or set, and no operation.
+-- Flags that are cleared or set, and no operation. Source: the MOS 6502 programming manual.
 use Rattle.std.specs.Prelude.{true, false, Option, Some, None}
 use Rattle.cpu6502.specs.declared.mnemonic.Mnemonic.{Mnemonic}
 use Rattle.cpu6502.specs.declared.mnemonic.Mnemonic.TheVariants.{Clc, Cld, Cli, Clv, Sec, Sed, Sei, Nop}
@@ -6,6 +6,7 @@ use Rattle.cpu6502.specs.declared.cpu.Cpu.{Cpu}
 use Rattle.cpu6502.specs.declared.effect.Effect.{Effect}
 use Rattle.cpu6502.specs.Registers.{quiet}
 
+-- what the instructions do that clear or set one flag, and NOP, which does nothing; none for any other name
 abbrev pub flag_effect : Mnemonic → Cpu → Option Effect
 flag_effect Clc cpu = Some (quiet (record cpu { c = false }))
 flag_effect Cld cpu = Some (quiet (record cpu { d = false }))

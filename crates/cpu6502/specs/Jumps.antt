@@ -1,4 +1,4 @@
--- Jumps, the call, and the returns.
+-- Jumps, the call, and the returns. Source: the MOS 6502 programming manual.
 use Rattle.std.specs.Prelude.{ℕ, ◌+◌, ◌*◌, ◌/◌, ◌%◌, [], ◌∷◌, Option, Some, None}
 use Rattle.cpu6502.specs.declared.mnemonic.Mnemonic.{Mnemonic}
 use Rattle.cpu6502.specs.declared.mnemonic.Mnemonic.TheVariants.{Jmp, Jsr, Rts, Rti}
@@ -31,6 +31,7 @@ pulled_interrupt at cpu =
     })
     (at (stack_place (cpu.sp + 1)))
 
+-- what JMP and JSR to a place do, and RTS and RTI; own is the place of the opcode, so that own + 2 is the last byte of a JSR; none for any other name
 abbrev pub jump_effect : Mnemonic → ℕ → ℕ → (ℕ → ℕ) → Cpu → Option Effect
 jump_effect Jmp own place at cpu = Some (quiet (record cpu { pc = place }))
 jump_effect Jsr own place at cpu = Some (called cpu ((own + 2) % 65536) place)

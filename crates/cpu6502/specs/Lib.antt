@@ -18,3 +18,5 @@ pub mod Log
 pub mod Runs
 pub mod Code
 pub mod Encoding
+pub mod Stops
+pub mod Sums

@@ -1,4 +1,4 @@
--- Loads and stores.
+-- Loads and stores. Source: the MOS 6502 programming manual.
 use Rattle.std.specs.Prelude.{ℕ, Option, Some, None}
 use Rattle.cpu6502.specs.declared.mnemonic.Mnemonic.{Mnemonic}
 use Rattle.cpu6502.specs.declared.mnemonic.Mnemonic.TheVariants.{Lda, Ldx, Ldy, Sta, Stx, Sty}
@@ -6,7 +6,7 @@ use Rattle.cpu6502.specs.declared.cpu.Cpu.{Cpu}
 use Rattle.cpu6502.specs.declared.effect.Effect.{Effect}
 use Rattle.cpu6502.specs.Registers.{with_a, with_x, with_y, quiet, storing}
 
--- a byte into a register, with N and Z; a register into memory
+-- what loads and stores do: a byte into a register, with N and Z, or a register into memory; none for any other name
 abbrev pub load_effect : Mnemonic → ℕ → (ℕ → ℕ) → Cpu → Option Effect
 load_effect Lda place at cpu = Some (quiet (with_a cpu (at place)))
 load_effect Ldx place at cpu = Some (quiet (with_x cpu (at place)))

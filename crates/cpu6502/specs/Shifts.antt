@@ -1,4 +1,4 @@
--- Shifts and rotations by one bit, of a byte in memory or of the accumulator.
+-- Shifts and rotations by one bit, of a byte in memory or of the accumulator. Source: the MOS 6502 programming manual.
 use Rattle.std.specs.Prelude.{ℕ, ◌+◌, ◌*◌, ◌/◌, ◌%◌, Bool, Option, Some, None, Result, Ok, Err, nat_eq, nat_le}
 use Rattle.cpu6502.specs.declared.mnemonic.Mnemonic.{Mnemonic}
 use Rattle.cpu6502.specs.declared.mnemonic.Mnemonic.TheVariants.{Asl, Lsr, Rol, Ror}
@@ -22,13 +22,15 @@ shifted_in_memory None place cpu = None
 shifted_in_memory (Some after) place cpu =
     Some (storing (with_sign_and_zero (record cpu { c = after.1 }) after.0) place after.0)
 
+-- what a shift of the byte at a place does; none for any other name
 abbrev pub shift_effect : Mnemonic → ℕ → (ℕ → ℕ) → Cpu → Option Effect
 shift_effect mnemonic place at cpu = shifted_in_memory (shifted mnemonic (at place) cpu.c) place cpu
 
--- the same of the accumulator
+-- in the accumulator the byte is not written to memory; C is the bit that left it
 abbrev pub shifted_in_a : Option (ℕ × Bool) → ℕ → Cpu → Result Effect Stop
 shifted_in_a None own cpu = Err (Illegal own)
 shifted_in_a (Some after) own cpu = Ok (quiet (with_a (record cpu { c = after.1 }) after.0))
 
+-- what a shift of the accumulator does; any other name stops as Illegal, and no row has one
 abbrev pub accumulator_effect : Mnemonic → ℕ → Cpu → Result Effect Stop
 accumulator_effect mnemonic own cpu = shifted_in_a (shifted mnemonic cpu.a cpu.c) own cpu

@@ -1,4 +1,4 @@
--- Pushes and pulls of A and of the flags. The stack wraps in page 1.
+-- Pushes and pulls of A and of the flags. The stack wraps in page 1. Source: the MOS 6502 programming manual.
 use Rattle.std.specs.Prelude.{ℕ, ◌+◌, ◌*◌, ◌/◌, ◌%◌, Option, Some, None, nat_eq}
 use Rattle.cpu6502.specs.declared.mnemonic.Mnemonic.{Mnemonic}
 use Rattle.cpu6502.specs.declared.mnemonic.Mnemonic.TheVariants.{Pha, Php, Pla, Plp}
@@ -26,10 +26,11 @@ with_status cpu byte = record cpu {
 abbrev pub pushing : Cpu → ℕ → Effect
 pushing cpu byte = storing (record cpu { sp = (cpu.sp + 255) % 256 }) (stack_place cpu.sp) byte
 
--- the registers behind a pull of so many bytes
+-- the registers after a pull of so many bytes, but for what is pulled: the stack pointer alone moves
 abbrev pub pulled : Cpu → ℕ → Cpu
 pulled cpu count = record cpu { sp = (cpu.sp + count) % 256 }
 
+-- what PHA, PHP, PLA and PLP do: a push writes where the stack pointer is and then lowers it, a pull raises it and then reads; none for any other name
 abbrev pub stack_effect : Mnemonic → (ℕ → ℕ) → Cpu → Option Effect
 stack_effect Pha at cpu = Some (pushing cpu cpu.a)
 stack_effect Php at cpu = Some (pushing cpu (status_of cpu))

@@ -1,4 +1,4 @@
--- From one register to another: N and Z are set, but not by TXS.
+-- From one register to another: N and Z are set, but not by TXS. Source: the MOS 6502 programming manual.
 use Rattle.std.specs.Prelude.{Option, Some, None}
 use Rattle.cpu6502.specs.declared.mnemonic.Mnemonic.{Mnemonic}
 use Rattle.cpu6502.specs.declared.mnemonic.Mnemonic.TheVariants.{Tax, Tay, Tsx, Txa, Txs, Tya}
@@ -6,6 +6,7 @@ use Rattle.cpu6502.specs.declared.cpu.Cpu.{Cpu}
 use Rattle.cpu6502.specs.declared.effect.Effect.{Effect}
 use Rattle.cpu6502.specs.Registers.{with_a, with_x, with_y, quiet}
 
+-- what the six transfers do; none for any other name
 abbrev pub transfer_effect : Mnemonic → Cpu → Option Effect
 transfer_effect Tax cpu = Some (quiet (with_x cpu cpu.a))
 transfer_effect Tay cpu = Some (quiet (with_y cpu cpu.a))

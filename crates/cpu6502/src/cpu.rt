@@ -1,13 +1,19 @@
 ghost use Rattle.std.specs.Prelude.{◌≡◌, ◌≤◌};
 ghost use Rattle.cpu6502.specs.Registers.{one_if, with_sign_and_zero, with_a, with_x, with_y};
 
-/// The registers: accumulator, two index registers, stack pointer (into page 1), program counter, and the flags.
+/// The registers of the MOS 6502 programming manual: accumulator, two index registers, stack pointer, program counter,
+/// and the flags.
 #[derive(Clone, Copy, Debug, PartialEq, Eq)]
 pub struct Cpu {
+    /// The accumulator A.
     pub a: u8,
+    /// The index register X.
     pub x: u8,
+    /// The index register Y.
     pub y: u8,
+    /// The stack pointer: the next push writes at `$0100` plus this.
     pub sp: u8,
+    /// The program counter: the address of the next opcode.
     pub pc: u16,
     /// Negative: bit 7 of the last result.
     pub n: bool,

@@ -3,7 +3,8 @@ ghost use Rattle.cpu6502.specs.Opcodes.{meaning_of, data_row, other_row, load_ro
 
 use crate::mnemonic::{Mnemonic, Mode};
 
-/// The instruction that an opcode byte stands for, and how it finds its operand; `None` where the opcode has no row.
+/// The instruction that an opcode byte stands for in the MOS 6502 programming manual, and how it finds its operand;
+/// `None` where the opcode has no row there.
 pub fn meaning(opcode: u8) -> Option<(Mnemonic, Mode)>
     ensures { result ≡ meaning_of opcode }
 {

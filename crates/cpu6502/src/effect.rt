@@ -9,7 +9,9 @@ use std::marker::Model;
 /// One byte written to memory.
 #[derive(Clone, Copy, Debug, PartialEq, Eq)]
 pub struct Write {
+    /// The address.
     pub place: u16,
+    /// The byte.
     pub value: u8,
 }
 
@@ -93,7 +95,9 @@ impl Writes {
 /// What an instruction does: the registers after it, and what it writes.
 #[derive(Drop)]
 pub struct Effect {
+    /// The registers after the instruction.
     pub cpu: Cpu,
+    /// What it writes to memory.
     pub writes: Writes,
 }
 

@@ -3,7 +3,8 @@ ghost use Rattle.cpu6502.specs.Encoding.{opcode_of, register_opcode, implied_opc
 
 use crate::mnemonic::{Mnemonic, Mode};
 
-/// The opcode byte of an instruction in an addressing mode; `None` where the instruction has no such mode.
+/// The opcode byte of an instruction in an addressing mode, by the MOS 6502 programming manual; `None` where the
+/// instruction has no such mode there.
 pub fn opcode(mnemonic: Mnemonic, mode: Mode) -> Option<u8>
     ensures { result ≡ opcode_of mnemonic mode }
 {

@@ -14,7 +14,9 @@ const SID_LAST: u16 = 0xD418;
 /// A value written to a register of the SID, 0 to 24.
 #[derive(Clone, Copy, Debug, Default, PartialEq, Eq)]
 pub struct SidWrite {
+    /// The register's number, 0 at `$D400` to 24 at `$D418`.
     pub register: u8,
+    /// The byte.
     pub value: u8,
 }
 
@@ -79,7 +81,9 @@ impl SidWrites {
 /// What a call wrote to the SID: the first 512 writes, and how many more there were, counted up to 4,294,967,295.
 #[derive(Drop)]
 pub struct WriteLog {
+    /// The first 512 writes, in order.
     pub writes: SidWrites,
+    /// How many more there were; it stays at 4,294,967,295.
     pub beyond: u32,
 }
 

@@ -15,7 +15,9 @@ use crate::stop::{CallStop, Stop};
 /// A processor and its memory.
 #[derive(Drop)]
 pub struct Machine {
+    /// The registers.
     pub cpu: Cpu,
+    /// The 65,536 bytes.
     pub memory: Memory,
 }
 
@@ -24,6 +26,9 @@ const RETURN_BYTE: u8 = 0xFF;
 
 impl Machine {
     /// Does the instruction at the program counter.
+    ///
+    /// Errors: [`Stop::Illegal`] at an opcode with no row, [`Stop::Break`] at BRK, and [`Stop::Decimal`] at ADC or SBC
+    /// with the decimal flag set. The machine stays as it was.
     pub fn step(&mut self) -> Result<(), Stop>
         ensures done { OnOk result (step self.old ≡ Ok self.new) }
         ensures stopped { IfErr result (λ stop. step self.old ≡ Err stop) }
@@ -37,6 +42,9 @@ impl Machine {
     /// Calls the code at an address with a number in the accumulator: pushes `$FF` twice and steps until the program
     /// counter is 0 and the stack pointer is what it was before the pushes. Answers the number of steps, at most
     /// `budget`. The log is emptied first, and then holds what the call writes to the SID, up to its end or its stop.
+    ///
+    /// Errors: [`CallStop::Stopped`] where a step stops before the call has returned, and [`CallStop::Budget`] where
+    /// `budget` steps are made and it has not. The machine stays where the last step left it.
     pub fn call(
         &mut self,
         address: u16,

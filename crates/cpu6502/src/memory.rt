@@ -22,6 +22,8 @@ impl Model for Memory {
 
 impl Memory {
     /// Memory with this value in each byte.
+    ///
+    /// Errors: [`NoMemory`] where the allocator has no room for the 65,536 bytes.
     pub fn filled(alloc: Global, value: u8) -> Result<Memory, NoMemory>
         ensures size { IfOk result (λ memory. length memory ≡ 65536) }
         ensures bytes { IfOk result (All (λ byte. byte ≡ value)) }

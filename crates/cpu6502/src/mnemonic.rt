@@ -59,17 +59,26 @@ pub enum Mnemonic {
     Tya,
 }
 
-/// How an instruction finds its operand.
+/// How an instruction finds its operand: the addressing modes of the MOS 6502 programming manual.
 #[derive(Clone, Copy, Debug)]
 pub enum Mode {
+    /// No operand: the name says it all.
     Implied,
+    /// `A`: the accumulator, of the four shifts alone.
     Accumulator,
+    /// `#byte`: the byte after the opcode.
     Immediate,
+    /// `place`: a byte of page 0.
     ZeroPage,
+    /// `place,X`: the byte of page 0 at the place plus X, mod 256.
     ZeroPageX,
+    /// `place,Y`: the byte of page 0 at the place plus Y, mod 256.
     ZeroPageY,
+    /// `address`: the byte at an address, whose low byte stands first; for JMP and JSR the address itself.
     Absolute,
+    /// `address,X`: the byte at an address plus X, mod 65,536.
     AbsoluteX,
+    /// `address,Y`: the byte at an address plus Y, mod 65,536.
     AbsoluteY,
     /// `(place,X)`: the address stands in page 0 at the place plus X.
     IndirectX,

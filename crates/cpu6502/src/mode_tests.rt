@@ -3,7 +3,7 @@ use std::alloc::Global;
 use std::process::Abort;
 use std::test::Fail;
 
-/// Registers whose X and Y take each indexed mode over the end of its page or of memory.
+/// Registers whose X and Y take each indexed mode over the end of page 0 or of memory.
 const BASE: Cpu = Cpu {
     a: 0x5A,
     x: 5,
@@ -39,9 +39,9 @@ fn places() -> [([u8; 2], u16, u16); 9] {
         ([0xFE, 0], 0x0005, 2),
         ([0x45, 0x23], 0x2345, 3),
         ([0xFE, 0xFF], 0x0003, 3),
-        ([0xFD, 0x20], 0x2104, 3),
-        ([0xFA, 0], 0x3456, 2),
-        ([0xFF, 0], 0x345D, 2),
+        ([0xFD, 0xFF], 0x0004, 3),
+        ([0xFA, 0], 0xFFFC, 2),
+        ([0xFF, 0], 0x0003, 2),
     ]
 }
 
@@ -67,8 +67,8 @@ fn writing(name: &'static str, opcodes: [u8; 9], byte: u8, left: u8, after: Cpu)
     }
 }
 
-/// Loads and stores.
-fn load_cases() -> [Case; 6] {
+/// Loads.
+fn load_cases() -> [Case; 3] {
     [
         reading(
             "LDA",
@@ -100,6 +100,12 @@ fn load_cases() -> [Case; 6] {
                 ..BASE
             },
         ),
+    ]
+}
+
+/// Stores.
+fn store_cases() -> [Case; 3] {
+    [
         writing(
             "STA",
             [0, 0x85, 0x95, 0, 0x8D, 0x9D, 0x99, 0x81, 0x91],
@@ -124,8 +130,8 @@ fn load_cases() -> [Case; 6] {
     ]
 }
 
-/// Sums, differences and comparisons.
-fn sum_cases() -> [Case; 5] {
+/// Sums and differences.
+fn sum_cases() -> [Case; 2] {
     [
         reading(
             "ADC",
@@ -144,6 +150,12 @@ fn sum_cases() -> [Case; 5] {
                 ..BASE
             },
         ),
+    ]
+}
+
+/// Comparisons, and the test of bits.
+fn compare_cases() -> [Case; 4] {
+    [
         reading(
             "CMP",
             [0xC9, 0xC5, 0xD5, 0, 0xCD, 0xDD, 0xD9, 0xC1, 0xD1],
@@ -166,11 +178,21 @@ fn sum_cases() -> [Case; 5] {
             0x07,
             Cpu { z: true, ..BASE },
         ),
+        reading(
+            "BIT",
+            [0, 0x24, 0, 0, 0x2C, 0, 0, 0, 0],
+            0xA5,
+            Cpu {
+                n: true,
+                z: true,
+                ..BASE
+            },
+        ),
     ]
 }
 
 /// Bit by bit.
-fn logic_cases() -> [Case; 4] {
+fn logic_cases() -> [Case; 3] {
     [
         reading(
             "AND",
@@ -198,21 +220,16 @@ fn logic_cases() -> [Case; 4] {
                 ..BASE
             },
         ),
-        reading(
-            "BIT",
-            [0, 0x24, 0, 0, 0x2C, 0, 0, 0, 0],
-            0xA5,
-            Cpu {
-                n: true,
-                z: true,
-                ..BASE
-            },
-        ),
     ]
 }
 
-/// Shifts, rotations and counts in memory.
-fn shift_cases() -> [Case; 6] {
+/// Shifts and rotations in memory.
+fn shift_cases() -> [Case; 4] {
+    let rotated = Cpu {
+        n: true,
+        c: false,
+        ..BASE
+    };
     [
         writing(
             "ASL",
@@ -233,23 +250,21 @@ fn shift_cases() -> [Case; 6] {
             [0, 0x26, 0x36, 0, 0x2E, 0x3E, 0, 0, 0],
             0x40,
             0x81,
-            Cpu {
-                n: true,
-                c: false,
-                ..BASE
-            },
+            rotated,
         ),
         writing(
             "ROR",
             [0, 0x66, 0x76, 0, 0x6E, 0x7E, 0, 0, 0],
             0x02,
             0x81,
-            Cpu {
-                n: true,
-                c: false,
-                ..BASE
-            },
+            rotated,
         ),
+    ]
+}
+
+/// Counts in memory.
+fn count_cases() -> [Case; 2] {
+    [
         writing(
             "DEC",
             [0, 0xC6, 0xD6, 0, 0xCE, 0xDE, 0, 0, 0],
@@ -268,7 +283,7 @@ fn shift_cases() -> [Case; 6] {
 }
 
 /// One step of a case with one of its opcodes: what it answers, the registers after it, and the byte at the operand's
-/// place. The pointers of the two indirect modes stand at the last and the first place of page 0.
+/// place. The pointer of the two indirect modes is $FFFC, and stands at the last and the first place of page 0.
 fn in_mode(
     alloc: Global,
     case: Case,
@@ -277,8 +292,8 @@ fn in_mode(
     place: u16,
 ) -> Result<(Result<(), Stop>, Cpu, u8), NoMemory> {
     let mut memory = Memory::filled(alloc, 0x02)?;
-    memory.write(0x00FF, 0x56);
-    memory.write(0x0000, 0x34);
+    memory.write(0x00FF, 0xFC);
+    memory.write(0x0000, 0xFF);
     memory.write(0x1000, opcode);
     memory.write(0x1001, operand[0]);
     memory.write(0x1002, operand[1]);
@@ -315,13 +330,22 @@ fn instructions_in_each_mode(rt: HostRuntime) -> Result<(), Fail> {
     for case in load_cases() {
         check_case(&rt, rt.alloc(), case)?;
     }
+    for case in store_cases() {
+        check_case(&rt, rt.alloc(), case)?;
+    }
     for case in sum_cases() {
+        check_case(&rt, rt.alloc(), case)?;
+    }
+    for case in compare_cases() {
         check_case(&rt, rt.alloc(), case)?;
     }
     for case in logic_cases() {
         check_case(&rt, rt.alloc(), case)?;
     }
     for case in shift_cases() {
+        check_case(&rt, rt.alloc(), case)?;
+    }
+    for case in count_cases() {
         check_case(&rt, rt.alloc(), case)?;
     }
     Ok(())

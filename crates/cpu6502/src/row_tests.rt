@@ -1,8 +1,36 @@
 use super::*;
-use crate::tests::{ELSEWHERE, Row, START, quiet, stepped};
+use crate::tests::{ELSEWHERE, Row, START, check_row, quiet, stepped};
 use std::alloc::Global;
 use std::process::Abort;
 use std::test::Fail;
+
+/// A register of one byte.
+#[derive(Clone, Copy)]
+enum Register {
+    A,
+    X,
+    Y,
+    S,
+}
+
+// The registers' names in the tables.
+const A: Register = Register::A;
+
+const X: Register = Register::X;
+
+const Y: Register = Register::Y;
+
+const S: Register = Register::S;
+
+/// Registers with a byte in one of them.
+fn put(cpu: Cpu, register: Register, byte: u8) -> Cpu {
+    match register {
+        Register::A => Cpu { a: byte, ..cpu },
+        Register::X => Cpu { x: byte, ..cpu },
+        Register::Y => Cpu { y: byte, ..cpu },
+        Register::S => Cpu { sp: byte, ..cpu },
+    }
+}
 
 /// A row of an instruction of one byte that writes nothing.
 fn implied(name: &'static str, opcode: u8, before: Cpu, after: Cpu) -> Row {
@@ -17,57 +45,40 @@ fn implied(name: &'static str, opcode: u8, before: Cpu, after: Cpu) -> Row {
     )
 }
 
-/// A row of an instruction that writes a byte.
-fn pushing(row: Row, place: u16, byte: u8) -> Row {
+/// A row of an instruction of one byte that leaves a byte in a register, from a byte in one; and N, Z and C after it.
+fn change(
+    name: &'static str,
+    opcode: u8,
+    from: (Register, u8),
+    to: (Register, u8),
+    flags: [bool; 3],
+) -> Row {
+    let before = put(START, from.0, from.1);
+    let filled = put(before, to.0, to.1);
+    let [n, z, c] = flags;
+    implied(name, opcode, before, Cpu { n, z, c, ..filled })
+}
+
+/// A row of an instruction at $1000 with the operand $1234 that writes a byte, and moves the stack pointer and the
+/// program counter.
+fn pushing(name: &'static str, opcode: u8, sp: (u8, u8), pc: u16, place: u16, byte: u8) -> Row {
+    let before = Cpu { sp: sp.0, ..START };
+    let after = Cpu {
+        sp: sp.1,
+        pc,
+        ..START
+    };
+    let row = quiet(name, [opcode, 0x34, 0x12], before, after);
     Row { place, byte, ..row }
 }
 
-/// Shifts of the accumulator, $5A with the carry set, and counts of X and Y.
-fn accumulator_rows() -> [Row; 9] {
+/// Shifts of the accumulator.
+fn accumulator_rows() -> [Row; 5] {
     [
-        implied(
-            "ASL A",
-            0x0A,
-            START,
-            Cpu {
-                a: 0xB4,
-                n: true,
-                c: false,
-                ..START
-            },
-        ),
-        implied(
-            "LSR A",
-            0x4A,
-            START,
-            Cpu {
-                a: 0x2D,
-                c: false,
-                ..START
-            },
-        ),
-        implied(
-            "ROL A",
-            0x2A,
-            START,
-            Cpu {
-                a: 0xB5,
-                n: true,
-                c: false,
-                ..START
-            },
-        ),
-        implied(
-            "ROR A",
-            0x6A,
-            START,
-            Cpu {
-                a: 0xAD,
-                n: true,
-                c: false,
-                ..START
-            },
-        ),
+        change("ASL A", 0x0A, (A, 0x5A), (A, 0xB4), [true, false, false]),
+        change("LSR A", 0x4A, (A, 0x5A), (A, 0x2D), [false, false, false]),
+        change("ROL A", 0x2A, (A, 0x5A), (A, 0xB5), [true, false, false]),
+        change("ROR A", 0x6A, (A, 0x5A), (A, 0xAD), [true, false, false]),
         implied(
             "ROR A without a carry",
             0x6A,
@@ -79,115 +90,33 @@ fn accumulator_rows() -> [Row; 9] {
             Cpu {
                 a: 0x00,
                 z: true,
-                c: true,
-                ..START
-            },
-        ),
-        implied(
-            "INX past $FF",
-            0xE8,
-            Cpu { x: 0xFF, ..START },
-            Cpu {
-                x: 0x00,
-                z: true,
-                ..START
-            },
-        ),
-        implied(
-            "INY past $7F",
-            0xC8,
-            Cpu { y: 0x7F, ..START },
-            Cpu {
-                y: 0x80,
-                n: true,
-                ..START
-            },
-        ),
-        implied(
-            "DEX below 0",
-            0xCA,
-            Cpu { x: 0x00, ..START },
-            Cpu {
-                x: 0xFF,
-                n: true,
-                ..START
-            },
-        ),
-        implied(
-            "DEY below 0",
-            0x88,
-            Cpu { y: 0x00, ..START },
-            Cpu {
-                y: 0xFF,
-                n: true,
                 ..START
             },
         ),
     ]
 }
 
-/// From one register to another.
+/// Counts of X and Y.
+fn count_rows() -> [Row; 6] {
+    [
+        change("INX", 0xE8, (X, 0xFF), (X, 0x00), [false, true, true]),
+        change("INY", 0xC8, (Y, 0x7F), (Y, 0x80), [true, false, true]),
+        change("DEX to 0", 0xCA, (X, 0x01), (X, 0x00), [false, true, true]),
+        change("DEX", 0xCA, (X, 0x80), (X, 0x7F), [false, false, true]),
+        change("DEX", 0xCA, (X, 0x00), (X, 0xFF), [true, false, true]),
+        change("DEY", 0x88, (Y, 0x00), (Y, 0xFF), [true, false, true]),
+    ]
+}
+
+/// From one register to another; TXS sets no flag.
 fn transfer_rows() -> [Row; 6] {
     [
-        implied("TAX", 0xAA, START, Cpu { x: 0x5A, ..START }),
-        implied(
-            "TAY",
-            0xA8,
-            Cpu { a: 0x00, ..START },
-            Cpu {
-                a: 0x00,
-                y: 0x00,
-                z: true,
-                ..START
-            },
-        ),
-        implied(
-            "TSX",
-            0xBA,
-            START,
-            Cpu {
-                x: 0xFD,
-                n: true,
-                ..START
-            },
-        ),
-        implied(
-            "TXA",
-            0x8A,
-            Cpu { x: 0x00, ..START },
-            Cpu {
-                x: 0x00,
-                a: 0x00,
-                z: true,
-                ..START
-            },
-        ),
-        implied(
-            "TYA",
-            0x98,
-            Cpu { y: 0x80, ..START },
-            Cpu {
-                y: 0x80,
-                a: 0x80,
-                n: true,
-                ..START
-            },
-        ),
-        implied(
-            "TXS sets no flag",
-            0x9A,
-            Cpu {
-                x: 0x00,
-                n: true,
-                ..START
-            },
-            Cpu {
-                x: 0x00,
-                n: true,
-                sp: 0x00,
-                ..START
-            },
-        ),
+        change("TAX", 0xAA, (A, 0x5A), (X, 0x5A), [false, false, true]),
+        change("TAY", 0xA8, (A, 0x00), (Y, 0x00), [false, true, true]),
+        change("TSX", 0xBA, (S, 0xFD), (X, 0xFD), [true, false, true]),
+        change("TXA", 0x8A, (X, 0x00), (A, 0x00), [false, true, true]),
+        change("TYA", 0x98, (Y, 0x80), (A, 0x80), [true, false, true]),
+        change("TXS", 0x9A, (X, 0x00), (S, 0x00), [false, false, true]),
     ]
 }
 
@@ -205,47 +134,23 @@ fn flag_rows() -> [Row; 8] {
     ]
 }
 
-/// Pushes, pulls, calls and returns, with the wraps of the stack. At $01FE stand $45 and $23, at $0100 $88 and $78.
-fn stack_rows() -> [Row; 13] {
-    let full = Cpu { sp: 0xFF, ..START };
-    let empty = Cpu { sp: 0, ..START };
-    let flags = Cpu { d: false, ..START };
-    let call = quiet(
-        "JSR",
-        [0x20, 0x34, 0x12],
-        START,
-        Cpu {
-            sp: 0xFB,
-            pc: 0x1234,
-            ..START
-        },
-    );
-    let wrapped = quiet(
-        "JSR at the stack's end",
-        [0x20, 0x34, 0x12],
-        empty,
-        Cpu {
-            sp: 0xFE,
-            pc: 0x1234,
-            ..START
-        },
-    );
+/// Pushes and calls, with the wraps of the stack. A row checks one of the two bytes that a call writes.
+fn push_rows() -> [Row; 7] {
     [
-        pushing(
-            implied("PHA", 0x48, START, Cpu { sp: 0xFC, ..START }),
-            0x01FD,
-            0x5A,
-        ),
-        pushing(
-            implied("PHA at the stack's end", 0x48, empty, full),
-            0x0100,
-            0x5A,
-        ),
-        pushing(
-            implied("PHP", 0x08, START, Cpu { sp: 0xFC, ..START }),
-            0x01FD,
-            0x7D,
-        ),
+        pushing("PHA", 0x48, (0xFD, 0xFC), 0x1001, 0x01FD, 0x5A),
+        pushing("PHA at $00", 0x48, (0x00, 0xFF), 0x1001, 0x0100, 0x5A),
+        pushing("PHP", 0x08, (0xFD, 0xFC), 0x1001, 0x01FD, 0x7D),
+        pushing("JSR", 0x20, (0xFD, 0xFB), 0x1234, 0x01FD, 0x10),
+        pushing("JSR", 0x20, (0xFD, 0xFB), 0x1234, 0x01FC, 0x02),
+        pushing("JSR at $00", 0x20, (0x00, 0xFE), 0x1234, 0x0100, 0x10),
+        pushing("JSR at $00", 0x20, (0x00, 0xFE), 0x1234, 0x01FF, 0x02),
+    ]
+}
+
+/// Pulls, with the wraps of the stack. At $01FE stand $45 and $23, at $0100 $88 and $78.
+fn pull_rows() -> [Row; 4] {
+    let flags = Cpu { d: false, ..START };
+    [
         implied(
             "PLA",
             0x68,
@@ -259,7 +164,7 @@ fn stack_rows() -> [Row; 13] {
         implied(
             "PLA over the stack's end",
             0x68,
-            full,
+            Cpu { sp: 0xFF, ..START },
             Cpu {
                 sp: 0,
                 a: 0x88,
@@ -268,10 +173,6 @@ fn stack_rows() -> [Row; 13] {
             },
         ),
         implied("PLP", 0x28, START, Cpu { sp: 0xFE, ..flags }),
-        pushing(call, 0x01FD, 0x10),
-        pushing(call, 0x01FC, 0x02),
-        pushing(wrapped, 0x0100, 0x10),
-        pushing(wrapped, 0x01FF, 0x02),
         quiet(
             "RTI",
             [0x40, 0, 0],
@@ -280,24 +181,6 @@ fn stack_rows() -> [Row; 13] {
                 sp: 0,
                 pc: 0x8823,
                 ..flags
-            },
-        ),
-        quiet(
-            "JMP indirect",
-            [0x6C, 0x00, 0x01],
-            START,
-            Cpu {
-                pc: 0x7888,
-                ..START
-            },
-        ),
-        quiet(
-            "JMP indirect at a page's end",
-            [0x6C, 0xFF, 0x01],
-            START,
-            Cpu {
-                pc: 0x8823,
-                ..START
             },
         ),
     ]
@@ -424,13 +307,6 @@ fn check_sum(rt: &impl Abort, alloc: Global, opcode: u8, corner: Corner) -> Resu
     Ok(())
 }
 
-/// Checks one step by a row.
-fn check_row(rt: &impl Abort, alloc: Global, row: Row) -> Result<(), Fail> {
-    let outcome = stepped(alloc, row.before, row.code, row.place)?;
-    assert_eq!(rt; outcome, (Ok(()), row.after, row.byte), "{}", row.name);
-    Ok(())
-}
-
 /// Checks that a branch by $10 goes there exactly where it is to be taken.
 fn check_branch(
     rt: &impl Abort,
@@ -461,13 +337,19 @@ fn instructions_without_an_operand(rt: HostRuntime) -> Result<(), Fail> {
     for row in accumulator_rows() {
         check_row(&rt, rt.alloc(), row)?;
     }
+    for row in count_rows() {
+        check_row(&rt, rt.alloc(), row)?;
+    }
     for row in transfer_rows() {
         check_row(&rt, rt.alloc(), row)?;
     }
     for row in flag_rows() {
         check_row(&rt, rt.alloc(), row)?;
     }
-    for row in stack_rows() {
+    for row in push_rows() {
+        check_row(&rt, rt.alloc(), row)?;
+    }
+    for row in pull_rows() {
         check_row(&rt, rt.alloc(), row)?;
     }
     Ok(())

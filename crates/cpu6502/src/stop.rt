@@ -5,12 +5,21 @@ pub struct NoMemory;
 /// Why a step stopped, with the address of the opcode. A stop changes nothing.
 #[derive(Clone, Copy, Debug, PartialEq, Eq)]
 pub enum Stop {
-    /// An opcode with no row.
-    Illegal { at: u16 },
+    /// An opcode that the manual's table has no row for.
+    Illegal {
+        /// The address of the opcode.
+        at: u16,
+    },
     /// BRK.
-    Break { at: u16 },
+    Break {
+        /// The address of the opcode.
+        at: u16,
+    },
     /// ADC or SBC with the decimal flag set.
-    Decimal { at: u16 },
+    Decimal {
+        /// The address of the opcode.
+        at: u16,
+    },
 }
 
 /// Why a call did not return.

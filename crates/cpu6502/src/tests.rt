@@ -1,5 +1,6 @@
 use super::*;
 use std::alloc::Global;
+use std::process::Abort;
 use std::test::Fail;
 
 /// The byte of memory where nothing else stands: no opcode of this machine.
@@ -56,6 +57,19 @@ fn storing(name: &'static str, code: [u8; 3], before: Cpu, pc: u16, place: u16) 
     }
 }
 
+/// A row of an immediate load, of two bytes at $1000.
+fn immediate(name: &'static str, opcode: u8, byte: u8, before: Cpu, after: Cpu) -> Row {
+    quiet(
+        name,
+        [opcode, byte, 0],
+        before,
+        Cpu {
+            pc: 0x1002,
+            ..after
+        },
+    )
+}
+
 /// A row of a jump, which changes the program counter alone.
 fn jump(name: &'static str, code: [u8; 3], from: u16, to: u16) -> Row {
     quiet(
@@ -80,88 +94,46 @@ fn back(name: &'static str, sp: u8, to: u16, sp_after: u8) -> Row {
     )
 }
 
-/// The registers after an instruction of this length that sets A, or X, with N and Z.
-fn with_a(a: u8, n: bool, z: bool, pc: u16) -> Cpu {
-    Cpu {
-        a,
-        n,
-        z,
-        pc,
-        ..START
-    }
+/// Registers with a byte in A, or in X, and with N and Z.
+fn with_a(a: u8, n: bool, z: bool) -> Cpu {
+    Cpu { a, n, z, ..START }
 }
 
-fn with_x(x: u8, n: bool, z: bool, pc: u16) -> Cpu {
-    Cpu {
-        x,
-        n,
-        z,
-        pc,
-        ..START
-    }
+fn with_x(x: u8, n: bool, z: bool) -> Cpu {
+    Cpu { x, n, z, ..START }
 }
 
-fn load_rows() -> [Row; 9] {
+fn load_rows() -> [Row; 6] {
     [
-        quiet(
-            "LDA #0",
-            [0xA9, 0, 0],
-            START,
-            with_a(0, false, true, 0x1002),
-        ),
-        quiet(
-            "LDA #$80",
-            [0xA9, 0x80, 0],
-            START,
-            with_a(0x80, true, false, 0x1002),
-        ),
-        quiet(
+        immediate("LDA #0", 0xA9, 0, START, with_a(0, false, true)),
+        immediate("LDA #$80", 0xA9, 0x80, START, with_a(0x80, true, false)),
+        immediate("LDX #0", 0xA2, 0, START, with_x(0, false, true)),
+        immediate("LDX #$FF", 0xA2, 0xFF, START, with_x(0xFF, true, false)),
+        immediate(
             "LDA clears N and Z",
-            [0xA9, 0x7F, 0],
-            with_a(1, true, true, 0x1000),
-            with_a(0x7F, false, false, 0x1002),
+            0xA9,
+            0x7F,
+            with_a(1, true, true),
+            with_a(0x7F, false, false),
         ),
         quiet(
             "LDA # at $FFFF",
             [0xA9, 0x21, 0],
-            with_a(0, false, false, 0xFFFF),
-            with_a(0x21, false, false, 1),
-        ),
-        quiet(
-            "LDX #0",
-            [0xA2, 0, 0],
-            START,
-            with_x(0, false, true, 0x1002),
-        ),
-        quiet(
-            "LDX #$FF",
-            [0xA2, 0xFF, 0],
-            START,
-            with_x(0xFF, true, false, 0x1002),
-        ),
-        quiet(
-            "DEX to 0",
-            [0xCA, 0, 0],
-            with_x(1, true, false, 0x1000),
-            with_x(0, false, true, 0x1001),
-        ),
-        quiet(
-            "DEX below 0",
-            [0xCA, 0, 0],
-            with_x(0, false, true, 0x1000),
-            with_x(0xFF, true, false, 0x1001),
-        ),
-        quiet(
-            "DEX from $80",
-            [0xCA, 0, 0],
-            with_x(0x80, true, false, 0x1000),
-            with_x(0x7F, false, false, 0x1001),
+            Cpu {
+                pc: 0xFFFF,
+                ..START
+            },
+            Cpu {
+                a: 0x21,
+                pc: 1,
+                ..START
+            },
         ),
     ]
 }
 
 fn store_rows() -> [Row; 6] {
-    let far = with_x(0xFF, false, false, 0x1000);
+    let far = with_x(0xFF, false, false);
     [
         storing("STA absolute", [0x8D, 0x00, 0xD4], START, 0x1003, 0xD400),
         storing(
@@ -199,11 +171,13 @@ fn store_rows() -> [Row; 6] {
     ]
 }
 
-fn jump_rows() -> [Row; 12] {
+fn jump_rows() -> [Row; 14] {
     let minus = Cpu { n: true, ..START };
     [
         jump("JMP", [0x4C, 0x34, 0x12], 0x1000, 0x1234),
         jump("JMP at $FFFE", [0x4C, 0x78, 0x56], 0xFFFE, 0x5678),
+        jump("JMP indirect", [0x6C, 0x00, 0x01], 0x1000, 0x7888),
+        jump("JMP indirect at $xxFF", [0x6C, 0xFF, 0x01], 0x1000, 0x8823),
         jump("BPL forward", [0x10, 0x05, 0], 0x1000, 0x1007),
         jump("BPL back over a page", [0x10, 0xFB, 0], 0x1000, 0x0FFD),
         jump("BPL farthest forward", [0x10, 0x7F, 0], 0x1090, 0x1111),
@@ -252,19 +226,23 @@ pub fn stepped(
     Ok((made, machine.cpu, machine.memory.read(place)))
 }
 
+/// Checks one step by a row.
+pub fn check_row(rt: &impl Abort, alloc: Global, row: Row) -> Result<(), Fail> {
+    let outcome = stepped(alloc, row.before, row.code, row.place)?;
+    assert_eq!(rt; outcome, (Ok(()), row.after, row.byte), "{}", row.name);
+    Ok(())
+}
+
 #[test]
 fn steps_by_the_manual(rt: HostRuntime) -> Result<(), Fail> {
     for row in load_rows() {
-        let outcome = stepped(rt.alloc(), row.before, row.code, row.place)?;
-        assert_eq!(rt; outcome, (Ok(()), row.after, row.byte), "{}", row.name);
+        check_row(&rt, rt.alloc(), row)?;
     }
     for row in store_rows() {
-        let outcome = stepped(rt.alloc(), row.before, row.code, row.place)?;
-        assert_eq!(rt; outcome, (Ok(()), row.after, row.byte), "{}", row.name);
+        check_row(&rt, rt.alloc(), row)?;
     }
     for row in jump_rows() {
-        let outcome = stepped(rt.alloc(), row.before, row.code, row.place)?;
-        assert_eq!(rt; outcome, (Ok(()), row.after, row.byte), "{}", row.name);
+        check_row(&rt, rt.alloc(), row)?;
     }
     let stopped = stepped(rt.alloc(), START, [ELSEWHERE, 0, 0], 0x1000)?;
     assert_eq!(rt;
@@ -314,5 +292,70 @@ fn calls_return_stop_or_run_out(rt: HostRuntime) -> Result<(), Fail> {
     );
     assert_eq!(rt; log.writes.as_slice().len(), 512);
     assert_eq!(rt; log.beyond, 128);
+    Ok(())
+}
+
+/// The steps that a call of an image may make.
+const BUDGET: u32 = 200_000;
+
+/// LDA #$21, STA $D404, RTS, where play is.
+const ONE_NOTE: [u8; 9] = [0x60, 0xEA, 0xEA, 0xA9, 0x21, 0x8D, 0x04, 0xD4, 0x60];
+
+/// The SID's registers after one play of it.
+const NOTE_REGISTERS: [u8; 25] = [
+    0, 0, 0, 0, 0x21, 0, 0, 0, 0, 0, 0, 0, 0, 0, 0, 0, 0, 0, 0, 0, 0, 0, 0, 0, 0,
+];
+
+/// Images whose play does not return, and why: an opcode with no row, BRK, and a jump to itself.
+fn images_that_stop() -> [([u8; 9], CallStop); 3] {
+    [
+        (
+            [0x60, 0xEA, 0xEA, 0x02, 0, 0, 0, 0, 0],
+            CallStop::Stopped(Stop::Illegal { at: 0x1003 }),
+        ),
+        (
+            [0x60, 0xEA, 0xEA, 0x00, 0, 0, 0, 0, 0],
+            CallStop::Stopped(Stop::Break { at: 0x1003 }),
+        ),
+        (
+            [0x60, 0xEA, 0xEA, 0x4C, 0x03, 0x10, 0, 0, 0],
+            CallStop::Budget,
+        ),
+    ]
+}
+
+/// A machine with an image at $1000, and zeros elsewhere.
+fn loaded(alloc: Global, image: [u8; 9]) -> Result<Machine, NoMemory> {
+    let mut memory = Memory::filled(alloc, 0)?;
+    let mut place: u16 = 0x1000;
+    for byte in image {
+        memory.write(place, byte);
+        place = place.wrapping_add(1);
+    }
+    Ok(Machine { cpu: START, memory })
+}
+
+#[test]
+fn images_play_or_stop(rt: HostRuntime) -> Result<(), Fail> {
+    let mut log = WriteLog::new();
+    for (image, stop) in images_that_stop() {
+        let mut machine = loaded(rt.alloc(), image)?;
+        assert_eq!(rt; machine.call(0x1000, 0, BUDGET, &mut log), Ok(1));
+        assert_eq!(rt; machine.call(0x1003, 0, BUDGET, &mut log), Err(stop));
+    }
+    let mut machine = loaded(rt.alloc(), ONE_NOTE)?;
+    assert_eq!(rt; machine.call(0x1000, 0, BUDGET, &mut log), Ok(1));
+    assert_eq!(rt; machine.call(0x1003, 0, BUDGET, &mut log), Ok(3));
+    let note = SidWrite {
+        register: 4,
+        value: 0x21,
+    };
+    assert_eq!(rt; log.writes.as_slice(), [note].as_slice());
+    assert_eq!(rt; log.beyond, 0);
+    let mut place: u16 = 0xD400;
+    for byte in NOTE_REGISTERS {
+        assert_eq!(rt; machine.memory.read(place), byte);
+        place = place.wrapping_add(1);
+    }
     Ok(())
 }
