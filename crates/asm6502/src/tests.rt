@@ -1,3 +1,8 @@
+//! Listings that are assembled, refused and moved.
+
+mod bad;
+mod good;
+
 use super::*;
 use cpu6502::{Mnemonic, Mode};
 use song_model::{ByteList, FeatureBits, NoMemory};
@@ -129,6 +134,13 @@ fn check(rt: &impl Abort, alloc: Global, case: Case) -> Result<(), Fail> {
     Ok(())
 }
 
+fn check_all(rt: &impl Abort, alloc: Global, cases: &[Case]) -> Result<(), Fail> {
+    for case in cases {
+        check(rt, alloc, *case)?;
+    }
+    Ok(())
+}
+
 /// A case without parts, at $1000.
 const fn plain(name: &'static str, rows: &'static [Row], want: Want) -> Case {
     at(name, rows, 0x1000, want)
@@ -145,202 +157,14 @@ const fn at(name: &'static str, rows: &'static [Row], origin: u16, want: Want) -
     }
 }
 
-/// Listings that are assembled.
-fn good_cases() -> [Case; 12] {
-    [
-        plain(
-            "tone",
-            &TONE,
-            Want::Bytes(&[0xA9, 0x0F, 0x8D, 0x18, 0xD4, 0x60]),
-        ),
-        Case {
-            set: 8,
-            ..plain(
-                "tone with part 3",
-                &TONE,
-                Want::Bytes(&[0xA9, 0x0F, 0x8D, 0x18, 0xD4, 0xEA, 0x60]),
-            )
-        },
-        plain(
-            "labels",
-            &JUMPS,
-            Want::Bytes(&[0x4C, 0x09, 0x10, 0xA9, 0x08, 0xA2, 0x12]),
-        ),
-        plain(
-            "a label in two parts",
-            &[ONE, Row(3, Name(1)), NOP],
-            Want::Bytes(&[0xEA]),
-        ),
-        plain(
-            "an unknown label that isn't kept",
-            &[Row(3, JMP_TWO.1), NOP],
-            Want::Bytes(&[0xEA]),
-        ),
-        plain("part 31", &[Row(31, NOP.1), NOP], Want::Bytes(&[0xEA])),
-        at(
-            "65,536 bytes",
-            &[Row(255, Zeros(65_536))],
-            0,
-            Want::Length(65_536),
-        ),
-        at("one byte at the end", &[NOP], 0xFFFF, Want::Bytes(&[0xEA])),
-        plain(
-            "127 on",
-            &[BNE_ONE, Row(255, Zeros(127)), ONE],
-            Want::Length(129),
-        ),
-        plain(
-            "128 back",
-            &[ONE, Row(255, Zeros(126)), BNE_ONE],
-            Want::Length(128),
-        ),
-        at(
-            "over the end",
-            &[
-                ONE,
-                Row(
-                    255,
-                    Code(Mnemonic::Bne, Mode::Relative, Operand::Label(1, 0x20)),
-                ),
-            ],
-            0xFFF0,
-            Want::Bytes(&[0xD0, 0x1E]),
-        ),
-        plain(
-            "a displacement",
-            &[Row(
-                255,
-                Code(Mnemonic::Beq, Mode::Relative, Operand::Number(0xFE)),
-            )],
-            Want::Bytes(&[0xF0, 0xFE]),
-        ),
-    ]
-}
-
-/// Lines that can't stand in a listing.
-fn bad_lines() -> [Case; 8] {
-    let bad = Want::Fault(AsmFault::BadLine { line: 1 });
-    [
-        plain("part 32", &[NOP, Row(32, NOP.1)], bad),
-        plain("part 254", &[NOP, Row(254, NOP.1)], bad),
-        plain(
-            "no opcode",
-            &[
-                NOP,
-                Row(
-                    255,
-                    Code(Mnemonic::Sta, Mode::Immediate, Operand::Number(0)),
-                ),
-            ],
-            bad,
-        ),
-        plain(
-            "LDA #$100",
-            &[
-                NOP,
-                Row(
-                    255,
-                    Code(Mnemonic::Lda, Mode::Immediate, Operand::Number(0x100)),
-                ),
-            ],
-            bad,
-        ),
-        plain(
-            "a label in the immediate mode",
-            &[
-                ONE,
-                Row(
-                    255,
-                    Code(Mnemonic::Lda, Mode::Immediate, Operand::Label(1, 0)),
-                ),
-            ],
-            bad,
-        ),
-        plain(
-            "the low byte in the absolute mode",
-            &[
-                ONE,
-                Row(255, Code(Mnemonic::Lda, Mode::Absolute, Operand::Low(1, 0))),
-            ],
-            bad,
-        ),
-        plain(
-            "no operand",
-            &[
-                NOP,
-                Row(255, Code(Mnemonic::Lda, Mode::Absolute, Operand::Nothing)),
-            ],
-            bad,
-        ),
-        plain(
-            "an operand too many",
-            &[
-                NOP,
-                Row(255, Code(Mnemonic::Nop, Mode::Implied, Operand::Number(0))),
-            ],
-            bad,
-        ),
-    ]
-}
-
-/// The other refusals, alone and before the next one.
-fn refusals() -> [Case; 11] {
-    let far = Want::Fault(AsmFault::BranchTooFar { line: 0 });
-    let unknown = Want::Fault(AsmFault::UnknownLabel { label: 2 });
-    let double = Want::Fault(AsmFault::DoubleLabel { label: 1 });
-    [
-        plain("twice", &[ONE, NOP, ONE], double),
-        plain("unknown", &[JMP_TWO], unknown),
-        at(
-            "past the end",
-            &[Row(255, Zeros(65_536)), NOP],
-            0,
-            Want::Fault(AsmFault::PastEnd { length: 65_537 }),
-        ),
-        at(
-            "one past the end",
-            &[NOP, NOP],
-            0xFFFF,
-            Want::Fault(AsmFault::PastEnd { length: 2 }),
-        ),
-        plain("128 on", &[BNE_ONE, Row(255, Zeros(128)), ONE], far),
-        plain("200 on", &[BNE_ONE, Row(255, Zeros(200)), ONE], far),
-        plain(
-            "129 back",
-            &[ONE, Row(255, Zeros(127)), BNE_ONE],
-            Want::Fault(AsmFault::BranchTooFar { line: 2 }),
-        ),
-        plain(
-            "bad before twice",
-            &[ONE, ONE, Row(32, NOP.1)],
-            Want::Fault(AsmFault::BadLine { line: 2 }),
-        ),
-        plain("twice before unknown", &[JMP_TWO, ONE, ONE], double),
-        plain(
-            "unknown before past the end",
-            &[Row(255, Zeros(65_536)), JMP_TWO],
-            unknown,
-        ),
-        plain(
-            "past the end before too far",
-            &[BNE_ONE, Row(255, Zeros(65_536)), ONE],
-            Want::Fault(AsmFault::PastEnd { length: 65_538 }),
-        ),
-    ]
-}
-
 #[test]
 fn listings_are_assembled_or_refused(rt: HostRuntime) -> Result<(), Fail> {
-    for case in good_cases() {
-        check(&rt, rt.alloc(), case)?;
-    }
-    for case in bad_lines() {
-        check(&rt, rt.alloc(), case)?;
-    }
-    for case in refusals() {
-        check(&rt, rt.alloc(), case)?;
-    }
-    Ok(())
+    check_all(&rt, rt.alloc(), &good::parts_and_labels())?;
+    check_all(&rt, rt.alloc(), &good::edges())?;
+    check_all(&rt, rt.alloc(), &bad::bad_lines())?;
+    check_all(&rt, rt.alloc(), &bad::bad_operands())?;
+    check_all(&rt, rt.alloc(), &bad::refusals())?;
+    check_all(&rt, rt.alloc(), &bad::neighbours())
 }
 
 #[test]
