@@ -9,7 +9,7 @@ use Rattle.cpu6502.specs.Call.{run, entered, Called, FailsBy}
 use Rattle.cpu6502.proofs.Calls.{called_once, returned_fails}
 use Rattle.goat_io.specs.Written.{told_with_piece}
 use Rattle.sid_run.specs.State.{RunnerState, sid_registers, most_steps}
-use Rattle.goat_cli.specs.Calls.{entry_of, number_of, ReturnsWith, FirstCalls, MeetsStopAt}
+use Rattle.goat_cli.specs.Calls.{entry_of, number_of, ReturnsTo, FirstCalls, MeetsStopAt}
 use Rattle.goat_cli.specs.RegisterText.{register_line, lines_from, register_text}
 use Rattle.goat_cli.specs.declared.ending.Ending.{Ending}
 use Rattle.goat_cli.specs.declared.ending.Ending.TheVariants.{Shown, SinkFault, NoMemory}
@@ -19,7 +19,7 @@ use Rattle.goat_cli.proofs.Told.{told_both}
 -- ---- one call
 
 -- what the runner says of a call that returned
-pub returns_with : (r : Result (List ℕ) CallStop) (machine after : Machine) (entry number steps : ℕ) → OnOk r (Called machine entry number steps after) → OnOk r (steps ≤ most_steps) → IfOk r (λ registers. registers ≡ sid_registers after) → IfOk r (λ registers. ReturnsWith machine entry number registers after)
+pub returns_with : (r : Result (List ℕ) CallStop) (machine after : Machine) (entry number steps : ℕ) → OnOk r (Called machine entry number steps after) → OnOk r (steps ≤ most_steps) → IfOk r (λ registers. registers ≡ sid_registers after) → IfOk r (λ registers. ReturnsTo machine entry number registers after)
 returns_with (Ok registers) machine after entry number steps called within are = record { steps = steps; within = within; called = called; registers_are = sym are }
 returns_with (Err reason) machine after entry number steps called within are = tt
 
@@ -33,7 +33,7 @@ later_number subtune zero machine later = absurd (later refl)
 later_number subtune (suc call) machine later = refl
 
 -- a call returns in one machine
-returns_once : (m : Machine) (entry number : ℕ) (registers registers' : List ℕ) (after after' : Machine) → ReturnsWith m entry number registers after → ReturnsWith m entry number registers' after' → after ≡ after'
+returns_once : (m : Machine) (entry number : ℕ) (registers registers' : List ℕ) (after after' : Machine) → ReturnsTo m entry number registers after → ReturnsTo m entry number registers' after' → after ≡ after'
 returns_once m entry number registers registers' after after' p q =
     let same = called_once m entry number p.steps q.steps after after' p.called q.called in
     let one = p.called.runs in
@@ -42,7 +42,7 @@ returns_once m entry number registers registers' after after' p q =
     cc (both)
 
 -- and not at all where it fails
-returns_or_fails : (m : Machine) (entry number : ℕ) (registers : List ℕ) (after after' : Machine) (reason : CallStop) → ReturnsWith m entry number registers after → FailsBy m entry number most_steps reason after' → ⊥
+returns_or_fails : (m : Machine) (entry number : ℕ) (registers : List ℕ) (after after' : Machine) (reason : CallStop) → ReturnsTo m entry number registers after → FailsBy m entry number most_steps reason after' → ⊥
 returns_or_fails m entry number registers after after' reason p fails =
     let never : Ok 0 ≡ Err reason = returned_fails m entry number p.steps most_steps after after' reason (Ok 0) p.called p.within fails in
     cc (never)
@@ -59,7 +59,7 @@ module _ (file : RunnerState) (subtune : ℕ) where
   one_machine zero registers registers' machine machine' p q = p.1 ∙ sym q.1
   one_machine (suc calls) registers registers' machine machine' (earlier, before, last, first, returns, are) (earlier', before', last', first', returns', are') =
       let same : before ≡ before' = one_machine calls earlier earlier' before before' first first' in
-      let moved = subst (λ b. ReturnsWith b (entry_of file calls) (number_of subtune calls b) last machine) same returns in
+      let moved = subst (λ b. ReturnsTo b (entry_of file calls) (number_of subtune calls b) last machine) same returns in
       returns_once before' (entry_of file calls) (number_of subtune calls before') last last' machine machine' moved returns'
 
   -- each of the first calls returned
@@ -69,7 +69,7 @@ module _ (file : RunnerState) (subtune : ℕ) where
     pub calls : FirstCalls file subtune call registers before
     pub last : List ℕ
     pub after : Machine
-    pub returns : ReturnsWith before (entry_of file call) (number_of subtune call before) last after
+    pub returns : ReturnsTo before (entry_of file call) (number_of subtune call before) last after
 
   returned_before : (calls call : ℕ) (registers : List (List ℕ)) (machine : Machine) → FirstCalls file subtune calls registers machine → call < calls → Returned call
   returned_before zero call registers machine first inside = absurd (omega arith)
@@ -86,7 +86,7 @@ module _ (file : RunnerState) (subtune : ℕ) where
   returned_or_stopped calls call registers registers' machine reason first inside meets =
       let r = returned_before calls call registers machine first inside in
       let same = one_machine call r.registers registers' r.before meets.before r.calls meets.calls in
-      let moved = subst (λ b. ReturnsWith b (entry_of file call) (number_of subtune call b) r.last r.after) same r.returns in
+      let moved = subst (λ b. ReturnsTo b (entry_of file call) (number_of subtune call b) r.last r.after) same r.returns in
       returns_or_fails meets.before (entry_of file call) (number_of subtune call meets.before) r.last r.after meets.after reason moved meets.fails
 
 -- ---- their lines
@@ -114,8 +114,8 @@ same_entry file now (suc call) init play = play
 
 module _ (file : RunnerState) (subtune calls : ℕ) (now later : RunnerState) (before after : Option (List ℕ)) (so_far : CallsSoFar file subtune calls now before after) where
   -- one call more
-  pub calls_on : (last : List ℕ) → ReturnsWith now.machine (entry_of now calls) (number_of subtune calls now.machine) last later.machine → FirstCalls file subtune (suc calls) (so_far.registers ++ last ∷ []) later.machine
-  calls_on last returns = (so_far.registers, now.machine, last, so_far.returned, subst (λ e. ReturnsWith now.machine e (number_of subtune calls now.machine) last later.machine) (same_entry file now calls so_far.same_init so_far.same_play) returns, refl)
+  pub calls_on : (last : List ℕ) → ReturnsTo now.machine (entry_of now calls) (number_of subtune calls now.machine) last later.machine → FirstCalls file subtune (suc calls) (so_far.registers ++ last ∷ []) later.machine
+  calls_on last returns = (so_far.registers, now.machine, last, so_far.returned, subst (λ e. ReturnsTo now.machine e (number_of subtune calls now.machine) last later.machine) (same_entry file now calls so_far.same_init so_far.same_play) returns, refl)
 
   pub text_on : (last : List ℕ) → register_text (so_far.registers ++ last ∷ []) ≡ register_text so_far.registers ++ register_line calls last
   text_on last =
@@ -123,7 +123,7 @@ module _ (file : RunnerState) (subtune calls : ℕ) (now later : RunnerState) (b
       let z : 0 + length so_far.registers ≡ calls = omega (arith, many) in
       lines-append 0 so_far.registers last ∙ ap (λ n. register_text so_far.registers ++ register_line n last) z
 
-  pub so_far_on : (last : List ℕ) (shown : Option (List ℕ)) → ReturnsWith now.machine (entry_of now calls) (number_of subtune calls now.machine) last later.machine → later.stopped ≡ None → later.init ≡ now.init → later.play ≡ now.play → shown ≡ told_with_piece after (register_line calls last) → CallsSoFar file subtune (suc calls) later before shown
+  pub so_far_on : (last : List ℕ) (shown : Option (List ℕ)) → ReturnsTo now.machine (entry_of now calls) (number_of subtune calls now.machine) last later.machine → later.stopped ≡ None → later.init ≡ now.init → later.play ≡ now.play → shown ≡ told_with_piece after (register_line calls last) → CallsSoFar file subtune (suc calls) later before shown
   so_far_on last shown returns running init play told = record {
     registers = so_far.registers ++ last ∷ [];
     returned = calls_on last returns;
@@ -134,7 +134,7 @@ module _ (file : RunnerState) (subtune calls : ℕ) (now later : RunnerState) (b
   }
 
   -- the run is cut short in the line of the call
-  pub cut_in_line : (frames n : ℕ) (last : List ℕ) (shown : Option (List ℕ)) (e : Ending) → calls ≤ frames → ReturnsWith now.machine (entry_of now calls) (number_of subtune calls now.machine) last later.machine → shown ≡ told_with_piece after (take n (register_line calls last)) → (e ≡ SinkFault) ⊎ (e ≡ NoMemory) → CallsEnd file subtune frames before shown e
+  pub cut_in_line : (frames n : ℕ) (last : List ℕ) (shown : Option (List ℕ)) (e : Ending) → calls ≤ frames → ReturnsTo now.machine (entry_of now calls) (number_of subtune calls now.machine) last later.machine → shown ≡ told_with_piece after (take n (register_line calls last)) → (e ≡ SinkFault) ⊎ (e ≡ NoMemory) → CallsEnd file subtune frames before shown e
   cut_in_line frames n last shown e within returns told or =
       let text = register_text so_far.registers in
       let line = register_line calls last in

@@ -18,7 +18,7 @@ number_of subtune zero machine = subtune
 number_of subtune (suc call) machine = machine.cpu.a
 
 -- a call returns within 200,000 steps, in a machine with these registers of the SID
-pub record ReturnsWith (machine : Machine) (entry number : ℕ) (registers : List ℕ) (after : Machine) : Type 0 where
+pub record ReturnsTo (machine : Machine) (entry number : ℕ) (registers : List ℕ) (after : Machine) : Type 0 where
   pub steps : ℕ
   pub within : steps ≤ most_steps
   pub called : Called machine entry number steps after
@@ -30,7 +30,7 @@ FirstCalls file subtune zero registers machine = (registers ≡ []) × (machine 
 FirstCalls file subtune (suc call) registers machine =
     (earlier : List (List ℕ)) × (before : Machine) × (last : List ℕ) ×
     FirstCalls file subtune call earlier before ×
-    ReturnsWith before (entry_of file call) (number_of subtune call before) last machine ×
+    ReturnsTo before (entry_of file call) (number_of subtune call before) last machine ×
     (registers ≡ earlier ++ last ∷ [])
 
 -- the calls before this one return and leave these registers, and this one does not return, for this reason

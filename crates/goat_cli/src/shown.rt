@@ -6,7 +6,7 @@ ghost use Rattle.goat_io.specs.Written.{told_with_piece, IsTakenInPart};
 ghost use Rattle.cpu6502.specs.Call.{FailsBy};
 ghost use Rattle.cpu6502.specs.declared.machine.Machine.{Machine};
 ghost use Rattle.sid_run.specs.State.{most_steps};
-ghost use Rattle.goat_cli.specs.Calls.{entry_of, number_of, ReturnsWith};
+ghost use Rattle.goat_cli.specs.Calls.{entry_of, number_of, ReturnsTo};
 ghost use Rattle.goat_cli.specs.RegisterText.{register_line};
 ghost use Rattle.goat_cli.specs.Words.{frame_limit};
 ghost use Rattle.goat_cli.specs.Ending.{status_of};
@@ -87,7 +87,7 @@ fn show_calls<K: Sink>(
 // Makes the call with this number: call 0 is init, the others are play.
 fn next_call(runner: &mut Runner, subtune: u8, call: u32) -> Result<[u8; 25], CallStop>
     requires { runner.old.stopped ≡ None }
-    ensures returned { IfOk result (λ registers. ReturnsWith runner.old.machine (entry_of runner.old call) (number_of subtune call runner.old.machine) registers runner.new.machine) }
+    ensures returned { IfOk result (λ registers. ReturnsTo runner.old.machine (entry_of runner.old call) (number_of subtune call runner.old.machine) registers runner.new.machine) }
     ensures failed { IfErr result (λ reason. FailsBy runner.old.machine (entry_of runner.old call) (number_of subtune call runner.old.machine) most_steps reason runner.new.machine) }
     ensures running { OnOk result (runner.new.stopped ≡ None) }
     ensures same_init { runner.new.init ≡ runner.old.init }
