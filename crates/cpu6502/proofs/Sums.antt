@@ -48,6 +48,7 @@ sum_is cpu m la lm = record {
   carry = carry_at (cpu.a + m + one_if cpu.c);
   fits = sum_fits cpu.a m (one_if cpu.c) la lm (one_if_small cpu.c);
   shows = record { sign = sign_at _; zero = zero_at _ };
+  alone = record { rest = refl };
 }
 
 pub sums_are_of_numbers : SumsAreOfNumbers
@@ -90,6 +91,7 @@ difference_is cpu m la lm =
       carry = unborrowed cpu.a m (one_if cpu.c) (one_if (not cpu.c)) lm carries;
       fits = turned _ (raised cpu.a) (raised m) (raised (255 - m)) (one_if cpu.c) (one_if (not cpu.c)) (complement m lm) carries (sum_fits cpu.a (255 - m) (one_if cpu.c) la (omega arith) (one_if_small cpu.c));
       shows = record { sign = sign_at _; zero = zero_at _ };
+      alone = record { rest = refl };
     }
 
 pub differences_are_of_numbers : DifferencesAreOfNumbers

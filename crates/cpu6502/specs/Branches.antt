@@ -6,7 +6,7 @@ use Rattle.cpu6502.specs.declared.cpu.Cpu.{Cpu}
 use Rattle.cpu6502.specs.declared.effect.Effect.{Effect}
 use Rattle.cpu6502.specs.Registers.{quiet}
 
--- at the place where the branch is taken, else behind it
+-- the registers with the program counter at the place where the branch is taken; else it stays at the next instruction
 abbrev pub branched : Cpu → Bool → ℕ → Cpu
 branched cpu taken place = if taken then record cpu { pc = place } else cpu
 

@@ -23,11 +23,11 @@ use Rattle.cpu6502.specs.Transfers.{transfer_effect}
 pub use Rattle.cpu6502.specs.Registers.{stack_place, with_sign_and_zero, with_a, with_x, quiet, storing}
 pub use Rattle.cpu6502.specs.Jumps.{pulled_return}
 
--- the two bytes at a place, the low one first; the place behind the last is 0
+-- the two bytes at a place, the low one first; the place after the last is 0
 abbrev pub word_at : (ℕ → ℕ) → ℕ → ℕ
 word_at at place = at place + 256 * at ((place + 1) % 65536)
 
--- the two bytes at a place of page 0, where the place behind the last is the first
+-- the two bytes at a place of page 0, where the place after the last is the first
 abbrev pub zero_page_word : (ℕ → ℕ) → ℕ → ℕ
 zero_page_word at place = at place + 256 * at ((place + 1) % 256)
 
@@ -88,7 +88,7 @@ abbrev pub effect_of : Mnemonic → ℕ → ℕ → (ℕ → ℕ) → Cpu → Re
 effect_of mnemonic own place at cpu =
     unless_stopped (stop_of mnemonic own cpu) own (or_effect (data_effect mnemonic place at cpu) (other_effect mnemonic own place at cpu))
 
--- the registers behind an instruction of so many bytes
+-- the registers with the program counter after an instruction of so many bytes
 abbrev pub moved : Cpu → ℕ → Cpu
 moved cpu length = record cpu { pc = (cpu.pc + length) % 65536 }
 
