@@ -9,3 +9,4 @@ pub mod Entry
 pub mod Inverse
 pub mod Causes
 pub mod Sums
+pub mod Machines

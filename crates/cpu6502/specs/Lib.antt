@@ -20,3 +20,4 @@ pub mod Code
 pub mod Encoding
 pub mod Stops
 pub mod Sums
+pub mod Machines

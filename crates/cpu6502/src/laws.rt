@@ -2,6 +2,7 @@
 
 ghost use Rattle.cpu6502.specs.Encoding.{OpcodesHaveRows, RowsHaveOpcodes};
 ghost use Rattle.cpu6502.specs.Stops.{StopsHaveCauses};
+ghost use Rattle.cpu6502.specs.Machines.{CallsKeepMachines, StepsKeepMachines};
 ghost use Rattle.cpu6502.specs.Sums.{DifferencesAreOfNumbers, SumsAreOfNumbers};
 
 /// `opcode` and `meaning` are each other's inverse over the table's 151 rows.
@@ -20,4 +21,10 @@ pub fn each_stop_has_its_cause()
 pub fn sums_are_of_numbers()
     ensures sums { SumsAreOfNumbers }
     ensures differences { DifferencesAreOfNumbers }
+{}
+
+/// Machines stay machines: registers stay bytes, places addresses, and memory keeps its size.
+pub fn machines_stay_machines()
+    ensures steps { StepsKeepMachines }
+    ensures calls { CallsKeepMachines }
 {}
