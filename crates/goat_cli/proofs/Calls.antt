@@ -6,7 +6,8 @@ use Rattle.std.proofs.Math.Seq.{take-append-add}
 use Rattle.cpu6502.specs.declared.machine.Machine.{Machine}
 use Rattle.cpu6502.specs.declared.stop.CallStop.{CallStop}
 use Rattle.cpu6502.specs.Call.{run, entered, Called, FailsBy}
-use Rattle.cpu6502.proofs.Calls.{called_once, returned_fails}
+use Rattle.cpu6502.specs.declared.stop.CallStop.TheVariants.{Stopped, Budget}
+use Rattle.cpu6502.proofs.Calls.{called_once, returned_fails, stopped_fails, under_way_fails}
 use Rattle.goat_io.specs.Written.{told_with_piece}
 use Rattle.sid_run.specs.State.{RunnerState, sid_registers, most_steps}
 use Rattle.goat_cli.specs.Calls.{entry_of, number_of, ReturnsTo, FirstCalls, MeetsStopAt}
@@ -47,6 +48,11 @@ returns_or_fails m entry number registers after after' reason p fails =
     let never : Ok 0 ≡ Err reason = returned_fails m entry number p.steps most_steps after after' reason (Ok 0) p.called p.within fails in
     cc (never)
 
+-- a call fails for one reason
+fails_once : (m : Machine) (entry number : ℕ) (after after' : Machine) (reason reason' : CallStop) → FailsBy m entry number most_steps reason after → FailsBy m entry number most_steps reason' after' → reason ≡ reason'
+fails_once m entry number after after' (Stopped stop) reason' p q = stopped_fails m entry number most_steps p.0 stop after after' reason' p.2 p.1 q
+fails_once m entry number after after' Budget reason' p q = under_way_fails m entry number most_steps after after' reason' p q
+
 -- ---- the first calls
 
 module _ (file : RunnerState) (subtune : ℕ) where
@@ -61,6 +67,14 @@ module _ (file : RunnerState) (subtune : ℕ) where
       let same : before ≡ before' = one_machine calls earlier earlier' before before' first first' in
       let moved = subst (λ b. ReturnsTo b (entry_of file calls) (number_of subtune calls b) last machine) same returns in
       returns_once before' (entry_of file calls) (number_of subtune calls before') last last' machine machine' moved returns'
+
+  pub one_list : (calls : ℕ) (registers registers' : List (List ℕ)) (machine machine' : Machine) → FirstCalls file subtune calls registers machine → FirstCalls file subtune calls registers' machine' → registers ≡ registers'
+  one_list zero registers registers' machine machine' p q = p.0 ∙ sym q.0
+  one_list (suc calls) registers registers' machine machine' p q =
+      let same = one_list calls p.0 q.0 p.1 q.1 p.3 q.3 in
+      let after = one_machine (suc calls) registers registers' machine machine' p q in
+      let last : p.2 ≡ q.2 = sym p.4.registers_are ∙ ap sid_registers after ∙ q.4.registers_are in
+      p.5 ∙ ap (λ e. e ++ p.2 ∷ []) same ∙ ap (λ l. q.0 ++ l ∷ []) last ∙ sym q.5
 
   -- each of the first calls returned
   pub record Returned (call : ℕ) : Type 0 where
@@ -88,6 +102,21 @@ module _ (file : RunnerState) (subtune : ℕ) where
       let same = one_machine call r.registers registers' r.before meets.before r.calls meets.calls in
       let moved = subst (λ b. ReturnsTo b (entry_of file call) (number_of subtune call b) r.last r.after) same r.returns in
       returns_or_fails meets.before (entry_of file call) (number_of subtune call meets.before) r.last r.after meets.after reason moved meets.fails
+
+  -- and one of them meets one stop
+  pub one_stop_at : (call call' : ℕ) (registers registers' : List (List ℕ)) (reason reason' : CallStop) → MeetsStopAt file subtune call registers reason → MeetsStopAt file subtune call' registers' reason' → call ≡ call'
+  one_stop_at call call' registers registers' reason reason' p q = elim (cases_lt call call') [
+    | inl below ↦ absurd (returned_or_stopped call' call registers' registers q.before reason q.calls below p)
+    | inr above ↦ elim (cases_lt call' call) [
+      | inl below ↦ absurd (returned_or_stopped call call' registers registers' p.before reason' p.calls below q)
+      | inr above' ↦ omega arith
+    ]
+  ]
+
+  pub one_reason : (call : ℕ) (registers registers' : List (List ℕ)) (reason reason' : CallStop) → MeetsStopAt file subtune call registers reason → MeetsStopAt file subtune call registers' reason' → reason ≡ reason'
+  one_reason call registers registers' reason reason' p q =
+      let same = one_machine call registers registers' p.before q.before p.calls q.calls in
+      fails_once q.before (entry_of file call) (number_of subtune call q.before) p.after q.after reason reason' (subst (λ b. FailsBy b (entry_of file call) (number_of subtune call b) most_steps reason p.after) same p.fails) q.fails
 
 -- ---- their lines
 

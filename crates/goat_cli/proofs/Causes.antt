@@ -52,22 +52,22 @@ song_once built bytes s t (doable p a) (broken q b) = absurd (song_fault_or_song
 song_once built bytes s t (doable p a) (unbuilt q b) = absurd (song_built_or_not built bytes p q)
 song_once built bytes s t (doable p a) (doable q b) = a ∙ sym b
 
-fault_or_psid : (bytes : List ℕ) (psid : Psid) (fault : PsidFault) → psid_read bytes ≡ Err fault → psid_read bytes ≡ Ok psid → ⊥
+pub fault_or_psid : (bytes : List ℕ) (psid : Psid) (fault : PsidFault) → psid_read bytes ≡ Err fault → psid_read bytes ≡ Ok psid → ⊥
 fault_or_psid bytes psid fault is reads = let never : Err fault ≡ Ok psid = sym is ∙ reads in cc (never)
 
-one_psid : (bytes : List ℕ) (a b : Psid) → psid_read bytes ≡ Ok a → psid_read bytes ≡ Ok b → a ≡ b
+pub one_psid : (bytes : List ℕ) (a b : Psid) → psid_read bytes ≡ Ok a → psid_read bytes ≡ Ok b → a ≡ b
 one_psid bytes a b p q = let same : Ok a ≡ Ok b = sym p ∙ q in cc (same)
 
-has_or_lacks : (subtune : ℕ) (bytes : List ℕ) (psid : Psid) → psid_read bytes ≡ Ok psid → HasSubtune psid subtune → LacksIt subtune bytes → ⊥
+pub has_or_lacks : (subtune : ℕ) (bytes : List ℕ) (psid : Psid) → psid_read bytes ≡ Ok psid → HasSubtune psid subtune → LacksIt subtune bytes → ⊥
 has_or_lacks subtune bytes psid reads has (other, reads', lacks) = lacks (subst (λ p. HasSubtune p subtune) (one_psid bytes psid other reads reads') has)
 
-plays_or_stops : (subtune frames : ℕ) (bytes : List ℕ) → Plays bytes subtune frames → StopsIn bytes subtune frames → ⊥
+pub plays_or_stops : (subtune frames : ℕ) (bytes : List ℕ) → Plays bytes subtune frames → StopsIn bytes subtune frames → ⊥
 plays_or_stops subtune frames bytes plays stops =
     let same = one_psid bytes stops.psid plays.psid stops.reads plays.reads in
     let meets = subst (λ p. MeetsStopAt (loaded p) (subtune - 1) stops.call stops.registers stops.reason) same stops.meets in
     returned_or_stopped (loaded plays.psid) (subtune - 1) (frames + 1) stops.call plays.registers stops.registers plays.after stops.reason plays.calls (omega (arith, stops.within)) meets
 
-run_once : (subtune frames : ℕ) (bytes : List ℕ) (s t : ℕ) → RunCause subtune frames bytes s → RunCause subtune frames bytes t → s ≡ t
+pub run_once : (subtune frames : ℕ) (bytes : List ℕ) (s t : ℕ) → RunCause subtune frames bytes s → RunCause subtune frames bytes t → s ≡ t
 run_once subtune frames bytes s t (broken_psid p a) (broken_psid q b) = a ∙ sym b
 run_once subtune frames bytes s t (broken_psid p a) (lacking q b) = absurd (fault_or_psid bytes q.0 p.0 p.1 q.1)
 run_once subtune frames bytes s t (broken_psid p a) (stopping q b) = absurd (fault_or_psid bytes q.psid p.0 p.1 q.reads)
@@ -102,7 +102,7 @@ song_cause built makes output bytes status text write (outcome.no_song fault is 
 song_cause built makes output bytes status text write (outcome.not_built song spells other s t w) = unbuilt (song, spells, other) s
 song_cause built makes output bytes status text write (outcome.done file made s t w) = doable (made.song, made.spells, made.is_built) s
 
-run_cause : (subtune frames : ℕ) (bytes : List ℕ) (status : ℕ) (text : List ℕ) (write : Option (List ℕ × List ℕ)) → RunOutcome subtune frames bytes status text write → RunCause subtune frames bytes status
+pub run_cause : (subtune frames : ℕ) (bytes : List ℕ) (status : ℕ) (text : List ℕ) (write : Option (List ℕ × List ℕ)) → RunOutcome subtune frames bytes status text write → RunCause subtune frames bytes status
 run_cause subtune frames bytes status text write (outcome.no_psid fault is s t w) = broken_psid (fault, is) s
 run_cause subtune frames bytes status text write (outcome.no_subtune psid reads lacks s t w) = lacking (psid, reads, lacks) s
 run_cause subtune frames bytes status text write (outcome.stopped stops s t w) = stopping stops s

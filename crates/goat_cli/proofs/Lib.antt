@@ -12,3 +12,4 @@ mod Causes
 mod Rows
 mod Accounts
 mod Answered
+mod PlayedFiles

@@ -15,3 +15,4 @@ pub mod Outcome
 pub mod Rows
 pub mod Refusal
 pub mod Endings
+pub mod PlayedFiles

@@ -12,6 +12,8 @@
 
 mod ending;
 mod image;
+/// Facts about the definitions.
+pub mod laws;
 mod line;
 mod made;
 mod refusal;
