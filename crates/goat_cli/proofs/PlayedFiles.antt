@@ -1,5 +1,5 @@
 -- A packed file that is run plays its song.
-use Rattle.std.proofs.Common.{◌≡◌, ◌≢◌, ℕ, zero, suc, ◌+◌, ◌-◌, ◌^◌, ◌≤◌, ◌<◌, inl, inr, List, [], ◌∷◌, ◌++◌, Option, None, Ok, Err, All, length, true, refl, sym, ap, ◌∙◌, subst, arith, add-one, lit≤}
+use Rattle.std.proofs.Common.{◌≡◌, ℕ, zero, suc, ◌+◌, ◌-◌, ◌≤◌, ◌<◌, List, [], ◌∷◌, ◌++◌, Option, None, Err, All, length, refl, sym, ap, ◌∙◌, subst, arith, lit≤}
 use Rattle.song_model.specs.declared.songs.Song.{Song}
 use Rattle.song_model.specs.Limits.{KeepsLimits}
 use Rattle.std.proofs.lemmas.List.Elements.{All-tail}
@@ -13,14 +13,13 @@ use Rattle.psid.specs.declared.header.Header.{Header}
 use Rattle.psid.specs.declared.header.Psid.{Psid}
 use Rattle.psid.specs.Format.{IsHeader, IsWritable, header_bytes, psid_bytes}
 use Rattle.psid.specs.Words.{address_bytes}
-use Rattle.psid.specs.Reading.{psid_read}
 use Rattle.psid.proofs.Written.{written_is_read_as_is}
 use Rattle.sid_run.specs.State.{RunnerState, loaded, loaded_machine}
 use Rattle.sid_run.proofs.Images.{image_stands, loaded_is_machine}
 use Rattle.goat_cli.specs.Calls.{ReturnsTo, FirstCalls, MeetsStopAt}
-use Rattle.goat_cli.specs.Faithful.{Leaves, AgreesOn, PlaysOn, IsFaithful}
+use Rattle.goat_cli.specs.Faithful.{Leaves, PlaysOn, IsFaithful}
 use Rattle.goat_cli.specs.Place.{IsAddress}
-use Rattle.goat_cli.specs.Packed.{IsPackedFile, song_header, psid_file}
+use Rattle.goat_cli.specs.Packed.{song_header, psid_file}
 use Rattle.goat_cli.specs.RegisterText.{register_text}
 use Rattle.goat_cli.specs.Outcome as outcome
 use Rattle.goat_cli.specs.Outcome.{RunOutcome}
