@@ -1,5 +1,5 @@
 -- Machines stay machines: the effect of each instruction is within the ranges, and what is written leaves memory a memory.
-use Rattle.std.proofs.Common.{◌≡◌, ℕ, zero, suc, ◌+◌, ◌-◌, ◌*◌, ◌/◌, ◌%◌, ◌<◌, ◌≤◌, ◌^◌, Bool, true, false, not, List, [], ◌∷◌, Option, Some, None, Result, Ok, Err, length, slice_index, slice_set, bit_and, bit_or, bit_xor, if◌then◌else◌, All, refl, sym, ap, ◌∙◌, subst, arith, length-set, inl, inr}
+use Rattle.std.proofs.Common.{◌≡◌, ℕ, zero, suc, ◌+◌, ◌*◌, ◌%◌, ◌<◌, ◌≤◌, Bool, true, false, not, List, [], ◌∷◌, Option, Some, None, Result, Ok, Err, length, slice_index, slice_set, bit_and, if◌then◌else◌, All, refl, ◌∙◌, subst, arith, length-set, inl, inr}
 use Rattle.std.proofs.lemmas.Bool.{cases_lt}
 use Rattle.std.proofs.lemmas.List.{get_or_past}
 use Rattle.std.proofs.lemmas.List.Elements.{All-set}
@@ -14,21 +14,21 @@ use Rattle.cpu6502.specs.declared.effect.Effect.{Effect}
 use Rattle.cpu6502.specs.declared.machine.Machine.{Machine}
 use Rattle.cpu6502.specs.declared.stop.Stop.{Stop}
 use Rattle.cpu6502.specs.Opcodes.{Meaning, meaning_of, length_of, is_accumulator}
-use Rattle.cpu6502.specs.Registers.{one_if, stack_place, with_sign_and_zero, with_a, with_x, with_y, quiet, storing}
+use Rattle.cpu6502.specs.Registers.{one_if, stack_place, with_a, with_x, with_y, quiet, storing}
 use Rattle.cpu6502.specs.Loads.{load_effect}
-use Rattle.cpu6502.specs.Arithmetic.{added, arithmetic_effect}
-use Rattle.cpu6502.specs.Compares.{compared, compare_effect}
+use Rattle.cpu6502.specs.Arithmetic.{arithmetic_effect}
+use Rattle.cpu6502.specs.Compares.{compare_effect}
 use Rattle.cpu6502.specs.Logic.{logic_effect}
-use Rattle.cpu6502.specs.Shifts.{shifted, shifted_in_memory, shift_effect, shifted_in_a, accumulator_effect}
-use Rattle.cpu6502.specs.Counts.{counted, count_effect}
+use Rattle.cpu6502.specs.Shifts.{shifted, shifted_in_memory, accumulator_effect}
+use Rattle.cpu6502.specs.Counts.{count_effect}
 use Rattle.cpu6502.specs.Branches.{branched, branch_effect}
 use Rattle.cpu6502.specs.Stack.{status_of, stack_effect}
 use Rattle.cpu6502.specs.Jumps.{called, jump_effect}
 use Rattle.cpu6502.specs.Flags.{flag_effect}
 use Rattle.cpu6502.specs.Transfers.{transfer_effect}
-use Rattle.cpu6502.specs.Effects.{address_of, or_effect, data_effect, other_effect, stop_of, unless_stopped, effect_of, moved, done_by, effect}
-use Rattle.cpu6502.specs.Step.{written, changed, stepped, next_effect, step}
-use Rattle.cpu6502.specs.Call.{after_step, run, return_address, entered, Called}
+use Rattle.cpu6502.specs.Effects.{address_of, or_effect, data_effect, other_effect, stop_of, unless_stopped, effect_of, moved, done_by}
+use Rattle.cpu6502.specs.Step.{written, stepped, next_effect, step}
+use Rattle.cpu6502.specs.Call.{after_step, run, return_address, entered}
 use Rattle.cpu6502.specs.Code.{IsMachine}
 use Rattle.cpu6502.specs.Machines.{StepsKeepMachines, CallsKeepMachines}
 
