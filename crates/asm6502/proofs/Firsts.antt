@@ -20,9 +20,6 @@ first_more test lines k x l e =
     let back : drop k lines ≡ x ∷ drop (k + 1) lines = drop_more lines k x l ∙ ap (λ (y : Line). y ∷ drop (k + 1) lines) (sym e) in
     rw (front, back) refl
 
-pub searched_none : (test : Test) (lines : List Line) → IsSearched test lines 0
-searched_none test lines = record { rest = refl }
-
 pub searched_more : (test : Test) (lines : List Line) (k : ℕ) (x : Line) → k < length lines → x ≡ get_or lines k x → test (take k lines) x ≡ None → IsSearched test lines k → IsSearched test lines (k + 1)
 searched_more test lines k x l e n s =
     let m = first_more test lines k x l e in
@@ -34,7 +31,3 @@ found_here test lines k x fault l e n s =
     let m = first_more test lines k x l e in
     let f = ap (λ (o : Option AsmFault). option_or o (first_fault test (take (k + 1) lines) (drop (k + 1) lines))) n in
     sym s.rest ∙ m ∙ f
-
-pub searched_all : (test : Test) (lines : List Line) (k : ℕ) → length lines ≤ k → IsSearched test lines k → first_fault test [] lines ≡ None
-searched_all test lines k l s =
-    sym s.rest ∙ ap (λ (ls : List Line). first_fault test (take k lines) ls) (drop_all k lines l)

@@ -67,13 +67,6 @@ fault_none set origin lines n =
     let e = n.near in
     rw (a, b, c, d, e) refl
 
--- something is, and this comes first
-pub fault_double : (set origin : ℕ) (lines : List Line) (fault : AsmFault) → first_fault (bad_line set) [] lines ≡ None → first_fault (double_label set) [] lines ≡ Some fault → fault_of set origin lines ≡ Some fault
-fault_double set origin lines fault a b = rw (a, b) refl
-
-pub fault_unknown : (set origin : ℕ) (lines : List Line) (fault : AsmFault) → first_fault (bad_line set) [] lines ≡ None → first_fault (double_label set) [] lines ≡ None → first_fault (unknown_label set lines) [] lines ≡ Some fault → fault_of set origin lines ≡ Some fault
-fault_unknown set origin lines fault a b c = rw (a, b, c) refl
-
 pub fault_end : (set origin : ℕ) (lines : List Line) (size : ℕ) (fault : AsmFault) → first_fault (bad_line set) [] lines ≡ None → first_fault (double_label set) [] lines ≡ None → first_fault (unknown_label set lines) [] lines ≡ None → size ≡ size_of (kept set lines) → (if nat_lt 65536 (origin + size) then Some (PastEnd size) else None) ≡ Some fault → fault_of set origin lines ≡ Some fault
 fault_end set origin lines size fault a b c s e =
     let d : past_end set origin lines ≡ Some fault = ap (λ (n : ℕ). if nat_lt 65536 (origin + n) then Some (PastEnd n) else None) (sym s) ∙ e in

@@ -69,24 +69,11 @@ written_kept old new labels set origin before line k h w b f =
       size = one_size (address_by labels origin) (origin + length old.bytes) (kept set before) line old.bytes new.bytes h w.size b ∙ ap size_of (sym e);
     }
 
--- after another line
-pub written_other : (old : Output) (labels : Labels) (set origin : ℕ) (before : List Line) (line : Line) → is_kept set line ≡ false → IsWritten old labels set origin before → IsWritten old labels set origin (before ++ line ∷ [])
-written_other old labels set origin before line k w =
-    let e = kept_same set before line k in
-    record {
-      bytes = w.bytes ∙ ap (bytes_of (address_by labels origin) origin) (sym e);
-      fixes = w.fixes ∙ ap (fixes_of (address_by labels 0) 0) (sym e);
-      size = w.size ∙ ap size_of (sym e);
-    }
-
 -- whether its branch reaches
 pub near_kept : (address : ℕ → ℕ) (set origin : ℕ) (before : List Line) (line : Line) (size : ℕ) (far : Bool) → is_kept set line ≡ true → size ≡ size_of (kept set before) → is_far_item address (origin + size) line.item ≡ far → far_by address set origin before line ≡ (if far then Some (BranchTooFar (length before)) else None)
 near_kept address set origin before line size far k s h =
     let e : is_far_item address (origin + size_of (kept set before)) line.item ≡ far = ap (λ (n : ℕ). is_far_item address (origin + n) line.item) (sym s) ∙ h in
     rw (k, e) refl
-
-pub near_other : (address : ℕ → ℕ) (set origin : ℕ) (before : List Line) (line : Line) → is_kept set line ≡ false → far_by address set origin before line ≡ None
-near_other address set origin before line k = rw k refl
 
 -- what an instruction's encoding puts behind the bytes
 pub code_bytes : (address : ℕ → ℕ) (origin at : ℕ) (mn : Mnemonic) (mode : Mode) (x : Operand) (number : ℕ) (encoded taken old new : List ℕ) → at ≡ length old → number ≡ operand_of address (origin + at) mode x → Some encoded ≡ encoding (record { mnemonic = mn; mode = mode; operand = number }) → taken ≡ encoded → new ≡ old ++ taken → new ≡ old ++ item_bytes address (origin + length old) (Code mn mode x)

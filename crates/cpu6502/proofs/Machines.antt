@@ -63,9 +63,6 @@ is_quiet cpu f = record { cpu = f; writes = tt }
 is_storing : (cpu : Cpu) (place byte : ℕ) → FitsCpu cpu → place < 65536 → byte < 256 → Fits (storing cpu place byte)
 is_storing cpu place byte f p b = record { cpu = f; writes = (record { place = p; value = b }, tt) }
 
-with_flags : (cpu : Cpu) (n v d i z c : Bool) → FitsCpu cpu → FitsCpu (record cpu { n = n; v = v; d = d; i = i; z = z; c = c })
-with_flags cpu n v d i z c f = record { a = f.a; x = f.x; y = f.y; sp = f.sp; pc = f.pc }
-
 in_a : (cpu : Cpu) (byte : ℕ) → FitsCpu cpu → byte < 256 → FitsCpu (with_a cpu byte)
 in_a cpu byte f b = record { a = b; x = f.x; y = f.y; sp = f.sp; pc = f.pc }
 

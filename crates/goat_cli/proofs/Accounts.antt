@@ -258,14 +258,8 @@ module _ (words : List (List ℕ)) (files : Files) (now : Option Files) (before 
 
 -- ---- what was printed, whether the folder tells its files or not
 
-pub unread_says : (job : Job) (before after : Option (List ℕ)) (e : Ending) → after ≡ before → (IsPrinted (status_of e) → JobText job (status_of e) (line_of e)) → JobSays job before after e
-unread_says job before after e same text = record { front = []; shown = same ∙ sym (told_nothing before); text = text }
-
 pub job_says : (words : List (List ℕ)) (job : Job) (before after : Option (List ℕ)) (e : Ending) → WordsOf words job → JobSays job before after e → RunSays words before after e
 job_says words job before after e form says = record { front = says.front; shown = says.shown; text = λ full. rows.job job form (says.text full) }
-
-pub usage_says : (words : List (List ℕ)) (before after : Option (List ℕ)) → after ≡ before → RunSays words before after ending.Usage
-usage_says words before after same = record { front = []; shown = same ∙ sym (told_nothing before); text = λ full. rows.usage refl refl }
 
 -- a job past its reading meets no read fault
 pub not_four : (n : ℕ) → IsOneOf (0 ∷ 5 ∷ 9 ∷ 10 ∷ 11 ∷ 12 ∷ 13 ∷ 14 ∷ 15 ∷ []) n → n ≢ 4

@@ -78,15 +78,6 @@ module _ (words : List (List ℕ)) (e : Ending) (answer : ℕ) (answered : IsOne
   pub same_status : answer ≢ 10 → answer ≢ 14 → answer ≡ status_of e
   same_status fine found = elim answered [ inl same ↦ same | inr other ↦ elim other [ inl failed ↦ absurd (fine failed) | inr more ↦ elim more [ inl want ↦ absurd (found want) | inr none ↦ absurd none ] ] ]
 
-  pub usage_row : ComesWhere (IsNoForm words) (status_of e) 1 [] → ComesWhere (IsNoForm words) answer 1 (10 ∷ 14 ∷ [])
-  usage_row row = record {
-    only = λ is. row.only (sym (same_status (λ failed. omega arith) (λ want. omega arith)) ∙ is);
-    always = λ none. elim (row.always none) [
-      | inl one ↦ elim answered [ inl same ↦ inl (same ∙ one) | inr other ↦ inr other ]
-      | inr never ↦ absurd never
-    ];
-  }
-
   -- what the sink holds, before the run, before its last line, and after it
   module _ (before between after : Option (List ℕ)) (printed : IsPrinted answer → after ≡ told_with_piece between (line_of e)) where
     both_told : (front : List ℕ) → between ≡ told_with_piece before front → IsPrinted answer → after ≡ told_with_piece before (front ++ line_of e)

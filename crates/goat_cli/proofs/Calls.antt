@@ -180,16 +180,6 @@ module _ (file : RunnerState) (subtune calls : ℕ) (now later : RunnerState) (b
     fails = subst (λ e. FailsBy now.machine e (number_of subtune calls now.machine) most_steps reason later.machine) (same_entry file now calls so_far.same_init so_far.same_play) fails;
   }
 
-pub none_so_far : (file : RunnerState) (subtune : ℕ) (shown : Option (List ℕ)) → file.stopped ≡ None → shown ≡ told_with_piece shown [] → CallsSoFar file subtune 0 file shown shown
-none_so_far file subtune shown running told = record {
-  registers = [];
-  returned = (refl, refl);
-  running = running;
-  same_init = refl;
-  same_play = refl;
-  printed = told;
-}
-
 -- all calls returned
 pub all_played : (file now : RunnerState) (subtune frames calls : ℕ) (before after : Option (List ℕ)) → CallsSoFar file subtune calls now before after → calls ≡ frames + 1 → CallsEnd file subtune frames before after Shown
 all_played file now subtune frames calls before after so is =

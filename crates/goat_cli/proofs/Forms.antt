@@ -62,9 +62,6 @@ module _ (ws : List (List ℕ)) (a b c d : List ℕ) (four : ws ≡ a ∷ b ∷ 
   pub no_subtune : ((number : ℕ) → IsNumberWord 255 c number → ⊥) → (input : List ℕ) (subtune frames : ℕ) → IsRunForm ws input subtune frames → ⊥
   no_subtune none = λ input subtune frames w. let same : w.subtune_word ≡ c = cc (four, w.form) in none subtune (subst (λ word. IsNumberWord 255 word subtune) same w.subtune_spelled)
 
-  pub no_frames : ((number : ℕ) → IsNumberWord 100000 d number → ⊥) → (input : List ℕ) (subtune frames : ℕ) → IsRunForm ws input subtune frames → ⊥
-  no_frames none = λ input subtune frames w. let same : w.frames_word ≡ d = cc (four, w.form) in none frames (subst (λ word. IsNumberWord 100000 word frames) same w.frames_spelled)
-
   pub is_run_form : (input : List ℕ) (subtune frames : ℕ) → a ≡ codes "run" → b ≡ input → b ≢ [] → IsNumberWord 255 c subtune → IsNumberWord 100000 d frames → IsRunForm ws input subtune frames
   is_run_form input subtune frames is_run is_input named_in spelled_subtune spelled_frames = record {
     subtune_word = c;

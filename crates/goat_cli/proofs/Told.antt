@@ -10,29 +10,10 @@ pub IfSome-weaker : {A : Type 0} (o : Option A) (P Q : A → Type 0) → ((a : A
 IfSome-weaker None P Q f h = h
 IfSome-weaker (Some a) P Q f h = f a h
 
-pub IfSome-both : {A : Type 0} (o : Option A) (P Q : A → Type 0) → IfSome o P → IfSome o Q → IfSome o (λ a. P a × Q a)
-IfSome-both None P Q h k = tt
-IfSome-both (Some a) P Q h k = (h, k)
-
--- the files that are told are the same
-pub IfSome-stay : {A : Type 0} (o : Option A) (P : Type 0) → P → IfSome o (λ a. P × (o ≡ Some a))
-IfSome-stay None P p = tt
-IfSome-stay (Some a) P p = (p, refl)
-
 -- and those of which something is known
 pub IfSome-same : {A : Type 0} (o : Option A) (P : A → Option A → Type 0) → ((a : A) → P a (Some a)) → IfSome o (λ a. P a o)
 IfSome-same None P f = tt
 IfSome-same (Some a) P f = f a
-
--- and those of which P is known
-pub IfSome-told : {A : Type 0} (o now : Option A) (P : A → Type 0) (Q : A → Option A → Type 0) → now ≡ o → ((a : A) → P a → Q a (Some a)) → IfSome o P → IfSome o (λ a. Q a now)
-IfSome-told None now P Q same f h = tt
-IfSome-told (Some a) now P Q same f h = subst (Q a) (sym same) (f a h)
-
--- nothing is known of any files
-pub IfSome-any : {A : Type 0} (o : Option A) → IfSome o (λ a. Unit {0})
-IfSome-any None = tt
-IfSome-any (Some a) = tt
 
 -- ---- sinks
 
