@@ -9,7 +9,7 @@ use Rattle.song_model.specs.Silent.{IsSilent}
 use Rattle.goat_cli.specs.declared.ending.Ending.{Ending}
 use Rattle.goat_cli.specs.declared.ending.Ending.TheVariants.{Wrote, Shown, Usage, Missing, TooLong, ReadFault, NotASong, WriteFault, SinkFault, NoSubtune, NotAPsid, Stopped, NoMemory, NotBuilt}
 use Rattle.goat_cli.specs.Ending.{status_of, line_of}
-use Rattle.goat_cli.specs.Words.{Job, Pack, Copy, Run, IsNoForm}
+use Rattle.goat_cli.specs.Words.{Job, Pack, Copy, Run}
 use Rattle.goat_cli.specs.Lines.{no_memory_line}
 use Rattle.goat_cli.specs.Packed.{IsPackedFile}
 use Rattle.goat_cli.specs.Calls.{Plays}

@@ -59,9 +59,6 @@ is_copy_form ws a b c input output three is_copy is_input is_output named_in nam
 }
 
 module _ (ws : List (List ℕ)) (a b c d : List ℕ) (four : ws ≡ a ∷ b ∷ c ∷ d ∷ []) where
-  pub no_subtune : ((number : ℕ) → IsNumberWord 255 c number → ⊥) → (input : List ℕ) (subtune frames : ℕ) → IsRunForm ws input subtune frames → ⊥
-  no_subtune none = λ input subtune frames w. let same : w.subtune_word ≡ c = cc (four, w.form) in none subtune (subst (λ word. IsNumberWord 255 word subtune) same w.subtune_spelled)
-
   pub is_run_form : (input : List ℕ) (subtune frames : ℕ) → a ≡ codes "run" → b ≡ input → b ≢ [] → IsNumberWord 255 c subtune → IsNumberWord 100000 d frames → IsRunForm ws input subtune frames
   is_run_form input subtune frames is_run is_input named_in spelled_subtune spelled_frames = record {
     subtune_word = c;
