@@ -1,5 +1,5 @@
 -- What is written after one more line.
-use Rattle.std.proofs.Common.{◌≡◌, ℕ, ◌+◌, ◌≤◌, Bool, true, false, List, [], ◌∷◌, ◌++◌, length, take, drop, Option, Some, None, unwrap_or, if◌then◌else◌, refl, ap, sym, ◌∙◌, arith, append_assoc, length-append}
+use Rattle.std.proofs.Common.{◌≡◌, ℕ, ◌+◌, ◌≤◌, Bool, true, List, [], ◌∷◌, ◌++◌, length, take, drop, Option, Some, None, unwrap_or, if◌then◌else◌, refl, ap, sym, ◌∙◌, arith, append_assoc, length-append}
 use Rattle.std.proofs.lemmas.List.{append-nil, take-append-drop}
 use Rattle.cpu6502.specs.declared.mnemonic.Mnemonic.{Mnemonic}
 use Rattle.cpu6502.specs.declared.mnemonic.Mode.{Mode}
@@ -16,7 +16,7 @@ use Rattle.asm6502.specs.Lines.{is_kept, kept, item_size, size_of, is_sound}
 use Rattle.asm6502.specs.Assembly.{instr_at, item_bytes, bytes_of, item_fixes, fixes_of}
 use Rattle.asm6502.specs.Faults.{is_far_item, far_by}
 use Rattle.asm6502.specs.Places.{IsWritten, address_by}
-use Rattle.asm6502.proofs.Naming.{kept-append, kept_more, kept_same, size_of-append}
+use Rattle.asm6502.proofs.Naming.{kept-append, kept_more, size_of-append}
 use Rattle.asm6502.proofs.Sound.{item_length}
 
 pub bytes_of-append : (address : ℕ → ℕ) (pc : ℕ) (front back : List Line) → bytes_of address pc (front ++ back) ≡ bytes_of address pc front ++ bytes_of address (pc + size_of front) back
