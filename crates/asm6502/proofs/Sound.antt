@@ -138,7 +138,7 @@ pub sound_line : (set : ℕ) (before : List Line) (x : Line) → bad_line set be
 sound_line set before x h k = not_bad (is_no_part x.part) (is_kept set x) (is_sound x.item) _ h k
 
 -- a test that finds nothing first finds nothing here, and nothing behind
-or_parts : (o p : Option AsmFault) → option_or o p ≡ None → (o ≡ None) × (p ≡ None)
+pub or_parts : (o p : Option AsmFault) → option_or o p ≡ None → (o ≡ None) × (p ≡ None)
 or_parts None p h = (refl, h)
 or_parts (Some x) p h = absurd (cc)
 

@@ -23,7 +23,7 @@ use Rattle.asm6502.specs.Places.{HasPlaces, address_by, IsWritten}
 use Rattle.asm6502.specs.Moving.{IsMoved, IsAssembly}
 use Rattle.asm6502.specs.Standing.{BytesStand, LinesAt, KeptLinesStand}
 use Rattle.asm6502.proofs.Naming.{kept-append, size_of-append}
-use Rattle.asm6502.proofs.Sound.{all_sound}
+use Rattle.asm6502.proofs.Sound.{or_parts, all_sound}
 use Rattle.asm6502.proofs.Numbers.{numbers_stand}
 use Rattle.asm6502.proofs.Shifts.{AreShifted, label_shifts, lines_shift, fixes_in_order}
 use Rattle.asm6502.proofs.Standing.{NothingWrong, lines_stand}
@@ -36,10 +36,6 @@ pub record NoFault (set origin : ℕ) (lines : List Line) : Type 0 where
   pub unknown : first_fault (unknown_label set lines) [] lines ≡ None
   pub fits : origin + size_of (kept set lines) ≤ 65536
   pub near : first_fault (far_branch set origin lines) [] lines ≡ None
-
-or_parts : (o p : Option AsmFault) → option_or o p ≡ None → (o ≡ None) × (p ≡ None)
-or_parts None p h = (refl, h)
-or_parts (Some x) p h = absurd (cc)
 
 within : (n size : ℕ) (z : Bool) → nat_lt 65536 n ≡ z → (if z then Some (PastEnd size) else None) ≡ None → n ≤ 65536
 within n size true e h = absurd (cc)

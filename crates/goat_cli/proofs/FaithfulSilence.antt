@@ -1,17 +1,15 @@
 -- The silent player plays silent songs.
-use Rattle.std.proofs.Common.{◌≡◌, ℕ, zero, suc, ◌<◌, ◌≤◌, List, [], ◌∷◌, length, replicate, true, All, refl, sym, ◌∙◌, subst, arith, lit≤, add-one, Bool}
+use Rattle.std.proofs.Common.{◌≡◌, ℕ, zero, suc, ◌<◌, ◌≤◌, List, [], ◌∷◌, length, replicate, All, refl, sym, ◌∙◌, subst, arith, lit≤, add-one, Bool}
 use Rattle.std.proofs.lemmas.List.Sums.{length-filter, count_by-le-length}
 use Rattle.song_model.specs.declared.songs.Song.{Song}
 use Rattle.std.specs.List.{filter}
-use Rattle.std.proofs.lemmas.Bool.{ne_eqb}
 use Rattle.song_model.specs.declared.rows.Row.{Row}
-use Rattle.song_model.specs.declared.orders.Order.{Order}
 use Rattle.song_model.specs.declared.orders.Subtune.{Subtune}
-use Rattle.song_model.specs.LookUp.{playable_subtunes, is_playable_subtune, has_entries}
+use Rattle.song_model.specs.LookUp.{playable_subtunes, is_playable_subtune}
 use Rattle.song_model.specs.Silent.{IsSilent, IsSilentSubtune}
 use Rattle.play_model.specs.Frame.{trace}
 use Rattle.play_model.specs.SilentTrace.{silent_registers}
-use Rattle.play_model.proofs.QuietTrace.{silent_songs_lem}
+use Rattle.play_model.proofs.QuietTrace.{silent_is_playable, silent_songs_lem}
 use Rattle.cpu6502.specs.declared.machine.Machine.{Machine}
 use Rattle.cpu6502.specs.Code.{IsMachine, Holds}
 use Rattle.goat_cli.specs.SilentRun.{InitIsSilent, PlayIsSilent}
@@ -78,17 +76,9 @@ packs_silence psid address image file song silent holds is init play zero_page =
   faithful = faithful_silence image address zero_page song init play silent;
 }
 
-has_entries_of : (order : Order) → 0 < length order.entries → has_entries order ≡ true
-has_entries_of order some = rw (ne_eqb (length order.entries) 0 (λ none. omega arith)) refl
-
 playable_once : (patterns : List (List Row)) (subtunes : List Subtune) → length subtunes ≡ 1 → All (IsSilentSubtune patterns) subtunes → length (filter is_playable_subtune subtunes) ≡ 1
 playable_once patterns [] one all = absurd (omega arith)
-playable_once patterns (s ∷ []) one all =
-    let silent = all 0 s (lit≤ tt) in
-    let a = has_entries_of s.one silent.one.entry in
-    let b = has_entries_of s.two silent.two.entry in
-    let c = has_entries_of s.three silent.three.entry in
-    rw (a, b, c) refl
+playable_once patterns (s ∷ []) one all = rw (silent_is_playable patterns s (all 0 s (lit≤ tt))) refl
 playable_once patterns (s ∷ t ∷ rest) one all = absurd (omega arith)
 
 -- a silent song has one subtune that can be played

@@ -100,7 +100,8 @@ quiet_subtune song subtune s = record {
   three = quiet_order song subtune.three s.three;
 }
 
-silent_is_playable : (patterns : List (List Row)) (subtune : Subtune) → IsSilentSubtune patterns subtune → is_playable_subtune subtune ≡ true
+-- a silent subtune can be played
+pub silent_is_playable : (patterns : List (List Row)) (subtune : Subtune) → IsSilentSubtune patterns subtune → is_playable_subtune subtune ≡ true
 silent_is_playable patterns subtune s =
     rw (entries_there subtune.one s.one.entry, entries_there subtune.two s.two.entry, entries_there subtune.three s.three.entry)
 
