@@ -1,7 +1,7 @@
 -- The frames of the small songs, computed by the checker.
 use Rattle.std.proofs.Common.{◌≡◌, ℕ, zero, suc, List, [], ◌∷◌, replicate, refl, ap, ◌∙◌, add-one}
 use Rattle.song_model.specs.Walk.{prefix_of, cycle_of, played}
-use Rattle.song_model.specs.LookUp.{instrument_at, table_row, pattern_at}
+use Rattle.song_model.specs.LookUp.{playable_subtune, instrument_at, table_row, pattern_at}
 use Rattle.play_model.specs.Freq.{freq, half_tone, slide}
 use Rattle.play_model.specs.Helpers.{next_row, porta_up, porta_down, tone, vibrato, do_command}
 use Rattle.play_model.specs.FilterStep.{filter_step}
@@ -10,47 +10,47 @@ use Rattle.play_model.specs.WaveStep.{wave_command, wave_step}
 use Rattle.play_model.specs.EffectStep.{effect_step}
 use Rattle.play_model.specs.PulseStep.{pulse_step}
 use Rattle.play_model.specs.FetchRow.{fetch_row}
-use Rattle.play_model.specs.Frame.{Framed, voice_step, voice_registers, filter_registers, frame, state_after, trace}
+use Rattle.play_model.specs.Frame.{Framed, voice_step, voice_registers, filter_registers, frame_of, frame, state_after_with, state_after, trace}
 use Rattle.song_model.specs.declared.songs.Song.{Song}
-use Rattle.play_model.specs.State.{start_state}
+use Rattle.play_model.specs.State.{no_options, start_state}
 use Rattle.play_model.specs.SilentTrace.{silent_registers}
 use Rattle.play_model.specs.WorkedSongs.{one_note, with_gate_timer}
 use Rattle.play_model.specs.WorkedFrames.{from_call, OneNoteSounds, LowNoteIsMute, VibratoWraps, SlideStops, FunkTempoWraps, GateTimerBits, LongTimerIsNeverMet, WaveProgramWaits, VibratoChangesAlone, FilterFollows}
 
 pub one_note_sounds_lem : OneNoteSounds
-unfolding prefix_of cycle_of played instrument_at table_row pattern_at freq half_tone slide next_row porta_up porta_down tone vibrato do_command filter_step between_rows note_started row_command at_row tick_step wave_command wave_step effect_step pulse_step fetch_row voice_step voice_registers filter_registers frame state_after trace
+unfolding prefix_of cycle_of played playable_subtune instrument_at table_row pattern_at freq half_tone slide next_row porta_up porta_down tone vibrato do_command filter_step between_rows note_started row_command at_row tick_step wave_command wave_step effect_step pulse_step fetch_row voice_step voice_registers filter_registers frame_of state_after_with trace
 one_note_sounds_lem = record { silent = refl; fetched = refl; started = refl; sounds = refl; released = refl; again = refl }
 
 pub low_note_is_mute_lem : LowNoteIsMute
-unfolding prefix_of cycle_of played instrument_at table_row pattern_at freq half_tone slide next_row porta_up porta_down tone vibrato do_command filter_step between_rows note_started row_command at_row tick_step wave_command wave_step effect_step pulse_step fetch_row voice_step voice_registers filter_registers frame state_after trace
+unfolding prefix_of cycle_of played playable_subtune instrument_at table_row pattern_at freq half_tone slide next_row porta_up porta_down tone vibrato do_command filter_step between_rows note_started row_command at_row tick_step wave_command wave_step effect_step pulse_step fetch_row voice_step voice_registers filter_registers frame_of state_after_with trace
 low_note_is_mute_lem = record { note = refl; sounds = refl }
 
 pub vibrato_wraps_lem : VibratoWraps
-unfolding prefix_of cycle_of played instrument_at table_row pattern_at freq half_tone slide next_row porta_up porta_down tone vibrato do_command filter_step between_rows note_started row_command at_row tick_step wave_command wave_step effect_step pulse_step fetch_row voice_step voice_registers filter_registers frame state_after trace
+unfolding prefix_of cycle_of played playable_subtune instrument_at table_row pattern_at freq half_tone slide next_row porta_up porta_down tone vibrato do_command filter_step between_rows note_started row_command at_row tick_step wave_command wave_step effect_step pulse_step fetch_row voice_step voice_registers filter_registers frame_of state_after_with trace
 vibrato_wraps_lem = refl
 
 pub slide_stops_lem : SlideStops
-unfolding prefix_of cycle_of played instrument_at table_row pattern_at freq half_tone slide next_row porta_up porta_down tone vibrato do_command filter_step between_rows note_started row_command at_row tick_step wave_command wave_step effect_step pulse_step fetch_row voice_step voice_registers filter_registers frame state_after trace
+unfolding prefix_of cycle_of played playable_subtune instrument_at table_row pattern_at freq half_tone slide next_row porta_up porta_down tone vibrato do_command filter_step between_rows note_started row_command at_row tick_step wave_command wave_step effect_step pulse_step fetch_row voice_step voice_registers filter_registers frame_of state_after_with trace
 slide_stops_lem = record { slides = refl; tied = refl }
 
 pub funk_tempo_wraps_lem : FunkTempoWraps
-unfolding prefix_of cycle_of played instrument_at table_row pattern_at freq half_tone slide next_row porta_up porta_down tone vibrato do_command filter_step between_rows note_started row_command at_row tick_step wave_command wave_step effect_step pulse_step fetch_row voice_step voice_registers filter_registers frame state_after trace
+unfolding prefix_of cycle_of played playable_subtune instrument_at table_row pattern_at freq half_tone slide next_row porta_up porta_down tone vibrato do_command filter_step between_rows note_started row_command at_row tick_step wave_command wave_step effect_step pulse_step fetch_row voice_step voice_registers filter_registers frame_of state_after_with trace
 funk_tempo_wraps_lem = record { one = refl; two = refl; alike = refl }
 
 pub gate_timer_bits_lem : GateTimerBits
-unfolding prefix_of cycle_of played instrument_at table_row pattern_at freq half_tone slide next_row porta_up porta_down tone vibrato do_command filter_step between_rows note_started row_command at_row tick_step wave_command wave_step effect_step pulse_step fetch_row voice_step voice_registers filter_registers frame state_after trace
+unfolding prefix_of cycle_of played playable_subtune instrument_at table_row pattern_at freq half_tone slide next_row porta_up porta_down tone vibrato do_command filter_step between_rows note_started row_command at_row tick_step wave_command wave_step effect_step pulse_step fetch_row voice_step voice_registers filter_registers frame_of state_after_with trace
 gate_timer_bits_lem = record { neither = refl; gate_kept = refl; envelope_kept = refl }
 
 pub wave_program_waits_lem : WaveProgramWaits
-unfolding prefix_of cycle_of played instrument_at table_row pattern_at freq half_tone slide next_row porta_up porta_down tone vibrato do_command filter_step between_rows note_started row_command at_row tick_step wave_command wave_step effect_step pulse_step fetch_row voice_step voice_registers filter_registers frame state_after trace
+unfolding prefix_of cycle_of played playable_subtune instrument_at table_row pattern_at freq half_tone slide next_row porta_up porta_down tone vibrato do_command filter_step between_rows note_started row_command at_row tick_step wave_command wave_step effect_step pulse_step fetch_row voice_step voice_registers filter_registers frame_of state_after_with trace
 wave_program_waits_lem = refl
 
 pub vibrato_changes_alone_lem : VibratoChangesAlone
-unfolding prefix_of cycle_of played instrument_at table_row pattern_at freq half_tone slide next_row porta_up porta_down tone vibrato do_command filter_step between_rows note_started row_command at_row tick_step wave_command wave_step effect_step pulse_step fetch_row voice_step voice_registers filter_registers frame state_after trace
+unfolding prefix_of cycle_of played playable_subtune instrument_at table_row pattern_at freq half_tone slide next_row porta_up porta_down tone vibrato do_command filter_step between_rows note_started row_command at_row tick_step wave_command wave_step effect_step pulse_step fetch_row voice_step voice_registers filter_registers frame_of state_after_with trace
 vibrato_changes_alone_lem = record { before = refl; after = refl }
 
 pub filter_follows_lem : FilterFollows
-unfolding prefix_of cycle_of played instrument_at table_row pattern_at freq half_tone slide next_row porta_up porta_down tone vibrato do_command filter_step between_rows note_started row_command at_row tick_step wave_command wave_step effect_step pulse_step fetch_row voice_step voice_registers filter_registers frame state_after trace
+unfolding prefix_of cycle_of played playable_subtune instrument_at table_row pattern_at freq half_tone slide next_row porta_up porta_down tone vibrato do_command filter_step between_rows note_started row_command at_row tick_step wave_command wave_step effect_step pulse_step fetch_row voice_step voice_registers filter_registers frame_of state_after_with trace
 filter_follows_lem = record { set = refl; slides = refl }
 
 -- the registers of so many calls in one run, which doesn't begin anew for each call
@@ -59,14 +59,14 @@ calls_behind song zero f = []
 calls_behind song (suc n) f = f.registers ∷ calls_behind song n (frame song 0 f.state)
 
 calls_are_traced : (song : Song) (m n : ℕ) → from_call (trace song 0) (suc m) n ≡ calls_behind song n (frame song 0 (state_after song 0 m))
-unfolding calls_behind state_after trace
+unfolding calls_behind state_after_with trace
 calls_are_traced song m zero = refl
 calls_are_traced song m (suc n) = rw (add-one (suc m)) (ap (λ calls. (frame song 0 (state_after song 0 m)).registers ∷ calls) (calls_are_traced song (suc m) n))
 
-long_run : calls_behind (with_gate_timer 0x3F one_note) 300 (frame (with_gate_timer 0x3F one_note) 0 start_state) ≡ replicate 300 silent_registers
-unfolding prefix_of cycle_of played instrument_at table_row pattern_at freq half_tone slide next_row porta_up porta_down tone vibrato do_command filter_step between_rows note_started row_command at_row tick_step wave_command wave_step effect_step pulse_step fetch_row voice_step voice_registers filter_registers frame state_after trace calls_behind
+long_run : calls_behind (with_gate_timer 0x3F one_note) 300 (frame (with_gate_timer 0x3F one_note) 0 (start_state no_options)) ≡ replicate 300 silent_registers
+unfolding prefix_of cycle_of played playable_subtune instrument_at table_row pattern_at freq half_tone slide next_row porta_up porta_down tone vibrato do_command filter_step between_rows note_started row_command at_row tick_step wave_command wave_step effect_step pulse_step fetch_row voice_step voice_registers filter_registers frame_of state_after_with trace calls_behind
 long_run = refl
 
 pub long_timer_is_never_met_lem : LongTimerIsNeverMet
-unfolding state_after
+unfolding state_after_with
 long_timer_is_never_met_lem = calls_are_traced (with_gate_timer 0x3F one_note) 0 300 ∙ long_run

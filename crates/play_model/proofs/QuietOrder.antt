@@ -11,6 +11,7 @@ use Rattle.song_model.specs.Silent.{IsSilentRow, IsSilentOrder}
 use Rattle.song_model.specs.Walk.{played}
 use Rattle.song_model.specs.LookUp.{pattern_at, pattern_row, zero_row}
 use Rattle.song_model.proofs.Walks.{plays_are_entries_lem, cycle_some}
+use Rattle.play_model.specs.LookUps.{look_ups_of}
 use Rattle.play_model.proofs.QuietVoice.{IsQuietRow, IsQuietOrder}
 
 quiet_silent : (row : Row) → IsSilentRow row → IsQuietRow row
@@ -31,7 +32,7 @@ silent_pattern song order byte s h =
     s.rows byte (get_or song.patterns byte []) h
     (slice_get-get_or song.patterns byte [] (All-contains (λ b. b < length song.patterns) order.entries byte s.stored h))
 
-pub quiet_order : (song : Song) (order : Order) → IsSilentOrder song.patterns order → IsQuietOrder song order
+pub quiet_order : (song : Song) (order : Order) → IsSilentOrder song.patterns order → IsQuietOrder (look_ups_of song) order
 quiet_order song order s = λ play place.
     quiet_row_of _ place
     (silent_pattern song order (played order play).pattern s (plays_are_entries_lem order play (cycle_some order s.restart (s.plain order.restart 0 s.restart))))

@@ -6,8 +6,10 @@ use Rattle.song_model.specs.declared.instruments.Instrument.{Instrument}
 use Rattle.song_model.specs.declared.orders.Order.{Order}
 use Rattle.song_model.specs.declared.songs.Song.{Song}
 use Rattle.song_model.specs.Walk.{played}
-use Rattle.song_model.specs.LookUp.{zero_instrument, instrument_at, pattern_at, pattern_row}
+use Rattle.song_model.specs.LookUp.{zero_instrument, instrument_at, pattern_row}
 use Rattle.play_model.specs.Wrap.{byte_plus}
+use Rattle.play_model.specs.declared.options.Options.{Options}
+use Rattle.play_model.specs.LookUps.{LookUps, look_ups_of}
 use Rattle.play_model.specs.State.{Voice, Common, Playing}
 use Rattle.play_model.specs.FilterStep.{filter_step}
 use Rattle.play_model.specs.TickStep.{Ticked, tempo_of, with_tempo, reloaded, between_rows, gate_timer_set, note_started, row_command, at_row, ticked, tick_step}
@@ -15,7 +17,7 @@ use Rattle.play_model.specs.WaveStep.{wave_step}
 use Rattle.play_model.specs.EffectStep.{effect_step}
 use Rattle.play_model.specs.PulseStep.{pulse_step}
 use Rattle.play_model.specs.FetchRow.{row_taken, row_moved, row_done, fetch_row}
-use Rattle.play_model.specs.Frame.{behind_tick, row_fetched, voice_step}
+use Rattle.play_model.specs.Frame.{pulse_done, effect_done, after_tick, row_fetched, voice_step}
 
 -- a voice without a note, a command or a program
 pub record IsQuietVoice (v : Voice) : Type 0 where
@@ -55,33 +57,36 @@ chosen P true x y p q = p
 chosen P false x y p q = q
 
 -- where no instrument is stored, each is zero
-pub no_instrument : (song : Song) (n : ℕ) → song.instruments ≡ [] → instrument_at song n ≡ zero_instrument
-unfolding instrument_at
-no_instrument song n h = rw h (chosen (λ i. i ≡ zero_instrument) _ _ _ refl refl)
+abbrev pub NoInstruments : LookUps → Type 0
+NoInstruments look = (n : ℕ) → look.instrument n ≡ zero_instrument
 
-pub filter_rests : (song : Song) (c : Common) → c.filter_ptr ≡ 0 → filter_step song c ≡ c
+pub no_instrument : (song : Song) → song.instruments ≡ [] → NoInstruments (look_ups_of song)
+unfolding instrument_at
+no_instrument song h n = rw h (chosen (λ i. i ≡ zero_instrument) _ _ _ refl refl)
+
+pub filter_rests : (look : LookUps) (c : Common) → c.filter_ptr ≡ 0 → filter_step look c ≡ c
 unfolding filter_step
-filter_rests song c h = rw h
+filter_rests look c h = rw h
 
 no_note : (i : Instrument) (s : Playing) → s.voice.new_note ≡ 0 → note_started i s ≡ s
 unfolding note_started
 no_note i s h = rw h
 
-no_command : (channel : ℕ) (song : Song) (i : Instrument) (c d : ℕ) (s : Playing) → c ≡ 0 →
-    row_command channel song i c d s ≡ record s { voice = record s.voice { command = 0; param = i.vibrato } }
+no_command : (channel : ℕ) (look : LookUps) (i : Instrument) (c d : ℕ) (s : Playing) → c ≡ 0 →
+    row_command channel look i c d s ≡ record s { voice = record s.voice { command = 0; param = i.vibrato } }
 unfolding row_command
-no_command channel song i c d s h = rw h
+no_command channel look i c d s h = rw h
 
 -- what a quiet row leaves at tick 0
-at_row_quiet : (channel : ℕ) (song : Song) (s : Playing) → IsQuiet s →
-    at_row channel song zero_instrument s ≡ record {
+at_row_quiet : (channel : ℕ) (look : LookUps) (s : Playing) → IsQuiet s →
+    at_row channel look zero_instrument s ≡ record {
       playing = record s { voice = record s.voice { gate_timer = 0; command = 0; param = 0; new_note = 0 } };
       started = false;
     }
 unfolding at_row
-at_row_quiet channel song s q =
+at_row_quiet channel look s q =
     rw (no_note zero_instrument (gate_timer_set zero_instrument s) q.voice.new_note)
-    (rw (no_command channel song zero_instrument s.voice.new_command s.voice.new_param (gate_timer_set zero_instrument s) q.voice.new_command)
+    (rw (no_command channel look zero_instrument s.voice.new_command s.voice.new_param (gate_timer_set zero_instrument s) q.voice.new_command)
     (rw q.voice.new_note))
 
 -- the count of frames goes on, and nothing else
@@ -147,32 +152,32 @@ pub record IsQuietTick (t : Ticked) : Type 0 where
   pub playing : IsQuiet t.playing
   pub started : t.started ≡ false
 
-quiet_row : (channel : ℕ) (song : Song) (s : Playing) → IsQuiet s → IsQuietTick (at_row channel song zero_instrument s)
-quiet_row channel song s q = rw (at_row_quiet channel song s q) (record {
+quiet_row : (channel : ℕ) (look : LookUps) (s : Playing) → IsQuiet s → IsQuietTick (at_row channel look zero_instrument s)
+quiet_row channel look s q = rw (at_row_quiet channel look s q) (record {
   playing = record { voice = search q.voice; common = q.common };
   started = refl;
 })
 
-quiet_ticked : (channel : ℕ) (song : Song) (s : Playing) → song.instruments ≡ [] → IsQuiet s → IsQuietTick (ticked channel song s)
-quiet_ticked channel song s h q =
-    rw (no_instrument song s.voice.instrument h)
-    (chosen IsQuietTick (s.voice.tick == 0) (at_row channel song zero_instrument s) (record { playing = between_rows channel s; started = false }) (quiet_row channel song s q) (record { playing = quiet_between channel s q; started = refl }))
+quiet_ticked : (channel : ℕ) (look : LookUps) (s : Playing) → NoInstruments look → IsQuiet s → IsQuietTick (ticked channel look s)
+quiet_ticked channel look s h q =
+    rw (h s.voice.instrument)
+    (chosen IsQuietTick (s.voice.tick == 0) (at_row channel look zero_instrument s) (record { playing = between_rows channel s; started = false }) (quiet_row channel look s q) (record { playing = quiet_between channel s q; started = refl }))
 
-pub quiet_tick : (channel : ℕ) (song : Song) (s : Playing) → song.instruments ≡ [] → IsQuiet s → IsQuietTick (tick_step channel song s)
+pub quiet_tick : (channel : ℕ) (look : LookUps) (s : Playing) → NoInstruments look → IsQuiet s → IsQuietTick (tick_step channel look s)
 unfolding tick_step
-quiet_tick channel song s h q = quiet_ticked channel song _ h (quiet_tick_field s _ q)
+quiet_tick channel look s h q = quiet_ticked channel look _ h (quiet_tick_field s _ q)
 
-wave_rests : (song : Song) (s : Playing) → s.voice.wave_ptr ≡ 0 → wave_step song s ≡ record { playing = s; effect = true }
+wave_rests : (look : LookUps) (s : Playing) → s.voice.wave_ptr ≡ 0 → wave_step look s ≡ record { playing = s; effect = true }
 unfolding wave_step
-wave_rests song s h = rw h
+wave_rests look s h = rw h
 
-effect_rests : (song : Song) (v : Voice) → v.command ≡ 0 → v.param ≡ 0 → effect_step song v ≡ v
+effect_rests : (look : LookUps) (v : Voice) → v.command ≡ 0 → v.param ≡ 0 → effect_step look v ≡ v
 unfolding effect_step
-effect_rests song v h k = rw (h, k)
+effect_rests look v h k = rw (h, k)
 
-pulse_rests : (song : Song) (v : Voice) → v.pulse_ptr ≡ 0 → pulse_step song v ≡ v
+pulse_rests : (look : LookUps) (v : Voice) → v.pulse_ptr ≡ 0 → pulse_step look v ≡ v
 unfolding pulse_step
-pulse_rests song v h = rw h
+pulse_rests look v h = rw h
 
 quiet_moved : (rows : ℕ) (v : Voice) → IsQuietVoice v → IsQuietVoice (row_moved rows v)
 quiet_moved rows v q =
@@ -180,14 +185,14 @@ quiet_moved rows v q =
     (quiet_voice_fields v (v.plays + 1) 0 v.tick v.gate_timer v.new_param q)
     (quiet_voice_fields v v.plays (byte_plus v.row 1) v.tick v.gate_timer v.new_param q)
 
-rest_done : (song : Song) (row : Row) (t : ℤ) (v : Voice) → row.note ≡ 0xBD → row_done song row t v ≡ row_taken row v
-rest_done song row t v h = rw h
+rest_done : (look : LookUps) (row : Row) (t : ℤ) (v : Voice) → row.note ≡ 0xBD → row_done look row t v ≡ row_taken row v
+rest_done look row t v h = rw h
 
-zero_done : (song : Song) (row : Row) (t : ℤ) (v : Voice) → row.note ≡ 0 → row_done song row t v ≡ row_taken row v
-zero_done song row t v h = rw h
+zero_done : (look : LookUps) (row : Row) (t : ℤ) (v : Voice) → row.note ≡ 0 → row_done look row t v ≡ row_taken row v
+zero_done look row t v h = rw h
 
-quiet_done : (song : Song) (row : Row) (t : ℤ) (v : Voice) → IsQuietRow row → row_done song row t v ≡ row_taken row v
-quiet_done song row t v q = elim q.note [ inl h ↦ rest_done song row t v h | inr h ↦ zero_done song row t v h ]
+quiet_done : (look : LookUps) (row : Row) (t : ℤ) (v : Voice) → IsQuietRow row → row_done look row t v ≡ row_taken row v
+quiet_done look row t v q = elim q.note [ inl h ↦ rest_done look row t v h | inr h ↦ zero_done look row t v h ]
 
 quiet_taken : (row : Row) (v : Voice) → IsQuietRow row → IsQuietVoice v → IsQuietVoice (row_taken row v)
 quiet_taken row v r q = record {
@@ -205,32 +210,42 @@ quiet_taken row v r q = record {
 }
 
 -- each row that the orderlist's plays reach is quiet
-abbrev pub IsQuietOrder : Song → Order → Type 0
-IsQuietOrder song order = (play place : ℕ) → IsQuietRow (pattern_row (pattern_at song (played order play).pattern) place)
+abbrev pub IsQuietOrder : LookUps → Order → Type 0
+IsQuietOrder look order = (play place : ℕ) → IsQuietRow (pattern_row (look.rows (played order play).pattern) place)
 
-quiet_fetch : (song : Song) (order : Order) (v : Voice) → IsQuietOrder song order → IsQuietVoice v → IsQuietVoice (fetch_row song order v)
+quiet_fetch : (look : LookUps) (order : Order) (v : Voice) → IsQuietOrder look order → IsQuietVoice v → IsQuietVoice (fetch_row look order v)
 unfolding fetch_row
-quiet_fetch song order v o q =
-    quiet_moved _ _ (rw (quiet_done song _ (played order v.plays).transpose v (o v.plays v.row)) (quiet_taken _ v (o v.plays v.row) q))
+quiet_fetch look order v o q =
+    quiet_moved _ _ (rw (quiet_done look _ (played order v.plays).transpose v (o v.plays v.row)) (quiet_taken _ v (o v.plays v.row) q))
 
-quiet_fetched : (song : Song) (order : Order) (s : Playing) → IsQuietOrder song order → IsQuiet s → IsQuiet (row_fetched song order s)
-quiet_fetched song order s o q =
-    chosen IsQuiet (s.voice.tick == s.voice.gate_timer) (record s { voice = fetch_row song order s.voice }) s (record { voice = quiet_fetch song order s.voice o q.voice; common = q.common }) q
+quiet_fetched : (look : LookUps) (order : Order) (s : Playing) → IsQuietOrder look order → IsQuiet s → IsQuiet (row_fetched look order s)
+quiet_fetched look order s o q =
+    chosen IsQuiet (s.voice.tick == s.voice.gate_timer) (record s { voice = fetch_row look order s.voice }) s (record { voice = quiet_fetch look order s.voice o q.voice; common = q.common }) q
+
+-- what an option leaves out has nothing to do
+quiet_effect : (o : Options) (look : LookUps) (s : Playing) → IsQuiet s → effect_done o look (record { playing = s; effect = true }) ≡ s
+quiet_effect o look s q =
+    chosen (λ p. p ≡ s) _ (record s { voice = effect_step look s.voice }) s (rw (effect_rests look s.voice q.voice.command q.voice.param)) refl
+
+quiet_pulse : (o : Options) (look : LookUps) (s : Playing) → IsQuiet s → pulse_done o look s ≡ s
+quiet_pulse o look s q =
+    chosen (λ p. p ≡ s) _ s (record s { voice = pulse_step look s.voice }) refl (rw (pulse_rests look s.voice q.voice.pulse_ptr))
 
 -- a tick that starts no note, by the parts of what it leaves
-quiet_behind : (song : Song) (order : Order) (s : Playing) → IsQuietOrder song order → IsQuiet s →
-    IsQuiet (behind_tick song order (record { playing = s; started = false }))
-quiet_behind song order s o q =
-    rw (wave_rests song s q.voice.wave_ptr)
-    (rw (effect_rests song s.voice q.voice.command q.voice.param)
-    (rw (pulse_rests song s.voice q.voice.pulse_ptr) (quiet_fetched song order s o q)))
+quiet_after : (o : Options) (look : LookUps) (order : Order) (s : Playing) → IsQuietOrder look order → IsQuiet s →
+    IsQuiet (after_tick o look order (record { playing = s; started = false }))
+quiet_after o look order s h q =
+    rw (wave_rests look s q.voice.wave_ptr)
+    (rw (quiet_effect o look s q)
+    (rw (quiet_pulse o look s q) (quiet_fetched look order s h q)))
 
-behind_quiet : (song : Song) (order : Order) (t : Ticked) → IsQuietOrder song order → IsQuietTick t → IsQuiet (behind_tick song order t)
-behind_quiet song order t o q =
+after_quiet : (o : Options) (look : LookUps) (order : Order) (t : Ticked) → IsQuietOrder look order → IsQuietTick t →
+    IsQuiet (after_tick o look order t)
+after_quiet o look order t h q =
     let same : t ≡ record { playing = t.playing; started = false } = ap (λ z. record t { started = z }) q.started in
-    rw same (quiet_behind song order t.playing o q.playing)
+    rw same (quiet_after o look order t.playing h q.playing)
 
-pub quiet_voice : (channel : ℕ) (song : Song) (order : Order) (s : Playing) → song.instruments ≡ [] → IsQuietOrder song order → IsQuiet s →
-    IsQuiet (voice_step channel song order s)
+pub quiet_voice : (channel : ℕ) (o : Options) (look : LookUps) (order : Order) (s : Playing) → NoInstruments look → IsQuietOrder look order →
+    IsQuiet s → IsQuiet (voice_step channel o look order s)
 unfolding voice_step
-quiet_voice channel song order s h o q = behind_quiet song order _ o (quiet_tick channel song s h q)
+quiet_voice channel o look order s none h q = after_quiet o look order _ h (quiet_tick channel look s none q)

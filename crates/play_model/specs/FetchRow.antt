@@ -4,9 +4,9 @@ use Rattle.std.specs.Int.{cast_unsigned, w8}
 use Rattle.song_model.specs.declared.rows.Row.{Row}
 use Rattle.song_model.specs.declared.orders.Order.{Order}
 use Rattle.song_model.specs.declared.orders.Step.{Step}
-use Rattle.song_model.specs.declared.songs.Song.{Song}
 use Rattle.song_model.specs.Walk.{played}
-use Rattle.song_model.specs.LookUp.{instrument_at, pattern_at, pattern_row}
+use Rattle.song_model.specs.LookUp.{pattern_row}
+use Rattle.play_model.specs.LookUps.{LookUps}
 use Rattle.play_model.specs.Wrap.{byte_plus}
 use Rattle.play_model.specs.State.{Voice}
 
@@ -40,10 +40,10 @@ gate_shut timer v =
     else if bit_and timer 0x80 == 0 then record v { gate = 0xFE; ad = 0x0F; sr = 0 }
     else record v { gate = 0xFE }
 
-abbrev pub note_waits : Song → ℕ → ℤ → Voice → Voice
-note_waits song note transpose v =
+abbrev pub note_waits : LookUps → ℕ → ℤ → Voice → Voice
+note_waits look note transpose v =
     if is_note note
-    then gate_shut (instrument_at song v.instrument).gate_timer (record v { new_note = transposed note transpose })
+    then gate_shut (look.instrument v.instrument).gate_timer (record v { new_note = transposed note transpose })
     else v
 
 -- behind the last row of the pattern the orderlist goes to its next play
@@ -51,14 +51,14 @@ abbrev pub row_moved : ℕ → Voice → Voice
 row_moved rows v =
     if byte_plus v.row 1 == rows then record v { row = 0; plays = v.plays + 1 } else record v { row = byte_plus v.row 1 }
 
-abbrev pub row_done : Song → Row → ℤ → Voice → Voice
-row_done song row transpose v = note_waits song row.note transpose (gate_keyed row.note (row_taken row v))
+abbrev pub row_done : LookUps → Row → ℤ → Voice → Voice
+row_done look row transpose v = note_waits look row.note transpose (gate_keyed row.note (row_taken row v))
 
-abbrev pub fetched_from : Song → List Row → ℤ → Voice → Voice
-fetched_from song rows transpose v = row_moved (length rows) (row_done song (pattern_row rows v.row) transpose v)
+abbrev pub fetched_from : LookUps → List Row → ℤ → Voice → Voice
+fetched_from look rows transpose v = row_moved (length rows) (row_done look (pattern_row rows v.row) transpose v)
 
-abbrev pub fetched : Song → Step → Voice → Voice
-fetched song play v = fetched_from song (pattern_at song play.pattern) play.transpose v
+abbrev pub fetched : LookUps → Step → Voice → Voice
+fetched look play v = fetched_from look (look.rows play.pattern) play.transpose v
 
-unfoldable pub fetch_row : Song → Order → Voice → Voice
-fetch_row song order v = fetched song (played order v.plays) v
+unfoldable pub fetch_row : LookUps → Order → Voice → Voice
+fetch_row look order v = fetched look (played order v.plays) v

@@ -1,11 +1,14 @@
 -- A frame: the filter, its registers, and the three voices in turn. This is this project's profile of
 -- the playroutine, and the meaning of a song.
-use Rattle.std.specs.Prelude.{◌≡◌, length, ℕ, zero, suc, ◌/◌, ◌%◌, ◌==◌, List, [], ◌∷◌, ◌++◌, replicate, if◌then◌else◌, slice_index_or, bit_and, bit_or}
+use Rattle.std.specs.Prelude.{◌≡◌, length, ℕ, zero, suc, ◌/◌, ◌%◌, not, ◌&&◌, ◌==◌, List, [], ◌∷◌, ◌++◌, replicate, if◌then◌else◌, bit_and, bit_or}
+use Rattle.std.specs.Option.{unwrap_or}
 use Rattle.song_model.specs.declared.orders.Order.{Order}
 use Rattle.song_model.specs.declared.orders.Subtune.{Subtune}
 use Rattle.song_model.specs.declared.songs.Song.{Song}
-use Rattle.song_model.specs.LookUp.{playable_subtunes}
-use Rattle.play_model.specs.State.{Voice, Common, FrameState, Playing, start_state}
+use Rattle.song_model.specs.LookUp.{playable_subtune, order_of, void_subtune}
+use Rattle.play_model.specs.declared.options.Options.{Options}
+use Rattle.play_model.specs.LookUps.{LookUps, look_ups_of}
+use Rattle.play_model.specs.State.{Voice, Common, FrameState, Playing, no_options, start_state, playing_of, with_playing}
 use Rattle.play_model.specs.FilterStep.{filter_step}
 use Rattle.play_model.specs.TickStep.{Ticked, tick_step}
 use Rattle.play_model.specs.WaveStep.{Waved, wave_step}
@@ -13,25 +16,32 @@ use Rattle.play_model.specs.EffectStep.{effect_step}
 use Rattle.play_model.specs.PulseStep.{pulse_step}
 use Rattle.play_model.specs.FetchRow.{fetch_row}
 
-abbrev pub effect_done : Song → Waved → Playing
-effect_done song w =
-    if w.effect then record w.playing { voice = effect_step song w.playing.voice } else w.playing
+-- where the wave step lets it run; an option leaves it out at tick 0
+abbrev pub effect_done : Options → LookUps → Waved → Playing
+effect_done o look w =
+    if w.effect && not (o.skip_effects && (w.playing.voice.tick == 0))
+    then record w.playing { voice = effect_step look w.playing.voice }
+    else w.playing
 
-abbrev pub pulse_done : Song → Playing → Playing
-pulse_done song s = record s { voice = pulse_step song s.voice }
+-- an option leaves it out where the row is fetched
+abbrev pub pulse_done : Options → LookUps → Playing → Playing
+pulse_done o look s =
+    if o.skip_pulse && (s.voice.tick == s.voice.gate_timer) then s
+    else record s { voice = pulse_step look s.voice }
 
-abbrev pub row_fetched : Song → Order → Playing → Playing
-row_fetched song order s =
-    if s.voice.tick == s.voice.gate_timer then record s { voice = fetch_row song order s.voice } else s
+abbrev pub row_fetched : LookUps → Order → Playing → Playing
+row_fetched look order s =
+    if s.voice.tick == s.voice.gate_timer then record s { voice = fetch_row look order s.voice } else s
 
 -- a started note ends the voice step
-abbrev pub behind_tick : Song → Order → Ticked → Playing
-behind_tick song order t =
-    if t.started then t.playing else row_fetched song order (pulse_done song (effect_done song (wave_step song t.playing)))
+abbrev pub after_tick : Options → LookUps → Order → Ticked → Playing
+after_tick o look order t =
+    if t.started then t.playing
+    else row_fetched look order (pulse_done o look (effect_done o look (wave_step look t.playing)))
 
 -- the voice of channel 1, 2 or 3, which plays this orderlist
-unfoldable pub voice_step : ℕ → Song → Order → Playing → Playing
-voice_step channel song order s = behind_tick song order (tick_step channel song s)
+unfoldable pub voice_step : ℕ → Options → LookUps → Order → Playing → Playing
+voice_step channel o look order s = after_tick o look order (tick_step channel look s)
 
 -- frequency, pulse width, waveform under its mask, envelope
 unfoldable pub voice_registers : Voice → List ℕ
@@ -47,50 +57,58 @@ pub record Framed : Type 0 where
   pub state : FrameState
   pub registers : List ℕ
 
--- the voices one after the other: each sees what the ones before it did to the tempos
-abbrev pub third_voice : Song → Subtune → List ℕ → Voice → Voice → Playing → Framed
-third_voice song subtune filter one two p = record {
-  state = record { common = p.common; one = one; two = two; three = p.voice };
-  registers = voice_registers one ++ voice_registers two ++ voice_registers p.voice ++ filter;
+-- the state after the filter step
+abbrev pub filter_done : LookUps → FrameState → FrameState
+filter_done look x = record x { common = filter_step look x.common }
+
+-- the state after the voice step of channel 1, 2 or 3
+abbrev pub voice_done : ℕ → Options → LookUps → Subtune → FrameState → FrameState
+voice_done channel o look subtune x =
+    with_playing channel (voice_step channel o look (order_of channel subtune) (playing_of channel x)) x
+
+-- one after the other: each voice sees what the ones before it did to the tempos
+abbrev pub voices_done : Options → LookUps → Subtune → FrameState → FrameState
+voices_done o look subtune x =
+    voice_done 3 o look subtune (voice_done 2 o look subtune (voice_done 1 o look subtune x))
+
+abbrev pub framed : List ℕ → FrameState → Framed
+framed filter x = record {
+  state = x;
+  registers = voice_registers x.one ++ voice_registers x.two ++ voice_registers x.three ++ filter;
 }
 
-abbrev pub second_voice : Song → Subtune → List ℕ → Voice → Voice → Playing → Framed
-second_voice song subtune filter one three p =
-    third_voice song subtune filter one p.voice (voice_step 3 song subtune.three (record { voice = three; common = p.common }))
-
-abbrev pub first_voice : Song → Subtune → List ℕ → Voice → Voice → Playing → Framed
-first_voice song subtune filter two three p =
-    second_voice song subtune filter p.voice three (voice_step 2 song subtune.two (record { voice = two; common = p.common }))
-
 -- what a voice does to the filter and the volume is seen in the next frame's registers
-abbrev pub voices_done : Song → Subtune → FrameState → Common → Framed
-voices_done song subtune state c =
-    first_voice song subtune (filter_registers c) state.two state.three
-    (voice_step 1 song subtune.one (record { voice = state.one; common = c }))
+abbrev pub after_filter : Options → LookUps → Subtune → FrameState → Framed
+after_filter o look subtune x = framed (filter_registers x.common) (voices_done o look subtune x)
 
-abbrev pub void_order : Order
-void_order = record { entries = []; restart = 0 }
+-- one frame of a subtune, over any look-ups
+unfoldable pub frame_of : Options → LookUps → Subtune → FrameState → Framed
+frame_of o look subtune x = after_filter o look subtune (filter_done look x)
 
-abbrev pub void_subtune : Subtune
-void_subtune = record { one = void_order; two = void_order; three = void_order }
-
--- playable subtune k, counted from 0
+-- playable subtune k, counted from 0; past the last one a subtune with nothing in it
 abbrev pub subtune_at : Song → ℕ → Subtune
-subtune_at song k = slice_index_or (playable_subtunes song) k void_subtune
+subtune_at song k = unwrap_or (playable_subtune song k) void_subtune
 
-unfoldable pub frame : Song → ℕ → FrameState → Framed
-frame song k state = voices_done song (subtune_at song k) state (filter_step song state.common)
+-- one frame of a song's subtune
+abbrev pub frame_with : Options → Song → ℕ → FrameState → Framed
+frame_with o song k x = frame_of o (look_ups_of song) (subtune_at song k) x
 
 -- the state after so many frames
-unfoldable pub state_after : Song → ℕ → ℕ → FrameState
-state_after song k zero = start_state
-state_after song k (suc n) = (frame song k (state_after song k n)).state
+unfoldable pub state_after_with : Options → Song → ℕ → ℕ → FrameState
+state_after_with o song k zero = start_state o
+state_after_with o song k (suc n) = (frame_with o song k (state_after_with o song k n)).state
 
 -- the registers after call i: call 0 is init, which writes zeros, and each other call plays a frame
-unfoldable pub trace : Song → ℕ → ℕ → List ℕ
-trace song k zero = replicate 25 0
-trace song k (suc n) = (frame song k (state_after song k n)).registers
+abbrev pub trace_with : Options → Song → ℕ → ℕ → List ℕ
+trace_with o song k zero = replicate 25 0
+trace_with o song k (suc n) = (frame_with o song k (state_after_with o song k n)).registers
 
--- each call leaves a value for each of the 25 registers
-abbrev pub TracesHaveAllRegisters : Type 0
-TracesHaveAllRegisters = (song : Song) (k i : ℕ) → length (trace song k i) ≡ 25
+-- without options
+abbrev pub frame : Song → ℕ → FrameState → Framed
+frame song k x = frame_with no_options song k x
+
+abbrev pub state_after : Song → ℕ → ℕ → FrameState
+state_after song k n = state_after_with no_options song k n
+
+unfoldable pub trace : Song → ℕ → ℕ → List ℕ
+trace song k i = trace_with no_options song k i

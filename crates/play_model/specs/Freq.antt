@@ -1,8 +1,8 @@
 -- The frequency of a note, and the speed that a row of the speed table stands for.
 use Rattle.std.specs.Prelude.{ℕ, ◌+◌, ◌-◌, ◌*◌, ◌/◌, ◌%◌, min, List, [], ◌∷◌, if◌then◌else◌, nat_lt, slice_index}
 use Rattle.song_model.specs.declared.tables.TableRow.{TableRow}
-use Rattle.song_model.specs.declared.songs.Song.{Song}
-use Rattle.song_model.specs.LookUp.{speed_row}
+use Rattle.song_model.specs.declared.tables.TableName.TheVariants.{Speed}
+use Rattle.play_model.specs.LookUps.{LookUps}
 use Rattle.play_model.specs.Wrap.{freq_minus, shifted_right}
 
 -- the frequencies of the twelve half tones from C to B in the highest octave; that of B is no 16 bit number
@@ -25,5 +25,5 @@ slide_of row last =
     else if nat_lt row.right 16 then shifted_right (half_tone last) row.right
     else 0
 
-unfoldable pub slide : Song → ℕ → ℕ → ℕ
-slide song pointer last = slide_of (speed_row song pointer) last
+unfoldable pub slide : LookUps → ℕ → ℕ → ℕ
+slide look pointer last = slide_of (look.row Speed pointer) last

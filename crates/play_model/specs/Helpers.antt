@@ -3,8 +3,8 @@
 use Rattle.std.specs.Prelude.{ℕ, ◌+◌, ◌-◌, ◌%◌, ◌&&◌, ◌||◌, ◌==◌, if◌then◌else◌, nat_lt, nat_le}
 use Rattle.song_model.specs.declared.tables.TableRow.{TableRow}
 use Rattle.song_model.specs.declared.tables.TableName.{TableName}
-use Rattle.song_model.specs.declared.songs.Song.{Song}
-use Rattle.song_model.specs.LookUp.{table_row, speed_row}
+use Rattle.song_model.specs.declared.tables.TableName.TheVariants.{Speed}
+use Rattle.play_model.specs.LookUps.{LookUps}
 use Rattle.play_model.specs.Wrap.{byte_plus, freq_plus, freq_minus, distance}
 use Rattle.play_model.specs.Freq.{freq, slide}
 use Rattle.play_model.specs.State.{Voice, Playing}
@@ -13,16 +13,16 @@ use Rattle.play_model.specs.State.{Voice, Playing}
 abbrev pub behind : TableRow → ℕ → ℕ
 behind following p = if following.left == 0xFF then following.right else byte_plus p 1
 
-unfoldable pub next_row : Song → TableName → ℕ → ℕ
-next_row song name p = behind (table_row song name (p + 1)) p
+unfoldable pub next_row : LookUps → TableName → ℕ → ℕ
+next_row look name p = behind (look.row name (p + 1)) p
 
 -- the frequency rises by the speed
-unfoldable pub porta_up : Song → ℕ → Voice → Voice
-porta_up song d v = record v { freq = freq_plus v.freq (slide song d v.last_note) }
+unfoldable pub porta_up : LookUps → ℕ → Voice → Voice
+porta_up look d v = record v { freq = freq_plus v.freq (slide look d v.last_note) }
 
 -- the frequency falls by the speed
-unfoldable pub porta_down : Song → ℕ → Voice → Voice
-porta_down song d v = record v { freq = freq_minus v.freq (slide song d v.last_note) }
+unfoldable pub porta_down : LookUps → ℕ → Voice → Voice
+porta_down look d v = record v { freq = freq_minus v.freq (slide look d v.last_note) }
 
 -- the note's own frequency
 abbrev pub at_target : ℕ → Voice → Voice
@@ -37,8 +37,8 @@ tone_by d target step v =
     if (d == 0) || nat_le (distance v.freq target) step then at_target target v else towards target step v
 
 -- a slide that ends at the note, and with parameter 0 the note at once
-unfoldable pub tone : Song → ℕ → Voice → Voice
-tone song d v = tone_by d (freq v.note) (slide song d v.last_note) v
+unfoldable pub tone : LookUps → ℕ → Voice → Voice
+tone look d v = tone_by d (freq v.note) (slide look d v.last_note) v
 
 -- past the period the time turns round; it goes in steps of 2, and odd numbers are the way down
 abbrev pub turned : ℕ → ℕ → ℕ
@@ -51,12 +51,12 @@ swung time depth v = record v {
 }
 
 -- the depth of a vibrato: the right side, or with a left side of $80 or more the slide at the last note
-abbrev pub depth_of : Song → ℕ → TableRow → ℕ → ℕ
-depth_of song d row last = if nat_lt row.left 0x80 then row.right else slide song d last
+abbrev pub depth_of : LookUps → ℕ → TableRow → ℕ → ℕ
+depth_of look d row last = if nat_lt row.left 0x80 then row.right else slide look d last
 
-unfoldable pub vibrato : Song → ℕ → Voice → Voice
-vibrato song d v =
-    swung (byte_plus (turned ((speed_row song d).left % 128) v.vib_time) 2) (depth_of song d (speed_row song d) v.last_note) v
+unfoldable pub vibrato : LookUps → ℕ → Voice → Voice
+vibrato look d v =
+    swung (byte_plus (turned ((look.row Speed d).left % 128) v.vib_time) 2) (depth_of look d (look.row Speed d) v.last_note) v
 
 -- the commands that rows and the wave table share; another number does nothing
 unfoldable pub do_command : ℕ → ℕ → Playing → Playing

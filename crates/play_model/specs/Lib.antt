@@ -1,5 +1,7 @@
 pub mod Wrap
 pub mod Freq
+pub mod Ranges
+pub mod LookUps
 pub mod State
 pub mod Helpers
 pub mod FilterStep
@@ -9,6 +11,7 @@ pub mod EffectStep
 pub mod PulseStep
 pub mod FetchRow
 pub mod Frame
+pub mod TraceLaws
 pub mod SilentTrace
 pub mod WorkedFrequencies
 pub mod WorkedSongs

@@ -1,5 +1,6 @@
 -- What the playroutine keeps from one frame to the next, with the values at the start.
-use Rattle.std.specs.Prelude.{ℕ}
+use Rattle.std.specs.Prelude.{ℕ, ◌-◌, ◌*◌, false, ◌==◌, if◌then◌else◌}
+use Rattle.play_model.specs.declared.options.Options.{Options}
 
 -- what each voice keeps
 pub record Voice : Type 0 where
@@ -88,13 +89,18 @@ start_voice = record {
   pulse = 0;
 }
 
-abbrev pub start_common : Common
-start_common = record {
-  tempo_one = 5;
-  tempo_two = 5;
-  tempo_three = 5;
-  funk_one = 8;
-  funk_two = 5;
+-- nothing is left out, at one play call in the time of a picture
+abbrev pub no_options : Options
+no_options = record { skip_effects = false; skip_pulse = false; speed = 1 }
+
+-- a row lasts as long at each speed: 6 pictures, or 9 and 6 in turn
+abbrev pub start_common : ℕ → Common
+start_common speed = record {
+  tempo_one = 6 * speed - 1;
+  tempo_two = 6 * speed - 1;
+  tempo_three = 6 * speed - 1;
+  funk_one = 9 * speed - 1;
+  funk_two = 6 * speed - 1;
   filter_ptr = 0;
   filter_time = 0;
   filter_type = 0;
@@ -103,5 +109,19 @@ start_common = record {
   volume = 15;
 }
 
-abbrev pub start_state : FrameState
-start_state = record { common = start_common; one = start_voice; two = start_voice; three = start_voice }
+abbrev pub start_state : Options → FrameState
+start_state o = record { common = start_common o.speed; one = start_voice; two = start_voice; three = start_voice }
+
+-- what the step of channel 1, 2 or 3 takes from a state
+abbrev pub voice_of : ℕ → FrameState → Voice
+voice_of channel x = if channel == 1 then x.one else if channel == 2 then x.two else x.three
+
+abbrev pub playing_of : ℕ → FrameState → Playing
+playing_of channel x = record { voice = voice_of channel x; common = x.common }
+
+-- and what it puts back
+abbrev pub with_playing : ℕ → Playing → FrameState → FrameState
+with_playing channel s x =
+    if channel == 1 then record x { one = s.voice; common = s.common }
+    else if channel == 2 then record x { two = s.voice; common = s.common }
+    else record x { three = s.voice; common = s.common }

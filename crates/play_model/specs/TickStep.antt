@@ -2,8 +2,8 @@
 use Rattle.std.specs.Prelude.{ℕ, ◌-◌, ◌%◌, Bool, false, not, ◌&&◌, ◌==◌, if◌then◌else◌, nat_le}
 use Rattle.song_model.specs.declared.instruments.Instrument.{Instrument}
 use Rattle.song_model.specs.declared.tables.TableRow.{TableRow}
-use Rattle.song_model.specs.declared.songs.Song.{Song}
-use Rattle.song_model.specs.LookUp.{instrument_at, speed_row}
+use Rattle.song_model.specs.declared.tables.TableName.TheVariants.{Speed}
+use Rattle.play_model.specs.LookUps.{LookUps}
 use Rattle.play_model.specs.Wrap.{byte_minus}
 use Rattle.play_model.specs.State.{Voice, Common, Playing}
 use Rattle.play_model.specs.Helpers.{do_command}
@@ -88,8 +88,8 @@ note_started i s = if s.voice.new_note == 0 then s else taken i s
 abbrev pub funk_set : TableRow → Common → Common
 funk_set row c = record c { funk_one = byte_minus row.left 1; funk_two = byte_minus row.right 1 }
 
-abbrev pub funk_tempo : Song → ℕ → Common → Common
-funk_tempo song d c = with_all_tempos 0 (if d == 0 then c else funk_set (speed_row song d) c)
+abbrev pub funk_tempo : LookUps → ℕ → Common → Common
+funk_tempo look d c = with_all_tempos 0 (if d == 0 then c else funk_set (look.row Speed d) c)
 
 -- command $F: 0 and 1 are funk tempos, $03-$7F is a row length for all channels, $83-$FF for this one
 abbrev pub tempo_set : ℕ → ℕ → Common → Common
@@ -100,13 +100,13 @@ tempo_set channel d c =
     else c
 
 -- The row's command. Commands 0 to 4 run from now on, the others are done once.
-unfoldable pub row_command : ℕ → Song → Instrument → ℕ → ℕ → Playing → Playing
-row_command channel song i c d s =
+unfoldable pub row_command : ℕ → LookUps → Instrument → ℕ → ℕ → Playing → Playing
+row_command channel look i c d s =
     if c == 0 then record s { voice = record s.voice { command = 0; param = i.vibrato } }
     else if nat_le c 2 then record s { voice = record s.voice { vib_time = 0; command = c; param = d } }
     else if nat_le c 4 then record s { voice = record s.voice { command = c; param = d } }
     else if c == 8 then record s { voice = record s.voice { wave_ptr = d; wave_time = 0 } }
-    else if c == 0xE then record s { common = funk_tempo song d s.common }
+    else if c == 0xE then record s { common = funk_tempo look d s.common }
     else if c == 0xF then record s { common = tempo_set channel d s.common }
     else do_command c d s
 
@@ -121,14 +121,14 @@ abbrev pub gate_timer_set : Instrument → Playing → Playing
 gate_timer_set i s = record s { voice = record s.voice { gate_timer = i.gate_timer % 64 } }
 
 -- the order of what is done at tick 0
-unfoldable pub at_row : ℕ → Song → Instrument → Playing → Ticked
-at_row channel song i s =
-    note_ended (row_command channel song i s.voice.new_command s.voice.new_param (note_started i (gate_timer_set i s)))
+unfoldable pub at_row : ℕ → LookUps → Instrument → Playing → Ticked
+at_row channel look i s =
+    note_ended (row_command channel look i s.voice.new_command s.voice.new_param (note_started i (gate_timer_set i s)))
 
-abbrev pub ticked : ℕ → Song → Playing → Ticked
-ticked channel song s =
-    if s.voice.tick == 0 then at_row channel song (instrument_at song s.voice.instrument) s
+abbrev pub ticked : ℕ → LookUps → Playing → Ticked
+ticked channel look s =
+    if s.voice.tick == 0 then at_row channel look (look.instrument s.voice.instrument) s
     else record { playing = between_rows channel s; started = false }
 
-unfoldable pub tick_step : ℕ → Song → Playing → Ticked
-tick_step channel song s = ticked channel song (record s { voice = record s.voice { tick = byte_minus s.voice.tick 1 } })
+unfoldable pub tick_step : ℕ → LookUps → Playing → Ticked
+tick_step channel look s = ticked channel look (record s { voice = record s.voice { tick = byte_minus s.voice.tick 1 } })

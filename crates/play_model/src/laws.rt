@@ -1,6 +1,6 @@
 //! Facts about the definitions of this crate, each the contract of a function that does nothing.
 
-ghost use Rattle.play_model.specs.Frame.{TracesHaveAllRegisters};
+ghost use Rattle.play_model.specs.TraceLaws.{TracesHaveAllRegisters};
 ghost use Rattle.play_model.specs.SilentTrace.{SilentSongsAreSilent};
 ghost use Rattle.play_model.specs.WorkedFrequencies.{FrequenciesAreAsWorked};
 ghost use Rattle.play_model.specs.WorkedFrames.{OneNoteSounds, LowNoteIsMute, VibratoWraps, SlideStops, FunkTempoWraps, GateTimerBits, LongTimerIsNeverMet, WaveProgramWaits, VibratoChangesAlone, FilterFollows};

@@ -2,10 +2,13 @@
 //! the frame and the trace that they make up. The playroutine, the packed form and the 6502 player are
 //! all measured by these definitions, which are this project's profile of the GoatTracker 2 readme.
 //!
-//! The layer's one contract: the definitions are total, say for every song what each frame leaves in
-//! the SID's 25 registers, and give the values that were worked out by hand for small songs.
+//! The layer's one contract: the definitions are total, say for every song and all options what each
+//! frame leaves in the SID's 25 registers, and give the values that small songs have by other means.
 //! It stands on `song_model`.
 #![tactic(auto)]
 
-/// The worked examples.
+/// Facts about the definitions.
 pub mod laws;
+mod options;
+
+pub use options::{HIGHEST_SPEED, Options, Speed};

@@ -69,6 +69,17 @@ zero_row = record { note = 0; instrument = 0; command = 0; param = 0 }
 abbrev pub pattern_row : List Row → ℕ → Row
 pattern_row rows place = slice_index_or rows place zero_row
 
+-- the orderlist of channel 1, 2 or 3
+abbrev pub order_of : ℕ → Subtune → Order
+order_of channel subtune = if channel == 1 then subtune.one else if channel == 2 then subtune.two else subtune.three
+
+-- an orderlist, and a subtune, with nothing in it
+abbrev pub void_order : Order
+void_order = record { entries = []; restart = 0 }
+
+abbrev pub void_subtune : Subtune
+void_subtune = record { one = void_order; two = void_order; three = void_order }
+
 abbrev pub has_entries : Order → Bool
 has_entries order = not (length order.entries == 0)
 
