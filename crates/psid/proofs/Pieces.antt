@@ -1,16 +1,14 @@
 -- Pieces of a list of bytes: one put in behind what stands already, and one found behind others.
-use Rattle.std.proofs.Common.{◌≡◌, ℕ, ◌+◌, ◌-◌, List, ◌++◌, length, take, drop, replicate, sym, ap, ◌∙◌, arith, length-append}
-use Rattle.std.proofs.lemmas.List.{take_at, drop_at, drop-drop, drop-replicate}
+use Rattle.std.proofs.Common.{◌≡◌, ℕ, ◌+◌, List, ◌++◌, length, take, drop, replicate, sym, ap, ◌∙◌, arith, length-append}
+use Rattle.std.proofs.lemmas.List.{take_at}
 use Rattle.std.proofs.Math.Seq.{drop-append-add}
+use Rattle.base.proofs.Laws.{drop-replicate_add}
 use Rattle.psid.specs.Words.{with_bytes, text_at}
 
 -- bytes hold these at the front, up to a place, and then so many zeros
 pub record IsFilled (bytes front : List ℕ) (place left : ℕ) : Type 0 where
   pub is : bytes ≡ front ++ replicate left 0
   pub size : length front ≡ place
-
-zeros_left : (n left : ℕ) → drop {A = ℕ} n (replicate (n + left) 0) ≡ replicate left 0
-zeros_left n left = let e : n + left - n ≡ left = omega arith in drop-replicate n (n + left) 0 ∙ ap (λ (k : ℕ). replicate k 0) e
 
 -- a piece put in where the front ends
 pub with_bytes-next : (front piece rest : List ℕ) (place n : ℕ) → length front ≡ place → length piece ≡ n
@@ -27,14 +25,9 @@ pub fill_next : (before after front piece : List ℕ) (place n left : ℕ) → a
     → IsFilled before front place (n + left) → IsFilled after (front ++ piece) (place + n) left
 fill_next before after front piece place n left e p f = record {
   is = e ∙ ap (λ (xs : List ℕ). with_bytes xs place piece) f.is ∙ with_bytes-next front piece (replicate (n + left) 0) place n f.size p
-      ∙ ap (λ (xs : List ℕ). (front ++ piece) ++ xs) (zeros_left n left);
+      ∙ ap (λ (xs : List ℕ). (front ++ piece) ++ xs) (drop-replicate_add n left 0);
   size = let l = length-append front piece in let s = f.size in omega (arith, l, s, p);
 }
-
--- the rest behind a piece
-pub drop-piece : (bytes piece rest : List ℕ) (place n : ℕ) → drop place bytes ≡ piece ++ rest → length piece ≡ n → drop (place + n) bytes ≡ rest
-drop-piece bytes piece rest place n e p =
-    sym (drop-drop n place bytes) ∙ ap (λ (xs : List ℕ). drop n xs) e ∙ drop_at piece rest n p
 
 -- a text of 32 bytes
 pub text_at-piece : (bytes text rest : List ℕ) (place : ℕ) → drop place bytes ≡ text ++ rest → length text ≡ 32 → text_at bytes place ≡ text

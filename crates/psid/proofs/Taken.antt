@@ -2,7 +2,7 @@
 use Rattle.std.proofs.Common.{◌≡◌, ℕ, ◌+◌, ◌%◌, ◌≤◌, ◌<◌, List, length, take, Bool, true, false, ◌&&◌, not, nat_eq, nat_lt, nat_le, if◌then◌else◌, Result, Ok, Err, refl, subst}
 use Rattle.std.specs.Prelude.{codes}
 use Rattle.std.specs.Str.{bytes_eq}
-use Rattle.std.proofs.lemmas.Bool.{eqb-true, leb-true, ltb-false}
+use Rattle.std.proofs.lemmas.Bool.{and_parts, eqb-true, leb-true, ltb-false, not-false}
 use Rattle.psid.specs.declared.header.Psid.{Psid}
 use Rattle.psid.specs.declared.faults.PsidFault.{PsidFault}
 use Rattle.psid.specs.declared.faults.PsidFault.TheVariants.{NotPsid, Truncated, Unsupported, BadField}
@@ -23,29 +23,21 @@ passes false false false false true b6 p q h = absurd (cc)
 passes false false false false false true p q h = absurd (cc)
 passes false false false false false false p q h = (refl, refl, refl, cc)
 
-not_false : (b : Bool) → not b ≡ false → b ≡ true
-not_false true h = refl
-not_false false h = absurd (cc)
-
-both : (a b : Bool) → (a && b) ≡ true → (a ≡ true) × (b ≡ true)
-both true b h = (refl, h)
-both false b h = absurd (cc)
-
 supported : (bytes : List ℕ) → is_supported bytes ≡ true → (0 < word_at bytes 0x0C) × (word_at bytes 0x76 % 4 ≡ 0)
 unfolding is_supported
 supported bytes h =
-    let flags = both (nat_eq (word_at bytes 0x04) 2 && nat_le 1 (word_at bytes 0x0C)) (nat_eq (word_at bytes 0x76 % 4) 0) h in
-    let play = both (nat_eq (word_at bytes 0x04) 2) (nat_le 1 (word_at bytes 0x0C)) flags.0 in
+    let flags = and_parts (nat_eq (word_at bytes 0x04) 2 && nat_le 1 (word_at bytes 0x0C)) (nat_eq (word_at bytes 0x76 % 4) 0) h in
+    let play = and_parts (nat_eq (word_at bytes 0x04) 2) (nat_le 1 (word_at bytes 0x0C)) flags.0 in
     (leb-true 1 (word_at bytes 0x0C) play.1, eqb-true (word_at bytes 0x76 % 4) 0 flags.1)
 
 good : (bytes : List ℕ) → has_good_fields bytes ≡ true
     → (1 ≤ word_at bytes 0x0E) × (word_at bytes 0x0E ≤ 256) × (1 ≤ word_at bytes 0x10) × (word_at bytes 0x10 ≤ word_at bytes 0x0E)
 unfolding has_good_fields
 good bytes h =
-    let song = both (nat_eq (word_at bytes 0x06) 0x7C && nat_le 1 (word_at bytes 0x0E) && nat_le (word_at bytes 0x0E) 256 && nat_le 1 (word_at bytes 0x10)) (nat_le (word_at bytes 0x10) (word_at bytes 0x0E)) h in
-    let start = both (nat_eq (word_at bytes 0x06) 0x7C && nat_le 1 (word_at bytes 0x0E) && nat_le (word_at bytes 0x0E) 256) (nat_le 1 (word_at bytes 0x10)) song.0 in
-    let most = both (nat_eq (word_at bytes 0x06) 0x7C && nat_le 1 (word_at bytes 0x0E)) (nat_le (word_at bytes 0x0E) 256) start.0 in
-    let songs = both (nat_eq (word_at bytes 0x06) 0x7C) (nat_le 1 (word_at bytes 0x0E)) most.0 in
+    let song = and_parts (nat_eq (word_at bytes 0x06) 0x7C && nat_le 1 (word_at bytes 0x0E) && nat_le (word_at bytes 0x0E) 256 && nat_le 1 (word_at bytes 0x10)) (nat_le (word_at bytes 0x10) (word_at bytes 0x0E)) h in
+    let start = and_parts (nat_eq (word_at bytes 0x06) 0x7C && nat_le 1 (word_at bytes 0x0E) && nat_le (word_at bytes 0x0E) 256) (nat_le 1 (word_at bytes 0x10)) song.0 in
+    let most = and_parts (nat_eq (word_at bytes 0x06) 0x7C && nat_le 1 (word_at bytes 0x0E)) (nat_le (word_at bytes 0x0E) 256) start.0 in
+    let songs = and_parts (nat_eq (word_at bytes 0x06) 0x7C) (nat_le 1 (word_at bytes 0x0E)) most.0 in
     (leb-true 1 (word_at bytes 0x0E) songs.1, leb-true (word_at bytes 0x0E) 256 most.1, leb-true 1 (word_at bytes 0x10) start.1, leb-true (word_at bytes 0x10) (word_at bytes 0x0E) song.1)
 
 -- what is read
@@ -73,4 +65,4 @@ unfolding psid_read
 read_is_writable bytes psid h =
     let p = passes (not (bytes_eq (take 4 bytes) (codes "PSID"))) (nat_lt (length bytes) 124) (not (is_supported bytes)) (not (has_good_fields bytes)) (has_address bytes && nat_lt (length bytes) 126) (nat_lt 65536 (load_of bytes + length (image_of bytes))) (psid_of bytes) psid h in
     let P : Psid → Type 0 = λ q. IsWritable q.header q.load q.image in
-    subst P p.3 (psid_of_is_writable bytes (not_false (is_supported bytes) p.0) (not_false (has_good_fields bytes) p.1) p.2)
+    subst P p.3 (psid_of_is_writable bytes (not-false (is_supported bytes) p.0) (not-false (has_good_fields bytes) p.1) p.2)

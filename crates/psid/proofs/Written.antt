@@ -11,7 +11,8 @@ use Rattle.psid.specs.Words.{address_bytes, word_at, number_at, address_at, text
 use Rattle.psid.specs.Format.{psid_bytes, IsHeader, IsWritable}
 use Rattle.psid.specs.Reading.{is_supported, has_good_fields, has_address, load_of, image_of, init_or_load, header_of, psid_read}
 use Rattle.psid.specs.FormatLaws.{WrittenIsRead, WrittenIsReadAsIs}
-use Rattle.psid.proofs.Pieces.{drop-piece, text_at-piece}
+use Rattle.psid.proofs.Pieces.{text_at-piece}
+use Rattle.base.proofs.Laws.{drop_past}
 use Rattle.psid.proofs.HeaderPieces.{front_of, end_of, header_bytes-parts}
 
 -- the parts of a file from each text on, and the whole
@@ -51,11 +52,11 @@ pub laid_finds : (header : Header) (load : ℕ) (image : List ℕ) → IsHeader 
 unfolding word_at number_at address_at
 laid_finds header load image h l =
     let bytes : List ℕ = laid header load image in
-    let at_author = drop-piece (laid header load image) header.name (header.author ++ (header.released ++ from_end header load image)) 0x16 32 refl h.name in
-    let at_released = drop-piece (laid header load image) header.author (header.released ++ from_end header load image) 0x36 32 at_author h.author in
-    let at_end = drop-piece (laid header load image) header.released (from_end header load image) 0x56 32 at_released h.released in
-    let at_address = drop-piece (laid header load image) (end_of header) (address_bytes load ++ image) 0x76 6 at_end refl in
-    let at_image = drop-piece (laid header load image) (address_bytes load) image 0x7C 2 at_address refl in
+    let at_author = drop_past (laid header load image) header.name (header.author ++ (header.released ++ from_end header load image)) 0x16 32 refl h.name in
+    let at_released = drop_past (laid header load image) header.author (header.released ++ from_end header load image) 0x36 32 at_author h.author in
+    let at_end = drop_past (laid header load image) header.released (from_end header load image) 0x56 32 at_released h.released in
+    let at_address = drop_past (laid header load image) (end_of header) (address_bytes load ++ image) 0x76 6 at_end refl in
+    let at_image = drop_past (laid header load image) (address_bytes load) image 0x7C 2 at_address refl in
     let n = h.name in let a = h.author in let r = h.released in
     record {
       magic = refl;

@@ -7,7 +7,6 @@
 //! of the rules is the PSID v2 description. See `docs/psid.md`.
 #![tactic(auto)]
 
-mod bytes;
 mod faults;
 mod fields;
 mod header;
@@ -16,8 +15,8 @@ pub mod laws;
 mod reading;
 mod writing;
 
-pub use bytes::ByteList;
-pub use faults::{NoMemory, PsidFault};
+pub use base::{ByteList, NoMemory};
+pub use faults::PsidFault;
 pub use header::{Header, Psid};
 pub use reading::read;
 pub use writing::write;
