@@ -1,5 +1,5 @@
 -- The frames of the small songs, computed by the checker.
-use Rattle.std.proofs.Common.{◌≡◌, ℕ, zero, suc, List, [], ◌∷◌, replicate, refl, ap, ◌∙◌, add-one}
+use Rattle.std.proofs.Common.{◌≡◌, ℕ, zero, suc, List, [], ◌∷◌, length, map, replicate, refl, ap, ◌∙◌, add-one}
 use Rattle.song_model.specs.Walk.{prefix_of, cycle_of, played}
 use Rattle.song_model.specs.LookUp.{playable_subtune, instrument_at, table_row, pattern_at}
 use Rattle.play_model.specs.Freq.{freq, half_tone, slide}
@@ -10,12 +10,14 @@ use Rattle.play_model.specs.WaveStep.{wave_command, wave_step}
 use Rattle.play_model.specs.EffectStep.{effect_step}
 use Rattle.play_model.specs.PulseStep.{pulse_step}
 use Rattle.play_model.specs.FetchRow.{fetch_row}
-use Rattle.play_model.specs.Frame.{Framed, voice_step, voice_registers, filter_registers, frame_of, frame, state_after_with, state_after, trace}
+use Rattle.play_model.specs.Frame.{voice_step, voice_registers, filter_registers, frame_of, frame_with, state_after_with, state_after, trace_with, trace}
 use Rattle.song_model.specs.declared.songs.Song.{Song}
-use Rattle.play_model.specs.State.{no_options, start_state}
+use Rattle.play_model.specs.declared.options.Options.{Options}
+use Rattle.play_model.specs.State.{FrameState, no_options, start_state}
 use Rattle.play_model.specs.SilentTrace.{silent_registers}
 use Rattle.play_model.specs.WorkedSongs.{one_note, with_gate_timer}
-use Rattle.play_model.specs.WorkedFrames.{from_call, OneNoteSounds, LowNoteIsMute, VibratoWraps, SlideStops, FunkTempoWraps, GateTimerBits, LongTimerIsNeverMet, WaveProgramWaits, VibratoChangesAlone, FilterFollows}
+use Rattle.play_model.specs.WorkedRuns.{from_call, digits, Plays}
+use Rattle.play_model.specs.WorkedFrames.{OneNoteSounds, LowNoteIsMute, VibratoWraps, SlideStops, FunkTempoWraps, GateTimerBits, LongTimerIsNeverMet, WaveProgramWaits, VibratoChangesAlone, FilterFollows}
 
 pub one_note_sounds_lem : OneNoteSounds
 unfolding prefix_of cycle_of played playable_subtune instrument_at table_row pattern_at freq half_tone slide next_row porta_up porta_down tone vibrato do_command filter_step between_rows note_started row_command at_row tick_step wave_command wave_step effect_step pulse_step fetch_row voice_step voice_registers filter_registers frame_of state_after_with trace
@@ -54,19 +56,28 @@ unfolding prefix_of cycle_of played playable_subtune instrument_at table_row pat
 filter_follows_lem = record { set = refl; slides = refl }
 
 -- the registers of so many calls in one run, which doesn't begin anew for each call
-calls_behind : Song → ℕ → Framed → List (List ℕ)
-calls_behind song zero f = []
-calls_behind song (suc n) f = f.registers ∷ calls_behind song n (frame song 0 f.state)
+pub calls_from : Options → Song → ℕ → ℕ → FrameState → List (List ℕ)
+calls_from o song k zero x = []
+calls_from o song k (suc n) x = let f = frame_with o song k x in f.registers ∷ calls_from o song k n f.state
 
-calls_are_traced : (song : Song) (m n : ℕ) → from_call (trace song 0) (suc m) n ≡ calls_behind song n (frame song 0 (state_after song 0 m))
-unfolding calls_behind state_after_with trace
-calls_are_traced song m zero = refl
-calls_are_traced song m (suc n) = rw (add-one (suc m)) (ap (λ calls. (frame song 0 (state_after song 0 m)).registers ∷ calls) (calls_are_traced song (suc m) n))
+calls_are_traced : (o : Options) (song : Song) (k m n : ℕ) →
+    from_call (trace_with o song k) (suc m) n ≡ calls_from o song k n (state_after_with o song k m)
+unfolding calls_from state_after_with
+calls_are_traced o song k m zero = refl
+calls_are_traced o song k m (suc n) =
+    rw (add-one (suc m))
+    (ap (λ calls. (frame_with o song k (state_after_with o song k m)).registers ∷ calls) (calls_are_traced o song k (suc m) n))
 
-long_run : calls_behind (with_gate_timer 0x3F one_note) 300 (frame (with_gate_timer 0x3F one_note) 0 (start_state no_options)) ≡ replicate 300 silent_registers
-unfolding prefix_of cycle_of played playable_subtune instrument_at table_row pattern_at freq half_tone slide next_row porta_up porta_down tone vibrato do_command filter_step between_rows note_started row_command at_row tick_step wave_command wave_step effect_step pulse_step fetch_row voice_step voice_registers filter_registers frame_of state_after_with trace calls_behind
+-- so a run's registers are those of its calls
+pub plays : (o : Options) (song : Song) (k : ℕ) (lines : List ℕ) →
+    calls_from o song k (length lines) (start_state o) ≡ map (digits 25) lines → Plays o song k lines
+unfolding state_after_with
+plays o song k lines h = calls_are_traced o song k 0 (length lines) ∙ h
+
+long_run : calls_from no_options (with_gate_timer 0x3F one_note) 0 300 (start_state no_options) ≡ replicate 300 silent_registers
+unfolding prefix_of cycle_of played playable_subtune instrument_at table_row pattern_at freq half_tone slide next_row porta_up porta_down tone vibrato do_command filter_step between_rows note_started row_command at_row tick_step wave_command wave_step effect_step pulse_step fetch_row voice_step voice_registers filter_registers frame_of calls_from
 long_run = refl
 
 pub long_timer_is_never_met_lem : LongTimerIsNeverMet
-unfolding state_after_with
-long_timer_is_never_met_lem = calls_are_traced (with_gate_timer 0x3F one_note) 0 300 ∙ long_run
+unfolding state_after_with trace
+long_timer_is_never_met_lem = calls_are_traced no_options (with_gate_timer 0x3F one_note) 0 0 300 ∙ long_run

@@ -15,4 +15,5 @@ pub mod TraceLaws
 pub mod SilentTrace
 pub mod WorkedFrequencies
 pub mod WorkedSongs
+pub mod WorkedRuns
 pub mod WorkedFrames

@@ -3,6 +3,7 @@ use Rattle.std.specs.Prelude.{◌≡◌, ℕ, zero, suc, ◌+◌, ◌*◌, List,
 use Rattle.song_model.specs.declared.songs.Song.{Song}
 use Rattle.play_model.specs.Frame.{trace, state_after}
 use Rattle.play_model.specs.SilentTrace.{silent_registers}
+use Rattle.play_model.specs.WorkedRuns.{from_call}
 use Rattle.play_model.specs.WorkedSongs.{one_note, low_note, wrapping_note, sliding_note, tied_note, funk_song, long_note, with_gate_timer, waiting_wave, other_vibrato, small_song}
 
 -- the seven registers of voice 1 after a call
@@ -12,11 +13,6 @@ first_voice_at song call = take 7 (trace song 0 call)
 -- the frequency of voice 1 after a call
 abbrev pub frequency_at : Song → ℕ → ℕ
 frequency_at song call = slice_index (trace song 0 call) 0 + 256 * slice_index (trace song 0 call) 1
-
--- something of so many calls, from this one on
-abbrev pub from_call : {X : Type 0} → (ℕ → X) → ℕ → ℕ → List X
-from_call of call zero = []
-from_call of call (suc n) = of call ∷ from_call of (call + 1) n
 
 -- a note is fetched two frames before it starts, sounds, and is released
 pub record OneNoteSounds : Type 0 where

@@ -1,0 +1,47 @@
+-- Words for the runs of small songs: the parts of a song, and the registers of many calls.
+use Rattle.std.specs.Prelude.{◌≡◌, ℕ, zero, suc, ◌+◌, ◌/◌, ◌%◌, ◌^◌, Bool, List, [], ◌∷◌, length, map, replicate}
+use Rattle.song_model.specs.declared.orders.Order.{Order}
+use Rattle.song_model.specs.declared.orders.Subtune.{Subtune}
+use Rattle.song_model.specs.declared.instruments.Instrument.{Instrument}
+use Rattle.song_model.specs.declared.songs.Song.{Song}
+use Rattle.play_model.specs.declared.options.Options.{Options}
+use Rattle.play_model.specs.Frame.{trace_with}
+
+abbrev pub order_from : List ℕ → ℕ → Order
+order_from entries restart = record { entries = entries; restart = restart }
+
+abbrev pub three_orders : Order → Order → Order → Subtune
+three_orders one two three = record { one = one; two = two; three = three }
+
+-- its nine numbers in the order of the file, without a name
+abbrev pub instrument : ℕ → ℕ → ℕ → ℕ → ℕ → ℕ → ℕ → ℕ → ℕ → Instrument
+instrument ad sr wave pulse filter vibrato vibrato_delay gate_timer first_wave = record {
+  ad = ad;
+  sr = sr;
+  wave = wave;
+  pulse = pulse;
+  filter = filter;
+  vibrato = vibrato;
+  vibrato_delay = vibrato_delay;
+  gate_timer = gate_timer;
+  first_wave = first_wave;
+  name = replicate 16 0;
+}
+
+-- whether effects and pulse are left out, and the speed
+abbrev pub left_out : Bool → Bool → ℕ → Options
+left_out effects pulse speed = record { skip_effects = effects; skip_pulse = pulse; speed = speed }
+
+-- something of so many calls, from this one on
+abbrev pub from_call : {X : Type 0} → (ℕ → X) → ℕ → ℕ → List X
+from_call of call zero = []
+from_call of call (suc n) = of call ∷ from_call of (call + 1) n
+
+-- the digits of a number to the base 256, so many, the highest first
+abbrev pub digits : ℕ → ℕ → List ℕ
+digits zero n = []
+digits (suc count) n = n / 256 ^ count % 256 ∷ digits count n
+
+-- the registers after the calls from 1 on, those of each call as the 25 digits of a number
+abbrev pub Plays : Options → Song → ℕ → List ℕ → Type 0
+Plays o song k lines = from_call (trace_with o song k) 1 (length lines) ≡ map (digits 25) lines
