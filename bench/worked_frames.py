@@ -8,8 +8,8 @@ repository's. For each run it has these lines:
     the song's file of the format GTS5, in hexadecimal
     the 25 registers after call 1, in hexadecimal, and so on for each call up to FRAMES
 
-Subtunes are counted from 1. SKIP is none, effects, pulse or both, SPEED is 1 to 4. Texts and names are
-zero. A line that begins with # is left out.
+Subtunes are counted from 1. SKIP is none, effects, pulse or both, SPEED is 1 to 4. A line that begins
+with # is left out, and so are the song's texts and the names of its instruments.
 
 Each run of a song SONG becomes a field of a record in crates/play_model/specs/NAME.antt, which is
 computed in crates/play_model/proofs/NAME.antt. A contract must name the record, NAME with Hold after
@@ -66,23 +66,19 @@ class Reader:
     def byte(self):
         return self.take(1)[0]
 
-    def zeros(self, count):
-        if any(self.take(count)):
-            sys.exit("a text or a name isn't zero")
-
     def order(self):
         entries = self.take(self.byte())[:-1]
         return f"order_from {items(map(number, entries))} {number(self.byte())}"
 
     def instrument(self):
         fields = self.take(9)
-        self.zeros(16)
+        self.take(16)
         return "instrument " + " ".join(map(number, fields))
 
     def table(self):
         count = self.byte()
         lefts, rights = self.take(count), self.take(count)
-        return items(f"sides {number(left)} {number(right)}" for left, right in zip(lefts, rights))
+        return [f"sides {number(left)} {number(right)}" for left, right in zip(lefts, rights)]
 
     def pattern(self):
         rows = [self.take(4) for _ in range(self.byte())][:-1]
@@ -97,26 +93,32 @@ def items(texts):
     return "(" + " ∷ ".join([*texts, "[]"]) + ")"
 
 
-def wrapped(text, indent):
-    """The text in lines, cut where an item ends."""
+def wrapped(text):
+    """An item's text in lines, cut where an item within it ends."""
     lines = []
-    left = indent + text
+    left = "      " + text
     while len(left) > LIMIT:
         cut = left.rfind(" ∷ ", 0, LIMIT)
         lines.append(left[:cut])
-        left = indent + "   " + left[cut + 1 :]
+        left = "        " + left[cut + 1 :]
     return lines + [left]
 
 
-def field(name, text):
-    return wrapped(f"{name} = {text};", "  ")
+def field(name, texts):
+    """A field of a song: a list, with an item a line."""
+    if not texts:
+        return [f"  {name} = [];"]
+    lines = [f"  {name} ="]
+    for place, text in enumerate(texts):
+        lines += wrapped(("∷ " if place else "") + text)
+    return lines + ["      ∷ [];"]
 
 
 def song_lines(name, data):
     reader = Reader(data)
     if reader.take(4) != b"GTS5":
         sys.exit(f"{name} isn't of the format GTS5")
-    reader.zeros(96)
+    reader.take(96)
     subtunes = []
     for _ in range(reader.byte()):
         one, two, three = (f"({reader.order()})" for _ in range(3))
@@ -125,10 +127,10 @@ def song_lines(name, data):
     tables = [reader.table() for _ in range(4)]
     patterns = [reader.pattern() for _ in range(reader.byte())]
     lines = [f"abbrev pub {name} : Song", f"{name} = record empty_song {{"]
-    lines += field("subtunes", items(subtunes)) + field("instruments", items(instruments))
+    lines += field("subtunes", subtunes) + field("instruments", instruments)
     for table, rows in zip(["wave", "pulse", "filter", "speed"], tables):
-        lines += field(table, rows)
-    return lines + field("patterns", items(patterns)) + ["}", ""]
+        lines += field(table, [" ∷ ".join(rows)] if rows else [])
+    return lines + field("patterns", patterns) + ["}", ""]
 
 
 def runs_of(path):
@@ -148,6 +150,10 @@ def plain_name(name):
     return re.sub(r"([a-z])([0-9])", r"\1_\2", name)
 
 
+def lemma_name(module):
+    return re.sub(r"(?<=[a-z])(?=[A-Z])", "_", module).lower() + "_lem"
+
+
 def main():
     path, module, *wanted = sys.argv[1:]
     crate = os.path.join(os.path.dirname(os.path.dirname(os.path.abspath(__file__))), "crates/play_model")
@@ -159,8 +165,8 @@ def main():
     specs.append(f"pub record {module}Hold : Type 0 where")
     proofs = [PROOF_HEAD + "use Rattle.play_model.proofs.Computed.{calls_from, plays}"]
     names = ", ".join([plain_name(name) for name in songs] + [f"{module}Hold"])
-    proofs += [f"use Rattle.play_model.specs.{module}.{{{names}}}", "", f"pub {module}_lem : {module}Hold", UNFOLDING]
-    proofs.append(f"{module}_lem = record {{")
+    proofs += [f"use Rattle.play_model.specs.{module}.{{{names}}}", "", f"pub {lemma_name(module)} : {module}Hold", UNFOLDING]
+    proofs.append(f"{lemma_name(module)} = record {{")
     for name, subtune, suffix, options, _, lines in runs:
         run = f"{plain_name(name)}_{suffix}"
         specs.append(f"  pub {run} : Plays {options} {plain_name(name)} {subtune} (")

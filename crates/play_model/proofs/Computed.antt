@@ -56,7 +56,7 @@ unfolding prefix_of cycle_of played playable_subtune instrument_at table_row pat
 filter_follows_lem = record { set = refl; slides = refl }
 
 -- the registers of so many calls in one run, which doesn't begin anew for each call
-pub calls_from : Options → Song → ℕ → ℕ → FrameState → List (List ℕ)
+unfoldable pub calls_from : Options → Song → ℕ → ℕ → FrameState → List (List ℕ)
 calls_from o song k zero x = []
 calls_from o song k (suc n) x = let f = frame_with o song k x in f.registers ∷ calls_from o song k n f.state
 
@@ -72,7 +72,7 @@ calls_are_traced o song k m (suc n) =
 pub plays : (o : Options) (song : Song) (k : ℕ) (lines : List ℕ) →
     calls_from o song k (length lines) (start_state o) ≡ map (digits 25) lines → Plays o song k lines
 unfolding state_after_with
-plays o song k lines h = calls_are_traced o song k 0 (length lines) ∙ h
+plays o song k lines h = record { registers = calls_are_traced o song k 0 (length lines) ∙ h }
 
 long_run : calls_from no_options (with_gate_timer 0x3F one_note) 0 300 (start_state no_options) ≡ replicate 300 silent_registers
 unfolding prefix_of cycle_of played playable_subtune instrument_at table_row pattern_at freq half_tone slide next_row porta_up porta_down tone vibrato do_command filter_step between_rows note_started row_command at_row tick_step wave_command wave_step effect_step pulse_step fetch_row voice_step voice_registers filter_registers frame_of calls_from

@@ -2,3 +2,8 @@ pub mod Computed
 pub mod QuietVoice
 pub mod QuietOrder
 pub mod QuietTrace
+pub mod WorkedCorners
+pub mod WorkedEdges
+pub mod WorkedTunes
+pub mod WorkedPeriods
+pub mod WorkedSubtunes

@@ -17,3 +17,8 @@ pub mod WorkedFrequencies
 pub mod WorkedSongs
 pub mod WorkedRuns
 pub mod WorkedFrames
+pub mod WorkedCorners
+pub mod WorkedEdges
+pub mod WorkedTunes
+pub mod WorkedPeriods
+pub mod WorkedSubtunes

@@ -43,5 +43,5 @@ digits zero n = []
 digits (suc count) n = n / 256 ^ count % 256 ∷ digits count n
 
 -- the registers after the calls from 1 on, those of each call as the 25 digits of a number
-abbrev pub Plays : Options → Song → ℕ → List ℕ → Type 0
-Plays o song k lines = from_call (trace_with o song k) 1 (length lines) ≡ map (digits 25) lines
+pub record Plays (o : Options) (song : Song) (k : ℕ) (lines : List ℕ) : Type 0 where
+  pub registers : from_call (trace_with o song k) 1 (length lines) ≡ map (digits 25) lines

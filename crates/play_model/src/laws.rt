@@ -2,6 +2,11 @@
 
 ghost use Rattle.play_model.specs.TraceLaws.{TracesHaveAllRegisters};
 ghost use Rattle.play_model.specs.SilentTrace.{SilentSongsAreSilent};
+ghost use Rattle.play_model.specs.WorkedCorners.{WorkedCornersHold};
+ghost use Rattle.play_model.specs.WorkedEdges.{WorkedEdgesHold};
+ghost use Rattle.play_model.specs.WorkedTunes.{WorkedTunesHold};
+ghost use Rattle.play_model.specs.WorkedPeriods.{WorkedPeriodsHold};
+ghost use Rattle.play_model.specs.WorkedSubtunes.{WorkedSubtunesHold};
 ghost use Rattle.play_model.specs.WorkedFrequencies.{FrequenciesAreAsWorked};
 ghost use Rattle.play_model.specs.WorkedFrames.{OneNoteSounds, LowNoteIsMute, VibratoWraps, SlideStops, FunkTempoWraps, GateTimerBits, LongTimerIsNeverMet, WaveProgramWaits, VibratoChangesAlone, FilterFollows};
 
@@ -68,4 +73,34 @@ pub fn filter_follows()
 /// A gateoff timer that is longer than a row.
 pub fn long_timer_is_never_met()
     ensures { LongTimerIsNeverMet }
+{}
+
+/// Each command in rows and in the wave table, at the ends of their ranges.
+#[tactic(auto, using(crate::proofs::WorkedCorners::worked_corners_lem))]
+pub fn worked_corners()
+    ensures { WorkedCornersHold }
+{}
+
+/// Programs, tempos and delays at the edges of their ranges, with keyoff, keyon and empty channels.
+#[tactic(auto, using(crate::proofs::WorkedEdges::worked_edges_lem))]
+pub fn worked_edges()
+    ensures { WorkedEdgesHold }
+{}
+
+/// Small tunes, and a slide that comes to its target exactly.
+#[tactic(auto, using(crate::proofs::WorkedTunes::worked_tunes_lem))]
+pub fn worked_tunes()
+    ensures { WorkedTunesHold }
+{}
+
+/// Vibratos with the longest periods.
+#[tactic(auto, using(crate::proofs::WorkedPeriods::worked_periods_lem))]
+pub fn worked_periods()
+    ensures { WorkedPeriodsHold }
+{}
+
+/// Later subtunes, behind ones that have an empty orderlist.
+#[tactic(auto, using(crate::proofs::WorkedSubtunes::worked_subtunes_lem))]
+pub fn worked_subtunes()
+    ensures { WorkedSubtunesHold }
 {}
