@@ -14,10 +14,3 @@ pub record Rose (before after : ℕ) : Type 0 where
 abbrev pub Counts : Bool → ℕ → ℕ → Type 0
 Counts true before after = Rose before after
 Counts false before after = after ≡ before
-
--- the four counts of a folder: reads and writes that the device failed, reads of no file, reads of a file above its limit
-pub record FolderCounts : Type 0 where
-  pub read_faults : ℕ
-  pub write_faults : ℕ
-  pub misses : ℕ
-  pub excesses : ℕ

@@ -1,5 +1,6 @@
 pub mod Count
 pub mod Fault
+pub mod FolderCounts
 pub mod Files
 pub mod Written
 pub mod FileMap

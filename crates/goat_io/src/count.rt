@@ -1,3 +1,5 @@
+//! How often a device refused something.
+
 ghost use Rattle.std.specs.Prelude.{◌≡◌, ℕ};
 ghost use Rattle.goat_io.specs.Count.{next_count, Rose};
 
@@ -18,12 +20,14 @@ impl Model for Count {
 }
 
 impl Count {
+    /// No refusal so far.
     pub fn zero() -> Self
         ensures { result ≡ 0 }
     {
         Count { times: 0 }
     }
 
+    /// One refusal more.
     pub fn rise(&mut self)
         ensures next { self.new ≡ next_count self.old }
         ensures rose { Rose self.old self.new }
@@ -31,6 +35,7 @@ impl Count {
         self.times = self.times.saturating_add(1);
     }
 
+    /// The number of refusals.
     pub fn get(self) -> u64
         ensures { result ≡ self }
     {

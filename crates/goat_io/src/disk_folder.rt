@@ -1,7 +1,9 @@
-ghost use Rattle.std.specs.Prelude.{◌≡◌, None};
+//! The files of the system.
 
-use crate::count::Count;
-use crate::{Folder, ReadFault, WriteFault};
+ghost use Rattle.std.specs.Prelude.{◌≡◌, None};
+ghost use Rattle.goat_io.specs.FolderCounts.{no_counts};
+
+use crate::{Folder, FolderCounts, ReadFault, WriteFault};
 use std::alloc::Global;
 use std::io::{ErrorKind, Read};
 use std::marker::Model;
@@ -15,41 +17,30 @@ use std::{fs, io};
 #[derive(Drop)]
 pub struct DiskFolder<'a, R> {
     rt: &'a R,
-    read_faults: Count,
-    write_faults: Count,
-    misses: Count,
-    excesses: Count,
+    counts: FolderCounts,
 }
 
 impl<'a, R> Model for DiskFolder<'a, R> {
-    ghost use Rattle.goat_io.specs.Count.{FolderCounts};
+    ghost use Rattle.goat_io.specs.declared.folder_counts.FolderCounts.{FolderCounts};
 
     ghost Value = { FolderCounts };
 
-    ghost view = { λ d. record {
-      read_faults = d.read_faults;
-      write_faults = d.write_faults;
-      misses = d.misses;
-      excesses = d.excesses;
-    } };
+    ghost view = { λ d. d.counts };
 }
 
 impl<'a, R: Files> DiskFolder<'a, R> {
     /// The system's files through the program's runtime, with every count at 0.
     pub fn new(rt: &'a R) -> Self
-        ensures { result ≡ record { read_faults = 0; write_faults = 0; misses = 0; excesses = 0 } }
+        ensures { result ≡ no_counts }
     {
         DiskFolder {
             rt,
-            read_faults: Count::zero(),
-            write_faults: Count::zero(),
-            misses: Count::zero(),
-            excesses: Count::zero(),
+            counts: FolderCounts::zero(),
         }
     }
 }
 
-// The file's bytes, but one byte above the limit at most.
+/// The file's bytes, but one byte above the limit at most.
 fn bytes_up_to<R: Files>(rt: &R, alloc: Global, name: &str, limit: u32) -> io::Result<Vec<u8>> {
     let file = fs::open(rt, name)?;
     let mut bytes = Vec::new(alloc);
@@ -60,29 +51,23 @@ fn bytes_up_to<R: Files>(rt: &R, alloc: Global, name: &str, limit: u32) -> io::R
 impl<'a, R: Files> Folder for DiskFolder<'a, R> {
     ghost files = { λ _. None };
 
-    ghost read_faults = { λ d. d.read_faults };
-
-    ghost write_faults = { λ d. d.write_faults };
-
-    ghost misses = { λ d. d.misses };
-
-    ghost excesses = { λ d. d.excesses };
+    ghost counts = { λ d. d };
 
     fn read(&mut self, alloc: Global, name: &str, limit: u32) -> Result<Vec<u8>, ReadFault> {
         match bytes_up_to(self.rt, alloc, name, limit) {
             Ok(bytes) if bytes.len() <= limit as usize => Ok(bytes),
             Ok(_) => {
-                self.excesses.rise();
+                self.counts.excesses.rise();
                 Err(ReadFault::TooLong)
             }
             Err(error) => match error.kind() {
                 ErrorKind::NotFound => {
-                    self.misses.rise();
+                    self.counts.misses.rise();
                     Err(ReadFault::Missing)
                 }
                 ErrorKind::OutOfMemory => Err(ReadFault::NoMemory),
                 _ => {
-                    self.read_faults.rise();
+                    self.counts.read_faults.rise();
                     Err(ReadFault::Failed)
                 }
             },
@@ -95,7 +80,7 @@ impl<'a, R: Files> Folder for DiskFolder<'a, R> {
             Err(error) => match error.kind() {
                 ErrorKind::OutOfMemory => Err(WriteFault::NoMemory),
                 _ => {
-                    self.write_faults.rise();
+                    self.counts.write_faults.rise();
                     Err(WriteFault::Failed)
                 }
             },

@@ -1,9 +1,4 @@
-// Why a read, a write or a put was refused.
-use std::alloc::{AllocError, AllocFailed};
-
-/// Memory was wanting.
-#[derive(Clone, Copy, Debug, PartialEq, Eq)]
-pub struct NoMemory;
+//! Why a read, a write or a put was refused.
 
 /// Why a folder gave no bytes.
 #[derive(Clone, Copy, Debug, PartialEq, Eq)]
@@ -14,7 +9,7 @@ pub enum ReadFault {
     TooLong,
     /// The device failed.
     Failed,
-    /// Memory for the bytes was wanting.
+    /// Out of memory.
     NoMemory,
 }
 
@@ -23,7 +18,7 @@ pub enum ReadFault {
 pub enum WriteFault {
     /// The device failed, and may hold a prefix of the bytes.
     Failed,
-    /// Memory was wanting; the files are as before.
+    /// Out of memory; the files are as before.
     NoMemory,
 }
 
@@ -32,18 +27,6 @@ pub enum WriteFault {
 pub enum SinkFault {
     /// The device failed, and may have taken a prefix of the piece.
     Failed,
-    /// Memory was wanting; nothing was taken.
+    /// Out of memory; nothing was taken.
     NoMemory,
-}
-
-impl From<AllocError> for NoMemory {
-    fn from(_: AllocError) -> Self {
-        NoMemory
-    }
-}
-
-impl<T: Drop> From<AllocFailed<T>> for NoMemory {
-    fn from(_: AllocFailed<T>) -> Self {
-        NoMemory
-    }
 }

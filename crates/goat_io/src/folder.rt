@@ -1,6 +1,8 @@
-ghost use Rattle.std.specs.Prelude.{◌≡◌, ◌≤◌, ℕ, Option, Some, IfOk, OnOk, IfSome, IsErrOf, vec_len};
-ghost use Rattle.goat_io.specs.Count.{Counts};
-ghost use Rattle.goat_io.specs.Fault.{is_missing, is_too_long, is_read_failure, is_write_failure};
+//! A folder of named files, as a trait.
+
+ghost use Rattle.std.specs.Prelude.{◌≡◌, ◌≤◌, Option, Some, IfOk, OnOk, IfSome, IsErrOf, vec_len};
+ghost use Rattle.goat_io.specs.declared.folder_counts.FolderCounts.{FolderCounts};
+ghost use Rattle.goat_io.specs.FolderCounts.{CountsRead, CountsWrite};
 ghost use Rattle.goat_io.specs.Files.{Files, file_of, told_with_file, IsAbsent, IsAbove, IsWrittenInPart};
 
 use crate::{ReadFault, WriteFault};
@@ -14,19 +16,14 @@ pub trait Folder {
     /// The files, where the folder tells them.
     ghost files: { Self → Option Files };
 
-    /// How often a read failed by the device.
-    ghost read_faults: { Self → ℕ };
-
-    /// How often a write failed by the device.
-    ghost write_faults: { Self → ℕ };
-
-    /// How often a read found no file.
-    ghost misses: { Self → ℕ };
-
-    /// How often a read found a file above its limit.
-    ghost excesses: { Self → ℕ };
+    /// How often each sort of refusal came.
+    ghost counts: { Self → FolderCounts };
 
     /// Reads the whole file that has the name, of at most `limit` bytes.
+    ///
+    /// # Errors
+    ///
+    /// No file has the name, the file is above the limit, the device failed, or out of memory.
     fn read(&mut self, alloc: Global, name: &str, limit: u32) -> Result<Vec<u8>, ReadFault>
         ensures within { IfOk result (λ bytes. vec_len bytes ≤ limit) }
         ensures whole { IfOk result (λ bytes. IfSome (files self.old) (λ told. file_of told name.now ≡ Some bytes.items)) }
@@ -35,19 +32,19 @@ pub trait Folder {
         ensures files_stay { files self.new ≡ files self.old }
 
         // Each count rises with its own answer and with no other.
-        ensures misses { Counts (is_missing result) (misses self.old) (misses self.new) }
-        ensures excesses { Counts (is_too_long result) (excesses self.old) (excesses self.new) }
-        ensures read_faults { Counts (is_read_failure result) (read_faults self.old) (read_faults self.new) }
-        ensures write_faults { write_faults self.new ≡ write_faults self.old };
+        ensures counts { CountsRead result (counts self.old) (counts self.new) };
 
     /// Makes the file that has the name these bytes, whether there was one or not.
+    ///
+    /// # Errors
+    ///
+    /// The device failed, and the file is as before or holds a prefix of the bytes; or out of memory, and the files are
+    /// as before.
     fn write(&mut self, name: &str, bytes: &[u8]) -> Result<(), WriteFault>
         ensures ok { OnOk result (files self.new ≡ told_with_file (files self.old) name.now bytes.now) }
         ensures failed { IsErrOf result WriteFault.Failed → IsWrittenInPart (files self.old) (files self.new) name.now bytes.now }
         ensures no_memory { IsErrOf result WriteFault.NoMemory → files self.new ≡ files self.old }
 
-        ensures write_faults { Counts (is_write_failure result) (write_faults self.old) (write_faults self.new) }
-        ensures misses { misses self.new ≡ misses self.old }
-        ensures excesses { excesses self.new ≡ excesses self.old }
-        ensures read_faults { read_faults self.new ≡ read_faults self.old };
+        // A failure is counted, and nothing else is.
+        ensures counts { CountsWrite result (counts self.old) (counts self.new) };
 }

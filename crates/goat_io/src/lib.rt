@@ -6,13 +6,14 @@
 //! calls that a test lists. `DiskFolder` and `StdSink` are the trusted edges over files and standard output:
 //! they count their faults and tell nothing of content.
 //!
-//! It stands on the standard library alone.
+//! It stands on `base`, for the refusal for want of memory.
 #![tactic(auto)]
 
 mod count;
 mod disk_folder;
 mod fault;
 mod folder;
+mod folder_counts;
 mod listed;
 mod mem_files;
 mod mem_folder;
@@ -20,9 +21,12 @@ mod mem_sink;
 mod sink;
 mod std_sink;
 
+pub use base::NoMemory;
+pub use count::Count;
 pub use disk_folder::DiskFolder;
-pub use fault::{NoMemory, ReadFault, SinkFault, WriteFault};
+pub use fault::{ReadFault, SinkFault, WriteFault};
 pub use folder::Folder;
+pub use folder_counts::FolderCounts;
 pub use mem_folder::MemFolder;
 pub use mem_sink::MemSink;
 pub use sink::Sink;

@@ -1,3 +1,5 @@
+//! The numbers of the calls that are to fail.
+
 ghost use Rattle.std.specs.Prelude.{◌≡◌, ◌==◌};
 ghost use Rattle.std.specs.List.{list_any};
 

@@ -1,3 +1,5 @@
+//! Files in memory, by name.
+
 ghost use Rattle.std.specs.Prelude.{◌≡◌, OnOk, OnErr, IfOk};
 ghost use Rattle.std.specs.Option.{option_copied};
 ghost use Rattle.std.specs.FinMap.{empty};
@@ -30,6 +32,7 @@ impl Model for FileMap {
 }
 
 impl FileMap {
+    /// No files.
     pub fn new(alloc: Global) -> Self
         ensures { result ≡ empty }
     {
@@ -50,6 +53,10 @@ impl FileMap {
     }
 
     /// Makes the file that has the name these bytes.
+    ///
+    /// # Errors
+    ///
+    /// Out of memory: the files are as before.
     pub fn put(&mut self, name: &str, bytes: &[u8]) -> Result<(), NoMemory>
         ensures ok { OnOk result (self.new ≡ with_file self.old name.now bytes.now) }
         ensures err { OnErr result (self.new ≡ self.old) }

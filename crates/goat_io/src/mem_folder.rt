@@ -1,14 +1,17 @@
+//! A folder in memory, for tests.
+
 ghost use Rattle.std.specs.Prelude.{◌≡◌, ◌≤◌, false, ◌/◌, ◌==◌, [], Some, None, Ok, Err, IfOk, OnOk, OnErr, IfSome, IsErrOf, IsErr, IsTrue, take, length, vec_len};
 ghost use Rattle.std.specs.Option.{option_copied};
 ghost use Rattle.std.specs.FinMap.{empty};
-ghost use Rattle.goat_io.specs.Count.{Counts, next_count};
-ghost use Rattle.goat_io.specs.Fault.{is_missing, is_too_long, is_read_failure, is_write_failure};
+ghost use Rattle.goat_io.specs.Count.{next_count};
+ghost use Rattle.goat_io.specs.FolderCounts.{no_counts, CountsRead, CountsWrite};
+ghost use Rattle.goat_io.specs.Fault.{is_read_failure};
 ghost use Rattle.goat_io.specs.Files.{file_of, with_file, told_with_file, IsAbsent, IsAbove, IsWrittenInPart};
 
 use crate::count::Count;
 use crate::listed::is_listed;
 use crate::mem_files::FileMap;
-use crate::{Folder, NoMemory, ReadFault, WriteFault};
+use crate::{Folder, FolderCounts, NoMemory, ReadFault, WriteFault};
 use std::alloc::Global;
 use std::marker::Model;
 
@@ -18,10 +21,7 @@ pub struct MemFolder {
     files: FileMap,
     failing: Vec<u32>,
     calls: Count,
-    read_faults: Count,
-    write_faults: Count,
-    misses: Count,
-    excesses: Count,
+    counts: FolderCounts,
 }
 
 impl Model for MemFolder {
@@ -36,10 +36,7 @@ impl Model for MemFolder {
       files = f.files;
       failing = f.failing.items;
       calls = f.calls;
-      read_faults = f.read_faults;
-      write_faults = f.write_faults;
-      misses = f.misses;
-      excesses = f.excesses;
+      counts = f.counts;
     } };
 }
 
@@ -51,24 +48,22 @@ impl MemFolder {
           files = empty;
           failing = failing.items;
           calls = 0;
-          read_faults = 0;
-          write_faults = 0;
-          misses = 0;
-          excesses = 0;
+          counts = no_counts;
         } }
     {
         MemFolder {
             files: FileMap::new(alloc),
             failing,
             calls: Count::zero(),
-            read_faults: Count::zero(),
-            write_faults: Count::zero(),
-            misses: Count::zero(),
-            excesses: Count::zero(),
+            counts: FolderCounts::zero(),
         }
     }
 
     /// Puts a file into the folder, in place of one that has the name. It counts as no call.
+    ///
+    /// # Errors
+    ///
+    /// Out of memory: the folder is as before.
     pub fn add(&mut self, name: &str, bytes: &[u8]) -> Result<(), NoMemory>
         ensures ok { OnOk result (self.new ≡ record self.old { files = with_file self.old.files name.now bytes.now }) }
         ensures err { OnErr result (self.new ≡ self.old) }
@@ -84,7 +79,7 @@ impl MemFolder {
     }
 }
 
-// A copy of the file that has the name, of at most `limit` bytes.
+/// A copy of the file that has the name, of at most `limit` bytes.
 fn copy_of(alloc: Global, files: &FileMap, name: &str, limit: u32) -> Result<Vec<u8>, ReadFault>
     ensures ok { IfOk result (λ bytes. (vec_len bytes ≤ limit) × (file_of files.now name.now ≡ Some bytes.items)) }
     ensures missing { IsErrOf result ReadFault.Missing → IsAbsent name.now files.now }
@@ -108,13 +103,7 @@ impl Folder for MemFolder {
 
     ghost files = { λ f. Some f.files };
 
-    ghost read_faults = { λ f. f.read_faults };
-
-    ghost write_faults = { λ f. f.write_faults };
-
-    ghost misses = { λ f. f.misses };
-
-    ghost excesses = { λ f. f.excesses };
+    ghost counts = { λ f. f.counts };
 
     fn read(&mut self, alloc: Global, name: &str, limit: u32) -> Result<Vec<u8>, ReadFault>
         ensures within { IfOk result (λ bytes. vec_len bytes ≤ limit) }
@@ -122,10 +111,7 @@ impl Folder for MemFolder {
         ensures missing { IsErrOf result ReadFault.Missing → IsAbsent name.now self.old.files }
         ensures too_long { IsErrOf result ReadFault.TooLong → IsAbove limit name.now self.old.files }
         ensures files_stay { self.new.files ≡ self.old.files }
-        ensures misses { Counts (is_missing result) self.old.misses self.new.misses }
-        ensures excesses { Counts (is_too_long result) self.old.excesses self.new.excesses }
-        ensures read_faults { Counts (is_read_failure result) self.old.read_faults self.new.read_faults }
-        ensures write_faults { self.new.write_faults ≡ self.old.write_faults }
+        ensures counts { CountsRead result self.old.counts self.new.counts }
 
         // The listed calls fail, and only they.
         ensures listed { is_read_failure result ≡ next_fails self.old }
@@ -135,13 +121,13 @@ impl Folder for MemFolder {
         let fails = is_listed(&self.failing, self.calls.get());
         self.calls.rise();
         if fails {
-            self.read_faults.rise();
+            self.counts.read_faults.rise();
             return Err(ReadFault::Failed);
         }
         let answer = copy_of(alloc, &self.files, name, limit);
         match &answer {
-            Err(ReadFault::Missing) => self.misses.rise(),
-            Err(ReadFault::TooLong) => self.excesses.rise(),
+            Err(ReadFault::Missing) => self.counts.misses.rise(),
+            Err(ReadFault::TooLong) => self.counts.excesses.rise(),
             _ => {}
         }
         answer
@@ -149,17 +135,20 @@ impl Folder for MemFolder {
 
     fn write(&mut self, name: &str, bytes: &[u8]) -> Result<(), WriteFault>
         ensures ok { OnOk result (self.new.files ≡ with_file self.old.files name.now bytes.now) }
-        ensures failed { IsErrOf result WriteFault.Failed → IsWrittenInPart (Some self.old.files) (Some self.new.files) name.now bytes.now }
+        ensures failed {
+            IsErrOf result WriteFault.Failed →
+            IsWrittenInPart (Some self.old.files) (Some self.new.files) name.now bytes.now
+        }
         ensures no_memory { IsErrOf result WriteFault.NoMemory → self.new.files ≡ self.old.files }
-        ensures write_faults { Counts (is_write_failure result) self.old.write_faults self.new.write_faults }
-        ensures misses { self.new.misses ≡ self.old.misses }
-        ensures excesses { self.new.excesses ≡ self.old.excesses }
-        ensures read_faults { self.new.read_faults ≡ self.old.read_faults }
+        ensures counts { CountsWrite result self.old.counts self.new.counts }
 
         // The listed calls fail, and only they.
         ensures listed { IsTrue (next_fails self.old) → IsErr result }
         ensures only_listed { IsErrOf result WriteFault.Failed → IsTrue (next_fails self.old) }
-        ensures half { IsErrOf result WriteFault.Failed → self.new.files ≡ with_file self.old.files name.now (take (length bytes.now / 2) bytes.now) }
+        ensures half {
+            IsErrOf result WriteFault.Failed →
+            self.new.files ≡ with_file self.old.files name.now (take (length bytes.now / 2) bytes.now)
+        }
         ensures counted { self.new.calls ≡ next_count self.old.calls }
         ensures same_list { self.new.failing ≡ self.old.failing }
     {
@@ -175,7 +164,7 @@ impl Folder for MemFolder {
             return Err(WriteFault::NoMemory);
         }
         if fails {
-            self.write_faults.rise();
+            self.counts.write_faults.rise();
             return Err(WriteFault::Failed);
         }
         Ok(())

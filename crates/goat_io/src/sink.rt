@@ -1,3 +1,5 @@
+//! Where printed lines go, as a trait.
+
 ghost use Rattle.std.specs.Prelude.{◌≡◌, ℕ, List, Option, OnOk, IsErrOf};
 ghost use Rattle.goat_io.specs.Count.{Counts};
 ghost use Rattle.goat_io.specs.Fault.{is_sink_failure};
@@ -17,6 +19,10 @@ pub trait Sink {
     ghost faults: { Self → ℕ };
 
     /// Appends the bytes.
+    ///
+    /// # Errors
+    ///
+    /// The device failed, and a prefix of the bytes was taken; or out of memory, and nothing was.
     fn put(&mut self, bytes: &[u8]) -> Result<(), SinkFault>
         ensures ok { OnOk result (written self.new ≡ told_with_piece (written self.old) bytes.now) }
         ensures failed { IsErrOf result SinkFault.Failed → IsTakenInPart (written self.old) (written self.new) bytes.now }

@@ -1,3 +1,5 @@
+//! The standard output.
+
 ghost use Rattle.std.specs.Prelude.{◌≡◌, None};
 
 use crate::count::Count;
@@ -12,7 +14,7 @@ pub struct StdSink<'a, R> {
     faults: Count,
 }
 
-// Seen as its count of faults.
+/// Seen as its count of faults.
 impl<'a, R> Model for StdSink<'a, R> {
     ghost use Rattle.std.specs.Prelude.{ℕ};
 
