@@ -1,13 +1,14 @@
--- A runner as contracts see it, the machine that a PSID v2 file is loaded into, and what a call leaves of a runner.
-use Rattle.std.specs.Prelude.{◌≡◌, ℕ, ◌+◌, ◌-◌, List, [], ◌++◌, length, slice_index, replicate, false, Option, None}
+-- A runner as contracts see it, and the machine that a PSID v2 file is loaded into.
+use Rattle.std.specs.Prelude.{ℕ, ◌+◌, ◌-◌, List, [], ◌++◌, length, slice_index, replicate, false, Option, None}
 use Rattle.cpu6502.specs.declared.cpu.Cpu.{Cpu}
 use Rattle.cpu6502.specs.declared.machine.Machine.{Machine}
 use Rattle.cpu6502.specs.declared.log.WriteLog.{WriteLog}
 use Rattle.cpu6502.specs.declared.stop.CallStop.{CallStop}
-use Rattle.cpu6502.specs.Call.{entered, writes_in}
 use Rattle.cpu6502.specs.Code.{bytes_at}
-use Rattle.cpu6502.specs.Log.{log_of, sid_writes}
+use Rattle.cpu6502.specs.Log.{log_of}
 use Rattle.psid.specs.declared.header.Psid.{Psid}
+use Rattle.sid_run.specs.declared.runner.TheConstants.{MOST_STEPS}
+use Rattle.sid_run.specs.declared.memory.TheConstants.{SID_BASE, REGISTERS}
 
 -- its machine, the addresses of init and play, why it stopped if it did, the steps of the last call that returned, and what the last call wrote to the SID
 pub record RunnerState : Type 0 where
@@ -54,12 +55,8 @@ loaded psid = record {
 
 -- the steps that a call may take
 abbrev pub most_steps : ℕ
-most_steps = 200000
+most_steps = MOST_STEPS
 
 -- the SID's registers, the 25 bytes at $D400 to $D418
 abbrev pub sid_registers : Machine → List ℕ
-sid_registers machine = bytes_at (slice_index machine.memory) 0xD400 25
-
--- a log holds what a call at an address, with a in the accumulator, writes to the SID in so many steps
-pub record LogsCall (log : WriteLog) (machine : Machine) (address a steps : ℕ) : Type 0 where
-  pub logged : log ≡ log_of (sid_writes (writes_in steps (entered machine address a)))
+sid_registers machine = bytes_at (slice_index machine.memory) SID_BASE REGISTERS

@@ -12,7 +12,8 @@ mod memory;
 mod runner;
 
 pub use cpu6502::NoMemory;
-pub use runner::Runner;
+pub use memory::{REGISTERS, SID_BASE};
+pub use runner::{MOST_STEPS, Runner};
 
 #[cfg(test)]
 mod tests;

@@ -7,7 +7,10 @@ ghost use Rattle.sid_run.specs.State.{loaded_memory};
 use cpu6502::Memory;
 
 /// The place of the SID's first register.
-const SID_BASE: u16 = 0xD400;
+pub const SID_BASE: u16 = 0xD400;
+
+/// The number of the SID's registers that can be written.
+pub const REGISTERS: usize = 25;
 
 /// Puts an image into memory that holds 0.
 pub fn put_image(memory: &mut Memory, load: u16, image: &[u8])
@@ -22,10 +25,10 @@ pub fn put_image(memory: &mut Memory, load: u16, image: &[u8])
 }
 
 /// The SID's 25 registers.
-pub fn sid_registers(memory: &Memory) -> [u8; 25]
-    ensures { result ≡ bytes_at (slice_index memory.now) 0xD400 25 }
+pub fn sid_registers(memory: &Memory) -> [u8; REGISTERS]
+    ensures { result ≡ bytes_at (slice_index memory.now) SID_BASE REGISTERS }
 {
-    let mut registers = [0; 25];
+    let mut registers = [0; REGISTERS];
     for (i, register) in registers.iter_mut().enumerate() {
         *register = memory.read(SID_BASE + i as u16);
     }
