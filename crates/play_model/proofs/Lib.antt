@@ -2,6 +2,9 @@ pub mod Computed
 pub mod QuietVoice
 pub mod QuietOrder
 pub mod QuietTrace
+pub mod RangesOfRules
+pub mod RangesOfSteps
+pub mod RangesOfVoices
 pub mod WorkedCorners
 pub mod WorkedEdges
 pub mod WorkedTunes

@@ -1,6 +1,6 @@
 -- Fetching a row: what it says waits for tick 0, but keyoff, keyon and a note's gate are seen at once.
-use Rattle.std.specs.Prelude.{ℕ, ◌+◌, ℤ, pos, ◌+ℤ◌, Bool, not, ◌&&◌, ◌||◌, ◌==◌, List, length, if◌then◌else◌, nat_le, bit_and}
-use Rattle.std.specs.Int.{cast_unsigned, w8}
+use Rattle.std.specs.Prelude.{ℕ, ◌+◌, ℤ, pos, ◌+ℤ◌, unsigned_abs, Bool, not, ◌&&◌, ◌||◌, ◌==◌, List, length, if◌then◌else◌, nat_le, bit_and}
+use Rattle.std.specs.Int.{int_rem_euclid}
 use Rattle.song_model.specs.declared.rows.Row.{Row}
 use Rattle.song_model.specs.declared.orders.Order.{Order}
 use Rattle.song_model.specs.declared.orders.Step.{Step}
@@ -30,7 +30,7 @@ is_note note = nat_le 0x60 note && nat_le note 0xBC
 
 -- the note with the transpose added, as a byte: from $50 to $CA
 abbrev pub transposed : ℕ → ℤ → ℕ
-transposed note transpose = cast_unsigned w8 (pos note +ℤ transpose)
+transposed note transpose = unsigned_abs (int_rem_euclid (pos note +ℤ transpose) (pos 256))
 
 -- Bit $40 of the gateoff timer keeps the gate before a note, and so does command 3. Where the gate
 -- goes off, bit $80 keeps the envelope, which else is shut.
@@ -46,7 +46,7 @@ note_waits look note transpose v =
     then gate_shut (look.instrument v.instrument).gate_timer (record v { new_note = transposed note transpose })
     else v
 
--- behind the last row of the pattern the orderlist goes to its next play
+-- after the last row of the pattern the orderlist goes to its next play
 abbrev pub row_moved : ℕ → Voice → Voice
 row_moved rows v =
     if byte_plus v.row 1 == rows then record v { row = 0; plays = v.plays + 1 } else record v { row = byte_plus v.row 1 }

@@ -1,8 +1,9 @@
 pub mod Wrap
 pub mod Freq
-pub mod Ranges
+pub mod Speeds
 pub mod LookUps
 pub mod State
+pub mod Ranges
 pub mod Helpers
 pub mod FilterStep
 pub mod TickStep
@@ -12,6 +13,7 @@ pub mod PulseStep
 pub mod FetchRow
 pub mod Frame
 pub mod TraceLaws
+pub mod RangeLaws
 pub mod SilentTrace
 pub mod WorkedFrequencies
 pub mod WorkedSongs

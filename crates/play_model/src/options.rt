@@ -1,7 +1,7 @@
 //! How a song is played: what is left out of a frame, and how many frames a row has room for.
 
 ghost use Rattle.std.specs.Prelude.{◌≡◌, ◌↔◌, IsNone, IfSome};
-ghost use Rattle.play_model.specs.Ranges.{IsSpeed};
+ghost use Rattle.play_model.specs.Speeds.{IsSpeed};
 
 use std::marker::Model;
 
@@ -16,7 +16,7 @@ pub struct Speed {
 
 impl Model for Speed {
     ghost use Rattle.std.specs.Prelude.{ℕ};
-    ghost use Rattle.play_model.specs.Ranges.{IsSpeed};
+    ghost use Rattle.play_model.specs.Speeds.{IsSpeed};
 
     ghost Value = { ℕ };
 
