@@ -5,6 +5,7 @@ pub mod QuietTrace
 pub mod RangesOfRules
 pub mod RangesOfSteps
 pub mod RangesOfVoices
+pub mod RangesOfFrames
 pub mod WorkedCorners
 pub mod WorkedEdges
 pub mod WorkedTunes

@@ -173,7 +173,7 @@ unfolding tick_step
 tick_keeps channel look s a q =
     let next = record s { voice = record s.voice { tick = byte_minus s.voice.tick 1 } } in
     let h = tick_keeps_field s (byte_minus s.voice.tick 1) (wraps _) q in
-    chosen (λ t. IsPlaying t.playing) (byte_minus s.voice.tick 1 == 0) (at_row channel look (look.instrument s.voice.instrument) next)
+    chosen (λ (t : Ticked). IsPlaying t.playing) (byte_minus s.voice.tick 1 == 0) (at_row channel look (look.instrument s.voice.instrument) next)
     (record { playing = between_rows channel next; started = false })
     (at_row_keeps channel look (look.instrument s.voice.instrument) next (a.instrument s.voice.instrument) h) (between_keeps channel next h)
 
@@ -208,8 +208,8 @@ with_note_keeps n v h q = let f = freq_small n in assumption (h, f, zero_small, 
 
 right_keeps : (row : TableRow) (s : Playing) → IsPlaying s → IsPlaying (right_done row s).playing
 right_keeps row s q =
-    chosen (λ w. IsPlaying w.playing) (is_wave_command row) (record { playing = s; effect = false }) _ q
-    (chosen (λ w. IsPlaying w.playing) (row.right == 0x80) (record { playing = s; effect = true })
+    chosen (λ (w : Waved). IsPlaying w.playing) (is_wave_command row) (record { playing = s; effect = false }) _ q
+    (chosen (λ (w : Waved). IsPlaying w.playing) (row.right == 0x80) (record { playing = s; effect = true })
       (record { playing = record s { voice = with_note (wave_note row.right s.voice.note) s.voice }; effect = false }) q
       (with_voice s _ q (with_note_keeps (wave_note row.right s.voice.note) s.voice (note_small row.right s.voice.note) q.voice)))
 
@@ -218,7 +218,7 @@ wave_time_keeps s n h q = assumption (h, q)
 
 wave_row_keeps : (look : LookUps) (row : TableRow) (s : Playing) → AreLookUps look → IsTableRow row → IsPlaying s → IsPlaying (wave_row look row s).playing
 wave_row_keeps look row s a r q =
-    chosen (λ w. IsPlaying w.playing) (nat_lt row.left 0x10 && not (s.voice.wave_time == row.left))
+    chosen (λ (w : Waved). IsPlaying w.playing) (nat_lt row.left 0x10 && not (s.voice.wave_time == row.left))
     (record { playing = record s { voice = record s.voice { wave_time = byte_plus s.voice.wave_time 1 } }; effect = true })
     (right_done row (program_moved look s.voice.wave_ptr (left_done look row s)))
     (wave_time_keeps s (byte_plus s.voice.wave_time 1) (wraps _) q)
@@ -228,7 +228,7 @@ wave_row_keeps look row s a r q =
 pub wave_keeps : (look : LookUps) (s : Playing) → AreLookUps look → IsPlaying s → IsPlaying (wave_step look s).playing
 unfolding wave_step
 wave_keeps look s a q =
-    chosen (λ w. IsPlaying w.playing) (s.voice.wave_ptr == 0) (record { playing = s; effect = true })
+    chosen (λ (w : Waved). IsPlaying w.playing) (s.voice.wave_ptr == 0) (record { playing = s; effect = true })
     (wave_row look (look.row Wave s.voice.wave_ptr) s) q
     (wave_row_keeps look (look.row Wave s.voice.wave_ptr) s a (a.row Wave s.voice.wave_ptr) q)
 

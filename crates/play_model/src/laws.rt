@@ -2,6 +2,7 @@
 
 ghost use Rattle.play_model.specs.TraceLaws.{TracesHaveAllRegisters};
 ghost use Rattle.play_model.specs.SilentTrace.{SilentSongsAreSilent};
+ghost use Rattle.play_model.specs.RangeLaws.{RangesAreKept, FrameRangesAreKept, StartIsInRange, SongRangesAreKept, TransposesWrap};
 ghost use Rattle.play_model.specs.WorkedCorners.{WorkedCornersHold};
 ghost use Rattle.play_model.specs.WorkedEdges.{WorkedEdgesHold};
 ghost use Rattle.play_model.specs.WorkedTunes.{WorkedTunesHold};
@@ -13,6 +14,37 @@ ghost use Rattle.play_model.specs.WorkedFrames.{OneNoteSounds, LowNoteIsMute, Vi
 /// Each call leaves 25 registers.
 pub fn traces_have_all_registers()
     ensures { TracesHaveAllRegisters }
+{}
+
+/// Each rule keeps the ranges of what a voice and the voices in common keep, over any look-ups that
+/// find bytes.
+#[tactic(auto, using(crate::proofs::RangesOfFrames::ranges_lem))]
+pub fn rules_keep_ranges()
+    ensures { RangesAreKept }
+{}
+
+/// So do the states within a frame, and the registers that a frame leaves are bytes.
+#[tactic(auto, using(crate::proofs::RangesOfFrames::frame_ranges_lem))]
+pub fn frames_keep_ranges()
+    ensures { FrameRangesAreKept }
+{}
+
+/// Each start is within the ranges.
+#[tactic(auto, using(crate::proofs::RangesOfFrames::start_lem))]
+pub fn starts_are_in_range()
+    ensures { StartIsInRange }
+{}
+
+/// A song within its limits has bytes under each number, and is played with them: each state is within
+/// the ranges, and each trace is bytes.
+pub fn songs_keep_ranges()
+    ensures { SongRangesAreKept }
+{}
+
+/// A transposed note is the wrapping sum of two bytes.
+#[tactic(auto, using(crate::proofs::RangesOfFrames::transposes_lem))]
+pub fn transposes_wrap()
+    ensures { TransposesWrap }
 {}
 
 /// Each play call of a silent song leaves zeros and the volume, whatever the song's length.
