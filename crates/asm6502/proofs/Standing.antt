@@ -9,7 +9,7 @@ use Rattle.cpu6502.specs.declared.mnemonic.Mode.TheVariants.{Implied, Accumulato
 use Rattle.cpu6502.specs.Opcodes.{meaning_of, length_of}
 use Rattle.cpu6502.specs.Encoding.{opcode_of, OpcodesHaveRows}
 use Rattle.cpu6502.specs.Effects.{displacement, word_at}
-use Rattle.cpu6502.specs.Code.{operand_at, Stands}
+use Rattle.code_runs.specs.Code.{operand_at, Stands}
 use Rattle.asm6502.specs.declared.lines.Operand.{Operand}
 use Rattle.asm6502.specs.declared.lines.Operand.TheVariants.{Nothing, Number, Label, Low, High}
 use Rattle.asm6502.specs.declared.lines.Item.{Item}
@@ -24,7 +24,7 @@ use Rattle.asm6502.specs.Lines.{is_kept, kept, item_size, size_of, place_of, add
 use Rattle.asm6502.specs.Assembly.{item_bytes, bytes_of}
 use Rattle.asm6502.specs.Faults.{first_fault, bad_line, double_label, far_by, is_far_item}
 use Rattle.asm6502.specs.Standing.{BytesStand, ItemAt, LinesAt}
-use Rattle.cpu6502.proofs.Standing.{stands_stay}
+use Rattle.code_runs.proofs.Laws.{stands_stay}
 use Rattle.asm6502.proofs.Rounds.{encoding_parts}
 use Rattle.asm6502.proofs.Naming.{kept-append, kept_more, kept_same, size_of-append, place_of-append}
 use Rattle.asm6502.proofs.Sound.{both, encodes, item_length, sound_line, first_parts}

@@ -1,6 +1,7 @@
 -- Lines of a listing that stand in memory, as they are decoded and not as bytes: the form in which a program that was assembled is reasoned about.
 use Rattle.std.specs.Prelude.{◌≡◌, ℕ, ◌+◌, ◌<◌, ◌≤◌, List, [], ◌∷◌, ◌++◌, length, slice_index, None}
-use Rattle.cpu6502.specs.Code.{Stands, Holds}
+use Rattle.cpu6502.specs.Code.{Holds}
+use Rattle.code_runs.specs.Code.{Stands}
 use Rattle.asm6502.specs.declared.lines.Item.{Item}
 use Rattle.asm6502.specs.declared.lines.Item.TheVariants.{Label, Code, Bytes}
 use Rattle.asm6502.specs.declared.lines.Line.{Line}

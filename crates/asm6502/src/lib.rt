@@ -17,7 +17,7 @@ mod faults;
 mod fixes;
 mod instructions;
 mod labels;
-pub mod laws;
+pub mod claims;
 mod lines;
 mod moving;
 mod output;

@@ -1,12 +1,11 @@
+-- claimed: what upper crates may cite
+pub mod Laws
+-- inner: runs, calls, logs and stops
 pub mod Logs
 pub mod Steps
 pub mod Calls
-pub mod Moves
-pub mod Bridge
-pub mod Instructions
-pub mod Standing
-pub mod Entry
-pub mod Inverse
 pub mod Causes
-pub mod Sums
 pub mod Machines
+-- inner: the table and its inverse, sums
+pub mod Inverse
+pub mod Sums

@@ -1,23 +1,26 @@
+-- to believe: the table of opcodes
 pub mod Opcodes
+pub mod Encoding
+-- to believe: what each group of instructions does, and one instruction of any
 pub mod Registers
 pub mod Loads
+pub mod Transfers
+pub mod Logic
 pub mod Arithmetic
 pub mod Compares
-pub mod Logic
 pub mod Shifts
 pub mod Counts
-pub mod Branches
-pub mod Stack
-pub mod Jumps
 pub mod Flags
-pub mod Transfers
+pub mod Branches
+pub mod Jumps
+pub mod Stack
 pub mod Effects
+-- to believe: machines, their steps, their calls, and the log of a call
+pub mod Code
 pub mod Step
 pub mod Call
 pub mod Log
-pub mod Runs
-pub mod Code
-pub mod Encoding
+-- claimed: what the definitions say
 pub mod Stops
 pub mod Sums
 pub mod Machines

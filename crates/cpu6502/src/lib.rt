@@ -21,7 +21,7 @@ mod encode;
 mod execute;
 mod flags;
 mod jump;
-pub mod laws;
+pub mod claims;
 mod load;
 mod log;
 mod logic;
