@@ -76,3 +76,32 @@ far_is_out_of_reach pc target byte l t h b e =
     let d = displaced byte (nat_lt byte 128) b refl in
     let w = only_way pc target (displacement byte) l t d.0 e in
     d.1 (omega arith, omega arith)
+
+-- ---- distances
+
+same_way : (pc target pc' target' : ℕ) → pc ≤ 65536 → pc' ≤ 65536 → target < 65536 → target' < 65536 → (target + pc') % 65536 ≡ (target' + pc) % 65536 → way_from pc target ≡ way_from pc' target'
+same_way pc target pc' target' l l' t t' e =
+    let a : target + pc' ≡ 65536 * ((target + pc') / 65536) + (target + pc') % 65536 = omega arith in
+    let b : target' + pc ≡ 65536 * ((target' + pc) / 65536) + (target' + pc) % 65536 = omega arith in
+    met target target' pc pc' ((target + pc') / 65536) ((target' + pc) / 65536) ((target + pc') % 65536) ((target' + pc) % 65536) a b e l l'
+  where
+    met : (t t' pc pc' q q' r r' : ℕ) → t + pc' ≡ 65536 * q + r → t' + pc ≡ 65536 * q' + r' → r ≡ r' → pc ≤ 65536 → pc' ≤ 65536 → (t + 131072 - (pc + 2)) % 65536 ≡ (t' + 131072 - (pc' + 2)) % 65536
+    met t t' pc pc' q q' r r' e f g l l' = omega arith
+
+pub branches_keep_distance : (pc target pc' target' : ℕ) → pc ≤ 65536 → pc' ≤ 65536 → target < 65536 → target' < 65536 → (target + pc') % 65536 ≡ (target' + pc) % 65536 → branch_byte pc target ≡ branch_byte pc' target'
+branches_keep_distance pc target pc' target' l l' t t' e =
+    ap (λ (way : ℕ). if nat_lt way 128 then Some way else if nat_lt way 65408 then None else Some (way - 65280)) (same_way pc target pc' target' l l' t t' e)
+
+pub branches_reach_after : (pc n : ℕ) → pc ≤ 65536 → n ≤ 127 → branch_byte pc ((pc + 2 + n) % 65536) ≡ Some n
+branches_reach_after pc n l h =
+    let way : way_from pc ((pc + 2 + n) % 65536) ≡ n = omega arith in
+    let low : nat_lt n 128 ≡ true = lt-ltb n 128 (omega arith) in
+    rw (way, low) refl
+
+pub branches_reach_before : (start n : ℕ) → start + n ≤ 65536 → n ≤ 126 → branch_byte (start + n) (start % 65536) ≡ Some (254 - n)
+branches_reach_before start n l h =
+    let way : way_from (start + n) (start % 65536) ≡ 65534 - n = omega arith in
+    let high : nat_lt (65534 - n) 128 ≡ false = le-ltb (65534 - n) 128 (omega arith) in
+    let top : nat_lt (65534 - n) 65408 ≡ false = le-ltb (65534 - n) 65408 (omega arith) in
+    let byte : 65534 - n - 65280 ≡ 254 - n = omega arith in
+    rw (way, high, top, byte) refl

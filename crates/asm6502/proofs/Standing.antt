@@ -160,7 +160,7 @@ not_named_before set before x l true k e p h =
 same_name : (l : ℕ) → nat_eq l l ≡ true
 same_name l = eq-eqb l l refl
 
-label_address : (set origin : ℕ) (before : List Line) (x : Line) (rest : List Line) (l : ℕ) → is_kept set x ≡ true → x.item ≡ Named l → double_label set before x ≡ None → address_in (kept set before ++ (x ∷ rest)) origin l ≡ origin + size_of (kept set before)
+pub label_address : (set origin : ℕ) (before : List Line) (x : Line) (rest : List Line) (l : ℕ) → is_kept set x ≡ true → x.item ≡ Named l → double_label set before x ≡ None → address_in (kept set before ++ (x ∷ rest)) origin l ≡ origin + size_of (kept set before)
 label_address set origin before x rest l k e h =
     let free = not_named_before set before x l (is_some (place_of (kept set before) l)) k e refl h in
     let here : place_of (x ∷ rest) l ≡ Some 0 = rw (e, same_name l) refl in
@@ -181,7 +181,7 @@ pub record NothingWrong (set origin : ℕ) (address : ℕ → ℕ) (before rest 
   pub single : first_fault (double_label set) before rest ≡ None
   pub near : first_fault (far_by address set origin) before rest ≡ None
 
-all_split : (set : ℕ) (lines before : List Line) (x : Line) (rest : List Line) → lines ≡ before ++ (x ∷ rest) → is_kept set x ≡ true → kept set lines ≡ kept set before ++ (x ∷ kept set rest)
+pub all_split : (set : ℕ) (lines before : List Line) (x : Line) (rest : List Line) → lines ≡ before ++ (x ∷ rest) → is_kept set x ≡ true → kept set lines ≡ kept set before ++ (x ∷ kept set rest)
 all_split set lines before x rest e k = ap (kept set) e ∙ kept-append set before (x ∷ rest) ∙ ap (λ (z : Bool). kept set before ++ (if z then x ∷ kept set rest else kept set rest)) k
 
 size_split : (set origin : ℕ) (lines before : List Line) (x : Line) (rest : List Line) → lines ≡ before ++ (x ∷ rest) → is_kept set x ≡ true → origin + size_of (kept set lines) ≤ 65536 → origin + size_of (kept set before) + item_size x.item ≤ 65536

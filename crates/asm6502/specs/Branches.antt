@@ -22,3 +22,16 @@ BranchesReach =
 abbrev pub FarIsOutOfReach : Type 0
 FarIsOutOfReach =
     (pc target byte : ℕ) → pc ≤ 65536 → target < 65536 → branch_byte pc target ≡ None → byte < 256 → (pc + 2 + displacement byte) % 65536 ≢ target
+
+-- a branch depends on distances alone: as far apart at another place, it has the same byte, or none
+abbrev pub BranchesKeepDistance : Type 0
+BranchesKeepDistance =
+    (pc target pc' target' : ℕ) → pc ≤ 65536 → pc' ≤ 65536 → target < 65536 → target' < 65536 → (target + pc') % 65536 ≡ (target' + pc) % 65536 → branch_byte pc target ≡ branch_byte pc' target'
+
+-- a branch over n bytes to what stands after them
+abbrev pub BranchesReachAfter : Type 0
+BranchesReachAfter = (pc n : ℕ) → pc ≤ 65536 → n ≤ 127 → branch_byte pc ((pc + 2 + n) % 65536) ≡ Some n
+
+-- a branch back over n bytes to what stands before them
+abbrev pub BranchesReachBefore : Type 0
+BranchesReachBefore = (start n : ℕ) → start + n ≤ 65536 → n ≤ 126 → branch_byte (start + n) (start % 65536) ≡ Some (254 - n)

@@ -9,9 +9,13 @@ use Rattle.asm6502.specs.declared.lines.Item.TheVariants.{Label, Code, Bytes}
 use Rattle.asm6502.specs.declared.lines.Line.{Line}
 use Rattle.asm6502.specs.Operands.{suits, label_of}
 
--- whether a line is kept: part 255 always is, and a part below 32 where its bit is in the set
+-- whether a part is kept: part 255 always is, and a part below 32 where its bit is in the set
+abbrev pub is_part_kept : ℕ → ℕ → Bool
+is_part_kept set part = nat_eq part 255 || nat_lt part 32 && nat_eq (bit_at set part) 1
+
+-- whether a line is kept: where its part is
 abbrev pub is_kept : ℕ → Line → Bool
-is_kept set line = nat_eq line.part 255 || nat_lt line.part 32 && nat_eq (bit_at set line.part) 1
+is_kept set line = is_part_kept set line.part
 
 -- the kept lines of a listing
 abbrev pub kept : ℕ → List Line → List Line

@@ -44,7 +44,6 @@ pub fn assemble(
     check_operands(lines, set, &labels)?;
     check_end(origin, labels.size())?;
     let output = output_of(alloc, lines, set, origin, &labels)?;
-    cpu6502::claims::opcode_is_inverse_of_meaning();
     Ok(Assembled {
         origin,
         bytes: output.bytes,

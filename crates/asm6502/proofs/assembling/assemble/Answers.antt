@@ -1,5 +1,6 @@
 use Rattle.std.proofs.Common.{◌≡◌, refl}
 use Rattle.std.proofs.lemmas.Result.{err_from_is_err_and}
+use Rattle.cpu6502.proofs.Laws.{opcodes_have_rows}
 use Rattle.asm6502.proofs.Whole.{done_from, far_found, fault_none, stand_as_written, moved_is}
 use Rattle.asm6502.proofs.assembling.assemble.Goals as goal
 
@@ -32,7 +33,7 @@ returns-clause-size c =
 pub returns-clause-stands : goal.returns-clause-stands
 returns-clause-stands c =
     let d = done_from c.in_ok-output.output c.in_ok-labels.labels c.args.set.0 c.args.origin c.size.result c.as_slice-lines.result.now c.args.listing.now c.as_slice-lines.ensures c.in_ok-labels.ensures.0 c.in_ok-check_lines.ensures c.in_ok-labels.ensures.1 c.in_ok-check_operands.ensures c.size.ensures c.in_ok-check_end.ensures c.in_ok-output.ensures.0 c.in_ok-output.ensures.1 in
-    stand_as_written c.opcode_is_inverse_of_meaning.ensures.opcodes c.args.set.0 c.args.origin c.args.listing.now c.in_ok-output.output.bytes d.nothing d.bytes_are
+    stand_as_written opcodes_have_rows c.args.set.0 c.args.origin c.args.listing.now c.in_ok-output.output.bytes d.nothing d.bytes_are
 
 pub returns-clause-moves : goal.returns-clause-moves
 returns-clause-moves c other moved m =
