@@ -4,7 +4,7 @@ ghost use Rattle.std.specs.Prelude.{◌≤◌, ◌+◌, length};
 ghost use Rattle.asm6502.specs.Fixes.{InOrder, InOrder-prop, NumbersStand, NumbersStand-prop};
 
 use crate::fixes::FixList;
-use song_model::ByteList;
+use base::ByteList;
 
 /// The bytes of a listing that was assembled to stand at an origin. At the place of each fix stands its number.
 #[derive(Drop)]

@@ -22,10 +22,10 @@ pub enum AsmFault {
     NoMemory,
 }
 
-impl From<song_model::NoMemory> for AsmFault {
+impl From<base::NoMemory> for AsmFault {
     ghost from_gives = { λ _ fault. fault ≡ NoMemory };
 
-    fn from(_e: song_model::NoMemory) -> AsmFault {
+    fn from(_e: base::NoMemory) -> AsmFault {
         AsmFault::NoMemory
     }
 }

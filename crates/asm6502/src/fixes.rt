@@ -1,6 +1,6 @@
 //! The places of assembled bytes that hold addresses.
 
-use song_model::NoMemory;
+use base::{Items, NoMemory};
 use std::alloc::Global;
 use std::marker::Model;
 
@@ -27,7 +27,7 @@ pub struct Fix {
 /// Fixes in ascending places. Contracts see the list.
 #[derive(Drop)]
 pub struct FixList {
-    fixes: Vec<Fix>,
+    fixes: Items<Fix>,
 }
 
 impl Model for FixList {
@@ -36,7 +36,7 @@ impl Model for FixList {
 
     ghost Value = { List Fix };
 
-    ghost view = { λ list. list.fixes.items };
+    ghost view = { λ list. list.fixes };
 }
 
 impl FixList {
@@ -47,7 +47,7 @@ impl FixList {
         ensures { result ≡ [] }
     {
         FixList {
-            fixes: Vec::new(alloc),
+            fixes: Items::new(alloc),
         }
     }
 
@@ -56,8 +56,7 @@ impl FixList {
         ensures ok { OnOk result (self.new ≡ self.old ++ fix ∷ []) }
         ensures err { OnErr result (self.new ≡ self.old) }
     {
-        self.fixes.push(fix)?;
-        Ok(())
+        self.fixes.push(fix)
     }
 
     /// The fixes in order.

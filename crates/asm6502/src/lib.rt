@@ -31,4 +31,5 @@ pub use faults::{AsmFault, PastEnd};
 pub use fixes::{Fix, FixKind, FixList};
 pub use instructions::{Encoded, Instr};
 pub use lines::{Item, Line, Listing, Operand};
-pub use song_model::{ByteList, FeatureBits};
+pub use base::{ByteList, NoMemory};
+pub use song_model::FeatureBits;

@@ -3,8 +3,9 @@
 ghost use Rattle.std.specs.Prelude.{◌≡◌};
 ghost use Rattle.asm6502.specs.Operands.{fits, takes_label, is_immediate};
 
+use base::{ByteList, Items, NoMemory};
 use cpu6502::{Mnemonic, Mode, opcode};
-use song_model::{ByteList, FeatureBits, NoMemory};
+use song_model::FeatureBits;
 use std::alloc::Global;
 use std::marker::Model;
 
@@ -181,7 +182,7 @@ impl Line {
 /// The lines of a program, in order. Contracts see the list.
 #[derive(Drop)]
 pub struct Listing {
-    lines: Vec<Line>,
+    lines: Items<Line>,
 }
 
 impl Model for Listing {
@@ -190,7 +191,7 @@ impl Model for Listing {
 
     ghost Value = { List Line };
 
-    ghost view = { λ listing. listing.lines.items };
+    ghost view = { λ listing. listing.lines };
 }
 
 impl Listing {
@@ -202,17 +203,34 @@ impl Listing {
         ensures { result ≡ [] }
     {
         Listing {
-            lines: Vec::new(alloc),
+            lines: Items::new(alloc),
         }
     }
 
     /// Appends a line.
+    ///
+    /// # Errors
+    ///
+    /// Out of memory: the listing is as before.
     pub fn push(&mut self, line: Line) -> Result<(), NoMemory>
         ensures ok { OnOk result (self.new ≡ self.old ++ line ∷ []) }
         ensures err { OnErr result (self.new ≡ self.old) }
     {
-        self.lines.push(line)?;
-        Ok(())
+        self.lines.push(line)
+    }
+
+    /// Moves the lines of another listing to the end of this one.
+    ///
+    /// # Errors
+    ///
+    /// Out of memory: both listings are as before.
+    pub fn append(&mut self, other: &mut Listing) -> Result<(), NoMemory>
+        ensures ok { OnOk result (self.new ≡ self.old ++ other.old) }
+        ensures emptied { OnOk result (other.new ≡ []) }
+        ensures err { OnErr result (self.new ≡ self.old) }
+        ensures kept { OnErr result (other.new ≡ other.old) }
+    {
+        self.lines.append(&mut other.lines)
     }
 
     /// The lines in order.

@@ -6,7 +6,7 @@ ghost use Rattle.asm6502.specs.Fixes.{InOrder, width_of, with_number, with_numbe
 use crate::assembled::Assembled;
 use crate::faults::PastEnd;
 use crate::fixes::{Fix, FixKind};
-use song_model::ByteList;
+use base::ByteList;
 
 impl Assembled {
     ghost use Rattle.std.specs.Prelude.{◌≡◌, ◌≤◌, ◌+◌, ◌↔◌, length, OnOk, OnErr, IfErr, IsOk};

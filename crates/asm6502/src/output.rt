@@ -12,8 +12,9 @@ use crate::fixes::FixList;
 use crate::instructions::Instr;
 use crate::labels::Labels;
 use crate::lines::{Item, Line, Operand};
+use base::ByteList;
 use cpu6502::{Mnemonic, Mode};
-use song_model::{ByteList, FeatureBits};
+use song_model::FeatureBits;
 use std::alloc::Global;
 
 /// What is written so far.

@@ -5,7 +5,8 @@ mod good;
 
 use super::*;
 use cpu6502::{Mnemonic, Mode};
-use song_model::{ByteList, FeatureBits, NoMemory};
+use base::{ByteList, NoMemory};
+use song_model::FeatureBits;
 use std::alloc::Global;
 use std::process::Abort;
 use std::test::Fail;
