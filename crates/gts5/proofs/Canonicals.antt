@@ -4,6 +4,7 @@ use Rattle.std.specs.Prelude.{MatchOption}
 use Rattle.std.specs.List.{All, flat_map}
 use Rattle.std.proofs.lemmas.List.{append-nil, length-append, length-map}
 use Rattle.std.proofs.lemmas.List.Elements.{All-from_get_or, All-head, All-tail}
+use Rattle.base.proofs.Laws.{regroup6, length-flat_map-le, length-flat_map-same}
 use Rattle.song_model.specs.declared.rows.Row.{Row}
 use Rattle.song_model.specs.declared.orders.Order.{Order}
 use Rattle.song_model.specs.declared.orders.Subtune.{Subtune}
@@ -68,9 +69,6 @@ pattern_spells rows is = record {
   parts = ap (λ (k : ℕ). k ∷ (flat_map row_text rows ++ end_row_text)) (omega arith);
 }
 
-regroup6 : (a b c d e f : List ℕ) → ((((a ++ b) ++ c) ++ d) ++ e) ++ f ≡ a ++ (b ++ (c ++ (d ++ (e ++ f))))
-regroup6 a b c d e f = simp append_assoc
-
 canonical_spells : (song : Song) → KeepsLimits song → Spells (canonical song) song
 unfolding canonical
 canonical_spells song within = record {
@@ -95,11 +93,6 @@ canonical_has_no_fault song within = same_fault (canonical song) ∙ ap fault_in
 
 -- ---- its length
 
-length-each : {X : Type 0} (text_of : X → List ℕ) (Within : X → Type 0) (most : ℕ) → ((x : X) → Within x → length (text_of x) ≤ most) → (xs : List X) → All Within xs → length (flat_map text_of xs) ≤ most * length xs
-length-each text_of Within most short [] are = omega arith
-length-each text_of Within most short (x ∷ xs) are =
-    omega (arith, length-append (text_of x) (flat_map text_of xs), short x (All-head Within x xs are), length-each text_of Within most short xs (All-tail Within x xs are))
-
 order_short : (order : Order) → IsOrder order → length (order_text order) ≤ 257
 order_short order is = let count = is.entries.count in omega (arith, length-append order.entries (0xFF ∷ order.restart ∷ []))
 
@@ -115,12 +108,8 @@ table_short rows is =
     let count = is.count in
     omega (arith, length-append (map (λ row. row.left) rows) (map (λ row. row.right) rows), length-map rows (λ row. row.left), length-map rows (λ row. row.right))
 
-length-rows : (rows : List Row) → length (flat_map row_text rows) ≡ 4 * length rows
-length-rows [] = refl
-length-rows (row ∷ rows) = omega (arith, length-rows rows)
-
 pattern_short : (rows : List Row) → IsPattern rows → length (pattern_text rows) ≤ 517
-pattern_short rows is = let most = is.count.most in omega (arith, length-append (flat_map row_text rows) end_row_text, length-rows rows)
+pattern_short rows is = let most = is.count.most in omega (arith, length-append (flat_map row_text rows) end_row_text, length-flat_map-same row_text 4 (λ row. refl) rows)
 
 sum_short : (a b c d e f : List ℕ) → length a ≡ 4 → length b ≡ 96 → length c ≤ 24673 → length d ≤ 1576 → length e ≤ 2044 → length f ≤ 107537 → length (((((a ++ b) ++ c) ++ d) ++ e) ++ f) ≤ 262144
 sum_short a b c d e f = λ la lb lc ld le lf. simp length-append (omega arith)
@@ -145,11 +134,11 @@ tables_short song within =
 pub canonical_is_short : CanonicalIsShort
 unfolding canonical
 canonical_is_short song within =
-    let subtunes = length-each subtune_text IsSubtune 771 subtune_short song.subtunes within.subtunes.each in
+    let subtunes = length-flat_map-le subtune_text IsSubtune 771 subtune_short song.subtunes within.subtunes.each in
     let subtune_count = within.subtunes.count in
-    let instruments = length-each instrument_text IsInstrument 25 instrument_short song.instruments within.instruments.each in
+    let instruments = length-flat_map-le instrument_text IsInstrument 25 instrument_short song.instruments within.instruments.each in
     let instrument_count = within.instruments.count in
-    let patterns = length-each pattern_text IsPattern 517 pattern_short song.patterns within.patterns.each in
+    let patterns = length-flat_map-le pattern_text IsPattern 517 pattern_short song.patterns within.patterns.each in
     let pattern_count = within.patterns.count in
     sum_short (codes "GTS5") (texts_text song) (subtunes_text song.subtunes) (instruments_text song.instruments) (tables_text song) (patterns_text song.patterns)
     refl (texts_length song within) (omega arith) (omega arith) (tables_short song within) (omega arith)

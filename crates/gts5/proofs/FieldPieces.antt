@@ -3,6 +3,7 @@ use Rattle.std.proofs.Common.{◌≡◌, ℕ, suc, List, [], ◌∷◌, ◌++◌
 use Rattle.std.specs.List.{All}
 use Rattle.std.proofs.lemmas.List.{length-map}
 use Rattle.std.proofs.lemmas.List.Elements.{All-nil, All-cons, All-head, All-tail}
+use Rattle.base.proofs.Laws.{regroup3, regroup4}
 use Rattle.song_model.specs.declared.instruments.Instrument.{Instrument}
 use Rattle.song_model.specs.declared.tables.TableRow.{TableRow}
 use Rattle.song_model.specs.Basics.{IsByte}
@@ -23,9 +24,6 @@ pub record AreTexts (texts : Texts) : Type 0 where
   pub author : IsText 32 texts.author
   pub copyright : IsText 32 texts.copyright
 
-regroup : (a b c d : List ℕ) → (a ++ (b ++ c)) ++ d ≡ a ++ (b ++ (c ++ d))
-regroup a b c d = simp append_assoc
-
 pub texts_take : (total : ℕ) (bytes : List ℕ) (x : Texts × List ℕ) → All IsByte bytes → texts_at total bytes ≡ Ok x → Takes IsTextOf AreTexts bytes x.0 x.1
 unfolding texts_at
 texts_take total bytes x are e =
@@ -44,7 +42,7 @@ texts_take total bytes x are e =
         author = record { count = two.size; each = two.each };
         copyright = record { count = three.size; each = three.each };
       };
-      parts = one.parts ∙ ap (λ (t : List ℕ). a.0.0 ++ t) (two.parts ∙ ap (λ (t : List ℕ). b.0.0 ++ t) three.parts) ∙ sym (regroup a.0.0 b.0.0 c.0.0 c.0.1);
+      parts = one.parts ∙ ap (λ (t : List ℕ). a.0.0 ++ t) (two.parts ∙ ap (λ (t : List ℕ). b.0.0 ++ t) three.parts) ∙ sym (regroup3 a.0.0 b.0.0 c.0.0 c.0.1);
       left = three.left;
     })
 
@@ -189,9 +187,6 @@ pub record AreTables (t : Tables) : Type 0 where
   pub pulse : IsTable t.pulse
   pub filter : IsTable t.filter
   pub speed : IsTable t.speed
-
-regroup4 : (a b c d e : List ℕ) → (a ++ (b ++ (c ++ d))) ++ e ≡ a ++ (b ++ (c ++ (d ++ e)))
-regroup4 a b c d e = simp append_assoc
 
 four_texts : (a b c d p q r s : List ℕ) → p ≡ a → q ≡ b → r ≡ c → s ≡ d → p ++ (q ++ (r ++ s)) ≡ a ++ (b ++ (c ++ d))
 four_texts a b c d p q r s e f g h = cc

@@ -3,6 +3,7 @@ use Rattle.std.proofs.Common.{◌≡◌, ℕ, ◌+◌, ◌<◌, Bool, true, fals
 use Rattle.std.specs.List.{All}
 use Rattle.std.proofs.lemmas.Bool.{ltb-true, lt-ltb}
 use Rattle.std.proofs.lemmas.List.{length-take-le, length-drop, length-append, drop_more, take_at, get_or-append-add}
+use Rattle.base.proofs.Laws.{regroup3}
 use Rattle.song_model.specs.declared.orders.Order.{Order}
 use Rattle.song_model.specs.declared.orders.Subtune.{Subtune}
 use Rattle.song_model.specs.Basics.{IsByte}
@@ -81,9 +82,6 @@ order_again total order piece rest spelled =
     let reads : order_at total (n ∷ (run ++ rest)) ≡ Ok (cut_order run, rest) = rw (byte_again total n (run ++ rest), bytes_again total (n + 1) run rest size, inside) refl in
     ap (order_at total) whole ∙ reads ∙ ap (λ (o : Order). Ok (o, rest)) cut
 
-regroup : (a b c d : List ℕ) → (a ++ (b ++ c)) ++ d ≡ a ++ (b ++ (c ++ d))
-regroup a b c d = simp append_assoc
-
 pub subtune_takes : (total : ℕ) (bytes : List ℕ) (x : Subtune × List ℕ) → All IsByte bytes → subtune_at total bytes ≡ Ok x → Takes SpellsSubtune IsSubtune bytes x.0 x.1
 unfolding subtune_at
 subtune_takes total bytes x are e =
@@ -106,13 +104,13 @@ subtune_takes total bytes x are e =
         spells_three = three.spelled;
       };
       within = record { one = one.within; two = two.within; three = three.within };
-      parts = one.parts ∙ ap (λ (t : List ℕ). one.piece ++ t) (two.parts ∙ ap (λ (t : List ℕ). two.piece ++ t) three.parts) ∙ sym (regroup one.piece two.piece three.piece c.0.1);
+      parts = one.parts ∙ ap (λ (t : List ℕ). one.piece ++ t) (two.parts ∙ ap (λ (t : List ℕ). two.piece ++ t) three.parts) ∙ sym (regroup3 one.piece two.piece three.piece c.0.1);
       left = three.left;
     })
 
 pub subtune_again : (total : ℕ) (subtune : Subtune) (piece rest : List ℕ) → SpellsSubtune subtune piece → subtune_at total (piece ++ rest) ≡ Ok (subtune, rest)
 unfolding subtune_at
 subtune_again total subtune piece rest spelled =
-    let whole : piece ++ rest ≡ spelled.one ++ (spelled.two ++ (spelled.three ++ rest)) = ap (λ (t : List ℕ). t ++ rest) spelled.parts ∙ regroup spelled.one spelled.two spelled.three rest in
+    let whole : piece ++ rest ≡ spelled.one ++ (spelled.two ++ (spelled.three ++ rest)) = ap (λ (t : List ℕ). t ++ rest) spelled.parts ∙ regroup3 spelled.one spelled.two spelled.three rest in
     ap (subtune_at total) whole
     ∙ rw (order_again total subtune.one spelled.one (spelled.two ++ (spelled.three ++ rest)) spelled.spells_one, order_again total subtune.two spelled.two (spelled.three ++ rest) spelled.spells_two, order_again total subtune.three spelled.three rest spelled.spells_three) refl

@@ -4,6 +4,7 @@ use Rattle.std.specs.List.{All, flat_map}
 use Rattle.std.proofs.lemmas.Bool.{eqb-true, eqb-false, eq-eqb, ne_eqb, leb-true, le-leb, and_parts, and_from}
 use Rattle.std.proofs.lemmas.List.{drop_more, length-drop, length-append}
 use Rattle.std.proofs.lemmas.List.Elements.{All-nil, All-cons, All-head, All-tail, All-drop}
+use Rattle.base.proofs.Laws.{length-flat_map-same}
 use Rattle.song_model.specs.declared.rows.Row.{Row}
 use Rattle.song_model.specs.Basics.{IsByte}
 use Rattle.song_model.specs.PatternLimits.{IsRow, IsPattern}
@@ -176,10 +177,6 @@ pattern_takes total bytes x are e =
       left = run.left;
     })
 
-length-rows : (rows : List Row) → length (flat_map row_text rows) ≡ 4 * length rows
-length-rows [] = refl
-length-rows (row ∷ rows) = omega (arith, length-rows rows)
-
 pub pattern_again : (total : ℕ) (rows : List Row) (piece rest : List ℕ) → IsPattern rows → SpellsPattern rows piece → pattern_at total (piece ++ rest) ≡ Ok (rows, rest)
 unfolding pattern_at
 pattern_again total rows piece rest is spelled =
@@ -188,7 +185,7 @@ pattern_again total rows piece rest is spelled =
     let skipped = spelled.ignored_rows in
     let least = is.count.least in
     let most = is.count.most in
-    let size : length run ≡ 4 * m = omega (arith, length-append (flat_map row_text rows) (255 ∷ spelled.ignored), length-rows rows) in
+    let size : length run ≡ 4 * m = omega (arith, length-append (flat_map row_text rows) (255 ∷ spelled.ignored), length-flat_map-same row_text 4 (λ row. refl) rows) in
     let whole : piece ++ rest ≡ m ∷ (run ++ rest) = ap (λ (t : List ℕ). t ++ rest) spelled.parts in
     ap (pattern_at total) whole
     ∙ rw (byte_again total m (run ++ rest), bytes_again total (4 * m) run rest size, cut_again (offset_of total (m ∷ (run ++ rest))) 0 rows spelled.more spelled.ignored spelled.each (omega arith) (omega arith)) refl

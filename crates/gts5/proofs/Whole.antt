@@ -5,6 +5,7 @@ use Rattle.std.specs.List.{All, flat_map}
 use Rattle.std.specs.Str.{bytes_eq}
 use Rattle.std.proofs.lemmas.List.Elements.{All-drop}
 use Rattle.std.proofs.lemmas.Slice.Eq.{bytes_eq-Decides}
+use Rattle.base.proofs.Laws.{regroup4}
 use Rattle.song_model.specs.declared.rows.Row.{Row}
 use Rattle.song_model.specs.declared.orders.Subtune.{Subtune}
 use Rattle.song_model.specs.declared.instruments.Instrument.{Instrument}
@@ -132,9 +133,6 @@ three_texts a b c d = simp append_assoc
 
 four_texts : (a b c d e : List ℕ) → (a ++ (b ++ (c ++ d))) ++ e ≡ (((a ++ b) ++ c) ++ d) ++ e
 four_texts a b c d e = simp append_assoc
-
-regroup4 : (a b c d e : List ℕ) → (a ++ (b ++ (c ++ d))) ++ e ≡ a ++ (b ++ (c ++ (d ++ e)))
-regroup4 a b c d e = simp append_assoc
 
 pub song_takes : (bytes : List ℕ) (song : Song) → All IsByte bytes → song_of bytes ≡ Ok song → Spells bytes song
 unfolding song_of
