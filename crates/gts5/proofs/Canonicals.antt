@@ -1,5 +1,5 @@
 -- The laws of the format: one song or one fault, and what the canonical spelling spells.
-use Rattle.std.proofs.Common.{◌≡◌, ℕ, ◌*◌, ◌≤◌, List, [], ◌∷◌, ◌++◌, length, map, get_or, codes, Result, Ok, Err, refl, sym, ap, ◌∙◌, append_assoc, arith, Fits, w8}
+use Rattle.std.proofs.Common.{◌≡◌, ℕ, ◌*◌, ◌≤◌, List, [], ◌∷◌, ◌++◌, length, map, get_or, codes, None, Result, Ok, Err, refl, sym, ap, ◌∙◌, append_assoc, arith, Fits, w8}
 use Rattle.std.specs.Prelude.{MatchOption}
 use Rattle.std.specs.List.{All, flat_map}
 use Rattle.std.proofs.lemmas.List.{append-nil, length-append, length-map}
@@ -16,7 +16,7 @@ use Rattle.song_model.specs.Limits.{KeepsLimits, IsOrder, IsSubtune, IsInstrumen
 use Rattle.song_model.specs.PatternLimits.{IsPattern}
 use Rattle.song_model.specs.Canonical.{canonical, order_text, subtune_text, subtunes_text, instrument_text, instruments_text, table_text, tables_text, row_text, end_row_text, pattern_text, patterns_text, texts_text}
 use Rattle.gts5.specs.declared.faults.SongFault.{SongFault}
-use Rattle.gts5.specs.Faults.{fault_in}
+use Rattle.gts5.specs.Faults.{fault_in, fault_of}
 use Rattle.gts5.specs.Reading.{song_of}
 use Rattle.gts5.specs.Spells.{SpellsOrder, SpellsSubtune, SpellsPattern, Spells}
 use Rattle.gts5.specs.FormatLaws.{SpellsOnly, SpellsNone, OneSongOrOneFault, CanonicalIsSpelled, CanonicalHasNoFault, CanonicalIsShort}
@@ -28,6 +28,15 @@ pub bytes_are : (xs : List ℕ) → ((i : ℕ) → Fits w8 (get_or xs i 0)) → 
 bytes_are xs fits = All-from_get_or IsByte xs 0 (λ i inside. omega (arith, fits i))
 
 -- ---- one song or one fault
+
+pub spells_once : (bytes : List ℕ) (a b : Song) → Spells bytes a → Spells bytes b → a ≡ b
+spells_once bytes a b p q =
+    let one = song_again bytes a p in
+    let two = song_again bytes b q in
+    cc
+
+pub spells_has_no_fault : (bytes : List ℕ) (song : Song) → Spells bytes song → fault_of bytes ≡ None
+spells_has_no_fault bytes song spells = same_fault bytes ∙ ap fault_in (song_again bytes song spells)
 
 -- two readings of one text are one
 same_song : (bytes : List ℕ) (song other : Song) → song_of bytes ≡ Ok song → Spells bytes other → other ≡ song

@@ -1,9 +1,15 @@
-pub mod Loops
-pub mod Takes
-pub mod Cuts
-pub mod OrderPieces
-pub mod FieldPieces
-pub mod PatternPieces
-pub mod SameFaults
-pub mod Whole
-pub mod Canonicals
+-- The door: what upper crates may cite.
+pub mod Laws
+-- Inner: each piece is read as it is spelled, and spelled as it is read.
+mod Takes
+mod Cuts
+mod FieldPieces
+mod OrderPieces
+mod PatternPieces
+mod Whole
+-- Inner: the faults of the reader are those of the text.
+mod SameFaults
+-- Inner: the steps of the reader's loops.
+mod Loops
+-- Inner: the laws.
+mod Canonicals

@@ -8,10 +8,10 @@
 //! files stands on it.
 #![tactic(auto)]
 
+/// Facts about the definitions.
+pub mod claims;
 mod faults;
 mod instruments;
-/// Facts about the definitions.
-pub mod laws;
 mod orders;
 mod patterns;
 mod reader;

@@ -7,11 +7,11 @@
 //! of the rules is the PSID v2 description. See `docs/psid.md`.
 #![tactic(auto)]
 
+/// Facts about the definitions.
+pub mod claims;
 mod faults;
 mod fields;
 mod header;
-/// Facts about the definitions.
-pub mod laws;
 mod reading;
 mod writing;
 

@@ -1,8 +1,9 @@
 -- An image in memory that holds 0, put in byte by byte; and what stands where in it.
-use Rattle.std.proofs.Common.{◌≡◌, ℕ, zero, suc, ◌+◌, ◌-◌, ◌≤◌, ◌<◌, List, [], ◌∷◌, ◌++◌, length, take, replicate, get_or, slice_index, slice_set, refl, sym, ap, ◌∙◌, arith, append_assoc, append-nil, length-append, inl, inr}
+use Rattle.std.proofs.Common.{◌≡◌, ℕ, suc, ◌+◌, ◌-◌, ◌≤◌, ◌<◌, List, [], ◌∷◌, ◌++◌, length, take, replicate, get_or, slice_set, sym, ap, ◌∙◌, arith, append_assoc, append-nil, length-append, inl, inr}
 use Rattle.std.specs.Prelude.{All}
-use Rattle.std.proofs.lemmas.List.{set_at, take_more, take_all, length-replicate, length-take-le, replicate-append-replicate, get_or-append-add, get_or-append_right, get_or_append_left, get_or-replicate, ext_get_or}
+use Rattle.std.proofs.lemmas.List.{set_at, take_more, take_all, length-replicate, length-take-le, replicate-append-replicate, get_or-append-add, get_or-append_right, get_or_append_left, get_or-replicate}
 use Rattle.std.proofs.lemmas.List.Elements.{All-append, All-replicate}
+use Rattle.base.proofs.Laws.{replicate_from_All, get_or-replicate_any}
 use Rattle.sid_run.specs.State.{loaded_memory}
 use Rattle.sid_run.specs.Laws.{ImageStands, ElsewhereIsZero, LoadedIsMachine}
 
@@ -10,17 +11,12 @@ use Rattle.sid_run.specs.Laws.{ImageStands, ElsewhereIsZero, LoadedIsMachine}
 abbrev pub partly_loaded : ℕ → List ℕ → ℕ → List ℕ
 partly_loaded load image i = (replicate load 0 ++ take i image) ++ replicate (65536 - (load + i)) 0
 
-zeros_are : (xs : List ℕ) → All (λ byte. byte ≡ 0) xs → xs ≡ replicate (length xs) 0
-zeros_are xs h =
-    ext_get_or 0 xs (replicate (length xs) 0) (sym (length-replicate (length xs) 0))
-    (λ i lt. h i 0 lt ∙ sym (get_or-replicate (length xs) i 0 0 lt))
-
 zeros_in_parts : (size load : ℕ) (memory : List ℕ) → length memory ≡ size → All (λ byte. byte ≡ 0) memory → load ≤ size
     → memory ≡ (replicate load 0 ++ []) ++ replicate (size - (load + 0)) 0
 zeros_in_parts size load memory l z f =
     let back : size - load ≡ size - (load + 0) = omega arith in
     let whole : size ≡ load + (size - load) = omega arith in
-    zeros_are memory z
+    replicate_from_All 0 memory z
     ∙ ap (λ (n : ℕ). replicate {A = ℕ} n 0) (l ∙ whole)
     ∙ sym (replicate-append-replicate load (size - load) 0)
     ∙ ap (λ (xs : List ℕ). xs ++ replicate (size - load) 0) (sym (append-nil (replicate load 0)))
@@ -49,12 +45,6 @@ pub partly_loaded-all : (load : ℕ) (image : List ℕ) → partly_loaded load i
 unfolding loaded_memory
 partly_loaded-all load image = let all = take_all (length image) image (omega arith) in rw all
 
--- each byte of zeros is 0, and so is what is read past their end
-get_or-zeros : (n i : ℕ) → slice_index (replicate n 0) i ≡ 0
-get_or-zeros zero i = refl
-get_or-zeros (suc n) zero = refl
-get_or-zeros (suc n) (suc i) = get_or-zeros n i
-
 pub image_stands : ImageStands
 unfolding loaded_memory
 image_stands psid f = record {
@@ -75,11 +65,11 @@ elsewhere_is_zero psid place (inl before) =
     get_or_append_left (replicate psid.load 0 ++ psid.image) (replicate (65536 - (psid.load + length psid.image)) 0) 0 place front
     ∙ get_or_append_left (replicate psid.load 0) psid.image 0 place (omega arith)
     ∙ get_or-replicate psid.load place 0 0 before
-elsewhere_is_zero psid place (inr behind) =
+elsewhere_is_zero psid place (inr after) =
     let zeros : length (replicate {A = ℕ} psid.load 0) ≡ psid.load = length-replicate psid.load 0 in
     let front : length (replicate psid.load 0 ++ psid.image) ≡ psid.load + length psid.image = omega (arith, length-append (replicate psid.load 0) psid.image) in
-    get_or-append_right (replicate psid.load 0 ++ psid.image) (replicate (65536 - (psid.load + length psid.image)) 0) (psid.load + length psid.image) place 0 front behind
-    ∙ get_or-zeros (65536 - (psid.load + length psid.image)) (place - (psid.load + length psid.image))
+    get_or-append_right (replicate psid.load 0 ++ psid.image) (replicate (65536 - (psid.load + length psid.image)) 0) (psid.load + length psid.image) place 0 front after
+    ∙ get_or-replicate_any (65536 - (psid.load + length psid.image)) (place - (psid.load + length psid.image)) 0
 
 pub loaded_is_machine : LoadedIsMachine
 unfolding loaded_memory

@@ -7,7 +7,7 @@
 #![tactic(auto)]
 
 /// Facts about the definitions.
-pub mod laws;
+pub mod claims;
 mod memory;
 mod runner;
 

@@ -1,5 +1,5 @@
 use Rattle.psid.proofs.Written.{written_is_read, written_is_read_as_is}
-use Rattle.psid.proofs.laws.what_is_written_is_read.Goals as goal
+use Rattle.psid.proofs.claims.what_is_written_is_read.Goals as goal
 
 pub returns-clause-with_init : goal.returns-clause-with_init
 returns-clause-with_init c = written_is_read

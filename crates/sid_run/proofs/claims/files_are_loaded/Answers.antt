@@ -1,5 +1,5 @@
 use Rattle.sid_run.proofs.Images.{image_stands, elsewhere_is_zero, loaded_is_machine}
-use Rattle.sid_run.proofs.laws.files_are_loaded.Goals as goal
+use Rattle.sid_run.proofs.claims.files_are_loaded.Goals as goal
 
 pub returns-clause-image : goal.returns-clause-image
 returns-clause-image c = image_stands

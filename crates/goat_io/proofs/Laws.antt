@@ -1,0 +1,2 @@
+-- The lemmas that upper crates may cite: pieces that a sink takes, one after the other.
+pub use Rattle.goat_io.proofs.Pieces.{told_nothing, told_both}
