@@ -1,9 +1,8 @@
 -- The laws of the format: one song or one fault, and what the canonical spelling spells.
-use Rattle.std.proofs.Common.{◌≡◌, ℕ, ◌*◌, ◌≤◌, List, [], ◌∷◌, ◌++◌, length, map, get_or, codes, None, Result, Ok, Err, refl, sym, ap, ◌∙◌, append_assoc, arith, Fits, w8}
+use Rattle.std.proofs.Common.{◌≡◌, ℕ, ◌≤◌, List, [], ◌∷◌, ◌++◌, length, map, codes, None, Result, Ok, Err, refl, sym, ap, ◌∙◌, append_assoc, arith}
 use Rattle.std.specs.Prelude.{MatchOption}
 use Rattle.std.specs.List.{All, flat_map}
 use Rattle.std.proofs.lemmas.List.{append-nil, length-append, length-map}
-use Rattle.std.proofs.lemmas.List.Elements.{All-from_get_or, All-head, All-tail}
 use Rattle.base.proofs.Laws.{regroup6, length-flat_map-le, length-flat_map-same}
 use Rattle.song_model.specs.declared.rows.Row.{Row}
 use Rattle.song_model.specs.declared.orders.Order.{Order}
@@ -23,9 +22,6 @@ use Rattle.gts5.specs.FormatLaws.{SpellsOnly, SpellsNone, OneSongOrOneFault, Can
 use Rattle.gts5.proofs.Takes.{ok_is, text_each}
 use Rattle.gts5.proofs.SameFaults.{same_fault}
 use Rattle.gts5.proofs.Whole.{song_takes, song_again}
-
-pub bytes_are : (xs : List ℕ) → ((i : ℕ) → Fits w8 (get_or xs i 0)) → All IsByte xs
-bytes_are xs fits = All-from_get_or IsByte xs 0 (λ i inside. omega (arith, fits i))
 
 -- ---- one song or one fault
 

@@ -9,7 +9,8 @@ mod PatternPieces
 mod Whole
 -- Inner: the faults of the reader are those of the text.
 mod SameFaults
--- Inner: the steps of the reader's loops.
+-- Inner: the steps of the reader's loops, and why its lists aren't over their limits.
 mod Loops
+mod Within
 -- Inner: the laws.
 mod Canonicals

@@ -81,7 +81,7 @@ four : (xs : List ℕ) → 4 ≤ length xs → xs ≡ get_or xs 0 0 ∷ get_or x
 four (a ∷ b ∷ c ∷ d ∷ xs) l = refl
 four _ l = absurd (omega arith)
 
-record CutsRows (i m : ℕ) (piece : List ℕ) (rows : List Row) : Type 0 where
+pub record CutsRows (i m : ℕ) (piece : List ℕ) (rows : List Row) : Type 0 where
   pub more : ℕ
   pub ignored : List ℕ
   pub counted : m ≡ length rows + 1 + more
@@ -132,7 +132,7 @@ cut_step at i m piece rows size are bound others false h e =
     let rest = others b.0 (omega (arith, length-drop 4 piece)) (All-drop IsByte 4 piece are) (omega arith) b.1 in
     subst (CutsRows i (suc m) piece) (ok_is (row_of piece ∷ b.0) rows b.2) (row_cut i m piece b.0 size t.0 rest)
 
-cut_takes : (at i m : ℕ) (piece : List ℕ) (rows : List Row) → length piece ≡ 4 * m → All IsByte piece → i ≤ 128 → cut_at at i (rows_of m piece) ≡ Ok rows → CutsRows i m piece rows
+pub cut_takes : (at i m : ℕ) (piece : List ℕ) (rows : List Row) → length piece ≡ 4 * m → All IsByte piece → i ≤ 128 → cut_at at i (rows_of m piece) ≡ Ok rows → CutsRows i m piece rows
 cut_takes at i zero piece rows size are bound e = absurd cc
 cut_takes at i (suc m) piece rows size are bound e =
     let row = row_of piece in

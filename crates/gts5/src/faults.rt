@@ -27,7 +27,7 @@ pub enum SongFault {
     /// count stands there has no end row.
     #[error("not a song: bad row at {offset}")]
     BadRow { offset: u32 },
-    /// Memory ran out.
+    /// Out of memory.
     #[error("no memory")]
     NoMemory,
 }
@@ -48,20 +48,26 @@ impl<T: Drop> From<AllocFailed<T>> for SongFault {
     }
 }
 
-/// A list within its limits is refused for want of memory alone.
-impl From<LimitFault> for SongFault {
-    ghost from_gives = { λ _ fault. fault ≡ NoMemory };
-
-    fn from(_e: LimitFault) -> SongFault {
-        SongFault::NoMemory
+impl SongFault {
+    /// The refusal of a list that is within its limits: out of memory.
+    pub(crate) fn of_limits(fault: LimitFault) -> SongFault
+        requires { fault ≡ LimitFault.NoMemory }
+        ensures { result ≡ SongFault.NoMemory }
+    {
+        match fault {
+            LimitFault::NoMemory => SongFault::NoMemory,
+            LimitFault::BadLength | LimitFault::BadItem { .. } => unreachable!(),
+        }
     }
-}
 
-/// A list that isn't full refuses an item for want of memory alone.
-impl From<PushFault> for SongFault {
-    ghost from_gives = { λ _ fault. fault ≡ NoMemory };
-
-    fn from(_e: PushFault) -> SongFault {
-        SongFault::NoMemory
+    /// The refusal of an item by a list that isn't full: out of memory.
+    pub(crate) fn of_push(fault: PushFault) -> SongFault
+        requires { fault ≡ PushFault.NoMemory }
+        ensures { result ≡ SongFault.NoMemory }
+    {
+        match fault {
+            PushFault::NoMemory => SongFault::NoMemory,
+            PushFault::Full => unreachable!(),
+        }
     }
 }

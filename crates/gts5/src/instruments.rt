@@ -1,5 +1,6 @@
 //! Instruments.
 
+ghost use Rattle.std.specs.Prelude.{◌≤◌};
 ghost use Rattle.gts5.specs.Reading.{instrument_at, instruments_at, each_at};
 ghost use Rattle.gts5.specs.Gives.{Gives};
 
@@ -38,13 +39,16 @@ impl Reader {
         count: u8,
         left: &'a [u8],
     ) -> Result<(InstrumentList, &'a [u8]), SongFault>
+        requires { count ≤ 63 }
         ensures { Gives (λ x. (x.0, x.1.now)) result (each_at (instrument_at self.length) count left.now) }
     {
         let mut instruments = InstrumentList::new(alloc);
         let mut rest = left;
         for _i in 0..count {
             let (instrument, after) = self.instrument(rest)?;
-            instruments.push(instrument)?;
+            if let Err(fault) = instruments.push(instrument) {
+                return Err(SongFault::of_push(fault));
+            }
             rest = after;
         }
         Ok((instruments, rest))

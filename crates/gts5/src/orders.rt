@@ -9,6 +9,9 @@ use crate::reader::Reader;
 use song_model::{Order, Subtune, SubtuneList};
 use std::alloc::Global;
 
+/// The byte after an orderlist's entries.
+const ENDMARK: u8 = 0xFF;
+
 impl Reader {
     /// An orderlist, cut at its first endmark.
     #[tactic(auto, unfolding(crate::specs::Reading::order_at))]
@@ -19,8 +22,10 @@ impl Reader {
         let (piece, rest) = self.bytes(usize::from(count) + 1, rest)?;
         let place = endmark(piece);
         if place < usize::from(count) {
-            let order = Order::from_bytes(alloc, &piece[..place], piece[place + 1])?;
-            Ok((order, rest))
+            match Order::from_bytes(alloc, &piece[..place], piece[place + 1]) {
+                Ok(order) => Ok((order, rest)),
+                Err(fault) => Err(SongFault::of_limits(fault)),
+            }
         } else {
             Err(SongFault::BadOrder {
                 offset: self.offset(left),
@@ -46,13 +51,16 @@ impl Reader {
         count: u8,
         left: &'a [u8],
     ) -> Result<(SubtuneList, &'a [u8]), SongFault>
+        requires { count ≤ 32 }
         ensures { Gives (λ x. (x.0, x.1.now)) result (each_at (subtune_at self.length) count left.now) }
     {
         let mut subtunes = SubtuneList::new(alloc);
         let mut rest = left;
         for _i in 0..count {
             let (subtune, after) = self.subtune(alloc, rest)?;
-            subtunes.push(subtune)?;
+            if let Err(fault) = subtunes.push(subtune) {
+                return Err(SongFault::of_push(fault));
+            }
             rest = after;
         }
         Ok((subtunes, rest))
@@ -77,10 +85,8 @@ fn endmark(piece: &[u8]) -> usize
     ensures place { result ≡ endmark_of piece.now }
     ensures within { result ≤ length piece.now }
 {
-    for (place, byte) in piece.iter().enumerate() {
-        if *byte == 0xff {
-            return place;
-        }
+    match piece.iter().position(|byte| *byte == ENDMARK) {
+        Some(place) => place,
+        None => piece.len(),
     }
-    piece.len()
 }

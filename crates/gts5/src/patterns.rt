@@ -1,6 +1,6 @@
 //! Patterns.
 
-ghost use Rattle.std.specs.Prelude.{◌≡◌, ◌<◌, ◌≤◌, ◌*◌, length, drop, IfSome, IfNone};
+ghost use Rattle.std.specs.Prelude.{◌≡◌, ◌≤◌, ◌*◌, length, drop};
 ghost use Rattle.gts5.specs.Faults.{row_of};
 ghost use Rattle.gts5.specs.Reading.{ends_at, cut_at, rows_of, pattern_at, patterns_at, each_at};
 ghost use Rattle.gts5.specs.Gives.{Gives};
@@ -19,8 +19,10 @@ impl Reader {
         let (count, rest) = self.byte(left)?;
         let (piece, rest) = self.bytes(4 * usize::from(count), rest)?;
         let rows = rows_before_end(alloc, self.offset(left), count, piece)?;
-        let pattern = Pattern::from_rows(alloc, &rows)?;
-        Ok((pattern, rest))
+        match Pattern::from_rows(alloc, &rows) {
+            Ok(pattern) => Ok((pattern, rest)),
+            Err(fault) => Err(SongFault::of_limits(fault)),
+        }
     }
 
     /// So many patterns.
@@ -30,13 +32,16 @@ impl Reader {
         count: u8,
         left: &'a [u8],
     ) -> Result<(PatternList, &'a [u8]), SongFault>
+        requires { count ≤ 208 }
         ensures { Gives (λ x. (x.0, x.1.now)) result (each_at (pattern_at self.length) count left.now) }
     {
         let mut patterns = PatternList::new(alloc);
         let mut rest = left;
         for _i in 0..count {
             let (pattern, after) = self.pattern(alloc, rest)?;
-            patterns.push(pattern)?;
+            if let Err(fault) = patterns.push(pattern) {
+                return Err(SongFault::of_push(fault));
+            }
             rest = after;
         }
         Ok((patterns, rest))
@@ -65,10 +70,7 @@ fn rows_before_end(alloc: Global, at: u32, count: u8, piece: &[u8]) -> Result<Ve
     let mut rows = Vec::new(alloc);
     let mut left = piece;
     for i in 0..count {
-        // (the piece has four bytes for each row)
-        let Some((row, after)) = front_row(left) else {
-            return Err(SongFault::BadRow { offset: at });
-        };
+        let (row, after) = front_row(left);
         if is_end(at, i, row)? {
             return Ok(rows);
         }
@@ -79,23 +81,21 @@ fn rows_before_end(alloc: Global, at: u32, count: u8, piece: &[u8]) -> Result<Ve
 }
 
 /// The row at the front, and the bytes after it.
-fn front_row(bytes: &[u8]) -> Option<(Row, &[u8])>
-    ensures row { IfSome result (λ x. x.0 ≡ row_of bytes.now) }
-    ensures rest { IfSome result (λ x. x.1.now ≡ drop 4 bytes.now) }
-    ensures none { IfNone result (length bytes.now < 4) }
+fn front_row(bytes: &[u8]) -> (Row, &[u8])
+    requires { 4 ≤ length bytes.now }
+    ensures row { result.0 ≡ row_of bytes.now }
+    ensures rest { result.1.now ≡ drop 4 bytes.now }
 {
-    match bytes {
-        [note, instrument, command, param, rest @ ..] => {
-            let row = Row {
-                note: *note,
-                instrument: *instrument,
-                command: *command,
-                param: *param,
-            };
-            Some((row, rest))
-        }
-        _ => None,
-    }
+    let [note, instrument, command, param, rest @ ..] = bytes else {
+        unreachable!()
+    };
+    let row = Row {
+        note: *note,
+        instrument: *instrument,
+        command: *command,
+        param: *param,
+    };
+    (row, rest)
 }
 
 /// Whether row `i` of a pattern, counted from 0, is its end row; `at` is the offset of the pattern's count.

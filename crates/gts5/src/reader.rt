@@ -77,7 +77,8 @@ impl Reader {
     /// A count of at most `limit`.
     #[tactic(auto, unfolding(crate::specs::Reading::count_at))]
     pub fn count<'a>(self, limit: u8, left: &'a [u8]) -> Result<(u8, &'a [u8]), SongFault>
-        ensures { Gives (λ x. (x.0, x.1.now)) result (count_at self.length limit left.now) }
+        ensures taken { Gives (λ x. (x.0, x.1.now)) result (count_at self.length limit left.now) }
+        ensures within { IfOk result (λ x. x.0 ≤ limit) }
     {
         let (count, rest) = self.byte(left)?;
         if count > limit {

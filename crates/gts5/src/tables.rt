@@ -1,6 +1,6 @@
 //! The wave, pulse, filter and speed table.
 
-ghost use Rattle.std.specs.Prelude.{◌≡◌, length};
+ghost use Rattle.std.specs.Prelude.{◌≡◌, ◌≤◌, length};
 ghost use Rattle.gts5.specs.Reading.{table_rows, table_at, tables_at};
 ghost use Rattle.gts5.specs.Gives.{Gives};
 
@@ -54,15 +54,19 @@ impl Reader {
 
 /// Rows of these left and right sides.
 fn joined_sides(alloc: Global, lefts: &[u8], rights: &[u8]) -> Result<Table, SongFault>
-    requires { length lefts.now ≡ length rights.now }
+    requires count { length lefts.now ≤ 255 }
+    requires same { length lefts.now ≡ length rights.now }
     ensures { Gives (λ rows. rows) result (Ok (table_rows lefts.now rights.now)) }
 {
     let mut rows = Table::new(alloc);
     for (i, left) in lefts.iter().enumerate() {
-        rows.push(TableRow {
+        let row = TableRow {
             left: *left,
             right: rights[i],
-        })?;
+        };
+        if let Err(fault) = rows.push(row) {
+            return Err(SongFault::of_push(fault));
+        }
     }
     Ok(rows)
 }

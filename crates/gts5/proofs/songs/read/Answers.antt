@@ -1,6 +1,6 @@
 use Rattle.std.proofs.Common.{Ok, Err}
 use Rattle.gts5.proofs.Whole.{song_again, is_found, is_answer, is_fault, faults}
-use Rattle.gts5.proofs.Canonicals.{bytes_are}
+use Rattle.gts5.proofs.Within.{bytes_are}
 use Rattle.gts5.proofs.songs.read.Goals as goal
 
 pub returns-clause-found : goal.returns-clause-found
