@@ -4,16 +4,17 @@ use Rattle.std.proofs.Common.{◌≡◌, ℕ, ℤ, zero, suc, pos, subst, ◌+�
 use Rattle.std.proofs.lemmas.Bool.{cases_lt}
 use Rattle.std.proofs.lemmas.Bool.Decides.{nat_tests}
 use Rattle.std.proofs.lemmas.List.{drop_more, drop_all, length-replicate}
-use Rattle.std.proofs.lemmas.Nat.{div-add-mod', mod-mul-add, mod_below}
+use Rattle.std.proofs.lemmas.Nat.{mod_below}
+use Rattle.base.proofs.Laws.{mod_goes_on, mod_goes_round, first_of_rest, first_after_all}
 use Rattle.song_model.specs.declared.orders.Order.{Order}
 use Rattle.song_model.specs.declared.orders.OrderPlace.{OrderPlace}
 use Rattle.song_model.specs.declared.orders.Step.{Step}
 use Rattle.song_model.specs.Walk.{transpose_after, repeat_after, plays_of, walk_plays, end_transpose, end_repeat, prefix_of, cycle_of, played, no_step, unrolled}
-use Rattle.song_model.specs.Sound.{IsSound}
+use Rattle.song_model.specs.Endless.{IsEndless}
 use Rattle.song_model.specs.Places.{first_place, places_of, places_of_pattern, walk_places, prefix_places, cycle_places, restarted, place_after, place_of}
 use Rattle.song_model.specs.WalkRest.{plays_from, places_from, IsOnWalk, coming_plays, coming_places}
 use Rattle.song_model.proofs.Walks.{one_cycle_is_enough_lem}
-use Rattle.song_model.proofs.Rests.{place_at, play_of, pattern_plays, pattern_places, pattern_transpose, pattern_repeat, at_end, sound_cycle}
+use Rattle.song_model.proofs.Rests.{place_at, play_of, pattern_plays, pattern_places, pattern_transpose, pattern_repeat, at_end, endless_cycle}
 
 -- from this place these plays are left, with these places after them, and the walk ends with this transpose and this repeat
 record Stands (entries : List ℕ) (at : OrderPlace) (xs : List Step) (ys : List OrderPlace) (t : ℤ) (r : ℕ) : Type 0 where
@@ -177,20 +178,20 @@ end_repeat_is entries at xs ys t r stands h =
     let ends : end_repeat (drop at.place entries) at.repeat ≡ at.repeat = rw (at_end entries at.place h) refl in
     sym ends ∙ stands.repeat
 
-seam_comes : (order : Order) → IsSound order →
+seam_comes : (order : Order) → IsEndless order →
     ComesNext order (place_at order.restart (end_transpose order.entries (pos 0)) (end_repeat order.entries 0)) (get_or (cycle_of order) 0 no_step) (get_or (cycle_places order) 0 first_place)
 unfolding cycle_of cycle_places
-seam_comes order sound =
+seam_comes order endless =
     let same = one_cycle_is_enough_lem order in record {
-      on_walk = record { inside = omega (arith, sound.restart); transpose = same.transpose; repeat = same.repeat };
+      on_walk = record { inside = omega (arith, endless.restart); transpose = same.transpose; repeat = same.repeat };
       play = twice_first (walk_plays (drop order.restart order.entries) (end_transpose order.entries (pos 0)) (end_repeat order.entries 0)) no_step;
       place = twice_first (walk_places (drop order.restart order.entries) order.restart (end_transpose order.entries (pos 0)) (end_repeat order.entries 0)) first_place;
     }
 
 restarted_by : (order : Order) (at : OrderPlace) (xs : List Step) (ys : List OrderPlace) (z : Bool) → eqb at.place (length order.entries) ≡ z →
-    IsSound order → StandsIn order at xs ys →
+    IsEndless order → StandsIn order at xs ys →
     ComesNext order (cond z (record at { place = order.restart }) at) (get_or (xs ++ cycle_of order) 0 no_step) (get_or (ys ++ cycle_places order) 0 first_place)
-restarted_by order at xs ys true e sound stands =
+restarted_by order at xs ys true e endless stands =
     let ended : length order.entries ≤ at.place = grind (arith, nat_tests) in
     let t = end_transpose_is order.entries at xs ys (end_transpose order.entries (pos 0)) (end_repeat order.entries 0) stands ended in
     let r = end_repeat_is order.entries at xs ys (end_transpose order.entries (pos 0)) (end_repeat order.entries 0) stands ended in
@@ -199,27 +200,21 @@ restarted_by order at xs ys true e sound stands =
     comes_also order (place_at order.restart (end_transpose order.entries (pos 0)) (end_repeat order.entries 0)) (place_at order.restart at.transpose at.repeat)
     (get_or (cycle_of order) 0 no_step) (get_or (xs ++ cycle_of order) 0 no_step)
     (get_or (cycle_places order) 0 first_place) (get_or (ys ++ cycle_places order) 0 first_place)
-    (seam_comes order sound)
+    (seam_comes order endless)
     (λ i. place_at order.restart (t i) (r i))
     (sym (ap (λ plays. get_or (plays ++ cycle_of order) 0 no_step) no_plays))
     (sym (ap (λ places. get_or (places ++ cycle_places order) 0 first_place) no_places))
-restarted_by order at xs ys false e sound stands = record {
+restarted_by order at xs ys false e endless stands = record {
   on_walk = record { inside = stands.inside; transpose = stands.transpose; repeat = stands.repeat };
   play = ap (λ plays. get_or (plays ++ cycle_of order) 0 no_step) stands.plays;
   place = ap (λ places. get_or (places ++ cycle_places order) 0 first_place) stands.places;
 }
 
-restarted_comes : (order : Order) (at : OrderPlace) (xs : List Step) (ys : List OrderPlace) → IsSound order → StandsIn order at xs ys →
+restarted_comes : (order : Order) (at : OrderPlace) (xs : List Step) (ys : List OrderPlace) → IsEndless order → StandsIn order at xs ys →
     ComesNext order (restarted order at) (get_or (xs ++ cycle_of order) 0 no_step) (get_or (ys ++ cycle_places order) 0 first_place)
-restarted_comes order at xs ys sound stands = restarted_by order at xs ys (eqb at.place (length order.entries)) refl sound stands
+restarted_comes order at xs ys endless stands = restarted_by order at xs ys (eqb at.place (length order.entries)) refl endless stands
 
 -- items of a prefix and a cycle that is repeated
-first_left : {X : Type 0} (xs ys : List X) (k : ℕ) (d : X) → k < length xs → get_or (drop k xs ++ ys) 0 d ≡ get_or xs k d
-first_left xs ys k d h = rw (drop_more xs k d h) refl
-
-none_left : {X : Type 0} (xs ys : List X) (k : ℕ) (d : X) → length xs ≤ k → get_or (drop k xs ++ ys) 0 d ≡ get_or ys 0 d
-none_left xs ys k d h = rw (drop_all k xs h) refl
-
 in_prefix : {X : Type 0} (xs ys : List X) (d : X) (k : ℕ) → k < length xs → unrolled xs ys d k ≡ get_or xs k d
 in_prefix xs ys d k h =
     let test : ltb k (length xs) ≡ true = grind (arith, nat_tests) in
@@ -236,22 +231,11 @@ first_of_cycle k n m e h = let none : k - n ≡ 0 = omega arith in rw none (omeg
 next_of_prefix : {X : Type 0} (xs ys : List X) (d : X) (k : ℕ) → k ≤ length xs → 0 < length ys → unrolled xs ys d k ≡ get_or (drop k xs ++ ys) 0 d
 next_of_prefix xs ys d k h some =
     elim (cases_lt k (length xs)) [
-      | inl lt ↦ in_prefix xs ys d k lt ∙ sym (first_left xs ys k d lt)
+      | inl lt ↦ in_prefix xs ys d k lt ∙ sym (first_of_rest xs ys k d lt)
       | inr ge ↦
           let seam : k ≡ length xs = omega arith in
-          in_cycle xs ys d k 0 ge (first_of_cycle k (length xs) (length ys) seam some) ∙ sym (none_left xs ys k d ge)
+          in_cycle xs ys d k 0 ge (first_of_cycle k (length xs) (length ys) seam some) ∙ sym (first_after_all xs ys k d ge)
     ]
-
-mod_goes_on : (a n m : ℕ) → 0 < n → a % n ≡ m → suc m < n → suc a % n ≡ suc m
-mod_goes_on a n m h e lt =
-    let split : suc a ≡ (a / n) * n + suc m = omega (arith, div-add-mod' a n) in
-    rw split (mod-mul-add (a / n) n (suc m) lt)
-
-mod_goes_round : (a n m : ℕ) → 0 < n → a % n ≡ m → n ≤ suc m → suc a % n ≡ 0
-mod_goes_round a n m h e ge =
-    let below : a % n < n = mod_below a n h in
-    let split : suc a ≡ (a / n + 1) * n + 0 = omega (arith, div-add-mod' a n) in
-    rw split (mod-mul-add (a / n + 1) n 0 h)
 
 next_of_cycle : {X : Type 0} (xs ys : List X) (d : X) (k m : ℕ) → length xs ≤ k → 0 < length ys → (k - length xs) % length ys ≡ m →
     unrolled xs ys d (suc k) ≡ get_or (drop (suc m) ys ++ ys) 0 d
@@ -261,10 +245,10 @@ next_of_cycle xs ys d k m h some e =
     elim (cases_lt (suc m) (length ys)) [
       | inl lt ↦
           in_cycle xs ys d (suc k) (suc m) above (rw later (mod_goes_on (k - length xs) (length ys) m some e lt))
-          ∙ sym (first_left ys ys (suc m) d lt)
+          ∙ sym (first_of_rest ys ys (suc m) d lt)
       | inr ge ↦
           in_cycle xs ys d (suc k) 0 above (rw later (mod_goes_round (k - length xs) (length ys) m some e ge))
-          ∙ sym (none_left ys ys (suc m) d ge)
+          ∙ sym (first_after_all ys ys (suc m) d ge)
     ]
 
 abbrev bare_place : Order → ℕ → OrderPlace
@@ -273,58 +257,58 @@ bare_place order i = unrolled (prefix_places order) (cycle_places order) first_p
 abbrev bare_play : Order → ℕ → Step
 bare_play order i = unrolled (prefix_of order) (cycle_of order) no_step i
 
-some_places : (order : Order) → IsSound order → 0 < length (cycle_places order)
-some_places order sound = omega (arith, cycle_count order, sound_cycle order sound)
+some_places : (order : Order) → IsEndless order → 0 < length (cycle_places order)
+some_places order endless = omega (arith, cycle_count order, endless_cycle order endless)
 
 -- behind a play of the prefix
-comes_in_prefix : (order : Order) → IsSound order → (j : ℕ) → j < length (prefix_of order) →
+comes_in_prefix : (order : Order) → IsEndless order → (j : ℕ) → j < length (prefix_of order) →
     ComesNext order (restarted order (bare_place order j)) (bare_play order (suc j)) (bare_place order (suc j))
-comes_in_prefix order sound j h =
+comes_in_prefix order endless j h =
     let count = prefix_count order in
     let inside : j < length (prefix_places order) = omega arith in
     comes_also order (restarted order (get_or (prefix_places order) j first_place)) (restarted order (bare_place order j))
     (get_or (drop (suc j) (prefix_of order) ++ cycle_of order) 0 no_step) (bare_play order (suc j))
     (get_or (drop (suc j) (prefix_places order) ++ cycle_places order) 0 first_place) (bare_place order (suc j))
-    (restarted_comes order (get_or (prefix_places order) j first_place) (drop (suc j) (prefix_of order)) (drop (suc j) (prefix_places order)) sound ((prefix_stands order).each j h))
+    (restarted_comes order (get_or (prefix_places order) j first_place) (drop (suc j) (prefix_of order)) (drop (suc j) (prefix_places order)) endless ((prefix_stands order).each j h))
     (ap (restarted order) (in_prefix (prefix_places order) (cycle_places order) first_place j inside))
-    (next_of_prefix (prefix_of order) (cycle_of order) no_step (suc j) (omega arith) (sound_cycle order sound))
-    (next_of_prefix (prefix_places order) (cycle_places order) first_place (suc j) (omega arith) (some_places order sound))
+    (next_of_prefix (prefix_of order) (cycle_of order) no_step (suc j) (omega arith) (endless_cycle order endless))
+    (next_of_prefix (prefix_places order) (cycle_places order) first_place (suc j) (omega arith) (some_places order endless))
 
 -- behind a play of the cycle
-comes_in_cycle : (order : Order) → IsSound order → (j m : ℕ) → length (prefix_of order) ≤ j → (j - length (prefix_of order)) % length (cycle_of order) ≡ m →
+comes_in_cycle : (order : Order) → IsEndless order → (j m : ℕ) → length (prefix_of order) ≤ j → (j - length (prefix_of order)) % length (cycle_of order) ≡ m →
     ComesNext order (restarted order (bare_place order j)) (bare_play order (suc j)) (bare_place order (suc j))
-comes_in_cycle order sound j m h e =
+comes_in_cycle order endless j m h e =
     let count = prefix_count order in
-    let some = sound_cycle order sound in
+    let some = endless_cycle order endless in
     let inside : m < length (cycle_of order) = omega (arith, mod_below (j - length (prefix_of order)) (length (cycle_of order)) some) in
     let above : length (prefix_places order) ≤ j = omega arith in
     let same : (j - length (prefix_places order)) % length (cycle_places order) ≡ m = rw (prefix_count order, cycle_count order) e in
     comes_also order (restarted order (get_or (cycle_places order) m first_place)) (restarted order (bare_place order j))
     (get_or (drop (suc m) (cycle_of order) ++ cycle_of order) 0 no_step) (bare_play order (suc j))
     (get_or (drop (suc m) (cycle_places order) ++ cycle_places order) 0 first_place) (bare_place order (suc j))
-    (restarted_comes order (get_or (cycle_places order) m first_place) (drop (suc m) (cycle_of order)) (drop (suc m) (cycle_places order)) sound ((cycle_stands order).each m inside))
+    (restarted_comes order (get_or (cycle_places order) m first_place) (drop (suc m) (cycle_of order)) (drop (suc m) (cycle_places order)) endless ((cycle_stands order).each m inside))
     (ap (restarted order) (in_cycle (prefix_places order) (cycle_places order) first_place j m above same))
     (next_of_cycle (prefix_of order) (cycle_of order) no_step j m h some e)
-    (next_of_cycle (prefix_places order) (cycle_places order) first_place j m above (some_places order sound) same)
+    (next_of_cycle (prefix_places order) (cycle_places order) first_place j m above (some_places order endless) same)
 
-comes_behind : (order : Order) → IsSound order → (j : ℕ) → ComesNext order (restarted order (bare_place order j)) (bare_play order (suc j)) (bare_place order (suc j))
-comes_behind order sound j =
+comes_behind : (order : Order) → IsEndless order → (j : ℕ) → ComesNext order (restarted order (bare_place order j)) (bare_play order (suc j)) (bare_place order (suc j))
+comes_behind order endless j =
     elim (cases_lt j (length (prefix_of order))) [
-      | inl lt ↦ comes_in_prefix order sound j lt
-      | inr ge ↦ comes_in_cycle order sound j ((j - length (prefix_of order)) % length (cycle_of order)) ge refl
+      | inl lt ↦ comes_in_prefix order endless j lt
+      | inr ge ↦ comes_in_cycle order endless j ((j - length (prefix_of order)) % length (cycle_of order)) ge refl
     ]
 
 -- at the place of each play that play comes next
-pub comes_at : (order : Order) → IsSound order → (i : ℕ) → ComesNext order (place_of order i) (played order i) (bare_place order i)
+pub comes_at : (order : Order) → IsEndless order → (i : ℕ) → ComesNext order (place_of order i) (played order i) (bare_place order i)
 unfolding place_of place_after played
-comes_at order sound zero =
+comes_at order endless zero =
     comes_also order first_place first_place
     (get_or (prefix_of order ++ cycle_of order) 0 no_step) (bare_play order 0)
     (get_or (prefix_places order ++ cycle_places order) 0 first_place) (bare_place order 0)
     (start_comes order) refl
-    (next_of_prefix (prefix_of order) (cycle_of order) no_step 0 (omega arith) (sound_cycle order sound))
-    (next_of_prefix (prefix_places order) (cycle_places order) first_place 0 (omega arith) (some_places order sound))
-comes_at order sound (suc j) = comes_behind order sound j
+    (next_of_prefix (prefix_of order) (cycle_of order) no_step 0 (omega arith) (endless_cycle order endless))
+    (next_of_prefix (prefix_places order) (cycle_places order) first_place 0 (omega arith) (some_places order endless))
+comes_at order endless (suc j) = comes_behind order endless j
 
 -- the place of the next play
 pub place_of_next : (order : Order) (i : ℕ) → place_of order (i + 1) ≡ restarted order (bare_place order i)

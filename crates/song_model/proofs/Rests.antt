@@ -3,11 +3,12 @@ use Rattle.std.proofs.Common.{◌≡◌, ℕ, ℤ, inl, inr, zero, suc, pos, ◌
 use Rattle.std.proofs.lemmas.Bool.{cases_lt}
 use Rattle.std.proofs.lemmas.Bool.Decides.{nat_tests}
 use Rattle.std.proofs.lemmas.List.{drop_more, drop_all}
+use Rattle.base.proofs.Laws.{some_append_left, some_append_right, first_of_append}
 use Rattle.song_model.specs.declared.orders.Order.{Order}
 use Rattle.song_model.specs.declared.orders.OrderPlace.{OrderPlace}
 use Rattle.song_model.specs.declared.orders.Step.{Step}
 use Rattle.song_model.specs.Walk.{transpose_after, repeat_after, plays_of, walk_plays, end_transpose, end_repeat, cycle_of, no_step}
-use Rattle.song_model.specs.Sound.{IsSound}
+use Rattle.song_model.specs.Endless.{IsEndless}
 use Rattle.song_model.specs.Places.{first_place, places_of_pattern, walk_places, cycle_places, restarted}
 use Rattle.song_model.specs.WalkRest.{plays_from, places_from, IsSameRest, IsOnWalk, coming_plays, coming_places}
 use Rattle.song_model.proofs.Walks.{walk_some}
@@ -56,9 +57,6 @@ first_place_here entries p t r h low = rw (drop_more entries p 0 h) (pattern_pla
 pub at_end : (entries : List ℕ) (p : ℕ) → length entries ≤ p → drop p entries ≡ []
 at_end entries p h = drop_all p entries h
 
-longer_right : (xs ys : List Step) → 0 < length ys → 0 < length (xs ++ ys)
-longer_right xs ys h = omega (arith, length-append xs ys)
-
 -- a pattern somewhere is played
 some_at : (bytes : List ℕ) (k : ℕ) (t : ℤ) (r x : ℕ) → k < length bytes → get_or bytes k x ≡ x → x < 0xD0 → 0 < length (walk_plays bytes t r)
 some_at [] k t r x inside is low = absurd (omega arith)
@@ -66,19 +64,14 @@ some_at (byte ∷ bytes) zero t r x inside is low =
     let here : byte < 0xD0 = omega arith in
     walk_some byte bytes t r here
 some_at (byte ∷ bytes) (suc k) t r x inside is low =
-    longer_right (plays_of byte t r) (walk_plays bytes (transpose_after byte t) (repeat_after byte r))
+    some_append_right (plays_of byte t r) (walk_plays bytes (transpose_after byte t) (repeat_after byte r))
     (some_at bytes k (transpose_after byte t) (repeat_after byte r) x (omega arith) is low)
 
-pub sound_cycle : (order : Order) → IsSound order → 0 < length (cycle_of order)
+pub endless_cycle : (order : Order) → IsEndless order → 0 < length (cycle_of order)
 unfolding cycle_of
-sound_cycle order sound =
-    some_at (drop order.restart order.entries) sound.pattern.0 (end_transpose order.entries (pos 0)) (end_repeat order.entries 0)
-    sound.pattern.1 sound.pattern.2 sound.pattern.3 sound.pattern.4
-
--- the first item of what is left comes first
-first_of : {X : Type 0} (xs ys : List X) (d : X) → 0 < length xs → get_or (xs ++ ys) 0 d ≡ get_or xs 0 d
-first_of [] ys d h = absurd (omega arith)
-first_of (x ∷ xs) ys d h = refl
+endless_cycle order endless =
+    some_at (drop order.restart order.entries) endless.pattern.0 (end_transpose order.entries (pos 0)) (end_repeat order.entries 0)
+    endless.pattern.1 endless.pattern.2 endless.pattern.3 endless.pattern.4
 
 some_play : (entries : List ℕ) (p : ℕ) (t : ℤ) (r : ℕ) → p < length entries → get_or entries p 0 < 0xD0 → 0 < length (plays_from entries (place_at p t r))
 some_play entries p t r h low = rw (first_play_here entries p t r h low) (omega arith)
@@ -87,26 +80,23 @@ some_places_of : (p : ℕ) (t : ℤ) (r : ℕ) → 0 < length (places_of_pattern
 some_places_of p t zero = omega arith
 some_places_of p t (suc r) = omega arith
 
-longer_left : (xs ys : List OrderPlace) → 0 < length xs → 0 < length (xs ++ ys)
-longer_left xs ys h = omega (arith, length-append xs ys)
-
 some_place : (entries : List ℕ) (p : ℕ) (t : ℤ) (r : ℕ) → p < length entries → get_or entries p 0 < 0xD0 → 0 < length (places_from entries (place_at p t r))
 some_place entries p t r h low =
     rw (first_place_here entries p t r h low)
-    (longer_left (places_of_pattern p t r) (walk_places (drop (p + 1) entries) (p + 1) t 0) (some_places_of p t r))
+    (some_append_left (places_of_pattern p t r) (walk_places (drop (p + 1) entries) (p + 1) t 0) (some_places_of p t r))
 
 -- a pattern in this round
 pub play_in_round : (order : Order) (at here : OrderPlace) → IsSameRest order.entries at here → here.place < length order.entries →
     get_or order.entries here.place 0 < 0xD0 → get_or (coming_plays order at) 0 no_step ≡ get_or (plays_from order.entries here) 0 no_step
 play_in_round order at here same h low =
     ap (λ plays. get_or (plays ++ cycle_of order) 0 no_step) same.plays
-    ∙ first_of (plays_from order.entries here) (cycle_of order) no_step (some_play order.entries here.place here.transpose here.repeat h low)
+    ∙ first_of_append (plays_from order.entries here) (cycle_of order) no_step (some_play order.entries here.place here.transpose here.repeat h low)
 
 pub place_in_round : (order : Order) (at here : OrderPlace) → IsSameRest order.entries at here → here.place < length order.entries →
     get_or order.entries here.place 0 < 0xD0 → get_or (coming_places order at) 0 first_place ≡ get_or (places_from order.entries here) 0 first_place
 place_in_round order at here same h low =
     ap (λ places. get_or (places ++ cycle_places order) 0 first_place) same.places
-    ∙ first_of (places_from order.entries here) (cycle_places order) first_place (some_place order.entries here.place here.transpose here.repeat h low)
+    ∙ first_of_append (places_from order.entries here) (cycle_places order) first_place (some_place order.entries here.place here.transpose here.repeat h low)
 
 -- a walk that has come to the end, and goes on at the restart position
 pub record GoesRound (order : Order) (at here there : OrderPlace) : Type 0 where
@@ -154,12 +144,12 @@ place_in_next_round order at here there go =
 ended_plays : (entries : List ℕ) (at : OrderPlace) → length entries ≤ at.place → length (plays_from entries at) ≡ 0
 ended_plays entries at h = rw (at_end entries at.place h) refl
 
-pub inside_next_round : (order : Order) (at here there : OrderPlace) → IsSound order → GoesRound order at here there → there.place < length order.entries
-inside_next_round order at here there sound go =
+pub inside_next_round : (order : Order) (at here there : OrderPlace) → IsEndless order → GoesRound order at here there → there.place < length order.entries
+inside_next_round order at here there endless go =
     elim (cases_lt there.place (length order.entries)) [
       | inl lt ↦ lt
       | inr ge ↦
-          let some : 0 < length (cycle_of order) = sound_cycle order sound in
+          let some : 0 < length (cycle_of order) = endless_cycle order endless in
           let same : length (cycle_of order) ≡ length (plays_from order.entries there) = ap length (round_plays order at here there go) in
           let none : length (plays_from order.entries there) ≡ 0 = ended_plays order.entries there ge in
           absurd (omega arith)

@@ -4,6 +4,7 @@ use Rattle.std.specs.List.{flat_map}
 use Rattle.std.specs.Prelude.{codes}
 use Rattle.std.proofs.lemmas.List.{length-map}
 use Rattle.std.proofs.lemmas.List.Elements.{All-head, All-tail}
+use Rattle.base.proofs.Laws.{split_append}
 use Rattle.song_model.specs.declared.tables.TableRow.{TableRow}
 use Rattle.song_model.specs.Basics.{KeepsLimit}
 use Rattle.song_model.specs.PatternLimits.{IsRow, IsPattern}
@@ -11,23 +12,11 @@ use Rattle.song_model.specs.Limits.{IsText, IsOrder, IsSubtune, IsInstrument, Is
 use Rattle.song_model.specs.Canonical.{order_text, subtune_text, subtunes_text, instrument_text, instruments_text, table_text, row_text, end_row_text, pattern_text, patterns_text, texts_text, tables_text, canonical}
 use Rattle.song_model.specs.CanonicalLaws.{SpellingsDiffer}
 
--- texts of one length in front of others
-split_append : {X : Type 0} (xs ys u v : List X) → length xs ≡ length ys → xs ++ u ≡ ys ++ v → (xs ≡ ys) × (u ≡ v)
-split_append [] [] u v n e = (refl, e)
-split_append [] (y ∷ ys) u v n e = absurd (omega arith)
-split_append (x ∷ xs) [] u v n e = absurd (omega arith)
-split_append (x ∷ xs) (y ∷ ys) u v n e =
-    let head : x ≡ y = (cc) in
-    let tail : xs ++ u ≡ ys ++ v = (cc) in
-    let m : length xs ≡ length ys = omega arith in
-    let r = split_append xs ys u v m tail in
-    (let first = r.0 in (cc), r.1)
-
 -- A text tells a part of what it spells, and where it ends, whatever follows it.
 abbrev Tells : {S X : Type 0} → (S → Type 0) → (S → List ℕ) → (S → X) → Type 0
 Tells {S} P text part = (s t : S) (u v : List ℕ) → P s → P t → text s ++ u ≡ text t ++ v → (part s ≡ part t) × (u ≡ v)
 
--- one text behind another tells both parts
+-- one text after another tells both parts
 both : {S X Y : Type 0} (P : S → Type 0) (f g : S → List ℕ) (a : S → X) (b : S → Y) →
     Tells P f a → Tells P g b → Tells {X = X × Y} P (λ s. f s ++ g s) (λ s. (a s, b s))
 both P f g a b first second s t u v p q e =
@@ -36,7 +25,7 @@ both P f g a b first second s t u v p q e =
     let two = second s t u v p q one.1 in
     (let x = one.0 in let y = two.0 in (cc), two.1)
 
--- as many items one behind the other, each of which tells itself
+-- as many items one after the other, each of which tells itself
 items_tell : {X : Type 0} (P : X → Type 0) (f : X → List ℕ) → Tells P f (λ x. x) →
     (xs ys : List X) (u v : List ℕ) → length xs ≡ length ys → All P xs → All P ys → flat_map f xs ++ u ≡ flat_map f ys ++ v → (xs ≡ ys) × (u ≡ v)
 items_tell P f tells [] [] u v n p q e = (refl, e)

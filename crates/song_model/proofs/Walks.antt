@@ -1,18 +1,15 @@
 -- What an orderlist plays are its entries, and one cycle is like the next.
 use Rattle.std.proofs.Common.{◌≡◌, ℕ, ℤ, suc, pos, subst, ◌+◌, ◌-◌, ◌-ℤ◌, ◌%◌, ◌<◌, ◌⊎◌, Bool, true, false, cond, ltb, List, [], ◌∷◌, ◌++◌, length, get_or, take, drop, replicate, All, Contains, inl, inr, refl, ap, ◌∙◌, arith, length-append}
+use Rattle.std.proofs.lemmas.Bool.{cond_both}
 use Rattle.std.proofs.lemmas.Bool.Decides.{nat_tests}
 use Rattle.std.proofs.lemmas.List.{length-replicate, take-append-drop}
 use Rattle.std.proofs.Math.Seq.{drop-cons}
 use Rattle.std.proofs.lemmas.List.Elements.{All-nil, All-head, All-tail, All-append, All-replicate, All-drop, All-get_or, All-contains_itself}
+use Rattle.base.proofs.Laws.{some_append_left, All-get_or_any}
 use Rattle.song_model.specs.declared.orders.Order.{Order}
 use Rattle.song_model.specs.declared.orders.Step.{Step}
 use Rattle.song_model.specs.Walk.{transpose_after, repeat_after, plays_of, walk_plays, end_transpose, end_repeat, prefix_of, cycle_of, played, no_step}
 use Rattle.song_model.specs.WalkLaws.{PlaysAreEntries, OneCycleIsEnough}
-
--- what holds of both sides holds of the one that is chosen
-chosen : {X : Type 0} (P : X → Type 0) (z : Bool) (x y : X) → P x → P y → P (cond z x y)
-chosen P true x y p q = p
-chosen P false x y p q = q
 
 -- a play that names an entry of this list
 abbrev NamesEntry : List ℕ → Step → Type 0
@@ -20,9 +17,9 @@ NamesEntry entries step = Contains entries step.pattern
 
 byte_plays : (entries : List ℕ) (byte : ℕ) (t : ℤ) (r : ℕ) → Contains entries byte → All (NamesEntry entries) (plays_of byte t r)
 byte_plays entries byte t r h =
-    chosen (λ plays. All (NamesEntry entries) plays) (ltb byte 0xD0) (replicate (r + 1) (record { pattern = byte; transpose = t })) []
-    (All-replicate (NamesEntry entries) (r + 1) (record { pattern = byte; transpose = t }) h)
-    (All-nil (NamesEntry entries))
+    cond_both (ltb byte 0xD0) (replicate (r + 1) (record { pattern = byte; transpose = t })) [] (λ plays. All (NamesEntry entries) plays)
+    (λ low. All-replicate (NamesEntry entries) (r + 1) (record { pattern = byte; transpose = t }) h)
+    (λ high. All-nil (NamesEntry entries))
 
 -- a walk along entries plays entries
 walk_names : (entries bytes : List ℕ) (t : ℤ) (r : ℕ) → All (Contains entries) bytes → All (NamesEntry entries) (walk_plays bytes t r)
@@ -45,24 +42,27 @@ cycle_names order =
 below : (n i : ℕ) → ltb i n ≡ true → i < n
 below n i h = grind (arith, nat_tests)
 
--- a play behind the prefix is one of the cycle
-later : (order : Order) (i : ℕ) → 0 < length (cycle_of order) →
-    Contains order.entries (get_or (cycle_of order) (i % length (cycle_of order)) no_step).pattern
-later order i h =
-    let inside : i % length (cycle_of order) < length (cycle_of order) = omega arith in
-    All-get_or (NamesEntry order.entries) (cycle_of order) (i % length (cycle_of order)) no_step inside (cycle_names order)
+-- what holds of each play of the prefix and of the cycle holds of each play, where the cycle has one
+pub each_play : (P : Step → Type 0) (order : Order) (i : ℕ) → 0 < length (cycle_of order) → All P (prefix_of order) → All P (cycle_of order) → P (played order i)
+unfolding played
+each_play P order i h first again =
+    let later : (i - length (prefix_of order)) % length (cycle_of order) < length (cycle_of order) = omega arith in
+    cond_both (ltb i (length (prefix_of order))) (get_or (prefix_of order) i no_step)
+    (get_or (cycle_of order) ((i - length (prefix_of order)) % length (cycle_of order)) no_step) P
+    (λ e. All-get_or P (prefix_of order) i no_step (below (length (prefix_of order)) i e) first)
+    (λ e. All-get_or P (cycle_of order) ((i - length (prefix_of order)) % length (cycle_of order)) no_step later again)
 
-chosen_play : (entries : List ℕ) (z : Bool) (x y : Step) → (z ≡ true → NamesEntry entries x) → NamesEntry entries y → NamesEntry entries (cond z x y)
-chosen_play entries true x y p q = p refl
-chosen_play entries false x y p q = q
+-- and where it holds of no play at all, of each one
+pub any_play : (P : Step → Type 0) (order : Order) (i : ℕ) → P no_step → All P (prefix_of order) → All P (cycle_of order) → P (played order i)
+unfolding played
+any_play P order i none first again =
+    cond_both (ltb i (length (prefix_of order))) (get_or (prefix_of order) i no_step)
+    (get_or (cycle_of order) ((i - length (prefix_of order)) % length (cycle_of order)) no_step) P
+    (λ e. All-get_or_any P (prefix_of order) i no_step none first)
+    (λ e. All-get_or_any P (cycle_of order) ((i - length (prefix_of order)) % length (cycle_of order)) no_step none again)
 
 pub plays_are_entries_lem : PlaysAreEntries
-unfolding played
-plays_are_entries_lem order i h =
-    chosen_play order.entries (ltb i (length (prefix_of order))) (get_or (prefix_of order) i no_step)
-    (get_or (cycle_of order) ((i - length (prefix_of order)) % length (cycle_of order)) no_step)
-    (λ e. All-get_or (NamesEntry order.entries) (prefix_of order) i no_step (below (length (prefix_of order)) i e) (prefix_names order))
-    (later order (i - length (prefix_of order)) h)
+plays_are_entries_lem order i h = each_play (NamesEntry order.entries) order i h (prefix_names order) (cycle_names order)
 
 -- a walk that begins at a pattern plays something
 byte_some : (byte : ℕ) (t : ℤ) (r : ℕ) → byte < 0xD0 → 0 < length (plays_of byte t r)
@@ -71,12 +71,9 @@ byte_some byte t r h =
     let step : Step = record { pattern = byte; transpose = t } in
     rw test (omega (arith, length-replicate {A = Step} (r + 1) step))
 
-pub longer : (xs ys : List Step) → 0 < length xs → 0 < length (xs ++ ys)
-longer xs ys h = omega (arith, length-append xs ys)
-
 pub walk_some : (byte : ℕ) (bytes : List ℕ) (t : ℤ) (r : ℕ) → byte < 0xD0 → 0 < length (walk_plays (byte ∷ bytes) t r)
 walk_some byte bytes t r h =
-    longer (plays_of byte t r) (walk_plays bytes (transpose_after byte t) (repeat_after byte r)) (byte_some byte t r h)
+    some_append_left (plays_of byte t r) (walk_plays bytes (transpose_after byte t) (repeat_after byte r)) (byte_some byte t r h)
 
 walk_some_at : (bytes rest : List ℕ) (byte : ℕ) (t : ℤ) (r : ℕ) → bytes ≡ byte ∷ rest → byte < 0xD0 → 0 < length (walk_plays bytes t r)
 walk_some_at bytes rest byte t r e h = rw e (walk_some byte rest t r h)

@@ -5,6 +5,10 @@ use Rattle.song_model.specs.declared.orders.Subtune.{Subtune}
 use Rattle.song_model.specs.declared.instruments.Instrument.{Instrument}
 use Rattle.song_model.specs.declared.tables.TableRow.{TableRow}
 use Rattle.song_model.specs.declared.songs.Song.{Song}
+use Rattle.song_model.specs.declared.orders.TheConstants.{MOST_SUBTUNES}
+use Rattle.song_model.specs.declared.instruments.TheConstants.{MOST_INSTRUMENTS}
+use Rattle.song_model.specs.declared.tables.TheConstants.{MOST_TABLE_ROWS}
+use Rattle.song_model.specs.declared.patterns.TheConstants.{MOST_PATTERNS}
 use Rattle.song_model.specs.Basics.{IsByte, KeepsLimit}
 use Rattle.song_model.specs.PatternLimits.{IsPattern}
 use Rattle.song_model.specs.OrderLimits.{AreEntries}
@@ -40,17 +44,17 @@ pub record IsTableRow (row : TableRow) : Type 0 where
   pub right : IsByte row.right
 
 abbrev pub IsTable : List TableRow → Type 0
-IsTable rows = KeepsLimit 255 IsTableRow rows
+IsTable rows = KeepsLimit MOST_TABLE_ROWS IsTableRow rows
 
 -- each part of the song is within its limits and ranges
 pub record KeepsLimits (song : Song) : Type 0 where
   pub name : IsText 32 song.name
   pub author : IsText 32 song.author
   pub copyright : IsText 32 song.copyright
-  pub subtunes : KeepsLimit 32 IsSubtune song.subtunes
-  pub instruments : KeepsLimit 63 IsInstrument song.instruments
+  pub subtunes : KeepsLimit MOST_SUBTUNES IsSubtune song.subtunes
+  pub instruments : KeepsLimit MOST_INSTRUMENTS IsInstrument song.instruments
   pub wave : IsTable song.wave
   pub pulse : IsTable song.pulse
   pub filter : IsTable song.filter
   pub speed : IsTable song.speed
-  pub patterns : KeepsLimit 208 IsPattern song.patterns
+  pub patterns : KeepsLimit MOST_PATTERNS IsPattern song.patterns

@@ -1,6 +1,7 @@
 -- The ranges of a pattern and its rows, from the GoatTracker 2 readme's format.
 use Rattle.std.specs.Prelude.{ℕ, ◌≤◌, List, length, All}
 use Rattle.song_model.specs.declared.rows.Row.{Row}
+use Rattle.song_model.specs.declared.patterns.TheConstants.{MOST_ROWS}
 use Rattle.song_model.specs.Basics.{IsByte}
 
 -- a row that isn't the end row: a note, rest, keyoff or keyon, an instrument, a command, any parameter
@@ -14,7 +15,7 @@ pub record IsRow (row : Row) : Type 0 where
 -- a pattern has 1 to 128 rows
 pub record IsPatternLength (n : ℕ) : Type 0 where
   pub least : 1 ≤ n
-  pub most : n ≤ 128
+  pub most : n ≤ MOST_ROWS
 
 pub record IsPattern (rows : List Row) : Type 0 where
   pub count : IsPatternLength (length rows)

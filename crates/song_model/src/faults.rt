@@ -1,23 +1,5 @@
 //! What the calls of this crate answer in place of a value.
 
-use std::alloc::{AllocError, AllocFailed};
-
-/// Memory ran out.
-#[derive(Clone, Copy, Debug, PartialEq, Eq)]
-pub struct NoMemory;
-
-impl From<AllocError> for NoMemory {
-    fn from(_e: AllocError) -> NoMemory {
-        NoMemory
-    }
-}
-
-impl<T: Drop> From<AllocFailed<T>> for NoMemory {
-    fn from(_e: AllocFailed<T>) -> NoMemory {
-        NoMemory
-    }
-}
-
 /// Why a list can't be part of a song.
 #[derive(Clone, Copy, Debug, PartialEq, Eq)]
 pub enum LimitFault {

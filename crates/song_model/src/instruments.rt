@@ -2,6 +2,9 @@
 
 use crate::Bounded;
 
+/// The most instruments of a song.
+pub const MOST_INSTRUMENTS: usize = 63;
+
 /// An instrument, as the GoatTracker 2 readme's format has it.
 #[derive(Clone, Copy, Debug, PartialEq, Eq)]
 pub struct Instrument {
@@ -24,11 +27,12 @@ pub struct Instrument {
     pub gate_timer: u8,
     /// The waveform of a note's first frame.
     pub first_wave: u8,
+    /// Its name, of no meaning to a player.
     pub name: [u8; 16],
 }
 
 /// The instruments of a song: at most 63, numbered from 1.
-pub type InstrumentList = Bounded<Instrument, 63>;
+pub type InstrumentList = Bounded<Instrument, MOST_INSTRUMENTS>;
 
 /// A set of features of the player, one bit each.
 #[derive(Clone, Copy, Debug, PartialEq, Eq)]

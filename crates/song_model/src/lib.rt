@@ -4,13 +4,13 @@
 //! keeps exactly the items that it was given, and a refusal leaves everything as it was.
 //! Its definitions say how a song is spelled (`canonical`), what an orderlist plays (`played`), and
 //! what a look-up finds where nothing is stored.
-//! It stands on nothing but std. Readers, editors, the playroutine and the packer stand on it.
+//! It stands on `base`. Readers, editors, the playroutine and the packer stand on it.
 #![tactic(auto)]
 
 mod faults;
 mod instruments;
 /// Facts about the definitions.
-pub mod laws;
+pub mod facts;
 mod lists;
 mod look_ups;
 mod orders;
@@ -20,14 +20,17 @@ mod songs;
 mod steps;
 mod tables;
 
-pub use faults::{LimitFault, NoMemory, PushFault};
-pub use instruments::{FeatureBits, Instrument, InstrumentList};
-pub use lists::{Bounded, ByteList};
-pub use orders::{Order, OrderEntries, OrderPlace, Step, Subtune, SubtuneList};
-pub use patterns::{Pattern, PatternList};
+pub use base::{ByteList, NoMemory};
+pub use faults::{LimitFault, PushFault};
+pub use instruments::{FeatureBits, Instrument, InstrumentList, MOST_INSTRUMENTS};
+pub use lists::Bounded;
+pub use orders::{
+    ENDMARK, MOST_ENTRIES, MOST_SUBTUNES, Order, OrderEntries, OrderPlace, Step, Subtune, SubtuneList,
+};
+pub use patterns::{MOST_PATTERNS, MOST_ROWS, Pattern, PatternList};
 pub use rows::Row;
 pub use songs::Song;
-pub use tables::{Table, TableName, TableRow};
+pub use tables::{MOST_TABLE_ROWS, Table, TableName, TableRow};
 
 #[cfg(test)]
 mod tests;

@@ -1,16 +1,17 @@
 //! Lists that grow up to a limit.
 
-ghost use Rattle.std.specs.Prelude.{◌≡◌, ◌<◌, ◌≤◌, ◌↔◌, ◌⊎◌, [], ◌∷◌, ◌++◌, length, slice_set, IsNone, IfSome, IfOk, IfErr, IsErrOf, OnOk, OnErr};
+ghost use Rattle.std.specs.Prelude.{◌≡◌, ◌<◌, ◌≤◌, ◌↔◌, ◌⊎◌, [], ◌∷◌, ◌++◌, length, IsNone, IfSome, IfOk, IfErr, IsErrOf, OnOk, OnErr};
 ghost use Rattle.song_model.specs.LookUp.{IsNumbered, numbered};
 
-use crate::{LimitFault, NoMemory, PushFault};
+use crate::{LimitFault, PushFault};
+use base::{Items, NoMemory};
 use std::alloc::Global;
 use std::marker::Model;
 
 /// A list of at most `LIMIT` items.
 #[derive(Drop)]
 pub struct Bounded<T, const LIMIT: usize> {
-    items: Vec<T>,
+    items: Items<T>,
 }
 
 impl<T, const LIMIT: usize> Model for Bounded<T, LIMIT> {
@@ -21,9 +22,9 @@ impl<T, const LIMIT: usize> Model for Bounded<T, LIMIT> {
 
     ghost coded = { coded_list T.code };
 
-    ghost view = { λ list. list.items.items };
+    ghost view = { λ list. list.items };
 
-    ghost invariant = { λ list. length list.items.items ≤ LIMIT };
+    ghost invariant = { λ list. length list.items ≤ LIMIT };
 }
 
 impl<T, const LIMIT: usize> Bounded<T, LIMIT> {
@@ -32,7 +33,7 @@ impl<T, const LIMIT: usize> Bounded<T, LIMIT> {
         ensures { result ≡ [] }
     {
         Bounded {
-            items: Vec::new(alloc),
+            items: Items::new(alloc),
         }
     }
 
@@ -52,20 +53,26 @@ impl<T, const LIMIT: usize> Bounded<T, LIMIT> {
         if n == 0 {
             return None;
         }
-        self.items.get(usize::from(n) - 1)
+        self.items.as_slice().get(usize::from(n) - 1)
     }
 
-    /// The list of these items.
-    pub(crate) fn from_vec(items: Vec<T>) -> Self
+    /// The list of these items, which are at most as many as the limit.
+    pub fn from_vec(items: Vec<T>) -> Self
         requires { length items.items ≤ LIMIT }
         ensures { result ≡ items.items }
     {
-        Bounded { items }
+        Bounded {
+            items: Items::from_vec(items),
+        }
     }
 }
 
 impl<T: Drop, const LIMIT: usize> Bounded<T, LIMIT> {
-    /// Appends an item.
+    /// Adds an item at the end.
+    ///
+    /// # Errors
+    ///
+    /// `Full` where the list has as many items as its limit; out of memory. The list is as before.
     pub fn push(&mut self, item: T) -> Result<(), PushFault>
         ensures ok { OnOk result (self.new ≡ self.old ++ item ∷ []) }
         ensures full { IsErrOf result PushFault.Full ↔ (length self.old ≡ LIMIT) }
@@ -76,13 +83,17 @@ impl<T: Drop, const LIMIT: usize> Bounded<T, LIMIT> {
         }
         match self.items.push(item) {
             Ok(()) => Ok(()),
-            Err(_) => Err(PushFault::NoMemory),
+            Err(NoMemory) => Err(PushFault::NoMemory),
         }
     }
 }
 
 impl<T: Copy, const LIMIT: usize> Bounded<T, LIMIT> {
     /// A list of these items.
+    ///
+    /// # Errors
+    ///
+    /// `BadLength` where they are more than the limit; out of memory.
     pub fn from_slice(alloc: Global, items: &[T]) -> Result<Self, LimitFault>
         ensures kept { IfOk result (λ list. list ≡ items.now) }
         ensures bad_length { IsErrOf result LimitFault.BadLength ↔ LIMIT < length items.now }
@@ -91,75 +102,22 @@ impl<T: Copy, const LIMIT: usize> Bounded<T, LIMIT> {
         if items.len() > LIMIT {
             return Err(LimitFault::BadLength);
         }
-        match Vec::from_slice(alloc, items) {
+        match Items::from_slice(alloc, items) {
             Ok(items) => Ok(Bounded { items }),
-            Err(_) => Err(LimitFault::NoMemory),
+            Err(NoMemory) => Err(LimitFault::NoMemory),
         }
     }
 
     /// A list of the same items.
+    ///
+    /// # Errors
+    ///
+    /// Out of memory.
     pub fn copy(&self, alloc: Global) -> Result<Self, NoMemory>
         ensures { IfOk result (λ copy. copy ≡ self.now) }
     {
-        let items = Vec::from_slice(alloc, self.items.as_slice())?;
-        Ok(Bounded { items })
-    }
-}
-
-/// A list of bytes without a limit.
-#[derive(Drop)]
-pub struct ByteList {
-    bytes: Vec<u8>,
-}
-
-impl Model for ByteList {
-    ghost use Rattle.std.specs.Prelude.{List, ℕ};
-
-    ghost Value = { List ℕ };
-
-    ghost view = { λ list. list.bytes.items };
-}
-
-impl ByteList {
-    /// The empty list.
-    pub fn new(alloc: Global) -> Self
-        ensures { result ≡ [] }
-    {
-        ByteList {
-            bytes: Vec::new(alloc),
-        }
-    }
-
-    /// The bytes in order.
-    pub fn as_slice(&self) -> &[u8]
-        ensures { result.now ≡ self.now }
-    {
-        self.bytes.as_slice()
-    }
-
-    /// Appends a byte.
-    pub fn push(&mut self, byte: u8) -> Result<(), NoMemory>
-        ensures ok { OnOk result (self.new ≡ self.old ++ byte ∷ []) }
-        ensures err { OnErr result (self.new ≡ self.old) }
-    {
-        self.bytes.push(byte)?;
-        Ok(())
-    }
-
-    /// Appends these bytes.
-    pub fn extend(&mut self, bytes: &[u8]) -> Result<(), NoMemory>
-        ensures ok { OnOk result (self.new ≡ self.old ++ bytes.now) }
-        ensures err { OnErr result (self.new ≡ self.old) }
-    {
-        self.bytes.extend_from_slice(bytes)?;
-        Ok(())
-    }
-
-    /// Puts a byte in the place of the one that stands there.
-    pub fn set(&mut self, at: usize, byte: u8)
-        requires { at < length self.old }
-        ensures { self.new ≡ slice_set self.old at byte }
-    {
-        self.bytes[at] = byte;
+        Ok(Bounded {
+            items: self.items.copy(alloc)?,
+        })
     }
 }

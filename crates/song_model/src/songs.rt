@@ -5,24 +5,34 @@ ghost use Rattle.song_model.specs.Silence.{empty_song};
 ghost use Rattle.song_model.specs.LookUp.{with_table};
 
 use crate::{
-    Bounded, Instrument, InstrumentList, LimitFault, NoMemory, Pattern, PatternList, PushFault,
-    Subtune, SubtuneList, Table, TableName,
+    Bounded, Instrument, InstrumentList, LimitFault, MOST_INSTRUMENTS, MOST_PATTERNS,
+    MOST_SUBTUNES, Pattern, PatternList, PushFault, Subtune, SubtuneList, Table, TableName,
 };
+use base::NoMemory;
 use std::alloc::Global;
 
 /// A song. Its texts are kept as they are; nothing in it is renumbered or packed.
 #[derive(Drop)]
 pub struct Song {
+    /// Its name, 32 bytes.
     pub name: [u8; 32],
+    /// Its author's name.
     pub author: [u8; 32],
+    /// Who holds the copyright.
     pub copyright: [u8; 32],
+    /// Subtunes, counted from 0.
     pub subtunes: SubtuneList,
     /// Instrument 1 is the first one.
     pub instruments: InstrumentList,
+    /// The wave table.
     pub wave: Table,
+    /// The pulse table.
     pub pulse: Table,
+    /// The filter table.
     pub filter: Table,
+    /// The speed table.
     pub speed: Table,
+    /// Patterns, counted from 0.
     pub patterns: PatternList,
 }
 
@@ -45,10 +55,14 @@ impl Song {
         }
     }
 
-    /// Appends a subtune.
+    /// Adds a subtune at the end.
+    ///
+    /// # Errors
+    ///
+    /// `BadLength` where the song has 32; out of memory. The song is as before.
     pub fn add_subtune(&mut self, subtune: Subtune) -> Result<(), LimitFault>
         ensures ok { OnOk result (self.new ≡ record self.old { subtunes = self.old.subtunes ++ subtune ∷ [] }) }
-        ensures bad_length { IsErrOf result LimitFault.BadLength ↔ (length self.old.subtunes ≡ 32) }
+        ensures bad_length { IsErrOf result LimitFault.BadLength ↔ (length self.old.subtunes ≡ MOST_SUBTUNES) }
         ensures no_other { IfErr result (λ fault. (fault ≡ LimitFault.BadLength) ⊎ (fault ≡ LimitFault.NoMemory)) }
         ensures err { OnErr result (self.new ≡ self.old) }
     {
@@ -59,11 +73,14 @@ impl Song {
         }
     }
 
-    /// Appends an instrument. It is refused as `BadLength` where the song has 63, and else only for
-    /// want of memory; the song then stays as it was.
+    /// Adds an instrument at the end.
+    ///
+    /// # Errors
+    ///
+    /// `BadLength` where the song has 63; out of memory. The song is as before.
     pub fn add_instrument(&mut self, instrument: Instrument) -> Result<(), LimitFault>
         ensures ok { OnOk result (self.new ≡ record self.old { instruments = self.old.instruments ++ instrument ∷ [] }) }
-        ensures bad_length { IsErrOf result LimitFault.BadLength ↔ (length self.old.instruments ≡ 63) }
+        ensures bad_length { IsErrOf result LimitFault.BadLength ↔ (length self.old.instruments ≡ MOST_INSTRUMENTS) }
         ensures no_other { IfErr result (λ fault. (fault ≡ LimitFault.BadLength) ⊎ (fault ≡ LimitFault.NoMemory)) }
         ensures err { OnErr result (self.new ≡ self.old) }
     {
@@ -74,10 +91,14 @@ impl Song {
         }
     }
 
-    /// Appends a pattern.
+    /// Adds a pattern at the end.
+    ///
+    /// # Errors
+    ///
+    /// `BadLength` where the song has 208; out of memory. The song is as before.
     pub fn add_pattern(&mut self, pattern: Pattern) -> Result<(), LimitFault>
         ensures ok { OnOk result (self.new ≡ record self.old { patterns = self.old.patterns ++ pattern ∷ [] }) }
-        ensures bad_length { IsErrOf result LimitFault.BadLength ↔ (length self.old.patterns ≡ 208) }
+        ensures bad_length { IsErrOf result LimitFault.BadLength ↔ (length self.old.patterns ≡ MOST_PATTERNS) }
         ensures no_other { IfErr result (λ fault. (fault ≡ LimitFault.BadLength) ⊎ (fault ≡ LimitFault.NoMemory)) }
         ensures err { OnErr result (self.new ≡ self.old) }
     {
@@ -100,7 +121,11 @@ impl Song {
         }
     }
 
-    /// An equal song. `NoMemory` is the one refusal.
+    /// An equal song.
+    ///
+    /// # Errors
+    ///
+    /// Out of memory.
     pub fn copy(&self, alloc: Global) -> Result<Song, NoMemory>
         ensures { IfOk result (λ copy. copy ≡ self.now) }
     {

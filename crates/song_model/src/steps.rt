@@ -2,7 +2,7 @@
 
 ghost use Rattle.std.specs.Prelude.{◌≡◌, ℕ, ◌+◌, ◌<◌, ◌≤◌, ◌↔◌, length, slice_index, slice_index_or, IsTrue};
 ghost use Rattle.song_model.specs.Walk.{transpose_after, repeat_after, no_step, played};
-ghost use Rattle.song_model.specs.Sound.{IsSound, IsPatternByte};
+ghost use Rattle.song_model.specs.Endless.{IsEndless, IsPatternByte};
 ghost use Rattle.song_model.specs.Places.{first_place, restarted, place_of};
 ghost use Rattle.song_model.specs.WalkRest.{plays_from, places_from, coming_plays, coming_places, IsSameRest, IsOnWalk};
 
@@ -11,7 +11,7 @@ use crate::{Order, OrderPlace, Step};
 impl Order {
     /// Whether the restart position is the place of an entry, and a pattern stands from there to the end.
     pub fn sound(&self) -> bool
-        ensures { IsTrue result ↔ IsSound self.now }
+        ensures { IsTrue result ↔ IsEndless self.now }
     {
         let entries = self.entries.as_slice();
         let restart = usize::from(self.restart);
@@ -31,10 +31,10 @@ impl Order {
     }
 
     /// The play at a place that `first` or `step` has given, and the place of the play after it.
-    /// While a pattern has plays left the place stays on it, and the repeat is one less; behind the
+    /// While a pattern has plays left the place stays on it, and the repeat is one less; after the
     /// last entry it is the restart position.
     pub fn step(&self, at: OrderPlace) -> (Step, OrderPlace)
-        requires sound { IsSound self.now }
+        requires endless { IsEndless self.now }
         requires place { (i : ℕ) × (at ≡ place_of self.now i) }
         ensures step { (i : ℕ) → at ≡ place_of self.now i → result.0 ≡ played self.now i }
         ensures place { (i : ℕ) → at ≡ place_of self.now i → result.1 ≡ place_of self.now (i + 1) }
@@ -57,7 +57,7 @@ impl Order {
 
     /// The place of the next pattern, in this round or in the next one.
     fn next_pattern(&self, at: OrderPlace) -> OrderPlace
-        requires sound { IsSound self.now }
+        requires endless { IsEndless self.now }
         requires on_walk { IsOnWalk self.now at }
         ensures inside { result.place < length self.now.entries }
         ensures pattern { IsPatternByte (slice_index self.now.entries result.place) }

@@ -1,7 +1,7 @@
 use Rattle.std.proofs.Common.{◌≡◌, rules}
 use Rattle.song_model.specs.Silence.{rest_row}
 use Rattle.song_model.specs.PatternLimits.{IsRow}
-use Rattle.song_model.proofs.FirstBad.{none_bad, same_first_bad}
+use Rattle.base.proofs.Laws.{none_bad, same_first_bad}
 use Rattle.song_model.proofs.patterns.Pattern.from_rows.Goals as goal
 
 pub returns-in-Some-clause-bad_item : goal.returns-in-Some-clause-bad_item
