@@ -55,7 +55,7 @@ pub filter_follows_lem : FilterFollows
 unfolding prefix_of cycle_of played playable_subtune instrument_at table_row pattern_at freq half_tone slide next_row porta_up porta_down tone vibrato do_command filter_step between_rows note_started row_command at_row tick_step wave_command wave_step effect_step pulse_step fetch_row voice_step voice_registers filter_registers frame_of state_after_with trace
 filter_follows_lem = record { set = refl; slides = refl }
 
--- the registers of so many calls in one run, which doesn't begin anew for each call
+-- the registers of n calls in one go, which doesn't begin anew for each call
 unfoldable pub calls_from : Options → Song → ℕ → ℕ → FrameState → List (List ℕ)
 calls_from o song k zero x = []
 calls_from o song k (suc n) x = let f = frame_with o song k x in f.registers ∷ calls_from o song k n f.state

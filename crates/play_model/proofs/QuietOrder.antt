@@ -10,14 +10,14 @@ use Rattle.song_model.specs.declared.songs.Song.{Song}
 use Rattle.song_model.specs.Silent.{IsSilentRow, IsSilentOrder}
 use Rattle.song_model.specs.Walk.{played}
 use Rattle.song_model.specs.LookUp.{pattern_at, pattern_row, zero_row}
-use Rattle.song_model.proofs.Walks.{plays_are_entries_lem, cycle_some}
+use Rattle.song_model.proofs.Laws.{plays_are_entries_lem, cycle_some}
 use Rattle.play_model.specs.LookUps.{look_ups_of}
 use Rattle.play_model.proofs.QuietVoice.{IsQuietRow, IsQuietOrder}
 
 quiet_silent : (row : Row) → IsSilentRow row → IsQuietRow row
 quiet_silent row s = record { note = inl s.note; instrument = s.instrument; command = s.command }
 
--- a row of silent rows, or the zero row behind them
+-- a row of silent rows, or the zero row after them
 quiet_row_of : (rows : List Row) (place : ℕ) → All IsSilentRow rows → IsQuietRow (pattern_row rows place)
 quiet_row_of rows place silent =
     elim (cases_lt place (length rows)) [

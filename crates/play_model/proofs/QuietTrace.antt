@@ -3,18 +3,20 @@ use Rattle.std.specs.Prelude.{◌==◌, if◌then◌else◌}
 use Rattle.std.proofs.Common.{◌≡◌, ℕ, zero, suc, ◌<◌, true, slice_get, unwrap_or, filter, List, [], ◌∷◌, length, replicate, All, refl, arith, add-one}
 use Rattle.std.proofs.lemmas.Bool.Decides.{nat_tests}
 use Rattle.std.proofs.lemmas.List.Elements.{All-head}
+pub use Rattle.song_model.proofs.Laws.{silent_is_playable}
 use Rattle.song_model.specs.declared.rows.Row.{Row}
 use Rattle.song_model.specs.declared.orders.Order.{Order}
 use Rattle.song_model.specs.declared.orders.Subtune.{Subtune}
 use Rattle.song_model.specs.declared.songs.Song.{Song}
 use Rattle.song_model.specs.Silent.{IsSilentSubtune, IsSilent}
-use Rattle.song_model.specs.LookUp.{has_entries, is_playable_subtune, playable_subtune, order_of, void_subtune}
+use Rattle.song_model.specs.LookUp.{is_playable_subtune, playable_subtune, order_of, void_subtune}
 use Rattle.play_model.specs.declared.options.Options.{Options}
 use Rattle.play_model.specs.LookUps.{LookUps, look_ups_of}
 use Rattle.play_model.specs.State.{Voice, Common, FrameState, Playing, no_options, start_state, voice_of, playing_of, with_playing}
 use Rattle.play_model.specs.Frame.{Framed, voice_registers, filter_registers, voice_step, voice_done, voices_done, framed, frame_of, subtune_at, state_after_with, trace}
 use Rattle.play_model.specs.SilentTrace.{silent_registers, SilentSongsAreSilent}
-use Rattle.play_model.proofs.QuietVoice.{IsQuietVoice, IsQuietCommon, IsQuiet, NoInstruments, IsQuietOrder, chosen, no_instrument, filter_rests, quiet_voice}
+use Rattle.play_model.proofs.Choices.{chosen}
+use Rattle.play_model.proofs.QuietVoice.{IsQuietVoice, IsQuietCommon, IsQuiet, NoInstruments, IsQuietOrder, no_instrument, filter_rests, quiet_voice}
 use Rattle.play_model.proofs.QuietOrder.{quiet_order}
 
 record IsQuietState (state : FrameState) : Type 0 where
@@ -105,20 +107,12 @@ unfolding trace
 quiet_trace song k n s =
     (quiet_frame no_options (look_ups_of song) (subtune_at song k) (state_after_with no_options song k n) s.instruments s.subtune (quiet_after song k n s)).registers
 
-entries_there : (order : Order) → 0 < length order.entries → has_entries order ≡ true
-entries_there order h = grind (arith, nat_tests)
-
 quiet_subtune : (song : Song) (subtune : Subtune) → IsSilentSubtune song.patterns subtune → IsQuietSubtune (look_ups_of song) subtune
 quiet_subtune song subtune s = record {
   one = quiet_order song subtune.one s.one;
   two = quiet_order song subtune.two s.two;
   three = quiet_order song subtune.three s.three;
 }
-
--- a silent subtune can be played
-pub silent_is_playable : (patterns : List (List Row)) (subtune : Subtune) → IsSilentSubtune patterns subtune → is_playable_subtune subtune ≡ true
-silent_is_playable patterns subtune s =
-    rw (entries_there subtune.one s.one.entry, entries_there subtune.two s.two.entry, entries_there subtune.three s.three.entry)
 
 -- the one subtune of a silent song is its first playable one
 the_subtune : (patterns : List (List Row)) (subtunes : List Subtune) → length subtunes ≡ 1 → All (IsSilentSubtune patterns) subtunes →

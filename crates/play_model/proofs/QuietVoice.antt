@@ -17,6 +17,7 @@ use Rattle.play_model.specs.WaveStep.{wave_step}
 use Rattle.play_model.specs.EffectStep.{effect_step}
 use Rattle.play_model.specs.PulseStep.{pulse_step}
 use Rattle.play_model.specs.FetchRow.{row_taken, row_moved, row_done, fetch_row}
+use Rattle.play_model.proofs.Choices.{chosen}
 use Rattle.play_model.specs.Frame.{pulse_done, effect_done, after_tick, row_fetched, voice_step}
 
 -- a voice without a note, a command or a program
@@ -50,11 +51,6 @@ pub record IsQuietRow (row : Row) : Type 0 where
   pub note : (row.note ≡ 0xBD) ⊎ (row.note ≡ 0)
   pub instrument : row.instrument ≡ 0
   pub command : row.command ≡ 0
-
--- what holds of both sides holds of the one that is chosen
-pub chosen : {X : Type 0} (P : X → Type 0) (z : Bool) (x y : X) → P x → P y → P (cond z x y)
-chosen P true x y p q = p
-chosen P false x y p q = q
 
 -- where no instrument is stored, each is zero
 abbrev pub NoInstruments : LookUps → Type 0

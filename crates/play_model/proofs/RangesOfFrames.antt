@@ -9,6 +9,7 @@ use Rattle.std.proofs.lemmas.List.Elements.{All-nil, All-cons, All-append, All-r
 use Rattle.std.proofs.lemmas.Nat.{or_of_8}
 use Rattle.base.specs.Bytes.{IsByte, AreBytes}
 use Rattle.base.proofs.Laws.{and_small, half_small}
+use Rattle.song_model.proofs.Laws.{instrument_in_range, table_row_in_range, pattern_rows_in_range}
 use Rattle.song_model.specs.declared.rows.Row.{Row}
 use Rattle.song_model.specs.declared.orders.Order.{Order}
 use Rattle.song_model.specs.declared.orders.Subtune.{Subtune}
@@ -17,10 +18,9 @@ use Rattle.song_model.specs.declared.tables.TableRow.{TableRow}
 use Rattle.song_model.specs.declared.tables.TableName.{TableName}
 use Rattle.song_model.specs.declared.tables.TableName.TheVariants.{Wave, Pulse, Filter, Speed}
 use Rattle.song_model.specs.declared.songs.Song.{Song}
-use Rattle.song_model.specs.Basics.{KeepsLimit}
-use Rattle.song_model.specs.PatternLimits.{IsRow, IsPattern}
-use Rattle.song_model.specs.Limits.{IsText, IsInstrument, IsTableRow, IsTable, KeepsLimits}
-use Rattle.song_model.specs.LookUp.{numbered, zero_instrument, instrument_at, zero_table_row, table_of, table_row, pattern_at, zero_row, pattern_row, order_of}
+use Rattle.song_model.specs.PatternLimits.{IsRow}
+use Rattle.song_model.specs.Limits.{KeepsLimits}
+use Rattle.song_model.specs.LookUp.{pattern_at, zero_row, pattern_row, order_of}
 use Rattle.play_model.specs.declared.options.Options.{Options}
 use Rattle.play_model.specs.Speeds.{IsSpeed}
 use Rattle.play_model.specs.LookUps.{LookUps, look_ups_of}
@@ -30,7 +30,7 @@ use Rattle.play_model.specs.FilterStep.{filter_step}
 use Rattle.play_model.specs.FetchRow.{transposed}
 use Rattle.play_model.specs.Frame.{voice_step, voice_registers, filter_registers, filter_done, voice_done, voices_done, framed, frame_of, subtune_at, state_after_with, trace_with}
 use Rattle.play_model.specs.RangeLaws.{RulesKeepRanges, FramesKeepRanges, SongsKeepRanges, RangesAreKept, FrameRangesAreKept, StartIsInRange, SongRangesAreKept, TransposesWrap}
-use Rattle.play_model.proofs.QuietVoice.{chosen}
+use Rattle.play_model.proofs.Choices.{chosen}
 use Rattle.play_model.proofs.RangesOfSteps.{filter_keeps, effect_keeps, pulse_keeps, fetch_keeps}
 use Rattle.play_model.proofs.RangesOfVoices.{tick_keeps, wave_keeps, voice_keeps}
 
@@ -155,33 +155,6 @@ start_lem o s = record {
 }
 
 -- what a song within its limits has under a number
-zero_instrument_in_range : IsInstrument zero_instrument
-zero_instrument_in_range = record {
-  ad = lit< tt; sr = lit< tt; wave = lit< tt; pulse = lit< tt; filter = lit< tt; vibrato = lit< tt;
-  vibrato_delay = lit< tt; gate_timer = lit< tt; first_wave = lit< tt;
-  name = record { count = refl; each = All-replicate IsByte 16 0 (lit< tt) };
-}
-
-zero_table_row_in_range : IsTableRow zero_table_row
-zero_table_row_in_range = record { left = lit< tt; right = lit< tt }
-
--- an item of a list, or the one that is found past its end
-item_or_zero : {X : Type 0} (P : X → Type 0) (items : List X) (n : ℕ) (d : X) → All P items → P d → P (get_or items n d)
-item_or_zero P items n d each zero_one =
-    elim (cases_lt n (length items)) [
-      | inl inside ↦ All-get_or P items n d inside each
-      | inr past ↦ rw (get_or_past items n d past) zero_one
-    ]
-
-numbered_or_zero : {X : Type 0} (P : X → Type 0) (items : List X) (n : ℕ) (d : X) → All P items → P d → P (numbered items n d)
-numbered_or_zero P items n d each zero_one = chosen P (n == 0) d (get_or items (n - 1) d) zero_one (item_or_zero P items (n - 1) d each zero_one)
-
-table_rows : (song : Song) (name : TableName) → KeepsLimits song → All IsTableRow (table_of song name)
-table_rows song Wave limits = limits.wave.each
-table_rows song Pulse limits = limits.pulse.each
-table_rows song Filter limits = limits.filter.each
-table_rows song Speed limits = limits.speed.each
-
 row_bytes : (row : Row) → IsRow row → IsBytesRow row
 row_bytes row r =
     let note = r.note_to in
@@ -199,19 +172,11 @@ rows_or_zero rows place each =
       | inr past ↦ rw (get_or_past rows place zero_row past) zero_row_bytes
     ]
 
-stored_rows : (patterns : List (List Row)) (n : ℕ) → All IsPattern patterns → All IsRow (get_or patterns n [])
-stored_rows patterns n each =
-    elim (cases_lt n (length patterns)) [
-      | inl inside ↦ (All-get_or IsPattern patterns n [] inside each).each
-      | inr past ↦ rw (get_or_past patterns n [] past) (All-nil IsRow)
-    ]
-
 pub song_look_ups : (song : Song) → KeepsLimits song → AreLookUps (look_ups_of song)
-unfolding instrument_at table_row pattern_at
 song_look_ups song limits = record {
-  instrument = λ n. numbered_or_zero IsInstrument song.instruments n zero_instrument limits.instruments.each zero_instrument_in_range;
-  row = λ name p. numbered_or_zero IsTableRow (table_of song name) p zero_table_row (table_rows song name limits) zero_table_row_in_range;
-  rows = λ n place. rows_or_zero _ place (stored_rows song.patterns n limits.patterns.each);
+  instrument = λ n. instrument_in_range song n limits;
+  row = λ name p. table_row_in_range song name p limits;
+  rows = λ n place. rows_or_zero _ place (pattern_rows_in_range song n limits);
 }
 
 song_state : (o : Options) (song : Song) (k n : ℕ) → IsSpeed o.speed → AreLookUps (look_ups_of song) → IsFrameState (state_after_with o song k n)

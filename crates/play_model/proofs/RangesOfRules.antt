@@ -22,7 +22,7 @@ use Rattle.play_model.specs.Wrap.{byte_plus, byte_minus, freq_plus, freq_minus, 
 use Rattle.play_model.specs.Freq.{freq, slide, highest_octave}
 use Rattle.play_model.specs.Helpers.{next_row, porta_up, porta_down, at_target, towards, tone_by, tone, swung, vibrato, do_command}
 use Rattle.play_model.specs.FetchRow.{transposed}
-use Rattle.play_model.proofs.QuietVoice.{chosen}
+use Rattle.play_model.proofs.Choices.{chosen}
 
 -- numbers that wrap
 pub wraps : (n : ℕ) → IsByte (n % 256)

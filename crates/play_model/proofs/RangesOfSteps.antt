@@ -25,7 +25,7 @@ use Rattle.play_model.specs.EffectStep.{instrument_vibrato, effect_step}
 use Rattle.play_model.specs.PulseStep.{pulse_set, pulse_moved, pulse_slide, pulse_row, pulse_step}
 use Rattle.play_model.specs.FetchRow.{row_taken, gate_keyed, is_note, transposed, gate_shut, note_waits, row_moved, row_done, fetched_from, fetch_row}
 use Rattle.play_model.specs.Frame.{effect_done, pulse_done, row_fetched, after_tick, voice_step}
-use Rattle.play_model.proofs.QuietVoice.{chosen}
+use Rattle.play_model.proofs.Choices.{chosen}
 use Rattle.play_model.proofs.RangesOfRules.{wraps, smaller, freq_small, transposed_small, next_small, up_keeps, down_keeps, tone_keeps, vibrato_keeps, command_keeps}
 
 zero_small : IsByte 0

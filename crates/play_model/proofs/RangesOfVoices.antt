@@ -20,7 +20,7 @@ use Rattle.play_model.specs.EffectStep.{effect_step}
 use Rattle.play_model.specs.PulseStep.{pulse_step}
 use Rattle.play_model.specs.FetchRow.{fetch_row}
 use Rattle.play_model.specs.Frame.{effect_done, pulse_done, row_fetched, after_tick, voice_step}
-use Rattle.play_model.proofs.QuietVoice.{chosen}
+use Rattle.play_model.proofs.Choices.{chosen}
 use Rattle.play_model.proofs.RangesOfRules.{wraps, smaller, freq_small, next_small, up_keeps, down_keeps, tone_keeps, vibrato_keeps, command_keeps}
 use Rattle.play_model.proofs.RangesOfSteps.{effect_keeps, pulse_keeps, fetch_keeps}
 

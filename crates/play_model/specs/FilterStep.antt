@@ -7,7 +7,7 @@ use Rattle.play_model.specs.Wrap.{byte_plus, byte_minus}
 use Rattle.play_model.specs.State.{Common}
 use Rattle.play_model.specs.Helpers.{next_row}
 
--- a row with left side $80 or more sets the filter's kind and its control; a row $00 behind it
+-- a row with left side $80 or more sets the filter's kind and its control; a row $00 after it
 -- belongs to it and sets the cutoff
 abbrev pub filter_set : LookUps → TableRow → TableRow → Common → Common
 filter_set look row following c =

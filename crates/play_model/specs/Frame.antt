@@ -93,7 +93,7 @@ subtune_at song k = unwrap_or (playable_subtune song k) void_subtune
 abbrev pub frame_with : Options → Song → ℕ → FrameState → Framed
 frame_with o song k x = frame_of o (look_ups_of song) (subtune_at song k) x
 
--- the state after so many frames
+-- the state after n frames
 unfoldable pub state_after_with : Options → Song → ℕ → ℕ → FrameState
 state_after_with o song k zero = start_state o
 state_after_with o song k (suc n) = (frame_with o song k (state_after_with o song k n)).state

@@ -9,12 +9,12 @@ use Rattle.play_model.specs.Wrap.{byte_plus, freq_plus, freq_minus, distance}
 use Rattle.play_model.specs.Freq.{freq, slide}
 use Rattle.play_model.specs.State.{Voice, Playing}
 
--- behind row p: row p + 1, but where that is a jump (left side $FF) the row that the jump names
-abbrev pub behind : TableRow → ℕ → ℕ
-behind following p = if following.left == 0xFF then following.right else byte_plus p 1
+-- after row p: row p + 1, but where that is a jump (left side $FF) the row that the jump names
+abbrev pub row_after : TableRow → ℕ → ℕ
+row_after following p = if following.left == 0xFF then following.right else byte_plus p 1
 
 unfoldable pub next_row : LookUps → TableName → ℕ → ℕ
-next_row look name p = behind (look.row name (p + 1)) p
+next_row look name p = row_after (look.row name (p + 1)) p
 
 -- the frequency rises by the speed
 unfoldable pub porta_up : LookUps → ℕ → Voice → Voice

@@ -1,9 +1,9 @@
+-- To believe: what is kept from frame to frame, what is looked up, the rules, and the frame and the trace.
 pub mod Wrap
 pub mod Freq
 pub mod Speeds
 pub mod LookUps
 pub mod State
-pub mod Ranges
 pub mod Helpers
 pub mod FilterStep
 pub mod TickStep
@@ -12,13 +12,20 @@ pub mod EffectStep
 pub mod PulseStep
 pub mod FetchRow
 pub mod Frame
-pub mod TraceLaws
+
+-- Claimed: ranges, the length of a trace, and what silent songs sound like.
+pub mod Ranges
 pub mod RangeLaws
+pub mod TraceLaws
 pub mod SilentTrace
+
+-- Claimed: frames of small songs, worked out by hand.
 pub mod WorkedFrequencies
 pub mod WorkedSongs
 pub mod WorkedRuns
 pub mod WorkedFrames
+
+-- Claimed: frames of small songs by another reading of the rules; bench/worked_frames.py writes these files.
 pub mod WorkedCorners
 pub mod WorkedEdges
 pub mod WorkedTunes

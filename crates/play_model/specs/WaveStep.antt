@@ -44,14 +44,14 @@ wave_note right note = if nat_lt right 0x80 then (right + note) % 128 else right
 abbrev pub with_note : ℕ → Voice → Voice
 with_note n v = record v { freq = freq n; last_note = n; vib_time = 0 }
 
--- behind a command the effect rests; $80 keeps the note and lets the effect run
+-- after a command the effect rests; $80 keeps the note and lets the effect run
 abbrev pub right_done : TableRow → Playing → Waved
 right_done row s =
     if is_wave_command row then record { playing = s; effect = false }
     else if row.right == 0x80 then record { playing = s; effect = true }
     else record { playing = record s { voice = with_note (wave_note row.right s.voice.note) s.voice }; effect = false }
 
--- a left side below $10 is a delay of so many frames
+-- a left side below $10 is a delay of as many frames
 abbrev pub wave_row : LookUps → TableRow → Playing → Waved
 wave_row look row s =
     if nat_lt row.left 0x10 && not (s.voice.wave_time == row.left)

@@ -32,12 +32,12 @@ pub record LowNoteIsMute : Type 0 where
 abbrev pub VibratoWraps : Type 0
 VibratoWraps = from_call (frequency_at wrapping_note) 8 6 ≡ 0xFFFF ∷ 0 ∷ 0xFFFF ∷ 0xFFFE ∷ 0xFFFF ∷ 0 ∷ []
 
--- the slide stops at its target, which a tie note keeps; behind another note a tie note has its frequency at once
+-- the slide stops at its target, which a tie note keeps; after another note a tie note has its frequency at once
 pub record SlideStops : Type 0 where
   pub slides : from_call (frequency_at sliding_note) 8 12 ≡ replicate 5 0x1168 ++ replicate 7 0x1389
   pub tied : from_call (frequency_at tied_note) 8 7 ≡ replicate 5 0x1168 ++ replicate 2 0x1389
 
--- a funk value of 0 frames wraps, and the row behind it is never fetched
+-- a funk value of 0 frames wraps, and the row after it is never fetched
 pub record FunkTempoWraps : Type 0 where
   pub one : from_call (λ call. (state_after funk_song 0 call).common.funk_one) 7 3 ≡ replicate 3 255
   pub two : from_call (λ call. (state_after funk_song 0 call).common.funk_two) 7 3 ≡ replicate 3 0
@@ -62,7 +62,7 @@ pub record VibratoChangesAlone : Type 0 where
   pub before : frequency_at other_vibrato 12 ≡ 0x1168
   pub after : frequency_at other_vibrato 13 ≡ 0x1178
 
--- the filter's registers follow one frame behind the note
+-- the filter's registers follow one frame after the note
 pub record FilterFollows : Type 0 where
   pub set : drop 21 (trace small_song 0 8) ≡ 0 ∷ 0x20 ∷ 0xF1 ∷ 0x1F ∷ []
   pub slides : drop 21 (trace small_song 0 9) ≡ 0 ∷ 0x21 ∷ 0xF1 ∷ 0x1F ∷ []

@@ -32,12 +32,12 @@ instrument ad sr wave pulse filter vibrato vibrato_delay gate_timer first_wave =
 abbrev pub left_out : Bool → Bool → ℕ → Options
 left_out effects pulse speed = record { skip_effects = effects; skip_pulse = pulse; speed = speed }
 
--- something of so many calls, from this one on
+-- something of n calls, from this one on
 abbrev pub from_call : {X : Type 0} → (ℕ → X) → ℕ → ℕ → List X
 from_call of call zero = []
 from_call of call (suc n) = of call ∷ from_call of (call + 1) n
 
--- the digits of a number to the base 256, so many, the highest first
+-- as many digits of a number to the base 256, the highest first
 abbrev pub digits : ℕ → ℕ → List ℕ
 digits zero n = []
 digits (suc count) n = n / 256 ^ count % 256 ∷ digits count n

@@ -97,7 +97,7 @@ funk_song = record (with_rows (row 0xBD 0 0xE 1 ∷ row 0x90 1 0 0 ∷ []) one_n
   speed = sides 0 1 ∷ [];
 }
 
--- a rest behind the note
+-- a rest after the note
 abbrev pub long_note : Song
 long_note = with_rows (row 0x90 1 0 0 ∷ rests 1) one_note
 

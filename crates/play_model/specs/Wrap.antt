@@ -27,7 +27,7 @@ pulse_plus a b = plus 4096 a b
 abbrev pub pulse_minus : ℕ → ℕ → ℕ
 pulse_minus a b = minus 4096 a b
 
--- shifted right by so many bits
+-- shifted right by this many bits
 abbrev pub shifted_right : ℕ → ℕ → ℕ
 shifted_right n bits = n / 2 ^ bits
 

@@ -131,7 +131,7 @@ pub fn worked_periods()
     ensures { WorkedPeriodsHold }
 {}
 
-/// Later subtunes, behind ones that have an empty orderlist.
+/// Subtunes of songs as musicians keep them, with several instruments and all tables.
 #[tactic(auto, using(crate::proofs::WorkedSubtunes::worked_subtunes_lem))]
 pub fn worked_subtunes()
     ensures { WorkedSubtunesHold }

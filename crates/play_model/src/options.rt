@@ -28,7 +28,7 @@ impl Model for Speed {
 }
 
 impl Speed {
-    /// The speed of so many play calls; none for 0 and above 4.
+    /// The speed of this many play calls; none for 0 and above 4.
     pub fn new(calls: u8) -> Option<Speed>
         ensures none { IsNone result ↔ ¬ IsSpeed calls }
         ensures some { IfSome result (λ speed. speed ≡ calls) }

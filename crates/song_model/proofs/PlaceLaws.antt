@@ -37,10 +37,10 @@ one_more : (entries : List ℕ) (x : Step) (y : OrderPlace) (xs : List Step) (ys
 one_more entries x y xs ys t r first others zero h = first
 one_more entries x y xs ys t r first others (suc i) h = others.each i (omega arith)
 
--- a byte of an orderlist, and what is left behind it
+-- a byte of an orderlist, and what is left after it
 record IsByteAt (entries : List ℕ) (p byte : ℕ) (bytes : List ℕ) : Type 0 where
   here : drop p entries ≡ byte ∷ bytes
-  behind : drop (p + 1) entries ≡ bytes
+  left : drop (p + 1) entries ≡ bytes
   inside : p < length entries
 
 -- the plays of a pattern, the last of which is the first here
@@ -51,10 +51,10 @@ pattern_stands entries bytes byte p t zero at low others = record {
   each = one_more entries (play_of byte t) (place_at (p + 1) t 0) (walk_plays bytes t 0) (walk_places bytes (p + 1) t 0) (end_transpose bytes t) (end_repeat bytes 0)
       (record {
         inside = omega (arith, at.inside);
-        plays = rw at.behind refl;
-        places = rw at.behind refl;
-        transpose = rw at.behind refl;
-        repeat = rw at.behind refl;
+        plays = rw at.left refl;
+        places = rw at.left refl;
+        transpose = rw at.left refl;
+        repeat = rw at.left refl;
       }) others;
 }
 pattern_stands entries bytes byte p t (suc q) at low others = record {
@@ -73,11 +73,11 @@ pattern_stands entries bytes byte p t (suc q) at low others = record {
 byte_at : (entries bytes : List ℕ) (byte p : ℕ) → drop p entries ≡ byte ∷ bytes → IsByteAt entries p byte bytes
 byte_at [] bytes byte zero e = (cc)
 byte_at [] bytes byte (suc p) e = (cc)
-byte_at (x ∷ entries) bytes byte zero e = record { here = e; behind = (cc); inside = omega arith }
+byte_at (x ∷ entries) bytes byte zero e = record { here = e; left = (cc); inside = omega arith }
 byte_at (x ∷ entries) bytes byte (suc p) e =
     let inner = byte_at entries bytes byte p e in record {
       here = e;
-      behind = rw add-one (rw add-one at inner.behind);
+      left = rw add-one (rw add-one at inner.left);
       inside = omega (arith, inner.inside);
     }
 
@@ -96,7 +96,7 @@ walk_stands : (entries bytes : List ℕ) (p : ℕ) (t : ℤ) (r : ℕ) → drop 
 walk_stands entries [] p t r e = no_plays entries t r
 walk_stands entries (byte ∷ bytes) p t r e =
     let here = byte_at entries bytes byte p e in
-    byte_stands entries bytes byte p t r (ltb byte 0xD0) refl here (λ t r. walk_stands entries bytes (p + 1) t r here.behind)
+    byte_stands entries bytes byte p t r (ltb byte 0xD0) refl here (λ t r. walk_stands entries bytes (p + 1) t r here.left)
 
 -- there are as many places as plays
 pattern_count : (p : ℕ) (t : ℤ) (r : ℕ) → length (places_of_pattern p t r) ≡ r + 1
@@ -260,7 +260,7 @@ bare_play order i = unrolled (prefix_of order) (cycle_of order) no_step i
 some_places : (order : Order) → IsEndless order → 0 < length (cycle_places order)
 some_places order endless = omega (arith, cycle_count order, endless_cycle order endless)
 
--- behind a play of the prefix
+-- after a play of the prefix
 comes_in_prefix : (order : Order) → IsEndless order → (j : ℕ) → j < length (prefix_of order) →
     ComesNext order (restarted order (bare_place order j)) (bare_play order (suc j)) (bare_place order (suc j))
 comes_in_prefix order endless j h =
@@ -274,7 +274,7 @@ comes_in_prefix order endless j h =
     (next_of_prefix (prefix_of order) (cycle_of order) no_step (suc j) (omega arith) (endless_cycle order endless))
     (next_of_prefix (prefix_places order) (cycle_places order) first_place (suc j) (omega arith) (some_places order endless))
 
--- behind a play of the cycle
+-- after a play of the cycle
 comes_in_cycle : (order : Order) → IsEndless order → (j m : ℕ) → length (prefix_of order) ≤ j → (j - length (prefix_of order)) % length (cycle_of order) ≡ m →
     ComesNext order (restarted order (bare_place order j)) (bare_play order (suc j)) (bare_place order (suc j))
 comes_in_cycle order endless j m h e =
@@ -291,8 +291,8 @@ comes_in_cycle order endless j m h e =
     (next_of_cycle (prefix_of order) (cycle_of order) no_step j m h some e)
     (next_of_cycle (prefix_places order) (cycle_places order) first_place j m above (some_places order endless) same)
 
-comes_behind : (order : Order) → IsEndless order → (j : ℕ) → ComesNext order (restarted order (bare_place order j)) (bare_play order (suc j)) (bare_place order (suc j))
-comes_behind order endless j =
+comes_after : (order : Order) → IsEndless order → (j : ℕ) → ComesNext order (restarted order (bare_place order j)) (bare_play order (suc j)) (bare_place order (suc j))
+comes_after order endless j =
     elim (cases_lt j (length (prefix_of order))) [
       | inl lt ↦ comes_in_prefix order endless j lt
       | inr ge ↦ comes_in_cycle order endless j ((j - length (prefix_of order)) % length (cycle_of order)) ge refl
@@ -308,7 +308,7 @@ comes_at order endless zero =
     (start_comes order) refl
     (next_of_prefix (prefix_of order) (cycle_of order) no_step 0 (omega arith) (endless_cycle order endless))
     (next_of_prefix (prefix_places order) (cycle_places order) first_place 0 (omega arith) (some_places order endless))
-comes_at order endless (suc j) = comes_behind order endless j
+comes_at order endless (suc j) = comes_after order endless j
 
 -- the place of the next play
 pub place_of_next : (order : Order) (i : ℕ) → place_of order (i + 1) ≡ restarted order (bare_place order i)

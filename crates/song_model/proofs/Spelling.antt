@@ -73,7 +73,7 @@ order_tells s t u v p q e =
     let apart : s.entries ++ 0xFF ∷ s.restart ∷ u ≡ t.entries ++ 0xFF ∷ t.restart ∷ v =
     sym (append_assoc s.entries (0xFF ∷ s.restart ∷ []) u) ∙ tail ∙ append_assoc t.entries (0xFF ∷ t.restart ∷ []) v in
     let one = split_append s.entries t.entries (0xFF ∷ s.restart ∷ u) (0xFF ∷ t.restart ∷ v) m apart in
-    let behind = one.1 in
+    let beyond = one.1 in
     let restart : s.restart ≡ t.restart = (cc) in
     let rest : u ≡ v = (cc) in
     let entries = one.0 in

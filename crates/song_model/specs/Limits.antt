@@ -13,7 +13,7 @@ use Rattle.song_model.specs.Basics.{IsByte, KeepsLimit}
 use Rattle.song_model.specs.PatternLimits.{IsPattern}
 use Rattle.song_model.specs.OrderLimits.{AreEntries}
 
--- a text of so many bytes
+-- a text of n bytes
 pub record IsText (n : ℕ) (text : List ℕ) : Type 0 where
   pub count : length text ≡ n
   pub each : All IsByte text

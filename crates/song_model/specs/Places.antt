@@ -10,7 +10,7 @@ abbrev pub first_place : OrderPlace
 first_place = record { place = 0; transpose = pos 0; repeat = 0 }
 
 -- After each play of the pattern at a place: while it has plays left the walk stays on it and the
--- repeat is one less, and after its last play the walk stands behind it.
+-- repeat is one less, and after its last play the walk stands after it.
 abbrev pub places_of_pattern : ℕ → ℤ → ℕ → List OrderPlace
 places_of_pattern place transpose zero = record { place = place + 1; transpose = transpose; repeat = 0 } ∷ []
 places_of_pattern place transpose (suc repeat) =

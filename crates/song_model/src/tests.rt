@@ -241,7 +241,7 @@ fn repeats_stay_over_the_restart(rt: HostRuntime) -> Result<(), Fail> {
 }
 
 #[test]
-fn sound_orderlists_have_a_pattern_behind_the_restart(rt: HostRuntime) -> Result<(), Fail> {
+fn sound_orderlists_have_a_pattern_after_the_restart(rt: HostRuntime) -> Result<(), Fail> {
     let cases = [
         ([0x00, 0xd1, 0xe4], 0, true),
         ([0x00, 0xd1, 0xe4], 1, false),
