@@ -21,7 +21,8 @@ use Rattle.play_model.specs.WorkedFrames.{OneNoteSounds, LowNoteIsMute, VibratoW
 
 pub one_note_sounds_lem : OneNoteSounds
 unfolding prefix_of cycle_of played playable_subtune instrument_at table_row pattern_at freq half_tone slide next_row porta_up porta_down tone vibrato do_command filter_step between_rows note_started row_command at_row tick_step wave_command wave_step effect_step pulse_step fetch_row voice_step voice_registers filter_registers frame_of state_after_with trace
-one_note_sounds_lem = record { silent = refl; fetched = refl; started = refl; sounds = refl; released = refl; again = refl }
+one_note_sounds_lem =
+    record { silent = refl; fetched = refl; started = refl; sounds = refl; released = refl; again = refl }
 
 pub low_note_is_mute_lem : LowNoteIsMute
 unfolding prefix_of cycle_of played playable_subtune instrument_at table_row pattern_at freq half_tone slide next_row porta_up porta_down tone vibrato do_command filter_step between_rows note_started row_command at_row tick_step wave_command wave_step effect_step pulse_step fetch_row voice_step voice_registers filter_registers frame_of state_after_with trace
@@ -66,7 +67,8 @@ unfolding calls_from state_after_with
 calls_are_traced o song k m zero = refl
 calls_are_traced o song k m (suc n) =
     rw (add-one (suc m))
-    (ap (λ calls. (frame_with o song k (state_after_with o song k m)).registers ∷ calls) (calls_are_traced o song k (suc m) n))
+    (ap (λ calls. (frame_with o song k (state_after_with o song k m)).registers ∷ calls)
+      (calls_are_traced o song k (suc m) n))
 
 -- so a run's registers are those of its calls
 pub plays : (o : Options) (song : Song) (k : ℕ) (lines : List ℕ) →
@@ -74,7 +76,8 @@ pub plays : (o : Options) (song : Song) (k : ℕ) (lines : List ℕ) →
 unfolding state_after_with
 plays o song k lines h = record { registers = calls_are_traced o song k 0 (length lines) ∙ h }
 
-long_run : calls_from no_options (with_gate_timer 0x3F one_note) 0 300 (start_state no_options) ≡ replicate 300 silent_registers
+long_run : calls_from no_options (with_gate_timer 0x3F one_note) 0 300 (start_state no_options)
+    ≡ replicate 300 silent_registers
 unfolding prefix_of cycle_of played playable_subtune instrument_at table_row pattern_at freq half_tone slide next_row porta_up porta_down tone vibrato do_command filter_step between_rows note_started row_command at_row tick_step wave_command wave_step effect_step pulse_step fetch_row voice_step voice_registers filter_registers frame_of calls_from
 long_run = refl
 

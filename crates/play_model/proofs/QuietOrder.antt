@@ -22,17 +22,22 @@ quiet_row_of : (rows : List Row) (place : ℕ) → All IsSilentRow rows → IsQu
 quiet_row_of rows place silent =
     elim (cases_lt place (length rows)) [
       | inl inside ↦ quiet_silent _ (silent place zero_row inside)
-      | inr past ↦ rw (get_or_past rows place zero_row past) (record { note = inr refl; instrument = refl; command = refl })
+      | inr past ↦
+          rw (get_or_past rows place zero_row past) (record { note = inr refl; instrument = refl; command = refl })
     ]
 
-silent_pattern : (song : Song) (order : Order) (byte : ℕ) → IsSilentOrder song.patterns order → Contains order.entries byte →
+silent_pattern : (song : Song) (order : Order) (byte : ℕ) → IsSilentOrder song.patterns order →
+    Contains order.entries byte →
     All IsSilentRow (pattern_at song byte)
 unfolding pattern_at
 silent_pattern song order byte s h =
     s.rows byte (get_or song.patterns byte []) h
-    (slice_get-get_or song.patterns byte [] (All-contains (λ b. b < length song.patterns) order.entries byte s.stored h))
+    (slice_get-get_or song.patterns byte []
+      (All-contains (λ b. b < length song.patterns) order.entries byte s.stored h))
 
-pub quiet_order : (song : Song) (order : Order) → IsSilentOrder song.patterns order → IsQuietOrder (look_ups_of song) order
+pub quiet_order : (song : Song) (order : Order) → IsSilentOrder song.patterns order →
+    IsQuietOrder (look_ups_of song) order
 quiet_order song order s = λ play place.
     quiet_row_of _ place
-    (silent_pattern song order (played order play).pattern s (plays_are_entries_lem order play (cycle_some order s.restart (s.plain order.restart 0 s.restart))))
+    (silent_pattern song order (played order play).pattern s
+      (plays_are_entries_lem order play (cycle_some order s.restart (s.plain order.restart 0 s.restart))))

@@ -51,45 +51,57 @@ quiet_playing channel x q = record {
   common = q.common;
 }
 
-quiet_put_back : (channel : ℕ) (s : Playing) (x : FrameState) → IsQuiet s → IsQuietState x → IsQuietState (with_playing channel s x)
+quiet_put_back : (channel : ℕ) (s : Playing) (x : FrameState) → IsQuiet s → IsQuietState x →
+    IsQuietState (with_playing channel s x)
 quiet_put_back channel s x p q =
     chosen IsQuietState (channel == 1) (record x { one = s.voice; common = s.common }) _
     (record { common = p.common; one = p.voice; two = q.two; three = q.three })
-    (chosen IsQuietState (channel == 2) (record x { two = s.voice; common = s.common }) (record x { three = s.voice; common = s.common })
+    (chosen IsQuietState (channel == 2) (record x { two = s.voice; common = s.common })
+      (record x { three = s.voice; common = s.common })
     (record { common = p.common; one = q.one; two = p.voice; three = q.three })
     (record { common = p.common; one = q.one; two = q.two; three = p.voice }))
 
-quiet_order_of : (channel : ℕ) (look : LookUps) (subtune : Subtune) → IsQuietSubtune look subtune → IsQuietOrder look (order_of channel subtune)
+quiet_order_of : (channel : ℕ) (look : LookUps) (subtune : Subtune) → IsQuietSubtune look subtune →
+    IsQuietOrder look (order_of channel subtune)
 quiet_order_of channel look subtune s =
     chosen (IsQuietOrder look) (channel == 1) subtune.one (if channel == 2 then subtune.two else subtune.three) s.one
     (chosen (IsQuietOrder look) (channel == 2) subtune.two subtune.three s.two s.three)
 
 quiet_voice_done : (channel : ℕ) (o : Options) (look : LookUps) (subtune : Subtune) (x : FrameState) →
-    NoInstruments look → IsQuietSubtune look subtune → IsQuietState x → IsQuietState (voice_done channel o look subtune x)
+    NoInstruments look → IsQuietSubtune look subtune → IsQuietState x →
+    IsQuietState (voice_done channel o look subtune x)
 quiet_voice_done channel o look subtune x h s q =
     quiet_put_back channel (voice_step channel o look (order_of channel subtune) (playing_of channel x)) x
-    (quiet_voice channel o look (order_of channel subtune) (playing_of channel x) h (quiet_order_of channel look subtune s) (quiet_playing channel x q)) q
+    (quiet_voice channel o look (order_of channel subtune) (playing_of channel x) h
+      (quiet_order_of channel look subtune s) (quiet_playing channel x q)) q
 
-quiet_framed : (x : FrameState) (filter : List ℕ) → filter ≡ 0 ∷ 0 ∷ 0 ∷ 15 ∷ [] → IsQuietState x → IsQuietFrame (framed filter x)
+quiet_framed : (x : FrameState) (filter : List ℕ) → filter ≡ 0 ∷ 0 ∷ 0 ∷ 15 ∷ [] → IsQuietState x →
+    IsQuietFrame (framed filter x)
 quiet_framed x filter f q = record {
   state = q;
-  registers = rw (f, quiet_voice_registers x.one q.one, quiet_voice_registers x.two q.two, quiet_voice_registers x.three q.three);
+  registers =
+      rw (f, quiet_voice_registers x.one q.one, quiet_voice_registers x.two q.two, quiet_voice_registers x.three q.three);
 }
 
-quiet_frame : (o : Options) (look : LookUps) (subtune : Subtune) (x : FrameState) → NoInstruments look → IsQuietSubtune look subtune →
+quiet_frame : (o : Options) (look : LookUps) (subtune : Subtune) (x : FrameState) → NoInstruments look →
+    IsQuietSubtune look subtune →
     IsQuietState x → IsQuietFrame (frame_of o look subtune x)
 unfolding frame_of
 quiet_frame o look subtune x h s q =
     rw (filter_rests look x.common q.common.filter_ptr)
     (quiet_framed (voices_done o look subtune x) (filter_registers x.common) (quiet_filter_registers x.common q.common)
-    (quiet_voice_done 3 o look subtune _ h s (quiet_voice_done 2 o look subtune _ h s (quiet_voice_done 1 o look subtune x h s q))))
+    (quiet_voice_done 3 o look subtune _ h s
+      (quiet_voice_done 2 o look subtune _ h s (quiet_voice_done 1 o look subtune x h s q))))
 
 quiet_start : IsQuietState (start_state no_options)
 quiet_start = record {
   common = record { filter_ptr = refl; filter_type = refl; filter_control = refl; cutoff = refl; volume = refl };
-  one = record { new_note = refl; new_command = refl; command = refl; param = refl; ad = refl; sr = refl; wave = refl; freq = refl; pulse = refl; wave_ptr = refl; pulse_ptr = refl };
-  two = record { new_note = refl; new_command = refl; command = refl; param = refl; ad = refl; sr = refl; wave = refl; freq = refl; pulse = refl; wave_ptr = refl; pulse_ptr = refl };
-  three = record { new_note = refl; new_command = refl; command = refl; param = refl; ad = refl; sr = refl; wave = refl; freq = refl; pulse = refl; wave_ptr = refl; pulse_ptr = refl };
+  one =
+      record { new_note = refl; new_command = refl; command = refl; param = refl; ad = refl; sr = refl; wave = refl; freq = refl; pulse = refl; wave_ptr = refl; pulse_ptr = refl };
+  two =
+      record { new_note = refl; new_command = refl; command = refl; param = refl; ad = refl; sr = refl; wave = refl; freq = refl; pulse = refl; wave_ptr = refl; pulse_ptr = refl };
+  three =
+      record { new_note = refl; new_command = refl; command = refl; param = refl; ad = refl; sr = refl; wave = refl; freq = refl; pulse = refl; wave_ptr = refl; pulse_ptr = refl };
 }
 
 record IsQuietSong (song : Song) (k : ℕ) : Type 0 where
@@ -100,14 +112,17 @@ quiet_after : (song : Song) (k n : ℕ) → IsQuietSong song k → IsQuietState 
 unfolding state_after_with
 quiet_after song k zero s = quiet_start
 quiet_after song k (suc n) s =
-    (quiet_frame no_options (look_ups_of song) (subtune_at song k) (state_after_with no_options song k n) s.instruments s.subtune (quiet_after song k n s)).state
+    (quiet_frame no_options (look_ups_of song) (subtune_at song k)
+      (state_after_with no_options song k n) s.instruments s.subtune (quiet_after song k n s)).state
 
 quiet_trace : (song : Song) (k n : ℕ) → IsQuietSong song k → trace song k (suc n) ≡ silent_registers
 unfolding trace
 quiet_trace song k n s =
-    (quiet_frame no_options (look_ups_of song) (subtune_at song k) (state_after_with no_options song k n) s.instruments s.subtune (quiet_after song k n s)).registers
+    (quiet_frame no_options (look_ups_of song) (subtune_at song k)
+      (state_after_with no_options song k n) s.instruments s.subtune (quiet_after song k n s)).registers
 
-quiet_subtune : (song : Song) (subtune : Subtune) → IsSilentSubtune song.patterns subtune → IsQuietSubtune (look_ups_of song) subtune
+quiet_subtune : (song : Song) (subtune : Subtune) → IsSilentSubtune song.patterns subtune →
+    IsQuietSubtune (look_ups_of song) subtune
 quiet_subtune song subtune s = record {
   one = quiet_order song subtune.one s.one;
   two = quiet_order song subtune.two s.two;
@@ -115,7 +130,8 @@ quiet_subtune song subtune s = record {
 }
 
 -- the one subtune of a silent song is its first playable one
-the_subtune : (patterns : List (List Row)) (subtunes : List Subtune) → length subtunes ≡ 1 → All (IsSilentSubtune patterns) subtunes →
+the_subtune : (patterns : List (List Row)) (subtunes : List Subtune) → length subtunes ≡ 1 →
+    All (IsSilentSubtune patterns) subtunes →
     IsSilentSubtune patterns (unwrap_or (slice_get (filter is_playable_subtune subtunes) 0) void_subtune)
 the_subtune patterns [] n s = absurd (omega arith)
 the_subtune patterns (subtune ∷ []) n s =

@@ -82,7 +82,8 @@ at_row_quiet : (channel : ℕ) (look : LookUps) (s : Playing) → IsQuiet s →
 unfolding at_row
 at_row_quiet channel look s q =
     rw (no_note zero_instrument (gate_timer_set zero_instrument s) q.voice.new_note)
-    (rw (no_command channel look zero_instrument s.voice.new_command s.voice.new_param (gate_timer_set zero_instrument s) q.voice.new_command)
+    (rw (no_command channel look zero_instrument s.voice.new_command s.voice.new_param
+      (gate_timer_set zero_instrument s) q.voice.new_command)
     (rw q.voice.new_note))
 
 -- the count of frames goes on, and nothing else
@@ -90,7 +91,8 @@ quiet_tick_field : (s : Playing) (tick : ℕ) → IsQuiet s → IsQuiet (record 
 quiet_tick_field s tick q = record { voice = search q.voice; common = q.common }
 
 quiet_common : (c : Common) (one two three funk_one funk_two time : ℕ) → IsQuietCommon c →
-    IsQuietCommon (record c { tempo_one = one; tempo_two = two; tempo_three = three; funk_one = funk_one; funk_two = funk_two; filter_time = time })
+    IsQuietCommon
+    (record c { tempo_one = one; tempo_two = two; tempo_three = three; funk_one = funk_one; funk_two = funk_two; filter_time = time })
 quiet_common c one two three funk_one funk_two time q = record {
   filter_ptr = q.filter_ptr;
   filter_type = q.filter_type;
@@ -101,7 +103,8 @@ quiet_common c one two three funk_one funk_two time q = record {
 
 quiet_tempo : (channel tempo : ℕ) (c : Common) → IsQuietCommon c → IsQuietCommon (with_tempo channel tempo c)
 quiet_tempo channel tempo c q =
-    chosen IsQuietCommon (channel == 1) (record c { tempo_one = tempo }) (if channel == 2 then record c { tempo_two = tempo } else record c { tempo_three = tempo })
+    chosen IsQuietCommon (channel == 1) (record c { tempo_one = tempo })
+    (if channel == 2 then record c { tempo_two = tempo } else record c { tempo_three = tempo })
     (quiet_common c tempo c.tempo_two c.tempo_three c.funk_one c.funk_two c.filter_time q)
     (chosen IsQuietCommon (channel == 2) (record c { tempo_two = tempo }) (record c { tempo_three = tempo })
     (quiet_common c c.tempo_one tempo c.tempo_three c.funk_one c.funk_two c.filter_time q)
@@ -148,22 +151,28 @@ pub record IsQuietTick (t : Ticked) : Type 0 where
   pub playing : IsQuiet t.playing
   pub started : t.started ≡ false
 
-quiet_row : (channel : ℕ) (look : LookUps) (s : Playing) → IsQuiet s → IsQuietTick (at_row channel look zero_instrument s)
+quiet_row : (channel : ℕ) (look : LookUps) (s : Playing) → IsQuiet s →
+    IsQuietTick (at_row channel look zero_instrument s)
 quiet_row channel look s q = rw (at_row_quiet channel look s q) (record {
   playing = record { voice = search q.voice; common = q.common };
   started = refl;
 })
 
-quiet_ticked : (channel : ℕ) (look : LookUps) (s : Playing) → NoInstruments look → IsQuiet s → IsQuietTick (ticked channel look s)
+quiet_ticked : (channel : ℕ) (look : LookUps) (s : Playing) → NoInstruments look → IsQuiet s →
+    IsQuietTick (ticked channel look s)
 quiet_ticked channel look s h q =
     rw (h s.voice.instrument)
-    (chosen IsQuietTick (s.voice.tick == 0) (at_row channel look zero_instrument s) (record { playing = between_rows channel s; started = false }) (quiet_row channel look s q) (record { playing = quiet_between channel s q; started = refl }))
+    (chosen IsQuietTick (s.voice.tick == 0) (at_row channel look zero_instrument s)
+      (record { playing = between_rows channel s; started = false }) (quiet_row channel look s q)
+      (record { playing = quiet_between channel s q; started = refl }))
 
-pub quiet_tick : (channel : ℕ) (look : LookUps) (s : Playing) → NoInstruments look → IsQuiet s → IsQuietTick (tick_step channel look s)
+pub quiet_tick : (channel : ℕ) (look : LookUps) (s : Playing) → NoInstruments look → IsQuiet s →
+    IsQuietTick (tick_step channel look s)
 unfolding tick_step
 quiet_tick channel look s h q = quiet_ticked channel look _ h (quiet_tick_field s _ q)
 
-wave_rests : (look : LookUps) (s : Playing) → s.voice.wave_ptr ≡ 0 → wave_step look s ≡ record { playing = s; effect = true }
+wave_rests : (look : LookUps) (s : Playing) → s.voice.wave_ptr ≡ 0 →
+    wave_step look s ≡ record { playing = s; effect = true }
 unfolding wave_step
 wave_rests look s h = rw h
 
@@ -177,7 +186,8 @@ pulse_rests look v h = rw h
 
 quiet_moved : (rows : ℕ) (v : Voice) → IsQuietVoice v → IsQuietVoice (row_moved rows v)
 quiet_moved rows v q =
-    chosen IsQuietVoice (byte_plus v.row 1 == rows) (record v { row = 0; plays = v.plays + 1 }) (record v { row = byte_plus v.row 1 })
+    chosen IsQuietVoice (byte_plus v.row 1 == rows) (record v { row = 0; plays = v.plays + 1 })
+    (record v { row = byte_plus v.row 1 })
     (quiet_voice_fields v (v.plays + 1) 0 v.tick v.gate_timer v.new_param q)
     (quiet_voice_fields v v.plays (byte_plus v.row 1) v.tick v.gate_timer v.new_param q)
 
@@ -209,23 +219,30 @@ quiet_taken row v r q = record {
 abbrev pub IsQuietOrder : LookUps → Order → Type 0
 IsQuietOrder look order = (play place : ℕ) → IsQuietRow (pattern_row (look.rows (played order play).pattern) place)
 
-quiet_fetch : (look : LookUps) (order : Order) (v : Voice) → IsQuietOrder look order → IsQuietVoice v → IsQuietVoice (fetch_row look order v)
+quiet_fetch : (look : LookUps) (order : Order) (v : Voice) → IsQuietOrder look order → IsQuietVoice v →
+    IsQuietVoice (fetch_row look order v)
 unfolding fetch_row
 quiet_fetch look order v o q =
-    quiet_moved _ _ (rw (quiet_done look _ (played order v.plays).transpose v (o v.plays v.row)) (quiet_taken _ v (o v.plays v.row) q))
+    quiet_moved _ _
+    (rw (quiet_done look _ (played order v.plays).transpose v (o v.plays v.row)) (quiet_taken _ v (o v.plays v.row) q))
 
-quiet_fetched : (look : LookUps) (order : Order) (s : Playing) → IsQuietOrder look order → IsQuiet s → IsQuiet (row_fetched look order s)
+quiet_fetched : (look : LookUps) (order : Order) (s : Playing) → IsQuietOrder look order → IsQuiet s →
+    IsQuiet (row_fetched look order s)
 quiet_fetched look order s o q =
-    chosen IsQuiet (s.voice.tick == s.voice.gate_timer) (record s { voice = fetch_row look order s.voice }) s (record { voice = quiet_fetch look order s.voice o q.voice; common = q.common }) q
+    chosen IsQuiet (s.voice.tick == s.voice.gate_timer) (record s { voice = fetch_row look order s.voice }) s
+    (record { voice = quiet_fetch look order s.voice o q.voice; common = q.common }) q
 
 -- what an option leaves out has nothing to do
-quiet_effect : (o : Options) (look : LookUps) (s : Playing) → IsQuiet s → effect_done o look (record { playing = s; effect = true }) ≡ s
+quiet_effect : (o : Options) (look : LookUps) (s : Playing) → IsQuiet s →
+    effect_done o look (record { playing = s; effect = true }) ≡ s
 quiet_effect o look s q =
-    chosen (λ p. p ≡ s) _ (record s { voice = effect_step look s.voice }) s (rw (effect_rests look s.voice q.voice.command q.voice.param)) refl
+    chosen (λ p. p ≡ s) _ (record s { voice = effect_step look s.voice }) s
+    (rw (effect_rests look s.voice q.voice.command q.voice.param)) refl
 
 quiet_pulse : (o : Options) (look : LookUps) (s : Playing) → IsQuiet s → pulse_done o look s ≡ s
 quiet_pulse o look s q =
-    chosen (λ p. p ≡ s) _ s (record s { voice = pulse_step look s.voice }) refl (rw (pulse_rests look s.voice q.voice.pulse_ptr))
+    chosen (λ p. p ≡ s) _ s (record s { voice = pulse_step look s.voice }) refl
+    (rw (pulse_rests look s.voice q.voice.pulse_ptr))
 
 -- a tick that starts no note, by the parts of what it leaves
 quiet_after : (o : Options) (look : LookUps) (order : Order) (s : Playing) → IsQuietOrder look order → IsQuiet s →
@@ -241,7 +258,8 @@ after_quiet o look order t h q =
     let same : t ≡ record { playing = t.playing; started = false } = ap (λ z. record t { started = z }) q.started in
     rw same (quiet_after o look order t.playing h q.playing)
 
-pub quiet_voice : (channel : ℕ) (o : Options) (look : LookUps) (order : Order) (s : Playing) → NoInstruments look → IsQuietOrder look order →
+pub quiet_voice : (channel : ℕ) (o : Options) (look : LookUps) (order : Order) (s : Playing) → NoInstruments look →
+    IsQuietOrder look order →
     IsQuiet s → IsQuiet (voice_step channel o look order s)
 unfolding voice_step
 quiet_voice channel o look order s none h q = after_quiet o look order _ h (quiet_tick channel look s none q)

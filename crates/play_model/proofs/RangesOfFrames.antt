@@ -46,8 +46,10 @@ ranges_lem look a = record {
 }
 
 -- the states within a frame
-pub filter_done_keeps : (look : LookUps) (x : FrameState) → AreLookUps look → IsFrameState x → IsFrameState (filter_done look x)
-filter_done_keeps look x a q = record { common = filter_keeps look x.common a q.common; one = q.one; two = q.two; three = q.three }
+pub filter_done_keeps : (look : LookUps) (x : FrameState) → AreLookUps look → IsFrameState x →
+    IsFrameState (filter_done look x)
+filter_done_keeps look x a q =
+    record { common = filter_keeps look x.common a q.common; one = q.one; two = q.two; three = q.three }
 
 playing_in_range : (channel : ℕ) (x : FrameState) → IsFrameState x → IsPlaying (playing_of channel x)
 playing_in_range channel x q = record {
@@ -57,21 +59,25 @@ playing_in_range channel x q = record {
   common = q.common;
 }
 
-put_back_keeps : (channel : ℕ) (s : Playing) (x : FrameState) → IsPlaying s → IsFrameState x → IsFrameState (with_playing channel s x)
+put_back_keeps : (channel : ℕ) (s : Playing) (x : FrameState) → IsPlaying s → IsFrameState x →
+    IsFrameState (with_playing channel s x)
 put_back_keeps channel s x p q =
     chosen IsFrameState (channel == 1) (record x { one = s.voice; common = s.common }) _
     (record { common = p.common; one = p.voice; two = q.two; three = q.three })
-    (chosen IsFrameState (channel == 2) (record x { two = s.voice; common = s.common }) (record x { three = s.voice; common = s.common })
+    (chosen IsFrameState (channel == 2) (record x { two = s.voice; common = s.common })
+      (record x { three = s.voice; common = s.common })
     (record { common = p.common; one = q.one; two = p.voice; three = q.three })
     (record { common = p.common; one = q.one; two = q.two; three = p.voice }))
 
-pub voice_done_keeps : (channel : ℕ) (o : Options) (look : LookUps) (subtune : Subtune) (x : FrameState) → AreLookUps look → IsFrameState x →
+pub voice_done_keeps : (channel : ℕ) (o : Options) (look : LookUps) (subtune : Subtune) (x : FrameState) →
+    AreLookUps look → IsFrameState x →
     IsFrameState (voice_done channel o look subtune x)
 voice_done_keeps channel o look subtune x a q =
     put_back_keeps channel (voice_step channel o look (order_of channel subtune) (playing_of channel x)) x
     (voice_keeps channel o look (order_of channel subtune) (playing_of channel x) a (playing_in_range channel x q)) q
 
-voices_done_keeps : (o : Options) (look : LookUps) (subtune : Subtune) (x : FrameState) → AreLookUps look → IsFrameState x →
+voices_done_keeps : (o : Options) (look : LookUps) (subtune : Subtune) (x : FrameState) → AreLookUps look →
+    IsFrameState x →
     IsFrameState (voices_done o look subtune x)
 voices_done_keeps o look subtune x a q =
     voice_done_keeps 3 o look subtune (voice_done 2 o look subtune (voice_done 1 o look subtune x)) a
@@ -86,17 +92,21 @@ high_small n h = omega arith
 
 four_bytes : (a b c d : ℕ) → IsByte a → IsByte b → IsByte c → IsByte d → AreBytes (a ∷ b ∷ c ∷ d ∷ [])
 four_bytes a b c d p q r s =
-    All-cons IsByte a (b ∷ c ∷ d ∷ []) p (All-cons IsByte b (c ∷ d ∷ []) q (All-cons IsByte c (d ∷ []) r (All-cons IsByte d [] s (All-nil IsByte))))
+    All-cons IsByte a (b ∷ c ∷ d ∷ []) p
+    (All-cons IsByte b (c ∷ d ∷ []) q (All-cons IsByte c (d ∷ []) r (All-cons IsByte d [] s (All-nil IsByte))))
 
-three_more : (a b c : ℕ) (bytes : List ℕ) → IsByte a → IsByte b → IsByte c → AreBytes bytes → AreBytes (a ∷ b ∷ c ∷ bytes)
-three_more a b c bytes p q r s = All-cons IsByte a (b ∷ c ∷ bytes) p (All-cons IsByte b (c ∷ bytes) q (All-cons IsByte c bytes r s))
+three_more : (a b c : ℕ) (bytes : List ℕ) → IsByte a → IsByte b → IsByte c → AreBytes bytes →
+    AreBytes (a ∷ b ∷ c ∷ bytes)
+three_more a b c bytes p q r s =
+    All-cons IsByte a (b ∷ c ∷ bytes) p (All-cons IsByte b (c ∷ bytes) q (All-cons IsByte c bytes r s))
 
 voice_bytes : (v : Voice) → IsVoice v → AreBytes (voice_registers v)
 unfolding voice_registers
 voice_bytes v q =
     three_more (v.freq % 256) (v.freq / 256) (v.pulse % 256) (v.pulse / 256 ∷ bit_and v.wave v.gate ∷ v.ad ∷ v.sr ∷ [])
     (low_small v.freq) (half_small v.freq q.freq) (low_small v.pulse)
-    (four_bytes (v.pulse / 256) (bit_and v.wave v.gate) v.ad v.sr (high_small v.pulse q.pulse) (and_small v.wave v.gate q.wave) q.ad q.sr)
+    (four_bytes (v.pulse / 256) (bit_and v.wave v.gate) v.ad v.sr (high_small v.pulse q.pulse)
+      (and_small v.wave v.gate q.wave) q.ad q.sr)
 
 filter_bytes : (c : Common) → IsCommon c → AreBytes (filter_registers c)
 unfolding filter_registers
@@ -104,17 +114,23 @@ filter_bytes c q =
     four_bytes 0 c.cutoff c.filter_control (bit_or c.filter_type c.volume) (lit< tt) q.cutoff q.filter_control
     (or_of_8 c.filter_type c.volume q.filter_type q.volume)
 
-framed_bytes : (filter : List ℕ) (x : FrameState) → AreBytes filter → IsFrameState x → AreBytes (framed filter x).registers
+framed_bytes : (filter : List ℕ) (x : FrameState) → AreBytes filter → IsFrameState x →
+    AreBytes (framed filter x).registers
 framed_bytes filter x f q =
     All-append IsByte _ filter
-    (All-append IsByte _ (voice_registers x.three) (All-append IsByte (voice_registers x.one) (voice_registers x.two) (voice_bytes x.one q.one) (voice_bytes x.two q.two)) (voice_bytes x.three q.three))
+    (All-append IsByte _ (voice_registers x.three)
+      (All-append IsByte (voice_registers x.one) (voice_registers x.two) (voice_bytes x.one q.one)
+        (voice_bytes x.two q.two)) (voice_bytes x.three q.three))
     f
 
-frame_keeps : (o : Options) (look : LookUps) (subtune : Subtune) (x : FrameState) → AreLookUps look → IsFrameState x → IsFrameState (frame_of o look subtune x).state
+frame_keeps : (o : Options) (look : LookUps) (subtune : Subtune) (x : FrameState) → AreLookUps look → IsFrameState x →
+    IsFrameState (frame_of o look subtune x).state
 unfolding frame_of
-frame_keeps o look subtune x a q = voices_done_keeps o look subtune (filter_done look x) a (filter_done_keeps look x a q)
+frame_keeps o look subtune x a q =
+    voices_done_keeps o look subtune (filter_done look x) a (filter_done_keeps look x a q)
 
-frame_bytes : (o : Options) (look : LookUps) (subtune : Subtune) (x : FrameState) → AreLookUps look → IsFrameState x → AreBytes (frame_of o look subtune x).registers
+frame_bytes : (o : Options) (look : LookUps) (subtune : Subtune) (x : FrameState) → AreLookUps look → IsFrameState x →
+    AreBytes (frame_of o look subtune x).registers
 unfolding frame_of
 frame_bytes o look subtune x a q =
     let f = filter_done_keeps look x a q in
@@ -142,8 +158,10 @@ start_common_in_range : (speed : ℕ) → IsSpeed speed → IsCommon (start_comm
 start_common_in_range speed s =
     let most = s.most in
     record {
-      tempo_one = omega arith; tempo_two = omega arith; tempo_three = omega arith; funk_one = omega arith; funk_two = omega arith;
-      filter_ptr = lit< tt; filter_time = lit< tt; filter_type = lit< tt; filter_control = lit< tt; cutoff = lit< tt; volume = lit< tt;
+      tempo_one =
+          omega arith; tempo_two = omega arith; tempo_three = omega arith; funk_one = omega arith; funk_two = omega arith;
+      filter_ptr =
+          lit< tt; filter_time = lit< tt; filter_type = lit< tt; filter_control = lit< tt; cutoff = lit< tt; volume = lit< tt;
     }
 
 pub start_lem : StartIsInRange
@@ -179,13 +197,15 @@ song_look_ups song limits = record {
   rows = λ n place. rows_or_zero _ place (pattern_rows_in_range song n limits);
 }
 
-song_state : (o : Options) (song : Song) (k n : ℕ) → IsSpeed o.speed → AreLookUps (look_ups_of song) → IsFrameState (state_after_with o song k n)
+song_state : (o : Options) (song : Song) (k n : ℕ) → IsSpeed o.speed → AreLookUps (look_ups_of song) →
+    IsFrameState (state_after_with o song k n)
 unfolding state_after_with
 song_state o song k zero s a = start_lem o s
 song_state o song k (suc n) s a =
     frame_keeps o (look_ups_of song) (subtune_at song k) (state_after_with o song k n) a (song_state o song k n s a)
 
-song_trace : (o : Options) (song : Song) (k i : ℕ) → IsSpeed o.speed → AreLookUps (look_ups_of song) → AreBytes (trace_with o song k i)
+song_trace : (o : Options) (song : Song) (k i : ℕ) → IsSpeed o.speed → AreLookUps (look_ups_of song) →
+    AreBytes (trace_with o song k i)
 song_trace o song k zero s a = All-replicate IsByte 25 0 (lit< tt)
 song_trace o song k (suc n) s a =
     frame_bytes o (look_ups_of song) (subtune_at song k) (state_after_with o song k n) a (song_state o song k n s a)

@@ -24,6 +24,9 @@ use Rattle.play_model.specs.Helpers.{next_row, porta_up, porta_down, at_target, 
 use Rattle.play_model.specs.FetchRow.{transposed}
 use Rattle.play_model.proofs.Choices.{chosen}
 
+pub zero_small : IsByte 0
+zero_small = lit< tt
+
 -- numbers that wrap
 pub wraps : (n : ℕ) → IsByte (n % 256)
 wraps n = omega arith
@@ -72,11 +75,14 @@ unfolding porta_down
 down_keeps look d v q = with_freq v _ (word_wraps _) q
 
 target_keeps : (target : ℕ) (v : Voice) → IsWord target → IsVoice v → IsVoice (at_target target v)
-target_keeps target v h q = let n : v.note % 128 < 128 = omega arith in let z : IsByte 0 = lit< tt in assumption (h, n, q, z)
+target_keeps target v h q =
+    let n : v.note % 128 < 128 = omega arith in let z : IsByte 0 = lit< tt in assumption (h, n, q, z)
 
 towards_keeps : (target step : ℕ) (v : Voice) → IsVoice v → IsVoice (towards target step v)
 towards_keeps target step v q =
-    with_freq v _ (chosen IsWord (nat_lt v.freq target) (freq_plus v.freq step) (freq_minus v.freq step) (word_wraps _) (word_wraps _)) q
+    with_freq v _
+    (chosen IsWord (nat_lt v.freq target) (freq_plus v.freq step) (freq_minus v.freq step) (word_wraps _)
+      (word_wraps _)) q
 
 pub tone_keeps : (look : LookUps) (d : ℕ) (v : Voice) → IsVoice v → IsVoice (tone look d v)
 unfolding tone
@@ -101,11 +107,13 @@ ad_keeps d s h q = assumption (h, q)
 sr_keeps : (d : ℕ) (s : Playing) → IsByte d → IsPlaying s → IsPlaying (record s { voice = record s.voice { sr = d } })
 sr_keeps d s h q = assumption (h, q)
 
-waveform_keeps : (d : ℕ) (s : Playing) → IsByte d → IsPlaying s → IsPlaying (record s { voice = record s.voice { wave = d } })
+waveform_keeps : (d : ℕ) (s : Playing) → IsByte d → IsPlaying s →
+    IsPlaying (record s { voice = record s.voice { wave = d } })
 waveform_keeps d s h q = assumption (h, q)
 
-pulse_program_keeps : (d : ℕ) (s : Playing) → IsByte d → IsPlaying s → IsPlaying (record s { voice = record s.voice { pulse_ptr = d; pulse_time = 0 } })
-pulse_program_keeps d s h q = let z : IsByte 0 = lit< tt in assumption (h, z, q)
+pulse_program_keeps : (d : ℕ) (s : Playing) → IsByte d → IsPlaying s →
+    IsPlaying (record s { voice = record s.voice { pulse_ptr = d; pulse_time = 0 } })
+pulse_program_keeps d s h q = assumption (h, zero_small, q)
 
 filter_program_keeps : (d t : ℕ) (s : Playing) → IsByte d → IsByte t → IsPlaying s →
     IsPlaying (record s { common = record s.common { filter_ptr = d; filter_time = t } })
@@ -115,10 +123,12 @@ control_keeps : (d p : ℕ) (s : Playing) → IsByte d → IsByte p → IsPlayin
     IsPlaying (record s { common = record s.common { filter_control = d; filter_ptr = p } })
 control_keeps d p s h k q = assumption (h, k, q)
 
-cutoff_keeps : (d : ℕ) (s : Playing) → IsByte d → IsPlaying s → IsPlaying (record s { common = record s.common { cutoff = d } })
+cutoff_keeps : (d : ℕ) (s : Playing) → IsByte d → IsPlaying s →
+    IsPlaying (record s { common = record s.common { cutoff = d } })
 cutoff_keeps d s h q = assumption (h, q)
 
-volume_keeps : (d : ℕ) (s : Playing) → IsByte d → IsPlaying s → IsPlaying (record s { common = record s.common { volume = d } })
+volume_keeps : (d : ℕ) (s : Playing) → IsByte d → IsPlaying s →
+    IsPlaying (record s { common = record s.common { volume = d } })
 volume_keeps d s h q = assumption (h, q)
 
 pub command_keeps : (c d : ℕ) (s : Playing) → IsByte d → IsPlaying s → IsPlaying (do_command c d s)

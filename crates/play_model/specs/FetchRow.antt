@@ -43,7 +43,9 @@ gate_shut timer v =
 abbrev pub note_waits : LookUps → ℕ → ℤ → Voice → Voice
 note_waits look note transpose v =
     if is_note note
-    then gate_shut (look.instrument v.instrument).gate_timer (record v { new_note = transposed note transpose })
+    then
+      gate_shut (look.instrument v.instrument).gate_timer
+      (record v { new_note = transposed note transpose })
     else v
 
 -- after the last row of the pattern the orderlist goes to its next play
@@ -52,10 +54,12 @@ row_moved rows v =
     if byte_plus v.row 1 == rows then record v { row = 0; plays = v.plays + 1 } else record v { row = byte_plus v.row 1 }
 
 abbrev pub row_done : LookUps → Row → ℤ → Voice → Voice
-row_done look row transpose v = note_waits look row.note transpose (gate_keyed row.note (row_taken row v))
+row_done look row transpose v =
+    note_waits look row.note transpose (gate_keyed row.note (row_taken row v))
 
 abbrev pub fetched_from : LookUps → List Row → ℤ → Voice → Voice
-fetched_from look rows transpose v = row_moved (length rows) (row_done look (pattern_row rows v.row) transpose v)
+fetched_from look rows transpose v =
+    row_moved (length rows) (row_done look (pattern_row rows v.row) transpose v)
 
 abbrev pub fetched : LookUps → Step → Voice → Voice
 fetched look play v = fetched_from look (look.rows play.pattern) play.transpose v

@@ -26,7 +26,8 @@ filter_set look row following c =
 
 -- a row $00 sets the cutoff
 abbrev pub filter_cutoff : LookUps → TableRow → Common → Common
-filter_cutoff look row c = record c { cutoff = row.right; filter_ptr = next_row look Filter c.filter_ptr }
+filter_cutoff look row c =
+    record c { cutoff = row.right; filter_ptr = next_row look Filter c.filter_ptr }
 
 -- any other row is a slide: the cutoff rises by its right side for as many frames as its left side says
 abbrev pub filter_slide : LookUps → TableRow → ℕ → Common → Common
@@ -38,9 +39,11 @@ filter_slide look row time c = record c {
 
 abbrev pub filter_row : LookUps → TableRow → Common → Common
 filter_row look row c =
-    if (c.filter_time == 0) && nat_le 0x80 row.left then filter_set look row (look.row Filter (c.filter_ptr + 1)) c
+    if (c.filter_time == 0) && nat_le 0x80 row.left
+    then filter_set look row (look.row Filter (c.filter_ptr + 1)) c
     else if (c.filter_time == 0) && (row.left == 0) then filter_cutoff look row c
     else filter_slide look row (if c.filter_time == 0 then row.left else c.filter_time) c
 
 unfoldable pub filter_step : LookUps → Common → Common
-filter_step look c = if c.filter_ptr == 0 then c else filter_row look (look.row Filter c.filter_ptr) c
+filter_step look c =
+    if c.filter_ptr == 0 then c else filter_row look (look.row Filter c.filter_ptr) c

@@ -46,7 +46,8 @@ voice_step channel o look order s = after_tick o look order (tick_step channel l
 -- frequency, pulse width, waveform under its mask, envelope
 unfoldable pub voice_registers : Voice → List ℕ
 voice_registers v =
-    v.freq % 256 ∷ v.freq / 256 ∷ v.pulse % 256 ∷ v.pulse / 256 ∷ bit_and v.wave v.gate ∷ v.ad ∷ v.sr ∷ []
+    v.freq % 256 ∷ v.freq / 256 ∷ v.pulse % 256 ∷ v.pulse / 256 ∷ bit_and v.wave v.gate ∷ v.ad
+    ∷ v.sr ∷ []
 
 -- registers 21 to 24
 unfoldable pub filter_registers : Common → List ℕ
@@ -64,7 +65,8 @@ filter_done look x = record x { common = filter_step look x.common }
 -- the state after the voice step of channel 1, 2 or 3
 abbrev pub voice_done : ℕ → Options → LookUps → Subtune → FrameState → FrameState
 voice_done channel o look subtune x =
-    with_playing channel (voice_step channel o look (order_of channel subtune) (playing_of channel x)) x
+    with_playing channel
+    (voice_step channel o look (order_of channel subtune) (playing_of channel x)) x
 
 -- one after the other: each voice sees what the ones before it did to the tempos
 abbrev pub voices_done : Options → LookUps → Subtune → FrameState → FrameState

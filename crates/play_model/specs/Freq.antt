@@ -7,11 +7,15 @@ use Rattle.play_model.specs.Wrap.{freq_minus, shifted_right}
 
 -- the frequencies of the twelve half tones from C to B in the highest octave; that of B is no 16 bit number
 abbrev pub highest_octave : List ℕ
-highest_octave = 0x8B42 ∷ 0x9389 ∷ 0x9C4F ∷ 0xA59B ∷ 0xAF74 ∷ 0xB9E2 ∷ 0xC4F0 ∷ 0xD0A6 ∷ 0xDD0E ∷ 0xEA33 ∷ 0xF820 ∷ 67298 ∷ []
+highest_octave =
+    0x8B42 ∷ 0x9389 ∷ 0x9C4F ∷ 0xA59B ∷ 0xAF74 ∷ 0xB9E2 ∷ 0xC4F0 ∷ 0xD0A6 ∷ 0xDD0E ∷ 0xEA33
+    ∷ 0xF820 ∷ 67298 ∷ []
 
 -- notes count half tones from C-0; each octave down halves the frequency; above B-7 there is none
 unfoldable pub freq : ℕ → ℕ
-freq n = if nat_lt n 96 then min 65535 (shifted_right (slice_index highest_octave (n % 12)) (7 - n / 12)) else 0
+freq n =
+    if nat_lt n 96 then min 65535 (shifted_right (slice_index highest_octave (n % 12)) (7 - n / 12))
+    else 0
 
 -- the step from a note to the half tone above it
 unfoldable pub half_tone : ℕ → ℕ

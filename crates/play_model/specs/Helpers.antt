@@ -30,11 +30,13 @@ at_target target v = record v { freq = target; vib_time = 0; last_note = v.note 
 
 -- towards the target by this much
 abbrev pub towards : ℕ → ℕ → Voice → Voice
-towards target step v = record v { freq = if nat_lt v.freq target then freq_plus v.freq step else freq_minus v.freq step }
+towards target step v =
+    record v { freq = if nat_lt v.freq target then freq_plus v.freq step else freq_minus v.freq step }
 
 abbrev pub tone_by : ℕ → ℕ → ℕ → Voice → Voice
 tone_by d target step v =
-    if (d == 0) || nat_le (distance v.freq target) step then at_target target v else towards target step v
+    if (d == 0) || nat_le (distance v.freq target) step then at_target target v
+    else towards target step v
 
 -- a slide that ends at the note, and with parameter 0 the note at once
 unfoldable pub tone : LookUps → ℕ → Voice → Voice
@@ -56,7 +58,8 @@ depth_of look d row last = if nat_lt row.left 0x80 then row.right else slide loo
 
 unfoldable pub vibrato : LookUps → ℕ → Voice → Voice
 vibrato look d v =
-    swung (byte_plus (turned ((look.row Speed d).left % 128) v.vib_time) 2) (depth_of look d (look.row Speed d) v.last_note) v
+    swung (byte_plus (turned ((look.row Speed d).left % 128) v.vib_time) 2)
+    (depth_of look d (look.row Speed d) v.last_note) v
 
 -- the commands that rows and the wave table share; another number does nothing
 unfoldable pub do_command : ℕ → ℕ → Playing → Playing

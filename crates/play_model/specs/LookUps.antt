@@ -17,4 +17,5 @@ pub record LookUps : Type 0 where
 
 -- what a song has under a number, with zeros where it stores nothing
 abbrev pub look_ups_of : Song → LookUps
-look_ups_of song = record { instrument = instrument_at song; row = table_row song; rows = pattern_at song }
+look_ups_of song =
+    record { instrument = instrument_at song; row = table_row song; rows = pattern_at song }

@@ -16,7 +16,8 @@ pulse_set look row v = record v {
 
 -- the width rises by a right side below $80, and falls by what a greater one lacks to 256
 abbrev pub pulse_moved : ℕ → ℕ → ℕ
-pulse_moved pulse right = if nat_lt right 0x80 then pulse_plus pulse right else pulse_minus pulse (256 - right)
+pulse_moved pulse right =
+    if nat_lt right 0x80 then pulse_plus pulse right else pulse_minus pulse (256 - right)
 
 -- any other row moves the width for as many frames as its left side says
 abbrev pub pulse_slide : LookUps → TableRow → ℕ → Voice → Voice

@@ -22,7 +22,8 @@ use Rattle.play_model.specs.Frame.{voice_step, filter_done, voice_done, frame_of
 -- one rule after the other, over any look-ups that find bytes
 pub record RulesKeepRanges (look : LookUps) : Type 0 where
   pub filter : (c : Common) → IsCommon c → IsCommon (filter_step look c)
-  pub tick : (channel : ℕ) (s : Playing) → IsPlaying s → IsPlaying (tick_step channel look s).playing
+  pub tick : (channel : ℕ) (s : Playing) → IsPlaying s →
+    IsPlaying (tick_step channel look s).playing
   pub wave : (s : Playing) → IsPlaying s → IsPlaying (wave_step look s).playing
   pub effect : (v : Voice) → IsVoice v → IsVoice (effect_step look v)
   pub pulse : (v : Voice) → IsVoice v → IsVoice (pulse_step look v)
@@ -33,7 +34,8 @@ pub record RulesKeepRanges (look : LookUps) : Type 0 where
 -- the states within a frame and after it, and its registers
 pub record FramesKeepRanges (o : Options) (look : LookUps) (subtune : Subtune) : Type 0 where
   pub filter : (x : FrameState) → IsFrameState x → IsFrameState (filter_done look x)
-  pub voice : (channel : ℕ) (x : FrameState) → IsFrameState x → IsFrameState (voice_done channel o look subtune x)
+  pub voice : (channel : ℕ) (x : FrameState) → IsFrameState x →
+    IsFrameState (voice_done channel o look subtune x)
   pub state : (x : FrameState) → IsFrameState x → IsFrameState (frame_of o look subtune x).state
   pub registers : (x : FrameState) → IsFrameState x → AreBytes (frame_of o look subtune x).registers
 
@@ -47,13 +49,16 @@ abbrev pub RangesAreKept : Type 0
 RangesAreKept = (look : LookUps) → AreLookUps look → RulesKeepRanges look
 
 abbrev pub FrameRangesAreKept : Type 0
-FrameRangesAreKept = (o : Options) (look : LookUps) (subtune : Subtune) → AreLookUps look → FramesKeepRanges o look subtune
+FrameRangesAreKept =
+    (o : Options) (look : LookUps) (subtune : Subtune) → AreLookUps look →
+    FramesKeepRanges o look subtune
 
 abbrev pub StartIsInRange : Type 0
 StartIsInRange = (o : Options) → IsSpeed o.speed → IsFrameState (start_state o)
 
 abbrev pub SongRangesAreKept : Type 0
-SongRangesAreKept = (o : Options) (song : Song) → IsSpeed o.speed → KeepsLimits song → SongsKeepRanges o song
+SongRangesAreKept =
+    (o : Options) (song : Song) → IsSpeed o.speed → KeepsLimits song → SongsKeepRanges o song
 
 -- a byte's wrapping sum: of the note and the byte that stands for the transpose
 abbrev pub TransposesWrap : Type 0

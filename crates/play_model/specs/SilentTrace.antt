@@ -10,4 +10,5 @@ silent_registers = replicate 24 0 ++ 15 ∷ []
 
 -- each play call of a silent song leaves the registers of silence
 abbrev pub SilentSongsAreSilent : Type 0
-SilentSongsAreSilent = (song : Song) → IsSilent song → (i : ℕ) → trace song 0 (i + 1) ≡ silent_registers
+SilentSongsAreSilent =
+    (song : Song) → IsSilent song → (i : ℕ) → trace song 0 (i + 1) ≡ silent_registers

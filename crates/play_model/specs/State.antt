@@ -110,7 +110,8 @@ start_common speed = record {
 }
 
 abbrev pub start_state : Options → FrameState
-start_state o = record { common = start_common o.speed; one = start_voice; two = start_voice; three = start_voice }
+start_state o =
+    record { common = start_common o.speed; one = start_voice; two = start_voice; three = start_voice }
 
 -- what the step of channel 1, 2 or 3 takes from a state
 abbrev pub voice_of : ℕ → FrameState → Voice

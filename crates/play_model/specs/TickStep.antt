@@ -15,7 +15,8 @@ pub record Ticked : Type 0 where
 
 -- the tempo of channel 1, 2 or 3
 abbrev pub tempo_of : ℕ → Common → ℕ
-tempo_of channel c = if channel == 1 then c.tempo_one else if channel == 2 then c.tempo_two else c.tempo_three
+tempo_of channel c =
+    if channel == 1 then c.tempo_one else if channel == 2 then c.tempo_two else c.tempo_three
 
 abbrev pub with_tempo : ℕ → ℕ → Common → Common
 with_tempo channel tempo c =
@@ -37,7 +38,8 @@ reloaded channel tempo s =
     }
 
 unfoldable pub between_rows : ℕ → Playing → Playing
-between_rows channel s = if nat_le 0x80 s.voice.tick then reloaded channel (tempo_of channel s.common) s else s
+between_rows channel s =
+    if nat_le 0x80 s.voice.tick then reloaded channel (tempo_of channel s.common) s else s
 
 -- The tick is 0. The waiting note becomes the note, with the instrument's vibrato.
 abbrev pub note_taken : Instrument → Voice → Voice
@@ -123,7 +125,8 @@ gate_timer_set i s = record s { voice = record s.voice { gate_timer = i.gate_tim
 -- the order of what is done at tick 0
 unfoldable pub at_row : ℕ → LookUps → Instrument → Playing → Ticked
 at_row channel look i s =
-    note_ended (row_command channel look i s.voice.new_command s.voice.new_param (note_started i (gate_timer_set i s)))
+    note_ended (row_command channel look i s.voice.new_command s.voice.new_param
+      (note_started i (gate_timer_set i s)))
 
 abbrev pub ticked : ℕ → LookUps → Playing → Ticked
 ticked channel look s =
@@ -131,4 +134,5 @@ ticked channel look s =
     else record { playing = between_rows channel s; started = false }
 
 unfoldable pub tick_step : ℕ → LookUps → Playing → Ticked
-tick_step channel look s = ticked channel look (record s { voice = record s.voice { tick = byte_minus s.voice.tick 1 } })
+tick_step channel look s =
+    ticked channel look (record s { voice = record s.voice { tick = byte_minus s.voice.tick 1 } })

@@ -29,13 +29,16 @@ is_wave_command row = nat_le 0xF0 row.left && nat_le row.left 0xFE
 -- the left side: a waveform, a waveform below $10 written as $E0 to $EF, or a command
 abbrev pub left_done : LookUps → TableRow → Playing → Playing
 left_done look row s =
-    if nat_le 0x10 row.left && nat_le row.left 0xDF then record s { voice = record s.voice { wave = row.left } }
-    else if nat_le 0xE0 row.left && nat_le row.left 0xEF then record s { voice = record s.voice { wave = row.left - 0xE0 } }
+    if nat_le 0x10 row.left && nat_le row.left 0xDF
+    then record s { voice = record s.voice { wave = row.left } }
+    else if nat_le 0xE0 row.left && nat_le row.left 0xEF
+    then record s { voice = record s.voice { wave = row.left - 0xE0 } }
     else if is_wave_command row then wave_command look (row.left - 0xF0) row.right s
     else s
 
 abbrev pub program_moved : LookUps → ℕ → Playing → Playing
-program_moved look p s = record s { voice = record s.voice { wave_time = 0; wave_ptr = next_row look Wave p } }
+program_moved look p s =
+    record s { voice = record s.voice { wave_time = 0; wave_ptr = next_row look Wave p } }
 
 -- the right side: below $80 relative to the note, above it a note of its own
 abbrev pub wave_note : ℕ → ℕ → ℕ
@@ -49,7 +52,10 @@ abbrev pub right_done : TableRow → Playing → Waved
 right_done row s =
     if is_wave_command row then record { playing = s; effect = false }
     else if row.right == 0x80 then record { playing = s; effect = true }
-    else record { playing = record s { voice = with_note (wave_note row.right s.voice.note) s.voice }; effect = false }
+    else record {
+      playing = record s { voice = with_note (wave_note row.right s.voice.note) s.voice };
+      effect = false;
+    }
 
 -- a left side below $10 is a delay of as many frames
 abbrev pub wave_row : LookUps → TableRow → Playing → Waved

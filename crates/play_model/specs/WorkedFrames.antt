@@ -30,7 +30,8 @@ pub record LowNoteIsMute : Type 0 where
 
 -- frequencies wrap both ways
 abbrev pub VibratoWraps : Type 0
-VibratoWraps = from_call (frequency_at wrapping_note) 8 6 ≡ 0xFFFF ∷ 0 ∷ 0xFFFF ∷ 0xFFFE ∷ 0xFFFF ∷ 0 ∷ []
+VibratoWraps =
+    from_call (frequency_at wrapping_note) 8 6 ≡ 0xFFFF ∷ 0 ∷ 0xFFFF ∷ 0xFFFE ∷ 0xFFFF ∷ 0 ∷ []
 
 -- the slide stops at its target, which a tie note keeps; after another note a tie note has its frequency at once
 pub record SlideStops : Type 0 where
@@ -45,17 +46,23 @@ pub record FunkTempoWraps : Type 0 where
 
 -- a gateoff timer that is longer than the row is never met, and no row is fetched
 abbrev pub LongTimerIsNeverMet : Type 0
-LongTimerIsNeverMet = from_call (trace (with_gate_timer 0x3F one_note) 0) 1 300 ≡ replicate 300 silent_registers
+LongTimerIsNeverMet =
+    from_call (trace (with_gate_timer 0x3F one_note) 0) 1 300 ≡ replicate 300 silent_registers
 
 -- bit $40 of the gateoff timer keeps the gate, bit $80 the envelope
 pub record GateTimerBits : Type 0 where
-  pub neither : first_voice_at (with_gate_timer 0x02 long_note) 17 ≡ 0x68 ∷ 0x11 ∷ 0 ∷ 0x08 ∷ 0x40 ∷ 0x0F ∷ 0 ∷ []
-  pub gate_kept : first_voice_at (with_gate_timer 0x42 long_note) 17 ≡ 0x68 ∷ 0x11 ∷ 0 ∷ 0x08 ∷ 0x41 ∷ 0x09 ∷ 0xA0 ∷ []
-  pub envelope_kept : first_voice_at (with_gate_timer 0x82 long_note) 17 ≡ 0x68 ∷ 0x11 ∷ 0 ∷ 0x08 ∷ 0x40 ∷ 0x09 ∷ 0xA0 ∷ []
+  pub neither : first_voice_at (with_gate_timer 0x02 long_note) 17 ≡ 0x68 ∷ 0x11 ∷ 0 ∷ 0x08 ∷ 0x40
+    ∷ 0x0F ∷ 0 ∷ []
+  pub gate_kept : first_voice_at (with_gate_timer 0x42 long_note) 17 ≡ 0x68 ∷ 0x11 ∷ 0 ∷ 0x08
+    ∷ 0x41 ∷ 0x09 ∷ 0xA0 ∷ []
+  pub envelope_kept : first_voice_at (with_gate_timer 0x82 long_note) 17 ≡ 0x68 ∷ 0x11 ∷ 0 ∷ 0x08
+    ∷ 0x40 ∷ 0x09 ∷ 0xA0 ∷ []
 
 -- a wave row that waits 15 frames, and command 8 that begins the program anew
 abbrev pub WaveProgramWaits : Type 0
-WaveProgramWaits = from_call (frequency_at waiting_wave) 8 24 ≡ replicate 16 0x1168 ++ replicate 7 0x22D0 ++ 0x1168 ∷ []
+WaveProgramWaits =
+    from_call (frequency_at waiting_wave) 8 24 ≡ replicate 16 0x1168 ++ replicate 7 0x22D0
+    ++ 0x1168 ∷ []
 
 -- an instrument without a note brings its vibrato pointer, and the delay stays
 pub record VibratoChangesAlone : Type 0 where

@@ -15,7 +15,8 @@ abbrev pub subtune : List ℕ → List ℕ → List ℕ → Subtune
 subtune one two three = record { one = order one; two = order two; three = order three }
 
 abbrev pub row : ℕ → ℕ → ℕ → ℕ → Row
-row note instrument command param = record { note = note; instrument = instrument; command = command; param = param }
+row note instrument command param =
+    record { note = note; instrument = instrument; command = command; param = param }
 
 abbrev pub sides : ℕ → ℕ → TableRow
 sides left right = record { left = left; right = right }
@@ -103,7 +104,8 @@ long_note = with_rows (row 0x90 1 0 0 ∷ rests 1) one_note
 
 -- a wave program that waits 15 frames and goes an octave up, begun anew by a row
 abbrev pub waiting_wave : Song
-waiting_wave = record (with_rows (row 0x90 1 0 0 ∷ rests 3 ++ row 0xBD 0 8 1 ∷ rests 3) plain_note) {
+waiting_wave =
+    record (with_rows (row 0x90 1 0 0 ∷ rests 3 ++ row 0xBD 0 8 1 ∷ rests 3) plain_note) {
   wave = sides 0x11 0 ∷ sides 0x0F 0x0C ∷ sides 0xFF 0 ∷ [];
 }
 
@@ -123,11 +125,14 @@ every_eighth instrument (suc n) = (row 0x90 instrument 0 0 ∷ rests 7) ++ every
 -- a song as a musician keeps it: three instruments, two subtunes, a filter, a vibrato
 abbrev pub small_song : Song
 small_song = record empty_song {
-  subtunes = subtune (0 ∷ []) (1 ∷ []) (2 ∷ []) ∷ subtune (0xF2 ∷ 0 ∷ []) (0xD1 ∷ 3 ∷ 1 ∷ []) (3 ∷ []) ∷ [];
+  subtunes =
+      subtune (0 ∷ []) (1 ∷ []) (2 ∷ []) ∷ subtune (0xF2 ∷ 0 ∷ []) (0xD1 ∷ 3 ∷ 1 ∷ []) (3 ∷ [])
+      ∷ [];
   instruments = plucked
       ∷ record plucked { ad = 0x00; sr = 0xF9; wave = 3; pulse = 0; vibrato = 1; vibrato_delay = 8 }
       ∷ record plucked { ad = 0x0A; sr = 0x88; wave = 3; pulse = 0; filter = 1 } ∷ [];
-  wave = sides 0x41 0 ∷ sides 0xFF 0 ∷ sides 0x21 0 ∷ sides 0x21 4 ∷ sides 0x21 7 ∷ sides 0xFF 3 ∷ [];
+  wave =
+      sides 0x41 0 ∷ sides 0xFF 0 ∷ sides 0x21 0 ∷ sides 0x21 4 ∷ sides 0x21 7 ∷ sides 0xFF 3 ∷ [];
   pulse = sides 0x88 0 ∷ sides 0x40 0x20 ∷ sides 0x40 0xE0 ∷ sides 0xFF 2 ∷ [];
   filter = sides 0x90 0xF1 ∷ sides 0 0x20 ∷ sides 0x40 1 ∷ sides 0xFF 0 ∷ [];
   speed = sides 4 0x30 ∷ [];

@@ -36,9 +36,11 @@ zero_instrument_in_range = record {
 zero_table_row_in_range : IsTableRow zero_table_row
 zero_table_row_in_range = record { left = lit< tt; right = lit< tt }
 
-numbered_or_zero : {X : Type 0} (P : X → Type 0) (items : List X) (n : ℕ) (d : X) → P d → All P items → P (numbered items n d)
+numbered_or_zero : {X : Type 0} (P : X → Type 0) (items : List X) (n : ℕ) (d : X) → P d → All P items →
+    P (numbered items n d)
 numbered_or_zero P items n d zero_one each =
-    cond_both (n == 0) d (get_or items (n - 1) d) P (λ z. zero_one) (λ z. All-get_or_any P items (n - 1) d zero_one each)
+    cond_both (n == 0) d (get_or items (n - 1) d) P (λ z. zero_one)
+    (λ z. All-get_or_any P items (n - 1) d zero_one each)
 
 pub instrument_in_range : (song : Song) (n : ℕ) → KeepsLimits song → IsInstrument (instrument_at song n)
 unfolding instrument_at
@@ -51,10 +53,12 @@ rows_of_table song Pulse limits = limits.pulse.each
 rows_of_table song Filter limits = limits.filter.each
 rows_of_table song Speed limits = limits.speed.each
 
-pub table_row_in_range : (song : Song) (name : TableName) (p : ℕ) → KeepsLimits song → IsTableRow (table_row song name p)
+pub table_row_in_range : (song : Song) (name : TableName) (p : ℕ) → KeepsLimits song →
+    IsTableRow (table_row song name p)
 unfolding table_row
 table_row_in_range song name p limits =
-    numbered_or_zero IsTableRow (table_of song name) p zero_table_row zero_table_row_in_range (rows_of_table song name limits)
+    numbered_or_zero IsTableRow (table_of song name) p zero_table_row zero_table_row_in_range
+    (rows_of_table song name limits)
 
 pub pattern_rows_in_range : (song : Song) (n : ℕ) → KeepsLimits song → All IsRow (pattern_at song n)
 unfolding pattern_at
@@ -68,6 +72,7 @@ entries_there : (order : Order) → 0 < length order.entries → has_entries ord
 entries_there order h = grind (arith, nat_tests)
 
 -- a silent subtune can be played
-pub silent_is_playable : (patterns : List (List Row)) (subtune : Subtune) → IsSilentSubtune patterns subtune → is_playable_subtune subtune ≡ true
+pub silent_is_playable : (patterns : List (List Row)) (subtune : Subtune) → IsSilentSubtune patterns subtune →
+    is_playable_subtune subtune ≡ true
 silent_is_playable patterns subtune s =
     rw (entries_there subtune.one s.one.entry, entries_there subtune.two s.two.entry, entries_there subtune.three s.three.entry)

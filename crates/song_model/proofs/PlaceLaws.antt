@@ -17,7 +17,8 @@ use Rattle.song_model.proofs.Walks.{one_cycle_is_enough_lem}
 use Rattle.song_model.proofs.Rests.{place_at, play_of, pattern_plays, pattern_places, pattern_transpose, pattern_repeat, at_end, endless_cycle}
 
 -- from this place these plays are left, with these places after them, and the walk ends with this transpose and this repeat
-record Stands (entries : List ℕ) (at : OrderPlace) (xs : List Step) (ys : List OrderPlace) (t : ℤ) (r : ℕ) : Type 0 where
+record Stands (entries : List ℕ) (at : OrderPlace) (xs : List Step) (ys : List OrderPlace) (t : ℤ)
+    (r : ℕ) : Type 0 where
   inside : at.place ≤ length entries
   plays : plays_from entries at ≡ xs
   places : places_from entries at ≡ ys
@@ -45,10 +46,14 @@ record IsByteAt (entries : List ℕ) (p byte : ℕ) (bytes : List ℕ) : Type 0 
 
 -- the plays of a pattern, the last of which is the first here
 pattern_stands : (entries bytes : List ℕ) (byte p : ℕ) (t : ℤ) (r : ℕ) → IsByteAt entries p byte bytes → byte < 0xD0 →
-    EachStands entries (walk_plays bytes t 0) (walk_places bytes (p + 1) t 0) (end_transpose bytes t) (end_repeat bytes 0) →
-    EachStands entries (replicate (suc r) (play_of byte t) ++ walk_plays bytes t 0) (places_of_pattern p t r ++ walk_places bytes (p + 1) t 0) (end_transpose bytes t) (end_repeat bytes 0)
+    EachStands entries (walk_plays bytes t 0) (walk_places bytes (p + 1) t 0) (end_transpose bytes t)
+    (end_repeat bytes 0) →
+    EachStands entries (replicate (suc r) (play_of byte t) ++ walk_plays bytes t 0)
+    (places_of_pattern p t r ++ walk_places bytes (p + 1) t 0) (end_transpose bytes t) (end_repeat bytes 0)
 pattern_stands entries bytes byte p t zero at low others = record {
-  each = one_more entries (play_of byte t) (place_at (p + 1) t 0) (walk_plays bytes t 0) (walk_places bytes (p + 1) t 0) (end_transpose bytes t) (end_repeat bytes 0)
+  each =
+      one_more entries (play_of byte t) (place_at (p + 1) t 0) (walk_plays bytes t 0) (walk_places bytes (p + 1) t 0)
+      (end_transpose bytes t) (end_repeat bytes 0)
       (record {
         inside = omega (arith, at.inside);
         plays = rw at.left refl;
@@ -58,7 +63,9 @@ pattern_stands entries bytes byte p t zero at low others = record {
       }) others;
 }
 pattern_stands entries bytes byte p t (suc q) at low others = record {
-  each = one_more entries (play_of byte t) (place_at p t q) (replicate (suc q) (play_of byte t) ++ walk_plays bytes t 0) (places_of_pattern p t q ++ walk_places bytes (p + 1) t 0) (end_transpose bytes t) (end_repeat bytes 0)
+  each =
+      one_more entries (play_of byte t) (place_at p t q) (replicate (suc q) (play_of byte t) ++ walk_plays bytes t 0)
+      (places_of_pattern p t q ++ walk_places bytes (p + 1) t 0) (end_transpose bytes t) (end_repeat bytes 0)
       (record {
         inside = omega (arith, at.inside);
         plays = rw at.here (pattern_plays bytes byte t q low);
@@ -81,9 +88,12 @@ byte_at (x ∷ entries) bytes byte (suc p) e =
       inside = omega (arith, inner.inside);
     }
 
-byte_stands : (entries bytes : List ℕ) (byte p : ℕ) (t : ℤ) (r : ℕ) (z : Bool) → ltb byte 0xD0 ≡ z → IsByteAt entries p byte bytes →
-    ((t : ℤ) (r : ℕ) → EachStands entries (walk_plays bytes t r) (walk_places bytes (p + 1) t r) (end_transpose bytes t) (end_repeat bytes r)) →
-    EachStands entries (walk_plays (byte ∷ bytes) t r) (walk_places (byte ∷ bytes) p t r) (end_transpose (byte ∷ bytes) t) (end_repeat (byte ∷ bytes) r)
+byte_stands : (entries bytes : List ℕ) (byte p : ℕ) (t : ℤ) (r : ℕ) (z : Bool) → ltb byte 0xD0 ≡ z →
+    IsByteAt entries p byte bytes →
+    ((t : ℤ) (r : ℕ) → EachStands entries (walk_plays bytes t r) (walk_places bytes (p + 1) t r)
+      (end_transpose bytes t) (end_repeat bytes r)) →
+    EachStands entries (walk_plays (byte ∷ bytes) t r) (walk_places (byte ∷ bytes) p t r)
+    (end_transpose (byte ∷ bytes) t) (end_repeat (byte ∷ bytes) r)
 byte_stands entries bytes byte p t r true e at others =
     let low : byte < 0xD0 = grind (arith, nat_tests) in
     rw (pattern_plays bytes byte t r low, pattern_places bytes byte p t r low, pattern_transpose bytes byte t low, pattern_repeat bytes byte r low)
@@ -96,18 +106,21 @@ walk_stands : (entries bytes : List ℕ) (p : ℕ) (t : ℤ) (r : ℕ) → drop 
 walk_stands entries [] p t r e = no_plays entries t r
 walk_stands entries (byte ∷ bytes) p t r e =
     let here = byte_at entries bytes byte p e in
-    byte_stands entries bytes byte p t r (ltb byte 0xD0) refl here (λ t r. walk_stands entries bytes (p + 1) t r here.left)
+    byte_stands entries bytes byte p t r (ltb byte 0xD0) refl here
+    (λ t r. walk_stands entries bytes (p + 1) t r here.left)
 
 -- there are as many places as plays
 pattern_count : (p : ℕ) (t : ℤ) (r : ℕ) → length (places_of_pattern p t r) ≡ r + 1
 pattern_count p t zero = refl
 pattern_count p t (suc r) = let inner = pattern_count p t r in omega arith
 
-byte_count : (byte p : ℕ) (t : ℤ) (r : ℕ) (z : Bool) → ltb byte 0xD0 ≡ z → length (places_of byte p t r) ≡ length (plays_of byte t r)
+byte_count : (byte p : ℕ) (t : ℤ) (r : ℕ) (z : Bool) → ltb byte 0xD0 ≡ z →
+    length (places_of byte p t r) ≡ length (plays_of byte t r)
 byte_count byte p t r true e = rw e (pattern_count p t r ∙ sym (length-replicate (r + 1) (play_of byte t)))
 byte_count byte p t r false e = rw e refl
 
-counts_add : (xs us : List OrderPlace) (ys vs : List Step) → length xs ≡ length ys → length us ≡ length vs → length (xs ++ us) ≡ length (ys ++ vs)
+counts_add : (xs us : List OrderPlace) (ys vs : List Step) → length xs ≡ length ys → length us ≡ length vs →
+    length (xs ++ us) ≡ length (ys ++ vs)
 counts_add xs us ys vs e f = omega (arith, length-append xs us, length-append ys vs)
 
 walk_count : (bytes : List ℕ) (p : ℕ) (t : ℤ) (r : ℕ) → length (walk_places bytes p t r) ≡ length (walk_plays bytes t r)
@@ -115,7 +128,8 @@ walk_count [] p t r = refl
 walk_count (byte ∷ bytes) p t r =
     counts_add (places_of byte p t r) (walk_places bytes (p + 1) (transpose_after byte t) (repeat_after byte r))
     (plays_of byte t r) (walk_plays bytes (transpose_after byte t) (repeat_after byte r))
-    (byte_count byte p t r (ltb byte 0xD0) refl) (walk_count bytes (p + 1) (transpose_after byte t) (repeat_after byte r))
+    (byte_count byte p t r (ltb byte 0xD0) refl)
+    (walk_count bytes (p + 1) (transpose_after byte t) (repeat_after byte r))
 
 prefix_count : (order : Order) → length (prefix_places order) ≡ length (prefix_of order)
 unfolding prefix_of prefix_places
@@ -123,14 +137,18 @@ prefix_count order = walk_count order.entries 0 (pos 0) 0
 
 cycle_count : (order : Order) → length (cycle_places order) ≡ length (cycle_of order)
 unfolding cycle_of cycle_places
-cycle_count order = walk_count (drop order.restart order.entries) order.restart (end_transpose order.entries (pos 0)) (end_repeat order.entries 0)
+cycle_count order =
+    walk_count (drop order.restart order.entries) order.restart (end_transpose order.entries (pos 0))
+    (end_repeat order.entries 0)
 
 -- the walk of an orderlist, begun at its start and at its restart position
 abbrev StandsIn : Order → OrderPlace → List Step → List OrderPlace → Type 0
-StandsIn order at xs ys = Stands order.entries at xs ys (end_transpose order.entries (pos 0)) (end_repeat order.entries 0)
+StandsIn order at xs ys =
+    Stands order.entries at xs ys (end_transpose order.entries (pos 0)) (end_repeat order.entries 0)
 
 abbrev EachStandsIn : Order → List Step → List OrderPlace → Type 0
-EachStandsIn order xs ys = EachStands order.entries xs ys (end_transpose order.entries (pos 0)) (end_repeat order.entries 0)
+EachStandsIn order xs ys =
+    EachStands order.entries xs ys (end_transpose order.entries (pos 0)) (end_repeat order.entries 0)
 
 prefix_stands : (order : Order) → EachStandsIn order (prefix_of order) (prefix_places order)
 unfolding prefix_of prefix_places
@@ -140,10 +158,17 @@ cycle_stands : (order : Order) → EachStandsIn order (cycle_of order) (cycle_pl
 unfolding cycle_of cycle_places
 cycle_stands order =
     let same = one_cycle_is_enough_lem order in
-    let P : ℤ → ℕ → Type 0 = λ t r. EachStands order.entries (walk_plays (drop order.restart order.entries) (end_transpose order.entries (pos 0)) (end_repeat order.entries 0)) (walk_places (drop order.restart order.entries) order.restart (end_transpose order.entries (pos 0)) (end_repeat order.entries 0)) t r in
-    let go = walk_stands order.entries (drop order.restart order.entries) order.restart (end_transpose order.entries (pos 0)) (end_repeat order.entries 0) refl in
+    let P : ℤ → ℕ → Type 0 =
+      λ t r. EachStands order.entries
+      (walk_plays (drop order.restart order.entries) (end_transpose order.entries (pos 0))
+        (end_repeat order.entries 0)) (walk_places (drop order.restart order.entries) order.restart
+        (end_transpose order.entries (pos 0)) (end_repeat order.entries 0)) t r in
+    let go =
+      walk_stands order.entries (drop order.restart order.entries) order.restart (end_transpose order.entries (pos 0))
+      (end_repeat order.entries 0) refl in
     subst (λ (r : ℕ). P (end_transpose order.entries (pos 0)) r) same.repeat
-    (subst (λ (t : ℤ). P t (end_repeat (drop order.restart order.entries) (end_repeat order.entries 0))) same.transpose go)
+    (subst (λ (t : ℤ). P t
+      (end_repeat (drop order.restart order.entries) (end_repeat order.entries 0))) same.transpose go)
 
 -- at this place this play comes next, with this place after it
 pub record ComesNext (order : Order) (at : OrderPlace) (step : Step) (after : OrderPlace) : Type 0 where
@@ -151,11 +176,14 @@ pub record ComesNext (order : Order) (at : OrderPlace) (step : Step) (after : Or
   pub play : get_or (coming_plays order at) 0 no_step ≡ step
   pub place : get_or (coming_places order at) 0 first_place ≡ after
 
-comes_also : (order : Order) (here at : OrderPlace) (step play : Step) (after place : OrderPlace) → ComesNext order here step after →
+comes_also : (order : Order) (here at : OrderPlace) (step play : Step) (after place : OrderPlace) →
+    ComesNext order here step after →
     at ≡ here → play ≡ step → place ≡ after → ComesNext order at play place
 comes_also order here at step play after place next e f g = rw (e, f, g) next
 
-start_comes : (order : Order) → ComesNext order first_place (get_or (prefix_of order ++ cycle_of order) 0 no_step) (get_or (prefix_places order ++ cycle_places order) 0 first_place)
+start_comes : (order : Order) →
+    ComesNext order first_place (get_or (prefix_of order ++ cycle_of order) 0 no_step)
+    (get_or (prefix_places order ++ cycle_places order) 0 first_place)
 unfolding prefix_of prefix_places
 start_comes order = record {
   on_walk = record { inside = omega arith; transpose = refl; repeat = refl };
@@ -168,36 +196,53 @@ twice_first [] d = refl
 twice_first (x ∷ xs) d = refl
 
 -- at the end the cycle comes
-end_transpose_is : (entries : List ℕ) (at : OrderPlace) (xs : List Step) (ys : List OrderPlace) (t : ℤ) (r : ℕ) → Stands entries at xs ys t r → length entries ≤ at.place → at.transpose ≡ t
+end_transpose_is : (entries : List ℕ) (at : OrderPlace) (xs : List Step) (ys : List OrderPlace) (t : ℤ) (r : ℕ) →
+    Stands entries at xs ys t r → length entries ≤ at.place → at.transpose ≡ t
 end_transpose_is entries at xs ys t r stands h =
-    let ends : end_transpose (drop at.place entries) at.transpose ≡ at.transpose = rw (at_end entries at.place h) refl in
+    let ends : end_transpose (drop at.place entries) at.transpose ≡ at.transpose =
+      rw (at_end entries at.place h) refl in
     sym ends ∙ stands.transpose
 
-end_repeat_is : (entries : List ℕ) (at : OrderPlace) (xs : List Step) (ys : List OrderPlace) (t : ℤ) (r : ℕ) → Stands entries at xs ys t r → length entries ≤ at.place → at.repeat ≡ r
+end_repeat_is : (entries : List ℕ) (at : OrderPlace) (xs : List Step) (ys : List OrderPlace) (t : ℤ) (r : ℕ) →
+    Stands entries at xs ys t r → length entries ≤ at.place → at.repeat ≡ r
 end_repeat_is entries at xs ys t r stands h =
     let ends : end_repeat (drop at.place entries) at.repeat ≡ at.repeat = rw (at_end entries at.place h) refl in
     sym ends ∙ stands.repeat
 
 seam_comes : (order : Order) → IsEndless order →
-    ComesNext order (place_at order.restart (end_transpose order.entries (pos 0)) (end_repeat order.entries 0)) (get_or (cycle_of order) 0 no_step) (get_or (cycle_places order) 0 first_place)
+    ComesNext order (place_at order.restart (end_transpose order.entries (pos 0)) (end_repeat order.entries 0))
+    (get_or (cycle_of order) 0 no_step) (get_or (cycle_places order) 0 first_place)
 unfolding cycle_of cycle_places
 seam_comes order endless =
     let same = one_cycle_is_enough_lem order in record {
       on_walk = record { inside = omega (arith, endless.restart); transpose = same.transpose; repeat = same.repeat };
-      play = twice_first (walk_plays (drop order.restart order.entries) (end_transpose order.entries (pos 0)) (end_repeat order.entries 0)) no_step;
-      place = twice_first (walk_places (drop order.restart order.entries) order.restart (end_transpose order.entries (pos 0)) (end_repeat order.entries 0)) first_place;
+      play =
+          twice_first
+          (walk_plays (drop order.restart order.entries) (end_transpose order.entries (pos 0))
+            (end_repeat order.entries 0)) no_step;
+      place =
+          twice_first
+          (walk_places (drop order.restart order.entries) order.restart (end_transpose order.entries (pos 0))
+            (end_repeat order.entries 0)) first_place;
     }
 
-restarted_by : (order : Order) (at : OrderPlace) (xs : List Step) (ys : List OrderPlace) (z : Bool) → eqb at.place (length order.entries) ≡ z →
+restarted_by : (order : Order) (at : OrderPlace) (xs : List Step) (ys : List OrderPlace) (z : Bool) →
+    eqb at.place (length order.entries) ≡ z →
     IsEndless order → StandsIn order at xs ys →
-    ComesNext order (cond z (record at { place = order.restart }) at) (get_or (xs ++ cycle_of order) 0 no_step) (get_or (ys ++ cycle_places order) 0 first_place)
+    ComesNext order (cond z (record at { place = order.restart }) at) (get_or (xs ++ cycle_of order) 0 no_step)
+    (get_or (ys ++ cycle_places order) 0 first_place)
 restarted_by order at xs ys true e endless stands =
     let ended : length order.entries ≤ at.place = grind (arith, nat_tests) in
-    let t = end_transpose_is order.entries at xs ys (end_transpose order.entries (pos 0)) (end_repeat order.entries 0) stands ended in
-    let r = end_repeat_is order.entries at xs ys (end_transpose order.entries (pos 0)) (end_repeat order.entries 0) stands ended in
+    let t =
+      end_transpose_is order.entries at xs ys (end_transpose order.entries (pos 0))
+      (end_repeat order.entries 0) stands ended in
+    let r =
+      end_repeat_is order.entries at xs ys (end_transpose order.entries (pos 0))
+      (end_repeat order.entries 0) stands ended in
     let no_plays : [] ≡ xs = sym (rw (at_end order.entries at.place ended) refl) ∙ stands.plays in
     let no_places : [] ≡ ys = sym (rw (at_end order.entries at.place ended) refl) ∙ stands.places in
-    comes_also order (place_at order.restart (end_transpose order.entries (pos 0)) (end_repeat order.entries 0)) (place_at order.restart at.transpose at.repeat)
+    comes_also order (place_at order.restart (end_transpose order.entries (pos 0)) (end_repeat order.entries 0))
+    (place_at order.restart at.transpose at.repeat)
     (get_or (cycle_of order) 0 no_step) (get_or (xs ++ cycle_of order) 0 no_step)
     (get_or (cycle_places order) 0 first_place) (get_or (ys ++ cycle_places order) 0 first_place)
     (seam_comes order endless)
@@ -210,9 +255,12 @@ restarted_by order at xs ys false e endless stands = record {
   place = ap (λ places. get_or (places ++ cycle_places order) 0 first_place) stands.places;
 }
 
-restarted_comes : (order : Order) (at : OrderPlace) (xs : List Step) (ys : List OrderPlace) → IsEndless order → StandsIn order at xs ys →
-    ComesNext order (restarted order at) (get_or (xs ++ cycle_of order) 0 no_step) (get_or (ys ++ cycle_places order) 0 first_place)
-restarted_comes order at xs ys endless stands = restarted_by order at xs ys (eqb at.place (length order.entries)) refl endless stands
+restarted_comes : (order : Order) (at : OrderPlace) (xs : List Step) (ys : List OrderPlace) → IsEndless order →
+    StandsIn order at xs ys →
+    ComesNext order (restarted order at) (get_or (xs ++ cycle_of order) 0 no_step)
+    (get_or (ys ++ cycle_places order) 0 first_place)
+restarted_comes order at xs ys endless stands =
+    restarted_by order at xs ys (eqb at.place (length order.entries)) refl endless stands
 
 -- items of a prefix and a cycle that is repeated
 in_prefix : {X : Type 0} (xs ys : List X) (d : X) (k : ℕ) → k < length xs → unrolled xs ys d k ≡ get_or xs k d
@@ -220,7 +268,8 @@ in_prefix xs ys d k h =
     let test : ltb k (length xs) ≡ true = grind (arith, nat_tests) in
     rw test refl
 
-in_cycle : {X : Type 0} (xs ys : List X) (d : X) (k m : ℕ) → length xs ≤ k → (k - length xs) % length ys ≡ m → unrolled xs ys d k ≡ get_or ys m d
+in_cycle : {X : Type 0} (xs ys : List X) (d : X) (k m : ℕ) → length xs ≤ k → (k - length xs) % length ys ≡ m →
+    unrolled xs ys d k ≡ get_or ys m d
 in_cycle xs ys d k m h e =
     let test : ltb k (length xs) ≡ false = grind (arith, nat_tests) in
     rw (test, e) refl
@@ -228,16 +277,19 @@ in_cycle xs ys d k m h e =
 first_of_cycle : (k n m : ℕ) → k ≡ n → 0 < m → (k - n) % m ≡ 0
 first_of_cycle k n m e h = let none : k - n ≡ 0 = omega arith in rw none (omega arith)
 
-next_of_prefix : {X : Type 0} (xs ys : List X) (d : X) (k : ℕ) → k ≤ length xs → 0 < length ys → unrolled xs ys d k ≡ get_or (drop k xs ++ ys) 0 d
+next_of_prefix : {X : Type 0} (xs ys : List X) (d : X) (k : ℕ) → k ≤ length xs → 0 < length ys →
+    unrolled xs ys d k ≡ get_or (drop k xs ++ ys) 0 d
 next_of_prefix xs ys d k h some =
     elim (cases_lt k (length xs)) [
       | inl lt ↦ in_prefix xs ys d k lt ∙ sym (first_of_rest xs ys k d lt)
       | inr ge ↦
           let seam : k ≡ length xs = omega arith in
-          in_cycle xs ys d k 0 ge (first_of_cycle k (length xs) (length ys) seam some) ∙ sym (first_after_all xs ys k d ge)
+          in_cycle xs ys d k 0 ge (first_of_cycle k (length xs) (length ys) seam some) ∙ sym
+          (first_after_all xs ys k d ge)
     ]
 
-next_of_cycle : {X : Type 0} (xs ys : List X) (d : X) (k m : ℕ) → length xs ≤ k → 0 < length ys → (k - length xs) % length ys ≡ m →
+next_of_cycle : {X : Type 0} (xs ys : List X) (d : X) (k m : ℕ) → length xs ≤ k → 0 < length ys →
+    (k - length xs) % length ys ≡ m →
     unrolled xs ys d (suc k) ≡ get_or (drop (suc m) ys ++ ys) 0 d
 next_of_cycle xs ys d k m h some e =
     let above : length xs ≤ suc k = omega arith in
@@ -266,32 +318,41 @@ comes_in_prefix : (order : Order) → IsEndless order → (j : ℕ) → j < leng
 comes_in_prefix order endless j h =
     let count = prefix_count order in
     let inside : j < length (prefix_places order) = omega arith in
-    comes_also order (restarted order (get_or (prefix_places order) j first_place)) (restarted order (bare_place order j))
+    comes_also order (restarted order (get_or (prefix_places order) j first_place))
+    (restarted order (bare_place order j))
     (get_or (drop (suc j) (prefix_of order) ++ cycle_of order) 0 no_step) (bare_play order (suc j))
     (get_or (drop (suc j) (prefix_places order) ++ cycle_places order) 0 first_place) (bare_place order (suc j))
-    (restarted_comes order (get_or (prefix_places order) j first_place) (drop (suc j) (prefix_of order)) (drop (suc j) (prefix_places order)) endless ((prefix_stands order).each j h))
+    (restarted_comes order (get_or (prefix_places order) j first_place) (drop (suc j) (prefix_of order))
+      (drop (suc j) (prefix_places order)) endless ((prefix_stands order).each j h))
     (ap (restarted order) (in_prefix (prefix_places order) (cycle_places order) first_place j inside))
     (next_of_prefix (prefix_of order) (cycle_of order) no_step (suc j) (omega arith) (endless_cycle order endless))
-    (next_of_prefix (prefix_places order) (cycle_places order) first_place (suc j) (omega arith) (some_places order endless))
+    (next_of_prefix (prefix_places order) (cycle_places order) first_place (suc j) (omega arith)
+      (some_places order endless))
 
 -- after a play of the cycle
-comes_in_cycle : (order : Order) → IsEndless order → (j m : ℕ) → length (prefix_of order) ≤ j → (j - length (prefix_of order)) % length (cycle_of order) ≡ m →
+comes_in_cycle : (order : Order) → IsEndless order → (j m : ℕ) → length (prefix_of order) ≤ j →
+    (j - length (prefix_of order)) % length (cycle_of order) ≡ m →
     ComesNext order (restarted order (bare_place order j)) (bare_play order (suc j)) (bare_place order (suc j))
 comes_in_cycle order endless j m h e =
     let count = prefix_count order in
     let some = endless_cycle order endless in
-    let inside : m < length (cycle_of order) = omega (arith, mod_below (j - length (prefix_of order)) (length (cycle_of order)) some) in
+    let inside : m < length (cycle_of order) =
+      omega (arith, mod_below (j - length (prefix_of order)) (length (cycle_of order)) some) in
     let above : length (prefix_places order) ≤ j = omega arith in
-    let same : (j - length (prefix_places order)) % length (cycle_places order) ≡ m = rw (prefix_count order, cycle_count order) e in
-    comes_also order (restarted order (get_or (cycle_places order) m first_place)) (restarted order (bare_place order j))
+    let same : (j - length (prefix_places order)) % length (cycle_places order) ≡ m =
+      rw (prefix_count order, cycle_count order) e in
+    comes_also order (restarted order (get_or (cycle_places order) m first_place))
+    (restarted order (bare_place order j))
     (get_or (drop (suc m) (cycle_of order) ++ cycle_of order) 0 no_step) (bare_play order (suc j))
     (get_or (drop (suc m) (cycle_places order) ++ cycle_places order) 0 first_place) (bare_place order (suc j))
-    (restarted_comes order (get_or (cycle_places order) m first_place) (drop (suc m) (cycle_of order)) (drop (suc m) (cycle_places order)) endless ((cycle_stands order).each m inside))
+    (restarted_comes order (get_or (cycle_places order) m first_place) (drop (suc m) (cycle_of order))
+      (drop (suc m) (cycle_places order)) endless ((cycle_stands order).each m inside))
     (ap (restarted order) (in_cycle (prefix_places order) (cycle_places order) first_place j m above same))
     (next_of_cycle (prefix_of order) (cycle_of order) no_step j m h some e)
     (next_of_cycle (prefix_places order) (cycle_places order) first_place j m above (some_places order endless) same)
 
-comes_after : (order : Order) → IsEndless order → (j : ℕ) → ComesNext order (restarted order (bare_place order j)) (bare_play order (suc j)) (bare_place order (suc j))
+comes_after : (order : Order) → IsEndless order → (j : ℕ) →
+    ComesNext order (restarted order (bare_place order j)) (bare_play order (suc j)) (bare_place order (suc j))
 comes_after order endless j =
     elim (cases_lt j (length (prefix_of order))) [
       | inl lt ↦ comes_in_prefix order endless j lt
@@ -299,7 +360,8 @@ comes_after order endless j =
     ]
 
 -- at the place of each play that play comes next
-pub comes_at : (order : Order) → IsEndless order → (i : ℕ) → ComesNext order (place_of order i) (played order i) (bare_place order i)
+pub comes_at : (order : Order) → IsEndless order → (i : ℕ) →
+    ComesNext order (place_of order i) (played order i) (bare_place order i)
 unfolding place_of place_after played
 comes_at order endless zero =
     comes_also order first_place first_place

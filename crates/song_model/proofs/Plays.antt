@@ -23,7 +23,8 @@ low byte h = grind (arith, nat_tests)
 
 byte_patterns : (byte : ℕ) (t : ℤ) (r : ℕ) → All IsPatternPlay (plays_of byte t r)
 byte_patterns byte t r =
-    cond_both (ltb byte 0xD0) (replicate (r + 1) (record { pattern = byte; transpose = t })) [] (λ plays. All IsPatternPlay plays)
+    cond_both (ltb byte 0xD0) (replicate (r + 1) (record { pattern = byte; transpose = t })) []
+    (λ plays. All IsPatternPlay plays)
     (λ h. All-replicate IsPatternPlay (r + 1) (record { pattern = byte; transpose = t }) (low byte h))
     (λ h. All-nil IsPatternPlay)
 
@@ -39,12 +40,14 @@ prefix_patterns order = walk_patterns order.entries (pos 0) 0
 
 cycle_patterns : (order : Order) → All IsPatternPlay (cycle_of order)
 unfolding cycle_of
-cycle_patterns order = walk_patterns (drop order.restart order.entries) (end_transpose order.entries (pos 0)) (end_repeat order.entries 0)
+cycle_patterns order =
+    walk_patterns (drop order.restart order.entries) (end_transpose order.entries (pos 0)) (end_repeat order.entries 0)
 
 pub plays_are_patterns_lem : PlaysArePatterns
 plays_are_patterns_lem order i endless = record {
   entry = plays_are_entries_lem order i (endless_cycle order endless);
-  pattern = each_play IsPatternPlay order i (endless_cycle order endless) (prefix_patterns order) (cycle_patterns order);
+  pattern =
+      each_play IsPatternPlay order i (endless_cycle order endless) (prefix_patterns order) (cycle_patterns order);
 }
 
 -- ---- transposes
@@ -67,11 +70,13 @@ after_byte byte t e h =
 
 byte_transposes : (byte : ℕ) (t : ℤ) (r : ℕ) → IsTranspose t → All HasTranspose (plays_of byte t r)
 byte_transposes byte t r h =
-    cond_both (ltb byte 0xD0) (replicate (r + 1) (record { pattern = byte; transpose = t })) [] (λ plays. All HasTranspose plays)
+    cond_both (ltb byte 0xD0) (replicate (r + 1) (record { pattern = byte; transpose = t })) []
+    (λ plays. All HasTranspose plays)
     (λ z. All-replicate HasTranspose (r + 1) (record { pattern = byte; transpose = t }) h)
     (λ z. All-nil HasTranspose)
 
-walk_transposes : (bytes : List ℕ) (t : ℤ) (r : ℕ) → All IsEntry bytes → IsTranspose t → All HasTranspose (walk_plays bytes t r)
+walk_transposes : (bytes : List ℕ) (t : ℤ) (r : ℕ) → All IsEntry bytes → IsTranspose t →
+    All HasTranspose (walk_plays bytes t r)
 walk_transposes [] t r e h = All-nil HasTranspose
 walk_transposes (byte ∷ bytes) t r e h =
     All-append HasTranspose (plays_of byte t r) (walk_plays bytes (transpose_after byte t) (repeat_after byte r))
@@ -82,7 +87,8 @@ walk_transposes (byte ∷ bytes) t r e h =
 end_in_range : (bytes : List ℕ) (t : ℤ) → All IsEntry bytes → IsTranspose t → IsTranspose (end_transpose bytes t)
 end_in_range [] t e h = h
 end_in_range (byte ∷ bytes) t e h =
-    end_in_range bytes (transpose_after byte t) (All-tail IsEntry byte bytes e) (after_byte byte t (All-head IsEntry byte bytes e) h)
+    end_in_range bytes (transpose_after byte t) (All-tail IsEntry byte bytes e)
+    (after_byte byte t (All-head IsEntry byte bytes e) h)
 
 prefix_transposes : (order : Order) → AreEntries order.entries → All HasTranspose (prefix_of order)
 unfolding prefix_of
@@ -91,8 +97,10 @@ prefix_transposes order e = walk_transposes order.entries (pos 0) 0 e.each no_tr
 cycle_transposes : (order : Order) → AreEntries order.entries → All HasTranspose (cycle_of order)
 unfolding cycle_of
 cycle_transposes order e =
-    walk_transposes (drop order.restart order.entries) (end_transpose order.entries (pos 0)) (end_repeat order.entries 0)
+    walk_transposes (drop order.restart order.entries) (end_transpose order.entries (pos 0))
+    (end_repeat order.entries 0)
     (All-drop IsEntry order.restart order.entries e.each) (end_in_range order.entries (pos 0) e.each no_transpose)
 
 pub transposes_in_range_lem : TransposesAreInRange
-transposes_in_range_lem order i e = any_play HasTranspose order i no_transpose (prefix_transposes order e) (cycle_transposes order e)
+transposes_in_range_lem order i e =
+    any_play HasTranspose order i no_transpose (prefix_transposes order e) (cycle_transposes order e)

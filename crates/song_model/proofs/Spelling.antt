@@ -20,19 +20,22 @@ Tells {S} P text part = (s t : S) (u v : List ℕ) → P s → P t → text s ++
 both : {S X Y : Type 0} (P : S → Type 0) (f g : S → List ℕ) (a : S → X) (b : S → Y) →
     Tells P f a → Tells P g b → Tells {X = X × Y} P (λ s. f s ++ g s) (λ s. (a s, b s))
 both P f g a b first second s t u v p q e =
-    let apart : f s ++ (g s ++ u) ≡ f t ++ (g t ++ v) = sym (append_assoc (f s) (g s) u) ∙ e ∙ append_assoc (f t) (g t) v in
+    let apart : f s ++ (g s ++ u) ≡ f t ++ (g t ++ v) =
+      sym (append_assoc (f s) (g s) u) ∙ e ∙ append_assoc (f t) (g t) v in
     let one = first s t (g s ++ u) (g t ++ v) p q apart in
     let two = second s t u v p q one.1 in
     (let x = one.0 in let y = two.0 in (cc), two.1)
 
 -- as many items one after the other, each of which tells itself
 items_tell : {X : Type 0} (P : X → Type 0) (f : X → List ℕ) → Tells P f (λ x. x) →
-    (xs ys : List X) (u v : List ℕ) → length xs ≡ length ys → All P xs → All P ys → flat_map f xs ++ u ≡ flat_map f ys ++ v → (xs ≡ ys) × (u ≡ v)
+    (xs ys : List X) (u v : List ℕ) → length xs ≡ length ys → All P xs → All P ys →
+    flat_map f xs ++ u ≡ flat_map f ys ++ v → (xs ≡ ys) × (u ≡ v)
 items_tell P f tells [] [] u v n p q e = (refl, e)
 items_tell P f tells [] (y ∷ ys) u v n p q e = absurd (omega arith)
 items_tell P f tells (x ∷ xs) [] u v n p q e = absurd (omega arith)
 items_tell P f tells (x ∷ xs) (y ∷ ys) u v n p q e =
-    let apart : f x ++ (flat_map f xs ++ u) ≡ f y ++ (flat_map f ys ++ v) = sym (append_assoc (f x) (flat_map f xs) u) ∙ e ∙ append_assoc (f y) (flat_map f ys) v in
+    let apart : f x ++ (flat_map f xs ++ u) ≡ f y ++ (flat_map f ys ++ v) =
+      sym (append_assoc (f x) (flat_map f xs) u) ∙ e ∙ append_assoc (f y) (flat_map f ys) v in
     let one = tells x y (flat_map f xs ++ u) (flat_map f ys ++ v) (All-head P x xs p) (All-head P y ys q) apart in
     let m : length xs ≡ length ys = omega arith in
     let two = items_tell P f tells xs ys u v m (All-tail P x xs p) (All-tail P y ys q) one.1 in
@@ -61,7 +64,8 @@ pattern_tells s t u v p q e =
     let m : length s ≡ length t = omega arith in
     let tail : (flat_map row_text s ++ end_row_text) ++ u ≡ (flat_map row_text t ++ end_row_text) ++ v = (cc) in
     let apart : flat_map row_text s ++ (end_row_text ++ u) ≡ flat_map row_text t ++ (end_row_text ++ v) =
-    sym (append_assoc (flat_map row_text s) end_row_text u) ∙ tail ∙ append_assoc (flat_map row_text t) end_row_text v in
+    sym (append_assoc (flat_map row_text s) end_row_text u) ∙ tail ∙ append_assoc
+    (flat_map row_text t) end_row_text v in
     let one = items_tell IsRow row_text row_tells s t (end_row_text ++ u) (end_row_text ++ v) m p.each q.each apart in
     (one.0, (split_append end_row_text end_row_text u v refl one.1).1)
 
@@ -86,11 +90,17 @@ of_part P Q f part keeps tells s t u v p q e = tells (part s) (part t) u v (keep
 
 subtune_tells : Tells IsSubtune subtune_text (λ subtune. subtune)
 subtune_tells s t u v p q e =
-    let one : Tells IsSubtune (λ s. order_text s.one) (λ s. s.one) = of_part IsSubtune IsOrder order_text (λ s. s.one) (λ s k. k.one) order_tells in
-    let two : Tells IsSubtune (λ s. order_text s.two) (λ s. s.two) = of_part IsSubtune IsOrder order_text (λ s. s.two) (λ s k. k.two) order_tells in
-    let three : Tells IsSubtune (λ s. order_text s.three) (λ s. s.three) = of_part IsSubtune IsOrder order_text (λ s. s.three) (λ s k. k.three) order_tells in
-    let r = both IsSubtune (λ s. order_text s.one ++ order_text s.two) (λ s. order_text s.three) (λ s. (s.one, s.two)) (λ s. s.three)
-    (both IsSubtune (λ s. order_text s.one) (λ s. order_text s.two) (λ s. s.one) (λ s. s.two) one two) three s t u v p q e in
+    let one : Tells IsSubtune (λ s. order_text s.one) (λ s. s.one) =
+      of_part IsSubtune IsOrder order_text (λ s. s.one) (λ s k. k.one) order_tells in
+    let two : Tells IsSubtune (λ s. order_text s.two) (λ s. s.two) =
+      of_part IsSubtune IsOrder order_text (λ s. s.two) (λ s k. k.two) order_tells in
+    let three : Tells IsSubtune (λ s. order_text s.three) (λ s. s.three) =
+      of_part IsSubtune IsOrder order_text (λ s. s.three) (λ s k. k.three) order_tells in
+    let r =
+      both IsSubtune (λ s. order_text s.one ++ order_text s.two) (λ s. order_text s.three) (λ s. (s.one, s.two))
+      (λ s. s.three)
+    (both IsSubtune (λ s. order_text s.one) (λ s. order_text s.two) (λ s. s.one)
+      (λ s. s.two) one two) three s t u v p q e in
     let same = r.0 in
     (λ i. record { one = (same i).0.0; two = (same i).0.1; three = (same i).1 }, r.1)
 
@@ -142,12 +152,19 @@ same_rows (x ∷ xs) (y ∷ ys) n l r =
 table_tells : Tells IsTable table_text (λ rows. rows)
 table_tells s t u v p q e =
     let n : length s ≡ length t = (cc) in
-    let tail : (map (λ row. row.left) s ++ map (λ row. row.right) s) ++ u ≡ (map (λ row. row.left) t ++ map (λ row. row.right) t) ++ v = (cc) in
-    let apart : map (λ row. row.left) s ++ (map (λ row. row.right) s ++ u) ≡ map (λ row. row.left) t ++ (map (λ row. row.right) t ++ v) =
-    sym (append_assoc (map (λ row. row.left) s) (map (λ row. row.right) s) u) ∙ tail ∙ append_assoc (map (λ row. row.left) t) (map (λ row. row.right) t) v in
-    let m : length (map (λ row. row.left) s) ≡ length (map (λ row. row.left) t) = length-map s _ ∙ n ∙ sym (length-map t _) in
-    let k : length (map (λ row. row.right) s) ≡ length (map (λ row. row.right) t) = length-map s _ ∙ n ∙ sym (length-map t _) in
-    let one = split_append (map (λ row. row.left) s) (map (λ row. row.left) t) (map (λ row. row.right) s ++ u) (map (λ row. row.right) t ++ v) m apart in
+    let tail : (map (λ row. row.left) s ++ map (λ row. row.right) s) ++ u ≡
+    (map (λ row. row.left) t ++ map (λ row. row.right) t) ++ v = (cc) in
+    let apart : map (λ row. row.left) s ++ (map (λ row. row.right) s ++ u) ≡ map (λ row. row.left) t ++
+    (map (λ row. row.right) t ++ v) =
+    sym (append_assoc (map (λ row. row.left) s) (map (λ row. row.right) s) u) ∙ tail ∙ append_assoc
+    (map (λ row. row.left) t) (map (λ row. row.right) t) v in
+    let m : length (map (λ row. row.left) s) ≡ length (map (λ row. row.left) t) =
+      length-map s _ ∙ n ∙ sym (length-map t _) in
+    let k : length (map (λ row. row.right) s) ≡ length (map (λ row. row.right) t) =
+      length-map s _ ∙ n ∙ sym (length-map t _) in
+    let one =
+      split_append (map (λ row. row.left) s) (map (λ row. row.left) t) (map (λ row. row.right) s ++ u)
+      (map (λ row. row.right) t ++ v) m apart in
     let two = split_append (map (λ row. row.right) s) (map (λ row. row.right) t) u v k one.1 in
     (same_rows s t n one.0 two.0, two.1)
 
@@ -179,11 +196,13 @@ patterns_tell =
     of_part KeepsLimits (KeepsLimit 208 IsPattern) patterns_text (λ s. s.patterns) (λ s k. k.patterns)
     (counted_tells 208 IsPattern pattern_text pattern_tells)
 
-tables_tell : Tells {X = ((List TableRow × List TableRow) × List TableRow) × List TableRow} KeepsLimits tables_text (λ s. (((s.wave, s.pulse), s.filter), s.speed))
+tables_tell : Tells {X = ((List TableRow × List TableRow) × List TableRow) × List TableRow} KeepsLimits tables_text
+    (λ s. (((s.wave, s.pulse), s.filter), s.speed))
 tables_tell =
     both KeepsLimits (λ s. table_text s.wave ++ table_text s.pulse ++ table_text s.filter) (λ s. table_text s.speed)
     (λ s. ((s.wave, s.pulse), s.filter)) (λ s. s.speed)
-    (both KeepsLimits (λ s. table_text s.wave ++ table_text s.pulse) (λ s. table_text s.filter) (λ s. (s.wave, s.pulse)) (λ s. s.filter)
+    (both KeepsLimits (λ s. table_text s.wave ++ table_text s.pulse) (λ s. table_text s.filter)
+      (λ s. (s.wave, s.pulse)) (λ s. s.filter)
     (both KeepsLimits (λ s. table_text s.wave) (λ s. table_text s.pulse) (λ s. s.wave) (λ s. s.pulse)
     (of_part KeepsLimits IsTable table_text (λ s. s.wave) (λ s k. k.wave) table_tells)
     (of_part KeepsLimits IsTable table_text (λ s. s.pulse) (λ s k. k.pulse) table_tells))
@@ -197,16 +216,26 @@ magic_tells s t u v p q e = (refl, (split_append (codes "GTS5") (codes "GTS5") u
 pub canonical_tells : Tells KeepsLimits canonical (λ s. s)
 unfolding canonical
 canonical_tells s t u v p q e =
-    let front1 = both KeepsLimits (λ s. codes "GTS5") texts_text (λ s. tt {0}) (λ s. ((s.name, s.author), s.copyright)) magic_tells texts_tell in
+    let front1 =
+      both KeepsLimits (λ s. codes "GTS5") texts_text (λ s. tt {0})
+      (λ s. ((s.name, s.author), s.copyright)) magic_tells texts_tell in
     let front2 = both KeepsLimits (λ s. codes "GTS5" ++ texts_text s) (λ s. subtunes_text s.subtunes)
     (λ s. (tt {0}, ((s.name, s.author), s.copyright))) (λ s. s.subtunes) front1 subtunes_tell in
-    let front3 = both KeepsLimits (λ s. codes "GTS5" ++ texts_text s ++ subtunes_text s.subtunes) (λ s. instruments_text s.instruments)
+    let front3 =
+      both KeepsLimits (λ s. codes "GTS5" ++ texts_text s ++ subtunes_text s.subtunes)
+      (λ s. instruments_text s.instruments)
     (λ s. ((tt {0}, ((s.name, s.author), s.copyright)), s.subtunes)) (λ s. s.instruments) front2 instruments_tell in
-    let front4 = both KeepsLimits (λ s. codes "GTS5" ++ texts_text s ++ subtunes_text s.subtunes ++ instruments_text s.instruments) tables_text
-    (λ s. (((tt {0}, ((s.name, s.author), s.copyright)), s.subtunes), s.instruments)) (λ s. (((s.wave, s.pulse), s.filter), s.speed)) front3 tables_tell in
-    let whole = both KeepsLimits (λ s. codes "GTS5" ++ texts_text s ++ subtunes_text s.subtunes ++ instruments_text s.instruments ++ tables_text s)
+    let front4 =
+      both KeepsLimits
+      (λ s. codes "GTS5" ++ texts_text s ++ subtunes_text s.subtunes ++ instruments_text s.instruments) tables_text
+    (λ s. (((tt {0}, ((s.name, s.author), s.copyright)), s.subtunes), s.instruments))
+    (λ s. (((s.wave, s.pulse), s.filter), s.speed)) front3 tables_tell in
+    let whole =
+      both KeepsLimits
+      (λ s. codes "GTS5" ++ texts_text s ++ subtunes_text s.subtunes ++ instruments_text s.instruments ++ tables_text s)
     (λ s. patterns_text s.patterns)
-    (λ s. ((((tt {0}, ((s.name, s.author), s.copyright)), s.subtunes), s.instruments), (((s.wave, s.pulse), s.filter), s.speed))) (λ s. s.patterns)
+    (λ s. ((((tt {0}, ((s.name, s.author), s.copyright)), s.subtunes), s.instruments),
+      (((s.wave, s.pulse), s.filter), s.speed))) (λ s. s.patterns)
     front4 patterns_tell s t u v p q e in
     let same = whole.0 in (
       λ i. record {

@@ -20,7 +20,9 @@ abbrev pub subtunes_text : List Subtune → List ℕ
 subtunes_text subtunes = length subtunes ∷ flat_map subtune_text subtunes
 
 abbrev pub instrument_text : Instrument → List ℕ
-instrument_text i = i.ad ∷ i.sr ∷ i.wave ∷ i.pulse ∷ i.filter ∷ i.vibrato ∷ i.vibrato_delay ∷ i.gate_timer ∷ i.first_wave ∷ i.name
+instrument_text i =
+    i.ad ∷ i.sr ∷ i.wave ∷ i.pulse ∷ i.filter ∷ i.vibrato ∷ i.vibrato_delay ∷ i.gate_timer
+    ∷ i.first_wave ∷ i.name
 
 abbrev pub instruments_text : List Instrument → List ℕ
 instruments_text instruments = length instruments ∷ flat_map instrument_text instruments
@@ -46,7 +48,8 @@ abbrev pub texts_text : Song → List ℕ
 texts_text song = song.name ++ song.author ++ song.copyright
 
 abbrev pub tables_text : Song → List ℕ
-tables_text song = table_text song.wave ++ table_text song.pulse ++ table_text song.filter ++ table_text song.speed
+tables_text song =
+    table_text song.wave ++ table_text song.pulse ++ table_text song.filter ++ table_text song.speed
 
 unfoldable pub canonical : Song → List ℕ
 canonical song = codes "GTS5" ++ texts_text song ++ subtunes_text song.subtunes

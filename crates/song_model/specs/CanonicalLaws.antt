@@ -6,4 +6,6 @@ use Rattle.song_model.specs.Canonical.{canonical}
 
 -- no two songs within the limits are spelled alike
 abbrev pub SpellingsDiffer : Type 0
-SpellingsDiffer = (song other : Song) → KeepsLimits song → KeepsLimits other → canonical song ≡ canonical other → song ≡ other
+SpellingsDiffer =
+    (song other : Song) → KeepsLimits song → KeepsLimits other → canonical song ≡ canonical other →
+    song ≡ other

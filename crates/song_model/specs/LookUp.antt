@@ -71,7 +71,8 @@ pattern_row rows place = slice_index_or rows place zero_row
 
 -- the orderlist of channel 1, 2 or 3
 abbrev pub order_of : ℕ → Subtune → Order
-order_of channel subtune = if channel == 1 then subtune.one else if channel == 2 then subtune.two else subtune.three
+order_of channel subtune =
+    if channel == 1 then subtune.one else if channel == 2 then subtune.two else subtune.three
 
 -- an orderlist, and a subtune, with nothing in it
 abbrev pub void_order : Order
@@ -85,7 +86,8 @@ has_entries order = not (length order.entries == 0)
 
 -- none of its three orderlists is empty
 abbrev pub is_playable_subtune : Subtune → Bool
-is_playable_subtune subtune = has_entries subtune.one && has_entries subtune.two && has_entries subtune.three
+is_playable_subtune subtune =
+    has_entries subtune.one && has_entries subtune.two && has_entries subtune.three
 
 abbrev pub playable_subtunes : Song → List Subtune
 playable_subtunes song = filter is_playable_subtune song.subtunes

@@ -17,7 +17,8 @@ pub record IsSilentOrder (patterns : List (List Row)) (order : Order) : Type 0 w
   pub plain : All (λ byte. byte < 0xD0) order.entries
   pub stored : All (λ byte. byte < length patterns) order.entries
   pub restart : order.restart < length order.entries
-  pub rows : (byte : ℕ) (rows : List Row) → Contains order.entries byte → slice_get patterns byte ≡ Some rows → All IsSilentRow rows
+  pub rows : (byte : ℕ) (rows : List Row) → Contains order.entries byte →
+    slice_get patterns byte ≡ Some rows → All IsSilentRow rows
 
 pub record IsSilentSubtune (patterns : List (List Row)) (subtune : Subtune) : Type 0 where
   pub one : IsSilentOrder patterns subtune.one

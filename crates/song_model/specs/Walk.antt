@@ -12,18 +12,21 @@ transpose_after byte transpose = if nat_lt byte 0xE0 then transpose else pos byt
 
 -- the repeat after a byte: a pattern uses it up
 abbrev pub repeat_after : ℕ → ℕ → ℕ
-repeat_after byte repeat = if nat_lt byte 0xD0 then 0 else if nat_lt byte 0xE0 then byte - 0xD0 else repeat
+repeat_after byte repeat =
+    if nat_lt byte 0xD0 then 0 else if nat_lt byte 0xE0 then byte - 0xD0 else repeat
 
 -- what a byte plays: a pattern is played once more than the repeat says
 abbrev pub plays_of : ℕ → ℤ → ℕ → List Step
 plays_of byte transpose repeat =
-    if nat_lt byte 0xD0 then replicate (repeat + 1) (record { pattern = byte; transpose = transpose }) else []
+    if nat_lt byte 0xD0 then replicate (repeat + 1) (record { pattern = byte; transpose = transpose })
+    else []
 
 -- what a walk along these bytes plays, begun with this transpose and this repeat
 abbrev pub walk_plays : List ℕ → ℤ → ℕ → List Step
 walk_plays [] transpose repeat = []
 walk_plays (byte ∷ bytes) transpose repeat =
-    plays_of byte transpose repeat ++ walk_plays bytes (transpose_after byte transpose) (repeat_after byte repeat)
+    plays_of byte transpose repeat
+    ++ walk_plays bytes (transpose_after byte transpose) (repeat_after byte repeat)
 
 -- the transpose and the repeat at the end of a walk
 abbrev pub end_transpose : List ℕ → ℤ → ℤ
@@ -41,7 +44,8 @@ prefix_of order = walk_plays order.entries (pos 0) 0
 -- the plays from the restart position to the end, with the transpose and the repeat that stand at the end
 unfoldable pub cycle_of : Order → List Step
 cycle_of order =
-    walk_plays (drop order.restart order.entries) (end_transpose order.entries (pos 0)) (end_repeat order.entries 0)
+    walk_plays (drop order.restart order.entries) (end_transpose order.entries (pos 0))
+    (end_repeat order.entries 0)
 
 abbrev pub no_step : Step
 no_step = record { pattern = 0; transpose = pos 0 }

@@ -8,7 +8,9 @@ use Rattle.song_model.specs.Walk.{end_transpose, end_repeat, cycle_of, played}
 
 -- each play names an entry of its orderlist, where a pattern stands from the restart position on
 abbrev pub PlaysAreEntries : Type 0
-PlaysAreEntries = (order : Order) (i : ℕ) → 0 < length (cycle_of order) → Contains order.entries (played order i).pattern
+PlaysAreEntries =
+    (order : Order) (i : ℕ) → 0 < length (cycle_of order) →
+    Contains order.entries (played order i).pattern
 
 -- a play of a pattern that the orderlist names
 pub record PlaysAPattern (order : Order) (play : Step) : Type 0 where
@@ -26,12 +28,17 @@ pub record IsTranspose (transpose : ℤ) : Type 0 where
 
 -- each play of an orderlist within its limits has such a transpose
 abbrev pub TransposesAreInRange : Type 0
-TransposesAreInRange = (order : Order) (i : ℕ) → AreEntries order.entries → IsTranspose (played order i).transpose
+TransposesAreInRange =
+    (order : Order) (i : ℕ) → AreEntries order.entries → IsTranspose (played order i).transpose
 
 -- the cycle ends with the transpose and the repeat with which it began
 pub record EndsAsItBegan (order : Order) : Type 0 where
-  pub transpose : end_transpose (drop order.restart order.entries) (end_transpose order.entries (pos 0)) ≡ end_transpose order.entries (pos 0)
-  pub repeat : end_repeat (drop order.restart order.entries) (end_repeat order.entries 0) ≡ end_repeat order.entries 0
+  pub transpose :
+    end_transpose (drop order.restart order.entries) (end_transpose order.entries (pos 0))
+    ≡ end_transpose order.entries (pos 0)
+  pub repeat :
+    end_repeat (drop order.restart order.entries) (end_repeat order.entries 0)
+    ≡ end_repeat order.entries 0
 
 -- so the second round is like the first, and each later one
 abbrev pub OneCycleIsEnough : Type 0

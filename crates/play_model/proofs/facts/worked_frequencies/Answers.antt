@@ -4,4 +4,5 @@ use Rattle.play_model.proofs.facts.worked_frequencies.Goals as goal
 
 pub returns : goal.returns
 unfolding freq
-returns c = record { lowest = refl; first_b = refl; second_c = refl; fifth_a = refl; last = refl; beyond = refl; far_beyond = refl }
+returns c =
+    record { lowest = refl; first_b = refl; second_c = refl; fifth_a = refl; last = refl; beyond = refl; far_beyond = refl }

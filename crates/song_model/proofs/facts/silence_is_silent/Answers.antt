@@ -17,7 +17,8 @@ order_in_range = record {
 }
 
 row_in_range : IsRow rest_row
-row_in_range = record { note_from = lit≤ tt; note_to = lit≤ tt; instrument = lit≤ tt; command = lit≤ tt; param = lit< tt }
+row_in_range =
+    record { note_from = lit≤ tt; note_to = lit≤ tt; instrument = lit≤ tt; command = lit≤ tt; param = lit< tt }
 
 pattern_in_range : IsPattern (rest_row ∷ [])
 pattern_in_range = record {
@@ -35,12 +36,15 @@ returns-clause-limits c = record {
   copyright = zero_text;
   subtunes = record {
     count = lit≤ tt;
-    each = All-cons IsSubtune _ [] (record { one = order_in_range; two = order_in_range; three = order_in_range }) (All-nil IsSubtune);
+    each =
+        All-cons IsSubtune _ [] (record { one = order_in_range; two = order_in_range; three = order_in_range })
+        (All-nil IsSubtune);
   };
   instruments = record { count = lit≤ tt; each = All-nil IsInstrument };
   wave = no_rows;
   pulse = no_rows;
   filter = no_rows;
   speed = no_rows;
-  patterns = record { count = lit≤ tt; each = All-cons IsPattern (rest_row ∷ []) [] pattern_in_range (All-nil IsPattern) };
+  patterns =
+      record { count = lit≤ tt; each = All-cons IsPattern (rest_row ∷ []) [] pattern_in_range (All-nil IsPattern) };
 }

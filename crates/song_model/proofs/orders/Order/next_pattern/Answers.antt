@@ -6,7 +6,8 @@ pub returns-then-from-as_slice-clause-place : goal.returns-then-from-as_slice-cl
 returns-then-from-as_slice-clause-place c =
     let same = ap length c.as_slice.ensures.bytes in
     let inside : c.along-here.result.place < length c.args.self.now.entries = omega arith in
-    place_in_round c.args.self.now c.args.at c.along-here.result c.along-here.ensures.rest inside (c.along-here.ensures.pattern inside)
+    place_in_round c.args.self.now c.args.at c.along-here.result c.along-here.ensures.rest inside
+    (c.along-here.ensures.pattern inside)
 
 pub returns-clause-inside : goal.returns-clause-inside
 returns-clause-inside c =

@@ -11,10 +11,15 @@ next_pattern-here-requires-clause-on_walk c =
 
 pub returns-clause-step : goal.returns-clause-step
 returns-clause-step c = λ i e.
-    c.play_at.ensures ∙ sym c.next_pattern-here.ensures.play ∙ ap (λ at. slice_index_or (coming_plays c.args.self.now at) 0 no_step) e ∙ (comes_at c.args.self.now c.requires.endless i).play
+    c.play_at.ensures ∙ sym c.next_pattern-here.ensures.play ∙ ap
+    (λ at. slice_index_or (coming_plays c.args.self.now at) 0 no_step) e ∙
+    (comes_at c.args.self.now c.requires.endless i).play
 
 pub returns-clause-place : goal.returns-clause-place
 returns-clause-place c = λ i e.
     c.after_play.ensures
-    ∙ ap (restarted c.args.self.now) (sym c.next_pattern-here.ensures.place ∙ ap (λ at. slice_index_or (coming_places c.args.self.now at) 0 first_place) e ∙ (comes_at c.args.self.now c.requires.endless i).place)
+    ∙ ap (restarted c.args.self.now)
+    (sym c.next_pattern-here.ensures.place ∙ ap
+      (λ at. slice_index_or (coming_places c.args.self.now at) 0 first_place) e ∙
+      (comes_at c.args.self.now c.requires.endless i).place)
     ∙ sym (place_of_next c.args.self.now i)
