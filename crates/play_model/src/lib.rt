@@ -8,7 +8,7 @@
 #![tactic(auto)]
 
 /// Facts about the definitions.
-pub mod facts;
+pub mod claims;
 mod options;
 
 pub use options::{HIGHEST_SPEED, Options, Speed};

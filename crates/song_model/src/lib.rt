@@ -10,7 +10,7 @@
 mod faults;
 mod instruments;
 /// Facts about the definitions.
-pub mod facts;
+pub mod claims;
 mod lists;
 mod look_ups;
 mod orders;

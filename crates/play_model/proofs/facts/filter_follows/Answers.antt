@@ -1,5 +1,0 @@
-use Rattle.play_model.proofs.Computed.{filter_follows_lem}
-use Rattle.play_model.proofs.facts.filter_follows.Goals as goal
-
-pub returns : goal.returns
-returns c = filter_follows_lem

@@ -1,5 +1,0 @@
-use Rattle.play_model.proofs.Computed.{funk_tempo_wraps_lem}
-use Rattle.play_model.proofs.facts.funk_tempo_wraps.Goals as goal
-
-pub returns : goal.returns
-returns c = funk_tempo_wraps_lem

@@ -1,5 +1,0 @@
-use Rattle.play_model.proofs.Computed.{one_note_sounds_lem}
-use Rattle.play_model.proofs.facts.one_note_sounds.Goals as goal
-
-pub returns : goal.returns
-returns c = one_note_sounds_lem
