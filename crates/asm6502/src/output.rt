@@ -76,7 +76,7 @@ impl Output {
             operand: number,
         };
         let Some(encoded) = encode(instr) else {
-            return Err(AsmFault::BadLine { line });
+            unreachable!();
         };
         self.bytes.extend(encoded.as_slice())?;
         if let Some(fix) = labels.fix(at + 1, mode, operand) {

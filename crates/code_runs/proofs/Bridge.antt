@@ -10,7 +10,7 @@ use Rattle.cpu6502.specs.declared.effect.Effect.{Effect}
 use Rattle.cpu6502.specs.declared.machine.Machine.{Machine}
 use Rattle.cpu6502.specs.Effects.{stack_place}
 use Rattle.cpu6502.specs.Step.{written, changed, stepped, next_effect, step}
-use Rattle.cpu6502.specs.Call.{after_step, run, return_address, entered, Called, writes_in}
+use Rattle.cpu6502.specs.Call.{after_step, run, return_address, entered, writes_in}
 use Rattle.code_runs.specs.Runs.{State, view, put, put_all, left, Allowed, Runs, Leads}
 use Rattle.code_runs.specs.Calls.{IsBelow, Arrives, CallsTo}
 

@@ -3,14 +3,11 @@
 -- how runs are put together, and what they leave alone
 pub use Rattle.code_runs.proofs.Moves.{stay, does, goes, puts, goes_once, puts_once, leads_on, in_steps, ends_at, begins_at, leads_wider}
 pub use Rattle.code_runs.proofs.Moves.{put_same, put_other, leads_stay}
-
 -- instructions that stand: from the bytes, and after writes elsewhere
 pub use Rattle.code_runs.proofs.Standing.{stands_implied, stands_immediate, stands_absolute, stands_absolute_x, stands_relative}
 pub use Rattle.code_runs.proofs.Standing.{stands_stay, code_stays}
-
 -- the step of an instruction: where it works, by its mode
 pub use Rattle.code_runs.proofs.Modes.{jumped, Works, Reads, WorksOnA, works, works_on_a, reads, reads_immediate}
-
 -- and what it does, by its name
 pub use Rattle.code_runs.proofs.Loads.{lda, ldx, ldy, sta, stx, sty}
 pub use Rattle.code_runs.proofs.Transfers.{tax, tay, tsx, txa, tya, txs}
@@ -25,7 +22,6 @@ pub use Rattle.code_runs.proofs.Branches.{bcc_taken, bcs_taken, bne_taken, beq_t
 pub use Rattle.code_runs.proofs.Branches.{bcc_passed, bcs_passed, bne_passed, beq_passed, bpl_passed, bmi_passed, bvc_passed, bvs_passed}
 pub use Rattle.code_runs.proofs.Jumps.{jmp, jsr, rts, rti}
 pub use Rattle.code_runs.proofs.Stack.{pha, php, pla, plp}
-
 -- from runs to the machine and its calls
 pub use Rattle.code_runs.proofs.Bridge.{machines_follow, call_returns}
 pub use Rattle.code_runs.proofs.Entry.{entry_pulls, entry_kept, entry_kept_below}

@@ -1,5 +1,5 @@
 -- A step of a load and of a store, in any of its modes: a byte into a register, or a register into memory.
-use Rattle.std.proofs.Common.{◌≡◌, ℕ, refl, ◌∙◌}
+use Rattle.std.proofs.Common.{ℕ, refl, ◌∙◌}
 use Rattle.cpu6502.specs.declared.mnemonic.Mnemonic.TheVariants.{Lda, Ldx, Ldy, Sta, Stx, Sty}
 use Rattle.cpu6502.specs.Registers.{with_a, with_x, with_y}
 use Rattle.code_runs.specs.Runs.{State, Goes, Puts}

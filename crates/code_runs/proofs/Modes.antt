@@ -1,5 +1,5 @@
 -- An instruction that stands at the program counter, by its addressing mode: at which place it works, which byte it reads, and where the next instruction is. The instruction's own lemma goes on from there. Each number that a result computes is a parameter with an equation.
-use Rattle.std.proofs.Common.{◌≡◌, ℕ, ◌+◌, ◌*◌, ◌%◌, ◌<◌, true, false, Some, if◌then◌else◌, refl, ap, ◌∙◌}
+use Rattle.std.proofs.Common.{◌≡◌, ℕ, ◌+◌, ◌%◌, ◌<◌, false, Some, if◌then◌else◌, refl, ap, ◌∙◌}
 use Rattle.cpu6502.specs.declared.cpu.Cpu.{Cpu}
 use Rattle.cpu6502.specs.declared.mnemonic.Mnemonic.{Mnemonic}
 use Rattle.cpu6502.specs.declared.mnemonic.Mode.{Mode}

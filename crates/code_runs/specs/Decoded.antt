@@ -15,8 +15,8 @@ StandingHasEffect =
     Stands at cpu.pc mnemonic mode operand →
     effect at cpu
     ≡ (if is_accumulator mode
-       then accumulator_effect mnemonic cpu.pc (moved cpu (length_of mode))
-       else effect_of mnemonic cpu.pc (place_of mode operand at cpu) at (moved cpu (length_of mode)))
+    then accumulator_effect mnemonic cpu.pc (moved cpu (length_of mode))
+    else effect_of mnemonic cpu.pc (place_of mode operand at cpu) at (moved cpu (length_of mode)))
 
 -- code still stands where its bytes are the same, whatever the rest of memory holds
 abbrev pub CodeStays : Type 0

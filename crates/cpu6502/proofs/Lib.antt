@@ -8,4 +8,5 @@ pub mod Causes
 pub mod Machines
 -- inner: the table and its inverse, sums
 pub mod Inverse
+pub mod Accumulator
 pub mod Sums

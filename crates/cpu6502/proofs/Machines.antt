@@ -23,7 +23,7 @@ use Rattle.cpu6502.specs.Shifts.{shifted, shifted_in_memory, accumulator_effect}
 use Rattle.cpu6502.specs.Counts.{count_effect}
 use Rattle.cpu6502.specs.Branches.{branched, branch_effect}
 use Rattle.cpu6502.specs.Stack.{status_of, stack_effect}
-use Rattle.cpu6502.specs.Jumps.{called, jump_effect}
+use Rattle.cpu6502.specs.Jumps.{jump_effect}
 use Rattle.cpu6502.specs.Flags.{flag_effect}
 use Rattle.cpu6502.specs.Transfers.{transfer_effect}
 use Rattle.cpu6502.specs.Effects.{address_of, or_effect, data_effect, other_effect, stop_of, unless_stopped, effect_of, moved, done_by}

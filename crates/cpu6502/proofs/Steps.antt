@@ -7,12 +7,12 @@ use Rattle.cpu6502.specs.declared.stop.Stop.{Stop}
 use Rattle.cpu6502.specs.Step.{stepped, next_effect, step}
 use Rattle.cpu6502.specs.Call.{after_step, run, writes_by, writes_after, writes_in}
 
--- what holds after a step that was made holds behind it
+-- what follows from a step that was made follows after it
 after_ok : (r : Result Machine Stop) (go then : Machine → Result Machine Stop) (between : Machine) (end : Result Machine Stop) → after_step r go ≡ Ok between → ((m : Machine) → go m ≡ Ok between → then m ≡ end) → after_step r then ≡ end
 after_ok (Ok m) go then between end e f = f m e
 after_ok (Err s) go then between end e f = cc
 
--- a run of a sum of steps is one run behind the other
+-- a run of a sum of steps is one run after the other
 pub run-add : (n k : ℕ) (m between : Machine) → run n m ≡ Ok between → run (n + k) m ≡ run k between
 run-add zero k m between e =
     let z : 0 + k ≡ k = omega arith in
@@ -33,13 +33,13 @@ run_one m = after_same (step m) where
 pub run-suc : (n : ℕ) (m between : Machine) → run n m ≡ Ok between → run (n + 1) m ≡ step between
 run-suc n m between e = run-add n 1 m between e ∙ run_one between
 
--- behind a stop there is only that stop
+-- after a stop there is only that stop
 pub run_stopped : (n k : ℕ) (m between : Machine) (stop : Stop) → run n m ≡ Ok between → step between ≡ Err stop → n < k → run k m ≡ Err stop
 run_stopped n k m between stop e s lt =
     let z : k ≡ n + suc (k - n - 1) = omega arith in
     rw z (run-add n (suc (k - n - 1)) m between e ∙ ap (λ r. after_step r (run (k - n - 1))) s)
 
--- the writes of a sum of steps are those of one run behind those of the other
+-- the writes of a sum of steps are those of one run after those of the other
 writes_after-add : (n k : ℕ) (r : Result Machine Stop) (between : Machine) → after_step r (run n) ≡ Ok between → ((m : Machine) → run n m ≡ Ok between → writes_in (n + k) m ≡ writes_in n m ++ writes_in k between) → writes_after r (writes_in (n + k)) ≡ writes_after r (writes_in n) ++ writes_in k between
 writes_after-add n k (Ok m) between e f = f m e
 writes_after-add n k (Err s) between e f = cc

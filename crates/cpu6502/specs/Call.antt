@@ -3,6 +3,7 @@ use Rattle.std.specs.Prelude.{◌≡◌, ℕ, zero, suc, ◌+◌, ◌%◌, ◌<�
 use Rattle.cpu6502.specs.declared.effect.Write.{Write}
 use Rattle.cpu6502.specs.declared.effect.Effect.{Effect}
 use Rattle.cpu6502.specs.declared.machine.Machine.{Machine}
+use Rattle.cpu6502.specs.declared.machine.TheConstants.{RETURN_BYTE}
 use Rattle.cpu6502.specs.declared.stop.Stop.{Stop}
 use Rattle.cpu6502.specs.declared.stop.CallStop.{CallStop}
 use Rattle.cpu6502.specs.declared.stop.CallStop.TheVariants.{Stopped, Budget}
@@ -14,7 +15,7 @@ abbrev pub after_step : Result Machine Stop → (Machine → Result Machine Stop
 after_step (Ok machine) go = go machine
 after_step (Err stop) go = Err stop
 
--- the machine after so many steps, or the stop that one of them meets
+-- the machine after n steps, or the stop that one of them meets
 abbrev pub run : ℕ → Machine → Result Machine Stop
 run zero machine = Ok machine
 run (suc n) machine = after_step (step machine) (run n)
@@ -22,7 +23,7 @@ run (suc n) machine = after_step (step machine) (run n)
 -- the two writes of a caller that pushes $FF and $FF
 abbrev pub return_address : ℕ → List Write
 return_address sp =
-    (record { place = stack_place sp; value = 255 }) ∷ (record { place = stack_place (sp + 255); value = 255 }) ∷ []
+    (record { place = stack_place sp; value = RETURN_BYTE }) ∷ (record { place = stack_place (sp + 255); value = RETURN_BYTE }) ∷ []
 
 -- a machine as a call begins: $FF and $FF pushed, a in the accumulator, the address in the program counter
 abbrev pub entered : Machine → ℕ → ℕ → Machine
@@ -36,23 +37,23 @@ pub record HasReturned (machine after : Machine) : Type 0 where
   pub at_zero : after.cpu.pc ≡ 0
   pub same_stack : after.cpu.sp ≡ machine.cpu.sp
 
--- a call is not back before it has made so many steps: the machine that it is entered at, after 0 steps, has not returned, nor has that after 1 step, and so on up to one less than this number
+-- a call is not back before it has made this many steps: the machine that it is entered at, after 0 steps, has not returned, nor has that after 1 step, and so on up to one less than this number
 pub record IsOutFor (machine : Machine) (address a steps : ℕ) : Type 0 where
   pub out : (k : ℕ) (between : Machine) → k < steps → run k (entered machine address a) ≡ Ok between → HasReturned machine between → ⊥
 
--- a call at an address, with a in the accumulator, returns after exactly so many steps, in the last machine
+-- a call at an address, with a in the accumulator, returns after exactly this many steps, in the last machine
 pub record Called (machine : Machine) (address a steps : ℕ) (after : Machine) : Type 0 where
   pub runs : run steps (entered machine address a) ≡ Ok after
   pub returned : HasReturned machine after
   pub first : IsOutFor machine address a steps
 
--- a call makes so many steps, and its next one meets a stop, in this machine; no machine on the way has returned, nor has this one
+-- a call makes this many steps, and its next one meets a stop, in this machine; no machine on the way has returned, nor has this one
 pub record MeetsStop (machine : Machine) (address a steps : ℕ) (stop : Stop) (after : Machine) : Type 0 where
   pub runs : run steps (entered machine address a) ≡ Ok after
   pub stops : step after ≡ Err stop
   pub out : IsOutFor machine address a (steps + 1)
 
--- a call has made so many steps and has not returned, and is in this machine
+-- a call has made this many steps and has not returned, and is in this machine
 pub record IsUnderWay (machine : Machine) (address a steps : ℕ) (after : Machine) : Type 0 where
   pub runs : run steps (entered machine address a) ≡ Ok after
   pub out : IsOutFor machine address a (steps + 1)
@@ -73,7 +74,7 @@ abbrev pub writes_after : Result Machine Stop → (Machine → List Write) → L
 writes_after (Ok machine) go = go machine
 writes_after (Err stop) go = []
 
--- what a machine writes in its next so many steps, in order; a stop ends them
+-- what a machine writes in its next n steps, in order; a stop ends them
 abbrev pub writes_in : ℕ → Machine → List Write
 writes_in zero machine = []
 writes_in (suc n) machine = writes_by (next_effect machine) ++ writes_after (step machine) (writes_in n)

@@ -1,10 +1,11 @@
 -- The machines that there are, and the bytes that their memory holds. Source: the sizes of the MOS 6502 programming manual.
 use Rattle.std.specs.Prelude.{◌≡◌, ℕ, zero, suc, ◌+◌, ◌<◌, List, [], ◌∷◌, length, slice_index, All}
 use Rattle.cpu6502.specs.declared.machine.Machine.{Machine}
+use Rattle.cpu6502.specs.declared.memory.TheConstants.{MEMORY_SIZE}
 
 -- the machines that there are: 65,536 bytes of memory, registers of one byte, and an address as the program counter
 pub record IsMachine (machine : Machine) : Type 0 where
-  pub size : length machine.memory ≡ 65536
+  pub size : length machine.memory ≡ MEMORY_SIZE
   pub bytes : All (λ byte. byte < 256) machine.memory
   pub a : machine.cpu.a < 256
   pub x : machine.cpu.x < 256

@@ -21,7 +21,6 @@ use Rattle.cpu6502.specs.Jumps.{jump_effect}
 use Rattle.cpu6502.specs.Flags.{flag_effect}
 use Rattle.cpu6502.specs.Transfers.{transfer_effect}
 pub use Rattle.cpu6502.specs.Registers.{stack_place, with_sign_and_zero, with_a, with_x, quiet, storing}
-pub use Rattle.cpu6502.specs.Jumps.{pulled_return}
 
 -- the two bytes at a place, the low one first; the place after the last is 0
 abbrev pub word_at : (ℕ → ℕ) → ℕ → ℕ
@@ -88,7 +87,7 @@ abbrev pub effect_of : Mnemonic → ℕ → ℕ → (ℕ → ℕ) → Cpu → Re
 effect_of mnemonic own place at cpu =
     unless_stopped (stop_of mnemonic own cpu) own (or_effect (data_effect mnemonic place at cpu) (other_effect mnemonic own place at cpu))
 
--- the registers with the program counter after an instruction of so many bytes
+-- the registers with the program counter after an instruction of this many bytes
 abbrev pub moved : Cpu → ℕ → Cpu
 moved cpu length = record cpu { pc = (cpu.pc + length) % 65536 }
 

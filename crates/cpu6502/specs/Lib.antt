@@ -20,7 +20,11 @@ pub mod Code
 pub mod Step
 pub mod Call
 pub mod Log
--- claimed: what the definitions say
+-- claimed: what the definitions say, and steps worked by hand
+pub mod Rows
 pub mod Stops
 pub mod Sums
 pub mod Machines
+pub mod WorkedSteps
+pub mod WorkedModes
+pub mod WorkedCalls

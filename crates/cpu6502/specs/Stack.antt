@@ -23,17 +23,17 @@ with_status cpu byte = record cpu {
 }
 
 -- the effect of a push
-abbrev pub pushing : Cpu → ℕ → Effect
-pushing cpu byte = storing (record cpu { sp = (cpu.sp + 255) % 256 }) (stack_place cpu.sp) byte
+abbrev pub push_effect : Cpu → ℕ → Effect
+push_effect cpu byte = storing (record cpu { sp = (cpu.sp + 255) % 256 }) (stack_place cpu.sp) byte
 
--- the registers after a pull of so many bytes, but for what is pulled: the stack pointer alone moves
-abbrev pub pulled : Cpu → ℕ → Cpu
-pulled cpu count = record cpu { sp = (cpu.sp + count) % 256 }
+-- the registers after a pull of this many bytes, but for what is pulled: the stack pointer alone moves
+abbrev pub after_pull : Cpu → ℕ → Cpu
+after_pull cpu count = record cpu { sp = (cpu.sp + count) % 256 }
 
 -- what PHA, PHP, PLA and PLP do: a push writes where the stack pointer is and then lowers it, a pull raises it and then reads; none for any other name
 abbrev pub stack_effect : Mnemonic → (ℕ → ℕ) → Cpu → Option Effect
-stack_effect Pha at cpu = Some (pushing cpu cpu.a)
-stack_effect Php at cpu = Some (pushing cpu (status_of cpu))
-stack_effect Pla at cpu = Some (quiet (with_a (pulled cpu 1) (at (stack_place (cpu.sp + 1)))))
-stack_effect Plp at cpu = Some (quiet (with_status (pulled cpu 1) (at (stack_place (cpu.sp + 1)))))
+stack_effect Pha at cpu = Some (push_effect cpu cpu.a)
+stack_effect Php at cpu = Some (push_effect cpu (status_of cpu))
+stack_effect Pla at cpu = Some (quiet (with_a (after_pull cpu 1) (at (stack_place (cpu.sp + 1)))))
+stack_effect Plp at cpu = Some (quiet (with_status (after_pull cpu 1) (at (stack_place (cpu.sp + 1)))))
 stack_effect _ at cpu = None

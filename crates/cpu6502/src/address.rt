@@ -1,3 +1,5 @@
+//! Where an instruction finds its operand: the addressing modes.
+
 ghost use Rattle.std.specs.Prelude.{◌≡◌, ◌+◌, ◌*◌, ◌<◌, slice_index};
 ghost use Rattle.cpu6502.specs.Effects.{address_of, word_at, zero_page_word, same_page_word, displacement};
 
@@ -39,14 +41,14 @@ pub fn joined(low: u8, high: u8) -> u16
     u16::from(low) + 256 * u16::from(high)
 }
 
-/// The two bytes at a place, the low one first; the place behind the last is 0.
+/// The two bytes at a place, the low one first; the place after the last is 0.
 fn word(memory: &Memory, place: u16) -> u16
     ensures { result ≡ word_at (slice_index memory.now) place }
 {
     joined(memory.read(place), memory.read(place.wrapping_add(1)))
 }
 
-/// The two bytes at a place of page 0; behind the last place comes the first.
+/// The two bytes at a place of page 0; after the last place comes the first.
 fn zero_page(memory: &Memory, place: u8) -> u16
     ensures { result ≡ zero_page_word (slice_index memory.now) place }
 {

@@ -1,3 +1,5 @@
+//! Sums and differences with the carry.
+
 ghost use Rattle.std.specs.Prelude.{◌≡◌, slice_index};
 ghost use Rattle.cpu6502.specs.Arithmetic.{arithmetic_effect, overflows, with_sum, added};
 

@@ -1,3 +1,5 @@
+//! Branches.
+
 ghost use Rattle.std.specs.Prelude.{◌≡◌};
 ghost use Rattle.cpu6502.specs.Branches.{branch_effect, branched};
 
@@ -22,7 +24,7 @@ pub fn branch(mnemonic: Mnemonic, place: u16, cpu: Cpu) -> Option<Effect>
     }
 }
 
-/// The registers at a place where a branch is taken, else behind it.
+/// The registers at a place where a branch is taken, else after it.
 fn branched(cpu: Cpu, taken: bool, place: u16) -> Cpu
     ensures { result ≡ branched cpu taken place }
 {

@@ -1,14 +1,19 @@
 //! Facts about the definitions of this crate, each the contract of a function that does nothing.
 
 ghost use Rattle.cpu6502.specs.Encoding.{OpcodesHaveRows, RowsHaveOpcodes};
+ghost use Rattle.cpu6502.specs.Rows.{TableHas151Rows};
 ghost use Rattle.cpu6502.specs.Stops.{StopsHaveCauses};
 ghost use Rattle.cpu6502.specs.Machines.{CallsKeepMachines, StepsKeepMachines};
 ghost use Rattle.cpu6502.specs.Sums.{DifferencesAreOfNumbers, SumsAreOfNumbers};
+ghost use Rattle.cpu6502.specs.WorkedCalls.{CallersPush, LogsHaveRoom, MemoryIsFull, SidStandsThere};
+ghost use Rattle.cpu6502.specs.WorkedModes.{ComparesInModes, CountsInModes, LoadsInModes, LogicInModes, ShiftsInModes, StoresInModes, SumsInModes};
+ghost use Rattle.cpu6502.specs.WorkedSteps.{Branches, Differences, JumpsAndReturns, LoadsAndStores, ShiftsAndCounts, Stack, Stops, Sums, TransfersAndFlags};
 
-/// `opcode` and `meaning` are each other's inverse over the table's 151 rows.
+/// The decode table has 151 rows, and `opcode` and `meaning` are each other's inverse over them.
 pub fn opcode_is_inverse_of_meaning()
     ensures opcodes { OpcodesHaveRows }
     ensures rows { RowsHaveOpcodes }
+    ensures count { TableHas151Rows }
 {}
 
 /// A step stops as Illegal exactly where the byte at the program counter has no row, as Break exactly at BRK, and as
@@ -27,4 +32,36 @@ pub fn sums_are_of_numbers()
 pub fn machines_stay_machines()
     ensures steps { StepsKeepMachines }
     ensures calls { CallsKeepMachines }
+{}
+
+/// Steps that are worked by hand from the manual, at its corners.
+pub fn worked_steps()
+    ensures loads_and_stores { LoadsAndStores }
+    ensures jumps_and_returns { JumpsAndReturns }
+    ensures shifts_and_counts { ShiftsAndCounts }
+    ensures transfers_and_flags { TransfersAndFlags }
+    ensures stack { Stack }
+    ensures branches { Branches }
+    ensures sums { Sums }
+    ensures differences { Differences }
+    ensures stops { Stops }
+{}
+
+/// Each instruction that has an operand in memory, worked by hand in each of its modes.
+pub fn worked_modes()
+    ensures loads { LoadsInModes }
+    ensures stores { StoresInModes }
+    ensures sums { SumsInModes }
+    ensures compares { ComparesInModes }
+    ensures logic { LogicInModes }
+    ensures shifts { ShiftsInModes }
+    ensures counts { CountsInModes }
+{}
+
+/// The machine's constants, at their edges.
+pub fn worked_constants()
+    ensures memory { MemoryIsFull }
+    ensures callers { CallersPush }
+    ensures sid { SidStandsThere }
+    ensures log { LogsHaveRoom }
 {}

@@ -1,3 +1,5 @@
+//! Comparisons of a register with memory.
+
 ghost use Rattle.std.specs.Prelude.{◌≡◌, slice_index};
 ghost use Rattle.cpu6502.specs.Compares.{compare_effect, compared};
 

@@ -1,3 +1,5 @@
+//! Up or down by one.
+
 ghost use Rattle.std.specs.Prelude.{◌≡◌, slice_index};
 ghost use Rattle.cpu6502.specs.Counts.{count_effect, counted};
 

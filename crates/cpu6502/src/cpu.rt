@@ -1,3 +1,5 @@
+//! The registers.
+
 ghost use Rattle.std.specs.Prelude.{◌≡◌, ◌≤◌};
 ghost use Rattle.cpu6502.specs.Registers.{one_if, with_sign_and_zero, with_a, with_x, with_y};
 

@@ -1,3 +1,5 @@
+//! What an instruction does: registers, and what it writes.
+
 ghost use Rattle.std.specs.Prelude.{◌≡◌};
 ghost use Rattle.cpu6502.specs.Registers.{quiet, storing};
 

@@ -1,3 +1,5 @@
+//! The effect of the instruction at the program counter.
+
 ghost use Rattle.std.specs.Prelude.{◌≡◌, slice_index};
 ghost use Rattle.cpu6502.specs.Effects.{effect_of, done_by, effect, data_effect, other_effect, stop_of, moved};
 
@@ -7,12 +9,12 @@ use crate::branch::branch;
 use crate::compare::compare;
 use crate::count::count;
 use crate::cpu::Cpu;
-use crate::decode::meaning;
 use crate::effect::Effect;
 use crate::flags::flag;
 use crate::jump::jump;
 use crate::load::load;
 use crate::logic::logic;
+use crate::meanings::meaning;
 use crate::memory::Memory;
 use crate::mnemonic::Mnemonic;
 use crate::shift::{shift, shift_accumulator};
@@ -27,9 +29,9 @@ pub fn next_effect(memory: &Memory, cpu: Cpu) -> Result<Effect, Stop>
     match meaning(memory.read(cpu.pc)) {
         None => Err(Stop::Illegal { at: cpu.pc }),
         Some((mnemonic, mode)) => {
-            let next = behind(cpu, mode.length());
+            let next = after(cpu, mode.length());
             if mode.is_accumulator() {
-                shift_accumulator(mnemonic, cpu.pc, next)
+                Ok(shift_accumulator(mnemonic, next))
             } else {
                 let place = operand_place(mode, memory, cpu);
                 execute(mnemonic, cpu.pc, place, memory, next)
@@ -38,8 +40,8 @@ pub fn next_effect(memory: &Memory, cpu: Cpu) -> Result<Effect, Stop>
     }
 }
 
-/// The registers behind an instruction of so many bytes.
-fn behind(cpu: Cpu, length: u8) -> Cpu
+/// The registers with the program counter after an instruction of this many bytes.
+fn after(cpu: Cpu, length: u8) -> Cpu
     ensures { result ≡ moved cpu length }
 {
     Cpu {
@@ -48,7 +50,8 @@ fn behind(cpu: Cpu, length: u8) -> Cpu
     }
 }
 
-/// What an instruction does whose own place and whose operand's place are given, from registers that stand behind it.
+/// What an instruction does whose own place and whose operand's place are given, from registers whose program
+/// counter is after it.
 fn execute(
     mnemonic: Mnemonic,
     own: u16,
@@ -66,7 +69,7 @@ fn execute(
     }
     match other(mnemonic, own, place, memory, cpu) {
         Some(effect) => Ok(effect),
-        None => Err(Stop::Illegal { at: own }),
+        None => unreachable!(),
     }
 }
 

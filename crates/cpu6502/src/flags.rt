@@ -1,3 +1,5 @@
+//! Flags that are cleared or set, and no operation.
+
 ghost use Rattle.std.specs.Prelude.{◌≡◌};
 ghost use Rattle.cpu6502.specs.Flags.{flag_effect};
 

@@ -1,12 +1,14 @@
+//! Jumps, the call, and the returns.
+
 ghost use Rattle.std.specs.Prelude.{◌≡◌, slice_index};
-ghost use Rattle.cpu6502.specs.Jumps.{jump_effect, called, pulled_return, pulled_interrupt};
+ghost use Rattle.cpu6502.specs.Jumps.{jump_effect, call_effect, after_return, after_interrupt};
 
 use crate::address::joined;
 use crate::cpu::Cpu;
 use crate::effect::{Effect, Write, Writes, quiet};
 use crate::memory::Memory;
 use crate::mnemonic::Mnemonic;
-use crate::stack::{pushed, stack, with_status};
+use crate::stack::{stack, stack_byte, with_status};
 
 /// Jumps, the call, and the returns. `None` for any other name.
 pub fn jump(mnemonic: Mnemonic, own: u16, place: u16, memory: &Memory, cpu: Cpu) -> Option<Effect>
@@ -14,16 +16,16 @@ pub fn jump(mnemonic: Mnemonic, own: u16, place: u16, memory: &Memory, cpu: Cpu)
 {
     match mnemonic {
         Mnemonic::Jmp => Some(quiet(Cpu { pc: place, ..cpu })),
-        Mnemonic::Jsr => Some(called(cpu, own.wrapping_add(2), place)),
-        Mnemonic::Rts => Some(quiet(returned(memory, cpu))),
-        Mnemonic::Rti => Some(quiet(resumed(memory, cpu))),
+        Mnemonic::Jsr => Some(call_effect(cpu, own.wrapping_add(2), place)),
+        Mnemonic::Rts => Some(quiet(after_return(memory, cpu))),
+        Mnemonic::Rti => Some(quiet(after_interrupt(memory, cpu))),
         _ => None,
     }
 }
 
 /// The effect of a call, which pushes the address of its own last byte.
-fn called(cpu: Cpu, last: u16, place: u16) -> Effect
-    ensures { result ≡ called cpu last place }
+fn call_effect(cpu: Cpu, last: u16, place: u16) -> Effect
+    ensures { result ≡ call_effect cpu last place }
 {
     let high = Write {
         place: stack(cpu.sp),
@@ -44,11 +46,11 @@ fn called(cpu: Cpu, last: u16, place: u16) -> Effect
 }
 
 /// The registers after a pull of the address of a call's last byte: the program counter is one more.
-fn returned(memory: &Memory, cpu: Cpu) -> Cpu
-    ensures { result ≡ pulled_return (slice_index memory.now) cpu }
+fn after_return(memory: &Memory, cpu: Cpu) -> Cpu
+    ensures { result ≡ after_return (slice_index memory.now) cpu }
 {
-    let low = pushed(memory, cpu.sp, 1);
-    let high = pushed(memory, cpu.sp, 2);
+    let low = stack_byte(memory, cpu.sp, 1);
+    let high = stack_byte(memory, cpu.sp, 2);
     Cpu {
         sp: cpu.sp.wrapping_add(2),
         pc: joined(low, high).wrapping_add(1),
@@ -57,15 +59,15 @@ fn returned(memory: &Memory, cpu: Cpu) -> Cpu
 }
 
 /// The registers after a pull of the flags and of an address, to which nothing is added.
-fn resumed(memory: &Memory, cpu: Cpu) -> Cpu
-    ensures { result ≡ pulled_interrupt (slice_index memory.now) cpu }
+fn after_interrupt(memory: &Memory, cpu: Cpu) -> Cpu
+    ensures { result ≡ after_interrupt (slice_index memory.now) cpu }
 {
-    let low = pushed(memory, cpu.sp, 2);
-    let high = pushed(memory, cpu.sp, 3);
+    let low = stack_byte(memory, cpu.sp, 2);
+    let high = stack_byte(memory, cpu.sp, 3);
     let there = Cpu {
         sp: cpu.sp.wrapping_add(3),
         pc: joined(low, high),
         ..cpu
     };
-    with_status(there, pushed(memory, cpu.sp, 1))
+    with_status(there, stack_byte(memory, cpu.sp, 1))
 }

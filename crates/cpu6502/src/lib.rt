@@ -5,33 +5,29 @@
 //! `Machine::call`: it answers exactly when the steps of that definition return to the caller, and says how many
 //! there were, where it stopped, and what was written to the SID.
 //!
-//! It stands on the standard library and on `arrayvec`, for the log that takes no memory. The source of the rules is
+//! It stands on `base`, and on `arrayvec` for the log that takes no memory. The source of the rules is
 //! the MOS 6502 programming manual. See `docs/machine.md`.
 #![tactic(auto)]
 
 mod address;
 mod arithmetic;
 mod branch;
+pub mod claims;
 mod compare;
 mod count;
 mod cpu;
-mod decode;
 mod effect;
-mod encode;
 mod execute;
 mod flags;
 mod jump;
-pub mod claims;
 mod load;
 mod log;
 mod logic;
 mod machine;
+mod meanings;
 mod memory;
 mod mnemonic;
-#[cfg(test)]
-mod mode_tests;
-#[cfg(test)]
-mod row_tests;
+mod opcodes;
 mod shift;
 mod stack;
 mod stop;
@@ -39,12 +35,13 @@ mod stop;
 mod tests;
 mod transfer;
 
+pub use base::NoMemory;
 pub use cpu::Cpu;
-pub use decode::meaning;
 pub use effect::{Effect, Write, Writes};
-pub use encode::opcode;
-pub use log::{SidWrite, SidWrites, WriteLog};
-pub use machine::Machine;
-pub use memory::Memory;
+pub use log::{LOG_CAPACITY, SID_BASE, SID_LAST, SidWrite, SidWrites, WriteLog};
+pub use machine::{Machine, RETURN_BYTE};
+pub use meanings::meaning;
+pub use memory::{MEMORY_SIZE, Memory};
 pub use mnemonic::{Mnemonic, Mode};
-pub use stop::{CallStop, NoMemory, Stop};
+pub use opcodes::opcode;
+pub use stop::{CallStop, Stop};

@@ -1,3 +1,5 @@
+//! Loads and stores.
+
 ghost use Rattle.std.specs.Prelude.{◌≡◌, slice_index};
 ghost use Rattle.cpu6502.specs.Loads.{load_effect};
 

@@ -1,15 +1,17 @@
+//! The log of what a call writes to the SID.
+
 use crate::effect::Write;
 use arrayvec::ArrayVec;
 use std::marker::Model;
 
 /// The number of register writes that a log holds.
-const CAPACITY: usize = 512;
+pub const LOG_CAPACITY: usize = 512;
 
 /// The place of the SID's first register.
-const SID_BASE: u16 = 0xD400;
+pub const SID_BASE: u16 = 0xD400;
 
 /// The place of the SID's last register that can be written.
-const SID_LAST: u16 = 0xD418;
+pub const SID_LAST: u16 = 0xD418;
 
 /// A value written to a register of the SID, 0 to 24.
 #[derive(Clone, Copy, Debug, Default, PartialEq, Eq)]
@@ -23,7 +25,7 @@ pub struct SidWrite {
 /// At most 512 register writes, in order. It takes no memory. Contracts see the list.
 #[derive(Drop)]
 pub struct SidWrites {
-    kept: ArrayVec<SidWrite, CAPACITY>,
+    kept: ArrayVec<SidWrite, LOG_CAPACITY>,
 }
 
 impl Model for SidWrites {

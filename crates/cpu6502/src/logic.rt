@@ -1,3 +1,5 @@
+//! Bit by bit: AND, ORA, EOR and BIT.
+
 ghost use Rattle.std.specs.Prelude.{◌≡◌, slice_index};
 ghost use Rattle.cpu6502.specs.Logic.{logic_effect, tested};
 

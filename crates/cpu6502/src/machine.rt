@@ -1,3 +1,5 @@
+//! A processor and its memory: one step, and a call.
+
 ghost use Rattle.std.specs.Prelude.{◌≡◌, ℕ, ◌≤◌, Ok, Err, OnOk, OnErr, IfOk, IfErr, ◌++◌, [], List, ◌↔◌, IsTrue};
 ghost use Rattle.cpu6502.specs.Step.{step, changed};
 ghost use Rattle.cpu6502.specs.Call.{entered, HasReturned, Called, FailsBy, writes_in};
@@ -22,13 +24,15 @@ pub struct Machine {
 }
 
 /// The byte that a caller pushes twice, so that a return leads to address 0.
-const RETURN_BYTE: u8 = 0xFF;
+pub const RETURN_BYTE: u8 = 0xFF;
 
 impl Machine {
     /// Does the instruction at the program counter.
     ///
-    /// Errors: [`Stop::Illegal`] at an opcode with no row, [`Stop::Break`] at BRK, and [`Stop::Decimal`] at ADC or SBC
-    /// with the decimal flag set. The machine stays as it was.
+    /// # Errors
+    ///
+    /// [`Stop::Illegal`] at an opcode with no row, [`Stop::Break`] at BRK, and [`Stop::Decimal`] at ADC or SBC with the
+    /// decimal flag set. The machine stays as it was.
     pub fn step(&mut self) -> Result<(), Stop>
         ensures done { OnOk result (step self.old ≡ Ok self.new) }
         ensures stopped { IfErr result (λ stop. step self.old ≡ Err stop) }
@@ -43,8 +47,10 @@ impl Machine {
     /// counter is 0 and the stack pointer is what it was before the pushes. Answers the number of steps, at most
     /// `budget`. The log is emptied first, and then holds what the call writes to the SID, up to its end or its stop.
     ///
-    /// Errors: [`CallStop::Stopped`] where a step stops before the call has returned, and [`CallStop::Budget`] where
-    /// `budget` steps are made and it has not. The machine stays where the last step left it.
+    /// # Errors
+    ///
+    /// [`CallStop::Stopped`] where a step stops before the call has returned, and [`CallStop::Budget`] where `budget` steps
+    /// are made and it has not. The machine stays where the last step left it.
     pub fn call(
         &mut self,
         address: u16,

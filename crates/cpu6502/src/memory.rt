@@ -1,8 +1,13 @@
+//! The 65,536 bytes.
+
 ghost use Rattle.std.specs.Prelude.{◌≡◌, IfOk, All, length, slice_index, slice_set};
 
-use crate::stop::NoMemory;
+use base::NoMemory;
 use std::alloc::{AllocError, Global};
 use std::marker::Model;
+
+/// The bytes of memory.
+pub const MEMORY_SIZE: usize = 65_536;
 
 /// The machine's memory: 65,536 bytes. Contracts see the list of them.
 #[derive(Drop)]
@@ -23,15 +28,15 @@ impl Model for Memory {
 impl Memory {
     /// Memory with this value in each byte.
     ///
-    /// Errors: [`NoMemory`] where the allocator has no room for the 65,536 bytes.
+    /// # Errors
+    ///
+    /// Out of memory.
     pub fn filled(alloc: Global, value: u8) -> Result<Memory, NoMemory>
         ensures size { IfOk result (λ memory. length memory ≡ 65536) }
         ensures bytes { IfOk result (All (λ byte. byte ≡ value)) }
     {
-        match bytes_of(alloc, 65_536, value) {
-            Ok(bytes) => Ok(Memory { bytes }),
-            Err(_) => Err(NoMemory),
-        }
+        let bytes = bytes_of(alloc, MEMORY_SIZE, value)?;
+        Ok(Memory { bytes })
     }
 
     /// The byte at a place.
@@ -49,7 +54,7 @@ impl Memory {
     }
 }
 
-/// So many bytes of one value.
+/// A list of one byte, this many times: apart, so that `filled` is proved for a number of bytes that isn't written out.
 fn bytes_of(alloc: Global, count: usize, value: u8) -> Result<Vec<u8>, AllocError>
     ensures size { IfOk result (λ bytes. length bytes.items ≡ count) }
     ensures bytes { IfOk result (λ bytes. All (λ byte. byte ≡ value) bytes.items) }

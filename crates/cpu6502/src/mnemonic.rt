@@ -1,61 +1,119 @@
+//! The names of instructions, and their addressing modes.
+
 /// The name of an instruction, as the MOS 6502 programming manual writes it.
 #[derive(Clone, Copy, Debug)]
 pub enum Mnemonic {
+    /// Add a byte and the carry to A.
     Adc,
+    /// A and a byte, bit by bit.
     And,
+    /// Shift left.
     Asl,
+    /// Branch where the carry is clear.
     Bcc,
+    /// Branch where the carry is set.
     Bcs,
+    /// Branch where the last result was zero.
     Beq,
+    /// Test bits of a byte against A.
     Bit,
+    /// Branch where the last result was negative.
     Bmi,
+    /// Branch where the last result wasn't zero.
     Bne,
+    /// Branch where the last result wasn't negative.
     Bpl,
+    /// Break: it stops the machine.
     Brk,
+    /// Branch where the overflow is clear.
     Bvc,
+    /// Branch where the overflow is set.
     Bvs,
+    /// Clear the carry.
     Clc,
+    /// Clear the decimal flag.
     Cld,
+    /// Clear the interrupt flag.
     Cli,
+    /// Clear the overflow.
     Clv,
+    /// Compare A with a byte.
     Cmp,
+    /// Compare X with a byte.
     Cpx,
+    /// Compare Y with a byte.
     Cpy,
+    /// A byte of memory less one.
     Dec,
+    /// X less one.
     Dex,
+    /// Y less one.
     Dey,
+    /// A or else a byte, bit by bit.
     Eor,
+    /// A byte of memory and one.
     Inc,
+    /// X and one.
     Inx,
+    /// Y and one.
     Iny,
+    /// Jump.
     Jmp,
+    /// Call: push the address of its own last byte and jump.
     Jsr,
+    /// A byte into A.
     Lda,
+    /// A byte into X.
     Ldx,
+    /// A byte into Y.
     Ldy,
+    /// Shift right.
     Lsr,
+    /// No operation.
     Nop,
+    /// A or a byte, bit by bit.
     Ora,
+    /// Push A.
     Pha,
+    /// Push the flags.
     Php,
+    /// Pull A.
     Pla,
+    /// Pull the flags.
     Plp,
+    /// Rotate left through the carry.
     Rol,
+    /// Rotate right through the carry.
     Ror,
+    /// Return from an interrupt.
     Rti,
+    /// Return from a call.
     Rts,
+    /// Subtract a byte and what the carry borrows from A.
     Sbc,
+    /// Set the carry.
     Sec,
+    /// Set the decimal flag.
     Sed,
+    /// Set the interrupt flag.
     Sei,
+    /// A into memory.
     Sta,
+    /// X into memory.
     Stx,
+    /// Y into memory.
     Sty,
+    /// A into X.
     Tax,
+    /// A into Y.
     Tay,
+    /// The stack pointer into X.
     Tsx,
+    /// X into A.
     Txa,
+    /// X into the stack pointer, with no flag.
     Txs,
+    /// Y into A.
     Tya,
 }
 

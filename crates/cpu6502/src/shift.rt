@@ -1,11 +1,12 @@
-ghost use Rattle.std.specs.Prelude.{◌≡◌, slice_index};
+//! Shifts and rotations by one bit.
+
+ghost use Rattle.std.specs.Prelude.{◌≡◌, ℕ, IsSome, Ok, slice_index};
 ghost use Rattle.cpu6502.specs.Shifts.{shifted, shift_effect, accumulator_effect};
 
 use crate::cpu::{Cpu, one_if};
 use crate::effect::{Effect, quiet, storing};
 use crate::memory::Memory;
 use crate::mnemonic::Mnemonic;
-use crate::stop::Stop;
 
 /// Shifts and rotations of a byte in memory, which is written once. `None` for any other name.
 pub fn shift(mnemonic: Mnemonic, place: u16, memory: &Memory, cpu: Cpu) -> Option<Effect>
@@ -16,13 +17,14 @@ pub fn shift(mnemonic: Mnemonic, place: u16, memory: &Memory, cpu: Cpu) -> Optio
     Some(storing(after, place, byte))
 }
 
-/// Shifts and rotations of the accumulator; the address is the instruction's own.
-pub fn shift_accumulator(mnemonic: Mnemonic, own: u16, cpu: Cpu) -> Result<Effect, Stop>
-    ensures { result ≡ accumulator_effect mnemonic own cpu }
+/// Shifts and rotations of the accumulator.
+pub fn shift_accumulator(mnemonic: Mnemonic, cpu: Cpu) -> Effect
+    requires { IsSome (shifted mnemonic cpu.a cpu.c) }
+    ensures { (own : ℕ) → accumulator_effect mnemonic own cpu ≡ Ok result }
 {
     match shifted(mnemonic, cpu.a, cpu.c) {
-        Some((byte, carry)) => Ok(quiet(Cpu { c: carry, ..cpu }.with_a(byte))),
-        None => Err(Stop::Illegal { at: own }),
+        Some((byte, carry)) => quiet(Cpu { c: carry, ..cpu }.with_a(byte)),
+        None => unreachable!(),
     }
 }
 

@@ -1,6 +1,8 @@
+//! Pushes and pulls. The stack wraps in page 1.
+
 ghost use Rattle.std.specs.Prelude.{◌≡◌, ◌+◌, slice_index};
 ghost use Rattle.cpu6502.specs.Registers.{stack_place};
-ghost use Rattle.cpu6502.specs.Stack.{status_of, with_status, pushing, pulled, stack_effect};
+ghost use Rattle.cpu6502.specs.Stack.{status_of, with_status, push_effect, after_pull, stack_effect};
 
 use crate::cpu::{Cpu, one_if};
 use crate::effect::{Effect, quiet, storing};
@@ -12,10 +14,10 @@ pub fn on_stack(mnemonic: Mnemonic, memory: &Memory, cpu: Cpu) -> Option<Effect>
     ensures { result ≡ stack_effect mnemonic (slice_index memory.now) cpu }
 {
     match mnemonic {
-        Mnemonic::Pha => Some(pushing(cpu, cpu.a)),
-        Mnemonic::Php => Some(pushing(cpu, status_of(cpu))),
-        Mnemonic::Pla => Some(quiet(pulled(cpu).with_a(pushed(memory, cpu.sp, 1)))),
-        Mnemonic::Plp => Some(quiet(with_status(pulled(cpu), pushed(memory, cpu.sp, 1)))),
+        Mnemonic::Pha => Some(push_effect(cpu, cpu.a)),
+        Mnemonic::Php => Some(push_effect(cpu, status_of(cpu))),
+        Mnemonic::Pla => Some(quiet(after_pull(cpu).with_a(stack_byte(memory, cpu.sp, 1)))),
+        Mnemonic::Plp => Some(quiet(with_status(after_pull(cpu), stack_byte(memory, cpu.sp, 1)))),
         _ => None,
     }
 }
@@ -27,27 +29,27 @@ pub fn stack(sp: u8) -> u16
     256 + u16::from(sp)
 }
 
-/// The byte that so many pulls reach.
-pub fn pushed(memory: &Memory, sp: u8, pulls: u8) -> u8
+/// The byte that the last of this many pulls reads.
+pub fn stack_byte(memory: &Memory, sp: u8, pulls: u8) -> u8
     ensures { result ≡ slice_index memory.now (stack_place (sp + pulls)) }
 {
     memory.read(stack(sp.wrapping_add(pulls)))
 }
 
 /// The effect of a push.
-fn pushing(cpu: Cpu, byte: u8) -> Effect
-    ensures { result ≡ pushing cpu byte }
+fn push_effect(cpu: Cpu, byte: u8) -> Effect
+    ensures { result ≡ push_effect cpu byte }
 {
-    let behind = Cpu {
+    let after = Cpu {
         sp: cpu.sp.wrapping_sub(1),
         ..cpu
     };
-    storing(behind, stack(cpu.sp), byte)
+    storing(after, stack(cpu.sp), byte)
 }
 
-/// The registers behind a pull of one byte.
-fn pulled(cpu: Cpu) -> Cpu
-    ensures { result ≡ pulled cpu 1 }
+/// The registers after a pull of one byte, but for what is pulled.
+fn after_pull(cpu: Cpu) -> Cpu
+    ensures { result ≡ after_pull cpu 1 }
 {
     Cpu {
         sp: cpu.sp.wrapping_add(1),

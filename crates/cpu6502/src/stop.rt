@@ -1,6 +1,4 @@
-/// Memory for 65,536 bytes was not to be had.
-#[derive(Clone, Copy, Debug, PartialEq, Eq)]
-pub struct NoMemory;
+//! Why a step stops, and why a call doesn't return.
 
 /// Why a step stopped, with the address of the opcode. A stop changes nothing.
 #[derive(Clone, Copy, Debug, PartialEq, Eq)]

@@ -1,3 +1,5 @@
+//! From one register to another.
+
 ghost use Rattle.std.specs.Prelude.{◌≡◌};
 ghost use Rattle.cpu6502.specs.Transfers.{transfer_effect};
 

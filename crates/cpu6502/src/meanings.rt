@@ -1,3 +1,5 @@
+//! The decode table: which instruction an opcode byte stands for.
+
 ghost use Rattle.std.specs.Prelude.{◌≡◌};
 ghost use Rattle.cpu6502.specs.Opcodes.{meaning_of, data_row, other_row, load_row, store_row, arithmetic_row, compare_row, mask_row, combine_row, shift_row, count_row, branch_row, jump_row, stack_row, flag_row, transfer_row};
 

@@ -1,3 +1,5 @@
+//! The decode table read the other way: the opcode of an instruction in an addressing mode.
+
 ghost use Rattle.std.specs.Prelude.{◌≡◌};
 ghost use Rattle.cpu6502.specs.Encoding.{opcode_of, register_opcode, implied_opcode, accumulator_opcode, immediate_opcode, zero_page_opcode, zero_page_x_opcode, zero_page_y_opcode, absolute_opcode, absolute_x_opcode, absolute_y_opcode, indirect_x_opcode, indirect_y_opcode, indirect_opcode, relative_opcode};
 
