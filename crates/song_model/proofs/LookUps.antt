@@ -1,5 +1,5 @@
 -- What a song within its limits has under a number is within its ranges, stored or not.
-use Rattle.std.proofs.Common.{◌≡◌, ℕ, ◌-◌, ◌<◌, true, cond, List, [], length, get_or, All, lit<, inl, inr, refl, arith}
+use Rattle.std.proofs.Common.{◌≡◌, ℕ, ◌-◌, ◌<◌, true, List, [], length, get_or, All, lit<, inl, inr, refl, arith}
 use Rattle.std.specs.Prelude.{◌==◌}
 use Rattle.std.proofs.lemmas.Bool.{cond_both, cases_lt}
 use Rattle.std.proofs.lemmas.Bool.Decides.{nat_tests}
@@ -9,13 +9,12 @@ use Rattle.base.proofs.Laws.{All-get_or_any}
 use Rattle.song_model.specs.declared.rows.Row.{Row}
 use Rattle.song_model.specs.declared.orders.Order.{Order}
 use Rattle.song_model.specs.declared.orders.Subtune.{Subtune}
-use Rattle.song_model.specs.declared.tables.TableRow.{TableRow}
 use Rattle.song_model.specs.declared.tables.TableName.{TableName}
 use Rattle.song_model.specs.declared.tables.TableName.TheVariants.{Wave, Pulse, Filter, Speed}
 use Rattle.song_model.specs.declared.songs.Song.{Song}
 use Rattle.song_model.specs.Basics.{IsByte}
 use Rattle.song_model.specs.PatternLimits.{IsRow, IsPattern}
-use Rattle.song_model.specs.Limits.{IsText, IsInstrument, IsTableRow, IsTable, KeepsLimits}
+use Rattle.song_model.specs.Limits.{IsInstrument, IsTableRow, KeepsLimits}
 use Rattle.song_model.specs.Silent.{IsSilentSubtune}
 use Rattle.song_model.specs.LookUp.{numbered, zero_instrument, instrument_at, zero_table_row, table_of, table_row, pattern_at, has_entries, is_playable_subtune}
 

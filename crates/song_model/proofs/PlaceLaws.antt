@@ -1,9 +1,9 @@
 -- The places of an orderlist's plays are where its walk stands: from each of them on the walk plays
 -- what is left, and then the cycle.
-use Rattle.std.proofs.Common.{◌≡◌, ℕ, ℤ, zero, suc, pos, subst, ◌+◌, ◌-◌, ◌*◌, ◌/◌, ◌%◌, ◌<◌, ◌≤◌, Bool, true, false, cond, ltb, eqb, inl, inr, List, [], ◌∷◌, ◌++◌, length, get_or, drop, replicate, refl, sym, ap, ◌∙◌, arith, add-one, length-append}
+use Rattle.std.proofs.Common.{◌≡◌, ℕ, ℤ, zero, suc, pos, subst, ◌+◌, ◌-◌, ◌%◌, ◌<◌, ◌≤◌, Bool, true, false, cond, ltb, eqb, inl, inr, List, [], ◌∷◌, ◌++◌, length, get_or, drop, replicate, refl, sym, ap, ◌∙◌, arith, add-one, length-append}
 use Rattle.std.proofs.lemmas.Bool.{cases_lt}
 use Rattle.std.proofs.lemmas.Bool.Decides.{nat_tests}
-use Rattle.std.proofs.lemmas.List.{drop_more, drop_all, length-replicate}
+use Rattle.std.proofs.lemmas.List.{length-replicate}
 use Rattle.std.proofs.lemmas.Nat.{mod_below}
 use Rattle.base.proofs.Laws.{mod_goes_on, mod_goes_round, first_of_rest, first_after_all}
 use Rattle.song_model.specs.declared.orders.Order.{Order}
@@ -91,7 +91,7 @@ byte_at (x ∷ entries) bytes byte (suc p) e =
 byte_stands : (entries bytes : List ℕ) (byte p : ℕ) (t : ℤ) (r : ℕ) (z : Bool) → ltb byte 0xD0 ≡ z →
     IsByteAt entries p byte bytes →
     ((t : ℤ) (r : ℕ) → EachStands entries (walk_plays bytes t r) (walk_places bytes (p + 1) t r)
-      (end_transpose bytes t) (end_repeat bytes r)) →
+    (end_transpose bytes t) (end_repeat bytes r)) →
     EachStands entries (walk_plays (byte ∷ bytes) t r) (walk_places (byte ∷ bytes) p t r)
     (end_transpose (byte ∷ bytes) t) (end_repeat (byte ∷ bytes) r)
 byte_stands entries bytes byte p t r true e at others =
@@ -159,16 +159,16 @@ unfolding cycle_of cycle_places
 cycle_stands order =
     let same = one_cycle_is_enough_lem order in
     let P : ℤ → ℕ → Type 0 =
-      λ t r. EachStands order.entries
-      (walk_plays (drop order.restart order.entries) (end_transpose order.entries (pos 0))
-        (end_repeat order.entries 0)) (walk_places (drop order.restart order.entries) order.restart
-        (end_transpose order.entries (pos 0)) (end_repeat order.entries 0)) t r in
+    λ t r. EachStands order.entries
+    (walk_plays (drop order.restart order.entries) (end_transpose order.entries (pos 0))
+    (end_repeat order.entries 0)) (walk_places (drop order.restart order.entries) order.restart
+    (end_transpose order.entries (pos 0)) (end_repeat order.entries 0)) t r in
     let go =
-      walk_stands order.entries (drop order.restart order.entries) order.restart (end_transpose order.entries (pos 0))
-      (end_repeat order.entries 0) refl in
+    walk_stands order.entries (drop order.restart order.entries) order.restart (end_transpose order.entries (pos 0))
+    (end_repeat order.entries 0) refl in
     subst (λ (r : ℕ). P (end_transpose order.entries (pos 0)) r) same.repeat
     (subst (λ (t : ℤ). P t
-      (end_repeat (drop order.restart order.entries) (end_repeat order.entries 0))) same.transpose go)
+    (end_repeat (drop order.restart order.entries) (end_repeat order.entries 0))) same.transpose go)
 
 -- at this place this play comes next, with this place after it
 pub record ComesNext (order : Order) (at : OrderPlace) (step : Step) (after : OrderPlace) : Type 0 where
@@ -200,7 +200,7 @@ end_transpose_is : (entries : List ℕ) (at : OrderPlace) (xs : List Step) (ys :
     Stands entries at xs ys t r → length entries ≤ at.place → at.transpose ≡ t
 end_transpose_is entries at xs ys t r stands h =
     let ends : end_transpose (drop at.place entries) at.transpose ≡ at.transpose =
-      rw (at_end entries at.place h) refl in
+    rw (at_end entries at.place h) refl in
     sym ends ∙ stands.transpose
 
 end_repeat_is : (entries : List ℕ) (at : OrderPlace) (xs : List Step) (ys : List OrderPlace) (t : ℤ) (r : ℕ) →
@@ -219,11 +219,11 @@ seam_comes order endless =
       play =
           twice_first
           (walk_plays (drop order.restart order.entries) (end_transpose order.entries (pos 0))
-            (end_repeat order.entries 0)) no_step;
+          (end_repeat order.entries 0)) no_step;
       place =
           twice_first
           (walk_places (drop order.restart order.entries) order.restart (end_transpose order.entries (pos 0))
-            (end_repeat order.entries 0)) first_place;
+          (end_repeat order.entries 0)) first_place;
     }
 
 restarted_by : (order : Order) (at : OrderPlace) (xs : List Step) (ys : List OrderPlace) (z : Bool) →
@@ -234,11 +234,11 @@ restarted_by : (order : Order) (at : OrderPlace) (xs : List Step) (ys : List Ord
 restarted_by order at xs ys true e endless stands =
     let ended : length order.entries ≤ at.place = grind (arith, nat_tests) in
     let t =
-      end_transpose_is order.entries at xs ys (end_transpose order.entries (pos 0))
-      (end_repeat order.entries 0) stands ended in
+    end_transpose_is order.entries at xs ys (end_transpose order.entries (pos 0))
+    (end_repeat order.entries 0) stands ended in
     let r =
-      end_repeat_is order.entries at xs ys (end_transpose order.entries (pos 0))
-      (end_repeat order.entries 0) stands ended in
+    end_repeat_is order.entries at xs ys (end_transpose order.entries (pos 0))
+    (end_repeat order.entries 0) stands ended in
     let no_plays : [] ≡ xs = sym (rw (at_end order.entries at.place ended) refl) ∙ stands.plays in
     let no_places : [] ≡ ys = sym (rw (at_end order.entries at.place ended) refl) ∙ stands.places in
     comes_also order (place_at order.restart (end_transpose order.entries (pos 0)) (end_repeat order.entries 0))
@@ -323,11 +323,11 @@ comes_in_prefix order endless j h =
     (get_or (drop (suc j) (prefix_of order) ++ cycle_of order) 0 no_step) (bare_play order (suc j))
     (get_or (drop (suc j) (prefix_places order) ++ cycle_places order) 0 first_place) (bare_place order (suc j))
     (restarted_comes order (get_or (prefix_places order) j first_place) (drop (suc j) (prefix_of order))
-      (drop (suc j) (prefix_places order)) endless ((prefix_stands order).each j h))
+    (drop (suc j) (prefix_places order)) endless ((prefix_stands order).each j h))
     (ap (restarted order) (in_prefix (prefix_places order) (cycle_places order) first_place j inside))
     (next_of_prefix (prefix_of order) (cycle_of order) no_step (suc j) (omega arith) (endless_cycle order endless))
     (next_of_prefix (prefix_places order) (cycle_places order) first_place (suc j) (omega arith)
-      (some_places order endless))
+    (some_places order endless))
 
 -- after a play of the cycle
 comes_in_cycle : (order : Order) → IsEndless order → (j m : ℕ) → length (prefix_of order) ≤ j →
@@ -337,16 +337,16 @@ comes_in_cycle order endless j m h e =
     let count = prefix_count order in
     let some = endless_cycle order endless in
     let inside : m < length (cycle_of order) =
-      omega (arith, mod_below (j - length (prefix_of order)) (length (cycle_of order)) some) in
+    omega (arith, mod_below (j - length (prefix_of order)) (length (cycle_of order)) some) in
     let above : length (prefix_places order) ≤ j = omega arith in
     let same : (j - length (prefix_places order)) % length (cycle_places order) ≡ m =
-      rw (prefix_count order, cycle_count order) e in
+    rw (prefix_count order, cycle_count order) e in
     comes_also order (restarted order (get_or (cycle_places order) m first_place))
     (restarted order (bare_place order j))
     (get_or (drop (suc m) (cycle_of order) ++ cycle_of order) 0 no_step) (bare_play order (suc j))
     (get_or (drop (suc m) (cycle_places order) ++ cycle_places order) 0 first_place) (bare_place order (suc j))
     (restarted_comes order (get_or (cycle_places order) m first_place) (drop (suc m) (cycle_of order))
-      (drop (suc m) (cycle_places order)) endless ((cycle_stands order).each m inside))
+    (drop (suc m) (cycle_places order)) endless ((cycle_stands order).each m inside))
     (ap (restarted order) (in_cycle (prefix_places order) (cycle_places order) first_place j m above same))
     (next_of_cycle (prefix_of order) (cycle_of order) no_step j m h some e)
     (next_of_cycle (prefix_places order) (cycle_places order) first_place j m above (some_places order endless) same)

@@ -1,5 +1,5 @@
 -- What an orderlist plays: patterns that it names, with transposes that a byte of it can set.
-use Rattle.std.proofs.Common.{◌≡◌, ℕ, ℤ, suc, pos, negsuc, ◌+◌, ◌-ℤ◌, ◌≤ℤ◌, ◌<◌, ◌≤◌, Bool, true, false, ltb, List, [], ◌∷◌, length, drop, replicate, All, arith}
+use Rattle.std.proofs.Common.{◌≡◌, ℕ, ℤ, pos, ◌+◌, ◌-ℤ◌, ◌<◌, ◌≤◌, true, false, ltb, List, [], ◌∷◌, drop, replicate, All, arith}
 use Rattle.std.proofs.lemmas.Int.{ints}
 use Rattle.std.proofs.lemmas.Bool.{cond_both}
 use Rattle.std.proofs.lemmas.Bool.Decides.{nat_tests}
@@ -7,9 +7,9 @@ use Rattle.std.proofs.lemmas.List.Elements.{All-nil, All-head, All-tail, All-app
 use Rattle.song_model.specs.declared.orders.Order.{Order}
 use Rattle.song_model.specs.declared.orders.Step.{Step}
 use Rattle.song_model.specs.OrderLimits.{IsEntry, AreEntries}
-use Rattle.song_model.specs.Endless.{IsPatternByte, IsEndless}
-use Rattle.song_model.specs.Walk.{transpose_after, repeat_after, plays_of, walk_plays, end_transpose, end_repeat, prefix_of, cycle_of, played, no_step}
-use Rattle.song_model.specs.WalkLaws.{PlaysAPattern, PlaysArePatterns, IsTranspose, TransposesAreInRange}
+use Rattle.song_model.specs.Endless.{IsPatternByte}
+use Rattle.song_model.specs.Walk.{transpose_after, repeat_after, plays_of, walk_plays, end_transpose, end_repeat, prefix_of, cycle_of}
+use Rattle.song_model.specs.WalkLaws.{PlaysArePatterns, IsTranspose, TransposesAreInRange}
 use Rattle.song_model.proofs.Walks.{each_play, any_play, plays_are_entries_lem}
 use Rattle.song_model.proofs.Rests.{endless_cycle}
 
@@ -82,7 +82,7 @@ walk_transposes (byte ∷ bytes) t r e h =
     All-append HasTranspose (plays_of byte t r) (walk_plays bytes (transpose_after byte t) (repeat_after byte r))
     (byte_transposes byte t r h)
     (walk_transposes bytes (transpose_after byte t) (repeat_after byte r) (All-tail IsEntry byte bytes e)
-      (after_byte byte t (All-head IsEntry byte bytes e) h))
+    (after_byte byte t (All-head IsEntry byte bytes e) h))
 
 end_in_range : (bytes : List ℕ) (t : ℤ) → All IsEntry bytes → IsTranspose t → IsTranspose (end_transpose bytes t)
 end_in_range [] t e h = h

@@ -1,5 +1,5 @@
 -- What is left of a walk along an orderlist, a byte at a time.
-use Rattle.std.proofs.Common.{◌≡◌, ℕ, ℤ, inl, inr, zero, suc, pos, ◌+◌, ◌<◌, ◌≤◌, true, false, ltb, eqb, List, [], ◌∷◌, ◌++◌, length, get_or, drop, replicate, refl, sym, ap, ◌∙◌, arith, add-one, length-append}
+use Rattle.std.proofs.Common.{◌≡◌, ℕ, ℤ, inl, inr, zero, suc, pos, ◌+◌, ◌<◌, ◌≤◌, true, false, ltb, eqb, List, [], ◌∷◌, ◌++◌, length, get_or, drop, replicate, refl, sym, ap, ◌∙◌, arith, add-one}
 use Rattle.std.proofs.lemmas.Bool.{cases_lt}
 use Rattle.std.proofs.lemmas.Bool.Decides.{nat_tests}
 use Rattle.std.proofs.lemmas.List.{drop_more, drop_all}
@@ -124,14 +124,14 @@ round_transpose : (order : Order) (at here there : OrderPlace) → GoesRound ord
     here.transpose ≡ end_transpose order.entries (pos 0)
 round_transpose order at here there go =
     let ends : end_transpose (drop here.place order.entries) here.transpose ≡ here.transpose =
-      rw (at_end order.entries here.place go.ended) refl in
+    rw (at_end order.entries here.place go.ended) refl in
     sym ends ∙ sym go.along.transpose ∙ go.on_walk.transpose
 
 round_repeat : (order : Order) (at here there : OrderPlace) → GoesRound order at here there →
     here.repeat ≡ end_repeat order.entries 0
 round_repeat order at here there go =
     let ends : end_repeat (drop here.place order.entries) here.repeat ≡ here.repeat =
-      rw (at_end order.entries here.place go.ended) refl in
+    rw (at_end order.entries here.place go.ended) refl in
     sym ends ∙ sym go.along.repeat ∙ go.on_walk.repeat
 
 round_plays : (order : Order) (at here there : OrderPlace) → GoesRound order at here there →
@@ -139,7 +139,7 @@ round_plays : (order : Order) (at here there : OrderPlace) → GoesRound order a
 unfolding cycle_of
 round_plays order at here there go =
     (λ i. walk_plays (drop order.restart order.entries) (sym (round_transpose order at here there go) i)
-      (sym (round_repeat order at here there go) i))
+    (sym (round_repeat order at here there go) i))
     ∙ go.again.plays
 
 round_places : (order : Order) (at here there : OrderPlace) → GoesRound order at here there →
@@ -147,7 +147,7 @@ round_places : (order : Order) (at here there : OrderPlace) → GoesRound order 
 unfolding cycle_places
 round_places order at here there go =
     (λ i. walk_places (drop order.restart order.entries) order.restart (sym (round_transpose order at here there go) i)
-      (sym (round_repeat order at here there go) i))
+    (sym (round_repeat order at here there go) i))
     ∙ go.again.places
 
 pub play_in_next_round : (order : Order) (at here there : OrderPlace) → GoesRound order at here there →
@@ -161,7 +161,7 @@ pub place_in_next_round : (order : Order) (at here there : OrderPlace) → GoesR
     get_or (coming_places order at) 0 first_place ≡ get_or (places_from order.entries there) 0 first_place
 place_in_next_round order at here there go =
     let none : places_from order.entries at ≡ [] =
-      go.along.places ∙ rw (at_end order.entries here.place go.ended) refl in
+    go.along.places ∙ rw (at_end order.entries here.place go.ended) refl in
     ap (λ places. get_or (places ++ cycle_places order) 0 first_place) none ∙ ap
     (λ places. get_or places 0 first_place) (round_places order at here there go)
 
@@ -177,7 +177,7 @@ inside_next_round order at here there endless go =
       | inr ge ↦
           let some : 0 < length (cycle_of order) = endless_cycle order endless in
           let same : length (cycle_of order) ≡ length (plays_from order.entries there) =
-            ap length (round_plays order at here there go) in
+          ap length (round_plays order at here there go) in
           let none : length (plays_from order.entries there) ≡ 0 = ended_plays order.entries there ge in
           absurd (omega arith)
     ]

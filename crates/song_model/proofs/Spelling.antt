@@ -21,7 +21,7 @@ both : {S X Y : Type 0} (P : S → Type 0) (f g : S → List ℕ) (a : S → X) 
     Tells P f a → Tells P g b → Tells {X = X × Y} P (λ s. f s ++ g s) (λ s. (a s, b s))
 both P f g a b first second s t u v p q e =
     let apart : f s ++ (g s ++ u) ≡ f t ++ (g t ++ v) =
-      sym (append_assoc (f s) (g s) u) ∙ e ∙ append_assoc (f t) (g t) v in
+    sym (append_assoc (f s) (g s) u) ∙ e ∙ append_assoc (f t) (g t) v in
     let one = first s t (g s ++ u) (g t ++ v) p q apart in
     let two = second s t u v p q one.1 in
     (let x = one.0 in let y = two.0 in (cc), two.1)
@@ -35,7 +35,7 @@ items_tell P f tells [] (y ∷ ys) u v n p q e = absurd (omega arith)
 items_tell P f tells (x ∷ xs) [] u v n p q e = absurd (omega arith)
 items_tell P f tells (x ∷ xs) (y ∷ ys) u v n p q e =
     let apart : f x ++ (flat_map f xs ++ u) ≡ f y ++ (flat_map f ys ++ v) =
-      sym (append_assoc (f x) (flat_map f xs) u) ∙ e ∙ append_assoc (f y) (flat_map f ys) v in
+    sym (append_assoc (f x) (flat_map f xs) u) ∙ e ∙ append_assoc (f y) (flat_map f ys) v in
     let one = tells x y (flat_map f xs ++ u) (flat_map f ys ++ v) (All-head P x xs p) (All-head P y ys q) apart in
     let m : length xs ≡ length ys = omega arith in
     let two = items_tell P f tells xs ys u v m (All-tail P x xs p) (All-tail P y ys q) one.1 in
@@ -91,16 +91,16 @@ of_part P Q f part keeps tells s t u v p q e = tells (part s) (part t) u v (keep
 subtune_tells : Tells IsSubtune subtune_text (λ subtune. subtune)
 subtune_tells s t u v p q e =
     let one : Tells IsSubtune (λ s. order_text s.one) (λ s. s.one) =
-      of_part IsSubtune IsOrder order_text (λ s. s.one) (λ s k. k.one) order_tells in
+    of_part IsSubtune IsOrder order_text (λ s. s.one) (λ s k. k.one) order_tells in
     let two : Tells IsSubtune (λ s. order_text s.two) (λ s. s.two) =
-      of_part IsSubtune IsOrder order_text (λ s. s.two) (λ s k. k.two) order_tells in
+    of_part IsSubtune IsOrder order_text (λ s. s.two) (λ s k. k.two) order_tells in
     let three : Tells IsSubtune (λ s. order_text s.three) (λ s. s.three) =
-      of_part IsSubtune IsOrder order_text (λ s. s.three) (λ s k. k.three) order_tells in
+    of_part IsSubtune IsOrder order_text (λ s. s.three) (λ s k. k.three) order_tells in
     let r =
-      both IsSubtune (λ s. order_text s.one ++ order_text s.two) (λ s. order_text s.three) (λ s. (s.one, s.two))
-      (λ s. s.three)
+    both IsSubtune (λ s. order_text s.one ++ order_text s.two) (λ s. order_text s.three) (λ s. (s.one, s.two))
+    (λ s. s.three)
     (both IsSubtune (λ s. order_text s.one) (λ s. order_text s.two) (λ s. s.one)
-      (λ s. s.two) one two) three s t u v p q e in
+    (λ s. s.two) one two) three s t u v p q e in
     let same = r.0 in
     (λ i. record { one = (same i).0.0; two = (same i).0.1; three = (same i).1 }, r.1)
 
@@ -159,12 +159,12 @@ table_tells s t u v p q e =
     sym (append_assoc (map (λ row. row.left) s) (map (λ row. row.right) s) u) ∙ tail ∙ append_assoc
     (map (λ row. row.left) t) (map (λ row. row.right) t) v in
     let m : length (map (λ row. row.left) s) ≡ length (map (λ row. row.left) t) =
-      length-map s _ ∙ n ∙ sym (length-map t _) in
+    length-map s _ ∙ n ∙ sym (length-map t _) in
     let k : length (map (λ row. row.right) s) ≡ length (map (λ row. row.right) t) =
-      length-map s _ ∙ n ∙ sym (length-map t _) in
+    length-map s _ ∙ n ∙ sym (length-map t _) in
     let one =
-      split_append (map (λ row. row.left) s) (map (λ row. row.left) t) (map (λ row. row.right) s ++ u)
-      (map (λ row. row.right) t ++ v) m apart in
+    split_append (map (λ row. row.left) s) (map (λ row. row.left) t) (map (λ row. row.right) s ++ u)
+    (map (λ row. row.right) t ++ v) m apart in
     let two = split_append (map (λ row. row.right) s) (map (λ row. row.right) t) u v k one.1 in
     (same_rows s t n one.0 two.0, two.1)
 
@@ -202,7 +202,7 @@ tables_tell =
     both KeepsLimits (λ s. table_text s.wave ++ table_text s.pulse ++ table_text s.filter) (λ s. table_text s.speed)
     (λ s. ((s.wave, s.pulse), s.filter)) (λ s. s.speed)
     (both KeepsLimits (λ s. table_text s.wave ++ table_text s.pulse) (λ s. table_text s.filter)
-      (λ s. (s.wave, s.pulse)) (λ s. s.filter)
+    (λ s. (s.wave, s.pulse)) (λ s. s.filter)
     (both KeepsLimits (λ s. table_text s.wave) (λ s. table_text s.pulse) (λ s. s.wave) (λ s. s.pulse)
     (of_part KeepsLimits IsTable table_text (λ s. s.wave) (λ s k. k.wave) table_tells)
     (of_part KeepsLimits IsTable table_text (λ s. s.pulse) (λ s k. k.pulse) table_tells))
@@ -217,25 +217,27 @@ pub canonical_tells : Tells KeepsLimits canonical (λ s. s)
 unfolding canonical
 canonical_tells s t u v p q e =
     let front1 =
-      both KeepsLimits (λ s. codes "GTS5") texts_text (λ s. tt {0})
-      (λ s. ((s.name, s.author), s.copyright)) magic_tells texts_tell in
+    both KeepsLimits (λ s. codes "GTS5") texts_text (λ s. tt {0})
+    (λ s. ((s.name, s.author), s.copyright)) magic_tells texts_tell in
     let front2 = both KeepsLimits (λ s. codes "GTS5" ++ texts_text s) (λ s. subtunes_text s.subtunes)
     (λ s. (tt {0}, ((s.name, s.author), s.copyright))) (λ s. s.subtunes) front1 subtunes_tell in
     let front3 =
-      both KeepsLimits (λ s. codes "GTS5" ++ texts_text s ++ subtunes_text s.subtunes)
-      (λ s. instruments_text s.instruments)
+    both KeepsLimits (λ s. codes "GTS5" ++ texts_text s ++ subtunes_text s.subtunes)
+    (λ s. instruments_text s.instruments)
     (λ s. ((tt {0}, ((s.name, s.author), s.copyright)), s.subtunes)) (λ s. s.instruments) front2 instruments_tell in
     let front4 =
-      both KeepsLimits
-      (λ s. codes "GTS5" ++ texts_text s ++ subtunes_text s.subtunes ++ instruments_text s.instruments) tables_text
+    both KeepsLimits
+    (λ s. codes "GTS5" ++ texts_text s ++ subtunes_text s.subtunes ++ instruments_text s.instruments) tables_text
     (λ s. (((tt {0}, ((s.name, s.author), s.copyright)), s.subtunes), s.instruments))
     (λ s. (((s.wave, s.pulse), s.filter), s.speed)) front3 tables_tell in
     let whole =
-      both KeepsLimits
-      (λ s. codes "GTS5" ++ texts_text s ++ subtunes_text s.subtunes ++ instruments_text s.instruments ++ tables_text s)
+    both KeepsLimits
+    (λ s. codes "GTS5" ++ texts_text s ++ subtunes_text s.subtunes ++ instruments_text s.instruments ++ tables_text s)
     (λ s. patterns_text s.patterns)
-    (λ s. ((((tt {0}, ((s.name, s.author), s.copyright)), s.subtunes), s.instruments),
-      (((s.wave, s.pulse), s.filter), s.speed))) (λ s. s.patterns)
+    (λ s. (
+      (((tt {0}, ((s.name, s.author), s.copyright)), s.subtunes), s.instruments),
+      (((s.wave, s.pulse), s.filter), s.speed),
+    )) (λ s. s.patterns)
     front4 patterns_tell s t u v p q e in
     let same = whole.0 in (
       λ i. record {

@@ -1,5 +1,5 @@
 -- What an orderlist plays are its entries, and one cycle is like the next.
-use Rattle.std.proofs.Common.{◌≡◌, ℕ, ℤ, suc, pos, subst, ◌+◌, ◌-◌, ◌-ℤ◌, ◌%◌, ◌<◌, ◌⊎◌, Bool, true, false, cond, ltb, List, [], ◌∷◌, ◌++◌, length, get_or, take, drop, replicate, All, Contains, inl, inr, refl, ap, ◌∙◌, arith, length-append}
+use Rattle.std.proofs.Common.{◌≡◌, ℕ, ℤ, suc, pos, subst, ◌+◌, ◌-◌, ◌-ℤ◌, ◌%◌, ◌<◌, ◌⊎◌, Bool, true, false, cond, ltb, List, [], ◌∷◌, ◌++◌, length, get_or, take, drop, replicate, All, Contains, inl, inr, refl, ap, ◌∙◌, arith}
 use Rattle.std.proofs.lemmas.Bool.{cond_both}
 use Rattle.std.proofs.lemmas.Bool.Decides.{nat_tests}
 use Rattle.std.proofs.lemmas.List.{length-replicate, take-append-drop}
@@ -66,7 +66,7 @@ any_play P order i none first again =
     (get_or (cycle_of order) ((i - length (prefix_of order)) % length (cycle_of order)) no_step) P
     (λ e. All-get_or_any P (prefix_of order) i no_step none first)
     (λ e. All-get_or_any P (cycle_of order)
-      ((i - length (prefix_of order)) % length (cycle_of order)) no_step none again)
+    ((i - length (prefix_of order)) % length (cycle_of order)) no_step none again)
 
 pub plays_are_entries_lem : PlaysAreEntries
 plays_are_entries_lem order i h =
@@ -154,7 +154,7 @@ whole_transpose : (entries : List ℕ) (n : ℕ) →
     end_transpose (drop n entries) (end_transpose entries (pos 0)) ≡ end_transpose entries (pos 0)
 whole_transpose entries n =
     let P : List ℕ → Type 0 =
-      λ whole. end_transpose (drop n entries) (end_transpose whole (pos 0)) ≡ end_transpose whole (pos 0) in
+    λ whole. end_transpose (drop n entries) (end_transpose whole (pos 0)) ≡ end_transpose whole (pos 0) in
     subst P (take-append-drop n entries) (transpose_again (take n entries) (drop n entries) (pos 0))
 
 whole_repeat : (entries : List ℕ) (n : ℕ) → end_repeat (drop n entries) (end_repeat entries 0) ≡ end_repeat entries 0

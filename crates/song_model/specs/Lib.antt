@@ -10,12 +10,10 @@ pub mod Endless
 pub mod Places
 pub mod Silence
 pub mod Silent
-
 -- Claimed: laws of these definitions, and what they give for orderlists that were worked out by hand.
 pub mod WalkLaws
 pub mod CanonicalLaws
 pub mod WorkedWalks
 pub mod WorkedPlaces
-
 -- Inner: what the code of a walk says of the part that is left.
 pub mod WalkRest

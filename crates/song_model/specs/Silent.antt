@@ -18,7 +18,7 @@ pub record IsSilentOrder (patterns : List (List Row)) (order : Order) : Type 0 w
   pub stored : All (λ byte. byte < length patterns) order.entries
   pub restart : order.restart < length order.entries
   pub rows : (byte : ℕ) (rows : List Row) → Contains order.entries byte →
-    slice_get patterns byte ≡ Some rows → All IsSilentRow rows
+      slice_get patterns byte ≡ Some rows → All IsSilentRow rows
 
 pub record IsSilentSubtune (patterns : List (List Row)) (subtune : Subtune) : Type 0 where
   pub one : IsSilentOrder patterns subtune.one

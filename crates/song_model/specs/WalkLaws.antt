@@ -34,11 +34,11 @@ TransposesAreInRange =
 -- the cycle ends with the transpose and the repeat with which it began
 pub record EndsAsItBegan (order : Order) : Type 0 where
   pub transpose :
-    end_transpose (drop order.restart order.entries) (end_transpose order.entries (pos 0))
-    ≡ end_transpose order.entries (pos 0)
+      end_transpose (drop order.restart order.entries) (end_transpose order.entries (pos 0))
+      ≡ end_transpose order.entries (pos 0)
   pub repeat :
-    end_repeat (drop order.restart order.entries) (end_repeat order.entries 0)
-    ≡ end_repeat order.entries 0
+      end_repeat (drop order.restart order.entries) (end_repeat order.entries 0)
+      ≡ end_repeat order.entries 0
 
 -- so the second round is like the first, and each later one
 abbrev pub OneCycleIsEnough : Type 0

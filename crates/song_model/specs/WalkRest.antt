@@ -19,18 +19,18 @@ pub record IsSameRest (entries : List ℕ) (here there : OrderPlace) : Type 0 wh
   pub plays : plays_from entries here ≡ plays_from entries there
   pub places : places_from entries here ≡ places_from entries there
   pub transpose :
-    end_transpose (drop here.place entries) here.transpose
-    ≡ end_transpose (drop there.place entries) there.transpose
+      end_transpose (drop here.place entries) here.transpose
+      ≡ end_transpose (drop there.place entries) there.transpose
   pub repeat :
-    end_repeat (drop here.place entries) here.repeat
-    ≡ end_repeat (drop there.place entries) there.repeat
+      end_repeat (drop here.place entries) here.repeat
+      ≡ end_repeat (drop there.place entries) there.repeat
 
 -- a walk from here comes to the end as the walk from the start does
 pub record IsOnWalk (order : Order) (at : OrderPlace) : Type 0 where
   pub inside : at.place ≤ length order.entries
   pub transpose :
-    end_transpose (drop at.place order.entries) at.transpose
-    ≡ end_transpose order.entries (pos 0)
+      end_transpose (drop at.place order.entries) at.transpose
+      ≡ end_transpose order.entries (pos 0)
   pub repeat : end_repeat (drop at.place order.entries) at.repeat ≡ end_repeat order.entries 0
 
 -- the plays from here to the end of the next round

@@ -35,5 +35,5 @@ RestartsInTheMiddle =
 abbrev pub RepeatsArePending : Type 0
 RepeatsArePending =
     first_places (order (0xF1 ∷ 4 ∷ 7 ∷ 0xD2 ∷ []) 2) 7
-    ≡ at 0 (pos 0) 0 ∷ at 2 (pos 1) 0 ∷ at 3 (pos 1) 0 ∷ at 2 (pos 1) 1 ∷ at 2 (pos 1) 0 
+    ≡ at 0 (pos 0) 0 ∷ at 2 (pos 1) 0 ∷ at 3 (pos 1) 0 ∷ at 2 (pos 1) 1 ∷ at 2 (pos 1) 0
     ∷ at 3 (pos 1) 0 ∷ at 2 (pos 1) 1 ∷ []

@@ -18,19 +18,19 @@ first_plays order (suc n) = first_plays order n ++ played order n ∷ []
 abbrev pub TransposesAreKept : Type 0
 TransposesAreKept =
     (first_plays (order (0 ∷ 0xF2 ∷ 1 ∷ []) 0) 5 ≡ step 0 (pos 0) ∷ step 1 (pos 2) ∷ step 0 (pos 2)
-      ∷ step 1 (pos 2) ∷ step 0 (pos 2) ∷ [])
+    ∷ step 1 (pos 2) ∷ step 0 (pos 2) ∷ [])
     × (prefix_of (order (0xE0 ∷ 5 ∷ 0xFE ∷ 6 ∷ []) 0) ≡ step 5 (negsuc 15) ∷ step 6 (pos 14) ∷ [])
 
 -- a repeat of 1 plays its pattern twice and is used up
 abbrev pub RepeatsAreUsedUp : Type 0
 RepeatsAreUsedUp =
     (prefix_of (order (0xD1 ∷ 3 ∷ 1 ∷ []) 0) ≡ step 3 (pos 0) ∷ step 3 (pos 0) ∷ step 1 (pos 0)
-      ∷ [])
+    ∷ [])
     × (cycle_of (order (0xD1 ∷ 3 ∷ 1 ∷ []) 1) ≡ step 3 (pos 0) ∷ step 1 (pos 0) ∷ [])
 
 -- a repeat at the end is used by the pattern at the restart position, each time
 abbrev pub RepeatsReachTheRestart : Type 0
 RepeatsReachTheRestart =
     first_plays (order (0xF1 ∷ 4 ∷ 7 ∷ 0xD2 ∷ []) 2) 6
-    ≡ step 4 (pos 1) ∷ step 7 (pos 1) ∷ step 7 (pos 1) ∷ step 7 (pos 1) ∷ step 7 (pos 1) 
+    ≡ step 4 (pos 1) ∷ step 7 (pos 1) ∷ step 7 (pos 1) ∷ step 7 (pos 1) ∷ step 7 (pos 1)
     ∷ step 7 (pos 1) ∷ []

@@ -25,7 +25,8 @@ pub use faults::{LimitFault, PushFault};
 pub use instruments::{FeatureBits, Instrument, InstrumentList, MOST_INSTRUMENTS};
 pub use lists::Bounded;
 pub use orders::{
-    ENDMARK, MOST_ENTRIES, MOST_SUBTUNES, Order, OrderEntries, OrderPlace, Step, Subtune, SubtuneList,
+    ENDMARK, MOST_ENTRIES, MOST_SUBTUNES, Order, OrderEntries, OrderPlace, Step, Subtune,
+    SubtuneList,
 };
 pub use patterns::{MOST_PATTERNS, MOST_ROWS, Pattern, PatternList};
 pub use rows::Row;

@@ -5,7 +5,7 @@ use Rattle.song_model.proofs.orders.Order.after_play.Goals as goal
 pub returns-then-after-gt0 : goal.returns-then-after-gt0
 returns-then-after-gt0 c =
     sym (after_a_repeat c.args.self.now c.args.here.place c.args.here.transpose c.args.here.repeat
-      (c.args.here.repeat - 1) c.requires.inside c.requires.pattern (omega arith))
+    (c.args.here.repeat - 1) c.requires.inside c.requires.pattern (omega arith))
 
 pub returns-else-from-end : goal.returns-else-from-end
 returns-else-from-end c =

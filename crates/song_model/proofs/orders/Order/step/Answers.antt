@@ -20,6 +20,6 @@ returns-clause-place c = λ i e.
     c.after_play.ensures
     ∙ ap (restarted c.args.self.now)
     (sym c.next_pattern-here.ensures.place ∙ ap
-      (λ at. slice_index_or (coming_places c.args.self.now at) 0 first_place) e ∙
-      (comes_at c.args.self.now c.requires.endless i).place)
+    (λ at. slice_index_or (coming_places c.args.self.now at) 0 first_place) e ∙
+    (comes_at c.args.self.now c.requires.endless i).place)
     ∙ sym (place_of_next c.args.self.now i)

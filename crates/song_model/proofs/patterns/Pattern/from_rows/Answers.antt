@@ -8,7 +8,7 @@ pub returns-in-Some-clause-bad_item : goal.returns-in-Some-clause-bad_item
 returns-in-Some-clause-bad_item c = λ place. (
   λ e. let same : c.in-Some.place ≡ place = (cc) in (search rules, rw (← same) c.in-Some.ensures.found),
   λ h. let same : c.in-Some.place
-  ≡ place = same_first_bad IsRow c.args.rows.now rest_row _ _ c.in-Some.ensures.found h.1 in rw same,
+      ≡ place = same_first_bad IsRow c.args.rows.now rest_row _ _ c.in-Some.ensures.found h.1 in rw same,
 )
 
 pub returns-in-Ok-clause-bad_item : goal.returns-in-Ok-clause-bad_item

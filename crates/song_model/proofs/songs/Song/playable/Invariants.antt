@@ -7,7 +7,7 @@ use Rattle.song_model.proofs.songs.Song.playable.Given as goal
 abbrev pub invariant-loop-subtune : goal.invariant-loop-subtune
 invariant-loop-subtune l = record {
   same : slice_get (filter is_playable_subtune (drop l.subtune-index l.stored)) l.left ≡ slice_get
-  (filter is_playable_subtune l.stored) l.k;
+      (filter is_playable_subtune l.stored) l.k;
   many : length (filter is_playable_subtune (drop l.subtune-index l.stored)) + l.k ≡ length
-  (filter is_playable_subtune l.stored) + l.left;
+      (filter is_playable_subtune l.stored) + l.left;
 }
