@@ -44,7 +44,7 @@ impl Reader {
         Ok((Subtune { one, two, three }, left))
     }
 
-    /// So many subtunes.
+    /// The next `count` subtunes.
     fn some_subtunes<'a>(
         self,
         alloc: Global,
