@@ -10,15 +10,16 @@
 //! song sounds like and on `cpu6502` for what machine code does.
 #![tactic(auto)]
 
-mod ending;
+mod arguments;
+mod commands;
 mod image;
 /// Facts about the definitions.
 pub mod laws;
 mod line;
-mod made;
+mod packed;
 mod refusal;
-mod shown;
 mod silent;
+mod stages;
 mod top;
 mod words;
 
