@@ -8,7 +8,7 @@ use Rattle.cpu6502.specs.declared.machine.Machine.{Machine}
 use Rattle.cpu6502.specs.declared.stop.CallStop.{CallStop}
 use Rattle.cpu6502.specs.Call.{run, entered, Called, FailsBy}
 use Rattle.cpu6502.specs.declared.stop.CallStop.TheVariants.{Stopped, Budget}
-use Rattle.cpu6502.proofs.Calls.{called_once, returned_fails, stopped_fails, under_way_fails}
+use Rattle.cpu6502.proofs.Laws.{called_once, returned_fails, stopped_fails, under_way_fails}
 use Rattle.sid_run.specs.State.{RunnerState, sid_registers, most_steps}
 use Rattle.goat_cli.specs.Calls.{entry_of, number_of, ReturnsTo, FirstCalls, MeetsStopAt}
 use Rattle.goat_cli.specs.RegisterText.{register_line, lines_from, register_lines}

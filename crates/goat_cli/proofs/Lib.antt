@@ -13,5 +13,4 @@ mod Passes
 mod PlayedFiles
 mod Printed
 mod Reading
-mod SongLaws
 mod Told

@@ -11,7 +11,7 @@ use Rattle.cpu6502.specs.declared.machine.Machine.{Machine}
 use Rattle.sid_run.specs.State.{loaded}
 use Rattle.goat_cli.specs.Calls.{HasSubtune, FirstCalls}
 use Rattle.goat_cli.specs.Stages.{IsThere, Fits, SpellsSong, CanBePacked, IsPsid, OffersSubtune, CallsReturn, HoldsSong, HoldsPsid, Passes}
-use Rattle.goat_cli.proofs.SongLaws.{spells_once, spells_has_no_fault}
+use Rattle.gts5.proofs.Laws.{spells_once, spells_has_no_fault}
 use Rattle.goat_cli.proofs.Calls.{returned_or_stopped}
 
 -- a name has one file, which spells one song and is one PSID file

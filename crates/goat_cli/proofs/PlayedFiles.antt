@@ -8,15 +8,15 @@ use Rattle.song_model.specs.LookUp.{playable_subtunes, is_playable_subtune}
 use Rattle.play_model.specs.Frame.{trace}
 use Rattle.cpu6502.specs.declared.machine.Machine.{Machine}
 use Rattle.cpu6502.specs.Code.{IsMachine}
-use Rattle.cpu6502.proofs.Machines.{call_keeps}
+use Rattle.cpu6502.proofs.Laws.{call_keeps}
 use Rattle.psid.specs.declared.header.Header.{Header}
 use Rattle.psid.specs.declared.header.Psid.{Psid}
 use Rattle.psid.specs.Format.{IsHeader, IsWritable, header_bytes, psid_bytes}
 use Rattle.psid.specs.Words.{address_bytes}
 use Rattle.psid.specs.Reading.{psid_read}
-use Rattle.psid.proofs.Written.{written_is_read_as_is}
+use Rattle.psid.proofs.Laws.{written_is_read_as_is}
 use Rattle.sid_run.specs.State.{RunnerState, loaded, loaded_machine}
-use Rattle.sid_run.proofs.Images.{image_stands, loaded_is_machine}
+use Rattle.sid_run.proofs.Laws.{image_stands, loaded_is_machine}
 use Rattle.goat_io.specs.Files.{Files}
 use Rattle.goat_cli.specs.Words.{Run}
 use Rattle.goat_cli.specs.Calls.{HasSubtune, ReturnsTo, FirstCalls}

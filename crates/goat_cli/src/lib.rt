@@ -17,6 +17,7 @@ mod image;
 pub mod laws;
 mod line;
 mod packed;
+mod program;
 mod refusal;
 mod silent;
 mod stages;
@@ -24,6 +25,7 @@ mod top;
 mod words;
 
 pub use image::silent_image;
+pub use program::run_program;
 pub use silent::is_silent;
 pub use top::goat;
 pub use words::{Job, WordsFault, parse_words};

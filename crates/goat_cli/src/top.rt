@@ -26,7 +26,7 @@ const DONE: u8 = 0;
 const SINK_FAILED: u8 = 10;
 
 /// The status of a want of memory.
-const NO_MEMORY: u8 = 14;
+pub const NO_MEMORY: u8 = 14;
 
 /// Does all that the program does, and answers its exit status: 0 done, 1 usage, 2 missing, 3 too long, 4 read
 /// fault, 5 not a song, 9 write fault, 10 sink fault, 11 no such subtune, 12 not a PSID file, 13 machine stopped,
