@@ -10,7 +10,7 @@ ghost use Rattle.asm6502.specs.Branches.{branch_byte};
 
 use crate::faults::AsmFault;
 use crate::fixes::{Fix, FixKind};
-use crate::lines::{Line, Operand};
+use crate::lines::{Line, MOST_BYTES, MOST_LINES, Operand};
 use cpu6502::Mode;
 use song_model::FeatureBits;
 use std::alloc::Global;
@@ -65,7 +65,7 @@ impl Labels {
         Ok(())
     }
 
-    /// Notes that a label is named behind the bytes so far.
+    /// Notes that a label is named after the bytes so far.
     fn name(&mut self, label: u16) -> Result<(), AsmFault>
         ensures size { self.new.size ≡ self.old.size }
         ensures noted { MatchResult result
@@ -113,7 +113,7 @@ impl Labels {
         (address % 65_536) as u16
     }
 
-    /// The number that stands behind the opcode at place `at` of the bytes, where these stand at an origin; `None` where
+    /// The number that stands after the opcode at place `at` of the bytes, where these stand at an origin; `None` where
     /// it is a label that the branch doesn't reach.
     pub(crate) fn operand(&self, origin: u16, at: u32, mode: Mode, operand: Operand) -> Option<u16>
         requires { origin + at ≤ 65536 }
@@ -180,8 +180,8 @@ fn branch_byte(pc: u32, target: u16) -> Option<u8>
 
 /// The labels of the kept lines; refused where one of them is named a second time.
 pub(crate) fn labels_of(alloc: Global, lines: &[Line], set: FeatureBits) -> Result<Labels, AsmFault>
-    requires lines { length lines.now ≤ 1000000 }
-    requires bytes { data_size lines.now ≤ 1000000 }
+    requires lines { length lines.now ≤ MOST_LINES }
+    requires bytes { data_size lines.now ≤ MOST_BYTES }
     ensures { MatchResult result
         (λ labels. HasPlaces labels (kept set.0 lines.now) × (first_fault (double_label set.0) [] lines.now ≡ None))
         (λ fault. (fault ≡ NoMemory) ⊎ (first_fault (double_label set.0) [] lines.now ≡ Some fault)) }
@@ -195,7 +195,7 @@ pub(crate) fn labels_of(alloc: Global, lines: &[Line], set: FeatureBits) -> Resu
 
 /// Refuses a line that can't stand in a listing.
 pub(crate) fn check_lines(lines: &[Line], set: FeatureBits) -> Result<(), AsmFault>
-    requires { length lines.now ≤ 1000000 }
+    requires { length lines.now ≤ MOST_LINES }
     ensures { MatchResult result
         (λ _. first_fault (bad_line set.0) [] lines.now ≡ None)
         (λ fault. first_fault (bad_line set.0) [] lines.now ≡ Some fault) }

@@ -11,7 +11,7 @@ use crate::faults::AsmFault;
 use crate::fixes::FixList;
 use crate::instructions::Instr;
 use crate::labels::Labels;
-use crate::lines::{Item, Line, Operand};
+use crate::lines::{Item, Line, MOST_LINES, Operand};
 use base::ByteList;
 use cpu6502::{Mnemonic, Mode};
 use song_model::FeatureBits;
@@ -150,7 +150,7 @@ pub(crate) fn output_of(
     origin: u16,
     labels: &Labels,
 ) -> Result<Output, AsmFault>
-    requires lines { length lines.now ≤ 1000000 }
+    requires lines { length lines.now ≤ MOST_LINES }
     requires fits { origin + size_of (kept set.0 lines.now) ≤ 65536 }
     requires sound { first_fault (bad_line set.0) [] lines.now ≡ None }
     ensures { MatchResult result
