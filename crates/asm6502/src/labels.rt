@@ -28,13 +28,13 @@ impl Labels {
     ghost use Rattle.std.specs.Ordering.{nat_cmp};
     ghost use Rattle.std.specs.BTreeMap.{get};
     ghost use Rattle.std.specs.Option.{option_map, option_to_list};
-    ghost use Rattle.asm6502.specs.Operands.{operand_of, is_far};
+    ghost use Rattle.asm6502.specs.Operands.{operand_of, is_far, label_of};
     ghost use Rattle.asm6502.specs.Fixes.{operand_fixes};
     ghost use Rattle.asm6502.specs.declared.lines.Line.{Line};
     ghost use Rattle.asm6502.specs.declared.faults.AsmFault.TheVariants.{NoMemory, DoubleLabel, UnknownLabel};
     ghost use Rattle.asm6502.specs.Lines.{item_size, kept};
     ghost use Rattle.asm6502.specs.Faults.{double_label, unknown_label};
-    ghost use Rattle.asm6502.specs.Places.{HasPlaces, address_by};
+    ghost use Rattle.asm6502.specs.Places.{HasPlaces, Knows, address_by};
 
     /// The labels of no lines.
     pub(crate) fn new(alloc: Global) -> Labels
@@ -105,10 +105,13 @@ impl Labels {
     }
 
     /// The address of a label plus an offset, mod 65,536, where the lines stand at an origin.
-    pub(crate) fn address(&self, origin: u16, label: u16, offset: u16) -> u16
+    fn address(&self, origin: u16, label: u16, offset: u16) -> u16
+        requires { IsSome (get nat_cmp self.now.places label) }
         ensures { result ≡ (address_by self.now origin label + offset) % 65536 }
     {
-        let place = self.places.get(&label).copied().unwrap_or(0);
+        let Some(place) = self.places.get(&label).copied() else {
+            unreachable!();
+        };
         let address = u64::from(origin) + u64::from(place) + u64::from(offset);
         (address % 65_536) as u16
     }
@@ -116,7 +119,8 @@ impl Labels {
     /// The number that stands after the opcode at place `at` of the bytes, where these stand at an origin; `None` where
     /// it is a label that the branch doesn't reach.
     pub(crate) fn operand(&self, origin: u16, at: u32, mode: Mode, operand: Operand) -> Option<u16>
-        requires { origin + at ≤ 65536 }
+        requires fits { origin + at ≤ 65536 }
+        requires known { Knows self.now (label_of operand) }
         ensures { MatchOption result
             (is_far (address_by self.now origin) (origin + at) mode operand ≡ true)
             (λ number. (number ≡ operand_of (address_by self.now origin) (origin + at) mode operand) × (is_far (address_by self.now origin) (origin + at) mode operand ≡ false)) }
@@ -139,6 +143,7 @@ impl Labels {
 
     /// What is to be fixed in an operand whose bytes begin at place `at`.
     pub(crate) fn fix(&self, at: u32, mode: Mode, operand: Operand) -> Option<Fix>
+        requires { Knows self.now (label_of operand) }
         ensures { option_to_list result ≡ operand_fixes (address_by self.now 0) at mode operand }
     {
         let (kind, label, offset) = match operand {
