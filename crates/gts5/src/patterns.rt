@@ -19,10 +19,7 @@ impl Reader {
         let (count, rest) = self.byte(left)?;
         let (piece, rest) = self.bytes(4 * usize::from(count), rest)?;
         let rows = rows_before_end(alloc, self.offset(left), count, piece)?;
-        match Pattern::from_rows(alloc, &rows) {
-            Ok(pattern) => Ok((pattern, rest)),
-            Err(fault) => Err(SongFault::of_limits(fault)),
-        }
+        Ok((Pattern::from_vec(rows), rest))
     }
 
     /// The next `count` patterns.
