@@ -1,7 +1,8 @@
--- Places of labels and sizes of lines, one list behind another.
+-- Places of labels and sizes of lines, one list after another.
 use Rattle.std.proofs.Common.{◌≡◌, ℕ, zero, suc, ◌+◌, ◌*◌, ◌<◌, ◌≤◌, Bool, true, false, List, [], ◌∷◌, ◌++◌, length, take, Option, Some, None, nat_eq, if◌then◌else◌, refl, ap, sym, ◌∙◌, get_or, arith}
 use Rattle.std.specs.Option.{option_or, option_map}
 use Rattle.std.proofs.lemmas.Bool.{eqb-true}
+use Rattle.std.proofs.lemmas.List.{append-nil}
 use Rattle.cpu6502.specs.declared.mnemonic.Mode.{Mode}
 use Rattle.cpu6502.specs.declared.mnemonic.Mode.TheVariants.{Implied, Accumulator, Immediate, ZeroPage, ZeroPageX, ZeroPageY, Absolute, AbsoluteX, AbsoluteY, IndirectX, IndirectY, Indirect, Relative}
 use Rattle.cpu6502.specs.Opcodes.{length_of}
@@ -23,10 +24,6 @@ kept-append set (x ∷ front) back =
 -- one more line, kept or not
 pub kept_more : (set : ℕ) (before : List Line) (x : Line) → is_kept set x ≡ true → kept set (before ++ x ∷ []) ≡ kept set before ++ x ∷ []
 kept_more set before x e = kept-append set before (x ∷ []) ∙ ap (λ (z : Bool). kept set before ++ (if z then x ∷ [] else [])) e
-
-append-nil : (l : List Line) → l ++ [] ≡ l
-append-nil [] = refl
-append-nil (x ∷ l) = ap (λ (ls : List Line). x ∷ ls) (append-nil l)
 
 pub kept_same : (set : ℕ) (before : List Line) (x : Line) → is_kept set x ≡ false → kept set (before ++ x ∷ []) ≡ kept set before
 kept_same set before x e = kept-append set before (x ∷ []) ∙ ap (λ (z : Bool). kept set before ++ (if z then x ∷ [] else [])) e ∙ append-nil (kept set before)

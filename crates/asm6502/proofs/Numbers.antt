@@ -25,13 +25,13 @@ number_before Word bytes at number q l =
 number_before Low bytes at number q l = let a : q ≢ at = omega arith in get_or-set_other bytes at q (number % 256) 0 a
 number_before High bytes at number q l = let a : q ≢ at = omega arith in get_or-set_other bytes at q (number / 256) 0 a
 
-pub number_behind : (kind : FixKind) (bytes : List ℕ) (at number q : ℕ) → at + width_of kind ≤ q → get_or (with_number kind bytes at number) q 0 ≡ get_or bytes q 0
-number_behind Word bytes at number q l =
+pub number_after : (kind : FixKind) (bytes : List ℕ) (at number q : ℕ) → at + width_of kind ≤ q → get_or (with_number kind bytes at number) q 0 ≡ get_or bytes q 0
+number_after Word bytes at number q l =
     let a : q ≢ at = omega arith in
     let b : q ≢ at + 1 = omega arith in
     get_or-set_other (set bytes at (number % 256)) (at + 1) q (number / 256) 0 b ∙ get_or-set_other bytes at q (number % 256) 0 a
-number_behind Low bytes at number q l = let a : q ≢ at = omega arith in get_or-set_other bytes at q (number % 256) 0 a
-number_behind High bytes at number q l = let a : q ≢ at = omega arith in get_or-set_other bytes at q (number / 256) 0 a
+number_after Low bytes at number q l = let a : q ≢ at = omega arith in get_or-set_other bytes at q (number % 256) 0 a
+number_after High bytes at number q l = let a : q ≢ at = omega arith in get_or-set_other bytes at q (number / 256) 0 a
 
 -- the number stands there
 number_put : (kind : FixKind) (bytes : List ℕ) (at number : ℕ) → at + width_of kind ≤ length bytes → NumberStands kind (with_number kind bytes at number) at number
@@ -79,7 +79,7 @@ apart at width q h =
 
 number_apart : (kind : FixKind) (bytes : List ℕ) (at number q : ℕ) → (q < at) ⊎ (at + width_of kind ≤ q) → get_or (with_number kind bytes at number) q 0 ≡ get_or bytes q 0
 number_apart kind bytes at number q (inl l) = number_before kind bytes at number q l
-number_apart kind bytes at number q (inr l) = number_behind kind bytes at number q l
+number_apart kind bytes at number q (inr l) = number_after kind bytes at number q l
 
 pub others_stay : (origin : ℕ) (bytes : List ℕ) (fixes : List Fix) (q : ℕ) → (IsFixed fixes q → ⊥) → get_or (with_numbers origin bytes fixes) q 0 ≡ get_or bytes q 0
 others_stay origin bytes [] q h = refl

@@ -55,15 +55,15 @@ operand_read Indirect n bytes rest h = let r = word_read n bytes rest h in recor
 -- the parts of what an instruction encodes to
 pub record Parts (instr : Instr) (bytes : List ℕ) : Type 0 where
   pub opcode : ℕ
-  pub behind : List ℕ
+  pub following : List ℕ
   pub row : opcode_of instr.mnemonic instr.mode ≡ Some opcode
-  pub operand : operand_bytes instr.mode instr.operand ≡ Some behind
-  pub is : bytes ≡ opcode ∷ behind
+  pub operand : operand_bytes instr.mode instr.operand ≡ Some following
+  pub is : bytes ≡ opcode ∷ following
 
-parts_of : (instr : Instr) (bytes : List ℕ) (op : Option ℕ) (behind : Option (List ℕ)) → opcode_of instr.mnemonic instr.mode ≡ op → operand_bytes instr.mode instr.operand ≡ behind → option_and_then (λ (opcode : ℕ). option_map (λ (l : List ℕ). opcode ∷ l) behind) op ≡ Some bytes → Parts instr bytes
-parts_of instr bytes None behind e f h = absurd (cc)
+parts_of : (instr : Instr) (bytes : List ℕ) (op : Option ℕ) (following : Option (List ℕ)) → opcode_of instr.mnemonic instr.mode ≡ op → operand_bytes instr.mode instr.operand ≡ following → option_and_then (λ (opcode : ℕ). option_map (λ (l : List ℕ). opcode ∷ l) following) op ≡ Some bytes → Parts instr bytes
+parts_of instr bytes None following e f h = absurd (cc)
 parts_of instr bytes (Some op) None e f h = absurd (cc)
-parts_of instr bytes (Some op) (Some behind) e f h = record { opcode = op; behind = behind; row = e; operand = f; is = cc }
+parts_of instr bytes (Some op) (Some following) e f h = record { opcode = op; following = following; row = e; operand = f; is = cc }
 
 pub encoding_parts : (instr : Instr) (bytes : List ℕ) → encoding instr ≡ Some bytes → Parts instr bytes
 encoding_parts instr bytes h = parts_of instr bytes (opcode_of instr.mnemonic instr.mode) (operand_bytes instr.mode instr.operand) refl refl h
@@ -72,7 +72,7 @@ pub what_is_encoded_decodes : OpcodesHaveRows → (instr : Instr) (bytes rest : 
 what_is_encoded_decodes rows instr bytes rest h =
     let p = encoding_parts instr bytes h in
     let m = rows instr.mnemonic instr.mode p.opcode p.row in
-    let r = operand_read instr.mode instr.operand p.behind rest p.operand in
+    let r = operand_read instr.mode instr.operand p.following rest p.operand in
     let f = r.from in
     let s = r.size in
     let i = p.is in
@@ -101,25 +101,25 @@ word_spelled (low ∷ high ∷ rest) n a h =
     (rw (l, g) refl, refl)
 
 pub record IsSpelled (mode : Mode) (n : ℕ) (rest : List ℕ) : Type 0 where
-  pub behind : List ℕ
-  pub bytes : operand_bytes mode n ≡ Some behind
-  pub taken : (opcode : ℕ) → take (length_of mode) (opcode ∷ rest) ≡ opcode ∷ behind
-  pub size : suc (length behind) ≡ length_of mode
+  pub following : List ℕ
+  pub bytes : operand_bytes mode n ≡ Some following
+  pub taken : (opcode : ℕ) → take (length_of mode) (opcode ∷ rest) ≡ opcode ∷ following
+  pub size : suc (length following) ≡ length_of mode
 
 operand_spelled : (mode : Mode) (n : ℕ) (rest : List ℕ) → All (λ byte. byte < 256) rest → operand_from mode rest ≡ Some n → IsSpelled mode n rest
-operand_spelled Implied n rest a h = record { behind = []; bytes = none_spelled rest n h; taken = λ o. refl; size = refl }
-operand_spelled Accumulator n rest a h = record { behind = []; bytes = none_spelled rest n h; taken = λ o. refl; size = refl }
-operand_spelled Immediate n rest a h = let r = byte_spelled rest n a h in record { behind = take 1 rest; bytes = r.0; taken = λ o. refl; size = ap suc r.1 }
-operand_spelled ZeroPage n rest a h = let r = byte_spelled rest n a h in record { behind = take 1 rest; bytes = r.0; taken = λ o. refl; size = ap suc r.1 }
-operand_spelled ZeroPageX n rest a h = let r = byte_spelled rest n a h in record { behind = take 1 rest; bytes = r.0; taken = λ o. refl; size = ap suc r.1 }
-operand_spelled ZeroPageY n rest a h = let r = byte_spelled rest n a h in record { behind = take 1 rest; bytes = r.0; taken = λ o. refl; size = ap suc r.1 }
-operand_spelled IndirectX n rest a h = let r = byte_spelled rest n a h in record { behind = take 1 rest; bytes = r.0; taken = λ o. refl; size = ap suc r.1 }
-operand_spelled IndirectY n rest a h = let r = byte_spelled rest n a h in record { behind = take 1 rest; bytes = r.0; taken = λ o. refl; size = ap suc r.1 }
-operand_spelled Relative n rest a h = let r = byte_spelled rest n a h in record { behind = take 1 rest; bytes = r.0; taken = λ o. refl; size = ap suc r.1 }
-operand_spelled Absolute n rest a h = let r = word_spelled rest n a h in record { behind = take 2 rest; bytes = r.0; taken = λ o. refl; size = ap suc r.1 }
-operand_spelled AbsoluteX n rest a h = let r = word_spelled rest n a h in record { behind = take 2 rest; bytes = r.0; taken = λ o. refl; size = ap suc r.1 }
-operand_spelled AbsoluteY n rest a h = let r = word_spelled rest n a h in record { behind = take 2 rest; bytes = r.0; taken = λ o. refl; size = ap suc r.1 }
-operand_spelled Indirect n rest a h = let r = word_spelled rest n a h in record { behind = take 2 rest; bytes = r.0; taken = λ o. refl; size = ap suc r.1 }
+operand_spelled Implied n rest a h = record { following = []; bytes = none_spelled rest n h; taken = λ o. refl; size = refl }
+operand_spelled Accumulator n rest a h = record { following = []; bytes = none_spelled rest n h; taken = λ o. refl; size = refl }
+operand_spelled Immediate n rest a h = let r = byte_spelled rest n a h in record { following = take 1 rest; bytes = r.0; taken = λ o. refl; size = ap suc r.1 }
+operand_spelled ZeroPage n rest a h = let r = byte_spelled rest n a h in record { following = take 1 rest; bytes = r.0; taken = λ o. refl; size = ap suc r.1 }
+operand_spelled ZeroPageX n rest a h = let r = byte_spelled rest n a h in record { following = take 1 rest; bytes = r.0; taken = λ o. refl; size = ap suc r.1 }
+operand_spelled ZeroPageY n rest a h = let r = byte_spelled rest n a h in record { following = take 1 rest; bytes = r.0; taken = λ o. refl; size = ap suc r.1 }
+operand_spelled IndirectX n rest a h = let r = byte_spelled rest n a h in record { following = take 1 rest; bytes = r.0; taken = λ o. refl; size = ap suc r.1 }
+operand_spelled IndirectY n rest a h = let r = byte_spelled rest n a h in record { following = take 1 rest; bytes = r.0; taken = λ o. refl; size = ap suc r.1 }
+operand_spelled Relative n rest a h = let r = byte_spelled rest n a h in record { following = take 1 rest; bytes = r.0; taken = λ o. refl; size = ap suc r.1 }
+operand_spelled Absolute n rest a h = let r = word_spelled rest n a h in record { following = take 2 rest; bytes = r.0; taken = λ o. refl; size = ap suc r.1 }
+operand_spelled AbsoluteX n rest a h = let r = word_spelled rest n a h in record { following = take 2 rest; bytes = r.0; taken = λ o. refl; size = ap suc r.1 }
+operand_spelled AbsoluteY n rest a h = let r = word_spelled rest n a h in record { following = take 2 rest; bytes = r.0; taken = λ o. refl; size = ap suc r.1 }
+operand_spelled Indirect n rest a h = let r = word_spelled rest n a h in record { following = take 2 rest; bytes = r.0; taken = λ o. refl; size = ap suc r.1 }
 
 spelled_as : RowsHaveOpcodes → (opcode : ℕ) (rest : List ℕ) (mn : Mnemonic) (mode : Mode) (read : Option ℕ) (instr : Instr) (taken : ℕ) → All (λ byte. byte < 256) (opcode ∷ rest) → meaning_of opcode ≡ Some (mn, mode) → operand_from mode rest ≡ read → option_map {U = Instr × ℕ} (λ (n : ℕ). (record { mnemonic = mn; mode = mode; operand = n }, length_of mode)) read ≡ Some (instr, taken) → (encoding instr ≡ Some (take taken (opcode ∷ rest))) × (length (take taken (opcode ∷ rest)) ≡ taken)
 spelled_as rows opcode rest mn mode None instr taken a m e h = absurd (cc)

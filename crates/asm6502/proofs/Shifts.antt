@@ -3,6 +3,7 @@ use Rattle.std.proofs.Common.{◌≡◌, ℕ, ◌+◌, ◌-◌, ◌*◌, ◌/◌
 use Rattle.std.specs.Option.{is_some}
 use Rattle.std.proofs.lemmas.Bool.{lt-ltb}
 use Rattle.std.proofs.lemmas.List.{set-append_right}
+use Rattle.base.proofs.Laws.{set-append_add}
 use Rattle.cpu6502.specs.declared.mnemonic.Mnemonic.{Mnemonic}
 use Rattle.cpu6502.specs.declared.mnemonic.Mode.{Mode}
 use Rattle.cpu6502.specs.declared.mnemonic.Mode.TheVariants.{Implied, Accumulator, Immediate, ZeroPage, ZeroPageX, ZeroPageY, Absolute, AbsoluteX, AbsoluteY, IndirectX, IndirectY, Indirect, Relative}
@@ -67,22 +68,16 @@ label_shifts origin other at l d address address' place s h k =
     let b = s.there l in
     rw (a, b) (branch_shifts origin other at (place l) d h k)
 
--- a byte put behind a front
-set_behind : (pre ys : List ℕ) (at j y : ℕ) → length pre ≡ at → set (pre ++ ys) (at + j) y ≡ pre ++ set ys j y
-set_behind pre ys at j y e =
-    let i : at + j - at ≡ j = omega arith in
-    set-append_right pre ys at (at + j) y e (omega arith) ∙ ap (λ (k : ℕ). pre ++ set ys k y) i
-
 put_word : (pre tail : List ℕ) (at op a b v : ℕ) → length pre ≡ at → set (set (pre ++ (op ∷ a ∷ b ∷ tail)) (at + 1) (v % 256)) (at + 1 + 1) (v / 256) ≡ pre ++ (op ∷ v % 256 ∷ v / 256 ∷ tail)
 put_word pre tail at op a b v e =
     let i : at + 1 + 1 ≡ at + 2 = omega arith in
-    ap (λ (bs : List ℕ). set bs (at + 1 + 1) (v / 256)) (set_behind pre (op ∷ a ∷ b ∷ tail) at 1 (v % 256) e)
+    ap (λ (bs : List ℕ). set bs (at + 1 + 1) (v / 256)) (set-append_add pre (op ∷ a ∷ b ∷ tail) at 1 (v % 256) e)
     ∙ ap (λ (k : ℕ). set (pre ++ (op ∷ v % 256 ∷ b ∷ tail)) k (v / 256)) i
-    ∙ set_behind pre (op ∷ v % 256 ∷ b ∷ tail) at 2 (v / 256) e
+    ∙ set-append_add pre (op ∷ v % 256 ∷ b ∷ tail) at 2 (v / 256) e
 
 -- the bytes of an instruction from its opcode and operand bytes
-coded : (mn : Mnemonic) (mode : Mode) (n op : ℕ) (behind : List ℕ) → opcode_of mn mode ≡ Some op → operand_bytes mode n ≡ Some behind → unwrap_or (encoding (record { mnemonic = mn; mode = mode; operand = n })) [] ≡ op ∷ behind
-coded mn mode n op behind e f = rw (e, f) refl
+coded : (mn : Mnemonic) (mode : Mode) (n op : ℕ) (following : List ℕ) → opcode_of mn mode ≡ Some op → operand_bytes mode n ≡ Some following → unwrap_or (encoding (record { mnemonic = mn; mode = mode; operand = n })) [] ≡ op ∷ following
+coded mn mode n op following e f = rw (e, f) refl
 
 word_item : (mn : Mnemonic) (mode : Mode) (op n n' at other to : ℕ) (pre tail : List ℕ) → opcode_of mn mode ≡ Some op → operand_bytes mode n ≡ Some (n % 256 ∷ n / 256 ∷ []) → operand_bytes mode n' ≡ Some (n' % 256 ∷ n' / 256 ∷ []) → length pre ≡ at → (other + to) % 65536 ≡ n' → with_numbers other (pre ++ (unwrap_or (encoding (record { mnemonic = mn; mode = mode; operand = n })) [] ++ tail)) (record { at = at + 1; kind = Word; to = to } ∷ []) ≡ pre ++ (unwrap_or (encoding (record { mnemonic = mn; mode = mode; operand = n' })) [] ++ tail)
 word_item mn mode op n n' at other to pre tail e f g l v =
@@ -95,7 +90,7 @@ byte_item : (mn : Mnemonic) (mode : Mode) (kind : FixKind) (op n n' at other to 
 byte_item mn mode kind op n n' at other to y pre tail e f g l w v =
     ap (λ (bs : List ℕ). with_number kind (pre ++ (bs ++ tail)) (at + 1) ((other + to) % 65536)) (coded mn mode n op (n ∷ []) e f)
     ∙ w (pre ++ (op ∷ n ∷ tail))
-    ∙ set_behind pre (op ∷ n ∷ tail) at 1 y l
+    ∙ set-append_add pre (op ∷ n ∷ tail) at 1 y l
     ∙ ap (λ (b : ℕ). pre ++ (op ∷ b ∷ tail)) v
     ∙ ap (λ (bs : List ℕ). pre ++ (bs ++ tail)) (sym (coded mn mode n' op (n' ∷ []) e g))
 
@@ -186,7 +181,7 @@ with_numbers-append : (origin : ℕ) (bytes : List ℕ) (front back : List Fix) 
 with_numbers-append origin bytes [] back = refl
 with_numbers-append origin bytes (fix ∷ front) back = with_numbers-append origin (with_number fix.kind bytes fix.at ((origin + fix.to) % 65536)) front back
 
--- lines behind a front, moved to another origin
+-- lines after a front, moved to another origin
 pub lines_shift : (origin other : ℕ) (address address' place : ℕ → ℕ) → AreShifted origin other address address' place → (lines : List Line) → AllSound lines → (pre : List ℕ) (at : ℕ) → length pre ≡ at → origin + at + size_of lines ≤ 65536 → other + at + size_of lines ≤ 65536 → with_numbers other (pre ++ bytes_of address (origin + at) lines) (fixes_of place at lines) ≡ pre ++ bytes_of address' (other + at) lines
 lines_shift origin other address address' place s [] sound pre at l h t = refl
 lines_shift origin other address address' place s (x ∷ lines) sound pre at l h t =

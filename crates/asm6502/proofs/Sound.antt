@@ -106,12 +106,12 @@ both true true h = (refl, refl)
 both true false h = absurd (cc)
 both false z h = absurd (cc)
 
-encodes_as : (address : ℕ → ℕ) (pc : ℕ) (mn : Mnemonic) (mode : Mode) (x : Operand) (op : Option ℕ) (behind : Option (List ℕ)) → opcode_of mn mode ≡ op → operand_bytes mode (operand_of address pc mode x) ≡ behind → is_some op ≡ true → is_some behind ≡ true → Encodes address pc mn mode x
-encodes_as address pc mn mode x None behind e f g h = absurd (cc)
+encodes_as : (address : ℕ → ℕ) (pc : ℕ) (mn : Mnemonic) (mode : Mode) (x : Operand) (op : Option ℕ) (following : Option (List ℕ)) → opcode_of mn mode ≡ op → operand_bytes mode (operand_of address pc mode x) ≡ following → is_some op ≡ true → is_some following ≡ true → Encodes address pc mn mode x
+encodes_as address pc mn mode x None following e f g h = absurd (cc)
 encodes_as address pc mn mode x (Some op) None e f g h = absurd (cc)
-encodes_as address pc mn mode x (Some op) (Some behind) e f g h =
-    let r = operand_read mode (operand_of address pc mode x) behind [] f in
-    record { bytes = op ∷ behind; is = rw (e, f) refl; size = sym r.size }
+encodes_as address pc mn mode x (Some op) (Some following) e f g h =
+    let r = operand_read mode (operand_of address pc mode x) following [] f in
+    record { bytes = op ∷ following; is = rw (e, f) refl; size = sym r.size }
 
 pub encodes : (address : ℕ → ℕ) (pc : ℕ) (mn : Mnemonic) (mode : Mode) (x : Operand) → is_sound (Code mn mode x) ≡ true → Encodes address pc mn mode x
 encodes address pc mn mode x h =
@@ -137,7 +137,7 @@ not_bad false false s fault h e = absurd (cc)
 pub sound_line : (set : ℕ) (before : List Line) (x : Line) → bad_line set before x ≡ None → is_kept set x ≡ true → is_sound x.item ≡ true
 sound_line set before x h k = not_bad (is_no_part x.part) (is_kept set x) (is_sound x.item) _ h k
 
--- a test that finds nothing first finds nothing here, and nothing behind
+-- a test that finds nothing first finds nothing here, and nothing after
 pub or_parts : (o p : Option AsmFault) → option_or o p ≡ None → (o ≡ None) × (p ≡ None)
 or_parts None p h = (refl, h)
 or_parts (Some x) p h = absurd (cc)

@@ -49,20 +49,20 @@ back_stands at pc n front back e s = record {
 abbrev pub read_as : Mode → ℕ → ℕ → ℕ
 read_as mode pc n = if is_relative mode then (pc + 2 + displacement n) % 65536 else n
 
-none_at : (n : ℕ) (behind : List ℕ) (z : Bool) → nat_eq n 0 ≡ z → (if z then Some [] else None) ≡ Some behind → 0 ≡ n
-none_at n behind true e h = sym (eqb-true n 0 e)
-none_at n behind false e h = absurd (cc)
+none_at : (n : ℕ) (following : List ℕ) (z : Bool) → nat_eq n 0 ≡ z → (if z then Some [] else None) ≡ Some following → 0 ≡ n
+none_at n following true e h = sym (eqb-true n 0 e)
+none_at n following false e h = absurd (cc)
 
-byte_at : (at : ℕ → ℕ) (pc n : ℕ) (behind : List ℕ) (z : Bool) → (if z then Some (n ∷ []) else None) ≡ Some behind → BytesStand at (pc + 1) behind → pc + 2 ≤ 65536 → at ((pc + 1) % 65536) ≡ n
-byte_at at pc n behind true h s l =
-    let b : behind ≡ n ∷ [] = cc in
+byte_at : (at : ℕ → ℕ) (pc n : ℕ) (following : List ℕ) (z : Bool) → (if z then Some (n ∷ []) else None) ≡ Some following → BytesStand at (pc + 1) following → pc + 2 ≤ 65536 → at ((pc + 1) % 65536) ≡ n
+byte_at at pc n following true h s l =
+    let b : following ≡ n ∷ [] = cc in
     let i : (pc + 1) % 65536 ≡ pc + 1 + 0 = omega arith in
     ap at i ∙ (subst (λ (bs : List ℕ). BytesStand at (pc + 1) bs) b s).byte 0 (omega arith)
-byte_at at pc n behind false h s l = absurd (cc)
+byte_at at pc n following false h s l = absurd (cc)
 
-word_is_at : (at : ℕ → ℕ) (pc n : ℕ) (behind : List ℕ) → Some (n % 256 ∷ n / 256 ∷ []) ≡ Some behind → BytesStand at (pc + 1) behind → pc + 3 ≤ 65536 → word_at at ((pc + 1) % 65536) ≡ n
-word_is_at at pc n behind h s l =
-    let b : behind ≡ n % 256 ∷ n / 256 ∷ [] = cc in
+word_is_at : (at : ℕ → ℕ) (pc n : ℕ) (following : List ℕ) → Some (n % 256 ∷ n / 256 ∷ []) ≡ Some following → BytesStand at (pc + 1) following → pc + 3 ≤ 65536 → word_at at ((pc + 1) % 65536) ≡ n
+word_is_at at pc n following h s l =
+    let b : following ≡ n % 256 ∷ n / 256 ∷ [] = cc in
     let t = subst (λ (bs : List ℕ). BytesStand at (pc + 1) bs) b s in
     let i : (pc + 1) % 65536 ≡ pc + 1 + 0 = omega arith in
     let j : ((pc + 1) % 65536 + 1) % 65536 ≡ pc + 1 + 1 = omega arith in
@@ -73,20 +73,20 @@ word_is_at at pc n behind h s l =
     joined : (a b n : ℕ) → a ≡ n % 256 → b ≡ n / 256 → a + 256 * b ≡ n
     joined a b n e f = omega arith
 
-read_operand : (at : ℕ → ℕ) (pc n : ℕ) (mode : Mode) (behind : List ℕ) → operand_bytes mode n ≡ Some behind → BytesStand at (pc + 1) behind → pc + length_of mode ≤ 65536 → operand_at mode at pc ≡ read_as mode pc n
-read_operand at pc n Implied behind h s l = none_at n behind (nat_eq n 0) refl h
-read_operand at pc n Accumulator behind h s l = none_at n behind (nat_eq n 0) refl h
-read_operand at pc n Immediate behind h s l = byte_at at pc n behind (nat_lt n 256) h s l
-read_operand at pc n ZeroPage behind h s l = byte_at at pc n behind (nat_lt n 256) h s l
-read_operand at pc n ZeroPageX behind h s l = byte_at at pc n behind (nat_lt n 256) h s l
-read_operand at pc n ZeroPageY behind h s l = byte_at at pc n behind (nat_lt n 256) h s l
-read_operand at pc n IndirectX behind h s l = byte_at at pc n behind (nat_lt n 256) h s l
-read_operand at pc n IndirectY behind h s l = byte_at at pc n behind (nat_lt n 256) h s l
-read_operand at pc n Relative behind h s l = ap (λ (d : ℕ). (pc + 2 + displacement d) % 65536) (byte_at at pc n behind (nat_lt n 256) h s l)
-read_operand at pc n Absolute behind h s l = word_is_at at pc n behind h s l
-read_operand at pc n AbsoluteX behind h s l = word_is_at at pc n behind h s l
-read_operand at pc n AbsoluteY behind h s l = word_is_at at pc n behind h s l
-read_operand at pc n Indirect behind h s l = word_is_at at pc n behind h s l
+read_operand : (at : ℕ → ℕ) (pc n : ℕ) (mode : Mode) (following : List ℕ) → operand_bytes mode n ≡ Some following → BytesStand at (pc + 1) following → pc + length_of mode ≤ 65536 → operand_at mode at pc ≡ read_as mode pc n
+read_operand at pc n Implied following h s l = none_at n following (nat_eq n 0) refl h
+read_operand at pc n Accumulator following h s l = none_at n following (nat_eq n 0) refl h
+read_operand at pc n Immediate following h s l = byte_at at pc n following (nat_lt n 256) h s l
+read_operand at pc n ZeroPage following h s l = byte_at at pc n following (nat_lt n 256) h s l
+read_operand at pc n ZeroPageX following h s l = byte_at at pc n following (nat_lt n 256) h s l
+read_operand at pc n ZeroPageY following h s l = byte_at at pc n following (nat_lt n 256) h s l
+read_operand at pc n IndirectX following h s l = byte_at at pc n following (nat_lt n 256) h s l
+read_operand at pc n IndirectY following h s l = byte_at at pc n following (nat_lt n 256) h s l
+read_operand at pc n Relative following h s l = ap (λ (d : ℕ). (pc + 2 + displacement d) % 65536) (byte_at at pc n following (nat_lt n 256) h s l)
+read_operand at pc n Absolute following h s l = word_is_at at pc n following h s l
+read_operand at pc n AbsoluteX following h s l = word_is_at at pc n following h s l
+read_operand at pc n AbsoluteY following h s l = word_is_at at pc n following h s l
+read_operand at pc n Indirect following h s l = word_is_at at pc n following h s l
 
 -- the number that an operand names is the one that is read
 reached : (pc target : ℕ) (o : Option ℕ) → branch_byte pc target ≡ o → pc ≤ 65536 → target < 65536 → not (is_some o) ≡ false → (pc + 2 + displacement (unwrap_or o 0)) % 65536 ≡ target
@@ -117,15 +117,15 @@ code_stands : OpcodesHaveRows → (address at : ℕ → ℕ) (pc : ℕ) (mn : Mn
 code_stands rows address at pc mn mode x h f l s =
     let e = encodes address pc mn mode x h in
     let p = encoding_parts (record { mnemonic = mn; mode = mode; operand = operand_of address pc mode x }) e.bytes e.is in
-    let all : item_bytes address pc (Code mn mode x) ≡ p.opcode ∷ p.behind = ap (λ (o : Option (List ℕ)). unwrap_or o []) e.is ∙ p.is in
+    let all : item_bytes address pc (Code mn mode x) ≡ p.opcode ∷ p.following = ap (λ (o : Option (List ℕ)). unwrap_or o []) e.is ∙ p.is in
     let t = subst (λ (bs : List ℕ). BytesStand at pc bs) all s in
     let i : pc ≡ pc + 0 = omega arith in
     let first : at pc ≡ p.opcode = ap at i ∙ t.byte 0 (omega arith) in
-    let rest = back_stands at pc 1 (p.opcode ∷ []) p.behind refl t in
+    let rest = back_stands at pc 1 (p.opcode ∷ []) p.following refl t in
     let suit = (both (is_some (opcode_of mn mode)) (suits mode x) h).1 in
     record {
       decoded = ap meaning_of first ∙ rows mn mode p.opcode p.row;
-      operand_is = read_operand at pc (operand_of address pc mode x) mode p.behind p.operand rest l ∙ named address pc mode x (omega arith) suit f;
+      operand_is = read_operand at pc (operand_of address pc mode x) mode p.following p.operand rest l ∙ named address pc mode x (omega arith) suit f;
     }
 
 -- an item stands where its bytes do, and its label has this address
@@ -134,7 +134,7 @@ item_stands rows address at pc (Named l) h f n k s = n l refl
 item_stands rows address at pc (Code mn mode x) h f n k s = code_stands rows address at pc mn mode x h f k s
 item_stands rows address at pc (Bytes bs) h f n k s = s
 
--- a line, kept or not, and the lines behind it
+-- a line, kept or not, and the lines after it
 line_stands : (address at : ℕ → ℕ) (pc : ℕ) (x : Line) (rest : List Line) (z : Bool) → (z ≡ true → is_sound x.item ≡ true) → (z ≡ true → BytesStand at pc (item_bytes address pc x.item) → ItemAt address at pc x.item) → (z ≡ true → BytesStand at (pc + item_size x.item) (bytes_of address (pc + item_size x.item) rest) → LinesAt address at (pc + item_size x.item) rest) → (z ≡ false → BytesStand at pc (bytes_of address pc rest) → LinesAt address at pc rest) → BytesStand at pc (bytes_of address pc (if z then x ∷ rest else rest)) → LinesAt address at pc (if z then x ∷ rest else rest)
 line_stands address at pc x rest true h item tail other s =
     let size = item_length address pc x.item (h refl) in (
@@ -157,13 +157,10 @@ not_named_before set before x l true k e p h =
     none_some : {f : AsmFault} → None ≡ Some f → ⊥
     none_some e = absurd (cc)
 
-same_name : (l : ℕ) → nat_eq l l ≡ true
-same_name l = eq-eqb l l refl
-
 pub label_address : (set origin : ℕ) (before : List Line) (x : Line) (rest : List Line) (l : ℕ) → is_kept set x ≡ true → x.item ≡ Named l → double_label set before x ≡ None → address_in (kept set before ++ (x ∷ rest)) origin l ≡ origin + size_of (kept set before)
 label_address set origin before x rest l k e h =
     let free = not_named_before set before x l (is_some (place_of (kept set before) l)) k e refl h in
-    let here : place_of (x ∷ rest) l ≡ Some 0 = rw (e, same_name l) refl in
+    let here : place_of (x ∷ rest) l ≡ Some 0 = rw (e, eq-eqb l l refl) refl in
     let place : place_of (kept set before ++ (x ∷ rest)) l ≡ Some (size_of (kept set before)) =
     place_of-append (kept set before) (x ∷ rest) l ∙ ap (λ (o : Option ℕ). option_or (place_of (kept set before) l) (option_map (λ (p : ℕ). size_of (kept set before) + p) o)) here ∙ or_first (place_of (kept set before) l) (size_of (kept set before)) free in
     ap (λ (o : Option ℕ). origin + unwrap_or o 0) place

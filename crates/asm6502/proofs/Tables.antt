@@ -1,12 +1,15 @@
 -- The table of labels after one more line.
-use Rattle.std.proofs.Common.{◌≡◌, ℕ, ◌+◌, true, List, [], ◌∷◌, ◌++◌, Option, Some, None, nat_eq, if◌then◌else◌, refl, ap, sym, ◌∙◌, arith}
+use Rattle.std.proofs.Common.{◌≡◌, ℕ, zero, suc, ◌+◌, ◌<◌, Bool, true, false, List, [], ◌∷◌, ◌++◌, length, get_or, Option, Some, None, nat_eq, if◌then◌else◌, refl, ap, sym, ◌∙◌, arith}
 use Rattle.std.proofs.Common.{nat_cmp}
 use Rattle.std.specs.BTreeMap.{get}
 use Rattle.asm6502.specs.declared.lines.Line.{Line}
 use Rattle.asm6502.specs.declared.labels.Labels.{Labels}
-use Rattle.asm6502.specs.Lines.{is_kept, kept, item_size, size_of, place_of, label_named}
-use Rattle.asm6502.specs.Faults.{double_label}
-use Rattle.asm6502.specs.Places.{HasPlaces}
+use Rattle.std.specs.Option.{option_and_then, is_some}
+use Rattle.asm6502.specs.declared.faults.AsmFault.TheVariants.{UnknownLabel}
+use Rattle.asm6502.specs.Lines.{is_kept, kept, item_size, size_of, place_of, label_used, label_named}
+use Rattle.asm6502.specs.Faults.{first_fault, double_label, unknown_in, unknown_label}
+use Rattle.asm6502.specs.Places.{HasPlaces, Knows}
+use Rattle.asm6502.proofs.Sound.{first_parts}
 use Rattle.asm6502.proofs.Naming.{kept_more, size_of-append, placed_label, placed_other}
 
 size_more : (lines : List Line) (line : Line) (old n new : ℕ) → old ≡ size_of lines → n ≡ item_size line.item → new ≡ old + n → new ≡ size_of (lines ++ line ∷ [])
@@ -44,3 +47,27 @@ noted_other old new set before line n has k e is s =
     let after : Labels = record { places = new.places; size = new.size + n } in
     let table = unlabelled old after (kept set before) line n has e (λ (q : ℕ). ap (λ (m : Labels). get nat_cmp m.places q) is) s (ap (λ (m : Labels). m.size + n) is) in
     (rw (kept_more set before line k) table, no_label set before line k e)
+
+-- the label of a kept line in which nothing is unknown
+placed_or : (label : ℕ) (z : Bool) → (if z then None else Some (UnknownLabel label)) ≡ None → z ≡ true
+placed_or label true h = refl
+placed_or label false h = absurd (cc)
+
+known_line : (labels : Labels) (set : ℕ) (all before : List Line) (x : Line) → HasPlaces labels (kept set all) → unknown_label set all before x ≡ None → is_kept set x ≡ true → Knows labels (label_used x.item)
+known_line labels set all before x has none k = record { known = λ label e. known label e } where
+  tested : unknown_in (kept set all) x.item ≡ None
+  tested = ap (λ (z : Bool). if z then unknown_in (kept set all) x.item else None) (sym k) ∙ none
+
+  known : (label : ℕ) → label_used x.item ≡ Some label → is_some (get nat_cmp labels.places label) ≡ true
+  known label e =
+      let h : (if is_some (place_of (kept set all) label) then None else Some (UnknownLabel label)) ≡ None = ap (λ (o : Option ℕ). option_and_then (λ (l : ℕ). if is_some (place_of (kept set all) l) then None else Some (UnknownLabel l)) o) (sym e) ∙ tested in
+      ap is_some (has.places label) ∙ placed_or label (is_some (place_of (kept set all) label)) h
+
+pub known_at : (labels : Labels) (set : ℕ) (all before lines : List Line) (k : ℕ) (x : Line) → HasPlaces labels (kept set all) → first_fault (unknown_label set all) before lines ≡ None → k < length lines → x ≡ get_or lines k x → is_kept set x ≡ true → Knows labels (label_used x.item)
+known_at labels set all before [] k x has h l e kept = absurd (omega arith)
+known_at labels set all before (y ∷ lines) zero x has h l e kept =
+    let p = first_parts (unknown_label set all) before y lines h in
+    known_line labels set all before x has (ap (λ (line : Line). unknown_label set all before line) e ∙ p.0) kept
+known_at labels set all before (y ∷ lines) (suc k) x has h l e kept =
+    let p = first_parts (unknown_label set all) before y lines h in
+    known_at labels set all (before ++ y ∷ []) lines k x has p.1 (omega arith) e kept

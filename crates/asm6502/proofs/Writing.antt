@@ -75,7 +75,7 @@ near_kept address set origin before line size far k s h =
     let e : is_far_item address (origin + size_of (kept set before)) line.item ≡ far = ap (λ (n : ℕ). is_far_item address (origin + n) line.item) (sym s) ∙ h in
     rw (k, e) refl
 
--- what an instruction's encoding puts behind the bytes
+-- what an instruction's encoding puts after the bytes
 pub code_bytes : (address : ℕ → ℕ) (origin at : ℕ) (mn : Mnemonic) (mode : Mode) (x : Operand) (number : ℕ) (encoded taken old new : List ℕ) → at ≡ length old → number ≡ operand_of address (origin + at) mode x → Some encoded ≡ encoding (record { mnemonic = mn; mode = mode; operand = number }) → taken ≡ encoded → new ≡ old ++ taken → new ≡ old ++ item_bytes address (origin + length old) (Code mn mode x)
 code_bytes address origin at mn mode x number encoded taken old new s n e t b =
     let m : number ≡ operand_of address (origin + length old) mode x = n ∙ ap (λ (k : ℕ). operand_of address (origin + k) mode x) s in

@@ -23,7 +23,7 @@ item_bytes address pc (Label label) = []
 item_bytes address pc (Code mnemonic mode operand) = unwrap_or (encoding (instr_at address pc mnemonic mode operand)) []
 item_bytes address pc (Bytes bytes) = bytes
 
--- the bytes of lines that stand one behind the other from pc on
+-- the bytes of lines that stand one after the other from pc on
 abbrev pub bytes_of : (ℕ → ℕ) → ℕ → List Line → List ℕ
 bytes_of address pc [] = []
 bytes_of address pc (line ∷ rest) = item_bytes address pc line.item ++ bytes_of address (pc + item_size line.item) rest

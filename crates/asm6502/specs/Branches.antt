@@ -2,7 +2,7 @@
 use Rattle.std.specs.Prelude.{◌≡◌, ◌≢◌, ℕ, ◌+◌, ◌-◌, ◌%◌, ◌<◌, ◌≤◌, Option, Some, None, nat_lt, if◌then◌else◌}
 use Rattle.cpu6502.specs.Effects.{displacement}
 
--- what has to be added, mod 65,536, to the address behind the branch at pc to come to the target
+-- what has to be added, mod 65,536, to the address after the branch at pc to come to the target
 abbrev pub way_from : ℕ → ℕ → ℕ
 way_from pc target = (target + 131072 - (pc + 2)) % 65536
 

@@ -37,7 +37,7 @@ unknown_in lines item =
 abbrev pub unknown_label : ℕ → List Line → List Line → Line → Option AsmFault
 unknown_label set lines before line = if is_kept set line then unknown_in (kept set lines) line.item else None
 
--- the kept lines don't fit behind the origin
+-- the kept lines don't fit after the origin
 abbrev pub past_end : ℕ → ℕ → List Line → Option AsmFault
 past_end set origin lines = if nat_lt 65536 (origin + size_of (kept set lines)) then Some (PastEnd (size_of (kept set lines))) else None
 

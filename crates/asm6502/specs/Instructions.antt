@@ -6,7 +6,7 @@ use Rattle.cpu6502.specs.Opcodes.{Meaning, meaning_of, length_of}
 use Rattle.cpu6502.specs.Encoding.{opcode_of}
 use Rattle.asm6502.specs.declared.instructions.Instr.{Instr}
 
--- the bytes behind the opcode: none, one, or two with the low one first; none where the operand doesn't fit
+-- the bytes after the opcode: none, one, or two with the low one first; none where the operand doesn't fit
 abbrev pub operand_bytes : Mode → ℕ → Option (List ℕ)
 operand_bytes mode operand =
     if nat_eq (length_of mode) 1 then (if nat_eq operand 0 then Some [] else None)
@@ -28,7 +28,7 @@ word_from [] = None
 word_from (low ∷ []) = None
 word_from (low ∷ high ∷ rest) = Some (low + 256 * high)
 
--- the operand that stands behind an opcode
+-- the operand that stands after an opcode
 abbrev pub operand_from : Mode → List ℕ → Option ℕ
 operand_from mode rest =
     if nat_eq (length_of mode) 1 then Some 0 else if nat_eq (length_of mode) 2 then byte_from rest else word_from rest
@@ -43,7 +43,7 @@ abbrev pub decoding : List ℕ → Option (Instr × ℕ)
 decoding [] = None
 decoding (opcode ∷ rest) = option_and_then (λ meaning. decoding_as meaning rest) (meaning_of opcode)
 
--- the bytes of an instruction, with any bytes behind them, are read as that instruction and their number
+-- the bytes of an instruction, with any bytes after them, are read as that instruction and their number
 abbrev pub WhatIsEncodedDecodes : Type 0
 WhatIsEncodedDecodes =
     (instr : Instr) (bytes rest : List ℕ) → encoding instr ≡ Some bytes → decoding (bytes ++ rest) ≡ Some (instr, length bytes)

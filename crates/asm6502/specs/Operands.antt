@@ -53,7 +53,7 @@ number_of address pc mode (Label label offset) = (address label + offset) % 6553
 number_of address pc mode (Low label offset) = (address label + offset) % 65536 % 256
 number_of address pc mode (High label offset) = (address label + offset) % 65536 / 256
 
--- the same as it stands in the bytes behind the opcode: for a branch its displacement byte
+-- the same as it stands in the bytes after the opcode: for a branch its displacement byte
 abbrev pub operand_of : (ℕ → ℕ) → ℕ → Mode → Operand → ℕ
 operand_of address pc mode Nothing = 0
 operand_of address pc mode (Number number) = number

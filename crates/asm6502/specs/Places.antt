@@ -1,5 +1,5 @@
 -- What the two passes over a listing have at hand: the table of labels, and what is written so far.
-use Rattle.std.specs.Prelude.{◌≡◌, ℕ, ◌+◌, List, length, unwrap_or}
+use Rattle.std.specs.Prelude.{◌≡◌, ℕ, ◌+◌, List, length, Option, Some, IsSome, unwrap_or}
 use Rattle.std.specs.Ordering.{nat_cmp}
 use Rattle.std.specs.BTreeMap.{get}
 use Rattle.asm6502.specs.declared.lines.Line.{Line}
@@ -12,6 +12,10 @@ use Rattle.asm6502.specs.declared.output.Output.{Output}
 pub record HasPlaces (labels : Labels) (lines : List Line) : Type 0 where
   pub places : (label : ℕ) → get nat_cmp labels.places label ≡ place_of lines label
   pub size : labels.size ≡ size_of lines
+
+-- the table has this label, if there is one
+pub record Knows (labels : Labels) (used : Option ℕ) : Type 0 where
+  pub known : (label : ℕ) → used ≡ Some label → IsSome (get nat_cmp labels.places label)
 
 -- the address of a label by the table
 abbrev pub address_by : Labels → ℕ → ℕ → ℕ

@@ -24,7 +24,7 @@ ItemAt address at pc (Label label) = address label ≡ pc
 ItemAt address at pc (Code mnemonic mode operand) = Stands at pc mnemonic mode (number_of address pc mode operand)
 ItemAt address at pc (Bytes bytes) = BytesStand at pc bytes
 
--- lines stand from pc on, one behind the other
+-- lines stand from pc on, one after the other
 abbrev pub LinesAt : (ℕ → ℕ) → (ℕ → ℕ) → ℕ → List Line → Type 0
 LinesAt address at pc [] = Unit {0}
 LinesAt address at pc (line ∷ rest) = ItemAt address at pc line.item × LinesAt address at (pc + item_size line.item) rest
@@ -39,7 +39,7 @@ abbrev pub AssembledLinesStand : Type 0
 AssembledLinesStand =
     (set origin : ℕ) (lines : List Line) → fault_of set origin lines ≡ None → KeptLinesStand set origin lines (assembled_bytes set origin lines)
 
--- two lists of lines, one behind the other, take the bytes of both
+-- two lists of lines, one after the other, take the bytes of both
 abbrev pub SizesAdd : Type 0
 SizesAdd = (front back : List Line) → size_of (front ++ back) ≡ size_of front + size_of back
 
@@ -47,7 +47,7 @@ SizesAdd = (front back : List Line) → size_of (front ++ back) ≡ size_of fron
 abbrev pub KeptAppend : Type 0
 KeptAppend = (set : ℕ) (front back : List Line) → kept set (front ++ back) ≡ kept set front ++ kept set back
 
--- where both stand, the front stands at the same place, and the back behind it; and the other way
+-- where both stand, the front stands at the same place, and the back after it; and the other way
 abbrev pub FrontsStand : Type 0
 FrontsStand = (address at : ℕ → ℕ) (pc : ℕ) (front back : List Line) → LinesAt address at pc (front ++ back) → LinesAt address at pc front
 

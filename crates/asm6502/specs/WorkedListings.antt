@@ -28,7 +28,7 @@ TonePlays = (assembled_bytes 0 0x1000 tone ≡ 0xA9 ∷ 0x0F ∷ 0x8D ∷ 0x18 �
 abbrev pub ToneWithPart : Type 0
 ToneWithPart = assembled_bytes 8 0x1000 tone ≡ 0xA9 ∷ 0x0F ∷ 0x8D ∷ 0x18 ∷ 0xD4 ∷ 0xEA ∷ 0x60 ∷ []
 
--- JMP to two bytes behind a label, the low and the high byte of $0201 bytes behind it, and the label
+-- JMP to two bytes after a label, the low and the high byte of $0201 bytes after it, and the label
 abbrev pub jumps : List Line
 jumps =
     always (Code Jmp Absolute (Label 1 2)) ∷ always (Code Lda Immediate (Low 1 0x0201)) ∷ always (Code Ldx Immediate (High 1 0x0201)) ∷ always (Named 1) ∷ []

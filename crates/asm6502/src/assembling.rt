@@ -10,23 +10,25 @@ ghost use Rattle.asm6502.specs.declared.faults.AsmFault.TheVariants.{PastEnd, No
 use crate::assembled::Assembled;
 use crate::faults::AsmFault;
 use crate::labels::{check_lines, check_operands, labels_of};
-use crate::lines::Listing;
+use crate::lines::{Listing, MOST_BYTES, MOST_LINES};
 use crate::output::output_of;
 use song_model::FeatureBits;
 use std::alloc::Global;
 
-/// Assembles the lines of a listing that a set of parts keeps, to stand at an origin: each kept line stands behind the
-/// kept lines before it, and operands with labels have their addresses. The listing has at most 1,000,000 lines, and at
-/// most 1,000,000 bytes in its items of bytes. The refusals are those of `AsmFault`, in their order, each at its first
-/// place in the listing.
+/// Assembles the lines of a listing that a set of parts keeps, to stand at an origin: each kept line stands after the
+/// kept lines before it, and operands with labels have their addresses. The listing is within its limits.
+///
+/// # Errors
+///
+/// The refusals are those of `AsmFault`, in their order, each at its first place in the listing.
 pub fn assemble(
     alloc: Global,
     listing: &Listing,
     origin: u16,
     set: FeatureBits,
 ) -> Result<Assembled, AsmFault>
-    requires lines { length listing.now ≤ 1000000 }
-    requires bytes { data_size listing.now ≤ 1000000 }
+    requires lines { length listing.now ≤ MOST_LINES }
+    requires bytes { data_size listing.now ≤ MOST_BYTES }
 
     // Want of memory aside, it is refused exactly where something is wrong with the listing, with that fault.
     ensures faults { MatchResult result

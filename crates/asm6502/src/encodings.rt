@@ -49,7 +49,7 @@ pub fn decode(bytes: &[u8]) -> Option<(Instr, u8)>
     Some((instr, mode.length()))
 }
 
-/// The operand that stands behind an opcode.
+/// The operand that stands after an opcode.
 fn operand_of(mode: Mode, rest: &[u8]) -> Option<u16>
     ensures { result ≡ operand_from mode rest.now }
 {

@@ -9,8 +9,8 @@ use std::marker::Model;
 pub struct Instr {
     pub mnemonic: Mnemonic,
     pub mode: Mode,
-    /// The byte behind the opcode, for a branch the displacement byte; the two bytes behind it as a number, the low
-    /// one first; or 0 where nothing stands behind it.
+    /// The byte after the opcode, for a branch the displacement byte; the two bytes after it as a number, the low
+    /// one first; or 0 where nothing stands after it.
     pub operand: u16,
 }
 

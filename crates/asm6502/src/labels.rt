@@ -10,7 +10,7 @@ ghost use Rattle.asm6502.specs.Branches.{branch_byte};
 
 use crate::faults::AsmFault;
 use crate::fixes::{Fix, FixKind};
-use crate::lines::{Line, Operand};
+use crate::lines::{Line, MOST_BYTES, MOST_LINES, Operand};
 use cpu6502::Mode;
 use song_model::FeatureBits;
 use std::alloc::Global;
@@ -28,13 +28,13 @@ impl Labels {
     ghost use Rattle.std.specs.Ordering.{nat_cmp};
     ghost use Rattle.std.specs.BTreeMap.{get};
     ghost use Rattle.std.specs.Option.{option_map, option_to_list};
-    ghost use Rattle.asm6502.specs.Operands.{operand_of, is_far};
+    ghost use Rattle.asm6502.specs.Operands.{operand_of, is_far, label_of};
     ghost use Rattle.asm6502.specs.Fixes.{operand_fixes};
     ghost use Rattle.asm6502.specs.declared.lines.Line.{Line};
     ghost use Rattle.asm6502.specs.declared.faults.AsmFault.TheVariants.{NoMemory, DoubleLabel, UnknownLabel};
     ghost use Rattle.asm6502.specs.Lines.{item_size, kept};
     ghost use Rattle.asm6502.specs.Faults.{double_label, unknown_label};
-    ghost use Rattle.asm6502.specs.Places.{HasPlaces, address_by};
+    ghost use Rattle.asm6502.specs.Places.{HasPlaces, Knows, address_by};
 
     /// The labels of no lines.
     pub(crate) fn new(alloc: Global) -> Labels
@@ -65,7 +65,7 @@ impl Labels {
         Ok(())
     }
 
-    /// Notes that a label is named behind the bytes so far.
+    /// Notes that a label is named after the bytes so far.
     fn name(&mut self, label: u16) -> Result<(), AsmFault>
         ensures size { self.new.size ≡ self.old.size }
         ensures noted { MatchResult result
@@ -105,18 +105,22 @@ impl Labels {
     }
 
     /// The address of a label plus an offset, mod 65,536, where the lines stand at an origin.
-    pub(crate) fn address(&self, origin: u16, label: u16, offset: u16) -> u16
+    fn address(&self, origin: u16, label: u16, offset: u16) -> u16
+        requires { IsSome (get nat_cmp self.now.places label) }
         ensures { result ≡ (address_by self.now origin label + offset) % 65536 }
     {
-        let place = self.places.get(&label).copied().unwrap_or(0);
+        let Some(place) = self.places.get(&label).copied() else {
+            unreachable!();
+        };
         let address = u64::from(origin) + u64::from(place) + u64::from(offset);
         (address % 65_536) as u16
     }
 
-    /// The number that stands behind the opcode at place `at` of the bytes, where these stand at an origin; `None` where
+    /// The number that stands after the opcode at place `at` of the bytes, where these stand at an origin; `None` where
     /// it is a label that the branch doesn't reach.
     pub(crate) fn operand(&self, origin: u16, at: u32, mode: Mode, operand: Operand) -> Option<u16>
-        requires { origin + at ≤ 65536 }
+        requires fits { origin + at ≤ 65536 }
+        requires known { Knows self.now (label_of operand) }
         ensures { MatchOption result
             (is_far (address_by self.now origin) (origin + at) mode operand ≡ true)
             (λ number. (number ≡ operand_of (address_by self.now origin) (origin + at) mode operand) × (is_far (address_by self.now origin) (origin + at) mode operand ≡ false)) }
@@ -139,6 +143,7 @@ impl Labels {
 
     /// What is to be fixed in an operand whose bytes begin at place `at`.
     pub(crate) fn fix(&self, at: u32, mode: Mode, operand: Operand) -> Option<Fix>
+        requires { Knows self.now (label_of operand) }
         ensures { option_to_list result ≡ operand_fixes (address_by self.now 0) at mode operand }
     {
         let (kind, label, offset) = match operand {
@@ -180,8 +185,8 @@ fn branch_byte(pc: u32, target: u16) -> Option<u8>
 
 /// The labels of the kept lines; refused where one of them is named a second time.
 pub(crate) fn labels_of(alloc: Global, lines: &[Line], set: FeatureBits) -> Result<Labels, AsmFault>
-    requires lines { length lines.now ≤ 1000000 }
-    requires bytes { data_size lines.now ≤ 1000000 }
+    requires lines { length lines.now ≤ MOST_LINES }
+    requires bytes { data_size lines.now ≤ MOST_BYTES }
     ensures { MatchResult result
         (λ labels. HasPlaces labels (kept set.0 lines.now) × (first_fault (double_label set.0) [] lines.now ≡ None))
         (λ fault. (fault ≡ NoMemory) ⊎ (first_fault (double_label set.0) [] lines.now ≡ Some fault)) }
@@ -195,7 +200,7 @@ pub(crate) fn labels_of(alloc: Global, lines: &[Line], set: FeatureBits) -> Resu
 
 /// Refuses a line that can't stand in a listing.
 pub(crate) fn check_lines(lines: &[Line], set: FeatureBits) -> Result<(), AsmFault>
-    requires { length lines.now ≤ 1000000 }
+    requires { length lines.now ≤ MOST_LINES }
     ensures { MatchResult result
         (λ _. first_fault (bad_line set.0) [] lines.now ≡ None)
         (λ fault. first_fault (bad_line set.0) [] lines.now ≡ Some fault) }

@@ -1,7 +1,7 @@
 //! An assembler for the 6502: a listing of labels, instructions and bytes becomes the bytes of a program.
 //!
 //! The layer that knows how instructions are spelled, so that no layer above sees a byte of code. Its one contract is
-//! that of `assemble`: the kept lines stand one behind the other at their addresses, and in any memory that holds the
+//! that of `assemble`: the kept lines stand one after the other at their addresses, and in any memory that holds the
 //! bytes each of them is read by the machine's own decode table as the line that it is; a listing is refused exactly
 //! where something is wrong with it, by the first of five refusals; and moved to another origin the bytes are those
 //! of assembling there. Its definitions are in `specs/`, of which `Standing` is the one that callers reason with.
@@ -12,12 +12,12 @@
 
 mod assembled;
 mod assembling;
+pub mod claims;
 mod encodings;
 mod faults;
 mod fixes;
 mod instructions;
 mod labels;
-pub mod claims;
 mod lines;
 mod moving;
 mod output;
@@ -26,10 +26,10 @@ mod tests;
 
 pub use assembled::Assembled;
 pub use assembling::assemble;
+pub use base::{ByteList, NoMemory};
 pub use encodings::{decode, encode};
 pub use faults::{AsmFault, PastEnd};
 pub use fixes::{Fix, FixKind, FixList};
 pub use instructions::{Encoded, Instr};
-pub use lines::{Item, Line, Listing, Operand};
-pub use base::{ByteList, NoMemory};
+pub use lines::{Item, Line, Listing, MOST_BYTES, MOST_LINES, Operand};
 pub use song_model::FeatureBits;

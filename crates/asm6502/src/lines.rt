@@ -9,7 +9,13 @@ use song_model::FeatureBits;
 use std::alloc::Global;
 use std::marker::Model;
 
-/// What stands behind the opcode of an instruction in a listing.
+/// The most lines of a listing that is assembled.
+pub const MOST_LINES: usize = 1_000_000;
+
+/// The most bytes that such a listing has in its items of bytes, together.
+pub const MOST_BYTES: usize = 1_000_000;
+
+/// What stands after the opcode of an instruction in a listing.
 #[derive(Clone, Copy, Debug)]
 pub enum Operand {
     /// Nothing: of the modes without operand.
@@ -240,15 +246,15 @@ impl Listing {
         self.lines.as_slice()
     }
 
-    /// Whether it is in the limits of `assemble`: at most 1,000,000 lines, and at most 1,000,000 bytes in its items of
-    /// bytes.
+    /// Whether it is in the limits of `assemble`: at most [`MOST_LINES`] lines, and at most [`MOST_BYTES`] bytes in its
+    /// items of bytes.
     pub fn is_within_limits(&self) -> bool
-        ensures { IsTrue result ↔ ((length self.now ≤ 1000000) × (data_size self.now ≤ 1000000)) }
+        ensures { IsTrue result ↔ ((length self.now ≤ MOST_LINES) × (data_size self.now ≤ MOST_BYTES)) }
     {
-        if self.lines.len() > 1_000_000 {
+        if self.lines.len() > MOST_LINES {
             return false;
         }
-        let mut room: usize = 1_000_000;
+        let mut room = MOST_BYTES;
         for line in self.lines.as_slice() {
             let size = line.item.data_size();
             if size > room {

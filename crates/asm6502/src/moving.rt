@@ -13,7 +13,7 @@ impl Assembled {
     ghost use Rattle.asm6502.specs.Moving.{IsMoved};
 
     /// Moves the bytes to another origin: the number of each fix becomes that of the new origin, and the other bytes and
-    /// the fixes stay. Refused exactly where the bytes don't fit behind the new origin; nothing is changed then. It takes
+    /// the fixes stay. Refused exactly where the bytes don't fit after the new origin; nothing is changed then. It takes
     /// no memory.
     pub fn relocate(&mut self, origin: u16) -> Result<(), PastEnd>
         ensures fits { IsOk result ↔ (origin + length self.old.bytes ≤ 65536) }

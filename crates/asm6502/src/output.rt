@@ -2,16 +2,16 @@
 
 ghost use Rattle.std.specs.Prelude.{◌≡◌, ◌≤◌, ◌+◌, ◌⊎◌, [], length, MatchResult, None, Some};
 ghost use Rattle.asm6502.specs.Lines.{kept, size_of};
-ghost use Rattle.asm6502.specs.Faults.{first_fault, bad_line, far_by};
+ghost use Rattle.asm6502.specs.Faults.{first_fault, bad_line, unknown_label, far_by};
 ghost use Rattle.asm6502.specs.declared.faults.AsmFault.TheVariants.{NoMemory};
-ghost use Rattle.asm6502.specs.Places.{IsWritten, address_by};
+ghost use Rattle.asm6502.specs.Places.{HasPlaces, IsWritten, address_by};
 
 use crate::encodings::encode;
 use crate::faults::AsmFault;
 use crate::fixes::FixList;
 use crate::instructions::Instr;
 use crate::labels::Labels;
-use crate::lines::{Item, Line, Operand};
+use crate::lines::{Item, Line, MOST_LINES, Operand};
 use base::ByteList;
 use cpu6502::{Mnemonic, Mode};
 use song_model::FeatureBits;
@@ -29,10 +29,11 @@ impl Output {
     ghost use Rattle.asm6502.specs.declared.lines.Line.{Line};
     ghost use Rattle.asm6502.specs.declared.faults.AsmFault.TheVariants.{NoMemory, BranchTooFar};
     ghost use Rattle.asm6502.specs.declared.lines.Item.TheVariants.{Code};
-    ghost use Rattle.asm6502.specs.Lines.{kept, item_size, is_sound, is_kept};
+    ghost use Rattle.asm6502.specs.Lines.{kept, item_size, is_sound, is_kept, label_used};
+    ghost use Rattle.asm6502.specs.Operands.{label_of};
     ghost use Rattle.asm6502.specs.Assembly.{item_bytes, item_fixes};
     ghost use Rattle.asm6502.specs.Faults.{is_far_item, far_by};
-    ghost use Rattle.asm6502.specs.Places.{IsWritten, address_by};
+    ghost use Rattle.asm6502.specs.Places.{IsWritten, Knows, address_by};
 
     /// Nothing.
     fn new(alloc: Global) -> Output
@@ -57,6 +58,7 @@ impl Output {
     ) -> Result<(), AsmFault>
         requires fits { origin + length self.old.bytes ≤ 65536 }
         requires sound { is_sound (Code mnemonic mode operand) ≡ true }
+        requires known { Knows labels.now (label_of operand) }
         ensures bytes { OnOk result
             (self.new.bytes ≡ self.old.bytes ++ item_bytes (address_by labels.now origin) (origin + length self.old.bytes) (Code mnemonic mode operand)) }
         ensures fixes { OnOk result
@@ -95,6 +97,7 @@ impl Output {
     ) -> Result<(), AsmFault>
         requires fits { origin + length self.old.bytes ≤ 65536 }
         requires sound { is_sound item.now ≡ true }
+        requires known { Knows labels.now (label_used item.now) }
         ensures bytes { OnOk result
             (self.new.bytes ≡ self.old.bytes ++ item_bytes (address_by labels.now origin) (origin + length self.old.bytes) item.now) }
         ensures fixes { OnOk result
@@ -127,6 +130,7 @@ impl Output {
     ) -> Result<(), AsmFault>
         requires fits { origin + length self.old.bytes ≤ 65536 }
         requires sound { is_kept set.0 line.now ≡ true → is_sound line.now.item ≡ true }
+        requires known { is_kept set.0 line.now ≡ true → Knows labels.now (label_used line.now.item) }
         ensures { (before : List Line) →
             length before ≡ number →
             IsWritten self.old labels.now set.0 origin before →
@@ -150,9 +154,11 @@ pub(crate) fn output_of(
     origin: u16,
     labels: &Labels,
 ) -> Result<Output, AsmFault>
-    requires lines { length lines.now ≤ 1000000 }
+    requires lines { length lines.now ≤ MOST_LINES }
     requires fits { origin + size_of (kept set.0 lines.now) ≤ 65536 }
     requires sound { first_fault (bad_line set.0) [] lines.now ≡ None }
+    requires places { HasPlaces labels.now (kept set.0 lines.now) }
+    requires known { first_fault (unknown_label set.0 lines.now) [] lines.now ≡ None }
     ensures { MatchResult result
         (λ output. IsWritten output labels.now set.0 origin lines.now × (first_fault (far_by (address_by labels.now origin) set.0 origin) [] lines.now ≡ None))
         (λ fault. (fault ≡ NoMemory) ⊎ (first_fault (far_by (address_by labels.now origin) set.0 origin) [] lines.now ≡ Some fault)) }

@@ -4,8 +4,8 @@ mod bad;
 mod good;
 
 use super::*;
-use cpu6502::{Mnemonic, Mode};
 use base::{ByteList, NoMemory};
+use cpu6502::{Mnemonic, Mode};
 use song_model::FeatureBits;
 use std::alloc::Global;
 use std::process::Abort;

@@ -14,7 +14,7 @@ same_first_bad P xs d i j a b =
     elim (cases_order i j) [
       | inl same ↦ same
       | inr other ↦ elim other [
-          | inl lt ↦ absurd (not_earlier P xs d i j a b lt)
-          | inr gt ↦ absurd (not_earlier P xs d j i b a gt)
-        ]
+        | inl lt ↦ absurd (not_earlier P xs d i j a b lt)
+        | inr gt ↦ absurd (not_earlier P xs d j i b a gt)
+      ]
     ]

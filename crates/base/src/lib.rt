@@ -13,3 +13,6 @@ mod no_memory;
 
 pub use items::{ByteList, Items};
 pub use no_memory::NoMemory;
+
+#[cfg(test)]
+mod tests;

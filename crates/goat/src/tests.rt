@@ -3,6 +3,7 @@
 mod broken;
 mod copying;
 mod running;
+mod wanting;
 
 use cpu6502::{Cpu, Machine, Memory, WriteLog};
 use goat_cli::goat;
@@ -15,13 +16,13 @@ const USAGE: &str = "usage: goat check|trace|pack|run|edit|copy|selftest\n";
 
 const PACK: [&str; 6] = ["pack", "s0", "o", "raw", "1000", "FC"];
 
-/// The bytes of a silent song behind its three texts: one subtune whose orderlists play pattern 0, which is one rest.
+/// The bytes of a silent song after its three texts: one subtune whose orderlists play pattern 0, which is one rest.
 const SILENCE: [u8; 28] = [
     1, 2, 0, 0xff, 0, 2, 0, 0xff, 0, 2, 0, 0xff, 0, 0, 0, 0, 0, 0, 1, 2, 0xbd, 0, 0, 0, 0xff, 0, 0,
     0,
 ];
 
-/// The bytes of a song with one note behind its three texts: orderlists `00`, `01`, `01`, one instrument with a wave
+/// The bytes of a song with one note after its three texts: orderlists `00`, `01`, `01`, one instrument with a wave
 /// and a pulse program, and two patterns.
 const ONE_NOTE: [u8; 74] = [
     1, 2, 0, 0xff, 0, 2, 1, 0xff, 0, 2, 1, 0xff, 0, 1, 0x09, 0xa0, 1, 1, 0, 0, 0, 2, 9, 0, 0, 0, 0,

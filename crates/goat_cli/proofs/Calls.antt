@@ -1,21 +1,22 @@
 -- The calls of a loaded file: one after the other, each in one way.
-use Rattle.std.proofs.Common.{◌≡◌, ◌≢◌, ℕ, zero, suc, ◌+◌, ◌≤◌, ◌<◌, ◌⊎◌, inl, inr, List, [], ◌∷◌, ◌++◌, Option, None, Result, Ok, Err, IfOk, OnOk, length, take, refl, sym, ap, ◌∙◌, subst, arith, add-one}
-use Rattle.std.proofs.lemmas.List.{append-nil, append_assoc, length-append}
+use Rattle.std.proofs.Common.{◌≡◌, ◌≢◌, ℕ, zero, suc, ◌+◌, ◌≤◌, ◌<◌, inl, inr, List, [], ◌∷◌, ◌++◌, None, Result, Ok, Err, IfOk, OnOk, length, take, refl, sym, ap, ◌∙◌, subst, arith, add-one}
+use Rattle.std.proofs.lemmas.List.{append-nil, length-append}
 use Rattle.std.proofs.lemmas.Bool.{cases_lt}
-use Rattle.std.proofs.Math.Seq.{take-append-add}
+use Rattle.std.proofs.lemmas.List.Folds.{concat-append}
+use Rattle.std.specs.List.{concat}
 use Rattle.cpu6502.specs.declared.machine.Machine.{Machine}
 use Rattle.cpu6502.specs.declared.stop.CallStop.{CallStop}
 use Rattle.cpu6502.specs.Call.{run, entered, Called, FailsBy}
 use Rattle.cpu6502.specs.declared.stop.CallStop.TheVariants.{Stopped, Budget}
-use Rattle.cpu6502.proofs.Calls.{called_once, returned_fails, stopped_fails, under_way_fails}
-use Rattle.goat_io.specs.Written.{told_with_piece}
+use Rattle.cpu6502.proofs.Laws.{called_once, returned_fails, stopped_fails, under_way_fails}
 use Rattle.sid_run.specs.State.{RunnerState, sid_registers, most_steps}
 use Rattle.goat_cli.specs.Calls.{entry_of, number_of, ReturnsTo, FirstCalls, MeetsStopAt}
-use Rattle.goat_cli.specs.RegisterText.{register_line, lines_from, register_text}
-use Rattle.goat_cli.specs.declared.ending.Ending.{Ending}
-use Rattle.goat_cli.specs.declared.ending.Ending.TheVariants.{Shown, SinkFault, NoMemory}
-use Rattle.goat_cli.specs.Endings.{CallsEnd, played, cut_short}
-use Rattle.goat_cli.proofs.Told.{told_both}
+use Rattle.goat_cli.specs.RegisterText.{register_line, lines_from, register_lines}
+use Rattle.goat_cli.specs.Lines.{stop_line}
+use Rattle.goat_cli.specs.Last.{Says, Silent, SinkFailed, Wants}
+use Rattle.goat_cli.specs.Stands.{SinkState, Appends}
+use Rattle.goat_cli.specs.Endings.{CallsEnd, FailsIn, played, stopped, failed, wanting}
+use Rattle.goat_cli.proofs.Told.{appends_nothing, appends_both, fails_then}
 
 -- ---- one call
 
@@ -120,68 +121,85 @@ module _ (file : RunnerState) (subtune : ℕ) where
 
 -- ---- their lines
 
-lines-append : (call : ℕ) (registers : List (List ℕ)) (last : List ℕ) → lines_from call (registers ++ last ∷ []) ≡ lines_from call registers ++ register_line (call + length registers) last
-lines-append call [] last = let z : call + 0 ≡ call = omega arith in rw z (append-nil (register_line call last))
+lines-append : (call : ℕ) (registers : List (List ℕ)) (last : List ℕ) → lines_from call (registers ++ last ∷ []) ≡ lines_from call registers ++ register_line (call + length registers) last ∷ []
+lines-append call [] last = let z : call + 0 ≡ call = omega arith in rw z refl
 lines-append call (first ∷ rest) last =
     let z : call + 1 + length rest ≡ call + suc (length rest) = omega arith in
-    ap (λ text. register_line call first ++ text) (lines-append (call + 1) rest last)
-    ∙ sym (append_assoc (register_line call first) (lines_from (call + 1) rest) (register_line (call + 1 + length rest) last))
-    ∙ ap (λ n. (register_line call first ++ lines_from (call + 1) rest) ++ register_line n last) z
+    ap (λ lines. register_line call first ∷ lines) (lines-append (call + 1) rest last)
+    ∙ ap (λ n. (register_line call first ∷ lines_from (call + 1) rest) ++ register_line n last ∷ []) z
 
 -- the calls so far returned and their lines are printed
-pub record CallsSoFar (file : RunnerState) (subtune calls : ℕ) (now : RunnerState) (before after : Option (List ℕ)) : Type 0 where
+pub record CallsSoFar (file : RunnerState) (subtune calls : ℕ) (now : RunnerState) (before after : SinkState) : Type 0 where
   pub registers : List (List ℕ)
   pub returned : FirstCalls file subtune calls registers now.machine
   pub running : now.stopped ≡ None
   pub same_init : now.init ≡ file.init
   pub same_play : now.play ≡ file.play
-  pub printed : after ≡ told_with_piece before (register_text registers)
+  pub printed : Appends (concat (register_lines registers)) before after
 
 same_entry : (file now : RunnerState) (call : ℕ) → now.init ≡ file.init → now.play ≡ file.play → entry_of now call ≡ entry_of file call
 same_entry file now zero init play = init
 same_entry file now (suc call) init play = play
 
-module _ (file : RunnerState) (subtune calls : ℕ) (now later : RunnerState) (before after : Option (List ℕ)) (so_far : CallsSoFar file subtune calls now before after) where
+module _ (file : RunnerState) (subtune calls : ℕ) (now later : RunnerState) (before after : SinkState) (so_far : CallsSoFar file subtune calls now before after) where
   -- one call more
   pub calls_on : (last : List ℕ) → ReturnsTo now.machine (entry_of now calls) (number_of subtune calls now.machine) last later.machine → FirstCalls file subtune (suc calls) (so_far.registers ++ last ∷ []) later.machine
-  calls_on last returns = (so_far.registers, now.machine, last, so_far.returned, subst (λ e. ReturnsTo now.machine e (number_of subtune calls now.machine) last later.machine) (same_entry file now calls so_far.same_init so_far.same_play) returns, refl)
+  calls_on last returns = (
+    so_far.registers,
+    now.machine,
+    last,
+    so_far.returned,
+    subst (λ e. ReturnsTo now.machine e (number_of subtune calls now.machine) last later.machine) (same_entry file now calls so_far.same_init so_far.same_play) returns,
+    refl,
+  )
 
-  pub text_on : (last : List ℕ) → register_text (so_far.registers ++ last ∷ []) ≡ register_text so_far.registers ++ register_line calls last
-  text_on last =
+  pub lines_on : (last : List ℕ) → register_lines (so_far.registers ++ last ∷ []) ≡ register_lines so_far.registers ++ register_line calls last ∷ []
+  lines_on last =
       let many = as_many_registers file subtune calls so_far.registers now.machine so_far.returned in
       let z : 0 + length so_far.registers ≡ calls = omega (arith, many) in
-      lines-append 0 so_far.registers last ∙ ap (λ n. register_text so_far.registers ++ register_line n last) z
+      lines-append 0 so_far.registers last ∙ ap (λ n. register_lines so_far.registers ++ register_line n last ∷ []) z
 
-  pub so_far_on : (last : List ℕ) (shown : Option (List ℕ)) → ReturnsTo now.machine (entry_of now calls) (number_of subtune calls now.machine) last later.machine → later.stopped ≡ None → later.init ≡ now.init → later.play ≡ now.play → shown ≡ told_with_piece after (register_line calls last) → CallsSoFar file subtune (suc calls) later before shown
+  text_on : (last : List ℕ) → concat (register_lines (so_far.registers ++ last ∷ [])) ≡ concat (register_lines so_far.registers) ++ register_line calls last
+  text_on last = ap concat (lines_on last) ∙ concat-append (register_lines so_far.registers) (register_line calls last ∷ []) ∙ ap (λ t. concat (register_lines so_far.registers) ++ t) (append-nil (register_line calls last))
+
+  pub so_far_on : (last : List ℕ) (shown : SinkState) → ReturnsTo now.machine (entry_of now calls) (number_of subtune calls now.machine) last later.machine → later.stopped ≡ None → later.init ≡ now.init → later.play ≡ now.play →
+      Appends (register_line calls last) after shown → CallsSoFar file subtune (suc calls) later before shown
   so_far_on last shown returns running init play told = record {
     registers = so_far.registers ++ last ∷ [];
     returned = calls_on last returns;
     running = running;
     same_init = init ∙ so_far.same_init;
     same_play = play ∙ so_far.same_play;
-    printed = told ∙ ap (λ w. told_with_piece w (register_line calls last)) so_far.printed ∙ told_both before (register_text so_far.registers) (register_line calls last) ∙ ap (told_with_piece before) (sym (text_on last));
+    printed = subst (λ text. Appends text before shown) (sym (text_on last)) (appends_both (concat (register_lines so_far.registers)) (register_line calls last) before after shown so_far.printed told);
   }
 
-  -- the run is cut short in the line of the call
-  pub cut_in_line : (frames n : ℕ) (last : List ℕ) (shown : Option (List ℕ)) (e : Ending) → calls ≤ frames → ReturnsTo now.machine (entry_of now calls) (number_of subtune calls now.machine) last later.machine → shown ≡ told_with_piece after (take n (register_line calls last)) → (e ≡ SinkFault) ⊎ (e ≡ NoMemory) → CallsEnd file subtune frames before shown e
-  cut_in_line frames n last shown e within returns told or =
-      let text = register_text so_far.registers in
-      let line = register_line calls last in
-      let whole : told_with_piece before (text ++ take n line) ≡ told_with_piece before (take (length text + n) (register_text (so_far.registers ++ last ∷ []))) =
-      ap (told_with_piece before) (sym (take-append-add text line n) ∙ ap (take (length text + n)) (sym (text_on last))) in
-      cut_short (suc calls) (length text + n) (so_far.registers ++ last ∷ []) later.machine (omega (arith, within)) (calls_on last returns) or
-      (told ∙ ap (λ w. told_with_piece w (take n line)) so_far.printed ∙ told_both before text (take n line) ∙ whole)
+  module _ (frames : ℕ) (within : calls ≤ frames) (last : List ℕ) (returns : ReturnsTo now.machine (entry_of now calls) (number_of subtune calls now.machine) last later.machine) (shown : SinkState) where
+    -- the put of the line of the call failed
+    pub line_failed : FailsIn (register_line calls last) after shown → CallsEnd file subtune frames SinkFailed before shown
+    line_failed fails =
+        failed (suc calls) fails.kept (register_lines so_far.registers) (register_line calls last) (so_far.registers ++ last ∷ []) later.machine (omega (arith, within)) (calls_on last returns) (lines_on last) refl
+        (fails_then (concat (register_lines so_far.registers)) (take fails.kept (register_line calls last)) before after shown so_far.printed fails.fails)
 
-  pub stop_met : (reason : CallStop) → FailsBy now.machine (entry_of now calls) (number_of subtune calls now.machine) most_steps reason later.machine → MeetsStopAt file subtune calls so_far.registers reason
-  stop_met reason fails = record {
+    -- memory was wanting for it
+    pub line_wanting : Appends [] after shown → CallsEnd file subtune frames Wants before shown
+    line_wanting none =
+        wanting (suc calls) (register_lines so_far.registers) (register_line calls last) (so_far.registers ++ last ∷ []) later.machine (omega (arith, within)) (calls_on last returns) (lines_on last) refl
+        (subst (λ text. Appends text before shown) (append-nil (concat (register_lines so_far.registers))) (appends_both (concat (register_lines so_far.registers)) [] before after shown so_far.printed none))
+
+  pub stop_met : (frames : ℕ) (reason : CallStop) → calls ≤ frames → FailsBy now.machine (entry_of now calls) (number_of subtune calls now.machine) most_steps reason later.machine → CallsEnd file subtune frames (Says 13 (stop_line reason calls)) before after
+  stop_met frames reason within fails = stopped calls so_far.registers reason within (record {
     before = now.machine;
     calls = so_far.returned;
     after = later.machine;
     fails = subst (λ e. FailsBy now.machine e (number_of subtune calls now.machine) most_steps reason later.machine) (same_entry file now calls so_far.same_init so_far.same_play) fails;
-  }
+  }) refl so_far.printed
 
 -- all calls returned
-pub all_played : (file now : RunnerState) (subtune frames calls : ℕ) (before after : Option (List ℕ)) → CallsSoFar file subtune calls now before after → calls ≡ frames + 1 → CallsEnd file subtune frames before after Shown
+pub all_played : (file now : RunnerState) (subtune frames calls : ℕ) (before after : SinkState) → CallsSoFar file subtune calls now before after → calls ≡ frames + 1 → CallsEnd file subtune frames Silent before after
 all_played file now subtune frames calls before after so is =
     let moved = subst (λ n. CallsSoFar file subtune n now before after) is so in
     played moved.registers now.machine moved.returned refl moved.printed
+
+-- no call was made yet
+pub none_yet : (file : RunnerState) (subtune : ℕ) (sink : SinkState) → file.stopped ≡ None → CallsSoFar file subtune 0 file sink sink
+none_yet file subtune sink running = record { registers = []; returned = (refl, refl); running = running; same_init = refl; same_play = refl; printed = appends_nothing sink }

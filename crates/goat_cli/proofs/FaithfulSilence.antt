@@ -14,6 +14,7 @@ use Rattle.cpu6502.specs.declared.machine.Machine.{Machine}
 use Rattle.cpu6502.specs.Code.{IsMachine, Holds}
 use Rattle.goat_cli.specs.SilentRun.{InitIsSilent, PlayIsSilent}
 use Rattle.goat_cli.specs.Faithful.{Leaves, AgreesOn, PlaysOn, IsFaithful}
+use Rattle.goat_cli.specs.Place.{IsAddress}
 use Rattle.goat_cli.specs.Image.{silent_image}
 use Rattle.goat_cli.specs.Packed.{IsPackedFile, packed_file}
 
@@ -68,13 +69,17 @@ module _ (image : List ℕ) (address zero_page : ℕ) (song : Song) (init : Init
   }
 
 -- a file of the silent player packs a silent song
-pub packs_silence : (psid : Bool) (address : ℕ) (image file : List ℕ) (song : Song) → IsSilent song → file ≡ packed_file psid song address image → image ≡ silent_image address → InitIsSilent image address → PlayIsSilent image address → (zero_page : ℕ) → IsPackedFile psid address zero_page song file
-packs_silence psid address image file song silent holds is init play zero_page = record {
-  image = image;
-  holds = holds;
-  small = subst (λ b. length b ≤ 64) (sym is) (lit≤ tt);
-  faithful = faithful_silence image address zero_page song init play silent;
-}
+pub packs_silence : (psid : Bool) (address : ℕ) (image file : List ℕ) (song : Song) → IsSilent song → IsAddress address → file ≡ packed_file psid song address image → image ≡ silent_image address →
+    InitIsSilent image address → PlayIsSilent image address → (zero_page : ℕ) → IsPackedFile psid address zero_page song file
+packs_silence psid address image file song silent place holds is init play zero_page =
+    let small : length image ≤ 64 = subst (λ b. length b ≤ 64) (sym is) (lit≤ tt) in
+    record {
+      image = image;
+      holds = holds;
+      small = small;
+      below = omega (arith, place.most, small);
+      faithful = faithful_silence image address zero_page song init play silent;
+    }
 
 playable_once : (patterns : List (List Row)) (subtunes : List Subtune) → length subtunes ≡ 1 → All (IsSilentSubtune patterns) subtunes → length (filter is_playable_subtune subtunes) ≡ 1
 playable_once patterns [] one all = absurd (omega arith)

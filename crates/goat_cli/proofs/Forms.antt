@@ -1,49 +1,58 @@
--- The forms of the command line, word by word.
+-- The words of the command line, and the job that they name.
 use Rattle.std.proofs.Common.{◌≡◌, ℕ, ◌≤◌, ◌<◌, ◌+◌, ◌*◌, ◌^◌, Bool, true, false, List, [], ◌∷◌, codes, subst, ◌≢◌, length, get_or, refl, sym, ap, ◌∙◌, String, arith}
 use Rattle.std.proofs.lemmas.Fmt.{decimal_injective}
 use Rattle.std.specs.Global.{Global}
 use Rattle.std.specs.String.{string_bytes}
-use Rattle.goat_cli.specs.Words.{Job, Pack, Copy, Run, texts, format_word, IsAddressWord, IsZeroPageWord, IsNumberWord, IsNoForm, IsPackForm, IsCopyForm, IsRunForm, WordsOf}
+use Rattle.std.specs.Str.{bytes_eq}
+use Rattle.base.proofs.Laws.{same_head, same_tail}
+use Rattle.goat_cli.specs.Words.{Job, Pack, Copy, Run, texts, format_word, IsAddressWord, IsZeroPageWord, IsNumberWord, IsNoForm, ArePackArguments, AreCopyArguments, AreRunArguments, WordsOf}
 
-pub six_texts : (ws : List (String Global)) (a b c d e f : String Global) → 6 ≤ length ws → length ws < 7 → a ≡ get_or ws 0 a → b ≡ get_or ws 1 b → c ≡ get_or ws 2 c → d ≡ get_or ws 3 d → e ≡ get_or ws 4 e → f ≡ get_or ws 5 f → texts ws ≡ string_bytes a ∷ string_bytes b ∷ string_bytes c ∷ string_bytes d ∷ string_bytes e ∷ string_bytes f ∷ []
-six_texts [] a b c d e f l m p q r s t u = absurd (omega arith)
-six_texts (x0 ∷ []) a b c d e f l m p q r s t u = absurd (omega arith)
-six_texts (x0 ∷ x1 ∷ []) a b c d e f l m p q r s t u = absurd (omega arith)
-six_texts (x0 ∷ x1 ∷ x2 ∷ []) a b c d e f l m p q r s t u = absurd (omega arith)
-six_texts (x0 ∷ x1 ∷ x2 ∷ x3 ∷ []) a b c d e f l m p q r s t u = absurd (omega arith)
-six_texts (x0 ∷ x1 ∷ x2 ∷ x3 ∷ x4 ∷ []) a b c d e f l m p q r s t u = absurd (omega arith)
-six_texts (x0 ∷ x1 ∷ x2 ∷ x3 ∷ x4 ∷ x5 ∷ []) a b c d e f l m p q r s t u = cc
-six_texts (x0 ∷ x1 ∷ x2 ∷ x3 ∷ x4 ∷ x5 ∷ x6 ∷ ws) a b c d e f l m p q r s t u = absurd (omega arith)
+-- ---- lists of two, three and five words
 
-pub three_texts : (ws : List (String Global)) (a b c : String Global) → 3 ≤ length ws → length ws < 4 → a ≡ get_or ws 0 a → b ≡ get_or ws 1 b → c ≡ get_or ws 2 c → texts ws ≡ string_bytes a ∷ string_bytes b ∷ string_bytes c ∷ []
+pub two_texts : (ws : List (String Global)) (a b : String Global) → 2 ≤ length ws → length ws < 3 → a ≡ get_or ws 0 a → b ≡ get_or ws 1 b → texts ws ≡ string_bytes a ∷ string_bytes b ∷ []
+two_texts [] a b l m p q = absurd (omega arith)
+two_texts (x0 ∷ []) a b l m p q = absurd (omega arith)
+two_texts (x0 ∷ x1 ∷ []) a b l m p q = cc
+two_texts (x0 ∷ x1 ∷ x2 ∷ ws) a b l m p q = absurd (omega arith)
+
+pub three_texts : (ws : List (String Global)) (a b c : String Global) → 3 ≤ length ws → length ws < 4 → a ≡ get_or ws 0 a → b ≡ get_or ws 1 b → c ≡ get_or ws 2 c →
+    texts ws ≡ string_bytes a ∷ string_bytes b ∷ string_bytes c ∷ []
 three_texts [] a b c l m p q r = absurd (omega arith)
 three_texts (x0 ∷ []) a b c l m p q r = absurd (omega arith)
 three_texts (x0 ∷ x1 ∷ []) a b c l m p q r = absurd (omega arith)
 three_texts (x0 ∷ x1 ∷ x2 ∷ []) a b c l m p q r = cc
 three_texts (x0 ∷ x1 ∷ x2 ∷ x3 ∷ ws) a b c l m p q r = absurd (omega arith)
 
-pub four_texts : (ws : List (String Global)) (a b c d : String Global) → 4 ≤ length ws → length ws < 5 → a ≡ get_or ws 0 a → b ≡ get_or ws 1 b → c ≡ get_or ws 2 c → d ≡ get_or ws 3 d → texts ws ≡ string_bytes a ∷ string_bytes b ∷ string_bytes c ∷ string_bytes d ∷ []
-four_texts [] a b c d l m p q r s = absurd (omega arith)
-four_texts (x0 ∷ []) a b c d l m p q r s = absurd (omega arith)
-four_texts (x0 ∷ x1 ∷ []) a b c d l m p q r s = absurd (omega arith)
-four_texts (x0 ∷ x1 ∷ x2 ∷ []) a b c d l m p q r s = absurd (omega arith)
-four_texts (x0 ∷ x1 ∷ x2 ∷ x3 ∷ []) a b c d l m p q r s = cc
-four_texts (x0 ∷ x1 ∷ x2 ∷ x3 ∷ x4 ∷ ws) a b c d l m p q r s = absurd (omega arith)
+pub five_texts : (ws : List (String Global)) (a b c d e : String Global) → 5 ≤ length ws → length ws < 6 →
+    a ≡ get_or ws 0 a → b ≡ get_or ws 1 b → c ≡ get_or ws 2 c → d ≡ get_or ws 3 d → e ≡ get_or ws 4 e →
+    texts ws ≡ string_bytes a ∷ string_bytes b ∷ string_bytes c ∷ string_bytes d ∷ string_bytes e ∷ []
+five_texts [] a b c d e l m p q r s t = absurd (omega arith)
+five_texts (x0 ∷ []) a b c d e l m p q r s t = absurd (omega arith)
+five_texts (x0 ∷ x1 ∷ []) a b c d e l m p q r s t = absurd (omega arith)
+five_texts (x0 ∷ x1 ∷ x2 ∷ []) a b c d e l m p q r s t = absurd (omega arith)
+five_texts (x0 ∷ x1 ∷ x2 ∷ x3 ∷ []) a b c d e l m p q r s t = absurd (omega arith)
+five_texts (x0 ∷ x1 ∷ x2 ∷ x3 ∷ x4 ∷ []) a b c d e l m p q r s t = cc
+five_texts (x0 ∷ x1 ∷ x2 ∷ x3 ∷ x4 ∷ x5 ∷ ws) a b c d e l m p q r s t = absurd (omega arith)
 
-module _ (ws : List (List ℕ)) (a b c d e f : List ℕ) (six : ws ≡ a ∷ b ∷ c ∷ d ∷ e ∷ f ∷ []) where
-  pub no_format : ((psid : Bool) → d ≡ format_word psid → ⊥) → (input output : List ℕ) (psid : Bool) (address zero_page : ℕ) → IsPackForm ws input output psid address zero_page → ⊥
-  no_format none = λ input output psid address zero_page w. none psid (cc (six, w.form))
+-- ---- the arguments of `pack`
 
-  pub no_address : ((address : ℕ) → IsAddressWord e address → ⊥) → (input output : List ℕ) (psid : Bool) (address zero_page : ℕ) → IsPackForm ws input output psid address zero_page → ⊥
-  no_address none = λ input output psid address zero_page w. let same : w.address_word ≡ e = cc (six, w.form) in none address (subst (λ word. IsAddressWord word address) same w.address_spelled)
+module _ (ws : List (List ℕ)) (a b c d e : List ℕ) (five : ws ≡ a ∷ b ∷ c ∷ d ∷ e ∷ []) where
+  pub no_format : ((psid : Bool) → c ≡ format_word psid → ⊥) → (input output : List ℕ) (psid : Bool) (address zero_page : ℕ) → ArePackArguments ws input output psid address zero_page → ⊥
+  no_format none = λ input output psid address zero_page w. none psid (cc (five, w.form))
 
-  pub no_zero_page : ((zero_page : ℕ) → IsZeroPageWord f zero_page → ⊥) → (input output : List ℕ) (psid : Bool) (address zero_page : ℕ) → IsPackForm ws input output psid address zero_page → ⊥
-  no_zero_page none = λ input output psid address zero_page w. let same : w.zero_page_word ≡ f = cc (six, w.form) in none zero_page (subst (λ word. IsZeroPageWord word zero_page) same w.zero_page_spelled)
+  pub no_address : ((address : ℕ) → IsAddressWord d address → ⊥) → (input output : List ℕ) (psid : Bool) (address zero_page : ℕ) → ArePackArguments ws input output psid address zero_page → ⊥
+  no_address none = λ input output psid address zero_page w.
+      let same : w.address_word ≡ d = cc (five, w.form) in none address (subst (λ word. IsAddressWord word address) same w.address_spelled)
 
-  pub is_pack_form : (input output : List ℕ) (psid : Bool) (address zero_page : ℕ) → a ≡ codes "pack" → d ≡ format_word psid → b ≡ input → c ≡ output → b ≢ [] → c ≢ [] → IsAddressWord e address → IsZeroPageWord f zero_page → IsPackForm ws input output psid address zero_page
-  is_pack_form input output psid address zero_page is_pack is_format is_input is_output named_in named_out spelled_address spelled_page = record {
-    address_word = e;
-    zero_page_word = f;
+  pub no_zero_page : ((zero_page : ℕ) → IsZeroPageWord e zero_page → ⊥) → (input output : List ℕ) (psid : Bool) (address zero_page : ℕ) → ArePackArguments ws input output psid address zero_page → ⊥
+  no_zero_page none = λ input output psid address zero_page w.
+      let same : w.zero_page_word ≡ e = cc (five, w.form) in none zero_page (subst (λ word. IsZeroPageWord word zero_page) same w.zero_page_spelled)
+
+  pub are_pack_arguments : (input output : List ℕ) (psid : Bool) (address zero_page : ℕ) → c ≡ format_word psid → a ≡ input → b ≡ output → a ≢ [] → b ≢ [] →
+      IsAddressWord d address → IsZeroPageWord e zero_page → ArePackArguments ws input output psid address zero_page
+  are_pack_arguments input output psid address zero_page is_format is_input is_output named_in named_out spelled_address spelled_page = record {
+    address_word = d;
+    zero_page_word = e;
     form = cc;
     in_named = λ none. named_in (is_input ∙ none);
     out_named = λ none. named_out (is_output ∙ none);
@@ -51,29 +60,33 @@ module _ (ws : List (List ℕ)) (a b c d e f : List ℕ) (six : ws ≡ a ∷ b �
     zero_page_spelled = spelled_page;
   }
 
-pub is_copy_form : (ws : List (List ℕ)) (a b c input output : List ℕ) → ws ≡ a ∷ b ∷ c ∷ [] → a ≡ codes "copy" → b ≡ input → c ≡ output → b ≢ [] → c ≢ [] → IsCopyForm ws input output
-is_copy_form ws a b c input output three is_copy is_input is_output named_in named_out = record {
-  form = cc;
-  in_named = λ none. named_in (is_input ∙ none);
-  out_named = λ none. named_out (is_output ∙ none);
-}
+-- ---- a job is told by its first word
 
-module _ (ws : List (List ℕ)) (a b c d : List ℕ) (four : ws ≡ a ∷ b ∷ c ∷ d ∷ []) where
-  pub is_run_form : (input : List ℕ) (subtune frames : ℕ) → a ≡ codes "run" → b ≡ input → b ≢ [] → IsNumberWord 255 c subtune → IsNumberWord 100000 d frames → IsRunForm ws input subtune frames
-  is_run_form input subtune frames is_run is_input named_in spelled_subtune spelled_frames = record {
-    subtune_word = c;
-    frames_word = d;
-    form = cc;
-    in_named = λ none. named_in (is_input ∙ none);
-    subtune_spelled = spelled_subtune;
-    frames_spelled = spelled_frames;
-  }
+pub no_pack : (ws : List (List ℕ)) → ((input output : List ℕ) (psid : Bool) (address zero_page : ℕ) → ArePackArguments ws input output psid address zero_page → ⊥) → IsNoForm (codes "pack" ∷ ws)
+no_pack ws none (Pack input output psid address zero_page) w =
+    none input output psid address zero_page (rw (same_tail _ _ _ _ w.words_are) w.are_arguments)
+no_pack ws none other w =
+    let never : true ≡ false = ap (bytes_eq (codes "pack")) (same_head _ _ _ _ w.words_are) in absurd (cc (never))
 
--- words of no form
-pub of_no_form : (ws : List (List ℕ)) → ((input output : List ℕ) (psid : Bool) (address zero_page : ℕ) → IsPackForm ws input output psid address zero_page → ⊥) → ((input output : List ℕ) → IsCopyForm ws input output → ⊥) → ((input : List ℕ) (subtune frames : ℕ) → IsRunForm ws input subtune frames → ⊥) → IsNoForm ws
-of_no_form ws pack copy run (Pack input output psid address zero_page) w = pack input output psid address zero_page w
-of_no_form ws pack copy run (Copy input output) w = copy input output w
-of_no_form ws pack copy run (Run input subtune frames) w = run input subtune frames w
+pub no_copy : (ws : List (List ℕ)) → ((input output : List ℕ) → AreCopyArguments ws input output → ⊥) → IsNoForm (codes "copy" ∷ ws)
+no_copy ws none (Copy input output) w = none input output (rw (same_tail _ _ _ _ w.words_are) w.are_arguments)
+no_copy ws none other w =
+    let never : true ≡ false = ap (bytes_eq (codes "copy")) (same_head _ _ _ _ w.words_are) in absurd (cc (never))
+
+pub no_run : (ws : List (List ℕ)) → ((input : List ℕ) (subtune frames : ℕ) → AreRunArguments ws input subtune frames → ⊥) → IsNoForm (codes "run" ∷ ws)
+no_run ws none (Run input subtune frames) w = none input subtune frames (rw (same_tail _ _ _ _ w.words_are) w.are_arguments)
+no_run ws none other w =
+    let never : true ≡ false = ap (bytes_eq (codes "run")) (same_head _ _ _ _ w.words_are) in absurd (cc (never))
+
+pub no_command : (command : List ℕ) (ws : List (List ℕ)) → command ≢ codes "pack" → command ≢ codes "copy" → command ≢ codes "run" → IsNoForm (command ∷ ws)
+no_command command ws pack copy run (Pack input output psid address zero_page) w = pack (cc (w.words_are))
+no_command command ws pack copy run (Copy input output) w = copy (cc (w.words_are))
+no_command command ws pack copy run (Run input subtune frames) w = run (cc (w.words_are))
+
+pub no_words : IsNoForm []
+no_words job w = absurd (cc (w.words_are))
+
+-- ---- the words name one job
 
 -- a word is a format in one way, and a number in one way
 same_format : (a b : Bool) → format_word a ≡ format_word b → a ≡ b
@@ -99,27 +112,36 @@ same_zero_page v w a b same p q =
     let e = q.digits in
     cc
 
--- the words name one job
+same_pack : (v w : List (List ℕ)) (i o i2 o2 : List ℕ) (f f2 : Bool) (a z a2 z2 : ℕ) → v ≡ w → ArePackArguments v i o f a z → ArePackArguments w i2 o2 f2 a2 z2 → Pack i o f a z ≡ Pack i2 o2 f2 a2 z2
+same_pack v w i o i2 o2 f f2 a z a2 z2 same p q =
+    let input : i ≡ i2 = cc (same, p.form, q.form) in
+    let output : o ≡ o2 = cc (same, p.form, q.form) in
+    let format : f ≡ f2 = same_format f f2 (cc (same, p.form, q.form)) in
+    let address : a ≡ a2 = same_address p.address_word q.address_word a a2 (cc (same, p.form, q.form)) p.address_spelled q.address_spelled in
+    let page : z ≡ z2 = same_zero_page p.zero_page_word q.zero_page_word z z2 (cc (same, p.form, q.form)) p.zero_page_spelled q.zero_page_spelled in
+    cc
+
+same_copy : (v w : List (List ℕ)) (i o i2 o2 : List ℕ) → v ≡ w → AreCopyArguments v i o → AreCopyArguments w i2 o2 → Copy i o ≡ Copy i2 o2
+same_copy v w i o i2 o2 same p q =
+    let input : i ≡ i2 = cc (same, p.form, q.form) in
+    let output : o ≡ o2 = cc (same, p.form, q.form) in
+    cc
+
+same_run : (v w : List (List ℕ)) (i i2 : List ℕ) (s n s2 n2 : ℕ) → v ≡ w → AreRunArguments v i s n → AreRunArguments w i2 s2 n2 → Run i s n ≡ Run i2 s2 n2
+same_run v w i i2 s n s2 n2 same p q =
+    let input : i ≡ i2 = cc (same, p.form, q.form) in
+    let subtune : s ≡ s2 = same_number 255 p.subtune_word q.subtune_word s s2 (omega arith) (cc (same, p.form, q.form)) p.subtune_spelled q.subtune_spelled in
+    let frames : n ≡ n2 = same_number 100000 p.frames_word q.frames_word n n2 (omega arith) (cc (same, p.form, q.form)) p.frames_spelled q.frames_spelled in
+    cc
+
+-- words of one list name one job
 pub one_job : (ws : List (List ℕ)) (a b : Job) → WordsOf ws a → WordsOf ws b → a ≡ b
-one_job ws (Pack i o f a z) (Pack i2 o2 f2 a2 z2) p q =
-    let input : i ≡ i2 = cc (p.form, q.form) in
-    let output : o ≡ o2 = cc (p.form, q.form) in
-    let format : f ≡ f2 = same_format f f2 (cc (p.form, q.form)) in
-    let address : a ≡ a2 = same_address p.address_word q.address_word a a2 (cc (p.form, q.form)) p.address_spelled q.address_spelled in
-    let page : z ≡ z2 = same_zero_page p.zero_page_word q.zero_page_word z z2 (cc (p.form, q.form)) p.zero_page_spelled q.zero_page_spelled in
-    cc
-one_job ws (Copy i o) (Copy i2 o2) p q =
-    let input : i ≡ i2 = cc (p.form, q.form) in
-    let output : o ≡ o2 = cc (p.form, q.form) in
-    cc
-one_job ws (Run i s n) (Run i2 s2 n2) p q =
-    let input : i ≡ i2 = cc (p.form, q.form) in
-    let subtune : s ≡ s2 = same_number 255 p.subtune_word q.subtune_word s s2 (omega arith) (cc (p.form, q.form)) p.subtune_spelled q.subtune_spelled in
-    let frames : n ≡ n2 = same_number 100000 p.frames_word q.frames_word n n2 (omega arith) (cc (p.form, q.form)) p.frames_spelled q.frames_spelled in
-    cc
-one_job ws (Pack i o f a z) (Copy i2 o2) p q = absurd (cc (p.form, q.form))
-one_job ws (Pack i o f a z) (Run i2 s n) p q = absurd (cc (p.form, q.form))
-one_job ws (Copy i o) (Pack i2 o2 f a z) p q = absurd (cc (p.form, q.form))
-one_job ws (Copy i o) (Run i2 s n) p q = absurd (cc (p.form, q.form))
-one_job ws (Run i s n) (Pack i2 o2 f a z) p q = absurd (cc (p.form, q.form))
-one_job ws (Run i s n) (Copy i2 o2) p q = absurd (cc (p.form, q.form))
+one_job ws (Pack i o f a z) (Pack i2 o2 f2 a2 z2) p q = same_pack p.arguments q.arguments i o i2 o2 f f2 a z a2 z2 (same_tail _ _ _ _ (sym p.words_are ∙ q.words_are)) p.are_arguments q.are_arguments
+one_job ws (Copy i o) (Copy i2 o2) p q = same_copy p.arguments q.arguments i o i2 o2 (same_tail _ _ _ _ (sym p.words_are ∙ q.words_are)) p.are_arguments q.are_arguments
+one_job ws (Run i s n) (Run i2 s2 n2) p q = same_run p.arguments q.arguments i i2 s n s2 n2 (same_tail _ _ _ _ (sym p.words_are ∙ q.words_are)) p.are_arguments q.are_arguments
+one_job ws (Pack i o f a z) other p q =
+    let never : true ≡ false = ap (bytes_eq (codes "pack")) (same_head _ _ _ _ (sym p.words_are ∙ q.words_are)) in absurd (cc (never))
+one_job ws (Copy i o) other p q =
+    let never : true ≡ false = ap (bytes_eq (codes "copy")) (same_head _ _ _ _ (sym p.words_are ∙ q.words_are)) in absurd (cc (never))
+one_job ws (Run i s n) other p q =
+    let never : true ≡ false = ap (bytes_eq (codes "run")) (same_head _ _ _ _ (sym p.words_are ∙ q.words_are)) in absurd (cc (never))

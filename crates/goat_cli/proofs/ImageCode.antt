@@ -6,8 +6,8 @@ use Rattle.cpu6502.specs.declared.mnemonic.Mnemonic.TheVariants.{Jmp, Rts, Bpl, 
 use Rattle.cpu6502.specs.declared.mnemonic.Mode.{Mode}
 use Rattle.cpu6502.specs.declared.mnemonic.Mode.TheVariants.{Implied, Immediate, Absolute, AbsoluteX, Relative}
 use Rattle.cpu6502.specs.Opcodes.{meaning_of}
-use Rattle.cpu6502.specs.Code.{Instruction, Stands, CodeAt}
-use Rattle.cpu6502.proofs.Standing.{stands_implied, stands_immediate, stands_absolute, stands_absolute_x, stands_relative}
+use Rattle.code_runs.specs.Code.{Instruction, Stands, CodeAt}
+use Rattle.code_runs.proofs.Laws.{stands_implied, stands_immediate, stands_absolute, stands_absolute_x, stands_relative}
 use Rattle.std.proofs.Common.{Some}
 use Rattle.goat_cli.specs.Image.{silent_image}
 
@@ -74,7 +74,7 @@ module _ (at : ℕ → ℕ) (a pc k : ℕ) (b : InBounds a) (lt : k < 30) (place
   absolute_x_at opcode low high word mn e m f g w =
       stands_absolute_x at pc opcode (a + (k + 1)) (a + (k + 2)) low high word mn (ap at place ∙ e) m (omega (arith, b.below)) (omega (arith, b.below)) f g w
 
-  -- a branch to its target, six bytes back from behind it
+  -- a branch to its target, six bytes back from its end
   back_at : (target : ℕ) → pc ≡ target + 4 → at (a + k) ≡ 0x10 → at (a + (k + 1)) ≡ 250 → Stands at pc Bpl Relative target
   back_at target back e f =
       stands_relative at pc 0x10 (a + (k + 1)) 250 target Bpl (ap at place ∙ e) refl (omega (arith, b.below)) f (omega (arith, b.below))

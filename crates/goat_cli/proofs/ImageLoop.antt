@@ -1,13 +1,11 @@
 -- The loop that writes A to the SID's registers from X down to 0: its steps, and the memory behind it.
-use Rattle.std.proofs.Common.{◌≡◌, ℕ, zero, suc, ◌+◌, ◌<◌, ◌≤◌, true, false, List, refl, arith}
+use Rattle.std.proofs.Common.{◌≡◌, ℕ, zero, suc, ◌+◌, ◌%◌, ◌<◌, ◌≤◌, true, false, List, refl, arith}
 use Rattle.std.proofs.lemmas.Bool.{lt-leb}
 use Rattle.cpu6502.specs.declared.cpu.Cpu.{Cpu}
 use Rattle.cpu6502.specs.Effects.{with_sign_and_zero}
-use Rattle.cpu6502.specs.Runs.{State, put, Leads}
-use Rattle.cpu6502.specs.Code.{Instruction, CodeAt, size_of}
-use Rattle.cpu6502.proofs.Moves.{goes, puts, stay, put_other, leads_stay}
-use Rattle.cpu6502.proofs.Instructions.{sta_absolute_x, dex, bpl_taken, bpl_passed}
-use Rattle.cpu6502.proofs.Standing.{code_stays}
+use Rattle.code_runs.specs.Runs.{State, put, Leads}
+use Rattle.code_runs.specs.Code.{Instruction, CodeAt, size_of}
+use Rattle.code_runs.proofs.Laws.{goes, puts, stay, put_other, leads_stay, code_stays, works, sta, dex, bpl_taken, bpl_passed}
 use Rattle.goat_cli.proofs.ImageCode.{clear_then}
 
 -- the places of the SID's registers
@@ -51,9 +49,9 @@ loop_leads l zero rest at cpu away within lt code =
     let code' = put_kept at l 54272 cpu.a (clear_then l rest) (omega arith) within code in
     let at' = put at 54272 cpu.a in
     let size : l + 6 ≤ 54272 = omega arith in
-    puts (sta_absolute_x at (counting cpu l 0) 54272 54272 (l + 3) code.0 refl (omega arith) away) (record { low = omega arith; high = omega arith })
-    (goes (dex at' (counting cpu (l + 3) 0) 0 255 (l + 3 + 1) code'.1.0 refl (omega arith) (omega arith))
-    (goes (bpl_passed at' (record cpu { x = 255; n = true; z = false; pc = l + 3 + 1 }) l (l + 3 + 1 + 2) code'.1.1.0 refl (omega arith) (omega arith))
+    puts (sta (works {at = at} {cpu = counting cpu l 0} 54272 (l + 3) code.0 refl refl (omega arith) away)) (record { low = omega arith; high = omega arith })
+    (goes (dex {result = 255} (works {at = at'} {cpu = counting cpu (l + 3) 0} 0 (l + 3 + 1) code'.1.0 refl refl (omega arith) (omega arith)) refl)
+    (goes (bpl_passed (works {at = at'} {cpu = record cpu { x = 255; n = true; z = false; pc = l + 3 + 1 }} l (l + 3 + 1 + 2) code'.1.1.0 refl refl (omega arith) (omega arith)) refl)
     (stay _)))
 loop_leads l (suc x) rest at cpu away within lt code =
     let place = 54272 + suc x in
@@ -61,7 +59,7 @@ loop_leads l (suc x) rest at cpu away within lt code =
     let at' = put at place cpu.a in
     let size : l + 6 ≤ 54272 = omega arith in
     let plus = lt-leb 128 x (omega arith) in
-    puts (sta_absolute_x at (counting cpu l (suc x)) 54272 place (l + 3) code.0 (omega arith) (omega arith) away) (record { low = omega arith; high = omega arith })
-    (goes (dex at' (counting cpu (l + 3) (suc x)) 0 x (l + 3 + 1) code'.1.0 (omega arith) (omega arith) (omega arith))
-    (goes (bpl_taken at' _ l code'.1.1.0 plus (omega arith))
+    puts (sta (works {at = at} {cpu = counting cpu l (suc x)} place (l + 3) code.0 refl (omega arith) (omega arith) away)) (record { low = omega arith; high = omega arith })
+    (goes (dex {result = x} (works {at = at'} {cpu = counting cpu (l + 3) (suc x)} 0 (l + 3 + 1) code'.1.0 refl refl (omega arith) (omega arith)) (omega arith))
+    (goes (bpl_taken (works {at = at'} {cpu = with_sign_and_zero (counting cpu (l + 3 + 1) x) x} l ((l + 3 + 1 + 2) % 65536) code'.1.1.0 refl refl refl (omega arith)) plus)
     (loop_leads l x rest at' (with_sign_and_zero cpu x) away within (omega arith) code')))

@@ -5,12 +5,11 @@ use Rattle.cpu6502.specs.declared.cpu.Cpu.{Cpu}
 use Rattle.cpu6502.specs.declared.machine.Machine.{Machine}
 use Rattle.cpu6502.specs.Effects.{stack_place, with_sign_and_zero}
 use Rattle.cpu6502.specs.Call.{entered}
-use Rattle.cpu6502.specs.Runs.{State, view, put, Leads}
-use Rattle.cpu6502.specs.Code.{IsMachine, Holds, bytes_at, CodeAt}
-use Rattle.cpu6502.proofs.Moves.{goes, puts, stay, leads_on, leads_stay, put_other}
-use Rattle.cpu6502.proofs.Instructions.{jumped, Pulls, lda_immediate, ldx_immediate, sta_absolute, jmp_absolute, rts}
-use Rattle.cpu6502.proofs.Bridge.{call_returns}
-use Rattle.cpu6502.proofs.Entry.{entry_pulls, entry_kept}
+use Rattle.cpu6502.specs.Code.{IsMachine, Holds, bytes_at}
+use Rattle.code_runs.specs.Runs.{State, view, put, Leads}
+use Rattle.code_runs.specs.Code.{CodeAt}
+use Rattle.code_runs.specs.Calls.{Pulls}
+use Rattle.code_runs.proofs.Laws.{goes, puts, stay, leads_on, leads_stay, put_other, jumped, works, reads_immediate, lda, ldx, sta, jmp, rts, call_returns, entry_pulls, entry_kept}
 use Rattle.goat_cli.specs.Confined.{in_sid, memory_at_entry}
 use Rattle.goat_cli.specs.Image.{silent_image}
 use Rattle.goat_cli.specs.Place.{IsAddress}
@@ -35,35 +34,35 @@ pulls_put at place byte sp low high above pulls = record {
   apart : (sp : ℕ) → stack_place sp ≡ place → ⊥
   apart sp e = omega arith
 
--- what play does behind its loop
+-- what play does after its loop
 play_end : (p sp : ℕ) (at : ℕ → ℕ) (cpu : Cpu) → 0 < p → p + 6 ≤ 54272 → CodeAt at p play_rest → Pulls at cpu.sp 255 255 → (cpu.sp + 2) % 256 ≡ sp → Leads IsSid 3 (record { cpu = jumped cpu p; at = at }) (record { cpu = record cpu { a = 15; n = false; z = false; sp = sp; pc = 0 }; at = put at 54296 15 })
 play_end p sp at cpu away within code pulls e =
     let code' = put_kept at p 54296 15 play_rest (omega arith) within code in
     let cpu' = record cpu { a = 15; n = false; z = false } in
-    goes (lda_immediate at (jumped cpu p) 15 (p + 2) code.0 (omega arith) away)
-    (puts (sta_absolute at (jumped cpu' (p + 2)) 54296 (p + 2 + 3) code.1.0 (omega arith) (omega arith)) (record { low = omega arith; high = omega arith })
-    (goes (rts (put at 54296 15) (jumped cpu' (p + 2 + 3)) 0 255 255 sp 0 code'.1.1.0 (pulls_put at 54296 15 cpu.sp 255 255 (omega arith) pulls) refl e (omega arith))
+    goes (lda (reads_immediate {at = at} {cpu = jumped cpu p} (p + 2) code.0 (omega arith) away))
+    (puts (sta (works {at = at} {cpu = jumped cpu' (p + 2)} 54296 (p + 2 + 3) code.1.0 refl refl (omega arith) (omega arith))) (record { low = omega arith; high = omega arith })
+    (goes (rts (works {at = put at 54296 15} {cpu = jumped cpu' (p + 2 + 3)} 0 (p + 2 + 3 + 1) code'.1.1.0 refl refl (omega arith) (omega arith)) (pulls_put at 54296 15 cpu.sp 255 255 (omega arith) pulls) refl e)
     (stay _)))
 
--- what init does behind its loop
+-- what init does after its loop
 init_end : (p sp : ℕ) (at : ℕ → ℕ) (cpu : Cpu) → 0 < p → CodeAt at p init_rest → Pulls at cpu.sp 255 255 → (cpu.sp + 2) % 256 ≡ sp → Leads IsSid 1 (record { cpu = jumped cpu p; at = at }) (record { cpu = record cpu { sp = sp; pc = 0 }; at = at })
 init_end p sp at cpu away code pulls e =
-    goes (rts at (jumped cpu p) 0 255 255 sp 0 code.0 pulls refl e away) (stay _)
+    goes (rts (works {at = at} {cpu = jumped cpu p} 0 ((p + 1) % 65536) code.0 refl refl refl away) pulls refl e) (stay _)
 
--- the loop of play, and what is behind it
+-- the loop of play, and what comes after it
 play_loop : (l sp : ℕ) (at : ℕ → ℕ) (cpu : Cpu) → 0 < l → l + 12 ≤ 54272 → CodeAt at l (clear_then l play_rest) → Pulls at cpu.sp 255 255 → (cpu.sp + 2) % 256 ≡ sp → Leads IsSid 75 (record { cpu = counting cpu l 23; at = at }) (record { cpu = record cpu { a = 15; x = 255; n = false; z = false; sp = sp; pc = 0 }; at = put (filled at 23 cpu.a) 54296 15 })
 play_loop l sp at cpu away within code pulls e =
-    behind (loop_leads l 23 play_rest at cpu away within (omega arith) code) where
-      behind : Leads IsSid 72 (record { cpu = counting cpu l 23; at = at }) (record { cpu = counted cpu (l + 3 + 1 + 2); at = filled at 23 cpu.a }) → Leads IsSid 75 (record { cpu = counting cpu l 23; at = at }) (record { cpu = record cpu { a = 15; x = 255; n = false; z = false; sp = sp; pc = 0 }; at = put (filled at 23 cpu.a) 54296 15 })
-      behind loop =
+    and_then (loop_leads l 23 play_rest at cpu away within (omega arith) code) where
+      and_then : Leads IsSid 72 (record { cpu = counting cpu l 23; at = at }) (record { cpu = counted cpu (l + 3 + 1 + 2); at = filled at 23 cpu.a }) → Leads IsSid 75 (record { cpu = counting cpu l 23; at = at }) (record { cpu = record cpu { a = 15; x = 255; n = false; z = false; sp = sp; pc = 0 }; at = put (filled at 23 cpu.a) 54296 15 })
+      and_then loop =
           let code' = code_kept l (clear_then l play_rest) loop within code in
           leads_on loop (play_end (l + 3 + 1 + 2) sp (filled at 23 cpu.a) (record cpu { x = 255; n = true; z = false }) (omega arith) (omega arith) code'.1.1.1 (pulls_kept cpu.sp 255 255 loop pulls) e)
 
 init_loop : (l sp : ℕ) (at : ℕ → ℕ) (cpu : Cpu) → 0 < l → l + 7 ≤ 54272 → CodeAt at l (clear_then l init_rest) → Pulls at cpu.sp 255 255 → (cpu.sp + 2) % 256 ≡ sp → Leads IsSid 76 (record { cpu = counting cpu l 24; at = at }) (record { cpu = record cpu { x = 255; n = true; z = false; sp = sp; pc = 0 }; at = filled at 24 cpu.a })
 init_loop l sp at cpu away within code pulls e =
-    behind (loop_leads l 24 init_rest at cpu away within (omega arith) code) where
-      behind : Leads IsSid 75 (record { cpu = counting cpu l 24; at = at }) (record { cpu = counted cpu (l + 3 + 1 + 2); at = filled at 24 cpu.a }) → Leads IsSid 76 (record { cpu = counting cpu l 24; at = at }) (record { cpu = record cpu { x = 255; n = true; z = false; sp = sp; pc = 0 }; at = filled at 24 cpu.a })
-      behind loop =
+    and_then (loop_leads l 24 init_rest at cpu away within (omega arith) code) where
+      and_then : Leads IsSid 75 (record { cpu = counting cpu l 24; at = at }) (record { cpu = counted cpu (l + 3 + 1 + 2); at = filled at 24 cpu.a }) → Leads IsSid 76 (record { cpu = counting cpu l 24; at = at }) (record { cpu = record cpu { x = 255; n = true; z = false; sp = sp; pc = 0 }; at = filled at 24 cpu.a })
+      and_then loop =
           let code' = code_kept l (clear_then l init_rest) loop within code in
           leads_on loop (init_end (l + 3 + 1 + 2) sp (filled at 24 cpu.a) (record cpu { x = 255; n = true; z = false }) (omega arith) code'.1.1.1 (pulls_kept cpu.sp 255 255 loop pulls) e)
 
@@ -71,8 +70,8 @@ init_loop l sp at cpu away within code pulls e =
 play_leads : (a sp : ℕ) (at : ℕ → ℕ) (cpu : Cpu) → InBounds a → CodeAt at (a + 3) (play_code a) → Pulls at cpu.sp 255 255 → (cpu.sp + 2) % 256 ≡ sp → Leads IsSid 77 (record { cpu = jumped cpu (a + 3); at = at }) (record { cpu = record cpu { a = 15; x = 255; n = false; z = false; sp = sp; pc = 0 }; at = put (filled at 23 0) 54296 15 })
 play_leads a sp at cpu b code pulls e =
     let below = b.below in
-    goes (lda_immediate at (jumped cpu (a + 3)) 0 (a + 3 + 2) code.0 (omega arith) (omega arith))
-    (goes (ldx_immediate at (with_sign_and_zero (record cpu { a = 0; pc = a + 3 + 2 }) 0) 23 (a + 3 + 2 + 2) code.1.0 (omega arith) (omega arith))
+    goes (lda (reads_immediate {at = at} {cpu = jumped cpu (a + 3)} (a + 3 + 2) code.0 (omega arith) (omega arith)))
+    (goes (ldx (reads_immediate {at = at} {cpu = with_sign_and_zero (record cpu { a = 0; pc = a + 3 + 2 }) 0} (a + 3 + 2 + 2) code.1.0 (omega arith) (omega arith)))
     (play_loop (a + 3 + 2 + 2) sp at (record cpu { a = 0; n = false; z = false }) (omega arith) (omega arith) code.1.1 pulls e))
 
 init_leads : (a sp : ℕ) (at : ℕ → ℕ) (cpu : Cpu) → InBounds a → ImageAt at a → Pulls at cpu.sp 255 255 → (cpu.sp + 2) % 256 ≡ sp → Leads IsSid 79 (record { cpu = jumped cpu a; at = at }) (record { cpu = record cpu { a = 0; x = 255; n = true; z = false; sp = sp; pc = 0 }; at = filled at 24 0 })
@@ -80,15 +79,15 @@ init_leads a sp at cpu b image pulls e =
     let below = b.below in
     let above = b.above in
     let code = init_stands at a b image in
-    goes (jmp_absolute at (jumped cpu a) (a + 19) (jump_stands at a b image) (omega arith))
-    (goes (lda_immediate at (jumped cpu (a + 19)) 0 (a + 19 + 2) code.0 (omega arith) (omega arith))
-    (goes (ldx_immediate at (with_sign_and_zero (record cpu { a = 0; pc = a + 19 + 2 }) 0) 24 (a + 19 + 2 + 2) code.1.0 (omega arith) (omega arith))
+    goes (jmp (works {at = at} {cpu = jumped cpu a} (a + 19) ((a + 3) % 65536) (jump_stands at a b image) refl refl refl (omega arith)))
+    (goes (lda (reads_immediate {at = at} {cpu = jumped cpu (a + 19)} (a + 19 + 2) code.0 (omega arith) (omega arith)))
+    (goes (ldx (reads_immediate {at = at} {cpu = with_sign_and_zero (record cpu { a = 0; pc = a + 19 + 2 }) 0} (a + 19 + 2 + 2) code.1.0 (omega arith) (omega arith)))
     (init_loop (a + 19 + 2 + 2) sp at (record cpu { a = 0; n = false; z = false }) (omega arith) (omega arith) code.1.1 pulls e)))
 
 -- a run that writes to the SID only, as a call
 as_call : (m : Machine) (a entry number steps zero_page : ℕ) (image registers : List ℕ) (end : State) → IsMachine m → 512 ≤ a → a + length image ≤ 54272 → Holds m.memory a image → Leads IsSid steps (view (entered m entry number)) end → end.cpu.pc ≡ 0 → end.cpu.sp ≡ m.cpu.sp → bytes_at end.at 54272 25 ≡ registers → ReturnsWith m entry number steps image a zero_page registers
 as_call m a entry number steps zero_page image registers end is above below holds leads at_zero same_stack regs =
-    let call = call_returns IsSid (λ q sid. omega (arith, sid.high)) m entry number steps end is.size leads at_zero same_stack in
+    let call = call_returns IsSid (record { below = λ q sid. omega (arith, sid.high) }) m entry number steps end is.size leads at_zero same_stack in
     record {
       after = call.after;
       called = call.called;

@@ -1,15 +1,16 @@
-mod Forms
-mod Digits
-pub mod ImageLoop
-pub mod ImageCode
-pub mod ImageRun
-mod SongLaws
-mod Told
-mod FaithfulSilence
-mod Files
-mod Calls
-mod Causes
-mod Rows
-mod Accounts
 mod Answered
+mod Calls
+mod Chains
+mod Digits
+mod Due
+mod Ends
+mod FaithfulSilence
+mod Forms
+mod ImageCode
+mod ImageLoop
+mod ImageRun
+mod Passes
 mod PlayedFiles
+mod Printed
+mod Reading
+mod Told

@@ -1,19 +1,72 @@
--- Facts for a folder that tells its files, and a sink that tells its bytes.
-use Rattle.std.proofs.Common.{◌≡◌, ℕ, List, [], ◌++◌, Option, Some, None, IfSome, inl, length, refl, sym, ap, ◌∙◌}
+-- What folders and sinks tell, and their counts.
+use Rattle.std.proofs.Common.{◌≡◌, ℕ, List, [], ◌++◌, Option, Some, None, Bool, true, not, ◌&&◌, ◌==◌, refl, sym, ap, ◌∙◌, subst, arith, take}
 use Rattle.std.proofs.lemmas.List.{append-nil, append_assoc}
-use Rattle.std.proofs.Math.Seq.{take-length}
+use Rattle.std.specs.FinMap.{empty}
+use Rattle.goat_io.specs.declared.folder_counts.FolderCounts.{FolderCounts}
+use Rattle.goat_io.specs.Count.{Rose}
+use Rattle.goat_io.specs.Files.{Files}
 use Rattle.goat_io.specs.Written.{told_with_piece}
-use Rattle.goat_cli.specs.Endings.{PrintsPart}
+use Rattle.goat_cli.specs.Outcome.{told_after}
+use Rattle.goat_cli.specs.Lines.{no_memory_line}
+use Rattle.goat_cli.specs.Stands as stands
+use Rattle.goat_cli.specs.Stands.{FolderState, SinkState, AreFiles, RisesWith, Counted, FolderStays, Appends, FailsAfter, TellsWant}
 
--- what follows for the files that are told, if they are
-pub IfSome-weaker : {A : Type 0} (o : Option A) (P Q : A → Type 0) → ((a : A) → P a → Q a) → IfSome o P → IfSome o Q
-IfSome-weaker None P Q f h = h
-IfSome-weaker (Some a) P Q f h = f a h
+-- ---- folders
 
--- and those of which something is known
-pub IfSome-same : {A : Type 0} (o : Option A) (P : A → Option A → Type 0) → ((a : A) → P a (Some a)) → IfSome o (λ a. P a o)
-IfSome-same None P f = tt
-IfSome-same (Some a) P f = f a
+-- some files stand for a folder's
+pub record SomeFiles (told : Option Files) : Type 0 where
+  pub files : Files
+  pub are_files : AreFiles told files
+
+pub some_files : (told : Option Files) → SomeFiles told
+some_files None = record { files = empty; are_files = tt }
+some_files (Some files) = record { files = files; are_files = refl }
+
+pub as_before : (told : Option Files) → told ≡ told_after told None
+as_before None = refl
+as_before (Some files) = refl
+
+-- ---- counts
+
+-- a status that tells of no count
+abbrev pub is_uncounted : ℕ → Bool
+is_uncounted n = not (n == 2) && (not (n == 3) && (not (n == 4) && not (n == 9)))
+
+rises : (own n before after : ℕ) → (n ≡ own → ⊥) → after ≡ before → RisesWith own n before after
+rises own n before after other same = record { rose = λ is. absurd (other is); stays = λ is. same }
+
+pub uncounted : (n : ℕ) (before after : FolderCounts) → is_uncounted n ≡ true → Counted 0 before after → Counted n before after
+uncounted n before after test c = record {
+  misses = rises 2 n before.misses after.misses (λ e. absurd (cc (subst (λ m. is_uncounted m ≡ true) e test))) (c.misses.stays (λ e. omega arith));
+  excesses = rises 3 n before.excesses after.excesses (λ e. absurd (cc (subst (λ m. is_uncounted m ≡ true) e test))) (c.excesses.stays (λ e. omega arith));
+  read_faults = rises 4 n before.read_faults after.read_faults (λ e. absurd (cc (subst (λ m. is_uncounted m ≡ true) e test))) (c.read_faults.stays (λ e. omega arith));
+  write_faults = rises 9 n before.write_faults after.write_faults (λ e. absurd (cc (subst (λ m. is_uncounted m ≡ true) e test))) (c.write_faults.stays (λ e. omega arith));
+}
+
+rises_on : (own n before between after : ℕ) → between ≡ before → RisesWith own n between after → RisesWith own n before after
+rises_on own n before between after same r = subst (λ b. RisesWith own n b after) same r
+
+pub counted_on : (n : ℕ) (before between after : FolderCounts) → Counted 0 before between → Counted n between after → Counted n before after
+counted_on n before between after c d = record {
+  misses = rises_on 2 n before.misses between.misses after.misses (c.misses.stays (λ e. omega arith)) d.misses;
+  excesses = rises_on 3 n before.excesses between.excesses after.excesses (c.excesses.stays (λ e. omega arith)) d.excesses;
+  read_faults = rises_on 4 n before.read_faults between.read_faults after.read_faults (c.read_faults.stays (λ e. omega arith)) d.read_faults;
+  write_faults = rises_on 9 n before.write_faults between.write_faults after.write_faults (c.write_faults.stays (λ e. omega arith)) d.write_faults;
+}
+
+pub nothing_counted : (counts : FolderCounts) → Counted 0 counts counts
+nothing_counted counts = record {
+  misses = rises 2 0 counts.misses counts.misses (λ e. omega arith) refl;
+  excesses = rises 3 0 counts.excesses counts.excesses (λ e. omega arith) refl;
+  read_faults = rises 4 0 counts.read_faults counts.read_faults (λ e. omega arith) refl;
+  write_faults = rises 9 0 counts.write_faults counts.write_faults (λ e. omega arith) refl;
+}
+
+pub stays_itself : (folder : FolderState) → FolderStays folder folder
+stays_itself folder = record { told = refl; counts = nothing_counted folder.counts }
+
+pub stays_on : (a b c : FolderState) → FolderStays a b → FolderStays b c → FolderStays a c
+stays_on a b c p q = record { told = q.told ∙ p.told; counts = counted_on 0 a.counts b.counts c.counts p.counts q.counts }
 
 -- ---- sinks
 
@@ -25,6 +78,24 @@ pub told_both : (told : Option (List ℕ)) (a b : List ℕ) → told_with_piece 
 told_both None a b = refl
 told_both (Some bytes) a b = ap Some (append_assoc bytes a b)
 
--- a whole line was printed
-pub whole_part : (line piece : List ℕ) (before after : Option (List ℕ)) → after ≡ told_with_piece before piece → piece ≡ line → PrintsPart line before after
-whole_part line piece before after told is = record { kept = length line; part = inl (told ∙ ap (told_with_piece before) (is ∙ sym (take-length line))) }
+pub appends_nothing : (sink : SinkState) → Appends [] sink sink
+appends_nothing sink = record { told = sym (told_nothing sink.told); faults = refl }
+
+module _ (a b : List ℕ) (s t u : SinkState) (first : Appends a s t) where
+  pub appends_both : Appends b t u → Appends (a ++ b) s u
+  appends_both then = record {
+    told = then.told ∙ ap (λ told. told_with_piece told b) first.told ∙ told_both s.told a b;
+    faults = then.faults ∙ first.faults;
+  }
+
+  pub fails_then : FailsAfter b t u → FailsAfter (a ++ b) s u
+  fails_then then = record {
+    told = then.told ∙ ap (λ told. told_with_piece told b) first.told ∙ told_both s.told a b;
+    faults = subst (λ n. Rose n u.faults) first.faults then.faults;
+  }
+
+-- the line that memory is wanting comes after what was printed
+pub tells_then : (a : List ℕ) (answer : ℕ) (s t u : SinkState) → Appends a s t → TellsWant [] answer t u → TellsWant a answer s u
+tells_then a answer s t u first (stands.told is appends) = stands.told is (appends_both a no_memory_line s t u first appends)
+tells_then a answer s t u first (stands.failed kept is fails) = stands.failed kept is (fails_then a (take kept no_memory_line) s t u first fails)
+tells_then a answer s t u first (stands.untold is appends) = stands.untold is (subst (λ b. Appends b s u) (append-nil a) (appends_both a [] s t u first appends))

@@ -1,10 +1,9 @@
 -- The calls that a run of a PSID file makes. Call 0 is init, with the subtune's number from 0 in A; the others are play, with A as it stands. The first begins at the machine with the file loaded, each other one at the machine that the call before it left.
-use Rattle.std.specs.Prelude.{◌≡◌, ℕ, zero, suc, ◌+◌, ◌-◌, ◌≤◌, List, [], ◌∷◌, ◌++◌, Ok}
+use Rattle.std.specs.Prelude.{◌≡◌, ℕ, zero, suc, ◌-◌, ◌≤◌, List, [], ◌∷◌, ◌++◌}
 use Rattle.cpu6502.specs.declared.machine.Machine.{Machine}
 use Rattle.cpu6502.specs.declared.stop.CallStop.{CallStop}
 use Rattle.cpu6502.specs.Call.{Called, FailsBy}
 use Rattle.psid.specs.declared.header.Psid.{Psid}
-use Rattle.psid.specs.Reading.{psid_read}
 use Rattle.sid_run.specs.State.{RunnerState, loaded, sid_registers, most_steps}
 
 -- the address at which a call begins
@@ -45,20 +44,8 @@ pub record HasSubtune (psid : Psid) (subtune : ℕ) : Type 0 where
   pub first : 1 ≤ subtune
   pub last : subtune ≤ psid.header.songs
 
--- init and so many frames return, and leave these registers
-pub record Plays (bytes : List ℕ) (subtune frames : ℕ) : Type 0 where
-  pub psid : Psid
-  pub reads : psid_read bytes ≡ Ok psid
-  pub has : HasSubtune psid subtune
-  pub registers : List (List ℕ)
-  pub after : Machine
-  pub calls : FirstCalls (loaded psid) (subtune - 1) (frames + 1) registers after
-
--- one of the calls does not return
-pub record StopsIn (bytes : List ℕ) (subtune frames : ℕ) : Type 0 where
-  pub psid : Psid
-  pub reads : psid_read bytes ≡ Ok psid
-  pub has : HasSubtune psid subtune
+-- one of the calls, init of the subtune and so many frames, does not return; each call before it does
+pub record StopsIn (psid : Psid) (subtune frames : ℕ) : Type 0 where
   pub call : ℕ
   pub within : call ≤ frames
   pub registers : List (List ℕ)

@@ -1,99 +1,117 @@
--- What a run did before its last line is printed, as the parts of the top call tell each other.
-use Rattle.std.specs.Prelude.{◌≡◌, ℕ, ◌+◌, ◌≤◌, List, [], ◌++◌, ◌⊎◌, Option, Some, None, Result, Ok, Err, Vec, length, take}
-use Rattle.std.specs.Global.{Global}
-use Rattle.song_model.specs.declared.songs.Song.{Song}
-use Rattle.goat_io.specs.Files.{Files, with_file, IsWrittenInPart}
-use Rattle.goat_io.specs.Written.{told_with_piece}
+-- What the parts of the top call promise each other: how a stage, a job, and a run but for its last line end.
+use Rattle.std.specs.Prelude.{◌≡◌, ℕ, ◌+◌, ◌≤◌, List, [], ◌∷◌, ◌++◌, Some, length, take}
+use Rattle.std.specs.List.{concat}
+use Rattle.goat_io.specs.Files.{Files, file_of, told_with_file, IsAbsent, IsAbove, IsWrittenInPart}
 use Rattle.cpu6502.specs.declared.machine.Machine.{Machine}
 use Rattle.cpu6502.specs.declared.stop.CallStop.{CallStop}
 use Rattle.sid_run.specs.State.{RunnerState}
-use Rattle.goat_cli.specs.declared.ending.Ending.{Ending}
-use Rattle.goat_cli.specs.declared.ending.Ending.TheVariants.{Wrote, Shown, SinkFault, Stopped, NoMemory}
-use Rattle.goat_cli.specs.Ending.{status_of, line_of}
-use Rattle.goat_cli.specs.declared.refusal.Refusal.{Refusal}
-use Rattle.goat_cli.specs.Refusal.{ending_of}
-use Rattle.goat_cli.specs.Lines.{no_memory_line}
-use Rattle.goat_cli.specs.Words.{Job, output_of}
 use Rattle.goat_cli.specs.Calls.{FirstCalls, MeetsStopAt}
-use Rattle.goat_cli.specs.RegisterText.{register_text}
-use Rattle.goat_cli.specs.Outcome.{Outcome, JobOutcome, SongOutcome, RunOutcome, MadeOf, files_after}
-use Rattle.goat_cli.specs.Rows.{IsOrdinary, IsPrinted, IsDoable, SpellsOne, OfFile, JobText, TextOf, MayPrint, CallsShown, CallsText, LeavesFiles}
+use Rattle.goat_cli.specs.RegisterText.{register_lines}
+use Rattle.goat_cli.specs.Lines.{missing_line, too_long_line, read_fault_line, write_fault_line, stop_line, wrote_line}
+use Rattle.goat_cli.specs.Last.{Last, Says, Silent, SinkFailed, Wants}
+use Rattle.goat_cli.specs.Stages.{Stage, Ends, status_of}
+use Rattle.goat_cli.specs.Stands.{FolderState, SinkState, AreFiles, Counted, FolderStays, Appends, FailsAfter, Account, Printing, TellsWant}
+
+-- ---- a stage
+
+-- the stage ends the run with this line, or memory is wanting
+pub data Refuses (files : Files) (stage : Stage) (last : Last) : Type 0 where
+  ends : (line : List ℕ) → Ends files stage (line ∷ []) → last ≡ Says (status_of stage) line → Refuses files stage last
+  wanting : last ≡ Wants → Refuses files stage last
+
+-- a file was read: the folder's, if it tells its files, and else some file
+pub record WasRead (name : List ℕ) (limit : ℕ) (before after : FolderState) (bytes : List ℕ) : Type 0 where
+  pub files : Files
+  pub are_files : AreFiles before.told files
+  pub found : file_of files name ≡ Some bytes
+  pub fits : length bytes ≤ limit
+  pub stays : FolderStays before after
+
+-- a file was not read
+pub data ReadFails (name : List ℕ) (limit : ℕ) (before after : FolderState) (last : Last) : Type 0 where
+  missing : (files : Files) → AreFiles before.told files → IsAbsent name files → last ≡ Says 2 (missing_line name) → after.told ≡ before.told → Counted 2 before.counts after.counts → ReadFails name limit before after last
+  too_long : (files : Files) → AreFiles before.told files → IsAbove limit name files → last ≡ Says 3 (too_long_line name) → after.told ≡ before.told → Counted 3 before.counts after.counts → ReadFails name limit before after last
+  failed : last ≡ Says 4 (read_fault_line name) → after.told ≡ before.told → Counted 4 before.counts after.counts → ReadFails name limit before after last
+  wanting : last ≡ Wants → FolderStays before after → ReadFails name limit before after last
+
+-- a file was written, or not
+pub data WriteEnds (name bytes : List ℕ) (before after : FolderState) (last : Last) : Type 0 where
+  wrote : last ≡ Says 0 (wrote_line (length bytes)) → after.told ≡ told_with_file before.told name bytes → Counted 0 before.counts after.counts → WriteEnds name bytes before after last
+  failed : last ≡ Says 9 (write_fault_line name) → IsWrittenInPart before.told after.told name bytes → Counted 9 before.counts after.counts → WriteEnds name bytes before after last
+  wanting : last ≡ Wants → FolderStays before after → WriteEnds name bytes before after last
 
 -- ---- the calls of a PSID file
 
+-- the put of these bytes failed
+pub record FailsIn (bytes : List ℕ) (before after : SinkState) : Type 0 where
+  pub kept : ℕ
+  pub fails : FailsAfter (take kept bytes) before after
+
 -- what became of init and so many frames of a loaded file
-pub data CallsEnd (file : RunnerState) (subtune frames : ℕ) (before after : Option (List ℕ)) (ending : Ending) : Type 0 where
-  played : (registers : List (List ℕ)) (machine : Machine) → FirstCalls file subtune (frames + 1) registers machine → ending ≡ Shown → after ≡ told_with_piece before (register_text registers) → CallsEnd file subtune frames before after ending
-  stopped : (call : ℕ) (registers : List (List ℕ)) (reason : CallStop) → call ≤ frames → MeetsStopAt file subtune call registers reason → ending ≡ Stopped reason call → after ≡ told_with_piece before (register_text registers) → CallsEnd file subtune frames before after ending
-  cut_short : (calls kept : ℕ) (registers : List (List ℕ)) (machine : Machine) → calls ≤ frames + 1 → FirstCalls file subtune calls registers machine → (ending ≡ SinkFault) ⊎ (ending ≡ NoMemory) → after ≡ told_with_piece before (take kept (register_text registers)) → CallsEnd file subtune frames before after ending
+pub data CallsEnd (file : RunnerState) (subtune frames : ℕ) (last : Last) (before after : SinkState) : Type 0 where
+  played : (registers : List (List ℕ)) (machine : Machine) → FirstCalls file subtune (frames + 1) registers machine → last ≡ Silent → Appends (concat (register_lines registers)) before after → CallsEnd file subtune frames last before after
+  stopped : (call : ℕ) (registers : List (List ℕ)) (reason : CallStop) → call ≤ frames → MeetsStopAt file subtune call registers reason → last ≡ Says 13 (stop_line reason call) → Appends (concat (register_lines registers)) before after → CallsEnd file subtune frames last before after
+  failed : (calls kept : ℕ) (earlier : List (List ℕ)) (line : List ℕ) (registers : List (List ℕ)) (machine : Machine) → calls ≤ frames + 1 → FirstCalls file subtune calls registers machine → register_lines registers ≡ earlier ++ line ∷ [] → last ≡ SinkFailed → FailsAfter (concat earlier ++ take kept line) before after → CallsEnd file subtune frames last before after
+  wanting : (calls : ℕ) (earlier : List (List ℕ)) (line : List ℕ) (registers : List (List ℕ)) (machine : Machine) → calls ≤ frames + 1 → FirstCalls file subtune calls registers machine → register_lines registers ≡ earlier ++ line ∷ [] → last ≡ Wants → Appends (concat earlier) before after → CallsEnd file subtune frames last before after
 
--- what became of a run of a PSID file
-pub record ShowEnds (subtune frames : ℕ) (bytes : List ℕ) (before after : Option (List ℕ)) (ending : Ending) : Type 0 where
-  pub front : List ℕ
-  pub shown : after ≡ told_with_piece before front
-  pub outcome : IsOrdinary (status_of ending) → RunOutcome subtune frames bytes (status_of ending) (front ++ line_of ending) None
-  pub begins : (front ≡ []) ⊎ ((text : List ℕ) × (kept : ℕ) × CallsShown subtune frames bytes text × (front ≡ take kept text))
+-- ---- a run but for its last line
 
--- a beginning of the lines of calls was printed, or nothing
-abbrev pub Begins : Job → List ℕ → List ℕ → Type 0
-Begins job bytes front = (front ≡ []) ⊎ ((text : List ℕ) × (kept : ℕ) × CallsText job bytes text × (front ≡ take kept text))
+-- the earlier lines were printed, and the last one is still to be
+pub record HasLast (words : List (List ℕ)) (files : Files) (status : ℕ) (line : List ℕ) (folder folder_after : FolderState) (sink sink_after : SinkState) : Type 0 where
+  pub earlier : List (List ℕ)
+  pub account : Account words files status (earlier ++ line ∷ []) folder.told folder_after.told
+  pub counted : Counted status folder.counts folder_after.counts
+  pub appends : Appends (concat earlier) sink sink_after
 
--- ---- a job for a song
+-- all lines were printed, and the job is done
+pub record IsSilent (words : List (List ℕ)) (files : Files) (folder folder_after : FolderState) (sink sink_after : SinkState) : Type 0 where
+  pub lines : List (List ℕ)
+  pub account : Account words files 0 lines folder.told folder_after.told
+  pub counted : Counted 0 folder.counts folder_after.counts
+  pub appends : Appends (concat lines) sink sink_after
 
--- what became of a file that was made, or of the refusal to make one
-pub data WritesMade (made : Result (Vec ℕ Global) Refusal) (output : List ℕ) (files : Files) (files_now : Option Files) (ending : Ending) : Type 0 where
-  refused : (refusal : Refusal) → made ≡ Err refusal → ending ≡ ending_of refusal → files_now ≡ Some files → WritesMade made output files files_now ending
-  wrote : (file : Vec ℕ Global) → made ≡ Ok file → ending ≡ Wrote (length file.items) → files_now ≡ Some (with_file files output file.items) → WritesMade made output files files_now ending
-  failed : (file : Vec ℕ Global) → made ≡ Ok file → status_of ending ≡ 9 → IsWrittenInPart (Some files) files_now output file.items → WritesMade made output files files_now ending
-  wanting : ending ≡ NoMemory → files_now ≡ Some files → WritesMade made output files files_now ending
+-- the put of a line failed
+pub record HasFailed (words : List (List ℕ)) (files : Files) (folder folder_after : FolderState) (sink sink_after : SinkState) : Type 0 where
+  pub earlier : List (List ℕ)
+  pub later : List (List ℕ)
+  pub line : List ℕ
+  pub kept : ℕ
+  pub printing : Printing words files (earlier ++ line ∷ later) folder folder_after
+  pub fails : FailsAfter (concat earlier ++ take kept line) sink sink_after
 
--- a name in the ending is that of the file
-abbrev pub SaysMade : List ℕ → Ending → Type 0
-SaysMade output ending = (job : Job) → output_of job ≡ Some output → IsPrinted (status_of ending) → JobText job (status_of ending) (line_of ending)
+-- memory was wanting, for a line or before the first one
+pub data IsWanting (words : List (List ℕ)) (files : Files) (folder folder_after : FolderState) (sink sink_after : SinkState) : Type 0 where
+  for_line : (earlier later : List (List ℕ)) (line : List ℕ) → Printing words files (earlier ++ line ∷ later) folder folder_after → Appends (concat earlier) sink sink_after → IsWanting words files folder folder_after sink sink_after
+  first : FolderStays folder folder_after → Appends [] sink sink_after → IsWanting words files folder folder_after sink sink_after
 
--- what became of the file that a job makes of a song
-pub record SongEnds (built : Song → Type 0) (makes : Song → List ℕ → Type 0) (output bytes : List ℕ) (files : Files) (files_now : Option Files) (ending : Ending) : Type 0 where
-  pub outcome : IsOrdinary (status_of ending) → (write : Option (List ℕ × List ℕ)) × SongOutcome built makes output bytes (status_of ending) (line_of ending) write × (files_now ≡ Some (files_after files write))
-  pub at_the_end : status_of ending ≡ 9 → SpellsOne built bytes
-  pub leaves : (files_now ≡ Some files) ⊎ ((file : List ℕ) × (kept : ℕ) × MadeOf built makes bytes file × (files_now ≡ Some (with_file files output (take kept file))))
+abbrev pub IsOver : List (List ℕ) → Files → Last → FolderState → FolderState → SinkState → SinkState → Type 0
+IsOver words files (Says status line) folder folder_after sink sink_after = HasLast words files status line folder folder_after sink sink_after
+IsOver words files Silent folder folder_after sink sink_after = IsSilent words files folder folder_after sink sink_after
+IsOver words files SinkFailed folder folder_after sink sink_after = HasFailed words files folder folder_after sink sink_after
+IsOver words files Wants folder folder_after sink sink_after = IsWanting words files folder folder_after sink sink_after
+
+-- a run is over but for its last line; some of the folder's files stand for it
+pub record RunEnds (words : List (List ℕ)) (last : Last) (folder folder_after : FolderState) (sink sink_after : SinkState) : Type 0 where
+  pub files : Files
+  pub are_files : AreFiles folder.told files
+  pub is_over : IsOver words files last folder folder_after sink sink_after
 
 -- ---- the last line
 
--- a beginning of a line was printed, or of the line that memory is wanting
-pub record PrintsPart (line : List ℕ) (before after : Option (List ℕ)) : Type 0 where
-  pub kept : ℕ
-  pub part : (after ≡ told_with_piece before (take kept line)) ⊎ (after ≡ told_with_piece before (take kept no_memory_line))
+-- the line was printed, and the answer is its status; or its put failed; or memory was wanting for it
+pub data PrintsLine (status : ℕ) (line : List ℕ) (answer : ℕ) (before after : SinkState) : Type 0 where
+  whole : answer ≡ status → Appends line before after → PrintsLine status line answer before after
+  failed : (kept : ℕ) → answer ≡ 10 → FailsAfter (take kept line) before after → PrintsLine status line answer before after
+  wanting : TellsWant [] answer before after → PrintsLine status line answer before after
 
--- ---- a job, and a run
+-- nothing was printed, and this is the answer
+pub record PrintsNothing (status answer : ℕ) (before after : SinkState) : Type 0 where
+  pub answer_is : answer ≡ status
+  pub same : after ≡ before
 
--- what became of a job with the bytes of its file, where the folder tells its files
-pub record JobEnds (job : Job) (bytes : List ℕ) (files : Files) (files_now : Option Files) (before after : Option (List ℕ)) (ending : Ending) : Type 0 where
-  pub front : List ℕ
-  pub shown : after ≡ told_with_piece before front
-  pub outcome : IsOrdinary (status_of ending) → (write : Option (List ℕ × List ℕ)) × JobOutcome job bytes (status_of ending) (front ++ line_of ending) write × (files_now ≡ Some (files_after files write))
-  pub at_the_end : status_of ending ≡ 9 → IsDoable job bytes
-  pub text : IsPrinted (status_of ending) → JobText job (status_of ending) (front ++ line_of ending)
-  pub begins : Begins job bytes front
-  pub leaves : (files_now ≡ Some files) ⊎ ((text output file : List ℕ) × (kept : ℕ) × JobOutcome job bytes 0 text (Some (output, file)) × (files_now ≡ Some (with_file files output (take kept file))))
-
--- what a job printed, whether the folder tells its files or not
-pub record JobSays (job : Job) (before after : Option (List ℕ)) (ending : Ending) : Type 0 where
-  pub front : List ℕ
-  pub shown : after ≡ told_with_piece before front
-  pub text : IsPrinted (status_of ending) → JobText job (status_of ending) (front ++ line_of ending)
-
--- what became of a run, where the folder tells its files
-pub record RunEnds (words : List (List ℕ)) (files : Files) (files_now : Option Files) (before after : Option (List ℕ)) (ending : Ending) : Type 0 where
-  pub front : List ℕ
-  pub shown : after ≡ told_with_piece before front
-  pub outcome : IsOrdinary (status_of ending) → (write : Option (List ℕ × List ℕ)) × Outcome words files (status_of ending) (front ++ line_of ending) write × (files_now ≡ Some (files_after files write))
-  pub at_the_end : status_of ending ≡ 9 → OfFile words files IsDoable
-  pub begins : (text : List ℕ) × (kept : ℕ) × MayPrint words files text × (front ≡ take kept text)
-  pub last_line : IsPrinted (status_of ending) → MayPrint words files (front ++ line_of ending)
-  pub leaves : LeavesFiles words files files_now
-
--- what a run printed, whether the folder tells its files or not
-pub record RunSays (words : List (List ℕ)) (before after : Option (List ℕ)) (ending : Ending) : Type 0 where
-  pub front : List ℕ
-  pub shown : after ≡ told_with_piece before front
-  pub text : IsPrinted (status_of ending) → TextOf words (status_of ending) (front ++ line_of ending)
+-- what became of the last line
+abbrev pub Prints : Last → ℕ → SinkState → SinkState → Type 0
+Prints (Says status line) answer before after = PrintsLine status line answer before after
+Prints Silent answer before after = PrintsNothing 0 answer before after
+Prints SinkFailed answer before after = PrintsNothing 10 answer before after
+Prints Wants answer before after = TellsWant [] answer before after

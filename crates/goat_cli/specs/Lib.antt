@@ -1,18 +1,24 @@
+-- To believe: the command line, the stages of a job, what a job does, and what stands after a run.
 pub mod Place
 pub mod Words
-pub mod Job
-pub mod SilentParts
-pub mod Image
+pub mod Lines
+pub mod RegisterText
+pub mod Calls
+pub mod Stages
 pub mod Confined
-pub mod SilentRun
 pub mod Faithful
 pub mod Packed
-pub mod Calls
-pub mod RegisterText
-pub mod Lines
-pub mod Ending
+pub mod Done
 pub mod Outcome
-pub mod Rows
-pub mod Refusal
+pub mod Due
+pub mod Stands
+pub mod Answers
+-- Claimed: laws of these definitions.
+pub mod Laws
+-- Inner: what the parts of the top call promise each other.
+pub mod Job
+pub mod Last
 pub mod Endings
-pub mod PlayedFiles
+pub mod SilentParts
+pub mod Image
+pub mod SilentRun

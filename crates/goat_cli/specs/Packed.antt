@@ -10,7 +10,7 @@ use Rattle.goat_cli.specs.Faithful.{IsFaithful}
 abbrev pub raw_file : ℕ → List ℕ → List ℕ
 raw_file address image = (address % 256) ∷ (address / 256) ∷ image
 
--- the header of a song's PSID file: init at the image's address, play three bytes behind it, the playable subtunes, of which the first begins, a call at each vertical blank, the song's texts, PAL and 6581
+-- the header of a song's PSID file: init at the image's address, play three bytes after it, the playable subtunes, of which the first begins, a call at each vertical blank, the song's texts, PAL and 6581
 abbrev pub song_header : Song → ℕ → Header
 song_header song address = record {
   init = address;
@@ -33,9 +33,10 @@ abbrev pub packed_file : Bool → Song → ℕ → List ℕ → List ℕ
 packed_file true song address image = psid_file song address image
 packed_file false song address image = raw_file address image
 
--- a packed file of a song: the file of an image of at most 64 bytes that plays the song
+-- a packed file of a song: the file of an image of at most 64 bytes, which ends at or below $D000, and plays the song
 pub record IsPackedFile (psid : Bool) (address zero_page : ℕ) (song : Song) (file : List ℕ) : Type 0 where
   pub image : List ℕ
   pub holds : file ≡ packed_file psid song address image
   pub small : length image ≤ 64
+  pub below : address + length image ≤ 0xD000
   pub faithful : IsFaithful image address zero_page song

@@ -31,66 +31,76 @@ pub record IsNumberWord (limit : ℕ) (word : List ℕ) (number : ℕ) : Type 0 
 abbrev pub frame_limit : ℕ
 frame_limit = 100000
 
+-- the greatest number that a subtune may be asked for by
+abbrev pub subtune_limit : ℕ
+subtune_limit = 255
+
 -- what the program is asked to do: pack the song in one file into another, a PSID file or a raw one; copy it into another file; or run a PSID file, from a subtune counted from 1, for so many frames
 pub data Job : Type 0 where
   Pack : (input output : List ℕ) (psid : Bool) (address zero_page : ℕ) → Job
   Copy : (input output : List ℕ) → Job
   Run : (input : List ℕ) (subtune frames : ℕ) → Job
 
--- the file that a job reads
-abbrev pub input_of : Job → List ℕ
-input_of (Pack input output psid address zero_page) = input
-input_of (Copy input output) = input
-input_of (Run input subtune frames) = input
-
--- the file that it writes, if it writes one
-abbrev pub output_of : Job → Option (List ℕ)
-output_of (Pack input output psid address zero_page) = Some output
-output_of (Copy input output) = Some output
-output_of (Run input subtune frames) = None
-
 -- the word for the format of a packed file
 abbrev pub format_word : Bool → List ℕ
 format_word true = codes "psid"
 format_word false = codes "raw"
 
--- the words are `pack IN OUT psid ADDRESS ZP`, or `raw` in place of `psid`
-pub record IsPackForm (words : List (List ℕ)) (input output : List ℕ) (psid : Bool) (address zero_page : ℕ) : Type 0 where
+-- the arguments are `IN OUT psid ADDRESS ZP`, or `raw` in place of `psid`
+pub record ArePackArguments (arguments : List (List ℕ)) (input output : List ℕ) (psid : Bool) (address zero_page : ℕ) : Type 0 where
   pub address_word : List ℕ
   pub zero_page_word : List ℕ
-  pub form : words ≡ codes "pack" ∷ input ∷ output ∷ format_word psid ∷ address_word ∷ zero_page_word ∷ []
+  pub form : arguments ≡ input ∷ output ∷ format_word psid ∷ address_word ∷ zero_page_word ∷ []
   pub in_named : input ≢ []
   pub out_named : output ≢ []
   pub address_spelled : IsAddressWord address_word address
   pub zero_page_spelled : IsZeroPageWord zero_page_word zero_page
 
--- the words are `copy IN OUT`
-pub record IsCopyForm (words : List (List ℕ)) (input output : List ℕ) : Type 0 where
-  pub form : words ≡ codes "copy" ∷ input ∷ output ∷ []
+-- the arguments are `IN OUT`
+pub record AreCopyArguments (arguments : List (List ℕ)) (input output : List ℕ) : Type 0 where
+  pub form : arguments ≡ input ∷ output ∷ []
   pub in_named : input ≢ []
   pub out_named : output ≢ []
 
--- the words are `run IN SUBTUNE FRAMES`, with a subtune of at most 255 and at most 100,000 frames
-pub record IsRunForm (words : List (List ℕ)) (input : List ℕ) (subtune frames : ℕ) : Type 0 where
+-- the arguments are `IN SUBTUNE FRAMES`, with a subtune of at most 255 and at most 100,000 frames
+pub record AreRunArguments (arguments : List (List ℕ)) (input : List ℕ) (subtune frames : ℕ) : Type 0 where
   pub subtune_word : List ℕ
   pub frames_word : List ℕ
-  pub form : words ≡ codes "run" ∷ input ∷ subtune_word ∷ frames_word ∷ []
+  pub form : arguments ≡ input ∷ subtune_word ∷ frames_word ∷ []
   pub in_named : input ≢ []
-  pub subtune_spelled : IsNumberWord 255 subtune_word subtune
+  pub subtune_spelled : IsNumberWord subtune_limit subtune_word subtune
   pub frames_spelled : IsNumberWord frame_limit frames_word frames
 
--- the words are of a form, and this is the job that they name
-abbrev pub WordsOf : List (List ℕ) → Job → Type 0
-WordsOf words (Pack input output psid address zero_page) = IsPackForm words input output psid address zero_page
-WordsOf words (Copy input output) = IsCopyForm words input output
-WordsOf words (Run input subtune frames) = IsRunForm words input subtune frames
+-- the first word of a job's line, by which its command is told
+abbrev pub command_of : Job → List ℕ
+command_of (Pack input output psid address zero_page) = codes "pack"
+command_of (Copy input output) = codes "copy"
+command_of (Run input subtune frames) = codes "run"
+
+-- the words after it
+abbrev pub AreArgumentsOf : Job → List (List ℕ) → Type 0
+AreArgumentsOf (Pack input output psid address zero_page) arguments = ArePackArguments arguments input output psid address zero_page
+AreArgumentsOf (Copy input output) arguments = AreCopyArguments arguments input output
+AreArgumentsOf (Run input subtune frames) arguments = AreRunArguments arguments input subtune frames
+
+-- the words name this job
+pub record WordsOf (words : List (List ℕ)) (job : Job) : Type 0 where
+  pub arguments : List (List ℕ)
+  pub words_are : words ≡ command_of job ∷ arguments
+  pub are_arguments : AreArgumentsOf job arguments
 
 -- no form of the command line has these words
 abbrev pub IsNoForm : List (List ℕ) → Type 0
 IsNoForm words = (job : Job) → ¬ WordsOf words job
 
--- an image can stand at the job's address, if it has one, and its frames are not too many
+-- the name of the file that a job writes, if it writes one
+abbrev pub output_of : Job → Option (List ℕ)
+output_of (Pack input output psid address zero_page) = Some output
+output_of (Copy input output) = Some output
+output_of _ = None
+
+-- what the words of a job say of its numbers: an image can stand at the address, and the frames are not too many
 abbrev pub KeepsLimits : Job → Type 0
 KeepsLimits (Pack input output psid address zero_page) = IsAddress address
-KeepsLimits (Copy input output) = Unit {0}
 KeepsLimits (Run input subtune frames) = frames ≤ frame_limit
+KeepsLimits _ = Unit {0}

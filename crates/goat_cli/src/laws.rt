@@ -1,9 +1,25 @@
 //! Facts about the definitions, each the contract of a function that does nothing.
 
-ghost use Rattle.goat_cli.specs.PlayedFiles.{PackedFilesPlay, RunsHaveOneOutcome};
+ghost use Rattle.goat_cli.specs.Laws.{WordsNameOneJob, OutcomesAreDue, OneStatusIsDue, OneTextIsPrinted, StatusesHaveCauses, PackedFilesPlay};
 
-/// A run of a packed PSID file plays to its end, and prints the registers of the song's trace and nothing else.
+/// The words of a line name one job at most.
+pub fn words_name_one_job()
+    ensures { WordsNameOneJob }
+{}
+
+/// A run has one outcome: one status and one name to write under, and, where nothing is written, one text.
+pub fn runs_have_one_outcome()
+    ensures due { OutcomesAreDue }
+    ensures status { OneStatusIsDue }
+    ensures text { OneTextIsPrinted }
+{}
+
+/// Each status comes of its own cause, and of no other.
+pub fn statuses_have_causes()
+    ensures { StatusesHaveCauses }
+{}
+
+/// A run of a packed PSID file goes to its end, and prints the registers of the song's trace and nothing else.
 pub fn packed_files_play_their_song()
-    ensures play { PackedFilesPlay }
-    ensures alone { RunsHaveOneOutcome }
+    ensures { PackedFilesPlay }
 {}

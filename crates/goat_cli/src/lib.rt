@@ -10,19 +10,22 @@
 //! song sounds like and on `cpu6502` for what machine code does.
 #![tactic(auto)]
 
-mod ending;
+mod arguments;
+mod commands;
 mod image;
 /// Facts about the definitions.
 pub mod laws;
 mod line;
-mod made;
+mod packed;
+mod program;
 mod refusal;
-mod shown;
 mod silent;
+mod stages;
 mod top;
 mod words;
 
 pub use image::silent_image;
+pub use program::run_program;
 pub use silent::is_silent;
 pub use top::goat;
 pub use words::{Job, WordsFault, parse_words};

@@ -1,9 +1,9 @@
 //! The lines that a run prints.
 
-ghost use Rattle.std.specs.Prelude.{◌≡◌, ◌++◌, [], codes, decimal, IfOk, OnOk};
+ghost use Rattle.std.specs.Prelude.{◌≡◌, ◌++◌, [], codes, decimal, IfOk, OnOk, OnErr};
 ghost use Rattle.goat_cli.specs.Lines.{address_digits};
 
-use crate::ending::Ending;
+use crate::refusal::{Refusal, Report};
 use cpu6502::{CallStop, Stop};
 use gts5::SongFault;
 use psid::PsidFault;
@@ -13,6 +13,9 @@ use std::marker::Model;
 
 /// Room for the words around a name or a number, and for a line of registers.
 const ROOM_FOR_WORDS: usize = 64;
+
+/// The words of a command line that has no form.
+const USAGE: &[u8] = b"usage: goat check|trace|pack|run|edit|copy|selftest";
 
 /// The digits of a call's number in a line of registers.
 const CALL_DIGITS: usize = 6;
@@ -32,7 +35,7 @@ impl Model for Line {
 }
 
 impl Line {
-    ghost use Rattle.goat_cli.specs.Ending.{line_of};
+    ghost use Rattle.goat_cli.specs.Last.{last_of, last_word, IsSaid, Says};
     ghost use Rattle.goat_cli.specs.Lines.{wrote_line, song_fault_line, psid_fault_line, no_subtune_line, stop_line, stop_text};
     ghost use Rattle.goat_cli.specs.RegisterText.{register_line, call_digits};
     ghost use Rattle.hex.specs.Hex.{encode_lower};
@@ -54,28 +57,40 @@ impl Line {
         self.text.as_slice()
     }
 
-    /// Makes the line the one that tells of an ending.
-    pub fn tell(&mut self, ending: &Ending) -> Result<(), NoMemory>
-        ensures { OnOk result (self.new ≡ line_of ending.now) }
+    /// Makes the line the last one of a run that still has one, and answers the status that goes with it.
+    ///
+    /// # Errors
+    ///
+    /// Out of memory.
+    pub fn tell(&mut self, ended: &Result<Report, Refusal>) -> Result<u8, NoMemory>
+        requires { IsSaid (last_word ended.now) }
+        ensures told { IfOk result (λ status. last_word ended.now ≡ Says status self.new) }
+        ensures untold { OnErr result (IsSaid (last_word ended.now)) }
     {
-        match ending {
-            Ending::Wrote(count) => self.tell_count(*count),
-            Ending::Shown | Ending::SinkFault => self.set(b"", b"", b""),
-            Ending::Usage => self.set(
-                b"usage: goat check|trace|pack|run|edit|copy|selftest",
-                b"",
-                b"\n",
-            ),
-            Ending::Missing(name) => self.set(b"missing: ", name.as_bytes(), b"\n"),
-            Ending::TooLong(name) => self.set(b"too long: ", name.as_bytes(), b"\n"),
-            Ending::ReadFault(name) => self.set(b"read fault: ", name.as_bytes(), b"\n"),
-            Ending::NotASong(fault) => self.tell_song_fault(*fault),
-            Ending::WriteFault(name) => self.set(b"write fault: ", name.as_bytes(), b"\n"),
-            Ending::NoSubtune { asked, songs } => self.tell_no_subtune(*asked, *songs),
-            Ending::NotAPsid(fault) => self.tell_psid_fault(*fault),
-            Ending::Stopped { reason, call } => self.tell_stop(*reason, *call),
-            Ending::NoMemory => self.set(b"no memory", b"", b"\n"),
-            Ending::NotBuilt => self.set(b"not built", b"", b"\n"),
+        match ended {
+            Ok(Report::Wrote(count)) => self.tell_count(*count),
+            Ok(Report::Shown) => unreachable!(),
+            Err(refusal) => self.tell_refusal(refusal),
+        }
+    }
+
+    /// Makes the line the one that tells of a refusal, and answers its status.
+    fn tell_refusal(&mut self, refusal: &Refusal) -> Result<u8, NoMemory>
+        requires { IsSaid (last_of refusal.now) }
+        ensures { IfOk result (λ status. last_of refusal.now ≡ Says status self.new) }
+    {
+        match refusal {
+            Refusal::Usage => self.say(1, USAGE, b"", b"\n"),
+            Refusal::Missing(name) => self.say(2, b"missing: ", name.as_bytes(), b"\n"),
+            Refusal::TooLong(name) => self.say(3, b"too long: ", name.as_bytes(), b"\n"),
+            Refusal::ReadFault(name) => self.say(4, b"read fault: ", name.as_bytes(), b"\n"),
+            Refusal::NotASong(fault) => self.tell_song_fault(*fault),
+            Refusal::WriteFault(name) => self.say(9, b"write fault: ", name.as_bytes(), b"\n"),
+            Refusal::NoSubtune { asked, songs } => self.tell_no_subtune(*asked, *songs),
+            Refusal::NotAPsid(fault) => self.tell_psid_fault(*fault),
+            Refusal::Stopped { reason, call } => self.tell_stop(*reason, *call),
+            Refusal::NotBuilt => self.say(15, b"not built", b"", b"\n"),
+            Refusal::SinkFault | Refusal::NoMemory => unreachable!(),
         }
     }
 
@@ -93,72 +108,79 @@ impl Line {
         self.add(b"\n")
     }
 
-    fn tell_song_fault(&mut self, fault: SongFault) -> Result<(), NoMemory>
-        ensures { OnOk result (self.new ≡ song_fault_line fault) }
+    fn tell_song_fault(&mut self, fault: SongFault) -> Result<u8, NoMemory>
+        ensures { IfOk result (λ status. (status ≡ 5) × (self.new ≡ song_fault_line fault)) }
     {
         match fault {
-            SongFault::NotGts5 => self.set(b"not a song: bad magic", b"", b"\n"),
+            SongFault::NotGts5 => self.say(5, b"not a song: bad magic", b"", b"\n"),
             SongFault::Truncated { offset } => self.tell_place(
+                5,
                 b"not a song: truncated at ",
                 offset,
             ),
             SongFault::OutOfLimit { offset } => {
-                self.tell_place(b"not a song: over limit at ", offset)
+                self.tell_place(5, b"not a song: over limit at ", offset)
             }
-            SongFault::BadOrder { offset } => self.tell_place(b"not a song: bad order at ", offset),
-            SongFault::BadRow { offset } => self.tell_place(b"not a song: bad row at ", offset),
-            SongFault::NoMemory => self.set(b"no memory", b"", b"\n"),
+            SongFault::BadOrder { offset } => self.tell_place(
+                5,
+                b"not a song: bad order at ",
+                offset,
+            ),
+            SongFault::BadRow { offset } => self.tell_place(5, b"not a song: bad row at ", offset),
+            SongFault::NoMemory => self.say(5, b"no memory", b"", b"\n"),
         }
     }
 
-    fn tell_psid_fault(&mut self, fault: PsidFault) -> Result<(), NoMemory>
-        ensures { OnOk result (self.new ≡ psid_fault_line fault) }
+    fn tell_psid_fault(&mut self, fault: PsidFault) -> Result<u8, NoMemory>
+        ensures { IfOk result (λ status. (status ≡ 12) × (self.new ≡ psid_fault_line fault)) }
     {
         match fault {
-            PsidFault::NotPsid => self.set(b"not a PSID: bad magic", b"", b"\n"),
-            PsidFault::Truncated => self.set(b"not a PSID: truncated", b"", b"\n"),
-            PsidFault::Unsupported => self.set(b"not a PSID: unsupported", b"", b"\n"),
-            PsidFault::BadField => self.set(b"not a PSID: bad field", b"", b"\n"),
-            PsidFault::NoMemory => self.set(b"no memory", b"", b"\n"),
+            PsidFault::NotPsid => self.say(12, b"not a PSID: bad magic", b"", b"\n"),
+            PsidFault::Truncated => self.say(12, b"not a PSID: truncated", b"", b"\n"),
+            PsidFault::Unsupported => self.say(12, b"not a PSID: unsupported", b"", b"\n"),
+            PsidFault::BadField => self.say(12, b"not a PSID: bad field", b"", b"\n"),
+            PsidFault::NoMemory => self.say(12, b"no memory", b"", b"\n"),
         }
     }
 
-    fn tell_no_subtune(&mut self, asked: u8, songs: u16) -> Result<(), NoMemory>
-        ensures { OnOk result (self.new ≡ no_subtune_line asked songs) }
+    fn tell_no_subtune(&mut self, asked: u8, songs: u16) -> Result<u8, NoMemory>
+        ensures { IfOk result (λ status. (status ≡ 11) × (self.new ≡ no_subtune_line asked songs)) }
     {
         self.set(b"no such subtune: ", b"", b"")?;
         self.add_number(u32::from(asked))?;
         self.add(b" of ")?;
         self.add_number(u32::from(songs))?;
-        self.add(b"\n")
+        self.add(b"\n")?;
+        Ok(11)
     }
 
-    fn tell_stop(&mut self, reason: CallStop, call: u32) -> Result<(), NoMemory>
-        ensures { OnOk result (self.new ≡ stop_line reason call) }
+    fn tell_stop(&mut self, reason: CallStop, call: u32) -> Result<u8, NoMemory>
+        ensures { IfOk result (λ status. (status ≡ 13) × (self.new ≡ stop_line reason call)) }
     {
         self.set(b"machine stopped: ", b"", b"")?;
         self.add_stop(reason)?;
         self.add(b" in call ")?;
         self.add_number(call)?;
-        self.add(b"\n")
+        self.add(b"\n")?;
+        Ok(13)
     }
 
-    // Makes the line these words and a place in a file.
-    fn tell_place(&mut self, front: &[u8], offset: u32) -> Result<(), NoMemory>
-        ensures { OnOk result (self.new ≡ front.now ++ decimal offset ++ codes "\n") }
+    /// Makes the line these words and a place in a file, and answers the status.
+    fn tell_place(&mut self, status: u8, front: &[u8], offset: u32) -> Result<u8, NoMemory>
+        ensures { IfOk result (λ told. (told ≡ status) × (self.new ≡ front.now ++ decimal offset ++ codes "\n")) }
     {
         let mut digits = itoa::Buffer::new();
-        self.set(front, digits.format(offset).as_bytes(), b"\n")
+        self.say(status, front, digits.format(offset).as_bytes(), b"\n")
     }
 
-    fn tell_count(&mut self, count: usize) -> Result<(), NoMemory>
-        ensures { OnOk result (self.new ≡ wrote_line count) }
+    fn tell_count(&mut self, count: usize) -> Result<u8, NoMemory>
+        ensures { IfOk result (λ status. (status ≡ 0) × (self.new ≡ wrote_line count)) }
     {
         let mut digits = itoa::Buffer::new();
-        self.set(b"wrote ", digits.format(count).as_bytes(), b" bytes\n")
+        self.say(0, b"wrote ", digits.format(count).as_bytes(), b" bytes\n")
     }
 
-    // Appends how a call ended that did not return.
+    /// Appends how a call ended that did not return.
     fn add_stop(&mut self, reason: CallStop) -> Result<(), NoMemory>
         ensures { OnOk result (self.new ≡ self.old ++ stop_text reason) }
     {
@@ -170,7 +192,7 @@ impl Line {
         }
     }
 
-    // Appends these words, and an address as four hexadecimal digits in upper case.
+    /// Appends these words, and an address as four hexadecimal digits in upper case.
     fn add_place(&mut self, front: &[u8], place: u16) -> Result<(), NoMemory>
         ensures { OnOk result (self.new ≡ self.old ++ front.now ++ address_digits place) }
     {
@@ -179,7 +201,7 @@ impl Line {
         self.add(&digits)
     }
 
-    // Makes the line a number in six digits, with leading zeros.
+    /// Makes the line a number in six digits, with leading zeros.
     fn set_call_digits(&mut self, call: u32) -> Result<(), NoMemory>
         ensures { OnOk result (self.new ≡ call_digits call) }
     {
@@ -191,7 +213,7 @@ impl Line {
         self.add(digits)
     }
 
-    // Appends a number in decimal.
+    /// Appends a number in decimal.
     fn add_number(&mut self, number: u32) -> Result<(), NoMemory>
         ensures { OnOk result (self.new ≡ self.old ++ decimal number) }
     {
@@ -199,7 +221,15 @@ impl Line {
         self.add(digits.format(number).as_bytes())
     }
 
-    // Makes the line these three texts, one after the other.
+    /// Makes the line these three texts, one after the other, and answers the status.
+    fn say(&mut self, status: u8, front: &[u8], middle: &[u8], end: &[u8]) -> Result<u8, NoMemory>
+        ensures { IfOk result (λ told. (told ≡ status) × (self.new ≡ front.now ++ middle.now ++ end.now)) }
+    {
+        self.set(front, middle, end)?;
+        Ok(status)
+    }
+
+    /// Makes the line these three texts, one after the other.
     fn set(&mut self, front: &[u8], middle: &[u8], end: &[u8]) -> Result<(), NoMemory>
         ensures { OnOk result (self.new ≡ front.now ++ middle.now ++ end.now) }
     {
@@ -209,7 +239,7 @@ impl Line {
         self.add(end)
     }
 
-    // Appends a text.
+    /// Appends a text.
     fn add(&mut self, text: &[u8]) -> Result<(), NoMemory>
         ensures { OnOk result (self.new ≡ self.old ++ text.now) }
     {
@@ -218,7 +248,7 @@ impl Line {
     }
 }
 
-// An address as four hexadecimal digits in upper case.
+/// An address as four hexadecimal digits in upper case.
 fn upper_digits(address: u16) -> [u8; 4]
     ensures { result ≡ address_digits address }
 {

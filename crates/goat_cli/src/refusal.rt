@@ -1,38 +1,51 @@
-//! Why nothing is made of a file.
+//! How a job ends: with a report, or refused.
 
 ghost use Rattle.std.specs.Prelude.{◌≡◌};
 
-use crate::ending::Ending;
+use cpu6502::CallStop;
 use gts5::SongFault;
+use psid::PsidFault;
 use song_model::NoMemory;
 
-/// Why a job makes nothing of a song file's bytes.
+/// What is left to print of a job that is done.
 #[derive(Clone, Copy, Debug)]
-pub enum Refusal {
-    /// The bytes break the format of songs.
+pub enum Report {
+    /// A file of so many bytes was written.
+    Wrote(usize),
+    /// The registers after each call were printed; no line follows them.
+    Shown,
+}
+
+/// Why a run is over before its job is done.
+#[derive(Clone, Copy, Debug)]
+pub enum Refusal<'a> {
+    /// No form of the command line has the words.
+    Usage,
+    /// No file has the name.
+    Missing(&'a str),
+    /// The file has more bytes than may be read.
+    TooLong(&'a str),
+    /// The folder failed to read the file.
+    ReadFault(&'a str),
+    /// The file breaks the format of songs.
     NotASong(SongFault),
-    /// The song can't be packed yet.
-    NotBuilt,
-    /// Memory was wanting.
+    /// The folder failed to write the file.
+    WriteFault(&'a str),
+    /// The sink failed to take a line; no other follows.
+    SinkFault,
+    /// The file has so many songs, and not the one that was asked for, counted from 1.
+    NoSubtune { asked: u8, songs: u16 },
+    /// The file breaks the format of PSID files.
+    NotAPsid(PsidFault),
+    /// A call did not return.
+    Stopped { reason: CallStop, call: u32 },
+    /// Out of memory.
     NoMemory,
+    /// The song can't be packed.
+    NotBuilt,
 }
 
-impl Refusal {
-    ghost use Rattle.goat_cli.specs.Refusal.{ending_of};
-
-    /// How a run with this refusal ends.
-    pub fn ending(self) -> Ending<'static>
-        ensures { result ≡ ending_of self }
-    {
-        match self {
-            Refusal::NotASong(fault) => Ending::NotASong(fault),
-            Refusal::NotBuilt => Ending::NotBuilt,
-            Refusal::NoMemory => Ending::NoMemory,
-        }
-    }
-}
-
-impl From<NoMemory> for Refusal {
+impl From<NoMemory> for Refusal<'_> {
     ghost use Rattle.std.specs.Prelude.{◌≡◌};
     ghost use Rattle.goat_cli.specs.declared.refusal.Refusal.TheVariants as refusal;
 
@@ -40,18 +53,5 @@ impl From<NoMemory> for Refusal {
 
     fn from(_: NoMemory) -> Self {
         Refusal::NoMemory
-    }
-}
-
-impl From<SongFault> for Refusal {
-    ghost use Rattle.goat_cli.specs.Refusal.{TellsFault};
-
-    ghost from_gives = { TellsFault };
-
-    fn from(fault: SongFault) -> Self {
-        match fault {
-            SongFault::NoMemory => Refusal::NoMemory,
-            _ => Refusal::NotASong(fault),
-        }
     }
 }

@@ -135,20 +135,16 @@ impl Folder for MemFolder {
 
     fn write(&mut self, name: &str, bytes: &[u8]) -> Result<(), WriteFault>
         ensures ok { OnOk result (self.new.files ≡ with_file self.old.files name.now bytes.now) }
-        ensures failed {
-            IsErrOf result WriteFault.Failed →
-            IsWrittenInPart (Some self.old.files) (Some self.new.files) name.now bytes.now
-        }
+        ensures failed { IsErrOf result WriteFault.Failed →
+            IsWrittenInPart (Some self.old.files) (Some self.new.files) name.now bytes.now }
         ensures no_memory { IsErrOf result WriteFault.NoMemory → self.new.files ≡ self.old.files }
         ensures counts { CountsWrite result self.old.counts self.new.counts }
 
         // The listed calls fail, and only they.
         ensures listed { IsTrue (next_fails self.old) → IsErr result }
         ensures only_listed { IsErrOf result WriteFault.Failed → IsTrue (next_fails self.old) }
-        ensures half {
-            IsErrOf result WriteFault.Failed →
-            self.new.files ≡ with_file self.old.files name.now (take (length bytes.now / 2) bytes.now)
-        }
+        ensures half { IsErrOf result WriteFault.Failed →
+            self.new.files ≡ with_file self.old.files name.now (take (length bytes.now / 2) bytes.now) }
         ensures counted { self.new.calls ≡ next_count self.old.calls }
         ensures same_list { self.new.failing ≡ self.old.failing }
     {

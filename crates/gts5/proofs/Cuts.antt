@@ -82,9 +82,9 @@ cut_endmark bytes l =
     sym (take-append-drop (endmark_of bytes) bytes)
     ∙ ap (λ t. take (endmark_of bytes) bytes ++ t) (drop_more bytes (endmark_of bytes) 0 l ∙ ap (λ b. b ∷ drop (endmark_of bytes + 1) bytes) (at_endmark bytes 0 l))
 
--- the first endmark stands behind the entries
-pub endmark_behind : (entries more : List ℕ) → All IsEntry entries → endmark_of (entries ++ 255 ∷ more) ≡ length entries
-endmark_behind [] more are = refl
-endmark_behind (x ∷ xs) more are =
+-- the first endmark stands after the entries
+pub endmark_after : (entries more : List ℕ) → All IsEntry entries → endmark_of (entries ++ 255 ∷ more) ≡ length entries
+endmark_after [] more are = refl
+endmark_after (x ∷ xs) more are =
     let below : x < 255 = All-head IsEntry x xs are in
-    rw (ne_eqb x 255 (λ e. absurd (omega arith)), endmark_behind xs more (All-tail IsEntry x xs are)) (omega arith)
+    rw (ne_eqb x 255 (λ e. absurd (omega arith)), endmark_after xs more (All-tail IsEntry x xs are)) (omega arith)

@@ -7,9 +7,9 @@ use Rattle.gts5.specs.declared.faults.SongFault.TheVariants.{BadRow}
 use Rattle.gts5.specs.Faults.{◌>>=◌, row_of}
 use Rattle.gts5.specs.Reading.{each_at, rows_of, cut_at, ends_at}
 
--- ---- so many pieces
+-- ---- n pieces
 
--- what reading gives behind what was read
+-- what reading gives after what was read
 abbrev pub with_front : {X Y : Type 0} → List X → Result (List X × Y) SongFault → Result (List X × Y) SongFault
 with_front front read = read >>= λ x. Ok (front ++ x.0, x.1)
 

@@ -14,7 +14,7 @@ use Rattle.gts5.specs.Faults.{offset_of}
 use Rattle.gts5.specs.Reading.{bytes_at, byte_at, endmark_of, order_at, subtune_at}
 use Rattle.gts5.specs.Spells.{SpellsOrder, SpellsSubtune}
 use Rattle.gts5.proofs.Takes.{bind_ok, ok_is, Takes, bytes_take, bytes_again, byte_takes, byte_again}
-use Rattle.gts5.proofs.Cuts.{entries_before, cut_endmark, endmark_behind}
+use Rattle.gts5.proofs.Cuts.{entries_before, cut_endmark, endmark_after}
 
 -- a test that passed
 chosen_ok : {A : Type 0} (b : Bool) (fault : SongFault) (x y : A) → cond b (Ok x) (Err fault) ≡ Ok y → (b ≡ true) × (x ≡ y)
@@ -73,7 +73,7 @@ order_again total order piece rest spelled =
     let n = length order.entries + 1 + length spelled.ignored in
     let run = order.entries ++ 255 ∷ order.restart ∷ spelled.ignored in
     let size : length run ≡ n + 1 = omega (arith, length-append order.entries (255 ∷ order.restart ∷ spelled.ignored)) in
-    let mark : endmark_of run ≡ length order.entries = endmark_behind order.entries (order.restart ∷ spelled.ignored) spelled.entries in
+    let mark : endmark_of run ≡ length order.entries = endmark_after order.entries (order.restart ∷ spelled.ignored) spelled.entries in
     let inside : ltb (endmark_of run) n ≡ true = lt-ltb _ _ (omega arith) in
     let entries : take (endmark_of run) run ≡ order.entries = rw mark (take_at order.entries (255 ∷ order.restart ∷ spelled.ignored) (length order.entries) refl) in
     let restart : get_or run (endmark_of run + 1) 0 ≡ order.restart = rw mark (get_or-append-add order.entries (255 ∷ order.restart ∷ spelled.ignored) 1 0) in

@@ -147,7 +147,7 @@ mark_test true any fault order rest same = ap (λ (b : Bool). cond b (Ok rest) (
 mark_test false any fault order rest same = ap (λ (b : Bool). cond b (Ok rest) (Err fault)) same
 
 order_test : (short any : Bool) (f g : SongFault) (mark : List ℕ → Bool) (cut : List ℕ → Order) (piece rest : List ℕ) → (short ≡ false → mark piece ≡ any)
-    → follows (cond short (Err f) (given piece rest) >>= λ x. cond (mark x.0) (given (cut x.0) x.1) (Err g)) ≡ (cond short (Err f) (Ok rest) >>= λ behind. cond any (Ok behind) (Err g))
+    → follows (cond short (Err f) (given piece rest) >>= λ x. cond (mark x.0) (given (cut x.0) x.1) (Err g)) ≡ (cond short (Err f) (Ok rest) >>= λ after. cond any (Ok after) (Err g))
 order_test true any f g mark cut piece rest same = refl
 order_test false any f g mark cut piece rest same = mark_test (mark piece) any g (cut piece) rest (same refl)
 
@@ -174,25 +174,25 @@ subtunes_follow total bytes =
 -- ---- patterns
 
 abbrev keep : Result (List Row) SongFault → List ℕ → Result (List ℕ) SongFault
-keep r behind = r >>= λ rows. Ok behind
+keep r after = r >>= λ rows. Ok after
 
-row_test : (marked first full ranged : Bool) (f g h : SongFault) (next : Result (List Row) SongFault) (row : Row) (behind : List ℕ)
-    → keep (cond marked (cond first (Err f) (Ok true)) (cond full (Err g) (cond ranged (Ok false) (Err h))) >>= λ ends. cond ends (Ok []) (next >>= λ others. Ok (row ∷ others))) behind
-    ≡ cond marked (cond first (Err f) (Ok behind)) (cond full (Err g) (cond ranged (keep next behind) (Err h)))
-row_test true true full ranged f g h next row behind = refl
-row_test true false full ranged f g h next row behind = refl
-row_test false first true ranged f g h next row behind = refl
-row_test false first false true f g h (Ok rows) row behind = refl
-row_test false first false true f g h (Err fault) row behind = refl
-row_test false first false false f g h next row behind = refl
+row_test : (marked first full ranged : Bool) (f g h : SongFault) (next : Result (List Row) SongFault) (row : Row) (after : List ℕ)
+    → keep (cond marked (cond first (Err f) (Ok true)) (cond full (Err g) (cond ranged (Ok false) (Err h))) >>= λ ends. cond ends (Ok []) (next >>= λ others. Ok (row ∷ others))) after
+    ≡ cond marked (cond first (Err f) (Ok after)) (cond full (Err g) (cond ranged (keep next after) (Err h)))
+row_test true true full ranged f g h next row after = refl
+row_test true false full ranged f g h next row after = refl
+row_test false first true ranged f g h next row after = refl
+row_test false first false true f g h (Ok rows) row after = refl
+row_test false first false true f g h (Err fault) row after = refl
+row_test false first false false f g h next row after = refl
 
-rows_follow : (at i m : ℕ) (piece behind : List ℕ) → keep (cut_at at i (rows_of m piece)) behind ≡ after_rows at i m piece behind
+rows_follow : (at i m : ℕ) (piece after : List ℕ) → keep (cut_at at i (rows_of m piece)) after ≡ after_rows at i m piece after
 unfolding ends_at
-rows_follow at i zero piece behind = refl
-rows_follow at i (suc m) piece behind =
-    row_test (eqb (row_of piece).note 255) (eqb i 0) (eqb i 128) (has_ranges (row_of piece)) (BadRow (at + 1)) (OutOfLimit at) (BadRow (at + 1 + 4 * i)) (cut_at at (i + 1) (rows_of m (drop 4 piece))) (row_of piece) behind
-    ∙ ap (λ (next : Result (List ℕ) SongFault). cond (eqb (row_of piece).note 255) (cond (eqb i 0) (Err (BadRow (at + 1))) (Ok behind)) (cond (eqb i 128) (Err (OutOfLimit at)) (cond (has_ranges (row_of piece)) next (Err (BadRow (at + 1 + 4 * i))))))
-    (rows_follow at (i + 1) m (drop 4 piece) behind)
+rows_follow at i zero piece after = refl
+rows_follow at i (suc m) piece after =
+    row_test (eqb (row_of piece).note 255) (eqb i 0) (eqb i 128) (has_ranges (row_of piece)) (BadRow (at + 1)) (OutOfLimit at) (BadRow (at + 1 + 4 * i)) (cut_at at (i + 1) (rows_of m (drop 4 piece))) (row_of piece) after
+    ∙ ap (λ (next : Result (List ℕ) SongFault). cond (eqb (row_of piece).note 255) (cond (eqb i 0) (Err (BadRow (at + 1))) (Ok after)) (cond (eqb i 128) (Err (OutOfLimit at)) (cond (has_ranges (row_of piece)) next (Err (BadRow (at + 1 + 4 * i))))))
+    (rows_follow at (i + 1) m (drop 4 piece) after)
 
 rows_kept : (r : Result (List Row) SongFault) (rest : List ℕ) → follows (r >>= λ rows. Ok (rows, rest)) ≡ keep r rest
 rows_kept (Ok rows) rest = refl
@@ -208,7 +208,7 @@ unfolding pattern_at byte_at bytes_at after_pattern after_bytes
 pattern_follows total [] = refl
 pattern_follows total (m ∷ rest) =
     let at = offset_of total (m ∷ rest) in
-    pattern_test (ltb (length rest) (4 * m)) (Truncated total) (take (4 * m) rest) (drop (4 * m) rest) (λ piece. cut_at at 0 (rows_of m piece)) (λ behind. after_rows at 0 m (take (4 * m) rest) behind)
+    pattern_test (ltb (length rest) (4 * m)) (Truncated total) (take (4 * m) rest) (drop (4 * m) rest) (λ piece. cut_at at 0 (rows_of m piece)) (λ after. after_rows at 0 m (take (4 * m) rest) after)
     (rows_follow at 0 m (take (4 * m) rest) (drop (4 * m) rest))
 
 patterns_follow : (total : ℕ) (bytes : List ℕ) → follows (patterns_at total bytes) ≡ after_counted total 208 (after_each (after_pattern total)) bytes

@@ -1,4 +1,4 @@
--- What reading takes from the front spells what it gives: bytes, counts, and so many pieces.
+-- What reading takes from the front spells what it gives: bytes, counts, and n pieces.
 use Rattle.std.proofs.Common.{◌≡◌, ℕ, zero, suc, ◌<◌, ◌≤◌, Bool, true, false, cond, ltb, List, [], ◌∷◌, ◌++◌, length, take, drop, Result, Ok, Err, refl, sym, ap, subst, ◌∙◌, append_assoc, arith, take-append-drop}
 use Rattle.std.specs.List.{All, flat_map}
 use Rattle.std.proofs.lemmas.Bool.{ltb-false, le-ltb}
@@ -97,7 +97,7 @@ pub record Takes {X : Type 0} (Spelled : X → List ℕ → Type 0) (Within : X 
   pub parts : bytes ≡ piece ++ rest
   pub left : All IsByte rest
 
--- so many items within their limits
+-- n items within their limits
 pub record AreMany {X : Type 0} (Within : X → Type 0) (n : ℕ) (items : List X) : Type 0 where
   pub number : length items ≡ n
   pub each : All Within items

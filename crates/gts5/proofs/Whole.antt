@@ -54,9 +54,9 @@ record TakesMany {X : Type 0} (Spelled : X → List ℕ → Type 0) (limit : ℕ
   pub parts : bytes ≡ length items ∷ (text ++ rest)
   pub left : All IsByte rest
 
-many : {X : Type 0} (Spelled : X → List ℕ → Type 0) (limit : ℕ) (Within : X → Type 0) (bytes : List ℕ) (n : ℕ) (behind : List ℕ) (items : List X) (rest : List ℕ)
-    → TakesCount bytes n behind → n ≤ limit → Takes (SpellsEach Spelled) (AreMany Within n) behind items rest → TakesMany Spelled limit Within bytes items rest
-many Spelled limit Within bytes n behind items rest count small pieces =
+many : {X : Type 0} (Spelled : X → List ℕ → Type 0) (limit : ℕ) (Within : X → Type 0) (bytes : List ℕ) (n : ℕ) (after : List ℕ) (items : List X) (rest : List ℕ)
+    → TakesCount bytes n after → n ≤ limit → Takes (SpellsEach Spelled) (AreMany Within n) after items rest → TakesMany Spelled limit Within bytes items rest
+many Spelled limit Within bytes n after items rest count small pieces =
     let number = pieces.within.number in
     record {
       text = pieces.piece;

@@ -21,11 +21,11 @@ offset_of total bytes = total - length bytes
 unfoldable pub after_magic : List ℕ → Result (List ℕ) SongFault
 after_magic bytes = if bytes_eq (take 4 bytes) (codes "GTS5") then Ok (drop 4 bytes) else Err NotGts5
 
--- so many bytes; where one of them is missing the file is truncated, at its length
+-- n bytes; where one of them is missing the file is truncated, at its length
 unfoldable pub after_bytes : ℕ → ℕ → List ℕ → Result (List ℕ) SongFault
 after_bytes total n bytes = if nat_lt (length bytes) n then Err (Truncated total) else Ok (drop n bytes)
 
--- so many pieces of one kind
+-- n pieces of one kind
 abbrev pub after_each : (List ℕ → Result (List ℕ) SongFault) → ℕ → List ℕ → Result (List ℕ) SongFault
 after_each after_piece zero bytes = Ok bytes
 after_each after_piece (suc n) bytes = do
@@ -42,8 +42,8 @@ after_counted total limit after_pieces (n ∷ rest) =
 unfoldable pub after_order : ℕ → List ℕ → Result (List ℕ) SongFault
 after_order total [] = Err (Truncated total)
 after_order total (n ∷ rest) = do
-  behind ← after_bytes total (n + 1) rest
-  if list_any (λ byte. byte == 0xFF) (take n rest) then Ok behind else Err (BadOrder (offset_of total (n ∷ rest)))
+  after ← after_bytes total (n + 1) rest
+  if list_any (λ byte. byte == 0xFF) (take n rest) then Ok after else Err (BadOrder (offset_of total (n ∷ rest)))
 
 -- a table: a byte n, n left sides and n right sides
 unfoldable pub after_table : ℕ → List ℕ → Result (List ℕ) SongFault
@@ -58,22 +58,22 @@ row_of bytes = record { note = slice_index bytes 0; instrument = slice_index byt
 abbrev pub has_ranges : Row → Bool
 has_ranges row = nat_le 0x60 row.note && nat_le row.note 0xBF && nat_le row.instrument 0x3F && nat_le row.command 0x0F
 
--- what follows a pattern whose count stands at the place `at`, by its rows from row i on, of which so many are left;
+-- what follows a pattern whose count stands at the place `at`, by its rows from row i on, of which this number is left;
 -- for each row the first case that holds decides
 abbrev pub after_rows : ℕ → ℕ → ℕ → List ℕ → List ℕ → Result (List ℕ) SongFault
-after_rows at i zero rows behind = Err (BadRow at)
-after_rows at i (suc left) rows behind =
-    if (row_of rows).note == 0xFF then (if i == 0 then Err (BadRow (at + 1)) else Ok behind)
+after_rows at i zero rows after = Err (BadRow at)
+after_rows at i (suc left) rows after =
+    if (row_of rows).note == 0xFF then (if i == 0 then Err (BadRow (at + 1)) else Ok after)
     else if i == 128 then Err (OutOfLimit at)
-    else if has_ranges (row_of rows) then after_rows at (i + 1) left (drop 4 rows) behind
+    else if has_ranges (row_of rows) then after_rows at (i + 1) left (drop 4 rows) after
     else Err (BadRow (at + 1 + 4 * i))
 
 -- a pattern: a byte m, and m rows of four bytes
 unfoldable pub after_pattern : ℕ → List ℕ → Result (List ℕ) SongFault
 after_pattern total [] = Err (Truncated total)
 after_pattern total (m ∷ rest) = do
-  behind ← after_bytes total (4 * m) rest
-  after_rows (offset_of total (m ∷ rest)) 0 m (take (4 * m) rest) behind
+  after ← after_bytes total (4 * m) rest
+  after_rows (offset_of total (m ∷ rest)) 0 m (take (4 * m) rest) after
 
 -- the whole text: three texts of 32 bytes, three orderlists for each subtune, 25 bytes for each instrument, four
 -- tables, the patterns

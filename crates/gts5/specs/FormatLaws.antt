@@ -4,6 +4,7 @@ use Rattle.song_model.specs.declared.songs.Song.{Song}
 use Rattle.song_model.specs.Basics.{IsByte}
 use Rattle.song_model.specs.Limits.{KeepsLimits}
 use Rattle.song_model.specs.Canonical.{canonical}
+use Rattle.gts5.specs.declared.songs.TheConstants.{MOST_BYTES}
 use Rattle.gts5.specs.Spells.{Spells}
 use Rattle.gts5.specs.Faults.{fault_of}
 
@@ -30,4 +31,4 @@ CanonicalHasNoFault = (song : Song) → KeepsLimits song → fault_of (canonical
 
 -- and is as long as a file may be, or shorter
 abbrev pub CanonicalIsShort : Type 0
-CanonicalIsShort = (song : Song) → KeepsLimits song → length (canonical song) ≤ 262144
+CanonicalIsShort = (song : Song) → KeepsLimits song → length (canonical song) ≤ MOST_BYTES

@@ -15,7 +15,7 @@ use Rattle.gts5.specs.declared.texts.Texts.{Texts}
 
 -- ---- bytes: of a file of `total` bytes these are left
 
--- so many bytes; where one of them is missing the file is truncated, at its length
+-- n bytes; where one of them is missing the file is truncated, at its length
 unfoldable pub bytes_at : ℕ → ℕ → List ℕ → Result (List ℕ × List ℕ) SongFault
 bytes_at total n bytes = if nat_lt (length bytes) n then Err (Truncated total) else Ok (take n bytes, drop n bytes)
 
@@ -30,7 +30,7 @@ count_at total limit bytes = do
   count ← byte_at total bytes
   if nat_lt limit count.0 then Err (OutOfLimit (offset_of total bytes)) else Ok count
 
--- so many pieces of one kind
+-- n pieces of one kind
 abbrev pub each_at : {X : Type 0} → (List ℕ → Result (X × List ℕ) SongFault) → ℕ → List ℕ → Result (List X × List ℕ) SongFault
 each_at piece_at zero bytes = Ok ([], bytes)
 each_at piece_at (suc n) bytes = do
@@ -131,7 +131,7 @@ tables_at total bytes = do
 
 -- ---- patterns
 
--- so many rows
+-- m rows
 abbrev pub rows_of : ℕ → List ℕ → List Row
 rows_of zero bytes = []
 rows_of (suc m) bytes = row_of bytes ∷ rows_of m (drop 4 bytes)

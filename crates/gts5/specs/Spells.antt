@@ -29,7 +29,7 @@ pub record SpellsSubtune (subtune : Subtune) (text : List ℕ) : Type 0 where
   pub spells_three : SpellsOrder subtune.three three
 
 -- a pattern: a byte m, the rows, the note $FF of the end row, and bytes that are ignored: the other three of the end
--- row, and so many more rows; m counts all rows
+-- row, and `more` rows; m counts all rows
 pub record SpellsPattern (rows : List Row) (piece : List ℕ) : Type 0 where
   pub more : ℕ
   pub ignored : List ℕ

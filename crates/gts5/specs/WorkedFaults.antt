@@ -27,7 +27,7 @@ with_order piece = take 101 silence_bytes ++ piece ++ drop 105 silence_bytes
 abbrev pub with_pattern : List ℕ → List ℕ
 with_pattern piece = take 119 silence_bytes ++ piece
 
--- so many rests
+-- n rests
 abbrev pub rests : ℕ → List ℕ
 rests n = flat_map row_text (replicate n rest_row)
 
@@ -35,7 +35,8 @@ rests n = flat_map row_text (replicate n rest_row)
 abbrev pub MagicIsWanted : Type 0
 MagicIsWanted = HasFault [] NotGts5 × HasFault (cut_to 3) NotGts5 × HasFault (changed 3 0x34) NotGts5
 
--- no byte of a text, of a count, of an orderlist, of a table's count, of a pattern; no byte of an instrument, of a table
+-- no byte of a text, of a count, of an orderlist, of a table's count, of a pattern; no byte of an instrument, of a
+-- table
 abbrev pub CutsAreTruncated : Type 0
 CutsAreTruncated = HasFault (cut_to 4) (Truncated 4) × HasFault (cut_to 99) (Truncated 99) × HasFault (cut_to 100) (Truncated 100)
     × HasFault (cut_to 101) (Truncated 101) × HasFault (cut_to 103) (Truncated 103) × HasFault (cut_to 114) (Truncated 114)
@@ -64,7 +65,7 @@ PatternsEnd = HasFault (changed 119 0) (BadRow 119) × HasFault (changed 124 0xB
     × HasFault (with_pattern (130 ∷ (rests 129 ++ end_row_text))) (OutOfLimit 119)
     × HasFault (with_pattern (129 ∷ (rests 128 ++ 0x5F ∷ 0 ∷ 0 ∷ 0 ∷ []))) (OutOfLimit 119)
 
--- bytes behind a restart position, in and behind an end row, behind the last pattern
+-- bytes after a restart position, in and after an end row, after the last pattern
 abbrev pub LooseTextsHaveNoFault : Type 0
 LooseTextsHaveNoFault = HasNoFault (with_order (4 ∷ 0 ∷ 0xFF ∷ 0 ∷ 0x55 ∷ 0xFF ∷ []))
     × HasNoFault (with_pattern (3 ∷ (rests 1 ++ 0xFF ∷ 1 ∷ 2 ∷ 7 ∷ 0 ∷ 0x40 ∷ 0x10 ∷ 0 ∷ [])) ++ 1 ∷ 2 ∷ 3 ∷ [])

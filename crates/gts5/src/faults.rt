@@ -3,7 +3,7 @@
 ghost use Rattle.std.specs.Prelude.{◌≡◌};
 ghost use Rattle.gts5.specs.declared.faults.SongFault.TheVariants.{NoMemory};
 
-use song_model::{LimitFault, PushFault};
+use song_model::PushFault;
 use std::alloc::{AllocError, AllocFailed};
 use thiserror::Error;
 
@@ -49,17 +49,6 @@ impl<T: Drop> From<AllocFailed<T>> for SongFault {
 }
 
 impl SongFault {
-    /// The refusal of a list that is within its limits: out of memory.
-    pub(crate) fn of_limits(fault: LimitFault) -> SongFault
-        requires { fault ≡ LimitFault.NoMemory }
-        ensures { result ≡ SongFault.NoMemory }
-    {
-        match fault {
-            LimitFault::NoMemory => SongFault::NoMemory,
-            LimitFault::BadLength | LimitFault::BadItem { .. } => unreachable!(),
-        }
-    }
-
     /// The refusal of an item by a list that isn't full: out of memory.
     pub(crate) fn of_push(fault: PushFault) -> SongFault
         requires { fault ≡ PushFault.NoMemory }

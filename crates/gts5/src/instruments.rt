@@ -32,7 +32,7 @@ impl Reader {
         Ok((instrument, left))
     }
 
-    /// So many instruments.
+    /// The next `count` instruments.
     fn some_instruments<'a>(
         self,
         alloc: Global,

@@ -22,7 +22,7 @@ mod writing;
 
 pub use faults::SongFault;
 pub use song_model::NoMemory;
-pub use songs::read;
+pub use songs::{MOST_BYTES, read};
 pub use writing::write;
 
 #[cfg(test)]

@@ -6,11 +6,8 @@ ghost use Rattle.gts5.specs.Gives.{Gives};
 
 use crate::SongFault;
 use crate::reader::Reader;
-use song_model::{Order, Subtune, SubtuneList};
+use song_model::{ENDMARK, Order, OrderEntries, Subtune, SubtuneList};
 use std::alloc::Global;
-
-/// The byte after an orderlist's entries.
-const ENDMARK: u8 = 0xFF;
 
 impl Reader {
     /// An orderlist, cut at its first endmark.
@@ -22,10 +19,12 @@ impl Reader {
         let (piece, rest) = self.bytes(usize::from(count) + 1, rest)?;
         let place = endmark(piece);
         if place < usize::from(count) {
-            match Order::from_bytes(alloc, &piece[..place], piece[place + 1]) {
-                Ok(order) => Ok((order, rest)),
-                Err(fault) => Err(SongFault::of_limits(fault)),
-            }
+            let bytes = Vec::from_slice(alloc, &piece[..place])?;
+            let order = Order {
+                entries: OrderEntries::from_vec(bytes),
+                restart: piece[place + 1],
+            };
+            Ok((order, rest))
         } else {
             Err(SongFault::BadOrder {
                 offset: self.offset(left),
@@ -44,7 +43,7 @@ impl Reader {
         Ok((Subtune { one, two, three }, left))
     }
 
-    /// So many subtunes.
+    /// The next `count` subtunes.
     fn some_subtunes<'a>(
         self,
         alloc: Global,

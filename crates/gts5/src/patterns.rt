@@ -5,8 +5,8 @@ ghost use Rattle.gts5.specs.Faults.{row_of};
 ghost use Rattle.gts5.specs.Reading.{ends_at, cut_at, rows_of, pattern_at, patterns_at, each_at};
 ghost use Rattle.gts5.specs.Gives.{Gives};
 
-use crate::SongFault;
 use crate::reader::Reader;
+use crate::{MOST_BYTES, SongFault};
 use song_model::{Pattern, PatternList, Row};
 use std::alloc::Global;
 
@@ -19,13 +19,10 @@ impl Reader {
         let (count, rest) = self.byte(left)?;
         let (piece, rest) = self.bytes(4 * usize::from(count), rest)?;
         let rows = rows_before_end(alloc, self.offset(left), count, piece)?;
-        match Pattern::from_rows(alloc, &rows) {
-            Ok(pattern) => Ok((pattern, rest)),
-            Err(fault) => Err(SongFault::of_limits(fault)),
-        }
+        Ok((Pattern::from_vec(rows), rest))
     }
 
-    /// So many patterns.
+    /// The next `count` patterns.
     fn some_patterns<'a>(
         self,
         alloc: Global,
@@ -63,7 +60,7 @@ impl Reader {
 
 /// The rows before the end row of a pattern whose count stands at offset `at`.
 fn rows_before_end(alloc: Global, at: u32, count: u8, piece: &[u8]) -> Result<Vec<Row>, SongFault>
-    requires place { at ≤ 262144 }
+    requires place { at ≤ MOST_BYTES }
     requires size { length piece.now ≡ 4 * count }
     ensures { Gives (λ rows. rows.items) result (cut_at at 0 (rows_of count piece.now)) }
 {
@@ -101,7 +98,7 @@ fn front_row(bytes: &[u8]) -> (Row, &[u8])
 /// Whether row `i` of a pattern, counted from 0, is its end row; `at` is the offset of the pattern's count.
 #[tactic(auto, unfolding(crate::specs::Reading::ends_at))]
 fn is_end(at: u32, i: u8, row: Row) -> Result<bool, SongFault>
-    requires { at ≤ 262144 }
+    requires { at ≤ MOST_BYTES }
     ensures { Gives (λ ends. ends) result (ends_at at i row) }
 {
     let place = at + 1 + 4 * u32::from(i);

@@ -1,24 +1,25 @@
-//! Counts and runs of bytes, taken from the front of what is left of a file.
+//! Counts and bytes, taken from the front of what is left of a file.
 
 ghost use Rattle.std.specs.Prelude.{◌≡◌, ◌≤◌, length, IfOk};
 ghost use Rattle.gts5.specs.Faults.{offset_of, after_magic};
 ghost use Rattle.gts5.specs.Reading.{bytes_at, byte_at, count_at};
 ghost use Rattle.gts5.specs.Gives.{Gives};
+ghost use Rattle.gts5.specs.declared.songs.TheConstants.{MOST_BYTES};
 
-use crate::SongFault;
+use crate::{MOST_BYTES, SongFault};
 
 /// Takes pieces of a file of this length. Each method is given the bytes that are left of the file, and
 /// gives what it takes from their front with the bytes that are left then.
 #[derive(Clone, Copy)]
 pub struct Reader {
     length: usize,
-    ghost short_file: { length ≤ 262144 },
+    ghost short_file: { length ≤ MOST_BYTES },
 }
 
 impl Reader {
     /// A reader of this file.
     pub fn of(file: &[u8]) -> Reader
-        requires { length file.now ≤ 262144 }
+        requires { length file.now ≤ MOST_BYTES }
         ensures { result.length ≡ length file.now }
     {
         Reader { length: file.len() }
@@ -40,7 +41,7 @@ impl Reader {
         }
     }
 
-    /// So many bytes.
+    /// The next `count` bytes.
     #[tactic(auto, unfolding(crate::specs::Reading::bytes_at))]
     pub fn bytes<'a>(self, count: usize, left: &'a [u8]) -> Result<(&'a [u8], &'a [u8]), SongFault>
         ensures taken { Gives (λ x. (x.0.now, x.1.now)) result (bytes_at self.length count left.now) }

@@ -15,10 +15,17 @@ use crate::texts::Texts;
 use song_model::Song;
 use std::alloc::Global;
 
+/// The most bytes of a file that is read. Every canonical spelling is shorter.
+pub const MOST_BYTES: usize = 262_144;
+
 /// The song that a file's bytes spell, in any spelling of the format GTS5; what the format lets a reader
-/// ignore is ignored. Where they spell none, the first fault that stops the reading.
+/// ignore is ignored.
+///
+/// # Errors
+///
+/// Where they spell none, the first fault that stops the reading; or out of memory.
 pub fn read(alloc: Global, bytes: &[u8]) -> Result<Song, SongFault>
-    requires { length bytes.now ≤ 262144 }
+    requires { length bytes.now ≤ MOST_BYTES }
     // A song that is read is spelled by the bytes.
     ensures found { IfOk result (Spells bytes.now) }
     // A song that the bytes spell is read.
@@ -34,7 +41,7 @@ pub fn read(alloc: Global, bytes: &[u8]) -> Result<Song, SongFault>
 /// The song of a file, piece by piece.
 #[tactic(auto, unfolding(crate::specs::Reading::song_of))]
 fn read_pieces(alloc: Global, bytes: &[u8]) -> Result<Song, SongFault>
-    requires { length bytes.now ≤ 262144 }
+    requires { length bytes.now ≤ MOST_BYTES }
     ensures { Gives (λ song. song) result (song_of bytes.now) }
 {
     let reader = Reader::of(bytes);

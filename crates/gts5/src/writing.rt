@@ -11,6 +11,10 @@ use song_model::{
 use std::alloc::Global;
 
 /// The canonical spelling of a song: no byte that a reader ignores, and each end row is `FF 00 00 00`.
+///
+/// # Errors
+///
+/// Out of memory.
 #[tactic(auto, unfolding(song_model::specs::Canonical::canonical))]
 pub fn write(alloc: Global, song: &Song) -> Result<Vec<u8>, NoMemory>
     ensures { IfOk result (λ bytes. bytes.items ≡ canonical song.now) }
@@ -30,6 +34,7 @@ pub fn write(alloc: Global, song: &Song) -> Result<Vec<u8>, NoMemory>
     Ok(out)
 }
 
+/// An orderlist: its count, its entries, the endmark and the restart position.
 fn put_order(out: &mut Vec<u8>, order: &Order) -> Result<(), NoMemory>
     ensures { OnOk result (out.new.items ≡ out.old.items ++ order_text order.now) }
 {
@@ -41,6 +46,7 @@ fn put_order(out: &mut Vec<u8>, order: &Order) -> Result<(), NoMemory>
     Ok(())
 }
 
+/// The three orderlists of a subtune.
 fn put_subtune(out: &mut Vec<u8>, subtune: &Subtune) -> Result<(), NoMemory>
     ensures { OnOk result (out.new.items ≡ out.old.items ++ subtune_text subtune.now) }
 {
@@ -49,6 +55,7 @@ fn put_subtune(out: &mut Vec<u8>, subtune: &Subtune) -> Result<(), NoMemory>
     put_order(out, &subtune.three)
 }
 
+/// The count of the subtunes and the subtunes.
 fn put_subtunes(out: &mut Vec<u8>, subtunes: &SubtuneList) -> Result<(), NoMemory>
     ensures { OnOk result (out.new.items ≡ out.old.items ++ subtunes_text subtunes.now) }
 {
@@ -60,6 +67,7 @@ fn put_subtunes(out: &mut Vec<u8>, subtunes: &SubtuneList) -> Result<(), NoMemor
     Ok(())
 }
 
+/// An instrument: nine numbers and its name.
 fn put_instrument(out: &mut Vec<u8>, instrument: &Instrument) -> Result<(), NoMemory>
     ensures { OnOk result (out.new.items ≡ out.old.items ++ instrument_text instrument.now) }
 {
@@ -78,6 +86,7 @@ fn put_instrument(out: &mut Vec<u8>, instrument: &Instrument) -> Result<(), NoMe
     Ok(())
 }
 
+/// The count of the instruments and the instruments.
 fn put_instruments(out: &mut Vec<u8>, instruments: &InstrumentList) -> Result<(), NoMemory>
     ensures { OnOk result (out.new.items ≡ out.old.items ++ instruments_text instruments.now) }
 {
@@ -89,6 +98,7 @@ fn put_instruments(out: &mut Vec<u8>, instruments: &InstrumentList) -> Result<()
     Ok(())
 }
 
+/// The left sides of a table.
 fn put_lefts(out: &mut Vec<u8>, rows: &[TableRow]) -> Result<(), NoMemory>
     ensures { OnOk result (out.new.items ≡ out.old.items ++ map (λ row. row.left) rows.now) }
 {
@@ -98,6 +108,7 @@ fn put_lefts(out: &mut Vec<u8>, rows: &[TableRow]) -> Result<(), NoMemory>
     Ok(())
 }
 
+/// The right sides of a table.
 fn put_rights(out: &mut Vec<u8>, rows: &[TableRow]) -> Result<(), NoMemory>
     ensures { OnOk result (out.new.items ≡ out.old.items ++ map (λ row. row.right) rows.now) }
 {
@@ -107,6 +118,7 @@ fn put_rights(out: &mut Vec<u8>, rows: &[TableRow]) -> Result<(), NoMemory>
     Ok(())
 }
 
+/// The count of a table's rows, its left sides and its right sides.
 fn put_table(out: &mut Vec<u8>, table: &Table) -> Result<(), NoMemory>
     ensures { OnOk result (out.new.items ≡ out.old.items ++ table_text table.now) }
 {
@@ -116,6 +128,7 @@ fn put_table(out: &mut Vec<u8>, table: &Table) -> Result<(), NoMemory>
     put_rights(out, rows)
 }
 
+/// Rows of four bytes.
 fn put_rows(out: &mut Vec<u8>, rows: &[Row]) -> Result<(), NoMemory>
     ensures { OnOk result (out.new.items ≡ out.old.items ++ flat_map row_text rows.now) }
 {
@@ -125,6 +138,7 @@ fn put_rows(out: &mut Vec<u8>, rows: &[Row]) -> Result<(), NoMemory>
     Ok(())
 }
 
+/// A pattern: the count of its rows and the end row, its rows and the end row.
 fn put_pattern(out: &mut Vec<u8>, pattern: &Pattern) -> Result<(), NoMemory>
     ensures { OnOk result (out.new.items ≡ out.old.items ++ pattern_text pattern.now) }
 {
@@ -135,6 +149,7 @@ fn put_pattern(out: &mut Vec<u8>, pattern: &Pattern) -> Result<(), NoMemory>
     Ok(())
 }
 
+/// The count of the patterns and the patterns.
 fn put_patterns(out: &mut Vec<u8>, patterns: &PatternList) -> Result<(), NoMemory>
     ensures { OnOk result (out.new.items ≡ out.old.items ++ patterns_text patterns.now) }
 {

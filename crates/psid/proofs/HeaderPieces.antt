@@ -1,4 +1,4 @@
--- The header's fields, put in one behind the other, and where each of them stands.
+-- The header's fields, put in one after the other, and where each of them stands.
 use Rattle.std.proofs.Common.{◌≡◌, ℕ, List, [], ◌∷◌, ◌++◌, length, replicate, refl, sym, ap, ◌∙◌, arith, append_assoc, length-append}
 use Rattle.std.specs.Prelude.{codes}
 use Rattle.psid.specs.declared.header.Header.{Header}
@@ -12,7 +12,7 @@ abbrev pub front_of : Header → List ℕ
 front_of header = codes "PSID" ++ word_bytes 2 ++ word_bytes 0x7C ++ word_bytes 0 ++ word_bytes header.init ++ word_bytes header.play
     ++ word_bytes header.songs ++ word_bytes header.start_song ++ number_bytes header.speed
 
--- the header behind the texts
+-- the header after the texts
 abbrev pub end_of : Header → List ℕ
 end_of header = word_bytes header.flags ++ 0 ∷ 0 ∷ 0 ∷ 0 ∷ []
 

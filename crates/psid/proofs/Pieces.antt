@@ -1,11 +1,11 @@
--- Pieces of a list of bytes: one put in behind what stands already, and one found behind others.
+-- Pieces of a list of bytes: one put in after what stands already, and one found after others.
 use Rattle.std.proofs.Common.{◌≡◌, ℕ, ◌+◌, List, ◌++◌, length, take, drop, replicate, sym, ap, ◌∙◌, arith, length-append}
 use Rattle.std.proofs.lemmas.List.{take_at}
 use Rattle.std.proofs.Math.Seq.{drop-append-add}
 use Rattle.base.proofs.Laws.{drop-replicate_add}
 use Rattle.psid.specs.Words.{with_bytes, text_at}
 
--- bytes hold these at the front, up to a place, and then so many zeros
+-- bytes hold these at the front, up to a place, and then zeros
 pub record IsFilled (bytes front : List ℕ) (place left : ℕ) : Type 0 where
   pub is : bytes ≡ front ++ replicate left 0
   pub size : length front ≡ place

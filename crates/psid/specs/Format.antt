@@ -9,7 +9,8 @@ pub record Field : Type 0 where
   pub offset : ℕ
   pub bytes : List ℕ
 
--- the table's rows, in this order: magic, version, data offset, load (0: the address stands in front of the image); init, play, songs, start song, speed; name, author, released; flags, start page, page length, reserved word
+-- the table's rows, in this order: magic, version, data offset, load (0: the address stands in front of the image);
+-- init, play, songs, start song, speed; name, author, released; flags, start page, page length, reserved word
 unfoldable pub header_fields : Header → List Field
 header_fields header =
     record { offset = 0x00; bytes = codes "PSID" }
@@ -30,7 +31,7 @@ header_fields header =
     ∷ record { offset = 0x7A; bytes = word_bytes 0 }
     ∷ []
 
--- the bytes of the header's fields, one behind the other
+-- the bytes of the header's fields, one after the other
 abbrev pub header_bytes : Header → List ℕ
 header_bytes header = flat_map (λ field. field.bytes) (header_fields header)
 
@@ -38,7 +39,8 @@ header_bytes header = flat_map (λ field. field.bytes) (header_fields header)
 abbrev pub psid_bytes : Header → ℕ → List ℕ → List ℕ
 psid_bytes header load image = header_bytes header ++ address_bytes load ++ image
 
--- what may be written: an address of a play routine, bits 0 and 1 of the flags clear, 1 to 256 songs with the start song among them, and an image that doesn't pass $FFFF
+-- what may be written: an address of a play routine, bits 0 and 1 of the flags clear, 1 to 256 songs with the start
+-- song among them, and an image that doesn't pass $FFFF
 pub record IsWritable (header : Header) (load : ℕ) (image : List ℕ) : Type 0 where
   pub has_play : 0 < header.play
   pub has_no_kind : header.flags % 4 ≡ 0

@@ -26,7 +26,7 @@ has_address bytes = word_at bytes 0x08 == 0
 unfoldable pub load_of : List ℕ → ℕ
 load_of bytes = if has_address bytes then address_at bytes 0x7C else word_at bytes 0x08
 
--- the image: all bytes behind the header, or behind the address
+-- the image: all bytes after the header, or after the address
 unfoldable pub image_of : List ℕ → List ℕ
 image_of bytes = if has_address bytes then drop 0x7E bytes else drop 0x7C bytes
 

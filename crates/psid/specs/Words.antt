@@ -1,4 +1,5 @@
--- How the PSID v2 description spells numbers: words high byte first, but the address in front of the image low byte first. Offsets are in bytes from 0.
+-- How the PSID v2 description spells numbers: words high byte first, but the address in front of the image low byte
+-- first. Offsets are in bytes from 0.
 use Rattle.std.specs.Prelude.{ℕ, ◌+◌, List, ◌++◌, length, take, drop}
 use Rattle.byteorder.specs.Endian.{big_bytes, little_bytes, big_number, little_number}
 

@@ -1,4 +1,5 @@
--- A file worked out by hand: one song at $1000, on a PAL machine with a 6581; and the same file cut, or with some bytes changed.
+-- A file worked out by hand: one song at $1000, on a PAL machine with a 6581; and the same file cut, or with some
+-- bytes changed.
 use Rattle.std.specs.Prelude.{◌≡◌, ℕ, ◌+◌, List, [], ◌∷◌, take, drop, replicate, slice_set, Ok, Err}
 use Rattle.psid.specs.declared.header.Header.{Header}
 use Rattle.psid.specs.declared.faults.PsidFault.{PsidFault}

@@ -1,4 +1,4 @@
-//! What the calls of this crate answer in place of a value.
+//! Why bytes aren't read as a PSID v2 file.
 
 ghost use Rattle.std.specs.Prelude.{◌≡◌};
 
@@ -20,7 +20,7 @@ pub enum PsidFault {
     /// A data offset, a number of songs or a start song out of its range, or an image that passes `$FFFF`.
     #[error("not a PSID: bad field")]
     BadField,
-    /// Memory ran out.
+    /// Out of memory.
     #[error("no memory")]
     NoMemory,
 }

@@ -9,29 +9,29 @@ use byteorder::{BigEndian, ByteOrder, LittleEndian};
 pub mod offset {
     /// `PSID`.
     pub const MAGIC: usize = 0x00;
-
+    /// 2 in every file that is read.
     pub const VERSION: usize = 0x04;
     /// Where the header ends.
     pub const DATA: usize = 0x06;
     /// The address of the image; 0 where it stands in front of the image.
     pub const LOAD: usize = 0x08;
-
+    /// The address that starts a song; 0 means the image's address.
     pub const INIT: usize = 0x0A;
-
+    /// The address that is called for each frame.
     pub const PLAY: usize = 0x0C;
-
+    /// The number of songs.
     pub const SONGS: usize = 0x0E;
-
+    /// The song that a player begins with, counted from 1.
     pub const START_SONG: usize = 0x10;
     /// A number of four bytes.
     pub const SPEED: usize = 0x12;
-    /// A text of 32 bytes, as the author and the release are.
+    /// A text of 32 bytes.
     pub const NAME: usize = 0x16;
-
+    /// A text of 32 bytes.
     pub const AUTHOR: usize = 0x36;
-
+    /// A text of 32 bytes.
     pub const RELEASED: usize = 0x56;
-
+    /// Bits 0 and 1: data of a kind of its own.
     pub const FLAGS: usize = 0x76;
     /// The header's length. In front of it stand start page, page length and a reserved word, all 0.
     pub const END: usize = 0x7C;

@@ -20,8 +20,11 @@ const KIND_BITS: u16 = 0b11;
 const ADDRESSES: usize = 65_536;
 
 /// The file that bytes spell: its header, where an init of 0 is given as the image's address, that address, and the
-/// image, which is all bytes from its place to the end. Otherwise the fault of the first of the six rules that is
-/// broken.
+/// image, which is all bytes from its place to the end.
+///
+/// # Errors
+///
+/// The fault of the first of the six rules that is broken; or out of memory.
 #[tactic(auto, unfolding(crate::specs::Reading::psid_read))]
 pub fn read(alloc: Global, bytes: &[u8]) -> Result<Psid, PsidFault>
     // What is answered is what the rules say.

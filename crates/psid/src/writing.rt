@@ -11,10 +11,18 @@ use byteorder::{ByteOrder, LittleEndian};
 use std::alloc::Global;
 
 /// The file of a header and an image: the load word is 0, and the image's address stands in front of it, low byte first.
+///
+/// # Errors
+///
+/// Out of memory.
 pub fn write(alloc: Global, header: &Header, load: u16, image: &[u8]) -> Result<Vec<u8>, NoMemory>
     requires { IsWritable header.now load image.now }
     ensures written { IfOk result (λ bytes. bytes.items ≡ psid_bytes header.now load image.now) }
-    ensures read_back { IfOk result (λ bytes. psid_read bytes.items ≡ Ok (record { header = record header.now { init = init_or_load header.now.init load }; load = load; image = image.now })) }
+    ensures read_back { IfOk result (λ bytes. psid_read bytes.items ≡ Ok (record {
+      header = record header.now { init = init_or_load header.now.init load };
+      load = load;
+      image = image.now;
+    })) }
 {
     let mut file = Vec::new(alloc);
     file.extend_from_slice(&header_bytes(*header))?;

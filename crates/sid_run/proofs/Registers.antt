@@ -1,4 +1,4 @@
--- So many bytes from a place on, as a list.
+-- The n bytes from a place on, as a list.
 use Rattle.std.proofs.Common.{◌≡◌, ℕ, zero, suc, ◌+◌, ◌<◌, List, length, get_or, refl, sym, ap, ◌∙◌, arith}
 use Rattle.std.proofs.lemmas.List.{ext_get_or}
 use Rattle.cpu6502.specs.Code.{bytes_at}

@@ -20,14 +20,15 @@ pub record AnswersCall (address a budget : ℕ) (before after : RunnerState) (an
   pub was_running : OnOk answer (before.stopped ≡ None)
   pub is_running : OnOk answer (after.stopped ≡ None)
   -- a reason: the call didn't return, and the reason is kept
-  pub failed : before.stopped ≡ None → IfErr answer (λ reason. FailsBy before.machine address a budget reason after.machine)
+  pub failed : before.stopped ≡ None
+      → IfErr answer (λ reason. FailsBy before.machine address a budget reason after.machine)
   pub kept : IfErr answer (λ reason. after.stopped ≡ Some reason)
   pub spent : OnErr answer (after.spent ≡ before.spent)
   -- where a call returns, and where it doesn't, the answer says so
-  pub returns : (steps : ℕ) (end : Machine) → before.stopped ≡ None → Called before.machine address a steps end → steps ≤ budget
-      → answer ≡ Ok (sid_registers end)
-  pub fails : (reason : CallStop) (end : Machine) → before.stopped ≡ None → FailsBy before.machine address a budget reason end
-      → answer ≡ Err reason
+  pub returns : (steps : ℕ) (end : Machine) → before.stopped ≡ None
+      → Called before.machine address a steps end → steps ≤ budget → answer ≡ Ok (sid_registers end)
+  pub fails : (reason : CallStop) (end : Machine) → before.stopped ≡ None
+      → FailsBy before.machine address a budget reason end → answer ≡ Err reason
   -- a runner that stopped answers its reason again, and stays as it is
   pub stays_stopped : (reason : CallStop) → before.stopped ≡ Some reason → answer ≡ Err reason
   pub stays : (reason : CallStop) → before.stopped ≡ Some reason → after ≡ before

@@ -10,7 +10,8 @@ use Rattle.psid.specs.declared.header.Psid.{Psid}
 use Rattle.sid_run.specs.declared.runner.TheConstants.{MOST_STEPS}
 use Rattle.sid_run.specs.declared.memory.TheConstants.{SID_BASE, REGISTERS}
 
--- its machine, the addresses of init and play, why it stopped if it did, the steps of the last call that returned, and what the last call wrote to the SID
+-- its machine, the addresses of init and play, why it stopped if it did, the steps of the last call that returned,
+-- and what the last call wrote to the SID
 pub record RunnerState : Type 0 where
   pub machine : Machine
   pub init : ℕ

@@ -1,4 +1,5 @@
-//! Runs a PSID file on a machine: loads it, calls init once, then play once a frame, and shows the SID's registers after each call.
+//! Runs a PSID file on a machine: loads it, calls init once, then play once a frame, and shows the SID's registers
+//! after each call.
 //!
 //! The layer's one contract: a runner answers a call with the 25 registers exactly where the machine's call returns
 //! within 200,000 steps, and otherwise with the reason; from then on it answers that reason until it is loaded anew.

@@ -1,0 +1,79 @@
+-- What a folder answers, as what a stage answers: where no files are told, some files stand for them.
+use Rattle.std.proofs.Common.{◌≡◌, ℕ, ◌+◌, ◌≤◌, List, Option, Some, None, IfSome, cond, Ok, Err, length, replicate, refl, ap, ◌∙◌, arith}
+use Rattle.std.proofs.lemmas.Cmp.{nat_list_cmp_total, eq_by_cmp_equiv}
+use Rattle.std.proofs.lemmas.List.{length-replicate}
+use Rattle.std.specs.Cmp.Lexicographic.{slice_cmp}
+use Rattle.std.specs.FinMap.{empty, get-empty, get-insert}
+use Rattle.std.specs.Ordering.{nat_cmp}
+use Rattle.goat_io.specs.declared.fault.ReadFault.TheVariants as read
+use Rattle.goat_io.specs.declared.folder_counts.FolderCounts.{FolderCounts}
+use Rattle.goat_io.specs.FolderCounts.{CountsRead}
+use Rattle.goat_io.specs.Files.{Files, file_of, with_file, IsAbsent, IsAbove}
+use Rattle.goat_cli.specs.Lines.{missing_line, too_long_line}
+use Rattle.goat_cli.specs.Last.{Says}
+use Rattle.goat_cli.specs.Stands.{FolderState, AreFiles, RisesWith, Counted}
+use Rattle.goat_cli.specs.Endings as ends
+use Rattle.goat_cli.specs.Endings.{WasRead, ReadFails}
+
+-- ---- files
+
+one_file : (name bytes : List ℕ) → file_of (with_file empty name bytes) name ≡ Some bytes
+one_file name bytes =
+    get-insert nat_list_cmp_total empty name bytes name ∙ ap (λ same. cond same (Some bytes) (file_of empty name)) ((eq_by_cmp_equiv nat_list_cmp_total).refl name)
+
+-- some files have what is said of the told ones
+record SomeFiles (told : Option Files) (P : Files → Type 0) : Type 0 where
+  files : Files
+  are_files : AreFiles told files
+  has : P files
+
+some_of : (told : Option Files) (P : Files → Type 0) (other : Files) → P other → IfSome told P → SomeFiles told P
+some_of None P other holds known = record { files = other; are_files = tt; has = holds }
+some_of (Some files) P other holds known = record { files = files; are_files = refl; has = known }
+
+-- ---- counts
+
+same_count : (own n before after : ℕ) → (n ≡ own → ⊥) → after ≡ before → RisesWith own n before after
+same_count own n before after other same = record { rose = λ is. absurd (other is); stays = λ is. same }
+
+pub read_counted : {X : Type 0} (x : X) (before after : FolderCounts) → CountsRead {X = X} (Ok x) before after → Counted 0 before after
+read_counted x before after c = record {
+  misses = same_count 2 0 before.misses after.misses (λ e. omega arith) c.misses;
+  excesses = same_count 3 0 before.excesses after.excesses (λ e. omega arith) c.excesses;
+  read_faults = same_count 4 0 before.read_faults after.read_faults (λ e. omega arith) c.read_faults;
+  write_faults = same_count 9 0 before.write_faults after.write_faults (λ e. omega arith) c.write_faults;
+}
+
+pub miss_counted : {X : Type 0} (before after : FolderCounts) → CountsRead {X = X} (Err read.Missing) before after → Counted 2 before after
+miss_counted before after c = record {
+  misses = record { rose = λ e. c.misses; stays = λ e. absurd (e refl) };
+  excesses = same_count 3 2 before.excesses after.excesses (λ e. omega arith) c.excesses;
+  read_faults = same_count 4 2 before.read_faults after.read_faults (λ e. omega arith) c.read_faults;
+  write_faults = same_count 9 2 before.write_faults after.write_faults (λ e. omega arith) c.write_faults;
+}
+
+pub excess_counted : {X : Type 0} (before after : FolderCounts) → CountsRead {X = X} (Err read.TooLong) before after → Counted 3 before after
+excess_counted before after c = record {
+  misses = same_count 2 3 before.misses after.misses (λ e. omega arith) c.misses;
+  excesses = record { rose = λ e. c.excesses; stays = λ e. absurd (e refl) };
+  read_faults = same_count 4 3 before.read_faults after.read_faults (λ e. omega arith) c.read_faults;
+  write_faults = same_count 9 3 before.write_faults after.write_faults (λ e. omega arith) c.write_faults;
+}
+
+-- ---- answers
+
+pub was_read : (name : List ℕ) (limit : ℕ) (before after : FolderState) (bytes : List ℕ) → IfSome before.told (λ files. file_of files name ≡ Some bytes) → length bytes ≤ limit → after.told ≡ before.told → Counted 0 before.counts after.counts → WasRead name limit before after bytes
+was_read name limit before after bytes known fits same counted =
+    let some = some_of before.told (λ files. file_of files name ≡ Some bytes) (with_file empty name bytes) (one_file name bytes) known in
+    record { files = some.files; are_files = some.are_files; found = some.has; fits = fits; stays = record { told = same; counts = counted } }
+
+pub was_missing : (name : List ℕ) (limit : ℕ) (before after : FolderState) → IfSome before.told (IsAbsent name) → after.told ≡ before.told → Counted 2 before.counts after.counts → ReadFails name limit before after (Says 2 (missing_line name))
+was_missing name limit before after known same counted =
+    let some = some_of before.told (IsAbsent name) empty (get-empty (slice_cmp nat_cmp) name) known in
+    ends.missing some.files some.are_files some.has refl same counted
+
+pub was_too_long : (name : List ℕ) (limit : ℕ) (before after : FolderState) → IfSome before.told (IsAbove limit name) → after.told ≡ before.told → Counted 3 before.counts after.counts → ReadFails name limit before after (Says 3 (too_long_line name))
+was_too_long name limit before after known same counted =
+    let long = replicate (limit + 1) 0 in
+    let some = some_of before.told (IsAbove limit name) (with_file empty name long) (long, one_file name long, omega (arith, length-replicate {A = ℕ} (limit + 1) 0)) known in
+    ends.too_long some.files some.are_files some.has refl same counted

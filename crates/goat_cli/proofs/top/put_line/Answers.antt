@@ -1,0 +1,20 @@
+use Rattle.std.proofs.Common.{[], refl, sym, ◌∙◌, take, ap}
+use Rattle.goat_io.specs.Written.{told_with_piece}
+use Rattle.goat_cli.specs.Endings as ends
+use Rattle.goat_cli.proofs.Told.{tells_then}
+use Rattle.goat_cli.proofs.Told.{told_nothing}
+use Rattle.goat_cli.proofs.top.put_line.Goals as goal
+
+pub returns-in-Err-Failed : goal.returns-in-Err-Failed
+returns-in-Err-Failed g c =
+    let is = c.in-Err-Failed.field-0-is in
+    let part = c.in-Err-Failed.ensures.failed (cc) in
+    let counts = rw is at c.in-Err-Failed.ensures.faults in
+    ends.failed part.0 refl (record { told = part.1 ∙ ap (λ line. told_with_piece (g.K.Sink.written c.args.out.now) (take part.0 line)) c.as_slice.ensures; faults = counts })
+
+pub returns-in-Err-NoMemory : goal.returns-in-Err-NoMemory
+returns-in-Err-NoMemory g c =
+    let is = c.in-Err-NoMemory.field-0-is in
+    let none = c.in-Err-NoMemory.ensures.no_memory (cc) in
+    let counts = rw is at c.in-Err-NoMemory.ensures.faults in
+    ends.wanting (tells_then [] c.want_memory.result _ _ _ (record { told = none ∙ sym (told_nothing (g.K.Sink.written c.args.out.now)); faults = counts }) c.want_memory.ensures)

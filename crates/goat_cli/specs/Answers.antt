@@ -1,0 +1,79 @@
+-- What the answers say, in the top call's clauses.
+use Rattle.std.specs.Prelude.{◌≡◌, ◌≢◌, ℕ, ◌<◌, ◌≤◌, List, ◌∷◌, Option, Some, All, length, true}
+use Rattle.std.specs.List.{concat}
+use Rattle.goat_io.specs.Count.{Rose}
+use Rattle.goat_io.specs.Files.{Files, file_of}
+use Rattle.goat_io.specs.Written.{told_with_piece}
+use Rattle.song_model.specs.declared.songs.Song.{Song}
+use Rattle.song_model.specs.Limits.{KeepsLimits}
+use Rattle.song_model.specs.LookUp.{playable_subtunes}
+use Rattle.goat_cli.specs.Words.{Job, Run, WordsOf}
+use Rattle.goat_cli.specs.Place.{IsAddress}
+use Rattle.goat_cli.specs.Stages.{stages, AllPass, input_limit}
+use Rattle.goat_cli.specs.Done.{Done}
+use Rattle.goat_cli.specs.Outcome.{Outcome, files_after}
+use Rattle.goat_cli.specs.Packed.{IsPackedFile}
+use Rattle.goat_cli.specs.Due.{IsOneOf}
+
+-- a status that no failing device and no want of memory gives
+pub record IsOrdinary (status : ℕ) : Type 0 where
+  pub no_read_fault : status ≢ 4
+  pub no_write_fault : status ≢ 9
+  pub no_sink_fault : status ≢ 10
+  pub no_want : status ≢ 14
+
+-- all lines were printed: no put failed, and memory was found
+pub record IsPrinted (status : ℕ) : Type 0 where
+  pub no_sink_fault : status ≢ 10
+  pub no_want : status ≢ 14
+
+-- no write was tried, or none is known to have been
+pub record IsBeforeWriting (status : ℕ) : Type 0 where
+  pub not_done : status ≢ 0
+  pub no_write_fault : status ≢ 9
+  pub no_sink_fault : status ≢ 10
+  pub no_want : status ≢ 14
+
+-- the job that the words name was done, with every stage met, and the files are as it leaves them
+pub record HoldsDone (words : List (List ℕ)) (files : Files) (files_now : Option Files) : Type 0 where
+  pub job : Job
+  pub form : WordsOf words job
+  pub pass : AllPass files (stages job)
+  pub lines : List (List ℕ)
+  pub write : Option (List ℕ × List ℕ)
+  pub done : Done job files lines write
+  pub files_are : files_now ≡ Some (files_after files write)
+
+-- the outcome came about: its lines were appended, and the files are as it says
+pub record ComesAbout (words : List (List ℕ)) (files : Files) (status : ℕ) (printed printed_now : Option (List ℕ)) (files_now : Option Files) : Type 0 where
+  pub lines : List (List ℕ)
+  pub write : Option (List ℕ × List ℕ)
+  pub outcome : Outcome words files status lines write
+  pub appended : printed_now ≡ told_with_piece printed (concat lines)
+  pub files_are : files_now ≡ Some (files_after files write)
+
+-- the status comes only where P holds, and where P holds it comes, or one of those in its place
+pub record ComesWhere (P : Type 0) (answer status : ℕ) (instead : List ℕ) : Type 0 where
+  pub only : answer ≡ status → P
+  pub always : P → IsOneOf (status ∷ instead) answer
+
+-- a sink's count rose where the status tells of a failed put, and with no other
+pub record SinkCounted (status before after : ℕ) : Type 0 where
+  pub rose : status ≡ 10 → Rose before after
+  pub stays : status ≢ 10 → after ≡ before
+
+-- the words ask for a run of a packed PSID file of the song: of its subtune, counted from 1, for so many frames
+pub record RunsPacked (words : List (List ℕ)) (files : Files) (song : Song) (subtune frames : ℕ) : Type 0 where
+  pub input : List ℕ
+  pub form : WordsOf words (Run input subtune frames)
+  pub file : List ℕ
+  pub found : file_of files input ≡ Some file
+  pub fits : length file ≤ input_limit
+  pub bytes : All (λ byte. byte < 256) file
+  pub keeps : KeepsLimits song
+  pub address : ℕ
+  pub zero_page : ℕ
+  pub place : IsAddress address
+  pub packed : IsPackedFile true address zero_page song file
+  pub first : 1 ≤ subtune
+  pub last : subtune ≤ length (playable_subtunes song)

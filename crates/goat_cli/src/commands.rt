@@ -1,0 +1,52 @@
+//! The commands, a file each: the words that name its job, and its chain of stages.
+
+ghost use Rattle.goat_cli.specs.Job.{job_of};
+ghost use Rattle.goat_cli.specs.Last.{last_word};
+ghost use Rattle.goat_cli.specs.Stands.{folder_state, sink_state};
+ghost use Rattle.goat_cli.specs.Endings.{RunEnds};
+ghost use Rattle.goat_cli.specs.Words.{KeepsLimits, WordsOf};
+ghost use Rattle.std.specs.Prelude.{List, ℕ};
+
+/// `copy IN OUT`.
+pub mod copy;
+/// `pack IN OUT psid|raw ADDRESS ZP`.
+pub mod pack;
+/// `run IN SUBTUNE FRAMES`.
+pub mod run;
+
+use crate::commands::copy::copy_song;
+use crate::commands::pack::pack_song;
+use crate::commands::run::run_psid;
+use crate::line::Line;
+use crate::refusal::{Refusal, Report};
+use crate::words::Job;
+use goat_io::{Folder, Sink};
+use std::alloc::Global;
+
+/// Does the job, but for its last line.
+pub fn perform<'a, F: Folder, K: Sink>(
+    alloc: Global,
+    job: &Job<'a>,
+    folder: &mut F,
+    line: &mut Line,
+    out: &mut K,
+) -> Result<Report, Refusal<'a>>
+    requires { KeepsLimits (job_of job.now) }
+    ensures { (words : List (List ℕ)) → WordsOf words (job_of job.now) → RunEnds words (last_word result) (folder_state (F.files folder.old) (F.counts folder.old)) (folder_state (F.files folder.new) (F.counts folder.new)) (sink_state (K.written out.old) (K.faults out.old)) (sink_state (K.written out.new) (K.faults out.new)) }
+{
+    match *job {
+        Job::Pack {
+            input,
+            output,
+            psid,
+            address,
+            ..
+        } => pack_song(alloc, input, output, psid, address, folder),
+        Job::Copy { input, output } => copy_song(alloc, input, output, folder),
+        Job::Run {
+            input,
+            subtune,
+            frames,
+        } => run_psid(alloc, input, subtune, frames, folder, line, out),
+    }
+}

@@ -1,0 +1,136 @@
+//! `run IN SUBTUNE FRAMES`: the PSID file IN is run, and the SID's registers are printed after each call.
+
+ghost use Rattle.std.specs.Prelude.{◌≡◌, ℕ, ◌≤◌, [], codes, None, IfOk, IfErr, OnOk, OnErr, IsErrOf, List};
+ghost use Rattle.cpu6502.specs.Call.{FailsBy};
+ghost use Rattle.sid_run.specs.State.{most_steps};
+ghost use Rattle.goat_cli.specs.Calls.{entry_of, number_of, ReturnsTo};
+ghost use Rattle.goat_cli.specs.Job.{job_of};
+ghost use Rattle.goat_cli.specs.Last.{last_word};
+ghost use Rattle.goat_cli.specs.RegisterText.{register_line};
+ghost use Rattle.goat_cli.specs.Stands.{folder_state, sink_state, Appends};
+ghost use Rattle.goat_cli.specs.Endings.{RunEnds, CallsEnd, FailsIn};
+ghost use Rattle.goat_cli.specs.Words.{texts, WordsOf, KeepsLimits, command_of, AreArgumentsOf, AreRunArguments, Run, frame_limit};
+
+use crate::arguments::number_of;
+use crate::line::Line;
+use crate::refusal::{Refusal, Report};
+use crate::stages::{INPUT_LIMIT, psid_of, read_file, subtune_of};
+use crate::words::{Job, WordsFault};
+use cpu6502::CallStop;
+use goat_io::{Folder, Sink, SinkFault};
+use sid_run::Runner;
+use std::alloc::Global;
+
+/// The greatest number that a subtune may be asked for by.
+const SUBTUNE_LIMIT: u32 = 255;
+
+/// The greatest number of frames that a run may be asked for.
+const FRAME_LIMIT: u32 = 100_000;
+
+/// The job that the words after `run` name.
+///
+/// # Errors
+///
+/// They aren't three, or one of them is out of its range.
+pub fn run_job(arguments: &[String]) -> Result<Job<'_>, WordsFault>
+    ensures found { IfOk result (λ job. AreArgumentsOf (job_of job) (texts arguments.now)) }
+    ensures command { IfOk result (λ job. command_of (job_of job) ≡ codes "run") }
+    ensures limits { IfOk result (λ job. KeepsLimits (job_of job)) }
+    ensures none { OnErr result ((input : List ℕ) (subtune frames : ℕ) → ¬ AreRunArguments (texts arguments.now) input subtune frames) }
+{
+    let [input, subtune, frames] = arguments else {
+        return Err(WordsFault);
+    };
+    if input.is_empty() {
+        return Err(WordsFault);
+    }
+    let subtune = number_of(subtune.as_str(), SUBTUNE_LIMIT)?;
+    let frames = number_of(frames.as_str(), FRAME_LIMIT)?;
+    Ok(Job::Run {
+        input: input.as_str(),
+        subtune: subtune as u8,
+        frames,
+    })
+}
+
+/// Runs a subtune, counted from 1, of a PSID file: init, and play for so many frames. Prints a line of registers after
+/// each call.
+pub fn run_psid<'a, F: Folder, K: Sink>(
+    alloc: Global,
+    input: &'a str,
+    subtune: u8,
+    frames: u32,
+    folder: &mut F,
+    line: &mut Line,
+    out: &mut K,
+) -> Result<Report, Refusal<'a>>
+    requires { frames ≤ frame_limit }
+    ensures { (words : List (List ℕ)) → WordsOf words (Run input.now subtune frames) → RunEnds words (last_word result) (folder_state (F.files folder.old) (F.counts folder.old)) (folder_state (F.files folder.new) (F.counts folder.new)) (sink_state (K.written out.old) (K.faults out.old)) (sink_state (K.written out.new) (K.faults out.new)) }
+{
+    let bytes = read_file(alloc, input, INPUT_LIMIT, folder)?;
+    let psid = psid_of(alloc, &bytes)?;
+    let number = subtune_of(&psid, subtune)?;
+    let Ok(mut runner) = Runner::load(alloc, &psid) else {
+        return Err(Refusal::NoMemory);
+    };
+    show_calls(&mut runner, number, frames, line, out)
+}
+
+/// Calls init with a subtune's number from 0, and play for so many frames, and prints a line after each call.
+fn show_calls<K: Sink>(
+    runner: &mut Runner,
+    number: u8,
+    frames: u32,
+    line: &mut Line,
+    out: &mut K,
+) -> Result<Report, Refusal<'static>>
+    requires running { runner.old.stopped ≡ None }
+    requires limit { frames ≤ frame_limit }
+    ensures { CallsEnd runner.old number frames (last_word result) (sink_state (K.written out.old) (K.faults out.old)) (sink_state (K.written out.new) (K.faults out.new)) }
+{
+    for call in 0..frames + 1 {
+        let registers = match next_call(runner, number, call) {
+            Ok(registers) => registers,
+            Err(reason) => return Err(Refusal::Stopped { reason, call }),
+        };
+        match put_registers(call, &registers, line, out) {
+            Ok(()) => {}
+            Err(SinkFault::Failed) => return Err(Refusal::SinkFault),
+            Err(SinkFault::NoMemory) => return Err(Refusal::NoMemory),
+        }
+    }
+    Ok(Report::Shown)
+}
+
+/// Makes the call with this index: call 0 is init, the others are play.
+fn next_call(runner: &mut Runner, number: u8, call: u32) -> Result<[u8; 25], CallStop>
+    requires { runner.old.stopped ≡ None }
+    ensures returned { IfOk result (λ registers. ReturnsTo runner.old.machine (entry_of runner.old call) (number_of number call runner.old.machine) registers runner.new.machine) }
+    ensures failed { IfErr result (λ reason. FailsBy runner.old.machine (entry_of runner.old call) (number_of number call runner.old.machine) most_steps reason runner.new.machine) }
+    ensures running { OnOk result (runner.new.stopped ≡ None) }
+    ensures same_init { runner.new.init ≡ runner.old.init }
+    ensures same_play { runner.new.play ≡ runner.old.play }
+{
+    if call == 0 {
+        runner.init(number)
+    } else {
+        runner.play()
+    }
+}
+
+/// Prints the line of a call.
+fn put_registers<K: Sink>(
+    call: u32,
+    registers: &[u8; 25],
+    line: &mut Line,
+    out: &mut K,
+) -> Result<(), SinkFault>
+    ensures ok { OnOk result (Appends (register_line call registers.now) (sink_state (K.written out.old) (K.faults out.old)) (sink_state (K.written out.new) (K.faults out.new))) }
+    ensures failed { IsErrOf result SinkFault.Failed → FailsIn (register_line call registers.now) (sink_state (K.written out.old) (K.faults out.old)) (sink_state (K.written out.new) (K.faults out.new)) }
+    ensures no_memory { IsErrOf result SinkFault.NoMemory → Appends [] (sink_state (K.written out.old) (K.faults out.old)) (sink_state (K.written out.new) (K.faults out.new)) }
+{
+    match line.tell_registers(call, registers) {
+        Ok(()) => out.put(line.as_slice()),
+        Err(_) => Err(SinkFault::NoMemory),
+    }
+}

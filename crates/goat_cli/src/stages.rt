@@ -1,0 +1,135 @@
+//! The stages of a run: each is met, or ends the run.
+
+ghost use Rattle.std.specs.Prelude.{◌≡◌, ◌+◌, ◌-◌, ◌≤◌, ℕ, List, Some, IfOk, IfErr, OnOk, Ok, length};
+ghost use Rattle.goat_io.specs.Files.{Files, file_of};
+ghost use Rattle.song_model.specs.Silent.{IsSilent};
+ghost use Rattle.gts5.specs.Spells.{Spells};
+ghost use Rattle.psid.specs.Reading.{psid_read};
+ghost use Rattle.goat_cli.specs.Calls.{HasSubtune};
+ghost use Rattle.goat_cli.specs.Last.{last_of, last_word};
+ghost use Rattle.goat_cli.specs.Stages.{SpellsSong, CanBePacked, IsPsid, OffersSubtune, HoldsSong, HoldsPsid, input_limit};
+ghost use Rattle.goat_cli.specs.Stands.{folder_state};
+ghost use Rattle.goat_cli.specs.Endings.{Refuses, WasRead, ReadFails, WriteEnds};
+
+use crate::refusal::{Refusal, Report};
+use crate::silent::is_silent;
+use goat_io::{Folder, ReadFault, WriteFault};
+use gts5::SongFault;
+use psid::{Psid, PsidFault};
+use song_model::Song;
+use std::alloc::Global;
+
+/// The most bytes of a song or a PSID file.
+pub const INPUT_LIMIT: u32 = 262_144;
+
+/// The bytes of a file.
+///
+/// # Errors
+///
+/// No file has the name, it has more than `limit` bytes, the device failed, or out of memory.
+pub fn read_file<'a, F: Folder>(
+    alloc: Global,
+    name: &'a str,
+    limit: u32,
+    folder: &mut F,
+) -> Result<Vec<u8>, Refusal<'a>>
+    ensures read { IfOk result (λ bytes. WasRead name.now limit (folder_state (F.files folder.old) (F.counts folder.old)) (folder_state (F.files folder.new) (F.counts folder.new)) bytes.items) }
+    ensures refused { IfErr result (λ refusal. ReadFails name.now limit (folder_state (F.files folder.old) (F.counts folder.old)) (folder_state (F.files folder.new) (F.counts folder.new)) (last_of refusal)) }
+{
+    match folder.read(alloc, name, limit) {
+        Ok(bytes) => Ok(bytes),
+        Err(ReadFault::Missing) => Err(Refusal::Missing(name)),
+        Err(ReadFault::TooLong) => Err(Refusal::TooLong(name)),
+        Err(ReadFault::Failed) => Err(Refusal::ReadFault(name)),
+        Err(ReadFault::NoMemory) => Err(Refusal::NoMemory),
+    }
+}
+
+/// Writes a file, and reports how many bytes it has.
+///
+/// # Errors
+///
+/// The device failed, and the file is as before or holds a prefix of the bytes; or out of memory.
+pub fn write_file<'a, F: Folder>(
+    name: &'a str,
+    bytes: &[u8],
+    folder: &mut F,
+) -> Result<Report, Refusal<'a>>
+    ensures { WriteEnds name.now bytes.now (folder_state (F.files folder.old) (F.counts folder.old)) (folder_state (F.files folder.new) (F.counts folder.new)) (last_word result) }
+{
+    match folder.write(name, bytes) {
+        Ok(()) => Ok(Report::Wrote(bytes.len())),
+        Err(WriteFault::Failed) => Err(Refusal::WriteFault(name)),
+        Err(WriteFault::NoMemory) => Err(Refusal::NoMemory),
+    }
+}
+
+/// The song that the bytes of a file spell.
+///
+/// # Errors
+///
+/// The bytes break the format of songs, or out of memory.
+pub fn song_of(alloc: Global, bytes: &[u8]) -> Result<Song, Refusal<'static>>
+    requires { length bytes.now ≤ input_limit }
+    ensures spells { IfOk result (Spells bytes.now) }
+    ensures refused { IfErr result (λ refusal. (files : Files) (name : List ℕ) → file_of files name ≡ Some bytes.now → Refuses files (SpellsSong name) (last_of refusal)) }
+{
+    match gts5::read(alloc, bytes) {
+        Ok(song) => Ok(song),
+        Err(SongFault::NoMemory) => Err(Refusal::NoMemory),
+        Err(fault) => Err(Refusal::NotASong(fault)),
+    }
+}
+
+/// Tells whether the song can be packed: silent songs can.
+///
+/// # Errors
+///
+/// It isn't silent.
+pub fn can_be_packed(song: &Song) -> Result<(), Refusal<'static>>
+    ensures silent { OnOk result (IsSilent song.now) }
+    ensures refused { IfErr result (λ refusal. (files : Files) (name : List ℕ) → HoldsSong files name song.now → Refuses files (CanBePacked name) (last_of refusal)) }
+{
+    if is_silent(song) {
+        Ok(())
+    } else {
+        Err(Refusal::NotBuilt)
+    }
+}
+
+/// The PSID file that the bytes of a file are.
+///
+/// # Errors
+///
+/// The bytes break the format of PSID files, or out of memory.
+pub fn psid_of(alloc: Global, bytes: &[u8]) -> Result<Psid, Refusal<'static>>
+    ensures reads { IfOk result (λ psid. psid_read bytes.now ≡ Ok psid) }
+    ensures fits { IfOk result (λ psid. psid.load + length psid.image ≤ 65536) }
+    ensures refused { IfErr result (λ refusal. (files : Files) (name : List ℕ) → file_of files name ≡ Some bytes.now → Refuses files (IsPsid name) (last_of refusal)) }
+{
+    match psid::read(alloc, bytes) {
+        Ok(psid) => Ok(psid),
+        Err(PsidFault::NoMemory) => Err(Refusal::NoMemory),
+        Err(fault) => Err(Refusal::NotAPsid(fault)),
+    }
+}
+
+/// The number from 0 that init takes of a subtune that is counted from 1.
+///
+/// # Errors
+///
+/// The file doesn't have the subtune.
+pub fn subtune_of(psid: &Psid, subtune: u8) -> Result<u8, Refusal<'static>>
+    ensures has { OnOk result (HasSubtune psid.now subtune) }
+    ensures number { IfOk result (λ number. number ≡ subtune - 1) }
+    ensures refused { IfErr result (λ refusal. (files : Files) (name : List ℕ) → HoldsPsid files name psid.now → Refuses files (OffersSubtune name subtune) (last_of refusal)) }
+{
+    let songs = psid.header.songs;
+    if subtune == 0 || u16::from(subtune) > songs {
+        return Err(Refusal::NoSubtune {
+            asked: subtune,
+            songs,
+        });
+    }
+    Ok(subtune - 1)
+}
