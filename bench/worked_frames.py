@@ -48,9 +48,9 @@ use Rattle.play_model.specs.WorkedRuns.{left_out}
 """
 UNFOLDING = """\
 unfolding prefix_of cycle_of played playable_subtune instrument_at table_row pattern_at
-  freq half_tone slide next_row porta_up porta_down tone vibrato do_command filter_step
-  between_rows note_started row_command at_row tick_step wave_command wave_step effect_step
-  pulse_step fetch_row voice_step voice_registers filter_registers frame_of calls_from"""
+    freq half_tone slide next_row porta_up porta_down tone vibrato do_command filter_step
+    between_rows note_started row_command at_row tick_step wave_command wave_step effect_step
+    pulse_step fetch_row voice_step voice_registers filter_registers frame_of calls_from"""
 
 
 class Reader:
@@ -100,7 +100,7 @@ def wrapped(text):
     while len(left) > LIMIT:
         cut = left.rfind(" ∷ ", 0, LIMIT)
         lines.append(left[:cut])
-        left = "        " + left[cut + 1 :]
+        left = "      " + left[cut + 1 :]
     return lines + [left]
 
 
@@ -170,8 +170,8 @@ def main():
     for name, subtune, suffix, options, _, lines in runs:
         run = f"{plain_name(name)}_{suffix}"
         specs.append(f"  pub {run} : Plays {options} {plain_name(name)} {subtune} (")
-        specs += [f"    0x{line} ∷" for line in lines]
-        specs.append("    [])")
+        specs += [f"      0x{line} ∷" for line in lines]
+        specs.append("      [])")
         proofs.append(f"  {run} = plays {options} {plain_name(name)} {subtune} _ refl;")
     proofs.append("}")
     for folder, text in [("specs", specs), ("proofs", proofs)]:

@@ -10,7 +10,7 @@ use Rattle.play_model.specs.WaveStep.{wave_command, wave_step}
 use Rattle.play_model.specs.EffectStep.{effect_step}
 use Rattle.play_model.specs.PulseStep.{pulse_step}
 use Rattle.play_model.specs.FetchRow.{fetch_row}
-use Rattle.play_model.specs.Frame.{voice_step, voice_registers, filter_registers, frame_of, frame_with, state_after_with, state_after, trace_with, trace}
+use Rattle.play_model.specs.Frame.{voice_step, voice_registers, filter_registers, frame_of, frame_with, state_after_with, trace_with, trace}
 use Rattle.song_model.specs.declared.songs.Song.{Song}
 use Rattle.play_model.specs.declared.options.Options.{Options}
 use Rattle.play_model.specs.State.{FrameState, no_options, start_state}
@@ -68,7 +68,7 @@ calls_are_traced o song k m zero = refl
 calls_are_traced o song k m (suc n) =
     rw (add-one (suc m))
     (ap (λ calls. (frame_with o song k (state_after_with o song k m)).registers ∷ calls)
-      (calls_are_traced o song k (suc m) n))
+    (calls_are_traced o song k (suc m) n))
 
 -- so a run's registers are those of its calls
 pub plays : (o : Options) (song : Song) (k : ℕ) (lines : List ℕ) →

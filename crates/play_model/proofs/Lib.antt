@@ -1,20 +1,16 @@
 -- The door: the lemmas that upper crates may cite.
 pub mod Laws
-
 -- Of no subject.
 pub mod Choices
-
 -- Silent songs: a voice with nothing to play stays so.
 pub mod QuietVoice
 pub mod QuietOrder
 pub mod QuietTrace
-
 -- Ranges: each rule, each step, each voice and each frame keeps them.
 pub mod RangesOfRules
 pub mod RangesOfSteps
 pub mod RangesOfVoices
 pub mod RangesOfFrames
-
 -- Worked frames, computed: those by hand, and those that bench/worked_frames.py has written.
 pub mod Computed
 pub mod WorkedCorners

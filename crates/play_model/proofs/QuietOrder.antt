@@ -33,11 +33,11 @@ unfolding pattern_at
 silent_pattern song order byte s h =
     s.rows byte (get_or song.patterns byte []) h
     (slice_get-get_or song.patterns byte []
-      (All-contains (λ b. b < length song.patterns) order.entries byte s.stored h))
+    (All-contains (λ b. b < length song.patterns) order.entries byte s.stored h))
 
 pub quiet_order : (song : Song) (order : Order) → IsSilentOrder song.patterns order →
     IsQuietOrder (look_ups_of song) order
 quiet_order song order s = λ play place.
     quiet_row_of _ place
     (silent_pattern song order (played order play).pattern s
-      (plays_are_entries_lem order play (cycle_some order s.restart (s.plain order.restart 0 s.restart))))
+    (plays_are_entries_lem order play (cycle_some order s.restart (s.plain order.restart 0 s.restart))))

@@ -1,18 +1,16 @@
 -- Silent songs are silent: what the voices have is kept from frame to frame.
 use Rattle.std.specs.Prelude.{◌==◌, if◌then◌else◌}
-use Rattle.std.proofs.Common.{◌≡◌, ℕ, zero, suc, ◌<◌, true, slice_get, unwrap_or, filter, List, [], ◌∷◌, length, replicate, All, refl, arith, add-one}
-use Rattle.std.proofs.lemmas.Bool.Decides.{nat_tests}
+use Rattle.std.proofs.Common.{◌≡◌, ℕ, zero, suc, slice_get, unwrap_or, filter, List, [], ◌∷◌, length, replicate, All, refl, arith, add-one}
 use Rattle.std.proofs.lemmas.List.Elements.{All-head}
 pub use Rattle.song_model.proofs.Laws.{silent_is_playable}
 use Rattle.song_model.specs.declared.rows.Row.{Row}
-use Rattle.song_model.specs.declared.orders.Order.{Order}
 use Rattle.song_model.specs.declared.orders.Subtune.{Subtune}
 use Rattle.song_model.specs.declared.songs.Song.{Song}
 use Rattle.song_model.specs.Silent.{IsSilentSubtune, IsSilent}
 use Rattle.song_model.specs.LookUp.{is_playable_subtune, playable_subtune, order_of, void_subtune}
 use Rattle.play_model.specs.declared.options.Options.{Options}
 use Rattle.play_model.specs.LookUps.{LookUps, look_ups_of}
-use Rattle.play_model.specs.State.{Voice, Common, FrameState, Playing, no_options, start_state, voice_of, playing_of, with_playing}
+use Rattle.play_model.specs.State.{Voice, Common, FrameState, Playing, no_options, start_state, playing_of, with_playing}
 use Rattle.play_model.specs.Frame.{Framed, voice_registers, filter_registers, voice_step, voice_done, voices_done, framed, frame_of, subtune_at, state_after_with, trace}
 use Rattle.play_model.specs.SilentTrace.{silent_registers, SilentSongsAreSilent}
 use Rattle.play_model.proofs.Choices.{chosen}
@@ -57,7 +55,7 @@ quiet_put_back channel s x p q =
     chosen IsQuietState (channel == 1) (record x { one = s.voice; common = s.common }) _
     (record { common = p.common; one = p.voice; two = q.two; three = q.three })
     (chosen IsQuietState (channel == 2) (record x { two = s.voice; common = s.common })
-      (record x { three = s.voice; common = s.common })
+    (record x { three = s.voice; common = s.common })
     (record { common = p.common; one = q.one; two = p.voice; three = q.three })
     (record { common = p.common; one = q.one; two = q.two; three = p.voice }))
 
@@ -73,7 +71,7 @@ quiet_voice_done : (channel : ℕ) (o : Options) (look : LookUps) (subtune : Sub
 quiet_voice_done channel o look subtune x h s q =
     quiet_put_back channel (voice_step channel o look (order_of channel subtune) (playing_of channel x)) x
     (quiet_voice channel o look (order_of channel subtune) (playing_of channel x) h
-      (quiet_order_of channel look subtune s) (quiet_playing channel x q)) q
+    (quiet_order_of channel look subtune s) (quiet_playing channel x q)) q
 
 quiet_framed : (x : FrameState) (filter : List ℕ) → filter ≡ 0 ∷ 0 ∷ 0 ∷ 15 ∷ [] → IsQuietState x →
     IsQuietFrame (framed filter x)
@@ -91,7 +89,7 @@ quiet_frame o look subtune x h s q =
     rw (filter_rests look x.common q.common.filter_ptr)
     (quiet_framed (voices_done o look subtune x) (filter_registers x.common) (quiet_filter_registers x.common q.common)
     (quiet_voice_done 3 o look subtune _ h s
-      (quiet_voice_done 2 o look subtune _ h s (quiet_voice_done 1 o look subtune x h s q))))
+    (quiet_voice_done 2 o look subtune _ h s (quiet_voice_done 1 o look subtune x h s q))))
 
 quiet_start : IsQuietState (start_state no_options)
 quiet_start = record {
@@ -113,13 +111,13 @@ unfolding state_after_with
 quiet_after song k zero s = quiet_start
 quiet_after song k (suc n) s =
     (quiet_frame no_options (look_ups_of song) (subtune_at song k)
-      (state_after_with no_options song k n) s.instruments s.subtune (quiet_after song k n s)).state
+    (state_after_with no_options song k n) s.instruments s.subtune (quiet_after song k n s)).state
 
 quiet_trace : (song : Song) (k n : ℕ) → IsQuietSong song k → trace song k (suc n) ≡ silent_registers
 unfolding trace
 quiet_trace song k n s =
     (quiet_frame no_options (look_ups_of song) (subtune_at song k)
-      (state_after_with no_options song k n) s.instruments s.subtune (quiet_after song k n s)).registers
+    (state_after_with no_options song k n) s.instruments s.subtune (quiet_after song k n s)).registers
 
 quiet_subtune : (song : Song) (subtune : Subtune) → IsSilentSubtune song.patterns subtune →
     IsQuietSubtune (look_ups_of song) subtune

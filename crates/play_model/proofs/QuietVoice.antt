@@ -1,5 +1,5 @@
 -- A voice that has nothing to play stays so in each rule of a frame.
-use Rattle.std.proofs.Common.{◌≡◌, ℕ, ℤ, ◌+◌, ◌-◌, ◌⊎◌, Bool, true, false, cond, [], inl, inr, refl, ap}
+use Rattle.std.proofs.Common.{◌≡◌, ℕ, ℤ, ◌+◌, ◌-◌, ◌⊎◌, true, false, [], inl, inr, refl, ap}
 use Rattle.std.specs.Prelude.{◌==◌, if◌then◌else◌, nat_le}
 use Rattle.song_model.specs.declared.rows.Row.{Row}
 use Rattle.song_model.specs.declared.instruments.Instrument.{Instrument}
@@ -83,7 +83,7 @@ unfolding at_row
 at_row_quiet channel look s q =
     rw (no_note zero_instrument (gate_timer_set zero_instrument s) q.voice.new_note)
     (rw (no_command channel look zero_instrument s.voice.new_command s.voice.new_param
-      (gate_timer_set zero_instrument s) q.voice.new_command)
+    (gate_timer_set zero_instrument s) q.voice.new_command)
     (rw q.voice.new_note))
 
 -- the count of frames goes on, and nothing else
@@ -163,8 +163,8 @@ quiet_ticked : (channel : ℕ) (look : LookUps) (s : Playing) → NoInstruments 
 quiet_ticked channel look s h q =
     rw (h s.voice.instrument)
     (chosen IsQuietTick (s.voice.tick == 0) (at_row channel look zero_instrument s)
-      (record { playing = between_rows channel s; started = false }) (quiet_row channel look s q)
-      (record { playing = quiet_between channel s q; started = refl }))
+    (record { playing = between_rows channel s; started = false }) (quiet_row channel look s q)
+    (record { playing = quiet_between channel s q; started = refl }))
 
 pub quiet_tick : (channel : ℕ) (look : LookUps) (s : Playing) → NoInstruments look → IsQuiet s →
     IsQuietTick (tick_step channel look s)

@@ -1,7 +1,6 @@
 -- The states within a frame, its registers, and all that a song is played with keep the ranges.
-use Rattle.std.specs.Prelude.{◌==◌, if◌then◌else◌, bit_and, bit_or, unsigned_abs, FitsSigned}
-use Rattle.std.specs.Int.{int_rem_euclid, cast_unsigned, w8}
-use Rattle.std.proofs.Common.{◌≡◌, ℕ, ℤ, zero, suc, pos, negsuc, ◌+◌, ◌-◌, ◌*◌, ◌/◌, ◌%◌, ◌+ℤ◌, ◌<◌, ◌≤◌, Bool, true, false, List, [], ◌∷◌, ◌++◌, length, get_or, replicate, All, lit<, lit≤, inl, inr, refl, ap, arith}
+use Rattle.std.specs.Prelude.{◌==◌, if◌then◌else◌, bit_and, bit_or, unsigned_abs}
+use Rattle.std.proofs.Common.{◌≡◌, ℕ, zero, suc, pos, negsuc, ◌+◌, ◌-◌, ◌*◌, ◌/◌, ◌%◌, ◌+ℤ◌, ◌<◌, List, [], ◌∷◌, length, All, lit<, inl, inr, refl, ap, arith}
 use Rattle.std.proofs.lemmas.Int.{int_rem_euclid_is, ints}
 use Rattle.std.proofs.lemmas.Bool.{cases_lt}
 use Rattle.std.proofs.lemmas.List.{get_or_past}
@@ -11,25 +10,19 @@ use Rattle.base.specs.Bytes.{IsByte, AreBytes}
 use Rattle.base.proofs.Laws.{and_small, half_small}
 use Rattle.song_model.proofs.Laws.{instrument_in_range, table_row_in_range, pattern_rows_in_range}
 use Rattle.song_model.specs.declared.rows.Row.{Row}
-use Rattle.song_model.specs.declared.orders.Order.{Order}
 use Rattle.song_model.specs.declared.orders.Subtune.{Subtune}
-use Rattle.song_model.specs.declared.instruments.Instrument.{Instrument}
-use Rattle.song_model.specs.declared.tables.TableRow.{TableRow}
-use Rattle.song_model.specs.declared.tables.TableName.{TableName}
-use Rattle.song_model.specs.declared.tables.TableName.TheVariants.{Wave, Pulse, Filter, Speed}
 use Rattle.song_model.specs.declared.songs.Song.{Song}
 use Rattle.song_model.specs.PatternLimits.{IsRow}
 use Rattle.song_model.specs.Limits.{KeepsLimits}
-use Rattle.song_model.specs.LookUp.{pattern_at, zero_row, pattern_row, order_of}
+use Rattle.song_model.specs.LookUp.{zero_row, pattern_row, order_of}
 use Rattle.play_model.specs.declared.options.Options.{Options}
 use Rattle.play_model.specs.Speeds.{IsSpeed}
 use Rattle.play_model.specs.LookUps.{LookUps, look_ups_of}
-use Rattle.play_model.specs.State.{Voice, Common, FrameState, Playing, start_voice, start_common, start_state, voice_of, playing_of, with_playing}
+use Rattle.play_model.specs.State.{Voice, Common, FrameState, Playing, start_voice, start_common, playing_of, with_playing}
 use Rattle.play_model.specs.Ranges.{IsBytesRow, AreLookUps, IsVoice, IsCommon, IsPlaying, IsFrameState}
 use Rattle.play_model.specs.FilterStep.{filter_step}
-use Rattle.play_model.specs.FetchRow.{transposed}
 use Rattle.play_model.specs.Frame.{voice_step, voice_registers, filter_registers, filter_done, voice_done, voices_done, framed, frame_of, subtune_at, state_after_with, trace_with}
-use Rattle.play_model.specs.RangeLaws.{RulesKeepRanges, FramesKeepRanges, SongsKeepRanges, RangesAreKept, FrameRangesAreKept, StartIsInRange, SongRangesAreKept, TransposesWrap}
+use Rattle.play_model.specs.RangeLaws.{RangesAreKept, FrameRangesAreKept, StartIsInRange, SongRangesAreKept, TransposesWrap}
 use Rattle.play_model.proofs.Choices.{chosen}
 use Rattle.play_model.proofs.RangesOfSteps.{filter_keeps, effect_keeps, pulse_keeps, fetch_keeps}
 use Rattle.play_model.proofs.RangesOfVoices.{tick_keeps, wave_keeps, voice_keeps}
@@ -65,7 +58,7 @@ put_back_keeps channel s x p q =
     chosen IsFrameState (channel == 1) (record x { one = s.voice; common = s.common }) _
     (record { common = p.common; one = p.voice; two = q.two; three = q.three })
     (chosen IsFrameState (channel == 2) (record x { two = s.voice; common = s.common })
-      (record x { three = s.voice; common = s.common })
+    (record x { three = s.voice; common = s.common })
     (record { common = p.common; one = q.one; two = p.voice; three = q.three })
     (record { common = p.common; one = q.one; two = q.two; three = p.voice }))
 
@@ -106,7 +99,7 @@ voice_bytes v q =
     three_more (v.freq % 256) (v.freq / 256) (v.pulse % 256) (v.pulse / 256 ∷ bit_and v.wave v.gate ∷ v.ad ∷ v.sr ∷ [])
     (low_small v.freq) (half_small v.freq q.freq) (low_small v.pulse)
     (four_bytes (v.pulse / 256) (bit_and v.wave v.gate) v.ad v.sr (high_small v.pulse q.pulse)
-      (and_small v.wave v.gate q.wave) q.ad q.sr)
+    (and_small v.wave v.gate q.wave) q.ad q.sr)
 
 filter_bytes : (c : Common) → IsCommon c → AreBytes (filter_registers c)
 unfolding filter_registers
@@ -119,8 +112,8 @@ framed_bytes : (filter : List ℕ) (x : FrameState) → AreBytes filter → IsFr
 framed_bytes filter x f q =
     All-append IsByte _ filter
     (All-append IsByte _ (voice_registers x.three)
-      (All-append IsByte (voice_registers x.one) (voice_registers x.two) (voice_bytes x.one q.one)
-        (voice_bytes x.two q.two)) (voice_bytes x.three q.three))
+    (All-append IsByte (voice_registers x.one) (voice_registers x.two) (voice_bytes x.one q.one)
+    (voice_bytes x.two q.two)) (voice_bytes x.three q.three))
     f
 
 frame_keeps : (o : Options) (look : LookUps) (subtune : Subtune) (x : FrameState) → AreLookUps look → IsFrameState x →
@@ -148,10 +141,29 @@ frame_ranges_lem o look subtune a = record {
 -- the start
 start_voice_in_range : IsVoice start_voice
 start_voice_in_range = record {
-  row = lit< tt; tick = lit< tt; gate_timer = lit< tt; instrument = lit< tt; note = lit< tt; new_note = lit< tt;
-  new_command = lit< tt; new_param = lit< tt; command = lit< tt; param = lit< tt; ad = lit< tt; sr = lit< tt;
-  vib_time = lit< tt; vib_delay = lit< tt; wave = lit< tt; gate = lit< tt; freq = lit< tt; last_note = lit< tt;
-  wave_ptr = lit< tt; wave_time = lit< tt; pulse_ptr = lit< tt; pulse_time = lit< tt; pulse = lit< tt;
+  row = lit< tt;
+  tick = lit< tt;
+  gate_timer = lit< tt;
+  instrument = lit< tt;
+  note = lit< tt;
+  new_note = lit< tt;
+  new_command = lit< tt;
+  new_param = lit< tt;
+  command = lit< tt;
+  param = lit< tt;
+  ad = lit< tt;
+  sr = lit< tt;
+  vib_time = lit< tt;
+  vib_delay = lit< tt;
+  wave = lit< tt;
+  gate = lit< tt;
+  freq = lit< tt;
+  last_note = lit< tt;
+  wave_ptr = lit< tt;
+  wave_time = lit< tt;
+  pulse_ptr = lit< tt;
+  pulse_time = lit< tt;
+  pulse = lit< tt;
 }
 
 start_common_in_range : (speed : ℕ) → IsSpeed speed → IsCommon (start_common speed)
@@ -159,9 +171,18 @@ start_common_in_range speed s =
     let most = s.most in
     record {
       tempo_one =
-          omega arith; tempo_two = omega arith; tempo_three = omega arith; funk_one = omega arith; funk_two = omega arith;
+          omega arith;
+      tempo_two = omega arith;
+      tempo_three = omega arith;
+      funk_one = omega arith;
+      funk_two = omega arith;
       filter_ptr =
-          lit< tt; filter_time = lit< tt; filter_type = lit< tt; filter_control = lit< tt; cutoff = lit< tt; volume = lit< tt;
+          lit< tt;
+      filter_time = lit< tt;
+      filter_type = lit< tt;
+      filter_control = lit< tt;
+      cutoff = lit< tt;
+      volume = lit< tt;
     }
 
 pub start_lem : StartIsInRange

@@ -1,26 +1,15 @@
 -- Each rule of a frame keeps the ranges.
-use Rattle.std.specs.Prelude.{◌==◌, ◌&&◌, ◌||◌, if◌then◌else◌, nat_le, nat_lt, min, bit_and, unsigned_abs, FitsSigned}
-use Rattle.std.proofs.Common.{◌≡◌, ℕ, ℤ, zero, suc, pos, negsuc, ◌+◌, ◌-◌, ◌*◌, ◌/◌, ◌%◌, ◌+ℤ◌, ◌<◌, ◌≤◌, Bool, true, false, cond, lit<, refl, ap, arith}
-use Rattle.std.specs.Int.{int_rem_euclid, cast_unsigned, w8}
-use Rattle.std.proofs.lemmas.Int.{int_rem_euclid_is}
+use Rattle.std.specs.Prelude.{◌==◌, if◌then◌else◌, nat_lt, min, unsigned_abs}
+use Rattle.std.proofs.Common.{ℕ, ℤ, pos, negsuc, ◌+◌, ◌-◌, ◌%◌, ◌+ℤ◌, ◌<◌, lit<, arith}
+use Rattle.std.specs.Int.{int_rem_euclid}
 use Rattle.base.specs.Bytes.{IsByte, IsWord}
-use Rattle.base.proofs.Laws.{and_small}
-use Rattle.song_model.specs.declared.rows.Row.{Row}
-use Rattle.song_model.specs.declared.orders.Order.{Order}
-use Rattle.song_model.specs.declared.orders.Step.{Step}
-use Rattle.song_model.specs.declared.instruments.Instrument.{Instrument}
-use Rattle.song_model.specs.declared.tables.TableRow.{TableRow}
 use Rattle.song_model.specs.declared.tables.TableName.{TableName}
-use Rattle.song_model.specs.declared.tables.TableName.TheVariants.{Wave, Pulse, Filter, Speed}
-use Rattle.song_model.specs.Limits.{IsInstrument, IsTableRow}
-use Rattle.song_model.specs.LookUp.{pattern_row}
-use Rattle.song_model.specs.Walk.{played}
 use Rattle.play_model.specs.LookUps.{LookUps}
-use Rattle.play_model.specs.State.{Voice, Common, Playing}
-use Rattle.play_model.specs.Ranges.{IsBytesRow, AreLookUps, IsVoice, IsCommon, IsPlaying}
-use Rattle.play_model.specs.Wrap.{byte_plus, byte_minus, freq_plus, freq_minus, pulse_plus, pulse_minus}
-use Rattle.play_model.specs.Freq.{freq, slide, highest_octave}
-use Rattle.play_model.specs.Helpers.{next_row, porta_up, porta_down, at_target, towards, tone_by, tone, swung, vibrato, do_command}
+use Rattle.play_model.specs.State.{Voice, Playing}
+use Rattle.play_model.specs.Ranges.{AreLookUps, IsVoice, IsPlaying}
+use Rattle.play_model.specs.Wrap.{byte_plus, freq_plus, freq_minus}
+use Rattle.play_model.specs.Freq.{freq, slide}
+use Rattle.play_model.specs.Helpers.{next_row, porta_up, porta_down, at_target, towards, tone, swung, vibrato, do_command}
 use Rattle.play_model.specs.FetchRow.{transposed}
 use Rattle.play_model.proofs.Choices.{chosen}
 
@@ -82,7 +71,7 @@ towards_keeps : (target step : ℕ) (v : Voice) → IsVoice v → IsVoice (towar
 towards_keeps target step v q =
     with_freq v _
     (chosen IsWord (nat_lt v.freq target) (freq_plus v.freq step) (freq_minus v.freq step) (word_wraps _)
-      (word_wraps _)) q
+    (word_wraps _)) q
 
 pub tone_keeps : (look : LookUps) (d : ℕ) (v : Voice) → IsVoice v → IsVoice (tone look d v)
 unfolding tone
@@ -93,7 +82,7 @@ tone_keeps look d v q =
 swung_keeps : (time depth : ℕ) (v : Voice) → IsByte time → IsVoice v → IsVoice (swung time depth v)
 swung_keeps time depth v h q =
     let f : IsWord (if time % 2 == 1 then freq_minus v.freq depth else freq_plus v.freq depth) =
-      chosen IsWord (time % 2 == 1) (freq_minus v.freq depth) (freq_plus v.freq depth) (word_wraps _) (word_wraps _) in
+    chosen IsWord (time % 2 == 1) (freq_minus v.freq depth) (freq_plus v.freq depth) (word_wraps _) (word_wraps _) in
     assumption (h, f, q)
 
 pub vibrato_keeps : (look : LookUps) (d : ℕ) (v : Voice) → IsVoice v → IsVoice (vibrato look d v)
@@ -140,8 +129,8 @@ command_keeps c d s h q =
     (chosen IsPlaying (c == 9) _ _ (pulse_program_keeps d s h q)
     (chosen IsPlaying (c == 0xA) _ _ (filter_program_keeps d 0 s h (lit< {m = 0} {n = 256} tt) q)
     (chosen IsPlaying (c == 0xB) _ _
-      (control_keeps d _ s h (chosen IsByte (d == 0) 0 s.common.filter_ptr (lit< tt) q.common.filter_ptr) q)
+    (control_keeps d _ s h (chosen IsByte (d == 0) 0 s.common.filter_ptr (lit< tt) q.common.filter_ptr) q)
     (chosen IsPlaying (c == 0xC) _ _ (cutoff_keeps d s h q)
     (chosen IsPlaying (c == 0xD) _ _
-      (volume_keeps _ s (chosen IsByte (nat_lt d 0x10) d s.common.volume h q.common.volume) q)
+    (volume_keeps _ s (chosen IsByte (nat_lt d 0x10) d s.common.volume h q.common.volume) q)
     q)))))))

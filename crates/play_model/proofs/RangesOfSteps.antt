@@ -1,32 +1,26 @@
 -- Each step of a voice, and the filter's, keeps the ranges.
-use Rattle.std.specs.Prelude.{◌==◌, ◌&&◌, ◌||◌, if◌then◌else◌, nat_le, nat_lt, bit_and, not}
-use Rattle.std.proofs.Common.{◌≡◌, ℕ, ℤ, ◌+◌, ◌-◌, ◌*◌, ◌%◌, ◌<◌, Bool, true, false, List, length, lit<, arith}
+use Rattle.std.specs.Prelude.{◌==◌, nat_lt, bit_and}
+use Rattle.std.proofs.Common.{ℕ, ℤ, ◌+◌, ◌-◌, ◌*◌, ◌%◌, ◌<◌, length, lit<, arith}
 use Rattle.base.specs.Bytes.{IsByte}
 use Rattle.base.proofs.Laws.{and_small}
 use Rattle.song_model.specs.declared.rows.Row.{Row}
 use Rattle.song_model.specs.declared.orders.Order.{Order}
-use Rattle.song_model.specs.declared.instruments.Instrument.{Instrument}
 use Rattle.song_model.specs.declared.tables.TableRow.{TableRow}
-use Rattle.song_model.specs.declared.tables.TableName.TheVariants.{Wave, Pulse, Filter, Speed}
-use Rattle.song_model.specs.Limits.{IsInstrument, IsTableRow}
+use Rattle.song_model.specs.declared.tables.TableName.TheVariants.{Pulse, Filter}
+use Rattle.song_model.specs.Limits.{IsTableRow}
 use Rattle.song_model.specs.LookUp.{pattern_row}
 use Rattle.song_model.specs.Walk.{played}
-use Rattle.play_model.specs.declared.options.Options.{Options}
 use Rattle.play_model.specs.LookUps.{LookUps}
-use Rattle.play_model.specs.State.{Voice, Common, Playing}
-use Rattle.play_model.specs.Ranges.{IsBytesRow, AreLookUps, IsVoice, IsCommon, IsPlaying}
+use Rattle.play_model.specs.State.{Voice, Common}
+use Rattle.play_model.specs.Ranges.{IsBytesRow, AreLookUps, IsVoice, IsCommon}
 use Rattle.play_model.specs.Wrap.{byte_plus, byte_minus, pulse_plus, pulse_minus}
-use Rattle.play_model.specs.Freq.{freq}
-use Rattle.play_model.specs.Helpers.{next_row, porta_up, porta_down, tone, vibrato, do_command}
+use Rattle.play_model.specs.Helpers.{next_row, vibrato}
 use Rattle.play_model.specs.FilterStep.{filter_set, filter_cutoff, filter_slide, filter_row, filter_step}
-use Rattle.play_model.specs.TickStep.{Ticked, tempo_of, with_tempo, with_all_tempos, reloaded, between_rows, note_taken, first_wave_set, programs_begun, sound_begun, taken, note_started, funk_set, funk_tempo, tempo_set, row_command, note_ended, gate_timer_set, at_row, ticked, tick_step}
-use Rattle.play_model.specs.WaveStep.{Waved, wave_command, is_wave_command, left_done, program_moved, wave_note, with_note, right_done, wave_row, wave_step}
 use Rattle.play_model.specs.EffectStep.{instrument_vibrato, effect_step}
-use Rattle.play_model.specs.PulseStep.{pulse_set, pulse_moved, pulse_slide, pulse_row, pulse_step}
-use Rattle.play_model.specs.FetchRow.{row_taken, gate_keyed, is_note, transposed, gate_shut, note_waits, row_moved, row_done, fetched_from, fetch_row}
-use Rattle.play_model.specs.Frame.{effect_done, pulse_done, row_fetched, after_tick, voice_step}
+use Rattle.play_model.specs.PulseStep.{pulse_set, pulse_moved, pulse_row, pulse_step}
+use Rattle.play_model.specs.FetchRow.{row_taken, gate_keyed, is_note, transposed, gate_shut, note_waits, row_moved, row_done, fetch_row}
 use Rattle.play_model.proofs.Choices.{chosen}
-use Rattle.play_model.proofs.RangesOfRules.{zero_small, wraps, smaller, freq_small, transposed_small, next_small, up_keeps, down_keeps, tone_keeps, vibrato_keeps, command_keeps}
+use Rattle.play_model.proofs.RangesOfRules.{zero_small, wraps, smaller, transposed_small, next_small, up_keeps, down_keeps, tone_keeps, vibrato_keeps}
 
 gate_off_small : IsByte 0xFE
 gate_off_small = lit< tt
@@ -47,10 +41,10 @@ filter_set_keeps : (look : LookUps) (row following : TableRow) (c : Common) → 
 filter_set_keeps look row following c a r f q =
     chosen IsCommon (following.left == 0) _ _
     (filter_fields c (bit_and row.left 0x70) row.right following.right c.filter_time
-      (next_row look Filter (c.filter_ptr + 1))
-      (and_small row.left 0x70 r.left) r.right f.right q.filter_time (next_small look Filter _ a) q)
+    (next_row look Filter (c.filter_ptr + 1))
+    (and_small row.left 0x70 r.left) r.right f.right q.filter_time (next_small look Filter _ a) q)
     (filter_fields c (bit_and row.left 0x70) row.right c.cutoff c.filter_time (next_row look Filter c.filter_ptr)
-      (and_small row.left 0x70 r.left) r.right q.cutoff q.filter_time (next_small look Filter _ a) q)
+    (and_small row.left 0x70 r.left) r.right q.cutoff q.filter_time (next_small look Filter _ a) q)
 
 filter_cutoff_keeps : (look : LookUps) (row : TableRow) (c : Common) → AreLookUps look → IsTableRow row → IsCommon c →
     IsCommon (filter_cutoff look row c)
@@ -64,7 +58,7 @@ filter_slide_keeps look row time c a q =
     filter_fields c c.filter_type c.filter_control (byte_plus c.cutoff row.right) (byte_minus time 1) _
     q.filter_type q.filter_control (wraps _) (wraps _)
     (chosen IsByte (byte_minus time 1 == 0) (next_row look Filter c.filter_ptr) c.filter_ptr
-      (next_small look Filter _ a) q.filter_ptr) q
+    (next_small look Filter _ a) q.filter_ptr) q
 
 pub filter_keeps : (look : LookUps) (c : Common) → AreLookUps look → IsCommon c → IsCommon (filter_step look c)
 unfolding filter_step
@@ -73,9 +67,9 @@ filter_keeps look c a q =
     let r = a.row Filter c.filter_ptr in
     chosen IsCommon (c.filter_ptr == 0) c (filter_row look row c) q
     (chosen IsCommon _ (filter_set look row (look.row Filter (c.filter_ptr + 1)) c) _
-      (filter_set_keeps look row _ c a r (a.row Filter (c.filter_ptr + 1)) q)
+    (filter_set_keeps look row _ c a r (a.row Filter (c.filter_ptr + 1)) q)
     (chosen IsCommon _ (filter_cutoff look row c) _ (filter_cutoff_keeps look row c a r q)
-      (filter_slide_keeps look row _ c a q)))
+    (filter_slide_keeps look row _ c a q)))
 
 -- the pulse step
 pulse_fields : (v : Voice) (width time ptr : ℕ) → width < 4096 → IsByte time → IsByte ptr → IsVoice v →
@@ -95,10 +89,10 @@ pulse_row_keeps : (look : LookUps) (row : TableRow) (v : Voice) → AreLookUps l
 pulse_row_keeps look row v a r q =
     chosen IsVoice _ (pulse_set look row v) _
     (pulse_fields v _ v.pulse_time _ (width_small row.left row.right r.right) q.pulse_time
-      (next_small look Pulse _ a) q)
+    (next_small look Pulse _ a) q)
     (chosen IsVoice _ v _ q
     (pulse_fields v _ _ _ (moved_small v.pulse row.right) (wraps _)
-      (chosen IsByte _ (next_row look Pulse v.pulse_ptr) v.pulse_ptr (next_small look Pulse _ a) q.pulse_ptr) q))
+    (chosen IsByte _ (next_row look Pulse v.pulse_ptr) v.pulse_ptr (next_small look Pulse _ a) q.pulse_ptr) q))
 
 pub pulse_keeps : (look : LookUps) (v : Voice) → AreLookUps look → IsVoice v → IsVoice (pulse_step look v)
 unfolding pulse_step
@@ -114,7 +108,7 @@ instrument_vibrato_keeps : (look : LookUps) (v : Voice) → IsVoice v → IsVoic
 instrument_vibrato_keeps look v q =
     chosen IsVoice _ v _ q
     (chosen IsVoice _ (record v { vib_delay = v.vib_delay - 1 }) (vibrato look v.param v)
-      (delay_keeps v (v.vib_delay - 1) (smaller v.vib_delay 1 q.vib_delay) q) (vibrato_keeps look v.param v q))
+    (delay_keeps v (v.vib_delay - 1) (smaller v.vib_delay 1 q.vib_delay) q) (vibrato_keeps look v.param v q))
 
 pub effect_keeps : (look : LookUps) (v : Voice) → IsVoice v → IsVoice (effect_step look v)
 unfolding effect_step
@@ -154,7 +148,7 @@ note_keeps : (look : LookUps) (note : ℕ) (transpose : ℤ) (v : Voice) → IsV
 note_keeps look note transpose v q =
     chosen IsVoice (is_note note) _ v
     (shut_keeps (look.instrument v.instrument).gate_timer (record v { new_note = transposed note transpose })
-      (new_note_keeps v (transposed note transpose) (transposed_small note transpose) q)) q
+    (new_note_keeps v (transposed note transpose) (transposed_small note transpose) q)) q
 
 row_field : (v : Voice) (row plays : ℕ) → IsByte row → IsVoice v → IsVoice (record v { row = row; plays = plays })
 row_field v row plays h q = assumption (h, q)

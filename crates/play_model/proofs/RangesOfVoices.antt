@@ -1,6 +1,6 @@
 -- The tick step, the wave step, and a whole voice step keep the ranges.
-use Rattle.std.specs.Prelude.{◌==◌, ◌&&◌, ◌||◌, if◌then◌else◌, nat_le, nat_lt, not}
-use Rattle.std.proofs.Common.{◌≡◌, ℕ, ◌+◌, ◌-◌, ◌%◌, ◌<◌, Bool, true, false, lit<, arith}
+use Rattle.std.specs.Prelude.{◌==◌, ◌&&◌, nat_le, nat_lt, not}
+use Rattle.std.proofs.Common.{ℕ, ◌+◌, ◌-◌, ◌%◌, ◌<◌, true, false, lit<, arith}
 use Rattle.base.specs.Bytes.{IsByte}
 use Rattle.song_model.specs.declared.orders.Order.{Order}
 use Rattle.song_model.specs.declared.instruments.Instrument.{Instrument}
@@ -12,9 +12,8 @@ use Rattle.play_model.specs.LookUps.{LookUps}
 use Rattle.play_model.specs.State.{Voice, Common, Playing}
 use Rattle.play_model.specs.Ranges.{AreLookUps, IsVoice, IsCommon, IsPlaying}
 use Rattle.play_model.specs.Wrap.{byte_plus, byte_minus}
-use Rattle.play_model.specs.Freq.{freq}
-use Rattle.play_model.specs.Helpers.{next_row, porta_up, porta_down, tone, vibrato, do_command}
-use Rattle.play_model.specs.TickStep.{Ticked, tempo_of, with_tempo, with_all_tempos, reloaded, between_rows, note_taken, first_wave_set, programs_begun, sound_begun, taken, note_started, funk_set, funk_tempo, tempo_set, row_command, note_ended, gate_timer_set, at_row, ticked, tick_step}
+use Rattle.play_model.specs.Helpers.{do_command}
+use Rattle.play_model.specs.TickStep.{Ticked, tempo_of, with_tempo, with_all_tempos, reloaded, between_rows, note_taken, first_wave_set, programs_begun, taken, note_started, funk_set, funk_tempo, tempo_set, row_command, note_ended, gate_timer_set, at_row, tick_step}
 use Rattle.play_model.specs.WaveStep.{Waved, wave_command, is_wave_command, left_done, program_moved, wave_note, with_note, right_done, wave_row, wave_step}
 use Rattle.play_model.specs.EffectStep.{effect_step}
 use Rattle.play_model.specs.PulseStep.{pulse_step}
@@ -83,7 +82,7 @@ reloaded_keeps channel tempo s h q =
     let other : IsByte (1 - tempo) = omega arith in
     chosen IsPlaying (nat_le 2 tempo) _ _ (tick_keeps_field s tempo h q)
     (with_common _ (with_tempo channel (1 - tempo) s.common) (tick_keeps_field s _ length q)
-      (one_tempo_keeps channel (1 - tempo) s.common other q.common))
+    (one_tempo_keeps channel (1 - tempo) s.common other q.common))
 
 between_keeps : (channel : ℕ) (s : Playing) → IsPlaying s → IsPlaying (between_rows channel s)
 unfolding between_rows
@@ -134,7 +133,7 @@ taken_keeps i s h q =
     let note = note_taken_keeps i s.voice h q.voice in
     chosen IsPlaying (s.voice.new_command == 3) _ _ (with_voice s (note_taken i s.voice) q note)
     (programs_keep i (record s { voice = first_wave_set i.first_wave (note_taken i s.voice) }) h
-      (with_voice s _ q (first_wave_keeps i.first_wave (note_taken i s.voice) h.first_wave note)))
+    (with_voice s _ q (first_wave_keeps i.first_wave (note_taken i s.voice) h.first_wave note)))
 
 started_keeps : (i : Instrument) (s : Playing) → IsInstrument i → IsPlaying s → IsPlaying (note_started i s)
 unfolding note_started
@@ -161,9 +160,9 @@ row_command_keeps channel look i c d s h k l q =
     (chosen IsPlaying (nat_le c 4) _ _ (with_voice s _ q (runs_keeps s.voice c d k l q.voice))
     (chosen IsPlaying (c == 8) _ _ (with_voice s _ q (wave_program_keeps s.voice d l q.voice))
     (chosen IsPlaying (c == 0xE) _ _
-      (with_common s (funk_tempo look d s.common) q (funk_tempo_keeps look d s.common q.common))
+    (with_common s (funk_tempo look d s.common) q (funk_tempo_keeps look d s.common q.common))
     (chosen IsPlaying (c == 0xF) _ (do_command c d s)
-      (with_common s (tempo_set channel d s.common) q (tempo_set_keeps channel d s.common l q.common))
+    (with_common s (tempo_set channel d s.common) q (tempo_set_keeps channel d s.common l q.common))
     (command_keeps c d s l q))))))
 
 timer_keeps : (i : Instrument) (s : Playing) → IsPlaying s → IsPlaying (gate_timer_set i s)
@@ -179,7 +178,7 @@ at_row_keeps channel look i s h q =
     let started = started_keeps i (gate_timer_set i s) h (timer_keeps i s q) in
     ended_keeps (row_command channel look i s.voice.new_command s.voice.new_param (note_started i (gate_timer_set i s)))
     (row_command_keeps channel look i s.voice.new_command s.voice.new_param
-      (note_started i (gate_timer_set i s)) h q.voice.new_command q.voice.new_param started)
+    (note_started i (gate_timer_set i s)) h q.voice.new_command q.voice.new_param started)
 
 pub tick_keeps : (channel : ℕ) (look : LookUps) (s : Playing) → AreLookUps look → IsPlaying s →
     IsPlaying (tick_step channel look s).playing
@@ -203,7 +202,7 @@ wave_command_keeps look c d s h q =
     (chosen IsPlaying (c == 2) _ _ (with_voice s _ q (down_keeps look d s.voice q.voice))
     (chosen IsPlaying (c == 3) _ _ (with_voice s _ q (tone_keeps look d s.voice q.voice))
     (chosen IsPlaying (c == 4) _ _ (with_voice s _ q (vibrato_keeps look d s.voice q.voice))
-      (command_keeps c d s h q)))))
+    (command_keeps c d s h q)))))
 
 wave_field : (v : Voice) (n : ℕ) → IsByte n → IsVoice v → IsVoice (record v { wave = n })
 wave_field v n h q = assumption (h, q)
@@ -213,9 +212,9 @@ left_keeps : (look : LookUps) (row : TableRow) (s : Playing) → IsTableRow row 
 left_keeps look row s r q =
     chosen IsPlaying _ _ _ (with_voice s _ q (wave_field s.voice row.left r.left q.voice))
     (chosen IsPlaying _ _ _
-      (with_voice s _ q (wave_field s.voice (row.left - 0xE0) (smaller row.left 0xE0 r.left) q.voice))
+    (with_voice s _ q (wave_field s.voice (row.left - 0xE0) (smaller row.left 0xE0 r.left) q.voice))
     (chosen IsPlaying (is_wave_command row) (wave_command look (row.left - 0xF0) row.right s) s
-      (wave_command_keeps look (row.left - 0xF0) row.right s r.right q) q))
+    (wave_command_keeps look (row.left - 0xF0) row.right s r.right q) q))
 
 wave_moved_keeps : (look : LookUps) (p : ℕ) (s : Playing) → AreLookUps look → IsPlaying s →
     IsPlaying (program_moved look p s)
@@ -232,9 +231,9 @@ right_keeps : (row : TableRow) (s : Playing) → IsPlaying s → IsPlaying (righ
 right_keeps row s q =
     chosen (λ (w : Waved). IsPlaying w.playing) (is_wave_command row) (record { playing = s; effect = false }) _ q
     (chosen (λ (w : Waved). IsPlaying w.playing) (row.right == 0x80) (record { playing = s; effect = true })
-      (record { playing = record s { voice = with_note (wave_note row.right s.voice.note) s.voice }; effect = false }) q
-      (with_voice s _ q
-        (with_note_keeps (wave_note row.right s.voice.note) s.voice (note_small row.right s.voice.note) q.voice)))
+    (record { playing = record s { voice = with_note (wave_note row.right s.voice.note) s.voice }; effect = false }) q
+    (with_voice s _ q
+    (with_note_keeps (wave_note row.right s.voice.note) s.voice (note_small row.right s.voice.note) q.voice)))
 
 wave_time_keeps : (s : Playing) (n : ℕ) → IsByte n → IsPlaying s →
     IsPlaying (record s { voice = record s.voice { wave_time = n } })
@@ -248,7 +247,7 @@ wave_row_keeps look row s a r q =
     (right_done row (program_moved look s.voice.wave_ptr (left_done look row s)))
     (wave_time_keeps s (byte_plus s.voice.wave_time 1) (wraps _) q)
     (right_keeps row (program_moved look s.voice.wave_ptr (left_done look row s))
-      (wave_moved_keeps look s.voice.wave_ptr (left_done look row s) a (left_keeps look row s r q)))
+    (wave_moved_keeps look s.voice.wave_ptr (left_done look row s) a (left_keeps look row s r q)))
 
 pub wave_keeps : (look : LookUps) (s : Playing) → AreLookUps look → IsPlaying s → IsPlaying (wave_step look s).playing
 unfolding wave_step

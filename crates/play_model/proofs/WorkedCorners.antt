@@ -18,9 +18,9 @@ use Rattle.play_model.specs.WorkedCorners.{corner_1, corner_2, WorkedCornersHold
 
 pub worked_corners_lem : WorkedCornersHold
 unfolding prefix_of cycle_of played playable_subtune instrument_at table_row pattern_at
-  freq half_tone slide next_row porta_up porta_down tone vibrato do_command filter_step
-  between_rows note_started row_command at_row tick_step wave_command wave_step effect_step
-  pulse_step fetch_row voice_step voice_registers filter_registers frame_of calls_from
+    freq half_tone slide next_row porta_up porta_down tone vibrato do_command filter_step
+    between_rows note_started row_command at_row tick_step wave_command wave_step effect_step
+    pulse_step fetch_row voice_step voice_registers filter_registers frame_of calls_from
 worked_corners_lem = record {
   corner_1_none_1 = plays (left_out false false 1) corner_1 0 _ refl;
   corner_1_pulse_2 = plays (left_out false true 2) corner_1 0 _ refl;

@@ -18,9 +18,9 @@ use Rattle.play_model.specs.WorkedEdges.{edge_134, edge_112, edge_76, edge_90, W
 
 pub worked_edges_lem : WorkedEdgesHold
 unfolding prefix_of cycle_of played playable_subtune instrument_at table_row pattern_at
-  freq half_tone slide next_row porta_up porta_down tone vibrato do_command filter_step
-  between_rows note_started row_command at_row tick_step wave_command wave_step effect_step
-  pulse_step fetch_row voice_step voice_registers filter_registers frame_of calls_from
+    freq half_tone slide next_row porta_up porta_down tone vibrato do_command filter_step
+    between_rows note_started row_command at_row tick_step wave_command wave_step effect_step
+    pulse_step fetch_row voice_step voice_registers filter_registers frame_of calls_from
 worked_edges_lem = record {
   edge_134_none_1 = plays (left_out false false 1) edge_134 0 _ refl;
   edge_134_pulse_4 = plays (left_out false true 4) edge_134 0 _ refl;

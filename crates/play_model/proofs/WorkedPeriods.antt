@@ -14,14 +14,13 @@ use Rattle.play_model.specs.FetchRow.{fetch_row}
 use Rattle.play_model.specs.Frame.{voice_step, voice_registers, filter_registers, frame_of}
 use Rattle.play_model.specs.WorkedRuns.{left_out}
 use Rattle.play_model.proofs.Computed.{calls_from, plays}
-use Rattle.play_model.specs.WorkedPeriods.{period_127, period_126, WorkedPeriodsHold}
+use Rattle.play_model.specs.WorkedPeriods.{period_126, WorkedPeriodsHold}
 
 pub worked_periods_lem : WorkedPeriodsHold
 unfolding prefix_of cycle_of played playable_subtune instrument_at table_row pattern_at
-  freq half_tone slide next_row porta_up porta_down tone vibrato do_command filter_step
-  between_rows note_started row_command at_row tick_step wave_command wave_step effect_step
-  pulse_step fetch_row voice_step voice_registers filter_registers frame_of calls_from
+    freq half_tone slide next_row porta_up porta_down tone vibrato do_command filter_step
+    between_rows note_started row_command at_row tick_step wave_command wave_step effect_step
+    pulse_step fetch_row voice_step voice_registers filter_registers frame_of calls_from
 worked_periods_lem = record {
-  period_127_none_1 = plays (left_out false false 1) period_127 0 _ refl;
   period_126_none_1 = plays (left_out false false 1) period_126 0 _ refl;
 }

@@ -18,9 +18,9 @@ use Rattle.play_model.specs.WorkedSubtunes.{rich_5sub_3, rich_17sub_1, WorkedSub
 
 pub worked_subtunes_lem : WorkedSubtunesHold
 unfolding prefix_of cycle_of played playable_subtune instrument_at table_row pattern_at
-  freq half_tone slide next_row porta_up porta_down tone vibrato do_command filter_step
-  between_rows note_started row_command at_row tick_step wave_command wave_step effect_step
-  pulse_step fetch_row voice_step voice_registers filter_registers frame_of calls_from
+    freq half_tone slide next_row porta_up porta_down tone vibrato do_command filter_step
+    between_rows note_started row_command at_row tick_step wave_command wave_step effect_step
+    pulse_step fetch_row voice_step voice_registers filter_registers frame_of calls_from
 worked_subtunes_lem = record {
   rich_5sub_3_none_1 = plays (left_out false false 1) rich_5sub_3 2 _ refl;
   rich_5sub_3_both_4 = plays (left_out true true 4) rich_5sub_3 2 _ refl;

@@ -18,9 +18,9 @@ use Rattle.play_model.specs.WorkedTunes.{small_42, small_37, small_21, exactslid
 
 pub worked_tunes_lem : WorkedTunesHold
 unfolding prefix_of cycle_of played playable_subtune instrument_at table_row pattern_at
-  freq half_tone slide next_row porta_up porta_down tone vibrato do_command filter_step
-  between_rows note_started row_command at_row tick_step wave_command wave_step effect_step
-  pulse_step fetch_row voice_step voice_registers filter_registers frame_of calls_from
+    freq half_tone slide next_row porta_up porta_down tone vibrato do_command filter_step
+    between_rows note_started row_command at_row tick_step wave_command wave_step effect_step
+    pulse_step fetch_row voice_step voice_registers filter_registers frame_of calls_from
 worked_tunes_lem = record {
   small_42_none_1 = plays (left_out false false 1) small_42 0 _ refl;
   small_42_effects_3 = plays (left_out true false 3) small_42 0 _ refl;

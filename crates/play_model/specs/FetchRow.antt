@@ -44,8 +44,8 @@ abbrev pub note_waits : LookUps → ℕ → ℤ → Voice → Voice
 note_waits look note transpose v =
     if is_note note
     then
-      gate_shut (look.instrument v.instrument).gate_timer
-      (record v { new_note = transposed note transpose })
+    gate_shut (look.instrument v.instrument).gate_timer
+    (record v { new_note = transposed note transpose })
     else v
 
 -- after the last row of the pattern the orderlist goes to its next play

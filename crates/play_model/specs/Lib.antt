@@ -12,19 +12,16 @@ pub mod EffectStep
 pub mod PulseStep
 pub mod FetchRow
 pub mod Frame
-
 -- Claimed: ranges, the length of a trace, and what silent songs sound like.
 pub mod Ranges
 pub mod RangeLaws
 pub mod TraceLaws
 pub mod SilentTrace
-
 -- Claimed: frames of small songs, worked out by hand.
 pub mod WorkedFrequencies
 pub mod WorkedSongs
 pub mod WorkedRuns
 pub mod WorkedFrames
-
 -- Claimed: frames of small songs by another reading of the rules; bench/worked_frames.py writes these files.
 pub mod WorkedCorners
 pub mod WorkedEdges

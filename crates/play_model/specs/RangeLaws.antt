@@ -23,19 +23,19 @@ use Rattle.play_model.specs.Frame.{voice_step, filter_done, voice_done, frame_of
 pub record RulesKeepRanges (look : LookUps) : Type 0 where
   pub filter : (c : Common) → IsCommon c → IsCommon (filter_step look c)
   pub tick : (channel : ℕ) (s : Playing) → IsPlaying s →
-    IsPlaying (tick_step channel look s).playing
+      IsPlaying (tick_step channel look s).playing
   pub wave : (s : Playing) → IsPlaying s → IsPlaying (wave_step look s).playing
   pub effect : (v : Voice) → IsVoice v → IsVoice (effect_step look v)
   pub pulse : (v : Voice) → IsVoice v → IsVoice (pulse_step look v)
   pub fetch : (order : Order) (v : Voice) → IsVoice v → IsVoice (fetch_row look order v)
   pub voice : (channel : ℕ) (o : Options) (order : Order) (s : Playing) →
-    IsPlaying s → IsPlaying (voice_step channel o look order s)
+      IsPlaying s → IsPlaying (voice_step channel o look order s)
 
 -- the states within a frame and after it, and its registers
 pub record FramesKeepRanges (o : Options) (look : LookUps) (subtune : Subtune) : Type 0 where
   pub filter : (x : FrameState) → IsFrameState x → IsFrameState (filter_done look x)
   pub voice : (channel : ℕ) (x : FrameState) → IsFrameState x →
-    IsFrameState (voice_done channel o look subtune x)
+      IsFrameState (voice_done channel o look subtune x)
   pub state : (x : FrameState) → IsFrameState x → IsFrameState (frame_of o look subtune x).state
   pub registers : (x : FrameState) → IsFrameState x → AreBytes (frame_of o look subtune x).registers
 

@@ -126,7 +126,7 @@ gate_timer_set i s = record s { voice = record s.voice { gate_timer = i.gate_tim
 unfoldable pub at_row : ℕ → LookUps → Instrument → Playing → Ticked
 at_row channel look i s =
     note_ended (row_command channel look i s.voice.new_command s.voice.new_param
-      (note_started i (gate_timer_set i s)))
+    (note_started i (gate_timer_set i s)))
 
 abbrev pub ticked : ℕ → LookUps → Playing → Ticked
 ticked channel look s =

@@ -1,5 +1,5 @@
 -- Frames of the small songs, worked out by hand.
-use Rattle.std.specs.Prelude.{◌≡◌, ℕ, zero, suc, ◌+◌, ◌*◌, List, [], ◌∷◌, ◌++◌, take, drop, replicate, slice_index}
+use Rattle.std.specs.Prelude.{◌≡◌, ℕ, ◌+◌, ◌*◌, List, [], ◌∷◌, ◌++◌, take, drop, replicate, slice_index}
 use Rattle.song_model.specs.declared.songs.Song.{Song}
 use Rattle.play_model.specs.Frame.{trace, state_after}
 use Rattle.play_model.specs.SilentTrace.{silent_registers}
@@ -52,11 +52,11 @@ LongTimerIsNeverMet =
 -- bit $40 of the gateoff timer keeps the gate, bit $80 the envelope
 pub record GateTimerBits : Type 0 where
   pub neither : first_voice_at (with_gate_timer 0x02 long_note) 17 ≡ 0x68 ∷ 0x11 ∷ 0 ∷ 0x08 ∷ 0x40
-    ∷ 0x0F ∷ 0 ∷ []
+      ∷ 0x0F ∷ 0 ∷ []
   pub gate_kept : first_voice_at (with_gate_timer 0x42 long_note) 17 ≡ 0x68 ∷ 0x11 ∷ 0 ∷ 0x08
-    ∷ 0x41 ∷ 0x09 ∷ 0xA0 ∷ []
+      ∷ 0x41 ∷ 0x09 ∷ 0xA0 ∷ []
   pub envelope_kept : first_voice_at (with_gate_timer 0x82 long_note) 17 ≡ 0x68 ∷ 0x11 ∷ 0 ∷ 0x08
-    ∷ 0x40 ∷ 0x09 ∷ 0xA0 ∷ []
+      ∷ 0x40 ∷ 0x09 ∷ 0xA0 ∷ []
 
 -- a wave row that waits 15 frames, and command 8 that begins the program anew
 abbrev pub WaveProgramWaits : Type 0

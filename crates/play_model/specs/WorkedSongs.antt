@@ -106,8 +106,8 @@ long_note = with_rows (row 0x90 1 0 0 ∷ rests 1) one_note
 abbrev pub waiting_wave : Song
 waiting_wave =
     record (with_rows (row 0x90 1 0 0 ∷ rests 3 ++ row 0xBD 0 8 1 ∷ rests 3) plain_note) {
-  wave = sides 0x11 0 ∷ sides 0x0F 0x0C ∷ sides 0xFF 0 ∷ [];
-}
+      wave = sides 0x11 0 ∷ sides 0x0F 0x0C ∷ sides 0xFF 0 ∷ [];
+    }
 
 -- a row that changes the instrument without a note: its vibrato pointer goes with the first one's delay
 abbrev pub other_vibrato : Song

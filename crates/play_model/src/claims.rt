@@ -125,7 +125,7 @@ pub fn worked_tunes()
     ensures { WorkedTunesHold }
 {}
 
-/// Vibratos with the longest periods.
+/// A vibrato with a long period, 180 calls.
 #[tactic(auto, using(crate::proofs::WorkedPeriods::worked_periods_lem))]
 pub fn worked_periods()
     ensures { WorkedPeriodsHold }

@@ -1,5 +1,5 @@
 use Rattle.std.proofs.Common.{zero, suc, refl}
-use Rattle.play_model.specs.Frame.{voice_registers, filter_registers, frame_of, trace_with}
+use Rattle.play_model.specs.Frame.{voice_registers, filter_registers, frame_of}
 use Rattle.play_model.specs.TraceLaws.{TracesHaveAllRegisters}
 use Rattle.play_model.proofs.claims.traces_have_all_registers.Goals as goal
 
