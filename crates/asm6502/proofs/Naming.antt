@@ -12,21 +12,28 @@ use Rattle.asm6502.specs.declared.lines.Line.{Line}
 use Rattle.asm6502.specs.Lines.{is_kept, kept, item_size, size_of, item_data, data_size, names, place_of, label_named}
 
 -- the kept lines of two lists
-kept_cons : (set : ℕ) (x : Line) (back rest : List Line) (z : Bool) → (if z then x ∷ (rest ++ back) else rest ++ back) ≡ (if z then x ∷ rest else rest) ++ back
+kept_cons : (set : ℕ) (x : Line) (back rest : List Line) (z : Bool) →
+    (if z then x ∷ (rest ++ back) else rest ++ back) ≡ (if z then x ∷ rest else rest) ++ back
 kept_cons set x back rest true = refl
 kept_cons set x back rest false = refl
 
 pub kept-append : (set : ℕ) (front back : List Line) → kept set (front ++ back) ≡ kept set front ++ kept set back
 kept-append set [] back = refl
 kept-append set (x ∷ front) back =
-    ap (λ (ls : List Line). if is_kept set x then x ∷ ls else ls) (kept-append set front back) ∙ kept_cons set x (kept set back) (kept set front) (is_kept set x)
+    ap (λ (ls : List Line). if is_kept set x then x ∷ ls else ls) (kept-append set front back)
+    ∙ kept_cons set x (kept set back) (kept set front) (is_kept set x)
 
 -- one more line, kept or not
-pub kept_more : (set : ℕ) (before : List Line) (x : Line) → is_kept set x ≡ true → kept set (before ++ x ∷ []) ≡ kept set before ++ x ∷ []
-kept_more set before x e = kept-append set before (x ∷ []) ∙ ap (λ (z : Bool). kept set before ++ (if z then x ∷ [] else [])) e
+pub kept_more : (set : ℕ) (before : List Line) (x : Line) → is_kept set x ≡ true →
+    kept set (before ++ x ∷ []) ≡ kept set before ++ x ∷ []
+kept_more set before x e =
+    kept-append set before (x ∷ []) ∙ ap (λ (z : Bool). kept set before ++ (if z then x ∷ [] else [])) e
 
-pub kept_same : (set : ℕ) (before : List Line) (x : Line) → is_kept set x ≡ false → kept set (before ++ x ∷ []) ≡ kept set before
-kept_same set before x e = kept-append set before (x ∷ []) ∙ ap (λ (z : Bool). kept set before ++ (if z then x ∷ [] else [])) e ∙ append-nil (kept set before)
+pub kept_same : (set : ℕ) (before : List Line) (x : Line) → is_kept set x ≡ false →
+    kept set (before ++ x ∷ []) ≡ kept set before
+kept_same set before x e =
+    kept-append set before (x ∷ []) ∙ ap (λ (z : Bool). kept set before ++ (if z then x ∷ [] else [])) e
+    ∙ append-nil (kept set before)
 
 -- sizes add up
 pub size_of-append : (front back : List Line) → size_of (front ++ back) ≡ size_of front + size_of back
@@ -54,12 +61,14 @@ item_size-le (Label l) = omega arith
 item_size-le (Code mn mode x) = omega (arith, length_of-le mode)
 item_size-le (Bytes bs) = omega arith
 
-size_cons : (x : Line) (ls : List Line) (z : Bool) → size_of (if z then x ∷ ls else ls) ≤ item_size x.item + size_of ls
+size_cons : (x : Line) (ls : List Line) (z : Bool) →
+    size_of (if z then x ∷ ls else ls) ≤ item_size x.item + size_of ls
 size_cons x ls true = omega arith
 size_cons x ls false = omega arith
 
 -- the kept lines before a line, and that line, take no more than all lines may
-pub size_bound : (set : ℕ) (lines : List Line) (k : ℕ) (x : Line) → k < length lines → x ≡ get_or lines k x → size_of (kept set (take k lines)) + item_size x.item ≤ 3 * length lines + data_size lines
+pub size_bound : (set : ℕ) (lines : List Line) (k : ℕ) (x : Line) → k < length lines → x ≡ get_or lines k x →
+    size_of (kept set (take k lines)) + item_size x.item ≤ 3 * length lines + data_size lines
 size_bound set [] k x l e = absurd (omega arith)
 size_bound set (y ∷ lines) zero x l e =
     let s : item_size x.item ≡ item_size y.item = ap (λ (line : Line). item_size line.item) e in
@@ -81,7 +90,9 @@ zero_more : (o : Option ℕ) → o ≡ option_map (λ (place : ℕ). 0 + place) 
 zero_more None = refl
 zero_more (Some p) = ap Some (omega arith)
 
-both_more : (s z : ℕ) (p o : Option ℕ) → option_map (λ (place : ℕ). s + place) (option_or p (option_map (λ (place : ℕ). z + place) o)) ≡ option_or (option_map (λ (place : ℕ). s + place) p) (option_map (λ (place : ℕ). s + z + place) o)
+both_more : (s z : ℕ) (p o : Option ℕ) → option_map (λ (place : ℕ). s + place)
+    (option_or p (option_map (λ (place : ℕ). z + place) o)) ≡ option_or (option_map (λ (place : ℕ). s + place) p)
+    (option_map (λ (place : ℕ). s + z + place) o)
 both_more s z None None = refl
 both_more s z None (Some v) = ap Some (omega arith)
 both_more s z (Some u) o = refl
@@ -90,11 +101,16 @@ cond_or : (z : Bool) (a b : Option ℕ) → (if z then Some 0 else option_or a b
 cond_or true a b = refl
 cond_or false a b = refl
 
-pub place_of-append : (front back : List Line) (label : ℕ) → place_of (front ++ back) label ≡ option_or (place_of front label) (option_map (λ (place : ℕ). size_of front + place) (place_of back label))
+pub place_of-append : (front back : List Line) (label : ℕ) →
+    place_of (front ++ back) label ≡ option_or (place_of front label)
+    (option_map (λ (place : ℕ). size_of front + place) (place_of back label))
 place_of-append [] back label = zero_more (place_of back label)
 place_of-append (x ∷ front) back label =
-    ap (λ (o : Option ℕ). if names label x.item then Some 0 else o) (ap (option_map (λ (place : ℕ). item_size x.item + place)) (place_of-append front back label) ∙ both_more (item_size x.item) (size_of front) (place_of front label) (place_of back label))
-    ∙ cond_or (names label x.item) (option_map (λ (place : ℕ). item_size x.item + place) (place_of front label)) (option_map (λ (place : ℕ). item_size x.item + size_of front + place) (place_of back label))
+    ap (λ (o : Option ℕ). if names label x.item then Some 0 else o)
+    (ap (option_map (λ (place : ℕ). item_size x.item + place)) (place_of-append front back label)
+    ∙ both_more (item_size x.item) (size_of front) (place_of front label) (place_of back label))
+    ∙ cond_or (names label x.item) (option_map (λ (place : ℕ). item_size x.item + place) (place_of front label))
+    (option_map (λ (place : ℕ). item_size x.item + size_of front + place) (place_of back label))
 
 -- the table after one more line
 or_some : (o : Option ℕ) (s : ℕ) → o ≡ None → option_or o (Some (s + 0)) ≡ Some s
@@ -105,7 +121,10 @@ or_none : (o : Option ℕ) → option_or o None ≡ o
 or_none None = refl
 or_none (Some v) = refl
 
-placed_here : (lines : List Line) (line : Line) (label q size : ℕ) (z : Bool) → nat_eq label q ≡ z → place_of lines label ≡ None → size ≡ size_of lines → option_or (place_of lines q) (option_map (λ (place : ℕ). size_of lines + place) (if z then Some 0 else None)) ≡ (if z then Some size else place_of lines q)
+placed_here : (lines : List Line) (line : Line) (label q size : ℕ) (z : Bool) → nat_eq label q ≡ z →
+    place_of lines label ≡ None → size ≡ size_of lines →
+    option_or (place_of lines q) (option_map (λ (place : ℕ). size_of lines + place) (if z then Some 0 else None))
+    ≡ (if z then Some size else place_of lines q)
 placed_here lines line label q size true e n s =
     let same : label ≡ q = eqb-true label q e in
     or_some (place_of lines q) (size_of lines) (ap (place_of lines) (sym same) ∙ n) ∙ ap Some (sym s)
@@ -121,14 +140,21 @@ named_none (Label l) q e = absurd (cc)
 named_none (Code mn mode x) q e = refl
 named_none (Bytes bs) q e = refl
 
-one_place : (lines : List Line) (line : Line) (q : ℕ) (z : Bool) → names q line.item ≡ z → place_of (lines ++ line ∷ []) q ≡ option_or (place_of lines q) (option_map (λ (place : ℕ). size_of lines + place) (if z then Some 0 else None))
+one_place : (lines : List Line) (line : Line) (q : ℕ) (z : Bool) → names q line.item ≡ z →
+    place_of (lines ++ line ∷ []) q ≡ option_or (place_of lines q)
+    (option_map (λ (place : ℕ). size_of lines + place) (if z then Some 0 else None))
 one_place lines line q z e =
-    place_of-append lines (line ∷ []) q ∙ ap (λ (b : Bool). option_or (place_of lines q) (option_map (λ (place : ℕ). size_of lines + place) (if b then Some 0 else None))) e
+    place_of-append lines (line ∷ []) q ∙ ap (λ (b : Bool). option_or (place_of lines q)
+    (option_map (λ (place : ℕ). size_of lines + place) (if b then Some 0 else None))) e
 
-pub placed_label : (lines : List Line) (line : Line) (label q size : ℕ) → label_named line.item ≡ Some label → place_of lines label ≡ None → size ≡ size_of lines → (if nat_eq label q then Some size else place_of lines q) ≡ place_of (lines ++ line ∷ []) q
+pub placed_label : (lines : List Line) (line : Line) (label q size : ℕ) → label_named line.item ≡ Some label →
+    place_of lines label ≡ None → size ≡ size_of lines →
+    (if nat_eq label q then Some size else place_of lines q) ≡ place_of (lines ++ line ∷ []) q
 placed_label lines line label q size e n s =
-    sym (placed_here lines line label q size (nat_eq label q) refl n s) ∙ sym (one_place lines line q (nat_eq label q) (named_label line.item label q e))
+    sym (placed_here lines line label q size (nat_eq label q) refl n s)
+    ∙ sym (one_place lines line q (nat_eq label q) (named_label line.item label q e))
 
-pub placed_other : (lines : List Line) (line : Line) (q : ℕ) → label_named line.item ≡ None → place_of lines q ≡ place_of (lines ++ line ∷ []) q
+pub placed_other : (lines : List Line) (line : Line) (q : ℕ) → label_named line.item ≡ None →
+    place_of lines q ≡ place_of (lines ++ line ∷ []) q
 placed_other lines line q e =
     sym (or_none (place_of lines q)) ∙ sym (one_place lines line q false (named_none line.item q e))

@@ -6,15 +6,18 @@ use Rattle.cpu6502.specs.Effects.{displacement}
 use Rattle.asm6502.specs.Branches.{way_from, branch_byte}
 
 -- a way leads back to the target
-back : (pc target q way r s : ℕ) → target + 131072 - (pc + 2) ≡ 65536 * q + way → pc + 2 + way ≡ 65536 * r + s → pc ≤ 65536 → target < 65536 → s < 65536 → s ≡ target
+back : (pc target q way r s : ℕ) → target + 131072 - (pc + 2) ≡ 65536 * q + way → pc + 2 + way ≡ 65536 * r + s →
+    pc ≤ 65536 → target < 65536 → s < 65536 → s ≡ target
 back pc target q way r s e f l t k = omega arith
 
 pub way_back : (pc target : ℕ) → pc ≤ 65536 → target < 65536 → (pc + 2 + way_from pc target) % 65536 ≡ target
 way_back pc target l t =
-    let e : target + 131072 - (pc + 2) ≡ 65536 * ((target + 131072 - (pc + 2)) / 65536) + way_from pc target = omega arith in
+    let e : target + 131072 - (pc + 2) ≡ 65536 * ((target + 131072 - (pc + 2)) / 65536) + way_from pc target =
+    omega arith in
     ended pc target ((target + 131072 - (pc + 2)) / 65536) (way_from pc target) e l t
   where
-    ended : (pc target q way : ℕ) → target + 131072 - (pc + 2) ≡ 65536 * q + way → pc ≤ 65536 → target < 65536 → (pc + 2 + way) % 65536 ≡ target
+    ended : (pc target q way : ℕ) → target + 131072 - (pc + 2) ≡ 65536 * q + way → pc ≤ 65536 → target < 65536 →
+        (pc + 2 + way) % 65536 ≡ target
     ended pc target q way e l t =
         let f : pc + 2 + way ≡ 65536 * ((pc + 2 + way) / 65536) + (pc + 2 + way) % 65536 = omega arith in
         back pc target q way ((pc + 2 + way) / 65536) ((pc + 2 + way) % 65536) e f l t (omega arith)
@@ -26,7 +29,10 @@ low_displacement byte h = let t : nat_lt byte 128 ≡ true = lt-ltb byte 128 h i
 high_displacement : (byte : ℕ) → 128 ≤ byte → displacement byte ≡ byte + 65280
 high_displacement byte h = let t : nat_lt byte 128 ≡ false = le-ltb byte 128 h in rw t refl
 
-reach_by : (pc target byte way : ℕ) (y z : Bool) → way < 65536 → (pc + 2 + way) % 65536 ≡ target → nat_lt way 128 ≡ y → nat_lt way 65408 ≡ z → (if y then Some way else if z then None else Some (way - 65280)) ≡ Some byte → (byte < 256) × ((pc + 2 + displacement byte) % 65536 ≡ target)
+reach_by : (pc target byte way : ℕ) (y z : Bool) → way < 65536 → (pc + 2 + way) % 65536 ≡ target →
+    nat_lt way 128 ≡ y → nat_lt way 65408 ≡ z →
+    (if y then Some way else if z then None else Some (way - 65280)) ≡ Some byte → (byte < 256)
+    × ((pc + 2 + displacement byte) % 65536 ≡ target)
 reach_by pc target byte way true z w b e f h =
     let small : way < 128 = ltb-true way 128 e in
     let same : way ≡ byte = cc in
@@ -38,29 +44,37 @@ reach_by pc target byte way false false w b e f h =
     let whole : byte + 65280 ≡ way = omega arith in
     (omega arith, ap (λ (d : ℕ). (pc + 2 + d) % 65536) (high_displacement byte (omega arith) ∙ whole) ∙ b)
 
-pub branches_reach : (pc target byte : ℕ) → pc ≤ 65536 → target < 65536 → branch_byte pc target ≡ Some byte → (byte < 256) × ((pc + 2 + displacement byte) % 65536 ≡ target)
+pub branches_reach : (pc target byte : ℕ) → pc ≤ 65536 → target < 65536 → branch_byte pc target ≡ Some byte →
+    (byte < 256) × ((pc + 2 + displacement byte) % 65536 ≡ target)
 branches_reach pc target byte l t h =
-    reach_by pc target byte (way_from pc target) (nat_lt (way_from pc target) 128) (nat_lt (way_from pc target) 65408) (omega arith) (way_back pc target l t) refl refl h
+    reach_by pc target byte (way_from pc target) (nat_lt (way_from pc target) 128) (nat_lt (way_from pc target) 65408)
+    (omega arith) (way_back pc target l t) refl refl h
 
 -- a displacement that leads to the target is the way
-only_way : (pc target d : ℕ) → pc ≤ 65536 → target < 65536 → d < 65536 → (pc + 2 + d) % 65536 ≡ target → way_from pc target ≡ d
+only_way : (pc target d : ℕ) → pc ≤ 65536 → target < 65536 → d < 65536 → (pc + 2 + d) % 65536 ≡ target →
+    way_from pc target ≡ d
 only_way pc target d l t k h =
     let e : pc + 2 + d ≡ 65536 * ((pc + 2 + d) / 65536) + target = split (pc + 2 + d) target h in
-    let f : target + 131072 - (pc + 2) ≡ 65536 * ((target + 131072 - (pc + 2)) / 65536) + way_from pc target = omega arith in
-    met pc target d ((pc + 2 + d) / 65536) ((target + 131072 - (pc + 2)) / 65536) (way_from pc target) e f l t k (omega arith)
+    let f : target + 131072 - (pc + 2) ≡ 65536 * ((target + 131072 - (pc + 2)) / 65536) + way_from pc target =
+    omega arith in
+    met pc target d ((pc + 2 + d) / 65536) ((target + 131072 - (pc + 2)) / 65536) (way_from pc target) e f l t k
+    (omega arith)
   where
     split : (n s : ℕ) → n % 65536 ≡ s → n ≡ 65536 * (n / 65536) + s
     split n s h = omega arith
 
-    met : (pc target d r q way : ℕ) → pc + 2 + d ≡ 65536 * r + target → target + 131072 - (pc + 2) ≡ 65536 * q + way → pc ≤ 65536 → target < 65536 → d < 65536 → way < 65536 → way ≡ d
+    met : (pc target d r q way : ℕ) → pc + 2 + d ≡ 65536 * r + target → target + 131072 - (pc + 2) ≡ 65536 * q + way →
+        pc ≤ 65536 → target < 65536 → d < 65536 → way < 65536 → way ≡ d
     met pc target d r q way e f l t k w = omega arith
 
-far_by_way : (way : ℕ) (y z : Bool) → nat_lt way 128 ≡ y → nat_lt way 65408 ≡ z → (if y then Some way else if z then None else Some (way - 65280)) ≡ None → (128 ≤ way) × (way < 65408)
+far_by_way : (way : ℕ) (y z : Bool) → nat_lt way 128 ≡ y → nat_lt way 65408 ≡ z →
+    (if y then Some way else if z then None else Some (way - 65280)) ≡ None → (128 ≤ way) × (way < 65408)
 far_by_way way true z e f h = absurd (cc)
 far_by_way way false true e f h = (ltb-false way 128 e, ltb-true way 65408 f)
 far_by_way way false false e f h = absurd (cc)
 
-displaced : (byte : ℕ) (z : Bool) → byte < 256 → nat_lt byte 128 ≡ z → (displacement byte < 65536) × ((128 ≤ displacement byte) × (displacement byte < 65408) → ⊥)
+displaced : (byte : ℕ) (z : Bool) → byte < 256 → nat_lt byte 128 ≡ z → (displacement byte < 65536)
+    × ((128 ≤ displacement byte) × (displacement byte < 65408) → ⊥)
 displaced byte true h e =
     let small : byte < 128 = ltb-true byte 128 e in
     let d = low_displacement byte small in
@@ -70,27 +84,35 @@ displaced byte false h e =
     let d = high_displacement byte big in
     (omega arith, λ r. absurd (omega (arith, r.0, r.1)))
 
-pub far_is_out_of_reach : (pc target byte : ℕ) → pc ≤ 65536 → target < 65536 → branch_byte pc target ≡ None → byte < 256 → (pc + 2 + displacement byte) % 65536 ≢ target
+pub far_is_out_of_reach : (pc target byte : ℕ) → pc ≤ 65536 → target < 65536 → branch_byte pc target ≡ None →
+    byte < 256 → (pc + 2 + displacement byte) % 65536 ≢ target
 far_is_out_of_reach pc target byte l t h b e =
-    let far = far_by_way (way_from pc target) (nat_lt (way_from pc target) 128) (nat_lt (way_from pc target) 65408) refl refl h in
+    let far = far_by_way (way_from pc target) (nat_lt (way_from pc target) 128) (nat_lt (way_from pc target) 65408)
+    refl refl h in
     let d = displaced byte (nat_lt byte 128) b refl in
     let w = only_way pc target (displacement byte) l t d.0 e in
     d.1 (omega arith, omega arith)
 
 -- ---- distances
 
-same_way : (pc target pc' target' : ℕ) → pc ≤ 65536 → pc' ≤ 65536 → target < 65536 → target' < 65536 → (target + pc') % 65536 ≡ (target' + pc) % 65536 → way_from pc target ≡ way_from pc' target'
+same_way : (pc target pc' target' : ℕ) → pc ≤ 65536 → pc' ≤ 65536 → target < 65536 → target' < 65536 →
+    (target + pc') % 65536 ≡ (target' + pc) % 65536 → way_from pc target ≡ way_from pc' target'
 same_way pc target pc' target' l l' t t' e =
     let a : target + pc' ≡ 65536 * ((target + pc') / 65536) + (target + pc') % 65536 = omega arith in
     let b : target' + pc ≡ 65536 * ((target' + pc) / 65536) + (target' + pc) % 65536 = omega arith in
-    met target target' pc pc' ((target + pc') / 65536) ((target' + pc) / 65536) ((target + pc') % 65536) ((target' + pc) % 65536) a b e l l'
+    met target target' pc pc' ((target + pc') / 65536) ((target' + pc) / 65536) ((target + pc') % 65536)
+    ((target' + pc) % 65536) a b e l l'
   where
-    met : (t t' pc pc' q q' r r' : ℕ) → t + pc' ≡ 65536 * q + r → t' + pc ≡ 65536 * q' + r' → r ≡ r' → pc ≤ 65536 → pc' ≤ 65536 → (t + 131072 - (pc + 2)) % 65536 ≡ (t' + 131072 - (pc' + 2)) % 65536
+    met : (t t' pc pc' q q' r r' : ℕ) → t + pc' ≡ 65536 * q + r → t' + pc ≡ 65536 * q' + r' → r ≡ r' → pc ≤ 65536 →
+        pc' ≤ 65536 → (t + 131072 - (pc + 2)) % 65536 ≡ (t' + 131072 - (pc' + 2)) % 65536
     met t t' pc pc' q q' r r' e f g l l' = omega arith
 
-pub branches_keep_distance : (pc target pc' target' : ℕ) → pc ≤ 65536 → pc' ≤ 65536 → target < 65536 → target' < 65536 → (target + pc') % 65536 ≡ (target' + pc) % 65536 → branch_byte pc target ≡ branch_byte pc' target'
+pub branches_keep_distance : (pc target pc' target' : ℕ) → pc ≤ 65536 → pc' ≤ 65536 → target < 65536 →
+    target' < 65536 → (target + pc') % 65536 ≡ (target' + pc) % 65536 →
+    branch_byte pc target ≡ branch_byte pc' target'
 branches_keep_distance pc target pc' target' l l' t t' e =
-    ap (λ (way : ℕ). if nat_lt way 128 then Some way else if nat_lt way 65408 then None else Some (way - 65280)) (same_way pc target pc' target' l l' t t' e)
+    ap (λ (way : ℕ). if nat_lt way 128 then Some way else if nat_lt way 65408 then None else Some (way - 65280))
+    (same_way pc target pc' target' l l' t t' e)
 
 pub branches_reach_after : (pc n : ℕ) → pc ≤ 65536 → n ≤ 127 → branch_byte pc ((pc + 2 + n) % 65536) ≡ Some n
 branches_reach_after pc n l h =
@@ -98,7 +120,8 @@ branches_reach_after pc n l h =
     let low : nat_lt n 128 ≡ true = lt-ltb n 128 (omega arith) in
     rw (way, low) refl
 
-pub branches_reach_before : (start n : ℕ) → start + n ≤ 65536 → n ≤ 126 → branch_byte (start + n) (start % 65536) ≡ Some (254 - n)
+pub branches_reach_before : (start n : ℕ) → start + n ≤ 65536 → n ≤ 126 →
+    branch_byte (start + n) (start % 65536) ≡ Some (254 - n)
 branches_reach_before start n l h =
     let way : way_from (start + n) (start % 65536) ≡ 65534 - n = omega arith in
     let high : nat_lt (65534 - n) 128 ≡ false = le-ltb (65534 - n) 128 (omega arith) in

@@ -18,35 +18,48 @@ pub record IsRead (mode : Mode) (operand : ℕ) (bytes rest : List ℕ) : Type 0
   pub from : operand_from mode (bytes ++ rest) ≡ Some operand
   pub size : length_of mode ≡ suc (length bytes)
 
-none_read : (n : ℕ) (bytes rest : List ℕ) (z : Bool) → nat_eq n 0 ≡ z → (if z then Some [] else None) ≡ Some bytes → (Some 0 ≡ Some n) × (1 ≡ suc (length bytes))
+none_read : (n : ℕ) (bytes rest : List ℕ) (z : Bool) → nat_eq n 0 ≡ z → (if z then Some [] else None) ≡ Some bytes →
+    (Some 0 ≡ Some n) × (1 ≡ suc (length bytes))
 none_read n bytes rest true e h =
     let n0 : n ≡ 0 = eqb-true n 0 e in
     let b0 : [] ≡ bytes = cc in
     (ap Some (sym n0), ap (λ (l : List ℕ). suc (length l)) b0)
 none_read n bytes rest false e h = absurd (cc)
 
-byte_read : (n : ℕ) (bytes rest : List ℕ) (z : Bool) → (if z then Some (n ∷ []) else None) ≡ Some bytes → (byte_from (bytes ++ rest) ≡ Some n) × (2 ≡ suc (length bytes))
+byte_read : (n : ℕ) (bytes rest : List ℕ) (z : Bool) → (if z then Some (n ∷ []) else None) ≡ Some bytes →
+    (byte_from (bytes ++ rest) ≡ Some n) × (2 ≡ suc (length bytes))
 byte_read n bytes rest true h =
     let b0 : n ∷ [] ≡ bytes = cc in
     (ap (λ (l : List ℕ). byte_from (l ++ rest)) (sym b0), ap (λ (l : List ℕ). suc (length l)) b0)
 byte_read n bytes rest false h = absurd (cc)
 
-word_read : (n : ℕ) (bytes rest : List ℕ) → Some (n % 256 ∷ n / 256 ∷ []) ≡ Some bytes → (word_from (bytes ++ rest) ≡ Some n) × (3 ≡ suc (length bytes))
+word_read : (n : ℕ) (bytes rest : List ℕ) → Some (n % 256 ∷ n / 256 ∷ []) ≡ Some bytes →
+    (word_from (bytes ++ rest) ≡ Some n) × (3 ≡ suc (length bytes))
 word_read n bytes rest h =
     let b0 : n % 256 ∷ n / 256 ∷ [] ≡ bytes = cc in
     let whole : n % 256 + 256 * (n / 256) ≡ n = omega arith in
     (ap (λ (l : List ℕ). word_from (l ++ rest)) (sym b0) ∙ ap Some whole, ap (λ (l : List ℕ). suc (length l)) b0)
 
-pub operand_read : (mode : Mode) (n : ℕ) (bytes rest : List ℕ) → operand_bytes mode n ≡ Some bytes → IsRead mode n bytes rest
-operand_read Implied n bytes rest h = let r = none_read n bytes rest (nat_eq n 0) refl h in record { from = r.0; size = r.1 }
-operand_read Accumulator n bytes rest h = let r = none_read n bytes rest (nat_eq n 0) refl h in record { from = r.0; size = r.1 }
-operand_read Immediate n bytes rest h = let r = byte_read n bytes rest (nat_lt n 256) h in record { from = r.0; size = r.1 }
-operand_read ZeroPage n bytes rest h = let r = byte_read n bytes rest (nat_lt n 256) h in record { from = r.0; size = r.1 }
-operand_read ZeroPageX n bytes rest h = let r = byte_read n bytes rest (nat_lt n 256) h in record { from = r.0; size = r.1 }
-operand_read ZeroPageY n bytes rest h = let r = byte_read n bytes rest (nat_lt n 256) h in record { from = r.0; size = r.1 }
-operand_read IndirectX n bytes rest h = let r = byte_read n bytes rest (nat_lt n 256) h in record { from = r.0; size = r.1 }
-operand_read IndirectY n bytes rest h = let r = byte_read n bytes rest (nat_lt n 256) h in record { from = r.0; size = r.1 }
-operand_read Relative n bytes rest h = let r = byte_read n bytes rest (nat_lt n 256) h in record { from = r.0; size = r.1 }
+pub operand_read : (mode : Mode) (n : ℕ) (bytes rest : List ℕ) → operand_bytes mode n ≡ Some bytes →
+    IsRead mode n bytes rest
+operand_read Implied n bytes rest h =
+    let r = none_read n bytes rest (nat_eq n 0) refl h in record { from = r.0; size = r.1 }
+operand_read Accumulator n bytes rest h =
+    let r = none_read n bytes rest (nat_eq n 0) refl h in record { from = r.0; size = r.1 }
+operand_read Immediate n bytes rest h =
+    let r = byte_read n bytes rest (nat_lt n 256) h in record { from = r.0; size = r.1 }
+operand_read ZeroPage n bytes rest h =
+    let r = byte_read n bytes rest (nat_lt n 256) h in record { from = r.0; size = r.1 }
+operand_read ZeroPageX n bytes rest h =
+    let r = byte_read n bytes rest (nat_lt n 256) h in record { from = r.0; size = r.1 }
+operand_read ZeroPageY n bytes rest h =
+    let r = byte_read n bytes rest (nat_lt n 256) h in record { from = r.0; size = r.1 }
+operand_read IndirectX n bytes rest h =
+    let r = byte_read n bytes rest (nat_lt n 256) h in record { from = r.0; size = r.1 }
+operand_read IndirectY n bytes rest h =
+    let r = byte_read n bytes rest (nat_lt n 256) h in record { from = r.0; size = r.1 }
+operand_read Relative n bytes rest h =
+    let r = byte_read n bytes rest (nat_lt n 256) h in record { from = r.0; size = r.1 }
 operand_read Absolute n bytes rest h = let r = word_read n bytes rest h in record { from = r.0; size = r.1 }
 operand_read AbsoluteX n bytes rest h = let r = word_read n bytes rest h in record { from = r.0; size = r.1 }
 operand_read AbsoluteY n bytes rest h = let r = word_read n bytes rest h in record { from = r.0; size = r.1 }
@@ -60,15 +73,21 @@ pub record Parts (instr : Instr) (bytes : List ℕ) : Type 0 where
   pub operand : operand_bytes instr.mode instr.operand ≡ Some following
   pub is : bytes ≡ opcode ∷ following
 
-parts_of : (instr : Instr) (bytes : List ℕ) (op : Option ℕ) (following : Option (List ℕ)) → opcode_of instr.mnemonic instr.mode ≡ op → operand_bytes instr.mode instr.operand ≡ following → option_and_then (λ (opcode : ℕ). option_map (λ (l : List ℕ). opcode ∷ l) following) op ≡ Some bytes → Parts instr bytes
+parts_of : (instr : Instr) (bytes : List ℕ) (op : Option ℕ) (following : Option (List ℕ)) →
+    opcode_of instr.mnemonic instr.mode ≡ op → operand_bytes instr.mode instr.operand ≡ following →
+    option_and_then (λ (opcode : ℕ). option_map (λ (l : List ℕ). opcode ∷ l) following) op ≡ Some bytes →
+    Parts instr bytes
 parts_of instr bytes None following e f h = absurd (cc)
 parts_of instr bytes (Some op) None e f h = absurd (cc)
-parts_of instr bytes (Some op) (Some following) e f h = record { opcode = op; following = following; row = e; operand = f; is = cc }
+parts_of instr bytes (Some op) (Some following) e f h =
+    record { opcode = op; following = following; row = e; operand = f; is = cc }
 
 pub encoding_parts : (instr : Instr) (bytes : List ℕ) → encoding instr ≡ Some bytes → Parts instr bytes
-encoding_parts instr bytes h = parts_of instr bytes (opcode_of instr.mnemonic instr.mode) (operand_bytes instr.mode instr.operand) refl refl h
+encoding_parts instr bytes h =
+    parts_of instr bytes (opcode_of instr.mnemonic instr.mode) (operand_bytes instr.mode instr.operand) refl refl h
 
-pub what_is_encoded_decodes : OpcodesHaveRows → (instr : Instr) (bytes rest : List ℕ) → encoding instr ≡ Some bytes → decoding (bytes ++ rest) ≡ Some (instr, length bytes)
+pub what_is_encoded_decodes : OpcodesHaveRows → (instr : Instr) (bytes rest : List ℕ) → encoding instr ≡ Some bytes →
+    decoding (bytes ++ rest) ≡ Some (instr, length bytes)
 what_is_encoded_decodes rows instr bytes rest h =
     let p = encoding_parts instr bytes h in
     let m = rows instr.mnemonic instr.mode p.opcode p.row in
@@ -82,7 +101,8 @@ what_is_encoded_decodes rows instr bytes rest h =
 none_spelled : (rest : List ℕ) (n : ℕ) → Some 0 ≡ Some n → operand_bytes Implied n ≡ Some []
 none_spelled rest n h = let e : n ≡ 0 = cc in rw e refl
 
-byte_spelled : (rest : List ℕ) (n : ℕ) → All (λ byte. byte < 256) rest → byte_from rest ≡ Some n → ((if nat_lt n 256 then Some (n ∷ []) else None) ≡ Some (take 1 rest)) × (length (take 1 rest) ≡ 1)
+byte_spelled : (rest : List ℕ) (n : ℕ) → All (λ byte. byte < 256) rest → byte_from rest ≡ Some n →
+    ((if nat_lt n 256 then Some (n ∷ []) else None) ≡ Some (take 1 rest)) × (length (take 1 rest) ≡ 1)
 byte_spelled [] n a h = absurd (cc)
 byte_spelled (b ∷ rest) n a h =
     let e : b ≡ n = cc in
@@ -90,7 +110,8 @@ byte_spelled (b ∷ rest) n a h =
     let t : nat_lt b 256 ≡ true = lt-ltb b 256 small in
     (rw (← e) (rw t refl), refl)
 
-word_spelled : (rest : List ℕ) (n : ℕ) → All (λ byte. byte < 256) rest → word_from rest ≡ Some n → (Some (n % 256 ∷ n / 256 ∷ []) ≡ Some (take 2 rest)) × (length (take 2 rest) ≡ 2)
+word_spelled : (rest : List ℕ) (n : ℕ) → All (λ byte. byte < 256) rest → word_from rest ≡ Some n →
+    (Some (n % 256 ∷ n / 256 ∷ []) ≡ Some (take 2 rest)) × (length (take 2 rest) ≡ 2)
 word_spelled [] n a h = absurd (cc)
 word_spelled (low ∷ []) n a h = absurd (cc)
 word_spelled (low ∷ high ∷ rest) n a h =
@@ -106,25 +127,110 @@ pub record IsSpelled (mode : Mode) (n : ℕ) (rest : List ℕ) : Type 0 where
   pub taken : (opcode : ℕ) → take (length_of mode) (opcode ∷ rest) ≡ opcode ∷ following
   pub size : suc (length following) ≡ length_of mode
 
-operand_spelled : (mode : Mode) (n : ℕ) (rest : List ℕ) → All (λ byte. byte < 256) rest → operand_from mode rest ≡ Some n → IsSpelled mode n rest
-operand_spelled Implied n rest a h = record { following = []; bytes = none_spelled rest n h; taken = λ o. refl; size = refl }
-operand_spelled Accumulator n rest a h = record { following = []; bytes = none_spelled rest n h; taken = λ o. refl; size = refl }
-operand_spelled Immediate n rest a h = let r = byte_spelled rest n a h in record { following = take 1 rest; bytes = r.0; taken = λ o. refl; size = ap suc r.1 }
-operand_spelled ZeroPage n rest a h = let r = byte_spelled rest n a h in record { following = take 1 rest; bytes = r.0; taken = λ o. refl; size = ap suc r.1 }
-operand_spelled ZeroPageX n rest a h = let r = byte_spelled rest n a h in record { following = take 1 rest; bytes = r.0; taken = λ o. refl; size = ap suc r.1 }
-operand_spelled ZeroPageY n rest a h = let r = byte_spelled rest n a h in record { following = take 1 rest; bytes = r.0; taken = λ o. refl; size = ap suc r.1 }
-operand_spelled IndirectX n rest a h = let r = byte_spelled rest n a h in record { following = take 1 rest; bytes = r.0; taken = λ o. refl; size = ap suc r.1 }
-operand_spelled IndirectY n rest a h = let r = byte_spelled rest n a h in record { following = take 1 rest; bytes = r.0; taken = λ o. refl; size = ap suc r.1 }
-operand_spelled Relative n rest a h = let r = byte_spelled rest n a h in record { following = take 1 rest; bytes = r.0; taken = λ o. refl; size = ap suc r.1 }
-operand_spelled Absolute n rest a h = let r = word_spelled rest n a h in record { following = take 2 rest; bytes = r.0; taken = λ o. refl; size = ap suc r.1 }
-operand_spelled AbsoluteX n rest a h = let r = word_spelled rest n a h in record { following = take 2 rest; bytes = r.0; taken = λ o. refl; size = ap suc r.1 }
-operand_spelled AbsoluteY n rest a h = let r = word_spelled rest n a h in record { following = take 2 rest; bytes = r.0; taken = λ o. refl; size = ap suc r.1 }
-operand_spelled Indirect n rest a h = let r = word_spelled rest n a h in record { following = take 2 rest; bytes = r.0; taken = λ o. refl; size = ap suc r.1 }
+operand_spelled : (mode : Mode) (n : ℕ) (rest : List ℕ) → All (λ byte. byte < 256) rest →
+    operand_from mode rest ≡ Some n → IsSpelled mode n rest
+operand_spelled Implied n rest a h =
+    record { following = []; bytes = none_spelled rest n h; taken = λ o. refl; size = refl }
+operand_spelled Accumulator n rest a h =
+    record { following = []; bytes = none_spelled rest n h; taken = λ o. refl; size = refl }
+operand_spelled Immediate n rest a h =
+    let r = byte_spelled rest n a h in record {
+      following = take 1 rest;
+      bytes = r.0;
+      taken = λ o. refl;
+      size =
+          ap suc r.1;
+    }
+operand_spelled ZeroPage n rest a h =
+    let r = byte_spelled rest n a h in record {
+      following = take 1 rest;
+      bytes = r.0;
+      taken = λ o. refl;
+      size =
+          ap suc r.1;
+    }
+operand_spelled ZeroPageX n rest a h =
+    let r = byte_spelled rest n a h in record {
+      following = take 1 rest;
+      bytes = r.0;
+      taken = λ o. refl;
+      size =
+          ap suc r.1;
+    }
+operand_spelled ZeroPageY n rest a h =
+    let r = byte_spelled rest n a h in record {
+      following = take 1 rest;
+      bytes = r.0;
+      taken = λ o. refl;
+      size =
+          ap suc r.1;
+    }
+operand_spelled IndirectX n rest a h =
+    let r = byte_spelled rest n a h in record {
+      following = take 1 rest;
+      bytes = r.0;
+      taken = λ o. refl;
+      size =
+          ap suc r.1;
+    }
+operand_spelled IndirectY n rest a h =
+    let r = byte_spelled rest n a h in record {
+      following = take 1 rest;
+      bytes = r.0;
+      taken = λ o. refl;
+      size =
+          ap suc r.1;
+    }
+operand_spelled Relative n rest a h =
+    let r = byte_spelled rest n a h in record {
+      following = take 1 rest;
+      bytes = r.0;
+      taken = λ o. refl;
+      size =
+          ap suc r.1;
+    }
+operand_spelled Absolute n rest a h =
+    let r = word_spelled rest n a h in record {
+      following = take 2 rest;
+      bytes = r.0;
+      taken = λ o. refl;
+      size =
+          ap suc r.1;
+    }
+operand_spelled AbsoluteX n rest a h =
+    let r = word_spelled rest n a h in record {
+      following = take 2 rest;
+      bytes = r.0;
+      taken = λ o. refl;
+      size =
+          ap suc r.1;
+    }
+operand_spelled AbsoluteY n rest a h =
+    let r = word_spelled rest n a h in record {
+      following = take 2 rest;
+      bytes = r.0;
+      taken = λ o. refl;
+      size =
+          ap suc r.1;
+    }
+operand_spelled Indirect n rest a h =
+    let r = word_spelled rest n a h in record {
+      following = take 2 rest;
+      bytes = r.0;
+      taken = λ o. refl;
+      size =
+          ap suc r.1;
+    }
 
-spelled_as : RowsHaveOpcodes → (opcode : ℕ) (rest : List ℕ) (mn : Mnemonic) (mode : Mode) (read : Option ℕ) (instr : Instr) (taken : ℕ) → All (λ byte. byte < 256) (opcode ∷ rest) → meaning_of opcode ≡ Some (mn, mode) → operand_from mode rest ≡ read → option_map {U = Instr × ℕ} (λ (n : ℕ). (record { mnemonic = mn; mode = mode; operand = n }, length_of mode)) read ≡ Some (instr, taken) → (encoding instr ≡ Some (take taken (opcode ∷ rest))) × (length (take taken (opcode ∷ rest)) ≡ taken)
+spelled_as : RowsHaveOpcodes → (opcode : ℕ) (rest : List ℕ) (mn : Mnemonic) (mode : Mode) (read : Option ℕ)
+    (instr : Instr) (taken : ℕ) → All (λ byte. byte < 256) (opcode ∷ rest) → meaning_of opcode ≡ Some (mn, mode) →
+    operand_from mode rest ≡ read → option_map {U = Instr × ℕ} (λ
+    (n : ℕ). (record { mnemonic = mn; mode = mode; operand = n }, length_of mode)) read ≡ Some (instr, taken) →
+    (encoding instr ≡ Some (take taken (opcode ∷ rest))) × (length (take taken (opcode ∷ rest)) ≡ taken)
 spelled_as rows opcode rest mn mode None instr taken a m e h = absurd (cc)
 spelled_as rows opcode rest mn mode (Some n) instr taken a m e h =
-    let both = some_pair_parts {A = Instr} {B = ℕ} (record { mnemonic = mn; mode = mode; operand = n }) instr (length_of mode) taken h in
+    let both = some_pair_parts {A = Instr} {B = ℕ} (record { mnemonic = mn; mode = mode; operand = n }) instr
+    (length_of mode) taken h in
     let i = both.0 in
     let t = both.1 in
     let s = operand_spelled mode n rest (All-tail (λ (byte : ℕ). byte < 256) opcode rest a) e in
@@ -134,10 +240,17 @@ spelled_as rows opcode rest mn mode (Some n) instr taken a m e h =
     let z = s.size in
     rw (← i, ← t) (rw (row, b, k) refl, ap length k ∙ z)
 
-spelled_by : RowsHaveOpcodes → (opcode : ℕ) (rest : List ℕ) (m : Option Meaning) (instr : Instr) (taken : ℕ) → All (λ byte. byte < 256) (opcode ∷ rest) → meaning_of opcode ≡ m → option_and_then (λ (meaning : Meaning). decoding_as meaning rest) m ≡ Some (instr, taken) → (encoding instr ≡ Some (take taken (opcode ∷ rest))) × (length (take taken (opcode ∷ rest)) ≡ taken)
+spelled_by : RowsHaveOpcodes → (opcode : ℕ) (rest : List ℕ) (m : Option Meaning) (instr : Instr) (taken : ℕ) →
+    All (λ byte. byte < 256) (opcode ∷ rest) → meaning_of opcode ≡ m →
+    option_and_then (λ (meaning : Meaning). decoding_as meaning rest) m ≡ Some (instr, taken) →
+    (encoding instr ≡ Some (take taken (opcode ∷ rest))) × (length (take taken (opcode ∷ rest)) ≡ taken)
 spelled_by rows opcode rest None instr taken a e h = absurd (cc)
-spelled_by rows opcode rest (Some m) instr taken a e h = spelled_as rows opcode rest m.0 m.1 (operand_from m.1 rest) instr taken a e refl h
+spelled_by rows opcode rest (Some m) instr taken a e h =
+    spelled_as rows opcode rest m.0 m.1 (operand_from m.1 rest) instr taken a e refl h
 
-pub nothing_else_decodes : RowsHaveOpcodes → (bytes : List ℕ) (instr : Instr) (taken : ℕ) → All (λ byte. byte < 256) bytes → decoding bytes ≡ Some (instr, taken) → (encoding instr ≡ Some (take taken bytes)) × (length (take taken bytes) ≡ taken)
+pub nothing_else_decodes : RowsHaveOpcodes → (bytes : List ℕ) (instr : Instr) (taken : ℕ) →
+    All (λ byte. byte < 256) bytes → decoding bytes ≡ Some (instr, taken) → (encoding instr ≡ Some (take taken bytes))
+    × (length (take taken bytes) ≡ taken)
 nothing_else_decodes rows [] instr taken a h = absurd (cc)
-nothing_else_decodes rows (opcode ∷ rest) instr taken a h = spelled_by rows opcode rest (meaning_of opcode) instr taken a refl h
+nothing_else_decodes rows (opcode ∷ rest) instr taken a h =
+    spelled_by rows opcode rest (meaning_of opcode) instr taken a refl h

@@ -22,13 +22,16 @@ use Rattle.asm6502.specs.Faults.{first_fault, bad_line}
 use Rattle.asm6502.proofs.Rounds.{operand_read}
 
 -- a displacement byte is a byte
-byte_small : (way : ℕ) (y z : Bool) → way < 65536 → nat_lt way 128 ≡ y → nat_lt way 65408 ≡ z → unwrap_or (if y then Some way else if z then None else Some (way - 65280)) 0 < 256
+byte_small : (way : ℕ) (y z : Bool) → way < 65536 → nat_lt way 128 ≡ y → nat_lt way 65408 ≡ z →
+    unwrap_or (if y then Some way else if z then None else Some (way - 65280)) 0 < 256
 byte_small way true z w e f = omega (arith, ltb-true way 128 e)
 byte_small way false true w e f = omega arith
 byte_small way false false w e f = omega arith
 
 pub branch_byte-lt : (pc target : ℕ) → unwrap_or (branch_byte pc target) 0 < 256
-branch_byte-lt pc target = byte_small (way_from pc target) (nat_lt (way_from pc target) 128) (nat_lt (way_from pc target) 65408) (omega arith) refl refl
+branch_byte-lt pc target =
+    byte_small (way_from pc target) (nat_lt (way_from pc target) 128) (nat_lt (way_from pc target) 65408)
+    (omega arith) refl refl
 
 -- an operand that suits a mode has bytes
 byte_some : (n : ℕ) → nat_lt n 256 ≡ true → is_some (if nat_lt n 256 then Some (n ∷ []) else None) ≡ true
@@ -52,14 +55,17 @@ number_some Indirect n h = refl
 nothing_some : (mode : Mode) → nat_eq (length_of mode) 1 ≡ true → is_some (operand_bytes mode 0) ≡ true
 nothing_some mode h = rw h refl
 
-label_some : (address : ℕ → ℕ) (pc : ℕ) (mode : Mode) (label offset : ℕ) → suits mode (Label label offset) ≡ true → is_some (operand_bytes mode (operand_of address pc mode (Label label offset))) ≡ true
+label_some : (address : ℕ → ℕ) (pc : ℕ) (mode : Mode) (label offset : ℕ) → suits mode (Label label offset) ≡ true →
+    is_some (operand_bytes mode (operand_of address pc mode (Label label offset))) ≡ true
 label_some address pc Absolute label offset h = refl
 label_some address pc AbsoluteX label offset h = refl
 label_some address pc AbsoluteY label offset h = refl
 label_some address pc Indirect label offset h = refl
 label_some address pc Relative label offset h =
     let target = (address label + offset) % 65536 in
-    byte_some (unwrap_or (branch_byte pc ((address label + offset) % 65536)) 0) (lt-ltb (unwrap_or (branch_byte pc ((address label + offset) % 65536)) 0) 256 (branch_byte-lt pc ((address label + offset) % 65536)))
+    byte_some (unwrap_or (branch_byte pc ((address label + offset) % 65536)) 0)
+    (lt-ltb (unwrap_or (branch_byte pc ((address label + offset) % 65536)) 0) 256
+    (branch_byte-lt pc ((address label + offset) % 65536)))
 label_some address pc Implied label offset h = cc
 label_some address pc Accumulator label offset h = cc
 label_some address pc Immediate label offset h = cc
@@ -88,12 +94,14 @@ immediate_some Indirect n h l = cc
 high_small : (n : ℕ) → n < 65536 → n / 256 < 256
 high_small n h = omega arith
 
-operand_some : (address : ℕ → ℕ) (pc : ℕ) (mode : Mode) (x : Operand) → suits mode x ≡ true → is_some (operand_bytes mode (operand_of address pc mode x)) ≡ true
+operand_some : (address : ℕ → ℕ) (pc : ℕ) (mode : Mode) (x : Operand) → suits mode x ≡ true →
+    is_some (operand_bytes mode (operand_of address pc mode x)) ≡ true
 operand_some address pc mode Nothing h = nothing_some mode h
 operand_some address pc mode (Number n) h = number_some mode n h
 operand_some address pc mode (Label l d) h = label_some address pc mode l d h
 operand_some address pc mode (Low l d) h = immediate_some mode ((address l + d) % 65536 % 256) h (omega arith)
-operand_some address pc mode (High l d) h = immediate_some mode ((address l + d) % 65536 / 256) h (high_small ((address l + d) % 65536) (omega arith))
+operand_some address pc mode (High l d) h =
+    immediate_some mode ((address l + d) % 65536 / 256) h (high_small ((address l + d) % 65536) (omega arith))
 
 -- the bytes of an instruction that can stand in a listing
 pub record Encodes (address : ℕ → ℕ) (pc : ℕ) (mn : Mnemonic) (mode : Mode) (x : Operand) : Type 0 where
@@ -106,35 +114,44 @@ both true true h = (refl, refl)
 both true false h = absurd (cc)
 both false z h = absurd (cc)
 
-encodes_as : (address : ℕ → ℕ) (pc : ℕ) (mn : Mnemonic) (mode : Mode) (x : Operand) (op : Option ℕ) (following : Option (List ℕ)) → opcode_of mn mode ≡ op → operand_bytes mode (operand_of address pc mode x) ≡ following → is_some op ≡ true → is_some following ≡ true → Encodes address pc mn mode x
+encodes_as : (address : ℕ → ℕ) (pc : ℕ) (mn : Mnemonic) (mode : Mode) (x : Operand) (op : Option ℕ)
+    (following : Option (List ℕ)) → opcode_of mn mode ≡ op →
+    operand_bytes mode (operand_of address pc mode x) ≡ following → is_some op ≡ true → is_some following ≡ true →
+    Encodes address pc mn mode x
 encodes_as address pc mn mode x None following e f g h = absurd (cc)
 encodes_as address pc mn mode x (Some op) None e f g h = absurd (cc)
 encodes_as address pc mn mode x (Some op) (Some following) e f g h =
     let r = operand_read mode (operand_of address pc mode x) following [] f in
     record { bytes = op ∷ following; is = rw (e, f) refl; size = sym r.size }
 
-pub encodes : (address : ℕ → ℕ) (pc : ℕ) (mn : Mnemonic) (mode : Mode) (x : Operand) → is_sound (Code mn mode x) ≡ true → Encodes address pc mn mode x
+pub encodes : (address : ℕ → ℕ) (pc : ℕ) (mn : Mnemonic) (mode : Mode) (x : Operand) →
+    is_sound (Code mn mode x) ≡ true → Encodes address pc mn mode x
 encodes address pc mn mode x h =
     let b = both (is_some (opcode_of mn mode)) (suits mode x) h in
-    encodes_as address pc mn mode x (opcode_of mn mode) (operand_bytes mode (operand_of address pc mode x)) refl refl b.0 (operand_some address pc mode x b.1)
+    encodes_as address pc mn mode x (opcode_of mn mode) (operand_bytes mode (operand_of address pc mode x))
+    refl refl b.0 (operand_some address pc mode x b.1)
 
 -- the bytes of an item are as many as its size says
-code_size : (address : ℕ → ℕ) (pc : ℕ) (mn : Mnemonic) (mode : Mode) (x : Operand) → Encodes address pc mn mode x → length (item_bytes address pc (Code mn mode x)) ≡ length_of mode
+code_size : (address : ℕ → ℕ) (pc : ℕ) (mn : Mnemonic) (mode : Mode) (x : Operand) → Encodes address pc mn mode x →
+    length (item_bytes address pc (Code mn mode x)) ≡ length_of mode
 code_size address pc mn mode x e = let i = e.is in ap (λ (o : Option (List ℕ)). length (unwrap_or o [])) i ∙ e.size
 
-pub item_length : (address : ℕ → ℕ) (pc : ℕ) (item : Item) → is_sound item ≡ true → length (item_bytes address pc item) ≡ item_size item
+pub item_length : (address : ℕ → ℕ) (pc : ℕ) (item : Item) → is_sound item ≡ true →
+    length (item_bytes address pc item) ≡ item_size item
 item_length address pc (Named l) h = refl
 item_length address pc (Code mn mode x) h = code_size address pc mn mode x (encodes address pc mn mode x h)
 item_length address pc (Bytes bs) h = refl
 
 -- lines that aren't refused as bad
-not_bad : (p k s : Bool) (fault : AsmFault) → (if p || k && not s then Some fault else None) ≡ None → k ≡ true → s ≡ true
+not_bad : (p k s : Bool) (fault : AsmFault) → (if p || k && not s then Some fault else None) ≡ None → k ≡ true →
+    s ≡ true
 not_bad true k s fault h e = absurd (cc)
 not_bad false true true fault h e = refl
 not_bad false true false fault h e = absurd (cc)
 not_bad false false s fault h e = absurd (cc)
 
-pub sound_line : (set : ℕ) (before : List Line) (x : Line) → bad_line set before x ≡ None → is_kept set x ≡ true → is_sound x.item ≡ true
+pub sound_line : (set : ℕ) (before : List Line) (x : Line) → bad_line set before x ≡ None → is_kept set x ≡ true →
+    is_sound x.item ≡ true
 sound_line set before x h k = not_bad (is_no_part x.part) (is_kept set x) (is_sound x.item) _ h k
 
 -- a test that finds nothing first finds nothing here, and nothing after
@@ -142,10 +159,14 @@ pub or_parts : (o p : Option AsmFault) → option_or o p ≡ None → (o ≡ Non
 or_parts None p h = (refl, h)
 or_parts (Some x) p h = absurd (cc)
 
-pub first_parts : (test : List Line → Line → Option AsmFault) (before : List Line) (x : Line) (rest : List Line) → first_fault test before (x ∷ rest) ≡ None → (test before x ≡ None) × (first_fault test (before ++ x ∷ []) rest ≡ None)
+pub first_parts : (test : List Line → Line → Option AsmFault) (before : List Line) (x : Line) (rest : List Line) →
+    first_fault test before (x ∷ rest) ≡ None → (test before x ≡ None)
+    × (first_fault test (before ++ x ∷ []) rest ≡ None)
 first_parts test before x rest h = or_parts (test before x) (first_fault test (before ++ x ∷ []) rest) h
 
-pub sound_at : (set : ℕ) (before lines : List Line) (k : ℕ) (x : Line) → first_fault (bad_line set) before lines ≡ None → k < length lines → x ≡ get_or lines k x → is_kept set x ≡ true → is_sound x.item ≡ true
+pub sound_at : (set : ℕ) (before lines : List Line) (k : ℕ) (x : Line) →
+    first_fault (bad_line set) before lines ≡ None → k < length lines → x ≡ get_or lines k x → is_kept set x ≡ true →
+    is_sound x.item ≡ true
 sound_at set before [] k x h l e kept = absurd (omega arith)
 sound_at set before (y ∷ lines) zero x h l e kept =
     let p = first_parts (bad_line set) before y lines h in
@@ -159,12 +180,15 @@ abbrev pub AllSound : List Line → Type 0
 AllSound [] = Unit {0}
 AllSound (x ∷ lines) = (is_sound x.item ≡ true) × AllSound lines
 
-sound_cons : (x : Line) (lines : List Line) (z : Bool) → (z ≡ true → is_sound x.item ≡ true) → AllSound lines → AllSound (if z then x ∷ lines else lines)
+sound_cons : (x : Line) (lines : List Line) (z : Bool) → (z ≡ true → is_sound x.item ≡ true) → AllSound lines →
+    AllSound (if z then x ∷ lines else lines)
 sound_cons x lines true h all = (h refl, all)
 sound_cons x lines false h all = all
 
-pub all_sound : (set : ℕ) (before lines : List Line) → first_fault (bad_line set) before lines ≡ None → AllSound (kept set lines)
+pub all_sound : (set : ℕ) (before lines : List Line) → first_fault (bad_line set) before lines ≡ None →
+    AllSound (kept set lines)
 all_sound set before [] h = tt
 all_sound set before (x ∷ lines) h =
     let p = first_parts (bad_line set) before x lines h in
-    sound_cons x (kept set lines) (is_kept set x) (sound_line set before x p.0) (all_sound set (before ++ x ∷ []) lines p.1)
+    sound_cons x (kept set lines) (is_kept set x) (sound_line set before x p.0)
+    (all_sound set (before ++ x ∷ []) lines p.1)

@@ -19,65 +19,103 @@ use Rattle.asm6502.specs.Places.{IsWritten, address_by}
 use Rattle.asm6502.proofs.Naming.{kept-append, kept_more, size_of-append}
 use Rattle.asm6502.proofs.Sound.{item_length}
 
-pub bytes_of-append : (address : ℕ → ℕ) (pc : ℕ) (front back : List Line) → bytes_of address pc (front ++ back) ≡ bytes_of address pc front ++ bytes_of address (pc + size_of front) back
+pub bytes_of-append : (address : ℕ → ℕ) (pc : ℕ) (front back : List Line) →
+    bytes_of address pc (front ++ back) ≡ bytes_of address pc front ++ bytes_of address (pc + size_of front) back
 bytes_of-append address pc [] back = let z : pc ≡ pc + 0 = omega arith in ap (λ (p : ℕ). bytes_of address p back) z
 bytes_of-append address pc (x ∷ front) back =
     let z : pc + item_size x.item + size_of front ≡ pc + (item_size x.item + size_of front) = omega arith in
-    ap (λ (bs : List ℕ). item_bytes address pc x.item ++ bs) (bytes_of-append address (pc + item_size x.item) front back ∙ ap (λ (p : ℕ). bytes_of address (pc + item_size x.item) front ++ bytes_of address p back) z)
-    ∙ sym (append_assoc (item_bytes address pc x.item) (bytes_of address (pc + item_size x.item) front) (bytes_of address (pc + (item_size x.item + size_of front)) back))
+    ap (λ (bs : List ℕ). item_bytes address pc x.item ++ bs)
+    (bytes_of-append address (pc + item_size x.item) front back
+    ∙ ap (λ (p : ℕ). bytes_of address (pc + item_size x.item) front ++ bytes_of address p back) z)
+    ∙ sym (append_assoc (item_bytes address pc x.item) (bytes_of address (pc + item_size x.item) front)
+    (bytes_of address (pc + (item_size x.item + size_of front)) back))
 
-pub fixes_of-append : (place : ℕ → ℕ) (at : ℕ) (front back : List Line) → fixes_of place at (front ++ back) ≡ fixes_of place at front ++ fixes_of place (at + size_of front) back
+pub fixes_of-append : (place : ℕ → ℕ) (at : ℕ) (front back : List Line) →
+    fixes_of place at (front ++ back) ≡ fixes_of place at front ++ fixes_of place (at + size_of front) back
 fixes_of-append place at [] back = let z : at ≡ at + 0 = omega arith in ap (λ (p : ℕ). fixes_of place p back) z
 fixes_of-append place at (x ∷ front) back =
     let z : at + item_size x.item + size_of front ≡ at + (item_size x.item + size_of front) = omega arith in
-    ap (λ (fs : List Fix). item_fixes place at x.item ++ fs) (fixes_of-append place (at + item_size x.item) front back ∙ ap (λ (p : ℕ). fixes_of place (at + item_size x.item) front ++ fixes_of place p back) z)
-    ∙ sym (append_assoc (item_fixes place at x.item) (fixes_of place (at + item_size x.item) front) (fixes_of place (at + (item_size x.item + size_of front)) back))
+    ap (λ (fs : List Fix). item_fixes place at x.item ++ fs)
+    (fixes_of-append place (at + item_size x.item) front back
+    ∙ ap (λ (p : ℕ). fixes_of place (at + item_size x.item) front ++ fixes_of place p back) z)
+    ∙ sym (append_assoc (item_fixes place at x.item) (fixes_of place (at + item_size x.item) front)
+    (fixes_of place (at + (item_size x.item + size_of front)) back))
 
 -- the kept lines at the front take no more than all of them
-pub front_size-le : (set : ℕ) (lines : List Line) (k : ℕ) → size_of (kept set (take k lines)) ≤ size_of (kept set lines)
+pub front_size-le : (set : ℕ) (lines : List Line) (k : ℕ) →
+    size_of (kept set (take k lines)) ≤ size_of (kept set lines)
 front_size-le set lines k =
-    let split : kept set lines ≡ kept set (take k lines) ++ kept set (drop k lines) = ap (kept set) (sym (take-append-drop k lines)) ∙ kept-append set (take k lines) (drop k lines) in
-    let sizes : size_of (kept set lines) ≡ size_of (kept set (take k lines)) + size_of (kept set (drop k lines)) = ap size_of split ∙ size_of-append (kept set (take k lines)) (kept set (drop k lines)) in
+    let split : kept set lines ≡ kept set (take k lines) ++ kept set (drop k lines) =
+    ap (kept set) (sym (take-append-drop k lines)) ∙ kept-append set (take k lines) (drop k lines) in
+    let sizes : size_of (kept set lines) ≡ size_of (kept set (take k lines)) + size_of (kept set (drop k lines)) =
+    ap size_of split ∙ size_of-append (kept set (take k lines)) (kept set (drop k lines)) in
     omega arith
 
-one_bytes : (address : ℕ → ℕ) (origin : ℕ) (lines : List Line) (line : Line) (old new : List ℕ) → old ≡ bytes_of address origin lines → length old ≡ size_of lines → new ≡ old ++ item_bytes address (origin + length old) line.item → new ≡ bytes_of address origin (lines ++ line ∷ [])
+one_bytes : (address : ℕ → ℕ) (origin : ℕ) (lines : List Line) (line : Line) (old new : List ℕ) →
+    old ≡ bytes_of address origin lines → length old ≡ size_of lines →
+    new ≡ old ++ item_bytes address (origin + length old) line.item →
+    new ≡ bytes_of address origin (lines ++ line ∷ [])
 one_bytes address origin lines line old new b s n =
-    n ∙ ap (λ (k : ℕ). old ++ item_bytes address (origin + k) line.item) s ∙ ap (λ (bs : List ℕ). bs ++ item_bytes address (origin + size_of lines) line.item) b
-    ∙ ap (λ (bs : List ℕ). bytes_of address origin lines ++ bs) (sym (append-nil (item_bytes address (origin + size_of lines) line.item)))
+    n ∙ ap (λ (k : ℕ). old ++ item_bytes address (origin + k) line.item) s
+    ∙ ap (λ (bs : List ℕ). bs ++ item_bytes address (origin + size_of lines) line.item) b
+    ∙ ap (λ (bs : List ℕ). bytes_of address origin lines ++ bs)
+    (sym (append-nil (item_bytes address (origin + size_of lines) line.item)))
     ∙ sym (bytes_of-append address origin lines (line ∷ []))
 
-one_fixes : (place : ℕ → ℕ) (lines : List Line) (line : Line) (old new : List Fix) (size : ℕ) → old ≡ fixes_of place 0 lines → size ≡ size_of lines → new ≡ old ++ item_fixes place size line.item → new ≡ fixes_of place 0 (lines ++ line ∷ [])
+one_fixes : (place : ℕ → ℕ) (lines : List Line) (line : Line) (old new : List Fix) (size : ℕ) →
+    old ≡ fixes_of place 0 lines → size ≡ size_of lines → new ≡ old ++ item_fixes place size line.item →
+    new ≡ fixes_of place 0 (lines ++ line ∷ [])
 one_fixes place lines line old new size b s n =
     let z : size ≡ 0 + size_of lines = omega arith in
-    n ∙ ap (λ (k : ℕ). old ++ item_fixes place k line.item) z ∙ ap (λ (fs : List Fix). fs ++ item_fixes place (0 + size_of lines) line.item) b
-    ∙ ap (λ (fs : List Fix). fixes_of place 0 lines ++ fs) (sym (append-nil (item_fixes place (0 + size_of lines) line.item)))
+    n ∙ ap (λ (k : ℕ). old ++ item_fixes place k line.item) z
+    ∙ ap (λ (fs : List Fix). fs ++ item_fixes place (0 + size_of lines) line.item) b
+    ∙ ap (λ (fs : List Fix). fixes_of place 0 lines ++ fs)
+    (sym (append-nil (item_fixes place (0 + size_of lines) line.item)))
     ∙ sym (fixes_of-append place 0 lines (line ∷ []))
 
-one_size : (address : ℕ → ℕ) (pc : ℕ) (lines : List Line) (line : Line) (old new : List ℕ) → is_sound line.item ≡ true → length old ≡ size_of lines → new ≡ old ++ item_bytes address pc line.item → length new ≡ size_of (lines ++ line ∷ [])
+one_size : (address : ℕ → ℕ) (pc : ℕ) (lines : List Line) (line : Line) (old new : List ℕ) →
+    is_sound line.item ≡ true → length old ≡ size_of lines → new ≡ old ++ item_bytes address pc line.item →
+    length new ≡ size_of (lines ++ line ∷ [])
 one_size address pc lines line old new h s n =
-    let l : length new ≡ length old + length (item_bytes address pc line.item) = ap length n ∙ length-append old (item_bytes address pc line.item) in
+    let l : length new ≡ length old + length (item_bytes address pc line.item) =
+    ap length n ∙ length-append old (item_bytes address pc line.item) in
     let i = item_length address pc line.item h in
     omega (arith, size_of-append lines (line ∷ []))
 
 -- after a kept line
-pub written_kept : (old new : Output) (labels : Labels) (set origin : ℕ) (before : List Line) (line : Line) → is_kept set line ≡ true → is_sound line.item ≡ true → IsWritten old labels set origin before → new.bytes ≡ old.bytes ++ item_bytes (address_by labels origin) (origin + length old.bytes) line.item → new.fixes ≡ old.fixes ++ item_fixes (address_by labels 0) (length old.bytes) line.item → IsWritten new labels set origin (before ++ line ∷ [])
+pub written_kept : (old new : Output) (labels : Labels) (set origin : ℕ) (before : List Line) (line : Line) →
+    is_kept set line ≡ true → is_sound line.item ≡ true → IsWritten old labels set origin before →
+    new.bytes ≡ old.bytes ++ item_bytes (address_by labels origin) (origin + length old.bytes) line.item →
+    new.fixes ≡ old.fixes ++ item_fixes (address_by labels 0) (length old.bytes) line.item →
+    IsWritten new labels set origin (before ++ line ∷ [])
 written_kept old new labels set origin before line k h w b f =
     let e = kept_more set before line k in
     record {
-      bytes = one_bytes (address_by labels origin) origin (kept set before) line old.bytes new.bytes w.bytes w.size b ∙ ap (bytes_of (address_by labels origin) origin) (sym e);
-      fixes = one_fixes (address_by labels 0) (kept set before) line old.fixes new.fixes (length old.bytes) w.fixes w.size f ∙ ap (fixes_of (address_by labels 0) 0) (sym e);
-      size = one_size (address_by labels origin) (origin + length old.bytes) (kept set before) line old.bytes new.bytes h w.size b ∙ ap size_of (sym e);
+      bytes = one_bytes (address_by labels origin) origin (kept set before) line old.bytes new.bytes w.bytes w.size b
+          ∙ ap (bytes_of (address_by labels origin) origin) (sym e);
+      fixes = one_fixes (address_by labels 0) (kept set before) line old.fixes new.fixes (length old.bytes) w.fixes
+          w.size f ∙ ap (fixes_of (address_by labels 0) 0) (sym e);
+      size = one_size (address_by labels origin) (origin + length old.bytes) (kept set before) line old.bytes
+          new.bytes h w.size b ∙ ap size_of (sym e);
     }
 
 -- whether its branch reaches
-pub near_kept : (address : ℕ → ℕ) (set origin : ℕ) (before : List Line) (line : Line) (size : ℕ) (far : Bool) → is_kept set line ≡ true → size ≡ size_of (kept set before) → is_far_item address (origin + size) line.item ≡ far → far_by address set origin before line ≡ (if far then Some (BranchTooFar (length before)) else None)
+pub near_kept : (address : ℕ → ℕ) (set origin : ℕ) (before : List Line) (line : Line) (size : ℕ) (far : Bool) →
+    is_kept set line ≡ true → size ≡ size_of (kept set before) → is_far_item address (origin + size) line.item ≡ far →
+    far_by address set origin before line ≡ (if far then Some (BranchTooFar (length before)) else None)
 near_kept address set origin before line size far k s h =
-    let e : is_far_item address (origin + size_of (kept set before)) line.item ≡ far = ap (λ (n : ℕ). is_far_item address (origin + n) line.item) (sym s) ∙ h in
+    let e : is_far_item address (origin + size_of (kept set before)) line.item ≡ far =
+    ap (λ (n : ℕ). is_far_item address (origin + n) line.item) (sym s) ∙ h in
     rw (k, e) refl
 
 -- what an instruction's encoding puts after the bytes
-pub code_bytes : (address : ℕ → ℕ) (origin at : ℕ) (mn : Mnemonic) (mode : Mode) (x : Operand) (number : ℕ) (encoded taken old new : List ℕ) → at ≡ length old → number ≡ operand_of address (origin + at) mode x → Some encoded ≡ encoding (record { mnemonic = mn; mode = mode; operand = number }) → taken ≡ encoded → new ≡ old ++ taken → new ≡ old ++ item_bytes address (origin + length old) (Code mn mode x)
+pub code_bytes : (address : ℕ → ℕ) (origin at : ℕ) (mn : Mnemonic) (mode : Mode) (x : Operand) (number : ℕ)
+    (encoded taken old new : List ℕ) → at ≡ length old → number ≡ operand_of address (origin + at) mode x →
+    Some encoded ≡ encoding (record { mnemonic = mn; mode = mode; operand = number }) → taken ≡ encoded →
+    new ≡ old ++ taken → new ≡ old ++ item_bytes address (origin + length old) (Code mn mode x)
 code_bytes address origin at mn mode x number encoded taken old new s n e t b =
-    let m : number ≡ operand_of address (origin + length old) mode x = n ∙ ap (λ (k : ℕ). operand_of address (origin + k) mode x) s in
-    let spelled : Some encoded ≡ encoding (instr_at address (origin + length old) mn mode x) = e ∙ ap (λ (k : ℕ). encoding (record { mnemonic = mn; mode = mode; operand = k })) m in
+    let m : number ≡ operand_of address (origin + length old) mode x =
+    n ∙ ap (λ (k : ℕ). operand_of address (origin + k) mode x) s in
+    let spelled : Some encoded ≡ encoding (instr_at address (origin + length old) mn mode x) =
+    e ∙ ap (λ (k : ℕ). encoding (record { mnemonic = mn; mode = mode; operand = k })) m in
     b ∙ ap (λ (bs : List ℕ). old ++ bs) (t ∙ ap (λ (o : Option (List ℕ)). unwrap_or o []) spelled)

@@ -15,18 +15,21 @@ use Rattle.asm6502.specs.Fixes.{operand_fixes}
 
 -- the instruction of a line at pc
 abbrev pub instr_at : (ℕ → ℕ) → ℕ → Mnemonic → Mode → Operand → Instr
-instr_at address pc mnemonic mode operand = record { mnemonic = mnemonic; mode = mode; operand = operand_of address pc mode operand }
+instr_at address pc mnemonic mode operand =
+    record { mnemonic = mnemonic; mode = mode; operand = operand_of address pc mode operand }
 
 -- the bytes of an item at pc
 abbrev pub item_bytes : (ℕ → ℕ) → ℕ → Item → List ℕ
 item_bytes address pc (Label label) = []
-item_bytes address pc (Code mnemonic mode operand) = unwrap_or (encoding (instr_at address pc mnemonic mode operand)) []
+item_bytes address pc (Code mnemonic mode operand) =
+    unwrap_or (encoding (instr_at address pc mnemonic mode operand)) []
 item_bytes address pc (Bytes bytes) = bytes
 
 -- the bytes of lines that stand one after the other from pc on
 abbrev pub bytes_of : (ℕ → ℕ) → ℕ → List Line → List ℕ
 bytes_of address pc [] = []
-bytes_of address pc (line ∷ rest) = item_bytes address pc line.item ++ bytes_of address (pc + item_size line.item) rest
+bytes_of address pc (line ∷ rest) =
+    item_bytes address pc line.item ++ bytes_of address (pc + item_size line.item) rest
 
 -- what is to be fixed in an item whose bytes begin at a place
 abbrev pub item_fixes : (ℕ → ℕ) → ℕ → Item → List Fix

@@ -6,7 +6,8 @@ use Rattle.cpu6502.specs.Effects.{displacement}
 abbrev pub way_from : ℕ → ℕ → ℕ
 way_from pc target = (target + 131072 - (pc + 2)) % 65536
 
--- the displacement byte that leads to the target from a branch at pc: a way of 0 to 127 is its own byte, one of -128 to -1 has the bytes from 128 on; none where it is further
+-- the displacement byte that leads to the target from a branch at pc: a way of 0 to 127 is its own byte, one of -128
+-- to -1 has the bytes from 128 on; none where it is further
 abbrev pub branch_byte : ℕ → ℕ → Option ℕ
 branch_byte pc target =
     if nat_lt (way_from pc target) 128 then Some (way_from pc target)
@@ -16,17 +17,20 @@ branch_byte pc target =
 -- the displacement byte is one that leads to the target
 abbrev pub BranchesReach : Type 0
 BranchesReach =
-    (pc target byte : ℕ) → pc ≤ 65536 → target < 65536 → branch_byte pc target ≡ Some byte → (byte < 256) × ((pc + 2 + displacement byte) % 65536 ≡ target)
+    (pc target byte : ℕ) → pc ≤ 65536 → target < 65536 → branch_byte pc target ≡ Some byte → (byte < 256)
+    × ((pc + 2 + displacement byte) % 65536 ≡ target)
 
 -- and where there is none, no displacement leads there
 abbrev pub FarIsOutOfReach : Type 0
 FarIsOutOfReach =
-    (pc target byte : ℕ) → pc ≤ 65536 → target < 65536 → branch_byte pc target ≡ None → byte < 256 → (pc + 2 + displacement byte) % 65536 ≢ target
+    (pc target byte : ℕ) → pc ≤ 65536 → target < 65536 → branch_byte pc target ≡ None → byte < 256 →
+    (pc + 2 + displacement byte) % 65536 ≢ target
 
 -- a branch depends on distances alone: as far apart at another place, it has the same byte, or none
 abbrev pub BranchesKeepDistance : Type 0
 BranchesKeepDistance =
-    (pc target pc' target' : ℕ) → pc ≤ 65536 → pc' ≤ 65536 → target < 65536 → target' < 65536 → (target + pc') % 65536 ≡ (target' + pc) % 65536 → branch_byte pc target ≡ branch_byte pc' target'
+    (pc target pc' target' : ℕ) → pc ≤ 65536 → pc' ≤ 65536 → target < 65536 → target' < 65536 →
+    (target + pc') % 65536 ≡ (target' + pc) % 65536 → branch_byte pc target ≡ branch_byte pc' target'
 
 -- a branch over n bytes to what stands after them
 abbrev pub BranchesReachAfter : Type 0
@@ -34,4 +38,5 @@ BranchesReachAfter = (pc n : ℕ) → pc ≤ 65536 → n ≤ 127 → branch_byte
 
 -- a branch back over n bytes to what stands before them
 abbrev pub BranchesReachBefore : Type 0
-BranchesReachBefore = (start n : ℕ) → start + n ≤ 65536 → n ≤ 126 → branch_byte (start + n) (start % 65536) ≡ Some (254 - n)
+BranchesReachBefore =
+    (start n : ℕ) → start + n ≤ 65536 → n ≤ 126 → branch_byte (start + n) (start % 65536) ≡ Some (254 - n)

@@ -1,4 +1,5 @@
--- What is wrong with a listing: the first of five refusals, in their order, each at its first place in the listing. This is the assembler's own profile.
+-- What is wrong with a listing: the first of five refusals, in their order, each at its first place in the listing.
+-- This is the assembler's own profile.
 use Rattle.std.specs.Prelude.{◌≡◌, ℕ, ◌+◌, ◌&&◌, ◌||◌, Bool, false, List, [], ◌∷◌, ◌++◌, length, Option, Some, None, nat_lt, not, if◌then◌else◌}
 use Rattle.std.specs.Option.{option_or, option_and_then, is_some}
 use Rattle.asm6502.specs.declared.lines.Item.{Item}
@@ -17,12 +18,14 @@ first_fault test before (line ∷ after) = option_or (test before line) (first_f
 -- a line in a part that there isn't, or a kept one that can't stand in a listing
 abbrev pub bad_line : ℕ → List Line → Line → Option AsmFault
 bad_line set before line =
-    if is_no_part line.part || is_kept set line && not (is_sound line.item) then Some (BadLine (length before)) else None
+    if is_no_part line.part || is_kept set line && not (is_sound line.item) then Some
+    (BadLine (length before)) else None
 
 -- an item names a label that one of these lines names
 abbrev pub double_in : List Line → Item → Option AsmFault
 double_in lines item =
-    option_and_then (λ label. if is_some (place_of lines label) then Some (DoubleLabel label) else None) (label_named item)
+    option_and_then (λ label. if is_some (place_of lines label) then Some (DoubleLabel label) else None)
+    (label_named item)
 
 -- a kept line names a label that a kept line before it names
 abbrev pub double_label : ℕ → List Line → Line → Option AsmFault
@@ -31,7 +34,8 @@ double_label set before line = if is_kept set line then double_in (kept set befo
 -- an item has an operand with a label that none of these lines names
 abbrev pub unknown_in : List Line → Item → Option AsmFault
 unknown_in lines item =
-    option_and_then (λ label. if is_some (place_of lines label) then None else Some (UnknownLabel label)) (label_used item)
+    option_and_then (λ label. if is_some (place_of lines label) then None else Some (UnknownLabel label))
+    (label_used item)
 
 -- a kept line has an operand with a label that no kept line of the listing names
 abbrev pub unknown_label : ℕ → List Line → List Line → Line → Option AsmFault
@@ -39,7 +43,8 @@ unknown_label set lines before line = if is_kept set line then unknown_in (kept 
 
 -- the kept lines don't fit after the origin
 abbrev pub past_end : ℕ → ℕ → List Line → Option AsmFault
-past_end set origin lines = if nat_lt 65536 (origin + size_of (kept set lines)) then Some (PastEnd (size_of (kept set lines))) else None
+past_end set origin lines =
+    if nat_lt 65536 (origin + size_of (kept set lines)) then Some (PastEnd (size_of (kept set lines))) else None
 
 -- an instruction at pc is a branch to a label that it doesn't reach
 abbrev pub is_far_item : (ℕ → ℕ) → ℕ → Item → Bool
@@ -49,7 +54,8 @@ is_far_item address pc _ = false
 -- a kept line is a branch to a label that no displacement reaches from where it stands
 abbrev pub far_by : (ℕ → ℕ) → ℕ → ℕ → List Line → Line → Option AsmFault
 far_by address set origin before line =
-    if is_kept set line && is_far_item address (origin + size_of (kept set before)) line.item then Some (BranchTooFar (length before)) else None
+    if is_kept set line && is_far_item address (origin + size_of (kept set before)) line.item then Some
+    (BranchTooFar (length before)) else None
 
 abbrev pub far_branch : ℕ → ℕ → List Line → List Line → Line → Option AsmFault
 far_branch set origin lines = far_by (address_in (kept set lines) origin) set origin
@@ -64,24 +70,30 @@ fault_of set origin lines =
     (first_fault (far_branch set origin lines) [] lines))))
 
 -- a test finds this fault at a line, and nothing at the lines before it
-pub record FoundFirst (test : List Line → Line → Option AsmFault) (lines : List Line) (fault : AsmFault) : Type 0 where
+pub record FoundFirst (test : List Line → Line → Option AsmFault) (lines : List Line) (fault : AsmFault) : Type
+    0 where
   pub front : List Line
   pub line : Line
   pub back : List Line
   pub split : lines ≡ front ++ line ∷ back
   pub found : test front line ≡ Some fault
-  pub earlier : (before : List Line) (other : Line) (after : List Line) → front ≡ before ++ other ∷ after → test before other ≡ None
+  pub earlier : (before : List Line) (other : Line) (after : List Line) → front ≡ before ++ other ∷ after →
+      test before other ≡ None
 
 -- the first fault is found first
 abbrev pub FirstIsFirst : Type 0
 FirstIsFirst =
-    (test : List Line → Line → Option AsmFault) (lines : List Line) (fault : AsmFault) → first_fault test [] lines ≡ Some fault → FoundFirst test lines fault
+    (test : List Line → Line → Option AsmFault) (lines : List Line) (fault : AsmFault) →
+    first_fault test [] lines ≡ Some fault → FoundFirst test lines fault
 
 -- there is none exactly where the test finds nothing at any line
 abbrev pub NoneIsFound : Type 0
 NoneIsFound =
-    (test : List Line → Line → Option AsmFault) (lines front : List Line) (line : Line) (back : List Line) → first_fault test [] lines ≡ None → lines ≡ front ++ line ∷ back → test front line ≡ None
+    (test : List Line → Line → Option AsmFault) (lines front : List Line) (line : Line) (back : List Line) →
+    first_fault test [] lines ≡ None → lines ≡ front ++ line ∷ back → test front line ≡ None
 
 abbrev pub AllPassed : Type 0
 AllPassed =
-    (test : List Line → Line → Option AsmFault) (lines : List Line) → ((front : List Line) (line : Line) (back : List Line) → lines ≡ front ++ line ∷ back → test front line ≡ None) → first_fault test [] lines ≡ None
+    (test : List Line → Line → Option AsmFault) (lines : List Line) →
+    ((front : List Line) (line : Line) (back : List Line) → lines ≡ front ++ line ∷ back →
+    test front line ≡ None) → first_fault test [] lines ≡ None

@@ -1,4 +1,5 @@
--- Numbers in assembled bytes that depend on the origin: where they stand, and what moving the bytes to another origin changes. This is the assembler's own profile.
+-- Numbers in assembled bytes that depend on the origin: where they stand, and what moving the bytes to another origin
+-- changes. This is the assembler's own profile.
 use Rattle.std.specs.Prelude.{◌≡◌, ℕ, ◌+◌, ◌/◌, ◌%◌, ◌<◌, ◌≤◌, ◌⊎◌, List, [], ◌∷◌, length, slice_index, slice_set, ⊤, if◌then◌else◌}
 use Rattle.std.specs.Coded.{×_prop, Unit-prop, le_prop}
 use Rattle.std.proofs.Math.Nat.{ℕ_set}
@@ -10,14 +11,17 @@ use Rattle.asm6502.specs.declared.fixes.FixKind.{FixKind}
 use Rattle.asm6502.specs.declared.fixes.FixKind.TheVariants.{Word, Low, High}
 use Rattle.asm6502.specs.Operands.{is_relative}
 
--- what is to be fixed in an operand whose bytes begin at a place: an address or one byte of it; a branch goes as far at each origin
+-- what is to be fixed in an operand whose bytes begin at a place: an address or one byte of it; a branch goes as far
+-- at each origin
 abbrev pub operand_fixes : (ℕ → ℕ) → ℕ → Mode → Operand → List Fix
 operand_fixes place at mode Nothing = []
 operand_fixes place at mode (Number number) = []
 operand_fixes place at mode (Label label offset) =
     if is_relative mode then [] else record { at = at; kind = Word; to = (place label + offset) % 65536 } ∷ []
-operand_fixes place at mode (LowOf label offset) = record { at = at; kind = Low; to = (place label + offset) % 65536 } ∷ []
-operand_fixes place at mode (HighOf label offset) = record { at = at; kind = High; to = (place label + offset) % 65536 } ∷ []
+operand_fixes place at mode (LowOf label offset) =
+    record { at = at; kind = Low; to = (place label + offset) % 65536 } ∷ []
+operand_fixes place at mode (HighOf label offset) =
+    record { at = at; kind = High; to = (place label + offset) % 65536 } ∷ []
 
 -- the bytes that a number takes
 abbrev pub width_of : FixKind → ℕ
@@ -27,7 +31,8 @@ width_of High = 1
 
 -- a number stands in bytes at a place
 abbrev pub NumberStands : FixKind → List ℕ → ℕ → ℕ → Type 0
-NumberStands Word bytes at number = (slice_index bytes at ≡ number % 256) × (slice_index bytes (at + 1) ≡ number / 256)
+NumberStands Word bytes at number =
+    (slice_index bytes at ≡ number % 256) × (slice_index bytes (at + 1) ≡ number / 256)
 NumberStands Low bytes at number = slice_index bytes at ≡ number % 256
 NumberStands High bytes at number = slice_index bytes at ≡ number / 256
 
@@ -52,7 +57,8 @@ NumbersStand origin bytes (fix ∷ rest) =
 -- the bytes with the number of each fix put at its place
 abbrev pub with_numbers : ℕ → List ℕ → List Fix → List ℕ
 with_numbers origin bytes [] = bytes
-with_numbers origin bytes (fix ∷ rest) = with_numbers origin (with_number fix.kind bytes fix.at ((origin + fix.to) % 65536)) rest
+with_numbers origin bytes (fix ∷ rest) =
+    with_numbers origin (with_number fix.kind bytes fix.at ((origin + fix.to) % 65536)) rest
 
 -- a place is one of those that some fix takes
 abbrev pub IsFixed : List Fix → ℕ → Type 0
@@ -62,13 +68,16 @@ IsFixed (fix ∷ rest) place = ((fix.at ≤ place) × (place < fix.at + width_of
 -- these facts have one proof at most, as a fact that a type keeps must have
 pub InOrder-prop : (low length : ℕ) (fixes : List Fix) → IsProp (InOrder low length fixes)
 InOrder-prop low length [] = Unit-prop
-InOrder-prop low length (fix ∷ rest) = ×_prop le_prop (×_prop le_prop (InOrder-prop (fix.at + width_of fix.kind) length rest))
+InOrder-prop low length (fix ∷ rest) =
+    ×_prop le_prop (×_prop le_prop (InOrder-prop (fix.at + width_of fix.kind) length rest))
 
 NumberStands-prop : (kind : FixKind) (bytes : List ℕ) (at number : ℕ) → IsProp (NumberStands kind bytes at number)
-NumberStands-prop Word bytes at number = ×_prop (ℕ_set (slice_index bytes at) (number % 256)) (ℕ_set (slice_index bytes (at + 1)) (number / 256))
+NumberStands-prop Word bytes at number =
+    ×_prop (ℕ_set (slice_index bytes at) (number % 256)) (ℕ_set (slice_index bytes (at + 1)) (number / 256))
 NumberStands-prop Low bytes at number = ℕ_set (slice_index bytes at) (number % 256)
 NumberStands-prop High bytes at number = ℕ_set (slice_index bytes at) (number / 256)
 
 pub NumbersStand-prop : (origin : ℕ) (bytes : List ℕ) (fixes : List Fix) → IsProp (NumbersStand origin bytes fixes)
 NumbersStand-prop origin bytes [] = Unit-prop
-NumbersStand-prop origin bytes (fix ∷ rest) = ×_prop (NumberStands-prop fix.kind bytes fix.at ((origin + fix.to) % 65536)) (NumbersStand-prop origin bytes rest)
+NumbersStand-prop origin bytes (fix ∷ rest) =
+    ×_prop (NumberStands-prop fix.kind bytes fix.at ((origin + fix.to) % 65536)) (NumbersStand-prop origin bytes rest)

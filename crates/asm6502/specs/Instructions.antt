@@ -16,7 +16,8 @@ operand_bytes mode operand =
 -- the bytes of an instruction
 abbrev pub encoding : Instr → Option (List ℕ)
 encoding instr =
-    option_and_then (λ opcode. option_map (λ bytes. opcode ∷ bytes) (operand_bytes instr.mode instr.operand)) (opcode_of instr.mnemonic instr.mode)
+    option_and_then (λ opcode. option_map (λ bytes. opcode ∷ bytes) (operand_bytes instr.mode instr.operand))
+    (opcode_of instr.mnemonic instr.mode)
 
 -- a number of one byte, and of two with the low one first, that bytes begin with
 abbrev pub byte_from : List ℕ → Option ℕ
@@ -33,10 +34,15 @@ abbrev pub operand_from : Mode → List ℕ → Option ℕ
 operand_from mode rest =
     if nat_eq (length_of mode) 1 then Some 0 else if nat_eq (length_of mode) 2 then byte_from rest else word_from rest
 
--- the instruction of this meaning whose operand stands at the front of these bytes, and the bytes that it takes with its opcode
+-- the instruction of this meaning whose operand stands at the front of these bytes, and the bytes that it takes with
+-- its opcode
 abbrev pub decoding_as : Meaning → List ℕ → Option (Instr × ℕ)
 decoding_as meaning rest =
-    option_map (λ operand. (record { mnemonic = meaning.0; mode = meaning.1; operand = operand }, length_of meaning.1)) (operand_from meaning.1 rest)
+    option_map (λ operand. (
+      record { mnemonic = meaning.0; mode = meaning.1; operand = operand },
+      length_of
+          meaning.1,
+    )) (operand_from meaning.1 rest)
 
 -- the instruction that bytes begin with, and the bytes that it takes
 abbrev pub decoding : List ℕ → Option (Instr × ℕ)
@@ -46,9 +52,12 @@ decoding (opcode ∷ rest) = option_and_then (λ meaning. decoding_as meaning re
 -- the bytes of an instruction, with any bytes after them, are read as that instruction and their number
 abbrev pub WhatIsEncodedDecodes : Type 0
 WhatIsEncodedDecodes =
-    (instr : Instr) (bytes rest : List ℕ) → encoding instr ≡ Some bytes → decoding (bytes ++ rest) ≡ Some (instr, length bytes)
+    (instr : Instr) (bytes rest : List ℕ) → encoding instr ≡ Some bytes →
+    decoding (bytes ++ rest) ≡ Some (instr, length bytes)
 
 -- and nothing else is read: the bytes that are read as an instruction are its bytes
 abbrev pub NothingElseDecodes : Type 0
 NothingElseDecodes =
-    (bytes : List ℕ) (instr : Instr) (taken : ℕ) → All (λ byte. byte < 256) bytes → decoding bytes ≡ Some (instr, taken) → (encoding instr ≡ Some (take taken bytes)) × (length (take taken bytes) ≡ taken)
+    (bytes : List ℕ) (instr : Instr) (taken : ℕ) → All (λ byte. byte < 256) bytes →
+    decoding bytes ≡ Some (instr, taken) → (encoding instr ≡ Some (take taken bytes))
+    × (length (take taken bytes) ≡ taken)

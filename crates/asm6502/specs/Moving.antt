@@ -11,7 +11,8 @@ pub record IsMoved (old new : Assembled) (origin : ℕ) : Type 0 where
   pub origin_is : new.origin ≡ origin
   pub fixes_stay : new.fixes ≡ old.fixes
   pub bytes_are : new.bytes ≡ with_numbers origin old.bytes old.fixes
-  pub others_stay : (place : ℕ) → (IsFixed old.fixes place → ⊥) → slice_index new.bytes place ≡ slice_index old.bytes place
+  pub others_stay : (place : ℕ) → (IsFixed old.fixes place → ⊥) →
+      slice_index new.bytes place ≡ slice_index old.bytes place
   pub size_stays : length new.bytes ≡ length old.bytes
 
 -- what the kept lines of a listing give at an origin
@@ -23,4 +24,5 @@ pub record IsAssembly (result : Assembled) (set origin : ℕ) (lines : List Line
 -- wherever it is moved, it is what assembling the listing there gives
 abbrev pub MovesAsAssembled : ℕ → List Line → Assembled → Type 0
 MovesAsAssembled set lines result =
-    (other : ℕ) (moved : Assembled) → IsMoved result moved other → IsAssembly moved set other lines × (fault_of set other lines ≡ None)
+    (other : ℕ) (moved : Assembled) → IsMoved result moved other → IsAssembly moved set other lines
+    × (fault_of set other lines ≡ None)

@@ -1,4 +1,5 @@
--- The operands of a listing: which modes they suit, and the numbers that they name where labels have addresses. This is the assembler's own profile.
+-- The operands of a listing: which modes they suit, and the numbers that they name where labels have addresses. This
+-- is the assembler's own profile.
 use Rattle.std.specs.Prelude.{ℕ, ◌+◌, ◌/◌, ◌%◌, ◌&&◌, ◌||◌, Bool, true, false, Option, Some, None, unwrap_or, nat_eq, nat_lt, not, if◌then◌else◌}
 use Rattle.std.specs.Option.{is_some}
 use Rattle.cpu6502.specs.declared.mnemonic.Mode.{Mode}
@@ -45,10 +46,12 @@ label_of (Low label offset) = Some label
 label_of (High label offset) = Some label
 label_of _ = None
 
--- the number that the operand of the instruction at pc names: an address or a byte, and for a branch the place that it goes to
+-- the number that the operand of the instruction at pc names: an address or a byte, and for a branch the place that
+-- it goes to
 abbrev pub number_of : (ℕ → ℕ) → ℕ → Mode → Operand → ℕ
 number_of address pc mode Nothing = 0
-number_of address pc mode (Number number) = if is_relative mode then (pc + 2 + displacement number) % 65536 else number
+number_of address pc mode (Number number) =
+    if is_relative mode then (pc + 2 + displacement number) % 65536 else number
 number_of address pc mode (Label label offset) = (address label + offset) % 65536
 number_of address pc mode (Low label offset) = (address label + offset) % 65536 % 256
 number_of address pc mode (High label offset) = (address label + offset) % 65536 / 256
@@ -58,11 +61,13 @@ abbrev pub operand_of : (ℕ → ℕ) → ℕ → Mode → Operand → ℕ
 operand_of address pc mode Nothing = 0
 operand_of address pc mode (Number number) = number
 operand_of address pc mode (Label label offset) =
-    if is_relative mode then unwrap_or (branch_byte pc ((address label + offset) % 65536)) 0 else (address label + offset) % 65536
+    if is_relative mode then unwrap_or (branch_byte pc ((address label + offset) % 65536))
+    0 else (address label + offset) % 65536
 operand_of address pc mode (Low label offset) = (address label + offset) % 65536 % 256
 operand_of address pc mode (High label offset) = (address label + offset) % 65536 / 256
 
 -- whether the operand is a label that a branch at pc doesn't reach
 abbrev pub is_far : (ℕ → ℕ) → ℕ → Mode → Operand → Bool
-is_far address pc mode (Label label offset) = is_relative mode && not (is_some (branch_byte pc ((address label + offset) % 65536)))
+is_far address pc mode (Label label offset) =
+    is_relative mode && not (is_some (branch_byte pc ((address label + offset) % 65536)))
 is_far address pc mode _ = false

@@ -30,4 +30,5 @@ pub record StandsTogether (set part : ℕ) (lines : List Line) : Type 0 where
   pub none : is_part_kept set part ≡ false → kept set lines ≡ []
 
 abbrev pub PartsStandTogether : Type 0
-PartsStandTogether = (set part : ℕ) (lines : List Line) → All (λ line. line.part ≡ part) lines → StandsTogether set part lines
+PartsStandTogether = (set part : ℕ) (lines : List Line) → All (λ line. line.part ≡ part) lines →
+    StandsTogether set part lines

@@ -1,4 +1,5 @@
--- A stretch of lines in a listing: where it stands in memory, where its labels are, and when nothing is wrong with it in any listing around it. This is the assembler's own profile.
+-- A stretch of lines in a listing: where it stands in memory, where its labels are, and when nothing is wrong with it
+-- in any listing around it. This is the assembler's own profile.
 use Rattle.std.specs.Prelude.{◌≡◌, ℕ, ◌+◌, ◌<◌, ◌≤◌, ◌⊎◌, Bool, IsTrue, true, false, List, [], ◌∷◌, ◌++◌, Option, Some, None, slice_index}
 use Rattle.std.specs.Option.{option_or, option_map}
 use Rattle.cpu6502.specs.declared.mnemonic.Mode.TheVariants.{Relative}
@@ -11,27 +12,35 @@ use Rattle.asm6502.specs.Assembly.{assembled_bytes}
 use Rattle.asm6502.specs.Faults.{bad_line, double_label, unknown_label, far_branch, fault_of}
 use Rattle.asm6502.specs.Standing.{LinesAt}
 
--- a memory has these places of the assembled bytes, from one place on, where the first of the bytes is to stand at the origin; what it has elsewhere is no matter
+-- a memory has these places of the assembled bytes, from one place on, where the first of the bytes is to stand at
+-- the origin; what it has elsewhere is no matter
 pub record HasBytes (at : ℕ → ℕ) (origin place size : ℕ) (bytes : List ℕ) : Type 0 where
   pub byte : (k : ℕ) → k < size → at (origin + (place + k)) ≡ slice_index bytes (place + k)
 
--- in any memory that has the bytes of a stretch's kept lines at their place, these lines stand there, with the addresses of the whole listing's labels
+-- in any memory that has the bytes of a stretch's kept lines at their place, these lines stand there, with the
+-- addresses of the whole listing's labels
 abbrev pub StretchesStand : Type 0
 StretchesStand =
     (set origin : ℕ) (front stretch back : List Line) (at : ℕ → ℕ) →
     fault_of set origin (front ++ (stretch ++ back)) ≡ None →
-    HasBytes at origin (size_of (kept set front)) (size_of (kept set stretch)) (assembled_bytes set origin (front ++ (stretch ++ back))) →
-    LinesAt (address_in (kept set (front ++ (stretch ++ back))) origin) at (origin + size_of (kept set front)) (kept set stretch)
+    HasBytes at origin (size_of (kept set front)) (size_of (kept set stretch))
+    (assembled_bytes set origin (front ++ (stretch ++ back))) →
+    LinesAt (address_in (kept set (front ++ (stretch ++ back))) origin) at (origin + size_of (kept set front))
+    (kept set stretch)
 
--- the place of a label in lines one after the other: as in the front, if the front names it, else as in the back, after the front's bytes
+-- the place of a label in lines one after the other: as in the front, if the front names it, else as in the back,
+-- after the front's bytes
 abbrev pub PlacesAdd : Type 0
 PlacesAdd =
     (front back : List Line) (label : ℕ) →
-    place_of (front ++ back) label ≡ option_or (place_of front label) (option_map (λ place. size_of front + place) (place_of back label))
+    place_of (front ++ back) label ≡ option_or (place_of front label)
+    (option_map (λ place. size_of front + place) (place_of back label))
 
 -- no two of these lines name one label
 pub record NamesNoLabelTwice (lines : List Line) : Type 0 where
-  pub once : (front : List Line) (line : Line) (between : List Line) (other : Line) (back : List Line) (label : ℕ) → lines ≡ front ++ line ∷ (between ++ other ∷ back) → label_named line.item ≡ Some label → label_named other.item ≡ Some label → ⊥
+  pub once : (front : List Line) (line : Line) (between : List Line) (other : Line) (back : List Line) (label : ℕ) →
+      lines ≡ front ++ line ∷ (between ++ other ∷ back) → label_named line.item ≡ Some label →
+      label_named other.item ≡ Some label → ⊥
 
 -- the address of a label is where the kept line stands that names it
 abbrev pub LabelsStandWhereNamed : Type 0
@@ -76,23 +85,28 @@ pub record IsReachedBefore (user : Line) (before : List Line) (label : ℕ) : Ty
   pub named : NamesFor user line label
   pub near : size_of between ≤ 126
 
--- a line is at home between those before and after it: it can stand in a listing; the label that it uses is one of the others or is named there; and where it branches to a label, that is named in reach, all lines taken as kept
+-- a line is at home between those before and after it: it can stand in a listing; the label that it uses is one of
+-- the others or is named there; and where it branches to a label, that is named in reach, all lines taken as kept
 pub record IsAtHome (others : ℕ → Bool) (before : List Line) (line : Line) (after : List Line) : Type 0 where
   pub part : is_no_part line.part ≡ false
   pub sound : is_sound line.item ≡ true
-  pub named : (label : ℕ) → label_used line.item ≡ Some label → IsTrue (others label) ⊎ IsNamedIn (before ++ line ∷ after) line label
-  pub reach : (label offset : ℕ) → branch_of line.item ≡ Some (label, offset) → (offset ≡ 0) × (IsReachedAfter line after label ⊎ IsReachedBefore line before label)
+  pub named : (label : ℕ) → label_used line.item ≡ Some label →
+      IsTrue (others label) ⊎ IsNamedIn (before ++ line ∷ after) line label
+  pub reach : (label offset : ℕ) → branch_of line.item ≡ Some (label, offset) → (offset ≡ 0)
+      × (IsReachedAfter line after label ⊎ IsReachedBefore line before label)
 
 -- each of these lines is, between those before and after all of them
 abbrev pub AtHome : (ℕ → Bool) → List Line → List Line → List Line → Type 0
 AtHome others before [] after = Unit {0}
-AtHome others before (line ∷ rest) after = IsAtHome others before line (rest ++ after) × AtHome others (before ++ line ∷ []) rest after
+AtHome others before (line ∷ rest) after =
+    IsAtHome others before line (rest ++ after) × AtHome others (before ++ line ∷ []) rest after
 
 -- two stretches, one after the other
 abbrev pub HomesAppend : Type 0
 HomesAppend =
     (others : ℕ → Bool) (before front back after : List Line) →
-    AtHome others before front (back ++ after) → AtHome others (before ++ front) back after → AtHome others before (front ++ back) after
+    AtHome others before front (back ++ after) → AtHome others (before ++ front) back after →
+    AtHome others before (front ++ back) after
 
 -- with more lines around
 abbrev pub HomesGrow : Type 0
@@ -120,11 +134,13 @@ pub record Passes (set origin : ℕ) (lines before : List Line) (line : Line) : 
   pub unknown : unknown_label set lines before line ≡ None
   pub far : far_branch set origin lines before line ≡ None
 
--- in any listing that names no label twice and names the others, and fits at its origin, whichever parts are kept, each line of a stretch that is at home in itself passes
+-- in any listing that names no label twice and names the others, and fits at its origin, whichever parts are kept,
+-- each line of a stretch that is at home in itself passes
 abbrev pub StretchesPass : Type 0
 StretchesPass =
     (others : ℕ → Bool) (set origin : ℕ) (front stretch back before : List Line) (line : Line) (after : List Line) →
-    AtHome others [] stretch [] → NamesNoLabelTwice (front ++ (stretch ++ back)) → NamesOthers others (front ++ (stretch ++ back)) →
+    AtHome others [] stretch [] → NamesNoLabelTwice (front ++ (stretch ++ back)) →
+    NamesOthers others (front ++ (stretch ++ back)) →
     origin + size_of (kept set (front ++ (stretch ++ back))) ≤ 65536 → stretch ≡ before ++ line ∷ after →
     Passes set origin (front ++ (stretch ++ back)) (front ++ before) line
 
@@ -132,5 +148,6 @@ StretchesPass =
 abbrev pub PassedListingsAssemble : Type 0
 PassedListingsAssemble =
     (set origin : ℕ) (lines : List Line) → origin + size_of (kept set lines) ≤ 65536 →
-    ((before : List Line) (line : Line) (after : List Line) → lines ≡ before ++ line ∷ after → Passes set origin lines before line) →
+    ((before : List Line) (line : Line) (after : List Line) → lines ≡ before ++ line ∷ after →
+    Passes set origin lines before line) →
     fault_of set origin lines ≡ None

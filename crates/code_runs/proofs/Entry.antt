@@ -20,30 +20,37 @@ pushed_pulls at sp =
     let first : stack_place ((sp + 254) % 256 + 1) ≡ stack_place (sp + 255) = omega arith in
     let second : stack_place ((sp + 254) % 256 + 2) ≡ stack_place sp = omega arith in
     record {
-      low_is = ap (put_all at (return_address sp)) first ∙ put_same (put at (stack_place sp) 255) (stack_place (sp + 255)) 255;
+      low_is = ap (put_all at (return_address sp)) first
+          ∙ put_same (put at (stack_place sp) 255) (stack_place (sp + 255)) 255;
       high_is =
           ap (put_all at (return_address sp)) second
           ∙ put_other (put at (stack_place sp) 255) (stack_place (sp + 255)) 255 (stack_place sp) (places_differ sp)
           ∙ put_same at (stack_place sp) 255;
     }
 
-pub entry_pulls : (m : Machine) → length m.memory ≡ 65536 → Pulls (slice_index (written m.memory (return_address m.cpu.sp))) ((m.cpu.sp + 254) % 256) 255 255
+pub entry_pulls : (m : Machine) → length m.memory ≡ 65536 →
+    Pulls (slice_index (written m.memory (return_address m.cpu.sp))) ((m.cpu.sp + 254) % 256) 255 255
 entry_pulls m size = rw (entered_view m size) (pushed_pulls (slice_index m.memory) m.cpu.sp)
 
 -- a byte that is not on the stack is as it was
-off_stack : (m : Machine) (q : ℕ) → length m.memory ≡ 65536 → ((sp : ℕ) → q ≡ stack_place sp → ⊥) → slice_index (written m.memory (return_address m.cpu.sp)) q ≡ slice_index m.memory q
+off_stack : (m : Machine) (q : ℕ) → length m.memory ≡ 65536 → ((sp : ℕ) → q ≡ stack_place sp → ⊥) →
+    slice_index (written m.memory (return_address m.cpu.sp)) q ≡ slice_index m.memory q
 off_stack m q size off =
     ap (λ at. at q) (entered_view m size)
-    ∙ put_other (put (slice_index m.memory) (stack_place m.cpu.sp) 255) (stack_place (m.cpu.sp + 255)) 255 q (off (m.cpu.sp + 255))
+    ∙ put_other (put (slice_index m.memory) (stack_place m.cpu.sp) 255) (stack_place (m.cpu.sp + 255)) 255 q
+    (off (m.cpu.sp + 255))
     ∙ put_other (slice_index m.memory) (stack_place m.cpu.sp) 255 q (off m.cpu.sp)
 
-pub entry_kept : (m : Machine) (q : ℕ) → length m.memory ≡ 65536 → 512 ≤ q → slice_index (written m.memory (return_address m.cpu.sp)) q ≡ slice_index m.memory q
+pub entry_kept : (m : Machine) (q : ℕ) → length m.memory ≡ 65536 → 512 ≤ q →
+    slice_index (written m.memory (return_address m.cpu.sp)) q ≡ slice_index m.memory q
 entry_kept m q size above = off_stack m q size (λ sp e. absurd (omega arith))
 
-pub entry_kept_below : (m : Machine) (q : ℕ) → length m.memory ≡ 65536 → q < 256 → slice_index (written m.memory (return_address m.cpu.sp)) q ≡ slice_index m.memory q
+pub entry_kept_below : (m : Machine) (q : ℕ) → length m.memory ≡ 65536 → q < 256 →
+    slice_index (written m.memory (return_address m.cpu.sp)) q ≡ slice_index m.memory q
 entry_kept_below m q size under = off_stack m q size (λ sp e. absurd (omega arith))
 
-pub calls_begin_so : (m : Machine) → length m.memory ≡ 65536 → IsEntry m (slice_index (written m.memory (return_address m.cpu.sp)))
+pub calls_begin_so : (m : Machine) → length m.memory ≡ 65536 →
+    IsEntry m (slice_index (written m.memory (return_address m.cpu.sp)))
 calls_begin_so m size = record {
   pulls = entry_pulls m size;
   kept = λ q above. entry_kept m q size above;

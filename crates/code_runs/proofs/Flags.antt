@@ -4,25 +4,32 @@ use Rattle.cpu6502.specs.declared.mnemonic.Mnemonic.TheVariants.{Clc, Cld, Cli, 
 use Rattle.code_runs.specs.Runs.{State, Goes}
 use Rattle.code_runs.proofs.Modes.{jumped, Works}
 
-pub clc : {state : State} {place next : ℕ} → Works state Clc place next → Goes state (record state.cpu { pc = next; c = false })
+pub clc : {state : State} {place next : ℕ} → Works state Clc place next →
+    Goes state (record state.cpu { pc = next; c = false })
 clc w = record { is = w.is; away = w.away }
 
-pub cld : {state : State} {place next : ℕ} → Works state Cld place next → Goes state (record state.cpu { pc = next; d = false })
+pub cld : {state : State} {place next : ℕ} → Works state Cld place next →
+    Goes state (record state.cpu { pc = next; d = false })
 cld w = record { is = w.is; away = w.away }
 
-pub cli : {state : State} {place next : ℕ} → Works state Cli place next → Goes state (record state.cpu { pc = next; i = false })
+pub cli : {state : State} {place next : ℕ} → Works state Cli place next →
+    Goes state (record state.cpu { pc = next; i = false })
 cli w = record { is = w.is; away = w.away }
 
-pub clv : {state : State} {place next : ℕ} → Works state Clv place next → Goes state (record state.cpu { pc = next; v = false })
+pub clv : {state : State} {place next : ℕ} → Works state Clv place next →
+    Goes state (record state.cpu { pc = next; v = false })
 clv w = record { is = w.is; away = w.away }
 
-pub sec : {state : State} {place next : ℕ} → Works state Sec place next → Goes state (record state.cpu { pc = next; c = true })
+pub sec : {state : State} {place next : ℕ} → Works state Sec place next →
+    Goes state (record state.cpu { pc = next; c = true })
 sec w = record { is = w.is; away = w.away }
 
-pub sed : {state : State} {place next : ℕ} → Works state Sed place next → Goes state (record state.cpu { pc = next; d = true })
+pub sed : {state : State} {place next : ℕ} → Works state Sed place next →
+    Goes state (record state.cpu { pc = next; d = true })
 sed w = record { is = w.is; away = w.away }
 
-pub sei : {state : State} {place next : ℕ} → Works state Sei place next → Goes state (record state.cpu { pc = next; i = true })
+pub sei : {state : State} {place next : ℕ} → Works state Sei place next →
+    Goes state (record state.cpu { pc = next; i = true })
 sei w = record { is = w.is; away = w.away }
 
 pub nop : {state : State} {place next : ℕ} → Works state Nop place next → Goes state (jumped state.cpu next)

@@ -1,4 +1,6 @@
--- An instruction that stands at the program counter, by its addressing mode: at which place it works, which byte it reads, and where the next instruction is. The instruction's own lemma goes on from there. Each number that a result computes is a parameter with an equation.
+-- An instruction that stands at the program counter, by its addressing mode: at which place it works, which byte it
+-- reads, and where the next instruction is. The instruction's own lemma goes on from there. Each number that a result
+-- computes is a parameter with an equation.
 use Rattle.std.proofs.Common.{◌≡◌, ℕ, ◌+◌, ◌%◌, ◌<◌, false, Some, if◌then◌else◌, refl, ap, ◌∙◌}
 use Rattle.cpu6502.specs.declared.cpu.Cpu.{Cpu}
 use Rattle.cpu6502.specs.declared.mnemonic.Mnemonic.{Mnemonic}
@@ -31,11 +33,14 @@ pub record WorksOnA (state : State) (mnemonic : Mnemonic) (next : ℕ) : Type 0 
   pub away : 0 < state.cpu.pc
 
 -- an instruction that is decoded, and does not work on the accumulator in the place of memory, has its effect
-pub fetched : (at : ℕ → ℕ) (cpu : Cpu) (mn : Mnemonic) (mode : Mode) → is_accumulator mode ≡ false → meaning_of (at cpu.pc) ≡ Some (mn, mode) → effect at cpu ≡ effect_of mn cpu.pc (address_of mode at cpu.pc cpu.x cpu.y) at (moved cpu (length_of mode))
+pub fetched : (at : ℕ → ℕ) (cpu : Cpu) (mn : Mnemonic) (mode : Mode) → is_accumulator mode ≡ false →
+    meaning_of (at cpu.pc) ≡ Some (mn, mode) →
+    effect at cpu ≡ effect_of mn cpu.pc (address_of mode at cpu.pc cpu.x cpu.y) at (moved cpu (length_of mode))
 fetched at cpu mn mode memory e = ap (λ meaning. done_by meaning at cpu) e ∙ rw memory refl
 
 -- the place at which it works is the one that its operand gives
-address_is : (at : ℕ → ℕ) (cpu : Cpu) (mode : Mode) (operand : ℕ) → operand_at mode at cpu.pc ≡ operand → address_of mode at cpu.pc cpu.x cpu.y ≡ place_of mode operand at cpu
+address_is : (at : ℕ → ℕ) (cpu : Cpu) (mode : Mode) (operand : ℕ) → operand_at mode at cpu.pc ≡ operand →
+    address_of mode at cpu.pc cpu.x cpu.y ≡ place_of mode operand at cpu
 address_is at cpu Implied operand e = refl
 address_is at cpu Accumulator operand e = refl
 address_is at cpu Immediate operand e = refl
@@ -50,30 +55,43 @@ address_is at cpu IndirectY operand e = ap (λ n. (zero_page_word at n + cpu.y) 
 address_is at cpu Indirect operand e = ap (same_page_word at) e
 address_is at cpu Relative operand e = e
 
-pub standing_has_effect : (at : ℕ → ℕ) (cpu : Cpu) (mn : Mnemonic) (mode : Mode) (operand : ℕ) → Stands at cpu.pc mn mode operand → effect at cpu ≡ (if is_accumulator mode then accumulator_effect mn cpu.pc (moved cpu (length_of mode)) else effect_of mn cpu.pc (place_of mode operand at cpu) at (moved cpu (length_of mode)))
+pub standing_has_effect : (at : ℕ → ℕ) (cpu : Cpu) (mn : Mnemonic) (mode : Mode) (operand : ℕ) →
+    Stands at cpu.pc mn mode operand → effect at cpu ≡ (if is_accumulator mode then accumulator_effect mn cpu.pc
+    (moved cpu (length_of mode)) else effect_of mn cpu.pc (place_of mode operand at cpu) at
+    (moved cpu (length_of mode)))
 standing_has_effect at cpu mn mode operand s =
     ap (λ meaning. done_by meaning at cpu) s.decoded
-    ∙ ap (λ place. if is_accumulator mode then accumulator_effect mn cpu.pc (moved cpu (length_of mode)) else effect_of mn cpu.pc place at (moved cpu (length_of mode))) (address_is at cpu mode operand s.operand_is)
+    ∙ ap (λ place. if is_accumulator mode then accumulator_effect mn cpu.pc
+    (moved cpu (length_of mode)) else effect_of mn cpu.pc place at (moved cpu (length_of mode)))
+    (address_is at cpu mode operand s.operand_is)
 
 -- in any mode but the accumulator's
-pub works : {at : ℕ → ℕ} {cpu : Cpu} {mn : Mnemonic} {mode : Mode} {operand : ℕ} (place next : ℕ) → Stands at cpu.pc mn mode operand → is_accumulator mode ≡ false → place_of mode operand at cpu ≡ place → (cpu.pc + length_of mode) % 65536 ≡ next → 0 < cpu.pc → Works (record { cpu = cpu; at = at }) mn place next
+pub works : {at : ℕ → ℕ} {cpu : Cpu} {mn : Mnemonic} {mode : Mode} {operand : ℕ} (place next : ℕ) →
+    Stands at cpu.pc mn mode operand → is_accumulator mode ≡ false → place_of mode operand at cpu ≡ place →
+    (cpu.pc + length_of mode) % 65536 ≡ next → 0 < cpu.pc → Works (record { cpu = cpu; at = at }) mn place next
 works {at = at} {cpu = cpu} {mn = mn} {mode = mode} {operand = operand} place next s memory p e away = record {
   is = fetched at cpu mn mode memory s.decoded
-      ∙ ap (λ q. effect_of mn cpu.pc q at (moved cpu (length_of mode))) (address_is at cpu mode operand s.operand_is ∙ p)
+      ∙ ap (λ q. effect_of mn cpu.pc q at (moved cpu (length_of mode)))
+      (address_is at cpu mode operand s.operand_is ∙ p)
       ∙ ap (λ pc. effect_of mn cpu.pc place at (jumped cpu pc)) e;
   away = away;
 }
 
-pub works_on_a : {at : ℕ → ℕ} {cpu : Cpu} {mn : Mnemonic} {operand : ℕ} (next : ℕ) → Stands at cpu.pc mn Accumulator operand → (cpu.pc + 1) % 65536 ≡ next → 0 < cpu.pc → WorksOnA (record { cpu = cpu; at = at }) mn next
+pub works_on_a : {at : ℕ → ℕ} {cpu : Cpu} {mn : Mnemonic} {operand : ℕ} (next : ℕ) →
+    Stands at cpu.pc mn Accumulator operand → (cpu.pc + 1) % 65536 ≡ next → 0 < cpu.pc →
+    WorksOnA (record { cpu = cpu; at = at }) mn next
 works_on_a {at = at} {cpu = cpu} {mn = mn} next s e away = record {
   is = ap (λ meaning. done_by meaning at cpu) s.decoded ∙ ap (λ pc. accumulator_effect mn cpu.pc (jumped cpu pc)) e;
   away = away;
 }
 
 -- the byte that it reads: in mode Immediate its operand, else what is at the place
-pub reads : {state : State} {mn : Mnemonic} {place byte next : ℕ} → Works state mn place next → state.at place ≡ byte → Reads state mn byte next
+pub reads : {state : State} {mn : Mnemonic} {place byte next : ℕ} → Works state mn place next →
+    state.at place ≡ byte → Reads state mn byte next
 reads {place = place} w b = record { place = place; works = w; byte_is = b }
 
-pub reads_immediate : {at : ℕ → ℕ} {cpu : Cpu} {mn : Mnemonic} {operand : ℕ} (next : ℕ) → Stands at cpu.pc mn Immediate operand → (cpu.pc + 2) % 65536 ≡ next → 0 < cpu.pc → Reads (record { cpu = cpu; at = at }) mn operand next
+pub reads_immediate : {at : ℕ → ℕ} {cpu : Cpu} {mn : Mnemonic} {operand : ℕ} (next : ℕ) →
+    Stands at cpu.pc mn Immediate operand → (cpu.pc + 2) % 65536 ≡ next → 0 < cpu.pc →
+    Reads (record { cpu = cpu; at = at }) mn operand next
 reads_immediate {at = at} {cpu = cpu} next s e away =
     reads (works ((cpu.pc + 1) % 65536) next s refl refl e away) s.operand_is

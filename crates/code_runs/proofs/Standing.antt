@@ -8,34 +8,49 @@ use Rattle.cpu6502.specs.Effects.{displacement, word_at}
 use Rattle.code_runs.specs.Code.{Instruction, operand_at, Stands, CodeAt, size_of, SameFrom}
 
 -- from the bytes: the opcode, and then the operand byte or its two bytes at the places that follow
-pub stands_implied : (at : ℕ → ℕ) (pc opcode : ℕ) (mn : Mnemonic) → at pc ≡ opcode → meaning_of opcode ≡ Some (mn, Implied) → Stands at pc mn Implied 0
+pub stands_implied : (at : ℕ → ℕ) (pc opcode : ℕ) (mn : Mnemonic) → at pc ≡ opcode →
+    meaning_of opcode ≡ Some (mn, Implied) → Stands at pc mn Implied 0
 stands_implied at pc opcode mn e m = record { decoded = ap meaning_of e ∙ m; operand_is = refl }
 
-pub stands_immediate : (at : ℕ → ℕ) (pc opcode p1 byte : ℕ) (mn : Mnemonic) → at pc ≡ opcode → meaning_of opcode ≡ Some (mn, Immediate) → (pc + 1) % 65536 ≡ p1 → at p1 ≡ byte → Stands at pc mn Immediate byte
+pub stands_immediate : (at : ℕ → ℕ) (pc opcode p1 byte : ℕ) (mn : Mnemonic) → at pc ≡ opcode →
+    meaning_of opcode ≡ Some (mn, Immediate) → (pc + 1) % 65536 ≡ p1 → at p1 ≡ byte → Stands at pc mn Immediate byte
 stands_immediate at pc opcode p1 byte mn e m f b = record { decoded = ap meaning_of e ∙ m; operand_is = ap at f ∙ b }
 
-word_is : (at : ℕ → ℕ) (pc p1 p2 low high word : ℕ) → (pc + 1) % 65536 ≡ p1 → (p1 + 1) % 65536 ≡ p2 → at p1 ≡ low → at p2 ≡ high → low + 256 * high ≡ word → word_at at ((pc + 1) % 65536) ≡ word
+word_is : (at : ℕ → ℕ) (pc p1 p2 low high word : ℕ) → (pc + 1) % 65536 ≡ p1 → (p1 + 1) % 65536 ≡ p2 → at p1 ≡ low →
+    at p2 ≡ high → low + 256 * high ≡ word → word_at at ((pc + 1) % 65536) ≡ word
 word_is at pc p1 p2 low high word f g l h w = rw (f, g, l, h) w
 
-pub stands_absolute : (at : ℕ → ℕ) (pc opcode p1 p2 low high word : ℕ) (mn : Mnemonic) → at pc ≡ opcode → meaning_of opcode ≡ Some (mn, Absolute) → (pc + 1) % 65536 ≡ p1 → (p1 + 1) % 65536 ≡ p2 → at p1 ≡ low → at p2 ≡ high → low + 256 * high ≡ word → Stands at pc mn Absolute word
+pub stands_absolute : (at : ℕ → ℕ) (pc opcode p1 p2 low high word : ℕ) (mn : Mnemonic) → at pc ≡ opcode →
+    meaning_of opcode ≡ Some (mn, Absolute) → (pc + 1) % 65536 ≡ p1 → (p1 + 1) % 65536 ≡ p2 → at p1 ≡ low →
+    at p2 ≡ high → low + 256 * high ≡ word → Stands at pc mn Absolute word
 stands_absolute at pc opcode p1 p2 low high word mn e m f g l h w =
     record { decoded = ap meaning_of e ∙ m; operand_is = word_is at pc p1 p2 low high word f g l h w }
 
-pub stands_absolute_x : (at : ℕ → ℕ) (pc opcode p1 p2 low high word : ℕ) (mn : Mnemonic) → at pc ≡ opcode → meaning_of opcode ≡ Some (mn, AbsoluteX) → (pc + 1) % 65536 ≡ p1 → (p1 + 1) % 65536 ≡ p2 → at p1 ≡ low → at p2 ≡ high → low + 256 * high ≡ word → Stands at pc mn AbsoluteX word
+pub stands_absolute_x : (at : ℕ → ℕ) (pc opcode p1 p2 low high word : ℕ) (mn : Mnemonic) → at pc ≡ opcode →
+    meaning_of opcode ≡ Some (mn, AbsoluteX) → (pc + 1) % 65536 ≡ p1 → (p1 + 1) % 65536 ≡ p2 → at p1 ≡ low →
+    at p2 ≡ high → low + 256 * high ≡ word → Stands at pc mn AbsoluteX word
 stands_absolute_x at pc opcode p1 p2 low high word mn e m f g l h w =
     record { decoded = ap meaning_of e ∙ m; operand_is = word_is at pc p1 p2 low high word f g l h w }
 
-pub stands_relative : (at : ℕ → ℕ) (pc opcode p1 byte target : ℕ) (mn : Mnemonic) → at pc ≡ opcode → meaning_of opcode ≡ Some (mn, Relative) → (pc + 1) % 65536 ≡ p1 → at p1 ≡ byte → (pc + 2 + displacement byte) % 65536 ≡ target → Stands at pc mn Relative target
+pub stands_relative : (at : ℕ → ℕ) (pc opcode p1 byte target : ℕ) (mn : Mnemonic) → at pc ≡ opcode →
+    meaning_of opcode ≡ Some (mn, Relative) → (pc + 1) % 65536 ≡ p1 → at p1 ≡ byte →
+    (pc + 2 + displacement byte) % 65536 ≡ target → Stands at pc mn Relative target
 stands_relative at pc opcode p1 byte target mn e m f b t =
-    record { decoded = ap meaning_of e ∙ m; operand_is = ap (λ d. (pc + 2 + displacement d) % 65536) (ap at f ∙ b) ∙ t }
+    record {
+      decoded = ap meaning_of e ∙ m;
+      operand_is = ap (λ d. (pc + 2 + displacement d) % 65536) (ap at f ∙ b)
+          ∙ t;
+    }
 
 -- the operand byte and the operand word, where the bytes are the same
-byte_stays : (at at' : ℕ → ℕ) (pc high : ℕ) → pc + 2 ≤ high → high ≤ 65536 → SameFrom pc high at at' → at' ((pc + 1) % 65536) ≡ at ((pc + 1) % 65536)
+byte_stays : (at at' : ℕ → ℕ) (pc high : ℕ) → pc + 2 ≤ high → high ≤ 65536 → SameFrom pc high at at' →
+    at' ((pc + 1) % 65536) ≡ at ((pc + 1) % 65536)
 byte_stays at at' pc high within below s =
     let e : (pc + 1) % 65536 ≡ pc + 1 = omega arith in
     rw e (s.same (pc + 1) (omega arith) (omega arith))
 
-word_stays : (at at' : ℕ → ℕ) (pc high : ℕ) → pc + 3 ≤ high → high ≤ 65536 → SameFrom pc high at at' → word_at at' ((pc + 1) % 65536) ≡ word_at at ((pc + 1) % 65536)
+word_stays : (at at' : ℕ → ℕ) (pc high : ℕ) → pc + 3 ≤ high → high ≤ 65536 → SameFrom pc high at at' →
+    word_at at' ((pc + 1) % 65536) ≡ word_at at ((pc + 1) % 65536)
 word_stays at at' pc high within below s =
     let e : (pc + 1) % 65536 ≡ pc + 1 = omega arith in
     let f : (pc + 1 + 1) % 65536 ≡ pc + 1 + 1 = omega arith in
@@ -43,7 +58,8 @@ word_stays at at' pc high within below s =
     let b = s.same (pc + 1 + 1) (omega arith) (omega arith) in
     rw (e, f, a, b) refl
 
-operand_stays : (at at' : ℕ → ℕ) (pc high : ℕ) (mode : Mode) → pc + length_of mode ≤ high → high ≤ 65536 → SameFrom pc high at at' → operand_at mode at' pc ≡ operand_at mode at pc
+operand_stays : (at at' : ℕ → ℕ) (pc high : ℕ) (mode : Mode) → pc + length_of mode ≤ high → high ≤ 65536 →
+    SameFrom pc high at at' → operand_at mode at' pc ≡ operand_at mode at pc
 operand_stays at at' pc high Implied within below s = refl
 operand_stays at at' pc high Accumulator within below s = refl
 operand_stays at at' pc high Immediate within below s = byte_stays at at' pc high within below s
@@ -76,16 +92,19 @@ length_of-pos Indirect = omega arith
 length_of-pos Relative = omega arith
 
 -- an instruction still stands where its bytes are the same
-pub stands_stay : (at at' : ℕ → ℕ) (pc high operand : ℕ) (mn : Mnemonic) (mode : Mode) → pc + length_of mode ≤ high → high ≤ 65536 → SameFrom pc high at at' → Stands at pc mn mode operand → Stands at' pc mn mode operand
+pub stands_stay : (at at' : ℕ → ℕ) (pc high operand : ℕ) (mn : Mnemonic) (mode : Mode) → pc + length_of mode ≤ high →
+    high ≤ 65536 → SameFrom pc high at at' → Stands at pc mn mode operand → Stands at' pc mn mode operand
 stands_stay at at' pc high operand mn mode within below s stands = record {
   decoded = ap meaning_of (s.same pc (omega arith) (omega (arith, length_of-pos mode))) ∙ stands.decoded;
   operand_is = operand_stays at at' pc high mode within below s ∙ stands.operand_is;
 }
 
 -- the same of code
-pub code_stays : (at at' : ℕ → ℕ) (pc high : ℕ) (code : List Instruction) → pc + size_of code ≤ high → high ≤ 65536 → SameFrom pc high at at' → CodeAt at pc code → CodeAt at' pc code
+pub code_stays : (at at' : ℕ → ℕ) (pc high : ℕ) (code : List Instruction) → pc + size_of code ≤ high → high ≤ 65536 →
+    SameFrom pc high at at' → CodeAt at pc code → CodeAt at' pc code
 code_stays at at' pc high [] within below s c = tt
 code_stays at at' pc high (i ∷ rest) within below s c = (
   stands_stay at at' pc high i.operand i.mnemonic i.mode (omega arith) below s c.0,
-  code_stays at at' (pc + length_of i.mode) high rest (omega arith) below (record { same = λ q lo hi. s.same q (omega arith) hi }) c.1,
+  code_stays at at' (pc + length_of i.mode) high rest (omega arith) below
+      (record { same = λ q lo hi. s.same q (omega arith) hi }) c.1,
 )

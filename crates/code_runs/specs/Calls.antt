@@ -1,4 +1,5 @@
--- What a run on a function memory says of a machine, whose memory is a list: where it writes, what it leaves, and that it is a call.
+-- What a run on a function memory says of a machine, whose memory is a list: where it writes, what it leaves, and
+-- that it is a call.
 use Rattle.std.specs.Prelude.{◌≡◌, ℕ, ◌+◌, ◌%◌, ◌<◌, ◌≤◌, Bool, IsTrue, length, slice_index, Ok, All}
 use Rattle.cpu6502.specs.declared.effect.Write.{Write}
 use Rattle.cpu6502.specs.declared.machine.Machine.{Machine}
@@ -15,7 +16,8 @@ In places q = IsTrue (places q)
 pub record IsBelow (W : ℕ → Type 0) : Type 0 where
   pub below : (q : ℕ) → W q → q < 65536
 
--- a machine is at the end of a run from its view after n steps: so far it has begun no step at address 0, and has written at the run's places alone
+-- a machine is at the end of a run from its view after n steps: so far it has begun no step at address 0, and has
+-- written at the run's places alone
 pub record Arrives (W : ℕ → Type 0) (n : ℕ) (machine : Machine) (end : State) : Type 0 where
   pub after : Machine
   pub runs : run n machine ≡ Ok after
@@ -33,7 +35,8 @@ MachinesFollowRuns =
 -- a place at which a run may not write has the byte that it had
 abbrev pub RunsStayInside : Type 0
 RunsStayInside =
-    (places : ℕ → Bool) (n : ℕ) (state after : State) → Leads (In places) n state after → (q : ℕ) → (In places q → ⊥) → after.at q ≡ state.at q
+    (places : ℕ → Bool) (n : ℕ) (state after : State) → Leads (In places) n state after → (q : ℕ) →
+    (In places q → ⊥) → after.at q ≡ state.at q
 
 -- a call leads to a state in n steps, and writes at these places alone
 pub record CallsTo (W : ℕ → Type 0) (machine : Machine) (address a n : ℕ) (end : State) : Type 0 where
@@ -63,4 +66,5 @@ pub record IsEntry (machine : Machine) (at : ℕ → ℕ) : Type 0 where
 
 abbrev pub CallsBeginSo : Type 0
 CallsBeginSo =
-    (machine : Machine) → length machine.memory ≡ 65536 → IsEntry machine (slice_index (written machine.memory (return_address machine.cpu.sp)))
+    (machine : Machine) → length machine.memory ≡ 65536 →
+    IsEntry machine (slice_index (written machine.memory (return_address machine.cpu.sp)))

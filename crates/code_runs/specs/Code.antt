@@ -1,4 +1,5 @@
--- Instructions that stand in memory, as they are decoded and not as bytes. Source: the MOS 6502 programming manual, whose modes say what an operand is.
+-- Instructions that stand in memory, as they are decoded and not as bytes. Source: the MOS 6502 programming manual,
+-- whose modes say what an operand is.
 use Rattle.std.specs.Prelude.{◌≡◌, ℕ, ◌+◌, ◌%◌, ◌<◌, ◌≤◌, List, [], ◌∷◌, Some}
 use Rattle.cpu6502.specs.declared.cpu.Cpu.{Cpu}
 use Rattle.cpu6502.specs.declared.mnemonic.Mnemonic.{Mnemonic}
@@ -7,7 +8,8 @@ use Rattle.cpu6502.specs.declared.mnemonic.Mode.TheVariants.{Implied, Accumulato
 use Rattle.cpu6502.specs.Opcodes.{meaning_of, length_of}
 use Rattle.cpu6502.specs.Effects.{word_at, zero_page_word, same_page_word, displacement}
 
--- an instruction with its operand: the byte of Immediate and of the zero page, the address of the absolute modes, the place that a branch goes to, and 0 where there is none
+-- an instruction with its operand: the byte of Immediate and of the zero page, the address of the absolute modes, the
+-- place that a branch goes to, and 0 where there is none
 pub record Instruction : Type 0 where
   pub mnemonic : Mnemonic
   pub mode : Mode
@@ -29,7 +31,8 @@ operand_at IndirectY at pc = at ((pc + 1) % 65536)
 operand_at Indirect at pc = word_at at ((pc + 1) % 65536)
 operand_at Relative at pc = (pc + 2 + displacement (at ((pc + 1) % 65536))) % 65536
 
--- the place at which an instruction with this operand works: that of its byte, or the one that it jumps to; 0 where there is none
+-- the place at which an instruction with this operand works: that of its byte, or the one that it jumps to; 0 where
+-- there is none
 abbrev pub place_of : Mode → ℕ → (ℕ → ℕ) → Cpu → ℕ
 place_of Implied operand at cpu = 0
 place_of Accumulator operand at cpu = 0
@@ -50,7 +53,8 @@ pub record Stands (at : ℕ → ℕ) (pc : ℕ) (mnemonic : Mnemonic) (mode : Mo
   pub decoded : meaning_of (at pc) ≡ Some (mnemonic, mode)
   pub operand_is : operand_at mode at pc ≡ operand
 
--- these instructions stand from pc on, each where the one before it ends; places are not taken mod 65,536, so this is for code that ends below the end of memory
+-- these instructions stand from pc on, each where the one before it ends; places are not taken mod 65,536, so this is
+-- for code that ends below the end of memory
 abbrev pub CodeAt : (ℕ → ℕ) → ℕ → List Instruction → Type 0
 CodeAt at pc [] = Unit {0}
 CodeAt at pc (i ∷ rest) = Stands at pc i.mnemonic i.mode i.operand × CodeAt at (pc + length_of i.mode) rest

@@ -8,7 +8,8 @@ use Rattle.cpu6502.specs.Shifts.{accumulator_effect}
 use Rattle.cpu6502.specs.Effects.{effect, effect_of, moved}
 use Rattle.code_runs.specs.Code.{Instruction, place_of, Stands, CodeAt, SameFrom, size_of}
 
--- an instruction that stands at the program counter has the effect of its name, at the place that its mode and its operand give
+-- an instruction that stands at the program counter has the effect of its name, at the place that its mode and its
+-- operand give
 abbrev pub StandingHasEffect : Type 0
 StandingHasEffect =
     (at : ℕ → ℕ) (cpu : Cpu) (mnemonic : Mnemonic) (mode : Mode) (operand : ℕ) →

@@ -1,4 +1,5 @@
--- Runs of machine code on a memory that is a function from places to bytes: the form in which code is reasoned about. Their steps are the effects of the MOS 6502 programming manual's instructions.
+-- Runs of machine code on a memory that is a function from places to bytes: the form in which code is reasoned about.
+-- Their steps are the effects of the MOS 6502 programming manual's instructions.
 use Rattle.std.specs.Prelude.{◌≡◌, ℕ, zero, suc, ◌<◌, List, [], ◌∷◌, Ok, nat_eq, slice_index, if◌then◌else◌}
 use Rattle.cpu6502.specs.declared.cpu.Cpu.{Cpu}
 use Rattle.cpu6502.specs.declared.effect.Write.{Write}
@@ -53,7 +54,8 @@ Allowed W (write ∷ writes) = W write.place × Allowed W writes
 abbrev pub Runs : (ℕ → Type 0) → ℕ → State → State → Type 0
 Runs W zero state after = state ≡ after
 Runs W (suc n) state after =
-    (done : Effect) × (effect state.at state.cpu ≡ Ok done) × (0 < state.cpu.pc) × Allowed W done.writes × Runs W n (left state done) after
+    (done : Effect) × (effect state.at state.cpu ≡ Ok done) × (0 < state.cpu.pc) × Allowed W done.writes
+    × Runs W n (left state done) after
 
 -- the same as a record, which stays closed where the number of steps is a numeral
 pub record Leads (W : ℕ → Type 0) (n : ℕ) (state after : State) : Type 0 where

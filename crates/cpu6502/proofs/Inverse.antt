@@ -201,12 +201,14 @@ relative_back Bvc op h = let e : op ≡ 0x50 = cc in rw e refl
 relative_back Bvs op h = let e : op ≡ 0x70 = cc in rw e refl
 relative_back _ op h = cc
 
-either_back : (r s : Option ℕ) (mn : Mnemonic) (op : ℕ) → (r ≡ Some op → meaning_of op ≡ Some (mn, Implied)) → (s ≡ Some op → meaning_of op ≡ Some (mn, Implied)) → or_opcode r s ≡ Some op → meaning_of op ≡ Some (mn, Implied)
+either_back : (r s : Option ℕ) (mn : Mnemonic) (op : ℕ) → (r ≡ Some op → meaning_of op ≡ Some (mn, Implied)) →
+    (s ≡ Some op → meaning_of op ≡ Some (mn, Implied)) → or_opcode r s ≡ Some op → meaning_of op ≡ Some (mn, Implied)
 either_back (Some o) s mn op f g h = f h
 either_back None s mn op f g h = g h
 
 pub opcodes_have_rows : OpcodesHaveRows
-opcodes_have_rows mn Implied op h = either_back (register_opcode mn) (implied_opcode mn) mn op (register_back mn op) (implied_back mn op) h
+opcodes_have_rows mn Implied op h =
+    either_back (register_opcode mn) (implied_opcode mn) mn op (register_back mn op) (implied_back mn op) h
 opcodes_have_rows mn Accumulator op h = accumulator_back mn op h
 opcodes_have_rows mn Immediate op h = immediate_back mn op h
 opcodes_have_rows mn ZeroPage op h = zero_page_back mn op h
@@ -252,11 +254,13 @@ below_agrees (suc n) k e lt =
           rw same parts.0
     ]
 
-agreed : (mn : Mnemonic) (mode : Mode) (op : ℕ) (r : Option ℕ) → opcode_of mn mode ≡ r → is_opcode r op ≡ true → opcode_of mn mode ≡ Some op
+agreed : (mn : Mnemonic) (mode : Mode) (op : ℕ) (r : Option ℕ) → opcode_of mn mode ≡ r → is_opcode r op ≡ true →
+    opcode_of mn mode ≡ Some op
 agreed mn mode op None e h = absurd (false≢true h)
 agreed mn mode op (Some o) e h = e ∙ ap Some (eqb-true o op h)
 
 pub rows_have_opcodes : RowsHaveOpcodes
 rows_have_opcodes op mn mode lt e =
-    let h : agrees (Some (mn, mode)) op ≡ true = subst (λ (m : Option Meaning). agrees m op ≡ true) e (below_agrees 256 op all_bytes lt) in
+    let h : agrees (Some (mn, mode)) op ≡ true =
+    subst (λ (m : Option Meaning). agrees m op ≡ true) e (below_agrees 256 op all_bytes lt) in
     agreed mn mode op (opcode_of mn mode) refl h

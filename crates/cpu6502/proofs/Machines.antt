@@ -1,4 +1,5 @@
--- Machines stay machines: the effect of each instruction is within the ranges, and what is written leaves memory a memory.
+-- Machines stay machines: the effect of each instruction is within the ranges, and what is written leaves memory a
+-- memory.
 use Rattle.std.proofs.Common.{◌≡◌, ℕ, zero, suc, ◌+◌, ◌*◌, ◌%◌, ◌<◌, ◌≤◌, Bool, true, false, not, List, [], ◌∷◌, Option, Some, None, Result, Ok, Err, length, slice_index, slice_set, bit_and, if◌then◌else◌, All, refl, ◌∙◌, subst, arith, length-set, inl, inr}
 use Rattle.std.proofs.lemmas.Bool.{cases_lt}
 use Rattle.std.proofs.lemmas.List.{get_or_past}
@@ -88,7 +89,8 @@ one_if_small false = omega arith
 same_fits : (one other : Effect) → one ≡ other → Fits one → Fits other
 same_fits one other e fits = subst Fits e fits
 
-went : (cpu : Cpu) (outcome : Result Effect Stop) (done : Effect) → outcome ≡ Ok done → outcome ≡ Ok (quiet cpu) → FitsCpu cpu → Fits done
+went : (cpu : Cpu) (outcome : Result Effect Stop) (done : Effect) → outcome ≡ Ok done → outcome ≡ Ok (quiet cpu) →
+    FitsCpu cpu → Fits done
 went cpu outcome done e is f = same_fits (quiet cpu) done (cc (e, is)) (is_quiet cpu f)
 
 word_small : {low high : ℕ} → low < 256 → high < 256 → low + 256 * high < 65536
@@ -128,8 +130,10 @@ module _ (at : ℕ → ℕ) (bytes : (place : ℕ) → at place < 256) (cpu : Cp
   logic _ place = tt
 
   counts : (mn : Mnemonic) (place : ℕ) → place < 65536 → MayFit (count_effect mn place at cpu)
-  counts Inc place p = is_storing _ place _ (record { a = f.a; x = f.x; y = f.y; sp = f.sp; pc = f.pc }) p (omega arith)
-  counts Dec place p = is_storing _ place _ (record { a = f.a; x = f.x; y = f.y; sp = f.sp; pc = f.pc }) p (omega arith)
+  counts Inc place p = is_storing _ place _ (record { a = f.a; x = f.x; y = f.y; sp = f.sp; pc = f.pc }) p
+      (omega arith)
+  counts Dec place p = is_storing _ place _ (record { a = f.a; x = f.x; y = f.y; sp = f.sp; pc = f.pc }) p
+      (omega arith)
   counts Inx place p = is_quiet _ (in_x cpu _ f (omega arith))
   counts Dex place p = is_quiet _ (in_x cpu _ f (omega arith))
   counts Iny place p = is_quiet _ (in_y cpu _ f (omega arith))
@@ -152,12 +156,22 @@ module _ (at : ℕ → ℕ) (bytes : (place : ℕ) → at place < 256) (cpu : Cp
   branches _ place p = tt
 
   status_small : status_of cpu < 256
-  status_small = omega (arith, one_if_small cpu.n, one_if_small cpu.v, one_if_small cpu.d, one_if_small cpu.i, one_if_small cpu.z, one_if_small cpu.c)
+  status_small = omega (
+    arith,
+    one_if_small cpu.n,
+    one_if_small cpu.v,
+    one_if_small cpu.d,
+    one_if_small cpu.i,
+    one_if_small cpu.z,
+    one_if_small cpu.c,
+  )
 
   stacks : (mn : Mnemonic) → MayFit (stack_effect mn at cpu)
   stacks Pha = is_storing _ (stack_place cpu.sp) cpu.a (at_sp cpu _ f (omega arith)) (on_stack cpu.sp) f.a
-  stacks Php = is_storing _ (stack_place cpu.sp) (status_of cpu) (at_sp cpu _ f (omega arith)) (on_stack cpu.sp) status_small
-  stacks Pla = is_quiet _ (in_a _ _ (at_sp cpu ((cpu.sp + 1) % 256) f (omega arith)) (bytes (stack_place (cpu.sp + 1))))
+  stacks Php = is_storing _ (stack_place cpu.sp) (status_of cpu) (at_sp cpu _ f (omega arith)) (on_stack cpu.sp)
+      status_small
+  stacks Pla = is_quiet _ (in_a _ _ (at_sp cpu ((cpu.sp + 1) % 256) f (omega arith))
+      (bytes (stack_place (cpu.sp + 1))))
   stacks Plp = is_quiet _ (record { a = f.a; x = f.x; y = f.y; sp = omega arith; pc = f.pc })
   stacks _ = tt
 
@@ -165,10 +179,21 @@ module _ (at : ℕ → ℕ) (bytes : (place : ℕ) → at place < 256) (cpu : Cp
   jumps Jmp own place p = is_quiet _ (at_pc cpu place f p)
   jumps Jsr own place p = record {
     cpu = record { a = f.a; x = f.x; y = f.y; sp = omega arith; pc = p };
-    writes = (record { place = on_stack cpu.sp; value = omega arith }, (record { place = on_stack (cpu.sp + 255); value = omega arith }, tt));
+    writes = (
+      record { place = on_stack cpu.sp; value = omega arith },
+      (record { place = on_stack (cpu.sp + 255); value = omega arith }, tt),
+    );
   }
   jumps Rts own place p = is_quiet _ (record { a = f.a; x = f.x; y = f.y; sp = omega arith; pc = omega arith })
-  jumps Rti own place p = is_quiet _ (record { a = f.a; x = f.x; y = f.y; sp = omega arith; pc = word_small (bytes (stack_place (cpu.sp + 2))) (bytes (stack_place (cpu.sp + 3))) })
+  jumps Rti own place p =
+      is_quiet _ (record {
+        a = f.a;
+        x = f.x;
+        y = f.y;
+        sp = omega arith;
+        pc =
+            word_small (bytes (stack_place (cpu.sp + 2))) (bytes (stack_place (cpu.sp + 3)));
+      })
   jumps _ own place p = tt
 
   flags : (mn : Mnemonic) → MayFit (flag_effect mn cpu)
@@ -192,18 +217,32 @@ module _ (at : ℕ → ℕ) (bytes : (place : ℕ) → at place < 256) (cpu : Cp
   transfers _ = tt
 
   -- a shift leaves a byte
-  shifts : (mn : Mnemonic) (byte place : ℕ) → byte < 256 → place < 65536 → MayFit (shifted_in_memory (shifted mn byte cpu.c) place cpu)
-  shifts Asl byte place b p = is_storing _ place _ (record { a = f.a; x = f.x; y = f.y; sp = f.sp; pc = f.pc }) p (omega arith)
-  shifts Lsr byte place b p = is_storing _ place _ (record { a = f.a; x = f.x; y = f.y; sp = f.sp; pc = f.pc }) p (omega arith)
-  shifts Rol byte place b p = is_storing _ place _ (record { a = f.a; x = f.x; y = f.y; sp = f.sp; pc = f.pc }) p (omega arith)
-  shifts Ror byte place b p = is_storing _ place _ (record { a = f.a; x = f.x; y = f.y; sp = f.sp; pc = f.pc }) p (omega (arith, one_if_small cpu.c))
+  shifts : (mn : Mnemonic) (byte place : ℕ) → byte < 256 → place < 65536 →
+      MayFit (shifted_in_memory (shifted mn byte cpu.c) place cpu)
+  shifts Asl byte place b p =
+      is_storing _ place _ (record { a = f.a; x = f.x; y = f.y; sp = f.sp; pc = f.pc }) p (omega arith)
+  shifts Lsr byte place b p =
+      is_storing _ place _ (record { a = f.a; x = f.x; y = f.y; sp = f.sp; pc = f.pc }) p (omega arith)
+  shifts Rol byte place b p =
+      is_storing _ place _ (record { a = f.a; x = f.x; y = f.y; sp = f.sp; pc = f.pc }) p (omega arith)
+  shifts Ror byte place b p =
+      is_storing _ place _ (record { a = f.a; x = f.x; y = f.y; sp = f.sp; pc = f.pc }) p
+      (omega (arith, one_if_small cpu.c))
   shifts _ byte place b p = tt
 
   shifts_a : (mn : Mnemonic) (own : ℕ) (done : Effect) → accumulator_effect mn own cpu ≡ Ok done → Fits done
-  shifts_a Asl own done e = went _ (accumulator_effect Asl own cpu) done e refl (record { a = omega arith; x = f.x; y = f.y; sp = f.sp; pc = f.pc })
-  shifts_a Lsr own done e = went _ (accumulator_effect Lsr own cpu) done e refl (record { a = omega arith; x = f.x; y = f.y; sp = f.sp; pc = f.pc })
-  shifts_a Rol own done e = went _ (accumulator_effect Rol own cpu) done e refl (record { a = omega arith; x = f.x; y = f.y; sp = f.sp; pc = f.pc })
-  shifts_a Ror own done e = went _ (accumulator_effect Ror own cpu) done e refl (record { a = omega (arith, one_if_small cpu.c); x = f.x; y = f.y; sp = f.sp; pc = f.pc })
+  shifts_a Asl own done e =
+      went _ (accumulator_effect Asl own cpu) done e
+      refl (record { a = omega arith; x = f.x; y = f.y; sp = f.sp; pc = f.pc })
+  shifts_a Lsr own done e =
+      went _ (accumulator_effect Lsr own cpu) done e
+      refl (record { a = omega arith; x = f.x; y = f.y; sp = f.sp; pc = f.pc })
+  shifts_a Rol own done e =
+      went _ (accumulator_effect Rol own cpu) done e
+      refl (record { a = omega arith; x = f.x; y = f.y; sp = f.sp; pc = f.pc })
+  shifts_a Ror own done e =
+      went _ (accumulator_effect Ror own cpu) done e
+      refl (record { a = omega (arith, one_if_small cpu.c); x = f.x; y = f.y; sp = f.sp; pc = f.pc })
   shifts_a _ own done e = absurd (cc (e))
 
   -- ---- all of them
@@ -212,18 +251,25 @@ module _ (at : ℕ → ℕ) (bytes : (place : ℕ) → at place < 256) (cpu : Cp
   either (Some done) other p q = p
   either None other p q = q
 
-  all_fit : (mn : Mnemonic) (own place : ℕ) → place < 65536 → MayFit (or_effect (data_effect mn place at cpu) (other_effect mn own place at cpu))
+  all_fit : (mn : Mnemonic) (own place : ℕ) → place < 65536 →
+      MayFit (or_effect (data_effect mn place at cpu) (other_effect mn own place at cpu))
   all_fit mn own place p =
       either (data_effect mn place at cpu) (other_effect mn own place at cpu)
-      (either _ _ (loads mn place p) (either _ _ (sums mn place) (either _ _ (compares mn place) (either _ _ (logic mn place) (either _ _ (shifts mn (at place) place (bytes place) p) (counts mn place p))))))
-      (either _ _ (branches mn place p) (either _ _ (jumps mn own place p) (either _ _ (stacks mn) (either _ _ (flags mn) (transfers mn)))))
+      (either _ _ (loads mn place p)
+      (either _ _ (sums mn place) (either _ _ (compares mn place)
+      (either _ _ (logic mn place) (either _ _ (shifts mn (at place) place (bytes place) p)
+      (counts mn place p))))))
+      (either _ _ (branches mn place p) (either _ _ (jumps mn own place p)
+      (either _ _ (stacks mn) (either _ _ (flags mn) (transfers mn)))))
 
-  unless : (stop : Option Stop) (own : ℕ) (o : Option Effect) (done : Effect) → MayFit o → unless_stopped stop own o ≡ Ok done → Fits done
+  unless : (stop : Option Stop) (own : ℕ) (o : Option Effect) (done : Effect) → MayFit o →
+      unless_stopped stop own o ≡ Ok done → Fits done
   unless (Some stop) own o done fits e = absurd (cc (e))
   unless None own (Some other) done fits e = same_fits other done (cc (e)) fits
   unless None own None done fits e = absurd (cc (e))
 
-  effects_fit : (mn : Mnemonic) (own place : ℕ) (done : Effect) → place < 65536 → effect_of mn own place at cpu ≡ Ok done → Fits done
+  effects_fit : (mn : Mnemonic) (own place : ℕ) (done : Effect) → place < 65536 →
+      effect_of mn own place at cpu ≡ Ok done → Fits done
   effects_fit mn own place done p e = unless (stop_of mn own cpu) own _ done (all_fit mn own place p) e
 
 module _ (at : ℕ → ℕ) (bytes : (place : ℕ) → at place < 256) where
@@ -238,7 +284,8 @@ module _ (at : ℕ → ℕ) (bytes : (place : ℕ) → at place < 256) where
   operand_place_small Absolute pc x y = word_small (bytes ((pc + 1) % 65536)) (bytes (((pc + 1) % 65536 + 1) % 65536))
   operand_place_small AbsoluteX pc x y = omega arith
   operand_place_small AbsoluteY pc x y = omega arith
-  operand_place_small IndirectX pc x y = word_small (bytes ((at ((pc + 1) % 65536) + x) % 256)) (bytes (((at ((pc + 1) % 65536) + x) % 256 + 1) % 256))
+  operand_place_small IndirectX pc x y =
+      word_small (bytes ((at ((pc + 1) % 65536) + x) % 256)) (bytes (((at ((pc + 1) % 65536) + x) % 256 + 1) % 256))
   operand_place_small IndirectY pc x y = omega arith
   operand_place_small Indirect pc x y = word_small (bytes _) (bytes _)
   operand_place_small Relative pc x y = omega arith
@@ -247,11 +294,16 @@ module _ (at : ℕ → ℕ) (bytes : (place : ℕ) → at place < 256) where
   moved_fits cpu count f = record { a = f.a; x = f.x; y = f.y; sp = f.sp; pc = omega arith }
 
   decoded_fits : (z : Bool) (mn : Mnemonic) (mode : Mode) (cpu : Cpu) (done : Effect) → FitsCpu cpu →
-      (if z then accumulator_effect mn cpu.pc (moved cpu (length_of mode)) else effect_of mn cpu.pc (address_of mode at cpu.pc cpu.x cpu.y) at (moved cpu (length_of mode))) ≡ Ok done → Fits done
-  decoded_fits true mn mode cpu done f e = shifts_a at bytes (moved cpu (length_of mode)) (moved_fits cpu (length_of mode) f) mn cpu.pc done e
-  decoded_fits false mn mode cpu done f e = effects_fit at bytes (moved cpu (length_of mode)) (moved_fits cpu (length_of mode) f) mn cpu.pc (address_of mode at cpu.pc cpu.x cpu.y) done (operand_place_small mode cpu.pc cpu.x cpu.y) e
+      (if z then accumulator_effect mn cpu.pc (moved cpu (length_of mode)) else effect_of mn cpu.pc
+      (address_of mode at cpu.pc cpu.x cpu.y) at (moved cpu (length_of mode))) ≡ Ok done → Fits done
+  decoded_fits true mn mode cpu done f e =
+      shifts_a at bytes (moved cpu (length_of mode)) (moved_fits cpu (length_of mode) f) mn cpu.pc done e
+  decoded_fits false mn mode cpu done f e =
+      effects_fit at bytes (moved cpu (length_of mode)) (moved_fits cpu (length_of mode) f) mn cpu.pc
+      (address_of mode at cpu.pc cpu.x cpu.y) done (operand_place_small mode cpu.pc cpu.x cpu.y) e
 
-  row_fits : (row : Option Meaning) (cpu : Cpu) (done : Effect) → FitsCpu cpu → done_by row at cpu ≡ Ok done → Fits done
+  row_fits : (row : Option Meaning) (cpu : Cpu) (done : Effect) → FitsCpu cpu → done_by row at cpu ≡ Ok done →
+      Fits done
   row_fits None cpu done f e = absurd (cc (e))
   row_fits (Some (mn, mode)) cpu done f e = decoded_fits (is_accumulator mode) mn mode cpu done f e
 
@@ -267,42 +319,64 @@ record IsMemory (memory : List ℕ) : Type 0 where
   size : length memory ≡ 65536
   bytes : All (λ byte. byte < 256) memory
 
-written_is : (memory : List ℕ) (writes : List Write) → IsMemory memory → FitWrites writes → IsMemory (written memory writes)
+written_is : (memory : List ℕ) (writes : List Write) → IsMemory memory → FitWrites writes →
+    IsMemory (written memory writes)
 written_is memory [] is fit = is
 written_is memory (write ∷ writes) is fit =
-    written_is (slice_set memory write.place write.value) writes (record { size = length-set memory write.place write.value ∙ is.size; bytes = All-set (λ byte. byte < 256) memory write.place write.value fit.0.value is.bytes }) fit.1
+    written_is (slice_set memory write.place write.value) writes
+    (record {
+      size = length-set memory write.place write.value ∙ is.size;
+      bytes =
+          All-set (λ byte. byte < 256) memory write.place write.value fit.0.value is.bytes;
+    }) fit.1
 
 cpu_of : (machine : Machine) → IsMachine machine → FitsCpu machine.cpu
 cpu_of machine is = record { a = is.a; x = is.x; y = is.y; sp = is.sp; pc = is.pc }
 
-machine_of : (cpu : Cpu) (memory : List ℕ) → FitsCpu cpu → IsMemory memory → IsMachine (record { cpu = cpu; memory = memory })
-machine_of cpu memory f is = record { size = is.size; bytes = is.bytes; a = f.a; x = f.x; y = f.y; sp = f.sp; pc = f.pc }
+machine_of : (cpu : Cpu) (memory : List ℕ) → FitsCpu cpu → IsMemory memory →
+    IsMachine (record { cpu = cpu; memory = memory })
+machine_of cpu memory f is =
+    record { size = is.size; bytes = is.bytes; a = f.a; x = f.x; y = f.y; sp = f.sp; pc = f.pc }
 
-after_effect : (machine after : Machine) (outcome : Result Effect Stop) → ((done : Effect) → outcome ≡ Ok done → Fits done) → IsMemory machine.memory → stepped machine outcome ≡ Ok after → IsMachine after
+after_effect : (machine after : Machine) (outcome : Result Effect Stop) →
+    ((done : Effect) → outcome ≡ Ok done → Fits done) → IsMemory machine.memory → stepped machine outcome ≡ Ok after →
+    IsMachine after
 after_effect machine after (Ok done) fits is e =
     let fit = fits done refl in
-    subst IsMachine (cc (e)) (machine_of done.cpu (written machine.memory done.writes) fit.cpu (written_is machine.memory done.writes is fit.writes))
+    subst IsMachine (cc (e)) (machine_of done.cpu (written machine.memory done.writes) fit.cpu
+    (written_is machine.memory done.writes is fit.writes))
 after_effect machine after (Err stop) fits is e = absurd (cc (e))
 
 pub step_keeps : StepsKeepMachines
 step_keeps machine after is e =
     after_effect machine after (next_effect machine)
-    (λ done went. row_fits (slice_index machine.memory) (bytes_of machine.memory is.bytes) (meaning_of (slice_index machine.memory machine.cpu.pc)) machine.cpu done (cpu_of machine is) went)
+    (λ done went. row_fits (slice_index machine.memory) (bytes_of machine.memory is.bytes)
+    (meaning_of (slice_index machine.memory machine.cpu.pc)) machine.cpu done (cpu_of machine is) went)
     (record { size = is.size; bytes = is.bytes }) e
 
-after_first : (first : Result Machine Stop) (n : ℕ) (after : Machine) → ((between : Machine) → first ≡ Ok between → IsMachine between) → ((between : Machine) → IsMachine between → run n between ≡ Ok after → IsMachine after) → after_step first (run n) ≡ Ok after → IsMachine after
+after_first : (first : Result Machine Stop) (n : ℕ) (after : Machine) →
+    ((between : Machine) → first ≡ Ok between → IsMachine between) →
+    ((between : Machine) → IsMachine between → run n between ≡ Ok after → IsMachine after) →
+    after_step first (run n) ≡ Ok after → IsMachine after
 after_first (Ok between) n after is rest e = rest between (is between refl) e
 after_first (Err stop) n after is rest e = absurd (cc (e))
 
 run_keeps : (n : ℕ) (machine after : Machine) → IsMachine machine → run n machine ≡ Ok after → IsMachine after
 run_keeps zero machine after is e = subst IsMachine (cc (e)) is
-run_keeps (suc n) machine after is e = after_first (step machine) n after (λ between one. step_keeps machine between is one) (λ between there rest. run_keeps n between after there rest) e
+run_keeps (suc n) machine after is e =
+    after_first (step machine) n after (λ between one. step_keeps machine between is one)
+    (λ between there rest. run_keeps n between after there rest) e
 
-entry_is : (machine : Machine) (address a : ℕ) → IsMachine machine → address < 65536 → a < 256 → IsMachine (entered machine address a)
+entry_is : (machine : Machine) (address a : ℕ) → IsMachine machine → address < 65536 → a < 256 →
+    IsMachine (entered machine address a)
 entry_is machine address a is small byte =
     machine_of _ _
     (record { a = byte; x = is.x; y = is.y; sp = omega arith; pc = small })
-    (written_is machine.memory (return_address machine.cpu.sp) (record { size = is.size; bytes = is.bytes }) (record { place = on_stack machine.cpu.sp; value = omega arith }, (record { place = on_stack (machine.cpu.sp + 255); value = omega arith }, tt)))
+    (written_is machine.memory (return_address machine.cpu.sp) (record { size = is.size; bytes = is.bytes }) (
+      record { place = on_stack machine.cpu.sp; value = omega arith },
+      (record { place = on_stack (machine.cpu.sp + 255); value = omega arith }, tt),
+    ))
 
 pub call_keeps : CallsKeepMachines
-call_keeps machine after address a steps is small byte called = run_keeps steps (entered machine address a) after (entry_is machine address a is small byte) called.runs
+call_keeps machine after address a steps is small byte called =
+    run_keeps steps (entered machine address a) after (entry_is machine address a is small byte) called.runs

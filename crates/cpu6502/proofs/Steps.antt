@@ -8,7 +8,9 @@ use Rattle.cpu6502.specs.Step.{stepped, next_effect, step}
 use Rattle.cpu6502.specs.Call.{after_step, run, writes_by, writes_after, writes_in}
 
 -- what follows from a step that was made follows after it
-after_ok : (r : Result Machine Stop) (go then : Machine → Result Machine Stop) (between : Machine) (end : Result Machine Stop) → after_step r go ≡ Ok between → ((m : Machine) → go m ≡ Ok between → then m ≡ end) → after_step r then ≡ end
+after_ok : (r : Result Machine Stop) (go then : Machine → Result Machine Stop) (between : Machine)
+    (end : Result Machine Stop) → after_step r go ≡ Ok between → ((m : Machine) → go m ≡ Ok between → then m ≡ end) →
+    after_step r then ≡ end
 after_ok (Ok m) go then between end e f = f m e
 after_ok (Err s) go then between end e f = cc
 
@@ -34,32 +36,41 @@ pub run-suc : (n : ℕ) (m between : Machine) → run n m ≡ Ok between → run
 run-suc n m between e = run-add n 1 m between e ∙ run_one between
 
 -- after a stop there is only that stop
-pub run_stopped : (n k : ℕ) (m between : Machine) (stop : Stop) → run n m ≡ Ok between → step between ≡ Err stop → n < k → run k m ≡ Err stop
+pub run_stopped : (n k : ℕ) (m between : Machine) (stop : Stop) → run n m ≡ Ok between → step between ≡ Err stop →
+    n < k → run k m ≡ Err stop
 run_stopped n k m between stop e s lt =
     let z : k ≡ n + suc (k - n - 1) = omega arith in
     rw z (run-add n (suc (k - n - 1)) m between e ∙ ap (λ r. after_step r (run (k - n - 1))) s)
 
 -- the writes of a sum of steps are those of one run after those of the other
-writes_after-add : (n k : ℕ) (r : Result Machine Stop) (between : Machine) → after_step r (run n) ≡ Ok between → ((m : Machine) → run n m ≡ Ok between → writes_in (n + k) m ≡ writes_in n m ++ writes_in k between) → writes_after r (writes_in (n + k)) ≡ writes_after r (writes_in n) ++ writes_in k between
+writes_after-add : (n k : ℕ) (r : Result Machine Stop) (between : Machine) → after_step r (run n) ≡ Ok between →
+    ((m : Machine) → run n m ≡ Ok between → writes_in (n + k) m ≡ writes_in n m ++ writes_in k between) →
+    writes_after r (writes_in (n + k)) ≡ writes_after r (writes_in n) ++ writes_in k between
 writes_after-add n k (Ok m) between e f = f m e
 writes_after-add n k (Err s) between e f = cc
 
-pub writes_in-add : (n k : ℕ) (m between : Machine) → run n m ≡ Ok between → writes_in (n + k) m ≡ writes_in n m ++ writes_in k between
+pub writes_in-add : (n k : ℕ) (m between : Machine) → run n m ≡ Ok between →
+    writes_in (n + k) m ≡ writes_in n m ++ writes_in k between
 writes_in-add zero k m between e =
     let z : 0 + k ≡ k = omega arith in
     let same : m ≡ between = cc in
     rw (z, same) refl
 writes_in-add (suc n) k m between e =
     let z : suc n + k ≡ suc (n + k) = omega arith in
-    rw z (ap (λ ws. writes_by (next_effect m) ++ ws) (writes_after-add n k (step m) between e (λ m' e'. writes_in-add n k m' between e')) ∙ sym (append_assoc (writes_by (next_effect m)) (writes_after (step m) (writes_in n)) (writes_in k between)))
+    rw z (ap (λ ws. writes_by (next_effect m) ++ ws)
+    (writes_after-add n k (step m) between e (λ m' e'. writes_in-add n k m' between e'))
+    ∙ sym (append_assoc (writes_by (next_effect m)) (writes_after (step m) (writes_in n)) (writes_in k between)))
 
 -- a machine that stops writes nothing
-stopped_writes : (m : Machine) (r : Result Effect Stop) (stop : Stop) (k : ℕ) → stepped m r ≡ Err stop → writes_by r ++ writes_after (stepped m r) (writes_in k) ≡ []
+stopped_writes : (m : Machine) (r : Result Effect Stop) (stop : Stop) (k : ℕ) → stepped m r ≡ Err stop →
+    writes_by r ++ writes_after (stepped m r) (writes_in k) ≡ []
 stopped_writes m (Ok done) stop k e = cc
 stopped_writes m (Err s) stop k e = refl
 
-pub writes_in-stopped : (n k : ℕ) (m between : Machine) (stop : Stop) → run n m ≡ Ok between → step between ≡ Err stop → n < k → writes_in k m ≡ writes_in n m
+pub writes_in-stopped : (n k : ℕ) (m between : Machine) (stop : Stop) → run n m ≡ Ok between →
+    step between ≡ Err stop → n < k → writes_in k m ≡ writes_in n m
 writes_in-stopped n k m between stop e s lt =
     let z : k ≡ n + suc (k - n - 1) = omega arith in
     let none = stopped_writes between (next_effect between) stop (k - n - 1) s in
-    rw z (writes_in-add n (suc (k - n - 1)) m between e ∙ ap (λ ws. writes_in n m ++ ws) none ∙ append-nil (writes_in n m))
+    rw z (writes_in-add n (suc (k - n - 1)) m between e ∙ ap (λ ws. writes_in n m ++ ws) none
+    ∙ append-nil (writes_in n m))

@@ -6,7 +6,8 @@ use Rattle.cpu6502.specs.declared.cpu.Cpu.{Cpu}
 use Rattle.cpu6502.specs.declared.effect.Effect.{Effect}
 use Rattle.cpu6502.specs.Registers.{one_if, with_a, quiet}
 
--- whether the signed sum of two bytes does not fit: two negative numbers have a sum byte that is not, or two others one that is
+-- whether the signed sum of two bytes does not fit: two negative numbers have a sum byte that is not, or two others
+-- one that is
 abbrev pub overflows : ℕ → ℕ → ℕ → Bool
 overflows a byte sum =
     if nat_le 128 a then nat_le 128 byte && nat_lt sum 128 else nat_lt byte 128 && nat_le 128 sum
@@ -20,7 +21,8 @@ with_sum cpu byte sum =
 abbrev pub added : Cpu → ℕ → Cpu
 added cpu byte = with_sum cpu byte (cpu.a + byte + one_if cpu.c)
 
--- what ADC and SBC do with the byte at a place; none for any other name. A difference is the sum with the byte's complement: A - M - (1 - C) is A + (255 - M) + C - 256
+-- what ADC and SBC do with the byte at a place; none for any other name. A difference is the sum with the byte's
+-- complement: A - M - (1 - C) is A + (255 - M) + C - 256
 abbrev pub arithmetic_effect : Mnemonic → ℕ → (ℕ → ℕ) → Cpu → Option Effect
 arithmetic_effect Adc place at cpu = Some (quiet (added cpu (at place)))
 arithmetic_effect Sbc place at cpu = Some (quiet (added cpu (255 - at place)))

@@ -6,11 +6,13 @@ use Rattle.cpu6502.specs.declared.cpu.Cpu.{Cpu}
 use Rattle.cpu6502.specs.declared.effect.Effect.{Effect}
 use Rattle.cpu6502.specs.Registers.{quiet}
 
--- the registers with the program counter at the place where the branch is taken; else it stays at the next instruction
+-- the registers with the program counter at the place where the branch is taken; else it stays at the next
+-- instruction
 abbrev pub branched : Cpu → Bool → ℕ → Cpu
 branched cpu taken place = if taken then record cpu { pc = place } else cpu
 
--- what a branch to a place does: it is taken where its flag is clear or set, as its name says, and writes nothing; none for any other name
+-- what a branch to a place does: it is taken where its flag is clear or set, as its name says, and writes nothing;
+-- none for any other name
 abbrev pub branch_effect : Mnemonic → ℕ → Cpu → Option Effect
 branch_effect Bcc place cpu = Some (quiet (branched cpu (not cpu.c) place))
 branch_effect Bcs place cpu = Some (quiet (branched cpu cpu.c place))

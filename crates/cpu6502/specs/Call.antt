@@ -1,4 +1,6 @@
--- A call of machine code: how a machine enters it, what it is to return, and how a call that does not return ends. JSR and RTS are those of the MOS 6502 programming manual; the return address $FFFF, which RTS makes 0, is this project's own.
+-- A call of machine code: how a machine enters it, what it is to return, and how a call that does not return ends.
+-- JSR and RTS are those of the MOS 6502 programming manual; the return address $FFFF, which RTS makes 0, is this
+-- project's own.
 use Rattle.std.specs.Prelude.{◌≡◌, ℕ, zero, suc, ◌+◌, ◌%◌, ◌<◌, List, [], ◌∷◌, ◌++◌, Result, Ok, Err}
 use Rattle.cpu6502.specs.declared.effect.Write.{Write}
 use Rattle.cpu6502.specs.declared.effect.Effect.{Effect}
@@ -23,7 +25,8 @@ run (suc n) machine = after_step (step machine) (run n)
 -- the two writes of a caller that pushes $FF and $FF
 abbrev pub return_address : ℕ → List Write
 return_address sp =
-    (record { place = stack_place sp; value = RETURN_BYTE }) ∷ (record { place = stack_place (sp + 255); value = RETURN_BYTE }) ∷ []
+    (record { place = stack_place sp; value = RETURN_BYTE }) ∷ (record
+    { place = stack_place (sp + 255); value = RETURN_BYTE }) ∷ []
 
 -- a machine as a call begins: $FF and $FF pushed, a in the accumulator, the address in the program counter
 abbrev pub entered : Machine → ℕ → ℕ → Machine
@@ -37,9 +40,11 @@ pub record HasReturned (machine after : Machine) : Type 0 where
   pub at_zero : after.cpu.pc ≡ 0
   pub same_stack : after.cpu.sp ≡ machine.cpu.sp
 
--- a call is not back before it has made this many steps: the machine that it is entered at, after 0 steps, has not returned, nor has that after 1 step, and so on up to one less than this number
+-- a call is not back before it has made this many steps: the machine that it is entered at, after 0 steps, has not
+-- returned, nor has that after 1 step, and so on up to one less than this number
 pub record IsOutFor (machine : Machine) (address a steps : ℕ) : Type 0 where
-  pub out : (k : ℕ) (between : Machine) → k < steps → run k (entered machine address a) ≡ Ok between → HasReturned machine between → ⊥
+  pub out : (k : ℕ) (between : Machine) → k < steps → run k (entered machine address a) ≡ Ok between →
+      HasReturned machine between → ⊥
 
 -- a call at an address, with a in the accumulator, returns after exactly this many steps, in the last machine
 pub record Called (machine : Machine) (address a steps : ℕ) (after : Machine) : Type 0 where
@@ -47,7 +52,8 @@ pub record Called (machine : Machine) (address a steps : ℕ) (after : Machine) 
   pub returned : HasReturned machine after
   pub first : IsOutFor machine address a steps
 
--- a call makes this many steps, and its next one meets a stop, in this machine; no machine on the way has returned, nor has this one
+-- a call makes this many steps, and its next one meets a stop, in this machine; no machine on the way has returned,
+-- nor has this one
 pub record MeetsStop (machine : Machine) (address a steps : ℕ) (stop : Stop) (after : Machine) : Type 0 where
   pub runs : run steps (entered machine address a) ≡ Ok after
   pub stops : step after ≡ Err stop

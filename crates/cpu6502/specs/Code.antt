@@ -1,4 +1,5 @@
--- The machines that there are, and the bytes that their memory holds. Source: the sizes of the MOS 6502 programming manual.
+-- The machines that there are, and the bytes that their memory holds. Source: the sizes of the MOS 6502 programming
+-- manual.
 use Rattle.std.specs.Prelude.{◌≡◌, ℕ, zero, suc, ◌+◌, ◌<◌, List, [], ◌∷◌, length, slice_index, All}
 use Rattle.cpu6502.specs.declared.machine.Machine.{Machine}
 use Rattle.cpu6502.specs.declared.memory.TheConstants.{MEMORY_SIZE}
@@ -13,7 +14,8 @@ pub record IsMachine (machine : Machine) : Type 0 where
   pub sp : machine.cpu.sp < 256
   pub pc : machine.cpu.pc < 65536
 
--- a memory holds these bytes from an address on, one place after the other; places are not taken mod 65,536, so bytes that would go beyond the last place are held by no memory of that size
+-- a memory holds these bytes from an address on, one place after the other; places are not taken mod 65,536, so bytes
+-- that would go beyond the last place are held by no memory of that size
 pub record Holds (memory : List ℕ) (address : ℕ) (bytes : List ℕ) : Type 0 where
   pub byte : (k : ℕ) → k < length bytes → slice_index memory (address + k) ≡ slice_index bytes k
 

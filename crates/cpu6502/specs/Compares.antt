@@ -11,7 +11,8 @@ abbrev pub compared : Cpu → ℕ → ℕ → Cpu
 compared cpu register byte =
     with_sign_and_zero (record cpu { c = nat_le byte register }) ((register + (256 - byte)) % 256)
 
--- what CMP, CPX and CPY do: they compare A, X or Y with the byte at a place, and set flags alone; none for any other name
+-- what CMP, CPX and CPY do: they compare A, X or Y with the byte at a place, and set flags alone; none for any other
+-- name
 abbrev pub compare_effect : Mnemonic → ℕ → (ℕ → ℕ) → Cpu → Option Effect
 compare_effect Cmp place at cpu = Some (quiet (compared cpu cpu.a (at place)))
 compare_effect Cpx place at cpu = Some (quiet (compared cpu cpu.x (at place)))

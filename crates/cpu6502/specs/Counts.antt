@@ -10,7 +10,8 @@ use Rattle.cpu6502.specs.Registers.{with_sign_and_zero, with_x, with_y, quiet, s
 abbrev pub counted : Cpu → ℕ → ℕ → Effect
 counted cpu place byte = storing (with_sign_and_zero cpu byte) place byte
 
--- what the six counts do with the byte at a place, with X or with Y: up or down by one, mod 256; none for any other name
+-- what the six counts do with the byte at a place, with X or with Y: up or down by one, mod 256; none for any other
+-- name
 abbrev pub count_effect : Mnemonic → ℕ → (ℕ → ℕ) → Cpu → Option Effect
 count_effect Inc place at cpu = Some (counted cpu place ((at place + 1) % 256))
 count_effect Dec place at cpu = Some (counted cpu place ((at place + 255) % 256))

@@ -1,4 +1,5 @@
--- What one instruction does, from a memory that is read by place and from the registers: the registers after it, and what it writes. Source: the MOS 6502 programming manual.
+-- What one instruction does, from a memory that is read by place and from the registers: the registers after it, and
+-- what it writes. Source: the MOS 6502 programming manual.
 use Rattle.std.specs.Prelude.{ℕ, ◌+◌, ◌*◌, ◌/◌, ◌%◌, Option, Some, None, Result, Ok, Err, nat_lt, if◌then◌else◌}
 use Rattle.cpu6502.specs.declared.mnemonic.Mnemonic.{Mnemonic}
 use Rattle.cpu6502.specs.declared.mnemonic.Mnemonic.TheVariants.{Adc, Sbc, Brk}
@@ -38,7 +39,8 @@ same_page_word at place = at place + 256 * at (256 * (place / 256) + (place % 25
 abbrev pub displacement : ℕ → ℕ
 displacement byte = if nat_lt byte 128 then byte else byte + 65280
 
--- the place of the operand of the instruction at pc; for a branch the place it goes to, and 0 where there is no operand
+-- the place of the operand of the instruction at pc; for a branch the place it goes to, and 0 where there is no
+-- operand
 abbrev pub address_of : Mode → (ℕ → ℕ) → ℕ → ℕ → ℕ → ℕ
 address_of Implied at pc x y = 0
 address_of Accumulator at pc x y = 0
@@ -62,12 +64,19 @@ or_effect None other = other
 -- what the instructions do that work on bytes
 abbrev pub data_effect : Mnemonic → ℕ → (ℕ → ℕ) → Cpu → Option Effect
 data_effect mnemonic place at cpu =
-    or_effect (load_effect mnemonic place at cpu) (or_effect (arithmetic_effect mnemonic place at cpu) (or_effect (compare_effect mnemonic place at cpu) (or_effect (logic_effect mnemonic place at cpu) (or_effect (shift_effect mnemonic place at cpu) (count_effect mnemonic place at cpu)))))
+    or_effect (load_effect mnemonic place at cpu)
+    (or_effect (arithmetic_effect mnemonic place at cpu)
+    (or_effect (compare_effect mnemonic place at cpu)
+    (or_effect (logic_effect mnemonic place at cpu)
+    (or_effect (shift_effect mnemonic place at cpu) (count_effect mnemonic place at cpu)))))
 
 -- what the others do
 abbrev pub other_effect : Mnemonic → ℕ → ℕ → (ℕ → ℕ) → Cpu → Option Effect
 other_effect mnemonic own place at cpu =
-    or_effect (branch_effect mnemonic place cpu) (or_effect (jump_effect mnemonic own place at cpu) (or_effect (stack_effect mnemonic at cpu) (or_effect (flag_effect mnemonic cpu) (transfer_effect mnemonic cpu))))
+    or_effect (branch_effect mnemonic place cpu)
+    (or_effect (jump_effect mnemonic own place at cpu)
+    (or_effect (stack_effect mnemonic at cpu) (or_effect (flag_effect mnemonic cpu)
+    (transfer_effect mnemonic cpu))))
 
 -- where an instruction stops instead: BRK always, sums and differences with the decimal flag set
 abbrev pub stop_of : Mnemonic → ℕ → Cpu → Option Stop
@@ -82,10 +91,12 @@ unless_stopped (Some stop) own outcome = Err stop
 unless_stopped None own (Some outcome) = Ok outcome
 unless_stopped None own None = Err (Illegal own)
 
--- the effect of an instruction on registers whose program counter is at the next one; own is its own place, place that of its operand in memory
+-- the effect of an instruction on registers whose program counter is at the next one; own is its own place, place
+-- that of its operand in memory
 abbrev pub effect_of : Mnemonic → ℕ → ℕ → (ℕ → ℕ) → Cpu → Result Effect Stop
 effect_of mnemonic own place at cpu =
-    unless_stopped (stop_of mnemonic own cpu) own (or_effect (data_effect mnemonic place at cpu) (other_effect mnemonic own place at cpu))
+    unless_stopped (stop_of mnemonic own cpu) own
+    (or_effect (data_effect mnemonic place at cpu) (other_effect mnemonic own place at cpu))
 
 -- the registers with the program counter after an instruction of this many bytes
 abbrev pub moved : Cpu → ℕ → Cpu

@@ -1,4 +1,5 @@
--- The decode table read the other way: the opcode of an instruction in an addressing mode. Source: the MOS 6502 programming manual.
+-- The decode table read the other way: the opcode of an instruction in an addressing mode. Source: the MOS 6502
+-- programming manual.
 use Rattle.std.specs.Prelude.{◌≡◌, ℕ, ◌<◌, Option, Some, None}
 use Rattle.cpu6502.specs.declared.mnemonic.Mnemonic.{Mnemonic}
 use Rattle.cpu6502.specs.declared.mnemonic.Mnemonic.TheVariants.{Adc, And, Asl, Bcc, Bcs, Beq, Bit, Bmi, Bne, Bpl, Brk, Bvc, Bvs, Clc, Cld, Cli, Clv, Cmp, Cpx, Cpy, Dec, Dex, Dey, Eor, Inc, Inx, Iny, Jmp, Jsr, Lda, Ldx, Ldy, Lsr, Nop, Ora, Pha, Php, Pla, Plp, Rol, Ror, Rti, Rts, Sbc, Sec, Sed, Sei, Sta, Stx, Sty, Tax, Tay, Tsx, Txa, Txs, Tya}
@@ -237,9 +238,11 @@ opcode_of mnemonic Relative = relative_opcode mnemonic
 -- the opcode of an instruction in a mode stands for it
 abbrev pub OpcodesHaveRows : Type 0
 OpcodesHaveRows =
-    (mnemonic : Mnemonic) (mode : Mode) (opcode : ℕ) → opcode_of mnemonic mode ≡ Some opcode → meaning_of opcode ≡ Some (mnemonic, mode)
+    (mnemonic : Mnemonic) (mode : Mode) (opcode : ℕ) → opcode_of mnemonic mode ≡ Some opcode →
+    meaning_of opcode ≡ Some (mnemonic, mode)
 
 -- what a byte stands for has that byte as its opcode
 abbrev pub RowsHaveOpcodes : Type 0
 RowsHaveOpcodes =
-    (opcode : ℕ) (mnemonic : Mnemonic) (mode : Mode) → opcode < 256 → meaning_of opcode ≡ Some (mnemonic, mode) → opcode_of mnemonic mode ≡ Some opcode
+    (opcode : ℕ) (mnemonic : Mnemonic) (mode : Mode) → opcode < 256 → meaning_of opcode ≡ Some (mnemonic, mode) →
+    opcode_of mnemonic mode ≡ Some opcode

@@ -11,7 +11,8 @@ use Rattle.cpu6502.specs.Stack.{with_status}
 abbrev pub call_effect : Cpu → ℕ → ℕ → Effect
 call_effect cpu last place = record {
   cpu = record cpu { sp = (cpu.sp + 254) % 256; pc = place };
-  writes = (record { place = stack_place cpu.sp; value = last / 256 }) ∷ (record { place = stack_place (cpu.sp + 255); value = last % 256 }) ∷ [];
+  writes = (record { place = stack_place cpu.sp; value = last / 256 }) ∷ (record
+      { place = stack_place (cpu.sp + 255); value = last % 256 }) ∷ [];
 }
 
 -- the registers after a pull of two bytes, the low one first: the program counter is one more than their number
@@ -31,7 +32,8 @@ after_interrupt at cpu =
     })
     (at (stack_place (cpu.sp + 1)))
 
--- what JMP and JSR to a place do, and RTS and RTI; own is the place of the opcode, so that own + 2 is the last byte of a JSR; none for any other name
+-- what JMP and JSR to a place do, and RTS and RTI; own is the place of the opcode, so that own + 2 is the last byte
+-- of a JSR; none for any other name
 abbrev pub jump_effect : Mnemonic → ℕ → ℕ → (ℕ → ℕ) → Cpu → Option Effect
 jump_effect Jmp own place at cpu = Some (quiet (record cpu { pc = place }))
 jump_effect Jsr own place at cpu = Some (call_effect cpu ((own + 2) % 65536) place)

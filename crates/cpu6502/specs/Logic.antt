@@ -11,7 +11,8 @@ abbrev pub tested : Cpu → ℕ → Cpu
 tested cpu byte =
     record cpu { n = nat_le 128 byte; v = nat_eq (byte / 64 % 2) 1; z = nat_eq (bit_and cpu.a byte) 0 }
 
--- what these four do with A and the byte at a place: three leave the result in A, BIT sets flags alone; none for any other name
+-- what these four do with A and the byte at a place: three leave the result in A, BIT sets flags alone; none for any
+-- other name
 abbrev pub logic_effect : Mnemonic → ℕ → (ℕ → ℕ) → Cpu → Option Effect
 logic_effect And place at cpu = Some (quiet (with_a cpu (bit_and cpu.a (at place))))
 logic_effect Ora place at cpu = Some (quiet (with_a cpu (bit_or cpu.a (at place))))

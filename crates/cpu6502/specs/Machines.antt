@@ -1,4 +1,5 @@
--- Machines stay machines: whatever a step or a call does, registers stay bytes, places stay addresses, and memory keeps its size. Source: the sizes of the MOS 6502 programming manual.
+-- Machines stay machines: whatever a step or a call does, registers stay bytes, places stay addresses, and memory
+-- keeps its size. Source: the sizes of the MOS 6502 programming manual.
 use Rattle.std.specs.Prelude.{◌≡◌, ℕ, ◌<◌, Ok}
 use Rattle.cpu6502.specs.declared.machine.Machine.{Machine}
 use Rattle.cpu6502.specs.Step.{step}
@@ -12,4 +13,5 @@ StepsKeepMachines = (machine after : Machine) → IsMachine machine → step mac
 -- the machine that a call leaves, where the call was to an address with a byte in the accumulator
 abbrev pub CallsKeepMachines : Type 0
 CallsKeepMachines =
-    (machine after : Machine) (address a steps : ℕ) → IsMachine machine → address < 65536 → a < 256 → Called machine address a steps after → IsMachine after
+    (machine after : Machine) (address a steps : ℕ) → IsMachine machine → address < 65536 → a < 256 →
+    Called machine address a steps after → IsMachine after

@@ -1,4 +1,5 @@
--- The decode table: which instruction an opcode byte stands for, and how it finds its operand. Source: the MOS 6502 programming manual.
+-- The decode table: which instruction an opcode byte stands for, and how it finds its operand. Source: the MOS 6502
+-- programming manual.
 use Rattle.std.specs.Prelude.{ℕ, Option, Some, None, nat_eq, Bool, true, false, if◌then◌else◌}
 use Rattle.cpu6502.specs.declared.mnemonic.Mnemonic.{Mnemonic}
 use Rattle.cpu6502.specs.declared.mnemonic.Mnemonic.TheVariants.{Adc, And, Asl, Bcc, Bcs, Beq, Bit, Bmi, Bne, Bpl, Brk, Bvc, Bvs, Clc, Cld, Cli, Clv, Cmp, Cpx, Cpy, Dec, Dex, Dey, Eor, Inc, Inx, Iny, Jmp, Jsr, Lda, Ldx, Ldy, Lsr, Nop, Ora, Pha, Php, Pla, Plp, Rol, Ror, Rti, Rts, Sbc, Sec, Sed, Sei, Sta, Stx, Sty, Tax, Tay, Tsx, Txa, Txs, Tya}
@@ -233,12 +234,17 @@ or_row None other = other
 -- the rows of the instructions that work on bytes
 abbrev pub data_row : ℕ → Option Meaning
 data_row opcode =
-    or_row (load_row opcode) (or_row (store_row opcode) (or_row (arithmetic_row opcode) (or_row (compare_row opcode) (or_row (mask_row opcode) (or_row (combine_row opcode) (shift_row opcode))))))
+    or_row (load_row opcode)
+    (or_row (store_row opcode)
+    (or_row (arithmetic_row opcode) (or_row (compare_row opcode)
+    (or_row (mask_row opcode) (or_row (combine_row opcode) (shift_row opcode))))))
 
 -- the rows of the others
 abbrev pub other_row : ℕ → Option Meaning
 other_row opcode =
-    or_row (count_row opcode) (or_row (branch_row opcode) (or_row (jump_row opcode) (or_row (stack_row opcode) (or_row (flag_row opcode) (transfer_row opcode)))))
+    or_row (count_row opcode)
+    (or_row (branch_row opcode)
+    (or_row (jump_row opcode) (or_row (stack_row opcode) (or_row (flag_row opcode) (transfer_row opcode)))))
 
 -- what an opcode stands for; none where it has no row
 abbrev pub meaning_of : ℕ → Option Meaning

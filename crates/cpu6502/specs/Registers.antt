@@ -1,4 +1,5 @@
--- The words that the effects of instructions share: registers with a byte and its flags, the stack, and what is written. Source: the MOS 6502 programming manual.
+-- The words that the effects of instructions share: registers with a byte and its flags, the stack, and what is
+-- written. Source: the MOS 6502 programming manual.
 use Rattle.std.specs.Prelude.{ℕ, ◌+◌, ◌%◌, Bool, [], ◌∷◌, nat_eq, nat_le, if◌then◌else◌}
 use Rattle.cpu6502.specs.declared.cpu.Cpu.{Cpu}
 use Rattle.cpu6502.specs.declared.effect.Effect.{Effect}

@@ -1,4 +1,5 @@
--- Shifts and rotations by one bit, of a byte in memory or of the accumulator. Source: the MOS 6502 programming manual.
+-- Shifts and rotations by one bit, of a byte in memory or of the accumulator. Source: the MOS 6502 programming
+-- manual.
 use Rattle.std.specs.Prelude.{ℕ, ◌+◌, ◌*◌, ◌/◌, ◌%◌, Bool, Option, Some, None, Result, Ok, Err, nat_eq, nat_le}
 use Rattle.cpu6502.specs.declared.mnemonic.Mnemonic.{Mnemonic}
 use Rattle.cpu6502.specs.declared.mnemonic.Mnemonic.TheVariants.{Asl, Lsr, Rol, Ror}

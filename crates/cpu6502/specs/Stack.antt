@@ -9,7 +9,8 @@ use Rattle.cpu6502.specs.Registers.{one_if, stack_place, with_a, quiet, storing}
 -- the flags as a byte: N V 1 1 D I Z C from bit 7 to bit 0
 abbrev pub status_of : Cpu → ℕ
 status_of cpu =
-    128 * one_if cpu.n + 64 * one_if cpu.v + 48 + 8 * one_if cpu.d + 4 * one_if cpu.i + 2 * one_if cpu.z + one_if cpu.c
+    128 * one_if cpu.n + 64 * one_if cpu.v + 48 + 8 * one_if cpu.d + 4 * one_if cpu.i + 2 * one_if cpu.z + one_if
+    cpu.c
 
 -- the registers with the flags of a byte; bits 5 and 4 are no flags
 abbrev pub with_status : Cpu → ℕ → Cpu
@@ -30,7 +31,8 @@ push_effect cpu byte = storing (record cpu { sp = (cpu.sp + 255) % 256 }) (stack
 abbrev pub after_pull : Cpu → ℕ → Cpu
 after_pull cpu count = record cpu { sp = (cpu.sp + count) % 256 }
 
--- what PHA, PHP, PLA and PLP do: a push writes where the stack pointer is and then lowers it, a pull raises it and then reads; none for any other name
+-- what PHA, PHP, PLA and PLP do: a push writes where the stack pointer is and then lowers it, a pull raises it and
+-- then reads; none for any other name
 abbrev pub stack_effect : Mnemonic → (ℕ → ℕ) → Cpu → Option Effect
 stack_effect Pha at cpu = Some (push_effect cpu cpu.a)
 stack_effect Php at cpu = Some (push_effect cpu (status_of cpu))

@@ -1,4 +1,5 @@
--- One step of the machine: the machine after the instruction at the program counter, or a stop. Source: the MOS 6502 programming manual.
+-- One step of the machine: the machine after the instruction at the program counter, or a stop. Source: the MOS 6502
+-- programming manual.
 use Rattle.std.specs.Prelude.{ℕ, List, [], ◌∷◌, Result, Ok, Err, slice_index, slice_set}
 use Rattle.cpu6502.specs.declared.effect.Write.{Write}
 use Rattle.cpu6502.specs.declared.effect.Effect.{Effect}

@@ -1,4 +1,5 @@
--- Why a step stops: each of the three stops has exactly one cause. Source: the MOS 6502 programming manual's table of opcodes; that BRK and decimal sums stop is this project's own profile.
+-- Why a step stops: each of the three stops has exactly one cause. Source: the MOS 6502 programming manual's table of
+-- opcodes; that BRK and decimal sums stop is this project's own profile.
 use Rattle.std.specs.Prelude.{◌≡◌, ℕ, ◌<◌, true, ◌⊎◌, ◌↔◌, Option, Some, None, Err}
 use Rattle.cpu6502.specs.declared.mnemonic.Mnemonic.TheVariants.{Adc, Sbc, Brk}
 use Rattle.cpu6502.specs.declared.mnemonic.Mode.{Mode}
@@ -13,7 +14,8 @@ use Rattle.cpu6502.specs.Effects.{effect}
 abbrev pub IsSumRow : Option Meaning → Type 0
 IsSumRow row = ((mode : Mode) × (row ≡ Some (Adc, mode))) ⊎ ((mode : Mode) × (row ≡ Some (Sbc, mode)))
 
--- what each stop says of the byte at the program counter and of the registers: a byte with no row, BRK, or a sum or difference with the decimal flag set; the stop names the byte's place
+-- what each stop says of the byte at the program counter and of the registers: a byte with no row, BRK, or a sum or
+-- difference with the decimal flag set; the stop names the byte's place
 abbrev pub IsCause : (ℕ → ℕ) → Cpu → Stop → Type 0
 IsCause at cpu (Illegal place) = (meaning_of (at cpu.pc) ≡ None) × (place ≡ cpu.pc)
 IsCause at cpu (Break place) = (meaning_of (at cpu.pc) ≡ Some (Brk, Implied)) × (place ≡ cpu.pc)
@@ -21,4 +23,5 @@ IsCause at cpu (Decimal place) = IsSumRow (meaning_of (at cpu.pc)) × (cpu.d ≡
 
 -- an instruction has a stop in the place of an effect exactly where that stop's cause is there
 abbrev pub StopsHaveCauses : Type 0
-StopsHaveCauses = (at : ℕ → ℕ) (cpu : Cpu) (stop : Stop) → at cpu.pc < 256 → (effect at cpu ≡ Err stop) ↔ IsCause at cpu stop
+StopsHaveCauses = (at : ℕ → ℕ) (cpu : Cpu) (stop : Stop) → at cpu.pc < 256 →
+    (effect at cpu ≡ Err stop) ↔ IsCause at cpu stop

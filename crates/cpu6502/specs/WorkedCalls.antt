@@ -1,4 +1,5 @@
--- The machine's constants as the manual and the Commodore 64's memory map have them, at their edges: the size of memory, the bytes that a caller pushes, the SID's 25 registers, and the room of a log.
+-- The machine's constants as the manual and the Commodore 64's memory map have them, at their edges: the size of
+-- memory, the bytes that a caller pushes, the SID's 25 registers, and the room of a log.
 use Rattle.std.specs.Prelude.{◌≡◌, [], ◌∷◌, replicate, length, Some, None}
 use Rattle.cpu6502.specs.declared.memory.TheConstants.{MEMORY_SIZE}
 use Rattle.cpu6502.specs.Call.{return_address}

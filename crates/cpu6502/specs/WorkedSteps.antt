@@ -1,4 +1,5 @@
--- Steps that are worked by hand from the MOS 6502 programming manual, at the corners: wraps of pages and of the stack, flags, the carry and the overflow, and the stops.
+-- Steps that are worked by hand from the MOS 6502 programming manual, at the corners: wraps of pages and of the
+-- stack, flags, the carry and the overflow, and the stops.
 use Rattle.std.specs.Prelude.{◌≡◌, ℕ, ◌+◌, ◌%◌, Bool, true, false, List, [], ◌∷◌, Result, Ok, Err, nat_eq, if◌then◌else◌}
 use Rattle.cpu6502.specs.declared.cpu.Cpu.{Cpu}
 use Rattle.cpu6502.specs.declared.effect.Effect.{Effect}
@@ -12,14 +13,28 @@ abbrev pub over : (ℕ → ℕ) → ℕ → List ℕ → ℕ → ℕ
 over at place [] q = at q
 over at place (byte ∷ bytes) q = if nat_eq q place then byte else over at ((place + 1) % 65536) bytes q
 
--- $02 everywhere, which is no opcode, but for what is pulled at both ends of the stack: $45 and $23 at $01FE, $88 and $78 at $0100
+-- $02 everywhere, which is no opcode, but for what is pulled at both ends of the stack: $45 and $23 at $01FE, $88 and
+-- $78 at $0100
 abbrev pub blank : ℕ → ℕ
 blank = over (over (λ q. 0x02) 0x01FE (0x45 ∷ 0x23 ∷ [])) 0x0100 (0x88 ∷ 0x78 ∷ [])
 
 -- registers that no row leaves out
 abbrev pub start : Cpu
 start =
-    record { a = 0x5A; x = 1; y = 0x33; sp = 0xFD; pc = 0x1000; n = false; v = true; d = true; i = true; z = false; c = true }
+    record {
+      a = 0x5A;
+      x = 1;
+      y = 0x33;
+      sp = 0xFD;
+      pc = 0x1000;
+      n = false;
+      v = true;
+      d = true;
+      i = true;
+      z =
+          false;
+      c = true;
+    }
 
 -- what code at the program counter does in its first step
 abbrev pub worked : Cpu → List ℕ → Result Effect Stop
@@ -37,15 +52,18 @@ abbrev pub LoadsAndStores : Type 0
 LoadsAndStores =
     Leaves start (0xA9 ∷ 0x00 ∷ []) (record start { pc = 0x1002; a = 0x00; z = true })
     × Leaves start (0xA9 ∷ 0x80 ∷ []) (record start { pc = 0x1002; a = 0x80; n = true })
-    × Leaves (record start { a = 0x01; n = true; z = true }) (0xA9 ∷ 0x7F ∷ []) (record start { pc = 0x1002; a = 0x7F })
+    × Leaves (record start { a = 0x01; n = true; z = true }) (0xA9 ∷ 0x7F ∷ [])
+    (record start { pc = 0x1002; a = 0x7F })
     × Leaves start (0xA2 ∷ 0xFF ∷ []) (record start { pc = 0x1002; x = 0xFF; n = true })
     × Leaves (record start { pc = 0xFFFF }) (0xA9 ∷ 0x21 ∷ []) (record start { pc = 0x01; a = 0x21 })
     × Stores (record start { pc = 0xFFFE }) (0x8D ∷ 0x34 ∷ 0x12 ∷ []) (record start { pc = 0x01 }) 0x1234 0x5A
     × Stores start (0x9D ∷ 0xFF ∷ 0x20 ∷ []) (record start { pc = 0x1003 }) 0x2100 0x5A
     × Stores start (0x9D ∷ 0xFF ∷ 0xFF ∷ []) (record start { pc = 0x1003 }) 0x0000 0x5A
-    × Stores (record start { x = 0xFF }) (0x9D ∷ 0xF0 ∷ 0xFF ∷ []) (record start { x = 0xFF; pc = 0x1003 }) 0x00EF 0x5A
+    × Stores (record start { x = 0xFF }) (0x9D ∷ 0xF0 ∷ 0xFF ∷ []) (record start { x = 0xFF; pc = 0x1003 }) 0x00EF
+    0x5A
 
--- JMP (xxFF) stays in its page; branches go over pages and over the end of memory; RTS adds one, RTI nothing; the stack wraps
+-- JMP (xxFF) stays in its page; branches go over pages and over the end of memory; RTS adds one, RTI nothing; the
+-- stack wraps
 abbrev pub JumpsAndReturns : Type 0
 JumpsAndReturns =
     Leaves (record start { pc = 0xFFFE }) (0x4C ∷ 0x78 ∷ 0x56 ∷ []) (record start { pc = 0x5678 })
@@ -69,22 +87,32 @@ ShiftsAndCounts =
     × Leaves start (0x2A ∷ []) (record start { pc = 0x1001; a = 0xB5; n = true; z = false; c = false })
     × Leaves start (0x6A ∷ []) (record start { pc = 0x1001; a = 0xAD; n = true; z = false; c = false })
     × Leaves (record start { a = 0x01; c = false }) (0x6A ∷ []) (record start { pc = 0x1001; a = 0x00; z = true })
-    × Leaves (record start { x = 0xFF }) (0xE8 ∷ []) (record start { pc = 0x1001; x = 0x00; n = false; z = true; c = true })
-    × Leaves (record start { y = 0x7F }) (0xC8 ∷ []) (record start { pc = 0x1001; y = 0x80; n = true; z = false; c = true })
-    × Leaves (record start { x = 0x01 }) (0xCA ∷ []) (record start { pc = 0x1001; x = 0x00; n = false; z = true; c = true })
-    × Leaves (record start { x = 0x80 }) (0xCA ∷ []) (record start { pc = 0x1001; x = 0x7F; n = false; z = false; c = true })
-    × Leaves (record start { x = 0x00 }) (0xCA ∷ []) (record start { pc = 0x1001; x = 0xFF; n = true; z = false; c = true })
-    × Leaves (record start { y = 0x00 }) (0x88 ∷ []) (record start { pc = 0x1001; y = 0xFF; n = true; z = false; c = true })
+    × Leaves (record start { x = 0xFF }) (0xE8 ∷ [])
+    (record start { pc = 0x1001; x = 0x00; n = false; z = true; c = true })
+    × Leaves (record start { y = 0x7F }) (0xC8 ∷ [])
+    (record start { pc = 0x1001; y = 0x80; n = true; z = false; c = true })
+    × Leaves (record start { x = 0x01 }) (0xCA ∷ [])
+    (record start { pc = 0x1001; x = 0x00; n = false; z = true; c = true })
+    × Leaves (record start { x = 0x80 }) (0xCA ∷ [])
+    (record start { pc = 0x1001; x = 0x7F; n = false; z = false; c = true })
+    × Leaves (record start { x = 0x00 }) (0xCA ∷ [])
+    (record start { pc = 0x1001; x = 0xFF; n = true; z = false; c = true })
+    × Leaves (record start { y = 0x00 }) (0x88 ∷ [])
+    (record start { pc = 0x1001; y = 0xFF; n = true; z = false; c = true })
 
 -- transfers set N and Z, but not TXS; flags one by one; NOP
 abbrev pub TransfersAndFlags : Type 0
 TransfersAndFlags =
     Leaves start (0xAA ∷ []) (record start { pc = 0x1001; x = 0x5A; n = false; z = false; c = true })
-    × Leaves (record start { a = 0x00 }) (0xA8 ∷ []) (record start { pc = 0x1001; a = 0x00; y = 0x00; n = false; z = true; c = true })
+    × Leaves (record start { a = 0x00 }) (0xA8 ∷ [])
+    (record start { pc = 0x1001; a = 0x00; y = 0x00; n = false; z = true; c = true })
     × Leaves start (0xBA ∷ []) (record start { pc = 0x1001; x = 0xFD; n = true; z = false; c = true })
-    × Leaves (record start { x = 0x00 }) (0x8A ∷ []) (record start { pc = 0x1001; x = 0x00; a = 0x00; n = false; z = true; c = true })
-    × Leaves (record start { y = 0x80 }) (0x98 ∷ []) (record start { pc = 0x1001; y = 0x80; a = 0x80; n = true; z = false; c = true })
-    × Leaves (record start { x = 0x00 }) (0x9A ∷ []) (record start { pc = 0x1001; x = 0x00; sp = 0x00; n = false; z = false; c = true })
+    × Leaves (record start { x = 0x00 }) (0x8A ∷ [])
+    (record start { pc = 0x1001; x = 0x00; a = 0x00; n = false; z = true; c = true })
+    × Leaves (record start { y = 0x80 }) (0x98 ∷ [])
+    (record start { pc = 0x1001; y = 0x80; a = 0x80; n = true; z = false; c = true })
+    × Leaves (record start { x = 0x00 }) (0x9A ∷ [])
+    (record start { pc = 0x1001; x = 0x00; sp = 0x00; n = false; z = false; c = true })
     × Leaves start (0x18 ∷ []) (record start { pc = 0x1001; c = false })
     × Leaves start (0xD8 ∷ []) (record start { pc = 0x1001; d = false })
     × Leaves start (0x58 ∷ []) (record start { pc = 0x1001; i = false })
@@ -94,14 +122,25 @@ TransfersAndFlags =
     × Leaves (record start { i = false }) (0x78 ∷ []) (record start { pc = 0x1001 })
     × Leaves start (0xEA ∷ []) (record start { pc = 0x1001 })
 
--- pushes and pulls at both ends of the stack; PHP sets bits 5 and 4, PLP leaves them out; JSR pushes the address of its own last byte
+-- pushes and pulls at both ends of the stack; PHP sets bits 5 and 4, PLP leaves them out; JSR pushes the address of
+-- its own last byte
 abbrev pub Stack : Type 0
 Stack =
     Stores start (0x48 ∷ []) (record start { sp = 0xFC; pc = 0x1001 }) 0x01FD 0x5A
     × Stores (record start { sp = 0x00 }) (0x48 ∷ []) (record start { sp = 0xFF; pc = 0x1001 }) 0x0100 0x5A
     × Stores start (0x08 ∷ []) (record start { sp = 0xFC; pc = 0x1001 }) 0x01FD 0x7D
-    × (worked start (0x20 ∷ 0x34 ∷ 0x12 ∷ []) ≡ Ok (record { cpu = (record start { sp = 0xFB; pc = 0x1234 }); writes = (record { place = 0x01FD; value = 0x10 }) ∷ (record { place = 0x01FC; value = 0x02 }) ∷ [] }))
-    × (worked (record start { sp = 0x00 }) (0x20 ∷ 0x34 ∷ 0x12 ∷ []) ≡ Ok (record { cpu = (record start { sp = 0xFE; pc = 0x1234 }); writes = (record { place = 0x0100; value = 0x10 }) ∷ (record { place = 0x01FF; value = 0x02 }) ∷ [] }))
+    × (worked start (0x20 ∷ 0x34 ∷ 0x12 ∷ []) ≡ Ok
+    (record {
+      cpu = (record start { sp = 0xFB; pc = 0x1234 });
+      writes =
+          (record { place = 0x01FD; value = 0x10 }) ∷ (record { place = 0x01FC; value = 0x02 }) ∷ [];
+    }))
+    × (worked (record start { sp = 0x00 }) (0x20 ∷ 0x34 ∷ 0x12 ∷ []) ≡ Ok
+    (record {
+      cpu = (record start { sp = 0xFE; pc = 0x1234 });
+      writes =
+          (record { place = 0x0100; value = 0x10 }) ∷ (record { place = 0x01FF; value = 0x02 }) ∷ [];
+    }))
     × Leaves start (0x68 ∷ []) (record start { sp = 0xFE; pc = 0x1001; a = 0x45 })
     × Leaves (record start { sp = 0xFF }) (0x68 ∷ []) (record start { sp = 0x00; pc = 0x1001; a = 0x88; n = true })
     × Leaves start (0x28 ∷ []) (record start { sp = 0xFE; pc = 0x1001; d = false })
@@ -117,7 +156,8 @@ BranchIs opcode before taken =
 
 -- a branch is taken as said where its flag alone is set, and the other way where all others are
 abbrev pub BranchBy : ℕ → Cpu → Cpu → Bool → Type 0
-BranchBy opcode alone others taken = BranchIs opcode alone taken × BranchIs opcode others (if taken then false else true)
+BranchBy opcode alone others taken =
+    BranchIs opcode alone taken × BranchIs opcode others (if taken then false else true)
 
 -- each branch looks at its own flag
 abbrev pub Branches : Type 0
@@ -134,7 +174,8 @@ Branches =
 -- A and a byte with this carry give this byte, with N, V, Z and C
 abbrev pub SumIs : ℕ → ℕ → ℕ → Bool → ℕ → Cpu → Type 0
 SumIs opcode a byte carry sum flags =
-    Leaves (record start { a = a; c = carry; d = false }) (opcode ∷ byte ∷ []) (record flags { a = sum; d = false; pc = 0x1002 })
+    Leaves (record start { a = a; c = carry; d = false }) (opcode ∷ byte ∷ [])
+    (record flags { a = sum; d = false; pc = 0x1002 })
 
 -- the four corners of ADC with both carries
 abbrev pub Sums : Type 0

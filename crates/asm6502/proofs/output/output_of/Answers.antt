@@ -12,8 +12,10 @@ put-requires-clause-fits c =
 
 pub put-requires-clause-sound : goal.put-requires-clause-sound
 put-requires-clause-sound c =
-    sound_at c.args.set.0 [] c.args.lines.now c.loop-number.number c.index-lines-number.result c.requires.sound c.loop-number-test.true c.index-lines-number.is
+    sound_at c.args.set.0 [] c.args.lines.now c.loop-number.number c.index-lines-number.result c.requires.sound
+    c.loop-number-test.true c.index-lines-number.is
 
 pub put-requires-clause-known : goal.put-requires-clause-known
 put-requires-clause-known c =
-    known_at c.args.labels.now c.args.set.0 c.args.lines.now [] c.args.lines.now c.loop-number.number c.index-lines-number.result c.requires.places c.requires.known c.loop-number-test.true c.index-lines-number.is
+    known_at c.args.labels.now c.args.set.0 c.args.lines.now [] c.args.lines.now c.loop-number.number
+    c.index-lines-number.result c.requires.places c.requires.known c.loop-number-test.true c.index-lines-number.is

@@ -12,63 +12,85 @@ below : (n budget : ℕ) → n ≤ budget → (n ≡ budget → ⊥) → n + 1 �
 below n budget le apart = omega arith
 
 -- a call that has made its whole budget of steps
-used_up : (m now : Machine) (address a n budget : ℕ) → run n (entered m address a) ≡ Ok now → IsOutFor m address a n → (HasReturned m now → ⊥) → n ≡ budget → IsUnderWay m address a budget now
+used_up : (m now : Machine) (address a n budget : ℕ) → run n (entered m address a) ≡ Ok now → IsOutFor m address a n →
+    (HasReturned m now → ⊥) → n ≡ budget → IsUnderWay m address a budget now
 used_up m now address a n budget runs out here e =
-    subst (λ k. IsUnderWay m address a k now) e (record { runs = runs; out = out_longer m address a n now out runs here })
+    subst (λ k. IsUnderWay m address a k now) e
+    (record { runs = runs; out = out_longer m address a n now out runs here })
 
 -- a call that meets a stop
-stopped_at : (m now : Machine) (address a n : ℕ) (stop : Stop) → run n (entered m address a) ≡ Ok now → IsOutFor m address a n → (HasReturned m now → ⊥) → step now ≡ Err stop → MeetsStop m address a n stop now
+stopped_at : (m now : Machine) (address a n : ℕ) (stop : Stop) → run n (entered m address a) ≡ Ok now →
+    IsOutFor m address a n → (HasReturned m now → ⊥) → step now ≡ Err stop → MeetsStop m address a n stop now
 stopped_at m now address a n stop runs out here stops =
     record { runs = runs; stops = stops; out = out_longer m address a n now out runs here }
 
 pub returns-then-steps-budget-clause-fails : goal.returns-then-steps-budget-clause-fails
 returns-then-steps-budget-clause-fails c = λ reason after fails.
     let i = c.stepping.invariant in
-    let here = λ (back : HasReturned c.args.self.now c.stepping.self). false≢true (c.stepping-test.ensures.1 (back.at_zero, back.same_stack)) in
-    let under_way = used_up c.args.self.now c.stepping.self c.args.address c.args.a c.stepping.steps c.args.budget i.runs i.out here c.if-steps-budget.true in
-    ap Err (under_way_fails c.args.self.now c.args.address c.args.a c.args.budget c.stepping.self after reason under_way fails)
+    let here = λ (back : HasReturned c.args.self.now c.stepping.self). false≢true
+    (c.stepping-test.ensures.1 (back.at_zero, back.same_stack)) in
+    let under_way = used_up c.args.self.now c.stepping.self c.args.address c.args.a c.stepping.steps c.args.budget
+    i.runs i.out here c.if-steps-budget.true in
+    ap Err (under_way_fails c.args.self.now c.args.address c.args.a c.args.budget c.stepping.self after reason
+    under_way fails)
 
 pub returns-in-Err-clause-failed : goal.returns-in-Err-clause-failed
 returns-in-Err-clause-failed c =
     let i = c.stepping.invariant in
-    let here = λ (back : HasReturned c.args.self.now c.stepping.self). false≢true (c.stepping-test.ensures.1 (back.at_zero, back.same_stack)) in
-    let stopped = stopped_at c.args.self.now c.stepping.self c.args.address c.args.a c.stepping.steps c.in-Err.stop i.runs i.out here c.in-Err.ensures.stopped in
-    let lt : c.stepping.steps < c.args.budget = omega (arith, below c.stepping.steps c.args.budget i.within c.if-steps-budget.false) in
-    let there = subst (λ (after : Machine). MeetsStop c.args.self.now c.args.address c.args.a c.stepping.steps c.in-Err.stop after) (sym c.in-Err.ensures.same) stopped in
+    let here = λ (back : HasReturned c.args.self.now c.stepping.self). false≢true
+    (c.stepping-test.ensures.1 (back.at_zero, back.same_stack)) in
+    let stopped = stopped_at c.args.self.now c.stepping.self c.args.address c.args.a c.stepping.steps c.in-Err.stop
+    i.runs i.out here c.in-Err.ensures.stopped in
+    let lt : c.stepping.steps < c.args.budget =
+    omega (arith, below c.stepping.steps c.args.budget i.within c.if-steps-budget.false) in
+    let there = subst (λ (after : Machine). MeetsStop c.args.self.now c.args.address c.args.a c.stepping.steps
+    c.in-Err.stop after) (sym c.in-Err.ensures.same) stopped in
     (c.stepping.steps, lt, there)
 
 pub returns-in-Err-clause-returns : goal.returns-in-Err-clause-returns
 returns-in-Err-clause-returns c = λ steps after called le.
     let i = c.stepping.invariant in
-    let here = λ (back : HasReturned c.args.self.now c.stepping.self). false≢true (c.stepping-test.ensures.1 (back.at_zero, back.same_stack)) in
-    let stopped = stopped_at c.args.self.now c.stepping.self c.args.address c.args.a c.stepping.steps c.in-Err.stop i.runs i.out here c.in-Err.ensures.stopped in
-    absurd (no_stop c.args.self.now c.args.address c.args.a steps c.stepping.steps c.in-Err.stop after c.stepping.self called stopped)
+    let here = λ (back : HasReturned c.args.self.now c.stepping.self). false≢true
+    (c.stepping-test.ensures.1 (back.at_zero, back.same_stack)) in
+    let stopped = stopped_at c.args.self.now c.stepping.self c.args.address c.args.a c.stepping.steps c.in-Err.stop
+    i.runs i.out here c.in-Err.ensures.stopped in
+    absurd (no_stop c.args.self.now c.args.address c.args.a steps c.stepping.steps c.in-Err.stop after c.stepping.self
+    called stopped)
 
 pub returns-in-Err-clause-fails : goal.returns-in-Err-clause-fails
 returns-in-Err-clause-fails c = λ reason after fails.
     let i = c.stepping.invariant in
-    let here = λ (back : HasReturned c.args.self.now c.stepping.self). false≢true (c.stepping-test.ensures.1 (back.at_zero, back.same_stack)) in
-    let stopped = stopped_at c.args.self.now c.stepping.self c.args.address c.args.a c.stepping.steps c.in-Err.stop i.runs i.out here c.in-Err.ensures.stopped in
-    let lt : c.stepping.steps < c.args.budget = omega (arith, below c.stepping.steps c.args.budget i.within c.if-steps-budget.false) in
-    ap Err (stopped_fails c.args.self.now c.args.address c.args.a c.args.budget c.stepping.steps c.in-Err.stop c.stepping.self after reason stopped lt fails)
+    let here = λ (back : HasReturned c.args.self.now c.stepping.self). false≢true
+    (c.stepping-test.ensures.1 (back.at_zero, back.same_stack)) in
+    let stopped = stopped_at c.args.self.now c.stepping.self c.args.address c.args.a c.stepping.steps c.in-Err.stop
+    i.runs i.out here c.in-Err.ensures.stopped in
+    let lt : c.stepping.steps < c.args.budget =
+    omega (arith, below c.stepping.steps c.args.budget i.within c.if-steps-budget.false) in
+    ap Err (stopped_fails c.args.self.now c.args.address c.args.a c.args.budget c.stepping.steps c.in-Err.stop
+    c.stepping.self after reason stopped lt fails)
 
 pub returns-in-Err-clause-log_failed : goal.returns-in-Err-clause-log_failed
 returns-in-Err-clause-log_failed c =
     let i = c.stepping.invariant in
-    let lt : c.stepping.steps < c.args.budget = omega (arith, below c.stepping.steps c.args.budget i.within c.if-steps-budget.false) in
+    let lt : c.stepping.steps < c.args.budget =
+    omega (arith, below c.stepping.steps c.args.budget i.within c.if-steps-budget.false) in
     c.step_noted.ensures.noted _ i.logged
-    ∙ log_stopped c.stepping.steps c.args.budget (entered c.args.self.now c.args.address c.args.a) c.stepping.self c.in-Err.stop i.runs c.in-Err.ensures.stopped lt
+    ∙ log_stopped c.stepping.steps c.args.budget (entered c.args.self.now c.args.address c.args.a) c.stepping.self
+    c.in-Err.stop i.runs c.in-Err.ensures.stopped lt
 
 pub stepping-preserved : goal.stepping-preserved
 stepping-preserved c =
     let i = c.stepping.invariant in
-    let here = λ (back : HasReturned c.args.self.now c.stepping.self). false≢true (c.stepping-test.ensures.1 (back.at_zero, back.same_stack)) in
+    let here = λ (back : HasReturned c.args.self.now c.stepping.self). false≢true
+    (c.stepping-test.ensures.1 (back.at_zero, back.same_stack)) in
     record {
       home = refl;
       within = below c.stepping.steps c.args.budget i.within c.if-steps-budget.false;
-      runs = run-suc c.stepping.steps (entered c.args.self.now c.args.address c.args.a) c.stepping.self i.runs ∙ c.in_default.ensures.done;
+      runs = run-suc c.stepping.steps (entered c.args.self.now c.args.address c.args.a) c.stepping.self i.runs
+          ∙ c.in_default.ensures.done;
       out = out_longer c.args.self.now c.args.address c.args.a c.stepping.steps c.stepping.self i.out i.runs here;
-      logged = c.step_noted.ensures.noted _ i.logged ∙ log-suc c.stepping.steps (entered c.args.self.now c.args.address c.args.a) c.stepping.self i.runs;
+      logged = c.step_noted.ensures.noted _ i.logged
+          ∙ log-suc c.stepping.steps (entered c.args.self.now c.args.address c.args.a) c.stepping.self i.runs;
     }
 
 pub returns-clause-fails : goal.returns-clause-fails
@@ -77,4 +99,5 @@ returns-clause-fails c = λ reason after fails.
     let back = c.stepping-test.ensures.0 refl in
     let called : Called c.args.self.now c.args.address c.args.a c.stepping.steps c.stepping.self =
     record { runs = i.runs; returned = record { at_zero = back.0; same_stack = back.1 }; first = i.out } in
-    returned_fails c.args.self.now c.args.address c.args.a c.stepping.steps c.args.budget c.stepping.self after reason (Ok c.stepping.steps) called i.within fails
+    returned_fails c.args.self.now c.args.address c.args.a c.stepping.steps c.args.budget c.stepping.self after reason
+    (Ok c.stepping.steps) called i.within fails
