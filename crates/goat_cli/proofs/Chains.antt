@@ -1,162 +1,173 @@
--- From what the stages of each command answer to how its run is over.
-use Rattle.std.proofs.Common.{◌≡◌, ℕ, ◌-◌, List, [], ◌∷◌, ◌++◌, Bool, None, refl, sym, ◌∙◌, subst}
+-- How a run goes through the stages of its job: each one is met, or ends it; and how the commands end after the last.
+use Rattle.std.proofs.Common.{◌≡◌, ℕ, ◌+◌, ◌-◌, ◌≤◌, List, [], ◌∷◌, ◌++◌, Some, None, Ok, true, length, refl, sym, ap, ◌∙◌, subst}
+use Rattle.std.proofs.lemmas.List.{append-nil, append_assoc}
+use Rattle.goat_io.specs.Files.{Files, IsWrittenInPart}
 use Rattle.song_model.specs.declared.songs.Song.{Song}
-use Rattle.song_model.specs.Silent.{IsSilent}
-use Rattle.song_model.specs.Canonical.{canonical}
 use Rattle.gts5.specs.Spells.{Spells}
 use Rattle.psid.specs.declared.header.Psid.{Psid}
 use Rattle.psid.specs.Reading.{psid_read}
 use Rattle.sid_run.specs.State.{loaded}
-use Rattle.std.proofs.Common.{Ok}
-use Rattle.goat_cli.specs.Words.{Pack, Copy, Run, WordsOf}
-use Rattle.goat_cli.specs.Calls.{HasSubtune}
-use Rattle.goat_cli.specs.Packed.{IsPackedFile}
+use Rattle.goat_cli.specs.Words.{Job, Run, WordsOf}
+use Rattle.cpu6502.specs.declared.machine.Machine.{Machine}
+use Rattle.goat_cli.specs.Calls.{FirstCalls}
 use Rattle.goat_cli.specs.RegisterText.{register_lines}
-use Rattle.goat_cli.specs.Lines.{stop_line}
+use Rattle.goat_cli.specs.Lines.{stop_line, wrote_line}
 use Rattle.goat_cli.specs.Last.{Last}
-use Rattle.goat_cli.specs.Stages.{Stage, IsThere, Fits, SpellsSong, CanBePacked, IsPsid, OffersSubtune, CallsReturn, HoldsSong, HoldsPsid, AllPass, input_limit}
+use Rattle.goat_cli.specs.Stages.{Stage, IsThere, Fits, CallsReturn, HoldsSong, HoldsPsid, stages, status_of, Passes, AllPass, FirstEnds}
+use Rattle.goat_cli.specs.Done.{Done}
 use Rattle.goat_cli.specs.Outcome as outcome
+use Rattle.goat_cli.specs.Outcome.{told_after}
 use Rattle.goat_cli.specs.Stands as stands
-use Rattle.goat_cli.specs.Stands.{FolderState, SinkState, FolderStays}
+use Rattle.goat_cli.specs.Stands.{FolderState, SinkState, AreFiles, FolderStays, IsPrinting}
 use Rattle.goat_cli.specs.Endings as ends
-use Rattle.goat_cli.specs.Endings.{Refuses, WasRead, ReadFails, WriteEnds, CallsEnd, RunEnds}
-use Rattle.goat_cli.proofs.Told.{as_before, uncounted}
-use Rattle.goat_cli.proofs.Passes.{there_passes, fits_passes, song_passes, silent_passes, psid_passes, subtune_passes, calls_pass}
-use Rattle.goat_cli.proofs.Ends.{first_ends, refused_ends, read_ends, write_ends}
+use Rattle.goat_cli.specs.Endings.{Refuses, WasRead, WriteEnds, CallsEnd, RunEnds}
+use Rattle.goat_cli.proofs.Told.{as_before, is_uncounted, uncounted, counted_on, stays_on, appends_nothing}
+use Rattle.goat_cli.proofs.Passes.{there_passes, fits_passes, calls_pass}
+use Rattle.goat_cli.proofs.Ends.{first_ends, says_ends, wants_first}
 
--- ---- a file that was read
+-- the run of a job has come to these stages, and met those before them; the folder is as before
+pub record At (words : List (List ℕ)) (job : Job) (files : Files) (folder after : FolderState) (rest : List Stage) : Type 0 where
+  pub form : WordsOf words job
+  pub are_files : AreFiles folder.told files
+  pub stays : FolderStays folder after
+  pub met : List Stage
+  pub stages_are : stages job ≡ met ++ rest
+  pub pass : AllPass files met
 
-module _ (input bytes : List ℕ) (f f1 : FolderState) (was : WasRead input input_limit f f1 bytes) where
-  abbrev before_bytes : List Stage
-  before_bytes = IsThere input ∷ Fits input input_limit ∷ []
+pub pass_more : (files : Files) (list : List Stage) (stage : Stage) → AllPass files list → Passes files stage → AllPass files (list ++ stage ∷ [])
+pass_more files [] stage pass last = (last, tt)
+pass_more files (first ∷ rest) stage pass last = (pass.0, pass_more files rest stage pass.1 last)
 
-  pub bytes_pass : AllPass was.files before_bytes
-  bytes_pass = (there_passes was.files input bytes was.found, (fits_passes was.files input bytes input_limit was.found was.fits, tt))
+module _ (words : List (List ℕ)) (job : Job) (folder after : FolderState) where
+  -- the file that a job begins with was read
+  pub begun : (name bytes : List ℕ) (limit : ℕ) (rest : List Stage) → WordsOf words job → stages job ≡ IsThere name ∷ Fits name limit ∷ rest → (was : WasRead name limit folder after bytes) → At words job was.files folder after rest
+  begun name bytes limit rest form are was = record {
+    form = form;
+    are_files = was.are_files;
+    stays = was.stays;
+    met = IsThere name ∷ Fits name limit ∷ [];
+    stages_are = are;
+    pass = (there_passes was.files name bytes was.found, (fits_passes was.files name bytes limit was.found was.fits, tt));
+  }
 
-  pub song_holds : (song : Song) → Spells bytes song → HoldsSong was.files input song
-  song_holds song spells = record { bytes = bytes; found = was.found; spells = spells }
+  -- the next stage is met
+  pub met_next : (files : Files) (stage : Stage) (rest : List Stage) → At words job files folder after (stage ∷ rest) → Passes files stage → At words job files folder after rest
+  met_next files stage rest at passes = record {
+    form = at.form;
+    are_files = at.are_files;
+    stays = at.stays;
+    met = at.met ++ stage ∷ [];
+    stages_are = at.stages_are ∙ sym (append_assoc at.met (stage ∷ []) rest);
+    pass = pass_more files at.met stage at.pass passes;
+  }
 
-  pub psid_holds : (psid : Psid) → psid_read bytes ≡ Ok psid → HoldsPsid was.files input psid
-  psid_holds psid reads = record { bytes = bytes; found = was.found; reads = reads }
+  -- or it refuses
+  pub refused : (files : Files) (stage : Stage) (rest : List Stage) (sink : SinkState) (last : Last) → At words job files folder after (stage ∷ rest) → is_uncounted (status_of stage) ≡ true → Refuses files stage last → RunEnds words last folder after sink sink
+  refused files stage rest sink last at free (ends.ends line is says) =
+      subst (λ l. RunEnds words l folder after sink sink) (sym says)
+      (says_ends words job at.form folder after sink files at.met rest stage line at.are_files at.stages_are at.pass is at.stays.told (uncounted (status_of stage) folder.counts after.counts free at.stays.counts))
+  refused files stage rest sink last at free (ends.wanting wants) =
+      subst (λ l. RunEnds words l folder after sink sink) (sym wants) (wants_first words folder after sink at.stays)
 
--- ---- `copy`
+  -- all stages are met
+  pub all_met : (files : Files) → At words job files folder after [] → AllPass files (stages job)
+  all_met files at = subst (AllPass files) (sym (at.stages_are ∙ append-nil at.met)) at.pass
 
-module _ (words : List (List ℕ)) (input output : List ℕ) (form : WordsOf words (Copy input output)) (f f1 : FolderState) (sink : SinkState) where
-  pub copy_unread : (last : Last) → ReadFails input input_limit f f1 last → RunEnds words last f f1 sink sink
-  copy_unread last fails = read_ends words (Copy input output) form f f1 sink input input_limit (SpellsSong input ∷ []) last refl fails
+-- the file of a job was written, or not
+pub written : (words : List (List ℕ)) (job : Job) (folder between after : FolderState) (sink : SinkState) (output file : List ℕ) (last : Last) (files : Files) → At words job files folder between [] →
+    Done job files (wrote_line (length file) ∷ []) (Some (output, file)) → WriteEnds output file between after last → RunEnds words last folder after sink sink
+written words job folder between after sink output file last files at did (ends.wrote says told counted) =
+    subst (λ l. RunEnds words l folder after sink sink) (sym says) (record {
+      files = files;
+      are_files = at.are_files;
+      is_over = record {
+        earlier = [];
+        account = stands.outcome (Some (output, file)) (outcome.done job at.form (all_met words job folder between files at) did refl) (told ∙ ap (λ t. told_after t (Some (output, file))) at.stays.told);
+        counted = counted_on 0 folder.counts between.counts after.counts at.stays.counts counted;
+        appends = appends_nothing sink;
+      };
+    })
+written words job folder between after sink output file last files at did (ends.failed says part counted) =
+    subst (λ l. RunEnds words l folder after sink sink) (sym says) (record {
+      files = files;
+      are_files = at.are_files;
+      is_over = record {
+        earlier = [];
+        account = stands.write_fault (wrote_line (length file) ∷ []) output file (outcome.done job at.form (all_met words job folder between files at) did refl) refl refl
+            (subst (λ t. IsWrittenInPart t after.told output file) at.stays.told part);
+        counted = counted_on 9 folder.counts between.counts after.counts at.stays.counts counted;
+        appends = appends_nothing sink;
+      };
+    })
+written words job folder between after sink output file last files at did (ends.wanting wants more) =
+    subst (λ l. RunEnds words l folder after sink sink) (sym wants) (wants_first words folder after sink (stays_on folder between after at.stays more))
 
-  module _ (bytes : List ℕ) (was : WasRead input input_limit f f1 bytes) where
-    pub copy_no_song : (last : Last) → Refuses was.files (SpellsSong input) last → RunEnds words last f f1 sink sink
-    copy_no_song last refuses =
-        refused_ends words (Copy input output) form f f1 sink was.files (IsThere input ∷ Fits input input_limit ∷ []) [] (SpellsSong input) last was.are_files refl (bytes_pass input bytes f f1 was) was.stays refl refuses
+-- ---- the files that a run has read
 
-    pub copy_writes : (song : Song) (file : List ℕ) (f2 : FolderState) (last : Last) → Spells bytes song → file ≡ canonical song → WriteEnds output file f1 f2 last → RunEnds words last f f2 sink sink
-    copy_writes song file f2 last spells is writes =
-        let holds = song_holds input bytes f f1 was song spells in
-        let pass = bytes_pass input bytes f f1 was in
-        write_ends words (Copy input output) form f f2 sink was.files f1 output (canonical song) last was.are_files (pass.0, (pass.1.0, (song_passes was.files input song holds, tt)))
-        (song, holds, record { lines_are = refl; write_is = refl }) was.stays (subst (λ b. WriteEnds output b f1 f2 last) is writes)
+module _ (name bytes : List ℕ) (limit : ℕ) (folder after : FolderState) (was : WasRead name limit folder after bytes) where
+  pub song_held : (song : Song) → Spells bytes song → HoldsSong was.files name song
+  song_held song spells = record { bytes = bytes; found = was.found; spells = spells }
 
--- ---- `pack`
+  pub psid_held : (psid : Psid) → psid_read bytes ≡ Ok psid → HoldsPsid was.files name psid
+  psid_held psid reads = record { bytes = bytes; found = was.found; reads = reads }
 
-module _ (words : List (List ℕ)) (input output : List ℕ) (psid : Bool) (address zero_page : ℕ) (form : WordsOf words (Pack input output psid address zero_page)) (f f1 : FolderState) (sink : SinkState) where
-  pub pack_unread : (last : Last) → ReadFails input input_limit f f1 last → RunEnds words last f f1 sink sink
-  pack_unread last fails = read_ends words (Pack input output psid address zero_page) form f f1 sink input input_limit (SpellsSong input ∷ CanBePacked input ∷ []) last refl fails
+-- ---- the calls of `run`
 
-  module _ (bytes : List ℕ) (was : WasRead input input_limit f f1 bytes) where
-    pub pack_no_song : (last : Last) → Refuses was.files (SpellsSong input) last → RunEnds words last f f1 sink sink
-    pack_no_song last refuses =
-        refused_ends words (Pack input output psid address zero_page) form f f1 sink was.files (IsThere input ∷ Fits input input_limit ∷ []) (CanBePacked input ∷ []) (SpellsSong input) last
-        was.are_files refl (bytes_pass input bytes f f1 was) was.stays refl refuses
+module _ (words : List (List ℕ)) (input : List ℕ) (subtune frames : ℕ) (files : Files) (folder after : FolderState) (at : At words (Run input subtune frames) files folder after (CallsReturn input subtune frames ∷ [])) (psid : Psid) (holds : HoldsPsid files input psid)
+    (s t : SinkState) where
+  -- the first calls, which have returned
+  printing : (calls : ℕ) (registers : List (List ℕ)) (machine : Machine) → calls ≤ frames + 1 → FirstCalls (loaded psid) (subtune - 1) calls registers machine → (lines : List (List ℕ)) → lines ≡ register_lines registers → IsPrinting words files lines
+  printing calls registers machine within first lines are = record {
+    stage = CallsReturn input subtune frames;
+    comes = record { job = Run input subtune frames; form = at.form; earlier = at.met; later = []; stages_are = at.stages_are; pass = at.pass };
+    prints = (psid, holds, calls, within, record { registers = registers; after = machine; returned = first; lines_are = are });
+  }
 
-    module _ (song : Song) (spells : Spells bytes song) where
-      song_pass : AllPass was.files (IsThere input ∷ Fits input input_limit ∷ SpellsSong input ∷ [])
-      song_pass = let pass = bytes_pass input bytes f f1 was in (pass.0, (pass.1.0, (song_passes was.files input song (song_holds input bytes f f1 was song spells), tt)))
-
-      pub pack_not_built : (last : Last) → Refuses was.files (CanBePacked input) last → RunEnds words last f f1 sink sink
-      pack_not_built last refuses =
-          refused_ends words (Pack input output psid address zero_page) form f f1 sink was.files (IsThere input ∷ Fits input input_limit ∷ SpellsSong input ∷ []) [] (CanBePacked input) last
-          was.are_files refl song_pass was.stays refl refuses
-
-      pub pack_writes : (file : List ℕ) (f2 : FolderState) (last : Last) → IsSilent song → IsPackedFile psid address zero_page song file → WriteEnds output file f1 f2 last → RunEnds words last f f2 sink sink
-      pack_writes file f2 last silent packed writes =
-          let holds = song_holds input bytes f f1 was song spells in
-          write_ends words (Pack input output psid address zero_page) form f f2 sink was.files f1 output file last was.are_files
-          (song_pass.0, (song_pass.1.0, (song_pass.1.1.0, (silent_passes was.files input song holds silent, tt))))
-          (song, file, holds, packed, record { lines_are = refl; write_is = refl }) was.stays writes
-
--- ---- `run`
-
-module _ (words : List (List ℕ)) (input : List ℕ) (subtune frames : ℕ) (form : WordsOf words (Run input subtune frames)) (f f1 : FolderState) where
-  pub run_unread : (sink : SinkState) (last : Last) → ReadFails input input_limit f f1 last → RunEnds words last f f1 sink sink
-  run_unread sink last fails =
-      read_ends words (Run input subtune frames) form f f1 sink input input_limit (IsPsid input ∷ OffersSubtune input subtune ∷ CallsReturn input subtune frames ∷ []) last refl fails
-
-  module _ (bytes : List ℕ) (was : WasRead input input_limit f f1 bytes) where
-    pub run_no_psid : (sink : SinkState) (last : Last) → Refuses was.files (IsPsid input) last → RunEnds words last f f1 sink sink
-    run_no_psid sink last refuses =
-        refused_ends words (Run input subtune frames) form f f1 sink was.files (IsThere input ∷ Fits input input_limit ∷ []) (OffersSubtune input subtune ∷ CallsReturn input subtune frames ∷ []) (IsPsid input) last
-        was.are_files refl (bytes_pass input bytes f f1 was) was.stays refl refuses
-
-    module _ (psid : Psid) (reads : psid_read bytes ≡ Ok psid) where
-      holds : HoldsPsid was.files input psid
-      holds = psid_holds input bytes f f1 was psid reads
-
-      psid_pass : AllPass was.files (IsThere input ∷ Fits input input_limit ∷ IsPsid input ∷ [])
-      psid_pass = let pass = bytes_pass input bytes f f1 was in (pass.0, (pass.1.0, (psid_passes was.files input psid holds, tt)))
-
-      pub run_no_subtune : (sink : SinkState) (last : Last) → Refuses was.files (OffersSubtune input subtune) last → RunEnds words last f f1 sink sink
-      run_no_subtune sink last refuses =
-          refused_ends words (Run input subtune frames) form f f1 sink was.files (IsThere input ∷ Fits input input_limit ∷ IsPsid input ∷ []) (CallsReturn input subtune frames ∷ []) (OffersSubtune input subtune) last
-          was.are_files refl psid_pass was.stays refl refuses
-
-      module _ (has : HasSubtune psid subtune) (s t : SinkState) where
-        subtune_pass : AllPass was.files (IsThere input ∷ Fits input input_limit ∷ IsPsid input ∷ OffersSubtune input subtune ∷ [])
-        subtune_pass = (psid_pass.0, (psid_pass.1.0, (psid_pass.1.1.0, (subtune_passes was.files input psid subtune holds has, tt))))
-
-        pub run_calls : (last : Last) → CallsEnd (loaded psid) (subtune - 1) frames last s t → RunEnds words last f f1 s t
-        run_calls last (ends.played registers machine first is shown) = subst (λ l. RunEnds words l f f1 s t) (sym is) (record {
-          files = was.files;
-          are_files = was.are_files;
-          is_over = record {
-            lines = register_lines registers;
-            account = stands.outcome None
-                (outcome.done (Run input subtune frames) form
-                (subtune_pass.0, (subtune_pass.1.0, (subtune_pass.1.1.0, (subtune_pass.1.1.1.0, (calls_pass was.files input psid subtune frames registers machine holds first, tt)))))
-                (psid, holds, record { registers = registers; after = machine; returned = first; lines_are = refl }, refl) refl)
-                (was.stays.told ∙ as_before f.told);
-            counted = was.stays.counts;
-            appends = shown;
-          };
-        })
-        run_calls last (ends.stopped call registers reason within meets is shown) = subst (λ l. RunEnds words l f f1 s t) (sym is) (record {
-          files = was.files;
-          are_files = was.are_files;
-          is_over = record {
-            earlier = register_lines registers;
-            account = stands.outcome None
-                (outcome.ended (Run input subtune frames) form
-                (first_ends was.files (IsThere input ∷ Fits input input_limit ∷ IsPsid input ∷ OffersSubtune input subtune ∷ []) [] (CallsReturn input subtune frames) (register_lines registers ++ stop_line reason call ∷ []) subtune_pass
-                (psid, holds, record { call = call; within = within; registers = registers; reason = reason; meets = meets }, refl)) refl)
-                (was.stays.told ∙ as_before f.told);
-            counted = uncounted 13 f.counts f1.counts refl was.stays.counts;
-            appends = shown;
-          };
-        })
-        run_calls last (ends.failed calls kept earlier line registers machine within first lines_are is fails) = subst (λ l. RunEnds words l f f1 s t) (sym is) (record {
-          files = was.files;
-          are_files = was.are_files;
-          is_over = record {
-            earlier = earlier;
-            later = [];
-            line = line;
-            kept = kept;
-            printing = stands.of_job (Run input subtune frames) form (psid, holds, has, calls, within, record { registers = registers; after = machine; returned = first; lines_are = sym lines_are }) was.stays;
-            fails = fails;
-          };
-        })
-        run_calls last (ends.wanting calls earlier line registers machine within first lines_are is appends) = subst (λ l. RunEnds words l f f1 s t) (sym is) (record {
-          files = was.files;
-          are_files = was.are_files;
-          is_over = ends.for_line earlier [] line (stands.of_job (Run input subtune frames) form (psid, holds, has, calls, within, record { registers = registers; after = machine; returned = first; lines_are = sym lines_are }) was.stays) appends;
-        })
+  pub calls_over : (last : Last) → CallsEnd (loaded psid) (subtune - 1) frames last s t → RunEnds words last folder after s t
+  calls_over last (ends.played registers machine first is shown) =
+      let done = met_next words (Run input subtune frames) folder after files (CallsReturn input subtune frames) [] at (calls_pass files input psid subtune frames registers machine holds first) in
+      subst (λ l. RunEnds words l folder after s t) (sym is) (record {
+        files = files;
+        are_files = at.are_files;
+        is_over = record {
+          lines = register_lines registers;
+          account = stands.outcome None
+              (outcome.done (Run input subtune frames) at.form (all_met words (Run input subtune frames) folder after files done) (psid, holds, record { registers = registers; after = machine; returned = first; lines_are = refl }, refl) refl)
+              (at.stays.told ∙ as_before folder.told);
+          counted = at.stays.counts;
+          appends = shown;
+        };
+      })
+  calls_over last (ends.stopped call registers reason within meets is shown) = subst (λ l. RunEnds words l folder after s t) (sym is) (record {
+    files = files;
+    are_files = at.are_files;
+    is_over = record {
+      earlier = register_lines registers;
+      account = stands.outcome None
+          (outcome.ended (Run input subtune frames) at.form
+          (subst (λ list. FirstEnds files list 13 (register_lines registers ++ stop_line reason call ∷ [])) (sym at.stages_are)
+          (first_ends files at.met [] (CallsReturn input subtune frames) (register_lines registers ++ stop_line reason call ∷ []) at.pass
+          (psid, holds, record { call = call; within = within; registers = registers; reason = reason; meets = meets }, refl))) refl)
+          (at.stays.told ∙ as_before folder.told);
+      counted = uncounted 13 folder.counts after.counts refl at.stays.counts;
+      appends = shown;
+    };
+  })
+  calls_over last (ends.failed calls kept earlier line registers machine within first lines_are is fails) = subst (λ l. RunEnds words l folder after s t) (sym is) (record {
+    files = files;
+    are_files = at.are_files;
+    is_over = record {
+      earlier = earlier;
+      later = [];
+      line = line;
+      kept = kept;
+      printing = printing calls registers machine within first _ (sym lines_are);
+      stays = at.stays;
+      fails = fails;
+    };
+  })
+  calls_over last (ends.wanting calls earlier line registers machine within first lines_are is appends) = subst (λ l. RunEnds words l folder after s t) (sym is) (record {
+    files = files;
+    are_files = at.are_files;
+    is_over = ends.for_line earlier [] line (printing calls registers machine within first _ (sym lines_are)) at.stays appends;
+  })

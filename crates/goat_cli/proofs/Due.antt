@@ -14,7 +14,7 @@ use Rattle.goat_cli.specs.Words.{Job, Pack, Copy, Run, WordsOf, IsNoForm, output
 use Rattle.goat_cli.specs.Calls.{HasSubtune, FirstCalls, MeetsStopAt, StopsIn}
 use Rattle.goat_cli.specs.RegisterText.{register_lines}
 use Rattle.goat_cli.specs.Lines.{song_fault_line, psid_fault_line, no_subtune_line, stop_line}
-use Rattle.goat_cli.specs.Stages.{Stage, IsThere, Fits, SpellsSong, CanBePacked, IsPsid, OffersSubtune, CallsReturn, HoldsSong, HoldsPsid, stages, status_of, Ends, Passes, AllPass, FirstEnds}
+use Rattle.goat_cli.specs.Stages.{Stage, IsThere, Fits, SpellsSong, CanBePacked, IsPsid, OffersSubtune, CallsReturn, HoldsSong, HoldsPsid, stages, status_of, Ends, AllPass, FirstEnds}
 use Rattle.goat_cli.specs.Done.{Done}
 use Rattle.goat_cli.specs.Outcome as outcome
 use Rattle.goat_cli.specs.Outcome.{Outcome}
@@ -25,6 +25,7 @@ use Rattle.goat_cli.proofs.Forms.{one_job}
 use Rattle.goat_cli.proofs.Calls.{one_list, one_stop_at, one_reason}
 use Rattle.goat_cli.proofs.Passes.{one_file, one_psid_held}
 use Rattle.goat_cli.proofs.Ends.{first_ends}
+use Rattle.goat_cli.proofs.Chains.{pass_more}
 
 -- ---- the first stage that isn't met
 
@@ -169,10 +170,6 @@ module _ (words : List (List ℕ)) (files : Files) where
     is : Ends files stage lines
     status_is : status ≡ status_of stage
 
-  pass_more : (list : List Stage) (stage : Stage) → AllPass files list → Passes files stage → AllPass files (list ++ stage ∷ [])
-  pass_more [] stage pass last = (last, tt)
-  pass_more (first ∷ rest) stage pass last = (pass.0, pass_more rest stage pass.1 last)
-
   found_stage : (job : Job) → WordsOf words job → (list passed : List Stage) → stages job ≡ passed ++ list → AllPass files passed → (status : ℕ) (lines : List (List ℕ)) → FirstEnds files list status lines → EndsAt status
   found_stage job form [] passed are pass status lines never = absurd never
   found_stage job form (stage ∷ rest) passed are pass status lines (inl here) = record {
@@ -183,7 +180,7 @@ module _ (words : List (List ℕ)) (files : Files) where
     status_is = here.0;
   }
   found_stage job form (stage ∷ rest) passed are pass status lines (inr later) =
-      found_stage job form rest (passed ++ stage ∷ []) (are ∙ sym (append_assoc passed (stage ∷ []) rest)) (pass_more passed stage pass later.0) status lines later.1
+      found_stage job form rest (passed ++ stage ∷ []) (are ∙ sym (append_assoc passed (stage ∷ []) rest)) (pass_more files passed stage pass later.0) status lines later.1
 
   ends_at : (status : ℕ) → IsDue words files status None → status ≢ 0 → status ≢ 1 → EndsAt status
   ends_at status (due.usage none is x) zero one = absurd (one is)

@@ -1,18 +1,16 @@
 -- From what a stage answers to how the run is over.
-use Rattle.std.proofs.Common.{◌≡◌, ℕ, inl, inr, List, [], ◌∷◌, ◌++◌, Some, None, true, length, refl, sym, ap, ◌∙◌, subst}
-use Rattle.goat_io.specs.Files.{Files, IsWrittenInPart}
+use Rattle.std.proofs.Common.{◌≡◌, ℕ, inl, inr, List, [], ◌∷◌, ◌++◌, None, refl, sym, ◌∙◌, subst}
+use Rattle.goat_io.specs.Files.{Files}
 use Rattle.goat_cli.specs.Words.{Job, WordsOf, IsNoForm}
-use Rattle.goat_cli.specs.Lines.{usage_line, missing_line, too_long_line, wrote_line}
+use Rattle.goat_cli.specs.Lines.{usage_line, missing_line, too_long_line}
 use Rattle.goat_cli.specs.Last.{Last, Says, Wants}
 use Rattle.goat_cli.specs.Stages.{Stage, IsThere, Fits, stages, status_of, Ends, AllPass, FirstEnds}
-use Rattle.goat_cli.specs.Done.{Done}
 use Rattle.goat_cli.specs.Outcome as outcome
-use Rattle.goat_cli.specs.Outcome.{Outcome, told_after}
 use Rattle.goat_cli.specs.Stands as stands
 use Rattle.goat_cli.specs.Stands.{FolderState, SinkState, AreFiles, Counted, FolderStays, ComesTo}
 use Rattle.goat_cli.specs.Endings as ends
-use Rattle.goat_cli.specs.Endings.{Refuses, ReadFails, WriteEnds, RunEnds}
-use Rattle.goat_cli.proofs.Told.{some_files, as_before, is_uncounted, uncounted, counted_on, stays_itself, stays_on, appends_nothing}
+use Rattle.goat_cli.specs.Endings.{ReadFails, RunEnds}
+use Rattle.goat_cli.proofs.Told.{some_files, as_before, uncounted, stays_itself, appends_nothing}
 use Rattle.goat_cli.proofs.Passes.{there_passes}
 
 -- the stage is the first that isn't met
@@ -43,7 +41,7 @@ usage_ends words folder sink none = let some = some_files folder.told in record 
 
 module _ (words : List (List ℕ)) (job : Job) (form : WordsOf words job) (folder after : FolderState) (sink : SinkState) where
   -- a stage ends the run with one line
-  says_ends : (files : Files) (earlier later : List Stage) (stage : Stage) (line : List ℕ) → AreFiles folder.told files → stages job ≡ earlier ++ stage ∷ later → AllPass files earlier → Ends files stage (line ∷ []) →
+  pub says_ends : (files : Files) (earlier later : List Stage) (stage : Stage) (line : List ℕ) → AreFiles folder.told files → stages job ≡ earlier ++ stage ∷ later → AllPass files earlier → Ends files stage (line ∷ []) →
       after.told ≡ folder.told → Counted (status_of stage) folder.counts after.counts → RunEnds words (Says (status_of stage) line) folder after sink sink
   says_ends files earlier later stage line are in_stages pass is same counted = record {
     files = files;
@@ -55,15 +53,6 @@ module _ (words : List (List ℕ)) (job : Job) (form : WordsOf words job) (folde
       appends = appends_nothing sink;
     };
   }
-
-  -- a stage after the reading of a file refuses it
-  pub refused_ends : (files : Files) (earlier later : List Stage) (stage : Stage) (last : Last) → AreFiles folder.told files → stages job ≡ earlier ++ stage ∷ later → AllPass files earlier → FolderStays folder after →
-      is_uncounted (status_of stage) ≡ true → Refuses files stage last → RunEnds words last folder after sink sink
-  refused_ends files earlier later stage last are in_stages pass stays free (ends.ends line is says) =
-      subst (λ l. RunEnds words l folder after sink sink) (sym says)
-      (says_ends files earlier later stage line are in_stages pass is stays.told (uncounted (status_of stage) folder.counts after.counts free stays.counts))
-  refused_ends files earlier later stage last are in_stages pass stays free (ends.wanting wants) =
-      subst (λ l. RunEnds words l folder after sink sink) (sym wants) (wants_first words folder after sink stays)
 
   -- the file that a job begins with was not read
   pub read_ends : (name : List ℕ) (limit : ℕ) (later : List Stage) (last : Last) → stages job ≡ IsThere name ∷ Fits name limit ∷ later → ReadFails name limit folder after last → RunEnds words last folder after sink sink
@@ -83,31 +72,3 @@ module _ (words : List (List ℕ)) (job : Job) (form : WordsOf words job) (folde
       })
   read_ends name limit later last in_stages (ends.wanting wants stays) =
       subst (λ l. RunEnds words l folder after sink sink) (sym wants) (wants_first words folder after sink stays)
-
-  -- the file of a job was written, or not
-  pub write_ends : (files : Files) (between : FolderState) (output file : List ℕ) (last : Last) → AreFiles folder.told files → AllPass files (stages job) → Done job files (wrote_line (length file) ∷ []) (Some (output, file)) →
-      FolderStays folder between → WriteEnds output file between after last → RunEnds words last folder after sink sink
-  write_ends files between output file last are pass did stays (ends.wrote says told counted) =
-      subst (λ l. RunEnds words l folder after sink sink) (sym says) (record {
-        files = files;
-        are_files = are;
-        is_over = record {
-          earlier = [];
-          account = stands.outcome (Some (output, file)) (outcome.done job form pass did refl) (told ∙ ap (λ t. told_after t (Some (output, file))) stays.told);
-          counted = counted_on 0 folder.counts between.counts after.counts stays.counts counted;
-          appends = appends_nothing sink;
-        };
-      })
-  write_ends files between output file last are pass did stays (ends.failed says part counted) =
-      subst (λ l. RunEnds words l folder after sink sink) (sym says) (record {
-        files = files;
-        are_files = are;
-        is_over = record {
-          earlier = [];
-          account = stands.write_fault (wrote_line (length file) ∷ []) output file (outcome.done job form pass did refl) refl refl (subst (λ t. IsWrittenInPart t after.told output file) stays.told part);
-          counted = counted_on 9 folder.counts between.counts after.counts stays.counts counted;
-          appends = appends_nothing sink;
-        };
-      })
-  write_ends files between output file last are pass did stays (ends.wanting wants more) =
-      subst (λ l. RunEnds words l folder after sink sink) (sym wants) (wants_first words folder after sink (stays_on folder between after stays more))

@@ -32,9 +32,9 @@ module _ (words : List (List ℕ)) (files : Files) (answer : ℕ) (folder after 
       (subst (λ n. Counted n folder.counts after.counts) (sym prints.answer_is) over.counted)
       (subst (λ sink. Appends (concat over.lines) s sink) (sym prints.same) over.appends)
   stands_then SinkFailed over prints =
-      stands.cut_in_line over.earlier over.later over.line over.kept over.printing prints.answer_is
+      stands.cut_in_line over.earlier over.later over.line over.kept (stands.of_stage over.printing over.stays) prints.answer_is
       (subst (λ sink. stands.FailsAfter (concat over.earlier ++ take over.kept over.line) s sink) (sym prints.same) over.fails)
-  stands_then Wants (ends.for_line earlier later line printing appends) tells = stands.wanting earlier later line printing (tells_then (concat earlier) answer s t u appends tells)
+  stands_then Wants (ends.for_line earlier later line printing stays appends) tells = stands.wanting earlier later line (stands.of_stage printing stays) (tells_then (concat earlier) answer s t u appends tells)
   stands_then Wants (ends.first stays appends) tells = stands.wanting_first stays (tells_then [] answer s t u appends tells)
 
 pub run_stands : (words : List (List ℕ)) (last : Last) (answer : ℕ) (folder after : FolderState) (s t u : SinkState) → RunEnds words last folder after s t → Prints last answer t u → RunStands words answer folder after s u

@@ -11,7 +11,8 @@ use Rattle.goat_io.specs.FolderCounts.{CountsRead}
 use Rattle.goat_io.specs.Files.{Files, file_of, with_file, IsAbsent, IsAbove}
 use Rattle.goat_cli.specs.Lines.{missing_line, too_long_line}
 use Rattle.goat_cli.specs.Last.{Says}
-use Rattle.goat_cli.specs.Stands.{FolderState, AreFiles, RisesWith, Counted}
+use Rattle.goat_cli.specs.Stands.{FolderState, AreFiles, Counted}
+use Rattle.goat_cli.proofs.Told.{same_count, still}
 use Rattle.goat_cli.specs.Endings as ends
 use Rattle.goat_cli.specs.Endings.{WasRead, ReadFails}
 
@@ -33,16 +34,8 @@ some_of (Some files) P other holds known = record { files = files; are_files = r
 
 -- ---- counts
 
-same_count : (own n before after : ℕ) → (n ≡ own → ⊥) → after ≡ before → RisesWith own n before after
-same_count own n before after other same = record { rose = λ is. absurd (other is); stays = λ is. same }
-
 pub read_counted : {X : Type 0} (x : X) (before after : FolderCounts) → CountsRead {X = X} (Ok x) before after → Counted 0 before after
-read_counted x before after c = record {
-  misses = same_count 2 0 before.misses after.misses (λ e. omega arith) c.misses;
-  excesses = same_count 3 0 before.excesses after.excesses (λ e. omega arith) c.excesses;
-  read_faults = same_count 4 0 before.read_faults after.read_faults (λ e. omega arith) c.read_faults;
-  write_faults = same_count 9 0 before.write_faults after.write_faults (λ e. omega arith) c.write_faults;
-}
+read_counted x before after c = still 0 before after refl c.misses c.excesses c.read_faults c.write_faults
 
 pub miss_counted : {X : Type 0} (before after : FolderCounts) → CountsRead {X = X} (Err read.Missing) before after → Counted 2 before after
 miss_counted before after c = record {

@@ -1,5 +1,5 @@
 -- What folders and sinks tell, and their counts.
-use Rattle.std.proofs.Common.{◌≡◌, ℕ, List, [], ◌++◌, Option, Some, None, Bool, true, not, ◌&&◌, ◌==◌, refl, sym, ap, ◌∙◌, subst, arith, take}
+use Rattle.std.proofs.Common.{◌≡◌, ℕ, List, [], ◌++◌, Option, Some, None, Bool, true, false, not, ◌&&◌, ◌==◌, refl, sym, ap, ◌∙◌, subst, arith, take}
 use Rattle.std.proofs.lemmas.List.{append-nil, append_assoc}
 use Rattle.std.specs.FinMap.{empty}
 use Rattle.goat_io.specs.declared.folder_counts.FolderCounts.{FolderCounts}
@@ -32,16 +32,25 @@ as_before (Some files) = refl
 abbrev pub is_uncounted : ℕ → Bool
 is_uncounted n = not (n == 2) && (not (n == 3) && (not (n == 4) && not (n == 9)))
 
-rises : (own n before after : ℕ) → (n ≡ own → ⊥) → after ≡ before → RisesWith own n before after
-rises own n before after other same = record { rose = λ is. absurd (other is); stays = λ is. same }
+unlike : (n own : ℕ) → is_uncounted n ≡ true → n ≡ own → is_uncounted own ≡ false → ⊥
+unlike n own test is other = let never : true ≡ false = sym test ∙ ap is_uncounted is ∙ other in absurd (cc (never))
+
+pub same_count : (own n before after : ℕ) → (n ≡ own → ⊥) → after ≡ before → RisesWith own n before after
+same_count own n before after other same = record { rose = λ is. absurd (other is); stays = λ is. same }
+
+-- all counts are as before, with such a status
+pub still : (n : ℕ) (before after : FolderCounts) → is_uncounted n ≡ true → after.misses ≡ before.misses → after.excesses ≡ before.excesses → after.read_faults ≡ before.read_faults → after.write_faults ≡ before.write_faults → Counted n before after
+still n before after test m e r w =
+    record {
+      misses = same_count 2 n before.misses after.misses (λ is. absurd (unlike n 2 test is refl)) m;
+      excesses = same_count 3 n before.excesses after.excesses (λ is. absurd (unlike n 3 test is refl)) e;
+      read_faults = same_count 4 n before.read_faults after.read_faults (λ is. absurd (unlike n 4 test is refl)) r;
+      write_faults = same_count 9 n before.write_faults after.write_faults (λ is. absurd (unlike n 9 test is refl)) w;
+    }
 
 pub uncounted : (n : ℕ) (before after : FolderCounts) → is_uncounted n ≡ true → Counted 0 before after → Counted n before after
-uncounted n before after test c = record {
-  misses = rises 2 n before.misses after.misses (λ e. absurd (cc (subst (λ m. is_uncounted m ≡ true) e test))) (c.misses.stays (λ e. omega arith));
-  excesses = rises 3 n before.excesses after.excesses (λ e. absurd (cc (subst (λ m. is_uncounted m ≡ true) e test))) (c.excesses.stays (λ e. omega arith));
-  read_faults = rises 4 n before.read_faults after.read_faults (λ e. absurd (cc (subst (λ m. is_uncounted m ≡ true) e test))) (c.read_faults.stays (λ e. omega arith));
-  write_faults = rises 9 n before.write_faults after.write_faults (λ e. absurd (cc (subst (λ m. is_uncounted m ≡ true) e test))) (c.write_faults.stays (λ e. omega arith));
-}
+uncounted n before after test c =
+    still n before after test (c.misses.stays (λ e. omega arith)) (c.excesses.stays (λ e. omega arith)) (c.read_faults.stays (λ e. omega arith)) (c.write_faults.stays (λ e. omega arith))
 
 rises_on : (own n before between after : ℕ) → between ≡ before → RisesWith own n between after → RisesWith own n before after
 rises_on own n before between after same r = subst (λ b. RisesWith own n b after) same r
@@ -54,16 +63,8 @@ counted_on n before between after c d = record {
   write_faults = rises_on 9 n before.write_faults between.write_faults after.write_faults (c.write_faults.stays (λ e. omega arith)) d.write_faults;
 }
 
-pub nothing_counted : (counts : FolderCounts) → Counted 0 counts counts
-nothing_counted counts = record {
-  misses = rises 2 0 counts.misses counts.misses (λ e. omega arith) refl;
-  excesses = rises 3 0 counts.excesses counts.excesses (λ e. omega arith) refl;
-  read_faults = rises 4 0 counts.read_faults counts.read_faults (λ e. omega arith) refl;
-  write_faults = rises 9 0 counts.write_faults counts.write_faults (λ e. omega arith) refl;
-}
-
 pub stays_itself : (folder : FolderState) → FolderStays folder folder
-stays_itself folder = record { told = refl; counts = nothing_counted folder.counts }
+stays_itself folder = record { told = refl; counts = still 0 folder.counts folder.counts refl refl refl refl refl }
 
 pub stays_on : (a b c : FolderState) → FolderStays a b → FolderStays b c → FolderStays a c
 stays_on a b c p q = record { told = q.told ∙ p.told; counts = counted_on 0 a.counts b.counts c.counts p.counts q.counts }

@@ -7,9 +7,9 @@ use Rattle.psid.specs.declared.header.Psid.{Psid}
 use Rattle.cpu6502.specs.declared.machine.Machine.{Machine}
 use Rattle.sid_run.specs.State.{loaded}
 use Rattle.goat_cli.specs.Words.{Job, Pack, Copy, Run}
-use Rattle.goat_cli.specs.Stages.{HoldsSong, HoldsPsid}
+use Rattle.goat_cli.specs.Stages.{Stage, CallsReturn, HoldsSong, HoldsPsid}
 use Rattle.goat_cli.specs.Packed.{IsPackedFile}
-use Rattle.goat_cli.specs.Calls.{FirstCalls, HasSubtune}
+use Rattle.goat_cli.specs.Calls.{FirstCalls}
 use Rattle.goat_cli.specs.RegisterText.{register_lines}
 use Rattle.goat_cli.specs.Lines.{wrote_line}
 
@@ -31,7 +31,7 @@ Done (Pack input output psid address zero_page) files lines write = (song : Song
 Done (Copy input output) files lines write = (song : Song) × HoldsSong files input song × Writes output (canonical song) lines write
 Done (Run input subtune frames) files lines write = (psid : Psid) × HoldsPsid files input psid × Shows psid subtune (frames + 1) lines × (write ≡ None)
 
--- lines that a job prints before it is known how its run ends: the first calls, which have returned
-abbrev pub Prints : Job → Files → List (List ℕ) → Type 0
-Prints (Run input subtune frames) files lines = (psid : Psid) × HoldsPsid files input psid × HasSubtune psid subtune × (calls : ℕ) × (calls ≤ frames + 1) × Shows psid subtune calls lines
-Prints _ files lines = ⊥
+-- lines that a stage prints before it is known whether it is met: those of the first calls, which have returned
+abbrev pub Prints : Files → Stage → List (List ℕ) → Type 0
+Prints files (CallsReturn name subtune frames) lines = (psid : Psid) × HoldsPsid files name psid × (calls : ℕ) × (calls ≤ frames + 1) × Shows psid subtune calls lines
+Prints files _ lines = ⊥

@@ -10,7 +10,7 @@ use Rattle.goat_cli.specs.RegisterText.{register_lines}
 use Rattle.goat_cli.specs.Lines.{missing_line, too_long_line, read_fault_line, write_fault_line, stop_line, wrote_line}
 use Rattle.goat_cli.specs.Last.{Last, Says, Silent, SinkFailed, Wants}
 use Rattle.goat_cli.specs.Stages.{Stage, Ends, status_of}
-use Rattle.goat_cli.specs.Stands.{FolderState, SinkState, AreFiles, Counted, FolderStays, Appends, FailsAfter, Account, Printing, TellsWant}
+use Rattle.goat_cli.specs.Stands.{FolderState, SinkState, AreFiles, Counted, FolderStays, Appends, FailsAfter, Account, IsPrinting, TellsWant}
 
 -- ---- a stage
 
@@ -76,12 +76,13 @@ pub record HasFailed (words : List (List ℕ)) (files : Files) (folder folder_af
   pub later : List (List ℕ)
   pub line : List ℕ
   pub kept : ℕ
-  pub printing : Printing words files (earlier ++ line ∷ later) folder folder_after
+  pub printing : IsPrinting words files (earlier ++ line ∷ later)
+  pub stays : FolderStays folder folder_after
   pub fails : FailsAfter (concat earlier ++ take kept line) sink sink_after
 
 -- memory was wanting, for a line or before the first one
 pub data IsWanting (words : List (List ℕ)) (files : Files) (folder folder_after : FolderState) (sink sink_after : SinkState) : Type 0 where
-  for_line : (earlier later : List (List ℕ)) (line : List ℕ) → Printing words files (earlier ++ line ∷ later) folder folder_after → Appends (concat earlier) sink sink_after → IsWanting words files folder folder_after sink sink_after
+  for_line : (earlier later : List (List ℕ)) (line : List ℕ) → IsPrinting words files (earlier ++ line ∷ later) → FolderStays folder folder_after → Appends (concat earlier) sink sink_after → IsWanting words files folder folder_after sink sink_after
   first : FolderStays folder folder_after → Appends [] sink sink_after → IsWanting words files folder folder_after sink sink_after
 
 abbrev pub IsOver : List (List ℕ) → Files → Last → FolderState → FolderState → SinkState → SinkState → Type 0

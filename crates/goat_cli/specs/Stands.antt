@@ -77,10 +77,16 @@ pub data Account (words : List (List ℕ)) (files : Files) (status : ℕ) (lines
   read_fault : (name : List ℕ) → ComesTo words files (IsThere name) → status ≡ 4 → lines ≡ read_fault_line name ∷ [] → after ≡ before → Account words files status lines before after
   write_fault : (text : List (List ℕ)) (output file : List ℕ) → Outcome words files 0 text (Some (output, file)) → status ≡ 9 → lines ≡ write_fault_line output ∷ [] → IsWrittenInPart before after output file → Account words files status lines before after
 
--- the lines that a run was printing: those of what it came to, or those that its job prints before that is known
+-- a run has come to a stage that prints these lines before it is known whether it is met
+pub record IsPrinting (words : List (List ℕ)) (files : Files) (lines : List (List ℕ)) : Type 0 where
+  pub stage : Stage
+  pub comes : ComesTo words files stage
+  pub prints : Prints files stage lines
+
+-- the lines that a run was printing: those of what it came to, or those of a stage
 pub data Printing (words : List (List ℕ)) (files : Files) (lines : List (List ℕ)) (before after : FolderState) : Type 0 where
   of_account : (status : ℕ) → Account words files status lines before.told after.told → Counted status before.counts after.counts → Printing words files lines before after
-  of_job : (job : Job) → WordsOf words job → Prints job files lines → FolderStays before after → Printing words files lines before after
+  of_stage : IsPrinting words files lines → FolderStays before after → Printing words files lines before after
 
 -- ---- what stands
 

@@ -2,7 +2,7 @@ use Rattle.std.proofs.Common.{◌≡◌, ℕ, List, Bool, Result, Ok, Err, Vec, 
 use Rattle.std.specs.Global.{Global}
 use Rattle.song_model.specs.declared.songs.Song.{Song}
 use Rattle.song_model.specs.Silent.{IsSilent}
-use Rattle.song_model.specs.declared.faults.NoMemory.{NoMemory}
+use Rattle.base.specs.declared.no_memory.NoMemory.{NoMemory}
 use Rattle.goat_cli.specs.Place.{IsAddress}
 use Rattle.goat_cli.specs.Image.{silent_image}
 use Rattle.goat_cli.specs.SilentRun.{InitIsSilent, PlayIsSilent}
