@@ -11,7 +11,9 @@ use base::ByteList;
 pub struct Assembled {
     /// The address of the first byte.
     pub origin: u16,
+    /// The bytes.
     pub bytes: ByteList,
+    /// Which of them are addresses.
     pub fixes: FixList,
     ghost fits: { origin + length bytes ≤ 65536 },
     ghost in_order: { InOrder 0 (length bytes) fixes } by { InOrder-prop 0 (length bytes) fixes },

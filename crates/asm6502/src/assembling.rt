@@ -57,7 +57,8 @@ pub fn assemble(
 fn check_end(origin: u16, length: u32) -> Result<(), AsmFault>
     ensures { MatchResult result
         (λ _. origin + length ≤ 65536)
-        (λ fault. (if nat_lt 65536 (origin + length) then Some (PastEnd length) else None) ≡ Some fault) }
+        (λ fault. (if nat_lt 65536 (origin + length) then Some (PastEnd length) else None)
+        ≡ Some fault) }
 {
     if u64::from(origin) + u64::from(length) > 65_536 {
         return Err(AsmFault::PastEnd { length });

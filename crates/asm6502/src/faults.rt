@@ -9,16 +9,31 @@ ghost use Rattle.asm6502.specs.declared.faults.AsmFault.TheVariants.{NoMemory};
 pub enum AsmFault {
     /// The line, counted from 0, has a part from 32 to 254; or it is kept, and its instruction has no opcode, its number
     /// doesn't fit, or its operand doesn't suit its mode.
-    BadLine { line: u32 },
+    BadLine {
+        /// The line's number, counted from 0.
+        line: u32,
+    },
     /// The label is named a second time.
-    DoubleLabel { label: u16 },
+    DoubleLabel {
+        /// The label.
+        label: u16,
+    },
     /// An operand has a label that no line names.
-    UnknownLabel { label: u16 },
+    UnknownLabel {
+        /// The label.
+        label: u16,
+    },
     /// The origin plus this many bytes passes 65,536.
-    PastEnd { length: u32 },
+    PastEnd {
+        /// The number of bytes.
+        length: u32,
+    },
     /// The branch in this line, counted from 0, goes to a label that no displacement reaches.
-    BranchTooFar { line: u32 },
-    /// Memory ran out.
+    BranchTooFar {
+        /// The line's number, counted from 0.
+        line: u32,
+    },
+    /// Out of memory.
     NoMemory,
 }
 
@@ -33,5 +48,6 @@ impl From<base::NoMemory> for AsmFault {
 /// The new origin plus this many bytes passes 65,536.
 #[derive(Clone, Copy, Debug, PartialEq, Eq)]
 pub struct PastEnd {
+    /// The number of bytes.
     pub length: u32,
 }

@@ -20,7 +20,9 @@ pub enum FixKind {
 pub struct Fix {
     /// The place in the bytes, counted from 0.
     pub at: u32,
+    /// How the number stands there.
     pub kind: FixKind,
+    /// What is added to the origin.
     pub to: u16,
 }
 
@@ -52,6 +54,10 @@ impl FixList {
     }
 
     /// Appends a fix.
+    ///
+    /// # Errors
+    ///
+    /// Out of memory: the list is as before.
     pub(crate) fn push(&mut self, fix: Fix) -> Result<(), NoMemory>
         ensures ok { OnOk result (self.new ≡ self.old ++ fix ∷ []) }
         ensures err { OnErr result (self.new ≡ self.old) }

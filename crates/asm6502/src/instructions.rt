@@ -7,7 +7,9 @@ use std::marker::Model;
 /// An instruction with its operand.
 #[derive(Clone, Copy, Debug)]
 pub struct Instr {
+    /// Its name.
     pub mnemonic: Mnemonic,
+    /// How it finds its operand.
     pub mode: Mode,
     /// The byte after the opcode, for a branch the displacement byte; the two bytes after it as a number, the low
     /// one first; or 0 where nothing stands after it.

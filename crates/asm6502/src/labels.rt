@@ -19,7 +19,9 @@ use std::collections::BTreeMap;
 /// The places of the labels that some lines name, and the bytes that these lines take.
 #[derive(Drop)]
 pub(crate) struct Labels {
+    /// The place of each label.
     places: BTreeMap<u16, u32>,
+    /// The bytes that the lines take.
     size: u32,
 }
 
@@ -52,7 +54,8 @@ impl Labels {
         ensures { (before : List Line) →
             HasPlaces self.old (kept set.0 before) →
             MatchResult result
-            (λ _. HasPlaces self.new (kept set.0 (before ++ line.now ∷ [])) × (double_label set.0 before line.now ≡ None))
+            (λ _. HasPlaces self.new (kept set.0 (before ++ line.now ∷ []))
+            × (double_label set.0 before line.now ≡ None))
             (λ fault. (fault ≡ NoMemory) ⊎ (double_label set.0 before line.now ≡ Some fault)) }
     {
         if !line.is_kept(set) {
@@ -69,8 +72,12 @@ impl Labels {
     fn name(&mut self, label: u16) -> Result<(), AsmFault>
         ensures size { self.new.size ≡ self.old.size }
         ensures noted { MatchResult result
-            (λ _. (get nat_cmp self.old.places label ≡ None) × ((other : _) → get nat_cmp self.new.places other ≡ (if nat_eq label other then Some self.old.size else get nat_cmp self.old.places other)))
-            (λ fault. (fault ≡ NoMemory) ⊎ (IsSome (get nat_cmp self.old.places label) × (fault ≡ DoubleLabel label))) }
+            (λ _. (get nat_cmp self.old.places label ≡ None)
+            × ((other : _) → get nat_cmp self.new.places other
+            ≡ (if nat_eq label other then Some self.old.size
+            else get nat_cmp self.old.places other)))
+            (λ fault. (fault ≡ NoMemory) ⊎ (IsSome (get nat_cmp self.old.places label)
+            × (fault ≡ DoubleLabel label))) }
     {
         if self.places.contains_key(&label) {
             return Err(AsmFault::DoubleLabel { label });
@@ -123,7 +130,8 @@ impl Labels {
         requires known { Knows self.now (label_of operand) }
         ensures { MatchOption result
             (is_far (address_by self.now origin) (origin + at) mode operand ≡ true)
-            (λ number. (number ≡ operand_of (address_by self.now origin) (origin + at) mode operand) × (is_far (address_by self.now origin) (origin + at) mode operand ≡ false)) }
+            (λ number. (number ≡ operand_of (address_by self.now origin) (origin + at) mode operand)
+            × (is_far (address_by self.now origin) (origin + at) mode operand ≡ false)) }
     {
         match operand {
             Operand::Nothing => Some(0),
@@ -162,6 +170,7 @@ impl Labels {
     }
 }
 
+/// Whether a mode is that of the branches.
 fn is_relative(mode: Mode) -> bool
     ensures { result ≡ is_relative mode }
 {
@@ -188,8 +197,10 @@ pub(crate) fn labels_of(alloc: Global, lines: &[Line], set: FeatureBits) -> Resu
     requires lines { length lines.now ≤ MOST_LINES }
     requires bytes { data_size lines.now ≤ MOST_BYTES }
     ensures { MatchResult result
-        (λ labels. HasPlaces labels (kept set.0 lines.now) × (first_fault (double_label set.0) [] lines.now ≡ None))
-        (λ fault. (fault ≡ NoMemory) ⊎ (first_fault (double_label set.0) [] lines.now ≡ Some fault)) }
+        (λ labels. HasPlaces labels (kept set.0 lines.now)
+        × (first_fault (double_label set.0) [] lines.now ≡ None))
+        (λ fault. (fault ≡ NoMemory)
+        ⊎ (first_fault (double_label set.0) [] lines.now ≡ Some fault)) }
 {
     let mut labels = Labels::new(alloc);
     for line in lines {

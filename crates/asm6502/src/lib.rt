@@ -4,10 +4,11 @@
 //! that of `assemble`: the kept lines stand one after the other at their addresses, and in any memory that holds the
 //! bytes each of them is read by the machine's own decode table as the line that it is; a listing is refused exactly
 //! where something is wrong with it, by the first of five refusals; and moved to another origin the bytes are those
-//! of assembling there. Its definitions are in `specs/`, of which `Standing` is the one that callers reason with.
+//! of assembling there. Its definitions are in `specs/`, of which `Standing` and `Stretches` are those that callers
+//! reason with.
 //!
-//! It stands on `cpu6502` for the decode table, on `song_model` for byte lists and sets of parts, and on `arrayvec`.
-//! See `docs/assembler.md`.
+//! It stands on `cpu6502` for the decode table, on `code_runs` for instructions that stand in memory, on `song_model` for
+//! sets of parts, on `base` for lists, and on `arrayvec`. See `docs/assembler.md`.
 #![tactic(auto)]
 
 mod assembled;

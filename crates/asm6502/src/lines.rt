@@ -79,6 +79,7 @@ fn takes_label(mode: Mode) -> bool
     )
 }
 
+/// Whether the operand of a mode is a byte of its own.
 fn is_immediate(mode: Mode) -> bool
     ensures { result ≡ is_immediate mode }
 {
@@ -158,7 +159,9 @@ impl Item {
 /// listing is assembled with.
 #[derive(Drop)]
 pub struct Line {
+    /// The part of the program that it is in: 0 to 31, or 255.
     pub part: u8,
+    /// What it holds.
     pub item: Item,
 }
 
@@ -178,7 +181,8 @@ impl Line {
 
     /// Whether it is in a part that there isn't, or is kept and can't stand in a listing.
     pub(crate) fn is_bad(&self, set: FeatureBits) -> bool
-        ensures { result ≡ is_no_part self.now.part || is_kept set.0 self.now && not (is_sound self.now.item) }
+        ensures { result ≡ is_no_part self.now.part
+            || is_kept set.0 self.now && not (is_sound self.now.item) }
     {
         let no_part = self.part > 31 && self.part < 255;
         no_part || self.is_kept(set) && !self.item.is_sound()
@@ -249,7 +253,8 @@ impl Listing {
     /// Whether it is in the limits of `assemble`: at most [`MOST_LINES`] lines, and at most [`MOST_BYTES`] bytes in its
     /// items of bytes.
     pub fn is_within_limits(&self) -> bool
-        ensures { IsTrue result ↔ ((length self.now ≤ MOST_LINES) × (data_size self.now ≤ MOST_BYTES)) }
+        ensures { IsTrue result
+            ↔ ((length self.now ≤ MOST_LINES) × (data_size self.now ≤ MOST_BYTES)) }
     {
         if self.lines.len() > MOST_LINES {
             return false;

@@ -13,8 +13,11 @@ impl Assembled {
     ghost use Rattle.asm6502.specs.Moving.{IsMoved};
 
     /// Moves the bytes to another origin: the number of each fix becomes that of the new origin, and the other bytes and
-    /// the fixes stay. Refused exactly where the bytes don't fit after the new origin; nothing is changed then. It takes
-    /// no memory.
+    /// the fixes stay. It takes no memory.
+    ///
+    /// # Errors
+    ///
+    /// [`PastEnd`] exactly where the bytes don't fit after the new origin. Nothing is changed then.
     pub fn relocate(&mut self, origin: u16) -> Result<(), PastEnd>
         ensures fits { IsOk result ↔ (origin + length self.old.bytes ≤ 65536) }
         ensures moved { OnOk result (IsMoved self.old self.new origin) }

@@ -20,7 +20,9 @@ use std::alloc::Global;
 /// What is written so far.
 #[derive(Drop)]
 pub(crate) struct Output {
+    /// The bytes.
     pub(crate) bytes: ByteList,
+    /// Which of them are addresses.
     pub(crate) fixes: FixList,
 }
 
@@ -60,13 +62,18 @@ impl Output {
         requires sound { is_sound (Code mnemonic mode operand) ≡ true }
         requires known { Knows labels.now (label_of operand) }
         ensures bytes { OnOk result
-            (self.new.bytes ≡ self.old.bytes ++ item_bytes (address_by labels.now origin) (origin + length self.old.bytes) (Code mnemonic mode operand)) }
+            (self.new.bytes ≡ self.old.bytes ++ item_bytes (address_by labels.now origin)
+            (origin + length self.old.bytes) (Code mnemonic mode operand)) }
         ensures fixes { OnOk result
-            (self.new.fixes ≡ self.old.fixes ++ item_fixes (address_by labels.now 0) (length self.old.bytes) (Code mnemonic mode operand)) }
+            (self.new.fixes ≡ self.old.fixes ++ item_fixes (address_by labels.now 0)
+            (length self.old.bytes) (Code mnemonic mode operand)) }
         ensures near { OnOk result
-            (is_far_item (address_by labels.now origin) (origin + length self.old.bytes) (Code mnemonic mode operand) ≡ false) }
+            (is_far_item (address_by labels.now origin) (origin + length self.old.bytes)
+            (Code mnemonic mode operand) ≡ false) }
         ensures far { IfErr result
-            (λ fault. (fault ≡ NoMemory) ⊎ (is_far_item (address_by labels.now origin) (origin + length self.old.bytes) (Code mnemonic mode operand) ≡ true) × (fault ≡ BranchTooFar line)) }
+            (λ fault. (fault ≡ NoMemory) ⊎ (is_far_item (address_by labels.now origin)
+            (origin + length self.old.bytes) (Code mnemonic mode operand) ≡ true)
+            × (fault ≡ BranchTooFar line)) }
     {
         let at = self.bytes.as_slice().len() as u32;
         let Some(number) = labels.operand(origin, at, mode, operand) else {
@@ -99,13 +106,17 @@ impl Output {
         requires sound { is_sound item.now ≡ true }
         requires known { Knows labels.now (label_used item.now) }
         ensures bytes { OnOk result
-            (self.new.bytes ≡ self.old.bytes ++ item_bytes (address_by labels.now origin) (origin + length self.old.bytes) item.now) }
+            (self.new.bytes ≡ self.old.bytes ++ item_bytes (address_by labels.now origin)
+            (origin + length self.old.bytes) item.now) }
         ensures fixes { OnOk result
-            (self.new.fixes ≡ self.old.fixes ++ item_fixes (address_by labels.now 0) (length self.old.bytes) item.now) }
+            (self.new.fixes ≡ self.old.fixes ++ item_fixes (address_by labels.now 0)
+            (length self.old.bytes) item.now) }
         ensures near { OnOk result
-            (is_far_item (address_by labels.now origin) (origin + length self.old.bytes) item.now ≡ false) }
+            (is_far_item (address_by labels.now origin) (origin + length self.old.bytes) item.now
+            ≡ false) }
         ensures far { IfErr result
-            (λ fault. (fault ≡ NoMemory) ⊎ (is_far_item (address_by labels.now origin) (origin + length self.old.bytes) item.now ≡ true) × (fault ≡ BranchTooFar line)) }
+            (λ fault. (fault ≡ NoMemory) ⊎ (is_far_item (address_by labels.now origin)
+            (origin + length self.old.bytes) item.now ≡ true) × (fault ≡ BranchTooFar line)) }
     {
         match item {
             Item::Label(_) => Ok(()),
@@ -130,13 +141,16 @@ impl Output {
     ) -> Result<(), AsmFault>
         requires fits { origin + length self.old.bytes ≤ 65536 }
         requires sound { is_kept set.0 line.now ≡ true → is_sound line.now.item ≡ true }
-        requires known { is_kept set.0 line.now ≡ true → Knows labels.now (label_used line.now.item) }
+        requires known { is_kept set.0 line.now ≡ true →
+            Knows labels.now (label_used line.now.item) }
         ensures { (before : List Line) →
             length before ≡ number →
             IsWritten self.old labels.now set.0 origin before →
             MatchResult result
-            (λ _. IsWritten self.new labels.now set.0 origin (before ++ line.now ∷ []) × (far_by (address_by labels.now origin) set.0 origin before line.now ≡ None))
-            (λ fault. (fault ≡ NoMemory) ⊎ (far_by (address_by labels.now origin) set.0 origin before line.now ≡ Some fault)) }
+            (λ _. IsWritten self.new labels.now set.0 origin (before ++ line.now ∷ [])
+            × (far_by (address_by labels.now origin) set.0 origin before line.now ≡ None))
+            (λ fault. (fault ≡ NoMemory) ⊎ (far_by (address_by labels.now origin) set.0 origin
+            before line.now ≡ Some fault)) }
     {
         if !line.is_kept(set) {
             return Ok(());
@@ -160,8 +174,12 @@ pub(crate) fn output_of(
     requires places { HasPlaces labels.now (kept set.0 lines.now) }
     requires known { first_fault (unknown_label set.0 lines.now) [] lines.now ≡ None }
     ensures { MatchResult result
-        (λ output. IsWritten output labels.now set.0 origin lines.now × (first_fault (far_by (address_by labels.now origin) set.0 origin) [] lines.now ≡ None))
-        (λ fault. (fault ≡ NoMemory) ⊎ (first_fault (far_by (address_by labels.now origin) set.0 origin) [] lines.now ≡ Some fault)) }
+        (λ output. IsWritten output labels.now set.0 origin lines.now
+        × (first_fault (far_by (address_by labels.now origin) set.0 origin) [] lines.now
+        ≡ None))
+        (λ fault. (fault ≡ NoMemory)
+        ⊎ (first_fault (far_by (address_by labels.now origin) set.0 origin) [] lines.now
+        ≡ Some fault)) }
 {
     let mut output = Output::new(alloc);
     for (number, line) in lines.iter().enumerate() {

@@ -71,7 +71,8 @@ impl Writes {
 
     /// Notes the writes to the SID in a log.
     pub fn note_in(&self, log: &mut WriteLog)
-        ensures { (before : List SidWrite) → log.old ≡ log_of before → log.new ≡ log_of (before ++ sid_writes self.now) }
+        ensures { (before : List SidWrite) → log.old ≡ log_of before →
+            log.new ≡ log_of (before ++ sid_writes self.now) }
     {
         if let Some(write) = self.first {
             log.note(write);

@@ -114,7 +114,8 @@ impl WriteLog {
 
     /// Notes one write to memory, if its place is a register of the SID.
     pub fn note(&mut self, write: Write)
-        ensures { (before : List SidWrite) → self.old ≡ log_of before → self.new ≡ log_of (before ++ sid_writes (write ∷ [])) }
+        ensures { (before : List SidWrite) → self.old ≡ log_of before →
+            self.new ≡ log_of (before ++ sid_writes (write ∷ [])) }
     {
         if write.place >= SID_BASE && write.place <= SID_LAST {
             self.keep(SidWrite {
@@ -126,7 +127,8 @@ impl WriteLog {
 
     /// Notes one write to the SID.
     fn keep(&mut self, write: SidWrite)
-        ensures { (before : List SidWrite) → self.old ≡ log_of before → self.new ≡ log_of (before ++ write ∷ []) }
+        ensures { (before : List SidWrite) → self.old ≡ log_of before →
+            self.new ≡ log_of (before ++ write ∷ []) }
     {
         if self.writes.is_full() {
             self.beyond = self.beyond.saturating_add(1);

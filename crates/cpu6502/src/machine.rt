@@ -60,13 +60,18 @@ impl Machine {
     ) -> Result<u32, CallStop>
         ensures returned { IfOk result (λ steps. Called self.old address a steps self.new) }
         ensures in_budget { IfOk result (λ steps. steps ≤ budget) }
-        ensures failed { IfErr result (λ reason. FailsBy self.old address a budget reason self.new) }
+        ensures failed { IfErr result
+            (λ reason. FailsBy self.old address a budget reason self.new) }
 
-        ensures returns { (steps : ℕ) (after : Machine) → Called self.old address a steps after → steps ≤ budget → result ≡ Ok steps }
-        ensures fails { (reason : CallStop) (after : Machine) → FailsBy self.old address a budget reason after → result ≡ Err reason }
+        ensures returns { (steps : ℕ) (after : Machine) → Called self.old address a steps after →
+            steps ≤ budget → result ≡ Ok steps }
+        ensures fails { (reason : CallStop) (after : Machine) →
+            FailsBy self.old address a budget reason after → result ≡ Err reason }
 
-        ensures log { IfOk result (λ steps. log.new ≡ log_of (sid_writes (writes_in steps (entered self.old address a)))) }
-        ensures log_failed { OnErr result (log.new ≡ log_of (sid_writes (writes_in budget (entered self.old address a)))) }
+        ensures log { IfOk result
+            (λ steps. log.new ≡ log_of (sid_writes (writes_in steps (entered self.old address a)))) }
+        ensures log_failed { OnErr result
+            (log.new ≡ log_of (sid_writes (writes_in budget (entered self.old address a)))) }
     {
         log.clear();
         let home = self.cpu.sp;
@@ -108,7 +113,8 @@ impl Machine {
         ensures done { OnOk result (step self.old ≡ Ok self.new) }
         ensures stopped { IfErr result (λ stop. step self.old ≡ Err stop) }
         ensures same { OnErr result (self.new ≡ self.old) }
-        ensures noted { (before : List SidWrite) → log.old ≡ log_of before → log.new ≡ log_of (before ++ sid_writes (writes_in 1 self.old)) }
+        ensures noted { (before : List SidWrite) → log.old ≡ log_of before →
+            log.new ≡ log_of (before ++ sid_writes (writes_in 1 self.old)) }
     {
         let effect = next_effect(&self.memory, self.cpu)?;
         effect.writes.note_in(log);
