@@ -13,8 +13,7 @@ use Rattle.goat_cli.specs.Due as due
 use Rattle.goat_cli.specs.Due.{IsDue, IsOneOf, instead}
 use Rattle.goat_cli.specs.Stands as stands
 use Rattle.goat_cli.specs.Stands.{FolderState, SinkState, AreFiles, Counted, Account, TellsWant, Stands, RunStands}
-use Rattle.goat_cli.specs.Answers.{IsOrdinary, IsPrinted, IsBeforeWriting, HoldsDone, ComesAbout, ComesWhere, SinkCounted, RunsPacked}
-use Rattle.goat_cli.specs.Laws.{first_traces}
+use Rattle.goat_cli.specs.Answers.{IsOrdinary, IsPrinted, IsBeforeWriting, HoldsDone, ComesAbout, ComesWhere, SinkCounted, RunsPacked, first_traces}
 use Rattle.goat_cli.proofs.Told.{as_before}
 use Rattle.goat_cli.proofs.Due.{is_no_stage, ends_with_stage, writes_output, no_output, outcome_due, one_due, one_text}
 use Rattle.goat_cli.proofs.PlayedFiles.{packed_file_plays, packed_file_is_due}

@@ -10,10 +10,10 @@ use Rattle.cpu6502.specs.Call.{run, entered, Called, FailsBy}
 use Rattle.cpu6502.specs.declared.stop.CallStop.TheVariants.{Stopped, Budget}
 use Rattle.cpu6502.proofs.Laws.{called_once, returned_fails, stopped_fails, under_way_fails}
 use Rattle.sid_run.specs.State.{RunnerState, sid_registers, most_steps}
-use Rattle.goat_cli.specs.Calls.{entry_of, number_of, ReturnsTo, FirstCalls, MeetsStopAt}
+use Rattle.goat_cli.specs.Calls.{entry_of, accumulator_of, ReturnsTo, FirstCalls, MeetsStopAt}
 use Rattle.goat_cli.specs.RegisterText.{register_line, lines_from, register_lines}
 use Rattle.goat_cli.specs.Lines.{stop_line}
-use Rattle.goat_cli.specs.Last.{Says, Silent, SinkFailed, Wants}
+use Rattle.goat_cli.specs.Last.{Says, SaysNothing, SinkFailed, Wants}
 use Rattle.goat_cli.specs.Stands.{SinkState, Appends}
 use Rattle.goat_cli.specs.Endings.{CallsEnd, FailsIn, played, stopped, failed, wanting}
 use Rattle.goat_cli.proofs.Told.{appends_nothing, appends_both, fails_then}
@@ -30,7 +30,7 @@ pub later_entry : (file : RunnerState) (call : ℕ) → call ≢ 0 → entry_of 
 later_entry file zero later = absurd (later refl)
 later_entry file (suc call) later = refl
 
-pub later_number : (subtune call : ℕ) (machine : Machine) → call ≢ 0 → number_of subtune call machine ≡ machine.cpu.a
+pub later_number : (subtune call : ℕ) (machine : Machine) → call ≢ 0 → accumulator_of subtune call machine ≡ machine.cpu.a
 later_number subtune zero machine later = absurd (later refl)
 later_number subtune (suc call) machine later = refl
 
@@ -66,8 +66,8 @@ module _ (file : RunnerState) (subtune : ℕ) where
   one_machine zero registers registers' machine machine' p q = p.1 ∙ sym q.1
   one_machine (suc calls) registers registers' machine machine' (earlier, before, last, first, returns, are) (earlier', before', last', first', returns', are') =
       let same : before ≡ before' = one_machine calls earlier earlier' before before' first first' in
-      let moved = subst (λ b. ReturnsTo b (entry_of file calls) (number_of subtune calls b) last machine) same returns in
-      returns_once before' (entry_of file calls) (number_of subtune calls before') last last' machine machine' moved returns'
+      let moved = subst (λ b. ReturnsTo b (entry_of file calls) (accumulator_of subtune calls b) last machine) same returns in
+      returns_once before' (entry_of file calls) (accumulator_of subtune calls before') last last' machine machine' moved returns'
 
   pub one_list : (calls : ℕ) (registers registers' : List (List ℕ)) (machine machine' : Machine) → FirstCalls file subtune calls registers machine → FirstCalls file subtune calls registers' machine' → registers ≡ registers'
   one_list zero registers registers' machine machine' p q = p.0 ∙ sym q.0
@@ -84,7 +84,7 @@ module _ (file : RunnerState) (subtune : ℕ) where
     pub calls : FirstCalls file subtune call registers before
     pub last : List ℕ
     pub after : Machine
-    pub returns : ReturnsTo before (entry_of file call) (number_of subtune call before) last after
+    pub returns : ReturnsTo before (entry_of file call) (accumulator_of subtune call before) last after
 
   returned_before : (calls call : ℕ) (registers : List (List ℕ)) (machine : Machine) → FirstCalls file subtune calls registers machine → call < calls → Returned call
   returned_before zero call registers machine first inside = absurd (omega arith)
@@ -101,8 +101,8 @@ module _ (file : RunnerState) (subtune : ℕ) where
   returned_or_stopped calls call registers registers' machine reason first inside meets =
       let r = returned_before calls call registers machine first inside in
       let same = one_machine call r.registers registers' r.before meets.before r.calls meets.calls in
-      let moved = subst (λ b. ReturnsTo b (entry_of file call) (number_of subtune call b) r.last r.after) same r.returns in
-      returns_or_fails meets.before (entry_of file call) (number_of subtune call meets.before) r.last r.after meets.after reason moved meets.fails
+      let moved = subst (λ b. ReturnsTo b (entry_of file call) (accumulator_of subtune call b) r.last r.after) same r.returns in
+      returns_or_fails meets.before (entry_of file call) (accumulator_of subtune call meets.before) r.last r.after meets.after reason moved meets.fails
 
   -- and one of them meets one stop
   pub one_stop_at : (call call' : ℕ) (registers registers' : List (List ℕ)) (reason reason' : CallStop) → MeetsStopAt file subtune call registers reason → MeetsStopAt file subtune call' registers' reason' → call ≡ call'
@@ -117,7 +117,7 @@ module _ (file : RunnerState) (subtune : ℕ) where
   pub one_reason : (call : ℕ) (registers registers' : List (List ℕ)) (reason reason' : CallStop) → MeetsStopAt file subtune call registers reason → MeetsStopAt file subtune call registers' reason' → reason ≡ reason'
   one_reason call registers registers' reason reason' p q =
       let same = one_machine call registers registers' p.before q.before p.calls q.calls in
-      fails_once q.before (entry_of file call) (number_of subtune call q.before) p.after q.after reason reason' (subst (λ b. FailsBy b (entry_of file call) (number_of subtune call b) most_steps reason p.after) same p.fails) q.fails
+      fails_once q.before (entry_of file call) (accumulator_of subtune call q.before) p.after q.after reason reason' (subst (λ b. FailsBy b (entry_of file call) (accumulator_of subtune call b) most_steps reason p.after) same p.fails) q.fails
 
 -- ---- their lines
 
@@ -143,13 +143,13 @@ same_entry file now (suc call) init play = play
 
 module _ (file : RunnerState) (subtune calls : ℕ) (now later : RunnerState) (before after : SinkState) (so_far : CallsSoFar file subtune calls now before after) where
   -- one call more
-  pub calls_on : (last : List ℕ) → ReturnsTo now.machine (entry_of now calls) (number_of subtune calls now.machine) last later.machine → FirstCalls file subtune (suc calls) (so_far.registers ++ last ∷ []) later.machine
+  pub calls_on : (last : List ℕ) → ReturnsTo now.machine (entry_of now calls) (accumulator_of subtune calls now.machine) last later.machine → FirstCalls file subtune (suc calls) (so_far.registers ++ last ∷ []) later.machine
   calls_on last returns = (
     so_far.registers,
     now.machine,
     last,
     so_far.returned,
-    subst (λ e. ReturnsTo now.machine e (number_of subtune calls now.machine) last later.machine) (same_entry file now calls so_far.same_init so_far.same_play) returns,
+    subst (λ e. ReturnsTo now.machine e (accumulator_of subtune calls now.machine) last later.machine) (same_entry file now calls so_far.same_init so_far.same_play) returns,
     refl,
   )
 
@@ -162,7 +162,7 @@ module _ (file : RunnerState) (subtune calls : ℕ) (now later : RunnerState) (b
   text_on : (last : List ℕ) → concat (register_lines (so_far.registers ++ last ∷ [])) ≡ concat (register_lines so_far.registers) ++ register_line calls last
   text_on last = ap concat (lines_on last) ∙ concat-append (register_lines so_far.registers) (register_line calls last ∷ []) ∙ ap (λ t. concat (register_lines so_far.registers) ++ t) (append-nil (register_line calls last))
 
-  pub so_far_on : (last : List ℕ) (shown : SinkState) → ReturnsTo now.machine (entry_of now calls) (number_of subtune calls now.machine) last later.machine → later.stopped ≡ None → later.init ≡ now.init → later.play ≡ now.play →
+  pub so_far_on : (last : List ℕ) (shown : SinkState) → ReturnsTo now.machine (entry_of now calls) (accumulator_of subtune calls now.machine) last later.machine → later.stopped ≡ None → later.init ≡ now.init → later.play ≡ now.play →
       Appends (register_line calls last) after shown → CallsSoFar file subtune (suc calls) later before shown
   so_far_on last shown returns running init play told = record {
     registers = so_far.registers ++ last ∷ [];
@@ -173,7 +173,7 @@ module _ (file : RunnerState) (subtune calls : ℕ) (now later : RunnerState) (b
     printed = subst (λ text. Appends text before shown) (sym (text_on last)) (appends_both (concat (register_lines so_far.registers)) (register_line calls last) before after shown so_far.printed told);
   }
 
-  module _ (frames : ℕ) (within : calls ≤ frames) (last : List ℕ) (returns : ReturnsTo now.machine (entry_of now calls) (number_of subtune calls now.machine) last later.machine) (shown : SinkState) where
+  module _ (frames : ℕ) (within : calls ≤ frames) (last : List ℕ) (returns : ReturnsTo now.machine (entry_of now calls) (accumulator_of subtune calls now.machine) last later.machine) (shown : SinkState) where
     -- the put of the line of the call failed
     pub line_failed : FailsIn (register_line calls last) after shown → CallsEnd file subtune frames SinkFailed before shown
     line_failed fails =
@@ -186,16 +186,16 @@ module _ (file : RunnerState) (subtune calls : ℕ) (now later : RunnerState) (b
         wanting (suc calls) (register_lines so_far.registers) (register_line calls last) (so_far.registers ++ last ∷ []) later.machine (omega (arith, within)) (calls_on last returns) (lines_on last) refl
         (subst (λ text. Appends text before shown) (append-nil (concat (register_lines so_far.registers))) (appends_both (concat (register_lines so_far.registers)) [] before after shown so_far.printed none))
 
-  pub stop_met : (frames : ℕ) (reason : CallStop) → calls ≤ frames → FailsBy now.machine (entry_of now calls) (number_of subtune calls now.machine) most_steps reason later.machine → CallsEnd file subtune frames (Says 13 (stop_line reason calls)) before after
+  pub stop_met : (frames : ℕ) (reason : CallStop) → calls ≤ frames → FailsBy now.machine (entry_of now calls) (accumulator_of subtune calls now.machine) most_steps reason later.machine → CallsEnd file subtune frames (Says 13 (stop_line reason calls)) before after
   stop_met frames reason within fails = stopped calls so_far.registers reason within (record {
     before = now.machine;
     calls = so_far.returned;
     after = later.machine;
-    fails = subst (λ e. FailsBy now.machine e (number_of subtune calls now.machine) most_steps reason later.machine) (same_entry file now calls so_far.same_init so_far.same_play) fails;
+    fails = subst (λ e. FailsBy now.machine e (accumulator_of subtune calls now.machine) most_steps reason later.machine) (same_entry file now calls so_far.same_init so_far.same_play) fails;
   }) refl so_far.printed
 
 -- all calls returned
-pub all_played : (file now : RunnerState) (subtune frames calls : ℕ) (before after : SinkState) → CallsSoFar file subtune calls now before after → calls ≡ frames + 1 → CallsEnd file subtune frames Silent before after
+pub all_played : (file now : RunnerState) (subtune frames calls : ℕ) (before after : SinkState) → CallsSoFar file subtune calls now before after → calls ≡ frames + 1 → CallsEnd file subtune frames SaysNothing before after
 all_played file now subtune frames calls before after so is =
     let moved = subst (λ n. CallsSoFar file subtune n now before after) is so in
     played moved.registers now.machine moved.returned refl moved.printed

@@ -1,5 +1,5 @@
 -- A packed file that is run plays its song.
-use Rattle.std.proofs.Common.{◌≡◌, ℕ, zero, suc, ◌+◌, ◌-◌, ◌≤◌, ◌<◌, List, [], ◌∷◌, ◌++◌, Some, None, Ok, All, length, refl, sym, ap, ◌∙◌, subst, arith, lit≤}
+use Rattle.std.proofs.Common.{◌≡◌, ℕ, zero, suc, ◌+◌, ◌-◌, ◌≤◌, ◌<◌, List, [], ◌∷◌, ◌++◌, None, Ok, All, length, refl, sym, ap, ◌∙◌, subst, arith, lit≤}
 use Rattle.song_model.specs.declared.songs.Song.{Song}
 use Rattle.song_model.specs.Limits.{KeepsLimits}
 use Rattle.std.proofs.lemmas.List.Elements.{All-tail}
@@ -19,7 +19,7 @@ use Rattle.sid_run.specs.State.{RunnerState, loaded, loaded_machine}
 use Rattle.sid_run.proofs.Laws.{image_stands, loaded_is_machine}
 use Rattle.goat_io.specs.Files.{Files}
 use Rattle.goat_cli.specs.Words.{Run}
-use Rattle.goat_cli.specs.Calls.{HasSubtune, ReturnsTo, FirstCalls}
+use Rattle.goat_cli.specs.Calls.{ReturnsTo, FirstCalls}
 use Rattle.goat_cli.specs.Faithful.{Leaves, PlaysOn, IsFaithful}
 use Rattle.goat_cli.specs.Place.{IsAddress}
 use Rattle.goat_cli.specs.Packed.{song_header, psid_file}
@@ -29,8 +29,8 @@ use Rattle.goat_cli.specs.Outcome as outcome
 use Rattle.goat_cli.specs.Outcome.{Outcome}
 use Rattle.goat_cli.specs.Due as due
 use Rattle.goat_cli.specs.Due.{IsDue}
-use Rattle.goat_cli.specs.Answers.{RunsPacked}
-use Rattle.goat_cli.specs.Laws.{first_traces, PackedFilesPlay}
+use Rattle.goat_cli.specs.Answers.{IsPackedPsid, RunsPacked, first_traces}
+use Rattle.goat_cli.specs.Laws.{PackedFilesPlay}
 use Rattle.goat_cli.proofs.Passes.{there_passes, fits_passes, psid_passes, subtune_passes, calls_pass}
 
 -- what a call of a faithful image leaves is what a call of a loaded file returns with
@@ -119,42 +119,58 @@ module _ (song : Song) (address zero_page : ℕ) (image : List ℕ) (keeps : Kee
       let later = plays_all (loaded packed) image address zero_page song (subtune - 1) refl refl (omega (arith, place.most)) frames is (omega (arith, last, count_small song keeps)) began.0 began.1 began.2 in
       record { reads = reads; after = later.after; calls = later.first }
 
-module _ (words : List (List ℕ)) (files : Files) (song : Song) (subtune frames : ℕ) (runs : RunsPacked words files song subtune frames) where
-  plays : Plays song runs.address runs.zero_page runs.packed.image runs.keeps runs.place runs.packed.small runs.packed.faithful subtune frames
-  plays =
-      plays_its_song song runs.address runs.zero_page runs.packed.image runs.keeps runs.place runs.packed.small runs.packed.faithful subtune frames
-      (subst (All (λ byte. byte < 256)) runs.packed.holds runs.bytes) runs.first runs.last
+-- the packed file of a song, as a PSID file
+abbrev psid_of : (song : Song) (file : List ℕ) → IsPackedPsid song file → Psid
+psid_of song file is = record { header = song_header song is.address; load = is.address; image = is.packed.image }
 
-  abbrev its_psid : Psid
-  its_psid = record { header = song_header song runs.address; load = runs.address; image = runs.packed.image }
-
-  holds : HoldsPsid files runs.input its_psid
-  holds = record { bytes = psid_file song runs.address runs.packed.image; found = runs.found ∙ ap Some runs.packed.holds; reads = plays.reads }
-
-  has : HasSubtune its_psid subtune
-  has = record { first = runs.first; last = runs.last }
-
-  pub all_stages_pass : AllPass files (stages (Run runs.input subtune frames))
-  all_stages_pass = (
-    there_passes files runs.input runs.file runs.found,
-    (
-      fits_passes files runs.input runs.file input_limit runs.found runs.fits,
-      (
-        psid_passes files runs.input its_psid holds,
-        (
-          subtune_passes files runs.input its_psid subtune holds has,
-          (calls_pass files runs.input its_psid subtune frames (first_traces song (subtune - 1) (frames + 1)) plays.after holds plays.calls, tt),
-        ),
-      ),
-    ),
-  )
-
-  pub packed_file_plays : Outcome words files 0 (register_lines (first_traces song (subtune - 1) (frames + 1))) None
-  packed_file_plays = outcome.done (Run runs.input subtune frames) runs.form all_stages_pass
-      (its_psid, holds, record { registers = first_traces song (subtune - 1) (frames + 1); after = plays.after; returned = plays.calls; lines_are = refl }, refl) refl
-
-  pub packed_file_is_due : IsDue words files 0 None
-  packed_file_is_due = due.done (Run runs.input subtune frames) runs.form all_stages_pass refl refl
+plays : (song : Song) (file : List ℕ) (subtune frames : ℕ) (is : IsPackedPsid song file) → 1 ≤ subtune → subtune ≤ length (playable_subtunes song) →
+    Plays song is.address is.zero_page is.packed.image is.keeps is.place is.packed.small is.packed.faithful subtune frames
+plays song file subtune frames is first last =
+    plays_its_song song is.address is.zero_page is.packed.image is.keeps is.place is.packed.small is.packed.faithful subtune frames (subst (All (λ byte. byte < 256)) is.packed.holds is.bytes) first last
 
 pub packed_files_play : PackedFilesPlay
-packed_files_play words files song subtune frames runs = packed_file_plays words files song subtune frames runs
+packed_files_play song file subtune frames is first last =
+    let its = plays song file subtune frames is first last in
+    (psid_of song file is, ap psid_read is.packed.holds ∙ its.reads, record { first = first; last = last }, its.after, its.calls)
+
+module _ (words : List (List ℕ)) (files : Files) (song : Song) (subtune frames : ℕ) (runs : RunsPacked words files song subtune frames) where
+  abbrev traces : List (List ℕ)
+  traces = first_traces song (subtune - 1) (frames + 1)
+
+  pub record Met : Type 0 where
+    pub psid : Psid
+    pub holds : HoldsPsid files runs.input psid
+    pub after : Machine
+    pub calls : FirstCalls (loaded psid) (subtune - 1) (frames + 1) traces after
+    pub pass : AllPass files (stages (Run runs.input subtune frames))
+
+  met : Met
+  met =
+      let is = packed_files_play song runs.file subtune frames runs.is_packed runs.first runs.last in
+      let held : HoldsPsid files runs.input is.0 = record { bytes = runs.file; found = runs.found; reads = is.1 } in
+      record {
+        psid = is.0;
+        holds = held;
+        after = is.3;
+        calls = is.4;
+        pass = (
+          there_passes files runs.input runs.file runs.found,
+          (
+            fits_passes files runs.input runs.file input_limit runs.found runs.fits,
+            (
+              psid_passes files runs.input is.0 held,
+              (
+                subtune_passes files runs.input is.0 subtune held is.2,
+                (calls_pass files runs.input is.0 subtune frames traces is.3 held is.4, tt),
+              ),
+            ),
+          ),
+        );
+      }
+
+  pub packed_file_plays : Outcome words files 0 (register_lines traces) None
+  packed_file_plays =
+      outcome.done (Run runs.input subtune frames) runs.form met.pass (met.psid, met.holds, record { registers = traces; after = met.after; returned = met.calls; lines_are = refl }, refl) refl
+
+  pub packed_file_is_due : IsDue words files 0 None
+  packed_file_is_due = due.done (Run runs.input subtune frames) runs.form met.pass refl refl

@@ -4,7 +4,7 @@ use Rattle.std.proofs.lemmas.List.{append-nil}
 use Rattle.std.proofs.lemmas.List.Folds.{concat-append}
 use Rattle.std.specs.List.{concat}
 use Rattle.goat_io.specs.Files.{Files}
-use Rattle.goat_cli.specs.Last.{Last, Says, Silent, SinkFailed, Wants, IsSaid}
+use Rattle.goat_cli.specs.Last.{Last, Says, SaysNothing, SinkFailed, Wants, IsSaid}
 use Rattle.goat_cli.specs.Stands as stands
 use Rattle.goat_cli.specs.Stands.{FolderState, SinkState, Account, Counted, Appends, TellsWant, Stands, RunStands}
 use Rattle.goat_cli.specs.Endings as ends
@@ -26,7 +26,7 @@ module _ (words : List (List ℕ)) (files : Files) (answer : ℕ) (folder after 
       (fails_then (concat over.earlier) (take kept line) s t u over.appends fails)
   stands_then (Says status line) over (ends.wanting tells) =
       stands.wanting over.earlier [] line (stands.of_account status over.account over.counted) (tells_then (concat over.earlier) answer s t u over.appends tells)
-  stands_then Silent over prints =
+  stands_then SaysNothing over prints =
       stands.whole over.lines
       (subst (λ n. Account words files n over.lines folder.told after.told) (sym prints.answer_is) over.account)
       (subst (λ n. Counted n folder.counts after.counts) (sym prints.answer_is) over.counted)
@@ -44,7 +44,7 @@ run_stands words last answer folder after s t u run prints =
 -- memory was wanting for the last line
 pub said_prints : (last : Last) (answer : ℕ) (s t : SinkState) → IsSaid last → TellsWant [] answer s t → Prints last answer s t
 said_prints (Says status line) answer s t said tells = ends.wanting tells
-said_prints Silent answer s t said tells = absurd said
+said_prints SaysNothing answer s t said tells = absurd said
 said_prints SinkFailed answer s t said tells = absurd said
 said_prints Wants answer s t said tells = absurd said
 

@@ -1,5 +1,5 @@
 -- What the answers say, in the top call's clauses.
-use Rattle.std.specs.Prelude.{◌≡◌, ◌≢◌, ℕ, ◌<◌, ◌≤◌, List, ◌∷◌, Option, Some, All, length, true}
+use Rattle.std.specs.Prelude.{◌≡◌, ◌≢◌, ℕ, zero, suc, ◌<◌, ◌≤◌, List, [], ◌∷◌, ◌++◌, Option, Some, All, length, true}
 use Rattle.std.specs.List.{concat}
 use Rattle.goat_io.specs.Count.{Rose}
 use Rattle.goat_io.specs.Files.{Files, file_of}
@@ -7,6 +7,7 @@ use Rattle.goat_io.specs.Written.{told_with_piece}
 use Rattle.song_model.specs.declared.songs.Song.{Song}
 use Rattle.song_model.specs.Limits.{KeepsLimits}
 use Rattle.song_model.specs.LookUp.{playable_subtunes}
+use Rattle.play_model.specs.Frame.{trace}
 use Rattle.goat_cli.specs.Words.{Job, Run, WordsOf}
 use Rattle.goat_cli.specs.Place.{IsAddress}
 use Rattle.goat_cli.specs.Stages.{stages, AllPass, input_limit}
@@ -27,7 +28,7 @@ pub record IsPrinted (status : ℕ) : Type 0 where
   pub no_sink_fault : status ≢ 10
   pub no_want : status ≢ 14
 
--- no write was tried, or none is known to have been
+-- a status with which no file is written
 pub record IsBeforeWriting (status : ℕ) : Type 0 where
   pub not_done : status ≢ 0
   pub no_write_fault : status ≢ 9
@@ -62,18 +63,27 @@ pub record SinkCounted (status before after : ℕ) : Type 0 where
   pub rose : status ≡ 10 → Rose before after
   pub stays : status ≢ 10 → after ≡ before
 
--- the words ask for a run of a packed PSID file of the song: of its subtune, counted from 1, for so many frames
-pub record RunsPacked (words : List (List ℕ)) (files : Files) (song : Song) (subtune frames : ℕ) : Type 0 where
-  pub input : List ℕ
-  pub form : WordsOf words (Run input subtune frames)
-  pub file : List ℕ
-  pub found : file_of files input ≡ Some file
-  pub fits : length file ≤ input_limit
+-- the file is a packed PSID file of the song, for some allowed address and some zero page
+pub record IsPackedPsid (song : Song) (file : List ℕ) : Type 0 where
   pub bytes : All (λ byte. byte < 256) file
   pub keeps : KeepsLimits song
   pub address : ℕ
   pub zero_page : ℕ
   pub place : IsAddress address
   pub packed : IsPackedFile true address zero_page song file
+
+-- the words ask for a run of a packed PSID file of the song: of its subtune, counted from 1, with this number of frames
+pub record RunsPacked (words : List (List ℕ)) (files : Files) (song : Song) (subtune frames : ℕ) : Type 0 where
+  pub input : List ℕ
+  pub form : WordsOf words (Run input subtune frames)
+  pub file : List ℕ
+  pub found : file_of files input ≡ Some file
+  pub fits : length file ≤ input_limit
+  pub is_packed : IsPackedPsid song file
   pub first : 1 ≤ subtune
   pub last : subtune ≤ length (playable_subtunes song)
+
+-- the registers after the first calls of a song's playable subtune, counted from 0
+abbrev pub first_traces : Song → ℕ → ℕ → List (List ℕ)
+first_traces song k zero = []
+first_traces song k (suc calls) = first_traces song k calls ++ trace song k calls ∷ []

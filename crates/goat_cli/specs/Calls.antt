@@ -4,7 +4,7 @@ use Rattle.cpu6502.specs.declared.machine.Machine.{Machine}
 use Rattle.cpu6502.specs.declared.stop.CallStop.{CallStop}
 use Rattle.cpu6502.specs.Call.{Called, FailsBy}
 use Rattle.psid.specs.declared.header.Psid.{Psid}
-use Rattle.sid_run.specs.State.{RunnerState, loaded, sid_registers, most_steps}
+use Rattle.sid_run.specs.State.{RunnerState, loaded, sid_registers}
 
 -- the address at which a call begins
 abbrev pub entry_of : RunnerState → ℕ → ℕ
@@ -12,24 +12,24 @@ entry_of file zero = file.init
 entry_of file (suc call) = file.play
 
 -- what stands in A as a call begins
-abbrev pub number_of : ℕ → ℕ → Machine → ℕ
-number_of subtune zero machine = subtune
-number_of subtune (suc call) machine = machine.cpu.a
+abbrev pub accumulator_of : ℕ → ℕ → Machine → ℕ
+accumulator_of subtune zero machine = subtune
+accumulator_of subtune (suc call) machine = machine.cpu.a
 
 -- a call returns within 200,000 steps, in a machine with these registers of the SID
 pub record ReturnsTo (machine : Machine) (entry number : ℕ) (registers : List ℕ) (after : Machine) : Type 0 where
   pub steps : ℕ
-  pub within : steps ≤ most_steps
+  pub within : steps ≤ 200000
   pub called : Called machine entry number steps after
   pub registers_are : sid_registers after ≡ registers
 
--- the first so many calls of a loaded file return: the registers after each of them, and the machine after the last
+-- the first calls of a loaded file return, this many of them: the registers after each of them, and the machine after the last
 abbrev pub FirstCalls : RunnerState → ℕ → ℕ → List (List ℕ) → Machine → Type 0
 FirstCalls file subtune zero registers machine = (registers ≡ []) × (machine ≡ file.machine)
 FirstCalls file subtune (suc call) registers machine =
     (earlier : List (List ℕ)) × (before : Machine) × (last : List ℕ) ×
     FirstCalls file subtune call earlier before ×
-    ReturnsTo before (entry_of file call) (number_of subtune call before) last machine ×
+    ReturnsTo before (entry_of file call) (accumulator_of subtune call before) last machine ×
     (registers ≡ earlier ++ last ∷ [])
 
 -- the calls before this one return and leave these registers, and this one does not return, for this reason
@@ -37,14 +37,14 @@ pub record MeetsStopAt (file : RunnerState) (subtune call : ℕ) (registers : Li
   pub before : Machine
   pub calls : FirstCalls file subtune call registers before
   pub after : Machine
-  pub fails : FailsBy before (entry_of file call) (number_of subtune call before) most_steps reason after
+  pub fails : FailsBy before (entry_of file call) (accumulator_of subtune call before) 200000 reason after
 
 -- a PSID file has this subtune, counted from 1
 pub record HasSubtune (psid : Psid) (subtune : ℕ) : Type 0 where
   pub first : 1 ≤ subtune
   pub last : subtune ≤ psid.header.songs
 
--- one of the calls, init of the subtune and so many frames, does not return; each call before it does
+-- one of the calls, init of the subtune and then play as often as there are frames, does not return; each call before it does
 pub record StopsIn (psid : Psid) (subtune frames : ℕ) : Type 0 where
   pub call : ℕ
   pub within : call ≤ frames

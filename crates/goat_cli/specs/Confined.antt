@@ -4,7 +4,7 @@ use Rattle.cpu6502.specs.declared.machine.Machine.{Machine}
 use Rattle.cpu6502.specs.Step.{written}
 use Rattle.cpu6502.specs.Call.{return_address}
 
--- a place that a call may write, where the image of so many bytes stands at an address, the player owns the bytes zero_page and zero_page + 1, and the stack pointer is sp as the call begins
+-- a place that a call may write, where an image of this length stands at an address, the player owns the bytes zero_page and zero_page + 1, and the stack pointer is sp as the call begins
 pub data IsOwnPlace (length address zero_page sp place : ℕ) : Type 0 where
   in_image : address ≤ place → place < address + length → IsOwnPlace length address zero_page sp place
   low_pointer : place ≡ zero_page → IsOwnPlace length address zero_page sp place

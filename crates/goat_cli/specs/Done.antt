@@ -25,7 +25,7 @@ pub record Shows (psid : Psid) (subtune calls : ℕ) (lines : List (List ℕ)) :
   pub returned : FirstCalls (loaded psid) (subtune - 1) calls registers after
   pub lines_are : lines ≡ register_lines registers
 
--- of a song a packed file, or its canonical spelling, is written; of a PSID file the calls are shown, init and so many frames
+-- of a song a packed file, or its canonical spelling, is written; of a PSID file the calls are shown: init, and play as often as there are frames
 abbrev pub Done : Job → Files → List (List ℕ) → Option (List ℕ × List ℕ) → Type 0
 Done (Pack input output psid address zero_page) files lines write = (song : Song) × (file : List ℕ) × HoldsSong files input song × IsPackedFile psid address zero_page song file × Writes output file lines write
 Done (Copy input output) files lines write = (song : Song) × HoldsSong files input song × Writes output (canonical song) lines write

@@ -8,7 +8,7 @@ use Rattle.sid_run.specs.State.{RunnerState}
 use Rattle.goat_cli.specs.Calls.{FirstCalls, MeetsStopAt}
 use Rattle.goat_cli.specs.RegisterText.{register_lines}
 use Rattle.goat_cli.specs.Lines.{missing_line, too_long_line, read_fault_line, write_fault_line, stop_line, wrote_line}
-use Rattle.goat_cli.specs.Last.{Last, Says, Silent, SinkFailed, Wants}
+use Rattle.goat_cli.specs.Last.{Last, Says, SaysNothing, SinkFailed, Wants}
 use Rattle.goat_cli.specs.Stages.{Stage, Ends, status_of}
 use Rattle.goat_cli.specs.Stands.{FolderState, SinkState, AreFiles, Counted, FolderStays, Appends, FailsAfter, Account, IsPrinting, TellsWant}
 
@@ -47,9 +47,9 @@ pub record FailsIn (bytes : List ℕ) (before after : SinkState) : Type 0 where
   pub kept : ℕ
   pub fails : FailsAfter (take kept bytes) before after
 
--- what became of init and so many frames of a loaded file
+-- what became of init and of play, as often as there are frames, of a loaded file
 pub data CallsEnd (file : RunnerState) (subtune frames : ℕ) (last : Last) (before after : SinkState) : Type 0 where
-  played : (registers : List (List ℕ)) (machine : Machine) → FirstCalls file subtune (frames + 1) registers machine → last ≡ Silent → Appends (concat (register_lines registers)) before after → CallsEnd file subtune frames last before after
+  played : (registers : List (List ℕ)) (machine : Machine) → FirstCalls file subtune (frames + 1) registers machine → last ≡ SaysNothing → Appends (concat (register_lines registers)) before after → CallsEnd file subtune frames last before after
   stopped : (call : ℕ) (registers : List (List ℕ)) (reason : CallStop) → call ≤ frames → MeetsStopAt file subtune call registers reason → last ≡ Says 13 (stop_line reason call) → Appends (concat (register_lines registers)) before after → CallsEnd file subtune frames last before after
   failed : (calls kept : ℕ) (earlier : List (List ℕ)) (line : List ℕ) (registers : List (List ℕ)) (machine : Machine) → calls ≤ frames + 1 → FirstCalls file subtune calls registers machine → register_lines registers ≡ earlier ++ line ∷ [] → last ≡ SinkFailed → FailsAfter (concat earlier ++ take kept line) before after → CallsEnd file subtune frames last before after
   wanting : (calls : ℕ) (earlier : List (List ℕ)) (line : List ℕ) (registers : List (List ℕ)) (machine : Machine) → calls ≤ frames + 1 → FirstCalls file subtune calls registers machine → register_lines registers ≡ earlier ++ line ∷ [] → last ≡ Wants → Appends (concat earlier) before after → CallsEnd file subtune frames last before after
@@ -64,7 +64,7 @@ pub record HasLast (words : List (List ℕ)) (files : Files) (status : ℕ) (lin
   pub appends : Appends (concat earlier) sink sink_after
 
 -- all lines were printed, and the job is done
-pub record IsSilent (words : List (List ℕ)) (files : Files) (folder folder_after : FolderState) (sink sink_after : SinkState) : Type 0 where
+pub record IsShown (words : List (List ℕ)) (files : Files) (folder folder_after : FolderState) (sink sink_after : SinkState) : Type 0 where
   pub lines : List (List ℕ)
   pub account : Account words files 0 lines folder.told folder_after.told
   pub counted : Counted 0 folder.counts folder_after.counts
@@ -87,7 +87,7 @@ pub data IsWanting (words : List (List ℕ)) (files : Files) (folder folder_afte
 
 abbrev pub IsOver : List (List ℕ) → Files → Last → FolderState → FolderState → SinkState → SinkState → Type 0
 IsOver words files (Says status line) folder folder_after sink sink_after = HasLast words files status line folder folder_after sink sink_after
-IsOver words files Silent folder folder_after sink sink_after = IsSilent words files folder folder_after sink sink_after
+IsOver words files SaysNothing folder folder_after sink sink_after = IsShown words files folder folder_after sink sink_after
 IsOver words files SinkFailed folder folder_after sink sink_after = HasFailed words files folder folder_after sink sink_after
 IsOver words files Wants folder folder_after sink sink_after = IsWanting words files folder folder_after sink sink_after
 
@@ -113,6 +113,6 @@ pub record PrintsNothing (status answer : ℕ) (before after : SinkState) : Type
 -- what became of the last line
 abbrev pub Prints : Last → ℕ → SinkState → SinkState → Type 0
 Prints (Says status line) answer before after = PrintsLine status line answer before after
-Prints Silent answer before after = PrintsNothing 0 answer before after
+Prints SaysNothing answer before after = PrintsNothing 0 answer before after
 Prints SinkFailed answer before after = PrintsNothing 10 answer before after
 Prints Wants answer before after = TellsWant [] answer before after

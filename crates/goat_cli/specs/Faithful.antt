@@ -28,7 +28,7 @@ PlaysOn image address zero_page song k i (suc n) before =
     (machine : Machine) (number : ℕ) → IsMachine machine → number < 256 → AgreesOn image address before machine →
     (after : Machine) × Leaves image address zero_page machine (address + 3) number (trace song k i) after × PlaysOn image address zero_page song k (suc i) n after
 
--- For each playable subtune k and each n: init with k, from any machine that holds the image at the address, and n plays behind it.
+-- For each playable subtune k and each n: init with k, from any machine that holds the image at the address, and n plays after it.
 pub record IsFaithful (image : List ℕ) (address zero_page : ℕ) (song : Song) : Type 0 where
   pub plays : (k n : ℕ) (machine : Machine) → k < length (playable_subtunes song) → IsMachine machine → Holds machine.memory address image →
       (after : Machine) × Leaves image address zero_page machine address k (trace song k 0) after × PlaysOn image address zero_page song k 1 n after

@@ -14,7 +14,7 @@ bytes_of Dex = 0xCA ∷ []
 bytes_of (BplBy displacement) = 0x10 ∷ displacement ∷ []
 bytes_of Rts = 0x60 ∷ []
 
--- a jump to init; play, three bytes behind the address; and init, nineteen bytes behind it
+-- a jump to init; play, three bytes after the address; and init, nineteen bytes after it
 abbrev pub silent_code : ℕ → List Instruction
 silent_code address =
     JmpTo ((address + 19) % 65536)

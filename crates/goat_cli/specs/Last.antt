@@ -9,7 +9,7 @@ use Rattle.goat_cli.specs.Lines.{usage_line, missing_line, too_long_line, read_f
 -- a status and its last line; nothing, since all is printed and the job is done; nothing, since the sink has failed; that memory is wanting
 pub data Last : Type 0 where
   Says : (status : ℕ) (line : List ℕ) → Last
-  Silent : Last
+  SaysNothing : Last
   SinkFailed : Last
   Wants : Last
 
@@ -31,7 +31,7 @@ last_of NotBuilt = Says 15 not_built_line
 -- of a job
 abbrev pub last_word : Result Report Refusal → Last
 last_word (Ok (Wrote count)) = Says 0 (wrote_line count)
-last_word (Ok Shown) = Silent
+last_word (Ok Shown) = SaysNothing
 last_word (Err refusal) = last_of refusal
 
 -- there is a last line to print

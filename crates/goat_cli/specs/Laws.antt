@@ -1,22 +1,23 @@
 -- What follows from the definitions: words name one job, a run has one outcome, each status comes exactly where its cause is, and a packed file that is run prints its song.
-use Rattle.std.specs.Prelude.{◌≡◌, ℕ, zero, suc, ◌+◌, ◌-◌, ◌↔◌, List, [], ◌∷◌, ◌++◌, Option, Some, None, Err}
+use Rattle.std.specs.Prelude.{◌≡◌, ℕ, ◌+◌, ◌-◌, ◌≤◌, ◌↔◌, List, Option, Some, None, Ok, Err, length}
 use Rattle.goat_io.specs.Files.{Files, file_of, IsAbsent, IsAbove}
 use Rattle.song_model.specs.declared.songs.Song.{Song}
 use Rattle.song_model.specs.Silent.{IsSilent}
 use Rattle.gts5.specs.declared.faults.SongFault.{SongFault}
 use Rattle.gts5.specs.Faults.{fault_of}
-use Rattle.play_model.specs.Frame.{trace}
+use Rattle.song_model.specs.LookUp.{playable_subtunes}
+use Rattle.cpu6502.specs.declared.machine.Machine.{Machine}
+use Rattle.sid_run.specs.State.{loaded}
 use Rattle.psid.specs.declared.header.Psid.{Psid}
 use Rattle.psid.specs.declared.faults.PsidFault.{PsidFault}
 use Rattle.psid.specs.Reading.{psid_read}
 use Rattle.goat_cli.specs.Words.{Job, WordsOf, IsNoForm}
-use Rattle.goat_cli.specs.Calls.{HasSubtune, StopsIn}
-use Rattle.goat_cli.specs.RegisterText.{register_lines}
-use Rattle.goat_cli.specs.Stages.{IsThere, Fits, SpellsSong, CanBePacked, IsPsid, OffersSubtune, CallsReturn, HoldsSong, HoldsPsid, stages, AllPass}
+use Rattle.goat_cli.specs.Calls.{HasSubtune, FirstCalls, StopsIn}
+use Rattle.goat_cli.specs.Stages.{IsThere, Fits, SpellsSong, CanBePacked, IsPsid, OffersSubtune, CallsReturn, HoldsSong, HoldsPsid, stages, Passes, AllPass}
 use Rattle.goat_cli.specs.Outcome.{Outcome}
 use Rattle.goat_cli.specs.Due.{IsDue}
 use Rattle.goat_cli.specs.Stands.{ComesTo}
-use Rattle.goat_cli.specs.Answers.{RunsPacked}
+use Rattle.goat_cli.specs.Answers.{IsPackedPsid, first_traces}
 
 abbrev pub WordsNameOneJob : Type 0
 WordsNameOneJob = (words : List (List ℕ)) (a b : Job) → WordsOf words a → WordsOf words b → a ≡ b
@@ -50,13 +51,22 @@ pub record StatusesHaveCauses : Type 0 where
   pub stopped : (words : List (List ℕ)) (files : Files) → IsRefused words files 13 ↔ ((name : List ℕ) × (subtune frames : ℕ) × (psid : Psid) × ComesTo words files (CallsReturn name subtune frames) × HoldsPsid files name psid × StopsIn psid subtune frames)
   pub not_built : (words : List (List ℕ)) (files : Files) → IsRefused words files 15 ↔ ((name : List ℕ) × (song : Song) × ComesTo words files (CanBePacked name) × HoldsSong files name song × ¬ IsSilent song)
 
+-- ---- when a stage is met
+
+-- each stage is met where what it asks for is there
+pub record StagesAreMet : Type 0 where
+  pub there : (files : Files) (name bytes : List ℕ) → file_of files name ≡ Some bytes → Passes files (IsThere name)
+  pub fits : (files : Files) (name bytes : List ℕ) (limit : ℕ) → file_of files name ≡ Some bytes → length bytes ≤ limit → Passes files (Fits name limit)
+  pub song : (files : Files) (name : List ℕ) (song : Song) → HoldsSong files name song → Passes files (SpellsSong name)
+  pub silent : (files : Files) (name : List ℕ) (song : Song) → HoldsSong files name song → IsSilent song → Passes files (CanBePacked name)
+  pub psid : (files : Files) (name : List ℕ) (psid : Psid) → HoldsPsid files name psid → Passes files (IsPsid name)
+  pub subtune : (files : Files) (name : List ℕ) (psid : Psid) (subtune : ℕ) → HoldsPsid files name psid → HasSubtune psid subtune → Passes files (OffersSubtune name subtune)
+  pub calls : (files : Files) (name : List ℕ) (psid : Psid) (subtune frames : ℕ) (registers : List (List ℕ)) (machine : Machine) → HoldsPsid files name psid → FirstCalls (loaded psid) (subtune - 1) (frames + 1) registers machine → Passes files (CallsReturn name subtune frames)
+
 -- ---- packed files
 
--- the registers after the first so many calls of a song's playable subtune, counted from 0
-abbrev pub first_traces : Song → ℕ → ℕ → List (List ℕ)
-first_traces song k zero = []
-first_traces song k (suc calls) = first_traces song k calls ++ trace song k calls ∷ []
-
--- a packed PSID file is run to its end, and the lines are those of the trace of the subtune
+-- a packed PSID file is read, has the subtune, and its calls return with the registers of the subtune's trace, for any number of frames
 abbrev pub PackedFilesPlay : Type 0
-PackedFilesPlay = (words : List (List ℕ)) (files : Files) (song : Song) (subtune frames : ℕ) → RunsPacked words files song subtune frames → Outcome words files 0 (register_lines (first_traces song (subtune - 1) (frames + 1))) None
+PackedFilesPlay =
+    (song : Song) (file : List ℕ) (subtune frames : ℕ) → IsPackedPsid song file → 1 ≤ subtune → subtune ≤ length (playable_subtunes song) →
+    (psid : Psid) × (psid_read file ≡ Ok psid) × HasSubtune psid subtune × (after : Machine) × FirstCalls (loaded psid) (subtune - 1) (frames + 1) (first_traces song (subtune - 1) (frames + 1)) after

@@ -38,7 +38,7 @@ psid_fault_line psid.Unsupported = codes "not a PSID: unsupported\n"
 psid_fault_line psid.BadField = codes "not a PSID: bad field\n"
 psid_fault_line psid.NoMemory = codes "no memory\n"
 
--- for a subtune that a file of so many songs doesn't have
+-- for a subtune that a file with this number of songs doesn't have
 abbrev pub no_subtune_line : ℕ → ℕ → List ℕ
 no_subtune_line asked songs = codes "no such subtune: " ++ decimal asked ++ codes " of " ++ decimal songs ++ codes "\n"
 
@@ -66,6 +66,6 @@ not_built_line = codes "not built\n"
 abbrev pub no_memory_line : List ℕ
 no_memory_line = codes "no memory\n"
 
--- for a file of so many bytes
+-- for a file of this length
 abbrev pub wrote_line : ℕ → List ℕ
 wrote_line count = codes "wrote " ++ decimal count ++ codes " bytes\n"

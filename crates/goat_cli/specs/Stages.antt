@@ -18,7 +18,14 @@ use Rattle.goat_cli.specs.Lines.{missing_line, too_long_line, song_fault_line, n
 abbrev pub input_limit : ℕ
 input_limit = 262144
 
--- the file with the name is there; it has at most so many bytes; it spells a song; the song can be packed; it is a PSID file; that has the subtune, counted from 1; init of the subtune and so many frames of play return
+-- A condition of the files. One that asks something of a file that isn't there is met: the stage before it has ended the run.
+--   IsThere: there is a file with the name
+--   Fits: it has at most `limit` bytes
+--   SpellsSong: it spells a song
+--   CanBePacked: the song is silent
+--   IsPsid: it is a PSID file
+--   OffersSubtune: the PSID file has the subtune, counted from 1
+--   CallsReturn: init of the subtune, and then play as often as there are frames, return
 pub data Stage : Type 0 where
   IsThere : (name : List ℕ) → Stage
   Fits : (name : List ℕ) (limit : ℕ) → Stage

@@ -35,7 +35,7 @@ frame_limit = 100000
 abbrev pub subtune_limit : ℕ
 subtune_limit = 255
 
--- what the program is asked to do: pack the song in one file into another, a PSID file or a raw one; copy it into another file; or run a PSID file, from a subtune counted from 1, for so many frames
+-- what the program is asked to do: pack the song in one file into another, a PSID file or a raw one; copy it into another file; or run a PSID file: a subtune, counted from 1, and a number of frames
 pub data Job : Type 0 where
   Pack : (input output : List ℕ) (psid : Bool) (address zero_page : ℕ) → Job
   Copy : (input output : List ℕ) → Job
@@ -99,8 +99,8 @@ output_of (Pack input output psid address zero_page) = Some output
 output_of (Copy input output) = Some output
 output_of _ = None
 
--- what the words of a job say of its numbers: an image can stand at the address, and the frames are not too many
-abbrev pub KeepsLimits : Job → Type 0
-KeepsLimits (Pack input output psid address zero_page) = IsAddress address
-KeepsLimits (Run input subtune frames) = frames ≤ frame_limit
-KeepsLimits _ = Unit {0}
+-- the numbers of a job are allowed: an image can stand at the address, and there are at most 100,000 frames
+abbrev pub HasAllowedNumbers : Job → Type 0
+HasAllowedNumbers (Pack input output psid address zero_page) = IsAddress address
+HasAllowedNumbers (Run input subtune frames) = frames ≤ frame_limit
+HasAllowedNumbers _ = Unit {0}

@@ -25,7 +25,7 @@ pub fn is_psid(word: &str) -> Result<bool, WordsFault>
 /// # Errors
 ///
 /// The word has another byte than a digit, or a leading zero, or the number is above the limit.
-pub fn number_of(word: &str, limit: u32) -> Result<u32, WordsFault>
+pub fn decimal_of(word: &str, limit: u32) -> Result<u32, WordsFault>
     ensures { MatchResult result (IsNumberWord limit word.now) (λ _. (number : ℕ) → ¬ IsNumberWord limit word.now number) }
 {
     let Ok(number) = word.parse::<u32>() else {

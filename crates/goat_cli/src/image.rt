@@ -1,3 +1,5 @@
+//! The image of the silent player, from its instructions.
+
 ghost use Rattle.std.specs.Prelude.{◌≡◌, ◌++◌, ◌∷◌, [], ◌%◌, ◌/◌, IfOk, OnOk, flat_map};
 ghost use Rattle.goat_cli.specs.Image.{silent_image, silent_code, bytes_of};
 ghost use Rattle.goat_cli.specs.Place.{IsAddress};
@@ -45,12 +47,12 @@ enum Instruction {
     /// The address is increased by X.
     StaAtX(u16),
     Dex,
-    /// Goes so many bytes back from the next instruction, as a displacement byte.
+    /// Goes back from the next instruction by a displacement byte.
     BplBy(u8),
     Rts,
 }
 
-/// The image of a player of silence, to stand at an address: init is called there and play three bytes behind. Init
+/// The image of a player of silence, to stand at an address: init is called there, and play three bytes after it. Init
 /// writes 0 to all 25 registers of the SID, and play writes 0 to the first 24 of them and full volume to the last.
 pub fn silent_image(alloc: Global, address: u16) -> Result<Vec<u8>, NoMemory>
     ensures bytes { IfOk result (λ image. image.items ≡ silent_image address) }
@@ -88,7 +90,7 @@ fn silent_code(address: u16) -> [Instruction; CODE_LENGTH]
     ]
 }
 
-/// The bytes of instructions, one behind the other.
+/// The bytes of instructions, one after the other.
 fn assembled(alloc: Global, code: &[Instruction]) -> Result<Vec<u8>, AllocError>
     ensures { IfOk result (λ bytes. bytes.items ≡ flat_map bytes_of code.now) }
 {

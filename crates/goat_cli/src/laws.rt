@@ -1,17 +1,22 @@
 //! Facts about the definitions, each the contract of a function that does nothing.
 
-ghost use Rattle.goat_cli.specs.Laws.{WordsNameOneJob, OutcomesAreDue, OneStatusIsDue, OneTextIsPrinted, StatusesHaveCauses, PackedFilesPlay};
+ghost use Rattle.goat_cli.specs.Laws.{WordsNameOneJob, OutcomesAreDue, OneStatusIsDue, OneTextIsPrinted, StagesAreMet, StatusesHaveCauses, PackedFilesPlay};
 
 /// The words of a line name one job at most.
 pub fn words_name_one_job()
     ensures { WordsNameOneJob }
 {}
 
-/// A run has one outcome: one status and one name to write under, and, where nothing is written, one text.
+/// A run has one outcome at most: one status and one name to write under, and, where nothing is written, one text.
 pub fn runs_have_one_outcome()
     ensures due { OutcomesAreDue }
     ensures status { OneStatusIsDue }
     ensures text { OneTextIsPrinted }
+{}
+
+/// Each stage is met where what it asks for is there.
+pub fn stages_are_met()
+    ensures { StagesAreMet }
 {}
 
 /// Each status comes of its own cause, and of no other.
@@ -19,7 +24,7 @@ pub fn statuses_have_causes()
     ensures { StatusesHaveCauses }
 {}
 
-/// A run of a packed PSID file goes to its end, and prints the registers of the song's trace and nothing else.
+/// All calls of a packed PSID file return, with the registers of the song's trace.
 pub fn packed_files_play_their_song()
     ensures { PackedFilesPlay }
 {}

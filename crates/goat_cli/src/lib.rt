@@ -4,7 +4,7 @@
 //! file; a file that is written holds an image that plays the song that was read, whatever else is in memory. Each
 //! status comes only where its cause does.
 //!
-//! Today every song is copied, and silent songs are packed, with one fixed player; other songs aren't packed yet.
+//! Every song is copied; silent songs are packed, with one fixed player.
 //!
 //! It stands on `goat_io` for folders and sinks, on `gts5` and `song_model` for the song, on `play_model` for what a
 //! song sounds like and on `cpu6502` for what machine code does.

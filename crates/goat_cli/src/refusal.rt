@@ -10,7 +10,7 @@ use song_model::NoMemory;
 /// What is left to print of a job that is done.
 #[derive(Clone, Copy, Debug)]
 pub enum Report {
-    /// A file of so many bytes was written.
+    /// A file with this number of bytes was written.
     Wrote(usize),
     /// The registers after each call were printed; no line follows them.
     Shown,
@@ -33,7 +33,7 @@ pub enum Refusal<'a> {
     WriteFault(&'a str),
     /// The sink failed to take a line; no other follows.
     SinkFault,
-    /// The file has so many songs, and not the one that was asked for, counted from 1.
+    /// The file has `songs` songs, and not the one that was asked for, counted from 1.
     NoSubtune { asked: u8, songs: u16 },
     /// The file breaks the format of PSID files.
     NotAPsid(PsidFault),

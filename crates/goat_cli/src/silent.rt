@@ -1,4 +1,4 @@
-//! Silent songs: the songs that can be packed today.
+//! Silent songs, which can be packed.
 
 ghost use Rattle.std.specs.Prelude.{◌≡◌, ◌↔◌, All, IsTrue};
 ghost use Rattle.song_model.specs.Silent.{IsSilent, IsSilentRow, IsSilentOrder, IsSilentSubtune};

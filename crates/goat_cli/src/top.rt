@@ -7,8 +7,7 @@ ghost use Rattle.goat_cli.specs.Words.{texts, IsNoForm};
 ghost use Rattle.goat_cli.specs.RegisterText.{register_text};
 ghost use Rattle.goat_cli.specs.Due.{IsDue, IsOneOf, instead};
 ghost use Rattle.goat_cli.specs.Stands.{folder_state, sink_state, RunStands, Counted, TellsWant};
-ghost use Rattle.goat_cli.specs.Answers.{HoldsDone, IsOrdinary, IsPrinted, IsBeforeWriting, ComesAbout, ComesWhere, SinkCounted, RunsPacked};
-ghost use Rattle.goat_cli.specs.Laws.{first_traces};
+ghost use Rattle.goat_cli.specs.Answers.{HoldsDone, IsOrdinary, IsPrinted, IsBeforeWriting, ComesAbout, ComesWhere, SinkCounted, RunsPacked, first_traces};
 ghost use Rattle.goat_cli.specs.Last.{last_word};
 ghost use Rattle.goat_cli.specs.Endings.{RunEnds, Prints, PrintsLine};
 
@@ -46,7 +45,7 @@ pub fn goat<F: Folder, K: Sink>(alloc: Global, words: &[String], folder: &mut F,
     // A packed file that is run prints its song's trace.
     ensures packed { IfSome (F.files folder.old) (λ files. (song : Song) (subtune frames : ℕ) → RunsPacked (texts words.now) files song subtune frames → IsOneOf (0 ∷ 4 ∷ 10 ∷ 14 ∷ []) result × (result ≡ 0 → K.written out.new ≡ told_with_piece (K.written out.old) (register_text (first_traces song (subtune - 1) (frames + 1))))) }
 
-    // Each count of a device rises with its own status, and with no other.
+    // Where all lines were printed each count of the folder rises with its own status and with no other; the sink's always.
     ensures counted { IsPrinted result → Counted result (F.counts folder.old) (F.counts folder.new) }
     ensures sink_counted { SinkCounted result (K.faults out.old) (K.faults out.new) }
 
@@ -57,7 +56,7 @@ pub fn goat<F: Folder, K: Sink>(alloc: Global, words: &[String], folder: &mut F,
     answer(alloc, words, folder, out)
 }
 
-/// Does all that the program does: with room for its lines, but for the last one, and then that.
+/// Takes room for the lines, does the job, and prints the last line.
 fn answer<F: Folder, K: Sink>(alloc: Global, words: &[String], folder: &mut F, out: &mut K) -> u8
     ensures { RunStands (texts words.now) result (folder_state (F.files folder.old) (F.counts folder.old)) (folder_state (F.files folder.new) (F.counts folder.new)) (sink_state (K.written out.old) (K.faults out.old)) (sink_state (K.written out.new) (K.faults out.new)) }
 {

@@ -1,7 +1,7 @@
 //! The command line's words, and the job that they name.
 
 ghost use Rattle.std.specs.Prelude.{IfOk, OnErr};
-ghost use Rattle.goat_cli.specs.Words.{texts, IsNoForm, WordsOf, KeepsLimits};
+ghost use Rattle.goat_cli.specs.Words.{texts, IsNoForm, WordsOf, HasAllowedNumbers};
 ghost use Rattle.goat_cli.specs.Job.{job_of};
 
 use crate::commands::copy::copy_job;
@@ -48,7 +48,7 @@ pub struct WordsFault;
 /// The words are of no form, or one of them is out of its range.
 pub fn parse_words(words: &[String]) -> Result<Job<'_>, WordsFault>
     ensures found { IfOk result (λ job. WordsOf (texts words.now) (job_of job)) }
-    ensures limits { IfOk result (λ job. KeepsLimits (job_of job)) }
+    ensures limits { IfOk result (λ job. HasAllowedNumbers (job_of job)) }
     ensures none { OnErr result (IsNoForm (texts words.now)) }
 {
     let Some((command, arguments)) = words.split_first() else {

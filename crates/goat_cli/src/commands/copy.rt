@@ -5,7 +5,7 @@ ghost use Rattle.goat_cli.specs.Job.{job_of};
 ghost use Rattle.goat_cli.specs.Last.{last_word};
 ghost use Rattle.goat_cli.specs.Stands.{folder_state, SinkState};
 ghost use Rattle.goat_cli.specs.Endings.{RunEnds};
-ghost use Rattle.goat_cli.specs.Words.{texts, WordsOf, KeepsLimits, command_of, AreArgumentsOf, AreCopyArguments, Copy};
+ghost use Rattle.goat_cli.specs.Words.{texts, WordsOf, HasAllowedNumbers, command_of, AreArgumentsOf, AreCopyArguments, Copy};
 
 use crate::refusal::{Refusal, Report};
 use crate::stages::{INPUT_LIMIT, read_file, song_of, write_file};
@@ -21,7 +21,7 @@ use std::alloc::Global;
 pub fn copy_job(arguments: &[String]) -> Result<Job<'_>, WordsFault>
     ensures found { IfOk result (λ job. AreArgumentsOf (job_of job) (texts arguments.now)) }
     ensures command { IfOk result (λ job. command_of (job_of job) ≡ codes "copy") }
-    ensures limits { IfOk result (λ job. KeepsLimits (job_of job)) }
+    ensures limits { IfOk result (λ job. HasAllowedNumbers (job_of job)) }
     ensures none { OnErr result ((input output : List ℕ) → ¬ AreCopyArguments (texts arguments.now) input output) }
 {
     let [input, output] = arguments else {

@@ -6,7 +6,7 @@ ghost use Rattle.goat_cli.specs.Job.{job_of};
 ghost use Rattle.goat_cli.specs.Last.{last_word};
 ghost use Rattle.goat_cli.specs.Stands.{folder_state, SinkState};
 ghost use Rattle.goat_cli.specs.Endings.{RunEnds};
-ghost use Rattle.goat_cli.specs.Words.{texts, WordsOf, KeepsLimits, command_of, AreArgumentsOf, ArePackArguments, Pack};
+ghost use Rattle.goat_cli.specs.Words.{texts, WordsOf, HasAllowedNumbers, command_of, AreArgumentsOf, ArePackArguments, Pack};
 
 use crate::arguments::{address_of, is_psid, zero_page_of};
 use crate::packed::packed_file;
@@ -24,7 +24,7 @@ use std::alloc::Global;
 pub fn pack_job(arguments: &[String]) -> Result<Job<'_>, WordsFault>
     ensures found { IfOk result (λ job. AreArgumentsOf (job_of job) (texts arguments.now)) }
     ensures command { IfOk result (λ job. command_of (job_of job) ≡ codes "pack") }
-    ensures limits { IfOk result (λ job. KeepsLimits (job_of job)) }
+    ensures limits { IfOk result (λ job. HasAllowedNumbers (job_of job)) }
     ensures none { OnErr result ((input output : List ℕ) (psid : Bool) (address zero_page : ℕ) → ¬ ArePackArguments (texts arguments.now) input output psid address zero_page) }
 {
     let [input, output, format, address, zero_page] = arguments else {

@@ -3,15 +3,15 @@
 ghost use Rattle.std.specs.Prelude.{◌≡◌, ℕ, ◌≤◌, [], codes, None, IfOk, IfErr, OnOk, OnErr, IsErrOf, List};
 ghost use Rattle.cpu6502.specs.Call.{FailsBy};
 ghost use Rattle.sid_run.specs.State.{most_steps};
-ghost use Rattle.goat_cli.specs.Calls.{entry_of, number_of, ReturnsTo};
+ghost use Rattle.goat_cli.specs.Calls.{entry_of, accumulator_of, ReturnsTo};
 ghost use Rattle.goat_cli.specs.Job.{job_of};
 ghost use Rattle.goat_cli.specs.Last.{last_word};
 ghost use Rattle.goat_cli.specs.RegisterText.{register_line};
 ghost use Rattle.goat_cli.specs.Stands.{folder_state, sink_state, Appends};
 ghost use Rattle.goat_cli.specs.Endings.{RunEnds, CallsEnd, FailsIn};
-ghost use Rattle.goat_cli.specs.Words.{texts, WordsOf, KeepsLimits, command_of, AreArgumentsOf, AreRunArguments, Run, frame_limit};
+ghost use Rattle.goat_cli.specs.Words.{texts, WordsOf, HasAllowedNumbers, command_of, AreArgumentsOf, AreRunArguments, Run, frame_limit};
 
-use crate::arguments::number_of;
+use crate::arguments::decimal_of;
 use crate::line::Line;
 use crate::refusal::{Refusal, Report};
 use crate::stages::{INPUT_LIMIT, psid_of, read_file, subtune_of};
@@ -35,7 +35,7 @@ const FRAME_LIMIT: u32 = 100_000;
 pub fn run_job(arguments: &[String]) -> Result<Job<'_>, WordsFault>
     ensures found { IfOk result (λ job. AreArgumentsOf (job_of job) (texts arguments.now)) }
     ensures command { IfOk result (λ job. command_of (job_of job) ≡ codes "run") }
-    ensures limits { IfOk result (λ job. KeepsLimits (job_of job)) }
+    ensures limits { IfOk result (λ job. HasAllowedNumbers (job_of job)) }
     ensures none { OnErr result ((input : List ℕ) (subtune frames : ℕ) → ¬ AreRunArguments (texts arguments.now) input subtune frames) }
 {
     let [input, subtune, frames] = arguments else {
@@ -44,8 +44,8 @@ pub fn run_job(arguments: &[String]) -> Result<Job<'_>, WordsFault>
     if input.is_empty() {
         return Err(WordsFault);
     }
-    let subtune = number_of(subtune.as_str(), SUBTUNE_LIMIT)?;
-    let frames = number_of(frames.as_str(), FRAME_LIMIT)?;
+    let subtune = decimal_of(subtune.as_str(), SUBTUNE_LIMIT)?;
+    let frames = decimal_of(frames.as_str(), FRAME_LIMIT)?;
     Ok(Job::Run {
         input: input.as_str(),
         subtune: subtune as u8,
@@ -53,8 +53,8 @@ pub fn run_job(arguments: &[String]) -> Result<Job<'_>, WordsFault>
     })
 }
 
-/// Runs a subtune, counted from 1, of a PSID file: init, and play for so many frames. Prints a line of registers after
-/// each call.
+/// Runs a subtune, counted from 1, of a PSID file: init, and then play `frames` times. Prints a line of registers
+/// after each call.
 pub fn run_psid<'a, F: Folder, K: Sink>(
     alloc: Global,
     input: &'a str,
@@ -76,7 +76,7 @@ pub fn run_psid<'a, F: Folder, K: Sink>(
     show_calls(&mut runner, number, frames, line, out)
 }
 
-/// Calls init with a subtune's number from 0, and play for so many frames, and prints a line after each call.
+/// Calls init with a subtune's number from 0, and then play `frames` times, and prints a line after each call.
 fn show_calls<K: Sink>(
     runner: &mut Runner,
     number: u8,
@@ -105,8 +105,8 @@ fn show_calls<K: Sink>(
 /// Makes the call with this index: call 0 is init, the others are play.
 fn next_call(runner: &mut Runner, number: u8, call: u32) -> Result<[u8; 25], CallStop>
     requires { runner.old.stopped ≡ None }
-    ensures returned { IfOk result (λ registers. ReturnsTo runner.old.machine (entry_of runner.old call) (number_of number call runner.old.machine) registers runner.new.machine) }
-    ensures failed { IfErr result (λ reason. FailsBy runner.old.machine (entry_of runner.old call) (number_of number call runner.old.machine) most_steps reason runner.new.machine) }
+    ensures returned { IfOk result (λ registers. ReturnsTo runner.old.machine (entry_of runner.old call) (accumulator_of number call runner.old.machine) registers runner.new.machine) }
+    ensures failed { IfErr result (λ reason. FailsBy runner.old.machine (entry_of runner.old call) (accumulator_of number call runner.old.machine) most_steps reason runner.new.machine) }
     ensures running { OnOk result (runner.new.stopped ≡ None) }
     ensures same_init { runner.new.init ≡ runner.old.init }
     ensures same_play { runner.new.play ≡ runner.old.play }
