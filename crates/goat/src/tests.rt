@@ -7,7 +7,7 @@ mod wanting;
 
 use cpu6502::{Cpu, Machine, Memory, WriteLog};
 use goat_cli::goat;
-use goat_io::{MemFolder, MemSink};
+use goat_io::{DiskFolder, MemFolder, MemSink};
 use std::alloc::Global;
 use std::process::Abort;
 use std::test::Fail;
@@ -204,7 +204,22 @@ fn files_that_are_not_there_or_too_long(rt: HostRuntime) -> Result<(), Fail> {
 }
 
 #[test]
-fn songs_that_sound_are_not_packed_yet(rt: HostRuntime) -> Result<(), Fail> {
+fn a_file_that_is_not_on_the_disk_is_missing(rt: HostRuntime) -> Result<(), Fail> {
+    let alloc = rt.alloc();
+    let words = vec![in alloc;
+        "copy".to_string(alloc)?,
+        "nofile".to_string(alloc)?,
+        "o".to_string(alloc)?,
+    ]?;
+    let mut folder = DiskFolder::new(&rt);
+    let mut out = MemSink::new(alloc, Vec::new(alloc));
+    assert_eq!(rt; goat(alloc, &words, &mut folder, &mut out), 2);
+    assert_eq!(rt; out.bytes(), b"missing: nofile\n".as_slice());
+    Ok(())
+}
+
+#[test]
+fn songs_that_sound_are_refused(rt: HostRuntime) -> Result<(), Fail> {
     let alloc = rt.alloc();
     assert_refused(
         &rt,

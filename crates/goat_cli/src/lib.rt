@@ -14,7 +14,7 @@ mod arguments;
 mod commands;
 mod image;
 /// Facts about the definitions.
-pub mod laws;
+pub mod claims;
 mod line;
 mod packed;
 mod program;

@@ -73,24 +73,22 @@ fn a_song_is_cut(rt: HostRuntime) -> Result<(), Fail> {
 }
 
 #[test]
-fn a_song_with_an_instrument_is_cut(rt: HostRuntime) -> Result<(), Fail> {
+fn a_song_is_cut_at_each_length(rt: HostRuntime) -> Result<(), Fail> {
     let alloc = rt.alloc();
     let song = one_note(alloc)?;
-    for (length, text) in [
-        (120, "not a song: truncated at 120\n"),
-        (130, "not a song: truncated at 130\n"),
-        (140, "not a song: truncated at 140\n"),
-        (143, "not a song: truncated at 143\n"),
-        (148, "not a song: truncated at 148\n"),
-        (173, "not a song: truncated at 173\n"),
-    ] {
+    for length in 0..song.len() {
+        let text = if length < 4 {
+            "not a song: bad magic\n".to_string(alloc)?
+        } else {
+            format!(in alloc; "not a song: truncated at {length}\n")?
+        };
         let cut = song.get(..length).ok_or("short")?;
-        assert_broken(&rt, alloc, cut, text)?;
+        assert_broken(&rt, alloc, cut, text.as_str())?;
     }
     Ok(())
 }
 
-/// A song of one pattern whose count is `count`, with so many rows, and an end row behind them or none.
+/// A song of one pattern whose count is `count`, with `rows` rows, and an end row after them or none.
 fn with_rows(alloc: Global, count: u8, rows: usize, has_end: bool) -> Result<Vec<u8>, Fail> {
     let mut parts = Vec::new(alloc);
     parts.extend_from_slice(&[

@@ -45,9 +45,9 @@ fn ignored_bytes_are_left_out(rt: HostRuntime) -> Result<(), Fail> {
 }
 
 #[test]
-fn bytes_behind_an_endmark_are_left_out(rt: HostRuntime) -> Result<(), Fail> {
+fn bytes_after_an_endmark_are_left_out(rt: HostRuntime) -> Result<(), Fail> {
     let alloc = rt.alloc();
-    // An orderlist with three more bytes, one of them $FF, a pattern with a broken row behind its end row.
+    // An orderlist with three more bytes, one of them $FF, a pattern with a broken row after its end row.
     let loose = song_with(
         alloc,
         &[

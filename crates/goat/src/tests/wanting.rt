@@ -41,8 +41,17 @@ impl Folder for PoorFolder {
 fn want_of_memory_is_told(rt: HostRuntime) -> Result<(), Fail> {
     let alloc = rt.alloc();
     let words = [
-        vec![in alloc; "copy".to_string(alloc)?, "s0".to_string(alloc)?, "o".to_string(alloc)?]?,
-        vec![in alloc; "run".to_string(alloc)?, "s0".to_string(alloc)?, "1".to_string(alloc)?, "1".to_string(alloc)?]?,
+        vec![in alloc;
+            "copy".to_string(alloc)?,
+            "s0".to_string(alloc)?,
+            "o".to_string(alloc)?,
+        ]?,
+        vec![in alloc;
+            "run".to_string(alloc)?,
+            "s0".to_string(alloc)?,
+            "1".to_string(alloc)?,
+            "1".to_string(alloc)?,
+        ]?,
     ];
     for (line, reads) in [(0, true), (0, false), (1, false)] {
         let mut folder = PoorFolder {

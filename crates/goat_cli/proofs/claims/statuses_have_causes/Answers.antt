@@ -1,5 +1,5 @@
 use Rattle.goat_cli.proofs.Due.{done_row, usage_row, missing_row, too_long_row, no_song_row, no_subtune_row, no_psid_row, stopped_row, not_built_row}
-use Rattle.goat_cli.proofs.laws.statuses_have_causes.Goals as goal
+use Rattle.goat_cli.proofs.claims.statuses_have_causes.Goals as goal
 
 pub returns : goal.returns
 returns c = record {
