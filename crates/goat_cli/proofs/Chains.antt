@@ -7,14 +7,14 @@ use Rattle.gts5.specs.Spells.{Spells}
 use Rattle.psid.specs.declared.header.Psid.{Psid}
 use Rattle.psid.specs.Reading.{psid_read}
 use Rattle.sid_run.specs.State.{loaded}
-use Rattle.goat_cli.specs.Words.{Job, Run, WordsOf}
+use Rattle.goat_cli.specs.Words.{Job, Run}
 use Rattle.cpu6502.specs.declared.machine.Machine.{Machine}
 use Rattle.goat_cli.specs.Calls.{FirstCalls}
 use Rattle.goat_cli.specs.RegisterText.{register_lines}
 use Rattle.goat_cli.specs.Lines.{stop_line, wrote_line}
 use Rattle.goat_cli.specs.Last.{Last}
-use Rattle.goat_cli.specs.Stages.{Stage, IsThere, Fits, CallsReturn, HoldsSong, HoldsPsid, stages, status_of, Passes, AllPass, FirstEnds}
-use Rattle.goat_cli.specs.Done.{Done}
+use Rattle.goat_cli.specs.Stages.{Stage, IsThere, Fits, CallsReturn, HoldsSong, HoldsPsid, status_of, IsMet, Passes, AllPass, FirstEnds}
+use Rattle.goat_cli.specs.Jobs.{WordsOf, stages, Done}
 use Rattle.goat_cli.specs.Outcome as outcome
 use Rattle.goat_cli.specs.Outcome.{told_after}
 use Rattle.goat_cli.specs.Stands as stands
@@ -22,7 +22,7 @@ use Rattle.goat_cli.specs.Stands.{FolderState, SinkState, AreFiles, FolderStays,
 use Rattle.goat_cli.specs.Endings as ends
 use Rattle.goat_cli.specs.Endings.{Refuses, WasRead, WriteEnds, CallsEnd, RunEnds}
 use Rattle.goat_cli.proofs.Told.{as_before, is_uncounted, uncounted, counted_on, stays_on, appends_nothing}
-use Rattle.goat_cli.proofs.Passes.{there_passes, fits_passes, calls_pass}
+use Rattle.goat_cli.proofs.Passes.{met_passes}
 use Rattle.goat_cli.proofs.Ends.{first_ends, says_ends, wants_first}
 
 -- the run of a job has come to these stages, and met those before them; the folder is as before
@@ -47,18 +47,18 @@ module _ (words : List (List ℕ)) (job : Job) (folder after : FolderState) wher
     stays = was.stays;
     met = IsThere name ∷ Fits name limit ∷ [];
     stages_are = are;
-    pass = (there_passes was.files name bytes was.found, (fits_passes was.files name bytes limit was.found was.fits, tt));
+    pass = (met_passes was.files (IsThere name) (bytes, was.found), (met_passes was.files (Fits name limit) (bytes, was.found, was.fits), tt));
   }
 
   -- the next stage is met
-  pub met_next : (files : Files) (stage : Stage) (rest : List Stage) → At words job files folder after (stage ∷ rest) → Passes files stage → At words job files folder after rest
-  met_next files stage rest at passes = record {
+  pub met_next : (files : Files) (stage : Stage) (rest : List Stage) → At words job files folder after (stage ∷ rest) → IsMet files stage → At words job files folder after rest
+  met_next files stage rest at met = record {
     form = at.form;
     are_files = at.are_files;
     stays = at.stays;
     met = at.met ++ stage ∷ [];
     stages_are = at.stages_are ∙ sym (append_assoc at.met (stage ∷ []) rest);
-    pass = pass_more files at.met stage at.pass passes;
+    pass = pass_more files at.met stage at.pass (met_passes files stage met);
   }
 
   -- or it refuses
@@ -125,7 +125,7 @@ module _ (words : List (List ℕ)) (input : List ℕ) (subtune frames : ℕ) (fi
 
   pub calls_over : (last : Last) → CallsEnd (loaded psid) (subtune - 1) frames last s t → RunEnds words last folder after s t
   calls_over last (ends.played registers machine first is shown) =
-      let done = met_next words (Run input subtune frames) folder after files (CallsReturn input subtune frames) [] at (calls_pass files input psid subtune frames registers machine holds first) in
+      let done = met_next words (Run input subtune frames) folder after files (CallsReturn input subtune frames) [] at (psid, holds, registers, machine, first) in
       subst (λ l. RunEnds words l folder after s t) (sym is) (record {
         files = files;
         are_files = at.are_files;

@@ -1,17 +1,18 @@
 -- From what a stage answers to how the run is over.
 use Rattle.std.proofs.Common.{◌≡◌, ℕ, inl, inr, List, [], ◌∷◌, ◌++◌, None, refl, sym, ◌∙◌, subst}
 use Rattle.goat_io.specs.Files.{Files}
-use Rattle.goat_cli.specs.Words.{Job, WordsOf, IsNoForm}
+use Rattle.goat_cli.specs.Words.{Job}
 use Rattle.goat_cli.specs.Lines.{usage_line, missing_line, too_long_line}
 use Rattle.goat_cli.specs.Last.{Last, Says, Wants}
-use Rattle.goat_cli.specs.Stages.{Stage, IsThere, Fits, stages, status_of, Ends, AllPass, FirstEnds}
+use Rattle.goat_cli.specs.Stages.{Stage, IsThere, Fits, status_of, Ends, AllPass, FirstEnds}
+use Rattle.goat_cli.specs.Jobs.{WordsOf, IsNoForm, stages}
 use Rattle.goat_cli.specs.Outcome as outcome
 use Rattle.goat_cli.specs.Stands as stands
 use Rattle.goat_cli.specs.Stands.{FolderState, SinkState, AreFiles, Counted, FolderStays, ComesTo}
 use Rattle.goat_cli.specs.Endings as ends
 use Rattle.goat_cli.specs.Endings.{ReadFails, RunEnds}
 use Rattle.goat_cli.proofs.Told.{some_files, as_before, uncounted, stays_itself, appends_nothing}
-use Rattle.goat_cli.proofs.Passes.{there_passes}
+use Rattle.goat_cli.proofs.Passes.{met_passes}
 
 -- the stage is the first that isn't met
 pub first_ends : (files : Files) (earlier later : List Stage) (stage : Stage) (lines : List (List ℕ)) → AllPass files earlier → Ends files stage lines → FirstEnds files (earlier ++ stage ∷ later) (status_of stage) lines
@@ -61,7 +62,7 @@ module _ (words : List (List ℕ)) (job : Job) (form : WordsOf words job) (folde
       (says_ends files [] (Fits name limit ∷ later) (IsThere name) (missing_line name) are in_stages tt (absent, refl) same counted)
   read_ends name limit later last in_stages (ends.too_long files are above says same counted) =
       subst (λ l. RunEnds words l folder after sink sink) (sym says)
-      (says_ends files (IsThere name ∷ []) later (Fits name limit) (too_long_line name) are in_stages (there_passes files name above.0 above.1, tt) (above, refl) same counted)
+      (says_ends files (IsThere name ∷ []) later (Fits name limit) (too_long_line name) are in_stages (met_passes files (IsThere name) (above.0, above.1), tt) (above, refl) same counted)
   read_ends name limit later last in_stages (ends.failed says same counted) =
       let some = some_files folder.told in
       let comes : ComesTo words some.files (IsThere name) = record { job = job; form = form; earlier = []; later = Fits name limit ∷ later; stages_are = in_stages; pass = tt } in

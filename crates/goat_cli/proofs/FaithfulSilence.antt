@@ -9,7 +9,8 @@ use Rattle.song_model.specs.LookUp.{playable_subtunes, is_playable_subtune}
 use Rattle.song_model.specs.Silent.{IsSilent, IsSilentSubtune}
 use Rattle.play_model.specs.Frame.{trace}
 use Rattle.play_model.specs.SilentTrace.{silent_registers}
-use Rattle.play_model.proofs.QuietTrace.{silent_is_playable, silent_songs_lem}
+use Rattle.play_model.proofs.Laws.{silent_songs_lem}
+use Rattle.song_model.proofs.Laws.{silent_is_playable}
 use Rattle.cpu6502.specs.declared.machine.Machine.{Machine}
 use Rattle.cpu6502.specs.Code.{IsMachine, Holds}
 use Rattle.goat_cli.specs.SilentRun.{InitIsSilent, PlayIsSilent}

@@ -1,5 +1,5 @@
--- Each stage is met where what it asks for is there.
-use Rattle.std.proofs.Common.{◌≡◌, ℕ, ◌+◌, ◌-◌, ◌≤◌, List, Some, None, Ok, Err, length, sym, ap, ◌∙◌, subst, arith}
+-- Each stage passes where what it asks for is there, and ends a run with one text.
+use Rattle.std.proofs.Common.{◌≡◌, ℕ, ◌+◌, ◌-◌, List, [], ◌∷◌, ◌++◌, Some, None, Ok, Err, length, sym, ap, ◌∙◌, subst, arith}
 use Rattle.goat_io.specs.Files.{Files, file_of}
 use Rattle.song_model.specs.declared.songs.Song.{Song}
 use Rattle.song_model.specs.Silent.{IsSilent}
@@ -7,12 +7,13 @@ use Rattle.gts5.specs.Spells.{Spells}
 use Rattle.gts5.specs.Faults.{fault_of}
 use Rattle.psid.specs.declared.header.Psid.{Psid}
 use Rattle.psid.specs.Reading.{psid_read}
-use Rattle.cpu6502.specs.declared.machine.Machine.{Machine}
 use Rattle.sid_run.specs.State.{loaded}
-use Rattle.goat_cli.specs.Calls.{HasSubtune, FirstCalls}
-use Rattle.goat_cli.specs.Stages.{IsThere, Fits, SpellsSong, CanBePacked, IsPsid, OffersSubtune, CallsReturn, HoldsSong, HoldsPsid, Passes}
+use Rattle.goat_cli.specs.Calls.{HasSubtune, FirstCalls, MeetsStopAt, StopsIn}
+use Rattle.goat_cli.specs.RegisterText.{register_lines}
+use Rattle.goat_cli.specs.Lines.{song_fault_line, psid_fault_line, no_subtune_line, stop_line}
+use Rattle.goat_cli.specs.Stages.{Stage, IsThere, Fits, SpellsSong, CanBePacked, IsPsid, OffersSubtune, CallsReturn, HoldsSong, HoldsPsid, IsMet, Ends, Passes}
 use Rattle.gts5.proofs.Laws.{spells_once, spells_has_no_fault}
-use Rattle.goat_cli.proofs.Calls.{returned_or_stopped}
+use Rattle.goat_cli.proofs.Calls.{returned_or_stopped, one_list, one_stop_at, one_reason}
 
 -- a name has one file, which spells one song and is one PSID file
 pub one_file : (files : Files) (name a b : List ℕ) → file_of files name ≡ Some a → file_of files name ≡ Some b → a ≡ b
@@ -29,37 +30,67 @@ one_psid_held files name a b p q =
     let both : Ok a ≡ Ok b = sym p.reads ∙ ap psid_read same ∙ q.reads in
     cc (both)
 
-pub there_passes : (files : Files) (name bytes : List ℕ) → file_of files name ≡ Some bytes → Passes files (IsThere name)
-there_passes files name bytes found lines ends = let never : Some bytes ≡ None = sym found ∙ ends.0 in absurd (cc (never))
+-- a call that doesn't return is told in one way
+one_stop : (subtune frames : ℕ) (a b : Psid) → a ≡ b → (p : StopsIn a subtune frames) (q : StopsIn b subtune frames) →
+    register_lines p.registers ++ stop_line p.reason p.call ∷ [] ≡ register_lines q.registers ++ stop_line q.reason q.call ∷ []
+one_stop subtune frames a b same p q =
+    let meets = subst (λ x. MeetsStopAt (loaded x) (subtune - 1) p.call p.registers p.reason) same p.meets in
+    let call = one_stop_at (loaded b) (subtune - 1) p.call q.call p.registers q.registers p.reason q.reason meets q.meets in
+    let there = subst (λ c. MeetsStopAt (loaded b) (subtune - 1) c p.registers p.reason) call meets in
+    let registers = one_list (loaded b) (subtune - 1) q.call p.registers q.registers there.before q.meets.before there.calls q.meets.calls in
+    let reason = one_reason (loaded b) (subtune - 1) q.call p.registers q.registers p.reason q.reason there q.meets in
+    ap (λ r. register_lines r ++ stop_line p.reason p.call ∷ []) registers
+    ∙ ap (λ r. register_lines q.registers ++ stop_line r p.call ∷ []) reason
+    ∙ ap (λ c. register_lines q.registers ++ stop_line q.reason c ∷ []) call
 
-pub fits_passes : (files : Files) (name bytes : List ℕ) (limit : ℕ) → file_of files name ≡ Some bytes → length bytes ≤ limit → Passes files (Fits name limit)
-fits_passes files name bytes limit found fits lines ends =
-    let same = one_file files name bytes ends.0.0 found ends.0.1 in
-    absurd (omega (arith, ap length same, ends.0.2, fits))
+-- ---- what each stage asks for lets it pass, and each stage ends a run with one text
 
-pub song_passes : (files : Files) (name : List ℕ) (song : Song) → HoldsSong files name song → Passes files (SpellsSong name)
-song_passes files name song holds lines ends =
-    let same = one_file files name holds.bytes ends.0 holds.found ends.2 in
-    let never : None ≡ Some ends.1 = sym (spells_has_no_fault holds.bytes song holds.spells) ∙ ap fault_of same ∙ ends.3 in
-    absurd (cc (never))
+pub record StageFacts (files : Files) (stage : Stage) : Type 0 where
+  pub passes : IsMet files stage → Passes files stage
+  pub once : (lines others : List (List ℕ)) → Ends files stage lines → Ends files stage others → lines ≡ others
 
-pub silent_passes : (files : Files) (name : List ℕ) (song : Song) → HoldsSong files name song → IsSilent song → Passes files (CanBePacked name)
-silent_passes files name song holds silent lines ends = ends.2 (subst IsSilent (one_song_held files name song ends.0 holds ends.1) silent)
+module _ (files : Files) where
+  pub stage_facts : (stage : Stage) → StageFacts files stage
+  stage_facts (IsThere name) = record {
+    passes = λ met lines ends. let never : Some met.0 ≡ None = sym met.1 ∙ ends.0 in absurd (cc (never));
+    once = λ lines others p q. p.1 ∙ sym q.1;
+  }
+  stage_facts (Fits name limit) = record {
+    passes = λ met lines ends. absurd (omega (arith, ap length (one_file files name met.0 ends.0.0 met.1 ends.0.1), ends.0.2, met.2));
+    once = λ lines others p q. p.1 ∙ sym q.1;
+  }
+  stage_facts (SpellsSong name) = record {
+    passes = λ met lines ends.
+        let never : None ≡ Some ends.1 = sym (spells_has_no_fault met.1.bytes met.0 met.1.spells) ∙ ap fault_of (one_file files name met.1.bytes ends.0 met.1.found ends.2) ∙ ends.3 in
+        absurd (cc (never));
+    once = λ lines others p q.
+        let both : Some p.1 ≡ Some q.1 = sym p.3 ∙ ap fault_of (one_file files name p.0 q.0 p.2 q.2) ∙ q.3 in
+        p.4 ∙ ap (λ f. song_fault_line f ∷ []) (cc (both)) ∙ sym q.4;
+  }
+  stage_facts (CanBePacked name) = record {
+    passes = λ met lines ends. ends.2 (subst IsSilent (one_song_held files name met.0 ends.0 met.1 ends.1) met.2);
+    once = λ lines others p q. p.3 ∙ sym q.3;
+  }
+  stage_facts (IsPsid name) = record {
+    passes = λ met lines ends.
+        let never : Ok met.0 ≡ Err ends.1 = sym met.1.reads ∙ ap psid_read (one_file files name met.1.bytes ends.0 met.1.found ends.2) ∙ ends.3 in
+        absurd (cc (never));
+    once = λ lines others p q.
+        let both : Err p.1 ≡ Err q.1 = sym p.3 ∙ ap psid_read (one_file files name p.0 q.0 p.2 q.2) ∙ q.3 in
+        p.4 ∙ ap (λ f. psid_fault_line f ∷ []) (cc (both)) ∙ sym q.4;
+  }
+  stage_facts (OffersSubtune name subtune) = record {
+    passes = λ met lines ends. ends.2 (subst (λ p. HasSubtune p subtune) (one_psid_held files name met.0 ends.0 met.1 ends.1) met.2);
+    once = λ lines others p q. p.3 ∙ ap (λ psid. no_subtune_line subtune psid.header.songs ∷ []) (one_psid_held files name p.0 q.0 p.1 q.1) ∙ sym q.3;
+  }
+  stage_facts (CallsReturn name subtune frames) = record {
+    passes = λ met lines ends.
+        let same = one_psid_held files name met.0 ends.0 met.1 ends.1 in
+        let calls = subst (λ p. FirstCalls (loaded p) (subtune - 1) (frames + 1) met.2 met.3) same met.4 in
+        let stop = ends.2 in
+        returned_or_stopped (loaded ends.0) (subtune - 1) (frames + 1) stop.call met.2 stop.registers met.3 stop.reason calls (omega (arith, stop.within)) stop.meets;
+    once = λ lines others p q. p.3 ∙ one_stop subtune frames p.0 q.0 (one_psid_held files name p.0 q.0 p.1 q.1) p.2 q.2 ∙ sym q.3;
+  }
 
-pub psid_passes : (files : Files) (name : List ℕ) (psid : Psid) → HoldsPsid files name psid → Passes files (IsPsid name)
-psid_passes files name psid holds lines ends =
-    let same = one_file files name holds.bytes ends.0 holds.found ends.2 in
-    let never : Ok psid ≡ Err ends.1 = sym holds.reads ∙ ap psid_read same ∙ ends.3 in
-    absurd (cc (never))
-
-pub subtune_passes : (files : Files) (name : List ℕ) (psid : Psid) (subtune : ℕ) → HoldsPsid files name psid → HasSubtune psid subtune → Passes files (OffersSubtune name subtune)
-subtune_passes files name psid subtune holds has lines ends =
-    ends.2 (subst (λ p. HasSubtune p subtune) (one_psid_held files name psid ends.0 holds ends.1) has)
-
-pub calls_pass : (files : Files) (name : List ℕ) (psid : Psid) (subtune frames : ℕ) (registers : List (List ℕ)) (machine : Machine) → HoldsPsid files name psid →
-    FirstCalls (loaded psid) (subtune - 1) (frames + 1) registers machine → Passes files (CallsReturn name subtune frames)
-calls_pass files name psid subtune frames registers machine holds first lines ends =
-    let stop = ends.2 in
-    let same = one_psid_held files name psid ends.0 holds ends.1 in
-    let calls = subst (λ p. FirstCalls (loaded p) (subtune - 1) (frames + 1) registers machine) same first in
-    returned_or_stopped (loaded ends.0) (subtune - 1) (frames + 1) stop.call registers stop.registers machine stop.reason calls (omega (arith, stop.within)) stop.meets
+  pub met_passes : (stage : Stage) → IsMet files stage → Passes files stage
+  met_passes stage met = (stage_facts stage).passes met

@@ -24,14 +24,15 @@ use Rattle.goat_cli.specs.Faithful.{Leaves, PlaysOn, IsFaithful}
 use Rattle.goat_cli.specs.Place.{IsAddress}
 use Rattle.goat_cli.specs.Packed.{song_header, psid_file}
 use Rattle.goat_cli.specs.RegisterText.{register_lines}
-use Rattle.goat_cli.specs.Stages.{stages, HoldsPsid, AllPass, input_limit}
+use Rattle.goat_cli.specs.Stages.{IsThere, Fits, IsPsid, OffersSubtune, CallsReturn, HoldsPsid, AllPass, input_limit}
+use Rattle.goat_cli.specs.Jobs.{stages}
 use Rattle.goat_cli.specs.Outcome as outcome
 use Rattle.goat_cli.specs.Outcome.{Outcome}
 use Rattle.goat_cli.specs.Due as due
 use Rattle.goat_cli.specs.Due.{IsDue}
 use Rattle.goat_cli.specs.Answers.{IsPackedPsid, RunsPacked, first_traces}
 use Rattle.goat_cli.specs.Laws.{PackedFilesPlay}
-use Rattle.goat_cli.proofs.Passes.{there_passes, fits_passes, psid_passes, subtune_passes, calls_pass}
+use Rattle.goat_cli.proofs.Passes.{met_passes}
 
 -- what a call of a faithful image leaves is what a call of a loaded file returns with
 returned_by : (image : List ℕ) (address zero_page : ℕ) (machine : Machine) (entry number : ℕ) (registers : List ℕ) (after : Machine) → Leaves image address zero_page machine entry number registers after → ReturnsTo machine entry number registers after
@@ -154,14 +155,14 @@ module _ (words : List (List ℕ)) (files : Files) (song : Song) (subtune frames
         after = is.3;
         calls = is.4;
         pass = (
-          there_passes files runs.input runs.file runs.found,
+          met_passes files (IsThere runs.input) (runs.file, runs.found),
           (
-            fits_passes files runs.input runs.file input_limit runs.found runs.fits,
+            met_passes files (Fits runs.input input_limit) (runs.file, runs.found, runs.fits),
             (
-              psid_passes files runs.input is.0 held,
+              met_passes files (IsPsid runs.input) (is.0, held),
               (
-                subtune_passes files runs.input is.0 subtune held is.2,
-                (calls_pass files runs.input is.0 subtune frames traces is.3 held is.4, tt),
+                met_passes files (OffersSubtune runs.input subtune) (is.0, held, is.2),
+                (met_passes files (CallsReturn runs.input subtune frames) (is.0, held, traces, is.3, is.4), tt),
               ),
             ),
           ),

@@ -8,10 +8,10 @@ use Rattle.song_model.specs.declared.songs.Song.{Song}
 use Rattle.song_model.specs.Limits.{KeepsLimits}
 use Rattle.song_model.specs.LookUp.{playable_subtunes}
 use Rattle.play_model.specs.Frame.{trace}
-use Rattle.goat_cli.specs.Words.{Job, Run, WordsOf}
+use Rattle.goat_cli.specs.Words.{Job, Run}
 use Rattle.goat_cli.specs.Place.{IsAddress}
-use Rattle.goat_cli.specs.Stages.{stages, AllPass, input_limit}
-use Rattle.goat_cli.specs.Done.{Done}
+use Rattle.goat_cli.specs.Stages.{AllPass, input_limit}
+use Rattle.goat_cli.specs.Jobs.{WordsOf, stages, Done}
 use Rattle.goat_cli.specs.Outcome.{Outcome, files_after}
 use Rattle.goat_cli.specs.Packed.{IsPackedFile}
 use Rattle.goat_cli.specs.Due.{IsOneOf}

@@ -1,8 +1,9 @@
 -- Which status a run has to answer, known without the bytes that it prints and writes.
 use Rattle.std.specs.Prelude.{◌≡◌, ℕ, List, [], ◌∷◌, Option, Some, None, ◌⊎◌}
 use Rattle.goat_io.specs.Files.{Files}
-use Rattle.goat_cli.specs.Words.{Job, WordsOf, IsNoForm, output_of}
-use Rattle.goat_cli.specs.Stages.{stages, AllPass, FirstEnds}
+use Rattle.goat_cli.specs.Words.{Job}
+use Rattle.goat_cli.specs.Stages.{AllPass, FirstEnds}
+use Rattle.goat_cli.specs.Jobs.{WordsOf, IsNoForm, output_of, stages}
 
 -- the status that is due, and the name of the file that is written with it, if any
 pub data IsDue (words : List (List ℕ)) (files : Files) (status : ℕ) (output : Option (List ℕ)) : Type 0 where

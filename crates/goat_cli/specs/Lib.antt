@@ -8,7 +8,7 @@ pub mod Stages
 pub mod Confined
 pub mod Faithful
 pub mod Packed
-pub mod Done
+pub mod Jobs
 pub mod Outcome
 pub mod Due
 pub mod Stands

@@ -1,9 +1,9 @@
 -- What the program answers where no device fails and memory is found: its status, the lines that it prints, and the name and the bytes of the file that it writes.
 use Rattle.std.specs.Prelude.{◌≡◌, ℕ, List, [], ◌∷◌, Option, Some, None, option_map}
 use Rattle.goat_io.specs.Files.{Files, with_file}
-use Rattle.goat_cli.specs.Words.{Job, WordsOf, IsNoForm}
-use Rattle.goat_cli.specs.Stages.{stages, AllPass, FirstEnds}
-use Rattle.goat_cli.specs.Done.{Done}
+use Rattle.goat_cli.specs.Words.{Job}
+use Rattle.goat_cli.specs.Stages.{AllPass, FirstEnds}
+use Rattle.goat_cli.specs.Jobs.{WordsOf, IsNoForm, stages, Done}
 use Rattle.goat_cli.specs.Lines.{usage_line}
 
 -- the words are of no form; or the first stage of their job that isn't met ends the run; or all are met and the job is done

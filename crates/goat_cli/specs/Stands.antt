@@ -5,9 +5,9 @@ use Rattle.goat_io.specs.declared.folder_counts.FolderCounts.{FolderCounts}
 use Rattle.goat_io.specs.Count.{Rose}
 use Rattle.goat_io.specs.Files.{Files, IsWrittenInPart}
 use Rattle.goat_io.specs.Written.{told_with_piece}
-use Rattle.goat_cli.specs.Words.{Job, WordsOf}
-use Rattle.goat_cli.specs.Stages.{Stage, IsThere, stages, AllPass}
-use Rattle.goat_cli.specs.Done.{Prints}
+use Rattle.goat_cli.specs.Words.{Job}
+use Rattle.goat_cli.specs.Stages.{Stage, IsThere, AllPass}
+use Rattle.goat_cli.specs.Jobs.{WordsOf, stages, Prints}
 use Rattle.goat_cli.specs.Outcome.{Outcome, told_after}
 use Rattle.goat_cli.specs.Lines.{read_fault_line, write_fault_line, no_memory_line}
 

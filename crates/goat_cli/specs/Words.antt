@@ -1,5 +1,5 @@
 -- The command line's words, and the job that they ask for.
-use Rattle.std.specs.Prelude.{◌≡◌, ◌≢◌, ℕ, ◌+◌, ◌*◌, ◌≤◌, List, [], ◌∷◌, map, codes, decimal, String, Ok, Option, Some, None, Bool, true, false}
+use Rattle.std.specs.Prelude.{◌≡◌, ◌≢◌, ℕ, ◌+◌, ◌*◌, ◌≤◌, List, [], ◌∷◌, map, codes, decimal, String, Ok, Bool, true, false}
 use Rattle.std.specs.Global.{Global}
 use Rattle.std.specs.String.{string_bytes}
 use Rattle.hex.specs.Hex.{decode_sized}
@@ -70,34 +70,6 @@ pub record AreRunArguments (arguments : List (List ℕ)) (input : List ℕ) (sub
   pub in_named : input ≢ []
   pub subtune_spelled : IsNumberWord subtune_limit subtune_word subtune
   pub frames_spelled : IsNumberWord frame_limit frames_word frames
-
--- the first word of a job's line, by which its command is told
-abbrev pub command_of : Job → List ℕ
-command_of (Pack input output psid address zero_page) = codes "pack"
-command_of (Copy input output) = codes "copy"
-command_of (Run input subtune frames) = codes "run"
-
--- the words after it
-abbrev pub AreArgumentsOf : Job → List (List ℕ) → Type 0
-AreArgumentsOf (Pack input output psid address zero_page) arguments = ArePackArguments arguments input output psid address zero_page
-AreArgumentsOf (Copy input output) arguments = AreCopyArguments arguments input output
-AreArgumentsOf (Run input subtune frames) arguments = AreRunArguments arguments input subtune frames
-
--- the words name this job
-pub record WordsOf (words : List (List ℕ)) (job : Job) : Type 0 where
-  pub arguments : List (List ℕ)
-  pub words_are : words ≡ command_of job ∷ arguments
-  pub are_arguments : AreArgumentsOf job arguments
-
--- no form of the command line has these words
-abbrev pub IsNoForm : List (List ℕ) → Type 0
-IsNoForm words = (job : Job) → ¬ WordsOf words job
-
--- the name of the file that a job writes, if it writes one
-abbrev pub output_of : Job → Option (List ℕ)
-output_of (Pack input output psid address zero_page) = Some output
-output_of (Copy input output) = Some output
-output_of _ = None
 
 -- the numbers of a job are allowed: an image can stand at the address, and there are at most 100,000 frames
 abbrev pub HasAllowedNumbers : Job → Type 0

@@ -1,6 +1,6 @@
 //! Facts about the definitions, each the contract of a function that does nothing.
 
-ghost use Rattle.goat_cli.specs.Laws.{WordsNameOneJob, OutcomesAreDue, OneStatusIsDue, OneTextIsPrinted, StagesAreMet, StatusesHaveCauses, PackedFilesPlay};
+ghost use Rattle.goat_cli.specs.Laws.{WordsNameOneJob, OutcomesAreDue, OneStatusIsDue, OneTextIsPrinted, StagesPass, StatusesHaveCauses, PackedFilesPlay};
 
 /// The words of a line name one job at most.
 pub fn words_name_one_job()
@@ -14,9 +14,9 @@ pub fn runs_have_one_outcome()
     ensures text { OneTextIsPrinted }
 {}
 
-/// Each stage is met where what it asks for is there.
-pub fn stages_are_met()
-    ensures { StagesAreMet }
+/// A stage passes where what it asks for is there.
+pub fn stages_pass()
+    ensures { StagesPass }
 {}
 
 /// Each status comes of its own cause, and of no other.

@@ -4,7 +4,8 @@ ghost use Rattle.goat_cli.specs.Job.{job_of};
 ghost use Rattle.goat_cli.specs.Last.{last_word};
 ghost use Rattle.goat_cli.specs.Stands.{folder_state, sink_state};
 ghost use Rattle.goat_cli.specs.Endings.{RunEnds};
-ghost use Rattle.goat_cli.specs.Words.{HasAllowedNumbers, WordsOf};
+ghost use Rattle.goat_cli.specs.Words.{HasAllowedNumbers};
+ghost use Rattle.goat_cli.specs.Jobs.{WordsOf};
 ghost use Rattle.std.specs.Prelude.{List, ℕ};
 
 /// `copy IN OUT`.

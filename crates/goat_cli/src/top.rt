@@ -3,7 +3,8 @@
 ghost use Rattle.std.specs.Prelude.{◌≡◌, ℕ, ◌+◌, ◌-◌, List, [], ◌∷◌, Option, IfSome};
 ghost use Rattle.goat_io.specs.Written.{told_with_piece};
 ghost use Rattle.song_model.specs.declared.songs.Song.{Song};
-ghost use Rattle.goat_cli.specs.Words.{texts, IsNoForm};
+ghost use Rattle.goat_cli.specs.Words.{texts};
+ghost use Rattle.goat_cli.specs.Jobs.{IsNoForm};
 ghost use Rattle.goat_cli.specs.RegisterText.{register_text};
 ghost use Rattle.goat_cli.specs.Due.{IsDue, IsOneOf, instead};
 ghost use Rattle.goat_cli.specs.Stands.{folder_state, sink_state, RunStands, Counted, TellsWant};

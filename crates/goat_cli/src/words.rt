@@ -1,7 +1,8 @@
 //! The command line's words, and the job that they name.
 
 ghost use Rattle.std.specs.Prelude.{IfOk, OnErr};
-ghost use Rattle.goat_cli.specs.Words.{texts, IsNoForm, WordsOf, HasAllowedNumbers};
+ghost use Rattle.goat_cli.specs.Words.{texts, HasAllowedNumbers};
+ghost use Rattle.goat_cli.specs.Jobs.{IsNoForm, WordsOf};
 ghost use Rattle.goat_cli.specs.Job.{job_of};
 
 use crate::commands::copy::copy_job;

@@ -5,7 +5,8 @@ ghost use Rattle.goat_cli.specs.Job.{job_of};
 ghost use Rattle.goat_cli.specs.Last.{last_word};
 ghost use Rattle.goat_cli.specs.Stands.{folder_state, SinkState};
 ghost use Rattle.goat_cli.specs.Endings.{RunEnds};
-ghost use Rattle.goat_cli.specs.Words.{texts, WordsOf, HasAllowedNumbers, command_of, AreArgumentsOf, AreCopyArguments, Copy};
+ghost use Rattle.goat_cli.specs.Words.{texts, HasAllowedNumbers, AreCopyArguments, Copy};
+ghost use Rattle.goat_cli.specs.Jobs.{WordsOf, command_of, AreArgumentsOf};
 
 use crate::refusal::{Refusal, Report};
 use crate::stages::{INPUT_LIMIT, read_file, song_of, write_file};

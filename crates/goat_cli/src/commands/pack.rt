@@ -6,7 +6,8 @@ ghost use Rattle.goat_cli.specs.Job.{job_of};
 ghost use Rattle.goat_cli.specs.Last.{last_word};
 ghost use Rattle.goat_cli.specs.Stands.{folder_state, SinkState};
 ghost use Rattle.goat_cli.specs.Endings.{RunEnds};
-ghost use Rattle.goat_cli.specs.Words.{texts, WordsOf, HasAllowedNumbers, command_of, AreArgumentsOf, ArePackArguments, Pack};
+ghost use Rattle.goat_cli.specs.Words.{texts, HasAllowedNumbers, ArePackArguments, Pack};
+ghost use Rattle.goat_cli.specs.Jobs.{WordsOf, command_of, AreArgumentsOf};
 
 use crate::arguments::{address_of, is_psid, zero_page_of};
 use crate::packed::packed_file;

@@ -9,7 +9,8 @@ ghost use Rattle.goat_cli.specs.Last.{last_word};
 ghost use Rattle.goat_cli.specs.RegisterText.{register_line};
 ghost use Rattle.goat_cli.specs.Stands.{folder_state, sink_state, Appends};
 ghost use Rattle.goat_cli.specs.Endings.{RunEnds, CallsEnd, FailsIn};
-ghost use Rattle.goat_cli.specs.Words.{texts, WordsOf, HasAllowedNumbers, command_of, AreArgumentsOf, AreRunArguments, Run, frame_limit};
+ghost use Rattle.goat_cli.specs.Words.{texts, HasAllowedNumbers, AreRunArguments, Run, frame_limit};
+ghost use Rattle.goat_cli.specs.Jobs.{WordsOf, command_of, AreArgumentsOf};
 
 use crate::arguments::decimal_of;
 use crate::line::Line;

@@ -2,7 +2,6 @@ use Rattle.std.proofs.Common.{Some, refl, sym, ap, ◌∙◌}
 use Rattle.std.proofs.lemmas.Result.{err_from_is_err_and}
 use Rattle.song_model.specs.Canonical.{canonical}
 use Rattle.goat_cli.proofs.Ends.{read_ends, wants_first}
-use Rattle.goat_cli.proofs.Passes.{song_passes}
 use Rattle.goat_cli.proofs.Chains.{begun, met_next, refused, written, song_held}
 use Rattle.goat_cli.proofs.commands.copy.copy_song.Goals as goal
 
@@ -29,5 +28,5 @@ returns g c = λ words sink form.
     let song = c.in_ok-song.song in
     let holds = song_held c.args.input.now c.in_ok-bytes.bytes.items _ _ _ was song (rw c.deref.ensures.value at c.in_ok-song.ensures.spells) in
     let writes = rw (c.deref-2.ensures.value, c.in_ok-file.ensures) at c.write_file.ensures in
-    written words _ _ _ _ sink c.args.output.now (canonical song) _ was.files (met_next words _ _ _ was.files _ _ (begun words _ _ _ c.args.input.now c.in_ok-bytes.bytes.items _ _ form refl was) (song_passes was.files c.args.input.now song holds))
+    written words _ _ _ _ sink c.args.output.now (canonical song) _ was.files (met_next words _ _ _ was.files _ _ (begun words _ _ _ c.args.input.now c.in_ok-bytes.bytes.items _ _ form refl was) (song, holds))
     (song, holds, record { lines_are = refl; write_is = refl }) writes

@@ -2,7 +2,6 @@ use Rattle.std.proofs.Common.{Some, refl, sym, ap, subst, ◌∙◌}
 use Rattle.std.proofs.lemmas.Result.{err_from_is_err_and}
 use Rattle.goat_cli.specs.Packed.{IsPackedFile}
 use Rattle.goat_cli.proofs.Ends.{read_ends, wants_first}
-use Rattle.goat_cli.proofs.Passes.{song_passes, silent_passes}
 use Rattle.goat_cli.proofs.Chains.{begun, met_next, refused, written, song_held}
 use Rattle.goat_cli.proofs.commands.pack.pack_song.Goals as goal
 
@@ -23,7 +22,7 @@ returns-in_err-can_be_packed g c =
     let song = c.in_ok-song.song in
     let holds = song_held c.args.input.now c.in_ok-bytes.bytes.items _ _ _ was song (rw c.deref.ensures.value at c.in_ok-song.ensures.spells) in
     let p = err_from_is_err_and c.from_residual-in_err-can_be_packed.result c.from_residual-in_err-can_be_packed.ensures.1 in
-    rw (p.1, p.2) (λ words zero_page sink form. refused words _ _ _ was.files _ _ sink _ (met_next words _ _ _ was.files _ _ (begun words _ _ _ c.args.input.now c.in_ok-bytes.bytes.items _ _ form refl was) (song_passes was.files c.args.input.now song holds)) refl (c.in_err-can_be_packed.ensures.refused was.files c.args.input.now holds))
+    rw (p.1, p.2) (λ words zero_page sink form. refused words _ _ _ was.files _ _ sink _ (met_next words _ _ _ was.files _ _ (begun words _ _ _ c.args.input.now c.in_ok-bytes.bytes.items _ _ form refl was) (song, holds)) refl (c.in_err-can_be_packed.ensures.refused was.files c.args.input.now holds))
 
 pub returns-in_err-file : goal.returns-in_err-file
 returns-in_err-file g c =
@@ -37,5 +36,5 @@ returns g c = λ words zero_page sink form.
     let song = c.in_ok-song.song in
     let holds = song_held c.args.input.now c.in_ok-bytes.bytes.items _ _ _ was song (rw c.deref.ensures.value at c.in_ok-song.ensures.spells) in
     let packed = subst (IsPackedFile c.args.psid c.args.address zero_page song) (sym c.deref-2.ensures.value) (c.in_ok-file.ensures zero_page) in
-    written words _ _ _ _ sink c.args.output.now c.deref-2.result.now _ was.files (met_next words _ _ _ was.files _ _ (met_next words _ _ _ was.files _ _ (begun words _ _ _ c.args.input.now c.in_ok-bytes.bytes.items _ _ form refl was) (song_passes was.files c.args.input.now song holds)) (silent_passes was.files c.args.input.now song holds c.in_ok-can_be_packed.ensures.silent))
+    written words _ _ _ _ sink c.args.output.now c.deref-2.result.now _ was.files (met_next words _ _ _ was.files _ _ (met_next words _ _ _ was.files _ _ (begun words _ _ _ c.args.input.now c.in_ok-bytes.bytes.items _ _ form refl was) (song, holds)) (song, holds, c.in_ok-can_be_packed.ensures.silent))
     (song, c.deref-2.result.now, holds, packed, record { lines_are = refl; write_is = refl }) c.write_file.ensures

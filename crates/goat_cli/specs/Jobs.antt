@@ -1,0 +1,90 @@
+-- What belongs to each command: the words that name its job, the stages of a run, and what the job does where all are met. It is a relation, since the player's bytes may be chosen.
+use Rattle.std.specs.Prelude.{◌≡◌, ℕ, ◌+◌, ◌-◌, ◌≤◌, List, [], ◌∷◌, codes, Option, Some, None, length}
+use Rattle.goat_io.specs.Files.{Files}
+use Rattle.song_model.specs.declared.songs.Song.{Song}
+use Rattle.song_model.specs.Canonical.{canonical}
+use Rattle.psid.specs.declared.header.Psid.{Psid}
+use Rattle.cpu6502.specs.declared.machine.Machine.{Machine}
+use Rattle.sid_run.specs.State.{loaded}
+use Rattle.goat_cli.specs.Words.{Job, Pack, Copy, Run, ArePackArguments, AreCopyArguments, AreRunArguments}
+use Rattle.goat_cli.specs.Stages.{Stage, IsThere, Fits, SpellsSong, CanBePacked, IsPsid, OffersSubtune, CallsReturn, HoldsSong, HoldsPsid, input_limit}
+use Rattle.goat_cli.specs.Packed.{IsPackedFile}
+use Rattle.goat_cli.specs.Calls.{FirstCalls}
+use Rattle.goat_cli.specs.RegisterText.{register_lines}
+use Rattle.goat_cli.specs.Lines.{wrote_line}
+
+-- the bytes are written under the name, and their number is printed
+pub record Writes (output file : List ℕ) (lines : List (List ℕ)) (write : Option (List ℕ × List ℕ)) : Type 0 where
+  pub lines_are : lines ≡ wrote_line (length file) ∷ []
+  pub write_is : write ≡ Some (output, file)
+
+-- init and play return so often, and nothing but a line for each call is printed
+pub record Shows (psid : Psid) (subtune calls : ℕ) (lines : List (List ℕ)) : Type 0 where
+  pub registers : List (List ℕ)
+  pub after : Machine
+  pub returned : FirstCalls (loaded psid) (subtune - 1) calls registers after
+  pub lines_are : lines ≡ register_lines registers
+
+-- a command's first word, and the words after it; the stages of its run, in the order of its refusals; the name of the file that it writes, if it writes one; and what it does: the lines that it prints, and the name and the bytes that it writes
+pub record About : Type 1 where
+  pub command : List ℕ
+  pub has_arguments : List (List ℕ) → Type 0
+  pub stages : List Stage
+  pub output : Option (List ℕ)
+  pub does : Files → List (List ℕ) → Option (List ℕ × List ℕ) → Type 0
+
+abbrev pub about : Job → About
+-- of a song a packed file is written
+about (Pack input output psid address zero_page) = record {
+  command = codes "pack";
+  has_arguments = λ words. ArePackArguments words input output psid address zero_page;
+  stages = IsThere input ∷ Fits input input_limit ∷ SpellsSong input ∷ CanBePacked input ∷ [];
+  output = Some output;
+  does = λ files lines write. (song : Song) × (file : List ℕ) × HoldsSong files input song × IsPackedFile psid address zero_page song file × Writes output file lines write;
+}
+-- of a song the canonical spelling is written
+about (Copy input output) = record {
+  command = codes "copy";
+  has_arguments = λ words. AreCopyArguments words input output;
+  stages = IsThere input ∷ Fits input input_limit ∷ SpellsSong input ∷ [];
+  output = Some output;
+  does = λ files lines write. (song : Song) × HoldsSong files input song × Writes output (canonical song) lines write;
+}
+-- of a PSID file the calls are shown: init, and play as often as there are frames
+about (Run input subtune frames) = record {
+  command = codes "run";
+  has_arguments = λ words. AreRunArguments words input subtune frames;
+  stages = IsThere input ∷ Fits input input_limit ∷ IsPsid input ∷ OffersSubtune input subtune ∷ CallsReturn input subtune frames ∷ [];
+  output = None;
+  does = λ files lines write. (psid : Psid) × HoldsPsid files input psid × Shows psid subtune (frames + 1) lines × (write ≡ None);
+}
+
+abbrev pub command_of : Job → List ℕ
+command_of job = (about job).command
+
+abbrev pub AreArgumentsOf : Job → List (List ℕ) → Type 0
+AreArgumentsOf job words = (about job).has_arguments words
+
+abbrev pub stages : Job → List Stage
+stages job = (about job).stages
+
+abbrev pub output_of : Job → Option (List ℕ)
+output_of job = (about job).output
+
+abbrev pub Done : Job → Files → List (List ℕ) → Option (List ℕ × List ℕ) → Type 0
+Done job files lines write = (about job).does files lines write
+
+-- the words name this job
+pub record WordsOf (words : List (List ℕ)) (job : Job) : Type 0 where
+  pub arguments : List (List ℕ)
+  pub words_are : words ≡ command_of job ∷ arguments
+  pub are_arguments : AreArgumentsOf job arguments
+
+-- no form of the command line has these words
+abbrev pub IsNoForm : List (List ℕ) → Type 0
+IsNoForm words = (job : Job) → ¬ WordsOf words job
+
+-- lines that a stage prints before it is known whether it is met: those of the first calls, which have returned
+abbrev pub Prints : Files → Stage → List (List ℕ) → Type 0
+Prints files (CallsReturn name subtune frames) lines = (psid : Psid) × HoldsPsid files name psid × (calls : ℕ) × (calls ≤ frames + 1) × Shows psid subtune calls lines
+Prints files _ lines = ⊥
