@@ -1,8 +1,8 @@
 -- A packed file that is run plays its song.
-use Rattle.std.proofs.Common.{◌≡◌, ℕ, zero, suc, ◌+◌, ◌-◌, ◌≤◌, ◌<◌, List, [], ◌∷◌, ◌++◌, None, Ok, All, length, refl, sym, ap, ◌∙◌, subst, arith, lit≤}
+use Rattle.std.proofs.Common.{◌≡◌, ℕ, zero, suc, ◌+◌, ◌-◌, ◌≤◌, ◌<◌, List, [], ◌++◌, None, Ok, All, length, refl, sym, ap, ◌∙◌, subst, arith, lit≤}
 use Rattle.song_model.specs.declared.songs.Song.{Song}
 use Rattle.song_model.specs.Limits.{KeepsLimits}
-use Rattle.std.proofs.lemmas.List.Elements.{All-tail}
+use Rattle.base.proofs.Laws.{All-append_right}
 use Rattle.std.proofs.lemmas.List.Sums.{length-filter, count_by-le-length}
 use Rattle.song_model.specs.LookUp.{playable_subtunes, is_playable_subtune}
 use Rattle.play_model.specs.Frame.{trace}
@@ -91,13 +91,9 @@ writable song address image keeps place small some = record {
   fits = omega (arith, place.most, small);
 }
 
-after_front : (front back : List ℕ) → All (λ byte. byte < 256) (front ++ back) → All (λ byte. byte < 256) back
-after_front [] back all = all
-after_front (byte ∷ front) back all = after_front front back (All-tail (λ byte. byte < 256) byte (front ++ back) all)
-
 -- the image's bytes are among the file's
 image_bytes : (header : Header) (load : ℕ) (image : List ℕ) → All (λ byte. byte < 256) (psid_bytes header load image) → All (λ byte. byte < 256) image
-image_bytes header load image all = after_front (header_bytes header ++ address_bytes load) image all
+image_bytes header load image = All-append_right (λ byte. byte < 256) (header_bytes header ++ address_bytes load) image
 
 module _ (song : Song) (address zero_page : ℕ) (image : List ℕ) (keeps : KeepsLimits song) (place : IsAddress address) (small : length image ≤ 64) (faithful : IsFaithful image address zero_page song) where
   abbrev packed : Psid

@@ -1,11 +1,12 @@
 -- What folders and sinks tell, and their counts.
 use Rattle.std.proofs.Common.{◌≡◌, ℕ, List, [], ◌++◌, Option, Some, None, Bool, true, false, not, ◌&&◌, ◌==◌, refl, sym, ap, ◌∙◌, subst, arith, take}
-use Rattle.std.proofs.lemmas.List.{append-nil, append_assoc}
+use Rattle.std.proofs.lemmas.List.{append-nil}
 use Rattle.std.specs.FinMap.{empty}
 use Rattle.goat_io.specs.declared.folder_counts.FolderCounts.{FolderCounts}
 use Rattle.goat_io.specs.Count.{Rose}
 use Rattle.goat_io.specs.Files.{Files}
 use Rattle.goat_io.specs.Written.{told_with_piece}
+use Rattle.goat_io.proofs.Laws.{told_nothing, told_both}
 use Rattle.goat_cli.specs.Outcome.{told_after}
 use Rattle.goat_cli.specs.Lines.{no_memory_line}
 use Rattle.goat_cli.specs.Stands as stands
@@ -70,14 +71,6 @@ pub stays_on : (a b c : FolderState) → FolderStays a b → FolderStays b c →
 stays_on a b c p q = record { told = q.told ∙ p.told; counts = counted_on 0 a.counts b.counts c.counts p.counts q.counts }
 
 -- ---- sinks
-
-pub told_nothing : (told : Option (List ℕ)) → told_with_piece told [] ≡ told
-told_nothing None = refl
-told_nothing (Some bytes) = ap Some (append-nil bytes)
-
-pub told_both : (told : Option (List ℕ)) (a b : List ℕ) → told_with_piece (told_with_piece told a) b ≡ told_with_piece told (a ++ b)
-told_both None a b = refl
-told_both (Some bytes) a b = ap Some (append_assoc bytes a b)
 
 pub appends_nothing : (sink : SinkState) → Appends [] sink sink
 appends_nothing sink = record { told = sym (told_nothing sink.told); faults = refl }

@@ -1,5 +1,5 @@
 -- What a run still has to say once its job is over, as the parts of the top call tell each other.
-use Rattle.std.specs.Prelude.{ℕ, List, Result, Ok, Err}
+use Rattle.std.specs.Prelude.{◌≡◌, ℕ, List, [], Result, Ok, Err}
 use Rattle.goat_cli.specs.declared.refusal.Report.{Report}
 use Rattle.goat_cli.specs.declared.refusal.Report.TheVariants.{Wrote, Shown}
 use Rattle.goat_cli.specs.declared.refusal.Refusal.{Refusal}
@@ -38,3 +38,12 @@ last_word (Err refusal) = last_of refusal
 abbrev pub IsSaid : Last → Type 0
 IsSaid (Says status line) = Unit {0}
 IsSaid _ = ⊥
+
+-- it is this status with this line
+abbrev pub SaysLine : ℕ → List ℕ → Last → Type 0
+SaysLine status line last = last ≡ Says status line
+
+-- its line, if it has one
+abbrev pub line_of : Last → List ℕ
+line_of (Says status line) = line
+line_of _ = []

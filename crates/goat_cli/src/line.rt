@@ -1,7 +1,8 @@
 //! The lines that a run prints.
 
-ghost use Rattle.std.specs.Prelude.{◌≡◌, ◌++◌, [], codes, decimal, IfOk, OnOk, OnErr};
+ghost use Rattle.std.specs.Prelude.{◌≡◌, ◌<◌, ◌≤◌, ◌+◌, ◌++◌, [], codes, decimal, length, All, IfOk, OnOk, OnErr};
 ghost use Rattle.goat_cli.specs.Lines.{address_digits};
+ghost use Rattle.goat_cli.specs.Words.{texts};
 
 use crate::refusal::{Refusal, Report};
 use cpu6502::{CallStop, Stop};
@@ -11,8 +12,8 @@ use song_model::NoMemory;
 use std::alloc::Global;
 use std::marker::Model;
 
-/// Room for the words around a name or a number, and for a line of registers.
-const ROOM_FOR_WORDS: usize = 64;
+/// Room for what stands around a name, and for a line without a name, in bytes.
+const ROOM_FOR_WORDS: usize = 96;
 
 /// The words of a command line that has no form.
 const USAGE: &[u8] = b"usage: goat check|trace|pack|run|edit|copy|selftest";
@@ -20,39 +21,49 @@ const USAGE: &[u8] = b"usage: goat check|trace|pack|run|edit|copy|selftest";
 /// The digits of a call's number in a line of registers.
 const CALL_DIGITS: usize = 6;
 
-/// One line, in memory that is taken before the run begins and used again from line to line: printing takes none.
+/// One line, in memory that is taken before the run begins and used again from line to line. Contracts see its bytes,
+/// and for how many there is room: a line that fits needs no memory.
 #[derive(Drop)]
 pub struct Line {
     text: Vec<u8>,
 }
 
 impl Model for Line {
-    ghost use Rattle.std.specs.Prelude.{List, ℕ};
+    ghost use Rattle.std.specs.Prelude.{vec_capacity};
+    ghost use Rattle.goat_cli.specs.Room.{LineState};
 
-    ghost Value = { List ℕ };
+    ghost Value = { LineState };
 
-    ghost view = { λ line. line.text.items };
+    ghost view = { λ line. record { text = line.text.items; room = vec_capacity line.text } };
 }
 
 impl Line {
-    ghost use Rattle.goat_cli.specs.Last.{last_of, last_word, IsSaid, Says};
+    ghost use Rattle.goat_cli.specs.Last.{last_of, last_word, line_of, IsSaid, SaysLine};
     ghost use Rattle.goat_cli.specs.Lines.{wrote_line, song_fault_line, psid_fault_line, no_subtune_line, stop_line, stop_text};
     ghost use Rattle.goat_cli.specs.RegisterText.{register_line, call_digits};
     ghost use Rattle.hex.specs.Hex.{encode_lower};
+    ghost use Rattle.goat_cli.specs.Room.{HasRoom};
 
     /// An empty line with room for each line that these words can lead to.
+    ///
+    /// # Errors
+    ///
+    /// Out of memory.
     pub fn with_room(alloc: Global, words: &[String]) -> Result<Self, NoMemory>
-        ensures { IfOk result (λ line. line ≡ []) }
+        ensures text { IfOk result (λ line. line.text ≡ []) }
+        ensures room { IfOk result (λ line. HasRoom (texts words.now) line.room) }
     {
-        let longest = words.iter().map(|word| word.len()).max().unwrap_or(0);
+        let Some(room) = longest(words).checked_add(ROOM_FOR_WORDS) else {
+            return Err(NoMemory);
+        };
         Ok(Line {
-            text: Vec::with_capacity(alloc, longest.saturating_add(ROOM_FOR_WORDS))?,
+            text: Vec::with_capacity(alloc, room)?,
         })
     }
 
     /// The line's bytes, its line feed among them.
     pub fn as_slice(&self) -> &[u8]
-        ensures { result.now ≡ self.now }
+        ensures { result.now ≡ self.now.text }
     {
         self.text.as_slice()
     }
@@ -61,11 +72,12 @@ impl Line {
     ///
     /// # Errors
     ///
-    /// Out of memory.
+    /// The line is longer than its room, and out of memory.
     pub fn tell(&mut self, ended: &Result<Report, Refusal>) -> Result<u8, NoMemory>
         requires { IsSaid (last_word ended.now) }
-        ensures told { IfOk result (λ status. last_word ended.now ≡ Says status self.new) }
+        ensures told { IfOk result (λ status. SaysLine status self.new.text (last_word ended.now)) }
         ensures untold { OnErr result (IsSaid (last_word ended.now)) }
+        ensures full { OnErr result (self.old.room < length (line_of (last_word ended.now))) }
     {
         match ended {
             Ok(Report::Wrote(count)) => self.tell_count(*count),
@@ -77,7 +89,8 @@ impl Line {
     /// Makes the line the one that tells of a refusal, and answers its status.
     fn tell_refusal(&mut self, refusal: &Refusal) -> Result<u8, NoMemory>
         requires { IsSaid (last_of refusal.now) }
-        ensures { IfOk result (λ status. last_of refusal.now ≡ Says status self.new) }
+        ensures told { IfOk result (λ status. SaysLine status self.new.text (last_of refusal.now)) }
+        ensures full { OnErr result (self.old.room < length (line_of (last_of refusal.now))) }
     {
         match refusal {
             Refusal::Usage => self.say(1, USAGE, b"", b"\n"),
@@ -96,7 +109,9 @@ impl Line {
 
     /// Makes the line that of a call: its number, and the SID's registers after it.
     pub fn tell_registers(&mut self, call: u32, registers: &[u8; 25]) -> Result<(), NoMemory>
-        ensures { OnOk result (self.new ≡ register_line call registers.now) }
+        ensures told { OnOk result (self.new.text ≡ register_line call registers.now) }
+        ensures full { OnErr result (self.old.room < length (register_line call registers.now)) }
+        ensures room { OnOk result (self.old.room ≤ self.new.room) }
     {
         let mut digits = [0; 50];
         if hex::encode_to_slice(registers.as_slice(), &mut digits).is_err() {
@@ -109,7 +124,8 @@ impl Line {
     }
 
     fn tell_song_fault(&mut self, fault: SongFault) -> Result<u8, NoMemory>
-        ensures { IfOk result (λ status. (status ≡ 5) × (self.new ≡ song_fault_line fault)) }
+        ensures told { IfOk result (λ status. (status ≡ 5) × (self.new.text ≡ song_fault_line fault)) }
+        ensures full { OnErr result (self.old.room < length (song_fault_line fault)) }
     {
         match fault {
             SongFault::NotGts5 => self.say(5, b"not a song: bad magic", b"", b"\n"),
@@ -132,7 +148,8 @@ impl Line {
     }
 
     fn tell_psid_fault(&mut self, fault: PsidFault) -> Result<u8, NoMemory>
-        ensures { IfOk result (λ status. (status ≡ 12) × (self.new ≡ psid_fault_line fault)) }
+        ensures told { IfOk result (λ status. (status ≡ 12) × (self.new.text ≡ psid_fault_line fault)) }
+        ensures full { OnErr result (self.old.room < length (psid_fault_line fault)) }
     {
         match fault {
             PsidFault::NotPsid => self.say(12, b"not a PSID: bad magic", b"", b"\n"),
@@ -144,7 +161,8 @@ impl Line {
     }
 
     fn tell_no_subtune(&mut self, asked: u8, songs: u16) -> Result<u8, NoMemory>
-        ensures { IfOk result (λ status. (status ≡ 11) × (self.new ≡ no_subtune_line asked songs)) }
+        ensures told { IfOk result (λ status. (status ≡ 11) × (self.new.text ≡ no_subtune_line asked songs)) }
+        ensures full { OnErr result (self.old.room < length (no_subtune_line asked songs)) }
     {
         self.set(b"no such subtune: ", b"", b"")?;
         self.add_number(u32::from(asked))?;
@@ -155,7 +173,8 @@ impl Line {
     }
 
     fn tell_stop(&mut self, reason: CallStop, call: u32) -> Result<u8, NoMemory>
-        ensures { IfOk result (λ status. (status ≡ 13) × (self.new ≡ stop_line reason call)) }
+        ensures told { IfOk result (λ status. (status ≡ 13) × (self.new.text ≡ stop_line reason call)) }
+        ensures full { OnErr result (self.old.room < length (stop_line reason call)) }
     {
         self.set(b"machine stopped: ", b"", b"")?;
         self.add_stop(reason)?;
@@ -167,14 +186,16 @@ impl Line {
 
     /// Makes the line these words and a place in a file, and answers the status.
     fn tell_place(&mut self, status: u8, front: &[u8], offset: u32) -> Result<u8, NoMemory>
-        ensures { IfOk result (λ told. (told ≡ status) × (self.new ≡ front.now ++ decimal offset ++ codes "\n")) }
+        ensures told { IfOk result (λ told. (told ≡ status) × (self.new.text ≡ front.now ++ decimal offset ++ codes "\n")) }
+        ensures full { OnErr result (self.old.room < length (front.now ++ decimal offset ++ codes "\n")) }
     {
         let mut digits = itoa::Buffer::new();
         self.say(status, front, digits.format(offset).as_bytes(), b"\n")
     }
 
     fn tell_count(&mut self, count: usize) -> Result<u8, NoMemory>
-        ensures { IfOk result (λ status. (status ≡ 0) × (self.new ≡ wrote_line count)) }
+        ensures told { IfOk result (λ status. (status ≡ 0) × (self.new.text ≡ wrote_line count)) }
+        ensures full { OnErr result (self.old.room < length (wrote_line count)) }
     {
         let mut digits = itoa::Buffer::new();
         self.say(0, b"wrote ", digits.format(count).as_bytes(), b" bytes\n")
@@ -182,7 +203,9 @@ impl Line {
 
     /// Appends how a call ended that did not return.
     fn add_stop(&mut self, reason: CallStop) -> Result<(), NoMemory>
-        ensures { OnOk result (self.new ≡ self.old ++ stop_text reason) }
+        ensures told { OnOk result (self.new.text ≡ self.old.text ++ stop_text reason) }
+        ensures full { OnErr result (self.old.room < length (self.old.text ++ stop_text reason)) }
+        ensures room { OnOk result (self.old.room ≤ self.new.room) }
     {
         match reason {
             CallStop::Stopped(Stop::Illegal { at }) => self.add_place(b"illegal at $", at),
@@ -194,7 +217,9 @@ impl Line {
 
     /// Appends these words, and an address as four hexadecimal digits in upper case.
     fn add_place(&mut self, front: &[u8], place: u16) -> Result<(), NoMemory>
-        ensures { OnOk result (self.new ≡ self.old ++ front.now ++ address_digits place) }
+        ensures told { OnOk result (self.new.text ≡ self.old.text ++ (front.now ++ address_digits place)) }
+        ensures full { OnErr result (self.old.room < length (self.old.text ++ (front.now ++ address_digits place))) }
+        ensures room { OnOk result (self.old.room ≤ self.new.room) }
     {
         let digits = upper_digits(place);
         self.add(front)?;
@@ -203,7 +228,9 @@ impl Line {
 
     /// Makes the line a number in six digits, with leading zeros.
     fn set_call_digits(&mut self, call: u32) -> Result<(), NoMemory>
-        ensures { OnOk result (self.new ≡ call_digits call) }
+        ensures told { OnOk result (self.new.text ≡ call_digits call) }
+        ensures full { OnErr result (self.old.room < length (call_digits call)) }
+        ensures room { OnOk result (self.old.room ≤ self.new.room) }
     {
         let mut buffer = itoa::Buffer::new();
         let digits = buffer.format(call).as_bytes();
@@ -215,7 +242,9 @@ impl Line {
 
     /// Appends a number in decimal.
     fn add_number(&mut self, number: u32) -> Result<(), NoMemory>
-        ensures { OnOk result (self.new ≡ self.old ++ decimal number) }
+        ensures told { OnOk result (self.new.text ≡ self.old.text ++ decimal number) }
+        ensures full { OnErr result (self.old.room < length (self.old.text ++ decimal number)) }
+        ensures room { OnOk result (self.old.room ≤ self.new.room) }
     {
         let mut digits = itoa::Buffer::new();
         self.add(digits.format(number).as_bytes())
@@ -223,7 +252,8 @@ impl Line {
 
     /// Makes the line these three texts, one after the other, and answers the status.
     fn say(&mut self, status: u8, front: &[u8], middle: &[u8], end: &[u8]) -> Result<u8, NoMemory>
-        ensures { IfOk result (λ told. (told ≡ status) × (self.new ≡ front.now ++ middle.now ++ end.now)) }
+        ensures told { IfOk result (λ told. (told ≡ status) × (self.new.text ≡ front.now ++ middle.now ++ end.now)) }
+        ensures full { OnErr result (self.old.room < length (front.now ++ middle.now ++ end.now)) }
     {
         self.set(front, middle, end)?;
         Ok(status)
@@ -231,7 +261,9 @@ impl Line {
 
     /// Makes the line these three texts, one after the other.
     fn set(&mut self, front: &[u8], middle: &[u8], end: &[u8]) -> Result<(), NoMemory>
-        ensures { OnOk result (self.new ≡ front.now ++ middle.now ++ end.now) }
+        ensures told { OnOk result (self.new.text ≡ front.now ++ middle.now ++ end.now) }
+        ensures full { OnErr result (self.old.room < length (front.now ++ middle.now ++ end.now)) }
+        ensures room { OnOk result (self.old.room ≤ self.new.room) }
     {
         self.text.clear();
         self.add(front)?;
@@ -241,11 +273,26 @@ impl Line {
 
     /// Appends a text.
     fn add(&mut self, text: &[u8]) -> Result<(), NoMemory>
-        ensures { OnOk result (self.new ≡ self.old ++ text.now) }
+        ensures told { OnOk result (self.new.text ≡ self.old.text ++ text.now) }
+        ensures full { OnErr result (self.old.room < length (self.old.text ++ text.now)) }
+        ensures room { OnOk result (self.old.room ≤ self.new.room) }
     {
         self.text.extend_from_slice(text)?;
         Ok(())
     }
+}
+
+/// A count of bytes that none of these words exceeds: that of the longest.
+fn longest(words: &[String]) -> usize
+    ensures { All (λ word. length word ≤ result) (texts words.now) }
+{
+    let mut most = 0;
+    for word in words {
+        if most < word.len() {
+            most = word.len();
+        }
+    }
+    most
 }
 
 /// An address as four hexadecimal digits in upper case.

@@ -101,7 +101,7 @@ fn print<K: Sink>(ended: &Result<Report, Refusal>, line: &mut Line, out: &mut K)
 
 /// Prints a line, and answers the status that goes with it.
 fn put_line<K: Sink>(status: u8, line: &Line, out: &mut K) -> u8
-    ensures { PrintsLine status line.now result (sink_state (K.written out.old) (K.faults out.old)) (sink_state (K.written out.new) (K.faults out.new)) }
+    ensures { PrintsLine status line.now.text result (sink_state (K.written out.old) (K.faults out.old)) (sink_state (K.written out.new) (K.faults out.new)) }
 {
     match out.put(line.as_slice()) {
         Ok(()) => status,

@@ -2,7 +2,7 @@ use Rattle.std.proofs.Common.{[], refl, sym, ◌∙◌, take, ap}
 use Rattle.goat_io.specs.Written.{told_with_piece}
 use Rattle.goat_cli.specs.Endings as ends
 use Rattle.goat_cli.proofs.Told.{tells_then}
-use Rattle.goat_cli.proofs.Told.{told_nothing}
+use Rattle.goat_io.proofs.Laws.{told_nothing}
 use Rattle.goat_cli.proofs.top.put_line.Goals as goal
 
 pub returns-in-Err-Failed : goal.returns-in-Err-Failed
