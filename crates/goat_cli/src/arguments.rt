@@ -11,7 +11,8 @@ use crate::words::WordsFault;
 ///
 /// The word is neither `psid` nor `raw`.
 pub fn is_psid(word: &str) -> Result<bool, WordsFault>
-    ensures { MatchResult result (λ psid. word.now ≡ format_word psid) (λ _. (psid : Bool) → ¬ (word.now ≡ format_word psid)) }
+    ensures { MatchResult result (λ psid. word.now ≡ format_word psid) (λ _. (psid : Bool) →
+        ¬ (word.now ≡ format_word psid)) }
 {
     match word {
         "psid" => Ok(true),
@@ -26,7 +27,8 @@ pub fn is_psid(word: &str) -> Result<bool, WordsFault>
 ///
 /// The word has another byte than a digit, or a leading zero, or the number is above the limit.
 pub fn decimal_of(word: &str, limit: u32) -> Result<u32, WordsFault>
-    ensures { MatchResult result (IsNumberWord limit word.now) (λ _. (number : ℕ) → ¬ IsNumberWord limit word.now number) }
+    ensures { MatchResult result (IsNumberWord limit word.now) (λ _. (number : ℕ) →
+        ¬ IsNumberWord limit word.now number) }
 {
     let Ok(number) = word.parse::<u32>() else {
         return Err(WordsFault);
@@ -45,7 +47,8 @@ pub fn decimal_of(word: &str, limit: u32) -> Result<u32, WordsFault>
 ///
 /// The word isn't four hexadecimal digits, or the address isn't allowed.
 pub fn address_of(word: &str) -> Result<u16, WordsFault>
-    ensures { MatchResult result (IsAddressWord word.now) (λ _. (address : ℕ) → ¬ IsAddressWord word.now address) }
+    ensures { MatchResult result (IsAddressWord word.now) (λ _. (address : ℕ) →
+        ¬ IsAddressWord word.now address) }
 {
     let mut bytes = [0u8; 2];
     if hex::decode_to_slice(word, &mut bytes).is_err() {
@@ -65,7 +68,8 @@ pub fn address_of(word: &str) -> Result<u16, WordsFault>
 ///
 /// The word isn't two hexadecimal digits, or the byte isn't allowed.
 pub fn zero_page_of(word: &str) -> Result<u8, WordsFault>
-    ensures { MatchResult result (IsZeroPageWord word.now) (λ _. (zero_page : ℕ) → ¬ IsZeroPageWord word.now zero_page) }
+    ensures { MatchResult result (IsZeroPageWord word.now) (λ _. (zero_page : ℕ) →
+        ¬ IsZeroPageWord word.now zero_page) }
 {
     let mut bytes = [0u8; 1];
     if hex::decode_to_slice(word, &mut bytes).is_err() {

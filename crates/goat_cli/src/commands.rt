@@ -33,7 +33,11 @@ pub fn perform<'a, F: Folder, K: Sink>(
     out: &mut K,
 ) -> Result<Report, Refusal<'a>>
     requires { HasAllowedNumbers (job_of job.now) }
-    ensures { (words : List (List ℕ)) → WordsOf words (job_of job.now) → RunEnds words (last_word result) (folder_state (F.files folder.old) (F.counts folder.old)) (folder_state (F.files folder.new) (F.counts folder.new)) (sink_state (K.written out.old) (K.faults out.old)) (sink_state (K.written out.new) (K.faults out.new)) }
+    ensures { (words : List (List ℕ)) → WordsOf words (job_of job.now) →
+        RunEnds words (last_word result) (folder_state (F.files folder.old) (F.counts folder.old))
+        (folder_state (F.files folder.new) (F.counts folder.new))
+        (sink_state (K.written out.old) (K.faults out.old))
+        (sink_state (K.written out.new) (K.faults out.new)) }
 {
     match *job {
         Job::Pack {

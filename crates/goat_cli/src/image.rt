@@ -136,7 +136,8 @@ fn append_byte(bytes: &mut Vec<u8>, opcode: u8, operand: u8) -> Result<(), Alloc
 
 /// Appends an opcode and the two bytes of an address, the low one first.
 fn append_word(bytes: &mut Vec<u8>, opcode: u8, operand: u16) -> Result<(), AllocError>
-    ensures { OnOk result (bytes.new.items ≡ bytes.old.items ++ opcode ∷ (operand % 256) ∷ (operand / 256) ∷ []) }
+    ensures { OnOk result (bytes.new.items ≡ bytes.old.items ++
+        opcode ∷ (operand % 256) ∷ (operand / 256) ∷ []) }
 {
     bytes.push(opcode)?;
     bytes.push((operand % 256) as u8)?;

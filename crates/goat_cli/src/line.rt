@@ -124,7 +124,8 @@ impl Line {
     }
 
     fn tell_song_fault(&mut self, fault: SongFault) -> Result<u8, NoMemory>
-        ensures told { IfOk result (λ status. (status ≡ 5) × (self.new.text ≡ song_fault_line fault)) }
+        ensures told { IfOk result (λ status. (status ≡ 5) ×
+            (self.new.text ≡ song_fault_line fault)) }
         ensures full { OnErr result (self.old.room < length (song_fault_line fault)) }
     {
         match fault {
@@ -148,7 +149,8 @@ impl Line {
     }
 
     fn tell_psid_fault(&mut self, fault: PsidFault) -> Result<u8, NoMemory>
-        ensures told { IfOk result (λ status. (status ≡ 12) × (self.new.text ≡ psid_fault_line fault)) }
+        ensures told { IfOk result (λ status. (status ≡ 12) ×
+            (self.new.text ≡ psid_fault_line fault)) }
         ensures full { OnErr result (self.old.room < length (psid_fault_line fault)) }
     {
         match fault {
@@ -161,7 +163,8 @@ impl Line {
     }
 
     fn tell_no_subtune(&mut self, asked: u8, songs: u16) -> Result<u8, NoMemory>
-        ensures told { IfOk result (λ status. (status ≡ 11) × (self.new.text ≡ no_subtune_line asked songs)) }
+        ensures told { IfOk result (λ status. (status ≡ 11) ×
+            (self.new.text ≡ no_subtune_line asked songs)) }
         ensures full { OnErr result (self.old.room < length (no_subtune_line asked songs)) }
     {
         self.set(b"no such subtune: ", b"", b"")?;
@@ -173,7 +176,8 @@ impl Line {
     }
 
     fn tell_stop(&mut self, reason: CallStop, call: u32) -> Result<u8, NoMemory>
-        ensures told { IfOk result (λ status. (status ≡ 13) × (self.new.text ≡ stop_line reason call)) }
+        ensures told { IfOk result (λ status. (status ≡ 13) ×
+            (self.new.text ≡ stop_line reason call)) }
         ensures full { OnErr result (self.old.room < length (stop_line reason call)) }
     {
         self.set(b"machine stopped: ", b"", b"")?;
@@ -186,8 +190,10 @@ impl Line {
 
     /// Makes the line these words and a place in a file, and answers the status.
     fn tell_place(&mut self, status: u8, front: &[u8], offset: u32) -> Result<u8, NoMemory>
-        ensures told { IfOk result (λ told. (told ≡ status) × (self.new.text ≡ front.now ++ decimal offset ++ codes "\n")) }
-        ensures full { OnErr result (self.old.room < length (front.now ++ decimal offset ++ codes "\n")) }
+        ensures told { IfOk result (λ told. (told ≡ status) ×
+            (self.new.text ≡ front.now ++ decimal offset ++ codes "\n")) }
+        ensures full { OnErr result (self.old.room < length (front.now ++ decimal offset ++
+            codes "\n")) }
     {
         let mut digits = itoa::Buffer::new();
         self.say(status, front, digits.format(offset).as_bytes(), b"\n")
@@ -217,8 +223,10 @@ impl Line {
 
     /// Appends these words, and an address as four hexadecimal digits in upper case.
     fn add_place(&mut self, front: &[u8], place: u16) -> Result<(), NoMemory>
-        ensures told { OnOk result (self.new.text ≡ self.old.text ++ (front.now ++ address_digits place)) }
-        ensures full { OnErr result (self.old.room < length (self.old.text ++ (front.now ++ address_digits place))) }
+        ensures told { OnOk result (self.new.text ≡ self.old.text ++
+            (front.now ++ address_digits place)) }
+        ensures full { OnErr result (self.old.room < length (self.old.text ++
+            (front.now ++ address_digits place))) }
         ensures room { OnOk result (self.old.room ≤ self.new.room) }
     {
         let digits = upper_digits(place);
@@ -252,7 +260,8 @@ impl Line {
 
     /// Makes the line these three texts, one after the other, and answers the status.
     fn say(&mut self, status: u8, front: &[u8], middle: &[u8], end: &[u8]) -> Result<u8, NoMemory>
-        ensures told { IfOk result (λ told. (told ≡ status) × (self.new.text ≡ front.now ++ middle.now ++ end.now)) }
+        ensures told { IfOk result (λ told. (told ≡ status) ×
+            (self.new.text ≡ front.now ++ middle.now ++ end.now)) }
         ensures full { OnErr result (self.old.room < length (front.now ++ middle.now ++ end.now)) }
     {
         self.set(front, middle, end)?;

@@ -29,7 +29,8 @@ pub fn packed_file(
 ) -> Result<Vec<u8>, NoMemory>
     requires silent { IsSilent song.now }
     requires place { IsAddress address }
-    ensures { (zero_page : ℕ) → IfOk result (λ file. IsPackedFile psid address zero_page song.now file.items) }
+    ensures { (zero_page : ℕ) → IfOk result (λ file.
+        IsPackedFile psid address zero_page song.now file.items) }
 {
     let image = silent_image(alloc, address)?;
     if psid {

@@ -33,8 +33,12 @@ pub fn read_file<'a, F: Folder>(
     limit: u32,
     folder: &mut F,
 ) -> Result<Vec<u8>, Refusal<'a>>
-    ensures read { IfOk result (λ bytes. WasRead name.now limit (folder_state (F.files folder.old) (F.counts folder.old)) (folder_state (F.files folder.new) (F.counts folder.new)) bytes.items) }
-    ensures refused { IfErr result (λ refusal. ReadFails name.now limit (folder_state (F.files folder.old) (F.counts folder.old)) (folder_state (F.files folder.new) (F.counts folder.new)) (last_of refusal)) }
+    ensures read { IfOk result (λ bytes. WasRead name.now limit
+        (folder_state (F.files folder.old) (F.counts folder.old))
+        (folder_state (F.files folder.new) (F.counts folder.new)) bytes.items) }
+    ensures refused { IfErr result (λ refusal. ReadFails name.now limit
+        (folder_state (F.files folder.old) (F.counts folder.old))
+        (folder_state (F.files folder.new) (F.counts folder.new)) (last_of refusal)) }
 {
     match folder.read(alloc, name, limit) {
         Ok(bytes) => Ok(bytes),
@@ -55,7 +59,8 @@ pub fn write_file<'a, F: Folder>(
     bytes: &[u8],
     folder: &mut F,
 ) -> Result<Report, Refusal<'a>>
-    ensures { WriteEnds name.now bytes.now (folder_state (F.files folder.old) (F.counts folder.old)) (folder_state (F.files folder.new) (F.counts folder.new)) (last_word result) }
+    ensures { WriteEnds name.now bytes.now (folder_state (F.files folder.old) (F.counts folder.old))
+        (folder_state (F.files folder.new) (F.counts folder.new)) (last_word result) }
 {
     match folder.write(name, bytes) {
         Ok(()) => Ok(Report::Wrote(bytes.len())),
@@ -72,7 +77,8 @@ pub fn write_file<'a, F: Folder>(
 pub fn song_of(alloc: Global, bytes: &[u8]) -> Result<Song, Refusal<'static>>
     requires { length bytes.now ≤ input_limit }
     ensures spells { IfOk result (Spells bytes.now) }
-    ensures refused { IfErr result (λ refusal. (files : Files) (name : List ℕ) → file_of files name ≡ Some bytes.now → Refuses files (SpellsSong name) (last_of refusal)) }
+    ensures refused { IfErr result (λ refusal. (files : Files) (name : List ℕ) →
+        file_of files name ≡ Some bytes.now → Refuses files (SpellsSong name) (last_of refusal)) }
 {
     match gts5::read(alloc, bytes) {
         Ok(song) => Ok(song),
@@ -88,7 +94,8 @@ pub fn song_of(alloc: Global, bytes: &[u8]) -> Result<Song, Refusal<'static>>
 /// It isn't silent.
 pub fn can_be_packed(song: &Song) -> Result<(), Refusal<'static>>
     ensures silent { OnOk result (IsSilent song.now) }
-    ensures refused { IfErr result (λ refusal. (files : Files) (name : List ℕ) → HoldsSong files name song.now → Refuses files (CanBePacked name) (last_of refusal)) }
+    ensures refused { IfErr result (λ refusal. (files : Files) (name : List ℕ) →
+        HoldsSong files name song.now → Refuses files (CanBePacked name) (last_of refusal)) }
 {
     if is_silent(song) {
         Ok(())
@@ -105,7 +112,8 @@ pub fn can_be_packed(song: &Song) -> Result<(), Refusal<'static>>
 pub fn psid_of(alloc: Global, bytes: &[u8]) -> Result<Psid, Refusal<'static>>
     ensures reads { IfOk result (λ psid. psid_read bytes.now ≡ Ok psid) }
     ensures fits { IfOk result (λ psid. psid.load + length psid.image ≤ 65536) }
-    ensures refused { IfErr result (λ refusal. (files : Files) (name : List ℕ) → file_of files name ≡ Some bytes.now → Refuses files (IsPsid name) (last_of refusal)) }
+    ensures refused { IfErr result (λ refusal. (files : Files) (name : List ℕ) →
+        file_of files name ≡ Some bytes.now → Refuses files (IsPsid name) (last_of refusal)) }
 {
     match psid::read(alloc, bytes) {
         Ok(psid) => Ok(psid),
@@ -122,7 +130,9 @@ pub fn psid_of(alloc: Global, bytes: &[u8]) -> Result<Psid, Refusal<'static>>
 pub fn subtune_of(psid: &Psid, subtune: u8) -> Result<u8, Refusal<'static>>
     ensures has { OnOk result (HasSubtune psid.now subtune) }
     ensures number { IfOk result (λ number. number ≡ subtune - 1) }
-    ensures refused { IfErr result (λ refusal. (files : Files) (name : List ℕ) → HoldsPsid files name psid.now → Refuses files (OffersSubtune name subtune) (last_of refusal)) }
+    ensures refused { IfErr result (λ refusal. (files : Files) (name : List ℕ) →
+        HoldsPsid files name psid.now → Refuses files (OffersSubtune name subtune)
+        (last_of refusal)) }
 {
     let songs = psid.header.songs;
     if subtune == 0 || u16::from(subtune) > songs {

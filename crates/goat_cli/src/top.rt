@@ -36,30 +36,47 @@ pub const NO_MEMORY: u8 = 14;
 /// line; a line that tells of the ending comes after all else that the run does.
 pub fn goat<F: Folder, K: Sink>(alloc: Global, words: &[String], folder: &mut F, out: &mut K) -> u8
     // After status 0 the job was done: the file that was packed plays the song, whatever else is in memory.
-    ensures headline { IfSome (F.files folder.old) (λ files. result ≡ 0 → HoldsDone (texts words.now) files (F.files folder.new)) }
+    ensures headline { IfSome (F.files folder.old) (λ files. result ≡ 0 →
+        HoldsDone (texts words.now) files (F.files folder.new)) }
 
     // Where no device fails and memory is found, the outcome comes about; what is due comes, or one of the statuses in its place.
-    ensures outcome { IfSome (F.files folder.old) (λ files. IsOrdinary result → ComesAbout (texts words.now) files result (K.written out.old) (K.written out.new) (F.files folder.new)) }
-    ensures due { IfSome (F.files folder.old) (λ files. (status : ℕ) (output : Option (List ℕ)) → IsDue (texts words.now) files status output → IsOneOf (status ∷ instead output) result) }
+    ensures outcome { IfSome (F.files folder.old) (λ files. IsOrdinary result →
+        ComesAbout (texts words.now) files result (K.written out.old) (K.written out.new)
+        (F.files folder.new)) }
+    ensures due { IfSome (F.files folder.old) (λ files. (status : ℕ) (output : Option (List ℕ)) →
+        IsDue (texts words.now) files status output → IsOneOf (status ∷ instead output) result) }
     ensures usage { ComesWhere (IsNoForm (texts words.now)) result 1 (10 ∷ 14 ∷ []) }
 
     // A packed file that is run prints its song's trace.
-    ensures packed { IfSome (F.files folder.old) (λ files. (song : Song) (subtune frames : ℕ) → RunsPacked (texts words.now) files song subtune frames → IsOneOf (0 ∷ 4 ∷ 10 ∷ 14 ∷ []) result × (result ≡ 0 → K.written out.new ≡ told_with_piece (K.written out.old) (register_text (first_traces song (subtune - 1) (frames + 1))))) }
+    ensures packed { IfSome (F.files folder.old) (λ files. (song : Song) (subtune frames : ℕ) →
+        RunsPacked (texts words.now) files song subtune frames →
+        IsOneOf (0 ∷ 4 ∷ 10 ∷ 14 ∷ []) result × (result ≡ 0 →
+        K.written out.new ≡ told_with_piece (K.written out.old)
+        (register_text (first_traces song (subtune - 1) (frames + 1))))) }
 
     // Where all lines were printed each count of the folder rises with its own status and with no other; the sink's always.
-    ensures counted { IsPrinted result → Counted result (F.counts folder.old) (F.counts folder.new) }
+    ensures counted { IsPrinted result →
+        Counted result (F.counts folder.old) (F.counts folder.new) }
     ensures sink_counted { SinkCounted result (K.faults out.old) (K.faults out.new) }
 
     // What stands after it, whether the folder tells its files or not, and however it ends.
     ensures files_stay { IsBeforeWriting result → F.files folder.new ≡ F.files folder.old }
-    ensures stands { RunStands (texts words.now) result (folder_state (F.files folder.old) (F.counts folder.old)) (folder_state (F.files folder.new) (F.counts folder.new)) (sink_state (K.written out.old) (K.faults out.old)) (sink_state (K.written out.new) (K.faults out.new)) }
+    ensures stands { RunStands (texts words.now) result
+        (folder_state (F.files folder.old) (F.counts folder.old))
+        (folder_state (F.files folder.new) (F.counts folder.new))
+        (sink_state (K.written out.old) (K.faults out.old))
+        (sink_state (K.written out.new) (K.faults out.new)) }
 {
     answer(alloc, words, folder, out)
 }
 
 /// Takes room for the lines, does the job, and prints the last line.
 fn answer<F: Folder, K: Sink>(alloc: Global, words: &[String], folder: &mut F, out: &mut K) -> u8
-    ensures { RunStands (texts words.now) result (folder_state (F.files folder.old) (F.counts folder.old)) (folder_state (F.files folder.new) (F.counts folder.new)) (sink_state (K.written out.old) (K.faults out.old)) (sink_state (K.written out.new) (K.faults out.new)) }
+    ensures { RunStands (texts words.now) result
+        (folder_state (F.files folder.old) (F.counts folder.old))
+        (folder_state (F.files folder.new) (F.counts folder.new))
+        (sink_state (K.written out.old) (K.faults out.old))
+        (sink_state (K.written out.new) (K.faults out.new)) }
 {
     let Ok(mut line) = Line::with_room(alloc, words) else {
         return want_memory(out);
@@ -76,7 +93,11 @@ fn run<'a, F: Folder, K: Sink>(
     line: &mut Line,
     out: &mut K,
 ) -> Result<Report, Refusal<'a>>
-    ensures { RunEnds (texts words.now) (last_word result) (folder_state (F.files folder.old) (F.counts folder.old)) (folder_state (F.files folder.new) (F.counts folder.new)) (sink_state (K.written out.old) (K.faults out.old)) (sink_state (K.written out.new) (K.faults out.new)) }
+    ensures { RunEnds (texts words.now) (last_word result)
+        (folder_state (F.files folder.old) (F.counts folder.old))
+        (folder_state (F.files folder.new) (F.counts folder.new))
+        (sink_state (K.written out.old) (K.faults out.old))
+        (sink_state (K.written out.new) (K.faults out.new)) }
 {
     match parse_words(words) {
         Ok(job) => perform(alloc, &job, folder, line, out),
@@ -86,7 +107,9 @@ fn run<'a, F: Folder, K: Sink>(
 
 /// Prints the last line, and answers the status.
 fn print<K: Sink>(ended: &Result<Report, Refusal>, line: &mut Line, out: &mut K) -> u8
-    ensures { Prints (last_word ended.now) result (sink_state (K.written out.old) (K.faults out.old)) (sink_state (K.written out.new) (K.faults out.new)) }
+    ensures { Prints (last_word ended.now) result
+        (sink_state (K.written out.old) (K.faults out.old))
+        (sink_state (K.written out.new) (K.faults out.new)) }
 {
     match ended {
         Ok(Report::Shown) => DONE,
@@ -101,7 +124,9 @@ fn print<K: Sink>(ended: &Result<Report, Refusal>, line: &mut Line, out: &mut K)
 
 /// Prints a line, and answers the status that goes with it.
 fn put_line<K: Sink>(status: u8, line: &Line, out: &mut K) -> u8
-    ensures { PrintsLine status line.now.text result (sink_state (K.written out.old) (K.faults out.old)) (sink_state (K.written out.new) (K.faults out.new)) }
+    ensures { PrintsLine status line.now.text result
+        (sink_state (K.written out.old) (K.faults out.old))
+        (sink_state (K.written out.new) (K.faults out.new)) }
 {
     match out.put(line.as_slice()) {
         Ok(()) => status,
@@ -112,7 +137,8 @@ fn put_line<K: Sink>(status: u8, line: &Line, out: &mut K) -> u8
 
 /// Prints that memory is wanting, and answers the status.
 fn want_memory<K: Sink>(out: &mut K) -> u8
-    ensures { TellsWant [] result (sink_state (K.written out.old) (K.faults out.old)) (sink_state (K.written out.new) (K.faults out.new)) }
+    ensures { TellsWant [] result (sink_state (K.written out.old) (K.faults out.old))
+        (sink_state (K.written out.new) (K.faults out.new)) }
 {
     match out.put(b"no memory\n") {
         Ok(()) => NO_MEMORY,

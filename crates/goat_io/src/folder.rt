@@ -26,9 +26,12 @@ pub trait Folder {
     /// No file has the name, the file is above the limit, the device failed, or out of memory.
     fn read(&mut self, alloc: Global, name: &str, limit: u32) -> Result<Vec<u8>, ReadFault>
         ensures within { IfOk result (λ bytes. vec_len bytes ≤ limit) }
-        ensures whole { IfOk result (λ bytes. IfSome (files self.old) (λ told. file_of told name.now ≡ Some bytes.items)) }
-        ensures missing { IsErrOf result ReadFault.Missing → IfSome (files self.old) (IsAbsent name.now) }
-        ensures too_long { IsErrOf result ReadFault.TooLong → IfSome (files self.old) (IsAbove limit name.now) }
+        ensures whole { IfOk result (λ bytes. IfSome (files self.old) (λ told.
+            file_of told name.now ≡ Some bytes.items)) }
+        ensures missing { IsErrOf result ReadFault.Missing →
+            IfSome (files self.old) (IsAbsent name.now) }
+        ensures too_long { IsErrOf result ReadFault.TooLong →
+            IfSome (files self.old) (IsAbove limit name.now) }
         ensures files_stay { files self.new ≡ files self.old }
 
         // Each count rises with its own answer and with no other.
@@ -41,8 +44,10 @@ pub trait Folder {
     /// The device failed, and the file is as before or holds a prefix of the bytes; or out of memory, and the files are
     /// as before.
     fn write(&mut self, name: &str, bytes: &[u8]) -> Result<(), WriteFault>
-        ensures ok { OnOk result (files self.new ≡ told_with_file (files self.old) name.now bytes.now) }
-        ensures failed { IsErrOf result WriteFault.Failed → IsWrittenInPart (files self.old) (files self.new) name.now bytes.now }
+        ensures ok { OnOk result (files self.new ≡ told_with_file
+            (files self.old) name.now bytes.now) }
+        ensures failed { IsErrOf result WriteFault.Failed →
+            IsWrittenInPart (files self.old) (files self.new) name.now bytes.now }
         ensures no_memory { IsErrOf result WriteFault.NoMemory → files self.new ≡ files self.old }
 
         // A failure is counted, and nothing else is.

@@ -65,7 +65,8 @@ impl MemFolder {
     ///
     /// Out of memory: the folder is as before.
     pub fn add(&mut self, name: &str, bytes: &[u8]) -> Result<(), NoMemory>
-        ensures ok { OnOk result (self.new ≡ record self.old { files = with_file self.old.files name.now bytes.now }) }
+        ensures ok { OnOk result (self.new ≡
+            record self.old { files = with_file self.old.files name.now bytes.now }) }
         ensures err { OnErr result (self.new ≡ self.old) }
     {
         self.files.put(name, bytes)
@@ -81,7 +82,8 @@ impl MemFolder {
 
 /// A copy of the file that has the name, of at most `limit` bytes.
 fn copy_of(alloc: Global, files: &FileMap, name: &str, limit: u32) -> Result<Vec<u8>, ReadFault>
-    ensures ok { IfOk result (λ bytes. (vec_len bytes ≤ limit) × (file_of files.now name.now ≡ Some bytes.items)) }
+    ensures ok { IfOk result (λ bytes. (vec_len bytes ≤ limit) × (file_of files.now name.now ≡
+        Some bytes.items)) }
     ensures missing { IsErrOf result ReadFault.Missing → IsAbsent name.now files.now }
     ensures too_long { IsErrOf result ReadFault.TooLong → IsAbove limit name.now files.now }
     ensures not_failed { is_read_failure result ≡ false }
@@ -109,7 +111,8 @@ impl Folder for MemFolder {
         ensures within { IfOk result (λ bytes. vec_len bytes ≤ limit) }
         ensures whole { IfOk result (λ bytes. file_of self.old.files name.now ≡ Some bytes.items) }
         ensures missing { IsErrOf result ReadFault.Missing → IsAbsent name.now self.old.files }
-        ensures too_long { IsErrOf result ReadFault.TooLong → IsAbove limit name.now self.old.files }
+        ensures too_long { IsErrOf result ReadFault.TooLong →
+            IsAbove limit name.now self.old.files }
         ensures files_stay { self.new.files ≡ self.old.files }
         ensures counts { CountsRead result self.old.counts self.new.counts }
 

@@ -58,15 +58,19 @@ impl Sink for MemSink {
     ghost faults = { λ s. s.faults };
 
     fn put(&mut self, bytes: &[u8]) -> Result<(), SinkFault>
-        ensures ok { OnOk result (Some self.new.bytes ≡ told_with_piece (Some self.old.bytes) bytes.now) }
-        ensures failed { IsErrOf result SinkFault.Failed → IsTakenInPart (Some self.old.bytes) (Some self.new.bytes) bytes.now }
-        ensures no_memory { IsErrOf result SinkFault.NoMemory → Some self.new.bytes ≡ Some self.old.bytes }
+        ensures ok { OnOk result (Some self.new.bytes ≡
+            told_with_piece (Some self.old.bytes) bytes.now) }
+        ensures failed { IsErrOf result SinkFault.Failed →
+            IsTakenInPart (Some self.old.bytes) (Some self.new.bytes) bytes.now }
+        ensures no_memory { IsErrOf result SinkFault.NoMemory →
+            Some self.new.bytes ≡ Some self.old.bytes }
         ensures faults { Counts (is_sink_failure result) self.old.faults self.new.faults }
 
         // The listed puts fail, and only they.
         ensures listed { IsTrue (next_put_fails self.old) → IsErr result }
         ensures only_listed { IsErrOf result SinkFault.Failed → IsTrue (next_put_fails self.old) }
-        ensures half { IsErrOf result SinkFault.Failed → self.new.bytes ≡ self.old.bytes ++ take (length bytes.now / 2) bytes.now }
+        ensures half { IsErrOf result SinkFault.Failed →
+            self.new.bytes ≡ self.old.bytes ++ take (length bytes.now / 2) bytes.now }
         ensures counted { self.new.puts ≡ next_count self.old.puts }
         ensures same_list { self.new.failing ≡ self.old.failing }
     {

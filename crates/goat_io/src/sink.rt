@@ -25,7 +25,9 @@ pub trait Sink {
     /// The device failed, and a prefix of the bytes was taken; or out of memory, and nothing was.
     fn put(&mut self, bytes: &[u8]) -> Result<(), SinkFault>
         ensures ok { OnOk result (written self.new ≡ told_with_piece (written self.old) bytes.now) }
-        ensures failed { IsErrOf result SinkFault.Failed → IsTakenInPart (written self.old) (written self.new) bytes.now }
-        ensures no_memory { IsErrOf result SinkFault.NoMemory → written self.new ≡ written self.old }
+        ensures failed { IsErrOf result SinkFault.Failed →
+            IsTakenInPart (written self.old) (written self.new) bytes.now }
+        ensures no_memory { IsErrOf result SinkFault.NoMemory →
+            written self.new ≡ written self.old }
         ensures faults { Counts (is_sink_failure result) (faults self.old) (faults self.new) };
 }

@@ -40,7 +40,8 @@ impl Reader {
         left: &'a [u8],
     ) -> Result<(InstrumentList, &'a [u8]), SongFault>
         requires { count ≤ 63 }
-        ensures { Gives (λ x. (x.0, x.1.now)) result (each_at (instrument_at self.length) count left.now) }
+        ensures { Gives (λ x.
+            (x.0, x.1.now)) result (each_at (instrument_at self.length) count left.now) }
     {
         let mut instruments = InstrumentList::new(alloc);
         let mut rest = left;

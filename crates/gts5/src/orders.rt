@@ -51,7 +51,8 @@ impl Reader {
         left: &'a [u8],
     ) -> Result<(SubtuneList, &'a [u8]), SongFault>
         requires { count ≤ 32 }
-        ensures { Gives (λ x. (x.0, x.1.now)) result (each_at (subtune_at self.length) count left.now) }
+        ensures { Gives (λ x.
+            (x.0, x.1.now)) result (each_at (subtune_at self.length) count left.now) }
     {
         let mut subtunes = SubtuneList::new(alloc);
         let mut rest = left;

@@ -30,7 +30,8 @@ impl Reader {
         left: &'a [u8],
     ) -> Result<(PatternList, &'a [u8]), SongFault>
         requires { count ≤ 208 }
-        ensures { Gives (λ x. (x.0, x.1.now)) result (each_at (pattern_at self.length) count left.now) }
+        ensures { Gives (λ x.
+            (x.0, x.1.now)) result (each_at (pattern_at self.length) count left.now) }
     {
         let mut patterns = PatternList::new(alloc);
         let mut rest = left;

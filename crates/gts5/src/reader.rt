@@ -44,7 +44,8 @@ impl Reader {
     /// The next `count` bytes.
     #[tactic(auto, unfolding(crate::specs::Reading::bytes_at))]
     pub fn bytes<'a>(self, count: usize, left: &'a [u8]) -> Result<(&'a [u8], &'a [u8]), SongFault>
-        ensures taken { Gives (λ x. (x.0.now, x.1.now)) result (bytes_at self.length count left.now) }
+        ensures taken { Gives (λ x.
+            (x.0.now, x.1.now)) result (bytes_at self.length count left.now) }
         ensures size { IfOk result (λ x. length x.0.now ≡ count) }
     {
         if left.len() < count {

@@ -31,9 +31,11 @@ pub fn read(alloc: Global, bytes: &[u8]) -> Result<Song, SongFault>
     // A song that the bytes spell is read.
     ensures only { (song : Song) → Spells bytes.now song → IsAnswer result (Ok song) }
     // A fault that is answered is the first one.
-    ensures fault { IfErr result (λ fault. (fault ≡ SongFault.NoMemory) ⊎ (fault_of bytes.now ≡ Some fault)) }
+    ensures fault { IfErr result (λ fault. (fault ≡ SongFault.NoMemory) ⊎ (fault_of bytes.now ≡
+        Some fault)) }
     // Where there is a fault it is answered.
-    ensures exact { (fault : SongFault) → fault_of bytes.now ≡ Some fault → IsAnswer result (Err fault) }
+    ensures exact { (fault : SongFault) → fault_of bytes.now ≡ Some fault →
+        IsAnswer result (Err fault) }
 {
     read_pieces(alloc, bytes)
 }

@@ -64,7 +64,8 @@ impl Options {
     /// These options; none for a speed of 0 and above 4.
     pub fn new(skip_effects: bool, skip_pulse: bool, speed: u8) -> Option<Options>
         ensures none { IsNone result ↔ ¬ IsSpeed speed }
-        ensures some { IfSome result (λ o. o ≡ record { skip_effects = skip_effects; skip_pulse = skip_pulse; speed = speed }) }
+        ensures some { IfSome result (λ o. o ≡
+            record { skip_effects = skip_effects; skip_pulse = skip_pulse; speed = speed }) }
     {
         let speed = Speed::new(speed)?;
         Some(Options {

@@ -29,13 +29,15 @@ const ADDRESSES: usize = 65_536;
 pub fn read(alloc: Global, bytes: &[u8]) -> Result<Psid, PsidFault>
     // What is answered is what the rules say.
     ensures found { IfOk result (λ psid. psid_read bytes.now ≡ Ok psid) }
-    ensures fault { IfErr result (λ fault. (fault ≡ PsidFault.NoMemory) ⊎ (psid_read bytes.now ≡ Err fault)) }
+    ensures fault { IfErr result (λ fault. (fault ≡ PsidFault.NoMemory) ⊎ (psid_read bytes.now ≡
+        Err fault)) }
 
     // What is answered may be written: its image doesn't pass $FFFF, it has 1 to 256 songs, and so on.
     ensures writable { IfOk result (λ psid. IsWritable psid.header psid.load psid.image) }
 
     // What the rules say is answered; a fault takes no memory.
-    ensures only { (psid : Psid) → psid_read bytes.now ≡ Ok psid → (result ≡ Ok psid) ⊎ (result ≡ Err PsidFault.NoMemory) }
+    ensures only { (psid : Psid) → psid_read bytes.now ≡ Ok psid →
+        (result ≡ Ok psid) ⊎ (result ≡ Err PsidFault.NoMemory) }
     ensures exact { (fault : PsidFault) → psid_read bytes.now ≡ Err fault → result ≡ Err fault }
 {
     if !bytes.starts_with(MAGIC) {

@@ -99,7 +99,8 @@ impl Runner {
     ///
     /// The reason why it didn't return. A runner that stopped answers the same reason again.
     pub fn play(&mut self) -> Result<[u8; REGISTERS], CallStop>
-        ensures { AnswersCall self.old.play self.old.machine.cpu.a MOST_STEPS self.old self.new result }
+        ensures { AnswersCall self.old.play self.old.machine.cpu.a MOST_STEPS
+            self.old self.new result }
     {
         self.call_at(self.play, self.machine.cpu.a, MOST_STEPS)
     }

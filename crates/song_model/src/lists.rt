@@ -48,7 +48,8 @@ impl<T, const LIMIT: usize> Bounded<T, LIMIT> {
     /// Item `n`, counted from 1; none at 0 or past the last.
     pub(crate) fn numbered(&self, n: u8) -> Option<&T>
         ensures none { IsNone result ↔ ¬ IsNumbered self.now n }
-        ensures some { (zero_item : T) → IfSome result (λ item. item.now ≡ numbered self.now n zero_item) }
+        ensures some { (zero_item : T) → IfSome result (λ item. item.now ≡
+            numbered self.now n zero_item) }
     {
         if n == 0 {
             return None;
@@ -97,7 +98,8 @@ impl<T: Copy, const LIMIT: usize> Bounded<T, LIMIT> {
     pub fn from_slice(alloc: Global, items: &[T]) -> Result<Self, LimitFault>
         ensures kept { IfOk result (λ list. list ≡ items.now) }
         ensures bad_length { IsErrOf result LimitFault.BadLength ↔ LIMIT < length items.now }
-        ensures no_other { IfErr result (λ fault. (fault ≡ LimitFault.BadLength) ⊎ (fault ≡ LimitFault.NoMemory)) }
+        ensures no_other { IfErr result (λ fault. (fault ≡ LimitFault.BadLength) ⊎
+            (fault ≡ LimitFault.NoMemory)) }
     {
         if items.len() > LIMIT {
             return Err(LimitFault::BadLength);

@@ -86,8 +86,10 @@ impl Order {
     ///
     /// `BadLength` where they are more than 254, `BadItem` at the first endmark; out of memory.
     pub fn from_bytes(alloc: Global, entries: &[u8], restart: u8) -> Result<Order, LimitFault>
-        ensures kept { IfOk result (λ order. (order.entries ≡ entries.now) × (order.restart ≡ restart)) }
-        ensures bad_length { IsErrOf result LimitFault.BadLength ↔ MOST_ENTRIES < length entries.now }
+        ensures kept { IfOk result (λ order. (order.entries ≡ entries.now) × (order.restart ≡
+            restart)) }
+        ensures bad_length { IsErrOf result LimitFault.BadLength ↔
+            MOST_ENTRIES < length entries.now }
         ensures bad_item { (place : ℕ) → IsErrOf result (LimitFault.BadItem place)
             ↔ ((length entries.now ≤ MOST_ENTRIES) × IsFirstBad IsEntry entries.now place) }
     {

@@ -45,7 +45,8 @@ impl Pattern {
     /// memory.
     pub fn from_rows(alloc: Global, rows: &[Row]) -> Result<Pattern, LimitFault>
         ensures kept { IfOk result (λ pattern. pattern ≡ rows.now) }
-        ensures bad_length { IsErrOf result LimitFault.BadLength ↔ ¬ IsPatternLength (length rows.now) }
+        ensures bad_length { IsErrOf result LimitFault.BadLength ↔ ¬ IsPatternLength
+            (length rows.now) }
         ensures bad_item { (place : ℕ) → IsErrOf result (LimitFault.BadItem place)
             ↔ (IsPatternLength (length rows.now) × IsFirstBad IsRow rows.now place) }
     {

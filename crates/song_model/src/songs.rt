@@ -61,9 +61,12 @@ impl Song {
     ///
     /// `BadLength` where the song has 32; out of memory. The song is as before.
     pub fn add_subtune(&mut self, subtune: Subtune) -> Result<(), LimitFault>
-        ensures ok { OnOk result (self.new ≡ record self.old { subtunes = self.old.subtunes ++ subtune ∷ [] }) }
-        ensures bad_length { IsErrOf result LimitFault.BadLength ↔ (length self.old.subtunes ≡ MOST_SUBTUNES) }
-        ensures no_other { IfErr result (λ fault. (fault ≡ LimitFault.BadLength) ⊎ (fault ≡ LimitFault.NoMemory)) }
+        ensures ok { OnOk result (self.new ≡
+            record self.old { subtunes = self.old.subtunes ++ subtune ∷ [] }) }
+        ensures bad_length { IsErrOf result LimitFault.BadLength ↔
+            (length self.old.subtunes ≡ MOST_SUBTUNES) }
+        ensures no_other { IfErr result (λ fault. (fault ≡ LimitFault.BadLength) ⊎
+            (fault ≡ LimitFault.NoMemory)) }
         ensures err { OnErr result (self.new ≡ self.old) }
     {
         match self.subtunes.push(subtune) {
@@ -79,9 +82,12 @@ impl Song {
     ///
     /// `BadLength` where the song has 63; out of memory. The song is as before.
     pub fn add_instrument(&mut self, instrument: Instrument) -> Result<(), LimitFault>
-        ensures ok { OnOk result (self.new ≡ record self.old { instruments = self.old.instruments ++ instrument ∷ [] }) }
-        ensures bad_length { IsErrOf result LimitFault.BadLength ↔ (length self.old.instruments ≡ MOST_INSTRUMENTS) }
-        ensures no_other { IfErr result (λ fault. (fault ≡ LimitFault.BadLength) ⊎ (fault ≡ LimitFault.NoMemory)) }
+        ensures ok { OnOk result (self.new ≡
+            record self.old { instruments = self.old.instruments ++ instrument ∷ [] }) }
+        ensures bad_length { IsErrOf result LimitFault.BadLength ↔
+            (length self.old.instruments ≡ MOST_INSTRUMENTS) }
+        ensures no_other { IfErr result (λ fault. (fault ≡ LimitFault.BadLength) ⊎
+            (fault ≡ LimitFault.NoMemory)) }
         ensures err { OnErr result (self.new ≡ self.old) }
     {
         match self.instruments.push(instrument) {
@@ -97,9 +103,12 @@ impl Song {
     ///
     /// `BadLength` where the song has 208; out of memory. The song is as before.
     pub fn add_pattern(&mut self, pattern: Pattern) -> Result<(), LimitFault>
-        ensures ok { OnOk result (self.new ≡ record self.old { patterns = self.old.patterns ++ pattern ∷ [] }) }
-        ensures bad_length { IsErrOf result LimitFault.BadLength ↔ (length self.old.patterns ≡ MOST_PATTERNS) }
-        ensures no_other { IfErr result (λ fault. (fault ≡ LimitFault.BadLength) ⊎ (fault ≡ LimitFault.NoMemory)) }
+        ensures ok { OnOk result (self.new ≡
+            record self.old { patterns = self.old.patterns ++ pattern ∷ [] }) }
+        ensures bad_length { IsErrOf result LimitFault.BadLength ↔
+            (length self.old.patterns ≡ MOST_PATTERNS) }
+        ensures no_other { IfErr result (λ fault. (fault ≡ LimitFault.BadLength) ⊎
+            (fault ≡ LimitFault.NoMemory)) }
         ensures err { OnErr result (self.new ≡ self.old) }
     {
         match self.patterns.push(pattern) {

@@ -61,8 +61,10 @@ impl Order {
         requires on_walk { IsOnWalk self.now at }
         ensures inside { result.place < length self.now.entries }
         ensures pattern { IsPatternByte (slice_index self.now.entries result.place) }
-        ensures play { slice_index_or (coming_plays self.now at) 0 no_step ≡ slice_index_or (plays_from self.now.entries result) 0 no_step }
-        ensures place { slice_index_or (coming_places self.now at) 0 first_place ≡ slice_index_or (places_from self.now.entries result) 0 first_place }
+        ensures play { slice_index_or (coming_plays self.now at) 0 no_step ≡
+            slice_index_or (plays_from self.now.entries result) 0 no_step }
+        ensures place { slice_index_or (coming_places self.now at) 0 first_place ≡
+            slice_index_or (places_from self.now.entries result) 0 first_place }
     {
         let here = self.along(at);
         if usize::from(here.place) < self.entries.as_slice().len() {
@@ -77,7 +79,8 @@ impl Order {
     fn along(&self, from: OrderPlace) -> OrderPlace
         requires { from.place ≤ length self.now.entries }
         ensures inside { result.place ≤ length self.now.entries }
-        ensures pattern { result.place < length self.now.entries → IsPatternByte (slice_index self.now.entries result.place) }
+        ensures pattern { result.place < length self.now.entries →
+            IsPatternByte (slice_index self.now.entries result.place) }
         ensures rest { IsSameRest self.now.entries from result }
     {
         let entries = self.entries.as_slice();
@@ -107,7 +110,8 @@ impl Order {
     fn after_play(&self, here: OrderPlace) -> OrderPlace
         requires inside { here.place < length self.now.entries }
         requires pattern { IsPatternByte (slice_index self.now.entries here.place) }
-        ensures { result ≡ restarted self.now (slice_index_or (places_from self.now.entries here) 0 first_place) }
+        ensures { result ≡ restarted self.now
+            (slice_index_or (places_from self.now.entries here) 0 first_place) }
     {
         let end = self.entries.as_slice().len();
         let mut after = here;

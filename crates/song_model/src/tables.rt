@@ -41,8 +41,10 @@ impl Table {
     /// `BadLength` where they are more than 255; out of memory.
     pub fn from_rows(alloc: Global, rows: &[TableRow]) -> Result<Table, LimitFault>
         ensures kept { IfOk result (λ table. table ≡ rows.now) }
-        ensures bad_length { IsErrOf result LimitFault.BadLength ↔ MOST_TABLE_ROWS < length rows.now }
-        ensures no_other { IfErr result (λ fault. (fault ≡ LimitFault.BadLength) ⊎ (fault ≡ LimitFault.NoMemory)) }
+        ensures bad_length { IsErrOf result LimitFault.BadLength ↔
+            MOST_TABLE_ROWS < length rows.now }
+        ensures no_other { IfErr result (λ fault. (fault ≡ LimitFault.BadLength) ⊎
+            (fault ≡ LimitFault.NoMemory)) }
     {
         Self::from_slice(alloc, rows)
     }

@@ -23,7 +23,8 @@ pub fn copy_job(arguments: &[String]) -> Result<Job<'_>, WordsFault>
     ensures found { IfOk result (λ job. AreArgumentsOf (job_of job) (texts arguments.now)) }
     ensures command { IfOk result (λ job. command_of (job_of job) ≡ codes "copy") }
     ensures limits { IfOk result (λ job. HasAllowedNumbers (job_of job)) }
-    ensures none { OnErr result ((input output : List ℕ) → ¬ AreCopyArguments (texts arguments.now) input output) }
+    ensures none { OnErr result ((input output : List ℕ) →
+        ¬ AreCopyArguments (texts arguments.now) input output) }
 {
     let [input, output] = arguments else {
         return Err(WordsFault);
@@ -44,7 +45,10 @@ pub fn copy_song<'a, F: Folder>(
     output: &'a str,
     folder: &mut F,
 ) -> Result<Report, Refusal<'a>>
-    ensures { (words : List (List ℕ)) (sink : SinkState) → WordsOf words (Copy input.now output.now) → RunEnds words (last_word result) (folder_state (F.files folder.old) (F.counts folder.old)) (folder_state (F.files folder.new) (F.counts folder.new)) sink sink }
+    ensures { (words : List (List ℕ)) (sink : SinkState) →
+        WordsOf words (Copy input.now output.now) → RunEnds words (last_word result)
+        (folder_state (F.files folder.old) (F.counts folder.old))
+        (folder_state (F.files folder.new) (F.counts folder.new)) sink sink }
 {
     let bytes = read_file(alloc, input, INPUT_LIMIT, folder)?;
     let song = song_of(alloc, &bytes)?;

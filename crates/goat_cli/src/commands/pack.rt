@@ -26,7 +26,8 @@ pub fn pack_job(arguments: &[String]) -> Result<Job<'_>, WordsFault>
     ensures found { IfOk result (λ job. AreArgumentsOf (job_of job) (texts arguments.now)) }
     ensures command { IfOk result (λ job. command_of (job_of job) ≡ codes "pack") }
     ensures limits { IfOk result (λ job. HasAllowedNumbers (job_of job)) }
-    ensures none { OnErr result ((input output : List ℕ) (psid : Bool) (address zero_page : ℕ) → ¬ ArePackArguments (texts arguments.now) input output psid address zero_page) }
+    ensures none { OnErr result ((input output : List ℕ) (psid : Bool) (address zero_page : ℕ) →
+        ¬ ArePackArguments (texts arguments.now) input output psid address zero_page) }
 {
     let [input, output, format, address, zero_page] = arguments else {
         return Err(WordsFault);
@@ -56,7 +57,10 @@ pub fn pack_song<'a, F: Folder>(
     folder: &mut F,
 ) -> Result<Report, Refusal<'a>>
     requires { IsAddress address }
-    ensures { (words : List (List ℕ)) (zero_page : ℕ) (sink : SinkState) → WordsOf words (Pack input.now output.now psid address zero_page) → RunEnds words (last_word result) (folder_state (F.files folder.old) (F.counts folder.old)) (folder_state (F.files folder.new) (F.counts folder.new)) sink sink }
+    ensures { (words : List (List ℕ)) (zero_page : ℕ) (sink : SinkState) →
+        WordsOf words (Pack input.now output.now psid address zero_page) →
+        RunEnds words (last_word result) (folder_state (F.files folder.old) (F.counts folder.old))
+        (folder_state (F.files folder.new) (F.counts folder.new)) sink sink }
 {
     let bytes = read_file(alloc, input, INPUT_LIMIT, folder)?;
     let song = song_of(alloc, &bytes)?;

@@ -37,7 +37,8 @@ pub fn run_job(arguments: &[String]) -> Result<Job<'_>, WordsFault>
     ensures found { IfOk result (λ job. AreArgumentsOf (job_of job) (texts arguments.now)) }
     ensures command { IfOk result (λ job. command_of (job_of job) ≡ codes "run") }
     ensures limits { IfOk result (λ job. HasAllowedNumbers (job_of job)) }
-    ensures none { OnErr result ((input : List ℕ) (subtune frames : ℕ) → ¬ AreRunArguments (texts arguments.now) input subtune frames) }
+    ensures none { OnErr result ((input : List ℕ) (subtune frames : ℕ) →
+        ¬ AreRunArguments (texts arguments.now) input subtune frames) }
 {
     let [input, subtune, frames] = arguments else {
         return Err(WordsFault);
@@ -66,7 +67,11 @@ pub fn run_psid<'a, F: Folder, K: Sink>(
     out: &mut K,
 ) -> Result<Report, Refusal<'a>>
     requires { frames ≤ frame_limit }
-    ensures { (words : List (List ℕ)) → WordsOf words (Run input.now subtune frames) → RunEnds words (last_word result) (folder_state (F.files folder.old) (F.counts folder.old)) (folder_state (F.files folder.new) (F.counts folder.new)) (sink_state (K.written out.old) (K.faults out.old)) (sink_state (K.written out.new) (K.faults out.new)) }
+    ensures { (words : List (List ℕ)) → WordsOf words (Run input.now subtune frames) →
+        RunEnds words (last_word result) (folder_state (F.files folder.old) (F.counts folder.old))
+        (folder_state (F.files folder.new) (F.counts folder.new))
+        (sink_state (K.written out.old) (K.faults out.old))
+        (sink_state (K.written out.new) (K.faults out.new)) }
 {
     let bytes = read_file(alloc, input, INPUT_LIMIT, folder)?;
     let psid = psid_of(alloc, &bytes)?;
@@ -87,7 +92,9 @@ fn show_calls<K: Sink>(
 ) -> Result<Report, Refusal<'static>>
     requires running { runner.old.stopped ≡ None }
     requires limit { frames ≤ frame_limit }
-    ensures { CallsEnd runner.old number frames (last_word result) (sink_state (K.written out.old) (K.faults out.old)) (sink_state (K.written out.new) (K.faults out.new)) }
+    ensures { CallsEnd runner.old number frames (last_word result)
+        (sink_state (K.written out.old) (K.faults out.old))
+        (sink_state (K.written out.new) (K.faults out.new)) }
 {
     for call in 0..frames + 1 {
         let registers = match next_call(runner, number, call) {
@@ -106,8 +113,11 @@ fn show_calls<K: Sink>(
 /// Makes the call with this index: call 0 is init, the others are play.
 fn next_call(runner: &mut Runner, number: u8, call: u32) -> Result<[u8; 25], CallStop>
     requires { runner.old.stopped ≡ None }
-    ensures returned { IfOk result (λ registers. ReturnsTo runner.old.machine (entry_of runner.old call) (accumulator_of number call runner.old.machine) registers runner.new.machine) }
-    ensures failed { IfErr result (λ reason. FailsBy runner.old.machine (entry_of runner.old call) (accumulator_of number call runner.old.machine) most_steps reason runner.new.machine) }
+    ensures returned { IfOk result (λ registers. ReturnsTo runner.old.machine
+        (entry_of runner.old call)
+        (accumulator_of number call runner.old.machine) registers runner.new.machine) }
+    ensures failed { IfErr result (λ reason. FailsBy runner.old.machine (entry_of runner.old call)
+        (accumulator_of number call runner.old.machine) most_steps reason runner.new.machine) }
     ensures running { OnOk result (runner.new.stopped ≡ None) }
     ensures same_init { runner.new.init ≡ runner.old.init }
     ensures same_play { runner.new.play ≡ runner.old.play }
@@ -126,9 +136,15 @@ fn put_registers<K: Sink>(
     line: &mut Line,
     out: &mut K,
 ) -> Result<(), SinkFault>
-    ensures ok { OnOk result (Appends (register_line call registers.now) (sink_state (K.written out.old) (K.faults out.old)) (sink_state (K.written out.new) (K.faults out.new))) }
-    ensures failed { IsErrOf result SinkFault.Failed → FailsIn (register_line call registers.now) (sink_state (K.written out.old) (K.faults out.old)) (sink_state (K.written out.new) (K.faults out.new)) }
-    ensures no_memory { IsErrOf result SinkFault.NoMemory → Appends [] (sink_state (K.written out.old) (K.faults out.old)) (sink_state (K.written out.new) (K.faults out.new)) }
+    ensures ok { OnOk result (Appends (register_line call registers.now)
+        (sink_state (K.written out.old) (K.faults out.old))
+        (sink_state (K.written out.new) (K.faults out.new))) }
+    ensures failed { IsErrOf result SinkFault.Failed → FailsIn (register_line call registers.now)
+        (sink_state (K.written out.old) (K.faults out.old))
+        (sink_state (K.written out.new) (K.faults out.new)) }
+    ensures no_memory { IsErrOf result SinkFault.NoMemory → Appends []
+        (sink_state (K.written out.old) (K.faults out.old))
+        (sink_state (K.written out.new) (K.faults out.new)) }
 {
     match line.tell_registers(call, registers) {
         Ok(()) => out.put(line.as_slice()),
