@@ -1,8 +1,15 @@
--- What a reader may rely on in the machine that a file is loaded into.
+-- What a reader may rely on: the constants, and the machine that a file is loaded into.
 use Rattle.std.specs.Prelude.{◌≡◌, ◌⊎◌, ℕ, ◌+◌, ◌<◌, ◌≤◌, [], ◌∷◌, length, take, slice_index, All}
 use Rattle.psid.specs.declared.header.Psid.{Psid}
+use Rattle.cpu6502.specs.declared.log.TheConstants.{SID_BASE}
 use Rattle.cpu6502.specs.Code.{Holds, IsMachine}
+use Rattle.sid_run.specs.declared.runner.TheConstants.{MOST_STEPS}
+use Rattle.sid_run.specs.declared.memory.TheConstants.{REGISTERS}
 use Rattle.sid_run.specs.State.{loaded_memory, loaded_machine}
+
+-- a call may take 200,000 steps, and the SID has 25 registers from $D400 on
+abbrev pub ConstantsAre : Type 0
+ConstantsAre = (MOST_STEPS ≡ 200000) × (SID_BASE ≡ 0xD400) × (REGISTERS ≡ 25)
 
 -- an image that doesn't pass $FFFF stands at its address
 abbrev pub ImageStands : Type 0

@@ -2,13 +2,14 @@
 use Rattle.std.specs.Prelude.{ℕ, ◌+◌, ◌-◌, List, [], ◌++◌, length, slice_index, replicate, false, Option, None}
 use Rattle.cpu6502.specs.declared.cpu.Cpu.{Cpu}
 use Rattle.cpu6502.specs.declared.machine.Machine.{Machine}
+use Rattle.cpu6502.specs.declared.log.TheConstants.{SID_BASE}
 use Rattle.cpu6502.specs.declared.log.WriteLog.{WriteLog}
 use Rattle.cpu6502.specs.declared.stop.CallStop.{CallStop}
 use Rattle.cpu6502.specs.Code.{bytes_at}
 use Rattle.cpu6502.specs.Log.{log_of}
 use Rattle.psid.specs.declared.header.Psid.{Psid}
 use Rattle.sid_run.specs.declared.runner.TheConstants.{MOST_STEPS}
-use Rattle.sid_run.specs.declared.memory.TheConstants.{SID_BASE, REGISTERS}
+use Rattle.sid_run.specs.declared.memory.TheConstants.{REGISTERS}
 
 -- its machine, the addresses of init and play, why it stopped if it did, the steps of the last call that returned,
 -- and what the last call wrote to the SID

@@ -13,7 +13,7 @@ mod memory;
 mod runner;
 
 pub use cpu6502::NoMemory;
-pub use memory::{REGISTERS, SID_BASE};
+pub use memory::REGISTERS;
 pub use runner::{MOST_STEPS, Runner};
 
 #[cfg(test)]

@@ -4,10 +4,7 @@ ghost use Rattle.std.specs.Prelude.{◌≡◌, ◌+◌, ◌≤◌, length, slice
 ghost use Rattle.cpu6502.specs.Code.{bytes_at};
 ghost use Rattle.sid_run.specs.State.{loaded_memory};
 
-use cpu6502::Memory;
-
-/// The place of the SID's first register.
-pub const SID_BASE: u16 = 0xD400;
+use cpu6502::{Memory, SID_BASE};
 
 /// The number of the SID's registers that can be written.
 pub const REGISTERS: usize = 25;
