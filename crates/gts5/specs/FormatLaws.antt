@@ -8,6 +8,10 @@ use Rattle.gts5.specs.declared.songs.TheConstants.{MOST_BYTES}
 use Rattle.gts5.specs.Spells.{Spells}
 use Rattle.gts5.specs.Faults.{fault_of}
 
+-- a file may have 262,144 bytes
+abbrev pub ConstantIs : Type 0
+ConstantIs = MOST_BYTES ≡ 262144
+
 -- the bytes spell this song and no other
 pub record SpellsOnly (bytes : List ℕ) (song : Song) : Type 0 where
   pub spelled : Spells bytes song

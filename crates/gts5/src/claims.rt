@@ -1,6 +1,6 @@
 //! Facts about the format, each the contract of a function that does nothing.
 
-ghost use Rattle.gts5.specs.FormatLaws.{OneSongOrOneFault, CanonicalIsSpelled, CanonicalHasNoFault, CanonicalIsShort};
+ghost use Rattle.gts5.specs.FormatLaws.{ConstantIs, OneSongOrOneFault, CanonicalIsSpelled, CanonicalHasNoFault, CanonicalIsShort};
 ghost use Rattle.gts5.specs.WorkedFaults.{MagicIsWanted, CutsAreTruncated, CountsAreLimited, OrdersHaveEndmarks, RowsAreInRange, PatternsEnd, LooseTextsHaveNoFault};
 
 /// Each list of bytes spells exactly one song, or has exactly one fault and spells none.
@@ -14,6 +14,11 @@ pub fn what_is_written_is_read()
     ensures spelled { CanonicalIsSpelled }
     ensures faultless { CanonicalHasNoFault }
     ensures short { CanonicalIsShort }
+{}
+
+/// The bytes that a file may have.
+pub fn worked_constants()
+    ensures { ConstantIs }
 {}
 
 /// The faults of the silent song, cut or with some bytes changed.
