@@ -11,6 +11,10 @@ use std::alloc::Global;
 
 impl Reader {
     /// An instrument: nine numbers and its name.
+    ///
+    /// # Errors
+    ///
+    /// The file ends before the instrument does.
     #[tactic(auto, unfolding(crate::specs::Reading::instrument_at))]
     fn instrument<'a>(self, left: &'a [u8]) -> Result<(Instrument, &'a [u8]), SongFault>
         ensures { Gives (λ x. (x.0, x.1.now)) result (instrument_at self.length left.now) }
@@ -33,6 +37,10 @@ impl Reader {
     }
 
     /// The next `count` instruments.
+    ///
+    /// # Errors
+    ///
+    /// The first fault in them; or out of memory.
     fn some_instruments<'a>(
         self,
         alloc: Global,
@@ -56,6 +64,10 @@ impl Reader {
     }
 
     /// The count of the instruments and the instruments.
+    ///
+    /// # Errors
+    ///
+    /// The first fault in them, a count above 63 too; or out of memory.
     #[tactic(auto, unfolding(crate::specs::Reading::instruments_at))]
     pub fn instruments<'a>(
         self,

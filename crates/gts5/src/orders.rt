@@ -11,6 +11,10 @@ use std::alloc::Global;
 
 impl Reader {
     /// An orderlist, cut at its first endmark.
+    ///
+    /// # Errors
+    ///
+    /// The file ends before the orderlist does, or no endmark is among its bytes; or out of memory.
     #[tactic(auto, unfolding(crate::specs::Reading::order_at))]
     fn order<'a>(self, alloc: Global, left: &'a [u8]) -> Result<(Order, &'a [u8]), SongFault>
         ensures { Gives (λ x. (x.0, x.1.now)) result (order_at self.length left.now) }
@@ -33,6 +37,10 @@ impl Reader {
     }
 
     /// The three orderlists of a subtune.
+    ///
+    /// # Errors
+    ///
+    /// The first fault in them; or out of memory.
     #[tactic(auto, unfolding(crate::specs::Reading::subtune_at))]
     fn subtune<'a>(self, alloc: Global, left: &'a [u8]) -> Result<(Subtune, &'a [u8]), SongFault>
         ensures { Gives (λ x. (x.0, x.1.now)) result (subtune_at self.length left.now) }
@@ -44,6 +52,10 @@ impl Reader {
     }
 
     /// The next `count` subtunes.
+    ///
+    /// # Errors
+    ///
+    /// The first fault in them; or out of memory.
     fn some_subtunes<'a>(
         self,
         alloc: Global,
@@ -67,6 +79,10 @@ impl Reader {
     }
 
     /// The count of the subtunes and the subtunes.
+    ///
+    /// # Errors
+    ///
+    /// The first fault in them, a count above 32 too; or out of memory.
     #[tactic(auto, unfolding(crate::specs::Reading::subtunes_at))]
     pub fn subtunes<'a>(
         self,

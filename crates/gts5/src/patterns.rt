@@ -12,6 +12,10 @@ use std::alloc::Global;
 
 impl Reader {
     /// A pattern, cut at its first end row.
+    ///
+    /// # Errors
+    ///
+    /// The first fault in it; or out of memory.
     #[tactic(auto, unfolding(crate::specs::Reading::pattern_at))]
     fn pattern<'a>(self, alloc: Global, left: &'a [u8]) -> Result<(Pattern, &'a [u8]), SongFault>
         ensures { Gives (λ x. (x.0, x.1.now)) result (pattern_at self.length left.now) }
@@ -23,6 +27,10 @@ impl Reader {
     }
 
     /// The next `count` patterns.
+    ///
+    /// # Errors
+    ///
+    /// The first fault in them; or out of memory.
     fn some_patterns<'a>(
         self,
         alloc: Global,
@@ -46,6 +54,10 @@ impl Reader {
     }
 
     /// The count of the patterns and the patterns.
+    ///
+    /// # Errors
+    ///
+    /// The first fault in them, a count above 208 too; or out of memory.
     #[tactic(auto, unfolding(crate::specs::Reading::patterns_at))]
     pub fn patterns<'a>(
         self,
@@ -60,6 +72,10 @@ impl Reader {
 }
 
 /// The rows before the end row of a pattern whose count stands at offset `at`.
+///
+/// # Errors
+///
+/// The first row that is out of its range, row 0 as the end row, row 128 that is none, or no end row; or out of memory.
 fn rows_before_end(alloc: Global, at: u32, count: u8, piece: &[u8]) -> Result<Vec<Row>, SongFault>
     requires place { at ≤ MOST_BYTES }
     requires size { length piece.now ≡ 4 * count }
@@ -97,6 +113,10 @@ fn front_row(bytes: &[u8]) -> (Row, &[u8])
 }
 
 /// Whether row `i` of a pattern, counted from 0, is its end row; `at` is the offset of the pattern's count.
+///
+/// # Errors
+///
+/// Row 0 is the end row, row 128 is none, or the row is out of its range.
 #[tactic(auto, unfolding(crate::specs::Reading::ends_at))]
 fn is_end(at: u32, i: u8, row: Row) -> Result<bool, SongFault>
     requires { at ≤ MOST_BYTES }

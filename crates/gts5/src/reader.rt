@@ -42,6 +42,10 @@ impl Reader {
     }
 
     /// The next `count` bytes.
+    ///
+    /// # Errors
+    ///
+    /// The file ends before they do.
     #[tactic(auto, unfolding(crate::specs::Reading::bytes_at))]
     pub fn bytes<'a>(self, count: usize, left: &'a [u8]) -> Result<(&'a [u8], &'a [u8]), SongFault>
         ensures taken { Gives (λ x.
@@ -55,6 +59,10 @@ impl Reader {
     }
 
     /// An array of bytes.
+    ///
+    /// # Errors
+    ///
+    /// The file ends before it does.
     #[tactic(auto, unfolding(crate::specs::Reading::bytes_at))]
     pub fn array<'a, const N: usize>(self, left: &'a [u8]) -> Result<([u8; N], &'a [u8]), SongFault>
         ensures { Gives (λ x. (x.0, x.1.now)) result (bytes_at self.length N left.now) }
@@ -66,6 +74,10 @@ impl Reader {
     }
 
     /// A count.
+    ///
+    /// # Errors
+    ///
+    /// The file ends before it.
     #[tactic(auto, unfolding(crate::specs::Reading::byte_at))]
     pub fn byte<'a>(self, left: &'a [u8]) -> Result<(u8, &'a [u8]), SongFault>
         ensures { Gives (λ x. (x.0, x.1.now)) result (byte_at self.length left.now) }
@@ -77,6 +89,10 @@ impl Reader {
     }
 
     /// A count of at most `limit`.
+    ///
+    /// # Errors
+    ///
+    /// The file ends before it, or it is above `limit`.
     #[tactic(auto, unfolding(crate::specs::Reading::count_at))]
     pub fn count<'a>(self, limit: u8, left: &'a [u8]) -> Result<(u8, &'a [u8]), SongFault>
         ensures taken { Gives (λ x. (x.0, x.1.now)) result (count_at self.length limit left.now) }
@@ -93,6 +109,10 @@ impl Reader {
 }
 
 /// What follows the magic.
+///
+/// # Errors
+///
+/// The file doesn't begin with `GTS5`.
 #[tactic(auto, unfolding(crate::specs::Faults::after_magic))]
 pub fn skip_magic(file: &[u8]) -> Result<&[u8], SongFault>
     ensures { Gives (λ rest. rest.now) result (after_magic file.now) }

@@ -41,6 +41,10 @@ pub fn read(alloc: Global, bytes: &[u8]) -> Result<Song, SongFault>
 }
 
 /// The song of a file, piece by piece.
+///
+/// # Errors
+///
+/// The first fault that stops the reading; or out of memory.
 #[tactic(auto, unfolding(crate::specs::Reading::song_of))]
 fn read_pieces(alloc: Global, bytes: &[u8]) -> Result<Song, SongFault>
     requires { length bytes.now ≤ MOST_BYTES }

@@ -20,6 +20,10 @@ pub struct Tables {
 
 impl Reader {
     /// A table: all left sides stand before all right sides.
+    ///
+    /// # Errors
+    ///
+    /// The file ends before the table does; or out of memory.
     #[tactic(auto, unfolding(crate::specs::Reading::table_at))]
     fn table<'a>(self, alloc: Global, left: &'a [u8]) -> Result<(Table, &'a [u8]), SongFault>
         ensures { Gives (λ x. (x.0, x.1.now)) result (table_at self.length left.now) }
@@ -32,6 +36,10 @@ impl Reader {
     }
 
     /// The four tables.
+    ///
+    /// # Errors
+    ///
+    /// The file ends before they do; or out of memory.
     #[tactic(auto, unfolding(crate::specs::Reading::tables_at))]
     pub fn tables<'a>(self, alloc: Global, left: &'a [u8]) -> Result<(Tables, &'a [u8]), SongFault>
         ensures { Gives (λ x. (x.0, x.1.now)) result (tables_at self.length left.now) }
@@ -53,6 +61,10 @@ impl Reader {
 }
 
 /// Rows of these left and right sides.
+///
+/// # Errors
+///
+/// Out of memory.
 fn joined_sides(alloc: Global, lefts: &[u8], rights: &[u8]) -> Result<Table, SongFault>
     requires count { length lefts.now ≤ 255 }
     requires same { length lefts.now ≡ length rights.now }

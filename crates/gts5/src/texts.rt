@@ -16,6 +16,10 @@ pub struct Texts {
 
 impl Reader {
     /// The three texts.
+    ///
+    /// # Errors
+    ///
+    /// The file ends before they do.
     #[tactic(auto, unfolding(crate::specs::Reading::texts_at))]
     pub fn texts<'a>(self, left: &'a [u8]) -> Result<(Texts, &'a [u8]), SongFault>
         ensures { Gives (λ x. (x.0, x.1.now)) result (texts_at self.length left.now) }
