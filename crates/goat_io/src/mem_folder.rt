@@ -147,7 +147,8 @@ impl Folder for MemFolder {
         ensures listed { IsTrue (next_fails self.old) → IsErr result }
         ensures only_listed { IsErrOf result WriteFault.Failed → IsTrue (next_fails self.old) }
         ensures half { IsErrOf result WriteFault.Failed →
-            self.new.files ≡ with_file self.old.files name.now (take (length bytes.now / 2) bytes.now) }
+            self.new.files ≡
+            with_file self.old.files name.now (take (length bytes.now / 2) bytes.now) }
         ensures counted { self.new.calls ≡ next_count self.old.calls }
         ensures same_list { self.new.failing ≡ self.old.failing }
     {

@@ -25,7 +25,12 @@ impl Model for MemSink {
 
     ghost Value = { MemBytes };
 
-    ghost view = { λ s. record { bytes = s.bytes.items; failing = s.failing.items; puts = s.puts; faults = s.faults } };
+    ghost view = { λ s. record {
+      bytes = s.bytes.items;
+      failing = s.failing.items;
+      puts = s.puts;
+      faults = s.faults;
+    } };
 }
 
 impl MemSink {
