@@ -32,27 +32,23 @@ pub entry_pulls : (m : Machine) → length m.memory ≡ 65536 →
     Pulls (slice_index (written m.memory (return_address m.cpu.sp))) ((m.cpu.sp + 254) % 256) 255 255
 entry_pulls m size = rw (entered_view m size) (pushed_pulls (slice_index m.memory) m.cpu.sp)
 
--- a byte that is not on the stack is as it was
-off_stack : (m : Machine) (q : ℕ) → length m.memory ≡ 65536 → ((sp : ℕ) → q ≡ stack_place sp → ⊥) →
+-- a byte elsewhere is as it was
+entry_keeps : (m : Machine) (q : ℕ) → length m.memory ≡ 65536 → (q ≡ stack_place m.cpu.sp → ⊥) →
+    (q ≡ stack_place (m.cpu.sp + 255) → ⊥) →
     slice_index (written m.memory (return_address m.cpu.sp)) q ≡ slice_index m.memory q
-off_stack m q size off =
+entry_keeps m q size first second =
     ap (λ at. at q) (entered_view m size)
-    ∙ put_other (put (slice_index m.memory) (stack_place m.cpu.sp) 255) (stack_place (m.cpu.sp + 255)) 255 q
-    (off (m.cpu.sp + 255))
-    ∙ put_other (slice_index m.memory) (stack_place m.cpu.sp) 255 q (off m.cpu.sp)
+    ∙ put_other (put (slice_index m.memory) (stack_place m.cpu.sp) 255) (stack_place (m.cpu.sp + 255)) 255 q second
+    ∙ put_other (slice_index m.memory) (stack_place m.cpu.sp) 255 q first
 
 pub entry_kept : (m : Machine) (q : ℕ) → length m.memory ≡ 65536 → 512 ≤ q →
     slice_index (written m.memory (return_address m.cpu.sp)) q ≡ slice_index m.memory q
-entry_kept m q size above = off_stack m q size (λ sp e. absurd (omega arith))
-
-pub entry_kept_below : (m : Machine) (q : ℕ) → length m.memory ≡ 65536 → q < 256 →
-    slice_index (written m.memory (return_address m.cpu.sp)) q ≡ slice_index m.memory q
-entry_kept_below m q size under = off_stack m q size (λ sp e. absurd (omega arith))
+entry_kept m q size above =
+    entry_keeps m q size (λ e. absurd (omega arith)) (λ e. absurd (omega arith))
 
 pub calls_begin_so : (m : Machine) → length m.memory ≡ 65536 →
     IsEntry m (slice_index (written m.memory (return_address m.cpu.sp)))
 calls_begin_so m size = record {
   pulls = entry_pulls m size;
-  kept = λ q above. entry_kept m q size above;
-  kept_below = λ q under. entry_kept_below m q size under;
+  kept = λ q first second. entry_keeps m q size first second;
 }

@@ -24,4 +24,4 @@ pub use Rattle.code_runs.proofs.Jumps.{jmp, jsr, rts, rti}
 pub use Rattle.code_runs.proofs.Stack.{pha, php, pla, plp}
 -- from runs to the machine and its calls
 pub use Rattle.code_runs.proofs.Bridge.{machines_follow, call_returns}
-pub use Rattle.code_runs.proofs.Entry.{entry_pulls, entry_kept, entry_kept_below}
+pub use Rattle.code_runs.proofs.Entry.{entry_pulls, entry_kept}

@@ -1,6 +1,6 @@
 -- What a run on a function memory says of a machine, whose memory is a list: where it writes, what it leaves, and
 -- that it is a call.
-use Rattle.std.specs.Prelude.{◌≡◌, ℕ, ◌+◌, ◌%◌, ◌<◌, ◌≤◌, Bool, IsTrue, length, slice_index, Ok, All}
+use Rattle.std.specs.Prelude.{◌≡◌, ◌≢◌, ℕ, ◌+◌, ◌%◌, ◌<◌, ◌≤◌, Bool, IsTrue, length, slice_index, Ok, All}
 use Rattle.cpu6502.specs.declared.effect.Write.{Write}
 use Rattle.cpu6502.specs.declared.machine.Machine.{Machine}
 use Rattle.cpu6502.specs.Registers.{stack_place}
@@ -58,11 +58,12 @@ pub record Pulls (at : ℕ → ℕ) (sp low high : ℕ) : Type 0 where
   pub low_is : at (stack_place (sp + 1)) ≡ low
   pub high_is : at (stack_place (sp + 2)) ≡ high
 
--- the memory that a call begins with: a return pulls the address before 0, and what is above the stack is as it was
+-- the memory that a call begins with: a return pulls the address before 0, and every place but the two that hold it
+-- has its byte
 pub record IsEntry (machine : Machine) (at : ℕ → ℕ) : Type 0 where
   pub pulls : Pulls at ((machine.cpu.sp + 254) % 256) 255 255
-  pub kept : (q : ℕ) → 512 ≤ q → at q ≡ slice_index machine.memory q
-  pub kept_below : (q : ℕ) → q < 256 → at q ≡ slice_index machine.memory q
+  pub kept : (q : ℕ) → q ≢ stack_place machine.cpu.sp → q ≢ stack_place (machine.cpu.sp + 255)
+      → at q ≡ slice_index machine.memory q
 
 abbrev pub CallsBeginSo : Type 0
 CallsBeginSo =
