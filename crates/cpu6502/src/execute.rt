@@ -23,6 +23,10 @@ use crate::stop::Stop;
 use crate::transfer::transfer;
 
 /// What the instruction at the program counter does.
+///
+/// # Errors
+///
+/// It has no effect: its byte has no row, it is BRK, or it is ADC or SBC with the decimal flag set.
 pub fn next_effect(memory: &Memory, cpu: Cpu) -> Result<Effect, Stop>
     ensures { result ≡ effect (slice_index memory.now) cpu }
 {
@@ -52,6 +56,10 @@ fn after(cpu: Cpu, length: u8) -> Cpu
 
 /// What an instruction does whose own place and whose operand's place are given, from registers whose program
 /// counter is after it.
+///
+/// # Errors
+///
+/// It is BRK, or it is ADC or SBC with the decimal flag set.
 fn execute(
     mnemonic: Mnemonic,
     own: u16,

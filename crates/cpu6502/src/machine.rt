@@ -69,7 +69,8 @@ impl Machine {
             FailsBy self.old address a budget reason after → result ≡ Err reason }
 
         ensures log { IfOk result
-            (λ steps. log.new ≡ log_of (sid_writes (writes_in steps (entered self.old address a)))) }
+            (λ steps. log.new ≡
+            log_of (sid_writes (writes_in steps (entered self.old address a)))) }
         ensures log_failed { OnErr result
             (log.new ≡ log_of (sid_writes (writes_in budget (entered self.old address a)))) }
     {
