@@ -1,4 +1,4 @@
--- Listings that are worked by hand from the manual's opcodes.
+-- The limits of a listing, and listings that are worked by hand from the manual's opcodes.
 use Rattle.std.specs.Prelude.{◌≡◌, ℕ, List, [], ◌∷◌, replicate, Some, None}
 use Rattle.cpu6502.specs.declared.mnemonic.Mnemonic.TheVariants.{Bne, Jmp, Lda, Ldx, Nop, Rts, Sta}
 use Rattle.cpu6502.specs.declared.mnemonic.Mode.TheVariants.{Implied, Immediate, Absolute, Relative}
@@ -6,10 +6,15 @@ use Rattle.asm6502.specs.declared.lines.Operand.TheVariants.{Nothing, Number, La
 use Rattle.asm6502.specs.declared.lines.Item.{Item}
 use Rattle.asm6502.specs.declared.lines.Item.TheVariants.{Label as Named, Code, Bytes}
 use Rattle.asm6502.specs.declared.lines.Line.{Line}
+use Rattle.asm6502.specs.declared.lines.TheConstants.{MOST_LINES, MOST_BYTES}
 use Rattle.asm6502.specs.declared.fixes.FixKind.TheVariants.{Word, Low as LowByte, High as HighByte}
 use Rattle.asm6502.specs.declared.faults.AsmFault.TheVariants.{BadLine, DoubleLabel, UnknownLabel, PastEnd, BranchTooFar}
 use Rattle.asm6502.specs.Assembly.{assembled_bytes, assembled_fixes}
 use Rattle.asm6502.specs.Faults.{fault_of}
+
+-- a listing may have 1,000,000 lines, and as many bytes in items of bytes
+abbrev pub ConstantsAre : Type 0
+ConstantsAre = (MOST_LINES ≡ 1000000) × (MOST_BYTES ≡ 1000000)
 
 -- a line that is always kept
 abbrev pub always : Item → Line
@@ -48,7 +53,7 @@ LabelsHaveAddresses =
           0x0208;
     } ∷ record { at = 6; kind = HighByte; to = 0x0208 } ∷ [])
 
--- a branch over so many bytes to a label
+-- a branch over n bytes to a label
 abbrev pub branch_over : ℕ → List Line
 branch_over n = always (Code Bne Relative (Label 1 0)) ∷ always (Bytes (replicate n 0)) ∷ always (Named 1) ∷ []
 

@@ -6,7 +6,7 @@ ghost use Rattle.asm6502.specs.Branches.{BranchesReach, FarIsOutOfReach, Branche
 ghost use Rattle.asm6502.specs.Parts.{PartsAddUp, PartSizesAdd, PartsStandTogether};
 ghost use Rattle.asm6502.specs.Standing.{AssembledLinesStand, HeldBytesStand, SizesAdd, KeptAppend, FrontsStand, BacksStand, BothStand, LinesStay};
 ghost use Rattle.asm6502.specs.Stretches.{StretchesStand, PlacesAdd, LabelsStandWhereNamed, HomesAppend, HomesGrow, StretchesPass, PassedListingsAssemble};
-ghost use Rattle.asm6502.specs.WorkedListings.{TonePlays, ToneWithPart, LabelsHaveAddresses, FarBranchIsRefused, OrderOfRefusals};
+ghost use Rattle.asm6502.specs.WorkedListings.{ConstantsAre, TonePlays, ToneWithPart, LabelsHaveAddresses, FarBranchIsRefused, OrderOfRefusals};
 
 /// `encode` and `decode` are each other's inverse.
 pub fn decode_is_inverse_of_encode()
@@ -43,15 +43,17 @@ pub fn lines_that_stand()
     ensures stay { LinesStay }
 {}
 
-/// Where labels are in lines one after the other: a label has the address at which the line stands that names it.
+/// Where labels are in lines one after the other: in lines that name no label twice, a label has the address at which
+/// the line stands that names it.
 pub fn labels_have_places()
     ensures places { PlacesAdd }
     ensures addresses { LabelsStandWhereNamed }
 {}
 
 /// A stretch of lines that names its own labels in reach, and uses no label but these and those that the listing always
-/// names, passes every test in any listing that names no label twice, whichever parts are kept and wherever it stands;
-/// such stretches can be put together and stand among more lines; and a listing of lines that pass is assembled.
+/// names, passes every test in any listing that names no label twice and fits at its origin, whichever parts are kept
+/// and wherever it stands; such stretches can be put together and stand among more lines; and a listing of lines that
+/// pass has no fault.
 pub fn stretches_pass_in_any_listing()
     ensures append { HomesAppend }
     ensures grow { HomesGrow }
@@ -65,6 +67,11 @@ pub fn parts_add_up()
     ensures sum { PartsAddUp }
     ensures append { PartSizesAdd }
     ensures together { PartsStandTogether }
+{}
+
+/// The lines that a listing may have, and the bytes in its items of bytes.
+pub fn worked_constants()
+    ensures { ConstantsAre }
 {}
 
 /// Listings that are worked by hand.
