@@ -49,6 +49,10 @@ impl Labels {
     }
 
     /// Notes the label that one more line names, if it is kept, and the bytes that it takes.
+    ///
+    /// # Errors
+    ///
+    /// The label is named already; or out of memory.
     fn note(&mut self, line: &Line, set: FeatureBits) -> Result<(), AsmFault>
         requires { self.old.size + item_size line.now.item < 2 ^ 32 }
         ensures { (before : List Line) →
@@ -69,6 +73,10 @@ impl Labels {
     }
 
     /// Notes that a label is named after the bytes so far.
+    ///
+    /// # Errors
+    ///
+    /// The label is named already; or out of memory.
     fn name(&mut self, label: u16) -> Result<(), AsmFault>
         ensures size { self.new.size ≡ self.old.size }
         ensures noted { MatchResult result
@@ -192,7 +200,11 @@ fn branch_byte(pc: u32, target: u16) -> Option<u8>
     Some((way - 65_280) as u8)
 }
 
-/// The labels of the kept lines; refused where one of them is named a second time.
+/// The labels of the kept lines.
+///
+/// # Errors
+///
+/// The first label that is named a second time; or out of memory.
 pub(crate) fn labels_of(alloc: Global, lines: &[Line], set: FeatureBits) -> Result<Labels, AsmFault>
     requires lines { length lines.now ≤ MOST_LINES }
     requires bytes { data_size lines.now ≤ MOST_BYTES }
@@ -210,6 +222,10 @@ pub(crate) fn labels_of(alloc: Global, lines: &[Line], set: FeatureBits) -> Resu
 }
 
 /// Refuses a line that can't stand in a listing.
+///
+/// # Errors
+///
+/// The first such line.
 pub(crate) fn check_lines(lines: &[Line], set: FeatureBits) -> Result<(), AsmFault>
     requires { length lines.now ≤ MOST_LINES }
     ensures { MatchResult result
@@ -225,6 +241,10 @@ pub(crate) fn check_lines(lines: &[Line], set: FeatureBits) -> Result<(), AsmFau
 }
 
 /// Refuses a kept line whose operand has a label that isn't named.
+///
+/// # Errors
+///
+/// The first such label.
 pub(crate) fn check_operands(
     lines: &[Line],
     set: FeatureBits,

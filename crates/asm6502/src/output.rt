@@ -160,7 +160,11 @@ impl Output {
     }
 }
 
-/// The bytes and the fixes of the kept lines; refused where a branch goes to a label that it doesn't reach.
+/// The bytes and the fixes of the kept lines.
+///
+/// # Errors
+///
+/// The first line with a branch to a label that it doesn't reach; or out of memory.
 pub(crate) fn output_of(
     alloc: Global,
     lines: &[Line],
