@@ -25,6 +25,10 @@ use goat_io::{Folder, Sink};
 use std::alloc::Global;
 
 /// Does the job, but for its last line.
+///
+/// # Errors
+///
+/// A stage isn't met, a device fails, or out of memory.
 pub fn perform<'a, F: Folder, K: Sink>(
     alloc: Global,
     job: &Job<'a>,

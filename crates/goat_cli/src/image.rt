@@ -54,6 +54,10 @@ enum Instruction {
 
 /// The image of a player of silence, to stand at an address: init is called there, and play three bytes after it. Init
 /// writes 0 to all 25 registers of the SID, and play writes 0 to the first 24 of them and full volume to the last.
+///
+/// # Errors
+///
+/// Out of memory.
 pub fn silent_image(alloc: Global, address: u16) -> Result<Vec<u8>, NoMemory>
     ensures bytes { IfOk result (λ image. image.items ≡ silent_image address) }
     ensures init { IfOk result (λ image. IsAddress address → InitIsSilent image.items address) }

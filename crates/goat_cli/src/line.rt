@@ -108,6 +108,10 @@ impl Line {
     }
 
     /// Makes the line that of a call: its number, and the SID's registers after it.
+    ///
+    /// # Errors
+    ///
+    /// The line is longer than its room, and out of memory.
     pub fn tell_registers(&mut self, call: u32, registers: &[u8; 25]) -> Result<(), NoMemory>
         ensures told { OnOk result (self.new.text ≡ register_line call registers.now) }
         ensures full { OnErr result (self.old.room < length (register_line call registers.now)) }

@@ -39,6 +39,10 @@ pub fn copy_job(arguments: &[String]) -> Result<Job<'_>, WordsFault>
 }
 
 /// Writes the canonical spelling of the song in one file into another.
+///
+/// # Errors
+///
+/// A stage isn't met, the folder fails, or out of memory.
 pub fn copy_song<'a, F: Folder>(
     alloc: Global,
     input: &'a str,

@@ -48,6 +48,10 @@ pub fn pack_job(arguments: &[String]) -> Result<Job<'_>, WordsFault>
 }
 
 /// Packs the song in one file into another, with an image for an address.
+///
+/// # Errors
+///
+/// A stage isn't met, the folder fails, or out of memory.
 pub fn pack_song<'a, F: Folder>(
     alloc: Global,
     input: &'a str,

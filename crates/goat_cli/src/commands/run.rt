@@ -57,6 +57,10 @@ pub fn run_job(arguments: &[String]) -> Result<Job<'_>, WordsFault>
 
 /// Runs a subtune, counted from 1, of a PSID file: init, and then play `frames` times. Prints a line of registers
 /// after each call.
+///
+/// # Errors
+///
+/// A stage isn't met, a device fails, or out of memory.
 pub fn run_psid<'a, F: Folder, K: Sink>(
     alloc: Global,
     input: &'a str,
