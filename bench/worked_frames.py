@@ -2,7 +2,7 @@
 """Makes worked frames of play_model: bench/worked_frames.py FILE NAME SONG..
 
 FILE tells what small songs leave in the SID's registers, by another reading of the rules than this
-repository's. For each run it has these lines:
+repository's. The recorded runs aren't kept beside this script. For each run FILE has these lines:
 
     song NAME SUBTUNE FRAMES SKIP SPEED
     the song's file of the format GTS5, in hexadecimal

@@ -18,3 +18,4 @@ pub mod WorkedEdges
 pub mod WorkedTunes
 pub mod WorkedPeriods
 pub mod WorkedSubtunes
+pub mod WorkedSlides

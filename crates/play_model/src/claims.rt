@@ -8,6 +8,7 @@ ghost use Rattle.play_model.specs.WorkedEdges.{WorkedEdgesHold};
 ghost use Rattle.play_model.specs.WorkedTunes.{WorkedTunesHold};
 ghost use Rattle.play_model.specs.WorkedPeriods.{WorkedPeriodsHold};
 ghost use Rattle.play_model.specs.WorkedSubtunes.{WorkedSubtunesHold};
+ghost use Rattle.play_model.specs.WorkedSlides.{WorkedSlidesHold};
 ghost use Rattle.play_model.specs.WorkedFrequencies.{FrequenciesAreAsWorked};
 ghost use Rattle.play_model.specs.WorkedFrames.{OneNoteSounds, LowNoteIsMute, VibratoWraps, SlideStops, FunkTempoWraps, GateTimerBits, LongTimerIsNeverMet, WaveProgramWaits, VibratoChangesAlone, FilterFollows};
 
@@ -135,4 +136,10 @@ pub fn worked_periods()
 #[tactic(auto, using(crate::proofs::WorkedSubtunes::worked_subtunes_lem))]
 pub fn worked_subtunes()
     ensures { WorkedSubtunesHold }
+{}
+
+/// Slides by the half tone at the last note, also at B-7, and the period of a vibrato.
+#[tactic(auto, using(crate::proofs::WorkedSlides::worked_slides_lem))]
+pub fn worked_slides()
+    ensures { WorkedSlidesHold }
 {}
