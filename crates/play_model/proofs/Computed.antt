@@ -50,7 +50,7 @@ wave_program_waits_lem = refl
 
 pub vibrato_changes_alone_lem : VibratoChangesAlone
 unfolding prefix_of cycle_of played playable_subtune instrument_at table_row pattern_at freq half_tone slide next_row porta_up porta_down tone vibrato do_command filter_step between_rows note_started row_command at_row tick_step wave_command wave_step effect_step pulse_step fetch_row voice_step voice_registers filter_registers frame_of state_after_with trace
-vibrato_changes_alone_lem = record { before = refl; after = refl }
+vibrato_changes_alone_lem = record { before = refl; after = refl; delayed = refl }
 
 pub filter_follows_lem : FilterFollows
 unfolding prefix_of cycle_of played playable_subtune instrument_at table_row pattern_at freq half_tone slide next_row porta_up porta_down tone vibrato do_command filter_step between_rows note_started row_command at_row tick_step wave_command wave_step effect_step pulse_step fetch_row voice_step voice_registers filter_registers frame_of state_after_with trace

@@ -64,10 +64,13 @@ WaveProgramWaits =
     from_call (frequency_at waiting_wave) 8 24 ≡ replicate 16 0x1168 ++ replicate 7 0x22D0
     ++ 0x1168 ∷ []
 
--- an instrument without a note brings its vibrato pointer, and the delay stays
+-- An instrument without a note brings its vibrato pointer, and the delay stays. Without a pointer the
+-- delay doesn't fall.
 pub record VibratoChangesAlone : Type 0 where
-  pub before : frequency_at other_vibrato 12 ≡ 0x1168
-  pub after : frequency_at other_vibrato 13 ≡ 0x1178
+  pub before : frequency_at (other_vibrato 1) 12 ≡ 0x1168
+  pub after : frequency_at (other_vibrato 1) 13 ≡ 0x1178
+  pub delayed : from_call (frequency_at (other_vibrato 3)) 12 6 ≡ 0x1168 ∷ 0x1168 ∷ 0x1168 ∷ 0x1178
+      ∷ 0x1188 ∷ 0x1178 ∷ []
 
 -- the filter's registers follow one frame after the note
 pub record FilterFollows : Type 0 where

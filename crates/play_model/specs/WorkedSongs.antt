@@ -110,9 +110,9 @@ waiting_wave =
     }
 
 -- a row that changes the instrument without a note: its vibrato pointer goes with the first one's delay
-abbrev pub other_vibrato : Song
-other_vibrato = record (with_rows (row 0x90 1 0 0 ∷ row 0xBD 2 0 0 ∷ []) plain_note) {
-  instruments = record plain { vibrato_delay = 1 }
+abbrev pub other_vibrato : ℕ → Song
+other_vibrato delay = record (with_rows (row 0x90 1 0 0 ∷ row 0xBD 2 0 0 ∷ []) plain_note) {
+  instruments = record plain { vibrato_delay = delay }
       ∷ record plain { ad = 0; sr = 0; wave = 0; vibrato = 1; first_wave = 0 } ∷ [];
   speed = sides 0x03 0x10 ∷ [];
 }
