@@ -4,7 +4,7 @@ use Rattle.song_model.specs.declared.songs.Song.{Song}
 use Rattle.play_model.specs.Frame.{trace, state_after}
 use Rattle.play_model.specs.SilentTrace.{silent_registers}
 use Rattle.play_model.specs.WorkedRuns.{from_call}
-use Rattle.play_model.specs.WorkedSongs.{one_note, low_note, wrapping_note, sliding_note, tied_note, funk_song, long_note, with_gate_timer, waiting_wave, other_vibrato, small_song}
+use Rattle.play_model.specs.WorkedSongs.{one_note, low_note, wrapping_note, sliding_note, tied_note, funk_song, long_funk_song, long_note, with_gate_timer, waiting_wave, other_vibrato, small_song}
 
 -- the seven registers of voice 1 after a call
 abbrev pub first_voice_at : Song → ℕ → List ℕ
@@ -43,6 +43,13 @@ pub record FunkTempoWraps : Type 0 where
   pub one : from_call (λ call. (state_after funk_song 0 call).common.funk_one) 7 3 ≡ replicate 3 255
   pub two : from_call (λ call. (state_after funk_song 0 call).common.funk_two) 7 3 ≡ replicate 3 0
   pub alike : from_call (trace funk_song 0) 1 20 ≡ replicate 20 silent_registers
+
+-- a tick of $80 is loaded anew with the other funk value, and one of $7F goes on to $7E
+pub record LongFunkTempoIsCut : Type 0 where
+  pub cut : from_call (λ call. (state_after (long_funk_song 0x82) 0 call).one.tick) 7 8 ≡ 0 ∷ 0x81 ∷ 3
+      ∷ 2 ∷ 1 ∷ 0 ∷ 0x81 ∷ 3 ∷ []
+  pub kept : from_call (λ call. (state_after (long_funk_song 0x81) 0 call).one.tick) 7 4 ≡ 0 ∷ 0x80
+      ∷ 0x7F ∷ 0x7E ∷ []
 
 -- a gateoff timer that is longer than the row is never met, and no row is fetched
 abbrev pub LongTimerIsNeverMet : Type 0

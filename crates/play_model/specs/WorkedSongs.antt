@@ -98,6 +98,10 @@ funk_song = record (with_rows (row 0xBD 0 0xE 1 ∷ row 0x90 1 0 0 ∷ []) one_n
   speed = sides 0 1 ∷ [];
 }
 
+-- the same song with funk values of 1 less than this number and 3 frames
+abbrev pub long_funk_song : ℕ → Song
+long_funk_song frames = record funk_song { speed = sides frames 4 ∷ [] }
+
 -- a rest after the note
 abbrev pub long_note : Song
 long_note = with_rows (row 0x90 1 0 0 ∷ rests 1) one_note

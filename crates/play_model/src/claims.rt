@@ -10,7 +10,7 @@ ghost use Rattle.play_model.specs.WorkedPeriods.{WorkedPeriodsHold};
 ghost use Rattle.play_model.specs.WorkedSubtunes.{WorkedSubtunesHold};
 ghost use Rattle.play_model.specs.WorkedSlides.{WorkedSlidesHold};
 ghost use Rattle.play_model.specs.WorkedFrequencies.{FrequenciesAreAsWorked};
-ghost use Rattle.play_model.specs.WorkedFrames.{OneNoteSounds, LowNoteIsMute, VibratoWraps, SlideStops, FunkTempoWraps, GateTimerBits, LongTimerIsNeverMet, WaveProgramWaits, VibratoChangesAlone, FilterFollows};
+ghost use Rattle.play_model.specs.WorkedFrames.{OneNoteSounds, LowNoteIsMute, VibratoWraps, SlideStops, FunkTempoWraps, LongFunkTempoIsCut, GateTimerBits, LongTimerIsNeverMet, WaveProgramWaits, VibratoChangesAlone, FilterFollows};
 
 /// Each call leaves 25 registers.
 pub fn traces_have_all_registers()
@@ -81,6 +81,12 @@ pub fn slide_stops()
 /// A funk value of 0 frames.
 pub fn funk_tempo_wraps()
     ensures { FunkTempoWraps }
+{}
+
+/// Funk values about the tick at which a row's length is loaded anew.
+#[tactic(auto, using(crate::proofs::Computed::long_funk_tempo_is_cut_lem))]
+pub fn long_funk_tempo_is_cut()
+    ensures { LongFunkTempoIsCut }
 {}
 
 /// What the two high bits of the gateoff timer keep.
