@@ -17,7 +17,7 @@ use Rattle.play_model.specs.State.{FrameState, no_options, start_state}
 use Rattle.play_model.specs.SilentTrace.{silent_registers}
 use Rattle.play_model.specs.WorkedSongs.{one_note, with_gate_timer}
 use Rattle.play_model.specs.WorkedRuns.{from_call, digits, Plays}
-use Rattle.play_model.specs.WorkedFrames.{OneNoteSounds, LowNoteIsMute, VibratoWraps, SlideStops, FunkTempoWraps, LongFunkTempoIsCut, GateTimerBits, LongTimerIsNeverMet, WaveProgramWaits, VibratoChangesAlone, FilterFollows}
+use Rattle.play_model.specs.WorkedFrames.{OneNoteSounds, LowNoteIsMute, VibratoWraps, SlideStops, FunkTempoWraps, LongFunkTempoIsCut, GateTimerBits, LongTimerIsNeverMet, WaveProgramWaits, VibratoChangesAlone, FilterFollows, OptionsAreAsWorked}
 
 pub one_note_sounds_lem : OneNoteSounds
 unfolding prefix_of cycle_of played playable_subtune instrument_at table_row pattern_at freq half_tone slide next_row porta_up porta_down tone vibrato do_command filter_step between_rows note_started row_command at_row tick_step wave_command wave_step effect_step pulse_step fetch_row voice_step voice_registers filter_registers frame_of state_after_with trace
@@ -59,6 +59,18 @@ vibrato_changes_alone_lem = record { before = refl; after = refl; delayed = refl
 pub filter_follows_lem : FilterFollows
 unfolding prefix_of cycle_of played playable_subtune instrument_at table_row pattern_at freq half_tone slide next_row porta_up porta_down tone vibrato do_command filter_step between_rows note_started row_command at_row tick_step wave_command wave_step effect_step pulse_step fetch_row voice_step voice_registers filter_registers frame_of state_after_with trace
 filter_follows_lem = record { set = refl; slides = refl }
+
+pub options_are_as_worked_lem : OptionsAreAsWorked
+unfolding prefix_of cycle_of played playable_subtune instrument_at table_row pattern_at freq half_tone slide next_row porta_up porta_down tone vibrato do_command filter_step between_rows note_started row_command at_row tick_step wave_command wave_step effect_step pulse_step fetch_row voice_step voice_registers filter_registers frame_of state_after_with
+options_are_as_worked_lem = record {
+  each_effect = refl;
+  fewer_effects = refl;
+  each_pulse = refl;
+  fewer_pulses = refl;
+  twice_fetched = refl;
+  twice_started = refl;
+  twice_sounds = refl;
+}
 
 -- the registers of n calls in one go, which doesn't begin anew for each call
 unfoldable pub calls_from : Options → Song → ℕ → ℕ → FrameState → List (List ℕ)

@@ -1,10 +1,11 @@
 -- Frames of the small songs, worked out by hand.
-use Rattle.std.specs.Prelude.{◌≡◌, ℕ, ◌+◌, ◌*◌, List, [], ◌∷◌, ◌++◌, take, drop, replicate, slice_index}
+use Rattle.std.specs.Prelude.{true, false, ◌≡◌, ℕ, ◌+◌, ◌*◌, List, [], ◌∷◌, ◌++◌, take, drop, replicate, slice_index}
 use Rattle.song_model.specs.declared.songs.Song.{Song}
-use Rattle.play_model.specs.Frame.{trace, state_after}
+use Rattle.play_model.specs.declared.options.Options.{Options}
+use Rattle.play_model.specs.Frame.{trace, trace_with, state_after}
 use Rattle.play_model.specs.SilentTrace.{silent_registers}
-use Rattle.play_model.specs.WorkedRuns.{from_call}
-use Rattle.play_model.specs.WorkedSongs.{one_note, low_note, wrapping_note, sliding_note, tied_note, funk_song, long_funk_song, long_note, with_gate_timer, waiting_wave, other_vibrato, small_song}
+use Rattle.play_model.specs.WorkedRuns.{from_call, left_out}
+use Rattle.play_model.specs.WorkedSongs.{one_note, low_note, wrapping_note, sliding_note, tied_note, funk_song, long_funk_song, rising_note, rising_pulse, long_note, with_gate_timer, waiting_wave, other_vibrato, small_song}
 
 -- the seven registers of voice 1 after a call
 abbrev pub first_voice_at : Song → ℕ → List ℕ
@@ -83,3 +84,26 @@ pub record VibratoChangesAlone : Type 0 where
 pub record FilterFollows : Type 0 where
   pub set : drop 21 (trace small_song 0 8) ≡ 0 ∷ 0x20 ∷ 0xF1 ∷ 0x1F ∷ []
   pub slides : drop 21 (trace small_song 0 9) ≡ 0 ∷ 0x21 ∷ 0xF1 ∷ 0x1F ∷ []
+
+-- the number in two registers of voice 1 after a call: the frequency is at 0, the pulse width at 2
+abbrev pub number_with : Options → Song → ℕ → ℕ → ℕ
+number_with o song place call =
+    slice_index (trace_with o song 0 call) place + 256 * slice_index (trace_with o song 0 call) (place + 1)
+
+-- Without effects at tick 0 the rise begins a call later and rests for one. Without pulse where a row
+-- is fetched the width rests for one call. At speed 2 the rows last twice as many calls.
+pub record OptionsAreAsWorked : Type 0 where
+  pub each_effect : from_call (number_with (left_out false false 1) rising_note 0) 13 8 ≡ 0x1178
+      ∷ 0x1188 ∷ 0x1198 ∷ 0x11A8 ∷ 0x11B8 ∷ 0x11C8 ∷ 0x11C8 ∷ 0x1168 ∷ []
+  pub fewer_effects : from_call (number_with (left_out true false 1) rising_note 0) 13 8 ≡ 0x1168
+      ∷ 0x1178 ∷ 0x1188 ∷ 0x1198 ∷ 0x11A8 ∷ 0x11B8 ∷ 0x11B8 ∷ 0x1168 ∷ []
+  pub each_pulse : from_call (number_with (left_out false false 1) rising_pulse 2) 10 3 ≡ 0x0820
+      ∷ 0x0830 ∷ 0x0840 ∷ []
+  pub fewer_pulses : from_call (number_with (left_out false true 1) rising_pulse 2) 10 3 ≡ 0x0820
+      ∷ 0x0820 ∷ 0x0830 ∷ []
+  pub twice_fetched : take 7 (trace_with (left_out false false 2) one_note 0 11) ≡ 0 ∷ 0 ∷ 0 ∷ 0 ∷ 0
+      ∷ 0x0F ∷ 0 ∷ []
+  pub twice_started : take 7 (trace_with (left_out false false 2) one_note 0 13) ≡ 0 ∷ 0 ∷ 0 ∷ 0
+      ∷ 0x09 ∷ 0x09 ∷ 0xA0 ∷ []
+  pub twice_sounds : take 7 (trace_with (left_out false false 2) one_note 0 14) ≡ 0x68 ∷ 0x11 ∷ 0
+      ∷ 0x08 ∷ 0x41 ∷ 0x09 ∷ 0xA0 ∷ []

@@ -102,6 +102,16 @@ funk_song = record (with_rows (row 0xBD 0 0xE 1 ∷ row 0x90 1 0 0 ∷ []) one_n
 abbrev pub long_funk_song : ℕ → Song
 long_funk_song frames = record funk_song { speed = sides frames 4 ∷ [] }
 
+-- a row after the note that goes up by $10 in each frame
+abbrev pub rising_note : Song
+rising_note = record (with_rows (row 0x90 1 0 0 ∷ row 0xBD 0 1 1 ∷ []) one_note) {
+  speed = sides 0 0x10 ∷ [];
+}
+
+-- a pulse program that goes up by $10 in each frame
+abbrev pub rising_pulse : Song
+rising_pulse = record one_note { pulse = sides 0x88 0 ∷ sides 0x20 0x10 ∷ sides 0xFF 2 ∷ [] }
+
 -- a rest after the note
 abbrev pub long_note : Song
 long_note = with_rows (row 0x90 1 0 0 ∷ rests 1) one_note

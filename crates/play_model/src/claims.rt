@@ -10,7 +10,7 @@ ghost use Rattle.play_model.specs.WorkedPeriods.{WorkedPeriodsHold};
 ghost use Rattle.play_model.specs.WorkedSubtunes.{WorkedSubtunesHold};
 ghost use Rattle.play_model.specs.WorkedSlides.{WorkedSlidesHold};
 ghost use Rattle.play_model.specs.WorkedFrequencies.{FrequenciesAreAsWorked};
-ghost use Rattle.play_model.specs.WorkedFrames.{OneNoteSounds, LowNoteIsMute, VibratoWraps, SlideStops, FunkTempoWraps, LongFunkTempoIsCut, GateTimerBits, LongTimerIsNeverMet, WaveProgramWaits, VibratoChangesAlone, FilterFollows};
+ghost use Rattle.play_model.specs.WorkedFrames.{OneNoteSounds, LowNoteIsMute, VibratoWraps, SlideStops, FunkTempoWraps, LongFunkTempoIsCut, GateTimerBits, LongTimerIsNeverMet, WaveProgramWaits, VibratoChangesAlone, FilterFollows, OptionsAreAsWorked};
 
 /// Each call leaves 25 registers.
 pub fn traces_have_all_registers()
@@ -107,6 +107,12 @@ pub fn vibrato_changes_alone()
 /// A filter program.
 pub fn filter_follows()
     ensures { FilterFollows }
+{}
+
+/// What each option leaves out, and how long the rows last at speed 2.
+#[tactic(auto, using(crate::proofs::Computed::options_are_as_worked_lem))]
+pub fn options_are_as_worked()
+    ensures { OptionsAreAsWorked }
 {}
 
 /// A gateoff timer that is longer than a row.
