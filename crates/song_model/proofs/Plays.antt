@@ -6,7 +6,7 @@ use Rattle.std.proofs.lemmas.Bool.Decides.{nat_tests}
 use Rattle.std.proofs.lemmas.List.Elements.{All-nil, All-head, All-tail, All-append, All-replicate, All-drop}
 use Rattle.song_model.specs.declared.orders.Order.{Order}
 use Rattle.song_model.specs.declared.orders.Step.{Step}
-use Rattle.song_model.specs.OrderLimits.{IsEntry, AreEntries}
+use Rattle.song_model.specs.OrderLimits.{IsEntry}
 use Rattle.song_model.specs.Endless.{IsPatternByte}
 use Rattle.song_model.specs.Walk.{transpose_after, repeat_after, plays_of, walk_plays, end_transpose, end_repeat, prefix_of, cycle_of}
 use Rattle.song_model.specs.WalkLaws.{PlaysArePatterns, IsTranspose, TransposesAreInRange}
@@ -90,16 +90,16 @@ end_in_range (byte ∷ bytes) t e h =
     end_in_range bytes (transpose_after byte t) (All-tail IsEntry byte bytes e)
     (after_byte byte t (All-head IsEntry byte bytes e) h)
 
-prefix_transposes : (order : Order) → AreEntries order.entries → All HasTranspose (prefix_of order)
+prefix_transposes : (order : Order) → All IsEntry order.entries → All HasTranspose (prefix_of order)
 unfolding prefix_of
-prefix_transposes order e = walk_transposes order.entries (pos 0) 0 e.each no_transpose
+prefix_transposes order e = walk_transposes order.entries (pos 0) 0 e no_transpose
 
-cycle_transposes : (order : Order) → AreEntries order.entries → All HasTranspose (cycle_of order)
+cycle_transposes : (order : Order) → All IsEntry order.entries → All HasTranspose (cycle_of order)
 unfolding cycle_of
 cycle_transposes order e =
     walk_transposes (drop order.restart order.entries) (end_transpose order.entries (pos 0))
     (end_repeat order.entries 0)
-    (All-drop IsEntry order.restart order.entries e.each) (end_in_range order.entries (pos 0) e.each no_transpose)
+    (All-drop IsEntry order.restart order.entries e) (end_in_range order.entries (pos 0) e no_transpose)
 
 pub transposes_in_range_lem : TransposesAreInRange
 transposes_in_range_lem order i e =

@@ -1,8 +1,8 @@
 -- What a reader may rely on in the walk along an orderlist.
-use Rattle.std.specs.Prelude.{◌≡◌, ℕ, ◌<◌, ℤ, pos, negsuc, ◌≤ℤ◌, length, drop, Contains}
+use Rattle.std.specs.Prelude.{◌≡◌, ℕ, ◌<◌, ℤ, pos, negsuc, ◌≤ℤ◌, length, drop, All, Contains}
 use Rattle.song_model.specs.declared.orders.Order.{Order}
 use Rattle.song_model.specs.declared.orders.Step.{Step}
-use Rattle.song_model.specs.OrderLimits.{AreEntries}
+use Rattle.song_model.specs.OrderLimits.{IsEntry}
 use Rattle.song_model.specs.Endless.{IsPatternByte, IsEndless}
 use Rattle.song_model.specs.Walk.{end_transpose, end_repeat, cycle_of, played}
 
@@ -26,10 +26,10 @@ pub record IsTranspose (transpose : ℤ) : Type 0 where
   pub least : negsuc 15 ≤ℤ transpose
   pub most : transpose ≤ℤ pos 14
 
--- each play of an orderlist within its limits has such a transpose
+-- each play of an orderlist of entries has such a transpose, whatever the orderlist's length
 abbrev pub TransposesAreInRange : Type 0
 TransposesAreInRange =
-    (order : Order) (i : ℕ) → AreEntries order.entries → IsTranspose (played order i).transpose
+    (order : Order) (i : ℕ) → All IsEntry order.entries → IsTranspose (played order i).transpose
 
 -- the cycle ends with the transpose and the repeat with which it began
 pub record EndsAsItBegan (order : Order) : Type 0 where
