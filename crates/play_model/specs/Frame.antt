@@ -16,14 +16,14 @@ use Rattle.play_model.specs.EffectStep.{effect_step}
 use Rattle.play_model.specs.PulseStep.{pulse_step}
 use Rattle.play_model.specs.FetchRow.{fetch_row}
 
--- where the wave step lets it run; an option leaves it out at tick 0
+-- the effect step, where the wave step lets it run, but an option leaves it out at tick 0
 abbrev pub effect_done : Options → LookUps → Waved → Playing
 effect_done o look w =
     if w.effect && not (o.skip_effects && (w.playing.voice.tick == 0))
     then record w.playing { voice = effect_step look w.playing.voice }
     else w.playing
 
--- an option leaves it out where the row is fetched
+-- the pulse step, but an option leaves it out where the row is fetched
 abbrev pub pulse_done : Options → LookUps → Playing → Playing
 pulse_done o look s =
     if o.skip_pulse && (s.voice.tick == s.voice.gate_timer) then s

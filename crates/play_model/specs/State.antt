@@ -93,7 +93,7 @@ start_voice = record {
 abbrev pub no_options : Options
 no_options = record { skip_effects = false; skip_pulse = false; speed = 1 }
 
--- a row lasts as long at each speed: 6 pictures, or 9 and 6 in turn
+-- at the start a row lasts as long at each speed: 6 pictures, or 9 and 6 in turn
 abbrev pub start_common : ℕ → Common
 start_common speed = record {
   tempo_one = 6 * speed - 1;

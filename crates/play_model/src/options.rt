@@ -1,4 +1,4 @@
-//! How a song is played: what is left out of a frame, and how many frames a row has room for.
+//! How a song is played: what is left out of a frame, and how often the play call comes.
 
 ghost use Rattle.std.specs.Prelude.{◌≡◌, ◌↔◌, IsNone, IfSome};
 ghost use Rattle.play_model.specs.Speeds.{IsSpeed};

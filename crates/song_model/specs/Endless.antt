@@ -6,7 +6,8 @@ use Rattle.song_model.specs.declared.orders.Order.{Order}
 abbrev pub IsPatternByte : ℕ → Type 0
 IsPatternByte byte = byte < 0xD0
 
--- the restart position is the place of an entry, and a pattern stands from there to the end
+-- the restart position is the place of an entry, and a pattern stands from there to the end; the
+-- format calls this sound
 pub record IsEndless (order : Order) : Type 0 where
   pub restart : order.restart < length order.entries
   pub pattern : Any IsPatternByte (drop order.restart order.entries)
