@@ -71,9 +71,6 @@ drop_past {X} xs piece rest place n e p =
 
 -- ---- what holds of each item
 
-pub All-append_left : {X : Type 0} (P : X → Type 0) (xs ys : List X) → All P (xs ++ ys) → All P xs
-All-append_left P xs ys all = λ i d inside. rw (← get_or_append_left xs ys d i inside) (all i d (omega (arith, length-append xs ys)))
-
 pub All-append_right : {X : Type 0} (P : X → Type 0) (xs ys : List X) → All P (xs ++ ys) → All P ys
 All-append_right P [] ys all = all
 All-append_right P (x ∷ xs) ys all = All-append_right P xs ys (All-tail P x (xs ++ ys) all)

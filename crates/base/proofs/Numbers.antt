@@ -11,10 +11,6 @@ half_small n h = omega arith
 pub word_small : {low high : ℕ} → low < 256 → high < 256 → low + 256 * high < 65536
 word_small l h = omega arith
 
--- a number is its two halves
-pub word_of_halves : (n : ℕ) → n % 256 + 256 * (n / 256) ≡ n
-word_of_halves n = omega arith
-
 -- bits of a byte are a byte
 pub and_small : (a b : ℕ) → a < 256 → bit_and a b < 256
 and_small a b small = let most = and_le_l a b in omega arith
@@ -31,17 +27,6 @@ outside at width q h =
       | inl l ↦ inl l
       | inr g ↦ elim (cases_lt q (at + width)) [ inl l ↦ absurd (h (g, l)) | inr k ↦ inr k ]
     ]
-
--- a word added to a sum that has wrapped already
-pub mod_of_sum : (a p d : ℕ) → (a + (p + d) % 65536) % 65536 ≡ (a + p + d) % 65536
-mod_of_sum a p d = omega arith
-
--- a number below 512 and its rest
-pub below_twice : (s : ℕ) → s < 512 → (s ≡ s % 256) ⊎ (s ≡ s % 256 + 256)
-below_twice s l = elim (cases_lt s 256) [
-  | inl below ↦ inl (omega arith)
-  | inr above ↦ inr (omega arith)
-]
 
 -- the rest of the next number: one more, or 0 where it comes round
 pub mod_goes_on : (a n m : ℕ) → 0 < n → a % n ≡ m → suc m < n → suc a % n ≡ suc m
