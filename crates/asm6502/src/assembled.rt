@@ -17,5 +17,6 @@ pub struct Assembled {
     pub fixes: FixList,
     ghost fits: { origin + length bytes ≤ 65536 },
     ghost in_order: { InOrder 0 (length bytes) fixes } by { InOrder-prop 0 (length bytes) fixes },
-    ghost numbers_stand: { NumbersStand origin bytes fixes } by { NumbersStand-prop origin bytes fixes },
+    ghost numbers_stand: { NumbersStand origin bytes fixes } by { NumbersStand-prop
+        origin bytes fixes },
 }
