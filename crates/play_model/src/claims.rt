@@ -17,8 +17,8 @@ pub fn traces_have_all_registers()
     ensures { TracesHaveAllRegisters }
 {}
 
-/// Each rule keeps the ranges of what a voice keeps and what the voices share, over any look-ups that
-/// find bytes.
+/// Each rule keeps the ranges of what a voice keeps and what the voices share, over any look-ups
+/// that find bytes.
 #[tactic(auto, using(crate::proofs::RangesOfFrames::ranges_lem))]
 pub fn rules_keep_ranges()
     ensures { RangesAreKept }
