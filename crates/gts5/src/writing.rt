@@ -35,6 +35,10 @@ pub fn write(alloc: Global, song: &Song) -> Result<Vec<u8>, NoMemory>
 }
 
 /// An orderlist: its count, its entries, the endmark and the restart position.
+///
+/// # Errors
+///
+/// Out of memory.
 fn put_order(out: &mut Vec<u8>, order: &Order) -> Result<(), NoMemory>
     ensures { OnOk result (out.new.items ≡ out.old.items ++ order_text order.now) }
 {
@@ -47,6 +51,10 @@ fn put_order(out: &mut Vec<u8>, order: &Order) -> Result<(), NoMemory>
 }
 
 /// The three orderlists of a subtune.
+///
+/// # Errors
+///
+/// Out of memory.
 fn put_subtune(out: &mut Vec<u8>, subtune: &Subtune) -> Result<(), NoMemory>
     ensures { OnOk result (out.new.items ≡ out.old.items ++ subtune_text subtune.now) }
 {
@@ -56,6 +64,10 @@ fn put_subtune(out: &mut Vec<u8>, subtune: &Subtune) -> Result<(), NoMemory>
 }
 
 /// The count of the subtunes and the subtunes.
+///
+/// # Errors
+///
+/// Out of memory.
 fn put_subtunes(out: &mut Vec<u8>, subtunes: &SubtuneList) -> Result<(), NoMemory>
     ensures { OnOk result (out.new.items ≡ out.old.items ++ subtunes_text subtunes.now) }
 {
@@ -68,6 +80,10 @@ fn put_subtunes(out: &mut Vec<u8>, subtunes: &SubtuneList) -> Result<(), NoMemor
 }
 
 /// An instrument: nine numbers and its name.
+///
+/// # Errors
+///
+/// Out of memory.
 fn put_instrument(out: &mut Vec<u8>, instrument: &Instrument) -> Result<(), NoMemory>
     ensures { OnOk result (out.new.items ≡ out.old.items ++ instrument_text instrument.now) }
 {
@@ -87,6 +103,10 @@ fn put_instrument(out: &mut Vec<u8>, instrument: &Instrument) -> Result<(), NoMe
 }
 
 /// The count of the instruments and the instruments.
+///
+/// # Errors
+///
+/// Out of memory.
 fn put_instruments(out: &mut Vec<u8>, instruments: &InstrumentList) -> Result<(), NoMemory>
     ensures { OnOk result (out.new.items ≡ out.old.items ++ instruments_text instruments.now) }
 {
@@ -99,6 +119,10 @@ fn put_instruments(out: &mut Vec<u8>, instruments: &InstrumentList) -> Result<()
 }
 
 /// The left sides of a table.
+///
+/// # Errors
+///
+/// Out of memory.
 fn put_lefts(out: &mut Vec<u8>, rows: &[TableRow]) -> Result<(), NoMemory>
     ensures { OnOk result (out.new.items ≡ out.old.items ++ map (λ row. row.left) rows.now) }
 {
@@ -109,6 +133,10 @@ fn put_lefts(out: &mut Vec<u8>, rows: &[TableRow]) -> Result<(), NoMemory>
 }
 
 /// The right sides of a table.
+///
+/// # Errors
+///
+/// Out of memory.
 fn put_rights(out: &mut Vec<u8>, rows: &[TableRow]) -> Result<(), NoMemory>
     ensures { OnOk result (out.new.items ≡ out.old.items ++ map (λ row. row.right) rows.now) }
 {
@@ -119,6 +147,10 @@ fn put_rights(out: &mut Vec<u8>, rows: &[TableRow]) -> Result<(), NoMemory>
 }
 
 /// The count of a table's rows, its left sides and its right sides.
+///
+/// # Errors
+///
+/// Out of memory.
 fn put_table(out: &mut Vec<u8>, table: &Table) -> Result<(), NoMemory>
     ensures { OnOk result (out.new.items ≡ out.old.items ++ table_text table.now) }
 {
@@ -129,6 +161,10 @@ fn put_table(out: &mut Vec<u8>, table: &Table) -> Result<(), NoMemory>
 }
 
 /// Rows of four bytes.
+///
+/// # Errors
+///
+/// Out of memory.
 fn put_rows(out: &mut Vec<u8>, rows: &[Row]) -> Result<(), NoMemory>
     ensures { OnOk result (out.new.items ≡ out.old.items ++ flat_map row_text rows.now) }
 {
@@ -139,6 +175,10 @@ fn put_rows(out: &mut Vec<u8>, rows: &[Row]) -> Result<(), NoMemory>
 }
 
 /// A pattern: the count of its rows and the end row, its rows and the end row.
+///
+/// # Errors
+///
+/// Out of memory.
 fn put_pattern(out: &mut Vec<u8>, pattern: &Pattern) -> Result<(), NoMemory>
     ensures { OnOk result (out.new.items ≡ out.old.items ++ pattern_text pattern.now) }
 {
@@ -150,6 +190,10 @@ fn put_pattern(out: &mut Vec<u8>, pattern: &Pattern) -> Result<(), NoMemory>
 }
 
 /// The count of the patterns and the patterns.
+///
+/// # Errors
+///
+/// Out of memory.
 fn put_patterns(out: &mut Vec<u8>, patterns: &PatternList) -> Result<(), NoMemory>
     ensures { OnOk result (out.new.items ≡ out.old.items ++ patterns_text patterns.now) }
 {
