@@ -47,8 +47,8 @@ pub record FunkTempoWraps : Type 0 where
 
 -- a tick of $80 is loaded anew with the other funk value, and one of $7F goes on to $7E
 pub record LongFunkTempoIsCut : Type 0 where
-  pub cut : from_call (λ call. (state_after (long_funk_song 0x82) 0 call).one.tick) 7 8 ≡ 0 ∷ 0x81 ∷ 3
-      ∷ 2 ∷ 1 ∷ 0 ∷ 0x81 ∷ 3 ∷ []
+  pub cut : from_call (λ call. (state_after (long_funk_song 0x82) 0 call).one.tick) 7 8 ≡ 0 ∷ 0x81
+      ∷ 3 ∷ 2 ∷ 1 ∷ 0 ∷ 0x81 ∷ 3 ∷ []
   pub kept : from_call (λ call. (state_after (long_funk_song 0x81) 0 call).one.tick) 7 4 ≡ 0 ∷ 0x80
       ∷ 0x7F ∷ 0x7E ∷ []
 
@@ -72,8 +72,8 @@ WaveProgramWaits =
     from_call (frequency_at waiting_wave) 8 24 ≡ replicate 16 0x1168 ++ replicate 7 0x22D0
     ++ 0x1168 ∷ []
 
--- An instrument without a note brings its vibrato pointer, and the delay stays. Without a pointer the
--- delay doesn't fall.
+-- An instrument without a note brings its vibrato pointer, and the delay stays. Without a pointer
+-- the delay doesn't fall.
 pub record VibratoChangesAlone : Type 0 where
   pub before : frequency_at (other_vibrato 1) 12 ≡ 0x1168
   pub after : frequency_at (other_vibrato 1) 13 ≡ 0x1178
@@ -88,10 +88,11 @@ pub record FilterFollows : Type 0 where
 -- the number in two registers of voice 1 after a call: the frequency is at 0, the pulse width at 2
 abbrev pub number_with : Options → Song → ℕ → ℕ → ℕ
 number_with o song place call =
-    slice_index (trace_with o song 0 call) place + 256 * slice_index (trace_with o song 0 call) (place + 1)
+    slice_index (trace_with o song 0 call) place
+    + 256 * slice_index (trace_with o song 0 call) (place + 1)
 
--- Without effects at tick 0 the rise begins a call later and rests for one. Without pulse where a row
--- is fetched the width rests for one call. At speed 2 the rows last twice as many calls.
+-- Without effects at tick 0 the rise begins a call later. Without pulse where a row is fetched the
+-- width rests for one call. At speed 2 the rows last twice as many calls.
 pub record OptionsAreAsWorked : Type 0 where
   pub each_effect : from_call (number_with (left_out false false 1) rising_note 0) 13 8 ≡ 0x1178
       ∷ 0x1188 ∷ 0x1198 ∷ 0x11A8 ∷ 0x11B8 ∷ 0x11C8 ∷ 0x11C8 ∷ 0x1168 ∷ []
