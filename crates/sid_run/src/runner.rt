@@ -120,6 +120,10 @@ impl Runner {
     }
 
     /// Calls an address with a number in the accumulator, unless the runner has stopped.
+    ///
+    /// # Errors
+    ///
+    /// The call met a stop, or used up its budget; or a call before it did.
     fn call_at(&mut self, address: u16, a: u8, budget: u32) -> Result<[u8; REGISTERS], CallStop>
         ensures { AnswersCall address a budget self.old self.new result }
     {
