@@ -81,6 +81,10 @@ impl MemFolder {
 }
 
 /// A copy of the file that has the name, of at most `limit` bytes.
+///
+/// # Errors
+///
+/// The file is missing, or longer than `limit` bytes; or out of memory.
 fn copy_of(alloc: Global, files: &FileMap, name: &str, limit: u32) -> Result<Vec<u8>, ReadFault>
     ensures ok { IfOk result (λ bytes. (vec_len bytes ≤ limit) × (file_of files.now name.now ≡
         Some bytes.items)) }
