@@ -56,7 +56,7 @@ rule_of (IsThere name) = record {
   status = 2;
   ends = λ files lines. IsAbsent name files × (lines ≡ missing_line name ∷ []);
 }
--- it has at most so many bytes as the limit
+-- it has no more bytes than the limit
 rule_of (Fits name limit) = record {
   asks = λ files. (bytes : List ℕ) × HoldsBytes files name bytes × (length bytes ≤ limit);
   status = 3;

@@ -5,6 +5,7 @@ ghost use Rattle.goat_cli.specs.Image.{silent_image, silent_code, bytes_of};
 ghost use Rattle.goat_cli.specs.Place.{IsAddress};
 ghost use Rattle.goat_cli.specs.SilentRun.{InitIsSilent, PlayIsSilent};
 
+use cpu6502::SID_BASE;
 use song_model::NoMemory;
 use std::alloc::{AllocError, Global};
 
@@ -24,9 +25,6 @@ const LDX_IMMEDIATE: u8 = 0xA2;
 const LDA_IMMEDIATE: u8 = 0xA9;
 
 const DEX: u8 = 0xCA;
-
-/// The place of the SID's first register.
-const SID_BASE: u16 = 0xD400;
 
 /// The SID's register of volume and filter modes, its last that can be written.
 const VOLUME_REGISTER: u8 = 24;

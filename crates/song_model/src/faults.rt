@@ -7,7 +7,7 @@ pub enum LimitFault {
     BadLength,
     /// An item is out of its range; this is the least place of one, counted from 0.
     BadItem { place: u16 },
-    /// Memory ran out.
+    /// Out of memory.
     NoMemory,
 }
 
@@ -16,6 +16,6 @@ pub enum LimitFault {
 pub enum PushFault {
     /// The list has as many items as its limit allows.
     Full,
-    /// Memory ran out.
+    /// Out of memory.
     NoMemory,
 }
