@@ -29,3 +29,8 @@ pub mod WorkedTunes
 pub mod WorkedPeriods
 pub mod WorkedSubtunes
 pub mod WorkedSlides
+pub mod WorkedWithoutEffects
+pub mod WorkedWithoutPulse
+pub mod WorkedLongPulses
+pub mod WorkedWithoutBoth
+pub mod WorkedBareVoices

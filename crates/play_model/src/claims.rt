@@ -9,6 +9,11 @@ ghost use Rattle.play_model.specs.WorkedTunes.{WorkedTunesHold};
 ghost use Rattle.play_model.specs.WorkedPeriods.{WorkedPeriodsHold};
 ghost use Rattle.play_model.specs.WorkedSubtunes.{WorkedSubtunesHold};
 ghost use Rattle.play_model.specs.WorkedSlides.{WorkedSlidesHold};
+ghost use Rattle.play_model.specs.WorkedWithoutEffects.{WorkedWithoutEffectsHold};
+ghost use Rattle.play_model.specs.WorkedWithoutPulse.{WorkedWithoutPulseHold};
+ghost use Rattle.play_model.specs.WorkedLongPulses.{WorkedLongPulsesHold};
+ghost use Rattle.play_model.specs.WorkedWithoutBoth.{WorkedWithoutBothHold};
+ghost use Rattle.play_model.specs.WorkedBareVoices.{WorkedBareVoicesHold};
 ghost use Rattle.play_model.specs.WorkedFrequencies.{FrequenciesAreAsWorked};
 ghost use Rattle.play_model.specs.WorkedFrames.{OneNoteSounds, LowNoteIsMute, VibratoWraps, SlideStops, FunkTempoWraps, LongFunkTempoIsCut, GateTimerBits, LongTimerIsNeverMet, WaveProgramWaits, VibratoChangesAlone, FilterFollows, OptionsAreAsWorked};
 
@@ -154,4 +159,34 @@ pub fn worked_subtunes()
 #[tactic(auto, using(crate::proofs::WorkedSlides::worked_slides_lem))]
 pub fn worked_slides()
     ensures { WorkedSlidesHold }
+{}
+
+/// Tunes and subtunes with and without effects, at each speed.
+#[tactic(auto, using(crate::proofs::WorkedWithoutEffects::worked_without_effects_lem))]
+pub fn worked_without_effects()
+    ensures { WorkedWithoutEffectsHold }
+{}
+
+/// Tunes with and without the pulse step, at each speed.
+#[tactic(auto, using(crate::proofs::WorkedWithoutPulse::worked_without_pulse_lem))]
+pub fn worked_without_pulse()
+    ensures { WorkedWithoutPulseHold }
+{}
+
+/// Longer runs with and without the pulse step, and a vibrato with the longest period, 180 calls.
+#[tactic(auto, using(crate::proofs::WorkedLongPulses::worked_long_pulses_lem))]
+pub fn worked_long_pulses()
+    ensures { WorkedLongPulsesHold }
+{}
+
+/// Tunes with and without effects and the pulse step, at each speed.
+#[tactic(auto, using(crate::proofs::WorkedWithoutBoth::worked_without_both_lem))]
+pub fn worked_without_both()
+    ensures { WorkedWithoutBothHold }
+{}
+
+/// Subtunes with and without effects and the pulse step.
+#[tactic(auto, using(crate::proofs::WorkedBareVoices::worked_bare_voices_lem))]
+pub fn worked_bare_voices()
+    ensures { WorkedBareVoicesHold }
 {}

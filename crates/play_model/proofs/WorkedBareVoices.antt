@@ -1,0 +1,33 @@
+-- What small songs leave in the registers, computed by the checker.
+-- Written by bench/worked_frames.py.
+use Rattle.std.proofs.Common.{true, false, refl}
+use Rattle.song_model.specs.Walk.{prefix_of, cycle_of, played}
+use Rattle.song_model.specs.LookUp.{playable_subtune, instrument_at, table_row, pattern_at}
+use Rattle.play_model.specs.Freq.{freq, half_tone, slide}
+use Rattle.play_model.specs.Helpers.{next_row, porta_up, porta_down, tone, vibrato, do_command}
+use Rattle.play_model.specs.FilterStep.{filter_step}
+use Rattle.play_model.specs.TickStep.{between_rows, note_started, row_command, at_row, tick_step}
+use Rattle.play_model.specs.WaveStep.{wave_command, wave_step}
+use Rattle.play_model.specs.EffectStep.{effect_step}
+use Rattle.play_model.specs.PulseStep.{pulse_step}
+use Rattle.play_model.specs.FetchRow.{fetch_row}
+use Rattle.play_model.specs.Frame.{voice_step, voice_registers, filter_registers, frame_of}
+use Rattle.play_model.specs.WorkedRuns.{left_out}
+use Rattle.play_model.proofs.Computed.{calls_from, plays}
+use Rattle.play_model.specs.WorkedBareVoices.{rich_22sub_2, rich_40sub_2, rich_60sub_2, rich_3sub_2, WorkedBareVoicesHold}
+
+pub worked_bare_voices_lem : WorkedBareVoicesHold
+unfolding prefix_of cycle_of played playable_subtune instrument_at table_row pattern_at
+    freq half_tone slide next_row porta_up porta_down tone vibrato do_command filter_step
+    between_rows note_started row_command at_row tick_step wave_command wave_step effect_step
+    pulse_step fetch_row voice_step voice_registers filter_registers frame_of calls_from
+worked_bare_voices_lem = record {
+  rich_22sub_2_none_1 = plays (left_out false false 1) rich_22sub_2 1 _ refl;
+  rich_22sub_2_both_2 = plays (left_out true true 2) rich_22sub_2 1 _ refl;
+  rich_40sub_2_none_1 = plays (left_out false false 1) rich_40sub_2 1 _ refl;
+  rich_40sub_2_both_1 = plays (left_out true true 1) rich_40sub_2 1 _ refl;
+  rich_60sub_2_none_1 = plays (left_out false false 1) rich_60sub_2 1 _ refl;
+  rich_60sub_2_both_2 = plays (left_out true true 2) rich_60sub_2 1 _ refl;
+  rich_3sub_2_none_1 = plays (left_out false false 1) rich_3sub_2 1 _ refl;
+  rich_3sub_2_both_2 = plays (left_out true true 2) rich_3sub_2 1 _ refl;
+}
