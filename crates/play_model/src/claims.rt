@@ -161,31 +161,31 @@ pub fn worked_slides()
     ensures { WorkedSlidesHold }
 {}
 
-/// Tunes and subtunes with and without effects, at each speed.
+/// Tunes and subtunes whole at speed 1, and without effects at speeds 2 to 4.
 #[tactic(auto, using(crate::proofs::WorkedWithoutEffects::worked_without_effects_lem))]
 pub fn worked_without_effects()
     ensures { WorkedWithoutEffectsHold }
 {}
 
-/// Tunes with and without the pulse step, at each speed.
+/// Tunes whole at speed 1, and without the pulse step at each speed.
 #[tactic(auto, using(crate::proofs::WorkedWithoutPulse::worked_without_pulse_lem))]
 pub fn worked_without_pulse()
     ensures { WorkedWithoutPulseHold }
 {}
 
-/// Longer runs with and without the pulse step, and a vibrato with the longest period, 180 calls.
+/// Tunes whole at speed 1, and without the pulse step at speeds 2 to 4; and a vibrato with the longest period, 180 calls.
 #[tactic(auto, using(crate::proofs::WorkedLongPulses::worked_long_pulses_lem))]
 pub fn worked_long_pulses()
     ensures { WorkedLongPulsesHold }
 {}
 
-/// Tunes with and without effects and the pulse step, at each speed.
+/// Tunes whole at speed 1, and without effects and the pulse step at speeds 1, 3 and 4.
 #[tactic(auto, using(crate::proofs::WorkedWithoutBoth::worked_without_both_lem))]
 pub fn worked_without_both()
     ensures { WorkedWithoutBothHold }
 {}
 
-/// Subtunes with and without effects and the pulse step.
+/// Subtunes whole at speed 1, and without effects and the pulse step at speeds 1 and 2.
 #[tactic(auto, using(crate::proofs::WorkedBareVoices::worked_bare_voices_lem))]
 pub fn worked_bare_voices()
     ensures { WorkedBareVoicesHold }
