@@ -1,10 +1,11 @@
 -- Machines stay machines: the effect of each instruction is within the ranges, and what is written leaves memory a
 -- memory.
-use Rattle.std.proofs.Common.{◌≡◌, ℕ, zero, suc, ◌+◌, ◌*◌, ◌%◌, ◌<◌, ◌≤◌, Bool, true, false, not, List, [], ◌∷◌, Option, Some, None, Result, Ok, Err, length, slice_index, slice_set, bit_and, if◌then◌else◌, All, refl, ◌∙◌, subst, arith, length-set, inl, inr}
+use Rattle.std.proofs.Common.{◌≡◌, ℕ, zero, suc, ◌+◌, ◌%◌, ◌<◌, Bool, true, false, not, List, [], ◌∷◌, Option, Some, None, Result, Ok, Err, length, slice_index, slice_set, if◌then◌else◌, All, refl, ◌∙◌, subst, arith, length-set, inl, inr}
 use Rattle.std.proofs.lemmas.Bool.{cases_lt}
 use Rattle.std.proofs.lemmas.List.{get_or_past}
 use Rattle.std.proofs.lemmas.List.Elements.{All-set}
-use Rattle.std.proofs.lemmas.Nat.{and_le_l, or_of_8, xor_of_8}
+use Rattle.std.proofs.lemmas.Nat.{or_of_8, xor_of_8}
+use Rattle.base.proofs.Laws.{and_small, one_if_small, word_small}
 use Rattle.cpu6502.specs.declared.mnemonic.Mnemonic.{Mnemonic}
 use Rattle.cpu6502.specs.declared.mnemonic.Mnemonic.TheVariants.{Adc, And, Asl, Bcc, Bcs, Beq, Bit, Bmi, Bne, Bpl, Bvc, Bvs, Clc, Cld, Cli, Clv, Cmp, Cpx, Cpy, Dec, Dex, Dey, Eor, Inc, Inx, Iny, Jmp, Jsr, Lda, Ldx, Ldy, Lsr, Nop, Ora, Pha, Php, Pla, Plp, Rol, Ror, Rti, Rts, Sbc, Sec, Sed, Sei, Sta, Stx, Sty, Tax, Tay, Tsx, Txa, Txs, Tya}
 use Rattle.cpu6502.specs.declared.mnemonic.Mode.{Mode}
@@ -13,9 +14,10 @@ use Rattle.cpu6502.specs.declared.cpu.Cpu.{Cpu}
 use Rattle.cpu6502.specs.declared.effect.Write.{Write}
 use Rattle.cpu6502.specs.declared.effect.Effect.{Effect}
 use Rattle.cpu6502.specs.declared.machine.Machine.{Machine}
+use Rattle.cpu6502.specs.declared.memory.TheConstants.{MEMORY_SIZE}
 use Rattle.cpu6502.specs.declared.stop.Stop.{Stop}
 use Rattle.cpu6502.specs.Opcodes.{Meaning, meaning_of, length_of, is_accumulator}
-use Rattle.cpu6502.specs.Registers.{one_if, stack_place, with_a, with_x, with_y, quiet, storing}
+use Rattle.cpu6502.specs.Registers.{stack_place, with_a, with_x, with_y, quiet, storing}
 use Rattle.cpu6502.specs.Loads.{load_effect}
 use Rattle.cpu6502.specs.Arithmetic.{arithmetic_effect}
 use Rattle.cpu6502.specs.Compares.{compare_effect}
@@ -40,10 +42,10 @@ pub record FitsCpu (cpu : Cpu) : Type 0 where
   pub x : cpu.x < 256
   pub y : cpu.y < 256
   pub sp : cpu.sp < 256
-  pub pc : cpu.pc < 65536
+  pub pc : cpu.pc < MEMORY_SIZE
 
 pub record FitsWrite (write : Write) : Type 0 where
-  pub place : write.place < 65536
+  pub place : write.place < MEMORY_SIZE
   pub value : write.value < 256
 
 abbrev pub FitWrites : List Write → Type 0
@@ -61,7 +63,7 @@ MayFit (Some done) = Fits done
 is_quiet : (cpu : Cpu) → FitsCpu cpu → Fits (quiet cpu)
 is_quiet cpu f = record { cpu = f; writes = tt }
 
-is_storing : (cpu : Cpu) (place byte : ℕ) → FitsCpu cpu → place < 65536 → byte < 256 → Fits (storing cpu place byte)
+is_storing : (cpu : Cpu) (place byte : ℕ) → FitsCpu cpu → place < MEMORY_SIZE → byte < 256 → Fits (storing cpu place byte)
 is_storing cpu place byte f p b = record { cpu = f; writes = (record { place = p; value = b }, tt) }
 
 in_a : (cpu : Cpu) (byte : ℕ) → FitsCpu cpu → byte < 256 → FitsCpu (with_a cpu byte)
@@ -73,18 +75,14 @@ in_x cpu byte f b = record { a = f.a; x = b; y = f.y; sp = f.sp; pc = f.pc }
 in_y : (cpu : Cpu) (byte : ℕ) → FitsCpu cpu → byte < 256 → FitsCpu (with_y cpu byte)
 in_y cpu byte f b = record { a = f.a; x = f.x; y = b; sp = f.sp; pc = f.pc }
 
-at_pc : (cpu : Cpu) (place : ℕ) → FitsCpu cpu → place < 65536 → FitsCpu (record cpu { pc = place })
+at_pc : (cpu : Cpu) (place : ℕ) → FitsCpu cpu → place < MEMORY_SIZE → FitsCpu (record cpu { pc = place })
 at_pc cpu place f p = record { a = f.a; x = f.x; y = f.y; sp = f.sp; pc = p }
 
 at_sp : (cpu : Cpu) (sp : ℕ) → FitsCpu cpu → sp < 256 → FitsCpu (record cpu { sp = sp })
 at_sp cpu sp f s = record { a = f.a; x = f.x; y = f.y; sp = s; pc = f.pc }
 
-on_stack : (sp : ℕ) → stack_place sp < 65536
+on_stack : (sp : ℕ) → stack_place sp < MEMORY_SIZE
 on_stack sp = omega arith
-
-one_if_small : (flag : Bool) → one_if flag ≤ 1
-one_if_small true = omega arith
-one_if_small false = omega arith
 
 same_fits : (one other : Effect) → one ≡ other → Fits one → Fits other
 same_fits one other e fits = subst Fits e fits
@@ -93,16 +91,10 @@ went : (cpu : Cpu) (outcome : Result Effect Stop) (done : Effect) → outcome �
     FitsCpu cpu → Fits done
 went cpu outcome done e is f = same_fits (quiet cpu) done (cc (e, is)) (is_quiet cpu f)
 
-word_small : {low high : ℕ} → low < 256 → high < 256 → low + 256 * high < 65536
-word_small l h = omega arith
-
-and_small : (a b : ℕ) → a < 256 → bit_and a b < 256
-and_small a b small = let most = and_le_l a b in omega arith
-
 -- ---- group by group, over bytes
 
 module _ (at : ℕ → ℕ) (bytes : (place : ℕ) → at place < 256) (cpu : Cpu) (f : FitsCpu cpu) where
-  loads : (mn : Mnemonic) (place : ℕ) → place < 65536 → MayFit (load_effect mn place at cpu)
+  loads : (mn : Mnemonic) (place : ℕ) → place < MEMORY_SIZE → MayFit (load_effect mn place at cpu)
   loads Lda place p = is_quiet _ (in_a cpu (at place) f (bytes place))
   loads Ldx place p = is_quiet _ (in_x cpu (at place) f (bytes place))
   loads Ldy place p = is_quiet _ (in_y cpu (at place) f (bytes place))
@@ -129,7 +121,7 @@ module _ (at : ℕ → ℕ) (bytes : (place : ℕ) → at place < 256) (cpu : Cp
   logic Bit place = is_quiet _ (record { a = f.a; x = f.x; y = f.y; sp = f.sp; pc = f.pc })
   logic _ place = tt
 
-  counts : (mn : Mnemonic) (place : ℕ) → place < 65536 → MayFit (count_effect mn place at cpu)
+  counts : (mn : Mnemonic) (place : ℕ) → place < MEMORY_SIZE → MayFit (count_effect mn place at cpu)
   counts Inc place p = is_storing _ place _ (record { a = f.a; x = f.x; y = f.y; sp = f.sp; pc = f.pc }) p
       (omega arith)
   counts Dec place p = is_storing _ place _ (record { a = f.a; x = f.x; y = f.y; sp = f.sp; pc = f.pc }) p
@@ -140,11 +132,11 @@ module _ (at : ℕ → ℕ) (bytes : (place : ℕ) → at place < 256) (cpu : Cp
   counts Dey place p = is_quiet _ (in_y cpu _ f (omega arith))
   counts _ place p = tt
 
-  taken_or_not : (taken : Bool) (place : ℕ) → place < 65536 → Fits (quiet (branched cpu taken place))
+  taken_or_not : (taken : Bool) (place : ℕ) → place < MEMORY_SIZE → Fits (quiet (branched cpu taken place))
   taken_or_not true place p = is_quiet _ (at_pc cpu place f p)
   taken_or_not false place p = is_quiet cpu f
 
-  branches : (mn : Mnemonic) (place : ℕ) → place < 65536 → MayFit (branch_effect mn place cpu)
+  branches : (mn : Mnemonic) (place : ℕ) → place < MEMORY_SIZE → MayFit (branch_effect mn place cpu)
   branches Bcc place p = taken_or_not (not cpu.c) place p
   branches Bcs place p = taken_or_not cpu.c place p
   branches Bne place p = taken_or_not (not cpu.z) place p
@@ -175,7 +167,7 @@ module _ (at : ℕ → ℕ) (bytes : (place : ℕ) → at place < 256) (cpu : Cp
   stacks Plp = is_quiet _ (record { a = f.a; x = f.x; y = f.y; sp = omega arith; pc = f.pc })
   stacks _ = tt
 
-  jumps : (mn : Mnemonic) (own place : ℕ) → place < 65536 → MayFit (jump_effect mn own place at cpu)
+  jumps : (mn : Mnemonic) (own place : ℕ) → place < MEMORY_SIZE → MayFit (jump_effect mn own place at cpu)
   jumps Jmp own place p = is_quiet _ (at_pc cpu place f p)
   jumps Jsr own place p = record {
     cpu = record { a = f.a; x = f.x; y = f.y; sp = omega arith; pc = p };
@@ -217,7 +209,7 @@ module _ (at : ℕ → ℕ) (bytes : (place : ℕ) → at place < 256) (cpu : Cp
   transfers _ = tt
 
   -- a shift leaves a byte
-  shifts : (mn : Mnemonic) (byte place : ℕ) → byte < 256 → place < 65536 →
+  shifts : (mn : Mnemonic) (byte place : ℕ) → byte < 256 → place < MEMORY_SIZE →
       MayFit (shifted_in_memory (shifted mn byte cpu.c) place cpu)
   shifts Asl byte place b p =
       is_storing _ place _ (record { a = f.a; x = f.x; y = f.y; sp = f.sp; pc = f.pc }) p (omega arith)
@@ -251,7 +243,7 @@ module _ (at : ℕ → ℕ) (bytes : (place : ℕ) → at place < 256) (cpu : Cp
   either (Some done) other p q = p
   either None other p q = q
 
-  all_fit : (mn : Mnemonic) (own place : ℕ) → place < 65536 →
+  all_fit : (mn : Mnemonic) (own place : ℕ) → place < MEMORY_SIZE →
       MayFit (or_effect (data_effect mn place at cpu) (other_effect mn own place at cpu))
   all_fit mn own place p =
       either (data_effect mn place at cpu) (other_effect mn own place at cpu)
@@ -268,24 +260,24 @@ module _ (at : ℕ → ℕ) (bytes : (place : ℕ) → at place < 256) (cpu : Cp
   unless None own (Some other) done fits e = same_fits other done (cc (e)) fits
   unless None own None done fits e = absurd (cc (e))
 
-  effects_fit : (mn : Mnemonic) (own place : ℕ) (done : Effect) → place < 65536 →
+  effects_fit : (mn : Mnemonic) (own place : ℕ) (done : Effect) → place < MEMORY_SIZE →
       effect_of mn own place at cpu ≡ Ok done → Fits done
   effects_fit mn own place done p e = unless (stop_of mn own cpu) own _ done (all_fit mn own place p) e
 
 module _ (at : ℕ → ℕ) (bytes : (place : ℕ) → at place < 256) where
   -- each operand stands at an address
-  operand_place_small : (mode : Mode) (pc x y : ℕ) → address_of mode at pc x y < 65536
+  operand_place_small : (mode : Mode) (pc x y : ℕ) → address_of mode at pc x y < MEMORY_SIZE
   operand_place_small Implied pc x y = omega arith
   operand_place_small Accumulator pc x y = omega arith
   operand_place_small Immediate pc x y = omega arith
-  operand_place_small ZeroPage pc x y = let b = bytes ((pc + 1) % 65536) in omega arith
+  operand_place_small ZeroPage pc x y = let b = bytes ((pc + 1) % MEMORY_SIZE) in omega arith
   operand_place_small ZeroPageX pc x y = omega arith
   operand_place_small ZeroPageY pc x y = omega arith
-  operand_place_small Absolute pc x y = word_small (bytes ((pc + 1) % 65536)) (bytes (((pc + 1) % 65536 + 1) % 65536))
+  operand_place_small Absolute pc x y = word_small (bytes ((pc + 1) % MEMORY_SIZE)) (bytes (((pc + 1) % MEMORY_SIZE + 1) % MEMORY_SIZE))
   operand_place_small AbsoluteX pc x y = omega arith
   operand_place_small AbsoluteY pc x y = omega arith
   operand_place_small IndirectX pc x y =
-      word_small (bytes ((at ((pc + 1) % 65536) + x) % 256)) (bytes (((at ((pc + 1) % 65536) + x) % 256 + 1) % 256))
+      word_small (bytes ((at ((pc + 1) % MEMORY_SIZE) + x) % 256)) (bytes (((at ((pc + 1) % MEMORY_SIZE) + x) % 256 + 1) % 256))
   operand_place_small IndirectY pc x y = omega arith
   operand_place_small Indirect pc x y = word_small (bytes _) (bytes _)
   operand_place_small Relative pc x y = omega arith
@@ -316,7 +308,7 @@ bytes_of memory all place = elim (cases_lt place (length memory)) [
 ]
 
 record IsMemory (memory : List ℕ) : Type 0 where
-  size : length memory ≡ 65536
+  size : length memory ≡ MEMORY_SIZE
   bytes : All (λ byte. byte < 256) memory
 
 written_is : (memory : List ℕ) (writes : List Write) → IsMemory memory → FitWrites writes →
@@ -367,7 +359,7 @@ run_keeps (suc n) machine after is e =
     after_first (step machine) n after (λ between one. step_keeps machine between is one)
     (λ between there rest. run_keeps n between after there rest) e
 
-entry_is : (machine : Machine) (address a : ℕ) → IsMachine machine → address < 65536 → a < 256 →
+entry_is : (machine : Machine) (address a : ℕ) → IsMachine machine → address < MEMORY_SIZE → a < 256 →
     IsMachine (entered machine address a)
 entry_is machine address a is small byte =
     machine_of _ _

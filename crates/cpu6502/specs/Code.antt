@@ -12,7 +12,7 @@ pub record IsMachine (machine : Machine) : Type 0 where
   pub x : machine.cpu.x < 256
   pub y : machine.cpu.y < 256
   pub sp : machine.cpu.sp < 256
-  pub pc : machine.cpu.pc < 65536
+  pub pc : machine.cpu.pc < MEMORY_SIZE
 
 -- a memory holds these bytes from an address on, one place after the other; places are not taken mod 65,536, so bytes
 -- that would go beyond the last place are held by no memory of that size

@@ -9,6 +9,7 @@ use Rattle.cpu6502.specs.declared.cpu.Cpu.{Cpu}
 use Rattle.cpu6502.specs.declared.effect.Effect.{Effect}
 use Rattle.cpu6502.specs.declared.stop.Stop.{Stop}
 use Rattle.cpu6502.specs.declared.stop.Stop.TheVariants.{Illegal, Break, Decimal}
+use Rattle.cpu6502.specs.declared.memory.TheConstants.{MEMORY_SIZE}
 use Rattle.cpu6502.specs.Opcodes.{Meaning, meaning_of, length_of, is_accumulator}
 use Rattle.cpu6502.specs.Loads.{load_effect}
 use Rattle.cpu6502.specs.Arithmetic.{arithmetic_effect}
@@ -25,7 +26,7 @@ pub use Rattle.cpu6502.specs.Registers.{stack_place, with_sign_and_zero, with_a,
 
 -- the two bytes at a place, the low one first; the place after the last is 0
 abbrev pub word_at : (ℕ → ℕ) → ℕ → ℕ
-word_at at place = at place + 256 * at ((place + 1) % 65536)
+word_at at place = at place + 256 * at ((place + 1) % MEMORY_SIZE)
 
 -- the two bytes at a place of page 0, where the place after the last is the first
 abbrev pub zero_page_word : (ℕ → ℕ) → ℕ → ℕ
@@ -44,17 +45,17 @@ displacement byte = if nat_lt byte 128 then byte else byte + 65280
 abbrev pub address_of : Mode → (ℕ → ℕ) → ℕ → ℕ → ℕ → ℕ
 address_of Implied at pc x y = 0
 address_of Accumulator at pc x y = 0
-address_of Immediate at pc x y = (pc + 1) % 65536
-address_of ZeroPage at pc x y = at ((pc + 1) % 65536)
-address_of ZeroPageX at pc x y = (at ((pc + 1) % 65536) + x) % 256
-address_of ZeroPageY at pc x y = (at ((pc + 1) % 65536) + y) % 256
-address_of Absolute at pc x y = word_at at ((pc + 1) % 65536)
-address_of AbsoluteX at pc x y = (word_at at ((pc + 1) % 65536) + x) % 65536
-address_of AbsoluteY at pc x y = (word_at at ((pc + 1) % 65536) + y) % 65536
-address_of IndirectX at pc x y = zero_page_word at ((at ((pc + 1) % 65536) + x) % 256)
-address_of IndirectY at pc x y = (zero_page_word at (at ((pc + 1) % 65536)) + y) % 65536
-address_of Indirect at pc x y = same_page_word at (word_at at ((pc + 1) % 65536))
-address_of Relative at pc x y = (pc + 2 + displacement (at ((pc + 1) % 65536))) % 65536
+address_of Immediate at pc x y = (pc + 1) % MEMORY_SIZE
+address_of ZeroPage at pc x y = at ((pc + 1) % MEMORY_SIZE)
+address_of ZeroPageX at pc x y = (at ((pc + 1) % MEMORY_SIZE) + x) % 256
+address_of ZeroPageY at pc x y = (at ((pc + 1) % MEMORY_SIZE) + y) % 256
+address_of Absolute at pc x y = word_at at ((pc + 1) % MEMORY_SIZE)
+address_of AbsoluteX at pc x y = (word_at at ((pc + 1) % MEMORY_SIZE) + x) % MEMORY_SIZE
+address_of AbsoluteY at pc x y = (word_at at ((pc + 1) % MEMORY_SIZE) + y) % MEMORY_SIZE
+address_of IndirectX at pc x y = zero_page_word at ((at ((pc + 1) % MEMORY_SIZE) + x) % 256)
+address_of IndirectY at pc x y = (zero_page_word at (at ((pc + 1) % MEMORY_SIZE)) + y) % MEMORY_SIZE
+address_of Indirect at pc x y = same_page_word at (word_at at ((pc + 1) % MEMORY_SIZE))
+address_of Relative at pc x y = (pc + 2 + displacement (at ((pc + 1) % MEMORY_SIZE))) % MEMORY_SIZE
 
 -- an effect, or the other one where there is none
 abbrev pub or_effect : Option Effect → Option Effect → Option Effect
@@ -100,7 +101,7 @@ effect_of mnemonic own place at cpu =
 
 -- the registers with the program counter after an instruction of this many bytes
 abbrev pub moved : Cpu → ℕ → Cpu
-moved cpu length = record cpu { pc = (cpu.pc + length) % 65536 }
+moved cpu length = record cpu { pc = (cpu.pc + length) % MEMORY_SIZE }
 
 -- the effect of a decoded instruction, or a stop where there is none
 abbrev pub done_by : Option Meaning → (ℕ → ℕ) → Cpu → Result Effect Stop

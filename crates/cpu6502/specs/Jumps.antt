@@ -4,6 +4,7 @@ use Rattle.cpu6502.specs.declared.mnemonic.Mnemonic.{Mnemonic}
 use Rattle.cpu6502.specs.declared.mnemonic.Mnemonic.TheVariants.{Jmp, Jsr, Rts, Rti}
 use Rattle.cpu6502.specs.declared.cpu.Cpu.{Cpu}
 use Rattle.cpu6502.specs.declared.effect.Effect.{Effect}
+use Rattle.cpu6502.specs.declared.memory.TheConstants.{MEMORY_SIZE}
 use Rattle.cpu6502.specs.Registers.{stack_place, quiet}
 use Rattle.cpu6502.specs.Stack.{with_status}
 
@@ -19,7 +20,7 @@ call_effect cpu last place = record {
 abbrev pub after_return : (ℕ → ℕ) → Cpu → Cpu
 after_return at cpu = record cpu {
   sp = (cpu.sp + 2) % 256;
-  pc = (at (stack_place (cpu.sp + 1)) + 256 * at (stack_place (cpu.sp + 2)) + 1) % 65536;
+  pc = (at (stack_place (cpu.sp + 1)) + 256 * at (stack_place (cpu.sp + 2)) + 1) % MEMORY_SIZE;
 }
 
 -- the registers after a pull of the flags and of an address, to which nothing is added
@@ -36,7 +37,7 @@ after_interrupt at cpu =
 -- of a JSR; none for any other name
 abbrev pub jump_effect : Mnemonic → ℕ → ℕ → (ℕ → ℕ) → Cpu → Option Effect
 jump_effect Jmp own place at cpu = Some (quiet (record cpu { pc = place }))
-jump_effect Jsr own place at cpu = Some (call_effect cpu ((own + 2) % 65536) place)
+jump_effect Jsr own place at cpu = Some (call_effect cpu ((own + 2) % MEMORY_SIZE) place)
 jump_effect Rts own place at cpu = Some (quiet (after_return at cpu))
 jump_effect Rti own place at cpu = Some (quiet (after_interrupt at cpu))
 jump_effect _ own place at cpu = None

@@ -6,24 +6,11 @@ use Rattle.cpu6502.specs.declared.effect.Effect.{Effect}
 use Rattle.cpu6502.specs.declared.stop.Stop.{Stop}
 use Rattle.cpu6502.specs.Registers.{quiet, storing}
 use Rattle.cpu6502.specs.Effects.{effect}
-use Rattle.cpu6502.specs.WorkedSteps.{over}
+use Rattle.cpu6502.specs.WorkedSteps.{over, start}
 
 -- registers whose X and Y take each indexed mode over an end
 abbrev pub base : Cpu
-base = record {
-  a = 0x5A;
-  x = 5;
-  y = 7;
-  sp = 0xFD;
-  pc = 0x1000;
-  n = false;
-  v = false;
-  d = false;
-  i = true;
-  z =
-      false;
-  c = true;
-}
+base = record start { x = 5; y = 7; v = false; d = false }
 
 -- the bytes of an operand, its place and the instruction's length, mode by mode
 pub record Spot : Type 0 where

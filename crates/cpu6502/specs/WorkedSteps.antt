@@ -5,13 +5,14 @@ use Rattle.cpu6502.specs.declared.cpu.Cpu.{Cpu}
 use Rattle.cpu6502.specs.declared.effect.Effect.{Effect}
 use Rattle.cpu6502.specs.declared.stop.Stop.{Stop}
 use Rattle.cpu6502.specs.declared.stop.Stop.TheVariants.{Illegal, Break, Decimal}
+use Rattle.cpu6502.specs.declared.memory.TheConstants.{MEMORY_SIZE}
 use Rattle.cpu6502.specs.Registers.{quiet, storing}
 use Rattle.cpu6502.specs.Effects.{effect}
 
 -- a memory with these bytes from a place on
 abbrev pub over : (ℕ → ℕ) → ℕ → List ℕ → ℕ → ℕ
 over at place [] q = at q
-over at place (byte ∷ bytes) q = if nat_eq q place then byte else over at ((place + 1) % 65536) bytes q
+over at place (byte ∷ bytes) q = if nat_eq q place then byte else over at ((place + 1) % MEMORY_SIZE) bytes q
 
 -- $02 everywhere, which is no opcode, but for what is pulled at both ends of the stack: $45 and $23 at $01FE, $88 and
 -- $78 at $0100
@@ -20,21 +21,19 @@ blank = over (over (λ q. 0x02) 0x01FE (0x45 ∷ 0x23 ∷ [])) 0x0100 (0x88 ∷ 
 
 -- registers that no row leaves out
 abbrev pub start : Cpu
-start =
-    record {
-      a = 0x5A;
-      x = 1;
-      y = 0x33;
-      sp = 0xFD;
-      pc = 0x1000;
-      n = false;
-      v = true;
-      d = true;
-      i = true;
-      z =
-          false;
-      c = true;
-    }
+start = record {
+  a = 0x5A;
+  x = 1;
+  y = 0x33;
+  sp = 0xFD;
+  pc = 0x1000;
+  n = false;
+  v = true;
+  d = true;
+  i = true;
+  z = false;
+  c = true;
+}
 
 -- what code at the program counter does in its first step
 abbrev pub worked : Cpu → List ℕ → Result Effect Stop

@@ -4,7 +4,7 @@ ghost use Rattle.std.specs.Prelude.{◌≡◌, ◌+◌, ◌*◌, ◌<◌, slice_
 ghost use Rattle.cpu6502.specs.Effects.{address_of, word_at, zero_page_word, same_page_word, displacement};
 
 use crate::cpu::Cpu;
-use crate::memory::Memory;
+use crate::memory::{MEMORY_SIZE, Memory};
 use crate::mnemonic::Mode;
 
 /// The place of the operand of the instruction at the program counter; for a branch the place that it goes to, and 0
@@ -71,7 +71,7 @@ fn same_page(memory: &Memory, place: u16) -> u16
 /// A displacement byte as a number to add mod 65,536.
 fn distance(byte: u8) -> u16
     ensures value { result ≡ displacement byte }
-    ensures bound { result < 65536 }
+    ensures bound { result < MEMORY_SIZE }
 {
     if byte < 128 {
         u16::from(byte)

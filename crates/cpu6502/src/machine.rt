@@ -110,6 +110,10 @@ impl Machine {
     }
 
     /// Does the instruction at the program counter, and notes what it writes.
+    ///
+    /// # Errors
+    ///
+    /// As [`Machine::step`]: the machine and the log stay as they were.
     fn step_noted(&mut self, log: &mut WriteLog) -> Result<(), Stop>
         ensures done { OnOk result (step self.old ≡ Ok self.new) }
         ensures stopped { IfErr result (λ stop. step self.old ≡ Err stop) }

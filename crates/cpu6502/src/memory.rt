@@ -17,12 +17,13 @@ pub struct Memory {
 
 impl Model for Memory {
     ghost use Rattle.std.specs.Prelude.{List, ℕ, ◌≡◌, vec_len};
+    ghost use Rattle.cpu6502.specs.declared.memory.TheConstants.{MEMORY_SIZE};
 
     ghost Value = { List ℕ };
 
     ghost view = { λ memory. memory.bytes.items };
 
-    ghost invariant = { λ memory. vec_len memory.bytes ≡ 65536 };
+    ghost invariant = { λ memory. vec_len memory.bytes ≡ MEMORY_SIZE };
 }
 
 impl Memory {
@@ -32,7 +33,7 @@ impl Memory {
     ///
     /// Out of memory.
     pub fn filled(alloc: Global, value: u8) -> Result<Memory, NoMemory>
-        ensures size { IfOk result (λ memory. length memory ≡ 65536) }
+        ensures size { IfOk result (λ memory. length memory ≡ MEMORY_SIZE) }
         ensures bytes { IfOk result (All (λ byte. byte ≡ value)) }
     {
         let bytes = bytes_of(alloc, MEMORY_SIZE, value)?;
@@ -55,6 +56,10 @@ impl Memory {
 }
 
 /// A list of one byte, this many times: apart, so that `filled` is proved for a number of bytes that isn't written out.
+///
+/// # Errors
+///
+/// Out of memory.
 fn bytes_of(alloc: Global, count: usize, value: u8) -> Result<Vec<u8>, AllocError>
     ensures size { IfOk result (λ bytes. length bytes.items ≡ count) }
     ensures bytes { IfOk result (λ bytes. All (λ byte. byte ≡ value) bytes.items) }
