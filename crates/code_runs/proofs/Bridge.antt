@@ -8,6 +8,7 @@ use mathlib.Core.Path.{fun_ext}
 use Rattle.cpu6502.specs.declared.effect.Write.{Write}
 use Rattle.cpu6502.specs.declared.effect.Effect.{Effect}
 use Rattle.cpu6502.specs.declared.machine.Machine.{Machine}
+use Rattle.cpu6502.specs.declared.memory.TheConstants.{MEMORY_SIZE}
 use Rattle.cpu6502.specs.Effects.{stack_place}
 use Rattle.cpu6502.specs.Step.{written, changed, stepped, next_effect, step}
 use Rattle.cpu6502.specs.Call.{after_step, run, return_address, entered, writes_in}
@@ -36,13 +37,13 @@ length-written memory [] = refl
 length-written memory (write ∷ writes) =
     length-written (slice_set memory write.place write.value) writes ∙ length-set memory write.place write.value
 
-pub written_view : (W : ℕ → Type 0) (below : (q : ℕ) → W q → q < 65536) (memory : List ℕ) (writes : List Write) →
-    length memory ≡ 65536 → Allowed W writes →
+pub written_view : (W : ℕ → Type 0) (below : (q : ℕ) → W q → q < MEMORY_SIZE) (memory : List ℕ) (writes : List Write) →
+    length memory ≡ MEMORY_SIZE → Allowed W writes →
     slice_index (written memory writes) ≡ put_all (slice_index memory) writes
 written_view W below memory [] size all = refl
 written_view W below memory (write ∷ writes) size all =
     let within : write.place < length memory = omega (arith, below write.place all.0) in
-    let size' : length (slice_set memory write.place write.value) ≡ 65536 =
+    let size' : length (slice_set memory write.place write.value) ≡ MEMORY_SIZE =
     length-set memory write.place write.value ∙ size in
     written_view W below (slice_set memory write.place write.value) writes size' all.1
     ∙ ap (λ at. put_all at writes) (slice_set_view memory write.place write.value within)
@@ -81,7 +82,7 @@ one_on W n m m1 done end e is away allowed rest = record {
       let r' : after_step (Ok m1) (run k) ≡ Ok between = rw first at r in
       rest.away k between (omega arith) r'
 
-follow : (W : ℕ → Type 0) → IsBelow W → (n : ℕ) (m : Machine) (end : State) → length m.memory ≡ 65536 →
+follow : (W : ℕ → Type 0) → IsBelow W → (n : ℕ) (m : Machine) (end : State) → length m.memory ≡ MEMORY_SIZE →
     Runs W n (view m) end → Arrives W n m end
 follow W below zero m end size r = record {
   after = m;
@@ -100,13 +101,13 @@ follow W below (suc n) m end size r =
     one_on W n m m1 r.0 end r.1 refl r.2 r.3 (follow W below n m1 end size'
     (subst (λ s. Runs W n s end) (sym seen) r.4))
 
-pub machines_follow : (W : ℕ → Type 0) → IsBelow W → (n : ℕ) (m : Machine) (end : State) → length m.memory ≡ 65536 →
+pub machines_follow : (W : ℕ → Type 0) → IsBelow W → (n : ℕ) (m : Machine) (end : State) → length m.memory ≡ MEMORY_SIZE →
     Leads W n (view m) end → Arrives W n m end
 machines_follow W below n m end size leads = follow W below n m end size leads.runs
 
 -- a run from the entry to the return is a call
 pub call_returns : (W : ℕ → Type 0) → IsBelow W → (m : Machine) (address a n : ℕ) (end : State) →
-    length m.memory ≡ 65536 → Leads W n (view (entered m address a)) end → end.cpu.pc ≡ 0 → end.cpu.sp ≡ m.cpu.sp →
+    length m.memory ≡ MEMORY_SIZE → Leads W n (view (entered m address a)) end → end.cpu.pc ≡ 0 → end.cpu.sp ≡ m.cpu.sp →
     CallsTo W m address a n end
 call_returns W below m address a n end size leads at_zero same_stack =
     let there = machines_follow W below n (entered m address a) end
@@ -133,11 +134,11 @@ call_returns W below m address a n end size leads at_zero same_stack =
       away_not_back pc away e = omega arith
 
 -- the memory of a call as it begins
-pub entered_view : (m : Machine) → length m.memory ≡ 65536 →
+pub entered_view : (m : Machine) → length m.memory ≡ MEMORY_SIZE →
     slice_index (written m.memory (return_address m.cpu.sp)) ≡ put_all (slice_index m.memory)
     (return_address m.cpu.sp)
 entered_view m size =
-    written_view (λ q. q < 65536) (λ q lt. lt) m.memory (return_address m.cpu.sp) size
+    written_view (λ q. q < MEMORY_SIZE) (λ q lt. lt) m.memory (return_address m.cpu.sp) size
     (stack_below m.cpu.sp, (stack_below (m.cpu.sp + 255), tt)) where
-      stack_below : (sp : ℕ) → stack_place sp < 65536
+      stack_below : (sp : ℕ) → stack_place sp < MEMORY_SIZE
       stack_below sp = omega arith

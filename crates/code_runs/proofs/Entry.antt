@@ -1,7 +1,8 @@
 -- The memory of a call as it begins: the return address is there, and what is not on the stack is as it was.
-use Rattle.std.proofs.Common.{◌≡◌, ℕ, ◌+◌, ◌%◌, ◌<◌, ◌≤◌, length, ap, ◌∙◌, arith}
+use Rattle.std.proofs.Common.{◌≡◌, ℕ, ◌+◌, ◌%◌, ◌≤◌, length, ap, ◌∙◌, arith}
 use Rattle.std.specs.Prelude.{slice_index}
 use Rattle.cpu6502.specs.declared.machine.Machine.{Machine}
+use Rattle.cpu6502.specs.declared.memory.TheConstants.{MEMORY_SIZE}
 use Rattle.cpu6502.specs.Effects.{stack_place}
 use Rattle.cpu6502.specs.Step.{written}
 use Rattle.cpu6502.specs.Call.{return_address}
@@ -28,12 +29,12 @@ pushed_pulls at sp =
           ∙ put_same at (stack_place sp) 255;
     }
 
-pub entry_pulls : (m : Machine) → length m.memory ≡ 65536 →
+pub entry_pulls : (m : Machine) → length m.memory ≡ MEMORY_SIZE →
     Pulls (slice_index (written m.memory (return_address m.cpu.sp))) ((m.cpu.sp + 254) % 256) 255 255
 entry_pulls m size = rw (entered_view m size) (pushed_pulls (slice_index m.memory) m.cpu.sp)
 
 -- a byte elsewhere is as it was
-entry_keeps : (m : Machine) (q : ℕ) → length m.memory ≡ 65536 → (q ≡ stack_place m.cpu.sp → ⊥) →
+entry_keeps : (m : Machine) (q : ℕ) → length m.memory ≡ MEMORY_SIZE → (q ≡ stack_place m.cpu.sp → ⊥) →
     (q ≡ stack_place (m.cpu.sp + 255) → ⊥) →
     slice_index (written m.memory (return_address m.cpu.sp)) q ≡ slice_index m.memory q
 entry_keeps m q size first second =
@@ -41,12 +42,12 @@ entry_keeps m q size first second =
     ∙ put_other (put (slice_index m.memory) (stack_place m.cpu.sp) 255) (stack_place (m.cpu.sp + 255)) 255 q second
     ∙ put_other (slice_index m.memory) (stack_place m.cpu.sp) 255 q first
 
-pub entry_kept : (m : Machine) (q : ℕ) → length m.memory ≡ 65536 → 512 ≤ q →
+pub entry_kept : (m : Machine) (q : ℕ) → length m.memory ≡ MEMORY_SIZE → 512 ≤ q →
     slice_index (written m.memory (return_address m.cpu.sp)) q ≡ slice_index m.memory q
 entry_kept m q size above =
     entry_keeps m q size (λ e. absurd (omega arith)) (λ e. absurd (omega arith))
 
-pub calls_begin_so : (m : Machine) → length m.memory ≡ 65536 →
+pub calls_begin_so : (m : Machine) → length m.memory ≡ MEMORY_SIZE →
     IsEntry m (slice_index (written m.memory (return_address m.cpu.sp)))
 calls_begin_so m size = record {
   pulls = entry_pulls m size;

@@ -1,5 +1,6 @@
 -- A step of JMP, in both its modes, of a call and of the returns.
 use Rattle.std.proofs.Common.{◌≡◌, ℕ, ◌+◌, ◌*◌, ◌/◌, ◌%◌, [], ◌∷◌, refl, ◌∙◌}
+use Rattle.cpu6502.specs.declared.memory.TheConstants.{MEMORY_SIZE}
 use Rattle.cpu6502.specs.declared.mnemonic.Mnemonic.TheVariants.{Jmp, Jsr, Rts, Rti}
 use Rattle.cpu6502.specs.Registers.{stack_place}
 use Rattle.cpu6502.specs.Stack.{with_status}
@@ -12,7 +13,7 @@ jmp w = record { is = w.is; away = w.away }
 
 -- a call writes the address of its own last byte, the high byte first
 pub jsr : {state : State} {place next last high low upper lower sp : ℕ} → Works state Jsr place next →
-    (state.cpu.pc + 2) % 65536 ≡ last → last / 256 ≡ high → last % 256 ≡ low → stack_place state.cpu.sp ≡ upper →
+    (state.cpu.pc + 2) % MEMORY_SIZE ≡ last → last / 256 ≡ high → last % 256 ≡ low → stack_place state.cpu.sp ≡ upper →
     stack_place (state.cpu.sp + 255) ≡ lower → (state.cpu.sp + 254) % 256 ≡ sp →
     Does state (record {
       cpu = record state.cpu { pc = place; sp = sp };
@@ -22,7 +23,7 @@ pub jsr : {state : State} {place next last high low upper lower sp : ℕ} → Wo
 jsr w e h l p q s = record { is = w.is ∙ rw (e, h, l, p, q, s) refl; away = w.away }
 
 pub rts : {state : State} {place low high back sp next : ℕ} → Works state Rts place next →
-    Pulls state.at state.cpu.sp low high → (low + 256 * high + 1) % 65536 ≡ back → (state.cpu.sp + 2) % 256 ≡ sp →
+    Pulls state.at state.cpu.sp low high → (low + 256 * high + 1) % MEMORY_SIZE ≡ back → (state.cpu.sp + 2) % 256 ≡ sp →
     Goes state (record state.cpu { pc = back; sp = sp })
 rts w pulls e s = record { is = w.is ∙ rw (pulls.low_is, pulls.high_is, e, s) refl; away = w.away }
 

@@ -3,6 +3,7 @@
 -- computes is a parameter with an equation.
 use Rattle.std.proofs.Common.{◌≡◌, ℕ, ◌+◌, ◌%◌, ◌<◌, false, Some, if◌then◌else◌, refl, ap, ◌∙◌}
 use Rattle.cpu6502.specs.declared.cpu.Cpu.{Cpu}
+use Rattle.cpu6502.specs.declared.memory.TheConstants.{MEMORY_SIZE}
 use Rattle.cpu6502.specs.declared.mnemonic.Mnemonic.{Mnemonic}
 use Rattle.cpu6502.specs.declared.mnemonic.Mode.{Mode}
 use Rattle.cpu6502.specs.declared.mnemonic.Mode.TheVariants.{Implied, Accumulator, Immediate, ZeroPage, ZeroPageX, ZeroPageY, Absolute, AbsoluteX, AbsoluteY, IndirectX, IndirectY, Indirect, Relative}
@@ -48,10 +49,10 @@ address_is at cpu ZeroPage operand e = e
 address_is at cpu ZeroPageX operand e = ap (λ n. (n + cpu.x) % 256) e
 address_is at cpu ZeroPageY operand e = ap (λ n. (n + cpu.y) % 256) e
 address_is at cpu Absolute operand e = e
-address_is at cpu AbsoluteX operand e = ap (λ n. (n + cpu.x) % 65536) e
-address_is at cpu AbsoluteY operand e = ap (λ n. (n + cpu.y) % 65536) e
+address_is at cpu AbsoluteX operand e = ap (λ n. (n + cpu.x) % MEMORY_SIZE) e
+address_is at cpu AbsoluteY operand e = ap (λ n. (n + cpu.y) % MEMORY_SIZE) e
 address_is at cpu IndirectX operand e = ap (λ n. zero_page_word at ((n + cpu.x) % 256)) e
-address_is at cpu IndirectY operand e = ap (λ n. (zero_page_word at n + cpu.y) % 65536) e
+address_is at cpu IndirectY operand e = ap (λ n. (zero_page_word at n + cpu.y) % MEMORY_SIZE) e
 address_is at cpu Indirect operand e = ap (same_page_word at) e
 address_is at cpu Relative operand e = e
 
@@ -68,7 +69,7 @@ standing_has_effect at cpu mn mode operand s =
 -- in any mode but the accumulator's
 pub works : {at : ℕ → ℕ} {cpu : Cpu} {mn : Mnemonic} {mode : Mode} {operand : ℕ} (place next : ℕ) →
     Stands at cpu.pc mn mode operand → is_accumulator mode ≡ false → place_of mode operand at cpu ≡ place →
-    (cpu.pc + length_of mode) % 65536 ≡ next → 0 < cpu.pc → Works (record { cpu = cpu; at = at }) mn place next
+    (cpu.pc + length_of mode) % MEMORY_SIZE ≡ next → 0 < cpu.pc → Works (record { cpu = cpu; at = at }) mn place next
 works {at = at} {cpu = cpu} {mn = mn} {mode = mode} {operand = operand} place next s memory p e away = record {
   is = fetched at cpu mn mode memory s.decoded
       ∙ ap (λ q. effect_of mn cpu.pc q at (moved cpu (length_of mode)))
@@ -78,7 +79,7 @@ works {at = at} {cpu = cpu} {mn = mn} {mode = mode} {operand = operand} place ne
 }
 
 pub works_on_a : {at : ℕ → ℕ} {cpu : Cpu} {mn : Mnemonic} {operand : ℕ} (next : ℕ) →
-    Stands at cpu.pc mn Accumulator operand → (cpu.pc + 1) % 65536 ≡ next → 0 < cpu.pc →
+    Stands at cpu.pc mn Accumulator operand → (cpu.pc + 1) % MEMORY_SIZE ≡ next → 0 < cpu.pc →
     WorksOnA (record { cpu = cpu; at = at }) mn next
 works_on_a {at = at} {cpu = cpu} {mn = mn} next s e away = record {
   is = ap (λ meaning. done_by meaning at cpu) s.decoded ∙ ap (λ pc. accumulator_effect mn cpu.pc (jumped cpu pc)) e;
@@ -91,7 +92,7 @@ pub reads : {state : State} {mn : Mnemonic} {place byte next : ℕ} → Works st
 reads {place = place} w b = record { place = place; works = w; byte_is = b }
 
 pub reads_immediate : {at : ℕ → ℕ} {cpu : Cpu} {mn : Mnemonic} {operand : ℕ} (next : ℕ) →
-    Stands at cpu.pc mn Immediate operand → (cpu.pc + 2) % 65536 ≡ next → 0 < cpu.pc →
+    Stands at cpu.pc mn Immediate operand → (cpu.pc + 2) % MEMORY_SIZE ≡ next → 0 < cpu.pc →
     Reads (record { cpu = cpu; at = at }) mn operand next
 reads_immediate {at = at} {cpu = cpu} next s e away =
-    reads (works ((cpu.pc + 1) % 65536) next s refl refl e away) s.operand_is
+    reads (works ((cpu.pc + 1) % MEMORY_SIZE) next s refl refl e away) s.operand_is

@@ -1,5 +1,6 @@
 -- When instructions stand in memory: from the bytes, and after writes elsewhere.
-use Rattle.std.proofs.Common.{◌≡◌, ℕ, ◌+◌, ◌*◌, ◌%◌, ◌≤◌, List, [], ◌∷◌, Some, refl, ap, ◌∙◌, arith}
+use Rattle.std.proofs.Common.{◌≡◌, ℕ, ◌+◌, ◌*◌, ◌%◌, ◌≤◌, Bool, true, false, List, [], ◌∷◌, Some, refl, ap, ◌∙◌, arith}
+use Rattle.cpu6502.specs.declared.memory.TheConstants.{MEMORY_SIZE}
 use Rattle.cpu6502.specs.declared.mnemonic.Mnemonic.{Mnemonic}
 use Rattle.cpu6502.specs.declared.mnemonic.Mode.{Mode}
 use Rattle.cpu6502.specs.declared.mnemonic.Mode.TheVariants.{Implied, Accumulator, Immediate, ZeroPage, ZeroPageX, ZeroPageY, Absolute, AbsoluteX, AbsoluteY, IndirectX, IndirectY, Indirect, Relative}
@@ -7,58 +8,117 @@ use Rattle.cpu6502.specs.Opcodes.{meaning_of, length_of}
 use Rattle.cpu6502.specs.Effects.{displacement, word_at}
 use Rattle.code_runs.specs.Code.{Instruction, operand_at, Stands, CodeAt, size_of, SameFrom}
 
--- from the bytes: the opcode, and then the operand byte or its two bytes at the places that follow
+-- ---- from the bytes: the opcode, and then the operand byte or its two bytes at the places that follow
+
+-- the modes without operand
 pub stands_implied : (at : ℕ → ℕ) (pc opcode : ℕ) (mn : Mnemonic) → at pc ≡ opcode →
     meaning_of opcode ≡ Some (mn, Implied) → Stands at pc mn Implied 0
 stands_implied at pc opcode mn e m = record { decoded = ap meaning_of e ∙ m; operand_is = refl }
 
-pub stands_immediate : (at : ℕ → ℕ) (pc opcode p1 byte : ℕ) (mn : Mnemonic) → at pc ≡ opcode →
-    meaning_of opcode ≡ Some (mn, Immediate) → (pc + 1) % 65536 ≡ p1 → at p1 ≡ byte → Stands at pc mn Immediate byte
-stands_immediate at pc opcode p1 byte mn e m f b = record { decoded = ap meaning_of e ∙ m; operand_is = ap at f ∙ b }
+pub stands_accumulator : (at : ℕ → ℕ) (pc opcode : ℕ) (mn : Mnemonic) → at pc ≡ opcode →
+    meaning_of opcode ≡ Some (mn, Accumulator) → Stands at pc mn Accumulator 0
+stands_accumulator at pc opcode mn e m = record { decoded = ap meaning_of e ∙ m; operand_is = refl }
 
-word_is : (at : ℕ → ℕ) (pc p1 p2 low high word : ℕ) → (pc + 1) % 65536 ≡ p1 → (p1 + 1) % 65536 ≡ p2 → at p1 ≡ low →
-    at p2 ≡ high → low + 256 * high ≡ word → word_at at ((pc + 1) % 65536) ≡ word
+-- the modes whose operand is the byte that follows
+abbrev pub has_byte : Mode → Bool
+has_byte Immediate = true
+has_byte ZeroPage = true
+has_byte ZeroPageX = true
+has_byte ZeroPageY = true
+has_byte IndirectX = true
+has_byte IndirectY = true
+has_byte _ = false
+
+byte_operand : (mode : Mode) (at : ℕ → ℕ) (pc : ℕ) → has_byte mode ≡ true →
+    operand_at mode at pc ≡ at ((pc + 1) % MEMORY_SIZE)
+byte_operand Immediate at pc h = refl
+byte_operand ZeroPage at pc h = refl
+byte_operand ZeroPageX at pc h = refl
+byte_operand ZeroPageY at pc h = refl
+byte_operand IndirectX at pc h = refl
+byte_operand IndirectY at pc h = refl
+byte_operand _ at pc h = absurd (cc)
+
+pub stands_by_byte : (at : ℕ → ℕ) (pc opcode p1 byte : ℕ) (mn : Mnemonic) (mode : Mode) → has_byte mode ≡ true →
+    at pc ≡ opcode → meaning_of opcode ≡ Some (mn, mode) → (pc + 1) % MEMORY_SIZE ≡ p1 → at p1 ≡ byte →
+    Stands at pc mn mode byte
+stands_by_byte at pc opcode p1 byte mn mode h e m f b =
+    record { decoded = ap meaning_of e ∙ m; operand_is = byte_operand mode at pc h ∙ ap at f ∙ b }
+
+pub stands_immediate : (at : ℕ → ℕ) (pc opcode p1 byte : ℕ) (mn : Mnemonic) → at pc ≡ opcode →
+    meaning_of opcode ≡ Some (mn, Immediate) → (pc + 1) % MEMORY_SIZE ≡ p1 → at p1 ≡ byte →
+    Stands at pc mn Immediate byte
+stands_immediate at pc opcode p1 byte mn = stands_by_byte at pc opcode p1 byte mn Immediate refl
+
+-- the modes whose operand is the word that follows, the low byte first
+abbrev pub has_word : Mode → Bool
+has_word Absolute = true
+has_word AbsoluteX = true
+has_word AbsoluteY = true
+has_word Indirect = true
+has_word _ = false
+
+word_operand : (mode : Mode) (at : ℕ → ℕ) (pc : ℕ) → has_word mode ≡ true →
+    operand_at mode at pc ≡ word_at at ((pc + 1) % MEMORY_SIZE)
+word_operand Absolute at pc h = refl
+word_operand AbsoluteX at pc h = refl
+word_operand AbsoluteY at pc h = refl
+word_operand Indirect at pc h = refl
+word_operand _ at pc h = absurd (cc)
+
+word_is : (at : ℕ → ℕ) (pc p1 p2 low high word : ℕ) → (pc + 1) % MEMORY_SIZE ≡ p1 → (p1 + 1) % MEMORY_SIZE ≡ p2 →
+    at p1 ≡ low → at p2 ≡ high → low + 256 * high ≡ word → word_at at ((pc + 1) % MEMORY_SIZE) ≡ word
 word_is at pc p1 p2 low high word f g l h w = rw (f, g, l, h) w
 
+pub stands_by_word : (at : ℕ → ℕ) (pc opcode p1 p2 low high word : ℕ) (mn : Mnemonic) (mode : Mode) →
+    has_word mode ≡ true → at pc ≡ opcode → meaning_of opcode ≡ Some (mn, mode) → (pc + 1) % MEMORY_SIZE ≡ p1 →
+    (p1 + 1) % MEMORY_SIZE ≡ p2 → at p1 ≡ low → at p2 ≡ high → low + 256 * high ≡ word → Stands at pc mn mode word
+stands_by_word at pc opcode p1 p2 low high word mn mode t e m f g l h w =
+    record {
+      decoded = ap meaning_of e ∙ m;
+      operand_is = word_operand mode at pc t ∙ word_is at pc p1 p2 low high word f g l h w;
+    }
+
 pub stands_absolute : (at : ℕ → ℕ) (pc opcode p1 p2 low high word : ℕ) (mn : Mnemonic) → at pc ≡ opcode →
-    meaning_of opcode ≡ Some (mn, Absolute) → (pc + 1) % 65536 ≡ p1 → (p1 + 1) % 65536 ≡ p2 → at p1 ≡ low →
-    at p2 ≡ high → low + 256 * high ≡ word → Stands at pc mn Absolute word
-stands_absolute at pc opcode p1 p2 low high word mn e m f g l h w =
-    record { decoded = ap meaning_of e ∙ m; operand_is = word_is at pc p1 p2 low high word f g l h w }
+    meaning_of opcode ≡ Some (mn, Absolute) → (pc + 1) % MEMORY_SIZE ≡ p1 → (p1 + 1) % MEMORY_SIZE ≡ p2 →
+    at p1 ≡ low → at p2 ≡ high → low + 256 * high ≡ word → Stands at pc mn Absolute word
+stands_absolute at pc opcode p1 p2 low high word mn = stands_by_word at pc opcode p1 p2 low high word mn Absolute refl
 
 pub stands_absolute_x : (at : ℕ → ℕ) (pc opcode p1 p2 low high word : ℕ) (mn : Mnemonic) → at pc ≡ opcode →
-    meaning_of opcode ≡ Some (mn, AbsoluteX) → (pc + 1) % 65536 ≡ p1 → (p1 + 1) % 65536 ≡ p2 → at p1 ≡ low →
-    at p2 ≡ high → low + 256 * high ≡ word → Stands at pc mn AbsoluteX word
-stands_absolute_x at pc opcode p1 p2 low high word mn e m f g l h w =
-    record { decoded = ap meaning_of e ∙ m; operand_is = word_is at pc p1 p2 low high word f g l h w }
+    meaning_of opcode ≡ Some (mn, AbsoluteX) → (pc + 1) % MEMORY_SIZE ≡ p1 → (p1 + 1) % MEMORY_SIZE ≡ p2 →
+    at p1 ≡ low → at p2 ≡ high → low + 256 * high ≡ word → Stands at pc mn AbsoluteX word
+stands_absolute_x at pc opcode p1 p2 low high word mn =
+    stands_by_word at pc opcode p1 p2 low high word mn AbsoluteX refl
 
+-- a branch, whose operand is the place that it goes to
 pub stands_relative : (at : ℕ → ℕ) (pc opcode p1 byte target : ℕ) (mn : Mnemonic) → at pc ≡ opcode →
-    meaning_of opcode ≡ Some (mn, Relative) → (pc + 1) % 65536 ≡ p1 → at p1 ≡ byte →
-    (pc + 2 + displacement byte) % 65536 ≡ target → Stands at pc mn Relative target
+    meaning_of opcode ≡ Some (mn, Relative) → (pc + 1) % MEMORY_SIZE ≡ p1 → at p1 ≡ byte →
+    (pc + 2 + displacement byte) % MEMORY_SIZE ≡ target → Stands at pc mn Relative target
 stands_relative at pc opcode p1 byte target mn e m f b t =
     record {
       decoded = ap meaning_of e ∙ m;
-      operand_is = ap (λ d. (pc + 2 + displacement d) % 65536) (ap at f ∙ b)
-          ∙ t;
+      operand_is = ap (λ d. (pc + 2 + displacement d) % MEMORY_SIZE) (ap at f ∙ b) ∙ t;
     }
 
+-- ---- after writes elsewhere
+
 -- the operand byte and the operand word, where the bytes are the same
-byte_stays : (at at' : ℕ → ℕ) (pc high : ℕ) → pc + 2 ≤ high → high ≤ 65536 → SameFrom pc high at at' →
-    at' ((pc + 1) % 65536) ≡ at ((pc + 1) % 65536)
+byte_stays : (at at' : ℕ → ℕ) (pc high : ℕ) → pc + 2 ≤ high → high ≤ MEMORY_SIZE → SameFrom pc high at at' →
+    at' ((pc + 1) % MEMORY_SIZE) ≡ at ((pc + 1) % MEMORY_SIZE)
 byte_stays at at' pc high within below s =
-    let e : (pc + 1) % 65536 ≡ pc + 1 = omega arith in
+    let e : (pc + 1) % MEMORY_SIZE ≡ pc + 1 = omega arith in
     rw e (s.same (pc + 1) (omega arith) (omega arith))
 
-word_stays : (at at' : ℕ → ℕ) (pc high : ℕ) → pc + 3 ≤ high → high ≤ 65536 → SameFrom pc high at at' →
-    word_at at' ((pc + 1) % 65536) ≡ word_at at ((pc + 1) % 65536)
+word_stays : (at at' : ℕ → ℕ) (pc high : ℕ) → pc + 3 ≤ high → high ≤ MEMORY_SIZE → SameFrom pc high at at' →
+    word_at at' ((pc + 1) % MEMORY_SIZE) ≡ word_at at ((pc + 1) % MEMORY_SIZE)
 word_stays at at' pc high within below s =
-    let e : (pc + 1) % 65536 ≡ pc + 1 = omega arith in
-    let f : (pc + 1 + 1) % 65536 ≡ pc + 1 + 1 = omega arith in
+    let e : (pc + 1) % MEMORY_SIZE ≡ pc + 1 = omega arith in
+    let f : (pc + 1 + 1) % MEMORY_SIZE ≡ pc + 1 + 1 = omega arith in
     let a = s.same (pc + 1) (omega arith) (omega arith) in
     let b = s.same (pc + 1 + 1) (omega arith) (omega arith) in
     rw (e, f, a, b) refl
 
-operand_stays : (at at' : ℕ → ℕ) (pc high : ℕ) (mode : Mode) → pc + length_of mode ≤ high → high ≤ 65536 →
+operand_stays : (at at' : ℕ → ℕ) (pc high : ℕ) (mode : Mode) → pc + length_of mode ≤ high → high ≤ MEMORY_SIZE →
     SameFrom pc high at at' → operand_at mode at' pc ≡ operand_at mode at pc
 operand_stays at at' pc high Implied within below s = refl
 operand_stays at at' pc high Accumulator within below s = refl
@@ -73,7 +133,7 @@ operand_stays at at' pc high IndirectX within below s = byte_stays at at' pc hig
 operand_stays at at' pc high IndirectY within below s = byte_stays at at' pc high within below s
 operand_stays at at' pc high Indirect within below s = word_stays at at' pc high within below s
 operand_stays at at' pc high Relative within below s =
-    ap (λ d. (pc + 2 + displacement d) % 65536) (byte_stays at at' pc high within below s)
+    ap (λ d. (pc + 2 + displacement d) % MEMORY_SIZE) (byte_stays at at' pc high within below s)
 
 -- an instruction has at least one byte
 length_of-pos : (mode : Mode) → 1 ≤ length_of mode
@@ -93,14 +153,14 @@ length_of-pos Relative = omega arith
 
 -- an instruction still stands where its bytes are the same
 pub stands_stay : (at at' : ℕ → ℕ) (pc high operand : ℕ) (mn : Mnemonic) (mode : Mode) → pc + length_of mode ≤ high →
-    high ≤ 65536 → SameFrom pc high at at' → Stands at pc mn mode operand → Stands at' pc mn mode operand
+    high ≤ MEMORY_SIZE → SameFrom pc high at at' → Stands at pc mn mode operand → Stands at' pc mn mode operand
 stands_stay at at' pc high operand mn mode within below s stands = record {
   decoded = ap meaning_of (s.same pc (omega arith) (omega (arith, length_of-pos mode))) ∙ stands.decoded;
   operand_is = operand_stays at at' pc high mode within below s ∙ stands.operand_is;
 }
 
 -- the same of code
-pub code_stays : (at at' : ℕ → ℕ) (pc high : ℕ) (code : List Instruction) → pc + size_of code ≤ high → high ≤ 65536 →
+pub code_stays : (at at' : ℕ → ℕ) (pc high : ℕ) (code : List Instruction) → pc + size_of code ≤ high → high ≤ MEMORY_SIZE →
     SameFrom pc high at at' → CodeAt at pc code → CodeAt at' pc code
 code_stays at at' pc high [] within below s c = tt
 code_stays at at' pc high (i ∷ rest) within below s c = (

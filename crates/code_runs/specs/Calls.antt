@@ -1,8 +1,9 @@
 -- What a run on a function memory says of a machine, whose memory is a list: where it writes, what it leaves, and
 -- that it is a call.
-use Rattle.std.specs.Prelude.{◌≡◌, ◌≢◌, ℕ, ◌+◌, ◌%◌, ◌<◌, ◌≤◌, Bool, IsTrue, length, slice_index, Ok, All}
+use Rattle.std.specs.Prelude.{◌≡◌, ◌≢◌, ℕ, ◌+◌, ◌%◌, ◌<◌, Bool, IsTrue, length, slice_index, Ok, All}
 use Rattle.cpu6502.specs.declared.effect.Write.{Write}
 use Rattle.cpu6502.specs.declared.machine.Machine.{Machine}
+use Rattle.cpu6502.specs.declared.memory.TheConstants.{MEMORY_SIZE}
 use Rattle.cpu6502.specs.Registers.{stack_place}
 use Rattle.cpu6502.specs.Step.{written}
 use Rattle.cpu6502.specs.Call.{run, return_address, entered, Called, writes_in}
@@ -14,15 +15,15 @@ In places q = IsTrue (places q)
 
 -- the places are among the 65,536 of a memory
 pub record IsBelow (W : ℕ → Type 0) : Type 0 where
-  pub below : (q : ℕ) → W q → q < 65536
+  pub below : (q : ℕ) → W q → q < MEMORY_SIZE
 
--- a machine is at the end of a run from its view after n steps: so far it has begun no step at address 0, and has
--- written at the run's places alone
+-- a machine is at the end of a run from its view after n steps, none of which began at address 0, and which wrote at
+-- the run's places alone
 pub record Arrives (W : ℕ → Type 0) (n : ℕ) (machine : Machine) (end : State) : Type 0 where
   pub after : Machine
   pub runs : run n machine ≡ Ok after
   pub seen : view after ≡ end
-  pub size : length after.memory ≡ 65536
+  pub size : length after.memory ≡ MEMORY_SIZE
   pub away : (k : ℕ) (between : Machine) → k < n → run k machine ≡ Ok between → 0 < between.cpu.pc
   pub inside : All (λ (write : Write). W write.place) (writes_in n machine)
 
@@ -30,7 +31,7 @@ pub record Arrives (W : ℕ → Type 0) (n : ℕ) (machine : Machine) (end : Sta
 abbrev pub MachinesFollowRuns : Type 0
 MachinesFollowRuns =
     (places : ℕ → Bool) → IsBelow (In places) → (n : ℕ) (machine : Machine) (end : State) →
-    length machine.memory ≡ 65536 → Leads (In places) n (view machine) end → Arrives (In places) n machine end
+    length machine.memory ≡ MEMORY_SIZE → Leads (In places) n (view machine) end → Arrives (In places) n machine end
 
 -- a place at which a run may not write has the byte that it had
 abbrev pub RunsStayInside : Type 0
@@ -43,14 +44,14 @@ pub record CallsTo (W : ℕ → Type 0) (machine : Machine) (address a n : ℕ) 
   pub after : Machine
   pub called : Called machine address a n after
   pub seen : view after ≡ end
-  pub size : length after.memory ≡ 65536
+  pub size : length after.memory ≡ MEMORY_SIZE
   pub inside : All (λ (write : Write). W write.place) (writes_in n (entered machine address a))
 
 -- a run from the entry of a call to address 0, with the stack pointer back, is that call
 abbrev pub RunsAreCalls : Type 0
 RunsAreCalls =
     (places : ℕ → Bool) → IsBelow (In places) → (machine : Machine) (address a n : ℕ) (end : State) →
-    length machine.memory ≡ 65536 → Leads (In places) n (view (entered machine address a)) end →
+    length machine.memory ≡ MEMORY_SIZE → Leads (In places) n (view (entered machine address a)) end →
     end.cpu.pc ≡ 0 → end.cpu.sp ≡ machine.cpu.sp → CallsTo (In places) machine address a n end
 
 -- the two bytes that a return pulls, the low one first
@@ -67,5 +68,5 @@ pub record IsEntry (machine : Machine) (at : ℕ → ℕ) : Type 0 where
 
 abbrev pub CallsBeginSo : Type 0
 CallsBeginSo =
-    (machine : Machine) → length machine.memory ≡ 65536 →
+    (machine : Machine) → length machine.memory ≡ MEMORY_SIZE →
     IsEntry machine (slice_index (written machine.memory (return_address machine.cpu.sp)))

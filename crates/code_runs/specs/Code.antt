@@ -2,6 +2,7 @@
 -- whose modes say what an operand is.
 use Rattle.std.specs.Prelude.{◌≡◌, ℕ, ◌+◌, ◌%◌, ◌<◌, ◌≤◌, List, [], ◌∷◌, Some}
 use Rattle.cpu6502.specs.declared.cpu.Cpu.{Cpu}
+use Rattle.cpu6502.specs.declared.memory.TheConstants.{MEMORY_SIZE}
 use Rattle.cpu6502.specs.declared.mnemonic.Mnemonic.{Mnemonic}
 use Rattle.cpu6502.specs.declared.mnemonic.Mode.{Mode}
 use Rattle.cpu6502.specs.declared.mnemonic.Mode.TheVariants.{Implied, Accumulator, Immediate, ZeroPage, ZeroPageX, ZeroPageY, Absolute, AbsoluteX, AbsoluteY, IndirectX, IndirectY, Indirect, Relative}
@@ -19,32 +20,32 @@ pub record Instruction : Type 0 where
 abbrev pub operand_at : Mode → (ℕ → ℕ) → ℕ → ℕ
 operand_at Implied at pc = 0
 operand_at Accumulator at pc = 0
-operand_at Immediate at pc = at ((pc + 1) % 65536)
-operand_at ZeroPage at pc = at ((pc + 1) % 65536)
-operand_at ZeroPageX at pc = at ((pc + 1) % 65536)
-operand_at ZeroPageY at pc = at ((pc + 1) % 65536)
-operand_at Absolute at pc = word_at at ((pc + 1) % 65536)
-operand_at AbsoluteX at pc = word_at at ((pc + 1) % 65536)
-operand_at AbsoluteY at pc = word_at at ((pc + 1) % 65536)
-operand_at IndirectX at pc = at ((pc + 1) % 65536)
-operand_at IndirectY at pc = at ((pc + 1) % 65536)
-operand_at Indirect at pc = word_at at ((pc + 1) % 65536)
-operand_at Relative at pc = (pc + 2 + displacement (at ((pc + 1) % 65536))) % 65536
+operand_at Immediate at pc = at ((pc + 1) % MEMORY_SIZE)
+operand_at ZeroPage at pc = at ((pc + 1) % MEMORY_SIZE)
+operand_at ZeroPageX at pc = at ((pc + 1) % MEMORY_SIZE)
+operand_at ZeroPageY at pc = at ((pc + 1) % MEMORY_SIZE)
+operand_at Absolute at pc = word_at at ((pc + 1) % MEMORY_SIZE)
+operand_at AbsoluteX at pc = word_at at ((pc + 1) % MEMORY_SIZE)
+operand_at AbsoluteY at pc = word_at at ((pc + 1) % MEMORY_SIZE)
+operand_at IndirectX at pc = at ((pc + 1) % MEMORY_SIZE)
+operand_at IndirectY at pc = at ((pc + 1) % MEMORY_SIZE)
+operand_at Indirect at pc = word_at at ((pc + 1) % MEMORY_SIZE)
+operand_at Relative at pc = (pc + 2 + displacement (at ((pc + 1) % MEMORY_SIZE))) % MEMORY_SIZE
 
 -- the place at which an instruction with this operand works: that of its byte, or the one that it jumps to; 0 where
 -- there is none
 abbrev pub place_of : Mode → ℕ → (ℕ → ℕ) → Cpu → ℕ
 place_of Implied operand at cpu = 0
 place_of Accumulator operand at cpu = 0
-place_of Immediate operand at cpu = (cpu.pc + 1) % 65536
+place_of Immediate operand at cpu = (cpu.pc + 1) % MEMORY_SIZE
 place_of ZeroPage operand at cpu = operand
 place_of ZeroPageX operand at cpu = (operand + cpu.x) % 256
 place_of ZeroPageY operand at cpu = (operand + cpu.y) % 256
 place_of Absolute operand at cpu = operand
-place_of AbsoluteX operand at cpu = (operand + cpu.x) % 65536
-place_of AbsoluteY operand at cpu = (operand + cpu.y) % 65536
+place_of AbsoluteX operand at cpu = (operand + cpu.x) % MEMORY_SIZE
+place_of AbsoluteY operand at cpu = (operand + cpu.y) % MEMORY_SIZE
 place_of IndirectX operand at cpu = zero_page_word at ((operand + cpu.x) % 256)
-place_of IndirectY operand at cpu = (zero_page_word at operand + cpu.y) % 65536
+place_of IndirectY operand at cpu = (zero_page_word at operand + cpu.y) % MEMORY_SIZE
 place_of Indirect operand at cpu = same_page_word at operand
 place_of Relative operand at cpu = operand
 

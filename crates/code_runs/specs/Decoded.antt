@@ -1,6 +1,7 @@
 -- What decoded instructions do, and when they still stand. Source: the MOS 6502 programming manual.
 use Rattle.std.specs.Prelude.{◌≡◌, ℕ, ◌+◌, ◌≤◌, List, if◌then◌else◌}
 use Rattle.cpu6502.specs.declared.cpu.Cpu.{Cpu}
+use Rattle.cpu6502.specs.declared.memory.TheConstants.{MEMORY_SIZE}
 use Rattle.cpu6502.specs.declared.mnemonic.Mnemonic.{Mnemonic}
 use Rattle.cpu6502.specs.declared.mnemonic.Mode.{Mode}
 use Rattle.cpu6502.specs.Opcodes.{length_of, is_accumulator}
@@ -23,4 +24,4 @@ StandingHasEffect =
 abbrev pub CodeStays : Type 0
 CodeStays =
     (at at' : ℕ → ℕ) (pc high : ℕ) (code : List Instruction) →
-    pc + size_of code ≤ high → high ≤ 65536 → SameFrom pc high at at' → CodeAt at pc code → CodeAt at' pc code
+    pc + size_of code ≤ high → high ≤ MEMORY_SIZE → SameFrom pc high at at' → CodeAt at pc code → CodeAt at' pc code
