@@ -6,5 +6,6 @@ pub use Rattle.base.proofs.Numbers.{half_small, word_small, and_small, one_if_sm
 pub use Rattle.base.proofs.Options.{some_of, or_first, or_none}
 -- lists: their parts, their ends, and what stands in them
 pub use Rattle.base.proofs.Lists.{same_head, same_tail, nil_is_no_append, split_append, some_append_left, some_append_right, first_of_append, first_of_rest, first_after_all, regroup3, regroup4, regroup6, drop_past, All-append_right, All-get_or_any, replicate_from_All, get_or-replicate_any, drop-replicate_add, set-append_add, length-flat_map-le, length-flat_map-same}
+pub use Rattle.base.proofs.Lists.{InFront, InBack, front_or_back}
 -- the first item that isn't as it must be
 pub use Rattle.base.proofs.FirstBad.{none_bad, same_first_bad}

@@ -1,5 +1,5 @@
 -- Lists: their parts, their ends, and what stands in them.
-use Rattle.std.proofs.Common.{◌≡◌, ℕ, zero, suc, ◌+◌, ◌-◌, ◌*◌, ◌<◌, ◌≤◌, List, [], ◌∷◌, ◌++◌, length, get_or, set, drop, replicate, All, refl, sym, ap, ◌∙◌, inl, inr, arith, append_assoc, length-append}
+use Rattle.std.proofs.Common.{◌≡◌, ℕ, zero, suc, ◌+◌, ◌-◌, ◌*◌, ◌<◌, ◌≤◌, List, [], ◌∷◌, ◌++◌, length, get_or, set, drop, replicate, All, ◌⊎◌, refl, sym, ap, ◌∙◌, inl, inr, arith, append_assoc, length-append}
 use Rattle.std.specs.List.{flat_map}
 use Rattle.std.proofs.lemmas.Bool.{cases_lt}
 use Rattle.std.proofs.lemmas.List.{get_or_past, get_or_append_left, get_or-replicate, drop_all, drop_at, drop-drop, drop-replicate, set-append_right, length-replicate, ext_get_or}
@@ -30,6 +30,33 @@ split_append (x ∷ xs) (y ∷ ys) u v n e =
     let r = split_append xs ys u v m tail in
     (let first = r.0 in (cc), r.1)
 
+-- an item of two lists stands in the front one, before what is left of it, or in the back one, after the front
+pub record InFront {X : Type 0} (xs ys before : List X) (item : X) (after : List X) : Type 0 where
+  pub rest : List X
+  pub front : xs ≡ before ++ item ∷ rest
+  pub back : after ≡ rest ++ ys
+
+pub record InBack {X : Type 0} (xs ys before : List X) (item : X) (after : List X) : Type 0 where
+  pub between : List X
+  pub front : before ≡ xs ++ between
+  pub back : ys ≡ between ++ item ∷ after
+
+pub front_or_back : {X : Type 0} (xs ys before : List X) (item : X) (after : List X) →
+    xs ++ ys ≡ before ++ item ∷ after → InFront xs ys before item after ⊎ InBack xs ys before item after
+front_or_back [] ys before item after e = inr (record { between = before; front = refl; back = e })
+front_or_back {X} (x ∷ xs) ys [] item after e =
+    inl (record {
+      rest = xs;
+      front = ap (λ (y : X). y ∷ xs) (same_head x item (xs ++ ys) after e);
+      back = sym (same_tail x item (xs ++ ys) after e);
+    })
+front_or_back {X} (x ∷ xs) ys (y ∷ before) item after e =
+    let head = same_head x y (xs ++ ys) (before ++ item ∷ after) e in
+    elim (front_or_back xs ys before item after (same_tail x y (xs ++ ys) (before ++ item ∷ after) e)) [
+      | inl f ↦ inl (record { rest = f.rest; front = let tail = f.front in cc; back = f.back })
+      | inr b ↦ inr (record { between = b.between; front = let tail = b.front in cc; back = b.back })
+    ]
+
 -- ---- ends
 
 -- a list with a part that isn't empty
@@ -44,12 +71,14 @@ pub first_of_append : {X : Type 0} (xs ys : List X) (d : X) → 0 < length xs �
 first_of_append xs ys d h = get_or_append_left xs ys d 0 h
 
 -- the first item of what is left of a list, with another after it
-pub first_of_rest : {X : Type 0} (xs ys : List X) (k : ℕ) (d : X) → k < length xs → get_or (drop k xs ++ ys) 0 d ≡ get_or xs k d
+pub first_of_rest : {X : Type 0} (xs ys : List X) (k : ℕ) (d : X) → k < length xs →
+    get_or (drop k xs ++ ys) 0 d ≡ get_or xs k d
 first_of_rest [] ys k d h = absurd (omega arith)
 first_of_rest (x ∷ xs) ys zero d h = refl
 first_of_rest (x ∷ xs) ys (suc k) d h = first_of_rest xs ys k d (omega arith)
 
-pub first_after_all : {X : Type 0} (xs ys : List X) (k : ℕ) (d : X) → length xs ≤ k → get_or (drop k xs ++ ys) 0 d ≡ get_or ys 0 d
+pub first_after_all : {X : Type 0} (xs ys : List X) (k : ℕ) (d : X) → length xs ≤ k →
+    get_or (drop k xs ++ ys) 0 d ≡ get_or ys 0 d
 first_after_all xs ys k d h = rw (drop_all k xs h) refl
 
 -- ---- parts regrouped
@@ -60,12 +89,14 @@ regroup3 a b c d = simp append_assoc
 pub regroup4 : {X : Type 0} (a b c d e : List X) → (a ++ (b ++ (c ++ d))) ++ e ≡ a ++ (b ++ (c ++ (d ++ e)))
 regroup4 a b c d e = simp append_assoc
 
-pub regroup6 : {X : Type 0} (a b c d e f : List X) → ((((a ++ b) ++ c) ++ d) ++ e) ++ f ≡ a ++ (b ++ (c ++ (d ++ (e ++ f))))
+pub regroup6 : {X : Type 0} (a b c d e f : List X) →
+    ((((a ++ b) ++ c) ++ d) ++ e) ++ f ≡ a ++ (b ++ (c ++ (d ++ (e ++ f))))
 regroup6 a b c d e f = simp append_assoc
 
 -- ---- what is left after a piece
 
-pub drop_past : {X : Type 0} (xs piece rest : List X) (place n : ℕ) → drop place xs ≡ piece ++ rest → length piece ≡ n → drop (place + n) xs ≡ rest
+pub drop_past : {X : Type 0} (xs piece rest : List X) (place n : ℕ) → drop place xs ≡ piece ++ rest →
+    length piece ≡ n → drop (place + n) xs ≡ rest
 drop_past {X} xs piece rest place n e p =
     sym (drop-drop n place xs) ∙ ap (λ (ys : List X). drop n ys) e ∙ drop_at piece rest n p
 
@@ -103,19 +134,24 @@ drop-replicate_add {X} n left x =
 
 -- ---- writes after a front
 
-pub set-append_add : {X : Type 0} (front back : List X) (at j : ℕ) (x : X) → length front ≡ at → set (front ++ back) (at + j) x ≡ front ++ set back j x
+pub set-append_add : {X : Type 0} (front back : List X) (at j : ℕ) (x : X) → length front ≡ at →
+    set (front ++ back) (at + j) x ≡ front ++ set back j x
 set-append_add {X} front back at j x e =
     let k : at + j - at ≡ j = omega arith in
     set-append_right front back at (at + j) x e (omega arith) ∙ ap (λ (i : ℕ). front ++ set {A = X} back i x) k
 
 -- ---- lengths of texts of items
 
-pub length-flat_map-le : {X A : Type 0} (f : X → List A) (P : X → Type 0) (most : ℕ) → ((x : X) → P x → length (f x) ≤ most) → (xs : List X) → All P xs → length (flat_map f xs) ≤ most * length xs
+pub length-flat_map-le : {X A : Type 0} (f : X → List A) (P : X → Type 0) (most : ℕ) →
+    ((x : X) → P x → length (f x) ≤ most) → (xs : List X) → All P xs → length (flat_map f xs) ≤ most * length xs
 length-flat_map-le f P most short [] all = omega arith
 length-flat_map-le f P most short (x ∷ xs) all =
-    omega (arith, length-append (f x) (flat_map f xs), short x (All-head P x xs all), length-flat_map-le f P most short xs (All-tail P x xs all))
+    let first = short x (All-head P x xs all) in
+    let rest = length-flat_map-le f P most short xs (All-tail P x xs all) in
+    omega (arith, length-append (f x) (flat_map f xs))
 
-pub length-flat_map-same : {X A : Type 0} (f : X → List A) (n : ℕ) → ((x : X) → length (f x) ≡ n) → (xs : List X) → length (flat_map f xs) ≡ n * length xs
+pub length-flat_map-same : {X A : Type 0} (f : X → List A) (n : ℕ) → ((x : X) → length (f x) ≡ n) → (xs : List X) →
+    length (flat_map f xs) ≡ n * length xs
 length-flat_map-same f n same [] = omega arith
 length-flat_map-same f n same (x ∷ xs) =
     omega (arith, length-append (f x) (flat_map f xs), same x, length-flat_map-same f n same xs)

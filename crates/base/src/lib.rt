@@ -4,8 +4,8 @@
 //! the first bad item of a list, and laws of numbers, lists and options.
 //!
 //! The layer's one contract: a list that grows is seen as a list; what is added stands at its end, and a refusal leaves
-//! everything as it was. Types with a limit or a name of their own are made from `Items` in the layers above, which cite
-//! lemmas through `proofs/Laws.antt`. It stands on the standard library alone.
+//! everything as it was. Types with a limit or a name of their own are made from `Items` in the layers above, which
+//! cite lemmas through `proofs/Laws.antt`. It stands on the standard library alone.
 #![tactic(auto)]
 
 mod items;
