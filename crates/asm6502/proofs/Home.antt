@@ -1,25 +1,22 @@
 -- Lines that are at home in a stretch pass every test in any listing around it.
-use Rattle.std.proofs.Common.{◌≡◌, ℕ, zero, suc, ◌+◌, ◌%◌, ◌<◌, ◌≤◌, Bool, true, false, ◌&&◌, not, List, [], ◌∷◌, ◌++◌, length, Option, Some, None, unwrap_or, nat_eq, if◌then◌else◌, refl, ap, sym, ◌∙◌, subst, arith, append_assoc, inl, inr, ◌⊎◌}
+use Rattle.std.proofs.Common.{◌≡◌, ℕ, ◌+◌, ◌%◌, ◌≤◌, Bool, true, false, ◌&&◌, not, List, [], ◌∷◌, ◌++◌, length, Option, Some, None, if◌then◌else◌, refl, ap, sym, ◌∙◌, subst, arith, append_assoc, inl, inr, ◌⊎◌}
 use Rattle.std.specs.Prelude.{IsTrue}
 use Rattle.std.specs.Option.{option_or, option_map, is_some}
 use Rattle.std.proofs.lemmas.Bool.{eqb-true, eq-eqb}
 use Rattle.std.proofs.lemmas.List.{append-nil}
-use Rattle.base.proofs.Laws.{same_head, same_tail, nil_is_no_append}
-use Rattle.cpu6502.specs.declared.mnemonic.Mnemonic.{Mnemonic}
-use Rattle.cpu6502.specs.declared.mnemonic.Mode.{Mode}
+use Rattle.base.proofs.Laws.{same_head, same_tail, nil_is_no_append, front_or_back}
+use Rattle.cpu6502.specs.declared.memory.TheConstants.{MEMORY_SIZE}
 use Rattle.cpu6502.specs.declared.mnemonic.Mode.TheVariants.{Relative}
-use Rattle.asm6502.specs.declared.lines.Operand.{Operand}
 use Rattle.asm6502.specs.declared.lines.Operand.TheVariants.{Nothing, Number, Label, Low, High}
 use Rattle.asm6502.specs.declared.lines.Item.{Item}
 use Rattle.asm6502.specs.declared.lines.Item.TheVariants.{Label as Named, Code, Bytes}
 use Rattle.asm6502.specs.declared.lines.Line.{Line}
-use Rattle.asm6502.specs.declared.faults.AsmFault.{AsmFault}
-use Rattle.asm6502.specs.declared.faults.AsmFault.TheVariants.{BadLine, DoubleLabel, UnknownLabel, BranchTooFar}
+use Rattle.asm6502.specs.declared.faults.AsmFault.TheVariants.{BadLine, DoubleLabel, BranchTooFar}
 use Rattle.asm6502.specs.Branches.{branch_byte}
 use Rattle.asm6502.specs.Lines.{is_part_kept, is_kept, kept, item_size, size_of, names, place_of, address_in, label_used, label_named, is_no_part, is_sound}
-use Rattle.asm6502.specs.Faults.{bad_line, double_in, double_label, unknown_in, unknown_label, is_far_item, far_by, far_branch, fault_of}
-use Rattle.asm6502.specs.Stretches.{NamesNoLabelTwice, NamesFor, IsNamedIn, branch_of, IsReachedAfter, IsReachedBefore, IsAtHome, AtHome, IsNamedAlways, NamesOthers, Passes}
-use Rattle.asm6502.proofs.Naming.{kept-append, size_of-append, place_of-append}
+use Rattle.asm6502.specs.Faults.{bad_line, double_in, double_label, unknown_in, unknown_label, is_far_item, far_branch, fault_of}
+use Rattle.asm6502.specs.Stretches.{NamesNoLabelTwice, NamesAppend, NamesSplit, NamesFor, IsNamedIn, branch_of, IsReachedAfter, IsReachedBefore, IsAtHome, AtHome, NamesOthers, Passes}
+use Rattle.asm6502.proofs.Naming.{size_of-append, place_of-append}
 use Rattle.asm6502.proofs.Found.{all_passed}
 use Rattle.asm6502.proofs.Reaches.{branches_reach_after, branches_reach_before}
 use Rattle.asm6502.proofs.Standing.{all_split, label_address}
@@ -185,6 +182,51 @@ kept_naming set [] label h = absurd (cc)
 kept_naming set (x ∷ lines) label h =
     by_kept set x lines label (is_kept set x) (names label x.item) (kept_naming set lines label) refl h
 
+-- ---- labels that are named once, in two lists of lines
+
+pub names_append : NamesAppend
+names_append front back one two others =
+    record {
+      once = λ f line between other b label e n m.
+          elim (front_or_back front back f line (between ++ other ∷ b) e) [
+            | inl c ↦ in_front f line between other b label n m c.rest c.front c.back
+            | inr c ↦ two.once c.between line between other b label c.back n m
+          ];
+    }
+  where
+    in_front : (f : List Line) (line : Line) (between : List Line) (other : Line) (b : List Line) (label : ℕ) →
+        label_named line.item ≡ Some label → label_named other.item ≡ Some label → (rest : List Line) →
+        front ≡ f ++ line ∷ rest → between ++ other ∷ b ≡ rest ++ back → ⊥
+    in_front f line between other b label n m rest e g =
+        elim (front_or_back rest back between other b (sym g)) [
+          | inl c ↦
+              let split = e ∙ ap (λ (ls : List Line). f ++ line ∷ ls) c.front in
+              one.once f line between other c.rest label split n m
+          | inr c ↦ others.apart f line rest c.between other b label e c.back n m
+        ]
+
+pub names_split : NamesSplit
+names_split front back all = (
+  record {
+    once = λ f line between other b label e n m.
+        all.once f line between other (b ++ back) label (ap (λ (ls : List Line). ls ++ back) e
+        ∙ append_assoc f (line ∷ (between ++ other ∷ b)) back
+        ∙ ap (λ (ls : List Line). f ++ line ∷ ls) (append_assoc between (other ∷ b) back)) n m;
+  },
+  record {
+    once = λ f line between other b label e n m.
+        all.once (front ++ f) line between other b label (ap (λ (ls : List Line). front ++ ls) e
+        ∙ sym (append_assoc front f (line ∷ (between ++ other ∷ b)))) n m;
+  },
+  record {
+    apart = λ f line after f' other after' label e g n m.
+        all.once f line (after ++ f') other after' label (ap (λ (ls : List Line). ls ++ back) e
+        ∙ append_assoc f (line ∷ after) back
+        ∙ ap (λ (ls : List Line). f ++ line ∷ (after ++ ls)) g
+        ∙ ap (λ (ls : List Line). f ++ line ∷ ls) (sym (append_assoc after f' (other ∷ after')))) n m;
+  },
+)
+
 -- ---- the tests
 
 -- a line in a part that there is, and that can stand in a listing
@@ -242,9 +284,11 @@ unknown_passes others set lines before x after e around home =
           let n = around.named label other in
           known set lines n.front n.line n.back label n.split (ap (is_part_kept set) n.always) n.names
       found label k (inr n) =
-          known set lines n.front n.line n.back label (e ∙ n.split) (for_user set x n.line label n.named k) n.named.names
+          let there = for_user set x n.line label n.named k in
+          known set lines n.front n.line n.back label (e ∙ n.split) there n.named.names
 
-      by_name : (o : Option ℕ) → is_kept set x ≡ true → label_used x.item ≡ o → unknown_in (kept set lines) x.item ≡ None
+      by_name : (o : Option ℕ) → is_kept set x ≡ true → label_used x.item ≡ o →
+          unknown_in (kept set lines) x.item ≡ None
       by_name None k l = rw l refl
       by_name (Some label) k l = let f = found label k (home.named label l) in rw (l, f) refl
 
@@ -280,10 +324,10 @@ kept_after set before x after k =
     ∙ size_of-append (kept set before) (x ∷ kept set after)
 
 near_after : (set origin : ℕ) (lines before : List Line) (x : Line) (after : List Line) (label : ℕ) →
-    lines ≡ before ++ x ∷ after → NamesNoLabelTwice lines → origin + size_of (kept set lines) ≤ 65536 →
+    lines ≡ before ++ x ∷ after → NamesNoLabelTwice lines → origin + size_of (kept set lines) ≤ MEMORY_SIZE →
     is_kept set x ≡ true → item_size x.item ≡ 2 → IsReachedAfter x after label →
     is_some (branch_byte (origin + size_of (kept set before))
-    ((address_in (kept set lines) origin label + 0) % 65536)) ≡ true
+    ((address_in (kept set lines) origin label + 0) % MEMORY_SIZE)) ≡ true
 near_after set origin lines before x after label e single fits k two r =
     let split : lines ≡ (before ++ x ∷ r.between) ++ r.line ∷ r.back =
     e ∙ ap (λ (ls : List Line). before ++ x ∷ ls) r.split
@@ -297,15 +341,15 @@ near_after set origin lines before x after label e single fits k two r =
     let within = r.near in
     let target : address_in (kept set lines) origin label + 0 ≡ origin + size_of (kept set before) + 2 + size_of
     (kept set r.between) = omega arith in
-    ap (λ (t : ℕ). is_some (branch_byte (origin + size_of (kept set before)) (t % 65536))) target
+    ap (λ (t : ℕ). is_some (branch_byte (origin + size_of (kept set before)) (t % MEMORY_SIZE))) target
     ∙ ap is_some (branches_reach_after (origin + size_of (kept set before)) (size_of (kept set r.between))
     (omega arith) (omega arith))
 
 near_before : (set origin : ℕ) (lines before : List Line) (x : Line) (after : List Line) (label : ℕ) →
-    lines ≡ before ++ x ∷ after → NamesNoLabelTwice lines → origin + size_of (kept set lines) ≤ 65536 →
+    lines ≡ before ++ x ∷ after → NamesNoLabelTwice lines → origin + size_of (kept set lines) ≤ MEMORY_SIZE →
     is_kept set x ≡ true → IsReachedBefore x before label →
     is_some (branch_byte (origin + size_of (kept set before))
-    ((address_in (kept set lines) origin label + 0) % 65536)) ≡ true
+    ((address_in (kept set lines) origin label + 0) % MEMORY_SIZE)) ≡ true
 near_before set origin lines before x after label e single fits k r =
     let there = for_user set x r.line label r.named k in
     let split : lines ≡ r.front ++ r.line ∷ (r.between ++ x ∷ after) =
@@ -324,15 +368,15 @@ near_before set origin lines before x after label e single fits k r =
     let target : address_in (kept set lines) origin label + 0 ≡ origin + size_of (kept set r.front) = omega arith in
     let pc : origin + size_of (kept set before) ≡ origin + size_of (kept set r.front) + size_of (kept set r.between) =
     omega arith in
-    ap (λ (t : ℕ). is_some (branch_byte (origin + size_of (kept set before)) (t % 65536))) target
-    ∙ ap (λ (p : ℕ). is_some (branch_byte p ((origin + size_of (kept set r.front)) % 65536))) pc
+    ap (λ (t : ℕ). is_some (branch_byte (origin + size_of (kept set before)) (t % MEMORY_SIZE))) target
+    ∙ ap (λ (p : ℕ). is_some (branch_byte p ((origin + size_of (kept set r.front)) % MEMORY_SIZE))) pc
     ∙ ap is_some (branches_reach_before (origin + size_of (kept set r.front)) (size_of (kept set r.between))
     (omega arith) (omega arith))
 
 -- a kept branch reaches
 reaches : (address : ℕ → ℕ) (pc : ℕ) (item : Item) →
     ((label offset : ℕ) → item_size item ≡ 2 → branch_of item ≡ Some (label, offset) →
-    is_some (branch_byte pc ((address label + offset) % 65536)) ≡ true) → is_far_item address pc item ≡ false
+    is_some (branch_byte pc ((address label + offset) % MEMORY_SIZE)) ≡ true) → is_far_item address pc item ≡ false
 reaches address pc (Named l) h = refl
 reaches address pc (Bytes bs) h = refl
 reaches address pc (Code mn mode Nothing) h = refl
@@ -343,26 +387,26 @@ reaches address pc (Code mn Relative (Label l d)) h = ap not (h l d refl refl)
 reaches address pc (Code mn _ (Label l d)) h = refl
 
 far_passes : (others : ℕ → Bool) (set origin : ℕ) (lines before : List Line) (x : Line) (after : List Line) →
-    lines ≡ before ++ x ∷ after → NamesNoLabelTwice lines → origin + size_of (kept set lines) ≤ 65536 →
+    lines ≡ before ++ x ∷ after → NamesNoLabelTwice lines → origin + size_of (kept set lines) ≤ MEMORY_SIZE →
     IsAtHome others before x after → far_branch set origin lines before x ≡ None
 far_passes others set origin lines before x after e single fits home = by_kept (is_kept set x) refl where
   pc : ℕ
   pc = origin + size_of (kept set before)
 
   target : ℕ → ℕ → ℕ
-  target label offset = (address_in (kept set lines) origin label + offset) % 65536
+  target label offset = (address_in (kept set lines) origin label + offset) % MEMORY_SIZE
 
   near : (label offset : ℕ) → is_kept set x ≡ true → item_size x.item ≡ 2 → (offset ≡ 0)
       × (IsReachedAfter x after label ⊎ IsReachedBefore x before label) →
       is_some (branch_byte (origin + size_of (kept set before))
-      ((address_in (kept set lines) origin label + offset) % 65536)) ≡ true
+      ((address_in (kept set lines) origin label + offset) % MEMORY_SIZE)) ≡ true
   near label offset k two r =
       ap (λ (d : ℕ). is_some (branch_byte (origin + size_of (kept set before))
-      ((address_in (kept set lines) origin label + d) % 65536))) r.0 ∙ by_side r.1
+      ((address_in (kept set lines) origin label + d) % MEMORY_SIZE))) r.0 ∙ by_side r.1
     where
       by_side : IsReachedAfter x after label ⊎ IsReachedBefore x before label →
           is_some (branch_byte (origin + size_of (kept set before))
-          ((address_in (kept set lines) origin label + 0) % 65536)) ≡ true
+          ((address_in (kept set lines) origin label + 0) % MEMORY_SIZE)) ≡ true
       by_side (inl s) = near_after set origin lines before x after label e single fits k two s
       by_side (inr s) = near_before set origin lines before x after label e single fits k s
 
@@ -379,7 +423,7 @@ far_passes others set origin lines before x after e single fits home = by_kept (
 
 passes : (others : ℕ → Bool) (set origin : ℕ) (lines before : List Line) (x : Line) (after : List Line) →
     lines ≡ before ++ x ∷ after → NamesNoLabelTwice lines → NamesOthers others lines →
-    origin + size_of (kept set lines) ≤ 65536 → IsAtHome others before x after → Passes set origin lines before x
+    origin + size_of (kept set lines) ≤ MEMORY_SIZE → IsAtHome others before x after → Passes set origin lines before x
 passes others set origin lines before x after e single around fits home = record {
   bad = bad_passes set before x home.part home.sound;
   double = double_passes set lines before x after e single;
@@ -390,7 +434,7 @@ passes others set origin lines before x after e single around fits home = record
 pub stretches_pass : (others : ℕ → Bool) (set origin : ℕ) (front stretch back before : List Line) (line : Line)
     (after : List Line) → AtHome others [] stretch [] → NamesNoLabelTwice (front ++ (stretch ++ back)) →
     NamesOthers others (front ++ (stretch ++ back)) →
-    origin + size_of (kept set (front ++ (stretch ++ back))) ≤ 65536 → stretch ≡ before ++ line ∷ after →
+    origin + size_of (kept set (front ++ (stretch ++ back))) ≤ MEMORY_SIZE → stretch ≡ before ++ line ∷ after →
     Passes set origin (front ++ (stretch ++ back)) (front ++ before) line
 stretches_pass others set origin front stretch back before line after home single around fits e =
     let grown = homes_grow others front [] stretch [] back home in
@@ -405,7 +449,7 @@ stretches_pass others set origin front stretch back before line after home singl
     fits
     (subst (λ (ls : List Line). IsAtHome others ls line (after ++ back)) place here)
 
-pub passed_listings_assemble : (set origin : ℕ) (lines : List Line) → origin + size_of (kept set lines) ≤ 65536 →
+pub passed_listings_assemble : (set origin : ℕ) (lines : List Line) → origin + size_of (kept set lines) ≤ MEMORY_SIZE →
     ((before : List Line) (line : Line) (after : List Line) → lines ≡ before ++ line ∷ after →
     Passes set origin lines before line) → fault_of set origin lines ≡ None
 passed_listings_assemble set origin lines fits pass = fault_none set origin lines (record {

@@ -11,5 +11,5 @@ pub use Rattle.asm6502.proofs.Standing.{fronts_stand, backs_stand, both_stand, l
 pub use Rattle.asm6502.proofs.Whole.{assembled_lines_stand}
 pub use Rattle.asm6502.proofs.Stretches.{stretches_stand}
 -- what passes in any listing, and where its labels are
-pub use Rattle.asm6502.proofs.Home.{homes_append, homes_grow, home_at, stretches_pass, passed_listings_assemble, label_stands, labels_stand_where_named}
+pub use Rattle.asm6502.proofs.Home.{names_append, names_split, homes_append, homes_grow, home_at, stretches_pass, passed_listings_assemble, label_stands, labels_stand_where_named}
 pub use Rattle.asm6502.proofs.Found.{first_is_first, none_found, all_passed}

@@ -1,6 +1,7 @@
 -- Numbers put at the places of fixes: they stand there, and everything else stays.
 use Rattle.std.proofs.Common.{◌≡◌, ◌≢◌, ℕ, zero, suc, ◌+◌, ◌/◌, ◌%◌, ◌<◌, ◌≤◌, ◌⊎◌, List, [], ◌∷◌, length, set, get_or, refl, ap, sym, ◌∙◌, subst, inl, inr, arith, length-set, get_or-set_same, get_or-set_other}
-use Rattle.std.proofs.lemmas.Bool.{cases_lt}
+use Rattle.base.proofs.Laws.{outside}
+use Rattle.cpu6502.specs.declared.memory.TheConstants.{MEMORY_SIZE}
 use Rattle.asm6502.specs.declared.fixes.Fix.{Fix}
 use Rattle.asm6502.specs.declared.fixes.FixKind.{FixKind}
 use Rattle.asm6502.specs.declared.fixes.FixKind.TheVariants.{Word, Low, High}
@@ -17,30 +18,25 @@ pub length-with_numbers : (origin : ℕ) (bytes : List ℕ) (fixes : List Fix) �
     length (with_numbers origin bytes fixes) ≡ length bytes
 length-with_numbers origin bytes [] = refl
 length-with_numbers origin bytes (fix ∷ rest) =
-    length-with_numbers origin (with_number fix.kind bytes fix.at ((origin + fix.to) % 65536)) rest
-    ∙ length-with_number fix.kind bytes fix.at ((origin + fix.to) % 65536)
+    length-with_numbers origin (with_number fix.kind bytes fix.at ((origin + fix.to) % MEMORY_SIZE)) rest
+    ∙ length-with_number fix.kind bytes fix.at ((origin + fix.to) % MEMORY_SIZE)
 
 -- a place that the number doesn't take
-pub number_before : (kind : FixKind) (bytes : List ℕ) (at number q : ℕ) → q < at →
-    get_or (with_number kind bytes at number) q 0 ≡ get_or bytes q 0
-number_before Word bytes at number q l =
-    let a : q ≢ at = omega arith in
-    let b : q ≢ at + 1 = omega arith in
-    get_or-set_other (set bytes at (number % 256)) (at + 1) q (number / 256) 0 b
-    ∙ get_or-set_other bytes at q (number % 256) 0 a
-number_before Low bytes at number q l = let a : q ≢ at = omega arith in get_or-set_other bytes at q (number % 256) 0 a
-number_before High bytes at number q l =
-    let a : q ≢ at = omega arith in get_or-set_other bytes at q (number / 256) 0 a
+not_there : (at width q place : ℕ) → (q < at) ⊎ (at + width ≤ q) → at ≤ place → place < at + width → q ≢ place
+not_there at width q place (inl l) low high = omega arith
+not_there at width q place (inr l) low high = omega arith
 
-pub number_after : (kind : FixKind) (bytes : List ℕ) (at number q : ℕ) → at + width_of kind ≤ q →
+number_apart : (kind : FixKind) (bytes : List ℕ) (at number q : ℕ) → (q < at) ⊎ (at + width_of kind ≤ q) →
     get_or (with_number kind bytes at number) q 0 ≡ get_or bytes q 0
-number_after Word bytes at number q l =
-    let a : q ≢ at = omega arith in
-    let b : q ≢ at + 1 = omega arith in
+number_apart Word bytes at number q out =
+    let a = not_there at 2 q at out (omega arith) (omega arith) in
+    let b = not_there at 2 q (at + 1) out (omega arith) (omega arith) in
     get_or-set_other (set bytes at (number % 256)) (at + 1) q (number / 256) 0 b
     ∙ get_or-set_other bytes at q (number % 256) 0 a
-number_after Low bytes at number q l = let a : q ≢ at = omega arith in get_or-set_other bytes at q (number % 256) 0 a
-number_after High bytes at number q l = let a : q ≢ at = omega arith in get_or-set_other bytes at q (number / 256) 0 a
+number_apart Low bytes at number q out =
+    get_or-set_other bytes at q (number % 256) 0 (not_there at 1 q at out (omega arith) (omega arith))
+number_apart High bytes at number q out =
+    get_or-set_other bytes at q (number / 256) 0 (not_there at 1 q at out (omega arith) (omega arith))
 
 -- the number stands there
 number_put : (kind : FixKind) (bytes : List ℕ) (at number : ℕ) → at + width_of kind ≤ length bytes →
@@ -68,48 +64,37 @@ below_stays : (origin low n : ℕ) (bytes : List ℕ) (fixes : List Fix) → InO
 below_stays origin low n bytes [] o q l = refl
 below_stays origin low n bytes (fix ∷ rest) o q l =
     let a = o.0 in
-    below_stays origin (fix.at + width_of fix.kind) n (with_number fix.kind bytes fix.at ((origin + fix.to) % 65536))
+    below_stays origin (fix.at + width_of fix.kind) n
+    (with_number fix.kind bytes fix.at ((origin + fix.to) % MEMORY_SIZE))
     rest o.1.1 q (omega arith)
-    ∙ number_before fix.kind bytes fix.at ((origin + fix.to) % 65536) q (omega arith)
+    ∙ number_apart fix.kind bytes fix.at ((origin + fix.to) % MEMORY_SIZE) q (inl (omega arith))
 
 -- all numbers stand at their places
 pub numbers_stand : (origin low n : ℕ) (bytes : List ℕ) (fixes : List Fix) → n ≡ length bytes → InOrder low n fixes →
     NumbersStand origin (with_numbers origin bytes fixes) fixes
 numbers_stand origin low n bytes [] e o = tt
 numbers_stand origin low n bytes (fix ∷ rest) e o =
-    let number = (origin + fix.to) % 65536 in
+    let number = (origin + fix.to) % MEMORY_SIZE in
     let b = o.1.0 in
-    let put = number_put fix.kind bytes fix.at ((origin + fix.to) % 65536) (omega arith) in
-    let size = length-with_number fix.kind bytes fix.at ((origin + fix.to) % 65536) in (
-      number_stays fix.kind (with_number fix.kind bytes fix.at ((origin + fix.to) % 65536))
-          (with_numbers origin (with_number fix.kind bytes fix.at ((origin + fix.to) % 65536)) rest) fix.at
-          ((origin + fix.to) % 65536)
+    let put = number_put fix.kind bytes fix.at ((origin + fix.to) % MEMORY_SIZE) (omega arith) in
+    let size = length-with_number fix.kind bytes fix.at ((origin + fix.to) % MEMORY_SIZE) in (
+      number_stays fix.kind (with_number fix.kind bytes fix.at ((origin + fix.to) % MEMORY_SIZE))
+          (with_numbers origin (with_number fix.kind bytes fix.at ((origin + fix.to) % MEMORY_SIZE)) rest) fix.at
+          ((origin + fix.to) % MEMORY_SIZE)
           (λ (q : ℕ) l. below_stays origin (fix.at + width_of fix.kind) n
-          (with_number fix.kind bytes fix.at ((origin + fix.to) % 65536)) rest o.1.1 q l) put,
+          (with_number fix.kind bytes fix.at ((origin + fix.to) % MEMORY_SIZE)) rest o.1.1 q l) put,
       numbers_stand origin (fix.at + width_of fix.kind) n
-          (with_number fix.kind bytes fix.at ((origin + fix.to) % 65536)) rest (omega arith) o.1.1,
+          (with_number fix.kind bytes fix.at ((origin + fix.to) % MEMORY_SIZE)) rest (omega arith) o.1.1,
     )
 
 -- every place that no fix takes stays
-apart : (at width q : ℕ) → ((at ≤ q) × (q < at + width) → ⊥) → (q < at) ⊎ (at + width ≤ q)
-apart at width q h =
-    elim (cases_lt q at) [
-      | inl l ↦ inl l
-      | inr g ↦ elim (cases_lt q (at + width)) [ inl l ↦ absurd (h (g, l)) | inr k ↦ inr k ]
-    ]
-
-number_apart : (kind : FixKind) (bytes : List ℕ) (at number q : ℕ) → (q < at) ⊎ (at + width_of kind ≤ q) →
-    get_or (with_number kind bytes at number) q 0 ≡ get_or bytes q 0
-number_apart kind bytes at number q (inl l) = number_before kind bytes at number q l
-number_apart kind bytes at number q (inr l) = number_after kind bytes at number q l
-
 pub others_stay : (origin : ℕ) (bytes : List ℕ) (fixes : List Fix) (q : ℕ) → (IsFixed fixes q → ⊥) →
     get_or (with_numbers origin bytes fixes) q 0 ≡ get_or bytes q 0
 others_stay origin bytes [] q h = refl
 others_stay origin bytes (fix ∷ rest) q h =
-    others_stay origin (with_number fix.kind bytes fix.at ((origin + fix.to) % 65536)) rest q (λ f. h (inr f))
-    ∙ number_apart fix.kind bytes fix.at ((origin + fix.to) % 65536) q
-    (apart fix.at (width_of fix.kind) q (λ c. h (inl c)))
+    others_stay origin (with_number fix.kind bytes fix.at ((origin + fix.to) % MEMORY_SIZE)) rest q (λ f. h (inr f))
+    ∙ number_apart fix.kind bytes fix.at ((origin + fix.to) % MEMORY_SIZE) q
+    (outside fix.at (width_of fix.kind) q (λ c. h (inl c)))
 
 -- each fix ends within the bytes
 pub fix_within : (low n : ℕ) (fixes : List Fix) (k : ℕ) (x d : Fix) → InOrder low n fixes → k < length fixes →
@@ -126,7 +111,7 @@ le_along a n m h e = omega arith
 
 -- what the bytes are after the move
 pub record Moved (origin : ℕ) (old new : List ℕ) (fixes : List Fix) : Type 0 where
-  pub fits : origin + length new ≤ 65536
+  pub fits : origin + length new ≤ MEMORY_SIZE
   pub in_order : InOrder 0 (length new) fixes
   pub stand : NumbersStand origin new fixes
   pub bytes : new ≡ with_numbers origin old fixes
@@ -134,7 +119,7 @@ pub record Moved (origin : ℕ) (old new : List ℕ) (fixes : List Fix) : Type 0
   pub size : length new ≡ length old
 
 pub moved : (origin : ℕ) (old new : List ℕ) (fixes given : List Fix) → InOrder 0 (length old) fixes →
-    new ≡ with_numbers origin old given → given ≡ fixes → origin + length old ≤ 65536 → Moved origin old new fixes
+    new ≡ with_numbers origin old given → given ≡ fixes → origin + length old ≤ MEMORY_SIZE → Moved origin old new fixes
 moved origin old new fixes given o n g f =
     let e : new ≡ with_numbers origin old fixes = n ∙ ap (with_numbers origin old) g in
     let s : length new ≡ length old = ap length e ∙ length-with_numbers origin old fixes in

@@ -1,9 +1,9 @@
 -- Lines that are assembled at one origin and moved to another are the lines assembled there.
 use Rattle.std.proofs.Common.{◌≡◌, ℕ, ◌+◌, ◌-◌, ◌*◌, ◌/◌, ◌%◌, ◌<◌, ◌≤◌, true, List, [], ◌∷◌, ◌++◌, length, set, Option, Some, None, unwrap_or, nat_lt, if◌then◌else◌, refl, ap, sym, ◌∙◌, arith, append_assoc, length-append}
 use Rattle.std.specs.Option.{is_some}
-use Rattle.std.proofs.lemmas.Bool.{lt-ltb}
-use Rattle.std.proofs.lemmas.List.{set-append_right}
-use Rattle.base.proofs.Laws.{set-append_add}
+use Rattle.std.proofs.lemmas.Bool.{and_parts, lt-ltb}
+use Rattle.base.proofs.Laws.{half_small, set-append_add}
+use Rattle.cpu6502.specs.declared.memory.TheConstants.{MEMORY_SIZE}
 use Rattle.cpu6502.specs.declared.mnemonic.Mnemonic.{Mnemonic}
 use Rattle.cpu6502.specs.declared.mnemonic.Mode.{Mode}
 use Rattle.cpu6502.specs.declared.mnemonic.Mode.TheVariants.{Implied, Accumulator, Immediate, ZeroPage, ZeroPageX, ZeroPageY, Absolute, AbsoluteX, AbsoluteY, IndirectX, IndirectY, Indirect, Relative}
@@ -23,7 +23,7 @@ use Rattle.asm6502.specs.Operands.{suits}
 use Rattle.asm6502.specs.Lines.{item_size, size_of, is_sound}
 use Rattle.asm6502.specs.Assembly.{item_bytes, bytes_of, item_fixes, fixes_of}
 use Rattle.asm6502.specs.Fixes.{operand_fixes, width_of, with_number, with_numbers, InOrder}
-use Rattle.asm6502.proofs.Sound.{both, item_length, AllSound}
+use Rattle.asm6502.proofs.Sound.{item_length, AllSound}
 
 -- labels with addresses at two origins, and with places
 pub record AreShifted (origin other : ℕ) (address address' place : ℕ → ℕ) : Type 0 where
@@ -31,44 +31,48 @@ pub record AreShifted (origin other : ℕ) (address address' place : ℕ → ℕ
   pub there : (label : ℕ) → address' label ≡ other + place label
 
 -- a number of the new origin, from the place
-number_shifts : (origin p d : ℕ) → (origin + (p + d) % 65536) % 65536 ≡ (origin + p + d) % 65536
+number_shifts : (origin p d : ℕ) → (origin + (p + d) % MEMORY_SIZE) % MEMORY_SIZE ≡ (origin + p + d) % MEMORY_SIZE
 number_shifts origin p d =
-    let q = (p + d) / 65536 in
-    let s : p + d ≡ 65536 * ((p + d) / 65536) + (p + d) % 65536 = omega arith in
-    wrap origin (p + d) ((p + d) / 65536) ((p + d) % 65536) s ∙ ap (λ (n : ℕ). n % 65536) (plus origin p d)
+    let q = (p + d) / MEMORY_SIZE in
+    let s : p + d ≡ MEMORY_SIZE * ((p + d) / MEMORY_SIZE) + (p + d) % MEMORY_SIZE = omega arith in
+    wrap origin (p + d) ((p + d) / MEMORY_SIZE) ((p + d) % MEMORY_SIZE) s
+    ∙ ap (λ (n : ℕ). n % MEMORY_SIZE) (plus origin p d)
   where
-    wrap : (o n q r : ℕ) → n ≡ 65536 * q + r → (o + r) % 65536 ≡ (o + n) % 65536
+    wrap : (o n q r : ℕ) → n ≡ MEMORY_SIZE * q + r → (o + r) % MEMORY_SIZE ≡ (o + n) % MEMORY_SIZE
     wrap o n q r e = omega arith
 
     plus : (o p d : ℕ) → o + (p + d) ≡ o + p + d
     plus o p d = omega arith
 
 -- the way of a branch is the same at each origin
-way_part : (o at n q r : ℕ) → n ≡ 65536 * q + r → r < 65536 → o + at ≤ 65536 →
-    (r + 131072 - (o + at + 2)) % 65536 ≡ (n + 131072 - (o + at + 2)) % 65536
+way_part : (o at n q r : ℕ) → n ≡ MEMORY_SIZE * q + r → r < MEMORY_SIZE → o + at ≤ MEMORY_SIZE →
+    (r + 2 * MEMORY_SIZE - (o + at + 2)) % MEMORY_SIZE ≡ (n + 2 * MEMORY_SIZE - (o + at + 2)) % MEMORY_SIZE
 way_part o at n q r e s l =
-    let whole : n + 131072 - (o + at + 2) ≡ 65536 * q + (r + 131072 - (o + at + 2)) = omega arith in
+    let whole : n + 2 * MEMORY_SIZE - (o + at + 2) ≡ MEMORY_SIZE * q + (r + 2 * MEMORY_SIZE - (o + at + 2)) =
+    omega arith in
     rw whole (omega arith)
 
-way_is : (o at p d : ℕ) → o + at ≤ 65536 →
-    way_from (o + at) ((o + p + d) % 65536) ≡ (p + d + 131072 - (at + 2)) % 65536
+way_is : (o at p d : ℕ) → o + at ≤ MEMORY_SIZE →
+    way_from (o + at) ((o + p + d) % MEMORY_SIZE) ≡ (p + d + 2 * MEMORY_SIZE - (at + 2)) % MEMORY_SIZE
 way_is o at p d l =
-    let split : o + p + d ≡ 65536 * ((o + p + d) / 65536) + (o + p + d) % 65536 = omega arith in
-    let same : o + p + d + 131072 - (o + at + 2) ≡ p + d + 131072 - (at + 2) = omega arith in
-    way_part o at (o + p + d) ((o + p + d) / 65536) ((o + p + d) % 65536) split (omega arith) l
-    ∙ ap (λ (n : ℕ). n % 65536) same
+    let split : o + p + d ≡ MEMORY_SIZE * ((o + p + d) / MEMORY_SIZE) + (o + p + d) % MEMORY_SIZE = omega arith in
+    let same : o + p + d + 2 * MEMORY_SIZE - (o + at + 2) ≡ p + d + 2 * MEMORY_SIZE - (at + 2) = omega arith in
+    way_part o at (o + p + d) ((o + p + d) / MEMORY_SIZE) ((o + p + d) % MEMORY_SIZE) split (omega arith) l
+    ∙ ap (λ (n : ℕ). n % MEMORY_SIZE) same
 
 abbrev byte_of_way : ℕ → Option ℕ
 byte_of_way way = if nat_lt way 128 then Some way else if nat_lt way 65408 then None else Some (way - 65280)
 
-pub branch_shifts : (origin other at p d : ℕ) → origin + at ≤ 65536 → other + at ≤ 65536 →
-    branch_byte (origin + at) ((origin + p + d) % 65536) ≡ branch_byte (other + at) ((other + p + d) % 65536)
+pub branch_shifts : (origin other at p d : ℕ) → origin + at ≤ MEMORY_SIZE → other + at ≤ MEMORY_SIZE →
+    branch_byte (origin + at) ((origin + p + d) % MEMORY_SIZE)
+    ≡ branch_byte (other + at) ((other + p + d) % MEMORY_SIZE)
 branch_shifts origin other at p d l m = ap byte_of_way (way_is origin at p d l ∙ sym (way_is other at p d m))
 
 -- the same for labels with addresses
 pub label_shifts : (origin other at l d : ℕ) (address address' place : ℕ → ℕ) →
-    AreShifted origin other address address' place → origin + at ≤ 65536 → other + at ≤ 65536 →
-    branch_byte (origin + at) ((address l + d) % 65536) ≡ branch_byte (other + at) ((address' l + d) % 65536)
+    AreShifted origin other address address' place → origin + at ≤ MEMORY_SIZE → other + at ≤ MEMORY_SIZE →
+    branch_byte (origin + at) ((address l + d) % MEMORY_SIZE)
+    ≡ branch_byte (other + at) ((address' l + d) % MEMORY_SIZE)
 label_shifts origin other at l d address address' place s h k =
     let a = s.here l in
     let b = s.there l in
@@ -91,26 +95,26 @@ coded mn mode n op following e f = rw (e, f) refl
 
 word_item : (mn : Mnemonic) (mode : Mode) (op n n' at other to : ℕ) (pre tail : List ℕ) →
     opcode_of mn mode ≡ Some op → operand_bytes mode n ≡ Some (n % 256 ∷ n / 256 ∷ []) →
-    operand_bytes mode n' ≡ Some (n' % 256 ∷ n' / 256 ∷ []) → length pre ≡ at → (other + to) % 65536 ≡ n' →
+    operand_bytes mode n' ≡ Some (n' % 256 ∷ n' / 256 ∷ []) → length pre ≡ at → (other + to) % MEMORY_SIZE ≡ n' →
     with_numbers other (pre ++ (unwrap_or (encoding (record { mnemonic = mn; mode = mode; operand = n })) [] ++ tail))
     (record { at = at + 1; kind = Word; to = to } ∷ [])
     ≡ pre ++ (unwrap_or (encoding (record { mnemonic = mn; mode = mode; operand = n' })) [] ++ tail)
 word_item mn mode op n n' at other to pre tail e f g l v =
     ap (λ (bs : List ℕ). with_numbers other (pre ++ (bs ++ tail)) (record { at = at + 1; kind = Word; to = to } ∷ []))
     (coded mn mode n op (n % 256 ∷ n / 256 ∷ []) e f)
-    ∙ put_word pre tail at op (n % 256) (n / 256) ((other + to) % 65536) l
+    ∙ put_word pre tail at op (n % 256) (n / 256) ((other + to) % MEMORY_SIZE) l
     ∙ ap (λ (w : ℕ). pre ++ (op ∷ w % 256 ∷ w / 256 ∷ tail)) v
     ∙ ap (λ (bs : List ℕ). pre ++ (bs ++ tail)) (sym (coded mn mode n' op (n' % 256 ∷ n' / 256 ∷ []) e g))
 
 byte_item : (mn : Mnemonic) (mode : Mode) (kind : FixKind) (op n n' at other to y : ℕ) (pre tail : List ℕ) →
     opcode_of mn mode ≡ Some op → operand_bytes mode n ≡ Some (n ∷ []) → operand_bytes mode n' ≡ Some (n' ∷ []) →
-    length pre ≡ at → ((bs : List ℕ) → with_number kind bs (at + 1) ((other + to) % 65536) ≡ set bs (at + 1) y) →
+    length pre ≡ at → ((bs : List ℕ) → with_number kind bs (at + 1) ((other + to) % MEMORY_SIZE) ≡ set bs (at + 1) y) →
     y ≡ n' → with_numbers other
     (pre ++ (unwrap_or (encoding (record { mnemonic = mn; mode = mode; operand = n })) [] ++ tail))
     (record { at = at + 1; kind = kind; to = to } ∷ [])
     ≡ pre ++ (unwrap_or (encoding (record { mnemonic = mn; mode = mode; operand = n' })) [] ++ tail)
 byte_item mn mode kind op n n' at other to y pre tail e f g l w v =
-    ap (λ (bs : List ℕ). with_number kind (pre ++ (bs ++ tail)) (at + 1) ((other + to) % 65536))
+    ap (λ (bs : List ℕ). with_number kind (pre ++ (bs ++ tail)) (at + 1) ((other + to) % MEMORY_SIZE))
     (coded mn mode n op (n ∷ []) e f)
     ∙ w (pre ++ (op ∷ n ∷ tail))
     ∙ set-append_add pre (op ∷ n ∷ tail) at 1 y l
@@ -123,15 +127,15 @@ byte_bytes n h = let t : nat_lt n 256 ≡ true = lt-ltb n 256 h in rw t refl
 -- the number of a label at the new origin
 there_number : (origin other l d : ℕ) (address address' place : ℕ → ℕ) →
     AreShifted origin other address address' place →
-    (other + (place l + d) % 65536) % 65536 ≡ (address' l + d) % 65536
+    (other + (place l + d) % MEMORY_SIZE) % MEMORY_SIZE ≡ (address' l + d) % MEMORY_SIZE
 there_number origin other l d address address' place s =
-    number_shifts other (place l) d ∙ ap (λ (n : ℕ). (n + d) % 65536) (sym (s.there l))
+    number_shifts other (place l) d ∙ ap (λ (n : ℕ). (n + d) % MEMORY_SIZE) (sym (s.there l))
 
 -- where an instruction with a label moves
 pub record Place (origin other at : ℕ) (address address' place : ℕ → ℕ) (pre : List ℕ) : Type 0 where
   pub shifted : AreShifted origin other address address' place
-  pub here : origin + at ≤ 65536
-  pub there : other + at ≤ 65536
+  pub here : origin + at ≤ MEMORY_SIZE
+  pub there : other + at ≤ MEMORY_SIZE
   pub front : length pre ≡ at
 
 label_item : (origin other at : ℕ) (address address' place : ℕ → ℕ) (pre tail : List ℕ) (mn : Mnemonic) (mode : Mode)
@@ -141,16 +145,20 @@ label_item : (origin other at : ℕ) (address address' place : ℕ → ℕ) (pre
     (operand_fixes place (at + 1) mode (Label l d))
     ≡ pre ++ (item_bytes address' (other + at) (Code mn mode (Label l d)) ++ tail)
 label_item origin other at address address' place pre tail mn Absolute op l d p e h =
-    word_item mn Absolute op ((address l + d) % 65536) ((address' l + d) % 65536) at other ((place l + d) % 65536) pre
+    word_item mn Absolute op ((address l + d) % MEMORY_SIZE) ((address' l + d) % MEMORY_SIZE) at other
+    ((place l + d) % MEMORY_SIZE) pre
     tail e refl refl p.front (there_number origin other l d address address' place p.shifted)
 label_item origin other at address address' place pre tail mn AbsoluteX op l d p e h =
-    word_item mn AbsoluteX op ((address l + d) % 65536) ((address' l + d) % 65536) at other ((place l + d) % 65536)
+    word_item mn AbsoluteX op ((address l + d) % MEMORY_SIZE) ((address' l + d) % MEMORY_SIZE) at other
+    ((place l + d) % MEMORY_SIZE)
     pre tail e refl refl p.front (there_number origin other l d address address' place p.shifted)
 label_item origin other at address address' place pre tail mn AbsoluteY op l d p e h =
-    word_item mn AbsoluteY op ((address l + d) % 65536) ((address' l + d) % 65536) at other ((place l + d) % 65536)
+    word_item mn AbsoluteY op ((address l + d) % MEMORY_SIZE) ((address' l + d) % MEMORY_SIZE) at other
+    ((place l + d) % MEMORY_SIZE)
     pre tail e refl refl p.front (there_number origin other l d address address' place p.shifted)
 label_item origin other at address address' place pre tail mn Indirect op l d p e h =
-    word_item mn Indirect op ((address l + d) % 65536) ((address' l + d) % 65536) at other ((place l + d) % 65536) pre
+    word_item mn Indirect op ((address l + d) % MEMORY_SIZE) ((address' l + d) % MEMORY_SIZE) at other
+    ((place l + d) % MEMORY_SIZE) pre
     tail e refl refl p.front (there_number origin other l d address address' place p.shifted)
 label_item origin other at address address' place pre tail mn Relative op l d p e h =
     ap (λ (o : Option ℕ).
@@ -181,19 +189,16 @@ immediate_is IndirectY h = absurd (cc)
 immediate_is Indirect h = absurd (cc)
 immediate_is Relative h = absurd (cc)
 
-half_small : (n : ℕ) → n < 65536 → n / 256 < 256
-half_small n h = omega arith
-
 low_item : (origin other at : ℕ) (address address' place : ℕ → ℕ) (pre tail : List ℕ) (mn : Mnemonic) (op l d : ℕ) →
     Place origin other at address address' place pre → opcode_of mn Immediate ≡ Some op →
     with_numbers other (pre ++ (item_bytes address (origin + at) (Code mn Immediate (LowOf l d)) ++ tail))
     (operand_fixes place (at + 1) Immediate (LowOf l d))
     ≡ pre ++ (item_bytes address' (other + at) (Code mn Immediate (LowOf l d)) ++ tail)
 low_item origin other at address address' place pre tail mn op l d p e =
-    byte_item mn Immediate Low op ((address l + d) % 65536 % 256) ((address' l + d) % 65536 % 256) at other
-    ((place l + d) % 65536) ((other + (place l + d) % 65536) % 65536 % 256) pre tail e
-    (byte_bytes ((address l + d) % 65536 % 256) (omega arith))
-    (byte_bytes ((address' l + d) % 65536 % 256) (omega arith)) p.front (λ bs. refl)
+    byte_item mn Immediate Low op ((address l + d) % MEMORY_SIZE % 256) ((address' l + d) % MEMORY_SIZE % 256) at other
+    ((place l + d) % MEMORY_SIZE) ((other + (place l + d) % MEMORY_SIZE) % MEMORY_SIZE % 256) pre tail e
+    (byte_bytes ((address l + d) % MEMORY_SIZE % 256) (omega arith))
+    (byte_bytes ((address' l + d) % MEMORY_SIZE % 256) (omega arith)) p.front (λ bs. refl)
     (ap (λ (n : ℕ). n % 256) (there_number origin other l d address address' place p.shifted))
 
 high_item : (origin other at : ℕ) (address address' place : ℕ → ℕ) (pre tail : List ℕ) (mn : Mnemonic) (op l d : ℕ) →
@@ -202,10 +207,11 @@ high_item : (origin other at : ℕ) (address address' place : ℕ → ℕ) (pre 
     (operand_fixes place (at + 1) Immediate (HighOf l d))
     ≡ pre ++ (item_bytes address' (other + at) (Code mn Immediate (HighOf l d)) ++ tail)
 high_item origin other at address address' place pre tail mn op l d p e =
-    byte_item mn Immediate High op ((address l + d) % 65536 / 256) ((address' l + d) % 65536 / 256) at other
-    ((place l + d) % 65536) ((other + (place l + d) % 65536) % 65536 / 256) pre tail e
-    (byte_bytes ((address l + d) % 65536 / 256) (half_small ((address l + d) % 65536) (omega arith)))
-    (byte_bytes ((address' l + d) % 65536 / 256) (half_small ((address' l + d) % 65536) (omega arith))) p.front
+    byte_item mn Immediate High op ((address l + d) % MEMORY_SIZE / 256) ((address' l + d) % MEMORY_SIZE / 256) at other
+    ((place l + d) % MEMORY_SIZE) ((other + (place l + d) % MEMORY_SIZE) % MEMORY_SIZE / 256) pre tail e
+    (byte_bytes ((address l + d) % MEMORY_SIZE / 256) (half_small ((address l + d) % MEMORY_SIZE) (omega arith)))
+    (byte_bytes ((address' l + d) % MEMORY_SIZE / 256) (half_small ((address' l + d) % MEMORY_SIZE) (omega arith)))
+    p.front
     (λ bs. refl) (ap (λ (n : ℕ). n / 256) (there_number origin other l d address address' place p.shifted))
 
 some_of : (o : Option ℕ) → is_some o ≡ true → (x : ℕ) × (o ≡ Some x)
@@ -236,7 +242,7 @@ item_shift : (origin other at : ℕ) (address address' place : ℕ → ℕ) (pre
 item_shift origin other at address address' place pre tail (Named l) p h = refl
 item_shift origin other at address address' place pre tail (Bytes bs) p h = refl
 item_shift origin other at address address' place pre tail (Code mn mode x) p h =
-    let b = both (is_some (opcode_of mn mode)) (suits mode x) h in
+    let b = and_parts (is_some (opcode_of mn mode)) (suits mode x) h in
     let o = some_of (opcode_of mn mode) b.0 in
     code_item origin other at address address' place pre tail mn mode x o.0 p o.1 b.1
 
@@ -244,12 +250,12 @@ with_numbers-append : (origin : ℕ) (bytes : List ℕ) (front back : List Fix) 
     with_numbers origin bytes (front ++ back) ≡ with_numbers origin (with_numbers origin bytes front) back
 with_numbers-append origin bytes [] back = refl
 with_numbers-append origin bytes (fix ∷ front) back =
-    with_numbers-append origin (with_number fix.kind bytes fix.at ((origin + fix.to) % 65536)) front back
+    with_numbers-append origin (with_number fix.kind bytes fix.at ((origin + fix.to) % MEMORY_SIZE)) front back
 
 -- lines after a front, moved to another origin
 pub lines_shift : (origin other : ℕ) (address address' place : ℕ → ℕ) →
     AreShifted origin other address address' place → (lines : List Line) → AllSound lines → (pre : List ℕ) (at : ℕ) →
-    length pre ≡ at → origin + at + size_of lines ≤ 65536 → other + at + size_of lines ≤ 65536 →
+    length pre ≡ at → origin + at + size_of lines ≤ MEMORY_SIZE → other + at + size_of lines ≤ MEMORY_SIZE →
     with_numbers other (pre ++ bytes_of address (origin + at) lines) (fixes_of place at lines) ≡ pre ++ bytes_of
     address' (other + at) lines
 lines_shift origin other address address' place s [] sound pre at l h t = refl
@@ -289,10 +295,10 @@ word_order at n to rest o l = (omega arith, (omega arith, in_order_low (at + 3) 
 label_order : (place : ℕ → ℕ) (at n : ℕ) (mode : Mode) (l d : ℕ) (rest : List Fix) → suits mode (Label l d) ≡ true →
     InOrder (at + length_of mode) n rest → at + length_of mode ≤ n →
     InOrder at n (operand_fixes place (at + 1) mode (Label l d) ++ rest)
-label_order place at n Absolute l d rest h o k = word_order at n ((place l + d) % 65536) rest o k
-label_order place at n AbsoluteX l d rest h o k = word_order at n ((place l + d) % 65536) rest o k
-label_order place at n AbsoluteY l d rest h o k = word_order at n ((place l + d) % 65536) rest o k
-label_order place at n Indirect l d rest h o k = word_order at n ((place l + d) % 65536) rest o k
+label_order place at n Absolute l d rest h o k = word_order at n ((place l + d) % MEMORY_SIZE) rest o k
+label_order place at n AbsoluteX l d rest h o k = word_order at n ((place l + d) % MEMORY_SIZE) rest o k
+label_order place at n AbsoluteY l d rest h o k = word_order at n ((place l + d) % MEMORY_SIZE) rest o k
+label_order place at n Indirect l d rest h o k = word_order at n ((place l + d) % MEMORY_SIZE) rest o k
 label_order place at n Relative l d rest h o k = in_order_low (at + 2) at n rest (omega arith) o
 label_order place at n Implied l d rest h o k = absurd (cc)
 label_order place at n Accumulator l d rest h o k = absurd (cc)
@@ -324,13 +330,13 @@ item_order place at n (Code mn mode Nothing) rest h o k = in_order_low (at + len
 item_order place at n (Code mn mode (Number m)) rest h o k =
     in_order_low (at + length_of mode) at n rest (omega arith) o
 item_order place at n (Code mn mode (Label l d)) rest h o k =
-    label_order place at n mode l d rest (both (is_some (opcode_of mn mode)) (suits mode (Label l d)) h).1 o k
+    label_order place at n mode l d rest (and_parts (is_some (opcode_of mn mode)) (suits mode (Label l d)) h).1 o k
 item_order place at n (Code mn mode (LowOf l d)) rest h o k =
-    byte_order at n mode (record { at = at + 1; kind = Low; to = (place l + d) % 65536 }) rest
-    (both (is_some (opcode_of mn mode)) (suits mode (LowOf l d)) h).1 refl refl o k
+    byte_order at n mode (record { at = at + 1; kind = Low; to = (place l + d) % MEMORY_SIZE }) rest
+    (and_parts (is_some (opcode_of mn mode)) (suits mode (LowOf l d)) h).1 refl refl o k
 item_order place at n (Code mn mode (HighOf l d)) rest h o k =
-    byte_order at n mode (record { at = at + 1; kind = High; to = (place l + d) % 65536 }) rest
-    (both (is_some (opcode_of mn mode)) (suits mode (HighOf l d)) h).1 refl refl o k
+    byte_order at n mode (record { at = at + 1; kind = High; to = (place l + d) % MEMORY_SIZE }) rest
+    (and_parts (is_some (opcode_of mn mode)) (suits mode (HighOf l d)) h).1 refl refl o k
 
 pub fixes_in_order : (place : ℕ → ℕ) (at n : ℕ) (lines : List Line) → AllSound lines → at + size_of lines ≤ n →
     InOrder at n (fixes_of place at lines)

@@ -1,7 +1,9 @@
 -- What can stand in a listing has an encoding of the length that its mode says.
 use Rattle.std.proofs.Common.{◌≡◌, ℕ, zero, suc, ◌+◌, ◌-◌, ◌/◌, ◌%◌, ◌<◌, Bool, true, false, ◌&&◌, ◌||◌, not, List, [], ◌∷◌, ◌++◌, length, Option, Some, None, unwrap_or, nat_eq, nat_lt, if◌then◌else◌, refl, ap, sym, ◌∙◌, get_or, arith}
 use Rattle.std.specs.Option.{option_or, is_some}
-use Rattle.std.proofs.lemmas.Bool.{ltb-true, lt-ltb}
+use Rattle.std.proofs.lemmas.Bool.{and_parts, ltb-true, lt-ltb}
+use Rattle.base.proofs.Laws.{half_small}
+use Rattle.cpu6502.specs.declared.memory.TheConstants.{MEMORY_SIZE}
 use Rattle.cpu6502.specs.declared.mnemonic.Mnemonic.{Mnemonic}
 use Rattle.cpu6502.specs.declared.mnemonic.Mode.{Mode}
 use Rattle.cpu6502.specs.declared.mnemonic.Mode.TheVariants.{Implied, Accumulator, Immediate, ZeroPage, ZeroPageX, ZeroPageY, Absolute, AbsoluteX, AbsoluteY, IndirectX, IndirectY, Indirect, Relative}
@@ -22,7 +24,7 @@ use Rattle.asm6502.specs.Faults.{first_fault, bad_line}
 use Rattle.asm6502.proofs.Rounds.{operand_read}
 
 -- a displacement byte is a byte
-byte_small : (way : ℕ) (y z : Bool) → way < 65536 → nat_lt way 128 ≡ y → nat_lt way 65408 ≡ z →
+byte_small : (way : ℕ) (y z : Bool) → way < MEMORY_SIZE → nat_lt way 128 ≡ y → nat_lt way 65408 ≡ z →
     unwrap_or (if y then Some way else if z then None else Some (way - 65280)) 0 < 256
 byte_small way true z w e f = omega (arith, ltb-true way 128 e)
 byte_small way false true w e f = omega arith
@@ -62,10 +64,10 @@ label_some address pc AbsoluteX label offset h = refl
 label_some address pc AbsoluteY label offset h = refl
 label_some address pc Indirect label offset h = refl
 label_some address pc Relative label offset h =
-    let target = (address label + offset) % 65536 in
-    byte_some (unwrap_or (branch_byte pc ((address label + offset) % 65536)) 0)
-    (lt-ltb (unwrap_or (branch_byte pc ((address label + offset) % 65536)) 0) 256
-    (branch_byte-lt pc ((address label + offset) % 65536)))
+    let target = (address label + offset) % MEMORY_SIZE in
+    byte_some (unwrap_or (branch_byte pc ((address label + offset) % MEMORY_SIZE)) 0)
+    (lt-ltb (unwrap_or (branch_byte pc ((address label + offset) % MEMORY_SIZE)) 0) 256
+    (branch_byte-lt pc ((address label + offset) % MEMORY_SIZE)))
 label_some address pc Implied label offset h = cc
 label_some address pc Accumulator label offset h = cc
 label_some address pc Immediate label offset h = cc
@@ -91,28 +93,21 @@ immediate_some AbsoluteX n h l = cc
 immediate_some AbsoluteY n h l = cc
 immediate_some Indirect n h l = cc
 
-high_small : (n : ℕ) → n < 65536 → n / 256 < 256
-high_small n h = omega arith
-
 operand_some : (address : ℕ → ℕ) (pc : ℕ) (mode : Mode) (x : Operand) → suits mode x ≡ true →
     is_some (operand_bytes mode (operand_of address pc mode x)) ≡ true
 operand_some address pc mode Nothing h = nothing_some mode h
 operand_some address pc mode (Number n) h = number_some mode n h
 operand_some address pc mode (Label l d) h = label_some address pc mode l d h
-operand_some address pc mode (Low l d) h = immediate_some mode ((address l + d) % 65536 % 256) h (omega arith)
+operand_some address pc mode (Low l d) h = immediate_some mode ((address l + d) % MEMORY_SIZE % 256) h (omega arith)
 operand_some address pc mode (High l d) h =
-    immediate_some mode ((address l + d) % 65536 / 256) h (high_small ((address l + d) % 65536) (omega arith))
+    immediate_some mode ((address l + d) % MEMORY_SIZE / 256) h
+    (half_small ((address l + d) % MEMORY_SIZE) (omega arith))
 
 -- the bytes of an instruction that can stand in a listing
 pub record Encodes (address : ℕ → ℕ) (pc : ℕ) (mn : Mnemonic) (mode : Mode) (x : Operand) : Type 0 where
   pub bytes : List ℕ
   pub is : encoding (instr_at address pc mn mode x) ≡ Some bytes
   pub size : length bytes ≡ length_of mode
-
-pub both : (y z : Bool) → (y && z) ≡ true → (y ≡ true) × (z ≡ true)
-both true true h = (refl, refl)
-both true false h = absurd (cc)
-both false z h = absurd (cc)
 
 encodes_as : (address : ℕ → ℕ) (pc : ℕ) (mn : Mnemonic) (mode : Mode) (x : Operand) (op : Option ℕ)
     (following : Option (List ℕ)) → opcode_of mn mode ≡ op →
@@ -127,7 +122,7 @@ encodes_as address pc mn mode x (Some op) (Some following) e f g h =
 pub encodes : (address : ℕ → ℕ) (pc : ℕ) (mn : Mnemonic) (mode : Mode) (x : Operand) →
     is_sound (Code mn mode x) ≡ true → Encodes address pc mn mode x
 encodes address pc mn mode x h =
-    let b = both (is_some (opcode_of mn mode)) (suits mode x) h in
+    let b = and_parts (is_some (opcode_of mn mode)) (suits mode x) h in
     encodes_as address pc mn mode x (opcode_of mn mode) (operand_bytes mode (operand_of address pc mode x))
     refl refl b.0 (operand_some address pc mode x b.1)
 

@@ -1,8 +1,9 @@
 -- Lines that stand in memory: from their bytes, and the tools of those who stand on them.
 use Rattle.std.proofs.Common.{◌≡◌, ℕ, ◌+◌, ◌*◌, ◌/◌, ◌%◌, ◌<◌, ◌≤◌, Bool, true, false, ◌&&◌, not, List, [], ◌∷◌, ◌++◌, length, Option, Some, None, unwrap_or, nat_eq, nat_lt, if◌then◌else◌, refl, ap, sym, ◌∙◌, subst, arith, append_assoc, length-append}
 use Rattle.std.specs.Option.{option_or, option_map, is_some}
-use Rattle.std.proofs.lemmas.Bool.{eqb-true, eq-eqb}
+use Rattle.std.proofs.lemmas.Bool.{and_parts, eqb-true, eq-eqb}
 use Rattle.std.proofs.lemmas.List.{get_or_append_left, get_or-append-add}
+use Rattle.cpu6502.specs.declared.memory.TheConstants.{MEMORY_SIZE}
 use Rattle.cpu6502.specs.declared.mnemonic.Mnemonic.{Mnemonic}
 use Rattle.cpu6502.specs.declared.mnemonic.Mode.{Mode}
 use Rattle.cpu6502.specs.declared.mnemonic.Mode.TheVariants.{Implied, Accumulator, Immediate, ZeroPage, ZeroPageX, ZeroPageY, Absolute, AbsoluteX, AbsoluteY, IndirectX, IndirectY, Indirect, Relative}
@@ -27,7 +28,7 @@ use Rattle.asm6502.specs.Standing.{BytesStand, ItemAt, LinesAt}
 use Rattle.code_runs.proofs.Laws.{stands_stay}
 use Rattle.asm6502.proofs.Rounds.{encoding_parts}
 use Rattle.asm6502.proofs.Naming.{kept-append, kept_more, kept_same, size_of-append, place_of-append}
-use Rattle.asm6502.proofs.Sound.{both, encodes, item_length, sound_line, first_parts}
+use Rattle.asm6502.proofs.Sound.{encodes, item_length, sound_line, first_parts}
 use Rattle.asm6502.proofs.Reaches.{branches_reach}
 
 -- ---- from bytes
@@ -49,7 +50,7 @@ back_stands at pc n front back e s = record {
 
 -- what is read as the operand, where the operand bytes stand
 abbrev pub read_as : Mode → ℕ → ℕ → ℕ
-read_as mode pc n = if is_relative mode then (pc + 2 + displacement n) % 65536 else n
+read_as mode pc n = if is_relative mode then (pc + 2 + displacement n) % MEMORY_SIZE else n
 
 none_at : (n : ℕ) (following : List ℕ) (z : Bool) → nat_eq n 0 ≡ z → (if z then Some [] else None) ≡ Some following →
     0 ≡ n
@@ -57,30 +58,30 @@ none_at n following true e h = sym (eqb-true n 0 e)
 none_at n following false e h = absurd (cc)
 
 byte_at : (at : ℕ → ℕ) (pc n : ℕ) (following : List ℕ) (z : Bool) →
-    (if z then Some (n ∷ []) else None) ≡ Some following → BytesStand at (pc + 1) following → pc + 2 ≤ 65536 →
-    at ((pc + 1) % 65536) ≡ n
+    (if z then Some (n ∷ []) else None) ≡ Some following → BytesStand at (pc + 1) following → pc + 2 ≤ MEMORY_SIZE →
+    at ((pc + 1) % MEMORY_SIZE) ≡ n
 byte_at at pc n following true h s l =
     let b : following ≡ n ∷ [] = cc in
-    let i : (pc + 1) % 65536 ≡ pc + 1 + 0 = omega arith in
+    let i : (pc + 1) % MEMORY_SIZE ≡ pc + 1 + 0 = omega arith in
     ap at i ∙ (subst (λ (bs : List ℕ). BytesStand at (pc + 1) bs) b s).byte 0 (omega arith)
 byte_at at pc n following false h s l = absurd (cc)
 
 word_is_at : (at : ℕ → ℕ) (pc n : ℕ) (following : List ℕ) → Some (n % 256 ∷ n / 256 ∷ []) ≡ Some following →
-    BytesStand at (pc + 1) following → pc + 3 ≤ 65536 → word_at at ((pc + 1) % 65536) ≡ n
+    BytesStand at (pc + 1) following → pc + 3 ≤ MEMORY_SIZE → word_at at ((pc + 1) % MEMORY_SIZE) ≡ n
 word_is_at at pc n following h s l =
     let b : following ≡ n % 256 ∷ n / 256 ∷ [] = cc in
     let t = subst (λ (bs : List ℕ). BytesStand at (pc + 1) bs) b s in
-    let i : (pc + 1) % 65536 ≡ pc + 1 + 0 = omega arith in
-    let j : ((pc + 1) % 65536 + 1) % 65536 ≡ pc + 1 + 1 = omega arith in
-    let low : at ((pc + 1) % 65536) ≡ n % 256 = ap at i ∙ t.byte 0 (omega arith) in
-    let high : at (((pc + 1) % 65536 + 1) % 65536) ≡ n / 256 = ap at j ∙ t.byte 1 (omega arith) in
-    joined (at ((pc + 1) % 65536)) (at (((pc + 1) % 65536 + 1) % 65536)) n low high
+    let i : (pc + 1) % MEMORY_SIZE ≡ pc + 1 + 0 = omega arith in
+    let j : ((pc + 1) % MEMORY_SIZE + 1) % MEMORY_SIZE ≡ pc + 1 + 1 = omega arith in
+    let low : at ((pc + 1) % MEMORY_SIZE) ≡ n % 256 = ap at i ∙ t.byte 0 (omega arith) in
+    let high : at (((pc + 1) % MEMORY_SIZE + 1) % MEMORY_SIZE) ≡ n / 256 = ap at j ∙ t.byte 1 (omega arith) in
+    joined (at ((pc + 1) % MEMORY_SIZE)) (at (((pc + 1) % MEMORY_SIZE + 1) % MEMORY_SIZE)) n low high
   where
     joined : (a b n : ℕ) → a ≡ n % 256 → b ≡ n / 256 → a + 256 * b ≡ n
     joined a b n e f = omega arith
 
 read_operand : (at : ℕ → ℕ) (pc n : ℕ) (mode : Mode) (following : List ℕ) → operand_bytes mode n ≡ Some following →
-    BytesStand at (pc + 1) following → pc + length_of mode ≤ 65536 → operand_at mode at pc ≡ read_as mode pc n
+    BytesStand at (pc + 1) following → pc + length_of mode ≤ MEMORY_SIZE → operand_at mode at pc ≡ read_as mode pc n
 read_operand at pc n Implied following h s l = none_at n following (nat_eq n 0) refl h
 read_operand at pc n Accumulator following h s l = none_at n following (nat_eq n 0) refl h
 read_operand at pc n Immediate following h s l = byte_at at pc n following (nat_lt n 256) h s l
@@ -90,22 +91,23 @@ read_operand at pc n ZeroPageY following h s l = byte_at at pc n following (nat_
 read_operand at pc n IndirectX following h s l = byte_at at pc n following (nat_lt n 256) h s l
 read_operand at pc n IndirectY following h s l = byte_at at pc n following (nat_lt n 256) h s l
 read_operand at pc n Relative following h s l =
-    ap (λ (d : ℕ). (pc + 2 + displacement d) % 65536) (byte_at at pc n following (nat_lt n 256) h s l)
+    ap (λ (d : ℕ). (pc + 2 + displacement d) % MEMORY_SIZE) (byte_at at pc n following (nat_lt n 256) h s l)
 read_operand at pc n Absolute following h s l = word_is_at at pc n following h s l
 read_operand at pc n AbsoluteX following h s l = word_is_at at pc n following h s l
 read_operand at pc n AbsoluteY following h s l = word_is_at at pc n following h s l
 read_operand at pc n Indirect following h s l = word_is_at at pc n following h s l
 
 -- the number that an operand names is the one that is read
-reached : (pc target : ℕ) (o : Option ℕ) → branch_byte pc target ≡ o → pc ≤ 65536 → target < 65536 →
-    not (is_some o) ≡ false → (pc + 2 + displacement (unwrap_or o 0)) % 65536 ≡ target
+reached : (pc target : ℕ) (o : Option ℕ) → branch_byte pc target ≡ o → pc ≤ MEMORY_SIZE → target < MEMORY_SIZE →
+    not (is_some o) ≡ false → (pc + 2 + displacement (unwrap_or o 0)) % MEMORY_SIZE ≡ target
 reached pc target None e l t h = absurd (cc)
 reached pc target (Some b) e l t h = (branches_reach pc target b l t e).1
 
-named_label : (address : ℕ → ℕ) (pc l d : ℕ) (mode : Mode) → pc ≤ 65536 → is_far address pc mode (Label l d) ≡ false →
+named_label : (address : ℕ → ℕ) (pc l d : ℕ) (mode : Mode) → pc ≤ MEMORY_SIZE →
+    is_far address pc mode (Label l d) ≡ false →
     read_as mode pc (operand_of address pc mode (Label l d)) ≡ number_of address pc mode (Label l d)
 named_label address pc l d Relative k f =
-    reached pc ((address l + d) % 65536) (branch_byte pc ((address l + d) % 65536)) refl k (omega arith) f
+    reached pc ((address l + d) % MEMORY_SIZE) (branch_byte pc ((address l + d) % MEMORY_SIZE)) refl k (omega arith) f
 named_label address pc l d _ k f = refl
 
 named_nothing : (pc : ℕ) (mode : Mode) → nat_eq (length_of mode) 1 ≡ true → read_as mode pc 0 ≡ 0
@@ -116,17 +118,17 @@ named_byte : (pc n : ℕ) (mode : Mode) → suits mode (Low 0 0) ≡ true → re
 named_byte pc n Relative h = absurd (cc)
 named_byte pc n _ h = refl
 
-named : (address : ℕ → ℕ) (pc : ℕ) (mode : Mode) (x : Operand) → pc ≤ 65536 → suits mode x ≡ true →
+named : (address : ℕ → ℕ) (pc : ℕ) (mode : Mode) (x : Operand) → pc ≤ MEMORY_SIZE → suits mode x ≡ true →
     is_far address pc mode x ≡ false → read_as mode pc (operand_of address pc mode x) ≡ number_of address pc mode x
 named address pc mode Nothing k h f = named_nothing pc mode h
 named address pc mode (Number n) k h f = refl
 named address pc mode (Label l d) k h f = named_label address pc l d mode k f
-named address pc mode (Low l d) k h f = named_byte pc ((address l + d) % 65536 % 256) mode h
-named address pc mode (High l d) k h f = named_byte pc ((address l + d) % 65536 / 256) mode h
+named address pc mode (Low l d) k h f = named_byte pc ((address l + d) % MEMORY_SIZE % 256) mode h
+named address pc mode (High l d) k h f = named_byte pc ((address l + d) % MEMORY_SIZE / 256) mode h
 
 -- an instruction stands where its bytes do
 code_stands : OpcodesHaveRows → (address at : ℕ → ℕ) (pc : ℕ) (mn : Mnemonic) (mode : Mode) (x : Operand) →
-    is_sound (Code mn mode x) ≡ true → is_far address pc mode x ≡ false → pc + length_of mode ≤ 65536 →
+    is_sound (Code mn mode x) ≡ true → is_far address pc mode x ≡ false → pc + length_of mode ≤ MEMORY_SIZE →
     BytesStand at pc (item_bytes address pc (Code mn mode x)) → Stands at pc mn mode (number_of address pc mode x)
 code_stands rows address at pc mn mode x h f l s =
     let e = encodes address pc mn mode x h in
@@ -138,7 +140,7 @@ code_stands rows address at pc mn mode x h f l s =
     let i : pc ≡ pc + 0 = omega arith in
     let first : at pc ≡ p.opcode = ap at i ∙ t.byte 0 (omega arith) in
     let rest = back_stands at pc 1 (p.opcode ∷ []) p.following refl t in
-    let suit = (both (is_some (opcode_of mn mode)) (suits mode x) h).1 in
+    let suit = (and_parts (is_some (opcode_of mn mode)) (suits mode x) h).1 in
     record {
       decoded = ap meaning_of first ∙ rows mn mode p.opcode p.row;
       operand_is = read_operand at pc (operand_of address pc mode x) mode p.following p.operand rest l
@@ -147,8 +149,8 @@ code_stands rows address at pc mn mode x h f l s =
 
 -- an item stands where its bytes do, and its label has this address
 item_stands : OpcodesHaveRows → (address at : ℕ → ℕ) (pc : ℕ) (item : Item) → is_sound item ≡ true →
-    is_far_item address pc item ≡ false → ((l : ℕ) → item ≡ Named l → address l ≡ pc) → pc + item_size item ≤ 65536 →
-    BytesStand at pc (item_bytes address pc item) → ItemAt address at pc item
+    is_far_item address pc item ≡ false → ((l : ℕ) → item ≡ Named l → address l ≡ pc) →
+    pc + item_size item ≤ MEMORY_SIZE → BytesStand at pc (item_bytes address pc item) → ItemAt address at pc item
 item_stands rows address at pc (Named l) h f n k s = n l refl
 item_stands rows address at pc (Code mn mode x) h f n k s = code_stands rows address at pc mn mode x h f k s
 item_stands rows address at pc (Bytes bs) h f n k s = s
@@ -218,15 +220,15 @@ all_split set lines before x rest e k =
     ∙ ap (λ (z : Bool). kept set before ++ (if z then x ∷ kept set rest else kept set rest)) k
 
 size_split : (set origin : ℕ) (lines before : List Line) (x : Line) (rest : List Line) →
-    lines ≡ before ++ (x ∷ rest) → is_kept set x ≡ true → origin + size_of (kept set lines) ≤ 65536 →
-    origin + size_of (kept set before) + item_size x.item ≤ 65536
+    lines ≡ before ++ (x ∷ rest) → is_kept set x ≡ true → origin + size_of (kept set lines) ≤ MEMORY_SIZE →
+    origin + size_of (kept set before) + item_size x.item ≤ MEMORY_SIZE
 size_split set origin lines before x rest e k l =
     let s : size_of (kept set lines) ≡ size_of (kept set before) + (item_size x.item + size_of (kept set rest)) =
     ap size_of (all_split set lines before x rest e k) ∙ size_of-append (kept set before) (x ∷ kept set rest) in
     omega arith
 
 pub lines_stand : OpcodesHaveRows → (set origin : ℕ) (at : ℕ → ℕ) (lines rest before : List Line) →
-    lines ≡ before ++ rest → origin + size_of (kept set lines) ≤ 65536 →
+    lines ≡ before ++ rest → origin + size_of (kept set lines) ≤ MEMORY_SIZE →
     NothingWrong set origin (address_in (kept set lines) origin) before rest →
     BytesStand at (origin + size_of (kept set before))
     (bytes_of (address_in (kept set lines) origin) (origin + size_of (kept set before)) (kept set rest)) →
@@ -299,7 +301,7 @@ both_stand address at pc (x ∷ front) back s t =
           (subst (λ (p : ℕ). LinesAt address at p back) e t),
     )
 
-item_stays : (address at at' : ℕ → ℕ) (pc : ℕ) (item : Item) → pc + item_size item ≤ 65536 →
+item_stays : (address at at' : ℕ → ℕ) (pc : ℕ) (item : Item) → pc + item_size item ≤ MEMORY_SIZE →
     ((place : ℕ) → pc ≤ place → place < pc + item_size item → at' place ≡ at place) → ItemAt address at pc item →
     ItemAt address at' pc item
 item_stays address at at' pc (Named l) k same s = s
@@ -309,7 +311,7 @@ item_stays address at at' pc (Code mn mode x) k same s =
 item_stays address at at' pc (Bytes bs) k same s =
     record { byte = λ i l. same (pc + i) (omega arith) (omega arith) ∙ s.byte i l }
 
-pub lines_stay : (address at at' : ℕ → ℕ) (pc : ℕ) (lines : List Line) → pc + size_of lines ≤ 65536 →
+pub lines_stay : (address at at' : ℕ → ℕ) (pc : ℕ) (lines : List Line) → pc + size_of lines ≤ MEMORY_SIZE →
     ((place : ℕ) → pc ≤ place → place < pc + size_of lines → at' place ≡ at place) → LinesAt address at pc lines →
     LinesAt address at' pc lines
 lines_stay address at at' pc [] k same s = tt

@@ -1,5 +1,5 @@
 -- A stretch of lines stands where its bytes do, whatever else the memory holds.
-use Rattle.std.proofs.Common.{◌≡◌, ℕ, ◌+◌, ◌-◌, ◌<◌, ◌≤◌, List, ◌++◌, None, refl, ap, sym, ◌∙◌, subst, arith}
+use Rattle.std.proofs.Common.{◌≡◌, ℕ, ◌+◌, ◌-◌, ◌<◌, ◌≤◌, List, ◌++◌, None, ap, ◌∙◌, subst, arith}
 use Rattle.std.specs.Prelude.{slice_index}
 use Rattle.cpu6502.specs.Encoding.{OpcodesHaveRows}
 use Rattle.asm6502.specs.declared.lines.Line.{Line}

@@ -3,6 +3,7 @@ use Rattle.std.proofs.Common.{◌≡◌, ℕ, ◌+◌, ◌≤◌, Bool, true, fa
 use mathlib.Core.Path.{fun_ext}
 use Rattle.std.specs.Option.{option_or, is_some}
 use Rattle.std.proofs.lemmas.Bool.{le-ltb, ltb-false}
+use Rattle.cpu6502.specs.declared.memory.TheConstants.{MEMORY_SIZE}
 use Rattle.cpu6502.specs.Encoding.{OpcodesHaveRows}
 use Rattle.asm6502.specs.declared.lines.Operand.TheVariants.{Nothing, Number, Label, Low, High}
 use Rattle.asm6502.specs.declared.lines.Item.{Item}
@@ -34,12 +35,13 @@ pub record NoFault (set origin : ℕ) (lines : List Line) : Type 0 where
   pub bad : first_fault (bad_line set) [] lines ≡ None
   pub double : first_fault (double_label set) [] lines ≡ None
   pub unknown : first_fault (unknown_label set lines) [] lines ≡ None
-  pub fits : origin + size_of (kept set lines) ≤ 65536
+  pub fits : origin + size_of (kept set lines) ≤ MEMORY_SIZE
   pub near : first_fault (far_branch set origin lines) [] lines ≡ None
 
-within : (n size : ℕ) (z : Bool) → nat_lt 65536 n ≡ z → (if z then Some (PastEnd size) else None) ≡ None → n ≤ 65536
+within : (n size : ℕ) (z : Bool) → nat_lt MEMORY_SIZE n ≡ z → (if z then Some (PastEnd size) else None) ≡ None →
+    n ≤ MEMORY_SIZE
 within n size true e h = absurd (cc)
-within n size false e h = ltb-false 65536 n e
+within n size false e h = ltb-false MEMORY_SIZE n e
 
 pub no_fault : (set origin : ℕ) (lines : List Line) → fault_of set origin lines ≡ None → NoFault set origin lines
 no_fault set origin lines h =
@@ -53,15 +55,15 @@ no_fault set origin lines h =
       unknown = c.0;
       fits =
           within (origin + size_of (kept set lines)) (size_of (kept set lines))
-          (nat_lt 65536 (origin + size_of (kept set lines))) refl d.0;
+          (nat_lt MEMORY_SIZE (origin + size_of (kept set lines))) refl d.0;
       near = d.1;
     }
 
-end_none : (set origin : ℕ) (lines : List Line) → origin + size_of (kept set lines) ≤ 65536 →
+end_none : (set origin : ℕ) (lines : List Line) → origin + size_of (kept set lines) ≤ MEMORY_SIZE →
     past_end set origin lines ≡ None
 end_none set origin lines l =
-    let t : nat_lt 65536 (origin + size_of (kept set lines)) ≡ false =
-    le-ltb 65536 (origin + size_of (kept set lines)) l in
+    let t : nat_lt MEMORY_SIZE (origin + size_of (kept set lines)) ≡ false =
+    le-ltb MEMORY_SIZE (origin + size_of (kept set lines)) l in
     rw t refl
 
 pub fault_none : (set origin : ℕ) (lines : List Line) → NoFault set origin lines → fault_of set origin lines ≡ None
@@ -76,11 +78,11 @@ fault_none set origin lines n =
 pub fault_end : (set origin : ℕ) (lines : List Line) (size : ℕ) (fault : AsmFault) →
     first_fault (bad_line set) [] lines ≡ None → first_fault (double_label set) [] lines ≡ None →
     first_fault (unknown_label set lines) [] lines ≡ None → size ≡ size_of (kept set lines) →
-    (if nat_lt 65536 (origin + size) then Some (PastEnd size) else None) ≡ Some fault →
+    (if nat_lt MEMORY_SIZE (origin + size) then Some (PastEnd size) else None) ≡ Some fault →
     fault_of set origin lines ≡ Some fault
 fault_end set origin lines size fault a b c s e =
     let d : past_end set origin lines ≡ Some fault =
-    ap (λ (n : ℕ). if nat_lt 65536 (origin + n) then Some (PastEnd n) else None) (sym s) ∙ e in
+    ap (λ (n : ℕ). if nat_lt MEMORY_SIZE (origin + n) then Some (PastEnd n) else None) (sym s) ∙ e in
     rw (a, b, c, d) refl
 
 -- ---- addresses by the table
@@ -92,7 +94,7 @@ by_table labels lines origin has =
 
 pub fault_far : (labels : Labels) (set origin : ℕ) (lines : List Line) (fault : AsmFault) →
     first_fault (bad_line set) [] lines ≡ None → first_fault (double_label set) [] lines ≡ None →
-    first_fault (unknown_label set lines) [] lines ≡ None → origin + size_of (kept set lines) ≤ 65536 →
+    first_fault (unknown_label set lines) [] lines ≡ None → origin + size_of (kept set lines) ≤ MEMORY_SIZE →
     HasPlaces labels (kept set lines) → first_fault (far_by (address_by labels origin) set origin) [] lines ≡ Some
     fault → fault_of set origin lines ≡ Some fault
 fault_far labels set origin lines fault a b c l has f =
@@ -109,7 +111,7 @@ shifted : (lines : List Line) (origin other : ℕ) →
 shifted lines origin other = record { here = λ label. omega arith; there = λ label. omega arith }
 
 far_item : (origin other at : ℕ) (address address' place : ℕ → ℕ) (item : Item) →
-    AreShifted origin other address address' place → origin + at ≤ 65536 → other + at ≤ 65536 →
+    AreShifted origin other address address' place → origin + at ≤ MEMORY_SIZE → other + at ≤ MEMORY_SIZE →
     is_far_item address (origin + at) item ≡ is_far_item address' (other + at) item
 far_item origin other at address address' place (Named l) s h k = refl
 far_item origin other at address address' place (Bytes bs) s h k = refl
@@ -123,7 +125,7 @@ far_item origin other at address address' place (Code mn mode (Label l d)) s h k
 
 far_shifts : (set origin other : ℕ) (address address' place : ℕ → ℕ) →
     AreShifted origin other address address' place → (lines before rest : List Line) → lines ≡ before ++ rest →
-    origin + size_of (kept set lines) ≤ 65536 → other + size_of (kept set lines) ≤ 65536 →
+    origin + size_of (kept set lines) ≤ MEMORY_SIZE → other + size_of (kept set lines) ≤ MEMORY_SIZE →
     first_fault (far_by address set origin) before rest ≡ first_fault (far_by address' set other) before rest
 far_shifts set origin other address address' place s lines before [] e l m = refl
 far_shifts set origin other address address' place s lines before (x ∷ rest) e l m =
@@ -139,7 +141,7 @@ far_shifts set origin other address address' place s lines before (x ∷ rest) e
     (far_shifts set origin other address address' place s lines (before ++ x ∷ []) rest split l m)
 
 pub no_fault_there : (set origin other : ℕ) (lines : List Line) → NoFault set origin lines →
-    other + size_of (kept set lines) ≤ 65536 → NoFault set other lines
+    other + size_of (kept set lines) ≤ MEMORY_SIZE → NoFault set other lines
 no_fault_there set origin other lines n m = record {
   bad = n.bad;
   double = n.double;
@@ -151,7 +153,7 @@ no_fault_there set origin other lines n m = record {
 
 -- the bytes with the numbers of another origin are the bytes assembled there
 pub bytes_move : (set origin other : ℕ) (lines : List Line) → NoFault set origin lines →
-    other + size_of (kept set lines) ≤ 65536 →
+    other + size_of (kept set lines) ≤ MEMORY_SIZE →
     with_numbers other (assembled_bytes set origin lines) (assembled_fixes set lines) ≡ assembled_bytes set other
     lines
 bytes_move set origin other lines n m =
@@ -172,20 +174,20 @@ pub record Done (set origin : ℕ) (lines : List Line) (bytes : List ℕ) (fixes
   pub bytes_are : bytes ≡ assembled_bytes set origin lines
   pub fixes_are : fixes ≡ assembled_fixes set lines
   pub size : length bytes ≡ size_of (kept set lines)
-  pub fits : origin + length bytes ≤ 65536
+  pub fits : origin + length bytes ≤ MEMORY_SIZE
   pub in_order : InOrder 0 (length bytes) fixes
   pub stand : NumbersStand origin bytes fixes
 
 pub done : (output : Output) (labels : Labels) (set origin : ℕ) (lines : List Line) →
     HasPlaces labels (kept set lines) → first_fault (bad_line set) [] lines ≡ None →
     first_fault (double_label set) [] lines ≡ None → first_fault (unknown_label set lines) [] lines ≡ None →
-    origin + labels.size ≤ 65536 → IsWritten output labels set origin lines →
+    origin + labels.size ≤ MEMORY_SIZE → IsWritten output labels set origin lines →
     first_fault (far_by (address_by labels origin) set origin) [] lines ≡ None →
     Done set origin lines output.bytes output.fixes
 done output labels set origin lines has bad double unknown end w near =
     let total = has.size in
     let size = w.size in
-    let fits : origin + size_of (kept set lines) ≤ 65536 = omega arith in
+    let fits : origin + size_of (kept set lines) ≤ MEMORY_SIZE = omega arith in
     let nothing : NoFault set origin lines = record {
       bad = bad;
       double = double;
@@ -228,7 +230,7 @@ moved_is set origin other lines old moved n bytes fixes size m =
     let at = m.origin_is in
     let stays = m.size_stays in
     let fits = moved.fits in
-    let there : other + size_of (kept set lines) ≤ 65536 = omega arith in (
+    let there : other + size_of (kept set lines) ≤ MEMORY_SIZE = omega arith in (
       record {
         origin_is = m.origin_is;
         bytes_are = m.bytes_are ∙ ap (λ (bs : List ℕ). with_numbers other bs old.fixes) bytes
@@ -265,7 +267,7 @@ stand_as_written rows set origin lines bytes n e at s =
 pub done_from : (output : Output) (labels : Labels) (set origin size : ℕ) (given lines : List Line) → given ≡ lines →
     HasPlaces labels (kept set given) → first_fault (bad_line set) [] given ≡ None →
     first_fault (double_label set) [] given ≡ None → first_fault (unknown_label set given) [] given ≡ None →
-    size ≡ labels.size → origin + size ≤ 65536 → IsWritten output labels set origin given →
+    size ≡ labels.size → origin + size ≤ MEMORY_SIZE → IsWritten output labels set origin given →
     first_fault (far_by (address_by labels origin) set origin) [] given ≡ None →
     Done set origin lines output.bytes output.fixes
 done_from output labels set origin size given lines e has bad double unknown s end w near =
@@ -275,7 +277,7 @@ done_from output labels set origin size given lines e has bad double unknown s e
 pub far_found : (labels : Labels) (set origin size : ℕ) (given lines : List Line) (fault found : AsmFault) →
     given ≡ lines → HasPlaces labels (kept set given) → first_fault (bad_line set) [] given ≡ None →
     first_fault (double_label set) [] given ≡ None → first_fault (unknown_label set given) [] given ≡ None →
-    size ≡ labels.size → origin + size ≤ 65536 → fault ≡ found →
+    size ≡ labels.size → origin + size ≤ MEMORY_SIZE → fault ≡ found →
     (found ≡ NoMemory) ⊎ (first_fault (far_by (address_by labels origin) set origin) [] given ≡ Some found) →
     (fault ≡ NoMemory) ⊎ (fault_of set origin lines ≡ Some fault)
 far_found labels set origin size given lines fault found e has bad double unknown s end same (inl none) =

@@ -4,6 +4,7 @@ use Rattle.std.proofs.lemmas.List.{append-nil, take-append-drop}
 use Rattle.cpu6502.specs.declared.mnemonic.Mnemonic.{Mnemonic}
 use Rattle.cpu6502.specs.declared.mnemonic.Mode.{Mode}
 use Rattle.asm6502.specs.declared.lines.Operand.{Operand}
+use Rattle.asm6502.specs.declared.lines.Item.{Item}
 use Rattle.asm6502.specs.declared.lines.Item.TheVariants.{Code}
 use Rattle.asm6502.specs.Instructions.{encoding}
 use Rattle.asm6502.specs.Operands.{operand_of}
@@ -13,33 +14,24 @@ use Rattle.asm6502.specs.declared.labels.Labels.{Labels}
 use Rattle.asm6502.specs.declared.output.Output.{Output}
 use Rattle.asm6502.specs.declared.faults.AsmFault.TheVariants.{BranchTooFar}
 use Rattle.asm6502.specs.Lines.{is_kept, kept, item_size, size_of, is_sound}
-use Rattle.asm6502.specs.Assembly.{instr_at, item_bytes, bytes_of, item_fixes, fixes_of}
+use Rattle.asm6502.specs.Assembly.{instr_at, item_bytes, along, bytes_of, item_fixes, fixes_of}
 use Rattle.asm6502.specs.Faults.{is_far_item, far_by}
 use Rattle.asm6502.specs.Places.{IsWritten, address_by}
 use Rattle.asm6502.proofs.Naming.{kept-append, kept_more, size_of-append}
 use Rattle.asm6502.proofs.Sound.{item_length}
 
-pub bytes_of-append : (address : ℕ → ℕ) (pc : ℕ) (front back : List Line) →
-    bytes_of address pc (front ++ back) ≡ bytes_of address pc front ++ bytes_of address (pc + size_of front) back
-bytes_of-append address pc [] back = let z : pc ≡ pc + 0 = omega arith in ap (λ (p : ℕ). bytes_of address p back) z
-bytes_of-append address pc (x ∷ front) back =
-    let z : pc + item_size x.item + size_of front ≡ pc + (item_size x.item + size_of front) = omega arith in
-    ap (λ (bs : List ℕ). item_bytes address pc x.item ++ bs)
-    (bytes_of-append address (pc + item_size x.item) front back
-    ∙ ap (λ (p : ℕ). bytes_of address (pc + item_size x.item) front ++ bytes_of address p back) z)
-    ∙ sym (append_assoc (item_bytes address pc x.item) (bytes_of address (pc + item_size x.item) front)
-    (bytes_of address (pc + (item_size x.item + size_of front)) back))
-
-pub fixes_of-append : (place : ℕ → ℕ) (at : ℕ) (front back : List Line) →
-    fixes_of place at (front ++ back) ≡ fixes_of place at front ++ fixes_of place (at + size_of front) back
-fixes_of-append place at [] back = let z : at ≡ at + 0 = omega arith in ap (λ (p : ℕ). fixes_of place p back) z
-fixes_of-append place at (x ∷ front) back =
-    let z : at + item_size x.item + size_of front ≡ at + (item_size x.item + size_of front) = omega arith in
-    ap (λ (fs : List Fix). item_fixes place at x.item ++ fs)
-    (fixes_of-append place (at + item_size x.item) front back
-    ∙ ap (λ (p : ℕ). fixes_of place (at + item_size x.item) front ++ fixes_of place p back) z)
-    ∙ sym (append_assoc (item_fixes place at x.item) (fixes_of place (at + item_size x.item) front)
-    (fixes_of place (at + (item_size x.item + size_of front)) back))
+-- what two lists of lines give, one after the other
+pub along-append : {X : Type 0} (given : ℕ → Item → List X) (place : ℕ) (front back : List Line) →
+    along given place (front ++ back) ≡ along given place front ++ along given (place + size_of front) back
+along-append given place [] back =
+    let z : place ≡ place + 0 = omega arith in ap (λ (p : ℕ). along given p back) z
+along-append {X} given place (x ∷ front) back =
+    let z : place + item_size x.item + size_of front ≡ place + (item_size x.item + size_of front) = omega arith in
+    ap (λ (xs : List X). given place x.item ++ xs)
+    (along-append given (place + item_size x.item) front back
+    ∙ ap (λ (p : ℕ). along given (place + item_size x.item) front ++ along given p back) z)
+    ∙ sym (append_assoc (given place x.item) (along given (place + item_size x.item) front)
+    (along given (place + (item_size x.item + size_of front)) back))
 
 -- the kept lines at the front take no more than all of them
 pub front_size-le : (set : ℕ) (lines : List Line) (k : ℕ) →
@@ -60,7 +52,7 @@ one_bytes address origin lines line old new b s n =
     ∙ ap (λ (bs : List ℕ). bs ++ item_bytes address (origin + size_of lines) line.item) b
     ∙ ap (λ (bs : List ℕ). bytes_of address origin lines ++ bs)
     (sym (append-nil (item_bytes address (origin + size_of lines) line.item)))
-    ∙ sym (bytes_of-append address origin lines (line ∷ []))
+    ∙ sym (along-append (item_bytes address) origin lines (line ∷ []))
 
 one_fixes : (place : ℕ → ℕ) (lines : List Line) (line : Line) (old new : List Fix) (size : ℕ) →
     old ≡ fixes_of place 0 lines → size ≡ size_of lines → new ≡ old ++ item_fixes place size line.item →
@@ -71,7 +63,7 @@ one_fixes place lines line old new size b s n =
     ∙ ap (λ (fs : List Fix). fs ++ item_fixes place (0 + size_of lines) line.item) b
     ∙ ap (λ (fs : List Fix). fixes_of place 0 lines ++ fs)
     (sym (append-nil (item_fixes place (0 + size_of lines) line.item)))
-    ∙ sym (fixes_of-append place 0 lines (line ∷ []))
+    ∙ sym (along-append (item_fixes place) 0 lines (line ∷ []))
 
 one_size : (address : ℕ → ℕ) (pc : ℕ) (lines : List Line) (line : Line) (old new : List ℕ) →
     is_sound line.item ≡ true → length old ≡ size_of lines → new ≡ old ++ item_bytes address pc line.item →

@@ -25,11 +25,14 @@ item_bytes address pc (Code mnemonic mode operand) =
     unwrap_or (encoding (instr_at address pc mnemonic mode operand)) []
 item_bytes address pc (Bytes bytes) = bytes
 
+-- what items give by the place at which their bytes begin, in lines that stand one after the other from a place on
+abbrev pub along : {X : Type 0} → (ℕ → Item → List X) → ℕ → List Line → List X
+along given place [] = []
+along given place (line ∷ rest) = given place line.item ++ along given (place + item_size line.item) rest
+
 -- the bytes of lines that stand one after the other from pc on
 abbrev pub bytes_of : (ℕ → ℕ) → ℕ → List Line → List ℕ
-bytes_of address pc [] = []
-bytes_of address pc (line ∷ rest) =
-    item_bytes address pc line.item ++ bytes_of address (pc + item_size line.item) rest
+bytes_of address = along (item_bytes address)
 
 -- what is to be fixed in an item whose bytes begin at a place
 abbrev pub item_fixes : (ℕ → ℕ) → ℕ → Item → List Fix
@@ -38,8 +41,7 @@ item_fixes place at _ = []
 
 -- what is to be fixed in lines whose bytes begin at a place
 abbrev pub fixes_of : (ℕ → ℕ) → ℕ → List Line → List Fix
-fixes_of place at [] = []
-fixes_of place at (line ∷ rest) = item_fixes place at line.item ++ fixes_of place (at + item_size line.item) rest
+fixes_of place = along (item_fixes place)
 
 -- the bytes of a listing that is assembled at an origin with a set, and its fixes, which no origin changes
 abbrev pub assembled_bytes : ℕ → ℕ → List Line → List ℕ

@@ -2,6 +2,7 @@
 -- This is the assembler's own profile.
 use Rattle.std.specs.Prelude.{◌≡◌, ℕ, ◌+◌, ◌&&◌, ◌||◌, Bool, false, List, [], ◌∷◌, ◌++◌, length, Option, Some, None, nat_lt, not, if◌then◌else◌}
 use Rattle.std.specs.Option.{option_or, option_and_then, is_some}
+use Rattle.cpu6502.specs.declared.memory.TheConstants.{MEMORY_SIZE}
 use Rattle.asm6502.specs.declared.lines.Item.{Item}
 use Rattle.asm6502.specs.declared.lines.Item.TheVariants.{Code}
 use Rattle.asm6502.specs.declared.lines.Line.{Line}
@@ -44,7 +45,7 @@ unknown_label set lines before line = if is_kept set line then unknown_in (kept 
 -- the kept lines don't fit after the origin
 abbrev pub past_end : ℕ → ℕ → List Line → Option AsmFault
 past_end set origin lines =
-    if nat_lt 65536 (origin + size_of (kept set lines)) then Some (PastEnd (size_of (kept set lines))) else None
+    if nat_lt MEMORY_SIZE (origin + size_of (kept set lines)) then Some (PastEnd (size_of (kept set lines))) else None
 
 -- an instruction at pc is a branch to a label that it doesn't reach
 abbrev pub is_far_item : (ℕ → ℕ) → ℕ → Item → Bool

@@ -3,6 +3,7 @@
 use Rattle.std.specs.Prelude.{◌≡◌, ℕ, ◌+◌, ◌/◌, ◌%◌, ◌<◌, ◌≤◌, ◌⊎◌, List, [], ◌∷◌, length, slice_index, slice_set, ⊤, if◌then◌else◌}
 use Rattle.std.specs.Coded.{×_prop, Unit-prop, le_prop}
 use Rattle.std.proofs.Math.Nat.{ℕ_set}
+use Rattle.cpu6502.specs.declared.memory.TheConstants.{MEMORY_SIZE}
 use Rattle.cpu6502.specs.declared.mnemonic.Mode.{Mode}
 use Rattle.asm6502.specs.declared.lines.Operand.{Operand}
 use Rattle.asm6502.specs.declared.lines.Operand.TheVariants.{Nothing, Number, Label, Low as LowOf, High as HighOf}
@@ -17,11 +18,11 @@ abbrev pub operand_fixes : (ℕ → ℕ) → ℕ → Mode → Operand → List F
 operand_fixes place at mode Nothing = []
 operand_fixes place at mode (Number number) = []
 operand_fixes place at mode (Label label offset) =
-    if is_relative mode then [] else record { at = at; kind = Word; to = (place label + offset) % 65536 } ∷ []
+    if is_relative mode then [] else record { at = at; kind = Word; to = (place label + offset) % MEMORY_SIZE } ∷ []
 operand_fixes place at mode (LowOf label offset) =
-    record { at = at; kind = Low; to = (place label + offset) % 65536 } ∷ []
+    record { at = at; kind = Low; to = (place label + offset) % MEMORY_SIZE } ∷ []
 operand_fixes place at mode (HighOf label offset) =
-    record { at = at; kind = High; to = (place label + offset) % 65536 } ∷ []
+    record { at = at; kind = High; to = (place label + offset) % MEMORY_SIZE } ∷ []
 
 -- the bytes that a number takes
 abbrev pub width_of : FixKind → ℕ
@@ -52,13 +53,13 @@ InOrder low length (fix ∷ rest) =
 abbrev pub NumbersStand : ℕ → List ℕ → List Fix → Type 0
 NumbersStand origin bytes [] = ⊤
 NumbersStand origin bytes (fix ∷ rest) =
-    NumberStands fix.kind bytes fix.at ((origin + fix.to) % 65536) × NumbersStand origin bytes rest
+    NumberStands fix.kind bytes fix.at ((origin + fix.to) % MEMORY_SIZE) × NumbersStand origin bytes rest
 
 -- the bytes with the number of each fix put at its place
 abbrev pub with_numbers : ℕ → List ℕ → List Fix → List ℕ
 with_numbers origin bytes [] = bytes
 with_numbers origin bytes (fix ∷ rest) =
-    with_numbers origin (with_number fix.kind bytes fix.at ((origin + fix.to) % 65536)) rest
+    with_numbers origin (with_number fix.kind bytes fix.at ((origin + fix.to) % MEMORY_SIZE)) rest
 
 -- a place is one of those that some fix takes
 abbrev pub IsFixed : List Fix → ℕ → Type 0
@@ -80,4 +81,5 @@ NumberStands-prop High bytes at number = ℕ_set (slice_index bytes at) (number 
 pub NumbersStand-prop : (origin : ℕ) (bytes : List ℕ) (fixes : List Fix) → IsProp (NumbersStand origin bytes fixes)
 NumbersStand-prop origin bytes [] = Unit-prop
 NumbersStand-prop origin bytes (fix ∷ rest) =
-    ×_prop (NumberStands-prop fix.kind bytes fix.at ((origin + fix.to) % 65536)) (NumbersStand-prop origin bytes rest)
+    ×_prop (NumberStands-prop fix.kind bytes fix.at ((origin + fix.to) % MEMORY_SIZE))
+    (NumbersStand-prop origin bytes rest)

@@ -2,6 +2,7 @@
 -- is the assembler's own profile.
 use Rattle.std.specs.Prelude.{ℕ, ◌+◌, ◌/◌, ◌%◌, ◌&&◌, ◌||◌, Bool, true, false, Option, Some, None, unwrap_or, nat_eq, nat_lt, not, if◌then◌else◌}
 use Rattle.std.specs.Option.{is_some}
+use Rattle.cpu6502.specs.declared.memory.TheConstants.{MEMORY_SIZE}
 use Rattle.cpu6502.specs.declared.mnemonic.Mode.{Mode}
 use Rattle.cpu6502.specs.declared.mnemonic.Mode.TheVariants.{Immediate, Absolute, AbsoluteX, AbsoluteY, Indirect, Relative}
 use Rattle.cpu6502.specs.Opcodes.{length_of}
@@ -51,23 +52,23 @@ label_of _ = None
 abbrev pub number_of : (ℕ → ℕ) → ℕ → Mode → Operand → ℕ
 number_of address pc mode Nothing = 0
 number_of address pc mode (Number number) =
-    if is_relative mode then (pc + 2 + displacement number) % 65536 else number
-number_of address pc mode (Label label offset) = (address label + offset) % 65536
-number_of address pc mode (Low label offset) = (address label + offset) % 65536 % 256
-number_of address pc mode (High label offset) = (address label + offset) % 65536 / 256
+    if is_relative mode then (pc + 2 + displacement number) % MEMORY_SIZE else number
+number_of address pc mode (Label label offset) = (address label + offset) % MEMORY_SIZE
+number_of address pc mode (Low label offset) = (address label + offset) % MEMORY_SIZE % 256
+number_of address pc mode (High label offset) = (address label + offset) % MEMORY_SIZE / 256
 
 -- the same as it stands in the bytes after the opcode: for a branch its displacement byte
 abbrev pub operand_of : (ℕ → ℕ) → ℕ → Mode → Operand → ℕ
 operand_of address pc mode Nothing = 0
 operand_of address pc mode (Number number) = number
 operand_of address pc mode (Label label offset) =
-    if is_relative mode then unwrap_or (branch_byte pc ((address label + offset) % 65536))
-    0 else (address label + offset) % 65536
-operand_of address pc mode (Low label offset) = (address label + offset) % 65536 % 256
-operand_of address pc mode (High label offset) = (address label + offset) % 65536 / 256
+    if is_relative mode then unwrap_or (branch_byte pc ((address label + offset) % MEMORY_SIZE))
+    0 else (address label + offset) % MEMORY_SIZE
+operand_of address pc mode (Low label offset) = (address label + offset) % MEMORY_SIZE % 256
+operand_of address pc mode (High label offset) = (address label + offset) % MEMORY_SIZE / 256
 
 -- whether the operand is a label that a branch at pc doesn't reach
 abbrev pub is_far : (ℕ → ℕ) → ℕ → Mode → Operand → Bool
 is_far address pc mode (Label label offset) =
-    is_relative mode && not (is_some (branch_byte pc ((address label + offset) % 65536)))
+    is_relative mode && not (is_some (branch_byte pc ((address label + offset) % MEMORY_SIZE)))
 is_far address pc mode _ = false

@@ -1,4 +1,5 @@
--- What the two passes over a listing have at hand: the table of labels, and what is written so far.
+-- What the two passes over a listing have at hand: the table of labels, and what the lines before have
+-- given.
 use Rattle.std.specs.Prelude.{◌≡◌, ℕ, ◌+◌, List, length, Option, Some, IsSome, unwrap_or}
 use Rattle.std.specs.Ordering.{nat_cmp}
 use Rattle.std.specs.BTreeMap.{get}

@@ -1,6 +1,7 @@
 -- Lines of a listing that stand in memory, as they are decoded and not as bytes: the form in which a program that was
 -- assembled is reasoned about.
 use Rattle.std.specs.Prelude.{◌≡◌, ℕ, ◌+◌, ◌<◌, ◌≤◌, List, [], ◌∷◌, ◌++◌, length, slice_index, None}
+use Rattle.cpu6502.specs.declared.memory.TheConstants.{MEMORY_SIZE}
 use Rattle.cpu6502.specs.Code.{Holds}
 use Rattle.code_runs.specs.Code.{Stands}
 use Rattle.asm6502.specs.declared.lines.Item.{Item}
@@ -72,6 +73,6 @@ BothStand =
 -- lines stay where their bytes stay
 abbrev pub LinesStay : Type 0
 LinesStay =
-    (address at at' : ℕ → ℕ) (pc : ℕ) (lines : List Line) → pc + size_of lines ≤ 65536 →
+    (address at at' : ℕ → ℕ) (pc : ℕ) (lines : List Line) → pc + size_of lines ≤ MEMORY_SIZE →
     ((place : ℕ) → pc ≤ place → place < pc + size_of lines → at' place ≡ at place) → LinesAt address at pc lines →
     LinesAt address at' pc lines

@@ -2,10 +2,11 @@
 -- in any listing around it. This is the assembler's own profile.
 use Rattle.std.specs.Prelude.{◌≡◌, ℕ, ◌+◌, ◌<◌, ◌≤◌, ◌⊎◌, Bool, IsTrue, true, false, List, [], ◌∷◌, ◌++◌, Option, Some, None, slice_index}
 use Rattle.std.specs.Option.{option_or, option_map}
+use Rattle.cpu6502.specs.declared.memory.TheConstants.{MEMORY_SIZE}
 use Rattle.cpu6502.specs.declared.mnemonic.Mode.TheVariants.{Relative}
 use Rattle.asm6502.specs.declared.lines.Operand.TheVariants.{Label as LabelOf}
 use Rattle.asm6502.specs.declared.lines.Item.{Item}
-use Rattle.asm6502.specs.declared.lines.Item.TheVariants.{Label, Code}
+use Rattle.asm6502.specs.declared.lines.Item.TheVariants.{Code}
 use Rattle.asm6502.specs.declared.lines.Line.{Line}
 use Rattle.asm6502.specs.Lines.{is_kept, kept, size_of, place_of, address_in, label_used, label_named, is_sound, is_no_part}
 use Rattle.asm6502.specs.Assembly.{assembled_bytes}
@@ -41,6 +42,24 @@ pub record NamesNoLabelTwice (lines : List Line) : Type 0 where
   pub once : (front : List Line) (line : Line) (between : List Line) (other : Line) (back : List Line) (label : ℕ) →
       lines ≡ front ++ line ∷ (between ++ other ∷ back) → label_named line.item ≡ Some label →
       label_named other.item ≡ Some label → ⊥
+
+-- no label that one of the front lines names is named by one of the back lines
+pub record NamesOthersThan (front back : List Line) : Type 0 where
+  pub apart : (before : List Line) (line : Line) (after before' : List Line) (other : Line) (after' : List Line)
+      (label : ℕ) → front ≡ before ++ line ∷ after → back ≡ before' ++ other ∷ after' →
+      label_named line.item ≡ Some label → label_named other.item ≡ Some label → ⊥
+
+-- two lists of lines, one after the other, name no label twice where neither does and they name different ones
+abbrev pub NamesAppend : Type 0
+NamesAppend =
+    (front back : List Line) → NamesNoLabelTwice front → NamesNoLabelTwice back → NamesOthersThan front back →
+    NamesNoLabelTwice (front ++ back)
+
+-- and only there
+abbrev pub NamesSplit : Type 0
+NamesSplit =
+    (front back : List Line) → NamesNoLabelTwice (front ++ back) →
+    NamesNoLabelTwice front × NamesNoLabelTwice back × NamesOthersThan front back
 
 -- the address of a label is where the kept line stands that names it
 abbrev pub LabelsStandWhereNamed : Type 0
@@ -141,13 +160,13 @@ StretchesPass =
     (others : ℕ → Bool) (set origin : ℕ) (front stretch back before : List Line) (line : Line) (after : List Line) →
     AtHome others [] stretch [] → NamesNoLabelTwice (front ++ (stretch ++ back)) →
     NamesOthers others (front ++ (stretch ++ back)) →
-    origin + size_of (kept set (front ++ (stretch ++ back))) ≤ 65536 → stretch ≡ before ++ line ∷ after →
+    origin + size_of (kept set (front ++ (stretch ++ back))) ≤ MEMORY_SIZE → stretch ≡ before ++ line ∷ after →
     Passes set origin (front ++ (stretch ++ back)) (front ++ before) line
 
 -- and where each line of a listing passes, nothing is wrong with the listing
 abbrev pub PassedListingsAssemble : Type 0
 PassedListingsAssemble =
-    (set origin : ℕ) (lines : List Line) → origin + size_of (kept set lines) ≤ 65536 →
+    (set origin : ℕ) (lines : List Line) → origin + size_of (kept set lines) ≤ MEMORY_SIZE →
     ((before : List Line) (line : Line) (after : List Line) → lines ≡ before ++ line ∷ after →
     Passes set origin lines before line) →
     fault_of set origin lines ≡ None

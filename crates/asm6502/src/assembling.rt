@@ -12,6 +12,7 @@ use crate::faults::AsmFault;
 use crate::labels::{check_lines, check_operands, labels_of};
 use crate::lines::{Listing, MOST_BYTES, MOST_LINES};
 use crate::output::output_of;
+use cpu6502::MEMORY_SIZE;
 use song_model::FeatureBits;
 use std::alloc::Global;
 
@@ -54,13 +55,17 @@ pub fn assemble(
 }
 
 /// Refuses bytes that pass the end of memory.
+///
+/// # Errors
+///
+/// The origin plus this many bytes passes the size of memory.
 fn check_end(origin: u16, length: u32) -> Result<(), AsmFault>
     ensures { MatchResult result
-        (λ _. origin + length ≤ 65536)
-        (λ fault. (if nat_lt 65536 (origin + length) then Some (PastEnd length) else None)
+        (λ _. origin + length ≤ MEMORY_SIZE)
+        (λ fault. (if nat_lt MEMORY_SIZE (origin + length) then Some (PastEnd length) else None)
         ≡ Some fault) }
 {
-    if u64::from(origin) + u64::from(length) > 65_536 {
+    if u64::from(origin) + u64::from(length) > MEMORY_SIZE as u64 {
         return Err(AsmFault::PastEnd { length });
     }
     Ok(())

@@ -5,7 +5,7 @@ ghost use Rattle.asm6502.specs.Faults.{FirstIsFirst, NoneIsFound, AllPassed};
 ghost use Rattle.asm6502.specs.Branches.{BranchesReach, FarIsOutOfReach, BranchesKeepDistance, BranchesReachAfter, BranchesReachBefore};
 ghost use Rattle.asm6502.specs.Parts.{PartsAddUp, PartSizesAdd, PartsStandTogether};
 ghost use Rattle.asm6502.specs.Standing.{AssembledLinesStand, HeldBytesStand, SizesAdd, KeptAppend, FrontsStand, BacksStand, BothStand, LinesStay};
-ghost use Rattle.asm6502.specs.Stretches.{StretchesStand, PlacesAdd, LabelsStandWhereNamed, HomesAppend, HomesGrow, StretchesPass, PassedListingsAssemble};
+ghost use Rattle.asm6502.specs.Stretches.{StretchesStand, PlacesAdd, NamesAppend, NamesSplit, LabelsStandWhereNamed, HomesAppend, HomesGrow, StretchesPass, PassedListingsAssemble};
 ghost use Rattle.asm6502.specs.WorkedListings.{ConstantsAre, TonePlays, ToneWithPart, LabelsHaveAddresses, FarBranchIsRefused, OrderOfRefusals};
 
 /// `encode` and `decode` are each other's inverse.
@@ -25,8 +25,8 @@ pub fn branch_bytes_lead_to_targets()
 {}
 
 /// The bytes of a listing with which nothing is wrong stand for its kept lines: in any memory that holds them at the
-/// origin, each line is read there by the machine's own decode table. And in any memory that holds those of a stretch of
-/// the lines alone, at their place, the kept lines of that stretch stand there, whatever the rest of memory holds.
+/// origin, each line is read there by the machine's own decode table. And in any memory that holds those of a stretch
+/// of the lines alone, at their place, the kept lines of that stretch stand there, whatever the rest of memory holds.
 pub fn assembled_lines_stand()
     ensures all { AssembledLinesStand }
     ensures stretch { StretchesStand }
@@ -50,6 +50,13 @@ pub fn labels_have_places()
     ensures addresses { LabelsStandWhereNamed }
 {}
 
+/// Two lists of lines, one after the other, name no label twice exactly where neither of them does and they name
+/// different labels.
+pub fn labels_are_named_once()
+    ensures append { NamesAppend }
+    ensures split { NamesSplit }
+{}
+
 /// A stretch of lines that names its own labels in reach, and uses no label but these and those that the listing always
 /// names, passes every test in any listing that names no label twice and fits at its origin, whichever parts are kept
 /// and wherever it stands; such stretches can be put together and stand among more lines; and a listing of lines that
@@ -61,8 +68,8 @@ pub fn stretches_pass_in_any_listing()
     ensures assemble { PassedListingsAssemble }
 {}
 
-/// The kept lines take the bytes of part 255 and of each part whose bit is in the set; the lines of one part are all there
-/// or none is.
+/// The kept lines take the bytes of part 255 and of each part whose bit is in the set; the lines of one part are all
+/// there or none is.
 pub fn parts_add_up()
     ensures sum { PartsAddUp }
     ensures append { PartSizesAdd }
@@ -83,8 +90,8 @@ pub fn worked_listings()
     ensures order { OrderOfRefusals }
 {}
 
-/// The first fault of a listing is found at a line before which nothing is found; and there is none exactly where nothing
-/// is found at any line.
+/// The first fault of a listing is found at a line before which nothing is found; and there is none exactly where
+/// nothing is found at any line.
 pub fn first_faults_are_first()
     ensures first { FirstIsFirst }
     ensures none { NoneIsFound }

@@ -7,8 +7,8 @@ ghost use Rattle.asm6502.specs.declared.faults.AsmFault.TheVariants.{NoMemory};
 /// the second on only kept lines count.
 #[derive(Clone, Copy, Debug, PartialEq, Eq)]
 pub enum AsmFault {
-    /// The line, counted from 0, has a part from 32 to 254; or it is kept, and its instruction has no opcode, its number
-    /// doesn't fit, or its operand doesn't suit its mode.
+    /// The line, counted from 0, has a part from 32 to 254; or it is kept, and its instruction has no opcode, its
+    /// number doesn't fit, or its operand doesn't suit its mode.
     BadLine {
         /// The line's number, counted from 0.
         line: u32,

@@ -11,7 +11,7 @@ ghost use Rattle.asm6502.specs.Branches.{branch_byte};
 use crate::faults::AsmFault;
 use crate::fixes::{Fix, FixKind};
 use crate::lines::{Line, MOST_BYTES, MOST_LINES, Operand};
-use cpu6502::Mode;
+use cpu6502::{MEMORY_SIZE, Mode};
 use song_model::FeatureBits;
 use std::alloc::Global;
 use std::collections::BTreeMap;
@@ -72,7 +72,7 @@ impl Labels {
         Ok(())
     }
 
-    /// Notes that a label is named after the bytes so far.
+    /// Notes that a label is named here, after the bytes of the lines before.
     ///
     /// # Errors
     ///
@@ -122,19 +122,19 @@ impl Labels {
     /// The address of a label plus an offset, mod 65,536, where the lines stand at an origin.
     fn address(&self, origin: u16, label: u16, offset: u16) -> u16
         requires { IsSome (get nat_cmp self.now.places label) }
-        ensures { result ≡ (address_by self.now origin label + offset) % 65536 }
+        ensures { result ≡ (address_by self.now origin label + offset) % MEMORY_SIZE }
     {
         let Some(place) = self.places.get(&label).copied() else {
             unreachable!();
         };
         let address = u64::from(origin) + u64::from(place) + u64::from(offset);
-        (address % 65_536) as u16
+        (address % MEMORY_SIZE as u64) as u16
     }
 
     /// The number that stands after the opcode at place `at` of the bytes, where these stand at an origin; `None` where
     /// it is a label that the branch doesn't reach.
     pub(crate) fn operand(&self, origin: u16, at: u32, mode: Mode, operand: Operand) -> Option<u16>
-        requires fits { origin + at ≤ 65536 }
+        requires fits { origin + at ≤ MEMORY_SIZE }
         requires known { Knows self.now (label_of operand) }
         ensures { MatchOption result
             (is_far (address_by self.now origin) (origin + at) mode operand ≡ true)
@@ -187,10 +187,11 @@ fn is_relative(mode: Mode) -> bool
 
 /// The displacement byte that leads from a branch to its target; `None` where the target is out of reach.
 fn branch_byte(pc: u32, target: u16) -> Option<u8>
-    requires { pc ≤ 65536 }
+    requires { pc ≤ MEMORY_SIZE }
     ensures { result ≡ branch_byte pc target }
 {
-    let way = (u32::from(target) + 131_072 - (pc + 2)) % 65_536;
+    let size = MEMORY_SIZE as u32;
+    let way = (u32::from(target) + 2 * size - (pc + 2)) % size;
     if way < 128 {
         return Some(way as u8);
     }

@@ -34,8 +34,8 @@ impl Operand {
     ghost use Rattle.std.specs.Prelude.{◌≡◌};
     ghost use Rattle.asm6502.specs.Operands.{suits, label_of};
 
-    /// Whether it suits a mode: nothing where there is no operand, a number that fits, a label where there is an address
-    /// or a branch, one byte of an address in the immediate mode.
+    /// Whether it suits a mode: nothing where there is no operand, a number that fits, a label where there is an
+    /// address or a branch, one byte of an address in the immediate mode.
     pub(crate) fn suits(self, mode: Mode) -> bool
         ensures { result ≡ suits mode self }
     {

@@ -7,25 +7,26 @@ use crate::assembled::Assembled;
 use crate::faults::PastEnd;
 use crate::fixes::{Fix, FixKind};
 use base::ByteList;
+use cpu6502::MEMORY_SIZE;
 
 impl Assembled {
     ghost use Rattle.std.specs.Prelude.{◌≡◌, ◌≤◌, ◌+◌, ◌↔◌, length, OnOk, OnErr, IfErr, IsOk};
     ghost use Rattle.asm6502.specs.Moving.{IsMoved};
 
-    /// Moves the bytes to another origin: the number of each fix becomes that of the new origin, and the other bytes and
-    /// the fixes stay. It takes no memory.
+    /// Moves the bytes to another origin: the number of each fix becomes that of the new origin, and the other bytes
+    /// and the fixes stay. It takes no memory.
     ///
     /// # Errors
     ///
     /// [`PastEnd`] exactly where the bytes don't fit after the new origin. Nothing is changed then.
     pub fn relocate(&mut self, origin: u16) -> Result<(), PastEnd>
-        ensures fits { IsOk result ↔ (origin + length self.old.bytes ≤ 65536) }
+        ensures fits { IsOk result ↔ (origin + length self.old.bytes ≤ MEMORY_SIZE) }
         ensures moved { OnOk result (IsMoved self.old self.new origin) }
         ensures length { IfErr result (λ fault. fault.length ≡ length self.old.bytes) }
         ensures unchanged { OnErr result (self.new ≡ self.old) }
     {
         let length = self.bytes.as_slice().len() as u32;
-        if u32::from(origin) + length > 65_536 {
+        if u32::from(origin) + length > MEMORY_SIZE as u32 {
             return Err(PastEnd { length });
         }
         put_numbers(&mut self.bytes, self.fixes.as_slice(), origin);
@@ -40,7 +41,7 @@ fn put_numbers(bytes: &mut ByteList, fixes: &[Fix], origin: u16)
     ensures { bytes.new ≡ with_numbers origin bytes.old fixes.now }
 {
     for fix in fixes {
-        let number = ((u32::from(origin) + u32::from(fix.to)) % 65_536) as u16;
+        let number = ((u32::from(origin) + u32::from(fix.to)) % MEMORY_SIZE as u32) as u16;
         put_number(bytes, fix.kind, fix.at, number);
     }
 }

@@ -13,11 +13,11 @@ use crate::instructions::Instr;
 use crate::labels::Labels;
 use crate::lines::{Item, Line, MOST_LINES, Operand};
 use base::ByteList;
-use cpu6502::{Mnemonic, Mode};
+use cpu6502::{MEMORY_SIZE, Mnemonic, Mode};
 use song_model::FeatureBits;
 use std::alloc::Global;
 
-/// What is written so far.
+/// What the lines before have given.
 #[derive(Drop)]
 pub(crate) struct Output {
     /// The bytes.
@@ -49,6 +49,10 @@ impl Output {
     }
 
     /// Writes an instruction.
+    ///
+    /// # Errors
+    ///
+    /// It is a branch to a label that it doesn't reach; or out of memory.
     fn put_code(
         &mut self,
         labels: &Labels,
@@ -58,7 +62,7 @@ impl Output {
         mode: Mode,
         operand: Operand,
     ) -> Result<(), AsmFault>
-        requires fits { origin + length self.old.bytes ≤ 65536 }
+        requires fits { origin + length self.old.bytes ≤ MEMORY_SIZE }
         requires sound { is_sound (Code mnemonic mode operand) ≡ true }
         requires known { Knows labels.now (label_of operand) }
         ensures bytes { OnOk result
@@ -95,6 +99,10 @@ impl Output {
     }
 
     /// Writes an item.
+    ///
+    /// # Errors
+    ///
+    /// It is a branch to a label that it doesn't reach; or out of memory.
     fn put_item(
         &mut self,
         labels: &Labels,
@@ -102,7 +110,7 @@ impl Output {
         line: u32,
         item: &Item,
     ) -> Result<(), AsmFault>
-        requires fits { origin + length self.old.bytes ≤ 65536 }
+        requires fits { origin + length self.old.bytes ≤ MEMORY_SIZE }
         requires sound { is_sound item.now ≡ true }
         requires known { Knows labels.now (label_used item.now) }
         ensures bytes { OnOk result
@@ -131,6 +139,10 @@ impl Output {
     }
 
     /// Writes a line if it is kept.
+    ///
+    /// # Errors
+    ///
+    /// It is a branch to a label that it doesn't reach; or out of memory.
     fn put(
         &mut self,
         labels: &Labels,
@@ -139,7 +151,7 @@ impl Output {
         number: u32,
         line: &Line,
     ) -> Result<(), AsmFault>
-        requires fits { origin + length self.old.bytes ≤ 65536 }
+        requires fits { origin + length self.old.bytes ≤ MEMORY_SIZE }
         requires sound { is_kept set.0 line.now ≡ true → is_sound line.now.item ≡ true }
         requires known { is_kept set.0 line.now ≡ true →
             Knows labels.now (label_used line.now.item) }
@@ -173,7 +185,7 @@ pub(crate) fn output_of(
     labels: &Labels,
 ) -> Result<Output, AsmFault>
     requires lines { length lines.now ≤ MOST_LINES }
-    requires fits { origin + size_of (kept set.0 lines.now) ≤ 65536 }
+    requires fits { origin + size_of (kept set.0 lines.now) ≤ MEMORY_SIZE }
     requires sound { first_fault (bad_line set.0) [] lines.now ≡ None }
     requires places { HasPlaces labels.now (kept set.0 lines.now) }
     requires known { first_fault (unknown_label set.0 lines.now) [] lines.now ≡ None }

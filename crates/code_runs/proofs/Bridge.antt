@@ -101,14 +101,14 @@ follow W below (suc n) m end size r =
     one_on W n m m1 r.0 end r.1 refl r.2 r.3 (follow W below n m1 end size'
     (subst (λ s. Runs W n s end) (sym seen) r.4))
 
-pub machines_follow : (W : ℕ → Type 0) → IsBelow W → (n : ℕ) (m : Machine) (end : State) → length m.memory ≡ MEMORY_SIZE →
-    Leads W n (view m) end → Arrives W n m end
+pub machines_follow : (W : ℕ → Type 0) → IsBelow W → (n : ℕ) (m : Machine) (end : State) →
+    length m.memory ≡ MEMORY_SIZE → Leads W n (view m) end → Arrives W n m end
 machines_follow W below n m end size leads = follow W below n m end size leads.runs
 
 -- a run from the entry to the return is a call
 pub call_returns : (W : ℕ → Type 0) → IsBelow W → (m : Machine) (address a n : ℕ) (end : State) →
-    length m.memory ≡ MEMORY_SIZE → Leads W n (view (entered m address a)) end → end.cpu.pc ≡ 0 → end.cpu.sp ≡ m.cpu.sp →
-    CallsTo W m address a n end
+    length m.memory ≡ MEMORY_SIZE → Leads W n (view (entered m address a)) end → end.cpu.pc ≡ 0 →
+    end.cpu.sp ≡ m.cpu.sp → CallsTo W m address a n end
 call_returns W below m address a n end size leads at_zero same_stack =
     let there = machines_follow W below n (entered m address a) end
     (length-written m.memory (return_address m.cpu.sp) ∙ size) leads in

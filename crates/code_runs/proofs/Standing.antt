@@ -160,8 +160,8 @@ stands_stay at at' pc high operand mn mode within below s stands = record {
 }
 
 -- the same of code
-pub code_stays : (at at' : ℕ → ℕ) (pc high : ℕ) (code : List Instruction) → pc + size_of code ≤ high → high ≤ MEMORY_SIZE →
-    SameFrom pc high at at' → CodeAt at pc code → CodeAt at' pc code
+pub code_stays : (at at' : ℕ → ℕ) (pc high : ℕ) (code : List Instruction) → pc + size_of code ≤ high →
+    high ≤ MEMORY_SIZE → SameFrom pc high at at' → CodeAt at pc code → CodeAt at' pc code
 code_stays at at' pc high [] within below s c = tt
 code_stays at at' pc high (i ∷ rest) within below s c = (
   stands_stay at at' pc high i.operand i.mnemonic i.mode (omega arith) below s c.0,

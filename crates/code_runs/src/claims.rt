@@ -3,8 +3,8 @@
 ghost use Rattle.code_runs.specs.Calls.{CallsBeginSo, MachinesFollowRuns, RunsAreCalls, RunsStayInside};
 ghost use Rattle.code_runs.specs.Decoded.{CodeStays, StandingHasEffect};
 
-/// A run from the entry of a call to address 0, with the stack pointer back, is that call, in the run's number of steps.
-/// The machine writes at the run's places alone; each other place has the byte that it had.
+/// A run from the entry of a call to address 0, with the stack pointer back, is that call, in the run's number of
+/// steps. The machine writes at the run's places alone; each other place has the byte that it had.
 pub fn runs_are_calls()
     ensures machines { MachinesFollowRuns }
     ensures inside { RunsStayInside }

@@ -63,7 +63,8 @@ MayFit (Some done) = Fits done
 is_quiet : (cpu : Cpu) → FitsCpu cpu → Fits (quiet cpu)
 is_quiet cpu f = record { cpu = f; writes = tt }
 
-is_storing : (cpu : Cpu) (place byte : ℕ) → FitsCpu cpu → place < MEMORY_SIZE → byte < 256 → Fits (storing cpu place byte)
+is_storing : (cpu : Cpu) (place byte : ℕ) → FitsCpu cpu → place < MEMORY_SIZE → byte < 256 →
+    Fits (storing cpu place byte)
 is_storing cpu place byte f p b = record { cpu = f; writes = (record { place = p; value = b }, tt) }
 
 in_a : (cpu : Cpu) (byte : ℕ) → FitsCpu cpu → byte < 256 → FitsCpu (with_a cpu byte)
@@ -273,11 +274,13 @@ module _ (at : ℕ → ℕ) (bytes : (place : ℕ) → at place < 256) where
   operand_place_small ZeroPage pc x y = let b = bytes ((pc + 1) % MEMORY_SIZE) in omega arith
   operand_place_small ZeroPageX pc x y = omega arith
   operand_place_small ZeroPageY pc x y = omega arith
-  operand_place_small Absolute pc x y = word_small (bytes ((pc + 1) % MEMORY_SIZE)) (bytes (((pc + 1) % MEMORY_SIZE + 1) % MEMORY_SIZE))
+  operand_place_small Absolute pc x y =
+      word_small (bytes ((pc + 1) % MEMORY_SIZE)) (bytes (((pc + 1) % MEMORY_SIZE + 1) % MEMORY_SIZE))
   operand_place_small AbsoluteX pc x y = omega arith
   operand_place_small AbsoluteY pc x y = omega arith
   operand_place_small IndirectX pc x y =
-      word_small (bytes ((at ((pc + 1) % MEMORY_SIZE) + x) % 256)) (bytes (((at ((pc + 1) % MEMORY_SIZE) + x) % 256 + 1) % 256))
+      word_small (bytes ((at ((pc + 1) % MEMORY_SIZE) + x) % 256))
+      (bytes (((at ((pc + 1) % MEMORY_SIZE) + x) % 256 + 1) % 256))
   operand_place_small IndirectY pc x y = omega arith
   operand_place_small Indirect pc x y = word_small (bytes _) (bytes _)
   operand_place_small Relative pc x y = omega arith

@@ -1,7 +1,7 @@
 //! A 6502 processor with its memory of 65,536 bytes, as a value that is stepped.
 //!
-//! The lowest layer that knows machine code. What an instruction does is said once, in `specs/`, as a table: a row gives
-//! an opcode its name and its addressing mode, and each name has one effect. The one contract is that of
+//! The lowest layer that knows machine code. What an instruction does is said once, in `specs/`, as a table: a row
+//! gives an opcode its name and its addressing mode, and each name has one effect. The one contract is that of
 //! `Machine::call`: it answers exactly when the steps of that definition return to the caller, and says how many
 //! there were, where it stopped, and what was written to the SID.
 //!

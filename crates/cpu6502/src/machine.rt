@@ -49,8 +49,8 @@ impl Machine {
     ///
     /// # Errors
     ///
-    /// [`CallStop::Stopped`] where a step stops before the call has returned, and [`CallStop::Budget`] where `budget` steps
-    /// are made and it has not. The machine stays where the last step left it.
+    /// [`CallStop::Stopped`] where a step stops before the call has returned, and [`CallStop::Budget`] where `budget`
+    /// steps are made and it has not. The machine stays where the last step left it.
     pub fn call(
         &mut self,
         address: u16,

@@ -34,8 +34,8 @@ impl Model for MemSink {
 }
 
 impl MemSink {
-    /// An empty sink. The puts are counted from 0, and those whose numbers are in `failing` fail and take the first half
-    /// of their bytes, rounded down.
+    /// An empty sink. The puts are counted from 0, and those whose numbers are in `failing` fail and take the first
+    /// half of their bytes, rounded down.
     pub fn new(alloc: Global, failing: Vec<u32>) -> Self
         ensures { result ≡ record { bytes = []; failing = failing.items; puts = 0; faults = 0 } }
     {

@@ -10,7 +10,8 @@ use crate::{Header, NoMemory};
 use byteorder::{ByteOrder, LittleEndian};
 use std::alloc::Global;
 
-/// The file of a header and an image: the load word is 0, and the image's address stands in front of it, low byte first.
+/// The file of a header and an image: the load word is 0, and the image's address stands in front of it, low byte
+/// first.
 ///
 /// # Errors
 ///

@@ -4,7 +4,7 @@ use Rattle.asm6502.proofs.assembled.Assembled.relocate.Goals as goal
 
 pub invariant_of-self-2 : goal.invariant_of-self-2
 invariant_of-self-2 c =
-    let fits = c.if-from-length-gt65536.false in
+    let fits = c.if-from-length.false in
     let from = c.from.ensures in
     let size = ap length c.as_slice.ensures in
     let m = moved c.args.origin c.args.self.now.bytes c.put_numbers.new.bytes c.args.self.now.fixes
@@ -13,7 +13,7 @@ invariant_of-self-2 c =
 
 pub returns-clause-moved : goal.returns-clause-moved
 returns-clause-moved c =
-    let fits = c.if-from-length-gt65536.false in
+    let fits = c.if-from-length.false in
     let from = c.from.ensures in
     let size = ap length c.as_slice.ensures in
     let m = moved c.args.origin c.args.self.now.bytes c.put_numbers.new.bytes c.args.self.now.fixes
