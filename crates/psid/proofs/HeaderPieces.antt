@@ -9,7 +9,8 @@ use Rattle.psid.proofs.Pieces.{fill_next}
 
 -- the header before the texts
 abbrev pub front_of : Header → List ℕ
-front_of header = codes "PSID" ++ word_bytes 2 ++ word_bytes 0x7C ++ word_bytes 0 ++ word_bytes header.init ++ word_bytes header.play
+front_of header = codes "PSID" ++ word_bytes 2 ++ word_bytes 0x7C ++ word_bytes 0 ++ word_bytes header.init
+    ++ word_bytes header.play
     ++ word_bytes header.songs ++ word_bytes header.start_song ++ number_bytes header.speed
 
 -- the header after the texts
@@ -17,7 +18,8 @@ abbrev pub end_of : Header → List ℕ
 end_of header = word_bytes header.flags ++ 0 ∷ 0 ∷ 0 ∷ 0 ∷ []
 
 -- the header in these parts
-pub header_bytes-parts : (header : Header) → header_bytes header ≡ front_of header ++ (header.name ++ (header.author ++ (header.released ++ end_of header)))
+pub header_bytes-parts : (header : Header) →
+    header_bytes header ≡ front_of header ++ (header.name ++ (header.author ++ (header.released ++ end_of header)))
 unfolding header_fields
 header_bytes-parts header = refl
 
@@ -54,7 +56,8 @@ put_in_turn header n a r b1 b2 b3 b4 b5 b6 b7 b8 b9 b10 b11 b12 b13 e1 e2 e3 e4 
     let f13 = fill_next b12 b13 _ (word_bytes header.flags) 0x76 2 4 e13 refl f12 in
     f13.is ∙ simp append_assoc (sym (header_bytes-parts header))
 
-pub header_bytes-length : (header : Header) → length header.name ≡ 32 → length header.author ≡ 32 → length header.released ≡ 32
+pub header_bytes-length : (header : Header) → length header.name ≡ 32 → length header.author ≡ 32 →
+    length header.released ≡ 32
     → length (header_bytes header) ≡ 124
 header_bytes-length header n a r =
     ap (λ (xs : List ℕ). length xs) (header_bytes-parts header) ∙ simp length-append (omega arith)

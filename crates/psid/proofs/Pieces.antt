@@ -17,19 +17,23 @@ unfolding with_bytes
 with_bytes-next front piece rest place n f p =
     let front_is = take_at front rest place f in
     let rest_is : drop (place + length piece) (front ++ rest) ≡ drop n rest =
-    ap (λ (k : ℕ). drop (k + length piece) (front ++ rest)) (sym f) ∙ drop-append-add front rest (length piece) ∙ ap (λ (k : ℕ). drop k rest) p in
+    ap (λ (k : ℕ). drop (k + length piece) (front ++ rest)) (sym f) ∙ drop-append-add front rest (length piece)
+    ∙ ap (λ (k : ℕ). drop k rest) p in
     rw (front_is, rest_is)
 
 -- the next piece is put in
-pub fill_next : (before after front piece : List ℕ) (place n left : ℕ) → after ≡ with_bytes before place piece → length piece ≡ n
+pub fill_next : (before after front piece : List ℕ) (place n left : ℕ) → after ≡ with_bytes before place piece →
+    length piece ≡ n
     → IsFilled before front place (n + left) → IsFilled after (front ++ piece) (place + n) left
 fill_next before after front piece place n left e p f = record {
-  is = e ∙ ap (λ (xs : List ℕ). with_bytes xs place piece) f.is ∙ with_bytes-next front piece (replicate (n + left) 0) place n f.size p
+  is = e ∙ ap (λ (xs : List ℕ). with_bytes xs place piece) f.is ∙ with_bytes-next front piece (replicate (n + left) 0)
+      place n f.size p
       ∙ ap (λ (xs : List ℕ). (front ++ piece) ++ xs) (drop-replicate_add n left 0);
   size = let l = length-append front piece in let s = f.size in omega (arith, l, s, p);
 }
 
 -- a text of 32 bytes
-pub text_at-piece : (bytes text rest : List ℕ) (place : ℕ) → drop place bytes ≡ text ++ rest → length text ≡ 32 → text_at bytes place ≡ text
+pub text_at-piece : (bytes text rest : List ℕ) (place : ℕ) → drop place bytes ≡ text ++ rest → length text ≡ 32 →
+    text_at bytes place ≡ text
 unfolding text_at
 text_at-piece bytes text rest place e p = ap (λ (xs : List ℕ). take 32 xs) e ∙ take_at text rest 32 p

@@ -2,6 +2,7 @@
 use Rattle.std.specs.Prelude.{◌≡◌, ℕ, ◌+◌, ◌%◌, ◌<◌, ◌≤◌, ◌^◌, List, [], ◌∷◌, ◌++◌, length, codes}
 use Rattle.std.specs.List.{flat_map}
 use Rattle.psid.specs.declared.header.Header.{Header}
+use Rattle.psid.specs.declared.reading.TheConstants.{ADDRESSES}
 use Rattle.psid.specs.Words.{word_bytes, number_bytes, address_bytes}
 
 -- a field of the header: its offset, and its bytes
@@ -48,7 +49,7 @@ pub record IsWritable (header : Header) (load : ℕ) (image : List ℕ) : Type 0
   pub most_songs : header.songs ≤ 256
   pub has_start : 1 ≤ header.start_song
   pub start_is_song : header.start_song ≤ header.songs
-  pub fits : load + length image ≤ 65536
+  pub fits : load + length image ≤ ADDRESSES
 
 -- the headers that there are: words, a number of four bytes, three texts of 32 bytes
 pub record IsHeader (header : Header) : Type 0 where

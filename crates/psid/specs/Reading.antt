@@ -5,6 +5,7 @@ use Rattle.psid.specs.declared.header.Header.{Header}
 use Rattle.psid.specs.declared.header.Psid.{Psid}
 use Rattle.psid.specs.declared.faults.PsidFault.{PsidFault}
 use Rattle.psid.specs.declared.faults.PsidFault.TheVariants.{NotPsid, Truncated, Unsupported, BadField}
+use Rattle.psid.specs.declared.reading.TheConstants.{ADDRESSES}
 use Rattle.psid.specs.Words.{word_at, number_at, address_at, text_at}
 
 -- version 2, an address of a play routine, and neither bit 0 nor bit 1 of the flags
@@ -56,5 +57,5 @@ psid_read bytes =
     else if not (is_supported bytes) then Err Unsupported
     else if not (has_good_fields bytes) then Err BadField
     else if has_address bytes && nat_lt (length bytes) 126 then Err Truncated
-    else if nat_lt 65536 (load_of bytes + length (image_of bytes)) then Err BadField
+    else if nat_lt ADDRESSES (load_of bytes + length (image_of bytes)) then Err BadField
     else Ok (record { header = header_of bytes; load = load_of bytes; image = image_of bytes })

@@ -28,7 +28,8 @@ file = psid_bytes one_song 0x1000 (0x60 ∷ 0xEA ∷ [])
 -- the first 22 bytes: PSID, 2, $7C, 0, $1000, $1003, 1, 1, speed 0
 abbrev pub HeaderIsSpelled : Type 0
 HeaderIsSpelled = take 22 file ≡
-    0x50 ∷ 0x53 ∷ 0x49 ∷ 0x44 ∷ 0x00 ∷ 0x02 ∷ 0x00 ∷ 0x7C ∷ 0x00 ∷ 0x00 ∷ 0x10 ∷ 0x00 ∷ 0x10 ∷ 0x03 ∷ 0x00 ∷ 0x01 ∷ 0x00 ∷ 0x01
+    0x50 ∷ 0x53 ∷ 0x49 ∷ 0x44 ∷ 0x00 ∷ 0x02 ∷ 0x00 ∷ 0x7C ∷ 0x00 ∷ 0x00 ∷ 0x10 ∷ 0x00 ∷ 0x10 ∷ 0x03 ∷ 0x00 ∷ 0x01 ∷
+    0x00 ∷ 0x01
     ∷ 0x00 ∷ 0x00 ∷ 0x00 ∷ 0x00 ∷ []
 
 -- from $76 on: the flags, three fields of 0, the address low byte first, the image
@@ -51,16 +52,19 @@ with_word offset high low = slice_set (with_low offset low) offset high
 
 -- less than a magic, another magic, a header that isn't whole
 abbrev pub HeaderIsWanted : Type 0
-HeaderIsWanted = HasFault (take 3 file) NotPsid × HasFault (slice_set file 0 0x52) NotPsid × HasFault (take 4 file) Truncated × HasFault (take 123 file) Truncated
+HeaderIsWanted = HasFault (take 3 file) NotPsid × HasFault (slice_set file 0 0x52) NotPsid
+    × HasFault (take 4 file) Truncated × HasFault (take 123 file) Truncated
 
 -- versions 1 and 3, play 0, bit 0 and bit 1 of the flags
 abbrev pub KindsAreUnsupported : Type 0
-KindsAreUnsupported = HasFault (with_low 0x04 1) Unsupported × HasFault (with_low 0x04 3) Unsupported × HasFault (with_word 0x0C 0 0) Unsupported
+KindsAreUnsupported = HasFault (with_low 0x04 1) Unsupported × HasFault (with_low 0x04 3) Unsupported
+    × HasFault (with_word 0x0C 0 0) Unsupported
     × HasFault (with_low 0x76 0x15) Unsupported × HasFault (with_low 0x76 0x16) Unsupported
 
 -- data offset $76, songs 0 and 257, start song 0 and above the songs
 abbrev pub FieldsAreInRange : Type 0
-FieldsAreInRange = HasFault (with_low 0x06 0x76) BadField × HasFault (with_low 0x0E 0) BadField × HasFault (with_word 0x0E 1 1) BadField
+FieldsAreInRange = HasFault (with_low 0x06 0x76) BadField × HasFault (with_low 0x0E 0) BadField
+    × HasFault (with_word 0x0E 1 1) BadField
     × HasFault (with_low 0x10 0) BadField × HasFault (with_low 0x10 2) BadField
 
 -- none of the two bytes of the address, one of them; an image of two bytes at $FFFF

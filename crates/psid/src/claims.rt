@@ -1,6 +1,6 @@
 //! Facts about the format, each the contract of a function that does nothing.
 
-ghost use Rattle.psid.specs.FormatLaws.{FieldsStand, WrittenIsRead, WrittenIsReadAsIs, ReadIsWritable};
+ghost use Rattle.psid.specs.FormatLaws.{AddressesAre, FieldsStand, WrittenIsRead, WrittenIsReadAsIs, ReadIsWritable};
 ghost use Rattle.psid.specs.WorkedFile.{HeaderIsSpelled, EndIsSpelled, FileIsRead, HeaderIsWanted, KindsAreUnsupported, FieldsAreInRange, ImageIsPlaced};
 
 /// Each field of the header stands at the offset that the table gives it.
@@ -17,6 +17,11 @@ pub fn what_is_written_is_read()
 /// A file that is read may be written.
 pub fn what_is_read_may_be_written()
     ensures { ReadIsWritable }
+{}
+
+/// The number of addresses.
+pub fn worked_constants()
+    ensures { AddressesAre }
 {}
 
 /// The file of one song at `$1000`, and the faults of the same file, cut or with some bytes changed.

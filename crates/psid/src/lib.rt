@@ -18,7 +18,7 @@ mod writing;
 pub use base::{ByteList, NoMemory};
 pub use faults::PsidFault;
 pub use header::{Header, Psid};
-pub use reading::read;
+pub use reading::{ADDRESSES, read};
 pub use writing::write;
 
 #[cfg(test)]

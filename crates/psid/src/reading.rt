@@ -16,8 +16,8 @@ const MOST_SONGS: u16 = 256;
 /// Bits 0 and 1 of the flags: data for a player or a computer of its own kind.
 const KIND_BITS: u16 = 0b11;
 
-/// The number of addresses that there are.
-const ADDRESSES: usize = 65_536;
+/// The number of addresses that there are: an image ends below it.
+pub const ADDRESSES: usize = 65_536;
 
 /// The file that bytes spell: its header, where an init of 0 is given as the image's address, that address, and the
 /// image, which is all bytes from its place to the end.

@@ -15,7 +15,8 @@ get_or-bytes_at at place (suc n) (suc k) h =
     get_or-bytes_at at (place + 1) n k (omega arith) ∙ ap at e
 
 -- a list of bytes that stand from a place on
-pub are_bytes_at : (at : ℕ → ℕ) (place n : ℕ) (bytes : List ℕ) → length bytes ≡ n → ((k : ℕ) → k < n → get_or bytes k 0 ≡ at (place + k))
+pub are_bytes_at : (at : ℕ → ℕ) (place n : ℕ) (bytes : List ℕ) → length bytes ≡ n →
+    ((k : ℕ) → k < n → get_or bytes k 0 ≡ at (place + k))
     → bytes ≡ bytes_at at place n
 are_bytes_at at place n bytes l h =
     ext_get_or 0 bytes (bytes_at at place n) (l ∙ sym (length-bytes_at at place n))

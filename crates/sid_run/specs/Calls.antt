@@ -12,7 +12,8 @@ pub record LogsCall (log : WriteLog) (machine : Machine) (address a steps : ℕ)
   pub logged : log ≡ log_of (sid_writes (writes_in steps (entered machine address a)))
 
 -- the answer to a call at an address, with a in the accumulator and this budget of steps, and the runner after it
-pub record AnswersCall (address a budget : ℕ) (before after : RunnerState) (answer : Result (List ℕ) CallStop) : Type 0 where
+pub record AnswersCall (address a budget : ℕ) (before after : RunnerState)
+    (answer : Result (List ℕ) CallStop) : Type 0 where
   -- registers: the call returned, and the runner hasn't stopped
   pub returned : OnOk answer (Called before.machine address a after.spent after.machine)
   pub in_budget : OnOk answer (after.spent ≤ budget)

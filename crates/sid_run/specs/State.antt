@@ -4,6 +4,7 @@ use Rattle.cpu6502.specs.declared.cpu.Cpu.{Cpu}
 use Rattle.cpu6502.specs.declared.machine.Machine.{Machine}
 use Rattle.cpu6502.specs.declared.log.TheConstants.{SID_BASE}
 use Rattle.cpu6502.specs.declared.log.WriteLog.{WriteLog}
+use Rattle.cpu6502.specs.declared.memory.TheConstants.{MEMORY_SIZE}
 use Rattle.cpu6502.specs.declared.stop.CallStop.{CallStop}
 use Rattle.cpu6502.specs.Code.{bytes_at}
 use Rattle.cpu6502.specs.Log.{log_of}
@@ -39,7 +40,7 @@ cleared_cpu = record {
 
 -- 65,536 bytes: the image at its address, and 0 elsewhere
 unfoldable pub loaded_memory : ℕ → List ℕ → List ℕ
-loaded_memory load image = replicate load 0 ++ image ++ replicate (65536 - (load + length image)) 0
+loaded_memory load image = replicate load 0 ++ image ++ replicate (MEMORY_SIZE - (load + length image)) 0
 
 abbrev pub loaded_machine : Psid → Machine
 loaded_machine psid = record { cpu = cleared_cpu; memory = loaded_memory psid.load psid.image }

@@ -4,16 +4,16 @@ ghost use Rattle.std.specs.Prelude.{◌≡◌, ◌+◌, ◌≤◌, length, slice
 ghost use Rattle.cpu6502.specs.Code.{bytes_at};
 ghost use Rattle.sid_run.specs.State.{loaded_memory};
 
-use cpu6502::{Memory, SID_BASE};
+use cpu6502::{MEMORY_SIZE, Memory, SID_BASE};
 
 /// The number of the SID's registers that can be written.
 pub const REGISTERS: usize = 25;
 
 /// Puts an image into memory that holds 0.
 pub fn put_image(memory: &mut Memory, load: u16, image: &[u8])
-    requires size { length memory.old ≡ 65536 }
+    requires size { length memory.old ≡ MEMORY_SIZE }
     requires zero { All (λ byte. byte ≡ 0) memory.old }
-    requires fits { load + length image.now ≤ 65536 }
+    requires fits { load + length image.now ≤ MEMORY_SIZE }
     ensures { memory.new ≡ loaded_memory load image.now }
 {
     for (i, byte) in image.iter().enumerate() {

@@ -1,7 +1,7 @@
 //! A loaded file.
 
 use crate::memory::{REGISTERS, put_image, sid_registers};
-use cpu6502::{CallStop, Cpu, Machine, Memory, NoMemory, WriteLog};
+use cpu6502::{CallStop, Cpu, MEMORY_SIZE, Machine, Memory, NoMemory, WriteLog};
 use psid::Psid;
 use std::alloc::Global;
 use std::marker::Model;
@@ -62,7 +62,7 @@ impl Runner {
     ///
     /// Out of memory.
     pub fn load(alloc: Global, psid: &Psid) -> Result<Runner, NoMemory>
-        requires { psid.now.load + length psid.now.image ≤ 65536 }
+        requires { psid.now.load + length psid.now.image ≤ MEMORY_SIZE }
         ensures { IfOk result (λ runner. runner ≡ loaded psid.now) }
     {
         let mut memory = Memory::filled(alloc, 0)?;

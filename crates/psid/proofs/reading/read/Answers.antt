@@ -7,6 +7,7 @@ use Rattle.psid.proofs.reading.read.Goals as goal
 pub returns-clause-writable : goal.returns-clause-writable
 unfolding psid_read
 returns-clause-writable c =
-    let psid : Psid = record { header = c.header_of-header.result; load = c.load_of-load.result; image = c.in_ok-image.image } in
+    let psid : Psid =
+    record { header = c.header_of-header.result; load = c.load_of-load.result; image = c.in_ok-image.image } in
     let found : psid_read c.args.bytes.now ≡ Ok psid = search rules in
     read_is_writable c.args.bytes.now psid found

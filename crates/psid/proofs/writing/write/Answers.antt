@@ -6,6 +6,8 @@ use Rattle.psid.proofs.writing.write.Goals as goal
 
 pub returns-clause-read_back : goal.returns-clause-read_back
 returns-clause-read_back c =
-    let written : c.extend_from_slice-3.new.self.items ≡ psid_bytes c.args.header.now c.args.load c.args.image.now = search rules in
+    let written : c.extend_from_slice-3.new.self.items ≡ psid_bytes c.args.header.now c.args.load c.args.image.now =
+    search rules in
     ap (λ (bytes : List ℕ). psid_read bytes) written
-    ∙ written_is_read c.args.header.now c.args.load c.args.image.now c.header_bytes.ensures.ranges (search rules) c.requires
+    ∙ written_is_read c.args.header.now c.args.load c.args.image.now c.header_bytes.ensures.ranges (search rules)
+    c.requires

@@ -5,7 +5,8 @@ use Rattle.sid_run.proofs.memory.put_image.Goals as goal
 pub loop-i-preserved : goal.loop-i-preserved
 loop-i-preserved c =
     c.write.ensures
-    ∙ ap (λ (xs : List ℕ). slice_set xs (c.args.load + c.loop-i.i) (get_or c.args.image.now c.loop-i.i 0)) c.loop-i.invariant
+    ∙ ap (λ (xs : List ℕ). slice_set xs (c.args.load + c.loop-i.i) (get_or c.args.image.now c.loop-i.i 0))
+    c.loop-i.invariant
     ∙ partly_loaded-more c.args.load c.args.image.now c.loop-i.i (omega arith) (omega arith)
 
 pub returns : goal.returns

@@ -4,7 +4,8 @@ use Rattle.sid_run.proofs.runner.Runner.call_at.Goals as goal
 
 pub returns-in-Err : goal.returns-in-Err
 returns-in-Err c =
-    let machine : c.self.inside.machine ≡ c.args.self.now.machine = ap (λ (s : RunnerState). s.machine) c.self.view_is in record {
+    let machine : c.self.inside.machine ≡ c.args.self.now.machine =
+    ap (λ (s : RunnerState). s.machine) c.self.view_is in record {
       returned = search rules;
       in_budget = search rules;
       registers = search rules;
@@ -13,7 +14,8 @@ returns-in-Err c =
       failed = search rules;
       kept = search rules;
       spent = search rules;
-      returns = λ steps end running called within. let other = c.in-Err.ensures.returns steps end (rw machine called) within in cc;
+      returns = λ steps end running called within.
+          let other = c.in-Err.ensures.returns steps end (rw machine called) within in cc;
       fails = search rules;
       stays_stopped = search rules;
       stays = search rules;

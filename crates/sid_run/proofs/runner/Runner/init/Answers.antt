@@ -7,4 +7,5 @@ use Rattle.sid_run.proofs.runner.Runner.init.Goals as goal
 pub returns : goal.returns
 returns c =
     let address : c.call_at.inside.init ≡ c.args.self.now.init = ap (λ (s : RunnerState). s.init) c.call_at.view_is in
-    subst (λ (n : ℕ). AnswersCall n c.args.subtune MOST_STEPS c.args.self.now c.call_at-2.new.self c.call_at-2.result) address c.call_at-2.ensures
+    subst (λ (n : ℕ). AnswersCall n c.args.subtune MOST_STEPS c.args.self.now c.call_at-2.new.self c.call_at-2.result)
+    address c.call_at-2.ensures
