@@ -28,9 +28,11 @@ past_or_not n m true t within e = absurd (none-some n e)
 past_or_not n m false t within e = let past = ltb-false n m t in omega arith
 
 pub endmark_some : (bytes : List ℕ) (place : ℕ)
-    → Some place ≡ cond (ltb (position_or_len (λ byte. byte == 0xFF) bytes) (length bytes)) (Some (position_or_len (λ byte. byte == 0xFF) bytes)) None
+    → Some place ≡ cond (ltb (position_or_len (λ byte. byte == 0xFF) bytes) (length bytes))
+    (Some (position_or_len (λ byte. byte == 0xFF) bytes)) None
     → place ≡ endmark_of bytes
-endmark_some bytes place e = within_or_not place (position_or_len (λ byte. byte == 0xFF) bytes) (endmark_of bytes) _ e (sym (endmark_is bytes))
+endmark_some bytes place e = within_or_not place (position_or_len (λ byte. byte == 0xFF) bytes) (endmark_of bytes) _ e
+    (sym (endmark_is bytes))
 
 endmark_within : (bytes : List ℕ) → endmark_of bytes ≤ length bytes
 endmark_within [] = omega arith
@@ -40,11 +42,13 @@ endmark_within (x ∷ xs) = elim (cases_eq x 255) [
 ]
 
 pub endmark_none : (bytes : List ℕ)
-    → None ≡ cond (ltb (position_or_len (λ byte. byte == 0xFF) bytes) (length bytes)) (Some (position_or_len (λ byte. byte == 0xFF) bytes)) None
+    → None ≡ cond (ltb (position_or_len (λ byte. byte == 0xFF) bytes) (length bytes))
+    (Some (position_or_len (λ byte. byte == 0xFF) bytes)) None
     → length bytes ≡ endmark_of bytes
 endmark_none bytes e =
     let within = endmark_within bytes in
-    sym (endmark_is bytes ∙ past_or_not (position_or_len (λ byte. byte == 0xFF) bytes) (length bytes) _ refl (omega (arith, endmark_is bytes)) e)
+    sym (endmark_is bytes ∙ past_or_not (position_or_len (λ byte. byte == 0xFF) bytes) (length bytes) _ refl
+    (omega (arith, endmark_is bytes)) e)
 
 before_endmark : (bytes : List ℕ) (k d : ℕ) → k < endmark_of bytes → get_or bytes k d ≢ 255
 before_endmark [] k d l = absurd (omega arith)
@@ -77,10 +81,12 @@ entries_before bytes are = λ k d inside.
     rw (get_or-take (endmark_of bytes) bytes k d before) (omega arith)
 
 -- the bytes up to the endmark, and what follows
-pub cut_endmark : (bytes : List ℕ) → endmark_of bytes < length bytes → bytes ≡ take (endmark_of bytes) bytes ++ 255 ∷ drop (endmark_of bytes + 1) bytes
+pub cut_endmark : (bytes : List ℕ) → endmark_of bytes < length bytes →
+    bytes ≡ take (endmark_of bytes) bytes ++ 255 ∷ drop (endmark_of bytes + 1) bytes
 cut_endmark bytes l =
     sym (take-append-drop (endmark_of bytes) bytes)
-    ∙ ap (λ t. take (endmark_of bytes) bytes ++ t) (drop_more bytes (endmark_of bytes) 0 l ∙ ap (λ b. b ∷ drop (endmark_of bytes + 1) bytes) (at_endmark bytes 0 l))
+    ∙ ap (λ t. take (endmark_of bytes) bytes ++ t)
+    (drop_more bytes (endmark_of bytes) 0 l ∙ ap (λ b. b ∷ drop (endmark_of bytes + 1) bytes) (at_endmark bytes 0 l))
 
 -- the first endmark stands after the entries
 pub endmark_after : (entries more : List ℕ) → All IsEntry entries → endmark_of (entries ++ 255 ∷ more) ≡ length entries

@@ -24,7 +24,8 @@ pub record AreTexts (texts : Texts) : Type 0 where
   pub author : IsText 32 texts.author
   pub copyright : IsText 32 texts.copyright
 
-pub texts_take : (total : ℕ) (bytes : List ℕ) (x : Texts × List ℕ) → All IsByte bytes → texts_at total bytes ≡ Ok x → Takes IsTextOf AreTexts bytes x.0 x.1
+pub texts_take : (total : ℕ) (bytes : List ℕ) (x : Texts × List ℕ) → All IsByte bytes → texts_at total bytes ≡ Ok x →
+    Takes IsTextOf AreTexts bytes x.0 x.1
 unfolding texts_at
 texts_take total bytes x are e =
     let a = bind_ok (bytes_at total 32 bytes) _ x e in
@@ -42,25 +43,34 @@ texts_take total bytes x are e =
         author = record { count = two.size; each = two.each };
         copyright = record { count = three.size; each = three.each };
       };
-      parts = one.parts ∙ ap (λ (t : List ℕ). a.0.0 ++ t) (two.parts ∙ ap (λ (t : List ℕ). b.0.0 ++ t) three.parts) ∙ sym (regroup3 a.0.0 b.0.0 c.0.0 c.0.1);
+      parts = one.parts ∙ ap (λ (t : List ℕ). a.0.0 ++ t) (two.parts ∙ ap (λ (t : List ℕ). b.0.0 ++ t) three.parts)
+          ∙ sym (regroup3 a.0.0 b.0.0 c.0.0 c.0.1);
       left = three.left;
     })
 
-pub texts_again : (total : ℕ) (texts : Texts) (rest : List ℕ) → AreTexts texts → texts_at total (texts.name ++ (texts.author ++ (texts.copyright ++ rest))) ≡ Ok (texts, rest)
+pub texts_again : (total : ℕ) (texts : Texts) (rest : List ℕ) → AreTexts texts →
+    texts_at total (texts.name ++ (texts.author ++ (texts.copyright ++ rest))) ≡ Ok (texts, rest)
 unfolding texts_at
 texts_again total texts rest are =
-    rw (bytes_again total 32 texts.name (texts.author ++ (texts.copyright ++ rest)) are.name.count, bytes_again total 32 texts.author (texts.copyright ++ rest) are.author.count, bytes_again total 32 texts.copyright rest are.copyright.count) refl
+    rw (
+      bytes_again total 32 texts.name (texts.author ++ (texts.copyright ++ rest)) are.name.count,
+      bytes_again total 32 texts.author (texts.copyright ++ rest) are.author.count,
+      bytes_again total 32 texts.copyright rest are.copyright.count,
+    ) refl
 
 -- ---- instruments
 
-nine : (xs : List ℕ) → length xs ≡ 9 → xs ≡ get_or xs 0 0 ∷ get_or xs 1 0 ∷ get_or xs 2 0 ∷ get_or xs 3 0 ∷ get_or xs 4 0 ∷ get_or xs 5 0 ∷ get_or xs 6 0 ∷ get_or xs 7 0 ∷ get_or xs 8 0 ∷ []
+nine : (xs : List ℕ) → length xs ≡ 9 →
+    xs ≡ get_or xs 0 0 ∷ get_or xs 1 0 ∷ get_or xs 2 0 ∷ get_or xs 3 0 ∷ get_or xs 4 0 ∷ get_or xs 5 0 ∷ get_or xs 6 0 ∷
+    get_or xs 7 0 ∷ get_or xs 8 0 ∷ []
 nine (a ∷ b ∷ c ∷ d ∷ e ∷ f ∷ g ∷ h ∷ i ∷ []) l = refl
 nine _ l = absurd (omega arith)
 
 abbrev pub IsInstrumentText : Instrument → List ℕ → Type 0
 IsInstrumentText instrument piece = piece ≡ instrument_text instrument
 
-pub instrument_takes : (total : ℕ) (bytes : List ℕ) (x : Instrument × List ℕ) → All IsByte bytes → instrument_at total bytes ≡ Ok x → Takes IsInstrumentText IsInstrument bytes x.0 x.1
+pub instrument_takes : (total : ℕ) (bytes : List ℕ) (x : Instrument × List ℕ) → All IsByte bytes →
+    instrument_at total bytes ≡ Ok x → Takes IsInstrumentText IsInstrument bytes x.0 x.1
 unfolding instrument_at
 instrument_takes total bytes x are e =
     let a = bind_ok (bytes_at total 9 bytes) _ x e in
@@ -103,21 +113,26 @@ instrument_takes total bytes x are e =
       left = name.left;
     })
 
-pub instrument_again : (total : ℕ) (instrument : Instrument) (rest : List ℕ) → IsInstrument instrument → instrument_at total (instrument_text instrument ++ rest) ≡ Ok (instrument, rest)
+pub instrument_again : (total : ℕ) (instrument : Instrument) (rest : List ℕ) → IsInstrument instrument →
+    instrument_at total (instrument_text instrument ++ rest) ≡ Ok (instrument, rest)
 unfolding instrument_at
 instrument_again total i rest are =
-    let fields : List ℕ = i.ad ∷ i.sr ∷ i.wave ∷ i.pulse ∷ i.filter ∷ i.vibrato ∷ i.vibrato_delay ∷ i.gate_timer ∷ i.first_wave ∷ [] in
-    let first : bytes_at total 9 (fields ++ (i.name ++ rest)) ≡ Ok (fields, i.name ++ rest) = bytes_again total 9 fields (i.name ++ rest) refl in
+    let fields : List ℕ = i.ad ∷ i.sr ∷ i.wave ∷ i.pulse ∷ i.filter ∷ i.vibrato ∷ i.vibrato_delay ∷ i.gate_timer ∷
+    i.first_wave ∷ [] in
+    let first : bytes_at total 9 (fields ++ (i.name ++ rest)) ≡ Ok (fields, i.name ++ rest) =
+    bytes_again total 9 fields (i.name ++ rest) refl in
     rw (first, bytes_again total 16 i.name rest are.name.count) refl
 
 -- ---- tables
 
-lefts_of : (lefts rights : List ℕ) → length lefts ≡ length rights → map (λ row. row.left) (table_rows lefts rights) ≡ lefts
+lefts_of : (lefts rights : List ℕ) → length lefts ≡ length rights →
+    map (λ row. row.left) (table_rows lefts rights) ≡ lefts
 lefts_of [] rights l = refl
 lefts_of (x ∷ xs) [] l = absurd (omega arith)
 lefts_of (x ∷ xs) (y ∷ ys) l = ap (λ (t : List ℕ). x ∷ t) (lefts_of xs ys (omega arith))
 
-rights_of : (lefts rights : List ℕ) → length lefts ≡ length rights → map (λ row. row.right) (table_rows lefts rights) ≡ rights
+rights_of : (lefts rights : List ℕ) → length lefts ≡ length rights →
+    map (λ row. row.right) (table_rows lefts rights) ≡ rights
 rights_of [] [] l = refl
 rights_of [] (y ∷ ys) l = absurd (omega arith)
 rights_of (x ∷ xs) [] l = absurd (omega arith)
@@ -132,7 +147,8 @@ sides_are : (lefts rights : List ℕ) → All IsByte lefts → All IsByte rights
 sides_are [] rights ls rs = All-nil IsTableRow
 sides_are (x ∷ xs) [] ls rs = All-nil IsTableRow
 sides_are (x ∷ xs) (y ∷ ys) ls rs =
-    All-cons IsTableRow (record { left = x; right = y }) (table_rows xs ys) (record { left = All-head IsByte x xs ls; right = All-head IsByte y ys rs })
+    All-cons IsTableRow (record { left = x; right = y }) (table_rows xs ys)
+    (record { left = All-head IsByte x xs ls; right = All-head IsByte y ys rs })
     (sides_are xs ys (All-tail IsByte x xs ls) (All-tail IsByte y ys rs))
 
 sides_again : (rows : List TableRow) → table_rows (map (λ row. row.left) rows) (map (λ row. row.right) rows) ≡ rows
@@ -142,7 +158,8 @@ sides_again (row ∷ rows) = ap (λ (t : List TableRow). row ∷ t) (sides_again
 abbrev pub IsTableText : List TableRow → List ℕ → Type 0
 IsTableText rows piece = piece ≡ table_text rows
 
-pub table_takes : (total : ℕ) (bytes : List ℕ) (x : List TableRow × List ℕ) → All IsByte bytes → table_at total bytes ≡ Ok x → Takes IsTableText IsTable bytes x.0 x.1
+pub table_takes : (total : ℕ) (bytes : List ℕ) (x : List TableRow × List ℕ) → All IsByte bytes →
+    table_at total bytes ≡ Ok x → Takes IsTableText IsTable bytes x.0 x.1
 unfolding table_at
 table_takes total bytes x are e =
     let a = bind_ok (byte_at total bytes) _ x e in
@@ -162,21 +179,31 @@ table_takes total bytes x are e =
       piece = n ∷ (lefts ++ rights);
       spelled = ap (λ (k : ℕ). k ∷ (lefts ++ rights)) (sym number)
           ∙ ap (λ (t : List ℕ). length (table_rows lefts rights) ∷ (t ++ rights)) (sym (lefts_of lefts rights same))
-          ∙ ap (λ (t : List ℕ). length (table_rows lefts rights) ∷ (map (λ row. row.left) (table_rows lefts rights) ++ t)) (sym (rights_of lefts rights same));
+          ∙ ap
+          (λ (t : List ℕ). length (table_rows lefts rights) ∷ (map (λ row. row.left) (table_rows lefts rights) ++ t))
+          (sym (rights_of lefts rights same));
       within = record { count = omega arith; each = sides_are lefts rights one.each two.each };
-      parts = count.parts ∙ ap (λ (t : List ℕ). n ∷ t) (one.parts ∙ ap (λ (t : List ℕ). lefts ++ t) two.parts ∙ sym (append_assoc lefts rights c.0.1));
+      parts = count.parts ∙ ap (λ (t : List ℕ). n ∷ t)
+          (one.parts ∙ ap (λ (t : List ℕ). lefts ++ t) two.parts ∙ sym (append_assoc lefts rights c.0.1));
       left = two.left;
     })
 
-pub table_again : (total : ℕ) (rows : List TableRow) (rest : List ℕ) → table_at total (table_text rows ++ rest) ≡ Ok (rows, rest)
+pub table_again : (total : ℕ) (rows : List TableRow) (rest : List ℕ) →
+    table_at total (table_text rows ++ rest) ≡ Ok (rows, rest)
 unfolding table_at
 table_again total rows rest =
     let n = length rows in
     let lefts = map (λ row. row.left) rows in
     let rights = map (λ row. row.right) rows in
-    let whole : table_text rows ++ rest ≡ n ∷ (lefts ++ (rights ++ rest)) = ap (λ (t : List ℕ). n ∷ t) (append_assoc lefts rights rest) in
+    let whole : table_text rows ++ rest ≡ n ∷ (lefts ++ (rights ++ rest)) =
+    ap (λ (t : List ℕ). n ∷ t) (append_assoc lefts rights rest) in
     ap (table_at total) whole
-    ∙ rw (byte_again total n (lefts ++ (rights ++ rest)), bytes_again total n lefts (rights ++ rest) (length-map rows (λ row. row.left)), bytes_again total n rights rest (length-map rows (λ row. row.right)), sides_again rows) refl
+    ∙ rw (
+      byte_again total n (lefts ++ (rights ++ rest)),
+      bytes_again total n lefts (rights ++ rest) (length-map rows (λ row. row.left)),
+      bytes_again total n rights rest (length-map rows (λ row. row.right)),
+      sides_again rows,
+    ) refl
 
 -- the four tables
 abbrev pub AreTableTexts : Tables → List ℕ → Type 0
@@ -191,7 +218,8 @@ pub record AreTables (t : Tables) : Type 0 where
 four_texts : (a b c d p q r s : List ℕ) → p ≡ a → q ≡ b → r ≡ c → s ≡ d → p ++ (q ++ (r ++ s)) ≡ a ++ (b ++ (c ++ d))
 four_texts a b c d p q r s e f g h = cc
 
-pub tables_take : (total : ℕ) (bytes : List ℕ) (x : Tables × List ℕ) → All IsByte bytes → tables_at total bytes ≡ Ok x → Takes AreTableTexts AreTables bytes x.0 x.1
+pub tables_take : (total : ℕ) (bytes : List ℕ) (x : Tables × List ℕ) → All IsByte bytes → tables_at total bytes ≡ Ok x →
+    Takes AreTableTexts AreTables bytes x.0 x.1
 unfolding tables_at
 tables_take total bytes x are e =
     let a = bind_ok (table_at total bytes) _ x e in
@@ -207,12 +235,21 @@ tables_take total bytes x are e =
       piece = wave.piece ++ (pulse.piece ++ (filter.piece ++ speed.piece));
       spelled = four_texts _ _ _ _ _ _ _ _ wave.spelled pulse.spelled filter.spelled speed.spelled;
       within = record { wave = wave.within; pulse = pulse.within; filter = filter.within; speed = speed.within };
-      parts = wave.parts ∙ ap (λ (t : List ℕ). wave.piece ++ t) (pulse.parts ∙ ap (λ (t : List ℕ). pulse.piece ++ t) (filter.parts ∙ ap (λ (t : List ℕ). filter.piece ++ t) speed.parts))
+      parts = wave.parts ∙ ap (λ (t : List ℕ). wave.piece ++ t)
+          (pulse.parts ∙ ap (λ (t : List ℕ). pulse.piece ++ t)
+          (filter.parts ∙ ap (λ (t : List ℕ). filter.piece ++ t) speed.parts))
           ∙ sym (regroup4 wave.piece pulse.piece filter.piece speed.piece d.0.1);
       left = speed.left;
     })
 
-pub tables_again : (total : ℕ) (t : Tables) (rest : List ℕ) → tables_at total (table_text t.wave ++ (table_text t.pulse ++ (table_text t.filter ++ (table_text t.speed ++ rest)))) ≡ Ok (t, rest)
+pub tables_again : (total : ℕ) (t : Tables) (rest : List ℕ) →
+    tables_at total (table_text t.wave ++ (table_text t.pulse ++ (table_text t.filter ++ (table_text t.speed ++ rest))))
+    ≡ Ok (t, rest)
 unfolding tables_at
 tables_again total t rest =
-    rw (table_again total t.wave (table_text t.pulse ++ (table_text t.filter ++ (table_text t.speed ++ rest))), table_again total t.pulse (table_text t.filter ++ (table_text t.speed ++ rest)), table_again total t.filter (table_text t.speed ++ rest), table_again total t.speed rest) refl
+    rw (
+      table_again total t.wave (table_text t.pulse ++ (table_text t.filter ++ (table_text t.speed ++ rest))),
+      table_again total t.pulse (table_text t.filter ++ (table_text t.speed ++ rest)),
+      table_again total t.filter (table_text t.speed ++ rest),
+      table_again total t.speed rest,
+    ) refl

@@ -17,7 +17,8 @@ use Rattle.gts5.proofs.Takes.{bind_ok, ok_is, Takes, bytes_take, bytes_again, by
 use Rattle.gts5.proofs.Cuts.{entries_before, cut_endmark, endmark_after}
 
 -- a test that passed
-chosen_ok : {A : Type 0} (b : Bool) (fault : SongFault) (x y : A) → cond b (Ok x) (Err fault) ≡ Ok y → (b ≡ true) × (x ≡ y)
+chosen_ok : {A : Type 0} (b : Bool) (fault : SongFault) (x y : A) → cond b (Ok x) (Err fault) ≡ Ok y →
+    (b ≡ true) × (x ≡ y)
 chosen_ok true fault x y e = (refl, ok_is x y e)
 chosen_ok false fault x y e = absurd cc
 
@@ -25,12 +26,15 @@ chosen_ok false fault x y e = absurd cc
 abbrev cut_order : List ℕ → Order
 cut_order piece = record { entries = take (endmark_of piece) piece; restart = get_or piece (endmark_of piece + 1) 0 }
 
-cut_is_spelled : (n : ℕ) (piece : List ℕ) → length piece ≡ n + 1 → endmark_of piece < n → All IsByte piece → SpellsOrder (cut_order piece) (n ∷ piece)
+cut_is_spelled : (n : ℕ) (piece : List ℕ) → length piece ≡ n + 1 → endmark_of piece < n → All IsByte piece →
+    SpellsOrder (cut_order piece) (n ∷ piece)
 cut_is_spelled n piece size mark are =
     let place = endmark_of piece in
     let front : length (take place piece) ≡ place = length-take-le place piece (omega arith) in
-    let more : drop (place + 1) piece ≡ get_or piece (place + 1) 0 ∷ drop (place + 1 + 1) piece = drop_more piece (place + 1) 0 (omega arith) in
-    let counted : n ≡ length (take place piece) + 1 + length (drop (place + 1 + 1) piece) = omega (arith, length-drop (place + 1 + 1) piece) in
+    let more : drop (place + 1) piece ≡ get_or piece (place + 1) 0 ∷ drop (place + 1 + 1) piece =
+    drop_more piece (place + 1) 0 (omega arith) in
+    let counted : n ≡ length (take place piece) + 1 + length (drop (place + 1 + 1) piece) =
+    omega (arith, length-drop (place + 1 + 1) piece) in
     record {
       ignored = drop (place + 1 + 1) piece;
       entries = entries_before piece are;
@@ -39,7 +43,8 @@ cut_is_spelled n piece size mark are =
           (cut_endmark piece (omega arith) ∙ ap (λ (t : List ℕ). take place piece ++ 255 ∷ t) more);
     }
 
-cut_is_within : (n : ℕ) (piece : List ℕ) → length piece ≡ n + 1 → n < 256 → endmark_of piece < n → All IsByte piece → IsOrder (cut_order piece)
+cut_is_within : (n : ℕ) (piece : List ℕ) → length piece ≡ n + 1 → n < 256 → endmark_of piece < n → All IsByte piece →
+    IsOrder (cut_order piece)
 cut_is_within n piece size fits mark are =
     let place = endmark_of piece in
     let front : length (take place piece) ≡ place = length-take-le place piece (omega arith) in
@@ -48,7 +53,8 @@ cut_is_within n piece size fits mark are =
       restart = are (place + 1) 0 (omega arith);
     }
 
-pub order_takes : (total : ℕ) (bytes : List ℕ) (x : Order × List ℕ) → All IsByte bytes → order_at total bytes ≡ Ok x → Takes SpellsOrder IsOrder bytes x.0 x.1
+pub order_takes : (total : ℕ) (bytes : List ℕ) (x : Order × List ℕ) → All IsByte bytes → order_at total bytes ≡ Ok x →
+    Takes SpellsOrder IsOrder bytes x.0 x.1
 unfolding order_at
 order_takes total bytes x are e =
     let a = bind_ok (byte_at total bytes) _ x e in
@@ -67,22 +73,29 @@ order_takes total bytes x are e =
       left = run.left;
     })
 
-pub order_again : (total : ℕ) (order : Order) (piece rest : List ℕ) → SpellsOrder order piece → order_at total (piece ++ rest) ≡ Ok (order, rest)
+pub order_again : (total : ℕ) (order : Order) (piece rest : List ℕ) → SpellsOrder order piece →
+    order_at total (piece ++ rest) ≡ Ok (order, rest)
 unfolding order_at
 order_again total order piece rest spelled =
     let n = length order.entries + 1 + length spelled.ignored in
     let run = order.entries ++ 255 ∷ order.restart ∷ spelled.ignored in
-    let size : length run ≡ n + 1 = omega (arith, length-append order.entries (255 ∷ order.restart ∷ spelled.ignored)) in
-    let mark : endmark_of run ≡ length order.entries = endmark_after order.entries (order.restart ∷ spelled.ignored) spelled.entries in
+    let size : length run ≡ n + 1 = omega (arith, length-append order.entries (255 ∷ order.restart ∷ spelled.ignored))
+    in
+    let mark : endmark_of run ≡ length order.entries =
+    endmark_after order.entries (order.restart ∷ spelled.ignored) spelled.entries in
     let inside : ltb (endmark_of run) n ≡ true = lt-ltb _ _ (omega arith) in
-    let entries : take (endmark_of run) run ≡ order.entries = rw mark (take_at order.entries (255 ∷ order.restart ∷ spelled.ignored) (length order.entries) refl) in
-    let restart : get_or run (endmark_of run + 1) 0 ≡ order.restart = rw mark (get_or-append-add order.entries (255 ∷ order.restart ∷ spelled.ignored) 1 0) in
+    let entries : take (endmark_of run) run ≡ order.entries =
+    rw mark (take_at order.entries (255 ∷ order.restart ∷ spelled.ignored) (length order.entries) refl) in
+    let restart : get_or run (endmark_of run + 1) 0 ≡ order.restart =
+    rw mark (get_or-append-add order.entries (255 ∷ order.restart ∷ spelled.ignored) 1 0) in
     let cut : cut_order run ≡ order = λ i. record { entries = entries i; restart = restart i } in
     let whole : piece ++ rest ≡ n ∷ (run ++ rest) = ap (λ (t : List ℕ). t ++ rest) spelled.parts in
-    let reads : order_at total (n ∷ (run ++ rest)) ≡ Ok (cut_order run, rest) = rw (byte_again total n (run ++ rest), bytes_again total (n + 1) run rest size, inside) refl in
+    let reads : order_at total (n ∷ (run ++ rest)) ≡ Ok (cut_order run, rest) =
+    rw (byte_again total n (run ++ rest), bytes_again total (n + 1) run rest size, inside) refl in
     ap (order_at total) whole ∙ reads ∙ ap (λ (o : Order). Ok (o, rest)) cut
 
-pub subtune_takes : (total : ℕ) (bytes : List ℕ) (x : Subtune × List ℕ) → All IsByte bytes → subtune_at total bytes ≡ Ok x → Takes SpellsSubtune IsSubtune bytes x.0 x.1
+pub subtune_takes : (total : ℕ) (bytes : List ℕ) (x : Subtune × List ℕ) → All IsByte bytes →
+    subtune_at total bytes ≡ Ok x → Takes SpellsSubtune IsSubtune bytes x.0 x.1
 unfolding subtune_at
 subtune_takes total bytes x are e =
     let a = bind_ok (order_at total bytes) _ x e in
@@ -104,13 +117,21 @@ subtune_takes total bytes x are e =
         spells_three = three.spelled;
       };
       within = record { one = one.within; two = two.within; three = three.within };
-      parts = one.parts ∙ ap (λ (t : List ℕ). one.piece ++ t) (two.parts ∙ ap (λ (t : List ℕ). two.piece ++ t) three.parts) ∙ sym (regroup3 one.piece two.piece three.piece c.0.1);
+      parts = one.parts ∙ ap (λ (t : List ℕ). one.piece ++ t)
+          (two.parts ∙ ap (λ (t : List ℕ). two.piece ++ t) three.parts)
+          ∙ sym (regroup3 one.piece two.piece three.piece c.0.1);
       left = three.left;
     })
 
-pub subtune_again : (total : ℕ) (subtune : Subtune) (piece rest : List ℕ) → SpellsSubtune subtune piece → subtune_at total (piece ++ rest) ≡ Ok (subtune, rest)
+pub subtune_again : (total : ℕ) (subtune : Subtune) (piece rest : List ℕ) → SpellsSubtune subtune piece →
+    subtune_at total (piece ++ rest) ≡ Ok (subtune, rest)
 unfolding subtune_at
 subtune_again total subtune piece rest spelled =
-    let whole : piece ++ rest ≡ spelled.one ++ (spelled.two ++ (spelled.three ++ rest)) = ap (λ (t : List ℕ). t ++ rest) spelled.parts ∙ regroup3 spelled.one spelled.two spelled.three rest in
+    let whole : piece ++ rest ≡ spelled.one ++ (spelled.two ++ (spelled.three ++ rest)) =
+    ap (λ (t : List ℕ). t ++ rest) spelled.parts ∙ regroup3 spelled.one spelled.two spelled.three rest in
     ap (subtune_at total) whole
-    ∙ rw (order_again total subtune.one spelled.one (spelled.two ++ (spelled.three ++ rest)) spelled.spells_one, order_again total subtune.two spelled.two (spelled.three ++ rest) spelled.spells_two, order_again total subtune.three spelled.three rest spelled.spells_three) refl
+    ∙ rw (
+      order_again total subtune.one spelled.one (spelled.two ++ (spelled.three ++ rest)) spelled.spells_one,
+      order_again total subtune.two spelled.two (spelled.three ++ rest) spelled.spells_two,
+      order_again total subtune.three spelled.three rest spelled.spells_three,
+    ) refl

@@ -34,12 +34,16 @@ magic_ok : (b : Bool) (x y : List ℕ) (fault : SongFault) → cond b (Ok x) (Er
 magic_ok true x y fault e = (refl, ok_is x y e)
 magic_ok false x y fault e = absurd cc
 
-magic_takes : (bytes rest : List ℕ) → All IsByte bytes → after_magic bytes ≡ Ok rest → (bytes ≡ codes "GTS5" ++ rest) × All IsByte rest
+magic_takes : (bytes rest : List ℕ) → All IsByte bytes → after_magic bytes ≡ Ok rest →
+    (bytes ≡ codes "GTS5" ++ rest) × All IsByte rest
 unfolding after_magic
 magic_takes bytes rest are e =
     let g = magic_ok (bytes_eq (take 4 bytes) (codes "GTS5")) (drop 4 bytes) rest NotGts5 e in
-    let front : take 4 bytes ≡ codes "GTS5" = (bytes_eq-Decides (take 4 bytes) (codes "GTS5")).0 g.0 in
-    (sym (take-append-drop 4 bytes) ∙ ap (λ (t : List ℕ). t ++ drop 4 bytes) front ∙ ap (λ (t : List ℕ). codes "GTS5" ++ t) g.1, subst (All IsByte) g.1 (All-drop IsByte 4 bytes are))
+    let front : take 4 bytes ≡ codes "GTS5" = (bytes_eq-Decides (take 4 bytes) (codes "GTS5")).0 g.0 in (
+      sym (take-append-drop 4 bytes) ∙ ap (λ (t : List ℕ). t ++ drop 4 bytes) front
+          ∙ ap (λ (t : List ℕ). codes "GTS5" ++ t) g.1,
+      subst (All IsByte) g.1 (All-drop IsByte 4 bytes are),
+    )
 
 magic_again : (rest : List ℕ) → after_magic (codes "GTS5" ++ rest) ≡ Ok rest
 unfolding after_magic
@@ -47,26 +51,31 @@ magic_again rest = refl
 
 -- ---- counted pieces
 
-record TakesMany {X : Type 0} (Spelled : X → List ℕ → Type 0) (limit : ℕ) (Within : X → Type 0) (bytes : List ℕ) (items : List X) (rest : List ℕ) : Type 0 where
+record TakesMany {X : Type 0} (Spelled : X → List ℕ → Type 0) (limit : ℕ) (Within : X → Type 0) (bytes : List ℕ)
+    (items : List X) (rest : List ℕ) : Type 0 where
   pub text : List ℕ
   pub spelled : SpellsEach Spelled items text
   pub within : KeepsLimit limit Within items
   pub parts : bytes ≡ length items ∷ (text ++ rest)
   pub left : All IsByte rest
 
-many : {X : Type 0} (Spelled : X → List ℕ → Type 0) (limit : ℕ) (Within : X → Type 0) (bytes : List ℕ) (n : ℕ) (after : List ℕ) (items : List X) (rest : List ℕ)
-    → TakesCount bytes n after → n ≤ limit → Takes (SpellsEach Spelled) (AreMany Within n) after items rest → TakesMany Spelled limit Within bytes items rest
+many : {X : Type 0} (Spelled : X → List ℕ → Type 0) (limit : ℕ) (Within : X → Type 0) (bytes : List ℕ) (n : ℕ)
+    (after : List ℕ) (items : List X) (rest : List ℕ)
+    → TakesCount bytes n after → n ≤ limit → Takes (SpellsEach Spelled) (AreMany Within n) after items rest →
+    TakesMany Spelled limit Within bytes items rest
 many Spelled limit Within bytes n after items rest count small pieces =
     let number = pieces.within.number in
     record {
       text = pieces.piece;
       spelled = pieces.spelled;
       within = record { count = omega arith; each = pieces.within.each };
-      parts = count.parts ∙ ap (λ (t : List ℕ). n ∷ t) pieces.parts ∙ ap (λ (k : ℕ). k ∷ (pieces.piece ++ rest)) (sym number);
+      parts = count.parts ∙ ap (λ (t : List ℕ). n ∷ t) pieces.parts ∙ ap (λ (k : ℕ). k ∷ (pieces.piece ++ rest))
+          (sym number);
       left = pieces.left;
     }
 
-subtunes_take : (total : ℕ) (bytes : List ℕ) (x : List Subtune × List ℕ) → All IsByte bytes → subtunes_at total bytes ≡ Ok x → TakesMany SpellsSubtune 32 IsSubtune bytes x.0 x.1
+subtunes_take : (total : ℕ) (bytes : List ℕ) (x : List Subtune × List ℕ) → All IsByte bytes →
+    subtunes_at total bytes ≡ Ok x → TakesMany SpellsSubtune 32 IsSubtune bytes x.0 x.1
 unfolding subtunes_at
 subtunes_take total bytes x are e =
     let a = bind_ok (count_at total 32 bytes) (λ count. each_at (subtune_at total) count.0 count.1) x e in
@@ -74,15 +83,18 @@ subtunes_take total bytes x are e =
     many SpellsSubtune 32 IsSubtune bytes a.0.0 a.0.1 x.0 x.1 count.0 count.1
     (each_takes (subtune_at total) SpellsSubtune IsSubtune (subtune_takes total) a.0.0 a.0.1 x count.0.left a.2)
 
-instruments_take : (total : ℕ) (bytes : List ℕ) (x : List Instrument × List ℕ) → All IsByte bytes → instruments_at total bytes ≡ Ok x → TakesMany IsInstrumentText 63 IsInstrument bytes x.0 x.1
+instruments_take : (total : ℕ) (bytes : List ℕ) (x : List Instrument × List ℕ) → All IsByte bytes →
+    instruments_at total bytes ≡ Ok x → TakesMany IsInstrumentText 63 IsInstrument bytes x.0 x.1
 unfolding instruments_at
 instruments_take total bytes x are e =
     let a = bind_ok (count_at total 63 bytes) (λ count. each_at (instrument_at total) count.0 count.1) x e in
     let count = count_takes total 63 bytes a.0 are a.1 in
     many IsInstrumentText 63 IsInstrument bytes a.0.0 a.0.1 x.0 x.1 count.0 count.1
-    (each_takes (instrument_at total) IsInstrumentText IsInstrument (instrument_takes total) a.0.0 a.0.1 x count.0.left a.2)
+    (each_takes (instrument_at total) IsInstrumentText IsInstrument (instrument_takes total) a.0.0 a.0.1 x count.0.left
+    a.2)
 
-patterns_take : (total : ℕ) (bytes : List ℕ) (x : List (List Row) × List ℕ) → All IsByte bytes → patterns_at total bytes ≡ Ok x → TakesMany SpellsPattern 208 IsPattern bytes x.0 x.1
+patterns_take : (total : ℕ) (bytes : List ℕ) (x : List (List Row) × List ℕ) → All IsByte bytes →
+    patterns_at total bytes ≡ Ok x → TakesMany SpellsPattern 208 IsPattern bytes x.0 x.1
 unfolding patterns_at
 patterns_take total bytes x are e =
     let a = bind_ok (count_at total 208 bytes) (λ count. each_at (pattern_at total) count.0 count.1) x e in
@@ -90,27 +102,35 @@ patterns_take total bytes x are e =
     many SpellsPattern 208 IsPattern bytes a.0.0 a.0.1 x.0 x.1 count.0 count.1
     (each_takes (pattern_at total) SpellsPattern IsPattern (pattern_takes total) a.0.0 a.0.1 x count.0.left a.2)
 
-subtunes_again : (total : ℕ) (items : List Subtune) (text rest : List ℕ) → KeepsLimit 32 IsSubtune items → SpellsEach SpellsSubtune items text → subtunes_at total (length items ∷ (text ++ rest)) ≡ Ok (items, rest)
+subtunes_again : (total : ℕ) (items : List Subtune) (text rest : List ℕ) → KeepsLimit 32 IsSubtune items →
+    SpellsEach SpellsSubtune items text → subtunes_at total (length items ∷ (text ++ rest)) ≡ Ok (items, rest)
 unfolding subtunes_at
 subtunes_again total items text rest within spelled =
     rw (count_again total 32 (length items) (text ++ rest) within.count)
-    (each_again (subtune_at total) SpellsSubtune IsSubtune (λ x piece more is. subtune_again total x piece more) items text rest within.each spelled)
+    (each_again (subtune_at total) SpellsSubtune IsSubtune (λ x piece more is. subtune_again total x piece more) items
+    text rest within.each spelled)
 
-instrument_piece : (total : ℕ) (x : Instrument) (piece rest : List ℕ) → IsInstrument x → piece ≡ instrument_text x → instrument_at total (piece ++ rest) ≡ Ok (x, rest)
-instrument_piece total x piece rest is e = ap (λ (t : List ℕ). instrument_at total (t ++ rest)) e ∙ instrument_again total x rest is
+instrument_piece : (total : ℕ) (x : Instrument) (piece rest : List ℕ) → IsInstrument x → piece ≡ instrument_text x →
+    instrument_at total (piece ++ rest) ≡ Ok (x, rest)
+instrument_piece total x piece rest is e = ap (λ (t : List ℕ). instrument_at total (t ++ rest)) e
+    ∙ instrument_again total x rest is
 
-instruments_again : (total : ℕ) (items : List Instrument) (rest : List ℕ) → KeepsLimit 63 IsInstrument items → instruments_at total (instruments_text items ++ rest) ≡ Ok (items, rest)
+instruments_again : (total : ℕ) (items : List Instrument) (rest : List ℕ) → KeepsLimit 63 IsInstrument items →
+    instruments_at total (instruments_text items ++ rest) ≡ Ok (items, rest)
 unfolding instruments_at
 instruments_again total items rest within =
     rw (count_again total 63 (length items) (flat_map instrument_text items ++ rest) within.count)
-    (each_again (instrument_at total) IsInstrumentText IsInstrument (instrument_piece total) items (flat_map instrument_text items) rest within.each
+    (each_again (instrument_at total) IsInstrumentText IsInstrument (instrument_piece total) items
+    (flat_map instrument_text items) rest within.each
     (text_each instrument_text IsInstrumentText IsInstrument (λ x is. refl) items within.each))
 
-patterns_again : (total : ℕ) (items : List (List Row)) (text rest : List ℕ) → KeepsLimit 208 IsPattern items → SpellsEach SpellsPattern items text → patterns_at total (length items ∷ (text ++ rest)) ≡ Ok (items, rest)
+patterns_again : (total : ℕ) (items : List (List Row)) (text rest : List ℕ) → KeepsLimit 208 IsPattern items →
+    SpellsEach SpellsPattern items text → patterns_at total (length items ∷ (text ++ rest)) ≡ Ok (items, rest)
 unfolding patterns_at
 patterns_again total items text rest within spelled =
     rw (count_again total 208 (length items) (text ++ rest) within.count)
-    (each_again (pattern_at total) SpellsPattern IsPattern (λ x piece more is. pattern_again total x piece more is) items text rest within.each spelled)
+    (each_again (pattern_at total) SpellsPattern IsPattern (λ x piece more is. pattern_again total x piece more is)
+    items text rest within.each spelled)
 
 -- ---- the song
 
@@ -153,9 +173,13 @@ song_takes bytes song are e =
     let t = b.0.0 in
     let q = f.0.0 in
     let made = made_of t c.0.0 d.0.0 q g.0.0 in
-    let texts_are : a.0 ≡ texts_text made ++ b.0.1 = texts.parts ∙ ap (λ (p : List ℕ). p ++ b.0.1) texts.spelled ∙ three_texts t.name t.author t.copyright b.0.1 in
-    let instruments_are : c.0.1 ≡ instruments_text made.instruments ++ d.0.1 = instruments.parts ∙ ap (λ (p : List ℕ). length d.0.0 ∷ (p ++ d.0.1)) (each_text instrument_text d.0.0 instruments.text instruments.spelled) in
-    let tables_are : d.0.1 ≡ tables_text made ++ f.0.1 = tables.parts ∙ ap (λ (p : List ℕ). p ++ f.0.1) tables.spelled ∙ four_texts (table_text q.wave) (table_text q.pulse) (table_text q.filter) (table_text q.speed) f.0.1 in
+    let texts_are : a.0 ≡ texts_text made ++ b.0.1 = texts.parts ∙ ap (λ (p : List ℕ). p ++ b.0.1) texts.spelled
+    ∙ three_texts t.name t.author t.copyright b.0.1 in
+    let instruments_are : c.0.1 ≡ instruments_text made.instruments ++ d.0.1 =
+    instruments.parts ∙ ap (λ (p : List ℕ). length d.0.0 ∷ (p ++ d.0.1))
+    (each_text instrument_text d.0.0 instruments.text instruments.spelled) in
+    let tables_are : d.0.1 ≡ tables_text made ++ f.0.1 = tables.parts ∙ ap (λ (p : List ℕ). p ++ f.0.1) tables.spelled
+    ∙ four_texts (table_text q.wave) (table_text q.pulse) (table_text q.filter) (table_text q.speed) f.0.1 in
     subst (Spells bytes) (ok_is made song g.2) (record {
       limits = record {
         name = texts.within.name;
@@ -172,8 +196,11 @@ song_takes bytes song are e =
       subtunes = subtunes.text;
       patterns = patterns.text;
       ignored = g.0.1;
-      parts = magic.0 ∙ ap (λ (p : List ℕ). codes "GTS5" ++ p) (texts_are ∙ ap (λ (p : List ℕ). texts_text made ++ p) (subtunes.parts ∙ ap (λ (p : List ℕ). length c.0.0 ∷ (subtunes.text ++ p))
-          (instruments_are ∙ ap (λ (p : List ℕ). instruments_text made.instruments ++ p) (tables_are ∙ ap (λ (p : List ℕ). tables_text made ++ p) patterns.parts))));
+      parts = magic.0 ∙ ap (λ (p : List ℕ). codes "GTS5" ++ p)
+          (texts_are ∙ ap (λ (p : List ℕ). texts_text made ++ p)
+          (subtunes.parts ∙ ap (λ (p : List ℕ). length c.0.0 ∷ (subtunes.text ++ p))
+          (instruments_are ∙ ap (λ (p : List ℕ). instruments_text made.instruments ++ p)
+          (tables_are ∙ ap (λ (p : List ℕ). tables_text made ++ p) patterns.parts))));
       spells_subtunes = subtunes.spelled;
       spells_patterns = patterns.spelled;
     })
@@ -191,11 +218,20 @@ song_again bytes song spelled =
     let r2 = length song.subtunes ∷ (spelled.subtunes ++ r3) in
     let r1 = texts_text song ++ r2 in
     let magic : after_magic bytes ≡ Ok r1 = ap after_magic spelled.parts ∙ magic_again r1 in
-    let first : texts_at total r1 ≡ Ok (texts, r2) = ap (texts_at total) (simp append_assoc) ∙ texts_again total texts r2 (record { name = within.name; author = within.author; copyright = within.copyright }) in
-    let second : subtunes_at total r2 ≡ Ok (song.subtunes, r3) = subtunes_again total song.subtunes spelled.subtunes r3 within.subtunes spelled.spells_subtunes in
-    let third : instruments_at total r3 ≡ Ok (song.instruments, r4) = instruments_again total song.instruments r4 within.instruments in
-    let fourth : tables_at total r4 ≡ Ok (tables, r5) = ap (tables_at total) (sym (four_texts (table_text song.wave) (table_text song.pulse) (table_text song.filter) (table_text song.speed) r5) ∙ regroup4 (table_text song.wave) (table_text song.pulse) (table_text song.filter) (table_text song.speed) r5) ∙ tables_again total tables r5 in
-    let fifth : patterns_at total r5 ≡ Ok (song.patterns, spelled.ignored) = patterns_again total song.patterns spelled.patterns spelled.ignored within.patterns spelled.spells_patterns in
+    let first : texts_at total r1 ≡ Ok (texts, r2) = ap (texts_at total) (simp append_assoc)
+    ∙ texts_again total texts r2 (record { name = within.name; author = within.author; copyright = within.copyright })
+    in
+    let second : subtunes_at total r2 ≡ Ok (song.subtunes, r3) =
+    subtunes_again total song.subtunes spelled.subtunes r3 within.subtunes spelled.spells_subtunes in
+    let third : instruments_at total r3 ≡ Ok (song.instruments, r4) =
+    instruments_again total song.instruments r4 within.instruments in
+    let fourth : tables_at total r4 ≡ Ok (tables, r5) =
+    ap (tables_at total)
+    (sym (four_texts (table_text song.wave) (table_text song.pulse) (table_text song.filter) (table_text song.speed) r5)
+    ∙ regroup4 (table_text song.wave) (table_text song.pulse) (table_text song.filter) (table_text song.speed) r5)
+    ∙ tables_again total tables r5 in
+    let fifth : patterns_at total r5 ≡ Ok (song.patterns, spelled.ignored) =
+    patterns_again total song.patterns spelled.patterns spelled.ignored within.patterns spelled.spells_patterns in
     rw (magic, first, second, third, fourth, fifth) refl
 
 -- ---- what the reader's clauses say
@@ -211,11 +247,13 @@ memory_or_not (BadRow n) = inr (λ e. cc)
 abbrev GivesSong : Result Song SongFault → List ℕ → Type 0
 GivesSong r bytes = Gives (λ song. song) r (song_of bytes)
 
-pub is_found : (bytes : List ℕ) (r : Result Song SongFault) → All IsByte bytes → GivesSong r bytes → IfOk r (Spells bytes)
+pub is_found : (bytes : List ℕ) (r : Result Song SongFault) → All IsByte bytes → GivesSong r bytes →
+    IfOk r (Spells bytes)
 is_found bytes (Ok song) are given = song_takes bytes song are given
 is_found bytes (Err fault) are given = tt
 
-pub is_answer : (bytes : List ℕ) (r wanted : Result Song SongFault) → GivesSong r bytes → song_of bytes ≡ wanted → IsAnswer r wanted
+pub is_answer : (bytes : List ℕ) (r wanted : Result Song SongFault) → GivesSong r bytes → song_of bytes ≡ wanted →
+    IsAnswer r wanted
 is_answer bytes (Ok song) wanted given e = inl (sym given ∙ e)
 is_answer bytes (Err fault) wanted given e =
     elim (memory_or_not fault) [
@@ -223,7 +261,8 @@ is_answer bytes (Err fault) wanted given e =
       | inr other ↦ inl (sym (given other) ∙ e)
     ]
 
-pub is_fault : (bytes : List ℕ) (r : Result Song SongFault) → GivesSong r bytes → IfErr r (λ fault. (fault ≡ NoMemory) ⊎ (fault_of bytes ≡ Some fault))
+pub is_fault : (bytes : List ℕ) (r : Result Song SongFault) → GivesSong r bytes →
+    IfErr r (λ fault. (fault ≡ NoMemory) ⊎ (fault_of bytes ≡ Some fault))
 is_fault bytes (Ok song) given = tt
 is_fault bytes (Err fault) given =
     elim (memory_or_not fault) [

@@ -52,7 +52,12 @@ after_table total (n ∷ rest) = after_bytes total (2 * n) rest
 
 -- the row at the front: four bytes
 abbrev pub row_of : List ℕ → Row
-row_of bytes = record { note = slice_index bytes 0; instrument = slice_index bytes 1; command = slice_index bytes 2; param = slice_index bytes 3 }
+row_of bytes = record {
+  note = slice_index bytes 0;
+  instrument = slice_index bytes 1;
+  command = slice_index bytes 2;
+  param = slice_index bytes 3;
+}
 
 -- note, instrument and command are in their ranges
 abbrev pub has_ranges : Row → Bool

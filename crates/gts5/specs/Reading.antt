@@ -31,7 +31,8 @@ count_at total limit bytes = do
   if nat_lt limit count.0 then Err (OutOfLimit (offset_of total bytes)) else Ok count
 
 -- n pieces of one kind
-abbrev pub each_at : {X : Type 0} → (List ℕ → Result (X × List ℕ) SongFault) → ℕ → List ℕ → Result (List X × List ℕ) SongFault
+abbrev pub each_at : {X : Type 0} → (List ℕ → Result (X × List ℕ) SongFault) → ℕ → List ℕ →
+    Result (List X × List ℕ) SongFault
 each_at piece_at zero bytes = Ok ([], bytes)
 each_at piece_at (suc n) bytes = do
   first ← piece_at bytes
@@ -62,7 +63,10 @@ order_at total bytes = do
   n ← byte_at total bytes
   piece ← bytes_at total (n.0 + 1) n.1
   if nat_lt (endmark_of piece.0) n.0
-      then Ok (record { entries = take (endmark_of piece.0) piece.0; restart = slice_index piece.0 (endmark_of piece.0 + 1) }, piece.1)
+      then Ok (
+        record { entries = take (endmark_of piece.0) piece.0; restart = slice_index piece.0 (endmark_of piece.0 + 1) },
+        piece.1,
+      )
       else Err (BadOrder (offset_of total bytes))
 
 unfoldable pub subtune_at : ℕ → List ℕ → Result (Subtune × List ℕ) SongFault

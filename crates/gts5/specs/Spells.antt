@@ -40,7 +40,8 @@ pub record SpellsPattern (rows : List Row) (piece : List ℕ) : Type 0 where
 -- one piece for each item, one after the other
 abbrev pub SpellsEach : {X : Type 0} → (X → List ℕ → Type 0) → List X → List ℕ → Type 0
 SpellsEach Spelled [] text = text ≡ []
-SpellsEach Spelled (x ∷ xs) text = (piece : List ℕ) × (others : List ℕ) × (text ≡ piece ++ others) × Spelled x piece × SpellsEach Spelled xs others
+SpellsEach Spelled (x ∷ xs) text = (piece : List ℕ) × (others : List ℕ) × (text ≡ piece ++ others) × Spelled x piece
+    × SpellsEach Spelled xs others
 
 -- the whole text: the magic, three texts, the counted subtunes, instruments, tables and patterns, and any bytes
 pub record Spells (bytes : List ℕ) (song : Song) : Type 0 where
@@ -48,7 +49,8 @@ pub record Spells (bytes : List ℕ) (song : Song) : Type 0 where
   pub subtunes : List ℕ
   pub patterns : List ℕ
   pub ignored : List ℕ
-  pub parts : bytes ≡ codes "GTS5" ++ (texts_text song ++ (length song.subtunes ∷ (subtunes ++ (instruments_text song.instruments
+  pub parts : bytes ≡ codes "GTS5"
+      ++ (texts_text song ++ (length song.subtunes ∷ (subtunes ++ (instruments_text song.instruments
       ++ (tables_text song ++ (length song.patterns ∷ (patterns ++ ignored)))))))
   pub spells_subtunes : SpellsEach SpellsSubtune song.subtunes subtunes
   pub spells_patterns : SpellsEach SpellsPattern song.patterns patterns

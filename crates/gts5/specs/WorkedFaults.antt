@@ -38,30 +38,38 @@ MagicIsWanted = HasFault [] NotGts5 × HasFault (cut_to 3) NotGts5 × HasFault (
 -- no byte of a text, of a count, of an orderlist, of a table's count, of a pattern; no byte of an instrument, of a
 -- table
 abbrev pub CutsAreTruncated : Type 0
-CutsAreTruncated = HasFault (cut_to 4) (Truncated 4) × HasFault (cut_to 99) (Truncated 99) × HasFault (cut_to 100) (Truncated 100)
-    × HasFault (cut_to 101) (Truncated 101) × HasFault (cut_to 103) (Truncated 103) × HasFault (cut_to 114) (Truncated 114)
+CutsAreTruncated = HasFault (cut_to 4) (Truncated 4) × HasFault (cut_to 99) (Truncated 99)
+    × HasFault (cut_to 100) (Truncated 100)
+    × HasFault (cut_to 101) (Truncated 101) × HasFault (cut_to 103) (Truncated 103)
+    × HasFault (cut_to 114) (Truncated 114)
     × HasFault (cut_to 119) (Truncated 119) × HasFault (cut_to 127) (Truncated 127)
     × HasFault (changed 113 1) (Truncated 128) × HasFault (changed 114 7) (Truncated 128)
 
 -- 33 subtunes, 64 instruments, 209 patterns
 abbrev pub CountsAreLimited : Type 0
-CountsAreLimited = HasFault (changed 100 33) (OutOfLimit 100) × HasFault (changed 113 64) (OutOfLimit 113) × HasFault (changed 118 209) (OutOfLimit 118)
+CountsAreLimited = HasFault (changed 100 33) (OutOfLimit 100) × HasFault (changed 113 64) (OutOfLimit 113)
+    × HasFault (changed 118 209) (OutOfLimit 118)
 
 -- no endmark in the first n bytes; n is 0, 1, 2; n is 255
 abbrev pub OrdersHaveEndmarks : Type 0
-OrdersHaveEndmarks = HasFault (changed 101 0) (BadOrder 101) × HasFault (changed 101 1) (BadOrder 101) × HasFault (changed 103 0xFE) (BadOrder 101)
-    × HasNoFault (with_order (255 ∷ (replicate 254 0 ++ 0xFF ∷ 0 ∷ []))) × HasFault (with_order (255 ∷ (replicate 255 0 ++ 0xFF ∷ []))) (BadOrder 101)
+OrdersHaveEndmarks = HasFault (changed 101 0) (BadOrder 101) × HasFault (changed 101 1) (BadOrder 101)
+    × HasFault (changed 103 0xFE) (BadOrder 101)
+    × HasNoFault (with_order (255 ∷ (replicate 254 0 ++ 0xFF ∷ 0 ∷ [])))
+    × HasFault (with_order (255 ∷ (replicate 255 0 ++ 0xFF ∷ []))) (BadOrder 101)
 
 -- a note, an instrument and a command out of their ranges, also in a later row; an end row first
 abbrev pub RowsAreInRange : Type 0
-RowsAreInRange = HasFault (changed 120 0x5F) (BadRow 120) × HasFault (changed 120 0xC0) (BadRow 120) × HasFault (changed 120 0xFE) (BadRow 120)
-    × HasFault (changed 121 0x40) (BadRow 120) × HasFault (changed 122 0x10) (BadRow 120) × HasFault (changed 120 0xFF) (BadRow 120)
+RowsAreInRange = HasFault (changed 120 0x5F) (BadRow 120) × HasFault (changed 120 0xC0) (BadRow 120)
+    × HasFault (changed 120 0xFE) (BadRow 120)
+    × HasFault (changed 121 0x40) (BadRow 120) × HasFault (changed 122 0x10) (BadRow 120)
+    × HasFault (changed 120 0xFF) (BadRow 120)
     × HasFault (with_pattern (3 ∷ (rests 1 ++ 0x5F ∷ 0 ∷ 0 ∷ 0 ∷ end_row_text))) (BadRow 124)
 
 -- no row, no end row, 128 rows with and without the end row, 129 rows
 abbrev pub PatternsEnd : Type 0
 PatternsEnd = HasFault (changed 119 0) (BadRow 119) × HasFault (changed 124 0xBD) (BadRow 119)
-    × HasNoFault (with_pattern (129 ∷ (rests 128 ++ end_row_text))) × HasFault (with_pattern (128 ∷ rests 128)) (BadRow 119)
+    × HasNoFault (with_pattern (129 ∷ (rests 128 ++ end_row_text)))
+    × HasFault (with_pattern (128 ∷ rests 128)) (BadRow 119)
     × HasFault (with_pattern (130 ∷ (rests 129 ++ end_row_text))) (OutOfLimit 119)
     × HasFault (with_pattern (129 ∷ (rests 128 ++ 0x5F ∷ 0 ∷ 0 ∷ 0 ∷ []))) (OutOfLimit 119)
 
