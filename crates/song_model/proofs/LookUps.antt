@@ -74,4 +74,8 @@ entries_there order h = grind (arith, nat_tests)
 pub silent_is_playable : (patterns : List (List Row)) (subtune : Subtune) → IsSilentSubtune patterns subtune →
     is_playable_subtune subtune ≡ true
 silent_is_playable patterns subtune s =
-    rw (entries_there subtune.one s.one.entry, entries_there subtune.two s.two.entry, entries_there subtune.three s.three.entry)
+    rw (
+      entries_there subtune.one s.one.entry,
+      entries_there subtune.two s.two.entry,
+      entries_there subtune.three s.three.entry,
+    )

@@ -16,7 +16,8 @@ use Rattle.song_model.specs.WalkRest.{plays_from, places_from, IsOnWalk, coming_
 use Rattle.song_model.proofs.Walks.{one_cycle_is_enough_lem}
 use Rattle.song_model.proofs.Rests.{place_at, play_of, pattern_plays, pattern_places, pattern_transpose, pattern_repeat, at_end, endless_cycle}
 
--- from this place these plays are left, with these places after them, and the walk ends with this transpose and this repeat
+-- from this place these plays are left, with these places after them, and the walk ends with this transpose and this
+-- repeat
 record Stands (entries : List ℕ) (at : OrderPlace) (xs : List Step) (ys : List OrderPlace) (t : ℤ)
     (r : ℕ) : Type 0 where
   inside : at.place ≤ length entries
@@ -96,7 +97,12 @@ byte_stands : (entries bytes : List ℕ) (byte p : ℕ) (t : ℤ) (r : ℕ) (z :
     (end_transpose (byte ∷ bytes) t) (end_repeat (byte ∷ bytes) r)
 byte_stands entries bytes byte p t r true e at others =
     let low : byte < 0xD0 = grind (arith, nat_tests) in
-    rw (pattern_plays bytes byte t r low, pattern_places bytes byte p t r low, pattern_transpose bytes byte t low, pattern_repeat bytes byte r low)
+    rw (
+      pattern_plays bytes byte t r low,
+      pattern_places bytes byte p t r low,
+      pattern_transpose bytes byte t low,
+      pattern_repeat bytes byte r low,
+    )
     (pattern_stands entries bytes byte p t r at low (others t 0))
 byte_stands entries bytes byte p t r false e at others =
     rw e (rw e at (others (transpose_after byte t) (repeat_after byte r)))

@@ -11,4 +11,5 @@ pub returns-else-from-end : goal.returns-else-from-end
 returns-else-from-end c =
     let same = ap length c.as_slice-end.ensures.bytes in
     let differs : ¬ (c.args.here.place + 1 ≡ length c.args.self.now.entries) = λ e. absurd (omega arith) in
-    sym (after_the_last_inside c.args.self.now c.args.here.place c.args.here.transpose c.args.here.repeat c.requires.inside c.requires.pattern (omega arith) differs)
+    sym (after_the_last_inside c.args.self.now c.args.here.place c.args.here.transpose c.args.here.repeat
+    c.requires.inside c.requires.pattern (omega arith) differs)

@@ -14,18 +14,33 @@ returns-clause-inside c =
     let same = ap length c.as_slice.ensures.bytes in
     let ended : length c.args.self.now.entries ≤ c.along-here.result.place = omega arith in
     inside_next_round c.args.self.now c.args.at c.along-here.result c.along.result c.requires.endless
-    (record { on_walk = c.requires.on_walk; along = c.along-here.ensures.rest; ended = ended; again = c.along.ensures.rest })
+    (record {
+      on_walk = c.requires.on_walk;
+      along = c.along-here.ensures.rest;
+      ended = ended;
+      again = c.along.ensures.rest;
+    })
 
 pub returns-clause-play : goal.returns-clause-play
 returns-clause-play c =
     let same = ap length c.as_slice.ensures.bytes in
     let ended : length c.args.self.now.entries ≤ c.along-here.result.place = omega arith in
     play_in_next_round c.args.self.now c.args.at c.along-here.result c.along.result
-    (record { on_walk = c.requires.on_walk; along = c.along-here.ensures.rest; ended = ended; again = c.along.ensures.rest })
+    (record {
+      on_walk = c.requires.on_walk;
+      along = c.along-here.ensures.rest;
+      ended = ended;
+      again = c.along.ensures.rest;
+    })
 
 pub returns-clause-place : goal.returns-clause-place
 returns-clause-place c =
     let same = ap length c.as_slice.ensures.bytes in
     let ended : length c.args.self.now.entries ≤ c.along-here.result.place = omega arith in
     place_in_next_round c.args.self.now c.args.at c.along-here.result c.along.result
-    (record { on_walk = c.requires.on_walk; along = c.along-here.ensures.rest; ended = ended; again = c.along.ensures.rest })
+    (record {
+      on_walk = c.requires.on_walk;
+      along = c.along-here.ensures.rest;
+      ended = ended;
+      again = c.along.ensures.rest;
+    })

@@ -8,5 +8,6 @@ returns c =
     let entries = c.as_slice.ensures.bytes in
     let from = c.from.ensures in
     let first =
-    first_step c.args.self.now.entries c.args.here.place c.args.here.transpose c.args.here.repeat c.requires.inside c.requires.pattern in
+    first_step c.args.self.now.entries c.args.here.place c.args.here.transpose c.args.here.repeat c.requires.inside
+    c.requires.pattern in
     rw first (search (rules, to_z-of_z))
