@@ -7,6 +7,7 @@ pub told_nothing : (told : Option (List ℕ)) → told_with_piece told [] ≡ to
 told_nothing None = refl
 told_nothing (Some bytes) = ap Some (append-nil bytes)
 
-pub told_both : (told : Option (List ℕ)) (a b : List ℕ) → told_with_piece (told_with_piece told a) b ≡ told_with_piece told (a ++ b)
+pub told_both : (told : Option (List ℕ)) (a b : List ℕ) →
+    told_with_piece (told_with_piece told a) b ≡ told_with_piece told (a ++ b)
 told_both None a b = refl
 told_both (Some bytes) a b = ap Some (append_assoc bytes a b)

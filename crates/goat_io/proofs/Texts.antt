@@ -24,21 +24,26 @@ bytes_in-cond : (b : Bool) (x y : Option (Vec ℕ)) → cond b (bytes_in x) (byt
 bytes_in-cond true x y = refl
 bytes_in-cond false x y = refl
 
-find-file_entry : (es : Entries) (q : List ℕ) → find (slice_cmp nat_cmp) q (map file_entry es) ≡ bytes_in (lookup (is_at (λ k. slice_cmp nat_cmp q (string_bytes k))) es)
+find-file_entry : (es : Entries) (q : List ℕ) →
+    find (slice_cmp nat_cmp) q (map file_entry es)
+    ≡ bytes_in (lookup (is_at (λ k. slice_cmp nat_cmp q (string_bytes k))) es)
 find-file_entry [] q = refl
 find-file_entry (e ∷ es) q =
     ap (cond (is_eq (slice_cmp nat_cmp q (string_bytes e.0))) (Some e.1.items)) (find-file_entry es q)
     ∙ bytes_in-cond (is_eq (slice_cmp nat_cmp q (string_bytes e.0))) (Some e.1) _
 
 -- the file under a name is what a look-up by its text finds
-pub file_of-files_of : (m : BTreeMap (String Global) (Vec ℕ)) (q : List ℕ) → file_of (files_of m) q ≡ bytes_in (get_by_text m q)
+pub file_of-files_of : (m : BTreeMap (String Global) (Vec ℕ)) (q : List ℕ) →
+    file_of (files_of m) q ≡ bytes_in (get_by_text m q)
 file_of-files_of m q = get-from_entries nat_list_cmp_total (map file_entry m.entries) q ∙ find-file_entry m.entries q
 
 same_text : (xs ys : List ℕ) → bytes_eq xs ys ≡ eq_by_cmp (slice_cmp nat_cmp) ys xs
 same_text xs ys = sym (is_eq-slice_cmp xs ys) ∙ (eq_by_cmp_equiv nat_list_cmp_total).symm xs ys
 
 -- setting a text's value puts the file
-pub files_of-updated : (m n : BTreeMap (String Global) (Vec ℕ)) (name : List ℕ) (v : Vec ℕ) → UpdatesBy string_cmp (λ k. slice_cmp nat_cmp name (string_bytes k)) m n (Some v) → files_of n ≡ with_file (files_of m) name v.items
+pub files_of-updated : (m n : BTreeMap (String Global) (Vec ℕ)) (name : List ℕ) (v : Vec ℕ) →
+    UpdatesBy string_cmp (λ k. slice_cmp nat_cmp name (string_bytes k)) m n (Some v) →
+    files_of n ≡ with_file (files_of m) name v.items
 files_of-updated m n name v updates =
     same_map nat_list_cmp_total (slice_cmp-IsAntisymmetric nat_cmp-IsAntisymmetric) _ _ (λ q.
     file_of-files_of n q

@@ -21,7 +21,16 @@ next_fails folder = list_any (λ n. n == folder.calls) folder.failing
 abbrev pub mem_files_code : Coded MemFiles
 mem_files_code =
     code_by ((Files × List ℕ) × ((ℕ × ℕ) × (ℕ × (ℕ × ℕ))))
-    (coded× (coded× (code (coded_list coded_ℕ) (coded_list coded_ℕ)) (coded_list coded_ℕ)) (coded× (coded× coded_ℕ coded_ℕ) (coded× coded_ℕ (coded× coded_ℕ coded_ℕ))))
-    (λ f. ((f.files, f.failing), ((f.calls, f.counts.read_faults), (f.counts.write_faults, (f.counts.misses, f.counts.excesses)))))
-    (λ p. record { files = p.0.0; failing = p.0.1; calls = p.1.0.0; counts = record { read_faults = p.1.0.1; write_faults = p.1.1.0; misses = p.1.1.1.0; excesses = p.1.1.1.1 } })
+    (coded× (coded× (code (coded_list coded_ℕ) (coded_list coded_ℕ)) (coded_list coded_ℕ))
+    (coded× (coded× coded_ℕ coded_ℕ) (coded× coded_ℕ (coded× coded_ℕ coded_ℕ))))
+    (λ f. (
+      (f.files, f.failing),
+      ((f.calls, f.counts.read_faults), (f.counts.write_faults, (f.counts.misses, f.counts.excesses))),
+    ))
+    (λ p. record {
+      files = p.0.0;
+      failing = p.0.1;
+      calls = p.1.0.0;
+      counts = record { read_faults = p.1.0.1; write_faults = p.1.1.0; misses = p.1.1.1.0; excesses = p.1.1.1.1 };
+    })
     (λ _. refl)

@@ -6,5 +6,6 @@ use Rattle.goat_io.proofs.mem_sink.MemSinkSink.put.Goals as goal
 pub returns-then-fails-2-clause-failed : goal.returns-then-fails-2-clause-failed
 returns-then-fails-2-clause-failed c = λ _.
     let half = length c.args.bytes.now / 2 in
-    let taken : c.extend_from_slice-appended.new.self.items ≡ c.args.self.now.bytes ++ take half c.args.bytes.now = grind (arith, common_steps) in
+    let taken : c.extend_from_slice-appended.new.self.items ≡ c.args.self.now.bytes ++ take half c.args.bytes.now =
+    grind (arith, common_steps) in
     (half, ap Some taken)
