@@ -21,43 +21,19 @@ invariant_of-result c =
     c.in_ok-check_end.ensures c.in_ok-output.ensures.0 c.in_ok-output.ensures.1 in
     record { fits = d.fits; in_order = d.in_order; numbers_stand = d.stand }
 
-pub returns-clause-faults : goal.returns-clause-faults
-returns-clause-faults c =
+pub returns : goal.returns
+returns c =
     let d = done_from c.in_ok-output.output c.in_ok-labels.labels c.args.set.0 c.args.origin c.size.result
     c.as_slice-lines.result.now c.args.listing.now c.as_slice-lines.ensures c.in_ok-labels.ensures.0
     c.in_ok-check_lines.ensures c.in_ok-labels.ensures.1 c.in_ok-check_operands.ensures c.size.ensures
     c.in_ok-check_end.ensures c.in_ok-output.ensures.0 c.in_ok-output.ensures.1 in
-    fault_none c.args.set.0 c.args.origin c.args.listing.now d.nothing
-
-pub returns-clause-assembled : goal.returns-clause-assembled
-returns-clause-assembled c =
-    let d = done_from c.in_ok-output.output c.in_ok-labels.labels c.args.set.0 c.args.origin c.size.result
-    c.as_slice-lines.result.now c.args.listing.now c.as_slice-lines.ensures c.in_ok-labels.ensures.0
-    c.in_ok-check_lines.ensures c.in_ok-labels.ensures.1 c.in_ok-check_operands.ensures c.size.ensures
-    c.in_ok-check_end.ensures c.in_ok-output.ensures.0 c.in_ok-output.ensures.1 in
-    record { origin_is = refl; bytes_are = d.bytes_are; fixes_are = d.fixes_are }
-
-pub returns-clause-size : goal.returns-clause-size
-returns-clause-size c =
-    let d = done_from c.in_ok-output.output c.in_ok-labels.labels c.args.set.0 c.args.origin c.size.result
-    c.as_slice-lines.result.now c.args.listing.now c.as_slice-lines.ensures c.in_ok-labels.ensures.0
-    c.in_ok-check_lines.ensures c.in_ok-labels.ensures.1 c.in_ok-check_operands.ensures c.size.ensures
-    c.in_ok-check_end.ensures c.in_ok-output.ensures.0 c.in_ok-output.ensures.1 in
-    d.size
-
-pub returns-clause-stands : goal.returns-clause-stands
-returns-clause-stands c =
-    let d = done_from c.in_ok-output.output c.in_ok-labels.labels c.args.set.0 c.args.origin c.size.result
-    c.as_slice-lines.result.now c.args.listing.now c.as_slice-lines.ensures c.in_ok-labels.ensures.0
-    c.in_ok-check_lines.ensures c.in_ok-labels.ensures.1 c.in_ok-check_operands.ensures c.size.ensures
-    c.in_ok-check_end.ensures c.in_ok-output.ensures.0 c.in_ok-output.ensures.1 in
-    stand_as_written opcodes_have_rows c.args.set.0 c.args.origin c.args.listing.now c.in_ok-output.output.bytes
-    d.nothing d.bytes_are
-
-pub returns-clause-moves : goal.returns-clause-moves
-returns-clause-moves c other moved m =
-    let d = done_from c.in_ok-output.output c.in_ok-labels.labels c.args.set.0 c.args.origin c.size.result
-    c.as_slice-lines.result.now c.args.listing.now c.as_slice-lines.ensures c.in_ok-labels.ensures.0
-    c.in_ok-check_lines.ensures c.in_ok-labels.ensures.1 c.in_ok-check_operands.ensures c.size.ensures
-    c.in_ok-check_end.ensures c.in_ok-output.ensures.0 c.in_ok-output.ensures.1 in
-    moved_is c.args.set.0 c.args.origin other c.args.listing.now _ moved d.nothing d.bytes_are d.fixes_are d.size m
+    record {
+      faults = fault_none c.args.set.0 c.args.origin c.args.listing.now d.nothing;
+      assembled = record { origin_is = refl; bytes_are = d.bytes_are; fixes_are = d.fixes_are };
+      size = d.size;
+      stands =
+          stand_as_written opcodes_have_rows c.args.set.0 c.args.origin c.args.listing.now
+          c.in_ok-output.output.bytes d.nothing d.bytes_are;
+      moves = λ other moved m.
+          moved_is c.args.set.0 c.args.origin other c.args.listing.now _ moved d.nothing d.bytes_are d.fixes_are d.size m;
+    }

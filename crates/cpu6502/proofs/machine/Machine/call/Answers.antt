@@ -1,4 +1,4 @@
-use Rattle.std.proofs.Common.{◌≡◌, ℕ, ◌+◌, ◌<◌, ◌≤◌, Ok, Err, ap, ◌∙◌, refl, sym, subst, arith}
+use Rattle.std.proofs.Common.{◌≡◌, ℕ, ◌+◌, ◌<◌, ◌≤◌, Ok, Err, ap, ◌∙◌, refl, sym, subst, arith, rules}
 use Rattle.std.proofs.lemmas.Bool.{false≢true}
 use Rattle.cpu6502.specs.declared.machine.Machine.{Machine}
 use Rattle.cpu6502.specs.declared.stop.Stop.{Stop}
@@ -34,8 +34,8 @@ returns-then-steps-budget-clause-fails c = λ reason after fails.
     ap Err (under_way_fails c.args.self.now c.args.address c.args.a c.args.budget c.stepping.self after reason
     under_way fails)
 
-pub returns-in-Err-clause-failed : goal.returns-in-Err-clause-failed
-returns-in-Err-clause-failed c =
+pub returns-in-Err : goal.returns-in-Err
+returns-in-Err c =
     let i = c.stepping.invariant in
     let here = λ (back : HasReturned c.args.self.now c.stepping.self). false≢true
     (c.stepping-test.ensures.1 (back.at_zero, back.same_stack)) in
@@ -43,40 +43,24 @@ returns-in-Err-clause-failed c =
     i.runs i.out here c.in-Err.ensures.stopped in
     let lt : c.stepping.steps < c.args.budget =
     omega (arith, below c.stepping.steps c.args.budget i.within c.if-steps-budget.false) in
-    let there = subst (λ (after : Machine). MeetsStop c.args.self.now c.args.address c.args.a c.stepping.steps
-    c.in-Err.stop after) (sym c.in-Err.ensures.same) stopped in
-    (c.stepping.steps, lt, there)
-
-pub returns-in-Err-clause-returns : goal.returns-in-Err-clause-returns
-returns-in-Err-clause-returns c = λ steps after called le.
-    let i = c.stepping.invariant in
-    let here = λ (back : HasReturned c.args.self.now c.stepping.self). false≢true
-    (c.stepping-test.ensures.1 (back.at_zero, back.same_stack)) in
-    let stopped = stopped_at c.args.self.now c.stepping.self c.args.address c.args.a c.stepping.steps c.in-Err.stop
-    i.runs i.out here c.in-Err.ensures.stopped in
-    absurd (no_stop c.args.self.now c.args.address c.args.a steps c.stepping.steps c.in-Err.stop after c.stepping.self
-    called stopped)
-
-pub returns-in-Err-clause-fails : goal.returns-in-Err-clause-fails
-returns-in-Err-clause-fails c = λ reason after fails.
-    let i = c.stepping.invariant in
-    let here = λ (back : HasReturned c.args.self.now c.stepping.self). false≢true
-    (c.stepping-test.ensures.1 (back.at_zero, back.same_stack)) in
-    let stopped = stopped_at c.args.self.now c.stepping.self c.args.address c.args.a c.stepping.steps c.in-Err.stop
-    i.runs i.out here c.in-Err.ensures.stopped in
-    let lt : c.stepping.steps < c.args.budget =
-    omega (arith, below c.stepping.steps c.args.budget i.within c.if-steps-budget.false) in
-    ap Err (stopped_fails c.args.self.now c.args.address c.args.a c.args.budget c.stepping.steps c.in-Err.stop
-    c.stepping.self after reason stopped lt fails)
-
-pub returns-in-Err-clause-log_failed : goal.returns-in-Err-clause-log_failed
-returns-in-Err-clause-log_failed c =
-    let i = c.stepping.invariant in
-    let lt : c.stepping.steps < c.args.budget =
-    omega (arith, below c.stepping.steps c.args.budget i.within c.if-steps-budget.false) in
-    c.step_noted.ensures.noted _ i.logged
-    ∙ log_stopped c.stepping.steps c.args.budget (entered c.args.self.now c.args.address c.args.a) c.stepping.self
-    c.in-Err.stop i.runs c.in-Err.ensures.stopped lt
+    record {
+      returned = search rules;
+      in_budget = search rules;
+      failed =
+          let there = subst (λ (after : Machine). MeetsStop c.args.self.now c.args.address c.args.a c.stepping.steps
+          c.in-Err.stop after) (sym c.in-Err.ensures.same) stopped in
+          (c.stepping.steps, lt, there);
+      returns = λ steps after called le.
+          absurd (no_stop c.args.self.now c.args.address c.args.a steps c.stepping.steps c.in-Err.stop after
+          c.stepping.self called stopped);
+      fails = λ reason after fails.
+          ap Err (stopped_fails c.args.self.now c.args.address c.args.a c.args.budget c.stepping.steps c.in-Err.stop
+          c.stepping.self after reason stopped lt fails);
+      log = search rules;
+      log_failed = c.step_noted.ensures.noted _ i.logged
+          ∙ log_stopped c.stepping.steps c.args.budget (entered c.args.self.now c.args.address c.args.a)
+          c.stepping.self c.in-Err.stop i.runs c.in-Err.ensures.stopped lt;
+    }
 
 pub stepping-preserved : goal.stepping-preserved
 stepping-preserved c =
