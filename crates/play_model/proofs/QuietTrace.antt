@@ -1,5 +1,4 @@
 -- Silent songs are silent: what the voices have is kept from frame to frame.
-use Rattle.std.specs.Prelude.{◌==◌, if◌then◌else◌}
 use Rattle.std.proofs.Common.{◌≡◌, ℕ, zero, suc, slice_get, unwrap_or, filter, List, [], ◌∷◌, length, replicate, All, refl, arith, add-one}
 use Rattle.std.proofs.lemmas.List.Elements.{All-head}
 pub use Rattle.song_model.proofs.Laws.{silent_is_playable}
@@ -10,10 +9,10 @@ use Rattle.song_model.specs.Silent.{IsSilentSubtune, IsSilent}
 use Rattle.song_model.specs.LookUp.{is_playable_subtune, playable_subtune, order_of, void_subtune}
 use Rattle.play_model.specs.declared.options.Options.{Options}
 use Rattle.play_model.specs.LookUps.{LookUps, look_ups_of}
-use Rattle.play_model.specs.State.{Voice, Common, FrameState, Playing, no_options, start_state, playing_of, with_playing}
+use Rattle.play_model.specs.State.{Voice, Common, FrameState, Playing, no_options, start_voice, start_state, playing_of, with_playing}
 use Rattle.play_model.specs.Frame.{Framed, voice_registers, filter_registers, voice_step, voice_done, voices_done, framed, frame_of, subtune_at, state_after_with, trace}
 use Rattle.play_model.specs.SilentTrace.{silent_registers, SilentSongsAreSilent}
-use Rattle.play_model.proofs.Choices.{chosen}
+use Rattle.play_model.proofs.Choices.{by_channel}
 use Rattle.play_model.proofs.QuietVoice.{IsQuietVoice, IsQuietCommon, IsQuiet, NoInstruments, IsQuietOrder, no_instrument, filter_rests, quiet_voice}
 use Rattle.play_model.proofs.QuietOrder.{quiet_order}
 
@@ -43,27 +42,23 @@ quiet_filter_registers c q = rw (q.cutoff, q.filter_control, q.filter_type, q.vo
 -- what a voice takes from a state and puts back
 quiet_playing : (channel : ℕ) (x : FrameState) → IsQuietState x → IsQuiet (playing_of channel x)
 quiet_playing channel x q = record {
-  voice =
-      chosen IsQuietVoice (channel == 1) x.one (if channel == 2 then x.two else x.three) q.one
-      (chosen IsQuietVoice (channel == 2) x.two x.three q.two q.three);
+  voice = by_channel IsQuietVoice channel x.one x.two x.three q.one q.two q.three;
   common = q.common;
 }
 
 quiet_put_back : (channel : ℕ) (s : Playing) (x : FrameState) → IsQuiet s → IsQuietState x →
     IsQuietState (with_playing channel s x)
 quiet_put_back channel s x p q =
-    chosen IsQuietState (channel == 1) (record x { one = s.voice; common = s.common }) _
+    by_channel IsQuietState channel (record x { one = s.voice; common = s.common })
+    (record x { two = s.voice; common = s.common }) (record x { three = s.voice; common = s.common })
     (record { common = p.common; one = p.voice; two = q.two; three = q.three })
-    (chosen IsQuietState (channel == 2) (record x { two = s.voice; common = s.common })
-    (record x { three = s.voice; common = s.common })
     (record { common = p.common; one = q.one; two = p.voice; three = q.three })
-    (record { common = p.common; one = q.one; two = q.two; three = p.voice }))
+    (record { common = p.common; one = q.one; two = q.two; three = p.voice })
 
 quiet_order_of : (channel : ℕ) (look : LookUps) (subtune : Subtune) → IsQuietSubtune look subtune →
     IsQuietOrder look (order_of channel subtune)
 quiet_order_of channel look subtune s =
-    chosen (IsQuietOrder look) (channel == 1) subtune.one (if channel == 2 then subtune.two else subtune.three) s.one
-    (chosen (IsQuietOrder look) (channel == 2) subtune.two subtune.three s.two s.three)
+    by_channel (IsQuietOrder look) channel subtune.one subtune.two subtune.three s.one s.two s.three
 
 quiet_voice_done : (channel : ℕ) (o : Options) (look : LookUps) (subtune : Subtune) (x : FrameState) →
     NoInstruments look → IsQuietSubtune look subtune → IsQuietState x →
@@ -78,7 +73,12 @@ quiet_framed : (x : FrameState) (filter : List ℕ) → filter ≡ 0 ∷ 0 ∷ 0
 quiet_framed x filter f q = record {
   state = q;
   registers =
-      rw (f, quiet_voice_registers x.one q.one, quiet_voice_registers x.two q.two, quiet_voice_registers x.three q.three);
+      rw (
+        f,
+        quiet_voice_registers x.one q.one,
+        quiet_voice_registers x.two q.two,
+        quiet_voice_registers x.three q.three,
+      );
 }
 
 quiet_frame : (o : Options) (look : LookUps) (subtune : Subtune) (x : FrameState) → NoInstruments look →
@@ -91,15 +91,27 @@ quiet_frame o look subtune x h s q =
     (quiet_voice_done 3 o look subtune _ h s
     (quiet_voice_done 2 o look subtune _ h s (quiet_voice_done 1 o look subtune x h s q))))
 
+quiet_start_voice : IsQuietVoice start_voice
+quiet_start_voice = record {
+  new_note = refl;
+  new_command = refl;
+  command = refl;
+  param = refl;
+  ad = refl;
+  sr = refl;
+  wave = refl;
+  freq = refl;
+  pulse = refl;
+  wave_ptr = refl;
+  pulse_ptr = refl;
+}
+
 quiet_start : IsQuietState (start_state no_options)
 quiet_start = record {
   common = record { filter_ptr = refl; filter_type = refl; filter_control = refl; cutoff = refl; volume = refl };
-  one =
-      record { new_note = refl; new_command = refl; command = refl; param = refl; ad = refl; sr = refl; wave = refl; freq = refl; pulse = refl; wave_ptr = refl; pulse_ptr = refl };
-  two =
-      record { new_note = refl; new_command = refl; command = refl; param = refl; ad = refl; sr = refl; wave = refl; freq = refl; pulse = refl; wave_ptr = refl; pulse_ptr = refl };
-  three =
-      record { new_note = refl; new_command = refl; command = refl; param = refl; ad = refl; sr = refl; wave = refl; freq = refl; pulse = refl; wave_ptr = refl; pulse_ptr = refl };
+  one = quiet_start_voice;
+  two = quiet_start_voice;
+  three = quiet_start_voice;
 }
 
 record IsQuietSong (song : Song) (k : ℕ) : Type 0 where

@@ -17,7 +17,7 @@ use Rattle.play_model.specs.WaveStep.{wave_step}
 use Rattle.play_model.specs.EffectStep.{effect_step}
 use Rattle.play_model.specs.PulseStep.{pulse_step}
 use Rattle.play_model.specs.FetchRow.{row_taken, row_moved, row_done, fetch_row}
-use Rattle.play_model.proofs.Choices.{chosen}
+use Rattle.play_model.proofs.Choices.{chosen, by_channel}
 use Rattle.play_model.specs.Frame.{pulse_done, effect_done, after_tick, row_fetched, voice_step}
 
 -- a voice without a note, a command or a program
@@ -92,7 +92,14 @@ quiet_tick_field s tick q = record { voice = search q.voice; common = q.common }
 
 quiet_common : (c : Common) (one two three funk_one funk_two time : ℕ) → IsQuietCommon c →
     IsQuietCommon
-    (record c { tempo_one = one; tempo_two = two; tempo_three = three; funk_one = funk_one; funk_two = funk_two; filter_time = time })
+    (record c {
+      tempo_one = one;
+      tempo_two = two;
+      tempo_three = three;
+      funk_one = funk_one;
+      funk_two = funk_two;
+      filter_time = time;
+    })
 quiet_common c one two three funk_one funk_two time q = record {
   filter_ptr = q.filter_ptr;
   filter_type = q.filter_type;
@@ -103,12 +110,11 @@ quiet_common c one two three funk_one funk_two time q = record {
 
 quiet_tempo : (channel tempo : ℕ) (c : Common) → IsQuietCommon c → IsQuietCommon (with_tempo channel tempo c)
 quiet_tempo channel tempo c q =
-    chosen IsQuietCommon (channel == 1) (record c { tempo_one = tempo })
-    (if channel == 2 then record c { tempo_two = tempo } else record c { tempo_three = tempo })
+    by_channel IsQuietCommon channel (record c { tempo_one = tempo }) (record c { tempo_two = tempo })
+    (record c { tempo_three = tempo })
     (quiet_common c tempo c.tempo_two c.tempo_three c.funk_one c.funk_two c.filter_time q)
-    (chosen IsQuietCommon (channel == 2) (record c { tempo_two = tempo }) (record c { tempo_three = tempo })
     (quiet_common c c.tempo_one tempo c.tempo_three c.funk_one c.funk_two c.filter_time q)
-    (quiet_common c c.tempo_one c.tempo_two tempo c.funk_one c.funk_two c.filter_time q))
+    (quiet_common c c.tempo_one c.tempo_two tempo c.funk_one c.funk_two c.filter_time q)
 
 quiet_voice_fields : (v : Voice) (plays row tick timer new_param : ℕ) → IsQuietVoice v →
     IsQuietVoice (record v { plays = plays; row = row; tick = tick; gate_timer = timer; new_param = new_param })

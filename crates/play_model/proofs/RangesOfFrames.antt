@@ -1,5 +1,5 @@
 -- The states within a frame, its registers, and all that a song is played with keep the ranges.
-use Rattle.std.specs.Prelude.{◌==◌, if◌then◌else◌, bit_and, bit_or, unsigned_abs}
+use Rattle.std.specs.Prelude.{bit_and, bit_or, unsigned_abs}
 use Rattle.std.proofs.Common.{◌≡◌, ℕ, zero, suc, pos, negsuc, ◌+◌, ◌-◌, ◌*◌, ◌/◌, ◌%◌, ◌+ℤ◌, ◌<◌, List, [], ◌∷◌, length, All, lit<, inl, inr, refl, ap, arith}
 use Rattle.std.proofs.lemmas.Int.{int_rem_euclid_is, ints}
 use Rattle.std.proofs.lemmas.Bool.{cases_lt}
@@ -23,7 +23,7 @@ use Rattle.play_model.specs.Ranges.{IsBytesRow, AreLookUps, IsVoice, IsCommon, I
 use Rattle.play_model.specs.FilterStep.{filter_step}
 use Rattle.play_model.specs.Frame.{voice_step, voice_registers, filter_registers, filter_done, voice_done, voices_done, framed, frame_of, subtune_at, state_after_with, trace_with}
 use Rattle.play_model.specs.RangeLaws.{RangesAreKept, FrameRangesAreKept, StartIsInRange, SongRangesAreKept, TransposesWrap}
-use Rattle.play_model.proofs.Choices.{chosen}
+use Rattle.play_model.proofs.Choices.{by_channel}
 use Rattle.play_model.proofs.RangesOfSteps.{filter_keeps, effect_keeps, pulse_keeps, fetch_keeps}
 use Rattle.play_model.proofs.RangesOfVoices.{tick_keeps, wave_keeps, voice_keeps}
 
@@ -46,21 +46,18 @@ filter_done_keeps look x a q =
 
 playing_in_range : (channel : ℕ) (x : FrameState) → IsFrameState x → IsPlaying (playing_of channel x)
 playing_in_range channel x q = record {
-  voice =
-      chosen IsVoice (channel == 1) x.one (if channel == 2 then x.two else x.three) q.one
-      (chosen IsVoice (channel == 2) x.two x.three q.two q.three);
+  voice = by_channel IsVoice channel x.one x.two x.three q.one q.two q.three;
   common = q.common;
 }
 
 put_back_keeps : (channel : ℕ) (s : Playing) (x : FrameState) → IsPlaying s → IsFrameState x →
     IsFrameState (with_playing channel s x)
 put_back_keeps channel s x p q =
-    chosen IsFrameState (channel == 1) (record x { one = s.voice; common = s.common }) _
+    by_channel IsFrameState channel (record x { one = s.voice; common = s.common })
+    (record x { two = s.voice; common = s.common }) (record x { three = s.voice; common = s.common })
     (record { common = p.common; one = p.voice; two = q.two; three = q.three })
-    (chosen IsFrameState (channel == 2) (record x { two = s.voice; common = s.common })
-    (record x { three = s.voice; common = s.common })
     (record { common = p.common; one = q.one; two = p.voice; three = q.three })
-    (record { common = p.common; one = q.one; two = q.two; three = p.voice }))
+    (record { common = p.common; one = q.one; two = q.two; three = p.voice })
 
 pub voice_done_keeps : (channel : ℕ) (o : Options) (look : LookUps) (subtune : Subtune) (x : FrameState) →
     AreLookUps look → IsFrameState x →
@@ -170,14 +167,12 @@ start_common_in_range : (speed : ℕ) → IsSpeed speed → IsCommon (start_comm
 start_common_in_range speed s =
     let most = s.most in
     record {
-      tempo_one =
-          omega arith;
+      tempo_one = omega arith;
       tempo_two = omega arith;
       tempo_three = omega arith;
       funk_one = omega arith;
       funk_two = omega arith;
-      filter_ptr =
-          lit< tt;
+      filter_ptr = lit< tt;
       filter_time = lit< tt;
       filter_type = lit< tt;
       filter_control = lit< tt;

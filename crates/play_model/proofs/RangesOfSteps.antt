@@ -32,7 +32,8 @@ gate_on_small = lit< tt
 filter_fields : (c : Common) (kind control cutoff time ptr : ℕ) → IsByte kind → IsByte control → IsByte cutoff →
     IsByte time → IsByte ptr →
     IsCommon c →
-    IsCommon (record c { filter_type = kind; filter_control = control; cutoff = cutoff; filter_time = time; filter_ptr = ptr })
+    IsCommon
+    (record c { filter_type = kind; filter_control = control; cutoff = cutoff; filter_time = time; filter_ptr = ptr })
 filter_fields c kind control cutoff time ptr a b d e f q = assumption (a, b, d, e, f, q)
 
 filter_set_keeps : (look : LookUps) (row following : TableRow) (c : Common) → AreLookUps look → IsTableRow row →

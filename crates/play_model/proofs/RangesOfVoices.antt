@@ -19,7 +19,7 @@ use Rattle.play_model.specs.EffectStep.{effect_step}
 use Rattle.play_model.specs.PulseStep.{pulse_step}
 use Rattle.play_model.specs.FetchRow.{fetch_row}
 use Rattle.play_model.specs.Frame.{effect_done, pulse_done, row_fetched, after_tick, voice_step}
-use Rattle.play_model.proofs.Choices.{chosen}
+use Rattle.play_model.proofs.Choices.{chosen, by_channel}
 use Rattle.play_model.proofs.RangesOfRules.{zero_small, wraps, smaller, freq_small, next_small, up_keeps, down_keeps, tone_keeps, vibrato_keeps, command_keeps}
 use Rattle.play_model.proofs.RangesOfSteps.{effect_keeps, pulse_keeps, fetch_keeps}
 
@@ -35,16 +35,19 @@ tempo_fields c one two three funk_one funk_two a b d e f q = assumption (a, b, d
 
 tempo_small : (channel : ℕ) (c : Common) → IsCommon c → IsByte (tempo_of channel c)
 tempo_small channel c q =
-    chosen IsByte (channel == 1) c.tempo_one _ q.tempo_one
-    (chosen IsByte (channel == 2) c.tempo_two c.tempo_three q.tempo_two q.tempo_three)
+    by_channel IsByte channel c.tempo_one c.tempo_two c.tempo_three q.tempo_one q.tempo_two q.tempo_three
 
 one_tempo_keeps : (channel tempo : ℕ) (c : Common) → IsByte tempo → IsCommon c → IsCommon (with_tempo channel tempo c)
 one_tempo_keeps channel tempo c h q =
-    chosen IsCommon (channel == 1) _ _
-    (tempo_fields c tempo c.tempo_two c.tempo_three c.funk_one c.funk_two h q.tempo_two q.tempo_three q.funk_one q.funk_two q)
-    (chosen IsCommon (channel == 2) _ _
-    (tempo_fields c c.tempo_one tempo c.tempo_three c.funk_one c.funk_two q.tempo_one h q.tempo_three q.funk_one q.funk_two q)
-    (tempo_fields c c.tempo_one c.tempo_two tempo c.funk_one c.funk_two q.tempo_one q.tempo_two h q.funk_one q.funk_two q))
+    by_channel IsCommon channel (record c { tempo_one = tempo }) (record c { tempo_two = tempo })
+    (record c { tempo_three = tempo }) (tempos tempo c.tempo_two c.tempo_three h q.tempo_two q.tempo_three)
+    (tempos c.tempo_one tempo c.tempo_three q.tempo_one h q.tempo_three)
+    (tempos c.tempo_one c.tempo_two tempo q.tempo_one q.tempo_two h)
+  where
+    tempos : (one two three : ℕ) → IsByte one → IsByte two → IsByte three →
+        IsCommon (record c { tempo_one = one; tempo_two = two; tempo_three = three })
+    tempos one two three a b d =
+        tempo_fields c one two three c.funk_one c.funk_two a b d q.funk_one q.funk_two q
 
 all_tempos_keep : (tempo : ℕ) (c : Common) → IsByte tempo → IsCommon c → IsCommon (with_all_tempos tempo c)
 all_tempos_keep tempo c h q = tempo_fields c tempo tempo tempo c.funk_one c.funk_two h h h q.funk_one q.funk_two q
@@ -150,8 +153,8 @@ runs_anew_keeps v c d h k q = assumption (zero_small, h, k, q)
 wave_program_keeps : (v : Voice) (d : ℕ) → IsByte d → IsVoice v → IsVoice (record v { wave_ptr = d; wave_time = 0 })
 wave_program_keeps v d h q = assumption (h, zero_small, q)
 
-row_command_keeps : (channel : ℕ) (look : LookUps) (i : Instrument) (c d : ℕ) (s : Playing) → IsInstrument i → IsByte c →
-    IsByte d → IsPlaying s →
+row_command_keeps : (channel : ℕ) (look : LookUps) (i : Instrument) (c d : ℕ) (s : Playing) → IsInstrument i →
+    IsByte c → IsByte d → IsPlaying s →
     IsPlaying (row_command channel look i c d s)
 unfolding row_command
 row_command_keeps channel look i c d s h k l q =
@@ -243,7 +246,10 @@ wave_row_keeps : (look : LookUps) (row : TableRow) (s : Playing) → AreLookUps 
     IsPlaying (wave_row look row s).playing
 wave_row_keeps look row s a r q =
     chosen (λ (w : Waved). IsPlaying w.playing) (nat_lt row.left 0x10 && not (s.voice.wave_time == row.left))
-    (record { playing = record s { voice = record s.voice { wave_time = byte_plus s.voice.wave_time 1 } }; effect = true })
+    (record {
+      playing = record s { voice = record s.voice { wave_time = byte_plus s.voice.wave_time 1 } };
+      effect = true;
+    })
     (right_done row (program_moved look s.voice.wave_ptr (left_done look row s)))
     (wave_time_keeps s (byte_plus s.voice.wave_time 1) (wraps _) q)
     (right_keeps row (program_moved look s.voice.wave_ptr (left_done look row s))

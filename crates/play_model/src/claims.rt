@@ -173,7 +173,8 @@ pub fn worked_without_pulse()
     ensures { WorkedWithoutPulseHold }
 {}
 
-/// Tunes whole at speed 1, and without the pulse step at speeds 2 to 4; and a vibrato with the longest period, 180 calls.
+/// Tunes whole at speed 1, and without the pulse step at speeds 2 to 4; and a vibrato with the longest period, 180
+/// calls.
 #[tactic(auto, using(crate::proofs::WorkedLongPulses::worked_long_pulses_lem))]
 pub fn worked_long_pulses()
     ensures { WorkedLongPulsesHold }
