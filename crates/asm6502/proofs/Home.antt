@@ -156,8 +156,7 @@ naming_on x lines label n =
       front = x ∷ n.front;
       line = n.line;
       back = n.back;
-      split =
-          ap (λ (ls : List Line). x ∷ ls) n.split;
+      split = ap (λ (ls : List Line). x ∷ ls) n.split;
       named = n.named;
     }
 

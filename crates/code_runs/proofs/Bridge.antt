@@ -118,8 +118,7 @@ call_returns W below m address a n end size leads at_zero same_stack =
         runs = there.runs;
         returned = record {
           at_zero = ap (λ s. s.cpu.pc) there.seen ∙ at_zero;
-          same_stack =
-              ap (λ s. s.cpu.sp) there.seen ∙ same_stack;
+          same_stack = ap (λ s. s.cpu.sp) there.seen ∙ same_stack;
         };
         first = record {
           out = λ k between lt e back. away_not_back between.cpu.pc (there.away k between lt e)

@@ -17,8 +17,7 @@ pub jsr : {state : State} {place next last high low upper lower sp : ℕ} → Wo
     stack_place (state.cpu.sp + 255) ≡ lower → (state.cpu.sp + 254) % 256 ≡ sp →
     Does state (record {
       cpu = record state.cpu { pc = place; sp = sp };
-      writes =
-          (record { place = upper; value = high }) ∷ (record { place = lower; value = low }) ∷ [];
+      writes = (record { place = upper; value = high }) ∷ (record { place = lower; value = low }) ∷ [];
     })
 jsr w e h l p q s = record { is = w.is ∙ rw (e, h, l, p, q, s) refl; away = w.away }
 

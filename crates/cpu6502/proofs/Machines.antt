@@ -184,8 +184,7 @@ module _ (at : ℕ → ℕ) (bytes : (place : ℕ) → at place < 256) (cpu : Cp
         x = f.x;
         y = f.y;
         sp = omega arith;
-        pc =
-            word_small (bytes (stack_place (cpu.sp + 2))) (bytes (stack_place (cpu.sp + 3)));
+        pc = word_small (bytes (stack_place (cpu.sp + 2))) (bytes (stack_place (cpu.sp + 3)));
       })
   jumps _ own place p = tt
 
@@ -321,8 +320,7 @@ written_is memory (write ∷ writes) is fit =
     written_is (slice_set memory write.place write.value) writes
     (record {
       size = length-set memory write.place write.value ∙ is.size;
-      bytes =
-          All-set (λ byte. byte < 256) memory write.place write.value fit.0.value is.bytes;
+      bytes = All-set (λ byte. byte < 256) memory write.place write.value fit.0.value is.bytes;
     }) fit.1
 
 cpu_of : (machine : Machine) → IsMachine machine → FitsCpu machine.cpu

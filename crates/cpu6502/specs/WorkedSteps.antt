@@ -131,14 +131,12 @@ Stack =
     × (worked start (0x20 ∷ 0x34 ∷ 0x12 ∷ []) ≡ Ok
     (record {
       cpu = (record start { sp = 0xFB; pc = 0x1234 });
-      writes =
-          (record { place = 0x01FD; value = 0x10 }) ∷ (record { place = 0x01FC; value = 0x02 }) ∷ [];
+      writes = (record { place = 0x01FD; value = 0x10 }) ∷ (record { place = 0x01FC; value = 0x02 }) ∷ [];
     }))
     × (worked (record start { sp = 0x00 }) (0x20 ∷ 0x34 ∷ 0x12 ∷ []) ≡ Ok
     (record {
       cpu = (record start { sp = 0xFE; pc = 0x1234 });
-      writes =
-          (record { place = 0x0100; value = 0x10 }) ∷ (record { place = 0x01FF; value = 0x02 }) ∷ [];
+      writes = (record { place = 0x0100; value = 0x10 }) ∷ (record { place = 0x01FF; value = 0x02 }) ∷ [];
     }))
     × Leaves start (0x68 ∷ []) (record start { sp = 0xFE; pc = 0x1001; a = 0x45 })
     × Leaves (record start { sp = 0xFF }) (0x68 ∷ []) (record start { sp = 0x00; pc = 0x1001; a = 0x88; n = true })

@@ -38,7 +38,7 @@ pub fn operand_place(mode: Mode, memory: &Memory, cpu: Cpu) -> u16
 pub fn joined(low: u8, high: u8) -> u16
     ensures { result ≡ low + 256 * high }
 {
-    u16::from(low) + 256 * u16::from(high)
+    u16::from_le_bytes([low, high])
 }
 
 /// The two bytes at a place, the low one first; the place after the last is 0.

@@ -27,13 +27,14 @@ pub fn jump(mnemonic: Mnemonic, own: u16, place: u16, memory: &Memory, cpu: Cpu)
 fn call_effect(cpu: Cpu, last: u16, place: u16) -> Effect
     ensures { result ≡ call_effect cpu last place }
 {
-    let high = Write {
+    let [low, high] = last.to_le_bytes();
+    let first = Write {
         place: stack(cpu.sp),
-        value: (last / 256) as u8,
+        value: high,
     };
-    let low = Write {
+    let second = Write {
         place: stack(cpu.sp.wrapping_sub(1)),
-        value: (last % 256) as u8,
+        value: low,
     };
     Effect {
         cpu: Cpu {
@@ -41,7 +42,7 @@ fn call_effect(cpu: Cpu, last: u16, place: u16) -> Effect
             pc: place,
             ..cpu
         },
-        writes: Writes::two(high, low),
+        writes: Writes::two(first, second),
     }
 }
 
