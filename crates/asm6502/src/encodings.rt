@@ -26,8 +26,9 @@ pub fn encode(instr: Instr) -> Option<Encoded>
             encoded.push(instr.operand as u8);
         }
         _ => {
-            encoded.push((instr.operand % 256) as u8);
-            encoded.push((instr.operand / 256) as u8);
+            let [low, high] = instr.operand.to_le_bytes();
+            encoded.push(low);
+            encoded.push(high);
         }
     }
     Some(encoded)
@@ -60,7 +61,7 @@ fn operand_of(mode: Mode, rest: &[u8]) -> Option<u16>
             [] => None,
         },
         _ => match rest {
-            [low, high, ..] => Some(u16::from(*low) + 256 * u16::from(*high)),
+            [low, high, ..] => Some(u16::from_le_bytes([*low, *high])),
             _ => None,
         },
     }

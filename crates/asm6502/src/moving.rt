@@ -52,8 +52,7 @@ fn put_number(bytes: &mut ByteList, kind: FixKind, at: u32, number: u16)
     ensures { bytes.new ≡ with_number kind bytes.old at number }
 {
     let at = at as usize;
-    let low = (number % 256) as u8;
-    let high = (number / 256) as u8;
+    let [low, high] = number.to_le_bytes();
     match kind {
         FixKind::Word => {
             bytes.set(at, low);
