@@ -129,12 +129,8 @@ fn first_endmark(entries: &[u8]) -> Option<u16>
     ensures found { IfSome result (IsFirstBad IsEntry entries.now) }
     ensures none { IfNone result (All IsEntry entries.now) }
 {
-    for (i, byte) in entries.iter().enumerate() {
-        if *byte == ENDMARK {
-            return Some(i as u16);
-        }
-    }
-    None
+    let place = entries.iter().position(|byte| *byte == ENDMARK)?;
+    Some(place as u16)
 }
 
 /// Three orderlists, one for each channel.

@@ -100,10 +100,6 @@ fn first_bad_row(rows: &[Row]) -> Option<u16>
     ensures found { IfSome result (IsFirstBad IsRow rows.now) }
     ensures none { IfNone result (All IsRow rows.now) }
 {
-    for (i, row) in rows.iter().enumerate() {
-        if !row.is_in_range() {
-            return Some(i as u16);
-        }
-    }
-    None
+    let place = rows.iter().position(|row| !row.is_in_range())?;
+    Some(place as u16)
 }
