@@ -4,8 +4,8 @@
 pub use Rattle.code_runs.proofs.Moves.{stay, does, goes, puts, goes_once, puts_once, leads_on, in_steps, ends_at, begins_at, leads_wider}
 pub use Rattle.code_runs.proofs.Moves.{put_same, put_other, leads_stay}
 -- instructions that stand: from the bytes, and after writes elsewhere
-pub use Rattle.code_runs.proofs.Standing.{stands_implied, stands_accumulator, has_byte, stands_by_byte, has_word, stands_by_word, stands_relative}
-pub use Rattle.code_runs.proofs.Standing.{stands_immediate, stands_absolute, stands_absolute_x}
+pub use Rattle.code_runs.proofs.Standing.{stand_alone, stand_by_byte, stand_by_word, stands_relative}
+pub use Rattle.code_runs.proofs.Standing.{stands_implied, stands_immediate, stands_absolute, stands_absolute_x}
 pub use Rattle.code_runs.proofs.Standing.{stands_stay, code_stays}
 -- the step of an instruction: where it works, by its mode
 pub use Rattle.code_runs.proofs.Modes.{jumped, Works, Reads, WorksOnA, works, works_on_a, reads, reads_immediate}

@@ -1,5 +1,5 @@
 -- When instructions stand in memory: from the bytes, and after writes elsewhere.
-use Rattle.std.proofs.Common.{◌≡◌, ℕ, ◌+◌, ◌*◌, ◌%◌, ◌≤◌, Bool, true, false, List, [], ◌∷◌, Some, refl, ap, ◌∙◌, arith}
+use Rattle.std.proofs.Common.{◌≡◌, ◌≢◌, ℕ, ◌+◌, ◌*◌, ◌%◌, ◌≤◌, List, [], ◌∷◌, Some, refl, ap, ◌∙◌, arith}
 use Rattle.cpu6502.specs.declared.memory.TheConstants.{MEMORY_SIZE}
 use Rattle.cpu6502.specs.declared.mnemonic.Mnemonic.{Mnemonic}
 use Rattle.cpu6502.specs.declared.mnemonic.Mode.{Mode}
@@ -7,93 +7,74 @@ use Rattle.cpu6502.specs.declared.mnemonic.Mode.TheVariants.{Implied, Accumulato
 use Rattle.cpu6502.specs.Opcodes.{meaning_of, length_of}
 use Rattle.cpu6502.specs.Effects.{displacement, word_at}
 use Rattle.code_runs.specs.Code.{Instruction, operand_at, Stands, CodeAt, size_of, SameFrom}
+use Rattle.code_runs.specs.Decoded.{StandAlone, StandByByte, StandByWord, BranchesStand}
 
 -- ---- from the bytes: the opcode, and then the operand byte or its two bytes at the places that follow
 
 -- the modes without operand
+pub stand_alone : StandAlone
+stand_alone at pc opcode mn Implied n e m = record { decoded = ap meaning_of e ∙ m; operand_is = refl }
+stand_alone at pc opcode mn Accumulator n e m = record { decoded = ap meaning_of e ∙ m; operand_is = refl }
+stand_alone at pc opcode mn _ n e m = absurd (omega arith)
+
 pub stands_implied : (at : ℕ → ℕ) (pc opcode : ℕ) (mn : Mnemonic) → at pc ≡ opcode →
     meaning_of opcode ≡ Some (mn, Implied) → Stands at pc mn Implied 0
-stands_implied at pc opcode mn e m = record { decoded = ap meaning_of e ∙ m; operand_is = refl }
-
-pub stands_accumulator : (at : ℕ → ℕ) (pc opcode : ℕ) (mn : Mnemonic) → at pc ≡ opcode →
-    meaning_of opcode ≡ Some (mn, Accumulator) → Stands at pc mn Accumulator 0
-stands_accumulator at pc opcode mn e m = record { decoded = ap meaning_of e ∙ m; operand_is = refl }
+stands_implied at pc opcode mn = stand_alone at pc opcode mn Implied refl
 
 -- the modes whose operand is the byte that follows
-abbrev pub has_byte : Mode → Bool
-has_byte Immediate = true
-has_byte ZeroPage = true
-has_byte ZeroPageX = true
-has_byte ZeroPageY = true
-has_byte IndirectX = true
-has_byte IndirectY = true
-has_byte _ = false
-
-byte_operand : (mode : Mode) (at : ℕ → ℕ) (pc : ℕ) → has_byte mode ≡ true →
+byte_operand : (mode : Mode) (at : ℕ → ℕ) (pc : ℕ) → length_of mode ≡ 2 → mode ≢ Relative →
     operand_at mode at pc ≡ at ((pc + 1) % MEMORY_SIZE)
-byte_operand Immediate at pc h = refl
-byte_operand ZeroPage at pc h = refl
-byte_operand ZeroPageX at pc h = refl
-byte_operand ZeroPageY at pc h = refl
-byte_operand IndirectX at pc h = refl
-byte_operand IndirectY at pc h = refl
-byte_operand _ at pc h = absurd (cc)
+byte_operand Immediate at pc n h = refl
+byte_operand ZeroPage at pc n h = refl
+byte_operand ZeroPageX at pc n h = refl
+byte_operand ZeroPageY at pc n h = refl
+byte_operand IndirectX at pc n h = refl
+byte_operand IndirectY at pc n h = refl
+byte_operand Relative at pc n h = absurd (h refl)
+byte_operand _ at pc n h = absurd (omega arith)
 
-pub stands_by_byte : (at : ℕ → ℕ) (pc opcode p1 byte : ℕ) (mn : Mnemonic) (mode : Mode) → has_byte mode ≡ true →
-    at pc ≡ opcode → meaning_of opcode ≡ Some (mn, mode) → (pc + 1) % MEMORY_SIZE ≡ p1 → at p1 ≡ byte →
-    Stands at pc mn mode byte
-stands_by_byte at pc opcode p1 byte mn mode h e m f b =
-    record { decoded = ap meaning_of e ∙ m; operand_is = byte_operand mode at pc h ∙ ap at f ∙ b }
+pub stand_by_byte : StandByByte
+stand_by_byte at pc opcode p1 byte mn mode n h e m f b =
+    record { decoded = ap meaning_of e ∙ m; operand_is = byte_operand mode at pc n h ∙ ap at f ∙ b }
 
 pub stands_immediate : (at : ℕ → ℕ) (pc opcode p1 byte : ℕ) (mn : Mnemonic) → at pc ≡ opcode →
     meaning_of opcode ≡ Some (mn, Immediate) → (pc + 1) % MEMORY_SIZE ≡ p1 → at p1 ≡ byte →
     Stands at pc mn Immediate byte
-stands_immediate at pc opcode p1 byte mn = stands_by_byte at pc opcode p1 byte mn Immediate refl
+stands_immediate at pc opcode p1 byte mn = stand_by_byte at pc opcode p1 byte mn Immediate refl (λ e. cc)
 
--- the modes whose operand is the word that follows, the low byte first
-abbrev pub has_word : Mode → Bool
-has_word Absolute = true
-has_word AbsoluteX = true
-has_word AbsoluteY = true
-has_word Indirect = true
-has_word _ = false
-
-word_operand : (mode : Mode) (at : ℕ → ℕ) (pc : ℕ) → has_word mode ≡ true →
+-- the modes whose operand is the word that follows
+word_operand : (mode : Mode) (at : ℕ → ℕ) (pc : ℕ) → length_of mode ≡ 3 →
     operand_at mode at pc ≡ word_at at ((pc + 1) % MEMORY_SIZE)
-word_operand Absolute at pc h = refl
-word_operand AbsoluteX at pc h = refl
-word_operand AbsoluteY at pc h = refl
-word_operand Indirect at pc h = refl
-word_operand _ at pc h = absurd (cc)
+word_operand Absolute at pc n = refl
+word_operand AbsoluteX at pc n = refl
+word_operand AbsoluteY at pc n = refl
+word_operand Indirect at pc n = refl
+word_operand _ at pc n = absurd (omega arith)
 
 word_is : (at : ℕ → ℕ) (pc p1 p2 low high word : ℕ) → (pc + 1) % MEMORY_SIZE ≡ p1 → (p1 + 1) % MEMORY_SIZE ≡ p2 →
     at p1 ≡ low → at p2 ≡ high → low + 256 * high ≡ word → word_at at ((pc + 1) % MEMORY_SIZE) ≡ word
 word_is at pc p1 p2 low high word f g l h w = rw (f, g, l, h) w
 
-pub stands_by_word : (at : ℕ → ℕ) (pc opcode p1 p2 low high word : ℕ) (mn : Mnemonic) (mode : Mode) →
-    has_word mode ≡ true → at pc ≡ opcode → meaning_of opcode ≡ Some (mn, mode) → (pc + 1) % MEMORY_SIZE ≡ p1 →
-    (p1 + 1) % MEMORY_SIZE ≡ p2 → at p1 ≡ low → at p2 ≡ high → low + 256 * high ≡ word → Stands at pc mn mode word
-stands_by_word at pc opcode p1 p2 low high word mn mode t e m f g l h w =
+pub stand_by_word : StandByWord
+stand_by_word at pc opcode p1 p2 low high word mn mode n e m f g l h w =
     record {
       decoded = ap meaning_of e ∙ m;
-      operand_is = word_operand mode at pc t ∙ word_is at pc p1 p2 low high word f g l h w;
+      operand_is = word_operand mode at pc n ∙ word_is at pc p1 p2 low high word f g l h w;
     }
 
 pub stands_absolute : (at : ℕ → ℕ) (pc opcode p1 p2 low high word : ℕ) (mn : Mnemonic) → at pc ≡ opcode →
     meaning_of opcode ≡ Some (mn, Absolute) → (pc + 1) % MEMORY_SIZE ≡ p1 → (p1 + 1) % MEMORY_SIZE ≡ p2 →
     at p1 ≡ low → at p2 ≡ high → low + 256 * high ≡ word → Stands at pc mn Absolute word
-stands_absolute at pc opcode p1 p2 low high word mn = stands_by_word at pc opcode p1 p2 low high word mn Absolute refl
+stands_absolute at pc opcode p1 p2 low high word mn = stand_by_word at pc opcode p1 p2 low high word mn Absolute refl
 
 pub stands_absolute_x : (at : ℕ → ℕ) (pc opcode p1 p2 low high word : ℕ) (mn : Mnemonic) → at pc ≡ opcode →
     meaning_of opcode ≡ Some (mn, AbsoluteX) → (pc + 1) % MEMORY_SIZE ≡ p1 → (p1 + 1) % MEMORY_SIZE ≡ p2 →
     at p1 ≡ low → at p2 ≡ high → low + 256 * high ≡ word → Stands at pc mn AbsoluteX word
 stands_absolute_x at pc opcode p1 p2 low high word mn =
-    stands_by_word at pc opcode p1 p2 low high word mn AbsoluteX refl
+    stand_by_word at pc opcode p1 p2 low high word mn AbsoluteX refl
 
 -- a branch, whose operand is the place that it goes to
-pub stands_relative : (at : ℕ → ℕ) (pc opcode p1 byte target : ℕ) (mn : Mnemonic) → at pc ≡ opcode →
-    meaning_of opcode ≡ Some (mn, Relative) → (pc + 1) % MEMORY_SIZE ≡ p1 → at p1 ≡ byte →
-    (pc + 2 + displacement byte) % MEMORY_SIZE ≡ target → Stands at pc mn Relative target
+pub stands_relative : BranchesStand
 stands_relative at pc opcode p1 byte target mn e m f b t =
     record {
       decoded = ap meaning_of e ∙ m;

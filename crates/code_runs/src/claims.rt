@@ -1,7 +1,7 @@
 //! Facts about runs of machine code, each the contract of a function that does nothing.
 
 ghost use Rattle.code_runs.specs.Calls.{CallsBeginSo, MachinesFollowRuns, RunsAreCalls, RunsStayInside};
-ghost use Rattle.code_runs.specs.Decoded.{CodeStays, StandingHasEffect};
+ghost use Rattle.code_runs.specs.Decoded.{BranchesStand, CodeStays, StandAlone, StandByByte, StandByWord, StandingHasEffect};
 
 /// A run from the entry of a call to address 0, with the stack pointer back, is that call, in the run's number of
 /// steps. The machine writes at the run's places alone; each other place has the byte that it had.
@@ -12,9 +12,14 @@ pub fn runs_are_calls()
     ensures entry { CallsBeginSo }
 {}
 
-/// An instruction that stands at the program counter has the effect of its name at the place that its mode and its
-/// operand give; and code still stands where its bytes are the same, whatever the rest of memory holds.
+/// An instruction stands where its bytes do, in every mode. One that stands at the program counter has the effect of its
+/// name at the place that its mode and its operand give; and code still stands where its bytes are the same, whatever
+/// the rest of memory holds.
 pub fn instructions_that_stand()
+    ensures alone { StandAlone }
+    ensures bytes { StandByByte }
+    ensures words { StandByWord }
+    ensures branches { BranchesStand }
     ensures effects { StandingHasEffect }
     ensures stay { CodeStays }
 {}
