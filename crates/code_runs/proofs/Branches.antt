@@ -1,5 +1,5 @@
 -- A step of a branch, taken and not taken: for any branch by what it takes, and for each name by its flag.
-use Rattle.std.proofs.Common.{◌≡◌, ℕ, Bool, true, false, not, Option, Some, None, Ok, refl, ap, ◌∙◌}
+use Rattle.std.proofs.Common.{◌≡◌, ℕ, Bool, true, false, not, Some, Ok, refl, ap, ◌∙◌}
 use Rattle.cpu6502.specs.declared.cpu.Cpu.{Cpu}
 use Rattle.cpu6502.specs.declared.mnemonic.Mnemonic.{Mnemonic}
 use Rattle.cpu6502.specs.declared.mnemonic.Mnemonic.TheVariants.{Bcc, Bcs, Beq, Bmi, Bne, Bpl, Bvc, Bvs}
@@ -7,19 +7,7 @@ use Rattle.cpu6502.specs.Registers.{quiet}
 use Rattle.cpu6502.specs.Branches.{branched}
 use Rattle.cpu6502.specs.Effects.{effect_of}
 use Rattle.code_runs.specs.Runs.{State, Goes}
-use Rattle.code_runs.proofs.Modes.{jumped, Works}
-
--- whether a branch is taken, by its name; none for any other name
-abbrev pub takes : Mnemonic → Cpu → Option Bool
-takes Bcc cpu = Some (not cpu.c)
-takes Bcs cpu = Some cpu.c
-takes Bne cpu = Some (not cpu.z)
-takes Beq cpu = Some cpu.z
-takes Bpl cpu = Some (not cpu.n)
-takes Bmi cpu = Some cpu.n
-takes Bvc cpu = Some (not cpu.v)
-takes Bvs cpu = Some cpu.v
-takes _ cpu = None
+use Rattle.code_runs.specs.Steps.{jumped, Works, takes, BranchSteps}
 
 -- a branch goes to its place where it is taken, else to the next instruction
 branch_goes : (mn : Mnemonic) (own place : ℕ) (at : ℕ → ℕ) (cpu : Cpu) (taken : Bool) → takes mn cpu ≡ Some taken →
@@ -54,84 +42,80 @@ same_flags Bvc cpu next = refl
 same_flags Bvs cpu next = refl
 same_flags _ cpu next = refl
 
-pub branch_taken : {state : State} {mn : Mnemonic} {place next : ℕ} → Works state mn place next →
-    takes mn state.cpu ≡ Some true → Goes state (jumped state.cpu place)
-branch_taken {state = state} {mn = mn} {place = place} {next = next} w e =
-    record {
-      is = w.is ∙ branch_goes mn state.cpu.pc place state.at (jumped state.cpu next) true
-          (same_flags mn state.cpu next ∙ e);
-      away = w.away;
-    }
-
-pub branch_passed : {state : State} {mn : Mnemonic} {place next : ℕ} → Works state mn place next →
-    takes mn state.cpu ≡ Some false → Goes state (jumped state.cpu next)
-branch_passed {state = state} {mn = mn} {place = place} {next = next} w e =
-    record {
-      is = w.is ∙ branch_goes mn state.cpu.pc place state.at (jumped state.cpu next) false
-          (same_flags mn state.cpu next ∙ e);
-      away = w.away;
-    }
+pub branch_steps : BranchSteps
+branch_steps = record {
+  taken = λ w e. step w true e;
+  passed = λ w e. step w false e;
+} where
+  step : {state : State} {mn : Mnemonic} {place next : ℕ} → Works state mn place next → (taken : Bool) →
+      takes mn state.cpu ≡ Some taken → Goes state (branched (jumped state.cpu next) taken place)
+  step {state = state} {mn = mn} {place = place} {next = next} w taken e =
+      record {
+        is = w.is ∙ branch_goes mn state.cpu.pc place state.at (jumped state.cpu next) taken
+            (same_flags mn state.cpu next ∙ e);
+        away = w.away;
+      }
 
 pub bcc_taken : {state : State} {place next : ℕ} → Works state Bcc place next → state.cpu.c ≡ false →
     Goes state (jumped state.cpu place)
-bcc_taken w e = branch_taken w (rw e refl)
+bcc_taken w e = branch_steps.taken w (rw e refl)
 
 pub bcc_passed : {state : State} {place next : ℕ} → Works state Bcc place next → state.cpu.c ≡ true →
     Goes state (jumped state.cpu next)
-bcc_passed w e = branch_passed w (rw e refl)
+bcc_passed w e = branch_steps.passed w (rw e refl)
 
 pub bcs_taken : {state : State} {place next : ℕ} → Works state Bcs place next → state.cpu.c ≡ true →
     Goes state (jumped state.cpu place)
-bcs_taken w e = branch_taken w (rw e refl)
+bcs_taken w e = branch_steps.taken w (rw e refl)
 
 pub bcs_passed : {state : State} {place next : ℕ} → Works state Bcs place next → state.cpu.c ≡ false →
     Goes state (jumped state.cpu next)
-bcs_passed w e = branch_passed w (rw e refl)
+bcs_passed w e = branch_steps.passed w (rw e refl)
 
 pub bne_taken : {state : State} {place next : ℕ} → Works state Bne place next → state.cpu.z ≡ false →
     Goes state (jumped state.cpu place)
-bne_taken w e = branch_taken w (rw e refl)
+bne_taken w e = branch_steps.taken w (rw e refl)
 
 pub bne_passed : {state : State} {place next : ℕ} → Works state Bne place next → state.cpu.z ≡ true →
     Goes state (jumped state.cpu next)
-bne_passed w e = branch_passed w (rw e refl)
+bne_passed w e = branch_steps.passed w (rw e refl)
 
 pub beq_taken : {state : State} {place next : ℕ} → Works state Beq place next → state.cpu.z ≡ true →
     Goes state (jumped state.cpu place)
-beq_taken w e = branch_taken w (rw e refl)
+beq_taken w e = branch_steps.taken w (rw e refl)
 
 pub beq_passed : {state : State} {place next : ℕ} → Works state Beq place next → state.cpu.z ≡ false →
     Goes state (jumped state.cpu next)
-beq_passed w e = branch_passed w (rw e refl)
+beq_passed w e = branch_steps.passed w (rw e refl)
 
 pub bpl_taken : {state : State} {place next : ℕ} → Works state Bpl place next → state.cpu.n ≡ false →
     Goes state (jumped state.cpu place)
-bpl_taken w e = branch_taken w (rw e refl)
+bpl_taken w e = branch_steps.taken w (rw e refl)
 
 pub bpl_passed : {state : State} {place next : ℕ} → Works state Bpl place next → state.cpu.n ≡ true →
     Goes state (jumped state.cpu next)
-bpl_passed w e = branch_passed w (rw e refl)
+bpl_passed w e = branch_steps.passed w (rw e refl)
 
 pub bmi_taken : {state : State} {place next : ℕ} → Works state Bmi place next → state.cpu.n ≡ true →
     Goes state (jumped state.cpu place)
-bmi_taken w e = branch_taken w (rw e refl)
+bmi_taken w e = branch_steps.taken w (rw e refl)
 
 pub bmi_passed : {state : State} {place next : ℕ} → Works state Bmi place next → state.cpu.n ≡ false →
     Goes state (jumped state.cpu next)
-bmi_passed w e = branch_passed w (rw e refl)
+bmi_passed w e = branch_steps.passed w (rw e refl)
 
 pub bvc_taken : {state : State} {place next : ℕ} → Works state Bvc place next → state.cpu.v ≡ false →
     Goes state (jumped state.cpu place)
-bvc_taken w e = branch_taken w (rw e refl)
+bvc_taken w e = branch_steps.taken w (rw e refl)
 
 pub bvc_passed : {state : State} {place next : ℕ} → Works state Bvc place next → state.cpu.v ≡ true →
     Goes state (jumped state.cpu next)
-bvc_passed w e = branch_passed w (rw e refl)
+bvc_passed w e = branch_steps.passed w (rw e refl)
 
 pub bvs_taken : {state : State} {place next : ℕ} → Works state Bvs place next → state.cpu.v ≡ true →
     Goes state (jumped state.cpu place)
-bvs_taken w e = branch_taken w (rw e refl)
+bvs_taken w e = branch_steps.taken w (rw e refl)
 
 pub bvs_passed : {state : State} {place next : ℕ} → Works state Bvs place next → state.cpu.v ≡ false →
     Goes state (jumped state.cpu next)
-bvs_passed w e = branch_passed w (rw e refl)
+bvs_passed w e = branch_steps.passed w (rw e refl)

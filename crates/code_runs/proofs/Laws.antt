@@ -8,21 +8,15 @@ pub use Rattle.code_runs.proofs.Standing.{stand_alone, stand_by_byte, stand_by_w
 pub use Rattle.code_runs.proofs.Standing.{stands_implied, stands_immediate, stands_absolute, stands_absolute_x}
 pub use Rattle.code_runs.proofs.Standing.{stands_stay, code_stays}
 -- the step of an instruction: where it works, by its mode
-pub use Rattle.code_runs.proofs.Modes.{jumped, Works, Reads, WorksOnA, works, works_on_a, reads, reads_immediate}
--- and what it does, by its name
-pub use Rattle.code_runs.proofs.Loads.{lda, ldx, ldy, sta, stx, sty}
-pub use Rattle.code_runs.proofs.Transfers.{tax, tay, tsx, txa, tya, txs}
-pub use Rattle.code_runs.proofs.Logic.{and, ora, eor, bit}
-pub use Rattle.code_runs.proofs.Sums.{summed, adc, sbc}
-pub use Rattle.code_runs.proofs.Compares.{cmp, cpx, cpy}
-pub use Rattle.code_runs.proofs.Shifts.{asl, lsr, rol, ror, asl_a, lsr_a, rol_a, ror_a}
-pub use Rattle.code_runs.proofs.Counts.{inc, dec, inx, dex, iny, dey}
-pub use Rattle.code_runs.proofs.Flags.{clc, cld, cli, clv, sec, sed, sei, nop}
-pub use Rattle.code_runs.proofs.Branches.{takes, branch_taken, branch_passed}
+pub use Rattle.code_runs.specs.Steps.{jumped, Works, Reads, WorksOnA}
+pub use Rattle.code_runs.proofs.Modes.{works, works_on_a, reads, reads_immediate}
+-- and what it does, by its name: a record for each group of them
+pub use Rattle.code_runs.proofs.Steps.{load_steps, transfer_steps, logic_steps, sum_steps, compare_steps, shift_steps, count_steps, flag_steps, jump_steps, stack_steps}
+pub use Rattle.code_runs.proofs.Steps.{lda, ldx, sta, dex, jmp, rts}
+pub use Rattle.code_runs.specs.Steps.{summed, takes}
+pub use Rattle.code_runs.proofs.Branches.{branch_steps}
 pub use Rattle.code_runs.proofs.Branches.{bcc_taken, bcs_taken, bne_taken, beq_taken, bpl_taken, bmi_taken, bvc_taken, bvs_taken}
 pub use Rattle.code_runs.proofs.Branches.{bcc_passed, bcs_passed, bne_passed, beq_passed, bpl_passed, bmi_passed, bvc_passed, bvs_passed}
-pub use Rattle.code_runs.proofs.Jumps.{jmp, jsr, rts, rti}
-pub use Rattle.code_runs.proofs.Stack.{pha, php, pla, plp}
 -- from runs to the machine and its calls
 pub use Rattle.code_runs.proofs.Bridge.{machines_follow, call_returns}
 pub use Rattle.code_runs.proofs.Entry.{entry_pulls, entry_kept}

@@ -12,26 +12,7 @@ use Rattle.cpu6502.specs.Shifts.{accumulator_effect}
 use Rattle.cpu6502.specs.Effects.{address_of, zero_page_word, same_page_word, effect_of, moved, done_by, effect}
 use Rattle.code_runs.specs.Code.{operand_at, place_of, Stands}
 use Rattle.code_runs.specs.Runs.{State}
-
--- registers with another program counter
-abbrev pub jumped : Cpu → ℕ → Cpu
-jumped cpu pc = record cpu { pc = pc }
-
--- the instruction at the program counter works at a place, and the next one is at next
-pub record Works (state : State) (mnemonic : Mnemonic) (place next : ℕ) : Type 0 where
-  pub is : effect state.at state.cpu ≡ effect_of mnemonic state.cpu.pc place state.at (jumped state.cpu next)
-  pub away : 0 < state.cpu.pc
-
--- it reads a byte at the place at which it works
-pub record Reads (state : State) (mnemonic : Mnemonic) (byte next : ℕ) : Type 0 where
-  pub place : ℕ
-  pub works : Works state mnemonic place next
-  pub byte_is : state.at place ≡ byte
-
--- it works on the accumulator
-pub record WorksOnA (state : State) (mnemonic : Mnemonic) (next : ℕ) : Type 0 where
-  pub is : effect state.at state.cpu ≡ accumulator_effect mnemonic state.cpu.pc (jumped state.cpu next)
-  pub away : 0 < state.cpu.pc
+use Rattle.code_runs.specs.Steps.{jumped, Works, Reads, WorksOnA}
 
 -- an instruction that is decoded, and does not work on the accumulator in the place of memory, has its effect
 pub fetched : (at : ℕ → ℕ) (cpu : Cpu) (mn : Mnemonic) (mode : Mode) → is_accumulator mode ≡ false →

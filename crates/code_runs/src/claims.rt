@@ -1,6 +1,7 @@
 //! Facts about runs of machine code, each the contract of a function that does nothing.
 
 ghost use Rattle.code_runs.specs.Calls.{CallsBeginSo, MachinesFollowRuns, RunsAreCalls, RunsStayInside};
+ghost use Rattle.code_runs.specs.Steps.{BranchSteps, CompareSteps, CountSteps, FlagSteps, JumpSteps, LoadSteps, LogicSteps, ShiftSteps, StackSteps, SumSteps, TransferSteps};
 ghost use Rattle.code_runs.specs.Decoded.{BranchesStand, CodeStays, StandAlone, StandByByte, StandByWord, StandingHasEffect};
 
 /// A run from the entry of a call to address 0, with the stack pointer back, is that call, in the run's number of
@@ -12,9 +13,9 @@ pub fn runs_are_calls()
     ensures entry { CallsBeginSo }
 {}
 
-/// An instruction stands where its bytes do, in every mode. One that stands at the program counter has the effect of its
-/// name at the place that its mode and its operand give; and code still stands where its bytes are the same, whatever
-/// the rest of memory holds.
+/// An instruction stands where its bytes do, in every mode. One that stands at the program counter has the effect of
+/// its name at the place that its mode and its operand give; and code still stands where its bytes are the same,
+/// whatever the rest of memory holds.
 pub fn instructions_that_stand()
     ensures alone { StandAlone }
     ensures bytes { StandByByte }
@@ -22,4 +23,20 @@ pub fn instructions_that_stand()
     ensures branches { BranchesStand }
     ensures effects { StandingHasEffect }
     ensures stay { CodeStays }
+{}
+
+/// What a step of each instruction but BRK does, by its name and in any of its modes: the registers that it leads to,
+/// and where it writes which byte.
+pub fn instructions_step()
+    ensures loads { LoadSteps }
+    ensures transfers { TransferSteps }
+    ensures logic { LogicSteps }
+    ensures sums { SumSteps }
+    ensures compares { CompareSteps }
+    ensures shifts { ShiftSteps }
+    ensures counts { CountSteps }
+    ensures flags { FlagSteps }
+    ensures branches { BranchSteps }
+    ensures jumps { JumpSteps }
+    ensures stack { StackSteps }
 {}
