@@ -100,13 +100,7 @@ quiet_common : (c : Common) (one two three funk_one funk_two time : ℕ) → IsQ
       funk_two = funk_two;
       filter_time = time;
     })
-quiet_common c one two three funk_one funk_two time q = record {
-  filter_ptr = q.filter_ptr;
-  filter_type = q.filter_type;
-  filter_control = q.filter_control;
-  cutoff = q.cutoff;
-  volume = q.volume;
-}
+quiet_common c one two three funk_one funk_two time q = search q
 
 quiet_tempo : (channel tempo : ℕ) (c : Common) → IsQuietCommon c → IsQuietCommon (with_tempo channel tempo c)
 quiet_tempo channel tempo c q =
@@ -118,19 +112,7 @@ quiet_tempo channel tempo c q =
 
 quiet_voice_fields : (v : Voice) (plays row tick timer new_param : ℕ) → IsQuietVoice v →
     IsQuietVoice (record v { plays = plays; row = row; tick = tick; gate_timer = timer; new_param = new_param })
-quiet_voice_fields v plays row tick timer new_param q = record {
-  new_note = q.new_note;
-  new_command = q.new_command;
-  command = q.command;
-  param = q.param;
-  ad = q.ad;
-  sr = q.sr;
-  wave = q.wave;
-  freq = q.freq;
-  pulse = q.pulse;
-  wave_ptr = q.wave_ptr;
-  pulse_ptr = q.pulse_ptr;
-}
+quiet_voice_fields v plays row tick timer new_param q = search q
 
 quiet_reloaded : (channel tempo : ℕ) (s : Playing) → IsQuiet s → IsQuiet (reloaded channel tempo s)
 quiet_reloaded channel tempo s q =

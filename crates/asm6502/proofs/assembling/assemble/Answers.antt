@@ -35,5 +35,6 @@ returns c =
           stand_as_written opcodes_have_rows c.args.set.0 c.args.origin c.args.listing.now
           c.in_ok-output.output.bytes d.nothing d.bytes_are;
       moves = λ other moved m.
-          moved_is c.args.set.0 c.args.origin other c.args.listing.now _ moved d.nothing d.bytes_are d.fixes_are d.size m;
+          moved_is c.args.set.0 c.args.origin other c.args.listing.now _ moved d.nothing d.bytes_are d.fixes_are
+          d.size m;
     }
