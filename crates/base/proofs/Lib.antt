@@ -4,4 +4,5 @@ pub mod Laws
 mod Numbers
 mod Options
 mod Lists
+mod SomeItem
 mod FirstBad
