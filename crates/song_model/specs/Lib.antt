@@ -8,6 +8,8 @@ pub mod LookUp
 pub mod Walk
 pub mod Endless
 pub mod Places
+pub mod Pointers
+pub mod Feature
 pub mod Silence
 pub mod Silent
 -- Claimed: laws of these definitions, and what they give for orderlists that were worked out by hand.

@@ -1,4 +1,4 @@
-//! Instruments, and the bits that name what a song makes use of.
+//! Instruments.
 
 use crate::Bounded;
 
@@ -33,7 +33,3 @@ pub struct Instrument {
 
 /// The instruments of a song: at most 63, numbered from 1.
 pub type InstrumentList = Bounded<Instrument, MOST_INSTRUMENTS>;
-
-/// A set of features of the player, one bit each.
-#[derive(Clone, Copy, Debug, PartialEq, Eq)]
-pub struct FeatureBits(pub u32);

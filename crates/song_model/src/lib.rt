@@ -8,6 +8,7 @@
 #![tactic(auto)]
 
 mod faults;
+mod features;
 mod instruments;
 /// Facts about the definitions.
 pub mod claims;
@@ -15,6 +16,7 @@ mod lists;
 mod look_ups;
 mod orders;
 mod patterns;
+mod pointers;
 mod rows;
 mod songs;
 mod steps;
@@ -22,13 +24,15 @@ mod tables;
 
 pub use base::{ByteList, NoMemory};
 pub use faults::{LimitFault, PushFault};
-pub use instruments::{FeatureBits, Instrument, InstrumentList, MOST_INSTRUMENTS};
+pub use features::{Feature, FeatureBits};
+pub use instruments::{Instrument, InstrumentList, MOST_INSTRUMENTS};
 pub use lists::Bounded;
 pub use orders::{
     ENDMARK, MOST_ENTRIES, MOST_SUBTUNES, Order, OrderEntries, OrderPlace, Step, Subtune,
     SubtuneList,
 };
 pub use patterns::{MOST_PATTERNS, MOST_ROWS, Pattern, PatternList};
+pub use pointers::{command_table, wave_row_table};
 pub use rows::Row;
 pub use songs::Song;
 pub use tables::{MOST_TABLE_ROWS, Table, TableName, TableRow};

@@ -42,7 +42,7 @@ impl Song {
     }
 
     /// The table of this name.
-    fn table(&self, name: TableName) -> &Table
+    pub fn table(&self, name: TableName) -> &Table
         ensures { result.now ≡ table_of self.now name }
     {
         match name {

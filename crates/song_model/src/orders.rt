@@ -161,7 +161,7 @@ impl Subtune {
     }
 
     /// Whether none of its orderlists is empty.
-    pub(crate) fn is_playable(&self) -> bool
+    pub fn is_playable(&self) -> bool
         ensures { result ≡ is_playable_subtune self.now }
     {
         let one = self.one.entries.as_slice();
