@@ -1,6 +1,6 @@
 -- What small songs leave in the registers, computed by the checker.
 -- Written by bench/worked_frames.py.
-use Rattle.std.proofs.Common.{true, false, refl}
+use Rattle.std.proofs.Common.{false, refl}
 use Rattle.song_model.specs.Walk.{prefix_of, cycle_of, played}
 use Rattle.song_model.specs.LookUp.{playable_subtune, instrument_at, table_row, pattern_at}
 use Rattle.play_model.specs.Freq.{freq, half_tone, slide}

@@ -12,6 +12,11 @@ pub mod EffectStep
 pub mod PulseStep
 pub mod FetchRow
 pub mod Frame
+-- To believe: what a song makes use of, which songs can be played, and what a player of a song has to do.
+pub mod Used
+pub mod Reached
+pub mod Playable
+pub mod Features
 -- Claimed: ranges, the length of a trace, and what silent songs sound like.
 pub mod Ranges
 pub mod RangeLaws

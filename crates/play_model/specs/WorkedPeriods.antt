@@ -1,6 +1,6 @@
 -- What small songs leave in the registers, by another reading of the rules than this one's.
 -- Written by bench/worked_frames.py.
-use Rattle.std.specs.Prelude.{true, false, [], ◌∷◌}
+use Rattle.std.specs.Prelude.{false, [], ◌∷◌}
 use Rattle.song_model.specs.declared.songs.Song.{Song}
 use Rattle.song_model.specs.Silence.{empty_song}
 use Rattle.play_model.specs.WorkedSongs.{row, sides}

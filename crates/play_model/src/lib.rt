@@ -9,6 +9,10 @@
 
 /// Facts about the definitions.
 pub mod claims;
+mod frequencies;
 mod options;
+mod unplayable;
 
+pub use frequencies::{freq, slide};
 pub use options::{HIGHEST_SPEED, Options, Speed};
+pub use unplayable::Unplayable;
