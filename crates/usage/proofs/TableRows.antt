@@ -1,0 +1,122 @@
+-- Rows of tables: those that aren't stored are zero, and so are no commands and no jumps.
+use Rattle.std.proofs.Common.{◌≡◌, ◌≢◌, ℕ, ◌-◌, ◌<◌, ◌≤◌, ◌⊎◌, Bool, true, false, List, length, replicate, refl, inl, inr, arith}
+use Rattle.std.proofs.lemmas.Bool.{cases_lt}
+use Rattle.std.proofs.lemmas.Bool.Decides.{nat_tests}
+use Rattle.std.proofs.lemmas.List.{get_or_past}
+use Rattle.song_model.specs.declared.tables.TableName.{TableName}
+use Rattle.song_model.specs.declared.tables.TableName.TheVariants.{Wave, Pulse, Filter, Speed}
+use Rattle.song_model.specs.declared.songs.Song.{Song}
+use Rattle.song_model.specs.LookUp.{IsNumbered, zero_table_row, table_of, table_row}
+use Rattle.play_model.specs.declared.unplayable.Unplayable.{Unplayable}
+use Rattle.play_model.specs.declared.unplayable.Unplayable.TheVariants.{NoSubtune, MissingPattern, BadRestart, TableOverflow, PointerToJump}
+use Rattle.play_model.specs.Reached.{is_jump, IsPointer}
+use Rattle.play_model.specs.Playable.{table_number, IsNotAfter, IsFirst}
+use Rattle.usage.specs.Marks.{IsMarked, AreMarks, Adds, SomeBelow, AddsAt, SomeBelowAt, AreMarksAt}
+use Rattle.usage.specs.Search.{IsNowhere, PointsIn}
+use Rattle.usage.specs.Checks.{IsTargetOf, IsNamed}
+use Rattle.usage.specs.Waves.{RowCommands, IsWaveCommand}
+use Rattle.usage.proofs.Ranks.{same, at_most, nothing_left}
+use Rattle.usage.proofs.AddedMarks.{adds_at_same, marks_at_from_none}
+
+pub row_absent : (song : Song) (name : TableName) (p : ℕ) → ¬ IsNumbered (table_of song name) p → table_row song name p ≡ zero_table_row
+unfolding table_row
+row_absent song name p absent = elim (cases_lt p 1) [
+  | inl zero_row ↦ (let e : p ≡ 0 = omega arith in rw e refl)
+  | inr some ↦ elim (cases_lt (length (table_of song name)) p) [
+    | inl past ↦ (
+        let e = get_or_past (table_of song name) (p - 1) zero_table_row (omega arith) in
+        grind (arith, nat_tests))
+    | inr stored ↦ absurd (absent (record { first = some; last = stored }))
+  ]
+]
+
+-- a row with a left side is stored
+pub stored_if : (song : Song) (name : TableName) (p : ℕ) → (table_row song name p).left ≢ 0 → p ≤ length (table_of song name)
+stored_if song name p some = elim (cases_lt (length (table_of song name)) p) [
+  | inl past ↦ (
+      let e = row_absent song name p (λ n. let last = n.last in omega arith) in
+      absurd (some (rw e refl)))
+  | inr stored ↦ stored
+]
+
+jump_left : (name : TableName) (left right : ℕ) → is_jump name (record { left = left; right = right }) ≡ true → left ≡ 0xFF
+jump_left Wave left right h = grind (arith, nat_tests)
+jump_left Pulse left right h = grind (arith, nat_tests)
+jump_left Filter left right h = grind (arith, nat_tests)
+jump_left Speed left right h = absurd (cc)
+
+pub jump_is_stored : (song : Song) (name : TableName) (p : ℕ) → is_jump name (table_row song name p) ≡ true → p ≤ length (table_of song name)
+jump_is_stored song name p h =
+    let e = jump_left name (table_row song name p).left (table_row song name p).right h in
+    stored_if song name p (λ z. omega arith)
+
+-- ---- the rows that jumps name
+
+pub marks_with : {P Q : ℕ → Type 0} (R : ℕ → Type 0) {old new : List Bool} → AreMarks P old → Adds Q old new → ((n : ℕ) → P n ⊎ Q n → R n) → ((n : ℕ) → R n → P n ⊎ Q n) →
+    AreMarks R new
+marks_with {P} {Q} R {old} {new} m a to from = record {
+  each = λ n. (
+    λ (h : IsMarked new n). (let w = (a.each n).0 h in elim w [ inl o ↦ to n (inl ((m.each n).0 o)) | inr q ↦ to n (inr q) ]),
+    λ (r : R n). (let w = from n r in elim w [ inl p ↦ (a.each n).1 (inl ((m.each n).1 p)) | inr q ↦ (a.each n).1 (inr q) ]),
+  );
+}
+
+pub named_of : (song : Song) (name : TableName) (i : ℕ) {pointers new : List Bool} → length (table_of song name) < i → AreMarks (IsPointer song name) pointers →
+    Adds (SomeBelow (IsTargetOf song name) i) pointers new → AreMarks (IsNamed song name) new
+named_of song name i few m a =
+    marks_with (IsNamed song name) m a
+    (λ n w. elim w [
+      | inl p ↦ inl p
+      | inr s ↦ inr (record { p = s.k; reached = s.stands.reached; jump = s.stands.jump; target = s.stands.target; some = s.stands.some })
+    ])
+    (λ n w. elim w [
+      | inl p ↦ inl p
+      | inr t ↦ inr (record {
+        k = t.p;
+        below = (let s = jump_is_stored song name t.p t.jump in omega arith);
+        stands = record { reached = t.reached; jump = t.jump; target = t.target; some = t.some };
+      })
+    ])
+
+-- ---- no jump row is named
+
+points_first : (song : Song) (name : TableName) (p : ℕ) (named : List Bool) → AreMarks (IsNamed song name) named →
+    ((q : ℕ) → q < p → IsMarked named q → ¬ (is_jump name (table_row song name q) ≡ true)) →
+    (other : Unplayable) → PointsIn song name other → IsNotAfter (PointerToJump name p) other
+points_first song name p named m none NoSubtune h = absurd h
+points_first song name p named m none (MissingPattern s c l r) h = absurd h
+points_first song name p named m none (BadRestart s c) h = absurd h
+points_first song name p named m none (TableOverflow t r) h = absurd h
+points_first song name p named m none (PointerToJump t r) (tn, h) =
+    let low : p ≤ r = elim (cases_lt r p) [ inl before ↦ absurd (none r before ((m.each r).1 h.named) h.jump) | inr on ↦ on ] in
+    rw tn (same {x = 5} refl (same {x = table_number name} refl (at_most low nothing_left))).is
+
+pub jump_is_first : (song : Song) (name : TableName) (p : ℕ) (named : List Bool) → AreMarks (IsNamed song name) named →
+    ((q : ℕ) → q < p → IsMarked named q → ¬ (is_jump name (table_row song name q) ≡ true)) → IsMarked named p →
+    is_jump name (table_row song name p) ≡ true → IsFirst (PointsIn song name) (PointerToJump name p)
+jump_is_first song name p named m none here jump = record {
+  is_such = (refl, record { named = (m.each p).0 here; jump = jump });
+  first = points_first song name p named m none;
+}
+
+pub no_jump : (song : Song) (name : TableName) (p : ℕ) (named : List Bool) → AreMarks (IsNamed song name) named → length (table_of song name) < p →
+    ((q : ℕ) → q < p → IsMarked named q → ¬ (is_jump name (table_row song name q) ≡ true)) → IsNowhere (PointsIn song name)
+no_jump song name p named m end none NoSubtune h = h
+no_jump song name p named m end none (MissingPattern s c l r) h = h
+no_jump song name p named m end none (BadRestart s c) h = h
+no_jump song name p named m end none (TableOverflow t r) h = h
+no_jump song name p named m end none (PointerToJump t r) (tn, h) =
+    let low = jump_is_stored song name r h.jump in
+    none r (omega arith) ((m.each r).1 h.named) h.jump
+
+-- ---- the commands of the wave table
+
+pub waves_of : (song : Song) (i : ℕ) {new : List (List Bool)} → length song.wave < i →
+    AddsAt (SomeBelowAt (RowCommands song) i) (replicate 16 (replicate 256 false)) new → AreMarksAt (IsWaveCommand song) new
+waves_of song i few a =
+    marks_at_from_none 16 256 (adds_at_same (IsWaveCommand song) (λ c d s. record { p = s.k; has = s.stands })
+    (λ c d w. record {
+      k = w.p;
+      below = (let e = w.has.left in let s = stored_if song Wave w.p (λ z. omega arith) in omega arith);
+      stands = w.has;
+    }) a)

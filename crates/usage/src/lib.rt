@@ -1,0 +1,25 @@
+//! What a song makes use of, and why it can't be played where it can't.
+//!
+//! The layer's one contract: `usage` answers the parts that a song uses and the features that its player
+//! needs, exactly where the song can be played, and else the first rule that it breaks with its least place.
+//! It takes no memory, and its work is linear in the song.
+//!
+//! It stands on `song_model` for the song and on `play_model` for what is used and what can be played. The
+//! packer and the command `check` stand on it.
+#![tactic(auto)]
+
+mod checks;
+mod features;
+mod found;
+mod marks;
+mod orders;
+mod parts;
+mod played;
+mod pointers;
+mod programs;
+mod rows;
+mod uses;
+mod waves;
+
+pub use parts::{UsedParts, usage};
+pub use play_model::Unplayable;
