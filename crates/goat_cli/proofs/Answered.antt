@@ -5,7 +5,7 @@ use Rattle.goat_io.specs.Files.{Files}
 use Rattle.goat_io.specs.Written.{told_with_piece}
 use Rattle.song_model.specs.declared.songs.Song.{Song}
 use Rattle.goat_cli.specs.RegisterText.{register_lines, register_text}
-use Rattle.goat_cli.specs.Jobs.{IsNoForm, output_of, stages}
+use Rattle.goat_cli.specs.Jobs.{about, IsNoForm, output_of, stages}
 use Rattle.goat_cli.specs.Outcome as outcome
 use Rattle.goat_cli.specs.Outcome.{Outcome, told_after}
 use Rattle.goat_cli.specs.Due as due
@@ -14,7 +14,7 @@ use Rattle.goat_cli.specs.Stands as stands
 use Rattle.goat_cli.specs.Stands.{FolderState, SinkState, AreFiles, Counted, Account, TellsWant, Stands, RunStands}
 use Rattle.goat_cli.specs.Answers.{IsOrdinary, IsPrinted, IsBeforeWriting, HoldsDone, ComesAbout, ComesWhere, SinkCounted, RunsPacked, first_traces}
 use Rattle.goat_cli.proofs.Told.{as_before}
-use Rattle.goat_cli.proofs.Due.{is_no_stage, ends_with_stage, job_facts, outcome_due, one_due, one_text}
+use Rattle.goat_cli.proofs.Due.{is_no_stage, ends_with_stage, done_under, outcome_due, one_due, one_text}
 use Rattle.goat_cli.proofs.PlayedFiles.{packed_file_plays, packed_file_is_due}
 
 -- memory was wanting, or that could not be told
@@ -44,7 +44,7 @@ write_instead words files n output status text name file is (outcome.usage none 
 write_instead words files n output status text name file is (outcome.ended job form first w) nine = absurd (cc (w))
 write_instead words files n output status text name file is (outcome.done job form pass did zero) nine =
     let both = one_due words files n 0 output (output_of job) is (due.done job form pass refl refl) in
-    let named : output ≡ Some name = both.1 ∙ (job_facts files job).writes text (Some (name, file)) did in
+    let named : output ≡ Some name = both.1 ∙ done_under (about job).does files text (Some (name, file)) did in
     subst (λ o. IsOneOf (n ∷ instead o) status) (sym named) (inr (inr (inl nine)))
 
 no_write : (write : Option (List ℕ × List ℕ)) → option_map (λ w. w.0) write ≡ None → write ≡ None
@@ -56,7 +56,7 @@ writes_nothing : (words : List (List ℕ)) (files : Files) (lines : List (List �
 writes_nothing words files lines write (outcome.usage none zero l w) is = w
 writes_nothing words files lines write (outcome.ended job form first w) is = w
 writes_nothing words files lines write (outcome.done job form pass did zero) is =
-    no_write write (sym ((job_facts files job).writes lines write did) ∙ (one_due words files 0 0 (output_of job) None (due.done job form pass refl refl) is).1)
+    no_write write (sym (done_under (about job).does files lines write did) ∙ (one_due words files 0 0 (output_of job) None (due.done job form pass refl refl) is).1)
 
 writes_of_form : (words : List (List ℕ)) (files : Files) (text : List (List ℕ)) (output file : List ℕ) → Outcome words files 0 text (Some (output, file)) → IsNoForm words → ⊥
 writes_of_form words files text output file (outcome.usage none zero l w) other = absurd (omega (arith, zero))

@@ -13,7 +13,10 @@ use Rattle.sid_run.specs.State.{RunnerState, sid_registers, most_steps}
 use Rattle.goat_cli.specs.Calls.{entry_of, accumulator_of, ReturnsTo, FirstCalls, MeetsStopAt}
 use Rattle.goat_cli.specs.RegisterText.{register_line, lines_from, register_lines}
 use Rattle.goat_cli.specs.Lines.{stop_line}
-use Rattle.goat_cli.specs.Last.{Says, SaysNothing, SinkFailed, Wants}
+use Rattle.goat_io.specs.declared.fault.SinkFault.{SinkFault}
+use Rattle.goat_io.specs.declared.fault.SinkFault.TheVariants as sink
+use Rattle.goat_cli.specs.declared.refusal.Refusal.{Refusal}
+use Rattle.goat_cli.specs.Last.{Last, Says, SaysNothing, SinkFailed, Wants, last_of, IsOfSink}
 use Rattle.goat_cli.specs.Stands.{SinkState, Appends}
 use Rattle.goat_cli.specs.Endings.{CallsEnd, FailsIn, played, stopped, failed, wanting}
 use Rattle.goat_cli.proofs.Told.{appends_nothing, appends_both, fails_then}
@@ -175,24 +178,28 @@ module _ (file : RunnerState) (subtune calls : ℕ) (now later : RunnerState) (b
 
   module _ (frames : ℕ) (within : calls ≤ frames) (last : List ℕ) (returns : ReturnsTo now.machine (entry_of now calls) (accumulator_of subtune calls now.machine) last later.machine) (shown : SinkState) where
     -- the put of the line of the call failed
-    pub line_failed : FailsIn (register_line calls last) after shown → CallsEnd file subtune frames SinkFailed before shown
+    line_failed : FailsIn (register_line calls last) after shown → CallsEnd file subtune frames SinkFailed before shown
     line_failed fails =
         failed (suc calls) fails.kept (register_lines so_far.registers) (register_line calls last) (so_far.registers ++ last ∷ []) later.machine (omega (arith, within)) (calls_on last returns) (lines_on last) refl
         (fails_then (concat (register_lines so_far.registers)) (take fails.kept (register_line calls last)) before after shown so_far.printed fails.fails)
 
     -- memory was wanting for it
-    pub line_wanting : Appends [] after shown → CallsEnd file subtune frames Wants before shown
+    line_wanting : Appends [] after shown → CallsEnd file subtune frames Wants before shown
     line_wanting none =
         wanting (suc calls) (register_lines so_far.registers) (register_line calls last) (so_far.registers ++ last ∷ []) later.machine (omega (arith, within)) (calls_on last returns) (lines_on last) refl
         (subst (λ text. Appends text before shown) (append-nil (concat (register_lines so_far.registers))) (appends_both (concat (register_lines so_far.registers)) [] before after shown so_far.printed none))
 
-  pub stop_met : (frames : ℕ) (reason : CallStop) → calls ≤ frames → FailsBy now.machine (entry_of now calls) (accumulator_of subtune calls now.machine) most_steps reason later.machine → CallsEnd file subtune frames (Says 13 (stop_line reason calls)) before after
-  stop_met frames reason within fails = stopped calls so_far.registers reason within (record {
+    pub line_over : (fault : SinkFault) (it : Refusal) → IsOfSink fault it → (fault ≡ sink.Failed → FailsIn (register_line calls last) after shown) → (fault ≡ sink.NoMemory → Appends [] after shown) → CallsEnd file subtune frames (last_of it) before shown
+    line_over sink.Failed it is fails none = rw is (line_failed (fails refl))
+    line_over sink.NoMemory it is fails none = rw is (line_wanting (none refl))
+
+  pub stop_met : (frames : ℕ) (reason : CallStop) → calls ≤ frames → FailsBy now.machine (entry_of now calls) (accumulator_of subtune calls now.machine) most_steps reason later.machine → (last : Last) → last ≡ Says 13 (stop_line reason calls) → CallsEnd file subtune frames last before after
+  stop_met frames reason within fails last says = stopped calls so_far.registers reason within (record {
     before = now.machine;
     calls = so_far.returned;
     after = later.machine;
     fails = subst (λ e. FailsBy now.machine e (accumulator_of subtune calls now.machine) most_steps reason later.machine) (same_entry file now calls so_far.same_init so_far.same_play) fails;
-  }) refl so_far.printed
+  }) says so_far.printed
 
 -- all calls returned
 pub all_played : (file now : RunnerState) (subtune frames calls : ℕ) (before after : SinkState) → CallsSoFar file subtune calls now before after → calls ≡ frames + 1 → CallsEnd file subtune frames SaysNothing before after

@@ -132,7 +132,7 @@ module _ (words : List (List ℕ)) (input : List ℕ) (subtune frames : ℕ) (fi
         is_over = record {
           lines = register_lines registers;
           account = stands.outcome None
-              (outcome.done (Run input subtune frames) at.form (all_met words (Run input subtune frames) folder after files done) (psid, holds, record { registers = registers; after = machine; returned = first; lines_are = refl }, refl) refl)
+              (outcome.done (Run input subtune frames) at.form (all_met words (Run input subtune frames) folder after files done) ((psid, holds, record { registers = registers; after = machine; returned = first; lines_are = refl }), refl) refl)
               (at.stays.told ∙ as_before folder.told);
           counted = at.stays.counts;
           appends = shown;

@@ -1,13 +1,13 @@
 -- One status is due, and one text: each cause by itself.
-use Rattle.std.proofs.Common.{◌≡◌, ◌≢◌, ℕ, ◌+◌, ◌-◌, ◌↔◌, ◌==◌, ◌||◌, Bool, true, false, inl, inr, List, [], ◌∷◌, ◌++◌, Option, Some, None, option_map, refl, sym, ap, ◌∙◌, subst, arith}
+use Rattle.std.proofs.Common.{◌≡◌, ◌≢◌, ℕ, ◌+◌, ◌-◌, ◌↔◌, ◌==◌, ◌||◌, Bool, true, false, inl, inr, List, [], ◌∷◌, ◌++◌, Option, None, option_map, refl, sym, ap, ◌∙◌, subst, arith}
 use Rattle.std.proofs.lemmas.List.{append_assoc}
 use Rattle.goat_io.specs.Files.{Files}
 use Rattle.sid_run.specs.State.{loaded}
-use Rattle.goat_cli.specs.Words.{Job, Pack, Copy, Run}
+use Rattle.goat_cli.specs.Words.{Job, Run}
 use Rattle.goat_cli.specs.Calls.{FirstCalls}
 use Rattle.goat_cli.specs.RegisterText.{register_lines}
 use Rattle.goat_cli.specs.Stages.{Stage, IsThere, status_of, Ends, AllPass, FirstEnds}
-use Rattle.goat_cli.specs.Jobs.{WordsOf, IsNoForm, output_of, stages, Done}
+use Rattle.goat_cli.specs.Jobs.{Deed, PrintsLines, WritesFile, DoneBy, output_under, about, WordsOf, IsNoForm, output_of, stages, Done}
 use Rattle.goat_cli.specs.Outcome as outcome
 use Rattle.goat_cli.specs.Outcome.{Outcome}
 use Rattle.goat_cli.specs.Due as due
@@ -62,25 +62,25 @@ module _ (files : Files) where
 
 -- ---- what a job writes is under its output's name, and a job that writes nothing prints one text
 
-pub record JobFacts (files : Files) (job : Job) : Type 0 where
-  pub writes : (lines : List (List ℕ)) (write : Option (List ℕ × List ℕ)) → Done job files lines write → output_of job ≡ option_map (λ w. w.0) write
-  pub once : (lines others : List (List ℕ)) → Done job files lines None → Done job files others None → lines ≡ others
+pub done_under : (deed : Deed) (files : Files) (lines : List (List ℕ)) (write : Option (List ℕ × List ℕ)) → DoneBy deed files lines write → output_under deed ≡ option_map (λ w. w.0) write
+done_under (PrintsLines text) files lines write did = sym (ap (option_map (λ w. w.0)) did.1)
+done_under (WritesFile output holds) files lines write did = sym (ap (option_map (λ w. w.0)) did.2.write_is)
 
-pub job_facts : (files : Files) (job : Job) → JobFacts files job
-job_facts files (Pack input output psid address zero_page) = record {
-  writes = λ lines write did. sym (ap (option_map (λ w. w.0)) did.4.write_is);
-  once = λ lines others p q. let never : None ≡ Some (output, p.1) = p.4.write_is in absurd (cc (never));
-}
-job_facts files (Copy input output) = record {
-  writes = λ lines write did. sym (ap (option_map (λ w. w.0)) did.2.write_is);
-  once = λ lines others p q. let writes = p.2.write_is in absurd (cc (writes));
-}
-job_facts files (Run input subtune frames) = record {
-  writes = λ lines write did. sym (ap (option_map (λ w. w.0)) did.3);
-  once = λ lines others p q.
-      let first = subst (λ x. FirstCalls (loaded x) (subtune - 1) (frames + 1) p.2.registers p.2.after) (one_psid_held files input p.0 q.0 p.1 q.1) p.2.returned in
-      p.2.lines_are ∙ ap register_lines (one_list (loaded q.0) (subtune - 1) (frames + 1) p.2.registers q.2.registers p.2.after q.2.after first q.2.returned) ∙ sym q.2.lines_are;
-}
+abbrev HasOneText : Files → Deed → Type 0
+HasOneText files (PrintsLines text) = (lines others : List (List ℕ)) → text files lines → text files others → lines ≡ others
+HasOneText files (WritesFile output holds) = Unit {0}
+
+has_one_text : (files : Files) (job : Job) → HasOneText files (about job).does
+has_one_text files (Run input subtune frames) = λ lines others p q.
+    let same = one_psid_held files input p.0 q.0 p.1 q.1 in
+    let first = subst (λ x. FirstCalls (loaded x) (subtune - 1) (frames + 1) p.2.registers p.2.after) same p.2.returned in
+    let calls = one_list (loaded q.0) (subtune - 1) (frames + 1) p.2.registers q.2.registers p.2.after q.2.after first q.2.returned in
+    p.2.lines_are ∙ ap register_lines calls ∙ sym q.2.lines_are
+has_one_text files _ = tt
+
+done_once : (deed : Deed) (files : Files) (lines others : List (List ℕ)) → HasOneText files deed → DoneBy deed files lines None → DoneBy deed files others None → lines ≡ others
+done_once (PrintsLines text) files lines others once p q = once lines others p.0 q.0
+done_once (WritesFile output holds) files lines others once p q = let wrote = p.2.write_is in absurd (cc (wrote))
 
 -- ---- what is due
 
@@ -120,7 +120,7 @@ module _ (words : List (List ℕ)) (files : Files) where
   one_text s t lines others (outcome.done job form pass did p) (outcome.ended job' form' first' v) =
       absurd (pass_or_end files (stages job') t others (moved job job' form form' (λ j. AllPass files (stages j)) pass) first')
   one_text s t lines others (outcome.done job form pass did p) (outcome.done job' form' pass' did' q) =
-      (job_facts files job').once lines others (moved job job' form form' (λ j. Done j files lines None) did) did'
+      done_once (about job').does files lines others (has_one_text files job') (moved job job' form form' (λ j. Done j files lines None) did) did'
 
 -- ---- each status has its cause
 

@@ -4,8 +4,8 @@ use Rattle.std.proofs.lemmas.Fmt.{decimal_injective}
 use Rattle.std.specs.Global.{Global}
 use Rattle.std.specs.String.{string_bytes}
 use Rattle.std.specs.Str.{bytes_eq}
-use Rattle.base.proofs.Laws.{same_head, same_tail}
-use Rattle.goat_cli.specs.Words.{Job, Pack, Copy, Run, texts, format_word, IsAddressWord, IsZeroPageWord, IsNumberWord, ArePackArguments, AreCopyArguments, AreRunArguments}
+use Rattle.base.proofs.Laws.{same_head}
+use Rattle.goat_cli.specs.Words.{Job, Pack, Copy, Run, texts, format_word, IsAddressWord, IsZeroPageWord, IsNumberWord, ArePackArguments}
 use Rattle.goat_cli.specs.Jobs.{WordsOf, command_of}
 
 -- ---- a list of five words
@@ -44,55 +44,47 @@ same_format false false e = refl
 same_format true false e = absurd (cc)
 same_format false true e = absurd (cc)
 
-same_number : (limit : ℕ) (v w : List ℕ) (a b : ℕ) → limit < 2 ^ 64 → v ≡ w → IsNumberWord limit v a → IsNumberWord limit w b → a ≡ b
-same_number limit v w a b small same p q = decimal_injective a b (omega (arith, p.allowed, small)) (omega (arith, q.allowed, small)) (sym p.spelled ∙ same ∙ q.spelled)
+same_number : {limit : ℕ} {v w : List ℕ} {a b : ℕ} → limit < 2 ^ 64 → v ≡ w → IsNumberWord limit v a → IsNumberWord limit w b → a ≡ b
+same_number {a} {b} small same p q =
+    decimal_injective a b (omega (arith, p.allowed, small)) (omega (arith, q.allowed, small)) (sym p.spelled ∙ same ∙ q.spelled)
 
-same_address : (v w : List ℕ) (a b : ℕ) → v ≡ w → IsAddressWord v a → IsAddressWord w b → a ≡ b
-same_address v w a b same p q =
+same_address : {v w : List ℕ} {a b : ℕ} → v ≡ w → IsAddressWord v a → IsAddressWord w b → a ≡ b
+same_address same p q =
     let d = p.digits in
     let e = q.digits in
     let high : p.high ≡ q.high = cc in
     let low : p.low ≡ q.low = cc in
     p.value ∙ ap (λ h. 256 * h + p.low) high ∙ ap (λ l. 256 * q.high + l) low ∙ sym q.value
 
-same_zero_page : (v w : List ℕ) (a b : ℕ) → v ≡ w → IsZeroPageWord v a → IsZeroPageWord w b → a ≡ b
-same_zero_page v w a b same p q =
+same_zero_page : {v w : List ℕ} {a b : ℕ} → v ≡ w → IsZeroPageWord v a → IsZeroPageWord w b → a ≡ b
+same_zero_page same p q =
     let d = p.digits in
     let e = q.digits in
     cc
 
-same_pack : (v w : List (List ℕ)) (i o i2 o2 : List ℕ) (f f2 : Bool) (a z a2 z2 : ℕ) → v ≡ w → ArePackArguments v i o f a z → ArePackArguments w i2 o2 f2 a2 z2 → Pack i o f a z ≡ Pack i2 o2 f2 a2 z2
-same_pack v w i o i2 o2 f f2 a z a2 z2 same p q =
-    let input : i ≡ i2 = cc (same, p.form, q.form) in
-    let output : o ≡ o2 = cc (same, p.form, q.form) in
-    let format : f ≡ f2 = same_format f f2 (cc (same, p.form, q.form)) in
-    let address : a ≡ a2 = same_address p.address_word q.address_word a a2 (cc (same, p.form, q.form)) p.address_spelled q.address_spelled in
-    let page : z ≡ z2 = same_zero_page p.zero_page_word q.zero_page_word z z2 (cc (same, p.form, q.form)) p.zero_page_spelled q.zero_page_spelled in
-    cc
-
-same_copy : (v w : List (List ℕ)) (i o i2 o2 : List ℕ) → v ≡ w → AreCopyArguments v i o → AreCopyArguments w i2 o2 → Copy i o ≡ Copy i2 o2
-same_copy v w i o i2 o2 same p q =
-    let input : i ≡ i2 = cc (same, p.form, q.form) in
-    let output : o ≡ o2 = cc (same, p.form, q.form) in
-    cc
-
-same_run : (v w : List (List ℕ)) (i i2 : List ℕ) (s n s2 n2 : ℕ) → v ≡ w → AreRunArguments v i s n → AreRunArguments w i2 s2 n2 → Run i s n ≡ Run i2 s2 n2
-same_run v w i i2 s n s2 n2 same p q =
-    let input : i ≡ i2 = cc (same, p.form, q.form) in
-    let subtune : s ≡ s2 = same_number 255 p.subtune_word q.subtune_word s s2 (omega arith) (cc (same, p.form, q.form)) p.subtune_spelled q.subtune_spelled in
-    let frames : n ≡ n2 = same_number 100000 p.frames_word q.frames_word n n2 (omega arith) (cc (same, p.form, q.form)) p.frames_spelled q.frames_spelled in
-    cc
-
 -- a first word is that of one command
-differ : (ws : List (List ℕ)) (a b : Job) → WordsOf ws a → WordsOf ws b → bytes_eq (command_of a) (command_of a) ≡ true → bytes_eq (command_of a) (command_of b) ≡ false → ⊥
+differ : (ws : List (List ℕ)) (a b : Job) → WordsOf ws a → WordsOf ws b →
+    bytes_eq (command_of a) (command_of a) ≡ true → bytes_eq (command_of a) (command_of b) ≡ false → ⊥
 differ ws a b p q same other =
-    let never : true ≡ false = sym same ∙ ap (bytes_eq (command_of a)) (same_head _ _ _ _ (sym p.words_are ∙ q.words_are)) ∙ other in absurd (cc (never))
+    let first = same_head _ _ _ _ (sym p.words_are ∙ q.words_are) in
+    let never : true ≡ false = sym same ∙ ap (bytes_eq (command_of a)) first ∙ other in absurd (cc (never))
 
 -- words of one list name one job
 pub one_job : (ws : List (List ℕ)) (a b : Job) → WordsOf ws a → WordsOf ws b → a ≡ b
-one_job ws (Pack i o f a z) (Pack i2 o2 f2 a2 z2) p q = same_pack p.arguments q.arguments i o i2 o2 f f2 a z a2 z2 (same_tail _ _ _ _ (sym p.words_are ∙ q.words_are)) p.are_arguments q.are_arguments
-one_job ws (Copy i o) (Copy i2 o2) p q = same_copy p.arguments q.arguments i o i2 o2 (same_tail _ _ _ _ (sym p.words_are ∙ q.words_are)) p.are_arguments q.are_arguments
-one_job ws (Run i s n) (Run i2 s2 n2) p q = same_run p.arguments q.arguments i i2 s n s2 n2 (same_tail _ _ _ _ (sym p.words_are ∙ q.words_are)) p.are_arguments q.are_arguments
+one_job ws (Pack i o f a z) (Pack i2 o2 f2 a2 z2) p q =
+    let v = p.are_arguments in
+    let w = q.are_arguments in
+    let format : f ≡ f2 = same_format f f2 (cc (p.words_are, q.words_are, v.form, w.form)) in
+    let address : a ≡ a2 = same_address (cc (p.words_are, q.words_are, v.form, w.form)) v.address_spelled w.address_spelled in
+    let page : z ≡ z2 = same_zero_page (cc (p.words_are, q.words_are, v.form, w.form)) v.zero_page_spelled w.zero_page_spelled in
+    cc (p.words_are, q.words_are, v.form, w.form)
 one_job ws (Pack i o f a z) other p q = absurd (differ ws (Pack i o f a z) other p q refl refl)
+one_job ws (Copy i o) (Copy i2 o2) p q = cc (p.words_are, q.words_are, p.are_arguments.form, q.are_arguments.form)
 one_job ws (Copy i o) other p q = absurd (differ ws (Copy i o) other p q refl refl)
+one_job ws (Run i s n) (Run i2 s2 n2) p q =
+    let v = p.are_arguments in
+    let w = q.are_arguments in
+    let subtune : s ≡ s2 = same_number (omega arith) (cc (p.words_are, q.words_are, v.form, w.form)) v.subtune_spelled w.subtune_spelled in
+    let frames : n ≡ n2 = same_number (omega arith) (cc (p.words_are, q.words_are, v.form, w.form)) v.frames_spelled w.frames_spelled in
+    cc (p.words_are, q.words_are, v.form, w.form)
 one_job ws (Run i s n) other p q = absurd (differ ws (Run i s n) other p q refl refl)

@@ -13,4 +13,5 @@ mod Passes
 mod PlayedFiles
 mod Printed
 mod Reading
+mod Room
 mod Told

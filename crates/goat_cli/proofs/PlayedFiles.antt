@@ -167,7 +167,7 @@ module _ (words : List (List ℕ)) (files : Files) (song : Song) (subtune frames
 
   pub packed_file_plays : Outcome words files 0 (register_lines traces) None
   packed_file_plays =
-      outcome.done (Run runs.input subtune frames) runs.form met.pass (met.psid, met.holds, record { registers = traces; after = met.after; returned = met.calls; lines_are = refl }, refl) refl
+      outcome.done (Run runs.input subtune frames) runs.form met.pass ((met.psid, met.holds, record { registers = traces; after = met.after; returned = met.calls; lines_are = refl }), refl) refl
 
   pub packed_file_is_due : IsDue words files 0 None
   packed_file_is_due = due.done (Run runs.input subtune frames) runs.form met.pass refl refl

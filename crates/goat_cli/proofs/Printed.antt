@@ -4,7 +4,7 @@ use Rattle.std.proofs.lemmas.List.{append-nil}
 use Rattle.std.proofs.lemmas.List.Folds.{concat-append}
 use Rattle.std.specs.List.{concat}
 use Rattle.goat_io.specs.Files.{Files}
-use Rattle.goat_cli.specs.Last.{Last, Says, SaysNothing, SinkFailed, Wants, IsSaid}
+use Rattle.goat_cli.specs.Last.{Last, Says, SaysNothing, SinkFailed, Wants}
 use Rattle.goat_cli.specs.Stands as stands
 use Rattle.goat_cli.specs.Stands.{FolderState, SinkState, Account, Counted, Appends, TellsWant, Stands, RunStands}
 use Rattle.goat_cli.specs.Endings as ends
@@ -40,13 +40,6 @@ module _ (words : List (List ℕ)) (files : Files) (answer : ℕ) (folder after 
 pub run_stands : (words : List (List ℕ)) (last : Last) (answer : ℕ) (folder after : FolderState) (s t u : SinkState) → RunEnds words last folder after s t → Prints last answer t u → RunStands words answer folder after s u
 run_stands words last answer folder after s t u run prints =
     record { files = run.files; are_files = run.are_files; stands = stands_then words run.files answer folder after s t u last run.is_over prints }
-
--- memory was wanting for the last line
-pub said_prints : (last : Last) (answer : ℕ) (s t : SinkState) → IsSaid last → TellsWant [] answer s t → Prints last answer s t
-said_prints (Says status line) answer s t said tells = ends.wanting tells
-said_prints SaysNothing answer s t said tells = absurd said
-said_prints SinkFailed answer s t said tells = absurd said
-said_prints Wants answer s t said tells = absurd said
 
 -- no room for a line was found
 pub no_room : (words : List (List ℕ)) (answer : ℕ) (folder : FolderState) (s t : SinkState) → TellsWant [] answer s t → RunStands words answer folder folder s t

@@ -10,7 +10,7 @@ use Rattle.goat_io.specs.declared.folder_counts.FolderCounts.{FolderCounts}
 use Rattle.goat_io.specs.FolderCounts.{CountsRead}
 use Rattle.goat_io.specs.Files.{Files, file_of, with_file, IsAbsent, IsAbove}
 use Rattle.goat_cli.specs.Lines.{missing_line, too_long_line}
-use Rattle.goat_cli.specs.Last.{Says}
+use Rattle.goat_cli.specs.Last.{Last, Says}
 use Rattle.goat_cli.specs.Stands.{FolderState, AreFiles, Counted}
 use Rattle.goat_cli.proofs.Told.{same_count, still}
 use Rattle.goat_cli.specs.Endings as ends
@@ -60,13 +60,13 @@ was_read name limit before after bytes known fits same counted =
     let some = some_of before.told (λ files. file_of files name ≡ Some bytes) (with_file empty name bytes) (one_file name bytes) known in
     record { files = some.files; are_files = some.are_files; found = some.has; fits = fits; stays = record { told = same; counts = counted } }
 
-pub was_missing : (name : List ℕ) (limit : ℕ) (before after : FolderState) → IfSome before.told (IsAbsent name) → after.told ≡ before.told → Counted 2 before.counts after.counts → ReadFails name limit before after (Says 2 (missing_line name))
-was_missing name limit before after known same counted =
+pub was_missing : (name : List ℕ) (limit : ℕ) (before after : FolderState) → IfSome before.told (IsAbsent name) → after.told ≡ before.told → Counted 2 before.counts after.counts → (last : Last) → last ≡ Says 2 (missing_line name) → ReadFails name limit before after last
+was_missing name limit before after known same counted last says =
     let some = some_of before.told (IsAbsent name) empty (get-empty (slice_cmp nat_cmp) name) known in
-    ends.missing some.files some.are_files some.has refl same counted
+    ends.missing some.files some.are_files some.has says same counted
 
-pub was_too_long : (name : List ℕ) (limit : ℕ) (before after : FolderState) → IfSome before.told (IsAbove limit name) → after.told ≡ before.told → Counted 3 before.counts after.counts → ReadFails name limit before after (Says 3 (too_long_line name))
-was_too_long name limit before after known same counted =
+pub was_too_long : (name : List ℕ) (limit : ℕ) (before after : FolderState) → IfSome before.told (IsAbove limit name) → after.told ≡ before.told → Counted 3 before.counts after.counts → (last : Last) → last ≡ Says 3 (too_long_line name) → ReadFails name limit before after last
+was_too_long name limit before after known same counted last says =
     let long = replicate (limit + 1) 0 in
     let some = some_of before.told (IsAbove limit name) (with_file empty name long) (long, one_file name long, omega (arith, length-replicate {A = ℕ} (limit + 1) 0)) known in
-    ends.too_long some.files some.are_files some.has refl same counted
+    ends.too_long some.files some.are_files some.has says same counted

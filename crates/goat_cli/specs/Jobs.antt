@@ -13,25 +13,24 @@ use Rattle.goat_cli.specs.Calls.{FirstCalls}
 use Rattle.goat_cli.specs.RegisterText.{register_lines}
 use Rattle.goat_cli.specs.Lines.{wrote_line}
 
--- the bytes are written under the name, and their number is printed
-pub record Writes (output file : List ℕ) (lines : List (List ℕ)) (write : Option (List ℕ × List ℕ)) : Type 0 where
-  pub lines_are : lines ≡ wrote_line (length file) ∷ []
-  pub write_is : write ≡ Some (output, file)
+-- what a job does that passes all its stages: it prints these lines and writes nothing; or it writes such a file under the name, and prints how many bytes it has
+pub data Deed : Type 1 where
+  PrintsLines : (Files → List (List ℕ) → Type 0) → Deed
+  WritesFile : (output : List ℕ) → (Files → List ℕ → Type 0) → Deed
 
--- init and play return so often, and nothing but a line for each call is printed
+-- init and play return so often, and there is a line for each call
 pub record Shows (psid : Psid) (subtune calls : ℕ) (lines : List (List ℕ)) : Type 0 where
   pub registers : List (List ℕ)
   pub after : Machine
   pub returned : FirstCalls (loaded psid) (subtune - 1) calls registers after
   pub lines_are : lines ≡ register_lines registers
 
--- a command's first word, and the words after it; the stages of its run, in the order of its refusals; the name of the file that it writes, if it writes one; and what it does: the lines that it prints, and the name and the bytes that it writes
+-- a command's first word, and the words after it; the stages of its run, in the order of its refusals; and what it does
 pub record About : Type 1 where
   pub command : List ℕ
   pub has_arguments : List (List ℕ) → Type 0
   pub stages : List Stage
-  pub output : Option (List ℕ)
-  pub does : Files → List (List ℕ) → Option (List ℕ × List ℕ) → Type 0
+  pub does : Deed
 
 abbrev pub about : Job → About
 -- of a song a packed file is written
@@ -39,24 +38,21 @@ about (Pack input output psid address zero_page) = record {
   command = codes "pack";
   has_arguments = λ words. ArePackArguments words input output psid address zero_page;
   stages = IsThere input ∷ Fits input input_limit ∷ SpellsSong input ∷ CanBePacked input ∷ [];
-  output = Some output;
-  does = λ files lines write. (song : Song) × (file : List ℕ) × HoldsSong files input song × IsPackedFile psid address zero_page song file × Writes output file lines write;
+  does = WritesFile output (λ files file. (song : Song) × HoldsSong files input song × IsPackedFile psid address zero_page song file);
 }
 -- of a song the canonical spelling is written
 about (Copy input output) = record {
   command = codes "copy";
   has_arguments = λ words. AreCopyArguments words input output;
   stages = IsThere input ∷ Fits input input_limit ∷ SpellsSong input ∷ [];
-  output = Some output;
-  does = λ files lines write. (song : Song) × HoldsSong files input song × Writes output (canonical song) lines write;
+  does = WritesFile output (λ files file. (song : Song) × HoldsSong files input song × (file ≡ canonical song));
 }
 -- of a PSID file the calls are shown: init, and play as often as there are frames
 about (Run input subtune frames) = record {
   command = codes "run";
   has_arguments = λ words. AreRunArguments words input subtune frames;
   stages = IsThere input ∷ Fits input input_limit ∷ IsPsid input ∷ OffersSubtune input subtune ∷ CallsReturn input subtune frames ∷ [];
-  output = None;
-  does = λ files lines write. (psid : Psid) × HoldsPsid files input psid × Shows psid subtune (frames + 1) lines × (write ≡ None);
+  does = PrintsLines (λ files lines. (psid : Psid) × HoldsPsid files input psid × Shows psid subtune (frames + 1) lines);
 }
 
 abbrev pub command_of : Job → List ℕ
@@ -68,11 +64,26 @@ AreArgumentsOf job words = (about job).has_arguments words
 abbrev pub stages : Job → List Stage
 stages job = (about job).stages
 
+-- the name of the file that is written, if one is
+abbrev pub output_under : Deed → Option (List ℕ)
+output_under (PrintsLines text) = None
+output_under (WritesFile output holds) = Some output
+
 abbrev pub output_of : Job → Option (List ℕ)
-output_of job = (about job).output
+output_of job = output_under (about job).does
+
+-- the bytes are written under the name, and their number is printed
+pub record Writes (output file : List ℕ) (lines : List (List ℕ)) (write : Option (List ℕ × List ℕ)) : Type 0 where
+  pub lines_are : lines ≡ wrote_line (length file) ∷ []
+  pub write_is : write ≡ Some (output, file)
+
+-- it is done with these lines, and this name and these bytes written
+abbrev pub DoneBy : Deed → Files → List (List ℕ) → Option (List ℕ × List ℕ) → Type 0
+DoneBy (PrintsLines text) files lines write = text files lines × (write ≡ None)
+DoneBy (WritesFile output holds) files lines write = (file : List ℕ) × holds files file × Writes output file lines write
 
 abbrev pub Done : Job → Files → List (List ℕ) → Option (List ℕ × List ℕ) → Type 0
-Done job files lines write = (about job).does files lines write
+Done job files lines write = DoneBy (about job).does files lines write
 
 -- the words name this job
 pub record WordsOf (words : List (List ℕ)) (job : Job) : Type 0 where

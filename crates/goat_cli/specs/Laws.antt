@@ -1,5 +1,5 @@
 -- What follows from the definitions: words name one job, a run has one outcome, each status comes exactly where its cause is, and a packed file that is run prints its song.
-use Rattle.std.specs.Prelude.{◌≡◌, ◌≢◌, ℕ, ◌+◌, ◌-◌, ◌≤◌, ◌↔◌, List, Option, None, Ok, length}
+use Rattle.std.specs.Prelude.{◌≡◌, ◌≢◌, ℕ, ◌+◌, ◌-◌, ◌^◌, ◌<◌, ◌≤◌, ◌↔◌, List, Option, None, Ok, length, sum_by}
 use Rattle.goat_io.specs.Files.{Files}
 use Rattle.song_model.specs.declared.songs.Song.{Song}
 use Rattle.song_model.specs.LookUp.{playable_subtunes}
@@ -15,6 +15,10 @@ use Rattle.goat_cli.specs.Outcome.{Outcome}
 use Rattle.goat_cli.specs.Due.{IsDue}
 use Rattle.goat_cli.specs.Stands.{ComesTo}
 use Rattle.goat_cli.specs.Answers.{IsPackedPsid, first_traces}
+use Rattle.goat_cli.specs.declared.message.Piece.{Piece}
+use Rattle.goat_cli.specs.Message.{line_of, name_length, IsShort}
+use Rattle.goat_cli.specs.RegisterText.{register_line}
+use Rattle.goat_cli.specs.Lines.{no_memory_line}
 
 abbrev pub WordsNameOneJob : Type 0
 WordsNameOneJob = (words : List (List ℕ)) (a b : Job) → WordsOf words a → WordsOf words b → a ≡ b
@@ -54,3 +58,11 @@ abbrev pub PackedFilesPlay : Type 0
 PackedFilesPlay =
     (song : Song) (file : List ℕ) (subtune frames : ℕ) → IsPackedPsid song file → 1 ≤ subtune → subtune ≤ length (playable_subtunes song) →
     (psid : Psid) × (psid_read file ≡ Ok psid) × HasSubtune psid subtune × (after : Machine) × FirstCalls (loaded psid) (subtune - 1) (frames + 1) (first_traces song (subtune - 1) (frames + 1)) after
+
+-- ---- room
+
+-- a line has at most 96 bytes beside the names in it: that of a message, that of a call, and that memory is wanting
+pub record LinesHaveRoom : Type 0 where
+  pub messages : (pieces : List Piece) → IsShort pieces → length (line_of pieces) ≤ 96 + sum_by name_length pieces
+  pub registers : (call : ℕ) (registers : List ℕ) → call < 10 ^ 6 → length registers ≡ 25 → length (register_line call registers) ≤ 96
+  pub no_memory : length no_memory_line ≤ 96

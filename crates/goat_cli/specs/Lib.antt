@@ -17,6 +17,7 @@ pub mod Answers
 pub mod Laws
 -- Inner: what the parts of the top call promise each other.
 pub mod Job
+pub mod Message
 pub mod Room
 pub mod Last
 pub mod Endings

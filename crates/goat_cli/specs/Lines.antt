@@ -1,5 +1,6 @@
 -- The lines that the program prints, but for those of registers.
 use Rattle.std.specs.Prelude.{ℕ, ◌/◌, ◌%◌, List, [], ◌∷◌, ◌++◌, codes, decimal}
+use Rattle.std.specs.List.{concat}
 use Rattle.hex.specs.Hex.{encode_upper}
 use Rattle.gts5.specs.declared.faults.SongFault.{SongFault}
 use Rattle.gts5.specs.declared.faults.SongFault.TheVariants as song
@@ -9,38 +10,48 @@ use Rattle.cpu6502.specs.declared.stop.Stop.TheVariants.{Illegal, Break, Decimal
 use Rattle.cpu6502.specs.declared.stop.CallStop.{CallStop}
 use Rattle.cpu6502.specs.declared.stop.CallStop.TheVariants.{Stopped, Budget}
 
+-- the line of these parts
+abbrev pub line : List (List ℕ) → List ℕ
+line parts = concat parts ++ codes "\n"
+
 abbrev pub usage_line : List ℕ
-usage_line = codes "usage: goat check|trace|pack|run|edit|copy|selftest\n"
+usage_line = line (codes "usage: goat check|trace|pack|run|edit|copy|selftest" ∷ [])
 
 abbrev pub missing_line : List ℕ → List ℕ
-missing_line name = codes "missing: " ++ name ++ codes "\n"
+missing_line name = line (codes "missing: " ∷ name ∷ [])
 
 abbrev pub too_long_line : List ℕ → List ℕ
-too_long_line name = codes "too long: " ++ name ++ codes "\n"
+too_long_line name = line (codes "too long: " ∷ name ∷ [])
 
 abbrev pub read_fault_line : List ℕ → List ℕ
-read_fault_line name = codes "read fault: " ++ name ++ codes "\n"
+read_fault_line name = line (codes "read fault: " ∷ name ∷ [])
+
+abbrev pub write_fault_line : List ℕ → List ℕ
+write_fault_line name = line (codes "write fault: " ∷ name ∷ [])
+
+abbrev pub no_memory_line : List ℕ
+no_memory_line = line (codes "no memory" ∷ [])
 
 -- the faults of a file that spells no song; want of memory is none of the file's
 abbrev pub song_fault_line : SongFault → List ℕ
-song_fault_line song.NotGts5 = codes "not a song: bad magic\n"
-song_fault_line (song.Truncated offset) = codes "not a song: truncated at " ++ decimal offset ++ codes "\n"
-song_fault_line (song.OutOfLimit offset) = codes "not a song: over limit at " ++ decimal offset ++ codes "\n"
-song_fault_line (song.BadOrder offset) = codes "not a song: bad order at " ++ decimal offset ++ codes "\n"
-song_fault_line (song.BadRow offset) = codes "not a song: bad row at " ++ decimal offset ++ codes "\n"
-song_fault_line song.NoMemory = codes "no memory\n"
+song_fault_line song.NotGts5 = line (codes "not a song: bad magic" ∷ [])
+song_fault_line (song.Truncated offset) = line (codes "not a song: truncated at " ∷ decimal offset ∷ [])
+song_fault_line (song.OutOfLimit offset) = line (codes "not a song: over limit at " ∷ decimal offset ∷ [])
+song_fault_line (song.BadOrder offset) = line (codes "not a song: bad order at " ∷ decimal offset ∷ [])
+song_fault_line (song.BadRow offset) = line (codes "not a song: bad row at " ∷ decimal offset ∷ [])
+song_fault_line song.NoMemory = no_memory_line
 
 -- the faults of a file that is no PSID file; want of memory is none of the file's
 abbrev pub psid_fault_line : PsidFault → List ℕ
-psid_fault_line psid.NotPsid = codes "not a PSID: bad magic\n"
-psid_fault_line psid.Truncated = codes "not a PSID: truncated\n"
-psid_fault_line psid.Unsupported = codes "not a PSID: unsupported\n"
-psid_fault_line psid.BadField = codes "not a PSID: bad field\n"
-psid_fault_line psid.NoMemory = codes "no memory\n"
+psid_fault_line psid.NotPsid = line (codes "not a PSID: bad magic" ∷ [])
+psid_fault_line psid.Truncated = line (codes "not a PSID: truncated" ∷ [])
+psid_fault_line psid.Unsupported = line (codes "not a PSID: unsupported" ∷ [])
+psid_fault_line psid.BadField = line (codes "not a PSID: bad field" ∷ [])
+psid_fault_line psid.NoMemory = no_memory_line
 
 -- for a subtune that a file with this number of songs doesn't have
 abbrev pub no_subtune_line : ℕ → ℕ → List ℕ
-no_subtune_line asked songs = codes "no such subtune: " ++ decimal asked ++ codes " of " ++ decimal songs ++ codes "\n"
+no_subtune_line asked songs = line (codes "no such subtune: " ∷ decimal asked ∷ codes " of " ∷ decimal songs ∷ [])
 
 -- an address as four hexadecimal digits in upper case
 abbrev pub address_digits : ℕ → List ℕ
@@ -55,17 +66,11 @@ stop_text Budget = codes "no return"
 
 -- for a call with this number
 abbrev pub stop_line : CallStop → ℕ → List ℕ
-stop_line reason call = codes "machine stopped: " ++ stop_text reason ++ codes " in call " ++ decimal call ++ codes "\n"
-
-abbrev pub write_fault_line : List ℕ → List ℕ
-write_fault_line name = codes "write fault: " ++ name ++ codes "\n"
+stop_line reason call = line (codes "machine stopped: " ∷ stop_text reason ∷ codes " in call " ∷ decimal call ∷ [])
 
 abbrev pub not_built_line : List ℕ
-not_built_line = codes "not built\n"
-
-abbrev pub no_memory_line : List ℕ
-no_memory_line = codes "no memory\n"
+not_built_line = line (codes "not built" ∷ [])
 
 -- for a file of this length
 abbrev pub wrote_line : ℕ → List ℕ
-wrote_line count = codes "wrote " ++ decimal count ++ codes " bytes\n"
+wrote_line count = line (codes "wrote " ∷ decimal count ∷ codes " bytes" ∷ [])

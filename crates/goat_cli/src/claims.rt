@@ -1,6 +1,6 @@
 //! Facts about the definitions, each the contract of a function that does nothing.
 
-ghost use Rattle.goat_cli.specs.Laws.{WordsNameOneJob, OutcomesAreDue, OneStatusIsDue, OneTextIsPrinted, StagesPass, StatusesHaveCauses, PackedFilesPlay};
+ghost use Rattle.goat_cli.specs.Laws.{WordsNameOneJob, OutcomesAreDue, OneStatusIsDue, OneTextIsPrinted, StagesPass, StatusesHaveCauses, PackedFilesPlay, LinesHaveRoom};
 
 /// The words of a line name one job at most.
 pub fn words_name_one_job()
@@ -27,4 +27,9 @@ pub fn statuses_have_causes()
 /// All calls of a packed PSID file return, with the registers of the song's trace.
 pub fn packed_files_play_their_song()
     ensures { PackedFilesPlay }
+{}
+
+/// 96 bytes hold each line beside the names in it, so a line with its room takes no memory.
+pub fn lines_have_room()
+    ensures { LinesHaveRoom }
 {}

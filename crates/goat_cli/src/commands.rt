@@ -35,7 +35,7 @@ pub fn perform<'a, F: Folder, K: Sink>(
     folder: &mut F,
     line: &mut Line,
     out: &mut K,
-) -> Result<Report, Refusal<'a>>
+) -> Result<Report<'a>, Refusal<'a>>
     requires { HasAllowedNumbers (job_of job.now) }
     ensures { (words : List (List ℕ)) → WordsOf words (job_of job.now) →
         RunEnds words (last_word result) (folder_state (F.files folder.old) (F.counts folder.old))

@@ -16,11 +16,13 @@ mod image;
 /// Facts about the definitions.
 pub mod claims;
 mod line;
+mod message;
 mod packed;
 mod program;
 mod refusal;
 mod silent;
 mod stages;
+mod status;
 mod top;
 mod words;
 

@@ -1,6 +1,7 @@
 //! The edge around the top call: the system's words, its files and its standard output. It claims nothing.
 
-use crate::top::{NO_MEMORY, goat};
+use crate::status::Status;
+use crate::top::goat;
 use goat_io::{DiskFolder, StdSink};
 use song_model::NoMemory;
 use std::env;
@@ -11,7 +12,7 @@ use std::rt::{Env, Files};
 /// Does what the program's words ask for, with the system's files and the standard output, and answers the exit code.
 pub fn run_program<R: Env + Files + Print + AllocGlobal>(rt: &R) -> ExitCode {
     let Ok(words) = words(rt) else {
-        return ExitCode::from(NO_MEMORY);
+        return ExitCode::from(Status::NoMemory.number());
     };
     let mut folder = DiskFolder::new(rt);
     let mut out = StdSink::new(rt);

@@ -1,48 +1,54 @@
 //! How a job ends: with a report, or refused.
 
-ghost use Rattle.std.specs.Prelude.{◌≡◌};
+ghost use Rattle.std.specs.Prelude.{◌≡◌, ◌≤◌, length};
+ghost use Rattle.goat_cli.specs.Last.{last_of, last_word, Says};
+ghost use Rattle.goat_cli.specs.Message.{number_of, line_of, IsShort};
 
-use cpu6502::CallStop;
-use gts5::SongFault;
-use psid::PsidFault;
+use crate::message::{Message, Piece};
+use crate::status::Status;
+use goat_io::SinkFault;
 use song_model::NoMemory;
 
 /// What is left to print of a job that is done.
-#[derive(Clone, Copy, Debug)]
-pub enum Report {
-    /// A file with this number of bytes was written.
-    Wrote(usize),
-    /// The registers after each call were printed; no line follows them.
+#[derive(Drop)]
+pub enum Report<'a> {
+    /// A last line.
+    Says(Message<'a>),
+    /// Nothing: all lines were printed.
     Shown,
 }
 
 /// Why a run is over before its job is done.
-#[derive(Clone, Copy, Debug)]
+#[derive(Drop)]
 pub enum Refusal<'a> {
-    /// No form of the command line has the words.
-    Usage,
-    /// No file has the name.
-    Missing(&'a str),
-    /// The file has more bytes than may be read.
-    TooLong(&'a str),
-    /// The folder failed to read the file.
-    ReadFault(&'a str),
-    /// The file breaks the format of songs.
-    NotASong(SongFault),
-    /// The folder failed to write the file.
-    WriteFault(&'a str),
+    /// The run ends with this status and this line.
+    Says(Message<'a>),
     /// The sink failed to take a line; no other follows.
     SinkFault,
-    /// The file has `songs` songs, and not the one that was asked for, counted from 1.
-    NoSubtune { asked: u8, songs: u16 },
-    /// The file breaks the format of PSID files.
-    NotAPsid(PsidFault),
-    /// A call did not return.
-    Stopped { reason: CallStop, call: u32 },
     /// Out of memory.
     NoMemory,
-    /// The song can't be packed.
-    NotBuilt,
+}
+
+impl<'a> Report<'a> {
+    /// A job that is done, with the pieces of its last line.
+    pub fn says(pieces: &[Piece<'a>]) -> Self
+        requires few { length pieces.now ≤ 16 }
+        requires short { IsShort pieces.now }
+        ensures { last_word (Ok result) ≡ Says 0 (line_of pieces.now) }
+    {
+        Report::Says(Message::new(Status::Done, pieces))
+    }
+}
+
+impl<'a> Refusal<'a> {
+    /// The refusal with this status and these pieces of its line.
+    pub fn says(status: Status, pieces: &[Piece<'a>]) -> Self
+        requires few { length pieces.now ≤ 16 }
+        requires short { IsShort pieces.now }
+        ensures { last_of result ≡ Says (number_of status) (line_of pieces.now) }
+    {
+        Refusal::Says(Message::new(status, pieces))
+    }
 }
 
 impl From<NoMemory> for Refusal<'_> {
@@ -53,5 +59,18 @@ impl From<NoMemory> for Refusal<'_> {
 
     fn from(_: NoMemory) -> Self {
         Refusal::NoMemory
+    }
+}
+
+impl From<SinkFault> for Refusal<'_> {
+    ghost use Rattle.goat_cli.specs.Last.{IsOfSink};
+
+    ghost from_gives = { IsOfSink };
+
+    fn from(fault: SinkFault) -> Self {
+        match fault {
+            SinkFault::Failed => Refusal::SinkFault,
+            SinkFault::NoMemory => Refusal::NoMemory,
+        }
     }
 }

@@ -1,18 +1,22 @@
 //! The stages of a run: each is met, or ends the run.
+#![tactic(auto, using(crate::proofs::Room::pieces_fit))]
 
-ghost use Rattle.std.specs.Prelude.{◌≡◌, ◌+◌, ◌-◌, ◌≤◌, ℕ, List, Some, IfOk, IfErr, OnOk, Ok, length};
+ghost use Rattle.std.specs.Prelude.{◌≡◌, ◌≢◌, ◌+◌, ◌-◌, ◌≤◌, ℕ, List, [], ◌∷◌, Some, IfOk, IfErr, OnOk, Ok, decimal, length};
 ghost use Rattle.goat_io.specs.Files.{Files, file_of};
 ghost use Rattle.song_model.specs.Silent.{IsSilent};
 ghost use Rattle.gts5.specs.Spells.{Spells};
 ghost use Rattle.psid.specs.Reading.{psid_read};
 ghost use Rattle.goat_cli.specs.Calls.{HasSubtune};
-ghost use Rattle.goat_cli.specs.Last.{last_of, last_word};
+ghost use Rattle.goat_cli.specs.Last.{last_of, last_word, Says};
+ghost use Rattle.goat_cli.specs.Lines.{line, song_fault_line, psid_fault_line};
 ghost use Rattle.goat_cli.specs.Stages.{SpellsSong, CanBePacked, IsPsid, OffersSubtune, HoldsSong, HoldsPsid, input_limit};
 ghost use Rattle.goat_cli.specs.Stands.{folder_state};
 ghost use Rattle.goat_cli.specs.Endings.{Refuses, WasRead, ReadFails, WriteEnds};
 
+use crate::message::Piece;
 use crate::refusal::{Refusal, Report};
 use crate::silent::is_silent;
+use crate::status::Status;
 use goat_io::{Folder, ReadFault, WriteFault};
 use gts5::SongFault;
 use psid::{Psid, PsidFault};
@@ -42,9 +46,18 @@ pub fn read_file<'a, F: Folder>(
 {
     match folder.read(alloc, name, limit) {
         Ok(bytes) => Ok(bytes),
-        Err(ReadFault::Missing) => Err(Refusal::Missing(name)),
-        Err(ReadFault::TooLong) => Err(Refusal::TooLong(name)),
-        Err(ReadFault::Failed) => Err(Refusal::ReadFault(name)),
+        Err(ReadFault::Missing) => Err(Refusal::says(
+            Status::Missing,
+            &[Piece::Words("missing: "), Piece::Name(name)],
+        )),
+        Err(ReadFault::TooLong) => Err(Refusal::says(
+            Status::TooLong,
+            &[Piece::Words("too long: "), Piece::Name(name)],
+        )),
+        Err(ReadFault::Failed) => Err(Refusal::says(
+            Status::ReadFault,
+            &[Piece::Words("read fault: "), Piece::Name(name)],
+        )),
         Err(ReadFault::NoMemory) => Err(Refusal::NoMemory),
     }
 }
@@ -58,13 +71,20 @@ pub fn write_file<'a, F: Folder>(
     name: &'a str,
     bytes: &[u8],
     folder: &mut F,
-) -> Result<Report, Refusal<'a>>
+) -> Result<Report<'a>, Refusal<'a>>
     ensures { WriteEnds name.now bytes.now (folder_state (F.files folder.old) (F.counts folder.old))
         (folder_state (F.files folder.new) (F.counts folder.new)) (last_word result) }
 {
     match folder.write(name, bytes) {
-        Ok(()) => Ok(Report::Wrote(bytes.len())),
-        Err(WriteFault::Failed) => Err(Refusal::WriteFault(name)),
+        Ok(()) => Ok(Report::says(&[
+            Piece::Words("wrote "),
+            Piece::Number(bytes.len() as u64),
+            Piece::Words(" bytes"),
+        ])),
+        Err(WriteFault::Failed) => Err(Refusal::says(
+            Status::WriteFault,
+            &[Piece::Words("write fault: "), Piece::Name(name)],
+        )),
         Err(WriteFault::NoMemory) => Err(Refusal::NoMemory),
     }
 }
@@ -83,8 +103,37 @@ pub fn song_of(alloc: Global, bytes: &[u8]) -> Result<Song, Refusal<'static>>
     match gts5::read(alloc, bytes) {
         Ok(song) => Ok(song),
         Err(SongFault::NoMemory) => Err(Refusal::NoMemory),
-        Err(fault) => Err(Refusal::NotASong(fault)),
+        Err(fault) => Err(song_refusal(fault)),
     }
+}
+
+/// The refusal of a file that spells no song.
+fn song_refusal(fault: SongFault) -> Refusal<'static>
+    requires { fault ≢ SongFault.NoMemory }
+    ensures { last_of result ≡ Says 5 (song_fault_line fault) }
+{
+    match fault {
+        SongFault::NotGts5 => Refusal::says(
+            Status::NotASong,
+            &[Piece::Words("not a song: bad magic")],
+        ),
+        SongFault::Truncated { offset } => song_fault_at("not a song: truncated at ", offset),
+        SongFault::OutOfLimit { offset } => song_fault_at("not a song: over limit at ", offset),
+        SongFault::BadOrder { offset } => song_fault_at("not a song: bad order at ", offset),
+        SongFault::BadRow { offset } => song_fault_at("not a song: bad row at ", offset),
+        SongFault::NoMemory => unreachable!(),
+    }
+}
+
+/// The refusal of a file that is no song because of what stands at an offset.
+fn song_fault_at(words: &'static str, offset: u32) -> Refusal<'static>
+    requires { length words.now ≤ 75 }
+    ensures { last_of result ≡ Says 5 (line (words.now ∷ decimal offset ∷ [])) }
+{
+    Refusal::says(
+        Status::NotASong,
+        &[Piece::Words(words), Piece::Number(u64::from(offset))],
+    )
 }
 
 /// Tells whether the song can be packed: silent songs can.
@@ -100,7 +149,7 @@ pub fn can_be_packed(song: &Song) -> Result<(), Refusal<'static>>
     if is_silent(song) {
         Ok(())
     } else {
-        Err(Refusal::NotBuilt)
+        Err(Refusal::says(Status::NotBuilt, &[Piece::Words("not built")]))
     }
 }
 
@@ -118,8 +167,23 @@ pub fn psid_of(alloc: Global, bytes: &[u8]) -> Result<Psid, Refusal<'static>>
     match psid::read(alloc, bytes) {
         Ok(psid) => Ok(psid),
         Err(PsidFault::NoMemory) => Err(Refusal::NoMemory),
-        Err(fault) => Err(Refusal::NotAPsid(fault)),
+        Err(fault) => Err(psid_refusal(fault)),
     }
+}
+
+/// The refusal of a file that is no PSID file.
+fn psid_refusal(fault: PsidFault) -> Refusal<'static>
+    requires { fault ≢ PsidFault.NoMemory }
+    ensures { last_of result ≡ Says 12 (psid_fault_line fault) }
+{
+    let words = match fault {
+        PsidFault::NotPsid => "not a PSID: bad magic",
+        PsidFault::Truncated => "not a PSID: truncated",
+        PsidFault::Unsupported => "not a PSID: unsupported",
+        PsidFault::BadField => "not a PSID: bad field",
+        PsidFault::NoMemory => unreachable!(),
+    };
+    Refusal::says(Status::NotAPsid, &[Piece::Words(words)])
 }
 
 /// The number from 0 that init takes of a subtune that is counted from 1.
@@ -136,10 +200,15 @@ pub fn subtune_of(psid: &Psid, subtune: u8) -> Result<u8, Refusal<'static>>
 {
     let songs = psid.header.songs;
     if subtune == 0 || u16::from(subtune) > songs {
-        return Err(Refusal::NoSubtune {
-            asked: subtune,
-            songs,
-        });
+        return Err(Refusal::says(
+            Status::NoSubtune,
+            &[
+                Piece::Words("no such subtune: "),
+                Piece::Number(u64::from(subtune)),
+                Piece::Words(" of "),
+                Piece::Number(u64::from(songs)),
+            ],
+        ));
     }
     Ok(subtune - 1)
 }

@@ -10,27 +10,22 @@ ghost use Rattle.goat_cli.specs.Due.{IsDue, IsOneOf, instead};
 ghost use Rattle.goat_cli.specs.Stands.{folder_state, sink_state, RunStands, Counted, TellsWant};
 ghost use Rattle.goat_cli.specs.Answers.{HoldsDone, IsOrdinary, IsPrinted, IsBeforeWriting, ComesAbout, ComesWhere, SinkCounted, RunsPacked, first_traces};
 ghost use Rattle.goat_cli.specs.Last.{last_word};
+ghost use Rattle.goat_cli.specs.Message.{line_of};
 ghost use Rattle.goat_cli.specs.Endings.{RunEnds, Prints, PrintsLine};
 
 use crate::commands::perform;
 use crate::line::Line;
+use crate::message::{Message, Piece};
 use crate::refusal::{Refusal, Report};
+use crate::status::Status;
 use crate::words::{WordsFault, parse_words};
 use goat_io::{Folder, Sink, SinkFault};
 use std::alloc::Global;
 
-/// The status of a job that was done.
-const DONE: u8 = 0;
+/// The line of a command line that has no form.
+const USAGE: &str = "usage: goat check|trace|pack|run|edit|copy|selftest";
 
-/// The status of a sink that failed.
-const SINK_FAILED: u8 = 10;
-
-/// The status of a want of memory.
-pub const NO_MEMORY: u8 = 14;
-
-/// Does all that the program does, and answers its exit status: 0 done, 1 usage, 2 missing, 3 too long, 4 read
-/// fault, 5 not a song, 9 write fault, 10 sink fault, 11 no such subtune, 12 not a PSID file, 13 machine stopped,
-/// 14 out of memory, 15 not built.
+/// Does all that the program does, and answers its exit status, the number of a [`Status`].
 ///
 /// The words are those of the command line without the program's name. What a run prints goes to the sink line by
 /// line; a line that tells of the ending comes after all else that the run does.
@@ -92,7 +87,7 @@ fn run<'a, F: Folder, K: Sink>(
     folder: &mut F,
     line: &mut Line,
     out: &mut K,
-) -> Result<Report, Refusal<'a>>
+) -> Result<Report<'a>, Refusal<'a>>
     ensures { RunEnds (texts words.now) (last_word result)
         (folder_state (F.files folder.old) (F.counts folder.old))
         (folder_state (F.files folder.new) (F.counts folder.new))
@@ -101,7 +96,7 @@ fn run<'a, F: Folder, K: Sink>(
 {
     match parse_words(words) {
         Ok(job) => perform(alloc, &job, folder, line, out),
-        Err(WordsFault) => Err(Refusal::Usage),
+        Err(WordsFault) => Err(Refusal::says(Status::Usage, &[Piece::Words(USAGE)])),
     }
 }
 
@@ -112,13 +107,23 @@ fn print<K: Sink>(ended: &Result<Report, Refusal>, line: &mut Line, out: &mut K)
         (sink_state (K.written out.new) (K.faults out.new)) }
 {
     match ended {
-        Ok(Report::Shown) => DONE,
-        Err(Refusal::SinkFault) => SINK_FAILED,
+        Ok(Report::Says(message)) => say(message, line, out),
+        Ok(Report::Shown) => Status::Done.number(),
+        Err(Refusal::Says(message)) => say(message, line, out),
+        Err(Refusal::SinkFault) => Status::SinkFault.number(),
         Err(Refusal::NoMemory) => want_memory(out),
-        _ => match line.tell(ended) {
-            Ok(status) => put_line(status, line, out),
-            Err(_) => want_memory(out),
-        },
+    }
+}
+
+/// Prints the line of a message, and answers its status.
+fn say<K: Sink>(message: &Message, line: &mut Line, out: &mut K) -> u8
+    ensures { PrintsLine message.now.status (line_of message.now.pieces) result
+        (sink_state (K.written out.old) (K.faults out.old))
+        (sink_state (K.written out.new) (K.faults out.new)) }
+{
+    match line.tell(message) {
+        Ok(()) => put_line(message.status(), line, out),
+        Err(_) => want_memory(out),
     }
 }
 
@@ -130,7 +135,7 @@ fn put_line<K: Sink>(status: u8, line: &Line, out: &mut K) -> u8
 {
     match out.put(line.as_slice()) {
         Ok(()) => status,
-        Err(SinkFault::Failed) => SINK_FAILED,
+        Err(SinkFault::Failed) => Status::SinkFault.number(),
         Err(SinkFault::NoMemory) => want_memory(out),
     }
 }
@@ -141,8 +146,8 @@ fn want_memory<K: Sink>(out: &mut K) -> u8
         (sink_state (K.written out.new) (K.faults out.new)) }
 {
     match out.put(b"no memory\n") {
-        Ok(()) => NO_MEMORY,
-        Err(SinkFault::NoMemory) => NO_MEMORY,
-        Err(SinkFault::Failed) => SINK_FAILED,
+        Ok(()) => Status::NoMemory.number(),
+        Err(SinkFault::NoMemory) => Status::NoMemory.number(),
+        Err(SinkFault::Failed) => Status::SinkFault.number(),
     }
 }

@@ -48,7 +48,7 @@ pub fn copy_song<'a, F: Folder>(
     input: &'a str,
     output: &'a str,
     folder: &mut F,
-) -> Result<Report, Refusal<'a>>
+) -> Result<Report<'a>, Refusal<'a>>
     ensures { (words : List (List ℕ)) (sink : SinkState) →
         WordsOf words (Copy input.now output.now) → RunEnds words (last_word result)
         (folder_state (F.files folder.old) (F.counts folder.old))

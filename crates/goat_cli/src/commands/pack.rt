@@ -59,7 +59,7 @@ pub fn pack_song<'a, F: Folder>(
     psid: bool,
     address: u16,
     folder: &mut F,
-) -> Result<Report, Refusal<'a>>
+) -> Result<Report<'a>, Refusal<'a>>
     requires { IsAddress address }
     ensures { (words : List (List ℕ)) (zero_page : ℕ) (sink : SinkState) →
         WordsOf words (Pack input.now output.now psid address zero_page) →

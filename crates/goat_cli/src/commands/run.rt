@@ -1,11 +1,13 @@
 //! `run IN SUBTUNE FRAMES`: the PSID file IN is run, and the SID's registers are printed after each call.
+#![tactic(auto, using(crate::proofs::Room::pieces_fit))]
 
-ghost use Rattle.std.specs.Prelude.{◌≡◌, ℕ, ◌≤◌, [], codes, None, IfOk, IfErr, OnOk, OnErr, IsErrOf, List};
+ghost use Rattle.std.specs.Prelude.{◌≡◌, ℕ, ◌≤◌, ◌++◌, [], ◌∷◌, codes, decimal, length, None, IfOk, IfErr, OnOk, OnErr, IsErrOf, List};
 ghost use Rattle.cpu6502.specs.Call.{FailsBy};
 ghost use Rattle.sid_run.specs.State.{most_steps};
 ghost use Rattle.goat_cli.specs.Calls.{entry_of, accumulator_of, ReturnsTo};
 ghost use Rattle.goat_cli.specs.Job.{job_of};
-ghost use Rattle.goat_cli.specs.Last.{last_word};
+ghost use Rattle.goat_cli.specs.Last.{last_of, last_word, Says};
+ghost use Rattle.goat_cli.specs.Lines.{line, address_digits, stop_line};
 ghost use Rattle.goat_cli.specs.RegisterText.{register_line};
 ghost use Rattle.goat_cli.specs.Stands.{folder_state, sink_state, Appends};
 ghost use Rattle.goat_cli.specs.Endings.{RunEnds, CallsEnd, FailsIn};
@@ -14,10 +16,12 @@ ghost use Rattle.goat_cli.specs.Jobs.{WordsOf, command_of, AreArgumentsOf};
 
 use crate::arguments::decimal_of;
 use crate::line::Line;
+use crate::message::Piece;
 use crate::refusal::{Refusal, Report};
 use crate::stages::{INPUT_LIMIT, psid_of, read_file, subtune_of};
+use crate::status::Status;
 use crate::words::{Job, WordsFault};
-use cpu6502::CallStop;
+use cpu6502::{CallStop, Stop};
 use goat_io::{Folder, Sink, SinkFault};
 use sid_run::Runner;
 use std::alloc::Global;
@@ -69,7 +73,7 @@ pub fn run_psid<'a, F: Folder, K: Sink>(
     folder: &mut F,
     line: &mut Line,
     out: &mut K,
-) -> Result<Report, Refusal<'a>>
+) -> Result<Report<'a>, Refusal<'a>>
     requires { frames ≤ frame_limit }
     ensures { (words : List (List ℕ)) → WordsOf words (Run input.now subtune frames) →
         RunEnds words (last_word result) (folder_state (F.files folder.old) (F.counts folder.old))
@@ -93,25 +97,57 @@ fn show_calls<K: Sink>(
     frames: u32,
     line: &mut Line,
     out: &mut K,
-) -> Result<Report, Refusal<'static>>
+) -> Result<Report<'static>, Refusal<'static>>
     requires running { runner.old.stopped ≡ None }
     requires limit { frames ≤ frame_limit }
     ensures { CallsEnd runner.old number frames (last_word result)
         (sink_state (K.written out.old) (K.faults out.old))
         (sink_state (K.written out.new) (K.faults out.new)) }
 {
-    for call in 0..frames + 1 {
+    for call in 0..=frames {
         let registers = match next_call(runner, number, call) {
             Ok(registers) => registers,
-            Err(reason) => return Err(Refusal::Stopped { reason, call }),
+            Err(reason) => return Err(stop_refusal(reason, call)),
         };
-        match put_registers(call, &registers, line, out) {
-            Ok(()) => {}
-            Err(SinkFault::Failed) => return Err(Refusal::SinkFault),
-            Err(SinkFault::NoMemory) => return Err(Refusal::NoMemory),
-        }
+        put_registers(call, &registers, line, out)?;
     }
     Ok(Report::Shown)
+}
+
+/// The refusal of a file of which this call did not return.
+fn stop_refusal(reason: CallStop, call: u32) -> Refusal<'static>
+    ensures { last_of result ≡ Says 13 (stop_line reason call) }
+{
+    match reason {
+        CallStop::Stopped(Stop::Illegal { at }) => refusal_at("illegal at $", at, call),
+        CallStop::Stopped(Stop::Break { at }) => refusal_at("break at $", at, call),
+        CallStop::Stopped(Stop::Decimal { at }) => refusal_at("decimal at $", at, call),
+        CallStop::Budget => Refusal::says(
+            Status::Stopped,
+            &[
+                Piece::Words("machine stopped: no return in call "),
+                Piece::Number(u64::from(call)),
+            ],
+        ),
+    }
+}
+
+/// The refusal of a file that is stopped by the instruction at an address.
+fn refusal_at(words: &'static str, address: u16, call: u32) -> Refusal<'static>
+    requires { length words.now ≤ 20 }
+    ensures { last_of result ≡ Says 13 (line (codes "machine stopped: " ∷
+        (words.now ++ address_digits address) ∷ codes " in call " ∷ decimal call ∷ [])) }
+{
+    Refusal::says(
+        Status::Stopped,
+        &[
+            Piece::Words("machine stopped: "),
+            Piece::Words(words),
+            Piece::Address(address),
+            Piece::Words(" in call "),
+            Piece::Number(u64::from(call)),
+        ],
+    )
 }
 
 /// Makes the call with this index: call 0 is init, the others are play.

@@ -10,9 +10,9 @@ returns-in-Ok-clause-read g c =
 pub returns-in-Err-Missing-clause-refused : goal.returns-in-Err-Missing-clause-refused
 returns-in-Err-Missing-clause-refused g c =
     let is = c.in-Err-Missing.field-0-is in
-    was_missing c.args.name.now c.args.limit _ _ (c.in-Err-Missing.ensures.missing (cc)) c.in-Err-Missing.ensures.files_stay (miss_counted _ _ (rw is at c.in-Err-Missing.ensures.counts))
+    was_missing c.args.name.now c.args.limit _ _ (c.in-Err-Missing.ensures.missing (cc)) c.in-Err-Missing.ensures.files_stay (miss_counted _ _ (rw is at c.in-Err-Missing.ensures.counts)) _ c.says.ensures
 
 pub returns-in-Err-TooLong-clause-refused : goal.returns-in-Err-TooLong-clause-refused
 returns-in-Err-TooLong-clause-refused g c =
     let is = c.in-Err-TooLong.field-0-is in
-    was_too_long c.args.name.now c.args.limit _ _ (c.in-Err-TooLong.ensures.too_long (cc)) c.in-Err-TooLong.ensures.files_stay (excess_counted _ _ (rw is at c.in-Err-TooLong.ensures.counts))
+    was_too_long c.args.name.now c.args.limit _ _ (c.in-Err-TooLong.ensures.too_long (cc)) c.in-Err-TooLong.ensures.files_stay (excess_counted _ _ (rw is at c.in-Err-TooLong.ensures.counts)) _ c.says-in-Err-TooLong.ensures

@@ -14,4 +14,4 @@ returns-then-subtune-eq0-clause-refused c = λ files name holds.
         | then-subtune-eq0-via-else-subtune-eq0+then-from-songs w ↦ let above = w.if-from-songs.true in omega (arith, above, w.from.ensures, has.last)
       ]),
       refl,
-    ) refl
+    ) (rw (c.from-then-subtune-eq0.ensures, c.from-then-subtune-eq0-2.ensures) at c.says.ensures)

@@ -1,4 +1,4 @@
-use Rattle.std.proofs.Common.{[], refl, sym, ◌∙◌, take, ap}
+use Rattle.std.proofs.Common.{[], sym, ◌∙◌, take, ap}
 use Rattle.goat_io.specs.Written.{told_with_piece}
 use Rattle.goat_cli.specs.Endings as ends
 use Rattle.goat_cli.proofs.Told.{tells_then}
@@ -10,7 +10,7 @@ returns-in-Err-Failed g c =
     let is = c.in-Err-Failed.field-0-is in
     let part = c.in-Err-Failed.ensures.failed (cc) in
     let counts = rw is at c.in-Err-Failed.ensures.faults in
-    ends.failed part.0 refl (record { told = part.1 ∙ ap (λ line. told_with_piece (g.K.Sink.written c.args.out.now) (take part.0 line)) c.as_slice.ensures; faults = counts })
+    ends.failed part.0 c.number.ensures (record { told = part.1 ∙ ap (λ line. told_with_piece (g.K.Sink.written c.args.out.now) (take part.0 line)) c.as_slice.ensures; faults = counts })
 
 pub returns-in-Err-NoMemory : goal.returns-in-Err-NoMemory
 returns-in-Err-NoMemory g c =

@@ -6,4 +6,4 @@ pub returns-in-Ok : goal.returns-in-Ok
 returns-in-Ok g c = c.perform.ensures (texts c.args.words.now) c.in-Ok.ensures.found
 
 pub returns-in-Err : goal.returns-in-Err
-returns-in-Err g c = usage_ends (texts c.args.words.now) _ _ c.in-Err.ensures.none
+returns-in-Err g c = rw c.says.ensures (usage_ends (texts c.args.words.now) _ _ c.in-Err.ensures.none)

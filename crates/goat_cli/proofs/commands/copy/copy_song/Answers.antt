@@ -29,4 +29,4 @@ returns g c = λ words sink form.
     let holds = song_held c.args.input.now c.in_ok-bytes.bytes.items _ _ _ was song (rw c.deref.ensures.value at c.in_ok-song.ensures.spells) in
     let writes = rw (c.deref-2.ensures.value, c.in_ok-file.ensures) at c.write_file.ensures in
     written words _ _ _ _ sink c.args.output.now (canonical song) _ was.files (met_next words _ _ _ was.files _ _ (begun words _ _ _ c.args.input.now c.in_ok-bytes.bytes.items _ _ form refl was) (song, holds))
-    (song, holds, record { lines_are = refl; write_is = refl }) writes
+    (canonical song, (song, holds, refl), record { lines_are = refl; write_is = refl }) writes

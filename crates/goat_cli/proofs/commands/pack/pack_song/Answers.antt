@@ -37,4 +37,4 @@ returns g c = λ words zero_page sink form.
     let holds = song_held c.args.input.now c.in_ok-bytes.bytes.items _ _ _ was song (rw c.deref.ensures.value at c.in_ok-song.ensures.spells) in
     let packed = subst (IsPackedFile c.args.psid c.args.address zero_page song) (sym c.deref-2.ensures.value) (c.in_ok-file.ensures zero_page) in
     written words _ _ _ _ sink c.args.output.now c.deref-2.result.now _ was.files (met_next words _ _ _ was.files _ _ (met_next words _ _ _ was.files _ _ (begun words _ _ _ c.args.input.now c.in_ok-bytes.bytes.items _ _ form refl was) (song, holds)) (song, holds, c.in_ok-can_be_packed.ensures.silent))
-    (song, c.deref-2.result.now, holds, packed, record { lines_are = refl; write_is = refl }) c.write_file.ensures
+    (c.deref-2.result.now, (song, holds, packed), record { lines_are = refl; write_is = refl }) c.write_file.ensures
