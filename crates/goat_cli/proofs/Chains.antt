@@ -9,40 +9,40 @@ use Rattle.psid.specs.Reading.{psid_read}
 use Rattle.sid_run.specs.State.{loaded}
 use Rattle.goat_cli.specs.Words.{Job, Run}
 use Rattle.cpu6502.specs.declared.machine.Machine.{Machine}
-use Rattle.goat_cli.specs.Calls.{FirstCalls}
+use Rattle.goat_cli.specs.Calls.{FirstCalls, StopsIn}
 use Rattle.goat_cli.specs.RegisterText.{register_lines}
 use Rattle.goat_cli.specs.Lines.{stop_line, wrote_line}
 use Rattle.goat_cli.specs.Last.{Last}
 use Rattle.goat_cli.specs.Stages.{Stage, IsThere, Fits, CallsReturn, HoldsSong, HoldsPsid, status_of, IsMet, Passes, AllPass, FirstEnds}
-use Rattle.goat_cli.specs.Jobs.{WordsOf, stages, Done}
+use Rattle.goat_cli.specs.Jobs.{WordsOf, stages, Shows, Done}
 use Rattle.goat_cli.specs.Outcome as outcome
 use Rattle.goat_cli.specs.Outcome.{told_after}
 use Rattle.goat_cli.specs.Stands as stands
 use Rattle.goat_cli.specs.Stands.{FolderState, SinkState, AreFiles, FolderStays, IsPrinting}
 use Rattle.goat_cli.specs.Endings as ends
-use Rattle.goat_cli.specs.Endings.{Refuses, WasRead, WriteEnds, CallsEnd, RunEnds}
-use Rattle.goat_cli.proofs.Told.{as_before, is_uncounted, uncounted, counted_on, stays_on, appends_nothing}
+use Rattle.goat_cli.specs.Endings.{Refuses, WasRead, WriteEnds, CallsEnd, IsOver, JobEnds}
+use Rattle.goat_cli.proofs.Told.{as_before, is_uncounted, uncounted, counted_on, stays_on}
 use Rattle.goat_cli.proofs.Passes.{met_passes}
-use Rattle.goat_cli.proofs.Ends.{first_ends, says_ends, wants_first}
+use Rattle.goat_cli.proofs.Ends.{first_ends, says_ends, has_last, wants_first}
 
 -- the run of a job has come to these stages, and met those before them; the folder is as before
-pub record At (words : List (List ℕ)) (job : Job) (files : Files) (folder after : FolderState) (rest : List Stage) : Type 0 where
-  pub form : WordsOf words job
+pub record At (job : Job) (files : Files) (folder after : FolderState) (rest : List Stage) : Type 0 where
   pub are_files : AreFiles folder.told files
   pub stays : FolderStays folder after
   pub met : List Stage
   pub stages_are : stages job ≡ met ++ rest
   pub pass : AllPass files met
 
-pub pass_more : (files : Files) (list : List Stage) (stage : Stage) → AllPass files list → Passes files stage → AllPass files (list ++ stage ∷ [])
+pub pass_more : (files : Files) (list : List Stage) (stage : Stage) → AllPass files list → Passes files stage →
+    AllPass files (list ++ stage ∷ [])
 pass_more files [] stage pass last = (last, tt)
 pass_more files (first ∷ rest) stage pass last = (pass.0, pass_more files rest stage pass.1 last)
 
-module _ (words : List (List ℕ)) (job : Job) (folder after : FolderState) where
+module _ {job : Job} {folder after : FolderState} where
   -- the file that a job begins with was read
-  pub begun : (name bytes : List ℕ) (limit : ℕ) (rest : List Stage) → WordsOf words job → stages job ≡ IsThere name ∷ Fits name limit ∷ rest → (was : WasRead name limit folder after bytes) → At words job was.files folder after rest
-  begun name bytes limit rest form are was = record {
-    form = form;
+  pub begun : {name bytes : List ℕ} {limit : ℕ} {rest : List Stage} → stages job ≡ IsThere name ∷ Fits name limit ∷ rest →
+      (was : WasRead name limit folder after bytes) → At job was.files folder after rest
+  begun {name} {bytes} {limit} are was = record {
     are_files = was.are_files;
     stays = was.stays;
     met = IsThere name ∷ Fits name limit ∷ [];
@@ -50,124 +50,103 @@ module _ (words : List (List ℕ)) (job : Job) (folder after : FolderState) wher
     pass = (met_passes was.files (IsThere name) (bytes, was.found), (met_passes was.files (Fits name limit) (bytes, was.found, was.fits), tt));
   }
 
-  -- the next stage is met
-  pub met_next : (files : Files) (stage : Stage) (rest : List Stage) → At words job files folder after (stage ∷ rest) → IsMet files stage → At words job files folder after rest
-  met_next files stage rest at met = record {
-    form = at.form;
-    are_files = at.are_files;
-    stays = at.stays;
-    met = at.met ++ stage ∷ [];
-    stages_are = at.stages_are ∙ sym (append_assoc at.met (stage ∷ []) rest);
-    pass = pass_more files at.met stage at.pass (met_passes files stage met);
-  }
+  module _ {files : Files} where
+    -- the next stage is met
+    pub met_next : {stage : Stage} {rest : List Stage} → At job files folder after (stage ∷ rest) → IsMet files stage →
+        At job files folder after rest
+    met_next {stage} {rest} at met = record {
+      are_files = at.are_files;
+      stays = at.stays;
+      met = at.met ++ stage ∷ [];
+      stages_are = at.stages_are ∙ sym (append_assoc at.met (stage ∷ []) rest);
+      pass = pass_more files at.met stage at.pass (met_passes files stage met);
+    }
 
-  -- or it refuses
-  pub refused : (files : Files) (stage : Stage) (rest : List Stage) (sink : SinkState) (last : Last) → At words job files folder after (stage ∷ rest) → is_uncounted (status_of stage) ≡ true → Refuses files stage last → RunEnds words last folder after sink sink
-  refused files stage rest sink last at free (ends.ends line is says) =
-      subst (λ l. RunEnds words l folder after sink sink) (sym says)
-      (says_ends words job at.form folder after sink files at.met rest stage line at.are_files at.stages_are at.pass is at.stays.told (uncounted (status_of stage) folder.counts after.counts free at.stays.counts))
-  refused files stage rest sink last at free (ends.wanting wants) =
-      subst (λ l. RunEnds words l folder after sink sink) (sym wants) (wants_first words folder after sink at.stays)
+    -- or it refuses
+    pub refused : {stage : Stage} {rest : List Stage} {last : Last} (sink : SinkState) → At job files folder after (stage ∷ rest) →
+        is_uncounted (status_of stage) ≡ true → Refuses files stage last → JobEnds job last folder after sink sink
+    refused {stage} {rest} sink at free (ends.ends line is says) =
+        let counted = uncounted (status_of stage) folder.counts after.counts free at.stays.counts in
+        rw says (says_ends sink files at.met rest stage at.are_files at.stages_are at.pass is at.stays.told counted)
+    refused sink at free (ends.wanting wants) = rw wants (wants_first sink at.stays)
 
-  -- all stages are met
-  pub all_met : (files : Files) → At words job files folder after [] → AllPass files (stages job)
-  all_met files at = subst (AllPass files) (sym (at.stages_are ∙ append-nil at.met)) at.pass
+    -- all stages are met
+    pub all_met : At job files folder after [] → AllPass files (stages job)
+    all_met at = subst (AllPass files) (sym (at.stages_are ∙ append-nil at.met)) at.pass
 
 -- the file of a job was written, or not
-pub written : (words : List (List ℕ)) (job : Job) (folder between after : FolderState) (sink : SinkState) (output file : List ℕ) (last : Last) (files : Files) → At words job files folder between [] →
-    Done job files (wrote_line (length file) ∷ []) (Some (output, file)) → WriteEnds output file between after last → RunEnds words last folder after sink sink
-written words job folder between after sink output file last files at did (ends.wrote says told counted) =
-    subst (λ l. RunEnds words l folder after sink sink) (sym says) (record {
-      files = files;
-      are_files = at.are_files;
-      is_over = record {
-        earlier = [];
-        account = stands.outcome (Some (output, file)) (outcome.done job at.form (all_met words job folder between files at) did refl) (told ∙ ap (λ t. told_after t (Some (output, file))) at.stays.told);
-        counted = counted_on 0 folder.counts between.counts after.counts at.stays.counts counted;
-        appends = appends_nothing sink;
-      };
-    })
-written words job folder between after sink output file last files at did (ends.failed says part counted) =
-    subst (λ l. RunEnds words l folder after sink sink) (sym says) (record {
-      files = files;
-      are_files = at.are_files;
-      is_over = record {
-        earlier = [];
-        account = stands.write_fault (wrote_line (length file) ∷ []) output file (outcome.done job at.form (all_met words job folder between files at) did refl) refl refl
-            (subst (λ t. IsWrittenInPart t after.told output file) at.stays.told part);
-        counted = counted_on 9 folder.counts between.counts after.counts at.stays.counts counted;
-        appends = appends_nothing sink;
-      };
-    })
-written words job folder between after sink output file last files at did (ends.wanting wants more) =
-    subst (λ l. RunEnds words l folder after sink sink) (sym wants) (wants_first words folder after sink (stays_on folder between after at.stays more))
+module _ {job : Job} {folder between after : FolderState} {files : Files} {output file : List ℕ} (sink : SinkState) where
+  pub written : {last : Last} → At job files folder between [] → Done job files (wrote_line (length file) ∷ []) (Some (output, file)) →
+      WriteEnds output file between after last → JobEnds job last folder after sink sink
+  written at did (ends.wrote says told counted) =
+      let files_are = told ∙ ap (λ t. told_after t (Some (output, file))) at.stays.told in
+      rw says (has_last sink at.are_files (λ words form. stands.outcome (Some (output, file)) (outcome.done job form (all_met at) did refl) files_are)
+      (counted_on 0 folder.counts between.counts after.counts at.stays.counts counted))
+  written at did (ends.failed says part counted) =
+      let part_of = subst (λ t. IsWrittenInPart t after.told output file) at.stays.told part in
+      rw says (has_last sink at.are_files (λ words form.
+      stands.write_fault (wrote_line (length file) ∷ []) output file (outcome.done job form (all_met at) did refl) refl refl part_of)
+      (counted_on 9 folder.counts between.counts after.counts at.stays.counts counted))
+  written at did (ends.wanting wants more) = rw wants (wants_first sink (stays_on folder between after at.stays more))
 
 -- ---- the files that a run has read
 
-module _ (name bytes : List ℕ) (limit : ℕ) (folder after : FolderState) (was : WasRead name limit folder after bytes) where
-  pub song_held : (song : Song) → Spells bytes song → HoldsSong was.files name song
-  song_held song spells = record { bytes = bytes; found = was.found; spells = spells }
+module _ {name bytes : List ℕ} {limit : ℕ} {folder after : FolderState} (was : WasRead name limit folder after bytes) where
+  pub song_held : {song : Song} → Spells bytes song → HoldsSong was.files name song
+  song_held spells = record { bytes = bytes; found = was.found; spells = spells }
 
-  pub psid_held : (psid : Psid) → psid_read bytes ≡ Ok psid → HoldsPsid was.files name psid
-  psid_held psid reads = record { bytes = bytes; found = was.found; reads = reads }
+  pub psid_held : {psid : Psid} → psid_read bytes ≡ Ok psid → HoldsPsid was.files name psid
+  psid_held reads = record { bytes = bytes; found = was.found; reads = reads }
 
 -- ---- the calls of `run`
 
-module _ (words : List (List ℕ)) (input : List ℕ) (subtune frames : ℕ) (files : Files) (folder after : FolderState) (at : At words (Run input subtune frames) files folder after (CallsReturn input subtune frames ∷ [])) (psid : Psid) (holds : HoldsPsid files input psid)
-    (s t : SinkState) where
+module _ {input : List ℕ} {subtune frames : ℕ} {files : Files} {folder after : FolderState} {psid : Psid}
+    (at : At (Run input subtune frames) files folder after (CallsReturn input subtune frames ∷ [])) (holds : HoldsPsid files input psid) where
   -- the first calls, which have returned
-  printing : (calls : ℕ) (registers : List (List ℕ)) (machine : Machine) → calls ≤ frames + 1 → FirstCalls (loaded psid) (subtune - 1) calls registers machine → (lines : List (List ℕ)) → lines ≡ register_lines registers → IsPrinting words files lines
-  printing calls registers machine within first lines are = record {
+  printing : {calls : ℕ} (registers : List (List ℕ)) (machine : Machine) → calls ≤ frames + 1 →
+      FirstCalls (loaded psid) (subtune - 1) calls registers machine → {lines : List (List ℕ)} → lines ≡ register_lines registers →
+      (words : List (List ℕ)) → WordsOf words (Run input subtune frames) → IsPrinting words files lines
+  printing {calls} registers machine within first {lines} are words form = record {
     stage = CallsReturn input subtune frames;
-    comes = record { job = Run input subtune frames; form = at.form; earlier = at.met; later = []; stages_are = at.stages_are; pass = at.pass };
+    comes = record { job = Run input subtune frames; form = form; earlier = at.met; later = []; stages_are = at.stages_are; pass = at.pass };
     prints = (psid, holds, calls, within, record { registers = registers; after = machine; returned = first; lines_are = are });
   }
 
-  pub calls_over : (last : Last) → CallsEnd (loaded psid) (subtune - 1) frames last s t → RunEnds words last folder after s t
-  calls_over last (ends.played registers machine first is shown) =
-      let done = met_next words (Run input subtune frames) folder after files (CallsReturn input subtune frames) [] at (psid, holds, registers, machine, first) in
-      subst (λ l. RunEnds words l folder after s t) (sym is) (record {
-        files = files;
-        are_files = at.are_files;
-        is_over = record {
-          lines = register_lines registers;
-          account = stands.outcome None
-              (outcome.done (Run input subtune frames) at.form (all_met words (Run input subtune frames) folder after files done) ((psid, holds, record { registers = registers; after = machine; returned = first; lines_are = refl }), refl) refl)
-              (at.stays.told ∙ as_before folder.told);
-          counted = at.stays.counts;
-          appends = shown;
-        };
-      })
-  calls_over last (ends.stopped call registers reason within meets is shown) = subst (λ l. RunEnds words l folder after s t) (sym is) (record {
-    files = files;
-    are_files = at.are_files;
-    is_over = record {
-      earlier = register_lines registers;
-      account = stands.outcome None
-          (outcome.ended (Run input subtune frames) at.form
-          (subst (λ list. FirstEnds files list 13 (register_lines registers ++ stop_line reason call ∷ [])) (sym at.stages_are)
-          (first_ends files at.met [] (CallsReturn input subtune frames) (register_lines registers ++ stop_line reason call ∷ []) at.pass
-          (psid, holds, record { call = call; within = within; registers = registers; reason = reason; meets = meets }, refl))) refl)
-          (at.stays.told ∙ as_before folder.told);
-      counted = uncounted 13 folder.counts after.counts refl at.stays.counts;
-      appends = shown;
-    };
-  })
-  calls_over last (ends.failed calls kept earlier line registers machine within first lines_are is fails) = subst (λ l. RunEnds words l folder after s t) (sym is) (record {
-    files = files;
-    are_files = at.are_files;
-    is_over = record {
-      earlier = earlier;
-      later = [];
-      line = line;
-      kept = kept;
-      printing = printing calls registers machine within first _ (sym lines_are);
-      stays = at.stays;
-      fails = fails;
-    };
-  })
-  calls_over last (ends.wanting calls earlier line registers machine within first lines_are is appends) = subst (λ l. RunEnds words l folder after s t) (sym is) (record {
-    files = files;
-    are_files = at.are_files;
-    is_over = ends.for_line earlier [] line (printing calls registers machine within first _ (sym lines_are)) at.stays appends;
-  })
+  over : {last : Last} {s t : SinkState} → ((words : List (List ℕ)) → WordsOf words (Run input subtune frames) → IsOver words files last folder after s t) →
+      JobEnds (Run input subtune frames) last folder after s t
+  over is = record { ends = λ words form. record { files = files; are_files = at.are_files; is_over = is words form } }
+
+  pub calls_over : {last : Last} {s t : SinkState} → CallsEnd (loaded psid) (subtune - 1) frames last s t → JobEnds (Run input subtune frames) last folder after s t
+  calls_over (ends.played registers machine first is shown) =
+      let pass = all_met (met_next at (psid, holds, registers, machine, first)) in
+      let shows : Shows psid subtune (frames + 1) (register_lines registers) = record { registers = registers; after = machine; returned = first; lines_are = refl } in
+      rw is (over (λ words form. record {
+        lines = register_lines registers;
+        account = stands.outcome None (outcome.done (Run input subtune frames) form pass ((psid, holds, shows), refl) refl)
+            (at.stays.told ∙ as_before folder.told);
+        counted = at.stays.counts;
+        appends = shown;
+      }))
+  calls_over (ends.stopped call registers reason within meets is shown) =
+      let lines = register_lines registers ++ stop_line reason call ∷ [] in
+      let stop : StopsIn psid subtune frames = record { call = call; within = within; registers = registers; reason = reason; meets = meets } in
+      let first = subst (λ list. FirstEnds files list 13 lines) (sym at.stages_are)
+      (first_ends files at.met [] (CallsReturn input subtune frames) lines at.pass (psid, holds, stop, refl)) in
+      rw is (over (λ words form. record {
+        earlier = register_lines registers;
+        account = stands.outcome None (outcome.ended (Run input subtune frames) form first refl) (at.stays.told ∙ as_before folder.told);
+        counted = uncounted 13 folder.counts after.counts refl at.stays.counts;
+        appends = shown;
+      }))
+  calls_over (ends.failed calls kept earlier line registers machine within first lines_are is fails) =
+      rw is (over (λ words form. record {
+        earlier = earlier;
+        later = [];
+        line = line;
+        kept = kept;
+        printing = printing registers machine within first (sym lines_are) words form;
+        stays = at.stays;
+        fails = fails;
+      }))
+  calls_over (ends.wanting calls earlier line registers machine within first lines_are is appends) =
+      rw is (over (λ words form. ends.for_line earlier [] line (printing registers machine within first (sym lines_are) words form) at.stays appends))

@@ -2,15 +2,15 @@
 use Rattle.std.proofs.Common.{◌≡◌, ℕ, inl, inr, List, [], ◌∷◌, ◌++◌, None, refl, sym, ◌∙◌, subst}
 use Rattle.goat_io.specs.Files.{Files}
 use Rattle.goat_cli.specs.Words.{Job}
-use Rattle.goat_cli.specs.Lines.{usage_line, missing_line, too_long_line}
+use Rattle.goat_cli.specs.Lines.{usage_line}
 use Rattle.goat_cli.specs.Last.{Last, Says, Wants}
 use Rattle.goat_cli.specs.Stages.{Stage, IsThere, Fits, status_of, Ends, AllPass, FirstEnds}
 use Rattle.goat_cli.specs.Jobs.{WordsOf, IsNoForm, stages}
 use Rattle.goat_cli.specs.Outcome as outcome
 use Rattle.goat_cli.specs.Stands as stands
-use Rattle.goat_cli.specs.Stands.{FolderState, SinkState, AreFiles, Counted, FolderStays, ComesTo}
+use Rattle.goat_cli.specs.Stands.{FolderState, SinkState, AreFiles, Account, Counted, FolderStays, ComesTo}
 use Rattle.goat_cli.specs.Endings as ends
-use Rattle.goat_cli.specs.Endings.{ReadFails, RunEnds}
+use Rattle.goat_cli.specs.Endings.{ReadFails, RunEnds, JobEnds}
 use Rattle.goat_cli.proofs.Told.{some_files, as_before, uncounted, stays_itself, appends_nothing}
 use Rattle.goat_cli.proofs.Passes.{met_passes}
 
@@ -19,16 +19,9 @@ pub first_ends : (files : Files) (earlier later : List Stage) (stage : Stage) (l
 first_ends files [] later stage lines pass is = inl (refl, is)
 first_ends files (first ∷ earlier) later stage lines pass is = inr (pass.0, first_ends files earlier later stage lines pass.1 is)
 
--- memory was wanting before the first line
-pub wants_first : (words : List (List ℕ)) (folder after : FolderState) (sink : SinkState) → FolderStays folder after → RunEnds words Wants folder after sink sink
-wants_first words folder after sink stays = let some = some_files folder.told in record {
-  files = some.files;
-  are_files = some.are_files;
-  is_over = ends.first stays (appends_nothing sink);
-}
-
 -- no form of the command line has the words
-pub usage_ends : (words : List (List ℕ)) (folder : FolderState) (sink : SinkState) → IsNoForm words → RunEnds words (Says 1 usage_line) folder folder sink sink
+pub usage_ends : (words : List (List ℕ)) (folder : FolderState) (sink : SinkState) → IsNoForm words →
+    RunEnds words (Says 1 usage_line) folder folder sink sink
 usage_ends words folder sink none = let some = some_files folder.told in record {
   files = some.files;
   are_files = some.are_files;
@@ -40,36 +33,46 @@ usage_ends words folder sink none = let some = some_files folder.told in record 
   };
 }
 
-module _ (words : List (List ℕ)) (job : Job) (form : WordsOf words job) (folder after : FolderState) (sink : SinkState) where
-  -- a stage ends the run with one line
-  pub says_ends : (files : Files) (earlier later : List Stage) (stage : Stage) (line : List ℕ) → AreFiles folder.told files → stages job ≡ earlier ++ stage ∷ later → AllPass files earlier → Ends files stage (line ∷ []) →
-      after.told ≡ folder.told → Counted (status_of stage) folder.counts after.counts → RunEnds words (Says (status_of stage) line) folder after sink sink
-  says_ends files earlier later stage line are in_stages pass is same counted = record {
-    files = files;
-    are_files = are;
-    is_over = record {
-      earlier = [];
-      account = stands.outcome None (outcome.ended job form (subst (λ s. FirstEnds files s (status_of stage) (line ∷ [])) (sym in_stages) (first_ends files earlier later stage (line ∷ []) pass is)) refl) (same ∙ as_before folder.told);
-      counted = counted;
-      appends = appends_nothing sink;
+module _ {job : Job} {folder after : FolderState} (sink : SinkState) where
+  -- memory was wanting before the first line
+  pub wants_first : FolderStays folder after → JobEnds job Wants folder after sink sink
+  wants_first stays = let some = some_files folder.told in record {
+    ends = λ words form. record { files = some.files; are_files = some.are_files; is_over = ends.first stays (appends_nothing sink) };
+  }
+
+  -- the job has a last line to print, and no other was printed
+  pub has_last : {files : Files} {status : ℕ} {line : List ℕ} → AreFiles folder.told files →
+      ((words : List (List ℕ)) → WordsOf words job → Account words files status (line ∷ []) folder.told after.told) →
+      Counted status folder.counts after.counts → JobEnds job (Says status line) folder after sink sink
+  has_last {files} are account counted = record {
+    ends = λ words form. record {
+      files = files;
+      are_files = are;
+      is_over = record { earlier = []; account = account words form; counted = counted; appends = appends_nothing sink };
     };
   }
 
+  -- a stage ends the run with one line
+  pub says_ends : (files : Files) {line : List ℕ} (earlier later : List Stage) (stage : Stage) → AreFiles folder.told files →
+      stages job ≡ earlier ++ stage ∷ later → AllPass files earlier → Ends files stage (line ∷ []) → after.told ≡ folder.told →
+      Counted (status_of stage) folder.counts after.counts → JobEnds job (Says (status_of stage) line) folder after sink sink
+  says_ends files {line} earlier later stage are in_stages pass is same counted =
+      let first = subst (λ list. FirstEnds files list (status_of stage) (line ∷ [])) (sym in_stages)
+      (first_ends files earlier later stage (line ∷ []) pass is) in
+      has_last {files = files} are (λ words form. stands.outcome None (outcome.ended job form first refl) (same ∙ as_before folder.told)) counted
+
   -- the file that a job begins with was not read
-  pub read_ends : (name : List ℕ) (limit : ℕ) (later : List Stage) (last : Last) → stages job ≡ IsThere name ∷ Fits name limit ∷ later → ReadFails name limit folder after last → RunEnds words last folder after sink sink
-  read_ends name limit later last in_stages (ends.missing files are absent says same counted) =
-      subst (λ l. RunEnds words l folder after sink sink) (sym says)
-      (says_ends files [] (Fits name limit ∷ later) (IsThere name) (missing_line name) are in_stages tt (absent, refl) same counted)
-  read_ends name limit later last in_stages (ends.too_long files are above says same counted) =
-      subst (λ l. RunEnds words l folder after sink sink) (sym says)
-      (says_ends files (IsThere name ∷ []) later (Fits name limit) (too_long_line name) are in_stages (met_passes files (IsThere name) (above.0, above.1), tt) (above, refl) same counted)
-  read_ends name limit later last in_stages (ends.failed says same counted) =
+  pub read_ends : {name : List ℕ} {limit : ℕ} {last : Last} (later : List Stage) → stages job ≡ IsThere name ∷ Fits name limit ∷ later →
+      ReadFails name limit folder after last → JobEnds job last folder after sink sink
+  read_ends {name} {limit} later in_stages (ends.missing files are absent says same counted) =
+      rw says (says_ends files [] (Fits name limit ∷ later) (IsThere name) are in_stages tt (absent, refl) same counted)
+  read_ends {name} {limit} later in_stages (ends.too_long files are above says same counted) =
+      rw says (says_ends files (IsThere name ∷ []) later (Fits name limit) are in_stages
+      (met_passes files (IsThere name) (above.0, above.1), tt) (above, refl) same counted)
+  read_ends {name} {limit} later in_stages (ends.failed says same counted) =
       let some = some_files folder.told in
-      let comes : ComesTo words some.files (IsThere name) = record { job = job; form = form; earlier = []; later = Fits name limit ∷ later; stages_are = in_stages; pass = tt } in
-      subst (λ l. RunEnds words l folder after sink sink) (sym says) (record {
-        files = some.files;
-        are_files = some.are_files;
-        is_over = record { earlier = []; account = stands.read_fault name comes refl refl same; counted = counted; appends = appends_nothing sink };
-      })
-  read_ends name limit later last in_stages (ends.wanting wants stays) =
-      subst (λ l. RunEnds words l folder after sink sink) (sym wants) (wants_first words folder after sink stays)
+      rw says (has_last some.are_files (λ words form.
+      let comes : ComesTo words some.files (IsThere name) =
+      record { job = job; form = form; earlier = []; later = Fits name limit ∷ later; stages_are = in_stages; pass = tt } in
+      stands.read_fault name comes refl refl same) counted)
+  read_ends later in_stages (ends.wanting wants stays) = rw wants (wants_first stays)

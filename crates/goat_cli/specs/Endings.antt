@@ -9,7 +9,9 @@ use Rattle.goat_cli.specs.Calls.{FirstCalls, MeetsStopAt}
 use Rattle.goat_cli.specs.RegisterText.{register_lines}
 use Rattle.goat_cli.specs.Lines.{missing_line, too_long_line, read_fault_line, write_fault_line, stop_line, wrote_line}
 use Rattle.goat_cli.specs.Last.{Last, Says, SaysNothing, SinkFailed, Wants}
+use Rattle.goat_cli.specs.Words.{Job}
 use Rattle.goat_cli.specs.Stages.{Stage, Ends, status_of}
+use Rattle.goat_cli.specs.Jobs.{WordsOf}
 use Rattle.goat_cli.specs.Stands.{FolderState, SinkState, AreFiles, Counted, FolderStays, Appends, FailsAfter, Account, IsPrinting, TellsWant}
 
 -- ---- a stage
@@ -96,6 +98,10 @@ pub record RunEnds (words : List (List ℕ)) (last : Last) (folder folder_after 
   pub files : Files
   pub are_files : AreFiles folder.told files
   pub is_over : IsOver words files last folder folder_after sink sink_after
+
+-- so it is for all words that name the job
+pub record JobEnds (job : Job) (last : Last) (folder folder_after : FolderState) (sink sink_after : SinkState) : Type 0 where
+  pub ends : (words : List (List ℕ)) → WordsOf words job → RunEnds words last folder folder_after sink sink_after
 
 -- ---- the last line
 

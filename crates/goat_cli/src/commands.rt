@@ -3,10 +3,8 @@
 ghost use Rattle.goat_cli.specs.Job.{job_of};
 ghost use Rattle.goat_cli.specs.Last.{last_word};
 ghost use Rattle.goat_cli.specs.Stands.{folder_state, sink_state};
-ghost use Rattle.goat_cli.specs.Endings.{RunEnds};
+ghost use Rattle.goat_cli.specs.Endings.{JobEnds};
 ghost use Rattle.goat_cli.specs.Words.{HasAllowedNumbers};
-ghost use Rattle.goat_cli.specs.Jobs.{WordsOf};
-ghost use Rattle.std.specs.Prelude.{List, ℕ};
 
 /// `copy IN OUT`.
 pub mod copy;
@@ -37,8 +35,8 @@ pub fn perform<'a, F: Folder, K: Sink>(
     out: &mut K,
 ) -> Result<Report<'a>, Refusal<'a>>
     requires { HasAllowedNumbers (job_of job.now) }
-    ensures { (words : List (List ℕ)) → WordsOf words (job_of job.now) →
-        RunEnds words (last_word result) (folder_state (F.files folder.old) (F.counts folder.old))
+    ensures { JobEnds (job_of job.now) (last_word result)
+        (folder_state (F.files folder.old) (F.counts folder.old))
         (folder_state (F.files folder.new) (F.counts folder.new))
         (sink_state (K.written out.old) (K.faults out.old))
         (sink_state (K.written out.new) (K.faults out.new)) }

@@ -4,9 +4,9 @@ ghost use Rattle.std.specs.Prelude.{◌≡◌, codes, IfOk, OnErr, List, ℕ};
 ghost use Rattle.goat_cli.specs.Job.{job_of};
 ghost use Rattle.goat_cli.specs.Last.{last_word};
 ghost use Rattle.goat_cli.specs.Stands.{folder_state, SinkState};
-ghost use Rattle.goat_cli.specs.Endings.{RunEnds};
+ghost use Rattle.goat_cli.specs.Endings.{JobEnds};
 ghost use Rattle.goat_cli.specs.Words.{texts, HasAllowedNumbers, AreCopyArguments, Copy};
-ghost use Rattle.goat_cli.specs.Jobs.{WordsOf, command_of, AreArgumentsOf};
+ghost use Rattle.goat_cli.specs.Jobs.{command_of, AreArgumentsOf};
 
 use crate::refusal::{Refusal, Report};
 use crate::stages::{INPUT_LIMIT, read_file, song_of, write_file};
@@ -49,8 +49,7 @@ pub fn copy_song<'a, F: Folder>(
     output: &'a str,
     folder: &mut F,
 ) -> Result<Report<'a>, Refusal<'a>>
-    ensures { (words : List (List ℕ)) (sink : SinkState) →
-        WordsOf words (Copy input.now output.now) → RunEnds words (last_word result)
+    ensures { (sink : SinkState) → JobEnds (Copy input.now output.now) (last_word result)
         (folder_state (F.files folder.old) (F.counts folder.old))
         (folder_state (F.files folder.new) (F.counts folder.new)) sink sink }
 {

@@ -5,9 +5,9 @@ ghost use Rattle.goat_cli.specs.Place.{IsAddress};
 ghost use Rattle.goat_cli.specs.Job.{job_of};
 ghost use Rattle.goat_cli.specs.Last.{last_word};
 ghost use Rattle.goat_cli.specs.Stands.{folder_state, SinkState};
-ghost use Rattle.goat_cli.specs.Endings.{RunEnds};
+ghost use Rattle.goat_cli.specs.Endings.{JobEnds};
 ghost use Rattle.goat_cli.specs.Words.{texts, HasAllowedNumbers, ArePackArguments, Pack};
-ghost use Rattle.goat_cli.specs.Jobs.{WordsOf, command_of, AreArgumentsOf};
+ghost use Rattle.goat_cli.specs.Jobs.{command_of, AreArgumentsOf};
 
 use crate::arguments::{address_of, is_psid, zero_page_of};
 use crate::packed::packed_file;
@@ -61,9 +61,9 @@ pub fn pack_song<'a, F: Folder>(
     folder: &mut F,
 ) -> Result<Report<'a>, Refusal<'a>>
     requires { IsAddress address }
-    ensures { (words : List (List ℕ)) (zero_page : ℕ) (sink : SinkState) →
-        WordsOf words (Pack input.now output.now psid address zero_page) →
-        RunEnds words (last_word result) (folder_state (F.files folder.old) (F.counts folder.old))
+    ensures { (zero_page : ℕ) (sink : SinkState) →
+        JobEnds (Pack input.now output.now psid address zero_page) (last_word result)
+        (folder_state (F.files folder.old) (F.counts folder.old))
         (folder_state (F.files folder.new) (F.counts folder.new)) sink sink }
 {
     let bytes = read_file(alloc, input, INPUT_LIMIT, folder)?;

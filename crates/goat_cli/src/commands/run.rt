@@ -10,9 +10,9 @@ ghost use Rattle.goat_cli.specs.Last.{last_of, last_word, Says};
 ghost use Rattle.goat_cli.specs.Lines.{line, address_digits, stop_line};
 ghost use Rattle.goat_cli.specs.RegisterText.{register_line};
 ghost use Rattle.goat_cli.specs.Stands.{folder_state, sink_state, Appends};
-ghost use Rattle.goat_cli.specs.Endings.{RunEnds, CallsEnd, FailsIn};
+ghost use Rattle.goat_cli.specs.Endings.{JobEnds, CallsEnd, FailsIn};
 ghost use Rattle.goat_cli.specs.Words.{texts, HasAllowedNumbers, AreRunArguments, Run, frame_limit};
-ghost use Rattle.goat_cli.specs.Jobs.{WordsOf, command_of, AreArgumentsOf};
+ghost use Rattle.goat_cli.specs.Jobs.{command_of, AreArgumentsOf};
 
 use crate::arguments::decimal_of;
 use crate::line::Line;
@@ -75,8 +75,8 @@ pub fn run_psid<'a, F: Folder, K: Sink>(
     out: &mut K,
 ) -> Result<Report<'a>, Refusal<'a>>
     requires { frames ≤ frame_limit }
-    ensures { (words : List (List ℕ)) → WordsOf words (Run input.now subtune frames) →
-        RunEnds words (last_word result) (folder_state (F.files folder.old) (F.counts folder.old))
+    ensures { JobEnds (Run input.now subtune frames) (last_word result)
+        (folder_state (F.files folder.old) (F.counts folder.old))
         (folder_state (F.files folder.new) (F.counts folder.new))
         (sink_state (K.written out.old) (K.faults out.old))
         (sink_state (K.written out.new) (K.faults out.new)) }

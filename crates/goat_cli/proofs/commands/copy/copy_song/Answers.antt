@@ -8,25 +8,24 @@ use Rattle.goat_cli.proofs.commands.copy.copy_song.Goals as goal
 pub returns-in_err-bytes : goal.returns-in_err-bytes
 returns-in_err-bytes g c =
     let p = err_from_is_err_and c.from_residual.result c.from_residual.ensures.1 in
-    rw (p.1, p.2) (λ words sink form. read_ends words _ form _ _ sink c.args.input.now _ _ _ refl c.in_err-bytes.ensures.refused)
+    rw (p.1, p.2) (λ sink. read_ends sink _ refl c.in_err-bytes.ensures.refused)
 
 pub returns-in_err-song : goal.returns-in_err-song
 returns-in_err-song g c =
     let was = c.in_ok-bytes.ensures.read in
     let p = err_from_is_err_and c.from_residual-in_err-song.result c.from_residual-in_err-song.ensures.1 in
-    rw (p.1, p.2) (λ words sink form. refused words _ _ _ was.files _ _ sink _ (begun words _ _ _ c.args.input.now c.in_ok-bytes.bytes.items _ _ form refl was) refl (c.in_err-song.ensures.refused was.files c.args.input.now (was.found ∙ ap Some (sym c.deref.ensures.value))))
+    let found = was.found ∙ ap Some (sym c.deref.ensures.value) in
+    rw (p.1, p.2) (λ sink. refused sink (begun refl was) refl (c.in_err-song.ensures.refused was.files c.args.input.now found))
 
 pub returns-in_err-file : goal.returns-in_err-file
 returns-in_err-file g c =
-    let was = c.in_ok-bytes.ensures.read in
     let p = err_from_is_err_and c.from_residual-in_err-file.result c.from_residual-in_err-file.ensures.1 in
-    rw (p.1, p.2) (λ words sink form. wants_first words _ _ sink was.stays)
+    rw (p.1, p.2) (λ sink. wants_first sink c.in_ok-bytes.ensures.read.stays)
 
 pub returns : goal.returns
-returns g c = λ words sink form.
+returns g c = λ sink.
     let was = c.in_ok-bytes.ensures.read in
     let song = c.in_ok-song.song in
-    let holds = song_held c.args.input.now c.in_ok-bytes.bytes.items _ _ _ was song (rw c.deref.ensures.value at c.in_ok-song.ensures.spells) in
+    let holds = song_held was (rw c.deref.ensures.value at c.in_ok-song.ensures.spells) in
     let writes = rw (c.deref-2.ensures.value, c.in_ok-file.ensures) at c.write_file.ensures in
-    written words _ _ _ _ sink c.args.output.now (canonical song) _ was.files (met_next words _ _ _ was.files _ _ (begun words _ _ _ c.args.input.now c.in_ok-bytes.bytes.items _ _ form refl was) (song, holds))
-    (canonical song, (song, holds, refl), record { lines_are = refl; write_is = refl }) writes
+    written sink (met_next (begun refl was) (song, holds)) (canonical song, (song, holds, refl), record { lines_are = refl; write_is = refl }) writes

@@ -8,33 +8,35 @@ use Rattle.goat_cli.proofs.commands.pack.pack_song.Goals as goal
 pub returns-in_err-bytes : goal.returns-in_err-bytes
 returns-in_err-bytes g c =
     let p = err_from_is_err_and c.from_residual.result c.from_residual.ensures.1 in
-    rw (p.1, p.2) (λ words zero_page sink form. read_ends words _ form _ _ sink c.args.input.now _ _ _ refl c.in_err-bytes.ensures.refused)
+    rw (p.1, p.2) (λ zero_page sink. read_ends sink _ refl c.in_err-bytes.ensures.refused)
 
 pub returns-in_err-song : goal.returns-in_err-song
 returns-in_err-song g c =
     let was = c.in_ok-bytes.ensures.read in
     let p = err_from_is_err_and c.from_residual-in_err-song.result c.from_residual-in_err-song.ensures.1 in
-    rw (p.1, p.2) (λ words zero_page sink form. refused words _ _ _ was.files _ _ sink _ (begun words _ _ _ c.args.input.now c.in_ok-bytes.bytes.items _ _ form refl was) refl (c.in_err-song.ensures.refused was.files c.args.input.now (was.found ∙ ap Some (sym c.deref.ensures.value))))
+    let found = was.found ∙ ap Some (sym c.deref.ensures.value) in
+    rw (p.1, p.2) (λ zero_page sink. refused sink (begun refl was) refl (c.in_err-song.ensures.refused was.files c.args.input.now found))
 
 pub returns-in_err-can_be_packed : goal.returns-in_err-can_be_packed
 returns-in_err-can_be_packed g c =
     let was = c.in_ok-bytes.ensures.read in
     let song = c.in_ok-song.song in
-    let holds = song_held c.args.input.now c.in_ok-bytes.bytes.items _ _ _ was song (rw c.deref.ensures.value at c.in_ok-song.ensures.spells) in
+    let holds = song_held was (rw c.deref.ensures.value at c.in_ok-song.ensures.spells) in
     let p = err_from_is_err_and c.from_residual-in_err-can_be_packed.result c.from_residual-in_err-can_be_packed.ensures.1 in
-    rw (p.1, p.2) (λ words zero_page sink form. refused words _ _ _ was.files _ _ sink _ (met_next words _ _ _ was.files _ _ (begun words _ _ _ c.args.input.now c.in_ok-bytes.bytes.items _ _ form refl was) (song, holds)) refl (c.in_err-can_be_packed.ensures.refused was.files c.args.input.now holds))
+    let refuses = c.in_err-can_be_packed.ensures.refused was.files c.args.input.now holds in
+    rw (p.1, p.2) (λ zero_page sink. refused sink (met_next (begun refl was) (song, holds)) refl refuses)
 
 pub returns-in_err-file : goal.returns-in_err-file
 returns-in_err-file g c =
-    let was = c.in_ok-bytes.ensures.read in
     let p = err_from_is_err_and c.from_residual-in_err-file.result c.from_residual-in_err-file.ensures.1 in
-    rw (p.1, p.2) (λ words zero_page sink form. wants_first words _ _ sink was.stays)
+    rw (p.1, p.2) (λ zero_page sink. wants_first sink c.in_ok-bytes.ensures.read.stays)
 
 pub returns : goal.returns
-returns g c = λ words zero_page sink form.
+returns g c = λ zero_page sink.
     let was = c.in_ok-bytes.ensures.read in
     let song = c.in_ok-song.song in
-    let holds = song_held c.args.input.now c.in_ok-bytes.bytes.items _ _ _ was song (rw c.deref.ensures.value at c.in_ok-song.ensures.spells) in
+    let holds = song_held was (rw c.deref.ensures.value at c.in_ok-song.ensures.spells) in
+    let file = c.deref-2.result.now in
     let packed = subst (IsPackedFile c.args.psid c.args.address zero_page song) (sym c.deref-2.ensures.value) (c.in_ok-file.ensures zero_page) in
-    written words _ _ _ _ sink c.args.output.now c.deref-2.result.now _ was.files (met_next words _ _ _ was.files _ _ (met_next words _ _ _ was.files _ _ (begun words _ _ _ c.args.input.now c.in_ok-bytes.bytes.items _ _ form refl was) (song, holds)) (song, holds, c.in_ok-can_be_packed.ensures.silent))
-    (c.deref-2.result.now, (song, holds, packed), record { lines_are = refl; write_is = refl }) c.write_file.ensures
+    let at = met_next (met_next (begun refl was) (song, holds)) (song, holds, c.in_ok-can_be_packed.ensures.silent) in
+    written sink at (file, (song, holds, packed), record { lines_are = refl; write_is = refl }) c.write_file.ensures
