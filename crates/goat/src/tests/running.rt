@@ -133,6 +133,19 @@ fn files_that_can_not_be_run_are_refused(rt: HostRuntime) -> Result<(), Fail> {
 }
 
 #[test]
+fn devices_that_fail_a_run_are_told(rt: HostRuntime) -> Result<(), Fail> {
+    let alloc = rt.alloc();
+    let file = psid_file(alloc, &[0x60, 0xea, 0xea, 0x60])?;
+    let none = run(alloc, &["run", "nofile", "1", "1"], &file)?;
+    assert_refused(&rt, &none, 2, "missing: nofile\n");
+    let read = run_failing(alloc, &RUN, &file, &[0], &[])?;
+    assert_refused(&rt, &read, 4, "read fault: s0\n");
+    let sink = run_failing(alloc, &RUN, &file, &[], &[0])?;
+    assert_eq!(rt; sink.status, 10);
+    Ok(())
+}
+
+#[test]
 fn numbers_are_taken_in_their_ranges(rt: HostRuntime) -> Result<(), Fail> {
     let alloc = rt.alloc();
     let file = psid_file(alloc, &[0x60, 0xea, 0xea, 0x60])?;
