@@ -1,5 +1,5 @@
 -- The calls of a loaded file: one after the other, each in one way.
-use Rattle.std.proofs.Common.{◌≡◌, ◌≢◌, ℕ, zero, suc, ◌+◌, ◌≤◌, ◌<◌, inl, inr, List, [], ◌∷◌, ◌++◌, None, Result, Ok, Err, IfOk, OnOk, length, take, refl, sym, ap, ◌∙◌, subst, arith, add-one}
+use Rattle.std.proofs.Common.{◌≡◌, ◌≢◌, ℕ, zero, suc, ◌+◌, ◌≤◌, ◌<◌, inl, inr, List, [], ◌∷◌, ◌++◌, None, Result, Ok, Err, IfOk, OnOk, length, refl, sym, ap, ◌∙◌, subst, arith, add-one}
 use Rattle.std.proofs.lemmas.List.{append-nil, length-append}
 use Rattle.std.proofs.lemmas.Bool.{cases_lt}
 use Rattle.std.proofs.lemmas.List.Folds.{concat-append}
@@ -16,17 +16,19 @@ use Rattle.goat_cli.specs.Lines.{stop_line}
 use Rattle.goat_io.specs.declared.fault.SinkFault.{SinkFault}
 use Rattle.goat_io.specs.declared.fault.SinkFault.TheVariants as sink
 use Rattle.goat_cli.specs.declared.refusal.Refusal.{Refusal}
-use Rattle.goat_cli.specs.Last.{Last, Says, SaysNothing, SinkFailed, Wants, last_of, IsOfSink}
+use Rattle.goat_cli.specs.Last.{Last, Says, SaysNothing, last_of, IsOfSink}
 use Rattle.goat_cli.specs.Stands.{SinkState, Appends}
 use Rattle.goat_cli.specs.Endings.{CallsEnd, FailsIn, played, stopped, failed, wanting}
-use Rattle.goat_cli.proofs.Told.{appends_nothing, appends_both, fails_then}
+use Rattle.goat_cli.proofs.Told.{appends_nothing, appends_both, appends_none, fails_then}
 
 -- ---- one call
 
 -- what the runner says of a call that returned
-pub returns_with : (r : Result (List ℕ) CallStop) (machine after : Machine) (entry number steps : ℕ) → OnOk r (Called machine entry number steps after) → OnOk r (steps ≤ most_steps) → IfOk r (λ registers. registers ≡ sid_registers after) → IfOk r (λ registers. ReturnsTo machine entry number registers after)
-returns_with (Ok registers) machine after entry number steps called within are = record { steps = steps; within = within; called = called; registers_are = sym are }
-returns_with (Err reason) machine after entry number steps called within are = tt
+pub returns_with : (machine after : Machine) (entry number steps : ℕ) (r : Result (List ℕ) CallStop) →
+    OnOk r (Called machine entry number steps after) → OnOk r (steps ≤ most_steps) → IfOk r (λ registers. registers ≡ sid_registers after) →
+    IfOk r (λ registers. ReturnsTo machine entry number registers after)
+returns_with machine after entry number steps (Ok registers) called within are = record { steps = steps; within = within; called = called; registers_are = sym are }
+returns_with machine after entry number steps (Err reason) called within are = tt
 
 -- a call with a number other than 0 is play
 pub later_entry : (file : RunnerState) (call : ℕ) → call ≢ 0 → entry_of file call ≡ file.play
@@ -37,42 +39,61 @@ pub later_number : (subtune call : ℕ) (machine : Machine) → call ≢ 0 → a
 later_number subtune zero machine later = absurd (later refl)
 later_number subtune (suc call) machine later = refl
 
--- a call returns in one machine
-returns_once : (m : Machine) (entry number : ℕ) (registers registers' : List ℕ) (after after' : Machine) → ReturnsTo m entry number registers after → ReturnsTo m entry number registers' after' → after ≡ after'
-returns_once m entry number registers registers' after after' p q =
-    let same = called_once m entry number p.steps q.steps after after' p.called q.called in
-    let one = p.called.runs in
-    let two = q.called.runs in
-    let both : Ok after ≡ Ok after' = sym one ∙ ap (λ n. run n (entered m entry number)) same ∙ two in
-    cc (both)
+module _ {m : Machine} {entry number : ℕ} where
+  -- a call returns in one machine
+  returns_once : {registers registers' : List ℕ} {after after' : Machine} → ReturnsTo m entry number registers after →
+      ReturnsTo m entry number registers' after' → after ≡ after'
+  returns_once {after} {after'} p q =
+      let same = called_once m entry number p.steps q.steps after after' p.called q.called in
+      let one = p.called.runs in
+      let two = q.called.runs in
+      let both : Ok after ≡ Ok after' = sym one ∙ ap (λ n. run n (entered m entry number)) same ∙ two in
+      cc (both)
 
--- and not at all where it fails
-returns_or_fails : (m : Machine) (entry number : ℕ) (registers : List ℕ) (after after' : Machine) (reason : CallStop) → ReturnsTo m entry number registers after → FailsBy m entry number most_steps reason after' → ⊥
-returns_or_fails m entry number registers after after' reason p fails =
-    let never : Ok 0 ≡ Err reason = returned_fails m entry number p.steps most_steps after after' reason (Ok 0) p.called p.within fails in
-    cc (never)
+  -- and not at all where it fails
+  returns_or_fails : {registers : List ℕ} {after : Machine} (after' : Machine) (reason : CallStop) → ReturnsTo m entry number registers after →
+      FailsBy m entry number most_steps reason after' → ⊥
+  returns_or_fails {after} after' reason p fails =
+      let never : Ok 0 ≡ Err reason =
+      returned_fails m entry number p.steps most_steps after after' reason (Ok 0) p.called p.within fails in
+      cc (never)
 
 -- a call fails for one reason
-fails_once : (m : Machine) (entry number : ℕ) (after after' : Machine) (reason reason' : CallStop) → FailsBy m entry number most_steps reason after → FailsBy m entry number most_steps reason' after' → reason ≡ reason'
-fails_once m entry number after after' (Stopped stop) reason' p q = stopped_fails m entry number most_steps p.0 stop after after' reason' p.2 p.1 q
+fails_once : (m : Machine) (entry number : ℕ) (after after' : Machine) (reason reason' : CallStop) →
+    FailsBy m entry number most_steps reason after → FailsBy m entry number most_steps reason' after' → reason ≡ reason'
+fails_once m entry number after after' (Stopped stop) reason' p q =
+    stopped_fails m entry number most_steps p.0 stop after after' reason' p.2 p.1 q
 fails_once m entry number after after' Budget reason' p q = under_way_fails m entry number most_steps after after' reason' p q
 
 -- ---- the first calls
 
 module _ (file : RunnerState) (subtune : ℕ) where
-  pub as_many_registers : (calls : ℕ) (registers : List (List ℕ)) (machine : Machine) → FirstCalls file subtune calls registers machine → length registers ≡ calls
+  abbrev First : ℕ → List (List ℕ) → Machine → Type 0
+  First calls registers machine = FirstCalls file subtune calls registers machine
+
+  -- this call returns, or fails, from a machine
+  abbrev Returns : ℕ → Machine → List ℕ → Machine → Type 0
+  Returns call before last after = ReturnsTo before (entry_of file call) (accumulator_of subtune call before) last after
+
+  abbrev Fails : ℕ → Machine → CallStop → Machine → Type 0
+  Fails call before reason after = FailsBy before (entry_of file call) (accumulator_of subtune call before) most_steps reason after
+
+  pub as_many_registers : (calls : ℕ) (registers : List (List ℕ)) (machine : Machine) → FirstCalls file subtune calls registers machine →
+      length registers ≡ calls
   as_many_registers zero registers machine first = ap length first.0
   as_many_registers (suc calls) registers machine (earlier, before, last, first, returns, are) =
-      ap length are ∙ length-append earlier (last ∷ []) ∙ ap (λ n. n + 1) (as_many_registers calls earlier before first) ∙ add-one calls
+      let more = ap (λ n. n + 1) (as_many_registers calls earlier before first) in
+      ap length are ∙ length-append earlier (last ∷ []) ∙ more ∙ add-one calls
 
-  one_machine : (calls : ℕ) (registers registers' : List (List ℕ)) (machine machine' : Machine) → FirstCalls file subtune calls registers machine → FirstCalls file subtune calls registers' machine' → machine ≡ machine'
+  one_machine : (calls : ℕ) (registers registers' : List (List ℕ)) (machine machine' : Machine) → First calls registers machine →
+      First calls registers' machine' → machine ≡ machine'
   one_machine zero registers registers' machine machine' p q = p.1 ∙ sym q.1
-  one_machine (suc calls) registers registers' machine machine' (earlier, before, last, first, returns, are) (earlier', before', last', first', returns', are') =
-      let same : before ≡ before' = one_machine calls earlier earlier' before before' first first' in
-      let moved = subst (λ b. ReturnsTo b (entry_of file calls) (accumulator_of subtune calls b) last machine) same returns in
-      returns_once before' (entry_of file calls) (accumulator_of subtune calls before') last last' machine machine' moved returns'
+  one_machine (suc calls) registers registers' machine machine' p q =
+      let same = one_machine calls p.0 q.0 p.1 q.1 p.3 q.3 in
+      returns_once (subst (λ before. Returns calls before p.2 machine) same p.4) q.4
 
-  pub one_list : (calls : ℕ) (registers registers' : List (List ℕ)) (machine machine' : Machine) → FirstCalls file subtune calls registers machine → FirstCalls file subtune calls registers' machine' → registers ≡ registers'
+  pub one_list : (calls : ℕ) (registers registers' : List (List ℕ)) (machine machine' : Machine) →
+      FirstCalls file subtune calls registers machine → FirstCalls file subtune calls registers' machine' → registers ≡ registers'
   one_list zero registers registers' machine machine' p q = p.0 ∙ sym q.0
   one_list (suc calls) registers registers' machine machine' p q =
       let same = one_list calls p.0 q.0 p.1 q.1 p.3 q.3 in
@@ -81,35 +102,38 @@ module _ (file : RunnerState) (subtune : ℕ) where
       p.5 ∙ ap (λ e. e ++ p.2 ∷ []) same ∙ ap (λ l. q.0 ++ l ∷ []) last ∙ sym q.5
 
   -- each of the first calls returned
-  pub record Returned (call : ℕ) : Type 0 where
-    pub registers : List (List ℕ)
-    pub before : Machine
-    pub calls : FirstCalls file subtune call registers before
-    pub last : List ℕ
-    pub after : Machine
-    pub returns : ReturnsTo before (entry_of file call) (accumulator_of subtune call before) last after
+  record Returned (call : ℕ) : Type 0 where
+    registers : List (List ℕ)
+    before : Machine
+    calls : First call registers before
+    last : List ℕ
+    after : Machine
+    returns : Returns call before last after
 
-  returned_before : (calls call : ℕ) (registers : List (List ℕ)) (machine : Machine) → FirstCalls file subtune calls registers machine → call < calls → Returned call
+  returned_before : (calls call : ℕ) (registers : List (List ℕ)) (machine : Machine) → First calls registers machine → call < calls →
+      Returned call
   returned_before zero call registers machine first inside = absurd (omega arith)
   returned_before (suc calls) call registers machine (earlier, before, last, first, returns, are) inside =
+      let here : Returned calls =
+      record { registers = earlier; before = before; calls = first; last = last; after = machine; returns = returns } in
       elim (cases_lt call calls) [
         | inl below ↦ returned_before calls call earlier before first below
-        | inr above ↦
-            let same : calls ≡ call = omega arith in
-            subst Returned same (record { registers = earlier; before = before; calls = first; last = last; after = machine; returns = returns })
+        | inr above ↦ let same : calls ≡ call = omega arith in subst Returned same here
       ]
 
   -- none of them meets a stop
-  pub returned_or_stopped : (calls call : ℕ) (registers registers' : List (List ℕ)) (machine : Machine) (reason : CallStop) → FirstCalls file subtune calls registers machine → call < calls → MeetsStopAt file subtune call registers' reason → ⊥
+  pub returned_or_stopped : (calls call : ℕ) (registers registers' : List (List ℕ)) (machine : Machine) (reason : CallStop) →
+      FirstCalls file subtune calls registers machine → call < calls → MeetsStopAt file subtune call registers' reason → ⊥
   returned_or_stopped calls call registers registers' machine reason first inside meets =
       let r = returned_before calls call registers machine first inside in
       let same = one_machine call r.registers registers' r.before meets.before r.calls meets.calls in
-      let moved = subst (λ b. ReturnsTo b (entry_of file call) (accumulator_of subtune call b) r.last r.after) same r.returns in
-      returns_or_fails meets.before (entry_of file call) (accumulator_of subtune call meets.before) r.last r.after meets.after reason moved meets.fails
+      let moved = subst (λ before. Returns call before r.last r.after) same r.returns in
+      returns_or_fails meets.after reason moved meets.fails
 
   -- and one of them meets one stop
-  pub one_stop_at : (call call' : ℕ) (registers registers' : List (List ℕ)) (reason reason' : CallStop) → MeetsStopAt file subtune call registers reason → MeetsStopAt file subtune call' registers' reason' → call ≡ call'
-  one_stop_at call call' registers registers' reason reason' p q = elim (cases_lt call call') [
+  pub one_stop_at : {call call' : ℕ} {registers registers' : List (List ℕ)} {reason reason' : CallStop} →
+      MeetsStopAt file subtune call registers reason → MeetsStopAt file subtune call' registers' reason' → call ≡ call'
+  one_stop_at {call} {call'} {registers} {registers'} {reason} {reason'} p q = elim (cases_lt call call') [
     | inl below ↦ absurd (returned_or_stopped call' call registers' registers q.before reason q.calls below p)
     | inr above ↦ elim (cases_lt call' call) [
       | inl below ↦ absurd (returned_or_stopped call call' registers registers' p.before reason' p.calls below q)
@@ -117,14 +141,17 @@ module _ (file : RunnerState) (subtune : ℕ) where
     ]
   ]
 
-  pub one_reason : (call : ℕ) (registers registers' : List (List ℕ)) (reason reason' : CallStop) → MeetsStopAt file subtune call registers reason → MeetsStopAt file subtune call registers' reason' → reason ≡ reason'
-  one_reason call registers registers' reason reason' p q =
+  pub one_reason : {call : ℕ} {registers registers' : List (List ℕ)} {reason reason' : CallStop} →
+      MeetsStopAt file subtune call registers reason → MeetsStopAt file subtune call registers' reason' → reason ≡ reason'
+  one_reason {call} {registers} {registers'} {reason} {reason'} p q =
       let same = one_machine call registers registers' p.before q.before p.calls q.calls in
-      fails_once q.before (entry_of file call) (accumulator_of subtune call q.before) p.after q.after reason reason' (subst (λ b. FailsBy b (entry_of file call) (accumulator_of subtune call b) most_steps reason p.after) same p.fails) q.fails
+      let moved = subst (λ before. Fails call before reason p.after) same p.fails in
+      fails_once q.before (entry_of file call) (accumulator_of subtune call q.before) p.after q.after reason reason' moved q.fails
 
 -- ---- their lines
 
-lines-append : (call : ℕ) (registers : List (List ℕ)) (last : List ℕ) → lines_from call (registers ++ last ∷ []) ≡ lines_from call registers ++ register_line (call + length registers) last ∷ []
+lines-append : (call : ℕ) (registers : List (List ℕ)) (last : List ℕ) →
+    lines_from call (registers ++ last ∷ []) ≡ lines_from call registers ++ register_line (call + length registers) last ∷ []
 lines-append call [] last = let z : call + 0 ≡ call = omega arith in rw z refl
 lines-append call (first ∷ rest) last =
     let z : call + 1 + length rest ≡ call + suc (length rest) = omega arith in
@@ -140,73 +167,89 @@ pub record CallsSoFar (file : RunnerState) (subtune calls : ℕ) (now : RunnerSt
   pub same_play : now.play ≡ file.play
   pub printed : Appends (concat (register_lines registers)) before after
 
-same_entry : (file now : RunnerState) (call : ℕ) → now.init ≡ file.init → now.play ≡ file.play → entry_of now call ≡ entry_of file call
+same_entry : (file now : RunnerState) (call : ℕ) → now.init ≡ file.init → now.play ≡ file.play →
+    entry_of now call ≡ entry_of file call
 same_entry file now zero init play = init
 same_entry file now (suc call) init play = play
 
-module _ (file : RunnerState) (subtune calls : ℕ) (now later : RunnerState) (before after : SinkState) (so_far : CallsSoFar file subtune calls now before after) where
-  -- one call more
-  pub calls_on : (last : List ℕ) → ReturnsTo now.machine (entry_of now calls) (accumulator_of subtune calls now.machine) last later.machine → FirstCalls file subtune (suc calls) (so_far.registers ++ last ∷ []) later.machine
-  calls_on last returns = (
-    so_far.registers,
-    now.machine,
-    last,
-    so_far.returned,
-    subst (λ e. ReturnsTo now.machine e (accumulator_of subtune calls now.machine) last later.machine) (same_entry file now calls so_far.same_init so_far.same_play) returns,
-    refl,
-  )
+module _ {file : RunnerState} {subtune calls : ℕ} {now : RunnerState} {before after : SinkState}
+    (so_far : CallsSoFar file subtune calls now before after) where
+  -- the call that comes next returns
+  abbrev NextReturns : List ℕ → Machine → Type 0
+  NextReturns last machine = ReturnsTo now.machine (entry_of now calls) (accumulator_of subtune calls now.machine) last machine
 
-  pub lines_on : (last : List ℕ) → register_lines (so_far.registers ++ last ∷ []) ≡ register_lines so_far.registers ++ register_line calls last ∷ []
+  -- their lines, with that of the next call
+  abbrev lines : List (List ℕ)
+  lines = register_lines so_far.registers
+
+  lines_on : (last : List ℕ) → register_lines (so_far.registers ++ last ∷ []) ≡ lines ++ register_line calls last ∷ []
   lines_on last =
       let many = as_many_registers file subtune calls so_far.registers now.machine so_far.returned in
       let z : 0 + length so_far.registers ≡ calls = omega (arith, many) in
-      lines-append 0 so_far.registers last ∙ ap (λ n. register_lines so_far.registers ++ register_line n last ∷ []) z
+      lines-append 0 so_far.registers last ∙ ap (λ n. lines ++ register_line n last ∷ []) z
 
-  text_on : (last : List ℕ) → concat (register_lines (so_far.registers ++ last ∷ [])) ≡ concat (register_lines so_far.registers) ++ register_line calls last
-  text_on last = ap concat (lines_on last) ∙ concat-append (register_lines so_far.registers) (register_line calls last ∷ []) ∙ ap (λ t. concat (register_lines so_far.registers) ++ t) (append-nil (register_line calls last))
+  text_on : (last : List ℕ) → concat (register_lines (so_far.registers ++ last ∷ [])) ≡ concat lines ++ register_line calls last
+  text_on last =
+      let text = concat-append lines (register_line calls last ∷ []) in
+      ap concat (lines_on last) ∙ text ∙ ap (λ t. concat lines ++ t) (append-nil (register_line calls last))
 
-  pub so_far_on : (last : List ℕ) (shown : SinkState) → ReturnsTo now.machine (entry_of now calls) (accumulator_of subtune calls now.machine) last later.machine → later.stopped ≡ None → later.init ≡ now.init → later.play ≡ now.play →
-      Appends (register_line calls last) after shown → CallsSoFar file subtune (suc calls) later before shown
-  so_far_on last shown returns running init play told = record {
+  -- one call more
+  calls_on : (last : List ℕ) (machine : Machine) → NextReturns last machine →
+      FirstCalls file subtune (suc calls) (so_far.registers ++ last ∷ []) machine
+  calls_on last machine returns =
+      let same = same_entry file now calls so_far.same_init so_far.same_play in
+      let moved = subst (λ e. ReturnsTo now.machine e (accumulator_of subtune calls now.machine) last machine) same returns in
+      (so_far.registers, now.machine, last, so_far.returned, moved, refl)
+
+  pub so_far_on : (later : RunnerState) (last : List ℕ) {shown : SinkState} →
+      ReturnsTo now.machine (entry_of now calls) (accumulator_of subtune calls now.machine) last later.machine →
+      later.stopped ≡ None → later.init ≡ now.init → later.play ≡ now.play → Appends (register_line calls last) after shown →
+      CallsSoFar file subtune (suc calls) later before shown
+  so_far_on later last {shown} returns running init play told = record {
     registers = so_far.registers ++ last ∷ [];
-    returned = calls_on last returns;
+    returned = calls_on last later.machine returns;
     running = running;
     same_init = init ∙ so_far.same_init;
     same_play = play ∙ so_far.same_play;
-    printed = subst (λ text. Appends text before shown) (sym (text_on last)) (appends_both (concat (register_lines so_far.registers)) (register_line calls last) before after shown so_far.printed told);
+    printed = subst (λ text. Appends text before shown) (sym (text_on last)) (appends_both so_far.printed told);
   }
 
-  module _ (frames : ℕ) (within : calls ≤ frames) (last : List ℕ) (returns : ReturnsTo now.machine (entry_of now calls) (accumulator_of subtune calls now.machine) last later.machine) (shown : SinkState) where
-    -- the put of the line of the call failed
-    line_failed : FailsIn (register_line calls last) after shown → CallsEnd file subtune frames SinkFailed before shown
-    line_failed fails =
-        failed (suc calls) fails.kept (register_lines so_far.registers) (register_line calls last) (so_far.registers ++ last ∷ []) later.machine (omega (arith, within)) (calls_on last returns) (lines_on last) refl
-        (fails_then (concat (register_lines so_far.registers)) (take fails.kept (register_line calls last)) before after shown so_far.printed fails.fails)
+  -- the line of a call was not put
+  pub line_over : (frames : ℕ) → calls ≤ frames → (machine : Machine) (last : List ℕ) →
+      ReturnsTo now.machine (entry_of now calls) (accumulator_of subtune calls now.machine) last machine →
+      {shown : SinkState} (fault : SinkFault) (it : Refusal) → IsOfSink fault it →
+      (fault ≡ sink.Failed → FailsIn (register_line calls last) after shown) → (fault ≡ sink.NoMemory → Appends [] after shown) →
+      CallsEnd file subtune frames (last_of it) before shown
+  line_over frames within machine last returns sink.Failed it is fails none =
+      let failing = fails refl in
+      rw is (failed (suc calls) failing.kept lines (register_line calls last) (so_far.registers ++ last ∷ []) machine
+      (omega (arith, within)) (calls_on last machine returns) (lines_on last) refl (fails_then so_far.printed failing.fails))
+  line_over frames within machine last returns sink.NoMemory it is fails none =
+      rw is (wanting (suc calls) lines (register_line calls last) (so_far.registers ++ last ∷ []) machine
+      (omega (arith, within)) (calls_on last machine returns) (lines_on last) refl (appends_none so_far.printed (none refl)))
 
-    -- memory was wanting for it
-    line_wanting : Appends [] after shown → CallsEnd file subtune frames Wants before shown
-    line_wanting none =
-        wanting (suc calls) (register_lines so_far.registers) (register_line calls last) (so_far.registers ++ last ∷ []) later.machine (omega (arith, within)) (calls_on last returns) (lines_on last) refl
-        (subst (λ text. Appends text before shown) (append-nil (concat (register_lines so_far.registers))) (appends_both (concat (register_lines so_far.registers)) [] before after shown so_far.printed none))
+  pub stop_met : (frames : ℕ) (machine : Machine) (reason : CallStop) → calls ≤ frames →
+      FailsBy now.machine (entry_of now calls) (accumulator_of subtune calls now.machine) most_steps reason machine →
+      {last : Last} → last ≡ Says 13 (stop_line reason calls) → CallsEnd file subtune frames last before after
+  stop_met frames machine reason within fails says =
+      let same = same_entry file now calls so_far.same_init so_far.same_play in
+      let moved = subst (λ e. FailsBy now.machine e (accumulator_of subtune calls now.machine) most_steps reason machine) same fails in
+      stopped calls so_far.registers reason within
+      (record { before = now.machine; calls = so_far.returned; after = machine; fails = moved }) says so_far.printed
 
-    pub line_over : (fault : SinkFault) (it : Refusal) → IsOfSink fault it → (fault ≡ sink.Failed → FailsIn (register_line calls last) after shown) → (fault ≡ sink.NoMemory → Appends [] after shown) → CallsEnd file subtune frames (last_of it) before shown
-    line_over sink.Failed it is fails none = rw is (line_failed (fails refl))
-    line_over sink.NoMemory it is fails none = rw is (line_wanting (none refl))
-
-  pub stop_met : (frames : ℕ) (reason : CallStop) → calls ≤ frames → FailsBy now.machine (entry_of now calls) (accumulator_of subtune calls now.machine) most_steps reason later.machine → (last : Last) → last ≡ Says 13 (stop_line reason calls) → CallsEnd file subtune frames last before after
-  stop_met frames reason within fails last says = stopped calls so_far.registers reason within (record {
-    before = now.machine;
-    calls = so_far.returned;
-    after = later.machine;
-    fails = subst (λ e. FailsBy now.machine e (accumulator_of subtune calls now.machine) most_steps reason later.machine) (same_entry file now calls so_far.same_init so_far.same_play) fails;
-  }) says so_far.printed
-
--- all calls returned
-pub all_played : (file now : RunnerState) (subtune frames calls : ℕ) (before after : SinkState) → CallsSoFar file subtune calls now before after → calls ≡ frames + 1 → CallsEnd file subtune frames SaysNothing before after
-all_played file now subtune frames calls before after so is =
-    let moved = subst (λ n. CallsSoFar file subtune n now before after) is so in
-    played moved.registers now.machine moved.returned refl moved.printed
+  -- all calls returned
+  pub all_played : (frames : ℕ) → calls ≡ frames + 1 → CallsEnd file subtune frames SaysNothing before after
+  all_played frames is =
+      played so_far.registers now.machine (subst (λ n. FirstCalls file subtune n so_far.registers now.machine) is so_far.returned)
+      refl so_far.printed
 
 -- no call was made yet
 pub none_yet : (file : RunnerState) (subtune : ℕ) (sink : SinkState) → file.stopped ≡ None → CallsSoFar file subtune 0 file sink sink
-none_yet file subtune sink running = record { registers = []; returned = (refl, refl); running = running; same_init = refl; same_play = refl; printed = appends_nothing sink }
+none_yet file subtune sink running = record {
+  registers = [];
+  returned = (refl, refl);
+  running = running;
+  same_init = refl;
+  same_play = refl;
+  printed = appends_nothing sink;
+}

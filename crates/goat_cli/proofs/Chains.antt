@@ -66,7 +66,7 @@ module _ {job : Job} {folder after : FolderState} where
     pub refused : {stage : Stage} {rest : List Stage} {last : Last} (sink : SinkState) → At job files folder after (stage ∷ rest) →
         is_uncounted (status_of stage) ≡ true → Refuses files stage last → JobEnds job last folder after sink sink
     refused {stage} {rest} sink at free (ends.ends line is says) =
-        let counted = uncounted (status_of stage) folder.counts after.counts free at.stays.counts in
+        let counted = uncounted free at.stays.counts in
         rw says (says_ends sink files at.met rest stage at.are_files at.stages_are at.pass is at.stays.told counted)
     refused sink at free (ends.wanting wants) = rw wants (wants_first sink at.stays)
 
@@ -81,13 +81,13 @@ module _ {job : Job} {folder between after : FolderState} {files : Files} {outpu
   written at did (ends.wrote says told counted) =
       let files_are = told ∙ ap (λ t. told_after t (Some (output, file))) at.stays.told in
       rw says (has_last sink at.are_files (λ words form. stands.outcome (Some (output, file)) (outcome.done job form (all_met at) did refl) files_are)
-      (counted_on 0 folder.counts between.counts after.counts at.stays.counts counted))
+      (counted_on at.stays.counts counted))
   written at did (ends.failed says part counted) =
       let part_of = subst (λ t. IsWrittenInPart t after.told output file) at.stays.told part in
       rw says (has_last sink at.are_files (λ words form.
       stands.write_fault (wrote_line (length file) ∷ []) output file (outcome.done job form (all_met at) did refl) refl refl part_of)
-      (counted_on 9 folder.counts between.counts after.counts at.stays.counts counted))
-  written at did (ends.wanting wants more) = rw wants (wants_first sink (stays_on folder between after at.stays more))
+      (counted_on at.stays.counts counted))
+  written at did (ends.wanting wants more) = rw wants (wants_first sink (stays_on at.stays more))
 
 -- ---- the files that a run has read
 
@@ -135,7 +135,7 @@ module _ {input : List ℕ} {subtune frames : ℕ} {files : Files} {folder after
       rw is (over (λ words form. record {
         earlier = register_lines registers;
         account = stands.outcome None (outcome.ended (Run input subtune frames) form first refl) (at.stays.told ∙ as_before folder.told);
-        counted = uncounted 13 folder.counts after.counts refl at.stays.counts;
+        counted = uncounted refl at.stays.counts;
         appends = shown;
       }))
   calls_over (ends.failed calls kept earlier line registers machine within first lines_are is fails) =

@@ -28,7 +28,7 @@ usage_ends words folder sink none = let some = some_files folder.told in record 
   is_over = record {
     earlier = [];
     account = stands.outcome None (outcome.usage none refl refl refl) (as_before folder.told);
-    counted = uncounted 1 folder.counts folder.counts refl (stays_itself folder).counts;
+    counted = uncounted refl (stays_itself folder).counts;
     appends = appends_nothing sink;
   };
 }

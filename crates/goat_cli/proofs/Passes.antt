@@ -35,10 +35,10 @@ one_stop : (subtune frames : ℕ) (a b : Psid) → a ≡ b → (p : StopsIn a su
     register_lines p.registers ++ stop_line p.reason p.call ∷ [] ≡ register_lines q.registers ++ stop_line q.reason q.call ∷ []
 one_stop subtune frames a b same p q =
     let meets = subst (λ x. MeetsStopAt (loaded x) (subtune - 1) p.call p.registers p.reason) same p.meets in
-    let call = one_stop_at (loaded b) (subtune - 1) p.call q.call p.registers q.registers p.reason q.reason meets q.meets in
+    let call = one_stop_at (loaded b) (subtune - 1) meets q.meets in
     let there = subst (λ c. MeetsStopAt (loaded b) (subtune - 1) c p.registers p.reason) call meets in
     let registers = one_list (loaded b) (subtune - 1) q.call p.registers q.registers there.before q.meets.before there.calls q.meets.calls in
-    let reason = one_reason (loaded b) (subtune - 1) q.call p.registers q.registers p.reason q.reason there q.meets in
+    let reason = one_reason (loaded b) (subtune - 1) there q.meets in
     ap (λ r. register_lines r ++ stop_line p.reason p.call ∷ []) registers
     ∙ ap (λ r. register_lines q.registers ++ stop_line r p.call ∷ []) reason
     ∙ ap (λ c. register_lines q.registers ++ stop_line q.reason c ∷ []) call

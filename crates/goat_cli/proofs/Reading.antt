@@ -11,7 +11,7 @@ use Rattle.goat_io.specs.FolderCounts.{CountsRead}
 use Rattle.goat_io.specs.Files.{Files, file_of, with_file, IsAbsent, IsAbove}
 use Rattle.goat_cli.specs.Lines.{missing_line, too_long_line}
 use Rattle.goat_cli.specs.Last.{Last, Says}
-use Rattle.goat_cli.specs.Stands.{FolderState, AreFiles, Counted}
+use Rattle.goat_cli.specs.Stands.{FolderState, AreFiles, Counted, FolderStays}
 use Rattle.goat_cli.proofs.Told.{same_count, still}
 use Rattle.goat_cli.specs.Endings as ends
 use Rattle.goat_cli.specs.Endings.{WasRead, ReadFails}
@@ -20,7 +20,8 @@ use Rattle.goat_cli.specs.Endings.{WasRead, ReadFails}
 
 one_file : (name bytes : List ℕ) → file_of (with_file empty name bytes) name ≡ Some bytes
 one_file name bytes =
-    get-insert nat_list_cmp_total empty name bytes name ∙ ap (λ same. cond same (Some bytes) (file_of empty name)) ((eq_by_cmp_equiv nat_list_cmp_total).refl name)
+    let found = ap (λ same. cond same (Some bytes) (file_of empty name)) ((eq_by_cmp_equiv nat_list_cmp_total).refl name) in
+    get-insert nat_list_cmp_total empty name bytes name ∙ found
 
 -- some files have what is said of the told ones
 record SomeFiles (told : Option Files) (P : Files → Type 0) : Type 0 where
@@ -34,39 +35,46 @@ some_of (Some files) P other holds known = record { files = files; are_files = r
 
 -- ---- counts
 
-pub read_counted : {X : Type 0} (x : X) (before after : FolderCounts) → CountsRead {X = X} (Ok x) before after → Counted 0 before after
-read_counted x before after c = still 0 before after refl c.misses c.excesses c.read_faults c.write_faults
+module _ {X : Type 0} {before after : FolderCounts} where
+  pub read_counted : {x : X} → CountsRead {X = X} (Ok x) before after → Counted 0 before after
+  read_counted c = still refl c.misses c.excesses c.read_faults c.write_faults
 
-pub miss_counted : {X : Type 0} (before after : FolderCounts) → CountsRead {X = X} (Err read.Missing) before after → Counted 2 before after
-miss_counted before after c = record {
-  misses = record { rose = λ e. c.misses; stays = λ e. absurd (e refl) };
-  excesses = same_count 3 2 before.excesses after.excesses (λ e. omega arith) c.excesses;
-  read_faults = same_count 4 2 before.read_faults after.read_faults (λ e. omega arith) c.read_faults;
-  write_faults = same_count 9 2 before.write_faults after.write_faults (λ e. omega arith) c.write_faults;
-}
+  pub miss_counted : CountsRead {X = X} (Err read.Missing) before after → Counted 2 before after
+  miss_counted c = record {
+    misses = record { rose = λ e. c.misses; stays = λ e. absurd (e refl) };
+    excesses = same_count (λ e. omega arith) c.excesses;
+    read_faults = same_count (λ e. omega arith) c.read_faults;
+    write_faults = same_count (λ e. omega arith) c.write_faults;
+  }
 
-pub excess_counted : {X : Type 0} (before after : FolderCounts) → CountsRead {X = X} (Err read.TooLong) before after → Counted 3 before after
-excess_counted before after c = record {
-  misses = same_count 2 3 before.misses after.misses (λ e. omega arith) c.misses;
-  excesses = record { rose = λ e. c.excesses; stays = λ e. absurd (e refl) };
-  read_faults = same_count 4 3 before.read_faults after.read_faults (λ e. omega arith) c.read_faults;
-  write_faults = same_count 9 3 before.write_faults after.write_faults (λ e. omega arith) c.write_faults;
-}
+  pub excess_counted : CountsRead {X = X} (Err read.TooLong) before after → Counted 3 before after
+  excess_counted c = record {
+    misses = same_count (λ e. omega arith) c.misses;
+    excesses = record { rose = λ e. c.excesses; stays = λ e. absurd (e refl) };
+    read_faults = same_count (λ e. omega arith) c.read_faults;
+    write_faults = same_count (λ e. omega arith) c.write_faults;
+  }
 
 -- ---- answers
 
-pub was_read : (name : List ℕ) (limit : ℕ) (before after : FolderState) (bytes : List ℕ) → IfSome before.told (λ files. file_of files name ≡ Some bytes) → length bytes ≤ limit → after.told ≡ before.told → Counted 0 before.counts after.counts → WasRead name limit before after bytes
-was_read name limit before after bytes known fits same counted =
-    let some = some_of before.told (λ files. file_of files name ≡ Some bytes) (with_file empty name bytes) (one_file name bytes) known in
-    record { files = some.files; are_files = some.are_files; found = some.has; fits = fits; stays = record { told = same; counts = counted } }
+module _ (name : List ℕ) (limit : ℕ) {before after : FolderState} (same : after.told ≡ before.told) where
+  pub was_read : (bytes : List ℕ) → IfSome before.told (λ files. file_of files name ≡ Some bytes) → length bytes ≤ limit →
+      Counted 0 before.counts after.counts → WasRead name limit before after bytes
+  was_read bytes known fits counted =
+      let some = some_of before.told (λ files. file_of files name ≡ Some bytes) (with_file empty name bytes) (one_file name bytes) known in
+      let stays : FolderStays before after = record { told = same; counts = counted } in
+      record { files = some.files; are_files = some.are_files; found = some.has; fits = fits; stays = stays }
 
-pub was_missing : (name : List ℕ) (limit : ℕ) (before after : FolderState) → IfSome before.told (IsAbsent name) → after.told ≡ before.told → Counted 2 before.counts after.counts → (last : Last) → last ≡ Says 2 (missing_line name) → ReadFails name limit before after last
-was_missing name limit before after known same counted last says =
-    let some = some_of before.told (IsAbsent name) empty (get-empty (slice_cmp nat_cmp) name) known in
-    ends.missing some.files some.are_files some.has says same counted
+  pub was_missing : {last : Last} → IfSome before.told (IsAbsent name) → Counted 2 before.counts after.counts →
+      last ≡ Says 2 (missing_line name) → ReadFails name limit before after last
+  was_missing known counted says =
+      let some = some_of before.told (IsAbsent name) empty (get-empty (slice_cmp nat_cmp) name) known in
+      ends.missing some.files some.are_files some.has says same counted
 
-pub was_too_long : (name : List ℕ) (limit : ℕ) (before after : FolderState) → IfSome before.told (IsAbove limit name) → after.told ≡ before.told → Counted 3 before.counts after.counts → (last : Last) → last ≡ Says 3 (too_long_line name) → ReadFails name limit before after last
-was_too_long name limit before after known same counted last says =
-    let long = replicate (limit + 1) 0 in
-    let some = some_of before.told (IsAbove limit name) (with_file empty name long) (long, one_file name long, omega (arith, length-replicate {A = ℕ} (limit + 1) 0)) known in
-    ends.too_long some.files some.are_files some.has says same counted
+  pub was_too_long : {last : Last} → IfSome before.told (IsAbove limit name) → Counted 3 before.counts after.counts →
+      last ≡ Says 3 (too_long_line name) → ReadFails name limit before after last
+  was_too_long known counted says =
+      let long = replicate (limit + 1) 0 in
+      let above : IsAbove limit name (with_file empty name long) = (long, one_file name long, omega (arith, length-replicate {A = ℕ} (limit + 1) 0)) in
+      let some = some_of before.told (IsAbove limit name) (with_file empty name long) above known in
+      ends.too_long some.files some.are_files some.has says same counted

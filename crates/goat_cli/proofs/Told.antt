@@ -1,5 +1,5 @@
 -- What folders and sinks tell, and their counts.
-use Rattle.std.proofs.Common.{◌≡◌, ℕ, List, [], ◌++◌, Option, Some, None, Bool, true, false, not, ◌&&◌, ◌==◌, refl, sym, ap, ◌∙◌, subst, arith, take}
+use Rattle.std.proofs.Common.{◌≡◌, ℕ, List, [], ◌++◌, Option, Some, None, Bool, true, false, not, ◌&&◌, ◌==◌, refl, sym, ap, ◌∙◌, subst, arith}
 use Rattle.std.proofs.lemmas.List.{append-nil}
 use Rattle.std.specs.FinMap.{empty}
 use Rattle.goat_io.specs.declared.folder_counts.FolderCounts.{FolderCounts}
@@ -8,7 +8,6 @@ use Rattle.goat_io.specs.Files.{Files}
 use Rattle.goat_io.specs.Written.{told_with_piece}
 use Rattle.goat_io.proofs.Laws.{told_nothing, told_both}
 use Rattle.goat_cli.specs.Outcome.{told_after}
-use Rattle.goat_cli.specs.Lines.{no_memory_line}
 use Rattle.goat_cli.specs.Stands as stands
 use Rattle.goat_cli.specs.Stands.{FolderState, SinkState, AreFiles, RisesWith, Counted, FolderStays, Appends, FailsAfter, TellsWant}
 
@@ -36,46 +35,49 @@ is_uncounted n = not (n == 2) && (not (n == 3) && (not (n == 4) && not (n == 9))
 unlike : (n own : ℕ) → is_uncounted n ≡ true → n ≡ own → is_uncounted own ≡ false → ⊥
 unlike n own test is other = let never : true ≡ false = sym test ∙ ap is_uncounted is ∙ other in absurd (cc (never))
 
-pub same_count : (own n before after : ℕ) → (n ≡ own → ⊥) → after ≡ before → RisesWith own n before after
-same_count own n before after other same = record { rose = λ is. absurd (other is); stays = λ is. same }
+pub same_count : {own n before after : ℕ} → (n ≡ own → ⊥) → after ≡ before → RisesWith own n before after
+same_count other same = record { rose = λ is. absurd (other is); stays = λ is. same }
 
 -- all counts are as before, with such a status
-pub still : (n : ℕ) (before after : FolderCounts) → is_uncounted n ≡ true → after.misses ≡ before.misses → after.excesses ≡ before.excesses → after.read_faults ≡ before.read_faults → after.write_faults ≡ before.write_faults → Counted n before after
-still n before after test m e r w =
-    record {
-      misses = same_count 2 n before.misses after.misses (λ is. absurd (unlike n 2 test is refl)) m;
-      excesses = same_count 3 n before.excesses after.excesses (λ is. absurd (unlike n 3 test is refl)) e;
-      read_faults = same_count 4 n before.read_faults after.read_faults (λ is. absurd (unlike n 4 test is refl)) r;
-      write_faults = same_count 9 n before.write_faults after.write_faults (λ is. absurd (unlike n 9 test is refl)) w;
-    }
+pub still : {n : ℕ} {before after : FolderCounts} → is_uncounted n ≡ true → after.misses ≡ before.misses →
+    after.excesses ≡ before.excesses → after.read_faults ≡ before.read_faults → after.write_faults ≡ before.write_faults →
+    Counted n before after
+still {n} test m e r w = record {
+  misses = same_count (λ is. unlike n 2 test is refl) m;
+  excesses = same_count (λ is. unlike n 3 test is refl) e;
+  read_faults = same_count (λ is. unlike n 4 test is refl) r;
+  write_faults = same_count (λ is. unlike n 9 test is refl) w;
+}
 
-pub uncounted : (n : ℕ) (before after : FolderCounts) → is_uncounted n ≡ true → Counted 0 before after → Counted n before after
-uncounted n before after test c =
-    still n before after test (c.misses.stays (λ e. omega arith)) (c.excesses.stays (λ e. omega arith)) (c.read_faults.stays (λ e. omega arith)) (c.write_faults.stays (λ e. omega arith))
+pub uncounted : {n : ℕ} {before after : FolderCounts} → is_uncounted n ≡ true → Counted 0 before after → Counted n before after
+uncounted test c =
+    still test (c.misses.stays (λ e. omega arith)) (c.excesses.stays (λ e. omega arith))
+    (c.read_faults.stays (λ e. omega arith)) (c.write_faults.stays (λ e. omega arith))
 
-rises_on : (own n before between after : ℕ) → between ≡ before → RisesWith own n between after → RisesWith own n before after
-rises_on own n before between after same r = subst (λ b. RisesWith own n b after) same r
+rises_on : {own n before between after : ℕ} → between ≡ before → RisesWith own n between after → RisesWith own n before after
+rises_on {own} {n} {after} same r = subst (λ b. RisesWith own n b after) same r
 
-pub counted_on : (n : ℕ) (before between after : FolderCounts) → Counted 0 before between → Counted n between after → Counted n before after
-counted_on n before between after c d = record {
-  misses = rises_on 2 n before.misses between.misses after.misses (c.misses.stays (λ e. omega arith)) d.misses;
-  excesses = rises_on 3 n before.excesses between.excesses after.excesses (c.excesses.stays (λ e. omega arith)) d.excesses;
-  read_faults = rises_on 4 n before.read_faults between.read_faults after.read_faults (c.read_faults.stays (λ e. omega arith)) d.read_faults;
-  write_faults = rises_on 9 n before.write_faults between.write_faults after.write_faults (c.write_faults.stays (λ e. omega arith)) d.write_faults;
+pub counted_on : {n : ℕ} {before between after : FolderCounts} → Counted 0 before between → Counted n between after →
+    Counted n before after
+counted_on c d = record {
+  misses = rises_on (c.misses.stays (λ e. omega arith)) d.misses;
+  excesses = rises_on (c.excesses.stays (λ e. omega arith)) d.excesses;
+  read_faults = rises_on (c.read_faults.stays (λ e. omega arith)) d.read_faults;
+  write_faults = rises_on (c.write_faults.stays (λ e. omega arith)) d.write_faults;
 }
 
 pub stays_itself : (folder : FolderState) → FolderStays folder folder
-stays_itself folder = record { told = refl; counts = still 0 folder.counts folder.counts refl refl refl refl refl }
+stays_itself folder = record { told = refl; counts = still refl refl refl refl refl }
 
-pub stays_on : (a b c : FolderState) → FolderStays a b → FolderStays b c → FolderStays a c
-stays_on a b c p q = record { told = q.told ∙ p.told; counts = counted_on 0 a.counts b.counts c.counts p.counts q.counts }
+pub stays_on : {a b c : FolderState} → FolderStays a b → FolderStays b c → FolderStays a c
+stays_on p q = record { told = q.told ∙ p.told; counts = counted_on p.counts q.counts }
 
 -- ---- sinks
 
 pub appends_nothing : (sink : SinkState) → Appends [] sink sink
 appends_nothing sink = record { told = sym (told_nothing sink.told); faults = refl }
 
-module _ (a b : List ℕ) (s t u : SinkState) (first : Appends a s t) where
+module _ {a b : List ℕ} {s t u : SinkState} (first : Appends a s t) where
   pub appends_both : Appends b t u → Appends (a ++ b) s u
   appends_both then = record {
     told = then.told ∙ ap (λ told. told_with_piece told b) first.told ∙ told_both s.told a b;
@@ -88,8 +90,11 @@ module _ (a b : List ℕ) (s t u : SinkState) (first : Appends a s t) where
     faults = subst (λ n. Rose n u.faults) first.faults then.faults;
   }
 
+pub appends_none : {a : List ℕ} {s t u : SinkState} → Appends a s t → Appends [] t u → Appends a s u
+appends_none {a} {s} {u} first none = subst (λ b. Appends b s u) (append-nil a) (appends_both first none)
+
 -- the line that memory is wanting comes after what was printed
-pub tells_then : (a : List ℕ) (answer : ℕ) (s t u : SinkState) → Appends a s t → TellsWant [] answer t u → TellsWant a answer s u
-tells_then a answer s t u first (stands.told is appends) = stands.told is (appends_both a no_memory_line s t u first appends)
-tells_then a answer s t u first (stands.failed kept is fails) = stands.failed kept is (fails_then a (take kept no_memory_line) s t u first fails)
-tells_then a answer s t u first (stands.untold is appends) = stands.untold is (subst (λ b. Appends b s u) (append-nil a) (appends_both a [] s t u first appends))
+pub tells_then : {a : List ℕ} {answer : ℕ} {s t u : SinkState} → Appends a s t → TellsWant [] answer t u → TellsWant a answer s u
+tells_then first (stands.told is appends) = stands.told is (appends_both first appends)
+tells_then first (stands.failed kept is fails) = stands.failed kept is (fails_then first fails)
+tells_then first (stands.untold is appends) = stands.untold is (appends_none first appends)

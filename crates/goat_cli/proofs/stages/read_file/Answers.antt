@@ -4,15 +4,19 @@ use Rattle.goat_cli.proofs.stages.read_file.Goals as goal
 
 pub returns-in-Ok-clause-read : goal.returns-in-Ok-clause-read
 returns-in-Ok-clause-read g c =
-    let fits : length c.in-Ok.bytes.items ≤ c.args.limit = search rules in
-    was_read c.args.name.now c.args.limit _ _ c.in-Ok.bytes.items c.in-Ok.ensures.whole fits c.in-Ok.ensures.files_stay (read_counted c.in-Ok.bytes _ _ c.in-Ok.ensures.counts)
+    let e = c.in-Ok.ensures in
+    let bytes = c.in-Ok.bytes.items in
+    let fits : length bytes ≤ c.args.limit = search rules in
+    was_read c.args.name.now c.args.limit e.files_stay bytes e.whole fits (read_counted e.counts)
 
 pub returns-in-Err-Missing-clause-refused : goal.returns-in-Err-Missing-clause-refused
 returns-in-Err-Missing-clause-refused g c =
-    let is = c.in-Err-Missing.field-0-is in
-    was_missing c.args.name.now c.args.limit _ _ (c.in-Err-Missing.ensures.missing (cc)) c.in-Err-Missing.ensures.files_stay (miss_counted _ _ (rw is at c.in-Err-Missing.ensures.counts)) _ c.says.ensures
+    let e = c.in-Err-Missing.ensures in
+    let counts = rw c.in-Err-Missing.field-0-is at e.counts in
+    was_missing c.args.name.now c.args.limit e.files_stay (e.missing (cc)) (miss_counted counts) c.says.ensures
 
 pub returns-in-Err-TooLong-clause-refused : goal.returns-in-Err-TooLong-clause-refused
 returns-in-Err-TooLong-clause-refused g c =
-    let is = c.in-Err-TooLong.field-0-is in
-    was_too_long c.args.name.now c.args.limit _ _ (c.in-Err-TooLong.ensures.too_long (cc)) c.in-Err-TooLong.ensures.files_stay (excess_counted _ _ (rw is at c.in-Err-TooLong.ensures.counts)) _ c.says-in-Err-TooLong.ensures
+    let e = c.in-Err-TooLong.ensures in
+    let counts = rw c.in-Err-TooLong.field-0-is at e.counts in
+    was_too_long c.args.name.now c.args.limit e.files_stay (e.too_long (cc)) (excess_counted counts) c.says-in-Err-TooLong.ensures

@@ -1,9 +1,8 @@
-use Rattle.goat_cli.specs.Words.{texts}
 use Rattle.goat_cli.proofs.Printed.{run_stands, no_room}
 use Rattle.goat_cli.proofs.top.answer.Goals as goal
 
 pub returns-in_default : goal.returns-in_default
-returns-in_default g c = no_room (texts c.args.words.now) c.want_memory.result _ _ _ c.want_memory.ensures
+returns-in_default g c = no_room c.want_memory.ensures
 
 pub returns : goal.returns
-returns g c = run_stands (texts c.args.words.now) _ c.print.result _ _ _ _ _ c.run-ended.ensures c.print.ensures
+returns g c = run_stands _ c.run-ended.ensures c.print.ensures

@@ -1,27 +1,26 @@
 use Rattle.goat_cli.proofs.Answered.{headline, outcome_comes, due_comes, usage_comes, packed_plays, counts, sink_counts, files_stay}
-use Rattle.goat_cli.specs.Words.{texts}
 use Rattle.goat_cli.proofs.top.goat.Goals as goal
 
 pub returns-clause-headline : goal.returns-clause-headline
-returns-clause-headline g c = headline (texts c.args.words.now) c.answer.result _ _ _ _ c.answer.ensures
+returns-clause-headline g c = headline c.answer.ensures
 
 pub returns-clause-outcome : goal.returns-clause-outcome
-returns-clause-outcome g c = outcome_comes (texts c.args.words.now) c.answer.result _ _ _ _ c.answer.ensures
+returns-clause-outcome g c = outcome_comes c.answer.ensures
 
 pub returns-clause-due : goal.returns-clause-due
-returns-clause-due g c = due_comes (texts c.args.words.now) c.answer.result _ _ _ _ c.answer.ensures
+returns-clause-due g c = due_comes c.answer.ensures
 
 pub returns-clause-usage : goal.returns-clause-usage
-returns-clause-usage g c = usage_comes (texts c.args.words.now) c.answer.result _ _ _ _ c.answer.ensures
+returns-clause-usage g c = usage_comes c.answer.ensures
 
 pub returns-clause-packed : goal.returns-clause-packed
-returns-clause-packed g c = packed_plays (texts c.args.words.now) c.answer.result _ _ _ _ c.answer.ensures
+returns-clause-packed g c = packed_plays c.answer.ensures
 
 pub returns-clause-counted : goal.returns-clause-counted
-returns-clause-counted g c = counts (texts c.args.words.now) c.answer.result _ _ _ _ c.answer.ensures
+returns-clause-counted g c = counts c.answer.ensures
 
 pub returns-clause-sink_counted : goal.returns-clause-sink_counted
-returns-clause-sink_counted g c = sink_counts (texts c.args.words.now) c.answer.result _ _ _ _ c.answer.ensures
+returns-clause-sink_counted g c = sink_counts c.answer.ensures
 
 pub returns-clause-files_stay : goal.returns-clause-files_stay
-returns-clause-files_stay g c = files_stay (texts c.args.words.now) c.answer.result _ _ _ _ c.answer.ensures
+returns-clause-files_stay g c = files_stay c.answer.ensures

@@ -1,4 +1,4 @@
-use Rattle.std.proofs.Common.{[], sym, ◌∙◌, take, ap}
+use Rattle.std.proofs.Common.{sym, ◌∙◌, take, ap}
 use Rattle.goat_io.specs.Written.{told_with_piece}
 use Rattle.goat_cli.specs.Endings as ends
 use Rattle.goat_cli.proofs.Told.{tells_then}
@@ -10,11 +10,13 @@ returns-in-Err-Failed g c =
     let is = c.in-Err-Failed.field-0-is in
     let part = c.in-Err-Failed.ensures.failed (cc) in
     let counts = rw is at c.in-Err-Failed.ensures.faults in
-    ends.failed part.0 c.number.ensures (record { told = part.1 ∙ ap (λ line. told_with_piece (g.K.Sink.written c.args.out.now) (take part.0 line)) c.as_slice.ensures; faults = counts })
+    let told = part.1 ∙ ap (λ line. told_with_piece (g.K.Sink.written c.args.out.now) (take part.0 line)) c.as_slice.ensures in
+    ends.failed part.0 c.number.ensures (record { told = told; faults = counts })
 
 pub returns-in-Err-NoMemory : goal.returns-in-Err-NoMemory
 returns-in-Err-NoMemory g c =
     let is = c.in-Err-NoMemory.field-0-is in
     let none = c.in-Err-NoMemory.ensures.no_memory (cc) in
     let counts = rw is at c.in-Err-NoMemory.ensures.faults in
-    ends.wanting (tells_then [] c.want_memory.result _ _ _ (record { told = none ∙ sym (told_nothing (g.K.Sink.written c.args.out.now)); faults = counts }) c.want_memory.ensures)
+    let told = none ∙ sym (told_nothing (g.K.Sink.written c.args.out.now)) in
+    ends.wanting (tells_then (record { told = told; faults = counts }) c.want_memory.ensures)

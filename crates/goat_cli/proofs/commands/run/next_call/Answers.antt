@@ -17,9 +17,13 @@ pub returns-else-call-eq0-clause-returned : goal.returns-else-call-eq0-clause-re
 returns-else-call-eq0-clause-returned c =
     let later : c.args.call ≢ 0 = search rules in
     let e = c.play.ensures in
-    rw (later_entry c.args.runner.now c.args.call later, later_number c.args.number c.args.call c.args.runner.now.machine later) (returns_with _ _ _ _ _ _ e.returned e.in_budget e.registers)
+    let entry = later_entry c.args.runner.now c.args.call later in
+    let number = later_number c.args.number c.args.call c.args.runner.now.machine later in
+    rw (entry, number) (returns_with _ _ _ _ _ _ e.returned e.in_budget e.registers)
 
 pub returns-else-call-eq0-clause-failed : goal.returns-else-call-eq0-clause-failed
 returns-else-call-eq0-clause-failed c =
     let later : c.args.call ≢ 0 = search rules in
-    rw (later_entry c.args.runner.now c.args.call later, later_number c.args.number c.args.call c.args.runner.now.machine later) (c.play.ensures.failed c.requires)
+    let entry = later_entry c.args.runner.now c.args.call later in
+    let number = later_number c.args.number c.args.call c.args.runner.now.machine later in
+    rw (entry, number) (c.play.ensures.failed c.requires)

@@ -8,24 +8,31 @@ pub loop-call-init : goal.loop-call-init
 loop-call-init g c = none_yet c.args.runner.now c.args.number _ c.requires.running
 
 pub returns-in-Err : goal.returns-in-Err
-returns-in-Err g c = stop_met c.args.runner.now c.args.number c.loop-call.call c.loop-call.runner c.next_call.new.runner _ _ c.loop-call.invariant c.args.frames c.in-Err.reason (search rules) c.in-Err.ensures.failed _ c.stop_refusal.ensures
+returns-in-Err g c =
+    let fails = c.in-Err.ensures.failed in
+    stop_met c.loop-call.invariant c.args.frames c.next_call.new.runner.machine c.in-Err.reason (search rules) fails c.stop_refusal.ensures
 
 pub returns-in_err-put_registers : goal.returns-in_err-put_registers
 returns-in_err-put_registers g c =
     let p = err_from_is_err_and c.from_residual.result c.from_residual.ensures.1 in
     let e = c.in_err-put_registers.ensures in
-    rw p.1 (line_over c.args.runner.now c.args.number c.loop-call.call c.loop-call.runner c.next_call.new.runner _ _ c.loop-call.invariant c.args.frames (search rules) c.in-Ok.registers c.in-Ok.ensures.returned _ _ p.0 p.2 (λ is. e.failed (ap Err is)) (λ is. e.no_memory (ap Err is)))
+    let returns = c.in-Ok.ensures.returned in
+    rw p.1 (line_over c.loop-call.invariant c.args.frames (search rules) c.next_call.new.runner.machine c.in-Ok.registers returns _ p.0 p.2
+    (λ is. e.failed (ap Err is)) (λ is. e.no_memory (ap Err is)))
 
 pub loop-call-preserved : goal.loop-call-preserved
 loop-call-preserved g c =
     let e = c.in-Ok.ensures in
-    rw (add-one c.loop-call.call) (so_far_on c.args.runner.now c.args.number c.loop-call.call c.loop-call.runner c.next_call.new.runner _ _ c.loop-call.invariant c.in-Ok.registers _ e.returned e.running e.same_init e.same_play c.in_ok-put_registers.ensures.ok)
+    let told = c.in_ok-put_registers.ensures.ok in
+    rw (add-one c.loop-call.call) (so_far_on c.loop-call.invariant c.next_call.new.runner c.in-Ok.registers e.returned
+    e.running e.same_init e.same_play told)
 
 pub returns : goal.returns
 returns g c = elim c.loop-call-test.branch [
   | else-loop-call-test w ↦ let out = w.loop-call-test.false in absurd (omega (arith, out, c.loop-call.auto.call-end))
   | then-loop-call-test+in-Ok+in_ok-put_registers+else-call-frames w ↦
       let e = w.in-Ok.ensures in
-      let so_far = so_far_on c.args.runner.now c.args.number c.loop-call.call c.loop-call.runner w.next_call.new.runner _ _ c.loop-call.invariant w.in-Ok.registers _ e.returned e.running e.same_init e.same_play w.in_ok-put_registers.ensures.ok in
-      rw w.out-is (all_played c.args.runner.now w.next_call.new.runner c.args.number c.args.frames _ _ _ so_far (omega arith))
+      let told = w.in_ok-put_registers.ensures.ok in
+      let so_far = so_far_on c.loop-call.invariant w.next_call.new.runner w.in-Ok.registers e.returned e.running e.same_init e.same_play told in
+      rw w.out-is (all_played so_far c.args.frames (omega arith))
 ]
