@@ -52,23 +52,27 @@ module _ {answer : ℕ} {s t : SinkState} where
 
 module _ {words : List (List ℕ)} {files : Files} where
   -- an outcome has the status of a stage, but for 0 and 1
-  outcome_status : {status : ℕ} {lines : List (List ℕ)} {write : Option (List ℕ × List ℕ)} → Outcome words files status lines write →
+  outcome_status : {status : ℕ} {lines : List (List ℕ)} {write : Option (List ℕ × List ℕ)} →
+      Outcome words files status lines write →
       (n : ℕ) → is_no_stage n ≡ true → n ≢ 0 → n ≢ 1 → status ≢ n
   outcome_status (outcome.usage none is l w) n test zero one same = one (sym same ∙ is)
   outcome_status {status} {lines} (outcome.ended job form first w) n test zero one same =
       let no_stage : is_no_stage status ≡ true = ap is_no_stage same ∙ test in
-      let never : true ≡ false = sym no_stage ∙ ends_with_stage files (stages job) status lines first in absurd (cc (never))
+      let never : true ≡ false = sym no_stage ∙ ends_with_stage files (stages job) status lines first in
+      absurd (cc (never))
   outcome_status (outcome.done job form pass did is) n test zero one same = zero (sym same ∙ is)
 
   -- and a file is written with status 0 alone
-  writes_if_done : {status : ℕ} {lines : List (List ℕ)} {write : Option (List ℕ × List ℕ)} → Outcome words files status lines write →
+  writes_if_done : {status : ℕ} {lines : List (List ℕ)} {write : Option (List ℕ × List ℕ)} →
+      Outcome words files status lines write →
       status ≢ 0 → write ≡ None
   writes_if_done (outcome.usage none is l w) other = w
   writes_if_done (outcome.ended job form first w) other = w
   writes_if_done (outcome.done job form pass did is) other = absurd (other is)
 
   -- under the name of the job's output
-  written_under : {text : List (List ℕ)} {name file : List ℕ} → Outcome words files 0 text (Some (name, file)) → IsDue words files 0 (Some name)
+  written_under : {text : List (List ℕ)} {name file : List ℕ} → Outcome words files 0 text (Some (name, file)) →
+      IsDue words files 0 (Some name)
   written_under (outcome.usage none zero l w) = absurd (omega (arith, zero))
   written_under (outcome.ended job form first w) = absurd (cc (w))
   written_under {text} {name} {file} (outcome.done job form pass did zero) =
@@ -84,19 +88,23 @@ module _ {words : List (List ℕ)} {files : Files} where
   writes_nothing : {lines : List (List ℕ)} (write : Option (List ℕ × List ℕ)) → Outcome words files 0 lines write →
       IsDue words files 0 None → write ≡ None
   writes_nothing None o is = refl
-  writes_nothing (Some (name, file)) o is = let never : Some name ≡ None = (one_due (written_under o) is).1 in absurd (cc (never))
+  writes_nothing (Some (name, file)) o is =
+      let never : Some name ≡ None = (one_due (written_under o) is).1 in absurd (cc (never))
 
   module _ {status : ℕ} {lines : List (List ℕ)} {before after : Option Files} where
     no_cut : Account words files status lines before after → IsCut status → ⊥
     no_cut (stands.outcome write o told) (inl ten) = outcome_status o 10 refl (λ e. omega arith) (λ e. omega arith) ten
-    no_cut (stands.outcome write o told) (inr fourteen) = outcome_status o 14 refl (λ e. omega arith) (λ e. omega arith) fourteen
+    no_cut (stands.outcome write o told) (inr fourteen) =
+        outcome_status o 14 refl (λ e. omega arith) (λ e. omega arith) fourteen
     no_cut (stands.read_fault name comes is l told) cut = cut_not 4 refl cut is
     no_cut (stands.write_fault text name file o is l part) cut = cut_not 9 refl cut is
 
-    account_done : before ≡ Some files → status ≡ 0 → Account words files status lines before after → HoldsDone words files after
+    account_done : before ≡ Some files → status ≡ 0 → Account words files status lines before after →
+        HoldsDone words files after
     account_done known zero (stands.outcome write (outcome.usage none is l w) told) = absurd (omega (arith, zero, is))
     account_done known zero (stands.outcome write (outcome.ended job form first w) told) =
-        let never : true ≡ false = ap is_no_stage (sym zero) ∙ ends_with_stage files (stages job) status lines first in absurd (cc (never))
+        let never : true ≡ false = ap is_no_stage (sym zero) ∙ ends_with_stage files (stages job) status lines first in
+        absurd (cc (never))
     account_done known zero (stands.outcome write (outcome.done job form pass did is) told) = record {
       job = job;
       form = form;
@@ -109,8 +117,10 @@ module _ {words : List (List ℕ)} {files : Files} where
     account_done known zero (stands.read_fault name comes is l told) = absurd (omega (arith, zero, is))
     account_done known zero (stands.write_fault text name file o is l part) = absurd (omega (arith, zero, is))
 
-    comes_about : before ≡ Some files → {printed printed_now : Option (List ℕ)} → printed_now ≡ told_with_piece printed (concat lines) →
-        IsOrdinary status → Account words files status lines before after → ComesAbout words files status printed printed_now after
+    comes_about : before ≡ Some files → {printed printed_now : Option (List ℕ)} →
+        printed_now ≡ told_with_piece printed (concat lines) →
+        IsOrdinary status → Account words files status lines before after →
+        ComesAbout words files status printed printed_now after
     comes_about known told_is ordinary (stands.outcome write o told) = record {
       lines = lines;
       write = write;
@@ -119,7 +129,8 @@ module _ {words : List (List ℕ)} {files : Files} where
       files_are = told ∙ ap (λ f. told_after f write) known;
     }
     comes_about known told_is ordinary (stands.read_fault name comes is l told) = absurd (ordinary.no_read_fault is)
-    comes_about known told_is ordinary (stands.write_fault text name file o is l part) = absurd (ordinary.no_write_fault is)
+    comes_about known told_is ordinary (stands.write_fault text name file o is l part) =
+        absurd (ordinary.no_write_fault is)
 
     stays_before : IsBeforeWriting status → Account words files status lines before after → after ≡ before
     stays_before early (stands.outcome write o told) =
@@ -127,7 +138,8 @@ module _ {words : List (List ℕ)} {files : Files} where
     stays_before early (stands.read_fault name comes is l told) = told
     stays_before early (stands.write_fault text name file o is l part) = absurd (early.no_write_fault is)
 
-    account_due : {n : ℕ} (output : Option (List ℕ)) → IsDue words files n output → Account words files status lines before after →
+    account_due : {n : ℕ} (output : Option (List ℕ)) → IsDue words files n output →
+        Account words files status lines before after →
         IsOneOf (n ∷ instead output) status
     account_due output is (stands.outcome write o told) = inl (one_due (outcome_due o).1 is).0
     account_due None is (stands.read_fault name comes four l told) = inr (inl four)
@@ -136,10 +148,14 @@ module _ {words : List (List ℕ)} {files : Files} where
         subst (λ o. IsOneOf (n ∷ instead o) status) (sym (one_due is (written_under o)).1) (inr (inr (inl nine)))
 
     account_usage : Account words files status lines before after → ComesWhere (IsNoForm words) status 1 (10 ∷ 14 ∷ [])
-    account_usage (stands.outcome write (outcome.usage none is l w) told) = record { only = λ one. none; always = λ p. inl is }
+    account_usage (stands.outcome write (outcome.usage none is l w) told) = record {
+      only = λ one. none;
+      always = λ p. inl is;
+    }
     account_usage (stands.outcome write (outcome.ended job form first w) told) = record {
       only = λ one.
-          let never : true ≡ false = ap is_no_stage (sym one) ∙ ends_with_stage files (stages job) status lines first in absurd (cc (never));
+          let never : true ≡ false = ap is_no_stage (sym one) ∙ ends_with_stage files (stages job) status lines first in
+          absurd (cc (never));
       always = λ none. absurd (none job form);
     }
     account_usage (stands.outcome write (outcome.done job form pass did is) told) =
@@ -147,12 +163,16 @@ module _ {words : List (List ℕ)} {files : Files} where
     account_usage (stands.read_fault name comes is l told) =
         record { only = λ one. absurd (omega (arith, one, is)); always = λ none. absurd (none comes.job comes.form) }
     account_usage (stands.write_fault text name file o is l part) =
-        record { only = λ one. absurd (omega (arith, one, is)); always = λ none. absurd (writes_of_form (written_under o) none) }
+        record {
+          only = λ one. absurd (omega (arith, one, is));
+          always = λ none. absurd (writes_of_form (written_under o) none);
+        }
 
 -- ---- what stands
 
 -- all lines were printed
-record Whole (words : List (List ℕ)) (files : Files) (answer : ℕ) (folder after : FolderState) (s t : SinkState) : Type 0 where
+record Whole (words : List (List ℕ)) (files : Files) (answer : ℕ) (folder after : FolderState)
+    (s t : SinkState) : Type 0 where
   lines : List (List ℕ)
   account : Account words files answer lines folder.told after.told
   counted : Counted answer folder.counts after.counts
@@ -177,7 +197,8 @@ module _ {words : List (List ℕ)} {files : Files} {answer : ℕ} {folder after 
   whole_or_cut (stands.wanting earlier later line printing tells) = inr (wants tells)
   whole_or_cut (stands.wanting_first stays tells) = inr (wants tells)
 
-  holds_done : folder.told ≡ Some files → Stands words files answer folder after s t → answer ≡ 0 → HoldsDone words files after.told
+  holds_done : folder.told ≡ Some files → Stands words files answer folder after s t → answer ≡ 0 →
+      HoldsDone words files after.told
   holds_done known is zero = elim (whole_or_cut is) [
     | inl whole ↦ account_done known zero whole.account
     | inr cut ↦ absurd (cut_not 0 refl cut zero)
@@ -190,7 +211,8 @@ module _ {words : List (List ℕ)} {files : Files} {answer : ℕ} {folder after 
     | inr cut ↦ absurd (not_cut ordinary.no_sink_fault ordinary.no_want cut)
   ]
 
-  comes_due : Stands words files answer folder after s t → (n : ℕ) (output : Option (List ℕ)) → IsDue words files n output →
+  comes_due : Stands words files answer folder after s t → (n : ℕ) (output : Option (List ℕ)) →
+      IsDue words files n output →
       IsOneOf (n ∷ instead output) answer
   comes_due is n output due = elim (whole_or_cut is) [
     | inl whole ↦ account_due output due whole.account
@@ -223,7 +245,8 @@ module _ {words : List (List ℕ)} {files : Files} {answer : ℕ} {folder after 
   ]
 
   -- a packed file is run to its end, and prints its song's trace
-  run_of_packed : folder.told ≡ Some files → Stands words files answer folder after s t → (song : Song) (subtune frames : ℕ) →
+  run_of_packed : folder.told ≡ Some files → Stands words files answer folder after s t →
+      (song : Song) (subtune frames : ℕ) →
       RunsPacked words files song subtune frames → IsOneOf (0 ∷ 4 ∷ 10 ∷ 14 ∷ []) answer ×
       (answer ≡ 0 → t.told ≡ told_with_piece s.told (register_text (first_traces song (subtune - 1) (frames + 1))))
   run_of_packed known is song subtune frames runs = (
@@ -239,7 +262,9 @@ module _ {words : List (List ℕ)} {files : Files} {answer : ℕ} {folder after 
         let came = outcome_is known is ordinary in
         let mine = subst (λ n. Outcome words files n came.lines came.write) zero came.outcome in
         let write = writes_nothing came.write mine (packed_file_is_due words files song subtune frames runs) in
-        let same = one_text (subst (Outcome words files 0 came.lines) write mine) (packed_file_plays words files song subtune frames runs) in
+        let same =
+        one_text (subst (Outcome words files 0 came.lines) write mine)
+        (packed_file_plays words files song subtune frames runs) in
         came.appended ∙ ap (λ lines. told_with_piece s.told (concat lines)) same),
   )
 
@@ -250,15 +275,19 @@ for_told : (told : Option Files) (files : Files) (P Q : Files → Type 0) → Ar
 for_told None files P Q are holds f = tt
 for_told (Some known) files P Q are holds f = f known refl (subst P are holds)
 
-module _ {words : List (List ℕ)} {answer : ℕ} {folder after : FolderState} {s t : SinkState} (run : RunStands words answer folder after s t) where
-  told_case : (Q : Files → Type 0) → ((files : Files) → folder.told ≡ Some files → Stands words files answer folder after s t → Q files) →
+module _ {words : List (List ℕ)} {answer : ℕ} {folder after : FolderState} {s t : SinkState}
+    (run : RunStands words answer folder after s t) where
+  told_case : (Q : Files → Type 0) →
+      ((files : Files) → folder.told ≡ Some files → Stands words files answer folder after s t → Q files) →
       IfSome folder.told Q
-  told_case Q f = for_told folder.told run.files (λ files. Stands words files answer folder after s t) Q run.are_files run.stands f
+  told_case Q f =
+      for_told folder.told run.files (λ files. Stands words files answer folder after s t) Q run.are_files run.stands f
 
   pub headline : IfSome folder.told (λ files. answer ≡ 0 → HoldsDone words files after.told)
   headline = told_case _ (λ files known is. holds_done known is)
 
-  pub outcome_comes : IfSome folder.told (λ files. IsOrdinary answer → ComesAbout words files answer s.told t.told after.told)
+  pub outcome_comes : IfSome folder.told
+      (λ files. IsOrdinary answer → ComesAbout words files answer s.told t.told after.told)
   outcome_comes = told_case _ (λ files known is. outcome_is known is)
 
   pub due_comes : IfSome folder.told (λ files. (n : ℕ) (output : Option (List ℕ)) → IsDue words files n output →
@@ -277,7 +306,8 @@ module _ {words : List (List ℕ)} {answer : ℕ} {folder after : FolderState} {
   pub files_stay : IsBeforeWriting answer → after.told ≡ folder.told
   files_stay = early_stays run.stands
 
-  pub packed_plays : IfSome folder.told (λ files. (song : Song) (subtune frames : ℕ) → RunsPacked words files song subtune frames →
+  pub packed_plays : IfSome folder.told
+      (λ files. (song : Song) (subtune frames : ℕ) → RunsPacked words files song subtune frames →
       IsOneOf (0 ∷ 4 ∷ 10 ∷ 14 ∷ []) answer ×
       (answer ≡ 0 → t.told ≡ told_with_piece s.told (register_text (first_traces song (subtune - 1) (frames + 1)))))
   packed_plays = told_case _ (λ files known is. run_of_packed known is)

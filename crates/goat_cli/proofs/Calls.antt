@@ -25,9 +25,15 @@ use Rattle.goat_cli.proofs.Told.{appends_nothing, appends_both, appends_none, fa
 
 -- what the runner says of a call that returned
 pub returns_with : (machine after : Machine) (entry number steps : ℕ) (r : Result (List ℕ) CallStop) →
-    OnOk r (Called machine entry number steps after) → OnOk r (steps ≤ most_steps) → IfOk r (λ registers. registers ≡ sid_registers after) →
+    OnOk r (Called machine entry number steps after) → OnOk r (steps ≤ most_steps) →
+    IfOk r (λ registers. registers ≡ sid_registers after) →
     IfOk r (λ registers. ReturnsTo machine entry number registers after)
-returns_with machine after entry number steps (Ok registers) called within are = record { steps = steps; within = within; called = called; registers_are = sym are }
+returns_with machine after entry number steps (Ok registers) called within are = record {
+  steps = steps;
+  within = within;
+  called = called;
+  registers_are = sym are;
+}
 returns_with machine after entry number steps (Err reason) called within are = tt
 
 -- a call with a number other than 0 is play
@@ -35,7 +41,8 @@ pub later_entry : (file : RunnerState) (call : ℕ) → call ≢ 0 → entry_of 
 later_entry file zero later = absurd (later refl)
 later_entry file (suc call) later = refl
 
-pub later_number : (subtune call : ℕ) (machine : Machine) → call ≢ 0 → accumulator_of subtune call machine ≡ machine.cpu.a
+pub later_number : (subtune call : ℕ) (machine : Machine) → call ≢ 0 →
+    accumulator_of subtune call machine ≡ machine.cpu.a
 later_number subtune zero machine later = absurd (later refl)
 later_number subtune (suc call) machine later = refl
 
@@ -51,7 +58,8 @@ module _ {m : Machine} {entry number : ℕ} where
       cc (both)
 
   -- and not at all where it fails
-  returns_or_fails : {registers : List ℕ} {after : Machine} (after' : Machine) (reason : CallStop) → ReturnsTo m entry number registers after →
+  returns_or_fails : {registers : List ℕ} {after : Machine} (after' : Machine) (reason : CallStop) →
+      ReturnsTo m entry number registers after →
       FailsBy m entry number most_steps reason after' → ⊥
   returns_or_fails {after} after' reason p fails =
       let never : Ok 0 ≡ Err reason =
@@ -63,7 +71,8 @@ fails_once : (m : Machine) (entry number : ℕ) (after after' : Machine) (reason
     FailsBy m entry number most_steps reason after → FailsBy m entry number most_steps reason' after' → reason ≡ reason'
 fails_once m entry number after after' (Stopped stop) reason' p q =
     stopped_fails m entry number most_steps p.0 stop after after' reason' p.2 p.1 q
-fails_once m entry number after after' Budget reason' p q = under_way_fails m entry number most_steps after after' reason' p q
+fails_once m entry number after after' Budget reason' p q =
+    under_way_fails m entry number most_steps after after' reason' p q
 
 -- ---- the first calls
 
@@ -76,16 +85,19 @@ module _ (file : RunnerState) (subtune : ℕ) where
   Returns call before last after = ReturnsTo before (entry_of file call) (accumulator_of subtune call before) last after
 
   abbrev Fails : ℕ → Machine → CallStop → Machine → Type 0
-  Fails call before reason after = FailsBy before (entry_of file call) (accumulator_of subtune call before) most_steps reason after
+  Fails call before reason after =
+      FailsBy before (entry_of file call) (accumulator_of subtune call before) most_steps reason after
 
-  pub as_many_registers : (calls : ℕ) (registers : List (List ℕ)) (machine : Machine) → FirstCalls file subtune calls registers machine →
+  pub as_many_registers : (calls : ℕ) (registers : List (List ℕ)) (machine : Machine) →
+      FirstCalls file subtune calls registers machine →
       length registers ≡ calls
   as_many_registers zero registers machine first = ap length first.0
   as_many_registers (suc calls) registers machine (earlier, before, last, first, returns, are) =
       let more = ap (λ n. n + 1) (as_many_registers calls earlier before first) in
       ap length are ∙ length-append earlier (last ∷ []) ∙ more ∙ add-one calls
 
-  one_machine : (calls : ℕ) (registers registers' : List (List ℕ)) (machine machine' : Machine) → First calls registers machine →
+  one_machine : (calls : ℕ) (registers registers' : List (List ℕ)) (machine machine' : Machine) →
+      First calls registers machine →
       First calls registers' machine' → machine ≡ machine'
   one_machine zero registers registers' machine machine' p q = p.1 ∙ sym q.1
   one_machine (suc calls) registers registers' machine machine' p q =
@@ -93,7 +105,8 @@ module _ (file : RunnerState) (subtune : ℕ) where
       returns_once (subst (λ before. Returns calls before p.2 machine) same p.4) q.4
 
   pub one_list : (calls : ℕ) (registers registers' : List (List ℕ)) (machine machine' : Machine) →
-      FirstCalls file subtune calls registers machine → FirstCalls file subtune calls registers' machine' → registers ≡ registers'
+      FirstCalls file subtune calls registers machine → FirstCalls file subtune calls registers' machine' →
+      registers ≡ registers'
   one_list zero registers registers' machine machine' p q = p.0 ∙ sym q.0
   one_list (suc calls) registers registers' machine machine' p q =
       let same = one_list calls p.0 q.0 p.1 q.1 p.3 q.3 in
@@ -110,7 +123,8 @@ module _ (file : RunnerState) (subtune : ℕ) where
     after : Machine
     returns : Returns call before last after
 
-  returned_before : (calls call : ℕ) (registers : List (List ℕ)) (machine : Machine) → First calls registers machine → call < calls →
+  returned_before : (calls call : ℕ) (registers : List (List ℕ)) (machine : Machine) → First calls registers machine →
+      call < calls →
       Returned call
   returned_before zero call registers machine first inside = absurd (omega arith)
   returned_before (suc calls) call registers machine (earlier, before, last, first, returns, are) inside =
@@ -122,8 +136,10 @@ module _ (file : RunnerState) (subtune : ℕ) where
       ]
 
   -- none of them meets a stop
-  pub returned_or_stopped : (calls call : ℕ) (registers registers' : List (List ℕ)) (machine : Machine) (reason : CallStop) →
-      FirstCalls file subtune calls registers machine → call < calls → MeetsStopAt file subtune call registers' reason → ⊥
+  pub returned_or_stopped : (calls call : ℕ) (registers registers' : List (List ℕ)) (machine : Machine)
+      (reason : CallStop) →
+      FirstCalls file subtune calls registers machine → call < calls → MeetsStopAt file subtune call registers' reason →
+      ⊥
   returned_or_stopped calls call registers registers' machine reason first inside meets =
       let r = returned_before calls call registers machine first inside in
       let same = one_machine call r.registers registers' r.before meets.before r.calls meets.calls in
@@ -142,16 +158,19 @@ module _ (file : RunnerState) (subtune : ℕ) where
   ]
 
   pub one_reason : {call : ℕ} {registers registers' : List (List ℕ)} {reason reason' : CallStop} →
-      MeetsStopAt file subtune call registers reason → MeetsStopAt file subtune call registers' reason' → reason ≡ reason'
+      MeetsStopAt file subtune call registers reason → MeetsStopAt file subtune call registers' reason' →
+      reason ≡ reason'
   one_reason {call} {registers} {registers'} {reason} {reason'} p q =
       let same = one_machine call registers registers' p.before q.before p.calls q.calls in
       let moved = subst (λ before. Fails call before reason p.after) same p.fails in
-      fails_once q.before (entry_of file call) (accumulator_of subtune call q.before) p.after q.after reason reason' moved q.fails
+      fails_once q.before (entry_of file call) (accumulator_of subtune call q.before) p.after q.after reason reason'
+      moved q.fails
 
 -- ---- their lines
 
 lines-append : (call : ℕ) (registers : List (List ℕ)) (last : List ℕ) →
-    lines_from call (registers ++ last ∷ []) ≡ lines_from call registers ++ register_line (call + length registers) last ∷ []
+    lines_from call (registers ++ last ∷ []) ≡ lines_from call registers ++ register_line (call + length registers) last
+    ∷ []
 lines-append call [] last = let z : call + 0 ≡ call = omega arith in rw z refl
 lines-append call (first ∷ rest) last =
     let z : call + 1 + length rest ≡ call + suc (length rest) = omega arith in
@@ -159,7 +178,8 @@ lines-append call (first ∷ rest) last =
     ∙ ap (λ n. (register_line call first ∷ lines_from (call + 1) rest) ++ register_line n last ∷ []) z
 
 -- the calls so far returned and their lines are printed
-pub record CallsSoFar (file : RunnerState) (subtune calls : ℕ) (now : RunnerState) (before after : SinkState) : Type 0 where
+pub record CallsSoFar (file : RunnerState) (subtune calls : ℕ) (now : RunnerState)
+    (before after : SinkState) : Type 0 where
   pub registers : List (List ℕ)
   pub returned : FirstCalls file subtune calls registers now.machine
   pub running : now.stopped ≡ None
@@ -176,7 +196,8 @@ module _ {file : RunnerState} {subtune calls : ℕ} {now : RunnerState} {before 
     (so_far : CallsSoFar file subtune calls now before after) where
   -- the call that comes next returns
   abbrev NextReturns : List ℕ → Machine → Type 0
-  NextReturns last machine = ReturnsTo now.machine (entry_of now calls) (accumulator_of subtune calls now.machine) last machine
+  NextReturns last machine =
+      ReturnsTo now.machine (entry_of now calls) (accumulator_of subtune calls now.machine) last machine
 
   -- their lines, with that of the next call
   abbrev lines : List (List ℕ)
@@ -188,7 +209,8 @@ module _ {file : RunnerState} {subtune calls : ℕ} {now : RunnerState} {before 
       let z : 0 + length so_far.registers ≡ calls = omega (arith, many) in
       lines-append 0 so_far.registers last ∙ ap (λ n. lines ++ register_line n last ∷ []) z
 
-  text_on : (last : List ℕ) → concat (register_lines (so_far.registers ++ last ∷ [])) ≡ concat lines ++ register_line calls last
+  text_on : (last : List ℕ) →
+      concat (register_lines (so_far.registers ++ last ∷ [])) ≡ concat lines ++ register_line calls last
   text_on last =
       let text = concat-append lines (register_line calls last ∷ []) in
       ap concat (lines_on last) ∙ text ∙ ap (λ t. concat lines ++ t) (append-nil (register_line calls last))
@@ -198,12 +220,14 @@ module _ {file : RunnerState} {subtune calls : ℕ} {now : RunnerState} {before 
       FirstCalls file subtune (suc calls) (so_far.registers ++ last ∷ []) machine
   calls_on last machine returns =
       let same = same_entry file now calls so_far.same_init so_far.same_play in
-      let moved = subst (λ e. ReturnsTo now.machine e (accumulator_of subtune calls now.machine) last machine) same returns in
+      let moved =
+      subst (λ e. ReturnsTo now.machine e (accumulator_of subtune calls now.machine) last machine) same returns in
       (so_far.registers, now.machine, last, so_far.returned, moved, refl)
 
   pub so_far_on : (later : RunnerState) (last : List ℕ) {shown : SinkState} →
       ReturnsTo now.machine (entry_of now calls) (accumulator_of subtune calls now.machine) last later.machine →
-      later.stopped ≡ None → later.init ≡ now.init → later.play ≡ now.play → Appends (register_line calls last) after shown →
+      later.stopped ≡ None → later.init ≡ now.init → later.play ≡ now.play →
+      Appends (register_line calls last) after shown →
       CallsSoFar file subtune (suc calls) later before shown
   so_far_on later last {shown} returns running init play told = record {
     registers = so_far.registers ++ last ∷ [];
@@ -218,33 +242,40 @@ module _ {file : RunnerState} {subtune calls : ℕ} {now : RunnerState} {before 
   pub line_over : (frames : ℕ) → calls ≤ frames → (machine : Machine) (last : List ℕ) →
       ReturnsTo now.machine (entry_of now calls) (accumulator_of subtune calls now.machine) last machine →
       {shown : SinkState} (fault : SinkFault) (it : Refusal) → IsOfSink fault it →
-      (fault ≡ sink.Failed → FailsIn (register_line calls last) after shown) → (fault ≡ sink.NoMemory → Appends [] after shown) →
+      (fault ≡ sink.Failed → FailsIn (register_line calls last) after shown) →
+      (fault ≡ sink.NoMemory → Appends [] after shown) →
       CallsEnd file subtune frames (last_of it) before shown
   line_over frames within machine last returns sink.Failed it is fails none =
       let failing = fails refl in
       rw is (failed (suc calls) failing.kept lines (register_line calls last) (so_far.registers ++ last ∷ []) machine
-      (omega (arith, within)) (calls_on last machine returns) (lines_on last) refl (fails_then so_far.printed failing.fails))
+      (omega (arith, within)) (calls_on last machine returns) (lines_on last) refl
+      (fails_then so_far.printed failing.fails))
   line_over frames within machine last returns sink.NoMemory it is fails none =
       rw is (wanting (suc calls) lines (register_line calls last) (so_far.registers ++ last ∷ []) machine
-      (omega (arith, within)) (calls_on last machine returns) (lines_on last) refl (appends_none so_far.printed (none refl)))
+      (omega (arith, within)) (calls_on last machine returns) (lines_on last) refl
+      (appends_none so_far.printed (none refl)))
 
   pub stop_met : (frames : ℕ) (machine : Machine) (reason : CallStop) → calls ≤ frames →
       FailsBy now.machine (entry_of now calls) (accumulator_of subtune calls now.machine) most_steps reason machine →
       {last : Last} → last ≡ Says 13 (stop_line reason calls) → CallsEnd file subtune frames last before after
   stop_met frames machine reason within fails says =
       let same = same_entry file now calls so_far.same_init so_far.same_play in
-      let moved = subst (λ e. FailsBy now.machine e (accumulator_of subtune calls now.machine) most_steps reason machine) same fails in
+      let moved =
+      subst (λ e. FailsBy now.machine e (accumulator_of subtune calls now.machine) most_steps reason machine) same
+      fails in
       stopped calls so_far.registers reason within
       (record { before = now.machine; calls = so_far.returned; after = machine; fails = moved }) says so_far.printed
 
   -- all calls returned
   pub all_played : (frames : ℕ) → calls ≡ frames + 1 → CallsEnd file subtune frames SaysNothing before after
   all_played frames is =
-      played so_far.registers now.machine (subst (λ n. FirstCalls file subtune n so_far.registers now.machine) is so_far.returned)
+      played so_far.registers now.machine
+      (subst (λ n. FirstCalls file subtune n so_far.registers now.machine) is so_far.returned)
       refl so_far.printed
 
 -- no call was made yet
-pub none_yet : (file : RunnerState) (subtune : ℕ) (sink : SinkState) → file.stopped ≡ None → CallsSoFar file subtune 0 file sink sink
+pub none_yet : (file : RunnerState) (subtune : ℕ) (sink : SinkState) → file.stopped ≡ None →
+    CallsSoFar file subtune 0 file sink sink
 none_yet file subtune sink running = record {
   registers = [];
   returned = (refl, refl);

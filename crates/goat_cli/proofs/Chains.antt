@@ -40,14 +40,18 @@ pass_more files (first ∷ rest) stage pass last = (pass.0, pass_more files rest
 
 module _ {job : Job} {folder after : FolderState} where
   -- the file that a job begins with was read
-  pub begun : {name bytes : List ℕ} {limit : ℕ} {rest : List Stage} → stages job ≡ IsThere name ∷ Fits name limit ∷ rest →
+  pub begun : {name bytes : List ℕ} {limit : ℕ} {rest : List Stage} →
+      stages job ≡ IsThere name ∷ Fits name limit ∷ rest →
       (was : WasRead name limit folder after bytes) → At job was.files folder after rest
   begun {name} {bytes} {limit} are was = record {
     are_files = was.are_files;
     stays = was.stays;
     met = IsThere name ∷ Fits name limit ∷ [];
     stages_are = are;
-    pass = (met_passes was.files (IsThere name) (bytes, was.found), (met_passes was.files (Fits name limit) (bytes, was.found, was.fits), tt));
+    pass = (
+      met_passes was.files (IsThere name) (bytes, was.found),
+      (met_passes was.files (Fits name limit) (bytes, was.found, was.fits), tt),
+    );
   }
 
   module _ {files : Files} where
@@ -63,7 +67,8 @@ module _ {job : Job} {folder after : FolderState} where
     }
 
     -- or it refuses
-    pub refused : {stage : Stage} {rest : List Stage} {last : Last} (sink : SinkState) → At job files folder after (stage ∷ rest) →
+    pub refused : {stage : Stage} {rest : List Stage} {last : Last} (sink : SinkState) →
+        At job files folder after (stage ∷ rest) →
         is_uncounted (status_of stage) ≡ true → Refuses files stage last → JobEnds job last folder after sink sink
     refused {stage} {rest} sink at free (ends.ends line is says) =
         let counted = uncounted free at.stays.counts in
@@ -75,23 +80,30 @@ module _ {job : Job} {folder after : FolderState} where
     all_met at = subst (AllPass files) (sym (at.stages_are ∙ append-nil at.met)) at.pass
 
 -- the file of a job was written, or not
-module _ {job : Job} {folder between after : FolderState} {files : Files} {output file : List ℕ} (sink : SinkState) where
-  pub written : {last : Last} → At job files folder between [] → Done job files (wrote_line (length file) ∷ []) (Some (output, file)) →
+module _ {job : Job} {folder between after : FolderState} {files : Files} {output file : List ℕ}
+    (sink : SinkState) where
+  pub written : {last : Last} → At job files folder between [] →
+      Done job files (wrote_line (length file) ∷ []) (Some (output, file)) →
       WriteEnds output file between after last → JobEnds job last folder after sink sink
   written at did (ends.wrote says told counted) =
       let files_are = told ∙ ap (λ t. told_after t (Some (output, file))) at.stays.told in
-      rw says (has_last sink at.are_files (λ words form. stands.outcome (Some (output, file)) (outcome.done job form (all_met at) did refl) files_are)
+      rw says
+      (has_last sink at.are_files
+      (λ words form.
+      stands.outcome (Some (output, file)) (outcome.done job form (all_met at) did refl) files_are)
       (counted_on at.stays.counts counted))
   written at did (ends.failed says part counted) =
       let part_of = subst (λ t. IsWrittenInPart t after.told output file) at.stays.told part in
       rw says (has_last sink at.are_files (λ words form.
-      stands.write_fault (wrote_line (length file) ∷ []) output file (outcome.done job form (all_met at) did refl) refl refl part_of)
+      stands.write_fault (wrote_line (length file) ∷ []) output file (outcome.done job form (all_met at) did refl) refl
+      refl part_of)
       (counted_on at.stays.counts counted))
   written at did (ends.wanting wants more) = rw wants (wants_first sink (stays_on at.stays more))
 
 -- ---- the files that a run has read
 
-module _ {name bytes : List ℕ} {limit : ℕ} {folder after : FolderState} (was : WasRead name limit folder after bytes) where
+module _ {name bytes : List ℕ} {limit : ℕ} {folder after : FolderState}
+    (was : WasRead name limit folder after bytes) where
   pub song_held : {song : Song} → Spells bytes song → HoldsSong was.files name song
   song_held spells = record { bytes = bytes; found = was.found; spells = spells }
 
@@ -101,40 +113,62 @@ module _ {name bytes : List ℕ} {limit : ℕ} {folder after : FolderState} (was
 -- ---- the calls of `run`
 
 module _ {input : List ℕ} {subtune frames : ℕ} {files : Files} {folder after : FolderState} {psid : Psid}
-    (at : At (Run input subtune frames) files folder after (CallsReturn input subtune frames ∷ [])) (holds : HoldsPsid files input psid) where
+    (at : At (Run input subtune frames) files folder after (CallsReturn input subtune frames ∷ []))
+    (holds : HoldsPsid files input psid) where
   -- the first calls, which have returned
   printing : {calls : ℕ} (registers : List (List ℕ)) (machine : Machine) → calls ≤ frames + 1 →
-      FirstCalls (loaded psid) (subtune - 1) calls registers machine → {lines : List (List ℕ)} → lines ≡ register_lines registers →
+      FirstCalls (loaded psid) (subtune - 1) calls registers machine → {lines : List (List ℕ)} →
+      lines ≡ register_lines registers →
       (words : List (List ℕ)) → WordsOf words (Run input subtune frames) → IsPrinting words files lines
   printing {calls} registers machine within first {lines} are words form = record {
     stage = CallsReturn input subtune frames;
-    comes = record { job = Run input subtune frames; form = form; earlier = at.met; later = []; stages_are = at.stages_are; pass = at.pass };
-    prints = (psid, holds, calls, within, record { registers = registers; after = machine; returned = first; lines_are = are });
+    comes = record {
+      job = Run input subtune frames;
+      form = form;
+      earlier = at.met;
+      later = [];
+      stages_are = at.stages_are;
+      pass = at.pass;
+    };
+    prints = (
+      psid,
+      holds,
+      calls,
+      within,
+      record { registers = registers; after = machine; returned = first; lines_are = are },
+    );
   }
 
-  over : {last : Last} {s t : SinkState} → ((words : List (List ℕ)) → WordsOf words (Run input subtune frames) → IsOver words files last folder after s t) →
+  over : {last : Last} {s t : SinkState} →
+      ((words : List (List ℕ)) → WordsOf words (Run input subtune frames) → IsOver words files last folder after s t) →
       JobEnds (Run input subtune frames) last folder after s t
   over is = record { ends = λ words form. record { files = files; are_files = at.are_files; is_over = is words form } }
 
-  pub calls_over : {last : Last} {s t : SinkState} → CallsEnd (loaded psid) (subtune - 1) frames last s t → JobEnds (Run input subtune frames) last folder after s t
+  pub calls_over : {last : Last} {s t : SinkState} → CallsEnd (loaded psid) (subtune - 1) frames last s t →
+      JobEnds (Run input subtune frames) last folder after s t
   calls_over (ends.played registers machine first is shown) =
       let pass = all_met (met_next at (psid, holds, registers, machine, first)) in
-      let shows : Shows psid subtune (frames + 1) (register_lines registers) = record { registers = registers; after = machine; returned = first; lines_are = refl } in
+      let shows : Shows psid subtune (frames + 1) (register_lines registers) =
+      record { registers = registers; after = machine; returned = first; lines_are = refl } in
       rw is (over (λ words form. record {
         lines = register_lines registers;
-        account = stands.outcome None (outcome.done (Run input subtune frames) form pass ((psid, holds, shows), refl) refl)
+        account =
+            stands.outcome None (outcome.done (Run input subtune frames) form pass ((psid, holds, shows), refl) refl)
             (at.stays.told ∙ as_before folder.told);
         counted = at.stays.counts;
         appends = shown;
       }))
   calls_over (ends.stopped call registers reason within meets is shown) =
       let lines = register_lines registers ++ stop_line reason call ∷ [] in
-      let stop : StopsIn psid subtune frames = record { call = call; within = within; registers = registers; reason = reason; meets = meets } in
+      let stop : StopsIn psid subtune frames =
+      record { call = call; within = within; registers = registers; reason = reason; meets = meets } in
       let first = subst (λ list. FirstEnds files list 13 lines) (sym at.stages_are)
       (first_ends files at.met [] (CallsReturn input subtune frames) lines at.pass (psid, holds, stop, refl)) in
       rw is (over (λ words form. record {
         earlier = register_lines registers;
-        account = stands.outcome None (outcome.ended (Run input subtune frames) form first refl) (at.stays.told ∙ as_before folder.told);
+        account =
+            stands.outcome None (outcome.ended (Run input subtune frames) form first refl)
+            (at.stays.told ∙ as_before folder.told);
         counted = uncounted refl at.stays.counts;
         appends = shown;
       }))
@@ -149,4 +183,8 @@ module _ {input : List ℕ} {subtune frames : ℕ} {files : Files} {folder after
         fails = fails;
       }))
   calls_over (ends.wanting calls earlier line registers machine within first lines_are is appends) =
-      rw is (over (λ words form. ends.for_line earlier [] line (printing registers machine within first (sym lines_are) words form) at.stays appends))
+      rw is
+      (over
+      (λ words form.
+      ends.for_line earlier [] line (printing registers machine within first (sym lines_are) words form)
+      at.stays appends))

@@ -23,14 +23,17 @@ init_trace : (song : Song) (k : ℕ) → trace song k 0 ≡ replicate 25 0
 unfolding trace
 init_trace song k = refl
 
-module _ (image : List ℕ) (address zero_page : ℕ) (song : Song) (init : InitIsSilent image address) (play : PlayIsSilent image address) (silent : IsSilent song) where
-  still_held : (before machine : Machine) → Holds before.memory address image → AgreesOn image address before machine → Holds machine.memory address image
+module _ (image : List ℕ) (address zero_page : ℕ) (song : Song) (init : InitIsSilent image address)
+    (play : PlayIsSilent image address) (silent : IsSilent song) where
+  still_held : (before machine : Machine) → Holds before.memory address image → AgreesOn image address before machine →
+      Holds machine.memory address image
   still_held before machine holds agrees = record { byte = λ k inside. agrees.same k inside ∙ holds.byte k inside }
 
   play_trace : (i : ℕ) → trace song 0 (suc i) ≡ silent_registers
   play_trace i = rw (← add-one i) (silent_songs_lem song silent i)
 
-  plays_on : (n i : ℕ) (before : Machine) → Holds before.memory address image → PlaysOn image address zero_page song 0 (suc i) n before
+  plays_on : (n i : ℕ) (before : Machine) → Holds before.memory address image →
+      PlaysOn image address zero_page song 0 (suc i) n before
   plays_on zero i before holds = tt
   plays_on (suc n) i before holds = λ machine number is small agrees.
       let returns = play machine number zero_page is (still_held before machine holds agrees) in (
@@ -46,9 +49,17 @@ module _ (image : List ℕ) (address zero_page : ℕ) (song : Song) (init : Init
       )
 
   one_playable : (k : ℕ) → k < length (playable_subtunes song) → k ≡ 0
-  one_playable k inside = omega (arith, length-filter is_playable_subtune song.subtunes, count_by-le-length is_playable_subtune song.subtunes, silent.one_subtune)
+  one_playable k inside =
+      omega (
+        arith,
+        length-filter is_playable_subtune song.subtunes,
+        count_by-le-length is_playable_subtune song.subtunes,
+        silent.one_subtune,
+      )
 
-  begins : (n : ℕ) (machine : Machine) → IsMachine machine → Holds machine.memory address image → (after : Machine) × Leaves image address zero_page machine address 0 (trace song 0 0) after × PlaysOn image address zero_page song 0 1 n after
+  begins : (n : ℕ) (machine : Machine) → IsMachine machine → Holds machine.memory address image →
+      (after : Machine) × Leaves image address zero_page machine address 0 (trace song 0 0) after ×
+      PlaysOn image address zero_page song 0 1 n after
   begins n machine is holds =
       let returns = init machine 0 zero_page is holds in (
         returns.after,
@@ -65,13 +76,18 @@ module _ (image : List ℕ) (address zero_page : ℕ) (song : Song) (init : Init
   pub faithful_silence : IsFaithful image address zero_page song
   faithful_silence = record {
     plays = λ k n machine inside is holds.
-        subst (λ j. (after : Machine) × Leaves image address zero_page machine address j (trace song j 0) after × PlaysOn image address zero_page song j 1 n after)
+        subst
+        (λ j.
+        (after : Machine) × Leaves image address zero_page machine address j (trace song j 0) after ×
+        PlaysOn image address zero_page song j 1 n after)
         (sym (one_playable k inside)) (begins n machine is holds);
   }
 
 -- a file of the silent player packs a silent song
-pub packs_silence : (psid : Bool) (address : ℕ) (image file : List ℕ) (song : Song) → IsSilent song → IsAddress address → file ≡ packed_file psid song address image → image ≡ silent_image address →
-    InitIsSilent image address → PlayIsSilent image address → (zero_page : ℕ) → IsPackedFile psid address zero_page song file
+pub packs_silence : (psid : Bool) (address : ℕ) (image file : List ℕ) (song : Song) → IsSilent song →
+    IsAddress address → file ≡ packed_file psid song address image → image ≡ silent_image address →
+    InitIsSilent image address → PlayIsSilent image address → (zero_page : ℕ) →
+    IsPackedFile psid address zero_page song file
 packs_silence psid address image file song silent place holds is init play zero_page =
     let small : length image ≤ 64 = subst (λ b. length b ≤ 64) (sym is) (lit≤ tt) in
     record {
@@ -82,7 +98,8 @@ packs_silence psid address image file song silent place holds is init play zero_
       faithful = faithful_silence image address zero_page song init play silent;
     }
 
-playable_once : (patterns : List (List Row)) (subtunes : List Subtune) → length subtunes ≡ 1 → All (IsSilentSubtune patterns) subtunes → length (filter is_playable_subtune subtunes) ≡ 1
+playable_once : (patterns : List (List Row)) (subtunes : List Subtune) → length subtunes ≡ 1 →
+    All (IsSilentSubtune patterns) subtunes → length (filter is_playable_subtune subtunes) ≡ 1
 playable_once patterns [] one all = absurd (omega arith)
 playable_once patterns (s ∷ []) one all = rw (silent_is_playable patterns s (all 0 s (lit≤ tt))) refl
 playable_once patterns (s ∷ t ∷ rest) one all = absurd (omega arith)

@@ -24,16 +24,24 @@ five_texts (x0 ∷ x1 ∷ x2 ∷ x3 ∷ x4 ∷ x5 ∷ ws) a b c d e l m p q r s 
 -- ---- the arguments of `pack`
 
 module _ (ws : List (List ℕ)) (a b c d e : List ℕ) (five : ws ≡ a ∷ b ∷ c ∷ d ∷ e ∷ []) where
-  pub no_format : ((psid : Bool) → c ≡ format_word psid → ⊥) → (input output : List ℕ) (psid : Bool) (address zero_page : ℕ) → ArePackArguments ws input output psid address zero_page → ⊥
+  pub no_format : ((psid : Bool) → c ≡ format_word psid → ⊥) →
+      (input output : List ℕ) (psid : Bool) (address zero_page : ℕ) →
+      ArePackArguments ws input output psid address zero_page → ⊥
   no_format none = λ input output psid address zero_page w. none psid (cc (five, w.form))
 
-  pub no_address : ((address : ℕ) → IsAddressWord d address → ⊥) → (input output : List ℕ) (psid : Bool) (address zero_page : ℕ) → ArePackArguments ws input output psid address zero_page → ⊥
+  pub no_address : ((address : ℕ) → IsAddressWord d address → ⊥) →
+      (input output : List ℕ) (psid : Bool) (address zero_page : ℕ) →
+      ArePackArguments ws input output psid address zero_page → ⊥
   no_address none = λ input output psid address zero_page w.
-      let same : w.address_word ≡ d = cc (five, w.form) in none address (subst (λ word. IsAddressWord word address) same w.address_spelled)
+      let same : w.address_word ≡ d = cc (five, w.form) in
+      none address (subst (λ word. IsAddressWord word address) same w.address_spelled)
 
-  pub no_zero_page : ((zero_page : ℕ) → IsZeroPageWord e zero_page → ⊥) → (input output : List ℕ) (psid : Bool) (address zero_page : ℕ) → ArePackArguments ws input output psid address zero_page → ⊥
+  pub no_zero_page : ((zero_page : ℕ) → IsZeroPageWord e zero_page → ⊥) →
+      (input output : List ℕ) (psid : Bool) (address zero_page : ℕ) →
+      ArePackArguments ws input output psid address zero_page → ⊥
   no_zero_page none = λ input output psid address zero_page w.
-      let same : w.zero_page_word ≡ e = cc (five, w.form) in none zero_page (subst (λ word. IsZeroPageWord word zero_page) same w.zero_page_spelled)
+      let same : w.zero_page_word ≡ e = cc (five, w.form) in
+      none zero_page (subst (λ word. IsZeroPageWord word zero_page) same w.zero_page_spelled)
 
 -- ---- the words name one job
 
@@ -44,9 +52,11 @@ same_format false false e = refl
 same_format true false e = absurd (cc)
 same_format false true e = absurd (cc)
 
-same_number : {limit : ℕ} {v w : List ℕ} {a b : ℕ} → limit < 2 ^ 64 → v ≡ w → IsNumberWord limit v a → IsNumberWord limit w b → a ≡ b
+same_number : {limit : ℕ} {v w : List ℕ} {a b : ℕ} → limit < 2 ^ 64 → v ≡ w → IsNumberWord limit v a →
+    IsNumberWord limit w b → a ≡ b
 same_number {a} {b} small same p q =
-    decimal_injective a b (omega (arith, p.allowed, small)) (omega (arith, q.allowed, small)) (sym p.spelled ∙ same ∙ q.spelled)
+    decimal_injective a b (omega (arith, p.allowed, small)) (omega (arith, q.allowed, small))
+    (sym p.spelled ∙ same ∙ q.spelled)
 
 same_address : {v w : List ℕ} {a b : ℕ} → v ≡ w → IsAddressWord v a → IsAddressWord w b → a ≡ b
 same_address same p q =
@@ -75,8 +85,10 @@ one_job ws (Pack i o f a z) (Pack i2 o2 f2 a2 z2) p q =
     let v = p.are_arguments in
     let w = q.are_arguments in
     let format : f ≡ f2 = same_format f f2 (cc (p.words_are, q.words_are, v.form, w.form)) in
-    let address : a ≡ a2 = same_address (cc (p.words_are, q.words_are, v.form, w.form)) v.address_spelled w.address_spelled in
-    let page : z ≡ z2 = same_zero_page (cc (p.words_are, q.words_are, v.form, w.form)) v.zero_page_spelled w.zero_page_spelled in
+    let address : a ≡ a2 =
+    same_address (cc (p.words_are, q.words_are, v.form, w.form)) v.address_spelled w.address_spelled in
+    let page : z ≡ z2 =
+    same_zero_page (cc (p.words_are, q.words_are, v.form, w.form)) v.zero_page_spelled w.zero_page_spelled in
     cc (p.words_are, q.words_are, v.form, w.form)
 one_job ws (Pack i o f a z) other p q = absurd (differ ws (Pack i o f a z) other p q refl refl)
 one_job ws (Copy i o) (Copy i2 o2) p q = cc (p.words_are, q.words_are, p.are_arguments.form, q.are_arguments.form)
@@ -84,7 +96,9 @@ one_job ws (Copy i o) other p q = absurd (differ ws (Copy i o) other p q refl re
 one_job ws (Run i s n) (Run i2 s2 n2) p q =
     let v = p.are_arguments in
     let w = q.are_arguments in
-    let subtune : s ≡ s2 = same_number (omega arith) (cc (p.words_are, q.words_are, v.form, w.form)) v.subtune_spelled w.subtune_spelled in
-    let frames : n ≡ n2 = same_number (omega arith) (cc (p.words_are, q.words_are, v.form, w.form)) v.frames_spelled w.frames_spelled in
+    let subtune : s ≡ s2 =
+    same_number (omega arith) (cc (p.words_are, q.words_are, v.form, w.form)) v.subtune_spelled w.subtune_spelled in
+    let frames : n ≡ n2 =
+    same_number (omega arith) (cc (p.words_are, q.words_are, v.form, w.form)) v.frames_spelled w.frames_spelled in
     cc (p.words_are, q.words_are, v.form, w.form)
 one_job ws (Run i s n) other p q = absurd (differ ws (Run i s n) other p q refl refl)

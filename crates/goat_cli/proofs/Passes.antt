@@ -19,12 +19,14 @@ use Rattle.goat_cli.proofs.Calls.{returned_or_stopped, one_list, one_stop_at, on
 pub one_file : (files : Files) (name a b : List ℕ) → file_of files name ≡ Some a → file_of files name ≡ Some b → a ≡ b
 one_file files name a b p q = let same : Some a ≡ Some b = sym p ∙ q in cc (same)
 
-pub one_song_held : (files : Files) (name : List ℕ) (a b : Song) → HoldsSong files name a → HoldsSong files name b → a ≡ b
+pub one_song_held : (files : Files) (name : List ℕ) (a b : Song) → HoldsSong files name a → HoldsSong files name b →
+    a ≡ b
 one_song_held files name a b p q =
     let same = one_file files name p.bytes q.bytes p.found q.found in
     spells_once q.bytes a b (subst (λ bytes. Spells bytes a) same p.spells) q.spells
 
-pub one_psid_held : (files : Files) (name : List ℕ) (a b : Psid) → HoldsPsid files name a → HoldsPsid files name b → a ≡ b
+pub one_psid_held : (files : Files) (name : List ℕ) (a b : Psid) → HoldsPsid files name a → HoldsPsid files name b →
+    a ≡ b
 one_psid_held files name a b p q =
     let same = one_file files name p.bytes q.bytes p.found q.found in
     let both : Ok a ≡ Ok b = sym p.reads ∙ ap psid_read same ∙ q.reads in
@@ -32,12 +34,15 @@ one_psid_held files name a b p q =
 
 -- a call that doesn't return is told in one way
 one_stop : (subtune frames : ℕ) (a b : Psid) → a ≡ b → (p : StopsIn a subtune frames) (q : StopsIn b subtune frames) →
-    register_lines p.registers ++ stop_line p.reason p.call ∷ [] ≡ register_lines q.registers ++ stop_line q.reason q.call ∷ []
+    register_lines p.registers ++ stop_line p.reason p.call ∷ [] ≡ register_lines q.registers ++ stop_line q.reason
+    q.call ∷ []
 one_stop subtune frames a b same p q =
     let meets = subst (λ x. MeetsStopAt (loaded x) (subtune - 1) p.call p.registers p.reason) same p.meets in
     let call = one_stop_at (loaded b) (subtune - 1) meets q.meets in
     let there = subst (λ c. MeetsStopAt (loaded b) (subtune - 1) c p.registers p.reason) call meets in
-    let registers = one_list (loaded b) (subtune - 1) q.call p.registers q.registers there.before q.meets.before there.calls q.meets.calls in
+    let registers =
+    one_list (loaded b) (subtune - 1) q.call p.registers q.registers there.before q.meets.before there.calls
+    q.meets.calls in
     let reason = one_reason (loaded b) (subtune - 1) there q.meets in
     ap (λ r. register_lines r ++ stop_line p.reason p.call ∷ []) registers
     ∙ ap (λ r. register_lines q.registers ++ stop_line r p.call ∷ []) reason
@@ -56,12 +61,16 @@ module _ (files : Files) where
     once = λ lines others p q. p.1 ∙ sym q.1;
   }
   stage_facts (Fits name limit) = record {
-    passes = λ met lines ends. absurd (omega (arith, ap length (one_file files name met.0 ends.0.0 met.1 ends.0.1), ends.0.2, met.2));
+    passes =
+        λ met lines ends.
+        absurd (omega (arith, ap length (one_file files name met.0 ends.0.0 met.1 ends.0.1), ends.0.2, met.2));
     once = λ lines others p q. p.1 ∙ sym q.1;
   }
   stage_facts (SpellsSong name) = record {
     passes = λ met lines ends.
-        let never : None ≡ Some ends.1 = sym (spells_has_no_fault met.1.bytes met.0 met.1.spells) ∙ ap fault_of (one_file files name met.1.bytes ends.0 met.1.found ends.2) ∙ ends.3 in
+        let never : None ≡ Some ends.1 =
+        sym (spells_has_no_fault met.1.bytes met.0 met.1.spells)
+        ∙ ap fault_of (one_file files name met.1.bytes ends.0 met.1.found ends.2) ∙ ends.3 in
         absurd (cc (never));
     once = λ lines others p q.
         let both : Some p.1 ≡ Some q.1 = sym p.3 ∙ ap fault_of (one_file files name p.0 q.0 p.2 q.2) ∙ q.3 in
@@ -73,23 +82,32 @@ module _ (files : Files) where
   }
   stage_facts (IsPsid name) = record {
     passes = λ met lines ends.
-        let never : Ok met.0 ≡ Err ends.1 = sym met.1.reads ∙ ap psid_read (one_file files name met.1.bytes ends.0 met.1.found ends.2) ∙ ends.3 in
+        let never : Ok met.0 ≡ Err ends.1 =
+        sym met.1.reads ∙ ap psid_read (one_file files name met.1.bytes ends.0 met.1.found ends.2) ∙ ends.3 in
         absurd (cc (never));
     once = λ lines others p q.
         let both : Err p.1 ≡ Err q.1 = sym p.3 ∙ ap psid_read (one_file files name p.0 q.0 p.2 q.2) ∙ q.3 in
         p.4 ∙ ap (λ f. psid_fault_line f ∷ []) (cc (both)) ∙ sym q.4;
   }
   stage_facts (OffersSubtune name subtune) = record {
-    passes = λ met lines ends. ends.2 (subst (λ p. HasSubtune p subtune) (one_psid_held files name met.0 ends.0 met.1 ends.1) met.2);
-    once = λ lines others p q. p.3 ∙ ap (λ psid. no_subtune_line subtune psid.header.songs ∷ []) (one_psid_held files name p.0 q.0 p.1 q.1) ∙ sym q.3;
+    passes =
+        λ met lines ends.
+        ends.2 (subst (λ p. HasSubtune p subtune) (one_psid_held files name met.0 ends.0 met.1 ends.1) met.2);
+    once =
+        λ lines others p q. p.3
+        ∙ ap (λ psid. no_subtune_line subtune psid.header.songs ∷ []) (one_psid_held files name p.0 q.0 p.1 q.1)
+        ∙ sym q.3;
   }
   stage_facts (CallsReturn name subtune frames) = record {
     passes = λ met lines ends.
         let same = one_psid_held files name met.0 ends.0 met.1 ends.1 in
         let calls = subst (λ p. FirstCalls (loaded p) (subtune - 1) (frames + 1) met.2 met.3) same met.4 in
         let stop = ends.2 in
-        returned_or_stopped (loaded ends.0) (subtune - 1) (frames + 1) stop.call met.2 stop.registers met.3 stop.reason calls (omega (arith, stop.within)) stop.meets;
-    once = λ lines others p q. p.3 ∙ one_stop subtune frames p.0 q.0 (one_psid_held files name p.0 q.0 p.1 q.1) p.2 q.2 ∙ sym q.3;
+        returned_or_stopped (loaded ends.0) (subtune - 1) (frames + 1) stop.call met.2 stop.registers met.3 stop.reason
+        calls (omega (arith, stop.within)) stop.meets;
+    once =
+        λ lines others p q. p.3 ∙ one_stop subtune frames p.0 q.0 (one_psid_held files name p.0 q.0 p.1 q.1) p.2 q.2
+        ∙ sym q.3;
   }
 
   pub met_passes : (stage : Stage) → IsMet files stage → Passes files stage

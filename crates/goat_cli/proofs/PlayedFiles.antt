@@ -19,13 +19,13 @@ use Rattle.sid_run.specs.State.{RunnerState, loaded, loaded_machine}
 use Rattle.sid_run.proofs.Laws.{image_stands, loaded_is_machine}
 use Rattle.goat_io.specs.Files.{Files}
 use Rattle.goat_cli.specs.Words.{Run}
-use Rattle.goat_cli.specs.Calls.{ReturnsTo, FirstCalls}
+use Rattle.goat_cli.specs.Calls.{HasSubtune, ReturnsTo, FirstCalls}
 use Rattle.goat_cli.specs.Faithful.{Leaves, PlaysOn, IsFaithful}
 use Rattle.goat_cli.specs.Place.{IsAddress}
 use Rattle.goat_cli.specs.Packed.{song_header, psid_file}
 use Rattle.goat_cli.specs.RegisterText.{register_lines}
 use Rattle.goat_cli.specs.Stages.{IsThere, Fits, IsPsid, OffersSubtune, CallsReturn, HoldsPsid, AllPass, input_limit}
-use Rattle.goat_cli.specs.Jobs.{stages}
+use Rattle.goat_cli.specs.Jobs.{stages, Shows}
 use Rattle.goat_cli.specs.Outcome as outcome
 use Rattle.goat_cli.specs.Outcome.{Outcome}
 use Rattle.goat_cli.specs.Due as due
@@ -35,37 +35,63 @@ use Rattle.goat_cli.specs.Laws.{PackedFilesPlay}
 use Rattle.goat_cli.proofs.Passes.{met_passes}
 
 -- what a call of a faithful image leaves is what a call of a loaded file returns with
-returned_by : (image : List ℕ) (address zero_page : ℕ) (machine : Machine) (entry number : ℕ) (registers : List ℕ) (after : Machine) → Leaves image address zero_page machine entry number registers after → ReturnsTo machine entry number registers after
-returned_by image address zero_page machine entry number registers after leaves = record { steps = leaves.steps; within = leaves.within; called = leaves.called; registers_are = leaves.registers_are }
+returned_by : (image : List ℕ) (address zero_page : ℕ) (machine : Machine) (entry number : ℕ) (registers : List ℕ)
+    (after : Machine) →
+    Leaves image address zero_page machine entry number registers after → ReturnsTo machine entry number registers after
+returned_by image address zero_page machine entry number registers after leaves = record {
+  steps = leaves.steps;
+  within = leaves.within;
+  called = leaves.called;
+  registers_are = leaves.registers_are;
+}
 
-module _ (file : RunnerState) (image : List ℕ) (address zero_page : ℕ) (song : Song) (k : ℕ) (init : file.init ≡ address) (play : file.play ≡ address + 3) (play_small : address + 3 < 65536) where
+module _ (file : RunnerState) (image : List ℕ) (address zero_page : ℕ) (song : Song) (k : ℕ)
+    (init : file.init ≡ address) (play : file.play ≡ address + 3) (play_small : address + 3 < 65536) where
   -- the machine that the first calls leave, with the plays that follow
   record PlaysOnFrom (calls : ℕ) : Type 0 where
     after : Machine
     is : IsMachine after
     first : FirstCalls file k calls (first_traces song k calls) after
 
-  play_on : (n i : ℕ) (before : Machine) → IsMachine before → FirstCalls file k (suc i) (first_traces song k (suc i)) before → PlaysOn image address zero_page song k (suc i) n before → PlaysOnFrom (n + suc i)
-  play_on zero i before is first plays = let z : 0 + suc i ≡ suc i = omega arith in rw z (record { after = before; is = is; first = first })
+  play_on : (n i : ℕ) (before : Machine) → IsMachine before →
+      FirstCalls file k (suc i) (first_traces song k (suc i)) before →
+      PlaysOn image address zero_page song k (suc i) n before → PlaysOnFrom (n + suc i)
+  play_on zero i before is first plays =
+      let z : 0 + suc i ≡ suc i = omega arith in rw z (record { after = before; is = is; first = first })
   play_on (suc n) i before is first plays =
       let next = plays before before.cpu.a is is.a (record { same = λ j inside. refl }) in
       let after = next.0 in
-      let returns = subst (λ entry. ReturnsTo before entry before.cpu.a (trace song k (suc i)) after) (sym play) (returned_by image address zero_page before (address + 3) before.cpu.a (trace song k (suc i)) after next.1) in
+      let returns =
+      subst (λ entry. ReturnsTo before entry before.cpu.a (trace song k (suc i)) after) (sym play)
+      (returned_by image address zero_page before (address + 3) before.cpu.a (trace song k (suc i)) after next.1) in
       let there = call_keeps before after (address + 3) before.cpu.a next.1.steps is play_small is.a next.1.called in
       let z : suc n + suc i ≡ n + suc (suc i) = omega arith in
-      rw z (play_on n (suc i) after there (first_traces song k (suc i), before, trace song k (suc i), first, returns, refl) next.2)
+      rw z
+      (play_on n (suc i) after there
+      (first_traces song k (suc i), before, trace song k (suc i), first, returns, refl) next.2)
 
   -- init, and the plays after it
-  plays_all : (frames : ℕ) → IsMachine file.machine → k < 256 → (after : Machine) → Leaves image address zero_page file.machine address k (trace song k 0) after → PlaysOn image address zero_page song k 1 frames after → PlaysOnFrom (frames + 1)
+  plays_all : (frames : ℕ) → IsMachine file.machine → k < 256 → (after : Machine) →
+      Leaves image address zero_page file.machine address k (trace song k 0) after →
+      PlaysOn image address zero_page song k 1 frames after → PlaysOnFrom (frames + 1)
   plays_all frames is small after leaves plays =
-      let returns = subst (λ entry. ReturnsTo file.machine entry k (trace song k 0) after) (sym init) (returned_by image address zero_page file.machine address k (trace song k 0) after leaves) in
-      let there = call_keeps file.machine after address k leaves.steps is (omega (arith, play_small)) small leaves.called in
+      let returns =
+      subst (λ entry. ReturnsTo file.machine entry k (trace song k 0) after) (sym init)
+      (returned_by image address zero_page file.machine address k (trace song k 0) after leaves) in
+      let there =
+      call_keeps file.machine after address k leaves.steps is (omega (arith, play_small)) small leaves.called in
       play_on frames 0 after there ([], file.machine, trace song k 0, (refl, refl), returns, refl) plays
 
 -- ---- a packed file
 
 count_small : (song : Song) → KeepsLimits song → length (playable_subtunes song) ≤ 32
-count_small song keeps = omega (arith, length-filter is_playable_subtune song.subtunes, count_by-le-length is_playable_subtune song.subtunes, keeps.subtunes.count)
+count_small song keeps =
+    omega (
+      arith,
+      length-filter is_playable_subtune song.subtunes,
+      count_by-le-length is_playable_subtune song.subtunes,
+      keeps.subtunes.count,
+    )
 
 header_is : (song : Song) (address : ℕ) → KeepsLimits song → IsAddress address → IsHeader (song_header song address)
 header_is song address keeps place = record {
@@ -80,7 +106,8 @@ header_is song address keeps place = record {
   flags = lit≤ tt;
 }
 
-writable : (song : Song) (address : ℕ) (image : List ℕ) → KeepsLimits song → IsAddress address → length image ≤ 64 → 1 ≤ length (playable_subtunes song) → IsWritable (song_header song address) address image
+writable : (song : Song) (address : ℕ) (image : List ℕ) → KeepsLimits song → IsAddress address → length image ≤ 64 →
+    1 ≤ length (playable_subtunes song) → IsWritable (song_header song address) address image
 writable song address image keeps place small some = record {
   has_play = omega arith;
   has_no_kind = refl;
@@ -92,10 +119,12 @@ writable song address image keeps place small some = record {
 }
 
 -- the image's bytes are among the file's
-image_bytes : (header : Header) (load : ℕ) (image : List ℕ) → All (λ byte. byte < 256) (psid_bytes header load image) → All (λ byte. byte < 256) image
+image_bytes : (header : Header) (load : ℕ) (image : List ℕ) → All (λ byte. byte < 256) (psid_bytes header load image) →
+    All (λ byte. byte < 256) image
 image_bytes header load image = All-append_right (λ byte. byte < 256) (header_bytes header ++ address_bytes load) image
 
-module _ (song : Song) (address zero_page : ℕ) (image : List ℕ) (keeps : KeepsLimits song) (place : IsAddress address) (small : length image ≤ 64) (faithful : IsFaithful image address zero_page song) where
+module _ (song : Song) (address zero_page : ℕ) (image : List ℕ) (keeps : KeepsLimits song) (place : IsAddress address)
+    (small : length image ≤ 64) (faithful : IsFaithful image address zero_page song) where
   abbrev packed : Psid
   packed = record { header = song_header song address; load = address; image = image }
 
@@ -103,34 +132,46 @@ module _ (song : Song) (address zero_page : ℕ) (image : List ℕ) (keeps : Kee
   pub record Plays (subtune frames : ℕ) : Type 0 where
     pub reads : psid_read (psid_file song address image) ≡ Ok packed
     pub after : Machine
-    pub calls : FirstCalls (loaded packed) (subtune - 1) (frames + 1) (first_traces song (subtune - 1) (frames + 1)) after
+    pub calls : FirstCalls (loaded packed) (subtune - 1) (frames + 1) (first_traces song (subtune - 1) (frames + 1))
+        after
 
-  plays_its_song : (subtune frames : ℕ) → All (λ byte. byte < 256) (psid_file song address image) → 1 ≤ subtune → subtune ≤ length (playable_subtunes song) → Plays subtune frames
+  plays_its_song : (subtune frames : ℕ) → All (λ byte. byte < 256) (psid_file song address image) → 1 ≤ subtune →
+      subtune ≤ length (playable_subtunes song) → Plays subtune frames
   plays_its_song subtune frames all first last =
       let fits : address + length image ≤ 65536 = omega (arith, place.most, small) in
       let bytes = image_bytes (song_header song address) address image all in
-      let reads = written_is_read_as_is (song_header song address) address image (header_is song address keeps place) (omega (arith, place.most)) (writable song address image keeps place small (omega (arith, first, last))) (λ never. omega (arith, never, place.least)) in
+      let reads =
+      written_is_read_as_is (song_header song address) address image (header_is song address keeps place)
+      (omega (arith, place.most)) (writable song address image keeps place small (omega (arith, first, last)))
+      (λ never. omega (arith, never, place.least)) in
       let is = loaded_is_machine packed fits bytes in
       let holds = image_stands packed fits in
       let began = faithful.plays (subtune - 1) frames (loaded_machine packed) (omega (arith, first, last)) is holds in
-      let later = plays_all (loaded packed) image address zero_page song (subtune - 1) refl refl (omega (arith, place.most)) frames is (omega (arith, last, count_small song keeps)) began.0 began.1 began.2 in
+      let later =
+      plays_all (loaded packed) image address zero_page song (subtune - 1) refl refl (omega (arith, place.most))
+      frames is (omega (arith, last, count_small song keeps)) began.0 began.1 began.2 in
       record { reads = reads; after = later.after; calls = later.first }
 
 -- the packed file of a song, as a PSID file
 abbrev psid_of : (song : Song) (file : List ℕ) → IsPackedPsid song file → Psid
 psid_of song file is = record { header = song_header song is.address; load = is.address; image = is.packed.image }
 
-plays : (song : Song) (file : List ℕ) (subtune frames : ℕ) (is : IsPackedPsid song file) → 1 ≤ subtune → subtune ≤ length (playable_subtunes song) →
-    Plays song is.address is.zero_page is.packed.image is.keeps is.place is.packed.small is.packed.faithful subtune frames
+plays : (song : Song) (file : List ℕ) (subtune frames : ℕ) (is : IsPackedPsid song file) → 1 ≤ subtune →
+    subtune ≤ length (playable_subtunes song) →
+    Plays song is.address is.zero_page is.packed.image is.keeps is.place is.packed.small is.packed.faithful subtune
+    frames
 plays song file subtune frames is first last =
-    plays_its_song song is.address is.zero_page is.packed.image is.keeps is.place is.packed.small is.packed.faithful subtune frames (subst (All (λ byte. byte < 256)) is.packed.holds is.bytes) first last
+    plays_its_song song is.address is.zero_page is.packed.image is.keeps is.place is.packed.small is.packed.faithful
+    subtune frames (subst (All (λ byte. byte < 256)) is.packed.holds is.bytes) first last
 
 pub packed_files_play : PackedFilesPlay
 packed_files_play song file subtune frames is first last =
     let its = plays song file subtune frames is first last in
-    (psid_of song file is, ap psid_read is.packed.holds ∙ its.reads, record { first = first; last = last }, its.after, its.calls)
+    let has : HasSubtune (psid_of song file is) subtune = record { first = first; last = last } in
+    (psid_of song file is, ap psid_read is.packed.holds ∙ its.reads, has, its.after, its.calls)
 
-module _ (words : List (List ℕ)) (files : Files) (song : Song) (subtune frames : ℕ) (runs : RunsPacked words files song subtune frames) where
+module _ (words : List (List ℕ)) (files : Files) (song : Song) (subtune frames : ℕ)
+    (runs : RunsPacked words files song subtune frames) where
   abbrev traces : List (List ℕ)
   traces = first_traces song (subtune - 1) (frames + 1)
 
@@ -167,7 +208,9 @@ module _ (words : List (List ℕ)) (files : Files) (song : Song) (subtune frames
 
   pub packed_file_plays : Outcome words files 0 (register_lines traces) None
   packed_file_plays =
-      outcome.done (Run runs.input subtune frames) runs.form met.pass ((met.psid, met.holds, record { registers = traces; after = met.after; returned = met.calls; lines_are = refl }), refl) refl
+      let shows : Shows met.psid subtune (frames + 1) (register_lines traces) =
+      record { registers = traces; after = met.after; returned = met.calls; lines_are = refl } in
+      outcome.done (Run runs.input subtune frames) runs.form met.pass ((met.psid, met.holds, shows), refl) refl
 
   pub packed_file_is_due : IsDue words files 0 None
   packed_file_is_due = due.done (Run runs.input subtune frames) runs.form met.pass refl refl

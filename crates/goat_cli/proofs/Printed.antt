@@ -16,8 +16,10 @@ concat-snoc lines line = concat-append lines (line ∷ []) ∙ ap (λ t. concat 
 
 module _ {words : List (List ℕ)} {files : Files} {answer : ℕ} {folder after : FolderState} {s u : SinkState} where
   -- all lines were printed
-  whole_then : {status : ℕ} {lines : List (List ℕ)} → answer ≡ status → Account words files status lines folder.told after.told →
-      Counted status folder.counts after.counts → Appends (concat lines) s u → Stands words files answer folder after s u
+  whole_then : {status : ℕ} {lines : List (List ℕ)} → answer ≡ status →
+      Account words files status lines folder.told after.told →
+      Counted status folder.counts after.counts → Appends (concat lines) s u →
+      Stands words files answer folder after s u
   whole_then {lines} is account counted appends =
       stands.whole lines (subst (λ n. Account words files n lines folder.told after.told) (sym is) account)
       (subst (λ n. Counted n folder.counts after.counts) (sym is) counted) appends
@@ -25,25 +27,35 @@ module _ {words : List (List ℕ)} {files : Files} {answer : ℕ} {folder after 
   stands_then : (t : SinkState) (last : Last) → IsOver words files last folder after s t → Prints last answer t u →
       Stands words files answer folder after s u
   stands_then t (Says status line) over (ends.whole is appends) =
-      let text = subst (λ text. Appends text s u) (sym (concat-snoc over.earlier line)) (appends_both over.appends appends) in
+      let text =
+      subst (λ text. Appends text s u) (sym (concat-snoc over.earlier line)) (appends_both over.appends appends) in
       whole_then is over.account over.counted text
   stands_then t (Says status line) over (ends.failed kept is fails) =
-      stands.cut_in_line over.earlier [] line kept (stands.of_account status over.account over.counted) is (fails_then over.appends fails)
+      stands.cut_in_line over.earlier [] line kept (stands.of_account status over.account over.counted) is
+      (fails_then over.appends fails)
   stands_then t (Says status line) over (ends.wanting tells) =
-      stands.wanting over.earlier [] line (stands.of_account status over.account over.counted) (tells_then over.appends tells)
+      stands.wanting over.earlier [] line (stands.of_account status over.account over.counted)
+      (tells_then over.appends tells)
   stands_then t SaysNothing over prints =
       whole_then prints.answer_is over.account over.counted
       (subst (λ sink. Appends (concat over.lines) s sink) (sym prints.same) over.appends)
   stands_then t SinkFailed over prints =
-      let fails = subst (λ sink. stands.FailsAfter (concat over.earlier ++ take over.kept over.line) s sink) (sym prints.same) over.fails in
-      stands.cut_in_line over.earlier over.later over.line over.kept (stands.of_stage over.printing over.stays) prints.answer_is fails
+      let fails =
+      subst (λ sink. stands.FailsAfter (concat over.earlier ++ take over.kept over.line) s sink) (sym prints.same)
+      over.fails in
+      stands.cut_in_line over.earlier over.later over.line over.kept (stands.of_stage over.printing over.stays)
+      prints.answer_is fails
   stands_then t Wants (ends.for_line earlier later line printing stays appends) tells =
       stands.wanting earlier later line (stands.of_stage printing stays) (tells_then appends tells)
   stands_then t Wants (ends.first stays appends) tells = stands.wanting_first stays (tells_then appends tells)
 
 pub run_stands : {words : List (List ℕ)} {answer : ℕ} {folder after : FolderState} {s t u : SinkState} (last : Last) →
     RunEnds words last folder after s t → Prints last answer t u → RunStands words answer folder after s u
-run_stands {t} last run prints = record { files = run.files; are_files = run.are_files; stands = stands_then t last run.is_over prints }
+run_stands {t} last run prints = record {
+  files = run.files;
+  are_files = run.are_files;
+  stands = stands_then t last run.is_over prints;
+}
 
 -- no room for a line was found
 pub no_room : {words : List (List ℕ)} {answer : ℕ} {folder : FolderState} {s t : SinkState} → TellsWant [] answer s t →

@@ -20,7 +20,8 @@ use Rattle.goat_cli.specs.Endings.{WasRead, ReadFails}
 
 one_file : (name bytes : List ℕ) → file_of (with_file empty name bytes) name ≡ Some bytes
 one_file name bytes =
-    let found = ap (λ same. cond same (Some bytes) (file_of empty name)) ((eq_by_cmp_equiv nat_list_cmp_total).refl name) in
+    let found =
+    ap (λ same. cond same (Some bytes) (file_of empty name)) ((eq_by_cmp_equiv nat_list_cmp_total).refl name) in
     get-insert nat_list_cmp_total empty name bytes name ∙ found
 
 -- some files have what is said of the told ones
@@ -58,10 +59,13 @@ module _ {X : Type 0} {before after : FolderCounts} where
 -- ---- answers
 
 module _ (name : List ℕ) (limit : ℕ) {before after : FolderState} (same : after.told ≡ before.told) where
-  pub was_read : (bytes : List ℕ) → IfSome before.told (λ files. file_of files name ≡ Some bytes) → length bytes ≤ limit →
+  pub was_read : (bytes : List ℕ) → IfSome before.told (λ files. file_of files name ≡ Some bytes) →
+      length bytes ≤ limit →
       Counted 0 before.counts after.counts → WasRead name limit before after bytes
   was_read bytes known fits counted =
-      let some = some_of before.told (λ files. file_of files name ≡ Some bytes) (with_file empty name bytes) (one_file name bytes) known in
+      let some =
+      some_of before.told (λ files. file_of files name ≡ Some bytes) (with_file empty name bytes)
+      (one_file name bytes) known in
       let stays : FolderStays before after = record { told = same; counts = counted } in
       record { files = some.files; are_files = some.are_files; found = some.has; fits = fits; stays = stays }
 
@@ -75,6 +79,7 @@ module _ (name : List ℕ) (limit : ℕ) {before after : FolderState} (same : af
       last ≡ Says 3 (too_long_line name) → ReadFails name limit before after last
   was_too_long known counted says =
       let long = replicate (limit + 1) 0 in
-      let above : IsAbove limit name (with_file empty name long) = (long, one_file name long, omega (arith, length-replicate {A = ℕ} (limit + 1) 0)) in
+      let above : IsAbove limit name (with_file empty name long) =
+      (long, one_file name long, omega (arith, length-replicate {A = ℕ} (limit + 1) 0)) in
       let some = some_of before.told (IsAbove limit name) (with_file empty name long) above known in
       ends.too_long some.files some.are_files some.has says same counted

@@ -24,10 +24,19 @@ address_fits address = length-encode_with upper_digits ((address / 256) ∷ (add
 pub ruleset pieces_fit = (digits_fit, address_fits)
 
 -- a line is longer than its first pieces
-pub first_pieces : (pieces : List Piece) (i room : ℕ) (text : List ℕ) (d : Piece) → i < length pieces → text ≡ flat_map piece_text (take i pieces) → room < length (text ++ piece_text (get_or pieces i d)) → room < length (line_of pieces)
+pub first_pieces : (pieces : List Piece) (i room : ℕ) (text : List ℕ) (d : Piece) → i < length pieces →
+    text ≡ flat_map piece_text (take i pieces) → room < length (text ++ piece_text (get_or pieces i d)) →
+    room < length (line_of pieces)
 first_pieces pieces i room text d inside is full =
     let part = length-flat_map-take piece_text pieces i d inside in
-    omega (arith, full, part, ap length is, length-append text (piece_text (get_or pieces i d)), length-append (flat_map piece_text pieces) (codes "\n"))
+    omega (
+      arith,
+      full,
+      part,
+      ap length is,
+      length-append text (piece_text (get_or pieces i d)),
+      length-append (flat_map piece_text pieces) (codes "\n"),
+    )
 
 -- a short line has at most 96 bytes beside names
 piece_lengths : (piece : Piece) → length (piece_text piece) ≡ own_length piece + name_length piece
@@ -36,7 +45,8 @@ piece_lengths (Name name) = omega arith
 piece_lengths (Number number) = omega arith
 piece_lengths (Address address) = omega arith
 
-lengths : (pieces : List Piece) → sum_by (λ piece. length (piece_text piece)) pieces ≡ sum_by own_length pieces + sum_by name_length pieces
+lengths : (pieces : List Piece) →
+    sum_by (λ piece. length (piece_text piece)) pieces ≡ sum_by own_length pieces + sum_by name_length pieces
 lengths [] = refl
 lengths (piece ∷ rest) =
     let text = sum_by-cons (λ it. length (piece_text it)) piece rest in
@@ -46,10 +56,17 @@ lengths (piece ∷ rest) =
 
 messages_have_room : (pieces : List Piece) → IsShort pieces → length (line_of pieces) ≤ 96 + sum_by name_length pieces
 messages_have_room pieces short =
-    omega (arith, short, lengths pieces, length-flat_map piece_text pieces, length-append (flat_map piece_text pieces) (codes "\n"))
+    omega (
+      arith,
+      short,
+      lengths pieces,
+      length-flat_map piece_text pieces,
+      length-append (flat_map piece_text pieces) (codes "\n"),
+    )
 
 -- so have the lines of registers
-registers_have_room : (call : ℕ) (registers : List ℕ) → call < 10 ^ 6 → length registers ≡ 25 → length (register_line call registers) ≤ 96
+registers_have_room : (call : ℕ) (registers : List ℕ) → call < 10 ^ 6 → length registers ≡ 25 →
+    length (register_line call registers) ≤ 96
 registers_have_room call registers small all =
     let number = length-decimal-le 6 call (lit< tt) small (omega (arith, small)) in
     let digits = length-append (replicate (6 - length (decimal call)) 0x30) (decimal call) in

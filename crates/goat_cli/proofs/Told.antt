@@ -40,7 +40,8 @@ same_count other same = record { rose = λ is. absurd (other is); stays = λ is.
 
 -- all counts are as before, with such a status
 pub still : {n : ℕ} {before after : FolderCounts} → is_uncounted n ≡ true → after.misses ≡ before.misses →
-    after.excesses ≡ before.excesses → after.read_faults ≡ before.read_faults → after.write_faults ≡ before.write_faults →
+    after.excesses ≡ before.excesses → after.read_faults ≡ before.read_faults →
+    after.write_faults ≡ before.write_faults →
     Counted n before after
 still {n} test m e r w = record {
   misses = same_count (λ is. unlike n 2 test is refl) m;
@@ -49,12 +50,14 @@ still {n} test m e r w = record {
   write_faults = same_count (λ is. unlike n 9 test is refl) w;
 }
 
-pub uncounted : {n : ℕ} {before after : FolderCounts} → is_uncounted n ≡ true → Counted 0 before after → Counted n before after
+pub uncounted : {n : ℕ} {before after : FolderCounts} → is_uncounted n ≡ true → Counted 0 before after →
+    Counted n before after
 uncounted test c =
     still test (c.misses.stays (λ e. omega arith)) (c.excesses.stays (λ e. omega arith))
     (c.read_faults.stays (λ e. omega arith)) (c.write_faults.stays (λ e. omega arith))
 
-rises_on : {own n before between after : ℕ} → between ≡ before → RisesWith own n between after → RisesWith own n before after
+rises_on : {own n before between after : ℕ} → between ≡ before → RisesWith own n between after →
+    RisesWith own n before after
 rises_on {own} {n} {after} same r = subst (λ b. RisesWith own n b after) same r
 
 pub counted_on : {n : ℕ} {before between after : FolderCounts} → Counted 0 before between → Counted n between after →
@@ -94,7 +97,8 @@ pub appends_none : {a : List ℕ} {s t u : SinkState} → Appends a s t → Appe
 appends_none {a} {s} {u} first none = subst (λ b. Appends b s u) (append-nil a) (appends_both first none)
 
 -- the line that memory is wanting comes after what was printed
-pub tells_then : {a : List ℕ} {answer : ℕ} {s t u : SinkState} → Appends a s t → TellsWant [] answer t u → TellsWant a answer s u
+pub tells_then : {a : List ℕ} {answer : ℕ} {s t u : SinkState} → Appends a s t → TellsWant [] answer t u →
+    TellsWant a answer s u
 tells_then first (stands.told is appends) = stands.told is (appends_both first appends)
 tells_then first (stands.failed kept is fails) = stands.failed kept is (fails_then first fails)
 tells_then first (stands.untold is appends) = stands.untold is (appends_none first appends)

@@ -19,4 +19,5 @@ pub returns-in-Err-TooLong-clause-refused : goal.returns-in-Err-TooLong-clause-r
 returns-in-Err-TooLong-clause-refused g c =
     let e = c.in-Err-TooLong.ensures in
     let counts = rw c.in-Err-TooLong.field-0-is at e.counts in
-    was_too_long c.args.name.now c.args.limit e.files_stay (e.too_long (cc)) (excess_counted counts) c.says-in-Err-TooLong.ensures
+    was_too_long c.args.name.now c.args.limit e.files_stay (e.too_long (cc)) (excess_counted counts)
+    c.says-in-Err-TooLong.ensures

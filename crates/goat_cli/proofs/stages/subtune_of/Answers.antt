@@ -11,7 +11,8 @@ returns-then-subtune-eq0-clause-refused c = λ files name holds.
       holds,
       (λ has. elim c.then-subtune-eq0.branch [
         | then-subtune-eq0-via-then-subtune-eq0 w ↦ let zero = w.if-subtune-eq0.true in omega (arith, zero, has.first)
-        | then-subtune-eq0-via-else-subtune-eq0+then-from-songs w ↦ let above = w.if-from-songs.true in omega (arith, above, w.from.ensures, has.last)
+        | then-subtune-eq0-via-else-subtune-eq0+then-from-songs w ↦ let above =
+            w.if-from-songs.true in omega (arith, above, w.from.ensures, has.last)
       ]),
       refl,
     ) (rw (c.from-then-subtune-eq0.ensures, c.from-then-subtune-eq0-2.ensures) at c.says.ensures)

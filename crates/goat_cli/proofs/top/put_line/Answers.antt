@@ -10,7 +10,8 @@ returns-in-Err-Failed g c =
     let is = c.in-Err-Failed.field-0-is in
     let part = c.in-Err-Failed.ensures.failed (cc) in
     let counts = rw is at c.in-Err-Failed.ensures.faults in
-    let told = part.1 ∙ ap (λ line. told_with_piece (g.K.Sink.written c.args.out.now) (take part.0 line)) c.as_slice.ensures in
+    let told =
+    part.1 ∙ ap (λ line. told_with_piece (g.K.Sink.written c.args.out.now) (take part.0 line)) c.as_slice.ensures in
     ends.failed part.0 c.number.ensures (record { told = told; faults = counts })
 
 pub returns-in-Err-NoMemory : goal.returns-in-Err-NoMemory

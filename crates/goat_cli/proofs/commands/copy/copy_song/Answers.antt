@@ -15,7 +15,8 @@ returns-in_err-song g c =
     let was = c.in_ok-bytes.ensures.read in
     let p = err_from_is_err_and c.from_residual-in_err-song.result c.from_residual-in_err-song.ensures.1 in
     let found = was.found ∙ ap Some (sym c.deref.ensures.value) in
-    rw (p.1, p.2) (λ sink. refused sink (begun refl was) refl (c.in_err-song.ensures.refused was.files c.args.input.now found))
+    rw (p.1, p.2)
+    (λ sink. refused sink (begun refl was) refl (c.in_err-song.ensures.refused was.files c.args.input.now found))
 
 pub returns-in_err-file : goal.returns-in_err-file
 returns-in_err-file g c =
@@ -28,4 +29,5 @@ returns g c = λ sink.
     let song = c.in_ok-song.song in
     let holds = song_held was (rw c.deref.ensures.value at c.in_ok-song.ensures.spells) in
     let writes = rw (c.deref-2.ensures.value, c.in_ok-file.ensures) at c.write_file.ensures in
-    written sink (met_next (begun refl was) (song, holds)) (canonical song, (song, holds, refl), record { lines_are = refl; write_is = refl }) writes
+    written sink (met_next (begun refl was) (song, holds))
+    (canonical song, (song, holds, refl), record { lines_are = refl; write_is = refl }) writes

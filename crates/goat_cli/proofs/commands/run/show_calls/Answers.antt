@@ -10,14 +10,16 @@ loop-call-init g c = none_yet c.args.runner.now c.args.number _ c.requires.runni
 pub returns-in-Err : goal.returns-in-Err
 returns-in-Err g c =
     let fails = c.in-Err.ensures.failed in
-    stop_met c.loop-call.invariant c.args.frames c.next_call.new.runner.machine c.in-Err.reason (search rules) fails c.stop_refusal.ensures
+    stop_met c.loop-call.invariant c.args.frames c.next_call.new.runner.machine c.in-Err.reason (search rules) fails
+    c.stop_refusal.ensures
 
 pub returns-in_err-put_registers : goal.returns-in_err-put_registers
 returns-in_err-put_registers g c =
     let p = err_from_is_err_and c.from_residual.result c.from_residual.ensures.1 in
     let e = c.in_err-put_registers.ensures in
     let returns = c.in-Ok.ensures.returned in
-    rw p.1 (line_over c.loop-call.invariant c.args.frames (search rules) c.next_call.new.runner.machine c.in-Ok.registers returns _ p.0 p.2
+    let machine = c.next_call.new.runner.machine in
+    rw p.1 (line_over c.loop-call.invariant c.args.frames (search rules) machine c.in-Ok.registers returns _ p.0 p.2
     (λ is. e.failed (ap Err is)) (λ is. e.no_memory (ap Err is)))
 
 pub loop-call-preserved : goal.loop-call-preserved
@@ -33,6 +35,8 @@ returns g c = elim c.loop-call-test.branch [
   | then-loop-call-test+in-Ok+in_ok-put_registers+else-call-frames w ↦
       let e = w.in-Ok.ensures in
       let told = w.in_ok-put_registers.ensures.ok in
-      let so_far = so_far_on c.loop-call.invariant w.next_call.new.runner w.in-Ok.registers e.returned e.running e.same_init e.same_play told in
+      let so_far =
+      so_far_on c.loop-call.invariant w.next_call.new.runner w.in-Ok.registers e.returned e.running e.same_init
+      e.same_play told in
       rw w.out-is (all_played so_far c.args.frames (omega arith))
 ]
