@@ -1,5 +1,5 @@
 -- How a run goes through the stages of its job: each one is met, or ends it; and how the commands end after the last.
-use Rattle.std.proofs.Common.{◌≡◌, ℕ, ◌+◌, ◌-◌, ◌≤◌, List, [], ◌∷◌, ◌++◌, Some, None, Ok, true, length, refl, sym, ap, ◌∙◌, subst}
+use Rattle.std.proofs.Common.{◌≡◌, ℕ, ◌+◌, ◌-◌, ◌≤◌, List, [], ◌∷◌, ◌++◌, Option, Some, None, Ok, true, length, refl, sym, ap, ◌∙◌, subst}
 use Rattle.std.proofs.lemmas.List.{append-nil, append_assoc}
 use Rattle.goat_io.specs.Files.{Files, IsWrittenInPart}
 use Rattle.song_model.specs.declared.songs.Song.{Song}
@@ -12,13 +12,13 @@ use Rattle.cpu6502.specs.declared.machine.Machine.{Machine}
 use Rattle.goat_cli.specs.Calls.{FirstCalls, StopsIn}
 use Rattle.goat_cli.specs.RegisterText.{register_lines}
 use Rattle.goat_cli.specs.Lines.{stop_line, wrote_line}
-use Rattle.goat_cli.specs.Last.{Last}
+use Rattle.goat_cli.specs.Last.{Last, Says}
 use Rattle.goat_cli.specs.Stages.{Stage, IsThere, Fits, CallsReturn, HoldsSong, HoldsPsid, status_of, IsMet, Passes, AllPass, FirstEnds}
 use Rattle.goat_cli.specs.Jobs.{WordsOf, stages, Shows, Done}
 use Rattle.goat_cli.specs.Outcome as outcome
 use Rattle.goat_cli.specs.Outcome.{told_after}
 use Rattle.goat_cli.specs.Stands as stands
-use Rattle.goat_cli.specs.Stands.{FolderState, SinkState, AreFiles, FolderStays, IsPrinting}
+use Rattle.goat_cli.specs.Stands.{FolderState, SinkState, AreFiles, Counted, FolderStays, IsPrinting}
 use Rattle.goat_cli.specs.Endings as ends
 use Rattle.goat_cli.specs.Endings.{Refuses, WasRead, WriteEnds, CallsEnd, IsOver, JobEnds}
 use Rattle.goat_cli.proofs.Told.{as_before, is_uncounted, uncounted, counted_on, stays_on}
@@ -79,26 +79,32 @@ module _ {job : Job} {folder after : FolderState} where
     pub all_met : At job files folder after [] → AllPass files (stages job)
     all_met at = subst (AllPass files) (sym (at.stages_are ∙ append-nil at.met)) at.pass
 
--- the file of a job was written, or not
-module _ {job : Job} {folder between after : FolderState} {files : Files} {output file : List ℕ}
-    (sink : SinkState) where
-  pub written : {last : Last} → At job files folder between [] →
+module _ {job : Job} {folder between after : FolderState} {files : Files} (sink : SinkState)
+    (at : At job files folder between []) where
+  -- the job is done, with one line to print; a file was written, or none
+  pub done_says : {line : List ℕ} (write : Option (List ℕ × List ℕ)) → Done job files (line ∷ []) write →
+      after.told ≡ told_after between.told write → Counted 0 between.counts after.counts →
+      JobEnds job (Says 0 line) folder after sink sink
+  done_says write did told counted =
+      let files_are = told ∙ ap (λ t. told_after t write) at.stays.told in
+      has_last sink at.are_files
+      (λ words form. stands.outcome write (outcome.done job form (all_met at) did refl) files_are)
+      (counted_on at.stays.counts counted)
+
+  -- its file was written, or not
+  pub written : {output file : List ℕ} {last : Last} →
       Done job files (wrote_line (length file) ∷ []) (Some (output, file)) →
       WriteEnds output file between after last → JobEnds job last folder after sink sink
-  written at did (ends.wrote says told counted) =
-      let files_are = told ∙ ap (λ t. told_after t (Some (output, file))) at.stays.told in
-      rw says
-      (has_last sink at.are_files
-      (λ words form.
-      stands.outcome (Some (output, file)) (outcome.done job form (all_met at) did refl) files_are)
-      (counted_on at.stays.counts counted))
-  written at did (ends.failed says part counted) =
+  written {output} {file} did (ends.wrote says told counted) =
+      rw says (done_says (Some (output, file)) did told counted)
+  written {output} {file} did (ends.failed says part counted) =
       let part_of = subst (λ t. IsWrittenInPart t after.told output file) at.stays.told part in
-      rw says (has_last sink at.are_files (λ words form.
-      stands.write_fault (wrote_line (length file) ∷ []) output file (outcome.done job form (all_met at) did refl) refl
-      refl part_of)
+      let lines = wrote_line (length file) ∷ [] in
+      rw says (has_last sink at.are_files
+      (λ words form.
+      stands.write_fault lines output file (outcome.done job form (all_met at) did refl) refl refl part_of)
       (counted_on at.stays.counts counted))
-  written at did (ends.wanting wants more) = rw wants (wants_first sink (stays_on at.stays more))
+  written did (ends.wanting wants more) = rw wants (wants_first sink (stays_on at.stays more))
 
 -- ---- the files that a run has read
 
