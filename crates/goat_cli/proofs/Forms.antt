@@ -91,7 +91,7 @@ one_job ws (Pack i o f a z) (Pack i2 o2 f2 a2 z2) p q =
     same_zero_page (cc (p.words_are, q.words_are, v.form, w.form)) v.zero_page_spelled w.zero_page_spelled in
     cc (p.words_are, q.words_are, v.form, w.form)
 one_job ws (Pack i o f a z) other p q = absurd (differ ws (Pack i o f a z) other p q refl refl)
-one_job ws (Copy i o) (Copy i2 o2) p q = cc (p.words_are, q.words_are, p.are_arguments.form, q.are_arguments.form)
+one_job ws (Copy i o) (Copy i2 o2) p q = cc (p.words_are, q.words_are, p.are_arguments.0, q.are_arguments.0)
 one_job ws (Copy i o) other p q = absurd (differ ws (Copy i o) other p q refl refl)
 one_job ws (Run i s n) (Run i2 s2 n2) p q =
     let v = p.are_arguments in

@@ -1,12 +1,12 @@
 -- What belongs to each command: the words that name its job, the stages of a run, and what the job does where all are met. It is a relation, since the player's bytes may be chosen.
-use Rattle.std.specs.Prelude.{◌≡◌, ℕ, ◌+◌, ◌-◌, ◌≤◌, List, [], ◌∷◌, codes, Option, Some, None, length}
+use Rattle.std.specs.Prelude.{◌≡◌, ◌≢◌, ℕ, ◌+◌, ◌-◌, ◌≤◌, List, [], ◌∷◌, codes, Option, Some, None, length}
 use Rattle.goat_io.specs.Files.{Files}
 use Rattle.song_model.specs.declared.songs.Song.{Song}
 use Rattle.song_model.specs.Canonical.{canonical}
 use Rattle.psid.specs.declared.header.Psid.{Psid}
 use Rattle.cpu6502.specs.declared.machine.Machine.{Machine}
 use Rattle.sid_run.specs.State.{loaded}
-use Rattle.goat_cli.specs.Words.{Job, Pack, Copy, Run, ArePackArguments, AreCopyArguments, AreRunArguments}
+use Rattle.goat_cli.specs.Words.{Job, Pack, Copy, Run, ArePackArguments, AreRunArguments}
 use Rattle.goat_cli.specs.Stages.{Stage, IsThere, Fits, SpellsSong, CanBePacked, IsPsid, OffersSubtune, CallsReturn, HoldsSong, HoldsPsid, input_limit}
 use Rattle.goat_cli.specs.Packed.{IsPackedFile}
 use Rattle.goat_cli.specs.Calls.{FirstCalls}
@@ -40,10 +40,10 @@ about (Pack input output psid address zero_page) = record {
   stages = IsThere input ∷ Fits input input_limit ∷ SpellsSong input ∷ CanBePacked input ∷ [];
   does = WritesFile output (λ files file. (song : Song) × HoldsSong files input song × IsPackedFile psid address zero_page song file);
 }
--- of a song the canonical spelling is written
+-- of a song the canonical spelling is written; the arguments are `IN OUT`
 about (Copy input output) = record {
   command = codes "copy";
-  has_arguments = λ words. AreCopyArguments words input output;
+  has_arguments = λ words. (words ≡ input ∷ output ∷ []) × (input ≢ []) × (output ≢ []);
   stages = IsThere input ∷ Fits input input_limit ∷ SpellsSong input ∷ [];
   does = WritesFile output (λ files file. (song : Song) × HoldsSong files input song × (file ≡ canonical song));
 }

@@ -56,12 +56,6 @@ pub record ArePackArguments (arguments : List (List ℕ)) (input output : List �
   pub address_spelled : IsAddressWord address_word address
   pub zero_page_spelled : IsZeroPageWord zero_page_word zero_page
 
--- the arguments are `IN OUT`
-pub record AreCopyArguments (arguments : List (List ℕ)) (input output : List ℕ) : Type 0 where
-  pub form : arguments ≡ input ∷ output ∷ []
-  pub in_named : input ≢ []
-  pub out_named : output ≢ []
-
 -- the arguments are `IN SUBTUNE FRAMES`, with a subtune of at most 255 and at most 100,000 frames
 pub record AreRunArguments (arguments : List (List ℕ)) (input : List ℕ) (subtune frames : ℕ) : Type 0 where
   pub subtune_word : List ℕ

@@ -5,7 +5,7 @@ ghost use Rattle.goat_cli.specs.Job.{job_of};
 ghost use Rattle.goat_cli.specs.Last.{last_word};
 ghost use Rattle.goat_cli.specs.Stands.{folder_state, SinkState};
 ghost use Rattle.goat_cli.specs.Endings.{JobEnds};
-ghost use Rattle.goat_cli.specs.Words.{texts, HasAllowedNumbers, AreCopyArguments, Copy};
+ghost use Rattle.goat_cli.specs.Words.{texts, HasAllowedNumbers, Copy};
 ghost use Rattle.goat_cli.specs.Jobs.{command_of, AreArgumentsOf};
 
 use crate::refusal::{Refusal, Report};
@@ -24,7 +24,7 @@ pub fn copy_job(arguments: &[String]) -> Result<Job<'_>, WordsFault>
     ensures command { IfOk result (λ job. command_of (job_of job) ≡ codes "copy") }
     ensures limits { IfOk result (λ job. HasAllowedNumbers (job_of job)) }
     ensures none { OnErr result ((input output : List ℕ) →
-        ¬ AreCopyArguments (texts arguments.now) input output) }
+        ¬ AreArgumentsOf (Copy input output) (texts arguments.now)) }
 {
     let [input, output] = arguments else {
         return Err(WordsFault);
