@@ -24,6 +24,7 @@ pub enum Piece<'a> {
 }
 
 impl Default for Piece<'_> {
+    /// A piece without bytes, for the room of a list that isn't used yet.
     fn default() -> Self {
         Piece::Words("")
     }
