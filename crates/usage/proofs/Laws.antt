@@ -2,3 +2,5 @@
 
 -- a song is refused for one thing
 pub use Rattle.usage.proofs.Refusals.{one_refusal}
+-- one count of each kind of used parts, and one set of features
+pub use Rattle.usage.proofs.OneParts.{parts_are_the_songs_lem}

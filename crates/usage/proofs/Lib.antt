@@ -17,3 +17,5 @@ mod Refusals
 -- Features.
 mod FeatureMarks
 mod SetBits
+-- What is said of used parts is the song's own.
+mod OneParts

@@ -19,10 +19,10 @@ use Rattle.usage.specs.FeatureParts.{AddsBit}
 
 -- ---- one bit
 
-bit_set : (n k : ℕ) → bit_at n k ≡ 1 → IsBitSet n k
+pub bit_set : (n k : ℕ) → bit_at n k ≡ 1 → IsBitSet n k
 bit_set n k e = (bit_set_by_shift n k).0 (shr_and_one n k ∙ e)
 
-bit_is_set : (n k : ℕ) → IsBitSet n k → bit_at n k ≡ 1
+pub bit_is_set : (n k : ℕ) → IsBitSet n k → bit_at n k ≡ 1
 bit_is_set n k h = sym (shr_and_one n k) ∙ (bit_set_by_shift n k).1 h
 
 set_here : (n k : ℕ) → k < 24 → IsBitSet (bit_or n (1 * 2 ^ k % 2 ^ 32)) k

@@ -1,6 +1,8 @@
 -- To believe: what the marks of used parts say.
 pub mod Marks
 pub mod Parts
+-- Claimed: a law of these.
+pub mod PartLaws
 -- Inner: what the parts of `usage` promise each other.
 pub mod Played
 pub mod Search

@@ -9,6 +9,8 @@
 #![tactic(auto)]
 
 mod checks;
+/// Facts about the definitions.
+pub mod claims;
 mod features;
 mod found;
 mod marks;
