@@ -1,9 +1,15 @@
 -- One status is due, and one text: each cause by itself.
-use Rattle.std.proofs.Common.{◌≡◌, ◌≢◌, ℕ, ◌+◌, ◌-◌, ◌↔◌, ◌==◌, ◌||◌, Bool, true, false, inl, inr, List, [], ◌∷◌, ◌++◌, Option, None, option_map, refl, sym, ap, ◌∙◌, subst, arith}
+use Rattle.std.proofs.Common.{◌≡◌, ◌≢◌, ℕ, ◌+◌, ◌-◌, ◌↔◌, ◌==◌, ◌||◌, Bool, true, false, inl, inr, List, [], ◌∷◌, ◌++◌, Option, None, option_map, length, refl, sym, ap, ◌∙◌, subst, arith}
 use Rattle.std.proofs.lemmas.List.{append_assoc}
 use Rattle.goat_io.specs.Files.{Files}
 use Rattle.sid_run.specs.State.{loaded}
-use Rattle.goat_cli.specs.Words.{Job, Run}
+use Rattle.goat_cli.specs.Words.{Job, Check, Run}
+use Rattle.song_model.specs.declared.songs.Song.{Song}
+use Rattle.song_model.specs.LookUp.{playable_subtunes}
+use Rattle.usage.specs.declared.parts.UsedParts.{UsedParts}
+use Rattle.usage.specs.Parts.{AreUsedParts}
+use Rattle.usage.proofs.Laws.{parts_are_the_songs_lem}
+use Rattle.goat_cli.specs.Lines.{check_line}
 use Rattle.goat_cli.specs.Calls.{FirstCalls}
 use Rattle.goat_cli.specs.RegisterText.{register_lines}
 use Rattle.goat_cli.specs.Stages.{Stage, IsThere, status_of, Ends, AllPass, FirstEnds}
@@ -15,7 +21,7 @@ use Rattle.goat_cli.specs.Due.{IsDue}
 use Rattle.goat_cli.specs.Stands.{ComesTo}
 use Rattle.goat_cli.proofs.Forms.{one_job}
 use Rattle.goat_cli.proofs.Calls.{one_list}
-use Rattle.goat_cli.proofs.Passes.{one_psid_held, stage_facts}
+use Rattle.goat_cli.proofs.Passes.{one_song_held, one_psid_held, stage_facts}
 use Rattle.goat_cli.proofs.Ends.{first_ends}
 use Rattle.goat_cli.proofs.Chains.{pass_more}
 
@@ -74,7 +80,19 @@ HasOneText files (PrintsLines text) =
     (lines others : List (List ℕ)) → text files lines → text files others → lines ≡ others
 HasOneText files (WritesFile output holds) = Unit {0}
 
+-- a song has one line of used parts
+one_check_line : (song : Song) (a b : UsedParts) → AreUsedParts song a → AreUsedParts song b → {lines others : List (List ℕ)} →
+    lines ≡ check_line (length (playable_subtunes song)) a ∷ [] → others ≡ check_line (length (playable_subtunes song)) b ∷ [] → lines ≡ others
+one_check_line song a b p q one other =
+    let same = parts_are_the_songs_lem song a b p q in
+    rw (one, other)
+    (rw (same.patterns, same.instruments, same.wave, same.pulse, same.filter, same.speed, same.features) refl)
+
 has_one_text : (files : Files) (job : Job) → HasOneText files (about job).does
+has_one_text files (Check input) = λ lines others p q.
+    let same = one_song_held files input p.0 q.0 p.2 q.2 in
+    one_check_line q.0 p.1 q.1 (subst (λ song. AreUsedParts song p.1) same p.3) q.3
+    (p.4 ∙ ap (λ song. check_line (length (playable_subtunes song)) p.1 ∷ []) same) q.4
 has_one_text files (Run input subtune frames) = λ lines others p q.
     let same = one_psid_held files input p.0 q.0 p.1 q.1 in
     let first =

@@ -5,7 +5,7 @@ use Rattle.std.specs.Global.{Global}
 use Rattle.std.specs.String.{string_bytes}
 use Rattle.std.specs.Str.{bytes_eq}
 use Rattle.base.proofs.Laws.{same_head}
-use Rattle.goat_cli.specs.Words.{Job, Pack, Copy, Run, texts, format_word, IsAddressWord, IsZeroPageWord, IsNumberWord, ArePackArguments}
+use Rattle.goat_cli.specs.Words.{Job, Pack, Copy, Check, Run, texts, format_word, IsAddressWord, IsZeroPageWord, IsNumberWord, ArePackArguments}
 use Rattle.goat_cli.specs.Jobs.{WordsOf, command_of}
 
 -- ---- a list of five words
@@ -93,6 +93,8 @@ one_job ws (Pack i o f a z) (Pack i2 o2 f2 a2 z2) p q =
 one_job ws (Pack i o f a z) other p q = absurd (differ ws (Pack i o f a z) other p q refl refl)
 one_job ws (Copy i o) (Copy i2 o2) p q = cc (p.words_are, q.words_are, p.are_arguments.0, q.are_arguments.0)
 one_job ws (Copy i o) other p q = absurd (differ ws (Copy i o) other p q refl refl)
+one_job ws (Check i) (Check i2) p q = cc (p.words_are, q.words_are, p.are_arguments.0, q.are_arguments.0)
+one_job ws (Check i) other p q = absurd (differ ws (Check i) other p q refl refl)
 one_job ws (Run i s n) (Run i2 s2 n2) p q =
     let v = p.are_arguments in
     let w = q.are_arguments in

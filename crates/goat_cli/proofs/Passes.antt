@@ -10,8 +10,10 @@ use Rattle.psid.specs.Reading.{psid_read}
 use Rattle.sid_run.specs.State.{loaded}
 use Rattle.goat_cli.specs.Calls.{HasSubtune, FirstCalls, MeetsStopAt, StopsIn}
 use Rattle.goat_cli.specs.RegisterText.{register_lines}
-use Rattle.goat_cli.specs.Lines.{song_fault_line, psid_fault_line, no_subtune_line, stop_line}
-use Rattle.goat_cli.specs.Stages.{Stage, IsThere, Fits, SpellsSong, CanBePacked, IsPsid, OffersSubtune, CallsReturn, HoldsSong, HoldsPsid, IsMet, Ends, Passes}
+use Rattle.goat_cli.specs.Lines.{song_fault_line, unplayable_line, psid_fault_line, no_subtune_line, stop_line}
+use Rattle.goat_cli.specs.Stages.{Stage, IsThere, Fits, SpellsSong, CanBePlayed, CanBePacked, IsPsid, OffersSubtune, CallsReturn, HoldsSong, HoldsPsid, IsMet, Ends, Passes}
+use Rattle.play_model.specs.Playable.{IsPlayable, IsRefusedFor}
+use Rattle.usage.proofs.Laws.{one_refusal}
 use Rattle.gts5.proofs.Laws.{spells_once, spells_has_no_fault}
 use Rattle.goat_cli.proofs.Calls.{returned_or_stopped, one_list, one_stop_at, one_reason}
 
@@ -75,6 +77,15 @@ module _ (files : Files) where
     once = λ lines others p q.
         let both : Some p.1 ≡ Some q.1 = sym p.3 ∙ ap fault_of (one_file files name p.0 q.0 p.2 q.2) ∙ q.3 in
         p.4 ∙ ap (λ f. song_fault_line f ∷ []) (cc (both)) ∙ sym q.4;
+  }
+  stage_facts (CanBePlayed name) = record {
+    passes = λ met lines ends.
+        let same = one_song_held files name met.0 ends.0 met.1 ends.2 in
+        subst IsPlayable same met.2 ends.1 ends.3.is_such;
+    once = λ lines others p q.
+        let same = one_song_held files name p.0 q.0 p.2 q.2 in
+        let one = one_refusal q.0 p.1 q.1 (subst (λ song. IsRefusedFor song p.1) same p.3) q.3 in
+        p.4 ∙ ap (λ refusal. unplayable_line refusal ∷ []) one ∙ sym q.4;
   }
   stage_facts (CanBePacked name) = record {
     passes = λ met lines ends. ends.2 (subst IsSilent (one_song_held files name met.0 ends.0 met.1 ends.1) met.2);

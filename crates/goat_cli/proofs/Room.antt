@@ -7,8 +7,8 @@ use Rattle.std.proofs.lemmas.List.Sums.{sum_by-cons}
 use Rattle.hex.specs.Hex.{lower_digits, upper_digits, encode_lower}
 use Rattle.hex.proofs.HexLemmas.{length-encode_with}
 use Rattle.goat_cli.specs.declared.message.Piece.{Piece}
-use Rattle.goat_cli.specs.declared.message.Piece.TheVariants.{Words, Name, Number, Address}
-use Rattle.goat_cli.specs.Lines.{address_digits}
+use Rattle.goat_cli.specs.declared.message.Piece.TheVariants.{Words, Name, Number, Address, Features}
+use Rattle.goat_cli.specs.Lines.{address_digits, feature_digits}
 use Rattle.goat_cli.specs.RegisterText.{register_line, call_digits}
 use Rattle.std.proofs.lemmas.List.{length-replicate}
 use Rattle.goat_cli.specs.Laws.{LinesHaveRoom}
@@ -18,10 +18,23 @@ use Rattle.goat_cli.specs.Message.{piece_text, line_of, own_length, name_length,
 pub digits_fit : (n : ℕ) → n < 2 ^ 64 → length (decimal n) ≤ 20
 digits_fit n small = length-decimal-le 20 n (lit< tt) (omega arith) small
 
+pub byte_fits : (n : ℕ) → n < 256 → length (decimal n) ≤ 3
+byte_fits n small = length-decimal-le 3 n (lit< tt) (omega arith) (omega (arith, small))
+
 pub address_fits : (address : ℕ) → length (address_digits address) ≡ 4
 address_fits address = length-encode_with upper_digits ((address / 256) ∷ (address % 256) ∷ [])
 
-pub ruleset pieces_fit = (digits_fit, address_fits)
+-- numbers of two and of three digits
+pub two_digits : (n : ℕ) → n ≤ 64 → length (decimal n) ≤ 2
+two_digits n small = length-decimal-le 2 n (lit< tt) (omega arith) (omega (arith, small))
+
+pub three_digits : (n : ℕ) → n ≤ 256 → length (decimal n) ≤ 3
+three_digits n small = length-decimal-le 3 n (lit< tt) (omega arith) (omega (arith, small))
+
+pub features_fit : (bits : ℕ) → length (feature_digits bits) ≡ 6
+features_fit bits = length-encode_with lower_digits ((bits / 65536 % 256) ∷ (bits / 256 % 256) ∷ (bits % 256) ∷ [])
+
+pub ruleset pieces_fit = (digits_fit, byte_fits, address_fits, features_fit)
 
 -- a line is longer than its first pieces
 pub first_pieces : (pieces : List Piece) (i room : ℕ) (text : List ℕ) (d : Piece) → i < length pieces →
@@ -44,6 +57,7 @@ piece_lengths (Words words) = omega arith
 piece_lengths (Name name) = omega arith
 piece_lengths (Number number) = omega arith
 piece_lengths (Address address) = omega arith
+piece_lengths (Features bits) = omega arith
 
 lengths : (pieces : List Piece) →
     sum_by (λ piece. length (piece_text piece)) pieces ≡ sum_by own_length pieces + sum_by name_length pieces

@@ -3,15 +3,18 @@ use Rattle.std.specs.Prelude.{◌≡◌, ◌≢◌, ℕ, ◌+◌, ◌-◌, ◌�
 use Rattle.goat_io.specs.Files.{Files}
 use Rattle.song_model.specs.declared.songs.Song.{Song}
 use Rattle.song_model.specs.Canonical.{canonical}
+use Rattle.song_model.specs.LookUp.{playable_subtunes}
+use Rattle.usage.specs.declared.parts.UsedParts.{UsedParts}
+use Rattle.usage.specs.Parts.{AreUsedParts}
 use Rattle.psid.specs.declared.header.Psid.{Psid}
 use Rattle.cpu6502.specs.declared.machine.Machine.{Machine}
 use Rattle.sid_run.specs.State.{loaded}
-use Rattle.goat_cli.specs.Words.{Job, Pack, Copy, Run, ArePackArguments, AreRunArguments}
-use Rattle.goat_cli.specs.Stages.{Stage, IsThere, Fits, SpellsSong, CanBePacked, IsPsid, OffersSubtune, CallsReturn, HoldsSong, HoldsPsid, input_limit}
+use Rattle.goat_cli.specs.Words.{Job, Pack, Copy, Check, Run, ArePackArguments, AreRunArguments}
+use Rattle.goat_cli.specs.Stages.{Stage, IsThere, Fits, SpellsSong, CanBePlayed, CanBePacked, IsPsid, OffersSubtune, CallsReturn, HoldsSong, HoldsPsid, input_limit}
 use Rattle.goat_cli.specs.Packed.{IsPackedFile}
 use Rattle.goat_cli.specs.Calls.{FirstCalls}
 use Rattle.goat_cli.specs.RegisterText.{register_lines}
-use Rattle.goat_cli.specs.Lines.{wrote_line}
+use Rattle.goat_cli.specs.Lines.{wrote_line, check_line}
 
 -- what a job does that passes all its stages: it prints these lines and writes nothing; or it writes such a file under the name, and prints how many bytes it has
 pub data Deed : Type 1 where
@@ -37,7 +40,7 @@ abbrev pub about : Job → About
 about (Pack input output psid address zero_page) = record {
   command = codes "pack";
   has_arguments = λ words. ArePackArguments words input output psid address zero_page;
-  stages = IsThere input ∷ Fits input input_limit ∷ SpellsSong input ∷ CanBePacked input ∷ [];
+  stages = IsThere input ∷ Fits input input_limit ∷ SpellsSong input ∷ CanBePlayed input ∷ CanBePacked input ∷ [];
   does = WritesFile output (λ files file. (song : Song) × HoldsSong files input song × IsPackedFile psid address zero_page song file);
 }
 -- of a song the canonical spelling is written; the arguments are `IN OUT`
@@ -46,6 +49,13 @@ about (Copy input output) = record {
   has_arguments = λ words. (words ≡ input ∷ output ∷ []) × (input ≢ []) × (output ≢ []);
   stages = IsThere input ∷ Fits input input_limit ∷ SpellsSong input ∷ [];
   does = WritesFile output (λ files file. (song : Song) × HoldsSong files input song × (file ≡ canonical song));
+}
+-- of a song it is told what it uses; the argument is `IN`
+about (Check input) = record {
+  command = codes "check";
+  has_arguments = λ words. (words ≡ input ∷ []) × (input ≢ []);
+  stages = IsThere input ∷ Fits input input_limit ∷ SpellsSong input ∷ CanBePlayed input ∷ [];
+  does = PrintsLines (λ files lines. (song : Song) × (parts : UsedParts) × HoldsSong files input song × AreUsedParts song parts × (lines ≡ check_line (length (playable_subtunes song)) parts ∷ []));
 }
 -- of a PSID file the calls are shown: init, and play as often as there are frames
 about (Run input subtune frames) = record {

@@ -1,7 +1,13 @@
 -- The lines that the program prints, but for those of registers.
 use Rattle.std.specs.Prelude.{ℕ, ◌/◌, ◌%◌, List, [], ◌∷◌, ◌++◌, codes, decimal}
 use Rattle.std.specs.List.{concat}
-use Rattle.hex.specs.Hex.{encode_upper}
+use Rattle.hex.specs.Hex.{encode_lower, encode_upper}
+use Rattle.song_model.specs.declared.tables.TableName.{TableName}
+use Rattle.song_model.specs.declared.tables.TableName.TheVariants.{Wave, Pulse, Filter, Speed}
+use Rattle.play_model.specs.declared.unplayable.Unplayable.{Unplayable}
+use Rattle.play_model.specs.declared.unplayable.Unplayable.TheVariants.{NoSubtune, MissingPattern, BadRestart, TableOverflow, PointerToJump}
+use Rattle.usage.specs.declared.parts.UsedParts.{UsedParts}
+use Rattle.usage.specs.Marks.{count_of}
 use Rattle.gts5.specs.declared.faults.SongFault.{SongFault}
 use Rattle.gts5.specs.declared.faults.SongFault.TheVariants as song
 use Rattle.psid.specs.declared.faults.PsidFault.{PsidFault}
@@ -70,6 +76,31 @@ stop_line reason call = line (codes "machine stopped: " ∷ stop_text reason ∷
 
 abbrev pub not_built_line : List ℕ
 not_built_line = line (codes "not built" ∷ [])
+
+-- ---- songs that can be played, and others
+
+-- the name of a table
+abbrev pub table_word : TableName → List ℕ
+table_word Wave = codes "wave"
+table_word Pulse = codes "pulse"
+table_word Filter = codes "filter"
+table_word Speed = codes "speed"
+
+-- for a song that can't be played
+abbrev pub unplayable_line : Unplayable → List ℕ
+unplayable_line NoSubtune = line (codes "unplayable: no subtune" ∷ [])
+unplayable_line (MissingPattern s c place pattern) = line (codes "unplayable: missing pattern " ∷ decimal pattern ∷ codes " in subtune " ∷ decimal s ∷ codes " channel " ∷ decimal c ∷ codes " place " ∷ decimal place ∷ [])
+unplayable_line (BadRestart s c) = line (codes "unplayable: bad restart in subtune " ∷ decimal s ∷ codes " channel " ∷ decimal c ∷ [])
+unplayable_line (TableOverflow name row) = line (codes "unplayable: " ∷ table_word name ∷ codes " table ends before row " ∷ decimal row ∷ [])
+unplayable_line (PointerToJump name row) = line (codes "unplayable: " ∷ table_word name ∷ codes " pointer to jump row " ∷ decimal row ∷ [])
+
+-- the low 24 bits of a number as six hexadecimal digits in lower case
+abbrev pub feature_digits : ℕ → List ℕ
+feature_digits bits = encode_lower ((bits / 65536 % 256) ∷ (bits / 256 % 256) ∷ (bits % 256) ∷ [])
+
+-- for a song with so many playable subtunes, and these used parts
+abbrev pub check_line : ℕ → UsedParts → List ℕ
+check_line subtunes parts = line (codes "subtunes " ∷ decimal subtunes ∷ codes " patterns " ∷ decimal (count_of parts.patterns) ∷ codes " instruments " ∷ decimal (count_of parts.instruments) ∷ codes " wave " ∷ decimal (count_of parts.wave) ∷ codes " pulse " ∷ decimal (count_of parts.pulse) ∷ codes " filter " ∷ decimal (count_of parts.filter) ∷ codes " speed " ∷ decimal (count_of parts.speed) ∷ codes " features " ∷ feature_digits parts.features.0 ∷ [])
 
 -- for a file of this length
 abbrev pub wrote_line : ℕ → List ℕ

@@ -3,8 +3,8 @@ use Rattle.std.specs.Prelude.{ℕ, ◌≤◌, List, ◌++◌, flat_map, sum_by, 
 use Rattle.goat_cli.specs.declared.status.Status.{Status}
 use Rattle.goat_cli.specs.declared.status.Status.TheVariants as status
 use Rattle.goat_cli.specs.declared.message.Piece.{Piece}
-use Rattle.goat_cli.specs.declared.message.Piece.TheVariants.{Words, Name, Number, Address}
-use Rattle.goat_cli.specs.Lines.{address_digits}
+use Rattle.goat_cli.specs.declared.message.Piece.TheVariants.{Words, Name, Number, Address, Features}
+use Rattle.goat_cli.specs.Lines.{address_digits, feature_digits}
 
 -- the exit status
 abbrev pub number_of : Status → ℕ
@@ -14,6 +14,7 @@ number_of status.Missing = 2
 number_of status.TooLong = 3
 number_of status.ReadFault = 4
 number_of status.NotASong = 5
+number_of status.Unplayable = 6
 number_of status.WriteFault = 9
 number_of status.SinkFault = 10
 number_of status.NoSubtune = 11
@@ -28,6 +29,7 @@ piece_text (Words words) = words.now
 piece_text (Name name) = name.now
 piece_text (Number number) = decimal number
 piece_text (Address address) = address_digits address
+piece_text (Features bits) = feature_digits bits
 
 -- the line of these pieces
 abbrev pub line_of : List Piece → List ℕ

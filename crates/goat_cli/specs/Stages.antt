@@ -6,6 +6,8 @@ use Rattle.song_model.specs.Silent.{IsSilent}
 use Rattle.gts5.specs.declared.faults.SongFault.{SongFault}
 use Rattle.gts5.specs.Spells.{Spells}
 use Rattle.gts5.specs.Faults.{fault_of}
+use Rattle.play_model.specs.declared.unplayable.Unplayable.{Unplayable}
+use Rattle.play_model.specs.Playable.{IsPlayable, IsRefusedFor}
 use Rattle.psid.specs.declared.header.Psid.{Psid}
 use Rattle.psid.specs.declared.faults.PsidFault.{PsidFault}
 use Rattle.psid.specs.Reading.{psid_read}
@@ -13,7 +15,7 @@ use Rattle.cpu6502.specs.declared.machine.Machine.{Machine}
 use Rattle.sid_run.specs.State.{loaded}
 use Rattle.goat_cli.specs.Calls.{HasSubtune, FirstCalls, StopsIn}
 use Rattle.goat_cli.specs.RegisterText.{register_lines}
-use Rattle.goat_cli.specs.Lines.{missing_line, too_long_line, song_fault_line, not_built_line, psid_fault_line, no_subtune_line, stop_line}
+use Rattle.goat_cli.specs.Lines.{missing_line, too_long_line, song_fault_line, unplayable_line, not_built_line, psid_fault_line, no_subtune_line, stop_line}
 
 -- the most bytes of a song or a PSID file
 abbrev pub input_limit : ℕ
@@ -24,6 +26,7 @@ pub data Stage : Type 0 where
   IsThere : (name : List ℕ) → Stage
   Fits : (name : List ℕ) (limit : ℕ) → Stage
   SpellsSong : (name : List ℕ) → Stage
+  CanBePlayed : (name : List ℕ) → Stage
   CanBePacked : (name : List ℕ) → Stage
   IsPsid : (name : List ℕ) → Stage
   OffersSubtune : (name : List ℕ) (subtune : ℕ) → Stage
@@ -67,6 +70,12 @@ rule_of (SpellsSong name) = record {
   asks = λ files. (song : Song) × HoldsSong files name song;
   status = 5;
   ends = λ files lines. (bytes : List ℕ) × (fault : SongFault) × HoldsBytes files name bytes × (fault_of bytes ≡ Some fault) × (lines ≡ song_fault_line fault ∷ []);
+}
+-- the song can be played
+rule_of (CanBePlayed name) = record {
+  asks = λ files. (song : Song) × HoldsSong files name song × IsPlayable song;
+  status = 6;
+  ends = λ files lines. (song : Song) × (refusal : Unplayable) × HoldsSong files name song × IsRefusedFor song refusal × (lines ≡ unplayable_line refusal ∷ []);
 }
 -- the song is silent
 rule_of (CanBePacked name) = record {

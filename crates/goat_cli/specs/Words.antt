@@ -35,10 +35,11 @@ frame_limit = 100000
 abbrev pub subtune_limit : ℕ
 subtune_limit = 255
 
--- what the program is asked to do: pack the song in one file into another, a PSID file or a raw one; copy it into another file; or run a PSID file: a subtune, counted from 1, and a number of frames
+-- what the program is asked to do: pack the song in one file into another, a PSID file or a raw one; copy it into another file; tell what a song uses; or run a PSID file: a subtune, counted from 1, and a number of frames
 pub data Job : Type 0 where
   Pack : (input output : List ℕ) (psid : Bool) (address zero_page : ℕ) → Job
   Copy : (input output : List ℕ) → Job
+  Check : (input : List ℕ) → Job
   Run : (input : List ℕ) (subtune frames : ℕ) → Job
 
 -- the word for the format of a packed file

@@ -6,6 +6,8 @@ ghost use Rattle.goat_cli.specs.Stands.{folder_state, sink_state};
 ghost use Rattle.goat_cli.specs.Endings.{JobEnds};
 ghost use Rattle.goat_cli.specs.Words.{HasAllowedNumbers};
 
+/// `check IN`.
+pub mod check;
 /// `copy IN OUT`.
 pub mod copy;
 /// `pack IN OUT psid|raw ADDRESS ZP`.
@@ -13,6 +15,7 @@ pub mod pack;
 /// `run IN SUBTUNE FRAMES`.
 pub mod run;
 
+use crate::commands::check::check_song;
 use crate::commands::copy::copy_song;
 use crate::commands::pack::pack_song;
 use crate::commands::run::run_psid;
@@ -50,6 +53,7 @@ pub fn perform<'a, F: Folder, K: Sink>(
             ..
         } => pack_song(alloc, input, output, psid, address, folder),
         Job::Copy { input, output } => copy_song(alloc, input, output, folder),
+        Job::Check { input } => check_song(alloc, input, folder),
         Job::Run {
             input,
             subtune,

@@ -1,7 +1,7 @@
 //! The lines that a run prints.
 
 ghost use Rattle.std.specs.Prelude.{◌≡◌, ◌<◌, ◌≤◌, ◌+◌, ◌++◌, [], length, All, IfOk, OnOk, OnErr};
-ghost use Rattle.goat_cli.specs.Lines.{address_digits};
+ghost use Rattle.goat_cli.specs.Lines.{address_digits, feature_digits};
 ghost use Rattle.goat_cli.specs.Words.{texts};
 
 use crate::message::{Message, Piece};
@@ -115,6 +115,10 @@ impl Line {
                 let digits = upper_digits(*address);
                 self.add(&digits)
             }
+            Piece::Features(bits) => {
+                let digits = lower_digits(*bits);
+                self.add(&digits)
+            }
         }
     }
 
@@ -164,5 +168,15 @@ fn upper_digits(address: u16) -> [u8; 4]
     let mut digits = [0; 4];
     let _written = hex::encode_to_slice([high, low], &mut digits);
     digits.make_ascii_uppercase();
+    digits
+}
+
+/// The low 24 bits of a number as six hexadecimal digits in lower case.
+fn lower_digits(bits: u32) -> [u8; 6]
+    ensures { result ≡ feature_digits bits }
+{
+    let [low, middle, high, _] = bits.to_le_bytes();
+    let mut digits = [0; 6];
+    let _written = hex::encode_to_slice([high, middle, low], &mut digits);
     digits
 }

@@ -21,6 +21,8 @@ pub enum Piece<'a> {
     Number(u64),
     /// An address, as four hexadecimal digits in upper case.
     Address(u16),
+    /// The bits of features, as six hexadecimal digits in lower case: the low 24 bits of the number.
+    Features(u32),
 }
 
 impl Default for Piece<'_> {

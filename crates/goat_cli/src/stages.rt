@@ -1,15 +1,17 @@
 //! The stages of a run: each is met, or ends the run.
 #![tactic(auto, using(crate::proofs::Room::pieces_fit))]
 
-ghost use Rattle.std.specs.Prelude.{◌≡◌, ◌≢◌, ◌+◌, ◌-◌, ◌≤◌, ℕ, List, [], ◌∷◌, Some, IfOk, IfErr, OnOk, Ok, decimal, length};
+ghost use Rattle.std.specs.Prelude.{◌≡◌, ◌≢◌, ◌+◌, ◌-◌, ◌≤◌, ℕ, List, [], ◌∷◌, codes, Some, IfOk, IfErr, OnOk, Ok, decimal, length};
 ghost use Rattle.goat_io.specs.Files.{Files, file_of};
 ghost use Rattle.song_model.specs.Silent.{IsSilent};
 ghost use Rattle.gts5.specs.Spells.{Spells};
+ghost use Rattle.play_model.specs.Playable.{IsPlayable};
+ghost use Rattle.usage.specs.Parts.{AreUsedParts};
 ghost use Rattle.psid.specs.Reading.{psid_read};
 ghost use Rattle.goat_cli.specs.Calls.{HasSubtune};
 ghost use Rattle.goat_cli.specs.Last.{last_of, last_word, Says};
-ghost use Rattle.goat_cli.specs.Lines.{line, song_fault_line, psid_fault_line};
-ghost use Rattle.goat_cli.specs.Stages.{SpellsSong, CanBePacked, IsPsid, OffersSubtune, HoldsSong, HoldsPsid, input_limit};
+ghost use Rattle.goat_cli.specs.Lines.{line, song_fault_line, table_word, unplayable_line, psid_fault_line};
+ghost use Rattle.goat_cli.specs.Stages.{SpellsSong, CanBePlayed, CanBePacked, IsPsid, OffersSubtune, HoldsSong, HoldsPsid, input_limit};
 ghost use Rattle.goat_cli.specs.Stands.{folder_state};
 ghost use Rattle.goat_cli.specs.Endings.{Refuses, WasRead, ReadFails, WriteEnds};
 
@@ -19,9 +21,11 @@ use crate::silent::is_silent;
 use crate::status::Status;
 use goat_io::{Folder, ReadFault, WriteFault};
 use gts5::SongFault;
+use play_model::Unplayable;
 use psid::{Psid, PsidFault};
-use song_model::Song;
+use song_model::{Song, TableName};
 use std::alloc::Global;
+use usage::{UsedParts, usage};
 
 /// The most bytes of a song or a PSID file.
 pub const INPUT_LIMIT: u32 = 262_144;
@@ -134,6 +138,98 @@ fn song_fault_at(words: &'static str, offset: u32) -> Refusal<'static>
         Status::NotASong,
         &[Piece::Words(words), Piece::Number(u64::from(offset))],
     )
+}
+
+/// What the song uses.
+///
+/// # Errors
+///
+/// It can't be played.
+pub fn parts_of(song: &Song) -> Result<UsedParts, Refusal<'static>>
+    ensures parts { IfOk result (AreUsedParts song.now) }
+    ensures playable { OnOk result (IsPlayable song.now) }
+    ensures refused { IfErr result (λ refusal. (files : Files) (name : List ℕ) →
+        HoldsSong files name song.now → Refuses files (CanBePlayed name) (last_of refusal)) }
+{
+    match usage(song) {
+        Ok(parts) => Ok(parts),
+        Err(refusal) => Err(unplayable_refusal(refusal)),
+    }
+}
+
+/// The refusal of a song that can't be played.
+fn unplayable_refusal(refusal: Unplayable) -> Refusal<'static>
+    ensures { last_of result ≡ Says 6 (unplayable_line refusal) }
+{
+    match refusal {
+        Unplayable::NoSubtune => Refusal::says(
+            Status::Unplayable,
+            &[Piece::Words("unplayable: no subtune")],
+        ),
+        Unplayable::MissingPattern {
+            subtune,
+            channel,
+            place,
+            pattern,
+        } => Refusal::says(
+            Status::Unplayable,
+            &[
+                Piece::Words("unplayable: missing pattern "),
+                Piece::Number(u64::from(pattern)),
+                Piece::Words(" in subtune "),
+                Piece::Number(u64::from(subtune)),
+                Piece::Words(" channel "),
+                Piece::Number(u64::from(channel)),
+                Piece::Words(" place "),
+                Piece::Number(u64::from(place)),
+            ],
+        ),
+        Unplayable::BadRestart { subtune, channel } => Refusal::says(
+            Status::Unplayable,
+            &[
+                Piece::Words("unplayable: bad restart in subtune "),
+                Piece::Number(u64::from(subtune)),
+                Piece::Words(" channel "),
+                Piece::Number(u64::from(channel)),
+            ],
+        ),
+        Unplayable::TableOverflow { table, row } => {
+            unplayable_row(table, " table ends before row ", row)
+        }
+        Unplayable::PointerToJump { table, row } => {
+            unplayable_row(table, " pointer to jump row ", u16::from(row))
+        }
+    }
+}
+
+/// The refusal of a song that can't be played because of a row of a table.
+fn unplayable_row(table: TableName, words: &'static str, row: u16) -> Refusal<'static>
+    requires { length words.now ≤ 24 }
+    ensures { last_of result ≡ Says 6 (line (codes "unplayable: " ∷ table_word table ∷ words.now ∷
+        decimal row ∷ [])) }
+{
+    Refusal::says(
+        Status::Unplayable,
+        &[
+            Piece::Words("unplayable: "),
+            Piece::Words(table_word(table)),
+            Piece::Words(words),
+            Piece::Number(u64::from(row)),
+        ],
+    )
+}
+
+/// The name of a table.
+fn table_word(table: TableName) -> &'static str
+    ensures word { result.now ≡ table_word table }
+    ensures short { length result.now ≤ 6 }
+{
+    match table {
+        TableName::Wave => "wave",
+        TableName::Pulse => "pulse",
+        TableName::Filter => "filter",
+        TableName::Speed => "speed",
+    }
 }
 
 /// Tells whether the song can be packed: silent songs can.

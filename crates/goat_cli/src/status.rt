@@ -18,6 +18,8 @@ pub enum Status {
     ReadFault = 4,
     /// The file breaks the format of songs.
     NotASong = 5,
+    /// The song can't be played.
+    Unplayable = 6,
     /// The folder failed to write the file.
     WriteFault = 9,
     /// The sink failed to take a line; no other follows.

@@ -5,6 +5,7 @@ ghost use Rattle.goat_cli.specs.Words.{texts, HasAllowedNumbers};
 ghost use Rattle.goat_cli.specs.Jobs.{IsNoForm, WordsOf};
 ghost use Rattle.goat_cli.specs.Job.{job_of};
 
+use crate::commands::check::check_job;
 use crate::commands::copy::copy_job;
 use crate::commands::pack::pack_job;
 use crate::commands::run::run_job;
@@ -27,6 +28,10 @@ pub enum Job<'a> {
     Copy {
         input: &'a str,
         output: &'a str,
+    },
+    /// `check IN`: tell what the song in the file IN uses, or why it can't be played.
+    Check {
+        input: &'a str,
     },
     /// `run IN SUBTUNE FRAMES`: run the PSID file IN, and print the SID's registers after each call.
     Run {
@@ -58,6 +63,7 @@ pub fn parse_words(words: &[String]) -> Result<Job<'_>, WordsFault>
     match command.as_str() {
         "pack" => pack_job(arguments),
         "copy" => copy_job(arguments),
+        "check" => check_job(arguments),
         "run" => run_job(arguments),
         _ => Err(WordsFault),
     }

@@ -12,7 +12,7 @@ ghost use Rattle.goat_cli.specs.Jobs.{command_of, AreArgumentsOf};
 use crate::arguments::{address_of, is_psid, zero_page_of};
 use crate::packed::packed_file;
 use crate::refusal::{Refusal, Report};
-use crate::stages::{INPUT_LIMIT, can_be_packed, read_file, song_of, write_file};
+use crate::stages::{INPUT_LIMIT, can_be_packed, parts_of, read_file, song_of, write_file};
 use crate::words::{Job, WordsFault};
 use goat_io::Folder;
 use std::alloc::Global;
@@ -68,6 +68,7 @@ pub fn pack_song<'a, F: Folder>(
 {
     let bytes = read_file(alloc, input, INPUT_LIMIT, folder)?;
     let song = song_of(alloc, &bytes)?;
+    let _parts = parts_of(&song)?;
     can_be_packed(&song)?;
     let file = packed_file(alloc, psid, &song, address)?;
     write_file(output, &file, folder)

@@ -19,6 +19,15 @@ returns-in_err-song g c =
     (λ zero_page sink.
     refused sink (begun refl was) refl (c.in_err-song.ensures.refused was.files c.args.input.now found))
 
+pub returns-in_err-_parts : goal.returns-in_err-_parts
+returns-in_err-_parts g c =
+    let was = c.in_ok-bytes.ensures.read in
+    let song = c.in_ok-song.song in
+    let holds = song_held was (rw c.deref.ensures.value at c.in_ok-song.ensures.spells) in
+    let p = err_from_is_err_and c.from_residual-in_err-_parts.result c.from_residual-in_err-_parts.ensures.1 in
+    let refuses = c.in_err-_parts.ensures.refused was.files c.args.input.now holds in
+    rw (p.1, p.2) (λ zero_page sink. refused sink (met_next (begun refl was) (song, holds)) refl refuses)
+
 pub returns-in_err-can_be_packed : goal.returns-in_err-can_be_packed
 returns-in_err-can_be_packed g c =
     let was = c.in_ok-bytes.ensures.read in
@@ -28,7 +37,10 @@ returns-in_err-can_be_packed g c =
     err_from_is_err_and c.from_residual-in_err-can_be_packed.result c.from_residual-in_err-can_be_packed.ensures.1
     in
     let refuses = c.in_err-can_be_packed.ensures.refused was.files c.args.input.now holds in
-    rw (p.1, p.2) (λ zero_page sink. refused sink (met_next (begun refl was) (song, holds)) refl refuses)
+    rw (p.1, p.2)
+    (λ zero_page sink.
+    refused sink (met_next (met_next (begun refl was) (song, holds)) (song, holds, c.in_ok-_parts.ensures.playable))
+    refl refuses)
 
 pub returns-in_err-file : goal.returns-in_err-file
 returns-in_err-file g c =
@@ -44,5 +56,7 @@ returns g c = λ zero_page sink.
     let packed =
     subst (IsPackedFile c.args.psid c.args.address zero_page song) (sym c.deref-2.ensures.value)
     (c.in_ok-file.ensures zero_page) in
-    let at = met_next (met_next (begun refl was) (song, holds)) (song, holds, c.in_ok-can_be_packed.ensures.silent) in
+    let at =
+    met_next (met_next (met_next (begun refl was) (song, holds)) (song, holds, c.in_ok-_parts.ensures.playable))
+    (song, holds, c.in_ok-can_be_packed.ensures.silent) in
     written sink at (file, (song, holds, packed), record { lines_are = refl; write_is = refl }) c.write_file.ensures
