@@ -11,6 +11,12 @@ pub mod RangesOfRules
 pub mod RangesOfSteps
 pub mod RangesOfVoices
 pub mod RangesOfFrames
+-- What a song uses: the rows that it comes to, and what a playable song has.
+pub mod ReachedRows
+pub mod PlayableSongs
+pub mod OneRefusal
+pub mod UnusedParts
+pub mod UnusedFeatures
 -- Worked frames, computed: those by hand, and those that bench/worked_frames.py has written.
 pub mod Computed
 pub mod WorkedCorners

@@ -17,11 +17,12 @@ pub mod Used
 pub mod Reached
 pub mod Playable
 pub mod Features
--- Claimed: ranges, the length of a trace, and what silent songs sound like.
+-- Claimed: ranges, the length of a trace, what silent songs sound like, and laws of what a song uses.
 pub mod Ranges
 pub mod RangeLaws
 pub mod TraceLaws
 pub mod SilentTrace
+pub mod UseLaws
 -- Claimed: frames of small songs, worked out by hand.
 pub mod WorkedFrequencies
 pub mod WorkedSongs

@@ -3,6 +3,7 @@
 ghost use Rattle.play_model.specs.TraceLaws.{TracesHaveAllRegisters};
 ghost use Rattle.play_model.specs.SilentTrace.{SilentSongsAreSilent};
 ghost use Rattle.play_model.specs.RangeLaws.{RangesAreKept, FrameRangesAreKept, StartIsInRange, SongRangesAreKept, TransposesWrap};
+ghost use Rattle.play_model.specs.UseLaws.{PlayableSongsAreWhole, ReachedRowsAreBytes, ProgramsStayInTheirTables, ReachedRowsAreClosed, SongsAreRefusedForOneThing, RefusedSongsAreNotPlayable, UnusedPartsDoNotCount};
 ghost use Rattle.play_model.specs.WorkedCorners.{WorkedCornersHold};
 ghost use Rattle.play_model.specs.WorkedEdges.{WorkedEdgesHold};
 ghost use Rattle.play_model.specs.WorkedTunes.{WorkedTunesHold};
@@ -56,6 +57,48 @@ pub fn transposes_wrap()
 /// Each play call of a silent song leaves zeros and the volume, whatever the song's length.
 pub fn silent_songs_are_silent()
     ensures { SilentSongsAreSilent }
+{}
+
+/// What is reached from a reached row is reached, and so is what a pointer or a reached jump names; the rows
+/// of the speed table are those that pointers name.
+#[tactic(auto, using(crate::proofs::ReachedRows::closed_lem))]
+pub fn reached_rows_are_closed()
+    ensures { ReachedRowsAreClosed }
+{}
+
+/// What a playable song uses is stored, its orderlists go on for ever, and no pointer or jump names a jump.
+pub fn playable_songs_are_whole()
+    ensures { PlayableSongsAreWhole }
+{}
+
+/// A reached row of a playable song has a number of one byte.
+#[tactic(auto, using(crate::proofs::PlayableSongs::reached_byte_lem))]
+pub fn reached_rows_are_bytes()
+    ensures { ReachedRowsAreBytes }
+{}
+
+/// From a row that isn't a jump a program of a playable song goes on to another such row, or stops.
+#[tactic(auto, using(crate::proofs::PlayableSongs::stays_lem))]
+pub fn programs_stay_in_their_tables()
+    ensures { ProgramsStayInTheirTables }
+{}
+
+/// A song is refused for one thing at most.
+#[tactic(auto, using(crate::proofs::OneRefusal::one_refusal))]
+pub fn songs_are_refused_for_one_thing()
+    ensures { SongsAreRefusedForOneThing }
+{}
+
+/// A song that is refused can't be played.
+#[tactic(auto, using(crate::proofs::OneRefusal::refused_lem))]
+pub fn refused_songs_are_not_playable()
+    ensures { RefusedSongsAreNotPlayable }
+{}
+
+/// The used parts and the features of a playable song don't depend on what it doesn't use.
+#[tactic(auto, using(crate::proofs::UnusedFeatures::unused_lem))]
+pub fn unused_parts_do_not_count()
+    ensures { UnusedPartsDoNotCount }
 {}
 
 /// Frequencies at the ends of the octaves and beyond the last note.

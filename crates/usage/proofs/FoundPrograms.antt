@@ -1,5 +1,5 @@
 -- What is found of a song's pointers and programs, and the first place where one of them breaks a rule.
-use Rattle.std.proofs.Common.{◌≡◌, ℕ, ◌+◌, ◌-◌, ◌<◌, ◌≤◌, ◌⊎◌, Bool, true, List, [], ◌∷◌, Some, Result, Ok, Err, OnOk, refl, subst, inl, inr, arith}
+use Rattle.std.proofs.Common.{◌≡◌, ℕ, ◌+◌, ◌-◌, ◌<◌, ◌≤◌, ◌⊎◌, Bool, List, [], ◌∷◌, Some, Result, Ok, Err, OnOk, refl, subst, inl, inr, arith}
 use Rattle.std.proofs.lemmas.Bool.{cases_lt}
 use Rattle.std.proofs.lemmas.Bool.Decides.{nat_tests}
 use Rattle.song_model.specs.declared.tables.TableRow.{TableRow}
@@ -10,8 +10,9 @@ use Rattle.song_model.specs.LookUp.{table_of, table_row}
 use Rattle.song_model.specs.Pointers.{wave_row_table}
 use Rattle.play_model.specs.declared.unplayable.Unplayable.{Unplayable}
 use Rattle.play_model.specs.declared.unplayable.Unplayable.TheVariants.{NoSubtune, MissingPattern, BadRestart, TableOverflow, PointerToJump}
-use Rattle.play_model.specs.Reached.{is_jump, IsPlayedPointer, IsReached, played, pointed, led, IsPointer, of_played, of_wave_row}
+use Rattle.play_model.specs.Reached.{IsPlayedPointer, IsReached, played, pointed, led, IsPointer, of_played, of_wave_row}
 use Rattle.play_model.specs.Playable.{table_number, HasPrograms, RunsOff, PointsAtJump, IsNotAfter, IsFirst}
+use Rattle.play_model.proofs.Laws.{jumps_are_programs, no_wave_pointer, same_table}
 use Rattle.usage.specs.Marks.{IsMarked, AreMarks, Adds, AreMarksAt}
 use Rattle.usage.specs.Programs.{IsReachedFrom, first, next}
 use Rattle.usage.specs.Pointers.{IsCommandPointer}
@@ -29,9 +30,6 @@ use Rattle.usage.proofs.TableRows.{marks_with}
 -- a left side that points is a command
 command_left : (left : ℕ) (name : TableName) → wave_row_table left ≡ Some name → (0xF0 ≤ left) × (left < 0xFF)
 command_left left name h = (grind (arith, nat_tests), grind (arith, nat_tests))
-
-no_wave_pointer : (left : ℕ) → wave_row_table left ≡ Some Wave → ⊥
-no_wave_pointer left h = grind (arith, nat_tests)
 
 pointer_to : (song : Song) (name : TableName) (waves : List (List Bool)) (p : ℕ) → AreMarksAt (IsWaveCommand song) waves →
     IsPlayedPointer song name p ⊎ IsCommandPointer WaveTable name waves p → IsPointer song name p
@@ -112,31 +110,6 @@ wave_programs_of song rows programs same_rows m r =
     }) r
 
 -- ---- the first place that breaks a rule
-
-pub same_table : (a b : TableName) → table_number a ≡ table_number b → b ≡ a
-same_table Wave Wave e = refl
-same_table Pulse Pulse e = refl
-same_table Filter Filter e = refl
-same_table Speed Speed e = refl
-same_table Wave Pulse e = absurd (omega arith)
-same_table Wave Filter e = absurd (omega arith)
-same_table Wave Speed e = absurd (omega arith)
-same_table Pulse Wave e = absurd (omega arith)
-same_table Pulse Filter e = absurd (omega arith)
-same_table Pulse Speed e = absurd (omega arith)
-same_table Filter Wave e = absurd (omega arith)
-same_table Filter Pulse e = absurd (omega arith)
-same_table Filter Speed e = absurd (omega arith)
-same_table Speed Wave e = absurd (omega arith)
-same_table Speed Pulse e = absurd (omega arith)
-same_table Speed Filter e = absurd (omega arith)
-
--- the speed table has no jumps
-jumps_are_programs : (name : TableName) (row : TableRow) → is_jump name row ≡ true → HasPrograms name
-jumps_are_programs Wave row h = λ e. cc
-jumps_are_programs Pulse row h = λ e. cc
-jumps_are_programs Filter row h = λ e. cc
-jumps_are_programs Speed row h = absurd (cc)
 
 -- none of the tables before this one is such
 abbrev pub NoneBefore : (Song → TableName → Unplayable → Type 0) → Song → TableName → Type 0

@@ -9,20 +9,15 @@ use Rattle.song_model.specs.declared.rows.Row.{Row}
 use Rattle.song_model.specs.declared.orders.Order.{Order}
 use Rattle.song_model.specs.declared.orders.Subtune.{Subtune}
 use Rattle.song_model.specs.declared.songs.Song.{Song}
-use Rattle.song_model.specs.LookUp.{order_of, is_playable_subtune}
+use Rattle.song_model.specs.LookUp.{is_playable_subtune}
 use Rattle.play_model.specs.declared.unplayable.Unplayable.{Unplayable}
 use Rattle.play_model.specs.declared.unplayable.Unplayable.TheVariants.{NoSubtune, MissingPattern, BadRestart, TableOverflow, PointerToJump}
 use Rattle.play_model.specs.Playable.{rank_of, HasOrder, IsNotAfter, IsFirst}
+use Rattle.play_model.proofs.Laws.{one_order}
 use Rattle.usage.specs.declared.orders.OrderRule.{OrderRule}
 use Rattle.usage.specs.declared.orders.OrderRule.TheVariants.{NamesStored, NeverEnds}
 use Rattle.usage.specs.Search.{IsNowhere, IsStoredByte, FailsAt, FailsIn, FailsUpTo, FailsBy}
 use Rattle.usage.proofs.Ranks.{lower, same, at_most, nothing_left, ordered, first_of}
-
--- a place of a file has one orderlist
-pub one_order : (song : Song) (s c : ℕ) (order other : Order) → HasOrder song s c order → HasOrder song s c other → other ≡ order
-one_order song s c order other a b =
-    let subtunes : b.subtune ≡ a.subtune = same_some b.subtune a.subtune (sym b.subtune_is ∙ a.subtune_is) in
-    b.order_is ∙ ap (λ (t : Subtune). order_of c t) subtunes ∙ sym a.order_is
 
 -- ---- names of stored patterns
 

@@ -1,23 +1,16 @@
 -- The first rule that a song breaks: the rules on orderlists come before those on programs, and one refusal is the first.
-use Rattle.std.proofs.Common.{◌≡◌, ℕ, ◌<◌, ◌⊎◌, ◌↔◌, true, List, [], ◌∷◌, length, get_or, Some, slice_get, Result, Ok, Err, OnOk, IfErr, refl, sym, ◌∙◌, ap, subst, inl, inr, arith}
+use Rattle.std.proofs.Common.{◌≡◌, ℕ, ◌<◌, ◌⊎◌, ◌↔◌, List, [], ◌∷◌, length, Result, Ok, Err, OnOk, IfErr, refl, ap, subst, inl, inr, arith}
 use Rattle.std.specs.Prelude.{IsErrOf}
-use Rattle.std.specs.Ordering.{nat_cmp, is_le}
-use Rattle.std.specs.Cmp.Lexicographic.{slice_cmp}
-use Rattle.std.proofs.lemmas.Bool.{cases_order}
-use Rattle.std.proofs.lemmas.Bool.Decides.{nat_tests}
-use Rattle.base.proofs.Laws.{same_head, same_tail}
-use Rattle.song_model.specs.declared.orders.Order.{Order}
 use Rattle.song_model.specs.declared.songs.Song.{Song}
 use Rattle.song_model.specs.LookUp.{playable_subtunes}
 use Rattle.play_model.specs.declared.unplayable.Unplayable.{Unplayable}
 use Rattle.play_model.specs.declared.unplayable.Unplayable.TheVariants.{NoSubtune, MissingPattern, BadRestart, TableOverflow, PointerToJump}
-use Rattle.play_model.specs.Playable.{rank_of, table_number, Fails, MissesPattern, IsNotAfter, IsFirst, IsPlayable, IsRefusedFor}
+use Rattle.play_model.specs.Playable.{rank_of, table_number, Fails, IsNotAfter, IsFirst, IsPlayable, IsRefusedFor}
+use Rattle.play_model.proofs.Laws.{one_refusal}
 use Rattle.usage.specs.declared.orders.OrderRule.TheVariants.{NamesStored, NeverEnds}
 use Rattle.usage.specs.Search.{IsNowhere, FailsBy, OrderFails}
 use Rattle.usage.specs.Found.{ProgramFails}
 use Rattle.usage.proofs.Ranks.{lower, first_of, ordered}
-use Rattle.usage.proofs.OrderRules.{one_order}
-use Rattle.usage.proofs.FoundPrograms.{same_table}
 
 -- ---- orderlists
 
@@ -139,71 +132,7 @@ none_is_playable song orders programs (BadRestart s c) h = orders (BadRestart s 
 none_is_playable song orders programs (TableOverflow t r) h = programs (TableOverflow t r) h
 none_is_playable song orders programs (PointerToJump t r) h = programs (PointerToJump t r) h
 
--- ---- one refusal is the first
-
-greater_first : (x y : ℕ) (xs ys : List ℕ) → y < x → is_le (slice_cmp nat_cmp (x ∷ xs) (y ∷ ys)) ≡ true → ⊥
-greater_first x y xs ys lt h = grind (arith, nat_tests)
-
-equal_first : (x y : ℕ) (xs ys : List ℕ) → x ≡ y → is_le (slice_cmp nat_cmp (x ∷ xs) (y ∷ ys)) ≡ true → is_le (slice_cmp nat_cmp xs ys) ≡ true
-equal_first x y xs ys e h = grind (arith, nat_tests)
-
-same_ranks : (xs ys : List ℕ) → is_le (slice_cmp nat_cmp xs ys) ≡ true → is_le (slice_cmp nat_cmp ys xs) ≡ true → xs ≡ ys
-same_ranks [] [] a b = refl
-same_ranks [] (y ∷ ys) a b = absurd (cc)
-same_ranks (x ∷ xs) [] a b = absurd (cc)
-same_ranks (x ∷ xs) (y ∷ ys) a b = elim (cases_order x y) [
-  | inl e ↦ (let rest = same_ranks xs ys (equal_first x y xs ys e a) (equal_first y x ys xs (sym e) b) in cc)
-  | inr other ↦ elim other [
-    | inl lt ↦ absurd (greater_first y x ys xs lt b)
-    | inr gt ↦ absurd (greater_first x y xs ys gt a)
-  ]
-]
-
-abbrev first_number : List ℕ → ℕ
-first_number xs = get_or xs 0 0
-
-same_pattern : (song : Song) (s c l p q : ℕ) → MissesPattern song s c l p → MissesPattern song s c l q → p ≡ q
-same_pattern song s c l p q a b =
-    let orders : b.order ≡ a.order = one_order song s c a.order b.order a.has b.has in
-    let names = subst (λ (o : Order). slice_get o.entries l ≡ Some q) orders b.names in
-    let both : Some p ≡ Some q = sym a.names ∙ names in
-    cc
-
--- two refusals of one song with one rank are one
-same_refusal : (song : Song) (a b : Unplayable) → Fails song a → Fails song b → rank_of a ≡ rank_of b → a ≡ b
-same_refusal song NoSubtune NoSubtune f g e = refl
-same_refusal song (MissingPattern s c l p) (MissingPattern t d k q) f g e =
-    let e1 = same_tail 2 2 (s ∷ c ∷ l ∷ []) (t ∷ d ∷ k ∷ []) e in
-    let st : s ≡ t = same_head s t (c ∷ l ∷ []) (d ∷ k ∷ []) e1 in
-    let e2 = same_tail s t (c ∷ l ∷ []) (d ∷ k ∷ []) e1 in
-    let cd : c ≡ d = same_head c d (l ∷ []) (k ∷ []) e2 in
-    let lk : l ≡ k = same_head l k [] [] (same_tail c d (l ∷ []) (k ∷ []) e2) in
-    let pq : p ≡ q = same_pattern song s c l p q f (rw (st, cd, lk) g) in
-    cc
-same_refusal song (BadRestart s c) (BadRestart t d) f g e =
-    let e1 = same_tail 3 3 (s ∷ c ∷ []) (t ∷ d ∷ []) e in
-    let st : s ≡ t = same_head s t (c ∷ []) (d ∷ []) e1 in
-    let cd : c ≡ d = same_head c d [] [] (same_tail s t (c ∷ []) (d ∷ []) e1) in
-    cc
-same_refusal song (TableOverflow t r) (TableOverflow u q) f g e =
-    let e1 = same_tail 4 4 (table_number t ∷ r ∷ []) (table_number u ∷ q ∷ []) e in
-    let tu : u ≡ t = same_table t u (same_head (table_number t) (table_number u) (r ∷ []) (q ∷ []) e1) in
-    let rq : r ≡ q = same_head r q [] [] (same_tail (table_number t) (table_number u) (r ∷ []) (q ∷ []) e1) in
-    cc
-same_refusal song (PointerToJump t r) (PointerToJump u q) f g e =
-    let e1 = same_tail 5 5 (table_number t ∷ r ∷ []) (table_number u ∷ q ∷ []) e in
-    let tu : u ≡ t = same_table t u (same_head (table_number t) (table_number u) (r ∷ []) (q ∷ []) e1) in
-    let rq : r ≡ q = same_head r q [] [] (same_tail (table_number t) (table_number u) (r ∷ []) (q ∷ []) e1) in
-    cc
-same_refusal song NoSubtune b f g e = absurd (let h = ap first_number e in omega arith)
-same_refusal song (MissingPattern s c l p) b f g e = absurd (let h = ap first_number e in omega arith)
-same_refusal song (BadRestart s c) b f g e = absurd (let h = ap first_number e in omega arith)
-same_refusal song (TableOverflow t r) b f g e = absurd (let h = ap first_number e in omega arith)
-same_refusal song (PointerToJump t r) b f g e = absurd (let h = ap first_number e in omega arith)
-
-pub one_refusal : (song : Song) (a b : Unplayable) → IsFirst (Fails song) a → IsFirst (Fails song) b → a ≡ b
-one_refusal song a b f g =
-    same_refusal song a b f.is_such g.is_such (same_ranks (rank_of a) (rank_of b) (f.first b g.is_such) (g.first a f.is_such))
+-- ---- the result
 
 error_is : {T : Type 0} (a b : Unplayable) (r : Result T Unplayable) → r ≡ Err a → r ≡ Err b → a ≡ b
 error_is a b r e f = cc

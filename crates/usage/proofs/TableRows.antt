@@ -1,54 +1,21 @@
--- Rows of tables: those that aren't stored are zero, and so are no commands and no jumps.
-use Rattle.std.proofs.Common.{◌≡◌, ◌≢◌, ℕ, ◌-◌, ◌<◌, ◌≤◌, ◌⊎◌, Bool, true, false, List, length, replicate, refl, inl, inr, arith}
+-- Rows of tables: the rows that jumps name, and the commands of the wave table. Those that aren't stored are neither.
+use Rattle.std.proofs.Common.{◌≡◌, ℕ, ◌<◌, ◌≤◌, ◌⊎◌, Bool, true, false, List, length, replicate, refl, inl, inr, arith}
 use Rattle.std.proofs.lemmas.Bool.{cases_lt}
-use Rattle.std.proofs.lemmas.Bool.Decides.{nat_tests}
-use Rattle.std.proofs.lemmas.List.{get_or_past}
 use Rattle.song_model.specs.declared.tables.TableName.{TableName}
-use Rattle.song_model.specs.declared.tables.TableName.TheVariants.{Wave, Pulse, Filter, Speed}
+use Rattle.song_model.specs.declared.tables.TableName.TheVariants.{Wave}
 use Rattle.song_model.specs.declared.songs.Song.{Song}
-use Rattle.song_model.specs.LookUp.{IsNumbered, zero_table_row, table_of, table_row}
+use Rattle.song_model.specs.LookUp.{table_of, table_row}
 use Rattle.play_model.specs.declared.unplayable.Unplayable.{Unplayable}
 use Rattle.play_model.specs.declared.unplayable.Unplayable.TheVariants.{NoSubtune, MissingPattern, BadRestart, TableOverflow, PointerToJump}
 use Rattle.play_model.specs.Reached.{is_jump, IsPointer}
 use Rattle.play_model.specs.Playable.{table_number, IsNotAfter, IsFirst}
+use Rattle.play_model.proofs.Laws.{stored_if, jump_is_stored}
 use Rattle.usage.specs.Marks.{IsMarked, AreMarks, Adds, SomeBelow, AddsAt, SomeBelowAt, AreMarksAt}
 use Rattle.usage.specs.Search.{IsNowhere, PointsIn}
 use Rattle.usage.specs.Checks.{IsTargetOf, IsNamed}
 use Rattle.usage.specs.Waves.{RowCommands, IsWaveCommand}
 use Rattle.usage.proofs.Ranks.{same, at_most, nothing_left}
 use Rattle.usage.proofs.AddedMarks.{adds_at_same, marks_at_from_none}
-
-pub row_absent : (song : Song) (name : TableName) (p : ℕ) → ¬ IsNumbered (table_of song name) p → table_row song name p ≡ zero_table_row
-unfolding table_row
-row_absent song name p absent = elim (cases_lt p 1) [
-  | inl zero_row ↦ (let e : p ≡ 0 = omega arith in rw e refl)
-  | inr some ↦ elim (cases_lt (length (table_of song name)) p) [
-    | inl past ↦ (
-        let e = get_or_past (table_of song name) (p - 1) zero_table_row (omega arith) in
-        grind (arith, nat_tests))
-    | inr stored ↦ absurd (absent (record { first = some; last = stored }))
-  ]
-]
-
--- a row with a left side is stored
-pub stored_if : (song : Song) (name : TableName) (p : ℕ) → (table_row song name p).left ≢ 0 → p ≤ length (table_of song name)
-stored_if song name p some = elim (cases_lt (length (table_of song name)) p) [
-  | inl past ↦ (
-      let e = row_absent song name p (λ n. let last = n.last in omega arith) in
-      absurd (some (rw e refl)))
-  | inr stored ↦ stored
-]
-
-jump_left : (name : TableName) (left right : ℕ) → is_jump name (record { left = left; right = right }) ≡ true → left ≡ 0xFF
-jump_left Wave left right h = grind (arith, nat_tests)
-jump_left Pulse left right h = grind (arith, nat_tests)
-jump_left Filter left right h = grind (arith, nat_tests)
-jump_left Speed left right h = absurd (cc)
-
-pub jump_is_stored : (song : Song) (name : TableName) (p : ℕ) → is_jump name (table_row song name p) ≡ true → p ≤ length (table_of song name)
-jump_is_stored song name p h =
-    let e = jump_left name (table_row song name p).left (table_row song name p).right h in
-    stored_if song name p (λ z. omega arith)
 
 -- ---- the rows that jumps name
 

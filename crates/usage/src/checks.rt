@@ -50,7 +50,7 @@ pub(crate) fn check_rows(
 }
 
 /// Row `p` of a table, counted from 1; (0, 0) where it isn't stored.
-#[tactic(auto, using(crate::proofs::TableRows::row_absent))]
+#[tactic(auto, using(play_model::proofs::Laws::row_absent))]
 pub(crate) fn row_at(song: &Song, name: TableName, p: u8) -> TableRow
     ensures { result ≡ table_row song.now name p }
 {
