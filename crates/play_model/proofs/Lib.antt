@@ -17,6 +17,16 @@ pub mod PlayableSongs
 pub mod OneRefusal
 pub mod UnusedParts
 pub mod UnusedFeatures
+-- What a song uses, decided by tests of lists.
+mod ListTests
+mod UsedLists
+mod RowTests
+mod FeatureTests
+mod PartTests
+mod RefusalTests
+mod FailureTests
+pub mod WorkedUses
+pub mod WorkedRefusals
 -- Worked frames, computed: those by hand, and those that bench/worked_frames.py has written.
 pub mod Computed
 pub mod WorkedCorners

@@ -23,6 +23,10 @@ pub mod RangeLaws
 pub mod TraceLaws
 pub mod SilentTrace
 pub mod UseLaws
+-- Claimed: what small songs use, and why others can't be played, worked out by hand.
+pub mod Parts
+pub mod WorkedUses
+pub mod WorkedRefusals
 -- Claimed: frames of small songs, worked out by hand.
 pub mod WorkedFrequencies
 pub mod WorkedSongs

@@ -4,6 +4,8 @@ ghost use Rattle.play_model.specs.TraceLaws.{TracesHaveAllRegisters};
 ghost use Rattle.play_model.specs.SilentTrace.{SilentSongsAreSilent};
 ghost use Rattle.play_model.specs.RangeLaws.{RangesAreKept, FrameRangesAreKept, StartIsInRange, SongRangesAreKept, TransposesWrap};
 ghost use Rattle.play_model.specs.UseLaws.{PlayableSongsAreWhole, ReachedRowsAreBytes, ProgramsStayInTheirTables, ReachedRowsAreClosed, SongsAreRefusedForOneThing, RefusedSongsAreNotPlayable, UnusedPartsDoNotCount};
+ghost use Rattle.play_model.specs.WorkedUses.{UsesAreAsWorked};
+ghost use Rattle.play_model.specs.WorkedRefusals.{RefusalsAreAsWorked};
 ghost use Rattle.play_model.specs.WorkedCorners.{WorkedCornersHold};
 ghost use Rattle.play_model.specs.WorkedEdges.{WorkedEdgesHold};
 ghost use Rattle.play_model.specs.WorkedTunes.{WorkedTunesHold};
@@ -99,6 +101,18 @@ pub fn refused_songs_are_not_playable()
 #[tactic(auto, using(crate::proofs::UnusedFeatures::unused_lem))]
 pub fn unused_parts_do_not_count()
     ensures { UnusedPartsDoNotCount }
+{}
+
+/// What small songs use: their patterns, instruments, rows and features; and what stands in them unused.
+#[tactic(auto, using(crate::proofs::WorkedUses::uses_are_as_worked_lem))]
+pub fn worked_uses()
+    ensures { UsesAreAsWorked }
+{}
+
+/// Why small songs can't be played: each of the five rules, their order, and the least of two places.
+#[tactic(auto, using(crate::proofs::WorkedRefusals::refusals_are_as_worked_lem))]
+pub fn worked_refusals()
+    ensures { RefusalsAreAsWorked }
 {}
 
 /// Frequencies at the ends of the octaves and beyond the last note.
