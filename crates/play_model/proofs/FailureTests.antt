@@ -55,7 +55,8 @@ fails song parts (BadRestart s c) = at_place song s c (λ order. not (is_endless
 fails song parts (TableOverflow name row) =
     (has_programs name && has (rows_in parts name) row) && nat_lt (length (table_of song name)) row
 fails song parts (PointerToJump name row) =
-    (is_some row && has (pointers_in song parts name ++ targets_in song parts name) row) && is_jump name (table_row song name row)
+    (is_some row && has (pointers_in song parts name ++ targets_in song parts name) row)
+    && is_jump name (table_row song name row)
 
 -- ---- places
 
@@ -84,11 +85,11 @@ record Placed (song : Song) (s c : ℕ) (test : Order → Bool) : Type 0 where
 
 placed : (song : Song) (s c : ℕ) (test : Order → Bool) → at_place song s c test ≡ true → Placed song s c test
 placed song s c test h =
-    let a = and_true (nat_le 1 s && is_channel c) (is_there (at_channel c test) (slice_get song.subtunes (s - 1))) h in
-    let b = and_true (nat_le 1 s) (is_channel c) a.0 in
-    let d = and_true (nat_le 1 c) (nat_le c 3) b.1 in
+    let a = and_true h in
+    let b = and_true a.0 in
+    let d = and_true b.1 in
     let t = it_is_there (at_channel c test) (slice_get song.subtunes (s - 1)) a.1 in
-    let e = and_true (is_playable_subtune t.item) (test (order_of c t.item)) t.pass in
+    let e = and_true t.pass in
     let low = at_least 1 s b.0 in
     let inside = slice_get_within song.subtunes (s - 1) t.item t.is in
     record {
@@ -112,8 +113,8 @@ named_at place byte order h =
 
 is_endless_order : (order : Order) → IsEndless order → is_endless order ≡ true
 is_endless_order order e =
-    true_and (nat_lt order.restart (length order.entries)) (list_any names_pattern (drop order.restart order.entries))
-    (is_below order.restart (length order.entries) e.restart) (some (drop order.restart order.entries) e.pattern)
+    true_and (is_below order.restart (length order.entries) e.restart)
+    (some (drop order.restart order.entries) e.pattern)
   where
     some : (bytes : List ℕ) → Any IsPatternByte bytes → list_any names_pattern bytes ≡ true
     some bytes (k, x, inside, is, low) = some_passes names_pattern bytes x (k, inside, is) (named_pattern x low)
@@ -138,9 +139,16 @@ listed_target : (song : Song) (parts : Parts) → are_rows song parts ≡ true �
     Contains (targets_in song parts name) row →
     IsJumpTarget song name row
 listed_target song parts rows name row some c =
-    let f = map_from (λ (p : ℕ). (table_row song name p).right) (filter (λ (p : ℕ). is_jump name (table_row song name p)) (rows_in parts name)) row c in
-    let w = filter_of (λ (p : ℕ). is_jump name (table_row song name p)) (rows_in parts name) f.item f.has in
-    record { p = f.item; reached = listed_reached song parts rows name f.item w.0; jump = w.1; target = f.makes; some = some }
+    let jumps = λ (p : ℕ). is_jump name (table_row song name p) in
+    let f = map_from (λ (p : ℕ). (table_row song name p).right) (filter jumps (rows_in parts name)) row c in
+    let w = filter_of jumps (rows_in parts name) f.item f.has in
+    record {
+      p = f.item;
+      reached = listed_reached song parts rows name f.item w.0;
+      jump = w.1;
+      target = f.makes;
+      some = some;
+    }
 
 listed_name : (song : Song) (parts : Parts) → are_rows song parts ≡ true → (name : TableName) (row : ℕ) → row ≢ 0 →
     Contains (pointers_in song parts name ++ targets_in song parts name) row →
@@ -157,8 +165,8 @@ pub fails_right : (song : Song) (parts : Parts) → are_rows song parts ≡ true
     fails song parts refusal ≡ true → Fails song refusal
 fails_right song parts rows NoSubtune h = no_list (playable_subtunes song) h
 fails_right song parts rows (MissingPattern s c place byte) h =
-    let a = and_true (at_place song s c (names_at place byte)) (is_missing song byte) h in
-    let b = and_true (names_pattern byte) (nat_le (length song.patterns) byte) a.1 in
+    let a = and_true h in
+    let b = and_true a.1 in
     let o = placed song s c (names_at place byte) a.0 in
     record {
       order = o.order;
@@ -169,18 +177,22 @@ fails_right song parts rows (MissingPattern s c place byte) h =
     }
 fails_right song parts rows (BadRestart s c) h =
     let o = placed song s c (λ order. not (is_endless order)) h in
-    record { order = o.order; has = o.has_order; stops = λ e. not_both (is_endless o.order) (is_endless_order o.order e) o.pass }
+    record {
+      order = o.order;
+      has = o.has_order;
+      stops = λ e. not_both (is_endless o.order) (is_endless_order o.order e) o.pass;
+    }
 fails_right song parts rows (TableOverflow name row) h =
-    let a = and_true (has_programs name && has (rows_in parts name) row) (nat_lt (length (table_of song name)) row) h in
-    let b = and_true (has_programs name) (has (rows_in parts name) row) a.0 in
+    let a = and_true h in
+    let b = and_true a.0 in
     record {
       programs = programs_there name b.0;
       reached = listed_reached song parts rows name row (has_it (rows_in parts name) row b.1);
       above = below (length (table_of song name)) row a.1;
     }
 fails_right song parts rows (PointerToJump name row) h =
-    let a = and_true (is_some row && has (pointers_in song parts name ++ targets_in song parts name) row) (is_jump name (table_row song name row)) h in
-    let b = and_true (is_some row) (has (pointers_in song parts name ++ targets_in song parts name) row) a.0 in
+    let a = and_true h in
+    let b = and_true a.0 in
     let named = has_it (pointers_in song parts name ++ targets_in song parts name) row b.1 in
     record { named = listed_name song parts rows name row (is_some_number row b.0) named; jump = a.1 }
 
@@ -191,6 +203,6 @@ is_refused song parts refusal = are_rows song parts && (fails song parts refusal
 pub refusal_right : (song : Song) (parts : Parts) (refusal : Unplayable) → is_refused song parts refusal ≡ true →
     IsRefusedFor song refusal
 refusal_right song parts refusal h =
-    let a = and_true (are_rows song parts) (fails song parts refusal && is_first song parts refusal) h in
-    let b = and_true (fails song parts refusal) (is_first song parts refusal) a.1 in
+    let a = and_true h in
+    let b = and_true a.1 in
     refused_right song parts refusal (fails_right song parts a.0 refusal b.0) b.1

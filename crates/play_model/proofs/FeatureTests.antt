@@ -59,13 +59,18 @@ byte_test song low high = (to, from)
     to : has_byte song low high ≡ true → HasByte song low high
     to h =
         let w = passes_some (in_range low high) (bytes_of song) h in
-        let both = and_true (nat_le low w.item) (nat_le w.item high) w.pass in
-        record { byte = w.item; played = listed_byte song w.item w.has; low = at_most low w.item both.0; high = at_most w.item high both.1 }
+        let both = and_true w.pass in
+        record {
+          byte = w.item;
+          played = listed_byte song w.item w.has;
+          low = at_most low w.item both.0;
+          high = at_most w.item high both.1;
+        }
 
     from : HasByte song low high → has_byte song low high ≡ true
     from b =
         some_passes (in_range low high) (bytes_of song) b.byte (byte_listed song b.byte b.played)
-        (true_and (nat_le low b.byte) (nat_le b.byte high) (is_at_most low b.byte b.low) (is_at_most b.byte high b.high))
+        (true_and (is_at_most low b.byte b.low) (is_at_most b.byte high b.high))
 
 abbrev pub row_does : ℕ → (ℕ → Bool) → Row → Bool
 row_does command test row = (row.command == command) && test row.param
@@ -80,13 +85,18 @@ row_test song command test IsMeant t = (to, from)
     to : has_row song command test ≡ true → HasRow song command IsMeant
     to h =
         let w = passes_some (row_does command test) (rows_of song) h in
-        let both = and_true (w.item.command == command) (test w.item.param) w.pass in
-        record { row = w.item; used = listed_row song w.item w.has; command_is = equal_numbers w.item.command command both.0; is_meant = (t w.item.param).0 both.1 }
+        let both = and_true w.pass in
+        record {
+          row = w.item;
+          used = listed_row song w.item w.has;
+          command_is = equal_numbers w.item.command command both.0;
+          is_meant = (t w.item.param).0 both.1;
+        }
 
     from : HasRow song command IsMeant → has_row song command test ≡ true
     from r =
         some_passes (row_does command test) (rows_of song) r.row (row_listed song r.row r.used)
-        (true_and (r.row.command == command) (test r.row.param) (numbers_equal r.row.command command r.command_is) ((t r.row.param).1 r.is_meant))
+        (true_and (numbers_equal r.row.command command r.command_is) ((t r.row.param).1 r.is_meant))
 
 abbrev pub wave_row_does : Song → ℕ → (ℕ → Bool) → ℕ → Bool
 wave_row_does song command test p =
@@ -103,7 +113,7 @@ wave_row_test song parts rows command test IsMeant t = (to, from)
     to : has_wave_row song parts command test ≡ true → HasWaveRow song command IsMeant
     to h =
         let w = passes_some (wave_row_does song command test) parts.wave h in
-        let both = and_true ((table_row song Wave w.item).left == 0xF0 + command) (test (table_row song Wave w.item).right) w.pass in
+        let both = and_true w.pass in
         record {
           p = w.item;
           reached = waves_reached song parts rows w.item w.has;
@@ -114,8 +124,8 @@ wave_row_test song parts rows command test IsMeant t = (to, from)
     from : HasWaveRow song command IsMeant → has_wave_row song parts command test ≡ true
     from r =
         some_passes (wave_row_does song command test) parts.wave r.p (reached_listed song parts rows Wave r.p r.reached)
-        (true_and ((table_row song Wave r.p).left == 0xF0 + command) (test (table_row song Wave r.p).right)
-        (numbers_equal (table_row song Wave r.p).left (0xF0 + command) r.command_is) ((t (table_row song Wave r.p).right).1 r.is_meant))
+        (true_and (numbers_equal (table_row song Wave r.p).left (0xF0 + command) r.command_is)
+        ((t (table_row song Wave r.p).right).1 r.is_meant))
 
 abbrev pub uses : Song → Parts → ℕ → (ℕ → Bool) → Bool
 uses song parts command test = has_row song command test || has_wave_row song parts command test
@@ -123,15 +133,16 @@ uses song parts command test = has_row song command test || has_wave_row song pa
 -- one of two
 either : (a b : Bool) (A B : Type 0) → (a ≡ true) ↔ A → (b ≡ true) ↔ B → ((a || b) ≡ true) ↔ (A ⊎ B)
 either a b A B x y = (
-  λ h. elim (or_true a b h) [ inl l ↦ inl (x.0 l) | inr r ↦ inr (y.0 r) ],
-  λ w. elim w [ inl l ↦ true_or a b (inl (x.1 l)) | inr r ↦ true_or a b (inr (y.1 r)) ],
+  λ h. elim (or_true h) [ inl l ↦ inl (x.0 l) | inr r ↦ inr (y.0 r) ],
+  λ w. elim w [ inl l ↦ true_or (inl (x.1 l)) | inr r ↦ true_or (inr (y.1 r)) ],
 )
 
 uses_test : (song : Song) (parts : Parts) → are_rows song parts ≡ true →
     (command : ℕ) (test : ℕ → Bool) (IsMeant : ℕ → Type 0) → IsTest test IsMeant →
     (uses song parts command test ≡ true) ↔ Uses song command IsMeant
 uses_test song parts rows command test IsMeant t =
-    either (has_row song command test) (has_wave_row song parts command test) (HasRow song command IsMeant) (HasWaveRow song command IsMeant)
+    either (has_row song command test) (has_wave_row song parts command test) (HasRow song command IsMeant)
+    (HasWaveRow song command IsMeant)
     (row_test song command test IsMeant t) (wave_row_test song parts rows command test IsMeant t)
 
 abbrev pub has_instrument : Song → (Instrument → ℕ) → Bool
@@ -144,11 +155,16 @@ instrument_test song number = (to, from)
     to : has_instrument song number ≡ true → HasInstrument song (λ i. number (instrument_at song i))
     to h =
         let w = passes_some (λ i. is_some (number (instrument_at song i))) (instruments_of song) h in
-        record { instrument = w.item; used = listed_instrument song w.item w.has; some = is_some_number (number (instrument_at song w.item)) w.pass }
+        record {
+          instrument = w.item;
+          used = listed_instrument song w.item w.has;
+          some = is_some_number (number (instrument_at song w.item)) w.pass;
+        }
 
     from : HasInstrument song (λ i. number (instrument_at song i)) → has_instrument song number ≡ true
     from x =
-        some_passes (λ i. is_some (number (instrument_at song i))) (instruments_of song) x.instrument (instrument_listed song x.instrument x.used)
+        some_passes (λ i. is_some (number (instrument_at song i))) (instruments_of song) x.instrument
+        (instrument_listed song x.instrument x.used)
         (some_is (number (instrument_at song x.instrument)) x.some)
 
 abbrev pub has_pointer : Song → Parts → TableName → Bool
@@ -160,7 +176,8 @@ pointer_test song parts rows name = (to, from)
   where
     to : has_pointer song parts name ≡ true → HasPointer song name
     to h =
-        (let w = passes_some (λ p. true) (pointers_in song parts name) h in record { p = w.item; pointer = in_pointer song parts rows name w.item w.has })
+        (let w = passes_some (λ p. true) (pointers_in song parts name) h in
+        record { p = w.item; pointer = in_pointer song parts rows name w.item w.has })
 
     from : HasPointer song name → has_pointer song parts name ≡ true
     from x =
@@ -176,11 +193,16 @@ note_speed_test song parts rows = (to, from)
     to : has_note_speed song parts ≡ true → HasNoteSpeed song
     to h =
         let w = passes_some (λ p. nat_le 0x80 (speed_row song p).left) (pointers_in song parts Speed) h in
-        record { p = w.item; pointer = in_pointer song parts rows Speed w.item w.has; from_note = at_most 0x80 (speed_row song w.item).left w.pass }
+        record {
+          p = w.item;
+          pointer = in_pointer song parts rows Speed w.item w.has;
+          from_note = at_most 0x80 (speed_row song w.item).left w.pass;
+        }
 
     from : HasNoteSpeed song → has_note_speed song parts ≡ true
     from x =
-        some_passes (λ p. nat_le 0x80 (speed_row song p).left) (pointers_in song parts Speed) x.p (pointer_in song parts rows Speed x.p x.pointer)
+        some_passes (λ p. nat_le 0x80 (speed_row song p).left) (pointers_in song parts Speed) x.p
+        (pointer_in song parts rows Speed x.p x.pointer)
         (is_at_most 0x80 (speed_row song x.p).left x.from_note)
 
 abbrev pub has_wave_command : Song → Parts → Bool
@@ -194,14 +216,20 @@ wave_command_test song parts rows = (to, from)
     to h =
         let w = passes_some (λ p. in_range 0xF0 0xFE (table_row song Wave p).left) parts.wave h in
         let left = (table_row song Wave w.item).left in
-        let both = and_true (nat_le 0xF0 left) (nat_le left 0xFE) w.pass in
-        record { p = w.item; reached = waves_reached song parts rows w.item w.has; from = at_most 0xF0 left both.0; to = at_most left 0xFE both.1 }
+        let both = and_true w.pass in
+        record {
+          p = w.item;
+          reached = waves_reached song parts rows w.item w.has;
+          from = at_most 0xF0 left both.0;
+          to = at_most left 0xFE both.1;
+        }
 
     from : HasWaveCommand song → has_wave_command song parts ≡ true
     from x =
-        some_passes (λ p. in_range 0xF0 0xFE (table_row song Wave p).left) parts.wave x.p (reached_listed song parts rows Wave x.p x.reached)
-        (true_and (nat_le 0xF0 (table_row song Wave x.p).left) (nat_le (table_row song Wave x.p).left 0xFE)
-        (is_at_most 0xF0 (table_row song Wave x.p).left x.from) (is_at_most (table_row song Wave x.p).left 0xFE x.to))
+        some_passes (λ p. in_range 0xF0 0xFE (table_row song Wave p).left) parts.wave x.p
+        (reached_listed song parts rows Wave x.p x.reached)
+        (true_and (is_at_most 0xF0 (table_row song Wave x.p).left x.from)
+        (is_at_most (table_row song Wave x.p).left 0xFE x.to))
 
 -- ---- all features
 
@@ -237,8 +265,8 @@ has_feature song parts WaveCommand = has_wave_command song parts
 
 both_of : (a b : Bool) (A B : Type 0) → (a ≡ true) ↔ A → (b ≡ true) ↔ B → ((a && b) ≡ true) ↔ (A × B)
 both_of a b A B x y = (
-  λ h. (let w = and_true a b h in (x.0 w.0, y.0 w.1)),
-  λ w. true_and a b (x.1 w.0) (y.1 w.1),
+  λ h. (let w = and_true h in (x.0 w.0, y.0 w.1)),
+  λ w. true_and (x.1 w.0) (y.1 w.1),
 )
 
 feature_test : (song : Song) (parts : Parts) → are_rows song parts ≡ true → (feature : Feature) →
@@ -251,8 +279,10 @@ feature_test song parts rows TonePorta = uses_test song parts rows 3 is_some (λ
 feature_test song parts rows TieNote = uses_test song parts rows 3 (λ d. d == 0) (λ d. d ≡ 0) none_test
 feature_test song parts rows Vibrato = uses_test song parts rows 4 any IsAny any_test
 feature_test song parts rows InstrumentVibrato =
-    both_of (has_instrument song (λ x. x.vibrato)) (has_instrument song (λ x. x.vibrato_delay)) (HasInstrument song (λ i. (instrument_at song i).vibrato))
-    (HasInstrument song (λ i. (instrument_at song i).vibrato_delay)) (instrument_test song (λ x. x.vibrato)) (instrument_test song (λ x. x.vibrato_delay))
+    both_of (has_instrument song (λ x. x.vibrato)) (has_instrument song (λ x. x.vibrato_delay))
+    (HasInstrument song (λ i. (instrument_at song i).vibrato))
+    (HasInstrument song (λ i. (instrument_at song i).vibrato_delay))
+    (instrument_test song (λ x. x.vibrato)) (instrument_test song (λ x. x.vibrato_delay))
 feature_test song parts rows NoteDependent = note_speed_test song parts rows
 feature_test song parts rows SetAd = uses_test song parts rows 5 any IsAny any_test
 feature_test song parts rows SetSr = uses_test song parts rows 6 any IsAny any_test
@@ -266,7 +296,8 @@ feature_test song parts rows FilterControl = uses_test song parts rows 0xB any I
 feature_test song parts rows Cutoff = uses_test song parts rows 0xC any IsAny any_test
 feature_test song parts rows Volume = uses_test song parts rows 0xD any IsAny any_test
 feature_test song parts rows FunkTempo =
-    either (has_row song 0xE any) (has_row song 0xF (λ d. nat_le d 1)) (HasRow song 0xE IsAny) (HasRow song 0xF (λ d. d ≤ 1))
+    either (has_row song 0xE any) (has_row song 0xF (λ d. nat_le d 1))
+    (HasRow song 0xE IsAny) (HasRow song 0xF (λ d. d ≤ 1))
     (row_test song 0xE any IsAny any_test) (row_test song 0xF (λ d. nat_le d 1) (λ d. d ≤ 1) low_test)
 feature_test song parts rows SetTempo = row_test song 0xF (λ d. nat_le 3 (d % 128)) (λ d. 3 ≤ d % 128) tempo_test
 feature_test song parts rows WaveTable = pointer_test song parts rows Wave
@@ -276,9 +307,9 @@ feature_test song parts rows WaveCommand = wave_command_test song parts rows
 
 abbrev pub all_features : List Feature
 all_features =
-    Transpose ∷ Repeat ∷ PortaUp ∷ PortaDown ∷ TonePorta ∷ TieNote ∷ Vibrato ∷ InstrumentVibrato ∷ NoteDependent ∷ SetAd ∷ SetSr ∷ SetWave
-    ∷ SetWavePointer ∷ PulseTable ∷ SetPulsePointer ∷ FilterTable ∷ SetFilterPointer ∷ FilterControl ∷ Cutoff ∷ Volume ∷ FunkTempo ∷ SetTempo ∷ WaveTable
-    ∷ WaveCommand ∷ []
+    Transpose ∷ Repeat ∷ PortaUp ∷ PortaDown ∷ TonePorta ∷ TieNote ∷ Vibrato ∷ InstrumentVibrato ∷ NoteDependent
+    ∷ SetAd ∷ SetSr ∷ SetWave ∷ SetWavePointer ∷ PulseTable ∷ SetPulsePointer ∷ FilterTable ∷ SetFilterPointer
+    ∷ FilterControl ∷ Cutoff ∷ Volume ∷ FunkTempo ∷ SetTempo ∷ WaveTable ∷ WaveCommand ∷ []
 
 listed_feature : (feature : Feature) → Contains all_features feature
 listed_feature Transpose = (0, lit< tt, refl)
@@ -313,9 +344,13 @@ abbrev pub same : Bool → Bool → Bool
 same true b = b
 same false b = not b
 
+-- a feature has its bit exactly where the song has it
+abbrev pub is_right : Song → Parts → Feature → Bool
+is_right song parts feature = same (has_bit parts.features feature) (has_feature song parts feature)
+
 abbrev pub are_features : Song → Parts → Bool
 are_features song parts =
-    nat_lt parts.features (2 ^ 24) && list_all (λ f. same (has_bit parts.features f) (has_feature song parts f)) all_features
+    nat_lt parts.features (2 ^ 24) && list_all (is_right song parts) all_features
 
 bit_test : (bits : ℕ) (feature : Feature) → (has_bit bits feature ≡ true) ↔ IsBitSet bits (bit_of feature)
 bit_test bits feature =
@@ -329,12 +364,12 @@ alike false false A B h x y = (λ p. absurd (let e = x.1 p in cc), λ q. absurd 
 pub features_right : (song : Song) (parts : Parts) → are_rows song parts ≡ true → are_features song parts ≡ true →
     AreFeatures song parts.features
 features_right song parts rows h =
-    let both = and_true (nat_lt parts.features (2 ^ 24)) (list_all (λ f. same (has_bit parts.features f) (has_feature song parts f)) all_features) h in
+    let both = and_true h in
     record {
       small = small parts.features both.0;
       each =
-          λ f. alike (has_bit parts.features f) (has_feature song parts f) (IsBitSet parts.features (bit_of f)) (HasFeature song f)
-          (each_passes (λ f. same (has_bit parts.features f) (has_feature song parts f)) all_features f both.1 (listed_feature f))
+          λ f. alike (has_bit parts.features f) (has_feature song parts f) (IsBitSet parts.features (bit_of f))
+          (HasFeature song f) (each_passes (is_right song parts) all_features f both.1 (listed_feature f))
           (bit_test parts.features f) (feature_test song parts rows f);
     }
   where

@@ -7,21 +7,21 @@ use Rattle.std.proofs.lemmas.List.Elements.{Contains-append_left, Contains-appen
 
 -- ---- truth
 
-pub and_true : (a b : Bool) → (a && b) ≡ true → (a ≡ true) × (b ≡ true)
-and_true true b h = (refl, h)
-and_true false b h = absurd (cc)
+pub and_true : {a b : Bool} → (a && b) ≡ true → (a ≡ true) × (b ≡ true)
+and_true {a = true} h = (refl, h)
+and_true {a = false} h = absurd (cc)
 
-pub true_and : (a b : Bool) → a ≡ true → b ≡ true → (a && b) ≡ true
-true_and a b x y = rw (x, y) refl
+pub true_and : {a b : Bool} → a ≡ true → b ≡ true → (a && b) ≡ true
+true_and x y = rw (x, y) refl
 
-pub or_true : (a b : Bool) → (a || b) ≡ true → (a ≡ true) ⊎ (b ≡ true)
-or_true true b h = inl refl
-or_true false b h = inr h
+pub or_true : {a b : Bool} → (a || b) ≡ true → (a ≡ true) ⊎ (b ≡ true)
+or_true {a = true} h = inl refl
+or_true {a = false} h = inr h
 
-pub true_or : (a b : Bool) → (a ≡ true) ⊎ (b ≡ true) → (a || b) ≡ true
-true_or a b (inl x) = rw x refl
-true_or true b (inr y) = refl
-true_or false b (inr y) = y
+pub true_or : {a b : Bool} → (a ≡ true) ⊎ (b ≡ true) → (a || b) ≡ true
+true_or (inl x) = rw x refl
+true_or {a = true} (inr y) = refl
+true_or {a = false} (inr y) = y
 
 pub equal_numbers : (a b : ℕ) → (a == b) ≡ true → a ≡ b
 equal_numbers a b h = grind (arith, nat_tests)
@@ -90,8 +90,8 @@ pub some_passes : {X : Type 0} (test : X → Bool) (xs : List X) (x : X) → Con
     list_any test xs ≡ true
 some_passes test [] x c pass = absurd (none_has x c)
 some_passes {X} test (y ∷ xs) x c pass = elim (first_or_later y xs x c) [
-  | inl here ↦ true_or (test y) (list_any test xs) (inl (subst (λ (a : X). test a ≡ true) (sym here) pass))
-  | inr later ↦ true_or (test y) (list_any test xs) (inr (some_passes test xs x later pass))
+  | inl here ↦ true_or (inl (subst (λ (a : X). test a ≡ true) (sym here) pass))
+  | inr later ↦ true_or (inr (some_passes test xs x later pass))
 ]
 
 pub record Passes {X : Type 0} (test : X → Bool) (xs : List X) : Type 0 where
@@ -101,7 +101,7 @@ pub record Passes {X : Type 0} (test : X → Bool) (xs : List X) : Type 0 where
 
 pub passes_some : {X : Type 0} (test : X → Bool) (xs : List X) → list_any test xs ≡ true → Passes test xs
 passes_some test [] h = absurd (cc)
-passes_some {X} test (x ∷ xs) h = elim (or_true (test x) (list_any test xs) h) [
+passes_some {X} test (x ∷ xs) h = elim (or_true h) [
   | inl here ↦ record { item = x; has = has_first x xs; pass = here }
   | inr later ↦ further (passes_some test xs later)
 ]
@@ -113,7 +113,7 @@ pub each_passes : {X : Type 0} (test : X → Bool) (xs : List X) (x : X) → lis
     test x ≡ true
 each_passes test [] x h c = absurd (none_has x c)
 each_passes {X} test (y ∷ xs) x h c =
-    let both = and_true (test y) (list_all test xs) h in
+    let both = and_true h in
     elim (first_or_later y xs x c) [
       | inl here ↦ subst (λ (a : X). test a ≡ true) here both.0
       | inr later ↦ each_passes test xs x both.1 later
@@ -138,7 +138,7 @@ has_same xs ys = list_all (λ n. has ys n) xs && list_all (λ n. has xs n) ys
 
 pub same_has : (xs ys : List ℕ) → has_same xs ys ≡ true → (n : ℕ) → Contains xs n ↔ Contains ys n
 same_has xs ys h n =
-    let both = and_true (list_all (λ m. has ys m) xs) (list_all (λ m. has xs m) ys) h in (
+    let both = and_true h in (
       λ (c : Contains xs n). has_it ys n (each_passes (λ m. has ys m) xs n both.0 c),
       λ (c : Contains ys n). has_it xs n (each_passes (λ m. has xs m) ys n both.1 c),
     )
@@ -153,11 +153,11 @@ pub each_from : {X : Type 0} (test : ℕ → X → Bool) (n : ℕ) (xs : List X)
     slice_get xs k ≡ Some x → test (n + k) x ≡ true
 each_from test n [] k x h is = absurd (cc)
 each_from {X} test n (y ∷ xs) zero x h is =
-    let both = and_true (test n y) (all_from test (n + 1) xs) h in
+    let both = and_true {a = test n y} h in
     let e : y ≡ x = (cc) in
     let m : n + 0 ≡ n = omega arith in
     rw m (subst (λ (a : X). test n a ≡ true) e both.0)
 each_from test n (y ∷ xs) (suc k) x h is =
-    let both = and_true (test n y) (all_from test (n + 1) xs) h in
+    let both = and_true {a = test n y} h in
     let m : n + suc k ≡ n + 1 + k = omega arith in
     rw m (each_from test (n + 1) xs k x both.1 is)

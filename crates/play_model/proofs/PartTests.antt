@@ -35,10 +35,9 @@ rows_right song parts h name p = (reached_listed song parts h name p, listed_rea
 
 pub parts_right : (song : Song) (parts : Parts) → are_parts song parts ≡ true → AreParts song parts
 parts_right song parts h =
-    let a = and_true (has_same (patterns_of song) parts.patterns)
-    (has_same (instruments_of song) parts.instruments && (are_rows song parts && are_features song parts)) h in
-    let b = and_true (has_same (instruments_of song) parts.instruments) (are_rows song parts && are_features song parts) a.1 in
-    let c = and_true (are_rows song parts) (are_features song parts) b.1 in
+    let a = and_true h in
+    let b = and_true a.1 in
+    let c = and_true b.1 in
     record {
       patterns = patterns_right song parts.patterns a.0;
       instruments = instruments_right song parts.instruments b.0;

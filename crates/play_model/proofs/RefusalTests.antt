@@ -41,10 +41,12 @@ abbrev pub on_order : (Unplayable → Bool) → Song → ℕ → ℕ → Order �
 on_order test song s c order =
     all_from (on_byte test song s c) 0 order.entries && (is_endless order || test (BadRestart s c))
 
+abbrev pub on_each_order : (Unplayable → Bool) → Song → ℕ → Subtune → Bool
+on_each_order test song s t =
+    on_order test song s 1 t.one && (on_order test song s 2 t.two && on_order test song s 3 t.three)
+
 abbrev pub on_subtune : (Unplayable → Bool) → Song → ℕ → Subtune → Bool
-on_subtune test song s t =
-    not (is_playable_subtune t)
-    || (on_order test song s 1 t.one && (on_order test song s 2 t.two && on_order test song s 3 t.three))
+on_subtune test song s t = not (is_playable_subtune t) || on_each_order test song s t
 
 abbrev pub on_row : (Unplayable → Bool) → Song → TableName → ℕ → Bool
 on_row test song name row = nat_le row (length (table_of song name)) || test (TableOverflow name row)
@@ -79,8 +81,11 @@ not_true false b h e = absurd (cc)
 
 endless_order : (order : Order) → is_endless order ≡ true → IsEndless order
 endless_order order h =
-    let both = and_true (nat_lt order.restart (length order.entries)) (list_any names_pattern (drop order.restart order.entries)) h in
-    record { restart = below order.restart (length order.entries) both.0; pattern = any (drop order.restart order.entries) both.1 }
+    let both = and_true h in
+    record {
+      restart = below order.restart (length order.entries) both.0;
+      pattern = any (drop order.restart order.entries) both.1;
+    }
   where
     below : (a b : ℕ) → nat_lt a b ≡ true → a < b
     below a b h = grind (arith, nat_tests)
@@ -98,16 +103,16 @@ record OnOrder (test : Unplayable → Bool) (song : Song) (s c : ℕ) (order : O
 passed_order : (test : Unplayable → Bool) (song : Song) (s c : ℕ) (order : Order) →
     on_order test song s c order ≡ true → OnOrder test song s c order
 passed_order test song s c order h =
-    let both = and_true (all_from (on_byte test song s c) 0 order.entries) (is_endless order || test (BadRestart s c)) h in
+    let both = and_true h in
     record { bytes = both.0; restart = both.1 }
 
 on_channel : (test : Unplayable → Bool) (song : Song) (s c : ℕ) (t : Subtune) → is_playable_subtune t ≡ true →
     IsChannel c → on_subtune test song s t ≡ true →
     OnOrder test song s c (order_of c t)
 on_channel test song s c t plays is h =
-    let each = not_true (is_playable_subtune t) (on_order test song s 1 t.one && (on_order test song s 2 t.two && on_order test song s 3 t.three)) h plays in
-    let a = and_true (on_order test song s 1 t.one) (on_order test song s 2 t.two && on_order test song s 3 t.three) each in
-    let b = and_true (on_order test song s 2 t.two) (on_order test song s 3 t.three) a.1 in
+    let each = not_true (is_playable_subtune t) (on_each_order test song s t) h plays in
+    let a = and_true each in
+    let b = and_true a.1 in
     let low = is.first in
     let high = is.last in
     elim (cases_eq c 1) [
@@ -136,15 +141,14 @@ record OnTable (test : Unplayable → Bool) (song : Song) (parts : Parts) (name 
 passed_table : (test : Unplayable → Bool) (song : Song) (parts : Parts) (name : TableName) →
     on_table test song parts name ≡ true → OnTable test song parts name
 passed_table test song parts name h =
-    let both = and_true (list_all (on_row test song name) (rows_in parts name))
-    (list_all (on_named test song name) (pointers_in song parts name ++ targets_in song parts name)) h in
+    let both = and_true h in
     record { rows = both.0; named = both.1 }
 
 of_tables : (test : Unplayable → Bool) (song : Song) (parts : Parts) (name : TableName) →
     on_tables test song parts ≡ true → HasPrograms name → OnTable test song parts name
 of_tables test song parts name h programs =
-    let a = and_true (on_table test song parts Wave) (on_table test song parts Pulse && on_table test song parts Filter) h in
-    let b = and_true (on_table test song parts Pulse) (on_table test song parts Filter) a.1 in
+    let a = and_true h in
+    let b = and_true a.1 in
     table name programs a.0 b.0 b.1
   where
     table : (name : TableName) → HasPrograms name → on_table test song parts Wave ≡ true →
@@ -160,8 +164,9 @@ runs_off : (test : Unplayable → Bool) (song : Song) (parts : Parts) → are_ro
     RunsOff song name row → test (TableOverflow name row) ≡ true
 runs_off test song parts rows h name row f =
     let on = of_tables test song parts name h f.programs in
-    let here = each_passes (on_row test song name) (rows_in parts name) row on.rows (reached_listed song parts rows name row f.reached) in
-    elim (or_true (nat_le row (length (table_of song name))) (test (TableOverflow name row)) here) [
+    let listed = reached_listed song parts rows name row f.reached in
+    let here = each_passes (on_row test song name) (rows_in parts name) row on.rows listed in
+    elim (or_true here) [
       | inl inside ↦ absurd (not_above row (length (table_of song name)) inside f.above)
       | inr passes ↦ passes
     ]
@@ -172,17 +177,21 @@ runs_off test song parts rows h name row f =
 target_listed : (song : Song) (parts : Parts) → are_rows song parts ≡ true → (name : TableName) (row : ℕ) →
     IsJumpTarget song name row → Contains (targets_in song parts name) row
 target_listed song parts rows name row t =
-    let b = filter_keeps (λ (p : ℕ). is_jump name (table_row song name p)) (rows_in parts name) t.p (reached_listed song parts rows name t.p t.reached) t.jump in
-    let c = map_has (λ (p : ℕ). (table_row song name p).right) (filter (λ (p : ℕ). is_jump name (table_row song name p)) (rows_in parts name)) t.p b in
+    let jumps = λ (p : ℕ). is_jump name (table_row song name p) in
+    let a = reached_listed song parts rows name t.p t.reached in
+    let b = filter_keeps jumps (rows_in parts name) t.p a t.jump in
+    let c = map_has (λ (p : ℕ). (table_row song name p).right) (filter jumps (rows_in parts name)) t.p b in
     subst (λ (n : ℕ). Contains (targets_in song parts name) n) t.target c
 
 named_listed : (song : Song) (parts : Parts) → are_rows song parts ≡ true → (name : TableName) (row : ℕ) →
     IsPointer song name row ⊎ IsJumpTarget song name row →
     Contains (pointers_in song parts name ++ targets_in song parts name) row
 named_listed song parts rows name row (inl x) =
-    Contains-append_left (pointers_in song parts name) (targets_in song parts name) row (pointer_in song parts rows name row x)
+    Contains-append_left (pointers_in song parts name) (targets_in song parts name) row
+    (pointer_in song parts rows name row x)
 named_listed song parts rows name row (inr t) =
-    Contains-append_right (pointers_in song parts name) (targets_in song parts name) row (target_listed song parts rows name row t)
+    Contains-append_right (pointers_in song parts name) (targets_in song parts name) row
+    (target_listed song parts rows name row t)
 
 program_jump : (name : TableName) (song : Song) (row : ℕ) → is_jump name (table_row song name row) ≡ true →
     HasPrograms name
@@ -196,7 +205,9 @@ points_at_jump : (test : Unplayable → Bool) (song : Song) (parts : Parts) → 
     PointsAtJump song name row → test (PointerToJump name row) ≡ true
 points_at_jump test song parts rows h name row f =
     let on = of_tables test song parts name h (program_jump name song row f.jump) in
-    let here = each_passes (on_named test song name) (pointers_in song parts name ++ targets_in song parts name) row on.named (named_listed song parts rows name row f.named) in
+    let names = pointers_in song parts name ++ targets_in song parts name in
+    let listed = named_listed song parts rows name row f.named in
+    let here = each_passes (on_named test song name) names row on.named listed in
     not_true (is_jump name (table_row song name row)) (test (PointerToJump name row)) here f.jump
 
 -- ---- all rules
@@ -204,38 +215,42 @@ points_at_jump test song parts rows h name row f =
 none_zero : (n : ℕ) → n ≡ 0 → (n == 0) ≡ true
 none_zero n e = rw e refl
 
+record OnAll (test : Unplayable → Bool) (song : Song) (parts : Parts) : Type 0 where
+  subtune : (not (length (playable_subtunes song) == 0) || test NoSubtune) ≡ true
+  orders : all_from (on_subtune test song) 1 song.subtunes ≡ true
+  tables : on_tables test song parts ≡ true
+
+passed_all : (test : Unplayable → Bool) (song : Song) (parts : Parts) → on_all test song parts ≡ true →
+    OnAll test song parts
+passed_all test song parts h =
+    let a = and_true h in
+    let b = and_true a.1 in
+    record { subtune = a.0; orders = b.0; tables = b.1 }
+
+is_missing_byte : (stored byte : ℕ) → byte < 0xD0 → stored ≤ byte → (names_pattern byte && nat_le stored byte) ≡ true
+is_missing_byte stored byte low high = grind (arith, nat_tests)
+
 pub each_failure : (test : Unplayable → Bool) (song : Song) (parts : Parts) → are_rows song parts ≡ true →
-    on_all test song parts ≡ true →
-    (refusal : Unplayable) → Fails song refusal → test refusal ≡ true
+    on_all test song parts ≡ true → (refusal : Unplayable) → Fails song refusal → test refusal ≡ true
 each_failure test song parts rows h NoSubtune f =
-    let a = and_true (not (length (playable_subtunes song) == 0) || test NoSubtune) (all_from (on_subtune test song) 1 song.subtunes && on_tables test song parts) h in
-    not_true (length (playable_subtunes song) == 0) (test NoSubtune) a.0 (none_zero (length (playable_subtunes song)) (ap length f))
+    let none = none_zero (length (playable_subtunes song)) (ap length f) in
+    not_true (length (playable_subtunes song) == 0) (test NoSubtune) (passed_all test song parts h).subtune none
 each_failure test song parts rows h (MissingPattern s c place byte) f =
-    let a = and_true (not (length (playable_subtunes song) == 0) || test NoSubtune) (all_from (on_subtune test song) 1 song.subtunes && on_tables test song parts) h in
-    let b = and_true (all_from (on_subtune test song) 1 song.subtunes) (on_tables test song parts) a.1 in
-    let on = on_place test song s c f.order b.0 f.has in
+    let on = on_place test song s c f.order (passed_all test song parts h).orders f.has in
     let here = each_from (on_byte test song s c) 0 f.order.entries place byte on.bytes f.names in
     let e : 0 + place ≡ place = omega arith in
-    not_true (is_missing song byte) (test (MissingPattern s c place byte)) (rw e at here) (missing byte (length song.patterns) f.is_pattern f.missing)
-  where
-    missing : (n stored : ℕ) → n < 0xD0 → stored ≤ n → (names_pattern n && nat_le stored n) ≡ true
-    missing n stored low high = grind (arith, nat_tests)
+    let missing = is_missing_byte (length song.patterns) byte f.is_pattern f.missing in
+    not_true (is_missing song byte) (test (MissingPattern s c place byte)) (rw e at here) missing
 each_failure test song parts rows h (BadRestart s c) f =
-    let a = and_true (not (length (playable_subtunes song) == 0) || test NoSubtune) (all_from (on_subtune test song) 1 song.subtunes && on_tables test song parts) h in
-    let b = and_true (all_from (on_subtune test song) 1 song.subtunes) (on_tables test song parts) a.1 in
-    let on = on_place test song s c f.order b.0 f.has in
-    elim (or_true (is_endless f.order) (test (BadRestart s c)) on.restart) [
+    let on = on_place test song s c f.order (passed_all test song parts h).orders f.has in
+    elim (or_true on.restart) [
       | inl goes_on ↦ absurd (f.stops (endless_order f.order goes_on))
       | inr passes ↦ passes
     ]
 each_failure test song parts rows h (TableOverflow name row) f =
-    let a = and_true (not (length (playable_subtunes song) == 0) || test NoSubtune) (all_from (on_subtune test song) 1 song.subtunes && on_tables test song parts) h in
-    let b = and_true (all_from (on_subtune test song) 1 song.subtunes) (on_tables test song parts) a.1 in
-    runs_off test song parts rows b.1 name row f
+    runs_off test song parts rows (passed_all test song parts h).tables name row f
 each_failure test song parts rows h (PointerToJump name row) f =
-    let a = and_true (not (length (playable_subtunes song) == 0) || test NoSubtune) (all_from (on_subtune test song) 1 song.subtunes && on_tables test song parts) h in
-    let b = and_true (all_from (on_subtune test song) 1 song.subtunes) (on_tables test song parts) a.1 in
-    points_at_jump test song parts rows b.1 name row f
+    points_at_jump test song parts rows (passed_all test song parts h).tables name row f
 
 -- no place fails
 abbrev pub is_playable : Song → Parts → Bool
@@ -243,7 +258,7 @@ is_playable song parts = are_rows song parts && on_all (λ refusal. false) song 
 
 pub playable_right : (song : Song) (parts : Parts) → is_playable song parts ≡ true → IsPlayable song
 playable_right song parts h refusal f =
-    let both = and_true (are_rows song parts) (on_all (λ refusal. false) song parts) h in
+    let both = and_true h in
     let never = each_failure (λ refusal. false) song parts both.0 both.1 refusal f in
     absurd (cc)
 
@@ -255,7 +270,7 @@ is_first song parts refusal =
 pub refused_right : (song : Song) (parts : Parts) (refusal : Unplayable) → Fails song refusal →
     is_first song parts refusal ≡ true → IsRefusedFor song refusal
 refused_right song parts refusal f h =
-    let both = and_true (are_rows song parts) (on_all (λ other. is_le (slice_cmp nat_cmp (rank_of refusal) (rank_of other))) song parts) h in
+    let both = and_true h in
     record {
       is_such = f;
       first =

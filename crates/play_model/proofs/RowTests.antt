@@ -52,7 +52,8 @@ are_rows_of song parts name =
 
 abbrev pub are_rows : Song → Parts → Bool
 are_rows song parts =
-    are_rows_of song parts Wave && (are_rows_of song parts Pulse && (are_rows_of song parts Filter && are_rows_of song parts Speed))
+    are_rows_of song parts Wave
+    && (are_rows_of song parts Pulse && (are_rows_of song parts Filter && are_rows_of song parts Speed))
 
 -- the tests of a table have passed
 record RowsPass (song : Song) (name : TableName) (pointers rows : List ℕ) : Type 0 where
@@ -64,8 +65,8 @@ passed : (song : Song) (name : TableName) (pointers rows : List ℕ) →
     (come_about name song pointers [] rows && are_closed name song pointers rows) ≡ true →
     RowsPass song name pointers rows
 passed song name pointers rows h =
-    let both = and_true (come_about name song pointers [] rows) (are_closed name song pointers rows) h in
-    let shut = and_true (list_all (λ p. has_led rows (led_to name (table_of song name) p)) rows) (list_all (λ p. has rows p) pointers) both.1 in
+    let both = and_true h in
+    let shut = and_true both.1 in
     record { come = both.0; led_in = shut.0; named_in = shut.1 }
 
 abbrev RowsPassIn : Song → Parts → TableName → Type 0
@@ -73,9 +74,9 @@ RowsPassIn song parts name = RowsPass song name (pointers_in song parts name) (r
 
 passed_in : (song : Song) (parts : Parts) → are_rows song parts ≡ true → (name : TableName) → RowsPassIn song parts name
 passed_in song parts h name =
-    let a = and_true (are_rows_of song parts Wave) (are_rows_of song parts Pulse && (are_rows_of song parts Filter && are_rows_of song parts Speed)) h in
-    let b = and_true (are_rows_of song parts Pulse) (are_rows_of song parts Filter && are_rows_of song parts Speed) a.1 in
-    let c = and_true (are_rows_of song parts Filter) (are_rows_of song parts Speed) b.1 in
+    let a = and_true h in
+    let b = and_true a.1 in
+    let c = and_true b.1 in
     table name a.0 b.0 c.0 c.1
   where
     table : (name : TableName) → are_rows_of song parts Wave ≡ true → are_rows_of song parts Pulse ≡ true →
@@ -106,16 +107,18 @@ comes : (name : TableName) (song : Song) (pointers before rows : List ℕ) →
     Contains rows p → IsReached song name p
 comes name song pointers before [] ok old h p c = absurd (none_has p c)
 comes name song pointers before (q ∷ rows) ok old h p c =
-    let both = and_true (has pointers q || list_any (λ p. is_led (led_to name (table_of song name) p) q) before) (come_about name song pointers (q ∷ before) rows) h in
+    let both = and_true h in
     elim (first_or_later q rows p c) [
       | inl this ↦ subst (λ (n : ℕ). IsReached song name n) this (here both.0)
-      | inr later ↦ comes name song pointers (q ∷ before) rows ok (one_more song name before q old (here both.0)) both.1 p later
+      | inr later ↦
+          let old_and_this = one_more song name before q old (here both.0) in
+          comes name song pointers (q ∷ before) rows ok old_and_this both.1 p later
     ]
   where
     here : (has pointers q || list_any (λ p. is_led (led_to name (table_of song name) p) q) before) ≡ true →
         IsReached song name q
     here so =
-        elim (or_true (has pointers q) (list_any (λ p. is_led (led_to name (table_of song name) p) q) before) so) [
+        elim (or_true so) [
           | inl pointer ↦ ok q (has_it pointers q pointer)
           | inr leads ↦
               let w = passes_some (λ p. is_led (led_to name (table_of song name) p) q) before leads in
@@ -143,7 +146,8 @@ begun_wave song parts p c = elim (Contains-append_cases (played_pointers song Wa
 pub waves_reached : (song : Song) (parts : Parts) → are_rows song parts ≡ true → (p : ℕ) → Contains parts.wave p →
     IsReached song Wave p
 waves_reached song parts h p c =
-    comes Wave song (pointers_in song parts Wave) [] parts.wave (begun_wave song parts) (λ q n. absurd (none_has q n)) (passed_in song parts h Wave).come p c
+    comes Wave song (pointers_in song parts Wave) [] parts.wave (begun_wave song parts)
+    (λ q n. absurd (none_has q n)) (passed_in song parts h Wave).come p c
 
 pub listed_reached : (song : Song) (parts : Parts) → are_rows song parts ≡ true → (name : TableName) (p : ℕ) →
     Contains (rows_in parts name) p → IsReached song name p
@@ -161,7 +165,8 @@ pointers_listed : (song : Song) (parts : Parts) → are_rows song parts ≡ true
     Contains (pointers_in song parts name) p → Contains (rows_in parts name) p
 pointers_listed song parts h name p c =
     has_it (rows_in parts name) p
-    (each_passes (λ p. has (rows_in parts name) p) (pointers_in song parts name) p (passed_in song parts h name).named_in c)
+    (each_passes (λ p. has (rows_in parts name) p) (pointers_in song parts name) p
+    (passed_in song parts h name).named_in c)
 
 led_listed : (song : Song) (parts : Parts) → are_rows song parts ≡ true → (name : TableName) (p q : ℕ) →
     Contains (rows_in parts name) p →
@@ -169,13 +174,15 @@ led_listed : (song : Song) (parts : Parts) → are_rows song parts ≡ true → 
 led_listed song parts h name p q c e =
     let pass = passed_in song parts h name in
     leads_in (rows_in parts name) (led_to name (table_of song name) p) q
-    (each_passes (λ p. has_led (rows_in parts name) (led_to name (table_of song name) p)) (rows_in parts name) p pass.led_in c) e
+    (each_passes (λ p. has_led (rows_in parts name) (led_to name (table_of song name) p)) (rows_in parts name) p
+    pass.led_in c) e
 
 pub reached_listed : (song : Song) (parts : Parts) → are_rows song parts ≡ true → (name : TableName) (p : ℕ) →
     IsReached song name p → Contains (rows_in parts name) p
 reached_listed song parts h name p (played x) =
     pointers_listed song parts h name p
-    (Contains-append_left (played_pointers song name) (wave_pointers song parts.wave name) p (pointer_listed song name p x))
+    (Contains-append_left (played_pointers song name) (wave_pointers song parts.wave name) p
+    (pointer_listed song name p x))
 reached_listed song parts h name p (pointed r before w) =
     pointers_listed song parts h name p
     (Contains-append_right (played_pointers song name) (wave_pointers song parts.wave name) p
@@ -188,7 +195,8 @@ reached_listed song parts h name q (led p before e) =
 pub pointer_in : (song : Song) (parts : Parts) → are_rows song parts ≡ true → (name : TableName) (p : ℕ) →
     IsPointer song name p → Contains (pointers_in song parts name) p
 pointer_in song parts h name p (of_played x) =
-    Contains-append_left (played_pointers song name) (wave_pointers song parts.wave name) p (pointer_listed song name p x)
+    Contains-append_left (played_pointers song name) (wave_pointers song parts.wave name) p
+    (pointer_listed song name p x)
 pointer_in song parts h name p (of_wave_row r before w) =
     Contains-append_right (played_pointers song name) (wave_pointers song parts.wave name) p
     (wave_listed song parts.wave name r p (reached_listed song parts h Wave r before) w)

@@ -15,7 +15,7 @@ use Rattle.song_model.specs.declared.tables.TableName.TheVariants.{Wave, Pulse, 
 use Rattle.song_model.specs.declared.songs.Song.{Song}
 use Rattle.song_model.specs.LookUp.{order_of, playable_subtunes, pattern_at, instrument_at, table_row}
 use Rattle.song_model.specs.Pointers.{instrument_pointer, command_table, wave_row_table}
-use Rattle.play_model.specs.Used.{IsPlayedByte, IsUsedPattern, IsUsedRow, IsUsedInstrument}
+use Rattle.play_model.specs.Used.{IsChannel, IsPlayedOrder, IsPlayedByte, IsUsedPattern, IsUsedRow, IsUsedInstrument}
 use Rattle.play_model.specs.Reached.{IsPlayedPointer, of_instrument, of_row, IsWaveRowPointer}
 use Rattle.play_model.specs.Playable.{table_number}
 use Rattle.play_model.proofs.OneRefusal.{same_table}
@@ -47,27 +47,28 @@ byte_listed song n b =
     let entry = subst (λ (x : Order). Contains x.entries n) o.order_is b.entry in
     flat_map_has entries_of (playable_subtunes song) o.subtune n o.playable (in_subtune o.channel o.subtune n entry)
 
+played_in : (song : Song) (t : Subtune) (c : ℕ) → Contains (playable_subtunes song) t → IsChannel c →
+    IsPlayedOrder song (order_of c t)
+played_in song t c plays is = record { subtune = t; playable = plays; channel = c; is_channel = is; order_is = refl }
+
 pub listed_byte : (song : Song) (n : ℕ) → Contains (bytes_of song) n → IsPlayedByte song n
 listed_byte song n c =
     let f = flat_map_from entries_of (playable_subtunes song) n c in
     elim (Contains-append_cases f.item.one.entries (f.item.two.entries ++ f.item.three.entries) n f.makes) [
       | inl one ↦ record {
         order = f.item.one;
-        played =
-            record { subtune = f.item; playable = f.has; channel = 1; is_channel = record { first = lit< tt; last = lit< tt }; order_is = refl };
+        played = played_in song f.item 1 f.has (record { first = lit< tt; last = lit< tt });
         entry = one;
       }
       | inr more ↦ elim (Contains-append_cases f.item.two.entries f.item.three.entries n more) [
         | inl two ↦ record {
           order = f.item.two;
-          played =
-              record { subtune = f.item; playable = f.has; channel = 2; is_channel = record { first = lit< tt; last = lit< tt }; order_is = refl };
+          played = played_in song f.item 2 f.has (record { first = lit< tt; last = lit< tt });
           entry = two;
         }
         | inr three ↦ record {
           order = f.item.three;
-          played =
-              record { subtune = f.item; playable = f.has; channel = 3; is_channel = record { first = lit< tt; last = lit< tt }; order_is = refl };
+          played = played_in song f.item 3 f.has (record { first = lit< tt; last = lit< tt });
           entry = three;
         }
       ]
@@ -130,7 +131,8 @@ instrument_listed song i (inl first) = rw first (has_first 1 (named_instruments 
 instrument_listed song i (inr n) =
     let c = map_has (λ (r : Row). r.instrument) (rows_of song) n.row (row_listed song n.row n.used) in
     let d = subst (λ (m : ℕ). Contains (map (λ (r : Row). r.instrument) (rows_of song)) m) n.names c in
-    has_later 1 (named_instruments (rows_of song)) i (filter_keeps is_some (map (λ (r : Row). r.instrument) (rows_of song)) i d (some_is i n.some))
+    let kept = filter_keeps is_some (map (λ (r : Row). r.instrument) (rows_of song)) i d (some_is i n.some) in
+    has_later 1 (named_instruments (rows_of song)) i kept
 
 pub listed_instrument : (song : Song) (i : ℕ) → Contains (instruments_of song) i → IsUsedInstrument song i
 listed_instrument song i c = elim (first_or_later 1 (named_instruments (rows_of song)) i c) [
@@ -173,14 +175,18 @@ played_pointers song name = filter is_some (instrument_numbers song name ++ row_
 pub pointer_listed : (song : Song) (name : TableName) (p : ℕ) → IsPlayedPointer song name p →
     Contains (played_pointers song name) p
 pointer_listed song name p (of_instrument i used is some) =
-    let c = map_has (λ i. instrument_pointer name (instrument_at song i)) (instruments_of song) i (instrument_listed song i used) in
+    let points = λ (i : ℕ). instrument_pointer name (instrument_at song i) in
+    let c = map_has points (instruments_of song) i (instrument_listed song i used) in
     let d = subst (λ (m : ℕ). Contains (instrument_numbers song name) m) is c in
-    filter_keeps is_some (instrument_numbers song name ++ row_numbers song name) p (Contains-append_left (instrument_numbers song name) (row_numbers song name) p d) (some_is p some)
+    let e = Contains-append_left (instrument_numbers song name) (row_numbers song name) p d in
+    filter_keeps is_some (instrument_numbers song name ++ row_numbers song name) p e (some_is p some)
 pointer_listed song name p (of_row row used command is some) =
-    let b = filter_keeps (row_points name) (rows_of song) row (row_listed song row used) (is_that_table name (command_table row.command) command) in
+    let points = is_that_table name (command_table row.command) command in
+    let b = filter_keeps (row_points name) (rows_of song) row (row_listed song row used) points in
     let c = map_has (λ (r : Row). r.param) (filter (row_points name) (rows_of song)) row b in
     let d = subst (λ (m : ℕ). Contains (row_numbers song name) m) is c in
-    filter_keeps is_some (instrument_numbers song name ++ row_numbers song name) p (Contains-append_right (instrument_numbers song name) (row_numbers song name) p d) (some_is p some)
+    let e = Contains-append_right (instrument_numbers song name) (row_numbers song name) p d in
+    filter_keeps is_some (instrument_numbers song name ++ row_numbers song name) p e (some_is p some)
 
 pub listed_pointer : (song : Song) (name : TableName) (p : ℕ) → Contains (played_pointers song name) p →
     IsPlayedPointer song name p
@@ -213,7 +219,8 @@ wave_pointers song waves Speed = filter is_some (wave_numbers song waves Speed)
 number_listed : (song : Song) (waves : List ℕ) (name : TableName) (r p : ℕ) → Contains waves r →
     IsWaveRowPointer song r name p → Contains (filter is_some (wave_numbers song waves name)) p
 number_listed song waves name r p c w =
-    let b = filter_keeps (wave_points song name) waves r c (is_that_table name (wave_row_table (table_row song Wave r).left) w.table) in
+    let points = is_that_table name (wave_row_table (table_row song Wave r).left) w.table in
+    let b = filter_keeps (wave_points song name) waves r c points in
     let d = map_has (λ (r : ℕ). (table_row song Wave r).right) (filter (wave_points song name) waves) r b in
     let e = subst (λ (m : ℕ). Contains (wave_numbers song waves name) m) w.right d in
     filter_keeps is_some (wave_numbers song waves name) p e (some_is p w.some)
@@ -240,8 +247,11 @@ listed_number song waves name p c =
     record {
       row = f.item;
       has = v.0;
-      points =
-          record { table = table_is name (wave_row_table (table_row song Wave f.item).left) v.1; right = f.makes; some = is_some_number p w.1 };
+      points = record {
+        table = table_is name (wave_row_table (table_row song Wave f.item).left) v.1;
+        right = f.makes;
+        some = is_some_number p w.1;
+      };
     }
 
 pub listed_wave : (song : Song) (waves : List ℕ) (name : TableName) (p : ℕ) →

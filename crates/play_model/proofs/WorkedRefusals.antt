@@ -32,9 +32,11 @@ refusals_are_as_worked_lem = record {
   idle_restart = refused idle_restart (1 ∷ 2 ∷ []) (1 ∷ 2 ∷ []) (BadRestart 1 1) refl;
   no_jump = refused (with_wave (sides 0x41 0 ∷ []) one_note) (1 ∷ 2 ∷ []) (1 ∷ 2 ∷ []) (TableOverflow Wave 2) refl;
   jump_behind =
-      refused (with_wave (sides 0x41 0 ∷ sides 0xFF 9 ∷ []) one_note) (1 ∷ 2 ∷ 9 ∷ []) (1 ∷ 2 ∷ []) (TableOverflow Wave 9) refl;
+      refused (with_wave (sides 0x41 0 ∷ sides 0xFF 9 ∷ []) one_note) (1 ∷ 2 ∷ 9 ∷ [])
+      (1 ∷ 2 ∷ []) (TableOverflow Wave 9) refl;
   overflow_first = refused jump_and_overflow (1 ∷ []) (1 ∷ 2 ∷ []) (TableOverflow Pulse 2) refl;
   pointer = refused (with_wave (sides 0xFF 0 ∷ []) one_note) (1 ∷ []) (1 ∷ 2 ∷ []) (PointerToJump Wave 1) refl;
   itself =
-      refused (with_wave (sides 0x41 0 ∷ sides 0xFF 2 ∷ []) one_note) (1 ∷ 2 ∷ []) (1 ∷ 2 ∷ []) (PointerToJump Wave 2) refl;
+      refused (with_wave (sides 0x41 0 ∷ sides 0xFF 2 ∷ []) one_note) (1 ∷ 2 ∷ [])
+      (1 ∷ 2 ∷ []) (PointerToJump Wave 2) refl;
 }

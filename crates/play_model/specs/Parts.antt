@@ -19,7 +19,8 @@ pub record Parts : Type 0 where
   pub speed : List ℕ
   pub features : ℕ
 
--- the song uses exactly these patterns and instruments, comes to exactly these rows, and has these features
+-- the song uses exactly these patterns and instruments, comes to exactly these rows, and has these
+-- features
 pub record AreParts (song : Song) (parts : Parts) : Type 0 where
   pub patterns : AreThose (IsUsedPattern song) parts.patterns
   pub instruments : AreThose (IsUsedInstrument song) parts.instruments

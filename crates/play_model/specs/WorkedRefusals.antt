@@ -10,7 +10,8 @@ use Rattle.play_model.specs.WorkedUses.{with_wave, with_pulse, with_subtunes}
 
 -- two subtunes, each with an empty orderlist
 abbrev pub void_song : Song
-void_song = with_subtunes (subtune [] (1 ∷ []) (1 ∷ []) ∷ subtune (7 ∷ []) (1 ∷ []) [] ∷ []) one_note
+void_song = with_subtunes
+    (subtune [] (1 ∷ []) (1 ∷ []) ∷ subtune (7 ∷ []) (1 ∷ []) [] ∷ []) one_note
 
 -- in channel 2 the silent song names a pattern that isn't stored
 abbrev pub missing_pattern : Song

@@ -53,7 +53,8 @@ pointing_wave = record one_note {
 abbrev pub idle_wave : Song
 idle_wave = with_wave (sides 0xF8 1 ∷ sides 0xFE 1 ∷ sides 0xFF 0 ∷ []) one_note
 
--- voice 1 plays pattern 0 twice, and its restart position is the number of a pattern that none plays
+-- voice 1 plays pattern 0 twice, and its restart position is the number of a pattern that no
+-- orderlist names
 abbrev pub restart_at_one : Song
 restart_at_one = with_subtunes (record {
   one = record { entries = 0 ∷ 0 ∷ []; restart = 1 };
@@ -75,8 +76,7 @@ void_between = with_subtunes
     (subtune (0 ∷ []) (1 ∷ []) (1 ∷ []) ∷ subtune (7 ∷ []) [] (1 ∷ [])
     ∷ subtune (0 ∷ []) (1 ∷ []) (1 ∷ []) ∷ []) one_note
 
--- two instruments, one with a pointer into the speed table and one with a delay, or one with both
--- that no row names
+-- an instrument that no row names has a pointer into the speed table and a delay
 abbrev pub unnamed_vibrato : Song
 unnamed_vibrato = record one_note {
   instruments = plucked ∷ record plucked { vibrato = 1; vibrato_delay = 1 } ∷ [];
@@ -113,7 +113,8 @@ pub record SongsUse : Type 0 where
       (record parts_of_one_note { pulse = []; speed = 1 ∷ []; features = 0x400180 })
   pub sliding_note : UsesExactly sliding_note
       (record parts_of_one_note { speed = 1 ∷ []; features = 0x402030 })
-  pub funk : UsesExactly funk_song (record parts_of_one_note { speed = 1 ∷ []; features = 0x502000 })
+  pub funk : UsesExactly funk_song
+      (record parts_of_one_note { speed = 1 ∷ []; features = 0x502000 })
   pub far_slide : UsesExactly far_slide
       (record parts_of_one_note { speed = 0xFF ∷ []; features = 0x402004 })
   pub other_vibrato : UsesExactly (other_vibrato 1) (record parts_of_one_note {
@@ -132,8 +133,8 @@ pub record SongsUse : Type 0 where
     features = 0x40A083;
   })
 
--- what isn't used, though it is stored: programs that nothing names, rows behind the end of a program,
--- restart positions, subtunes with an empty orderlist
+-- what isn't used, though it is stored: programs that nothing names, rows behind the end of a
+-- program, restart positions, subtunes with an empty orderlist
 pub record UnusedStays : Type 0 where
   pub unnamed_program : UsesExactly unnamed_program
       (record parts_of_one_note { wave = []; features = 0x002000 })
@@ -155,7 +156,8 @@ pub record WavesPoint : Type 0 where
     speed = 3 ∷ [];
     features = 0xC1E004;
   })
-  pub idle : UsesExactly idle_wave (record parts_of_one_note { wave = 1 ∷ 2 ∷ 3 ∷ []; features = 0xC02000 })
+  pub idle : UsesExactly idle_wave
+      (record parts_of_one_note { wave = 1 ∷ 2 ∷ 3 ∷ []; features = 0xC02000 })
 
 pub record UsesAreAsWorked : Type 0 where
   pub songs : SongsUse
