@@ -1,5 +1,6 @@
 -- Why small songs can't be played, computed by the checker.
-use Rattle.std.proofs.Common.{◌≡◌, ℕ, true, List, [], ◌∷◌, refl}
+use Rattle.std.proofs.Common.{◌≡◌, ℕ, true, List, [], ◌∷◌, refl, replicate}
+use Rattle.std.specs.List.{range_with_len}
 use Rattle.song_model.specs.declared.tables.TableName.TheVariants.{Wave, Pulse}
 use Rattle.song_model.specs.declared.songs.Song.{Song}
 use Rattle.song_model.specs.LookUp.{instrument_at, table_row, pattern_at}
@@ -34,6 +35,9 @@ refusals_are_as_worked_lem = record {
   jump_behind =
       refused (with_wave (sides 0x41 0 ∷ sides 0xFF 9 ∷ []) one_note) (1 ∷ 2 ∷ 9 ∷ [])
       (1 ∷ 2 ∷ []) (TableOverflow Wave 9) refl;
+  row_256 =
+      refused (with_wave (replicate 255 (sides 0x41 0)) one_note) (range_with_len 1 256) (1 ∷ 2 ∷ [])
+      (TableOverflow Wave 256) refl;
   overflow_first = refused jump_and_overflow (1 ∷ []) (1 ∷ 2 ∷ []) (TableOverflow Pulse 2) refl;
   pointer = refused (with_wave (sides 0xFF 0 ∷ []) one_note) (1 ∷ []) (1 ∷ 2 ∷ []) (PointerToJump Wave 1) refl;
   itself =

@@ -5,7 +5,7 @@ use Rattle.song_model.specs.Silence.{silence}
 use Rattle.song_model.specs.LookUp.{instrument_at, table_row, pattern_at}
 use Rattle.play_model.specs.Parts.{Parts}
 use Rattle.play_model.specs.WorkedSongs.{sides, one_note, low_note, wrapping_note, sliding_note, funk_song, other_vibrato, small_song}
-use Rattle.play_model.specs.WorkedUses.{UsesExactly, far_slide, unnamed_program, unnamed_vibrato, stopped_pulse, pointing_wave, idle_wave, restart_at_one, late_restart, void_between, SongsUse, UnusedStays, WavesPoint, UsesAreAsWorked}
+use Rattle.play_model.specs.WorkedUses.{UsesExactly, far_slide, unnamed_program, unnamed_vibrato, stopped_pulse, pointing_wave, idle_wave, restart_at_one, late_restart, unstored_instrument, tempo_song, void_between, SongsUse, UnusedStays, WavesPoint, TemposCount, UsesAreAsWorked}
 use Rattle.play_model.proofs.PartTests.{are_parts, parts_right}
 use Rattle.play_model.proofs.RefusalTests.{is_playable, playable_right}
 
@@ -31,6 +31,7 @@ unused_stays : UnusedStays
 unfolding instrument_at table_row pattern_at
 unused_stays = record {
   unnamed_program = uses unnamed_program _ refl refl;
+  unstored_instrument = uses unstored_instrument _ refl refl;
   unnamed_vibrato = uses unnamed_vibrato _ refl refl;
   behind_the_end = uses (stopped_pulse (sides 0x20 0x20 ∷ [])) _ refl refl;
   at_the_end = uses (stopped_pulse []) _ refl refl;
@@ -43,5 +44,18 @@ waves_point : WavesPoint
 unfolding instrument_at table_row pattern_at
 waves_point = record { pointing = uses pointing_wave _ refl refl; idle = uses idle_wave _ refl refl }
 
+tempos_count : TemposCount
+unfolding instrument_at table_row pattern_at
+tempos_count = record {
+  zero = uses (tempo_song 0) _ refl refl;
+  one = uses (tempo_song 1) _ refl refl;
+  two = uses (tempo_song 2) _ refl refl;
+  three = uses (tempo_song 3) _ refl refl;
+  most = uses (tempo_song 0x7F) _ refl refl;
+  zero_here = uses (tempo_song 0x80) _ refl refl;
+  two_here = uses (tempo_song 0x82) _ refl refl;
+  three_here = uses (tempo_song 0x83) _ refl refl;
+}
+
 pub uses_are_as_worked_lem : UsesAreAsWorked
-uses_are_as_worked_lem = record { songs = songs_use; unused = unused_stays; waves = waves_point }
+uses_are_as_worked_lem = record { songs = songs_use; unused = unused_stays; waves = waves_point; tempos = tempos_count }

@@ -1,5 +1,5 @@
 -- Why small songs can't be played, worked out by hand.
-use Rattle.std.specs.Prelude.{[], ◌∷◌}
+use Rattle.std.specs.Prelude.{replicate, [], ◌∷◌}
 use Rattle.song_model.specs.declared.tables.TableName.TheVariants.{Wave, Pulse}
 use Rattle.song_model.specs.declared.songs.Song.{Song}
 use Rattle.song_model.specs.Silence.{silence}
@@ -54,6 +54,8 @@ pub record RefusalsAreAsWorked : Type 0 where
   pub no_jump : IsRefusedFor (with_wave (sides 0x41 0 ∷ []) one_note) (TableOverflow Wave 2)
   pub jump_behind : IsRefusedFor (with_wave (sides 0x41 0 ∷ sides 0xFF 9 ∷ []) one_note)
       (TableOverflow Wave 9)
+  pub row_256 : IsRefusedFor (with_wave (replicate 255 (sides 0x41 0)) one_note)
+      (TableOverflow Wave 256)
   pub overflow_first : IsRefusedFor jump_and_overflow (TableOverflow Pulse 2)
   pub pointer : IsRefusedFor (with_wave (sides 0xFF 0 ∷ []) one_note) (PointerToJump Wave 1)
   pub itself : IsRefusedFor (with_wave (sides 0x41 0 ∷ sides 0xFF 2 ∷ []) one_note)

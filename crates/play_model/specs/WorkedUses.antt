@@ -1,12 +1,12 @@
 -- What small songs use, worked out by hand.
-use Rattle.std.specs.Prelude.{List, [], ◌∷◌, replicate}
+use Rattle.std.specs.Prelude.{ℕ, List, [], ◌∷◌, replicate}
 use Rattle.song_model.specs.declared.orders.Subtune.{Subtune}
 use Rattle.song_model.specs.declared.tables.TableRow.{TableRow}
 use Rattle.song_model.specs.declared.songs.Song.{Song}
 use Rattle.song_model.specs.Silence.{silence}
 use Rattle.play_model.specs.Parts.{Parts, AreParts}
 use Rattle.play_model.specs.Playable.{IsPlayable}
-use Rattle.play_model.specs.WorkedSongs.{order, subtune, row, sides, plucked, one_note, with_rows, low_note, wrapping_note, sliding_note, funk_song, other_vibrato, small_song}
+use Rattle.play_model.specs.WorkedSongs.{order, subtune, row, sides, plucked, rests, one_note, with_rows, low_note, wrapping_note, sliding_note, funk_song, other_vibrato, small_song}
 
 -- the song can be played, and these are its parts
 pub record UsesExactly (song : Song) (parts : Parts) : Type 0 where
@@ -83,6 +83,18 @@ unnamed_vibrato = record one_note {
   speed = sides 0x80 0 ∷ [];
 }
 
+-- a row names an instrument that isn't stored; a pattern that no orderlist names has a row with
+-- instrument 2
+abbrev pub unstored_instrument : Song
+unstored_instrument = record one_note {
+  instruments = plucked ∷ record plucked { wave = 9; pulse = 9 } ∷ [];
+  patterns = (row 0x90 1 0 0 ∷ row 0xBE 3 0 0 ∷ []) ∷ rests 1 ∷ (row 0x90 2 8 9 ∷ []) ∷ [];
+}
+
+-- a row with command $F
+abbrev pub tempo_song : ℕ → Song
+tempo_song tempo = with_rows (row 0x90 1 0xF tempo ∷ rests 1) one_note
+
 -- ---- what they use
 
 abbrev pub parts_of_one_note : Parts
@@ -138,6 +150,8 @@ pub record SongsUse : Type 0 where
 pub record UnusedStays : Type 0 where
   pub unnamed_program : UsesExactly unnamed_program
       (record parts_of_one_note { wave = []; features = 0x002000 })
+  pub unstored_instrument : UsesExactly unstored_instrument
+      (record parts_of_one_note { instruments = 1 ∷ 3 ∷ [] })
   pub unnamed_vibrato : UsesExactly unnamed_vibrato parts_of_one_note
   pub behind_the_end : UsesExactly (stopped_pulse (sides 0x20 0x20 ∷ [])) parts_of_one_note
   pub at_the_end : UsesExactly (stopped_pulse []) parts_of_one_note
@@ -159,7 +173,21 @@ pub record WavesPoint : Type 0 where
   pub idle : UsesExactly idle_wave
       (record parts_of_one_note { wave = 1 ∷ 2 ∷ 3 ∷ []; features = 0xC02000 })
 
+-- command $F: 0 and 1 bring back the funk tempo, 3 and more set a tempo, of one channel alone with
+-- $80 added
+pub record TemposCount : Type 0 where
+  pub zero : UsesExactly (tempo_song 0) (record parts_of_one_note { features = 0x502000 })
+  pub one : UsesExactly (tempo_song 1) (record parts_of_one_note { features = 0x502000 })
+  pub two : UsesExactly (tempo_song 2) parts_of_one_note
+  pub three : UsesExactly (tempo_song 3) (record parts_of_one_note { features = 0x602000 })
+  pub most : UsesExactly (tempo_song 0x7F) (record parts_of_one_note { features = 0x602000 })
+  pub zero_here : UsesExactly (tempo_song 0x80) parts_of_one_note
+  pub two_here : UsesExactly (tempo_song 0x82) parts_of_one_note
+  pub three_here : UsesExactly (tempo_song 0x83)
+      (record parts_of_one_note { features = 0x602000 })
+
 pub record UsesAreAsWorked : Type 0 where
   pub songs : SongsUse
   pub unused : UnusedStays
   pub waves : WavesPoint
+  pub tempos : TemposCount
