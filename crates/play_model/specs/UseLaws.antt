@@ -24,8 +24,8 @@ pub record IsStep (song : Song) (name : TableName) (p : ℕ) : Type 0 where
   pub reached : IsReached song name p
   pub no_jump : is_jump name (table_row song name p) ≡ false
 
--- what a playable song comes to is stored, its orderlists go on for ever, and neither a pointer nor a
--- jump names a jump
+-- what a playable song comes to is stored, its orderlists go on for ever, and neither a pointer nor
+-- a jump names a jump
 pub record IsWhole (song : Song) : Type 0 where
   pub subtune : playable_subtunes song ≢ []
   pub pattern : (n : ℕ) → IsUsedPattern song n → n < length song.patterns
