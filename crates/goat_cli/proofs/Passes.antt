@@ -13,7 +13,9 @@ use Rattle.goat_cli.specs.RegisterText.{register_lines}
 use Rattle.goat_cli.specs.Lines.{song_fault_line, unplayable_line, psid_fault_line, no_subtune_line, stop_line}
 use Rattle.goat_cli.specs.Stages.{Stage, IsThere, Fits, SpellsSong, CanBePlayed, CanBePacked, IsPsid, OffersSubtune, CallsReturn, HoldsSong, HoldsPsid, IsMet, Ends, Passes}
 use Rattle.play_model.specs.Playable.{IsPlayable, IsRefusedFor}
+use Rattle.play_model.proofs.Laws.{refused_or_playable_lem}
 use Rattle.usage.proofs.Laws.{one_refusal}
+use Rattle.goat_cli.specs.Laws.{PlayableSongsPass}
 use Rattle.gts5.proofs.Laws.{spells_once, spells_has_no_fault}
 use Rattle.goat_cli.proofs.Calls.{returned_or_stopped, one_list, one_stop_at, one_reason}
 
@@ -123,3 +125,9 @@ module _ (files : Files) where
 
   pub met_passes : (stage : Stage) → IsMet files stage → Passes files stage
   met_passes stage met = (stage_facts stage).passes met
+
+pub playable_songs_pass_lem : PlayableSongsPass
+playable_songs_pass_lem files name song held =
+    (λ (passes : Passes files (CanBePlayed name)). refused_or_playable_lem song
+        (λ refusal refused. passes (unplayable_line refusal ∷ []) (song, refusal, held, refused, refl))),
+    (λ (playable : IsPlayable song). met_passes files (CanBePlayed name) (song, held, playable))

@@ -35,7 +35,7 @@ pub record IsBeforeWriting (status : ℕ) : Type 0 where
   pub no_sink_fault : status ≢ 10
   pub no_want : status ≢ 14
 
--- the job that the words name was done, with every stage met, and the files are as it leaves them
+-- the job that the words name was done, each of its stages passes, and the files are as it leaves them
 pub record HoldsDone (words : List (List ℕ)) (files : Files) (files_now : Option Files) : Type 0 where
   pub job : Job
   pub form : WordsOf words job
@@ -53,17 +53,18 @@ pub record ComesAbout (words : List (List ℕ)) (files : Files) (status : ℕ) (
   pub appended : printed_now ≡ told_with_piece printed (concat lines)
   pub files_are : files_now ≡ Some (files_after files write)
 
--- the status comes only where P holds, and where P holds it comes, or one of those in its place
-pub record ComesWhere (P : Type 0) (answer status : ℕ) (instead : List ℕ) : Type 0 where
-  pub only : answer ≡ status → P
-  pub always : P → IsOneOf (status ∷ instead) answer
+-- the status comes only where its cause holds, and where that holds it comes, or one of those in its place
+pub record ComesWhere (Cause : Type 0) (answer status : ℕ) (instead : List ℕ) : Type 0 where
+  pub only : answer ≡ status → Cause
+  pub always : Cause → IsOneOf (status ∷ instead) answer
 
 -- a sink's count rose where the status tells of a failed put, and with no other
 pub record SinkCounted (status before after : ℕ) : Type 0 where
   pub rose : status ≡ 10 → Rose before after
   pub stays : status ≢ 10 → after ≡ before
 
--- the file is a packed PSID file of the song, for some allowed address and some zero page
+-- the file is made of bytes, the song keeps the limits of the format, and the file is a packed PSID file of the
+-- song, for some allowed address and some zero page
 pub record IsPackedPsid (song : Song) (file : List ℕ) : Type 0 where
   pub bytes : All (λ byte. byte < 256) file
   pub keeps : KeepsLimits song

@@ -1,4 +1,4 @@
--- What belongs to each command: the words that name its job, the stages of a run, and what the job does where all are met. It is a relation, since the player's bytes may be chosen.
+-- What belongs to each command: the words that name its job, the stages of a run, and what the job does where all pass. It is a relation, since the player's bytes may be chosen.
 use Rattle.std.specs.Prelude.{◌≡◌, ◌≢◌, ℕ, ◌+◌, ◌-◌, ◌≤◌, List, [], ◌∷◌, codes, Option, Some, None, length}
 use Rattle.goat_io.specs.Files.{Files}
 use Rattle.song_model.specs.declared.songs.Song.{Song}
@@ -21,7 +21,7 @@ pub data Deed : Type 1 where
   PrintsLines : (Files → List (List ℕ) → Type 0) → Deed
   WritesFile : (output : List ℕ) → (Files → List ℕ → Type 0) → Deed
 
--- init and play return so often, and there is a line for each call
+-- this number of calls, init and then play, return, and there is a line for each
 pub record Shows (psid : Psid) (subtune calls : ℕ) (lines : List (List ℕ)) : Type 0 where
   pub registers : List (List ℕ)
   pub after : Machine
@@ -105,7 +105,7 @@ pub record WordsOf (words : List (List ℕ)) (job : Job) : Type 0 where
 abbrev pub IsNoForm : List (List ℕ) → Type 0
 IsNoForm words = (job : Job) → ¬ WordsOf words job
 
--- lines that a stage prints before it is known whether it is met: those of the first calls, which have returned
+-- lines that a stage prints before it is known whether it ends the run: those of the first calls, which have returned
 abbrev pub Prints : Files → Stage → List (List ℕ) → Type 0
 Prints files (CallsReturn name subtune frames) lines = (psid : Psid) × HoldsPsid files name psid × (calls : ℕ) × (calls ≤ frames + 1) × Shows psid subtune calls lines
 Prints files _ lines = ⊥

@@ -9,7 +9,8 @@ use Rattle.psid.specs.declared.header.Psid.{Psid}
 use Rattle.psid.specs.Reading.{psid_read}
 use Rattle.goat_cli.specs.Words.{Job}
 use Rattle.goat_cli.specs.Calls.{HasSubtune, FirstCalls}
-use Rattle.goat_cli.specs.Stages.{Stage, status_of, Ends, IsMet, Passes, AllPass}
+use Rattle.play_model.specs.Playable.{IsPlayable}
+use Rattle.goat_cli.specs.Stages.{Stage, CanBePlayed, HoldsSong, status_of, Ends, IsMet, Passes, AllPass}
 use Rattle.goat_cli.specs.Jobs.{WordsOf, IsNoForm, stages}
 use Rattle.goat_cli.specs.Outcome.{Outcome}
 use Rattle.goat_cli.specs.Due.{IsDue}
@@ -28,11 +29,13 @@ abbrev pub OutcomesAreDue : Type 0
 OutcomesAreDue = (words : List (List ℕ)) (files : Files) (status : ℕ) (lines : List (List ℕ)) (write : Option (List ℕ × List ℕ)) → Outcome words files status lines write → (output : Option (List ℕ)) × IsDue words files status output
 
 abbrev pub OneStatusIsDue : Type 0
-OneStatusIsDue = (words : List (List ℕ)) (files : Files) (s t : ℕ) (a b : Option (List ℕ)) → IsDue words files s a → IsDue words files t b → (s ≡ t) × (a ≡ b)
+OneStatusIsDue = (words : List (List ℕ)) (files : Files) (status other : ℕ) (output other_output : Option (List ℕ)) →
+    IsDue words files status output → IsDue words files other other_output → (status ≡ other) × (output ≡ other_output)
 
 -- outcomes that write nothing have one text
 abbrev pub OneTextIsPrinted : Type 0
-OneTextIsPrinted = (words : List (List ℕ)) (files : Files) (s t : ℕ) (lines others : List (List ℕ)) → Outcome words files s lines None → Outcome words files t others None → lines ≡ others
+OneTextIsPrinted = (words : List (List ℕ)) (files : Files) (status other : ℕ) (lines others : List (List ℕ)) →
+    Outcome words files status lines None → Outcome words files other others None → lines ≡ others
 
 -- ---- each status and its cause
 
@@ -50,6 +53,11 @@ pub record StatusesHaveCauses : Type 0 where
 -- a stage passes where what it asks for is there
 abbrev pub StagesPass : Type 0
 StagesPass = (files : Files) (stage : Stage) → IsMet files stage → Passes files stage
+
+-- of a song that a file spells, the stage passes exactly where the song can be played
+abbrev pub PlayableSongsPass : Type 0
+PlayableSongsPass = (files : Files) (name : List ℕ) (song : Song) → HoldsSong files name song →
+    Passes files (CanBePlayed name) ↔ IsPlayable song
 
 -- ---- packed files
 

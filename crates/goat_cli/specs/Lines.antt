@@ -89,8 +89,8 @@ table_word Speed = codes "speed"
 -- for a song that can't be played
 abbrev pub unplayable_line : Unplayable → List ℕ
 unplayable_line NoSubtune = line (codes "unplayable: no subtune" ∷ [])
-unplayable_line (MissingPattern s c place pattern) = line (codes "unplayable: missing pattern " ∷ decimal pattern ∷ codes " in subtune " ∷ decimal s ∷ codes " channel " ∷ decimal c ∷ codes " place " ∷ decimal place ∷ [])
-unplayable_line (BadRestart s c) = line (codes "unplayable: bad restart in subtune " ∷ decimal s ∷ codes " channel " ∷ decimal c ∷ [])
+unplayable_line (MissingPattern subtune channel place pattern) = line (codes "unplayable: missing pattern " ∷ decimal pattern ∷ codes " in subtune " ∷ decimal subtune ∷ codes " channel " ∷ decimal channel ∷ codes " place " ∷ decimal place ∷ [])
+unplayable_line (BadRestart subtune channel) = line (codes "unplayable: bad restart in subtune " ∷ decimal subtune ∷ codes " channel " ∷ decimal channel ∷ [])
 unplayable_line (TableOverflow name row) = line (codes "unplayable: " ∷ table_word name ∷ codes " table ends before row " ∷ decimal row ∷ [])
 unplayable_line (PointerToJump name row) = line (codes "unplayable: " ∷ table_word name ∷ codes " pointer to jump row " ∷ decimal row ∷ [])
 
@@ -98,7 +98,7 @@ unplayable_line (PointerToJump name row) = line (codes "unplayable: " ∷ table_
 abbrev pub feature_digits : ℕ → List ℕ
 feature_digits bits = encode_lower ((bits / 65536 % 256) ∷ (bits / 256 % 256) ∷ (bits % 256) ∷ [])
 
--- for a song with so many playable subtunes, and these used parts
+-- for a song with this number of playable subtunes, and these used parts
 abbrev pub check_line : ℕ → UsedParts → List ℕ
 check_line subtunes parts = line (codes "subtunes " ∷ decimal subtunes ∷ codes " patterns " ∷ decimal (count_of parts.patterns) ∷ codes " instruments " ∷ decimal (count_of parts.instruments) ∷ codes " wave " ∷ decimal (count_of parts.wave) ∷ codes " pulse " ∷ decimal (count_of parts.pulse) ∷ codes " filter " ∷ decimal (count_of parts.filter) ∷ codes " speed " ∷ decimal (count_of parts.speed) ∷ codes " features " ∷ feature_digits parts.features.0 ∷ [])
 

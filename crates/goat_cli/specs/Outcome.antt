@@ -6,7 +6,7 @@ use Rattle.goat_cli.specs.Stages.{AllPass, FirstEnds}
 use Rattle.goat_cli.specs.Jobs.{WordsOf, IsNoForm, stages, Done}
 use Rattle.goat_cli.specs.Lines.{usage_line}
 
--- the words are of no form; or the first stage of their job that isn't met ends the run; or all are met and the job is done
+-- the words are of no form; or the first stage of their job that doesn't pass ends the run; or all pass and the job is done
 pub data Outcome (words : List (List ℕ)) (files : Files) (status : ℕ) (lines : List (List ℕ)) (write : Option (List ℕ × List ℕ)) : Type 0 where
   usage : IsNoForm words → status ≡ 1 → lines ≡ usage_line ∷ [] → write ≡ None → Outcome words files status lines write
   ended : (job : Job) → WordsOf words job → FirstEnds files (stages job) status lines → write ≡ None → Outcome words files status lines write

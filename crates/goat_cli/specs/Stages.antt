@@ -1,4 +1,4 @@
--- What a run goes through, one stage after the other, and what ends it there. Each stage is a condition of the files as they are before the run; the first one that isn't met ends the run, with the stage's status and lines. The order of a job's stages is the order of its refusals.
+-- What a run goes through, one stage after the other, and what ends it there. Each stage is a condition of the files as they are before the run; the first one that doesn't pass ends the run, with the stage's status and lines. The order of a job's stages is the order of its refusals.
 use Rattle.std.specs.Prelude.{◌≡◌, ℕ, ◌+◌, ◌-◌, ◌≤◌, List, [], ◌∷◌, ◌++◌, ◌⊎◌, Some, Ok, Err, length}
 use Rattle.goat_io.specs.Files.{Files, file_of, IsAbsent, IsAbove}
 use Rattle.song_model.specs.declared.songs.Song.{Song}

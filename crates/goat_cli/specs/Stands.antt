@@ -62,7 +62,7 @@ pub record FailsAfter (bytes : List ℕ) (before after : SinkState) : Type 0 whe
 
 -- ---- what a run came to
 
--- the words name a job with this stage, and all earlier ones are met
+-- the words name a job with this stage, and all earlier ones pass
 pub record ComesTo (words : List (List ℕ)) (files : Files) (stage : Stage) : Type 0 where
   pub job : Job
   pub form : WordsOf words job
@@ -77,7 +77,7 @@ pub data Account (words : List (List ℕ)) (files : Files) (status : ℕ) (lines
   read_fault : (name : List ℕ) → ComesTo words files (IsThere name) → status ≡ 4 → lines ≡ read_fault_line name ∷ [] → after ≡ before → Account words files status lines before after
   write_fault : (text : List (List ℕ)) (output file : List ℕ) → Outcome words files 0 text (Some (output, file)) → status ≡ 9 → lines ≡ write_fault_line output ∷ [] → IsWrittenInPart before after output file → Account words files status lines before after
 
--- a run has come to a stage that prints these lines before it is known whether it is met
+-- a run has come to a stage that prints these lines before it is known whether it ends the run
 pub record IsPrinting (words : List (List ℕ)) (files : Files) (lines : List (List ℕ)) : Type 0 where
   pub stage : Stage
   pub comes : ComesTo words files stage
@@ -96,7 +96,7 @@ pub data TellsWant (bytes : List ℕ) (answer : ℕ) (before after : SinkState) 
   failed : (kept : ℕ) → answer ≡ 10 → FailsAfter (bytes ++ take kept no_memory_line) before after → TellsWant bytes answer before after
   untold : answer ≡ 14 → Appends bytes before after → TellsWant bytes answer before after
 
--- all lines were printed, each by one put; or the put of a line failed, and nothing more was put; or memory was wanting for a line, or before the first one
+-- all lines were appended; or the put of a line failed, and nothing more was put; or memory was wanting for a line, or before the first one
 pub data Stands (words : List (List ℕ)) (files : Files) (answer : ℕ) (folder folder_after : FolderState) (sink sink_after : SinkState) : Type 0 where
   whole : (lines : List (List ℕ)) → Account words files answer lines folder.told folder_after.told → Counted answer folder.counts folder_after.counts → Appends (concat lines) sink sink_after → Stands words files answer folder folder_after sink sink_after
   cut_in_line : (earlier later : List (List ℕ)) (line : List ℕ) (kept : ℕ) → Printing words files (earlier ++ line ∷ later) folder folder_after → answer ≡ 10 → FailsAfter (concat earlier ++ take kept line) sink sink_after → Stands words files answer folder folder_after sink sink_after

@@ -1,6 +1,6 @@
 //! Facts about the definitions, each the contract of a function that does nothing.
 
-ghost use Rattle.goat_cli.specs.Laws.{WordsNameOneJob, OutcomesAreDue, OneStatusIsDue, OneTextIsPrinted, StagesPass, StatusesHaveCauses, PackedFilesPlay, LinesHaveRoom};
+ghost use Rattle.goat_cli.specs.Laws.{WordsNameOneJob, OutcomesAreDue, OneStatusIsDue, OneTextIsPrinted, StagesPass, PlayableSongsPass, StatusesHaveCauses, PackedFilesPlay, LinesHaveRoom};
 
 /// The words of a line name one job at most.
 pub fn words_name_one_job()
@@ -17,6 +17,12 @@ pub fn runs_have_one_outcome()
 /// A stage passes where what it asks for is there.
 pub fn stages_pass()
     ensures { StagesPass }
+{}
+
+/// A song that a file spells can be played exactly where the stage that asks for it passes.
+#[tactic(auto, using(crate::proofs::Passes::playable_songs_pass_lem))]
+pub fn playable_songs_pass()
+    ensures { PlayableSongsPass }
 {}
 
 /// Each status comes of its own cause, and of no other.

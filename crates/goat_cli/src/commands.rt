@@ -29,7 +29,7 @@ use std::alloc::Global;
 ///
 /// # Errors
 ///
-/// A stage isn't met, a device fails, or out of memory.
+/// A stage ends the run, a device fails, or out of memory.
 pub fn perform<'a, F: Folder, K: Sink>(
     alloc: Global,
     job: &Job<'a>,

@@ -4,10 +4,11 @@
 //! file; a file that is written holds an image that plays the song that was read, whatever else is in memory. Each
 //! status comes only where its cause does.
 //!
-//! Every song is copied; silent songs are packed, with one fixed player.
+//! Every song is copied and checked; silent songs are packed, with one fixed player. PSID files are run.
 //!
-//! It stands on `goat_io` for folders and sinks, on `gts5` and `song_model` for the song, on `play_model` for what a
-//! song sounds like and on `cpu6502` for what machine code does.
+//! It stands on `goat_io` for folders and sinks, on `gts5` and `song_model` for the song, on `usage` for what a song
+//! uses, on `play_model` for what it sounds like, on `psid` and `sid_run` for PSID files, and on `cpu6502` and
+//! `code_runs` for what machine code does.
 #![tactic(auto)]
 
 mod arguments;

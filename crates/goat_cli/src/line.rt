@@ -1,6 +1,7 @@
 //! The lines that a run prints.
 
-ghost use Rattle.std.specs.Prelude.{◌≡◌, ◌<◌, ◌≤◌, ◌+◌, ◌++◌, [], length, All, IfOk, OnOk, OnErr};
+ghost use Rattle.std.specs.Prelude.{◌≡◌, ◌<◌, ◌≤◌, ◌+◌, ◌*◌, ◌++◌, [], length, All, IfOk, OnOk, OnErr};
+ghost use Rattle.hex.specs.Hex.{encode_lower};
 ghost use Rattle.goat_cli.specs.Lines.{address_digits, feature_digits};
 ghost use Rattle.goat_cli.specs.Words.{texts};
 
@@ -34,7 +35,6 @@ impl Model for Line {
 impl Line {
     ghost use Rattle.goat_cli.specs.Message.{piece_text, line_of};
     ghost use Rattle.goat_cli.specs.RegisterText.{register_line, call_digits};
-    ghost use Rattle.hex.specs.Hex.{encode_lower};
     ghost use Rattle.goat_cli.specs.Room.{HasRoom};
 
     /// An empty line with room for each line that these words can lead to.
@@ -88,9 +88,7 @@ impl Line {
         ensures room { OnOk result (self.old.room ≤ self.new.room) }
     {
         let mut digits = [0; 50];
-        if hex::encode_to_slice(registers.as_slice(), &mut digits).is_err() {
-            return Err(NoMemory);
-        }
+        encode(registers, &mut digits);
         self.set_call_digits(call)?;
         self.add(b" ")?;
         self.add(&digits)?;
@@ -160,13 +158,23 @@ fn longest(words: &[String]) -> usize
     most
 }
 
+/// Writes bytes as hexadecimal digits in lower case, two for each.
+fn encode(bytes: &[u8], digits: &mut [u8])
+    requires { length digits.old ≡ 2 * length bytes.now }
+    ensures { digits.new ≡ encode_lower bytes.now }
+{
+    if hex::encode_to_slice(bytes, digits).is_err() {
+        unreachable!();
+    }
+}
+
 /// An address as four hexadecimal digits in upper case.
 fn upper_digits(address: u16) -> [u8; 4]
     ensures { result ≡ address_digits address }
 {
     let [low, high] = address.to_le_bytes();
     let mut digits = [0; 4];
-    let _written = hex::encode_to_slice([high, low], &mut digits);
+    encode(&[high, low], &mut digits);
     digits.make_ascii_uppercase();
     digits
 }
@@ -177,6 +185,6 @@ fn lower_digits(bits: u32) -> [u8; 6]
 {
     let [low, middle, high, _] = bits.to_le_bytes();
     let mut digits = [0; 6];
-    let _written = hex::encode_to_slice([high, middle, low], &mut digits);
+    encode(&[high, middle, low], &mut digits);
     digits
 }

@@ -1,4 +1,4 @@
-//! The stages of a run: each is met, or ends the run.
+//! The stages of a run: each passes, or ends the run.
 #![tactic(auto, using(crate::proofs::Room::pieces_fit))]
 
 ghost use Rattle.std.specs.Prelude.{◌≡◌, ◌≢◌, ◌+◌, ◌-◌, ◌≤◌, ℕ, List, [], ◌∷◌, codes, Some, IfOk, IfErr, OnOk, Ok, decimal, length};

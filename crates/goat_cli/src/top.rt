@@ -34,7 +34,8 @@ pub fn goat<F: Folder, K: Sink>(alloc: Global, words: &[String], folder: &mut F,
     ensures headline { IfSome (F.files folder.old) (λ files. result ≡ 0 →
         HoldsDone (texts words.now) files (F.files folder.new)) }
 
-    // Where no device fails and memory is found, the outcome comes about; what is due comes, or one of the statuses in its place.
+    // Where no device fails and memory is found, the outcome comes about; what is due comes, or one of the statuses
+    // in its place.
     ensures outcome { IfSome (F.files folder.old) (λ files. IsOrdinary result →
         ComesAbout (texts words.now) files result (K.written out.old) (K.written out.new)
         (F.files folder.new)) }

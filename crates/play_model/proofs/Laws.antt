@@ -5,6 +5,8 @@ pub use Rattle.play_model.proofs.RangesOfFrames.{song_look_ups, start_lem, range
 -- a transposed note is a byte, and the wrapping sum of two
 pub use Rattle.play_model.proofs.RangesOfRules.{transposed_small}
 pub use Rattle.play_model.proofs.RangesOfFrames.{transposes_lem}
+-- a song that is refused for nothing can be played
+pub use Rattle.play_model.proofs.FirstRefusals.{refused_or_playable_lem}
 -- silent songs are silent
 pub use Rattle.play_model.proofs.QuietTrace.{silent_songs_lem}
 -- what a song comes to is closed, and what a playable song comes to is there

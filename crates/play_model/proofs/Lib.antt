@@ -6,6 +6,8 @@ pub mod Choices
 pub mod QuietVoice
 pub mod QuietOrder
 pub mod QuietTrace
+-- Where a rule fails, some refusal is the first.
+pub mod FirstRefusals
 -- Ranges: each rule, each step, each voice and each frame keeps them.
 pub mod RangesOfRules
 pub mod RangesOfSteps

@@ -26,7 +26,8 @@ pub record HasRow (song : Song) (command : ℕ) (IsMeant : ℕ → Type 0) : Typ
   pub command_is : row.command ≡ command
   pub is_meant : IsMeant row.param
 
--- a reached row of the wave table has the command, with such a right side: its left side is $F0 and more
+-- a reached row of the wave table has the command, with such a right side: its left side is $F0 plus the
+-- command
 pub record HasWaveRow (song : Song) (command : ℕ) (IsMeant : ℕ → Type 0) : Type 0 where
   pub p : ℕ
   pub reached : IsReached song Wave p
@@ -41,11 +42,11 @@ Uses song command IsMeant = HasRow song command IsMeant ⊎ HasWaveRow song comm
 abbrev pub IsAny : ℕ → Type 0
 IsAny d = Unit {0}
 
--- some used instrument is such
-pub record HasInstrument (song : Song) (number_of : ℕ → ℕ) : Type 0 where
+-- some used instrument has such a value other than 0
+pub record HasInstrument (song : Song) (value_of : ℕ → ℕ) : Type 0 where
   pub instrument : ℕ
   pub used : IsUsedInstrument song instrument
-  pub some : number_of instrument ≢ 0
+  pub some : value_of instrument ≢ 0
 
 -- there is a pointer into the table
 pub record HasPointer (song : Song) (name : TableName) : Type 0 where

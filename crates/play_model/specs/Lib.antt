@@ -20,6 +20,7 @@ pub mod Features
 -- Claimed: ranges, the length of a trace, what silent songs sound like, and laws of what a song uses.
 pub mod Ranges
 pub mod RangeLaws
+pub mod RefusalLaws
 pub mod TraceLaws
 pub mod SilentTrace
 pub mod UseLaws

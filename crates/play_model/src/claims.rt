@@ -1,6 +1,7 @@
 //! Facts about the definitions of this crate, each the contract of a function that does nothing.
 
 ghost use Rattle.play_model.specs.TraceLaws.{TracesHaveAllRegisters};
+ghost use Rattle.play_model.specs.RefusalLaws.{RefusedOrPlayable};
 ghost use Rattle.play_model.specs.SilentTrace.{SilentSongsAreSilent};
 ghost use Rattle.play_model.specs.RangeLaws.{RangesAreKept, FrameRangesAreKept, StartIsInRange, SongRangesAreKept, TransposesWrap};
 ghost use Rattle.play_model.specs.UseLaws.{PlayableSongsAreWhole, ReachedRowsAreBytes, ProgramsStayInTheirTables, ReachedRowsAreClosed, SongsAreRefusedForOneThing, RefusedSongsAreNotPlayable, UnusedPartsDoNotCount};
@@ -54,6 +55,12 @@ pub fn songs_keep_ranges()
 #[tactic(auto, using(crate::proofs::RangesOfFrames::transposes_lem))]
 pub fn transposes_wrap()
     ensures { TransposesWrap }
+{}
+
+/// A song that is refused for nothing can be played.
+#[tactic(auto, using(crate::proofs::FirstRefusals::refused_or_playable_lem))]
+pub fn songs_are_refused_or_playable()
+    ensures { RefusedOrPlayable }
 {}
 
 /// Each play call of a silent song leaves zeros and the volume, whatever the song's length.

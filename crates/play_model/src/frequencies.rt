@@ -14,7 +14,9 @@ const HIGHEST_OCTAVE: [u32; 12] = [
 /// The number of notes that have a frequency: C-0 to B-7.
 const NOTES: u8 = 96;
 
-/// The frequency of a note, as the SID has it: notes count half tones from C-0, and above B-7 there is 0.
+/// The SID's frequency number of a note. Notes count half tones from C-0, which is 0; the number of a note of the
+/// highest octave, 84 to 95, is this project's, at most 65,535, and halves for each octave below; above B-7, from 96 on,
+/// it is 0.
 #[tactic(auto, unfolding(crate::specs::Freq::freq))]
 pub fn freq(n: u8) -> u16
     ensures { result ≡ freq n }
@@ -51,8 +53,9 @@ fn slide_of(row: TableRow, last: u8) -> u16
     }
 }
 
-/// The speed of a slide: row `pointer` of the speed table is a 16-bit number, or with a left side of `$80`
-/// or more the half tone at the note `last`, shifted right; a row that isn't stored is 0.
+/// The speed of a slide, in frequency numbers per frame: row `pointer` of the speed table is a number of 16 bits, or with
+/// a left side of `$80` or more the step from the note `last`, 0 to 127, to the half tone above it, shifted right by the
+/// right side, and 0 for shifts of 16 and more. A row that isn't stored is 0. The rule is the GoatTracker 2 readme's.
 #[tactic(auto, unfolding(crate::specs::Freq::slide))]
 pub fn slide(song: &Song, pointer: u8, last: u8) -> u16
     requires { last < 128 }

@@ -4,6 +4,11 @@
 //!
 //! The layer's one contract: the definitions are total, say for every song and all options what each
 //! frame leaves in the SID's 25 registers, and give the values that small songs have by other means.
+//!
+//! Beside them stands what a song uses of its parts, which features its player needs, and which songs can
+//! be played (`Used`, `Reached`, `Features`, `Playable`); the crate `usage` answers it. The frequencies of
+//! notes and the speeds of slides are functions too.
+//!
 //! It stands on `song_model`.
 #![tactic(auto)]
 

@@ -1,4 +1,5 @@
--- What a player may do without where a song doesn't use it, and the bits that stand for it.
+-- What a player may do without where a song doesn't use it, and the bits that stand for it. The numbering is
+-- this project's own.
 use Rattle.std.specs.Prelude.{ℕ}
 use Rattle.song_model.specs.declared.features.Feature.{Feature}
 use Rattle.song_model.specs.declared.features.Feature.TheVariants.{Transpose, Repeat, PortaUp, PortaDown, TonePorta, TieNote, Vibrato, InstrumentVibrato, NoteDependent, SetAd, SetSr, SetWave, SetWavePointer, PulseTable, SetPulsePointer, FilterTable, SetFilterPointer, FilterControl, Cutoff, Volume, FunkTempo, SetTempo, WaveTable, WaveCommand}

@@ -23,7 +23,7 @@ command_table command =
     else None
 
 -- the table that a row of the wave table points into by its right side: the left sides $F0 to $FE are
--- commands, of which 8 and $E do nothing there
+-- commands, of which 0, 8 and $E do nothing there
 abbrev pub wave_row_table : ℕ → Option TableName
 wave_row_table left =
     if left == 0xF9 then Some Pulse

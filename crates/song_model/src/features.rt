@@ -2,7 +2,9 @@
 
 ghost use Rattle.std.specs.Prelude.{◌≡◌};
 
-/// A part of what a player can do. It is left out of the player of a song that doesn't use it.
+/// A part of what a player can do. It is left out of the player of a song that doesn't use it. The parts are those of
+/// this project's player; the commands are the GoatTracker 2 readme's, and each is meant in rows of patterns and in the
+/// wave table, unless its variant says where.
 #[derive(Clone, Copy, Debug, PartialEq, Eq)]
 pub enum Feature {
     /// Transposes in orderlists.
@@ -29,7 +31,7 @@ pub enum Feature {
     SetSr,
     /// Command 7: the waveform.
     SetWave,
-    /// Command 8: the wave program.
+    /// Command 8 in a row of a pattern: the wave program.
     SetWavePointer,
     /// Pulse programs.
     PulseTable,
@@ -45,13 +47,13 @@ pub enum Feature {
     Cutoff,
     /// Command `$D`: the volume.
     Volume,
-    /// Command `$E`, or `$F` with 0 or 1: rows of two lengths in turn.
+    /// Command `$E`, or `$F` with parameter 0 or 1, in a row of a pattern: rows of two lengths in turn.
     FunkTempo,
-    /// Command `$F`: the tempo.
+    /// Command `$F` with parameter `$03` to `$7F` or `$83` to `$FF` in a row of a pattern: the tempo.
     SetTempo,
     /// Wave programs.
     WaveTable,
-    /// Commands in the wave table.
+    /// Commands in the wave table: rows with left side `$F0` to `$FE`.
     WaveCommand,
 }
 
@@ -66,6 +68,6 @@ impl Feature {
     }
 }
 
-/// A set of features of the player, one bit each.
+/// A set of features of the player: bits 0 to 23, that of a feature by [`Feature::bit`].
 #[derive(Clone, Copy, Debug, PartialEq, Eq)]
 pub struct FeatureBits(pub u32);

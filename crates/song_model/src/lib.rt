@@ -2,8 +2,9 @@
 //!
 //! The layer's one contract: a value of these types is within the limits of the format, a constructor
 //! keeps exactly the items that it was given, and a refusal leaves everything as it was.
-//! Its definitions say how a song is spelled (`canonical`), what an orderlist plays (`played`), and
-//! what a look-up finds where nothing is stored.
+//! Its definitions say how a song is spelled (`canonical`), what an orderlist plays (`played`), what a
+//! look-up finds where nothing is stored, and which table a pointer points into. It names the features
+//! that a player may do without.
 //! It stands on `base`. Readers, editors, the playroutine and the packer stand on it.
 #![tactic(auto)]
 

@@ -19,8 +19,8 @@ impl Instrument {
     }
 }
 
-/// The table that a command of a row of a pattern points into by its parameter; none where the parameter
-/// is no pointer.
+/// The table that a command of a row of a pattern, 0 to `$F`, points into by its parameter, as the GoatTracker 2 readme
+/// has it; none where the parameter is no pointer.
 pub fn command_table(command: u8) -> Option<TableName>
     ensures { result ≡ command_table command }
 {
@@ -33,8 +33,8 @@ pub fn command_table(command: u8) -> Option<TableName>
     }
 }
 
-/// The table that a row of the wave table with this left side points into by its right side; none where
-/// the right side is no pointer.
+/// The table that a row of the wave table with this left side points into by its right side, as the GoatTracker 2
+/// readme has it; none where the right side is no pointer.
 pub fn wave_row_table(left: u8) -> Option<TableName>
     ensures { result ≡ wave_row_table left }
 {

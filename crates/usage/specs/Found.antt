@@ -13,6 +13,7 @@ use Rattle.usage.specs.Waves.{IsWaveCommand}
 use Rattle.usage.specs.Checks.{ArePrograms}
 use Rattle.usage.specs.declared.found.Found.{Found}
 
+-- each mark says what it is for, and the tables with programs keep their limit
 pub record IsFoundOf (song : Song) (found : Found) : Type 0 where
   pub bytes : AreMarks (IsPlayedByte song) found.bytes
   pub rows : AreRowsOf song found.rows

@@ -81,6 +81,7 @@ impl Found {
         let bytes = played_bytes(song);
         let rows = played_rows(song, &bytes);
         let wave = wave_programs(song, &rows);
+        // That these tables keep their limit is told by their slices.
         let _wave_rows = song.wave.as_slice();
         let _pulse_rows = song.pulse.as_slice();
         let _filter_rows = song.filter.as_slice();

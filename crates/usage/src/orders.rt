@@ -63,6 +63,7 @@ fn check_end(song: &Song, subtune: u8, channel: u8, order: &Order) -> Result<(),
     ensures found { IfErr result (IsFirst (FailsAt OrderRule.NeverEnds song.now subtune channel)) }
     ensures none { OnOk result (IsNowhere (FailsAt OrderRule.NeverEnds song.now subtune channel)) }
 {
+    // Named in the contract alone.
     let _song = song;
     if order.sound() {
         Ok(())

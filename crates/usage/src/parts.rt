@@ -23,12 +23,13 @@ fn row_marks(reached: &RowNumbers) -> ByteMarks
     marks
 }
 
-/// What a song uses: a mark for each number that is used, over its playable subtunes.
+/// What a song uses: a mark for each number that is used, over its playable subtunes. Where numbers count from 1, mark
+/// 0 is never set.
 #[derive(Drop)]
 pub struct UsedParts {
     /// The patterns that orderlists name, counted from 0.
     pub patterns: [bool; 208],
-    /// Instrument 1, and those that rows of used patterns name, counted from 1.
+    /// Instrument 1, and those that rows of used patterns name, counted from 1; stored or not.
     pub instruments: [bool; 64],
     /// The rows of the wave table that programs come to, counted from 1.
     pub wave: [bool; 256],
@@ -36,7 +37,7 @@ pub struct UsedParts {
     pub pulse: [bool; 256],
     /// The same of the filter table.
     pub filter: [bool; 256],
-    /// The rows of the speed table that pointers name, counted from 1; one may lie behind the last stored row.
+    /// The rows of the speed table that pointers name, counted from 1; stored or not.
     pub speed: [bool; 256],
     /// What a player of the song has to be able to do.
     pub features: FeatureBits,
@@ -91,11 +92,13 @@ fn looked_at(song: &Song) -> Result<UsedParts, Unplayable>
     Ok(parts_of(song, &found))
 }
 
-/// What a song uses, where it can be played. It takes no memory, and its work is linear in the song.
+/// What a song uses, where it can be played by the rules of [`Unplayable`]. It takes no memory, and its work is linear
+/// in the song.
 ///
 /// # Errors
 ///
-/// The first rule that the song breaks so that it can't be played, with the least place where it breaks it.
+/// The first rule that the song breaks so that it can't be played, with the least place where it breaks it: the
+/// orderlists are looked at before the tables.
 pub fn usage(song: &Song) -> Result<UsedParts, Unplayable>
     ensures parts { IfOk result (AreUsedParts song.now) }
     ensures playable { IsOk result ↔ IsPlayable song.now }

@@ -58,6 +58,7 @@ fn mark_if_used(
     ensures instruments { Adds (PatternNames song.now number) marks.old.instruments marks.new.instruments }
     ensures commands { AddsAt (PatternHas song.now number) marks.old.commands marks.new.commands }
 {
+    // Named in the contract alone.
     let _song = song;
     if bytes[number] {
         mark_pattern(pattern.as_slice(), marks);

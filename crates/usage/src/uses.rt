@@ -84,6 +84,7 @@ pub(crate) fn has_pointer(song: &Song, name: TableName, pointers: &ByteMarks) ->
     requires { AreMarks (IsPointer song.now name) pointers.now }
     ensures { IsTrue result ↔ HasPointer song.now name }
 {
+    // Named in the contract alone.
     let _song = song;
     let _name = name;
     has_mark(pointers, 0, 256)
@@ -110,6 +111,7 @@ impl Found {
         requires found { IsFoundOf song.now self.now }
         ensures { IsTrue result ↔ HasByte song.now from (to - 1) }
     {
+        // Named in the contract alone.
         let _song = song;
         has_mark(&self.bytes, from, to)
     }
@@ -134,6 +136,7 @@ impl Found {
         requires found { IsFoundOf song.now self.now }
         ensures { IsTrue result ↔ Uses song.now command IsAny }
     {
+        // Named in the contract alone.
         let _song = song;
         self.has_parameter(command, 0, 256)
     }
@@ -144,6 +147,7 @@ impl Found {
         requires found { IsFoundOf song.now self.now }
         ensures { IsTrue result ↔ Uses song.now command (λ d. d ≢ 0) }
     {
+        // Named in the contract alone.
         let _song = song;
         self.has_parameter(command, 1, 256)
     }
@@ -154,6 +158,7 @@ impl Found {
         requires found { IsFoundOf song.now self.now }
         ensures { IsTrue result ↔ Uses song.now command (λ d. d ≡ 0) }
     {
+        // Named in the contract alone.
         let _song = song;
         self.has_parameter(command, 0, 1)
     }
@@ -164,6 +169,7 @@ impl Found {
         requires found { IsFoundOf song.now self.now }
         ensures { IsTrue result ↔ HasRow song.now command IsAny }
     {
+        // Named in the contract alone.
         let _song = song;
         has_mark(&self.rows.commands[command], 0, 256)
     }
@@ -173,6 +179,7 @@ impl Found {
         requires { IsFoundOf song.now self.now }
         ensures { IsTrue result ↔ HasRow song.now 0xF (λ d. d ≤ 1) }
     {
+        // Named in the contract alone.
         let _song = song;
         has_mark(&self.rows.commands[0xf], 0, 2)
     }
@@ -182,6 +189,7 @@ impl Found {
         requires { IsFoundOf song.now self.now }
         ensures { IsTrue result ↔ HasRow song.now 0xF (λ d. 3 ≤ d % 128) }
     {
+        // Named in the contract alone.
         let _song = song;
         has_either(&self.rows.commands[0xf], 0x03, 0x80, 0x83, 0x100)
     }
@@ -199,6 +207,7 @@ impl Found {
         requires { IsFoundOf song.now self.now }
         ensures { IsTrue result ↔ HasWaveCommand song.now }
     {
+        // Named in the contract alone.
         let _song = song;
         has_command(&self.wave_commands)
     }

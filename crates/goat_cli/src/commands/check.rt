@@ -48,7 +48,7 @@ pub fn check_job(arguments: &[String]) -> Result<Job<'_>, WordsFault>
 ///
 /// # Errors
 ///
-/// A stage isn't met, the folder fails, or out of memory.
+/// A stage ends the run, the folder fails, or out of memory.
 pub fn check_song<'a, F: Folder>(
     alloc: Global,
     input: &'a str,
@@ -69,6 +69,7 @@ fn report_of(song: &Song, parts: &UsedParts) -> Report<'static>
     ensures { last_word (Ok result) ≡
         Says 0 (check_line (length (playable_subtunes song.now)) parts.now) }
 {
+    // That there are few subtunes is told by their slice.
     let _subtunes = song.subtunes.as_slice();
     Report::says(&[
         Piece::Words("subtunes "),
@@ -90,7 +91,7 @@ fn report_of(song: &Song, parts: &UsedParts) -> Report<'static>
     ])
 }
 
-/// How many numbers are marked.
+/// How many numbers are marked, at most as many as there are marks.
 fn count(marks: &[bool]) -> u64
     ensures count { result ≡ count_of marks.now }
     ensures most { result ≤ length marks.now }

@@ -51,7 +51,7 @@ pub fn pack_job(arguments: &[String]) -> Result<Job<'_>, WordsFault>
 ///
 /// # Errors
 ///
-/// A stage isn't met, the folder fails, or out of memory.
+/// A stage ends the run, the folder fails, or out of memory.
 pub fn pack_song<'a, F: Folder>(
     alloc: Global,
     input: &'a str,

@@ -64,7 +64,7 @@ pub fn run_job(arguments: &[String]) -> Result<Job<'_>, WordsFault>
 ///
 /// # Errors
 ///
-/// A stage isn't met, a device fails, or out of memory.
+/// A stage ends the run, a device fails, or out of memory.
 pub fn run_psid<'a, F: Folder, K: Sink>(
     alloc: Global,
     input: &'a str,
