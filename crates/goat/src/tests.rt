@@ -1,7 +1,9 @@
 //! Worked examples from outside: words, files, the status, the line and what was written.
 
 mod broken;
+mod checking;
 mod copying;
+mod parts;
 mod running;
 mod wanting;
 
@@ -221,18 +223,29 @@ fn a_file_that_is_not_on_the_disk_is_missing(rt: HostRuntime) -> Result<(), Fail
 #[test]
 fn songs_that_sound_are_refused(rt: HostRuntime) -> Result<(), Fail> {
     let alloc = rt.alloc();
-    assert_refused(
-        &rt,
-        &run(alloc, &PACK, &one_note(alloc)?)?,
-        15,
-        "not built\n",
-    );
+    let note = run(alloc, &PACK, &one_note(alloc)?)?;
+    assert_refused(&rt, &note, 15, "not built\n");
     let song = silence(alloc)?;
-    // A pattern that isn't stored, a restart past the end, a note, no subtune.
-    for (offset, byte) in [(106, 1), (104, 1), (120, 0x60), (120, 0xbe)] {
+    // A pattern that isn't stored, a restart past the end, a note, a key off.
+    for (offset, byte, status, text) in [
+        (
+            106,
+            1,
+            6,
+            "unplayable: missing pattern 1 in subtune 1 channel 2 place 0\n",
+        ),
+        (
+            104,
+            1,
+            6,
+            "unplayable: bad restart in subtune 1 channel 1\n",
+        ),
+        (120, 0x60, 15, "not built\n"),
+        (120, 0xbe, 15, "not built\n"),
+    ] {
         let mut changed = song.clone()?;
         *changed.get_mut(offset).ok_or("short")? = byte;
-        assert_refused(&rt, &run(alloc, &PACK, &changed)?, 15, "not built\n");
+        assert_refused(&rt, &run(alloc, &PACK, &changed)?, status, text);
     }
     Ok(())
 }

@@ -1,0 +1,117 @@
+//! Songs that are spelled part by part, in hexadecimal digits.
+
+use std::alloc::Global;
+use std::test::Fail;
+
+/// The parts of a song's file, its texts left out. Spaces are for the eye.
+#[derive(Clone, Copy)]
+pub struct Parts {
+    /// The number of subtunes, and three orderlists for each.
+    pub orders: &'static str,
+    /// The nine bytes of each instrument, its name left out.
+    pub instruments: &'static str,
+    /// The rows of the wave table: left and right side.
+    pub wave: &'static str,
+    /// The rows of the pulse table.
+    pub pulse: &'static str,
+    /// The rows of the filter table.
+    pub filter: &'static str,
+    /// The rows of the speed table.
+    pub speed: &'static str,
+    /// The number of patterns, and each of them with its end row.
+    pub patterns: &'static str,
+}
+
+/// One subtune of silence.
+pub const QUIET: Parts = Parts {
+    orders: "01 0200FF00 0200FF00 0200FF00",
+    instruments: "",
+    wave: "",
+    pulse: "",
+    filter: "",
+    speed: "",
+    patterns: "01 02 BD000000 FF000000",
+};
+
+/// One note of one instrument, which has a wave and a pulse program.
+pub const NOTE: Parts = Parts {
+    orders: "01 0200FF00 0201FF00 0201FF00",
+    instruments: "09A001010000000209",
+    wave: "4100 FF00",
+    pulse: "8800 FF00",
+    filter: "",
+    speed: "",
+    patterns: "02 03 90010000 BE000000 FF000000 02 BD000000 FF000000",
+};
+
+/// The bytes that pairs of digits spell.
+fn bytes_of(alloc: Global, digits: &str) -> Result<Vec<u8>, Fail> {
+    let mut bytes = Vec::new(alloc);
+    let mut high = None;
+    for character in digits.chars() {
+        let Some(digit) = character.to_digit(16) else {
+            continue;
+        };
+        let digit = digit as u8;
+        match high {
+            None => high = Some(digit),
+            Some(sixteens) => {
+                bytes.push(sixteens << 4 | digit)?;
+                high = None;
+            }
+        }
+    }
+    Ok(bytes)
+}
+
+/// A number of items as the format has it.
+fn count(items: usize) -> Result<u8, Fail> {
+    Ok(u8::try_from(items).ok().ok_or("too many")?)
+}
+
+/// Appends the instruments, with names of zeros.
+fn add_instruments(alloc: Global, file: &mut Vec<u8>, instruments: &str) -> Result<(), Fail> {
+    let bytes = bytes_of(alloc, instruments)?;
+    file.push(count(bytes.len() / 9)?)?;
+    for (place, byte) in bytes.iter().enumerate() {
+        file.push(*byte)?;
+        if place % 9 == 8 {
+            file.extend_from_slice(&[0; 16])?;
+        }
+    }
+    Ok(())
+}
+
+/// Appends a table: its left sides and then its right sides.
+fn add_table(alloc: Global, file: &mut Vec<u8>, rows: &str) -> Result<(), Fail> {
+    let bytes = bytes_of(alloc, rows)?;
+    file.push(count(bytes.len() / 2)?)?;
+    for side in 0..2 {
+        for (place, byte) in bytes.iter().enumerate() {
+            if place % 2 == side {
+                file.push(*byte)?;
+            }
+        }
+    }
+    Ok(())
+}
+
+impl Parts {
+    /// The song's file up to its patterns.
+    pub fn head(&self, alloc: Global) -> Result<Vec<u8>, Fail> {
+        let mut file = super::song_with(alloc, &bytes_of(alloc, self.orders)?)?;
+        add_instruments(alloc, &mut file, self.instruments)?;
+        add_table(alloc, &mut file, self.wave)?;
+        add_table(alloc, &mut file, self.pulse)?;
+        add_table(alloc, &mut file, self.filter)?;
+        add_table(alloc, &mut file, self.speed)?;
+        Ok(file)
+    }
+
+    /// The song's file.
+    pub fn file(&self, alloc: Global) -> Result<Vec<u8>, Fail> {
+        let mut file = self.head(alloc)?;
+        file.extend_from_slice(&bytes_of(alloc, self.patterns)?)?;
+        Ok(file)
+    }
+}
