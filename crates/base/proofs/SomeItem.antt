@@ -28,11 +28,13 @@ pub none_of_nil : {X : Type 0} (P : X → Type 0) → Any P [] → ⊥
 none_of_nil P (k, x, inside, is, holds) = omega arith
 
 -- some item of the first i + 1 is such: it is one of the first i, or the next
-pub any_of_more : {X : Type 0} (P : X → Type 0) (xs : List X) (i : ℕ) (d : X) → i < length xs → Any P (take (i + 1) xs) → Any P (take i xs) ⊎ P (get_or xs i d)
+pub any_of_more : {X : Type 0} (P : X → Type 0) (xs : List X) (i : ℕ) (d : X) → i < length xs →
+    Any P (take (i + 1) xs) → Any P (take i xs) ⊎ P (get_or xs i d)
 any_of_more {X} P xs i d inside any =
     any_of_push P (take i xs) (get_or xs i d) (subst (λ (ys : List X). Any P ys) (take_more xs i d inside) any)
 
-pub any_more : {X : Type 0} (P : X → Type 0) (xs : List X) (i : ℕ) (d : X) → i < length xs → Any P (take i xs) ⊎ P (get_or xs i d) → Any P (take (i + 1) xs)
+pub any_more : {X : Type 0} (P : X → Type 0) (xs : List X) (i : ℕ) (d : X) → i < length xs →
+    Any P (take i xs) ⊎ P (get_or xs i d) → Any P (take (i + 1) xs)
 any_more {X} P xs i d inside (inl any) =
     subst (λ (ys : List X). Any P ys) (sym (take_more xs i d inside)) (any_left P (take i xs) (get_or xs i d) any)
 any_more {X} P xs i d inside (inr holds) =
@@ -49,7 +51,8 @@ contains_later : {X : Type 0} (y : X) (xs : List X) (x : X) → Contains xs x �
 contains_later y xs x (k, inside, is) = (suc k, omega arith, is)
 
 -- what a filter keeps: the items that pass
-pub filter_keeps : {X : Type 0} (p : X → Bool) (xs : List X) (x : X) → Contains xs x → p x ≡ true → Contains (filter p xs) x
+pub filter_keeps : {X : Type 0} (p : X → Bool) (xs : List X) (x : X) → Contains xs x → p x ≡ true →
+    Contains (filter p xs) x
 filter_keeps p [] x c pass = c
 filter_keeps {X} p (y ∷ xs) x (zero, inside, is) pass =
     let first : p y ≡ true = subst (λ (z : X). p z ≡ true) (sym is) pass in
@@ -61,7 +64,8 @@ filter_keeps p (y ∷ xs) x (suc k, inside, is) pass =
       | inr dropped ↦ rw dropped later
     ]
 
-pub filter_of : {X : Type 0} (p : X → Bool) (xs : List X) (x : X) → Contains (filter p xs) x → Contains xs x × (p x ≡ true)
+pub filter_of : {X : Type 0} (p : X → Bool) (xs : List X) (x : X) → Contains (filter p xs) x →
+    Contains xs x × (p x ≡ true)
 filter_of p xs x c = (
   All-contains (Contains xs) (filter p xs) x (All-filter p (Contains xs) xs (All-contains_itself xs)) c,
   All-contains (λ y. p y ≡ true) (filter p xs) x (filter_passes p xs) c,

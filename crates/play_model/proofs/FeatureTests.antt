@@ -13,7 +13,7 @@ use Rattle.song_model.specs.declared.songs.Song.{Song}
 use Rattle.song_model.specs.Feature.{bit_of}
 use Rattle.song_model.specs.LookUp.{table_row, speed_row, instrument_at}
 use Rattle.play_model.specs.Parts.{Parts}
-use Rattle.play_model.specs.Features.{HasByte, HasRow, HasWaveRow, Uses, IsAny, HasInstrument, HasPointer, HasNoteSpeed, HasWaveCommand, HasFeature, AreFeatures}
+use Rattle.play_model.specs.Features.{HasByte, HasRow, HasWaveRow, UsesCommand, IsAny, HasInstrument, HasPointer, HasNoteSpeed, HasWaveCommand, HasFeature, AreFeatures}
 use Rattle.play_model.proofs.ListTests.{and_true, true_and, or_true, true_or, equal_numbers, numbers_equal, some_passes, passes_some, each_passes}
 use Rattle.play_model.proofs.UsedLists.{bytes_of, byte_listed, listed_byte, rows_of, row_listed, listed_row, instruments_of, instrument_listed, listed_instrument, is_some, some_is, is_some_number}
 use Rattle.play_model.proofs.RowTests.{pointers_in, are_rows, waves_reached, reached_listed, pointer_in, in_pointer}
@@ -139,7 +139,7 @@ either a b A B x y = (
 
 uses_test : (song : Song) (parts : Parts) → are_rows song parts ≡ true →
     (command : ℕ) (test : ℕ → Bool) (IsMeant : ℕ → Type 0) → IsTest test IsMeant →
-    (uses song parts command test ≡ true) ↔ Uses song command IsMeant
+    (uses song parts command test ≡ true) ↔ UsesCommand song command IsMeant
 uses_test song parts rows command test IsMeant t =
     either (has_row song command test) (has_wave_row song parts command test) (HasRow song command IsMeant)
     (HasWaveRow song command IsMeant)

@@ -9,7 +9,7 @@ use Rattle.song_model.specs.declared.tables.TableName.TheVariants.{Wave, Pulse, 
 use Rattle.song_model.specs.declared.songs.Song.{Song}
 use Rattle.song_model.specs.LookUp.{instrument_at}
 use Rattle.play_model.specs.Playable.{IsPlayable}
-use Rattle.play_model.specs.Features.{HasByte, HasRow, HasWaveRow, Uses, IsAny, HasInstrument, HasPointer, HasNoteSpeed, HasWaveCommand, HasFeature}
+use Rattle.play_model.specs.Features.{HasByte, HasRow, HasWaveRow, UsesCommand, IsAny, HasInstrument, HasPointer, HasNoteSpeed, HasWaveCommand, HasFeature}
 use Rattle.play_model.specs.UseLaws.{AgreesOnUsed, UsesTheSame}
 use Rattle.play_model.proofs.UnusedParts.{AgreesOnRows, byte_to, pattern_to, row_to, instrument_to, wave_row_same, reached_to, pointer_to, turned, agrees_on_rows}
 
@@ -40,7 +40,7 @@ has_wave_row_to song other a command IsMeant h =
     }
 
 uses_to : (song other : Song) → AgreesOnRows song other → (command : ℕ) (IsMeant : ℕ → Type 0) →
-    Uses song command IsMeant → Uses other command IsMeant
+    UsesCommand song command IsMeant → UsesCommand other command IsMeant
 uses_to song other a command IsMeant (inl h) = inl (has_row_to song other a command IsMeant h)
 uses_to song other a command IsMeant (inr h) = inr (has_wave_row_to song other a command IsMeant h)
 

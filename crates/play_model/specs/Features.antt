@@ -35,8 +35,8 @@ pub record HasWaveRow (song : Song) (command : ℕ) (IsMeant : ℕ → Type 0) :
   pub is_meant : IsMeant (table_row song Wave p).right
 
 -- the command is used, in a pattern or in the wave table
-abbrev pub Uses : Song → ℕ → (ℕ → Type 0) → Type 0
-Uses song command IsMeant = HasRow song command IsMeant ⊎ HasWaveRow song command IsMeant
+abbrev pub UsesCommand : Song → ℕ → (ℕ → Type 0) → Type 0
+UsesCommand song command IsMeant = HasRow song command IsMeant ⊎ HasWaveRow song command IsMeant
 
 -- with any parameter
 abbrev pub IsAny : ℕ → Type 0
@@ -71,26 +71,26 @@ pub record HasWaveCommand (song : Song) : Type 0 where
 abbrev pub HasFeature : Song → Feature → Type 0
 HasFeature song Transpose = HasByte song 0xE0 0xFE
 HasFeature song Repeat = HasByte song 0xD0 0xDF
-HasFeature song PortaUp = Uses song 1 IsAny
-HasFeature song PortaDown = Uses song 2 IsAny
-HasFeature song TonePorta = Uses song 3 (λ d. d ≢ 0)
-HasFeature song TieNote = Uses song 3 (λ d. d ≡ 0)
-HasFeature song Vibrato = Uses song 4 IsAny
+HasFeature song PortaUp = UsesCommand song 1 IsAny
+HasFeature song PortaDown = UsesCommand song 2 IsAny
+HasFeature song TonePorta = UsesCommand song 3 (λ d. d ≢ 0)
+HasFeature song TieNote = UsesCommand song 3 (λ d. d ≡ 0)
+HasFeature song Vibrato = UsesCommand song 4 IsAny
 HasFeature song InstrumentVibrato =
     HasInstrument song (λ i. (instrument_at song i).vibrato)
     × HasInstrument song (λ i. (instrument_at song i).vibrato_delay)
 HasFeature song NoteDependent = HasNoteSpeed song
-HasFeature song SetAd = Uses song 5 IsAny
-HasFeature song SetSr = Uses song 6 IsAny
-HasFeature song SetWave = Uses song 7 IsAny
+HasFeature song SetAd = UsesCommand song 5 IsAny
+HasFeature song SetSr = UsesCommand song 6 IsAny
+HasFeature song SetWave = UsesCommand song 7 IsAny
 HasFeature song SetWavePointer = HasRow song 8 IsAny
 HasFeature song PulseTable = HasPointer song Pulse
-HasFeature song SetPulsePointer = Uses song 9 IsAny
+HasFeature song SetPulsePointer = UsesCommand song 9 IsAny
 HasFeature song FilterTable = HasPointer song Filter
-HasFeature song SetFilterPointer = Uses song 0xA IsAny
-HasFeature song FilterControl = Uses song 0xB IsAny
-HasFeature song Cutoff = Uses song 0xC IsAny
-HasFeature song Volume = Uses song 0xD IsAny
+HasFeature song SetFilterPointer = UsesCommand song 0xA IsAny
+HasFeature song FilterControl = UsesCommand song 0xB IsAny
+HasFeature song Cutoff = UsesCommand song 0xC IsAny
+HasFeature song Volume = UsesCommand song 0xD IsAny
 HasFeature song FunkTempo = HasRow song 0xE IsAny ⊎ HasRow song 0xF (λ d. d ≤ 1)
 HasFeature song SetTempo = HasRow song 0xF (λ d. 3 ≤ d % 128)
 HasFeature song WaveTable = HasPointer song Wave

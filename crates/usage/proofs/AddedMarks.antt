@@ -3,7 +3,8 @@ use Rattle.std.proofs.Common.{◌≡◌, ℕ, ◌+◌, ◌<◌, ◌≤◌, Bool,
 use Rattle.std.proofs.lemmas.Bool.{cases_lt}
 use Rattle.std.proofs.lemmas.List.{take_all, get_or-replicate, get_or_past, length-replicate}
 use Rattle.base.proofs.Laws.{get_or-replicate_any}
-use Rattle.usage.specs.Marks.{IsMarked, AreMarks, Adds, SomeOf, SomeBelow, SomeBelowAt, marks_of, AreWhole, AreMarksAt, AddsAt, SomeAt}
+use Rattle.usage.specs.Marks.{IsMarked, AreMarks}
+use Rattle.usage.specs.Building.{Adds, SomeOf, SomeBelow, SomeBelowAt, marks_of, AreWhole, AreMarksAt, AddsAt, SomeAt}
 use Rattle.base.proofs.Laws.{any_of_more, any_more, none_of_nil}
 
 -- a mark stands before the last one
@@ -13,7 +14,8 @@ marked_inside marks n i count m = elim (cases_lt i n) [
   | inr past ↦ (let e = get_or_past marks i false (omega arith) in absurd (cc))
 ]
 
-pub command_inside : (commands : List (List Bool)) (n c d : ℕ) → length commands ≤ n → IsMarked (marks_of commands c) d → c < n
+pub command_inside : (commands : List (List Bool)) (n c d : ℕ) → length commands ≤ n →
+    IsMarked (marks_of commands c) d → c < n
 command_inside commands n c d count m = elim (cases_lt c n) [
   | inl inside ↦ inside
   | inr past ↦ (let e = get_or_past commands c [] (omega arith) in let none : IsMarked [] d = rw e at m in absurd (cc))
@@ -21,10 +23,17 @@ command_inside commands n c d count m = elim (cases_lt c n) [
 
 -- nothing was added
 pub adds_none : (P : ℕ → Type 0) (marks : List Bool) → ((n : ℕ) → P n → ⊥) → Adds P marks marks
-adds_none P marks none = record { each = λ n. (inl, λ (w : IsMarked marks n ⊎ P n). elim w [ inl m ↦ m | inr p ↦ absurd (none n p) ]) }
+adds_none P marks none = record {
+  each = λ n. (
+    inl,
+    λ (w : IsMarked marks n ⊎ P n).
+        elim w [ inl m ↦ m | inr p ↦ absurd (none n p) ],
+  );
+}
 
 -- the same said in another way
-pub adds_same : {P : ℕ → Type 0} {old new : List Bool} (Q : ℕ → Type 0) → ((n : ℕ) → P n → Q n) → ((n : ℕ) → Q n → P n) → Adds P old new → Adds Q old new
+pub adds_same : {P : ℕ → Type 0} {old new : List Bool} (Q : ℕ → Type 0) → ((n : ℕ) → P n → Q n) →
+    ((n : ℕ) → Q n → P n) → Adds P old new → Adds Q old new
 adds_same {P} {old} {new} Q to from a = record {
   each = λ n. (
     λ (m : IsMarked new n). (let w = (a.each n).0 m in elim w [ inl o ↦ inl o | inr p ↦ inr (to n p) ]),
@@ -33,7 +42,8 @@ adds_same {P} {old} {new} Q to from a = record {
 }
 
 -- one after the other
-pub adds_both : {P Q : ℕ → Type 0} {old mid new : List Bool} → Adds P old mid → Adds Q mid new → Adds (λ n. P n ⊎ Q n) old new
+pub adds_both : {P Q : ℕ → Type 0} {old mid new : List Bool} → Adds P old mid → Adds Q mid new →
+    Adds (λ n. P n ⊎ Q n) old new
 adds_both {P} {Q} {old} {mid} {new} a b = record {
   each = λ n. (
     λ (m : IsMarked new n). (let w = (b.each n).0 m in elim w [
@@ -52,22 +62,28 @@ adds_both {P} {Q} {old} {mid} {new} a b = record {
 
 -- ---- in a loop over a list
 
-pub adds_first : {X : Type 0} (Q : X → ℕ → Type 0) (xs : List X) (marks : List Bool) → Adds (SomeOf Q (take 0 xs)) marks marks
+pub adds_first : {X : Type 0} (Q : X → ℕ → Type 0) (xs : List X) (marks : List Bool) →
+    Adds (SomeOf Q (take 0 xs)) marks marks
 adds_first Q xs marks = adds_none (SomeOf Q (take 0 xs)) marks (λ n any. none_of_nil (λ x. Q x n) any)
 
-pub adds_more : {X : Type 0} (Q : X → ℕ → Type 0) (xs : List X) (i : ℕ) (d : X) {old mid new : List Bool} → i < length xs →
+pub adds_more : {X : Type 0} (Q : X → ℕ → Type 0) (xs : List X) (i : ℕ) (d : X) {old mid new : List Bool} →
+    i < length xs →
     Adds (SomeOf Q (take i xs)) old mid → Adds (Q (get_or xs i d)) mid new → Adds (SomeOf Q (take (i + 1) xs)) old new
 adds_more Q xs i d inside a b =
     adds_same (SomeOf Q (take (i + 1) xs)) (λ n w. any_more (λ x. Q x n) xs i d inside w)
     (λ n any. any_of_more (λ x. Q x n) xs i d inside any) (adds_both a b)
 
 -- the same for an item as it was read
-pub adds_item : {X : Type 0} (Q : X → ℕ → Type 0) (xs : List X) (i : ℕ) (x : X) {old mid new : List Bool} → i < length xs → x ≡ get_or xs i x →
+pub adds_item : {X : Type 0} (Q : X → ℕ → Type 0) (xs : List X) (i : ℕ) (x : X) {old mid new : List Bool} →
+    i < length xs → x ≡ get_or xs i x →
     Adds (SomeOf Q (take i xs)) old mid → Adds (Q x) mid new → Adds (SomeOf Q (take (i + 1) xs)) old new
-adds_item {X} Q xs i x {old} {mid} {new} inside is a b = adds_more Q xs i x inside a (subst (λ (y : X). Adds (Q y) mid new) is b)
+adds_item {X} Q xs i x {old} {mid} {new} inside is a b =
+    adds_more Q xs i x inside a (subst (λ (y : X). Adds (Q y) mid new) is b)
 
-pub adds_all : {X : Type 0} (Q : X → ℕ → Type 0) (xs : List X) {old new : List Bool} → Adds (SomeOf Q (take (length xs) xs)) old new → Adds (SomeOf Q xs) old new
-adds_all {X} Q xs {old} {new} a = subst (λ (ys : List X). Adds (SomeOf Q ys) old new) (take_all (length xs) xs (omega arith)) a
+pub adds_all : {X : Type 0} (Q : X → ℕ → Type 0) (xs : List X) {old new : List Bool} →
+    Adds (SomeOf Q (take (length xs) xs)) old new → Adds (SomeOf Q xs) old new
+adds_all {X} Q xs {old} {new} a = subst (λ (ys : List X). Adds (SomeOf Q ys) old new)
+    (take_all (length xs) xs (omega arith)) a
 
 -- ---- in a loop over numbers
 
@@ -84,15 +100,18 @@ some_below_of Q i n s = elim (cases_lt s.k i) [
   | inr on ↦ (let b = s.below in let e : s.k ≡ i = omega arith in inr (subst (λ (j : ℕ). Q j n) e s.stands))
 ]
 
-pub below_more : (Q : ℕ → ℕ → Type 0) (i : ℕ) {old mid new : List Bool} → Adds (SomeBelow Q i) old mid → Adds (Q i) mid new → Adds (SomeBelow Q (i + 1)) old new
-below_more Q i a b = adds_same (SomeBelow Q (i + 1)) (λ n w. some_below_more Q i n w) (λ n s. some_below_of Q i n s) (adds_both a b)
+pub below_more : (Q : ℕ → ℕ → Type 0) (i : ℕ) {old mid new : List Bool} → Adds (SomeBelow Q i) old mid →
+    Adds (Q i) mid new → Adds (SomeBelow Q (i + 1)) old new
+below_more Q i a b = adds_same (SomeBelow Q (i + 1)) (λ n w. some_below_more Q i n w) (λ n s. some_below_of Q i n s)
+    (adds_both a b)
 
 -- ---- from nothing
 
 pub none_marked : (count n : ℕ) → IsMarked (replicate count false) n → ⊥
 none_marked count n m = let e = get_or-replicate_any count n false in cc
 
-pub marks_from_none : {P : ℕ → Type 0} (count : ℕ) {new : List Bool} → Adds P (replicate count false) new → AreMarks P new
+pub marks_from_none : {P : ℕ → Type 0} (count : ℕ) {new : List Bool} → Adds P (replicate count false) new →
+    AreMarks P new
 marks_from_none {P} count {new} a = record {
   each = λ n. (
     λ (m : IsMarked new n). (let w = (a.each n).0 m in elim w [ inl o ↦ absurd (none_marked count n o) | inr p ↦ p ]),
@@ -101,37 +120,59 @@ marks_from_none {P} count {new} a = record {
 }
 
 -- a loop over all items, begun with no mark
-pub marks_of_all : {X : Type 0} (Q : X → ℕ → Type 0) (xs : List X) (P : ℕ → Type 0) (i count : ℕ) {new : List Bool} → length xs ≤ i →
-    ((n : ℕ) → SomeOf Q xs n → P n) → ((n : ℕ) → P n → SomeOf Q xs n) → Adds (SomeOf Q (take i xs)) (replicate count false) new → AreMarks P new
+pub marks_of_all : {X : Type 0} (Q : X → ℕ → Type 0) (xs : List X) (P : ℕ → Type 0) (i count : ℕ) {new : List Bool} →
+    length xs ≤ i →
+    ((n : ℕ) → SomeOf Q xs n → P n) → ((n : ℕ) → P n → SomeOf Q xs n) →
+    Adds (SomeOf Q (take i xs)) (replicate count false) new → AreMarks P new
 marks_of_all {X} Q xs P i count {new} end to from a =
-    marks_from_none count (adds_same P to from (subst (λ (ys : List X). Adds (SomeOf Q ys) (replicate count false) new) (take_all i xs end) a))
+    marks_from_none count (adds_same P to from (subst (λ (ys : List X). Adds (SomeOf Q ys) (replicate count false) new)
+    (take_all i xs end) a))
 
 -- ---- commands with their parameters
 
-pub adds_at_first : {X : Type 0} (Q : X → ℕ → ℕ → Type 0) (xs : List X) (commands : List (List Bool)) → AreWhole commands →
+pub adds_at_first : {X : Type 0} (Q : X → ℕ → ℕ → Type 0) (xs : List X) (commands : List (List Bool)) →
+    AreWhole commands →
     AddsAt (SomeAt Q (take 0 xs)) commands commands
-adds_at_first Q xs commands whole = record { whole = whole; each = λ c. adds_first (λ x. Q x c) xs (marks_of commands c) }
+adds_at_first Q xs commands whole = record {
+  whole = whole;
+  each = λ c.
+      adds_first (λ x. Q x c) xs (marks_of commands c);
+}
 
-pub adds_at_more : {X : Type 0} (Q : X → ℕ → ℕ → Type 0) (xs : List X) (i : ℕ) (d : X) {old mid new : List (List Bool)} → i < length xs →
-    AddsAt (SomeAt Q (take i xs)) old mid → AddsAt (Q (get_or xs i d)) mid new → AddsAt (SomeAt Q (take (i + 1) xs)) old new
-adds_at_more Q xs i d inside a b = record { whole = b.whole; each = λ c. adds_more (λ y. Q y c) xs i d inside (a.each c) (b.each c) }
+pub adds_at_more : {X : Type 0} (Q : X → ℕ → ℕ → Type 0) (xs : List X) (i : ℕ) (d : X) {old mid new : List (List Bool)}
+    → i < length xs →
+    AddsAt (SomeAt Q (take i xs)) old mid → AddsAt (Q (get_or xs i d)) mid new →
+    AddsAt (SomeAt Q (take (i + 1) xs)) old new
+adds_at_more Q xs i d inside a b = record {
+  whole = b.whole;
+  each = λ c.
+      adds_more (λ y. Q y c) xs i d inside (a.each c) (b.each c);
+}
 
-pub adds_at_item : {X : Type 0} (Q : X → ℕ → ℕ → Type 0) (xs : List X) (i : ℕ) (x : X) {old mid new : List (List Bool)} → i < length xs → x ≡ get_or xs i x →
+pub adds_at_item : {X : Type 0} (Q : X → ℕ → ℕ → Type 0) (xs : List X) (i : ℕ) (x : X) {old mid new : List (List Bool)}
+    → i < length xs → x ≡ get_or xs i x →
     AddsAt (SomeAt Q (take i xs)) old mid → AddsAt (Q x) mid new → AddsAt (SomeAt Q (take (i + 1) xs)) old new
-adds_at_item Q xs i x inside is a b = record { whole = b.whole; each = λ c. adds_item (λ y. Q y c) xs i x inside is (a.each c) (b.each c) }
+adds_at_item Q xs i x inside is a b = record {
+  whole = b.whole;
+  each = λ c.
+      adds_item (λ y. Q y c) xs i x inside is (a.each c) (b.each c);
+}
 
 pub adds_at_all : {X : Type 0} (Q : X → ℕ → ℕ → Type 0) (xs : List X) {old new : List (List Bool)} →
     AddsAt (SomeAt Q (take (length xs) xs)) old new → AddsAt (SomeAt Q xs) old new
 adds_at_all Q xs a = record { whole = a.whole; each = λ c. adds_all (λ x. Q x c) xs (a.each c) }
 
-pub adds_at_same : {P : ℕ → ℕ → Type 0} {old new : List (List Bool)} (Q : ℕ → ℕ → Type 0) → ((c d : ℕ) → P c d → Q c d) → ((c d : ℕ) → Q c d → P c d) →
+pub adds_at_same : {P : ℕ → ℕ → Type 0} {old new : List (List Bool)} (Q : ℕ → ℕ → Type 0) →
+    ((c d : ℕ) → P c d → Q c d) → ((c d : ℕ) → Q c d → P c d) →
     AddsAt P old new → AddsAt Q old new
 adds_at_same Q to from a = record { whole = a.whole; each = λ c. adds_same (Q c) (to c) (from c) (a.each c) }
 
-pub below_at_first : (Q : ℕ → ℕ → ℕ → Type 0) (commands : List (List Bool)) → AreWhole commands → AddsAt (SomeBelowAt Q 0) commands commands
+pub below_at_first : (Q : ℕ → ℕ → ℕ → Type 0) (commands : List (List Bool)) → AreWhole commands →
+    AddsAt (SomeBelowAt Q 0) commands commands
 below_at_first Q commands whole = record { whole = whole; each = λ c. below_first (λ k. Q k c) (marks_of commands c) }
 
-pub below_at_more : (Q : ℕ → ℕ → ℕ → Type 0) (i : ℕ) {old mid new : List (List Bool)} → AddsAt (SomeBelowAt Q i) old mid → AddsAt (Q i) mid new →
+pub below_at_more : (Q : ℕ → ℕ → ℕ → Type 0) (i : ℕ) {old mid new : List (List Bool)} →
+    AddsAt (SomeBelowAt Q i) old mid → AddsAt (Q i) mid new →
     AddsAt (SomeBelowAt Q (i + 1)) old new
 below_at_more Q i a b = record { whole = b.whole; each = λ c. below_more (λ k. Q k c) i (a.each c) (b.each c) }
 
@@ -147,12 +188,14 @@ none_marked_at n m c k h = elim (cases_lt c n) [
   | inr past ↦ none_past n m c k past h
 ]
 
-pub marks_at_from_none : {P : ℕ → ℕ → Type 0} (n m : ℕ) {new : List (List Bool)} → AddsAt P (replicate n (replicate m false)) new → AreMarksAt P new
+pub marks_at_from_none : {P : ℕ → ℕ → Type 0} (n m : ℕ) {new : List (List Bool)} →
+    AddsAt P (replicate n (replicate m false)) new → AreMarksAt P new
 marks_at_from_none {P} n m {new} a = record {
   whole = a.whole;
   each = λ c. record {
     each = λ d. (
-      λ (h : IsMarked (marks_of new c) d). (let w = ((a.each c).each d).0 h in elim w [ inl o ↦ absurd (none_marked_at n m c d o) | inr p ↦ p ]),
+      λ (h : IsMarked (marks_of new c) d). (let w = ((a.each c).each d).0 h in
+          elim w [ inl o ↦ absurd (none_marked_at n m c d o) | inr p ↦ p ]),
       λ (p : P c d). ((a.each c).each d).1 (inr p),
     );
   };

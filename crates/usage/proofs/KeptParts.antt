@@ -31,7 +31,8 @@ marked_in_front n k marks m = elim (cases_lt k n) [
       | inr long ↦ rw (length-take-le n marks long) past
     ]
 
-front : {P Q : ℕ → Type 0} (n : ℕ) {marks kept : List Bool} → kept ≡ take n marks → AreMarks P marks → ((k : ℕ) → k < n → P k → Q k) → ((k : ℕ) → Q k → (k < n) × P k) → AreMarks Q kept
+front : {P Q : ℕ → Type 0} (n : ℕ) {marks kept : List Bool} → kept ≡ take n marks → AreMarks P marks →
+    ((k : ℕ) → k < n → P k → Q k) → ((k : ℕ) → Q k → (k < n) × P k) → AreMarks Q kept
 front {P} {Q} n {marks} {kept} is m to from = record {
   each = λ k. (
     λ (h : IsMarked kept k). (let f = marked_in_front n k marks (rw is at h) in to k f.0 ((m.each k).0 f.1)),
@@ -41,23 +42,29 @@ front {P} {Q} n {marks} {kept} is m to from = record {
 
 -- ---- what is kept
 
-row_small : (song : Song) (name : TableName) (p : ℕ) → HasPrograms name → length (table_of song name) ≤ 255 → IsNowhere (ProgramFails song) → IsReached song name p → p < 256
+row_small : (song : Song) (name : TableName) (p : ℕ) → HasPrograms name → length (table_of song name) ≤ 255 →
+    IsNowhere (ProgramFails song) → IsReached song name p → p < 256
 row_small song name p programs few none reached = elim (cases_lt (length (table_of song name)) p) [
   | inl above ↦ absurd (none (TableOverflow name p) (record { programs = programs; reached = reached; above = above }))
   | inr stored ↦ omega arith
 ]
 
-rows_kept : (song : Song) (name : TableName) {marks kept : List Bool} → HasPrograms name → length (table_of song name) ≤ 255 → IsNowhere (ProgramFails song) →
+rows_kept : (song : Song) (name : TableName) {marks kept : List Bool} → HasPrograms name →
+    length (table_of song name) ≤ 255 → IsNowhere (ProgramFails song) →
     kept ≡ take 256 marks → AreMarks (IsReached song name) marks → AreMarks (IsReached song name) kept
 rows_kept song name programs few none is m =
     front 256 is m (λ k low r. r) (λ k r. (row_small song name k programs few none r, r))
 
-pub kept_parts : (song : Song) (found : Found) (parts : UsedParts) → IsFoundOf song found → IsNowhere (ProgramFails song) →
-    parts.patterns ≡ take 208 found.bytes → parts.instruments ≡ found.rows.instruments → parts.wave ≡ take 256 found.wave.reached →
-    parts.pulse ≡ take 256 found.pulse.reached → parts.filter ≡ take 256 found.filter.reached → parts.speed ≡ found.speed →
+pub kept_parts : (song : Song) (found : Found) (parts : UsedParts) → IsFoundOf song found →
+    IsNowhere (ProgramFails song) →
+    parts.patterns ≡ take 208 found.bytes → parts.instruments ≡ found.rows.instruments →
+    parts.wave ≡ take 256 found.wave.reached →
+    parts.pulse ≡ take 256 found.pulse.reached → parts.filter ≡ take 256 found.filter.reached →
+    parts.speed ≡ found.speed →
     AreFeatures song parts.features.0 → AreUsedParts song parts
 kept_parts song found parts f none patterns instruments wave pulse filter speed features = record {
-  patterns = front 208 patterns f.bytes (λ k low byte. record { byte = byte; is_pattern = low }) (λ k used. (used.is_pattern, used.byte));
+  patterns = front 208 patterns f.bytes (λ k low byte. record { byte = byte; is_pattern = low })
+      (λ k used. (used.is_pattern, used.byte));
   instruments = rw instruments f.rows.instruments;
   wave = rows_kept song Wave (λ e. cc) f.wave_rows none wave f.wave.reached;
   pulse = rows_kept song Pulse (λ e. cc) f.pulse_rows none pulse f.pulse.reached;

@@ -50,7 +50,11 @@ one_count xs ys m = sym (length-filter (λ marked. marked) xs) ∙ one_length xs
 
 alike : {P : ℕ → Type 0} {a b : List Bool} → AreMarks P a → AreMarks P b → count_of a ≡ count_of b
 alike {P} {a} {b} m k = one_count a b (record {
-  each = λ n. (λ (h : IsMarked a n). (k.each n).1 ((m.each n).0 h), λ (h : IsMarked b n). (m.each n).1 ((k.each n).0 h));
+  each = λ n. (
+    λ (h : IsMarked a n). (k.each n).1 ((m.each n).0 h),
+    λ (h : IsMarked b n).
+        (m.each n).1 ((k.each n).0 h),
+  );
 })
 
 -- ---- features
@@ -70,7 +74,11 @@ same_bit song a b i f g = elim (cases_lt i 24) [
   where
     both : {x y : ℕ} → x < 2 → y < 2 → (x ≡ 1 → y ≡ 1) → (y ≡ 1 → x ≡ 1) → x ≡ y
     both {x} {y} p q to from = elim (cases_lt x 1) [
-      | inl none ↦ (elim (cases_lt y 1) [ inl zero_too ↦ omega arith | inr one ↦ absurd (let e = from (omega arith) in omega arith) ])
+      | inl none ↦ (elim (cases_lt y 1) [
+        | inl zero_too ↦ omega arith
+        | inr one ↦ absurd
+            (let e = from (omega arith) in omega arith)
+      ])
       | inr one ↦ (let e = to (omega arith) in omega arith)
     ]
 

@@ -27,13 +27,15 @@ missing_of patterns byte bad = elim (cases_lt byte 0xD0) [
   | inr other ↦ absurd (bad (λ p. absurd (omega arith)))
 ]
 
-not_before : (patterns : ℕ) (entries : List ℕ) (place later pattern : ℕ) → IsFirstBad (IsStoredByte patterns) entries place →
+not_before : (patterns : ℕ) (entries : List ℕ) (place later pattern : ℕ) →
+    IsFirstBad (IsStoredByte patterns) entries place →
     slice_get entries later ≡ Some pattern → pattern < 0xD0 → patterns ≤ pattern → place ≤ later
 not_before patterns entries place later pattern first names is_pattern missing = elim (cases_lt later place) [
   | inl before ↦ (
       let stored = first.before later 0 before in
       let is : get_or entries later 0 ≡ pattern = get_or_from_slice_get entries later pattern 0 names in
-      absurd (let small : pattern < patterns = subst (λ (b : ℕ). b < patterns) is (stored (rw is is_pattern)) in omega arith))
+      absurd (let small : pattern < patterns = subst (λ (b : ℕ). b < patterns) is (stored (rw is is_pattern)) in
+      omega arith))
   | inr after ↦ after
 ]
 
@@ -42,34 +44,41 @@ names_first : (song : Song) (s c place pattern : ℕ) (order : Order) → HasOrd
     (other : Unplayable) → FailsAt NamesStored song s c other → IsNotAfter (MissingPattern s c place pattern) other
 names_first song s c place pattern order has first NoSubtune h = absurd h
 names_first song s c place pattern order has first (MissingPattern t d later missed) (ts, dc, m) =
-    let names = subst (λ (o : Order). slice_get o.entries later ≡ Some missed) (one_order song s c order m.order has m.has) m.names in
-    let later_place = not_before (length song.patterns) order.entries place later missed first names m.is_pattern m.missing in
+    let names = subst (λ (o : Order). slice_get o.entries later ≡ Some missed)
+    (one_order song s c order m.order has m.has) m.names in
+    let later_place = not_before (length song.patterns) order.entries place later missed first names m.is_pattern
+    m.missing in
     (same {x = 2} refl (same ts (same dc (at_most later_place nothing_left)))).is
 names_first song s c place pattern order has first (BadRestart t d) h = absurd h
 names_first song s c place pattern order has first (TableOverflow t r) h = absurd h
 names_first song s c place pattern order has first (PointerToJump t r) h = absurd h
 
 pub missing_is_first : (song : Song) (s c place pattern : ℕ) (order : Order) → HasOrder song s c order →
-    IsFirstBad (IsStoredByte (length song.patterns)) order.entries place → pattern ≡ get_or order.entries place pattern →
+    IsFirstBad (IsStoredByte (length song.patterns)) order.entries place →
+    pattern ≡ get_or order.entries place pattern →
     IsFirst (FailsAt NamesStored song s c) (MissingPattern s c place pattern)
 missing_is_first song s c place pattern order has first read =
     let names : slice_get order.entries place ≡ Some pattern =
     slice_get-get_or order.entries place pattern first.inside ∙ ap (λ (b : ℕ). Some b) (sym read) in
     let bad : (pattern < 0xD0) × (length song.patterns ≤ pattern) =
-    missing_of (length song.patterns) pattern (subst (λ (b : ℕ). ¬ IsStoredByte (length song.patterns) b) (sym read) (first.bad pattern)) in
+    missing_of (length song.patterns) pattern (subst (λ (b : ℕ). ¬ IsStoredByte (length song.patterns) b) (sym read)
+    (first.bad pattern)) in
     record {
       is_such = (refl, refl, record { order = order; has = has; names = names; is_pattern = bad.0; missing = bad.1 });
       first = names_first song s c place pattern order has first;
     }
 
-pub none_missing : (song : Song) (s c : ℕ) (order : Order) → HasOrder song s c order → All (IsStoredByte (length song.patterns)) order.entries →
+pub none_missing : (song : Song) (s c : ℕ) (order : Order) → HasOrder song s c order →
+    All (IsStoredByte (length song.patterns)) order.entries →
     IsNowhere (FailsAt NamesStored song s c)
 none_missing song s c order has all NoSubtune h = h
 none_missing song s c order has all (MissingPattern t d place pattern) (ts, dc, m) =
-    let names = subst (λ (o : Order). slice_get o.entries place ≡ Some pattern) (one_order song s c order m.order has m.has) m.names in
+    let names = subst (λ (o : Order). slice_get o.entries place ≡ Some pattern)
+    (one_order song s c order m.order has m.has) m.names in
     let is : get_or order.entries place 0 ≡ pattern = get_or_from_slice_get order.entries place pattern 0 names in
     let small : pattern < length song.patterns =
-    subst (λ (b : ℕ). b < length song.patterns) is (all place 0 (slice_get_within order.entries place pattern names) (rw is m.is_pattern)) in
+    subst (λ (b : ℕ). b < length song.patterns) is
+    (all place 0 (slice_get_within order.entries place pattern names) (rw is m.is_pattern)) in
     let large = m.missing in
     omega arith
 none_missing song s c order has all (BadRestart t d) h = h
@@ -77,7 +86,8 @@ none_missing song s c order has all (TableOverflow t r) h = h
 none_missing song s c order has all (PointerToJump t r) h = h
 
 -- the same for the lists as they were read
-pub missing_found : (song : Song) (s c place : ℕ) (order : Order) (entries : List ℕ) (patterns : List (List Row)) → HasOrder song s c order →
+pub missing_found : (song : Song) (s c place : ℕ) (order : Order) (entries : List ℕ) (patterns : List (List Row)) →
+    HasOrder song s c order →
     entries ≡ order.entries → patterns ≡ song.patterns → IsFirstBad (IsStoredByte (length patterns)) entries place →
     IsFirst (FailsAt NamesStored song s c) (MissingPattern s c place (get_or entries place 0))
 missing_found song s c place order entries patterns has e p first =
@@ -86,7 +96,8 @@ missing_found song s c place order entries patterns has e p first =
     (let i = bad.inside in get_or_default order.entries place 0 (get_or order.entries place 0) i) in
     rw e (missing_is_first song s c place (get_or order.entries place 0) order has bad read)
 
-pub none_found : (song : Song) (s c : ℕ) (order : Order) (entries : List ℕ) (patterns : List (List Row)) → HasOrder song s c order →
+pub none_found : (song : Song) (s c : ℕ) (order : Order) (entries : List ℕ) (patterns : List (List Row)) →
+    HasOrder song s c order →
     entries ≡ order.entries → patterns ≡ song.patterns → All (IsStoredByte (length patterns)) entries →
     IsNowhere (FailsAt NamesStored song s c)
 none_found song s c order entries patterns has e p all = none_missing song s c order has (rw (e, p) at all)
@@ -105,14 +116,17 @@ record IsAt (rule : OrderRule) (song : Song) (s c : ℕ) (refusal : Unplayable) 
   order : Order
   has : HasOrder song s c order
 
-at : (rule : OrderRule) (song : Song) (s c : ℕ) (refusal : Unplayable) → FailsAt rule song s c refusal → IsAt rule song s c refusal
+at : (rule : OrderRule) (song : Song) (s c : ℕ) (refusal : Unplayable) → FailsAt rule song s c refusal →
+    IsAt rule song s c refusal
 unfolding rule_number
-at NamesStored song s c (MissingPattern t d place pattern) (ts, dc, m) = record { rest = place ∷ []; rank_is = rw (ts, dc) refl; order = m.order; has = m.has }
+at NamesStored song s c (MissingPattern t d place pattern) (ts, dc, m) =
+    record { rest = place ∷ []; rank_is = rw (ts, dc) refl; order = m.order; has = m.has }
 at NamesStored song s c NoSubtune h = absurd h
 at NamesStored song s c (BadRestart t d) h = absurd h
 at NamesStored song s c (TableOverflow t r) h = absurd h
 at NamesStored song s c (PointerToJump t r) h = absurd h
-at NeverEnds song s c (BadRestart t d) (ts, dc, m) = record { rest = []; rank_is = rw (ts, dc) refl; order = m.order; has = m.has }
+at NeverEnds song s c (BadRestart t d) (ts, dc, m) =
+    record { rest = []; rank_is = rw (ts, dc) refl; order = m.order; has = m.has }
 at NeverEnds song s c NoSubtune h = absurd h
 at NeverEnds song s c (MissingPattern t d place pattern) h = absurd h
 at NeverEnds song s c (TableOverflow t r) h = absurd h
@@ -134,7 +148,8 @@ later_subtune rule song s t c d refusal other lt a b =
 
 -- the first in a channel, where there is none in the channels before it, is the first in the subtune
 pub first_in_subtune : (rule : OrderRule) (song : Song) (s c : ℕ) (refusal : Unplayable) →
-    ((d : ℕ) → 1 ≤ d → d < c → IsNowhere (FailsAt rule song s d)) → IsFirst (FailsAt rule song s c) refusal → IsFirst (FailsIn rule song s) refusal
+    ((d : ℕ) → 1 ≤ d → d < c → IsNowhere (FailsAt rule song s d)) → IsFirst (FailsAt rule song s c) refusal →
+    IsFirst (FailsIn rule song s) refusal
 first_in_subtune rule song s c refusal none first =
     first_of (FailsIn rule song s) refusal first (record { channel = c; fails = first.is_such }) (λ other f.
     let x = at rule song s f.channel other f.fails in
@@ -142,11 +157,13 @@ first_in_subtune rule song s c refusal none first =
       | inl before ↦ absurd (none f.channel x.has.is_channel.first before other f.fails)
       | inr on ↦ elim (cases_lt c f.channel) [
         | inl later ↦ inr (later_channel rule song s c f.channel refusal other later first.is_such f.fails)
-        | inr here ↦ inl (let e : f.channel ≡ c = omega arith in subst (λ (d : ℕ). FailsAt rule song s d other) e f.fails)
+        | inr here ↦ inl (let e : f.channel ≡ c = omega arith in
+            subst (λ (d : ℕ). FailsAt rule song s d other) e f.fails)
       ]
     ])
 
-pub none_in_subtune : (rule : OrderRule) (song : Song) (s : ℕ) → ((d : ℕ) → 1 ≤ d → d < 4 → IsNowhere (FailsAt rule song s d)) → IsNowhere (FailsIn rule song s)
+pub none_in_subtune : (rule : OrderRule) (song : Song) (s : ℕ) →
+    ((d : ℕ) → 1 ≤ d → d < 4 → IsNowhere (FailsAt rule song s d)) → IsNowhere (FailsIn rule song s)
 none_in_subtune rule song s none refusal f =
     let x = at rule song s f.channel refusal f.fails in
     let most = x.has.is_channel.last in
@@ -156,7 +173,8 @@ none_in_subtune rule song s none refusal f =
 pub before_one : (rule : OrderRule) (song : Song) (s d : ℕ) → 1 ≤ d → d < 1 → IsNowhere (FailsAt rule song s d)
 before_one rule song s d low high = absurd (omega arith)
 
-pub before_more : (rule : OrderRule) (song : Song) (s c : ℕ) → ((d : ℕ) → 1 ≤ d → d < c → IsNowhere (FailsAt rule song s d)) →
+pub before_more : (rule : OrderRule) (song : Song) (s c : ℕ) →
+    ((d : ℕ) → 1 ≤ d → d < c → IsNowhere (FailsAt rule song s d)) →
     IsNowhere (FailsAt rule song s c) → (d : ℕ) → 1 ≤ d → d < c + 1 → IsNowhere (FailsAt rule song s d)
 before_more rule song s c none here d low high = elim (cases_lt d c) [
   | inl before ↦ none d low before
@@ -166,15 +184,18 @@ before_more rule song s c none here d low high = elim (cases_lt d c) [
 -- ---- subtune after subtune
 
 -- the first in a subtune, where there is none in the subtunes before it, is the first of the song
-pub first_in_song : (rule : OrderRule) (song : Song) (i : ℕ) (refusal : Unplayable) → IsNowhere (FailsUpTo rule song i) →
+pub first_in_song : (rule : OrderRule) (song : Song) (i : ℕ) (refusal : Unplayable) →
+    IsNowhere (FailsUpTo rule song i) →
     IsFirst (FailsIn rule song (i + 1)) refusal → IsFirst (FailsBy rule song) refusal
 first_in_song rule song i refusal none first =
     first_of (FailsBy rule song) refusal first (record { subtune = i + 1; fails = first.is_such }) (λ other f.
     elim (cases_lt i f.subtune) [
       | inr before ↦ absurd (none other (record { subtune = f.subtune; up_to = before; fails = f.fails }))
       | inl on ↦ elim (cases_lt (i + 1) f.subtune) [
-        | inl later ↦ inr (later_subtune rule song (i + 1) f.subtune first.is_such.channel f.fails.channel refusal other later first.is_such.fails f.fails.fails)
-        | inr here ↦ inl (let e : f.subtune ≡ i + 1 = omega arith in subst (λ (t : ℕ). FailsIn rule song t other) e f.fails)
+        | inl later ↦ inr (later_subtune rule song (i + 1) f.subtune first.is_such.channel f.fails.channel refusal other
+            later first.is_such.fails f.fails.fails)
+        | inr here ↦ inl (let e : f.subtune ≡ i + 1 = omega arith in
+            subst (λ (t : ℕ). FailsIn rule song t other) e f.fails)
       ]
     ])
 
@@ -185,7 +206,8 @@ none_up_to_zero rule song refusal f =
     let high = f.up_to in
     omega arith
 
-pub none_up_to_more : (rule : OrderRule) (song : Song) (i : ℕ) → IsNowhere (FailsUpTo rule song i) → IsNowhere (FailsIn rule song (i + 1)) →
+pub none_up_to_more : (rule : OrderRule) (song : Song) (i : ℕ) → IsNowhere (FailsUpTo rule song i) →
+    IsNowhere (FailsIn rule song (i + 1)) →
     IsNowhere (FailsUpTo rule song (i + 1))
 none_up_to_more rule song i none here refusal f = elim (cases_lt i f.subtune) [
   | inr before ↦ none refusal (record { subtune = f.subtune; up_to = before; fails = f.fails })
@@ -196,15 +218,18 @@ none_up_to_more rule song i none here refusal f = elim (cases_lt i f.subtune) [
 ]
 
 -- a subtune that can't be played breaks no rule
-pub none_in_void : (rule : OrderRule) (song : Song) (s : ℕ) (subtune : Subtune) → slice_get song.subtunes (s - 1) ≡ Some subtune →
+pub none_in_void : (rule : OrderRule) (song : Song) (s : ℕ) (subtune : Subtune) →
+    slice_get song.subtunes (s - 1) ≡ Some subtune →
     is_playable_subtune subtune ≡ false → IsNowhere (FailsIn rule song s)
 none_in_void rule song s subtune is void refusal f =
     let x = at rule song s f.channel refusal f.fails in
     let e : x.has.subtune ≡ subtune = same_some x.has.subtune subtune (sym x.has.subtune_is ∙ is) in
-    let plays : is_playable_subtune subtune ≡ true = subst (λ (t : Subtune). is_playable_subtune t ≡ true) e x.has.playable in
+    let plays : is_playable_subtune subtune ≡ true =
+    subst (λ (t : Subtune). is_playable_subtune t ≡ true) e x.has.playable in
     absurd (cc)
 
-pub none_in_song : (rule : OrderRule) (song : Song) (i : ℕ) → length song.subtunes ≤ i → IsNowhere (FailsUpTo rule song i) → IsNowhere (FailsBy rule song)
+pub none_in_song : (rule : OrderRule) (song : Song) (i : ℕ) → length song.subtunes ≤ i →
+    IsNowhere (FailsUpTo rule song i) → IsNowhere (FailsBy rule song)
 none_in_song rule song i end none refusal f =
     let x = at rule song f.subtune f.fails.channel refusal f.fails.fails in
     let most = x.has.stored.last in

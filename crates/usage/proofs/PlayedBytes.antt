@@ -7,7 +7,8 @@ use Rattle.song_model.specs.declared.orders.Subtune.{Subtune}
 use Rattle.song_model.specs.declared.songs.Song.{Song}
 use Rattle.song_model.specs.LookUp.{order_of, is_playable_subtune, playable_subtunes}
 use Rattle.play_model.specs.Used.{IsChannel, IsPlayedOrder, IsPlayedByte}
-use Rattle.usage.specs.Marks.{AreMarks, Adds, SomeOf}
+use Rattle.usage.specs.Marks.{AreMarks}
+use Rattle.usage.specs.Building.{Adds, SomeOf}
 use Rattle.usage.specs.Played.{PlaysByte}
 use Rattle.base.proofs.Laws.{filter_keeps, filter_of}
 use Rattle.usage.proofs.AddedMarks.{marks_of_all}
@@ -25,7 +26,8 @@ channel_cases channel is =
 channel_of : (channel : ℕ) → 1 ≤ channel → channel ≤ 3 → IsChannel channel
 channel_of channel low high = record { first = low; last = high }
 
-byte_of : (song : Song) (subtune : Subtune) (channel n : ℕ) → Contains (playable_subtunes song) subtune → IsChannel channel →
+byte_of : (song : Song) (subtune : Subtune) (channel n : ℕ) → Contains (playable_subtunes song) subtune →
+    IsChannel channel →
     Contains (order_of channel subtune).entries n → IsPlayedByte song n
 byte_of song subtune channel n playable is has = record {
   order = order_of channel subtune;
@@ -45,29 +47,38 @@ played_from song n (k, subtune, inside, is, plays) =
       ]
     ]
 
-has_byte : (subtune : Subtune) (channel n : ℕ) → (channel ≡ 1) ⊎ (channel ≡ 2) ⊎ (channel ≡ 3) → Contains (order_of channel subtune).entries n →
+has_byte : (subtune : Subtune) (channel n : ℕ) → (channel ≡ 1) ⊎ (channel ≡ 2) ⊎ (channel ≡ 3) →
+    Contains (order_of channel subtune).entries n →
     Contains subtune.one.entries n ⊎ Contains subtune.two.entries n ⊎ Contains subtune.three.entries n
 has_byte subtune channel n (inl one) has = inl (rw one at has)
 has_byte subtune channel n (inr (inl two)) has = inr (inl (rw two at has))
 has_byte subtune channel n (inr (inr three)) has = inr (inr (rw three at has))
 
-plays_of : (song : Song) (order : Order) (n : ℕ) → IsPlayedOrder song order → Contains order.entries n → SomeOf PlaysByte song.subtunes n
+plays_of : (song : Song) (order : Order) (n : ℕ) → IsPlayedOrder song order → Contains order.entries n →
+    SomeOf PlaysByte song.subtunes n
 plays_of song order n played has =
     let kept = filter_of is_playable_subtune song.subtunes played.subtune played.playable in
     let there = kept.0 in
-    let entry : Contains (order_of played.channel played.subtune).entries n = subst (λ (o : Order). Contains o.entries n) played.order_is has in (
+    let entry : Contains (order_of played.channel played.subtune).entries n =
+    subst (λ (o : Order). Contains o.entries n) played.order_is has in (
       there.0,
       played.subtune,
       there.1,
       there.2,
-      record { playable = kept.1; has = has_byte played.subtune played.channel n (channel_cases played.channel played.is_channel) entry },
+      record {
+        playable = kept.1;
+        has = has_byte played.subtune played.channel n
+            (channel_cases played.channel played.is_channel) entry;
+      },
     )
 
 pub some_from : (song : Song) (n : ℕ) → IsPlayedByte song n → SomeOf PlaysByte song.subtunes n
 some_from song n h = plays_of song h.order n h.played h.entry
 
 -- after the last subtune
-pub all_played : (song : Song) (subtunes : List Subtune) (i : ℕ) {new : List Bool} → subtunes ≡ song.subtunes → length subtunes ≤ i →
+pub all_played : (song : Song) (subtunes : List Subtune) (i : ℕ) {new : List Bool} → subtunes ≡ song.subtunes →
+    length subtunes ≤ i →
     Adds (SomeOf PlaysByte (take i subtunes)) (replicate 256 false) new → AreMarks (IsPlayedByte song) new
 all_played song subtunes i same end a =
-    marks_of_all PlaysByte subtunes (IsPlayedByte song) i 256 end (λ n. rw same (played_from song n)) (λ n. rw same (some_from song n)) a
+    marks_of_all PlaysByte subtunes (IsPlayedByte song) i 256 end (λ n. rw same (played_from song n))
+    (λ n. rw same (some_from song n)) a

@@ -28,11 +28,13 @@ at_most {x} {y} {xs} {ys} h rest = elim (cases_lt x y) [
 pub nothing_left : AreInOrder [] []
 nothing_left = record { is = refl }
 
-pub ordered : (refusal other : Unplayable) (xs ys : List ℕ) → rank_of refusal ≡ xs → rank_of other ≡ ys → AreInOrder xs ys → IsNotAfter refusal other
+pub ordered : (refusal other : Unplayable) (xs ys : List ℕ) → rank_of refusal ≡ xs → rank_of other ≡ ys →
+    AreInOrder xs ys → IsNotAfter refusal other
 ordered refusal other xs ys a b o = rw (a, b) o.is
 
 -- what is first among some is first among more, where none of the others comes before it
-pub first_of : {P : Unplayable → Type 0} (Q : Unplayable → Type 0) (refusal : Unplayable) → IsFirst P refusal → Q refusal →
+pub first_of : {P : Unplayable → Type 0} (Q : Unplayable → Type 0) (refusal : Unplayable) → IsFirst P refusal →
+    Q refusal →
     ((other : Unplayable) → Q other → P other ⊎ IsNotAfter refusal other) → IsFirst Q refusal
 first_of {P} Q refusal first such others = record {
   is_such = such;

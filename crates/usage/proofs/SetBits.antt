@@ -31,13 +31,15 @@ set_here n k small = bit_set (bit_or n (1 * 2 ^ k % 2 ^ 32)) k (bit_at_set_same 
 set_other : (n k i : ℕ) → k < 24 → IsBitSet n i → IsBitSet (bit_or n (1 * 2 ^ k % 2 ^ 32)) i
 set_other n k i small h = elim (cases_eq i k) [
   | inl here ↦ rw here (set_here n k small)
-  | inr other ↦ bit_set (bit_or n (1 * 2 ^ k % 2 ^ 32)) i (bit_at_set_other w32 n k (omega arith) i other ∙ bit_is_set n i h)
+  | inr other ↦ bit_set (bit_or n (1 * 2 ^ k % 2 ^ 32)) i
+      (bit_at_set_other w32 n k (omega arith) i other ∙ bit_is_set n i h)
 ]
 
 set_of : (n k i : ℕ) → k < 24 → IsBitSet (bit_or n (1 * 2 ^ k % 2 ^ 32)) i → IsBitSet n i ⊎ (i ≡ k)
 set_of n k i small h = elim (cases_eq i k) [
   | inl here ↦ inr here
-  | inr other ↦ inl (bit_set n i (sym (bit_at_set_other w32 n k (omega arith) i other) ∙ bit_is_set (bit_or n (1 * 2 ^ k % 2 ^ 32)) i h))
+  | inr other ↦ inl (bit_set n i (sym (bit_at_set_other w32 n k (omega arith) i other) ∙ bit_is_set
+      (bit_or n (1 * 2 ^ k % 2 ^ 32)) i h))
 ]
 
 pub bit_small : (feature : Feature) → bit_of feature < 24
@@ -66,12 +68,14 @@ bit_small SetTempo = lit< tt
 bit_small WaveTable = lit< tt
 bit_small WaveCommand = lit< tt
 
-pub added_bit : (song : Song) (feature : Feature) (n k : ℕ) → k ≡ bit_of feature → HasFeature song feature → AddsBit song feature n (bit_or n (1 * 2 ^ k % 2 ^ 32))
+pub added_bit : (song : Song) (feature : Feature) (n k : ℕ) → k ≡ bit_of feature → HasFeature song feature →
+    AddsBit song feature n (bit_or n (1 * 2 ^ k % 2 ^ 32))
 added_bit song feature n k e has =
     let small : k < 24 = rw e (bit_small feature) in
     record {
       each = λ i. (
-        λ (h : IsBitSet (bit_or n (1 * 2 ^ k % 2 ^ 32)) i). (let w = set_of n k i small h in elim w [ inl o ↦ inl o | inr here ↦ inr (here ∙ e, has) ]),
+        λ (h : IsBitSet (bit_or n (1 * 2 ^ k % 2 ^ 32)) i).
+            (let w = set_of n k i small h in elim w [ inl o ↦ inl o | inr here ↦ inr (here ∙ e, has) ]),
         λ (w : IsBitSet n i ⊎ ((i ≡ bit_of feature) × HasFeature song feature)). elim w [
           | inl o ↦ set_other n k i small o
           | inr x ↦ (let here : i ≡ k = x.0 ∙ sym e in rw here (set_here n k small))
@@ -128,7 +132,10 @@ pub record AreBitsBelow (song : Song) (i set : ℕ) : Type 0 where
 pub no_bits : (song : Song) → AreBitsBelow song 0 0
 no_bits song = record {
   small = lit< tt;
-  each = λ k. (λ (h : IsBitSet 0 k). (let one = bit_is_set 0 k h in let none = bit_at-zero k in absurd (omega arith)), λ (u : IsUsedBit song 0 k). (let b = u.below in absurd (omega arith)));
+  each = λ k. (
+    λ (h : IsBitSet 0 k). (let one = bit_is_set 0 k h in let none = bit_at-zero k in absurd (omega arith)),
+    λ (u : IsUsedBit song 0 k). (let b = u.below in absurd (omega arith)),
+  );
 }
 
 same_feature : (a b : Feature) → bit_of a ≡ bit_of b → a ≡ b
@@ -139,22 +146,30 @@ bits_in_order = refl
 
 pub place_is_bit : (i : ℕ) (d : Feature) → i < 24 → bit_of (get_or FEATURES i d) ≡ i
 place_is_bit i d low =
-    sym (get_or-map bit_of FEATURES i d (bit_of d) low) ∙ ap (λ (xs : List ℕ). get_or xs i (bit_of d)) bits_in_order ∙ get_or-range_with_len 0 24 i (bit_of d) low ∙ zero-add i
+    sym (get_or-map bit_of FEATURES i d (bit_of d) low) ∙ ap (λ (xs : List ℕ). get_or xs i (bit_of d)) bits_in_order ∙
+    get_or-range_with_len 0 24 i (bit_of d) low ∙ zero-add i
 
-pub bits_more : (song : Song) (i old new : ℕ) (feature : Feature) → i < 24 → bit_of feature ≡ i → new < 2 ^ 24 → AreBitsBelow song i old → AddsBit song feature old new →
+pub bits_more : (song : Song) (i old new : ℕ) (feature : Feature) → i < 24 → bit_of feature ≡ i → new < 2 ^ 24 →
+    AreBitsBelow song i old → AddsBit song feature old new →
     AreBitsBelow song (i + 1) new
 bits_more song i old new feature low place small a b = record {
   small = small;
   each = λ k. (
     λ (h : IsBitSet new k). (let w = (b.each k).0 h in elim w [
-      | inl o ↦ (let u = (a.each k).0 o in let under = u.below in record { feature = u.feature; bit_is = u.bit_is; below = omega arith; has = u.has })
+      | inl o ↦ (let u = (a.each k).0 o in let under = u.below in
+          record { feature = u.feature; bit_is = u.bit_is; below = omega arith; has = u.has })
       | inr x ↦ (let here = x.0 in record { feature = feature; bit_is = sym here; below = omega arith; has = x.1 })
     ]),
     λ (u : IsUsedBit song (i + 1) k). (let under = u.below in elim (cases_lt k i) [
-      | inl before ↦ (b.each k).1 (inl ((a.each k).1 (record { feature = u.feature; bit_is = u.bit_is; below = before; has = u.has })))
+      | inl before ↦ (b.each k).1 (inl ((a.each k).1
+          (record { feature = u.feature; bit_is = u.bit_is; below = before; has = u.has })))
       | inr on ↦ (
           let here : k ≡ bit_of feature = omega arith in
-          (b.each k).1 (inr (here, subst (λ (f : Feature). HasFeature song f) (same_feature u.feature feature (u.bit_is ∙ here)) u.has)))
+          (b.each k).1 (inr (
+            here,
+            subst (λ (f : Feature). HasFeature song f)
+                (same_feature u.feature feature (u.bit_is ∙ here)) u.has,
+          )))
     ]),
   );
 }
@@ -164,7 +179,9 @@ features_of_bits song set a = record {
   small = a.small;
   each = λ feature. (
     λ (h : IsBitSet set (bit_of feature)).
-        (let u = (a.each (bit_of feature)).0 h in subst (λ (f : Feature). HasFeature song f) (same_feature u.feature feature u.bit_is) u.has),
-    λ (has : HasFeature song feature). (a.each (bit_of feature)).1 (record { feature = feature; bit_is = refl; below = bit_small feature; has = has }),
+        (let u = (a.each (bit_of feature)).0 h in
+        subst (λ (f : Feature). HasFeature song f) (same_feature u.feature feature u.bit_is) u.has),
+    λ (has : HasFeature song feature). (a.each (bit_of feature)).1
+        (record { feature = feature; bit_is = refl; below = bit_small feature; has = has }),
   );
 }

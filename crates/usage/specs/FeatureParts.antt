@@ -4,7 +4,8 @@ use Rattle.song_model.specs.declared.features.Feature.{Feature}
 use Rattle.song_model.specs.declared.songs.Song.{Song}
 use Rattle.song_model.specs.Feature.{bit_of}
 use Rattle.play_model.specs.Features.{HasFeature}
-use Rattle.usage.specs.Marks.{IsMarked, marks_of}
+use Rattle.usage.specs.Marks.{IsMarked}
+use Rattle.usage.specs.Building.{marks_of}
 
 -- one of these numbers is marked
 pub record HasMark (marks : List Bool) (from to : ℕ) : Type 0 where

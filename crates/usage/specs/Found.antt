@@ -7,7 +7,8 @@ use Rattle.play_model.specs.declared.unplayable.Unplayable.TheVariants.{TableOve
 use Rattle.play_model.specs.Used.{IsPlayedByte}
 use Rattle.play_model.specs.Reached.{IsPointer}
 use Rattle.play_model.specs.Playable.{RunsOff, PointsAtJump}
-use Rattle.usage.specs.Marks.{AreMarks, AreMarksAt}
+use Rattle.usage.specs.Marks.{AreMarks}
+use Rattle.usage.specs.Building.{AreMarksAt}
 use Rattle.usage.specs.Rows.{AreRowsOf}
 use Rattle.usage.specs.Waves.{IsWaveCommand}
 use Rattle.usage.specs.Checks.{ArePrograms}

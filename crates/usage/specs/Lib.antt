@@ -4,6 +4,7 @@ pub mod Parts
 -- Claimed: a law of these.
 pub mod PartLaws
 -- Inner: what the parts of `usage` promise each other.
+pub mod Building
 pub mod Played
 pub mod Search
 pub mod Rows

@@ -8,7 +8,8 @@ use Rattle.usage.specs.Marks.{IsMarked}
 -- the least set with these first rows, and with each row that one of it leads to
 pub data IsReachedFrom (name : TableName) (rows : List TableRow) (IsFirstRow : ℕ → Type 0) : ℕ → Type 0 where
   first : {p : ℕ} → IsFirstRow p → IsReachedFrom name rows IsFirstRow p
-  next : {q : ℕ} (p : ℕ) → IsReachedFrom name rows IsFirstRow p → led_to name rows p ≡ Some q → IsReachedFrom name rows IsFirstRow q
+  next : {q : ℕ} (p : ℕ) → IsReachedFrom name rows IsFirstRow p → led_to name rows p ≡ Some q →
+      IsReachedFrom name rows IsFirstRow q
 
 -- each row that a marked one leads to is marked
 pub record IsClosed (name : TableName) (rows : List TableRow) (marks : List Bool) : Type 0 where

@@ -4,25 +4,30 @@ use Rattle.song_model.specs.declared.rows.Row.{Row}
 use Rattle.song_model.specs.declared.songs.Song.{Song}
 use Rattle.song_model.specs.LookUp.{pattern_at}
 use Rattle.play_model.specs.Used.{IsUsedPattern, IsUsedRow, IsUsedInstrument}
-use Rattle.usage.specs.Marks.{AreMarks, AreMarksAt}
+use Rattle.usage.specs.Marks.{AreMarks}
+use Rattle.usage.specs.Building.{AreMarksAt}
 use Rattle.usage.specs.declared.rows.RowMarks.{RowMarks}
 
+-- the row names the instrument
 abbrev pub NamesInstrument : Row → ℕ → Type 0
 NamesInstrument row n = (row.instrument ≡ n) × (n ≢ 0)
 
+-- the row has the command with the parameter
 abbrev pub HasCommand : Row → ℕ → ℕ → Type 0
 HasCommand row c d = (row.command ≡ c) × (row.param ≡ d)
 
--- a row of this pattern names the instrument, or has the command, and the pattern is used
+-- the row is one of this pattern, and the pattern is used
 pub record IsUsedRowOf (song : Song) (pattern : ℕ) (row : Row) : Type 0 where
   pub used : IsUsedPattern song pattern
   pub has : Contains (pattern_at song pattern) row
 
+-- such a row names the instrument
 pub record PatternNames (song : Song) (pattern n : ℕ) : Type 0 where
   pub row : Row
   pub used : IsUsedRowOf song pattern row
   pub names : NamesInstrument row n
 
+-- such a row has the command with the parameter
 pub record PatternHas (song : Song) (pattern c d : ℕ) : Type 0 where
   pub row : Row
   pub used : IsUsedRowOf song pattern row

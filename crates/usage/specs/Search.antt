@@ -26,7 +26,8 @@ pub record IsSubtuneOf (song : Song) (s : ℕ) (subtune : Subtune) : Type 0 wher
 
 -- the refusal is one of this rule, in channel c of subtune s
 abbrev pub FailsAt : OrderRule → Song → ℕ → ℕ → Unplayable → Type 0
-FailsAt NamesStored song s c (MissingPattern t d place pattern) = (t ≡ s) × (d ≡ c) × MissesPattern song s c place pattern
+FailsAt NamesStored song s c (MissingPattern t d place pattern) =
+    (t ≡ s) × (d ≡ c) × MissesPattern song s c place pattern
 FailsAt NeverEnds song s c (BadRestart t d) = (t ≡ s) × (d ≡ c) × StopsAtRestart song s c
 FailsAt _ song s c _ = ⊥
 

@@ -12,6 +12,7 @@ pub record RowCommands (song : Song) (p c d : ℕ) : Type 0 where
   pub left : (table_row song Wave p).left ≡ 0xF0 + c
   pub right : (table_row song Wave p).right ≡ d
 
+-- some row that is come to has the command with this right side
 pub record IsWaveCommand (song : Song) (c d : ℕ) : Type 0 where
   pub p : ℕ
   pub has : RowCommands song p c d

@@ -4,7 +4,8 @@ ghost use Rattle.std.specs.Prelude.{◌≡◌, ◌≤◌, length, IfErr, OnOk};
 ghost use Rattle.play_model.specs.Playable.{IsFirst, HasPrograms};
 ghost use Rattle.song_model.specs.LookUp.{table_of, table_row};
 ghost use Rattle.play_model.specs.Reached.{is_jump, IsReached};
-ghost use Rattle.usage.specs.Marks.{AreMarks, Adds};
+ghost use Rattle.usage.specs.Marks.{AreMarks};
+ghost use Rattle.usage.specs.Building.{Adds};
 ghost use Rattle.usage.specs.Search.{IsNowhere, RunsOffIn, PointsIn};
 ghost use Rattle.usage.specs.Checks.{ArePrograms, IsTargetOf, IsNamed};
 

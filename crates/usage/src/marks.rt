@@ -1,7 +1,7 @@
 //! Sets of small numbers: a mark for each number.
 
 ghost use Rattle.std.specs.Prelude.{◌≡◌, ℕ, ◌<◌, length};
-ghost use Rattle.usage.specs.Marks.{AreWhole, Adds, AddsAt};
+ghost use Rattle.usage.specs.Building.{AreWhole, Adds, AddsAt};
 
 /// A mark for each byte.
 pub(crate) type ByteMarks = [bool; 256];

@@ -2,7 +2,8 @@
 
 ghost use Rattle.std.specs.Prelude.{Contains};
 ghost use Rattle.play_model.specs.Used.{IsPlayedByte};
-ghost use Rattle.usage.specs.Marks.{AreMarks, Adds};
+ghost use Rattle.usage.specs.Marks.{AreMarks};
+ghost use Rattle.usage.specs.Building.{Adds};
 ghost use Rattle.usage.specs.Played.{PlaysByte};
 
 use crate::marks::{ByteMarks, mark};

@@ -3,7 +3,8 @@
 ghost use Rattle.std.specs.Prelude.{◌≡◌, ◌<◌, ◌↔◌, IsTrue, Some};
 ghost use Rattle.play_model.specs.Used.{IsUsedInstrument};
 ghost use Rattle.play_model.specs.Reached.{IsPlayedPointer};
-ghost use Rattle.usage.specs.Marks.{AreMarks, AreWhole, Adds};
+ghost use Rattle.usage.specs.Marks.{AreMarks};
+ghost use Rattle.usage.specs.Building.{AreWhole, Adds};
 ghost use Rattle.usage.specs.Rows.{AreRowsOf};
 ghost use Rattle.usage.specs.Pointers.{table_at, PointsAt, IsInstrumentPointer, IsParameterAt, IsParameter, CommandPoints, IsCommandPointer};
 

@@ -2,13 +2,14 @@
 
 ghost use Rattle.std.specs.Prelude.{◌≡◌, ℕ, ◌≤◌, ◌<◌, length, IfSome};
 ghost use Rattle.play_model.specs.Reached.{is_jump, is_last, led_to};
-ghost use Rattle.usage.specs.Marks.{IsMarked, AreMarks, Adds};
+ghost use Rattle.usage.specs.Marks.{IsMarked, AreMarks};
+ghost use Rattle.usage.specs.Building.{Adds};
 ghost use Rattle.usage.specs.Programs.{IsClosed, IsReachedFrom, ComesFrom};
 
 use crate::marks::ByteMarks;
 use song_model::{TableName, TableRow};
 
-/// A mark for each row of a table, counted from 1, and for the one behind a table of 255 rows.
+/// A mark for each row of a table, counted from 1, and for row 256, which no table has.
 pub(crate) type RowNumbers = [bool; 257];
 
 /// Whether a row is a jump.

@@ -3,7 +3,8 @@
 ghost use Rattle.std.specs.Prelude.{◌≡◌, ◌≤◌, All, Some, length, slice_get};
 ghost use Rattle.song_model.specs.PatternLimits.{IsRow};
 ghost use Rattle.play_model.specs.Used.{IsPlayedByte, IsNamedInstrument};
-ghost use Rattle.usage.specs.Marks.{AreMarks, AreWhole, Adds, AddsAt, SomeOf, SomeAt};
+ghost use Rattle.usage.specs.Marks.{AreMarks};
+ghost use Rattle.usage.specs.Building.{AreWhole, Adds, AddsAt, SomeOf, SomeAt};
 ghost use Rattle.usage.specs.Rows.{NamesInstrument, HasCommand, PatternNames, PatternHas, IsUsedCommand, AreRowsOf};
 
 use crate::marks::{ByteMarks, CommandMarks, mark, mark_command};

@@ -5,10 +5,11 @@ ghost use Rattle.song_model.specs.declared.tables.TableName.TheVariants.{Speed};
 ghost use Rattle.song_model.specs.LookUp.{instrument_at};
 ghost use Rattle.play_model.specs.Used.{IsUsedInstrument};
 ghost use Rattle.play_model.specs.Reached.{IsPointer};
-ghost use Rattle.play_model.specs.Features.{HasByte, HasRow, HasInstrument, HasNoteSpeed, HasPointer, HasWaveCommand, HasFeature, Uses, IsAny};
+ghost use Rattle.play_model.specs.Features.{HasByte, HasRow, HasInstrument, HasNoteSpeed, HasPointer, HasWaveCommand, HasFeature, UsesCommand, IsAny};
 ghost use Rattle.usage.specs.Found.{IsFoundOf};
 ghost use Rattle.song_model.specs.declared.features.Feature.TheVariants.{InstrumentVibrato};
-ghost use Rattle.usage.specs.Marks.{AreMarks, AreWhole, marks_of};
+ghost use Rattle.usage.specs.Marks.{AreMarks};
+ghost use Rattle.usage.specs.Building.{AreWhole, marks_of};
 ghost use Rattle.usage.specs.FeatureParts.{HasMark, HasCommandMark};
 
 use crate::found::Found;
@@ -134,7 +135,7 @@ impl Found {
     pub(crate) fn uses(&self, song: &Song, command: usize) -> bool
         requires command { command < 15 }
         requires found { IsFoundOf song.now self.now }
-        ensures { IsTrue result ↔ Uses song.now command IsAny }
+        ensures { IsTrue result ↔ UsesCommand song.now command IsAny }
     {
         // Named in the contract alone.
         let _song = song;
@@ -145,7 +146,7 @@ impl Found {
     pub(crate) fn uses_parameter(&self, song: &Song, command: usize) -> bool
         requires command { command < 15 }
         requires found { IsFoundOf song.now self.now }
-        ensures { IsTrue result ↔ Uses song.now command (λ d. d ≢ 0) }
+        ensures { IsTrue result ↔ UsesCommand song.now command (λ d. d ≢ 0) }
     {
         // Named in the contract alone.
         let _song = song;
@@ -156,7 +157,7 @@ impl Found {
     pub(crate) fn uses_zero(&self, song: &Song, command: usize) -> bool
         requires command { command < 15 }
         requires found { IsFoundOf song.now self.now }
-        ensures { IsTrue result ↔ Uses song.now command (λ d. d ≡ 0) }
+        ensures { IsTrue result ↔ UsesCommand song.now command (λ d. d ≡ 0) }
     {
         // Named in the contract alone.
         let _song = song;

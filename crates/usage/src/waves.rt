@@ -3,7 +3,8 @@
 ghost use Rattle.std.specs.Prelude.{◌≤◌, length};
 ghost use Rattle.song_model.specs.declared.tables.TableName.TheVariants.{Wave};
 ghost use Rattle.play_model.specs.Reached.{IsReached};
-ghost use Rattle.usage.specs.Marks.{AreMarks, AreWhole, AddsAt, AreMarksAt};
+ghost use Rattle.usage.specs.Marks.{AreMarks};
+ghost use Rattle.usage.specs.Building.{AreWhole, AddsAt, AreMarksAt};
 ghost use Rattle.usage.specs.Waves.{RowCommands, IsWaveCommand};
 
 use crate::checks::row_at;

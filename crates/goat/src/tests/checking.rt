@@ -287,7 +287,7 @@ fn restart_positions_are_no_entries(rt: HostRuntime) -> Result<(), Fail> {
 #[test]
 fn orderlists_must_go_on(rt: HostRuntime) -> Result<(), Fail> {
     let alloc = rt.alloc();
-    // A restart on a transpose or a repeat needs a pattern behind it.
+    // A restart on a transpose or a repeat needs a pattern after it.
     for orders in [
         "01 0400E100FF01 0200FF00 0200FF00",
         "01 0400D300FF01 0200FF00 0200FF00",
@@ -436,7 +436,7 @@ fn programs_that_run_off_their_table_are_told(rt: HostRuntime) -> Result<(), Fai
             "4100",
             "wave table ends before row 1",
         ),
-        // A jump behind the table.
+        // A jump past the table.
         (
             "000001000000000000",
             "4100 FF09",
@@ -482,7 +482,7 @@ fn programs_that_run_off_their_table_are_told(rt: HostRuntime) -> Result<(), Fai
 }
 
 #[test]
-fn the_least_row_behind_a_table_is_told(rt: HostRuntime) -> Result<(), Fail> {
+fn the_least_row_past_a_table_is_told(rt: HostRuntime) -> Result<(), Fail> {
     let alloc = rt.alloc();
     // The instrument points at row 9, and command 8 at row 7 or 255.
     for (patterns, text) in [

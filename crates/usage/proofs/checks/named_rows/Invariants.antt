@@ -1,4 +1,4 @@
-use Rattle.usage.specs.Marks.{Adds, SomeBelow}
+use Rattle.usage.specs.Building.{Adds, SomeBelow}
 use Rattle.usage.specs.Checks.{IsTargetOf}
 use Rattle.usage.proofs.checks.named_rows.Given as goal
 

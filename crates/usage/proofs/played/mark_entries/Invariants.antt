@@ -1,6 +1,6 @@
 use Rattle.std.proofs.Common.{◌≡◌, take}
-use Rattle.usage.specs.Marks.{Adds}
-use Rattle.usage.specs.Marks.{SomeOf}
+use Rattle.usage.specs.Building.{Adds}
+use Rattle.usage.specs.Building.{SomeOf}
 use Rattle.usage.proofs.played.mark_entries.Given as goal
 
 abbrev pub invariant-loop-byte : goal.invariant-loop-byte

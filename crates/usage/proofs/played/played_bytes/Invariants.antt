@@ -1,7 +1,7 @@
 use Rattle.std.proofs.Common.{take}
-use Rattle.usage.specs.Marks.{Adds}
+use Rattle.usage.specs.Building.{Adds}
 use Rattle.usage.specs.Played.{PlaysByte}
-use Rattle.usage.specs.Marks.{SomeOf}
+use Rattle.usage.specs.Building.{SomeOf}
 use Rattle.usage.proofs.played.played_bytes.Given as goal
 
 abbrev pub invariant-loop-subtune : goal.invariant-loop-subtune

@@ -5,7 +5,9 @@ use Rattle.usage.proofs.TablePointers.{all_instruments}
 use Rattle.usage.proofs.pointers.mark_instruments.Goals as goal
 
 pub loop-instrument-preserved : goal.loop-instrument-preserved
-loop-instrument-preserved c = below_more (PointsAt c.args.song.now c.args.name) c.loop-instrument.instrument c.loop-instrument.invariant c.mark_instrument.ensures
+loop-instrument-preserved c = below_more (PointsAt c.args.song.now c.args.name) c.loop-instrument.instrument
+    c.loop-instrument.invariant c.mark_instrument.ensures
 
 pub returns : goal.returns
-returns c = all_instruments c.args.song.now c.args.name c.args.used.now c.loop-instrument.instrument c.requires (omega arith) c.loop-instrument.invariant
+returns c = all_instruments c.args.song.now c.args.name c.args.used.now c.loop-instrument.instrument c.requires
+    (omega arith) c.loop-instrument.invariant

@@ -1,4 +1,4 @@
-use Rattle.usage.specs.Marks.{Adds, SomeBelow}
+use Rattle.usage.specs.Building.{Adds, SomeBelow}
 use Rattle.usage.specs.Pointers.{PointsAt}
 use Rattle.usage.proofs.pointers.mark_instruments.Given as goal
 

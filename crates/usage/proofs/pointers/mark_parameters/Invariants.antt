@@ -1,4 +1,4 @@
-use Rattle.usage.specs.Marks.{Adds, SomeBelow}
+use Rattle.usage.specs.Building.{Adds, SomeBelow}
 use Rattle.usage.specs.Pointers.{IsParameterAt}
 use Rattle.usage.proofs.pointers.mark_parameters.Given as goal
 

@@ -13,8 +13,10 @@ loop-from-init c = record {
 pub loop-from-preserved : goal.loop-from-preserved
 loop-from-preserved c = record {
   closed = c.follow_if.ensures.closed;
-  marked = below_more (ComesFrom c.args.name c.args.rows.now c.args.pointers.now) c.loop-from.from c.loop-from.invariant.marked c.follow_if.ensures.marked;
+  marked = below_more (ComesFrom c.args.name c.args.rows.now c.args.pointers.now) c.loop-from.from
+      c.loop-from.invariant.marked c.follow_if.ensures.marked;
 }
 
 pub returns : goal.returns
-returns c = all_reached c.args.name c.args.rows.now c.args.pointers.now c.loop-from.from (omega arith) c.loop-from.invariant.marked
+returns c = all_reached c.args.name c.args.rows.now c.args.pointers.now c.loop-from.from (omega arith)
+    c.loop-from.invariant.marked

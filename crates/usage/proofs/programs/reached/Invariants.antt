@@ -1,4 +1,4 @@
-use Rattle.usage.specs.Marks.{Adds, SomeBelow}
+use Rattle.usage.specs.Building.{Adds, SomeBelow}
 use Rattle.usage.specs.Programs.{IsClosed, ComesFrom}
 use Rattle.usage.proofs.programs.reached.Given as goal
 

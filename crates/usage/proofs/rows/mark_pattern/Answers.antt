@@ -4,6 +4,8 @@ use Rattle.usage.proofs.rows.mark_pattern.Goals as goal
 
 pub loop-row-preserved : goal.loop-row-preserved
 loop-row-preserved c = record {
-  instruments = adds_more NamesInstrument c.args.rows.now c.loop-row.row-index _ c.loop-row-test.true c.loop-row.invariant.instruments c.mark_row.ensures.instruments;
-  commands = adds_at_more HasCommand c.args.rows.now c.loop-row.row-index _ c.loop-row-test.true c.loop-row.invariant.commands c.mark_row.ensures.commands;
+  instruments = adds_more NamesInstrument c.args.rows.now c.loop-row.row-index _ c.loop-row-test.true
+      c.loop-row.invariant.instruments c.mark_row.ensures.instruments;
+  commands = adds_at_more HasCommand c.args.rows.now c.loop-row.row-index _ c.loop-row-test.true
+      c.loop-row.invariant.commands c.mark_row.ensures.commands;
 }

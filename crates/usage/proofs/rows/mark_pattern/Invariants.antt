@@ -1,5 +1,5 @@
 use Rattle.std.proofs.Common.{take}
-use Rattle.usage.specs.Marks.{Adds, AddsAt, SomeOf, SomeAt}
+use Rattle.usage.specs.Building.{Adds, AddsAt, SomeOf, SomeAt}
 use Rattle.usage.specs.Rows.{NamesInstrument, HasCommand}
 use Rattle.usage.proofs.rows.mark_pattern.Given as goal
 

@@ -5,14 +5,18 @@ use Rattle.usage.proofs.rows.mark_patterns.Goals as goal
 
 pub loop-n-preserved : goal.loop-n-preserved
 loop-n-preserved c = record {
-  instruments = below_more (PatternNames c.args.song.now) c.loop-n.n c.loop-n.invariant.instruments c.mark_if_used.ensures.instruments;
-  commands = below_at_more (PatternHas c.args.song.now) c.loop-n.n c.loop-n.invariant.commands c.mark_if_used.ensures.commands;
+  instruments = below_more (PatternNames c.args.song.now) c.loop-n.n c.loop-n.invariant.instruments
+      c.mark_if_used.ensures.instruments;
+  commands = below_at_more (PatternHas c.args.song.now) c.loop-n.n c.loop-n.invariant.commands
+      c.mark_if_used.ensures.commands;
 }
 
 pub returns-clause-instruments : goal.returns-clause-instruments
 returns-clause-instruments c =
-    names_of_all c.args.song.now c.loop-n.n (rw c.as_slice-patterns.ensures.items at c.loop-n-test.false) c.loop-n.invariant.instruments
+    names_of_all c.args.song.now c.loop-n.n (rw c.as_slice-patterns.ensures.items at c.loop-n-test.false)
+    c.loop-n.invariant.instruments
 
 pub returns-clause-commands : goal.returns-clause-commands
 returns-clause-commands c =
-    commands_of_all c.args.song.now c.loop-n.n (rw c.as_slice-patterns.ensures.items at c.loop-n-test.false) c.loop-n.invariant.commands
+    commands_of_all c.args.song.now c.loop-n.n (rw c.as_slice-patterns.ensures.items at c.loop-n-test.false)
+    c.loop-n.invariant.commands

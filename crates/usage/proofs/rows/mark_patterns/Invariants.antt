@@ -1,4 +1,4 @@
-use Rattle.usage.specs.Marks.{Adds, AddsAt, SomeBelow, SomeBelowAt}
+use Rattle.usage.specs.Building.{Adds, AddsAt, SomeBelow, SomeBelowAt}
 use Rattle.usage.specs.Rows.{PatternNames, PatternHas}
 use Rattle.usage.proofs.rows.mark_patterns.Given as goal
 

@@ -1,5 +1,6 @@
 use Rattle.std.proofs.Common.{ℕ, ◌<◌}
-use Rattle.usage.specs.Marks.{IsMarked, marks_of}
+use Rattle.usage.specs.Marks.{IsMarked}
+use Rattle.usage.specs.Building.{marks_of}
 use Rattle.usage.proofs.uses.has_command.Given as goal
 
 abbrev pub invariant-loop-command : goal.invariant-loop-command

@@ -4,4 +4,5 @@ use Rattle.usage.specs.Marks.{IsMarked}
 use Rattle.usage.proofs.uses.has_delay.Given as goal
 
 abbrev pub invariant-loop-instrument : goal.invariant-loop-instrument
-invariant-loop-instrument l = (i : ℕ) → i < l.instrument → IsMarked l.used i → (instrument_at l.song i).vibrato_delay ≡ 0
+invariant-loop-instrument l = (i : ℕ) → i < l.instrument → IsMarked l.used i →
+    (instrument_at l.song i).vibrato_delay ≡ 0

@@ -17,7 +17,8 @@ returns c = (
   λ t. absurd (cc),
   λ h. absurd (
       let marked = (c.requires.each h.p).1 h.pointer in
-      let below = c.loop-pointer.invariant h.p (omega (arith, marked_inside c.args.pointers.now 256 h.p (omega arith) marked)) marked in
+      let below = c.loop-pointer.invariant h.p (omega
+      (arith, marked_inside c.args.pointers.now 256 h.p (omega arith) marked)) marked in
       let above = h.from_note in
       omega arith),
 )

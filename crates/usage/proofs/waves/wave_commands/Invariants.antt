@@ -1,4 +1,4 @@
-use Rattle.usage.specs.Marks.{AddsAt, SomeBelowAt}
+use Rattle.usage.specs.Building.{AddsAt, SomeBelowAt}
 use Rattle.usage.specs.Waves.{RowCommands}
 use Rattle.usage.proofs.waves.wave_commands.Given as goal
 
