@@ -2,6 +2,8 @@
 pub mod Laws
 -- Of no subject.
 pub mod Choices
+-- Silent songs: no row of a table is reached, and no rule fails.
+pub mod SilentSongs
 -- Silent songs: a voice with nothing to play stays so.
 pub mod QuietVoice
 pub mod QuietOrder

@@ -26,7 +26,7 @@ quiet_row_of rows place silent =
           rw (get_or_past rows place zero_row past) (record { note = inr refl; instrument = refl; command = refl })
     ]
 
-silent_pattern : (song : Song) (order : Order) (byte : ℕ) → IsSilentOrder song.patterns order →
+pub silent_pattern : (song : Song) (order : Order) (byte : ℕ) → IsSilentOrder song.patterns order →
     Contains order.entries byte →
     All IsSilentRow (pattern_at song byte)
 unfolding pattern_at

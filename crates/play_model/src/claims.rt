@@ -2,7 +2,7 @@
 
 ghost use Rattle.play_model.specs.TraceLaws.{TracesHaveAllRegisters};
 ghost use Rattle.play_model.specs.RefusalLaws.{RefusedOrPlayable};
-ghost use Rattle.play_model.specs.SilentTrace.{SilentSongsAreSilent};
+ghost use Rattle.play_model.specs.SilentTrace.{SilentSongsAreSilent, SilentSongsCanBePlayed};
 ghost use Rattle.play_model.specs.RangeLaws.{RangesAreKept, FrameRangesAreKept, StartIsInRange, SongRangesAreKept, TransposesWrap};
 ghost use Rattle.play_model.specs.UseLaws.{PlayableSongsAreWhole, ReachedRowsAreBytes, ProgramsStayInTheirTables, ReachedRowsAreClosed, SongsAreRefusedForOneThing, RefusedSongsAreNotPlayable, UnusedPartsDoNotCount};
 ghost use Rattle.play_model.specs.WorkedUses.{UsesAreAsWorked};
@@ -66,6 +66,12 @@ pub fn songs_are_refused_or_playable()
 /// Each play call of a silent song leaves zeros and the volume, whatever the song's length.
 pub fn silent_songs_are_silent()
     ensures { SilentSongsAreSilent }
+{}
+
+/// Each silent song can be played.
+#[tactic(auto, using(crate::proofs::SilentSongs::silent_songs_can_be_played_lem))]
+pub fn silent_songs_can_be_played()
+    ensures { SilentSongsCanBePlayed }
 {}
 
 /// What is reached from a reached row is reached, and so is what a pointer or a reached jump names; the rows
