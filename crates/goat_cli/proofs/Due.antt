@@ -84,7 +84,7 @@ HasOneText files (WritesFile output holds) = Unit {0}
 one_check_line : (song : Song) (a b : UsedParts) → AreUsedParts song a → AreUsedParts song b →
     {lines others : List (List ℕ)} →
     lines ≡ check_line (length (playable_subtunes song)) a ∷ [] →
-        others ≡ check_line (length (playable_subtunes song)) b ∷ [] → lines ≡ others
+    others ≡ check_line (length (playable_subtunes song)) b ∷ [] → lines ≡ others
 one_check_line song a b p q one other =
     let same = parts_are_the_songs_lem song a b p q in
     rw (one, other)

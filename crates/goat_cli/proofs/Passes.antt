@@ -1,5 +1,5 @@
 -- Each stage passes where what it asks for is there, and ends a run with one text.
-use Rattle.std.proofs.Common.{◌≡◌, ℕ, ◌+◌, ◌-◌, List, [], ◌∷◌, ◌++◌, Some, None, Ok, Err, length, sym, ap, ◌∙◌, subst, arith}
+use Rattle.std.proofs.Common.{◌≡◌, ℕ, ◌+◌, ◌-◌, List, [], ◌∷◌, ◌++◌, Some, None, Ok, Err, length, refl, sym, ap, ◌∙◌, subst, arith}
 use Rattle.goat_io.specs.Files.{Files, file_of}
 use Rattle.song_model.specs.declared.songs.Song.{Song}
 use Rattle.song_model.specs.Silent.{IsSilent}
@@ -127,7 +127,8 @@ module _ (files : Files) where
   met_passes stage met = (stage_facts stage).passes met
 
 pub playable_songs_pass_lem : PlayableSongsPass
-playable_songs_pass_lem files name song held =
-    (λ (passes : Passes files (CanBePlayed name)). refused_or_playable_lem song
-        (λ refusal refused. passes (unplayable_line refusal ∷ []) (song, refusal, held, refused, refl))),
-    (λ (playable : IsPlayable song). met_passes files (CanBePlayed name) (song, held, playable))
+playable_songs_pass_lem files name song held = (
+  λ (passes : Passes files (CanBePlayed name)). refused_or_playable_lem song
+      (λ refusal refused. passes (unplayable_line refusal ∷ []) (song, refusal, held, refused, refl)),
+  λ (playable : IsPlayable song). met_passes files (CanBePlayed name) (song, held, playable),
+)

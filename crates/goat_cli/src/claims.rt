@@ -20,7 +20,6 @@ pub fn stages_pass()
 {}
 
 /// A song that a file spells can be played exactly where the stage that asks for it passes.
-#[tactic(auto, using(crate::proofs::Passes::playable_songs_pass_lem))]
 pub fn playable_songs_pass()
     ensures { PlayableSongsPass }
 {}

@@ -8,8 +8,12 @@ pub says-requires-clause-short : goal.says-requires-clause-short
 says-requires-clause-short c =
     let song = c.args.song.now in
     let few : length (playable_subtunes song) ≤ 64 =
-    omega (arith, length-filter is_playable_subtune song.subtunes, count_by-le-length is_playable_subtune song.subtunes,
-        c.as_slice-subtunes.ensures.limit)
+    omega (
+      arith,
+      length-filter is_playable_subtune song.subtunes,
+      count_by-le-length is_playable_subtune song.subtunes,
+      c.as_slice-subtunes.ensures.limit,
+    )
     in
     let subtunes = two_digits c.from.result (omega (arith, few, c.from.ensures, c.playable_count.ensures)) in
     let patterns = three_digits c.count.result (omega (arith, c.count.ensures.most)) in
