@@ -4,6 +4,7 @@ use Rattle.cpu6502.specs.declared.machine.Machine.{Machine}
 use Rattle.cpu6502.specs.declared.stop.CallStop.{CallStop}
 use Rattle.cpu6502.specs.Call.{Called, FailsBy}
 use Rattle.psid.specs.declared.header.Psid.{Psid}
+use Rattle.sid_run.specs.declared.runner.TheConstants.{MOST_STEPS}
 use Rattle.sid_run.specs.State.{RunnerState, loaded, sid_registers}
 
 -- the address at which a call begins
@@ -16,10 +17,10 @@ abbrev pub accumulator_of : ℕ → ℕ → Machine → ℕ
 accumulator_of subtune zero machine = subtune
 accumulator_of subtune (suc call) machine = machine.cpu.a
 
--- a call returns within 200,000 steps, in a machine with these registers of the SID
+-- a call returns within the most steps that a call may take, in a machine with these registers of the SID
 pub record ReturnsTo (machine : Machine) (entry number : ℕ) (registers : List ℕ) (after : Machine) : Type 0 where
   pub steps : ℕ
-  pub within : steps ≤ 200000
+  pub within : steps ≤ MOST_STEPS
   pub called : Called machine entry number steps after
   pub registers_are : sid_registers after ≡ registers
 
@@ -37,7 +38,7 @@ pub record MeetsStopAt (file : RunnerState) (subtune call : ℕ) (registers : Li
   pub before : Machine
   pub calls : FirstCalls file subtune call registers before
   pub after : Machine
-  pub fails : FailsBy before (entry_of file call) (accumulator_of subtune call before) 200000 reason after
+  pub fails : FailsBy before (entry_of file call) (accumulator_of subtune call before) MOST_STEPS reason after
 
 -- a PSID file has this subtune, counted from 1
 pub record HasSubtune (psid : Psid) (subtune : ℕ) : Type 0 where

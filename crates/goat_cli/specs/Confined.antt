@@ -1,6 +1,8 @@
 -- Where the call of a player may write: in its image, in its two bytes of page 0, in eight bytes of the stack, and in the SID.
 use Rattle.std.specs.Prelude.{◌≡◌, ℕ, ◌+◌, ◌-◌, ◌%◌, ◌<◌, ◌≤◌, List, slice_index}
 use Rattle.cpu6502.specs.declared.machine.Machine.{Machine}
+use Rattle.cpu6502.specs.declared.memory.TheConstants.{MEMORY_SIZE}
+use Rattle.cpu6502.specs.declared.log.TheConstants.{SID_BASE, SID_LAST}
 use Rattle.cpu6502.specs.Step.{written}
 use Rattle.cpu6502.specs.Call.{return_address}
 
@@ -10,7 +12,7 @@ pub data IsOwnPlace (length address zero_page sp place : ℕ) : Type 0 where
   low_pointer : place ≡ zero_page → IsOwnPlace length address zero_page sp place
   high_pointer : place ≡ zero_page + 1 → IsOwnPlace length address zero_page sp place
   on_stack : (below : ℕ) → below < 8 → place ≡ 256 + (sp + 256 - below) % 256 → IsOwnPlace length address zero_page sp place
-  in_sid : 0xD400 ≤ place → place ≤ 0xD418 → IsOwnPlace length address zero_page sp place
+  in_sid : SID_BASE ≤ place → place ≤ SID_LAST → IsOwnPlace length address zero_page sp place
 
 -- a machine's memory once a call has pushed its two bytes
 abbrev pub memory_at_entry : Machine → List ℕ
@@ -18,4 +20,4 @@ memory_at_entry machine = written machine.memory (return_address machine.cpu.sp)
 
 -- a call from the first machine has changed own places only when it is in the second: each other byte is as it was once the call had pushed its two bytes
 pub record IsConfined (machine after : Machine) (length address zero_page : ℕ) : Type 0 where
-  pub same : (place : ℕ) → place < 65536 → (IsOwnPlace length address zero_page ((machine.cpu.sp + 254) % 256) place → ⊥) → slice_index after.memory place ≡ slice_index (memory_at_entry machine) place
+  pub same : (place : ℕ) → place < MEMORY_SIZE → (IsOwnPlace length address zero_page ((machine.cpu.sp + 254) % 256) place → ⊥) → slice_index after.memory place ≡ slice_index (memory_at_entry machine) place

@@ -7,12 +7,13 @@ use Rattle.cpu6502.specs.declared.machine.Machine.{Machine}
 use Rattle.cpu6502.specs.Call.{Called}
 use Rattle.cpu6502.specs.Code.{IsMachine, Holds}
 use Rattle.goat_cli.specs.Confined.{IsConfined}
+use Rattle.sid_run.specs.declared.runner.TheConstants.{MOST_STEPS}
 use Rattle.sid_run.specs.State.{sid_registers}
 
--- a call of an image at an entry, with a number in the accumulator: it returns within 200,000 steps in the machine after, has written in its own places only, and leaves these registers
+-- a call of an image at an entry, with a number in the accumulator: it returns within the most steps that a call may take in the machine after, has written in its own places only, and leaves these registers
 pub record Leaves (image : List ℕ) (address zero_page : ℕ) (machine : Machine) (entry number : ℕ) (registers : List ℕ) (after : Machine) : Type 0 where
   pub steps : ℕ
-  pub within : steps ≤ 200000
+  pub within : steps ≤ MOST_STEPS
   pub called : Called machine entry number steps after
   pub confined : IsConfined machine after (length image) address zero_page
   pub registers_are : sid_registers after ≡ registers

@@ -1,5 +1,7 @@
 -- The image of the silent player: its instructions, and their bytes.
 use Rattle.std.specs.Prelude.{ℕ, ◌+◌, ◌/◌, ◌%◌, List, [], ◌∷◌, flat_map}
+use Rattle.cpu6502.specs.declared.memory.TheConstants.{MEMORY_SIZE}
+use Rattle.cpu6502.specs.declared.log.TheConstants.{SID_BASE, SID_LAST}
 use Rattle.goat_cli.specs.declared.image.Instruction.{Instruction}
 use Rattle.goat_cli.specs.declared.image.Instruction.TheVariants.{JmpTo, LdaNumber, LdxNumber, StaAt, StaAtX, Dex, BplBy, Rts}
 
@@ -17,9 +19,9 @@ bytes_of Rts = 0x60 ∷ []
 -- a jump to init; play, three bytes after the address; and init, nineteen bytes after it
 abbrev pub silent_code : ℕ → List Instruction
 silent_code address =
-    JmpTo ((address + 19) % 65536)
-    ∷ LdaNumber 0 ∷ LdxNumber 23 ∷ StaAtX 0xD400 ∷ Dex ∷ BplBy 250 ∷ LdaNumber 15 ∷ StaAt 0xD418 ∷ Rts
-    ∷ LdaNumber 0 ∷ LdxNumber 24 ∷ StaAtX 0xD400 ∷ Dex ∷ BplBy 250 ∷ Rts
+    JmpTo ((address + 19) % MEMORY_SIZE)
+    ∷ LdaNumber 0 ∷ LdxNumber 23 ∷ StaAtX SID_BASE ∷ Dex ∷ BplBy 250 ∷ LdaNumber 15 ∷ StaAt SID_LAST ∷ Rts
+    ∷ LdaNumber 0 ∷ LdxNumber 24 ∷ StaAtX SID_BASE ∷ Dex ∷ BplBy 250 ∷ Rts
     ∷ []
 
 -- the thirty bytes of the silent player at an address

@@ -7,6 +7,7 @@ ghost use Rattle.song_model.specs.Silent.{IsSilent};
 ghost use Rattle.gts5.specs.Spells.{Spells};
 ghost use Rattle.play_model.specs.Playable.{IsPlayable};
 ghost use Rattle.usage.specs.Parts.{AreUsedParts};
+ghost use Rattle.psid.specs.declared.reading.TheConstants.{ADDRESSES};
 ghost use Rattle.psid.specs.Reading.{psid_read};
 ghost use Rattle.goat_cli.specs.Calls.{HasSubtune};
 ghost use Rattle.goat_cli.specs.Last.{last_of, last_word, Says};
@@ -256,7 +257,7 @@ pub fn can_be_packed(song: &Song) -> Result<(), Refusal<'static>>
 /// The bytes break the format of PSID files, or out of memory.
 pub fn psid_of(alloc: Global, bytes: &[u8]) -> Result<Psid, Refusal<'static>>
     ensures reads { IfOk result (λ psid. psid_read bytes.now ≡ Ok psid) }
-    ensures fits { IfOk result (λ psid. psid.load + length psid.image ≤ 65536) }
+    ensures fits { IfOk result (λ psid. psid.load + length psid.image ≤ ADDRESSES) }
     ensures refused { IfErr result (λ refusal. (files : Files) (name : List ℕ) →
         file_of files name ≡ Some bytes.now → Refuses files (IsPsid name) (last_of refusal)) }
 {
