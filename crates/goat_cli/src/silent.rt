@@ -18,6 +18,7 @@ pub fn is_silent(song: &Song) -> bool
     }
 }
 
+/// Whether no instrument and no row of a table is stored.
 fn has_no_programs(song: &Song) -> bool
     ensures { IsTrue result ↔ HasNoPrograms song.now }
 {
@@ -28,6 +29,7 @@ fn has_no_programs(song: &Song) -> bool
         && song.speed.as_slice().is_empty()
 }
 
+/// Whether the three orderlists are silent.
 fn is_silent_subtune(subtune: &Subtune, patterns: &[Pattern]) -> bool
     ensures { IsTrue result ↔ IsSilentSubtune patterns.now subtune.now }
 {
@@ -36,6 +38,7 @@ fn is_silent_subtune(subtune: &Subtune, patterns: &[Pattern]) -> bool
         && is_silent_order(&subtune.three, patterns)
 }
 
+/// Whether the orderlist names stored patterns of rests alone and goes on at one of its entries.
 fn is_silent_order(order: &Order, patterns: &[Pattern]) -> bool
     ensures { IsTrue result ↔ IsSilentOrder patterns.now order.now }
 {
@@ -43,6 +46,7 @@ fn is_silent_order(order: &Order, patterns: &[Pattern]) -> bool
     usize::from(order.restart) < entries.len() && are_silent_entries(entries, patterns)
 }
 
+/// Whether each byte is a silent entry.
 fn are_silent_entries(entries: &[u8], patterns: &[Pattern]) -> bool
     ensures { IsTrue result ↔ All (IsSilentEntry patterns.now) entries.now }
 {
@@ -54,6 +58,7 @@ fn are_silent_entries(entries: &[u8], patterns: &[Pattern]) -> bool
     true
 }
 
+/// Whether the byte, `$00` to `$CF`, names a stored pattern of rests alone.
 fn is_silent_entry(byte: u8, patterns: &[Pattern]) -> bool
     ensures { IsTrue result ↔ IsSilentEntry patterns.now byte }
 {
@@ -63,6 +68,7 @@ fn is_silent_entry(byte: u8, patterns: &[Pattern]) -> bool
     }
 }
 
+/// Whether each row is a silent one.
 fn are_silent_rows(rows: &[Row]) -> bool
     ensures { IsTrue result ↔ All IsSilentRow rows.now }
 {
@@ -74,6 +80,7 @@ fn are_silent_rows(rows: &[Row]) -> bool
     true
 }
 
+/// Whether the row is a rest without instrument and command; its parameter is free.
 fn is_silent_row(row: Row) -> bool
     ensures { IsTrue result ↔ IsSilentRow row }
 {
