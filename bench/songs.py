@@ -1,9 +1,9 @@
 #!/usr/bin/env python3
 """Times goat on long songs: bench/songs.py [PROGRAM]
 
-Packs and copies silent songs of about 16 KB, 64 KB and 256 KB (the most that a file may have), and prints for each the
-processor time of a run and the bytes of the song that it takes a second. The time of a run on the smallest song, which
-is that of starting the program, is taken off first.
+Packs and copies silent songs of about 16 KB, 64 KB and 256 KB (the most that a file may have), checks songs of about
+these sizes that use all that they store, and prints for each the processor time of a run and the bytes of the song that
+it takes a second. The time of a run on the smallest song, which is that of starting the program, is taken off first.
 """
 import os
 import resource
@@ -26,6 +26,29 @@ def silent_song(patterns, size):
     return song + bytes(max(0, size - len(song)))
 
 
+def table(rows, jump):
+    """A table whose rows follow each other, the last one a jump to the first where the table has jumps."""
+    lefts = bytes([0x41] * rows)
+    return bytes([rows]) + (lefts[1:] + b"\xFF" if jump else lefts) + bytes([1] * rows)
+
+
+def sounding_song(patterns, subtunes):
+    """A song whose orderlists each name all patterns, with each command, instrument and row of a table in use."""
+    order = bytes([patterns + 1, *range(patterns), 0xFF, 0])
+    instruments = b"".join(bytes([0x09, 0xA0, n, n, n, n, 1, 2, 9]) + bytes(16) for n in range(1, 64))
+    tables = 3 * table(255, True) + table(255, False)
+    rows = b"".join(bytes([0x90, 1 + n % 63, n % 16, 1 + n]) for n in range(128))
+    pattern = bytes([129]) + rows + END
+    parts = [
+        b"GTS5" + bytes(96),
+        bytes([subtunes]) + 3 * subtunes * order,
+        bytes([63]) + instruments,
+        tables,
+        bytes([patterns]) + patterns * pattern,
+    ]
+    return b"".join(parts)
+
+
 def processor_time(program, words, folder):
     """Seconds of processor time of one run, the mean of many."""
     before = resource.getrusage(resource.RUSAGE_CHILDREN)
@@ -38,10 +61,15 @@ def processor_time(program, words, folder):
 def main():
     top = os.path.dirname(os.path.dirname(os.path.abspath(__file__)))
     program = os.path.abspath(sys.argv[1]) if len(sys.argv) > 1 else os.path.join(top, "crates/goat/out/goat")
-    commands = {"copy": ["copy", "in", "out"], "pack": ["pack", "in", "out", "raw", "1000", "FC"]}
-    songs = [silent_song(1, 0)] + [silent_song(*shape) for shape in [(15, 16384), (63, 65536), (208, LIMIT)]]
+    silent = [silent_song(*shape) for shape in [(1, 0), (15, 16384), (63, 65536), (208, LIMIT)]]
+    sounding = [sounding_song(*shape) for shape in [(1, 1), (25, 8), (110, 16), (208, 32)]]
+    runs = [
+        ("copy", ["copy", "in", "out"], silent),
+        ("pack", ["pack", "in", "out", "raw", "1000", "FC"], silent),
+        ("check", ["check", "in"], sounding),
+    ]
     with tempfile.TemporaryDirectory() as folder:
-        for name, words in commands.items():
+        for name, words, songs in runs:
             start = None
             for song in songs:
                 with open(os.path.join(folder, "in"), "wb") as file:
@@ -51,7 +79,7 @@ def main():
                     start = seconds
                     continue
                 work = max(seconds - start, 1e-6)
-                print(f"{name} {len(song):6} bytes  {1000 * seconds:6.2f} ms a run  {len(song) / work:13,.0f} bytes a second")
+                print(f"{name:5} {len(song):6} bytes  {1000 * seconds:6.2f} ms a run  {len(song) / work:13,.0f} bytes a second")
 
 
 if __name__ == "__main__":
