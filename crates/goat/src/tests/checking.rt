@@ -404,6 +404,22 @@ fn bad_restarts_are_told_with_their_channel(rt: HostRuntime) -> Result<(), Fail>
     Ok(())
 }
 
+/// The song with one note, with these instruments and rows of its tables.
+fn with_programs(
+    instruments: &'static str,
+    wave: &'static str,
+    pulse: &'static str,
+    filter: &'static str,
+) -> Parts {
+    Parts {
+        instruments,
+        wave,
+        pulse,
+        filter,
+        ..NOTE
+    }
+}
+
 #[test]
 fn programs_that_run_off_their_table_are_told(rt: HostRuntime) -> Result<(), Fail> {
     let alloc = rt.alloc();
@@ -469,13 +485,7 @@ fn programs_that_run_off_their_table_are_told(rt: HostRuntime) -> Result<(), Fai
             "filter table ends before row 1",
         ),
     ] {
-        let song = Parts {
-            instruments,
-            wave,
-            pulse,
-            filter,
-            ..NOTE
-        };
+        let song = with_programs(instruments, wave, pulse, filter);
         assert_unplayable(&rt, alloc, &song.file(alloc)?, text)?;
     }
     Ok(())
@@ -627,13 +637,7 @@ fn pointers_to_jump_rows_are_told(rt: HostRuntime) -> Result<(), Fail> {
             "wave pointer to jump row 3",
         ),
     ] {
-        let song = Parts {
-            instruments,
-            wave,
-            pulse,
-            filter,
-            ..NOTE
-        };
+        let song = with_programs(instruments, wave, pulse, filter);
         assert_unplayable(&rt, alloc, &song.file(alloc)?, text)?;
     }
     Ok(())
