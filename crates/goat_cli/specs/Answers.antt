@@ -46,7 +46,8 @@ pub record HoldsDone (words : List (List ℕ)) (files : Files) (files_now : Opti
   pub files_are : files_now ≡ Some (files_after files write)
 
 -- the outcome came about: its lines were appended, and the files are as it says
-pub record ComesAbout (words : List (List ℕ)) (files : Files) (status : ℕ) (printed printed_now : Option (List ℕ)) (files_now : Option Files) : Type 0 where
+pub record ComesAbout (words : List (List ℕ)) (files : Files) (status : ℕ) (printed printed_now : Option (List ℕ))
+    (files_now : Option Files) : Type 0 where
   pub lines : List (List ℕ)
   pub write : Option (List ℕ × List ℕ)
   pub outcome : Outcome words files status lines write

@@ -1,4 +1,6 @@
--- The calls that a run of a PSID file makes. Call 0 is init, with the subtune's number from 0 in A; the others are play, with A as it stands. The first begins at the machine with the file loaded, each other one at the machine that the call before it left.
+-- The calls that a run of a PSID file makes. Call 0 is init, with the subtune's number from 0 in A; the others are
+-- play, with A as it stands. The first begins at the machine with the file loaded, each other one at the machine that
+-- the call before it left.
 use Rattle.std.specs.Prelude.{◌≡◌, ℕ, zero, suc, ◌-◌, ◌≤◌, List, [], ◌∷◌, ◌++◌}
 use Rattle.cpu6502.specs.declared.machine.Machine.{Machine}
 use Rattle.cpu6502.specs.declared.stop.CallStop.{CallStop}
@@ -24,7 +26,8 @@ pub record ReturnsTo (machine : Machine) (entry number : ℕ) (registers : List 
   pub called : Called machine entry number steps after
   pub registers_are : sid_registers after ≡ registers
 
--- the first calls of a loaded file return, this many of them: the registers after each of them, and the machine after the last
+-- the first calls of a loaded file return, this many of them: the registers after each of them, and the machine after
+-- the last
 abbrev pub FirstCalls : RunnerState → ℕ → ℕ → List (List ℕ) → Machine → Type 0
 FirstCalls file subtune zero registers machine = (registers ≡ []) × (machine ≡ file.machine)
 FirstCalls file subtune (suc call) registers machine =
@@ -34,7 +37,8 @@ FirstCalls file subtune (suc call) registers machine =
     (registers ≡ earlier ++ last ∷ [])
 
 -- the calls before this one return and leave these registers, and this one does not return, for this reason
-pub record MeetsStopAt (file : RunnerState) (subtune call : ℕ) (registers : List (List ℕ)) (reason : CallStop) : Type 0 where
+pub record MeetsStopAt (file : RunnerState) (subtune call : ℕ) (registers : List (List ℕ))
+    (reason : CallStop) : Type 0 where
   pub before : Machine
   pub calls : FirstCalls file subtune call registers before
   pub after : Machine
@@ -45,7 +49,8 @@ pub record HasSubtune (psid : Psid) (subtune : ℕ) : Type 0 where
   pub first : 1 ≤ subtune
   pub last : subtune ≤ psid.header.songs
 
--- one of the calls, init of the subtune and then play as often as there are frames, does not return; each call before it does
+-- one of the calls, init of the subtune and then play as often as there are frames, does not return; each call before
+-- it does
 pub record StopsIn (psid : Psid) (subtune frames : ℕ) : Type 0 where
   pub call : ℕ
   pub within : call ≤ frames

@@ -31,15 +31,21 @@ pub record WasRead (name : List ℕ) (limit : ℕ) (before after : FolderState) 
 
 -- a file was not read
 pub data ReadFails (name : List ℕ) (limit : ℕ) (before after : FolderState) (last : Last) : Type 0 where
-  missing : (files : Files) → AreFiles before.told files → IsAbsent name files → last ≡ Says 2 (missing_line name) → after.told ≡ before.told → Counted 2 before.counts after.counts → ReadFails name limit before after last
-  too_long : (files : Files) → AreFiles before.told files → IsAbove limit name files → last ≡ Says 3 (too_long_line name) → after.told ≡ before.told → Counted 3 before.counts after.counts → ReadFails name limit before after last
-  failed : last ≡ Says 4 (read_fault_line name) → after.told ≡ before.told → Counted 4 before.counts after.counts → ReadFails name limit before after last
+  missing : (files : Files) → AreFiles before.told files → IsAbsent name files → last ≡ Says 2 (missing_line name) →
+      after.told ≡ before.told → Counted 2 before.counts after.counts → ReadFails name limit before after last
+  too_long : (files : Files) → AreFiles before.told files → IsAbove limit name files →
+      last ≡ Says 3 (too_long_line name) → after.told ≡ before.told → Counted 3 before.counts after.counts →
+      ReadFails name limit before after last
+  failed : last ≡ Says 4 (read_fault_line name) → after.told ≡ before.told → Counted 4 before.counts after.counts →
+      ReadFails name limit before after last
   wanting : last ≡ Wants → FolderStays before after → ReadFails name limit before after last
 
 -- a file was written, or not
 pub data WriteEnds (name bytes : List ℕ) (before after : FolderState) (last : Last) : Type 0 where
-  wrote : last ≡ Says 0 (wrote_line (length bytes)) → after.told ≡ told_with_file before.told name bytes → Counted 0 before.counts after.counts → WriteEnds name bytes before after last
-  failed : last ≡ Says 9 (write_fault_line name) → IsWrittenInPart before.told after.told name bytes → Counted 9 before.counts after.counts → WriteEnds name bytes before after last
+  wrote : last ≡ Says 0 (wrote_line (length bytes)) → after.told ≡ told_with_file before.told name bytes →
+      Counted 0 before.counts after.counts → WriteEnds name bytes before after last
+  failed : last ≡ Says 9 (write_fault_line name) → IsWrittenInPart before.told after.told name bytes →
+      Counted 9 before.counts after.counts → WriteEnds name bytes before after last
   wanting : last ≡ Wants → FolderStays before after → WriteEnds name bytes before after last
 
 -- ---- the calls of a PSID file
@@ -51,29 +57,42 @@ pub record FailsIn (bytes : List ℕ) (before after : SinkState) : Type 0 where
 
 -- what became of init and of play, as often as there are frames, of a loaded file
 pub data CallsEnd (file : RunnerState) (subtune frames : ℕ) (last : Last) (before after : SinkState) : Type 0 where
-  played : (registers : List (List ℕ)) (machine : Machine) → FirstCalls file subtune (frames + 1) registers machine → last ≡ SaysNothing → Appends (concat (register_lines registers)) before after → CallsEnd file subtune frames last before after
-  stopped : (call : ℕ) (registers : List (List ℕ)) (reason : CallStop) → call ≤ frames → MeetsStopAt file subtune call registers reason → last ≡ Says 13 (stop_line reason call) → Appends (concat (register_lines registers)) before after → CallsEnd file subtune frames last before after
-  failed : (calls kept : ℕ) (earlier : List (List ℕ)) (line : List ℕ) (registers : List (List ℕ)) (machine : Machine) → calls ≤ frames + 1 → FirstCalls file subtune calls registers machine → register_lines registers ≡ earlier ++ line ∷ [] → last ≡ SinkFailed → FailsAfter (concat earlier ++ take kept line) before after → CallsEnd file subtune frames last before after
-  wanting : (calls : ℕ) (earlier : List (List ℕ)) (line : List ℕ) (registers : List (List ℕ)) (machine : Machine) → calls ≤ frames + 1 → FirstCalls file subtune calls registers machine → register_lines registers ≡ earlier ++ line ∷ [] → last ≡ Wants → Appends (concat earlier) before after → CallsEnd file subtune frames last before after
+  played : (registers : List (List ℕ)) (machine : Machine) → FirstCalls file subtune (frames + 1) registers machine →
+      last ≡ SaysNothing → Appends (concat (register_lines registers)) before after →
+      CallsEnd file subtune frames last before after
+  stopped : (call : ℕ) (registers : List (List ℕ)) (reason : CallStop) → call ≤ frames →
+      MeetsStopAt file subtune call registers reason → last ≡ Says 13 (stop_line reason call) →
+      Appends (concat (register_lines registers)) before after → CallsEnd file subtune frames last before after
+  failed : (calls kept : ℕ) (earlier : List (List ℕ)) (line : List ℕ) (registers : List (List ℕ)) (machine : Machine) →
+      calls ≤ frames + 1 → FirstCalls file subtune calls registers machine →
+      register_lines registers ≡ earlier ++ line ∷ [] → last ≡ SinkFailed →
+      FailsAfter (concat earlier ++ take kept line) before after → CallsEnd file subtune frames last before after
+  wanting : (calls : ℕ) (earlier : List (List ℕ)) (line : List ℕ) (registers : List (List ℕ)) (machine : Machine) →
+      calls ≤ frames + 1 → FirstCalls file subtune calls registers machine →
+      register_lines registers ≡ earlier ++ line ∷ [] → last ≡ Wants → Appends (concat earlier) before after →
+      CallsEnd file subtune frames last before after
 
 -- ---- a run but for its last line
 
 -- the earlier lines were printed, and the last one is still to be
-pub record HasLast (words : List (List ℕ)) (files : Files) (status : ℕ) (line : List ℕ) (folder folder_after : FolderState) (sink sink_after : SinkState) : Type 0 where
+pub record HasLast (words : List (List ℕ)) (files : Files) (status : ℕ) (line : List ℕ)
+    (folder folder_after : FolderState) (sink sink_after : SinkState) : Type 0 where
   pub earlier : List (List ℕ)
   pub account : Account words files status (earlier ++ line ∷ []) folder.told folder_after.told
   pub counted : Counted status folder.counts folder_after.counts
   pub appends : Appends (concat earlier) sink sink_after
 
 -- all lines were printed, and the job is done
-pub record IsShown (words : List (List ℕ)) (files : Files) (folder folder_after : FolderState) (sink sink_after : SinkState) : Type 0 where
+pub record IsShown (words : List (List ℕ)) (files : Files) (folder folder_after : FolderState)
+    (sink sink_after : SinkState) : Type 0 where
   pub lines : List (List ℕ)
   pub account : Account words files 0 lines folder.told folder_after.told
   pub counted : Counted 0 folder.counts folder_after.counts
   pub appends : Appends (concat lines) sink sink_after
 
 -- the put of a line failed
-pub record HasFailed (words : List (List ℕ)) (files : Files) (folder folder_after : FolderState) (sink sink_after : SinkState) : Type 0 where
+pub record HasFailed (words : List (List ℕ)) (files : Files) (folder folder_after : FolderState)
+    (sink sink_after : SinkState) : Type 0 where
   pub earlier : List (List ℕ)
   pub later : List (List ℕ)
   pub line : List ℕ
@@ -83,24 +102,33 @@ pub record HasFailed (words : List (List ℕ)) (files : Files) (folder folder_af
   pub fails : FailsAfter (concat earlier ++ take kept line) sink sink_after
 
 -- memory was wanting, for a line or before the first one
-pub data IsWanting (words : List (List ℕ)) (files : Files) (folder folder_after : FolderState) (sink sink_after : SinkState) : Type 0 where
-  for_line : (earlier later : List (List ℕ)) (line : List ℕ) → IsPrinting words files (earlier ++ line ∷ later) → FolderStays folder folder_after → Appends (concat earlier) sink sink_after → IsWanting words files folder folder_after sink sink_after
-  first : FolderStays folder folder_after → Appends [] sink sink_after → IsWanting words files folder folder_after sink sink_after
+pub data IsWanting (words : List (List ℕ)) (files : Files) (folder folder_after : FolderState)
+    (sink sink_after : SinkState) : Type 0 where
+  for_line : (earlier later : List (List ℕ)) (line : List ℕ) → IsPrinting words files (earlier ++ line ∷ later) →
+      FolderStays folder folder_after → Appends (concat earlier) sink sink_after →
+      IsWanting words files folder folder_after sink sink_after
+  first : FolderStays folder folder_after → Appends [] sink sink_after →
+      IsWanting words files folder folder_after sink sink_after
 
 abbrev pub IsOver : List (List ℕ) → Files → Last → FolderState → FolderState → SinkState → SinkState → Type 0
-IsOver words files (Says status line) folder folder_after sink sink_after = HasLast words files status line folder folder_after sink sink_after
-IsOver words files SaysNothing folder folder_after sink sink_after = IsShown words files folder folder_after sink sink_after
-IsOver words files SinkFailed folder folder_after sink sink_after = HasFailed words files folder folder_after sink sink_after
+IsOver words files (Says status line) folder folder_after sink sink_after =
+    HasLast words files status line folder folder_after sink sink_after
+IsOver words files SaysNothing folder folder_after sink sink_after =
+    IsShown words files folder folder_after sink sink_after
+IsOver words files SinkFailed folder folder_after sink sink_after =
+    HasFailed words files folder folder_after sink sink_after
 IsOver words files Wants folder folder_after sink sink_after = IsWanting words files folder folder_after sink sink_after
 
 -- a run is over but for its last line; some of the folder's files stand for it
-pub record RunEnds (words : List (List ℕ)) (last : Last) (folder folder_after : FolderState) (sink sink_after : SinkState) : Type 0 where
+pub record RunEnds (words : List (List ℕ)) (last : Last) (folder folder_after : FolderState)
+    (sink sink_after : SinkState) : Type 0 where
   pub files : Files
   pub are_files : AreFiles folder.told files
   pub is_over : IsOver words files last folder folder_after sink sink_after
 
 -- so it is for all words that name the job
-pub record JobEnds (job : Job) (last : Last) (folder folder_after : FolderState) (sink sink_after : SinkState) : Type 0 where
+pub record JobEnds (job : Job) (last : Last) (folder folder_after : FolderState)
+    (sink sink_after : SinkState) : Type 0 where
   pub ends : (words : List (List ℕ)) → WordsOf words job → RunEnds words last folder folder_after sink sink_after
 
 -- ---- the last line
@@ -108,7 +136,8 @@ pub record JobEnds (job : Job) (last : Last) (folder folder_after : FolderState)
 -- the line was printed, and the answer is its status; or its put failed; or memory was wanting for it
 pub data PrintsLine (status : ℕ) (line : List ℕ) (answer : ℕ) (before after : SinkState) : Type 0 where
   whole : answer ≡ status → Appends line before after → PrintsLine status line answer before after
-  failed : (kept : ℕ) → answer ≡ 10 → FailsAfter (take kept line) before after → PrintsLine status line answer before after
+  failed : (kept : ℕ) → answer ≡ 10 → FailsAfter (take kept line) before after →
+      PrintsLine status line answer before after
   wanting : TellsWant [] answer before after → PrintsLine status line answer before after
 
 -- nothing was printed, and this is the answer

@@ -1,4 +1,5 @@
--- When an image plays a song: whatever else is in memory, init and each play return, write in their own places only, and leave the SID's registers as the song's frames do.
+-- When an image plays a song: whatever else is in memory, init and each play return, write in their own places only,
+-- and leave the SID's registers as the song's frames do.
 use Rattle.std.specs.Prelude.{◌≡◌, ℕ, zero, suc, ◌+◌, ◌<◌, ◌≤◌, List, length, slice_index}
 use Rattle.song_model.specs.declared.songs.Song.{Song}
 use Rattle.song_model.specs.LookUp.{playable_subtunes}
@@ -10,8 +11,10 @@ use Rattle.goat_cli.specs.Confined.{IsConfined}
 use Rattle.sid_run.specs.declared.runner.TheConstants.{MOST_STEPS}
 use Rattle.sid_run.specs.State.{sid_registers}
 
--- a call of an image at an entry, with a number in the accumulator: it returns within the most steps that a call may take in the machine after, has written in its own places only, and leaves these registers
-pub record Leaves (image : List ℕ) (address zero_page : ℕ) (machine : Machine) (entry number : ℕ) (registers : List ℕ) (after : Machine) : Type 0 where
+-- a call of an image at an entry, with a number in the accumulator: it returns within the most steps that a call may
+-- take in the machine after, has written in its own places only, and leaves these registers
+pub record Leaves (image : List ℕ) (address zero_page : ℕ) (machine : Machine) (entry number : ℕ) (registers : List ℕ)
+    (after : Machine) : Type 0 where
   pub steps : ℕ
   pub within : steps ≤ MOST_STEPS
   pub called : Called machine entry number steps after
@@ -20,16 +23,23 @@ pub record Leaves (image : List ℕ) (address zero_page : ℕ) (machine : Machin
 
 -- two machines agree on the bytes of an image
 pub record AgreesOn (image : List ℕ) (address : ℕ) (before machine : Machine) : Type 0 where
-  pub same : (k : ℕ) → k < length image → slice_index machine.memory (address + k) ≡ slice_index before.memory (address + k)
+  pub same : (k : ℕ) → k < length image →
+      slice_index machine.memory (address + k) ≡ slice_index before.memory (address + k)
 
--- The next n plays, the first of them call i, where the call before left the machine before. Each is entered from any machine that agrees with the one before on the image's bytes: its other bytes, its registers, its flags and its stack pointer are free.
+-- The next n plays, the first of them call i, where the call before left the machine before. Each is entered from any
+-- machine that agrees with the one before on the image's bytes: its other bytes, its registers, its flags and its
+-- stack pointer are free.
 abbrev pub PlaysOn : List ℕ → ℕ → ℕ → Song → ℕ → ℕ → ℕ → Machine → Type 0
 PlaysOn image address zero_page song k i zero before = Unit {0}
 PlaysOn image address zero_page song k i (suc n) before =
     (machine : Machine) (number : ℕ) → IsMachine machine → number < 256 → AgreesOn image address before machine →
-    (after : Machine) × Leaves image address zero_page machine (address + 3) number (trace song k i) after × PlaysOn image address zero_page song k (suc i) n after
+    (after : Machine) × Leaves image address zero_page machine (address + 3) number (trace song k i) after ×
+    PlaysOn image address zero_page song k (suc i) n after
 
--- For each playable subtune k and each n: init with k, from any machine that holds the image at the address, and n plays after it.
+-- For each playable subtune k and each n: init with k, from any machine that holds the image at the address, and n
+-- plays after it.
 pub record IsFaithful (image : List ℕ) (address zero_page : ℕ) (song : Song) : Type 0 where
-  pub plays : (k n : ℕ) (machine : Machine) → k < length (playable_subtunes song) → IsMachine machine → Holds machine.memory address image →
-      (after : Machine) × Leaves image address zero_page machine address k (trace song k 0) after × PlaysOn image address zero_page song k 1 n after
+  pub plays : (k n : ℕ) (machine : Machine) → k < length (playable_subtunes song) → IsMachine machine →
+      Holds machine.memory address image →
+      (after : Machine) × Leaves image address zero_page machine address k (trace song k 0) after ×
+      PlaysOn image address zero_page song k 1 n after

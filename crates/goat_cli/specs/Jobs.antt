@@ -1,4 +1,5 @@
--- What belongs to each command: the words that name its job, the stages of a run, and what the job does where all pass. It is a relation, since the player's bytes may be chosen.
+-- What belongs to each command: the words that name its job, the stages of a run, and what the job does where all
+-- pass. It is a relation, since the player's bytes may be chosen.
 use Rattle.std.specs.Prelude.{◌≡◌, ◌≢◌, ℕ, ◌+◌, ◌-◌, ◌≤◌, List, [], ◌∷◌, codes, Option, Some, None, length}
 use Rattle.goat_io.specs.Files.{Files}
 use Rattle.song_model.specs.declared.songs.Song.{Song}
@@ -16,7 +17,8 @@ use Rattle.goat_cli.specs.Calls.{FirstCalls}
 use Rattle.goat_cli.specs.RegisterText.{register_lines}
 use Rattle.goat_cli.specs.Lines.{wrote_line, check_line}
 
--- what a job does that passes all its stages: it prints these lines and writes nothing; or it writes such a file under the name, and prints how many bytes it has
+-- what a job does that passes all its stages: it prints these lines and writes nothing; or it writes such a file under
+-- the name, and prints how many bytes it has
 pub data Deed : Type 1 where
   PrintsLines : (Files → List (List ℕ) → Type 0) → Deed
   WritesFile : (output : List ℕ) → (Files → List ℕ → Type 0) → Deed
@@ -41,7 +43,8 @@ about (Pack input output psid address zero_page) = record {
   command = codes "pack";
   has_arguments = λ words. ArePackArguments words input output psid address zero_page;
   stages = IsThere input ∷ Fits input input_limit ∷ SpellsSong input ∷ CanBePlayed input ∷ CanBePacked input ∷ [];
-  does = WritesFile output (λ files file. (song : Song) × HoldsSong files input song × IsPackedFile psid address zero_page song file);
+  does = WritesFile output (λ files file. (song : Song) × HoldsSong files input song ×
+      IsPackedFile psid address zero_page song file);
 }
 -- of a song the canonical spelling is written; the arguments are `IN OUT`
 about (Copy input output) = record {
@@ -55,14 +58,17 @@ about (Check input) = record {
   command = codes "check";
   has_arguments = λ words. (words ≡ input ∷ []) × (input ≢ []);
   stages = IsThere input ∷ Fits input input_limit ∷ SpellsSong input ∷ CanBePlayed input ∷ [];
-  does = PrintsLines (λ files lines. (song : Song) × (parts : UsedParts) × HoldsSong files input song × AreUsedParts song parts × (lines ≡ check_line (length (playable_subtunes song)) parts ∷ []));
+  does = PrintsLines (λ files lines. (song : Song) × (parts : UsedParts) × HoldsSong files input song ×
+      AreUsedParts song parts × (lines ≡ check_line (length (playable_subtunes song)) parts ∷ []));
 }
 -- of a PSID file the calls are shown: init, and play as often as there are frames
 about (Run input subtune frames) = record {
   command = codes "run";
   has_arguments = λ words. AreRunArguments words input subtune frames;
-  stages = IsThere input ∷ Fits input input_limit ∷ IsPsid input ∷ OffersSubtune input subtune ∷ CallsReturn input subtune frames ∷ [];
-  does = PrintsLines (λ files lines. (psid : Psid) × HoldsPsid files input psid × Shows psid subtune (frames + 1) lines);
+  stages = IsThere input ∷ Fits input input_limit ∷ IsPsid input ∷ OffersSubtune input subtune ∷
+      CallsReturn input subtune frames ∷ [];
+  does = PrintsLines (λ files lines. (psid : Psid) × HoldsPsid files input psid ×
+      Shows psid subtune (frames + 1) lines);
 }
 
 abbrev pub command_of : Job → List ℕ
@@ -107,5 +113,6 @@ IsNoForm words = (job : Job) → ¬ WordsOf words job
 
 -- lines that a stage prints before it is known whether it ends the run: those of the first calls, which have returned
 abbrev pub Prints : Files → Stage → List (List ℕ) → Type 0
-Prints files (CallsReturn name subtune frames) lines = (psid : Psid) × HoldsPsid files name psid × (calls : ℕ) × (calls ≤ frames + 1) × Shows psid subtune calls lines
+Prints files (CallsReturn name subtune frames) lines =
+    (psid : Psid) × HoldsPsid files name psid × (calls : ℕ) × (calls ≤ frames + 1) × Shows psid subtune calls lines
 Prints files _ lines = ⊥

@@ -1,4 +1,5 @@
--- What follows from the definitions: words name one job, a run has one outcome, each status comes exactly where its cause is, and a packed file that is run prints its song.
+-- What follows from the definitions: words name one job, a run has one outcome, each status comes exactly where its
+-- cause is, and a packed file that is run prints its song.
 use Rattle.std.specs.Prelude.{◌≡◌, ◌≢◌, ℕ, ◌+◌, ◌-◌, ◌^◌, ◌<◌, ◌≤◌, ◌↔◌, List, Option, None, Ok, length, sum_by}
 use Rattle.goat_io.specs.Files.{Files}
 use Rattle.song_model.specs.declared.songs.Song.{Song}
@@ -26,7 +27,9 @@ WordsNameOneJob = (words : List (List ℕ)) (a b : Job) → WordsOf words a → 
 
 -- an outcome's status is due, and one status alone is due
 abbrev pub OutcomesAreDue : Type 0
-OutcomesAreDue = (words : List (List ℕ)) (files : Files) (status : ℕ) (lines : List (List ℕ)) (write : Option (List ℕ × List ℕ)) → Outcome words files status lines write → (output : Option (List ℕ)) × IsDue words files status output
+OutcomesAreDue = (words : List (List ℕ)) (files : Files) (status : ℕ) (lines : List (List ℕ))
+    (write : Option (List ℕ × List ℕ)) → Outcome words files status lines write →
+    (output : Option (List ℕ)) × IsDue words files status output
 
 abbrev pub OneStatusIsDue : Type 0
 OneStatusIsDue = (words : List (List ℕ)) (files : Files) (status other : ℕ) (output other_output : Option (List ℕ)) →
@@ -43,12 +46,17 @@ OneTextIsPrinted = (words : List (List ℕ)) (files : Files) (status other : ℕ
 abbrev pub IsRefused : List (List ℕ) → Files → ℕ → Type 0
 IsRefused words files status = IsDue words files status None
 
--- when each status is due: 0 where the words name a job whose stages all pass, 1 where they name none, and each other one where they name a job that comes to a stage of this status, which ends the run
+-- when each status is due: 0 where the words name a job whose stages all pass, 1 where they name none, and each other
+-- one where they name a job that comes to a stage of this status, which ends the run
 pub record StatusesHaveCauses : Type 0 where
-  pub done : (words : List (List ℕ)) (files : Files) → ((output : Option (List ℕ)) × IsDue words files 0 output) ↔ ((job : Job) × WordsOf words job × AllPass files (stages job))
+  pub done : (words : List (List ℕ)) (files : Files) →
+      ((output : Option (List ℕ)) × IsDue words files 0 output) ↔
+      ((job : Job) × WordsOf words job × AllPass files (stages job))
   pub usage : (words : List (List ℕ)) (files : Files) → IsRefused words files 1 ↔ IsNoForm words
   pub others : (words : List (List ℕ)) (files : Files) (status : ℕ) → status ≢ 0 → status ≢ 1 →
-      IsRefused words files status ↔ ((stage : Stage) × (lines : List (List ℕ)) × (status ≡ status_of stage) × ComesTo words files stage × Ends files stage lines)
+      IsRefused words files status ↔
+      ((stage : Stage) × (lines : List (List ℕ)) × (status ≡ status_of stage) × ComesTo words files stage ×
+      Ends files stage lines)
 
 -- a stage passes where what it asks for is there
 abbrev pub StagesPass : Type 0
@@ -61,16 +69,20 @@ PlayableSongsPass = (files : Files) (name : List ℕ) (song : Song) → HoldsSon
 
 -- ---- packed files
 
--- a packed PSID file is read, has the subtune, and its calls return with the registers of the subtune's trace, for any number of frames
+-- a packed PSID file is read, has the subtune, and its calls return with the registers of the subtune's trace, for any
+-- number of frames
 abbrev pub PackedFilesPlay : Type 0
 PackedFilesPlay =
-    (song : Song) (file : List ℕ) (subtune frames : ℕ) → IsPackedPsid song file → 1 ≤ subtune → subtune ≤ length (playable_subtunes song) →
-    (psid : Psid) × (psid_read file ≡ Ok psid) × HasSubtune psid subtune × (after : Machine) × FirstCalls (loaded psid) (subtune - 1) (frames + 1) (first_traces song (subtune - 1) (frames + 1)) after
+    (song : Song) (file : List ℕ) (subtune frames : ℕ) → IsPackedPsid song file → 1 ≤ subtune →
+    subtune ≤ length (playable_subtunes song) →
+    (psid : Psid) × (psid_read file ≡ Ok psid) × HasSubtune psid subtune × (after : Machine) ×
+    FirstCalls (loaded psid) (subtune - 1) (frames + 1) (first_traces song (subtune - 1) (frames + 1)) after
 
 -- ---- room
 
 -- a line has at most 96 bytes beside the names in it: that of a message, that of a call, and that memory is wanting
 pub record LinesHaveRoom : Type 0 where
   pub messages : (pieces : List Piece) → IsShort pieces → length (line_of pieces) ≤ 96 + sum_by name_length pieces
-  pub registers : (call : ℕ) (registers : List ℕ) → call < 10 ^ 6 → length registers ≡ 25 → length (register_line call registers) ≤ 96
+  pub registers : (call : ℕ) (registers : List ℕ) → call < 10 ^ 6 → length registers ≡ 25 →
+      length (register_line call registers) ≤ 96
   pub no_memory : length no_memory_line ≤ 96

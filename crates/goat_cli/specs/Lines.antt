@@ -89,10 +89,15 @@ table_word Speed = codes "speed"
 -- for a song that can't be played
 abbrev pub unplayable_line : Unplayable → List ℕ
 unplayable_line NoSubtune = line (codes "unplayable: no subtune" ∷ [])
-unplayable_line (MissingPattern subtune channel place pattern) = line (codes "unplayable: missing pattern " ∷ decimal pattern ∷ codes " in subtune " ∷ decimal subtune ∷ codes " channel " ∷ decimal channel ∷ codes " place " ∷ decimal place ∷ [])
-unplayable_line (BadRestart subtune channel) = line (codes "unplayable: bad restart in subtune " ∷ decimal subtune ∷ codes " channel " ∷ decimal channel ∷ [])
-unplayable_line (TableOverflow name row) = line (codes "unplayable: " ∷ table_word name ∷ codes " table ends before row " ∷ decimal row ∷ [])
-unplayable_line (PointerToJump name row) = line (codes "unplayable: " ∷ table_word name ∷ codes " pointer to jump row " ∷ decimal row ∷ [])
+unplayable_line (MissingPattern subtune channel place pattern) =
+    line (codes "unplayable: missing pattern " ∷ decimal pattern ∷ codes " in subtune " ∷ decimal subtune ∷
+    codes " channel " ∷ decimal channel ∷ codes " place " ∷ decimal place ∷ [])
+unplayable_line (BadRestart subtune channel) =
+    line (codes "unplayable: bad restart in subtune " ∷ decimal subtune ∷ codes " channel " ∷ decimal channel ∷ [])
+unplayable_line (TableOverflow name row) =
+    line (codes "unplayable: " ∷ table_word name ∷ codes " table ends before row " ∷ decimal row ∷ [])
+unplayable_line (PointerToJump name row) =
+    line (codes "unplayable: " ∷ table_word name ∷ codes " pointer to jump row " ∷ decimal row ∷ [])
 
 -- the low 24 bits of a number as six hexadecimal digits in lower case
 abbrev pub feature_digits : ℕ → List ℕ
@@ -100,7 +105,12 @@ feature_digits bits = encode_lower ((bits / 65536 % 256) ∷ (bits / 256 % 256) 
 
 -- for a song with this number of playable subtunes, and these used parts
 abbrev pub check_line : ℕ → UsedParts → List ℕ
-check_line subtunes parts = line (codes "subtunes " ∷ decimal subtunes ∷ codes " patterns " ∷ decimal (count_of parts.patterns) ∷ codes " instruments " ∷ decimal (count_of parts.instruments) ∷ codes " wave " ∷ decimal (count_of parts.wave) ∷ codes " pulse " ∷ decimal (count_of parts.pulse) ∷ codes " filter " ∷ decimal (count_of parts.filter) ∷ codes " speed " ∷ decimal (count_of parts.speed) ∷ codes " features " ∷ feature_digits parts.features.0 ∷ [])
+check_line subtunes parts =
+    line (codes "subtunes " ∷ decimal subtunes ∷ codes " patterns " ∷ decimal (count_of parts.patterns) ∷
+    codes " instruments " ∷ decimal (count_of parts.instruments) ∷
+    codes " wave " ∷ decimal (count_of parts.wave) ∷ codes " pulse " ∷ decimal (count_of parts.pulse) ∷
+    codes " filter " ∷ decimal (count_of parts.filter) ∷ codes " speed " ∷ decimal (count_of parts.speed) ∷
+    codes " features " ∷ feature_digits parts.features.0 ∷ [])
 
 -- for a file of this length
 abbrev pub wrote_line : ℕ → List ℕ

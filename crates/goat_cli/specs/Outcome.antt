@@ -1,4 +1,5 @@
--- What the program answers where no device fails and memory is found: its status, the lines that it prints, and the name and the bytes of the file that it writes.
+-- What the program answers where no device fails and memory is found: its status, the lines that it prints, and the
+-- name and the bytes of the file that it writes.
 use Rattle.std.specs.Prelude.{◌≡◌, ℕ, List, [], ◌∷◌, Option, Some, None, option_map}
 use Rattle.goat_io.specs.Files.{Files, with_file}
 use Rattle.goat_cli.specs.Words.{Job}
@@ -6,11 +7,15 @@ use Rattle.goat_cli.specs.Stages.{AllPass, FirstEnds}
 use Rattle.goat_cli.specs.Jobs.{WordsOf, IsNoForm, stages, Done}
 use Rattle.goat_cli.specs.Lines.{usage_line}
 
--- the words are of no form; or the first stage of their job that doesn't pass ends the run; or all pass and the job is done
-pub data Outcome (words : List (List ℕ)) (files : Files) (status : ℕ) (lines : List (List ℕ)) (write : Option (List ℕ × List ℕ)) : Type 0 where
+-- the words are of no form; or the first stage of their job that doesn't pass ends the run; or all pass and the job is
+-- done
+pub data Outcome (words : List (List ℕ)) (files : Files) (status : ℕ) (lines : List (List ℕ))
+    (write : Option (List ℕ × List ℕ)) : Type 0 where
   usage : IsNoForm words → status ≡ 1 → lines ≡ usage_line ∷ [] → write ≡ None → Outcome words files status lines write
-  ended : (job : Job) → WordsOf words job → FirstEnds files (stages job) status lines → write ≡ None → Outcome words files status lines write
-  done : (job : Job) → WordsOf words job → AllPass files (stages job) → Done job files lines write → status ≡ 0 → Outcome words files status lines write
+  ended : (job : Job) → WordsOf words job → FirstEnds files (stages job) status lines → write ≡ None →
+      Outcome words files status lines write
+  done : (job : Job) → WordsOf words job → AllPass files (stages job) → Done job files lines write → status ≡ 0 →
+      Outcome words files status lines write
 
 -- the files after the file that is written, if any; every other file is as before
 abbrev pub files_after : Files → Option (List ℕ × List ℕ) → Files

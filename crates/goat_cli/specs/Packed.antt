@@ -10,7 +10,8 @@ use Rattle.goat_cli.specs.Faithful.{IsFaithful}
 abbrev pub raw_file : ℕ → List ℕ → List ℕ
 raw_file address image = (address % 256) ∷ (address / 256) ∷ image
 
--- the header of a song's PSID file: init at the image's address, play three bytes after it, the playable subtunes, of which the first begins, a call at each vertical blank, the song's texts, PAL and 6581
+-- the header of a song's PSID file: init at the image's address, play three bytes after it, the playable subtunes, of
+-- which the first begins, a call at each vertical blank, the song's texts, PAL and 6581
 abbrev pub song_header : Song → ℕ → Header
 song_header song address = record {
   init = address;

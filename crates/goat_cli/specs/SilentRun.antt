@@ -6,8 +6,10 @@ use Rattle.cpu6502.specs.Code.{IsMachine, Holds}
 use Rattle.sid_run.specs.State.{sid_registers}
 use Rattle.goat_cli.specs.Confined.{IsConfined}
 
--- a call of a player's image, at an entry with a number in the accumulator, returns after exactly this number of steps, has written in its own places only, leaves the image as it was, and leaves these registers
-pub record ReturnsWith (machine : Machine) (entry number steps : ℕ) (image : List ℕ) (address zero_page : ℕ) (registers : List ℕ) : Type 0 where
+-- a call of a player's image, at an entry with a number in the accumulator, returns after exactly this number of
+-- steps, has written in its own places only, leaves the image as it was, and leaves these registers
+pub record ReturnsWith (machine : Machine) (entry number steps : ℕ) (image : List ℕ) (address zero_page : ℕ)
+    (registers : List ℕ) : Type 0 where
   pub after : Machine
   pub called : Called machine entry number steps after
   pub confined : IsConfined machine after (length image) address zero_page

@@ -1,4 +1,6 @@
--- What a run goes through, one stage after the other, and what ends it there. Each stage is a condition of the files as they are before the run; the first one that doesn't pass ends the run, with the stage's status and lines. The order of a job's stages is the order of its refusals.
+-- What a run goes through, one stage after the other, and what ends it there. Each stage is a condition of the files
+-- as they are before the run; the first one that doesn't pass ends the run, with the stage's status and lines. The
+-- order of a job's stages is the order of its refusals.
 use Rattle.std.specs.Prelude.{◌≡◌, ℕ, ◌+◌, ◌-◌, ◌≤◌, List, [], ◌∷◌, ◌++◌, ◌⊎◌, Some, Ok, Err, length}
 use Rattle.goat_io.specs.Files.{Files, file_of, IsAbsent, IsAbove}
 use Rattle.song_model.specs.declared.songs.Song.{Song}
@@ -46,7 +48,8 @@ pub record HoldsPsid (files : Files) (name : List ℕ) (psid : Psid) : Type 0 wh
   pub found : HoldsBytes files name bytes
   pub reads : psid_read bytes ≡ Ok psid
 
--- what a stage asks for, and how it ends a run: the status, the cause, and the lines that are printed. A stage asks nothing of a file that isn't there, since the stage before it has ended the run then.
+-- what a stage asks for, and how it ends a run: the status, the cause, and the lines that are printed. A stage asks
+-- nothing of a file that isn't there, since the stage before it has ended the run then.
 pub record Rule : Type 1 where
   pub asks : Files → Type 0
   pub status : ℕ
@@ -69,13 +72,15 @@ rule_of (Fits name limit) = record {
 rule_of (SpellsSong name) = record {
   asks = λ files. (song : Song) × HoldsSong files name song;
   status = 5;
-  ends = λ files lines. (bytes : List ℕ) × (fault : SongFault) × HoldsBytes files name bytes × (fault_of bytes ≡ Some fault) × (lines ≡ song_fault_line fault ∷ []);
+  ends = λ files lines. (bytes : List ℕ) × (fault : SongFault) × HoldsBytes files name bytes ×
+      (fault_of bytes ≡ Some fault) × (lines ≡ song_fault_line fault ∷ []);
 }
 -- the song can be played
 rule_of (CanBePlayed name) = record {
   asks = λ files. (song : Song) × HoldsSong files name song × IsPlayable song;
   status = 6;
-  ends = λ files lines. (song : Song) × (refusal : Unplayable) × HoldsSong files name song × IsRefusedFor song refusal × (lines ≡ unplayable_line refusal ∷ []);
+  ends = λ files lines. (song : Song) × (refusal : Unplayable) × HoldsSong files name song × IsRefusedFor song refusal ×
+      (lines ≡ unplayable_line refusal ∷ []);
 }
 -- the song is silent
 rule_of (CanBePacked name) = record {
@@ -87,19 +92,23 @@ rule_of (CanBePacked name) = record {
 rule_of (IsPsid name) = record {
   asks = λ files. (psid : Psid) × HoldsPsid files name psid;
   status = 12;
-  ends = λ files lines. (bytes : List ℕ) × (fault : PsidFault) × HoldsBytes files name bytes × (psid_read bytes ≡ Err fault) × (lines ≡ psid_fault_line fault ∷ []);
+  ends = λ files lines. (bytes : List ℕ) × (fault : PsidFault) × HoldsBytes files name bytes ×
+      (psid_read bytes ≡ Err fault) × (lines ≡ psid_fault_line fault ∷ []);
 }
 -- the PSID file has the subtune, counted from 1
 rule_of (OffersSubtune name subtune) = record {
   asks = λ files. (psid : Psid) × HoldsPsid files name psid × HasSubtune psid subtune;
   status = 11;
-  ends = λ files lines. (psid : Psid) × HoldsPsid files name psid × (¬ HasSubtune psid subtune) × (lines ≡ no_subtune_line subtune psid.header.songs ∷ []);
+  ends = λ files lines. (psid : Psid) × HoldsPsid files name psid × (¬ HasSubtune psid subtune) ×
+      (lines ≡ no_subtune_line subtune psid.header.songs ∷ []);
 }
 -- init of the subtune, and then play as often as there are frames, return
 rule_of (CallsReturn name subtune frames) = record {
-  asks = λ files. (psid : Psid) × HoldsPsid files name psid × (registers : List (List ℕ)) × (after : Machine) × FirstCalls (loaded psid) (subtune - 1) (frames + 1) registers after;
+  asks = λ files. (psid : Psid) × HoldsPsid files name psid × (registers : List (List ℕ)) × (after : Machine) ×
+      FirstCalls (loaded psid) (subtune - 1) (frames + 1) registers after;
   status = 13;
-  ends = λ files lines. (psid : Psid) × HoldsPsid files name psid × (stop : StopsIn psid subtune frames) × (lines ≡ register_lines stop.registers ++ stop_line stop.reason stop.call ∷ []);
+  ends = λ files lines. (psid : Psid) × HoldsPsid files name psid × (stop : StopsIn psid subtune frames) ×
+      (lines ≡ register_lines stop.registers ++ stop_line stop.reason stop.call ∷ []);
 }
 
 -- the status with which a stage ends a run
@@ -125,4 +134,5 @@ AllPass files (stage ∷ rest) = Passes files stage × AllPass files rest
 -- the first of the stages that doesn't pass ends the run, with this status and these lines
 abbrev pub FirstEnds : Files → List Stage → ℕ → List (List ℕ) → Type 0
 FirstEnds files [] status lines = ⊥
-FirstEnds files (stage ∷ rest) status lines = ((status ≡ status_of stage) × Ends files stage lines) ⊎ (Passes files stage × FirstEnds files rest status lines)
+FirstEnds files (stage ∷ rest) status lines = ((status ≡ status_of stage) × Ends files stage lines) ⊎
+    (Passes files stage × FirstEnds files rest status lines)

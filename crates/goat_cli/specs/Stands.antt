@@ -1,4 +1,5 @@
--- What stands after a run, however it ends: the answer, what the sink holds, what the folder holds, and which counts rose. The files are those that the folder tells, or, where it tells none, some files as they were read.
+-- What stands after a run, however it ends: the answer, what the sink holds, what the folder holds, and which counts
+-- rose. The files are those that the folder tells, or, where it tells none, some files as they were read.
 use Rattle.std.specs.Prelude.{◌≡◌, ◌≢◌, ℕ, List, [], ◌∷◌, ◌++◌, Option, Some, IfSome, take}
 use Rattle.std.specs.List.{concat}
 use Rattle.goat_io.specs.declared.folder_counts.FolderCounts.{FolderCounts}
@@ -71,11 +72,17 @@ pub record ComesTo (words : List (List ℕ)) (files : Files) (stage : Stage) : T
   pub stages_are : stages job ≡ earlier ++ stage ∷ later
   pub pass : AllPass files earlier
 
--- the status that a run came to, the lines that go with it, and the files: an outcome; or a read, or the write of an outcome that writes, failed
-pub data Account (words : List (List ℕ)) (files : Files) (status : ℕ) (lines : List (List ℕ)) (before after : Option Files) : Type 0 where
-  outcome : (write : Option (List ℕ × List ℕ)) → Outcome words files status lines write → after ≡ told_after before write → Account words files status lines before after
-  read_fault : (name : List ℕ) → ComesTo words files (IsThere name) → status ≡ 4 → lines ≡ read_fault_line name ∷ [] → after ≡ before → Account words files status lines before after
-  write_fault : (text : List (List ℕ)) (output file : List ℕ) → Outcome words files 0 text (Some (output, file)) → status ≡ 9 → lines ≡ write_fault_line output ∷ [] → IsWrittenInPart before after output file → Account words files status lines before after
+-- the status that a run came to, the lines that go with it, and the files: an outcome; or a read, or the write of an
+-- outcome that writes, failed
+pub data Account (words : List (List ℕ)) (files : Files) (status : ℕ) (lines : List (List ℕ))
+    (before after : Option Files) : Type 0 where
+  outcome : (write : Option (List ℕ × List ℕ)) → Outcome words files status lines write →
+      after ≡ told_after before write → Account words files status lines before after
+  read_fault : (name : List ℕ) → ComesTo words files (IsThere name) → status ≡ 4 → lines ≡ read_fault_line name ∷ [] →
+      after ≡ before → Account words files status lines before after
+  write_fault : (text : List (List ℕ)) (output file : List ℕ) → Outcome words files 0 text (Some (output, file)) →
+      status ≡ 9 → lines ≡ write_fault_line output ∷ [] → IsWrittenInPart before after output file →
+      Account words files status lines before after
 
 -- a run has come to a stage that prints these lines before it is known whether it ends the run
 pub record IsPrinting (words : List (List ℕ)) (files : Files) (lines : List (List ℕ)) : Type 0 where
@@ -84,27 +91,42 @@ pub record IsPrinting (words : List (List ℕ)) (files : Files) (lines : List (L
   pub prints : Prints files stage lines
 
 -- the lines that a run was printing: those of what it came to, or those of a stage
-pub data Printing (words : List (List ℕ)) (files : Files) (lines : List (List ℕ)) (before after : FolderState) : Type 0 where
-  of_account : (status : ℕ) → Account words files status lines before.told after.told → Counted status before.counts after.counts → Printing words files lines before after
+pub data Printing (words : List (List ℕ)) (files : Files) (lines : List (List ℕ))
+    (before after : FolderState) : Type 0 where
+  of_account : (status : ℕ) → Account words files status lines before.told after.told →
+      Counted status before.counts after.counts → Printing words files lines before after
   of_stage : IsPrinting words files lines → FolderStays before after → Printing words files lines before after
 
 -- ---- what stands
 
--- after these bytes it was told that memory is wanting, with status 14; or that put failed too; or it wanted memory, and nothing more is told
+-- after these bytes it was told that memory is wanting, with status 14; or that put failed too; or it wanted memory,
+-- and nothing more is told
 pub data TellsWant (bytes : List ℕ) (answer : ℕ) (before after : SinkState) : Type 0 where
   told : answer ≡ 14 → Appends (bytes ++ no_memory_line) before after → TellsWant bytes answer before after
-  failed : (kept : ℕ) → answer ≡ 10 → FailsAfter (bytes ++ take kept no_memory_line) before after → TellsWant bytes answer before after
+  failed : (kept : ℕ) → answer ≡ 10 → FailsAfter (bytes ++ take kept no_memory_line) before after →
+      TellsWant bytes answer before after
   untold : answer ≡ 14 → Appends bytes before after → TellsWant bytes answer before after
 
--- all lines were appended; or the put of a line failed, and nothing more was put; or memory was wanting for a line, or before the first one
-pub data Stands (words : List (List ℕ)) (files : Files) (answer : ℕ) (folder folder_after : FolderState) (sink sink_after : SinkState) : Type 0 where
-  whole : (lines : List (List ℕ)) → Account words files answer lines folder.told folder_after.told → Counted answer folder.counts folder_after.counts → Appends (concat lines) sink sink_after → Stands words files answer folder folder_after sink sink_after
-  cut_in_line : (earlier later : List (List ℕ)) (line : List ℕ) (kept : ℕ) → Printing words files (earlier ++ line ∷ later) folder folder_after → answer ≡ 10 → FailsAfter (concat earlier ++ take kept line) sink sink_after → Stands words files answer folder folder_after sink sink_after
-  wanting : (earlier later : List (List ℕ)) (line : List ℕ) → Printing words files (earlier ++ line ∷ later) folder folder_after → TellsWant (concat earlier) answer sink sink_after → Stands words files answer folder folder_after sink sink_after
-  wanting_first : FolderStays folder folder_after → TellsWant [] answer sink sink_after → Stands words files answer folder folder_after sink sink_after
+-- all lines were appended; or the put of a line failed, and nothing more was put; or memory was wanting for a line, or
+-- before the first one
+pub data Stands (words : List (List ℕ)) (files : Files) (answer : ℕ) (folder folder_after : FolderState)
+    (sink sink_after : SinkState) : Type 0 where
+  whole : (lines : List (List ℕ)) → Account words files answer lines folder.told folder_after.told →
+      Counted answer folder.counts folder_after.counts → Appends (concat lines) sink sink_after →
+      Stands words files answer folder folder_after sink sink_after
+  cut_in_line : (earlier later : List (List ℕ)) (line : List ℕ) (kept : ℕ) →
+      Printing words files (earlier ++ line ∷ later) folder folder_after → answer ≡ 10 →
+      FailsAfter (concat earlier ++ take kept line) sink sink_after →
+      Stands words files answer folder folder_after sink sink_after
+  wanting : (earlier later : List (List ℕ)) (line : List ℕ) →
+      Printing words files (earlier ++ line ∷ later) folder folder_after →
+      TellsWant (concat earlier) answer sink sink_after → Stands words files answer folder folder_after sink sink_after
+  wanting_first : FolderStays folder folder_after → TellsWant [] answer sink sink_after →
+      Stands words files answer folder folder_after sink sink_after
 
 -- the same, where some of the folder's files stand for it
-pub record RunStands (words : List (List ℕ)) (answer : ℕ) (folder folder_after : FolderState) (sink sink_after : SinkState) : Type 0 where
+pub record RunStands (words : List (List ℕ)) (answer : ℕ) (folder folder_after : FolderState)
+    (sink sink_after : SinkState) : Type 0 where
   pub files : Files
   pub are_files : AreFiles folder.told files
   pub stands : Stands words files answer folder folder_after sink sink_after

@@ -35,7 +35,8 @@ frame_limit = 100000
 abbrev pub subtune_limit : ℕ
 subtune_limit = 255
 
--- what the program is asked to do: pack the song in one file into another, a PSID file or a raw one; copy it into another file; tell what a song uses; or run a PSID file: a subtune, counted from 1, and a number of frames
+-- what the program is asked to do: pack the song in one file into another, a PSID file or a raw one; copy it into
+-- another file; tell what a song uses; or run a PSID file: a subtune, counted from 1, and a number of frames
 pub data Job : Type 0 where
   Pack : (input output : List ℕ) (psid : Bool) (address zero_page : ℕ) → Job
   Copy : (input output : List ℕ) → Job
@@ -48,7 +49,8 @@ format_word true = codes "psid"
 format_word false = codes "raw"
 
 -- the arguments are `IN OUT psid ADDRESS ZP`, or `raw` in place of `psid`
-pub record ArePackArguments (arguments : List (List ℕ)) (input output : List ℕ) (psid : Bool) (address zero_page : ℕ) : Type 0 where
+pub record ArePackArguments (arguments : List (List ℕ)) (input output : List ℕ) (psid : Bool)
+    (address zero_page : ℕ) : Type 0 where
   pub address_word : List ℕ
   pub zero_page_word : List ℕ
   pub form : arguments ≡ input ∷ output ∷ format_word psid ∷ address_word ∷ zero_page_word ∷ []
