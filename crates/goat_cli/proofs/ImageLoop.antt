@@ -1,4 +1,4 @@
--- The loop that writes A to the SID's registers from X down to 0: its steps, and the memory behind it.
+-- The loop that writes A to the SID's registers from X down to 0: its steps, and the memory after it.
 use Rattle.std.proofs.Common.{◌≡◌, ℕ, zero, suc, ◌+◌, ◌%◌, ◌<◌, ◌≤◌, true, false, List, refl, arith}
 use Rattle.std.proofs.lemmas.Bool.{lt-leb}
 use Rattle.cpu6502.specs.declared.cpu.Cpu.{Cpu}
@@ -41,7 +41,7 @@ abbrev pub turns : ℕ → ℕ
 turns zero = 3
 turns (suc x) = suc (suc (suc (turns x)))
 
--- registers at a place with a number in X, and behind the loop
+-- registers at a place with a number in X, and after the loop
 abbrev pub counting : Cpu → ℕ → ℕ → Cpu
 counting cpu pc x = record cpu { x = x; pc = pc }
 

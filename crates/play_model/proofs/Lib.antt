@@ -5,9 +5,9 @@ pub mod Choices
 -- Silent songs: no row of a table is reached, and no rule fails.
 pub mod SilentSongs
 -- Silent songs: a voice with nothing to play stays so.
-pub mod QuietVoice
-pub mod QuietOrder
-pub mod QuietTrace
+pub mod IdleVoice
+pub mod IdleOrder
+pub mod IdleTrace
 -- Where a rule fails, some refusal is the first.
 pub mod FirstRefusals
 -- Ranges: each rule, each step, each voice and each frame keeps them.

@@ -20,8 +20,8 @@ use Rattle.play_model.specs.Reached.{IsPlayedPointer, of_instrument, of_row, IsR
 use Rattle.play_model.specs.Playable.{HasOrder, MissesPattern, PointsAtJump}
 use Rattle.play_model.specs.SilentTrace.{SilentSongsCanBePlayed}
 use Rattle.play_model.proofs.Choices.{by_channel}
-use Rattle.play_model.proofs.QuietVoice.{no_instrument}
-use Rattle.play_model.proofs.QuietOrder.{silent_pattern}
+use Rattle.play_model.proofs.IdleVoice.{no_instrument}
+use Rattle.play_model.proofs.IdleOrder.{silent_pattern}
 
 -- ---- the orderlists
 

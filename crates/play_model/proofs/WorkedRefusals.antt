@@ -32,7 +32,7 @@ refusals_are_as_worked_lem = record {
   bad_restart = refused bad_restart (1 ∷ 2 ∷ []) (1 ∷ 2 ∷ []) (BadRestart 1 2) refl;
   idle_restart = refused idle_restart (1 ∷ 2 ∷ []) (1 ∷ 2 ∷ []) (BadRestart 1 1) refl;
   no_jump = refused (with_wave (sides 0x41 0 ∷ []) one_note) (1 ∷ 2 ∷ []) (1 ∷ 2 ∷ []) (TableOverflow Wave 2) refl;
-  jump_behind =
+  jump_past =
       refused (with_wave (sides 0x41 0 ∷ sides 0xFF 9 ∷ []) one_note) (1 ∷ 2 ∷ 9 ∷ [])
       (1 ∷ 2 ∷ []) (TableOverflow Wave 9) refl;
   row_256 =

@@ -45,8 +45,10 @@ led_to name rows p =
 
 -- what a used instrument, or a command of a row of a used pattern, points at; 0 points at nothing
 pub data IsPlayedPointer (song : Song) (name : TableName) (p : ℕ) : Type 0 where
-  of_instrument : (i : ℕ) → IsUsedInstrument song i → instrument_pointer name (instrument_at song i) ≡ p → p ≢ 0 → IsPlayedPointer song name p
-  of_row : (row : Row) → IsUsedRow song row → command_table row.command ≡ Some name → row.param ≡ p → p ≢ 0 → IsPlayedPointer song name p
+  of_instrument : (i : ℕ) → IsUsedInstrument song i → instrument_pointer name (instrument_at song i) ≡ p → p ≢ 0 →
+      IsPlayedPointer song name p
+  of_row : (row : Row) → IsUsedRow song row → command_table row.command ≡ Some name → row.param ≡ p → p ≢ 0 →
+      IsPlayedPointer song name p
 
 -- what row r of the wave table points at
 pub record IsWaveRowPointer (song : Song) (r : ℕ) (name : TableName) (p : ℕ) : Type 0 where
@@ -60,8 +62,10 @@ pub record IsWaveRowPointer (song : Song) (r : ℕ) (name : TableName) (p : ℕ)
 -- reached row leads to
 pub data IsReached (song : Song) : TableName → ℕ → Type 0 where
   played : {name : TableName} {p : ℕ} → IsPlayedPointer song name p → IsReached song name p
-  pointed : {name : TableName} {p : ℕ} (r : ℕ) → IsReached song Wave r → IsWaveRowPointer song r name p → IsReached song name p
-  led : {name : TableName} {q : ℕ} (p : ℕ) → IsReached song name p → led_to name (table_of song name) p ≡ Some q → IsReached song name q
+  pointed : {name : TableName} {p : ℕ} (r : ℕ) → IsReached song Wave r → IsWaveRowPointer song r name p →
+      IsReached song name p
+  led : {name : TableName} {q : ℕ} (p : ℕ) → IsReached song name p → led_to name (table_of song name) p ≡ Some q →
+      IsReached song name q
 
 -- a used pointer into a table
 pub data IsPointer (song : Song) (name : TableName) (p : ℕ) : Type 0 where

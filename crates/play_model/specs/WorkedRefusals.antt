@@ -17,7 +17,7 @@ void_song = with_subtunes
 abbrev pub missing_pattern : Song
 missing_pattern = with_subtunes (subtune (0 ∷ []) (5 ∷ []) (0 ∷ []) ∷ []) silence
 
--- behind a subtune that can't be played patterns are missing at two places, and a restart is bad
+-- after a subtune that can't be played patterns are missing at two places, and a restart is bad
 abbrev pub missing_patterns : Song
 missing_patterns = with_subtunes (subtune (9 ∷ []) [] [] ∷ (record {
   one = order (0 ∷ 0xE0 ∷ 8 ∷ []);
@@ -25,7 +25,7 @@ missing_patterns = with_subtunes (subtune (9 ∷ []) [] [] ∷ (record {
   three = record { entries = 1 ∷ []; restart = 1 };
 }) ∷ []) one_note
 
--- the restart position is behind the entries
+-- the restart position is past the entries
 abbrev pub bad_restart : Song
 bad_restart = with_subtunes (record {
   one = order (0 ∷ []);
@@ -52,7 +52,7 @@ pub record RefusalsAreAsWorked : Type 0 where
   pub bad_restart : IsRefusedFor bad_restart (BadRestart 1 2)
   pub idle_restart : IsRefusedFor idle_restart (BadRestart 1 1)
   pub no_jump : IsRefusedFor (with_wave (sides 0x41 0 ∷ []) one_note) (TableOverflow Wave 2)
-  pub jump_behind : IsRefusedFor (with_wave (sides 0x41 0 ∷ sides 0xFF 9 ∷ []) one_note)
+  pub jump_past : IsRefusedFor (with_wave (sides 0x41 0 ∷ sides 0xFF 9 ∷ []) one_note)
       (TableOverflow Wave 9)
   pub row_256 : IsRefusedFor (with_wave (replicate 255 (sides 0x41 0)) one_note)
       (TableOverflow Wave 256)

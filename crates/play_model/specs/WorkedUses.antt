@@ -36,9 +36,9 @@ unnamed_program = record one_note {
   wave = sides 0x41 0 ∷ [];
 }
 
--- a pulse program that stops, with a row behind it, and one that stops at the end of the table
+-- a pulse program that stops, with a row after it, and one that stops at the end of the table
 abbrev pub stopped_pulse : List TableRow → Song
-stopped_pulse behind = with_pulse (sides 0x88 0 ∷ sides 0 0 ∷ behind) one_note
+stopped_pulse later = with_pulse (sides 0x88 0 ∷ sides 0 0 ∷ later) one_note
 
 -- a row of the wave table that alone points at a pulse program, and one at a filter program
 abbrev pub pointing_wave : Song
@@ -145,7 +145,7 @@ pub record SongsUse : Type 0 where
     features = 0x40A083;
   })
 
--- what isn't used, though it is stored: programs that nothing names, rows behind the end of a
+-- what isn't used, though it is stored: programs that nothing names, rows after the end of a
 -- program, restart positions, subtunes with an empty orderlist
 pub record UnusedStays : Type 0 where
   pub unnamed_program : UsesExactly unnamed_program
@@ -153,7 +153,7 @@ pub record UnusedStays : Type 0 where
   pub unstored_instrument : UsesExactly unstored_instrument
       (record parts_of_one_note { instruments = 1 ∷ 3 ∷ [] })
   pub unnamed_vibrato : UsesExactly unnamed_vibrato parts_of_one_note
-  pub behind_the_end : UsesExactly (stopped_pulse (sides 0x20 0x20 ∷ [])) parts_of_one_note
+  pub after_the_end : UsesExactly (stopped_pulse (sides 0x20 0x20 ∷ [])) parts_of_one_note
   pub at_the_end : UsesExactly (stopped_pulse []) parts_of_one_note
   pub restart : UsesExactly restart_at_one (record parts_of_one_note { patterns = 0 ∷ [] })
   pub late_restart : UsesExactly late_restart parts_of_one_note

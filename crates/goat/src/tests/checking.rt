@@ -1,6 +1,6 @@
 //! What a song uses, and songs that can't be played.
 
-use super::parts::{NOTE, Parts, QUIET};
+use super::parts::{NOTE, Parts, SILENT};
 use super::{PACK, USAGE, assert_refused, one_note, run, run_failing, silence, song_with};
 use std::alloc::Global;
 use std::process::Abort;
@@ -26,7 +26,7 @@ fn assert_unplayable(rt: &impl Abort, alloc: Global, file: &[u8], text: &str) ->
 #[test]
 fn parts_spell_the_two_songs(rt: HostRuntime) -> Result<(), Fail> {
     let alloc = rt.alloc();
-    assert_eq!(rt; QUIET.file(alloc)?, silence(alloc)?);
+    assert_eq!(rt; SILENT.file(alloc)?, silence(alloc)?);
     assert_eq!(rt; NOTE.file(alloc)?, one_note(alloc)?);
     Ok(())
 }
@@ -47,7 +47,7 @@ fn small_songs_are_told(rt: HostRuntime) -> Result<(), Fail> {
     };
     for (song, text) in [
         (
-            QUIET,
+            SILENT,
             "subtunes 1 patterns 1 instruments 1 wave 0 pulse 0 filter 0 speed 0 features 000000",
         ),
         (
@@ -293,7 +293,7 @@ fn orderlists_must_go_on(rt: HostRuntime) -> Result<(), Fail> {
         "01 0400D300FF01 0200FF00 0200FF00",
         "01 04E1D300FF00 0200FF00 0200FF00",
     ] {
-        let song = Parts { orders, ..QUIET };
+        let song = Parts { orders, ..SILENT };
         assert_eq!(rt;
             run(alloc, &CHECK, &song.file(alloc)?)?.status,
             0,
@@ -307,7 +307,7 @@ fn orderlists_must_go_on(rt: HostRuntime) -> Result<(), Fail> {
         "01 0200FF00 04000000FF03 0200FF00",
         "01 0200FF00 04000000FFFF 0200FF00",
     ] {
-        let song = Parts { orders, ..QUIET };
+        let song = Parts { orders, ..SILENT };
         assert_unplayable(
             &rt,
             alloc,
@@ -365,7 +365,7 @@ fn missing_patterns_are_told_with_their_place(rt: HostRuntime) -> Result<(), Fai
             "missing pattern 1 in subtune 2 channel 1 place 0",
         ),
     ] {
-        let song = Parts { orders, ..QUIET };
+        let song = Parts { orders, ..SILENT };
         assert_unplayable(&rt, alloc, &song.file(alloc)?, text)?;
     }
     Ok(())

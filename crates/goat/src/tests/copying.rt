@@ -29,8 +29,8 @@ fn assert_copied(
 #[test]
 fn a_canonical_spelling_stays(rt: HostRuntime) -> Result<(), Fail> {
     let alloc = rt.alloc();
-    let quiet = silence(alloc)?;
-    assert_copied(&rt, alloc, &quiet, &quiet, "wrote 128 bytes\n")?;
+    let silent = silence(alloc)?;
+    assert_copied(&rt, alloc, &silent, &silent, "wrote 128 bytes\n")?;
     let sounding = one_note(alloc)?;
     assert_copied(&rt, alloc, &sounding, &sounding, "wrote 174 bytes\n")
 }

@@ -23,7 +23,7 @@ pub struct Parts {
 }
 
 /// One subtune of silence.
-pub const QUIET: Parts = Parts {
+pub const SILENT: Parts = Parts {
     orders: "01 0200FF00 0200FF00 0200FF00",
     instruments: "",
     wave: "",
