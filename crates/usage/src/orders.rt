@@ -38,8 +38,10 @@ fn first_missing(entries: &[u8], patterns: usize) -> Option<u8>
 /// The first pattern that it names and that isn't stored.
 fn check_names(song: &Song, subtune: u8, channel: u8, order: &Order) -> Result<(), Unplayable>
     requires { HasOrder song.now subtune channel order.now }
-    ensures found { IfErr result (IsFirst (FailsAt OrderRule.NamesStored song.now subtune channel)) }
-    ensures none { OnOk result (IsNowhere (FailsAt OrderRule.NamesStored song.now subtune channel)) }
+    ensures found { IfErr result
+        (IsFirst (FailsAt OrderRule.NamesStored song.now subtune channel)) }
+    ensures none { OnOk result
+        (IsNowhere (FailsAt OrderRule.NamesStored song.now subtune channel)) }
 {
     let entries = order.entries.as_slice();
     match first_missing(entries, song.patterns.as_slice().len()) {

@@ -36,7 +36,8 @@ fn mark_row(row: Row, marks: &mut RowMarks)
 fn mark_pattern(rows: &[Row], marks: &mut RowMarks)
     requires rows { All IsRow rows.now }
     requires whole { AreWhole marks.old.commands }
-    ensures instruments { Adds (SomeOf NamesInstrument rows.now) marks.old.instruments marks.new.instruments }
+    ensures instruments { Adds (SomeOf NamesInstrument rows.now)
+        marks.old.instruments marks.new.instruments }
     ensures commands { AddsAt (SomeAt HasCommand rows.now) marks.old.commands marks.new.commands }
 {
     for row in rows {
@@ -56,7 +57,8 @@ fn mark_if_used(
     requires pattern { slice_get song.now.patterns number ≡ Some pattern.now }
     requires few { length song.now.patterns ≤ 208 }
     requires whole { AreWhole marks.old.commands }
-    ensures instruments { Adds (PatternNames song.now number) marks.old.instruments marks.new.instruments }
+    ensures instruments { Adds (PatternNames song.now number)
+        marks.old.instruments marks.new.instruments }
     ensures commands { AddsAt (PatternHas song.now number) marks.old.commands marks.new.commands }
 {
     // Named in the contract alone.
@@ -70,7 +72,8 @@ fn mark_if_used(
 fn mark_patterns(song: &Song, bytes: &ByteMarks, marks: &mut RowMarks)
     requires bytes { AreMarks (IsPlayedByte song.now) bytes.now }
     requires whole { AreWhole marks.old.commands }
-    ensures instruments { Adds (IsNamedInstrument song.now) marks.old.instruments marks.new.instruments }
+    ensures instruments { Adds (IsNamedInstrument song.now)
+        marks.old.instruments marks.new.instruments }
     ensures commands { AddsAt (IsUsedCommand song.now) marks.old.commands marks.new.commands }
 {
     let patterns = song.patterns.as_slice();

@@ -57,7 +57,8 @@ pub(crate) fn has_vibrato(song: &Song, used: &[bool; 64]) -> bool
 /// Whether a used instrument has a vibrato delay.
 pub(crate) fn has_delay(song: &Song, used: &[bool; 64]) -> bool
     requires { AreMarks (IsUsedInstrument song.now) used.now }
-    ensures { IsTrue result ↔ HasInstrument song.now (λ i. (instrument_at song.now i).vibrato_delay) }
+    ensures { IsTrue result ↔
+        HasInstrument song.now (λ i. (instrument_at song.now i).vibrato_delay) }
 {
     for instrument in 0..64u8 {
         if used[usize::from(instrument)] && song.instrument(instrument).vibrato_delay != 0 {
