@@ -129,9 +129,6 @@ has_it numbers n h =
     let p = passes_some (λ m. m == n) numbers h in
     subst (λ (m : ℕ). Contains numbers m) (equal_numbers p.item n p.pass) p.has
 
-pub it_has : (numbers : List ℕ) (n : ℕ) → Contains numbers n → has numbers n ≡ true
-it_has numbers n c = some_passes (λ m. m == n) numbers n c (numbers_equal n n refl)
-
 -- two lists have the same numbers
 abbrev pub has_same : List ℕ → List ℕ → Bool
 has_same xs ys = list_all (λ n. has ys n) xs && list_all (λ n. has xs n) ys

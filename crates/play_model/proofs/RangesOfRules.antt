@@ -23,9 +23,6 @@ wraps n = omega arith
 word_wraps : (n : ℕ) → IsWord (n % 65536)
 word_wraps n = omega arith
 
-pulse_wraps : (n : ℕ) → n % 4096 < 4096
-pulse_wraps n = omega arith
-
 pub smaller : (a b : ℕ) → IsByte a → IsByte (a - b)
 smaller a b h = omega arith
 

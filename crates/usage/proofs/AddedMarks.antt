@@ -4,8 +4,8 @@ use Rattle.std.proofs.lemmas.Bool.{cases_lt}
 use Rattle.std.proofs.lemmas.List.{take_all, get_or-replicate, get_or_past, length-replicate}
 use Rattle.base.proofs.Laws.{get_or-replicate_any}
 use Rattle.usage.specs.Marks.{IsMarked, AreMarks}
-use Rattle.usage.specs.Building.{Adds, SomeOf, SomeBelow, SomeBelowAt, marks_of, AreWhole, AreMarksAt, AddsAt, SomeAt}
-use Rattle.base.proofs.Laws.{any_of_more, any_more, none_of_nil}
+use Rattle.usage.specs.Building.{Adds, SomeOf, SomeBelow, SomeBelowAt, marks_of, AreMarksAt, AddsAt, SomeAt}
+use Rattle.base.proofs.Laws.{any_of_more, any_more}
 
 -- a mark stands before the last one
 pub marked_inside : (marks : List Bool) (n i : ℕ) → length marks ≤ n → IsMarked marks i → i < n
@@ -62,10 +62,6 @@ adds_both {P} {Q} {old} {mid} {new} a b = record {
 
 -- ---- in a loop over a list
 
-pub adds_first : {X : Type 0} (Q : X → ℕ → Type 0) (xs : List X) (marks : List Bool) →
-    Adds (SomeOf Q (take 0 xs)) marks marks
-adds_first Q xs marks = adds_none (SomeOf Q (take 0 xs)) marks (λ n any. none_of_nil (λ x. Q x n) any)
-
 pub adds_more : {X : Type 0} (Q : X → ℕ → Type 0) (xs : List X) (i : ℕ) (d : X) {old mid new : List Bool} →
     i < length xs →
     Adds (SomeOf Q (take i xs)) old mid → Adds (Q (get_or xs i d)) mid new → Adds (SomeOf Q (take (i + 1) xs)) old new
@@ -79,11 +75,6 @@ pub adds_item : {X : Type 0} (Q : X → ℕ → Type 0) (xs : List X) (i : ℕ) 
     Adds (SomeOf Q (take i xs)) old mid → Adds (Q x) mid new → Adds (SomeOf Q (take (i + 1) xs)) old new
 adds_item {X} Q xs i x {old} {mid} {new} inside is a b =
     adds_more Q xs i x inside a (subst (λ (y : X). Adds (Q y) mid new) is b)
-
-pub adds_all : {X : Type 0} (Q : X → ℕ → Type 0) (xs : List X) {old new : List Bool} →
-    Adds (SomeOf Q (take (length xs) xs)) old new → Adds (SomeOf Q xs) old new
-adds_all {X} Q xs {old} {new} a = subst (λ (ys : List X). Adds (SomeOf Q ys) old new)
-    (take_all (length xs) xs (omega arith)) a
 
 -- ---- in a loop over numbers
 
@@ -130,15 +121,6 @@ marks_of_all {X} Q xs P i count {new} end to from a =
 
 -- ---- commands with their parameters
 
-pub adds_at_first : {X : Type 0} (Q : X → ℕ → ℕ → Type 0) (xs : List X) (commands : List (List Bool)) →
-    AreWhole commands →
-    AddsAt (SomeAt Q (take 0 xs)) commands commands
-adds_at_first Q xs commands whole = record {
-  whole = whole;
-  each = λ c.
-      adds_first (λ x. Q x c) xs (marks_of commands c);
-}
-
 pub adds_at_more : {X : Type 0} (Q : X → ℕ → ℕ → Type 0) (xs : List X) (i : ℕ) (d : X) {old mid new : List (List Bool)}
     → i < length xs →
     AddsAt (SomeAt Q (take i xs)) old mid → AddsAt (Q (get_or xs i d)) mid new →
@@ -149,27 +131,10 @@ adds_at_more Q xs i d inside a b = record {
       adds_more (λ y. Q y c) xs i d inside (a.each c) (b.each c);
 }
 
-pub adds_at_item : {X : Type 0} (Q : X → ℕ → ℕ → Type 0) (xs : List X) (i : ℕ) (x : X) {old mid new : List (List Bool)}
-    → i < length xs → x ≡ get_or xs i x →
-    AddsAt (SomeAt Q (take i xs)) old mid → AddsAt (Q x) mid new → AddsAt (SomeAt Q (take (i + 1) xs)) old new
-adds_at_item Q xs i x inside is a b = record {
-  whole = b.whole;
-  each = λ c.
-      adds_item (λ y. Q y c) xs i x inside is (a.each c) (b.each c);
-}
-
-pub adds_at_all : {X : Type 0} (Q : X → ℕ → ℕ → Type 0) (xs : List X) {old new : List (List Bool)} →
-    AddsAt (SomeAt Q (take (length xs) xs)) old new → AddsAt (SomeAt Q xs) old new
-adds_at_all Q xs a = record { whole = a.whole; each = λ c. adds_all (λ x. Q x c) xs (a.each c) }
-
 pub adds_at_same : {P : ℕ → ℕ → Type 0} {old new : List (List Bool)} (Q : ℕ → ℕ → Type 0) →
     ((c d : ℕ) → P c d → Q c d) → ((c d : ℕ) → Q c d → P c d) →
     AddsAt P old new → AddsAt Q old new
 adds_at_same Q to from a = record { whole = a.whole; each = λ c. adds_same (Q c) (to c) (from c) (a.each c) }
-
-pub below_at_first : (Q : ℕ → ℕ → ℕ → Type 0) (commands : List (List Bool)) → AreWhole commands →
-    AddsAt (SomeBelowAt Q 0) commands commands
-below_at_first Q commands whole = record { whole = whole; each = λ c. below_first (λ k. Q k c) (marks_of commands c) }
 
 pub below_at_more : (Q : ℕ → ℕ → ℕ → Type 0) (i : ℕ) {old mid new : List (List Bool)} →
     AddsAt (SomeBelowAt Q i) old mid → AddsAt (Q i) mid new →

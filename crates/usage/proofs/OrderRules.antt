@@ -1,15 +1,12 @@
 -- The rules on orderlists: the first place that breaks one, orderlist after orderlist and subtune after subtune.
-use Rattle.std.proofs.Common.{◌≡◌, ℕ, ◌+◌, ◌-◌, ◌<◌, ◌≤◌, true, false, List, [], ◌∷◌, length, get_or, All, Some, slice_get, refl, sym, ◌∙◌, ap, subst, inl, inr, arith}
+use Rattle.std.proofs.Common.{◌≡◌, ℕ, ◌+◌, ◌<◌, ◌≤◌, List, [], ◌∷◌, length, get_or, All, Some, slice_get, refl, sym, ◌∙◌, ap, subst, inl, inr, arith}
 use Rattle.std.proofs.lemmas.Bool.{cases_lt}
 use Rattle.std.proofs.lemmas.Option.{slice_get_within, slice_get-get_or, get_or_from_slice_get}
 use Rattle.std.proofs.lemmas.List.{get_or_default}
 use Rattle.base.specs.FirstBad.{IsFirstBad}
-use Rattle.base.proofs.Laws.{same_some}
 use Rattle.song_model.specs.declared.rows.Row.{Row}
 use Rattle.song_model.specs.declared.orders.Order.{Order}
-use Rattle.song_model.specs.declared.orders.Subtune.{Subtune}
 use Rattle.song_model.specs.declared.songs.Song.{Song}
-use Rattle.song_model.specs.LookUp.{is_playable_subtune}
 use Rattle.play_model.specs.declared.unplayable.Unplayable.{Unplayable}
 use Rattle.play_model.specs.declared.unplayable.Unplayable.TheVariants.{NoSubtune, MissingPattern, BadRestart, TableOverflow, PointerToJump}
 use Rattle.play_model.specs.Playable.{rank_of, HasOrder, IsNotAfter, IsFirst}
@@ -132,54 +129,12 @@ at NeverEnds song s c (MissingPattern t d place pattern) h = absurd h
 at NeverEnds song s c (TableOverflow t r) h = absurd h
 at NeverEnds song s c (PointerToJump t r) h = absurd h
 
-later_channel : (rule : OrderRule) (song : Song) (s c d : ℕ) (refusal other : Unplayable) → c < d →
-    FailsAt rule song s c refusal → FailsAt rule song s d other → IsNotAfter refusal other
-later_channel rule song s c d refusal other lt a b =
-    let x = at rule song s c refusal a in
-    let y = at rule song s d other b in
-    ordered refusal other _ _ x.rank_is y.rank_is (same refl (same refl (lower lt)))
-
 later_subtune : (rule : OrderRule) (song : Song) (s t c d : ℕ) (refusal other : Unplayable) → s < t →
     FailsAt rule song s c refusal → FailsAt rule song t d other → IsNotAfter refusal other
 later_subtune rule song s t c d refusal other lt a b =
     let x = at rule song s c refusal a in
     let y = at rule song t d other b in
     ordered refusal other _ _ x.rank_is y.rank_is (same refl (lower lt))
-
--- the first in a channel, where there is none in the channels before it, is the first in the subtune
-pub first_in_subtune : (rule : OrderRule) (song : Song) (s c : ℕ) (refusal : Unplayable) →
-    ((d : ℕ) → 1 ≤ d → d < c → IsNowhere (FailsAt rule song s d)) → IsFirst (FailsAt rule song s c) refusal →
-    IsFirst (FailsIn rule song s) refusal
-first_in_subtune rule song s c refusal none first =
-    first_of (FailsIn rule song s) refusal first (record { channel = c; fails = first.is_such }) (λ other f.
-    let x = at rule song s f.channel other f.fails in
-    elim (cases_lt f.channel c) [
-      | inl before ↦ absurd (none f.channel x.has.is_channel.first before other f.fails)
-      | inr on ↦ elim (cases_lt c f.channel) [
-        | inl later ↦ inr (later_channel rule song s c f.channel refusal other later first.is_such f.fails)
-        | inr here ↦ inl (let e : f.channel ≡ c = omega arith in
-            subst (λ (d : ℕ). FailsAt rule song s d other) e f.fails)
-      ]
-    ])
-
-pub none_in_subtune : (rule : OrderRule) (song : Song) (s : ℕ) →
-    ((d : ℕ) → 1 ≤ d → d < 4 → IsNowhere (FailsAt rule song s d)) → IsNowhere (FailsIn rule song s)
-none_in_subtune rule song s none refusal f =
-    let x = at rule song s f.channel refusal f.fails in
-    let most = x.has.is_channel.last in
-    none f.channel x.has.is_channel.first (omega arith) refusal f.fails
-
--- the channels before the second, third and fourth
-pub before_one : (rule : OrderRule) (song : Song) (s d : ℕ) → 1 ≤ d → d < 1 → IsNowhere (FailsAt rule song s d)
-before_one rule song s d low high = absurd (omega arith)
-
-pub before_more : (rule : OrderRule) (song : Song) (s c : ℕ) →
-    ((d : ℕ) → 1 ≤ d → d < c → IsNowhere (FailsAt rule song s d)) →
-    IsNowhere (FailsAt rule song s c) → (d : ℕ) → 1 ≤ d → d < c + 1 → IsNowhere (FailsAt rule song s d)
-before_more rule song s c none here d low high = elim (cases_lt d c) [
-  | inl before ↦ none d low before
-  | inr on ↦ (let e : c ≡ d = omega arith in subst (λ (x : ℕ). IsNowhere (FailsAt rule song s x)) e here)
-]
 
 -- ---- subtune after subtune
 
@@ -199,13 +154,6 @@ first_in_song rule song i refusal none first =
       ]
     ])
 
-pub none_up_to_zero : (rule : OrderRule) (song : Song) → IsNowhere (FailsUpTo rule song 0)
-none_up_to_zero rule song refusal f =
-    let x = at rule song f.subtune f.fails.channel refusal f.fails.fails in
-    let low = x.has.stored.first in
-    let high = f.up_to in
-    omega arith
-
 pub none_up_to_more : (rule : OrderRule) (song : Song) (i : ℕ) → IsNowhere (FailsUpTo rule song i) →
     IsNowhere (FailsIn rule song (i + 1)) →
     IsNowhere (FailsUpTo rule song (i + 1))
@@ -216,17 +164,6 @@ none_up_to_more rule song i none here refusal f = elim (cases_lt i f.subtune) [
       let e : f.subtune ≡ i + 1 = omega arith in
       here refusal (subst (λ (t : ℕ). FailsIn rule song t refusal) e f.fails))
 ]
-
--- a subtune that can't be played breaks no rule
-pub none_in_void : (rule : OrderRule) (song : Song) (s : ℕ) (subtune : Subtune) →
-    slice_get song.subtunes (s - 1) ≡ Some subtune →
-    is_playable_subtune subtune ≡ false → IsNowhere (FailsIn rule song s)
-none_in_void rule song s subtune is void refusal f =
-    let x = at rule song s f.channel refusal f.fails in
-    let e : x.has.subtune ≡ subtune = same_some x.has.subtune subtune (sym x.has.subtune_is ∙ is) in
-    let plays : is_playable_subtune subtune ≡ true =
-    subst (λ (t : Subtune). is_playable_subtune t ≡ true) e x.has.playable in
-    absurd (cc)
 
 pub none_in_song : (rule : OrderRule) (song : Song) (i : ℕ) → length song.subtunes ≤ i →
     IsNowhere (FailsUpTo rule song i) → IsNowhere (FailsBy rule song)

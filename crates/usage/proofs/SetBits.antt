@@ -8,12 +8,12 @@ use Rattle.std.proofs.Math.Pow.{pow-lt}
 use Rattle.std.proofs.lemmas.List.{get_or-map}
 use Rattle.std.proofs.lemmas.List.FromFn.{get_or-range_with_len}
 use Rattle.std.specs.List.{range_with_len}
-use Rattle.std.proofs.lemmas.Nat.Bits.{shr_and_one, bit_at_set_same, bit_at_set_other, bit_at-zero}
+use Rattle.std.proofs.lemmas.Nat.Bits.{shr_and_one, bit_at_set_same, bit_at_set_other}
 use Rattle.song_model.specs.declared.features.Feature.{Feature}
 use Rattle.song_model.specs.declared.features.Feature.TheVariants.{Transpose, Repeat, PortaUp, PortaDown, TonePorta, TieNote, Vibrato, InstrumentVibrato, NoteDependent, SetAd, SetSr, SetWave, SetWavePointer, PulseTable, SetPulsePointer, FilterTable, SetFilterPointer, FilterControl, Cutoff, Volume, FunkTempo, SetTempo, WaveTable, WaveCommand}
 use Rattle.song_model.specs.declared.songs.Song.{Song}
 use Rattle.song_model.specs.Feature.{bit_of}
-use Rattle.play_model.specs.Features.{HasFeature, AreFeatures}
+use Rattle.play_model.specs.Features.{HasFeature}
 use Rattle.usage.specs.declared.features.TheConstants.{FEATURES}
 use Rattle.usage.specs.FeatureParts.{AddsBit}
 
@@ -129,15 +129,6 @@ pub record AreBitsBelow (song : Song) (i set : ℕ) : Type 0 where
   pub small : set < 2 ^ 24
   pub each : (k : ℕ) → IsBitSet set k ↔ IsUsedBit song i k
 
-pub no_bits : (song : Song) → AreBitsBelow song 0 0
-no_bits song = record {
-  small = lit< tt;
-  each = λ k. (
-    λ (h : IsBitSet 0 k). (let one = bit_is_set 0 k h in let none = bit_at-zero k in absurd (omega arith)),
-    λ (u : IsUsedBit song 0 k). (let b = u.below in absurd (omega arith)),
-  );
-}
-
 same_feature : (a b : Feature) → bit_of a ≡ bit_of b → a ≡ b
 same_feature a b e = sym (at_its_bit a b) ∙ ap (λ (k : ℕ). get_or FEATURES k b) e ∙ at_its_bit b b
 
@@ -171,17 +162,5 @@ bits_more song i old new feature low place small a b = record {
                 (same_feature u.feature feature (u.bit_is ∙ here)) u.has,
           )))
     ]),
-  );
-}
-
-pub features_of_bits : (song : Song) (set : ℕ) → AreBitsBelow song 24 set → AreFeatures song set
-features_of_bits song set a = record {
-  small = a.small;
-  each = λ feature. (
-    λ (h : IsBitSet set (bit_of feature)).
-        (let u = (a.each (bit_of feature)).0 h in
-        subst (λ (f : Feature). HasFeature song f) (same_feature u.feature feature u.bit_is) u.has),
-    λ (has : HasFeature song feature). (a.each (bit_of feature)).1
-        (record { feature = feature; bit_is = refl; below = bit_small feature; has = has }),
   );
 }
