@@ -16,9 +16,9 @@ use Rattle.song_model.specs.LookUp.{IsNumbered, table_of, table_row, is_playable
 use Rattle.play_model.specs.declared.unplayable.Unplayable.TheVariants.{NoSubtune, MissingPattern, BadRestart, TableOverflow, PointerToJump}
 use Rattle.play_model.specs.Helpers.{row_after, next_row}
 use Rattle.play_model.specs.Used.{IsPlayedOrder, IsUsedPattern}
-use Rattle.play_model.specs.Reached.{is_jump, is_last, row_led_to, IsReached, led, IsPointer}
+use Rattle.play_model.specs.Reached.{is_jump, is_last, row_led_to, IsReached, led, IsPointer, IsStep}
 use Rattle.play_model.specs.Playable.{HasOrder, StopsAtRestart, HasPrograms, IsJumpTarget, IsPlayable}
-use Rattle.play_model.specs.UseLaws.{IsStep, IsWhole, GoesOnOrStops}
+use Rattle.play_model.specs.UseLaws.{IsWhole, GoesOnOrStops}
 use Rattle.play_model.proofs.ReachedRows.{jump_left, led_by, reached_some, pointer_reached, target_reached}
 
 -- ---- the places of orderlists

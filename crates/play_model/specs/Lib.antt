@@ -4,6 +4,7 @@ pub mod Freq
 pub mod Speeds
 pub mod LookUps
 pub mod State
+pub mod StandsFor
 pub mod Helpers
 pub mod FilterStep
 pub mod TickStep
@@ -17,6 +18,8 @@ pub mod Used
 pub mod Reached
 pub mod Playable
 pub mod Features
+pub mod Uses
+pub mod Safe
 -- Claimed: ranges, the length of a trace, what silent songs sound like, and laws of what a song uses.
 pub mod Ranges
 pub mod RangeLaws

@@ -71,3 +71,8 @@ pub data IsReached (song : Song) : TableName → ℕ → Type 0 where
 pub data IsPointer (song : Song) (name : TableName) (p : ℕ) : Type 0 where
   of_played : IsPlayedPointer song name p → IsPointer song name p
   of_wave_row : (r : ℕ) → IsReached song Wave r → IsWaveRowPointer song r name p → IsPointer song name p
+
+-- a reached row that isn't a jump: a row that a program stays at
+pub record IsStep (song : Song) (name : TableName) (p : ℕ) : Type 0 where
+  pub reached : IsReached song name p
+  pub no_jump : is_jump name (table_row song name p) ≡ false

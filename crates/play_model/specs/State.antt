@@ -1,6 +1,7 @@
 -- What the playroutine keeps from one frame to the next, with the values at the start.
 use Rattle.std.specs.Prelude.{ℕ, ◌-◌, ◌*◌, false, ◌==◌, if◌then◌else◌}
 use Rattle.play_model.specs.declared.options.Options.{Options}
+use Rattle.play_model.specs.declared.states.CommonState.{CommonState}
 
 -- what each voice keeps
 pub record Voice : Type 0 where
@@ -37,18 +38,8 @@ pub record Voice : Type 0 where
   pub pulse : ℕ
 
 -- what the three voices share
-pub record Common : Type 0 where
-  pub tempo_one : ℕ
-  pub tempo_two : ℕ
-  pub tempo_three : ℕ
-  pub funk_one : ℕ
-  pub funk_two : ℕ
-  pub filter_ptr : ℕ
-  pub filter_time : ℕ
-  pub filter_type : ℕ
-  pub filter_control : ℕ
-  pub cutoff : ℕ
-  pub volume : ℕ
+abbrev pub Common : Type 0
+Common = CommonState
 
 pub record FrameState : Type 0 where
   pub common : Common

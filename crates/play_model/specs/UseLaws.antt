@@ -13,16 +13,11 @@ use Rattle.play_model.specs.declared.unplayable.Unplayable.{Unplayable}
 use Rattle.play_model.specs.LookUps.{look_ups_of}
 use Rattle.play_model.specs.Helpers.{next_row}
 use Rattle.play_model.specs.Used.{IsPlayedOrder, IsUsedPattern, IsUsedInstrument}
-use Rattle.play_model.specs.Reached.{is_jump, is_last, led_to, IsWaveRowPointer, IsReached, IsPointer}
+use Rattle.play_model.specs.Reached.{is_last, led_to, IsWaveRowPointer, IsReached, IsPointer, IsStep}
 use Rattle.play_model.specs.Playable.{HasPrograms, IsJumpTarget, IsRefusedFor, IsPlayable}
 use Rattle.play_model.specs.Features.{HasFeature}
 
 -- ---- a playable song
-
--- a reached row that isn't a jump: a row that a program stays at
-pub record IsStep (song : Song) (name : TableName) (p : ℕ) : Type 0 where
-  pub reached : IsReached song name p
-  pub no_jump : is_jump name (table_row song name p) ≡ false
 
 -- what a playable song comes to is stored, its orderlists go on for ever, and neither a pointer nor
 -- a jump names a jump

@@ -16,8 +16,12 @@
 pub mod claims;
 mod frequencies;
 mod options;
+mod states;
 mod unplayable;
+mod widths;
 
 pub use frequencies::{freq, slide};
 pub use options::{HIGHEST_SPEED, Options, Speed};
+pub use states::{CommonState, PlayState, VoiceState};
 pub use unplayable::Unplayable;
+pub use widths::{LastNote, PulseWidth};
