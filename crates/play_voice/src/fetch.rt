@@ -30,21 +30,29 @@ pub fn fetch_row(voice: &mut VoiceState, order: &Order, song: &Song)
 {
     let (play, next) = order.step(voice.place);
     let rows = rows_of(song, play.pattern);
-    let row = match rows.get(usize::from(voice.row)) {
-        Some(row) => *row,
-        None => ZERO_ROW,
-    };
+    let row = row_at(rows, voice.row);
     row_done(voice, song, row, play.transpose);
     row_moved(voice, rows.len(), next);
 }
 
 /// The rows of a pattern; none where it isn't stored.
+#[tactic(auto, unfolding(song_model::specs::LookUp::pattern_at))]
 fn rows_of(song: &Song, pattern: u8) -> &[Row]
     ensures { result.now ≡ pattern_at song.now pattern }
 {
     match song.pattern(pattern) {
         Some(pattern) => pattern.as_slice(),
         None => &[],
+    }
+}
+
+/// The row at a place, counted from 0; zeros past the last one.
+fn row_at(rows: &[Row], place: u8) -> Row
+    ensures { result ≡ pattern_row rows.now place }
+{
+    match rows.get(usize::from(place)) {
+        Some(row) => *row,
+        None => ZERO_ROW,
     }
 }
 

@@ -1,6 +1,6 @@
 //! The pulse step: one row of the pulse program, or one frame of it.
 
-ghost use Rattle.std.specs.Prelude.{◌≡◌, ℕ};
+ghost use Rattle.std.specs.Prelude.{◌≡◌, ℕ, ◌==◌, if◌then◌else◌};
 ghost use Rattle.play_model.specs.LookUps.{look_ups_of};
 ghost use Rattle.play_model.specs.StandsFor.{voice_after};
 ghost use Rattle.play_model.specs.PulseStep.{pulse_set, pulse_moved, pulse_slide, pulse_row, pulse_step};
@@ -29,11 +29,21 @@ fn pulse_row(voice: &mut VoiceState, song: &Song, row: TableRow)
     ensures place { voice.new.place ≡ voice.old.place }
 {
     let time = voice.pulse_time;
+    if time == 0 && row.left == 0 {
+        return;
+    }
     if time == 0 && row.left >= 0x80 {
         pulse_set(voice, song, row);
-    } else if time != 0 || row.left != 0 {
-        pulse_slide(voice, song, row, if time == 0 { row.left } else { time });
+    } else {
+        pulse_slide(voice, song, row, frames_left(row, time));
     }
+}
+
+/// How many frames a move has left, where the program stands at its row for this long.
+fn frames_left(row: TableRow, time: u8) -> u8
+    ensures { result ≡ (if time == 0 then row.left else time) }
+{
+    if time == 0 { row.left } else { time }
 }
 
 /// Sets the width.

@@ -1,6 +1,7 @@
 //! The slides of a frequency: up, down, to a note, and the vibrato.
 
-ghost use Rattle.std.specs.Prelude.{◌≡◌, ℕ};
+ghost use Rattle.std.specs.Prelude.{◌≡◌, ℕ, ◌==◌, ◌||◌, nat_le};
+ghost use Rattle.play_model.specs.Wrap.{distance};
 ghost use Rattle.play_model.specs.LookUps.{look_ups_of};
 ghost use Rattle.play_model.specs.StandsFor.{voice_after};
 ghost use Rattle.play_model.specs.Helpers.{porta_up, porta_down, at_target, towards, tone_by, tone, turned, swung, depth_of, vibrato};
@@ -56,13 +57,20 @@ fn towards(voice: &mut VoiceState, target: u16, step: u16)
     };
 }
 
+/// Whether a slide with parameter `d` ends: the target is no further than one step, or the parameter is 0.
+fn is_end(d: u8, from: u16, target: u16, step: u16) -> bool
+    ensures { result ≡ ((d == 0) || nat_le (distance from target) step) }
+{
+    d == 0 || from.abs_diff(target) <= step
+}
+
 /// A slide that ends where the target is no further than one step, and with parameter 0 at once.
 fn tone_by(voice: &mut VoiceState, d: u8, target: u16, step: u16)
     ensures rule { (plays : ℕ) → voice_after plays voice.new ≡
         tone_by d target step (voice_after plays voice.old) }
     ensures place { voice.new.place ≡ voice.old.place }
 {
-    if d == 0 || voice.freq.abs_diff(target) <= step {
+    if is_end(d, voice.freq, target, step) {
         at_target(voice, target);
     } else {
         towards(voice, target, step);

@@ -11,13 +11,18 @@ use song_model::{Song, TableName, TableRow};
 const ZERO_ROW: TableRow = TableRow { left: 0, right: 0 };
 
 /// Row `p` of a table, counted from 1; (0, 0) where none is stored.
+#[tactic(auto, using(play_model::proofs::Laws::row_absent))]
 pub(crate) fn row_at(song: &Song, name: TableName, p: u8) -> TableRow
     ensures { result ≡ table_row song.now name p }
 {
-    song.row(name, p).unwrap_or(ZERO_ROW)
+    match song.row(name, p) {
+        Some(row) => row,
+        None => ZERO_ROW,
+    }
 }
 
 /// The row after row `p` of a table; (0, 0) where none is stored.
+#[tactic(auto, unfolding(song_model::specs::LookUp::table_row))]
 pub(crate) fn following_row(song: &Song, name: TableName, p: u16) -> TableRow
     ensures { result ≡ table_row song.now name (p + 1) }
 {

@@ -1,6 +1,6 @@
 //! The wave step: one row of the wave program, which sets the waveform, does a command, and sets the note.
 
-ghost use Rattle.std.specs.Prelude.{◌≡◌, ℕ, ◌<◌, ◌≤◌};
+ghost use Rattle.std.specs.Prelude.{◌≡◌, ℕ, ◌<◌, not, ◌&&◌, ◌==◌, nat_lt};
 ghost use Rattle.play_model.specs.LookUps.{look_ups_of};
 ghost use Rattle.play_model.specs.StandsFor.{voice_after};
 ghost use Rattle.play_model.specs.WaveStep.{wave_command, is_wave_command, left_done, program_moved, wave_note, with_note, right_done, wave_row, wave_step};
@@ -27,6 +27,14 @@ pub fn wave_step(voice: &mut VoiceState, common: &mut CommonState, song: &Song) 
     wave_row(voice, common, song, row)
 }
 
+/// Whether the program stays at its row, where it has waited for this long.
+fn is_waiting(row: TableRow, time: u8) -> bool
+    ensures { result ≡ (nat_lt row.left 0x10 && not (time == row.left)) }
+{
+    let _right = row.right;
+    row.left < 0x10 && time != row.left
+}
+
 /// What the program's row does in this frame: a left side below `$10` waits for as many frames.
 fn wave_row(voice: &mut VoiceState, common: &mut CommonState, song: &Song, row: TableRow) -> bool
     ensures rule { (plays : ℕ) → record { playing = playing_after plays voice.new common.new;
@@ -35,7 +43,7 @@ fn wave_row(voice: &mut VoiceState, common: &mut CommonState, song: &Song, row: 
     ensures place { voice.new.place ≡ voice.old.place }
 {
     let time = voice.wave_time;
-    if row.left < 0x10 && time != row.left {
+    if is_waiting(row, time) {
         voice.wave_time = time.wrapping_add(1);
         return true;
     }

@@ -1,0 +1,2 @@
+-- The fetch of a row.
+mod Fetched
