@@ -25,7 +25,7 @@ pub fetched_lem : (look : LookUps) (order : Order) (v : Voice) (old done new : V
     ((plays : ℕ) → voice_after plays done ≡ row_done look row play.transpose (voice_after plays old)) →
     done.place ≡ old.place → next ≡ place_of order (v.plays + 1) →
     ((w : Voice) → VoiceStandsFor order done w → next ≡ place_of order (w.plays + 1) →
-        VoiceStandsFor order new (row_moved (length rows) w)) →
+    VoiceStandsFor order new (row_moved (length rows) w)) →
     VoiceStandsFor order new (fetch_row look order v)
 unfolding fetch_row
 fetched_lem look order v old done new next play rows row stands play_is rows_is row_is rule place next_is law =

@@ -1,7 +1,6 @@
 //! The filter step: one row of the filter program, or one frame of it.
 
 ghost use Rattle.std.specs.Prelude.{◌≡◌};
-ghost use Rattle.song_model.specs.LookUp.{table_row};
 ghost use Rattle.play_model.specs.LookUps.{look_ups_of};
 ghost use Rattle.play_model.specs.FilterStep.{filter_set, filter_cutoff, filter_slide, filter_row, filter_step};
 

@@ -1,7 +1,6 @@
 //! The command of a row, at tick 0.
 
 ghost use Rattle.std.specs.Prelude.{◌≡◌, ℕ};
-ghost use Rattle.song_model.specs.declared.instruments.Instrument.{Instrument};
 ghost use Rattle.play_model.specs.LookUps.{look_ups_of};
 ghost use Rattle.play_model.specs.TickStep.{with_tempo, with_all_tempos, funk_set, funk_tempo, tempo_set, row_command};
 ghost use Rattle.play_voice.specs.PlayingAfter.{playing_after};

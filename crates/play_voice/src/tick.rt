@@ -1,8 +1,8 @@
 //! The tick step: the voice counts frames, and at tick 0 starts the note that waits and does the row's command.
 
-ghost use Rattle.std.specs.Prelude.{◌≡◌, ℕ, ◌-◌, ◌<◌};
+ghost use Rattle.std.specs.Prelude.{◌≡◌, ℕ};
 ghost use Rattle.play_model.specs.LookUps.{look_ups_of};
-ghost use Rattle.play_model.specs.TickStep.{tempo_of, with_tempo, reloaded, between_rows, note_ended, gate_timer_set, at_row, ticked, tick_step};
+ghost use Rattle.play_model.specs.TickStep.{tempo_of, reloaded, between_rows, note_ended, at_row, tick_step};
 ghost use Rattle.play_voice.specs.PlayingAfter.{playing_after};
 
 use crate::notes::note_started;
@@ -10,11 +10,14 @@ use crate::rows::{row_command, with_tempo};
 use play_model::{CommonState, VoiceState};
 use song_model::{Instrument, Song};
 
-/// The tick step of channel 1, 2 or 3. Answers whether a note was started, which ends the voice's step.
+/// The tick step of channel 1, 2 or 3; another number is taken for 3. Answers whether a note was started, which ends
+/// the voice's step.
 #[tactic(auto, unfolding(play_model::specs::TickStep::tick_step))]
 pub fn tick_step(voice: &mut VoiceState, channel: u8, common: &mut CommonState, song: &Song) -> bool
-    ensures rule { (plays : ℕ) → record { playing = playing_after plays voice.new common.new;
-        started = result } ≡ tick_step channel (look_ups_of song.now)
+    ensures rule { (plays : ℕ) → record {
+      playing = playing_after plays voice.new common.new;
+      started = result;
+    } ≡ tick_step channel (look_ups_of song.now)
         (playing_after plays voice.old common.old) }
     ensures place { voice.new.place ≡ voice.old.place }
 {
@@ -62,7 +65,11 @@ fn reloaded(voice: &mut VoiceState, channel: u8, common: &mut CommonState, tempo
     if tempo >= 2 {
         voice.tick = tempo;
     } else {
-        voice.tick = if tempo == 0 { common.funk_one } else { common.funk_two };
+        voice.tick = if tempo == 0 {
+            common.funk_one
+        } else {
+            common.funk_two
+        };
         with_tempo(common, channel, 1 - tempo);
     }
 }
@@ -76,8 +83,10 @@ fn at_row(
     song: &Song,
     instrument: &Instrument,
 ) -> bool
-    ensures rule { (plays : ℕ) → record { playing = playing_after plays voice.new common.new;
-        started = result } ≡ at_row channel (look_ups_of song.now) instrument.now
+    ensures rule { (plays : ℕ) → record {
+      playing = playing_after plays voice.new common.new;
+      started = result;
+    } ≡ at_row channel (look_ups_of song.now) instrument.now
         (playing_after plays voice.old common.old) }
     ensures place { voice.new.place ≡ voice.old.place }
 {

@@ -15,8 +15,10 @@ use song_model::{Song, TableName, TableRow};
 /// The wave step: the wave program's row is done, or waits. Answers whether the effect runs in this frame.
 #[tactic(auto, unfolding(play_model::specs::WaveStep::wave_step))]
 pub fn wave_step(voice: &mut VoiceState, common: &mut CommonState, song: &Song) -> bool
-    ensures rule { (plays : ℕ) → record { playing = playing_after plays voice.new common.new;
-        effect = result } ≡ wave_step (look_ups_of song.now)
+    ensures rule { (plays : ℕ) → record {
+      playing = playing_after plays voice.new common.new;
+      effect = result;
+    } ≡ wave_step (look_ups_of song.now)
         (playing_after plays voice.old common.old) }
     ensures place { voice.new.place ≡ voice.old.place }
 {
@@ -31,14 +33,15 @@ pub fn wave_step(voice: &mut VoiceState, common: &mut CommonState, song: &Song) 
 fn is_waiting(row: TableRow, time: u8) -> bool
     ensures { result ≡ (nat_lt row.left 0x10 && not (time == row.left)) }
 {
-    let _right = row.right;
     row.left < 0x10 && time != row.left
 }
 
 /// What the program's row does in this frame: a left side below `$10` waits for as many frames.
 fn wave_row(voice: &mut VoiceState, common: &mut CommonState, song: &Song, row: TableRow) -> bool
-    ensures rule { (plays : ℕ) → record { playing = playing_after plays voice.new common.new;
-        effect = result } ≡ wave_row (look_ups_of song.now) row
+    ensures rule { (plays : ℕ) → record {
+      playing = playing_after plays voice.new common.new;
+      effect = result;
+    } ≡ wave_row (look_ups_of song.now) row
         (playing_after plays voice.old common.old) }
     ensures place { voice.new.place ≡ voice.old.place }
 {
@@ -57,7 +60,6 @@ fn wave_row(voice: &mut VoiceState, common: &mut CommonState, song: &Song, row: 
 fn is_wave_command(row: TableRow) -> bool
     ensures { result ≡ is_wave_command row }
 {
-    let _right = row.right;
     row.left >= 0xf0 && row.left <= 0xfe
 }
 

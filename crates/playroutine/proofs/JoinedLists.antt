@@ -1,5 +1,5 @@
 -- Registers from four lists of known lengths.
-use Rattle.std.proofs.Common.{◌≡◌, ℕ, List, [], ◌∷◌, ◌++◌, length, drop, get_or, suc, refl, ◌∙◌, ap, sym, arith}
+use Rattle.std.proofs.Common.{◌≡◌, ℕ, List, [], ◌∷◌, ◌++◌, length, get_or, sym, arith}
 use Rattle.std.proofs.Math.Seq.{drop-cons}
 use Rattle.std.proofs.lemmas.List.{drop_all}
 
@@ -41,4 +41,4 @@ pub joined_lem : (a b c d : List ℕ) → length a ≡ 7 → length b ≡ 7 → 
     seven_of a ++ seven_of b ++ seven_of c ++ four_of d ≡ a ++ b ++ c ++ d
 joined_lem a b c d p q r s =
     sym (same_joined a (seven_of a) b (seven_of b) c (seven_of c) d (four_of d)
-        (seven_lem a p) (seven_lem b q) (seven_lem c r) (four_lem d s))
+    (seven_lem a p) (seven_lem b q) (seven_lem c r) (four_lem d s))

@@ -1,5 +1,5 @@
 -- A playable subtune of a playable song: its orderlists go on for ever.
-use Rattle.std.proofs.Common.{◌≡◌, ℕ, ◌≤◌, Option, Some, length, refl, ◌∙◌, ap, sym, arith}
+use Rattle.std.proofs.Common.{◌≡◌, ℕ, Option, Some, refl, ap, sym, arith}
 use Rattle.std.specs.Option.{unwrap_or}
 use Rattle.std.specs.List.{Contains}
 use Rattle.std.proofs.lemmas.Option.{slice_get_within, get_or_from_slice_get}
@@ -14,9 +14,11 @@ use Rattle.playroutine.specs.Playback.{IsEndlessSubtune}
 played : (song : Song) (k : ℕ) (subtune : Subtune) → Some subtune ≡ playable_subtune song k →
     Contains (playable_subtunes song) subtune
 unfolding playable_subtune
-played song k subtune e =
-    (k, slice_get_within (playable_subtunes song) k subtune (sym e),
-    get_or_from_slice_get (playable_subtunes song) k subtune subtune (sym e))
+played song k subtune e = (
+  k,
+  slice_get_within (playable_subtunes song) k subtune (sym e),
+  get_or_from_slice_get (playable_subtunes song) k subtune subtune (sym e),
+)
 
 pub endless_lem : (song : Song) (k : ℕ) (subtune : Subtune) → IsPlayable song → Some subtune ≡ playable_subtune song k →
     IsEndlessSubtune subtune

@@ -51,7 +51,7 @@ pub goes_on_lem : (channel : ℕ) (o : Options) (look : LookUps) (order : Order)
     playing_after v.plays done after
     ≡ pulse_done o look (effect_done o look (wave_step look (playing_after v.plays ticked between))) →
     ((w : Voice) (c : Common) → VoiceStandsFor order done w →
-        StepStandsFor order new c (row_fetched look order (record { voice = w; common = c }))) →
+    StepStandsFor order new c (row_fetched look order (record { voice = w; common = c }))) →
     StepStandsFor order new after (voice_step channel o look order (record { voice = v; common = before }))
 goes_on_lem channel o look order old ticked done new before between after v stands kept law kept_too rule fetch =
     let P : Playing → Type 0 = λ s. StepStandsFor order new after (row_fetched look order s) in

@@ -5,7 +5,7 @@ use Rattle.play_model.specs.declared.options.Options.{Options}
 use Rattle.play_model.specs.State.{FrameState, start_state}
 use Rattle.play_model.specs.Frame.{Framed, frame_with, state_after_with, trace_with}
 use Rattle.playroutine.specs.Playback.{Playback, PlaysSubtune, PlayerStandsFor, PlaysFrame}
-use Rattle.playroutine.specs.Played.{StandsAfter, PlaysOn, GivesTrace, PlayersGiveTheTrace}
+use Rattle.playroutine.specs.Played.{StandsAfter, PlayersGiveTheTrace}
 
 pub start_after : (player : Playback) (song : Song) (k : ℕ) (o : Options) → PlaysSubtune player song k o →
     PlayerStandsFor player (start_state o) → StandsAfter player song k o 0
@@ -25,7 +25,7 @@ frame_after player after registers song k o n s f =
     let was = s.plays in
     let is = f.plays in
     let here : frame_with player.options player.song player.subtune x ≡ frame_with o song k x =
-      rw (was.song_is, was.subtune_is, was.options_are) refl in
+    rw (was.song_is, was.subtune_is, was.options_are) refl in
     record {
       after = record {
         plays = record {

@@ -1,7 +1,6 @@
 //! One frame of a subtune.
 
-ghost use Rattle.std.specs.Prelude.{◌≡◌, ℕ};
-ghost use Rattle.song_model.specs.Endless.{IsEndless};
+ghost use Rattle.std.specs.Prelude.{◌≡◌};
 ghost use Rattle.play_model.specs.LookUps.{look_ups_of};
 ghost use Rattle.play_model.specs.State.{FrameState};
 ghost use Rattle.play_model.specs.StandsFor.{StateStandsFor};

@@ -37,39 +37,12 @@ pub(crate) fn filter_registers(common: &CommonState) -> [u8; 4]
 }
 
 /// The registers of the three voices, and the last four.
-pub(crate) fn all_registers(
-    one: [u8; 7],
-    two: [u8; 7],
-    three: [u8; 7],
-    filter: [u8; 4],
-) -> [u8; 25]
+pub(crate) fn all_registers(one: [u8; 7], two: [u8; 7], three: [u8; 7], filter: [u8; 4]) -> [u8; 25]
     ensures { result ≡ one ++ two ++ three ++ filter }
 {
     [
-        one[0],
-        one[1],
-        one[2],
-        one[3],
-        one[4],
-        one[5],
-        one[6],
-        two[0],
-        two[1],
-        two[2],
-        two[3],
-        two[4],
-        two[5],
-        two[6],
-        three[0],
-        three[1],
-        three[2],
-        three[3],
-        three[4],
-        three[5],
-        three[6],
-        filter[0],
-        filter[1],
-        filter[2],
-        filter[3],
+        one[0], one[1], one[2], one[3], one[4], one[5], one[6], two[0], two[1], two[2], two[3],
+        two[4], two[5], two[6], three[0], three[1], three[2], three[3], three[4], three[5],
+        three[6], filter[0], filter[1], filter[2], filter[3],
     ]
 }

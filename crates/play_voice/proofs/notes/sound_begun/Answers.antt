@@ -7,4 +7,4 @@ pub returns-clause-rule : goal.returns-clause-rule
 returns-clause-rule c = λ plays.
     c.programs_begun.ensures.rule plays
     ∙ ap (λ (v : Voice). programs_begun c.args.instrument.now (record { voice = v; common = c.args.common.now }))
-        (c.first_wave_set.ensures.rule plays)
+    (c.first_wave_set.ensures.rule plays)

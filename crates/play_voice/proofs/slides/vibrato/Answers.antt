@@ -1,4 +1,3 @@
-use Rattle.std.proofs.Common.{◌≡◌, ap}
 use Rattle.play_model.specs.Helpers.{vibrato}
 use Rattle.play_voice.proofs.slides.vibrato.Goals as goal
 

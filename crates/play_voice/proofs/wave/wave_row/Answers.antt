@@ -7,8 +7,8 @@ use Rattle.play_voice.proofs.wave.wave_row.Goals as goal
 pub returns-clause-rule : goal.returns-clause-rule
 returns-clause-rule c = λ plays.
     rw (sym c.is_waiting.ensures ∙ c.if-is_waiting.false)
-        (c.right_done.ensures.rule plays c.left_done.new.common
-        ∙ ap (λ (s : Playing). right_done c.args.row s)
-            (c.program_moved.ensures.rule plays c.left_done.new.common
-            ∙ ap (λ (s : Playing). program_moved (look_ups_of c.args.song.now) c.args.voice.now.wave_ptr s)
-                (c.left_done.ensures.rule plays)))
+    (c.right_done.ensures.rule plays c.left_done.new.common
+    ∙ ap (λ (s : Playing). right_done c.args.row s)
+    (c.program_moved.ensures.rule plays c.left_done.new.common
+    ∙ ap (λ (s : Playing). program_moved (look_ups_of c.args.song.now) c.args.voice.now.wave_ptr s)
+    (c.left_done.ensures.rule plays)))
