@@ -3,7 +3,7 @@
 ghost use Rattle.std.specs.Prelude.{◌≡◌, ℕ};
 ghost use Rattle.play_model.specs.LookUps.{look_ups_of};
 ghost use Rattle.play_model.specs.TickStep.{tempo_of, reloaded, between_rows, note_ended, at_row, tick_step};
-ghost use Rattle.play_voice.specs.PlayingAfter.{playing_after};
+ghost use Rattle.play_voice.specs.PlayingAfter.{playing_after, ticked_after};
 
 use crate::notes::note_started;
 use crate::rows::{row_command, with_tempo};
@@ -14,11 +14,8 @@ use song_model::{Instrument, Song};
 /// the voice's step.
 #[tactic(auto, unfolding(play_model::specs::TickStep::tick_step))]
 pub fn tick_step(voice: &mut VoiceState, channel: u8, common: &mut CommonState, song: &Song) -> bool
-    ensures rule { (plays : ℕ) → record {
-      playing = playing_after plays voice.new common.new;
-      started = result;
-    } ≡ tick_step channel (look_ups_of song.now)
-        (playing_after plays voice.old common.old) }
+    ensures rule { (plays : ℕ) → ticked_after plays voice.new common.new result ≡
+        tick_step channel (look_ups_of song.now) (playing_after plays voice.old common.old) }
     ensures place { voice.new.place ≡ voice.old.place }
 {
     let tick = voice.tick.wrapping_sub(1);
@@ -83,10 +80,8 @@ fn at_row(
     song: &Song,
     instrument: &Instrument,
 ) -> bool
-    ensures rule { (plays : ℕ) → record {
-      playing = playing_after plays voice.new common.new;
-      started = result;
-    } ≡ at_row channel (look_ups_of song.now) instrument.now
+    ensures rule { (plays : ℕ) → ticked_after plays voice.new common.new result ≡
+        at_row channel (look_ups_of song.now) instrument.now
         (playing_after plays voice.old common.old) }
     ensures place { voice.new.place ≡ voice.old.place }
 {
@@ -101,7 +96,7 @@ fn at_row(
 /// The waiting note is used up, and has started unless it slides.
 fn note_ended(voice: &mut VoiceState) -> bool
     ensures rule { (plays : ℕ) (common : CommonState) →
-        record { playing = playing_after plays voice.new common; started = result } ≡
+        ticked_after plays voice.new common result ≡
         note_ended (playing_after plays voice.old common) }
     ensures place { voice.new.place ≡ voice.old.place }
 {

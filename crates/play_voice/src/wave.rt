@@ -4,7 +4,7 @@ ghost use Rattle.std.specs.Prelude.{◌≡◌, ℕ, ◌<◌, not, ◌&&◌, ◌=
 ghost use Rattle.play_model.specs.LookUps.{look_ups_of};
 ghost use Rattle.play_model.specs.StandsFor.{voice_after};
 ghost use Rattle.play_model.specs.WaveStep.{wave_command, is_wave_command, left_done, program_moved, wave_note, with_note, right_done, wave_row, wave_step};
-ghost use Rattle.play_voice.specs.PlayingAfter.{playing_after};
+ghost use Rattle.play_voice.specs.PlayingAfter.{playing_after, waved_after};
 
 use crate::commands::do_command;
 use crate::slides::{porta_down, porta_up, tone, vibrato};
@@ -15,11 +15,8 @@ use song_model::{Song, TableName, TableRow};
 /// The wave step: the wave program's row is done, or waits. Answers whether the effect runs in this frame.
 #[tactic(auto, unfolding(play_model::specs::WaveStep::wave_step))]
 pub fn wave_step(voice: &mut VoiceState, common: &mut CommonState, song: &Song) -> bool
-    ensures rule { (plays : ℕ) → record {
-      playing = playing_after plays voice.new common.new;
-      effect = result;
-    } ≡ wave_step (look_ups_of song.now)
-        (playing_after plays voice.old common.old) }
+    ensures rule { (plays : ℕ) → waved_after plays voice.new common.new result ≡
+        wave_step (look_ups_of song.now) (playing_after plays voice.old common.old) }
     ensures place { voice.new.place ≡ voice.old.place }
 {
     if voice.wave_ptr == 0 {
@@ -38,11 +35,8 @@ fn is_waiting(row: TableRow, time: u8) -> bool
 
 /// What the program's row does in this frame: a left side below `$10` waits for as many frames.
 fn wave_row(voice: &mut VoiceState, common: &mut CommonState, song: &Song, row: TableRow) -> bool
-    ensures rule { (plays : ℕ) → record {
-      playing = playing_after plays voice.new common.new;
-      effect = result;
-    } ≡ wave_row (look_ups_of song.now) row
-        (playing_after plays voice.old common.old) }
+    ensures rule { (plays : ℕ) → waved_after plays voice.new common.new result ≡
+        wave_row (look_ups_of song.now) row (playing_after plays voice.old common.old) }
     ensures place { voice.new.place ≡ voice.old.place }
 {
     let time = voice.wave_time;
@@ -108,7 +102,7 @@ fn program_moved(voice: &mut VoiceState, song: &Song, p: u8)
 /// note.
 fn right_done(voice: &mut VoiceState, row: TableRow) -> bool
     ensures rule { (plays : ℕ) (common : CommonState) →
-        record { playing = playing_after plays voice.new common; effect = result } ≡
+        waved_after plays voice.new common result ≡
         right_done row (playing_after plays voice.old common) }
     ensures place { voice.new.place ≡ voice.old.place }
 {

@@ -10,7 +10,7 @@ use Rattle.play_model.specs.StandsFor.{voice_after, VoiceStandsFor}
 use Rattle.play_model.specs.TickStep.{Ticked, tick_step}
 use Rattle.play_model.specs.WaveStep.{wave_step}
 use Rattle.play_model.specs.Frame.{effect_done, pulse_done, row_fetched, after_tick, voice_step}
-use Rattle.play_voice.specs.PlayingAfter.{playing_after}
+use Rattle.play_voice.specs.PlayingAfter.{playing_after, ticked_after}
 use Rattle.playroutine.specs.AtStep.{StepStandsFor}
 
 -- a voice, with what the voices share, stands for itself, with the plays whose place it has
@@ -36,8 +36,7 @@ behind_tick channel o look order old new before after v t stands law goes =
 -- a started note ends the step
 pub started_lem : (channel : ℕ) (o : Options) (look : LookUps) (order : Order) (old new : VoiceState)
     (before after : Common) (v : Voice) → VoiceStandsFor order old v → new.place ≡ old.place →
-    ◌≡◌ {A = Ticked} (record { playing = playing_after v.plays new after; started = true })
-    (tick_step channel look (playing_after v.plays old before)) →
+    ticked_after v.plays new after true ≡ tick_step channel look (playing_after v.plays old before) →
     StepStandsFor order new after (voice_step channel o look order (record { voice = v; common = before }))
 started_lem channel o look order old new before after v stands place law =
     behind_tick channel o look order old new before after v _ stands law (own order new after v.plays (place ∙ stands.place))
@@ -45,8 +44,7 @@ started_lem channel o look order old new before after v stands place law =
 -- without one the programs, the effect and the fetch follow
 pub goes_on_lem : (channel : ℕ) (o : Options) (look : LookUps) (order : Order) (old ticked done new : VoiceState)
     (before between after : Common) (v : Voice) → VoiceStandsFor order old v → ticked.place ≡ old.place →
-    ◌≡◌ {A = Ticked} (record { playing = playing_after v.plays ticked between; started = false })
-    (tick_step channel look (playing_after v.plays old before)) →
+    ticked_after v.plays ticked between false ≡ tick_step channel look (playing_after v.plays old before) →
     done.place ≡ ticked.place →
     playing_after v.plays done after
     ≡ pulse_done o look (effect_done o look (wave_step look (playing_after v.plays ticked between))) →

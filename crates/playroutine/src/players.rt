@@ -42,7 +42,8 @@ impl<'a> Model for Player<'a> {
       state = player.state;
     } };
 
-    ghost invariant = { λ player. IsAtFrame player.song.now player.subtune.now player.number player.state };
+    ghost invariant = { λ player.
+        IsAtFrame player.song.now player.subtune.now player.number player.state };
 }
 
 /// A player of the playable subtune with this number, counted from 0, before its first frame.

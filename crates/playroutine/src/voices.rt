@@ -8,7 +8,7 @@ ghost use Rattle.play_model.specs.State.{Voice};
 ghost use Rattle.play_model.specs.StandsFor.{VoiceStandsFor};
 ghost use Rattle.play_model.specs.WaveStep.{wave_step};
 ghost use Rattle.play_model.specs.Frame.{effect_done, pulse_done, row_fetched, voice_step};
-ghost use Rattle.play_voice.specs.PlayingAfter.{playing_after};
+ghost use Rattle.play_voice.specs.PlayingAfter.{playing_after, waved_after};
 ghost use Rattle.playroutine.specs.AtStep.{StepStandsFor};
 
 use play_model::{CommonState, Options, VoiceState};
@@ -39,8 +39,9 @@ pub(crate) fn voice_step(
 /// The wave step, the effect step where it lets it run, and the pulse step.
 fn programs_done(voice: &mut VoiceState, common: &mut CommonState, song: &Song, options: &Options)
     ensures rule { (plays : ℕ) → playing_after plays voice.new common.new ≡
-        pulse_done options.now (look_ups_of song.now) (effect_done options.now (look_ups_of song.now)
-        (wave_step (look_ups_of song.now) (playing_after plays voice.old common.old))) }
+        pulse_done options.now (look_ups_of song.now) (effect_done options.now
+        (look_ups_of song.now) (wave_step (look_ups_of song.now)
+        (playing_after plays voice.old common.old))) }
     ensures place { voice.new.place ≡ voice.old.place }
 {
     let effect = wave_step(voice, common, song);
@@ -52,7 +53,7 @@ fn programs_done(voice: &mut VoiceState, common: &mut CommonState, song: &Song, 
 fn effect_done(voice: &mut VoiceState, effect: bool, song: &Song, options: &Options)
     ensures rule { (plays : ℕ) (common : CommonState) → playing_after plays voice.new common ≡
         effect_done options.now (look_ups_of song.now)
-        (record { playing = playing_after plays voice.old common; effect = effect }) }
+        (waved_after plays voice.old common effect) }
     ensures place { voice.new.place ≡ voice.old.place }
 {
     let skipped = options.skip_effects && voice.tick == 0;
