@@ -1,7 +1,7 @@
 //! The playroutine: a player of one subtune of a song, a frame at a time.
 //!
 //! The layer's one contract: a player that `start` has made gives with its n-th frame the registers of the trace
-//! after call n, and stands then for the state after n frames. It takes no memory, and no frame asks for anything.
+//! after call n, and stands then for the state after n frames. It takes no memory, and a frame has no condition.
 //!
 //! It stands on `play_voice` for the rules, on `play_model` for their definitions and the states, and on
 //! `song_model` for the song. The command `trace` stands on it.
