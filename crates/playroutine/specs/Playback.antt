@@ -1,14 +1,17 @@
 -- What a player plays and where it stands, and the states of the definitions that it stands for.
-use Rattle.std.specs.Prelude.{◌≡◌, ℕ, List}
+use Rattle.std.specs.Prelude.{◌≡◌, ℕ, List, Some}
 use Rattle.song_model.specs.declared.songs.Song.{Song}
 use Rattle.song_model.specs.declared.orders.Subtune.{Subtune}
 use Rattle.song_model.specs.Endless.{IsEndless}
+use Rattle.song_model.specs.LookUp.{playable_subtune}
 use Rattle.play_model.specs.declared.options.Options.{Options}
 use Rattle.play_model.specs.declared.states.PlayState.{PlayState}
 use Rattle.play_model.specs.State.{FrameState}
 use Rattle.play_model.specs.StandsFor.{StateStandsFor}
+use Rattle.play_model.specs.Playable.{IsPlayable}
 use Rattle.play_model.specs.Frame.{subtune_at, frame_with}
 
+-- what a player plays, and the state that it keeps between its frames
 pub record Playback : Type 0 where
   pub song : Song
   -- the playable subtune, counted from 0
@@ -41,10 +44,10 @@ pub record IsEndlessSubtune (subtune : Subtune) : Type 0 where
   pub two : IsEndless subtune.two
   pub three : IsEndless subtune.three
 
--- what is true of every player: its subtune is the song's, with orderlists that go on for ever, and it stands for
--- some state
+-- what is true of every player: its song can be played, its subtune is that of its number, and it stands for some
+-- state
 pub record IsAtFrame (song : Song) (subtune : Subtune) (k : ℕ) (state : PlayState) : Type 0 where
-  pub subtune_is : subtune ≡ subtune_at song k
-  pub endless : IsEndlessSubtune subtune
+  pub playable : IsPlayable song
+  pub subtune_is : Some subtune ≡ playable_subtune song k
   pub x : FrameState
   pub stands : StateStandsFor subtune state x

@@ -1,14 +1,12 @@
 use Rattle.play_model.specs.State.{start_state}
 use Rattle.play_model.specs.Frame.{subtune_at}
-use Rattle.playroutine.proofs.Starts.{endless_lem, subtune_lem}
 use Rattle.playroutine.proofs.players.start.Goals as goal
 
 pub invariant_of-result : goal.invariant_of-result
 invariant_of-result c =
-    let is = c.in-Some.ensures.subtune in
     record {
-      subtune_is = subtune_lem c.args.song.now c.args.subtune c.in-Some.played.now is;
-      endless = endless_lem c.args.song.now c.args.subtune c.in-Some.played.now c.requires is;
+      playable = c.requires;
+      subtune_is = c.in-Some.ensures.subtune;
       x = start_state c.args.options;
       stands = c.start.ensures c.in-Some.played.now;
     }
