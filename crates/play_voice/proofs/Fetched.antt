@@ -29,11 +29,12 @@ pub fetched_lem : (look : LookUps) (order : Order) (v : Voice) (old done new : V
     VoiceStandsFor order new (fetch_row look order v)
 unfolding fetch_row
 fetched_lem look order v old done new next play rows row stands play_is rows_is row_is rule place next_is law =
+    let was = voice_after v.plays old in
     let moved = law (voice_after v.plays done) (own order done v.plays (place ∙ stands.place)) next_is in
     let P : Voice → Type 0 = λ w. VoiceStandsFor order new (row_moved (length rows) w) in
     let Q : Voice → Type 0 = λ w. VoiceStandsFor order new (fetched_from look rows play.transpose w) in
-    let done_is : voice_after v.plays done ≡ row_done look row play.transpose (voice_after v.plays old) = rule v.plays in
-    let at_row = subst P (done_is ∙ ap (λ (r : Row). row_done look r play.transpose (voice_after v.plays old)) row_is) moved in
+    let done_is : voice_after v.plays done ≡ row_done look row play.transpose was = rule v.plays in
+    let at_row = subst P (done_is ∙ ap (λ (r : Row). row_done look r play.transpose was) row_is) moved in
     let at_voice = subst Q stands.rest at_row in
     let R : Step → Type 0 = λ p. VoiceStandsFor order new (fetched_from look (look.rows p.pattern) p.transpose v) in
     let S : List Row → Type 0 = λ l. VoiceStandsFor order new (fetched_from look l play.transpose v) in

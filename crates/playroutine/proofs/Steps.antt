@@ -39,7 +39,8 @@ pub started_lem : (channel : ℕ) (o : Options) (look : LookUps) (order : Order)
     ticked_after v.plays new after true ≡ tick_step channel look (playing_after v.plays old before) →
     StepStandsFor order new after (voice_step channel o look order (record { voice = v; common = before }))
 started_lem channel o look order old new before after v stands place law =
-    behind_tick channel o look order old new before after v _ stands law (own order new after v.plays (place ∙ stands.place))
+    let here = own order new after v.plays (place ∙ stands.place) in
+    behind_tick channel o look order old new before after v _ stands law here
 
 -- without one the programs, the effect and the fetch follow
 pub goes_on_lem : (channel : ℕ) (o : Options) (look : LookUps) (order : Order) (old ticked done new : VoiceState)

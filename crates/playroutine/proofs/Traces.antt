@@ -22,6 +22,7 @@ pub frame_after : (player after : Playback) (registers : List ℕ) (song : Song)
 unfolding state_after_with
 frame_after player after registers song k o n s f =
     let x = state_after_with o song k n in
+    let P : FrameState → Type 0 = λ y. PlayerStandsFor after y in
     let was = s.plays in
     let is = f.plays in
     let here : frame_with player.options player.song player.subtune x ≡ frame_with o song k x =
@@ -33,15 +34,18 @@ frame_after player after registers song k o n s f =
           subtune_is = is.subtune_is ∙ was.subtune_is;
           options_are = is.options_are ∙ was.options_are;
         };
-        stands = subst (λ (y : FrameState). PlayerStandsFor after y) (ap (λ (y : Framed). y.state) here) (f.stands x s.stands);
+        stands = subst P (ap (λ (y : Framed). y.state) here) (f.stands x s.stands);
       };
       call = f.registers_are x s.stands ∙ ap (λ (y : Framed). y.registers) here;
     }
 
 pub players_give_the_trace_lem : PlayersGiveTheTrace
 players_give_the_trace_lem player registers song k o on plays stands =
-    record { after = after; call = λ n. (frame_after (player n) (player (suc n)) (registers n) song k o n (after n) (on n)).call }
+    record { after = after; call = λ n. (next n (after n)).call }
   where
+    next : (n : ℕ) → StandsAfter (player n) song k o n → NextCall (player (suc n)) (registers n) song k o n
+    next n s = frame_after (player n) (player (suc n)) (registers n) song k o n s (on n)
+
     after : (n : ℕ) → StandsAfter (player n) song k o n
     after zero = start_after (player 0) song k o plays stands
-    after (suc n) = (frame_after (player n) (player (suc n)) (registers n) song k o n (after n) (on n)).after
+    after (suc n) = (next n (after n)).after

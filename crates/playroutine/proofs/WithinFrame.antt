@@ -16,6 +16,7 @@ pub filtered_lem : (look : LookUps) (subtune : Subtune) (state : PlayState) (x :
 filtered_lem look subtune state x common s e =
     record { common = e ∙ ap (λ (c : Common). filter_step look c) s.common; one = s.one; two = s.two; three = s.three }
 
-pub registers_lem : (order : Order) (voice : VoiceState) (v : Voice) (registers : List ℕ) → VoiceStandsFor order voice v →
-    ((plays : ℕ) → registers ≡ voice_registers (voice_after plays voice)) → registers ≡ voice_registers v
+pub registers_lem : (order : Order) (voice : VoiceState) (v : Voice) (registers : List ℕ) →
+    VoiceStandsFor order voice v → ((plays : ℕ) → registers ≡ voice_registers (voice_after plays voice)) →
+    registers ≡ voice_registers v
 registers_lem order voice v registers s law = law v.plays ∙ ap (λ (w : Voice). voice_registers w) s.rest

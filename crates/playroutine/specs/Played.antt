@@ -16,7 +16,8 @@ abbrev pub PlaysOn : (ℕ → Playback) → (ℕ → List ℕ) → Type 0
 PlaysOn player registers = (n : ℕ) → PlaysFrame (player n) (registers n) (player (suc n))
 
 -- after call n the player stands where the definitions do, and call n + 1, the n-th frame from 0, leaves entry n + 1
-pub record GivesTrace (player : ℕ → Playback) (registers : ℕ → List ℕ) (song : Song) (k : ℕ) (o : Options) : Type 0 where
+pub record GivesTrace (player : ℕ → Playback) (registers : ℕ → List ℕ) (song : Song) (k : ℕ) (o : Options)
+    : Type 0 where
   pub after : (n : ℕ) → StandsAfter (player n) song k o n
   pub call : (n : ℕ) → registers n ≡ trace_with o song k (suc n)
 

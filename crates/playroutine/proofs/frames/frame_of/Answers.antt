@@ -18,7 +18,8 @@ pub returns-clause-registers : goal.returns-clause-registers
 unfolding frame_of
 returns-clause-registers c = λ x s.
     let look = look_ups_of c.args.song.now in
-    let filtered = filtered_lem look c.args.subtune.now c.args.state.now x c.filter_step.new.common s c.filter_step.ensures in
+    let common = c.filter_step.new.common in
+    let filtered = filtered_lem look c.args.subtune.now c.args.state.now x common s c.filter_step.ensures in
     let y = voices_done c.args.options.now look c.args.subtune.now (filter_done look x) in
     let stands = c.voices_done.ensures (filter_done look x) filtered in
     let now = c.voices_done.new.state in
