@@ -1,0 +1,5 @@
+-- The door: the lemmas that upper crates may cite.
+pub mod Laws
+-- What is safe: where pointers lead.
+pub mod Pointers
+pub mod Programs
