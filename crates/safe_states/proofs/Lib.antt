@@ -3,3 +3,4 @@ pub mod Laws
 -- What is safe: where pointers lead.
 pub mod Pointers
 pub mod Programs
+pub mod Fetched
