@@ -4,3 +4,4 @@ pub mod Laws
 pub mod Pointers
 pub mod Programs
 pub mod Fetched
+pub mod Commands
