@@ -57,7 +57,7 @@ stored_length : (song : Song) (n : ℕ) → KeepsLimits song → n < length song
 unfolding pattern_at
 stored_length song n limits stored = (All-get_or IsPattern song.patterns n [] stored limits.patterns.each).count
 
-play_length : (song : Song) (order : Order) (i : ℕ) → CanBePlayed song → IsPlayedOrder song order →
+pub play_length : (song : Song) (order : Order) (i : ℕ) → CanBePlayed song → IsPlayedOrder song order →
     IsPatternLength (length (pattern_at song (played order i).pattern))
 play_length song order i play o =
     stored_length song (played order i).pattern play.limits

@@ -5,3 +5,6 @@ pub mod Pointers
 pub mod Programs
 pub mod Fetched
 pub mod Commands
+pub mod Ticks
+pub mod Waves
+pub mod Steps

@@ -23,9 +23,9 @@ use Rattle.safe_states.proofs.Pointers.{CanBePlayed, no_time, goes_on, is_step, 
 -- ---- a row that lasts
 
 -- a program at a row, with this time within it
-record Stays (song : Song) (name : TableName) (p time : ℕ) : Type 0 where
-  ptr : IsSafePointer song name p
-  passes : IsSafeTime song name p time
+pub record Stays (song : Song) (name : TableName) (p time : ℕ) : Type 0 where
+  pub ptr : IsSafePointer song name p
+  pub passes : IsSafeTime song name p time
 
 -- the frames of a row that are left: as its left side says where it has just begun
 abbrev left_over : ℕ → ℕ → ℕ
