@@ -8,3 +8,5 @@ pub mod Commands
 pub mod Ticks
 pub mod Waves
 pub mod Steps
+pub mod Running
+pub mod Turns
