@@ -1,14 +1,12 @@
 -- Fetching a row keeps a voice safe: the row is one of a used pattern, and the next one is there.
 use Rattle.std.specs.Prelude.{ℤ, bit_and, not, ◌==◌, ◌||◌}
-use Rattle.std.proofs.Common.{◌≡◌, ◌≢◌, ℕ, ◌+◌, ◌<◌, ◌≤◌, List, [], length, false, refl, sym, ap, inl, inr, arith}
+use Rattle.std.proofs.Common.{◌≡◌, ◌≢◌, ℕ, ◌+◌, ◌<◌, ◌≤◌, [], length, refl, ap, inr, arith}
 use Rattle.std.specs.List.{Contains}
-use Rattle.std.proofs.lemmas.Bool.{cond_both, eqb-true, eqb-false}
-use Rattle.std.proofs.lemmas.Bool.Decides.{nat_tests}
+use Rattle.std.proofs.lemmas.Bool.{cond_both, eqb-false}
 use Rattle.std.proofs.lemmas.Option.{unwrap_or-slice_get}
 use Rattle.std.proofs.lemmas.List.Elements.{All-get_or, Contains-get_or}
 use Rattle.song_model.specs.declared.rows.Row.{Row}
 use Rattle.song_model.specs.declared.orders.Order.{Order}
-use Rattle.song_model.specs.declared.orders.Step.{Step}
 use Rattle.song_model.specs.declared.songs.Song.{Song}
 use Rattle.song_model.specs.PatternLimits.{IsPatternLength, IsPattern}
 use Rattle.song_model.specs.Limits.{KeepsLimits}
@@ -21,7 +19,7 @@ use Rattle.play_model.specs.State.{Voice}
 use Rattle.play_model.specs.FetchRow.{row_taken, gate_keyed, is_note, transposed, gate_shut, note_waits, row_moved, row_done, fetch_row}
 use Rattle.play_model.specs.Frame.{subtune_at}
 use Rattle.play_model.specs.Used.{IsChannel, IsPlayedOrder, IsUsedPattern, IsUsedRow, IsUsedInstrument}
-use Rattle.play_model.specs.Safe.{IsSafeVoice, IsSafeWaiting, of_row}
+use Rattle.play_model.specs.Safe.{IsSafeVoice, of_row}
 use Rattle.play_model.proofs.Laws.{whole_lem}
 use Rattle.safe_states.proofs.Pointers.{CanBePlayed}
 

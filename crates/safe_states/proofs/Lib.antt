@@ -1,12 +1,15 @@
 -- The door: the lemmas that upper crates may cite.
 pub mod Laws
--- What is safe: where pointers lead.
+-- Where pointers lead, and the rules: each keeps a voice and what the voices share safe.
 pub mod Pointers
 pub mod Programs
 pub mod Fetched
 pub mod Commands
 pub mod Ticks
 pub mod Waves
+-- Steps of voices, frames and starts.
 pub mod Steps
+-- What a voice does in its turn stands in the song, and so what a frame uses is a feature.
 pub mod Running
 pub mod Turns
+pub mod Frames

@@ -1,13 +1,12 @@
 -- Where the pointers of a playable song lead: to rows that programs stay at.
-use Rattle.std.proofs.Common.{◌≡◌, ◌≢◌, ℕ, ◌+◌, ◌≤◌, true, false, Some, refl, sym, ◌∙◌, inl, inr, arith}
-use Rattle.std.proofs.lemmas.Bool.{cases_eq, cases_Bool}
-use Rattle.std.proofs.lemmas.Bool.Decides.{nat_tests}
+use Rattle.std.proofs.Common.{◌≡◌, ◌≢◌, ℕ, ◌+◌, false, Some, refl, ◌∙◌, inl, inr}
+use Rattle.std.proofs.lemmas.Bool.{cases_eq}
 use Rattle.song_model.specs.declared.tables.TableRow.{TableRow}
 use Rattle.song_model.specs.declared.tables.TableName.{TableName}
-use Rattle.song_model.specs.declared.tables.TableName.TheVariants.{Wave, Pulse, Filter, Speed}
+use Rattle.song_model.specs.declared.tables.TableName.TheVariants.{Wave, Filter}
 use Rattle.song_model.specs.declared.songs.Song.{Song}
 use Rattle.song_model.specs.Limits.{KeepsLimits}
-use Rattle.song_model.specs.LookUp.{table_of, table_row, instrument_at}
+use Rattle.song_model.specs.LookUp.{table_row, instrument_at}
 use Rattle.song_model.specs.Pointers.{instrument_pointer, command_table, wave_row_table}
 use Rattle.play_model.specs.LookUps.{look_ups_of}
 use Rattle.play_model.specs.Helpers.{next_row}

@@ -1,24 +1,24 @@
 -- The filter step and the pulse step keep their programs at reached rows, and within the frames of a row.
 use Rattle.std.specs.Prelude.{nat_le, ◌==◌, ◌&&◌, if◌then◌else◌}
-use Rattle.std.proofs.Common.{◌≡◌, ◌≢◌, ℕ, ◌+◌, ◌*◌, ◌%◌, ◌<◌, ◌≤◌, ◌⊎◌, Bool, true, false, refl, sym, inl, inr, arith}
-use Rattle.std.proofs.lemmas.Bool.{cases_eq, cases_Bool, cond_both, and_parts, and_cases, eqb-true, eqb-false, leb-true, leb-false, ne_eqb}
+use Rattle.std.proofs.Common.{◌≡◌, ◌≢◌, ℕ, ◌+◌, ◌<◌, true, false, refl, inr, arith}
+use Rattle.std.proofs.lemmas.Bool.{cond_both, and_parts, eqb-true, eqb-false, leb-true, ne_eqb}
 use Rattle.std.proofs.lemmas.Bool.Decides.{nat_tests}
 use Rattle.song_model.specs.declared.orders.Order.{Order}
 use Rattle.song_model.specs.declared.tables.TableRow.{TableRow}
 use Rattle.song_model.specs.declared.tables.TableName.{TableName}
-use Rattle.song_model.specs.declared.tables.TableName.TheVariants.{Wave, Pulse, Filter, Speed}
+use Rattle.song_model.specs.declared.tables.TableName.TheVariants.{Pulse, Filter}
 use Rattle.song_model.specs.declared.songs.Song.{Song}
 use Rattle.song_model.specs.LookUp.{table_row}
 use Rattle.play_model.specs.LookUps.{look_ups_of}
 use Rattle.play_model.specs.Wrap.{byte_plus, byte_minus}
 use Rattle.play_model.specs.State.{Voice, Common}
 use Rattle.play_model.specs.Helpers.{next_row}
-use Rattle.play_model.specs.FilterStep.{filter_set, filter_cutoff, filter_slide, filter_row, filter_step}
-use Rattle.play_model.specs.PulseStep.{pulse_set, pulse_slide, pulse_row, pulse_step}
+use Rattle.play_model.specs.FilterStep.{filter_set, filter_row, filter_step}
+use Rattle.play_model.specs.PulseStep.{pulse_slide, pulse_row, pulse_step}
 use Rattle.play_model.specs.Reached.{is_last, IsStep}
 use Rattle.play_model.specs.Playable.{HasPrograms}
 use Rattle.play_model.specs.Safe.{IsSafePointer, IsWithinRow, IsSafeTime, IsSafeVoice, IsSafeCommon}
-use Rattle.safe_states.proofs.Pointers.{CanBePlayed, no_time, goes_on, is_step, following_step}
+use Rattle.safe_states.proofs.Pointers.{CanBePlayed, goes_on, is_step, following_step}
 
 -- ---- a row that lasts
 

@@ -3,25 +3,22 @@ use Rattle.std.specs.Prelude.{not, ◌==◌, ◌&&◌}
 use Rattle.std.proofs.Common.{ℕ, zero, suc, ◌*◌, ◌-◌, ◌<◌, Bool, true, false, cond, length, lit≤, refl, inl, arith}
 use Rattle.std.proofs.lemmas.Bool.{cond_both}
 use Rattle.song_model.specs.declared.orders.Order.{Order}
-use Rattle.song_model.specs.declared.orders.Subtune.{Subtune}
 use Rattle.song_model.specs.declared.tables.TableName.TheVariants.{Wave, Pulse, Filter}
 use Rattle.song_model.specs.declared.songs.Song.{Song}
-use Rattle.song_model.specs.Limits.{KeepsLimits}
 use Rattle.song_model.specs.LookUp.{order_of, playable_subtunes}
 use Rattle.play_model.specs.declared.options.Options.{Options}
 use Rattle.play_model.specs.Speeds.{IsSpeed}
 use Rattle.play_model.specs.LookUps.{look_ups_of}
-use Rattle.play_model.specs.State.{Voice, FrameState, Playing, start_voice, start_common, start_state, voice_of, playing_of, with_playing}
+use Rattle.play_model.specs.State.{FrameState, Playing, start_voice, start_common, start_state, playing_of, with_playing}
 use Rattle.play_model.specs.TickStep.{Ticked, tick_step}
 use Rattle.play_model.specs.WaveStep.{Waved, wave_step}
 use Rattle.play_model.specs.EffectStep.{effect_step}
 use Rattle.play_model.specs.PulseStep.{pulse_step}
 use Rattle.play_model.specs.FetchRow.{fetch_row}
-use Rattle.play_model.specs.Frame.{effect_done, pulse_done, row_fetched, after_tick, voice_step, filter_done, voice_done, voices_done, frame_of, frame_with, subtune_at, state_after_with}
+use Rattle.play_model.specs.Frame.{effect_done, pulse_done, row_fetched, after_tick, voice_step, filter_done, voice_done, frame_of, frame_with, subtune_at, state_after_with}
 use Rattle.play_model.specs.Used.{IsChannel, IsPlayedOrder}
-use Rattle.play_model.specs.Playable.{IsPlayable}
 use Rattle.play_model.specs.Safe.{none, IsSafeVoice, IsSafeTempo, IsSafeCommon, IsSafe}
-use Rattle.safe_states.specs.SafeLaws.{IsSafePlaying, VoiceRulesKeepSafe, RulesKeepSafe, StepsKeepSafe, SafeWithin}
+use Rattle.safe_states.specs.SafeLaws.{IsSafePlaying, VoiceRulesKeepSafe, SafeWithin}
 use Rattle.safe_states.proofs.Pointers.{CanBePlayed, stopped, no_time}
 use Rattle.safe_states.proofs.Programs.{filter_keeps, pulse_keeps}
 use Rattle.safe_states.proofs.Fetched.{is_played, play_length, fetch_keeps}

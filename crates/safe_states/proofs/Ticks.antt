@@ -1,24 +1,22 @@
 -- The tick step keeps a voice and what the voices share safe.
-use Rattle.std.specs.Prelude.{nat_le, ◌==◌, ◌&&◌, if◌then◌else◌}
-use Rattle.std.proofs.Common.{◌≡◌, ◌≢◌, ℕ, ◌-◌, ◌<◌, ◌≤◌, Bool, true, false, cond, Some, refl, inl, inr, arith}
+use Rattle.std.specs.Prelude.{nat_le, ◌==◌, ◌&&◌}
+use Rattle.std.proofs.Common.{◌≡◌, ◌≢◌, ℕ, ◌-◌, ◌≤◌, Bool, true, false, cond, Some, refl, inl, inr, arith}
 use Rattle.std.proofs.lemmas.Bool.{cond_both, and_parts, eqb-true, eqb-false, leb-true, leb-false}
 use Rattle.song_model.specs.declared.orders.Order.{Order}
 use Rattle.song_model.specs.declared.features.Feature.TheVariants.{FunkTempo}
 use Rattle.song_model.specs.declared.instruments.Instrument.{Instrument}
-use Rattle.song_model.specs.declared.tables.TableRow.{TableRow}
 use Rattle.song_model.specs.declared.tables.TableName.{TableName}
 use Rattle.song_model.specs.declared.tables.TableName.TheVariants.{Wave, Pulse, Filter, Speed}
 use Rattle.song_model.specs.declared.songs.Song.{Song}
-use Rattle.song_model.specs.LookUp.{table_row, instrument_at}
+use Rattle.song_model.specs.LookUp.{instrument_at}
 use Rattle.song_model.specs.Pointers.{instrument_pointer, command_table}
 use Rattle.play_model.specs.LookUps.{LookUps, look_ups_of}
 use Rattle.play_model.specs.Wrap.{byte_minus}
 use Rattle.play_model.specs.State.{Voice, Common, Playing}
-use Rattle.play_model.specs.Helpers.{do_command}
 use Rattle.play_model.specs.TickStep.{Ticked, tempo_of, with_tempo, with_all_tempos, reloaded, between_rows, note_taken, first_wave_set, programs_begun, taken, note_started, funk_set, funk_tempo, tempo_set, row_command, note_ended, gate_timer_set, at_row, tick_step}
 use Rattle.play_model.specs.Used.{IsUsedInstrument}
 use Rattle.play_model.specs.Features.{IsAny, HasRow, HasInstrument, HasFeature}
-use Rattle.play_model.specs.Safe.{IsSafePointer, IsSafeTime, HasCommand, IsSafeWaiting, none, of_row, IsSafeRunning, of_instrument, IsSafeVoice, IsSafeTempo, IsSafeCommon}
+use Rattle.play_model.specs.Safe.{IsSafePointer, HasCommand, IsSafeWaiting, none, of_row, IsSafeRunning, of_instrument, IsSafeVoice, IsSafeTempo, IsSafeCommon}
 use Rattle.safe_states.specs.SafeLaws.{IsSafePlaying}
 use Rattle.safe_states.proofs.Pointers.{CanBePlayed, from_instrument, from_row, no_time}
 use Rattle.safe_states.proofs.Programs.{Stays}

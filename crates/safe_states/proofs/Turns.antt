@@ -1,6 +1,5 @@
 -- What a voice does in its turn stands in the song, where the turn begins safe.
-use Rattle.std.specs.Prelude.{nat_le, ◌&&◌}
-use Rattle.std.proofs.Common.{◌≡◌, ◌≢◌, ℕ, ◌+◌, ◌<◌, ◌≤◌, ◌⊎◌, true, Some, lit≤, refl, inl, inr, arith}
+use Rattle.std.proofs.Common.{◌≡◌, ◌≢◌, ℕ, ◌+◌, ◌≤◌, Some, lit≤, refl, inl, inr, arith}
 use Rattle.std.proofs.lemmas.Bool.{and_parts, leb-true}
 use Rattle.std.proofs.lemmas.Bool.Decides.{nat_tests}
 use Rattle.song_model.specs.declared.orders.Order.{Order}
@@ -13,12 +12,11 @@ use Rattle.song_model.specs.Pointers.{command_table, wave_row_table}
 use Rattle.play_model.specs.declared.options.Options.{Options}
 use Rattle.play_model.specs.LookUps.{look_ups_of}
 use Rattle.play_model.specs.State.{Voice, Playing}
-use Rattle.play_model.specs.WaveStep.{is_wave_command, wave_step}
-use Rattle.play_model.specs.Used.{IsUsedInstrument}
+use Rattle.play_model.specs.WaveStep.{wave_step}
 use Rattle.play_model.specs.Reached.{of_instrument, IsPointer, of_played, IsStep}
 use Rattle.play_model.specs.Features.{HasRow, HasWaveRow, UsesCommand, IsAny, HasInstrument, HasPointer, HasNoteSpeed, HasWaveCommand, HasFeature}
-use Rattle.play_model.specs.Safe.{HasCommand, IsSafeWaiting, IsSafeRunning, IsSafeVoice}
-use Rattle.play_model.specs.Uses.{Turn, DoesRow, LoadsTempo, GoesOn, HasWaveProgram, MeetsWaveCommand, DoesWave, DoesEffect, DoesRunning, MeetsVibrato, HasPulseProgram, Slides, DoesOnce, AsksSpeed, for_slide, for_vibrato, AsksFunkTempo, by_values, by_tempo, by_length}
+use Rattle.play_model.specs.Safe.{HasCommand, IsSafeWaiting, IsSafeVoice}
+use Rattle.play_model.specs.Uses.{Turn, DoesRow, GoesOn, HasWaveProgram, MeetsWaveCommand, DoesWave, DoesEffect, DoesRunning, MeetsVibrato, HasPulseProgram, Slides, DoesOnce, AsksSpeed, for_slide, for_vibrato, AsksFunkTempo, by_values, by_tempo, by_length}
 use Rattle.safe_states.specs.SafeLaws.{IsSafePlaying}
 use Rattle.safe_states.proofs.Pointers.{CanBePlayed, row_pointer, wave_pointer, is_step, has_pointer}
 use Rattle.safe_states.proofs.Ticks.{waiting_command, has_row, tempo_safe, tick_keeps}

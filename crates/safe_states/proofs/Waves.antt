@@ -1,8 +1,7 @@
 -- The wave step and the effect step keep a voice and what the voices share safe.
-use Rattle.std.specs.Prelude.{nat_lt, nat_le, not, ◌==◌, ◌&&◌, ◌||◌}
-use Rattle.std.proofs.Common.{◌≡◌, ◌≢◌, ℕ, ◌+◌, ◌-◌, ◌%◌, ◌≤◌, Bool, true, false, Some, refl, sym, ◌∙◌, inl, inr, arith}
-use Rattle.std.proofs.lemmas.Bool.{cond_both, and_parts, eqb-true, eqb-false, leb-true}
-use Rattle.std.proofs.lemmas.Bool.Decides.{nat_tests}
+use Rattle.std.specs.Prelude.{nat_lt, nat_le, not, ◌==◌, ◌&&◌}
+use Rattle.std.proofs.Common.{◌≡◌, ◌≢◌, ℕ, ◌+◌, ◌-◌, ◌%◌, ◌≤◌, true, false, Some, refl, arith}
+use Rattle.std.proofs.lemmas.Bool.{cond_both, and_parts, eqb-false, leb-true}
 use Rattle.song_model.specs.declared.orders.Order.{Order}
 use Rattle.song_model.specs.declared.tables.TableRow.{TableRow}
 use Rattle.song_model.specs.declared.tables.TableName.TheVariants.{Wave, Pulse, Filter}
@@ -10,10 +9,10 @@ use Rattle.song_model.specs.declared.songs.Song.{Song}
 use Rattle.song_model.specs.LookUp.{table_row}
 use Rattle.song_model.specs.Pointers.{wave_row_table}
 use Rattle.play_model.specs.LookUps.{LookUps, look_ups_of}
-use Rattle.play_model.specs.Wrap.{byte_plus, freq_plus, freq_minus}
+use Rattle.play_model.specs.Wrap.{byte_plus}
 use Rattle.play_model.specs.Freq.{freq, slide}
-use Rattle.play_model.specs.State.{Voice, Common, Playing}
-use Rattle.play_model.specs.Helpers.{next_row, porta_up, porta_down, at_target, towards, tone, swung, vibrato}
+use Rattle.play_model.specs.State.{Voice, Playing}
+use Rattle.play_model.specs.Helpers.{porta_up, porta_down, at_target, towards, tone, vibrato}
 use Rattle.play_model.specs.WaveStep.{Waved, wave_command, is_wave_command, left_done, program_moved, wave_note, with_note, right_done, wave_row, wave_step}
 use Rattle.play_model.specs.EffectStep.{instrument_vibrato, effect_step}
 use Rattle.play_model.specs.Reached.{IsReached, IsStep}

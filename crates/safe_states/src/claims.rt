@@ -1,1 +1,25 @@
 //! Facts about the definitions, each the contract of a function that does nothing.
+
+ghost use Rattle.safe_states.specs.SafeLaws.{PlayableSongsPlaySafely, StatesAreSafe, NoUnusedCase, SafeWithin};
+
+/// Each start of a playable song is safe, each frame keeps it so, and what a frame uses is a feature of the song.
+pub fn playable_songs_play_safely()
+    ensures { PlayableSongsPlaySafely }
+{}
+
+/// The state after any number of frames is safe.
+#[tactic(auto, using(crate::proofs::Frames::states_are_safe_lem))]
+pub fn states_are_safe()
+    ensures { StatesAreSafe }
+{}
+
+/// A frame of a playable song uses no more than the song's features, with any options, after any number of frames.
+#[tactic(auto, using(crate::proofs::Frames::no_unused_case_lem))]
+pub fn no_unused_case()
+    ensures { NoUnusedCase }
+{}
+
+/// Each rule of a frame keeps what it works on safe, and so does each step of a frame.
+pub fn safe_within()
+    ensures { SafeWithin }
+{}
