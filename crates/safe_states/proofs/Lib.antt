@@ -13,3 +13,5 @@ pub mod Steps
 pub mod Running
 pub mod Turns
 pub mod Frames
+-- What frames of small songs use, decided by tests and computed.
+pub mod CaseTests

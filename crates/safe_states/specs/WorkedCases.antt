@@ -1,0 +1,83 @@
+-- What frames of small songs use, worked out by hand.
+use Rattle.std.specs.Prelude.{◌≡◌, ℕ, ◌↔◌, true, false, List, [], ◌∷◌, Contains}
+use Rattle.song_model.specs.declared.features.Feature.{Feature}
+use Rattle.song_model.specs.declared.features.Feature.TheVariants.{Transpose, PortaUp, TonePorta, TieNote, Vibrato, InstrumentVibrato, NoteDependent, SetWavePointer, PulseTable, SetPulsePointer, FilterTable, SetFilterPointer, FunkTempo, SetTempo, WaveTable, WaveCommand}
+use Rattle.song_model.specs.declared.songs.Song.{Song}
+use Rattle.play_model.specs.declared.options.Options.{Options}
+use Rattle.play_model.specs.State.{no_options}
+use Rattle.play_model.specs.Frame.{state_after_with}
+use Rattle.play_model.specs.Uses.{UsesFeature}
+use Rattle.play_model.specs.WorkedRuns.{left_out}
+use Rattle.play_model.specs.WorkedSongs.{row, rests, with_rows, one_note, low_note, wrapping_note, sliding_note, funk_song, rising_note, rising_pulse, waiting_wave, small_song}
+use Rattle.play_model.specs.WorkedUses.{tempo_song, pointing_wave}
+
+-- the frame of playable subtune 0 after n frames uses exactly these features
+abbrev pub UsesExactlyWith : Options → Song → ℕ → List Feature → Type 0
+UsesExactlyWith o song n features =
+    (feature : Feature) → UsesFeature o song 0 (state_after_with o song 0 n) feature ↔ Contains features feature
+
+abbrev pub UsesExactly : Song → ℕ → List Feature → Type 0
+UsesExactly song n features = UsesExactlyWith no_options song n features
+
+-- The note's row is fetched in the fifth frame and done in the seventh, which starts the note and ends the voice's
+-- step. In the eighth the two programs are begun, and both stop after a row.
+pub record ProgramsAreUsed : Type 0 where
+  pub first : UsesExactly one_note 0 []
+  pub fetched : UsesExactly one_note 4 []
+  pub started : UsesExactly one_note 6 []
+  pub begun : UsesExactly one_note 7 (PulseTable ∷ WaveTable ∷ [])
+  pub stopped : UsesExactly one_note 8 []
+
+-- the second row is done in the thirteenth frame, and its slide goes on
+pub record SlidesAreUsed : Type 0 where
+  pub before : UsesExactly rising_note 11 []
+  pub first : UsesExactly rising_note 12 (PortaUp ∷ [])
+  pub later : UsesExactly rising_note 15 (PortaUp ∷ [])
+  -- the option leaves the effect out where the row is done
+  pub kept_out : UsesExactlyWith (left_out true false 1) rising_note 12 []
+  pub begun_late : UsesExactlyWith (left_out true false 1) rising_note 13 (PortaUp ∷ [])
+
+-- with a parameter a slide to the note, and without one the note at once
+pub record TonesAreUsed : Type 0 where
+  pub slides : UsesExactly sliding_note 12 (TonePorta ∷ [])
+  pub ties : UsesExactly sliding_note 18 (TieNote ∷ [])
+
+-- a vibrato waits for the wave program and for its delay, and its depth comes from the note
+pub record VibratosAreUsed : Type 0 where
+  pub waits : UsesExactly wrapping_note 7 (WaveTable ∷ [])
+  pub begins : UsesExactly wrapping_note 8 (InstrumentVibrato ∷ NoteDependent ∷ [])
+
+-- command $F in the seventh frame; the frame after it loads the row's length
+pub record TemposAreUsed : Type 0 where
+  pub before : UsesExactly (tempo_song 3) 5 []
+  pub sets : UsesExactly (tempo_song 3) 6 (SetTempo ∷ [])
+  pub loads : UsesExactly (tempo_song 3) 7 (PulseTable ∷ WaveTable ∷ [])
+  pub two : UsesExactly (tempo_song 2) 6 []
+  pub one : UsesExactly (tempo_song 1) 6 (FunkTempo ∷ [])
+  pub one_loads : UsesExactly (tempo_song 1) 7 (PulseTable ∷ FunkTempo ∷ WaveTable ∷ [])
+  pub here : UsesExactly (tempo_song 0x83) 6 (SetTempo ∷ [])
+  pub funk : UsesExactly funk_song 6 (FunkTempo ∷ [])
+  pub funk_loads : UsesExactly funk_song 7 (FunkTempo ∷ [])
+
+-- a row of the wave table after the other: a pulse program, a filter program, which the next frame's filter step is
+-- at, and a slide
+pub record WaveCommandsAreUsed : Type 0 where
+  pub pulse : UsesExactly pointing_wave 7 (PulseTable ∷ SetPulsePointer ∷ WaveTable ∷ WaveCommand ∷ [])
+  pub filter : UsesExactly pointing_wave 8 (SetFilterPointer ∷ WaveTable ∷ WaveCommand ∷ [])
+  pub slide : UsesExactly pointing_wave 9 (PortaUp ∷ FilterTable ∷ WaveTable ∷ WaveCommand ∷ [])
+
+-- a row begins the wave program anew, and an option leaves out the pulse step where a row is fetched
+pub record OtherCasesAreUsed : Type 0 where
+  pub wave_pointer : UsesExactly waiting_wave 30 (SetWavePointer ∷ WaveTable ∷ [])
+  pub pulse : UsesExactly rising_pulse 10 (PulseTable ∷ [])
+  pub no_pulse : UsesExactlyWith (left_out false true 1) rising_pulse 10 []
+  pub transpose : UsesExactly low_note 3 (Transpose ∷ [])
+
+pub record CasesAreAsWorked : Type 0 where
+  pub programs : ProgramsAreUsed
+  pub slides : SlidesAreUsed
+  pub tones : TonesAreUsed
+  pub vibratos : VibratosAreUsed
+  pub tempos : TemposAreUsed
+  pub waves : WaveCommandsAreUsed
+  pub others : OtherCasesAreUsed
