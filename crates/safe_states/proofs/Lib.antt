@@ -15,3 +15,7 @@ pub mod Turns
 pub mod Frames
 -- What frames of small songs use, decided by tests and computed.
 pub mod CaseTests
+pub mod EffectTests
+pub mod AskTests
+pub mod FrameTests
+pub mod WorkedCases

@@ -1,20 +1,20 @@
 -- What frames of small songs use, worked out by hand.
-use Rattle.std.specs.Prelude.{◌≡◌, ℕ, ◌↔◌, true, false, List, [], ◌∷◌, Contains}
+use Rattle.std.specs.Prelude.{ℕ, ◌+◌, ◌↔◌, true, false, List, [], ◌∷◌, Contains}
 use Rattle.song_model.specs.declared.features.Feature.{Feature}
-use Rattle.song_model.specs.declared.features.Feature.TheVariants.{Transpose, PortaUp, TonePorta, TieNote, Vibrato, InstrumentVibrato, NoteDependent, SetWavePointer, PulseTable, SetPulsePointer, FilterTable, SetFilterPointer, FunkTempo, SetTempo, WaveTable, WaveCommand}
+use Rattle.song_model.specs.declared.features.Feature.TheVariants.{Transpose, Repeat, PortaUp, PortaDown, TonePorta, TieNote, Vibrato, InstrumentVibrato, NoteDependent, SetAd, SetSr, SetWave, SetWavePointer, PulseTable, SetPulsePointer, FilterTable, SetFilterPointer, FilterControl, Cutoff, Volume, FunkTempo, SetTempo, WaveTable, WaveCommand}
 use Rattle.song_model.specs.declared.songs.Song.{Song}
 use Rattle.play_model.specs.declared.options.Options.{Options}
 use Rattle.play_model.specs.State.{no_options}
 use Rattle.play_model.specs.Frame.{state_after_with}
 use Rattle.play_model.specs.Uses.{UsesFeature}
 use Rattle.play_model.specs.WorkedRuns.{left_out}
-use Rattle.play_model.specs.WorkedSongs.{row, rests, with_rows, one_note, low_note, wrapping_note, sliding_note, funk_song, rising_note, rising_pulse, waiting_wave, small_song}
-use Rattle.play_model.specs.WorkedUses.{tempo_song, pointing_wave}
+use Rattle.play_model.specs.WorkedSongs.{subtune, row, sides, rests, with_rows, one_note, low_note, wrapping_note, sliding_note, funk_song, rising_note, rising_pulse, waiting_wave}
+use Rattle.play_model.specs.WorkedUses.{with_wave, with_subtunes, tempo_song, pointing_wave}
 
 -- the frame of playable subtune 0 after n frames uses exactly these features
-abbrev pub UsesExactlyWith : Options → Song → ℕ → List Feature → Type 0
-UsesExactlyWith o song n features =
-    (feature : Feature) → UsesFeature o song 0 (state_after_with o song 0 n) feature ↔ Contains features feature
+pub record UsesExactlyWith (o : Options) (song : Song) (n : ℕ) (features : List Feature) : Type 0 where
+  pub each : (feature : Feature) →
+      UsesFeature o song 0 (state_after_with o song 0 n) feature ↔ Contains features feature
 
 abbrev pub UsesExactly : Song → ℕ → List Feature → Type 0
 UsesExactly song n features = UsesExactlyWith no_options song n features
@@ -59,6 +59,52 @@ pub record TemposAreUsed : Type 0 where
   pub funk : UsesExactly funk_song 6 (FunkTempo ∷ [])
   pub funk_loads : UsesExactly funk_song 7 (FunkTempo ∷ [])
 
+-- a row with this command and parameter 1, done in the seventh frame, and the same command in the wave table, done in
+-- the eighth
+abbrev pub command_song : ℕ → Song
+command_song command =
+    with_rows (row 0xBD 0 command 1 ∷ rests 1) (record one_note { filter = sides 0 0x20 ∷ sides 0xFF 0 ∷ [] })
+
+abbrev pub wave_command_song : ℕ → Song
+wave_command_song command = with_wave (sides (0xF0 + command) 1 ∷ sides 0xFF 0 ∷ []) one_note
+
+-- The commands 1 to 4 run from the row's own frame on. A wave program that is begun in a row is met in the same frame,
+-- and so is a pulse program, but a filter program in the next.
+pub record RowCommandsAreUsed : Type 0 where
+  pub none : UsesExactly (command_song 0) 6 []
+  pub up : UsesExactly (command_song 1) 6 (PortaUp ∷ [])
+  pub down : UsesExactly (command_song 2) 6 (PortaDown ∷ [])
+  pub tone : UsesExactly (command_song 3) 6 (TonePorta ∷ [])
+  pub vibrato : UsesExactly (command_song 4) 6 (Vibrato ∷ [])
+  pub ad : UsesExactly (command_song 5) 6 (SetAd ∷ [])
+  pub sr : UsesExactly (command_song 6) 6 (SetSr ∷ [])
+  pub wave : UsesExactly (command_song 7) 6 (SetWave ∷ [])
+  pub wave_pointer : UsesExactly (command_song 8) 6 (SetWavePointer ∷ WaveTable ∷ [])
+  pub pulse_pointer : UsesExactly (command_song 9) 6 (PulseTable ∷ SetPulsePointer ∷ [])
+  pub filter_pointer : UsesExactly (command_song 0xA) 6 (SetFilterPointer ∷ [])
+  pub next_frame : UsesExactly (command_song 0xA) 7 (FilterTable ∷ [])
+  pub control : UsesExactly (command_song 0xB) 6 (FilterControl ∷ [])
+  pub cutoff : UsesExactly (command_song 0xC) 6 (Cutoff ∷ [])
+  pub volume : UsesExactly (command_song 0xD) 6 (Volume ∷ [])
+  pub funk : UsesExactly (command_song 0xE) 6 (FunkTempo ∷ [])
+  pub tempo : UsesExactly (command_song 0xF) 6 (FunkTempo ∷ [])
+
+-- in the wave table 0, 8 and $E do nothing, and a row with a command lets no effect run
+pub record EachWaveCommandIsUsed : Type 0 where
+  pub none : UsesExactly (wave_command_song 0) 7 (PulseTable ∷ WaveTable ∷ WaveCommand ∷ [])
+  pub up : UsesExactly (wave_command_song 1) 7 (PortaUp ∷ PulseTable ∷ WaveTable ∷ WaveCommand ∷ [])
+  pub down : UsesExactly (wave_command_song 2) 7 (PortaDown ∷ PulseTable ∷ WaveTable ∷ WaveCommand ∷ [])
+  pub tone : UsesExactly (wave_command_song 3) 7 (TonePorta ∷ PulseTable ∷ WaveTable ∷ WaveCommand ∷ [])
+  pub vibrato : UsesExactly (wave_command_song 4) 7 (Vibrato ∷ PulseTable ∷ WaveTable ∷ WaveCommand ∷ [])
+  pub ad : UsesExactly (wave_command_song 5) 7 (SetAd ∷ PulseTable ∷ WaveTable ∷ WaveCommand ∷ [])
+  pub sr : UsesExactly (wave_command_song 6) 7 (SetSr ∷ PulseTable ∷ WaveTable ∷ WaveCommand ∷ [])
+  pub wave : UsesExactly (wave_command_song 7) 7 (SetWave ∷ PulseTable ∷ WaveTable ∷ WaveCommand ∷ [])
+  pub eight : UsesExactly (wave_command_song 8) 7 (PulseTable ∷ WaveTable ∷ WaveCommand ∷ [])
+  pub control : UsesExactly (wave_command_song 0xB) 7 (FilterControl ∷ PulseTable ∷ WaveTable ∷ WaveCommand ∷ [])
+  pub cutoff : UsesExactly (wave_command_song 0xC) 7 (Cutoff ∷ PulseTable ∷ WaveTable ∷ WaveCommand ∷ [])
+  pub volume : UsesExactly (wave_command_song 0xD) 7 (Volume ∷ PulseTable ∷ WaveTable ∷ WaveCommand ∷ [])
+  pub fourteen : UsesExactly (wave_command_song 0xE) 7 (PulseTable ∷ WaveTable ∷ WaveCommand ∷ [])
+
 -- a row of the wave table after the other: a pulse program, a filter program, which the next frame's filter step is
 -- at, and a slide
 pub record WaveCommandsAreUsed : Type 0 where
@@ -66,12 +112,17 @@ pub record WaveCommandsAreUsed : Type 0 where
   pub filter : UsesExactly pointing_wave 8 (SetFilterPointer ∷ WaveTable ∷ WaveCommand ∷ [])
   pub slide : UsesExactly pointing_wave 9 (PortaUp ∷ FilterTable ∷ WaveTable ∷ WaveCommand ∷ [])
 
+-- voice 1 plays its pattern twice in a row
+abbrev pub repeating_note : Song
+repeating_note = with_subtunes (subtune (0xD1 ∷ 0 ∷ []) (1 ∷ []) (1 ∷ []) ∷ []) one_note
+
 -- a row begins the wave program anew, and an option leaves out the pulse step where a row is fetched
 pub record OtherCasesAreUsed : Type 0 where
   pub wave_pointer : UsesExactly waiting_wave 30 (SetWavePointer ∷ WaveTable ∷ [])
   pub pulse : UsesExactly rising_pulse 10 (PulseTable ∷ [])
   pub no_pulse : UsesExactlyWith (left_out false true 1) rising_pulse 10 []
   pub transpose : UsesExactly low_note 3 (Transpose ∷ [])
+  pub repeat : UsesExactly repeating_note 3 (Repeat ∷ [])
 
 pub record CasesAreAsWorked : Type 0 where
   pub programs : ProgramsAreUsed
@@ -79,5 +130,7 @@ pub record CasesAreAsWorked : Type 0 where
   pub tones : TonesAreUsed
   pub vibratos : VibratosAreUsed
   pub tempos : TemposAreUsed
+  pub rows : RowCommandsAreUsed
+  pub commands : EachWaveCommandIsUsed
   pub waves : WaveCommandsAreUsed
   pub others : OtherCasesAreUsed

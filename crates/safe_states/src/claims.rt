@@ -1,6 +1,7 @@
 //! Facts about the definitions, each the contract of a function that does nothing.
 
 ghost use Rattle.safe_states.specs.SafeLaws.{PlayableSongsPlaySafely, StatesAreSafe, NoUnusedCase, SafeWithin};
+ghost use Rattle.safe_states.specs.WorkedCases.{CasesAreAsWorked};
 
 /// Each start of a playable song is safe, each frame keeps it so, and what a frame uses is a feature of the song.
 pub fn playable_songs_play_safely()
@@ -22,4 +23,10 @@ pub fn no_unused_case()
 /// Each rule of a frame keeps what it works on safe, and so does each step of a frame.
 pub fn safe_within()
     ensures { SafeWithin }
+{}
+
+/// What frames of small songs use: each feature where its case comes first, and none besides.
+#[tactic(auto, using(crate::proofs::WorkedCases::cases_are_as_worked_lem))]
+pub fn worked_cases()
+    ensures { CasesAreAsWorked }
 {}
