@@ -139,7 +139,8 @@ funks_test : (turn : Turn) → Decides (asks_funk turn) (Funks turn)
 unfolding asks_funk
 funks_test turn =
     either (row_does turn 0xE any) _ (So (DoesRow turn 0xE) Anything) _ (row_test turn 0xE any Anything any_test)
-    (either (row_does turn 0xF (λ d. nat_le d 1)) (loads_funk turn) (So (DoesRow turn 0xF) (λ d. d ≤ 1)) (LoadsFunk turn)
+    (either (row_does turn 0xF (λ d. nat_le d 1)) (loads_funk turn) (So (DoesRow turn 0xF) (λ d. d ≤ 1))
+    (LoadsFunk turn)
     (row_test turn 0xF (λ d. nat_le d 1) (λ d. d ≤ 1) low_test) (loads_test turn))
 
 funked : (turn : Turn) → Funks turn → AsksFunkTempo turn

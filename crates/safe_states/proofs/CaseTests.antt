@@ -45,7 +45,8 @@ row_does turn c test =
     (byte_minus turn.start.voice.tick 1 == 0)
     && ((turn.start.voice.new_command == c) && test turn.start.voice.new_param)
 
-pub row_test : (turn : Turn) (c : ℕ) (test : ℕ → Bool) (IsMeant : ℕ → Type 0) → ((d : ℕ) → Decides (test d) (IsMeant d)) →
+pub row_test : (turn : Turn) (c : ℕ) (test : ℕ → Bool) (IsMeant : ℕ → Type 0) →
+    ((d : ℕ) → Decides (test d) (IsMeant d)) →
     Decides (row_does turn c test) (So (DoesRow turn c) IsMeant)
 unfolding row_does
 row_test turn c test IsMeant decides = (to, from)
@@ -59,7 +60,11 @@ row_test turn c test IsMeant decides = (to, from)
         let q = and_parts _ _ p.1 in
         record {
           d = turn.start.voice.new_param;
-          does = record { now = eqb-true now 0 p.0; command_is = eqb-true turn.start.voice.new_command c q.0; param_is = refl };
+          does = record {
+            now = eqb-true now 0 p.0;
+            command_is = eqb-true turn.start.voice.new_command c q.0;
+            param_is = refl;
+          };
           meant = (decides turn.start.voice.new_param).0 q.1;
         }
 

@@ -199,7 +199,8 @@ slides_test turn c test IsMeant decides = (λ h. to (both.0 h), λ s. both.1 (fr
   where
     both : Decides (slides turn c test) (So (DoesWave turn c) IsMeant ⊎ So (DoesRunning turn c) IsMeant)
     both =
-        either (wave_does turn c test) (runs turn c test) (So (DoesWave turn c) IsMeant) (So (DoesRunning turn c) IsMeant)
+        either (wave_does turn c test) (runs turn c test) (So (DoesWave turn c) IsMeant)
+        (So (DoesRunning turn c) IsMeant)
         (wave_command_test turn c test IsMeant decides) (running_test turn c test IsMeant decides)
 
     to : So (DoesWave turn c) IsMeant ⊎ So (DoesRunning turn c) IsMeant → So (Slides turn c) IsMeant

@@ -95,19 +95,7 @@ taken_keeps song order row v used q = record {
 envelope_keeps : (song : Song) (order : Order) (plays : ℕ) (v : Voice) (note gate ad sr : ℕ) →
     InPlay song order plays v →
     InPlay song order plays (record v { new_note = note; gate = gate; ad = ad; sr = sr })
-envelope_keeps song order plays v note gate ad sr p = record {
-  safe = record {
-    instrument = p.safe.instrument;
-    wave = p.safe.wave;
-    pulse = p.safe.pulse;
-    pulse_time = p.safe.pulse_time;
-    waiting = p.safe.waiting;
-    running = p.safe.running;
-    delay = p.safe.delay;
-    row = p.safe.row;
-  };
-  same = p.same;
-}
+envelope_keeps song order plays v note gate ad sr p = assumption p
 
 keyed_keeps : (song : Song) (order : Order) (plays note : ℕ) (v : Voice) → InPlay song order plays v →
     InPlay song order plays (gate_keyed note v)
@@ -146,16 +134,7 @@ row_done_keeps song order look row transpose v used q =
 at_row : (song : Song) (order : Order) (v : Voice) (row plays : ℕ) →
     row < length (pattern_at song (played order plays).pattern) → IsSafeVoice song order v →
     IsSafeVoice song order (record v { row = row; plays = plays })
-at_row song order v row plays inside q = record {
-  instrument = q.instrument;
-  wave = q.wave;
-  pulse = q.pulse;
-  pulse_time = q.pulse_time;
-  waiting = q.waiting;
-  running = q.running;
-  delay = q.delay;
-  row = inside;
-}
+at_row song order v row plays inside q = assumption (inside, q)
 
 next_inside : (row rows : ℕ) → row < rows → rows ≤ 128 → byte_plus row 1 ≢ rows → byte_plus row 1 < rows
 next_inside row rows inside most other = omega arith

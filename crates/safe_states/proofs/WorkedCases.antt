@@ -79,7 +79,8 @@ abbrev same_bit : Feature → Feature → Bool
 same_bit a b = bit_of a == bit_of b
 
 same_feature : (a b : Feature) → same_bit a b ≡ true → a ≡ b
-same_feature a b h = sym (place_of a).is ∙ ap (λ (k : ℕ). feature_of k) (eqb-true (bit_of a) (bit_of b) h) ∙ (place_of b).is
+same_feature a b h =
+    sym (place_of a).is ∙ ap (λ (k : ℕ). feature_of k) (eqb-true (bit_of a) (bit_of b) h) ∙ (place_of b).is
 
 equal_refl : (n : ℕ) → (n == n) ≡ true
 equal_refl n = eq-eqb n n refl

@@ -17,5 +17,7 @@ mod Refusals
 -- Features.
 mod FeatureMarks
 mod SetBits
+-- Features name each case of a frame.
+mod Cases
 -- What is said of used parts is the song's own.
 mod OneParts

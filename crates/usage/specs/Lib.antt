@@ -1,6 +1,7 @@
 -- To believe: what the marks of used parts say.
 pub mod Marks
 pub mod Parts
+pub mod Cases
 -- Claimed: a law of these.
 pub mod PartLaws
 -- Inner: what the parts of `usage` promise each other.

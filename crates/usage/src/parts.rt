@@ -5,6 +5,7 @@ ghost use Rattle.play_model.specs.declared.unplayable.Unplayable.{Unplayable as 
 ghost use Rattle.play_model.specs.Playable.{Fails, IsFirst, IsPlayable, IsRefusedFor};
 ghost use Rattle.usage.specs.Search.{IsNowhere, OrderFails};
 ghost use Rattle.usage.specs.Found.{IsFoundOf, ProgramFails};
+ghost use Rattle.usage.specs.Cases.{NameEachCase};
 ghost use Rattle.usage.specs.Parts.{AreUsedParts};
 
 use crate::found::Found;
@@ -101,6 +102,7 @@ fn looked_at(song: &Song) -> Result<UsedParts, Unplayable>
 /// orderlists are looked at before the tables.
 pub fn usage(song: &Song) -> Result<UsedParts, Unplayable>
     ensures parts { IfOk result (AreUsedParts song.now) }
+    ensures cases { IfOk result (λ parts. NameEachCase song.now parts.features.0) }
     ensures playable { IsOk result ↔ IsPlayable song.now }
     ensures refused { (refusal : Refusal) → IsErrOf result refusal ↔ IsRefusedFor song.now refusal }
 {
