@@ -25,7 +25,7 @@ use Rattle.play_model.specs.EffectStep.{effect_step}
 use Rattle.play_model.specs.PulseStep.{pulse_step}
 use Rattle.play_model.specs.FetchRow.{fetch_row}
 use Rattle.play_model.specs.Frame.{voice_step, voice_registers, filter_registers, frame_of, subtune_at, state_after_with}
-use Rattle.safe_states.specs.WorkedCases.{UsesExactlyWith, ProgramsAreUsed, SlidesAreUsed, TonesAreUsed, VibratosAreUsed, TemposAreUsed, WaveCommandsAreUsed, RowCommandsAreUsed, EachWaveCommandIsUsed, OtherCasesAreUsed, CasesAreAsWorked}
+use Rattle.safe_states.specs.WorkedCases.{UsesExactlyWith, ProgramsAreUsed, SlidesAreUsed, TonesAreUsed, VibratosAreUsed, TemposAreUsed, RowCommandsAreUsed, SpeedsAreUsed, EachWaveCommandIsUsed, WaveCommandsAreUsed, OrdersAreUsed, VoicesAreUsed, OtherCasesAreUsed, CasesAreAsWorked}
 use Rattle.safe_states.proofs.CaseTests.{Decides, row_does, loads_funk, goes, left, has_wave, row_of, meets, wave_does}
 use Rattle.safe_states.proofs.EffectTests.{waved, effect, runs, vibrates, vibrato_asks, done, has_pulse, once}
 use Rattle.safe_states.proofs.AskTests.{asks_speed, asks_funk}
@@ -168,6 +168,11 @@ unfolding prefix_of cycle_of played playable_subtune instrument_at table_row pat
 vibratos_lem = record {
   waits = exactly _ _ _ _ refl;
   begins = exactly _ _ _ _ refl;
+  delayed = exactly _ _ _ _ refl;
+  begins_later = exactly _ _ _ _ refl;
+  no_delay = exactly _ _ _ _ refl;
+  no_pointer = exactly _ _ _ _ refl;
+  both = exactly _ _ _ _ refl;
 }
 
 tempos_lem : TemposAreUsed
@@ -179,9 +184,16 @@ tempos_lem = record {
   two = exactly _ _ _ _ refl;
   one = exactly _ _ _ _ refl;
   one_loads = exactly _ _ _ _ refl;
+  one_loaded = exactly _ _ _ _ refl;
+  zero = exactly _ _ _ _ refl;
+  two_here = exactly _ _ _ _ refl;
   here = exactly _ _ _ _ refl;
   funk = exactly _ _ _ _ refl;
   funk_loads = exactly _ _ _ _ refl;
+  past = exactly _ _ _ _ refl;
+  not_past = exactly _ _ _ _ refl;
+  of_others = exactly _ _ _ _ refl;
+  in_one_frame = exactly _ _ _ _ refl;
 }
 
 rows_lem : RowCommandsAreUsed
@@ -204,6 +216,19 @@ rows_lem = record {
   volume = exactly _ _ _ _ refl;
   funk = exactly _ _ _ _ refl;
   tempo = exactly _ _ _ _ refl;
+}
+
+speeds_lem : SpeedsAreUsed
+unfolding prefix_of cycle_of played playable_subtune instrument_at table_row pattern_at freq half_tone slide next_row porta_up porta_down tone vibrato do_command filter_step between_rows note_started row_command at_row tick_step wave_command wave_step effect_step pulse_step fetch_row voice_step voice_registers filter_registers frame_of state_after_with row_does loads_funk goes left has_wave row_of meets wave_does waved effect runs vibrates vibrato_asks done has_pulse once asks_speed asks_funk agrees
+speeds_lem = record {
+  up = exactly _ _ _ _ refl;
+  down = exactly _ _ _ _ refl;
+  tone = exactly _ _ _ _ refl;
+  vibrato = exactly _ _ _ _ refl;
+  ad = exactly _ _ _ _ refl;
+  funk = exactly _ _ _ _ refl;
+  low = exactly _ _ _ _ refl;
+  wave = exactly _ _ _ _ refl;
 }
 
 commands_lem : EachWaveCommandIsUsed
@@ -232,14 +257,29 @@ waves_lem = record {
   slide = exactly _ _ _ _ refl;
 }
 
+orders_lem : OrdersAreUsed
+unfolding prefix_of cycle_of played playable_subtune instrument_at table_row pattern_at freq half_tone slide next_row porta_up porta_down tone vibrato do_command filter_step between_rows note_started row_command at_row tick_step wave_command wave_step effect_step pulse_step fetch_row voice_step voice_registers filter_registers frame_of state_after_with row_does loads_funk goes left has_wave row_of meets wave_does waved effect runs vibrates vibrato_asks done has_pulse once asks_speed asks_funk agrees
+orders_lem = record {
+  least_repeat = exactly _ _ _ _ refl;
+  most_repeat = exactly _ _ _ _ refl;
+  least_transpose = exactly _ _ _ _ refl;
+  most_transpose = exactly _ _ _ _ refl;
+  restart = exactly _ _ _ _ refl;
+}
+
+voices_lem : VoicesAreUsed
+unfolding prefix_of cycle_of played playable_subtune instrument_at table_row pattern_at freq half_tone slide next_row porta_up porta_down tone vibrato do_command filter_step between_rows note_started row_command at_row tick_step wave_command wave_step effect_step pulse_step fetch_row voice_step voice_registers filter_registers frame_of state_after_with row_does loads_funk goes left has_wave row_of meets wave_does waved effect runs vibrates vibrato_asks done has_pulse once asks_speed asks_funk agrees
+voices_lem = record {
+  second = exactly _ _ _ _ refl;
+  third = exactly _ _ _ _ refl;
+}
+
 others_lem : OtherCasesAreUsed
 unfolding prefix_of cycle_of played playable_subtune instrument_at table_row pattern_at freq half_tone slide next_row porta_up porta_down tone vibrato do_command filter_step between_rows note_started row_command at_row tick_step wave_command wave_step effect_step pulse_step fetch_row voice_step voice_registers filter_registers frame_of state_after_with row_does loads_funk goes left has_wave row_of meets wave_does waved effect runs vibrates vibrato_asks done has_pulse once asks_speed asks_funk agrees
 others_lem = record {
   wave_pointer = exactly _ _ _ _ refl;
   pulse = exactly _ _ _ _ refl;
   no_pulse = exactly _ _ _ _ refl;
-  transpose = exactly _ _ _ _ refl;
-  repeat = exactly _ _ _ _ refl;
 }
 
 pub cases_are_as_worked_lem : CasesAreAsWorked
@@ -250,7 +290,10 @@ cases_are_as_worked_lem = record {
   vibratos = vibratos_lem;
   tempos = tempos_lem;
   rows = rows_lem;
+  speeds = speeds_lem;
   commands = commands_lem;
   waves = waves_lem;
+  orders = orders_lem;
+  voices = voices_lem;
   others = others_lem;
 }

@@ -1,5 +1,5 @@
 -- What frames of small songs use, worked out by hand.
-use Rattle.std.specs.Prelude.{ℕ, ◌+◌, ◌↔◌, true, false, List, [], ◌∷◌, Contains}
+use Rattle.std.specs.Prelude.{ℕ, ◌+◌, ◌↔◌, true, false, List, [], ◌∷◌, ◌++◌, Contains}
 use Rattle.song_model.specs.declared.features.Feature.{Feature}
 use Rattle.song_model.specs.declared.features.Feature.TheVariants.{Transpose, Repeat, PortaUp, PortaDown, TonePorta, TieNote, Vibrato, InstrumentVibrato, NoteDependent, SetAd, SetSr, SetWave, SetWavePointer, PulseTable, SetPulsePointer, FilterTable, SetFilterPointer, FilterControl, Cutoff, Volume, FunkTempo, SetTempo, WaveTable, WaveCommand}
 use Rattle.song_model.specs.declared.songs.Song.{Song}
@@ -8,8 +8,8 @@ use Rattle.play_model.specs.State.{no_options}
 use Rattle.play_model.specs.Frame.{state_after_with}
 use Rattle.play_model.specs.Uses.{UsesFeature}
 use Rattle.play_model.specs.WorkedRuns.{left_out}
-use Rattle.play_model.specs.WorkedSongs.{subtune, row, sides, rests, with_rows, one_note, low_note, wrapping_note, sliding_note, funk_song, rising_note, rising_pulse, waiting_wave}
-use Rattle.play_model.specs.WorkedUses.{with_wave, with_subtunes, tempo_song, pointing_wave}
+use Rattle.play_model.specs.WorkedSongs.{subtune, row, sides, plucked, rests, with_rows, with_instrument, one_note, wrapping_note, sliding_note, funk_song, long_funk_song, rising_note, rising_pulse, waiting_wave, other_vibrato}
+use Rattle.play_model.specs.WorkedUses.{with_wave, with_subtunes, tempo_song, pointing_wave, late_restart}
 
 -- the frame of playable subtune 0 after n frames uses exactly these features
 pub record UsesExactlyWith (o : Options) (song : Song) (n : ℕ) (features : List Feature) : Type 0 where
@@ -42,10 +42,30 @@ pub record TonesAreUsed : Type 0 where
   pub slides : UsesExactly sliding_note 12 (TonePorta ∷ [])
   pub ties : UsesExactly sliding_note 18 (TieNote ∷ [])
 
--- a vibrato waits for the wave program and for its delay, and its depth comes from the note
+-- the same vibrato with a longer delay
+abbrev pub later_vibrato : Song
+later_vibrato = with_instrument (record plucked { pulse = 0; vibrato = 1; vibrato_delay = 2 }) wrapping_note
+
+-- A vibrato waits for the wave program. Its delay counts as its use, but its depth, which comes from the note, isn't
+-- asked for before the delay is over. Without a delay, and without a pointer, there is none.
 pub record VibratosAreUsed : Type 0 where
   pub waits : UsesExactly wrapping_note 7 (WaveTable ∷ [])
   pub begins : UsesExactly wrapping_note 8 (InstrumentVibrato ∷ NoteDependent ∷ [])
+  pub delayed : UsesExactly later_vibrato 8 (InstrumentVibrato ∷ [])
+  pub begins_later : UsesExactly later_vibrato 9 (InstrumentVibrato ∷ NoteDependent ∷ [])
+  pub no_delay : UsesExactly (other_vibrato 0) 12 []
+  pub no_pointer : UsesExactly (other_vibrato 1) 11 []
+  pub both : UsesExactly (other_vibrato 1) 12 (InstrumentVibrato ∷ [])
+
+-- funk tempos for all, and then a tempo of channel 1 alone
+abbrev pub own_tempo : Song
+own_tempo = record (with_rows (row 0xBD 0 0xE 1 ∷ row 0xBD 0 0xF 0x83 ∷ []) one_note) { speed = sides 3 3 ∷ [] }
+
+-- funk tempos for all, a tempo of channel 1 alone, and a tempo for all, which comes in the very frame in which the
+-- channels 2 and 3 load a row's length
+abbrev pub common_tempo : Song
+common_tempo =
+    with_rows (row 0xBD 0 0xF 0 ∷ row 0xBD 0 0xF 0x84 ∷ rests 3 ++ row 0xBD 0 0xF 3 ∷ []) one_note
 
 -- command $F in the seventh frame; the frame after it loads the row's length
 pub record TemposAreUsed : Type 0 where
@@ -55,9 +75,17 @@ pub record TemposAreUsed : Type 0 where
   pub two : UsesExactly (tempo_song 2) 6 []
   pub one : UsesExactly (tempo_song 1) 6 (FunkTempo ∷ [])
   pub one_loads : UsesExactly (tempo_song 1) 7 (PulseTable ∷ FunkTempo ∷ WaveTable ∷ [])
+  pub one_loaded : UsesExactly (tempo_song 1) 8 []
+  pub zero : UsesExactly (tempo_song 0) 6 (FunkTempo ∷ [])
+  pub two_here : UsesExactly (tempo_song 0x82) 6 []
   pub here : UsesExactly (tempo_song 0x83) 6 (SetTempo ∷ [])
   pub funk : UsesExactly funk_song 6 (FunkTempo ∷ [])
   pub funk_loads : UsesExactly funk_song 7 (FunkTempo ∷ [])
+  -- a tick of $80 is past 0, and one of $7F isn't
+  pub past : UsesExactly (long_funk_song 0x82) 8 (FunkTempo ∷ [])
+  pub not_past : UsesExactly (long_funk_song 0x81) 8 []
+  pub of_others : UsesExactly own_tempo 10 (FunkTempo ∷ [])
+  pub in_one_frame : UsesExactly common_tempo 31 (SetTempo ∷ [])
 
 -- a row with this command and parameter 1, done in the seventh frame, and the same command in the wave table, done in
 -- the eighth
@@ -89,6 +117,22 @@ pub record RowCommandsAreUsed : Type 0 where
   pub funk : UsesExactly (command_song 0xE) 6 (FunkTempo ∷ [])
   pub tempo : UsesExactly (command_song 0xF) 6 (FunkTempo ∷ [])
 
+-- the speed is the half tone at the last note where the left side is $80 or more
+abbrev pub high_speed : ℕ → Song → Song
+high_speed left song = record song { speed = sides left 4 ∷ [] }
+
+-- the commands 1 to 4 ask for a speed, and $E doesn't
+pub record SpeedsAreUsed : Type 0 where
+  pub up : UsesExactly (high_speed 0x80 (command_song 1)) 6 (PortaUp ∷ NoteDependent ∷ [])
+  pub down : UsesExactly (high_speed 0x80 (command_song 2)) 6 (PortaDown ∷ NoteDependent ∷ [])
+  pub tone : UsesExactly (high_speed 0x80 (command_song 3)) 6 (TonePorta ∷ NoteDependent ∷ [])
+  pub vibrato : UsesExactly (high_speed 0x80 (command_song 4)) 6 (Vibrato ∷ NoteDependent ∷ [])
+  pub ad : UsesExactly (high_speed 0x80 (command_song 5)) 6 (SetAd ∷ [])
+  pub funk : UsesExactly (high_speed 0x80 (command_song 0xE)) 6 (FunkTempo ∷ [])
+  pub low : UsesExactly (high_speed 0x7F (command_song 1)) 6 (PortaUp ∷ [])
+  pub wave : UsesExactly (high_speed 0x80 (wave_command_song 1)) 7
+      (PortaUp ∷ NoteDependent ∷ PulseTable ∷ WaveTable ∷ WaveCommand ∷ [])
+
 -- in the wave table 0, 8 and $E do nothing, and a row with a command lets no effect run
 pub record EachWaveCommandIsUsed : Type 0 where
   pub none : UsesExactly (wave_command_song 0) 7 (PulseTable ∷ WaveTable ∷ WaveCommand ∷ [])
@@ -112,17 +156,28 @@ pub record WaveCommandsAreUsed : Type 0 where
   pub filter : UsesExactly pointing_wave 8 (SetFilterPointer ∷ WaveTable ∷ WaveCommand ∷ [])
   pub slide : UsesExactly pointing_wave 9 (PortaUp ∷ FilterTable ∷ WaveTable ∷ WaveCommand ∷ [])
 
--- voice 1 plays its pattern twice in a row
-abbrev pub repeating_note : Song
-repeating_note = with_subtunes (subtune (0xD1 ∷ 0 ∷ []) (1 ∷ []) (1 ∷ []) ∷ []) one_note
+-- the note's song with other orderlists
+abbrev pub with_orders : List ℕ → List ℕ → List ℕ → Song
+with_orders one two three = with_subtunes (subtune one two three ∷ []) one_note
+
+-- transposes and repeats of a subtune are used in each of its frames, but a restart position isn't one
+pub record OrdersAreUsed : Type 0 where
+  pub least_repeat : UsesExactly (with_orders (0xD0 ∷ 0 ∷ []) (1 ∷ []) (1 ∷ [])) 3 (Repeat ∷ [])
+  pub most_repeat : UsesExactly (with_orders (1 ∷ []) (0xDF ∷ 0 ∷ []) (1 ∷ [])) 3 (Repeat ∷ [])
+  pub least_transpose : UsesExactly (with_orders (1 ∷ []) (1 ∷ []) (0xE0 ∷ 0 ∷ [])) 3 (Transpose ∷ [])
+  pub most_transpose : UsesExactly (with_orders (0xFE ∷ 0 ∷ []) (1 ∷ []) (1 ∷ [])) 3 (Transpose ∷ [])
+  pub restart : UsesExactly late_restart 3 []
+
+-- each of the three voices
+pub record VoicesAreUsed : Type 0 where
+  pub second : UsesExactly (with_orders (1 ∷ []) (0 ∷ []) (1 ∷ [])) 7 (PulseTable ∷ WaveTable ∷ [])
+  pub third : UsesExactly (with_orders (1 ∷ []) (1 ∷ []) (0 ∷ [])) 7 (PulseTable ∷ WaveTable ∷ [])
 
 -- a row begins the wave program anew, and an option leaves out the pulse step where a row is fetched
 pub record OtherCasesAreUsed : Type 0 where
   pub wave_pointer : UsesExactly waiting_wave 30 (SetWavePointer ∷ WaveTable ∷ [])
   pub pulse : UsesExactly rising_pulse 10 (PulseTable ∷ [])
   pub no_pulse : UsesExactlyWith (left_out false true 1) rising_pulse 10 []
-  pub transpose : UsesExactly low_note 3 (Transpose ∷ [])
-  pub repeat : UsesExactly repeating_note 3 (Repeat ∷ [])
 
 pub record CasesAreAsWorked : Type 0 where
   pub programs : ProgramsAreUsed
@@ -131,6 +186,9 @@ pub record CasesAreAsWorked : Type 0 where
   pub vibratos : VibratosAreUsed
   pub tempos : TemposAreUsed
   pub rows : RowCommandsAreUsed
+  pub speeds : SpeedsAreUsed
   pub commands : EachWaveCommandIsUsed
   pub waves : WaveCommandsAreUsed
+  pub orders : OrdersAreUsed
+  pub voices : VoicesAreUsed
   pub others : OtherCasesAreUsed
