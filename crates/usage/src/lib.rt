@@ -4,8 +4,9 @@
 //! needs, exactly where the song can be played, and else the first rule that it breaks with its least place.
 //! It takes no memory, and its work is linear in the song.
 //!
-//! It stands on `song_model` for the song, on `play_model` for what is used and what can be played, and on
-//! `base` for lemmas. The packer and the command `check` stand on it.
+//! It stands on `song_model` for the song, on `play_model` for what is used and what can be played, on
+//! `safe_states` for the law that the features name each case that a frame takes, and on `base` for lemmas.
+//! The packer and the command `check` stand on it.
 #![tactic(auto)]
 
 mod checks;

@@ -93,8 +93,9 @@ fn looked_at(song: &Song) -> Result<UsedParts, Unplayable>
     Ok(parts_of(song, &found))
 }
 
-/// What a song uses, where it can be played by the rules of [`Unplayable`]. It takes no memory, and its work is linear
-/// in the song.
+/// What a song uses, where it can be played by the rules of [`Unplayable`]. The features name each case that a frame of
+/// a playable subtune takes, with any options, so that a player may leave out the others. It takes no memory, and its
+/// work is linear in the song.
 ///
 /// # Errors
 ///
