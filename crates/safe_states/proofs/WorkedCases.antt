@@ -25,7 +25,7 @@ use Rattle.play_model.specs.EffectStep.{effect_step}
 use Rattle.play_model.specs.PulseStep.{pulse_step}
 use Rattle.play_model.specs.FetchRow.{fetch_row}
 use Rattle.play_model.specs.Frame.{voice_step, voice_registers, filter_registers, frame_of, subtune_at, state_after_with}
-use Rattle.safe_states.specs.WorkedCases.{UsesExactlyWith, ProgramsAreUsed, SlidesAreUsed, TonesAreUsed, VibratosAreUsed, TemposAreUsed, RowCommandsAreUsed, SpeedsAreUsed, EachWaveCommandIsUsed, WaveCommandsAreUsed, OrdersAreUsed, VoicesAreUsed, OtherCasesAreUsed, CasesAreAsWorked}
+use Rattle.safe_states.specs.WorkedCases.{UsesExactlyWith, ProgramsAreUsed, SlidesAreUsed, TonesAreUsed, VibratosAreUsed, TemposAreUsed, RowCommandsAreUsed, SpeedsAreUsed, EachWaveCommandIsUsed, WaveCommandsAreUsed, EffectsRest, OrdersAreUsed, VoicesAreUsed, OtherCasesAreUsed, CasesAreAsWorked}
 use Rattle.safe_states.proofs.CaseTests.{Decides, row_does, loads_funk, goes, left, has_wave, row_of, meets, wave_does}
 use Rattle.safe_states.proofs.EffectTests.{waved, effect, runs, vibrates, vibrato_asks, done, has_pulse, once}
 use Rattle.safe_states.proofs.AskTests.{asks_speed, asks_funk}
@@ -257,6 +257,10 @@ waves_lem = record {
   slide = exactly _ _ _ _ refl;
 }
 
+effects_lem : EffectsRest
+unfolding prefix_of cycle_of played playable_subtune instrument_at table_row pattern_at freq half_tone slide next_row porta_up porta_down tone vibrato do_command filter_step between_rows note_started row_command at_row tick_step wave_command wave_step effect_step pulse_step fetch_row voice_step voice_registers filter_registers frame_of state_after_with row_does loads_funk goes left has_wave row_of meets wave_does waved effect runs vibrates vibrato_asks done has_pulse once asks_speed asks_funk agrees
+effects_lem = record { rests = exactly _ _ _ _ refl; runs = exactly _ _ _ _ refl }
+
 orders_lem : OrdersAreUsed
 unfolding prefix_of cycle_of played playable_subtune instrument_at table_row pattern_at freq half_tone slide next_row porta_up porta_down tone vibrato do_command filter_step between_rows note_started row_command at_row tick_step wave_command wave_step effect_step pulse_step fetch_row voice_step voice_registers filter_registers frame_of state_after_with row_does loads_funk goes left has_wave row_of meets wave_does waved effect runs vibrates vibrato_asks done has_pulse once asks_speed asks_funk agrees
 orders_lem = record {
@@ -293,6 +297,7 @@ cases_are_as_worked_lem = record {
   speeds = speeds_lem;
   commands = commands_lem;
   waves = waves_lem;
+  effects = effects_lem;
   orders = orders_lem;
   voices = voices_lem;
   others = others_lem;

@@ -133,7 +133,7 @@ pub record SpeedsAreUsed : Type 0 where
   pub wave : UsesExactly (high_speed 0x80 (wave_command_song 1)) 7
       (PortaUp ∷ NoteDependent ∷ PulseTable ∷ WaveTable ∷ WaveCommand ∷ [])
 
--- in the wave table 0, 8 and $E do nothing, and a row with a command lets no effect run
+-- in the wave table 0, 8 and $E do nothing
 pub record EachWaveCommandIsUsed : Type 0 where
   pub none : UsesExactly (wave_command_song 0) 7 (PulseTable ∷ WaveTable ∷ WaveCommand ∷ [])
   pub up : UsesExactly (wave_command_song 1) 7 (PortaUp ∷ PulseTable ∷ WaveTable ∷ WaveCommand ∷ [])
@@ -155,6 +155,15 @@ pub record WaveCommandsAreUsed : Type 0 where
   pub pulse : UsesExactly pointing_wave 7 (PulseTable ∷ SetPulsePointer ∷ WaveTable ∷ WaveCommand ∷ [])
   pub filter : UsesExactly pointing_wave 8 (SetFilterPointer ∷ WaveTable ∷ WaveCommand ∷ [])
   pub slide : UsesExactly pointing_wave 9 (PortaUp ∷ FilterTable ∷ WaveTable ∷ WaveCommand ∷ [])
+
+-- a note with command 1, whose wave program begins with command 2
+abbrev pub down_and_up : Song
+down_and_up = with_wave (sides 0xF2 1 ∷ sides 0xFF 0 ∷ []) (with_rows (row 0x90 1 1 1 ∷ rests 1) one_note)
+
+-- a command of the wave program lets no effect run, though one is there
+pub record EffectsRest : Type 0 where
+  pub rests : UsesExactly down_and_up 7 (PortaDown ∷ PulseTable ∷ WaveTable ∷ WaveCommand ∷ [])
+  pub runs : UsesExactly down_and_up 8 (PortaUp ∷ [])
 
 -- the note's song with other orderlists
 abbrev pub with_orders : List ℕ → List ℕ → List ℕ → Song
@@ -189,6 +198,7 @@ pub record CasesAreAsWorked : Type 0 where
   pub speeds : SpeedsAreUsed
   pub commands : EachWaveCommandIsUsed
   pub waves : WaveCommandsAreUsed
+  pub effects : EffectsRest
   pub orders : OrdersAreUsed
   pub voices : VoicesAreUsed
   pub others : OtherCasesAreUsed
