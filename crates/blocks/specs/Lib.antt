@@ -1,0 +1,15 @@
+-- To believe: the language as trees, the desk, and what a tree means.
+pub mod Words
+pub mod Trees
+pub mod Desk
+pub mod Steps
+pub mod Meaning
+-- To believe: sound trees.
+pub mod Places
+pub mod Counters
+pub mod Known
+pub mod Sound
+-- To believe: numbers by a tree's shape.
+pub mod Shape
+pub mod Sizes
+pub mod Costs

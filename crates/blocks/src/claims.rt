@@ -1,0 +1,1 @@
+//! Facts about the definitions, each the contract of a function that does nothing.

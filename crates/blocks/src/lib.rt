@@ -1,0 +1,23 @@
+//! The language in which the player is written: chains of steps, choices and loops, as a person writes for the 6502.
+//!
+//! Its leaves are the processor's own steps, and what a block means is said on a desk: the memory, A, Y and the flags
+//! carry, zero and minus. Its one contract: each builder answers a block of exactly the tree that it names, so that a
+//! layer above speaks of trees alone, and each named form on bytes does with these bytes what its name says. The
+//! definitions say what a tree means, when it is sound, and how many lines, bytes, labels, instructions and cycles its
+//! shape has.
+//!
+//! It stands on `base` for the refusal for want of memory, and on the definitions of `cpu6502` for the machine's
+//! numbers. See `docs/blocks.md`.
+#![tactic(auto)]
+
+mod block;
+mod builders;
+pub mod claims;
+mod forms;
+mod labels;
+mod steps;
+
+pub use base::NoMemory;
+pub use block::{Block, Counter, Start};
+pub use builders::{chain, choose, each_voice, fill, seq, until, when};
+pub use steps::{Cell, Condition, Counted, Half, Operand, Place, Source, Step, Summand, Test};
