@@ -13,3 +13,6 @@ pub mod Sound
 pub mod Shape
 pub mod Sizes
 pub mod Costs
+-- Claimed: steps, tests and blocks that are worked by hand.
+pub mod WorkedSteps
+pub mod WorkedBlocks

@@ -1,1 +1,30 @@
 //! Facts about the definitions, each the contract of a function that does nothing.
+
+ghost use Rattle.blocks.specs.WorkedSteps.{LoadsAreWorked, StoresAreWorked, SumsAreWorked, BitsAreWorked, CountsAreWorked, HalvesAreWorked, TestsAreWorked, ComparisonsAreWorked};
+ghost use Rattle.blocks.specs.WorkedBlocks.{LoudIsWorked, DownIsWorked, TwiceIsWorked, GatesAreWorked, PartIsWorked, FillsAreWorked, SidesAreWorked, LoopsAreWorked, KnownIsWorked, CountersAreWorked};
+
+/// What steps and tests do at their edges, worked by hand.
+pub fn worked_steps()
+    ensures loads { LoadsAreWorked }
+    ensures stores { StoresAreWorked }
+    ensures sums { SumsAreWorked }
+    ensures bits { BitsAreWorked }
+    ensures counts { CountsAreWorked }
+    ensures halves { HalvesAreWorked }
+    ensures tests { TestsAreWorked }
+    ensures comparisons { ComparisonsAreWorked }
+{}
+
+/// What blocks of each kind mean, whether they are sound, and their numbers, worked by hand.
+pub fn worked_blocks()
+    ensures loud { LoudIsWorked }
+    ensures down { DownIsWorked }
+    ensures twice { TwiceIsWorked }
+    ensures gates { GatesAreWorked }
+    ensures part { PartIsWorked }
+    ensures fills { FillsAreWorked }
+    ensures sides { SidesAreWorked }
+    ensures loops { LoopsAreWorked }
+    ensures known { KnownIsWorked }
+    ensures counters { CountersAreWorked }
+{}
