@@ -1,12 +1,10 @@
 -- The tree of a vector of blocks is that of its list, which a loop over it takes block by block.
-use Rattle.std.proofs.Common.{◌≡◌, ◌∙◌, ℕ, ◌+◌, ◌<◌, ◌≤◌, ◌&&◌, Bool, true, false, List, [], ◌∷◌, length, drop, get_or, refl, ap, sym, rules, arith, Vec, Global, min}
+use Rattle.std.proofs.Common.{◌≡◌, ◌∙◌, ℕ, ◌+◌, ◌<◌, ◌&&◌, Bool, true, false, List, ◌∷◌, length, drop, get_or, refl, ap, sym, rules, arith, Vec, Global, min}
 use Rattle.std.proofs.lemmas.List.{at_drop_more}
-use Rattle.std.proofs.lemmas.Grind.{common_steps}
 use mathlib.Core.Former.{Count}
 use Rattle.blocks.specs.declared.block.Block.{Block, Row_of-Block, end_of-Block, more_of-Block, items-the_row-Block, the_lemmas}
 use Rattle.blocks.specs.declared.block.Block.TheVariants.{Seq}
 use Rattle.blocks.specs.Trees.{Tree, ThenTree, row_tree, tree_of, tree_of_all}
-use Rattle.blocks.specs.Sizes.{has_no_lines, label_count}
 
 -- a row of blocks has the tree of its list
 pub row_is : (n : Count) (row : Row_of-Block n) → row_tree row ≡ tree_of_all (items-the_row-Block n row)

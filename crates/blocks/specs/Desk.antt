@@ -1,6 +1,6 @@
 -- The desk on which a block means something: the memory and those of the 6502's registers and flags that steps speak
 -- of. Source: the MOS 6502 programming manual, and the places of the SID and of CIA 1 in the Commodore 64.
-use Rattle.std.specs.Prelude.{ℕ, ◌+◌, ◌*◌, ◌%◌, Bool, nat_eq, nat_le}
+use Rattle.std.specs.Prelude.{ℕ, ◌+◌, ◌*◌, Bool, nat_eq, nat_le}
 use Rattle.code_runs.specs.Runs.{put}
 use Rattle.blocks.specs.Words.{Cell, Var, VoiceVar, Half, Low, High}
 

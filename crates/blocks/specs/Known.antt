@@ -1,7 +1,7 @@
 -- The third rule of a sound tree: a register is read only where each way from the beginning has set it, and not behind
 -- a When whose body writes it. This is the project's own language of player code.
-use Rattle.std.specs.Prelude.{ℕ, ◌&&◌, ◌||◌, Bool, true, false, not, List, [], ◌∷◌}
-use Rattle.blocks.specs.Words.{Operand, Const, HeldOperand, Summand, Plain, Entry, Source, Direct, Byte, FromY, Half, Low, High, Place, HeldPlace, Register, VoiceRegister, Timer, Pointer, IntoY, Counted, HeldCounted, CountedY}
+use Rattle.std.specs.Prelude.{◌&&◌, ◌||◌, Bool, true, false, not, List, [], ◌∷◌}
+use Rattle.blocks.specs.Words.{Summand, Plain, Entry, Source, Direct, Byte, FromY, Low, High, Place, HeldPlace, Register, VoiceRegister, Timer, Pointer, IntoY, Counted, HeldCounted, CountedY}
 use Rattle.blocks.specs.Words.{Step, Load, Store, Index, And, Or, Xor, Add, Sub, AddOn, SubOn, Double, Inc, Dec, HalveAt, HalveOn}
 use Rattle.blocks.specs.Words.{Condition, Zero, Minus, Carry, Equal, Less, YEqual, Test, Counter, CounterVar, CounterY}
 use Rattle.blocks.specs.Trees.{Tree, ChainTree, NoneTree, ThenTree, IfTree, UntilTree, EachVoiceTree, WhenTree, FillTree}

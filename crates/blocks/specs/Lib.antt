@@ -13,6 +13,12 @@ pub mod Sound
 pub mod Shape
 pub mod Sizes
 pub mod Costs
+-- Claimed: steps as numbers.
+pub mod StepLaws
 -- Claimed: steps, tests and blocks that are worked by hand.
 pub mod WorkedSteps
 pub mod WorkedBlocks
+-- Claimed: forms on named bytes.
+pub mod Forms
+-- Inner: the trees that they share.
+pub mod FormTrees

@@ -1,7 +1,7 @@
 -- What a block means on the desk, kind by kind. This is the project's own language of player code.
-use Rattle.std.specs.Prelude.{ℕ, zero, suc, ◌+◌, ◌*◌, true, false, List, if◌then◌else◌}
+use Rattle.std.specs.Prelude.{ℕ, zero, suc, ◌+◌, ◌*◌, true, false, if◌then◌else◌}
 use Rattle.code_runs.specs.Runs.{put}
-use Rattle.blocks.specs.Words.{Step, Test, HeldCounted, CountedY, Var, Counter, CounterVar, CounterY, Start, StartVar, StartRegister}
+use Rattle.blocks.specs.Words.{Test, HeldCounted, CountedY, Var, Counter, CounterVar, CounterY, Start, StartVar, StartRegister}
 use Rattle.blocks.specs.Trees.{Tree, ChainTree, NoneTree, ThenTree, IfTree, UntilTree, EachVoiceTree, WhenTree, FillTree}
 use Rattle.blocks.specs.Desk.{Desk, Layout, sid_place, with_acc, with_y, with_byte}
 use Rattle.blocks.specs.Steps.{chained, tested, is_met, counted, one_less}

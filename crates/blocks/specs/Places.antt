@@ -1,9 +1,9 @@
 -- The first and the fourth rule of a sound tree: what stands where, and which numbers are in range. This is the
 -- project's own language of player code.
-use Rattle.std.specs.Prelude.{ℕ, ◌+◌, ◌&&◌, Bool, true, false, not, List, [], ◌∷◌, nat_lt, nat_le}
+use Rattle.std.specs.Prelude.{ℕ, ◌+◌, ◌&&◌, Bool, true, not, List, [], ◌∷◌, nat_lt, nat_le}
 use Rattle.blocks.specs.Words.{Cell, Var, VoiceVar, Operand, Const, HeldOperand, Summand, Plain, Entry, Source, Direct, Byte, FromY, Place, HeldPlace, Register, VoiceRegister, Timer, Pointer, IntoY, Counted, HeldCounted, CountedY}
 use Rattle.blocks.specs.Words.{Step, Load, Store, Index, And, Or, Xor, Add, Sub, AddOn, SubOn, Double, Inc, Dec, HalveAt, HalveOn}
-use Rattle.blocks.specs.Words.{Condition, Zero, Minus, Carry, Equal, Less, YEqual, Test, Counter, CounterVar, CounterY, Start, StartVar, StartRegister}
+use Rattle.blocks.specs.Words.{Condition, Zero, Minus, Carry, Equal, Less, YEqual, Counter, CounterVar, CounterY, Start, StartVar, StartRegister}
 use Rattle.blocks.specs.Trees.{Tree, ChainTree, NoneTree, ThenTree, IfTree, UntilTree, EachVoiceTree, WhenTree, FillTree}
 use Rattle.blocks.specs.Steps.{condition_of}
 

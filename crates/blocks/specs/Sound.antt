@@ -1,5 +1,5 @@
 -- Sound trees: those that are lowered. This is the project's own language of player code.
-use Rattle.std.specs.Prelude.{◌&&◌, Bool, true, false}
+use Rattle.std.specs.Prelude.{◌&&◌, Bool, false}
 use Rattle.blocks.specs.Trees.{Tree}
 use Rattle.blocks.specs.Places.{is_placed}
 use Rattle.blocks.specs.Counters.{counters_are_left}

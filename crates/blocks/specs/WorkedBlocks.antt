@@ -1,8 +1,8 @@
 -- Blocks that are worked by hand: what they mean, whether they are sound, and their numbers.
-use Rattle.std.specs.Prelude.{◌≡◌, ℕ, ◌+◌, Bool, true, false, List, [], ◌∷◌, replicate}
+use Rattle.std.specs.Prelude.{◌≡◌, ℕ, Bool, true, false, [], ◌∷◌, replicate}
 use Rattle.code_runs.specs.Runs.{put}
 use Rattle.blocks.specs.Words.{Var, VoiceVar, Const, HeldOperand, Plain, Direct, HeldPlace, Register, VoiceRegister, Pointer, Low, High, IntoY, HeldCounted, CountedY, Byte}
-use Rattle.blocks.specs.Words.{Step, Load, Store, Add, Sub, Inc, Dec, Double, Zero, Carry, Equal, YEqual, Is, Not, CounterVar, CounterY, StartVar, StartRegister}
+use Rattle.blocks.specs.Words.{Step, Load, Store, Sub, Inc, Double, Zero, Carry, Equal, Is, CounterVar, CounterY, StartVar, StartRegister}
 use Rattle.blocks.specs.Trees.{Tree, ChainTree, NoneTree, ThenTree, IfTree, UntilTree, EachVoiceTree, WhenTree, FillTree}
 use Rattle.blocks.specs.Desk.{Desk, Layout}
 use Rattle.blocks.specs.Meaning.{meaning}

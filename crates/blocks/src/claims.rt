@@ -1,7 +1,14 @@
 //! Facts about the definitions, each the contract of a function that does nothing.
 
+ghost use Rattle.blocks.specs.StepLaws.{DifferencesAreOfBytes, TestsAreOfBytes};
 ghost use Rattle.blocks.specs.WorkedSteps.{LoadsAreWorked, StoresAreWorked, SumsAreWorked, BitsAreWorked, CountsAreWorked, HalvesAreWorked, TestsAreWorked, ComparisonsAreWorked};
 ghost use Rattle.blocks.specs.WorkedBlocks.{LoudIsWorked, DownIsWorked, TwiceIsWorked, GatesAreWorked, PartIsWorked, FillsAreWorked, SidesAreWorked, LoopsAreWorked, KnownIsWorked, CountersAreWorked};
+
+/// What differences and tests are as numbers, where bytes are bytes.
+pub fn steps_are_of_bytes()
+    ensures differences { DifferencesAreOfBytes }
+    ensures tests { TestsAreOfBytes }
+{}
 
 /// What steps and tests do at their edges, worked by hand.
 pub fn worked_steps()

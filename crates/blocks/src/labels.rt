@@ -44,7 +44,8 @@ impl Block {
             }
             Block::If(_, _, this, other) => {
                 let own: u32 = if other.has_no_lines() { 1 } else { 2 };
-                own.saturating_add(this.labels()).saturating_add(other.labels())
+                own.saturating_add(this.labels())
+                    .saturating_add(other.labels())
             }
             Block::Until(_, _, _, _, body) => body.labels().saturating_add(2),
             Block::EachVoice(body) => body.labels().saturating_add(1),

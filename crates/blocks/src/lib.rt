@@ -15,9 +15,16 @@ mod builders;
 pub mod claims;
 mod forms;
 mod labels;
+mod names;
 mod steps;
+#[cfg(test)]
+mod tests;
 
 pub use base::NoMemory;
 pub use block::{Block, Counter, Start};
 pub use builders::{chain, choose, each_voice, fill, seq, until, when};
+pub use forms::{
+    add, add_word, and, far, fetch, halve_word, if_bits, if_equal, if_less, move_byte, or, sub,
+    sub_word, xor,
+};
 pub use steps::{Cell, Condition, Counted, Half, Operand, Place, Source, Step, Summand, Test};

@@ -1,8 +1,7 @@
 -- How many labels blocks one after the other have.
-use Rattle.std.proofs.Common.{◌≡◌, ◌≤◌, ◌∙◌, arith, ap, sym, min, ◌+◌, drop, length}
+use Rattle.std.proofs.Common.{◌∙◌, arith, ap, sym, min, ◌+◌}
 use Rattle.std.proofs.lemmas.Grind.{common_steps}
 use Rattle.blocks.specs.Sizes.{label_count}
-use Rattle.blocks.specs.Trees.{tree_of_all}
 use Rattle.blocks.proofs.block.Block.+labels.Goals as goal
 use Rattle.blocks.proofs.Rows.{seq_is, one_on, counted_on}
 
@@ -12,9 +11,9 @@ loop-block-init t c = grind (arith, common_steps, seq_is)
 pub loop-block-preserved : goal.loop-block-preserved
 loop-block-preserved t c = record {
   sum = counted_on c.loop-block.labels _ _ _ 4294967295 c.labels.result _
-  (ap (λ n. min (c.loop-block.labels + n) 4294967295)
-  (sym (one_on label_count _ _ _ c.loop-block-test.true c.block-item.is)) ∙ c.loop-block.invariant.sum) c.labels.ensures
-  c.saturating_add-labels.ensures;
+      (ap (λ n. min (c.loop-block.labels + n) 4294967295)
+      (sym (one_on label_count _ _ _ c.loop-block-test.true c.block-item.is)) ∙ c.loop-block.invariant.sum) c.labels.ensures
+      c.saturating_add-labels.ensures;
   within = omega arith;
 }
 

@@ -8,6 +8,6 @@ use Rattle.blocks.proofs.block.Block.+labels.Given as goal
 abbrev pub invariant-loop-block : goal.invariant-loop-block
 invariant-loop-block l = record {
   sum : min (l.labels + label_count (tree_of_all (drop l.block-index l.block-items))) 4294967295
-  ≡ min (label_count (tree_of l.self)) 4294967295;
+      ≡ min (label_count (tree_of l.self)) 4294967295;
   within : l.labels ≤ 4294967295;
 }
