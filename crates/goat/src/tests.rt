@@ -5,6 +5,8 @@ mod checking;
 mod copying;
 mod parts;
 mod running;
+mod unplayable;
+mod used;
 mod wanting;
 
 use cpu6502::{Cpu, Machine, Memory, WriteLog};

@@ -22,6 +22,9 @@ pub struct Parts {
     pub patterns: &'static str,
 }
 
+/// A song, and its line without the line feed.
+pub type Case = (Parts, &'static str);
+
 /// One subtune of silence.
 pub const SILENT: Parts = Parts {
     orders: "01 0200FF00 0200FF00 0200FF00",
