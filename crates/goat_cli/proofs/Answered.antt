@@ -12,14 +12,16 @@ use Rattle.goat_cli.specs.Due as due
 use Rattle.goat_cli.specs.Due.{IsDue, IsOneOf, instead}
 use Rattle.goat_cli.specs.Stands as stands
 use Rattle.goat_cli.specs.Stands.{FolderState, SinkState, AreFiles, Counted, Appends, Account, TellsWant, Stands, RunStands}
-use Rattle.goat_cli.specs.Answers.{IsOrdinary, IsPrinted, IsBeforeWriting, HoldsDone, ComesAbout, ComesWhere, SinkCounted, RunsPacked, first_traces}
+use Rattle.goat_cli.specs.Answers.{IsOrdinary, IsPrinted, IsBeforeWriting, HoldsDone, ComesAbout, ComesWhere, SinkCounted, RunsPacked}
+use Rattle.goat_cli.specs.Traces.{first_traces}
+use Rattle.play_model.specs.State.{no_options}
 use Rattle.goat_cli.proofs.Told.{as_before}
 use Rattle.goat_cli.proofs.Due.{is_no_stage, ends_with_stage, done_under, outcome_due, one_due, one_text}
 use Rattle.goat_cli.proofs.PlayedFiles.{packed_file_plays, packed_file_is_due}
 
 -- ---- a run that is cut short
 
--- the answer tells of a failed put, or of a want of memory
+-- the answer tells of a failed put, or of running out of memory
 abbrev IsCut : ℕ → Type 0
 IsCut answer = (answer ≡ 10) ⊎ (answer ≡ 14)
 
@@ -248,7 +250,8 @@ module _ {words : List (List ℕ)} {files : Files} {answer : ℕ} {folder after 
   run_of_packed : folder.told ≡ Some files → Stands words files answer folder after s t →
       (song : Song) (subtune frames : ℕ) →
       RunsPacked words files song subtune frames → IsOneOf (0 ∷ 4 ∷ 10 ∷ 14 ∷ []) answer ×
-      (answer ≡ 0 → t.told ≡ told_with_piece s.told (register_text (first_traces song (subtune - 1) (frames + 1))))
+      (answer ≡ 0 →
+      t.told ≡ told_with_piece s.told (register_text (first_traces no_options song (subtune - 1) (frames + 1))))
   run_of_packed known is song subtune frames runs = (
     comes_due is 0 None (packed_file_is_due words files song subtune frames runs),
     (λ zero.
@@ -309,5 +312,6 @@ module _ {words : List (List ℕ)} {answer : ℕ} {folder after : FolderState} {
   pub packed_plays : IfSome folder.told
       (λ files. (song : Song) (subtune frames : ℕ) → RunsPacked words files song subtune frames →
       IsOneOf (0 ∷ 4 ∷ 10 ∷ 14 ∷ []) answer ×
-      (answer ≡ 0 → t.told ≡ told_with_piece s.told (register_text (first_traces song (subtune - 1) (frames + 1)))))
+      (answer ≡ 0 →
+      t.told ≡ told_with_piece s.told (register_text (first_traces no_options song (subtune - 1) (frames + 1)))))
   packed_plays = told_case _ (λ files known is. run_of_packed known is)

@@ -1,8 +1,7 @@
 -- The calls of a loaded file: one after the other, each in one way.
 use Rattle.std.proofs.Common.{◌≡◌, ◌≢◌, ℕ, zero, suc, ◌+◌, ◌≤◌, ◌<◌, inl, inr, List, [], ◌∷◌, ◌++◌, None, Result, Ok, Err, IfOk, OnOk, length, refl, sym, ap, ◌∙◌, subst, arith, add-one}
-use Rattle.std.proofs.lemmas.List.{append-nil, length-append}
+use Rattle.std.proofs.lemmas.List.{length-append}
 use Rattle.std.proofs.lemmas.Bool.{cases_lt}
-use Rattle.std.proofs.lemmas.List.Folds.{concat-append}
 use Rattle.std.specs.List.{concat}
 use Rattle.cpu6502.specs.declared.machine.Machine.{Machine}
 use Rattle.cpu6502.specs.declared.stop.CallStop.{CallStop}
@@ -11,7 +10,7 @@ use Rattle.cpu6502.specs.declared.stop.CallStop.TheVariants.{Stopped, Budget}
 use Rattle.cpu6502.proofs.Laws.{called_once, returned_fails, stopped_fails, under_way_fails}
 use Rattle.sid_run.specs.State.{RunnerState, sid_registers, most_steps}
 use Rattle.goat_cli.specs.Calls.{entry_of, accumulator_of, ReturnsTo, FirstCalls, MeetsStopAt}
-use Rattle.goat_cli.specs.RegisterText.{register_line, lines_from, register_lines}
+use Rattle.goat_cli.specs.RegisterText.{register_line, register_lines}
 use Rattle.goat_cli.specs.Lines.{stop_line}
 use Rattle.goat_io.specs.declared.fault.SinkFault.{SinkFault}
 use Rattle.goat_io.specs.declared.fault.SinkFault.TheVariants as sink
@@ -19,6 +18,7 @@ use Rattle.goat_cli.specs.declared.refusal.Refusal.{Refusal}
 use Rattle.goat_cli.specs.Last.{Last, Says, SaysNothing, last_of, IsOfSink}
 use Rattle.goat_cli.specs.Stands.{SinkState, Appends}
 use Rattle.goat_cli.specs.Endings.{CallsEnd, FailsIn, played, stopped, failed, wanting}
+use Rattle.goat_cli.proofs.RegisterLines.{lines_more, text_more}
 use Rattle.goat_cli.proofs.Told.{appends_nothing, appends_both, appends_none, fails_then}
 
 -- ---- one call
@@ -168,15 +168,6 @@ module _ (file : RunnerState) (subtune : ℕ) where
 
 -- ---- their lines
 
-lines-append : (call : ℕ) (registers : List (List ℕ)) (last : List ℕ) →
-    lines_from call (registers ++ last ∷ []) ≡ lines_from call registers ++ register_line (call + length registers) last
-    ∷ []
-lines-append call [] last = let z : call + 0 ≡ call = omega arith in rw z refl
-lines-append call (first ∷ rest) last =
-    let z : call + 1 + length rest ≡ call + suc (length rest) = omega arith in
-    ap (λ lines. register_line call first ∷ lines) (lines-append (call + 1) rest last)
-    ∙ ap (λ n. (register_line call first ∷ lines_from (call + 1) rest) ++ register_line n last ∷ []) z
-
 -- the calls so far returned and their lines are printed
 pub record CallsSoFar (file : RunnerState) (subtune calls : ℕ) (now : RunnerState)
     (before after : SinkState) : Type 0 where
@@ -203,17 +194,8 @@ module _ {file : RunnerState} {subtune calls : ℕ} {now : RunnerState} {before 
   abbrev lines : List (List ℕ)
   lines = register_lines so_far.registers
 
-  lines_on : (last : List ℕ) → register_lines (so_far.registers ++ last ∷ []) ≡ lines ++ register_line calls last ∷ []
-  lines_on last =
-      let many = as_many_registers file subtune calls so_far.registers now.machine so_far.returned in
-      let z : 0 + length so_far.registers ≡ calls = omega (arith, many) in
-      lines-append 0 so_far.registers last ∙ ap (λ n. lines ++ register_line n last ∷ []) z
-
-  text_on : (last : List ℕ) →
-      concat (register_lines (so_far.registers ++ last ∷ [])) ≡ concat lines ++ register_line calls last
-  text_on last =
-      let text = concat-append lines (register_line calls last ∷ []) in
-      ap concat (lines_on last) ∙ text ∙ ap (λ t. concat lines ++ t) (append-nil (register_line calls last))
+  many : length so_far.registers ≡ calls
+  many = as_many_registers file subtune calls so_far.registers now.machine so_far.returned
 
   -- one call more
   calls_on : (last : List ℕ) (machine : Machine) → NextReturns last machine →
@@ -235,7 +217,7 @@ module _ {file : RunnerState} {subtune calls : ℕ} {now : RunnerState} {before 
     running = running;
     same_init = init ∙ so_far.same_init;
     same_play = play ∙ so_far.same_play;
-    printed = subst (λ text. Appends text before shown) (sym (text_on last)) (appends_both so_far.printed told);
+    printed = subst (λ text. Appends text before shown) (sym (text_more so_far.registers last many)) (appends_both so_far.printed told);
   }
 
   -- the line of a call was not put
@@ -248,11 +230,11 @@ module _ {file : RunnerState} {subtune calls : ℕ} {now : RunnerState} {before 
   line_over frames within machine last returns sink.Failed it is fails none =
       let failing = fails refl in
       rw is (failed (suc calls) failing.kept lines (register_line calls last) (so_far.registers ++ last ∷ []) machine
-      (omega (arith, within)) (calls_on last machine returns) (lines_on last) refl
+      (omega (arith, within)) (calls_on last machine returns) (lines_more so_far.registers last many) refl
       (fails_then so_far.printed failing.fails))
   line_over frames within machine last returns sink.NoMemory it is fails none =
       rw is (wanting (suc calls) lines (register_line calls last) (so_far.registers ++ last ∷ []) machine
-      (omega (arith, within)) (calls_on last machine returns) (lines_on last) refl
+      (omega (arith, within)) (calls_on last machine returns) (lines_more so_far.registers last many) refl
       (appends_none so_far.printed (none refl)))
 
   pub stop_met : (frames : ℕ) (machine : Machine) (reason : CallStop) → calls ≤ frames →

@@ -3,7 +3,6 @@ use Rattle.std.proofs.Common.{◌≡◌, ℕ, ◌+◌, ◌-◌, ◌≤◌, List,
 use Rattle.std.proofs.lemmas.List.{append-nil, append_assoc}
 use Rattle.goat_io.specs.Files.{Files, IsWrittenInPart}
 use Rattle.song_model.specs.declared.songs.Song.{Song}
-use Rattle.gts5.specs.Spells.{Spells}
 use Rattle.psid.specs.declared.header.Psid.{Psid}
 use Rattle.psid.specs.Reading.{psid_read}
 use Rattle.sid_run.specs.State.{loaded}
@@ -13,17 +12,17 @@ use Rattle.goat_cli.specs.Calls.{FirstCalls, StopsIn}
 use Rattle.goat_cli.specs.RegisterText.{register_lines}
 use Rattle.goat_cli.specs.Lines.{stop_line, wrote_line}
 use Rattle.goat_cli.specs.Last.{Last, Says}
-use Rattle.goat_cli.specs.Stages.{Stage, IsThere, Fits, CallsReturn, HoldsSong, HoldsPsid, status_of, IsMet, Passes, AllPass, FirstEnds}
+use Rattle.goat_cli.specs.Stages.{Stage, IsThere, Fits, SpellsSong, CallsReturn, HoldsSong, HoldsPsid, status_of, IsMet, Passes, AllPass, FirstEnds, input_limit}
 use Rattle.goat_cli.specs.Jobs.{WordsOf, stages, Shows, Done}
 use Rattle.goat_cli.specs.Outcome as outcome
 use Rattle.goat_cli.specs.Outcome.{told_after}
 use Rattle.goat_cli.specs.Stands as stands
-use Rattle.goat_cli.specs.Stands.{FolderState, SinkState, AreFiles, Counted, FolderStays, IsPrinting}
+use Rattle.goat_cli.specs.Stands.{FolderState, SinkState, AreFiles, Account, Counted, FolderStays, IsPrinting, Printing}
 use Rattle.goat_cli.specs.Endings as ends
-use Rattle.goat_cli.specs.Endings.{Refuses, WasRead, WriteEnds, CallsEnd, IsOver, JobEnds}
+use Rattle.goat_cli.specs.Endings.{Refuses, WasRead, SongWasRead, SongFails, WriteEnds, LinesEnd, CallsEnd, IsOver, JobEnds}
 use Rattle.goat_cli.proofs.Told.{as_before, is_uncounted, uncounted, counted_on, stays_on}
 use Rattle.goat_cli.proofs.Passes.{met_passes}
-use Rattle.goat_cli.proofs.Ends.{first_ends, says_ends, has_last, wants_first}
+use Rattle.goat_cli.proofs.Ends.{first_ends, says_ends, has_last, wants_first, read_ends}
 
 -- the run of a job has come to these stages, and met those before them; the folder is as before
 pub record At (job : Job) (files : Files) (folder after : FolderState) (rest : List Stage) : Type 0 where
@@ -75,6 +74,13 @@ module _ {job : Job} {folder after : FolderState} where
         rw says (says_ends sink files at.met rest stage at.are_files at.stages_are at.pass is at.stays.told counted)
     refused sink at free (ends.wanting wants) = rw wants (wants_first sink at.stays)
 
+    -- how the run is over, for all words that name the job
+    pub over_with : {rest : List Stage} {last : Last} {s t : SinkState} → At job files folder after rest →
+        ((words : List (List ℕ)) → WordsOf words job → IsOver words files last folder after s t) →
+        JobEnds job last folder after s t
+    over_with at is =
+        record { ends = λ words form. record { files = files; are_files = at.are_files; is_over = is words form } }
+
     -- all stages are met
     pub all_met : At job files folder after [] → AllPass files (stages job)
     all_met at = subst (AllPass files) (sym (at.stages_are ∙ append-nil at.met)) at.pass
@@ -106,15 +112,59 @@ module _ {job : Job} {folder between after : FolderState} {files : Files} (sink 
       (counted_on at.stays.counts counted))
   written did (ends.wanting wants more) = rw wants (wants_first sink (stays_on at.stays more))
 
+module _ {job : Job} {folder after : FolderState} {files : Files} (at : At job files folder after [])
+    {lines : List (List ℕ)} (did : Done job files lines None) where
+  -- the job is done with these lines, and no file is written
+  done_with : (words : List (List ℕ)) → WordsOf words job → Account words files 0 lines folder.told after.told
+  done_with words form =
+      stands.outcome None (outcome.done job form (all_met at) did refl) (at.stays.told ∙ as_before folder.told)
+
+  printing_done : {others : List (List ℕ)} → lines ≡ others → (words : List (List ℕ)) → WordsOf words job →
+      Printing words files others folder after
+  printing_done are words form =
+      subst (λ l. Printing words files l folder after) are (stands.of_account 0 (done_with words form) at.stays.counts)
+
+  -- they are printed, or not
+  pub lines_over : {last : Last} {s t : SinkState} → LinesEnd lines last s t → JobEnds job last folder after s t
+  lines_over (ends.shown is shown) =
+      rw is
+      (over_with at
+      (λ words form.
+      record { lines = lines; account = done_with words form; counted = at.stays.counts; appends = shown }))
+  lines_over (ends.cut earlier later line kept are is fails) =
+      rw is (over_with at (λ words form. record {
+        earlier = earlier;
+        later = later;
+        line = line;
+        kept = kept;
+        printing = printing_done are words form;
+        fails = fails;
+      }))
+  lines_over (ends.unsaid earlier later line are is appends) =
+      rw is (over_with at (λ words form. ends.for_line earlier later line (printing_done are words form) appends))
+
 -- ---- the files that a run has read
 
-module _ {name bytes : List ℕ} {limit : ℕ} {folder after : FolderState}
-    (was : WasRead name limit folder after bytes) where
-  pub song_held : {song : Song} → Spells bytes song → HoldsSong was.files name song
-  song_held spells = record { bytes = bytes; found = was.found; spells = spells }
+pub song_held : {name : List ℕ} {folder after : FolderState} {song : Song} →
+    (read : SongWasRead name folder after song) → HoldsSong read.was.files name song
+song_held read = record { bytes = read.bytes; found = read.was.found; spells = read.spells }
 
-  pub psid_held : {psid : Psid} → psid_read bytes ≡ Ok psid → HoldsPsid was.files name psid
-  psid_held reads = record { bytes = bytes; found = was.found; reads = reads }
+pub psid_held : {name bytes : List ℕ} {limit : ℕ} {folder after : FolderState} {psid : Psid} →
+    (was : WasRead name limit folder after bytes) → psid_read bytes ≡ Ok psid → HoldsPsid was.files name psid
+psid_held {bytes = bytes} was reads = record { bytes = bytes; found = was.found; reads = reads }
+
+module _ {job : Job} {folder after : FolderState} {name : List ℕ} {rest : List Stage} where
+  -- a job that begins with a song has read it
+  pub song_begun : {song : Song} → stages job ≡ IsThere name ∷ Fits name input_limit ∷ SpellsSong name ∷ rest →
+      (read : SongWasRead name folder after song) → At job read.was.files folder after rest
+  song_begun {song} are read = met_next (begun are read.was) (song, song_held read)
+
+  -- or has not
+  pub song_fails : {last : Last} (sink : SinkState) →
+      stages job ≡ IsThere name ∷ Fits name input_limit ∷ SpellsSong name ∷ rest →
+      SongFails name folder after last → JobEnds job last folder after sink sink
+  song_fails sink are (ends.unread fails) = read_ends sink _ are fails
+  song_fails sink are (ends.unspelled bytes was refuses) = refused sink (begun are was) refl refuses
 
 -- ---- the calls of `run`
 
@@ -145,18 +195,13 @@ module _ {input : List ℕ} {subtune frames : ℕ} {files : Files} {folder after
     );
   }
 
-  over : {last : Last} {s t : SinkState} →
-      ((words : List (List ℕ)) → WordsOf words (Run input subtune frames) → IsOver words files last folder after s t) →
-      JobEnds (Run input subtune frames) last folder after s t
-  over is = record { ends = λ words form. record { files = files; are_files = at.are_files; is_over = is words form } }
-
   pub calls_over : {last : Last} {s t : SinkState} → CallsEnd (loaded psid) (subtune - 1) frames last s t →
       JobEnds (Run input subtune frames) last folder after s t
   calls_over (ends.played registers machine first is shown) =
       let pass = all_met (met_next at (psid, holds, registers, machine, first)) in
       let shows : Shows psid subtune (frames + 1) (register_lines registers) =
       record { registers = registers; after = machine; returned = first; lines_are = refl } in
-      rw is (over (λ words form. record {
+      rw is (over_with at (λ words form. record {
         lines = register_lines registers;
         account =
             stands.outcome None (outcome.done (Run input subtune frames) form pass ((psid, holds, shows), refl) refl)
@@ -170,7 +215,7 @@ module _ {input : List ℕ} {subtune frames : ℕ} {files : Files} {folder after
       record { call = call; within = within; registers = registers; reason = reason; meets = meets } in
       let first = subst (λ list. FirstEnds files list 13 lines) (sym at.stages_are)
       (first_ends files at.met [] (CallsReturn input subtune frames) lines at.pass (psid, holds, stop, refl)) in
-      rw is (over (λ words form. record {
+      rw is (over_with at (λ words form. record {
         earlier = register_lines registers;
         account =
             stands.outcome None (outcome.ended (Run input subtune frames) form first refl)
@@ -179,18 +224,18 @@ module _ {input : List ℕ} {subtune frames : ℕ} {files : Files} {folder after
         appends = shown;
       }))
   calls_over (ends.failed calls kept earlier line registers machine within first lines_are is fails) =
-      rw is (over (λ words form. record {
+      rw is (over_with at (λ words form. record {
         earlier = earlier;
         later = [];
         line = line;
         kept = kept;
-        printing = printing registers machine within first (sym lines_are) words form;
-        stays = at.stays;
+        printing =
+            stands.of_stage (printing registers machine within first (sym lines_are) words form) at.stays;
         fails = fails;
       }))
   calls_over (ends.wanting calls earlier line registers machine within first lines_are is appends) =
       rw is
-      (over
+      (over_with at
       (λ words form.
-      ends.for_line earlier [] line (printing registers machine within first (sym lines_are) words form)
-      at.stays appends))
+      ends.for_line earlier [] line
+      (stands.of_stage (printing registers machine within first (sym lines_are) words form) at.stays) appends))

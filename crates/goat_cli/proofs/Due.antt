@@ -3,7 +3,7 @@ use Rattle.std.proofs.Common.{◌≡◌, ◌≢◌, ℕ, ◌+◌, ◌-◌, ◌�
 use Rattle.std.proofs.lemmas.List.{append_assoc}
 use Rattle.goat_io.specs.Files.{Files}
 use Rattle.sid_run.specs.State.{loaded}
-use Rattle.goat_cli.specs.Words.{Job, Check, Run}
+use Rattle.goat_cli.specs.Words.{Job, Check, Trace, Run}
 use Rattle.song_model.specs.declared.songs.Song.{Song}
 use Rattle.song_model.specs.LookUp.{playable_subtunes}
 use Rattle.usage.specs.declared.parts.UsedParts.{UsedParts}
@@ -12,6 +12,7 @@ use Rattle.usage.proofs.Laws.{parts_are_the_songs_lem}
 use Rattle.goat_cli.specs.Lines.{check_line}
 use Rattle.goat_cli.specs.Calls.{FirstCalls}
 use Rattle.goat_cli.specs.RegisterText.{register_lines}
+use Rattle.goat_cli.specs.Traces.{first_traces}
 use Rattle.goat_cli.specs.Stages.{Stage, IsThere, status_of, Ends, AllPass, FirstEnds}
 use Rattle.goat_cli.specs.Jobs.{Deed, PrintsLines, WritesFile, DoneBy, output_under, about, WordsOf, IsNoForm, output_of, stages, Done}
 use Rattle.goat_cli.specs.Outcome as outcome
@@ -95,6 +96,11 @@ has_one_text files (Check input) = λ lines others p q.
     let same = one_song_held files input p.0 q.0 p.2 q.2 in
     one_check_line q.0 p.1 q.1 (subst (λ song. AreUsedParts song p.1) same p.3) q.3
     (p.4 ∙ ap (λ song. check_line (length (playable_subtunes song)) p.1 ∷ []) same) q.4
+has_one_text files (Trace input subtune frames options) = λ lines others p q.
+    p.2
+    ∙ ap (λ song. register_lines (first_traces options song (subtune - 1) (frames + 1)))
+    (one_song_held files input p.0 q.0 p.1 q.1)
+    ∙ sym q.2
 has_one_text files (Run input subtune frames) = λ lines others p q.
     let same = one_psid_held files input p.0 q.0 p.1 q.1 in
     let first =

@@ -36,7 +36,7 @@ usage_ends words folder sink none = let some = some_files folder.told in record 
 }
 
 module _ {job : Job} {folder after : FolderState} (sink : SinkState) where
-  -- memory was wanting before the first line
+  -- the run was out of memory before the first line
   pub wants_first : FolderStays folder after → JobEnds job Wants folder after sink sink
   wants_first stays = let some = some_files folder.told in record {
     ends =

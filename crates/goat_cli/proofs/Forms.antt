@@ -1,11 +1,13 @@
 -- The words of the command line, and the job that they name.
-use Rattle.std.proofs.Common.{◌≡◌, ℕ, ◌≤◌, ◌<◌, ◌+◌, ◌*◌, ◌^◌, Bool, true, false, List, [], ◌∷◌, subst, length, get_or, refl, sym, ap, ◌∙◌, String, arith}
+use Rattle.std.proofs.Common.{◌≡◌, ℕ, ◌≤◌, ◌<◌, ◌+◌, ◌*◌, ◌^◌, Bool, true, false, List, [], ◌∷◌, subst, length, get_or, Result, Ok, Err, IfOk, OnErr, refl, sym, ap, ◌∙◌, String, arith}
 use Rattle.std.proofs.lemmas.Fmt.{decimal_injective}
 use Rattle.std.specs.Global.{Global}
 use Rattle.std.specs.String.{string_bytes}
 use Rattle.std.specs.Str.{bytes_eq}
 use Rattle.base.proofs.Laws.{same_head}
-use Rattle.goat_cli.specs.Words.{Job, Pack, Copy, Check, Run, texts, format_word, IsAddressWord, IsZeroPageWord, IsNumberWord, ArePackArguments}
+use Rattle.play_model.specs.declared.options.Options.{Options}
+use Rattle.play_model.specs.Speeds.{IsSpeed}
+use Rattle.goat_cli.specs.Words.{Job, Pack, Copy, Check, Trace, Run, texts, format_word, skip_word, IsAddressWord, IsZeroPageWord, IsNumberWord, IsSpeedWord, AreOptionWords, unsaid, said, ArePackArguments, AreTraceArguments}
 use Rattle.goat_cli.specs.Jobs.{WordsOf, command_of}
 
 -- ---- a list of five words
@@ -20,6 +22,64 @@ five_texts (x0 ∷ x1 ∷ x2 ∷ []) a b c d e l m p q r s t = absurd (omega ari
 five_texts (x0 ∷ x1 ∷ x2 ∷ x3 ∷ []) a b c d e l m p q r s t = absurd (omega arith)
 five_texts (x0 ∷ x1 ∷ x2 ∷ x3 ∷ x4 ∷ []) a b c d e l m p q r s t = cc
 five_texts (x0 ∷ x1 ∷ x2 ∷ x3 ∷ x4 ∷ x5 ∷ ws) a b c d e l m p q r s t = absurd (omega arith)
+
+pub three_texts : (ws : List (String Global)) (a b c : String Global) → 3 ≤ length ws → length ws < 4 →
+    a ≡ get_or ws 0 a → b ≡ get_or ws 1 b → c ≡ get_or ws 2 c →
+    texts ws ≡ string_bytes a ∷ string_bytes b ∷ string_bytes c ∷ []
+three_texts [] a b c l m p q r = absurd (omega arith)
+three_texts (x0 ∷ []) a b c l m p q r = absurd (omega arith)
+three_texts (x0 ∷ x1 ∷ []) a b c l m p q r = absurd (omega arith)
+three_texts (x0 ∷ x1 ∷ x2 ∷ []) a b c l m p q r = cc
+three_texts (x0 ∷ x1 ∷ x2 ∷ x3 ∷ ws) a b c l m p q r = absurd (omega arith)
+
+-- ---- the arguments of `trace`
+
+-- a skip and a speed say options
+pub options_said : (skip speed : List ℕ) (effects pulse : Bool) (calls : ℕ) → skip ≡ skip_word effects pulse →
+    IsNumberWord 4 speed calls → IsSpeed calls →
+    AreOptionWords (skip ∷ speed ∷ []) (record { skip_effects = effects; skip_pulse = pulse; speed = calls })
+options_said skip speed effects pulse calls is number allowed =
+    rw is
+    (said (record { skip_effects = effects; skip_pulse = pulse; speed = calls })
+    (record { spelled = number.spelled; allowed = allowed }))
+
+-- the speed that words of two say
+record SaysSpeed (speed : List ℕ) : Type 0 where
+  calls : ℕ
+  word : IsSpeedWord speed calls
+
+said_speed : {words : List (List ℕ)} (skip speed : List ℕ) (o : Options) → words ≡ skip ∷ speed ∷ [] →
+    AreOptionWords words o → SaysSpeed speed
+said_speed skip speed o same unsaid = absurd (cc (same))
+said_speed skip speed o same (said {speed_word} o2 is) =
+    let here : speed_word ≡ speed = cc (same) in
+    record { calls = o2.speed; word = subst (λ w. IsSpeedWord w o2.speed) here is }
+
+-- a number that is no speed says none
+pub no_speed : (skip speed : List ℕ) (calls : ℕ) → IsNumberWord 4 speed calls → (IsSpeed calls → ⊥) → (o : Options) →
+    AreOptionWords (skip ∷ speed ∷ []) o → ⊥
+no_speed skip speed calls number none o words =
+    let is = said_speed skip speed o refl words in
+    let same : is.calls ≡ calls =
+    decimal_injective is.calls calls (omega (arith, is.word.allowed.most)) (omega (arith, number.allowed))
+    (sym is.word.spelled ∙ number.spelled) in
+    none (subst IsSpeed same is.word.allowed)
+
+module _ {T E : Type 0} where
+  pub ok_mapped : {P Q : T → Type 0} (r : Result T E) → ((x : T) → P x → Q x) → IfOk r P → IfOk r Q
+  ok_mapped (Ok x) f p = f x p
+  ok_mapped (Err e) f p = tt
+
+  pub err_mapped : {P Q : Type 0} (r : Result T E) → (P → Q) → OnErr r P → OnErr r Q
+  err_mapped (Ok x) f p = tt
+  err_mapped (Err e) f p = f p
+
+pub no_options_said : (ws : List (List ℕ)) (a b c d e : List ℕ) → ws ≡ a ∷ b ∷ c ∷ d ∷ e ∷ [] →
+    ((o : Options) → AreOptionWords (d ∷ e ∷ []) o → ⊥) → (input : List ℕ) (subtune frames : ℕ) (o : Options) →
+    AreTraceArguments ws input subtune frames o → ⊥
+no_options_said ws a b c d e five none = λ input subtune frames o w.
+    let same : w.option_words ≡ d ∷ e ∷ [] = cc (five, w.form) in
+    none o (subst (λ words. AreOptionWords words o) same w.options_spelled)
 
 -- ---- the arguments of `pack`
 
@@ -72,6 +132,54 @@ same_zero_page same p q =
     let e = q.digits in
     cc
 
+-- words say options in one way
+abbrev apart : Bool → Bool → Bool → Bool → Type 0
+apart a b c d = bytes_eq (skip_word a b) (skip_word a b) ≡ true → bytes_eq (skip_word a b) (skip_word c d) ≡ false →
+    skip_word a b ≡ skip_word c d → ⊥
+
+never_same : (a b c d : Bool) → apart a b c d
+never_same a b c d same other e =
+    let never : true ≡ false = sym same ∙ ap (bytes_eq (skip_word a b)) e ∙ other in absurd (cc (never))
+
+same_skip : (a b c d : Bool) → skip_word a b ≡ skip_word c d → (a ≡ c) × (b ≡ d)
+same_skip false false false false e = (refl, refl)
+same_skip true false true false e = (refl, refl)
+same_skip false true false true e = (refl, refl)
+same_skip true true true true e = (refl, refl)
+same_skip false false true false e = absurd (never_same false false true false refl refl e)
+same_skip false false false true e = absurd (never_same false false false true refl refl e)
+same_skip false false true true e = absurd (never_same false false true true refl refl e)
+same_skip true false false false e = absurd (never_same true false false false refl refl e)
+same_skip true false false true e = absurd (never_same true false false true refl refl e)
+same_skip true false true true e = absurd (never_same true false true true refl refl e)
+same_skip false true false false e = absurd (never_same false true false false refl refl e)
+same_skip false true true false e = absurd (never_same false true true false refl refl e)
+same_skip false true true true e = absurd (never_same false true true true refl refl e)
+same_skip true true false false e = absurd (never_same true true false false refl refl e)
+same_skip true true true false e = absurd (never_same true true true false refl refl e)
+same_skip true true false true e = absurd (never_same true true false true refl refl e)
+
+same_speed : {v w : List ℕ} {a b : ℕ} → v ≡ w → IsSpeedWord v a → IsSpeedWord w b → a ≡ b
+same_speed {a} {b} same p q =
+    decimal_injective a b (omega (arith, p.allowed.most)) (omega (arith, q.allowed.most))
+    (sym p.spelled ∙ same ∙ q.spelled)
+
+same_record : (a b : Options) → a.skip_effects ≡ b.skip_effects → a.skip_pulse ≡ b.skip_pulse → a.speed ≡ b.speed →
+    a ≡ b
+same_record a b effects pulse speed =
+    ap (λ (x : Bool). record a { skip_effects = x }) effects
+    ∙ ap (λ (x : Bool). record a { skip_effects = b.skip_effects; skip_pulse = x }) pulse
+    ∙ ap (λ (x : ℕ). record b { speed = x }) speed
+
+same_options : {v w : List (List ℕ)} (a b : Options) → v ≡ w → AreOptionWords v a → AreOptionWords w b → a ≡ b
+same_options a b same unsaid unsaid = refl
+same_options a b same unsaid (said o speed) = absurd (cc (same))
+same_options a b same (said o speed) unsaid = absurd (cc (same))
+same_options a b same (said o speed) (said o2 speed2) =
+    let skips = same_skip o.skip_effects o.skip_pulse o2.skip_effects o2.skip_pulse (cc (same)) in
+    let speeds = same_speed (cc (same)) speed speed2 in
+    same_record o o2 skips.0 skips.1 speeds
+
 -- a first word is that of one command
 differ : (ws : List (List ℕ)) (a b : Job) → WordsOf ws a → WordsOf ws b →
     bytes_eq (command_of a) (command_of a) ≡ true → bytes_eq (command_of a) (command_of b) ≡ false → ⊥
@@ -95,6 +203,17 @@ one_job ws (Copy i o) (Copy i2 o2) p q = cc (p.words_are, q.words_are, p.are_arg
 one_job ws (Copy i o) other p q = absurd (differ ws (Copy i o) other p q refl refl)
 one_job ws (Check i) (Check i2) p q = cc (p.words_are, q.words_are, p.are_arguments.0, q.are_arguments.0)
 one_job ws (Check i) other p q = absurd (differ ws (Check i) other p q refl refl)
+one_job ws (Trace i s n o) (Trace i2 s2 n2 o2) p q =
+    let v = p.are_arguments in
+    let w = q.are_arguments in
+    let subtune : s ≡ s2 =
+    same_number (omega arith) (cc (p.words_are, q.words_are, v.form, w.form)) v.subtune_spelled w.subtune_spelled in
+    let frames : n ≡ n2 =
+    same_number (omega arith) (cc (p.words_are, q.words_are, v.form, w.form)) v.frames_spelled w.frames_spelled in
+    let options : o ≡ o2 =
+    same_options o o2 (cc (p.words_are, q.words_are, v.form, w.form)) v.options_spelled w.options_spelled in
+    cc (p.words_are, q.words_are, v.form, w.form)
+one_job ws (Trace i s n o) other p q = absurd (differ ws (Trace i s n o) other p q refl refl)
 one_job ws (Run i s n) (Run i2 s2 n2) p q =
     let v = p.are_arguments in
     let w = q.are_arguments in

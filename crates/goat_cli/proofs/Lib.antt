@@ -1,4 +1,5 @@
 mod Answered
+mod RegisterLines
 mod Calls
 mod Chains
 mod Digits
@@ -15,3 +16,4 @@ mod Printed
 mod Reading
 mod Room
 mod Told
+mod Traced

@@ -2,6 +2,7 @@
 use Rattle.std.proofs.Common.{◌≡◌, ℕ, ◌+◌, ◌-◌, List, [], ◌∷◌, ◌++◌, Some, None, Ok, Err, length, refl, sym, ap, ◌∙◌, subst, arith}
 use Rattle.goat_io.specs.Files.{Files, file_of}
 use Rattle.song_model.specs.declared.songs.Song.{Song}
+use Rattle.song_model.specs.LookUp.{IsNumbered, playable_subtunes}
 use Rattle.song_model.specs.Silent.{IsSilent}
 use Rattle.gts5.specs.Spells.{Spells}
 use Rattle.gts5.specs.Faults.{fault_of}
@@ -11,7 +12,7 @@ use Rattle.sid_run.specs.State.{loaded}
 use Rattle.goat_cli.specs.Calls.{HasSubtune, FirstCalls, MeetsStopAt, StopsIn}
 use Rattle.goat_cli.specs.RegisterText.{register_lines}
 use Rattle.goat_cli.specs.Lines.{song_fault_line, unplayable_line, psid_fault_line, no_subtune_line, stop_line}
-use Rattle.goat_cli.specs.Stages.{Stage, IsThere, Fits, SpellsSong, CanBePlayed, CanBePacked, IsPsid, OffersSubtune, CallsReturn, HoldsSong, HoldsPsid, IsMet, Ends, Passes}
+use Rattle.goat_cli.specs.Stages.{Stage, IsThere, Fits, SpellsSong, CanBePlayed, CanBePacked, PlaysSubtune, IsPsid, OffersSubtune, CallsReturn, HoldsSong, HoldsPsid, IsMet, Ends, Passes}
 use Rattle.play_model.specs.Playable.{IsPlayable, IsRefusedFor}
 use Rattle.play_model.proofs.Laws.{refused_or_playable_lem}
 use Rattle.usage.proofs.Laws.{one_refusal}
@@ -92,6 +93,18 @@ module _ (files : Files) where
   stage_facts (CanBePacked name) = record {
     passes = λ met lines ends. ends.2 (subst IsSilent (one_song_held files name met.0 ends.0 met.1 ends.1) met.2);
     once = λ lines others p q. p.3 ∙ sym q.3;
+  }
+  stage_facts (PlaysSubtune name subtune) = record {
+    passes =
+        λ met lines ends.
+        ends.2
+        (subst (λ song. IsNumbered (playable_subtunes song) subtune) (one_song_held files name met.0 ends.0 met.1 ends.1)
+        met.2);
+    once =
+        λ lines others p q. p.3
+        ∙ ap (λ song. no_subtune_line subtune (length (playable_subtunes song)) ∷ [])
+        (one_song_held files name p.0 q.0 p.1 q.1)
+        ∙ sym q.3;
   }
   stage_facts (IsPsid name) = record {
     passes = λ met lines ends.

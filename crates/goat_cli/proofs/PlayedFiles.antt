@@ -30,7 +30,9 @@ use Rattle.goat_cli.specs.Outcome as outcome
 use Rattle.goat_cli.specs.Outcome.{Outcome}
 use Rattle.goat_cli.specs.Due as due
 use Rattle.goat_cli.specs.Due.{IsDue}
-use Rattle.goat_cli.specs.Answers.{IsPackedPsid, RunsPacked, first_traces}
+use Rattle.play_model.specs.State.{no_options}
+use Rattle.goat_cli.specs.Traces.{first_traces}
+use Rattle.goat_cli.specs.Answers.{IsPackedPsid, RunsPacked}
 use Rattle.goat_cli.specs.Laws.{PackedFilesPlay}
 use Rattle.goat_cli.proofs.Passes.{met_passes}
 
@@ -51,11 +53,12 @@ module _ (file : RunnerState) (image : List ℕ) (address zero_page : ℕ) (song
   record PlaysOnFrom (calls : ℕ) : Type 0 where
     after : Machine
     is : IsMachine after
-    first : FirstCalls file k calls (first_traces song k calls) after
+    first : FirstCalls file k calls (first_traces no_options song k calls) after
 
   play_on : (n i : ℕ) (before : Machine) → IsMachine before →
-      FirstCalls file k (suc i) (first_traces song k (suc i)) before →
+      FirstCalls file k (suc i) (first_traces no_options song k (suc i)) before →
       PlaysOn image address zero_page song k (suc i) n before → PlaysOnFrom (n + suc i)
+  unfolding trace
   play_on zero i before is first plays =
       let z : 0 + suc i ≡ suc i = omega arith in rw z (record { after = before; is = is; first = first })
   play_on (suc n) i before is first plays =
@@ -68,12 +71,13 @@ module _ (file : RunnerState) (image : List ℕ) (address zero_page : ℕ) (song
       let z : suc n + suc i ≡ n + suc (suc i) = omega arith in
       rw z
       (play_on n (suc i) after there
-      (first_traces song k (suc i), before, trace song k (suc i), first, returns, refl) next.2)
+      (first_traces no_options song k (suc i), before, trace song k (suc i), first, returns, refl) next.2)
 
   -- init, and the plays after it
   plays_all : (frames : ℕ) → IsMachine file.machine → k < 256 → (after : Machine) →
       Leaves image address zero_page file.machine address k (trace song k 0) after →
       PlaysOn image address zero_page song k 1 frames after → PlaysOnFrom (frames + 1)
+  unfolding trace
   plays_all frames is small after leaves plays =
       let returns =
       subst (λ entry. ReturnsTo file.machine entry k (trace song k 0) after) (sym init)
@@ -132,7 +136,7 @@ module _ (song : Song) (address zero_page : ℕ) (image : List ℕ) (keeps : Kee
   pub record Plays (subtune frames : ℕ) : Type 0 where
     pub reads : psid_read (psid_file song address image) ≡ Ok packed
     pub after : Machine
-    pub calls : FirstCalls (loaded packed) (subtune - 1) (frames + 1) (first_traces song (subtune - 1) (frames + 1))
+    pub calls : FirstCalls (loaded packed) (subtune - 1) (frames + 1) (first_traces no_options song (subtune - 1) (frames + 1))
         after
 
   plays_its_song : (subtune frames : ℕ) → All (λ byte. byte < 256) (psid_file song address image) → 1 ≤ subtune →
@@ -173,7 +177,7 @@ packed_files_play song file subtune frames is first last =
 module _ (words : List (List ℕ)) (files : Files) (song : Song) (subtune frames : ℕ)
     (runs : RunsPacked words files song subtune frames) where
   abbrev traces : List (List ℕ)
-  traces = first_traces song (subtune - 1) (frames + 1)
+  traces = first_traces no_options song (subtune - 1) (frames + 1)
 
   pub record Met : Type 0 where
     pub psid : Psid

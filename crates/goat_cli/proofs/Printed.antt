@@ -43,10 +43,9 @@ module _ {words : List (List ℕ)} {files : Files} {answer : ℕ} {folder after 
       let fails =
       subst (λ sink. stands.FailsAfter (concat over.earlier ++ take over.kept over.line) s sink) (sym prints.same)
       over.fails in
-      stands.cut_in_line over.earlier over.later over.line over.kept (stands.of_stage over.printing over.stays)
-      prints.answer_is fails
-  stands_then t Wants (ends.for_line earlier later line printing stays appends) tells =
-      stands.wanting earlier later line (stands.of_stage printing stays) (tells_then appends tells)
+      stands.cut_in_line over.earlier over.later over.line over.kept over.printing prints.answer_is fails
+  stands_then t Wants (ends.for_line earlier later line printing appends) tells =
+      stands.wanting earlier later line printing (tells_then appends tells)
   stands_then t Wants (ends.first stays appends) tells = stands.wanting_first stays (tells_then appends tells)
 
 pub run_stands : {words : List (List ℕ)} {answer : ℕ} {folder after : FolderState} {s t u : SinkState} (last : Last) →

@@ -96,7 +96,7 @@ module _ {a b : List ℕ} {s t u : SinkState} (first : Appends a s t) where
 pub appends_none : {a : List ℕ} {s t u : SinkState} → Appends a s t → Appends [] t u → Appends a s u
 appends_none {a} {s} {u} first none = subst (λ b. Appends b s u) (append-nil a) (appends_both first none)
 
--- the line that memory is wanting comes after what was printed
+-- the line that tells of running out of memory comes after what was printed
 pub tells_then : {a : List ℕ} {answer : ℕ} {s t u : SinkState} → Appends a s t → TellsWant [] answer t u →
     TellsWant a answer s u
 tells_then first (stands.told is appends) = stands.told is (appends_both first appends)

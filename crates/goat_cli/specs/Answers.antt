@@ -1,5 +1,5 @@
 -- What the answers say, in the top call's clauses.
-use Rattle.std.specs.Prelude.{◌≡◌, ◌≢◌, ℕ, zero, suc, ◌<◌, ◌≤◌, List, [], ◌∷◌, ◌++◌, Option, Some, All, length, true}
+use Rattle.std.specs.Prelude.{◌≡◌, ◌≢◌, ℕ, ◌<◌, ◌≤◌, List, ◌∷◌, Option, Some, All, length, true}
 use Rattle.std.specs.List.{concat}
 use Rattle.goat_io.specs.Count.{Rose}
 use Rattle.goat_io.specs.Files.{Files, file_of}
@@ -7,7 +7,6 @@ use Rattle.goat_io.specs.Written.{told_with_piece}
 use Rattle.song_model.specs.declared.songs.Song.{Song}
 use Rattle.song_model.specs.Limits.{KeepsLimits}
 use Rattle.song_model.specs.LookUp.{playable_subtunes}
-use Rattle.play_model.specs.Frame.{trace}
 use Rattle.goat_cli.specs.Words.{Job, Run}
 use Rattle.goat_cli.specs.Place.{IsAddress}
 use Rattle.goat_cli.specs.Stages.{AllPass, input_limit}
@@ -16,7 +15,7 @@ use Rattle.goat_cli.specs.Outcome.{Outcome, files_after}
 use Rattle.goat_cli.specs.Packed.{IsPackedFile}
 use Rattle.goat_cli.specs.Due.{IsOneOf}
 
--- a status that no failing device and no want of memory gives
+-- a status that no failing device and no running out of memory gives
 pub record IsOrdinary (status : ℕ) : Type 0 where
   pub no_read_fault : status ≢ 4
   pub no_write_fault : status ≢ 9
@@ -84,8 +83,3 @@ pub record RunsPacked (words : List (List ℕ)) (files : Files) (song : Song) (s
   pub is_packed : IsPackedPsid song file
   pub first : 1 ≤ subtune
   pub last : subtune ≤ length (playable_subtunes song)
-
--- the registers after the first calls of a song's playable subtune, counted from 0
-abbrev pub first_traces : Song → ℕ → ℕ → List (List ℕ)
-first_traces song k zero = []
-first_traces song k (suc calls) = first_traces song k calls ++ trace song k calls ∷ []

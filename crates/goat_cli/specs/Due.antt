@@ -18,8 +18,8 @@ abbrev pub IsOneOf : List ℕ → ℕ → Type 0
 IsOneOf [] n = ⊥
 IsOneOf (x ∷ xs) n = (n ≡ x) ⊎ IsOneOf xs n
 
--- the statuses that may come in place of the one that is due: a failed read, put or want of memory, and a failed write
--- where a file is written
+-- the statuses that may come in place of the one that is due: a failed read or put, running out of memory, and a failed
+-- write where a file is written
 abbrev pub instead : Option (List ℕ) → List ℕ
 instead None = 4 ∷ 10 ∷ 14 ∷ []
 instead (Some output) = 4 ∷ 9 ∷ 10 ∷ 14 ∷ []

@@ -2,6 +2,8 @@
 use Rattle.std.specs.Prelude.{◌≡◌, ℕ, ◌+◌, ◌≤◌, List, [], ◌∷◌, ◌++◌, Some, length, take}
 use Rattle.std.specs.List.{concat}
 use Rattle.goat_io.specs.Files.{Files, file_of, told_with_file, IsAbsent, IsAbove, IsWrittenInPart}
+use Rattle.song_model.specs.declared.songs.Song.{Song}
+use Rattle.gts5.specs.Spells.{Spells}
 use Rattle.cpu6502.specs.declared.machine.Machine.{Machine}
 use Rattle.cpu6502.specs.declared.stop.CallStop.{CallStop}
 use Rattle.sid_run.specs.State.{RunnerState}
@@ -10,13 +12,13 @@ use Rattle.goat_cli.specs.RegisterText.{register_lines}
 use Rattle.goat_cli.specs.Lines.{missing_line, too_long_line, read_fault_line, write_fault_line, stop_line, wrote_line}
 use Rattle.goat_cli.specs.Last.{Last, Says, SaysNothing, SinkFailed, Wants}
 use Rattle.goat_cli.specs.Words.{Job}
-use Rattle.goat_cli.specs.Stages.{Stage, Ends, status_of}
+use Rattle.goat_cli.specs.Stages.{Stage, SpellsSong, Ends, status_of, input_limit}
 use Rattle.goat_cli.specs.Jobs.{WordsOf}
-use Rattle.goat_cli.specs.Stands.{FolderState, SinkState, AreFiles, Counted, FolderStays, Appends, FailsAfter, Account, IsPrinting, TellsWant}
+use Rattle.goat_cli.specs.Stands.{FolderState, SinkState, AreFiles, Counted, FolderStays, Appends, FailsAfter, Account, Printing, TellsWant}
 
 -- ---- a stage
 
--- the stage ends the run with this line, or memory is wanting
+-- the stage ends the run with this line, or the run is out of memory
 pub data Refuses (files : Files) (stage : Stage) (last : Last) : Type 0 where
   ends : (line : List ℕ) → Ends files stage (line ∷ []) → last ≡ Says (status_of stage) line → Refuses files stage last
   wanting : last ≡ Wants → Refuses files stage last
@@ -40,6 +42,18 @@ pub data ReadFails (name : List ℕ) (limit : ℕ) (before after : FolderState) 
       ReadFails name limit before after last
   wanting : last ≡ Wants → FolderStays before after → ReadFails name limit before after last
 
+-- the song in a file was read
+pub record SongWasRead (name : List ℕ) (before after : FolderState) (song : Song) : Type 0 where
+  pub bytes : List ℕ
+  pub was : WasRead name input_limit before after bytes
+  pub spells : Spells bytes song
+
+-- it was not: the file was not read, or what was read spells no song
+pub data SongFails (name : List ℕ) (before after : FolderState) (last : Last) : Type 0 where
+  unread : ReadFails name input_limit before after last → SongFails name before after last
+  unspelled : (bytes : List ℕ) (was : WasRead name input_limit before after bytes) →
+      Refuses was.files (SpellsSong name) last → SongFails name before after last
+
 -- a file was written, or not
 pub data WriteEnds (name bytes : List ℕ) (before after : FolderState) (last : Last) : Type 0 where
   wrote : last ≡ Says 0 (wrote_line (length bytes)) → after.told ≡ told_with_file before.told name bytes →
@@ -54,6 +68,14 @@ pub data WriteEnds (name bytes : List ℕ) (before after : FolderState) (last : 
 pub record FailsIn (bytes : List ℕ) (before after : SinkState) : Type 0 where
   pub kept : ℕ
   pub fails : FailsAfter (take kept bytes) before after
+
+-- what became of lines that are printed one after the other
+pub data LinesEnd (lines : List (List ℕ)) (last : Last) (before after : SinkState) : Type 0 where
+  shown : last ≡ SaysNothing → Appends (concat lines) before after → LinesEnd lines last before after
+  cut : (earlier later : List (List ℕ)) (line : List ℕ) (kept : ℕ) → lines ≡ earlier ++ line ∷ later →
+      last ≡ SinkFailed → FailsAfter (concat earlier ++ take kept line) before after → LinesEnd lines last before after
+  unsaid : (earlier later : List (List ℕ)) (line : List ℕ) → lines ≡ earlier ++ line ∷ later →
+      last ≡ Wants → Appends (concat earlier) before after → LinesEnd lines last before after
 
 -- what became of init and of play, as often as there are frames, of a loaded file
 pub data CallsEnd (file : RunnerState) (subtune frames : ℕ) (last : Last) (before after : SinkState) : Type 0 where
@@ -97,15 +119,14 @@ pub record HasFailed (words : List (List ℕ)) (files : Files) (folder folder_af
   pub later : List (List ℕ)
   pub line : List ℕ
   pub kept : ℕ
-  pub printing : IsPrinting words files (earlier ++ line ∷ later)
-  pub stays : FolderStays folder folder_after
+  pub printing : Printing words files (earlier ++ line ∷ later) folder folder_after
   pub fails : FailsAfter (concat earlier ++ take kept line) sink sink_after
 
--- memory was wanting, for a line or before the first one
+-- the run was out of memory, for a line or before the first one
 pub data IsWanting (words : List (List ℕ)) (files : Files) (folder folder_after : FolderState)
     (sink sink_after : SinkState) : Type 0 where
-  for_line : (earlier later : List (List ℕ)) (line : List ℕ) → IsPrinting words files (earlier ++ line ∷ later) →
-      FolderStays folder folder_after → Appends (concat earlier) sink sink_after →
+  for_line : (earlier later : List (List ℕ)) (line : List ℕ) →
+      Printing words files (earlier ++ line ∷ later) folder folder_after → Appends (concat earlier) sink sink_after →
       IsWanting words files folder folder_after sink sink_after
   first : FolderStays folder folder_after → Appends [] sink sink_after →
       IsWanting words files folder folder_after sink sink_after
@@ -133,7 +154,7 @@ pub record JobEnds (job : Job) (last : Last) (folder folder_after : FolderState)
 
 -- ---- the last line
 
--- the line was printed, and the answer is its status; or its put failed; or memory was wanting for it
+-- the line was printed, and the answer is its status; or its put failed; or the run was out of memory for it
 pub data PrintsLine (status : ℕ) (line : List ℕ) (answer : ℕ) (before after : SinkState) : Type 0 where
   whole : answer ≡ status → Appends line before after → PrintsLine status line answer before after
   failed : (kept : ℕ) → answer ≡ 10 → FailsAfter (take kept line) before after →

@@ -10,11 +10,12 @@ use Rattle.usage.specs.Parts.{AreUsedParts}
 use Rattle.psid.specs.declared.header.Psid.{Psid}
 use Rattle.cpu6502.specs.declared.machine.Machine.{Machine}
 use Rattle.sid_run.specs.State.{loaded}
-use Rattle.goat_cli.specs.Words.{Job, Pack, Copy, Check, Run, ArePackArguments, AreRunArguments}
-use Rattle.goat_cli.specs.Stages.{Stage, IsThere, Fits, SpellsSong, CanBePlayed, CanBePacked, IsPsid, OffersSubtune, CallsReturn, HoldsSong, HoldsPsid, input_limit}
+use Rattle.goat_cli.specs.Words.{Job, Pack, Copy, Check, Trace, Run, ArePackArguments, AreTraceArguments, AreRunArguments}
+use Rattle.goat_cli.specs.Stages.{Stage, IsThere, Fits, SpellsSong, CanBePlayed, CanBePacked, PlaysSubtune, IsPsid, OffersSubtune, CallsReturn, HoldsSong, HoldsPsid, input_limit}
 use Rattle.goat_cli.specs.Packed.{IsPackedFile}
 use Rattle.goat_cli.specs.Calls.{FirstCalls}
 use Rattle.goat_cli.specs.RegisterText.{register_lines}
+use Rattle.goat_cli.specs.Traces.{first_traces}
 use Rattle.goat_cli.specs.Lines.{wrote_line, check_line}
 
 -- what a job does that passes all its stages: it prints these lines and writes nothing; or it writes such a file under
@@ -60,6 +61,15 @@ about (Check input) = record {
   stages = IsThere input ∷ Fits input input_limit ∷ SpellsSong input ∷ CanBePlayed input ∷ [];
   does = PrintsLines (λ files lines. (song : Song) × (parts : UsedParts) × HoldsSong files input song ×
       AreUsedParts song parts × (lines ≡ check_line (length (playable_subtunes song)) parts ∷ []));
+}
+-- of a song the calls are shown: its start, and then as many frames, played with these options
+about (Trace input subtune frames options) = record {
+  command = codes "trace";
+  has_arguments = λ words. AreTraceArguments words input subtune frames options;
+  stages = IsThere input ∷ Fits input input_limit ∷ SpellsSong input ∷ CanBePlayed input ∷
+      PlaysSubtune input subtune ∷ [];
+  does = PrintsLines (λ files lines. (song : Song) × HoldsSong files input song ×
+      (lines ≡ register_lines (first_traces options song (subtune - 1) (frames + 1))));
 }
 -- of a PSID file the calls are shown: init, and play as often as there are frames
 about (Run input subtune frames) = record {

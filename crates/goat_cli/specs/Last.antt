@@ -9,7 +9,7 @@ use Rattle.goat_cli.specs.declared.refusal.Refusal.TheVariants as refusal
 use Rattle.goat_cli.specs.Message.{MessageState, line_of}
 
 -- a status and its last line; nothing, since all is printed and the job is done; nothing, since the sink has failed;
--- that memory is wanting
+-- that it is out of memory
 pub data Last : Type 0 where
   Says : (status : ℕ) (line : List ℕ) → Last
   SaysNothing : Last

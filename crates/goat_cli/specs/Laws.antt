@@ -16,7 +16,9 @@ use Rattle.goat_cli.specs.Jobs.{WordsOf, IsNoForm, stages}
 use Rattle.goat_cli.specs.Outcome.{Outcome}
 use Rattle.goat_cli.specs.Due.{IsDue}
 use Rattle.goat_cli.specs.Stands.{ComesTo}
-use Rattle.goat_cli.specs.Answers.{IsPackedPsid, first_traces}
+use Rattle.play_model.specs.State.{no_options}
+use Rattle.goat_cli.specs.Traces.{first_traces}
+use Rattle.goat_cli.specs.Answers.{IsPackedPsid}
 use Rattle.goat_cli.specs.declared.message.Piece.{Piece}
 use Rattle.goat_cli.specs.Message.{line_of, name_length, IsShort}
 use Rattle.goat_cli.specs.RegisterText.{register_line}
@@ -76,11 +78,11 @@ PackedFilesPlay =
     (song : Song) (file : List ℕ) (subtune frames : ℕ) → IsPackedPsid song file → 1 ≤ subtune →
     subtune ≤ length (playable_subtunes song) →
     (psid : Psid) × (psid_read file ≡ Ok psid) × HasSubtune psid subtune × (after : Machine) ×
-    FirstCalls (loaded psid) (subtune - 1) (frames + 1) (first_traces song (subtune - 1) (frames + 1)) after
+    FirstCalls (loaded psid) (subtune - 1) (frames + 1) (first_traces no_options song (subtune - 1) (frames + 1)) after
 
 -- ---- room
 
--- a line has at most 96 bytes beside the names in it: that of a message, that of a call, and that memory is wanting
+-- a line has at most 96 bytes beside the names in it: that of a message, that of a call, and `no memory`
 pub record LinesHaveRoom : Type 0 where
   pub messages : (pieces : List Piece) → IsShort pieces → length (line_of pieces) ≤ 96 + sum_by name_length pieces
   pub registers : (call : ℕ) (registers : List ℕ) → call < 10 ^ 6 → length registers ≡ 25 →

@@ -3,6 +3,7 @@ pub mod Place
 pub mod Words
 pub mod Lines
 pub mod RegisterText
+pub mod Traces
 pub mod Calls
 pub mod Stages
 pub mod Confined

@@ -38,7 +38,7 @@ write_fault_line name = line (codes "write fault: " ∷ name ∷ [])
 abbrev pub no_memory_line : List ℕ
 no_memory_line = line (codes "no memory" ∷ [])
 
--- the faults of a file that spells no song; want of memory is none of the file's
+-- the faults of a file that spells no song; running out of memory is none of the file's
 abbrev pub song_fault_line : SongFault → List ℕ
 song_fault_line song.NotGts5 = line (codes "not a song: bad magic" ∷ [])
 song_fault_line (song.Truncated offset) = line (codes "not a song: truncated at " ∷ decimal offset ∷ [])
@@ -47,7 +47,7 @@ song_fault_line (song.BadOrder offset) = line (codes "not a song: bad order at "
 song_fault_line (song.BadRow offset) = line (codes "not a song: bad row at " ∷ decimal offset ∷ [])
 song_fault_line song.NoMemory = no_memory_line
 
--- the faults of a file that is no PSID file; want of memory is none of the file's
+-- the faults of a file that is no PSID file; running out of memory is none of the file's
 abbrev pub psid_fault_line : PsidFault → List ℕ
 psid_fault_line psid.NotPsid = line (codes "not a PSID: bad magic" ∷ [])
 psid_fault_line psid.Truncated = line (codes "not a PSID: truncated" ∷ [])
@@ -55,7 +55,7 @@ psid_fault_line psid.Unsupported = line (codes "not a PSID: unsupported" ∷ [])
 psid_fault_line psid.BadField = line (codes "not a PSID: bad field" ∷ [])
 psid_fault_line psid.NoMemory = no_memory_line
 
--- for a subtune that a file with this number of songs doesn't have
+-- for a subtune that isn't one of this number
 abbrev pub no_subtune_line : ℕ → ℕ → List ℕ
 no_subtune_line asked songs = line (codes "no such subtune: " ∷ decimal asked ∷ codes " of " ∷ decimal songs ∷ [])
 

@@ -4,6 +4,7 @@
 use Rattle.std.specs.Prelude.{◌≡◌, ℕ, ◌+◌, ◌-◌, ◌≤◌, List, [], ◌∷◌, ◌++◌, ◌⊎◌, Some, Ok, Err, length}
 use Rattle.goat_io.specs.Files.{Files, file_of, IsAbsent, IsAbove}
 use Rattle.song_model.specs.declared.songs.Song.{Song}
+use Rattle.song_model.specs.LookUp.{IsNumbered, playable_subtunes}
 use Rattle.song_model.specs.Silent.{IsSilent}
 use Rattle.gts5.specs.declared.faults.SongFault.{SongFault}
 use Rattle.gts5.specs.Spells.{Spells}
@@ -30,6 +31,7 @@ pub data Stage : Type 0 where
   SpellsSong : (name : List ℕ) → Stage
   CanBePlayed : (name : List ℕ) → Stage
   CanBePacked : (name : List ℕ) → Stage
+  PlaysSubtune : (name : List ℕ) (subtune : ℕ) → Stage
   IsPsid : (name : List ℕ) → Stage
   OffersSubtune : (name : List ℕ) (subtune : ℕ) → Stage
   CallsReturn : (name : List ℕ) (subtune frames : ℕ) → Stage
@@ -81,6 +83,13 @@ rule_of (CanBePlayed name) = record {
   status = 6;
   ends = λ files lines. (song : Song) × (refusal : Unplayable) × HoldsSong files name song × IsRefusedFor song refusal ×
       (lines ≡ unplayable_line refusal ∷ []);
+}
+-- the song has the playable subtune, counted from 1
+rule_of (PlaysSubtune name subtune) = record {
+  asks = λ files. (song : Song) × HoldsSong files name song × IsNumbered (playable_subtunes song) subtune;
+  status = 11;
+  ends = λ files lines. (song : Song) × HoldsSong files name song × (¬ IsNumbered (playable_subtunes song) subtune) ×
+      (lines ≡ no_subtune_line subtune (length (playable_subtunes song)) ∷ []);
 }
 -- the song is silent
 rule_of (CanBePacked name) = record {

@@ -99,16 +99,16 @@ pub data Printing (words : List (List ℕ)) (files : Files) (lines : List (List 
 
 -- ---- what stands
 
--- after these bytes it was told that memory is wanting, with status 14; or that put failed too; or it wanted memory,
--- and nothing more is told
+-- after these bytes it was told that the run is out of memory, with status 14; or that put failed too; or it was out
+-- of memory, and nothing more is told
 pub data TellsWant (bytes : List ℕ) (answer : ℕ) (before after : SinkState) : Type 0 where
   told : answer ≡ 14 → Appends (bytes ++ no_memory_line) before after → TellsWant bytes answer before after
   failed : (kept : ℕ) → answer ≡ 10 → FailsAfter (bytes ++ take kept no_memory_line) before after →
       TellsWant bytes answer before after
   untold : answer ≡ 14 → Appends bytes before after → TellsWant bytes answer before after
 
--- all lines were appended; or the put of a line failed, and nothing more was put; or memory was wanting for a line, or
--- before the first one
+-- all lines were appended; or the put of a line failed, and nothing more was put; or the run was out of memory for a
+-- line, or before the first one
 pub data Stands (words : List (List ℕ)) (files : Files) (answer : ℕ) (folder folder_after : FolderState)
     (sink sink_after : SinkState) : Type 0 where
   whole : (lines : List (List ℕ)) → Account words files answer lines folder.told folder_after.told →

@@ -3,6 +3,9 @@ use Rattle.std.specs.Prelude.{◌≡◌, ◌≢◌, ℕ, ◌+◌, ◌*◌, ◌�
 use Rattle.std.specs.Global.{Global}
 use Rattle.std.specs.String.{string_bytes}
 use Rattle.hex.specs.Hex.{decode_sized}
+use Rattle.play_model.specs.declared.options.Options.{Options}
+use Rattle.play_model.specs.Speeds.{IsSpeed}
+use Rattle.play_model.specs.State.{no_options}
 use Rattle.goat_cli.specs.Place.{IsAddress, IsZeroPage}
 
 -- the words' bytes
@@ -36,11 +39,13 @@ abbrev pub subtune_limit : ℕ
 subtune_limit = 255
 
 -- what the program is asked to do: pack the song in one file into another, a PSID file or a raw one; copy it into
--- another file; tell what a song uses; or run a PSID file: a subtune, counted from 1, and a number of frames
+-- another file; tell what a song uses; trace a song, or run a PSID file: a subtune, counted from 1, and a number of
+-- frames, and for a song how it is played
 pub data Job : Type 0 where
   Pack : (input output : List ℕ) (psid : Bool) (address zero_page : ℕ) → Job
   Copy : (input output : List ℕ) → Job
   Check : (input : List ℕ) → Job
+  Trace : (input : List ℕ) (subtune frames : ℕ) (options : Options) → Job
   Run : (input : List ℕ) (subtune frames : ℕ) → Job
 
 -- the word for the format of a packed file
@@ -59,6 +64,36 @@ pub record ArePackArguments (arguments : List (List ℕ)) (input output : List �
   pub address_spelled : IsAddressWord address_word address
   pub zero_page_spelled : IsZeroPageWord zero_page_word zero_page
 
+-- the word for what is left out of a frame: the effect step, the pulse step
+abbrev pub skip_word : Bool → Bool → List ℕ
+skip_word false false = codes "none"
+skip_word true false = codes "effects"
+skip_word false true = codes "pulse"
+skip_word true true = codes "both"
+
+-- a digit from 1 to 4
+pub record IsSpeedWord (word : List ℕ) (speed : ℕ) : Type 0 where
+  pub spelled : word ≡ decimal speed
+  pub allowed : IsSpeed speed
+
+-- how a song is played: without words nothing is left out and the speed is 1, else the words are `SKIP SPEED`
+pub data AreOptionWords : List (List ℕ) → Options → Type 0 where
+  unsaid : AreOptionWords [] no_options
+  said : {speed_word : List ℕ} (options : Options) → IsSpeedWord speed_word options.speed →
+      AreOptionWords (skip_word options.skip_effects options.skip_pulse ∷ speed_word ∷ []) options
+
+-- the arguments are `IN SUBTUNE FRAMES`, and then how the song is played
+pub record AreTraceArguments (arguments : List (List ℕ)) (input : List ℕ) (subtune frames : ℕ)
+    (options : Options) : Type 0 where
+  pub subtune_word : List ℕ
+  pub frames_word : List ℕ
+  pub option_words : List (List ℕ)
+  pub form : arguments ≡ input ∷ subtune_word ∷ frames_word ∷ option_words
+  pub in_named : input ≢ []
+  pub subtune_spelled : IsNumberWord subtune_limit subtune_word subtune
+  pub frames_spelled : IsNumberWord frame_limit frames_word frames
+  pub options_spelled : AreOptionWords option_words options
+
 -- the arguments are `IN SUBTUNE FRAMES`, with a subtune of at most 255 and at most 100,000 frames
 pub record AreRunArguments (arguments : List (List ℕ)) (input : List ℕ) (subtune frames : ℕ) : Type 0 where
   pub subtune_word : List ℕ
@@ -71,5 +106,6 @@ pub record AreRunArguments (arguments : List (List ℕ)) (input : List ℕ) (sub
 -- the numbers of a job are allowed: an image can stand at the address, and there are at most 100,000 frames
 abbrev pub HasAllowedNumbers : Job → Type 0
 HasAllowedNumbers (Pack input output psid address zero_page) = IsAddress address
+HasAllowedNumbers (Trace input subtune frames options) = frames ≤ frame_limit
 HasAllowedNumbers (Run input subtune frames) = frames ≤ frame_limit
 HasAllowedNumbers _ = Unit {0}

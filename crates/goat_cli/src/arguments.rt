@@ -1,9 +1,19 @@
 //! What single words of the command line spell.
 
 ghost use Rattle.std.specs.Prelude.{◌≡◌, ℕ, Bool, MatchResult};
-ghost use Rattle.goat_cli.specs.Words.{format_word, IsAddressWord, IsZeroPageWord, IsNumberWord};
+ghost use Rattle.std.specs.Prelude.{[], ◌∷◌};
+ghost use Rattle.play_model.specs.declared.options.Options.{Options as Chosen};
+ghost use Rattle.play_model.specs.State.{no_options};
+ghost use Rattle.goat_cli.specs.Words.{format_word, IsAddressWord, IsZeroPageWord, IsNumberWord, skip_word, AreOptionWords};
 
 use crate::words::WordsFault;
+use play_model::{HIGHEST_SPEED, Options};
+
+/// The greatest number that a subtune may be asked for by.
+pub const SUBTUNE_LIMIT: u32 = 255;
+
+/// The greatest number of frames that a run or a trace may be asked for.
+pub const FRAME_LIMIT: u32 = 100_000;
 
 /// Whether a word for the format of a packed file says PSID.
 ///
@@ -80,5 +90,50 @@ pub fn zero_page_of(word: &str) -> Result<u8, WordsFault>
         Ok(zero_page)
     } else {
         Err(WordsFault)
+    }
+}
+
+/// What a word says is left out of a frame: the effect step, and the pulse step.
+///
+/// # Errors
+///
+/// The word is none of `none`, `effects`, `pulse` and `both`.
+fn skip_of(word: &str) -> Result<(bool, bool), WordsFault>
+    ensures { MatchResult result (λ skips. word.now ≡ skip_word skips.0 skips.1) (λ _.
+        (effects pulse : Bool) → ¬ (word.now ≡ skip_word effects pulse)) }
+{
+    match word {
+        "none" => Ok((false, false)),
+        "effects" => Ok((true, false)),
+        "pulse" => Ok((false, true)),
+        "both" => Ok((true, true)),
+        _ => Err(WordsFault),
+    }
+}
+
+/// Nothing is left out of a frame, at one play call in the time of a picture.
+pub fn no_options() -> Options
+    ensures { result ≡ no_options }
+{
+    match Options::new(false, false, 1) {
+        Some(options) => options,
+        None => unreachable!(),
+    }
+}
+
+/// How a song is played: a word for what is left out of a frame, and a digit for the speed, 1 to 4.
+///
+/// # Errors
+///
+/// One of them is another word.
+pub fn options_of(skip: &str, speed: &str) -> Result<Options, WordsFault>
+    ensures { MatchResult result (AreOptionWords (skip.now ∷ speed.now ∷ [])) (λ _.
+        (options : Chosen) → ¬ AreOptionWords (skip.now ∷ speed.now ∷ []) options) }
+{
+    let (skip_effects, skip_pulse) = skip_of(skip)?;
+    let calls = decimal_of(speed, u32::from(HIGHEST_SPEED))?;
+    match Options::new(skip_effects, skip_pulse, calls as u8) {
+        Some(options) => Ok(options),
+        None => Err(WordsFault),
     }
 }

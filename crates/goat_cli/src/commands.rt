@@ -14,11 +14,14 @@ pub mod copy;
 pub mod pack;
 /// `run IN SUBTUNE FRAMES`.
 pub mod run;
+/// `trace IN SUBTUNE FRAMES`, or with `SKIP SPEED` behind it.
+pub mod trace;
 
 use crate::commands::check::check_song;
 use crate::commands::copy::copy_song;
 use crate::commands::pack::pack_song;
 use crate::commands::run::run_psid;
+use crate::commands::trace::trace_song;
 use crate::line::Line;
 use crate::refusal::{Refusal, Report};
 use crate::words::Job;
@@ -54,6 +57,12 @@ pub fn perform<'a, F: Folder, K: Sink>(
         } => pack_song(alloc, input, output, psid, address, folder),
         Job::Copy { input, output } => copy_song(alloc, input, output, folder),
         Job::Check { input } => check_song(alloc, input, folder),
+        Job::Trace {
+            input,
+            subtune,
+            frames,
+            options,
+        } => trace_song(alloc, input, subtune, frames, options, folder, line, out),
         Job::Run {
             input,
             subtune,

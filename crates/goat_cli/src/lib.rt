@@ -21,6 +21,7 @@ mod message;
 mod packed;
 mod program;
 mod refusal;
+mod registers;
 mod silent;
 mod stages;
 mod status;

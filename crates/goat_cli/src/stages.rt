@@ -3,6 +3,7 @@
 
 ghost use Rattle.std.specs.Prelude.{◌≡◌, ◌≢◌, ◌+◌, ◌-◌, ◌≤◌, ℕ, List, [], ◌∷◌, codes, Some, IfOk, IfErr, OnOk, Ok, decimal, length};
 ghost use Rattle.goat_io.specs.Files.{Files, file_of};
+ghost use Rattle.song_model.specs.LookUp.{IsNumbered, playable_subtunes};
 ghost use Rattle.song_model.specs.Silent.{IsSilent};
 ghost use Rattle.gts5.specs.Spells.{Spells};
 ghost use Rattle.play_model.specs.Playable.{IsPlayable};
@@ -11,10 +12,10 @@ ghost use Rattle.psid.specs.declared.reading.TheConstants.{ADDRESSES};
 ghost use Rattle.psid.specs.Reading.{psid_read};
 ghost use Rattle.goat_cli.specs.Calls.{HasSubtune};
 ghost use Rattle.goat_cli.specs.Last.{last_of, last_word, Says};
-ghost use Rattle.goat_cli.specs.Lines.{line, song_fault_line, table_word, unplayable_line, psid_fault_line};
-ghost use Rattle.goat_cli.specs.Stages.{SpellsSong, CanBePlayed, CanBePacked, IsPsid, OffersSubtune, HoldsSong, HoldsPsid, input_limit};
+ghost use Rattle.goat_cli.specs.Lines.{line, song_fault_line, table_word, unplayable_line, no_subtune_line, psid_fault_line};
+ghost use Rattle.goat_cli.specs.Stages.{SpellsSong, CanBePlayed, PlaysSubtune, CanBePacked, IsPsid, OffersSubtune, HoldsSong, HoldsPsid, input_limit};
 ghost use Rattle.goat_cli.specs.Stands.{folder_state};
-ghost use Rattle.goat_cli.specs.Endings.{Refuses, WasRead, ReadFails, WriteEnds};
+ghost use Rattle.goat_cli.specs.Endings.{Refuses, WasRead, ReadFails, SongWasRead, SongFails, WriteEnds};
 
 use crate::message::Piece;
 use crate::refusal::{Refusal, Report};
@@ -94,12 +95,34 @@ pub fn write_file<'a, F: Folder>(
     }
 }
 
+/// The song in a file.
+///
+/// # Errors
+///
+/// The file isn't read, its bytes break the format of songs, or out of memory.
+pub fn read_song<'a, F: Folder>(
+    alloc: Global,
+    name: &'a str,
+    folder: &mut F,
+) -> Result<Song, Refusal<'a>>
+    ensures read { IfOk result (SongWasRead name.now
+        (folder_state (F.files folder.old) (F.counts folder.old))
+        (folder_state (F.files folder.new) (F.counts folder.new))) }
+    ensures refused { IfErr result (λ refusal. SongFails name.now
+        (folder_state (F.files folder.old) (F.counts folder.old))
+        (folder_state (F.files folder.new) (F.counts folder.new)) (last_of refusal)) }
+{
+    let bytes = read_file(alloc, name, INPUT_LIMIT, folder)?;
+    let song = song_of(alloc, &bytes)?;
+    Ok(song)
+}
+
 /// The song that the bytes of a file spell.
 ///
 /// # Errors
 ///
 /// The bytes break the format of songs, or out of memory.
-pub fn song_of(alloc: Global, bytes: &[u8]) -> Result<Song, Refusal<'static>>
+fn song_of(alloc: Global, bytes: &[u8]) -> Result<Song, Refusal<'static>>
     requires { length bytes.now ≤ input_limit }
     ensures spells { IfOk result (Spells bytes.now) }
     ensures refused { IfErr result (λ refusal. (files : Files) (name : List ℕ) →
@@ -233,6 +256,40 @@ fn table_word(table: TableName) -> &'static str
     }
 }
 
+/// The number from 0 of a playable subtune that is counted from 1.
+///
+/// # Errors
+///
+/// The song doesn't have the subtune.
+pub fn playable_subtune_of(song: &Song, subtune: u8) -> Result<u8, Refusal<'static>>
+    ensures has { OnOk result (IsNumbered (playable_subtunes song.now) subtune) }
+    ensures number { IfOk result (λ number. number ≡ subtune - 1) }
+    ensures refused { IfErr result (λ refusal. (files : Files) (name : List ℕ) →
+        HoldsSong files name song.now → Refuses files (PlaysSubtune name subtune)
+        (last_of refusal)) }
+{
+    let count = song.playable_count();
+    if subtune == 0 || subtune > count {
+        return Err(no_such_subtune(subtune, u16::from(count)));
+    }
+    Ok(subtune - 1)
+}
+
+/// The refusal of a subtune that isn't one of this number.
+fn no_such_subtune(subtune: u8, count: u16) -> Refusal<'static>
+    ensures { last_of result ≡ Says 11 (no_subtune_line subtune count) }
+{
+    Refusal::says(
+        Status::NoSubtune,
+        &[
+            Piece::Words("no such subtune: "),
+            Piece::Number(u64::from(subtune)),
+            Piece::Words(" of "),
+            Piece::Number(u64::from(count)),
+        ],
+    )
+}
+
 /// Tells whether the song can be packed: silent songs can.
 ///
 /// # Errors
@@ -297,15 +354,7 @@ pub fn subtune_of(psid: &Psid, subtune: u8) -> Result<u8, Refusal<'static>>
 {
     let songs = psid.header.songs;
     if subtune == 0 || u16::from(subtune) > songs {
-        return Err(Refusal::says(
-            Status::NoSubtune,
-            &[
-                Piece::Words("no such subtune: "),
-                Piece::Number(u64::from(subtune)),
-                Piece::Words(" of "),
-                Piece::Number(u64::from(songs)),
-            ],
-        ));
+        return Err(no_such_subtune(subtune, songs));
     }
     Ok(subtune - 1)
 }

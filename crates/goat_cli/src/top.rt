@@ -8,7 +8,9 @@ ghost use Rattle.goat_cli.specs.Jobs.{IsNoForm};
 ghost use Rattle.goat_cli.specs.RegisterText.{register_text};
 ghost use Rattle.goat_cli.specs.Due.{IsDue, IsOneOf, instead};
 ghost use Rattle.goat_cli.specs.Stands.{folder_state, sink_state, RunStands, Counted, TellsWant};
-ghost use Rattle.goat_cli.specs.Answers.{HoldsDone, IsOrdinary, IsPrinted, IsBeforeWriting, ComesAbout, ComesWhere, SinkCounted, RunsPacked, first_traces};
+ghost use Rattle.goat_cli.specs.Answers.{HoldsDone, IsOrdinary, IsPrinted, IsBeforeWriting, ComesAbout, ComesWhere, SinkCounted, RunsPacked};
+ghost use Rattle.goat_cli.specs.Traces.{first_traces};
+ghost use Rattle.play_model.specs.State.{no_options};
 ghost use Rattle.goat_cli.specs.Last.{last_word};
 ghost use Rattle.goat_cli.specs.Message.{line_of};
 ghost use Rattle.goat_cli.specs.Endings.{RunEnds, Prints, PrintsLine};
@@ -48,7 +50,7 @@ pub fn goat<F: Folder, K: Sink>(alloc: Global, words: &[String], folder: &mut F,
         RunsPacked (texts words.now) files song subtune frames →
         IsOneOf (0 ∷ 4 ∷ 10 ∷ 14 ∷ []) result × (result ≡ 0 →
         K.written out.new ≡ told_with_piece (K.written out.old)
-        (register_text (first_traces song (subtune - 1) (frames + 1))))) }
+        (register_text (first_traces no_options song (subtune - 1) (frames + 1))))) }
 
     // Where all lines were printed each count of the folder rises with its own status and with no other; the sink's always.
     ensures counted { IsPrinted result →
@@ -141,7 +143,7 @@ fn put_line<K: Sink>(status: u8, line: &Line, out: &mut K) -> u8
     }
 }
 
-/// Prints that memory is wanting, and answers the status.
+/// Prints that the program is out of memory, and answers the status.
 fn want_memory<K: Sink>(out: &mut K) -> u8
     ensures { TellsWant [] result (sink_state (K.written out.old) (K.faults out.old))
         (sink_state (K.written out.new) (K.faults out.new)) }

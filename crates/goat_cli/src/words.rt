@@ -9,6 +9,8 @@ use crate::commands::check::check_job;
 use crate::commands::copy::copy_job;
 use crate::commands::pack::pack_job;
 use crate::commands::run::run_job;
+use crate::commands::trace::trace_job;
+use play_model::Options;
 
 /// What the program is asked to do.
 #[derive(Clone, Copy, Debug)]
@@ -32,6 +34,17 @@ pub enum Job<'a> {
     /// `check IN`: tell what the song in the file IN uses, or why it can't be played.
     Check {
         input: &'a str,
+    },
+    /// `trace IN SUBTUNE FRAMES`, or with `SKIP SPEED` behind it: print the SID's registers after each call of the
+    /// song in the file IN.
+    Trace {
+        input: &'a str,
+        /// The subtune, counted from 1.
+        subtune: u8,
+        /// The number of frames, at most 100,000.
+        frames: u32,
+        /// What is left out of a frame, and the speed.
+        options: Options,
     },
     /// `run IN SUBTUNE FRAMES`: run the PSID file IN, and print the SID's registers after each call.
     Run {
@@ -64,6 +77,7 @@ pub fn parse_words(words: &[String]) -> Result<Job<'_>, WordsFault>
         "pack" => pack_job(arguments),
         "copy" => copy_job(arguments),
         "check" => check_job(arguments),
+        "trace" => trace_job(arguments),
         "run" => run_job(arguments),
         _ => Err(WordsFault),
     }

@@ -14,7 +14,7 @@ ghost use Rattle.goat_cli.specs.Jobs.{command_of, AreArgumentsOf};
 
 use crate::message::Piece;
 use crate::refusal::{Refusal, Report};
-use crate::stages::{INPUT_LIMIT, parts_of, read_file, song_of};
+use crate::stages::{parts_of, read_song};
 use crate::words::{Job, WordsFault};
 use goat_io::Folder;
 use song_model::Song;
@@ -58,8 +58,7 @@ pub fn check_song<'a, F: Folder>(
         (folder_state (F.files folder.old) (F.counts folder.old))
         (folder_state (F.files folder.new) (F.counts folder.new)) sink sink }
 {
-    let bytes = read_file(alloc, input, INPUT_LIMIT, folder)?;
-    let song = song_of(alloc, &bytes)?;
+    let song = read_song(alloc, input, folder)?;
     let parts = parts_of(&song)?;
     Ok(report_of(&song, &parts))
 }

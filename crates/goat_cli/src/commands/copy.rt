@@ -9,7 +9,7 @@ ghost use Rattle.goat_cli.specs.Words.{texts, HasAllowedNumbers, Copy};
 ghost use Rattle.goat_cli.specs.Jobs.{command_of, AreArgumentsOf};
 
 use crate::refusal::{Refusal, Report};
-use crate::stages::{INPUT_LIMIT, read_file, song_of, write_file};
+use crate::stages::{read_song, write_file};
 use crate::words::{Job, WordsFault};
 use goat_io::Folder;
 use std::alloc::Global;
@@ -53,8 +53,7 @@ pub fn copy_song<'a, F: Folder>(
         (folder_state (F.files folder.old) (F.counts folder.old))
         (folder_state (F.files folder.new) (F.counts folder.new)) sink sink }
 {
-    let bytes = read_file(alloc, input, INPUT_LIMIT, folder)?;
-    let song = song_of(alloc, &bytes)?;
+    let song = read_song(alloc, input, folder)?;
     let file = gts5::write(alloc, &song)?;
     write_file(output, &file, folder)
 }

@@ -12,7 +12,7 @@ ghost use Rattle.goat_cli.specs.Jobs.{command_of, AreArgumentsOf};
 use crate::arguments::{address_of, is_psid, zero_page_of};
 use crate::packed::packed_file;
 use crate::refusal::{Refusal, Report};
-use crate::stages::{INPUT_LIMIT, can_be_packed, parts_of, read_file, song_of, write_file};
+use crate::stages::{can_be_packed, parts_of, read_song, write_file};
 use crate::words::{Job, WordsFault};
 use goat_io::Folder;
 use std::alloc::Global;
@@ -66,8 +66,7 @@ pub fn pack_song<'a, F: Folder>(
         (folder_state (F.files folder.old) (F.counts folder.old))
         (folder_state (F.files folder.new) (F.counts folder.new)) sink sink }
 {
-    let bytes = read_file(alloc, input, INPUT_LIMIT, folder)?;
-    let song = song_of(alloc, &bytes)?;
+    let song = read_song(alloc, input, folder)?;
     let _parts = parts_of(&song)?;
     can_be_packed(&song)?;
     let file = packed_file(alloc, psid, &song, address)?;

@@ -14,23 +14,18 @@ ghost use Rattle.goat_cli.specs.Endings.{JobEnds, CallsEnd, FailsIn};
 ghost use Rattle.goat_cli.specs.Words.{texts, HasAllowedNumbers, AreRunArguments, Run, frame_limit};
 ghost use Rattle.goat_cli.specs.Jobs.{command_of, AreArgumentsOf};
 
-use crate::arguments::decimal_of;
+use crate::arguments::{FRAME_LIMIT, SUBTUNE_LIMIT, decimal_of};
 use crate::line::Line;
 use crate::message::Piece;
 use crate::refusal::{Refusal, Report};
+use crate::registers::put_registers;
 use crate::stages::{INPUT_LIMIT, psid_of, read_file, subtune_of};
 use crate::status::Status;
 use crate::words::{Job, WordsFault};
 use cpu6502::{CallStop, Stop};
-use goat_io::{Folder, Sink, SinkFault};
+use goat_io::{Folder, Sink};
 use sid_run::Runner;
 use std::alloc::Global;
-
-/// The greatest number that a subtune may be asked for by.
-const SUBTUNE_LIMIT: u32 = 255;
-
-/// The greatest number of frames that a run may be asked for.
-const FRAME_LIMIT: u32 = 100_000;
 
 /// The job that the words after `run` name.
 ///
@@ -166,28 +161,5 @@ fn next_call(runner: &mut Runner, number: u8, call: u32) -> Result<[u8; 25], Cal
         runner.init(number)
     } else {
         runner.play()
-    }
-}
-
-/// Prints the line of a call.
-fn put_registers<K: Sink>(
-    call: u32,
-    registers: &[u8; 25],
-    line: &mut Line,
-    out: &mut K,
-) -> Result<(), SinkFault>
-    ensures ok { OnOk result (Appends (register_line call registers.now)
-        (sink_state (K.written out.old) (K.faults out.old))
-        (sink_state (K.written out.new) (K.faults out.new))) }
-    ensures failed { IsErrOf result SinkFault.Failed → FailsIn (register_line call registers.now)
-        (sink_state (K.written out.old) (K.faults out.old))
-        (sink_state (K.written out.new) (K.faults out.new)) }
-    ensures no_memory { IsErrOf result SinkFault.NoMemory → Appends []
-        (sink_state (K.written out.old) (K.faults out.old))
-        (sink_state (K.written out.new) (K.faults out.new)) }
-{
-    match line.tell_registers(call, registers) {
-        Ok(()) => out.put(line.as_slice()),
-        Err(_) => Err(SinkFault::NoMemory),
     }
 }

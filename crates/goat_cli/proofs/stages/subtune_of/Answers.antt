@@ -15,4 +15,4 @@ returns-then-subtune-eq0-clause-refused c = λ files name holds.
             w.if-from-songs.true in omega (arith, above, w.from.ensures, has.last)
       ]),
       refl,
-    ) (rw (c.from-then-subtune-eq0.ensures, c.from-then-subtune-eq0-2.ensures) at c.says.ensures)
+    ) c.no_such_subtune.ensures
