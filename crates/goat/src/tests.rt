@@ -5,6 +5,7 @@ mod checking;
 mod copying;
 mod parts;
 mod running;
+mod tracing;
 mod unplayable;
 mod used;
 mod wanting;
@@ -17,6 +18,9 @@ use std::process::Abort;
 use std::test::Fail;
 
 const USAGE: &str = "usage: goat check|trace|pack|run|edit|copy|selftest\n";
+
+/// The registers of a line in which the volume alone is not 0.
+const VOLUME: &str = "0000000000000000000000000000000000000000000000000f";
 
 const PACK: [&str; 6] = ["pack", "s0", "o", "raw", "1000", "FC"];
 

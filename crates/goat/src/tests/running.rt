@@ -1,6 +1,6 @@
 //! PSID files that are packed and run.
 
-use super::{USAGE, assert_refused, one_note, run, run_failing, silence};
+use super::{USAGE, VOLUME, assert_refused, one_note, run, run_failing, silence};
 use std::alloc::Global;
 use std::process::Abort;
 use std::test::Fail;
@@ -17,9 +17,6 @@ const BACK: [u8; 8] = [0, 0x14, 0, 0, 0, 0, 0, 0x10];
 
 /// The registers of a line in which all are 0.
 const ZEROS: &str = "00000000000000000000000000000000000000000000000000";
-
-/// The registers of a line in which the volume alone is not 0.
-const VOLUME: &str = "0000000000000000000000000000000000000000000000000f";
 
 /// The file of an image at `$1000`.
 fn psid_file(alloc: Global, image: &[u8]) -> Result<Vec<u8>, Fail> {
