@@ -1,5 +1,6 @@
 #!/usr/bin/env python3
-"""Times `goat run`: machine steps a second over an image that works long, and lines a second over the silent song.
+"""Times `goat run` and `goat trace`: machine steps a second over an image that works long, lines a second over the
+silent song, and frames a second over a song that works in each frame.
 
 Usage: bench/runs.py [PROGRAM]
 
@@ -37,9 +38,29 @@ def psid_file(image):
     return header + ADDRESS.to_bytes(2, "little") + image
 
 
-def run(program, path, frames):
-    """Runs the file for so many frames; answers processor seconds and the most kilobytes that were held."""
-    arguments = [program, "run", path, "1", str(frames)]
+def full_song():
+    """A song whose three voices play notes with a wave and a pulse program and a vibrato, over a filter program."""
+    orders = bytes([3, 0, 1, 0xFF, 0, 3, 1, 2, 0xFF, 0, 3, 2, 0, 0xFF, 0])
+    instrument = bytes([0x09, 0xA0, 1, 1, 1, 1, 1, 2, 9]) + bytes(16)
+    tables = [
+        bytes.fromhex("2100 4100 4104 4180 FF04"),
+        bytes.fromhex("8800 2010 20F0 FF02"),
+        bytes.fromhex("90F1 0040 3002 30FE FF03"),
+        bytes.fromhex("0320"),
+    ]
+    song = b"GTS5" + bytes(96) + bytes([1]) + orders + bytes([1]) + instrument
+    for rows in tables:
+        song += bytes([len(rows) // 2]) + rows[0::2] + rows[1::2]
+    song += bytes([3])
+    for lowest in (0x78, 0x84, 0x90):
+        rows = [bytes([lowest + row // 4, 1, 0, 0] if row % 4 == 0 else [0xBD, 0, 4, 1]) for row in range(32)]
+        song += bytes([33]) + b"".join(rows) + bytes([0xFF, 0, 0, 0])
+    return song
+
+
+def run(program, command, path, frames):
+    """Runs or traces the file for so many frames; answers processor seconds and the most kilobytes that were held."""
+    arguments = [program, command, path, "1", str(frames)]
     with open(os.devnull, "wb") as null:
         process = subprocess.Popen(arguments, stdout=null)
         _, status, usage = os.wait4(process.pid, 0)
@@ -49,9 +70,19 @@ def run(program, path, frames):
     return usage.ru_utime + usage.ru_stime, usage.ru_maxrss
 
 
-def best(program, path, frames, times=3):
+def best(program, command, path, frames, times=3):
     """The shortest of some runs."""
-    return min(run(program, path, frames) for _ in range(times))
+    return min(run(program, command, path, frames) for _ in range(times))
+
+
+def print_rate(program, command, path, what):
+    """Prints how many frames a second a file is run or traced, and how much memory that takes."""
+    start, own = best(program, command, path, 0)
+    for frames in (25_000, 50_000, 100_000):
+        seconds, held = best(program, command, path, frames)
+        seconds -= start
+        print(f"{command} of {what}: {frames / seconds:,.0f} frames a second "
+              f"({frames} in {seconds:.2f} s, {held - own} KB above none)")
 
 
 def built_program():
@@ -69,14 +100,15 @@ def main():
         silent = os.path.join(folder, "silent.sid")
         song = os.path.join(TOP, "demo", "silence.sng")
         subprocess.run([program, "pack", song, silent, "psid", "1000", "FC"], stdout=subprocess.DEVNULL, check=True)
-        start, own = best(program, work, 0)
+        full = os.path.join(folder, "full.sng")
+        with open(full, "wb") as file:
+            file.write(full_song())
+        start, _ = best(program, "run", work, 0)
         frames = 500
-        seconds = best(program, work, frames)[0] - start
+        seconds = best(program, "run", work, frames)[0] - start
         print(f"steps: {STEPS_OF_PLAY * frames / seconds / 1e6:.1f} million a second ({frames} calls of {STEPS_OF_PLAY})")
-        for frames in (25_000, 50_000, 100_000):
-            seconds, held = best(program, silent, frames)
-            seconds -= start
-            print(f"lines: {frames / seconds:,.0f} a second ({frames} frames in {seconds:.2f} s, {held - own} KB above a run of none)")
+        print_rate(program, "run", silent, "silence")
+        print_rate(program, "trace", full, "a full song")
 
 
 if __name__ == "__main__":
