@@ -7,3 +7,4 @@ mod WithinFrame
 -- A player before its first frame, and one that is played on and on.
 mod Starts
 mod Traces
+mod Cases

@@ -5,6 +5,7 @@ ghost use Rattle.song_model.specs.LookUp.{playable_subtunes};
 ghost use Rattle.play_model.specs.Playable.{IsPlayable};
 ghost use Rattle.play_model.specs.State.{start_state};
 ghost use Rattle.playroutine.specs.Playback.{PlaysSubtune, PlayerStandsFor, PlaysFrame};
+ghost use Rattle.playroutine.specs.Cases.{UsesItsFeatures};
 
 use crate::frames::frame_of;
 use play_model::{Options, PlayState};
@@ -79,9 +80,10 @@ pub fn start(song: &Song, subtune: u8, options: Options) -> Result<Player<'_>, N
 }
 
 impl<'a> Player<'a> {
-    /// Plays one frame. Answers what it leaves in the SID's registers 0 to 24, `$D400-$D418`.
+    /// Plays one frame. Whatever it does, the features of the song name it. Answers what it leaves in the SID's registers 0 to 24, `$D400-$D418`.
     pub fn frame(&mut self) -> [u8; 25]
-        ensures { PlaysFrame self.old result self.new }
+        ensures plays { PlaysFrame self.old result self.new }
+        ensures cases { UsesItsFeatures self.old }
     {
         let song = self.song;
         let subtune = self.subtune;
