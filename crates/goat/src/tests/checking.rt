@@ -1,6 +1,6 @@
 //! What a song uses, and songs that can't be played.
 
-use super::parts::{Case, NOTE, Parts, SILENT};
+use super::parts::{Case, NOTE, Parts, SILENT, three_instruments};
 use super::unplayable::UNPLAYABLE;
 use super::used::USED;
 use super::{PACK, USAGE, assert_refused, one_note, run, run_failing, silence, song_with};
@@ -10,6 +10,8 @@ use std::test::Fail;
 
 const CHECK: [&str; 2] = ["check", "s0"];
 
+const TRACE: [&str; 4] = ["trace", "s0", "1", "1"];
+
 /// Asserts that the song can be played, and what `check` prints of it.
 fn assert_uses(rt: &impl Abort, alloc: Global, file: &[u8], text: &str) -> Result<(), Fail> {
     let line = format!(in alloc; "{text}\n")?;
@@ -17,10 +19,11 @@ fn assert_uses(rt: &impl Abort, alloc: Global, file: &[u8], text: &str) -> Resul
     Ok(())
 }
 
-/// Asserts that `check` and `pack` refuse the song with this line.
+/// Asserts that `check`, `trace` and `pack` refuse the song with this line.
 fn assert_unplayable(rt: &impl Abort, alloc: Global, file: &[u8], text: &str) -> Result<(), Fail> {
     let line = format!(in alloc; "unplayable: {text}\n")?;
     assert_refused(rt, &run(alloc, &CHECK, file)?, 6, &line);
+    assert_refused(rt, &run(alloc, &TRACE, file)?, 6, &line);
     assert_refused(rt, &run(alloc, &PACK, file)?, 6, &line);
     Ok(())
 }
@@ -51,41 +54,10 @@ fn songs_that_break_a_rule_are_told(rt: HostRuntime) -> Result<(), Fail> {
     Ok(())
 }
 
-/// Appends a pattern of 64 rests, of which each eighth, from the first on, is this row instead.
-fn add_eighths(file: &mut Vec<u8>, row: &[u8; 4]) -> Result<(), Fail> {
-    file.push(65)?;
-    for _ in 0..8 {
-        file.extend_from_slice(row)?;
-        for _ in 0..7 {
-            file.extend_from_slice(&[0xbd, 0, 0, 0])?;
-        }
-    }
-    file.extend_from_slice(&[0xff, 0, 0, 0])?;
-    Ok(())
-}
-
 #[test]
 fn a_song_with_three_instruments_is_told(rt: HostRuntime) -> Result<(), Fail> {
     let alloc = rt.alloc();
-    let song = Parts {
-        orders: "02 0200FF00 0201FF00 0202FF00 03F200FF00 04D10301FF00 0203FF00",
-        instruments: "09A001010000000209 00F903000001080209 0A8803000100000209",
-        wave: "4100 FF00 2100 2104 2107 FF03",
-        pulse: "8800 4020 40E0 FF02",
-        filter: "90F1 0020 4001 FF00",
-        speed: "0430",
-        patterns: "",
-    };
-    let mut file = song.head(alloc)?;
-    file.push(4)?;
-    for row in [
-        [0x90, 1, 0, 0],
-        [0x90, 2, 0, 0],
-        [0x90, 3, 0, 0],
-        [0xbd, 0, 0, 0],
-    ] {
-        add_eighths(&mut file, &row)?;
-    }
+    let file = three_instruments(alloc)?;
     assert_uses(
         &rt,
         alloc,

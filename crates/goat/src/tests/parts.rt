@@ -118,3 +118,40 @@ impl Parts {
         Ok(file)
     }
 }
+
+/// Appends a pattern of 64 rests, of which each eighth, from the first on, is this row instead.
+fn add_eighths(file: &mut Vec<u8>, row: &[u8; 4]) -> Result<(), Fail> {
+    file.push(65)?;
+    for _ in 0..8 {
+        file.extend_from_slice(row)?;
+        for _ in 0..7 {
+            file.extend_from_slice(&[0xbd, 0, 0, 0])?;
+        }
+    }
+    file.extend_from_slice(&[0xff, 0, 0, 0])?;
+    Ok(())
+}
+
+/// A song as a musician keeps it: two subtunes, three instruments, rows in each table, and four patterns of 64 rows.
+pub fn three_instruments(alloc: Global) -> Result<Vec<u8>, Fail> {
+    let song = Parts {
+        orders: "02 0200FF00 0201FF00 0202FF00 03F200FF00 04D10301FF00 0203FF00",
+        instruments: "09A001010000000209 00F903000001080209 0A8803000100000209",
+        wave: "4100 FF00 2100 2104 2107 FF03",
+        pulse: "8800 4020 40E0 FF02",
+        filter: "90F1 0020 4001 FF00",
+        speed: "0430",
+        patterns: "",
+    };
+    let mut file = song.head(alloc)?;
+    file.push(4)?;
+    for row in [
+        [0x90, 1, 0, 0],
+        [0x90, 2, 0, 0],
+        [0x90, 3, 0, 0],
+        [0xbd, 0, 0, 0],
+    ] {
+        add_eighths(&mut file, &row)?;
+    }
+    Ok(file)
+}

@@ -1,6 +1,6 @@
 //! Songs that are traced.
 
-use super::parts::{NOTE, Parts, SILENT};
+use super::parts::{NOTE, Parts, SILENT, three_instruments};
 use super::{Answer, USAGE, VOLUME, assert_refused, one_note, run, run_failing};
 use std::alloc::Global;
 use std::process::Abort;
@@ -212,6 +212,15 @@ fn songs_are_traced(rt: HostRuntime) -> Result<(), Fail> {
         assert_eq!(rt; answer.status, 0, "{words}");
         assert_digits(&rt, &answer.text, wanted)?;
     }
+    Ok(())
+}
+
+#[test]
+fn a_filter_program_is_traced(rt: HostRuntime) -> Result<(), Fail> {
+    let alloc = rt.alloc();
+    let answer = trace(alloc, "1 9", &three_instruments(alloc)?)?;
+    assert_eq!(rt; answer.status, 0);
+    assert_digits(&rt, &answer.text, "8@42:0020f11f 9@42:0021f11f")?;
     Ok(())
 }
 
