@@ -217,7 +217,9 @@ module _ {file : RunnerState} {subtune calls : ℕ} {now : RunnerState} {before 
     running = running;
     same_init = init ∙ so_far.same_init;
     same_play = play ∙ so_far.same_play;
-    printed = subst (λ text. Appends text before shown) (sym (text_more so_far.registers last many)) (appends_both so_far.printed told);
+    printed =
+        subst (λ text. Appends text before shown) (sym (text_more so_far.registers last many))
+        (appends_both so_far.printed told);
   }
 
   -- the line of a call was not put

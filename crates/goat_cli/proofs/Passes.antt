@@ -98,8 +98,8 @@ module _ (files : Files) where
     passes =
         λ met lines ends.
         ends.2
-        (subst (λ song. IsNumbered (playable_subtunes song) subtune) (one_song_held files name met.0 ends.0 met.1 ends.1)
-        met.2);
+        (subst (λ song. IsNumbered (playable_subtunes song) subtune)
+        (one_song_held files name met.0 ends.0 met.1 ends.1) met.2);
     once =
         λ lines others p q. p.3
         ∙ ap (λ song. no_subtune_line subtune (length (playable_subtunes song)) ∷ [])

@@ -136,8 +136,8 @@ module _ (song : Song) (address zero_page : ℕ) (image : List ℕ) (keeps : Kee
   pub record Plays (subtune frames : ℕ) : Type 0 where
     pub reads : psid_read (psid_file song address image) ≡ Ok packed
     pub after : Machine
-    pub calls : FirstCalls (loaded packed) (subtune - 1) (frames + 1) (first_traces no_options song (subtune - 1) (frames + 1))
-        after
+    pub calls : FirstCalls (loaded packed) (subtune - 1) (frames + 1)
+        (first_traces no_options song (subtune - 1) (frames + 1)) after
 
   plays_its_song : (subtune frames : ℕ) → All (λ byte. byte < 256) (psid_file song address image) → 1 ≤ subtune →
       subtune ≤ length (playable_subtunes song) → Plays subtune frames

@@ -54,8 +54,9 @@ module _ {song : Song} {k : ℕ} {o : Options} {calls : ℕ} {player : Playback}
   trace_cut all below registers same {told} sink.Failed it is fails none =
       let rest = has_later o song k calls all below in
       let failing = subst (λ r. FailsIn (register_line calls r) after told) same (fails refl) in
-      rw is (cut (register_lines (first_traces o song k calls)) rest.later (register_line calls (trace_with o song k calls))
-      failing.kept rest.lines_are refl (fails_then so_far.printed failing.fails))
+      rw is (cut (register_lines (first_traces o song k calls)) rest.later
+      (register_line calls (trace_with o song k calls)) failing.kept rest.lines_are refl
+      (fails_then so_far.printed failing.fails))
   trace_cut all below registers same sink.NoMemory it is fails none =
       let rest = has_later o song k calls all below in
       rw is (unsaid (register_lines (first_traces o song k calls)) rest.later
@@ -65,4 +66,5 @@ module _ {song : Song} {k : ℕ} {o : Options} {calls : ℕ} {player : Playback}
   pub all_traced : (all : ℕ) → calls ≡ all →
       LinesEnd (register_lines (first_traces o song k all)) SaysNothing before after
   all_traced all is =
-      shown refl (subst (λ n. Appends (concat (register_lines (first_traces o song k n))) before after) is so_far.printed)
+      let P : ℕ → Type 0 = λ n. Appends (concat (register_lines (first_traces o song k n))) before after in
+      shown refl (subst P is so_far.printed)

@@ -62,7 +62,7 @@ pub data WriteEnds (name bytes : List ℕ) (before after : FolderState) (last : 
       Counted 9 before.counts after.counts → WriteEnds name bytes before after last
   wanting : last ≡ Wants → FolderStays before after → WriteEnds name bytes before after last
 
--- ---- the calls of a PSID file
+-- ---- lines one after the other
 
 -- the put of these bytes failed
 pub record FailsIn (bytes : List ℕ) (before after : SinkState) : Type 0 where
@@ -76,6 +76,8 @@ pub data LinesEnd (lines : List (List ℕ)) (last : Last) (before after : SinkSt
       last ≡ SinkFailed → FailsAfter (concat earlier ++ take kept line) before after → LinesEnd lines last before after
   unsaid : (earlier later : List (List ℕ)) (line : List ℕ) → lines ≡ earlier ++ line ∷ later →
       last ≡ Wants → Appends (concat earlier) before after → LinesEnd lines last before after
+
+-- ---- the calls of a PSID file
 
 -- what became of init and of play, as often as there are frames, of a loaded file
 pub data CallsEnd (file : RunnerState) (subtune frames : ℕ) (last : Last) (before after : SinkState) : Type 0 where

@@ -1,4 +1,5 @@
--- The lines that a run of a PSID file prints: for each call its number and the 25 registers of the SID after it.
+-- The lines that a trace of a song and a run of a PSID file print: for each call its number and the 25 registers of the
+-- SID after it.
 use Rattle.std.specs.Prelude.{ℕ, ◌+◌, ◌-◌, List, [], ◌∷◌, ◌++◌, length, replicate, codes, decimal}
 use Rattle.std.specs.List.{concat}
 use Rattle.hex.specs.Hex.{encode_lower}

@@ -30,11 +30,11 @@ pub record IsNumberWord (limit : ℕ) (word : List ℕ) (number : ℕ) : Type 0 
   pub spelled : word ≡ decimal number
   pub allowed : number ≤ limit
 
--- the most frames that a run may be asked for
+-- the most frames that may be asked for
 abbrev pub frame_limit : ℕ
 frame_limit = 100000
 
--- the greatest number that a subtune may be asked for by
+-- the greatest number of a subtune that may be asked for
 abbrev pub subtune_limit : ℕ
 subtune_limit = 255
 

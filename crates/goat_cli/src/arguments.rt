@@ -9,10 +9,10 @@ ghost use Rattle.goat_cli.specs.Words.{format_word, IsAddressWord, IsZeroPageWor
 use crate::words::WordsFault;
 use play_model::{HIGHEST_SPEED, Options};
 
-/// The greatest number that a subtune may be asked for by.
+/// The greatest number of a subtune that may be asked for.
 pub const SUBTUNE_LIMIT: u32 = 255;
 
-/// The greatest number of frames that a run or a trace may be asked for.
+/// The most frames that may be asked for.
 pub const FRAME_LIMIT: u32 = 100_000;
 
 /// Whether a word for the format of a packed file says PSID.

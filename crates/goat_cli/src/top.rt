@@ -52,7 +52,8 @@ pub fn goat<F: Folder, K: Sink>(alloc: Global, words: &[String], folder: &mut F,
         K.written out.new ≡ told_with_piece (K.written out.old)
         (register_text (first_traces no_options song (subtune - 1) (frames + 1))))) }
 
-    // Where all lines were printed each count of the folder rises with its own status and with no other; the sink's always.
+    // Where all lines were printed each count of the folder rises with its own status and with no other; the sink's
+    // always.
     ensures counted { IsPrinted result →
         Counted result (F.counts folder.old) (F.counts folder.new) }
     ensures sink_counted { SinkCounted result (K.faults out.old) (K.faults out.new) }

@@ -9,7 +9,8 @@ returns-in_err-options-in-len5-clause-none c =
     let five =
     five_texts _ _ _ _ _ _ c.in-len5.len_at_least c.in-len5.len_below c.input-item-then-arguments-lt6.is
     c.subtune-item-then-arguments-lt6.is c.frames-item-then-arguments-lt6.is c.skip-item.is c.speed-item.is in
-    let none = rw (c.as_str-in-len5.ensures.value, c.as_str-in-len5-2.ensures.value) at c.in_err-options-in-len5.ensures in
+    let none =
+    rw (c.as_str-in-len5.ensures.value, c.as_str-in-len5-2.ensures.value) at c.in_err-options-in-len5.ensures in
     let p = err_from_is_err_and c.from_residual.result c.from_residual.ensures.1 in
     rw p.1 (no_options_said _ _ _ _ _ _ five none)
 
