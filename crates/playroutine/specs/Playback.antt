@@ -9,7 +9,7 @@ use Rattle.play_model.specs.declared.states.PlayState.{PlayState}
 use Rattle.play_model.specs.State.{FrameState}
 use Rattle.play_model.specs.StandsFor.{StateStandsFor}
 use Rattle.play_model.specs.Playable.{IsPlayable}
-use Rattle.play_model.specs.Frame.{subtune_at, frame_with}
+use Rattle.play_model.specs.Frame.{subtune_at, frame_with, state_after_with}
 
 -- what a player plays, and the state that it keeps between its frames
 pub record Playback : Type 0 where
@@ -44,10 +44,10 @@ pub record IsEndlessSubtune (subtune : Subtune) : Type 0 where
   pub two : IsEndless subtune.two
   pub three : IsEndless subtune.three
 
--- what is true of every player: its song can be played, its subtune is that of its number, and it stands for some
--- state
-pub record IsAtFrame (song : Song) (subtune : Subtune) (k : ℕ) (state : PlayState) : Type 0 where
+-- what is true of every player: its song can be played, its subtune is that of its number, and it stands for the state
+-- after some number of frames
+pub record IsAtFrame (song : Song) (subtune : Subtune) (k : ℕ) (o : Options) (state : PlayState) : Type 0 where
   pub playable : IsPlayable song
   pub subtune_is : Some subtune ≡ playable_subtune song k
-  pub x : FrameState
-  pub stands : StateStandsFor subtune state x
+  pub frames : ℕ
+  pub stands : StateStandsFor subtune state (state_after_with o song k frames)

@@ -44,7 +44,7 @@ impl<'a> Model for Player<'a> {
     } };
 
     ghost invariant = { λ player.
-        IsAtFrame player.song.now player.subtune.now player.number player.state };
+        IsAtFrame player.song.now player.subtune.now player.number player.options player.state };
 }
 
 /// A player of the playable subtune with this number, counted from 0, before its first frame.
