@@ -1,4 +1,4 @@
--- Which states a playable song may come to: a voice keeps only what the song uses.
+-- Which states a playable song may come to: a voice keeps only what the song uses. This is this project's own.
 use Rattle.std.specs.Prelude.{◌≡◌, ◌≢◌, ℕ, ◌<◌, ◌≤◌, ◌⊎◌, length}
 use Rattle.song_model.specs.declared.rows.Row.{Row}
 use Rattle.song_model.specs.declared.orders.Order.{Order}
@@ -43,7 +43,8 @@ pub data IsSafeWaiting (song : Song) : ℕ → ℕ → Type 0 where
 pub data IsSafeRunning (song : Song) : ℕ → ℕ → Type 0 where
   none : IsSafeRunning song 0 0
   of_instrument : (i : ℕ) → IsUsedInstrument song i → IsSafeRunning song 0 (instrument_at song i).vibrato
-  of_row : {command param : ℕ} → 1 ≤ command → command ≤ 4 → HasCommand song command param → IsSafeRunning song command param
+  of_row : {command param : ℕ} → 1 ≤ command → command ≤ 4 → HasCommand song command param →
+      IsSafeRunning song command param
 
 pub record IsSafeVoice (song : Song) (order : Order) (v : Voice) : Type 0 where
   pub instrument : IsUsedInstrument song v.instrument

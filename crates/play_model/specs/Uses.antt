@@ -1,5 +1,5 @@
 -- What a frame makes use of: the cases that its rules take, over any look-ups. A feature is used where the case
--- that it names comes.
+-- that it names comes. This is this project's profile of the playroutine.
 use Rattle.std.specs.Prelude.{◌≡◌, ◌≢◌, ℕ, ◌+◌, ◌%◌, ◌<◌, ◌≤◌, ◌⊎◌, true, false, ◌&&◌, ◌==◌, if◌then◌else◌, Contains}
 use Rattle.song_model.specs.declared.orders.Subtune.{Subtune}
 use Rattle.song_model.specs.declared.features.Feature.{Feature}
@@ -155,7 +155,8 @@ pub record HasOrderByte (subtune : Subtune) (from to : ℕ) : Type 0 where
   pub high : byte ≤ to
 
 -- a voice does this in its turn
-pub record InATurn (o : Options) (look : LookUps) (subtune : Subtune) (x : FrameState) (Does : Turn → Type 0) : Type 0 where
+pub record InATurn (o : Options) (look : LookUps) (subtune : Subtune) (x : FrameState) (Does : Turn → Type 0)
+    : Type 0 where
   pub channel : ℕ
   pub is_channel : IsChannel channel
   pub does : Does (turn_of channel o look subtune x)

@@ -6,8 +6,9 @@
 //! frame leaves in the SID's 25 registers, and give the values that small songs have by other means.
 //!
 //! Beside them stands what a song uses of its parts, which features its player needs, and which songs can
-//! be played (`Used`, `Reached`, `Features`, `Playable`); the crate `usage` answers it. The frequencies of
-//! notes and the speeds of slides are functions too.
+//! be played (`Used`, `Reached`, `Features`, `Playable`); the crate `usage` answers it. So does what a frame makes use
+//! of, and which states are safe (`Uses`, `Safe`); the crate `safe_states` has their laws. The frequencies of notes and
+//! the speeds of slides are functions too, and the playroutine's state is a type with its values at the start.
 //!
 //! It stands on `song_model`.
 #![tactic(auto)]

@@ -48,8 +48,8 @@ impl Speed {
     }
 }
 
-/// How a song is played: which steps of a frame are left out where a row is fetched or done, as
-/// GoatTracker 2's player does to save time, and how often the play call comes.
+/// How a song is played: which steps of a frame are left out where a row is fetched or done, to save time, and how
+/// often the play call comes.
 #[derive(Clone, Copy, Debug, PartialEq, Eq)]
 pub struct Options {
     /// The effect step is left out at tick 0.

@@ -39,7 +39,8 @@ pub struct VoiceState {
     pub sr: u8,
     /// Where the vibrato stands in its period; odd on its way down.
     pub vib_time: u8,
-    /// Frames until the instrument's vibrato begins; 0 for never.
+    /// Frames until the instrument's vibrato begins, this one counted: it runs at 1, where the number stays; 0 for
+    /// never.
     pub vib_delay: u8,
     /// The waveform.
     pub wave: u8,

@@ -21,7 +21,9 @@ const ZERO_ROW: Row = Row {
     param: 0,
 };
 
-/// Fetches the next row of the voice's orderlist; after the last row of a pattern the voice goes to its next play.
+/// Fetches the next row of the voice's orderlist; after the last row of a pattern the voice goes to its next play. The
+/// orderlist has to go on for ever, and the voice's place to be that of one of its plays. A pattern that isn't stored
+/// has rows of zeros.
 pub fn fetch_row(voice: &mut VoiceState, order: &Order, song: &Song)
     requires endless { IsEndless order.now }
     requires place { (i : ℕ) × (voice.old.place ≡ place_of order.now i) }
@@ -113,8 +115,8 @@ fn transposed(note: u8, transpose: i8) -> u8
     note.wrapping_add_signed(transpose)
 }
 
-/// The gate before a note: bit `$40` of the gateoff timer keeps it, and so does command 3. Where it goes off, bit
-/// `$80` keeps the envelope.
+/// The gate before a note: bit `$40` of the gateoff timer keeps it, and so does command 3. Where it goes off the
+/// envelope is shut too, a hard restart, but for bit `$80`, which keeps it.
 fn gate_shut(voice: &mut VoiceState, timer: u8)
     ensures rule { (plays : ℕ) → voice_after plays voice.new ≡
         gate_shut timer (voice_after plays voice.old) }

@@ -1,8 +1,8 @@
 //! The rules of a frame in code, a call a rule: the filter, tick, wave, effect and pulse step, and the fetch of a
 //! row.
 //!
-//! The layer's one contract: each call leaves exactly what its rule says of what the voice and the voices
-//! together keep, and takes no memory. A file of code stands beside the file of definitions that it computes.
+//! The layer's one contract: each call leaves in the voice, and in what the voices share, exactly what its rule says,
+//! and takes no memory. A file of code stands beside the file of definitions that it computes.
 //!
 //! It stands on `play_model` for the rules and the states, and on `song_model` for the song. The playroutine
 //! stands on it.

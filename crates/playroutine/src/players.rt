@@ -26,6 +26,7 @@ pub struct NoSuchSubtune {
 pub struct Player<'a> {
     song: &'a Song,
     subtune: &'a Subtune,
+    /// The number of the subtune among the playable ones, counted from 0, by which contracts know it.
     number: u8,
     options: Options,
     state: PlayState,
@@ -47,7 +48,8 @@ impl<'a> Model for Player<'a> {
         IsAtFrame player.song.now player.subtune.now player.number player.options player.state };
 }
 
-/// A player of the playable subtune with this number, counted from 0, before its first frame.
+/// A player of the playable subtune with this number, counted from 0, before its first frame. The song has to be one
+/// that can be played.
 ///
 /// # Errors
 ///
@@ -80,7 +82,8 @@ pub fn start(song: &Song, subtune: u8, options: Options) -> Result<Player<'_>, N
 }
 
 impl<'a> Player<'a> {
-    /// Plays one frame. Whatever it does, the features of the song name it. Answers what it leaves in the SID's registers 0 to 24, `$D400-$D418`.
+    /// Plays one frame, and answers what it leaves in the SID's registers 0 to 24, `$D400-$D418`. The features of the
+    /// song name whatever it does.
     pub fn frame(&mut self) -> [u8; 25]
         ensures plays { PlaysFrame self.old result self.new }
         ensures cases { UsesItsFeatures self.old }

@@ -36,7 +36,7 @@ pub(crate) fn voice_step(
     }
 }
 
-/// The wave step, the effect step where it lets it run, and the pulse step.
+/// The wave step, the effect step where the wave step lets it run, and the pulse step.
 fn programs_done(voice: &mut VoiceState, common: &mut CommonState, song: &Song, options: &Options)
     ensures rule { (plays : ℕ) → playing_after plays voice.new common.new ≡
         pulse_done options.now (look_ups_of song.now) (effect_done options.now
