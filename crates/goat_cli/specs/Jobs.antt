@@ -11,7 +11,7 @@ use Rattle.psid.specs.declared.header.Psid.{Psid}
 use Rattle.cpu6502.specs.declared.machine.Machine.{Machine}
 use Rattle.sid_run.specs.State.{loaded}
 use Rattle.goat_cli.specs.Words.{Job, Pack, Copy, Check, Trace, Run, ArePackArguments, AreTraceArguments, AreRunArguments}
-use Rattle.goat_cli.specs.Stages.{Stage, IsThere, Fits, SpellsSong, CanBePlayed, CanBePacked, PlaysSubtune, IsPsid, OffersSubtune, CallsReturn, HoldsSong, HoldsPsid, input_limit}
+use Rattle.goat_cli.specs.Stages.{Stage, IsThere, Fits, SpellsSong, CanBePlayed, CanBePacked, HasPlayableSubtune, IsPsid, OffersSubtune, CallsReturn, HoldsSong, HoldsPsid, input_limit}
 use Rattle.goat_cli.specs.Packed.{IsPackedFile}
 use Rattle.goat_cli.specs.Calls.{FirstCalls}
 use Rattle.goat_cli.specs.RegisterText.{register_lines}
@@ -67,7 +67,7 @@ about (Trace input subtune frames options) = record {
   command = codes "trace";
   has_arguments = λ words. AreTraceArguments words input subtune frames options;
   stages = IsThere input ∷ Fits input input_limit ∷ SpellsSong input ∷ CanBePlayed input ∷
-      PlaysSubtune input subtune ∷ [];
+      HasPlayableSubtune input subtune ∷ [];
   does = PrintsLines (λ files lines. (song : Song) × HoldsSong files input song ×
       (lines ≡ register_lines (first_traces options song (subtune - 1) (frames + 1))));
 }

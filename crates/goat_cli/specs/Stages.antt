@@ -31,7 +31,7 @@ pub data Stage : Type 0 where
   SpellsSong : (name : List ℕ) → Stage
   CanBePlayed : (name : List ℕ) → Stage
   CanBePacked : (name : List ℕ) → Stage
-  PlaysSubtune : (name : List ℕ) (subtune : ℕ) → Stage
+  HasPlayableSubtune : (name : List ℕ) (subtune : ℕ) → Stage
   IsPsid : (name : List ℕ) → Stage
   OffersSubtune : (name : List ℕ) (subtune : ℕ) → Stage
   CallsReturn : (name : List ℕ) (subtune frames : ℕ) → Stage
@@ -85,7 +85,7 @@ rule_of (CanBePlayed name) = record {
       (lines ≡ unplayable_line refusal ∷ []);
 }
 -- the song has the playable subtune, counted from 1
-rule_of (PlaysSubtune name subtune) = record {
+rule_of (HasPlayableSubtune name subtune) = record {
   asks = λ files. (song : Song) × HoldsSong files name song × IsNumbered (playable_subtunes song) subtune;
   status = 11;
   ends = λ files lines. (song : Song) × HoldsSong files name song × (¬ IsNumbered (playable_subtunes song) subtune) ×

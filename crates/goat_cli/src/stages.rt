@@ -13,7 +13,7 @@ ghost use Rattle.psid.specs.Reading.{psid_read};
 ghost use Rattle.goat_cli.specs.Calls.{HasSubtune};
 ghost use Rattle.goat_cli.specs.Last.{last_of, last_word, Says};
 ghost use Rattle.goat_cli.specs.Lines.{line, song_fault_line, table_word, unplayable_line, no_subtune_line, psid_fault_line};
-ghost use Rattle.goat_cli.specs.Stages.{SpellsSong, CanBePlayed, PlaysSubtune, CanBePacked, IsPsid, OffersSubtune, HoldsSong, HoldsPsid, input_limit};
+ghost use Rattle.goat_cli.specs.Stages.{SpellsSong, CanBePlayed, HasPlayableSubtune, CanBePacked, IsPsid, OffersSubtune, HoldsSong, HoldsPsid, input_limit};
 ghost use Rattle.goat_cli.specs.Stands.{folder_state};
 ghost use Rattle.goat_cli.specs.Endings.{Refuses, WasRead, ReadFails, SongWasRead, SongFails, WriteEnds};
 
@@ -265,7 +265,7 @@ pub fn playable_subtune_of(song: &Song, subtune: u8) -> Result<u8, Refusal<'stat
     ensures has { OnOk result (IsNumbered (playable_subtunes song.now) subtune) }
     ensures number { IfOk result (λ number. number ≡ subtune - 1) }
     ensures refused { IfErr result (λ refusal. (files : Files) (name : List ℕ) →
-        HoldsSong files name song.now → Refuses files (PlaysSubtune name subtune)
+        HoldsSong files name song.now → Refuses files (HasPlayableSubtune name subtune)
         (last_of refusal)) }
 {
     let count = song.playable_count();
