@@ -1,0 +1,6 @@
+use Rattle.std.proofs.Common.{◌≡◌, ◌++◌, replicate}
+use Rattle.edit_ops.specs.Others.{rest_pattern}
+use Rattle.edit_ops.proofs.others.add_rests.Given as goal
+
+abbrev pub invariant-loop-i : goal.invariant-loop-i
+invariant-loop-i l = l.list.items ≡ l.fn.list.items ++ replicate l._i rest_pattern
