@@ -1,0 +1,6 @@
+-- The lemmas that upper crates may cite.
+
+-- what is packed spells the normal rows, and nothing shorter does
+pub use Rattle.packed_form.proofs.PatternLaws.{packed_is_spelled, none_is_shorter}
+-- bytes spell one list of rows, which are those of a pattern
+pub use Rattle.packed_form.proofs.PatternLaws.{spelled_once, spelled_are_patterns, rows_or_fault}

@@ -1,0 +1,49 @@
+//! Facts about packed patterns, each the contract of a function that does nothing.
+
+ghost use Rattle.packed_form.specs.PackedLaws.{ConstantsAre, PackedTextIsSpelled, PackedTextHasNoFault, SpelledOnce, SpelledArePatterns, RowsOrFault, NoneIsShorter};
+ghost use Rattle.packed_form.specs.WorkedPatterns.{EighthsArePacked, KeyoffIsUnpacked, RestsAreGathered, CommandsAreNamedOnce, OtherSpellingsAreUnpacked, BadBytesAreFound, EndsAreWanted, LengthsAreLimited};
+
+/// What is packed is unpacked as the normal rows: the packer's text spells these, has no fault, and bytes spell one
+/// list of rows.
+#[tactic(auto, using(crate::proofs::PatternLaws::packed_is_spelled, crate::proofs::PatternLaws::packed_has_no_fault))]
+pub fn what_is_packed_is_unpacked()
+    ensures spelled { PackedTextIsSpelled }
+    ensures faultless { PackedTextHasNoFault }
+    ensures once { SpelledOnce }
+{}
+
+/// No spelling of the normal rows is shorter than the packer's text.
+#[tactic(auto, using(crate::proofs::PatternLaws::none_is_shorter))]
+pub fn none_is_shorter()
+    ensures { NoneIsShorter }
+{}
+
+/// Each list of bytes spells the rows of one pattern, or has a fault and spells none.
+#[tactic(auto, using(crate::proofs::PatternLaws::rows_or_fault))]
+pub fn rows_or_fault()
+    ensures either { RowsOrFault }
+    ensures patterns { SpelledArePatterns }
+{}
+
+/// The bytes of a packed pattern.
+pub fn worked_constants()
+    ensures { ConstantsAre }
+{}
+
+/// What rows pack to, and what bytes unpack to.
+#[tactic(auto, unfolding(crate::specs::PackedText::packed_text))]
+pub fn worked_patterns()
+    ensures eighths { EighthsArePacked }
+    ensures keyoff { KeyoffIsUnpacked }
+    ensures rests { RestsAreGathered }
+    ensures commands { CommandsAreNamedOnce }
+    ensures others { OtherSpellingsAreUnpacked }
+{}
+
+/// Bytes that are no packed pattern.
+#[tactic(auto, unfolding(crate::specs::Faults::packed_fault_of))]
+pub fn worked_faults()
+    ensures bytes { BadBytesAreFound }
+    ensures ends { EndsAreWanted }
+    ensures lengths { LengthsAreLimited }
+{}
