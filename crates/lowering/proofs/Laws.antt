@@ -1,0 +1,12 @@
+-- What upper crates may cite of the proofs of this crate.
+
+-- the lines of a tree do what it means, and run at most its weight
+pub use Rattle.lowering.proofs.Whole.{lowered_blocks_do}
+pub use Rattle.lowering.proofs.Weighing.{run_most}
+-- their kept lines, bytes and labels
+pub use Rattle.lowering.proofs.Keeping.{kept_lines}
+pub use Rattle.lowering.proofs.Sizing.{lines_size}
+pub use Rattle.lowering.proofs.PartSizes.{parts_size}
+pub use Rattle.lowering.proofs.LabelNames.{tree_named}
+-- they are at home in any listing
+pub use Rattle.lowering.proofs.Housing.{lowered_lines_are_at_home}

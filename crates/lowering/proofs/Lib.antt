@@ -1,0 +1,31 @@
+-- Steps and tests where they stand.
+mod Reading
+mod Stepping
+-- Lines wherever they stand.
+mod Ways
+mod Chains
+mod Branching
+mod Choosing
+mod Turning
+mod Filling
+mod Voicing
+-- The whole tree.
+mod Meant
+mod Weighing
+-- Kept lines.
+mod Keeping
+-- Labels in their places.
+mod Counting
+mod Placing
+mod Whole
+-- Bytes.
+mod Sizing
+mod Children
+mod PartSizes
+-- Labels.
+mod LabelNames
+mod Homes
+mod Reaching
+mod Housing
+-- The door: what upper crates may cite.
+pub mod Laws

@@ -1,0 +1,71 @@
+-- Lowered blocks do what they mean.
+use Rattle.std.proofs.Common.{◌≡◌, ℕ, ◌+◌, ◌&&◌, Bool, false, ◌++◌, refl, sym, ap, subst, ◌∙◌, arith}
+use Rattle.std.proofs.lemmas.Bool.{and_parts}
+use Rattle.code_runs.specs.Runs.{State}
+use Rattle.code_runs.proofs.Laws.{begins_at}
+use Rattle.cpu6502.proofs.Laws.{opcodes_have_rows}
+use Rattle.asm6502.specs.Lines.{kept, size_of}
+use Rattle.asm6502.specs.Standing.{LinesAt}
+use Rattle.asm6502.proofs.Laws.{stretches_stand}
+use Rattle.blocks.specs.Trees.{Tree}
+use Rattle.blocks.specs.Desk.{Layout}
+use Rattle.blocks.specs.Meaning.{meaning}
+use Rattle.blocks.specs.Places.{is_placed}
+use Rattle.blocks.specs.Counters.{counters_are_left}
+use Rattle.blocks.specs.Known.{none, reads_known}
+use Rattle.lowering.specs.Lines.{lines, all_lines}
+use Rattle.lowering.specs.Places.{Names, MayWrite}
+use Rattle.lowering.specs.Counting.{run_of}
+use Rattle.lowering.specs.Does.{Still, spot, Comes}
+use Rattle.lowering.specs.Lowered.{bit_kept, layout_of, desk_of, Meant, LoweredBlocksDo}
+use Rattle.lowering.proofs.Meant.{tree_does}
+use Rattle.lowering.proofs.Weighing.{run_most}
+use Rattle.lowering.proofs.Keeping.{kept_lines}
+use Rattle.lowering.proofs.Placing.{the_ground, the_guarded, tree_laid}
+
+-- a state with a clear decimal flag is at a spot
+at_spot : (state : State) (pc : ℕ) → state.cpu.pc ≡ pc → state.cpu.d ≡ false →
+    spot (record { sp = state.cpu.sp; i = state.cpu.i }) state.cpu.x state.cpu.v pc (desk_of state) ≡ state
+at_spot state pc p d =
+    let of : ℕ → Bool → State = λ q e. record { cpu = record state.cpu { pc = q; d = e }; at = state.at } in
+    ap (λ q. of q false) (sym p) ∙ ap (λ e. of state.cpu.pc e) (sym d)
+
+-- the way of a tree is what is meant
+meant : (layout : Layout) (names : Names) (tree : Tree) (state : State) (pc end : ℕ) (X : ℕ → Type 0) →
+    state.cpu.pc ≡ pc → state.cpu.d ≡ false →
+    Comes (MayWrite layout names) X (record { sp = state.cpu.sp; i = state.cpu.i })
+    (run_of layout tree 0 (desk_of state)) state.cpu.x state.cpu.v pc end (desk_of state)
+    (meaning layout tree 0 (desk_of state)) → Meant layout names tree end state
+meant layout names tree state pc end X p d way = record {
+  after = spot (record { sp = state.cpu.sp; i = state.cpu.i }) way.x' way.v' end (meaning layout tree 0 (desk_of state));
+  leads = begins_at (at_spot state pc p d) way.leads;
+  desk = refl;
+  pc = refl;
+  sp = refl;
+  d = refl;
+  i = refl;
+  most = run_most layout tree 0 (desk_of state);
+}
+
+pub lowered_blocks_do : LoweredBlocksDo
+lowered_blocks_do set origin pointer first tree front back names state sound named fault inside bytes p d =
+    let listing = front ++ (all_lines pointer first tree ++ back) in
+    let layout = layout_of set origin pointer listing in
+    let low = origin + size_of (kept set front) in
+    let high = low + size_of (kept set (all_lines pointer first tree)) in
+    let parts = and_parts (is_placed false false tree && counters_are_left tree) (reads_known tree none) sound in
+    let rules = and_parts (is_placed false false tree) (counters_are_left tree) parts.0 in
+    let still : Still = record { sp = state.cpu.sp; i = state.cpu.i } in
+    let keeps = (kept_lines set pointer 255 first false false tree rules.0 refl).is in
+    let stand = stretches_stand opcodes_have_rows set origin front (all_lines pointer first tree) back state.at fault bytes in
+    let laid =
+    tree_laid layout names low high inside false false (λ x. Unit {0}) 0
+    (record { voiced = λ e. absurd (cc); index = λ e. absurd (cc); any = λ e x. tt }) tree rules.0 named rules.1 in
+    let size : size_of (kept set (all_lines pointer first tree)) ≡ size_of (lines pointer (bit_kept set) 255 first tree) =
+    ap size_of keeps in
+    meant layout names tree state low high (λ x. Unit {0}) p d
+    (subst (λ q. Comes (MayWrite layout names) (λ x. Unit {0}) still (run_of layout tree 0 (desk_of state)) state.cpu.x
+    state.cpu.v low q (desk_of state) (meaning layout tree 0 (desk_of state))) (ap (λ n. low + n) (sym size))
+    (tree_does (the_ground layout names still low high 0) (the_guarded layout names still low high 0 inside) 255 first
+    tree (desk_of state) laid state.cpu.x state.cpu.v low tt (omega arith) (omega (arith, size))
+    (subst (λ ls. LinesAt layout.address state.at low ls) keeps stand)))

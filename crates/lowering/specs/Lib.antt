@@ -1,0 +1,16 @@
+-- The words of the language of blocks.
+pub mod Words
+-- To believe: the lines of a tree, and how a machine stands for a desk.
+pub mod Instructions
+pub mod Lines
+-- Claimed: where a tree's labels are, how many instructions are run, and what the lines do.
+pub mod Places
+pub mod Laid
+pub mod Counting
+pub mod Does
+-- Claimed: numbers of lines, lines at home in a listing, and the whole theorem.
+pub mod Measures
+pub mod Uses
+pub mod Lowered
+-- Inner: the lines of each kind.
+pub mod Kinds

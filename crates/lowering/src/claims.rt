@@ -1,0 +1,24 @@
+//! Facts about the definitions, each the contract of a function that does nothing.
+
+ghost use Rattle.lowering.specs.Lowered.{LoweredBlocksDo};
+ghost use Rattle.lowering.specs.Measures.{LinesTakeSize, PartsTakeBytes, LabelsAreNamedOnce};
+ghost use Rattle.lowering.specs.Uses.{LoweredLinesAreAtHome};
+
+/// The lines of a sound block do what it means, from any state with a clear decimal flag in whose memory they stand, at
+/// every origin and with every set of kept parts with which the listing around them assembles.
+pub fn lowered_blocks_do()
+    ensures { LoweredBlocksDo }
+{}
+
+/// The lines of a block take the bytes that its shape says, in each part, and name as many labels as it says, each once.
+pub fn lines_are_measured()
+    ensures size { LinesTakeSize }
+    ensures parts { PartsTakeBytes }
+    ensures labels { LabelsAreNamedOnce }
+{}
+
+/// The lines of a sound block are at home in any listing that always names the other labels that they use: `assemble`
+/// refuses none of them for its form, for a label that isn't named or for a branch that is too far.
+pub fn lowered_lines_are_at_home()
+    ensures { LoweredLinesAreAtHome }
+{}
