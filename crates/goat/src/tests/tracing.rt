@@ -188,8 +188,8 @@ fn parts_of(place: &str) -> Option<(usize, usize, &str)> {
     let (call, rest) = place.split_once('@')?;
     let (first, digits) = rest.split_once(':')?;
     Some((
-        call.parse::<usize>().ok()?,
-        first.parse::<usize>().ok()?,
+        usize::from(call.parse::<u16>().ok()?),
+        usize::from(first.parse::<u16>().ok()?),
         digits,
     ))
 }

@@ -2,7 +2,8 @@
 
 use super::parts::{Case, NOTE, Parts, SILENT};
 
-pub const UNPLAYABLE: [Case; 38] = [
+/// Songs whose orderlists break a rule.
+pub const BAD_ORDERS: [Case; 18] = [
     // No pattern stands from the restart position on.
     (
         Parts {
@@ -140,6 +141,10 @@ pub const UNPLAYABLE: [Case; 38] = [
         },
         "bad restart in subtune 2 channel 3",
     ),
+];
+
+/// Songs with a program that runs off its table.
+pub const SHORT_TABLES: [Case; 11] = [
     (
         Parts {
             instruments: "000001000000000000",
@@ -224,6 +229,38 @@ pub const UNPLAYABLE: [Case; 38] = [
         },
         "filter table ends before row 1",
     ),
+    // The instrument points at row 9, and command 8 at row 7 or 255.
+    (
+        Parts {
+            instruments: "000009000000000000",
+            patterns: "02 03 90010807 BE000000 FF000000 02 BD000000 FF000000",
+            ..NOTE
+        },
+        "wave table ends before row 7",
+    ),
+    (
+        Parts {
+            instruments: "000009000000000000",
+            patterns: "02 03 900108FF BE000000 FF000000 02 BD000000 FF000000",
+            ..NOTE
+        },
+        "wave table ends before row 9",
+    ),
+    // Instrument 2 is named.
+    (
+        Parts {
+            instruments: "000000000000000000 000001000000000000",
+            wave: "4100",
+            pulse: "",
+            patterns: "03 02 90010000 FF000000 02 90020000 FF000000 02 90020000 FF000000",
+            ..NOTE
+        },
+        "wave table ends before row 2",
+    ),
+];
+
+/// Songs that point at a jump row.
+pub const POINTED_JUMPS: [Case; 9] = [
     (
         Parts {
             instruments: "000001000000000000",
@@ -316,33 +353,5 @@ pub const UNPLAYABLE: [Case; 38] = [
             ..NOTE
         },
         "wave pointer to jump row 3",
-    ),
-    // The instrument points at row 9, and command 8 at row 7 or 255.
-    (
-        Parts {
-            instruments: "000009000000000000",
-            patterns: "02 03 90010807 BE000000 FF000000 02 BD000000 FF000000",
-            ..NOTE
-        },
-        "wave table ends before row 7",
-    ),
-    (
-        Parts {
-            instruments: "000009000000000000",
-            patterns: "02 03 900108FF BE000000 FF000000 02 BD000000 FF000000",
-            ..NOTE
-        },
-        "wave table ends before row 9",
-    ),
-    // Instrument 2 is named.
-    (
-        Parts {
-            instruments: "000000000000000000 000001000000000000",
-            wave: "4100",
-            pulse: "",
-            patterns: "03 02 90010000 FF000000 02 90020000 FF000000 02 90020000 FF000000",
-            ..NOTE
-        },
-        "wave table ends before row 2",
     ),
 ];

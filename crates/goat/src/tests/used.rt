@@ -2,7 +2,8 @@
 
 use super::parts::{Case, NOTE, Parts, SILENT};
 
-pub const USED: [Case; 30] = [
+/// Songs, each with what it shows.
+pub const USED: [Case; 17] = [
     (
         SILENT,
         "subtunes 1 patterns 1 instruments 1 wave 0 pulse 0 filter 0 speed 0 features 000000",
@@ -146,6 +147,10 @@ pub const USED: [Case; 30] = [
         },
         "subtunes 1 patterns 2 instruments 2 wave 0 pulse 0 filter 0 speed 0 features 000000",
     ),
+];
+
+/// Songs with commands in the wave table.
+pub const USED_BY_WAVES: [Case; 13] = [
     // Commands of the wave table lead to the other tables.
     (
         Parts {
