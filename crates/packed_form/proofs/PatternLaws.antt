@@ -1,12 +1,12 @@
 -- The laws of packed patterns.
-use Rattle.std.proofs.Common.{◌≡◌, ℕ, ◌≤◌, List, [], ◌∷◌, ◌++◌, length, Option, Some, None, Result, Ok, Err, MatchOption, refl, ap, sym, subst, ◌∙◌, arith, length-append}
+use Rattle.std.proofs.Common.{◌≡◌, ℕ, ◌≤◌, List, [], ◌∷◌, length, None, Result, Ok, Err, MatchOption, refl, ap, sym, subst, ◌∙◌, arith, length-append}
 use Rattle.std.specs.List.{All, flat_map}
 use Rattle.song_model.specs.declared.rows.Row.{Row}
 use Rattle.song_model.specs.Basics.{IsByte}
 use Rattle.song_model.specs.PatternLimits.{IsPattern, IsPatternLength, IsRow}
 use Rattle.packed_form.specs.declared.faults.PackedFault.{PackedFault}
-use Rattle.packed_form.specs.Entries.{no_command, entry_bytes, rows_from}
-use Rattle.packed_form.specs.PackedSpells.{PackedSpells, text_of}
+use Rattle.packed_form.specs.Entries.{no_command, entry_bytes}
+use Rattle.packed_form.specs.PackedSpells.{PackedSpells}
 use Rattle.packed_form.specs.Normal.{normal_rows}
 use Rattle.packed_form.specs.PackedText.{entries_from, packed_entries, packed_text}
 use Rattle.packed_form.specs.Faults.{unpacked, fault_in, packed_fault_of}

@@ -1,18 +1,17 @@
 -- The entries that the bytes spell are read.
-use Rattle.std.proofs.Common.{◌≡◌, ℕ, ◌+◌, ◌-◌, ◌<◌, ◌≤◌, Bool, true, false, cond, eqb, ltb, leb, not, ◌&&◌, ◌||◌, List, [], ◌∷◌, ◌++◌, Option, Some, None, Result, Ok, Err, refl, ap, sym, subst, ◌∙◌, append_assoc, arith}
+use Rattle.std.proofs.Common.{◌≡◌, ℕ, ◌+◌, ◌-◌, Bool, true, false, cond, eqb, ltb, leb, not, ◌||◌, List, [], ◌∷◌, ◌++◌, Some, Ok, refl, ap, sym, ◌∙◌, append_assoc, arith}
 use Rattle.std.specs.List.{All, flat_map}
-use Rattle.std.proofs.lemmas.Bool.{eqb-true, eqb-false, eq-eqb, ne_eqb, lt-ltb, le-ltb, le-leb, and_from, cases_eq}
+use Rattle.std.proofs.lemmas.Bool.{eqb-true, eq-eqb, ne_eqb, lt-ltb, le-ltb, le-leb, and_from}
 use Rattle.std.proofs.lemmas.List.Elements.{All-head, All-tail}
 use Rattle.packed_form.specs.declared.entries.Command.{Command}
 use Rattle.packed_form.specs.declared.entries.EntryKind.{EntryKind}
 use Rattle.packed_form.specs.declared.entries.EntryKind.TheVariants.{NamedNote, NamedRest, Note, Rests}
 use Rattle.packed_form.specs.declared.entries.Entry.{Entry}
-use Rattle.packed_form.specs.declared.faults.PackedFault.{PackedFault}
 use Rattle.packed_form.specs.declared.places.Place.TheVariants.{AtEntry, AtNoteParam, AtRestParam, AtNote}
-use Rattle.packed_form.specs.declared.places.Taken.TheVariants.{On, Made, End}
-use Rattle.packed_form.specs.Entries.{IsCommand, IsNote, IsKind, IsEntry, instrument_bytes, kind_bytes, entry_bytes}
+use Rattle.packed_form.specs.declared.places.Taken.TheVariants.{On, Made}
+use Rattle.packed_form.specs.Entries.{IsCommand, IsKind, IsEntry, instrument_bytes, kind_bytes, entry_bytes}
 use Rattle.packed_form.specs.PackedSpells.{text_of}
-use Rattle.packed_form.specs.Faults.{has_param, taken, with_entry, goes_on, entries_at}
+use Rattle.packed_form.specs.Faults.{has_param, taken, entries_at}
 
 by_zero : (number param : ℕ) → (number ≡ 0 → param ≡ 0) → (z : Bool) → eqb number 0 ≡ z → (not z || eqb param 0) ≡ true
 by_zero number param bare true e = eq-eqb param 0 (bare (eqb-true number 0 e))

@@ -1,5 +1,4 @@
--- Normal rows, from this project's own packed form: what no frame can tell from the rows themselves, with nothing said
--- twice.
+-- Normal rows, from this project's own packed form: the rows with nothing said twice.
 use Rattle.std.specs.Prelude.{ℕ, ◌==◌, if◌then◌else◌, List, [], ◌∷◌}
 use Rattle.song_model.specs.declared.rows.Row.{Row}
 

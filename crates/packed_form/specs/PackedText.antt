@@ -1,6 +1,6 @@
 -- The packed text of a pattern's rows, by the packer's rule: of the spellings of its normal rows, the one that names an
 -- instrument and a command only where it must, and gathers rests.
-use Rattle.std.specs.Prelude.{ℕ, zero, suc, ◌+◌, min, Bool, ◌&&◌, ◌==◌, if◌then◌else◌, List, [], ◌∷◌}
+use Rattle.std.specs.Prelude.{ℕ, zero, suc, min, Bool, ◌&&◌, ◌==◌, if◌then◌else◌, List, [], ◌∷◌}
 use Rattle.song_model.specs.declared.rows.Row.{Row}
 use Rattle.packed_form.specs.declared.entries.Command.{Command}
 use Rattle.packed_form.specs.declared.entries.EntryKind.{EntryKind}

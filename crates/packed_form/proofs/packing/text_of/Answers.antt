@@ -1,4 +1,4 @@
-use Rattle.std.proofs.Common.{◌≡◌, ◌+◌, ◌*◌, ◌≤◌, length, ap, arith, length-append, length-drop}
+use Rattle.std.proofs.Common.{length, ap, arith, length-append, length-drop}
 use Rattle.packed_form.specs.Entries.{entry_bytes}
 use Rattle.packed_form.proofs.Packings.{entry_short, pack_step, entry_in_range, entry_fits, each_left}
 use Rattle.packed_form.proofs.packing.text_of.Goals as goal

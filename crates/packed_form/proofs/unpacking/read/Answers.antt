@@ -1,9 +1,8 @@
-use Rattle.std.proofs.Common.{◌≡◌, ◌+◌, List, drop, get_or, Some, None, Option, subst, sym, ◌∙◌, arith}
+use Rattle.std.proofs.Common.{get_or, subst, sym, ◌∙◌, arith}
 use Rattle.std.proofs.lemmas.List.{drop_more}
-use Rattle.song_model.specs.declared.rows.Row.{Row}
 use Rattle.packed_form.specs.declared.rows.Rows.{Rows}
 use Rattle.packed_form.specs.Entries.{no_command, rows_from}
-use Rattle.packed_form.specs.Answers.{RowsAre, RowsOf, GoesOn}
+use Rattle.packed_form.specs.Answers.{RowsAre, GoesOn}
 use Rattle.packed_form.proofs.InRange.{no_command_is, rows_are}
 use Rattle.packed_form.proofs.Walks.{walk_step, walk_stops}
 use Rattle.packed_form.proofs.unpacking.read.Goals as goal

@@ -1,4 +1,4 @@
-use Rattle.std.proofs.Common.{◌≡◌, ◌≤◌, length, ap, ◌∙◌, sym, Ok, arith}
+use Rattle.std.proofs.Common.{arith}
 use Rattle.packed_form.proofs.Kept.{kept_is_pattern, kept_within}
 use Rattle.packed_form.proofs.rows.Rows.into_pattern.Goals as goal
 

@@ -1,4 +1,4 @@
-use Rattle.std.proofs.Common.{◌≡◌, ◌+◌, ◌<◌, ◌≤◌, length, ap, ◌∙◌, arith}
+use Rattle.std.proofs.Common.{◌+◌, ap, ◌∙◌, arith}
 use Rattle.packed_form.specs.declared.rows.Rows.{Rows}
 use Rattle.packed_form.proofs.Kept.{kept_more, kept_full, length_more}
 use Rattle.packed_form.proofs.rows.Rows.push.Goals as goal
