@@ -184,12 +184,12 @@ fn trace(alloc: Global, words: &str, song: &[u8]) -> Result<Answer, Fail> {
 }
 
 /// The number of a call, the first digit's place in its line, and the digits.
-fn parts_of(place: &str) -> Option<(usize, usize, &str)> {
+fn parts_of(place: &str) -> Option<(u16, u16, &str)> {
     let (call, rest) = place.split_once('@')?;
     let (first, digits) = rest.split_once(':')?;
     Some((
-        usize::from(call.parse::<u16>().ok()?),
-        usize::from(first.parse::<u16>().ok()?),
+        call.parse::<u16>().ok()?,
+        first.parse::<u16>().ok()?,
         digits,
     ))
 }
@@ -198,7 +198,9 @@ fn parts_of(place: &str) -> Option<(usize, usize, &str)> {
 fn assert_digits(rt: &impl Abort, text: &[u8], wanted: &str) -> Result<(), Fail> {
     for place in wanted.split_whitespace() {
         let (call, first, digits) = parts_of(place).ok_or("no place")?;
-        let shown = text.get(58 * call + 7 + first..).ok_or("short")?;
+        let shown = text
+            .get(58 * usize::from(call) + 7 + usize::from(first)..)
+            .ok_or("short")?;
         assert!(rt; shown.starts_with(digits.as_bytes()), "{place}");
     }
     Ok(())
