@@ -1,4 +1,4 @@
-//! The refusal for want of memory.
+//! The refusal when memory runs out.
 
 use std::alloc::{AllocError, AllocFailed};
 

@@ -3,7 +3,6 @@
 ghost use Rattle.std.specs.Prelude.{◌≡◌, ℕ, Bool, MatchResult};
 ghost use Rattle.std.specs.Prelude.{[], ◌∷◌};
 ghost use Rattle.play_model.specs.declared.options.Options.{Options as Chosen};
-ghost use Rattle.play_model.specs.State.{no_options};
 ghost use Rattle.goat_cli.specs.Words.{format_word, IsAddressWord, IsZeroPageWord, IsNumberWord, skip_word, AreOptionWords};
 
 use crate::words::WordsFault;
@@ -108,16 +107,6 @@ fn skip_of(word: &str) -> Result<(bool, bool), WordsFault>
         "pulse" => Ok((false, true)),
         "both" => Ok((true, true)),
         _ => Err(WordsFault),
-    }
-}
-
-/// Nothing is left out of a frame, at one play call in the time of a picture.
-pub fn no_options() -> Options
-    ensures { result ≡ no_options }
-{
-    match Options::new(false, false, 1) {
-        Some(options) => options,
-        None => unreachable!(),
     }
 }
 

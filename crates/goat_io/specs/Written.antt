@@ -1,7 +1,7 @@
 -- What a sink has taken: the bytes of all its pieces, one after the other.
 use Rattle.std.specs.Prelude.{◌≡◌, ℕ, List, ◌++◌, Option, take, option_map}
 
--- the bytes so far, where the sink tells them, with this piece after them
+-- what a sink has taken, where it tells it, with this piece after it
 abbrev pub told_with_piece : Option (List ℕ) → List ℕ → Option (List ℕ)
 told_with_piece told piece = option_map (λ bytes. bytes ++ piece) told
 

@@ -20,7 +20,7 @@ impl Model for Count {
 }
 
 impl Count {
-    /// No refusal so far.
+    /// Nothing was refused.
     pub fn zero() -> Self
         ensures { result ≡ 0 }
     {

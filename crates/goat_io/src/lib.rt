@@ -6,7 +6,7 @@
 //! calls that a test lists. `DiskFolder` and `StdSink` are the trusted edges over files and standard output:
 //! they count their faults and tell nothing of content.
 //!
-//! It stands on `base`, for the refusal for want of memory.
+//! It stands on `base`, for the refusal when memory runs out.
 #![tactic(auto)]
 
 mod count;

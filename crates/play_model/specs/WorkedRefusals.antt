@@ -3,7 +3,8 @@ use Rattle.std.specs.Prelude.{replicate, [], ◌∷◌}
 use Rattle.song_model.specs.declared.tables.TableName.TheVariants.{Wave, Pulse}
 use Rattle.song_model.specs.declared.songs.Song.{Song}
 use Rattle.song_model.specs.Silence.{silence}
-use Rattle.play_model.specs.declared.unplayable.Unplayable.TheVariants.{NoSubtune, MissingPattern, BadRestart, TableOverflow, PointerToJump}
+use Rattle.play_model.specs.declared.unplayable.Unplayable.TheVariants.{NoSubtune, MissingPattern, BadRestart}
+use Rattle.play_model.specs.declared.unplayable.Unplayable.TheVariants.{TableOverflow, PointerToJump}
 use Rattle.play_model.specs.Playable.{IsRefusedFor}
 use Rattle.play_model.specs.WorkedSongs.{order, subtune, sides, one_note}
 use Rattle.play_model.specs.WorkedUses.{with_wave, with_pulse, with_subtunes}

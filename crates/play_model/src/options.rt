@@ -2,6 +2,7 @@
 
 ghost use Rattle.std.specs.Prelude.{◌≡◌, ◌↔◌, IsNone, IfSome};
 ghost use Rattle.play_model.specs.Speeds.{IsSpeed};
+ghost use Rattle.play_model.specs.State.{no_options};
 
 use std::marker::Model;
 
@@ -61,6 +62,17 @@ pub struct Options {
 }
 
 impl Options {
+    /// Nothing is left out of a frame, at one play call in the time of a picture.
+    pub fn none() -> Options
+        ensures { result ≡ no_options }
+    {
+        Options {
+            skip_effects: false,
+            skip_pulse: false,
+            speed: Speed { calls: 1 },
+        }
+    }
+
     /// These options; none for a speed of 0 and above 4.
     pub fn new(skip_effects: bool, skip_pulse: bool, speed: u8) -> Option<Options>
         ensures none { IsNone result ↔ ¬ IsSpeed speed }

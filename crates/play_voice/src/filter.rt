@@ -4,7 +4,7 @@ ghost use Rattle.std.specs.Prelude.{◌≡◌};
 ghost use Rattle.play_model.specs.LookUps.{look_ups_of};
 ghost use Rattle.play_model.specs.FilterStep.{filter_set, filter_cutoff, filter_slide, filter_row, filter_step};
 
-use crate::tables::{following_row, next_row, row_at};
+use crate::tables::{following_row, next_row};
 use play_model::CommonState;
 use song_model::{Song, TableName, TableRow};
 
@@ -14,7 +14,7 @@ pub fn filter_step(common: &mut CommonState, song: &Song)
     ensures { common.new ≡ filter_step (look_ups_of song.now) common.old }
 {
     if common.filter_ptr != 0 {
-        let row = row_at(song, TableName::Filter, common.filter_ptr);
+        let row = song.row_or_zero(TableName::Filter, common.filter_ptr);
         filter_row(common, song, row);
     }
 }

@@ -5,7 +5,7 @@ ghost use Rattle.play_model.specs.LookUps.{look_ups_of};
 ghost use Rattle.play_model.specs.StandsFor.{voice_after};
 ghost use Rattle.play_model.specs.PulseStep.{pulse_set, pulse_moved, pulse_slide, pulse_row, pulse_step};
 
-use crate::tables::{next_row, row_at};
+use crate::tables::next_row;
 use play_model::{PulseWidth, VoiceState};
 use song_model::{Song, TableName, TableRow};
 
@@ -17,7 +17,7 @@ pub fn pulse_step(voice: &mut VoiceState, song: &Song)
     ensures place { voice.new.place ≡ voice.old.place }
 {
     if voice.pulse_ptr != 0 {
-        let row = row_at(song, TableName::Pulse, voice.pulse_ptr);
+        let row = song.row_or_zero(TableName::Pulse, voice.pulse_ptr);
         pulse_row(voice, song, row);
     }
 }

@@ -9,7 +9,7 @@ use crate::commands::do_command;
 use play_model::{CommonState, VoiceState};
 use song_model::{Instrument, Song, TableRow};
 
-/// Does the row's command `c` with parameter `d`. Commands 0 to 4 run from now on, the others are done once.
+/// Does the row's command with its parameter. Commands 0 to 4 run from then on, the others are done once.
 #[tactic(auto, unfolding(play_model::specs::TickStep::row_command))]
 pub(crate) fn row_command(
     voice: &mut VoiceState,
@@ -17,40 +17,40 @@ pub(crate) fn row_command(
     common: &mut CommonState,
     song: &Song,
     instrument: &Instrument,
-    c: u8,
-    d: u8,
+    command: u8,
+    parameter: u8,
 )
     ensures rule { (plays : ℕ) → playing_after plays voice.new common.new ≡
-        row_command channel (look_ups_of song.now) instrument.now c d
+        row_command channel (look_ups_of song.now) instrument.now command parameter
         (playing_after plays voice.old common.old) }
     ensures place { voice.new.place ≡ voice.old.place }
 {
-    match c {
+    match command {
         0 => {
             voice.command = 0;
             voice.param = instrument.vibrato;
         }
         1 | 2 => {
             voice.vib_time = 0;
-            voice.command = c;
-            voice.param = d;
+            voice.command = command;
+            voice.param = parameter;
         }
         3 | 4 => {
-            voice.command = c;
-            voice.param = d;
+            voice.command = command;
+            voice.param = parameter;
         }
         8 => {
-            voice.wave_ptr = d;
+            voice.wave_ptr = parameter;
             voice.wave_time = 0;
         }
-        0xe => funk_tempo(common, song, d),
-        0xf => tempo_set(common, channel, d),
-        _ => do_command(voice, common, c, d),
+        0xe => funk_tempo(common, song, parameter),
+        0xf => tempo_set(common, channel, parameter),
+        _ => do_command(voice, common, command, parameter),
     }
 }
 
 /// Sets the tempo of a channel.
-pub(crate) fn with_tempo(common: &mut CommonState, channel: u8, tempo: u8)
+pub(crate) fn set_tempo(common: &mut CommonState, channel: u8, tempo: u8)
     ensures { common.new ≡ with_tempo channel tempo common.old }
 {
     match channel {
@@ -61,7 +61,7 @@ pub(crate) fn with_tempo(common: &mut CommonState, channel: u8, tempo: u8)
 }
 
 /// Sets the tempo of each channel.
-fn with_all_tempos(common: &mut CommonState, tempo: u8)
+fn set_all_tempos(common: &mut CommonState, tempo: u8)
     ensures { common.new ≡ with_all_tempos tempo common.old }
 {
     common.tempo_one = tempo;
@@ -70,13 +70,13 @@ fn with_all_tempos(common: &mut CommonState, tempo: u8)
 }
 
 /// Command `$E`: the three tempos become 0, and a parameter names the row with the two row lengths.
-fn funk_tempo(common: &mut CommonState, song: &Song, d: u8)
-    ensures { common.new ≡ funk_tempo (look_ups_of song.now) d common.old }
+fn funk_tempo(common: &mut CommonState, song: &Song, parameter: u8)
+    ensures { common.new ≡ funk_tempo (look_ups_of song.now) parameter common.old }
 {
-    if d != 0 {
-        funk_set(common, song.speed(d));
+    if parameter != 0 {
+        funk_set(common, song.speed(parameter));
     }
-    with_all_tempos(common, 0);
+    set_all_tempos(common, 0);
 }
 
 /// Sets the two row lengths, each a side less 1.
@@ -88,13 +88,13 @@ fn funk_set(common: &mut CommonState, row: TableRow)
 }
 
 /// Command `$F`: 0 and 1 are funk tempos, `$03-$7F` is a row length for all channels, `$83-$FF` for this one.
-fn tempo_set(common: &mut CommonState, channel: u8, d: u8)
-    ensures { common.new ≡ tempo_set channel d common.old }
+fn tempo_set(common: &mut CommonState, channel: u8, parameter: u8)
+    ensures { common.new ≡ tempo_set channel parameter common.old }
 {
-    match d {
-        0 | 1 => with_all_tempos(common, d),
-        0x03..=0x7f => with_all_tempos(common, d - 1),
-        0x83..=0xff => with_tempo(common, channel, d - 0x81),
+    match parameter {
+        0 | 1 => set_all_tempos(common, parameter),
+        0x03..=0x7f => set_all_tempos(common, parameter - 1),
+        0x83..=0xff => set_tempo(common, channel, parameter - 0x81),
         _ => {}
     }
 }

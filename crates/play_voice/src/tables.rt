@@ -7,20 +7,6 @@ ghost use Rattle.play_model.specs.Helpers.{row_after, next_row};
 
 use song_model::{Song, TableName, TableRow};
 
-/// What is found where no row is stored.
-const ZERO_ROW: TableRow = TableRow { left: 0, right: 0 };
-
-/// Row `p` of a table, counted from 1; (0, 0) where none is stored.
-#[tactic(auto, using(play_model::proofs::Laws::row_absent))]
-pub(crate) fn row_at(song: &Song, name: TableName, p: u8) -> TableRow
-    ensures { result ≡ table_row song.now name p }
-{
-    match song.row(name, p) {
-        Some(row) => row,
-        None => ZERO_ROW,
-    }
-}
-
 /// The row after row `p` of a table; (0, 0) where none is stored.
 #[tactic(auto, unfolding(song_model::specs::LookUp::table_row))]
 pub(crate) fn following_row(song: &Song, name: TableName, p: u16) -> TableRow
@@ -28,7 +14,7 @@ pub(crate) fn following_row(song: &Song, name: TableName, p: u16) -> TableRow
 {
     match song.table(name).as_slice().get(usize::from(p)) {
         Some(row) => *row,
-        None => ZERO_ROW,
+        None => TableRow { left: 0, right: 0 },
     }
 }
 

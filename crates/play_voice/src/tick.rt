@@ -6,7 +6,7 @@ ghost use Rattle.play_model.specs.TickStep.{tempo_of, reloaded, between_rows, no
 ghost use Rattle.play_voice.specs.PlayingAfter.{playing_after, ticked_after};
 
 use crate::notes::note_started;
-use crate::rows::{row_command, with_tempo};
+use crate::rows::{row_command, set_tempo};
 use play_model::{CommonState, VoiceState};
 use song_model::{Instrument, Song};
 
@@ -67,7 +67,7 @@ fn reloaded(voice: &mut VoiceState, channel: u8, common: &mut CommonState, tempo
         } else {
             common.funk_two
         };
-        with_tempo(common, channel, 1 - tempo);
+        set_tempo(common, channel, 1 - tempo);
     }
 }
 

@@ -8,7 +8,7 @@ ghost use Rattle.play_voice.specs.PlayingAfter.{playing_after, waved_after};
 
 use crate::commands::do_command;
 use crate::slides::{porta_down, porta_up, tone, vibrato};
-use crate::tables::{next_row, row_at};
+use crate::tables::next_row;
 use play_model::{CommonState, LastNote, VoiceState, freq};
 use song_model::{Song, TableName, TableRow};
 
@@ -22,7 +22,7 @@ pub fn wave_step(voice: &mut VoiceState, common: &mut CommonState, song: &Song) 
     if voice.wave_ptr == 0 {
         return true;
     }
-    let row = row_at(song, TableName::Wave, voice.wave_ptr);
+    let row = song.row_or_zero(TableName::Wave, voice.wave_ptr);
     wave_row(voice, common, song, row)
 }
 
@@ -73,18 +73,18 @@ fn left_done(voice: &mut VoiceState, common: &mut CommonState, song: &Song, row:
 
 /// A command of the wave table: 0, 8 and `$E` do nothing.
 #[tactic(auto, unfolding(play_model::specs::WaveStep::wave_command))]
-fn wave_command(voice: &mut VoiceState, common: &mut CommonState, song: &Song, c: u8, d: u8)
+fn wave_command(voice: &mut VoiceState, common: &mut CommonState, song: &Song, command: u8, parameter: u8)
     ensures rule { (plays : ℕ) → playing_after plays voice.new common.new ≡
-        wave_command (look_ups_of song.now) c d (playing_after plays voice.old common.old) }
+        wave_command (look_ups_of song.now) command parameter (playing_after plays voice.old common.old) }
     ensures place { voice.new.place ≡ voice.old.place }
 {
-    match c {
+    match command {
         0 | 8 | 0xe => {}
-        1 => porta_up(voice, d, song),
-        2 => porta_down(voice, d, song),
-        3 => tone(voice, d, song),
-        4 => vibrato(voice, d, song),
-        _ => do_command(voice, common, c, d),
+        1 => porta_up(voice, parameter, song),
+        2 => porta_down(voice, parameter, song),
+        3 => tone(voice, parameter, song),
+        4 => vibrato(voice, parameter, song),
+        _ => do_command(voice, common, command, parameter),
     }
 }
 
@@ -113,7 +113,7 @@ fn right_done(voice: &mut VoiceState, row: TableRow) -> bool
         return true;
     }
     let note = wave_note(row.right, voice.note);
-    with_note(voice, note);
+    set_note(voice, note);
     false
 }
 
@@ -130,7 +130,7 @@ fn wave_note(right: u8, note: u8) -> u8
 }
 
 /// Sounds this note.
-fn with_note(voice: &mut VoiceState, note: u8)
+fn set_note(voice: &mut VoiceState, note: u8)
     requires { note < 128 }
     ensures rule { (plays : ℕ) → voice_after plays voice.new ≡
         with_note note (voice_after plays voice.old) }

@@ -41,6 +41,17 @@ impl Song {
         }
     }
 
+    /// Row `n` of a table, counted from 1; (0, 0) where none is stored.
+    #[tactic(auto, unfolding(crate::specs::LookUp::table_row))]
+    pub fn row_or_zero(&self, name: TableName, n: u8) -> TableRow
+        ensures { result ≡ table_row self.now name n }
+    {
+        match self.table(name).numbered(n) {
+            Some(row) => *row,
+            None => TableRow { left: 0, right: 0 },
+        }
+    }
+
     /// The table of this name.
     pub fn table(&self, name: TableName) -> &Table
         ensures { result.now ≡ table_of self.now name }

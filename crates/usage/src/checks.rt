@@ -2,7 +2,7 @@
 
 ghost use Rattle.std.specs.Prelude.{◌≡◌, ◌≤◌, length, IfErr, OnOk};
 ghost use Rattle.play_model.specs.Playable.{IsFirst, HasPrograms};
-ghost use Rattle.song_model.specs.LookUp.{table_of, table_row};
+ghost use Rattle.song_model.specs.LookUp.{table_of};
 ghost use Rattle.play_model.specs.Reached.{is_jump, IsReached};
 ghost use Rattle.usage.specs.Marks.{AreMarks};
 ghost use Rattle.usage.specs.Building.{Adds};
@@ -12,7 +12,7 @@ ghost use Rattle.usage.specs.Checks.{ArePrograms, IsTargetOf, IsNamed};
 use crate::marks::{ByteMarks, mark};
 use crate::programs::{RowNumbers, is_jump};
 use play_model::Unplayable;
-use song_model::{Song, TableName, TableRow};
+use song_model::{Song, TableName};
 
 /// What the programs of a table begin with and come to.
 #[derive(Drop)]
@@ -50,23 +50,12 @@ pub(crate) fn check_rows(
     Ok(())
 }
 
-/// Row `p` of a table, counted from 1; (0, 0) where it isn't stored.
-#[tactic(auto, using(play_model::proofs::Laws::row_absent))]
-pub(crate) fn row_at(song: &Song, name: TableName, p: u8) -> TableRow
-    ensures { result ≡ table_row song.now name p }
-{
-    match song.row(name, p) {
-        Some(row) => row,
-        None => TableRow { left: 0, right: 0 },
-    }
-}
-
 /// Marks the row that a row names by a jump, if programs come to it.
 fn mark_target(song: &Song, name: TableName, p: u8, reached: &RowNumbers, named: &mut ByteMarks)
     requires { AreMarks (IsReached song.now name) reached.now }
     ensures { Adds (IsTargetOf song.now name p) named.old named.new }
 {
-    let row = row_at(song, name, p);
+    let row = song.row_or_zero(name, p);
     if reached[usize::from(p)] && is_jump(name, row) && row.right != 0 {
         mark(named, usize::from(row.right));
     }
@@ -103,7 +92,7 @@ pub(crate) fn check_pointers(
 {
     let named = named_rows(song, name, programs);
     for p in 0..256u16 {
-        if named[usize::from(p)] && is_jump(name, row_at(song, name, p as u8)) {
+        if named[usize::from(p)] && is_jump(name, song.row_or_zero(name, p as u8)) {
             return Err(Unplayable::PointerToJump {
                 table: name,
                 row: p as u8,

@@ -7,7 +7,6 @@ ghost use Rattle.usage.specs.Marks.{AreMarks};
 ghost use Rattle.usage.specs.Building.{AreWhole, AddsAt, AreMarksAt};
 ghost use Rattle.usage.specs.Waves.{RowCommands, IsWaveCommand};
 
-use crate::checks::row_at;
 use crate::marks::{CommandMarks, mark_command};
 use crate::programs::RowNumbers;
 use song_model::{Song, TableName};
@@ -18,7 +17,7 @@ fn mark_wave_row(song: &Song, p: u8, reached: &RowNumbers, commands: &mut Comman
     requires whole { AreWhole commands.old }
     ensures { AddsAt (RowCommands song.now p) commands.old commands.new }
 {
-    let row = row_at(song, TableName::Wave, p);
+    let row = song.row_or_zero(TableName::Wave, p);
     if reached[usize::from(p)] && row.left >= 0xf0 && row.left < 0xff {
         mark_command(commands, row.left - 0xf0, row.right);
     }

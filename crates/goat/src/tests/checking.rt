@@ -1,6 +1,6 @@
 //! What a song uses, and songs that can't be played.
 
-use super::parts::{Case, NOTE, Parts, SILENT, three_instruments};
+use super::parts::{NOTE, SILENT, case_of, three_instruments};
 use super::unplayable::{BAD_ORDERS, POINTED_JUMPS, SHORT_TABLES};
 use super::used::{USED, USED_BY_WAVES};
 use super::{PACK, USAGE, assert_refused, one_note, run, run_failing, silence, song_with};
@@ -29,17 +29,19 @@ fn assert_unplayable(rt: &impl Abort, alloc: Global, file: &[u8], text: &str) ->
 }
 
 /// Asserts of each song that it can be played, and what `check` prints of it.
-fn assert_all_use(rt: &impl Abort, alloc: Global, cases: &[Case]) -> Result<(), Fail> {
-    for (song, text) in cases {
-        assert_uses(rt, alloc, &song.file(alloc)?, text)?;
+fn assert_all_use(rt: &impl Abort, alloc: Global, table: &str) -> Result<(), Fail> {
+    for text in table.split("\n\n") {
+        let case = case_of(text)?;
+        assert_uses(rt, alloc, &case.song.file(alloc)?, case.answer)?;
     }
     Ok(())
 }
 
 /// Asserts that the commands refuse each song with its line.
-fn assert_all_unplayable(rt: &impl Abort, alloc: Global, cases: &[Case]) -> Result<(), Fail> {
-    for (song, text) in cases {
-        assert_unplayable(rt, alloc, &song.file(alloc)?, text)?;
+fn assert_all_unplayable(rt: &impl Abort, alloc: Global, table: &str) -> Result<(), Fail> {
+    for text in table.split("\n\n") {
+        let case = case_of(text)?;
+        assert_unplayable(rt, alloc, &case.song.file(alloc)?, case.answer)?;
     }
     Ok(())
 }
@@ -54,27 +56,27 @@ fn parts_spell_the_two_songs(rt: HostRuntime) -> Result<(), Fail> {
 
 #[test]
 fn used_parts_are_told(rt: HostRuntime) -> Result<(), Fail> {
-    assert_all_use(&rt, rt.alloc(), &USED)
+    assert_all_use(&rt, rt.alloc(), USED)
 }
 
 #[test]
 fn commands_in_the_wave_table_lead_to_other_tables(rt: HostRuntime) -> Result<(), Fail> {
-    assert_all_use(&rt, rt.alloc(), &USED_BY_WAVES)
+    assert_all_use(&rt, rt.alloc(), USED_BY_WAVES)
 }
 
 #[test]
 fn orderlists_that_break_a_rule_are_told(rt: HostRuntime) -> Result<(), Fail> {
-    assert_all_unplayable(&rt, rt.alloc(), &BAD_ORDERS)
+    assert_all_unplayable(&rt, rt.alloc(), BAD_ORDERS)
 }
 
 #[test]
 fn programs_that_run_off_their_table_are_told(rt: HostRuntime) -> Result<(), Fail> {
-    assert_all_unplayable(&rt, rt.alloc(), &SHORT_TABLES)
+    assert_all_unplayable(&rt, rt.alloc(), SHORT_TABLES)
 }
 
 #[test]
 fn pointers_to_jump_rows_are_told(rt: HostRuntime) -> Result<(), Fail> {
-    assert_all_unplayable(&rt, rt.alloc(), &POINTED_JUMPS)
+    assert_all_unplayable(&rt, rt.alloc(), POINTED_JUMPS)
 }
 
 #[test]

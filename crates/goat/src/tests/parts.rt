@@ -5,28 +5,70 @@ use std::test::Fail;
 
 /// The parts of a song's file, its texts left out. Spaces are for the eye.
 #[derive(Clone, Copy)]
-pub struct Parts {
+pub struct Parts<'a> {
     /// The number of subtunes, and three orderlists for each.
-    pub orders: &'static str,
+    pub orders: &'a str,
     /// The nine bytes of each instrument, its name left out.
-    pub instruments: &'static str,
+    pub instruments: &'a str,
     /// The rows of the wave table: left and right side.
-    pub wave: &'static str,
+    pub wave: &'a str,
     /// The rows of the pulse table.
-    pub pulse: &'static str,
+    pub pulse: &'a str,
     /// The rows of the filter table.
-    pub filter: &'static str,
+    pub filter: &'a str,
     /// The rows of the speed table.
-    pub speed: &'static str,
+    pub speed: &'a str,
     /// The number of patterns, and each of them with its end row.
-    pub patterns: &'static str,
+    pub patterns: &'a str,
 }
 
-/// A song, and its line without the line feed.
-pub type Case = (Parts, &'static str);
+/// A song, what is asked of it, and the answer.
+#[derive(Clone, Copy)]
+pub struct Case<'a> {
+    /// The song.
+    pub song: Parts<'a>,
+    /// The words behind a command and the song's name.
+    pub words: &'a str,
+    /// What is answered.
+    pub answer: &'a str,
+}
+
+/// Takes a line of a case: the song it begins with, a part in place of that song's, the words of a trace, or a remark.
+fn take_line<'a>(case: &mut Case<'a>, line: &'a str) -> Result<(), Fail> {
+    let (word, text) = line.split_once(' ').unwrap_or((line, ""));
+    match word {
+        "" | "#" | "silent" => {}
+        "note" => case.song = NOTE,
+        "orders" => case.song.orders = text,
+        "instruments" => case.song.instruments = text,
+        "wave" => case.song.wave = text,
+        "pulse" => case.song.pulse = text,
+        "filter" => case.song.filter = text,
+        "speed" => case.song.speed = text,
+        "patterns" => case.song.patterns = text,
+        "trace" => case.words = text,
+        _ => return Err("no such part".into()),
+    }
+    Ok(())
+}
+
+/// The case of a table that is spelled so: lines of the song and the words, then `=` and the answer. The cases of a
+/// table stand with empty lines between.
+pub fn case_of(text: &str) -> Result<Case<'_>, Fail> {
+    let (lines, answer) = text.split_once("= ").ok_or("no answer")?;
+    let mut case = Case {
+        song: SILENT,
+        words: "",
+        answer: answer.trim_end(),
+    };
+    for line in lines.lines() {
+        take_line(&mut case, line)?;
+    }
+    Ok(case)
+}
 
 /// One subtune of silence.
-pub const SILENT: Parts = Parts {
+pub const SILENT: Parts<'static> = Parts {
     orders: "01 0200FF00 0200FF00 0200FF00",
     instruments: "",
     wave: "",
@@ -37,7 +79,7 @@ pub const SILENT: Parts = Parts {
 };
 
 /// One note of one instrument, which has a wave and a pulse program.
-pub const NOTE: Parts = Parts {
+pub const NOTE: Parts<'static> = Parts {
     orders: "01 0200FF00 0201FF00 0201FF00",
     instruments: "09A001010000000209",
     wave: "4100 FF00",
@@ -99,7 +141,7 @@ fn add_table(alloc: Global, file: &mut Vec<u8>, rows: &str) -> Result<(), Fail> 
     Ok(())
 }
 
-impl Parts {
+impl Parts<'_> {
     /// The song's file up to its patterns.
     pub fn head(&self, alloc: Global) -> Result<Vec<u8>, Fail> {
         let mut file = super::song_with(alloc, &bytes_of(alloc, self.orders)?)?;

@@ -1,178 +1,129 @@
 //! Songs that are traced.
 
-use super::parts::{NOTE, Parts, SILENT, three_instruments};
+use super::parts::{NOTE, Parts, case_of, three_instruments};
 use super::{Answer, USAGE, VOLUME, assert_refused, one_note, run, run_failing};
 use std::alloc::Global;
 use std::process::Abort;
 use std::test::Fail;
 
-/// A song, the words after its name, and digits of the registers: each as the number of a call, the first digit's place
-/// and the digits, with `@` and `:` between.
-type Case = (Parts, &'static str, &'static str);
+/// Songs, the words after the name of each, and digits of the registers: each as the number of a call, the first
+/// digit's place and the digits, with `@` and `:` between.
+const TRACED: &str = "
+silent
+trace 1 3
+= 0@0:00000000000000000000000000000000000000000000000000
+  1@0:0000000000000000000000000000000000000000000000000f
+  3@0:0000000000000000000000000000000000000000000000000f
 
-const TRACED: [Case; 17] = [
-    (
-        SILENT,
-        "1 3",
-        "0@0:00000000000000000000000000000000000000000000000000
-            1@0:0000000000000000000000000000000000000000000000000f
-            3@0:0000000000000000000000000000000000000000000000000f",
-    ),
-    (
-        NOTE,
-        "1 17",
-        "4@0:00000000000000 5@0:00000000000f00 7@0:000000000909a0 8@0:681100084109a0
-            11@0:681100084009a0 17@0:68110008400f00",
-    ),
-    // The lowest note with the lowest transpose.
-    (
-        Parts {
-            orders: "01 03E000FF00 0201FF00 0201FF00",
-            patterns: "02 03 60010000 BE000000 FF000000 02 BD000000 FF000000",
-            ..NOTE
-        },
-        "1 8",
-        "8@0:000000084109a0",
-    ),
-    // A vibrato at the highest frequency.
-    (
-        Parts {
-            instruments: "09A001000001010209",
-            wave: "11DF FF00",
-            pulse: "",
-            speed: "8000",
-            patterns: "02 03 90010000 BD000000 FF000000 02 BD000000 FF000000",
-            ..NOTE
-        },
-        "1 13",
-        "8@0:ffff 9@0:0000 10@0:ffff 11@0:feff 12@0:ffff 13@0:0000",
-    ),
-    // A slide to a note, and a tie note.
-    (
-        Parts {
-            speed: "1000",
-            patterns: "02 04 90010000 92000301 92000300 FF000000 02 BD000000 FF000000",
-            ..NOTE
-        },
-        "1 19",
-        "8@0:6811 9@0:6811 12@0:6811 13@0:8913 14@0:8913 18@0:8913 19@0:8913",
-    ),
-    // The two high bits of the gateoff timer.
-    (
-        Parts {
-            instruments: "09A001010000000209",
-            patterns: "02 03 90010000 BD000000 FF000000 02 BD000000 FF000000",
-            ..NOTE
-        },
-        "1 17",
-        "17@0:68110008400f00",
-    ),
-    (
-        Parts {
-            instruments: "09A001010000004209",
-            patterns: "02 03 90010000 BD000000 FF000000 02 BD000000 FF000000",
-            ..NOTE
-        },
-        "1 17",
-        "17@0:681100084109a0",
-    ),
-    (
-        Parts {
-            instruments: "09A001010000008209",
-            patterns: "02 03 90010000 BD000000 FF000000 02 BD000000 FF000000",
-            ..NOTE
-        },
-        "1 17",
-        "17@0:681100084009a0",
-    ),
-    // A wave program that waits and is begun anew.
-    (
-        Parts {
-            instruments: "09A001000000000209",
-            wave: "1100 0F0C FF00",
-            pulse: "",
-            patterns: "02 09 90010000 BD000000 BD000000 BD000000 BD000801 BD000000 BD000000 BD000000 FF000000
-                02 BD000000 FF000000",
-            ..NOTE
-        },
-        "1 31",
-        "8@0:6811 15@0:6811 23@0:6811 24@0:d022 30@0:d022 31@0:6811",
-    ),
-    // A row that isn't stored is a speed of 0.
-    (
-        Parts {
-            speed: "",
-            patterns: "02 03 90010000 BD0001FF FF000000 02 BD000000 FF000000",
-            ..NOTE
-        },
-        "1 20",
-        "8@0:6811 13@0:6811 17@0:6811",
-    ),
-    // A subtune that isn't played is between these two.
-    (
-        Parts {
-            orders: "03 0200FF00 0201FF00 0201FF00 01FF00 0201FF00 0201FF00 0200FF00 0201FF00 0201FF00",
-            ..NOTE
-        },
-        "2 17",
-        "4@0:00000000000000 5@0:00000000000f00 7@0:000000000909a0 8@0:681100084109a0
-            11@0:681100084009a0 17@0:68110008400f00",
-    ),
-    // An instrument that a row changes without a note.
-    (
-        Parts {
-            instruments: "09A001000000010209 000000000001000200",
-            pulse: "",
-            speed: "0310",
-            patterns: "02 03 90010000 BD020000 FF000000 02 BD000000 FF000000",
-            ..NOTE
-        },
-        "1 13",
-        "12@0:6811 13@0:7811",
-    ),
-    // With and without the effect step at tick 0.
-    (
-        Parts {
-            speed: "0010",
-            patterns: "02 03 90010000 BD000101 FF000000 02 BD000000 FF000000",
-            ..NOTE
-        },
-        "1 20 none 1",
-        "13@0:7811 14@0:8811 15@0:9811 16@0:a811 17@0:b811 18@0:c811 19@0:c811 20@0:6811",
-    ),
-    (
-        Parts {
-            speed: "0010",
-            patterns: "02 03 90010000 BD000101 FF000000 02 BD000000 FF000000",
-            ..NOTE
-        },
-        "1 20 effects 1",
-        "13@0:6811 14@0:7811 15@0:8811 16@0:9811 17@0:a811 18@0:b811 19@0:b811 20@0:6811",
-    ),
-    // With and without the pulse step where the row is fetched.
-    (
-        Parts {
-            pulse: "8800 2010 FF02",
-            ..NOTE
-        },
-        "1 12 none 1",
-        "10@4:2008 11@4:3008 12@4:4008",
-    ),
-    (
-        Parts {
-            pulse: "8800 2010 FF02",
-            ..NOTE
-        },
-        "1 12 pulse 1",
-        "10@4:2008 11@4:2008 12@4:3008",
-    ),
-    // At two calls in the time of a picture.
-    (
-        NOTE,
-        "1 17 none 2",
-        "11@0:00000000000f00 13@0:000000000909a0 14@0:681100084109a0",
-    ),
-];
+note
+trace 1 17
+= 4@0:00000000000000 5@0:00000000000f00 7@0:000000000909a0 8@0:681100084109a0 11@0:681100084009a0
+  17@0:68110008400f00
+
+# The lowest note with the lowest transpose.
+note
+orders 01 03E000FF00 0201FF00 0201FF00
+patterns 02 03 60010000 BE000000 FF000000 02 BD000000 FF000000
+trace 1 8
+= 8@0:000000084109a0
+
+# A vibrato at the highest frequency.
+note
+instruments 09A001000001010209
+wave 11DF FF00
+pulse
+speed 8000
+patterns 02 03 90010000 BD000000 FF000000 02 BD000000 FF000000
+trace 1 13
+= 8@0:ffff 9@0:0000 10@0:ffff 11@0:feff 12@0:ffff 13@0:0000
+
+# A slide to a note, and a tie note.
+note
+speed 1000
+patterns 02 04 90010000 92000301 92000300 FF000000 02 BD000000 FF000000
+trace 1 19
+= 8@0:6811 9@0:6811 12@0:6811 13@0:8913 14@0:8913 18@0:8913 19@0:8913
+
+# The two high bits of the gateoff timer.
+note
+instruments 09A001010000000209
+patterns 02 03 90010000 BD000000 FF000000 02 BD000000 FF000000
+trace 1 17
+= 17@0:68110008400f00
+
+note
+instruments 09A001010000004209
+patterns 02 03 90010000 BD000000 FF000000 02 BD000000 FF000000
+trace 1 17
+= 17@0:681100084109a0
+
+note
+instruments 09A001010000008209
+patterns 02 03 90010000 BD000000 FF000000 02 BD000000 FF000000
+trace 1 17
+= 17@0:681100084009a0
+
+# A wave program that waits and is begun anew.
+note
+instruments 09A001000000000209
+wave 1100 0F0C FF00
+pulse
+patterns 02 09 90010000 BD000000 BD000000 BD000000 BD000801 BD000000 BD000000 BD000000 FF000000 02 BD000000 FF000000
+trace 1 31
+= 8@0:6811 15@0:6811 23@0:6811 24@0:d022 30@0:d022 31@0:6811
+
+# A row that isn't stored is a speed of 0.
+note
+speed
+patterns 02 03 90010000 BD0001FF FF000000 02 BD000000 FF000000
+trace 1 20
+= 8@0:6811 13@0:6811 17@0:6811
+
+# A subtune that isn't played is between these two.
+note
+orders 03 0200FF00 0201FF00 0201FF00 01FF00 0201FF00 0201FF00 0200FF00 0201FF00 0201FF00
+trace 2 17
+= 4@0:00000000000000 5@0:00000000000f00 7@0:000000000909a0 8@0:681100084109a0 11@0:681100084009a0
+  17@0:68110008400f00
+
+# An instrument that a row changes without a note.
+note
+instruments 09A001000000010209 000000000001000200
+pulse
+speed 0310
+patterns 02 03 90010000 BD020000 FF000000 02 BD000000 FF000000
+trace 1 13
+= 12@0:6811 13@0:7811
+
+# With and without the effect step at tick 0.
+note
+speed 0010
+patterns 02 03 90010000 BD000101 FF000000 02 BD000000 FF000000
+trace 1 20 none 1
+= 13@0:7811 14@0:8811 15@0:9811 16@0:a811 17@0:b811 18@0:c811 19@0:c811 20@0:6811
+
+note
+speed 0010
+patterns 02 03 90010000 BD000101 FF000000 02 BD000000 FF000000
+trace 1 20 effects 1
+= 13@0:6811 14@0:7811 15@0:8811 16@0:9811 17@0:a811 18@0:b811 19@0:b811 20@0:6811
+
+# With and without the pulse step where the row is fetched.
+note
+pulse 8800 2010 FF02
+trace 1 12 none 1
+= 10@4:2008 11@4:3008 12@4:4008
+
+note
+pulse 8800 2010 FF02
+trace 1 12 pulse 1
+= 10@4:2008 11@4:2008 12@4:3008
+
+# At two calls in the time of a picture.
+note
+trace 1 17 none 2
+= 11@0:00000000000f00 13@0:000000000909a0 14@0:681100084109a0
+";
 
 /// What `trace` answers of a song.
 fn trace(alloc: Global, words: &str, song: &[u8]) -> Result<Answer, Fail> {
@@ -209,10 +160,11 @@ fn assert_digits(rt: &impl Abort, text: &[u8], wanted: &str) -> Result<(), Fail>
 #[test]
 fn songs_are_traced(rt: HostRuntime) -> Result<(), Fail> {
     let alloc = rt.alloc();
-    for (song, words, wanted) in TRACED {
-        let answer = trace(alloc, words, &song.file(alloc)?)?;
-        assert_eq!(rt; answer.status, 0, "{words}");
-        assert_digits(&rt, &answer.text, wanted)?;
+    for text in TRACED.split("\n\n") {
+        let case = case_of(text)?;
+        let answer = trace(alloc, case.words, &case.song.file(alloc)?)?;
+        assert_eq!(rt; answer.status, 0, "{text}");
+        assert_digits(&rt, &answer.text, case.answer)?;
     }
     Ok(())
 }

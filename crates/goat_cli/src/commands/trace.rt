@@ -15,7 +15,7 @@ ghost use Rattle.goat_cli.specs.Endings.{JobEnds, LinesEnd};
 ghost use Rattle.goat_cli.specs.Words.{texts, HasAllowedNumbers, AreOptionWords, AreTraceArguments, Trace, frame_limit};
 ghost use Rattle.goat_cli.specs.Jobs.{command_of, AreArgumentsOf};
 
-use crate::arguments::{FRAME_LIMIT, SUBTUNE_LIMIT, decimal_of, no_options, options_of};
+use crate::arguments::{FRAME_LIMIT, SUBTUNE_LIMIT, decimal_of, options_of};
 use crate::line::Line;
 use crate::refusal::{Refusal, Report};
 use crate::registers::put_registers;
@@ -43,7 +43,7 @@ pub fn trace_job(arguments: &[String]) -> Result<Job<'_>, WordsFault>
             input.as_str(),
             subtune.as_str(),
             frames.as_str(),
-            no_options(),
+            Options::none(),
         ),
         [input, subtune, frames, skip, speed] => {
             let options = options_of(skip.as_str(), speed.as_str())?;

@@ -4,7 +4,7 @@ use Rattle.play_voice.proofs.wave.right_done.Goals as goal
 
 pub returns-clause-rule : goal.returns-clause-rule
 returns-clause-rule c = λ plays common.
-    let rule = c.with_note.ensures.rule plays in
+    let rule = c.set_note.ensures.rule plays in
     let note = c.wave_note-note.ensures.note in
     let command = c.if-is_wave_command.ensures in
     grind (arith, nat_tests)

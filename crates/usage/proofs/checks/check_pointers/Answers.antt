@@ -6,7 +6,7 @@ pub returns-then-is_jump-clause-found : goal.returns-then-is_jump-clause-found
 returns-then-is_jump-clause-found c =
     jump_is_first c.args.song.now c.args.name c.loop-p.p c.named_rows-named.result c.named_rows-named.ensures
     c.loop-p.invariant
-    (rw c.from.ensures at c.if-named-from.true) (rw c.row_at.ensures at (sym c.is_jump.ensures ∙ c.if-is_jump.true))
+    (rw c.from.ensures at c.if-named-from.true) (rw c.row_or_zero.ensures at (sym c.is_jump.ensures ∙ c.if-is_jump.true))
 
 pub returns-clause-none : goal.returns-clause-none
 returns-clause-none c =

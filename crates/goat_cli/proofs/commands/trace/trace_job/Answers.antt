@@ -18,7 +18,7 @@ pub returns-in-len3-clause-found : goal.returns-in-len3-clause-found
 returns-in-len3-clause-found c =
     let three =
     three_texts _ _ _ _ c.in-len3.len_at_least c.in-len3.len_below c.input-item.is c.subtune-item.is c.frames-item.is in
-    let none = subst (AreOptionWords []) (sym c.no_options.ensures) unsaid in
+    let none = subst (AreOptionWords []) (sym c.none.ensures) unsaid in
     let found =
     rw (c.as_str.ensures.value, c.as_str-in-len3.ensures.value, c.as_str-in-len3-2.ensures.value) at
     c.trace_of.ensures.found in
