@@ -1,10 +1,11 @@
 //! Lists that grow.
 
-ghost use Rattle.std.specs.Prelude.{◌≡◌, ◌<◌, ◌↔◌, [], ◌∷◌, ◌++◌, length, slice_set, IsTrue, IfOk, OnOk, OnErr};
+ghost use Rattle.std.specs.Prelude.{◌≡◌, ◌<◌, ◌≤◌, ◌↔◌, [], ◌∷◌, ◌++◌, length, slice_set, slice_index_or, vec_len, vec_capacity, IsTrue, IfOk, OnOk, OnErr};
 
 use crate::NoMemory;
 use std::alloc::Global;
 use std::marker::Model;
+use std::mem;
 
 /// A list that grows, without a limit of its own. Contracts see the list.
 ///
@@ -79,6 +80,34 @@ impl<T> Items<T> {
     {
         self.items.append(&mut other.items)?;
         Ok(())
+    }
+
+    /// Puts an item in the place of the one that stands there, and answers that one. Places are counted from 0.
+    pub fn exchange(&mut self, at: usize, item: T) -> T
+        requires { at < length self.old }
+        ensures after { self.new ≡ slice_set self.old at item }
+        ensures before { result ≡ slice_index_or self.old at result }
+    {
+        mem::replace(&mut self.items[at], item)
+    }
+
+    /// Exchanges the item that stands at a place with another one.
+    pub fn exchange_with(&mut self, at: usize, item: &mut T)
+        requires { at < length self.old }
+        ensures after { self.new ≡ slice_set self.old at item.old }
+        ensures before { item.new ≡ slice_index_or self.old at item.old }
+    {
+        mem::swap(&mut self.items[at], item);
+    }
+
+    /// Takes all items out; the list is empty then.
+    pub fn take(&mut self) -> Vec<T>
+        ensures taken { result.items ≡ self.old }
+        ensures emptied { self.new ≡ [] }
+        ensures room { length result.items ≤ vec_capacity result }
+    {
+        let empty = Vec::new(*self.items.allocator());
+        mem::replace(&mut self.items, empty)
     }
 }
 

@@ -14,6 +14,12 @@ fn lists_grow(rt: HostRuntime) -> Result<(), Fail> {
     assert!(rt; list.is_empty());
     assert_eq!(rt; other.len(), 6);
     assert_eq!(rt; other.as_slice(), [7, 2, 3, 7, 2, 3].as_slice());
+    assert_eq!(rt; other.exchange(3, 9), 7);
+    let mut item = 8;
+    other.exchange_with(5, &mut item);
+    assert_eq!(rt; item, 3);
+    assert_eq!(rt; other.take().as_slice(), [7, 2, 3, 9, 2, 8].as_slice());
+    assert!(rt; other.is_empty());
     let bytes = ByteList::from_slice(rt.alloc(), b"ab")?;
     assert_eq!(rt; bytes.as_slice(), b"ab".as_slice());
     let bytes = ByteList::from_vec(vec![in rt.alloc(); b'c', b'd']?);

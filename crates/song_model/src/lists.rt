@@ -1,6 +1,6 @@
 //! Lists that grow up to a limit.
 
-ghost use Rattle.std.specs.Prelude.{◌≡◌, ◌<◌, ◌≤◌, ◌↔◌, ◌⊎◌, [], ◌∷◌, ◌++◌, length, IsNone, IfSome, IfOk, IfErr, IsErrOf, OnOk, OnErr};
+ghost use Rattle.std.specs.Prelude.{◌≡◌, ◌<◌, ◌≤◌, ◌↔◌, ◌⊎◌, [], ◌∷◌, ◌++◌, length, slice_set, slice_index_or, vec_capacity, IsNone, IfSome, IfOk, IfErr, IsErrOf, OnOk, OnErr};
 ghost use Rattle.song_model.specs.LookUp.{IsNumbered, numbered};
 
 use crate::{LimitFault, PushFault};
@@ -65,6 +65,34 @@ impl<T, const LIMIT: usize> Bounded<T, LIMIT> {
         Bounded {
             items: Items::from_vec(items),
         }
+    }
+
+    /// Puts an item in the place of the one that stands there, and answers that one. Places are counted from 0.
+    pub fn exchange(&mut self, at: usize, item: T) -> T
+        requires { at < length self.old }
+        ensures after { self.new ≡ slice_set self.old at item }
+        ensures before { result ≡ slice_index_or self.old at result }
+    {
+        self.items.exchange(at, item)
+    }
+
+    /// Exchanges the item that stands at a place with another one.
+    pub fn exchange_with(&mut self, at: usize, item: &mut T)
+        requires { at < length self.old }
+        ensures after { self.new ≡ slice_set self.old at item.old }
+        ensures before { item.new ≡ slice_index_or self.old at item.old }
+    {
+        self.items.exchange_with(at, item);
+    }
+
+    /// Takes all items out; the list is empty then.
+    pub fn take(&mut self) -> Vec<T>
+        ensures taken { result.items ≡ self.old }
+        ensures limit { length result.items ≤ LIMIT }
+        ensures emptied { self.new ≡ [] }
+        ensures room { length result.items ≤ vec_capacity result }
+    {
+        self.items.take()
     }
 }
 

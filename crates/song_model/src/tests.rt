@@ -76,6 +76,12 @@ fn lists_take_items(rt: HostRuntime) -> Result<(), Fail> {
     let mut bytes = ByteList::new(alloc);
     bytes.push(7)?;
     assert_eq!(rt; bytes.as_slice(), [7].as_slice());
+    let mut pattern = Pattern::from_rows(alloc, &[rest(0xbd), rest(0xbf)])?;
+    song.patterns.exchange_with(0, &mut pattern);
+    assert_eq!(rt; pattern.as_slice().len(), 1);
+    assert_eq!(rt; song.patterns.exchange(0, pattern).as_slice().len(), 2);
+    assert_eq!(rt; song.patterns.take().len(), 1);
+    assert!(rt; song.patterns.as_slice().is_empty());
     Ok(())
 }
 
