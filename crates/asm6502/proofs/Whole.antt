@@ -75,16 +75,6 @@ fault_none set origin lines n =
     let e = n.near in
     rw (a, b, c, d, e) refl
 
-pub fault_end : (set origin : ℕ) (lines : List Line) (size : ℕ) (fault : AsmFault) →
-    first_fault (bad_line set) [] lines ≡ None → first_fault (double_label set) [] lines ≡ None →
-    first_fault (unknown_label set lines) [] lines ≡ None → size ≡ size_of (kept set lines) →
-    (if nat_lt MEMORY_SIZE (origin + size) then Some (PastEnd size) else None) ≡ Some fault →
-    fault_of set origin lines ≡ Some fault
-fault_end set origin lines size fault a b c s e =
-    let d : past_end set origin lines ≡ Some fault =
-    ap (λ (n : ℕ). if nat_lt MEMORY_SIZE (origin + n) then Some (PastEnd n) else None) (sym s) ∙ e in
-    rw (a, b, c, d) refl
-
 -- ---- addresses by the table
 
 by_table : (labels : Labels) (lines : List Line) (origin : ℕ) → HasPlaces labels lines →

@@ -2,7 +2,7 @@
 use Rattle.std.proofs.Common.{◌≡◌, ℕ, zero, suc, ◌+◌, ◌-◌, ◌*◌, ◌<◌, ◌≤◌, List, [], ◌∷◌, ◌++◌, length, get_or, set, drop, replicate, All, ◌⊎◌, refl, sym, ap, ◌∙◌, inl, inr, arith, append_assoc, length-append}
 use Rattle.std.specs.List.{flat_map}
 use Rattle.std.proofs.lemmas.Bool.{cases_lt}
-use Rattle.std.proofs.lemmas.List.{get_or_past, get_or_append_left, get_or-replicate, drop_all, drop_at, drop-drop, drop-replicate, set-append_right, length-replicate, ext_get_or}
+use Rattle.std.proofs.lemmas.List.{get_or_past, get_or_append_left, drop_all, drop_at, drop-drop, drop-replicate, set-append_right}
 use Rattle.std.proofs.lemmas.List.Elements.{All-head, All-tail, All-get_or}
 
 -- ---- parts
@@ -114,12 +114,6 @@ All-get_or_any P xs i d p all = elim (cases_lt i (length xs)) [
 ]
 
 -- ---- one item again and again
-
--- a list whose items are all one
-pub replicate_from_All : {X : Type 0} (x : X) (xs : List X) → All (λ y. y ≡ x) xs → xs ≡ replicate (length xs) x
-replicate_from_All x xs all =
-    ext_get_or x xs (replicate (length xs) x) (sym (length-replicate (length xs) x))
-    (λ i inside. all i x inside ∙ sym (get_or-replicate (length xs) i x x inside))
 
 -- it stands at each place, also past the end where it is the default
 pub get_or-replicate_any : {X : Type 0} (n i : ℕ) (x : X) → get_or (replicate n x) i x ≡ x

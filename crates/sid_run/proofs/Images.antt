@@ -1,9 +1,8 @@
 -- An image in memory that holds 0, put in byte by byte; and what stands where in it.
-use Rattle.std.proofs.Common.{◌≡◌, ℕ, suc, ◌+◌, ◌-◌, ◌≤◌, ◌<◌, List, [], ◌∷◌, ◌++◌, length, take, replicate, get_or, slice_set, sym, ap, ◌∙◌, arith, append_assoc, append-nil, length-append, inl, inr}
-use Rattle.std.specs.Prelude.{All}
-use Rattle.std.proofs.lemmas.List.{set_at, take_more, take_all, length-replicate, length-take-le, replicate-append-replicate, get_or-append-add, get_or-append_right, get_or_append_left, get_or-replicate}
+use Rattle.std.proofs.Common.{◌≡◌, ℕ, suc, ◌+◌, ◌-◌, ◌≤◌, ◌<◌, List, [], ◌∷◌, ◌++◌, length, take, replicate, get_or, slice_set, sym, ap, ◌∙◌, arith, append_assoc, length-append, inl, inr}
+use Rattle.std.proofs.lemmas.List.{set_at, take_more, take_all, length-replicate, length-take-le, get_or-append-add, get_or-append_right, get_or_append_left, get_or-replicate}
 use Rattle.std.proofs.lemmas.List.Elements.{All-append, All-replicate}
-use Rattle.base.proofs.Laws.{replicate_from_All, get_or-replicate_any}
+use Rattle.base.proofs.Laws.{get_or-replicate_any}
 use Rattle.cpu6502.specs.declared.memory.TheConstants.{MEMORY_SIZE}
 use Rattle.sid_run.specs.State.{loaded_memory}
 use Rattle.sid_run.specs.Laws.{ImageStands, ElsewhereIsZero, LoadedIsMachine}
@@ -11,23 +10,6 @@ use Rattle.sid_run.specs.Laws.{ImageStands, ElsewhereIsZero, LoadedIsMachine}
 -- memory with the first i bytes of an image
 abbrev pub partly_loaded : ℕ → List ℕ → ℕ → List ℕ
 partly_loaded load image i = (replicate load 0 ++ take i image) ++ replicate (MEMORY_SIZE - (load + i)) 0
-
-zeros_in_parts : (size load : ℕ) (memory : List ℕ) → length memory ≡ size → All (λ byte. byte ≡ 0) memory → load ≤ size
-    → memory ≡ (replicate load 0 ++ []) ++ replicate (size - (load + 0)) 0
-zeros_in_parts size load memory l z f =
-    let back : size - load ≡ size - (load + 0) = omega arith in
-    let whole : size ≡ load + (size - load) = omega arith in
-    replicate_from_All 0 memory z
-    ∙ ap (λ (n : ℕ). replicate {A = ℕ} n 0) (l ∙ whole)
-    ∙ sym (replicate-append-replicate load (size - load) 0)
-    ∙ ap (λ (xs : List ℕ). xs ++ replicate (size - load) 0) (sym (append-nil (replicate load 0)))
-    ∙ ap (λ (n : ℕ). (replicate load 0 ++ []) ++ replicate n 0) back
-
--- none of its bytes
-pub partly_loaded-none : (load : ℕ) (image memory : List ℕ) → length memory ≡ MEMORY_SIZE →
-    All (λ byte. byte ≡ 0) memory → load + length image ≤ MEMORY_SIZE
-    → memory ≡ partly_loaded load image 0
-partly_loaded-none load image memory l z f = zeros_in_parts MEMORY_SIZE load memory l z (omega arith)
 
 -- one byte more
 pub partly_loaded-more : (load : ℕ) (image : List ℕ) (i : ℕ) → i < length image → load + length image ≤ MEMORY_SIZE

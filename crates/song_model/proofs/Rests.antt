@@ -79,10 +79,6 @@ endless_cycle order endless =
     (end_repeat order.entries 0)
     endless.pattern.1 endless.pattern.2 endless.pattern.3 endless.pattern.4
 
-some_play : (entries : List ℕ) (p : ℕ) (t : ℤ) (r : ℕ) → p < length entries → get_or entries p 0 < 0xD0 →
-    0 < length (plays_from entries (place_at p t r))
-some_play entries p t r h low = rw (first_play_here entries p t r h low) (omega arith)
-
 some_places_of : (p : ℕ) (t : ℤ) (r : ℕ) → 0 < length (places_of_pattern p t r)
 some_places_of p t zero = omega arith
 some_places_of p t (suc r) = omega arith
@@ -94,15 +90,6 @@ some_place entries p t r h low =
     (some_append_left (places_of_pattern p t r) (walk_places (drop (p + 1) entries) (p + 1) t 0) (some_places_of p t r))
 
 -- a pattern in this round
-pub play_in_round : (order : Order) (at here : OrderPlace) → IsSameRest order.entries at here →
-    here.place < length order.entries →
-    get_or order.entries here.place 0 < 0xD0 →
-    get_or (coming_plays order at) 0 no_step ≡ get_or (plays_from order.entries here) 0 no_step
-play_in_round order at here same h low =
-    ap (λ plays. get_or (plays ++ cycle_of order) 0 no_step) same.plays
-    ∙ first_of_append (plays_from order.entries here) (cycle_of order) no_step
-    (some_play order.entries here.place here.transpose here.repeat h low)
-
 pub place_in_round : (order : Order) (at here : OrderPlace) → IsSameRest order.entries at here →
     here.place < length order.entries →
     get_or order.entries here.place 0 < 0xD0 →
