@@ -10,7 +10,12 @@ use play_model::{CommonState, VoiceState};
 /// program, `$A` the filter program, `$B` the filter's control, `$C` the cutoff, `$D` the volume; another number does
 /// nothing.
 #[tactic(auto, unfolding(play_model::specs::Helpers::do_command))]
-pub(crate) fn do_command(voice: &mut VoiceState, common: &mut CommonState, command: u8, parameter: u8)
+pub(crate) fn do_command(
+    voice: &mut VoiceState,
+    common: &mut CommonState,
+    command: u8,
+    parameter: u8,
+)
     ensures rule { (plays : ℕ) → playing_after plays voice.new common.new ≡
         do_command command parameter (playing_after plays voice.old common.old) }
     ensures place { voice.new.place ≡ voice.old.place }

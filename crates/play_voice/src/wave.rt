@@ -73,9 +73,16 @@ fn left_done(voice: &mut VoiceState, common: &mut CommonState, song: &Song, row:
 
 /// A command of the wave table: 0, 8 and `$E` do nothing.
 #[tactic(auto, unfolding(play_model::specs::WaveStep::wave_command))]
-fn wave_command(voice: &mut VoiceState, common: &mut CommonState, song: &Song, command: u8, parameter: u8)
+fn wave_command(
+    voice: &mut VoiceState,
+    common: &mut CommonState,
+    song: &Song,
+    command: u8,
+    parameter: u8,
+)
     ensures rule { (plays : ℕ) → playing_after plays voice.new common.new ≡
-        wave_command (look_ups_of song.now) command parameter (playing_after plays voice.old common.old) }
+        wave_command (look_ups_of song.now) command parameter
+        (playing_after plays voice.old common.old) }
     ensures place { voice.new.place ≡ voice.old.place }
 {
     match command {
