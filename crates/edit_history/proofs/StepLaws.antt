@@ -1,0 +1,2 @@
+-- The steps of a history, and their ways back.
+use Rattle.std.proofs.Common.{◌≡◌}

@@ -1,0 +1,2 @@
+-- Histories of three edits, worked out by hand.
+use Rattle.std.specs.Prelude.{◌≡◌, [], ◌∷◌, Ok, Some, None}
