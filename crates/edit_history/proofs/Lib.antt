@@ -2,3 +2,5 @@
 pub mod KeptLaws
 -- The steps of a history, and their ways back.
 pub mod StepLaws
+-- What each call leaves, and the step of the history.
+pub mod SessionLaws

@@ -1,2 +1,1 @@
 -- Histories of three edits, worked out by hand.
-use Rattle.std.specs.Prelude.{◌≡◌, [], ◌∷◌, Ok, Some, None}
