@@ -1,6 +1,5 @@
 -- What a session keeps: edits that come and go at the end of its lists.
-use Rattle.std.proofs.Common.{◌≡◌, List, [], ◌∷◌, ◌++◌, map, Ok, Some, refl, sym, ap, ◌∙◌}
-use Rattle.std.specs.Option.{unwrap_or}
+use Rattle.std.proofs.Common.{◌≡◌, List, [], ◌∷◌, ◌++◌, Result, Ok, Err, Some, refl, sym, ap}
 use Rattle.song_model.specs.declared.songs.Song.{Song}
 use Rattle.edit_ops.specs.declared.edits.Edit.{Edit}
 use Rattle.edit_ops.specs.declared.edits.EditFault.{EditFault}
@@ -51,10 +50,24 @@ unfolding Stands
 song_is first song [] s = ap Ok s
 song_is first song (d ∷ dones) s = rw s.1 (song_is s.0 song dones s.3)
 
+stops : (r : Result Song EditFault) → goes_on r (λ next. Ok next) ≡ r
+stops (Ok song) = refl
+stops (Err fault) = refl
+
+goes_further : (r : Result Song EditFault) (f g : Song → Result Song EditFault) (song : Song) (end : Result Song EditFault) →
+    ((next : Song) → f next ≡ Ok song → g next ≡ end) → goes_on r f ≡ Ok song → goes_on r g ≡ end
+goes_further (Ok next) f g song end further e = further next e
+goes_further (Err fault) f g song end further e = absurd (cc)
+
 pub song_push : (first song : Song) (edits : List Edit) (edit : Edit) → song_after first edits ≡ Ok song →
     song_after first (edits ++ edit ∷ []) ≡ edited song edit
-song_push first song [] edit e = ?
-song_push first song (e ∷ edits) edit is = ?
+song_push first song [] edit e =
+    let same : first ≡ song = cc in
+    rw same (stops (edited song edit))
+song_push first song (before ∷ edits) edit e =
+    goes_further (edited first before) (λ next. song_after next edits)
+    (λ next. song_after next (edits ++ edit ∷ [])) song (edited song edit)
+    (λ next is. song_push next song edits edit is) e
 
 -- ---- edits that can be redone
 

@@ -2,3 +2,5 @@
 pub mod KeptLaws
 -- The steps of a history, and their ways back.
 pub mod StepLaws
+-- What the calls of a session keep, and that each is a step of its history.
+pub mod SessionLaws

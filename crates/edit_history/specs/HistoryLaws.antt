@@ -1,7 +1,6 @@
 -- Laws of undo and redo.
-use Rattle.std.specs.Prelude.{◌≡◌, ◌-◌, List, [], length, Ok, Some}
-use Rattle.edit_ops.specs.declared.edits.Edit.{Edit}
-use Rattle.edit_history.specs.History.{History, after_edit, after_undo, after_redo}
+use Rattle.std.specs.Prelude.{◌≡◌, Some}
+use Rattle.edit_history.specs.History.{History, after_undo, after_redo}
 
 -- what was undone is redone to the same history
 abbrev pub RedoUndoesUndo : Type 0
