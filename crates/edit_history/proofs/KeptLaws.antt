@@ -1,5 +1,5 @@
 -- What a session keeps: edits that come and go at the end of its lists.
-use Rattle.std.proofs.Common.{◌≡◌, List, [], ◌∷◌, ◌++◌, Result, Ok, Err, Some, refl, sym, ap, ◌∙◌}
+use Rattle.std.proofs.Common.{◌≡◌, List, [], ◌∷◌, ◌++◌, Result, Ok, Err, Some, refl, sym, ap}
 use Rattle.song_model.specs.declared.songs.Song.{Song}
 use Rattle.edit_ops.specs.declared.edits.Edit.{Edit}
 use Rattle.edit_ops.specs.declared.edits.EditFault.{EditFault}
@@ -50,33 +50,24 @@ unfolding Stands
 song_is first song [] s = ap Ok s
 song_is first song (d ∷ dones) s = rw s.1 (song_is s.0 song dones s.3)
 
-last_goes : (r : Result Song EditFault) → goes_on r Ok ≡ r
-last_goes (Ok song) = refl
-last_goes (Err fault) = refl
+stops : (r : Result Song EditFault) → goes_on r (λ next. Ok next) ≡ r
+stops (Ok song) = refl
+stops (Err fault) = refl
 
-goes_same : (r : Result Song EditFault) (f g : Song → Result Song EditFault) → ((song : Song) → f song ≡ g song) →
-    goes_on r f ≡ goes_on r g
-goes_same (Ok song) f g same = same song
-goes_same (Err fault) f g same = refl
-
-goes_twice : (r : Result Song EditFault) (f g : Song → Result Song EditFault) →
-    goes_on (goes_on r f) g ≡ goes_on r (λ song. goes_on (f song) g)
-goes_twice (Ok song) f g = refl
-goes_twice (Err fault) f g = refl
-
-song_append : (first : Song) (edits more : List Edit) →
-    song_after first (edits ++ more) ≡ goes_on (song_after first edits) (λ song. song_after song more)
-song_append first [] more = refl
-song_append first (e ∷ edits) more =
-    goes_same (edited first e) _ _ (λ next. song_append next edits more)
-    ∙ sym (goes_twice (edited first e) (λ next. song_after next edits) (λ song. song_after song more))
+goes_further : (r : Result Song EditFault) (f g : Song → Result Song EditFault) (song : Song) (end : Result Song EditFault) →
+    ((next : Song) → f next ≡ Ok song → g next ≡ end) → goes_on r f ≡ Ok song → goes_on r g ≡ end
+goes_further (Ok next) f g song end further e = further next e
+goes_further (Err fault) f g song end further e = absurd (cc)
 
 pub song_push : (first song : Song) (edits : List Edit) (edit : Edit) → song_after first edits ≡ Ok song →
     song_after first (edits ++ edit ∷ []) ≡ edited song edit
-song_push first song edits edit is =
-    song_append first edits (edit ∷ [])
-    ∙ ap (λ r. goes_on r (λ song. song_after song (edit ∷ []))) is
-    ∙ last_goes (edited song edit)
+song_push first song [] edit e =
+    let same : first ≡ song = cc in
+    rw same (stops (edited song edit))
+song_push first song (before ∷ edits) edit e =
+    goes_further (edited first before) (λ next. song_after next edits)
+    (λ next. song_after next (edits ++ edit ∷ [])) song (edited song edit)
+    (λ next is. song_push next song edits edit is) e
 
 -- ---- edits that can be redone
 

@@ -2,5 +2,5 @@
 pub mod KeptLaws
 -- The steps of a history, and their ways back.
 pub mod StepLaws
--- What each call leaves, and the step of the history.
+-- What the calls of a session keep, and that each is a step of its history.
 pub mod SessionLaws

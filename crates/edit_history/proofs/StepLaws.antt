@@ -1,88 +1,129 @@
 -- The steps of a history, and their ways back.
-use Rattle.std.proofs.Common.{◌≡◌, ◌-◌, ◌==◌, false, List, [], ◌∷◌, ◌++◌, length, take, drop, Result, Ok, Err, Some, refl, sym, ap, ◌∙◌, arith, length-append}
-use Rattle.std.proofs.lemmas.Bool.Decides.{nat_tests}
+use Rattle.std.proofs.Common.{◌≡◌, ℕ, suc, ◌-◌, ◌==◌, false, List, [], ◌∷◌, ◌++◌, length, Result, Ok, Err, Some, refl, sym, ap, ◌∙◌, arith, length-append}
 use Rattle.std.proofs.Math.Seq.{take-append_seam, drop-append_seam}
+use Rattle.std.proofs.lemmas.Bool.Decides.{nat_tests}
 use Rattle.song_model.specs.declared.songs.Song.{Song}
 use Rattle.edit_ops.specs.declared.edits.Edit.{Edit}
 use Rattle.edit_ops.specs.declared.edits.EditFault.{EditFault}
-use Rattle.edit_history.specs.History.{History, but_last, last, joined, after_undo, after_redo}
+use Rattle.edit_ops.specs.Edits.{edited}
+use Rattle.edit_history.specs.History.{History, but_last, last, joined, song_after, after_edit, after_undo, after_redo}
+use Rattle.edit_history.specs.HistoryLaws.{RedoUndoesUndo, UndoUndoesRedo}
+use Rattle.edit_history.proofs.KeptLaws.{song_push}
 
--- ---- the edits but the last, and the last
+-- ---- the last edit
 
-one_less : (front : List Edit) (edit : Edit) → length (front ++ edit ∷ []) - 1 ≡ length front
-one_less front edit = omega (arith, length-append front (edit ∷ []))
+one_long : (edits : List Edit) (edit : Edit) → length (edits ++ edit ∷ []) ≡ suc (length edits)
+one_long edits edit = omega (arith, length-append edits (edit ∷ []))
 
-but_last-append : (front : List Edit) (edit : Edit) → but_last (front ++ edit ∷ []) ≡ front
-but_last-append front edit =
-    ap (λ n. take n (front ++ edit ∷ [])) (one_less front edit) ∙ take-append_seam front (edit ∷ [])
+but_last_push : (edits : List Edit) (edit : Edit) → but_last (edits ++ edit ∷ []) ≡ edits
+but_last_push edits edit =
+    let n : length (edits ++ edit ∷ []) - 1 ≡ length edits = omega (arith, one_long edits edit) in
+    rw n (take-append_seam edits (edit ∷ []))
 
-last-append : (front : List Edit) (edit : Edit) → last (front ++ edit ∷ []) ≡ edit ∷ []
-last-append front edit =
-    ap (λ n. drop n (front ++ edit ∷ [])) (one_less front edit) ∙ drop-append_seam front (edit ∷ [])
+last_push : (edits : List Edit) (edit : Edit) → last (edits ++ edit ∷ []) ≡ edit ∷ []
+last_push edits edit =
+    let n : length (edits ++ edit ∷ []) - 1 ≡ length edits = omega (arith, one_long edits edit) in
+    rw n (drop-append_seam edits (edit ∷ []))
 
-some_length : (front : List Edit) (edit : Edit) → (length (front ++ edit ∷ []) == 0) ≡ false
-some_length front edit = grind (arith, nat_tests, length-append front (edit ∷ []))
+record Split (edits : List Edit) : Type 0 where
+  rest : List Edit
+  edit : Edit
+  is : edits ≡ rest ++ edit ∷ []
 
--- no edit, or a last one
-data Ends (edits : List Edit) : Type 0 where
-  none : edits ≡ [] → Ends edits
-  some : (front : List Edit) (edit : Edit) → edits ≡ front ++ edit ∷ [] → Ends edits
+split_last : (first : Edit) (edits : List Edit) → Split (first ∷ edits)
+split_last first [] = record { rest = []; edit = first; is = refl }
+split_last first (edit ∷ edits) =
+    let s = split_last edit edits in
+    record { rest = first ∷ s.rest; edit = s.edit; is = ap (λ (es : List Edit). first ∷ es) s.is }
 
-ends_of : (edits : List Edit) → Ends edits
-ends_of [] = none refl
-ends_of (first ∷ edits) = one_more first (ends_of edits)
-  where
-    one_more : {edits : List Edit} (first : Edit) → Ends edits → Ends (first ∷ edits)
-    one_more first (none is) = some [] first (ap (λ xs. first ∷ xs) is)
-    one_more first (some front edit is) = some (first ∷ front) edit (ap (λ xs. first ∷ xs) is)
+-- ---- the steps where there is a last edit
 
--- ---- undo and redo
+not_none : (n : ℕ) → (suc n == 0) ≡ false
+not_none n = grind (arith, nat_tests)
 
-module _ (first : Song) (edits : List Edit) (edit : Edit) (others : List Edit) where
-  pub undo-last : after_undo (record { first = first; standing = edits ++ edit ∷ []; undone = others })
-      ≡ Some (record { first = first; standing = edits; undone = others ++ edit ∷ [] })
-  unfolding after_undo
-  undo-last = rw (some_length edits edit, but_last-append edits edit, last-append edits edit) refl
+pub undo_push : (first : Song) (standing undone : List Edit) (edit : Edit) →
+    after_undo (record { first = first; standing = standing ++ edit ∷ []; undone = undone })
+    ≡ Some (record { first = first; standing = standing; undone = undone ++ edit ∷ [] })
+unfolding after_undo
+undo_push first standing undone edit =
+    let some : (length (standing ++ edit ∷ []) == 0) ≡ false = rw (one_long standing edit) (not_none (length standing)) in
+    rw (some, but_last_push standing edit, last_push standing edit) refl
 
-  pub redo-last : after_redo (record { first = first; standing = others; undone = edits ++ edit ∷ [] })
-      ≡ Some (record { first = first; standing = others ++ edit ∷ []; undone = edits })
-  unfolding after_redo
-  redo-last = rw (some_length edits edit, but_last-append edits edit, last-append edits edit) refl
+pub redo_push : (first : Song) (standing undone : List Edit) (edit : Edit) →
+    after_redo (record { first = first; standing = standing; undone = undone ++ edit ∷ [] })
+    ≡ Some (record { first = first; standing = standing ++ edit ∷ []; undone = undone })
+unfolding after_redo
+redo_push first standing undone edit =
+    let some : (length (undone ++ edit ∷ []) == 0) ≡ false = rw (one_long undone edit) (not_none (length undone)) in
+    rw (some, but_last_push undone edit, last_push undone edit) refl
 
 same_history : (a b : History) → Some a ≡ Some b → a ≡ b
 same_history a b e = cc
 
-pub redo_undoes_undo : (history undone : History) → after_undo history ≡ Some undone → after_redo undone ≡ Some history
+undo_none : (first : Song) (undone : List Edit) (other : History) →
+    after_undo (record { first = first; standing = []; undone = undone }) ≡ Some other → ⊥
 unfolding after_undo
-redo_undoes_undo history undone is = by_standing (ends_of history.standing)
-  where
-    by_standing : Ends history.standing → after_redo undone ≡ Some history
-    by_standing (none empty) = absurd (cc (is, ap (λ (edits : List Edit). length edits == 0) empty))
-    by_standing (some front edit whole) =
-        let here : history ≡ record history { standing = front ++ edit ∷ [] } =
-        ap (λ edits. record history { standing = edits }) whole in
-        let to = undo-last history.first front edit history.undone in
-        let same = same_history undone (record { first = history.first; standing = front; undone = history.undone ++ edit ∷ [] })
-        (sym is ∙ ap after_undo here ∙ to) in
-        ap after_redo same ∙ redo-last history.first history.undone edit front ∙ ap Some (sym here)
+undo_none first undone other e = absurd (cc)
 
-pub undo_undoes_redo : (history redone : History) → after_redo history ≡ Some redone → after_undo redone ≡ Some history
+redo_none : (first : Song) (standing : List Edit) (other : History) →
+    after_redo (record { first = first; standing = standing; undone = [] }) ≡ Some other → ⊥
 unfolding after_redo
-undo_undoes_redo history redone is = by_undone (ends_of history.undone)
-  where
-    by_undone : Ends history.undone → after_undo redone ≡ Some history
-    by_undone (none empty) = absurd (cc (is, ap (λ (edits : List Edit). length edits == 0) empty))
-    by_undone (some front edit whole) =
-        let here : history ≡ record history { undone = front ++ edit ∷ [] } =
-        ap (λ edits. record history { undone = edits }) whole in
-        let to = redo-last history.first front edit history.standing in
-        let same = same_history redone (record { first = history.first; standing = history.standing ++ edit ∷ []; undone = front })
-        (sym is ∙ ap after_redo here ∙ to) in
-        ap after_undo same ∙ undo-last history.first history.standing edit front ∙ ap Some (sym here)
+redo_none first standing other e = absurd (cc)
+
+undone_again : (first : Song) (standing undone : List Edit) (other : History) →
+    after_undo (record { first = first; standing = standing; undone = undone }) ≡ Some other →
+    after_redo other ≡ Some (record { first = first; standing = standing; undone = undone })
+undone_again first [] undone other e = absurd (undo_none first undone other e)
+undone_again first (edit ∷ edits) undone other e =
+    let s = split_last edit edits in
+    let h : History = record { first = first; standing = s.rest; undone = undone ++ s.edit ∷ [] } in
+    let is : h ≡ other =
+    same_history h other (sym (undo_push first s.rest undone s.edit)
+    ∙ ap (λ (es : List Edit). after_undo (record { first = first; standing = es; undone = undone })) (sym s.is) ∙ e) in
+    ap after_redo (sym is) ∙ redo_push first s.rest undone s.edit
+    ∙ ap (λ (es : List Edit). Some (record { first = first; standing = es; undone = undone })) (sym s.is)
+
+redone_again : (first : Song) (standing undone : List Edit) (other : History) →
+    after_redo (record { first = first; standing = standing; undone = undone }) ≡ Some other →
+    after_undo other ≡ Some (record { first = first; standing = standing; undone = undone })
+redone_again first standing [] other e = absurd (redo_none first standing other e)
+redone_again first standing (edit ∷ edits) other e =
+    let s = split_last edit edits in
+    let h : History = record { first = first; standing = standing ++ s.edit ∷ []; undone = s.rest } in
+    let is : h ≡ other =
+    same_history h other (sym (redo_push first standing s.rest s.edit)
+    ∙ ap (λ (es : List Edit). after_redo (record { first = first; standing = standing; undone = es })) (sym s.is) ∙ e) in
+    ap after_undo (sym is) ∙ undo_push first standing s.rest s.edit
+    ∙ ap (λ (es : List Edit). Some (record { first = first; standing = standing; undone = es })) (sym s.is)
+
+pub redo_undoes_undo : RedoUndoesUndo
+redo_undoes_undo history undone e = undone_again history.first history.standing history.undone undone e
+
+pub undo_undoes_redo : UndoUndoesRedo
+undo_undoes_redo history redone e = redone_again history.first history.standing history.undone redone e
 
 -- ---- an edit
 
-pub joined-err : (history : History) (edit : Edit) (r : Result Song EditFault) (fault : EditFault) →
+pub edit_is : (history : History) (edit : Edit) (song : Song) → song_after history.first history.standing ≡ Ok song →
+    after_edit history edit ≡ joined history edit (edited song edit)
+unfolding after_edit
+edit_is history edit song e = ap (joined history edit) (song_push history.first song history.standing edit e)
+
+joined_err : (history : History) (edit : Edit) (r : Result Song EditFault) (fault : EditFault) →
     joined history edit r ≡ Err fault → r ≡ Err fault
-joined-err history edit (Ok song) fault is = absurd (cc (is))
-joined-err history edit (Err other) fault is = cc
+joined_err history edit (Ok song) fault e = absurd (cc)
+joined_err history edit (Err other) fault e = let same : other ≡ fault = cc in ap Err same
+
+-- an edit of a history is refused as one of its song is
+pub refused_as : (history : History) (edit : Edit) (song : Song) (fault : EditFault) →
+    song_after history.first history.standing ≡ Ok song →
+    (edited song edit ≡ Err fault → after_edit history edit ≡ Err fault)
+    × (after_edit history edit ≡ Err fault → edited song edit ≡ Err fault)
+refused_as history edit song fault e = (
+  λ r. edit_is history edit song e ∙ ap (joined history edit) r,
+  λ r. joined_err history edit (edited song edit) fault (sym (edit_is history edit song e) ∙ r),
+)
+
+pub not_refused : (history next : History) (edit : Edit) (fault : EditFault) → after_edit history edit ≡ Ok next →
+    after_edit history edit ≡ Err fault → ⊥
+not_refused history next edit fault e r = let same : Ok next ≡ Err fault = sym e ∙ r in cc

@@ -133,13 +133,17 @@ impl Session {
             ↔ (after_edit self.old edit.now ≡ Err EditFault.BadValue) }
         ensures err { OnErr result (self.new ≡ self.old) }
     {
-        let inverse = apply_in_room(&mut self.song, &mut self.standing, &mut self.undone, edit)?;
-        self.undone.clear();
-        self.standing.push_reserved(Done {
-            edit: *edit,
-            inverse,
-        });
-        Ok(())
+        match apply_in_room(&mut self.song, &mut self.standing, &mut self.undone, edit) {
+            Err(fault) => Err(fault),
+            Ok(inverse) => {
+                self.undone.clear();
+                self.standing.push_reserved(Done {
+                    edit: *edit,
+                    inverse,
+                });
+                Ok(())
+            }
+        }
     }
 
     /// Takes the last edit that stands back. It takes no memory.

@@ -1,13 +1,5 @@
-use Rattle.std.proofs.Common.{refl, arith}
-use Rattle.edit_history.specs.Kept.{Stands, CanFollow}
+use Rattle.edit_history.proofs.SessionLaws.{kept_new}
 use Rattle.edit_history.proofs.session.Session.new.Goals as goal
 
 pub invariant_of-result : goal.invariant_of-result
-unfolding Stands CanFollow
-invariant_of-result c = record {
-  stands = rw c.new.ensures.items refl;
-  end = c.args.song;
-  follows = rw c.new-2.ensures.items refl;
-  standing_room = omega (arith, c.new.ensures.len, c.new-2.ensures.len);
-  undone_room = omega (arith, c.new.ensures.len, c.new-2.ensures.len);
-}
+invariant_of-result c = kept_new c.args.song c.new.result c.new-2.result c.new.ensures.items c.new-2.ensures.items

@@ -1,49 +1,54 @@
-use Rattle.std.proofs.Common.{◌≡◌, refl, sym, subst, arith}
-use Rattle.edit_history.specs.Kept.{CanFollow}
-use Rattle.edit_history.proofs.KeptLaws.{follow_pop}
-use Rattle.edit_history.proofs.SessionLaws.{more_stand, redo_step}
+use Rattle.std.proofs.Common.{◌∷◌, [], ◌++◌, length, ap, sym, ◌∙◌, arith, refl, length-append, Option}
+use Rattle.std.specs.Option.{option_to_list}
+use Rattle.edit_history.specs.declared.done.Done.{Done}
+use Rattle.edit_history.specs.History.{after_redo}
+use Rattle.edit_history.proofs.SessionLaws.{can_redo, kept_redo, step_redo}
 use Rattle.edit_history.proofs.session.Session.redo.Goals as goal
 
 pub revert-inverse-requires : goal.revert-inverse-requires
 revert-inverse-requires c =
-    let follows = rw c.in-Some.ensures.items at c.self.invariant.follows in
-    let next = follow_pop c.self.inside.song c.self.invariant.end c.pop.new.self.items c.in-Some.field-0 follows in
-    rw next.back_is refl
+    let kept = c.self.inside in
+    let was = c.pop.ensures.items
+    ∙ ap (λ (o : Option Done). c.pop.new.self.items ++ option_to_list o) c.in-Some.is in
+    can_redo kept.song kept.song kept.standing kept.undone kept.standing c.pop.new.self c.in-Some.field-0 c.in-Some.field-0
+    c.self.invariant was
 
 pub invariant_of-self-2 : goal.invariant_of-self-2
 invariant_of-self-2 c =
-    let follows = rw c.in-Some.ensures.items at c.self.invariant.follows in
-    let next = follow_pop c.self.inside.song c.self.invariant.end c.pop.new.self.items c.in-Some.field-0 follows in
-    let there : next.next ≡ c.revert-inverse.new.song = cc (next.back_is, c.revert-inverse.ensures.there) in
-    record {
-      stands = rw c.push_reserved.ensures.items
-          (more_stand c.self.inside.song c.revert-inverse.new.song c.self.inside.standing.items _
-          c.self.invariant.stands (rw (sym there) next.edit) c.revert-inverse.ensures.and_back);
-      end = c.self.invariant.end;
-      follows = subst (λ song. CanFollow song c.pop.new.self.items c.self.invariant.end) there next.follows;
-      standing_room = omega (
-        arith,
-        c.in-Some.ensures.cases,
-        c.push_reserved.ensures.len,
-        c.push_reserved.ensures.capacity,
-        c.self.invariant.standing_room,
-      );
-      undone_room = omega (
-        arith,
-        c.in-Some.ensures.cases,
-        c.pop.ensures.capacity,
-        c.push_reserved.ensures.len,
-        c.self.invariant.undone_room,
-      );
-    }
+    let kept = c.self.inside in
+    let was = c.pop.ensures.items
+    ∙ ap (λ (o : Option Done). c.pop.new.self.items ++ option_to_list o) c.in-Some.is in
+    let moved : Done = record { edit = c.in-Some.field-0.edit; inverse = c.revert-inverse.result } in
+    let less = ap length was ∙ length-append c.pop.new.self.items (c.in-Some.field-0 ∷ []) in
+    kept_redo kept.song c.revert-inverse.new.song kept.standing kept.undone c.push_reserved.new.self c.pop.new.self c.in-Some.field-0 moved
+    c.self.invariant was c.revert-inverse.ensures.there refl c.revert-inverse.ensures.and_back c.push_reserved.ensures.items
+    (omega (
+      arith,
+      less,
+      kept.undone.ok.0,
+      c.pop.new.self.ok.0,
+      c.self.invariant.standing_room,
+      c.push_reserved.ensures.len,
+      c.push_reserved.ensures.capacity,
+      c.pop.ensures.capacity,
+    ))
+    (omega (
+      arith,
+      less,
+      kept.undone.ok.0,
+      c.pop.new.self.ok.0,
+      c.self.invariant.undone_room,
+      c.push_reserved.ensures.len,
+      c.push_reserved.ensures.capacity,
+      c.pop.ensures.capacity,
+    ))
 
 pub returns-clause-done : goal.returns-clause-done
 returns-clause-done c =
-    let follows = rw c.in-Some.ensures.items at c.self.invariant.follows in
-    let next = follow_pop c.self.inside.song c.self.invariant.end c.pop.new.self.items c.in-Some.field-0 follows in
-    let there : next.next ≡ c.revert-inverse.new.song = cc (next.back_is, c.revert-inverse.ensures.there) in
-    let step = redo_step c.self.inside.song c.revert-inverse.new.song c.self.inside.standing.items
-    (record { edit = c.in-Some.field-0.edit; inverse = c.revert-inverse.result })
-    c.self.invariant.stands (rw (sym there) next.edit) c.revert-inverse.ensures.and_back
-    c.pop.new.self.items c.in-Some.field-0 refl in
-    rw (← c.self.view_is, c.in-Some.ensures.items, c.push_reserved.ensures.items) step
+    let kept = c.self.inside in
+    let was = c.pop.ensures.items
+    ∙ ap (λ (o : Option Done). c.pop.new.self.items ++ option_to_list o) c.in-Some.is in
+    let moved : Done = record { edit = c.in-Some.field-0.edit; inverse = c.revert-inverse.result } in
+    ap after_redo (sym c.self.view_is)
+    ∙ step_redo kept.song c.revert-inverse.new.song kept.standing kept.undone c.push_reserved.new.self c.pop.new.self c.in-Some.field-0 moved
+    c.self.invariant was c.revert-inverse.ensures.there refl c.revert-inverse.ensures.and_back c.push_reserved.ensures.items

@@ -1,6 +1,9 @@
-use Rattle.edit_history.proofs.KeptLaws.{song_is}
+use Rattle.std.proofs.Common.{ap, sym, ◌∙◌}
+use Rattle.edit_history.specs.History.{song_of}
+use Rattle.edit_history.proofs.SessionLaws.{kept_song}
 use Rattle.edit_history.proofs.session.Session.song.Goals as goal
 
 pub returns : goal.returns
 returns c =
-    rw (← c.self.view_is) (song_is _ c.self.inside.song c.self.inside.standing.items c.self.invariant.stands)
+    let kept = c.self.inside in
+    ap song_of (sym c.self.view_is) ∙ kept_song kept.song kept.standing kept.undone c.self.invariant
