@@ -1,9 +1,11 @@
 -- What forms on named bytes do.
-use Rattle.std.proofs.Common.{◌≡◌, ◌≢◌, ◌∙◌, ℕ, ◌+◌, ◌-◌, ◌*◌, ◌%◌, ◌<◌, List, [], ◌∷◌, refl, ap, sym, arith, nat_eq, nat_lt, nat_le, if◌then◌else◌}
+use Rattle.std.proofs.Common.{◌≡◌, ◌≢◌, ◌∙◌, ℕ, ◌+◌, ◌-◌, ◌*◌, ◌%◌, ◌<◌, List, [], ◌∷◌, refl, ap, sym, arith, nat_eq}
+use Rattle.std.proofs.Common.{nat_lt, nat_le, if◌then◌else◌}
 use Rattle.code_runs.specs.Runs.{put}
 use Rattle.code_runs.proofs.Laws.{put_same, put_other}
 use Rattle.cpu6502.specs.Registers.{one_if}
-use Rattle.blocks.specs.Words.{Cell, Operand, Const, HeldOperand, Plain, Step, Store, HeldPlace, Add, Sub, AddOn, SubOn, Equal, Less, Is}
+use Rattle.blocks.specs.Words.{Cell, Operand, Const, HeldOperand, Plain, Step, Store, HeldPlace, Add, Sub, AddOn, SubOn}
+use Rattle.blocks.specs.Words.{Equal, Less, Is}
 use Rattle.blocks.specs.Trees.{Tree, IfTree}
 use Rattle.blocks.specs.Desk.{Desk, Layout, cell_place, with_acc}
 use Rattle.blocks.specs.Steps.{operand_byte, compared, chained}

@@ -1,8 +1,10 @@
 -- The tree of a vector of blocks is that of its list, which a loop over it takes block by block.
-use Rattle.std.proofs.Common.{◌≡◌, ◌∙◌, ℕ, ◌+◌, ◌<◌, ◌&&◌, Bool, true, false, List, ◌∷◌, length, drop, get_or, refl, ap, sym, rules, arith, Vec, Global, min}
+use Rattle.std.proofs.Common.{◌≡◌, ◌∙◌, ℕ, ◌+◌, ◌<◌, ◌&&◌, Bool, true, false, List, ◌∷◌, length, drop, get_or, refl, ap}
+use Rattle.std.proofs.Common.{sym, rules, arith, Vec, Global, min}
 use Rattle.std.proofs.lemmas.List.{at_drop_more}
 use mathlib.Core.Former.{Count}
-use Rattle.blocks.specs.declared.block.Block.{Block, Row_of-Block, end_of-Block, more_of-Block, items-the_row-Block, the_lemmas}
+use Rattle.blocks.specs.declared.block.Block.{Block, Row_of-Block, end_of-Block, more_of-Block, items-the_row-Block}
+use Rattle.blocks.specs.declared.block.Block.{the_lemmas}
 use Rattle.blocks.specs.declared.block.Block.TheVariants.{Seq}
 use Rattle.blocks.specs.Trees.{Tree, ThenTree, row_tree, tree_of, tree_of_all}
 

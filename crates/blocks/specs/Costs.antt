@@ -1,7 +1,8 @@
 -- The greatest cycles of a tree: of a node's own lines, and of the whole with the parts that are kept. This is the
 -- project's own language of player code.
 use Rattle.std.specs.Prelude.{ℕ, ◌+◌, ◌*◌, Bool, max, if◌then◌else◌}
-use Rattle.blocks.specs.Trees.{Tree, ChainTree, NoneTree, ThenTree, IfTree, UntilTree, EachVoiceTree, WhenTree, FillTree}
+use Rattle.blocks.specs.Trees.{Tree, ChainTree, NoneTree, ThenTree, IfTree, UntilTree, EachVoiceTree, WhenTree}
+use Rattle.blocks.specs.Trees.{FillTree}
 use Rattle.blocks.specs.Shape.{steps_cost, set_cost}
 use Rattle.blocks.specs.Sizes.{size, if_cost, until_turn, voices_once, voices_turn, fill_once, fill_turn}
 

@@ -1,10 +1,13 @@
 -- The second rule of a sound tree: in an Until nothing but the loop itself writes the counter. This is the project's
 -- own language of player code.
 use Rattle.std.specs.Prelude.{ℕ, ◌+◌, ◌&&◌, ◌||◌, Bool, true, false, not, List, [], ◌∷◌, nat_eq, nat_lt, nat_le}
-use Rattle.blocks.specs.Words.{Cell, Var, VoiceVar, Place, HeldPlace, Register, VoiceRegister, Timer, Pointer, IntoY, Counted, HeldCounted, CountedY}
-use Rattle.blocks.specs.Words.{Step, Load, Store, Index, And, Or, Xor, Add, Sub, AddOn, SubOn, Double, Inc, Dec, HalveAt, HalveOn}
+use Rattle.blocks.specs.Words.{Cell, Var, VoiceVar, Place, HeldPlace, Register, VoiceRegister, Timer, Pointer, IntoY}
+use Rattle.blocks.specs.Words.{Counted, HeldCounted, CountedY}
+use Rattle.blocks.specs.Words.{Step, Load, Store, Index, And, Or, Xor, Add, Sub, AddOn, SubOn, Double, Inc, Dec}
+use Rattle.blocks.specs.Words.{HalveAt, HalveOn}
 use Rattle.blocks.specs.Words.{Counter, CounterVar, CounterY, Start, StartVar, StartRegister}
-use Rattle.blocks.specs.Trees.{Tree, ChainTree, NoneTree, ThenTree, IfTree, UntilTree, EachVoiceTree, WhenTree, FillTree}
+use Rattle.blocks.specs.Trees.{Tree, ChainTree, NoneTree, ThenTree, IfTree, UntilTree, EachVoiceTree, WhenTree}
+use Rattle.blocks.specs.Trees.{FillTree}
 
 -- whether a byte of the block's own may be the one under a label: a voice's byte has three
 abbrev pub may_be : ℕ → Cell → Bool

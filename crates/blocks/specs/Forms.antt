@@ -3,7 +3,8 @@
 use Rattle.std.specs.Prelude.{◌≡◌, ◌≢◌, ℕ, ◌+◌, ◌-◌, ◌*◌, ◌/◌, ◌%◌, ◌<◌, Bool, not, nat_eq, bit_and, if◌then◌else◌}
 use Rattle.cpu6502.specs.declared.memory.TheConstants.{MEMORY_SIZE}
 use Rattle.code_runs.specs.Runs.{put}
-use Rattle.blocks.specs.Words.{Cell, Operand, Const, HeldOperand, Place, HeldPlace, Register, VoiceRegister, Timer, Pointer, IntoY}
+use Rattle.blocks.specs.Words.{Cell, Operand, Const, HeldOperand, Place, HeldPlace, Register, VoiceRegister, Timer}
+use Rattle.blocks.specs.Words.{Pointer, IntoY}
 use Rattle.blocks.specs.Trees.{Tree}
 use Rattle.blocks.specs.Desk.{Desk, Layout, cell_place, sid_place, timer_place, pointer_place}
 use Rattle.blocks.specs.Steps.{operand_byte}

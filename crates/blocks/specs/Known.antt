@@ -1,10 +1,13 @@
 -- The third rule of a sound tree: a register is read only where each way from the beginning has set it, and not behind
 -- a When whose body writes it. This is the project's own language of player code.
 use Rattle.std.specs.Prelude.{◌&&◌, ◌||◌, Bool, true, false, not, List, [], ◌∷◌}
-use Rattle.blocks.specs.Words.{Summand, Plain, Entry, Source, Direct, Byte, FromY, Low, High, Place, HeldPlace, Register, VoiceRegister, Timer, Pointer, IntoY, Counted, HeldCounted, CountedY}
-use Rattle.blocks.specs.Words.{Step, Load, Store, Index, And, Or, Xor, Add, Sub, AddOn, SubOn, Double, Inc, Dec, HalveAt, HalveOn}
+use Rattle.blocks.specs.Words.{Summand, Plain, Entry, Source, Direct, Byte, FromY, Low, High, Place, HeldPlace}
+use Rattle.blocks.specs.Words.{Register, VoiceRegister, Timer, Pointer, IntoY, Counted, HeldCounted, CountedY}
+use Rattle.blocks.specs.Words.{Step, Load, Store, Index, And, Or, Xor, Add, Sub, AddOn, SubOn, Double, Inc, Dec}
+use Rattle.blocks.specs.Words.{HalveAt, HalveOn}
 use Rattle.blocks.specs.Words.{Condition, Zero, Minus, Carry, Equal, Less, YEqual, Test, Counter, CounterVar, CounterY}
-use Rattle.blocks.specs.Trees.{Tree, ChainTree, NoneTree, ThenTree, IfTree, UntilTree, EachVoiceTree, WhenTree, FillTree}
+use Rattle.blocks.specs.Trees.{Tree, ChainTree, NoneTree, ThenTree, IfTree, UntilTree, EachVoiceTree, WhenTree}
+use Rattle.blocks.specs.Trees.{FillTree}
 use Rattle.blocks.specs.Steps.{condition_of}
 
 -- a set of registers: A, Y, the two bytes of the pointer, the carry, and zero with minus

@@ -4,6 +4,7 @@ pub mod Trees
 pub mod Desk
 pub mod Steps
 pub mod Meaning
+pub mod Reads
 -- To believe: sound trees.
 pub mod Places
 pub mod Counters
@@ -18,6 +19,7 @@ pub mod StepLaws
 -- Claimed: steps, tests and blocks that are worked by hand.
 pub mod WorkedSteps
 pub mod WorkedBlocks
+pub mod WorkedReads
 -- Claimed: forms on named bytes.
 pub mod Forms
 -- Inner: the trees that they share.

@@ -1,8 +1,10 @@
 -- What a block means on the desk, kind by kind. This is the project's own language of player code.
 use Rattle.std.specs.Prelude.{ℕ, zero, suc, ◌+◌, ◌*◌, true, false, if◌then◌else◌}
 use Rattle.code_runs.specs.Runs.{put}
-use Rattle.blocks.specs.Words.{Test, HeldCounted, CountedY, Var, Counter, CounterVar, CounterY, Start, StartVar, StartRegister}
-use Rattle.blocks.specs.Trees.{Tree, ChainTree, NoneTree, ThenTree, IfTree, UntilTree, EachVoiceTree, WhenTree, FillTree}
+use Rattle.blocks.specs.Words.{Test, HeldCounted, CountedY, Var, Counter, CounterVar, CounterY, Start, StartVar}
+use Rattle.blocks.specs.Words.{StartRegister}
+use Rattle.blocks.specs.Trees.{Tree, ChainTree, NoneTree, ThenTree, IfTree, UntilTree, EachVoiceTree, WhenTree}
+use Rattle.blocks.specs.Trees.{FillTree}
 use Rattle.blocks.specs.Desk.{Desk, Layout, sid_place, with_acc, with_y, with_byte}
 use Rattle.blocks.specs.Steps.{chained, tested, is_met, counted, one_less}
 
@@ -27,8 +29,11 @@ turns (suc n) test first turn desk =
     by_test test (λ done. done) (λ more. turns n test first turn (turn more)) (first desk)
 
 -- what is done for a voice: A is 7 times its number, from 0, and shown, and there is no carry
+abbrev pub voice_begun : ℕ → Desk → Desk
+voice_begun voice desk = record (with_acc (7 * voice) desk) { carry = false }
+
 abbrev pub for_voice : ℕ → (ℕ → Desk → Desk) → Desk → Desk
-for_voice voice body desk = body voice (record (with_acc (7 * voice) desk) { carry = false })
+for_voice voice body desk = body voice (voice_begun voice desk)
 
 -- behind the third voice A is 21, which was compared with 21
 abbrev pub after_voices : Desk → Desk

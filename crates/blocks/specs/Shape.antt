@@ -1,8 +1,11 @@
 -- Numbers of a step, a test and a branch: their instructions, their bytes and their greatest cycles. Source: the MOS
 -- 6502 programming manual; a byte of the block's own stands outside page 0, and the pointer inside.
 use Rattle.std.specs.Prelude.{ℕ, ◌+◌, Bool, List, [], ◌∷◌, if◌then◌else◌}
-use Rattle.blocks.specs.Words.{Cell, Var, VoiceVar, Operand, Const, HeldOperand, Summand, Plain, Entry, Source, Direct, Byte, FromY, Place, HeldPlace, Register, VoiceRegister, Timer, Pointer, IntoY, Counted, HeldCounted, CountedY}
-use Rattle.blocks.specs.Words.{Step, Load, Store, Index, And, Or, Xor, Add, Sub, AddOn, SubOn, Double, Inc, Dec, HalveAt, HalveOn}
+use Rattle.blocks.specs.Words.{Cell, Var, VoiceVar, Operand, Const, HeldOperand, Summand, Plain, Entry, Source, Direct}
+use Rattle.blocks.specs.Words.{Byte, FromY, Place, HeldPlace, Register, VoiceRegister, Timer, Pointer, IntoY, Counted}
+use Rattle.blocks.specs.Words.{HeldCounted, CountedY}
+use Rattle.blocks.specs.Words.{Step, Load, Store, Index, And, Or, Xor, Add, Sub, AddOn, SubOn, Double, Inc, Dec}
+use Rattle.blocks.specs.Words.{HalveAt, HalveOn}
 use Rattle.blocks.specs.Words.{Condition, Zero, Minus, Carry, Equal, Less, YEqual, Test, Counter, CounterVar, CounterY}
 use Rattle.blocks.specs.Steps.{condition_of}
 

@@ -2,8 +2,10 @@
 -- labels, and at most how many instructions are run. This is the project's own language of player code.
 use Rattle.std.specs.Prelude.{ℕ, ◌+◌, ◌*◌, ◌&&◌, Bool, true, false, List, [], ◌∷◌, max, nat_eq, nat_lt, if◌then◌else◌}
 use Rattle.blocks.specs.Words.{Step, Test, Counter}
-use Rattle.blocks.specs.Trees.{Tree, ChainTree, NoneTree, ThenTree, IfTree, UntilTree, EachVoiceTree, WhenTree, FillTree}
-use Rattle.blocks.specs.Shape.{Cost, cost, nothing, plus, steps_cost, test_cost, branch_cost, jump_cost, set_cost, down_cost}
+use Rattle.blocks.specs.Trees.{Tree, ChainTree, NoneTree, ThenTree, IfTree, UntilTree, EachVoiceTree, WhenTree}
+use Rattle.blocks.specs.Trees.{FillTree}
+use Rattle.blocks.specs.Shape.{Cost, cost, nothing, plus, steps_cost, test_cost, branch_cost, jump_cost, set_cost}
+use Rattle.blocks.specs.Shape.{down_cost}
 
 -- whether there are no steps
 abbrev pub no_steps : List Step → Bool

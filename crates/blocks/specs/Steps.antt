@@ -1,12 +1,17 @@
 -- What each step and each test does on the desk, in the terms of the 6502's own instructions. Source: the MOS 6502
 -- programming manual.
-use Rattle.std.specs.Prelude.{ℕ, ◌+◌, ◌-◌, ◌*◌, ◌/◌, ◌%◌, Bool, not, List, [], ◌∷◌, nat_eq, nat_le, bit_and, bit_or, bit_xor}
+use Rattle.std.specs.Prelude.{ℕ, ◌+◌, ◌-◌, ◌*◌, ◌/◌, ◌%◌, Bool, not, List, [], ◌∷◌, nat_eq, nat_le, bit_and, bit_or}
+use Rattle.std.specs.Prelude.{bit_xor}
 use Rattle.cpu6502.specs.declared.memory.TheConstants.{MEMORY_SIZE}
 use Rattle.cpu6502.specs.Registers.{one_if}
-use Rattle.blocks.specs.Words.{Operand, Const, HeldOperand, Summand, Plain, Entry, Source, Direct, Byte, FromY, Place, HeldPlace, Register, VoiceRegister, Timer, Pointer, IntoY, Counted, HeldCounted, CountedY}
-use Rattle.blocks.specs.Words.{Step, Load, Store, Index, And, Or, Xor, Add, Sub, AddOn, SubOn, Double, Inc, Dec, HalveAt, HalveOn}
+use Rattle.blocks.specs.Words.{Operand, Const, HeldOperand, Summand, Plain, Entry, Source, Direct, Byte, FromY, Place}
+use Rattle.blocks.specs.Words.{HeldPlace, Register, VoiceRegister, Timer, Pointer, IntoY, Counted, HeldCounted}
+use Rattle.blocks.specs.Words.{CountedY}
+use Rattle.blocks.specs.Words.{Step, Load, Store, Index, And, Or, Xor, Add, Sub, AddOn, SubOn, Double, Inc, Dec}
+use Rattle.blocks.specs.Words.{HalveAt, HalveOn}
 use Rattle.blocks.specs.Words.{Condition, Zero, Minus, Carry, Equal, Less, YEqual, Test, Is, Not}
-use Rattle.blocks.specs.Desk.{Desk, Layout, cell_place, sid_place, timer_place, pointer_place, shown, with_acc, with_y, with_byte, with_shown_byte}
+use Rattle.blocks.specs.Desk.{Desk, Layout, cell_place, sid_place, timer_place, pointer_place, shown, with_acc, with_y}
+use Rattle.blocks.specs.Desk.{with_byte, with_shown_byte}
 
 -- the byte that an operand is
 abbrev pub operand_byte : Layout → ℕ → Operand → Desk → ℕ

@@ -1,9 +1,12 @@
 -- Blocks that are worked by hand: what they mean, whether they are sound, and their numbers.
 use Rattle.std.specs.Prelude.{◌≡◌, ℕ, Bool, true, false, [], ◌∷◌, replicate}
 use Rattle.code_runs.specs.Runs.{put}
-use Rattle.blocks.specs.Words.{Var, VoiceVar, Const, HeldOperand, Plain, Direct, HeldPlace, Register, VoiceRegister, Pointer, Low, High, IntoY, HeldCounted, CountedY, Byte}
-use Rattle.blocks.specs.Words.{Step, Load, Store, Sub, Inc, Double, Zero, Carry, Equal, Is, CounterVar, CounterY, StartVar, StartRegister}
-use Rattle.blocks.specs.Trees.{Tree, ChainTree, NoneTree, ThenTree, IfTree, UntilTree, EachVoiceTree, WhenTree, FillTree}
+use Rattle.blocks.specs.Words.{Var, VoiceVar, Const, HeldOperand, Plain, Direct, HeldPlace, Register, VoiceRegister}
+use Rattle.blocks.specs.Words.{Pointer, Low, High, IntoY, HeldCounted, CountedY, Byte}
+use Rattle.blocks.specs.Words.{Step, Load, Store, Sub, Inc, Double, Zero, Carry, Equal, Is, CounterVar, CounterY}
+use Rattle.blocks.specs.Words.{StartVar, StartRegister}
+use Rattle.blocks.specs.Trees.{Tree, ChainTree, NoneTree, ThenTree, IfTree, UntilTree, EachVoiceTree, WhenTree}
+use Rattle.blocks.specs.Trees.{FillTree}
 use Rattle.blocks.specs.Desk.{Desk, Layout}
 use Rattle.blocks.specs.Meaning.{meaning}
 use Rattle.blocks.specs.Sound.{is_sound, is_sound_in}

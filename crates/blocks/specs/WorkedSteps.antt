@@ -2,8 +2,10 @@
 -- and come in, and places that wrap.
 use Rattle.std.specs.Prelude.{◌≡◌, ℕ, ◌+◌, Bool, true, false, []}
 use Rattle.code_runs.specs.Runs.{put}
-use Rattle.blocks.specs.Words.{Var, VoiceVar, Const, HeldOperand, Plain, Entry, Direct, Byte, FromY, Low, High, HeldPlace, Register, VoiceRegister, Timer, Pointer, IntoY, HeldCounted, CountedY}
-use Rattle.blocks.specs.Words.{Step, Load, Store, Index, And, Or, Xor, Add, Sub, AddOn, SubOn, Double, Inc, Dec, HalveAt, HalveOn}
+use Rattle.blocks.specs.Words.{Var, VoiceVar, Const, HeldOperand, Plain, Entry, Direct, Byte, FromY, Low, High}
+use Rattle.blocks.specs.Words.{HeldPlace, Register, VoiceRegister, Timer, Pointer, IntoY, HeldCounted, CountedY}
+use Rattle.blocks.specs.Words.{Step, Load, Store, Index, And, Or, Xor, Add, Sub, AddOn, SubOn, Double, Inc, Dec}
+use Rattle.blocks.specs.Words.{HalveAt, HalveOn}
 use Rattle.blocks.specs.Words.{Zero, Minus, Carry, Equal, Less, YEqual, Test, Is, Not}
 use Rattle.blocks.specs.Desk.{Desk, Layout}
 use Rattle.blocks.specs.Steps.{stepped, asked, tested, is_met}

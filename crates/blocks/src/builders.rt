@@ -1,7 +1,8 @@
 //! Builders: each answers a block of the tree that it names.
 
 ghost use Rattle.std.specs.Prelude.{◌≡◌, IfOk, map};
-ghost use Rattle.blocks.specs.Trees.{tree_of, tree_of_all, ChainTree, IfTree, UntilTree, EachVoiceTree, WhenTree, FillTree};
+ghost use Rattle.blocks.specs.Trees.{tree_of, tree_of_all, ChainTree, IfTree, UntilTree, EachVoiceTree, WhenTree};
+ghost use Rattle.blocks.specs.Trees.{FillTree};
 
 use crate::block::{Block, Counter, Start};
 use crate::steps::{Step, Test};

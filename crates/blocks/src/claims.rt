@@ -1,8 +1,12 @@
 //! Facts about the definitions, each the contract of a function that does nothing.
 
 ghost use Rattle.blocks.specs.StepLaws.{DifferencesAreOfBytes, TestsAreOfBytes};
-ghost use Rattle.blocks.specs.WorkedSteps.{LoadsAreWorked, StoresAreWorked, SumsAreWorked, BitsAreWorked, CountsAreWorked, HalvesAreWorked, TestsAreWorked, ComparisonsAreWorked};
-ghost use Rattle.blocks.specs.WorkedBlocks.{LoudIsWorked, DownIsWorked, TwiceIsWorked, GatesAreWorked, PartIsWorked, FillsAreWorked, SidesAreWorked, LoopsAreWorked, KnownIsWorked, CountersAreWorked};
+ghost use Rattle.blocks.specs.WorkedReads.{EntriesAreWorked, ByPointerIsWorked};
+ghost use Rattle.blocks.specs.WorkedSteps.{LoadsAreWorked, StoresAreWorked, SumsAreWorked, BitsAreWorked};
+ghost use Rattle.blocks.specs.WorkedSteps.{CountsAreWorked, HalvesAreWorked, TestsAreWorked, ComparisonsAreWorked};
+ghost use Rattle.blocks.specs.WorkedBlocks.{LoudIsWorked, DownIsWorked, TwiceIsWorked, GatesAreWorked, PartIsWorked};
+ghost use Rattle.blocks.specs.WorkedBlocks.{FillsAreWorked, SidesAreWorked, LoopsAreWorked, KnownIsWorked};
+ghost use Rattle.blocks.specs.WorkedBlocks.{CountersAreWorked};
 
 /// What differences and tests are as numbers, where bytes are bytes.
 pub fn steps_are_of_bytes()
@@ -34,4 +38,10 @@ pub fn worked_blocks()
     ensures loops { LoopsAreWorked }
     ensures known { KnownIsWorked }
     ensures counters { CountersAreWorked }
+{}
+
+/// What blocks read by Y, worked by hand.
+pub fn worked_reads()
+    ensures entries { EntriesAreWorked }
+    ensures by_pointer { ByPointerIsWorked }
 {}

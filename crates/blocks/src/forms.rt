@@ -3,7 +3,8 @@
 ghost use Rattle.std.specs.Prelude.{◌≡◌, IfOk, nat_eq, nat_lt, bit_and, bit_or, bit_xor};
 ghost use Rattle.blocks.specs.Trees.{tree_of};
 ghost use Rattle.blocks.specs.FormTrees.{changed_tree, word_tree};
-ghost use Rattle.blocks.specs.Forms.{Moves, Changes, byte_sum, byte_difference, ChangesWord, word_sum, word_difference, HalvesWord, Fetches, FetchesFar, Chooses, share_a_bit};
+ghost use Rattle.blocks.specs.Forms.{Moves, Changes, byte_sum, byte_difference, ChangesWord, word_sum, word_difference};
+ghost use Rattle.blocks.specs.Forms.{HalvesWord, Fetches, FetchesFar, Chooses, share_a_bit};
 
 use crate::block::Block;
 use crate::builders::{chain, choose};

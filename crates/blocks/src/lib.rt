@@ -6,7 +6,7 @@
 //! definitions say what a tree means, when it is sound, and how many lines, bytes, labels, instructions and cycles its
 //! shape has.
 //!
-//! It stands on `base` for the refusal for want of memory, and on the definitions of `cpu6502` for the machine's
+//! It stands on `base` for the refusal when out of memory, and on the definitions of `cpu6502` for the machine's
 //! numbers. See `docs/blocks.md`.
 #![tactic(auto)]
 

@@ -1,22 +1,31 @@
 -- What the lines of steps and of tests do wherever they stand.
 use Rattle.std.proofs.Common.{◌≡◌, ℕ, ◌+◌, ◌-◌, ◌≤◌, Bool, false, true, List, [], ◌∷◌, refl, sym, ap, arith, add-zero}
 use Rattle.cpu6502.specs.declared.mnemonic.Mnemonic.{Mnemonic}
-use Rattle.cpu6502.specs.declared.mnemonic.Mnemonic.TheVariants.{Adc, And as AndA, Clc, Cmp, Dec as DecByte, Dey, Eor, Inc as IncByte, Iny, Lda, Ldy, Lsr, Ora, Ror, Sbc, Sec}
-use Rattle.code_runs.proofs.Laws.{goes_once, puts_once, reads_immediate, works_on_a, load_steps, logic_steps, compare_steps, shift_steps, flag_steps}
+use Rattle.cpu6502.specs.declared.mnemonic.Mnemonic.TheVariants.{Adc, And as AndA, Clc, Cmp, Dec as DecByte, Dey, Eor}
+use Rattle.cpu6502.specs.declared.mnemonic.Mnemonic.TheVariants.{Inc as IncByte, Iny, Lda, Ldy, Lsr, Ora, Ror, Sbc, Sec}
+use Rattle.code_runs.proofs.Laws.{goes_once, puts_once, reads_immediate, works_on_a, load_steps, logic_steps}
+use Rattle.code_runs.proofs.Laws.{compare_steps, shift_steps, flag_steps}
 use Rattle.asm6502.specs.Lines.{item_size, size_of}
 use Rattle.asm6502.specs.Standing.{LinesAt}
 use Rattle.asm6502.proofs.Laws.{size_of-append}
-use Rattle.lowering.specs.Words.{Cell, Var, VoiceVar, Operand, Const, HeldOperand, Summand, Plain, Entry, Source, Direct, Byte, FromY, Place, HeldPlace, Register, VoiceRegister, Timer, Pointer, IntoY, Counted, HeldCounted, CountedY}
-use Rattle.lowering.specs.Words.{Step, Load, Store, Index, And, Or, Xor, Add, Sub, AddOn, SubOn, Double, Inc, Dec, HalveAt, HalveOn}
+use Rattle.lowering.specs.Words.{Cell, Var, VoiceVar, Operand, Const, HeldOperand, Summand, Plain, Entry, Source}
+use Rattle.lowering.specs.Words.{Direct, Byte, FromY, Place, HeldPlace, Register, VoiceRegister, Timer, Pointer, IntoY}
+use Rattle.lowering.specs.Words.{Counted, HeldCounted, CountedY}
+use Rattle.lowering.specs.Words.{Step, Load, Store, Index, And, Or, Xor, Add, Sub, AddOn, SubOn, Double, Inc, Dec}
+use Rattle.lowering.specs.Words.{HalveAt, HalveOn}
 use Rattle.lowering.specs.Words.{Condition, Zero, Minus, Carry, Equal, Less, YEqual, Test}
 use Rattle.blocks.specs.Desk.{Desk}
 use Rattle.blocks.specs.Steps.{stepped, chained, asked, tested, with_sum, condition_of}
-use Rattle.blocks.specs.Shape.{operand_cost, summand_cost, source_cost, place_cost, change_cost, counted_cost, step_cost, steps_cost, condition_cost, test_cost}
-use Rattle.lowering.specs.Instructions.{cell_line, operand_line, summand_line, source_line, place_line, counted_line, step_lines, chain_lines, condition_lines, test_lines}
+use Rattle.blocks.specs.Shape.{operand_cost, summand_cost, source_cost, place_cost, change_cost, counted_cost}
+use Rattle.blocks.specs.Shape.{step_cost, steps_cost, condition_cost, test_cost}
+use Rattle.lowering.specs.Instructions.{cell_line, operand_line, summand_line, source_line, place_line, counted_line}
+use Rattle.lowering.specs.Instructions.{step_lines, chain_lines, condition_lines, test_lines}
 use Rattle.lowering.specs.Laid.{FoundStep, FoundSteps, FoundCondition}
 use Rattle.lowering.specs.Does.{Comes}
-use Rattle.lowering.proofs.Reading.{small, comes_on, comes_in, comes_to, comes_with, comes_here, bare_works, cell_works, operand_reads, summand_any_carry}
-use Rattle.lowering.proofs.Stepping.{gone, operand_one, summand_one, load_does, store_does, inc_does, dec_does, adc_does, sbc_does}
+use Rattle.lowering.proofs.Reading.{small, comes_on, comes_in, comes_to, comes_with, comes_here, bare_works, cell_works}
+use Rattle.lowering.proofs.Reading.{operand_reads, summand_any_carry}
+use Rattle.lowering.proofs.Stepping.{gone, operand_one, summand_one, load_does, store_does, inc_does, dec_does}
+use Rattle.lowering.proofs.Stepping.{adc_does, sbc_does}
 use Rattle.lowering.proofs.Ways.{Ground, Guarded, LinesDo, append_do}
 
 -- ---- the bytes of lines

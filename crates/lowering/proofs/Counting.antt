@@ -1,19 +1,27 @@
 -- A counter that a tree leaves alone has the same number behind it.
-use Rattle.std.proofs.Common.{◌≡◌, ◌≢◌, ℕ, zero, suc, ◌+◌, ◌*◌, ◌<◌, ◌≤◌, ◌&&◌, ◌||◌, Bool, true, false, not, nat_eq, nat_le, nat_lt, if◌then◌else◌, List, [], ◌∷◌, refl, ap, ◌∙◌, arith}
+use Rattle.std.proofs.Common.{◌≡◌, ◌≢◌, ℕ, zero, suc, ◌+◌, ◌*◌, ◌<◌, ◌≤◌, ◌&&◌, ◌||◌, Bool, true, false, not, nat_eq}
+use Rattle.std.proofs.Common.{nat_le, nat_lt, if◌then◌else◌, List, [], ◌∷◌, refl, ap, ◌∙◌, arith}
 use Rattle.std.proofs.lemmas.Bool.{and_parts, eqb-false, ltb-false, leb-false}
 use Rattle.code_runs.specs.Runs.{put}
 use Rattle.code_runs.proofs.Laws.{put_other}
-use Rattle.lowering.specs.Words.{Cell, Var, VoiceVar, Place, HeldPlace, Register, VoiceRegister, Timer, Pointer, IntoY, Low, High, HeldCounted, CountedY}
-use Rattle.lowering.specs.Words.{Step, Load, Store, Index, And, Or, Xor, Add, Sub, AddOn, SubOn, Double, Inc, Dec, HalveAt, HalveOn}
-use Rattle.lowering.specs.Words.{Condition, Zero, Minus, Carry, Equal, Less, YEqual, Test, Counter, CounterVar, CounterY, Start, StartVar, StartRegister}
-use Rattle.blocks.specs.Trees.{Tree, ChainTree, NoneTree, ThenTree, IfTree, UntilTree, EachVoiceTree, WhenTree, FillTree}
+use Rattle.lowering.specs.Words.{Cell, Var, VoiceVar, Place, HeldPlace, Register, VoiceRegister, Timer, Pointer, IntoY}
+use Rattle.lowering.specs.Words.{Low, High, HeldCounted, CountedY}
+use Rattle.lowering.specs.Words.{Step, Load, Store, Index, And, Or, Xor, Add, Sub, AddOn, SubOn, Double, Inc, Dec}
+use Rattle.lowering.specs.Words.{HalveAt, HalveOn}
+use Rattle.lowering.specs.Words.{Condition, Zero, Minus, Carry, Equal, Less, YEqual, Test, Counter, CounterVar}
+use Rattle.lowering.specs.Words.{CounterY, Start, StartVar, StartRegister}
+use Rattle.blocks.specs.Trees.{Tree, ChainTree, NoneTree, ThenTree, IfTree, UntilTree, EachVoiceTree, WhenTree}
+use Rattle.blocks.specs.Trees.{FillTree}
 use Rattle.blocks.specs.Desk.{Desk, Layout, cell_place, sid_place}
 use Rattle.blocks.specs.Steps.{stepped, chained, asked, tested, is_met, condition_of}
 use Rattle.blocks.specs.Meaning.{meaning, by_test, turns, counter_set, counter_down, for_voice, fill_place, filled}
 use Rattle.blocks.specs.Places.{is_cell, is_place, is_step, are_steps, is_condition, is_counter, is_count, is_placed}
-use Rattle.blocks.specs.Counters.{cell_leaves, y_leaves, place_leaves, step_leaves, steps_leave, counter_leaves, fill_leaves, tree_leaves}
+use Rattle.blocks.specs.Counters.{cell_leaves, y_leaves, place_leaves, step_leaves, steps_leave, counter_leaves}
+use Rattle.blocks.specs.Counters.{fill_leaves, tree_leaves}
+use Rattle.lowering.proofs.Inside.{Inside}
 use Rattle.lowering.specs.Laid.{counter_value}
-use Rattle.lowering.specs.Places.{Names, names_cell, names_place, names_step, names_steps, names_condition, names_counter, names_fill, names_tree, InPlace}
+use Rattle.lowering.specs.Places.{Names, names_cell, names_place, names_step, names_steps, names_condition}
+use Rattle.lowering.specs.Places.{names_counter, names_fill, names_tree}
 
 -- inside an EachVoice the voice is one of three
 abbrev pub Voiced : Bool → ℕ → Type 0
@@ -55,7 +63,7 @@ none_of false false true e = absurd (cc)
 none_of false false false e = (refl, refl, refl)
 
 -- a byte of the block's own that a counter is left alone by is elsewhere
-cell_elsewhere : (layout : Layout) (names : Names) (low high : ℕ) → InPlace layout names low high → (counter : Counter) →
+cell_elsewhere : (layout : Layout) (names : Names) (low high : ℕ) → Inside layout names low high → (counter : Counter) →
     names_counter names counter ≡ true → (in_voices : Bool) (voice : ℕ) → Voiced in_voices voice → (cell : Cell) →
     is_cell in_voices cell ≡ true → names_cell names cell ≡ true → cell_leaves counter cell ≡ true →
     Elsewhere layout counter (cell_place layout voice cell)
@@ -79,19 +87,19 @@ cell_elsewhere layout names low high inside (CounterVar label) own in_voices voi
     three (suc (suc (suc n))) few other label a b c e = omega arith
 
 -- so are registers, the timer and the pointer
-high_elsewhere : (layout : Layout) (names : Names) (low high : ℕ) → InPlace layout names low high → (counter : Counter) →
+high_elsewhere : (layout : Layout) (names : Names) (low high : ℕ) → Inside layout names low high → (counter : Counter) →
     names_counter names counter ≡ true → (place : ℕ) → 0xD000 ≤ place → Elsewhere layout counter place
 high_elsewhere layout names low high inside (CounterVar label) own place above =
     let under = inside.own_high label own in λ same. omega arith
 high_elsewhere layout names low high inside CounterY own place above = tt
 
-low_elsewhere : (layout : Layout) (names : Names) (low high : ℕ) → InPlace layout names low high → (counter : Counter) →
+low_elsewhere : (layout : Layout) (names : Names) (low high : ℕ) → Inside layout names low high → (counter : Counter) →
     names_counter names counter ≡ true → (place : ℕ) → place < 256 → Elsewhere layout counter place
 low_elsewhere layout names low high inside (CounterVar label) own place under =
     let above = inside.own_low label own in λ same. omega arith
 low_elsewhere layout names low high inside CounterY own place under = tt
 
-place_keeps : (layout : Layout) (names : Names) (low high : ℕ) → InPlace layout names low high → (counter : Counter) →
+place_keeps : (layout : Layout) (names : Names) (low high : ℕ) → Inside layout names low high → (counter : Counter) →
     names_counter names counter ≡ true → (in_voices : Bool) (voice : ℕ) → Voiced in_voices voice → (place : Place) →
     is_place in_voices place ≡ true → names_place names place ≡ true → place_leaves counter place ≡ true →
     (desk : Desk) →
@@ -123,7 +131,7 @@ place_keeps layout names low high inside counter own in_voices voice voiced (Poi
 place_keeps layout names low high inside counter own in_voices voice voiced IntoY is named leaves desk =
     y_other layout counter desk _ refl leaves
 
-step_keeps : (layout : Layout) (names : Names) (low high : ℕ) → InPlace layout names low high → (counter : Counter) →
+step_keeps : (layout : Layout) (names : Names) (low high : ℕ) → Inside layout names low high → (counter : Counter) →
     names_counter names counter ≡ true → (in_voices : Bool) (voice : ℕ) → Voiced in_voices voice → (step : Step) →
     is_step in_voices step ≡ true → names_step names step ≡ true → step_leaves counter step ≡ true → (desk : Desk) →
     counter_value layout counter (stepped layout voice step desk) ≡ counter_value layout counter desk
@@ -166,7 +174,7 @@ step_keeps layout names low high inside counter own iv voice voiced (HalveOn cel
     put_leaves layout counter desk _ (cell_place layout voice cell) _ refl refl
     (cell_elsewhere layout names low high inside counter own iv voice voiced cell is named leaves)
 
-pub steps_keep : (layout : Layout) (names : Names) (low high : ℕ) → InPlace layout names low high → (counter : Counter) →
+pub steps_keep : (layout : Layout) (names : Names) (low high : ℕ) → Inside layout names low high → (counter : Counter) →
     names_counter names counter ≡ true → (in_voices : Bool) (voice : ℕ) → Voiced in_voices voice →
     (steps : List Step) → are_steps in_voices steps ≡ true → names_steps names steps ≡ true →
     steps_leave counter steps ≡ true → (desk : Desk) →
@@ -190,7 +198,7 @@ asked_keeps layout counter voice (Equal operand) desk = same_leaves layout count
 asked_keeps layout counter voice (Less operand) desk = same_leaves layout counter desk _ refl refl
 asked_keeps layout counter voice (YEqual number) desk = same_leaves layout counter desk _ refl refl
 
-pub tested_keeps : (layout : Layout) (names : Names) (low high : ℕ) → InPlace layout names low high →
+pub tested_keeps : (layout : Layout) (names : Names) (low high : ℕ) → Inside layout names low high →
     (counter : Counter) → names_counter names counter ≡ true → (in_voices : Bool) (voice : ℕ) → Voiced in_voices voice →
     (steps : List Step) (test : Test) → are_steps in_voices steps ≡ true → names_steps names steps ≡ true →
     steps_leave counter steps ≡ true → (desk : Desk) →
@@ -202,7 +210,7 @@ tested_keeps layout names low high inside counter own iv voice voiced steps test
 -- ---- trees
 
 -- another counter
-set_keeps : (layout : Layout) (names : Names) (low high : ℕ) → InPlace layout names low high → (counter other : Counter) →
+set_keeps : (layout : Layout) (names : Names) (low high : ℕ) → Inside layout names low high → (counter other : Counter) →
     names_counter names counter ≡ true → names_counter names other ≡ true → counter_leaves counter other ≡ true →
     (count : ℕ) (desk : Desk) →
     counter_value layout counter (counter_set layout other count desk) ≡ counter_value layout counter desk
@@ -213,7 +221,7 @@ set_keeps layout names low high inside (CounterVar label) CounterY own named lea
 set_keeps layout names low high inside CounterY (CounterVar other) own named leaves count desk = refl
 set_keeps layout names low high inside CounterY CounterY own named leaves count desk = absurd (cc)
 
-down_keeps : (layout : Layout) (names : Names) (low high : ℕ) → InPlace layout names low high →
+down_keeps : (layout : Layout) (names : Names) (low high : ℕ) → Inside layout names low high →
     (counter other : Counter) → names_counter names counter ≡ true → names_counter names other ≡ true →
     counter_leaves counter other ≡ true → (desk : Desk) →
     counter_value layout counter (counter_down layout other desk) ≡ counter_value layout counter desk
@@ -251,7 +259,7 @@ filled_other place (suc n) at q apart =
     filled_other place n (put at (place n) 0) q (λ k few. apart k (omega arith))
     ∙ put_other at (place n) 0 q (apart n (omega arith))
 
-fill_keeps : (layout : Layout) (names : Names) (low high : ℕ) → InPlace layout names low high → (counter : Counter) →
+fill_keeps : (layout : Layout) (names : Names) (low high : ℕ) → Inside layout names low high → (counter : Counter) →
     names_counter names counter ≡ true → (start : Start) (count : ℕ) → names_fill names start count ≡ true →
     fill_leaves counter start count ≡ true → (at : ℕ → ℕ) (desk after : Desk) →
     after.at ≡ filled (fill_place layout start) count desk.at →
@@ -282,7 +290,7 @@ part_keeps layout counter true one desk e = e
 part_keeps layout counter false one desk e = refl
 
 -- a tree that leaves a counter alone
-pub tree_keeps : (layout : Layout) (names : Names) (low high : ℕ) → InPlace layout names low high → (counter : Counter) →
+pub tree_keeps : (layout : Layout) (names : Names) (low high : ℕ) → Inside layout names low high → (counter : Counter) →
     names_counter names counter ≡ true → (in_voices in_when : Bool) (voice : ℕ) → Voiced in_voices voice →
     (tree : Tree) → is_placed in_voices in_when tree ≡ true → names_tree names tree ≡ true →
     tree_leaves counter tree ≡ true → (desk : Desk) →

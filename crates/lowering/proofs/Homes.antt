@@ -1,9 +1,12 @@
 -- The lines of a tree are at home in any listing.
-use Rattle.std.proofs.Common.{◌≡◌, ℕ, ◌+◌, ◌≤◌, ◌&&◌, Bool, IsTrue, true, false, nat_lt, List, [], ◌∷◌, ◌++◌, Some, None, refl, sym, ap, subst, ◌∙◌, inl, arith}
+use Rattle.std.proofs.Common.{◌≡◌, ℕ, ◌+◌, ◌≤◌, ◌&&◌, Bool, IsTrue, true, false, nat_lt, List, [], ◌∷◌, ◌++◌, Some}
+use Rattle.std.proofs.Common.{None, refl, sym, ap, subst, ◌∙◌, inl, arith}
 use Rattle.std.specs.Option.{is_some}
 use Rattle.std.proofs.lemmas.Bool.{and_parts, lt-ltb}
 use Rattle.cpu6502.specs.declared.mnemonic.Mnemonic.{Mnemonic}
-use Rattle.cpu6502.specs.declared.mnemonic.Mnemonic.TheVariants.{Adc, And as AndA, Clc, Cmp, Dec as DecByte, Dey, Eor, Inc as IncByte, Iny, Lda, Ldy, Lsr, Ora, Ror, Sbc, Sec, Sta}
+use Rattle.cpu6502.specs.declared.mnemonic.Mnemonic.TheVariants.{Adc, And as AndA, Clc, Cmp, Dec as DecByte, Dey, Eor}
+use Rattle.cpu6502.specs.declared.mnemonic.Mnemonic.TheVariants.{Inc as IncByte, Iny, Lda, Ldy, Lsr, Ora, Ror, Sbc, Sec}
+use Rattle.cpu6502.specs.declared.mnemonic.Mnemonic.TheVariants.{Sta}
 use Rattle.cpu6502.specs.declared.mnemonic.Mode.{Mode}
 use Rattle.cpu6502.specs.declared.mnemonic.Mode.TheVariants.{Implied, Immediate, Absolute, AbsoluteX, AbsoluteY}
 use Rattle.cpu6502.specs.Encoding.{opcode_of}
@@ -12,12 +15,17 @@ use Rattle.asm6502.specs.declared.lines.Line.{Line}
 use Rattle.asm6502.specs.Lines.{label_used, is_sound, is_no_part}
 use Rattle.asm6502.specs.Stretches.{branch_of, IsAtHome, AtHome}
 use Rattle.asm6502.proofs.Laws.{homes_append}
-use Rattle.lowering.specs.Words.{Cell, Var, VoiceVar, Operand, Const, HeldOperand, Summand, Plain, Entry, Source, Direct, Byte, FromY, Place, HeldPlace, Register, VoiceRegister, Timer, Pointer, IntoY, Counted, HeldCounted, CountedY, Low, High}
-use Rattle.lowering.specs.Words.{Step, Load, Store, Index, And, Or, Xor, Add, Sub, AddOn, SubOn, Double, Inc, Dec, HalveAt, HalveOn, Condition, Zero, Minus, Carry, Equal, Less, YEqual, Test}
+use Rattle.lowering.specs.Words.{Cell, Var, VoiceVar, Operand, Const, HeldOperand, Summand, Plain, Entry, Source}
+use Rattle.lowering.specs.Words.{Direct, Byte, FromY, Place, HeldPlace, Register, VoiceRegister, Timer, Pointer, IntoY}
+use Rattle.lowering.specs.Words.{Counted, HeldCounted, CountedY, Low, High}
+use Rattle.lowering.specs.Words.{Step, Load, Store, Index, And, Or, Xor, Add, Sub, AddOn, SubOn, Double, Inc, Dec}
+use Rattle.lowering.specs.Words.{HalveAt, HalveOn, Condition, Zero, Minus, Carry, Equal, Less, YEqual, Test}
 use Rattle.blocks.specs.Places.{is_operand, is_summand, is_source, is_place, is_step, are_steps, is_condition}
 use Rattle.blocks.specs.Steps.{condition_of}
-use Rattle.lowering.specs.Instructions.{code, name, cell_line, operand_line, summand_line, source_line, place_line, counted_line, step_lines, chain_lines, condition_lines, test_lines}
-use Rattle.lowering.specs.Uses.{uses_cell, uses_operand, uses_summand, uses_source, uses_place, uses_counted, uses_step, uses_steps, uses_condition}
+use Rattle.lowering.specs.Instructions.{code, name, cell_line, operand_line, summand_line, source_line, place_line}
+use Rattle.lowering.specs.Instructions.{counted_line, step_lines, chain_lines, condition_lines, test_lines}
+use Rattle.lowering.specs.Uses.{uses_cell, uses_operand, uses_summand, uses_source, uses_place, uses_counted, uses_step}
+use Rattle.lowering.specs.Uses.{uses_steps, uses_condition}
 
 -- a line that uses no label but others, and branches to none
 pub record Plainly (others : ℕ → Bool) (line : Line) : Type 0 where

@@ -1,5 +1,6 @@
 -- The lines of a tree are at home in any listing: kind by kind.
-use Rattle.std.proofs.Common.{◌≡◌, ℕ, ◌+◌, ◌≤◌, ◌&&◌, Bool, true, false, not, nat_le, nat_lt, if◌then◌else◌, List, [], ◌∷◌, ◌++◌, refl, sym, ap, subst, ◌∙◌, arith, append_assoc}
+use Rattle.std.proofs.Common.{◌≡◌, ℕ, ◌+◌, ◌≤◌, ◌&&◌, Bool, true, false, not, nat_le, nat_lt, if◌then◌else◌, List, []}
+use Rattle.std.proofs.Common.{◌∷◌, ◌++◌, refl, sym, ap, subst, ◌∙◌, arith, append_assoc}
 use Rattle.std.proofs.lemmas.Bool.{and_parts, ltb-false, ltb-true, le-ltb}
 use Rattle.cpu6502.specs.declared.mnemonic.Mnemonic.TheVariants.{Adc, Clc, Cmp, Dey, Lda, Ldy, Sta, Tax, Txa}
 use Rattle.cpu6502.specs.declared.mnemonic.Mode.TheVariants.{Immediate, Implied, AbsoluteY}
@@ -9,17 +10,20 @@ use Rattle.asm6502.specs.Lines.{size_of, is_no_part}
 use Rattle.asm6502.specs.Stretches.{IsAtHome, AtHome}
 use Rattle.asm6502.proofs.Laws.{homes_append, size_of-append}
 use Rattle.lowering.specs.Words.{Test, Zero, Not, Counter, CounterVar, CounterY, Start, StartVar, StartRegister}
-use Rattle.blocks.specs.Trees.{Tree, ChainTree, NoneTree, ThenTree, IfTree, UntilTree, EachVoiceTree, WhenTree, FillTree}
+use Rattle.blocks.specs.Trees.{Tree, ChainTree, NoneTree, ThenTree, IfTree, UntilTree, EachVoiceTree, WhenTree}
+use Rattle.blocks.specs.Trees.{FillTree}
 use Rattle.blocks.specs.Steps.{condition_of}
 use Rattle.blocks.specs.Shape.{nothing, jump_cost, branch_cost, down_cost}
 use Rattle.blocks.specs.Sizes.{has_no_lines, label_count, is_far_on, is_far_back}
 use Rattle.blocks.specs.Places.{is_byte, are_steps, is_condition, is_counter, is_count, is_fill, is_placed}
-use Rattle.lowering.specs.Instructions.{code, bare, name, jump, test_lines, branch_lines, opposite, set_lines, down_line}
+use Rattle.lowering.specs.Instructions.{code, bare, name, jump, test_lines, branch_lines, opposite, set_lines}
+use Rattle.lowering.specs.Instructions.{down_line}
 use Rattle.lowering.specs.Lines.{every, lines, sides, before_start, if_far, back_far, exit_far, voices_far, if_labels}
 use Rattle.blocks.specs.Counters.{counters_are_left}
 use Rattle.blocks.specs.Known.{none, reads_known}
 use Rattle.lowering.specs.Uses.{uses_steps, uses_condition, uses_counter, uses_start, uses_tree, LoweredLinesAreAtHome}
-use Rattle.lowering.proofs.Homes.{Plainly, name_home, number_plain, bare_plain, label_plain, plain_home, one_home, home_before, home_after, chain_home, test_home}
+use Rattle.lowering.proofs.Homes.{Plainly, name_home, number_plain, bare_plain, label_plain, plain_home, one_home}
+use Rattle.lowering.proofs.Homes.{home_before, home_after, chain_home, test_home}
 use Rattle.lowering.proofs.Reaching.{branch_home_on, branch_home_back, jump_home_on}
 use Rattle.lowering.proofs.Sizing.{lines_size, branch_size, down_size}
 use Rattle.lowering.proofs.Chains.{test_size}

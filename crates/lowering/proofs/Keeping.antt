@@ -1,18 +1,27 @@
 -- The kept lines of a tree are those that it has with the kept parts alone.
-use Rattle.std.proofs.Common.{◌≡◌, ℕ, ◌+◌, ◌&&◌, Bool, true, false, not, nat_eq, nat_lt, if◌then◌else◌, List, [], ◌∷◌, ◌++◌, refl, ap, ◌∙◌, arith}
+use Rattle.std.proofs.Common.{◌≡◌, ℕ, ◌+◌, ◌&&◌, Bool, true, false, not, nat_eq, nat_lt, if◌then◌else◌, List, [], ◌∷◌}
+use Rattle.std.proofs.Common.{◌++◌, refl, ap, ◌∙◌, arith}
 use Rattle.std.proofs.lemmas.Bool.{and_parts, ltb-true, ne_eqb}
 use Rattle.asm6502.specs.declared.lines.Line.{Line}
 use Rattle.asm6502.specs.Lines.{is_part_kept, kept}
 use Rattle.asm6502.proofs.Laws.{kept-append}
-use Rattle.lowering.specs.Words.{Step, Test, Zero, Not, Counter, CounterVar, CounterY, Condition, Minus, Carry, Equal, Less, YEqual, Load, Store, Index, And, Or, Xor, Add, Sub, AddOn, SubOn, Double, Inc, Dec, HalveAt, HalveOn}
-use Rattle.lowering.specs.Words.{Cell, Var, VoiceVar, Operand, Const, HeldOperand, Summand, Plain, Entry, Source, Direct, Byte, FromY, Place, HeldPlace, Register, VoiceRegister, Timer, Pointer, IntoY, Counted, HeldCounted, CountedY, Start}
-use Rattle.blocks.specs.Trees.{Tree, ChainTree, NoneTree, ThenTree, IfTree, UntilTree, EachVoiceTree, WhenTree, FillTree}
+use Rattle.lowering.specs.Words.{Step, Test, Zero, Not, Counter, CounterVar, CounterY, Condition, Minus, Carry, Equal}
+use Rattle.lowering.specs.Words.{Less, YEqual, Load, Store, Index, And, Or, Xor, Add, Sub, AddOn, SubOn, Double, Inc}
+use Rattle.lowering.specs.Words.{Dec, HalveAt, HalveOn}
+use Rattle.lowering.specs.Words.{Cell, Var, VoiceVar, Operand, Const, HeldOperand, Summand, Plain, Entry, Source}
+use Rattle.lowering.specs.Words.{Direct, Byte, FromY, Place, HeldPlace, Register, VoiceRegister, Timer, Pointer, IntoY}
+use Rattle.lowering.specs.Words.{Counted, HeldCounted, CountedY, Start}
+use Rattle.blocks.specs.Trees.{Tree, ChainTree, NoneTree, ThenTree, IfTree, UntilTree, EachVoiceTree, WhenTree}
+use Rattle.blocks.specs.Trees.{FillTree}
 use Rattle.blocks.specs.Steps.{condition_of}
 use Rattle.blocks.specs.Places.{are_steps, is_condition, is_counter, is_count, is_placed}
 use Rattle.blocks.specs.Sizes.{has_no_lines, label_count}
-use Rattle.lowering.specs.Instructions.{name, jump, cell_line, operand_line, summand_line, source_line, place_line, counted_line, step_lines, chain_lines, condition_lines, test_lines, branch_lines, opposite, set_lines, down_line}
+use Rattle.lowering.specs.Instructions.{name, jump, cell_line, operand_line, summand_line, source_line, place_line}
+use Rattle.lowering.specs.Instructions.{counted_line, step_lines, chain_lines, condition_lines, test_lines}
+use Rattle.lowering.specs.Instructions.{branch_lines, opposite, set_lines, down_line}
 use Rattle.lowering.specs.Lowered.{bit_kept}
-use Rattle.lowering.specs.Lines.{lines, sides, until_lines, voices_lines, fill_lines, if_far, back_far, exit_far, voices_far, if_labels}
+use Rattle.lowering.specs.Lines.{lines, sides, until_lines, voices_lines, fill_lines, if_far, back_far, exit_far}
+use Rattle.lowering.specs.Lines.{voices_far, if_labels}
 
 -- of these lines all are kept with a set, or none is
 pub record AllKept (set : ℕ) (z : Bool) (lines : List Line) : Type 0 where
@@ -83,8 +92,10 @@ two_kept set part z one two e f k =
 
 step_kept : (set pointer part : ℕ) (z : Bool) (step : Step) → is_part_kept set part ≡ z →
     AllKept set z (step_lines pointer part step)
-step_kept set pointer part z (Load source) k = one_kept set part z (source_line pointer part source) (source_part pointer part source) k
-step_kept set pointer part z (Store place) k = one_kept set part z (place_line pointer part place) (place_part pointer part place) k
+step_kept set pointer part z (Load source) k =
+    one_kept set part z (source_line pointer part source) (source_part pointer part source) k
+step_kept set pointer part z (Store place) k =
+    one_kept set part z (place_line pointer part place) (place_part pointer part place) k
 step_kept set pointer part z (Index operand) k = one_kept set part z _ (operand_part part _ operand) k
 step_kept set pointer part z (And operand) k = one_kept set part z _ (operand_part part _ operand) k
 step_kept set pointer part z (Or operand) k = one_kept set part z _ (operand_part part _ operand) k

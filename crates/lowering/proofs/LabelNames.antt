@@ -1,5 +1,6 @@
 -- The lines of a tree name its labels, each once.
-use Rattle.std.proofs.Common.{◌≡◌, ℕ, ◌+◌, ◌<◌, ◌≤◌, Bool, true, false, if◌then◌else◌, List, [], ◌∷◌, ◌++◌, refl, sym, ap, ◌∙◌, arith, inl, inr}
+use Rattle.std.proofs.Common.{◌≡◌, ℕ, ◌+◌, ◌<◌, ◌≤◌, Bool, true, false, if◌then◌else◌, List, [], ◌∷◌, ◌++◌, refl, sym}
+use Rattle.std.proofs.Common.{ap, ◌∙◌, arith, inl, inr}
 use Rattle.std.proofs.lemmas.Bool.{and_parts, cases_lt, lt-ltb, le-ltb, le-leb, lt-leb}
 use Rattle.std.proofs.lemmas.Bool.Decides.{eqb_tells}
 use Rattle.cpu6502.specs.declared.mnemonic.Mnemonic.{Mnemonic}
@@ -8,12 +9,19 @@ use Rattle.cpu6502.specs.declared.mnemonic.Mode.TheVariants.{Immediate}
 use Rattle.asm6502.specs.declared.lines.Operand.TheVariants.{Number}
 use Rattle.asm6502.specs.declared.lines.Line.{Line}
 use Rattle.asm6502.specs.Lines.{names}
-use Rattle.lowering.specs.Words.{Cell, Var, VoiceVar, Operand, Const, HeldOperand, Summand, Plain, Entry, Source, Direct, Byte, FromY, Place, HeldPlace, Register, VoiceRegister, Timer, Pointer, IntoY, Counted, HeldCounted, CountedY}
-use Rattle.lowering.specs.Words.{Step, Load, Store, Index, And, Or, Xor, Add, Sub, AddOn, SubOn, Double, Inc, Dec, HalveAt, HalveOn, Condition, Zero, Minus, Carry, Equal, Less, YEqual, Test, Not, Counter, CounterVar, CounterY}
-use Rattle.blocks.specs.Trees.{Tree, ChainTree, NoneTree, ThenTree, IfTree, UntilTree, EachVoiceTree, WhenTree, FillTree}
+use Rattle.lowering.specs.Words.{Cell, Var, VoiceVar, Operand, Const, HeldOperand, Summand, Plain, Entry, Source}
+use Rattle.lowering.specs.Words.{Direct, Byte, FromY, Place, HeldPlace, Register, VoiceRegister, Timer, Pointer, IntoY}
+use Rattle.lowering.specs.Words.{Counted, HeldCounted, CountedY}
+use Rattle.lowering.specs.Words.{Step, Load, Store, Index, And, Or, Xor, Add, Sub, AddOn, SubOn, Double, Inc, Dec}
+use Rattle.lowering.specs.Words.{HalveAt, HalveOn, Condition, Zero, Minus, Carry, Equal, Less, YEqual, Test, Not}
+use Rattle.lowering.specs.Words.{Counter, CounterVar, CounterY}
+use Rattle.blocks.specs.Trees.{Tree, ChainTree, NoneTree, ThenTree, IfTree, UntilTree, EachVoiceTree, WhenTree}
+use Rattle.blocks.specs.Trees.{FillTree}
 use Rattle.blocks.specs.Steps.{condition_of}
 use Rattle.blocks.specs.Sizes.{has_no_lines, label_count}
-use Rattle.lowering.specs.Instructions.{code, bare, name, jump, cell_line, operand_line, summand_line, source_line, place_line, counted_line, step_lines, chain_lines, condition_lines, test_lines, branch_lines, opposite, set_lines, down_line}
+use Rattle.lowering.specs.Instructions.{code, bare, name, jump, cell_line, operand_line, summand_line, source_line}
+use Rattle.lowering.specs.Instructions.{place_line, counted_line, step_lines, chain_lines, condition_lines, test_lines}
+use Rattle.lowering.specs.Instructions.{branch_lines, opposite, set_lines, down_line}
 use Rattle.lowering.specs.Lines.{every, lines, sides, if_far, back_far, exit_far, voices_far, if_labels}
 use Rattle.lowering.specs.Measures.{times_named, once_within}
 

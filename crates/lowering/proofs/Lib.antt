@@ -15,6 +15,7 @@ mod Weighing
 -- Kept lines.
 mod Keeping
 -- Labels in their places.
+mod Inside
 mod Counting
 mod Placing
 mod Whole

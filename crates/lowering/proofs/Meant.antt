@@ -1,12 +1,14 @@
 -- The lines of a tree do what the tree means: one case a kind, composed by induction over the tree.
-use Rattle.std.proofs.Common.{◌≡◌, ℕ, zero, suc, ◌+◌, ◌<◌, Bool, true, false, not, nat_eq, if◌then◌else◌, List, [], ◌∷◌, ◌++◌, refl, ap, subst, ◌∙◌, arith}
+use Rattle.std.proofs.Common.{◌≡◌, ℕ, zero, suc, ◌+◌, ◌<◌, Bool, true, false, not, nat_eq, if◌then◌else◌, List, [], ◌∷◌}
+use Rattle.std.proofs.Common.{◌++◌, refl, ap, subst, ◌∙◌, arith}
 use Rattle.std.proofs.lemmas.Bool.{and_parts}
 use Rattle.asm6502.specs.declared.lines.Line.{Line}
 use Rattle.asm6502.specs.Lines.{size_of}
 use Rattle.asm6502.specs.Standing.{LinesAt}
 use Rattle.asm6502.proofs.Laws.{size_of-append, fronts_stand, backs_stand}
 use Rattle.lowering.specs.Words.{Step, Test, Counter}
-use Rattle.blocks.specs.Trees.{Tree, ChainTree, NoneTree, ThenTree, IfTree, UntilTree, EachVoiceTree, WhenTree, FillTree}
+use Rattle.blocks.specs.Trees.{Tree, ChainTree, NoneTree, ThenTree, IfTree, UntilTree, EachVoiceTree, WhenTree}
+use Rattle.blocks.specs.Trees.{FillTree}
 use Rattle.blocks.specs.Desk.{Desk, Layout}
 use Rattle.blocks.specs.Steps.{is_met, tested, condition_of}
 use Rattle.blocks.specs.Meaning.{meaning, turns, counter_set, counter_down}

@@ -1,5 +1,6 @@
 -- The bytes of a tree's lines in each part are those of its shape.
-use Rattle.std.proofs.Common.{◌≡◌, ℕ, ◌+◌, Bool, true, false, nat_eq, if◌then◌else◌, List, [], ◌∷◌, ◌++◌, refl, sym, ap, ◌∙◌, arith, inl, inr}
+use Rattle.std.proofs.Common.{◌≡◌, ℕ, ◌+◌, Bool, true, false, nat_eq, if◌then◌else◌, List, [], ◌∷◌, ◌++◌, refl, sym, ap}
+use Rattle.std.proofs.Common.{◌∙◌, arith, inl, inr}
 use Rattle.std.proofs.lemmas.Bool.Decides.{eqb_tells}
 use Rattle.std.proofs.lemmas.Bool.{and_parts, eq-eqb, ne_eqb}
 use Rattle.cpu6502.specs.declared.mnemonic.Mnemonic.TheVariants.{Adc, Clc, Cmp, Lda, Tax, Txa}
@@ -9,14 +10,19 @@ use Rattle.asm6502.specs.declared.lines.Line.{Line}
 use Rattle.asm6502.specs.Lines.{item_size, size_of}
 use Rattle.asm6502.specs.Parts.{part_size}
 use Rattle.asm6502.proofs.Laws.{size_of-append, part_size-append}
-use Rattle.lowering.specs.Words.{Step, Load, Store, Index, And, Or, Xor, Add, Sub, AddOn, SubOn, Double, Inc, Dec, HalveAt, HalveOn, Condition, Zero, Minus, Carry, Equal, Less, YEqual, Test, Not, Counter, CounterVar, CounterY, Start}
-use Rattle.blocks.specs.Trees.{Tree, ChainTree, NoneTree, ThenTree, IfTree, UntilTree, EachVoiceTree, WhenTree, FillTree}
+use Rattle.lowering.specs.Words.{Step, Load, Store, Index, And, Or, Xor, Add, Sub, AddOn, SubOn, Double, Inc, Dec}
+use Rattle.lowering.specs.Words.{HalveAt, HalveOn, Condition, Zero, Minus, Carry, Equal, Less, YEqual, Test, Not}
+use Rattle.lowering.specs.Words.{Counter, CounterVar, CounterY, Start}
+use Rattle.blocks.specs.Trees.{Tree, ChainTree, NoneTree, ThenTree, IfTree, UntilTree, EachVoiceTree, WhenTree}
+use Rattle.blocks.specs.Trees.{FillTree}
 use Rattle.blocks.specs.Steps.{condition_of}
 use Rattle.blocks.specs.Shape.{nothing, jump_cost}
 use Rattle.blocks.specs.Sizes.{has_no_lines, label_count, if_here, part_bytes}
-use Rattle.lowering.specs.Instructions.{code, bare, name, jump, source_line, place_line, step_lines, chain_lines, condition_lines, test_lines, branch_lines, opposite, set_lines, down_line}
+use Rattle.lowering.specs.Instructions.{code, bare, name, jump, source_line, place_line, step_lines, chain_lines}
+use Rattle.lowering.specs.Instructions.{condition_lines, test_lines, branch_lines, opposite, set_lines, down_line}
 use Rattle.lowering.specs.Lines.{every, lines, sides, fill_lines, if_far, back_far, exit_far, voices_far, if_labels}
-use Rattle.lowering.proofs.Keeping.{in_part, operand_part, summand_part, source_part, place_part, counted_part, down_part}
+use Rattle.lowering.proofs.Keeping.{in_part, operand_part, summand_part, source_part, place_part, counted_part}
+use Rattle.lowering.proofs.Keeping.{down_part}
 use Rattle.lowering.proofs.Chains.{chain_size, test_size}
 use Rattle.lowering.proofs.Sizing.{branch_size, set_size, down_size}
 

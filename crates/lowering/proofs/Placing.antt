@@ -1,16 +1,27 @@
 -- A sound tree whose labels are in their places finds its bytes there.
-use Rattle.std.proofs.Common.{◌≡◌, ℕ, ◌+◌, ◌*◌, ◌<◌, ◌≤◌, ◌&&◌, ◌⊎◌, Bool, true, false, not, nat_le, nat_lt, List, [], ◌∷◌, refl, ap, ◌∙◌, inl, inr, arith}
+use Rattle.std.proofs.Common.{◌≡◌, ℕ, ◌+◌, ◌*◌, ◌<◌, ◌≤◌, ◌&&◌, ◌⊎◌, Bool, true, false, not, nat_le, nat_lt, List, []}
+use Rattle.std.proofs.Common.{◌∷◌, refl, ap, ◌∙◌, inl, inr, arith}
 use Rattle.std.proofs.lemmas.Bool.{and_parts, leb-true, ltb-true}
-use Rattle.lowering.specs.Words.{Cell, Var, VoiceVar, Operand, Const, HeldOperand, Summand, Plain, Entry, Direct, Byte, FromY, Place, HeldPlace, Register, VoiceRegister, Timer, Pointer, IntoY, Low, High, Counted, HeldCounted, CountedY}
-use Rattle.lowering.specs.Words.{Step, Load, Store, Index, And, Or, Xor, Add, Sub, AddOn, SubOn, Double, Inc, Dec, HalveAt, HalveOn}
-use Rattle.lowering.specs.Words.{Condition, Zero, Minus, Carry, Equal, Less, YEqual, Counter, CounterVar, CounterY, Start, StartVar, StartRegister}
-use Rattle.blocks.specs.Trees.{Tree, ChainTree, NoneTree, ThenTree, IfTree, UntilTree, EachVoiceTree, WhenTree, FillTree}
+use Rattle.lowering.specs.Words.{Cell, Var, VoiceVar, Operand, Const, HeldOperand, Summand, Plain, Entry, Direct, Byte}
+use Rattle.lowering.specs.Words.{FromY, Place, HeldPlace, Register, VoiceRegister, Timer, Pointer, IntoY, Low, High}
+use Rattle.lowering.specs.Words.{Counted, HeldCounted, CountedY}
+use Rattle.lowering.specs.Words.{Step, Load, Store, Index, And, Or, Xor, Add, Sub, AddOn, SubOn, Double, Inc, Dec}
+use Rattle.lowering.specs.Words.{HalveAt, HalveOn}
+use Rattle.lowering.specs.Words.{Condition, Zero, Minus, Carry, Equal, Less, YEqual, Counter, CounterVar, CounterY}
+use Rattle.lowering.specs.Words.{Start, StartVar, StartRegister}
+use Rattle.blocks.specs.Trees.{Tree, ChainTree, NoneTree, ThenTree, IfTree, UntilTree, EachVoiceTree, WhenTree}
+use Rattle.blocks.specs.Trees.{FillTree}
 use Rattle.blocks.specs.Desk.{Layout}
 use Rattle.blocks.specs.Steps.{condition_of}
-use Rattle.blocks.specs.Places.{is_byte, is_cell, is_operand, is_summand, is_place, is_counted, is_step, are_steps, is_condition, is_counter, is_count, is_fill, is_placed}
+use Rattle.blocks.specs.Places.{is_byte, is_cell, is_operand, is_summand, is_place, is_counted, is_step, are_steps}
+use Rattle.blocks.specs.Places.{is_condition, is_counter, is_count, is_fill, is_placed}
 use Rattle.blocks.specs.Counters.{steps_leave, tree_leaves, counters_are_left}
-use Rattle.lowering.specs.Laid.{Room, OwnCell, FoundOperand, FoundSummand, FoundPlace, FoundCounted, FoundStep, FoundSteps, FoundCondition, FoundCounter, FoundFill, Laid}
-use Rattle.lowering.specs.Places.{Names, names_cell, names_operand, names_summand, names_place, names_counted, names_step, names_steps, names_condition, names_counter, names_fill, names_tree, InPlace, MayWrite, AtOwn, AtRegister, AtTimer, AtPointer}
+use Rattle.lowering.proofs.Inside.{Inside}
+use Rattle.lowering.specs.Laid.{Room, OwnCell, FoundOperand, FoundSummand, FoundPlace, FoundCounted, FoundStep}
+use Rattle.lowering.specs.Laid.{FoundSteps, FoundCondition, FoundCounter, FoundFill, Laid}
+use Rattle.lowering.specs.Places.{Names, names_cell, names_operand, names_summand, names_place, names_counted}
+use Rattle.lowering.specs.Places.{names_step, names_steps, names_condition, names_counter, names_fill, names_tree}
+use Rattle.lowering.specs.Places.{MayWrite, AtOwn, AtRegister, AtTimer, AtPointer}
 use Rattle.lowering.specs.Does.{Still}
 use Rattle.lowering.proofs.Ways.{Ground, Guarded}
 use Rattle.lowering.proofs.Counting.{tested_keeps, tree_keeps}
@@ -29,7 +40,7 @@ the_ground layout names still low high voice = record {
 }
 
 -- nothing is written in the code
-out_of_code : (layout : Layout) (names : Names) (low high : ℕ) → InPlace layout names low high → (q : ℕ) →
+out_of_code : (layout : Layout) (names : Names) (low high : ℕ) → Inside layout names low high → (q : ℕ) →
     MayWrite layout names q → (q < low) ⊎ (high ≤ q)
 out_of_code layout names low high inside q (AtOwn label own e) =
     elim (inside.own_outside label own) [ inl under ↦ inl (omega arith) | inr over ↦ inr (omega arith) ]
@@ -39,7 +50,7 @@ out_of_code layout names low high inside q (AtPointer k few e) =
     let bottom = inside.code_low in let top = inside.pointer_high in inl (omega arith)
 
 pub the_guarded : (layout : Layout) (names : Names) (still : Still) (low high voice : ℕ) →
-    InPlace layout names low high → Guarded (the_ground layout names still low high voice)
+    Inside layout names low high → Guarded (the_ground layout names still low high voice)
 the_guarded layout names still low high voice inside = record {
   outside = out_of_code layout names low high inside;
   start = let bottom = inside.code_low in omega arith;
@@ -56,7 +67,7 @@ pub record Indexed (in_voices : Bool) (X : ℕ → Type 0) (voice : ℕ) : Type 
 
 -- ---- bytes, operands and places
 
-cell_found : (layout : Layout) (names : Names) (low high : ℕ) → InPlace layout names low high → (in_voices : Bool)
+cell_found : (layout : Layout) (names : Names) (low high : ℕ) → Inside layout names low high → (in_voices : Bool)
     (X : ℕ → Type 0) (voice : ℕ) → Indexed in_voices X voice → (cell : Cell) → is_cell in_voices cell ≡ true →
     names_cell names cell ≡ true → OwnCell layout (the_room layout names X voice) cell
 cell_found layout names low high inside iv X voice indexed (Var label) is named =
@@ -72,7 +83,7 @@ cell_found layout names low high inside iv X voice indexed (VoiceVar label) is n
       AtOwn (label + 7 * voice) (inside.voices_own label voice named few) refl,
     )
 
-operand_found : (layout : Layout) (names : Names) (low high : ℕ) → InPlace layout names low high → (in_voices : Bool)
+operand_found : (layout : Layout) (names : Names) (low high : ℕ) → Inside layout names low high → (in_voices : Bool)
     (X : ℕ → Type 0) (voice : ℕ) → Indexed in_voices X voice → (operand : Operand) →
     is_operand in_voices operand ≡ true → names_operand names operand ≡ true →
     FoundOperand layout (the_room layout names X voice) operand
@@ -80,7 +91,7 @@ operand_found layout names low high inside iv X voice indexed (Const number) is 
 operand_found layout names low high inside iv X voice indexed (HeldOperand cell) is named =
     (cell_found layout names low high inside iv X voice indexed cell is named).0
 
-summand_found : (layout : Layout) (names : Names) (low high : ℕ) → InPlace layout names low high → (in_voices : Bool)
+summand_found : (layout : Layout) (names : Names) (low high : ℕ) → Inside layout names low high → (in_voices : Bool)
     (X : ℕ → Type 0) (voice : ℕ) → Indexed in_voices X voice → (summand : Summand) →
     is_summand in_voices summand ≡ true → names_summand names summand ≡ true →
     FoundSummand layout (the_room layout names X voice) summand
@@ -88,7 +99,7 @@ summand_found layout names low high inside iv X voice indexed (Plain operand) is
     operand_found layout names low high inside iv X voice indexed operand is named
 summand_found layout names low high inside iv X voice indexed (Entry table) is named = inside.labels table
 
-place_found : (layout : Layout) (names : Names) (low high : ℕ) → InPlace layout names low high → (in_voices : Bool)
+place_found : (layout : Layout) (names : Names) (low high : ℕ) → Inside layout names low high → (in_voices : Bool)
     (X : ℕ → Type 0) (voice : ℕ) → Indexed in_voices X voice → (place : Place) → is_place in_voices place ≡ true →
     names_place names place ≡ true → FoundPlace layout (the_room layout names X voice) place
 place_found layout names low high inside iv X voice indexed (HeldPlace cell) is named =
@@ -109,14 +120,14 @@ place_found layout names low high inside iv X voice indexed (Pointer Low) is nam
 place_found layout names low high inside iv X voice indexed (Pointer High) is named = AtPointer 1 (omega arith) refl
 place_found layout names low high inside iv X voice indexed IntoY is named = tt
 
-counted_found : (layout : Layout) (names : Names) (low high : ℕ) → InPlace layout names low high → (in_voices : Bool)
+counted_found : (layout : Layout) (names : Names) (low high : ℕ) → Inside layout names low high → (in_voices : Bool)
     (X : ℕ → Type 0) (voice : ℕ) → Indexed in_voices X voice → (what : Counted) → is_counted in_voices what ≡ true →
     names_counted names what ≡ true → FoundCounted layout (the_room layout names X voice) what
 counted_found layout names low high inside iv X voice indexed (HeldCounted cell) is named =
     cell_found layout names low high inside iv X voice indexed cell is named
 counted_found layout names low high inside iv X voice indexed CountedY is named = tt
 
-step_found : (layout : Layout) (names : Names) (low high : ℕ) → InPlace layout names low high → (in_voices : Bool)
+step_found : (layout : Layout) (names : Names) (low high : ℕ) → Inside layout names low high → (in_voices : Bool)
     (X : ℕ → Type 0) (voice : ℕ) → Indexed in_voices X voice → (step : Step) → is_step in_voices step ≡ true →
     names_step names step ≡ true → FoundStep layout (the_room layout names X voice) step
 step_found layout names low high inside iv X voice indexed (Load (Direct summand)) is named =
@@ -151,7 +162,7 @@ step_found layout names low high inside iv X voice indexed (HalveAt cell) is nam
 step_found layout names low high inside iv X voice indexed (HalveOn cell) is named =
     cell_found layout names low high inside iv X voice indexed cell is named
 
-steps_found : (layout : Layout) (names : Names) (low high : ℕ) → InPlace layout names low high → (in_voices : Bool)
+steps_found : (layout : Layout) (names : Names) (low high : ℕ) → Inside layout names low high → (in_voices : Bool)
     (X : ℕ → Type 0) (voice : ℕ) → Indexed in_voices X voice → (steps : List Step) → are_steps in_voices steps ≡ true →
     names_steps names steps ≡ true → FoundSteps layout (the_room layout names X voice) steps
 steps_found layout names low high inside iv X voice indexed [] is named = tt
@@ -162,7 +173,7 @@ steps_found layout names low high inside iv X voice indexed (step ∷ steps) is 
       steps_found layout names low high inside iv X voice indexed steps i.1 n.1,
     )
 
-condition_found : (layout : Layout) (names : Names) (low high : ℕ) → InPlace layout names low high →
+condition_found : (layout : Layout) (names : Names) (low high : ℕ) → Inside layout names low high →
     (in_voices : Bool) (X : ℕ → Type 0) (voice : ℕ) → Indexed in_voices X voice → (condition : Condition) →
     is_condition in_voices condition ≡ true → names_condition names condition ≡ true →
     FoundCondition layout (the_room layout names X voice) condition
@@ -175,7 +186,7 @@ condition_found layout names low high inside iv X voice indexed (Less operand) i
     operand_found layout names low high inside iv X voice indexed operand is named
 condition_found layout names low high inside iv X voice indexed (YEqual number) is named = tt
 
-counter_found : (layout : Layout) (names : Names) (low high : ℕ) → InPlace layout names low high → (X : ℕ → Type 0)
+counter_found : (layout : Layout) (names : Names) (low high : ℕ) → Inside layout names low high → (X : ℕ → Type 0)
     (voice : ℕ) (counter : Counter) → names_counter names counter ≡ true →
     FoundCounter layout (the_room layout names X voice) counter
 counter_found layout names low high inside X voice (CounterVar label) named =
@@ -186,7 +197,7 @@ count_parts : (count : ℕ) → is_count count ≡ true → (0 < count) × (coun
 count_parts count e =
     let p = and_parts (nat_lt 0 count) (is_byte count) e in (ltb-true 0 count p.0, ltb-true count 256 p.1)
 
-fill_found : (layout : Layout) (names : Names) (low high : ℕ) → InPlace layout names low high → (X : ℕ → Type 0)
+fill_found : (layout : Layout) (names : Names) (low high : ℕ) → Inside layout names low high → (X : ℕ → Type 0)
     (voice : ℕ) (start : Start) (count : ℕ) → is_fill start count ≡ true → names_fill names start count ≡ true →
     (0 < count) × (count < 256) × FoundFill layout (the_room layout names X voice) start count
 fill_found layout names low high inside X voice (StartVar label) count is named =
@@ -219,7 +230,7 @@ fill_found layout names low high inside X voice (StartRegister register) count i
 of_voice : (voice : ℕ) → voice < 3 → Indexed true (λ x. x ≡ 7 * voice) voice
 of_voice voice few = record { voiced = λ e. few; index = λ e x i. i; any = λ e. absurd (cc) }
 
-pub tree_laid : (layout : Layout) (names : Names) (low high : ℕ) → InPlace layout names low high →
+pub tree_laid : (layout : Layout) (names : Names) (low high : ℕ) → Inside layout names low high →
     (in_voices in_when : Bool) (X : ℕ → Type 0) (voice : ℕ) → Indexed in_voices X voice → (tree : Tree) →
     is_placed in_voices in_when tree ≡ true → names_tree names tree ≡ true → counters_are_left tree ≡ true →
     Laid layout (the_room layout names X voice) tree

@@ -1,18 +1,22 @@
 -- The bytes that a tree's lines take are those of its shape.
-use Rattle.std.proofs.Common.{◌≡◌, ℕ, ◌+◌, ◌<◌, Bool, true, false, if◌then◌else◌, List, [], ◌∷◌, ◌++◌, min, nat_lt, refl, inl, inr, arith}
+use Rattle.std.proofs.Common.{◌≡◌, ℕ, ◌+◌, ◌<◌, Bool, true, false, if◌then◌else◌, List, [], ◌∷◌, ◌++◌, min, nat_lt}
+use Rattle.std.proofs.Common.{refl, inl, inr, arith}
 use Rattle.std.proofs.lemmas.Bool.{and_parts, cases_lt, lt-ltb, le-ltb}
 use Rattle.asm6502.specs.declared.lines.Line.{Line}
 use Rattle.asm6502.specs.Lines.{item_size, size_of}
 use Rattle.asm6502.proofs.Laws.{size_of-append}
 use Rattle.lowering.specs.Words.{Step, Test, Zero, Not, Counter, CounterVar, CounterY}
-use Rattle.blocks.specs.Trees.{Tree, ChainTree, NoneTree, ThenTree, IfTree, UntilTree, EachVoiceTree, WhenTree, FillTree}
+use Rattle.blocks.specs.Trees.{Tree, ChainTree, NoneTree, ThenTree, IfTree, UntilTree, EachVoiceTree, WhenTree}
+use Rattle.blocks.specs.Trees.{FillTree}
 use Rattle.blocks.specs.Shape.{nothing, jump_cost, branch_cost, set_cost, down_cost}
 use Rattle.blocks.specs.Sizes.{size, has_no_lines, label_count, is_far_on, is_far_back}
 use Rattle.cpu6502.specs.declared.mnemonic.Mnemonic.TheVariants.{Adc, Clc, Cmp, Txa}
 use Rattle.cpu6502.specs.declared.mnemonic.Mode.TheVariants.{Immediate}
 use Rattle.asm6502.specs.declared.lines.Operand.TheVariants.{Number}
-use Rattle.lowering.specs.Instructions.{code, bare, name, jump, test_lines, branch_lines, opposite, set_lines, down_line}
-use Rattle.lowering.specs.Lines.{lines, sides, until_lines, voices_lines, if_far, back_far, exit_far, voices_far, if_labels}
+use Rattle.lowering.specs.Instructions.{code, bare, name, jump, test_lines, branch_lines, opposite, set_lines}
+use Rattle.lowering.specs.Instructions.{down_line}
+use Rattle.lowering.specs.Lines.{lines, sides, until_lines, voices_lines, if_far, back_far, exit_far, voices_far}
+use Rattle.lowering.specs.Lines.{if_labels}
 use Rattle.lowering.proofs.Chains.{chain_size, test_size}
 
 pub branch_size : (part : ℕ) (far : Bool) (test : Test) (label : ℕ) →

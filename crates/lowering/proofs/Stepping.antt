@@ -1,10 +1,13 @@
 -- What the lines of a step do where they stand.
 use Rattle.std.proofs.Common.{◌≡◌, ℕ, ◌+◌, ◌*◌, ◌%◌, ◌<◌, Bool, refl, sym}
-use Rattle.cpu6502.specs.declared.mnemonic.Mnemonic.TheVariants.{Adc, Dec as DecByte, Dey, Inc as IncByte, Iny, Lda, Sbc, Sta, Tay, Tya}
+use Rattle.cpu6502.specs.declared.mnemonic.Mnemonic.TheVariants.{Adc, Dec as DecByte, Dey, Inc as IncByte, Iny, Lda}
+use Rattle.cpu6502.specs.declared.mnemonic.Mnemonic.TheVariants.{Sbc, Sta, Tay, Tya}
 use Rattle.code_runs.specs.Runs.{Leads}
 use Rattle.code_runs.proofs.Laws.{goes_once, puts_once, works, load_steps, transfer_steps, sum_steps, count_steps}
 use Rattle.asm6502.specs.Standing.{ItemAt}
-use Rattle.lowering.specs.Words.{Cell, Var, VoiceVar, Operand, Const, HeldOperand, Summand, Plain, Entry, Source, Direct, Byte, FromY, Place, HeldPlace, Register, VoiceRegister, Timer, Pointer, IntoY, Counted, HeldCounted, CountedY, Low, High}
+use Rattle.lowering.specs.Words.{Cell, Var, VoiceVar, Operand, Const, HeldOperand, Summand, Plain, Entry, Source}
+use Rattle.lowering.specs.Words.{Direct, Byte, FromY, Place, HeldPlace, Register, VoiceRegister, Timer, Pointer, IntoY}
+use Rattle.lowering.specs.Words.{Counted, HeldCounted, CountedY, Low, High}
 use Rattle.lowering.specs.Words.{Load, Store, AddOn, SubOn, Inc, Dec}
 use Rattle.blocks.specs.Desk.{Desk, Layout, sid_place, timer_place}
 use Rattle.blocks.specs.Steps.{stepped}

@@ -1,12 +1,14 @@
 -- What the lines of an Until do.
-use Rattle.std.proofs.Common.{◌≡◌, ℕ, zero, suc, ◌+◌, ◌<◌, ◌≤◌, Bool, true, false, not, nat_eq, List, [], ◌∷◌, ◌++◌, refl, sym, ap, ◌∙◌, arith}
+use Rattle.std.proofs.Common.{◌≡◌, ℕ, zero, suc, ◌+◌, ◌<◌, ◌≤◌, Bool, true, false, not, nat_eq, List, [], ◌∷◌, ◌++◌}
+use Rattle.std.proofs.Common.{refl, sym, ap, ◌∙◌, arith}
 use Rattle.std.proofs.Math.Dec.{eqb-suc-zero}
 use Rattle.code_runs.proofs.Laws.{put_same}
 use Rattle.asm6502.specs.declared.lines.Line.{Line}
 use Rattle.asm6502.specs.Lines.{item_size, size_of}
 use Rattle.asm6502.specs.Standing.{LinesAt, ItemAt}
 use Rattle.asm6502.proofs.Laws.{size_of-append, fronts_stand, backs_stand}
-use Rattle.lowering.specs.Words.{Var, Const, Plain, Direct, HeldPlace, HeldCounted, CountedY, Load, Store, Index, Zero, Test, Not, Counter, CounterVar, CounterY}
+use Rattle.lowering.specs.Words.{Var, Const, Plain, Direct, HeldPlace, HeldCounted, CountedY, Load, Store, Index, Zero}
+use Rattle.lowering.specs.Words.{Test, Not, Counter, CounterVar, CounterY}
 use Rattle.blocks.specs.Desk.{Desk, Layout}
 use Rattle.blocks.specs.Steps.{is_met, one_less}
 use Rattle.blocks.specs.Meaning.{turns, counter_set, counter_down}
@@ -332,7 +334,9 @@ turn_does ground guarded loop n x v desk few value index s more false unmet =
     let way = turn_goes ground guarded loop x v desk unmet index s in
     let s3 = still_stand ground guarded desk d3 way loop.pc (loop_lines loop) loop.low loop.high s in
     comes_with (sym (goes_on n loop.test loop.first (loop_turn loop) desk unmet))
-    (comes_in (sums loop.cost _ _ _ _ ∙ sym (goes_on_run n loop.test loop.first (loop_turn loop) loop.run _ _ (loop_back loop) desk unmet))
+    (comes_in
+    (sums loop.cost _ _ _ _ ∙ sym (goes_on_run n loop.test loop.first (loop_turn loop) loop.run _ _ (loop_back loop) desk
+    unmet))
     (comes_on way
     (λ x' v' i. comes_back ground guarded loop n x' v' d3
     (down_shows ground.layout loop.counter (loop.body d1) ∙ ap (λ m. nat_eq m 0) left) i s3

@@ -1,5 +1,6 @@
 -- What the lines of an EachVoice do.
-use Rattle.std.proofs.Common.{◌≡◌, ℕ, ◌+◌, ◌*◌, ◌<◌, ◌≤◌, Bool, true, false, List, [], ◌∷◌, ◌++◌, refl, ap, subst, arith}
+use Rattle.std.proofs.Common.{◌≡◌, ℕ, ◌+◌, ◌*◌, ◌<◌, ◌≤◌, Bool, true, false, List, [], ◌∷◌, ◌++◌, refl, ap, subst}
+use Rattle.std.proofs.Common.{arith}
 use Rattle.cpu6502.specs.declared.mnemonic.Mnemonic.TheVariants.{Adc, Clc, Cmp, Lda, Tax, Txa}
 use Rattle.cpu6502.specs.declared.mnemonic.Mode.TheVariants.{Immediate}
 use Rattle.code_runs.proofs.Laws.{goes_once, reads_immediate, load_steps, flag_steps, transfer_steps}
@@ -11,7 +12,7 @@ use Rattle.asm6502.proofs.Laws.{size_of-append, fronts_stand, backs_stand}
 use Rattle.lowering.specs.Words.{Const, Plain, Step, Add, Equal, Zero, Is, Not}
 use Rattle.blocks.specs.Desk.{Desk, with_acc}
 use Rattle.blocks.specs.Steps.{tested, is_met}
-use Rattle.blocks.specs.Meaning.{for_voices}
+use Rattle.blocks.specs.Meaning.{for_voices, voice_begun}
 use Rattle.lowering.specs.Instructions.{code, bare, name, branch_lines}
 use Rattle.lowering.specs.Laid.{voice_room}
 use Rattle.lowering.specs.Counting.{branch_run}
@@ -34,10 +35,6 @@ voice_guarded ground voice guarded = record {
   pointer = guarded.pointer;
   labels = guarded.labels;
 }
-
--- A and the flags that a turn begins with
-abbrev began : ℕ → Desk → Desk
-began voice desk = record (with_acc (7 * voice) desk) { carry = false }
 
 -- the head of a turn, where zero and minus may say anything
 abbrev head : (ℕ → ℕ) → ℕ → ℕ → Bool → Bool → Desk
@@ -66,7 +63,7 @@ loop_lines part first far inner =
 voice_turn : (ground : Ground) → Guarded ground → ((x : ℕ) → ground.room.may_index x) → (part first : ℕ) (far : Bool)
     (inner : List Line) (voice n x : ℕ) (v : Bool) (pc : ℕ) (at : ℕ → ℕ) (y : ℕ) (is_zero is_minus : Bool)
     (desk' : Desk) →
-    LinesDo (voice_ground ground voice) inner n (began voice (head at (7 * voice) y is_zero is_minus)) desk' →
+    LinesDo (voice_ground ground voice) inner n (voice_begun voice (head at (7 * voice) y is_zero is_minus)) desk' →
     ground.low ≤ pc → pc + size_of (loop_lines part first far inner) ≤ ground.high →
     LinesAt ground.layout.address at pc (loop_lines part first far inner) →
     Comes ground.room.may_write ground.room.may_index ground.still (1 + (n + (1 + 3))) x v pc
@@ -76,7 +73,7 @@ voice_turn ground guarded any part first far inner voice n x v pc at y is_zero i
     let top = guarded.top in
     let address = ground.layout.address in
     let begin = head at (7 * voice) y is_zero is_minus in
-    let one = began voice begin in
+    let one = voice_begun voice begin in
     let after = bare part Txa ∷ bare part Clc ∷ code part Adc Immediate (Number 7) ∷ code part Cmp Immediate
     (Number 21) ∷ branch_lines part far (Not Zero) first in
     let size = size_of-append inner after in
@@ -123,7 +120,7 @@ loop_size part first far inner =
 voice_back : (ground : Ground) → Guarded ground → ((x : ℕ) → ground.room.may_index x) → (part first : ℕ) (far : Bool)
     (inner : List Line) (voice n x : ℕ) (v : Bool) (pc : ℕ) (at : ℕ → ℕ) (y : ℕ) (is_zero is_minus : Bool)
     (desk' : Desk) →
-    LinesDo (voice_ground ground voice) inner n (began voice (head at (7 * voice) y is_zero is_minus)) desk' →
+    LinesDo (voice_ground ground voice) inner n (voice_begun voice (head at (7 * voice) y is_zero is_minus)) desk' →
     ground.low ≤ pc → pc + size_of (loop_lines part first far inner) ≤ ground.high →
     ground.layout.address first ≡ pc → is_met (Not Zero) (counted_on voice desk') ≡ true →
     LinesAt ground.layout.address at pc (loop_lines part first far inner) →
@@ -147,7 +144,7 @@ voice_back ground guarded any part first far inner voice n x v pc at y is_zero i
 voice_on : (ground : Ground) → Guarded ground → ((x : ℕ) → ground.room.may_index x) → (part first : ℕ) (far : Bool)
     (inner : List Line) (voice n x : ℕ) (v : Bool) (pc : ℕ) (at : ℕ → ℕ) (y : ℕ) (is_zero is_minus : Bool)
     (desk' : Desk) →
-    LinesDo (voice_ground ground voice) inner n (began voice (head at (7 * voice) y is_zero is_minus)) desk' →
+    LinesDo (voice_ground ground voice) inner n (voice_begun voice (head at (7 * voice) y is_zero is_minus)) desk' →
     ground.low ≤ pc → pc + size_of (loop_lines part first far inner) ≤ ground.high →
     is_met (Not Zero) (counted_on voice desk') ≡ false →
     LinesAt ground.layout.address at pc (loop_lines part first far inner) →
@@ -190,9 +187,9 @@ pub voices_do : (ground : Ground) → Guarded ground → ((x : ℕ) → ground.r
     ((voice : ℕ) → voice < 3 → (d : Desk) → LinesDo (voice_ground ground voice) inner (run voice d) d (body voice d)) →
     LinesDo ground
     (code part Lda Immediate (Number 0) ∷ bare part Clc ∷ name part first ∷ loop_lines part first far inner)
-    (2 + ((5 + run 0 (began 0 desk) + branch_run far true)
-    + ((5 + run 1 (began 1 (body 0 (began 0 desk))) + branch_run far true)
-    + (5 + run 2 (began 2 (body 1 (began 1 (body 0 (began 0 desk))))) + branch_run far false))))
+    (2 + ((5 + run 0 (voice_begun 0 desk) + branch_run far true)
+    + ((5 + run 1 (voice_begun 1 (body 0 (voice_begun 0 desk))) + branch_run far true)
+    + (5 + run 2 (voice_begun 2 (body 1 (voice_begun 1 (body 0 (voice_begun 0 desk))))) + branch_run far false))))
     desk (for_voices body desk)
 voices_do ground guarded any part first far inner run body desk ways x v pc index l h s =
     let from : pc + 2 + 1 + 0 ≡ pc + 2 + 1 = omega arith in
@@ -202,25 +199,25 @@ voices_do ground guarded any part first far inner run body desk ways x v pc inde
     let h0 = head desk.at 0 desk.y true false in
     let s0 = subst (λ q. LinesAt address desk.at q lines) from s.1.1.1 in
     let here = s.1.1.0 in
-    let d0 = body 0 (began 0 desk) in
+    let d0 = body 0 (voice_begun 0 desk) in
     let e0 = counted_on 0 d0 in
-    let d1 = body 1 (began 1 d0) in
+    let d1 = body 1 (voice_begun 1 d0) in
     let e1 = counted_on 1 d1 in
-    let d2 = body 2 (began 2 d1) in
+    let d2 = body 2 (voice_begun 2 d1) in
     let begin = zero_do ground guarded part desk x v pc index l (omega arith) (s.0, (s.1.0, tt)) in
     comes_to (omega arith)
     (comes_on begin
     (λ x0 v0 i0.
     let turn0 =
-    voice_back ground guarded any part first far inner 0 (run 0 (began 0 desk)) x0 v0 p desk.at desk.y true false d0
-    (ways 0 (omega arith) (began 0 desk)) (omega arith) (omega arith) here refl s0 in
+    voice_back ground guarded any part first far inner 0 (run 0 (voice_begun 0 desk)) x0 v0 p desk.at desk.y true false d0
+    (ways 0 (omega arith) (voice_begun 0 desk)) (omega arith) (omega arith) here refl s0 in
     let s1 = still_stand ground guarded h0 e0 turn0 p lines (omega arith) (omega arith) s0 in
     comes_on turn0
     (λ x1 v1 i1.
     let turn1 =
-    voice_back ground guarded any part first far inner 1 (run 1 (began 1 d0)) x1 v1 p d0.at d0.y false true d1
-    (ways 1 (omega arith) (began 1 d0)) (omega arith) (omega arith) here refl s1 in
+    voice_back ground guarded any part first far inner 1 (run 1 (voice_begun 1 d0)) x1 v1 p d0.at d0.y false true d1
+    (ways 1 (omega arith) (voice_begun 1 d0)) (omega arith) (omega arith) here refl s1 in
     let s2 = still_stand ground guarded e0 e1 turn1 p lines (omega arith) (omega arith) s1 in
     comes_on turn1
-    (λ x2 v2 i2. voice_on ground guarded any part first far inner 2 (run 2 (began 2 d1)) x2 v2 p d1.at d1.y false true
-    d2 (ways 2 (omega arith) (began 2 d1)) (omega arith) (omega arith) refl s2))))
+    (λ x2 v2 i2. voice_on ground guarded any part first far inner 2 (run 2 (voice_begun 2 d1)) x2 v2 p d1.at d1.y false true
+    d2 (ways 2 (omega arith) (voice_begun 2 d1)) (omega arith) (omega arith) refl s2))))

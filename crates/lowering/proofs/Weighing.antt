@@ -1,10 +1,12 @@
 -- At most so many instructions are run as a tree weighs.
-use Rattle.std.proofs.Common.{◌≡◌, ℕ, zero, suc, ◌+◌, ◌*◌, ◌≤◌, Bool, true, false, not, nat_eq, max, if◌then◌else◌, arith, refl}
+use Rattle.std.proofs.Common.{◌≡◌, ℕ, zero, suc, ◌+◌, ◌*◌, ◌≤◌, Bool, true, false, not, nat_eq, max, if◌then◌else◌}
+use Rattle.std.proofs.Common.{arith, refl}
 use Rattle.lowering.specs.Words.{Test, Counter, CounterVar, CounterY}
-use Rattle.blocks.specs.Trees.{Tree, ChainTree, NoneTree, ThenTree, IfTree, UntilTree, EachVoiceTree, WhenTree, FillTree}
-use Rattle.blocks.specs.Desk.{Desk, Layout, with_acc}
+use Rattle.blocks.specs.Trees.{Tree, ChainTree, NoneTree, ThenTree, IfTree, UntilTree, EachVoiceTree, WhenTree}
+use Rattle.blocks.specs.Trees.{FillTree}
+use Rattle.blocks.specs.Desk.{Desk, Layout}
 use Rattle.blocks.specs.Steps.{tested, is_met}
-use Rattle.blocks.specs.Meaning.{meaning, counter_set, counter_down}
+use Rattle.blocks.specs.Meaning.{meaning, counter_set, counter_down, voice_begun}
 use Rattle.blocks.specs.Shape.{test_cost, branch_cost, down_cost}
 use Rattle.blocks.specs.Sizes.{size, weight, over_other, until_turn}
 use Rattle.lowering.specs.Lines.{if_far, back_far, exit_far, voices_far}
@@ -88,10 +90,9 @@ run_most layout (UntilTree counter count steps test body) voice desk =
     omega arith) in
     omega arith
 run_most layout (EachVoiceTree body) voice desk =
-    let began : ℕ → Desk → Desk = λ v before. record (with_acc (7 * v) before) { carry = false } in
-    let one : Desk = began 0 desk in
-    let two : Desk = began 1 (meaning layout body 0 one) in
-    let three : Desk = began 2 (meaning layout body 1 two) in
+    let one : Desk = voice_begun 0 desk in
+    let two : Desk = voice_begun 1 (meaning layout body 0 one) in
+    let three : Desk = voice_begun 2 (meaning layout body 1 two) in
     voices (run_of layout body 0 one) (run_of layout body 1 two) (run_of layout body 2 three) (weight body)
     (branch_run (voices_far body) true) (branch_run (voices_far body) false)
     (branch_cost (voices_far body)).instructions (run_most layout body 0 one) (run_most layout body 1 two)

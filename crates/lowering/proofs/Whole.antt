@@ -13,14 +13,16 @@ use Rattle.blocks.specs.Meaning.{meaning}
 use Rattle.blocks.specs.Places.{is_placed}
 use Rattle.blocks.specs.Counters.{counters_are_left}
 use Rattle.blocks.specs.Known.{none, reads_known}
-use Rattle.lowering.specs.Lines.{lines, all_lines}
+use Rattle.lowering.specs.Lines.{lines}
 use Rattle.lowering.specs.Places.{Names, MayWrite}
 use Rattle.lowering.specs.Counting.{run_of}
 use Rattle.lowering.specs.Does.{Still, spot, Comes}
-use Rattle.lowering.specs.Lowered.{bit_kept, layout_of, desk_of, Meant, LoweredBlocksDo}
+use Rattle.lowering.specs.Lowered.{Site, bit_kept, lines_at, layout_at, low_at, high_at, desk_of, Meant}
+use Rattle.lowering.specs.Lowered.{LoweredBlocksDo}
 use Rattle.lowering.proofs.Meant.{tree_does}
 use Rattle.lowering.proofs.Weighing.{run_most}
 use Rattle.lowering.proofs.Keeping.{kept_lines}
+use Rattle.lowering.proofs.Inside.{site_inside}
 use Rattle.lowering.proofs.Placing.{the_ground, the_guarded, tree_laid}
 
 -- a state with a clear decimal flag is at a spot
@@ -48,24 +50,30 @@ meant layout names tree state pc end X p d way = record {
 }
 
 pub lowered_blocks_do : LoweredBlocksDo
-lowered_blocks_do set origin pointer first tree front back names state sound named fault inside bytes p d =
-    let listing = front ++ (all_lines pointer first tree ++ back) in
-    let layout = layout_of set origin pointer listing in
-    let low = origin + size_of (kept set front) in
-    let high = low + size_of (kept set (all_lines pointer first tree)) in
-    let parts = and_parts (is_placed false false tree && counters_are_left tree) (reads_known tree none) sound in
+lowered_blocks_do site state stands enters =
+    let tree = site.tree in
+    let names = site.names in
+    let set = site.set in
+    let layout = layout_at site in
+    let low = low_at site in
+    let high = high_at site in
+    let inside = site_inside site stands.in_place in
+    let parts = and_parts (is_placed false false tree && counters_are_left tree) (reads_known tree none) stands.sound in
     let rules = and_parts (is_placed false false tree) (counters_are_left tree) parts.0 in
     let still : Still = record { sp = state.cpu.sp; i = state.cpu.i } in
-    let keeps = (kept_lines set pointer 255 first false false tree rules.0 refl).is in
-    let stand = stretches_stand opcodes_have_rows set origin front (all_lines pointer first tree) back state.at fault bytes in
+    let keeps = (kept_lines set site.pointer 255 site.first false false tree rules.0 refl).is in
+    let stand =
+    stretches_stand opcodes_have_rows set site.origin site.front (lines_at site) site.back state.at stands.assembles
+    enters.bytes in
     let laid =
     tree_laid layout names low high inside false false (λ x. Unit {0}) 0
-    (record { voiced = λ e. absurd (cc); index = λ e. absurd (cc); any = λ e x. tt }) tree rules.0 named rules.1 in
-    let size : size_of (kept set (all_lines pointer first tree)) ≡ size_of (lines pointer (bit_kept set) 255 first tree) =
-    ap size_of keeps in
-    meant layout names tree state low high (λ x. Unit {0}) p d
+    (record { voiced = λ e. absurd (cc); index = λ e. absurd (cc); any = λ e x. tt }) tree rules.0 stands.named rules.1
+    in
+    let size : size_of (kept set (lines_at site))
+    ≡ size_of (lines site.pointer (bit_kept set) 255 site.first tree) = ap size_of keeps in
+    meant layout names tree state low high (λ x. Unit {0}) enters.pc enters.d
     (subst (λ q. Comes (MayWrite layout names) (λ x. Unit {0}) still (run_of layout tree 0 (desk_of state)) state.cpu.x
     state.cpu.v low q (desk_of state) (meaning layout tree 0 (desk_of state))) (ap (λ n. low + n) (sym size))
-    (tree_does (the_ground layout names still low high 0) (the_guarded layout names still low high 0 inside) 255 first
-    tree (desk_of state) laid state.cpu.x state.cpu.v low tt (omega arith) (omega (arith, size))
+    (tree_does (the_ground layout names still low high 0) (the_guarded layout names still low high 0 inside) 255
+    site.first tree (desk_of state) laid state.cpu.x state.cpu.v low tt (omega arith) (omega (arith, size))
     (subst (λ ls. LinesAt layout.address state.at low ls) keeps stand)))

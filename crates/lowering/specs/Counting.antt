@@ -1,12 +1,13 @@
 -- How many instructions the lines of a tree run, from a desk. Source: the MOS 6502 programming manual.
 use Rattle.std.specs.Prelude.{ℕ, zero, suc, ◌+◌, ◌*◌, Bool, true, false, not, nat_eq, if◌then◌else◌}
 use Rattle.lowering.specs.Words.{Test}
-use Rattle.blocks.specs.Trees.{Tree, ChainTree, NoneTree, ThenTree, IfTree, UntilTree, EachVoiceTree, WhenTree, FillTree}
-use Rattle.blocks.specs.Desk.{Desk, Layout, with_acc}
+use Rattle.blocks.specs.Trees.{Tree, ChainTree, NoneTree, ThenTree, IfTree, UntilTree, EachVoiceTree, WhenTree}
+use Rattle.blocks.specs.Trees.{FillTree}
+use Rattle.blocks.specs.Desk.{Desk, Layout}
 use Rattle.blocks.specs.Shape.{steps_cost, test_cost, set_cost}
 use Rattle.blocks.specs.Sizes.{over_other}
 use Rattle.blocks.specs.Steps.{tested, is_met}
-use Rattle.blocks.specs.Meaning.{meaning, counter_set, counter_down}
+use Rattle.blocks.specs.Meaning.{meaning, counter_set, counter_down, voice_begun}
 use Rattle.lowering.specs.Lines.{if_far, back_far, exit_far, voices_far}
 
 -- a branch that goes to its label or doesn't: a far one that goes is two
@@ -43,10 +44,9 @@ run_of layout (UntilTree counter count steps test body) voice desk =
     (λ left. 1 + branch_run (back_far counter steps test body) (not (nat_eq left 0)))
     (counter_set layout counter count desk)
 run_of layout (EachVoiceTree body) voice desk =
-    let began : ℕ → Desk → Desk = λ v before. record (with_acc (7 * v) before) { carry = false } in
-    let one : Desk = began 0 desk in
-    let two : Desk = began 1 (meaning layout body 0 one) in
-    let three : Desk = began 2 (meaning layout body 1 two) in
+    let one : Desk = voice_begun 0 desk in
+    let two : Desk = voice_begun 1 (meaning layout body 0 one) in
+    let three : Desk = voice_begun 2 (meaning layout body 1 two) in
     2 + ((5 + run_of layout body 0 one + branch_run (voices_far body) true)
     + ((5 + run_of layout body 1 two + branch_run (voices_far body) true)
     + (5 + run_of layout body 2 three + branch_run (voices_far body) false)))

@@ -2,16 +2,24 @@
 -- the MOS 6502 programming manual. X holds 7 times the current voice's number, so a voice's byte is one indexed by X.
 use Rattle.std.specs.Prelude.{ℕ, ◌+◌, Bool, List, [], ◌∷◌, ◌++◌, if◌then◌else◌}
 use Rattle.cpu6502.specs.declared.mnemonic.Mnemonic.{Mnemonic}
-use Rattle.cpu6502.specs.declared.mnemonic.Mnemonic.TheVariants.{Adc, And as AndA, Asl, Bcc, Bcs, Beq, Bmi, Bne, Bpl, Clc, Cmp, Cpy, Dec as DecByte, Dey, Eor, Inc as IncByte, Iny, Jmp, Lda, Ldy, Lsr, Ora, Ror, Sbc, Sec, Sta, Tay, Tya}
+use Rattle.cpu6502.specs.declared.mnemonic.Mnemonic.TheVariants.{Adc, And as AndA, Asl, Bcc, Bcs, Beq, Bmi, Bne, Bpl}
+use Rattle.cpu6502.specs.declared.mnemonic.Mnemonic.TheVariants.{Clc, Cmp, Cpy, Dec as DecByte, Dey, Eor}
+use Rattle.cpu6502.specs.declared.mnemonic.Mnemonic.TheVariants.{Inc as IncByte, Iny, Jmp, Lda, Ldy, Lsr, Ora, Ror, Sbc}
+use Rattle.cpu6502.specs.declared.mnemonic.Mnemonic.TheVariants.{Sec, Sta, Tay, Tya}
 use Rattle.cpu6502.specs.declared.mnemonic.Mode.{Mode}
-use Rattle.cpu6502.specs.declared.mnemonic.Mode.TheVariants.{Implied, Accumulator, Immediate, ZeroPage, Absolute, AbsoluteX, AbsoluteY, IndirectY, Relative}
+use Rattle.cpu6502.specs.declared.mnemonic.Mode.TheVariants.{Implied, Accumulator, Immediate, ZeroPage, Absolute}
+use Rattle.cpu6502.specs.declared.mnemonic.Mode.TheVariants.{AbsoluteX, AbsoluteY, IndirectY, Relative}
 use Rattle.asm6502.specs.declared.lines.Operand.{Operand as Argument}
 use Rattle.asm6502.specs.declared.lines.Operand.TheVariants.{Nothing, Number, Label}
 use Rattle.asm6502.specs.declared.lines.Item.TheVariants.{Label as Named, Code}
 use Rattle.asm6502.specs.declared.lines.Line.{Line}
-use Rattle.lowering.specs.Words.{Cell, Var, VoiceVar, Operand, Const, HeldOperand, Summand, Plain, Entry, Source, Direct, Byte, FromY, Place, HeldPlace, Register, VoiceRegister, Timer, Pointer, IntoY, Counted, HeldCounted, CountedY, Half, Low, High}
-use Rattle.lowering.specs.Words.{Step, Load, Store, Index, And, Or, Xor, Add, Sub, AddOn, SubOn, Double, Inc, Dec, HalveAt, HalveOn}
-use Rattle.lowering.specs.Words.{Condition, Zero, Minus, Carry, Equal, Less, YEqual, Test, Is, Not, Counter, CounterVar, CounterY}
+use Rattle.lowering.specs.Words.{Cell, Var, VoiceVar, Operand, Const, HeldOperand, Summand, Plain, Entry, Source}
+use Rattle.lowering.specs.Words.{Direct, Byte, FromY, Place, HeldPlace, Register, VoiceRegister, Timer, Pointer, IntoY}
+use Rattle.lowering.specs.Words.{Counted, HeldCounted, CountedY, Half, Low, High}
+use Rattle.lowering.specs.Words.{Step, Load, Store, Index, And, Or, Xor, Add, Sub, AddOn, SubOn, Double, Inc, Dec}
+use Rattle.lowering.specs.Words.{HalveAt, HalveOn}
+use Rattle.lowering.specs.Words.{Condition, Zero, Minus, Carry, Equal, Less, YEqual, Test, Is, Not, Counter, CounterVar}
+use Rattle.lowering.specs.Words.{CounterY}
 use Rattle.blocks.specs.Desk.{sid_place, timer_place}
 use Rattle.blocks.specs.Steps.{condition_of}
 

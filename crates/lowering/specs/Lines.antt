@@ -7,10 +7,12 @@ use Rattle.asm6502.specs.declared.lines.Operand.{Operand as Argument}
 use Rattle.asm6502.specs.declared.lines.Operand.TheVariants.{Number, Label}
 use Rattle.asm6502.specs.declared.lines.Line.{Line}
 use Rattle.lowering.specs.Words.{Step, Test, Not, Zero, Counter, Start, StartVar, StartRegister}
-use Rattle.blocks.specs.Trees.{Tree, ChainTree, NoneTree, ThenTree, IfTree, UntilTree, EachVoiceTree, WhenTree, FillTree}
+use Rattle.blocks.specs.Trees.{Tree, ChainTree, NoneTree, ThenTree, IfTree, UntilTree, EachVoiceTree, WhenTree}
+use Rattle.blocks.specs.Trees.{FillTree}
 use Rattle.blocks.specs.Shape.{test_cost, down_cost}
 use Rattle.blocks.specs.Sizes.{size, has_no_lines, label_count, over_other, until_back, is_far_on, is_far_back}
-use Rattle.lowering.specs.Instructions.{code, bare, name, jump, chain_lines, test_lines, branch_lines, opposite, set_lines, down_line}
+use Rattle.lowering.specs.Instructions.{code, bare, name, jump, chain_lines, test_lines, branch_lines, opposite}
+use Rattle.lowering.specs.Instructions.{set_lines, down_line}
 
 -- which branches are far: that of an If over its first side, that of an Until back to its head and to its end, and that
 -- of an EachVoice back

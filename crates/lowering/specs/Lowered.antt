@@ -21,10 +21,57 @@ use Rattle.lowering.specs.Counting.{run_of}
 abbrev pub bit_kept : ℕ → ℕ → Bool
 bit_kept set bit = nat_eq (bit_at set bit) 1
 
--- the addresses of a listing's labels, with the pointer and the kept bits
-abbrev pub layout_of : ℕ → ℕ → ℕ → List Line → Layout
-layout_of set origin pointer lines =
-    record { address = address_in (kept set lines) origin; pointer = pointer; is_kept = bit_kept set }
+-- a lowered block in a listing: the lines before and behind it, with which parts and where it is assembled, the block's
+-- pointer and first label, and the labels that it names
+pub record Site : Type 0 where
+  pub front : List Line
+  pub tree : Tree
+  pub back : List Line
+  pub set : ℕ
+  pub origin : ℕ
+  pub pointer : ℕ
+  pub first : ℕ
+  pub names : Names
+
+-- the block's lines, and the whole listing
+abbrev pub lines_at : Site → List Line
+lines_at site = all_lines site.pointer site.first site.tree
+
+abbrev pub listing_at : Site → List Line
+listing_at site = site.front ++ (lines_at site ++ site.back)
+
+-- where the block's own kept lines begin and end, and where the listing ends
+abbrev pub low_at : Site → ℕ
+low_at site = site.origin + size_of (kept site.set site.front)
+
+abbrev pub high_at : Site → ℕ
+high_at site = low_at site + size_of (kept site.set (lines_at site))
+
+abbrev pub end_at : Site → ℕ
+end_at site = site.origin + size_of (kept site.set (listing_at site))
+
+-- the addresses of the listing's labels, with the pointer and the kept bits
+abbrev pub layout_at : Site → Layout
+layout_at site = record {
+  address = address_in (kept site.set (listing_at site)) site.origin;
+  pointer = site.pointer;
+  is_kept = bit_kept site.set;
+}
+
+-- the block is sound and names these labels alone, the listing assembles, and the labels are in their places
+pub record IsWellPlaced (site : Site) : Type 0 where
+  pub sound : is_sound site.tree ≡ true
+  pub named : names_tree site.names site.tree ≡ true
+  pub assembles : fault_of site.set site.origin (listing_at site) ≡ None
+  pub in_place : InPlace (layout_at site) site.names site.origin (end_at site) (low_at site) (high_at site)
+
+-- a state at the first of the block's lines, with a clear decimal flag and any memory that has the bytes of the block's
+-- own kept lines
+pub record Enters (site : Site) (state : State) : Type 0 where
+  pub bytes : HasBytes state.at site.origin (size_of (kept site.set site.front))
+      (size_of (kept site.set (lines_at site))) (assembled_bytes site.set site.origin (listing_at site))
+  pub pc : state.cpu.pc ≡ low_at site
+  pub d : state.cpu.d ≡ false
 
 -- a state as a desk
 abbrev pub desk_of : State → Desk
@@ -50,18 +97,8 @@ pub record Meant (layout : Layout) (names : Names) (tree : Tree) (end : ℕ) (st
   pub i : after.cpu.i ≡ state.cpu.i
   pub most : run_of layout tree 0 (desk_of state) ≤ weight tree
 
--- from any state whose decimal flag is clear, in any memory that has the bytes of the block's own kept lines, for every
--- origin and set with which the listing around it assembles
+-- for every origin and set with which the listing around it assembles, and from any state that enters it
 abbrev pub LoweredBlocksDo : Type 0
 LoweredBlocksDo =
-    (set origin pointer first : ℕ) (tree : Tree) (front back : List Line) (names : Names) (state : State) →
-    is_sound tree ≡ true → names_tree names tree ≡ true →
-    fault_of set origin (front ++ (all_lines pointer first tree ++ back)) ≡ None →
-    InPlace (layout_of set origin pointer (front ++ (all_lines pointer first tree ++ back))) names
-    (origin + size_of (kept set front))
-    (origin + size_of (kept set front) + size_of (kept set (all_lines pointer first tree))) →
-    HasBytes state.at origin (size_of (kept set front)) (size_of (kept set (all_lines pointer first tree)))
-    (assembled_bytes set origin (front ++ (all_lines pointer first tree ++ back))) →
-    state.cpu.pc ≡ origin + size_of (kept set front) → state.cpu.d ≡ false →
-    Meant (layout_of set origin pointer (front ++ (all_lines pointer first tree ++ back))) names tree
-    (origin + size_of (kept set front) + size_of (kept set (all_lines pointer first tree))) state
+    (site : Site) (state : State) → IsWellPlaced site → Enters site state →
+    Meant (layout_at site) site.names site.tree (high_at site) state

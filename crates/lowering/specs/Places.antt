@@ -1,10 +1,15 @@
 -- The places of a block's labels in a listing: which labels its tree names, as a test by shape, and what a listing that
 -- holds the block says of their addresses. This is the project's own language of player code.
 use Rattle.std.specs.Prelude.{◌≡◌, ℕ, ◌+◌, ◌*◌, ◌<◌, ◌≤◌, ◌&&◌, ◌⊎◌, Bool, true, List, [], ◌∷◌}
-use Rattle.lowering.specs.Words.{Cell, Var, VoiceVar, Operand, Const, HeldOperand, Summand, Plain, Entry, Source, Direct, Byte, FromY, Place, HeldPlace, Register, VoiceRegister, Timer, Pointer, IntoY, Counted, HeldCounted, CountedY}
-use Rattle.lowering.specs.Words.{Step, Load, Store, Index, And, Or, Xor, Add, Sub, AddOn, SubOn, Double, Inc, Dec, HalveAt, HalveOn}
-use Rattle.lowering.specs.Words.{Condition, Zero, Minus, Carry, Equal, Less, YEqual, Counter, CounterVar, CounterY, Start, StartVar, StartRegister}
-use Rattle.blocks.specs.Trees.{Tree, ChainTree, NoneTree, ThenTree, IfTree, UntilTree, EachVoiceTree, WhenTree, FillTree}
+use Rattle.lowering.specs.Words.{Cell, Var, VoiceVar, Operand, Const, HeldOperand, Summand, Plain, Entry, Source}
+use Rattle.lowering.specs.Words.{Direct, Byte, FromY, Place, HeldPlace, Register, VoiceRegister, Timer, Pointer, IntoY}
+use Rattle.lowering.specs.Words.{Counted, HeldCounted, CountedY}
+use Rattle.lowering.specs.Words.{Step, Load, Store, Index, And, Or, Xor, Add, Sub, AddOn, SubOn, Double, Inc, Dec}
+use Rattle.lowering.specs.Words.{HalveAt, HalveOn}
+use Rattle.lowering.specs.Words.{Condition, Zero, Minus, Carry, Equal, Less, YEqual, Counter, CounterVar, CounterY}
+use Rattle.lowering.specs.Words.{Start, StartVar, StartRegister}
+use Rattle.blocks.specs.Trees.{Tree, ChainTree, NoneTree, ThenTree, IfTree, UntilTree, EachVoiceTree, WhenTree}
+use Rattle.blocks.specs.Trees.{FillTree}
 use Rattle.blocks.specs.Desk.{Layout}
 use Rattle.blocks.specs.Steps.{condition_of}
 
@@ -96,13 +101,14 @@ names_tree names (EachVoiceTree body) = names_tree names body
 names_tree names (WhenTree bit body) = names_tree names body
 names_tree names (FillTree start count) = names_fill names start count
 
--- the addresses of labels in a listing that holds a block in the places from low up to high: bytes of the block's own
--- stand from $0800 up to $D000, outside the block's lines, no two of them at one place; the bytes of voices are 7
--- apart, and those of a fill stand one behind the other; the pointer is in page 0
-pub record InPlace (layout : Layout) (names : Names) (low high : ℕ) : Type 0 where
-  pub labels : (label : ℕ) → layout.address label < 65536
-  pub own_low : (label : ℕ) → names.is_own label ≡ true → 0x0800 ≤ layout.address label
-  pub own_high : (label : ℕ) → names.is_own label ≡ true → layout.address label < 0xD000
+-- the addresses of labels in a listing that stands from start up to end, from $0800 up to $D000, and holds a block's
+-- lines from low up to high: the bytes that the block names are bytes of the listing outside these lines, no two of
+-- them at one place; the bytes of voices are 7 apart, and those of a fill stand one behind the other; the pointer is in
+-- page 0
+pub record InPlace (layout : Layout) (names : Names) (start end low high : ℕ) : Type 0 where
+  pub begins : 0x0800 ≤ start
+  pub ends : end ≤ 0xD000
+  pub own_inside : (label : ℕ) → names.is_own label ≡ true → layout.address label < end
   pub own_outside : (label : ℕ) → names.is_own label ≡ true →
       (layout.address label < low) ⊎ (high ≤ layout.address label)
   pub own_apart : (label other : ℕ) → names.is_own label ≡ true → names.is_own other ≡ true →
@@ -115,8 +121,6 @@ pub record InPlace (layout : Layout) (names : Names) (low high : ℕ) : Type 0 w
       layout.address (label + k) ≡ layout.address label + k
   pub rows_own : (label count k : ℕ) → names.is_row label count ≡ true → k < count →
       names.is_own (label + k) ≡ true
-  pub code_low : 0x0800 ≤ low
-  pub code_high : high ≤ 0xD000
   pub pointer_low : 2 ≤ layout.pointer
   pub pointer_high : layout.pointer ≤ 254
 

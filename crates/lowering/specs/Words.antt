@@ -10,11 +10,13 @@ pub use Rattle.blocks.specs.declared.steps.Source.TheVariants.{Direct, Byte, Y a
 pub use Rattle.blocks.specs.declared.steps.Half.{Half}
 pub use Rattle.blocks.specs.declared.steps.Half.TheVariants.{Low, High}
 pub use Rattle.blocks.specs.declared.steps.Place.{Place}
-pub use Rattle.blocks.specs.declared.steps.Place.TheVariants.{Held as HeldPlace, Register, VoiceRegister, Timer, Pointer, Y as IntoY}
+pub use Rattle.blocks.specs.declared.steps.Place.TheVariants.{Held as HeldPlace, Register, VoiceRegister, Timer}
+pub use Rattle.blocks.specs.declared.steps.Place.TheVariants.{Pointer, Y as IntoY}
 pub use Rattle.blocks.specs.declared.steps.Counted.{Counted}
 pub use Rattle.blocks.specs.declared.steps.Counted.TheVariants.{Held as HeldCounted, Y as CountedY}
 pub use Rattle.blocks.specs.declared.steps.Step.{Step}
-pub use Rattle.blocks.specs.declared.steps.Step.TheVariants.{Load, Store, Index, And, Or, Xor, Add, Sub, AddOn, SubOn, Double, Inc, Dec, HalveAt, HalveOn}
+pub use Rattle.blocks.specs.declared.steps.Step.TheVariants.{Load, Store, Index, And, Or, Xor, Add, Sub, AddOn, SubOn}
+pub use Rattle.blocks.specs.declared.steps.Step.TheVariants.{Double, Inc, Dec, HalveAt, HalveOn}
 pub use Rattle.blocks.specs.declared.steps.Condition.{Condition}
 pub use Rattle.blocks.specs.declared.steps.Condition.TheVariants.{Zero, Minus, Carry, Equal, Less, YEqual}
 pub use Rattle.blocks.specs.declared.steps.Test.{Test}

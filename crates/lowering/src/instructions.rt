@@ -2,7 +2,8 @@
 
 ghost use Rattle.std.specs.Prelude.{◌≡◌, ◌<◌};
 ghost use Rattle.blocks.specs.Desk.{sid_place};
-ghost use Rattle.lowering.specs.Instructions.{code, bare, name, jump, cell_line, operand_line, summand_line, source_line, place_line, counted_line, where_met, opposite, down_line};
+ghost use Rattle.lowering.specs.Instructions.{code, bare, name, jump, cell_line, operand_line, summand_line};
+ghost use Rattle.lowering.specs.Instructions.{source_line, place_line, counted_line, where_met, opposite, down_line};
 
 use asm6502::{Item, Line, Operand as Argument};
 use blocks::{Cell, Condition, Counted, Counter, Half, Operand, Place, Source, Summand, Test};

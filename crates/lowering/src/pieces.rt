@@ -1,7 +1,8 @@
 //! Lines that are appended to a listing, piece by piece.
 
 ghost use Rattle.std.specs.Prelude.{◌≡◌, ◌∷◌, ◌++◌, [], OnOk};
-ghost use Rattle.lowering.specs.Instructions.{step_lines, chain_lines, condition_lines, test_lines, branch_lines, set_lines};
+ghost use Rattle.lowering.specs.Instructions.{step_lines, chain_lines, condition_lines, test_lines, branch_lines};
+ghost use Rattle.lowering.specs.Instructions.{set_lines};
 ghost use Rattle.blocks.specs.Steps.{condition_of};
 
 use crate::instructions::{
