@@ -1,12 +1,11 @@
 -- Labels in their places: what their addresses are, where the listing stands from $0800 up to $D000.
 use Rattle.std.proofs.Common.{◌≡◌, ℕ, ◌+◌, ◌*◌, ◌<◌, ◌≤◌, ◌⊎◌, Bool, true, false, if◌then◌else◌, List, [], ◌∷◌, ◌++◌}
-use Rattle.std.proofs.Common.{Option, Some, None, unwrap_or, refl, ap, ◌∙◌, arith}
+use Rattle.std.proofs.Common.{Option, Some, None, unwrap_or, ap, ◌∙◌, arith}
 use Rattle.std.specs.Option.{option_map}
 use Rattle.asm6502.specs.declared.lines.Line.{Line}
-use Rattle.asm6502.specs.Lines.{kept, names as item_names, item_size, size_of, place_of, address_in}
+use Rattle.asm6502.specs.Lines.{kept, names as item_names, item_size, size_of, place_of}
 use Rattle.asm6502.proofs.Laws.{kept-append, size_of-append}
 use Rattle.blocks.specs.Desk.{Layout}
-use Rattle.lowering.specs.Lines.{all_lines}
 use Rattle.lowering.specs.Places.{Names, InPlace}
 use Rattle.lowering.specs.Lowered.{Site, lines_at, listing_at, layout_at, low_at, high_at, end_at}
 

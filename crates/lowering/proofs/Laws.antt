@@ -3,6 +3,8 @@
 -- the lines of a tree do what it means, and run at most its weight
 pub use Rattle.lowering.proofs.Whole.{lowered_blocks_do}
 pub use Rattle.lowering.proofs.Weighing.{run_most}
+-- as many from any two states that agree on the listing's bytes
+pub use Rattle.lowering.proofs.Isolation.{lowered_blocks_are_isolated}
 -- their kept lines, bytes and labels
 pub use Rattle.lowering.proofs.Keeping.{kept_lines}
 pub use Rattle.lowering.proofs.Sizing.{lines_size}

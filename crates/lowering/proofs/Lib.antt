@@ -18,6 +18,12 @@ mod Keeping
 mod Inside
 mod Counting
 mod Placing
+-- Desks that agree.
+mod Alike
+mod Agreeing
+mod Staying
+mod Isolating
+mod Isolation
 mod Whole
 -- Bytes.
 mod Sizing

@@ -60,7 +60,7 @@ pub set_value : (layout : Layout) (counter : Counter) (count : ℕ) (desk : Desk
 set_value layout (CounterVar label) count desk = put_same desk.at (layout.address label) count
 set_value layout CounterY count desk = refl
 
-down_value : (layout : Layout) (counter : Counter) (desk : Desk) →
+pub down_value : (layout : Layout) (counter : Counter) (desk : Desk) →
     counter_value layout counter (counter_down layout counter desk) ≡ one_less (counter_value layout counter desk)
 down_value layout (CounterVar label) desk =
     put_same desk.at (layout.address label) (one_less (desk.at (layout.address label)))

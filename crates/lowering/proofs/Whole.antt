@@ -1,5 +1,5 @@
 -- Lowered blocks do what they mean.
-use Rattle.std.proofs.Common.{◌≡◌, ℕ, ◌+◌, ◌&&◌, Bool, false, ◌++◌, refl, sym, ap, subst, ◌∙◌, arith}
+use Rattle.std.proofs.Common.{◌≡◌, ℕ, ◌+◌, ◌&&◌, Bool, false, refl, sym, ap, subst, ◌∙◌, arith}
 use Rattle.std.proofs.lemmas.Bool.{and_parts}
 use Rattle.code_runs.specs.Runs.{State}
 use Rattle.code_runs.proofs.Laws.{begins_at}
@@ -17,7 +17,7 @@ use Rattle.lowering.specs.Lines.{lines}
 use Rattle.lowering.specs.Places.{Names, MayWrite}
 use Rattle.lowering.specs.Counting.{run_of}
 use Rattle.lowering.specs.Does.{Still, spot, Comes}
-use Rattle.lowering.specs.Lowered.{Site, bit_kept, lines_at, layout_at, low_at, high_at, desk_of, Meant}
+use Rattle.lowering.specs.Lowered.{bit_kept, lines_at, layout_at, low_at, high_at, desk_of, Meant}
 use Rattle.lowering.specs.Lowered.{LoweredBlocksDo}
 use Rattle.lowering.proofs.Meant.{tree_does}
 use Rattle.lowering.proofs.Weighing.{run_most}

@@ -12,5 +12,6 @@ pub mod Does
 pub mod Measures
 pub mod Uses
 pub mod Lowered
+pub mod Isolation
 -- Inner: the lines of each kind.
 pub mod Kinds

@@ -1,5 +1,6 @@
 //! Facts about the definitions, each the contract of a function that does nothing.
 
+ghost use Rattle.lowering.specs.Isolation.{LoweredBlocksAreIsolated};
 ghost use Rattle.lowering.specs.Lowered.{LoweredBlocksDo};
 ghost use Rattle.lowering.specs.Measures.{LinesTakeSize, PartsTakeBytes, LabelsAreNamedOnce};
 ghost use Rattle.lowering.specs.Uses.{LoweredLinesAreAtHome};
@@ -8,6 +9,12 @@ ghost use Rattle.lowering.specs.Uses.{LoweredLinesAreAtHome};
 /// every origin and with every set of kept parts with which the listing around them assembles.
 pub fn lowered_blocks_do()
     ensures { LoweredBlocksDo }
+{}
+
+/// They take the same number of steps from any two states that agree on the listing's bytes, and leave the same bytes
+/// there, where each entry and each byte by the pointer that the block reads on its way is a byte of the listing.
+pub fn lowered_blocks_are_isolated()
+    ensures { LoweredBlocksAreIsolated }
 {}
 
 /// The lines of a block take the bytes that its shape says, in each part, and name as many labels as it says, each once.
