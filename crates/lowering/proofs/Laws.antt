@@ -10,5 +10,6 @@ pub use Rattle.lowering.proofs.Keeping.{kept_lines}
 pub use Rattle.lowering.proofs.Sizing.{lines_size}
 pub use Rattle.lowering.proofs.PartSizes.{parts_size}
 pub use Rattle.lowering.proofs.LabelNames.{tree_named}
--- they are at home in any listing
+-- they are at home in any listing, and none of them is refused there
 pub use Rattle.lowering.proofs.Housing.{lowered_lines_are_at_home}
+pub use Rattle.lowering.proofs.Passing.{lowered_lines_are_not_refused}

@@ -34,5 +34,6 @@ mod LabelNames
 mod Homes
 mod Reaching
 mod Housing
+mod Passing
 -- The door: what upper crates may cite.
 pub mod Laws

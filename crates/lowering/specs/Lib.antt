@@ -11,6 +11,7 @@ pub mod Does
 -- Claimed: numbers of lines, lines at home in a listing, and the whole theorem.
 pub mod Measures
 pub mod Uses
+pub mod Passing
 pub mod Lowered
 pub mod Isolation
 -- Inner: the lines of each kind.

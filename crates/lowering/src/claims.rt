@@ -3,6 +3,7 @@
 ghost use Rattle.lowering.specs.Isolation.{LoweredBlocksAreIsolated};
 ghost use Rattle.lowering.specs.Lowered.{LoweredBlocksDo};
 ghost use Rattle.lowering.specs.Measures.{LinesTakeSize, PartsTakeBytes, LabelsAreNamedOnce};
+ghost use Rattle.lowering.specs.Passing.{LoweredLinesAreNotRefused};
 ghost use Rattle.lowering.specs.Uses.{LoweredLinesAreAtHome};
 
 /// The lines of a sound block do what it means, from any state with a clear decimal flag in whose memory they stand, at
@@ -24,8 +25,10 @@ pub fn lines_are_measured()
     ensures labels { LabelsAreNamedOnce }
 {}
 
-/// The lines of a sound block are at home in any listing that always names the other labels that they use: `assemble`
-/// refuses none of them for its form, for a label that isn't named or for a branch that is too far.
-pub fn lowered_lines_are_at_home()
-    ensures { LoweredLinesAreAtHome }
+/// The lines of a sound block are at home in any listing that always names the other labels that they use. Where it
+/// names no label twice, `assemble` refuses none of them, at any origin and with any set: not for its form, not for a
+/// label that isn't named, and not as a branch that is too far.
+pub fn lowered_lines_are_not_refused()
+    ensures at_home { LoweredLinesAreAtHome }
+    ensures not_refused { LoweredLinesAreNotRefused }
 {}
