@@ -27,6 +27,7 @@ mod Isolation
 mod Whole
 -- Bytes.
 mod Sizing
+mod OwnLines
 mod Children
 mod PartSizes
 -- Labels.

@@ -8,8 +8,11 @@ pub mod Places
 pub mod Laid
 pub mod Counting
 pub mod Does
+-- To believe: cycles of lines.
+pub mod Cycles
 -- Claimed: numbers of lines, lines at home in a listing, and the whole theorem.
 pub mod Measures
+pub mod OwnLines
 pub mod Uses
 pub mod Passing
 pub mod Lowered

@@ -3,6 +3,7 @@
 ghost use Rattle.lowering.specs.Isolation.{LoweredBlocksAreIsolated};
 ghost use Rattle.lowering.specs.Lowered.{LoweredBlocksDo};
 ghost use Rattle.lowering.specs.Measures.{LinesTakeSize, PartsTakeBytes, LabelsAreNamedOnce};
+ghost use Rattle.lowering.specs.OwnLines.{OwnLinesAreCountedOnce, OwnLinesCost};
 ghost use Rattle.lowering.specs.Passing.{LoweredLinesAreNotRefused};
 ghost use Rattle.lowering.specs.Uses.{LoweredLinesAreAtHome};
 
@@ -31,4 +32,11 @@ pub fn lines_are_measured()
 pub fn lowered_lines_are_not_refused()
     ensures at_home { LoweredLinesAreAtHome }
     ensures not_refused { LoweredLinesAreNotRefused }
+{}
+
+/// Each line is a node's own, and the greatest cycles of these, of those that are met once and of those that each turn of
+/// a loop meets, are what the node's shape says.
+pub fn own_lines_cost()
+    ensures each { OwnLinesAreCountedOnce }
+    ensures cycles { OwnLinesCost }
 {}
