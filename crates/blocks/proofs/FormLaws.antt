@@ -1,16 +1,17 @@
 -- What forms on named bytes do.
-use Rattle.std.proofs.Common.{◌≡◌, ◌≢◌, ◌∙◌, ℕ, ◌+◌, ◌-◌, ◌*◌, ◌%◌, ◌<◌, List, [], ◌∷◌, refl, ap, sym, arith, nat_eq}
-use Rattle.std.proofs.Common.{nat_lt, nat_le, if◌then◌else◌}
+use Rattle.std.proofs.Common.{◌≡◌, ◌≢◌, ◌∙◌, ℕ, zero, suc, ◌+◌, ◌-◌, ◌*◌, ◌%◌, ◌<◌, List, [], ◌∷◌, refl, ap, sym, arith, nat_eq}
+use Rattle.std.proofs.Common.{nat_lt, nat_le, if◌then◌else◌, Bool, not, bit_and}
 use Rattle.code_runs.specs.Runs.{put}
 use Rattle.code_runs.proofs.Laws.{put_same, put_other}
 use Rattle.cpu6502.specs.Registers.{one_if}
 use Rattle.blocks.specs.Words.{Cell, Operand, Const, HeldOperand, Plain, Step, Store, HeldPlace, Add, Sub, AddOn, SubOn}
-use Rattle.blocks.specs.Words.{Equal, Less, Is}
-use Rattle.blocks.specs.Trees.{Tree, IfTree}
+use Rattle.blocks.specs.Words.{And, Zero, Equal, Less, Test, Is, Not, Counter}
+use Rattle.blocks.specs.Trees.{Tree, IfTree, UntilTree}
 use Rattle.blocks.specs.Desk.{Desk, Layout, cell_place, with_acc}
-use Rattle.blocks.specs.Steps.{operand_byte, compared, chained}
-use Rattle.blocks.specs.Meaning.{meaning, by_test}
+use Rattle.blocks.specs.Steps.{operand_byte, compared, chained, tested, is_met}
+use Rattle.blocks.specs.Meaning.{meaning, by_test, turns, counter_set, counter_down}
 use Rattle.blocks.specs.Forms.{HasWord, word, Apart, ChangesWord, word_sum, word_difference, Chooses}
+use Rattle.blocks.specs.Forms.{share_a_bit, Repeats, RepeatsUntil}
 use Rattle.blocks.specs.FormTrees.{load, word_tree}
 use Rattle.blocks.proofs.Bytes.{shows_equal, shows_below, sums_add}
 
@@ -138,3 +139,79 @@ chooses_less one two this other tree e =
           by_less two (meaning layout this voice) (meaning layout other voice) desk _ _ _
           (operand_same layout voice two desk (chained layout voice (load one ∷ []) desk) refl);
     })
+
+-- ---- turns until a test holds
+
+-- steps and a test that say what a test of two bytes says, and change neither memory nor Y
+record Asks (test : ℕ → ℕ → Bool) (one two : Operand) (steps : List Step) (by : Test) (layout : Layout) (voice : ℕ) :
+    Type 0 where
+  met : (desk : Desk) → operand_byte layout voice one desk < 256 → operand_byte layout voice two desk < 256 →
+      is_met by (tested layout voice steps by desk)
+      ≡ test (operand_byte layout voice one desk) (operand_byte layout voice two desk)
+  at : (desk : Desk) → (tested layout voice steps by desk).at ≡ desk.at
+  y : (desk : Desk) → (tested layout voice steps by desk).y ≡ desk.y
+
+repeats : (test : ℕ → ℕ → Bool) (one two : Operand) (steps : List Step) (by : Test) (counter : Counter) (body : Tree)
+    (layout : Layout) (voice : ℕ) → Asks test one two steps by layout voice → (n : ℕ) (desk : Desk) →
+    Repeats test one two counter body layout voice n desk
+    (turns n by (tested layout voice steps by) (λ more. counter_down layout counter (meaning layout body voice more)) desk)
+repeats test one two steps by counter body layout voice asks zero desk = refl
+repeats test one two steps by counter body layout voice asks (suc n) desk =
+    λ la lb. (
+      tested layout voice steps by desk,
+      asks.at desk,
+      asks.y desk,
+      λ yes. let met = asks.met desk la lb ∙ yes in rw met refl,
+      λ no.
+          let unmet = asks.met desk la lb ∙ no in
+          rw unmet (repeats test one two steps by counter body layout voice asks n _),
+    )
+
+repeats_until : (test : ℕ → ℕ → Bool) (one two : Operand) (steps : List Step) (by : Test) (counter : Counter)
+    (count : ℕ) (body tree : Tree) → ((layout : Layout) (voice : ℕ) → Asks test one two steps by layout voice) →
+    tree ≡ UntilTree counter count steps by body → RepeatsUntil test one two counter count body tree
+repeats_until test one two steps by counter count body tree asks e =
+    rw e
+    (λ layout voice desk. repeats test one two steps by counter body layout voice (asks layout voice) count
+    (counter_set layout counter count desk))
+
+pub repeats_until_equal : (one two : Operand) (counter : Counter) (count : ℕ) (body tree : Tree) →
+    tree ≡ UntilTree counter count (load one ∷ []) (Is (Equal two)) body →
+    RepeatsUntil nat_eq one two counter count body tree
+repeats_until_equal one two counter count body tree e =
+    repeats_until nat_eq one two (load one ∷ []) (Is (Equal two)) counter count body tree
+    (λ layout voice. record {
+      met = λ desk la lb.
+          ap (λ b. nat_eq ((operand_byte layout voice one desk + (256 - b)) % 256) 0)
+          (operand_same layout voice two desk (chained layout voice (load one ∷ []) desk) refl)
+          ∙ shows_equal (operand_byte layout voice one desk) (operand_byte layout voice two desk) la lb;
+      at = λ desk. refl;
+      y = λ desk. refl;
+    }) e
+
+pub repeats_until_less : (one two : Operand) (counter : Counter) (count : ℕ) (body tree : Tree) →
+    tree ≡ UntilTree counter count (load one ∷ []) (Is (Less two)) body →
+    RepeatsUntil nat_lt one two counter count body tree
+repeats_until_less one two counter count body tree e =
+    repeats_until nat_lt one two (load one ∷ []) (Is (Less two)) counter count body tree
+    (λ layout voice. record {
+      met = λ desk la lb.
+          ap (λ b. not (nat_le b (operand_byte layout voice one desk)))
+          (operand_same layout voice two desk (chained layout voice (load one ∷ []) desk) refl)
+          ∙ shows_below (operand_byte layout voice one desk) (operand_byte layout voice two desk);
+      at = λ desk. refl;
+      y = λ desk. refl;
+    }) e
+
+pub repeats_until_bits : (one mask : Operand) (counter : Counter) (count : ℕ) (body tree : Tree) →
+    tree ≡ UntilTree counter count (load one ∷ And mask ∷ []) (Not Zero) body →
+    RepeatsUntil share_a_bit one mask counter count body tree
+repeats_until_bits one mask counter count body tree e =
+    repeats_until share_a_bit one mask (load one ∷ And mask ∷ []) (Not Zero) counter count body tree
+    (λ layout voice. record {
+      met = λ desk la lb.
+          ap (λ b. not (nat_eq (bit_and (operand_byte layout voice one desk) b) 0))
+          (operand_same layout voice mask desk (chained layout voice (load one ∷ []) desk) refl);
+      at = λ desk. refl;
+      y = λ desk. refl;
+    }) e

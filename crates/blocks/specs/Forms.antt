@@ -1,14 +1,15 @@
 -- What forms on named bytes do: moves, sums and other changes of a byte, words, entries of tables, and choices. This is
 -- the language of bytes that the language of steps has inside it.
-use Rattle.std.specs.Prelude.{◌≡◌, ◌≢◌, ℕ, ◌+◌, ◌-◌, ◌*◌, ◌/◌, ◌%◌, ◌<◌, Bool, not, nat_eq, bit_and, if◌then◌else◌}
+use Rattle.std.specs.Prelude.{◌≡◌, ◌≢◌, ℕ, zero, suc, ◌+◌, ◌-◌, ◌*◌, ◌/◌, ◌%◌, ◌<◌, Bool, true, false, not, nat_eq, bit_and, if◌then◌else◌}
 use Rattle.cpu6502.specs.declared.memory.TheConstants.{MEMORY_SIZE}
 use Rattle.code_runs.specs.Runs.{put}
 use Rattle.blocks.specs.Words.{Cell, Operand, Const, HeldOperand, Place, HeldPlace, Register, VoiceRegister, Timer}
 use Rattle.blocks.specs.Words.{Pointer, IntoY}
+use Rattle.blocks.specs.Words.{Counter}
 use Rattle.blocks.specs.Trees.{Tree}
 use Rattle.blocks.specs.Desk.{Desk, Layout, cell_place, sid_place, timer_place, pointer_place}
 use Rattle.blocks.specs.Steps.{operand_byte}
-use Rattle.blocks.specs.Meaning.{meaning}
+use Rattle.blocks.specs.Meaning.{meaning, counter_set, counter_down}
 
 -- a memory with a byte stored at a place; Y is no place of memory
 abbrev pub placed : Layout → ℕ → Place → ℕ → (ℕ → ℕ) → ℕ → ℕ
@@ -127,3 +128,22 @@ Chooses test one two this other tree =
 -- two bytes have a bit in common
 abbrev pub share_a_bit : ℕ → ℕ → Bool
 share_a_bit one two = not (nat_eq (bit_and one two) 0)
+
+-- turns of a tree, at most so many: before each of them a test of two bytes, from a desk with the same memory and the
+-- same Y behind it; the end where it holds, and else the tree and the counter one less
+abbrev pub Repeats : (ℕ → ℕ → Bool) → Operand → Operand → Counter → Tree → Layout → ℕ → ℕ → Desk → Desk → Type 0
+Repeats test one two counter body layout voice zero before after = after ≡ before
+Repeats test one two counter body layout voice (suc n) before after =
+    operand_byte layout voice one before < 256 → operand_byte layout voice two before < 256 →
+    (behind : Desk) × (behind.at ≡ before.at) × (behind.y ≡ before.y)
+    × (test (operand_byte layout voice one before) (operand_byte layout voice two before) ≡ true → after ≡ behind)
+    × (test (operand_byte layout voice one before) (operand_byte layout voice two before) ≡ false →
+    Repeats test one two counter body layout voice n (counter_down layout counter (meaning layout body voice behind))
+    after)
+
+-- the counter becomes the count, and then as many turns at most
+abbrev pub RepeatsUntil : (ℕ → ℕ → Bool) → Operand → Operand → Counter → ℕ → Tree → Tree → Type 0
+RepeatsUntil test one two counter count body tree =
+    (layout : Layout) (voice : ℕ) (desk : Desk) →
+    Repeats test one two counter body layout voice count (counter_set layout counter count desk)
+    (meaning layout tree voice desk)

@@ -20,6 +20,7 @@ pub mod StepLaws
 pub mod WorkedSteps
 pub mod WorkedBlocks
 pub mod WorkedReads
+pub mod WorkedCosts
 -- Claimed: forms on named bytes.
 pub mod Forms
 -- Inner: the trees that they share.

@@ -1,6 +1,6 @@
 -- Where a block reads by Y: the places of the entries, and of the bytes by the pointer, that its meaning reads on its way.
 -- This is the project's own language of player code.
-use Rattle.std.specs.Prelude.{◌≡◌, ℕ, zero, suc, ◌+◌, ◌%◌, Bool, true, false, List, [], ◌∷◌}
+use Rattle.std.specs.Prelude.{◌≡◌, ℕ, zero, suc, ◌+◌, ◌%◌, true, false, List, [], ◌∷◌}
 use Rattle.cpu6502.specs.declared.memory.TheConstants.{MEMORY_SIZE}
 use Rattle.blocks.specs.Words.{Summand, Plain, Entry, Source, Direct, Byte, FromY, Test}
 use Rattle.blocks.specs.Words.{Step, Load, Store, Index, And, Or, Xor, Add, Sub, AddOn, SubOn, Double, Inc, Dec}

@@ -1,7 +1,7 @@
 -- What blocks read by Y, worked by hand.
-use Rattle.std.specs.Prelude.{◌≡◌, ℕ, false, true, [], ◌∷◌}
+use Rattle.std.specs.Prelude.{◌≡◌, false, true, [], ◌∷◌}
 use Rattle.code_runs.specs.Runs.{put}
-use Rattle.blocks.specs.Words.{Var, Const, HeldOperand, Plain, Entry, Direct, Byte, HeldPlace, Load, Store, Index, Zero, Is}
+use Rattle.blocks.specs.Words.{Var, Const, Entry, Direct, Byte, HeldPlace, Load, Store, Index, Zero, Is}
 use Rattle.blocks.specs.Trees.{Tree, ChainTree, NoneTree, IfTree, WhenTree}
 use Rattle.blocks.specs.Reads.{Reads}
 use Rattle.blocks.specs.WorkedSteps.{laid, bytes, desk}

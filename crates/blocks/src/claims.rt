@@ -1,6 +1,8 @@
 //! Facts about the definitions, each the contract of a function that does nothing.
 
 ghost use Rattle.blocks.specs.StepLaws.{DifferencesAreOfBytes, TestsAreOfBytes};
+ghost use Rattle.blocks.specs.WorkedCosts.{LoadsCost, StoresCost, SumsCost, ChangesCost, TestsCost, ChoicesCost};
+ghost use Rattle.blocks.specs.WorkedCosts.{RepeatsCost, KindsCost};
 ghost use Rattle.blocks.specs.WorkedReads.{EntriesAreWorked, ByPointerIsWorked};
 ghost use Rattle.blocks.specs.WorkedSteps.{LoadsAreWorked, StoresAreWorked, SumsAreWorked, BitsAreWorked};
 ghost use Rattle.blocks.specs.WorkedSteps.{CountsAreWorked, HalvesAreWorked, TestsAreWorked, ComparisonsAreWorked};
@@ -44,4 +46,16 @@ pub fn worked_blocks()
 pub fn worked_reads()
     ensures entries { EntriesAreWorked }
     ensures by_pointer { ByPointerIsWorked }
+{}
+
+/// The lowering table: instructions, bytes and greatest cycles of each step, test, branch and kind.
+pub fn worked_costs()
+    ensures loads { LoadsCost }
+    ensures stores { StoresCost }
+    ensures sums { SumsCost }
+    ensures changes { ChangesCost }
+    ensures tests { TestsCost }
+    ensures choices { ChoicesCost }
+    ensures repeats { RepeatsCost }
+    ensures kinds { KindsCost }
 {}

@@ -4,10 +4,10 @@ ghost use Rattle.std.specs.Prelude.{◌≡◌, IfOk, nat_eq, nat_lt, bit_and, bi
 ghost use Rattle.blocks.specs.Trees.{tree_of};
 ghost use Rattle.blocks.specs.FormTrees.{changed_tree, word_tree};
 ghost use Rattle.blocks.specs.Forms.{Moves, Changes, byte_sum, byte_difference, ChangesWord, word_sum, word_difference};
-ghost use Rattle.blocks.specs.Forms.{HalvesWord, Fetches, FetchesFar, Chooses, share_a_bit};
+ghost use Rattle.blocks.specs.Forms.{HalvesWord, Fetches, FetchesFar, Chooses, share_a_bit, RepeatsUntil};
 
-use crate::block::Block;
-use crate::builders::{chain, choose};
+use crate::block::{Block, Counter};
+use crate::builders::{chain, choose, until};
 use crate::steps::{Cell, Condition, Counted, Half, Operand, Place, Source, Step, Summand, Test};
 use base::NoMemory;
 use std::alloc::Global;
@@ -280,5 +280,86 @@ pub fn if_bits(
         Test::Not(Condition::Zero),
         this,
         other,
+    )
+}
+
+/// The block again and again until two bytes are the same, which is tried before each turn, the first one too; at most as often as the
+/// count, 1 to 255, says. The counter holds the turns that are left.
+///
+/// # Errors
+///
+/// Out of memory.
+pub fn until_equal(
+    alloc: Global,
+    counter: Counter,
+    count: u8,
+    one: Operand,
+    two: Operand,
+    body: Block,
+) -> Result<Block, NoMemory>
+    ensures { IfOk result (λ block.
+        RepeatsUntil nat_eq one two counter count (tree_of body) (tree_of block)) }
+{
+    until(
+        alloc,
+        counter,
+        count,
+        &[load(one)],
+        Test::Is(Condition::Equal(two)),
+        body,
+    )
+}
+
+/// The block again and again until a byte is below another, which is tried before each turn, the first one too; at most as often as the
+/// count, 1 to 255, says. The counter holds the turns that are left.
+///
+/// # Errors
+///
+/// Out of memory.
+pub fn until_less(
+    alloc: Global,
+    counter: Counter,
+    count: u8,
+    one: Operand,
+    two: Operand,
+    body: Block,
+) -> Result<Block, NoMemory>
+    ensures { IfOk result (λ block.
+        RepeatsUntil nat_lt one two counter count (tree_of body) (tree_of block)) }
+{
+    until(
+        alloc,
+        counter,
+        count,
+        &[load(one)],
+        Test::Is(Condition::Less(two)),
+        body,
+    )
+}
+
+/// The block again and again until a byte has a bit of a mask, which is tried before each turn, the first one too; at most as often as the
+/// count, 1 to 255, says. The counter holds the turns that are left.
+///
+/// # Errors
+///
+/// Out of memory.
+pub fn until_bits(
+    alloc: Global,
+    counter: Counter,
+    count: u8,
+    one: Operand,
+    mask: Operand,
+    body: Block,
+) -> Result<Block, NoMemory>
+    ensures { IfOk result (λ block.
+        RepeatsUntil share_a_bit one mask counter count (tree_of body) (tree_of block)) }
+{
+    until(
+        alloc,
+        counter,
+        count,
+        &[load(one), Step::And(mask)],
+        Test::Not(Condition::Zero),
+        body,
     )
 }

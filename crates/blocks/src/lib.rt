@@ -25,6 +25,6 @@ pub use block::{Block, Counter, Start};
 pub use builders::{chain, choose, each_voice, fill, seq, until, when};
 pub use forms::{
     add, add_word, and, far, fetch, halve_word, if_bits, if_equal, if_less, move_byte, or, sub,
-    sub_word, xor,
+    sub_word, until_bits, until_equal, until_less, xor,
 };
 pub use steps::{Cell, Condition, Counted, Half, Operand, Place, Source, Step, Summand, Test};
