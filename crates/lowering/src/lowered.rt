@@ -20,13 +20,13 @@ use std::alloc::Global;
 
 /// Where a block's lines stand.
 #[derive(Clone, Copy)]
-struct Place {
+pub(crate) struct Place {
     /// The place of the pointer's low byte in page 0.
-    pointer: u8,
+    pub(crate) pointer: u8,
     /// The part.
-    part: u8,
+    pub(crate) part: u8,
     /// The first label that the lines name.
-    first: u16,
+    pub(crate) first: u16,
 }
 
 /// Not zero.
@@ -264,7 +264,7 @@ fn voices_of(alloc: Global, place: Place, body: &Block, inner: Listing) -> Resul
 }
 
 /// The lines of a block at a place.
-fn lowered(alloc: Global, block: &Block, place: Place) -> Result<Listing, NoMemory>
+pub(crate) fn lowered(alloc: Global, block: &Block, place: Place) -> Result<Listing, NoMemory>
     requires { place.first + label_count (tree_of block.now) ≤ 65535 }
     ensures { IfOk result (λ listing. listing
         ≡ lines place.pointer every place.part place.first (tree_of block.now)) }

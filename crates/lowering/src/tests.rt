@@ -1,29 +1,87 @@
-//! A block that is lowered and assembled, with ample memory.
+//! Blocks that are lowered, assembled and run on the machine, against what they mean.
+
+mod chains;
+mod desk;
+mod kinds;
+mod random;
+mod site;
 
 use crate::lower;
 use asm6502::{FeatureBits, assemble};
-use blocks::{Place, Source, Step, chain};
+use blocks::{Operand, Place, move_byte};
+use site::{Begin, Bench, Site};
 use std::test::Fail;
 
-/// The move of 15 to register 24 is LDA #15, STA $D418, at each origin.
+/// The origins at which blocks are run: the first one, one that crosses pages, and one near the last.
+const ORIGINS: [u16; 3] = [0x0800, 0x10f3, 0xcc00];
+
+/// The bytes of the labels: 0, 1, 129, 255 and 127, and 0 on.
+fn bytes() -> [u8; 64] {
+    let mut bytes = [0; 64];
+    bytes[1] = 1;
+    bytes[2] = 129;
+    bytes[3] = 255;
+    bytes[4] = 127;
+    bytes
+}
+
+/// A beginning with these registers, and the carry; zero and minus both set, as no byte shows.
+fn begin(a: u8, y: u8, carry: bool) -> Begin {
+    Begin {
+        a,
+        x: 0x5a,
+        y,
+        flags: if carry { 15 } else { 5 },
+        bytes: bytes(),
+    }
+}
+
+/// A place with bit 5 kept.
+fn place_at(origin: u16) -> Site {
+    Site {
+        origin,
+        pointer: 0xfc,
+        kept: 5,
+    }
+}
+
+/// The move of 15 to register 24 is LDA #15, STA $D418, at each origin, and changes no other register.
 #[test]
 fn move_is_two_instructions(rt: HostRuntime) -> Result<(), Fail> {
+    let alloc = rt.alloc();
+    let block = move_byte(alloc, Place::Register(24), Operand::Const(15))?;
+    let mut bench = Bench::new(alloc)?;
+    for origin in ORIGINS {
+        bench.machine.memory.write(0xd418, 0);
+        bench.run(alloc, &block, place_at(origin), begin(7, 9, true))?;
+        assert_eq!(rt; bench.steps, 2);
+        assert_eq!(rt;
+            bench.machine.memory.read(0xd417),
+            0x17_u8.wrapping_mul(7) ^ 0xd4
+        );
+        assert_eq!(rt; bench.machine.memory.read(0xd418), 15);
+    }
+    assert!(rt; bench.is_same());
+    Ok(())
+}
+
+/// A sound block is lowered by the public call, and its lines assemble.
+#[test]
+fn lowered_lines_assemble(rt: HostRuntime) -> Result<(), Fail> {
+    use blocks::{Source, Step, chain};
     let alloc = rt.alloc();
     let steps = [
         Step::Load(Source::number(15)),
         Step::Store(Place::Register(24)),
     ];
-    let block = chain(alloc, &steps)?;
-    let listing = lower(alloc, &block, 0xfc, 0)?;
+    let listing = lower(alloc, &chain(alloc, &steps)?, 0xfc, 0)?;
     assert!(rt; listing.is_within_limits());
-    for origin in [0x0800, 0x1000, 0xcffb] {
-        let assembled = assemble(alloc, &listing, origin, FeatureBits(0))
-            .ok()
-            .ok_or("refused")?;
-        assert_eq!(rt;
-            assembled.bytes.as_slice(),
-            [0xa9, 0x0f, 0x8d, 0x18, 0xd4].as_slice()
-        );
-    }
+    let assembled = assemble(alloc, &listing, 0x1000, FeatureBits(0))
+        .ok()
+        .ok_or("refused")?;
+    assert_eq!(rt;
+        assembled.bytes.as_slice(),
+        [0xa9, 0x0f, 0x8d, 0x18, 0xd4].as_slice()
+    );
     Ok(())
 }
