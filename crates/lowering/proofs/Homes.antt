@@ -24,8 +24,8 @@ use Rattle.blocks.specs.Places.{is_operand, is_summand, is_source, is_place, is_
 use Rattle.blocks.specs.Steps.{condition_of}
 use Rattle.lowering.specs.Instructions.{code, name, cell_line, operand_line, summand_line, source_line, place_line}
 use Rattle.lowering.specs.Instructions.{counted_line, step_lines, chain_lines, condition_lines, test_lines}
-use Rattle.lowering.specs.Uses.{uses_cell, uses_operand, uses_summand, uses_source, uses_place, uses_counted, uses_step}
-use Rattle.lowering.specs.Uses.{uses_steps, uses_condition}
+use Rattle.lowering.specs.Places.{any_of, names_cell, names_operand, names_summand, names_source, names_place}
+use Rattle.lowering.specs.Places.{names_counted, names_step, names_steps, names_condition}
 
 -- a line that uses no label but others, and branches to none
 pub record Plainly (others : ℕ → Bool) (line : Line) : Type 0 where
@@ -106,14 +106,15 @@ record Works (mn : Mnemonic) : Type 0 where
   absolute_x : is_some (opcode_of mn AbsoluteX) ≡ true
 
 cell_plain : (others : ℕ → Bool) (part : ℕ) (mn : Mnemonic) → is_no_part part ≡ false → Works mn → (cell : Cell) →
-    uses_cell others cell ≡ true → Plainly others (cell_line part mn cell)
+    names_cell (any_of others) cell ≡ true → Plainly others (cell_line part mn cell)
 cell_plain others part mn p w (Var label) u =
     label_plain others part mn Absolute label 0 p (ap (λ z. z && true) w.absolute) refl u
 cell_plain others part mn p w (VoiceVar label) u =
     label_plain others part mn AbsoluteX label 0 p (ap (λ z. z && true) w.absolute_x) refl u
 
 operand_plain : (others : ℕ → Bool) (part : ℕ) (mn : Mnemonic) → is_no_part part ≡ false → Takes mn →
-    (in_voices : Bool) (operand : Operand) → is_operand in_voices operand ≡ true → uses_operand others operand ≡ true →
+    (in_voices : Bool) (operand : Operand) → is_operand in_voices operand ≡ true →
+    names_operand (any_of others) operand ≡ true →
     Plainly others (operand_line part mn operand)
 operand_plain others part mn p t iv (Const number) i u =
     number_plain others part mn Immediate number p
@@ -123,14 +124,14 @@ operand_plain others part mn p t iv (HeldOperand cell) i u =
 
 summand_plain : (others : ℕ → Bool) (part : ℕ) (mn : Mnemonic) → is_no_part part ≡ false → Takes mn →
     is_some (opcode_of mn AbsoluteY) ≡ true → (in_voices : Bool) (summand : Summand) →
-    is_summand in_voices summand ≡ true → uses_summand others summand ≡ true →
+    is_summand in_voices summand ≡ true → names_summand (any_of others) summand ≡ true →
     Plainly others (summand_line part mn summand)
 summand_plain others part mn p t y iv (Plain operand) i u = operand_plain others part mn p t iv operand i u
 summand_plain others part mn p t y iv (Entry table) i u =
     label_plain others part mn AbsoluteY table 0 p (ap (λ z. z && true) y) refl u
 
 source_plain : (others : ℕ → Bool) (pointer part : ℕ) → is_no_part part ≡ false → pointer ≤ 254 → (in_voices : Bool)
-    (source : Source) → is_source in_voices source ≡ true → uses_source others source ≡ true →
+    (source : Source) → is_source in_voices source ≡ true → names_source (any_of others) source ≡ true →
     Plainly others (source_line pointer part source)
 source_plain others pointer part p few iv (Direct summand) i u =
     summand_plain others part Lda p (record { immediate = refl; absolute = refl; absolute_x = refl }) refl iv summand i u
@@ -139,7 +140,7 @@ source_plain others pointer part p few iv Byte i u =
 source_plain others pointer part p few iv FromY i u = bare_plain others part _ Implied p refl refl
 
 place_plain : (others : ℕ → Bool) (pointer part : ℕ) → is_no_part part ≡ false → pointer ≤ 254 → (in_voices : Bool)
-    (place : Place) → is_place in_voices place ≡ true → uses_place others place ≡ true →
+    (place : Place) → is_place in_voices place ≡ true → names_place (any_of others) place ≡ true →
     Plainly others (place_line pointer part place)
 place_plain others pointer part p few iv (HeldPlace cell) i u =
     cell_plain others part Sta p (record { absolute = refl; absolute_x = refl }) cell u
@@ -154,7 +155,7 @@ place_plain others pointer part p few iv (Pointer High) i u =
 place_plain others pointer part p few iv IntoY i u = bare_plain others part _ Implied p refl refl
 
 counted_plain : (others : ℕ → Bool) (part : ℕ) (mn of_y : Mnemonic) → is_no_part part ≡ false → Works mn →
-    is_some (opcode_of of_y Implied) ≡ true → (what : Counted) → uses_counted others what ≡ true →
+    is_some (opcode_of of_y Implied) ≡ true → (what : Counted) → names_counted (any_of others) what ≡ true →
     Plainly others (counted_line part mn of_y what)
 counted_plain others part mn of_y p w o (HeldCounted cell) u = cell_plain others part mn p w cell u
 counted_plain others part mn of_y p w o CountedY u =
@@ -176,7 +177,8 @@ two_home others before after one two p q = (
 
 -- the lines of a step
 step_home : (others : ℕ → Bool) (pointer part : ℕ) (before after : List Line) → is_no_part part ≡ false →
-    pointer ≤ 254 → (in_voices : Bool) (step : Step) → is_step in_voices step ≡ true → uses_step others step ≡ true →
+    pointer ≤ 254 → (in_voices : Bool) (step : Step) → is_step in_voices step ≡ true →
+    names_step (any_of others) step ≡ true →
     AtHome others before (step_lines pointer part step) after
 step_home o pointer part b a p few iv (Load source) i u = one_home o b a _ (source_plain o pointer part p few iv source i u)
 step_home o pointer part b a p few iv (Store place) i u = one_home o b a _ (place_plain o pointer part p few iv place i u)
@@ -218,18 +220,18 @@ step_home o pointer part b a p few iv (HalveOn cell) i u =
 
 pub chain_home : (others : ℕ → Bool) (pointer part : ℕ) (before after : List Line) → is_no_part part ≡ false →
     pointer ≤ 254 → (in_voices : Bool) (steps : List Step) → are_steps in_voices steps ≡ true →
-    uses_steps others steps ≡ true → AtHome others before (chain_lines pointer part steps) after
+    names_steps (any_of others) steps ≡ true → AtHome others before (chain_lines pointer part steps) after
 chain_home o pointer part b a p few iv [] i u = tt
 chain_home o pointer part b a p few iv (step ∷ steps) i u =
     let is = and_parts (is_step iv step) (are_steps iv steps) i in
-    let us = and_parts (uses_step o step) (uses_steps o steps) u in
+    let us = and_parts (names_step (any_of o) step) (names_steps (any_of o) steps) u in
     homes_append o b (step_lines pointer part step) (chain_lines pointer part steps) a
     (step_home o pointer part b (chain_lines pointer part steps ++ a) p few iv step is.0 us.0)
     (chain_home o pointer part (b ++ step_lines pointer part step) a p few iv steps is.1 us.1)
 
 condition_home : (others : ℕ → Bool) (part : ℕ) (before after : List Line) → is_no_part part ≡ false →
     (in_voices : Bool) (condition : Condition) → is_condition in_voices condition ≡ true →
-    uses_condition others condition ≡ true → AtHome others before (condition_lines part condition) after
+    names_condition (any_of others) condition ≡ true → AtHome others before (condition_lines part condition) after
 condition_home o part b a p iv Zero i u = tt
 condition_home o part b a p iv Minus i u = tt
 condition_home o part b a p iv Carry i u = tt
@@ -244,8 +246,9 @@ condition_home o part b a p iv (YEqual number) i u = one_home o b a _ (number_pl
 -- and of steps with what a test behind them compares
 pub test_home : (others : ℕ → Bool) (pointer part : ℕ) (before after : List Line) → is_no_part part ≡ false →
     pointer ≤ 254 → (in_voices : Bool) (steps : List Step) (test : Test) → are_steps in_voices steps ≡ true →
-    is_condition in_voices (condition_of test) ≡ true → uses_steps others steps ≡ true →
-    uses_condition others (condition_of test) ≡ true → AtHome others before (test_lines pointer part steps test) after
+    is_condition in_voices (condition_of test) ≡ true → names_steps (any_of others) steps ≡ true →
+    names_condition (any_of others) (condition_of test) ≡ true →
+    AtHome others before (test_lines pointer part steps test) after
 test_home o pointer part b a p few iv steps test i c u v =
     homes_append o b (chain_lines pointer part steps) (condition_lines part (condition_of test)) a
     (chain_home o pointer part b (condition_lines part (condition_of test) ++ a) p few iv steps i u)

@@ -21,7 +21,8 @@ use Rattle.lowering.specs.Instructions.{down_line}
 use Rattle.lowering.specs.Lines.{every, lines, sides, before_start, if_far, back_far, exit_far, voices_far, if_labels}
 use Rattle.blocks.specs.Counters.{counters_are_left}
 use Rattle.blocks.specs.Known.{none, reads_known}
-use Rattle.lowering.specs.Uses.{uses_steps, uses_condition, uses_counter, uses_start, uses_tree, LoweredLinesAreAtHome}
+use Rattle.lowering.specs.Uses.{LoweredLinesAreAtHome}
+use Rattle.lowering.specs.Places.{any_of, names_steps, names_condition, names_counter, names_fill, names_tree}
 use Rattle.lowering.proofs.Homes.{Plainly, name_home, number_plain, bare_plain, label_plain, plain_home, one_home}
 use Rattle.lowering.proofs.Homes.{home_before, home_after, chain_home, test_home}
 use Rattle.lowering.proofs.Reaching.{branch_home_on, branch_home_back, jump_home_on}
@@ -73,7 +74,7 @@ two_sides_home o part first far test this other b a p near home_this home_other 
 
 -- a counter's lines
 set_home : (others : ℕ → Bool) (part : ℕ) (before after : List Line) (counter : Counter) (count : ℕ) →
-    is_no_part part ≡ false → is_byte count ≡ true → uses_counter others counter ≡ true →
+    is_no_part part ≡ false → is_byte count ≡ true → names_counter (any_of others) counter ≡ true →
     AtHome others before (set_lines part counter count) after
 set_home o part b a (CounterVar label) count p byte u = (
   plain_home o b _ _ (number_plain o part Lda Immediate count p byte refl),
@@ -82,13 +83,13 @@ set_home o part b a (CounterVar label) count p byte u = (
 set_home o part b a CounterY count p byte u = one_home o b a _ (number_plain o part Ldy Immediate count p byte refl)
 
 down_home : (others : ℕ → Bool) (part : ℕ) (before after : List Line) (counter : Counter) → is_no_part part ≡ false →
-    uses_counter others counter ≡ true → IsAtHome others before (down_line part counter) after
+    names_counter (any_of others) counter ≡ true → IsAtHome others before (down_line part counter) after
 down_home o part b a (CounterVar label) p u = plain_home o b _ a (label_plain o part _ _ label 0 p refl refl u)
 down_home o part b a CounterY p u = plain_home o b _ a (bare_plain o part Dey Implied p refl refl)
 
 -- an Until from its head on
 turn_home : (others : ℕ → Bool) (part first : ℕ) (exit back : Bool) (test : Test) (counter : Counter)
-    (head inner before after : List Line) → is_no_part part ≡ false → uses_counter others counter ≡ true →
+    (head inner before after : List Line) → is_no_part part ≡ false → names_counter (any_of others) counter ≡ true →
     (exit ≡ false → size_of inner + (down_cost counter).bytes + (branch_cost back).bytes ≤ 127) →
     (back ≡ false → size_of head + 5 + size_of inner + (down_cost counter).bytes ≤ 126) →
     ((b a : List Line) → AtHome others b head a) → ((b a : List Line) → AtHome others b inner a) →
@@ -206,7 +207,7 @@ voice_home o part first back inner b a p near home =
 
 -- a Fill
 fill_home : (others : ℕ → Bool) (part first : ℕ) (start : Start) (count : ℕ) (before after : List Line) →
-    is_no_part part ≡ false → is_fill start count ≡ true → uses_start others start ≡ true →
+    is_no_part part ≡ false → is_fill start count ≡ true → names_fill (any_of others) start count ≡ true →
     AtHome others before
     (code part Lda Immediate (Number 0) ∷ code part Ldy Immediate (Number count) ∷ name part first ∷ code part Sta
     AbsoluteY (before_start start) ∷ bare part Dey ∷ branch_lines part false (Not Zero) first) after
@@ -242,7 +243,8 @@ fill_home o part first start count b a p is u =
     byte (StartRegister register) e =
         (and_parts (nat_lt 0 count) (is_byte count) (and_parts (is_count count) (nat_le (register + count) 25) e).0).1
 
-    store : (start : Start) → uses_start o start ≡ true → Plainly o (code part Sta AbsoluteY (before_start start))
+    store : (start : Start) → names_fill (any_of o) start count ≡ true →
+        Plainly o (code part Sta AbsoluteY (before_start start))
     store (StartVar label) v = label_plain o part Sta AbsoluteY label 65535 p refl refl v
     store (StartRegister register) v = number_plain o part Sta AbsoluteY (0xD3FF + register) p refl refl
 
@@ -269,12 +271,12 @@ choice_home o false part first far test this other b a p near home_this home_oth
 
 pub tree_home : (others : ℕ → Bool) (pointer part first : ℕ) (before after : List Line) (in_voices in_when : Bool)
     (tree : Tree) → is_no_part part ≡ false → pointer ≤ 254 → is_placed in_voices in_when tree ≡ true →
-    uses_tree others tree ≡ true → AtHome others before (lines pointer every part first tree) after
+    names_tree (any_of others) tree ≡ true → AtHome others before (lines pointer every part first tree) after
 tree_home o pointer part first b a iv iw (ChainTree steps) p few is u = chain_home o pointer part b a p few iv steps is u
 tree_home o pointer part first b a iv iw NoneTree p few is u = tt
 tree_home o pointer part first b a iv iw (ThenTree one rest) p few is u =
     let i = and_parts (is_placed iv iw one) (is_placed iv iw rest) is in
-    let v = and_parts (uses_tree o one) (uses_tree o rest) u in
+    let v = and_parts (names_tree (any_of o) one) (names_tree (any_of o) rest) u in
     homes_append o b (lines pointer every part first one) (lines pointer every part (first + label_count one) rest) a
     (tree_home o pointer part first b (lines pointer every part (first + label_count one) rest ++ a) iv iw one p few i.0
     v.0)
@@ -285,10 +287,10 @@ tree_home o pointer part first b a iv iw (IfTree steps test this other) p few is
     (is_placed iv iw other) is in
     let j = and_parts (are_steps iv steps && is_condition iv (condition_of test)) (is_placed iv iw this) i.0 in
     let k = and_parts (are_steps iv steps) (is_condition iv (condition_of test)) j.0 in
-    let n = and_parts (uses_steps o steps && uses_condition o (condition_of test) && uses_tree o this)
-    (uses_tree o other) u in
-    let m = and_parts (uses_steps o steps && uses_condition o (condition_of test)) (uses_tree o this) n.0 in
-    let q = and_parts (uses_steps o steps) (uses_condition o (condition_of test)) m.0 in
+    let n = and_parts (names_steps (any_of o) steps && names_condition (any_of o) (condition_of test) && names_tree (any_of o) this)
+    (names_tree (any_of o) other) u in
+    let m = and_parts (names_steps (any_of o) steps && names_condition (any_of o) (condition_of test)) (names_tree (any_of o) this) n.0 in
+    let q = and_parts (names_steps (any_of o) steps) (names_condition (any_of o) (condition_of test)) m.0 in
     let head = test_lines pointer part steps test in
     let one = lines pointer every part (first + if_labels other) this in
     let two = lines pointer every part (first + if_labels other + label_count this) other in
@@ -309,10 +311,10 @@ tree_home o pointer part first b a iv iw (UntilTree counter count steps test bod
     let k = and_parts (is_counter counter && is_count count) (are_steps iv steps) j.0 in
     let c = and_parts (is_counter counter) (is_count count) k.0 in
     let byte = (and_parts (nat_lt 0 count) (is_byte count) c.1).1 in
-    let n = and_parts (uses_counter o counter && uses_steps o steps && uses_condition o (condition_of test))
-    (uses_tree o body) u in
-    let m = and_parts (uses_counter o counter && uses_steps o steps) (uses_condition o (condition_of test)) n.0 in
-    let q = and_parts (uses_counter o counter) (uses_steps o steps) m.0 in
+    let n = and_parts (names_counter (any_of o) counter && names_steps (any_of o) steps && names_condition (any_of o) (condition_of test))
+    (names_tree (any_of o) body) u in
+    let m = and_parts (names_counter (any_of o) counter && names_steps (any_of o) steps) (names_condition (any_of o) (condition_of test)) n.0 in
+    let q = and_parts (names_counter (any_of o) counter) (names_steps (any_of o) steps) m.0 in
     let head = test_lines pointer part steps test in
     let inner = lines pointer every part (first + 2) body in
     let size_is = lines_size pointer part (first + 2) body in

@@ -7,7 +7,7 @@ use Rattle.asm6502.specs.Stretches.{NamesNoLabelTwice, NamesOthers}
 use Rattle.blocks.specs.Trees.{Tree}
 use Rattle.blocks.specs.Sound.{is_sound}
 use Rattle.lowering.specs.Lines.{all_lines}
-use Rattle.lowering.specs.Uses.{uses_tree}
+use Rattle.lowering.specs.Places.{any_of, names_tree}
 
 -- a line isn't refused: neither for its form nor for a label that it uses, and, where the listing fits at its origin,
 -- without which no branch is looked at, not as a branch that is too far
@@ -21,7 +21,7 @@ pub record IsNotRefused (set origin : ℕ) (lines before : List Line) (line : Li
 abbrev pub LoweredLinesAreNotRefused : Type 0
 LoweredLinesAreNotRefused =
     (others : ℕ → Bool) (set origin pointer first : ℕ) (tree : Tree) (front back before : List Line) (line : Line)
-    (after : List Line) → is_sound tree ≡ true → uses_tree others tree ≡ true → 2 ≤ pointer → pointer ≤ 254 →
+    (after : List Line) → is_sound tree ≡ true → names_tree (any_of others) tree ≡ true → 2 ≤ pointer → pointer ≤ 254 →
     NamesNoLabelTwice (front ++ (all_lines pointer first tree ++ back)) →
     NamesOthers others (front ++ (all_lines pointer first tree ++ back)) →
     all_lines pointer first tree ≡ before ++ line ∷ after →

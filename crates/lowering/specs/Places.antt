@@ -13,12 +13,17 @@ use Rattle.blocks.specs.Trees.{FillTree}
 use Rattle.blocks.specs.Desk.{Layout}
 use Rattle.blocks.specs.Steps.{condition_of}
 
--- the labels of bytes of the block's own, those of the first voice's bytes, and those from which on so many bytes are
--- filled
+-- the labels of bytes of the block's own, those of the first voice's bytes, those from which on so many bytes are
+-- filled, and those of tables, whose entries are read alone
 pub record Names : Type 0 where
   pub is_own : ℕ → Bool
   pub is_voice : ℕ → Bool
   pub is_row : ℕ → ℕ → Bool
+  pub is_table : ℕ → Bool
+
+-- the same labels for each of these
+abbrev pub any_of : (ℕ → Bool) → Names
+any_of labels = record { is_own = labels; is_voice = labels; is_row = λ label count. labels label; is_table = labels }
 
 abbrev pub names_cell : Names → Cell → Bool
 names_cell names (Var label) = names.is_own label
@@ -30,7 +35,7 @@ names_operand names (HeldOperand cell) = names_cell names cell
 
 abbrev pub names_summand : Names → Summand → Bool
 names_summand names (Plain operand) = names_operand names operand
-names_summand names (Entry table) = true
+names_summand names (Entry table) = names.is_table table
 
 abbrev pub names_source : Names → Source → Bool
 names_source names (Direct summand) = names_summand names summand
