@@ -1,6 +1,7 @@
 -- What forms on named bytes do: moves, sums and other changes of a byte, words, entries of tables, and choices. This is
 -- the language of bytes that the language of steps has inside it.
-use Rattle.std.specs.Prelude.{◌≡◌, ◌≢◌, ℕ, zero, suc, ◌+◌, ◌-◌, ◌*◌, ◌/◌, ◌%◌, ◌<◌, Bool, true, false, not, nat_eq, bit_and, if◌then◌else◌}
+use Rattle.std.specs.Prelude.{◌≡◌, ◌≢◌, ℕ, zero, suc, ◌+◌, ◌-◌, ◌*◌, ◌/◌, ◌%◌, ◌<◌, Bool, true, false, not, nat_eq}
+use Rattle.std.specs.Prelude.{bit_and, if◌then◌else◌}
 use Rattle.cpu6502.specs.declared.memory.TheConstants.{MEMORY_SIZE}
 use Rattle.code_runs.specs.Runs.{put}
 use Rattle.blocks.specs.Words.{Cell, Operand, Const, HeldOperand, Place, HeldPlace, Register, VoiceRegister, Timer}

@@ -2,12 +2,14 @@
 -- and kind. Source of the figures: the MOS 6502 programming manual.
 use Rattle.std.specs.Prelude.{◌≡◌, ℕ, ◌+◌, true, false, []}
 use Rattle.blocks.specs.Words.{Cell, Var, VoiceVar, Operand, Const, HeldOperand, Plain, Entry, Direct, Byte}
-use Rattle.blocks.specs.Words.{FromY, Half, HeldPlace, Register, VoiceRegister, Timer, Pointer, IntoY, HeldCounted, CountedY}
+use Rattle.blocks.specs.Words.{FromY, Half, HeldPlace, Register, VoiceRegister, Timer, Pointer, IntoY, HeldCounted}
+use Rattle.blocks.specs.Words.{CountedY}
 use Rattle.blocks.specs.Words.{Load, Store, Index, And, Or, Xor, Add, Sub, AddOn, SubOn, Double, Inc, Dec}
 use Rattle.blocks.specs.Words.{HalveAt, HalveOn, Zero, Minus, Carry, Equal, Less, YEqual, Is}
 use Rattle.blocks.specs.Words.{CounterVar, CounterY, StartVar, StartRegister}
 use Rattle.blocks.specs.Trees.{NoneTree, ThenTree, IfTree, UntilTree, EachVoiceTree, WhenTree, FillTree}
-use Rattle.blocks.specs.Shape.{Cost, cost, nothing, step_cost, condition_cost, branch_cost, jump_cost, set_cost, down_cost}
+use Rattle.blocks.specs.Shape.{Cost, cost, nothing, step_cost, condition_cost, branch_cost, jump_cost, set_cost}
+use Rattle.blocks.specs.Shape.{down_cost}
 use Rattle.blocks.specs.Sizes.{size, label_count}
 use Rattle.blocks.specs.Costs.{own_cost, node_cost}
 use Rattle.blocks.specs.WorkedBlocks.{doubles}

@@ -283,8 +283,8 @@ pub fn if_bits(
     )
 }
 
-/// The block again and again until two bytes are the same, which is tried before each turn, the first one too; at most as often as the
-/// count, 1 to 255, says. The counter holds the turns that are left.
+/// The block again and again until two bytes are the same, which is asked before each turn, the first one too.
+/// There are at most as many turns as the count, 1 to 255, says, and the counter holds those that are left.
 ///
 /// # Errors
 ///
@@ -310,8 +310,8 @@ pub fn until_equal(
     )
 }
 
-/// The block again and again until a byte is below another, which is tried before each turn, the first one too; at most as often as the
-/// count, 1 to 255, says. The counter holds the turns that are left.
+/// The block again and again until a byte is below another, which is asked before each turn, the first one too.
+/// There are at most as many turns as the count, 1 to 255, says, and the counter holds those that are left.
 ///
 /// # Errors
 ///
@@ -337,8 +337,8 @@ pub fn until_less(
     )
 }
 
-/// The block again and again until a byte has a bit of a mask, which is tried before each turn, the first one too; at most as often as the
-/// count, 1 to 255, says. The counter holds the turns that are left.
+/// The block again and again until a byte has a bit of a mask, which is asked before each turn, the first one too.
+/// There are at most as many turns as the count, 1 to 255, says, and the counter holds those that are left.
 ///
 /// # Errors
 ///

@@ -11,7 +11,8 @@ use Rattle.lowering.specs.Words.{Step, Load, Store, Index, And, Or, Xor, Add, Su
 use Rattle.lowering.specs.Words.{HalveAt, HalveOn, Condition, Zero, Minus, Carry, Equal, Less, YEqual, Test, Is, Not}
 use Rattle.blocks.specs.Desk.{Desk, Layout, cell_place, sid_place, timer_place, with_byte}
 use Rattle.blocks.specs.Steps.{operand_byte, summand_byte, source_byte, byte_place, with_sum, stepped, chained}
-use Rattle.blocks.specs.Steps.{one_more, one_less, counted, halved, compared, asked, tested, holds, is_met, condition_of}
+use Rattle.blocks.specs.Steps.{one_more, one_less, counted, halved, compared, asked, tested, holds, is_met}
+use Rattle.blocks.specs.Steps.{condition_of}
 use Rattle.blocks.specs.Places.{is_cell, is_operand, is_summand, is_source, is_counted, is_step, are_steps}
 use Rattle.blocks.specs.Places.{is_condition}
 use Rattle.blocks.specs.Known.{Known, the_acc, the_y, the_low, the_high, the_carry, the_shown, either, is_within}

@@ -287,9 +287,11 @@ tree_home o pointer part first b a iv iw (IfTree steps test this other) p few is
     (is_placed iv iw other) is in
     let j = and_parts (are_steps iv steps && is_condition iv (condition_of test)) (is_placed iv iw this) i.0 in
     let k = and_parts (are_steps iv steps) (is_condition iv (condition_of test)) j.0 in
-    let n = and_parts (names_steps (any_of o) steps && names_condition (any_of o) (condition_of test) && names_tree (any_of o) this)
+    let n = and_parts (names_steps (any_of o) steps && names_condition (any_of o) (condition_of test)
+    && names_tree (any_of o) this)
     (names_tree (any_of o) other) u in
-    let m = and_parts (names_steps (any_of o) steps && names_condition (any_of o) (condition_of test)) (names_tree (any_of o) this) n.0 in
+    let m = and_parts (names_steps (any_of o) steps
+    && names_condition (any_of o) (condition_of test)) (names_tree (any_of o) this) n.0 in
     let q = and_parts (names_steps (any_of o) steps) (names_condition (any_of o) (condition_of test)) m.0 in
     let head = test_lines pointer part steps test in
     let one = lines pointer every part (first + if_labels other) this in
@@ -304,16 +306,19 @@ tree_home o pointer part first b a iv iw (IfTree steps test this other) p few is
     (λ b' a'. tree_home o pointer part (first + if_labels other) b' a' iv iw this p few j.1 m.1)
     (λ b' a'. tree_home o pointer part (first + if_labels other + label_count this) b' a' iv iw other p few i.1 n.1))
 tree_home o pointer part first b a iv iw (UntilTree counter count steps test body) p few is u =
-    let i = and_parts (is_counter counter && is_count count && are_steps iv steps && is_condition iv (condition_of test))
+    let i = and_parts (is_counter counter && is_count count && are_steps iv steps
+    && is_condition iv (condition_of test))
     (is_placed iv iw body) is in
     let j = and_parts (is_counter counter && is_count count && are_steps iv steps) (is_condition iv (condition_of test))
     i.0 in
     let k = and_parts (is_counter counter && is_count count) (are_steps iv steps) j.0 in
     let c = and_parts (is_counter counter) (is_count count) k.0 in
     let byte = (and_parts (nat_lt 0 count) (is_byte count) c.1).1 in
-    let n = and_parts (names_counter (any_of o) counter && names_steps (any_of o) steps && names_condition (any_of o) (condition_of test))
+    let n = and_parts (names_counter (any_of o) counter && names_steps (any_of o) steps
+    && names_condition (any_of o) (condition_of test))
     (names_tree (any_of o) body) u in
-    let m = and_parts (names_counter (any_of o) counter && names_steps (any_of o) steps) (names_condition (any_of o) (condition_of test)) n.0 in
+    let m = and_parts (names_counter (any_of o) counter
+    && names_steps (any_of o) steps) (names_condition (any_of o) (condition_of test)) n.0 in
     let q = and_parts (names_counter (any_of o) counter) (names_steps (any_of o) steps) m.0 in
     let head = test_lines pointer part steps test in
     let inner = lines pointer every part (first + 2) body in

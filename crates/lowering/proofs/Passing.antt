@@ -10,7 +10,8 @@ use Rattle.asm6502.specs.declared.lines.Item.{Item}
 use Rattle.asm6502.specs.declared.lines.Item.TheVariants.{Label as Named, Code, Bytes}
 use Rattle.asm6502.specs.declared.lines.Line.{Line}
 use Rattle.asm6502.specs.declared.faults.AsmFault.TheVariants.{BadLine, PastEnd}
-use Rattle.asm6502.specs.Lines.{is_part_kept, is_kept, kept, names, size_of, place_of, label_used, label_named, is_sound, is_no_part}
+use Rattle.asm6502.specs.Lines.{is_part_kept, is_kept, kept, names, size_of, place_of, label_used, label_named}
+use Rattle.asm6502.specs.Lines.{is_sound, is_no_part}
 use Rattle.asm6502.specs.Faults.{bad_line, unknown_in, unknown_label, past_end}
 use Rattle.asm6502.specs.Stretches.{NamesOthers, NamesFor, IsNamedIn, IsAtHome}
 use Rattle.asm6502.proofs.Laws.{kept-append, place_of-append, homes_grow, home_at, stretches_pass}
