@@ -1,19 +1,19 @@
 -- What forms on named bytes do.
 use Rattle.std.proofs.Common.{◌≡◌, ◌≢◌, ◌∙◌, ℕ, zero, suc, ◌+◌, ◌-◌, ◌*◌, ◌%◌, ◌<◌, List, [], ◌∷◌, refl, ap, sym, arith}
 use Rattle.std.proofs.Common.{nat_eq}
-use Rattle.std.proofs.Common.{nat_lt, nat_le, if◌then◌else◌, Bool, not, bit_and}
+use Rattle.std.proofs.Common.{nat_le, if◌then◌else◌, not, bit_and}
 use Rattle.code_runs.specs.Runs.{put}
 use Rattle.code_runs.proofs.Laws.{put_same, put_other}
 use Rattle.cpu6502.specs.Registers.{one_if}
 use Rattle.blocks.specs.Words.{Cell, Operand, Const, HeldOperand, Plain, Step, Store, HeldPlace, Add, Sub, AddOn, SubOn}
-use Rattle.blocks.specs.Words.{And, Zero, Equal, Less, Test, Is, Not, Counter}
+use Rattle.blocks.specs.Words.{Counter, ByteTest, SameBytes, BelowByte, CommonBit}
 use Rattle.blocks.specs.Trees.{Tree, IfTree, UntilTree}
-use Rattle.blocks.specs.Desk.{Desk, Layout, cell_place, with_acc}
-use Rattle.blocks.specs.Steps.{operand_byte, compared, chained, tested, is_met}
-use Rattle.blocks.specs.Meaning.{meaning, by_test, turns, counter_set, counter_down}
-use Rattle.blocks.specs.Forms.{HasWord, word, Apart, ChangesWord, word_sum, word_difference, Chooses}
-use Rattle.blocks.specs.Forms.{share_a_bit, Repeats, RepeatsUntil}
-use Rattle.blocks.specs.FormTrees.{load, word_tree}
+use Rattle.blocks.specs.Desk.{Desk, Layout, cell_place}
+use Rattle.blocks.specs.Steps.{operand_byte, chained, tested, is_met}
+use Rattle.blocks.specs.Meaning.{meaning, turns, counter_set, counter_down}
+use Rattle.blocks.specs.Forms.{HasWord, word, Apart, ChangesWord, word_sum, word_difference}
+use Rattle.blocks.specs.Forms.{answer_of, AreBytes, Chooses, Repeats, RepeatsUntil}
+use Rattle.blocks.specs.FormTrees.{load, word_tree, asking_steps, asking_test}
 use Rattle.blocks.proofs.Bytes.{shows_equal, shows_below, sums_add}
 
 -- two bytes that are put at their places make a word
@@ -98,121 +98,72 @@ pub takes_words : (low high : Cell) (other_low other_high : Operand) (tree : Tre
     ChangesWord word_difference low high other_low other_high tree
 takes_words low high other_low other_high tree e = rw e (take_words low high other_low other_high)
 
--- the desk behind a byte's load and its comparison with another
-abbrev compared_with : ℕ → ℕ → Desk → Desk
-compared_with one two desk = compared one two (with_acc one desk)
+-- ---- tests of two bytes
 
--- one of two ways, by the flags that a comparison leaves
-by_equal : (two : Operand) (this other : Desk → Desk) (desk : Desk) (a b b1 : ℕ) → b1 ≡ b → a < 256 → b < 256 →
-    by_test (Is (Equal two)) this other (compared_with a b1 desk)
-    ≡ (if nat_eq a b then this (compared_with a b desk) else other (compared_with a b desk))
-by_equal two this other desk a b b1 e la lb = rw (e, shows_equal a b la lb) refl
+-- what asks a question says what it says, and changes neither memory nor Y
+record Asks (test : ByteTest) (layout : Layout) (voice : ℕ) (before behind : Desk) : Type 0 where
+  met : is_met (asking_test test) behind ≡ answer_of layout voice test before
+  at : behind.at ≡ before.at
+  y : behind.y ≡ before.y
 
-by_less : (two : Operand) (this other : Desk → Desk) (desk : Desk) (a b b1 : ℕ) → b1 ≡ b →
-    by_test (Is (Less two)) this other (compared_with a b1 desk)
-    ≡ (if nat_lt a b then this (compared_with a b desk) else other (compared_with a b desk))
-by_less two this other desk a b b1 e =
-    rw e (ap (λ answer. if answer then this (compared_with a b desk) else other (compared_with a b desk))
-    (shows_below a b))
+asks : (test : ByteTest) (layout : Layout) (voice : ℕ) (desk : Desk) → AreBytes layout voice test desk →
+    Asks test layout voice desk (tested layout voice (asking_steps test) (asking_test test) desk)
+asks (SameBytes one two) layout voice desk bytes = record {
+  met =
+      ap (λ b. nat_eq ((operand_byte layout voice one desk + (256 - b)) % 256) 0)
+      (operand_same layout voice two desk (chained layout voice (load one ∷ []) desk) refl)
+      ∙ shows_equal (operand_byte layout voice one desk) (operand_byte layout voice two desk) bytes.0 bytes.1;
+  at = refl;
+  y = refl;
+}
+asks (BelowByte one two) layout voice desk bytes = record {
+  met =
+      ap (λ b. not (nat_le b (operand_byte layout voice one desk)))
+      (operand_same layout voice two desk (chained layout voice (load one ∷ []) desk) refl)
+      ∙ shows_below (operand_byte layout voice one desk) (operand_byte layout voice two desk);
+  at = refl;
+  y = refl;
+}
+asks (CommonBit one mask) layout voice desk bytes = record {
+  met =
+      ap (λ b. not (nat_eq (bit_and (operand_byte layout voice one desk) b) 0))
+      (operand_same layout voice mask desk (chained layout voice (load one ∷ []) desk) refl);
+  at = refl;
+  y = refl;
+}
 
-pub chooses_equal : (one two : Operand) (this other tree : Tree) →
-    tree ≡ IfTree (load one ∷ []) (Is (Equal two)) this other → Chooses nat_eq one two this other tree
-chooses_equal one two this other tree e =
+pub chooses : (test : ByteTest) (this other tree : Tree) →
+    tree ≡ IfTree (asking_steps test) (asking_test test) this other → Chooses test this other tree
+chooses test this other tree e =
     rw e
-    (λ layout voice desk la lb. record {
-      behind = compared_with (operand_byte layout voice one desk) (operand_byte layout voice two desk) desk;
-      at = refl;
-      y = refl;
+    (λ layout voice desk bytes.
+    let behind = tested layout voice (asking_steps test) (asking_test test) desk in
+    let asked = asks test layout voice desk bytes in record {
+      behind = behind;
+      at = asked.at;
+      y = asked.y;
       done =
-          by_equal two (meaning layout this voice) (meaning layout other voice) desk _ _ _
-          (operand_same layout voice two desk (chained layout voice (load one ∷ []) desk) refl) la lb;
+          ap (λ answer. if answer then meaning layout this voice behind else meaning layout other voice behind) asked.met;
     })
 
-pub chooses_less : (one two : Operand) (this other tree : Tree) →
-    tree ≡ IfTree (load one ∷ []) (Is (Less two)) this other → Chooses nat_lt one two this other tree
-chooses_less one two this other tree e =
-    rw e
-    (λ layout voice desk la lb. record {
-      behind = compared_with (operand_byte layout voice one desk) (operand_byte layout voice two desk) desk;
-      at = refl;
-      y = refl;
-      done =
-          by_less two (meaning layout this voice) (meaning layout other voice) desk _ _ _
-          (operand_same layout voice two desk (chained layout voice (load one ∷ []) desk) refl);
-    })
-
--- ---- turns until a test holds
-
--- steps and a test that say what a test of two bytes says, and change neither memory nor Y
-record Asks (test : ℕ → ℕ → Bool) (one two : Operand) (steps : List Step) (by : Test) (layout : Layout) (voice : ℕ) :
-    Type 0 where
-  met : (desk : Desk) → operand_byte layout voice one desk < 256 → operand_byte layout voice two desk < 256 →
-      is_met by (tested layout voice steps by desk)
-      ≡ test (operand_byte layout voice one desk) (operand_byte layout voice two desk)
-  at : (desk : Desk) → (tested layout voice steps by desk).at ≡ desk.at
-  y : (desk : Desk) → (tested layout voice steps by desk).y ≡ desk.y
-
-repeats : (test : ℕ → ℕ → Bool) (one two : Operand) (steps : List Step) (by : Test) (counter : Counter) (body : Tree)
-    (layout : Layout) (voice : ℕ) → Asks test one two steps by layout voice → (n : ℕ) (desk : Desk) →
-    Repeats test one two counter body layout voice n desk
-    (turns n by (tested layout voice steps by) (λ more. counter_down layout counter (meaning layout body voice more)) desk)
-repeats test one two steps by counter body layout voice asks zero desk = refl
-repeats test one two steps by counter body layout voice asks (suc n) desk =
-    λ la lb. (
-      tested layout voice steps by desk,
-      asks.at desk,
-      asks.y desk,
-      λ yes. let met = asks.met desk la lb ∙ yes in rw met refl,
-      λ no.
-          let unmet = asks.met desk la lb ∙ no in
-          rw unmet (repeats test one two steps by counter body layout voice asks n _),
+repeats : (test : ByteTest) (counter : Counter) (body : Tree) (layout : Layout) (voice n : ℕ) (desk : Desk) →
+    Repeats test counter body layout voice n desk
+    (turns n (asking_test test) (tested layout voice (asking_steps test) (asking_test test)) (λ more. counter_down
+    layout counter (meaning layout body voice more)) desk)
+repeats test counter body layout voice zero desk = refl
+repeats test counter body layout voice (suc n) desk =
+    λ bytes.
+    let asked = asks test layout voice desk bytes in (
+      tested layout voice (asking_steps test) (asking_test test) desk,
+      asked.at,
+      asked.y,
+      λ yes. let met = asked.met ∙ yes in rw met refl,
+      λ no. let unmet = asked.met ∙ no in rw unmet (repeats test counter body layout voice n _),
     )
 
-repeats_until : (test : ℕ → ℕ → Bool) (one two : Operand) (steps : List Step) (by : Test) (counter : Counter)
-    (count : ℕ) (body tree : Tree) → ((layout : Layout) (voice : ℕ) → Asks test one two steps by layout voice) →
-    tree ≡ UntilTree counter count steps by body → RepeatsUntil test one two counter count body tree
-repeats_until test one two steps by counter count body tree asks e =
+pub repeats_until : (test : ByteTest) (counter : Counter) (count : ℕ) (body tree : Tree) →
+    tree ≡ UntilTree counter count (asking_steps test) (asking_test test) body →
+    RepeatsUntil test counter count body tree
+repeats_until test counter count body tree e =
     rw e
-    (λ layout voice desk. repeats test one two steps by counter body layout voice (asks layout voice) count
-    (counter_set layout counter count desk))
-
-pub repeats_until_equal : (one two : Operand) (counter : Counter) (count : ℕ) (body tree : Tree) →
-    tree ≡ UntilTree counter count (load one ∷ []) (Is (Equal two)) body →
-    RepeatsUntil nat_eq one two counter count body tree
-repeats_until_equal one two counter count body tree e =
-    repeats_until nat_eq one two (load one ∷ []) (Is (Equal two)) counter count body tree
-    (λ layout voice. record {
-      met = λ desk la lb.
-          ap (λ b. nat_eq ((operand_byte layout voice one desk + (256 - b)) % 256) 0)
-          (operand_same layout voice two desk (chained layout voice (load one ∷ []) desk) refl)
-          ∙ shows_equal (operand_byte layout voice one desk) (operand_byte layout voice two desk) la lb;
-      at = λ desk. refl;
-      y = λ desk. refl;
-    }) e
-
-pub repeats_until_less : (one two : Operand) (counter : Counter) (count : ℕ) (body tree : Tree) →
-    tree ≡ UntilTree counter count (load one ∷ []) (Is (Less two)) body →
-    RepeatsUntil nat_lt one two counter count body tree
-repeats_until_less one two counter count body tree e =
-    repeats_until nat_lt one two (load one ∷ []) (Is (Less two)) counter count body tree
-    (λ layout voice. record {
-      met = λ desk la lb.
-          ap (λ b. not (nat_le b (operand_byte layout voice one desk)))
-          (operand_same layout voice two desk (chained layout voice (load one ∷ []) desk) refl)
-          ∙ shows_below (operand_byte layout voice one desk) (operand_byte layout voice two desk);
-      at = λ desk. refl;
-      y = λ desk. refl;
-    }) e
-
-pub repeats_until_bits : (one mask : Operand) (counter : Counter) (count : ℕ) (body tree : Tree) →
-    tree ≡ UntilTree counter count (load one ∷ And mask ∷ []) (Not Zero) body →
-    RepeatsUntil share_a_bit one mask counter count body tree
-repeats_until_bits one mask counter count body tree e =
-    repeats_until share_a_bit one mask (load one ∷ And mask ∷ []) (Not Zero) counter count body tree
-    (λ layout voice. record {
-      met = λ desk la lb.
-          ap (λ b. not (nat_eq (bit_and (operand_byte layout voice one desk) b) 0))
-          (operand_same layout voice mask desk (chained layout voice (load one ∷ []) desk) refl);
-      at = λ desk. refl;
-      y = λ desk. refl;
-    }) e
+    (λ layout voice desk. repeats test counter body layout voice count (counter_set layout counter count desk))

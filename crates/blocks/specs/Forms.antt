@@ -1,12 +1,12 @@
 -- What forms on named bytes do: moves, sums and other changes of a byte, words, entries of tables, and choices. This is
 -- the language of bytes that the language of steps has inside it.
-use Rattle.std.specs.Prelude.{◌≡◌, ◌≢◌, ℕ, zero, suc, ◌+◌, ◌-◌, ◌*◌, ◌/◌, ◌%◌, ◌<◌, Bool, true, false, not, nat_eq}
+use Rattle.std.specs.Prelude.{◌≡◌, ◌≢◌, ℕ, nat_lt, zero, suc, ◌+◌, ◌-◌, ◌*◌, ◌/◌, ◌%◌, ◌<◌, Bool, true, false, not, nat_eq}
 use Rattle.std.specs.Prelude.{bit_and, if◌then◌else◌}
 use Rattle.cpu6502.specs.declared.memory.TheConstants.{MEMORY_SIZE}
 use Rattle.code_runs.specs.Runs.{put}
 use Rattle.blocks.specs.Words.{Cell, Operand, Const, HeldOperand, Place, HeldPlace, Register, VoiceRegister, Timer}
 use Rattle.blocks.specs.Words.{Pointer, IntoY}
-use Rattle.blocks.specs.Words.{Counter}
+use Rattle.blocks.specs.Words.{Counter, ByteTest, SameBytes, BelowByte, CommonBit}
 use Rattle.blocks.specs.Trees.{Tree}
 use Rattle.blocks.specs.Desk.{Desk, Layout, cell_place, sid_place, timer_place, pointer_place}
 use Rattle.blocks.specs.Steps.{operand_byte}
@@ -112,6 +112,35 @@ FetchesFar to low high index tree =
     (put (put desk.at layout.pointer (operand_byte layout voice low desk)) (layout.pointer + 1)
     (operand_byte layout voice high desk))
 
+-- two bytes have a bit in common
+abbrev pub share_a_bit : ℕ → ℕ → Bool
+share_a_bit one two = not (nat_eq (bit_and one two) 0)
+
+-- the two bytes of a test, and its answer
+abbrev pub first_of : ByteTest → Operand
+first_of (SameBytes one two) = one
+first_of (BelowByte one two) = one
+first_of (CommonBit one mask) = one
+
+abbrev pub second_of : ByteTest → Operand
+second_of (SameBytes one two) = two
+second_of (BelowByte one two) = two
+second_of (CommonBit one mask) = mask
+
+abbrev pub rule_of : ByteTest → ℕ → ℕ → Bool
+rule_of (SameBytes one two) = nat_eq
+rule_of (BelowByte one two) = nat_lt
+rule_of (CommonBit one mask) = share_a_bit
+
+abbrev pub answer_of : Layout → ℕ → ByteTest → Desk → Bool
+answer_of layout voice test desk =
+    rule_of test (operand_byte layout voice (first_of test) desk) (operand_byte layout voice (second_of test) desk)
+
+-- both are bytes
+abbrev pub AreBytes : Layout → ℕ → ByteTest → Desk → Type 0
+AreBytes layout voice test desk =
+    (operand_byte layout voice (first_of test) desk < 256) × (operand_byte layout voice (second_of test) desk < 256)
+
 -- one of two trees is done, by a test of two bytes, from a desk with the same memory and the same Y
 pub record Chosen (layout : Layout) (voice : ℕ) (before after : Desk) (answer : Bool) (this other : Tree) : Type 0 where
   pub behind : Desk
@@ -119,32 +148,23 @@ pub record Chosen (layout : Layout) (voice : ℕ) (before after : Desk) (answer 
   pub y : behind.y ≡ before.y
   pub done : after ≡ (if answer then meaning layout this voice behind else meaning layout other voice behind)
 
-abbrev pub Chooses : (ℕ → ℕ → Bool) → Operand → Operand → Tree → Tree → Tree → Type 0
-Chooses test one two this other tree =
-    (layout : Layout) (voice : ℕ) (desk : Desk) →
-    operand_byte layout voice one desk < 256 → operand_byte layout voice two desk < 256 →
-    Chosen layout voice desk (meaning layout tree voice desk)
-    (test (operand_byte layout voice one desk) (operand_byte layout voice two desk)) this other
-
--- two bytes have a bit in common
-abbrev pub share_a_bit : ℕ → ℕ → Bool
-share_a_bit one two = not (nat_eq (bit_and one two) 0)
+abbrev pub Chooses : ByteTest → Tree → Tree → Tree → Type 0
+Chooses test this other tree =
+    (layout : Layout) (voice : ℕ) (desk : Desk) → AreBytes layout voice test desk →
+    Chosen layout voice desk (meaning layout tree voice desk) (answer_of layout voice test desk) this other
 
 -- turns of a tree, at most so many: before each of them a test of two bytes, from a desk with the same memory and the
 -- same Y behind it; the end where it holds, and else the tree and the counter one less
-abbrev pub Repeats : (ℕ → ℕ → Bool) → Operand → Operand → Counter → Tree → Layout → ℕ → ℕ → Desk → Desk → Type 0
-Repeats test one two counter body layout voice zero before after = after ≡ before
-Repeats test one two counter body layout voice (suc n) before after =
-    operand_byte layout voice one before < 256 → operand_byte layout voice two before < 256 →
-    (behind : Desk) × (behind.at ≡ before.at) × (behind.y ≡ before.y)
-    × (test (operand_byte layout voice one before) (operand_byte layout voice two before) ≡ true → after ≡ behind)
-    × (test (operand_byte layout voice one before) (operand_byte layout voice two before) ≡ false →
-    Repeats test one two counter body layout voice n (counter_down layout counter (meaning layout body voice behind))
-    after)
+abbrev pub Repeats : ByteTest → Counter → Tree → Layout → ℕ → ℕ → Desk → Desk → Type 0
+Repeats test counter body layout voice zero before after = after ≡ before
+Repeats test counter body layout voice (suc n) before after =
+    AreBytes layout voice test before → (behind : Desk) × (behind.at ≡ before.at) × (behind.y ≡ before.y)
+    × (answer_of layout voice test before ≡ true → after ≡ behind)
+    × (answer_of layout voice test before ≡ false →
+    Repeats test counter body layout voice n (counter_down layout counter (meaning layout body voice behind)) after)
 
 -- the counter becomes the count, and then as many turns at most
-abbrev pub RepeatsUntil : (ℕ → ℕ → Bool) → Operand → Operand → Counter → ℕ → Tree → Tree → Type 0
-RepeatsUntil test one two counter count body tree =
+abbrev pub RepeatsUntil : ByteTest → Counter → ℕ → Tree → Tree → Type 0
+RepeatsUntil test counter count body tree =
     (layout : Layout) (voice : ℕ) (desk : Desk) →
-    Repeats test one two counter body layout voice count (counter_set layout counter count desk)
-    (meaning layout tree voice desk)
+    Repeats test counter body layout voice count (counter_set layout counter count desk) (meaning layout tree voice desk)

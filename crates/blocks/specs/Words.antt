@@ -25,3 +25,5 @@ pub use Rattle.blocks.specs.declared.block.Counter.{Counter}
 pub use Rattle.blocks.specs.declared.block.Counter.TheVariants.{Var as CounterVar, Y as CounterY}
 pub use Rattle.blocks.specs.declared.block.Start.{Start}
 pub use Rattle.blocks.specs.declared.block.Start.TheVariants.{Var as StartVar, Register as StartRegister}
+pub use Rattle.blocks.specs.declared.forms.ByteTest.{ByteTest}
+pub use Rattle.blocks.specs.declared.forms.ByteTest.TheVariants.{Equal as SameBytes, Less as BelowByte, Bits as CommonBit}

@@ -1,10 +1,10 @@
 //! Forms on named bytes, made of steps. Behind each of them A, Y and the flags are what the steps leave.
 
-ghost use Rattle.std.specs.Prelude.{◌≡◌, IfOk, nat_eq, nat_lt, bit_and, bit_or, bit_xor};
+ghost use Rattle.std.specs.Prelude.{◌≡◌, IfOk, bit_and, bit_or, bit_xor};
 ghost use Rattle.blocks.specs.Trees.{tree_of};
-ghost use Rattle.blocks.specs.FormTrees.{changed_tree, word_tree};
+ghost use Rattle.blocks.specs.FormTrees.{changed_tree, word_tree, asking_steps, asking_test};
 ghost use Rattle.blocks.specs.Forms.{Moves, Changes, byte_sum, byte_difference, ChangesWord, word_sum, word_difference};
-ghost use Rattle.blocks.specs.Forms.{HalvesWord, Fetches, FetchesFar, Chooses, share_a_bit, RepeatsUntil};
+ghost use Rattle.blocks.specs.Forms.{HalvesWord, Fetches, FetchesFar, Chooses, RepeatsUntil};
 
 use crate::block::{Block, Counter};
 use crate::builders::{chain, choose, until};
@@ -211,155 +211,66 @@ pub fn far(
     chain(alloc, &steps)
 }
 
-/// The first block where two bytes are the same, else the second.
-///
-/// # Errors
-///
-/// Out of memory.
-pub fn if_equal(
-    alloc: Global,
-    one: Operand,
-    two: Operand,
-    this: Block,
-    other: Block,
-) -> Result<Block, NoMemory>
-    ensures { IfOk result (λ block.
-        Chooses nat_eq one two (tree_of this) (tree_of other) (tree_of block)) }
-{
-    choose(
-        alloc,
-        &[load(one)],
-        Test::Is(Condition::Equal(two)),
-        this,
-        other,
-    )
+/// A test of two bytes.
+#[derive(Clone, Copy, Debug)]
+pub enum ByteTest {
+    /// Whether they are the same.
+    Equal(Operand, Operand),
+    /// Whether the first is below the second, without sign.
+    Less(Operand, Operand),
+    /// Whether the first has a bit of the second, a mask.
+    Bits(Operand, Operand),
 }
 
-/// The first block where a byte is below another, else the second.
-///
-/// # Errors
-///
-/// Out of memory.
-pub fn if_less(
-    alloc: Global,
-    one: Operand,
-    two: Operand,
-    this: Block,
-    other: Block,
-) -> Result<Block, NoMemory>
-    ensures { IfOk result (λ block.
-        Chooses nat_lt one two (tree_of this) (tree_of other) (tree_of block)) }
+/// The test behind the steps that ask it.
+fn asking_test(test: ByteTest) -> Test
+    ensures { result ≡ asking_test test }
 {
-    choose(
-        alloc,
-        &[load(one)],
-        Test::Is(Condition::Less(two)),
-        this,
-        other,
-    )
+    match test {
+        ByteTest::Equal(_, two) => Test::Is(Condition::Equal(two)),
+        ByteTest::Less(_, two) => Test::Is(Condition::Less(two)),
+        ByteTest::Bits(_, _) => Test::Not(Condition::Zero),
+    }
 }
 
-/// The first block where a byte has a bit of a mask, else the second.
-///
-/// # Errors
-///
-/// Out of memory.
-pub fn if_bits(
-    alloc: Global,
-    one: Operand,
-    mask: Operand,
-    this: Block,
-    other: Block,
-) -> Result<Block, NoMemory>
-    ensures { IfOk result (λ block.
-        Chooses share_a_bit one mask (tree_of this) (tree_of other) (tree_of block)) }
+/// These steps.
+fn asking_steps(alloc: Global, test: ByteTest) -> Result<Vec<Step>, NoMemory>
+    ensures { IfOk result (λ steps. steps.items ≡ asking_steps test) }
 {
-    choose(
-        alloc,
-        &[load(one), Step::And(mask)],
-        Test::Not(Condition::Zero),
-        this,
-        other,
-    )
+    Ok(match test {
+        ByteTest::Equal(one, _) | ByteTest::Less(one, _) => Vec::from_slice(alloc, &[load(one)])?,
+        ByteTest::Bits(one, mask) => Vec::from_slice(alloc, &[load(one), Step::And(mask)])?,
+    })
 }
 
-/// The block again and again until two bytes are the same, which is asked before each turn, the first one too.
-/// There are at most as many turns as the count, 1 to 255, says, and the counter holds those that are left.
+/// The first block where a test of two bytes holds, else the second.
 ///
 /// # Errors
 ///
 /// Out of memory.
-pub fn until_equal(
+pub fn if_holds(alloc: Global, test: ByteTest, this: Block, other: Block) -> Result<Block, NoMemory>
+    ensures { IfOk result (λ block. Chooses test (tree_of this) (tree_of other) (tree_of block)) }
+{
+    let steps = asking_steps(alloc, test)?;
+    choose(alloc, &steps, asking_test(test), this, other)
+}
+
+/// The block again and again until a test of two bytes holds, which is asked before each turn, the first one too. There
+/// are at most as many turns as the count, 1 to 255, says, and the counter holds those that are left.
+///
+/// # Errors
+///
+/// Out of memory.
+pub fn until_holds(
     alloc: Global,
+    test: ByteTest,
     counter: Counter,
     count: u8,
-    one: Operand,
-    two: Operand,
     body: Block,
 ) -> Result<Block, NoMemory>
     ensures { IfOk result (λ block.
-        RepeatsUntil nat_eq one two counter count (tree_of body) (tree_of block)) }
+        RepeatsUntil test counter count (tree_of body) (tree_of block)) }
 {
-    until(
-        alloc,
-        counter,
-        count,
-        &[load(one)],
-        Test::Is(Condition::Equal(two)),
-        body,
-    )
-}
-
-/// The block again and again until a byte is below another, which is asked before each turn, the first one too.
-/// There are at most as many turns as the count, 1 to 255, says, and the counter holds those that are left.
-///
-/// # Errors
-///
-/// Out of memory.
-pub fn until_less(
-    alloc: Global,
-    counter: Counter,
-    count: u8,
-    one: Operand,
-    two: Operand,
-    body: Block,
-) -> Result<Block, NoMemory>
-    ensures { IfOk result (λ block.
-        RepeatsUntil nat_lt one two counter count (tree_of body) (tree_of block)) }
-{
-    until(
-        alloc,
-        counter,
-        count,
-        &[load(one)],
-        Test::Is(Condition::Less(two)),
-        body,
-    )
-}
-
-/// The block again and again until a byte has a bit of a mask, which is asked before each turn, the first one too.
-/// There are at most as many turns as the count, 1 to 255, says, and the counter holds those that are left.
-///
-/// # Errors
-///
-/// Out of memory.
-pub fn until_bits(
-    alloc: Global,
-    counter: Counter,
-    count: u8,
-    one: Operand,
-    mask: Operand,
-    body: Block,
-) -> Result<Block, NoMemory>
-    ensures { IfOk result (λ block.
-        RepeatsUntil share_a_bit one mask counter count (tree_of body) (tree_of block)) }
-{
-    until(
-        alloc,
-        counter,
-        count,
-        &[load(one), Step::And(mask)],
-        Test::Not(Condition::Zero),
-        body,
-    )
+    let steps = asking_steps(alloc, test)?;
+    until(alloc, counter, count, &steps, asking_test(test), body)
 }

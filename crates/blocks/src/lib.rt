@@ -24,7 +24,7 @@ pub use base::NoMemory;
 pub use block::{Block, Counter, Start};
 pub use builders::{chain, choose, each_voice, fill, seq, until, when};
 pub use forms::{
-    add, add_word, and, far, fetch, halve_word, if_bits, if_equal, if_less, move_byte, or, sub,
-    sub_word, until_bits, until_equal, until_less, xor,
+    ByteTest, add, add_word, and, far, fetch, halve_word, if_holds, move_byte, or, sub, sub_word,
+    until_holds, xor,
 };
 pub use steps::{Cell, Condition, Counted, Half, Operand, Place, Source, Step, Summand, Test};

@@ -72,11 +72,17 @@ fn forms_are_built(rt: HostRuntime) -> Result<(), Fail> {
     let bits = seq(Vec::from_array(alloc, bits)?);
     let words = seq(Vec::from_array(alloc, words)?);
     let moves = seq(Vec::from_array(alloc, moves)?);
-    let nothing = seq(Vec::new(alloc));
-    let equal = if_equal(alloc, Operand::var(1), Operand::Const(0), sums, bits)?;
-    let less = if_less(alloc, Operand::var(1), Operand::Const(3), equal, words)?;
-    let masked = if_bits(alloc, Operand::var(1), Operand::Const(4), less, nothing)?;
+    let byte = Operand::var(1);
+    let equal = if_holds(alloc, ByteTest::Equal(byte, Operand::Const(0)), sums, bits)?;
+    let less = until_holds(
+        alloc,
+        ByteTest::Less(byte, Operand::Const(3)),
+        Counter::Y,
+        9,
+        equal,
+    )?;
+    let masked = if_holds(alloc, ByteTest::Bits(byte, Operand::Const(4)), less, words)?;
     let whole = seq(Vec::from_array(alloc, [masked, moves])?);
-    assert_eq!(rt; whole.labels(), 5);
+    assert_eq!(rt; whole.labels(), 6);
     Ok(())
 }

@@ -3,8 +3,8 @@
 use super::site::{Bench, Site};
 use super::{ORIGINS, begin, place_at};
 use blocks::{
-    Block, Cell, Condition, Counted, Counter, Operand, Place, Source, Start, Step, Test, chain,
-    choose, each_voice, fill, seq, sub, until, until_equal, when,
+    Block, ByteTest, Cell, Condition, Counted, Counter, Operand, Place, Source, Start, Step, Test,
+    chain, choose, each_voice, fill, seq, sub, until, until_holds, when,
 };
 use std::alloc::Global;
 use std::process::Abort;
@@ -51,8 +51,8 @@ fn turns_end_by_test_or_count(rt: HostRuntime) -> Result<(), Fail> {
     let mut bench = Bench::new(alloc)?;
     for (count, from, left, turns) in DOWN {
         let body = sub(alloc, Cell::Var(3), Operand::Const(1))?;
-        let (byte, zero) = (Operand::var(3), Operand::Const(0));
-        let block = until_equal(alloc, Counter::Var(4), count, byte, zero, body)?;
+        let test = ByteTest::Equal(Operand::var(3), Operand::Const(0));
+        let block = until_holds(alloc, test, Counter::Var(4), count, body)?;
         for origin in ORIGINS {
             run(&mut bench, alloc, &block, place_at(origin), from, true)?;
             assert_eq!(rt; (bench.byte(3), bench.byte(4)), (left, turns));

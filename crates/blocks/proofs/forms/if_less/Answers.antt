@@ -1,7 +1,0 @@
--- What the form does.
-use Rattle.std.proofs.Common.{rules}
-use Rattle.blocks.proofs.forms.if_less.Goals as goal
-use Rattle.blocks.proofs.FormLaws.{chooses_less}
-
-pub returns : goal.returns
-returns c = search (rules, chooses_less)

@@ -1,0 +1,7 @@
+-- What the form does.
+use Rattle.std.proofs.Common.{rules}
+use Rattle.blocks.proofs.forms.until_holds.Goals as goal
+use Rattle.blocks.proofs.FormLaws.{repeats_until}
+
+pub returns : goal.returns
+returns c = search (rules, repeats_until)
