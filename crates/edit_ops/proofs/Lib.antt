@@ -10,3 +10,9 @@ pub mod PointerLaws
 pub mod TableLaws
 -- Each pointer that moves names the row that it named before.
 pub mod SameNames
+-- Items of a list replaced by others.
+pub mod SpliceLaws
+-- Patterns with their numbers, exchanged one after the other.
+pub mod NumberedLaws
+-- What was exchanged leads back.
+pub mod BackLaws

@@ -1,8 +1,8 @@
 -- Lists with one change: what holds of each item, and how long they are.
-use Rattle.std.proofs.Common.{◌≡◌, ℕ, suc, ◌+◌, ◌-◌, ◌<◌, Bool, false, List, [], ◌∷◌, ◌++◌, length, take, drop, replicate, set, All, refl, ◌∙◌, ap, add-one, append_assoc, arith, length-append, length-drop}
+use Rattle.std.proofs.Common.{◌≡◌, ℕ, suc, ◌-◌, ◌<◌, Bool, false, List, [], ◌∷◌, length, take, drop, replicate, All, arith, length-append}
 use Rattle.std.specs.List.{insert, remove, list_any}
 use Rattle.std.proofs.lemmas.Bool.{or_parts}
-use Rattle.std.proofs.lemmas.List.{length-take, length-replicate, take_all, set_split}
+use Rattle.std.proofs.lemmas.List.{length-take, length-replicate}
 use Rattle.std.proofs.lemmas.List.Edits.{length-remove}
 use Rattle.std.proofs.lemmas.List.Elements.{All-nil, All-cons, All-append, All-take, All-drop, All-replicate}
 use Rattle.base.specs.Limits.{KeepsLimit}
@@ -38,24 +38,3 @@ none_passes p [] e = All-nil (λ x. p x ≡ false)
 none_passes p (x ∷ xs) e =
     let parts = or_parts (p x) (list_any p xs) e in
     All-cons (λ y. p y ≡ false) x xs parts.0 (none_passes p xs parts.1)
-
--- ---- lists made anew, piece by piece
-
--- what is behind a place, as a slice has it
-rest_behind : {X : Type 0} (xs : List X) (i : ℕ) → take (length xs - (i + 1)) (drop (i + 1) xs) ≡ drop (suc i) xs
-rest_behind {X} xs i =
-    take_all (length xs - (i + 1)) (drop (i + 1) xs) (omega (arith, length-drop (i + 1) xs))
-    ∙ ap (λ (k : ℕ). drop {A = X} k xs) (add-one i)
-
--- `stored` is the list as the code reads it, and i the place
-pub set_in_pieces : {X : Type 0} (xs stored none front more all : List X) (i at : ℕ) (x : X) → at < length xs →
-    i ≡ at → stored ≡ xs → none ≡ [] → front ≡ none ++ take i stored → more ≡ front ++ x ∷ [] →
-    all ≡ more ++ take (length stored - (i + 1)) (drop (i + 1) stored) → all ≡ set xs at x
-set_in_pieces xs stored none front more all i at x inside same is e0 e1 e2 e3 =
-    rw (e3, e2, e1, e0, same, is, rest_behind xs at, set_split xs at x inside) (append_assoc (take at xs) (x ∷ []) (drop (suc at) xs))
-
-pub remove_in_pieces : {X : Type 0} (xs stored none front all : List X) (i at : ℕ) → i ≡ at → stored ≡ xs →
-    none ≡ [] → front ≡ none ++ take i stored →
-    all ≡ front ++ take (length stored - (i + 1)) (drop (i + 1) stored) → all ≡ remove xs at
-remove_in_pieces xs stored none front all i at same is e0 e1 e2 =
-    rw (e2, e1, e0, same, is, rest_behind xs at) refl

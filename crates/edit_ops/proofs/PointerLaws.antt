@@ -1,6 +1,7 @@
 -- Songs whose pointers have moved: their patterns are within their limits, and their tables keep their lengths.
-use Rattle.std.proofs.Common.{◌≡◌, ℕ, ◌+◌, ◌<◌, true, List, length, map, Some, get_or, refl, inl, inr, arith, ◌&&◌, nat_le, nat_lt}
-use Rattle.std.proofs.lemmas.Bool.{cases_Bool}
+use Rattle.std.proofs.Common.{◌≡◌, ℕ, ◌+◌, ◌<◌, ◌==◌, Bool, true, false, not, ◌&&◌, List, [], ◌∷◌, length, map, get_or, refl, sym, ap, ◌∙◌, inl, inr, arith, nat_le, nat_lt}
+use Rattle.std.specs.List.{list_any}
+use Rattle.std.proofs.lemmas.Bool.{cases_Bool, or_parts}
 use Rattle.std.proofs.lemmas.Bool.Decides.{nat_tests}
 use Rattle.std.proofs.lemmas.List.{length-map}
 use Rattle.std.proofs.lemmas.List.Elements.{All-map}
@@ -15,8 +16,8 @@ use Rattle.song_model.specs.LookUp.{table_of, with_table}
 use Rattle.edit_ops.specs.declared.shifts.Shift.{Shift}
 use Rattle.edit_ops.specs.declared.shifts.Shift.TheVariants.{Up, Down}
 use Rattle.edit_ops.specs.declared.inverses.PointerParts.{PointerParts}
-use Rattle.edit_ops.specs.Pointers.{shifted, is_into, moved_row, moved_song}
-use Rattle.edit_ops.specs.Back.{parts_of, with_parts, table_in, with_table_in}
+use Rattle.edit_ops.specs.Pointers.{shifted, is_into, is_moved, moved_row, moved_song}
+use Rattle.edit_ops.specs.Back.{with_parts, are_parts, table_in, with_table_in}
 
 -- a pointer that has moved is a byte
 up_small : (g p : ℕ) → (nat_le g p && nat_le p 254) ≡ true → p + 1 < 256
@@ -64,11 +65,26 @@ moved_is_pattern name shift rows p =
 
 -- ---- the parts of a song whose pointers have moved
 
-pub table_of_parts : (song : Song) (name : TableName) → table_in (parts_of song) name ≡ table_of song name
-table_of_parts song Wave = refl
-table_of_parts song Pulse = refl
-table_of_parts song Filter = refl
-table_of_parts song Speed = refl
+pub table_made : (song : Song) (parts : PointerParts) (name : TableName) →
+    table_in parts name ≡ table_of (with_parts song parts) name
+table_made song parts Wave = refl
+table_made song parts Pulse = refl
+table_made song parts Filter = refl
+table_made song parts Speed = refl
+
+pub set_made : (song : Song) (parts : PointerParts) (name : TableName) (table : List TableRow) →
+    with_parts song (with_table_in parts name table) ≡ with_table (with_parts song parts) name table
+set_made song parts Wave table = refl
+set_made song parts Pulse table = refl
+set_made song parts Filter table = refl
+set_made song parts Speed table = refl
+
+pub set_are_parts : (song : Song) (parts : PointerParts) (name : TableName) (table : List TableRow) →
+    are_parts song (with_table_in parts name table) ≡ are_parts song parts
+set_are_parts song parts Wave table = refl
+set_are_parts song parts Pulse table = refl
+set_are_parts song parts Filter table = refl
+set_are_parts song parts Speed table = refl
 
 pub length-moved : (name : TableName) (move : ℕ → ℕ) (song : Song) → length (table_of (moved_song name move song) name) ≡
     length (table_of song name)
@@ -78,24 +94,34 @@ length-moved Pulse move song = length-map song.pulse _
 length-moved Filter move song = length-map song.filter _
 length-moved Speed move song = length-map song.speed _
 
-with_moved_parts : (name : TableName) (move : ℕ → ℕ) (song : Song) (table : List TableRow) →
-    with_parts song (with_table_in (parts_of (moved_song name move song)) name table)
-    ≡ with_table (moved_song name move song) name table
-unfolding moved_song
-with_moved_parts Wave move song table = refl
-with_moved_parts Pulse move song table = refl
-with_moved_parts Filter move song table = refl
-with_moved_parts Speed move song table = refl
+module _ (name : TableName) (move : ℕ → ℕ) (song : Song) (parts : PointerParts) (table stored : List TableRow)
+    (made : with_parts song parts ≡ moved_song name move song) (in_parts : table ≡ table_in parts name)
+    (read : stored ≡ table) where
+  -- the rows that the code reads
+  pub rows_made : stored ≡ table_of (moved_song name move song) name
+  rows_made = read ∙ in_parts ∙ table_made song parts name ∙ ap (λ (s : Song). table_of s name) made
 
-pub moved_made : (name : TableName) (move : ℕ → ℕ) (song after : Song) (parts changed : PointerParts) (table : List TableRow) →
-    parts ≡ parts_of (moved_song name move song) → changed ≡ with_table_in parts name table →
-    after ≡ with_parts song changed → after ≡ with_table (moved_song name move song) name table
-moved_made name move song after parts changed table e1 e2 e3 = rw (e3, e2, e1) (with_moved_parts name move song table)
+  pub size_made : length stored ≡ length (table_of song name)
+  size_made = ap length rows_made ∙ length-moved name move song
 
-pub stored_is : (name : TableName) (song : Song) (parts : PointerParts) (stored table : List TableRow) →
-    parts ≡ parts_of song → table ≡ table_in parts name → stored ≡ table → stored ≡ table_of song name
-stored_is name song parts stored table e1 e2 e3 = rw (e3, e2, e1) (table_of_parts song name)
+-- ---- patterns with no pointer that moves
 
-pub parts_lead_back : (song after : Song) (changed before : PointerParts) → after ≡ with_parts song changed →
-    before ≡ parts_of song → Some (with_parts after before) ≡ Some song
-parts_lead_back song after changed before e1 e2 = rw (e1, e2) refl
+same_number : (a b : ℕ) → (true && not (a == b)) ≡ false → a ≡ b
+same_number a b h = grind (arith, nat_tests)
+
+stays_row : (name : TableName) (move : ℕ → ℕ) (row : Row) → is_moved name move row ≡ false → moved_row name move row ≡ row
+stays_row name move row h = elim (cases_Bool (is_into name (command_table row.command))) [
+  | inl into ↦
+      let same : move row.param ≡ row.param =
+      same_number (move row.param) row.param
+      (ap (λ (b : Bool). b && not (move row.param == row.param)) (sym into) ∙ h) in
+      rw (into, same) refl
+  | inr other ↦ rw other refl
+]
+
+pub stays_pattern : (name : TableName) (move : ℕ → ℕ) (rows : List Row) → list_any (is_moved name move) rows ≡ false →
+    map (moved_row name move) rows ≡ rows
+stays_pattern name move [] h = refl
+stays_pattern name move (row ∷ rows) h =
+    let parts = or_parts (is_moved name move row) (list_any (is_moved name move) rows) h in
+    rw (stays_row name move row parts.0, stays_pattern name move rows parts.1) refl

@@ -1,27 +1,23 @@
--- What an inverse leads back to: the song with the parts that the inverse holds put in place of its own.
-use Rattle.std.specs.Prelude.{List, Option, Some, None, if◌then◌else◌}
+-- What an inverse leads back to: the song with what the inverse holds put in place of its own.
+use Rattle.std.specs.Prelude.{◌-◌, Bool, List, length, slice_set, Option, Some, None, option_map, if◌then◌else◌}
+use Rattle.song_model.specs.declared.rows.Row.{Row}
+use Rattle.song_model.specs.declared.orders.Subtune.{Subtune}
 use Rattle.song_model.specs.declared.songs.Song.{Song}
 use Rattle.song_model.specs.declared.tables.TableRow.{TableRow}
 use Rattle.song_model.specs.declared.tables.TableName.{TableName}
 use Rattle.song_model.specs.declared.tables.TableName.TheVariants.{Wave, Pulse, Filter, Speed}
 use Rattle.song_model.specs.LookUp.{with_table}
 use Rattle.edit_ops.specs.declared.inverses.Inverse.{Inverse}
-use Rattle.edit_ops.specs.declared.inverses.Inverse.TheVariants.{Text, Subtunes, Instruments, OneTable, Patterns, Pointers}
+use Rattle.edit_ops.specs.declared.inverses.Inverse.TheVariants.{Text, OnePattern, OneOrder, OneInstrument, Instruments, OneTable, Subtunes, Patterns, Pointers}
 use Rattle.edit_ops.specs.declared.inverses.PointerParts.{PointerParts}
+use Rattle.edit_ops.specs.Patterns.{lacks_pattern, with_pattern}
+use Rattle.edit_ops.specs.Orders.{lacks_order, with_order}
+use Rattle.edit_ops.specs.Instruments.{lacks_instrument}
 use Rattle.edit_ops.specs.Others.{lacks_text, with_text}
+use Rattle.edit_ops.specs.Splices.{replaced}
+use Rattle.edit_ops.specs.Numbered.{are_stored, with_all}
 
--- the parts of a song that have pointers into its tables, and the tables
-abbrev pub parts_of : Song → PointerParts
-parts_of song = record {
-  instruments = song.instruments;
-  wave = song.wave;
-  pulse = song.pulse;
-  filter = song.filter;
-  speed = song.speed;
-  patterns = song.patterns;
-}
-
--- the song with these parts in place of its own
+-- the song with these parts in place of its own; the patterns that aren't among them stay
 abbrev pub with_parts : Song → PointerParts → Song
 with_parts song parts = record song {
   instruments = parts.instruments;
@@ -29,8 +25,12 @@ with_parts song parts = record song {
   pulse = parts.pulse;
   filter = parts.filter;
   speed = parts.speed;
-  patterns = parts.patterns;
+  patterns = with_all song.patterns parts.patterns;
 }
+
+-- the song has the patterns that are among these parts
+abbrev pub are_parts : Song → PointerParts → Bool
+are_parts song parts = are_stored (length song.patterns) parts.patterns
 
 -- a table of these parts, and the parts with another in its place
 abbrev pub table_in : PointerParts → TableName → List TableRow
@@ -48,8 +48,17 @@ with_table_in parts Speed table = record parts { speed = table }
 -- none where the song has no such part
 unfoldable pub back : Song → Inverse → Option Song
 back song (Text which text) = if lacks_text which then None else Some (with_text song which text)
-back song (Subtunes subtunes) = Some (record song { subtunes = subtunes })
+back song (OnePattern pattern rows) =
+    if lacks_pattern song pattern then None else Some (with_pattern song pattern rows)
+back song (OneOrder subtune channel order) =
+    if lacks_order song subtune channel then None else Some (with_order song subtune channel order)
+back song (OneInstrument number instrument) =
+    if lacks_instrument song number then None
+    else Some (record song { instruments = slice_set song.instruments (number - 1) instrument })
 back song (Instruments instruments) = Some (record song { instruments = instruments })
 back song (OneTable name table) = Some (with_table song name table)
-back song (Patterns patterns) = Some (record song { patterns = patterns })
-back song (Pointers parts) = Some (with_parts song parts)
+back song (Subtunes splice) =
+    option_map (λ (subtunes : List Subtune). record song { subtunes = subtunes }) (replaced 32 song.subtunes splice)
+back song (Patterns splice) =
+    option_map (λ (patterns : List (List Row)). record song { patterns = patterns }) (replaced 208 song.patterns splice)
+back song (Pointers parts) = if are_parts song parts then Some (with_parts song parts) else None

@@ -8,6 +8,10 @@ use Rattle.song_model.specs.LookUp.{zero_instrument}
 abbrev pub is_no_instrument : ℕ → Bool
 is_no_instrument instrument = instrument == 0 || nat_lt 63 instrument
 
+-- no instrument with this number is stored
+abbrev pub lacks_instrument : Song → ℕ → Bool
+lacks_instrument song number = number == 0 || nat_lt (length song.instruments) number
+
 -- the nine bytes before an instrument's name, from 0 to 8
 abbrev pub is_no_field : ℕ → Bool
 is_no_field field = nat_lt 8 field

@@ -7,6 +7,8 @@ pub mod Pointers
 pub mod Tables
 pub mod Others
 pub mod Edits
+pub mod Splices
+pub mod Numbered
 pub mod Back
 -- Claimed: laws of these definitions, and what they give for edits that were worked out by hand.
 pub mod SameRows

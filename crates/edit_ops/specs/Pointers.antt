@@ -1,6 +1,6 @@
 -- Each pointer into a table, wherever it stands in a song, and how rows that come and go move them. From the
 -- instruments, commands and tables of the GoatTracker 2 readme. A pointer counts rows from 1; 0 points at nothing.
-use Rattle.std.specs.Prelude.{ℕ, ◌+◌, ◌-◌, Bool, true, false, ◌&&◌, ◌==◌, nat_le, nat_lt, List, map, Option, Some, None, if◌then◌else◌}
+use Rattle.std.specs.Prelude.{ℕ, ◌+◌, ◌-◌, Bool, true, false, not, ◌&&◌, ◌==◌, nat_le, nat_lt, List, map, Option, Some, None, if◌then◌else◌}
 use Rattle.song_model.specs.declared.rows.Row.{Row}
 use Rattle.song_model.specs.declared.instruments.Instrument.{Instrument}
 use Rattle.song_model.specs.declared.tables.TableRow.{TableRow}
@@ -51,6 +51,10 @@ moved_instrument Speed move i = record i { vibrato = move i.vibrato }
 abbrev pub moved_row : TableName → (ℕ → ℕ) → Row → Row
 moved_row name move row =
     if is_into name (command_table row.command) then record row { param = move row.param } else row
+
+-- the row has such a pointer, and it becomes another
+abbrev pub is_moved : TableName → (ℕ → ℕ) → Row → Bool
+is_moved name move row = is_into name (command_table row.command) && not (move row.param == row.param)
 
 -- a row of the table `holder`
 abbrev pub moved_table_row : TableName → TableName → (ℕ → ℕ) → TableRow → TableRow

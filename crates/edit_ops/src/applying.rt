@@ -178,8 +178,8 @@ fn change(alloc: Global, song: &mut Song, edit: &Edit) -> Result<Inverse, NoMemo
 
 /// Does an edit, and answers its inverse, by which `revert` leads back.
 ///
-/// An edit of a table's rows copies all that can hold a pointer, and one of a pattern or of an orderlist the list that
-/// it stands in.
+/// It copies the part of the song that it changes. An insert or delete of a table's row copies the tables, the
+/// instruments and the patterns with a pointer that moves. Where subtunes or patterns come or go, the others are moved.
 ///
 /// # Errors
 ///

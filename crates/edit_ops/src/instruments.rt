@@ -1,8 +1,9 @@
 //! Edits of instruments.
 
-ghost use Rattle.std.specs.Prelude.{◌≡◌, true, false, ◌-◌, ◌≤◌, length, slice_set, IfOk};
+ghost use Rattle.std.specs.Prelude.{◌≡◌, true, false, ◌-◌, ◌≤◌, length, slice_set, Some, IfOk};
 ghost use Rattle.song_model.specs.LookUp.{zero_instrument, instrument_at};
-ghost use Rattle.edit_ops.specs.Instruments.{is_no_instrument, is_no_field, with_field, stored_up_to, with_instrument};
+ghost use Rattle.edit_ops.specs.Instruments.{is_no_instrument, lacks_instrument, is_no_field, with_field, stored_up_to, with_instrument};
+ghost use Rattle.edit_ops.specs.Back.{back};
 ghost use Rattle.edit_ops.specs.Does.{Does};
 
 use crate::Inverse;
@@ -76,13 +77,29 @@ fn stored_up_to(
     Ok(list)
 }
 
-/// Puts an instrument under its number.
+/// Puts an instrument in place of a stored one, counted from 1, and answers the way back. It takes no memory.
+pub(crate) fn exchange_instrument(song: &mut Song, number: u8, instrument: Instrument) -> Inverse
+    requires { lacks_instrument song.old number ≡ false }
+    ensures after { song.new ≡ record song.old {
+      instruments = slice_set song.old.instruments (number - 1) instrument;
+    } }
+    ensures back { back song.new result ≡ Some song.old }
+{
+    Inverse::OneInstrument {
+        number,
+        instrument: song
+            .instruments
+            .exchange(usize::from(number) - 1, instrument),
+    }
+}
+
+/// Puts an instrument under its number, after zero ones where fewer are stored.
 ///
 /// # Errors
 ///
 /// Out of memory. The song is as before.
 #[tactic(auto, unfolding(crate::specs::Back::back))]
-fn put_instrument(
+fn add_instrument(
     alloc: Global,
     song: &mut Song,
     n: u8,
@@ -96,6 +113,26 @@ fn put_instrument(
     list[n - 1] = instrument;
     let instruments = InstrumentList::from_vec(list);
     Ok(Inverse::Instruments(mem::replace(&mut song.instruments, instruments)))
+}
+
+/// Puts an instrument under its number.
+///
+/// # Errors
+///
+/// Out of memory. The song is as before.
+fn put_instrument(
+    alloc: Global,
+    song: &mut Song,
+    n: u8,
+    instrument: Instrument,
+) -> Result<Inverse, NoMemory>
+    requires { is_no_instrument n ≡ false }
+    ensures { Does result song.old song.new (with_instrument song.old n instrument) }
+{
+    if usize::from(n) > song.instruments.as_slice().len() {
+        return add_instrument(alloc, song, n, instrument);
+    }
+    Ok(exchange_instrument(song, n, instrument))
 }
 
 /// Sets a byte of an instrument.

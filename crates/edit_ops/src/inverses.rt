@@ -1,14 +1,20 @@
 //! What an edit has replaced, and the way back.
 
-ghost use Rattle.std.specs.Prelude.{◌≡◌, Some, IsSome};
+ghost use Rattle.std.specs.Prelude.{◌≡◌, true, Some, IsSome};
 ghost use Rattle.song_model.specs.LookUp.{table_of, with_table};
 ghost use Rattle.edit_ops.specs.Others.{text_of, with_text};
-ghost use Rattle.edit_ops.specs.Back.{back, parts_of, with_parts};
+ghost use Rattle.edit_ops.specs.Back.{back, with_parts, are_parts};
 
-use song_model::{InstrumentList, PatternList, Song, SubtuneList, Table, TableName};
+use crate::instruments::exchange_instrument;
+use crate::numbered::exchange_patterns;
+use crate::orders::put_order;
+use crate::patterns::exchange_pattern;
+use crate::{NumberedPattern, Splice};
+use base::Items;
+use song_model::{Instrument, InstrumentList, Order, Pattern, Song, Subtune, Table, TableName};
 use std::mem;
 
-/// All parts of a song that hold pointers into its tables, and the tables.
+/// What holds pointers into the tables of a song, and the tables.
 #[derive(Drop)]
 pub struct PointerParts {
     /// The instruments.
@@ -21,29 +27,51 @@ pub struct PointerParts {
     pub filter: Table,
     /// The speed table.
     pub speed: Table,
-    /// The patterns.
-    pub patterns: PatternList,
+    /// The patterns with a pointer that moves.
+    pub patterns: Items<NumberedPattern>,
 }
 
-/// The whole parts of a song that an edit has replaced.
+/// What an edit has replaced in a song.
 #[derive(Drop)]
 pub enum Inverse {
     /// A text: 0 name, 1 author, 2 copyright.
-    Text { which: u8, text: [u8; 32] },
-    /// The subtunes.
-    Subtunes(SubtuneList),
-    /// The instruments.
+    Text {
+        which: u8,
+        text: [u8; 32],
+    },
+    /// A pattern, counted from 0.
+    OnePattern {
+        pattern: u8,
+        rows: Pattern,
+    },
+    /// The orderlist of a subtune's channel, both counted from 1.
+    OneOrder {
+        subtune: u8,
+        channel: u8,
+        order: Order,
+    },
+    /// An instrument, counted from 1.
+    OneInstrument {
+        number: u8,
+        instrument: Instrument,
+    },
+    /// All instruments.
     Instruments(InstrumentList),
     /// A table.
-    OneTable { name: TableName, table: Table },
-    /// The patterns.
-    Patterns(PatternList),
+    OneTable {
+        name: TableName,
+        table: Table,
+    },
+    /// Subtunes that came or went.
+    Subtunes(Splice<Subtune>),
+    /// Patterns that came or went.
+    Patterns(Splice<Pattern>),
     /// What has pointers that have moved.
     Pointers(PointerParts),
 }
 
-/// Puts the parts that an inverse holds into a song that they fit, and answers the inverse of that: the parts that
-/// the song had. It takes no memory.
+/// Puts what an inverse holds into a song that it fits, and answers the inverse of that: what the song had. It
+/// takes no memory.
 #[tactic(auto, unfolding(crate::specs::Back::back))]
 pub fn revert(song: &mut Song, inverse: Inverse) -> Inverse
     requires { IsSome (back song.old inverse) }
@@ -55,8 +83,14 @@ pub fn revert(song: &mut Song, inverse: Inverse) -> Inverse
             which,
             text: exchange_text(song, which, text),
         },
-        Inverse::Subtunes(subtunes) => {
-            Inverse::Subtunes(mem::replace(&mut song.subtunes, subtunes))
+        Inverse::OnePattern { pattern, rows } => exchange_pattern(song, pattern, rows),
+        Inverse::OneOrder {
+            subtune,
+            channel,
+            order,
+        } => put_order(song, subtune, channel, order),
+        Inverse::OneInstrument { number, instrument } => {
+            exchange_instrument(song, number, instrument)
         }
         Inverse::Instruments(instruments) => {
             Inverse::Instruments(mem::replace(&mut song.instruments, instruments))
@@ -65,9 +99,8 @@ pub fn revert(song: &mut Song, inverse: Inverse) -> Inverse
             name,
             table: exchange_table(song, name, table),
         },
-        Inverse::Patterns(patterns) => {
-            Inverse::Patterns(mem::replace(&mut song.patterns, patterns))
-        }
+        Inverse::Subtunes(splice) => Inverse::Subtunes(splice.put(&mut song.subtunes)),
+        Inverse::Patterns(splice) => Inverse::Patterns(splice.put(&mut song.patterns)),
         Inverse::Pointers(parts) => Inverse::Pointers(exchange_parts(song, parts)),
     }
 }
@@ -99,8 +132,10 @@ pub(crate) fn exchange_table(song: &mut Song, name: TableName, table: Table) -> 
 
 /// Puts these parts in place of the song's, and answers those.
 pub(crate) fn exchange_parts(song: &mut Song, parts: PointerParts) -> PointerParts
+    requires { are_parts song.old parts ≡ true }
     ensures after { song.new ≡ with_parts song.old parts }
-    ensures before { result ≡ parts_of song.old }
+    ensures parts { are_parts song.new result ≡ true }
+    ensures and_back { with_parts song.new result ≡ song.old }
 {
     PointerParts {
         instruments: mem::replace(&mut song.instruments, parts.instruments),
@@ -108,6 +143,6 @@ pub(crate) fn exchange_parts(song: &mut Song, parts: PointerParts) -> PointerPar
         pulse: mem::replace(&mut song.pulse, parts.pulse),
         filter: mem::replace(&mut song.filter, parts.filter),
         speed: mem::replace(&mut song.speed, parts.speed),
-        patterns: mem::replace(&mut song.patterns, parts.patterns),
+        patterns: exchange_patterns(&mut song.patterns, parts.patterns),
     }
 }

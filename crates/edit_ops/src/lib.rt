@@ -16,18 +16,22 @@ mod edits;
 mod instruments;
 mod inverses;
 mod lists;
+mod numbered;
 mod orders;
 mod others;
 mod patterns;
 mod pointers;
 mod shifts;
+mod splices;
 mod tables;
 
 pub use applying::apply;
 pub use edits::{Edit, EditFault};
 pub use inverses::{Inverse, PointerParts, revert};
+pub use numbered::NumberedPattern;
 pub use shifts::Shift;
 pub use song_model::NoMemory;
+pub use splices::Splice;
 
 #[cfg(test)]
 mod tests;

@@ -1,10 +1,10 @@
 //! Lists with one change.
 
-ghost use Rattle.std.specs.Prelude.{◌≡◌, ◌<◌, ◌≤◌, ◌++◌, length, slice_set, IfOk, OnOk};
+ghost use Rattle.std.specs.Prelude.{◌≡◌, ◌<◌, ◌≤◌, length, slice_set, IfOk};
 ghost use Rattle.std.specs.List.{insert, remove};
 ghost use Rattle.edit_ops.specs.Lists.{resized};
 
-use song_model::{NoMemory, Pattern, Subtune};
+use song_model::NoMemory;
 use std::alloc::Global;
 
 /// The items with this one at place `at`, counted from 0.
@@ -79,40 +79,4 @@ pub(crate) fn resized<T: Copy + Drop>(
     let mut list = Vec::from_slice(alloc, items)?;
     list.resize(count, filling)?;
     Ok(list)
-}
-
-/// Adds equal patterns to the end of a list.
-///
-/// # Errors
-///
-/// Out of memory.
-pub(crate) fn copy_patterns(
-    alloc: Global,
-    list: &mut Vec<Pattern>,
-    patterns: &[Pattern],
-) -> Result<(), NoMemory>
-    ensures { OnOk result (list.new.items ≡ list.old.items ++ patterns.now) }
-{
-    for pattern in patterns {
-        list.push(pattern.copy(alloc)?)?;
-    }
-    Ok(())
-}
-
-/// Adds equal subtunes to the end of a list.
-///
-/// # Errors
-///
-/// Out of memory.
-pub(crate) fn copy_subtunes(
-    alloc: Global,
-    list: &mut Vec<Subtune>,
-    subtunes: &[Subtune],
-) -> Result<(), NoMemory>
-    ensures { OnOk result (list.new.items ≡ list.old.items ++ subtunes.now) }
-{
-    for subtune in subtunes {
-        list.push(subtune.copy(alloc)?)?;
-    }
-    Ok(())
 }

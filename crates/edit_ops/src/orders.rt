@@ -1,13 +1,15 @@
 //! Edits of orderlists.
 
-ghost use Rattle.std.specs.Prelude.{◌≡◌, true, false, ◌-◌, ◌<◌, ◌≤◌, length, slice_set, IfOk};
+ghost use Rattle.std.specs.Prelude.{◌≡◌, true, false, ◌-◌, ◌<◌, ◌≤◌, length, slice_set, Some};
 ghost use Rattle.std.specs.List.{insert, remove};
 ghost use Rattle.song_model.specs.OrderLimits.{AreEntries};
+ghost use Rattle.song_model.specs.LookUp.{order_of};
 ghost use Rattle.edit_ops.specs.Orders.{lacks_subtune, lacks_order, lacks_entry, lacks_entry_gap, has_entries, is_endmark, subtune_at, order_at, with_channel, with_order, with_entries, with_restart};
+ghost use Rattle.edit_ops.specs.Back.{back};
 ghost use Rattle.edit_ops.specs.Does.{Does};
 
 use crate::Inverse;
-use crate::lists::{copy_subtunes, inserted, removed, with_item};
+use crate::lists::{inserted, removed, with_item};
 use song_model::{ENDMARK, NoMemory, Order, OrderEntries, Song, Subtune, SubtuneList};
 use std::alloc::Global;
 use std::mem;
@@ -87,83 +89,56 @@ pub(crate) fn is_endmark(entry: u8) -> bool
     entry == ENDMARK
 }
 
-/// The subtune with this orderlist on that channel.
-///
-/// # Errors
-///
-/// Out of memory.
-fn with_channel(
-    alloc: Global,
-    subtune: &Subtune,
-    channel: u8,
-    order: Order,
-) -> Result<Subtune, NoMemory>
-    ensures { IfOk result (λ made. made ≡ with_channel subtune.now channel order) }
+/// Puts an orderlist on a channel of a subtune, and answers the one that stood there.
+fn exchange_channel(subtune: &mut Subtune, channel: u8, order: Order) -> Order
+    ensures after { subtune.new ≡ with_channel subtune.old channel order }
+    ensures before { result ≡ order_of channel subtune.old }
 {
     match channel {
-        1 => Ok(Subtune {
-            one: order,
-            two: subtune.two.copy(alloc)?,
-            three: subtune.three.copy(alloc)?,
-        }),
-        2 => Ok(Subtune {
-            one: subtune.one.copy(alloc)?,
-            two: order,
-            three: subtune.three.copy(alloc)?,
-        }),
-        _ => Ok(Subtune {
-            one: subtune.one.copy(alloc)?,
-            two: subtune.two.copy(alloc)?,
-            three: order,
-        }),
+        1 => mem::replace(&mut subtune.one, order),
+        2 => mem::replace(&mut subtune.two, order),
+        _ => mem::replace(&mut subtune.three, order),
     }
 }
 
-/// Puts an orderlist in place of one.
-///
-/// # Errors
-///
-/// Out of memory. The song is as before.
-#[tactic(auto, unfolding(crate::specs::Back::back))]
-fn put_order(
-    alloc: Global,
-    song: &mut Song,
-    subtune: u8,
-    channel: u8,
-    order: Order,
-) -> Result<Inverse, NoMemory>
+/// Puts an orderlist in place of one, and answers that one.
+fn exchange_order(song: &mut Song, subtune: u8, channel: u8, order: Order) -> Order
     requires { lacks_order song.old subtune channel ≡ false }
-    ensures { Does result song.old song.new (with_order song.old subtune channel order) }
+    ensures after { song.new ≡ with_order song.old subtune channel order }
+    ensures before { result ≡ order_at song.old subtune channel }
 {
-    let made = with_channel(alloc, subtune_at(song, subtune), channel, order)?;
-    let at = usize::from(subtune) - 1;
-    let stored = song.subtunes.as_slice();
-    let mut subtunes = Vec::new(alloc);
-    copy_subtunes(alloc, &mut subtunes, &stored[..at])?;
-    subtunes.push(made)?;
-    copy_subtunes(alloc, &mut subtunes, &stored[at + 1..])?;
-    let subtunes = SubtuneList::from_vec(subtunes);
-    Ok(Inverse::Subtunes(mem::replace(&mut song.subtunes, subtunes)))
+    let mut subtunes = song.subtunes.take();
+    let before = exchange_channel(&mut subtunes[usize::from(subtune) - 1], channel, order);
+    song.subtunes = SubtuneList::from_vec(subtunes);
+    before
 }
 
-/// Puts entries in place of those of an orderlist.
-///
-/// # Errors
-///
-/// Out of memory. The song is as before.
-fn put_entries(
-    alloc: Global,
-    song: &mut Song,
-    subtune: u8,
-    channel: u8,
-    entries: OrderEntries,
-) -> Result<Inverse, NoMemory>
+/// Puts an orderlist in place of one, and answers the way back. It takes no memory.
+pub(crate) fn put_order(song: &mut Song, subtune: u8, channel: u8, order: Order) -> Inverse
     requires { lacks_order song.old subtune channel ≡ false }
-    ensures { Does result song.old song.new (with_entries song.old subtune channel entries) }
+    ensures after { song.new ≡ with_order song.old subtune channel order }
+    ensures back { back song.new result ≡ Some song.old }
 {
-    let restart = order_at(song, subtune, channel).restart;
-    let order = Order { entries, restart };
-    put_order(alloc, song, subtune, channel, order)
+    let order = exchange_order(song, subtune, channel, order);
+    Inverse::OneOrder {
+        subtune,
+        channel,
+        order,
+    }
+}
+
+/// Puts entries in place of those of an orderlist. It takes no memory.
+fn put_entries(song: &mut Song, subtune: u8, channel: u8, entries: Vec<u8>) -> Inverse
+    requires place { lacks_order song.old subtune channel ≡ false }
+    requires limits { AreEntries entries.items }
+    ensures after { song.new ≡ with_entries song.old subtune channel entries.items }
+    ensures back { back song.new result ≡ Some song.old }
+{
+    let order = Order {
+        entries: OrderEntries::from_vec(entries),
+        restart: order_at(song, subtune, channel).restart,
+    };
+    put_order(song, subtune, channel, order)
 }
 
 /// Sets an entry of an orderlist.
@@ -186,13 +161,7 @@ pub(crate) fn set_order(
 {
     let stored = entries_at(song, subtune, channel);
     let entries = with_item(alloc, stored, usize::from(place), entry)?;
-    put_entries(
-        alloc,
-        song,
-        subtune,
-        channel,
-        OrderEntries::from_vec(entries),
-    )
+    Ok(put_entries(song, subtune, channel, entries))
 }
 
 /// Inserts an entry before a place of an orderlist.
@@ -216,13 +185,7 @@ pub(crate) fn insert_order(
 {
     let stored = entries_at(song, subtune, channel);
     let entries = inserted(alloc, stored, usize::from(place), entry)?;
-    put_entries(
-        alloc,
-        song,
-        subtune,
-        channel,
-        OrderEntries::from_vec(entries),
-    )
+    Ok(put_entries(song, subtune, channel, entries))
 }
 
 /// Deletes an entry of an orderlist.
@@ -243,13 +206,7 @@ pub(crate) fn delete_order(
 {
     let stored = entries_at(song, subtune, channel);
     let entries = removed(alloc, stored, usize::from(place))?;
-    put_entries(
-        alloc,
-        song,
-        subtune,
-        channel,
-        OrderEntries::from_vec(entries),
-    )
+    Ok(put_entries(song, subtune, channel, entries))
 }
 
 /// Sets the restart position of an orderlist.
@@ -269,5 +226,5 @@ pub(crate) fn set_restart(
 {
     let entries = order_at(song, subtune, channel).entries.copy(alloc)?;
     let order = Order { entries, restart };
-    put_order(alloc, song, subtune, channel, order)
+    Ok(put_order(song, subtune, channel, order))
 }

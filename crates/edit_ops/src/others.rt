@@ -1,22 +1,22 @@
 //! Edits of texts, and of how many subtunes and patterns a song has.
 
-ghost use Rattle.std.specs.Prelude.{◌≡◌, true, false, ◌-◌, ◌∷◌, ◌++◌, [], replicate, IfOk, OnOk};
+ghost use Rattle.std.specs.Prelude.{◌≡◌, true, false, ◌+◌, ◌-◌, ◌≤◌, ◌∷◌, ◌++◌, [], Some, length, replicate, vec_capacity, IfOk, OnOk};
 ghost use Rattle.std.specs.List.{remove};
 ghost use Rattle.song_model.specs.LookUp.{void_order, void_subtune};
 ghost use Rattle.edit_ops.specs.Lists.{resized};
 ghost use Rattle.edit_ops.specs.Orders.{lacks_subtune};
 ghost use Rattle.edit_ops.specs.Others.{lacks_text, with_text, has_subtunes, is_no_count, rest_pattern};
+ghost use Rattle.edit_ops.specs.Splices.{whole_list};
+ghost use Rattle.edit_ops.specs.Back.{back};
 ghost use Rattle.edit_ops.specs.Does.{Does};
 
-use crate::Inverse;
 use crate::inverses::exchange_text;
-use crate::lists::{copy_patterns, copy_subtunes};
 use crate::patterns::REST;
+use crate::{Inverse, Splice};
 use song_model::{
-    MOST_PATTERNS, NoMemory, Order, OrderEntries, Pattern, PatternList, Song, Subtune, SubtuneList,
+    MOST_PATTERNS, MOST_SUBTUNES, NoMemory, Order, OrderEntries, Pattern, Song, Subtune,
 };
 use std::alloc::Global;
-use std::mem;
 
 /// Whether there is no such text.
 pub(crate) fn lacks_text(which: u8) -> bool
@@ -70,22 +70,49 @@ fn void_subtune(alloc: Global) -> Subtune
     }
 }
 
+/// Puts subtunes in place of others, and answers the way back. It takes no memory.
+fn splice_subtunes(song: &mut Song, splice: Splice<Subtune>) -> Inverse
+    requires places { splice.at + splice.count ≤ length song.old.subtunes }
+    requires limit { length (whole_list song.old.subtunes splice) ≤ MOST_SUBTUNES }
+    requires room { length (whole_list song.old.subtunes splice) ≤ vec_capacity splice.items }
+    ensures after { song.new ≡
+        record song.old { subtunes = whole_list song.old.subtunes splice } }
+    ensures back { back song.new result ≡ Some song.old }
+{
+    Inverse::Subtunes(splice.put(&mut song.subtunes))
+}
+
+/// Puts patterns in place of others, and answers the way back. It takes no memory.
+fn splice_patterns(song: &mut Song, splice: Splice<Pattern>) -> Inverse
+    requires places { splice.at + splice.count ≤ length song.old.patterns }
+    requires limit { length (whole_list song.old.patterns splice) ≤ MOST_PATTERNS }
+    requires room { length (whole_list song.old.patterns splice) ≤ vec_capacity splice.items }
+    ensures after { song.new ≡
+        record song.old { patterns = whole_list song.old.patterns splice } }
+    ensures back { back song.new result ≡ Some song.old }
+{
+    Inverse::Patterns(splice.put(&mut song.patterns))
+}
+
 /// Adds a subtune of three empty orderlists.
 ///
 /// # Errors
 ///
 /// Out of memory. The song is as before.
-#[tactic(auto, unfolding(crate::specs::Back::back))]
 pub(crate) fn add_subtune(alloc: Global, song: &mut Song) -> Result<Inverse, NoMemory>
     requires { has_subtunes song.old 32 ≡ false }
     ensures { Does result song.old song.new
         (record song.old { subtunes = song.old.subtunes ++ void_subtune ∷ [] }) }
 {
-    let mut subtunes = Vec::new(alloc);
-    copy_subtunes(alloc, &mut subtunes, song.subtunes.as_slice())?;
-    subtunes.push(void_subtune(alloc))?;
-    let subtunes = SubtuneList::from_vec(subtunes);
-    Ok(Inverse::Subtunes(mem::replace(&mut song.subtunes, subtunes)))
+    let stored = song.subtunes.as_slice().len();
+    let mut items = Vec::with_capacity(alloc, stored + 1)?;
+    items.push_reserved(void_subtune(alloc));
+    let splice = Splice {
+        at: stored,
+        count: 0,
+        items,
+    };
+    Ok(splice_subtunes(song, splice))
 }
 
 /// Removes a subtune.
@@ -93,7 +120,6 @@ pub(crate) fn add_subtune(alloc: Global, song: &mut Song) -> Result<Inverse, NoM
 /// # Errors
 ///
 /// Out of memory. The song is as before.
-#[tactic(auto, unfolding(crate::specs::Back::back))]
 pub(crate) fn remove_subtune(
     alloc: Global,
     song: &mut Song,
@@ -103,13 +129,12 @@ pub(crate) fn remove_subtune(
     ensures { Does result song.old song.new
         (record song.old { subtunes = remove song.old.subtunes (subtune - 1) }) }
 {
-    let at = usize::from(subtune) - 1;
-    let stored = song.subtunes.as_slice();
-    let mut subtunes = Vec::new(alloc);
-    copy_subtunes(alloc, &mut subtunes, &stored[..at])?;
-    copy_subtunes(alloc, &mut subtunes, &stored[at + 1..])?;
-    let subtunes = SubtuneList::from_vec(subtunes);
-    Ok(Inverse::Subtunes(mem::replace(&mut song.subtunes, subtunes)))
+    let splice = Splice {
+        at: usize::from(subtune) - 1,
+        count: 1,
+        items: Vec::with_capacity(alloc, song.subtunes.as_slice().len())?,
+    };
+    Ok(splice_subtunes(song, splice))
 }
 
 /// A pattern of 64 rests.
@@ -131,7 +156,8 @@ fn rest_pattern(alloc: Global) -> Result<Pattern, NoMemory>
 ///
 /// Out of memory.
 fn add_rests(alloc: Global, list: &mut Vec<Pattern>, count: usize) -> Result<(), NoMemory>
-    ensures { OnOk result (list.new.items ≡ list.old.items ++ replicate count rest_pattern) }
+    ensures added { OnOk result (list.new.items ≡ list.old.items ++ replicate count rest_pattern) }
+    ensures room { vec_capacity list.old ≤ vec_capacity list.new }
 {
     for _i in 0..count {
         list.push(rest_pattern(alloc)?)?;
@@ -144,7 +170,6 @@ fn add_rests(alloc: Global, list: &mut Vec<Pattern>, count: usize) -> Result<(),
 /// # Errors
 ///
 /// Out of memory. The song is as before.
-#[tactic(auto, unfolding(crate::specs::Back::back))]
 pub(crate) fn set_pattern_count(
     alloc: Global,
     song: &mut Song,
@@ -155,11 +180,14 @@ pub(crate) fn set_pattern_count(
         (record song.old { patterns = resized count rest_pattern song.old.patterns }) }
 {
     let count = usize::from(count);
-    let stored = song.patterns.as_slice();
-    let kept = count.min(stored.len());
-    let mut patterns = Vec::new(alloc);
-    copy_patterns(alloc, &mut patterns, &stored[..kept])?;
-    add_rests(alloc, &mut patterns, count - kept)?;
-    let patterns = PatternList::from_vec(patterns);
-    Ok(Inverse::Patterns(mem::replace(&mut song.patterns, patterns)))
+    let stored = song.patterns.as_slice().len();
+    let kept = count.min(stored);
+    let mut items = Vec::with_capacity(alloc, count)?;
+    add_rests(alloc, &mut items, count - kept)?;
+    let splice = Splice {
+        at: kept,
+        count: stored - kept,
+        items,
+    };
+    Ok(splice_patterns(song, splice))
 }

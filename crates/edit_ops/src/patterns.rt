@@ -1,19 +1,19 @@
 //! Edits of patterns.
 
-ghost use Rattle.std.specs.Prelude.{◌≡◌, true, false, ◌<◌, ◌≤◌, length, map, slice_set, All, IfOk};
+ghost use Rattle.std.specs.Prelude.{◌≡◌, true, false, ◌<◌, ◌≤◌, length, map, slice_set, All, Some, IfOk};
 ghost use Rattle.std.specs.List.{insert, remove, list_any};
 ghost use Rattle.song_model.specs.PatternLimits.{IsPattern};
 ghost use Rattle.song_model.specs.LookUp.{pattern_at};
 ghost use Rattle.song_model.specs.Silence.{rest_row};
 ghost use Rattle.edit_ops.specs.Lists.{resized};
 ghost use Rattle.edit_ops.specs.Patterns.{lacks_pattern, lacks_row, lacks_row_gap, has_rows, is_no_length, is_row, is_note, raised_by, leaves_range, some_leaves_range, transposed, with_pattern};
+ghost use Rattle.edit_ops.specs.Back.{back};
 ghost use Rattle.edit_ops.specs.Does.{Does};
 
 use crate::Inverse;
-use crate::lists::{copy_patterns, inserted, removed, resized, with_item};
-use song_model::{MOST_ROWS, NoMemory, Pattern, PatternList, Row, Song};
+use crate::lists::{inserted, removed, resized, with_item};
+use song_model::{MOST_ROWS, NoMemory, Pattern, Row, Song};
 use std::alloc::Global;
-use std::mem;
 
 /// A rest that names no instrument and no command.
 pub(crate) const REST: Row = Row {
@@ -112,29 +112,26 @@ pub(crate) fn some_leaves_range(song: &Song, pattern: u8, byte: u8) -> bool
         .any(|row| leaves_range(byte, *row))
 }
 
-/// Puts these rows in place of a pattern's.
-///
-/// # Errors
-///
-/// Out of memory. The song is as before.
-#[tactic(auto, using(std::proofs::lemmas::List::set_split), unfolding(crate::specs::Back::back))]
-fn put_pattern(
-    alloc: Global,
-    song: &mut Song,
-    pattern: u8,
-    rows: Pattern,
-) -> Result<Inverse, NoMemory>
+/// Puts a pattern in place of one, and answers the way back. It takes no memory.
+pub(crate) fn exchange_pattern(song: &mut Song, pattern: u8, rows: Pattern) -> Inverse
     requires { lacks_pattern song.old pattern ≡ false }
-    ensures { Does result song.old song.new (with_pattern song.old pattern rows) }
+    ensures after { song.new ≡ with_pattern song.old pattern rows }
+    ensures back { back song.new result ≡ Some song.old }
 {
-    let at = usize::from(pattern);
-    let stored = song.patterns.as_slice();
-    let mut patterns = Vec::new(alloc);
-    copy_patterns(alloc, &mut patterns, &stored[..at])?;
-    patterns.push(rows)?;
-    copy_patterns(alloc, &mut patterns, &stored[at + 1..])?;
-    let patterns = PatternList::from_vec(patterns);
-    Ok(Inverse::Patterns(mem::replace(&mut song.patterns, patterns)))
+    Inverse::OnePattern {
+        pattern,
+        rows: song.patterns.exchange(usize::from(pattern), rows),
+    }
+}
+
+/// Puts these rows in place of a pattern's. It takes no memory.
+fn put_pattern(song: &mut Song, pattern: u8, rows: Vec<Row>) -> Inverse
+    requires place { lacks_pattern song.old pattern ≡ false }
+    requires limits { IsPattern rows.items }
+    ensures after { song.new ≡ with_pattern song.old pattern rows.items }
+    ensures back { back song.new result ≡ Some song.old }
+{
+    exchange_pattern(song, pattern, Pattern::from_vec(rows))
 }
 
 /// Sets a row.
@@ -155,7 +152,7 @@ pub(crate) fn set_row(
         (with_pattern song.old pattern (slice_set (pattern_at song.old pattern) place row)) }
 {
     let rows = with_item(alloc, rows_at(song, pattern), usize::from(place), row)?;
-    put_pattern(alloc, song, pattern, Pattern::from_vec(rows))
+    Ok(put_pattern(song, pattern, rows))
 }
 
 /// Inserts a row before a place.
@@ -177,7 +174,7 @@ pub(crate) fn insert_row(
         (with_pattern song.old pattern (insert (pattern_at song.old pattern) place row)) }
 {
     let rows = inserted(alloc, rows_at(song, pattern), usize::from(place), row)?;
-    put_pattern(alloc, song, pattern, Pattern::from_vec(rows))
+    Ok(put_pattern(song, pattern, rows))
 }
 
 /// Deletes a row.
@@ -197,7 +194,7 @@ pub(crate) fn delete_row(
         (with_pattern song.old pattern (remove (pattern_at song.old pattern) place)) }
 {
     let rows = removed(alloc, rows_at(song, pattern), usize::from(place))?;
-    put_pattern(alloc, song, pattern, Pattern::from_vec(rows))
+    Ok(put_pattern(song, pattern, rows))
 }
 
 /// Cuts a pattern to so many rows, or adds rests.
@@ -217,7 +214,7 @@ pub(crate) fn set_length(
         (with_pattern song.old pattern (resized length rest_row (pattern_at song.old pattern))) }
 {
     let rows = resized(alloc, rows_at(song, pattern), usize::from(length), REST)?;
-    put_pattern(alloc, song, pattern, Pattern::from_vec(rows))
+    Ok(put_pattern(song, pattern, rows))
 }
 
 /// Makes one pattern equal to another.
@@ -236,7 +233,7 @@ pub(crate) fn copy_pattern(
     ensures { Does result song.old song.new (with_pattern song.old to (pattern_at song.old from)) }
 {
     let rows = Vec::from_slice(alloc, rows_at(song, from))?;
-    put_pattern(alloc, song, to, Pattern::from_vec(rows))
+    Ok(put_pattern(song, to, rows))
 }
 
 /// A row with so many half tones added to its note, if it has one.
@@ -287,5 +284,5 @@ pub(crate) fn transpose_pattern(
         (with_pattern song.old pattern (map (transposed by) (pattern_at song.old pattern))) }
 {
     let rows = all_transposed(alloc, rows_at(song, pattern), by)?;
-    put_pattern(alloc, song, pattern, Pattern::from_vec(rows))
+    Ok(put_pattern(song, pattern, rows))
 }

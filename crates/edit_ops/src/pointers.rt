@@ -1,11 +1,13 @@
 //! The pointers into a table, wherever they stand in a song, moved.
 
-ghost use Rattle.std.specs.Prelude.{◌≡◌, ◌≤◌, length, map, All, IfOk};
-ghost use Rattle.song_model.specs.PatternLimits.{IsPattern};
-ghost use Rattle.edit_ops.specs.Pointers.{shifted, is_into, right_table, moved_instrument, moved_row, moved_table_row, moved_table, moved_song};
-ghost use Rattle.edit_ops.specs.Back.{parts_of};
+ghost use Rattle.std.specs.Prelude.{◌≡◌, true, length, map, IfOk};
+ghost use Rattle.std.specs.List.{list_any};
+ghost use Rattle.edit_ops.specs.Pointers.{shifted, is_into, right_table, moved_instrument, is_moved, moved_row, moved_table_row, moved_table, moved_song};
+ghost use Rattle.edit_ops.specs.Numbered.{are_stored, with_all};
+ghost use Rattle.edit_ops.specs.Back.{with_parts, are_parts};
 
-use crate::{PointerParts, Shift};
+use crate::{NumberedPattern, PointerParts, Shift};
+use base::Items;
 use song_model::{
     Instrument, InstrumentList, NoMemory, Pattern, PatternList, Row, Song, Table, TableName,
     TableRow, command_table, wave_row_table,
@@ -143,7 +145,22 @@ fn moved_pattern(
     Ok(Pattern::from_vec(list))
 }
 
-/// Patterns with their pointers into a table moved.
+/// Whether a row has a pointer into a table that becomes another.
+fn is_moved(name: TableName, shift: Shift, row: Row) -> bool
+    ensures { result ≡ is_moved name (shifted shift) row }
+{
+    is_into(name, command_table(row.command)) && shift.of(row.param) != row.param
+}
+
+/// Whether a pattern has a pointer into a table that becomes another.
+fn has_moved(name: TableName, shift: Shift, pattern: &Pattern) -> bool
+    ensures { result ≡ list_any (is_moved name (shifted shift)) pattern.now }
+{
+    let rows = pattern.as_slice();
+    rows.iter().any(|row| is_moved(name, shift, *row))
+}
+
+/// Of these patterns those with a pointer into a table that becomes another, with their numbers and moved.
 ///
 /// # Errors
 ///
@@ -153,15 +170,22 @@ fn moved_patterns(
     name: TableName,
     shift: Shift,
     patterns: &PatternList,
-) -> Result<PatternList, NoMemory>
-    ensures { IfOk result (λ made. made ≡ map (map (moved_row name (shifted shift))) patterns.now) }
+) -> Result<Items<NumberedPattern>, NoMemory>
+    ensures stored { IfOk result (λ parts. are_stored (length patterns.now) parts ≡ true) }
+    ensures moved { IfOk result (λ parts. with_all patterns.now parts
+        ≡ map (map (moved_row name (shifted shift))) patterns.now) }
 {
     let stored = patterns.as_slice();
-    let mut list = Vec::new(alloc);
-    for pattern in stored {
-        list.push(moved_pattern(alloc, name, shift, pattern)?)?;
+    let mut parts = Vec::new(alloc);
+    for number in 0..stored.len() {
+        if has_moved(name, shift, &stored[number]) {
+            parts.push(NumberedPattern {
+                number: number as u8,
+                rows: moved_pattern(alloc, name, shift, &stored[number])?,
+            })?;
+        }
     }
-    Ok(PatternList::from_vec(list))
+    Ok(Items::from_vec(parts))
 }
 
 /// The parts of a song that have pointers into a table, with these moved.
@@ -176,7 +200,9 @@ pub(crate) fn moved_parts(
     name: TableName,
     shift: Shift,
 ) -> Result<PointerParts, NoMemory>
-    ensures { IfOk result (λ parts. parts ≡ parts_of (moved_song name (shifted shift) song.now)) }
+    ensures parts { IfOk result (λ parts. are_parts song.now parts ≡ true) }
+    ensures moved { IfOk result (λ parts. with_parts song.now parts ≡
+        moved_song name (shifted shift) song.now) }
 {
     Ok(PointerParts {
         instruments: moved_instruments(alloc, name, shift, &song.instruments)?,

@@ -1,10 +1,10 @@
 //! Edits of tables.
 
-ghost use Rattle.std.specs.Prelude.{◌≡◌, true, false, ◌-◌, ◌<◌, ◌≤◌, length, slice_set};
+ghost use Rattle.std.specs.Prelude.{◌≡◌, true, false, ◌-◌, ◌<◌, ◌≤◌, length, slice_set, Some};
 ghost use Rattle.std.specs.List.{insert, remove};
 ghost use Rattle.song_model.specs.LookUp.{table_of, with_table};
 ghost use Rattle.edit_ops.specs.Pointers.{shifted, moved_song};
-ghost use Rattle.edit_ops.specs.Back.{parts_of, with_parts, table_in, with_table_in};
+ghost use Rattle.edit_ops.specs.Back.{back, with_parts, are_parts, table_in, with_table_in};
 ghost use Rattle.edit_ops.specs.Tables.{table_named, lacks_table_row, lacks_table_gap, has_table_rows, with_table_row, with_row_inserted, with_row_deleted};
 ghost use Rattle.edit_ops.specs.Does.{Does};
 
@@ -100,12 +100,24 @@ pub(crate) fn set_table(
     Ok(Inverse::OneTable { name, table })
 }
 
+/// Puts parts with a table of this name in place of a song's. It takes no memory.
+fn put_parts(song: &mut Song, name: TableName, parts: PointerParts, rows: Vec<TableRow>) -> Inverse
+    requires parts { are_parts song.old parts ≡ true }
+    requires limit { length rows.items ≤ 255 }
+    ensures after { song.new ≡ with_table (with_parts song.old parts) name rows.items }
+    ensures back { back song.new result ≡ Some song.old }
+{
+    let mut parts = parts;
+    parts.set_table(name, Table::from_vec(rows));
+    Inverse::Pointers(exchange_parts(song, parts))
+}
+
 /// Inserts a row before one of a table, and moves the pointers into that table.
 ///
 /// # Errors
 ///
 /// Out of memory. The song is as before.
-#[tactic(auto, unfolding(crate::specs::Back::back, crate::specs::Tables::with_row_inserted))]
+#[tactic(auto, unfolding(crate::specs::Tables::with_row_inserted))]
 pub(crate) fn insert_table(
     alloc: Global,
     song: &mut Song,
@@ -119,11 +131,10 @@ pub(crate) fn insert_table(
         (with_row_inserted song.old (table_named table) number row) }
 {
     let name = table_named(table);
-    let mut parts = moved_parts(alloc, song, name, Shift::Up(number))?;
+    let parts = moved_parts(alloc, song, name, Shift::Up(number))?;
     let stored = parts.table(name).as_slice();
     let rows = inserted(alloc, stored, usize::from(number) - 1, row)?;
-    parts.set_table(name, Table::from_vec(rows));
-    Ok(Inverse::Pointers(exchange_parts(song, parts)))
+    Ok(put_parts(song, name, parts, rows))
 }
 
 /// Deletes a row of a table, and moves the pointers into that table.
@@ -131,7 +142,7 @@ pub(crate) fn insert_table(
 /// # Errors
 ///
 /// Out of memory. The song is as before.
-#[tactic(auto, unfolding(crate::specs::Back::back, crate::specs::Tables::with_row_deleted))]
+#[tactic(auto, unfolding(crate::specs::Tables::with_row_deleted))]
 pub(crate) fn delete_table(
     alloc: Global,
     song: &mut Song,
@@ -142,9 +153,8 @@ pub(crate) fn delete_table(
     ensures { Does result song.old song.new (with_row_deleted song.old (table_named table) number) }
 {
     let name = table_named(table);
-    let mut parts = moved_parts(alloc, song, name, Shift::Down(number))?;
+    let parts = moved_parts(alloc, song, name, Shift::Down(number))?;
     let stored = parts.table(name).as_slice();
     let rows = removed(alloc, stored, usize::from(number) - 1)?;
-    parts.set_table(name, Table::from_vec(rows));
-    Ok(Inverse::Pointers(exchange_parts(song, parts)))
+    Ok(put_parts(song, name, parts, rows))
 }

@@ -3,8 +3,8 @@ use Rattle.edit_ops.proofs.ListLaws.{remove_keeps}
 use Rattle.edit_ops.proofs.OrderLaws.{entry_stands}
 use Rattle.edit_ops.proofs.orders.delete_order.Goals as goal
 
-pub from_vec-requires : goal.from_vec-requires
-from_vec-requires c =
+pub put_entries-requires-clause-limits : goal.put_entries-requires-clause-limits
+put_entries-requires-clause-limits c =
     rw (c.in_ok-entries.ensures, c.from.ensures)
     (remove_keeps _ _ _ c.args.place c.entries_at-stored.ensures.limits
     (omega (
