@@ -1,5 +1,5 @@
 -- Steps and tests take desks that agree to desks that agree.
-use Rattle.std.proofs.Common.{◌≡◌, ℕ, ◌+◌, ◌*◌, ◌-◌, ◌/◌, ◌%◌, ◌||◌, Bool, true, false, not}
+use Rattle.std.proofs.Common.{◌≡◌, ℕ, ◌+◌, ◌*◌, ◌-◌, ◌/◌, ◌%◌, Bool, true, not}
 use Rattle.std.proofs.Common.{nat_eq, nat_le, bit_and, bit_or, bit_xor, List, [], ◌∷◌, refl, sym, ap, ◌∙◌}
 use Rattle.std.proofs.lemmas.Bool.{and_parts}
 use Rattle.cpu6502.specs.Registers.{one_if}
@@ -25,8 +25,8 @@ use Rattle.lowering.specs.Places.{names_step, names_steps, names_condition}
 use Rattle.lowering.proofs.Inside.{Inside}
 use Rattle.lowering.proofs.Counting.{Voiced}
 use Rattle.lowering.proofs.Alike.{Slot, TheAcc, TheY, TheLow, TheHigh, TheCarry, TheShown, pick, known_when}
-use Rattle.lowering.proofs.Alike.{Same, Alike, or_none, alike_in, put_on, acc_alike, y_alike, carry_alike, byte_alike}
-use Rattle.lowering.proofs.Alike.{shown_alike, none_more, regroup}
+use Rattle.lowering.proofs.Alike.{Same, Alike, or_none, put_on, acc_alike, y_alike, carry_alike, byte_alike}
+use Rattle.lowering.proofs.Alike.{shown_alike, none_more, regroup, with_carry, shown_with_carry}
 
 -- what two desks share: the addresses of labels, and that the bytes of the block's own are among those that agree
 pub record Shared : Type 1 where
@@ -37,48 +37,6 @@ pub record Shared : Type 1 where
   pub inside : Inside layout names low high
   pub Where : ℕ → Type 0
   pub own : (label : ℕ) → names.is_own label ≡ true → Where (layout.address label)
-
--- ---- known sets in the forms in which steps name them
-
-on_true : (a : Bool) → ((a || true) || false) ≡ true
-on_true true = refl
-on_true false = refl
-
-on_last : (a : Bool) → ((a || false) || true) ≡ true
-on_last true = refl
-on_last false = refl
-
-on_none : (a : Bool) → (a || false) ≡ true → ((a || false) || false) ≡ true
-on_none true e = refl
-on_none false e = e
-
--- A and what it shows, with the carry
-with_carry : {layout : Layout} {Where : ℕ → Type 0} {one two : Desk} (k : Known) →
-    Alike layout Where (either (either k (either the_acc the_shown)) the_carry) one two →
-    Alike layout Where (either k (either the_acc (either the_carry the_shown))) one two
-with_carry k alike = alike_in (λ s h. to s h) alike where
-  to : (s : Slot) → pick s (either k (either the_acc (either the_carry the_shown))) ≡ true →
-      pick s (either (either k (either the_acc the_shown)) the_carry) ≡ true
-  to TheAcc h = on_true k.acc
-  to TheY h = on_none k.y h
-  to TheLow h = on_none k.low h
-  to TheHigh h = on_none k.high h
-  to TheCarry h = on_last k.carry
-  to TheShown h = on_true k.shown
-
--- what a byte shows, with the carry
-shown_with_carry : {layout : Layout} {Where : ℕ → Type 0} {one two : Desk} (k : Known) →
-    Alike layout Where (either (either k the_shown) the_carry) one two →
-    Alike layout Where (either k (either the_carry the_shown)) one two
-shown_with_carry k alike = alike_in (λ s h. to s h) alike where
-  to : (s : Slot) → pick s (either k (either the_carry the_shown)) ≡ true →
-      pick s (either (either k the_shown) the_carry) ≡ true
-  to TheAcc h = on_none k.acc h
-  to TheY h = on_none k.y h
-  to TheLow h = on_none k.low h
-  to TheHigh h = on_none k.high h
-  to TheCarry h = on_last k.carry
-  to TheShown h = on_true k.shown
 
 -- ---- operands
 

@@ -219,3 +219,45 @@ regroup k a b alike = alike_in (λ s h. to s h) alike where
   to TheHigh h = or_assoc k.high a.high b.high h
   to TheCarry h = or_assoc k.carry a.carry b.carry h
   to TheShown h = or_assoc k.shown a.shown b.shown h
+
+-- ---- known sets in the forms in which steps name them
+
+on_true : (a : Bool) → ((a || true) || false) ≡ true
+on_true true = refl
+on_true false = refl
+
+on_last : (a : Bool) → ((a || false) || true) ≡ true
+on_last true = refl
+on_last false = refl
+
+on_none : (a : Bool) → (a || false) ≡ true → ((a || false) || false) ≡ true
+on_none true e = refl
+on_none false e = e
+
+-- A and what it shows, with the carry
+pub with_carry : {layout : Layout} {Where : ℕ → Type 0} {one two : Desk} (k : Known) →
+    Alike layout Where (either (either k (either the_acc the_shown)) the_carry) one two →
+    Alike layout Where (either k (either the_acc (either the_carry the_shown))) one two
+with_carry k alike = alike_in (λ s h. to s h) alike where
+  to : (s : Slot) → pick s (either k (either the_acc (either the_carry the_shown))) ≡ true →
+      pick s (either (either k (either the_acc the_shown)) the_carry) ≡ true
+  to TheAcc h = on_true k.acc
+  to TheY h = on_none k.y h
+  to TheLow h = on_none k.low h
+  to TheHigh h = on_none k.high h
+  to TheCarry h = on_last k.carry
+  to TheShown h = on_true k.shown
+
+-- what a byte shows, with the carry
+pub shown_with_carry : {layout : Layout} {Where : ℕ → Type 0} {one two : Desk} (k : Known) →
+    Alike layout Where (either (either k the_shown) the_carry) one two →
+    Alike layout Where (either k (either the_carry the_shown)) one two
+shown_with_carry k alike = alike_in (λ s h. to s h) alike where
+  to : (s : Slot) → pick s (either k (either the_carry the_shown)) ≡ true →
+      pick s (either (either k the_shown) the_carry) ≡ true
+  to TheAcc h = on_none k.acc h
+  to TheY h = on_none k.y h
+  to TheLow h = on_none k.low h
+  to TheHigh h = on_none k.high h
+  to TheCarry h = on_last k.carry
+  to TheShown h = on_true k.shown
