@@ -11,5 +11,7 @@ mod Whole
 -- Inner: what is packed is the normal rows, in as few bytes as can spell them.
 mod Packings
 mod Shortest
+-- Inner: sizes and programs that were worked out by hand.
+mod WorkedSizes
 -- Inner: the laws.
 mod PatternLaws

@@ -4,8 +4,15 @@ pub mod PackedSpells
 pub mod Normal
 pub mod PackedText
 pub mod Faults
--- Claimed: laws of these, and packed patterns worked out by hand.
+-- To believe: the size of a packed song, which programs are stored once, the new numbers, and the sizes of a song.
+pub mod Sizes
+pub mod Segments
+pub mod UsedSets
+pub mod Renumbering
+pub mod SongSizes
+-- Claimed: laws of these, and packed patterns and sizes worked out by hand.
 pub mod PackedLaws
 pub mod WorkedPatterns
+pub mod WorkedSizes
 -- Inner: how the answer of a call stands to what reading gives, and what is kept of the rows.
 pub mod Answers

@@ -1,6 +1,7 @@
 //! Facts about packed patterns, each the contract of a function that does nothing.
 
 ghost use Rattle.packed_form.specs.PackedLaws.{ConstantsAre, PackedTextIsSpelled, PackedTextHasNoFault, SpelledOnce, SpelledArePatterns, RowsOrFault, NoneIsShorter};
+ghost use Rattle.packed_form.specs.WorkedSizes.{NoteHas42Bytes, EqualPatternsAreStoredOnce, CodeBoundsAre, EqualProgramsAreStoredOnce, JumpsOutAreKept};
 ghost use Rattle.packed_form.specs.WorkedPatterns.{EighthsArePacked, KeyoffIsUnpacked, RestsAreGathered, CommandsAreNamedOnce, OtherSpellingsAreUnpacked, BadBytesAreFound, EndsAreWanted, LengthsAreLimited};
 
 /// What is packed is unpacked as the normal rows: the packer's text spells these, has no fault, and bytes spell one
@@ -46,4 +47,19 @@ pub fn worked_faults()
     ensures bytes { BadBytesAreFound }
     ensures ends { EndsAreWanted }
     ensures lengths { LengthsAreLimited }
+{}
+
+/// Which programs are stored once.
+#[tactic(auto, using(crate::proofs::WorkedSizes::equal_programs, crate::proofs::WorkedSizes::jumps_out))]
+pub fn worked_programs()
+    ensures equal { EqualProgramsAreStoredOnce }
+    ensures out { JumpsOutAreKept }
+{}
+
+/// Sizes of songs, and bounds of code.
+#[tactic(auto, using(crate::proofs::WorkedSizes::note_has_42, crate::proofs::WorkedSizes::patterns_once))]
+pub fn worked_sizes()
+    ensures note { NoteHas42Bytes }
+    ensures patterns { EqualPatternsAreStoredOnce }
+    ensures code { CodeBoundsAre }
 {}

@@ -5,8 +5,12 @@
 //! The layer's one contract: `pack_pattern` gives the text that the packer's rule names, and `unpack_pattern` gives
 //! rows exactly where the bytes spell them, and otherwise the first fault. `PackedSpells` says what bytes spell, apart
 //! from the code.
-//! It stands on `song_model`, whose patterns it packs, and on `arrayvec` for texts that take no memory. See
-//! `docs/packed-form.md`.
+//!
+//! A packed song has the packed patterns and orderlists of a song, and of its instruments and tables only what is used,
+//! under new numbers (`Renumbering`, `Segments`). `data_size` and `packed_size` say how many bytes that is.
+//!
+//! It stands on `song_model`, whose patterns it packs, on `play_model` for what a song uses, and on `arrayvec` for
+//! texts that take no memory. See `docs/packed-form.md`.
 #![tactic(auto)]
 
 /// Facts about the definitions.
@@ -14,14 +18,20 @@ pub mod claims;
 mod entries;
 mod faults;
 mod packed_patterns;
+mod packed_songs;
 mod packing;
 mod places;
 mod rows;
+mod sizes;
 mod unpacking;
 
 pub use entries::{Command, Entry, EntryKind};
 pub use faults::{PackedFault, PatternTooLong};
 pub use packed_patterns::{MOST_PACKED_BYTES, PackedPattern};
+pub use packed_songs::{
+    MOST_ORDER_BYTES, PackedInstrument, PackedInstrumentList, PackedOrder, PackedPatternList,
+    PackedSong, PackedSubtune, PackedSubtuneList,
+};
 pub use packing::pack_pattern;
 pub use unpacking::{MOST_BYTES, unpack_pattern};
 

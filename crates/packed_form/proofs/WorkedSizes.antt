@@ -1,0 +1,24 @@
+-- The sizes and programs that were worked out by hand, computed.
+use Rattle.std.proofs.Common.{refl}
+use Rattle.song_model.specs.LookUp.{table_row, pattern_at}
+use Rattle.packed_form.specs.PackedText.{packed_text}
+use Rattle.packed_form.specs.Segments.{first_row, is_closed, are_equal, first_equal, keeps, stand_in}
+use Rattle.packed_form.specs.Renumbering.{speed_rows, speed_number, table_number, instrument_number, pattern_text, pattern_texts}
+use Rattle.packed_form.specs.SongSizes.{data_size, packed_size}
+use Rattle.packed_form.specs.WorkedSizes.{NoteHas42Bytes, EqualPatternsAreStoredOnce, EqualProgramsAreStoredOnce, JumpsOutAreKept}
+
+pub equal_programs : EqualProgramsAreStoredOnce
+unfolding first_row is_closed are_equal first_equal keeps stand_in
+equal_programs = (refl, refl)
+
+pub jumps_out : JumpsOutAreKept
+unfolding first_row is_closed are_equal first_equal keeps stand_in
+jumps_out = (refl, refl)
+
+pub note_has_42 : NoteHas42Bytes
+unfolding packed_text first_row is_closed are_equal first_equal keeps stand_in speed_rows speed_number table_number instrument_number pattern_text pattern_texts data_size packed_size table_row pattern_at
+note_has_42 = (refl, refl)
+
+pub patterns_once : EqualPatternsAreStoredOnce
+unfolding packed_text first_row is_closed are_equal first_equal keeps stand_in speed_rows speed_number table_number instrument_number pattern_text pattern_texts data_size packed_size table_row pattern_at
+patterns_once = (refl, refl)

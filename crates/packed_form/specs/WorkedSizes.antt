@@ -1,0 +1,92 @@
+-- Sizes that were worked out by hand.
+use Rattle.std.specs.Prelude.{◌≡◌, ℕ, Bool, true, false, ◌==◌, List, [], ◌∷◌, ◌++◌}
+use Rattle.std.specs.List.{list_any}
+use Rattle.song_model.specs.declared.tables.TableRow.{TableRow}
+use Rattle.song_model.specs.declared.tables.TableName.{TableName}
+use Rattle.song_model.specs.declared.tables.TableName.TheVariants.{Wave, Pulse, Filter, Speed}
+use Rattle.song_model.specs.declared.songs.Song.{Song}
+use Rattle.play_model.specs.State.{no_options}
+use Rattle.play_model.specs.WorkedSongs.{one_note, sides, subtune, rests}
+use Rattle.packed_form.specs.Segments.{ProgramTable, keeps, stand_in}
+use Rattle.packed_form.specs.UsedSets.{UsedSets}
+use Rattle.packed_form.specs.SongSizes.{data_size, packed_size, code_bound}
+
+-- the numbers of a list
+abbrev pub among : List ℕ → ℕ → Bool
+among numbers n = list_any (λ m. m == n) numbers
+
+-- rows 1 and 2 of the wave and of the pulse table are come to from row 1
+abbrev pub note_rows : TableName → ℕ → Bool
+note_rows Wave = among (1 ∷ 2 ∷ [])
+note_rows Pulse = among (1 ∷ 2 ∷ [])
+note_rows Filter = among []
+note_rows Speed = among []
+
+abbrev pub note_pointers : TableName → ℕ → Bool
+note_pointers Wave = among (1 ∷ [])
+note_pointers Pulse = among (1 ∷ [])
+note_pointers Filter = among []
+note_pointers Speed = among []
+
+-- what a song of one note with a wave and a pulse program uses, if these are its patterns
+abbrev pub note_sets : List ℕ → UsedSets
+note_sets patterns = record {
+  patterns = among patterns;
+  instruments = among (1 ∷ []);
+  reached = note_rows;
+  pointers = note_pointers;
+}
+
+-- three orderlists of one entry, the patterns 01 90 BE 00 and C0 00, one instrument, two rows in each of two tables
+abbrev pub NoteHas42Bytes : Type 0
+NoteHas42Bytes = (data_size one_note (note_sets (0 ∷ 1 ∷ [])) ≡ 42) × (packed_size one_note (note_sets (0 ∷ 1 ∷ [])) ≡ 42)
+
+-- the same song where channel 3 plays another pattern with one rest
+abbrev pub two_rests : Song
+two_rests = record one_note {
+  subtunes = subtune (0 ∷ []) (1 ∷ []) (2 ∷ []) ∷ [];
+  patterns = one_note.patterns ++ rests 1 ∷ [];
+}
+
+-- the pattern C0 00, with two bytes for its address, is stored once
+abbrev pub EqualPatternsAreStoredOnce : Type 0
+EqualPatternsAreStoredOnce =
+    (data_size two_rests (note_sets (0 ∷ 1 ∷ 2 ∷ [])) ≡ 46)
+    × (packed_size two_rests (note_sets (0 ∷ 1 ∷ 2 ∷ [])) ≡ 42)
+
+-- 3,072 bytes and 320 for each of two features; and for the three options
+abbrev pub CodeBoundsAre : Type 0
+CodeBoundsAre = (code_bound 0 no_options ≡ 3072) × (code_bound 0x402000 no_options ≡ 3712)
+    × (code_bound 0x402000 (record { skip_effects = true; skip_pulse = true; speed = 4 }) ≡ 4672)
+    × (code_bound 0xFFFFFF no_options ≡ 10752)
+
+-- ---- programs
+
+-- four rows that are all come to, with pointers to rows 1 and 3
+abbrev pub two_programs : TableRow → TableRow → ProgramTable
+two_programs second fourth = record {
+  rows = sides 0x41 0 ∷ second ∷ sides 0x41 0 ∷ fourth ∷ [];
+  reached = among (1 ∷ 2 ∷ 3 ∷ 4 ∷ []);
+  entries = among (1 ∷ 3 ∷ []);
+  pulse = false;
+}
+
+-- which of the rows 1 to 4 stay, and which rows stand for them
+abbrev pub first_four : {X : Type 0} → (ℕ → X) → List X
+first_four f = f 1 ∷ f 2 ∷ f 3 ∷ f 4 ∷ []
+
+abbrev pub loops : ProgramTable
+loops = two_programs (sides 0xFF 1) (sides 0xFF 3)
+
+-- two loops to their own first rows are equal
+abbrev pub EqualProgramsAreStoredOnce : Type 0
+EqualProgramsAreStoredOnce = (first_four (keeps loops) ≡ true ∷ true ∷ false ∷ false ∷ [])
+    × (first_four (stand_in loops) ≡ 1 ∷ 2 ∷ 1 ∷ 2 ∷ [])
+
+abbrev pub joined : ProgramTable
+joined = two_programs (sides 0xFF 1) (sides 0xFF 1)
+
+-- a program that jumps out isn't closed, so all rows stay
+abbrev pub JumpsOutAreKept : Type 0
+JumpsOutAreKept = (first_four (keeps joined) ≡ true ∷ true ∷ true ∷ true ∷ [])
+    × (first_four (stand_in joined) ≡ 1 ∷ 2 ∷ 3 ∷ 4 ∷ [])
