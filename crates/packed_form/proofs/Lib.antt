@@ -11,6 +11,8 @@ mod Whole
 -- Inner: what is packed is the normal rows, in as few bytes as can spell them.
 mod Packings
 mod Shortest
+-- Inner: maps of rows.
+mod ProgramMaps
 -- Inner: sizes and programs that were worked out by hand.
 mod WorkedSizes
 -- Inner: the laws.

@@ -4,9 +4,11 @@ pub mod PackedSpells
 pub mod Normal
 pub mod PackedText
 pub mod Faults
--- To believe: the size of a packed song, which programs are stored once, the new numbers, and the sizes of a song.
+-- To believe: the size of a packed song, which programs are stored once, which maps of
+-- rows keep programs, the new numbers, and the sizes of a song.
 pub mod Sizes
 pub mod Segments
+pub mod ProgramMaps
 pub mod UsedSets
 pub mod Renumbering
 pub mod SongSizes

@@ -1,6 +1,7 @@
 //! Facts about packed patterns, each the contract of a function that does nothing.
 
 ghost use Rattle.packed_form.specs.PackedLaws.{ConstantsAre, PackedTextIsSpelled, PackedTextHasNoFault, SpelledOnce, SpelledArePatterns, RowsOrFault, NoneIsShorter};
+ghost use Rattle.packed_form.specs.ProgramMaps.{MapsCompose};
 ghost use Rattle.packed_form.specs.WorkedSizes.{NoteHas42Bytes, EqualPatternsAreStoredOnce, CodeBoundsAre, EqualProgramsAreStoredOnce, JumpsOutAreKept};
 ghost use Rattle.packed_form.specs.WorkedPatterns.{EighthsArePacked, KeyoffIsUnpacked, RestsAreGathered, CommandsAreNamedOnce, OtherSpellingsAreUnpacked, BadBytesAreFound, EndsAreWanted, LengthsAreLimited};
 
@@ -62,4 +63,9 @@ pub fn worked_sizes()
     ensures note { NoteHas42Bytes }
     ensures patterns { EqualPatternsAreStoredOnce }
     ensures code { CodeBoundsAre }
+{}
+
+/// A map of rows that keeps programs, after another such map.
+pub fn maps_compose()
+    ensures { MapsCompose }
 {}

@@ -1,0 +1,30 @@
+-- When the rows of a table may get new numbers: what any player reads in the programs of the new table is what it reads
+-- in those of the old one.
+use Rattle.std.specs.Prelude.{◌≡◌, ℕ, ◌+◌, Bool, true, false, if◌then◌else◌, List}
+use Rattle.song_model.specs.declared.tables.TableRow.{TableRow}
+use Rattle.song_model.specs.LookUp.{IsNumbered, numbered, zero_table_row}
+use Rattle.packed_form.specs.Segments.{is_jump_row, is_end}
+
+-- a row of the new table: a jump goes to the new number of its target
+abbrev pub retargeted : (ℕ → ℕ) → TableRow → TableRow
+retargeted to row = if is_jump_row row then record row { right = to row.right } else row
+
+-- row p of a table, counted from 1
+abbrev pub row_at : List TableRow → ℕ → TableRow
+row_at rows p = numbered rows p zero_table_row
+
+-- each of these rows of the old table is stood for by a row of the new one
+pub record KeepsPrograms (pulse : Bool) (reached : ℕ → Bool) (old new : List TableRow) (to : ℕ → ℕ) : Type 0 where
+  -- 0, which names no row, stays 0
+  pub nothing : to 0 ≡ 0
+  pub stored : (p : ℕ) → reached p ≡ true → IsNumbered new (to p)
+  -- the left sides are the same, and but for jumps the right sides; a jump goes to what stands for its target
+  pub row : (p : ℕ) → reached p ≡ true → row_at new (to p) ≡ retargeted to (row_at old p)
+  -- where a program goes on, the next row is stood for by the next row
+  pub next : (p : ℕ) → reached p ≡ true → is_end pulse (row_at old p) ≡ false → to (p + 1) ≡ to p + 1
+
+-- one such map after another is one
+abbrev pub MapsCompose : Type 0
+MapsCompose = (pulse : Bool) (reached other : ℕ → Bool) (old between new : List TableRow) (to further : ℕ → ℕ) →
+    KeepsPrograms pulse reached old between to → ((p : ℕ) → reached p ≡ true → other (to p) ≡ true) →
+    KeepsPrograms pulse other between new further → KeepsPrograms pulse reached old new (λ p. further (to p))
