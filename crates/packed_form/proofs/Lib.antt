@@ -11,8 +11,10 @@ mod Whole
 -- Inner: what is packed is the normal rows, in as few bytes as can spell them.
 mod Packings
 mod Shortest
--- Inner: maps of rows.
+-- Inner: maps of rows, and segments.
+mod Numbers
 mod ProgramMaps
+mod Segments
 -- Inner: sizes and programs that were worked out by hand.
 mod WorkedSizes
 -- Inner: the laws.

@@ -1,10 +1,10 @@
 -- Which programs of a table are stored once, from this project's own packed form. The rows that programs come to fall
 -- into segments; of closed segments that are equal the first one stays, and its rows stand for those of the others.
-use Rattle.std.specs.Prelude.{ℕ, zero, suc, ◌+◌, ◌-◌, Bool, not, ◌&&◌, ◌||◌, ◌==◌, if◌then◌else◌, List, length}
+use Rattle.std.specs.Prelude.{◌≡◌, ◌≢◌, ℕ, zero, suc, ◌+◌, ◌-◌, Bool, true, false, not, ◌&&◌, ◌||◌, ◌==◌, if◌then◌else◌, List, length}
 use Rattle.std.specs.List.{list_all, find, range_with_len}
 use Rattle.std.specs.Option.{unwrap_or}
 use Rattle.song_model.specs.declared.tables.TableRow.{TableRow}
-use Rattle.song_model.specs.LookUp.{numbered, zero_table_row}
+use Rattle.song_model.specs.LookUp.{IsNumbered, numbered, zero_table_row}
 
 -- the wave, the pulse or the filter table of a song
 pub record ProgramTable : Type 0 where
@@ -24,14 +24,23 @@ numbers n = range_with_len 1 n
 abbrev pub row_of : ProgramTable → ℕ → TableRow
 row_of table p = numbered table.rows p zero_table_row
 
--- ---- segments
-
 abbrev pub is_jump_row : TableRow → Bool
 is_jump_row row = row.left == 0xFF
 
--- a segment ends after a jump row, and after a pulse row with left side 0
+-- a program goes no further after a jump row, and after a pulse row with left side 0; a segment ends there
 abbrev pub is_end : Bool → TableRow → Bool
 is_end pulse row = is_jump_row row || (pulse && (row.left == 0))
+
+-- what holds of the tables of a song that can be played: a row that is come to is stored, a pointer names such a row, and
+-- a program goes on to such a row, or jumps to one
+pub record IsWhole (table : ProgramTable) : Type 0 where
+  pub stored : (p : ℕ) → table.reached p ≡ true → IsNumbered table.rows p
+  pub entry : (p : ℕ) → table.entries p ≡ true → table.reached p ≡ true
+  pub next : (p : ℕ) → table.reached p ≡ true → is_end table.pulse (row_of table p) ≡ false → table.reached (p + 1) ≡ true
+  pub target : (p : ℕ) → table.reached p ≡ true → is_jump_row (row_of table p) ≡ true → (row_of table p).right ≢ 0 →
+      table.reached (row_of table p).right ≡ true
+
+-- ---- segments
 
 -- a segment begins at a reached row where the row before isn't reached, or ends one
 abbrev pub begins : ProgramTable → ℕ → Bool
