@@ -6,3 +6,10 @@ pub use Rattle.packed_form.proofs.PatternLaws.{packed_is_spelled, none_is_shorte
 pub use Rattle.packed_form.proofs.PatternLaws.{spelled_once, spelled_are_patterns, rows_or_fault}
 -- one map of rows that keeps programs after another is one
 pub use Rattle.packed_form.proofs.ProgramMaps.{retargeted_twice, end_stays, maps_compose}
+-- tests of the numbers of a stretch
+pub use Rattle.packed_form.proofs.Numbers.{all_at, all_from, range_more, IsFound, least_found, found_at}
+-- the rows of a segment, and where two segments are equal
+pub use Rattle.packed_form.proofs.Segments.{GoesOn, goes_on_here, same_segment, InSegment, segment_of, IsRowOf, row_of_segment, is_in_from, not_behind}
+pub use Rattle.packed_form.proofs.EqualSegments.{Alike, alike_parts, AreEqual, equal_parts, equal_from, equal_itself, equal_back, equal_on, is_such, IsSuch, such_parts, such_from, IsFirstEqual, open_stays, first_is, first_of_first}
+-- what stands for a row
+pub use Rattle.packed_form.proofs.StandIns.{stands_for, stands_for_none, keeps_from, IsKept, kept_parts, stand_in_stays, kept_stands, next_stays, numbered_length, stand_ins_keep}

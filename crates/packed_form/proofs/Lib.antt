@@ -15,6 +15,8 @@ mod Shortest
 mod Numbers
 mod ProgramMaps
 mod Segments
+mod EqualSegments
+mod StandIns
 -- Inner: sizes and programs that were worked out by hand.
 mod WorkedSizes
 -- Inner: the laws.

@@ -14,6 +14,7 @@ pub mod Renumbering
 pub mod SongSizes
 -- Claimed: laws of these, and packed patterns and sizes worked out by hand.
 pub mod PackedLaws
+pub mod ProgramLaws
 pub mod WorkedPatterns
 pub mod WorkedSizes
 -- Inner: how the answer of a call stands to what reading gives, and what is kept of the rows.

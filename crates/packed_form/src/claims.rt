@@ -2,6 +2,7 @@
 
 ghost use Rattle.packed_form.specs.PackedLaws.{ConstantsAre, PackedTextIsSpelled, PackedTextHasNoFault, SpelledOnce, SpelledArePatterns, RowsOrFault, NoneIsShorter};
 ghost use Rattle.packed_form.specs.ProgramMaps.{MapsCompose};
+ghost use Rattle.packed_form.specs.ProgramLaws.{StandInsKeepPrograms, StandInsStay, KeptStandForThemselves};
 ghost use Rattle.packed_form.specs.WorkedSizes.{NoteHas42Bytes, EqualPatternsAreStoredOnce, CodeBoundsAre, EqualProgramsAreStoredOnce, JumpsOutAreKept};
 ghost use Rattle.packed_form.specs.WorkedPatterns.{EighthsArePacked, KeyoffIsUnpacked, RestsAreGathered, CommandsAreNamedOnce, OtherSpellingsAreUnpacked, BadBytesAreFound, EndsAreWanted, LengthsAreLimited};
 
@@ -68,4 +69,12 @@ pub fn worked_sizes()
 /// A map of rows that keeps programs, after another such map.
 pub fn maps_compose()
     ensures { MapsCompose }
+{}
+
+/// The rows that stay stand for all rows, and no program can tell.
+#[tactic(auto, using(crate::proofs::StandIns::stand_in_stays, crate::proofs::StandIns::kept_stands))]
+pub fn stand_ins_keep_programs()
+    ensures keep { StandInsKeepPrograms }
+    ensures stay { StandInsStay }
+    ensures themselves { KeptStandForThemselves }
 {}

@@ -1,0 +1,16 @@
+-- What a reader may rely on in the definitions of programs that are stored once.
+use Rattle.std.specs.Prelude.{◌≡◌, ℕ, true, map}
+use Rattle.packed_form.specs.Segments.{ProgramTable, IsWhole, keeps, stand_in}
+use Rattle.packed_form.specs.ProgramMaps.{retargeted, KeepsPrograms}
+
+-- the map to the rows that stand for others keeps programs, where each jump goes to what stands for its target
+abbrev pub StandInsKeepPrograms : Type 0
+StandInsKeepPrograms = (table : ProgramTable) → IsWhole table →
+    KeepsPrograms table.pulse table.reached table.rows (map (retargeted (stand_in table)) table.rows) (stand_in table)
+
+-- what stands for a row stays, and a row that stays stands for itself
+abbrev pub StandInsStay : Type 0
+StandInsStay = (table : ProgramTable) (p : ℕ) → IsWhole table → table.reached p ≡ true → keeps table (stand_in table p) ≡ true
+
+abbrev pub KeptStandForThemselves : Type 0
+KeptStandForThemselves = (table : ProgramTable) (p : ℕ) → IsWhole table → keeps table p ≡ true → stand_in table p ≡ p
