@@ -17,6 +17,7 @@ mod ProgramMaps
 mod Segments
 mod EqualSegments
 mod StandIns
+mod FirstSeen
 -- Inner: sizes and programs that were worked out by hand.
 mod WorkedSizes
 -- Inner: the laws.

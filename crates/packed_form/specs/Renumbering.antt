@@ -21,7 +21,7 @@ use Rattle.packed_form.specs.UsedSets.{UsedSets}
 -- the items with no equal one before them
 abbrev pub first_seen : {X : Type 0} → (X → X → Bool) → List X → List X
 first_seen same [] = []
-first_seen same (x ∷ xs) = x ∷ filter (λ y. not (same x y)) (first_seen same xs)
+first_seen same (x ∷ xs) = x ∷ filter (λ y. not (same y x)) (first_seen same xs)
 
 -- how many of the numbers from 1 to n are kept: the new number of a kept number n
 abbrev pub rank : (ℕ → Bool) → ℕ → ℕ
@@ -33,11 +33,10 @@ same_row x y = (x.left == y.left) && (x.right == y.right)
 -- ---- the speed table
 
 -- the used rows in ascending order of their numbers, each row once; rows past the table are zero
-unfoldable pub speed_rows : Song → UsedSets → List TableRow
-speed_rows song used =
-    first_seen same_row (map (speed_row song) (filter (used.pointers Speed) (numbers MOST_TABLE_ROWS)))
+unfoldable pub speed_rows : Song → (ℕ → Bool) → List TableRow
+speed_rows song used = first_seen same_row (map (speed_row song) (filter used (numbers MOST_TABLE_ROWS)))
 
-unfoldable pub speed_number : Song → UsedSets → ℕ → ℕ
+unfoldable pub speed_number : Song → (ℕ → Bool) → ℕ → ℕ
 speed_number song used p =
     if p == 0 then 0 else position_or_len (same_row (speed_row song p)) (speed_rows song used) + 1
 
@@ -68,7 +67,7 @@ abbrev pub foreign_number : Song → UsedSets → TableName → ℕ → ℕ
 foreign_number song used Wave p = p
 foreign_number song used Pulse p = program_number (pulse_programs song used) p
 foreign_number song used Filter p = program_number (filter_programs song used) p
-foreign_number song used Speed p = speed_number song used p
+foreign_number song used Speed p = speed_number song (used.pointers Speed) p
 
 -- the new number of what is pointed at, where this is a pointer into a table
 abbrev pub pointer_number : (TableName → ℕ → ℕ) → Option TableName → ℕ → ℕ

@@ -7,6 +7,7 @@ use Rattle.song_model.specs.declared.orders.Order.{Order}
 use Rattle.song_model.specs.declared.orders.Subtune.{Subtune}
 use Rattle.song_model.specs.declared.instruments.TheConstants.{MOST_INSTRUMENTS}
 use Rattle.song_model.specs.declared.songs.Song.{Song}
+use Rattle.song_model.specs.declared.tables.TableName.TheVariants.{Speed}
 use Rattle.song_model.specs.LookUp.{playable_subtunes}
 use Rattle.play_model.specs.declared.options.Options.{Options}
 use Rattle.packed_form.specs.Sizes.{list_size}
@@ -25,7 +26,7 @@ orders_size subtune = order_size subtune.one + order_size subtune.two + order_si
 abbrev pub common_size : Song → UsedSets → ℕ
 common_size song used =
     sum_by orders_size (playable_subtunes song) + 9 * count_by used.instruments (numbers MOST_INSTRUMENTS)
-    + 2 * length (speed_rows song used)
+    + 2 * length (speed_rows song (used.pointers Speed))
 
 -- two bytes for each row of such a program table
 abbrev pub rows_size : (ProgramTable → ℕ → Bool) → ProgramTable → ℕ
