@@ -1,11 +1,9 @@
 -- Equal segments: equality goes from one to another, and the first one is equal to each.
-use Rattle.std.proofs.Common.{◌≡◌, ◌≢◌, ℕ, zero, suc, ◌+◌, ◌-◌, ◌<◌, ◌≤◌, ◌⊎◌, Bool, true, false, not, ◌&&◌, ◌||◌, ◌==◌, if◌then◌else◌, List, length, Option, Some, refl, sym, ◌∙◌, ap, subst, inl, inr, arith}
-use Rattle.std.specs.List.{list_all, find, range_with_len}
-use Rattle.std.specs.Option.{unwrap_or}
+use Rattle.std.proofs.Common.{◌≡◌, ◌≢◌, ℕ, ◌+◌, ◌<◌, ◌≤◌, ◌⊎◌, Bool, true, false, not, ◌&&◌, ◌==◌, if◌then◌else◌, length, refl, sym, ◌∙◌, inl, inr, arith}
 use Rattle.std.proofs.lemmas.Bool.{and_parts, and_from, cases_Bool, eqb-true, eqb-false, eq-eqb, ne_eqb, not-true}
 use Rattle.song_model.specs.declared.tables.TableRow.{TableRow}
-use Rattle.packed_form.specs.Segments.{ProgramTable, row_of, is_jump_row, begins, first_row, is_in, is_closed, is_as_far, are_alike, is_equal_at, are_equal, first_equal}
-use Rattle.packed_form.proofs.Numbers.{all_at, all_from, IsFound, least_found}
+use Rattle.packed_form.specs.Segments.{ProgramTable, row_of, is_jump_row, begins, is_in, is_closed, is_as_far, are_alike, is_equal_at, are_equal, first_equal}
+use Rattle.packed_form.proofs.Numbers.{all_at, all_from, least_found}
 
 -- ---- rows
 
@@ -45,6 +43,7 @@ alike_from s t x y a =
         let some = eqb-false x.right 0 e in
         let no : (y.right == 0) ≡ false = ne_eqb y.right 0 (a.goes jump some) in
         rw (e, no) (eq-eqb (x.right + t) (y.right + s) (a.far jump some))
+
     by_jump : (b : Bool) → is_jump_row x ≡ b →
         (if is_jump_row x then is_as_far s t x.right y.right else x.right == y.right) ≡ true
     by_jump true e = rw e (by_right (x.right == 0) refl e)
@@ -97,13 +96,13 @@ pub record SameAt (table : ProgramTable) (s t d : ℕ) : Type 0 where
   pub there : is_in table s (s + d) ≡ is_in table t (t + d)
   pub alike : is_in table s (s + d) ≡ true → Alike s t (row_of table (s + d)) (row_of table (t + d))
 
-same_parts : (table : ProgramTable) (s t d : ℕ) → is_equal_at table s t d ≡ true → SameAt table s t d
+pub same_parts : (table : ProgramTable) (s t d : ℕ) → is_equal_at table s t d ≡ true → SameAt table s t d
 same_parts table s t d is = by_case (is_in table s (s + d)) refl
   where
     by_case : (b : Bool) → is_in table s (s + d) ≡ b → SameAt table s t d
     by_case true e =
         let parts = and_parts (is_in table t (t + d)) (are_alike s t (row_of table (s + d)) (row_of table (t + d)))
-            (rw e at is) in
+        (rw e at is) in
         record {
           there = e ∙ sym parts.0;
           alike = λ _. alike_parts s t (row_of table (s + d)) (row_of table (t + d)) parts.1;
@@ -211,7 +210,7 @@ pub first_is : (table : ProgramTable) (s : ℕ) → 1 ≤ s → begins table s �
 unfolding first_equal
 first_is table s some begun closed =
     let found = least_found (is_such table s) 1 s s some (omega arith)
-        (such_from table s s (itself_is_such table s begun closed)) in
+    (such_from table s s (itself_is_such table s begun closed)) in
     let e : first_equal table s ≡ found.at = rw closed (rw found.is refl) in
     record {
       least = rw e found.from;
@@ -231,11 +230,11 @@ first_of_first table s some begun closed =
       | inl same ↦ same
       | inr less ↦ absurd
           (let such : is_such table s (first_equal table t) ≡ true =
-              such_from table s (first_equal table t) (record {
-                begun = other.such.begun;
-                closed = other.such.closed;
-                equal = equal_on table s t (first_equal table t) one.such.equal other.such.equal;
-              }) in
+          such_from table s (first_equal table t) (record {
+            begun = other.such.begun;
+            closed = other.such.closed;
+            equal = equal_on table s t (first_equal table t) one.such.equal other.such.equal;
+          }) in
           let fails = one.before (first_equal table t) other.least less in
           cc)
     ]

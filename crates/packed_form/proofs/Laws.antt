@@ -10,8 +10,8 @@ pub use Rattle.packed_form.proofs.ProgramMaps.{retargeted_twice, end_stays, maps
 pub use Rattle.packed_form.proofs.Numbers.{all_at, all_from, range_more, IsFound, least_found, found_at}
 -- the rows of a segment, and where two segments are equal
 pub use Rattle.packed_form.proofs.Segments.{GoesOn, goes_on_here, same_segment, InSegment, segment_of, IsRowOf, row_of_segment, is_in_from, not_behind}
-pub use Rattle.packed_form.proofs.EqualSegments.{Alike, alike_parts, AreEqual, equal_parts, equal_from, equal_itself, equal_back, equal_on, is_such, IsSuch, such_parts, such_from, IsFirstEqual, open_stays, first_is, first_of_first}
+pub use Rattle.packed_form.proofs.EqualSegments.{Alike, alike_parts, alike_from, SameAt, same_parts, AreEqual, equal_parts, equal_from, equal_itself, equal_back, equal_on, is_such, IsSuch, such_parts, such_from, IsFirstEqual, open_stays, first_is, first_of_first}
 -- what stands for a row
-pub use Rattle.packed_form.proofs.StandIns.{stands_for, stands_for_none, keeps_from, IsKept, kept_parts, stand_in_stays, kept_stands, next_stays, numbered_length, stand_ins_keep}
+pub use Rattle.packed_form.proofs.StandIns.{StandsAt, stands_at, stands_for, stands_for_none, keeps_from, IsKept, kept_parts, stand_in_stays, kept_stands, next_stays, numbered_map, numbered_length, stand_ins_keep}
 -- items with no equal one before them, one item more at a time
 pub use Rattle.packed_form.proofs.FirstSeen.{with_new, first_seen_push, same_row_is}

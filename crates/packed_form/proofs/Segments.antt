@@ -1,7 +1,6 @@
 -- The rows of a segment.
-use Rattle.std.proofs.Common.{◌≡◌, ◌≢◌, ℕ, zero, suc, ◌+◌, ◌-◌, ◌<◌, ◌≤◌, ◌⊎◌, Bool, true, false, not, ◌&&◌, ◌||◌, ◌==◌, List, length, refl, sym, ◌∙◌, ap, subst, inl, inr, arith}
-use Rattle.std.proofs.lemmas.Bool.{and_parts, and_from, and_left, and_cases, or_parts, or_left, or_right, cases_Bool, not-false, not-true, not_from_false, eqb-true, eq-eqb}
-use Rattle.song_model.specs.LookUp.{IsNumbered}
+use Rattle.std.proofs.Common.{◌≡◌, ℕ, zero, suc, ◌+◌, ◌-◌, ◌≤◌, ◌⊎◌, Bool, true, false, not, ◌&&◌, ◌||◌, ◌==◌, refl, sym, ◌∙◌, ap, inl, inr, arith}
+use Rattle.std.proofs.lemmas.Bool.{and_parts, and_from, cases_Bool, eqb-true, eq-eqb}
 use Rattle.packed_form.specs.Segments.{ProgramTable, IsWhole, row_of, is_end, begins, first_row, is_in}
 
 -- ---- one row after the other
@@ -24,7 +23,7 @@ goes_on : (table : ProgramTable) (p : ℕ) → table.reached (suc p) ≡ true �
 goes_on table p reached is =
     let less : suc p - 1 ≡ p = omega arith in
     let parts : (table.reached p ≡ true) × (is_end table.pulse (row_of table p) ≡ false) =
-        both (table.reached (suc p)) (table.reached p) (is_end table.pulse (row_of table p)) reached (rw less at is) in
+    both (table.reached (suc p)) (table.reached p) (is_end table.pulse (row_of table p)) reached (rw less at is) in
     record { reached = parts.0; goes = parts.1 }
   where
     both : (here before ended : Bool) → here ≡ true → (here && (not before || ended)) ≡ false →

@@ -1,15 +1,14 @@
 -- The rows that stay stand for all rows, and the map to them keeps programs.
-use Rattle.std.proofs.Common.{◌≡◌, ◌≢◌, ℕ, zero, suc, ◌+◌, ◌-◌, ◌<◌, ◌≤◌, ◌⊎◌, Bool, true, false, not, ◌&&◌, ◌||◌, ◌==◌, if◌then◌else◌, List, length, map, get_or, refl, sym, ◌∙◌, ap, subst, inl, inr, arith}
-use Rattle.std.specs.List.{list_all}
+use Rattle.std.proofs.Common.{◌≡◌, ◌≢◌, ℕ, ◌+◌, ◌-◌, ◌<◌, ◌≤◌, Bool, true, false, not, ◌&&◌, ◌||◌, ◌==◌, List, length, map, refl, sym, ◌∙◌, ap, subst, inl, inr, arith}
 use Rattle.std.proofs.lemmas.Bool.{and_parts, and_from, cases_Bool, eqb-true, eqb-false, eq-eqb, ne_eqb}
 use Rattle.std.proofs.lemmas.List.{length-map, get_or-map}
 use Rattle.song_model.specs.declared.tables.TableRow.{TableRow}
 use Rattle.song_model.specs.LookUp.{IsNumbered, zero_table_row}
-use Rattle.packed_form.specs.Segments.{ProgramTable, IsWhole, numbers, row_of, is_jump_row, is_end, begins, first_row, is_in, jumps, is_closed_at, is_closed, first_equal, keeps, stand_in}
+use Rattle.packed_form.specs.Segments.{ProgramTable, IsWhole, row_of, is_jump_row, is_end, begins, first_row, is_in, jumps, is_closed_at, is_closed, first_equal, keeps, stand_in}
 use Rattle.packed_form.specs.ProgramMaps.{retargeted, row_at, KeepsPrograms}
 use Rattle.packed_form.proofs.Numbers.{all_at}
-use Rattle.packed_form.proofs.Segments.{GoesOn, same_segment, InSegment, segment_of, IsRowOf, row_of_segment, is_in_from, goes_on_here}
-use Rattle.packed_form.proofs.EqualSegments.{Alike, AreEqual, IsSuch, IsFirstEqual, open_stays, first_is, first_of_first}
+use Rattle.packed_form.proofs.Segments.{same_segment, InSegment, segment_of, IsRowOf, row_of_segment, is_in_from, goes_on_here}
+use Rattle.packed_form.proofs.EqualSegments.{Alike, IsFirstEqual, open_stays, first_is, first_of_first}
 
 -- ---- words
 
@@ -53,13 +52,13 @@ own_jump table s p whole closed row jump some =
     let first = stored.first in
     let last = stored.last in
     let at : is_closed_at table s p ≡ true =
-        all_at (is_closed_at table s) 1 (length table.rows) p closed first (omega arith) in
+    all_at (is_closed_at table s) 1 (length table.rows) p closed first (omega arith) in
     let parts = and_parts (not (table.entries p) || _) _ at in
     let inside = is_in_from table s p row.reached row.first in
     let reached = row.reached in
     let h : jumps table s p (row_of table p).right ≡ true =
-        or_second (not (table.reached p && is_jump_row (row_of table p))) (jumps table s p (row_of table p).right)
-        (rw (reached, jump) refl) parts.1 in
+    or_second (not (table.reached p && is_jump_row (row_of table p))) (jumps table s p (row_of table p).right)
+    (rw (reached, jump) refl) parts.1 in
     or_second ((row_of table p).right == 0) (is_in table s (row_of table p).right) (ne_eqb (row_of table p).right 0 some)
     (rw inside at h)
 
@@ -104,11 +103,11 @@ same_targets table s t x y whole here there in_s in_t far =
     let one = row_of_segment table s x in_s in
     let other = row_of_segment table t y in_t in
     let one_is : stand_in table x ≡ t + (x - s) =
-        stands_for table x one.reached ∙ ap (λ (k : ℕ). first_equal table k + (x - k)) one.first
-        ∙ ap (λ (k : ℕ). k + (x - s)) here in
+    stands_for table x one.reached ∙ ap (λ (k : ℕ). first_equal table k + (x - k)) one.first
+    ∙ ap (λ (k : ℕ). k + (x - s)) here in
     let other_is : stand_in table y ≡ t + (y - t) =
-        stands_for table y other.reached ∙ ap (λ (k : ℕ). first_equal table k + (y - k)) other.first
-        ∙ ap (λ (k : ℕ). k + (y - t)) there in
+    stands_for table y other.reached ∙ ap (λ (k : ℕ). first_equal table k + (y - k)) other.first
+    ∙ ap (λ (k : ℕ). k + (y - t)) there in
     let s_low : s ≤ x = subst (λ (k : ℕ). k ≤ x) one.first (segment_of table x whole one.reached).most in
     let t_low : t ≤ y = subst (λ (k : ℕ). k ≤ y) other.first (segment_of table y whole other.reached).most in
     other_is ∙ ap (λ (k : ℕ). t + k) (distance s t x y s_low t_low far) ∙ sym one_is
@@ -126,6 +125,7 @@ same_targeted table s t p q whole here there closed_s closed_t row_p row_q alike
   where
     jump_too : (b : Bool) → is_jump_row (row_of table p) ≡ b → is_jump_row (row_of table q) ≡ b
     jump_too b e = ap (λ (k : ℕ). k == 0xFF) (sym alike.left) ∙ e
+
     targets : (b : Bool) → ((row_of table p).right == 0) ≡ b → is_jump_row (row_of table p) ≡ true →
         stand_in table (row_of table q).right ≡ stand_in table (row_of table p).right
     targets true e jump =
@@ -137,6 +137,7 @@ same_targeted table s t p q whole here there closed_s closed_t row_p row_q alike
         (own_jump table s p whole closed_s row_p jump some)
         (own_jump table t q whole closed_t row_q (jump_too true jump) (alike.goes jump some))
         (alike.far jump some)
+
     by_jump : (b : Bool) → is_jump_row (row_of table p) ≡ b →
         retargeted (stand_in table) (row_of table q) ≡ retargeted (stand_in table) (row_of table p)
     by_jump false e =
@@ -157,15 +158,15 @@ stands_first table p s d whole inside reached first place closed =
     let begun : begins table s ≡ true = subst (λ (k : ℕ). begins table k ≡ true) first inside.begun in
     let one : IsFirstEqual table s (first_equal table s) = first_is table s some begun closed in
     let stays : first_equal table (first_equal table s) ≡ first_equal table s =
-        first_of_first table s some begun closed in
+    first_of_first table s some begun closed in
     let stored = whole.stored p reached in
     let last = stored.last in
     let same = one.such.equal.at d (small p s d (length table.rows) place some last) in
     let here : is_in table s (s + d) ≡ true =
-        is_in_from table s (s + d) (subst (λ (k : ℕ). table.reached k ≡ true) place reached)
-        (ap (first_row table) (sym place) ∙ first) in
+    is_in_from table s (s + d) (subst (λ (k : ℕ). table.reached k ≡ true) place reached)
+    (ap (first_row table) (sym place) ∙ first) in
     let row : IsRowOf table (first_equal table s) (first_equal table s + d) =
-        row_of_segment table (first_equal table s) (first_equal table s + d) (sym same.there ∙ here) in
+    row_of_segment table (first_equal table s) (first_equal table s + d) (sym same.there ∙ here) in
     record {
       place = place;
       at =
@@ -184,6 +185,7 @@ stands_first table p s d whole inside reached first place closed =
   where
     small : (p s d n : ℕ) → p ≡ s + d → 1 ≤ s → p ≤ n → d < n
     small p s d n e some last = omega arith
+
     off : (p s d : ℕ) → p ≡ s + d → p - s ≡ d
     off p s d e = omega arith
 
@@ -201,7 +203,7 @@ stands_at table p whole reached =
       | inr fails ↦ (
         first_row table p,
         stands_itself table p (first_row table p) (p - first_row table p) inside reached refl place
-        (open_stays table (first_row table p) fails),
+            (open_stays table (first_row table p) fails),
       )
     ]
 
@@ -235,7 +237,7 @@ next_stays table p whole is goes =
     let same = same_segment table p (goes_on_here table p kept.reached goes) in
     keeps_from table (p + 1) (first_row table p) (whole.next p kept.reached goes) same kept.same
 
-numbered_map : (f : TableRow → TableRow) (rows : List TableRow) (n : ℕ) → IsNumbered rows n →
+pub numbered_map : (f : TableRow → TableRow) (rows : List TableRow) (n : ℕ) → IsNumbered rows n →
     row_at (map f rows) n ≡ f (row_at rows n)
 numbered_map f rows n is =
     let first = is.first in

@@ -1,0 +1,14 @@
+-- The door: what upper crates may cite.
+pub mod Laws
+-- Inner: new numbers.
+mod Ranks
+mod Renumbered
+-- Inner: segments.
+mod FirstRows
+mod ClosedRows
+mod EqualRows
+mod Mapped
+-- Inner: speeds.
+mod SpeedRows
+-- Inner: the laws.
+mod KeptPrograms

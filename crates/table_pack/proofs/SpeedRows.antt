@@ -1,0 +1,295 @@
+-- The rows of the speed table, each once, pointer by pointer.
+use Rattle.std.proofs.Common.{◌≡◌, ℕ, suc, ◌+◌, ◌-◌, ◌<◌, ◌≤◌, ◌⊎◌, Bool, true, false, not, ◌||◌, ◌==◌, List, [], ◌∷◌, ◌++◌, length, map, get_or, refl, sym, ◌∙◌, ap, subst, inl, inr, arith}
+use Rattle.std.proofs.Math.ListN.{set}
+use Rattle.std.specs.List.{filter, list_any, position_or_len, range_with_len}
+use Rattle.std.proofs.lemmas.List.{get_or-set_same, get_or-set_other, length-set, length-append, map-append}
+use Rattle.std.proofs.lemmas.List.Elements.{filter-append}
+use Rattle.std.proofs.lemmas.Bool.{ne_eqb, eq-eqb, and_from, not-true, not-false}
+use Rattle.song_model.specs.declared.tables.TableRow.{TableRow}
+use Rattle.song_model.specs.declared.songs.Song.{Song}
+use Rattle.song_model.specs.LookUp.{speed_row, zero_table_row}
+use Rattle.packed_form.specs.ProgramMaps.{row_at}
+use Rattle.packed_form.specs.Renumbering.{first_seen, same_row, speed_rows, speed_number}
+use Rattle.packed_form.proofs.Laws.{range_more, first_seen_push, same_row_is}
+use Rattle.table_pack.specs.Speeds.{IsSpeedMerge, sides_of, with_row}
+
+-- ---- places
+
+-- the place of a row among the sides of rows
+pub place_of_sides : (test : ℕ × ℕ → Bool) (row : TableRow) (rows : List TableRow) →
+    ((x : TableRow) → test (sides_of x) ≡ same_row row x) →
+    position_or_len test (map sides_of rows) ≡ position_or_len (same_row row) rows
+place_of_sides test row [] same = refl
+place_of_sides test row (x ∷ rows) same =
+    by_test (same_row row x) refl (place_of_sides test row rows same)
+  where
+    by_test : (b : Bool) → same_row row x ≡ b →
+        position_or_len test (map sides_of rows) ≡ position_or_len (same_row row) rows →
+        position_or_len test (map sides_of (x ∷ rows)) ≡ position_or_len (same_row row) (x ∷ rows)
+    by_test true e rest = let f = same x ∙ e in rw (e, f) refl
+    by_test false e rest = let f = same x ∙ e in rw (e, f) (ap (λ (k : ℕ). 1 + k) rest)
+
+pub any_of_sides : (test : ℕ × ℕ → Bool) (row : TableRow) (rows : List TableRow) →
+    ((x : TableRow) → test (sides_of x) ≡ same_row row x) →
+    list_any test (map sides_of rows) ≡ list_any (same_row row) rows
+any_of_sides test row [] same = refl
+any_of_sides test row (x ∷ rows) same =
+    ap (λ (b : Bool). b || list_any test (map sides_of rows)) (same x)
+    ∙ ap (λ (b : Bool). same_row row x || b) (any_of_sides test row rows same)
+
+-- a place that is found stays where rows are added
+place_stays : (p : TableRow → Bool) (xs ys : List TableRow) → position_or_len p xs < length xs →
+    position_or_len p (xs ++ ys) ≡ position_or_len p xs
+place_stays p [] ys found = absurd (omega arith)
+place_stays p (x ∷ xs) ys found = by_test (p x) refl (place_stays p xs ys)
+  where
+    by_test : (b : Bool) → p x ≡ b →
+        (position_or_len p xs < length xs → position_or_len p (xs ++ ys) ≡ position_or_len p xs) →
+        position_or_len p (x ∷ (xs ++ ys)) ≡ position_or_len p (x ∷ xs)
+    by_test true e rest = rw e refl
+    by_test false e rest =
+        let f : 1 + position_or_len p xs < suc (length xs) = rw e at found in
+        rw e (ap (λ (k : ℕ). 1 + k) (rest (omega arith)))
+
+-- a row that is there has a place
+place_there : (p : TableRow → Bool) (xs : List TableRow) → list_any p xs ≡ true → position_or_len p xs < length xs
+place_there p [] there = absurd cc
+place_there p (x ∷ xs) there = by_test (p x) refl (place_there p xs)
+  where
+    by_test : (b : Bool) → p x ≡ b → (list_any p xs ≡ true → position_or_len p xs < length xs) →
+        position_or_len p (x ∷ xs) < length (x ∷ xs)
+    by_test true e rest = rw e (omega arith)
+    by_test false e rest =
+        let h : list_any p xs ≡ true = rw e at there in
+        let low = rest h in
+        rw e (omega arith)
+
+place_none : (p : TableRow → Bool) (xs : List TableRow) → list_any p xs ≡ false → position_or_len p xs ≡ length xs
+place_none p [] none = refl
+place_none p (x ∷ xs) none = by_test (p x) refl (place_none p xs)
+  where
+    by_test : (b : Bool) → p x ≡ b → (list_any p xs ≡ false → position_or_len p xs ≡ length xs) →
+        position_or_len p (x ∷ xs) ≡ length (x ∷ xs)
+    by_test true e rest = absurd (let h : true ≡ false = rw e at none in cc)
+    by_test false e rest =
+        let h : list_any p xs ≡ false = rw e at none in
+        let all = rest h in
+        rw e (omega arith)
+
+place_last : (p : TableRow → Bool) (xs : List TableRow) (y : TableRow) → list_any p xs ≡ false → p y ≡ true →
+    position_or_len p (xs ++ y ∷ []) ≡ length xs
+place_last p [] y none is = rw is refl
+place_last p (x ∷ xs) y none is = by_test (p x) refl (place_last p xs y)
+  where
+    by_test : (b : Bool) → p x ≡ b →
+        (list_any p xs ≡ false → p y ≡ true → position_or_len p (xs ++ y ∷ []) ≡ length xs) →
+        position_or_len p (x ∷ (xs ++ y ∷ [])) ≡ length (x ∷ xs)
+    by_test true e rest = absurd (let h : true ≡ false = rw e at none in cc)
+    by_test false e rest =
+        let h : list_any p xs ≡ false = rw e at none in
+        let all = rest h is in
+        rw e (omega arith)
+
+passes_there : (p : TableRow → Bool) (xs : List TableRow) (d : TableRow) → position_or_len p xs < length xs →
+    p (get_or xs (position_or_len p xs) d) ≡ true
+passes_there p [] d found = absurd (omega arith)
+passes_there p (x ∷ xs) d found = by_test (p x) refl (passes_there p xs d)
+  where
+    by_test : (b : Bool) → p x ≡ b →
+        (position_or_len p xs < length xs → p (get_or xs (position_or_len p xs) d) ≡ true) →
+        p (get_or (x ∷ xs) (position_or_len p (x ∷ xs)) d) ≡ true
+    by_test true e rest = rw e e
+    by_test false e rest =
+        let f : 1 + position_or_len p xs < suc (length xs) = rw e at found in
+        let one : 1 + position_or_len p xs ≡ suc (position_or_len p xs) = omega arith in
+        rw e (rw one (rest (omega arith)))
+
+row_itself : (x : TableRow) → same_row x x ≡ true
+row_itself x = and_from (x.left == x.left) (x.right == x.right) (eq-eqb x.left x.left refl) (eq-eqb x.right x.right refl)
+
+-- ---- one row more
+
+-- the place of a row among rows with it
+pub new_place : (rows : List TableRow) (row : TableRow) →
+    (position_or_len (same_row row) (with_row rows row) ≡ position_or_len (same_row row) rows)
+    × (position_or_len (same_row row) (with_row rows row) < length (with_row rows row))
+new_place rows row = by_any (list_any (same_row row) rows) refl
+  where
+    by_any : (b : Bool) → list_any (same_row row) rows ≡ b →
+        (position_or_len (same_row row) (with_row rows row) ≡ position_or_len (same_row row) rows)
+        × (position_or_len (same_row row) (with_row rows row) < length (with_row rows row))
+    by_any true e = rw e (refl, place_there (same_row row) rows e)
+    by_any false e =
+        let last = place_last (same_row row) rows row e (row_itself row) in
+        let none = place_none (same_row row) rows e in
+        let count = length-append rows (row ∷ []) in
+        rw e (last ∙ sym none, rw (last, count) (omega arith))
+
+-- the place of another row
+old_place : (p : TableRow → Bool) (rows : List TableRow) (row : TableRow) → position_or_len p rows < length rows →
+    (position_or_len p (with_row rows row) ≡ position_or_len p rows)
+    × (position_or_len p (with_row rows row) < length (with_row rows row))
+old_place p rows row found = by_any (list_any (same_row row) rows) refl
+  where
+    by_any : (b : Bool) → list_any (same_row row) rows ≡ b →
+        (position_or_len p (with_row rows row) ≡ position_or_len p rows)
+        × (position_or_len p (with_row rows row) < length (with_row rows row))
+    by_any true e = rw e (refl, found)
+    by_any false e =
+        let stays = place_stays p rows (row ∷ []) found in
+        let count = length-append rows (row ∷ []) in
+        rw e (stays, rw (stays, count) (omega arith))
+
+pub with_row_length : (rows : List TableRow) (row : TableRow) → length (with_row rows row) ≤ length rows + 1
+with_row_length rows row = by_any (list_any (same_row row) rows) refl
+  where
+    by_any : (b : Bool) → list_any (same_row row) rows ≡ b → length (with_row rows row) ≤ length rows + 1
+    by_any true e = rw e (omega arith)
+    by_any false e = let count = length-append rows (row ∷ []) in rw (e, count) (omega arith)
+
+-- ---- pointer by pointer
+
+-- the rows of the used numbers from 1 to i
+abbrev pub rows_to : Song → (ℕ → Bool) → ℕ → List TableRow
+rows_to song used i = first_seen same_row (map (speed_row song) (filter used (range_with_len 1 i)))
+
+pub record MergedSoFar (song : Song) (used : ℕ → Bool) (i : ℕ) (rows : List TableRow) (to : List ℕ) : Type 0 where
+  pub long : length to ≡ 256
+  pub rows_are : rows ≡ rows_to song used i
+  pub number : (q : ℕ) → used q ≡ true → q ≤ i → get_or to q 0 ≡ position_or_len (same_row (speed_row song q)) rows + 1
+  pub seen : (q : ℕ) → used q ≡ true → q ≤ i → position_or_len (same_row (speed_row song q)) rows < length rows
+  pub none : (q : ℕ) → used q ≡ false → get_or to q 0 ≡ 0
+  pub later : (q : ℕ) → i < q → get_or to q 0 ≡ 0
+
+pub merged_none : (song : Song) (used : ℕ → Bool) (to : List ℕ) → used 0 ≡ false → length to ≡ 256 →
+    ((q : ℕ) → get_or to q 0 ≡ 0) → MergedSoFar song used 0 [] to
+merged_none song used to not_0 long zeros = record {
+  long = long;
+  rows_are = refl;
+  number = λ q is low. absurd (let e : q ≡ 0 = omega arith in let f = ap used e in cc);
+  seen = λ q is low. absurd (let e : q ≡ 0 = omega arith in let f = ap used e in cc);
+  none = λ q _. zeros q;
+  later = λ q _. zeros q;
+}
+
+filter_next : (used : ℕ → Bool) (i : ℕ) →
+    filter used (range_with_len 1 (i + 1)) ≡ filter used (range_with_len 1 i) ++ filter used ((i + 1) ∷ [])
+filter_next used i =
+    let more : i + 1 ≡ suc i = omega arith in
+    let next : 1 + i ≡ i + 1 = omega arith in
+    ap (λ (k : ℕ). filter used (range_with_len 1 k)) more ∙ ap (filter used) (range_more 1 i)
+    ∙ filter-append used (range_with_len 1 i) ((1 + i) ∷ [])
+    ∙ ap (λ (k : ℕ). filter used (range_with_len 1 i) ++ filter used (k ∷ [])) next
+
+rows_left : (song : Song) (used : ℕ → Bool) (i : ℕ) → used (i + 1) ≡ false → rows_to song used (i + 1) ≡ rows_to song used i
+rows_left song used i fails =
+    ap (λ (ns : List ℕ). first_seen same_row (map (speed_row song) ns))
+    (filter_next used i ∙ rw fails (append_none (filter used (range_with_len 1 i))))
+  where
+    append_none : (ns : List ℕ) → ns ++ [] ≡ ns
+    append_none [] = refl
+    append_none (n ∷ ns) = ap (λ (t : List ℕ). n ∷ t) (append_none ns)
+
+rows_more : (song : Song) (used : ℕ → Bool) (i : ℕ) → used (i + 1) ≡ true →
+    rows_to song used (i + 1) ≡ with_row (rows_to song used i) (speed_row song (i + 1))
+rows_more song used i is =
+    ap (λ (ns : List ℕ). first_seen same_row (map (speed_row song) ns))
+    (filter_next used i ∙ rw is refl)
+    ∙ ap (first_seen same_row) (map-append (speed_row song) (filter used (range_with_len 1 i)) ((i + 1) ∷ []))
+    ∙ first_seen_push same_row same_row_is (map (speed_row song) (filter used (range_with_len 1 i))) (speed_row song (i + 1))
+
+last_or_before : (p i : ℕ) → p ≤ i + 1 → (p ≡ i + 1) ⊎ (p ≤ i)
+last_or_before p i most = grind arith
+
+pub merged_left : (song : Song) (used : ℕ → Bool) (i : ℕ) (rows : List TableRow) (to : List ℕ) →
+    MergedSoFar song used i rows to → used (i + 1) ≡ false → MergedSoFar song used (i + 1) rows to
+merged_left song used i rows to so_far fails = record {
+  long = so_far.long;
+  rows_are = so_far.rows_are ∙ sym (rows_left song used i fails);
+  number = λ q is low. elim (last_or_before q i low) [
+    | inl last ↦ absurd (let e = ap used last in cc)
+    | inr before ↦ so_far.number q is before
+  ];
+  seen = λ q is low. elim (last_or_before q i low) [
+    | inl last ↦ absurd (let e = ap used last in cc)
+    | inr before ↦ so_far.seen q is before
+  ];
+  none = so_far.none;
+  later = λ q low. so_far.later q (omega arith);
+}
+
+pub merged_more : (song : Song) (used : ℕ → Bool) (i : ℕ) (rows : List TableRow) (to : List ℕ) (row : TableRow) (n : ℕ) →
+    MergedSoFar song used i rows to → used (i + 1) ≡ true → i + 1 < 256 → row ≡ speed_row song (i + 1) →
+    n ≡ position_or_len (same_row row) rows + 1 →
+    MergedSoFar song used (i + 1) (with_row rows row) (set to (i + 1) n)
+merged_more song used i rows to row n so_far is room row_is n_is = record {
+  long = length-set to (i + 1) n ∙ so_far.long;
+  rows_are = ap (λ (r : List TableRow). with_row r row) so_far.rows_are
+      ∙ ap (with_row (rows_to song used i)) row_is ∙ sym (rows_more song used i is);
+  number = λ q is_q low. elim (last_or_before q i low) [
+    | inl last ↦ ap (λ (k : ℕ). get_or (set to (i + 1) n) k 0) last
+        ∙ get_or-set_same to (i + 1) n 0 (subst (λ (k : ℕ). i + 1 < k) (sym so_far.long) room)
+        ∙ n_is ∙ ap (λ (k : ℕ). k + 1) (sym (new_place rows row).0)
+        ∙ ap (λ (r : TableRow). position_or_len (same_row r) (with_row rows row) + 1)
+        (row_is ∙ ap (speed_row song) (sym last))
+    | inr before ↦ get_or-set_other to (i + 1) q n 0 (λ (z : q ≡ i + 1). absurd (omega arith))
+        ∙ so_far.number q is_q before
+        ∙ ap (λ (k : ℕ). k + 1) (sym (old_place (same_row (speed_row song q)) rows row (so_far.seen q is_q before)).0)
+  ];
+  seen = λ q is_q low. elim (last_or_before q i low) [
+    | inl last ↦ subst (λ (r : TableRow). position_or_len (same_row r) (with_row rows row) < length (with_row rows row))
+        (row_is ∙ ap (speed_row song) (sym last)) (new_place rows row).1
+    | inr before ↦ (old_place (same_row (speed_row song q)) rows row (so_far.seen q is_q before)).1
+  ];
+  none = λ q fails. get_or-set_other to (i + 1) q n 0 (λ (z : q ≡ i + 1). let e = ap used z in absurd cc)
+      ∙ so_far.none q fails;
+  later = λ q low. get_or-set_other to (i + 1) q n 0 (λ (z : q ≡ i + 1). absurd (omega arith)) ∙ so_far.later q (omega arith);
+}
+
+pub merged_all : (song : Song) (used : ℕ → Bool) (rows : List TableRow) (to : List ℕ) → used 0 ≡ false →
+    MergedSoFar song used 255 rows to → IsSpeedMerge song used rows (λ p. get_or to p 0)
+unfolding speed_rows speed_number
+merged_all song used rows to not_0 so_far = record {
+  rows_are = so_far.rows_are;
+  number = λ p is small.
+      let some : (p == 0) ≡ false = ne_eqb p 0 (λ (z : p ≡ 0). let e = ap used z in absurd cc) in
+      so_far.number p is (omega arith)
+      ∙ rw some (ap (λ (r : List TableRow). position_or_len (same_row (speed_row song p)) r + 1) so_far.rows_are);
+  none = so_far.none;
+  stored = λ p is small.
+      let e = so_far.number p is (omega arith) in
+      let low = so_far.seen p is (omega arith) in
+      record { first = omega arith; last = omega arith };
+  row = λ p is small.
+      let low = so_far.seen p is (omega arith) in
+      ap (row_at rows) (so_far.number p is (omega arith))
+      ∙ row_behind (position_or_len (same_row (speed_row song p)) rows)
+      ∙ sym (same_row_is (speed_row song p) (get_or rows (position_or_len (same_row (speed_row song p)) rows) zero_table_row)
+      (passes_there (same_row (speed_row song p)) rows zero_table_row low));
+}
+  where
+    row_behind : (n : ℕ) → row_at rows (n + 1) ≡ get_or rows n zero_table_row
+    row_behind n =
+        let some = ne_eqb (n + 1) 0 (λ (e : n + 1 ≡ 0). omega arith) in
+        let less : n + 1 - 1 ≡ n = omega arith in
+        rw some (rw less refl)
+
+-- ---- one number
+
+pub new_row : (test : ℕ × ℕ → Bool) (row : TableRow) (rows : List TableRow) (keys : List (ℕ × ℕ)) (is_new : Bool) →
+    keys ≡ map sides_of rows → is_new ≡ not (list_any test keys) → ((x : TableRow) → test (sides_of x) ≡ same_row row x) →
+    is_new ≡ true → rows ++ row ∷ [] ≡ with_row rows row
+new_row test row rows keys is_new together added same is =
+    let none : list_any (same_row row) rows ≡ false =
+    sym (any_of_sides test row rows same) ∙ ap (list_any test) (sym together)
+    ∙ not-true (list_any test keys) (sym added ∙ is) in
+    rw none refl
+
+pub old_row : (test : ℕ × ℕ → Bool) (row : TableRow) (rows : List TableRow) (keys : List (ℕ × ℕ)) (is_new : Bool) →
+    keys ≡ map sides_of rows → is_new ≡ not (list_any test keys) → ((x : TableRow) → test (sides_of x) ≡ same_row row x) →
+    is_new ≡ false → rows ≡ with_row rows row
+old_row test row rows keys is_new together added same is =
+    let some : list_any (same_row row) rows ≡ true =
+    sym (any_of_sides test row rows same) ∙ ap (list_any test) (sym together)
+    ∙ not-false (list_any test keys) (sym added ∙ is) in
+    rw some refl

@@ -1,0 +1,9 @@
+use Rattle.std.proofs.Common.{ℕ, ◌<◌}
+use Rattle.packed_form.specs.Segments.{ProgramTable}
+use Rattle.packed_form.proofs.Laws.{SameAt}
+use Rattle.table_pack.specs.Programs.{AreSegments}
+use Rattle.table_pack.proofs.equal.are_equal.Given as goal
+
+abbrev pub invariant-loop-d : goal.invariant-loop-d
+invariant-loop-d l =
+    (table : ProgramTable) → AreSegments table l.rows l.marks l.firsts → (e : ℕ) → e < l.d → SameAt table l.s l.t e

@@ -1,0 +1,10 @@
+//! Facts about new numbers of tables, each the contract of a function that does nothing.
+
+ghost use Rattle.table_pack.specs.TableLaws.{RenumberingsKeepPrograms, RenumberingsKeepOrder, StoredOnceKeepsPrograms};
+
+/// New numbers keep programs, also where the rows of equal programs stand for each other.
+pub fn new_numbers_keep_programs()
+    ensures numbers { RenumberingsKeepPrograms }
+    ensures order { RenumberingsKeepOrder }
+    ensures once { StoredOnceKeepsPrograms }
+{}
