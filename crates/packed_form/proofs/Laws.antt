@@ -15,3 +15,5 @@ pub use Rattle.packed_form.proofs.EqualSegments.{Alike, alike_parts, alike_from,
 pub use Rattle.packed_form.proofs.StandIns.{StandsAt, stands_at, stands_for, stands_for_none, keeps_from, IsKept, kept_parts, stand_in_stays, kept_stands, next_stays, numbered_map, numbered_length, stand_ins_keep}
 -- items with no equal one before them, one item more at a time
 pub use Rattle.packed_form.proofs.FirstSeen.{with_new, first_seen_push, same_row_is}
+-- a frame can't tell the rows of a pattern from its normal rows
+pub use Rattle.packed_form.proofs.NormalRows.{normal_rows_are_fetched}

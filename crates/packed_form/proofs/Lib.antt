@@ -18,6 +18,8 @@ mod Segments
 mod EqualSegments
 mod StandIns
 mod FirstSeen
+-- Inner: what a frame does with normal rows.
+mod NormalRows
 -- Inner: sizes and programs that were worked out by hand.
 mod WorkedSizes
 -- Inner: the laws.

@@ -5,15 +5,16 @@ use Rattle.packed_form.specs.PackedText.{packed_text}
 use Rattle.packed_form.specs.Segments.{first_row, is_closed, are_equal, first_equal, keeps, stand_in}
 use Rattle.packed_form.specs.Renumbering.{speed_rows, speed_number, table_number, instrument_number, pattern_text, pattern_texts}
 use Rattle.packed_form.specs.SongSizes.{data_size, packed_size}
-use Rattle.packed_form.specs.WorkedSizes.{NoteHas42Bytes, EqualPatternsAreStoredOnce, EqualProgramsAreStoredOnce, JumpsOutAreKept}
+use Rattle.packed_form.specs.WorkedSizes.{NoteHas42Bytes, EqualPatternsAreStoredOnce}
+use Rattle.packed_form.specs.WorkedPrograms.{EqualProgramsAreStoredOnce, FirstOfThreeStays, PulseProgramsStop, JumpsOutAreKept, MiddleEntriesAreKept, OthersAreKept, JumpsIntoDroppedPrograms}
 
-pub equal_programs : EqualProgramsAreStoredOnce
+pub programs_once : EqualProgramsAreStoredOnce × FirstOfThreeStays × PulseProgramsStop
 unfolding first_row is_closed are_equal first_equal keeps stand_in
-equal_programs = (refl, refl)
+programs_once = ((refl, refl), (refl, refl), ((refl, refl), (refl, refl)))
 
-pub jumps_out : JumpsOutAreKept
+pub programs_kept : JumpsOutAreKept × MiddleEntriesAreKept × OthersAreKept × JumpsIntoDroppedPrograms
 unfolding first_row is_closed are_equal first_equal keeps stand_in
-jumps_out = (refl, refl)
+programs_kept = ((refl, refl), (refl, refl), ((refl, refl), (refl, refl)), (refl, refl))
 
 pub note_has_42 : NoteHas42Bytes
 unfolding packed_text first_row is_closed are_equal first_equal keeps stand_in speed_rows speed_number table_number instrument_number pattern_text pattern_texts data_size packed_size table_row pattern_at

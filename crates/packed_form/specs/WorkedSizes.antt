@@ -1,13 +1,11 @@
 -- Sizes that were worked out by hand.
-use Rattle.std.specs.Prelude.{◌≡◌, ℕ, Bool, true, false, ◌==◌, List, [], ◌∷◌, ◌++◌}
+use Rattle.std.specs.Prelude.{◌≡◌, ℕ, Bool, true, ◌==◌, List, [], ◌∷◌, ◌++◌}
 use Rattle.std.specs.List.{list_any}
-use Rattle.song_model.specs.declared.tables.TableRow.{TableRow}
 use Rattle.song_model.specs.declared.tables.TableName.{TableName}
 use Rattle.song_model.specs.declared.tables.TableName.TheVariants.{Wave, Pulse, Filter, Speed}
 use Rattle.song_model.specs.declared.songs.Song.{Song}
 use Rattle.play_model.specs.State.{no_options}
-use Rattle.play_model.specs.WorkedSongs.{one_note, sides, subtune, rests}
-use Rattle.packed_form.specs.Segments.{ProgramTable, keeps, stand_in}
+use Rattle.play_model.specs.WorkedSongs.{one_note, subtune, rests}
 use Rattle.packed_form.specs.UsedSets.{UsedSets}
 use Rattle.packed_form.specs.SongSizes.{data_size, packed_size, code_bound}
 
@@ -59,34 +57,3 @@ abbrev pub CodeBoundsAre : Type 0
 CodeBoundsAre = (code_bound 0 no_options ≡ 3072) × (code_bound 0x402000 no_options ≡ 3712)
     × (code_bound 0x402000 (record { skip_effects = true; skip_pulse = true; speed = 4 }) ≡ 4672)
     × (code_bound 0xFFFFFF no_options ≡ 10752)
-
--- ---- programs
-
--- four rows that are all come to, with pointers to rows 1 and 3
-abbrev pub two_programs : TableRow → TableRow → ProgramTable
-two_programs second fourth = record {
-  rows = sides 0x41 0 ∷ second ∷ sides 0x41 0 ∷ fourth ∷ [];
-  reached = among (1 ∷ 2 ∷ 3 ∷ 4 ∷ []);
-  entries = among (1 ∷ 3 ∷ []);
-  pulse = false;
-}
-
--- which of the rows 1 to 4 stay, and which rows stand for them
-abbrev pub first_four : {X : Type 0} → (ℕ → X) → List X
-first_four f = f 1 ∷ f 2 ∷ f 3 ∷ f 4 ∷ []
-
-abbrev pub loops : ProgramTable
-loops = two_programs (sides 0xFF 1) (sides 0xFF 3)
-
--- two loops to their own first rows are equal
-abbrev pub EqualProgramsAreStoredOnce : Type 0
-EqualProgramsAreStoredOnce = (first_four (keeps loops) ≡ true ∷ true ∷ false ∷ false ∷ [])
-    × (first_four (stand_in loops) ≡ 1 ∷ 2 ∷ 1 ∷ 2 ∷ [])
-
-abbrev pub joined : ProgramTable
-joined = two_programs (sides 0xFF 1) (sides 0xFF 1)
-
--- a program that jumps out isn't closed, so all rows stay
-abbrev pub JumpsOutAreKept : Type 0
-JumpsOutAreKept = (first_four (keeps joined) ≡ true ∷ true ∷ true ∷ true ∷ [])
-    × (first_four (stand_in joined) ≡ 1 ∷ 2 ∷ 3 ∷ 4 ∷ [])

@@ -1,9 +1,11 @@
 //! Facts about packed patterns, each the contract of a function that does nothing.
 
 ghost use Rattle.packed_form.specs.PackedLaws.{ConstantsAre, PackedTextIsSpelled, PackedTextHasNoFault, SpelledOnce, SpelledArePatterns, RowsOrFault, NoneIsShorter};
+ghost use Rattle.packed_form.specs.NormalLaws.{NormalRowsAreFetched};
 ghost use Rattle.packed_form.specs.ProgramMaps.{MapsCompose};
 ghost use Rattle.packed_form.specs.ProgramLaws.{StandInsKeepPrograms, StandInsStay, KeptStandForThemselves};
-ghost use Rattle.packed_form.specs.WorkedSizes.{NoteHas42Bytes, EqualPatternsAreStoredOnce, CodeBoundsAre, EqualProgramsAreStoredOnce, JumpsOutAreKept};
+ghost use Rattle.packed_form.specs.WorkedSizes.{NoteHas42Bytes, EqualPatternsAreStoredOnce, CodeBoundsAre};
+ghost use Rattle.packed_form.specs.WorkedPrograms.{EqualProgramsAreStoredOnce, FirstOfThreeStays, PulseProgramsStop, JumpsOutAreKept, MiddleEntriesAreKept, OthersAreKept, JumpsIntoDroppedPrograms};
 ghost use Rattle.packed_form.specs.WorkedPatterns.{EighthsArePacked, KeyoffIsUnpacked, RestsAreGathered, CommandsAreNamedOnce, OtherSpellingsAreUnpacked, BadBytesAreFound, EndsAreWanted, LengthsAreLimited};
 
 /// What is packed is unpacked as the normal rows: the packer's text spells these, has no fault, and bytes spell one
@@ -51,11 +53,10 @@ pub fn worked_faults()
     ensures lengths { LengthsAreLimited }
 {}
 
-/// Which programs are stored once.
-#[tactic(auto, using(crate::proofs::WorkedSizes::equal_programs, crate::proofs::WorkedSizes::jumps_out))]
+/// Which programs are stored once, and which aren't.
 pub fn worked_programs()
-    ensures equal { EqualProgramsAreStoredOnce }
-    ensures out { JumpsOutAreKept }
+    ensures once { EqualProgramsAreStoredOnce × FirstOfThreeStays × PulseProgramsStop }
+    ensures kept { JumpsOutAreKept × MiddleEntriesAreKept × OthersAreKept × JumpsIntoDroppedPrograms }
 {}
 
 /// Sizes of songs, and bounds of code.
@@ -77,4 +78,9 @@ pub fn stand_ins_keep_programs()
     ensures keep { StandInsKeepPrograms }
     ensures stay { StandInsStay }
     ensures themselves { KeptStandForThemselves }
+{}
+
+/// A frame can't tell the rows of a pattern from its normal rows.
+pub fn normal_rows_are_fetched()
+    ensures { NormalRowsAreFetched }
 {}

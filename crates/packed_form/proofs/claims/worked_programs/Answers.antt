@@ -1,0 +1,8 @@
+use Rattle.packed_form.proofs.WorkedSizes.{programs_once, programs_kept}
+use Rattle.packed_form.proofs.claims.worked_programs.Goals as goal
+
+pub returns-clause-once : goal.returns-clause-once
+returns-clause-once c = programs_once
+
+pub returns-clause-kept : goal.returns-clause-kept
+returns-clause-kept c = programs_kept
