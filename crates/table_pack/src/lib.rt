@@ -25,3 +25,6 @@ pub use marks::ByteMarks;
 pub use programs::{ProgramMap, merge_programs};
 pub use renumbering::{TableMap, renumber};
 pub use speeds::merge_speed;
+
+#[cfg(test)]
+mod tests;
