@@ -1,0 +1,52 @@
+//! Facts about the definitions, each the contract of a function that does nothing.
+
+ghost use Rattle.same_frames.specs.FrameLaws.{SongsAgreeWithThemselves, TracesOfSongs, RulesAreSame, FramesAreSame};
+ghost use Rattle.same_frames.specs.UseLaws.{UsesAreSame, NoOtherCase};
+ghost use Rattle.same_frames.specs.OrderLaws.{MovedOrdersPlayFor};
+ghost use Rattle.same_frames.specs.WorkedMaps.{NumbersAreAsWorked};
+
+/// Over look-ups that agree with a playable song up to new numbers, frames of states that are alike leave the same
+/// registers and states that are alike, with any options, and each call of a subtune leaves the same registers.
+pub fn frames_are_same()
+    ensures { FramesAreSame }
+{}
+
+/// Each rule of a frame keeps what it works on alike.
+#[tactic(auto, using(crate::proofs::Frames::rules_same_lem))]
+pub fn rules_are_same()
+    ensures { RulesAreSame }
+{}
+
+/// Without new numbers a song's own look-ups agree with it.
+pub fn songs_agree_with_themselves()
+    ensures { SongsAgreeWithThemselves }
+{}
+
+/// Over a song's own look-ups the registers are the song's trace.
+#[tactic(auto, using(crate::proofs::Frames::traces_of_songs_lem))]
+pub fn traces_of_songs()
+    ensures { TracesOfSongs }
+{}
+
+/// A frame over the other look-ups uses what the song's frame after a state that is alike uses.
+#[tactic(auto, using(crate::proofs::Uses::uses_same_lem))]
+pub fn uses_are_same()
+    ensures { UsesAreSame }
+{}
+
+/// No frame over the other look-ups uses more than the song's features.
+pub fn no_other_case()
+    ensures { NoOtherCase }
+{}
+
+/// An orderlist with new numbers for its patterns plays these patterns.
+#[tactic(auto, using(crate::proofs::Orders::moved_orders_lem))]
+pub fn moved_orders_play()
+    ensures { MovedOrdersPlayFor }
+{}
+
+/// A small song with other numbers: its parts, its patterns and its frames.
+#[tactic(auto, using(crate::proofs::WorkedMaps::numbers_are_as_worked_lem))]
+pub fn worked_maps()
+    ensures { NumbersAreAsWorked }
+{}
