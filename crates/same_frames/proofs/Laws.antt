@@ -11,8 +11,8 @@ pub use Rattle.same_frames.proofs.Uses.{uses_same_lem, no_other_case_lem}
 pub use Rattle.same_frames.proofs.Themselves.{themselves_lem}
 -- behind a reached row that is neither a jump nor the last of its program the next one is reached
 pub use Rattle.same_frames.proofs.Reading.{after_reached}
--- orderlists with new numbers for their patterns play these
-pub use Rattle.same_frames.proofs.Orders.{moved_orders_lem}
+-- orderlists and subtunes with new numbers for their patterns play these
+pub use Rattle.same_frames.proofs.Orders.{moved_orders_lem, moved_subtunes_lem}
 -- over any two look-ups each rule commutes with new numbers, where what it meets agrees
 pub use Rattle.same_frames.proofs.Moved.{Held, held_of, put, put_playing, put_waved, put_ticked}
 pub use Rattle.same_frames.proofs.Slides.{IsSpeedFor}

@@ -1,16 +1,19 @@
 -- An orderlist with new numbers for its patterns plays these patterns.
+use Rattle.std.specs.Prelude.{◌==◌, if◌then◌else◌}
 use Rattle.std.proofs.Common.{◌≡◌, ℕ, ℤ, zero, suc, pos, ◌+◌, ◌-◌, ◌%◌, ◌<◌, true, false, ◌≤◌, ltb, List, [], ◌∷◌, map, length, get_or, drop, replicate, All, Contains, inl, inr, refl, sym, ap, ◌∙◌, arith}
 use Rattle.std.proofs.lemmas.Bool.{cases_lt, lt-ltb, ltb-true}
 use Rattle.std.proofs.lemmas.Bool.Decides.{nat_tests}
 use Rattle.std.proofs.lemmas.List.{map-append, length-map, get_or-map, drop-map}
-use Rattle.std.proofs.lemmas.List.Elements.{All-head, All-tail, All-drop, All-weaker, All-contains_itself}
+use Rattle.std.proofs.lemmas.List.Elements.{All-head, All-tail, All-drop, All-map, All-weaker, All-contains, All-contains_itself}
 use Rattle.song_model.specs.declared.orders.Order.{Order}
 use Rattle.song_model.specs.declared.orders.Step.{Step}
+use Rattle.song_model.specs.declared.orders.Subtune.{Subtune}
+use Rattle.song_model.specs.LookUp.{order_of}
 use Rattle.song_model.specs.Endless.{IsPatternByte}
 use Rattle.song_model.specs.Walk.{transpose_after, repeat_after, plays_of, walk_plays, end_transpose, end_repeat, prefix_of, cycle_of, no_step, unrolled, played}
 use Rattle.song_model.proofs.Laws.{endless_cycle}
 use Rattle.same_frames.specs.Maps.{Maps, moved_step}
-use Rattle.same_frames.specs.OrderLaws.{moved_byte, moved_order, MovedOrdersPlayFor}
+use Rattle.same_frames.specs.OrderLaws.{moved_byte, moved_order, KeepsPatternBytes, MovedOrdersPlayFor, moved_subtune, MovedSubtunesPlayFor}
 use Rattle.same_frames.proofs.Choices.{same_choice}
 
 map_replicate : {X Y : Type 0} (f : X → Y) (n : ℕ) (x : X) → map f (replicate n x) ≡ replicate n (f x)
@@ -118,3 +121,44 @@ moved_orders_lem maps order endless keeps i =
     rw (prefix_moved maps order all)
     (rw (cycle_moved maps order all)
     (unrolled_moved (moved_step maps) (prefix_of order) (cycle_of order) i (endless_cycle order endless)))
+
+-- ---- a subtune
+
+channel_moved : (maps : Maps) (subtune : Subtune) (channel : ℕ) →
+    order_of channel (moved_subtune maps subtune) ≡ moved_order maps (order_of channel subtune)
+channel_moved maps subtune channel =
+    same_choice (moved_order maps) (channel == 1) subtune.one (if channel == 2 then subtune.two else subtune.three)
+    (moved_order maps subtune.one) _ (λ z. refl)
+    (λ z. same_choice (moved_order maps) (channel == 2) subtune.two subtune.three (moved_order maps subtune.two)
+    (moved_order maps subtune.three) (λ z. refl) (λ z. refl))
+
+-- a byte from $D0 on is one of these, and so is what it becomes
+abbrev WasThere : List ℕ → ℕ → Type 0
+WasThere entries byte = 0xD0 ≤ byte → Contains entries byte
+
+byte_was_there : (maps : Maps) (entries : List ℕ) (byte : ℕ) → Keeps maps byte → Contains entries byte →
+    WasThere entries (moved_byte maps byte)
+byte_was_there maps entries byte keeps has = elim (cases_lt byte 0xD0) [
+  | inl low ↦ rw (is_low byte low) (λ high. let below = keeps low in absurd (omega arith))
+  | inr high ↦ rw (is_high byte high) (λ above. has)
+]
+
+bytes_were_there : (maps : Maps) (order : Order) → KeepsPatternBytes maps order →
+    All (WasThere order.entries) (moved_order maps order).entries
+bytes_were_there maps order keeps =
+    All-map (WasThere order.entries) (moved_byte maps) order.entries
+    (All-weaker (Contains order.entries) (λ (byte : ℕ). WasThere order.entries (moved_byte maps byte))
+    (λ byte has. byte_was_there maps order.entries byte (keeps byte has) has) order.entries
+    (All-contains_itself order.entries))
+
+pub moved_subtunes_lem : MovedSubtunesPlayFor
+moved_subtunes_lem maps subtune can = record {
+  plays = λ channel is i.
+      rw (channel_moved maps subtune channel)
+      (moved_orders_lem maps (order_of channel subtune) (can.endless channel is) (can.keeps channel is) i);
+  bytes = λ channel byte is high has.
+      All-contains (WasThere (order_of channel subtune).entries)
+      (moved_order maps (order_of channel subtune)).entries byte
+      (bytes_were_there maps (order_of channel subtune) (can.keeps channel is))
+      (rw (channel_moved maps subtune channel) at has) high;
+}

@@ -17,10 +17,10 @@ use Rattle.play_model.specs.Uses.{Turn, before_voice, DoesRow, HasWaveProgram, M
 use Rattle.safe_states.specs.SafeLaws.{VoiceRulesKeepSafe}
 use Rattle.safe_states.proofs.Laws.{CanBePlayed, safe_within_lem, is_played, no_unused_case_lem}
 use Rattle.same_frames.specs.Maps.{Maps}
-use Rattle.same_frames.specs.Agreement.{Agrees, SubtunePlaysFor}
+use Rattle.same_frames.specs.Agreement.{Agrees, SubtunePlaysFor, AddsNoOrderByte}
 use Rattle.same_frames.specs.Alike.{PlayingsAreAlike, StatesAreAlike}
 use Rattle.same_frames.specs.FrameLaws.{state_after_of}
-use Rattle.same_frames.specs.UseLaws.{AddsNoOrderByte, UsesAreSame, NoOtherCase}
+use Rattle.same_frames.specs.UseLaws.{UsesAreSame, NoOtherCase}
 use Rattle.same_frames.proofs.Choices.{choice_related}
 use Rattle.same_frames.proofs.Frames.{is_first, is_second, filter_done_alike, voice_done_alike, playing_alike, states_alike_lem}
 use Rattle.same_frames.proofs.Turns.{turn_at, some_before, speed_some, speed_none, row_alike, wave_program_alike, meets_alike, vibrato_alike, pulse_program_alike, slides_alike, once_alike, asks_alike, funk_alike, tempo_alike}

@@ -1,5 +1,5 @@
 -- When other look-ups are as good as a song's own: on all that the song comes to, they agree with it up to new numbers.
-use Rattle.std.specs.Prelude.{◌≡◌, ◌≢◌, ℕ, ◌+◌, false}
+use Rattle.std.specs.Prelude.{◌≡◌, ◌≢◌, ℕ, ◌+◌, ◌≤◌, false, Contains}
 use Rattle.base.specs.Bytes.{IsByte}
 use Rattle.song_model.specs.declared.orders.Order.{Order}
 use Rattle.song_model.specs.declared.orders.Subtune.{Subtune}
@@ -54,3 +54,9 @@ PlaysFor maps order other = (i : ℕ) → played other i ≡ moved_step maps (pl
 abbrev pub SubtunePlaysFor : Maps → Subtune → Subtune → Type 0
 SubtunePlaysFor maps subtune other =
     (channel : ℕ) → IsChannel channel → PlaysFor maps (order_of channel subtune) (order_of channel other)
+
+-- the other subtune's orderlists have only repeats and transposes that the subtune's have
+abbrev pub AddsNoOrderByte : Subtune → Subtune → Type 0
+AddsNoOrderByte subtune other =
+    (channel byte : ℕ) → IsChannel channel → 0xD0 ≤ byte → Contains (order_of channel other).entries byte →
+    Contains (order_of channel subtune).entries byte

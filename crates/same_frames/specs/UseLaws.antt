@@ -1,29 +1,22 @@
 -- Look-ups that agree with a song up to new numbers use no more than the song does.
-use Rattle.std.specs.Prelude.{ℕ, ◌<◌, ◌≤◌, length, Contains}
+use Rattle.std.specs.Prelude.{ℕ, ◌<◌, length}
 use Rattle.song_model.specs.declared.orders.Subtune.{Subtune}
 use Rattle.song_model.specs.declared.features.Feature.{Feature}
 use Rattle.song_model.specs.declared.songs.Song.{Song}
 use Rattle.song_model.specs.Limits.{KeepsLimits}
-use Rattle.song_model.specs.LookUp.{order_of, playable_subtunes}
+use Rattle.song_model.specs.LookUp.{playable_subtunes}
 use Rattle.play_model.specs.declared.options.Options.{Options}
 use Rattle.play_model.specs.Speeds.{IsSpeed}
 use Rattle.play_model.specs.LookUps.{LookUps}
 use Rattle.play_model.specs.State.{FrameState}
 use Rattle.play_model.specs.Frame.{subtune_at}
-use Rattle.play_model.specs.Used.{IsChannel}
 use Rattle.play_model.specs.Playable.{IsPlayable}
 use Rattle.play_model.specs.Features.{HasFeature}
 use Rattle.play_model.specs.Uses.{Uses, UsesFeature}
 use Rattle.same_frames.specs.Maps.{Maps}
-use Rattle.same_frames.specs.Agreement.{Agrees, SubtunePlaysFor}
+use Rattle.same_frames.specs.Agreement.{Agrees, SubtunePlaysFor, AddsNoOrderByte}
 use Rattle.same_frames.specs.Alike.{StatesAreAlike}
 use Rattle.same_frames.specs.FrameLaws.{state_after_of}
-
--- the other subtune's orderlists have only repeats and transposes that the subtune's have
-abbrev pub AddsNoOrderByte : Subtune → Subtune → Type 0
-AddsNoOrderByte subtune other =
-    (channel byte : ℕ) → IsChannel channel → 0xD0 ≤ byte → Contains (order_of channel other).entries byte →
-    Contains (order_of channel subtune).entries byte
 
 -- what the frame after a state that is alike uses, the song's frame uses
 abbrev pub UsesAreSame : Type 0

@@ -2,7 +2,7 @@
 
 ghost use Rattle.same_frames.specs.FrameLaws.{SongsAgreeWithThemselves, TracesOfSongs, RulesAreSame, FramesAreSame};
 ghost use Rattle.same_frames.specs.UseLaws.{UsesAreSame, NoOtherCase};
-ghost use Rattle.same_frames.specs.OrderLaws.{MovedOrdersPlayFor};
+ghost use Rattle.same_frames.specs.OrderLaws.{MovedOrdersPlayFor, MovedSubtunesPlayFor};
 ghost use Rattle.same_frames.specs.WorkedMaps.{NumbersAreAsWorked};
 
 /// Over look-ups that agree with a playable song up to new numbers, frames of states that are alike leave the same
@@ -43,6 +43,12 @@ pub fn no_other_case()
 #[tactic(auto, using(crate::proofs::Orders::moved_orders_lem))]
 pub fn moved_orders_play()
     ensures { MovedOrdersPlayFor }
+{}
+
+/// So does a subtune, with no repeat or transpose that wasn't there.
+#[tactic(auto, using(crate::proofs::Orders::moved_subtunes_lem))]
+pub fn moved_subtunes_play()
+    ensures { MovedSubtunesPlayFor }
 {}
 
 /// A small song with other numbers: its parts, its patterns and its frames.
