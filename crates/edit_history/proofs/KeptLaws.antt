@@ -40,12 +40,14 @@ unwound_is first song (d ∷ dones) s =
     let next : unwound song dones ≡ s.0 = unwound_is s.0 song dones s.3 in
     rw (next, s.2) refl
 
-pub stands_unwound : (first song : Song) (dones : List Done) → Stands first dones song → Stands (unwound song dones) dones song
+pub stands_unwound : (first song : Song) (dones : List Done) → Stands first dones song → Stands (unwound song dones)
+    dones song
 stands_unwound first song dones s = rw (unwound_is first song dones s) s
 
 -- ---- the song that they give
 
-pub song_is : (first song : Song) (dones : List Done) → Stands first dones song → song_after first (edits_of dones) ≡ Ok song
+pub song_is : (first song : Song) (dones : List Done) → Stands first dones song → song_after first
+    (edits_of dones) ≡ Ok song
 unfolding Stands
 song_is first song [] s = ap Ok s
 song_is first song (d ∷ dones) s = rw s.1 (song_is s.0 song dones s.3)
@@ -54,7 +56,8 @@ stops : (r : Result Song EditFault) → goes_on r (λ next. Ok next) ≡ r
 stops (Ok song) = refl
 stops (Err fault) = refl
 
-goes_further : (r : Result Song EditFault) (f g : Song → Result Song EditFault) (song : Song) (end : Result Song EditFault) →
+goes_further : (r : Result Song EditFault) (f g : Song → Result Song EditFault) (song : Song)
+    (end : Result Song EditFault) →
     ((next : Song) → f next ≡ Ok song → g next ≡ end) → goes_on r f ≡ Ok song → goes_on r g ≡ end
 goes_further (Ok next) f g song end further e = further next e
 goes_further (Err fault) f g song end further e = absurd (cc)

@@ -47,7 +47,8 @@ module _ (song next : Song) (standing undone standing_next undone_next : Vec Don
   edit_stands : Stands edit_first (standing.items ++ done ∷ []) next
   edit_stands = stands_push edit_first song next standing.items done kept.stands edit leads
 
-  pub kept_edit : vec_len standing_next ≤ vec_capacity standing_next → vec_len standing_next ≤ vec_capacity undone_next →
+  pub kept_edit : vec_len standing_next ≤ vec_capacity standing_next →
+      vec_len standing_next ≤ vec_capacity undone_next →
       IsKept next standing_next undone_next
   unfolding CanFollow
   kept_edit a b = record {
@@ -108,7 +109,12 @@ module _ (song before : Song) (standing undone standing_next undone_next : Vec D
     step_undo =
         let f = unwound_is undo_first before standing_next.items left_stands in
         rw (f, joins, edits_push undone.items moved, same)
-        (ap (λ (es : List Edit). after_undo (record { first = undo_first; standing = es; undone = edits_of undone.items }))
+        (ap (λ (es : List Edit). after_undo (record {
+          first = undo_first;
+          standing = es;
+          undone = edits_of
+              undone.items;
+        }))
         (ap edits_of was ∙ edits_push standing_next.items done)
         ∙ undo_push undo_first (edits_of standing_next.items) (edits_of undone.items) done.edit)
 
@@ -156,7 +162,11 @@ module _ (song next : Song) (standing undone standing_next undone_next : Vec Don
     step_redo =
         let f = unwound_is redo_first next (standing.items ++ moved ∷ []) all_stand in
         rw (joins, f, edits_push standing.items moved, same)
-        (ap (λ (es : List Edit). after_redo (record { first = redo_first; standing = edits_of standing.items; undone = es }))
+        (ap (λ (es : List Edit). after_redo (record {
+          first = redo_first;
+          standing = edits_of standing.items;
+          undone = es;
+        }))
         (ap edits_of was ∙ edits_push undone_next.items done)
         ∙ redo_push redo_first (edits_of standing.items) (edits_of undone_next.items) done.edit)
 
@@ -166,7 +176,8 @@ same_fault : {T : Type 0} (found fault : EditFault) → IsErrOf {T = T} {E = Edi
 same_fault found fault e = cc
 
 -- the fault of an edit of the song is that of an edit of the history
-pub same_refusal : (song : Song) (standing undone : Vec Done) (history : History) (edit : Edit) (found fault : EditFault) →
+pub same_refusal : (song : Song) (standing undone : Vec Done) (history : History) (edit : Edit)
+    (found fault : EditFault) →
     IsKept song standing undone → history_kept song standing.items undone.items ≡ history →
     (IsErrOf {T = Inverse} {E = EditFault} (Err found) fault → edited song edit ≡ Err fault)
     × (edited song edit ≡ Err fault → IsErrOf {T = Inverse} {E = EditFault} (Err found) fault) →

@@ -46,7 +46,8 @@ pub undo_push : (first : Song) (standing undone : List Edit) (edit : Edit) →
     ≡ Some (record { first = first; standing = standing; undone = undone ++ edit ∷ [] })
 unfolding after_undo
 undo_push first standing undone edit =
-    let some : (length (standing ++ edit ∷ []) == 0) ≡ false = rw (one_long standing edit) (not_none (length standing)) in
+    let some : (length (standing ++ edit ∷ []) == 0) ≡ false = rw (one_long standing edit)
+    (not_none (length standing)) in
     rw (some, but_last_push standing edit, last_push standing edit) refl
 
 pub redo_push : (first : Song) (standing undone : List Edit) (edit : Edit) →
@@ -92,7 +93,8 @@ redone_again first standing (edit ∷ edits) other e =
     let h : History = record { first = first; standing = standing ++ s.edit ∷ []; undone = s.rest } in
     let is : h ≡ other =
     same_history h other (sym (redo_push first standing s.rest s.edit)
-    ∙ ap (λ (es : List Edit). after_redo (record { first = first; standing = standing; undone = es })) (sym s.is) ∙ e) in
+    ∙ ap (λ (es : List Edit). after_redo (record { first = first; standing = standing; undone = es })) (sym s.is)
+    ∙ e) in
     ap after_undo (sym is) ∙ undo_push first standing s.rest s.edit
     ∙ ap (λ (es : List Edit). Some (record { first = first; standing = standing; undone = es })) (sym s.is)
 

@@ -30,10 +30,16 @@ pattern_back song pattern rows was stored is =
 
 pub instrument_back : (song : Song) (number : ℕ) (instrument was : Instrument) → lacks_instrument song number ≡ false →
     was ≡ get_or song.instruments (number - 1) was →
-    back (record song { instruments = set song.instruments (number - 1) instrument }) (OneInstrument number was) ≡ Some song
+    back (record song { instruments = set song.instruments (number - 1) instrument })
+    (OneInstrument number was) ≡ Some song
 unfolding back
 instrument_back song number instrument was stored is =
-    rw (length-set song.instruments (number - 1) instrument, stored, set_back song.instruments (number - 1) instrument was is) refl
+    rw (
+      length-set song.instruments (number - 1) instrument,
+      stored,
+      set_back song.instruments (number - 1) instrument
+          was is,
+    ) refl
 
 channel_back : (subtune : Subtune) (channel : ℕ) (order : Order) →
     with_channel (with_channel subtune channel order) channel (order_of channel subtune) ≡ subtune
@@ -68,8 +74,10 @@ order_again song subtune channel order some inside =
     let behind : set (set song.subtunes (subtune - 1) changed) (subtune - 1)
     (with_channel (subtune_at (with_order song subtune channel order) subtune) channel (order_of channel was))
     ≡ song.subtunes =
-    ap (λ (s : Subtune). set (set song.subtunes (subtune - 1) changed) (subtune - 1) (with_channel s channel (order_of channel was))) found
-    ∙ ap (λ (s : Subtune). set (set song.subtunes (subtune - 1) changed) (subtune - 1) s) (channel_back was channel order)
+    ap (λ (s : Subtune). set (set song.subtunes (subtune - 1) changed) (subtune - 1)
+    (with_channel s channel (order_of channel was))) found
+    ∙ ap (λ (s : Subtune). set (set song.subtunes (subtune - 1) changed) (subtune - 1) s)
+    (channel_back was channel order)
     ∙ set_back song.subtunes (subtune - 1) changed was same in
     ap (λ (ss : List Subtune). record song { subtunes = ss }) behind
 

@@ -23,7 +23,13 @@ All-resized P n x xs p all =
 
 pub length-resized : {X : Type 0} (n : ℕ) (x : X) (xs : List X) → length (resized n x xs) ≡ n
 length-resized n x xs =
-    omega (arith, length-append (take n xs) (replicate (n - length xs) x), length-take n xs, length-replicate (n - length xs) x)
+    omega (
+      arith,
+      length-append (take n xs) (replicate (n - length xs) x),
+      length-take n xs,
+      length-replicate
+          (n - length xs) x,
+    )
 
 pub remove_keeps : {X : Type 0} (most : ℕ) (P : X → Type 0) (xs : List X) (i : ℕ) → KeepsLimit most P xs →
     i < length xs → KeepsLimit most P (remove xs i)

@@ -92,7 +92,8 @@ one_more patterns parts now i part inside is at =
           ∙ ap (λ (k : ℕ). set (front ++ part ∷ rest) k was) n
           ∙ set-append_seam front part rest was
           ∙ sym (append_assoc front (was ∷ []) rest)
-          ∙ ap (λ (ps : List NumberedPattern). ps ++ rest) (sym (ap (exchanged patterns) more ∙ exchanged_push patterns (take i parts) part))
+          ∙ ap (λ (ps : List NumberedPattern). ps ++ rest) (sym
+          (ap (exchanged patterns) more ∙ exchanged_push patterns (take i parts) part))
           ∙ ap (λ (k : ℕ). exchanged patterns (take (i + 1) parts) ++ drop {A = NumberedPattern} k parts) (sym next),
     )
 
@@ -156,7 +157,8 @@ pub stored_back : (patterns : List (List Row)) (parts : List NumberedPattern) �
     are_stored (length (with_all patterns parts)) (reverse (exchanged patterns parts)) ≡ true
 stored_back patterns parts h =
     ap (λ (n : ℕ). are_stored n (reverse (exchanged patterns parts))) (length-with_all patterns parts)
-    ∙ reversed_stored (length patterns) (exchanged patterns parts) (exchanged_stored (length patterns) patterns parts ∙ h)
+    ∙ reversed_stored (length patterns) (exchanged patterns parts)
+    (exchanged_stored (length patterns) patterns parts ∙ h)
 
 -- ---- some patterns of a list changed
 
@@ -170,14 +172,16 @@ pub changed_none : (f : List Row → List Row) (patterns : List (List Row)) (par
 changed_none f patterns parts e = rw e (refl, refl)
 
 map_next : (f : List Row → List Row) (k : ℕ) (patterns : List (List Row)) (d : List Row) → k < length patterns →
-    map f (take (k + 1) patterns) ++ drop (k + 1) patterns ≡ map f (take k patterns) ++ f (get_or patterns k d) ∷ drop (suc k) patterns
+    map f (take (k + 1) patterns) ++ drop (k + 1) patterns ≡ map f (take k patterns) ++ f (get_or patterns k d) ∷ drop
+    (suc k) patterns
 map_next f k patterns d inside =
     let next : k + 1 ≡ suc k = omega arith in
     rw (next, take-suc patterns k d inside, map-append f (take k patterns) (get_or patterns k d ∷ []))
     (append_assoc (map f (take k patterns)) (f (get_or patterns k d) ∷ []) (drop (suc k) patterns))
 
 -- the next one stays
-pub changed_stays : (f : List Row → List Row) (k : ℕ) (patterns : List (List Row)) (parts : List NumberedPattern) (d : List Row) →
+pub changed_stays : (f : List Row → List Row) (k : ℕ) (patterns : List (List Row)) (parts : List NumberedPattern)
+    (d : List Row) →
     k < length patterns → ChangedUpTo f k patterns parts → f (get_or patterns k d) ≡ get_or patterns k d →
     ChangedUpTo f (k + 1) patterns parts
 changed_stays f k patterns parts d inside changed stays = (
@@ -198,7 +202,12 @@ changed_next f k patterns parts more part d inside changed is number rows =
     omega (arith, length-map (take k patterns) f, length-take-le k patterns (omega (arith, inside))) in
     let low : nat_lt part.number (length patterns) ≡ true =
     (let small : part.number < length patterns = omega (arith, number, inside) in grind (arith, nat_tests)) in (
-      rw (is, list_all-append (λ (p : NumberedPattern). nat_lt p.number (length patterns)) parts (part ∷ []), changed.0, low) refl,
+      rw (
+        is,
+        list_all-append (λ (p : NumberedPattern). nat_lt p.number (length patterns)) parts (part ∷ []),
+        changed.0,
+        low,
+      ) refl,
       ap (with_all patterns) is ∙ with_all_push patterns parts part
           ∙ ap (λ (ps : List (List Row)). set ps part.number part.rows)
           (changed.1 ∙ ap (λ (ps : List (List Row)). front ++ ps) (drop-cons patterns k d inside))

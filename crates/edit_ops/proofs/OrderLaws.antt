@@ -20,5 +20,6 @@ subtune_of_order song subtune channel h =
 pub entry_stands : (song : Song) (subtune channel place : ℕ) → lacks_entry song subtune channel place ≡ false →
     place < length (order_at song subtune channel).entries
 entry_stands song subtune channel place h =
-    let part = (or_parts (lacks_order song subtune channel) (nat_le (length (order_at song subtune channel).entries) place) h).1 in
+    let part = (or_parts (lacks_order song subtune channel) (nat_le (length (order_at song subtune channel).entries)
+    place) h).1 in
     grind (arith, nat_tests)

@@ -41,10 +41,12 @@ gap_stands song pattern place h =
     let parts = or_parts (lacks_pattern song pattern) (nat_lt (length (pattern_at song pattern)) place) h in
     (parts.0, let k = parts.1 in grind (arith, nat_tests))
 
-pub other_length : (song : Song) (pattern n : ℕ) → has_rows song pattern n ≡ false → length (pattern_at song pattern) ≢ n
+pub other_length : (song : Song) (pattern n : ℕ) → has_rows song pattern n ≡ false → length (pattern_at song pattern)
+    ≢ n
 other_length song pattern n h e = let t : nat_eq (length (pattern_at song pattern)) n ≡ true = eq-eqb _ _ e in cc
 
-pub set_is_pattern : (rows : List Row) (place : ℕ) (row : Row) → IsPattern rows → IsRow row → IsPattern (set rows place row)
+pub set_is_pattern : (rows : List Row) (place : ℕ) (row : Row) → IsPattern rows → IsRow row → IsPattern
+    (set rows place row)
 set_is_pattern rows place row p r = record {
   count = record { least = omega (arith, length-set rows place row); most = omega (arith, length-set rows place row) };
   each = All-set IsRow rows place row r p.each;
@@ -77,7 +79,8 @@ rest_in_range = record {
   param = omega arith;
 }
 
-pub resized_is_pattern : (n : ℕ) (rows : List Row) → IsPattern rows → IsPatternLength n → IsPattern (resized n rest_row rows)
+pub resized_is_pattern : (n : ℕ) (rows : List Row) → IsPattern rows → IsPatternLength n → IsPattern
+    (resized n rest_row rows)
 resized_is_pattern n rows p l =
     let e = length-resized n rest_row rows in
     record {

@@ -39,7 +39,8 @@ shifted_small : (shift : Shift) (p : ℕ) → p < 256 → shifted shift p < 256
 shifted_small (Up g) p small = raised_small g p small
 shifted_small (Down g) p small = lowered_small g p small
 
-moved_row_in_range : (name : TableName) (shift : Shift) (row : Row) → IsRow row → IsRow (moved_row name (shifted shift) row)
+moved_row_in_range : (name : TableName) (shift : Shift) (row : Row) → IsRow row → IsRow
+    (moved_row name (shifted shift) row)
 moved_row_in_range name shift row r = elim (cases_Bool (is_into name (command_table row.command))) [
   | inl into ↦
       rw into (record {
@@ -86,7 +87,8 @@ set_are_parts song parts Pulse table = refl
 set_are_parts song parts Filter table = refl
 set_are_parts song parts Speed table = refl
 
-pub length-moved : (name : TableName) (move : ℕ → ℕ) (song : Song) → length (table_of (moved_song name move song) name) ≡
+pub length-moved : (name : TableName) (move : ℕ → ℕ) (song : Song) → length
+    (table_of (moved_song name move song) name) ≡
     length (table_of song name)
 unfolding moved_song
 length-moved Wave move song = length-map song.wave _
@@ -109,7 +111,8 @@ module _ (name : TableName) (move : ℕ → ℕ) (song : Song) (parts : PointerP
 same_number : (a b : ℕ) → (true && not (a == b)) ≡ false → a ≡ b
 same_number a b h = grind (arith, nat_tests)
 
-stays_row : (name : TableName) (move : ℕ → ℕ) (row : Row) → is_moved name move row ≡ false → moved_row name move row ≡ row
+stays_row : (name : TableName) (move : ℕ → ℕ) (row : Row) → is_moved name move row ≡ false → moved_row name move
+    row ≡ row
 stays_row name move row h = elim (cases_Bool (is_into name (command_table row.command))) [
   | inl into ↦
       let same : move row.param ≡ row.param =

@@ -14,7 +14,8 @@ last_out {X} all rest x m k e inside h =
     let whole : all ≡ rest ++ x ∷ drop m all =
     sym (take-append-drop m all) ∙ ap (λ (xs : List X). xs ++ drop m all) h ∙ append_assoc rest (x ∷ []) (drop m all) in
     let n : k ≡ length rest = omega (arith, ap length h, length-take m all, length-append rest (x ∷ []), e, inside) in (
-      sym (ap (take k) whole ∙ ap (λ (j : ℕ). take j (rest ++ x ∷ drop m all)) n ∙ take-append_seam rest (x ∷ drop m all)),
+      sym (ap (take k) whole ∙ ap (λ (j : ℕ). take j (rest ++ x ∷ drop m all)) n ∙ take-append_seam rest
+          (x ∷ drop m all)),
       ap (drop k) whole ∙ ap (λ (j : ℕ). drop j (rest ++ x ∷ drop m all)) n ∙ drop-append_seam rest (x ∷ drop m all),
     )
 
@@ -88,11 +89,13 @@ spliced_again {X} list items at count n inside n_is =
     let c = drop (at + count) list in
     let long : at ≡ length a = omega (arith, length-take at list, inside) in
     let front : take at ((a ++ items) ++ c) ≡ a =
-    ap (take at) (append_assoc a items c) ∙ ap (λ (k : ℕ). take k (a ++ (items ++ c))) long ∙ take-append_seam a (items ++ c) in
+    ap (take at) (append_assoc a items c) ∙ ap (λ (k : ℕ). take k (a ++ (items ++ c))) long ∙ take-append_seam a
+    (items ++ c) in
     let both : at + n ≡ length (a ++ items) = omega (arith, long, n_is, length-append a items) in
     let behind : drop (at + n) ((a ++ items) ++ c) ≡ c =
     ap (λ (k : ℕ). drop k ((a ++ items) ++ c)) both ∙ drop-append_seam (a ++ items) c in
-    rw (front, behind) (ap (λ (xs : List X). xs ++ c) (sym (take-add at count list)) ∙ take-append-drop (at + count) list)
+    rw (front, behind) (ap (λ (xs : List X). xs ++ c) (sym (take-add at count list)) ∙ take-append-drop (at + count)
+    list)
 
 fits_if_some : {X : Type 0} (limit : ℕ) (list : List X) (splice : Splice X) → IsSome (replaced limit list splice) →
     fits limit list splice ≡ true
@@ -146,7 +149,8 @@ pub can_put : {X : Type 0} (limit : ℕ) (list : List X) (splice : Splice X) →
 unfolding replaced
 can_put limit list splice inside most room = rw (le-leb _ _ inside, le-leb _ _ most, le-leb _ _ room) refl
 
-pub whole_put : {X : Type 0} (limit : ℕ) (list new : List X) (splice : Splice X) → replaced limit list splice ≡ Some new →
+pub whole_put : {X : Type 0} (limit : ℕ) (list new : List X) (splice : Splice X) → replaced limit list splice ≡ Some
+    new →
     new ≡ whole_list list splice
 unfolding replaced
 whole_put limit list new splice e =

@@ -10,7 +10,8 @@ returns-clause-parts c =
     let patterns = c.args.song.now.patterns in
     ap (λ (parts : List NumberedPattern). are_stored (length c.exchange_patterns.new.patterns) parts)
     c.exchange_patterns.ensures.before
-    ∙ ap (λ (ps : List (List Row)). are_stored (length ps) (reverse (exchanged patterns c.args.parts.patterns))) c.exchange_patterns.ensures.after
+    ∙ ap (λ (ps : List (List Row)). are_stored (length ps) (reverse (exchanged patterns c.args.parts.patterns)))
+    c.exchange_patterns.ensures.after
     ∙ stored_back patterns c.args.parts.patterns c.requires
 
 pub returns-clause-and_back : goal.returns-clause-and_back

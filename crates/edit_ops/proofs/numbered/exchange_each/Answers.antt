@@ -33,7 +33,8 @@ loop-i-preserved c =
     let part = c.index_mut.result.now in
     let same = read_is patterns parts.items c.loop-i.parts.items i c.index.result.now part inside inv.1 c.index.ensures
     c.index_mut.ensures.value in
-    step_made patterns c.loop-i.patterns c.exchange_with.new.self parts.items c.loop-i.parts.items i c.from-number.result
+    step_made patterns c.loop-i.patterns c.exchange_with.new.self parts.items c.loop-i.parts.items i
+    c.from-number.result
     part c.exchange_with.new.item c.requires inside inv.0 inv.1 c.index_mut.ensures.value
     (c.from-number.ensures ∙ ap (λ (p : NumberedPattern). p.number) same) c.exchange_with.ensures.after
     c.exchange_with.ensures.before

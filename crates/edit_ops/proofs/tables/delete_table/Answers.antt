@@ -26,7 +26,8 @@ put_parts-requires-clause-limit c =
     c.as_slice-stored.result.now c.in_ok-parts.ensures.moved c.table.ensures c.as_slice-stored.ensures.items
     ∙ ap (λ (n : TableName). length (table_of song n)) c.table_named-name.ensures in
     let stands = table_row_stands song c.args.table c.args.number c.requires in
-    let inside : c.from.result - 1 < length c.as_slice-stored.result.now = omega (arith, size, stands, c.from.ensures) in
+    let inside : c.from.result - 1 < length c.as_slice-stored.result.now = omega
+    (arith, size, stands, c.from.ensures) in
     let n = length-remove c.as_slice-stored.result.now (c.from.result - 1) inside in
     omega (
       arith,

@@ -10,7 +10,8 @@ revert-inverse-requires c =
     let kept = c.self.inside in
     let was = c.pop.ensures.items
     ∙ ap (λ (o : Option Done). c.pop.new.self.items ++ option_to_list o) c.in-Some.is in
-    can_undo kept.song kept.song kept.standing kept.undone c.pop.new.self kept.undone c.in-Some.field-0 c.in-Some.field-0
+    can_undo kept.song kept.song kept.standing kept.undone c.pop.new.self kept.undone c.in-Some.field-0
+    c.in-Some.field-0
     c.self.invariant was
 
 pub invariant_of-self-2 : goal.invariant_of-self-2
@@ -20,8 +21,10 @@ invariant_of-self-2 c =
     ∙ ap (λ (o : Option Done). c.pop.new.self.items ++ option_to_list o) c.in-Some.is in
     let moved : Done = record { edit = c.in-Some.field-0.edit; inverse = c.revert-inverse.result } in
     let less = ap length was ∙ length-append c.pop.new.self.items (c.in-Some.field-0 ∷ []) in
-    kept_undo kept.song c.revert-inverse.new.song kept.standing kept.undone c.pop.new.self c.push_reserved.new.self c.in-Some.field-0 moved
-    c.self.invariant was c.revert-inverse.ensures.there refl c.revert-inverse.ensures.and_back c.push_reserved.ensures.items
+    kept_undo kept.song c.revert-inverse.new.song kept.standing kept.undone c.pop.new.self c.push_reserved.new.self
+    c.in-Some.field-0 moved
+    c.self.invariant was c.revert-inverse.ensures.there refl c.revert-inverse.ensures.and_back
+    c.push_reserved.ensures.items
     (omega (
       arith,
       less,
@@ -50,5 +53,7 @@ returns-clause-done c =
     ∙ ap (λ (o : Option Done). c.pop.new.self.items ++ option_to_list o) c.in-Some.is in
     let moved : Done = record { edit = c.in-Some.field-0.edit; inverse = c.revert-inverse.result } in
     ap after_undo (sym c.self.view_is)
-    ∙ step_undo kept.song c.revert-inverse.new.song kept.standing kept.undone c.pop.new.self c.push_reserved.new.self c.in-Some.field-0 moved
-    c.self.invariant was c.revert-inverse.ensures.there refl c.revert-inverse.ensures.and_back c.push_reserved.ensures.items
+    ∙ step_undo kept.song c.revert-inverse.new.song kept.standing kept.undone c.pop.new.self c.push_reserved.new.self
+    c.in-Some.field-0 moved
+    c.self.invariant was c.revert-inverse.ensures.there refl c.revert-inverse.ensures.and_back
+    c.push_reserved.ensures.items
