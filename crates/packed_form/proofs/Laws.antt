@@ -17,3 +17,7 @@ pub use Rattle.packed_form.proofs.StandIns.{StandsAt, stands_at, stands_for, sta
 pub use Rattle.packed_form.proofs.FirstSeen.{with_new, first_seen_push, same_row_is}
 -- a frame can't tell the rows of a pattern from its normal rows
 pub use Rattle.packed_form.proofs.NormalRows.{normal_rows_are_fetched}
+-- a song has one size of each kind, and storing things once makes nothing longer
+pub use Rattle.packed_form.proofs.SizesOfSongs.{sizes_are_the_songs, packed_size_is_within}
+-- the tables of a song that can be played are whole
+pub use Rattle.packed_form.proofs.PlayablePrograms.{playable_programs_are_whole}

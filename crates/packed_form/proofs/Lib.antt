@@ -17,10 +17,12 @@ mod ProgramMaps
 mod Segments
 mod EqualSegments
 mod StandIns
+mod PlayablePrograms
 mod FirstSeen
 -- Inner: what a frame does with normal rows.
 mod NormalRows
--- Inner: sizes and programs that were worked out by hand.
+-- Inner: sizes, and programs that were worked out by hand.
 mod WorkedSizes
+mod SizesOfSongs
 -- Inner: the laws.
 mod PatternLaws

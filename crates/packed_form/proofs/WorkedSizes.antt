@@ -17,9 +17,11 @@ unfolding first_row is_closed are_equal first_equal keeps stand_in
 programs_kept = ((refl, refl), (refl, refl), ((refl, refl), (refl, refl)), (refl, refl))
 
 pub note_has_42 : NoteHas42Bytes
-unfolding packed_text first_row is_closed are_equal first_equal keeps stand_in speed_rows speed_number table_number instrument_number pattern_text pattern_texts data_size packed_size table_row pattern_at
+unfolding packed_text first_row is_closed are_equal first_equal keeps stand_in speed_rows speed_number table_number
+    instrument_number pattern_text pattern_texts data_size packed_size table_row pattern_at
 note_has_42 = (refl, refl)
 
 pub patterns_once : EqualPatternsAreStoredOnce
-unfolding packed_text first_row is_closed are_equal first_equal keeps stand_in speed_rows speed_number table_number instrument_number pattern_text pattern_texts data_size packed_size table_row pattern_at
+unfolding packed_text first_row is_closed are_equal first_equal keeps stand_in speed_rows speed_number table_number
+    instrument_number pattern_text pattern_texts data_size packed_size table_row pattern_at
 patterns_once = (refl, refl)

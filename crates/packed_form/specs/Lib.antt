@@ -15,6 +15,7 @@ pub mod SongSizes
 -- Claimed: laws of these, and packed patterns, sizes and programs worked out by hand.
 pub mod PackedLaws
 pub mod ProgramLaws
+pub mod SizeLaws
 pub mod NormalLaws
 pub mod WorkedPatterns
 pub mod WorkedSizes

@@ -1,7 +1,11 @@
 -- What a reader may rely on in the definitions of programs that are stored once.
 use Rattle.std.specs.Prelude.{◌≡◌, ℕ, true, map}
+use Rattle.song_model.specs.declared.songs.Song.{Song}
+use Rattle.play_model.specs.Playable.{IsPlayable}
 use Rattle.packed_form.specs.Segments.{ProgramTable, IsWhole, keeps, stand_in}
 use Rattle.packed_form.specs.ProgramMaps.{retargeted, KeepsPrograms}
+use Rattle.packed_form.specs.UsedSets.{UsedSets, AreUsedSets}
+use Rattle.packed_form.specs.Renumbering.{wave_programs, pulse_programs, filter_programs}
 
 -- the map to the rows that stand for others keeps programs, where each jump goes to what stands for its target
 abbrev pub StandInsKeepPrograms : Type 0
@@ -14,3 +18,8 @@ StandInsStay = (table : ProgramTable) (p : ℕ) → IsWhole table → table.reac
 
 abbrev pub KeptStandForThemselves : Type 0
 KeptStandForThemselves = (table : ProgramTable) (p : ℕ) → IsWhole table → keeps table p ≡ true → stand_in table p ≡ p
+
+-- the tables of a song that can be played are whole, where foreign pointers have their new numbers
+abbrev pub PlayableProgramsAreWhole : Type 0
+PlayableProgramsAreWhole = (song : Song) (used : UsedSets) → IsPlayable song → AreUsedSets song used →
+    IsWhole (wave_programs song used) × IsWhole (pulse_programs song used) × IsWhole (filter_programs song used)

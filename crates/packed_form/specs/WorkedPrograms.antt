@@ -56,12 +56,15 @@ abbrev pub PulseProgramsStop : Type 0
 PulseProgramsStop =
     Gives (programs true (sides 0x88 0 ∷ sides 0 0 ∷ sides 0x88 0 ∷ sides 0 0 ∷ []) four (1 ∷ 3 ∷ []))
     (true ∷ true ∷ false ∷ false ∷ []) (1 ∷ 2 ∷ 1 ∷ 2 ∷ [])
-    × Gives (programs false (sides 0x88 0 ∷ sides 0 0 ∷ sides 0xFF 0 ∷ sides 0 0 ∷ sides 0xFF 0 ∷ []) (1 ∷ 2 ∷ 3 ∷ 4 ∷ 5 ∷ []) (1 ∷ 4 ∷ []))
+    × Gives
+    (programs false (sides 0x88 0 ∷ sides 0 0 ∷ sides 0xFF 0 ∷ sides 0 0 ∷ sides 0xFF 0 ∷ [])
+    (1 ∷ 2 ∷ 3 ∷ 4 ∷ 5 ∷ []) (1 ∷ 4 ∷ []))
     (true ∷ true ∷ true ∷ true ∷ true ∷ []) (1 ∷ 2 ∷ 3 ∷ 4 ∷ 5 ∷ [])
 
 -- a jump into a dropped program stays, and a row that no program comes to counts for nothing: here one that names itself
 abbrev pub JumpsIntoDroppedPrograms : Type 0
 JumpsIntoDroppedPrograms = Gives
-    (programs false (sides 0x41 0 ∷ sides 0xFF 1 ∷ sides 0xFF 3 ∷ sides 0x41 0 ∷ sides 0xFF 4 ∷ sides 0x21 0 ∷ sides 0xFF 4 ∷ [])
+    (programs false
+    (sides 0x41 0 ∷ sides 0xFF 1 ∷ sides 0xFF 3 ∷ sides 0x41 0 ∷ sides 0xFF 4 ∷ sides 0x21 0 ∷ sides 0xFF 4 ∷ [])
     (1 ∷ 2 ∷ 4 ∷ 5 ∷ 6 ∷ 7 ∷ []) (1 ∷ 6 ∷ []))
     (true ∷ true ∷ false ∷ false ∷ false ∷ true ∷ true ∷ []) (1 ∷ 2 ∷ 0 ∷ 1 ∷ 2 ∷ 6 ∷ 7 ∷ [])

@@ -2,8 +2,9 @@
 
 ghost use Rattle.packed_form.specs.PackedLaws.{ConstantsAre, PackedTextIsSpelled, PackedTextHasNoFault, SpelledOnce, SpelledArePatterns, RowsOrFault, NoneIsShorter};
 ghost use Rattle.packed_form.specs.NormalLaws.{NormalRowsAreFetched};
+ghost use Rattle.packed_form.specs.SizeLaws.{SizesAreTheSongs, PackedSizeIsWithin};
 ghost use Rattle.packed_form.specs.ProgramMaps.{MapsCompose};
-ghost use Rattle.packed_form.specs.ProgramLaws.{StandInsKeepPrograms, StandInsStay, KeptStandForThemselves};
+ghost use Rattle.packed_form.specs.ProgramLaws.{StandInsKeepPrograms, StandInsStay, KeptStandForThemselves, PlayableProgramsAreWhole};
 ghost use Rattle.packed_form.specs.WorkedSizes.{NoteHas42Bytes, EqualPatternsAreStoredOnce, CodeBoundsAre};
 ghost use Rattle.packed_form.specs.WorkedPrograms.{EqualProgramsAreStoredOnce, FirstOfThreeStays, PulseProgramsStop, JumpsOutAreKept, MiddleEntriesAreKept, OthersAreKept, JumpsIntoDroppedPrograms};
 ghost use Rattle.packed_form.specs.WorkedPatterns.{EighthsArePacked, KeyoffIsUnpacked, RestsAreGathered, CommandsAreNamedOnce, OtherSpellingsAreUnpacked, BadBytesAreFound, EndsAreWanted, LengthsAreLimited};
@@ -59,6 +60,13 @@ pub fn worked_programs()
     ensures kept { JumpsOutAreKept × MiddleEntriesAreKept × OthersAreKept × JumpsIntoDroppedPrograms }
 {}
 
+/// A song has one size of each kind, and storing things once makes nothing longer.
+#[tactic(auto, using(crate::proofs::SizesOfSongs::packed_size_is_within))]
+pub fn sizes_are_the_songs()
+    ensures one { SizesAreTheSongs }
+    ensures within { PackedSizeIsWithin }
+{}
+
 /// Sizes of songs, and bounds of code.
 #[tactic(auto, using(crate::proofs::WorkedSizes::note_has_42, crate::proofs::WorkedSizes::patterns_once))]
 pub fn worked_sizes()
@@ -83,4 +91,9 @@ pub fn stand_ins_keep_programs()
 /// A frame can't tell the rows of a pattern from its normal rows.
 pub fn normal_rows_are_fetched()
     ensures { NormalRowsAreFetched }
+{}
+
+/// The tables of a song that can be played are whole.
+pub fn playable_programs_are_whole()
+    ensures { PlayableProgramsAreWhole }
 {}

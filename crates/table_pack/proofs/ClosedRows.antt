@@ -130,7 +130,8 @@ jumped_out table p target firsts closed new own other are reached_p reached some
     one_goes (λ s. enters table s target) (λ s. jumps table s p target) closed new own long small narrows
     (jump_inside table own p target (is_in_from table own p reached_p (sym own_first)) some
     ∙ no_other table target own (λ (z : own ≡ first_row table target). apart (other_first ∙ sym z)))
-    (λ s different. jump_outside table s p target (no_other table p s (λ (z : s ≡ first_row table p). different (z ∙ sym own_first))))
+    (λ s different. jump_outside table s p target
+    (no_other table p s (λ (z : s ≡ first_row table p). different (z ∙ sym own_first))))
 
 -- no row that is reached jumps to 0 into a segment
 pub jump_to_0 : (table : ProgramTable) (s p : ℕ) → IsWhole table → jumps table s p 0 ≡ true
@@ -179,7 +180,8 @@ pub jump_some : (table : ProgramTable) (p : ℕ) (row : TableRow) (closed new : 
     Narrows (λ s. not (table.reached p && is_jump_row row) || jumps table s p row.right) closed new
 jump_some table p row closed new reached jump narrows s small =
     narrows s small
-    ∙ ap (λ (b : Bool). is_marked closed s && (b || jumps table s p row.right)) (sym (says_so (table.reached p) (is_jump_row row) reached jump))
+    ∙ ap (λ (b : Bool). is_marked closed s && (b || jumps table s p row.right))
+    (sym (says_so (table.reached p) (is_jump_row row) reached jump))
   where
     says_so : (a b : Bool) → a ≡ true → b ≡ true → not (a && b) ≡ false
     says_so a b p q = rw (p, q) refl
@@ -207,14 +209,18 @@ closed_start test s small = get_or-replicate 256 s true false small
 pub closed_more : (table : ProgramTable) (i s : ℕ) (before between after : List Bool) → s < 256 →
     is_marked before s ≡ list_all (is_closed_at table s) (numbers i) →
     Narrows (λ s. not (table.entries (i + 1)) || enters table s (i + 1)) before between →
-    Narrows (λ s. not (table.reached (i + 1) && is_jump_row (row_of table (i + 1))) || jumps table s (i + 1) (row_of table (i + 1)).right) between after →
+    Narrows
+    (λ s. not (table.reached (i + 1) && is_jump_row (row_of table (i + 1)))
+    || jumps table s (i + 1) (row_of table (i + 1)).right) between after →
     is_marked after s ≡ list_all (is_closed_at table s) (numbers (i + 1))
 closed_more table i s before between after small so_far entry jump =
     let more : i + 1 ≡ suc i = omega arith in
     let next : 1 + i ≡ i + 1 = omega arith in
     jump s small
     ∙ ap (λ (b : Bool). b && (not (table.reached (i + 1) && is_jump_row (row_of table (i + 1)))
-    || jumps table s (i + 1) (row_of table (i + 1)).right)) (entry s small ∙ ap (λ (b : Bool). b && (not (table.entries (i + 1)) || enters table s (i + 1))) so_far)
+    || jumps table s (i + 1) (row_of table (i + 1)).right))
+    (entry s small
+    ∙ ap (λ (b : Bool). b && (not (table.entries (i + 1)) || enters table s (i + 1))) so_far)
     ∙ regroup (list_all (is_closed_at table s) (numbers i)) (not (table.entries (i + 1)) || enters table s (i + 1))
     (not (table.reached (i + 1) && is_jump_row (row_of table (i + 1))) || jumps table s (i + 1) (row_of table (i + 1)).right)
     ∙ sym (ap (λ (k : ℕ). list_all (is_closed_at table s) (numbers k)) more

@@ -39,7 +39,8 @@ pub rows_apart : (table : ProgramTable) (rows : List TableRow) (s t d : ℕ) →
     false ≡ are_equal table s t
 rows_apart table rows s t d are small inside apart = elim (cases_Bool (are_equal table s t)) [
   | inl is ↦ absurd
-      (let same = alike_from s t (row_of table (s + d)) (row_of table (t + d)) (((equal_parts table s t is).at d small).alike inside) in
+      (let same = alike_from s t (row_of table (s + d)) (row_of table (t + d))
+      (((equal_parts table s t is).at d small).alike inside) in
       let other : are_alike s t (row_of table (s + d)) (row_of table (t + d)) ≡ false =
       subst (λ (r : List TableRow). are_alike s t (row_at r (s + d)) (row_at r (t + d)) ≡ false) (sym are) apart in
       cc)
@@ -268,7 +269,8 @@ pub equals_more : (table : ProgramTable) (i : ℕ) (equals list new : List ℕ) 
 equals_more table i equals list new t so_far room is are = record {
   long = length-set equals (i + 1) t ∙ so_far.long;
   equal = λ s low begun. elim (last_or_before s i low) [
-    | inl last ↦ ap (λ (k : ℕ). get_or (set equals (i + 1) t) k 0) last ∙ get_or-set_same equals (i + 1) t 0 (subst (λ (n : ℕ). i + 1 < n) (sym so_far.long) room)
+    | inl last ↦ ap (λ (k : ℕ). get_or (set equals (i + 1) t) k 0) last
+        ∙ get_or-set_same equals (i + 1) t 0 (subst (λ (n : ℕ). i + 1 < n) (sym so_far.long) room)
         ∙ is (ap (begins table) (sym last) ∙ begun) ∙ ap (first_equal table) (sym last)
     | inr before ↦ get_or-set_other equals (i + 1) s t 0 (λ (z : s ≡ i + 1). absurd (omega arith)) ∙ so_far.equal s before begun
   ];

@@ -77,7 +77,8 @@ walked_more table i firsts first next goes_on begun on w room begun_is here ther
       long = length-set firsts (i + 1) next ∙ w.long;
       done = λ p low. elim (last_or_before p i low) [
         | inl last ↦ ap (λ (k : ℕ). get_or (set firsts (i + 1) next) k 0) last
-            ∙ get_or-set_same firsts (i + 1) next 0 (subst (λ (k : ℕ). i + 1 < k) (sym w.long) room) ∙ e ∙ ap (first_row table) (sym last)
+            ∙ get_or-set_same firsts (i + 1) next 0 (subst (λ (k : ℕ). i + 1 < k) (sym w.long) room)
+            ∙ e ∙ ap (first_row table) (sym last)
         | inr before ↦ get_or-set_other firsts (i + 1) p next 0 (λ (z : p ≡ i + 1). absurd (omega arith)) ∙ w.done p before
       ];
       here = e;

@@ -65,16 +65,19 @@ map_more table i keep to k t so_far room k_is t_is = record {
   keep_long = length-set keep (i + 1) k ∙ so_far.keep_long;
   to_long = length-set to (i + 1) t ∙ so_far.to_long;
   kept = λ q low. elim (last_or_before q i low) [
-    | inl last ↦ ap (λ (j : ℕ). get_or (set keep (i + 1) k) j false) last ∙ get_or-set_same keep (i + 1) k false (subst (λ (n : ℕ). i + 1 < n) (sym so_far.keep_long) room)
+    | inl last ↦ ap (λ (j : ℕ). get_or (set keep (i + 1) k) j false) last
+        ∙ get_or-set_same keep (i + 1) k false (subst (λ (n : ℕ). i + 1 < n) (sym so_far.keep_long) room)
         ∙ k_is ∙ ap (keeps table) (sym last)
     | inr before ↦ get_or-set_other keep (i + 1) q k false (λ (z : q ≡ i + 1). absurd (omega arith)) ∙ so_far.kept q before
   ];
   stands = λ q low. elim (last_or_before q i low) [
-    | inl last ↦ ap (λ (j : ℕ). get_or (set to (i + 1) t) j 0) last ∙ get_or-set_same to (i + 1) t 0 (subst (λ (n : ℕ). i + 1 < n) (sym so_far.to_long) room)
+    | inl last ↦ ap (λ (j : ℕ). get_or (set to (i + 1) t) j 0) last
+        ∙ get_or-set_same to (i + 1) t 0 (subst (λ (n : ℕ). i + 1 < n) (sym so_far.to_long) room)
         ∙ t_is ∙ ap (stand_in table) (sym last)
     | inr before ↦ get_or-set_other to (i + 1) q t 0 (λ (z : q ≡ i + 1). absurd (omega arith)) ∙ so_far.stands q before
   ];
-  unkept = λ q low. get_or-set_other keep (i + 1) q k false (λ (z : q ≡ i + 1). absurd (omega arith)) ∙ so_far.unkept q (omega arith);
+  unkept = λ q low. get_or-set_other keep (i + 1) q k false (λ (z : q ≡ i + 1). absurd (omega arith))
+      ∙ so_far.unkept q (omega arith);
   none = λ q low. get_or-set_other to (i + 1) q t 0 (λ (z : q ≡ i + 1). absurd (omega arith)) ∙ so_far.none q (omega arith);
 }
 
@@ -142,7 +145,8 @@ staying table rows marks firsts equals are equal = record {
       let is : get_or equals (get_or firsts p 0) 0 ≡ first_equal table (first_row table p) =
       ap (λ (k : ℕ). get_or equals k 0) first ∙ equal (first_row table p) begun in
       let low = equals_low table p are.firsts_are.whole reached in
-      subst (λ (k : ℕ). k ≤ get_or firsts p 0) (sym is) (subst (λ (k : ℕ). first_equal table (first_row table p) ≤ k) (sym first) low);
+      subst (λ (k : ℕ). k ≤ get_or firsts p 0) (sym is)
+      (subst (λ (k : ℕ). first_equal table (first_row table p) ≤ k) (sym first) low);
 }
 
 pub table_of : (rows : List TableRow) (marks entries : List Bool) (pulse : Bool) →

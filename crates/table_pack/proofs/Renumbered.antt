@@ -95,7 +95,8 @@ gathered_more keep old i rows to row n stored g is room row_is n_is =
             ∙ g.row p before is_p)
       ];
       number = λ p low is_p. elim (last_or_before p i low) [
-        | inl last ↦ ap (λ (k : ℕ). get_or (set to (i + 1) n) k 0) last ∙ get_or-set_same to (i + 1) n 0 (subst (λ (k : ℕ). i + 1 < k) (sym g.long) room)
+        | inl last ↦ ap (λ (k : ℕ). get_or (set to (i + 1) n) k 0) last
+            ∙ get_or-set_same to (i + 1) n 0 (subst (λ (k : ℕ). i + 1 < k) (sym g.long) room)
             ∙ n_is ∙ sum (length rows) (rank keep i) (rank keep (i + 1)) count e ∙ ap (rank keep) (sym last)
         | inr before ↦ get_or-set_other to (i + 1) p n 0 (λ (z : p ≡ i + 1). absurd (omega arith)) ∙ g.number p before is_p
       ];

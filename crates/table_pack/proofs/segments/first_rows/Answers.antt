@@ -10,7 +10,8 @@ pub loop-index-preserved : goal.loop-index-preserved
 loop-index-preserved c = λ table is.
     walked_read table c.args.rows.now c.args.marks.now c.args.pulse c.loop-index.index c.loop-index.firsts
     c.loop-index.first c.first_from-first.result c.loop-index.goes_on c.goes_on_behind-goes_on.result c.row_at.result is
-    (c.loop-index.invariant table is) (omega (arith, c.loop-index-test.true)) c.first_from-first.ensures c.goes_on_behind-goes_on.ensures c.row_at.ensures
+    (c.loop-index.invariant table is) (omega (arith, c.loop-index-test.true)) c.first_from-first.ensures
+    c.goes_on_behind-goes_on.ensures c.row_at.ensures
 
 pub returns : goal.returns
 returns c = λ table is.
