@@ -18,7 +18,7 @@ import sys
 import tempfile
 
 TOP = os.path.dirname(os.path.dirname(os.path.abspath(__file__)))
-CRATES = ["base", "song_model", "packed_form"]
+CRATES = ["base", "song_model", "play_model", "packed_form"]
 PROGRAM = r"""
 #![tactic(auto)]
 
@@ -113,7 +113,8 @@ def answers_of(cases):
     """What the program answers, a line for each case."""
     with tempfile.TemporaryDirectory() as folder:
         with open(os.path.join(folder, "crates.txt"), "w") as file:
-            file.write("base:\nsong_model: base\npacked_form: base song_model arrayvec\n")
+            with open(os.path.join(TOP, "crates.txt")) as all_crates:
+                file.writelines(line for line in all_crates if line.split(":")[0] in CRATES)
             file.write("compare: base song_model packed_form\n")
         for crate in CRATES:
             shutil.copytree(os.path.join(TOP, "crates", crate), os.path.join(folder, "crates", crate))
