@@ -2,7 +2,6 @@
 use Rattle.std.proofs.Common.{◌≡◌, ℕ, ◌+◌, ◌≤◌, List, [], ◌∷◌, ◌++◌, length, map, take, drop, sum, Option, Some, None, refl, sym, ap, ◌∙◌, subst, lit≤, arith}
 use Rattle.std.proofs.lemmas.List.{append-nil, length-append, take-append-drop, take-append-le, take-take, drop-append-le, length-drop, take_all, take_at, drop_at}
 use Rattle.std.proofs.lemmas.List.Sums.{sum_by-cons}
-use Rattle.song_model.specs.declared.rows.Row.{Row}
 use Rattle.edit_ops.specs.declared.edits.Edit.{Edit}
 use Rattle.edit_ops.specs.declared.edits.Edit.TheVariants.{SetRow, InsertRow, DeleteRow, SetLength, CopyPattern, TransposePattern, SetOrder, InsertOrder, DeleteOrder, SetRestart, SetInstrument, SetInstrumentName, SetTable, InsertTable, DeleteTable, SetText, AddSubtune, RemoveSubtune, SetPatternCount}
 use Rattle.edit_script.specs.declared.commands.Action.{Action}
@@ -117,7 +116,8 @@ word_made keyword.Row bytes = refl
 word_made k bytes = refl
 
 -- with six bytes or more, whether or not the others are there
-arguments_made : (k : Keyword) (a b c d e f : ℕ) (rest : List ℕ) → (form_of (made k (a ∷ b ∷ c ∷ d ∷ e ∷ f ∷ rest))).arguments
+arguments_made : (k : Keyword) (a b c d e f : ℕ) (rest : List ℕ) →
+    (form_of (made k (a ∷ b ∷ c ∷ d ∷ e ∷ f ∷ rest))).arguments
     ≡ cut (sizes_of k) (a ∷ b ∷ c ∷ d ∷ e ∷ f ∷ rest)
 unfolding sizes_of made
 arguments_made keyword.Row a b c d e f rest = refl

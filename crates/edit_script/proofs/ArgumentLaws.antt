@@ -1,9 +1,9 @@
 -- Arguments are read as they are spelled, and spelled as they are read.
 use borrow.Rule.Slice.PartMut.{put_mid}
-use Rattle.std.proofs.Common.{◌≡◌, ℕ, ◌+◌, ◌-◌, ◌*◌, ◌<◌, ◌≤◌, Bool, true, false, ◌&&◌, cond, eqb, leb, get_or, List, [], ◌∷◌, ◌++◌, length, map, take, drop, sum, Option, Some, None, Result, Ok, Err, refl, sym, ap, ◌∙◌, subst, inl, inr, arith}
+use Rattle.std.proofs.Common.{◌≡◌, ℕ, ◌+◌, ◌-◌, ◌*◌, ◌<◌, ◌≤◌, Bool, true, false, ◌&&◌, cond, eqb, leb, get_or, List, [], ◌∷◌, ◌++◌, length, map, take, drop, sum, Option, Some, None, Result, Ok, Err, refl, sym, ap, ◌∙◌, arith}
 use Rattle.std.specs.List.{flat_map}
 use Rattle.std.specs.Result.{MatchResult, result_ok}
-use Rattle.std.proofs.lemmas.Bool.{eqb-true, eq-eqb, ne_eqb, leb-true, le-leb, lt-leb}
+use Rattle.std.proofs.lemmas.Bool.{eqb-true, eq-eqb, ne_eqb, le-leb, lt-leb}
 use Rattle.std.proofs.lemmas.Slice.{take-put_mid}
 use Rattle.std.proofs.lemmas.List.{append-nil, append_assoc, length-append, length-take, length-take-le, length-drop, take-append-drop, take_at, drop_at, drop_all, drop_more}
 use Rattle.std.proofs.lemmas.List.Sums.{sum_by-cons}
@@ -38,7 +38,8 @@ abbrev with_rest : List ℕ → List ℕ → Option (List ℕ × List ℕ)
 with_rest rest read = Some (read, rest)
 
 -- what was tested and decoded
-record HasPassed (space fits : Bool) (decoded : Result (List ℕ) FromHexError) (behind bytes rest : List ℕ) : Type 0 where
+record HasPassed (space fits : Bool) (decoded : Result (List ℕ) FromHexError)
+    (behind bytes rest : List ℕ) : Type 0 where
   is_space : space ≡ true
   is_long : fits ≡ true
   is_decoded : decoded ≡ Ok bytes

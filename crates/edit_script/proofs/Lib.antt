@@ -10,3 +10,5 @@ mod ScriptLaws
 mod TextLaws
 -- Inner: the fold over commands, and what a text makes of a song.
 mod RunLaws
+-- Inner: what reads and runs texts that are written out.
+mod OnTexts

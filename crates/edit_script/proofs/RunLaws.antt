@@ -36,13 +36,15 @@ pub fold_step : (history middle after : History) (earlier : List Command) (comma
     fold_of history earlier ≡ Ok middle → after_action middle command.action ≡ Ok after →
     fold_of history (earlier ++ command ∷ []) ≡ Ok after
 fold_step history middle after earlier command done step =
-    fold_goes_on history middle earlier (command ∷ []) done ∙ ap (λ s. fold_on middle command.line s (λ h. fold_of h [])) step
+    fold_goes_on history middle earlier (command ∷ []) done
+    ∙ ap (λ s. fold_on middle command.line s (λ h. fold_of h [])) step
 
 pub fold_stops : (history middle : History) (earlier later : List Command) (command : Command) (kind : RunKind) →
     fold_of history earlier ≡ Ok middle → after_action middle command.action ≡ Err kind →
     fold_of history (earlier ++ command ∷ later) ≡ Err (record { line = command.line; kind = kind; before = middle })
 fold_stops history middle earlier later command kind done step =
-    fold_goes_on history middle earlier (command ∷ later) done ∙ ap (λ s. fold_on middle command.line s (λ h. fold_of h later)) step
+    fold_goes_on history middle earlier (command ∷ later) done
+    ∙ ap (λ s. fold_on middle command.line s (λ h. fold_of h later)) step
 
 -- ---- the loop over commands
 
@@ -50,12 +52,14 @@ pub step_in : (start now after : History) (commands : List Command) (i : ℕ) (d
     fold_of start (take i commands) ≡ Ok now → after_action now (get_or commands i d).action ≡ Ok after →
     fold_of start (take (i + 1) commands) ≡ Ok after
 step_in start now after commands i d lt done step =
-    ap (fold_of start) (take_more commands i d lt) ∙ fold_step start now after (take i commands) (get_or commands i d) done step
+    ap (fold_of start) (take_more commands i d lt)
+    ∙ fold_step start now after (take i commands) (get_or commands i d) done step
 
 parts_at : (commands : List Command) (i : ℕ) (d : Command) → i < length commands →
     commands ≡ take i commands ++ get_or commands i d ∷ drop (i + 1) commands
 parts_at commands i d lt =
-    sym (take-append-drop i commands) ∙ ap (λ (more : List Command). take i commands ++ more) (drop_more commands i d lt)
+    sym (take-append-drop i commands)
+    ∙ ap (λ (more : List Command). take i commands ++ more) (drop_more commands i d lt)
 
 pub stopped_in : (start now after : History) (commands all : List Command) (i : ℕ) (d : Command) (kind : RunKind) →
     commands ≡ all → i < length commands → after ≡ now → fold_of start (take i commands) ≡ Ok now →

@@ -100,7 +100,8 @@ same_commands (something {number} {line} a spells more) (something b spells2 mor
 
 pub lines_join : {number : ℕ} {xs ys : List (List ℕ)} {c d : List Command} → LinesGive number xs c →
     LinesGive (number + length xs) ys d → LinesGive number (xs ++ ys) (c ++ d)
-lines_join {number} {ys} {d} none more = subst (λ n. LinesGive n ys d) (let z : number + 0 ≡ number = omega arith in z) more
+lines_join {number} {ys} {d} none more =
+    let z : number + 0 ≡ number = omega arith in subst (λ n. LinesGive n ys d) z more
 lines_join {number} {ys} {d} (nothing {others} says rest) more =
     let z : number + suc (length others) ≡ number + 1 + length others = omega arith in
     nothing says (lines_join rest (subst (λ n. LinesGive n ys d) z more))

@@ -1,9 +1,8 @@
 -- The first line of a text, and the steps of the loop over lines.
-use Rattle.std.proofs.Common.{◌≡◌, ℕ, ◌+◌, ◌<◌, ◌≤◌, Bool, true, false, eqb, ltb, List, [], ◌∷◌, ◌++◌, length, take, drop, get_or, Option, Some, None, Ok, Err, position, refl, sym, ap, ◌∙◌, subst, ◌↔◌, ◌⊎◌, inl, inr, arith}
+use Rattle.std.proofs.Common.{◌≡◌, ℕ, ◌+◌, ◌<◌, ◌≤◌, Bool, true, false, eqb, ltb, List, [], ◌∷◌, ◌++◌, length, take, drop, get_or, Some, None, Ok, Err, position, refl, sym, ap, ◌∙◌, subst, ◌↔◌, ◌⊎◌, inl, inr, arith}
 use Rattle.std.proofs.lemmas.Bool.{cases_lt, lt-ltb, le-ltb, eqb-true, eq-eqb, ne_eqb}
 use Rattle.std.proofs.lemmas.List.Sums.{fails_before_first}
-use Rattle.std.proofs.lemmas.Slice.{between_to_end}
-use Rattle.std.specs.List.{All, slice_split, count_by, position_or_len, before_first, after_first}
+use Rattle.std.specs.List.{All, slice_split, position_or_len, before_first, after_first}
 use Rattle.std.specs.Str.Lines.{lines, lines_of_parts, strip_carriage_return}
 use Rattle.std.proofs.lemmas.List.{append-nil, append_assoc, length-append, get_or_at, get_or_append_left, nil_from_length}
 use Rattle.std.proofs.lemmas.List.Splits.{slice_split_none, slice_split_first, length-slice_split}
@@ -33,7 +32,8 @@ found_at test text place e = elim (cases_lt (position_or_len test text) (length 
       let holds : ltb (position_or_len test text) (length text) ≡ true = lt-ltb _ _ lt in
       let same : place ≡ position_or_len test text = cc (rw holds at e) in
       record { is = sym same; inside = omega (arith, same, lt) }
-  | inr ge ↦ let never : ltb (position_or_len test text) (length text) ≡ false = le-ltb _ _ ge in absurd (cc (rw never at e))
+  | inr ge ↦
+      let never : ltb (position_or_len test text) (length text) ≡ false = le-ltb _ _ ge in absurd (cc (rw never at e))
 ]
 
 pub found_nowhere : (test : ℕ → Bool) (text : List ℕ) → None ≡ position test text →

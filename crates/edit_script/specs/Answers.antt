@@ -1,5 +1,5 @@
 -- How the answer of a call stands to what is wanted.
-use Rattle.std.specs.Prelude.{◌≡◌, ◌⊎◌, ℕ, List, [], ◌∷◌, ◌++◌, Result, Ok, Err}
+use Rattle.std.specs.Prelude.{◌≡◌, ◌⊎◌, ℕ, List, [], ◌∷◌, ◌++◌, Result, Err}
 use Rattle.edit_script.specs.declared.commands.Command.{Command}
 use Rattle.edit_script.specs.declared.faults.ScriptFault.{ScriptFault}
 use Rattle.edit_script.specs.declared.faults.ScriptFault.TheVariants.{NoMemory}

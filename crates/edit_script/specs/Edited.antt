@@ -1,5 +1,5 @@
 -- What a text makes of a song, and what is told where it makes nothing of it.
-use Rattle.std.specs.Prelude.{◌≡◌, ℕ, List, [], ◌∷◌, ◌++◌, Ok, Err, codes, decimal}
+use Rattle.std.specs.Prelude.{◌≡◌, ℕ, List, ◌++◌, Ok, Err, codes, decimal}
 use Rattle.song_model.specs.declared.songs.Song.{Song}
 use Rattle.edit_history.specs.History.{History, begun, song_of}
 use Rattle.edit_script.specs.declared.commands.Command.{Command}

@@ -1,7 +1,6 @@
 -- The forms of the lines that say what is to be done: a word, and arguments of one byte or more. This project's own
 -- table of them.
 use Rattle.std.specs.Prelude.{ℕ, List, [], ◌∷◌, codes, map}
-use Rattle.song_model.specs.declared.rows.Row.{Row}
 use Rattle.edit_ops.specs.declared.edits.Edit.{Edit}
 use Rattle.edit_ops.specs.declared.edits.Edit.TheVariants.{SetRow, InsertRow, DeleteRow, SetLength, CopyPattern, TransposePattern, SetOrder, InsertOrder, DeleteOrder, SetRestart, SetInstrument, SetInstrumentName, SetTable, InsertTable, DeleteTable, SetText, AddSubtune, RemoveSubtune, SetPatternCount}
 use Rattle.edit_script.specs.declared.commands.Action.{Action}

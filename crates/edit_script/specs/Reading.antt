@@ -1,5 +1,5 @@
 -- How a line is read: its word, its arguments by their sizes, and what the two make.
-use Rattle.std.specs.Prelude.{ℕ, ◌+◌, ◌*◌, ◌==◌, ◌&&◌, nat_le, if◌then◌else◌, List, [], ◌∷◌, ◌++◌, length, map, take, drop, slice_index, Option, Some, None}
+use Rattle.std.specs.Prelude.{ℕ, ◌*◌, ◌==◌, ◌&&◌, nat_le, if◌then◌else◌, List, [], ◌∷◌, ◌++◌, length, map, take, drop, slice_index, Option, Some, None}
 use Rattle.std.specs.Result.{result_ok}
 use Rattle.std.specs.List.{position_or_len, find}
 use Rattle.std.specs.Str.{bytes_eq}

@@ -23,4 +23,5 @@ pub record HasOneBadLine (text : List ℕ) (number : ℕ) : Type 0 where
 -- each text is one script or has one first bad line
 abbrev pub OneScriptOrOneBadLine : Type 0
 OneScriptOrOneBadLine =
-    (text : List ℕ) → ((commands : List Command) × IsOneScript text commands) ⊎ ((number : ℕ) × HasOneBadLine text number)
+    (text : List ℕ) → ((commands : List Command) × IsOneScript text commands)
+    ⊎ ((number : ℕ) × HasOneBadLine text number)

@@ -1,5 +1,5 @@
 -- What texts make of a song, worked out by hand.
-use Rattle.std.specs.Prelude.{◌≡◌, ℕ, List, [], ◌∷◌, ◌++◌, codes}
+use Rattle.std.specs.Prelude.{ℕ, List, [], ◌∷◌, ◌++◌, codes}
 use Rattle.song_model.specs.Silence.{empty_song}
 use Rattle.edit_script.specs.Edited.{IsEditedBy, FailsAt}
 

@@ -1,10 +1,8 @@
 -- Lines and scripts that were worked out by hand.
-use Rattle.std.specs.Prelude.{◌≡◌, ℕ, List, [], ◌∷◌, ◌++◌, codes, replicate}
+use Rattle.std.specs.Prelude.{ℕ, List, [], ◌∷◌, ◌++◌, codes, replicate}
 use Rattle.edit_ops.specs.declared.edits.Edit.{Edit}
 use Rattle.edit_ops.specs.declared.edits.Edit.TheVariants.{SetRow, InsertTable, SetInstrumentName, SetText, DeleteRow, AddSubtune}
-use Rattle.edit_script.specs.declared.commands.Action.{Action}
 use Rattle.edit_script.specs.declared.commands.Action.TheVariants as action
-use Rattle.edit_script.specs.declared.commands.Command.{Command}
 use Rattle.edit_script.specs.Spells.{Spells, IsLine}
 use Rattle.edit_script.specs.Scripts.{IsScript, IsFirstBadLine}
 

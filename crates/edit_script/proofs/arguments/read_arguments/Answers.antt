@@ -1,4 +1,4 @@
-use Rattle.std.proofs.Common.{◌≡◌, ◌≤◌, sum, length, refl, sym, ◌∙◌, arith}
+use Rattle.std.proofs.Common.{◌≤◌, sum, length, refl, sym, ◌∙◌, arith}
 use Rattle.std.proofs.lemmas.Bool.{eqb-true, eqb-false}
 use Rattle.edit_script.proofs.ArgumentLaws.{none_read, part_read, part_room, part_fails, all_are_read, some_is_left}
 use Rattle.edit_script.proofs.arguments.read_arguments.Goals as goal
@@ -24,7 +24,8 @@ loop-size-preserved c =
 
 pub returns-in_err-left-clause-read : goal.returns-in_err-left-clause-read
 returns-in_err-left-clause-read c =
-    let fits : sum c.args.sizes.now ≤ length c.loop-size.bytes = omega (arith, c.loop-size.invariant.room, c.requires) in
+    let room = c.loop-size.invariant.room in
+    let fits : sum c.args.sizes.now ≤ length c.loop-size.bytes = omega (arith, room, c.requires) in
     rw c.from_residual.ensures
     (part_fails c.args.sizes.now c.args.text.now c.loop-size.size-index c.loop-size.at c.loop-size.bytes
     c.loop-size.left.now c.loop-size-test.true fits c.in_err-left.ensures c.loop-size.invariant.read)

@@ -1,11 +1,12 @@
-use Rattle.std.proofs.Common.{◌≤◌, length, sum, Some, sym, subst, ap, ◌∙◌, arith}
+use Rattle.std.proofs.Common.{◌≤◌, sum, Some, sym, subst, ap, ◌∙◌, arith}
 use Rattle.edit_script.proofs.ActionLaws.{action_read, no_word_read, no_arguments_read, sizes_fit}
 use Rattle.edit_script.proofs.words.action_of.Goals as goal
 
 pub returns-in_err-keyword : goal.returns-in_err-keyword
 returns-in_err-keyword c =
     c.from_residual.ensures
-    ∙ sym (no_word_read c.args.line.now c.split_word.result.0.now c.split_word.ensures.word c.in_err-keyword.ensures.none)
+    ∙ sym (no_word_read c.args.line.now c.split_word.result.0.now c.split_word.ensures.word
+    c.in_err-keyword.ensures.none)
 
 pub read_arguments-requires : goal.read_arguments-requires
 read_arguments-requires c =
