@@ -3,6 +3,7 @@
 mod broken;
 mod checking;
 mod copying;
+mod editing;
 mod parts;
 mod running;
 mod tracing;
@@ -65,16 +66,18 @@ fn one_note(alloc: Global) -> Result<Vec<u8>, Fail> {
     song_with(alloc, &ONE_NOTE)
 }
 
-/// A run over a folder with this song as `s0`, whose listed calls fail, and a sink whose listed puts fail.
-fn run_failing(
+/// A run over a folder with these files, whose listed calls fail, and a sink whose listed puts fail.
+fn run_over(
     alloc: Global,
     words: &[&str],
-    song: &[u8],
+    files: &[(&str, &[u8])],
     calls: &[u32],
     puts: &[u32],
 ) -> Result<Answer, Fail> {
     let mut folder = MemFolder::new(alloc, calls.to_vec(alloc)?);
-    folder.add("s0", song)?;
+    for (name, bytes) in files {
+        folder.add(name, bytes)?;
+    }
     let mut out = MemSink::new(alloc, puts.to_vec(alloc)?);
     let mut owned = Vec::new(alloc);
     for word in words {
@@ -90,6 +93,17 @@ fn run_failing(
         text: out.bytes().to_vec(alloc)?,
         output,
     })
+}
+
+/// A run over a folder with this song as `s0`, whose listed calls fail, and a sink whose listed puts fail.
+fn run_failing(
+    alloc: Global,
+    words: &[&str],
+    song: &[u8],
+    calls: &[u32],
+    puts: &[u32],
+) -> Result<Answer, Fail> {
+    run_over(alloc, words, &[("s0", song)], calls, puts)
 }
 
 /// A run on whole devices.

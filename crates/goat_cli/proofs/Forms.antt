@@ -7,7 +7,7 @@ use Rattle.std.specs.Str.{bytes_eq}
 use Rattle.base.proofs.Laws.{same_head}
 use Rattle.play_model.specs.declared.options.Options.{Options}
 use Rattle.play_model.specs.Speeds.{IsSpeed}
-use Rattle.goat_cli.specs.Words.{Job, Pack, Copy, Check, Trace, Run, texts, format_word, skip_word, IsAddressWord, IsZeroPageWord, IsNumberWord, IsSpeedWord, AreOptionWords, unsaid, said, ArePackArguments, AreTraceArguments}
+use Rattle.goat_cli.specs.Words.{Job, Pack, Copy, Edit, Check, Trace, Run, texts, format_word, skip_word, IsAddressWord, IsZeroPageWord, IsNumberWord, IsSpeedWord, AreOptionWords, unsaid, said, ArePackArguments, AreTraceArguments}
 use Rattle.goat_cli.specs.Jobs.{WordsOf, command_of}
 
 -- ---- a list of five words
@@ -201,6 +201,8 @@ one_job ws (Pack i o f a z) (Pack i2 o2 f2 a2 z2) p q =
 one_job ws (Pack i o f a z) other p q = absurd (differ ws (Pack i o f a z) other p q refl refl)
 one_job ws (Copy i o) (Copy i2 o2) p q = cc (p.words_are, q.words_are, p.are_arguments.0, q.are_arguments.0)
 one_job ws (Copy i o) other p q = absurd (differ ws (Copy i o) other p q refl refl)
+one_job ws (Edit i s o) (Edit i2 s2 o2) p q = cc (p.words_are, q.words_are, p.are_arguments.0, q.are_arguments.0)
+one_job ws (Edit i s o) other p q = absurd (differ ws (Edit i s o) other p q refl refl)
 one_job ws (Check i) (Check i2) p q = cc (p.words_are, q.words_are, p.are_arguments.0, q.are_arguments.0)
 one_job ws (Check i) other p q = absurd (differ ws (Check i) other p q refl refl)
 one_job ws (Trace i s n o) (Trace i2 s2 n2 o2) p q =

@@ -4,6 +4,7 @@ mod Calls
 mod Chains
 mod Digits
 mod Due
+mod Edited
 mod Ends
 mod FaithfulSilence
 mod Forms
@@ -15,5 +16,6 @@ mod PlayedFiles
 mod Printed
 mod Reading
 mod Room
+mod SecondFile
 mod Told
 mod Traced

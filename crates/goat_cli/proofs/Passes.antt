@@ -6,13 +6,15 @@ use Rattle.song_model.specs.LookUp.{IsNumbered, playable_subtunes}
 use Rattle.song_model.specs.Silent.{IsSilent}
 use Rattle.gts5.specs.Spells.{Spells}
 use Rattle.gts5.specs.Faults.{fault_of}
+use Rattle.edit_script.specs.Edited.{IsEditedBy, FailsAt}
+use Rattle.edit_script.proofs.Laws.{edits_in_one_way}
 use Rattle.psid.specs.declared.header.Psid.{Psid}
 use Rattle.psid.specs.Reading.{psid_read}
 use Rattle.sid_run.specs.State.{loaded}
 use Rattle.goat_cli.specs.Calls.{HasSubtune, FirstCalls, MeetsStopAt, StopsIn}
 use Rattle.goat_cli.specs.RegisterText.{register_lines}
-use Rattle.goat_cli.specs.Lines.{song_fault_line, unplayable_line, psid_fault_line, no_subtune_line, stop_line}
-use Rattle.goat_cli.specs.Stages.{Stage, IsThere, Fits, SpellsSong, CanBePlayed, CanBePacked, HasPlayableSubtune, IsPsid, OffersSubtune, CallsReturn, HoldsSong, HoldsPsid, IsMet, Ends, Passes}
+use Rattle.goat_cli.specs.Lines.{song_fault_line, unplayable_line, psid_fault_line, no_subtune_line, script_line, stop_line}
+use Rattle.goat_cli.specs.Stages.{Stage, IsThere, Fits, SpellsSong, CanBePlayed, CanBePacked, HasPlayableSubtune, CanBeEdited, IsPsid, OffersSubtune, CallsReturn, HoldsSong, HoldsPsid, IsMet, Ends, Passes}
 use Rattle.play_model.specs.Playable.{IsPlayable, IsRefusedFor}
 use Rattle.play_model.proofs.Laws.{refused_or_playable_lem}
 use Rattle.usage.proofs.Laws.{one_refusal}
@@ -93,6 +95,26 @@ module _ (files : Files) where
   stage_facts (CanBePacked name) = record {
     passes = λ met lines ends. ends.2 (subst IsSilent (one_song_held files name met.0 ends.0 met.1 ends.1) met.2);
     once = λ lines others p q. p.3 ∙ sym q.3;
+  }
+  stage_facts (CanBeEdited name script) = record {
+    passes = λ met lines ends.
+        let is = met.2 in
+        let fails = ends.4 in
+        let same = one_song_held files name met.0 ends.0 is.holds ends.3 in
+        let text = one_file files script is.text fails.text is.found fails.found in
+        edits_in_one_way.never_both fails.text ends.0 met.1 ends.1 ends.2
+        (subst (λ bytes. IsEditedBy bytes ends.0 met.1) text (subst (λ song. IsEditedBy is.text song met.1) same is.edited))
+        fails.fails;
+    once = λ lines others p q.
+        let one = p.4 in
+        let other = q.4 in
+        let same = one_song_held files name p.0 q.0 p.3 q.3 in
+        let text = one_file files script one.text other.text one.found other.found in
+        let both = edits_in_one_way.one_failure other.text q.0 p.1 q.1 p.2 q.2
+        (subst (λ bytes. FailsAt bytes q.0 p.1 p.2) text (subst (λ song. FailsAt one.text song p.1 p.2) same one.fails))
+        other.fails in
+        p.5 ∙ ap (λ number. script_line number p.2 ∷ []) both.0 ∙ ap (λ words. script_line q.1 words ∷ []) both.1
+        ∙ sym q.5;
   }
   stage_facts (HasPlayableSubtune name subtune) = record {
     passes =

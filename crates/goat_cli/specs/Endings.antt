@@ -1,15 +1,16 @@
 -- What the parts of the top call promise each other: how a stage, a job, and a run but for its last line end.
-use Rattle.std.specs.Prelude.{◌≡◌, ℕ, ◌+◌, ◌≤◌, List, [], ◌∷◌, ◌++◌, Some, length, take}
+use Rattle.std.specs.Prelude.{◌≡◌, ◌≢◌, ℕ, ◌+◌, ◌≤◌, List, [], ◌∷◌, ◌++◌, Some, length, take}
 use Rattle.std.specs.List.{concat}
 use Rattle.goat_io.specs.Files.{Files, file_of, told_with_file, IsAbsent, IsAbove, IsWrittenInPart}
 use Rattle.song_model.specs.declared.songs.Song.{Song}
 use Rattle.gts5.specs.Spells.{Spells}
+use Rattle.edit_script.specs.Edited.{FailsAt}
 use Rattle.cpu6502.specs.declared.machine.Machine.{Machine}
 use Rattle.cpu6502.specs.declared.stop.CallStop.{CallStop}
 use Rattle.sid_run.specs.State.{RunnerState}
 use Rattle.goat_cli.specs.Calls.{FirstCalls, MeetsStopAt}
 use Rattle.goat_cli.specs.RegisterText.{register_lines}
-use Rattle.goat_cli.specs.Lines.{missing_line, too_long_line, read_fault_line, write_fault_line, stop_line, wrote_line}
+use Rattle.goat_cli.specs.Lines.{missing_line, too_long_line, read_fault_line, write_fault_line, script_line, stop_line, wrote_line}
 use Rattle.goat_cli.specs.Last.{Last, Says, SaysNothing, SinkFailed, Wants}
 use Rattle.goat_cli.specs.Words.{Job}
 use Rattle.goat_cli.specs.Stages.{Stage, SpellsSong, Ends, status_of, input_limit}
@@ -48,11 +49,36 @@ pub record SongWasRead (name : List ℕ) (before after : FolderState) (song : So
   pub was : WasRead name input_limit before after bytes
   pub spells : Spells bytes song
 
+-- with these bytes
+pub record SpellingWasRead (name : List ℕ) (before after : FolderState) (song : Song) (bytes : List ℕ) : Type 0 where
+  pub read : SongWasRead name before after song
+  pub bytes_are : bytes ≡ read.bytes
+
 -- it was not: the file was not read, or what was read spells no song
 pub data SongFails (name : List ℕ) (before after : FolderState) (last : Last) : Type 0 where
   unread : ReadFails name input_limit before after last → SongFails name before after last
   unspelled : (bytes : List ℕ) (was : WasRead name input_limit before after bytes) →
       Refuses was.files (SpellsSong name) last → SongFails name before after last
+
+-- the song in a file was read, and the bytes of another file; a file that is both is read once
+pub data BothWereRead (name other : List ℕ) (limit : ℕ) (before after : FolderState) (song : Song)
+    (text : List ℕ) : Type 0 where
+  once : SpellingWasRead name before after song text → other ≡ name →
+      BothWereRead name other limit before after song text
+  each : (between : FolderState) → SongWasRead name before between song → other ≢ name →
+      WasRead other limit between after text → BothWereRead name other limit before after song text
+
+-- they were not: the song fails, or it was read and the other file was not
+pub data BothFail (name other : List ℕ) (limit : ℕ) (before after : FolderState) (last : Last) : Type 0 where
+  first : SongFails name before after last → BothFail name other limit before after last
+  second : {song : Song} (between : FolderState) → SongWasRead name before between song → other ≢ name →
+      ReadFails other limit between after last → BothFail name other limit before after last
+
+-- a script fails on a song at one of its lines, or the run is out of memory
+pub data EditFails (text : List ℕ) (song : Song) (last : Last) : Type 0 where
+  fails : (number : ℕ) (words : List ℕ) → FailsAt text song number words → last ≡ Says 8 (script_line number words) →
+      EditFails text song last
+  wanting : last ≡ Wants → EditFails text song last
 
 -- a file was written, or not
 pub data WriteEnds (name bytes : List ℕ) (before after : FolderState) (last : Last) : Type 0 where

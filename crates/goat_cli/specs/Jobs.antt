@@ -10,8 +10,8 @@ use Rattle.usage.specs.Parts.{AreUsedParts}
 use Rattle.psid.specs.declared.header.Psid.{Psid}
 use Rattle.cpu6502.specs.declared.machine.Machine.{Machine}
 use Rattle.sid_run.specs.State.{loaded}
-use Rattle.goat_cli.specs.Words.{Job, Pack, Copy, Check, Trace, Run, ArePackArguments, AreTraceArguments, AreRunArguments}
-use Rattle.goat_cli.specs.Stages.{Stage, IsThere, Fits, SpellsSong, CanBePlayed, CanBePacked, HasPlayableSubtune, IsPsid, OffersSubtune, CallsReturn, HoldsSong, HoldsPsid, input_limit}
+use Rattle.goat_cli.specs.Words.{Job, Pack, Copy, Edit, Check, Trace, Run, ArePackArguments, AreTraceArguments, AreRunArguments}
+use Rattle.goat_cli.specs.Stages.{Stage, IsThere, Fits, SpellsSong, CanBePlayed, CanBePacked, HasPlayableSubtune, CanBeEdited, IsPsid, OffersSubtune, CallsReturn, HoldsSong, HoldsPsid, IsEditedIn, input_limit, script_limit}
 use Rattle.goat_cli.specs.Packed.{IsPackedFile}
 use Rattle.goat_cli.specs.Calls.{FirstCalls}
 use Rattle.goat_cli.specs.RegisterText.{register_lines}
@@ -53,6 +53,15 @@ about (Copy input output) = record {
   has_arguments = λ words. (words ≡ input ∷ output ∷ []) × (input ≢ []) × (output ≢ []);
   stages = IsThere input ∷ Fits input input_limit ∷ SpellsSong input ∷ [];
   does = WritesFile output (λ files file. (song : Song) × HoldsSong files input song × (file ≡ canonical song));
+}
+-- of a song that a script has edited the canonical spelling is written; the arguments are `IN SCRIPT OUT`
+about (Edit input script output) = record {
+  command = codes "edit";
+  has_arguments = λ words. (words ≡ input ∷ script ∷ output ∷ []) × (input ≢ []) × (script ≢ []) × (output ≢ []);
+  stages = IsThere input ∷ Fits input input_limit ∷ SpellsSong input ∷ IsThere script ∷ Fits script script_limit ∷
+      CanBeEdited input script ∷ [];
+  does = WritesFile output (λ files file. (song : Song) × (after : Song) × IsEditedIn files input script song after ×
+      (file ≡ canonical after));
 }
 -- of a song it is told what it uses; the argument is `IN`
 about (Check input) = record {

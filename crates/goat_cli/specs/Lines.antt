@@ -112,6 +112,10 @@ check_line subtunes parts =
     codes " filter " ∷ decimal (count_of parts.filter) ∷ codes " speed " ∷ decimal (count_of parts.speed) ∷
     codes " features " ∷ feature_digits parts.features.0 ∷ [])
 
+-- for a line of a script that can't be done, with the cause
+abbrev pub script_line : ℕ → List ℕ → List ℕ
+script_line number words = line (codes "script line " ∷ decimal number ∷ codes ": " ∷ words ∷ [])
+
 -- for a file of this length
 abbrev pub wrote_line : ℕ → List ℕ
 wrote_line count = line (codes "wrote " ∷ decimal count ∷ codes " bytes" ∷ [])

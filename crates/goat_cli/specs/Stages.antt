@@ -11,6 +11,7 @@ use Rattle.gts5.specs.Spells.{Spells}
 use Rattle.gts5.specs.Faults.{fault_of}
 use Rattle.play_model.specs.declared.unplayable.Unplayable.{Unplayable}
 use Rattle.play_model.specs.Playable.{IsPlayable, IsRefusedFor}
+use Rattle.edit_script.specs.Edited.{IsEditedBy, FailsAt}
 use Rattle.psid.specs.declared.header.Psid.{Psid}
 use Rattle.psid.specs.declared.faults.PsidFault.{PsidFault}
 use Rattle.psid.specs.Reading.{psid_read}
@@ -18,11 +19,15 @@ use Rattle.cpu6502.specs.declared.machine.Machine.{Machine}
 use Rattle.sid_run.specs.State.{loaded}
 use Rattle.goat_cli.specs.Calls.{HasSubtune, FirstCalls, StopsIn}
 use Rattle.goat_cli.specs.RegisterText.{register_lines}
-use Rattle.goat_cli.specs.Lines.{missing_line, too_long_line, song_fault_line, unplayable_line, not_built_line, psid_fault_line, no_subtune_line, stop_line}
+use Rattle.goat_cli.specs.Lines.{missing_line, too_long_line, song_fault_line, unplayable_line, not_built_line, script_line, psid_fault_line, no_subtune_line, stop_line}
 
 -- the most bytes of a song or a PSID file
 abbrev pub input_limit : ℕ
 input_limit = 262144
+
+-- the most bytes of a script
+abbrev pub script_limit : ℕ
+script_limit = 1048576
 
 -- a condition of the files as they are before the run
 pub data Stage : Type 0 where
@@ -32,6 +37,7 @@ pub data Stage : Type 0 where
   CanBePlayed : (name : List ℕ) → Stage
   CanBePacked : (name : List ℕ) → Stage
   HasPlayableSubtune : (name : List ℕ) (subtune : ℕ) → Stage
+  CanBeEdited : (name script : List ℕ) → Stage
   IsPsid : (name : List ℕ) → Stage
   OffersSubtune : (name : List ℕ) (subtune : ℕ) → Stage
   CallsReturn : (name : List ℕ) (subtune frames : ℕ) → Stage
@@ -49,6 +55,19 @@ pub record HoldsPsid (files : Files) (name : List ℕ) (psid : Psid) : Type 0 wh
   pub bytes : List ℕ
   pub found : HoldsBytes files name bytes
   pub reads : psid_read bytes ≡ Ok psid
+
+-- the file with the name spells the song, and the script in the other file makes another song of it
+pub record IsEditedIn (files : Files) (name script : List ℕ) (song after : Song) : Type 0 where
+  pub holds : HoldsSong files name song
+  pub text : List ℕ
+  pub found : HoldsBytes files script text
+  pub edited : IsEditedBy text song after
+
+-- the script in the file fails on the song at this line
+pub record FailsIn (files : Files) (script : List ℕ) (song : Song) (number : ℕ) (words : List ℕ) : Type 0 where
+  pub text : List ℕ
+  pub found : HoldsBytes files script text
+  pub fails : FailsAt text song number words
 
 -- what a stage asks for, and how it ends a run: the status, the cause, and the lines that are printed. A stage asks
 -- nothing of a file that isn't there, since the stage before it has ended the run then.
@@ -96,6 +115,13 @@ rule_of (CanBePacked name) = record {
   asks = λ files. (song : Song) × HoldsSong files name song × IsSilent song;
   status = 15;
   ends = λ files lines. (song : Song) × HoldsSong files name song × (¬ IsSilent song) × (lines ≡ not_built_line ∷ []);
+}
+-- the script can be done on the song
+rule_of (CanBeEdited name script) = record {
+  asks = λ files. (song : Song) × (after : Song) × IsEditedIn files name script song after;
+  status = 8;
+  ends = λ files lines. (song : Song) × (number : ℕ) × (words : List ℕ) × HoldsSong files name song ×
+      FailsIn files script song number words × (lines ≡ script_line number words ∷ []);
 }
 -- it is a PSID file
 rule_of (IsPsid name) = record {

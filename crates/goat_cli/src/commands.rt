@@ -10,6 +10,8 @@ ghost use Rattle.goat_cli.specs.Words.{HasAllowedNumbers};
 pub mod check;
 /// `copy IN OUT`.
 pub mod copy;
+/// `edit IN SCRIPT OUT`.
+pub mod edit;
 /// `pack IN OUT psid|raw ADDRESS ZP`.
 pub mod pack;
 /// `run IN SUBTUNE FRAMES`.
@@ -19,6 +21,7 @@ pub mod trace;
 
 use crate::commands::check::check_song;
 use crate::commands::copy::copy_song;
+use crate::commands::edit::edit_song;
 use crate::commands::pack::pack_song;
 use crate::commands::run::run_psid;
 use crate::commands::trace::trace_song;
@@ -56,6 +59,11 @@ pub fn perform<'a, F: Folder, K: Sink>(
             ..
         } => pack_song(alloc, input, output, psid, address, folder),
         Job::Copy { input, output } => copy_song(alloc, input, output, folder),
+        Job::Edit {
+            input,
+            script,
+            output,
+        } => edit_song(alloc, input, script, output, folder),
         Job::Check { input } => check_song(alloc, input, folder),
         Job::Trace {
             input,

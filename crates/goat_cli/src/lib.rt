@@ -4,12 +4,12 @@
 //! file; a file that is written holds an image that plays the song that was read, whatever else is in memory. Each
 //! status comes only where its cause does.
 //!
-//! Every song is copied and checked; those that can be played are traced; silent songs are packed, with one fixed
-//! player. PSID files are run.
+//! Every song is copied, edited and checked; those that can be played are traced; silent songs are packed, with one
+//! fixed player. PSID files are run.
 //!
-//! It stands on `goat_io` for folders and sinks, on `gts5` and `song_model` for the song, on `usage` for what a song
-//! uses, on `play_model` for what it sounds like, on `playroutine` for playing it, on `psid` and `sid_run` for PSID
-//! files, and on `cpu6502` and `code_runs` for what machine code does.
+//! It stands on `goat_io` for folders and sinks, on `gts5` and `song_model` for the song, on `edit_history` and
+//! `edit_script` for editing it, on `usage` for what it uses, on `play_model` for what it sounds like, on `playroutine`
+//! for playing it, on `psid` and `sid_run` for PSID files, and on `cpu6502` and `code_runs` for what machine code does.
 #![tactic(auto)]
 
 mod arguments;

@@ -13,9 +13,9 @@ ghost use Rattle.psid.specs.Reading.{psid_read};
 ghost use Rattle.goat_cli.specs.Calls.{HasSubtune};
 ghost use Rattle.goat_cli.specs.Last.{last_of, last_word, Says};
 ghost use Rattle.goat_cli.specs.Lines.{line, song_fault_line, table_word, unplayable_line, no_subtune_line, psid_fault_line};
-ghost use Rattle.goat_cli.specs.Stages.{SpellsSong, CanBePlayed, HasPlayableSubtune, CanBePacked, IsPsid, OffersSubtune, HoldsSong, HoldsPsid, input_limit};
+ghost use Rattle.goat_cli.specs.Stages.{SpellsSong, CanBePlayed, HasPlayableSubtune, CanBePacked, IsPsid, OffersSubtune, HoldsSong, HoldsPsid, input_limit, script_limit};
 ghost use Rattle.goat_cli.specs.Stands.{folder_state};
-ghost use Rattle.goat_cli.specs.Endings.{Refuses, WasRead, ReadFails, SongWasRead, SongFails, WriteEnds};
+ghost use Rattle.goat_cli.specs.Endings.{Refuses, WasRead, ReadFails, SongWasRead, SpellingWasRead, SongFails, BothWereRead, BothFail, WriteEnds};
 
 use crate::message::Piece;
 use crate::refusal::{Refusal, Report};
@@ -31,6 +31,9 @@ use usage::{UsedParts, usage};
 
 /// The most bytes of a song or a PSID file.
 pub const INPUT_LIMIT: u32 = 262_144;
+
+/// The most bytes of a script.
+pub const SCRIPT_LIMIT: u32 = 1_048_576;
 
 /// The bytes of a file.
 ///
@@ -112,9 +115,56 @@ pub fn read_song<'a, F: Folder>(
         (folder_state (F.files folder.old) (F.counts folder.old))
         (folder_state (F.files folder.new) (F.counts folder.new)) (last_of refusal)) }
 {
+    let (song, _bytes) = read_song_and_bytes(alloc, name, folder)?;
+    Ok(song)
+}
+
+/// The song in a file, and the file's bytes.
+///
+/// # Errors
+///
+/// The file isn't read, its bytes break the format of songs, or out of memory.
+fn read_song_and_bytes<'a, F: Folder>(
+    alloc: Global,
+    name: &'a str,
+    folder: &mut F,
+) -> Result<(Song, Vec<u8>), Refusal<'a>>
+    ensures read { IfOk result (λ both. SpellingWasRead name.now
+        (folder_state (F.files folder.old) (F.counts folder.old))
+        (folder_state (F.files folder.new) (F.counts folder.new)) both.0 both.1.items) }
+    ensures refused { IfErr result (λ refusal. SongFails name.now
+        (folder_state (F.files folder.old) (F.counts folder.old))
+        (folder_state (F.files folder.new) (F.counts folder.new)) (last_of refusal)) }
+{
     let bytes = read_file(alloc, name, INPUT_LIMIT, folder)?;
     let song = song_of(alloc, &bytes)?;
-    Ok(song)
+    Ok((song, bytes))
+}
+
+/// The song in one file, and the bytes of another. A file that is both is read once.
+///
+/// # Errors
+///
+/// One of the files isn't read, the first one's bytes break the format of songs, or out of memory.
+pub fn read_song_and_script<'a, F: Folder>(
+    alloc: Global,
+    name: &'a str,
+    script: &'a str,
+    folder: &mut F,
+) -> Result<(Song, Vec<u8>), Refusal<'a>>
+    ensures read { IfOk result (λ both. BothWereRead name.now script.now script_limit
+        (folder_state (F.files folder.old) (F.counts folder.old))
+        (folder_state (F.files folder.new) (F.counts folder.new)) both.0 both.1.items) }
+    ensures refused { IfErr result (λ refusal. BothFail name.now script.now script_limit
+        (folder_state (F.files folder.old) (F.counts folder.old))
+        (folder_state (F.files folder.new) (F.counts folder.new)) (last_of refusal)) }
+{
+    let (song, bytes) = read_song_and_bytes(alloc, name, folder)?;
+    if script == name {
+        return Ok((song, bytes));
+    }
+    let text = read_file(alloc, script, SCRIPT_LIMIT, folder)?;
+    Ok((song, text))
 }
 
 /// The song that the bytes of a file spell.

@@ -7,6 +7,7 @@ ghost use Rattle.goat_cli.specs.Job.{job_of};
 
 use crate::commands::check::check_job;
 use crate::commands::copy::copy_job;
+use crate::commands::edit::edit_job;
 use crate::commands::pack::pack_job;
 use crate::commands::run::run_job;
 use crate::commands::trace::trace_job;
@@ -29,6 +30,13 @@ pub enum Job<'a> {
     /// `copy IN OUT`: write the canonical spelling of the song in the file IN into the file OUT.
     Copy {
         input: &'a str,
+        output: &'a str,
+    },
+    /// `edit IN SCRIPT OUT`: do the script on the song in the file IN, and write the canonical spelling of what it makes
+    /// into the file OUT.
+    Edit {
+        input: &'a str,
+        script: &'a str,
         output: &'a str,
     },
     /// `check IN`: tell what the song in the file IN uses, or why it can't be played.
@@ -76,6 +84,7 @@ pub fn parse_words(words: &[String]) -> Result<Job<'_>, WordsFault>
     match command.as_str() {
         "pack" => pack_job(arguments),
         "copy" => copy_job(arguments),
+        "edit" => edit_job(arguments),
         "check" => check_job(arguments),
         "trace" => trace_job(arguments),
         "run" => run_job(arguments),

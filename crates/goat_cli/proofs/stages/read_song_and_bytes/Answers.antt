@@ -1,7 +1,7 @@
-use Rattle.std.proofs.Common.{Some, sym, ap, ◌∙◌}
+use Rattle.std.proofs.Common.{Some, refl, sym, ap, ◌∙◌}
 use Rattle.std.proofs.lemmas.Result.{err_from_is_err_and}
 use Rattle.goat_cli.specs.Endings as ends
-use Rattle.goat_cli.proofs.stages.read_song.Goals as goal
+use Rattle.goat_cli.proofs.stages.read_song_and_bytes.Goals as goal
 
 pub returns-in_err-bytes-clause-refused : goal.returns-in_err-bytes-clause-refused
 returns-in_err-bytes-clause-refused g c =
@@ -19,7 +19,10 @@ returns-in_err-song-clause-refused g c =
 pub returns-clause-read : goal.returns-clause-read
 returns-clause-read g c =
     record {
-      bytes = _;
-      was = c.in_ok-bytes.ensures.read;
-      spells = rw c.deref.ensures.value at c.in_ok-song.ensures.spells;
+      read = record {
+        bytes = _;
+        was = c.in_ok-bytes.ensures.read;
+        spells = rw c.deref.ensures.value at c.in_ok-song.ensures.spells;
+      };
+      bytes_are = refl;
     }
