@@ -63,7 +63,8 @@ run_fails commands stopped before is (inr fold) wants says = elim (wants_or_not 
 module _ {input script : List ℕ} (output : List ℕ) {text : List ℕ} {folder after : FolderState} {song : Song}
     (both : BothWereRead input script script_limit folder after song text) where
   -- the run has come to the script
-  pub edit_begun : BothBegun (Edit input script output) folder after (CanBeEdited input script ∷ []) input script song text
+  pub edit_begun :
+      BothBegun (Edit input script output) folder after (CanBeEdited input script ∷ []) input script song text
   edit_begun =
       let within : input_limit ≤ script_limit = omega arith in both_begun refl both within
 
@@ -75,7 +76,8 @@ module _ {input script : List ℕ} (output : List ℕ) {text : List ℕ} {folder
       refuses : EditFails text song last → Refuses edit_begun.files (CanBeEdited input script) last
       refuses (ends.fails number words is says) =
           ends.ends (script_line number words)
-          (song, number, words, edit_begun.held, record { text = text; found = edit_begun.found; fails = is }, refl) says
+          (song, number, words, edit_begun.held, record { text = text; found = edit_begun.found; fails = is }, refl)
+        says
       refuses (ends.wanting wants) = ends.wanting wants
 
   module _ {other : Song} (edited : IsEditedBy text song other) where

@@ -97,8 +97,8 @@ module _ {job : Job} {folder after : FolderState} {input other : List ℕ} {limi
     ∷ Fits other limit ∷ rest) where
   module _ {song : Song} (files : Files) (held : HoldsSong files input song) (fits : length held.bytes ≤ input_limit) where
     -- and those of both files
-    both_at : {text : List ℕ} → AreFiles folder.told files → FolderStays folder after → file_of files other ≡ Some text →
-        length text ≤ limit → At job files folder after rest
+    both_at : {text : List ℕ} → AreFiles folder.told files → FolderStays folder after →
+        file_of files other ≡ Some text → length text ≤ limit → At job files folder after rest
     both_at {text} are stays found within = record {
       are_files = are;
       stays = stays;
@@ -154,7 +154,8 @@ module _ {job : Job} {folder after : FolderState} {input other : List ℕ} {limi
   -- ---- what was read, and what was not
 
   -- both were read
-  pub both_begun : {song : Song} {text : List ℕ} → BothWereRead input other limit folder after song text → input_limit ≤ limit →
+  pub both_begun : {song : Song} {text : List ℕ} → BothWereRead input other limit folder after song text →
+      input_limit ≤ limit →
       BothBegun job folder after rest input other song text
   both_begun {song} {text} (ends.once spelling is) within =
       let read = spelling.read in
@@ -166,7 +167,9 @@ module _ {job : Job} {folder after : FolderState} {input other : List ℕ} {limi
         files = read.was.files;
         held = held_in read.was.files read read.was.found;
         found = found;
-        at = both_at read.was.files (held_in read.was.files read read.was.found) read.was.fits read.was.are_files read.was.stays found fits;
+        at =
+            both_at read.was.files (held_in read.was.files read read.was.found) read.was.fits read.was.are_files
+            read.was.stays found fits;
       }
   both_begun (ends.each between read differ was) within =
       let are = subst (λ told. AreFiles told was.files) read.was.stays.told was.are_files in

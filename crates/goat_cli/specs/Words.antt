@@ -39,8 +39,8 @@ abbrev pub subtune_limit : ℕ
 subtune_limit = 255
 
 -- what the program is asked to do: pack the song in one file into another, a PSID file or a raw one; copy it into
--- another file; edit it by a script, into another file; tell what a song uses; trace a song, or run a PSID file: a subtune, counted from 1, and a number of
--- frames, and for a song how it is played
+-- another file; edit it by a script, into another file; tell what a song uses; trace a song, or run a PSID file: a
+-- subtune, counted from 1, and a number of frames, and for a song how it is played
 pub data Job : Type 0 where
   Pack : (input output : List ℕ) (psid : Bool) (address zero_page : ℕ) → Job
   Copy : (input output : List ℕ) → Job
