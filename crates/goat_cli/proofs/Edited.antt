@@ -77,7 +77,7 @@ module _ {input script : List ℕ} (output : List ℕ) {text : List ℕ} {folder
       refuses (ends.fails number words is says) =
           ends.ends (script_line number words)
           (song, number, words, edit_begun.held, record { text = text; found = edit_begun.found; fails = is }, refl)
-        says
+          says
       refuses (ends.wanting wants) = ends.wanting wants
 
   module _ {other : Song} (edited : IsEditedBy text song other) where

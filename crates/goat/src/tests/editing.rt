@@ -36,7 +36,11 @@ fn assert_makes(
     let answer = edit(alloc, script)?;
     assert_eq!(rt; answer.status, 0, "{script}");
     assert_eq!(rt; answer.text.as_slice(), text.as_bytes(), "{script}");
-    assert_eq!(rt; answer.output.ok_or("no file")?, song.file(alloc)?, "{script}");
+    assert_eq!(rt;
+        answer.output.ok_or("no file")?,
+        song.file(alloc)?,
+        "{script}"
+    );
     Ok(())
 }
 
@@ -120,11 +124,7 @@ fn an_edited_song_may_be_unplayable(rt: HostRuntime) -> Result<(), Fail> {
     let alloc = rt.alloc();
     let edited = edit(alloc, "table-delete 00 01")?;
     assert_eq!(rt; edited.status, 0);
-    let answer = run(
-        alloc,
-        &["check", "s0"],
-        &edited.output.ok_or("no file")?,
-    )?;
+    let answer = run(alloc, &["check", "s0"], &edited.output.ok_or("no file")?)?;
     assert_refused(&rt, &answer, 6, "unplayable: wave pointer to jump row 1\n");
     Ok(())
 }
