@@ -66,18 +66,13 @@ fn one_note(alloc: Global) -> Result<Vec<u8>, Fail> {
     song_with(alloc, &ONE_NOTE)
 }
 
-/// A run over a folder with these files, whose listed calls fail, and a sink whose listed puts fail.
+/// A run over a folder, and a sink whose listed puts fail.
 fn run_over(
     alloc: Global,
     words: &[&str],
-    files: &[(&str, &[u8])],
-    calls: &[u32],
+    mut folder: MemFolder,
     puts: &[u32],
 ) -> Result<Answer, Fail> {
-    let mut folder = MemFolder::new(alloc, calls.to_vec(alloc)?);
-    for (name, bytes) in files {
-        folder.add(name, bytes)?;
-    }
     let mut out = MemSink::new(alloc, puts.to_vec(alloc)?);
     let mut owned = Vec::new(alloc);
     for word in words {
@@ -103,7 +98,9 @@ fn run_failing(
     calls: &[u32],
     puts: &[u32],
 ) -> Result<Answer, Fail> {
-    run_over(alloc, words, &[("s0", song)], calls, puts)
+    let mut folder = MemFolder::new(alloc, calls.to_vec(alloc)?);
+    folder.add("s0", song)?;
+    run_over(alloc, words, folder, puts)
 }
 
 /// A run on whole devices.

@@ -2,6 +2,7 @@
 
 use super::parts::{NOTE, Parts};
 use super::{Answer, USAGE, assert_refused, one_note, run, run_over, silence};
+use goat_io::MemFolder;
 use std::alloc::Global;
 use std::process::Abort;
 use std::test::Fail;
@@ -9,20 +10,16 @@ use std::test::Fail;
 const EDIT: [&str; 4] = ["edit", "s0", "t", "o"];
 
 /// What `edit` answers of the song with one note and this script, over a folder whose listed calls fail.
-fn edit_failing(alloc: Global, script: &str, calls: &[u32]) -> Result<Answer, Fail> {
-    let song = one_note(alloc)?;
-    run_over(
-        alloc,
-        &EDIT,
-        &[("s0", &song), ("t", script.as_bytes())],
-        calls,
-        &[],
-    )
+fn edit_failing(alloc: Global, script: &[u8], calls: &[u32]) -> Result<Answer, Fail> {
+    let mut folder = MemFolder::new(alloc, calls.to_vec(alloc)?);
+    folder.add("s0", &one_note(alloc)?)?;
+    folder.add("t", script)?;
+    run_over(alloc, &EDIT, folder, &[])
 }
 
 /// What `edit` answers of the song with one note and this script.
 fn edit(alloc: Global, script: &str) -> Result<Answer, Fail> {
-    edit_failing(alloc, script, &[])
+    edit_failing(alloc, script.as_bytes(), &[])
 }
 
 /// Asserts that the script makes this song of the one with one note.
@@ -139,17 +136,17 @@ fn scripts_that_can_not_be_read_are_told(rt: HostRuntime) -> Result<(), Fail> {
     let alloc = rt.alloc();
     let song = one_note(alloc)?;
     assert_refused(&rt, &run(alloc, &EDIT, &song)?, 2, "missing: t\n");
-    let fault = edit_failing(alloc, "table-insert 00 01 21 00", &[1])?;
+    let fault = edit_failing(alloc, b"table-insert 00 01 21 00", &[1])?;
     assert_refused(&rt, &fault, 4, "read fault: t\n");
-    let cut = edit_failing(alloc, "table-insert 00 01 21 00", &[2])?;
+    let cut = edit_failing(alloc, b"table-insert 00 01 21 00", &[2])?;
     assert_eq!(rt; cut.status, 9);
     assert_eq!(rt; cut.text.as_slice(), b"write fault: o\n".as_slice());
     assert_eq!(rt; cut.output.ok_or("no file")?.len(), 88);
     let mut long = vec![in alloc; b'\n'; 1_048_576]?;
-    let whole = run_over(alloc, &EDIT, &[("s0", &song), ("t", &long)], &[], &[])?;
+    let whole = edit_failing(alloc, &long, &[])?;
     assert_eq!(rt; whole.status, 0);
     long.push(b'\n')?;
-    let longer = run_over(alloc, &EDIT, &[("s0", &song), ("t", &long)], &[], &[])?;
+    let longer = edit_failing(alloc, &long, &[])?;
     assert_refused(&rt, &longer, 3, "too long: t\n");
     // The song's faults come before the script is read.
     let broken = run(alloc, &EDIT, &[])?;
@@ -163,13 +160,10 @@ fn one_file_may_be_two_of_the_three(rt: HostRuntime) -> Result<(), Fail> {
     let song = silence(alloc)?;
     let same = run(alloc, &["edit", "s0", "s0", "o"], &song)?;
     assert_refused(&rt, &same, 8, "script line 1: bad line\n");
-    let answer = run_over(
-        alloc,
-        &["edit", "s0", "o", "o"],
-        &[("s0", &song), ("o", b"subtune-remove 01".as_slice())],
-        &[],
-        &[],
-    )?;
+    let mut folder = MemFolder::new(alloc, Vec::new(alloc));
+    folder.add("s0", &song)?;
+    folder.add("o", b"subtune-remove 01")?;
+    let answer = run_over(alloc, &["edit", "s0", "o", "o"], folder, &[])?;
     assert_eq!(rt; answer.status, 0);
     assert!(rt; answer.output.ok_or("no file")?.starts_with(b"GTS5"));
     Ok(())
