@@ -271,6 +271,8 @@ stand_ins_keep table whole = record {
       let stands = found.1 in
       numbered_map (retargeted (stand_in table)) table.rows (stand_in table p) (stand_in_stored table p whole reached)
       ∙ ap (λ (k : ℕ). retargeted (stand_in table) (row_of table k)) stands.at ∙ stands.row;
+  goes_on = whole.next;
+  target = whole.target;
   next = λ p reached goes.
       let same = same_segment table p (goes_on_here table p reached goes) in
       stands_for table (p + 1) (whole.next p reached goes)

@@ -14,7 +14,8 @@ StandInsKeepPrograms = (table : ProgramTable) → IsWhole table →
 
 -- what stands for a row stays, and a row that stays stands for itself
 abbrev pub StandInsStay : Type 0
-StandInsStay = (table : ProgramTable) (p : ℕ) → IsWhole table → table.reached p ≡ true → keeps table (stand_in table p) ≡ true
+StandInsStay = (table : ProgramTable) (p : ℕ) → IsWhole table → table.reached p ≡ true →
+    keeps table (stand_in table p) ≡ true
 
 abbrev pub KeptStandForThemselves : Type 0
 KeptStandForThemselves = (table : ProgramTable) (p : ℕ) → IsWhole table → keeps table p ≡ true → stand_in table p ≡ p

@@ -3,7 +3,7 @@
 ghost use Rattle.packed_form.specs.PackedLaws.{ConstantsAre, PackedTextIsSpelled, PackedTextHasNoFault, SpelledOnce, SpelledArePatterns, RowsOrFault, NoneIsShorter};
 ghost use Rattle.packed_form.specs.NormalLaws.{NormalRowsAreFetched};
 ghost use Rattle.packed_form.specs.SizeLaws.{SizesAreTheSongs, PackedSizeIsWithin};
-ghost use Rattle.packed_form.specs.ProgramMaps.{MapsCompose};
+ghost use Rattle.packed_form.specs.ProgramMaps.{MapsCompose, ProgramsReadTheSame};
 ghost use Rattle.packed_form.specs.ProgramLaws.{StandInsKeepPrograms, StandInsStay, KeptStandForThemselves, PlayableProgramsAreWhole};
 ghost use Rattle.packed_form.specs.WorkedSizes.{NoteHas42Bytes, EqualPatternsAreStoredOnce, CodeBoundsAre};
 ghost use Rattle.packed_form.specs.WorkedPrograms.{EqualProgramsAreStoredOnce, FirstOfThreeStays, PulseProgramsStop, JumpsOutAreKept, MiddleEntriesAreKept, OthersAreKept, JumpsIntoDroppedPrograms};
@@ -78,6 +78,11 @@ pub fn worked_sizes()
 /// A map of rows that keeps programs, after another such map.
 pub fn maps_compose()
     ensures { MapsCompose }
+{}
+
+/// A map of rows that keeps programs keeps what is read in them.
+pub fn programs_read_the_same()
+    ensures { ProgramsReadTheSame }
 {}
 
 /// The rows that stay stand for all rows, and no program can tell.

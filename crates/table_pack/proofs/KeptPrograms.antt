@@ -38,13 +38,15 @@ next_number keep old new to p is kept next =
     ∙ ap (λ (k : ℕ). k + 1) (sym (is.number p kept))
 
 pub renumberings_keep : RenumberingsKeepPrograms
-renumberings_keep pulse keep old new to is stored next = record {
+renumberings_keep pulse keep old new to is stored next target = record {
   nothing = new_nothing keep old new to is stored;
   stored = λ p kept. numbered_length (retargeted to) new (to p) (new_stored keep old new to is stored p kept);
   row = λ p kept.
       numbered_map (retargeted to) new (to p) (new_stored keep old new to is stored p kept)
       ∙ ap (retargeted to) (is.row p kept);
+  goes_on = next;
   next = λ p kept goes. next_number keep old new to p is kept (next p kept goes);
+  target = target;
 }
 
 pub keeps_order : RenumberingsKeepOrder
@@ -104,6 +106,8 @@ once table to new whole is =
           numbered_map (retargeted (λ k. to (stand_in table k))) new (to (stand_in table p)) (stored p reached)
           ∙ ap (retargeted (λ k. to (stand_in table k))) (is.row (stand_in table p) (stays p reached))
           ∙ same_row_becomes table to p whole reached (there p reached);
+      goes_on = whole.next;
+      target = whole.target;
       next = λ p reached goes.
           ap to ((stand_ins_keep table whole).next p reached goes)
           ∙ next_number (keeps table) table.rows new to (stand_in table p) is (stays p reached)

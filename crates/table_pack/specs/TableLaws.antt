@@ -1,18 +1,20 @@
 -- What a reader may rely on in new numbers of tables.
-use Rattle.std.specs.Prelude.{◌≡◌, ℕ, ◌+◌, ◌≤◌, Bool, true, false, List, map}
+use Rattle.std.specs.Prelude.{◌≡◌, ◌≢◌, ℕ, ◌+◌, ◌≤◌, Bool, true, false, List, map}
 use Rattle.song_model.specs.declared.tables.TableRow.{TableRow}
 use Rattle.song_model.specs.LookUp.{IsNumbered}
-use Rattle.packed_form.specs.Segments.{ProgramTable, IsWhole, is_end, keeps, stand_in}
+use Rattle.packed_form.specs.Segments.{ProgramTable, IsWhole, is_jump_row, is_end, keeps, stand_in}
 use Rattle.packed_form.specs.ProgramMaps.{retargeted, row_at, KeepsPrograms}
 use Rattle.table_pack.specs.TableMaps.{IsRenumbering}
 
--- new numbers keep the programs of the rows that are kept, where a program goes on to a kept row and each jump goes to
--- the new number of its target
+-- new numbers keep the programs of the rows that are kept, where a program goes on to a kept row and jumps to one, or
+-- stops; each jump goes to the new number of its target
 abbrev pub RenumberingsKeepPrograms : Type 0
 RenumberingsKeepPrograms =
     (pulse : Bool) (keep : ℕ → Bool) (old new : List TableRow) (to : ℕ → ℕ) → IsRenumbering keep old new to →
     ((p : ℕ) → keep p ≡ true → IsNumbered old p) →
     ((p : ℕ) → keep p ≡ true → is_end pulse (row_at old p) ≡ false → keep (p + 1) ≡ true) →
+    ((p : ℕ) → keep p ≡ true → is_jump_row (row_at old p) ≡ true → (row_at old p).right ≢ 0 →
+    keep (row_at old p).right ≡ true) →
     KeepsPrograms pulse keep old (map (retargeted to) new) to
 
 -- new numbers of the rows that stay keep all programs of the table, where the row that stands for another has its number
