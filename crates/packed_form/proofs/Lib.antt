@@ -21,8 +21,9 @@ mod PlayablePrograms
 mod FirstSeen
 -- Inner: what a frame does with normal rows.
 mod NormalRows
--- Inner: sizes, and programs that were worked out by hand.
+-- Inner: sizes, programs and new numbers that were worked out by hand.
 mod WorkedSizes
+mod WorkedNumbers
 mod SizesOfSongs
 -- Inner: the laws.
 mod PatternLaws

@@ -12,7 +12,7 @@ pub mod ProgramMaps
 pub mod UsedSets
 pub mod Renumbering
 pub mod SongSizes
--- Claimed: laws of these, and packed patterns, sizes and programs worked out by hand.
+-- Claimed: laws of these, and packed patterns, sizes, programs and new numbers worked out by hand.
 pub mod PackedLaws
 pub mod ProgramLaws
 pub mod SizeLaws
@@ -20,5 +20,6 @@ pub mod NormalLaws
 pub mod WorkedPatterns
 pub mod WorkedSizes
 pub mod WorkedPrograms
+pub mod WorkedNumbers
 -- Inner: how the answer of a call stands to what reading gives, and what is kept of the rows.
 pub mod Answers

@@ -1,6 +1,6 @@
 -- The numbers that the used parts of a song get in its packed song, from this project's own packed form. Tables come in
 -- the order speed, filter, pulse, wave, then patterns. 0, which names nothing, stays 0.
-use Rattle.std.specs.Prelude.{ℕ, ◌+◌, Bool, not, ◌&&◌, ◌==◌, true, false, if◌then◌else◌, List, [], ◌∷◌, map, filter, count_by, Option, Some, None}
+use Rattle.std.specs.Prelude.{ℕ, ◌+◌, Bool, not, ◌&&◌, ◌==◌, true, false, if◌then◌else◌, List, [], ◌∷◌, length, map, filter, count_by, Option, Some, None}
 use Rattle.std.specs.List.{position_or_len, range_with_len}
 use Rattle.std.specs.Str.{bytes_eq}
 use Rattle.song_model.specs.declared.rows.Row.{Row}
@@ -13,7 +13,8 @@ use Rattle.song_model.specs.declared.songs.Song.{Song}
 use Rattle.song_model.specs.LookUp.{speed_row, pattern_at}
 use Rattle.song_model.specs.Pointers.{command_table, wave_row_table}
 use Rattle.packed_form.specs.PackedText.{packed_text}
-use Rattle.packed_form.specs.Segments.{ProgramTable, numbers, keeps, stand_in}
+use Rattle.packed_form.specs.Segments.{ProgramTable, numbers, row_of, keeps, stand_in}
+use Rattle.packed_form.specs.ProgramMaps.{retargeted}
 use Rattle.packed_form.specs.UsedSets.{UsedSets}
 
 -- ---- words
@@ -61,6 +62,11 @@ pulse_programs song used = record {
 -- the number of the row that stands for row p, among those that stay
 abbrev pub program_number : ProgramTable → ℕ → ℕ
 program_number table p = rank (keeps table) (stand_in table p)
+
+-- the rows that stay, in order; each jump goes to the number of what stands for its target
+unfoldable pub program_rows : ProgramTable → List TableRow
+program_rows table =
+    map (λ p. retargeted (program_number table) (row_of table p)) (filter (keeps table) (numbers (length table.rows)))
 
 -- the new number of a row of a table that the wave table points into
 abbrev pub foreign_number : Song → UsedSets → TableName → ℕ → ℕ

@@ -7,6 +7,7 @@ ghost use Rattle.packed_form.specs.ProgramMaps.{MapsCompose, ProgramsReadTheSame
 ghost use Rattle.packed_form.specs.ProgramLaws.{StandInsKeepPrograms, StandInsStay, KeptStandForThemselves, PlayableProgramsAreWhole};
 ghost use Rattle.packed_form.specs.WorkedSizes.{NoteHas42Bytes, EqualPatternsAreStoredOnce, CodeBoundsAre};
 ghost use Rattle.packed_form.specs.WorkedPrograms.{EqualProgramsAreStoredOnce, FirstOfThreeStays, PulseProgramsStop, JumpsOutAreKept, MiddleEntriesAreKept, OthersAreKept, JumpsIntoDroppedPrograms};
+ghost use Rattle.packed_form.specs.WorkedNumbers.{SpeedsAreSharedOnce, PulsesAreStoredOnce, FiltersMoveUp, WavesAreStoredOnce, InstrumentsMoveUp, CrowdedTexts, PatternsAreStoredOnce, CrowdedSizes};
 ghost use Rattle.packed_form.specs.WorkedPatterns.{EighthsArePacked, KeyoffIsUnpacked, RestsAreGathered, CommandsAreNamedOnce, OtherSpellingsAreUnpacked, BadBytesAreFound, EndsAreWanted, LengthsAreLimited};
 
 /// What is packed is unpacked as the normal rows: the packer's text spells these, has no fault, and bytes spell one
@@ -73,6 +74,14 @@ pub fn worked_sizes()
     ensures note { NoteHas42Bytes }
     ensures patterns { EqualPatternsAreStoredOnce }
     ensures code { CodeBoundsAre }
+{}
+
+/// The new numbers of a song's parts, and what its tables and patterns are packed to.
+pub fn worked_numbers()
+    ensures tables { SpeedsAreSharedOnce × PulsesAreStoredOnce × FiltersMoveUp × WavesAreStoredOnce }
+    ensures instruments { InstrumentsMoveUp }
+    ensures patterns { CrowdedTexts × PatternsAreStoredOnce }
+    ensures sizes { CrowdedSizes }
 {}
 
 /// A map of rows that keeps programs, after another such map.

@@ -1,0 +1,14 @@
+use Rattle.packed_form.proofs.WorkedNumbers.{tables, instruments, patterns, sizes}
+use Rattle.packed_form.proofs.claims.worked_numbers.Goals as goal
+
+pub returns-clause-tables : goal.returns-clause-tables
+returns-clause-tables c = tables
+
+pub returns-clause-instruments : goal.returns-clause-instruments
+returns-clause-instruments c = instruments
+
+pub returns-clause-patterns : goal.returns-clause-patterns
+returns-clause-patterns c = patterns
+
+pub returns-clause-sizes : goal.returns-clause-sizes
+returns-clause-sizes c = sizes
