@@ -6,15 +6,19 @@ use Rattle.packed_form.specs.Segments.{first_row, is_closed, are_equal, first_eq
 use Rattle.packed_form.specs.Renumbering.{speed_rows, speed_number, table_number, instrument_number, pattern_text, pattern_texts}
 use Rattle.packed_form.specs.SongSizes.{data_size, packed_size}
 use Rattle.packed_form.specs.WorkedSizes.{NoteHas42Bytes, EqualPatternsAreStoredOnce}
-use Rattle.packed_form.specs.WorkedPrograms.{EqualProgramsAreStoredOnce, FirstOfThreeStays, PulseProgramsStop, JumpsOutAreKept, MiddleEntriesAreKept, OthersAreKept, JumpsIntoDroppedPrograms}
+use Rattle.packed_form.specs.WorkedPrograms.{EqualProgramsAreStoredOnce, FirstOfThreeStays, PulseProgramsStop, JumpsOutAreKept, MiddleEntriesAreKept, FirstOpenOneIsKept, OthersAreKept, JumpsIntoDroppedPrograms, JumpsIntoTheMiddleAreKept, LoopsAreAsFar}
 
-pub programs_once : EqualProgramsAreStoredOnce × FirstOfThreeStays × PulseProgramsStop
+pub programs_once : EqualProgramsAreStoredOnce × FirstOfThreeStays × PulseProgramsStop × LoopsAreAsFar
 unfolding first_row is_closed are_equal first_equal keeps stand_in
-programs_once = ((refl, refl), (refl, refl), ((refl, refl), (refl, refl)))
+programs_once = ((refl, refl), (refl, refl), ((refl, refl), (refl, refl)), (refl, refl))
 
-pub programs_kept : JumpsOutAreKept × MiddleEntriesAreKept × OthersAreKept × JumpsIntoDroppedPrograms
+pub programs_kept : JumpsOutAreKept × MiddleEntriesAreKept × FirstOpenOneIsKept × OthersAreKept
 unfolding first_row is_closed are_equal first_equal keeps stand_in
-programs_kept = ((refl, refl), (refl, refl), ((refl, refl), (refl, refl)), (refl, refl))
+programs_kept = ((refl, refl), (refl, refl), (refl, refl), ((refl, refl), (refl, refl)))
+
+pub programs_jump : JumpsIntoDroppedPrograms × JumpsIntoTheMiddleAreKept
+unfolding first_row is_closed are_equal first_equal keeps stand_in
+programs_jump = ((refl, refl), ((refl, refl), (refl, refl)))
 
 pub note_has_42 : NoteHas42Bytes
 unfolding packed_text first_row is_closed are_equal first_equal keeps stand_in speed_rows speed_number table_number

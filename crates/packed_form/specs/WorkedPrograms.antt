@@ -37,6 +37,36 @@ MiddleEntriesAreKept = Gives
     (1 ∷ 2 ∷ 3 ∷ 4 ∷ 5 ∷ 6 ∷ []) (1 ∷ 4 ∷ 5 ∷ []))
     (true ∷ true ∷ true ∷ true ∷ true ∷ true ∷ []) (1 ∷ 2 ∷ 3 ∷ 4 ∷ 5 ∷ 6 ∷ [])
 
+-- where the first of two equal programs is the open one, the second one stays too
+abbrev pub FirstOpenOneIsKept : Type 0
+FirstOpenOneIsKept = Gives
+    (programs false (sides 0x41 0 ∷ sides 0x41 1 ∷ sides 0xFF 0 ∷ sides 0x41 0 ∷ sides 0x41 1 ∷ sides 0xFF 0 ∷ [])
+    (1 ∷ 2 ∷ 3 ∷ 4 ∷ 5 ∷ 6 ∷ []) (1 ∷ 2 ∷ 4 ∷ []))
+    (true ∷ true ∷ true ∷ true ∷ true ∷ true ∷ []) (1 ∷ 2 ∷ 3 ∷ 4 ∷ 5 ∷ 6 ∷ [])
+
+-- a third program that jumps to this row, behind two equal ones of three rows
+abbrev pub jump_to : ℕ → ProgramTable
+jump_to target = programs false
+    (sides 0x41 0 ∷ sides 0x41 1 ∷ sides 0xFF 0 ∷ sides 0x41 0 ∷ sides 0x41 1 ∷ sides 0xFF 0 ∷ sides 0x21 0
+    ∷ sides 0xFF target ∷ [])
+    (numbers 8) (1 ∷ 4 ∷ 7 ∷ [])
+
+-- a jump from another program to a middle row leaves nothing to be dropped; one to the first row does no harm
+abbrev pub JumpsIntoTheMiddleAreKept : Type 0
+JumpsIntoTheMiddleAreKept =
+    Gives (jump_to 5) (true ∷ true ∷ true ∷ true ∷ true ∷ true ∷ true ∷ true ∷ []) (numbers 8)
+    × Gives (jump_to 4) (true ∷ true ∷ true ∷ false ∷ false ∷ false ∷ true ∷ true ∷ [])
+    (1 ∷ 2 ∷ 3 ∷ 1 ∷ 2 ∷ 3 ∷ 7 ∷ 8 ∷ [])
+
+-- loops to their second rows are equal, and not to one to the first row
+abbrev pub LoopsAreAsFar : Type 0
+LoopsAreAsFar = Gives
+    (programs false
+    (sides 0x41 0 ∷ sides 0x41 1 ∷ sides 0xFF 1 ∷ sides 0x41 0 ∷ sides 0x41 1 ∷ sides 0xFF 5 ∷ sides 0x41 0 ∷ sides 0x41 1
+    ∷ sides 0xFF 8 ∷ []) (numbers 9) (1 ∷ 4 ∷ 7 ∷ []))
+    (true ∷ true ∷ true ∷ true ∷ true ∷ true ∷ false ∷ false ∷ false ∷ [])
+    (1 ∷ 2 ∷ 3 ∷ 4 ∷ 5 ∷ 6 ∷ 4 ∷ 5 ∷ 6 ∷ [])
+
 -- three jumps to 0: the first program stands for the others
 abbrev pub FirstOfThreeStays : Type 0
 FirstOfThreeStays = Gives

@@ -6,9 +6,9 @@ ghost use Rattle.packed_form.specs.SizeLaws.{SizesAreTheSongs, PackedSizeIsWithi
 ghost use Rattle.packed_form.specs.ProgramMaps.{MapsCompose, ProgramsReadTheSame};
 ghost use Rattle.packed_form.specs.ProgramLaws.{StandInsKeepPrograms, StandInsStay, KeptStandForThemselves, PlayableProgramsAreWhole};
 ghost use Rattle.packed_form.specs.WorkedSizes.{NoteHas42Bytes, EqualPatternsAreStoredOnce, CodeBoundsAre};
-ghost use Rattle.packed_form.specs.WorkedPrograms.{EqualProgramsAreStoredOnce, FirstOfThreeStays, PulseProgramsStop, JumpsOutAreKept, MiddleEntriesAreKept, OthersAreKept, JumpsIntoDroppedPrograms};
+ghost use Rattle.packed_form.specs.WorkedPrograms.{EqualProgramsAreStoredOnce, FirstOfThreeStays, PulseProgramsStop, JumpsOutAreKept, MiddleEntriesAreKept, FirstOpenOneIsKept, OthersAreKept, JumpsIntoDroppedPrograms, JumpsIntoTheMiddleAreKept, LoopsAreAsFar};
 ghost use Rattle.packed_form.specs.WorkedNumbers.{SpeedsAreSharedOnce, PulsesAreStoredOnce, FiltersMoveUp, WavesAreStoredOnce, InstrumentsMoveUp, CrowdedTexts, PatternsAreStoredOnce, CrowdedSizes};
-ghost use Rattle.packed_form.specs.WorkedPatterns.{EighthsArePacked, KeyoffIsUnpacked, RestsAreGathered, CommandsAreNamedOnce, OtherSpellingsAreUnpacked, BadBytesAreFound, EndsAreWanted, LengthsAreLimited};
+ghost use Rattle.packed_form.specs.WorkedPatterns.{EighthsArePacked, KeyoffIsUnpacked, RestsAreGathered, CommandsAreNamedOnce, LongTextsAre, OtherSpellingsAreUnpacked, BadBytesAreFound, EndsAreWanted, LengthsAreLimited};
 
 /// What is packed is unpacked as the normal rows: the packer's text spells these, has no fault, and bytes spell one
 /// list of rows.
@@ -44,6 +44,7 @@ pub fn worked_patterns()
     ensures keyoff { KeyoffIsUnpacked }
     ensures rests { RestsAreGathered }
     ensures commands { CommandsAreNamedOnce }
+    ensures long { LongTextsAre }
     ensures others { OtherSpellingsAreUnpacked }
 {}
 
@@ -57,8 +58,9 @@ pub fn worked_faults()
 
 /// Which programs are stored once, and which aren't.
 pub fn worked_programs()
-    ensures once { EqualProgramsAreStoredOnce × FirstOfThreeStays × PulseProgramsStop }
-    ensures kept { JumpsOutAreKept × MiddleEntriesAreKept × OthersAreKept × JumpsIntoDroppedPrograms }
+    ensures once { EqualProgramsAreStoredOnce × FirstOfThreeStays × PulseProgramsStop × LoopsAreAsFar }
+    ensures kept { JumpsOutAreKept × MiddleEntriesAreKept × FirstOpenOneIsKept × OthersAreKept }
+    ensures jumps { JumpsIntoDroppedPrograms × JumpsIntoTheMiddleAreKept }
 {}
 
 /// A song has one size of each kind, and storing things once makes nothing longer.

@@ -1,4 +1,4 @@
-use Rattle.packed_form.proofs.WorkedSizes.{programs_once, programs_kept}
+use Rattle.packed_form.proofs.WorkedSizes.{programs_once, programs_kept, programs_jump}
 use Rattle.packed_form.proofs.claims.worked_programs.Goals as goal
 
 pub returns-clause-once : goal.returns-clause-once
@@ -6,3 +6,6 @@ returns-clause-once c = programs_once
 
 pub returns-clause-kept : goal.returns-clause-kept
 returns-clause-kept c = programs_kept
+
+pub returns-clause-jumps : goal.returns-clause-jumps
+returns-clause-jumps c = programs_jump
