@@ -4,6 +4,8 @@
 pub use Rattle.packed_form.proofs.PatternLaws.{packed_is_spelled, none_is_shorter}
 -- bytes spell one list of rows, which are those of a pattern
 pub use Rattle.packed_form.proofs.PatternLaws.{spelled_once, spelled_are_patterns, rows_or_fault}
+-- the faults of bytes are those of the grammar
+pub use Rattle.packed_form.proofs.FirstFaults.{bad_bytes_are_first, ends_are_missing, lengths_are_bad}
 -- one map of rows that keeps programs after another is one, and what is read from stand-ins is what is read from the rows
 pub use Rattle.packed_form.proofs.ProgramMaps.{retargeted_twice, end_stays, maps_compose, programs_read_the_same}
 -- tests of the numbers of a stretch

@@ -8,6 +8,7 @@ mod Readings
 mod Spellings
 mod Walks
 mod Whole
+mod FirstFaults
 -- Inner: what is packed is the normal rows, in as few bytes as can spell them.
 mod Packings
 mod Shortest

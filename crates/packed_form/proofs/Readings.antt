@@ -25,7 +25,7 @@ IsPlace (AtRestParam instrument number) = (instrument ≤ 63) × (number ≤ 15)
 IsPlace (AtNote instrument command) = (instrument ≤ 63) × IsCommand command
 
 -- the bytes of an entry before a place in it
-abbrev front : Place → List ℕ
+abbrev pub front : Place → List ℕ
 front (AtEntry instrument) = instrument_bytes instrument
 front (AtNoteParam instrument number) = instrument_bytes instrument ++ (0x40 + number) ∷ []
 front (AtRestParam instrument number) = instrument_bytes instrument ++ (0x50 + number) ∷ []
@@ -139,7 +139,7 @@ with_entry_ok : (entry : Entry) (r : Result (List Entry) PackedFault) (entries :
 with_entry_ok entry (Ok rest) entries e = (rest, refl, cc)
 with_entry_ok entry (Err fault) entries e = absurd cc
 
-text_of-cons : (entry : Entry) (entries : List Entry) → entry_bytes entry ++ text_of entries ≡ text_of (entry ∷ entries)
+pub text_of-cons : (entry : Entry) (entries : List Entry) → entry_bytes entry ++ text_of entries ≡ text_of (entry ∷ entries)
 text_of-cons entry entries = sym (append_assoc (entry_bytes entry) (flat_map entry_bytes entries) (0 ∷ []))
 
 step : (place : Place) (byte offset : ℕ) (others : List ℕ) (entries : List Entry) (t : Option Taken) →

@@ -14,6 +14,7 @@ pub mod Renumbering
 pub mod SongSizes
 -- Claimed: laws of these, and packed patterns, sizes, programs and new numbers worked out by hand.
 pub mod PackedLaws
+pub mod FaultLaws
 pub mod ProgramLaws
 pub mod SizeLaws
 pub mod NormalLaws

@@ -1,6 +1,5 @@
 -- The new numbers of a song's parts, its packed tables and patterns and its sizes, worked out by hand.
 use Rattle.std.specs.Prelude.{◌≡◌, ℕ, Bool, List, [], ◌∷◌, map}
-use Rattle.std.specs.Str.{bytes_eq}
 use Rattle.song_model.specs.declared.instruments.Instrument.{Instrument}
 use Rattle.song_model.specs.declared.tables.TableName.{TableName}
 use Rattle.song_model.specs.declared.tables.TableName.TheVariants.{Wave, Pulse, Filter, Speed}
@@ -9,7 +8,7 @@ use Rattle.song_model.specs.Silence.{empty_song}
 use Rattle.play_model.specs.WorkedSongs.{subtune, row, sides, plucked}
 use Rattle.packed_form.specs.Segments.{numbers}
 use Rattle.packed_form.specs.UsedSets.{UsedSets}
-use Rattle.packed_form.specs.Renumbering.{first_seen, speed_rows, wave_programs, pulse_programs, filter_programs, program_rows, table_number, instrument_number, pattern_texts, pattern_number}
+use Rattle.packed_form.specs.Renumbering.{speed_rows, wave_programs, pulse_programs, filter_programs, program_rows, table_number, instrument_number, pattern_texts, pattern_number}
 use Rattle.packed_form.specs.SongSizes.{data_size, packed_size}
 use Rattle.packed_form.specs.WorkedSizes.{among}
 

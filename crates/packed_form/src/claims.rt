@@ -1,6 +1,7 @@
 //! Facts about packed patterns, each the contract of a function that does nothing.
 
 ghost use Rattle.packed_form.specs.PackedLaws.{ConstantsAre, PackedTextIsSpelled, PackedTextHasNoFault, SpelledOnce, SpelledArePatterns, RowsOrFault, NoneIsShorter};
+ghost use Rattle.packed_form.specs.FaultLaws.{BadBytesAreFirst, EndsAreMissing, LengthsAreBad};
 ghost use Rattle.packed_form.specs.NormalLaws.{NormalRowsAreFetched};
 ghost use Rattle.packed_form.specs.SizeLaws.{SizesAreTheSongs, PackedSizeIsWithin};
 ghost use Rattle.packed_form.specs.ProgramMaps.{MapsCompose, ProgramsReadTheSame};
@@ -30,6 +31,13 @@ pub fn none_is_shorter()
 pub fn rows_or_fault()
     ensures either { RowsOrFault }
     ensures patterns { SpelledArePatterns }
+{}
+
+/// The faults of bytes are those of the grammar: a bad byte is the first one with which no packed pattern begins.
+pub fn faults_are_the_grammars()
+    ensures bytes { BadBytesAreFirst }
+    ensures ends { EndsAreMissing }
+    ensures lengths { LengthsAreBad }
 {}
 
 /// The bytes of a packed pattern.
