@@ -1,7 +1,7 @@
 -- The lemmas that upper crates may cite.
 
--- what is packed spells the normal rows, and nothing shorter does
-pub use Rattle.packed_form.proofs.PatternLaws.{packed_is_spelled, none_is_shorter}
+-- what is packed spells the normal rows, and nothing shorter does; it has at most four bytes for each row
+pub use Rattle.packed_form.proofs.PatternLaws.{packed_is_spelled, none_is_shorter, text_is_short}
 -- bytes spell one list of rows, which are those of a pattern
 pub use Rattle.packed_form.proofs.PatternLaws.{spelled_once, spelled_are_patterns, rows_or_fault}
 -- the faults of bytes are those of the grammar
@@ -17,7 +17,7 @@ pub use Rattle.packed_form.proofs.EqualSegments.{Alike, alike_parts, alike_from,
 pub use Rattle.packed_form.proofs.StandIns.{StandsAt, stands_at, stands_for, stands_for_none, keeps_from, IsKept, kept_parts, stand_in_stays, kept_stands, next_stays, numbered_map, numbered_length, stand_ins_keep}
 -- items with no equal one before them, one item more at a time
 pub use Rattle.packed_form.proofs.FirstSeen.{with_new, first_seen_push, same_row_is}
--- a frame can't tell the rows of a pattern from its normal rows
+-- fetching a normal row does what fetching the row does, but for the parameter of command 0
 pub use Rattle.packed_form.proofs.NormalRows.{normal_rows_are_fetched}
 -- a song has one size of each kind, and storing things once makes nothing longer
 pub use Rattle.packed_form.proofs.SizesOfSongs.{sizes_are_the_songs, packed_size_is_within}

@@ -1,17 +1,18 @@
 -- The laws of packed patterns.
-use Rattle.std.proofs.Common.{◌≡◌, ℕ, ◌≤◌, List, [], ◌∷◌, length, None, Result, Ok, Err, MatchOption, refl, ap, sym, subst, ◌∙◌, arith, length-append}
+use Rattle.std.proofs.Common.{◌≡◌, ℕ, zero, suc, ◌+◌, ◌*◌, ◌≤◌, List, [], ◌∷◌, length, None, Result, Ok, Err, MatchOption, refl, ap, sym, subst, ◌∙◌, arith, length-append}
 use Rattle.std.specs.List.{All, flat_map}
 use Rattle.song_model.specs.declared.rows.Row.{Row}
 use Rattle.song_model.specs.Basics.{IsByte}
 use Rattle.song_model.specs.PatternLimits.{IsPattern, IsPatternLength, IsRow}
+use Rattle.packed_form.specs.declared.entries.Command.{Command}
 use Rattle.packed_form.specs.declared.faults.PackedFault.{PackedFault}
-use Rattle.packed_form.specs.Entries.{no_command, entry_bytes}
+use Rattle.packed_form.specs.Entries.{no_command, entry_bytes, command_of, more_rests}
 use Rattle.packed_form.specs.PackedSpells.{PackedSpells}
 use Rattle.packed_form.specs.Normal.{normal_rows}
-use Rattle.packed_form.specs.PackedText.{entries_from, packed_entries, packed_text}
+use Rattle.packed_form.specs.PackedText.{first_kind, first_entry, entries_from, packed_entries, packed_text}
 use Rattle.packed_form.specs.Faults.{unpacked, fault_in, packed_fault_of}
 use Rattle.packed_form.proofs.InRange.{no_command_is, rows_are}
-use Rattle.packed_form.proofs.Packings.{rows_of_entries, entries_are, normal_are_plain, normal_length}
+use Rattle.packed_form.proofs.Packings.{rows_of_entries, entries_are, normal_are_plain, normal_length, entry_short}
 use Rattle.packed_form.proofs.Shortest.{shortest_from}
 use Rattle.packed_form.proofs.Whole.{unpacked_is_spelled, spelled_is_unpacked}
 
@@ -60,6 +61,29 @@ pub rows_or_fault : (bytes : List ℕ) → All IsByte bytes →
     (λ fault. (rows : List Row) → ¬ PackedSpells bytes rows)
 unfolding packed_fault_of
 rows_or_fault bytes are = either bytes are (unpacked bytes) refl
+
+entries_short : (rows : List Row) (running : Command) (k : ℕ) →
+    length (flat_map entry_bytes (entries_from running k rows)) ≤ 4 * length rows
+entries_short [] running k = omega arith
+entries_short (row ∷ rows) running zero =
+    let entry = first_entry running row rows in
+    let behind = entries_from (command_of row) (more_rests (first_kind running row rows)) rows in
+    omega (
+      arith,
+      length-append (entry_bytes entry) (flat_map entry_bytes behind),
+      entry_short entry,
+      entries_short rows (command_of row) (more_rests (first_kind running row rows)),
+    )
+entries_short (row ∷ rows) running (suc k) = omega (arith, entries_short rows running k)
+
+pub text_is_short : (rows : List Row) → length (packed_text rows) ≤ 4 * length rows + 1
+unfolding packed_text
+text_is_short rows = omega (
+  arith,
+  length-append (flat_map entry_bytes (packed_entries (normal_rows rows))) (0 ∷ []),
+  entries_short (normal_rows rows) no_command 0,
+  normal_length rows 0,
+)
 
 pub none_is_shorter : (rows : List Row) (bytes : List ℕ) → PackedSpells bytes (normal_rows rows) →
     length (packed_text rows) ≤ length bytes

@@ -35,8 +35,10 @@ same_sets song one other is is_too =
     let with_pointers : (TableName → ℕ → Bool) → UsedSets = λ f. record other { pointers = f } in
     ap with_patterns (same_test _ one.patterns other.patterns is.patterns is_too.patterns)
     ∙ ap with_instruments (same_test _ one.instruments other.instruments is.instruments is_too.instruments)
-    ∙ ap with_reached (fun_ext (λ (name : TableName). same_test _ (one.reached name) (other.reached name) (is.reached name) (is_too.reached name)))
-    ∙ ap with_pointers (fun_ext (λ (name : TableName). same_test _ (one.pointers name) (other.pointers name) (is.pointers name) (is_too.pointers name)))
+    ∙ ap with_reached (fun_ext (λ (name : TableName).
+    same_test _ (one.reached name) (other.reached name) (is.reached name) (is_too.reached name)))
+    ∙ ap with_pointers (fun_ext (λ (name : TableName).
+    same_test _ (one.pointers name) (other.pointers name) (is.pointers name) (is_too.pointers name)))
 
 pub sizes_are_the_songs : SizesAreTheSongs
 sizes_are_the_songs song one other is is_too =

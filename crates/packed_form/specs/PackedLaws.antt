@@ -1,5 +1,5 @@
 -- What a reader may rely on in the definitions of packed patterns.
-use Rattle.std.specs.Prelude.{◌≡◌, ℕ, ◌≤◌, List, length, All, None, MatchOption}
+use Rattle.std.specs.Prelude.{◌≡◌, ℕ, ◌+◌, ◌*◌, ◌≤◌, List, length, All, None, MatchOption}
 use Rattle.song_model.specs.declared.rows.Row.{Row}
 use Rattle.song_model.specs.Basics.{IsByte}
 use Rattle.song_model.specs.PatternLimits.{IsPattern}
@@ -10,7 +10,7 @@ use Rattle.packed_form.specs.Normal.{normal_rows}
 use Rattle.packed_form.specs.PackedText.{packed_text}
 use Rattle.packed_form.specs.Faults.{packed_fault_of}
 
--- a packed pattern may have 256 bytes; 128 rows pack to 513 bytes at most; 65,536 bytes may be unpacked
+-- a packed pattern may have 256 bytes, a packed text 513; 65,536 bytes may be unpacked
 abbrev pub ConstantsAre : Type 0
 ConstantsAre = (MOST_PACKED_BYTES ≡ 256) × (MOST_TEXT_BYTES ≡ 513) × (MOST_BYTES ≡ 65536)
 
@@ -21,6 +21,10 @@ PackedTextIsSpelled = (rows : List Row) → IsPattern rows → PackedSpells (pac
 -- so it has no fault
 abbrev pub PackedTextHasNoFault : Type 0
 PackedTextHasNoFault = (rows : List Row) → IsPattern rows → packed_fault_of (packed_text rows) ≡ None
+
+-- it has at most four bytes for each row, and its end: at most 513 for 128 rows
+abbrev pub PackedTextIsShort : Type 0
+PackedTextIsShort = (rows : List Row) → length (packed_text rows) ≤ 4 * length rows + 1
 
 -- bytes spell at most one list of rows
 abbrev pub SpelledOnce : Type 0

@@ -60,6 +60,6 @@ kept_parts features options =
     sum_by (bit_at features) (range_with_len 0 24) + one_if options.skip_effects + one_if options.skip_pulse
     + one_if (nat_lt 1 options.speed)
 
--- no player's code is longer
+-- the bound of a player's code: so many bytes, and so many for each part that is kept
 abbrev pub code_bound : ℕ → Options → ℕ
 code_bound features options = 3072 + 320 * kept_parts features options

@@ -18,7 +18,8 @@ swept = record plucked { wave = 4; pulse = 4; filter = 2; vibrato = 3; vibrato_d
 
 -- The first subtune is void, so pattern 1 isn't used, nor is instrument 2. Of the second one two channels play patterns
 -- that differ in a pulse pointer. Wave rows 1 to 3 and 4 to 6 differ in the pulse program that they name, pulse rows 1
--- and 2 are rows 4 and 5. Nothing comes to pulse row 3 and filter row 1. Speed row 9 is past the table, so it is as row 2.
+-- and 2 are as rows 4 and 5. Nothing comes to pulse row 3 and filter row 1. Speed row 9 is past the table, so it is as
+-- row 2.
 abbrev pub crowded_song : Song
 crowded_song = record empty_song {
   subtunes = subtune (1 ∷ []) [] (1 ∷ []) ∷ subtune (0 ∷ 4 ∷ []) (2 ∷ []) (3 ∷ []) ∷ [];
@@ -80,7 +81,8 @@ abbrev pub FiltersMoveUp : Type 0
 FiltersMoveUp = (new_numbers Filter (0 ∷ 1 ∷ 2 ∷ 3 ∷ 4 ∷ []) ≡ 0 ∷ 0 ∷ 1 ∷ 2 ∷ 3 ∷ [])
     × (program_rows (filter_programs crowded_song crowded_sets) ≡ sides 0x90 0xF1 ∷ sides 0 0x20 ∷ sides 0xFF 2 ∷ [])
 
--- with new pointers into the pulse table the second program is the first one; the speed row past the table has its number
+-- with new pointers into the pulse table the second program is the first one; the pointer past the speed table has its
+-- new number
 abbrev pub WavesAreStoredOnce : Type 0
 WavesAreStoredOnce =
     (new_numbers Wave (0 ∷ 1 ∷ 2 ∷ 3 ∷ 4 ∷ 5 ∷ 6 ∷ 7 ∷ 8 ∷ []) ≡ 0 ∷ 1 ∷ 2 ∷ 3 ∷ 1 ∷ 2 ∷ 3 ∷ 4 ∷ 5 ∷ [])
@@ -99,8 +101,8 @@ CrowdedTexts = pattern_texts crowded_song crowded_sets
     ≡ (0x01 ∷ 0x90 ∷ 0xBE ∷ 0x00 ∷ [])
     ∷ (0x02 ∷ 0x49 ∷ 0x01 ∷ 0x90 ∷ 0x50 ∷ 0x00 ∷ 0x00 ∷ [])
     ∷ (0x02 ∷ 0x49 ∷ 0x01 ∷ 0x90 ∷ 0x50 ∷ 0x00 ∷ 0x00 ∷ [])
-    ∷ (0x58 ∷ 0x04 ∷ 0x01 ∷ 0x4A ∷ 0x01 ∷ 0x90 ∷ 0x41 ∷ 0x01 ∷ 0x91 ∷ 0xC0 ∷ 0x45 ∷ 0x02 ∷ 0x92 ∷ 0x02 ∷ 0x49 ∷ 0x03 ∷ 0x93
-    ∷ 0x00 ∷ [])
+    ∷ (0x58 ∷ 0x04 ∷ 0x01 ∷ 0x4A ∷ 0x01 ∷ 0x90 ∷ 0x41 ∷ 0x01 ∷ 0x91 ∷ 0xC0 ∷ 0x45 ∷ 0x02 ∷ 0x92
+    ∷ 0x02 ∷ 0x49 ∷ 0x03 ∷ 0x93 ∷ 0x00 ∷ [])
     ∷ []
 
 -- patterns 2 and 3 share a number

@@ -75,8 +75,8 @@ OtherSpellingsAreUnpacked = Unpacks (0x40 ∷ 0x00 ∷ 0xBD ∷ 0x00 ∷ []) (re
     × Unpacks (0x42 ∷ 0x09 ∷ 0xBD ∷ 0x90 ∷ 0x00 ∷ []) (with_command 0xBD 2 9 ∷ with_command 0x90 2 9 ∷ [])
     × Unpacks (0xFF ∷ 0x00 ∷ []) (replicate 64 rest) × Unpacks (0xFF ∷ 0xC0 ∷ 0x00 ∷ []) (replicate 65 rest)
 
--- a $00 and another instrument behind an instrument, a $00 behind an instrument behind a note, a byte behind the end, a parameter of command 0, a run of rests
--- where a note is wanted, and a byte behind the end of too many rows
+-- a $00 and another instrument behind an instrument, a $00 behind an instrument behind a note, a byte behind the end, a
+-- parameter of command 0, a run of rests where a note is wanted, and a byte behind the end of too many rows
 abbrev pub BadBytesAreFound : Type 0
 BadBytesAreFound = HasFault (0x01 ∷ 0x00 ∷ []) (BadByte 1) × HasFault (0x01 ∷ 0x02 ∷ 0x90 ∷ 0x00 ∷ []) (BadByte 1)
     × HasFault (0x90 ∷ 0x01 ∷ 0x00 ∷ []) (BadByte 2) × HasFault (0x90 ∷ 0x00 ∷ 0x90 ∷ 0x00 ∷ []) (BadByte 2)

@@ -91,7 +91,8 @@ PulseProgramsStop =
     (1 ∷ 2 ∷ 3 ∷ 4 ∷ 5 ∷ []) (1 ∷ 4 ∷ []))
     (true ∷ true ∷ true ∷ true ∷ true ∷ []) (1 ∷ 2 ∷ 3 ∷ 4 ∷ 5 ∷ [])
 
--- a jump into a dropped program stays, and a row that no program comes to counts for nothing: here one that names itself
+-- a jump into a dropped program stays, and a row that no program comes to counts for nothing: here one that names
+-- itself
 abbrev pub JumpsIntoDroppedPrograms : Type 0
 JumpsIntoDroppedPrograms = Gives
     (programs false

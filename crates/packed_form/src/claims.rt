@@ -1,6 +1,6 @@
 //! Facts about packed patterns, each the contract of a function that does nothing.
 
-ghost use Rattle.packed_form.specs.PackedLaws.{ConstantsAre, PackedTextIsSpelled, PackedTextHasNoFault, SpelledOnce, SpelledArePatterns, RowsOrFault, NoneIsShorter};
+ghost use Rattle.packed_form.specs.PackedLaws.{ConstantsAre, PackedTextIsSpelled, PackedTextIsShort, PackedTextHasNoFault, SpelledOnce, SpelledArePatterns, RowsOrFault, NoneIsShorter};
 ghost use Rattle.packed_form.specs.FaultLaws.{BadBytesAreFirst, EndsAreMissing, LengthsAreBad};
 ghost use Rattle.packed_form.specs.NormalLaws.{NormalRowsAreFetched};
 ghost use Rattle.packed_form.specs.SizeLaws.{SizesAreTheSongs, PackedSizeIsWithin};
@@ -20,10 +20,11 @@ pub fn what_is_packed_is_unpacked()
     ensures once { SpelledOnce }
 {}
 
-/// No spelling of the normal rows is shorter than the packer's text.
-#[tactic(auto, using(crate::proofs::PatternLaws::none_is_shorter))]
+/// No spelling of the normal rows is shorter than the packer's text, which has at most four bytes for each row.
+#[tactic(auto, using(crate::proofs::PatternLaws::none_is_shorter, crate::proofs::PatternLaws::text_is_short))]
 pub fn none_is_shorter()
-    ensures { NoneIsShorter }
+    ensures shortest { NoneIsShorter }
+    ensures most { PackedTextIsShort }
 {}
 
 /// Each list of bytes spells the rows of one pattern, or has a fault and spells none.
@@ -104,7 +105,7 @@ pub fn programs_read_the_same()
     ensures { ProgramsReadTheSame }
 {}
 
-/// The rows that stay stand for all rows, and no program can tell.
+/// The rows that stay stand for all rows, and the map to them keeps programs.
 #[tactic(auto, using(crate::proofs::StandIns::stand_in_stays, crate::proofs::StandIns::kept_stands))]
 pub fn stand_ins_keep_programs()
     ensures keep { StandInsKeepPrograms }
@@ -112,7 +113,7 @@ pub fn stand_ins_keep_programs()
     ensures themselves { KeptStandForThemselves }
 {}
 
-/// A frame can't tell the rows of a pattern from its normal rows.
+/// Fetching a normal row does what fetching the row does, but for the parameter of command 0.
 pub fn normal_rows_are_fetched()
     ensures { NormalRowsAreFetched }
 {}

@@ -47,7 +47,7 @@ impl PackedPattern {
     }
 }
 
-/// A packed text while it is written: at most 513 bytes, which is room for any pattern. It takes no memory.
+/// A packed text while it is written: at most 513 bytes, so many as a pattern of 128 rows may need. It takes no memory.
 #[derive(Drop)]
 pub(crate) struct PackedText {
     bytes: ArrayVec<u8, MOST_TEXT_BYTES>,

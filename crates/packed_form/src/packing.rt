@@ -1,6 +1,6 @@
 //! Packing a pattern.
 
-ghost use Rattle.std.specs.Prelude.{◌≡◌, ◌+◌, ◌<◌, ◌≤◌, ◌↔◌, ◌++◌, ℕ, List, IfOk, IsErrOf, MatchResult, length, drop, min};
+ghost use Rattle.std.specs.Prelude.{◌≡◌, ◌+◌, ◌<◌, ◌≤◌, ◌↔◌, ◌++◌, ℕ, List, IfOk, IfErr, IsErrOf, MatchResult, length, drop, min};
 ghost use Rattle.song_model.specs.PatternLimits.{IsPattern};
 ghost use Rattle.packed_form.specs.Entries.{IsEntry, IsKind, entry_bytes, kind_bytes, command_of};
 ghost use Rattle.packed_form.specs.PackedSpells.{PackedSpells};
@@ -23,6 +23,7 @@ pub fn pack_pattern(pattern: &Pattern) -> Result<PackedPattern, PatternTooLong>
     ensures packed { IfOk result (λ packed. packed ≡ packed_text pattern.now) }
     ensures too_long { (n : ℕ) → IsErrOf result (record { length = n })
         ↔ ((length (packed_text pattern.now) ≡ n) × (MOST_PACKED_BYTES < n)) }
+    ensures most { IfErr result (λ long. long.length ≤ 513) }
     // It spells the normal rows.
     ensures spelled { IfOk result (λ packed. PackedSpells packed (normal_rows pattern.now)) }
     // No spelling of these is shorter than what is packed, or than the length that is too long.

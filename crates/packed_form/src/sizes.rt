@@ -9,9 +9,10 @@ use song_model::Table;
 
 impl PackedSong {
     /// How many bytes the packed song has in memory: the bytes of its orderlists and patterns and two for the address
-    /// of each, nine of an instrument, two of a table's row. It is below 133,000.
+    /// of each, nine of an instrument, two of a table's row.
     pub fn size(&self) -> u32
-        ensures { result ≡ packed_song_size self.now }
+        ensures size { result ≡ packed_song_size self.now }
+        ensures most { result ≤ 81_039 }
     {
         let instruments = self.instruments.as_slice();
         subtunes_size(&self.subtunes)
