@@ -10,5 +10,6 @@ mod EqualRows
 mod Mapped
 -- Inner: speeds.
 mod SpeedRows
--- Inner: the laws.
+-- Inner: the laws, and tables that were worked out by hand.
 mod KeptPrograms
+mod WorkedTables

@@ -4,5 +4,6 @@ pub mod TableMaps
 pub mod Speeds
 -- To believe: which programs a table has. Inner: its segments as they are found.
 pub mod Programs
--- Claimed: laws of these.
+-- Claimed: laws of these, and tables worked out by hand.
 pub mod TableLaws
+pub mod WorkedTables

@@ -1,10 +1,17 @@
 //! Facts about new numbers of tables, each the contract of a function that does nothing.
 
 ghost use Rattle.table_pack.specs.TableLaws.{RenumberingsKeepPrograms, RenumberingsKeepOrder, StoredOnceKeepsPrograms};
+ghost use Rattle.table_pack.specs.WorkedTables.{LastFourAreKept, ZeroSpeedsAreOne};
 
 /// New numbers keep programs, also where the rows of equal programs stand for each other.
 pub fn new_numbers_keep_programs()
     ensures numbers { RenumberingsKeepPrograms }
     ensures order { RenumberingsKeepOrder }
     ensures once { StoredOnceKeepsPrograms }
+{}
+
+/// New numbers of two small tables.
+pub fn worked_tables()
+    ensures rows { LastFourAreKept }
+    ensures speeds { ZeroSpeedsAreOne }
 {}
