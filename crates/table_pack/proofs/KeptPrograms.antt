@@ -16,7 +16,7 @@ not_kept_0 : (keep : ℕ → Bool) (old : List TableRow) → ((p : ℕ) → keep
 not_kept_0 keep old stored true e = absurd (let first = (stored 0 e).first in omega arith)
 not_kept_0 keep old stored false e = refl
 
-new_nothing : (keep : ℕ → Bool) (old new : List TableRow) (to : ℕ → ℕ) → IsRenumbering keep old new to →
+pub new_nothing : (keep : ℕ → Bool) (old new : List TableRow) (to : ℕ → ℕ) → IsRenumbering keep old new to →
     ((p : ℕ) → keep p ≡ true → IsNumbered old p) → to 0 ≡ 0
 new_nothing keep old new to is stored = is.none 0 (not_kept_0 keep old stored (keep 0) refl)
 

@@ -12,4 +12,5 @@ mod Mapped
 mod SpeedRows
 -- Inner: the laws, and tables that were worked out by hand.
 mod KeptPrograms
+mod KeptRows
 mod WorkedTables

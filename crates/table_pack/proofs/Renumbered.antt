@@ -60,13 +60,13 @@ gathered_left keep old i rows to g fails =
       later = λ p low. g.later p (omega arith);
     }
 
-row_in_front : (rows : List TableRow) (row : TableRow) (n : ℕ) → 1 ≤ n → n ≤ length rows →
+pub row_in_front : (rows : List TableRow) (row : TableRow) (n : ℕ) → 1 ≤ n → n ≤ length rows →
     row_at (rows ++ row ∷ []) n ≡ row_at rows n
 row_in_front rows row n first last =
     let some = ne_eqb n 0 (λ (e : n ≡ 0). omega arith) in
     rw some (get_or_append_left rows (row ∷ []) zero_table_row (n - 1) (omega arith))
 
-row_behind : (rows : List TableRow) (row : TableRow) (n : ℕ) → n ≡ length rows + 1 → row_at (rows ++ row ∷ []) n ≡ row
+pub row_behind : (rows : List TableRow) (row : TableRow) (n : ℕ) → n ≡ length rows + 1 → row_at (rows ++ row ∷ []) n ≡ row
 row_behind rows row n e =
     let some = ne_eqb n 0 (λ (z : n ≡ 0). omega arith) in
     let less : n - 1 - length rows ≡ 0 = omega arith in

@@ -1,9 +1,10 @@
 -- What a reader may rely on in new numbers of tables.
-use Rattle.std.specs.Prelude.{◌≡◌, ◌≢◌, ℕ, ◌+◌, ◌≤◌, Bool, true, false, List, map}
+use Rattle.std.specs.Prelude.{◌≡◌, ◌≢◌, ℕ, ◌+◌, ◌≤◌, Bool, true, false, List, length, map, filter}
 use Rattle.song_model.specs.declared.tables.TableRow.{TableRow}
 use Rattle.song_model.specs.LookUp.{IsNumbered}
-use Rattle.packed_form.specs.Segments.{ProgramTable, IsWhole, is_jump_row, is_end, keeps, stand_in}
+use Rattle.packed_form.specs.Segments.{ProgramTable, IsWhole, numbers, is_jump_row, is_end, keeps, stand_in}
 use Rattle.packed_form.specs.ProgramMaps.{retargeted, row_at, KeepsPrograms}
+use Rattle.packed_form.specs.Renumbering.{program_number, program_rows}
 use Rattle.table_pack.specs.TableMaps.{IsRenumbering}
 
 -- new numbers keep the programs of the rows that are kept, where a program goes on to a kept row and jumps to one, or
@@ -29,3 +30,21 @@ abbrev pub RenumberingsKeepOrder : Type 0
 RenumberingsKeepOrder =
     (keep : ℕ → Bool) (old new : List TableRow) (to : ℕ → ℕ) (p q : ℕ) → IsRenumbering keep old new to →
     ((p : ℕ) → keep p ≡ true → IsNumbered old p) → keep p ≡ true → keep q ≡ true → p + 1 ≤ q → to p + 1 ≤ to q
+
+-- the rows of a renumbering are those that are kept, in order
+abbrev pub RenumberedRowsAreKept : Type 0
+RenumberedRowsAreKept =
+    (keep : ℕ → Bool) (old new : List TableRow) (to : ℕ → ℕ) → IsRenumbering keep old new to →
+    ((p : ℕ) → keep p ≡ true → IsNumbered old p) → new ≡ map (row_at old) (filter keep (numbers (length old)))
+
+-- so the rows that stay, under new numbers, are the packed table's rows, and their numbers are its numbers
+abbrev pub StoredOnceIsPacked : Type 0
+StoredOnceIsPacked =
+    (table : ProgramTable) (keep : ℕ → Bool) (stand to : ℕ → ℕ) (new : List TableRow) → IsWhole table →
+    ((p : ℕ) → keep p ≡ keeps table p) → ((p : ℕ) → stand p ≡ stand_in table p) → IsRenumbering keep table.rows new to →
+    (map (retargeted (λ p. to (stand p))) new ≡ program_rows table) × ((p : ℕ) → to (stand p) ≡ program_number table p)
+
+-- and these keep all programs of the table
+abbrev pub PackedTablesKeepPrograms : Type 0
+PackedTablesKeepPrograms = (table : ProgramTable) → IsWhole table →
+    KeepsPrograms table.pulse table.reached table.rows (program_rows table) (program_number table)
