@@ -8,6 +8,8 @@ pub use Rattle.packed_form.proofs.PatternLaws.{spelled_once, spelled_are_pattern
 pub use Rattle.packed_form.proofs.FirstFaults.{bad_bytes_are_first, ends_are_missing, lengths_are_bad}
 -- one map of rows that keeps programs after another is one, and what is read from stand-ins is what is read from the rows
 pub use Rattle.packed_form.proofs.ProgramMaps.{retargeted_twice, end_stays, maps_compose, programs_read_the_same}
+-- the wave table with new pointers into the other tables is read as the wave table is
+pub use Rattle.packed_form.proofs.NewPointers.{new_pointers_are_read}
 -- tests of the numbers of a stretch
 pub use Rattle.packed_form.proofs.Numbers.{all_at, all_from, range_more, IsFound, least_found, found_at}
 -- the rows of a segment, and where two segments are equal

@@ -19,6 +19,7 @@ mod Segments
 mod EqualSegments
 mod StandIns
 mod PlayablePrograms
+mod NewPointers
 mod FirstSeen
 -- Inner: what a frame does with normal rows.
 mod NormalRows

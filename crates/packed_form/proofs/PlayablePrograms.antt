@@ -93,7 +93,7 @@ pulse_says song = record {
 }
 
 -- a jump row of the wave table points into no other table
-wave_jump : (song : Song) (used : UsedSets) (row : TableRow) → is_jump_row row ≡ true →
+pub wave_jump : (song : Song) (used : UsedSets) (row : TableRow) → is_jump_row row ≡ true →
     (wave_row song used row).right ≡ row.right
 wave_jump song used row jump = let e : row.left ≡ 0xFF = eqb-true row.left 0xFF jump in rw e refl
 

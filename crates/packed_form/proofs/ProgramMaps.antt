@@ -121,10 +121,10 @@ goes pulse reached old new to p keeps is =
           ∙ ap to (sym (row_goes pulse p (row_at old p) none on));
     }
 
-nothing_read : (pulse : Bool) (rows : List TableRow) (n p : ℕ) → p ≡ 0 → rows_read pulse rows (suc n) p ≡ []
+pub nothing_read : (pulse : Bool) (rows : List TableRow) (n p : ℕ) → p ≡ 0 → rows_read pulse rows (suc n) p ≡ []
 nothing_read pulse rows n p e = rw e refl
 
-row_read : (pulse : Bool) (rows : List TableRow) (n p : ℕ) → p ≢ 0 →
+pub row_read : (pulse : Bool) (rows : List TableRow) (n p : ℕ) → p ≢ 0 →
     rows_read pulse rows (suc n) p ≡ row_at rows p ∷ rows_read pulse rows n (next_place pulse p (row_at rows p))
 row_read pulse rows n p some = let e : (p == 0) ≡ false = ne_eqb p 0 some in rw e refl
 

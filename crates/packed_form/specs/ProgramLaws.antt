@@ -1,11 +1,11 @@
 -- What a reader may rely on in the definitions of programs that are stored once.
-use Rattle.std.specs.Prelude.{◌≡◌, ℕ, true, map}
+use Rattle.std.specs.Prelude.{◌≡◌, ℕ, true, false, map}
 use Rattle.song_model.specs.declared.songs.Song.{Song}
 use Rattle.play_model.specs.Playable.{IsPlayable}
 use Rattle.packed_form.specs.Segments.{ProgramTable, IsWhole, keeps, stand_in}
-use Rattle.packed_form.specs.ProgramMaps.{retargeted, KeepsPrograms}
+use Rattle.packed_form.specs.ProgramMaps.{retargeted, KeepsPrograms, rows_read}
 use Rattle.packed_form.specs.UsedSets.{UsedSets, AreUsedSets}
-use Rattle.packed_form.specs.Renumbering.{wave_programs, pulse_programs, filter_programs}
+use Rattle.packed_form.specs.Renumbering.{wave_row, wave_programs, pulse_programs, filter_programs}
 
 -- the map to the rows that stand for others keeps programs, where each jump goes to what stands for its target
 abbrev pub StandInsKeepPrograms : Type 0
@@ -19,6 +19,11 @@ StandInsStay = (table : ProgramTable) (p : ℕ) → IsWhole table → table.reac
 
 abbrev pub KeptStandForThemselves : Type 0
 KeptStandForThemselves = (table : ProgramTable) (p : ℕ) → IsWhole table → keeps table p ≡ true → stand_in table p ≡ p
+
+-- the wave table with new pointers into the other tables is read as the wave table is, with these pointers
+abbrev pub NewPointersAreRead : Type 0
+NewPointersAreRead = (song : Song) (used : UsedSets) (n p : ℕ) →
+    rows_read false (map (wave_row song used) song.wave) n p ≡ map (wave_row song used) (rows_read false song.wave n p)
 
 -- the tables of a song that can be played are whole, where foreign pointers have their new numbers
 abbrev pub PlayableProgramsAreWhole : Type 0

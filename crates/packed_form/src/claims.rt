@@ -5,7 +5,7 @@ ghost use Rattle.packed_form.specs.FaultLaws.{BadBytesAreFirst, EndsAreMissing, 
 ghost use Rattle.packed_form.specs.NormalLaws.{NormalRowsAreFetched};
 ghost use Rattle.packed_form.specs.SizeLaws.{SizesAreTheSongs, PackedSizeIsWithin};
 ghost use Rattle.packed_form.specs.ProgramMaps.{MapsCompose, ProgramsReadTheSame};
-ghost use Rattle.packed_form.specs.ProgramLaws.{StandInsKeepPrograms, StandInsStay, KeptStandForThemselves, PlayableProgramsAreWhole};
+ghost use Rattle.packed_form.specs.ProgramLaws.{StandInsKeepPrograms, StandInsStay, KeptStandForThemselves, NewPointersAreRead, PlayableProgramsAreWhole};
 ghost use Rattle.packed_form.specs.WorkedSizes.{NoteHas42Bytes, EqualPatternsAreStoredOnce, CodeBoundsAre};
 ghost use Rattle.packed_form.specs.WorkedPrograms.{EqualProgramsAreStoredOnce, FirstOfThreeStays, PulseProgramsStop, JumpsOutAreKept, MiddleEntriesAreKept, FirstOpenOneIsKept, OthersAreKept, JumpsIntoDroppedPrograms, JumpsIntoTheMiddleAreKept, LoopsAreAsFar};
 ghost use Rattle.packed_form.specs.WorkedNumbers.{SpeedsAreSharedOnce, PulsesAreStoredOnce, FiltersMoveUp, WavesAreStoredOnce, InstrumentsMoveUp, CrowdedTexts, PatternsAreStoredOnce, CrowdedSizes};
@@ -100,9 +100,11 @@ pub fn maps_compose()
     ensures { MapsCompose }
 {}
 
-/// A map of rows that keeps programs keeps what is read in them.
+/// A map of rows that keeps programs keeps what is read in them, and so does giving the wave table new pointers into
+/// other tables.
 pub fn programs_read_the_same()
-    ensures { ProgramsReadTheSame }
+    ensures maps { ProgramsReadTheSame }
+    ensures pointers { NewPointersAreRead }
 {}
 
 /// The rows that stay stand for all rows, and the map to them keeps programs.

@@ -10,10 +10,10 @@ use Rattle.song_model.specs.declared.tables.TableRow.{TableRow}
 use Rattle.song_model.specs.LookUp.{IsNumbered, zero_table_row}
 use Rattle.packed_form.specs.Segments.{ProgramTable, IsWhole, keeps, stand_in}
 use Rattle.packed_form.specs.ProgramMaps.{retargeted, row_at, KeepsPrograms}
-use Rattle.packed_form.specs.Renumbering.{rank, program_number, program_rows}
-use Rattle.packed_form.proofs.Laws.{range_more, kept_parts, stand_in_stays, stands_for_none}
+use Rattle.packed_form.specs.Renumbering.{rank, program_number, program_rows, wave_programs, pulse_programs, filter_programs, table_number}
+use Rattle.packed_form.proofs.Laws.{range_more, kept_parts, stand_in_stays, stands_for_none, programs_read_the_same, new_pointers_are_read}
 use Rattle.table_pack.specs.TableMaps.{IsRenumbering}
-use Rattle.table_pack.specs.TableLaws.{RenumberedRowsAreKept, StoredOnceIsPacked, PackedTablesKeepPrograms}
+use Rattle.table_pack.specs.TableLaws.{RenumberedRowsAreKept, StoredOnceIsPacked, PackedTablesKeepPrograms, PackedProgramsAreRead}
 use Rattle.table_pack.proofs.Ranks.{rank_kept, rank_left, rank_rises, rank_positive}
 use Rattle.table_pack.proofs.Renumbered.{row_in_front, row_behind, row_by_place}
 use Rattle.table_pack.proofs.KeptPrograms.{new_nothing, stored_once}
@@ -219,3 +219,21 @@ packed_tables_keep table whole =
     (fun_ext (number_is table to new whole is))
     (subst (λ (rows : List TableRow). KeepsPrograms table.pulse table.reached table.rows rows (λ p. to (stand_in table p)))
     (rows_are_packed table to new whole is) keep)
+
+pub packed_programs_are_read : PackedProgramsAreRead
+unfolding table_number
+packed_programs_are_read song used n p = (
+  λ whole is.
+      let table = wave_programs song used in
+      programs_read_the_same false table.reached table.rows (program_rows table) (program_number table) n p
+      (packed_tables_keep table whole) (inr is)
+      ∙ ap (map (retargeted (program_number table))) (new_pointers_are_read song used n p),
+  λ whole is.
+      let table = pulse_programs song used in
+      programs_read_the_same true table.reached table.rows (program_rows table) (program_number table) n p
+      (packed_tables_keep table whole) (inr is),
+  λ whole is.
+      let table = filter_programs song used in
+      programs_read_the_same false table.reached table.rows (program_rows table) (program_number table) n p
+      (packed_tables_keep table whole) (inr is),
+)

@@ -1,10 +1,13 @@
 -- What a reader may rely on in new numbers of tables.
 use Rattle.std.specs.Prelude.{◌≡◌, ◌≢◌, ℕ, ◌+◌, ◌≤◌, Bool, true, false, List, length, map, filter}
 use Rattle.song_model.specs.declared.tables.TableRow.{TableRow}
+use Rattle.song_model.specs.declared.tables.TableName.TheVariants.{Wave, Pulse, Filter}
+use Rattle.song_model.specs.declared.songs.Song.{Song}
 use Rattle.song_model.specs.LookUp.{IsNumbered}
 use Rattle.packed_form.specs.Segments.{ProgramTable, IsWhole, numbers, is_jump_row, is_end, keeps, stand_in}
-use Rattle.packed_form.specs.ProgramMaps.{retargeted, row_at, KeepsPrograms}
-use Rattle.packed_form.specs.Renumbering.{program_number, program_rows}
+use Rattle.packed_form.specs.ProgramMaps.{retargeted, row_at, KeepsPrograms, rows_read}
+use Rattle.packed_form.specs.UsedSets.{UsedSets}
+use Rattle.packed_form.specs.Renumbering.{program_number, program_rows, wave_row, wave_programs, pulse_programs, filter_programs, table_number}
 use Rattle.table_pack.specs.TableMaps.{IsRenumbering}
 
 -- new numbers keep the programs of the rows that are kept, where a program goes on to a kept row and jumps to one, or
@@ -48,3 +51,17 @@ StoredOnceIsPacked =
 abbrev pub PackedTablesKeepPrograms : Type 0
 PackedTablesKeepPrograms = (table : ProgramTable) → IsWhole table →
     KeepsPrograms table.pulse table.reached table.rows (program_rows table) (program_number table)
+
+-- what is read in a packed table of a song, from the new number of a row, is what is read in the song's table from that
+-- row: the same left sides, and but for jumps and pointers into other tables the same right sides
+abbrev pub PackedProgramsAreRead : Type 0
+PackedProgramsAreRead = (song : Song) (used : UsedSets) (n p : ℕ) →
+    (IsWhole (wave_programs song used) → used.reached Wave p ≡ true →
+    rows_read false (program_rows (wave_programs song used)) n (table_number song used Wave p)
+    ≡ map (retargeted (table_number song used Wave)) (map (wave_row song used) (rows_read false song.wave n p)))
+    × (IsWhole (pulse_programs song used) → used.reached Pulse p ≡ true →
+    rows_read true (program_rows (pulse_programs song used)) n (table_number song used Pulse p)
+    ≡ map (retargeted (table_number song used Pulse)) (rows_read true song.pulse n p))
+    × (IsWhole (filter_programs song used) → used.reached Filter p ≡ true →
+    rows_read false (program_rows (filter_programs song used)) n (table_number song used Filter p)
+    ≡ map (retargeted (table_number song used Filter)) (rows_read false song.filter n p))

@@ -1,6 +1,6 @@
 //! Facts about new numbers of tables, each the contract of a function that does nothing.
 
-ghost use Rattle.table_pack.specs.TableLaws.{RenumberingsKeepPrograms, RenumberingsKeepOrder, StoredOnceKeepsPrograms, RenumberedRowsAreKept, StoredOnceIsPacked, PackedTablesKeepPrograms};
+ghost use Rattle.table_pack.specs.TableLaws.{RenumberingsKeepPrograms, RenumberingsKeepOrder, StoredOnceKeepsPrograms, RenumberedRowsAreKept, StoredOnceIsPacked, PackedTablesKeepPrograms, PackedProgramsAreRead};
 ghost use Rattle.table_pack.specs.WorkedTables.{LastFourAreKept, ZeroSpeedsAreOne};
 
 /// New numbers keep programs, also where the rows of equal programs stand for each other.
@@ -15,6 +15,7 @@ pub fn packed_tables_are_stored_once()
     ensures rows { RenumberedRowsAreKept }
     ensures packed { StoredOnceIsPacked }
     ensures keep { PackedTablesKeepPrograms }
+    ensures read { PackedProgramsAreRead }
 {}
 
 /// New numbers of two small tables.
