@@ -26,6 +26,7 @@ mod NormalRows
 -- Inner: sizes, programs and new numbers that were worked out by hand.
 mod WorkedSizes
 mod WorkedNumbers
+mod CrowdedSets
 mod SizesOfSongs
 -- Inner: the laws.
 mod PatternLaws

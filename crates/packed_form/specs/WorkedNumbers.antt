@@ -7,7 +7,7 @@ use Rattle.song_model.specs.declared.songs.Song.{Song}
 use Rattle.song_model.specs.Silence.{empty_song}
 use Rattle.play_model.specs.WorkedSongs.{subtune, row, sides, plucked}
 use Rattle.packed_form.specs.Segments.{numbers}
-use Rattle.packed_form.specs.UsedSets.{UsedSets}
+use Rattle.packed_form.specs.UsedSets.{UsedSets, AreUsedSets}
 use Rattle.packed_form.specs.Renumbering.{speed_rows, wave_programs, pulse_programs, filter_programs, program_rows, table_number, instrument_number, pattern_texts, pattern_number}
 use Rattle.packed_form.specs.SongSizes.{data_size, packed_size}
 use Rattle.packed_form.specs.WorkedSizes.{among}
@@ -57,6 +57,10 @@ crowded_sets = record {
   reached = crowded_rows;
   pointers = crowded_pointers;
 }
+
+-- they are what the song uses
+abbrev pub CrowdedSetsAreUsed : Type 0
+CrowdedSetsAreUsed = AreUsedSets crowded_song crowded_sets
 
 -- ---- tables
 

@@ -1,4 +1,5 @@
 use Rattle.packed_form.proofs.WorkedNumbers.{tables, instruments, patterns, sizes}
+use Rattle.packed_form.proofs.CrowdedSets.{crowded_sets_are_used}
 use Rattle.packed_form.proofs.claims.worked_numbers.Goals as goal
 
 pub returns-clause-tables : goal.returns-clause-tables
@@ -12,3 +13,6 @@ returns-clause-patterns c = patterns
 
 pub returns-clause-sizes : goal.returns-clause-sizes
 returns-clause-sizes c = sizes
+
+pub returns-clause-sets : goal.returns-clause-sets
+returns-clause-sets c = crowded_sets_are_used
