@@ -1,5 +1,5 @@
--- When the rows of a table may get new numbers: what any player reads in the programs of the new table is what it reads
--- in those of the old one.
+-- When the rows of a table may get new numbers: what is read in the programs of the new table is what is read in those
+-- of the old one.
 use Rattle.std.specs.Prelude.{◌≡◌, ◌≢◌, ◌⊎◌, ℕ, zero, suc, ◌+◌, Bool, true, false, ◌==◌, if◌then◌else◌, List, [], ◌∷◌, map}
 use Rattle.song_model.specs.declared.tables.TableRow.{TableRow}
 use Rattle.song_model.specs.LookUp.{IsNumbered, numbered, zero_table_row}

@@ -2,7 +2,7 @@
 
 ghost use Rattle.std.specs.Prelude.{◌≡◌, ◌+◌, ◌<◌, ◌≤◌, ◌↔◌, ◌++◌, ℕ, List, IfOk, IfErr, IsErrOf, MatchResult, length, drop, min};
 ghost use Rattle.song_model.specs.PatternLimits.{IsPattern};
-ghost use Rattle.packed_form.specs.Entries.{IsEntry, IsKind, entry_bytes, kind_bytes, command_of};
+ghost use Rattle.packed_form.specs.Entries.{IsEntry, IsKind, entry_bytes, kind_bytes, no_command, command_of};
 ghost use Rattle.packed_form.specs.PackedSpells.{PackedSpells};
 ghost use Rattle.packed_form.specs.Normal.{normal_rows, normal_row, normal_from, last_instrument};
 ghost use Rattle.packed_form.specs.PackedText.{packed_text, first_entry, first_kind, keeps, is_bare_rest, rests_in_front};
@@ -48,10 +48,7 @@ fn text_of(rows: &[Row]) -> PackedText
     ensures { result ≡ packed_text rows.now }
 {
     let mut text = PackedText::new();
-    let mut packer = Packer {
-        last: 0,
-        running: Command::NONE,
-    };
+    let mut packer = Packer::new();
     let mut left = rows;
     'rows: while let Some((row, others)) = left.split_first() {
         let entry = packer.next_entry(*row, others);
@@ -80,6 +77,17 @@ struct Packer {
 }
 
 impl Packer {
+    /// Before the first row: no instrument was named, and no command is running.
+    fn new() -> Packer
+        ensures last { result.last ≡ 0 }
+        ensures running { result.running ≡ no_command }
+    {
+        Packer {
+            last: 0,
+            running: Command::NONE,
+        }
+    }
+
     /// The entry of the next row, which these rows follow.
     fn next_entry(&mut self, row: Row, others: &[Row]) -> Entry
         ensures entry { result ≡ first_entry self.old.running (normal_row self.old.last row)
