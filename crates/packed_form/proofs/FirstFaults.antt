@@ -107,6 +107,16 @@ Says offset place bytes (Err (BadByte k)) = IsBadAt offset place bytes k
 Says offset place bytes (Err BadLength) = ⊥
 Says offset place bytes (Err NoMemory) = ⊥
 
+-- a bad byte behind one more byte
+bad_behind : (offset : ℕ) (place next : Place) (byte : ℕ) (others : List ℕ) (k : ℕ)
+    (bad : IsBadAt (offset + 1) next others k) → BegunAt place (byte ∷ take bad.d others)
+    → ((more : List ℕ) → entries_at offset place (byte ∷ (take (suc bad.d) others ++ more)) ≡ Err (BadByte k)) →
+    IsBadAt offset place (byte ∷ others) k
+bad_behind offset place next byte others k bad begun stays =
+    let far = bad.far in
+    let inside = bad.inside in
+    record { d = suc bad.d; far = omega arith; inside = omega arith; begun = begun; stays = stays }
+
 on_says : (offset : ℕ) (place next : Place) (byte : ℕ) (others : List ℕ) → taken place byte ≡ Some (On next) →
     front place ++ byte ∷ [] ≡ front next → (r : Result (List Entry) PackedFault) → Says (offset + 1) next others r →
     Says offset place (byte ∷ others) r
@@ -115,15 +125,8 @@ on_says offset place next byte others t e (Err NoEnd) says = on_begun place next
 on_says offset place next byte others t e (Err BadLength) says = says
 on_says offset place next byte others t e (Err NoMemory) says = says
 on_says offset place next byte others t e (Err (BadByte k)) says =
-    let far = says.far in
-    let inside = says.inside in
-    record {
-      d = suc says.d;
-      far = omega arith;
-      inside = omega arith;
-      begun = on_begun place next byte (take says.d others) e says.begun;
-      stays = λ more. rw t (says.stays more);
-    }
+    bad_behind offset place next byte others k says (on_begun place next byte (take says.d others) e says.begun)
+    (λ more. rw t (says.stays more))
 
 made_says : (offset : ℕ) (place : Place) (entry : Entry) (byte : ℕ) (others : List ℕ) →
     taken place byte ≡ Some (Made entry) → front place ++ byte ∷ [] ≡ entry_bytes entry → IsEntry entry →
@@ -134,15 +137,9 @@ made_says offset place entry byte others t e is (Err NoEnd) says = made_begun pl
 made_says offset place entry byte others t e is (Err BadLength) says = says
 made_says offset place entry byte others t e is (Err NoMemory) says = says
 made_says offset place entry byte others t e is (Err (BadByte k)) says =
-    let far = says.far in
-    let inside = says.inside in
-    record {
-      d = suc says.d;
-      far = omega arith;
-      inside = omega arith;
-      begun = made_begun place entry byte (take says.d others) e is says.begun;
-      stays = λ more. rw t (ap (with_entry entry) (says.stays more));
-    }
+    bad_behind offset place (AtEntry 0) byte others k says
+    (made_begun place entry byte (take says.d others) e is says.begun)
+    (λ more. rw t (ap (with_entry entry) (says.stays more)))
 
 step : (offset : ℕ) (place : Place) (byte : ℕ) (others : List ℕ) → IsPlace place → (t : Option Taken) →
     taken place byte ≡ t → TakenIs place byte t

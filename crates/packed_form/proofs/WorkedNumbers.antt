@@ -7,10 +7,15 @@ use Rattle.packed_form.specs.Renumbering.{speed_rows, speed_number, program_rows
 use Rattle.packed_form.specs.SongSizes.{data_size, packed_size}
 use Rattle.packed_form.specs.WorkedNumbers.{SpeedsAreSharedOnce, PulsesAreStoredOnce, FiltersMoveUp, WavesAreStoredOnce, InstrumentsMoveUp, CrowdedTexts, PatternsAreStoredOnce, CrowdedSizes}
 
-pub tables : SpeedsAreSharedOnce × PulsesAreStoredOnce × FiltersMoveUp × WavesAreStoredOnce
+pub speeds : SpeedsAreSharedOnce
 unfolding packed_text first_row is_closed are_equal first_equal keeps stand_in speed_rows speed_number program_rows
     table_number instrument_number pattern_text pattern_texts pattern_number data_size packed_size table_row pattern_at
-tables = ((refl, refl), (refl, refl), (refl, refl), (refl, refl))
+speeds = (refl, refl)
+
+pub tables : PulsesAreStoredOnce × FiltersMoveUp × WavesAreStoredOnce
+unfolding packed_text first_row is_closed are_equal first_equal keeps stand_in speed_rows speed_number program_rows
+    table_number instrument_number pattern_text pattern_texts pattern_number data_size packed_size table_row pattern_at
+tables = ((refl, refl), (refl, refl), (refl, refl))
 
 pub instruments : InstrumentsMoveUp
 unfolding packed_text first_row is_closed are_equal first_equal keeps stand_in speed_rows speed_number program_rows

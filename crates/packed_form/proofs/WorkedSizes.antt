@@ -8,9 +8,13 @@ use Rattle.packed_form.specs.SongSizes.{data_size, packed_size}
 use Rattle.packed_form.specs.WorkedSizes.{NoteHas42Bytes, EqualPatternsAreStoredOnce}
 use Rattle.packed_form.specs.WorkedPrograms.{EqualProgramsAreStoredOnce, FirstOfThreeStays, PulseProgramsStop, JumpsOutAreKept, MiddleEntriesAreKept, FirstOpenOneIsKept, OthersAreKept, JumpsIntoDroppedPrograms, JumpsIntoTheMiddleAreKept, LoopsAreAsFar}
 
-pub programs_once : EqualProgramsAreStoredOnce × FirstOfThreeStays × PulseProgramsStop × LoopsAreAsFar
+pub programs_once : EqualProgramsAreStoredOnce × FirstOfThreeStays × LoopsAreAsFar
 unfolding first_row is_closed are_equal first_equal keeps stand_in
-programs_once = ((refl, refl), (refl, refl), ((refl, refl), (refl, refl)), (refl, refl))
+programs_once = ((refl, refl), (refl, refl), (refl, refl))
+
+pub programs_stop : PulseProgramsStop
+unfolding first_row is_closed are_equal first_equal keeps stand_in
+programs_stop = ((refl, refl), (refl, refl))
 
 pub programs_kept : JumpsOutAreKept × MiddleEntriesAreKept × FirstOpenOneIsKept × OthersAreKept
 unfolding first_row is_closed are_equal first_equal keeps stand_in

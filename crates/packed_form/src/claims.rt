@@ -67,7 +67,8 @@ pub fn worked_faults()
 
 /// Which programs are stored once, and which aren't.
 pub fn worked_programs()
-    ensures once { EqualProgramsAreStoredOnce × FirstOfThreeStays × PulseProgramsStop × LoopsAreAsFar }
+    ensures once { EqualProgramsAreStoredOnce × FirstOfThreeStays × LoopsAreAsFar }
+    ensures pulse { PulseProgramsStop }
     ensures kept { JumpsOutAreKept × MiddleEntriesAreKept × FirstOpenOneIsKept × OthersAreKept }
     ensures jumps { JumpsIntoDroppedPrograms × JumpsIntoTheMiddleAreKept }
 {}
@@ -90,7 +91,8 @@ pub fn worked_sizes()
 /// The new numbers of a song's parts, and what its tables and patterns are packed to.
 pub fn worked_numbers()
     ensures sets { CrowdedSetsAreUsed }
-    ensures tables { SpeedsAreSharedOnce × PulsesAreStoredOnce × FiltersMoveUp × WavesAreStoredOnce }
+    ensures speeds { SpeedsAreSharedOnce }
+    ensures tables { PulsesAreStoredOnce × FiltersMoveUp × WavesAreStoredOnce }
     ensures instruments { InstrumentsMoveUp }
     ensures patterns { CrowdedTexts × PatternsAreStoredOnce }
     ensures sizes { CrowdedSizes }

@@ -84,7 +84,7 @@ same_end table p whole reached there goes =
     sym (end_stays table.pulse (stand_in table) (row_at table.rows (stand_in table p)))
     ∙ ap (is_end table.pulse) same ∙ end_stays table.pulse (stand_in table) (row_at table.rows p) ∙ goes
 
-kept_stored : (table : ProgramTable) → IsWhole table → (p : ℕ) → keeps table p ≡ true → IsNumbered table.rows p
+pub kept_stored : (table : ProgramTable) → IsWhole table → (p : ℕ) → keeps table p ≡ true → IsNumbered table.rows p
 kept_stored table whole p kept = whole.stored p (kept_parts table p kept).reached
 
 once : (table : ProgramTable) (to : ℕ → ℕ) (new : List TableRow) → IsWhole table →

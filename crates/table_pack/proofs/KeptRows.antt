@@ -11,12 +11,12 @@ use Rattle.song_model.specs.LookUp.{IsNumbered, zero_table_row}
 use Rattle.packed_form.specs.Segments.{ProgramTable, IsWhole, keeps, stand_in}
 use Rattle.packed_form.specs.ProgramMaps.{retargeted, row_at, KeepsPrograms}
 use Rattle.packed_form.specs.Renumbering.{rank, program_number, program_rows, wave_programs, pulse_programs, filter_programs, table_number}
-use Rattle.packed_form.proofs.Laws.{range_more, kept_parts, stand_in_stays, stands_for_none, programs_read_the_same, new_pointers_are_read}
+use Rattle.packed_form.proofs.Laws.{range_more, stand_in_stays, stands_for_none, programs_read_the_same, new_pointers_are_read}
 use Rattle.table_pack.specs.TableMaps.{IsRenumbering}
 use Rattle.table_pack.specs.TableLaws.{RenumberedRowsAreKept, StoredOnceIsPacked, PackedTablesKeepPrograms, PackedProgramsAreRead}
-use Rattle.table_pack.proofs.Ranks.{rank_kept, rank_left, rank_rises, rank_positive}
+use Rattle.table_pack.proofs.Ranks.{last_or_before, rank_kept, rank_left, rank_rises, rank_positive}
 use Rattle.table_pack.proofs.Renumbered.{row_in_front, row_behind, row_by_place}
-use Rattle.table_pack.proofs.KeptPrograms.{new_nothing, stored_once}
+use Rattle.table_pack.proofs.KeptPrograms.{new_nothing, kept_stored, stored_once}
 
 -- ---- the kept rows up to row i
 
@@ -64,9 +64,6 @@ kept_count keep old (suc i) = elim (cases_Bool (keep (suc i))) [
   | inr fails ↦ ap (λ (rows : List TableRow). length rows) (kept_same keep old i fails)
       ∙ kept_count keep old i ∙ sym (rank_left keep i fails)
 ]
-
-last_or_before : (p i : ℕ) → p ≤ suc i → (p ≡ suc i) ⊎ (p ≤ i)
-last_or_before p i most = grind arith
 
 -- the kept row with this rank
 kept_row : (keep : ℕ → Bool) (old : List TableRow) (i p : ℕ) → 1 ≤ p → p ≤ i → keep p ≡ true →
@@ -152,9 +149,6 @@ rows_are_kept keep old new to is stored =
     ∙ sym (row_by_place (kept_to keep old (length old)) i zero_table_row small_too))
 
 -- ---- packed tables
-
-kept_stored : (table : ProgramTable) → IsWhole table → (p : ℕ) → keeps table p ≡ true → IsNumbered table.rows p
-kept_stored table whole p kept = whole.stored p (kept_parts table p kept).reached
 
 number_is : (table : ProgramTable) (to : ℕ → ℕ) (new : List TableRow) → IsWhole table →
     IsRenumbering (keeps table) table.rows new to → (p : ℕ) → to (stand_in table p) ≡ program_number table p

@@ -33,7 +33,7 @@ rank_most keep (suc n) =
       | inr fails ↦ (let e = rank_left keep n fails in omega arith)
     ]
 
-last_or_before : (m n : ℕ) → m ≤ suc n → (m ≡ suc n) ⊎ (m ≤ n)
+pub last_or_before : (m n : ℕ) → m ≤ suc n → (m ≡ suc n) ⊎ (m ≤ n)
 last_or_before m n most = grind arith
 
 pub rank_rises : (keep : ℕ → Bool) (m n : ℕ) → m ≤ n → rank keep m ≤ rank keep n

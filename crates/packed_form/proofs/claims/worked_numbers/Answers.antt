@@ -1,4 +1,4 @@
-use Rattle.packed_form.proofs.WorkedNumbers.{tables, instruments, patterns, sizes}
+use Rattle.packed_form.proofs.WorkedNumbers.{speeds, tables, instruments, patterns, sizes}
 use Rattle.packed_form.proofs.CrowdedSets.{crowded_sets_are_used}
 use Rattle.packed_form.proofs.claims.worked_numbers.Goals as goal
 
@@ -16,3 +16,6 @@ returns-clause-sizes c = sizes
 
 pub returns-clause-sets : goal.returns-clause-sets
 returns-clause-sets c = crowded_sets_are_used
+
+pub returns-clause-speeds : goal.returns-clause-speeds
+returns-clause-speeds c = speeds

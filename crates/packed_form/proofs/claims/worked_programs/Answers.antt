@@ -1,4 +1,4 @@
-use Rattle.packed_form.proofs.WorkedSizes.{programs_once, programs_kept, programs_jump}
+use Rattle.packed_form.proofs.WorkedSizes.{programs_once, programs_stop, programs_kept, programs_jump}
 use Rattle.packed_form.proofs.claims.worked_programs.Goals as goal
 
 pub returns-clause-once : goal.returns-clause-once
@@ -9,3 +9,6 @@ returns-clause-kept c = programs_kept
 
 pub returns-clause-jumps : goal.returns-clause-jumps
 returns-clause-jumps c = programs_jump
+
+pub returns-clause-pulse : goal.returns-clause-pulse
+returns-clause-pulse c = programs_stop
