@@ -29,11 +29,11 @@ passes : {X : Type 0} (test : X → Bool) (xs : List X) (x : X) → list_all tes
 passes {X} test xs x e has = All-contains (λ (x : X). test x ≡ true) xs x (all_pass test xs e) has
 
 -- a property of each number of a list
-abbrev Each : (ℕ → Type 0) → List ℕ → Type 0
+abbrev pub Each : (ℕ → Type 0) → List ℕ → Type 0
 Each P [] = Unit {0}
 Each P (n ∷ ns) = P n × Each P ns
 
-each_of : (P : ℕ → Type 0) (ns : List ℕ) → Each P ns → (n : ℕ) → among ns n ≡ true → P n
+pub each_of : (P : ℕ → Type 0) (ns : List ℕ) → Each P ns → (n : ℕ) → among ns n ≡ true → P n
 each_of P [] are n e = absurd cc
 each_of P (m ∷ ms) are n e = elim (or_cases (m == n) (among ms n) e) [
   | inl here ↦ subst P (eqb-true m n here) are.0
@@ -46,7 +46,7 @@ each_passes test (n ∷ ns) e =
     let parts = and_parts (test n) (list_all test ns) e in
     (parts.0, each_passes test ns parts.1)
 
-in_list : (test : ℕ → Bool) (ns : List ℕ) (n : ℕ) → list_all test ns ≡ true → among ns n ≡ true → test n ≡ true
+pub in_list : (test : ℕ → Bool) (ns : List ℕ) (n : ℕ) → list_all test ns ≡ true → among ns n ≡ true → test n ≡ true
 in_list test ns n e has = each_of (λ (k : ℕ). test k ≡ true) ns (each_passes test ns e) n has
 
 -- ---- nothing else is used
@@ -183,20 +183,20 @@ rows_lead Speed p e = in_list (leads_on Speed) (2 ∷ 3 ∷ 9 ∷ []) p refl e
 led_is : (name : TableName) (o : Option ℕ) (q : ℕ) → o ≡ Some q → leads name o ≡ true → crowded_rows name q ≡ true
 led_is name o q e is = subst (λ (x : Option ℕ). leads name x ≡ true) e is
 
-reached_is : (name : TableName) (p : ℕ) → IsReached crowded_song name p → crowded_rows name p ≡ true
+pub reached_is : (name : TableName) (p : ℕ) → IsReached crowded_song name p → crowded_rows name p ≡ true
 reached_is name p (played is) = pointer_rows name p (played_is name p is)
 reached_is name p (pointed r before is) =
     pointer_rows name p (wave_pointer_is r name p (reached_is Wave r before) is)
 reached_is name q (led p before e) =
     led_is name (led_to name (table_of crowded_song name) p) q e (rows_lead name p (reached_is name p before))
 
-pointer_is : (name : TableName) (p : ℕ) → IsPointer crowded_song name p → crowded_pointers name p ≡ true
+pub pointer_is : (name : TableName) (p : ℕ) → IsPointer crowded_song name p → crowded_pointers name p ≡ true
 pointer_is name p (of_played is) = played_is name p is
 pointer_is name p (of_wave_row r before is) = wave_pointer_is r name p (reached_is Wave r before) is
 
 -- ---- all of it is used
 
-abbrev crowded_subtune : Subtune
+abbrev pub crowded_subtune : Subtune
 crowded_subtune = subtune (0 ∷ 4 ∷ []) (2 ∷ []) (3 ∷ [])
 
 used_pattern : (n channel k : ℕ) (one : Order) → IsChannel channel → one ≡ order_of channel crowded_subtune →

@@ -27,6 +27,7 @@ mod NormalRows
 mod WorkedSizes
 mod WorkedNumbers
 mod CrowdedSets
+mod CrowdedSong
 mod SizesOfSongs
 -- Inner: the laws.
 mod PatternLaws

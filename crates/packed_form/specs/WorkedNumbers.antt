@@ -6,6 +6,7 @@ use Rattle.song_model.specs.declared.tables.TableName.TheVariants.{Wave, Pulse, 
 use Rattle.song_model.specs.declared.songs.Song.{Song}
 use Rattle.song_model.specs.Silence.{empty_song}
 use Rattle.play_model.specs.WorkedSongs.{subtune, row, sides, plucked}
+use Rattle.play_model.specs.Playable.{IsPlayable}
 use Rattle.packed_form.specs.Segments.{numbers}
 use Rattle.packed_form.specs.UsedSets.{UsedSets, AreUsedSets}
 use Rattle.packed_form.specs.Renumbering.{speed_rows, wave_programs, pulse_programs, filter_programs, program_rows, table_number, instrument_number, pattern_texts, pattern_number}
@@ -58,7 +59,11 @@ crowded_sets = record {
   pointers = crowded_pointers;
 }
 
--- they are what the song uses
+-- the song can be played
+abbrev pub CrowdedSongCanBePlayed : Type 0
+CrowdedSongCanBePlayed = IsPlayable crowded_song
+
+-- the sets are what it uses
 abbrev pub CrowdedSetsAreUsed : Type 0
 CrowdedSetsAreUsed = AreUsedSets crowded_song crowded_sets
 

@@ -8,7 +8,7 @@ ghost use Rattle.packed_form.specs.ProgramMaps.{MapsCompose, ProgramsReadTheSame
 ghost use Rattle.packed_form.specs.ProgramLaws.{StandInsKeepPrograms, StandInsStay, KeptStandForThemselves, NewPointersAreRead, PlayableProgramsAreWhole};
 ghost use Rattle.packed_form.specs.WorkedSizes.{NoteHas42Bytes, EqualPatternsAreStoredOnce, CodeBoundsAre};
 ghost use Rattle.packed_form.specs.WorkedPrograms.{EqualProgramsAreStoredOnce, FirstOfThreeStays, PulseProgramsStop, JumpsOutAreKept, MiddleEntriesAreKept, FirstOpenOneIsKept, OthersAreKept, JumpsIntoDroppedPrograms, JumpsIntoTheMiddleAreKept, LoopsAreAsFar};
-ghost use Rattle.packed_form.specs.WorkedNumbers.{CrowdedSetsAreUsed, SpeedsAreSharedOnce, PulsesAreStoredOnce, FiltersMoveUp, WavesAreStoredOnce, InstrumentsMoveUp, CrowdedTexts, PatternsAreStoredOnce, CrowdedSizes};
+ghost use Rattle.packed_form.specs.WorkedNumbers.{CrowdedSongCanBePlayed, CrowdedSetsAreUsed, SpeedsAreSharedOnce, PulsesAreStoredOnce, FiltersMoveUp, WavesAreStoredOnce, InstrumentsMoveUp, CrowdedTexts, PatternsAreStoredOnce, CrowdedSizes};
 ghost use Rattle.packed_form.specs.WorkedPatterns.{EighthsArePacked, KeyoffIsUnpacked, RestsAreGathered, CommandsAreNamedOnce, LongTextsAre, OtherSpellingsAreUnpacked, BadBytesAreFound, EndsAreWanted, LengthsAreLimited};
 
 /// What is packed is unpacked as the normal rows: the packer's text spells these, has no fault, and bytes spell one
@@ -88,8 +88,10 @@ pub fn worked_sizes()
     ensures code { CodeBoundsAre }
 {}
 
-/// The new numbers of a song's parts, and what its tables and patterns are packed to.
+/// A song that can be played and what it uses, the new numbers of its parts, and what its tables and patterns are
+/// packed to.
 pub fn worked_numbers()
+    ensures playable { CrowdedSongCanBePlayed }
     ensures sets { CrowdedSetsAreUsed }
     ensures speeds { SpeedsAreSharedOnce }
     ensures tables { PulsesAreStoredOnce × FiltersMoveUp × WavesAreStoredOnce }

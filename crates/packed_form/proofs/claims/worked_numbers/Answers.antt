@@ -1,5 +1,6 @@
 use Rattle.packed_form.proofs.WorkedNumbers.{speeds, tables, instruments, patterns, sizes}
 use Rattle.packed_form.proofs.CrowdedSets.{crowded_sets_are_used}
+use Rattle.packed_form.proofs.CrowdedSong.{crowded_song_can_be_played}
 use Rattle.packed_form.proofs.claims.worked_numbers.Goals as goal
 
 pub returns-clause-tables : goal.returns-clause-tables
@@ -19,3 +20,6 @@ returns-clause-sets c = crowded_sets_are_used
 
 pub returns-clause-speeds : goal.returns-clause-speeds
 returns-clause-speeds c = speeds
+
+pub returns-clause-playable : goal.returns-clause-playable
+returns-clause-playable c = crowded_song_can_be_played
