@@ -12,7 +12,8 @@ with_sides left right = record { left = left; right = right }
 
 -- two programs, of which the second one is a loop
 abbrev pub six_rows : List TableRow
-six_rows = with_sides 0x41 0 ∷ with_sides 0xFF 0 ∷ with_sides 0x21 0 ∷ with_sides 0x21 4 ∷ with_sides 0x21 7 ∷ with_sides 0xFF 3 ∷ []
+six_rows = with_sides 0x41 0 ∷ with_sides 0xFF 0 ∷ with_sides 0x21 0 ∷ with_sides 0x21 4 ∷ with_sides 0x21 7
+    ∷ with_sides 0xFF 3 ∷ []
 
 -- the last four are kept, with their right sides: the jump still names row 3
 abbrev pub LastFourAreKept : Type 0
