@@ -18,7 +18,7 @@ any_left_out test q x rest each fails = by_test (test x) refl
     by_test true is = absurd (let kept = each is in cc)
     by_test false is = rw is refl
 
-any_filter : {X : Type 0} (test q : X → Bool) (xs : List X) → ((x : X) → test x ≡ true → q x ≡ true) →
+pub any_filter : {X : Type 0} (test q : X → Bool) (xs : List X) → ((x : X) → test x ≡ true → q x ≡ true) →
     list_any test (filter q xs) ≡ list_any test xs
 any_filter test q [] each = refl
 any_filter test q (x ∷ xs) each = by_kept (q x) refl (any_filter test q xs each)

@@ -2,8 +2,9 @@
 
 -- what is packed spells the normal rows, and nothing shorter does; it has at most four bytes for each row
 pub use Rattle.packed_form.proofs.PatternLaws.{packed_is_spelled, none_is_shorter, text_is_short}
--- bytes spell one list of rows, which are those of a pattern
+-- bytes spell one list of rows, which are those of a pattern, and unpacking gives them
 pub use Rattle.packed_form.proofs.PatternLaws.{spelled_once, spelled_are_patterns, rows_or_fault}
+pub use Rattle.packed_form.proofs.Whole.{spelled_is_unpacked}
 -- the faults of bytes are those of the grammar
 pub use Rattle.packed_form.proofs.FirstFaults.{bad_bytes_are_first, ends_are_missing, lengths_are_bad}
 -- one map of rows that keeps programs after another is one, and what is read from stand-ins is what is read from the rows
@@ -19,6 +20,8 @@ pub use Rattle.packed_form.proofs.EqualSegments.{Alike, alike_parts, alike_from,
 pub use Rattle.packed_form.proofs.StandIns.{StandsAt, stands_at, stands_for, stands_for_none, keeps_from, IsKept, kept_parts, stand_in_stays, kept_stands, next_stays, numbered_map, numbered_length, stand_ins_keep}
 -- items with no equal one before them, one item more at a time
 pub use Rattle.packed_form.proofs.FirstSeen.{with_new, first_seen_push, same_row_is}
+-- where an item stands among others, and among those with no equal one before them
+pub use Rattle.packed_form.proofs.FirstPlaces.{place_there, new_place, old_place, with_new_length, first_seen_has, first_seen_length, first_seen_all}
 -- fetching a normal row does what fetching the row does, but for the parameter of command 0
 pub use Rattle.packed_form.proofs.NormalRows.{normal_rows_are_fetched}
 -- a song has one size of each kind, and storing things once makes nothing longer

@@ -21,6 +21,7 @@ mod StandIns
 mod PlayablePrograms
 mod NewPointers
 mod FirstSeen
+mod FirstPlaces
 -- Inner: what a frame does with normal rows.
 mod NormalRows
 -- Inner: sizes, programs and new numbers that were worked out by hand.

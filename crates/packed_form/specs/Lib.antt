@@ -12,6 +12,9 @@ pub mod ProgramMaps
 pub mod UsedSets
 pub mod Renumbering
 pub mod SongSizes
+-- To believe: a packed song read as a song, and when it stands for a song.
+pub mod Unpacked
+pub mod StandsFor
 -- Claimed: laws of these, and packed patterns, sizes, programs and new numbers worked out by hand.
 pub mod PackedLaws
 pub mod FaultLaws

@@ -38,9 +38,10 @@ same_row x y = (x.left == y.left) && (x.right == y.right)
 unfoldable pub speed_rows : Song → (ℕ → Bool) → List TableRow
 speed_rows song used = first_seen same_row (map (speed_row song) (filter used (numbers MOST_TABLE_ROWS)))
 
+-- one that isn't used gets 0
 unfoldable pub speed_number : Song → (ℕ → Bool) → ℕ → ℕ
 speed_number song used p =
-    if p == 0 then 0 else position_or_len (same_row (speed_row song p)) (speed_rows song used) + 1
+    if used p then position_or_len (same_row (speed_row song p)) (speed_rows song used) + 1 else 0
 
 -- ---- the filter, the pulse and the wave table
 

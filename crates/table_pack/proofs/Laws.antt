@@ -7,4 +7,4 @@ pub use Rattle.table_pack.proofs.KeptPrograms.{renumberings_keep, keeps_order, s
 -- the rows of a renumbering are those that are kept; those that stay are the packed table's, which keeps programs
 pub use Rattle.table_pack.proofs.KeptRows.{rows_are_kept, stored_once_is_packed, packed_tables_keep, packed_programs_are_read}
 -- a place among rows
-pub use Rattle.table_pack.proofs.SpeedRows.{place_of_sides, any_of_sides, new_place}
+pub use Rattle.table_pack.proofs.SpeedRows.{place_of_sides, any_of_sides}

@@ -4,13 +4,14 @@ use Rattle.std.proofs.Math.ListN.{set}
 use Rattle.std.specs.List.{filter, list_any, position_or_len, range_with_len}
 use Rattle.std.proofs.lemmas.List.{get_or-set_same, get_or-set_other, length-set, length-append, map-append}
 use Rattle.std.proofs.lemmas.List.Elements.{filter-append}
+use Rattle.std.proofs.lemmas.List.Sums.{passes_at_first}
 use Rattle.std.proofs.lemmas.Bool.{ne_eqb, eq-eqb, and_from, not-true, not-false}
 use Rattle.song_model.specs.declared.tables.TableRow.{TableRow}
 use Rattle.song_model.specs.declared.songs.Song.{Song}
 use Rattle.song_model.specs.LookUp.{speed_row, zero_table_row}
 use Rattle.packed_form.specs.ProgramMaps.{row_at}
 use Rattle.packed_form.specs.Renumbering.{first_seen, same_row, speed_rows, speed_number}
-use Rattle.packed_form.proofs.Laws.{range_more, first_seen_push, same_row_is}
+use Rattle.packed_form.proofs.Laws.{range_more, first_seen_push, same_row_is, new_place, old_place}
 use Rattle.table_pack.specs.Speeds.{IsSpeedMerge, sides_of, with_row}
 
 -- ---- places
@@ -37,115 +38,8 @@ any_of_sides test row (x ∷ rows) same =
     ap (λ (b : Bool). b || list_any test (map sides_of rows)) (same x)
     ∙ ap (λ (b : Bool). same_row row x || b) (any_of_sides test row rows same)
 
--- a place that is found stays where rows are added
-place_stays : (p : TableRow → Bool) (xs ys : List TableRow) → position_or_len p xs < length xs →
-    position_or_len p (xs ++ ys) ≡ position_or_len p xs
-place_stays p [] ys found = absurd (omega arith)
-place_stays p (x ∷ xs) ys found = by_test (p x) refl (place_stays p xs ys)
-  where
-    by_test : (b : Bool) → p x ≡ b →
-        (position_or_len p xs < length xs → position_or_len p (xs ++ ys) ≡ position_or_len p xs) →
-        position_or_len p (x ∷ (xs ++ ys)) ≡ position_or_len p (x ∷ xs)
-    by_test true e rest = rw e refl
-    by_test false e rest =
-        let f : 1 + position_or_len p xs < suc (length xs) = rw e at found in
-        rw e (ap (λ (k : ℕ). 1 + k) (rest (omega arith)))
-
--- a row that is there has a place
-place_there : (p : TableRow → Bool) (xs : List TableRow) → list_any p xs ≡ true → position_or_len p xs < length xs
-place_there p [] there = absurd cc
-place_there p (x ∷ xs) there = by_test (p x) refl (place_there p xs)
-  where
-    by_test : (b : Bool) → p x ≡ b → (list_any p xs ≡ true → position_or_len p xs < length xs) →
-        position_or_len p (x ∷ xs) < length (x ∷ xs)
-    by_test true e rest = rw e (omega arith)
-    by_test false e rest =
-        let h : list_any p xs ≡ true = rw e at there in
-        let low = rest h in
-        rw e (omega arith)
-
-place_none : (p : TableRow → Bool) (xs : List TableRow) → list_any p xs ≡ false → position_or_len p xs ≡ length xs
-place_none p [] none = refl
-place_none p (x ∷ xs) none = by_test (p x) refl (place_none p xs)
-  where
-    by_test : (b : Bool) → p x ≡ b → (list_any p xs ≡ false → position_or_len p xs ≡ length xs) →
-        position_or_len p (x ∷ xs) ≡ length (x ∷ xs)
-    by_test true e rest = absurd (let h : true ≡ false = rw e at none in cc)
-    by_test false e rest =
-        let h : list_any p xs ≡ false = rw e at none in
-        let all = rest h in
-        rw e (omega arith)
-
-place_last : (p : TableRow → Bool) (xs : List TableRow) (y : TableRow) → list_any p xs ≡ false → p y ≡ true →
-    position_or_len p (xs ++ y ∷ []) ≡ length xs
-place_last p [] y none is = rw is refl
-place_last p (x ∷ xs) y none is = by_test (p x) refl (place_last p xs y)
-  where
-    by_test : (b : Bool) → p x ≡ b →
-        (list_any p xs ≡ false → p y ≡ true → position_or_len p (xs ++ y ∷ []) ≡ length xs) →
-        position_or_len p (x ∷ (xs ++ y ∷ [])) ≡ length (x ∷ xs)
-    by_test true e rest = absurd (let h : true ≡ false = rw e at none in cc)
-    by_test false e rest =
-        let h : list_any p xs ≡ false = rw e at none in
-        let all = rest h is in
-        rw e (omega arith)
-
-passes_there : (p : TableRow → Bool) (xs : List TableRow) (d : TableRow) → position_or_len p xs < length xs →
-    p (get_or xs (position_or_len p xs) d) ≡ true
-passes_there p [] d found = absurd (omega arith)
-passes_there p (x ∷ xs) d found = by_test (p x) refl (passes_there p xs d)
-  where
-    by_test : (b : Bool) → p x ≡ b →
-        (position_or_len p xs < length xs → p (get_or xs (position_or_len p xs) d) ≡ true) →
-        p (get_or (x ∷ xs) (position_or_len p (x ∷ xs)) d) ≡ true
-    by_test true e rest = rw e e
-    by_test false e rest =
-        let f : 1 + position_or_len p xs < suc (length xs) = rw e at found in
-        let one : 1 + position_or_len p xs ≡ suc (position_or_len p xs) = omega arith in
-        rw e (rw one (rest (omega arith)))
-
 row_itself : (x : TableRow) → same_row x x ≡ true
 row_itself x = and_from (x.left == x.left) (x.right == x.right) (eq-eqb x.left x.left refl) (eq-eqb x.right x.right refl)
-
--- ---- one row more
-
--- the place of a row among rows with it
-pub new_place : (rows : List TableRow) (row : TableRow) →
-    (position_or_len (same_row row) (with_row rows row) ≡ position_or_len (same_row row) rows)
-    × (position_or_len (same_row row) (with_row rows row) < length (with_row rows row))
-new_place rows row = by_any (list_any (same_row row) rows) refl
-  where
-    by_any : (b : Bool) → list_any (same_row row) rows ≡ b →
-        (position_or_len (same_row row) (with_row rows row) ≡ position_or_len (same_row row) rows)
-        × (position_or_len (same_row row) (with_row rows row) < length (with_row rows row))
-    by_any true e = rw e (refl, place_there (same_row row) rows e)
-    by_any false e =
-        let last = place_last (same_row row) rows row e (row_itself row) in
-        let none = place_none (same_row row) rows e in
-        let count = length-append rows (row ∷ []) in
-        rw e (last ∙ sym none, rw (last, count) (omega arith))
-
--- the place of another row
-old_place : (p : TableRow → Bool) (rows : List TableRow) (row : TableRow) → position_or_len p rows < length rows →
-    (position_or_len p (with_row rows row) ≡ position_or_len p rows)
-    × (position_or_len p (with_row rows row) < length (with_row rows row))
-old_place p rows row found = by_any (list_any (same_row row) rows) refl
-  where
-    by_any : (b : Bool) → list_any (same_row row) rows ≡ b →
-        (position_or_len p (with_row rows row) ≡ position_or_len p rows)
-        × (position_or_len p (with_row rows row) < length (with_row rows row))
-    by_any true e = rw e (refl, found)
-    by_any false e =
-        let stays = place_stays p rows (row ∷ []) found in
-        let count = length-append rows (row ∷ []) in
-        rw e (stays, rw (stays, count) (omega arith))
-
-pub with_row_length : (rows : List TableRow) (row : TableRow) → length (with_row rows row) ≤ length rows + 1
-with_row_length rows row = by_any (list_any (same_row row) rows) refl
-  where
-    by_any : (b : Bool) → list_any (same_row row) rows ≡ b → length (with_row rows row) ≤ length rows + 1
-    by_any true e = rw e (omega arith)
-    by_any false e = let count = length-append rows (row ∷ []) in rw (e, count) (omega arith)
 
 -- ---- pointer by pointer
 
@@ -229,17 +123,17 @@ merged_more song used i rows to row n so_far is room row_is n_is = record {
   number = λ q is_q low. elim (last_or_before q i low) [
     | inl last ↦ ap (λ (k : ℕ). get_or (set to (i + 1) n) k 0) last
         ∙ get_or-set_same to (i + 1) n 0 (subst (λ (k : ℕ). i + 1 < k) (sym so_far.long) room)
-        ∙ n_is ∙ ap (λ (k : ℕ). k + 1) (sym (new_place rows row).0)
+        ∙ n_is ∙ ap (λ (k : ℕ). k + 1) (sym (new_place same_row row_itself rows row).0)
         ∙ ap (λ (r : TableRow). position_or_len (same_row r) (with_row rows row) + 1)
         (row_is ∙ ap (speed_row song) (sym last))
     | inr before ↦ get_or-set_other to (i + 1) q n 0 (λ (z : q ≡ i + 1). absurd (omega arith))
         ∙ so_far.number q is_q before
-        ∙ ap (λ (k : ℕ). k + 1) (sym (old_place (same_row (speed_row song q)) rows row (so_far.seen q is_q before)).0)
+        ∙ ap (λ (k : ℕ). k + 1) (sym (old_place same_row (same_row (speed_row song q)) rows row (so_far.seen q is_q before)).0)
   ];
   seen = λ q is_q low. elim (last_or_before q i low) [
     | inl last ↦ subst (λ (r : TableRow). position_or_len (same_row r) (with_row rows row) < length (with_row rows row))
-        (row_is ∙ ap (speed_row song) (sym last)) (new_place rows row).1
-    | inr before ↦ (old_place (same_row (speed_row song q)) rows row (so_far.seen q is_q before)).1
+        (row_is ∙ ap (speed_row song) (sym last)) (new_place same_row row_itself rows row).1
+    | inr before ↦ (old_place same_row (same_row (speed_row song q)) rows row (so_far.seen q is_q before)).1
   ];
   none = λ q fails. get_or-set_other to (i + 1) q n 0 (λ (z : q ≡ i + 1). let e = ap used z in absurd cc)
       ∙ so_far.none q fails;
@@ -252,9 +146,8 @@ unfolding speed_rows speed_number
 merged_all song used rows to not_0 so_far = record {
   rows_are = so_far.rows_are;
   number = λ p is small.
-      let some : (p == 0) ≡ false = ne_eqb p 0 (λ (z : p ≡ 0). let e = ap used z in absurd cc) in
       so_far.number p is (omega arith)
-      ∙ rw some (ap (λ (r : List TableRow). position_or_len (same_row (speed_row song p)) r + 1) so_far.rows_are);
+      ∙ rw is (ap (λ (r : List TableRow). position_or_len (same_row (speed_row song p)) r + 1) so_far.rows_are);
   none = so_far.none;
   stored = λ p is small.
       let e = so_far.number p is (omega arith) in
@@ -265,7 +158,7 @@ merged_all song used rows to not_0 so_far = record {
       ap (row_at rows) (so_far.number p is (omega arith))
       ∙ row_behind (position_or_len (same_row (speed_row song p)) rows)
       ∙ sym (same_row_is (speed_row song p) (get_or rows (position_or_len (same_row (speed_row song p)) rows) zero_table_row)
-      (passes_there (same_row (speed_row song p)) rows zero_table_row low));
+      (passes_at_first (same_row (speed_row song p)) rows zero_table_row low));
 }
   where
     row_behind : (n : ℕ) → row_at rows (n + 1) ≡ get_or rows n zero_table_row

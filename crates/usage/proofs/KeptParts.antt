@@ -61,8 +61,10 @@ pub kept_parts : (song : Song) (found : Found) (parts : UsedParts) → IsFoundOf
     parts.wave ≡ take 256 found.wave.reached →
     parts.pulse ≡ take 256 found.pulse.reached → parts.filter ≡ take 256 found.filter.reached →
     parts.speed ≡ found.speed →
+    parts.wave_pointers ≡ found.wave.pointers → parts.pulse_pointers ≡ found.pulse.pointers →
+    parts.filter_pointers ≡ found.filter.pointers →
     AreFeatures song parts.features.0 → AreUsedParts song parts
-kept_parts song found parts f none patterns instruments wave pulse filter speed features = record {
+kept_parts song found parts f none patterns instruments wave pulse filter speed waves pulses filters features = record {
   patterns = front 208 patterns f.bytes (λ k low byte. record { byte = byte; is_pattern = low })
       (λ k used. (used.is_pattern, used.byte));
   instruments = rw instruments f.rows.instruments;
@@ -70,5 +72,8 @@ kept_parts song found parts f none patterns instruments wave pulse filter speed 
   pulse = rows_kept song Pulse (λ e. cc) f.pulse_rows none pulse f.pulse.reached;
   filter = rows_kept song Filter (λ e. cc) f.filter_rows none filter f.filter.reached;
   speed = rw speed f.speed;
+  wave_pointers = rw waves f.wave.pointers;
+  pulse_pointers = rw pulses f.pulse.pointers;
+  filter_pointers = rw filters f.filter.pointers;
   features = features;
 }

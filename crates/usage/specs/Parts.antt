@@ -15,4 +15,7 @@ pub record AreUsedParts (song : Song) (parts : UsedParts) : Type 0 where
   pub pulse : AreMarks (IsReached song Pulse) parts.pulse
   pub filter : AreMarks (IsReached song Filter) parts.filter
   pub speed : AreMarks (IsPointer song Speed) parts.speed
+  pub wave_pointers : AreMarks (IsPointer song Wave) parts.wave_pointers
+  pub pulse_pointers : AreMarks (IsPointer song Pulse) parts.pulse_pointers
+  pub filter_pointers : AreMarks (IsPointer song Filter) parts.filter_pointers
   pub features : AreFeatures song parts.features.0

@@ -40,6 +40,12 @@ pub struct UsedParts {
     pub filter: [bool; 256],
     /// The rows of the speed table that pointers name, counted from 1; stored or not.
     pub speed: [bool; 256],
+    /// The rows of the wave table that pointers name: programs begin there.
+    pub wave_pointers: [bool; 256],
+    /// The same of the pulse table.
+    pub pulse_pointers: [bool; 256],
+    /// The same of the filter table.
+    pub filter_pointers: [bool; 256],
     /// What a player of the song has to be able to do.
     pub features: FeatureBits,
 }
@@ -76,6 +82,9 @@ fn parts_of(song: &Song, found: &Found) -> UsedParts
         pulse: row_marks(&found.pulse.reached),
         filter: row_marks(&found.filter.reached),
         speed: found.speed,
+        wave_pointers: found.wave.pointers,
+        pulse_pointers: found.pulse.pointers,
+        filter_pointers: found.filter.pointers,
         features: found.features(song),
     }
 }

@@ -3,7 +3,9 @@ use Rattle.std.proofs.lemmas.List.{length-replicate}
 use Rattle.base.proofs.Laws.{get_or-replicate_any}
 use Rattle.table_pack.specs.Marks.{is_marked}
 use Rattle.table_pack.specs.Speeds.{sides_of}
-use Rattle.table_pack.proofs.SpeedRows.{merged_none, merged_left, merged_more, merged_all, with_row_length}
+use Rattle.packed_form.specs.Renumbering.{same_row}
+use Rattle.packed_form.proofs.Laws.{with_new_length}
+use Rattle.table_pack.proofs.SpeedRows.{merged_none, merged_left, merged_more, merged_all}
 use Rattle.table_pack.proofs.speeds.merge_speed.Goals as goal
 use Rattle.table_pack.proofs.speeds.merge_speed.Goals.{then-marks-p+in_ok-to, else-marks-p}
 
@@ -21,7 +23,7 @@ loop-index-preserved c = elim c.if-marks-p.branch [
   | then-marks-p+in_ok-to w ↦
       (let few = c.loop-index.invariant.few in
       let small = c.loop-index-test.true in
-      let count = with_row_length c.loop-index.rows.items w.speed.result in
+      let count = with_new_length same_row c.loop-index.rows.items w.speed.result in
       rw (w.seen-is, w.rows-is, w.to-is) (record {
         together = w.in_ok-to.ensures.together;
         few = rw w.in_ok-to.ensures.rows (omega arith);
