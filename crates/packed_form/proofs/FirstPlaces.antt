@@ -1,5 +1,5 @@
 -- Where an item stands among others, and among those with no equal one before them.
-use Rattle.std.proofs.Common.{◌≡◌, ℕ, zero, suc, ◌+◌, ◌<◌, ◌≤◌, Bool, true, false, not, List, [], ◌∷◌, ◌++◌, length, get_or, All, Contains, refl, sym, ◌∙◌, ap, subst, arith}
+use Rattle.std.proofs.Common.{◌≡◌, ℕ, zero, suc, ◌+◌, ◌<◌, ◌≤◌, Bool, true, false, not, ◌||◌, List, [], ◌∷◌, ◌++◌, map, length, get_or, All, Contains, refl, sym, ◌∙◌, ap, subst, arith}
 use Rattle.std.specs.List.{filter, list_any, position_or_len}
 use Rattle.std.proofs.Math.Bool.{not-not}
 use Rattle.std.proofs.lemmas.List.{length-append}
@@ -62,6 +62,24 @@ place_last p (x ∷ xs) y none is = by_test (p x) refl (place_last p xs y)
         let h : list_any p xs ≡ false = rw e at none in
         let all = rest h is in
         rw e (omega arith)
+
+-- the place of what a function makes of an item, among what it makes of the items
+pub place_of_map : {X Y : Type 0} (f : X → Y) (p : Y → Bool) (test : X → Bool) (xs : List X) →
+    ((x : X) → p (f x) ≡ test x) → position_or_len p (map f xs) ≡ position_or_len test xs
+place_of_map f p test [] same = refl
+place_of_map {X} f p test (x ∷ xs) same = by_test (test x) refl (place_of_map f p test xs same)
+  where
+    by_test : (b : Bool) → test x ≡ b → position_or_len p (map f xs) ≡ position_or_len test xs →
+        position_or_len p (map f (x ∷ xs)) ≡ position_or_len test (x ∷ xs)
+    by_test true e rest = let h = same x ∙ e in rw (e, h) refl
+    by_test false e rest = let h = same x ∙ e in rw (e, h) (ap (λ (k : ℕ). 1 + k) rest)
+
+pub any_of_map : {X Y : Type 0} (f : X → Y) (p : Y → Bool) (test : X → Bool) (xs : List X) →
+    ((x : X) → p (f x) ≡ test x) → list_any p (map f xs) ≡ list_any test xs
+any_of_map f p test [] same = refl
+any_of_map f p test (x ∷ xs) same =
+    ap (λ (b : Bool). b || list_any p (map f xs)) (same x)
+    ∙ ap (λ (b : Bool). test x || b) (any_of_map f p test xs same)
 
 -- ---- one item more
 

@@ -21,10 +21,10 @@ pub use Rattle.packed_form.proofs.StandIns.{StandsAt, stands_at, stands_for, sta
 -- items with no equal one before them, one item more at a time
 pub use Rattle.packed_form.proofs.FirstSeen.{with_new, first_seen_push, same_row_is}
 -- where an item stands among others, and among those with no equal one before them
-pub use Rattle.packed_form.proofs.FirstPlaces.{place_there, new_place, old_place, with_new_length, first_seen_has, first_seen_length, first_seen_all}
+pub use Rattle.packed_form.proofs.FirstPlaces.{place_there, place_of_map, any_of_map, new_place, old_place, with_new_length, first_seen_has, first_seen_length, first_seen_all}
 -- fetching a normal row does what fetching the row does, but for the parameter of command 0
 pub use Rattle.packed_form.proofs.NormalRows.{normal_rows_are_fetched}
 -- a song has one size of each kind, and storing things once makes nothing longer
-pub use Rattle.packed_form.proofs.SizesOfSongs.{sizes_are_the_songs, packed_size_is_within}
+pub use Rattle.packed_form.proofs.SizesOfSongs.{same_sets, sizes_are_the_songs, packed_size_is_within}
 -- the tables of a song that can be played are whole
 pub use Rattle.packed_form.proofs.PlayablePrograms.{playable_programs_are_whole}

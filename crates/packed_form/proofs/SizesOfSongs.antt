@@ -26,7 +26,7 @@ same_test : (P : ℕ → Type 0) (f g : ℕ → Bool) → IsTestOf P f → IsTes
 same_test P f g one other = fun_ext (λ (n : ℕ). same_bit (f n) (g n)
     (λ (h : f n ≡ true). (other n).1 ((one n).0 h)) (λ (h : g n ≡ true). (one n).1 ((other n).0 h)))
 
-same_sets : (song : Song) (one other : UsedSets) → AreUsedSets song one → AreUsedSets song other → one ≡ other
+pub same_sets : (song : Song) (one other : UsedSets) → AreUsedSets song one → AreUsedSets song other → one ≡ other
 same_sets song one other is is_too =
     let with_patterns : (ℕ → Bool) → UsedSets = λ f. record one { patterns = f } in
     let with_instruments : (ℕ → Bool) → UsedSets = λ f. record one { patterns = other.patterns; instruments = f } in

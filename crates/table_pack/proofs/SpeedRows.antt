@@ -11,32 +11,8 @@ use Rattle.song_model.specs.declared.songs.Song.{Song}
 use Rattle.song_model.specs.LookUp.{speed_row, zero_table_row}
 use Rattle.packed_form.specs.ProgramMaps.{row_at}
 use Rattle.packed_form.specs.Renumbering.{first_seen, same_row, speed_rows, speed_number}
-use Rattle.packed_form.proofs.Laws.{range_more, first_seen_push, same_row_is, new_place, old_place}
+use Rattle.packed_form.proofs.Laws.{range_more, first_seen_push, same_row_is, any_of_map, new_place, old_place}
 use Rattle.table_pack.specs.Speeds.{IsSpeedMerge, sides_of, with_row}
-
--- ---- places
-
--- the place of a row among the sides of rows
-pub place_of_sides : (test : ℕ × ℕ → Bool) (row : TableRow) (rows : List TableRow) →
-    ((x : TableRow) → test (sides_of x) ≡ same_row row x) →
-    position_or_len test (map sides_of rows) ≡ position_or_len (same_row row) rows
-place_of_sides test row [] same = refl
-place_of_sides test row (x ∷ rows) same =
-    by_test (same_row row x) refl (place_of_sides test row rows same)
-  where
-    by_test : (b : Bool) → same_row row x ≡ b →
-        position_or_len test (map sides_of rows) ≡ position_or_len (same_row row) rows →
-        position_or_len test (map sides_of (x ∷ rows)) ≡ position_or_len (same_row row) (x ∷ rows)
-    by_test true e rest = let f = same x ∙ e in rw (e, f) refl
-    by_test false e rest = let f = same x ∙ e in rw (e, f) (ap (λ (k : ℕ). 1 + k) rest)
-
-pub any_of_sides : (test : ℕ × ℕ → Bool) (row : TableRow) (rows : List TableRow) →
-    ((x : TableRow) → test (sides_of x) ≡ same_row row x) →
-    list_any test (map sides_of rows) ≡ list_any (same_row row) rows
-any_of_sides test row [] same = refl
-any_of_sides test row (x ∷ rows) same =
-    ap (λ (b : Bool). b || list_any test (map sides_of rows)) (same x)
-    ∙ ap (λ (b : Bool). same_row row x || b) (any_of_sides test row rows same)
 
 row_itself : (x : TableRow) → same_row x x ≡ true
 row_itself x = and_from (x.left == x.left) (x.right == x.right) (eq-eqb x.left x.left refl) (eq-eqb x.right x.right refl)
@@ -174,7 +150,7 @@ pub new_row : (test : ℕ × ℕ → Bool) (row : TableRow) (rows : List TableRo
     is_new ≡ true → rows ++ row ∷ [] ≡ with_row rows row
 new_row test row rows keys is_new together added same is =
     let none : list_any (same_row row) rows ≡ false =
-    sym (any_of_sides test row rows same) ∙ ap (list_any test) (sym together)
+    sym (any_of_map sides_of test (same_row row) rows same) ∙ ap (list_any test) (sym together)
     ∙ not-true (list_any test keys) (sym added ∙ is) in
     rw none refl
 
@@ -183,6 +159,6 @@ pub old_row : (test : ℕ × ℕ → Bool) (row : TableRow) (rows : List TableRo
     is_new ≡ false → rows ≡ with_row rows row
 old_row test row rows keys is_new together added same is =
     let some : list_any (same_row row) rows ≡ true =
-    sym (any_of_sides test row rows same) ∙ ap (list_any test) (sym together)
+    sym (any_of_map sides_of test (same_row row) rows same) ∙ ap (list_any test) (sym together)
     ∙ not-false (list_any test keys) (sym added ∙ is) in
     rw some refl

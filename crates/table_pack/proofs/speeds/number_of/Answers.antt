@@ -1,12 +1,15 @@
 use Rattle.std.proofs.Common.{◌∙◌, ◌+◌, ℕ, refl, ap}
-use Rattle.table_pack.proofs.SpeedRows.{place_of_sides, new_row, old_row}
+use Rattle.packed_form.specs.Renumbering.{same_row}
+use Rattle.packed_form.proofs.Laws.{place_of_map}
+use Rattle.table_pack.specs.Speeds.{sides_of}
+use Rattle.table_pack.proofs.SpeedRows.{new_row, old_row}
 use Rattle.table_pack.proofs.speeds.number_of.Goals as goal
 use Rattle.table_pack.proofs.speeds.number_of.Goals.{then-is_new+in_ok-push, else-is_new}
 
 pub returns-clause-number : goal.returns-clause-number
 returns-clause-number c =
     ap (λ (k : ℕ). k + 1)
-    (c.in_ok-index.ensures.index ∙ rw c.requires.together (place_of_sides _ c.args.row c.args.rows.now.items (λ x. refl)))
+    (c.in_ok-index.ensures.index ∙ rw c.requires.together (place_of_map sides_of _ (same_row c.args.row) c.args.rows.now.items (λ x. refl)))
 
 pub returns-clause-rows : goal.returns-clause-rows
 returns-clause-rows c = elim c.if-is_new.branch [

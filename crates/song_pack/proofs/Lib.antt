@@ -1,0 +1,18 @@
+-- Inner: what a song under new numbers uses, and that it is complete.
+mod UsedParts
+mod Complete
+-- Inner: each part of a packed song agrees with its song.
+mod StoredTables
+mod StoredInstruments
+mod StoredPatterns
+mod PlayedOrders
+mod Ranges
+mod Stands
+mod Sizes
+mod PackedTables
+mod FilledLists
+mod GatheredPatterns
+mod MadeTables
+mod MadeSongs
+mod HandedOn
+mod Answered

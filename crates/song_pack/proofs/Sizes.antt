@@ -1,0 +1,65 @@
+-- A packed song has the size that its song has.
+use Rattle.std.proofs.Common.{◌≡◌, ℕ, List, [], ◌∷◌, map, length, refl, ◌∙◌, ap, arith}
+use Rattle.std.specs.List.{filter, sum_by, count_by}
+use Rattle.std.proofs.lemmas.List.{length-map, length-append}
+use Rattle.std.proofs.lemmas.List.Sums.{sum_by-cons, length-filter}
+use Rattle.song_model.specs.declared.orders.Order.{Order}
+use Rattle.song_model.specs.declared.orders.Subtune.{Subtune}
+use Rattle.song_model.specs.declared.instruments.TheConstants.{MOST_INSTRUMENTS}
+use Rattle.song_model.specs.declared.tables.TableRow.{TableRow}
+use Rattle.song_model.specs.declared.songs.Song.{Song}
+use Rattle.song_model.specs.LookUp.{instrument_at, playable_subtunes}
+use Rattle.packed_form.specs.declared.packed_songs.PackedSong.{PackedSong}
+use Rattle.packed_form.specs.Sizes.{list_size, subtune_size, packed_song_size}
+use Rattle.packed_form.specs.Segments.{ProgramTable, numbers, keeps}
+use Rattle.packed_form.specs.ProgramMaps.{retargeted}
+use Rattle.packed_form.specs.UsedSets.{UsedSets}
+use Rattle.packed_form.specs.Renumbering.{program_number, table_number, pattern_number}
+use Rattle.packed_form.specs.SongSizes.{order_size, orders_size, packed_size}
+use Rattle.song_pack.specs.Packed.{order_byte, order_bytes, packed_subtune, passing_numbers, packed_instrument, ArePacked, IsPacked}
+
+order_length : (number : ℕ → ℕ) (order : Order) → list_size (order_bytes number order) ≡ order_size order
+order_length number order =
+    let all = length-append (map (order_byte number) order.entries) (0xFF ∷ order.restart ∷ []) in
+    let entries = length-map order.entries (order_byte number) in
+    omega arith
+
+subtune_length : (number : ℕ → ℕ) (subtune : Subtune) → subtune_size (packed_subtune number subtune) ≡ orders_size subtune
+subtune_length number subtune =
+    let one = order_length number subtune.one in
+    let two = order_length number subtune.two in
+    let three = order_length number subtune.three in
+    omega arith
+
+subtunes_length : (number : ℕ → ℕ) (subtunes : List Subtune) →
+    sum_by subtune_size (map (packed_subtune number) subtunes) ≡ sum_by orders_size subtunes
+subtunes_length number [] = refl
+subtunes_length number (subtune ∷ subtunes) =
+    let one = sum_by-cons subtune_size (packed_subtune number subtune) (map (packed_subtune number) subtunes) in
+    let other = sum_by-cons orders_size subtune subtunes in
+    let here = subtune_length number subtune in
+    let rest = subtunes_length number subtunes in
+    omega arith
+
+rows_length : (table : ProgramTable) (rows : List TableRow) → ArePacked table rows →
+    length rows ≡ count_by (keeps table) (numbers (length table.rows))
+rows_length table rows are =
+    ap length are.rows_are ∙ length-map are.kept (retargeted (program_number table)) ∙ are.renumbered.count
+
+pub size_is : (song : Song) (used : UsedSets) (packed : PackedSong) → IsPacked song used packed →
+    packed_song_size packed ≡ packed_size song used
+unfolding packed_size passing_numbers
+size_is song used packed is =
+    let subtunes : sum_by subtune_size packed.subtunes ≡ sum_by orders_size (playable_subtunes song) =
+    ap (sum_by subtune_size) is.subtunes ∙ subtunes_length (pattern_number song used) (playable_subtunes song) in
+    let patterns = ap (sum_by list_size) is.patterns in
+    let kept = filter used.instruments (numbers MOST_INSTRUMENTS) in
+    let instruments : length packed.instruments ≡ count_by used.instruments (numbers MOST_INSTRUMENTS) =
+    ap length is.instruments
+    ∙ length-map kept (λ n. packed_instrument (table_number song used) (instrument_at song n))
+    ∙ length-filter used.instruments (numbers MOST_INSTRUMENTS) in
+    let wave = rows_length _ packed.wave is.wave in
+    let pulse = rows_length _ packed.pulse is.pulse in
+    let filter_rows = rows_length _ packed.filter is.filter in
+    let speed = ap length is.speed.rows_are in
+    omega arith

@@ -1,0 +1,54 @@
+use Rattle.std.proofs.Common.{refl}
+use Rattle.play_model.proofs.Laws.{whole_lem}
+use Rattle.song_pack.specs.Answers.{IsCause}
+use Rattle.song_pack.proofs.HandedOn.{err_caused}
+use Rattle.song_pack.proofs.Answered.{stands, size, short, cause}
+use Rattle.song_pack.proofs.packing.pack_song.Goals as goal
+
+pub packed_patterns-requires-clause-stored : goal.packed_patterns-requires-clause-stored
+packed_patterns-requires-clause-stored c p marked =
+    (whole_lem c.args.song.now c.requires.playable).pattern p ((c.requires.parts.patterns.each p).0 marked)
+
+pub returns-in_err-patterns-clause-fault : goal.returns-in_err-patterns-clause-fault
+returns-in_err-patterns-clause-fault c used are limits =
+    err_caused (IsCause c.args.song.now used) c.in_err-patterns.field-0.0 c.from_residual-in_err-patterns.result
+    c.from_residual-in_err-patterns.ensures.1
+    (cause c.args.song.now c.args.usage.now c.in_ok-tables.tables c.instrument_numbers-numbers.result c.requires.playable
+    c.requires.parts c.in_ok-tables.ensures c.instrument_numbers-numbers.ensures.numbers c.in_err-patterns.field-0.0
+    c.in_err-patterns.ensures.fault used are limits)
+
+pub returns-clause-stands : goal.returns-clause-stands
+returns-clause-stands c =
+    stands c.args.song.now c.args.usage.now c.in_ok-tables.tables c.instrument_numbers-numbers.result c.requires.playable
+    c.requires.parts c.in_ok-tables.ensures c.instrument_numbers-numbers.ensures.numbers c.in_ok-patterns.patterns.to _
+    (record {
+      wave = refl;
+      pulse = refl;
+      filter = refl;
+      speed = refl;
+      instruments = c.in_ok-instruments.ensures;
+      patterns = c.in_ok-patterns.ensures.patterns;
+      subtunes = c.in_ok-subtunes.ensures;
+      features = refl;
+    })
+
+pub returns-clause-size : goal.returns-clause-size
+returns-clause-size c =
+    size c.args.song.now c.args.usage.now c.in_ok-tables.tables c.instrument_numbers-numbers.result c.requires.playable
+    c.requires.parts c.in_ok-tables.ensures c.instrument_numbers-numbers.ensures.numbers c.in_ok-patterns.patterns.to _
+    (record {
+      wave = refl;
+      pulse = refl;
+      filter = refl;
+      speed = refl;
+      instruments = c.in_ok-instruments.ensures;
+      patterns = c.in_ok-patterns.ensures.patterns;
+      subtunes = c.in_ok-subtunes.ensures;
+      features = refl;
+    })
+
+pub returns-clause-short : goal.returns-clause-short
+returns-clause-short c =
+    short c.args.song.now c.args.usage.now c.in_ok-tables.tables c.instrument_numbers-numbers.result c.requires.playable
+    c.requires.parts c.in_ok-tables.ensures c.instrument_numbers-numbers.ensures.numbers c.in_ok-patterns.patterns.to
+    c.in_ok-patterns.patterns.list c.in_ok-patterns.ensures.patterns

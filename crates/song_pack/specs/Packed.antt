@@ -1,0 +1,82 @@
+-- The packed song of a song, part by part: what is used, under its new numbers.
+use Rattle.std.specs.Prelude.{◌≡◌, ℕ, Bool, true, nat_lt, if◌then◌else◌, List, [], ◌∷◌, ◌++◌, map, filter}
+use Rattle.std.specs.Str.{bytes_eq}
+use Rattle.song_model.specs.declared.orders.Order.{Order}
+use Rattle.song_model.specs.declared.orders.Subtune.{Subtune}
+use Rattle.song_model.specs.declared.instruments.Instrument.{Instrument}
+use Rattle.song_model.specs.declared.instruments.TheConstants.{MOST_INSTRUMENTS}
+use Rattle.song_model.specs.declared.tables.TableRow.{TableRow}
+use Rattle.song_model.specs.declared.tables.TableName.{TableName}
+use Rattle.song_model.specs.declared.tables.TableName.TheVariants.{Wave, Pulse, Filter, Speed}
+use Rattle.song_model.specs.declared.songs.Song.{Song}
+use Rattle.song_model.specs.LookUp.{IsNumbered, instrument_at, speed_row, playable_subtunes}
+use Rattle.play_model.specs.Features.{AreFeatures}
+use Rattle.same_frames.specs.Maps.{Maps}
+use Rattle.packed_form.specs.declared.packed_songs.PackedSubtune.{PackedSubtune}
+use Rattle.packed_form.specs.declared.packed_songs.PackedInstrument.{PackedInstrument}
+use Rattle.packed_form.specs.declared.packed_songs.PackedSong.{PackedSong}
+use Rattle.packed_form.specs.Segments.{ProgramTable, numbers, keeps}
+use Rattle.packed_form.specs.ProgramMaps.{retargeted, row_at}
+use Rattle.packed_form.specs.UsedSets.{UsedSets}
+use Rattle.packed_form.specs.Renumbering.{first_seen, speed_rows, speed_number, program_number, wave_programs, pulse_programs, filter_programs, table_number, instrument_number, pattern_number, pattern_texts}
+use Rattle.table_pack.specs.TableMaps.{IsRenumbering}
+
+-- the new numbers of a song's parts
+abbrev pub new_numbers : Song → UsedSets → Maps
+new_numbers song used = record {
+  row = table_number song used;
+  instrument = instrument_number used;
+  pattern = pattern_number song used;
+}
+
+-- an entry of an orderlist: a byte below $D0 is the number of a pattern
+abbrev pub order_byte : (ℕ → ℕ) → ℕ → ℕ
+order_byte pattern byte = if nat_lt byte 0xD0 then pattern byte else byte
+
+-- the entries under new numbers, the endmark and the restart position
+abbrev pub order_bytes : (ℕ → ℕ) → Order → List ℕ
+order_bytes pattern order = map (order_byte pattern) order.entries ++ 0xFF ∷ order.restart ∷ []
+
+abbrev pub packed_subtune : (ℕ → ℕ) → Subtune → PackedSubtune
+packed_subtune pattern subtune = record {
+  one = order_bytes pattern subtune.one;
+  two = order_bytes pattern subtune.two;
+  three = order_bytes pattern subtune.three;
+}
+
+-- those of the numbers from 1 to n that pass a test
+unfoldable pub passing_numbers : (ℕ → Bool) → ℕ → List ℕ
+passing_numbers test n = filter test (numbers n)
+
+-- the nine bytes, with the four pointers under new numbers
+abbrev pub packed_instrument : (TableName → ℕ → ℕ) → Instrument → PackedInstrument
+packed_instrument number i = record {
+  bytes = i.ad ∷ i.sr ∷ number Wave i.wave ∷ number Pulse i.pulse ∷ number Filter i.filter
+      ∷ number Speed i.vibrato ∷ i.vibrato_delay ∷ i.gate_timer ∷ i.first_wave ∷ [];
+}
+
+-- the rows of the programs that stay, in order, each jump to the new number of its target
+pub record ArePacked (table : ProgramTable) (rows : List TableRow) : Type 0 where
+  pub kept : List TableRow
+  pub to : ℕ → ℕ
+  pub renumbered : IsRenumbering (keeps table) table.rows kept to
+  pub rows_are : rows ≡ map (retargeted (program_number table)) kept
+
+-- the rows of the speed table, each once
+pub record AreSpeeds (song : Song) (used : ℕ → Bool) (rows : List TableRow) : Type 0 where
+  pub rows_are : rows ≡ speed_rows song used
+  -- a look-up by the new number finds the old row
+  pub stored : (p : ℕ) → used p ≡ true → IsNumbered rows (speed_number song used p)
+  pub row : (p : ℕ) → used p ≡ true → row_at rows (speed_number song used p) ≡ speed_row song p
+
+pub record IsPacked (song : Song) (used : UsedSets) (packed : PackedSong) : Type 0 where
+  pub subtunes : packed.subtunes ≡ map (packed_subtune (pattern_number song used)) (playable_subtunes song)
+  pub patterns : packed.patterns ≡ first_seen bytes_eq (pattern_texts song used)
+  pub instruments : packed.instruments
+      ≡ map (λ n. packed_instrument (table_number song used) (instrument_at song n))
+      (passing_numbers used.instruments MOST_INSTRUMENTS)
+  pub wave : ArePacked (wave_programs song used) packed.wave
+  pub pulse : ArePacked (pulse_programs song used) packed.pulse
+  pub filter : ArePacked (filter_programs song used) packed.filter
+  pub speed : AreSpeeds song (used.pointers Speed) packed.speed
+  pub features : AreFeatures song packed.features.0

@@ -1,0 +1,17 @@
+-- A table of programs, and the speed table, as they are packed.
+use Rattle.std.specs.Prelude.{◌≡◌, ℕ, Bool, List, slice_index}
+use Rattle.song_model.specs.declared.tables.TableRow.{TableRow}
+use Rattle.song_model.specs.declared.songs.Song.{Song}
+use Rattle.packed_form.specs.Segments.{ProgramTable}
+use Rattle.packed_form.specs.Renumbering.{speed_number, program_number}
+use Rattle.song_pack.specs.Packed.{ArePacked, AreSpeeds}
+
+-- the rows that stay, and the new number of each row
+pub record IsPackedTable (table : ProgramTable) (rows : List TableRow) (to : List ℕ) : Type 0 where
+  pub rows_are : ArePacked table rows
+  pub numbers : (p : ℕ) → slice_index to p ≡ program_number table p
+
+-- the rows of the speed table, each once, and the new number of each
+pub record AreMadeSpeeds (song : Song) (used : ℕ → Bool) (rows : List TableRow) (to : List ℕ) : Type 0 where
+  pub rows_are : AreSpeeds song used rows
+  pub number : (p : ℕ) → slice_index to p ≡ speed_number song used p

@@ -1,0 +1,17 @@
+-- The tables of a song as they are packed, with the new numbers of their rows.
+use Rattle.std.specs.Prelude.{◌≡◌, ℕ}
+use Rattle.song_model.specs.declared.tables.TableName.{TableName}
+use Rattle.song_model.specs.declared.tables.TableName.TheVariants.{Speed}
+use Rattle.song_model.specs.declared.songs.Song.{Song}
+use Rattle.packed_form.specs.UsedSets.{UsedSets}
+use Rattle.packed_form.specs.Renumbering.{wave_programs, pulse_programs, filter_programs, table_number}
+use Rattle.song_pack.specs.declared.tables.PackedTables.{PackedTables}
+use Rattle.song_pack.specs.Numbers.{row_of}
+use Rattle.song_pack.specs.Packed.{ArePacked, AreSpeeds}
+
+pub record AreTables (song : Song) (used : UsedSets) (tables : PackedTables) : Type 0 where
+  pub wave : ArePacked (wave_programs song used) tables.wave
+  pub pulse : ArePacked (pulse_programs song used) tables.pulse
+  pub filter : ArePacked (filter_programs song used) tables.filter
+  pub speed : AreSpeeds song (used.pointers Speed) tables.speed
+  pub numbers : (name : TableName) (p : ℕ) → row_of tables.numbers name p ≡ table_number song used name p
