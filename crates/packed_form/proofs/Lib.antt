@@ -26,6 +26,7 @@ mod FirstPlaces
 mod NormalRows
 -- Inner: sizes, programs and new numbers that were worked out by hand.
 mod WorkedSizes
+mod WorkedUnpacked
 mod WorkedNumbers
 mod CrowdedSets
 mod CrowdedSong

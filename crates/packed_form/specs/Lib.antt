@@ -25,5 +25,6 @@ pub mod WorkedPatterns
 pub mod WorkedSizes
 pub mod WorkedPrograms
 pub mod WorkedNumbers
+pub mod WorkedUnpacked
 -- Inner: how the answer of a call stands to what reading gives, and what is kept of the rows.
 pub mod Answers

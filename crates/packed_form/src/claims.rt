@@ -7,6 +7,7 @@ ghost use Rattle.packed_form.specs.SizeLaws.{SizesAreTheSongs, PackedSizeIsWithi
 ghost use Rattle.packed_form.specs.ProgramMaps.{MapsCompose, ProgramsReadTheSame};
 ghost use Rattle.packed_form.specs.ProgramLaws.{StandInsKeepPrograms, StandInsStay, KeptStandForThemselves, NewPointersAreRead, PlayableProgramsAreWhole};
 ghost use Rattle.packed_form.specs.WorkedSizes.{NoteHas42Bytes, EqualPatternsAreStoredOnce, CodeBoundsAre};
+ghost use Rattle.packed_form.specs.WorkedUnpacked.{OrdersAreUnpacked, PatternsAreUnpacked, PackedNotesAreUnpacked};
 ghost use Rattle.packed_form.specs.WorkedPrograms.{EqualProgramsAreStoredOnce, FirstOfThreeStays, PulseProgramsStop, JumpsOutAreKept, MiddleEntriesAreKept, FirstOpenOneIsKept, OthersAreKept, JumpsIntoDroppedPrograms, JumpsIntoTheMiddleAreKept, LoopsAreAsFar};
 ghost use Rattle.packed_form.specs.WorkedNumbers.{CrowdedSongCanBePlayed, CrowdedSetsAreUsed, SpeedsAreSharedOnce, PulsesAreStoredOnce, FiltersMoveUp, WavesAreStoredOnce, InstrumentsMoveUp, CrowdedTexts, PatternsAreStoredOnce, CrowdedSizes};
 ghost use Rattle.packed_form.specs.WorkedPatterns.{EighthsArePacked, KeyoffIsUnpacked, RestsAreGathered, CommandsAreNamedOnce, LongTextsAre, OtherSpellingsAreUnpacked, BadBytesAreFound, EndsAreWanted, LengthsAreLimited};
@@ -98,6 +99,19 @@ pub fn worked_numbers()
     ensures instruments { InstrumentsMoveUp }
     ensures patterns { CrowdedTexts × PatternsAreStoredOnce }
     ensures sizes { CrowdedSizes }
+{}
+
+/// Orderlists and patterns, unpacked.
+#[tactic(auto, unfolding(crate::specs::Unpacked::unpacked_pattern))]
+pub fn worked_unpacking()
+    ensures orders { OrdersAreUnpacked }
+    ensures patterns { PatternsAreUnpacked }
+{}
+
+/// A packed song of one note, read as a song.
+#[tactic(auto, using(crate::proofs::WorkedUnpacked::packed_notes_are_unpacked))]
+pub fn worked_packed_note()
+    ensures { PackedNotesAreUnpacked }
 {}
 
 /// A map of rows that keeps programs, after another such map.

@@ -30,7 +30,7 @@ use Rattle.packed_form.specs.Renumbering.{rank, first_seen, pointer_number, tabl
 use Rattle.table_pack.specs.Marks.{is_marked}
 use Rattle.song_pack.specs.declared.tables.PackedTables.{PackedTables}
 use Rattle.song_pack.specs.Numbers.{sets_of, row_of, numbered_row}
-use Rattle.song_pack.specs.Packed.{passing_numbers, order_byte, order_bytes, packed_subtune, packed_instrument, ArePacked, AreSpeeds, IsPacked}
+use Rattle.song_pack.specs.Packed.{passing_numbers, order_byte, order_bytes, packed_subtune, packed_instrument, AreSpeeds, IsPacked}
 use Rattle.song_pack.specs.Tables.{AreTables}
 use Rattle.song_pack.specs.declared.faults.PackFault.{PackFault}
 use Rattle.song_pack.specs.declared.faults.PackFault.TheVariants.{PatternTooLong, NoMemory}
@@ -170,9 +170,9 @@ module _ (song : Song) (parts : UsedParts) (limits : KeepsLimits song) (are : Ar
       instruments = made.instruments
           ∙ ap (λ (f : TableName → ℕ → ℕ). map (λ n. packed_instrument f (instrument_at song n))
           (passing_numbers (is_marked parts.instruments) MOST_INSTRUMENTS)) row_numbers_are;
-      wave = subst (ArePacked (wave_programs song (sets_of parts))) (sym made.wave) tables_are.wave;
-      pulse = subst (ArePacked (pulse_programs song (sets_of parts))) (sym made.pulse) tables_are.pulse;
-      filter = subst (ArePacked (filter_programs song (sets_of parts))) (sym made.filter) tables_are.filter;
+      wave = made.wave ∙ tables_are.wave;
+      pulse = made.pulse ∙ tables_are.pulse;
+      filter = made.filter ∙ tables_are.filter;
       speed = subst (AreSpeeds song (is_marked parts.speed)) (sym made.speed) tables_are.speed;
       features = subst (λ (f : FeatureBits). AreFeatures song f.0) (sym made.features) are.features;
     }

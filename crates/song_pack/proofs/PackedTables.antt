@@ -9,8 +9,8 @@ use Rattle.packed_form.specs.ProgramMaps.{retargeted}
 use Rattle.packed_form.specs.Renumbering.{program_number}
 use Rattle.table_pack.specs.Marks.{is_marked}
 use Rattle.table_pack.specs.TableMaps.{IsRenumbering}
+use Rattle.table_pack.proofs.Laws.{stored_once_is_packed}
 use Rattle.song_pack.specs.Programs.{IsPackedTable}
-use Rattle.song_pack.proofs.StoredTables.{no_stand_in, stands_under}
 
 -- a mark is one of the list
 pub marked_within : (marks : List Bool) (p : ℕ) → is_marked marks p ≡ true → p < length marks
@@ -23,6 +23,11 @@ unmarked_past : (b : Bool) → (b ≡ true → ⊥) → b ≡ false
 unmarked_past true never = absurd (never refl)
 unmarked_past false never = refl
 
+-- a row that isn't reached is stood for by 0
+no_stand_in : (table : ProgramTable) (p : ℕ) → table.reached p ≡ false → stand_in table p ≡ 0
+unfolding stand_in
+no_stand_in table p none = rw none refl
+
 pub packed_table : (table : ProgramTable) (kept rows : List TableRow) (keep : List Bool) (stand further both : List ℕ) →
     IsWhole table → ((p : ℕ) → table.reached p ≡ true → p < 256) → ((p : ℕ) → is_marked keep p ≡ keeps table p) →
     ((p : ℕ) → slice_index stand p ≡ stand_in table p) →
@@ -31,20 +36,17 @@ pub packed_table : (table : ProgramTable) (kept rows : List TableRow) (keep : Li
     rows ≡ map (retargeted (slice_index both)) kept → IsPackedTable table rows both
 packed_table table kept rows keep stand further both whole small keep_is stand_is is both_is long rows_are =
     let renumbered = subst (λ (k : ℕ → Bool). IsRenumbering k table.rows kept (slice_index further)) (fun_ext keep_is) is in
+    let packed = stored_once_is_packed table (keeps table) (stand_in table) (slice_index further) kept whole (λ p. refl)
+    (λ p. refl) renumbered in
     let number : (p : ℕ) → slice_index both p ≡ program_number table p = λ p. elim (cases_lt p 256) [
-      | inl inside ↦ both_is p inside ∙ ap (slice_index further) (stand_is p)
-          ∙ stands_under table kept (slice_index further) whole renumbered p
+      | inl inside ↦ both_is p inside ∙ ap (slice_index further) (stand_is p) ∙ packed.1 p
       | inr past ↦ (
           let none = unmarked_past (table.reached p) (λ is. let low = small p is in omega arith) in
           let e = no_stand_in table p none in
           get_or_past both p 0 (omega arith) ∙ rw e refl)
     ] in
     record {
-      rows_are = record {
-        kept = kept;
-        to = slice_index further;
-        renumbered = renumbered;
-        rows_are = rows_are ∙ ap (λ (f : ℕ → ℕ). map (retargeted f) kept) (fun_ext number);
-      };
+      rows_are = rows_are
+          ∙ ap (λ (f : ℕ → ℕ). map (retargeted f) kept) (fun_ext (λ (p : ℕ). number p ∙ sym (packed.1 p))) ∙ packed.0;
       numbers = number;
     }

@@ -32,13 +32,13 @@ use Rattle.packed_form.specs.declared.packed_songs.PackedSong.{PackedSong}
 use Rattle.packed_form.specs.Segments.{ProgramTable, IsWhole, numbers, keeps}
 use Rattle.packed_form.specs.ProgramMaps.{retargeted}
 use Rattle.packed_form.specs.UsedSets.{UsedSets, AreUsedSets}
-use Rattle.packed_form.specs.Renumbering.{rank, same_row, speed_rows, wave_row, filter_programs, pulse_programs, wave_programs, table_number, program_number}
+use Rattle.packed_form.specs.Renumbering.{rank, same_row, speed_rows, wave_row, filter_programs, pulse_programs, wave_programs, table_number, program_number, program_rows}
 use Rattle.packed_form.specs.Unpacked.{unpacked_instrument, unpacked_pattern, unpacked_song}
 use Rattle.packed_form.proofs.Laws.{kept_parts, kept_stands, playable_programs_are_whole, spelled_are_patterns, first_seen_all}
 use Rattle.table_pack.proofs.Laws.{rank_kept, rank_left}
-use Rattle.song_pack.specs.Packed.{new_numbers, passing_numbers, packed_instrument, ArePacked, IsPacked}
+use Rattle.song_pack.specs.Packed.{new_numbers, passing_numbers, packed_instrument, IsPacked}
 use Rattle.song_pack.proofs.UsedParts.{image_of}
-use Rattle.song_pack.proofs.StoredTables.{tables_agree, packed_few, filter_number, pulse_number, wave_number}
+use Rattle.song_pack.proofs.StoredTables.{tables_agree, packed_few, program_count, filter_number, pulse_number, wave_number}
 use Rattle.song_pack.proofs.StoredPatterns.{number_fits, speeds_few, filter_few, few_texts, packed_is, pattern_spelled}
 use Rattle.song_pack.proofs.PlayedOrders.{entries_fit, subtune_in_range, one_played, two_played, three_played, subtunes_unpacked}
 
@@ -128,15 +128,14 @@ module _ (song : Song) (used : UsedSets) (packed : PackedSong) (limits : KeepsLi
       by_jump false e = rw e (foreign_fits name p reached (foreign_table name (table_row song name p)) refl)
 
   -- each stored row stands for a reached one
-  row_from : (name : TableName) (table : ProgramTable) → ArePacked table (table_of (unpacked_song packed) name) →
+  row_from : (name : TableName) (table : ProgramTable) → table_of (unpacked_song packed) name ≡ program_rows table →
       IsWhole table → ((p : ℕ) → table_number song used name p ≡ program_number table p) →
       ((p : ℕ) → table.reached p ≡ true → IsReached song name p) → (i : ℕ) →
       i < length (table_of (unpacked_song packed) name) →
       IsTableRow (get_or (table_of (unpacked_song packed) name) i zero_table_row)
   row_from name table rows whole number reached i inside =
-      let count = rows.renumbered.count in
-      let same = length-map rows.kept (retargeted (program_number table)) in
-      let all = ap length rows.rows_are in
+      let count = program_count table in
+      let all = ap length rows in
       let found = ranked (keeps table) (length table.rows) (i + 1) (omega arith) (omega arith) in
       let kept = kept_parts table found.number found.kept in
       let here = reached found.number kept.reached in
@@ -147,7 +146,7 @@ module _ (song : Song) (used : UsedSets) (packed : PackedSong) (limits : KeepsLi
       ∙ ap (table_row (unpacked_song packed) name) new ∙ row_behind (unpacked_song packed) name i)
       (row_fits name found.number here)
 
-  rows_in_range : (name : TableName) (table : ProgramTable) → ArePacked table (table_of (unpacked_song packed) name) →
+  rows_in_range : (name : TableName) (table : ProgramTable) → table_of (unpacked_song packed) name ≡ program_rows table →
       IsWhole table → ((p : ℕ) → table_number song used name p ≡ program_number table p) →
       ((p : ℕ) → table.reached p ≡ true → IsReached song name p) → length table.rows ≤ MOST_TABLE_ROWS →
       IsTable (table_of (unpacked_song packed) name)

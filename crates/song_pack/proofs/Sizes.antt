@@ -14,9 +14,10 @@ use Rattle.packed_form.specs.Sizes.{list_size, subtune_size, packed_song_size}
 use Rattle.packed_form.specs.Segments.{ProgramTable, numbers, keeps}
 use Rattle.packed_form.specs.ProgramMaps.{retargeted}
 use Rattle.packed_form.specs.UsedSets.{UsedSets}
-use Rattle.packed_form.specs.Renumbering.{program_number, table_number, pattern_number}
+use Rattle.packed_form.specs.Renumbering.{program_rows, table_number, pattern_number}
 use Rattle.packed_form.specs.SongSizes.{order_size, orders_size, packed_size}
-use Rattle.song_pack.specs.Packed.{order_byte, order_bytes, packed_subtune, passing_numbers, packed_instrument, ArePacked, IsPacked}
+use Rattle.song_pack.proofs.StoredTables.{program_count}
+use Rattle.song_pack.specs.Packed.{order_byte, order_bytes, packed_subtune, passing_numbers, packed_instrument, IsPacked}
 
 order_length : (number : ℕ → ℕ) (order : Order) → list_size (order_bytes number order) ≡ order_size order
 order_length number order =
@@ -41,10 +42,9 @@ subtunes_length number (subtune ∷ subtunes) =
     let rest = subtunes_length number subtunes in
     omega arith
 
-rows_length : (table : ProgramTable) (rows : List TableRow) → ArePacked table rows →
+rows_length : (table : ProgramTable) (rows : List TableRow) → rows ≡ program_rows table →
     length rows ≡ count_by (keeps table) (numbers (length table.rows))
-rows_length table rows are =
-    ap length are.rows_are ∙ length-map are.kept (retargeted (program_number table)) ∙ are.renumbered.count
+rows_length table rows are = ap length are ∙ program_count table
 
 pub size_is : (song : Song) (used : UsedSets) (packed : PackedSong) → IsPacked song used packed →
     packed_song_size packed ≡ packed_size song used

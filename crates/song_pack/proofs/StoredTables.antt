@@ -2,8 +2,9 @@
 use Rattle.std.specs.Prelude.{◌==◌}
 use Rattle.std.proofs.Common.{◌≡◌, ℕ, ◌+◌, ◌≤◌, Bool, true, false, List, map, length, Option, Some, None, refl, sym, ◌∙◌, ap, subst, inl, inr, arith}
 use Rattle.std.proofs.lemmas.Bool.{cases_Bool, eqb-true}
+use Rattle.std.specs.List.{filter}
 use Rattle.std.proofs.lemmas.List.{length-map}
-use mathlib.Core.Path.{fun_ext}
+use Rattle.std.proofs.lemmas.List.Sums.{length-filter}
 use Rattle.song_model.specs.declared.tables.TableRow.{TableRow}
 use Rattle.song_model.specs.declared.tables.TableName.{TableName}
 use Rattle.song_model.specs.declared.tables.TableName.TheVariants.{Wave, Pulse, Filter, Speed}
@@ -18,46 +19,31 @@ use Rattle.play_model.proofs.Laws.{closed_lem, whole_lem, no_wave_pointer}
 use Rattle.same_frames.specs.Maps.{Maps, moved_pointer, foreign_table, moved_row}
 use Rattle.same_frames.specs.Agreement.{RowsAgree, ProgramsAgree}
 use Rattle.packed_form.specs.declared.packed_songs.PackedSong.{PackedSong}
-use Rattle.packed_form.specs.Segments.{ProgramTable, IsWhole, is_jump_row, is_end, keeps, stand_in}
+use Rattle.packed_form.specs.Segments.{ProgramTable, IsWhole, numbers, row_of, is_jump_row, is_end, keeps}
 use Rattle.packed_form.specs.ProgramMaps.{retargeted, row_at, KeepsPrograms}
 use Rattle.packed_form.specs.UsedSets.{UsedSets, AreUsedSets}
-use Rattle.packed_form.specs.Renumbering.{pointer_number, foreign_number, program_number, wave_row, wave_programs, pulse_programs, filter_programs, table_number, speed_number}
-use Rattle.packed_form.proofs.Laws.{numbered_map, playable_programs_are_whole, kept_parts, stand_in_stays}
+use Rattle.packed_form.specs.Renumbering.{rank, pointer_number, foreign_number, program_number, program_rows, wave_row, wave_programs, pulse_programs, filter_programs, table_number, speed_number}
+use Rattle.packed_form.proofs.Laws.{numbered_map, playable_programs_are_whole}
 use Rattle.packed_form.specs.Unpacked.{unpacked_song}
-use Rattle.table_pack.specs.TableMaps.{IsRenumbering}
-use Rattle.table_pack.proofs.Laws.{stored_once, rank_most}
-use Rattle.song_pack.specs.Packed.{new_numbers, ArePacked, AreSpeeds, IsPacked}
+use Rattle.table_pack.proofs.Laws.{packed_tables_keep, rank_most}
+use Rattle.song_pack.specs.Packed.{new_numbers, AreSpeeds, IsPacked}
 
 -- ---- programs
 
--- a row that isn't reached is stood for by 0
-pub no_stand_in : (table : ProgramTable) (p : ℕ) → table.reached p ≡ false → stand_in table p ≡ 0
-unfolding stand_in
-no_stand_in table p none = rw none refl
-
-nothing_kept : (table : ProgramTable) → IsWhole table → keeps table 0 ≡ false
-nothing_kept table whole = elim (cases_Bool (keeps table 0)) [
-  | inl kept ↦ absurd (let first = (whole.stored 0 (kept_parts table 0 kept).reached).first in omega arith)
-  | inr none ↦ none
-]
-
--- what stands for a row has the row's new number
-pub stands_under : (table : ProgramTable) (kept : List TableRow) (to : ℕ → ℕ) → IsWhole table →
-    IsRenumbering (keeps table) table.rows kept to → (p : ℕ) → to (stand_in table p) ≡ program_number table p
-stands_under table kept to whole is p = elim (cases_Bool (table.reached p)) [
-  | inl reached ↦ is.number (stand_in table p) (stand_in_stays table p whole reached)
-  | inr none ↦ (let e = no_stand_in table p none in rw e (is.none 0 (nothing_kept table whole)))
-]
-
 -- the packed rows keep all programs of the table
-pub keeps_all : (table : ProgramTable) (rows : List TableRow) → IsWhole table → ArePacked table rows →
+keeps_all : (table : ProgramTable) (rows : List TableRow) → IsWhole table → rows ≡ program_rows table →
     KeepsPrograms table.pulse table.reached table.rows rows (program_number table)
 keeps_all table rows whole are =
-    let e : (λ (p : ℕ). are.to (stand_in table p)) ≡ program_number table = fun_ext (stands_under table are.kept are.to whole are.renumbered) in
     subst (λ (all : List TableRow). KeepsPrograms table.pulse table.reached table.rows all (program_number table))
-    (sym are.rows_are)
-    (subst (λ (f : ℕ → ℕ). KeepsPrograms table.pulse table.reached table.rows (map (retargeted f) are.kept) f) e
-    (stored_once table (keeps table) (stand_in table) are.to are.kept whole (λ p. refl) (λ p. refl) are.renumbered))
+    (sym are) (packed_tables_keep table whole)
+
+-- one for each row that stays
+pub program_count : (table : ProgramTable) → length (program_rows table) ≡ rank (keeps table) (length table.rows)
+unfolding program_rows
+program_count table =
+    length-map (filter (keeps table) (numbers (length table.rows)))
+    (λ p. retargeted (program_number table) (row_of table p))
+    ∙ length-filter (keeps table) (numbers (length table.rows))
 
 -- ---- rows
 
@@ -236,11 +222,11 @@ speed_agrees song used other are speeds =
 
 -- ---- all tables
 
-pub packed_few : (table : ProgramTable) (rows : List TableRow) → ArePacked table rows → length rows ≤ length table.rows
+pub packed_few : (table : ProgramTable) (rows : List TableRow) → rows ≡ program_rows table →
+    length rows ≤ length table.rows
 packed_few table rows are =
-    let count = length-map are.kept (retargeted (program_number table)) in
-    let e = ap length are.rows_are in
-    let kept = are.renumbered.count in
+    let e = ap length are in
+    let count = program_count table in
     let most = rank_most (keeps table) (length table.rows) in
     omega arith
 

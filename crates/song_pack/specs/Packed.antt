@@ -15,11 +15,10 @@ use Rattle.same_frames.specs.Maps.{Maps}
 use Rattle.packed_form.specs.declared.packed_songs.PackedSubtune.{PackedSubtune}
 use Rattle.packed_form.specs.declared.packed_songs.PackedInstrument.{PackedInstrument}
 use Rattle.packed_form.specs.declared.packed_songs.PackedSong.{PackedSong}
-use Rattle.packed_form.specs.Segments.{ProgramTable, numbers, keeps}
-use Rattle.packed_form.specs.ProgramMaps.{retargeted, row_at}
+use Rattle.packed_form.specs.Segments.{numbers}
+use Rattle.packed_form.specs.ProgramMaps.{row_at}
 use Rattle.packed_form.specs.UsedSets.{UsedSets}
-use Rattle.packed_form.specs.Renumbering.{first_seen, speed_rows, speed_number, program_number, wave_programs, pulse_programs, filter_programs, table_number, instrument_number, pattern_number, pattern_texts}
-use Rattle.table_pack.specs.TableMaps.{IsRenumbering}
+use Rattle.packed_form.specs.Renumbering.{first_seen, speed_rows, speed_number, program_rows, wave_programs, pulse_programs, filter_programs, table_number, instrument_number, pattern_number, pattern_texts}
 
 -- the new numbers of a song's parts
 abbrev pub new_numbers : Song → UsedSets → Maps
@@ -55,13 +54,6 @@ packed_instrument number i = record {
       ∷ number Speed i.vibrato ∷ i.vibrato_delay ∷ i.gate_timer ∷ i.first_wave ∷ [];
 }
 
--- the rows of the programs that stay, in order, each jump to the new number of its target
-pub record ArePacked (table : ProgramTable) (rows : List TableRow) : Type 0 where
-  pub kept : List TableRow
-  pub to : ℕ → ℕ
-  pub renumbered : IsRenumbering (keeps table) table.rows kept to
-  pub rows_are : rows ≡ map (retargeted (program_number table)) kept
-
 -- the rows of the speed table, each once
 pub record AreSpeeds (song : Song) (used : ℕ → Bool) (rows : List TableRow) : Type 0 where
   pub rows_are : rows ≡ speed_rows song used
@@ -75,8 +67,8 @@ pub record IsPacked (song : Song) (used : UsedSets) (packed : PackedSong) : Type
   pub instruments : packed.instruments
       ≡ map (λ n. packed_instrument (table_number song used) (instrument_at song n))
       (passing_numbers used.instruments MOST_INSTRUMENTS)
-  pub wave : ArePacked (wave_programs song used) packed.wave
-  pub pulse : ArePacked (pulse_programs song used) packed.pulse
-  pub filter : ArePacked (filter_programs song used) packed.filter
+  pub wave : packed.wave ≡ program_rows (wave_programs song used)
+  pub pulse : packed.pulse ≡ program_rows (pulse_programs song used)
+  pub filter : packed.filter ≡ program_rows (filter_programs song used)
   pub speed : AreSpeeds song (used.pointers Speed) packed.speed
   pub features : AreFeatures song packed.features.0

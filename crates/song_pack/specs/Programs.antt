@@ -3,12 +3,12 @@ use Rattle.std.specs.Prelude.{◌≡◌, ℕ, Bool, List, slice_index}
 use Rattle.song_model.specs.declared.tables.TableRow.{TableRow}
 use Rattle.song_model.specs.declared.songs.Song.{Song}
 use Rattle.packed_form.specs.Segments.{ProgramTable}
-use Rattle.packed_form.specs.Renumbering.{speed_number, program_number}
-use Rattle.song_pack.specs.Packed.{ArePacked, AreSpeeds}
+use Rattle.packed_form.specs.Renumbering.{speed_number, program_number, program_rows}
+use Rattle.song_pack.specs.Packed.{AreSpeeds}
 
 -- the rows that stay, and the new number of each row
 pub record IsPackedTable (table : ProgramTable) (rows : List TableRow) (to : List ℕ) : Type 0 where
-  pub rows_are : ArePacked table rows
+  pub rows_are : rows ≡ program_rows table
   pub numbers : (p : ℕ) → slice_index to p ≡ program_number table p
 
 -- the rows of the speed table, each once, and the new number of each

@@ -4,10 +4,5 @@
 pub use Rattle.table_pack.proofs.Ranks.{rank_most, rank_kept, rank_left, rank_rises, rank_positive}
 -- new numbers keep programs, also where rows of equal programs stand for each other
 pub use Rattle.table_pack.proofs.KeptPrograms.{renumberings_keep, keeps_order, stored_once}
-<<<<<<< HEAD
 -- the rows of a renumbering are those that are kept; those that stay are the packed table's, which keeps programs
 pub use Rattle.table_pack.proofs.KeptRows.{rows_are_kept, stored_once_is_packed, packed_tables_keep, packed_programs_are_read}
--- a place among rows
-pub use Rattle.table_pack.proofs.SpeedRows.{place_of_sides, any_of_sides}
-=======
->>>>>>> 9377bec (wip song_pack)
