@@ -12,20 +12,20 @@ use Rattle.blocks.specs.Desk.{Desk, Layout, cell_place, sid_place, timer_place, 
 use Rattle.blocks.specs.Steps.{operand_byte}
 use Rattle.blocks.specs.Meaning.{meaning, counter_set, counter_down}
 
--- a memory with a byte stored at a place; Y is no place of memory
-abbrev pub placed : Layout → ℕ → Place → ℕ → (ℕ → ℕ) → ℕ → ℕ
-placed layout voice (HeldPlace cell) byte at = put at (cell_place layout voice cell) byte
-placed layout voice (Register register) byte at = put at (sid_place register) byte
-placed layout voice (VoiceRegister register) byte at = put at (sid_place register + 7 * voice) byte
-placed layout voice (Timer half) byte at = put at (timer_place half) byte
-placed layout voice (Pointer half) byte at = put at (pointer_place layout half) byte
-placed layout voice IntoY byte at = at
+-- behind it a desk has a byte at a place: in memory, where no other place changes, or in Y, where none does
+abbrev pub HasByte : Layout → ℕ → Place → ℕ → (ℕ → ℕ) → Desk → Type 0
+HasByte layout voice (HeldPlace cell) byte at after = after.at ≡ put at (cell_place layout voice cell) byte
+HasByte layout voice (Register register) byte at after = after.at ≡ put at (sid_place register) byte
+HasByte layout voice (VoiceRegister register) byte at after = after.at ≡ put at (sid_place register + 7 * voice) byte
+HasByte layout voice (Timer half) byte at after = after.at ≡ put at (timer_place half) byte
+HasByte layout voice (Pointer half) byte at after = after.at ≡ put at (pointer_place layout half) byte
+HasByte layout voice IntoY byte at after = (after.at ≡ at) × (after.y ≡ byte)
 
 -- a byte is moved to a place, and no other place changes
 abbrev pub Moves : Place → Operand → Tree → Type 0
 Moves to from tree =
     (layout : Layout) (voice : ℕ) (desk : Desk) →
-    (meaning layout tree voice desk).at ≡ placed layout voice to (operand_byte layout voice from desk) desk.at
+    HasByte layout voice to (operand_byte layout voice from desk) desk.at (meaning layout tree voice desk)
 
 -- a byte becomes what a rule says of it and another byte, and no other place changes
 abbrev pub Changes : (ℕ → ℕ → ℕ) → Cell → Operand → Tree → Type 0
@@ -52,9 +52,12 @@ Apart layout voice (HeldOperand cell) place = cell_place layout voice cell ≢ p
 abbrev pub word : ℕ → ℕ → ℕ
 word low high = low + 256 * high
 
--- one memory has a word where the other has two bytes, and is like it elsewhere
+-- one memory has a word where the other has two bytes, and is like it elsewhere. Where the low byte was a byte, each of
+-- the two is the word's own
 pub record HasWord (before after : ℕ → ℕ) (low high number : ℕ) : Type 0 where
   pub is : word (after low) (after high) ≡ number
+  pub low_byte : before low < 256 → after low ≡ number % 256
+  pub high_byte : before low < 256 → after high ≡ number / 256
   pub rest : (place : ℕ) → place ≢ low → place ≢ high → after place ≡ before place
 
 -- a word becomes what a rule says of it and another word, where its bytes have places of their own and the other high
@@ -89,9 +92,8 @@ HalvesWord low high tree =
 abbrev pub Fetches : Place → ℕ → Operand → Tree → Type 0
 Fetches to table index tree =
     (layout : Layout) (voice : ℕ) (desk : Desk) →
-    (meaning layout tree voice desk).at
-    ≡ placed layout voice to (desk.at ((layout.address table + operand_byte layout voice index desk) % MEMORY_SIZE))
-    desk.at
+    HasByte layout voice to (desk.at ((layout.address table + operand_byte layout voice index desk) % MEMORY_SIZE))
+    desk.at (meaning layout tree voice desk)
 
 -- the place that two bytes and an index name
 abbrev pub far_place : Layout → ℕ → Operand → Operand → Operand → Desk → ℕ
@@ -107,10 +109,9 @@ FetchesFar to low high index tree =
     Apart layout voice index layout.pointer → Apart layout voice index (layout.pointer + 1) →
     far_place layout voice low high index desk ≢ layout.pointer →
     far_place layout voice low high index desk ≢ layout.pointer + 1 →
-    (meaning layout tree voice desk).at
-    ≡ placed layout voice to (desk.at (far_place layout voice low high index desk))
+    HasByte layout voice to (desk.at (far_place layout voice low high index desk))
     (put (put desk.at layout.pointer (operand_byte layout voice low desk)) (layout.pointer + 1)
-    (operand_byte layout voice high desk))
+    (operand_byte layout voice high desk)) (meaning layout tree voice desk)
 
 -- two bytes have a bit in common
 abbrev pub share_a_bit : ℕ → ℕ → Bool

@@ -21,7 +21,7 @@ pub mod WorkedSteps
 pub mod WorkedBlocks
 pub mod WorkedReads
 pub mod WorkedCosts
--- Claimed: forms on named bytes.
-pub mod Forms
--- Inner: the trees that they share.
+-- Claimed: forms on named bytes: their trees, what they do, and that they are sound.
 pub mod FormTrees
+pub mod Forms
+pub mod SoundForms

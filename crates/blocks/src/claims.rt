@@ -1,5 +1,6 @@
 //! Facts about the definitions, each the contract of a function that does nothing.
 
+ghost use Rattle.blocks.specs.SoundForms.{MovesAreSound, ChangesAreSound, WordsAreSound, QuestionsAreSound};
 ghost use Rattle.blocks.specs.StepLaws.{DifferencesAreOfBytes, TestsAreOfBytes};
 ghost use Rattle.blocks.specs.WorkedCosts.{LoadsCost, StoresCost, SumsCost, ChangesCost, TestsCost, ChoicesCost};
 ghost use Rattle.blocks.specs.WorkedCosts.{RepeatsCost, KindsCost};
@@ -14,6 +15,14 @@ ghost use Rattle.blocks.specs.WorkedBlocks.{CountersAreWorked};
 pub fn steps_are_of_bytes()
     ensures differences { DifferencesAreOfBytes }
     ensures tests { TestsAreOfBytes }
+{}
+
+/// The trees of forms on named bytes are sound where their operands and places are in range.
+pub fn forms_are_sound()
+    ensures moves { MovesAreSound }
+    ensures changes { ChangesAreSound }
+    ensures words { WordsAreSound }
+    ensures questions { QuestionsAreSound }
 {}
 
 /// What steps and tests do at their edges, worked by hand.

@@ -2,7 +2,9 @@
 
 ghost use Rattle.std.specs.Prelude.{◌≡◌, IfOk, bit_and, bit_or, bit_xor};
 ghost use Rattle.blocks.specs.Trees.{tree_of};
-ghost use Rattle.blocks.specs.FormTrees.{changed_tree, word_tree, asking_steps, asking_test};
+ghost use Rattle.blocks.specs.FormTrees.{move_tree, changed_tree, add_tree, sub_tree, word_tree, add_word_tree};
+ghost use Rattle.blocks.specs.FormTrees.{sub_word_tree, halve_word_tree, fetch_tree, far_tree, asking_steps};
+ghost use Rattle.blocks.specs.FormTrees.{asking_test, choice_tree, repeat_tree};
 ghost use Rattle.blocks.specs.Forms.{Moves, Changes, byte_sum, byte_difference, ChangesWord, word_sum, word_difference};
 ghost use Rattle.blocks.specs.Forms.{HalvesWord, Fetches, FetchesFar, Chooses, RepeatsUntil};
 
@@ -25,7 +27,8 @@ fn load(operand: Operand) -> Step
 ///
 /// Out of memory.
 pub fn move_byte(alloc: Global, to: Place, from: Operand) -> Result<Block, NoMemory>
-    ensures { IfOk result (λ block. Moves to from (tree_of block)) }
+    ensures tree { IfOk result (λ block. tree_of block ≡ move_tree to from) }
+    ensures moves { IfOk result (λ block. Moves to from (tree_of block)) }
 {
     chain(alloc, &[load(from), Step::Store(to)])
 }
@@ -36,7 +39,8 @@ pub fn move_byte(alloc: Global, to: Place, from: Operand) -> Result<Block, NoMem
 ///
 /// Out of memory.
 pub fn add(alloc: Global, to: Cell, from: Operand) -> Result<Block, NoMemory>
-    ensures { IfOk result (λ block. Changes byte_sum to from (tree_of block)) }
+    ensures tree { IfOk result (λ block. tree_of block ≡ add_tree to from) }
+    ensures changes { IfOk result (λ block. Changes byte_sum to from (tree_of block)) }
 {
     match from {
         Operand::Const(1) => chain(alloc, &[Step::Inc(Counted::Held(to))]),
@@ -50,7 +54,8 @@ pub fn add(alloc: Global, to: Cell, from: Operand) -> Result<Block, NoMemory>
 ///
 /// Out of memory.
 pub fn sub(alloc: Global, to: Cell, from: Operand) -> Result<Block, NoMemory>
-    ensures { IfOk result (λ block. Changes byte_difference to from (tree_of block)) }
+    ensures tree { IfOk result (λ block. tree_of block ≡ sub_tree to from) }
+    ensures changes { IfOk result (λ block. Changes byte_difference to from (tree_of block)) }
 {
     match from {
         Operand::Const(1) => chain(alloc, &[Step::Dec(Counted::Held(to))]),
@@ -64,7 +69,8 @@ pub fn sub(alloc: Global, to: Cell, from: Operand) -> Result<Block, NoMemory>
 ///
 /// Out of memory.
 pub fn and(alloc: Global, to: Cell, from: Operand) -> Result<Block, NoMemory>
-    ensures { IfOk result (λ block. Changes bit_and to from (tree_of block)) }
+    ensures tree { IfOk result (λ block. tree_of block ≡ changed_tree to (Step.And from)) }
+    ensures changes { IfOk result (λ block. Changes bit_and to from (tree_of block)) }
 {
     changed(alloc, to, Step::And(from))
 }
@@ -75,7 +81,8 @@ pub fn and(alloc: Global, to: Cell, from: Operand) -> Result<Block, NoMemory>
 ///
 /// Out of memory.
 pub fn or(alloc: Global, to: Cell, from: Operand) -> Result<Block, NoMemory>
-    ensures { IfOk result (λ block. Changes bit_or to from (tree_of block)) }
+    ensures tree { IfOk result (λ block. tree_of block ≡ changed_tree to (Step.Or from)) }
+    ensures changes { IfOk result (λ block. Changes bit_or to from (tree_of block)) }
 {
     changed(alloc, to, Step::Or(from))
 }
@@ -86,7 +93,8 @@ pub fn or(alloc: Global, to: Cell, from: Operand) -> Result<Block, NoMemory>
 ///
 /// Out of memory.
 pub fn xor(alloc: Global, to: Cell, from: Operand) -> Result<Block, NoMemory>
-    ensures { IfOk result (λ block. Changes bit_xor to from (tree_of block)) }
+    ensures tree { IfOk result (λ block. tree_of block ≡ changed_tree to (Step.Xor from)) }
+    ensures changes { IfOk result (λ block. Changes bit_xor to from (tree_of block)) }
 {
     changed(alloc, to, Step::Xor(from))
 }
@@ -113,7 +121,9 @@ pub fn add_word(
     other_low: Operand,
     other_high: Operand,
 ) -> Result<Block, NoMemory>
-    ensures { IfOk result (λ block.
+    ensures tree { IfOk result (λ block.
+        tree_of block ≡ add_word_tree low high other_low other_high) }
+    ensures changes { IfOk result (λ block.
         ChangesWord word_sum low high other_low other_high (tree_of block)) }
 {
     let first = Step::Add(Summand::Plain(other_low));
@@ -133,7 +143,9 @@ pub fn sub_word(
     other_low: Operand,
     other_high: Operand,
 ) -> Result<Block, NoMemory>
-    ensures { IfOk result (λ block.
+    ensures tree { IfOk result (λ block.
+        tree_of block ≡ sub_word_tree low high other_low other_high) }
+    ensures changes { IfOk result (λ block.
         ChangesWord word_difference low high other_low other_high (tree_of block)) }
 {
     let first = Step::Sub(Summand::Plain(other_low));
@@ -168,7 +180,8 @@ fn changed_word(
 ///
 /// Out of memory.
 pub fn halve_word(alloc: Global, low: Cell, high: Cell) -> Result<Block, NoMemory>
-    ensures { IfOk result (λ block. HalvesWord low high (tree_of block)) }
+    ensures tree { IfOk result (λ block. tree_of block ≡ halve_word_tree low high) }
+    ensures halves { IfOk result (λ block. HalvesWord low high (tree_of block)) }
 {
     chain(alloc, &[Step::HalveAt(high), Step::HalveOn(low)])
 }
@@ -179,7 +192,8 @@ pub fn halve_word(alloc: Global, low: Cell, high: Cell) -> Result<Block, NoMemor
 ///
 /// Out of memory.
 pub fn fetch(alloc: Global, to: Place, table: u16, index: Operand) -> Result<Block, NoMemory>
-    ensures { IfOk result (λ block. Fetches to table index (tree_of block)) }
+    ensures tree { IfOk result (λ block. tree_of block ≡ fetch_tree to table index) }
+    ensures fetches { IfOk result (λ block. Fetches to table index (tree_of block)) }
 {
     let entry = Step::Load(Source::Direct(Summand::Entry(table)));
     chain(alloc, &[Step::Index(index), entry, Step::Store(to)])
@@ -197,7 +211,8 @@ pub fn far(
     high: Operand,
     index: Operand,
 ) -> Result<Block, NoMemory>
-    ensures { IfOk result (λ block. FetchesFar to low high index (tree_of block)) }
+    ensures tree { IfOk result (λ block. tree_of block ≡ far_tree to low high index) }
+    ensures fetches { IfOk result (λ block. FetchesFar to low high index (tree_of block)) }
 {
     let steps = [
         load(low),
@@ -249,7 +264,10 @@ fn asking_steps(alloc: Global, test: ByteTest) -> Result<Vec<Step>, NoMemory>
 ///
 /// Out of memory.
 pub fn if_holds(alloc: Global, test: ByteTest, this: Block, other: Block) -> Result<Block, NoMemory>
-    ensures { IfOk result (λ block. Chooses test (tree_of this) (tree_of other) (tree_of block)) }
+    ensures tree { IfOk result (λ block. tree_of block
+        ≡ choice_tree test (tree_of this) (tree_of other)) }
+    ensures chooses { IfOk result (λ block.
+        Chooses test (tree_of this) (tree_of other) (tree_of block)) }
 {
     let steps = asking_steps(alloc, test)?;
     choose(alloc, &steps, asking_test(test), this, other)
@@ -268,7 +286,9 @@ pub fn until_holds(
     count: u8,
     body: Block,
 ) -> Result<Block, NoMemory>
-    ensures { IfOk result (λ block.
+    ensures tree { IfOk result (λ block. tree_of block
+        ≡ repeat_tree test counter count (tree_of body)) }
+    ensures repeats { IfOk result (λ block.
         RepeatsUntil test counter count (tree_of body) (tree_of block)) }
 {
     let steps = asking_steps(alloc, test)?;

@@ -1,7 +1,9 @@
 -- What the form does.
-use Rattle.std.proofs.Common.{rules}
+use Rattle.std.proofs.lemmas.Result.{IfOk-weaker}
+use Rattle.blocks.specs.Trees.{tree_of}
 use Rattle.blocks.proofs.forms.add_word.Goals as goal
 use Rattle.blocks.proofs.FormLaws.{adds_words}
 
-pub returns : goal.returns
-returns c = search (rules, adds_words)
+pub returns-clause-changes : goal.returns-clause-changes
+returns-clause-changes c =
+    IfOk-weaker _ _ _ (λ block. adds_words c.args.low c.args.high c.args.other_low c.args.other_high (tree_of block)) c.changed_word.ensures

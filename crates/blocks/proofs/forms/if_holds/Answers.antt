@@ -3,5 +3,5 @@ use Rattle.std.proofs.Common.{rules}
 use Rattle.blocks.proofs.forms.if_holds.Goals as goal
 use Rattle.blocks.proofs.FormLaws.{chooses}
 
-pub returns : goal.returns
-returns c = search (rules, chooses)
+pub returns-clause-chooses : goal.returns-clause-chooses
+returns-clause-chooses c = search (rules, chooses)
