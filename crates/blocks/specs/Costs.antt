@@ -4,7 +4,7 @@ use Rattle.std.specs.Prelude.{ℕ, ◌+◌, ◌*◌, Bool, max, if◌then◌else
 use Rattle.blocks.specs.Trees.{Tree, ChainTree, NoneTree, ThenTree, IfTree, UntilTree, EachVoiceTree, WhenTree}
 use Rattle.blocks.specs.Trees.{FillTree}
 use Rattle.blocks.specs.Shape.{steps_cost, set_cost}
-use Rattle.blocks.specs.Sizes.{size, if_cost, until_turn, voices_once, voices_turn, fill_once, fill_turn}
+use Rattle.blocks.specs.Sizes.{size, over_nodes, if_cost, until_turn, voices_once, voices_turn, fill_once, fill_turn}
 
 -- the greatest cycles of a node's own lines: of those that are met once, and of those that each turn of a loop meets
 pub record NodeCost : Type 0 where
@@ -25,6 +25,14 @@ own_cost (UntilTree counter count steps test body) =
 own_cost (EachVoiceTree body) = node_cost voices_once.cycles (voices_turn (size body)).cycles
 own_cost (WhenTree bit body) = node_cost 0 0
 own_cost (FillTree start count) = node_cost fill_once.cycles fill_turn.cycles
+
+-- those of both kinds
+abbrev pub own_cycles : Tree → ℕ
+own_cycles tree = (own_cost tree).once + (own_cost tree).turn
+
+-- the greatest cycles of all lines of a tree, each line once, as a sum over its nodes
+abbrev pub whole_cycles : Tree → ℕ
+whole_cycles tree = over_nodes own_cycles tree
 
 -- the least number of cycles that the rules of a bound admit: a loop's turns as often as it counts, the greater side
 -- of an If, and a part where it is kept

@@ -19,6 +19,7 @@ pub mod StepLaws
 -- Claimed: steps, tests and blocks that are worked by hand.
 pub mod WorkedSteps
 pub mod WorkedBlocks
+pub mod WorkedShapes
 pub mod WorkedReads
 pub mod WorkedCosts
 -- Claimed: forms on named bytes: their trees, what they do, and that they are sound.

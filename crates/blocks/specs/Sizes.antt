@@ -31,23 +31,35 @@ is_far_back bytes = nat_lt 126 bytes
 abbrev pub over_other : Tree → Cost
 over_other other = if has_no_lines other then nothing else jump_cost
 
--- the branch of an If, over a first side of so many bytes
+-- the branch of an If, over a first side of so many bytes: whether it is far, and what it costs
+abbrev pub if_is_far : ℕ → Tree → Bool
+if_is_far size other = is_far_on (size + (over_other other).bytes)
+
 abbrev pub if_branch : ℕ → Tree → Cost
-if_branch size other = branch_cost (is_far_on (size + (over_other other).bytes))
+if_branch size other = branch_cost (if_is_far size other)
 
 -- the branch back of an Until around a body of so many bytes, where the branch to its end counts as far
+abbrev pub back_is_far : Counter → List Step → Test → ℕ → Bool
+back_is_far counter steps test size =
+    is_far_back ((test_cost steps test).bytes + 5 + size + (down_cost counter).bytes)
+
 abbrev pub until_back : Counter → List Step → Test → ℕ → Cost
-until_back counter steps test size =
-    branch_cost (is_far_back ((test_cost steps test).bytes + 5 + size + (down_cost counter).bytes))
+until_back counter steps test size = branch_cost (back_is_far counter steps test size)
 
 -- the branch to its end
+abbrev pub exit_is_far : Counter → List Step → Test → ℕ → Bool
+exit_is_far counter steps test size =
+    is_far_on (size + (down_cost counter).bytes + (until_back counter steps test size).bytes)
+
 abbrev pub until_exit : Counter → List Step → Test → ℕ → Cost
-until_exit counter steps test size =
-    branch_cost (is_far_on (size + (down_cost counter).bytes + (until_back counter steps test size).bytes))
+until_exit counter steps test size = branch_cost (exit_is_far counter steps test size)
 
 -- the branch back of an EachVoice around a body of so many bytes, with TAX, TXA, CLC, ADC and CMP
+abbrev pub voices_are_far : ℕ → Bool
+voices_are_far size = is_far_back (size + 7)
+
 abbrev pub voices_back : ℕ → Cost
-voices_back size = branch_cost (is_far_back (size + 7))
+voices_back size = branch_cost (voices_are_far size)
 
 -- a node's own lines, but for what stands in the turns of a loop; and those of its turns
 abbrev pub if_cost : List Step → Test → ℕ → Tree → Cost
@@ -110,13 +122,47 @@ always = 255
 abbrev pub code_bytes : Tree → ℕ → ℕ
 code_bytes tree part = part_bytes part always tree
 
+-- the labels of an If's own: the place of the second side, if it has lines, and the end
+abbrev pub if_labels : Tree → ℕ
+if_labels other = if has_no_lines other then 1 else 2
+
+-- a number of each node, added up over the nodes of a tree
+abbrev pub over_nodes : (Tree → ℕ) → Tree → ℕ
+over_nodes number (ChainTree steps) = number (ChainTree steps)
+over_nodes number NoneTree = number NoneTree
+over_nodes number (ThenTree first rest) =
+    number (ThenTree first rest) + over_nodes number first + over_nodes number rest
+over_nodes number (IfTree steps test this other) =
+    number (IfTree steps test this other) + over_nodes number this + over_nodes number other
+over_nodes number (UntilTree counter count steps test body) =
+    number (UntilTree counter count steps test body) + over_nodes number body
+over_nodes number (EachVoiceTree body) = number (EachVoiceTree body) + over_nodes number body
+over_nodes number (WhenTree bit body) = number (WhenTree bit body) + over_nodes number body
+over_nodes number (FillTree start count) = number (FillTree start count)
+
+-- the lines of a node's own: an instruction each, and a name for each label
+abbrev pub own_lines : Tree → ℕ
+own_lines (ChainTree steps) = (steps_cost steps).instructions
+own_lines NoneTree = 0
+own_lines (ThenTree first rest) = 0
+own_lines (IfTree steps test this other) =
+    (if_cost steps test (size this) other).instructions + if_labels other
+own_lines (UntilTree counter count steps test body) =
+    (set_cost counter).instructions + (until_turn counter steps test (size body)).instructions + 2
+own_lines (EachVoiceTree body) = voices_once.instructions + (voices_turn (size body)).instructions + 1
+own_lines (WhenTree bit body) = 0
+own_lines (FillTree start count) = fill_once.instructions + fill_turn.instructions + 1
+
+-- how many lines a tree has with every part kept
+abbrev pub line_count : Tree → ℕ
+line_count tree = over_nodes own_lines tree
+
 -- how many labels the lines of a tree name
 abbrev pub label_count : Tree → ℕ
 label_count (ChainTree steps) = 0
 label_count NoneTree = 0
 label_count (ThenTree first rest) = label_count first + label_count rest
-label_count (IfTree steps test this other) =
-    (if has_no_lines other then 1 else 2) + label_count this + label_count other
+label_count (IfTree steps test this other) = if_labels other + label_count this + label_count other
 label_count (UntilTree counter count steps test body) = 2 + label_count body
 label_count (EachVoiceTree body) = 1 + label_count body
 label_count (WhenTree bit body) = label_count body

@@ -4,7 +4,10 @@ ghost use Rattle.blocks.specs.SoundForms.{MovesAreSound, ChangesAreSound, WordsA
 ghost use Rattle.blocks.specs.StepLaws.{DifferencesAreOfBytes, TestsAreOfBytes};
 ghost use Rattle.blocks.specs.WorkedCosts.{LoadsCost, StoresCost, SumsCost, ChangesCost, TestsCost, ChoicesCost};
 ghost use Rattle.blocks.specs.WorkedCosts.{RepeatsCost, KindsCost};
-ghost use Rattle.blocks.specs.WorkedReads.{EntriesAreWorked, ByPointerIsWorked};
+ghost use Rattle.blocks.specs.WorkedReads.{EntriesAreWorked, SumsReadEntries, RowsReadOn, TurnsReadOn, VoicesReadEach};
+ghost use Rattle.blocks.specs.WorkedReads.{ByPointerIsWorked};
+ghost use Rattle.blocks.specs.WorkedShapes.{WeightsAreWorked, LinesAreWorked, EdgesAreWorked, LoopsAreKnown};
+ghost use Rattle.blocks.specs.WorkedShapes.{FoundBytesAreWorked};
 ghost use Rattle.blocks.specs.WorkedSteps.{LoadsAreWorked, StoresAreWorked, SumsAreWorked, BitsAreWorked};
 ghost use Rattle.blocks.specs.WorkedSteps.{CountsAreWorked, HalvesAreWorked, TestsAreWorked, ComparisonsAreWorked};
 ghost use Rattle.blocks.specs.WorkedBlocks.{LoudIsWorked, DownIsWorked, TwiceIsWorked, GatesAreWorked, PartIsWorked};
@@ -51,9 +54,22 @@ pub fn worked_blocks()
     ensures counters { CountersAreWorked }
 {}
 
+/// Numbers of blocks by their shape, which of them are in their place, and what is known behind loops, worked by hand.
+pub fn worked_shapes()
+    ensures weights { WeightsAreWorked }
+    ensures lines { LinesAreWorked }
+    ensures edges { EdgesAreWorked }
+    ensures known { LoopsAreKnown }
+    ensures found { FoundBytesAreWorked }
+{}
+
 /// What blocks read by Y, worked by hand.
 pub fn worked_reads()
     ensures entries { EntriesAreWorked }
+    ensures sums { SumsReadEntries }
+    ensures rows { RowsReadOn }
+    ensures turns { TurnsReadOn }
+    ensures voices { VoicesReadEach }
     ensures by_pointer { ByPointerIsWorked }
 {}
 

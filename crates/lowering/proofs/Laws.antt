@@ -10,6 +10,8 @@ pub use Rattle.lowering.proofs.Keeping.{kept_lines}
 pub use Rattle.lowering.proofs.Sizing.{lines_size}
 pub use Rattle.lowering.proofs.PartSizes.{parts_size}
 pub use Rattle.lowering.proofs.LabelNames.{tree_named}
+-- how many there are, and their greatest cycles
+pub use Rattle.lowering.proofs.LineCounts.{lines_are_counted, lines_cost}
 -- each node's own lines, and their greatest cycles
 pub use Rattle.lowering.proofs.OwnLines.{total_append, own_lines_are_counted_once, own_lines_cost}
 -- they are at home in any listing, and none of them is refused there

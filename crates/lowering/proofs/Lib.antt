@@ -25,9 +25,11 @@ mod Staying
 mod Isolating
 mod Isolation
 mod Whole
+mod WorkedSites
 -- Bytes.
 mod Sizing
 mod OwnLines
+mod LineCounts
 mod Children
 mod PartSizes
 -- Labels.

@@ -1,7 +1,7 @@
 -- A sound tree whose labels are in their places finds its bytes there.
-use Rattle.std.proofs.Common.{◌≡◌, ℕ, ◌+◌, ◌*◌, ◌<◌, ◌≤◌, ◌&&◌, ◌⊎◌, Bool, true, false, not, nat_le, nat_lt, List, []}
+use Rattle.std.proofs.Common.{◌≡◌, ℕ, zero, suc, ◌+◌, ◌*◌, ◌<◌, ◌≤◌, ◌&&◌, ◌⊎◌, Bool, true, false, not, nat_le, nat_lt, List, []}
 use Rattle.std.proofs.Common.{◌∷◌, refl, ap, ◌∙◌, inl, inr, arith}
-use Rattle.std.proofs.lemmas.Bool.{and_parts, leb-true, ltb-true}
+use Rattle.std.proofs.lemmas.Bool.{and_parts, cases_lt, leb-true, ltb-true}
 use Rattle.lowering.specs.Words.{Cell, Var, VoiceVar, Operand, Const, HeldOperand, Summand, Plain, Entry, Direct, Byte}
 use Rattle.lowering.specs.Words.{FromY, Place, HeldPlace, Register, VoiceRegister, Timer, Pointer, IntoY, Low, High}
 use Rattle.lowering.specs.Words.{Counted, HeldCounted, CountedY}
@@ -21,7 +21,7 @@ use Rattle.lowering.specs.Laid.{Room, OwnCell, FoundOperand, FoundSummand, Found
 use Rattle.lowering.specs.Laid.{FoundSteps, FoundCondition, FoundCounter, FoundFill, Laid}
 use Rattle.lowering.specs.Places.{Names, names_cell, names_operand, names_summand, names_place, names_counted}
 use Rattle.lowering.specs.Places.{names_step, names_steps, names_condition, names_counter, names_fill, names_tree}
-use Rattle.lowering.specs.Places.{MayWrite, AtOwn, AtRegister, AtTimer, AtPointer}
+use Rattle.lowering.specs.Places.{all_from, MayWrite, AtOwn, AtRegister, AtTimer, AtPointer}
 use Rattle.lowering.specs.Does.{Still}
 use Rattle.lowering.proofs.Ways.{Ground, Guarded}
 use Rattle.lowering.proofs.Counting.{tested_keeps, tree_keeps}
@@ -44,8 +44,10 @@ out_of_code : (layout : Layout) (names : Names) (low high : ℕ) → Inside layo
     MayWrite layout names q → (q < low) ⊎ (high ≤ q)
 out_of_code layout names low high inside q (AtOwn label own e) =
     elim (inside.own_outside label own) [ inl under ↦ inl (omega arith) | inr over ↦ inr (omega arith) ]
-out_of_code layout names low high inside q (AtRegister register few e) = let top = inside.code_high in inr (omega arith)
-out_of_code layout names low high inside q (AtTimer k few e) = let top = inside.code_high in inr (omega arith)
+out_of_code layout names low high inside q (AtRegister register named few e) =
+    let top = inside.code_high in inr (omega arith)
+out_of_code layout names low high inside q (AtTimer Low named e) = let top = inside.code_high in inr (omega arith)
+out_of_code layout names low high inside q (AtTimer High named e) = let top = inside.code_high in inr (omega arith)
 out_of_code layout names low high inside q (AtPointer k few e) =
     let bottom = inside.code_low in let top = inside.pointer_high in inl (omega arith)
 
@@ -99,23 +101,40 @@ summand_found layout names low high inside iv X voice indexed (Plain operand) is
     operand_found layout names low high inside iv X voice indexed operand is named
 summand_found layout names low high inside iv X voice indexed (Entry table) is named = inside.labels table
 
+-- a voice's register is one of three
+voice_named : (is_meant : ℕ → Bool) (register voice : ℕ) → voice < 3 →
+    (is_meant register && is_meant (register + 7) && is_meant (register + 14)) ≡ true →
+    is_meant (register + 7 * voice) ≡ true
+voice_named is_meant register zero few e =
+    let p = and_parts (is_meant register && is_meant (register + 7)) (is_meant (register + 14)) e in
+    let q = and_parts (is_meant register) (is_meant (register + 7)) p.0 in
+    ap is_meant (omega arith) ∙ q.0
+voice_named is_meant register (suc zero) few e =
+    let p = and_parts (is_meant register && is_meant (register + 7)) (is_meant (register + 14)) e in
+    let q = and_parts (is_meant register) (is_meant (register + 7)) p.0 in
+    ap is_meant (omega arith) ∙ q.1
+voice_named is_meant register (suc (suc zero)) few e =
+    let p = and_parts (is_meant register && is_meant (register + 7)) (is_meant (register + 14)) e in
+    ap is_meant (omega arith) ∙ p.1
+voice_named is_meant register (suc (suc (suc n))) few e = absurd (omega (arith, few))
+
 place_found : (layout : Layout) (names : Names) (low high : ℕ) → Inside layout names low high → (in_voices : Bool)
     (X : ℕ → Type 0) (voice : ℕ) → Indexed in_voices X voice → (place : Place) → is_place in_voices place ≡ true →
     names_place names place ≡ true → FoundPlace layout (the_room layout names X voice) place
 place_found layout names low high inside iv X voice indexed (HeldPlace cell) is named =
     cell_found layout names low high inside iv X voice indexed cell is named
 place_found layout names low high inside iv X voice indexed (Register register) is named =
-    AtRegister register (leb-true register 24 is) refl
+    AtRegister register named (leb-true register 24 is) refl
 place_found layout names low high inside iv X voice indexed (VoiceRegister register) is named =
     let both = and_parts iv (nat_le register 6) is in
     let few = indexed.voiced both.0 in
     let small = leb-true register 6 both.1 in (
       indexed.index both.0,
       omega arith,
-      AtRegister (register + 7 * voice) (omega arith) (omega arith),
+      AtRegister (register + 7 * voice) (voice_named names.is_register register voice few named) (omega arith)
+          (omega arith),
     )
-place_found layout names low high inside iv X voice indexed (Timer Low) is named = AtTimer 0 (omega arith) refl
-place_found layout names low high inside iv X voice indexed (Timer High) is named = AtTimer 1 (omega arith) refl
+place_found layout names low high inside iv X voice indexed (Timer half) is named = AtTimer half named refl
 place_found layout names low high inside iv X voice indexed (Pointer Low) is named = AtPointer 0 (omega arith) (omega arith)
 place_found layout names low high inside iv X voice indexed (Pointer High) is named = AtPointer 1 (omega arith) refl
 place_found layout names low high inside iv X voice indexed IntoY is named = tt
@@ -197,6 +216,17 @@ count_parts : (count : ℕ) → is_count count ≡ true → (0 < count) × (coun
 count_parts count e =
     let p = and_parts (nat_lt 0 count) (is_byte count) e in (ltb-true 0 count p.0, ltb-true count 256 p.1)
 
+-- each of so many numbers
+meant_at : (is_meant : ℕ → Bool) (first count k : ℕ) → all_from is_meant first count ≡ true → k < count →
+    is_meant (first + k) ≡ true
+meant_at is_meant first zero k e few = absurd (omega (arith, few))
+meant_at is_meant first (suc n) k e few =
+    let both = and_parts (all_from is_meant first n) (is_meant (first + n)) e in
+    elim (cases_lt k n) [
+      | inl below ↦ meant_at is_meant first n k both.0 below
+      | inr above ↦ let le = above in ap is_meant (omega (arith, few, le)) ∙ both.1
+    ]
+
 fill_found : (layout : Layout) (names : Names) (low high : ℕ) → Inside layout names low high → (X : ℕ → Type 0)
     (voice : ℕ) (start : Start) (count : ℕ) → is_fill start count ≡ true → names_fill names start count ≡ true →
     (0 < count) × (count < 256) × FoundFill layout (the_room layout names X voice) start count
@@ -221,7 +251,10 @@ fill_found layout names low high inside X voice (StartRegister register) count i
     let small = leb-true (register + count) 25 p.1 in (
       c.0,
       c.1,
-      λ k few. (omega arith, AtRegister (register + k) (omega arith) (omega arith)),
+      λ k few. (
+        omega arith,
+        AtRegister (register + k) (meant_at names.is_register register count k named few) (omega arith) (omega arith),
+      ),
     )
 
 -- ---- trees

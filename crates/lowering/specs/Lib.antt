@@ -2,6 +2,7 @@
 pub mod Words
 -- To believe: the lines of a tree, and how a machine stands for a desk.
 pub mod Instructions
+pub mod Kinds
 pub mod Lines
 -- Claimed: where a tree's labels are, how many instructions are run, and what the lines do.
 pub mod Places
@@ -17,5 +18,5 @@ pub mod Uses
 pub mod Passing
 pub mod Lowered
 pub mod Isolation
--- Inner: the lines of each kind.
-pub mod Kinds
+-- Claimed: sites that are worked by hand.
+pub mod WorkedSites

@@ -58,7 +58,7 @@ layout_at site = record {
   is_kept = bit_kept site.set;
 }
 
--- the block is sound and names these labels alone, the listing assembles, and the labels are in their places
+-- the block is sound and names these labels, registers and timer bytes alone, the listing assembles, and the labels are in their places
 pub record IsWellPlaced (site : Site) : Type 0 where
   pub sound : is_sound site.tree ≡ true
   pub named : names_tree site.names site.tree ≡ true

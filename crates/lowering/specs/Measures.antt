@@ -1,12 +1,16 @@
--- Numbers of a block's lines, which are those of its shape: bytes, bytes of each part, and labels. This is the project's
+-- Numbers of a block's lines, which are those of its shape: how many there are, bytes, bytes of each part, and labels. This is the project's
 -- own language of player code.
-use Rattle.std.specs.Prelude.{◌≡◌, ℕ, ◌+◌, ◌&&◌, List, [], ◌∷◌, nat_le, nat_lt, if◌then◌else◌}
+use Rattle.std.specs.Prelude.{◌≡◌, ℕ, ◌+◌, ◌&&◌, List, [], ◌∷◌, length, nat_le, nat_lt, if◌then◌else◌}
 use Rattle.asm6502.specs.declared.lines.Line.{Line}
 use Rattle.asm6502.specs.Lines.{names, size_of}
 use Rattle.asm6502.specs.Parts.{part_size}
 use Rattle.blocks.specs.Trees.{Tree}
-use Rattle.blocks.specs.Sizes.{size, code_bytes, label_count}
+use Rattle.blocks.specs.Sizes.{size, code_bytes, line_count, label_count}
 use Rattle.lowering.specs.Lines.{all_lines}
+
+-- there are as many lines as the tree's shape says
+abbrev pub LinesAreCounted : Type 0
+LinesAreCounted = (pointer first : ℕ) (tree : Tree) → length (all_lines pointer first tree) ≡ line_count tree
 
 -- with every part kept the lines take the bytes of the tree's size
 abbrev pub LinesTakeSize : Type 0

@@ -1,18 +1,14 @@
 -- A node's own lines, and that what they cost by their instructions is what its shape says. This is the project's own
 -- language of player code.
-use Rattle.std.specs.Prelude.{◌≡◌, ℕ, ◌+◌, Bool, false, List, [], ◌∷◌, ◌++◌, if◌then◌else◌}
-use Rattle.cpu6502.specs.declared.mnemonic.Mnemonic.TheVariants.{Adc, Clc, Cmp, Dey, Lda, Ldy, Sta, Tax, Txa}
-use Rattle.cpu6502.specs.declared.mnemonic.Mode.TheVariants.{Immediate, AbsoluteY}
-use Rattle.asm6502.specs.declared.lines.Operand.TheVariants.{Number}
+use Rattle.std.specs.Prelude.{◌≡◌, ℕ, ◌+◌, Bool, List, [], ◌++◌, if◌then◌else◌}
 use Rattle.asm6502.specs.declared.lines.Line.{Line}
-use Rattle.lowering.specs.Words.{Not, Zero}
 use Rattle.blocks.specs.Trees.{Tree, ChainTree, NoneTree, ThenTree, IfTree, UntilTree, EachVoiceTree, WhenTree}
 use Rattle.blocks.specs.Trees.{FillTree}
 use Rattle.blocks.specs.Sizes.{has_no_lines, label_count}
-use Rattle.blocks.specs.Costs.{own_cost}
-use Rattle.lowering.specs.Instructions.{code, bare, name, chain_lines, test_lines, branch_lines, opposite, set_lines}
-use Rattle.lowering.specs.Instructions.{down_line}
-use Rattle.lowering.specs.Lines.{if_far, back_far, exit_far, voices_far, if_labels, sides, before_start, lines}
+use Rattle.blocks.specs.Costs.{own_cost, whole_cycles}
+use Rattle.lowering.specs.Instructions.{chain_lines, test_lines, set_lines}
+use Rattle.lowering.specs.Kinds.{choice_lines, until_turns, voices_begin, voices_turns, fill_begin, fill_turns}
+use Rattle.lowering.specs.Lines.{if_far, back_far, exit_far, voices_far, if_labels, lines, all_lines}
 use Rattle.lowering.specs.Cycles.{total, cycles_of}
 
 -- the lines of a node but for its children's: those that are met once, of an If on both of its ways
@@ -21,14 +17,11 @@ once_lines pointer part first (ChainTree steps) = chain_lines pointer part steps
 once_lines pointer part first NoneTree = []
 once_lines pointer part first (ThenTree one rest) = []
 once_lines pointer part first (IfTree steps test this other) =
-    test_lines pointer part steps test
-    ++ (branch_lines part (if_far this other) (opposite test) first ++ sides (has_no_lines other) part first [] [])
+    choice_lines pointer part first steps test (if_far this other) (has_no_lines other) [] []
 once_lines pointer part first (UntilTree counter count steps test body) = set_lines part counter count
-once_lines pointer part first (EachVoiceTree body) =
-    code part Lda Immediate (Number 0) ∷ bare part Clc ∷ []
+once_lines pointer part first (EachVoiceTree body) = voices_begin part
 once_lines pointer part first (WhenTree bit body) = []
-once_lines pointer part first (FillTree start count) =
-    code part Lda Immediate (Number 0) ∷ code part Ldy Immediate (Number count) ∷ []
+once_lines pointer part first (FillTree start count) = fill_begin part count
 
 -- and those that each turn of a loop meets
 abbrev pub turn_lines : ℕ → ℕ → ℕ → Tree → List Line
@@ -37,17 +30,11 @@ turn_lines pointer part first NoneTree = []
 turn_lines pointer part first (ThenTree one rest) = []
 turn_lines pointer part first (IfTree steps test this other) = []
 turn_lines pointer part first (UntilTree counter count steps test body) =
-    name part first ∷ (test_lines pointer part steps test
-    ++ (branch_lines part (exit_far counter steps test body) test (first + 1)
-    ++ down_line part counter ∷ (branch_lines part (back_far counter steps test body) (Not Zero) first
-    ++ name part (first + 1) ∷ [])))
-turn_lines pointer part first (EachVoiceTree body) =
-    name part first ∷ bare part Tax ∷ bare part Txa ∷ bare part Clc ∷ code part Adc Immediate
-    (Number 7) ∷ code part Cmp Immediate (Number 21) ∷ branch_lines part (voices_far body) (Not Zero) first
+    until_turns part first counter (test_lines pointer part steps test) test (exit_far counter steps test body)
+    (back_far counter steps test body) []
+turn_lines pointer part first (EachVoiceTree body) = voices_turns part first (voices_far body) []
 turn_lines pointer part first (WhenTree bit body) = []
-turn_lines pointer part first (FillTree start count) =
-    name part first ∷ code part Sta AbsoluteY (before_start start) ∷ bare part Dey ∷ branch_lines part false
-    (Not Zero) first
+turn_lines pointer part first (FillTree start count) = fill_turns part first start
 
 -- the lines of a node's children
 abbrev pub inner_lines : ℕ → (ℕ → Bool) → ℕ → ℕ → Tree → List Line
@@ -79,3 +66,7 @@ OwnLinesCost =
     (pointer part first : ℕ) (tree : Tree) →
     (cycles_of (once_lines pointer part first tree) ≡ (own_cost tree).once)
     × (cycles_of (turn_lines pointer part first tree) ≡ (own_cost tree).turn)
+
+-- the greatest cycles of all lines of a tree are the sum over its nodes
+abbrev pub LinesCost : Type 0
+LinesCost = (pointer first : ℕ) (tree : Tree) → cycles_of (all_lines pointer first tree) ≡ whole_cycles tree

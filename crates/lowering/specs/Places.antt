@@ -1,29 +1,38 @@
 -- The places of a block's labels in a listing: which labels its tree names, as a test by shape, and what a listing that
 -- holds the block says of their addresses. This is the project's own language of player code.
-use Rattle.std.specs.Prelude.{◌≡◌, ℕ, ◌+◌, ◌*◌, ◌<◌, ◌≤◌, ◌&&◌, ◌⊎◌, Bool, true, List, [], ◌∷◌}
+use Rattle.std.specs.Prelude.{◌≡◌, ℕ, zero, suc, ◌+◌, ◌*◌, ◌<◌, ◌≤◌, ◌&&◌, ◌⊎◌, Bool, true, List, [], ◌∷◌}
 use Rattle.lowering.specs.Words.{Cell, Var, VoiceVar, Operand, Const, HeldOperand, Summand, Plain, Entry, Source}
 use Rattle.lowering.specs.Words.{Direct, Byte, FromY, Place, HeldPlace, Register, VoiceRegister, Timer, Pointer, IntoY}
-use Rattle.lowering.specs.Words.{Counted, HeldCounted, CountedY}
+use Rattle.lowering.specs.Words.{Counted, HeldCounted, CountedY, Half}
 use Rattle.lowering.specs.Words.{Step, Load, Store, Index, And, Or, Xor, Add, Sub, AddOn, SubOn, Double, Inc, Dec}
 use Rattle.lowering.specs.Words.{HalveAt, HalveOn}
 use Rattle.lowering.specs.Words.{Condition, Zero, Minus, Carry, Equal, Less, YEqual, Counter, CounterVar, CounterY}
 use Rattle.lowering.specs.Words.{Start, StartVar, StartRegister}
 use Rattle.blocks.specs.Trees.{Tree, ChainTree, NoneTree, ThenTree, IfTree, UntilTree, EachVoiceTree, WhenTree}
 use Rattle.blocks.specs.Trees.{FillTree}
-use Rattle.blocks.specs.Desk.{Layout}
+use Rattle.blocks.specs.Desk.{Layout, sid_place, timer_place}
 use Rattle.blocks.specs.Steps.{condition_of}
 
 -- the labels of bytes of the block's own, those of the first voice's bytes, those from which on so many bytes are
--- filled, and those of tables, whose entries are read alone
+-- filled, and those of tables, whose entries are read alone; and the SID registers and timer bytes that are written
 pub record Names : Type 0 where
   pub is_own : ℕ → Bool
   pub is_voice : ℕ → Bool
   pub is_row : ℕ → ℕ → Bool
   pub is_table : ℕ → Bool
+  pub is_register : ℕ → Bool
+  pub is_timer : Half → Bool
 
--- the same labels for each of these
+-- the same labels for each of these, and any register and timer byte
 abbrev pub any_of : (ℕ → Bool) → Names
-any_of labels = record { is_own = labels; is_voice = labels; is_row = λ label count. labels label; is_table = labels }
+any_of labels = record {
+  is_own = labels;
+  is_voice = labels;
+  is_row = λ label count. labels label;
+  is_table = labels;
+  is_register = λ register. true;
+  is_timer = λ half. true;
+}
 
 abbrev pub names_cell : Names → Cell → Bool
 names_cell names (Var label) = names.is_own label
@@ -44,9 +53,10 @@ names_source names FromY = true
 
 abbrev pub names_place : Names → Place → Bool
 names_place names (HeldPlace cell) = names_cell names cell
-names_place names (Register register) = true
-names_place names (VoiceRegister register) = true
-names_place names (Timer half) = true
+names_place names (Register register) = names.is_register register
+names_place names (VoiceRegister register) =
+    names.is_register register && names.is_register (register + 7) && names.is_register (register + 14)
+names_place names (Timer half) = names.is_timer half
 names_place names (Pointer half) = true
 names_place names IntoY = true
 
@@ -87,11 +97,16 @@ abbrev pub names_counter : Names → Counter → Bool
 names_counter names (CounterVar label) = names.is_own label
 names_counter names CounterY = true
 
+-- whether so many numbers from a first one on are all meant
+abbrev pub all_from : (ℕ → Bool) → ℕ → ℕ → Bool
+all_from is_meant first zero = true
+all_from is_meant first (suc n) = all_from is_meant first n && is_meant (first + n)
+
 abbrev pub names_fill : Names → Start → ℕ → Bool
 names_fill names (StartVar label) count = names.is_row label count
-names_fill names (StartRegister register) count = true
+names_fill names (StartRegister register) count = all_from names.is_register register count
 
--- whether a tree names these labels alone
+-- whether a tree names these labels, registers and timer bytes alone
 abbrev pub names_tree : Names → Tree → Bool
 names_tree names (ChainTree steps) = names_steps names steps
 names_tree names NoneTree = true
@@ -129,9 +144,11 @@ pub record InPlace (layout : Layout) (names : Names) (start end low high : ℕ) 
   pub pointer_low : 2 ≤ layout.pointer
   pub pointer_high : layout.pointer ≤ 254
 
--- where a lowered block may write: at bytes of its own, at the registers of the SID and of the timer, and at the pointer
+-- where a lowered block may write: at bytes of its own, at the SID registers and timer bytes that it names, and at the
+-- pointer
 pub data MayWrite (layout : Layout) (names : Names) (place : ℕ) : Type 0 where
   AtOwn : (label : ℕ) → names.is_own label ≡ true → layout.address label ≡ place → MayWrite layout names place
-  AtRegister : (register : ℕ) → register ≤ 24 → 0xD400 + register ≡ place → MayWrite layout names place
-  AtTimer : (k : ℕ) → k ≤ 1 → 0xDC04 + k ≡ place → MayWrite layout names place
+  AtRegister : (register : ℕ) → names.is_register register ≡ true → register ≤ 24 → sid_place register ≡ place →
+      MayWrite layout names place
+  AtTimer : (half : Half) → names.is_timer half ≡ true → timer_place half ≡ place → MayWrite layout names place
   AtPointer : (k : ℕ) → k ≤ 1 → layout.pointer + k ≡ place → MayWrite layout names place

@@ -2,10 +2,11 @@
 
 ghost use Rattle.lowering.specs.Isolation.{LoweredBlocksAreIsolated};
 ghost use Rattle.lowering.specs.Lowered.{LoweredBlocksDo};
-ghost use Rattle.lowering.specs.Measures.{LinesTakeSize, PartsTakeBytes, LabelsAreNamedOnce};
-ghost use Rattle.lowering.specs.OwnLines.{OwnLinesAreCountedOnce, OwnLinesCost};
+ghost use Rattle.lowering.specs.Measures.{LinesAreCounted, LinesTakeSize, PartsTakeBytes, LabelsAreNamedOnce};
+ghost use Rattle.lowering.specs.OwnLines.{OwnLinesAreCountedOnce, OwnLinesCost, LinesCost};
 ghost use Rattle.lowering.specs.Passing.{LoweredLinesAreNotRefused};
 ghost use Rattle.lowering.specs.Uses.{LoweredLinesAreAtHome};
+ghost use Rattle.lowering.specs.WorkedSites.{LoudIsLowered, DownIsLowered};
 
 /// The lines of a sound block do what it means, from any state with a clear decimal flag in whose memory they stand, at
 /// every origin and with every set of kept parts with which the listing around them assembles.
@@ -19,8 +20,10 @@ pub fn lowered_blocks_are_isolated()
     ensures { LoweredBlocksAreIsolated }
 {}
 
-/// The lines of a block take the bytes that its shape says, in each part, and name as many labels as it says, each once.
+/// There are as many lines of a block as its shape says. They take the bytes that it says, in each part, and name as many
+/// labels as it says, each once.
 pub fn lines_are_measured()
+    ensures lines { LinesAreCounted }
     ensures size { LinesTakeSize }
     ensures parts { PartsTakeBytes }
     ensures labels { LabelsAreNamedOnce }
@@ -35,8 +38,16 @@ pub fn lowered_lines_are_not_refused()
 {}
 
 /// Each line is a node's own, and the greatest cycles of these, of those that are met once and of those that each turn of
-/// a loop meets, are what the node's shape says.
+/// a loop meets, are what the node's shape says. Those of all lines, each line once, are the sum over the nodes.
 pub fn own_lines_cost()
     ensures each { OwnLinesAreCountedOnce }
     ensures cycles { OwnLinesCost }
+    ensures whole { LinesCost }
+{}
+
+/// Two blocks at `$1000`, worked by hand: their bytes, a site that is well placed, a state that enters it, and where it
+/// comes to. So what the theorem on lowered blocks asks is met there.
+pub fn worked_sites()
+    ensures loud { LoudIsLowered }
+    ensures down { DownIsLowered }
 {}

@@ -2,11 +2,11 @@
 
 ghost use Rattle.std.specs.Prelude.{◌≡◌, ◌+◌, ◌≤◌, ◌++◌, true, IfOk, OnOk, if◌then◌else◌};
 ghost use Rattle.lowering.specs.Instructions.{code};
-ghost use Rattle.lowering.specs.Lines.{every, if_labels, lines, all_lines, sides, before_start, fill_lines};
-ghost use Rattle.lowering.specs.Kinds.{choice_lines, turn_lines, voice_lines};
+ghost use Rattle.lowering.specs.Lines.{every, lines, all_lines};
+ghost use Rattle.lowering.specs.Kinds.{sides, choice_lines, turn_lines, voice_lines, before_start, fill_lines};
 ghost use Rattle.blocks.specs.Trees.{tree_of, IfTree, UntilTree, EachVoiceTree};
 ghost use Rattle.blocks.specs.Shape.{nothing, jump_cost, down_cost, branch_cost};
-ghost use Rattle.blocks.specs.Sizes.{label_count};
+ghost use Rattle.blocks.specs.Sizes.{if_labels, label_count};
 ghost use Rattle.blocks.specs.Sound.{is_sound};
 
 use crate::instructions::{bare, code, down_line, jump, name, opposite};

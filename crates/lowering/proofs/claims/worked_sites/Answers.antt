@@ -1,0 +1,9 @@
+-- Sites that are worked by hand.
+use Rattle.lowering.proofs.claims.worked_sites.Goals as goal
+use Rattle.lowering.proofs.WorkedSites.{loud_is_lowered, down_is_lowered}
+
+pub returns-clause-loud : goal.returns-clause-loud
+returns-clause-loud c = loud_is_lowered
+
+pub returns-clause-down : goal.returns-clause-down
+returns-clause-down c = down_is_lowered
