@@ -5,6 +5,7 @@ mod desk;
 mod kinds;
 mod random;
 mod site;
+mod voices;
 
 use crate::lower;
 use asm6502::{FeatureBits, assemble};
@@ -12,8 +13,8 @@ use blocks::{Operand, Place, move_byte};
 use site::{Begin, Bench, Site};
 use std::test::Fail;
 
-/// The origins at which blocks are run: the first one, one that crosses pages, and one near the last.
-const ORIGINS: [u16; 3] = [0x0800, 0x10f3, 0xcc00];
+/// The origins at which blocks are run: the first one, that of most songs, one that crosses pages, and one near the last.
+const ORIGINS: [u16; 4] = [0x0800, 0x1000, 0x10f3, 0xcc00];
 
 /// The bytes of the labels: 0, 1, 129, 255 and 127, and 0 on.
 fn bytes() -> [u8; 64] {

@@ -120,15 +120,24 @@ fn voices_and_parts(rt: HostRuntime) -> Result<(), Fail> {
     let count = chain(alloc, &[Step::Inc(Counted::Held(Cell::VoiceVar(20)))])?;
     let part = when(alloc, 5, count)?;
     let block = each_voice(alloc, seq(Vec::from_array(alloc, [gate, part])?))?;
+    let mut begin = begin(7, 9, false);
+    begin.bytes[9] = 12;
+    begin.bytes[16] = 13;
     for (kept, times) in [(5, 1), (6, 0)] {
         let place = Site {
             kept,
             ..place_at(0x1000)
         };
-        run(&mut bench, alloc, &block, place, 0, false)?;
+        bench.run(alloc, &block, place, begin)?;
         let memory = &bench.machine.memory;
-        assert_eq!(rt; memory.read(0xd404), 129);
-        assert_eq!(rt; (memory.read(0xd40b), memory.read(0xd412)), (0, 0));
+        assert_eq!(rt;
+            (
+                memory.read(0xd404),
+                memory.read(0xd40b),
+                memory.read(0xd412)
+            ),
+            (129, 12, 13)
+        );
         assert_eq!(rt;
             (bench.byte(20), bench.byte(27), bench.byte(34)),
             (times, times, times)
