@@ -1,10 +1,10 @@
 -- Sites that are worked by hand are well placed and entered, and what the theorem says of them.
-use Rattle.std.proofs.Common.{◌≡◌, ◌∙◌, ℕ, ◌+◌, ◌-◌, ◌<◌, ◌||◌, ◌⊎◌, true, false, nat_eq, slice_index, inl, inr, refl, sym, ap, arith}
+use Rattle.std.proofs.Common.{◌≡◌, ◌∙◌, ℕ, ◌+◌, ◌-◌, ◌<◌, ◌||◌, ◌⊎◌, true, nat_eq, slice_index, inl, inr, refl, sym, ap, arith}
 use Rattle.std.proofs.lemmas.Bool.{eqb-true, false≢true}
 use Rattle.std.proofs.lemmas.Bool.Decides.{eqb_tells}
 use Rattle.lowering.specs.Lowered.{layout_at, IsWellPlaced, Enters}
 use Rattle.lowering.specs.WorkedSites.{loud_site, loud_bytes, LoudIsLowered, down_site, down_bytes, DownIsLowered}
-use Rattle.lowering.specs.WorkedSites.{state_with, IsMet, ComesTo}
+use Rattle.lowering.specs.WorkedSites.{state_with}
 use Rattle.lowering.proofs.Whole.{lowered_blocks_do}
 
 -- a place of the bytes from an origin on
