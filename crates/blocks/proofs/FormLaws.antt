@@ -1,6 +1,7 @@
 -- What forms on named bytes do.
 use Rattle.std.proofs.Common.{◌≡◌, ◌≢◌, ◌∙◌, ℕ, zero, suc, ◌+◌, ◌-◌, ◌*◌, ◌/◌, ◌%◌, ◌<◌, List, [], ◌∷◌, refl, ap, sym}
-use Rattle.std.proofs.Common.{nat_eq, nat_le, if◌then◌else◌, Bool, true, false, not, bit_and, bit_or, bit_xor, inl, inr}
+use Rattle.std.proofs.Common.{nat_eq, nat_le, if◌then◌else◌, Bool, true, false, not, bit_and, bit_or, bit_xor, inl}
+use Rattle.std.proofs.Common.{inr}
 use Rattle.std.proofs.Common.{arith}
 use Rattle.std.proofs.lemmas.Bool.{eqb-true, false≢true}
 use Rattle.std.proofs.lemmas.Bool.Decides.{eqb_tells}
@@ -8,7 +9,8 @@ use Rattle.std.proofs.lemmas.Nat.{mod_below}
 use Rattle.code_runs.specs.Runs.{put}
 use Rattle.code_runs.proofs.Laws.{put_same, put_other}
 use Rattle.cpu6502.specs.Registers.{one_if}
-use Rattle.blocks.specs.Words.{Cell, Operand, Const, HeldOperand, Plain, Entry, Direct, Byte, Low, High, Place, HeldPlace}
+use Rattle.blocks.specs.Words.{Cell, Operand, Const, HeldOperand, Plain, Entry, Direct, Byte, Low, High, Place}
+use Rattle.blocks.specs.Words.{HeldPlace}
 use Rattle.blocks.specs.Words.{Register, VoiceRegister, Timer, Pointer, IntoY, HeldCounted}
 use Rattle.blocks.specs.Words.{Step, Load, Store, Index, And, Or, Xor, Add, Sub, Inc, Dec}
 use Rattle.blocks.specs.Words.{Counter, ByteTest, SameBytes, BelowByte, CommonBit}

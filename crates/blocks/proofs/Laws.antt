@@ -7,6 +7,7 @@ pub use Rattle.blocks.proofs.Bytes.{shows_equal, shows_below, sums_add}
 -- sums, differences and tests as numbers
 pub use Rattle.blocks.proofs.StepLaws.{differences_are_of_bytes, tests_are_of_bytes}
 -- what trees of forms do, and that they are sound
-pub use Rattle.blocks.proofs.FormLaws.{moves, fetches, fetches_far, adds, takes, ands, ors, xors, adds_words, takes_words}
+pub use Rattle.blocks.proofs.FormLaws.{moves, fetches, fetches_far, adds, takes, ands, ors, xors, adds_words}
+pub use Rattle.blocks.proofs.FormLaws.{takes_words}
 pub use Rattle.blocks.proofs.FormLaws.{halves, chooses, repeats_until}
 pub use Rattle.blocks.proofs.SoundForms.{moves_are_sound, changes_are_sound, words_are_sound, questions_are_sound}

@@ -2,7 +2,8 @@
 use Rattle.std.proofs.Common.{◌≡◌, ℕ, Bool, true, false, ◌&&◌, [], ◌∷◌, if◌then◌else◌, refl}
 use Rattle.std.proofs.Math.Bool.{or-true}
 use Rattle.std.proofs.lemmas.Bool.{false≢true}
-use Rattle.blocks.specs.Words.{Cell, Operand, Counter, ByteTest, SameBytes, BelowByte, CommonBit, Inc, Dec, Add, Sub, Plain}
+use Rattle.blocks.specs.Words.{Cell, Operand, Counter, ByteTest, SameBytes, BelowByte, CommonBit, Inc, Dec, Add}
+use Rattle.blocks.specs.Words.{Sub, Plain}
 use Rattle.blocks.specs.Words.{HeldCounted}
 use Rattle.blocks.specs.Trees.{Tree, ChainTree}
 use Rattle.blocks.specs.Steps.{condition_of}
@@ -85,8 +86,8 @@ choice_holds : (s c p q a b h r t : Bool) → s ≡ true → c ≡ true → p �
     r ≡ true → t ≡ true → ((s && c && p && q) && (a && b) && (h && r && t)) ≡ true
 choice_holds s c p q a b h r t es ec ep eq ea eb eh er et = rw (es, ec, ep, eq, ea, eb, eh, er, et) refl
 
-repeat_holds : (k n s c p l m a h r : Bool) → k ≡ true → n ≡ true → s ≡ true → c ≡ true → p ≡ true → l ≡ true → m ≡ true →
-    a ≡ true → h ≡ true → r ≡ true → ((k && n && s && c && p) && (l && m && a) && (h && r)) ≡ true
+repeat_holds : (k n s c p l m a h r : Bool) → k ≡ true → n ≡ true → s ≡ true → c ≡ true → p ≡ true → l ≡ true →
+    m ≡ true → a ≡ true → h ≡ true → r ≡ true → ((k && n && s && c && p) && (l && m && a) && (h && r)) ≡ true
 repeat_holds k n s c p l m a h r ek en es ec ep el em ea eh er = rw (ek, en, es, ec, ep, el, em, ea, eh, er) refl
 
 choice_sound : (in_voices in_when : Bool) (before : Known) (test : ByteTest) (this other : Tree) →

@@ -68,8 +68,8 @@ pub record EdgesAreWorked : Type 0 where
       × (is_placed false false (FillTree (StartVar 65282) 255) ≡ false)
       × (is_placed false false (FillTree (StartVar 4) 0) ≡ false)
 
--- what is known behind a loop: A that its steps load, but not what its body alone loads, nor the carry that only the last
--- turn sets; behind an EachVoice A and the flags, and Y where the body sets it
+-- what is known behind a loop: A where its steps load it, but not where its body alone does, nor where a part in its body
+-- writes it; behind an EachVoice A and the flags, and Y where the body sets it
 pub record LoopsAreKnown : Type 0 where
   pub behind_steps : known (UntilTree (CounterVar 4) 5 (load_byte 3 ∷ []) (Is Zero) NoneTree) none
       ≡ either the_acc the_shown

@@ -1,5 +1,6 @@
 -- What is counted of all lines of a tree is a sum over its nodes: how many there are, and their greatest cycles.
-use Rattle.std.proofs.Common.{◌≡◌, ◌∙◌, ℕ, ◌+◌, Bool, true, false, if◌then◌else◌, List, [], ◌∷◌, ◌++◌, length, refl, sym, ap}
+use Rattle.std.proofs.Common.{◌≡◌, ◌∙◌, ℕ, ◌+◌, Bool, true, false, if◌then◌else◌, List, [], ◌∷◌, ◌++◌, length, refl}
+use Rattle.std.proofs.Common.{sym, ap}
 use Rattle.std.proofs.Common.{arith}
 use Rattle.asm6502.specs.declared.lines.Line.{Line}
 use Rattle.lowering.specs.Words.{Cell, Var, VoiceVar, Operand, Const, HeldOperand, Summand, Plain, Entry, Source}
@@ -10,11 +11,14 @@ use Rattle.lowering.specs.Words.{HalveAt, HalveOn, Condition, Zero, Minus, Carry
 use Rattle.blocks.specs.Trees.{Tree, ChainTree, NoneTree, ThenTree, IfTree, UntilTree, EachVoiceTree, WhenTree}
 use Rattle.blocks.specs.Trees.{FillTree}
 use Rattle.blocks.specs.Steps.{condition_of}
-use Rattle.blocks.specs.Shape.{operand_cost, summand_cost, source_cost, place_cost, change_cost, counted_cost, step_cost}
-use Rattle.blocks.specs.Shape.{steps_cost, condition_cost, test_cost, branch_cost, set_cost, down_cost, nothing, jump_cost}
+use Rattle.blocks.specs.Shape.{operand_cost, summand_cost, source_cost, place_cost, change_cost, counted_cost}
+use Rattle.blocks.specs.Shape.{step_cost}
+use Rattle.blocks.specs.Shape.{steps_cost, condition_cost, test_cost, branch_cost, set_cost, down_cost, nothing}
+use Rattle.blocks.specs.Shape.{jump_cost}
 use Rattle.blocks.specs.Sizes.{has_no_lines, label_count, if_labels, over_nodes, own_lines}
 use Rattle.blocks.specs.Costs.{own_cost, own_cycles}
-use Rattle.lowering.specs.Instructions.{name, step_lines, chain_lines, condition_lines, test_lines, branch_lines, opposite}
+use Rattle.lowering.specs.Instructions.{name, step_lines, chain_lines, condition_lines, test_lines, branch_lines}
+use Rattle.lowering.specs.Instructions.{opposite}
 use Rattle.lowering.specs.Instructions.{set_lines, down_line}
 use Rattle.lowering.specs.Kinds.{sides}
 use Rattle.lowering.specs.Lines.{every, lines, if_far, back_far, exit_far, voices_far}

@@ -7,7 +7,8 @@ use Rattle.asm6502.specs.declared.lines.Operand.{Operand as Argument}
 use Rattle.asm6502.specs.declared.lines.Operand.TheVariants.{Number, Label}
 use Rattle.asm6502.specs.declared.lines.Line.{Line}
 use Rattle.lowering.specs.Words.{Step, Test, Not, Zero, Counter, Start, StartVar, StartRegister}
-use Rattle.lowering.specs.Instructions.{code, bare, name, jump, test_lines, branch_lines, opposite, set_lines, down_line}
+use Rattle.lowering.specs.Instructions.{code, bare, name, jump, test_lines, branch_lines, opposite, set_lines}
+use Rattle.lowering.specs.Instructions.{down_line}
 
 -- the sides of an If: the first, and where the second has lines a jump over it; with their names
 abbrev pub sides : Bool → ℕ → ℕ → List Line → List Line → List Line

@@ -22,7 +22,7 @@ abbrev pub bit_kept : ℕ → ℕ → Bool
 bit_kept set bit = nat_eq (bit_at set bit) 1
 
 -- a lowered block in a listing: the lines before and behind it, with which parts and where it is assembled, the block's
--- pointer and first label, and the labels that it names
+-- pointer and first label, and the labels, registers and timer bytes that it names
 pub record Site : Type 0 where
   pub front : List Line
   pub tree : Tree
@@ -58,7 +58,8 @@ layout_at site = record {
   is_kept = bit_kept site.set;
 }
 
--- the block is sound and names these labels, registers and timer bytes alone, the listing assembles, and the labels are in their places
+-- the block is sound and names these labels, registers and timer bytes alone, the listing assembles, and the labels are
+-- in their places
 pub record IsWellPlaced (site : Site) : Type 0 where
   pub sound : is_sound site.tree ≡ true
   pub named : names_tree site.names site.tree ≡ true

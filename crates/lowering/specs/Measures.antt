@@ -1,5 +1,5 @@
--- Numbers of a block's lines, which are those of its shape: how many there are, bytes, bytes of each part, and labels. This is the project's
--- own language of player code.
+-- Numbers of a block's lines, which are those of its shape: how many there are, bytes, bytes of each part, and labels.
+-- This is the project's own language of player code.
 use Rattle.std.specs.Prelude.{◌≡◌, ℕ, ◌+◌, ◌&&◌, List, [], ◌∷◌, length, nat_le, nat_lt, if◌then◌else◌}
 use Rattle.asm6502.specs.declared.lines.Line.{Line}
 use Rattle.asm6502.specs.Lines.{names, size_of}

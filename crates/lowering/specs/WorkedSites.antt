@@ -1,7 +1,7 @@
 -- Lowered blocks that are worked by hand at $1000: one that sets the volume, and a loop that counts down. Their sites
 -- are well placed, and a state enters each, so what the theorem on lowered blocks asks can be met. Source: the MOS 6502
 -- programming manual.
-use Rattle.std.specs.Prelude.{◌≡◌, ℕ, ◌-◌, ◌||◌, true, false, nat_eq, List, [], ◌∷◌, slice_index}
+use Rattle.std.specs.Prelude.{◌≡◌, ℕ, ◌-◌, ◌||◌, true, false, nat_eq, List, [], ◌∷◌, ◌++◌, slice_index}
 use Rattle.code_runs.specs.Runs.{State, Leads}
 use Rattle.asm6502.specs.declared.lines.Item.TheVariants.{Bytes}
 use Rattle.asm6502.specs.declared.lines.Line.{Line}
@@ -89,11 +89,25 @@ three_and_four = record {
 abbrev pub down_site : Site
 down_site = site_of (down 5) counted_bytes three_and_four
 
--- LDA #5, STA $101B; at $1005 LDA $101A, CMP #0, BEQ $101A; LDA $101A, SEC, SBC #1, STA $101A; DEC $101B, BNE $1005;
+-- LDA #5, STA $101B
+abbrev pub set_bytes : List ℕ
+set_bytes = 0xA9 ∷ 0x05 ∷ 0x8D ∷ 0x1B ∷ 0x10 ∷ []
+
+-- at $1005 LDA $101A, CMP #0, BEQ $101A
+abbrev pub head_bytes : List ℕ
+head_bytes = 0xAD ∷ 0x1A ∷ 0x10 ∷ 0xC9 ∷ 0x00 ∷ 0xF0 ∷ 0x0E ∷ []
+
+-- LDA $101A, SEC, SBC #1, STA $101A
+abbrev pub body_bytes : List ℕ
+body_bytes = 0xAD ∷ 0x1A ∷ 0x10 ∷ 0x38 ∷ 0xE9 ∷ 0x01 ∷ 0x8D ∷ 0x1A ∷ 0x10 ∷ []
+
+-- DEC $101B, BNE $1005
+abbrev pub back_bytes : List ℕ
+back_bytes = 0xCE ∷ 0x1B ∷ 0x10 ∷ 0xD0 ∷ 0xEB ∷ []
+
 -- and at $101A the two bytes
 abbrev pub down_bytes : List ℕ
-down_bytes =
-    0xA9 ∷ 0x05 ∷ 0x8D ∷ 0x1B ∷ 0x10 ∷ 0xAD ∷ 0x1A ∷ 0x10 ∷ 0xC9 ∷ 0x00 ∷ 0xF0 ∷ 0x0E ∷ 0xAD ∷ 0x1A ∷ 0x10 ∷ 0x38 ∷ 0xE9 ∷ 0x01 ∷ 0x8D ∷ 0x1A ∷ 0x10 ∷ 0xCE ∷ 0x1B ∷ 0x10 ∷ 0xD0 ∷ 0xEB ∷ 3 ∷ 0 ∷ []
+down_bytes = set_bytes ++ (head_bytes ++ (body_bytes ++ (back_bytes ++ 3 ∷ 0 ∷ [])))
 
 -- from 3 it makes three turns of nine steps, and comes to $101A after 32 steps with 0 there and two turns left
 abbrev pub DownIsLowered : Type 0

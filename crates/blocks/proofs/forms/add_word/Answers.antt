@@ -6,4 +6,5 @@ use Rattle.blocks.proofs.FormLaws.{adds_words}
 
 pub returns-clause-changes : goal.returns-clause-changes
 returns-clause-changes c =
-    IfOk-weaker _ _ _ (λ block. adds_words c.args.low c.args.high c.args.other_low c.args.other_high (tree_of block)) c.changed_word.ensures
+    let of = adds_words c.args.low c.args.high c.args.other_low c.args.other_high in
+    IfOk-weaker _ _ _ (λ block. of (tree_of block)) c.changed_word.ensures
