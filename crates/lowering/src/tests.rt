@@ -5,6 +5,7 @@ mod desk;
 mod kinds;
 mod random;
 mod site;
+mod sound;
 mod voices;
 
 use crate::lower;

@@ -1,6 +1,7 @@
 //! Random sound blocks, on machines that begin at random.
 
 use super::site::{Begin, Bench, Site};
+use super::sound::is_sound;
 use base::NoMemory;
 use blocks::{
     Block, Cell, Condition, Counted, Counter, Half, Operand, Place, Source, Start, Step, Summand,
@@ -259,7 +260,7 @@ impl Maker {
     }
 }
 
-/// 200 blocks, each on two machines.
+/// 200 blocks, each sound, on two machines.
 #[test]
 fn random_blocks_do_what_they_mean(rt: HostRuntime) -> Result<(), Fail> {
     let alloc = rt.alloc();
@@ -274,6 +275,7 @@ fn random_blocks_do_what_they_mean(rt: HostRuntime) -> Result<(), Fail> {
         let is_known = false;
         let mut maker = Maker { seed, is_known };
         let block = maker.list(alloc, room)?;
+        assert!(rt; is_sound(&block));
         for origin in [0x0800, 0x5a5a] {
             let kept = maker.byte() % 32;
             let pointer = maker.byte() % 253 + 2;
