@@ -1,8 +1,8 @@
 //! The language in which the player is written: chains of steps, choices and loops, as a person writes for the 6502.
 //!
 //! Its leaves are the processor's own steps, and what a block means is said on a desk: the memory, A, Y and the flags
-//! carry, zero and minus. Its one contract: each builder answers a block of exactly the tree that it names, so that a
-//! layer above speaks of trees alone, and each named form on bytes does with these bytes what its name says. The
+//! carry, zero and minus. Its one contract: each builder and each form on named bytes answers a block of exactly the tree
+//! that it names, so that a layer above speaks of trees alone, and a form does with these bytes what its name says. The
 //! definitions say what a tree means, when it is sound, and how many lines, bytes, labels, instructions and cycles its
 //! shape has.
 //!
