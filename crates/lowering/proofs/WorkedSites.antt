@@ -1,35 +1,47 @@
 -- Sites that are worked by hand are well placed and entered, and what the theorem says of them.
-use Rattle.std.proofs.Common.{◌≡◌, ◌∙◌, ℕ, ◌+◌, ◌-◌, ◌<◌, ◌||◌, ◌⊎◌, true, nat_eq, slice_index, inl, inr, refl, sym}
-use Rattle.std.proofs.Common.{ap, arith}
+use Rattle.std.proofs.Common.{◌≡◌, ◌∙◌, ℕ, ◌+◌, ◌-◌, ◌<◌, ◌≤◌, ◌||◌, ◌⊎◌, Bool, true, nat_eq, slice_index, inl, inr, refl, sym}
+use Rattle.std.proofs.Common.{ap, arith, false}
 use Rattle.std.proofs.lemmas.Bool.{eqb-true, false≢true}
 use Rattle.std.proofs.lemmas.Bool.Decides.{eqb_tells}
+use Rattle.blocks.specs.Desk.{Layout}
+use Rattle.lowering.specs.Places.{InPlace}
 use Rattle.lowering.specs.Lowered.{layout_at, IsWellPlaced, Enters}
 use Rattle.lowering.specs.WorkedSites.{loud_site, loud_bytes, LoudIsLowered, down_site, down_bytes, DownIsLowered}
-use Rattle.lowering.specs.WorkedSites.{state_with}
+use Rattle.lowering.specs.WorkedSites.{names_of, is_counted_label, state_with}
 use Rattle.lowering.proofs.Whole.{lowered_blocks_do}
 
 -- a place of the bytes from an origin on
 from_origin : (origin k : ℕ) → origin + (0 + k) - origin ≡ 0 + k
 from_origin origin k = omega arith
 
+-- where no voice's byte and no fill is named, the labels of the block's own are in their places alone
+in_place_of : (layout : Layout) (own registers : ℕ → Bool) (start end low high : ℕ) → 0x0800 ≤ start → end ≤ 0xD000 →
+    2 ≤ layout.pointer → layout.pointer ≤ 254 → ((label : ℕ) → own label ≡ true → layout.address label < end) →
+    ((label : ℕ) → own label ≡ true → (layout.address label < low) ⊎ (high ≤ layout.address label)) →
+    ((label other : ℕ) → own label ≡ true → own other ≡ true → layout.address label ≡ layout.address other →
+    label ≡ other) → InPlace layout (names_of own registers) start end low high
+in_place_of layout own registers start end low high begins ends pointer_low pointer_high inside outside apart = record {
+  begins = begins;
+  ends = ends;
+  own_inside = inside;
+  own_outside = outside;
+  own_apart = apart;
+  voices = λ label voice e few. absurd (false≢true e);
+  voices_own = λ label voice e few. absurd (false≢true e);
+  rows = λ label count k e few. absurd (false≢true e);
+  rows_own = λ label count k e few. absurd (false≢true e);
+  pointer_low = pointer_low;
+  pointer_high = pointer_high;
+}
+
 loud_placed : IsWellPlaced loud_site
 loud_placed = record {
   sound = refl;
   named = refl;
   assembles = refl;
-  in_place = record {
-    begins = omega arith;
-    ends = omega arith;
-    own_inside = λ label e. absurd (false≢true e);
-    own_outside = λ label e. absurd (false≢true e);
-    own_apart = λ label other e f same. absurd (false≢true e);
-    voices = λ label voice e few. absurd (false≢true e);
-    voices_own = λ label voice e few. absurd (false≢true e);
-    rows = λ label count k e few. absurd (false≢true e);
-    rows_own = λ label count k e few. absurd (false≢true e);
-    pointer_low = omega arith;
-    pointer_high = omega arith;
-  };
+  in_place = in_place_of (layout_at loud_site) (λ label. false) (λ register. nat_eq register 24) 0x1000 0x1005 0x1000 0x1005
+      (omega arith) (omega arith) (omega arith) (omega arith) (λ label e. absurd (false≢true e))
+      (λ label e. absurd (false≢true e)) (λ label other e f same. absurd (false≢true e));
 }
 
 loud_entered : Enters loud_site (state_with loud_bytes)
@@ -55,50 +67,47 @@ three_or_four label e =
       | inr differ ↦ inr (eqb-true label 4 (ap (λ b. b || nat_eq label 4) (sym differ.0) ∙ e))
     ]
 
+differ : (a b : ℕ) → a + 1 ≡ b → a ≡ b → ⊥
+differ a b next e = omega (arith, next, e)
+
+counted_inside : (label : ℕ) → is_counted_label label ≡ true → (layout_at down_site).address label < 0x101C
+counted_inside label e =
+    elim (three_or_four label e) [
+      | inl h ↦ rw h (let l : 0x101A < 0x101C = omega arith in l)
+      | inr h ↦ rw h (let l : 0x101B < 0x101C = omega arith in l)
+    ]
+
+counted_outside : (label : ℕ) → is_counted_label label ≡ true →
+    ((layout_at down_site).address label < 0x1000) ⊎ (0x101A ≤ (layout_at down_site).address label)
+counted_outside label e =
+    elim (three_or_four label e) [
+      | inl h ↦ rw h (inr (omega arith))
+      | inr h ↦ rw h (inr (omega arith))
+    ]
+
+counted_apart : (label other : ℕ) → is_counted_label label ≡ true → is_counted_label other ≡ true →
+    (layout_at down_site).address label ≡ (layout_at down_site).address other → label ≡ other
+counted_apart label other e f same =
+    let at = (layout_at down_site).address in
+    elim (three_or_four label e) [
+      | inl h ↦ elim (three_or_four other f) [
+        | inl g ↦ h ∙ sym g
+        | inr g ↦ absurd (differ 0x101A 0x101B refl (ap at (sym h) ∙ same ∙ ap at g))
+      ]
+      | inr h ↦ elim (three_or_four other f) [
+        | inl g ↦ absurd (differ 0x101A 0x101B refl (ap at (sym g) ∙ sym same ∙ ap at h))
+        | inr g ↦ h ∙ sym g
+      ]
+    ]
+
 down_placed : IsWellPlaced down_site
 down_placed = record {
   sound = refl;
   named = refl;
   assembles = refl;
-  in_place = record {
-    begins = omega arith;
-    ends = omega arith;
-    own_inside = λ label e.
-        elim (three_or_four label e) [
-          | inl h ↦ rw h (let l : 0x101A < 0x101C = omega arith in l)
-          | inr h ↦ rw h (let l : 0x101B < 0x101C = omega arith in l)
-        ];
-    own_outside = λ label e.
-        elim (three_or_four label e) [
-          | inl h ↦ rw h (inr (omega arith))
-          | inr h ↦ rw h (inr (omega arith))
-        ];
-    own_apart = λ label other e f same.
-        elim (three_or_four label e) [
-          | inl h ↦ elim (three_or_four other f) [
-            | inl g ↦ h ∙ sym g
-            | inr g ↦ absurd
-                (differ 0x101A 0x101B refl
-                (ap (layout_at down_site).address (sym h) ∙ same ∙ ap (layout_at down_site).address g))
-          ]
-          | inr h ↦ elim (three_or_four other f) [
-            | inl g ↦ absurd
-                (differ 0x101A 0x101B refl
-                (ap (layout_at down_site).address (sym g) ∙ sym same ∙ ap (layout_at down_site).address h))
-            | inr g ↦ h ∙ sym g
-          ]
-        ];
-    voices = λ label voice e few. absurd (false≢true e);
-    voices_own = λ label voice e few. absurd (false≢true e);
-    rows = λ label count k e few. absurd (false≢true e);
-    rows_own = λ label count k e few. absurd (false≢true e);
-    pointer_low = omega arith;
-    pointer_high = omega arith;
-  };
+  in_place = in_place_of (layout_at down_site) is_counted_label (λ register. false) 0x1000 0x101C 0x1000 0x101A
+      (omega arith) (omega arith) (omega arith) (omega arith) counted_inside counted_outside counted_apart;
 }
-  where
-    differ : (a b : ℕ) → a + 1 ≡ b → a ≡ b → ⊥
-    differ a b next e = omega (arith, next, e)
 
 down_entered : Enters down_site (state_with down_bytes)
 down_entered = record {

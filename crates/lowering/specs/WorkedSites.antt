@@ -1,7 +1,7 @@
 -- Lowered blocks that are worked by hand at $1000: one that sets the volume, and a loop that counts down. Their sites
 -- are well placed, and a state enters each, so what the theorem on lowered blocks asks can be met. Source: the MOS 6502
 -- programming manual.
-use Rattle.std.specs.Prelude.{◌≡◌, ℕ, ◌-◌, ◌||◌, true, false, nat_eq, List, [], ◌∷◌, ◌++◌, slice_index}
+use Rattle.std.specs.Prelude.{◌≡◌, ℕ, ◌-◌, ◌||◌, Bool, true, false, nat_eq, List, [], ◌∷◌, ◌++◌, slice_index}
 use Rattle.code_runs.specs.Runs.{State, Leads}
 use Rattle.asm6502.specs.declared.lines.Item.TheVariants.{Bytes}
 use Rattle.asm6502.specs.declared.lines.Line.{Line}
@@ -45,19 +45,20 @@ pub record ComesTo (site : Site) (bytes : List ℕ) (steps end place byte : ℕ)
   pub pc : after.cpu.pc ≡ end
   pub is : after.at place ≡ byte
 
--- one register alone is named
-abbrev pub volume_alone : Names
-volume_alone = record {
-  is_own = λ label. false;
+-- labels of the block's own and registers, and no other
+abbrev pub names_of : (ℕ → Bool) → (ℕ → Bool) → Names
+names_of own registers = record {
+  is_own = own;
   is_voice = λ label. false;
   is_row = λ label count. false;
   is_table = λ label. false;
-  is_register = λ register. nat_eq register 24;
+  is_register = registers;
   is_timer = λ half. false;
 }
 
+-- the volume's register alone is named
 abbrev pub loud_site : Site
-loud_site = site_of loud [] volume_alone
+loud_site = site_of loud [] (names_of (λ label. false) (λ register. nat_eq register 24))
 
 -- LDA #$0F, STA $D418
 abbrev pub loud_bytes : List ℕ
@@ -76,18 +77,11 @@ counted_bytes =
           (0 ∷ []);
     } ∷ []
 
-abbrev pub three_and_four : Names
-three_and_four = record {
-  is_own = λ label. nat_eq label 3 || nat_eq label 4;
-  is_voice = λ label. false;
-  is_row = λ label count. false;
-  is_table = λ label. false;
-  is_register = λ register. false;
-  is_timer = λ half. false;
-}
+abbrev pub is_counted_label : ℕ → Bool
+is_counted_label label = nat_eq label 3 || nat_eq label 4
 
 abbrev pub down_site : Site
-down_site = site_of (down 5) counted_bytes three_and_four
+down_site = site_of (down 5) counted_bytes (names_of is_counted_label (λ register. false))
 
 -- LDA #5, STA $101B
 abbrev pub set_bytes : List ℕ
