@@ -8,10 +8,12 @@ mod site;
 mod sound;
 mod voices;
 
-use crate::lower;
-use asm6502::{FeatureBits, assemble};
-use blocks::{Operand, Place, move_byte};
+use crate::{Listing, lower};
+use asm6502::{FeatureBits, Item, Line, assemble};
+use base::ByteList;
+use blocks::{ByteTest, Cell, Counter, Operand, Place, move_byte, sub, until_holds};
 use site::{Begin, Bench, Site};
+use std::alloc::Global;
 use std::test::Fail;
 
 /// The origins at which blocks are run: the first one, that of most songs, one that crosses pages, and one near the last.
@@ -67,23 +69,53 @@ fn move_is_two_instructions(rt: HostRuntime) -> Result<(), Fail> {
     Ok(())
 }
 
-/// A sound block is lowered by the public call, and its lines assemble.
+/// The bytes of a block that the public call has lowered, with a byte for each of labels 3 and 4 behind it.
+fn bytes_of(alloc: Global, mut listing: Listing) -> Result<ByteList, Fail> {
+    for label in [3, 4] {
+        listing.push(Line {
+            part: 255,
+            item: Item::Label(label),
+        })?;
+        listing.push(Line {
+            part: 255,
+            item: Item::Bytes(ByteList::from_slice(alloc, &[label as u8])?),
+        })?;
+    }
+    if !listing.is_within_limits() {
+        return Err("too many lines".into());
+    }
+    let assembled = assemble(alloc, &listing, 0x1000, FeatureBits(0));
+    Ok(assembled.ok().ok_or("refused")?.bytes)
+}
+
+/// A move is lowered by the public call, and its lines assemble.
 #[test]
-fn lowered_lines_assemble(rt: HostRuntime) -> Result<(), Fail> {
-    use blocks::{Source, Step, chain};
+fn lowered_moves_assemble(rt: HostRuntime) -> Result<(), Fail> {
     let alloc = rt.alloc();
-    let steps = [
-        Step::Load(Source::number(15)),
-        Step::Store(Place::Register(24)),
-    ];
-    let listing = lower(alloc, &chain(alloc, &steps)?, 0xfc, 0)?;
-    assert!(rt; listing.is_within_limits());
-    let assembled = assemble(alloc, &listing, 0x1000, FeatureBits(0))
-        .ok()
-        .ok_or("refused")?;
+    let block = move_byte(alloc, Place::Register(24), Operand::Const(15))?;
+    let bytes = bytes_of(alloc, lower(alloc, &block, 0xfc, 100)?)?;
     assert_eq!(rt;
-        assembled.bytes.as_slice(),
-        [0xa9, 0x0f, 0x8d, 0x18, 0xd4].as_slice()
+        bytes.as_slice(),
+        [0xa9, 0x0f, 0x8d, 0x18, 0xd4, 3, 4].as_slice()
+    );
+    Ok(())
+}
+
+/// LDA #5, STA $1015; LDA $1014, CMP #0, BEQ $1014; DEC $1014; DEC $1015, BNE $1005; and the two bytes.
+#[test]
+fn lowered_loops_assemble(rt: HostRuntime) -> Result<(), Fail> {
+    let alloc = rt.alloc();
+    let body = sub(alloc, Cell::Var(3), Operand::Const(1))?;
+    let test = ByteTest::Equal(Operand::var(3), Operand::Const(0));
+    let block = until_holds(alloc, test, Counter::Var(4), 5, body)?;
+    let bytes = bytes_of(alloc, lower(alloc, &block, 0xfc, 100)?)?;
+    assert_eq!(rt;
+        bytes.as_slice(),
+        [
+            0xa9, 0x05, 0x8d, 0x15, 0x10, 0xad, 0x14, 0x10, 0xc9, 0x00, 0xf0, 0x08, 0xce, 0x14,
+            0x10, 0xce, 0x15, 0x10, 0xd0, 0xf1, 3, 4
+        ]
+        .as_slice()
     );
     Ok(())
 }
