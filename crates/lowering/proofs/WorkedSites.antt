@@ -1,13 +1,13 @@
 -- Sites that are worked by hand are well placed and entered, and what the theorem says of them.
 use Rattle.std.proofs.Common.{◌≡◌, ◌∙◌, ℕ, ◌+◌, ◌-◌, ◌<◌, ◌≤◌, ◌||◌, ◌⊎◌, Bool, true, nat_eq, slice_index, inl, inr, refl, sym}
-use Rattle.std.proofs.Common.{ap, arith, false}
+use Rattle.std.proofs.Common.{ap, arith, false, zero, suc}
 use Rattle.std.proofs.lemmas.Bool.{eqb-true, false≢true}
 use Rattle.std.proofs.lemmas.Bool.Decides.{eqb_tells}
 use Rattle.blocks.specs.Desk.{Layout}
-use Rattle.lowering.specs.Places.{InPlace}
+use Rattle.lowering.specs.Places.{InPlace, AtOwn, AtRegister, AtTimer, AtPointer}
 use Rattle.lowering.specs.Lowered.{layout_at, IsWellPlaced, Enters}
 use Rattle.lowering.specs.WorkedSites.{loud_site, loud_bytes, LoudIsLowered, down_site, down_bytes, DownIsLowered}
-use Rattle.lowering.specs.WorkedSites.{names_of, is_counted_label, state_with}
+use Rattle.lowering.specs.WorkedSites.{names_of, is_counted_label, state_with, WritesVolumeAlone}
 use Rattle.lowering.proofs.Whole.{lowered_blocks_do}
 
 -- a place of the bytes from an origin on
@@ -51,11 +51,21 @@ loud_entered = record {
   d = refl;
 }
 
+writes_volume_alone : WritesVolumeAlone
+writes_volume_alone place (AtOwn label own e) = absurd (false≢true own)
+writes_volume_alone place (AtRegister register named few e) =
+    let is = eqb-true register 24 named in inl (omega (arith, is, e))
+writes_volume_alone place (AtTimer half named e) = absurd (false≢true named)
+writes_volume_alone place (AtPointer zero few e) = inr (inl (omega (arith, e)))
+writes_volume_alone place (AtPointer (suc zero) few e) = inr (inr (omega (arith, e)))
+writes_volume_alone place (AtPointer (suc (suc k)) few e) = absurd (omega (arith, few))
+
 pub loud_is_lowered : LoudIsLowered
 loud_is_lowered =
     let meant = lowered_blocks_do loud_site (state_with loud_bytes) loud_placed loud_entered in (
       record { are = refl; placed = loud_placed; entered = loud_entered },
       record { after = meant.after; leads = meant.leads; pc = meant.pc; is = ap (λ desk. desk.at 0xD418) meant.desk },
+      writes_volume_alone,
     )
 
 -- ---- the loop

@@ -1,7 +1,7 @@
 -- Lowered blocks that are worked by hand at $1000: one that sets the volume, and a loop that counts down. Their sites
 -- are well placed, and a state enters each, so what the theorem on lowered blocks asks can be met. Source: the MOS 6502
 -- programming manual.
-use Rattle.std.specs.Prelude.{◌≡◌, ℕ, ◌-◌, ◌||◌, Bool, true, false, nat_eq, List, [], ◌∷◌, ◌++◌, slice_index}
+use Rattle.std.specs.Prelude.{◌≡◌, ℕ, ◌-◌, ◌||◌, ◌⊎◌, Bool, true, false, nat_eq, List, [], ◌∷◌, ◌++◌, slice_index}
 use Rattle.code_runs.specs.Runs.{State, Leads}
 use Rattle.asm6502.specs.declared.lines.Item.TheVariants.{Bytes}
 use Rattle.asm6502.specs.declared.lines.Line.{Line}
@@ -64,9 +64,16 @@ loud_site = site_of loud [] (names_of (λ label. false) (λ register. nat_eq reg
 abbrev pub loud_bytes : List ℕ
 loud_bytes = 0xA9 ∷ 0x0F ∷ 0x8D ∷ 0x18 ∷ 0xD4 ∷ []
 
+-- it may write at $D418 and at the pointer, and nowhere else
+abbrev pub WritesVolumeAlone : Type 0
+WritesVolumeAlone =
+    (place : ℕ) → MayWrite (layout_at loud_site) loud_site.names place →
+    (place ≡ 0xD418) ⊎ (place ≡ 0xFC) ⊎ (place ≡ 0xFD)
+
 -- two steps lead to $1005, and $D418 holds 15
 abbrev pub LoudIsLowered : Type 0
-LoudIsLowered = IsMet loud_site loud_bytes × ComesTo loud_site loud_bytes 2 0x1005 0xD418 15
+LoudIsLowered =
+    IsMet loud_site loud_bytes × ComesTo loud_site loud_bytes 2 0x1005 0xD418 15 × WritesVolumeAlone
 
 -- labels 3 and 4, a byte each: 3, and 0
 abbrev pub counted_bytes : List Line
