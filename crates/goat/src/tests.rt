@@ -4,6 +4,7 @@ mod broken;
 mod checking;
 mod copying;
 mod editing;
+mod packing;
 mod parts;
 mod running;
 mod tracing;

@@ -1,5 +1,6 @@
 -- Each stage passes where what it asks for is there, and ends a run with one text.
-use Rattle.std.proofs.Common.{◌≡◌, ℕ, ◌+◌, ◌-◌, List, [], ◌∷◌, ◌++◌, Some, None, Ok, Err, length, refl, sym, ap, ◌∙◌, subst, arith}
+use Rattle.std.proofs.Common.{◌≡◌, ℕ, ◌+◌, ◌-◌, ◌≤◌, List, [], ◌∷◌, ◌++◌, Some, None, Ok, Err, length, refl, sym, ap, ◌∙◌, subst, inl, inr, arith}
+use Rattle.std.proofs.lemmas.Bool.{cases_lt}
 use Rattle.goat_io.specs.Files.{Files, file_of}
 use Rattle.song_model.specs.declared.songs.Song.{Song}
 use Rattle.song_model.specs.LookUp.{IsNumbered, playable_subtunes}
@@ -13,11 +14,15 @@ use Rattle.psid.specs.Reading.{psid_read}
 use Rattle.sid_run.specs.State.{loaded}
 use Rattle.goat_cli.specs.Calls.{HasSubtune, FirstCalls, MeetsStopAt, StopsIn}
 use Rattle.goat_cli.specs.RegisterText.{register_lines}
-use Rattle.goat_cli.specs.Lines.{song_fault_line, unplayable_line, psid_fault_line, no_subtune_line, script_line, stop_line}
-use Rattle.goat_cli.specs.Stages.{Stage, IsThere, Fits, SpellsSong, CanBePlayed, CanBePacked, HasPlayableSubtune, CanBeEdited, IsPsid, OffersSubtune, CallsReturn, HoldsSong, HoldsPsid, IsMet, Ends, Passes}
+use Rattle.goat_cli.specs.Lines.{song_fault_line, unplayable_line, too_large_line, psid_fault_line, no_subtune_line, script_line, stop_line}
+use Rattle.goat_cli.specs.Stages.{Stage, IsThere, Fits, SpellsSong, CanBePlayed, HasShortPatterns, CanBePacked, HasPlayableSubtune, CanBeEdited, IsPsid, OffersSubtune, CallsReturn, HoldsSong, HoldsPsid, IsMet, Ends, Passes}
 use Rattle.play_model.specs.Playable.{IsPlayable, IsRefusedFor}
 use Rattle.play_model.proofs.Laws.{refused_or_playable_lem}
 use Rattle.usage.proofs.Laws.{one_refusal}
+use Rattle.packed_form.specs.UsedSets.{UsedSets, AreUsedSets}
+use Rattle.packed_form.specs.Renumbering.{pattern_text}
+use Rattle.packed_form.proofs.Laws.{same_sets}
+use Rattle.song_pack.specs.Answers.{AreShort, IsTooLong}
 use Rattle.goat_cli.specs.Laws.{PlayableSongsPass}
 use Rattle.gts5.proofs.Laws.{spells_once, spells_has_no_fault}
 use Rattle.goat_cli.proofs.Calls.{returned_or_stopped, one_list, one_stop_at, one_reason}
@@ -55,6 +60,34 @@ one_stop subtune frames a b same p q =
     ∙ ap (λ r. register_lines q.registers ++ stop_line r p.call ∷ []) reason
     ∙ ap (λ c. register_lines q.registers ++ stop_line q.reason c ∷ []) call
 
+-- a text is too long or short, and the first one that is too long is one
+never_both : (song : Song) (used : UsedSets) (pattern count : ℕ) → AreShort song used →
+    IsTooLong song used pattern count → ⊥
+never_both song used pattern count short long =
+    let most = short pattern long.is_used in
+    let is = long.text in
+    let above = long.long in
+    omega arith
+
+not_before : (song : Song) (used : UsedSets) (p q m n : ℕ) → IsTooLong song used p m → IsTooLong song used q n → q ≤ p
+not_before song used p q m n one other = elim (cases_lt p q) [
+  | inl before ↦ absurd
+      (let most = other.first p before one.is_used in
+      let is = one.text in
+      let above = one.long in
+      omega arith)
+  | inr after ↦ after
+]
+
+one_too_long : (song : Song) (used : UsedSets) (p q m n : ℕ) → IsTooLong song used p m → IsTooLong song used q n →
+    too_large_line p m ∷ [] ≡ too_large_line q n ∷ []
+one_too_long song used p q m n one other =
+    let low = not_before song used p q m n one other in
+    let high = not_before song used q p n m other one in
+    let same : p ≡ q = omega arith in
+    let count : m ≡ n = sym one.text ∙ ap (λ k. length (pattern_text song used k)) same ∙ other.text in
+    ap (λ k. too_large_line k m ∷ []) same ∙ ap (λ k. too_large_line q k ∷ []) count
+
 -- ---- what each stage asks for lets it pass, and each stage ends a run with one text
 
 pub record StageFacts (files : Files) (stage : Stage) : Type 0 where
@@ -91,6 +124,18 @@ module _ (files : Files) where
         let same = one_song_held files name p.0 q.0 p.2 q.2 in
         let one = one_refusal q.0 p.1 q.1 (subst (λ song. IsRefusedFor song p.1) same p.3) q.3 in
         p.4 ∙ ap (λ refusal. unplayable_line refusal ∷ []) one ∙ sym q.4;
+  }
+  stage_facts (HasShortPatterns name) = record {
+    passes = λ met lines ends.
+        let song = one_song_held files name met.0 ends.0 met.2 ends.4 in
+        let used = same_sets ends.0 met.1 ends.1 (subst (λ s. AreUsedSets s met.1) song met.3) ends.5 in
+        never_both ends.0 ends.1 ends.2 ends.3
+        (subst (AreShort ends.0) used (subst (λ s. AreShort s met.1) song met.4)) ends.6;
+    once = λ lines others p q.
+        let song = one_song_held files name p.0 q.0 p.4 q.4 in
+        let used = same_sets q.0 p.1 q.1 (subst (λ s. AreUsedSets s p.1) song p.5) q.5 in
+        let long = subst (λ u. IsTooLong q.0 u p.2 p.3) used (subst (λ s. IsTooLong s p.1 p.2 p.3) song p.6) in
+        p.7 ∙ one_too_long q.0 q.1 p.2 q.2 p.3 q.3 long q.6 ∙ sym q.7;
   }
   stage_facts (CanBePacked name) = record {
     passes = λ met lines ends. ends.2 (subst IsSilent (one_song_held files name met.0 ends.0 met.1 ends.1) met.2);

@@ -11,7 +11,7 @@ use Rattle.psid.specs.declared.header.Psid.{Psid}
 use Rattle.cpu6502.specs.declared.machine.Machine.{Machine}
 use Rattle.sid_run.specs.State.{loaded}
 use Rattle.goat_cli.specs.Words.{Job, Pack, Copy, Edit, Check, Trace, Run, ArePackArguments, AreTraceArguments, AreRunArguments}
-use Rattle.goat_cli.specs.Stages.{Stage, IsThere, Fits, SpellsSong, CanBePlayed, CanBePacked, HasPlayableSubtune, CanBeEdited, IsPsid, OffersSubtune, CallsReturn, HoldsSong, HoldsPsid, IsEditedIn, input_limit, script_limit}
+use Rattle.goat_cli.specs.Stages.{Stage, IsThere, Fits, SpellsSong, CanBePlayed, HasShortPatterns, CanBePacked, HasPlayableSubtune, CanBeEdited, IsPsid, OffersSubtune, CallsReturn, HoldsSong, HoldsPsid, IsEditedIn, input_limit, script_limit}
 use Rattle.goat_cli.specs.Packed.{IsPackedFile}
 use Rattle.goat_cli.specs.Calls.{FirstCalls}
 use Rattle.goat_cli.specs.RegisterText.{register_lines}
@@ -43,7 +43,8 @@ abbrev pub about : Job → About
 about (Pack input output psid address zero_page) = record {
   command = codes "pack";
   has_arguments = λ words. ArePackArguments words input output psid address zero_page;
-  stages = IsThere input ∷ Fits input input_limit ∷ SpellsSong input ∷ CanBePlayed input ∷ CanBePacked input ∷ [];
+  stages = IsThere input ∷ Fits input input_limit ∷ SpellsSong input ∷ CanBePlayed input ∷ HasShortPatterns input ∷
+      CanBePacked input ∷ [];
   does = WritesFile output (λ files file. (song : Song) × HoldsSong files input song ×
       IsPackedFile psid address zero_page song file);
 }

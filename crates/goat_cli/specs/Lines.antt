@@ -99,6 +99,11 @@ unplayable_line (TableOverflow name row) =
 unplayable_line (PointerToJump name row) =
     line (codes "unplayable: " ∷ table_word name ∷ codes " pointer to jump row " ∷ decimal row ∷ [])
 
+-- for a pattern with this number whose packed text is too long
+abbrev pub too_large_line : ℕ → ℕ → List ℕ
+too_large_line pattern count =
+    line (codes "too large: pattern " ∷ decimal pattern ∷ codes " packs to " ∷ decimal count ∷ codes " bytes" ∷ [])
+
 -- the low 24 bits of a number as six hexadecimal digits in lower case
 abbrev pub feature_digits : ℕ → List ℕ
 feature_digits bits = encode_lower ((bits / 65536 % 256) ∷ (bits / 256 % 256) ∷ (bits % 256) ∷ [])

@@ -15,6 +15,7 @@ number_of status.TooLong = 3
 number_of status.ReadFault = 4
 number_of status.NotASong = 5
 number_of status.Unplayable = 6
+number_of status.TooLarge = 7
 number_of status.BadScript = 8
 number_of status.WriteFault = 9
 number_of status.SinkFault = 10

@@ -11,6 +11,8 @@ use Rattle.gts5.specs.Spells.{Spells}
 use Rattle.gts5.specs.Faults.{fault_of}
 use Rattle.play_model.specs.declared.unplayable.Unplayable.{Unplayable}
 use Rattle.play_model.specs.Playable.{IsPlayable, IsRefusedFor}
+use Rattle.packed_form.specs.UsedSets.{UsedSets, AreUsedSets}
+use Rattle.song_pack.specs.Answers.{AreShort, IsTooLong}
 use Rattle.edit_script.specs.Edited.{IsEditedBy, FailsAt}
 use Rattle.psid.specs.declared.header.Psid.{Psid}
 use Rattle.psid.specs.declared.faults.PsidFault.{PsidFault}
@@ -19,7 +21,7 @@ use Rattle.cpu6502.specs.declared.machine.Machine.{Machine}
 use Rattle.sid_run.specs.State.{loaded}
 use Rattle.goat_cli.specs.Calls.{HasSubtune, FirstCalls, StopsIn}
 use Rattle.goat_cli.specs.RegisterText.{register_lines}
-use Rattle.goat_cli.specs.Lines.{missing_line, too_long_line, song_fault_line, unplayable_line, not_built_line, script_line, psid_fault_line, no_subtune_line, stop_line}
+use Rattle.goat_cli.specs.Lines.{missing_line, too_long_line, song_fault_line, unplayable_line, too_large_line, not_built_line, script_line, psid_fault_line, no_subtune_line, stop_line}
 
 -- the most bytes of a song or a PSID file
 abbrev pub input_limit : ℕ
@@ -35,6 +37,7 @@ pub data Stage : Type 0 where
   Fits : (name : List ℕ) (limit : ℕ) → Stage
   SpellsSong : (name : List ℕ) → Stage
   CanBePlayed : (name : List ℕ) → Stage
+  HasShortPatterns : (name : List ℕ) → Stage
   CanBePacked : (name : List ℕ) → Stage
   HasPlayableSubtune : (name : List ℕ) (subtune : ℕ) → Stage
   CanBeEdited : (name script : List ℕ) → Stage
@@ -109,6 +112,14 @@ rule_of (HasPlayableSubtune name subtune) = record {
   status = 11;
   ends = λ files lines. (song : Song) × HoldsSong files name song × (¬ IsNumbered (playable_subtunes song) subtune) ×
       (lines ≡ no_subtune_line subtune (length (playable_subtunes song)) ∷ []);
+}
+-- no text of a used pattern is too long; else the first one is told
+rule_of (HasShortPatterns name) = record {
+  asks = λ files. (song : Song) × (used : UsedSets) × HoldsSong files name song × AreUsedSets song used ×
+      AreShort song used;
+  status = 7;
+  ends = λ files lines. (song : Song) × (used : UsedSets) × (pattern : ℕ) × (count : ℕ) × HoldsSong files name song ×
+      AreUsedSets song used × IsTooLong song used pattern count × (lines ≡ too_large_line pattern count ∷ []);
 }
 -- the song is silent
 rule_of (CanBePacked name) = record {

@@ -20,6 +20,8 @@ pub enum Status {
     NotASong = 5,
     /// The song can't be played.
     Unplayable = 6,
+    /// A pattern of the song has more bytes than a packed pattern may have.
+    TooLarge = 7,
     /// The script breaks the format of scripts, or one of its commands can't be done.
     BadScript = 8,
     /// The folder failed to write the file.

@@ -6,7 +6,7 @@ use Rattle.song_model.specs.Limits.{KeepsLimits}
 use Rattle.song_model.specs.LookUp.{IsNumbered, playable_subtunes}
 use Rattle.play_model.specs.declared.options.Options.{Options}
 use Rattle.play_model.specs.Speeds.{IsSpeed}
-use Rattle.play_model.specs.Frame.{state_after_with, trace_with}
+use Rattle.play_model.specs.Frame.{trace_with}
 use Rattle.song_model.specs.declared.tables.TableName.TheVariants.{Speed}
 use Rattle.play_model.specs.Used.{IsUsedInstrument}
 use Rattle.play_model.specs.Reached.{IsPointer}
@@ -16,7 +16,7 @@ use Rattle.play_model.specs.Uses.{UsesFeature}
 use Rattle.packed_form.specs.declared.packed_songs.PackedSubtune.{PackedSubtune}
 use Rattle.packed_form.specs.declared.packed_songs.PackedSong.{PackedSong}
 use Rattle.packed_form.specs.PackedSpells.{PackedSpells}
-use Rattle.packed_form.specs.Unpacked.{IsPackedOrder, unpacked_pattern, unpacked_song}
+use Rattle.packed_form.specs.Unpacked.{IsPackedOrder, unpacked_pattern, unpacked_song, packed_state, packed_trace}
 
 pub record ArePackedOrders (subtune : PackedSubtune) : Type 0 where
   pub one : IsPackedOrder subtune.one
@@ -30,8 +30,8 @@ pub record IsPackedSong (packed : PackedSong) : Type 0 where
   -- numbers are bytes, and lists as long as they may be
   pub limits : KeepsLimits (unpacked_song packed)
 
--- All that a frame of the song may look up is stored: each subtune can be played, its orderlists go on for ever and name
--- stored patterns, its programs stay in their tables; and the instruments and the speeds that it names are there too.
+-- The song can be played, each of its subtunes: its orderlists go on for ever and name stored patterns, and its programs
+-- stay in their tables. The instruments and the speeds that it names are stored too.
 pub record IsComplete (song : Song) : Type 0 where
   pub subtunes : playable_subtunes song ≡ song.subtunes
   pub playable : IsPlayable song
@@ -41,10 +41,9 @@ pub record IsComplete (song : Song) : Type 0 where
 -- subtune k plays alike, with these options
 pub record PlaysAlike (o : Options) (packed : PackedSong) (song : Song) (k : ℕ) : Type 0 where
   -- the registers after each call
-  pub trace : (i : ℕ) → trace_with o (unpacked_song packed) k i ≡ trace_with o song k i
+  pub trace : (i : ℕ) → packed_trace packed k o i ≡ trace_with o song k i
   -- no frame uses more than the song's features
-  pub uses : (i : ℕ) (feature : Feature) →
-      UsesFeature o (unpacked_song packed) k (state_after_with o (unpacked_song packed) k i) feature →
+  pub uses : (i : ℕ) (feature : Feature) → UsesFeature o (unpacked_song packed) k (packed_state packed k o i) feature →
       HasFeature song feature
 
 pub record StandsFor (packed : PackedSong) (song : Song) : Type 0 where

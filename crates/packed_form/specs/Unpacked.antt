@@ -1,5 +1,5 @@
 -- A packed song read as a song, from this project's own packed form: its orderlists, its patterns and its instruments
--- unpacked, under the packed song's numbers. What its player plays are the frames of this song.
+-- unpacked, under the packed song's numbers. The frames of a packed song are those of this song.
 use Rattle.std.specs.Prelude.{◌≡◌, ℕ, ◌+◌, ◌==◌, List, [], ◌∷◌, ◌++◌, map, take, replicate, Contains, Result, Ok, Err, slice_index}
 use Rattle.std.specs.List.{position_or_len}
 use Rattle.song_model.specs.declared.rows.Row.{Row}
@@ -10,7 +10,7 @@ use Rattle.song_model.specs.declared.songs.Song.{Song}
 use Rattle.song_model.specs.Silence.{empty_song}
 use Rattle.play_model.specs.declared.options.Options.{Options}
 use Rattle.play_model.specs.State.{FrameState}
-use Rattle.play_model.specs.Frame.{Framed, frame_with}
+use Rattle.play_model.specs.Frame.{Framed, frame_with, state_after_with, trace_with}
 use Rattle.packed_form.specs.declared.faults.PackedFault.{PackedFault}
 use Rattle.packed_form.specs.declared.packed_songs.PackedSubtune.{PackedSubtune}
 use Rattle.packed_form.specs.declared.packed_songs.PackedInstrument.{PackedInstrument}
@@ -78,6 +78,15 @@ unpacked_song packed = record empty_song {
   patterns = map unpacked_pattern packed.patterns;
 }
 
--- a frame of packed subtune k, counted from 0
+-- ---- frames of packed subtune k, counted from 0
+
 abbrev pub packed_frame : PackedSong → ℕ → Options → FrameState → Framed
 packed_frame packed k o x = frame_with o (unpacked_song packed) k x
+
+-- the state after n frames
+abbrev pub packed_state : PackedSong → ℕ → Options → ℕ → FrameState
+packed_state packed k o n = state_after_with o (unpacked_song packed) k n
+
+-- the registers after call i
+abbrev pub packed_trace : PackedSong → ℕ → Options → ℕ → List ℕ
+packed_trace packed k o i = trace_with o (unpacked_song packed) k i

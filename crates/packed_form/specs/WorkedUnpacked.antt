@@ -1,11 +1,12 @@
 -- A packed song read as a song, worked out by hand.
-use Rattle.std.specs.Prelude.{◌≡◌, [], ◌∷◌}
+use Rattle.std.specs.Prelude.{◌≡◌, [], ◌∷◌, ◌++◌, replicate}
+use Rattle.play_model.specs.State.{no_options, start_state}
 use Rattle.play_model.specs.WorkedSongs.{sides, row, one_note}
 use Rattle.packed_form.specs.declared.packed_songs.PackedSubtune.{PackedSubtune}
 use Rattle.packed_form.specs.declared.packed_songs.PackedInstrument.{PackedInstrument}
 use Rattle.packed_form.specs.declared.packed_songs.PackedSong.{PackedSong}
 use Rattle.packed_form.specs.Sizes.{packed_song_size}
-use Rattle.packed_form.specs.Unpacked.{unpacked_order, unpacked_pattern, unpacked_song}
+use Rattle.packed_form.specs.Unpacked.{unpacked_order, unpacked_pattern, unpacked_song, packed_frame}
 
 -- the first $FF ends the entries, and the byte after it is the restart position, also where it is $FF
 pub record OrdersAreUnpacked : Type 0 where
@@ -38,10 +39,11 @@ pub record IsPackedNote (packed : PackedSong) : Type 0 where
   pub filter : packed.filter ≡ []
   pub speed : packed.speed ≡ []
 
--- it is the song that it was made of, and has 42 bytes
+-- it is the song that it was made of, and has 42 bytes; its first frame sets the volume alone
 pub record NoteIsUnpacked (packed : PackedSong) : Type 0 where
   pub song : unpacked_song packed ≡ one_note
   pub size : packed_song_size packed ≡ 42
+  pub frame : (packed_frame packed 0 no_options (start_state no_options)).registers ≡ replicate 24 0 ++ 0x0F ∷ []
 
 abbrev pub PackedNotesAreUnpacked : Type 0
 PackedNotesAreUnpacked = (packed : PackedSong) → IsPackedNote packed → NoteIsUnpacked packed

@@ -33,6 +33,9 @@ module _ (song : Song) (parts : UsedParts) (tables : PackedTables) (numbers : Li
     is_packed : KeepsLimits song → IsPacked song (sets_of parts) packed
     is_packed limits = made_is_packed song parts limits are tables numbers tables_are numbers_are to packed made
 
+    pub exact : (used : UsedSets) → AreUsedSets song used → KeepsLimits song → IsPacked song used packed
+    exact used is limits = subst (λ (u : UsedSets). IsPacked song u packed) (same used is) (is_packed limits)
+
     pub stands : KeepsLimits song → StandsFor packed song
     stands limits =
         stands_for song (sets_of parts) packed limits play (used_sets song parts are) (is_packed limits)

@@ -1,3 +1,5 @@
+-- The door: what upper crates may cite.
+pub mod Laws
 -- Inner: what a song under new numbers uses, and that it is complete.
 mod UsedParts
 mod Complete

@@ -30,7 +30,6 @@ use Rattle.same_frames.specs.OrderLaws.{moved_byte, moved_order, moved_subtune}
 use Rattle.packed_form.specs.declared.packed_songs.PackedInstrument.{PackedInstrument}
 use Rattle.packed_form.specs.declared.packed_songs.PackedSong.{PackedSong}
 use Rattle.packed_form.specs.Segments.{ProgramTable, IsWhole, numbers, keeps}
-use Rattle.packed_form.specs.ProgramMaps.{retargeted}
 use Rattle.packed_form.specs.UsedSets.{UsedSets, AreUsedSets}
 use Rattle.packed_form.specs.Renumbering.{rank, same_row, speed_rows, wave_row, filter_programs, pulse_programs, wave_programs, table_number, program_number, program_rows}
 use Rattle.packed_form.specs.Unpacked.{unpacked_instrument, unpacked_pattern, unpacked_song}

@@ -12,7 +12,6 @@ use Rattle.song_model.specs.LookUp.{instrument_at, playable_subtunes}
 use Rattle.packed_form.specs.declared.packed_songs.PackedSong.{PackedSong}
 use Rattle.packed_form.specs.Sizes.{list_size, subtune_size, packed_song_size}
 use Rattle.packed_form.specs.Segments.{ProgramTable, numbers, keeps}
-use Rattle.packed_form.specs.ProgramMaps.{retargeted}
 use Rattle.packed_form.specs.UsedSets.{UsedSets}
 use Rattle.packed_form.specs.Renumbering.{program_rows, table_number, pattern_number}
 use Rattle.packed_form.specs.SongSizes.{order_size, orders_size, packed_size}

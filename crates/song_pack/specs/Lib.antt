@@ -1,7 +1,7 @@
--- To believe: what packing a song answers.
-pub mod Answers
--- Inner: the packed song of a song, part by part, and new numbers as lists.
+-- To believe: the packed song of a song, part by part, and what packing a song answers.
 pub mod Packed
+pub mod Answers
+-- Inner: new numbers as lists, and what is made of a song's tables and patterns.
 pub mod Numbers
 pub mod Programs
 pub mod Tables

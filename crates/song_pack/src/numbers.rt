@@ -6,7 +6,6 @@ ghost use Rattle.packed_form.specs.Renumbering.{rank, pointer_number};
 ghost use Rattle.song_pack.specs.Numbers.{foreign_of, row_of};
 
 use song_model::TableName;
-use table_pack::ByteMarks;
 
 /// The new numbers of the rows that the wave table may point into; each list is by the old number.
 #[derive(Drop)]

@@ -1,9 +1,8 @@
 //! The subtunes of a packed song.
 
-ghost use Rattle.std.specs.Prelude.{◌≡◌, ◌≤◌, ℕ, IfOk, length, map};
+ghost use Rattle.std.specs.Prelude.{◌≡◌, IfOk, map, slice_index};
 ghost use Rattle.song_model.specs.LookUp.{playable_subtunes};
 ghost use Rattle.song_pack.specs.Packed.{order_byte, order_bytes, packed_subtune};
-ghost use Rattle.std.specs.Prelude.{slice_index};
 
 use base::NoMemory;
 use packed_form::{PackedOrder, PackedSubtune, PackedSubtuneList};

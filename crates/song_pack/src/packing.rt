@@ -6,6 +6,7 @@ ghost use Rattle.play_model.specs.Playable.{IsPlayable};
 ghost use Rattle.usage.specs.Parts.{AreUsedParts};
 ghost use Rattle.packed_form.specs.UsedSets.{UsedSets, AreUsedSets};
 ghost use Rattle.packed_form.specs.StandsFor.{StandsFor};
+ghost use Rattle.song_pack.specs.Packed.{IsPacked};
 ghost use Rattle.song_pack.specs.Answers.{HasPackedSize, AreShort, IsCause};
 
 use crate::PackFault;
@@ -27,8 +28,11 @@ use usage::UsedParts;
 pub fn pack_song(alloc: Global, song: &Song, usage: &UsedParts) -> Result<PackedSong, PackFault>
     requires playable { IsPlayable song.now }
     requires parts { AreUsedParts song.now usage.now }
-    // It plays what the song plays, with any options, and all that a frame may look up is there.
+    // It plays what the song plays, with any options, and can be played itself.
     ensures stands { IfOk result (λ packed. KeepsLimits song.now → StandsFor packed song.now) }
+    // Each of its parts is the one that the packed form's definitions name.
+    ensures exact { (used : UsedSets) → AreUsedSets song.now used → KeepsLimits song.now →
+        IfOk result (IsPacked song.now used) }
     // It has the size that the song's definitions name.
     ensures size { (used : UsedSets) → AreUsedSets song.now used → KeepsLimits song.now →
         IfOk result (λ packed. HasPackedSize packed song.now used) }

@@ -12,7 +12,7 @@ ghost use Rattle.goat_cli.specs.Jobs.{command_of, AreArgumentsOf};
 use crate::arguments::{address_of, is_psid, zero_page_of};
 use crate::packed::packed_file;
 use crate::refusal::{Refusal, Report};
-use crate::stages::{can_be_packed, parts_of, read_song, write_file};
+use crate::stages::{can_be_packed, packed_song, parts_of, read_song, write_file};
 use crate::words::{Job, WordsFault};
 use goat_io::Folder;
 use std::alloc::Global;
@@ -67,7 +67,8 @@ pub fn pack_song<'a, F: Folder>(
         (folder_state (F.files folder.new) (F.counts folder.new)) sink sink }
 {
     let song = read_song(alloc, input, folder)?;
-    let _parts = parts_of(&song)?;
+    let parts = parts_of(&song)?;
+    let _packed = packed_song(alloc, &song, &parts)?;
     can_be_packed(&song)?;
     let file = packed_file(alloc, psid, &song, address)?;
     write_file(output, &file, folder)

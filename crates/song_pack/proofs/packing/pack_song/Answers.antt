@@ -2,7 +2,7 @@ use Rattle.std.proofs.Common.{refl}
 use Rattle.play_model.proofs.Laws.{whole_lem}
 use Rattle.song_pack.specs.Answers.{IsCause}
 use Rattle.song_pack.proofs.HandedOn.{err_caused}
-use Rattle.song_pack.proofs.Answered.{stands, size, short, cause}
+use Rattle.song_pack.proofs.Answered.{stands, exact, size, short, cause}
 use Rattle.song_pack.proofs.packing.pack_song.Goals as goal
 
 pub packed_patterns-requires-clause-stored : goal.packed_patterns-requires-clause-stored
@@ -20,6 +20,21 @@ returns-in_err-patterns-clause-fault c used are limits =
 pub returns-clause-stands : goal.returns-clause-stands
 returns-clause-stands c =
     stands c.args.song.now c.args.usage.now c.in_ok-tables.tables c.instrument_numbers-numbers.result c.requires.playable
+    c.requires.parts c.in_ok-tables.ensures c.instrument_numbers-numbers.ensures.numbers c.in_ok-patterns.patterns.to _
+    (record {
+      wave = refl;
+      pulse = refl;
+      filter = refl;
+      speed = refl;
+      instruments = c.in_ok-instruments.ensures;
+      patterns = c.in_ok-patterns.ensures.patterns;
+      subtunes = c.in_ok-subtunes.ensures;
+      features = refl;
+    })
+
+pub returns-clause-exact : goal.returns-clause-exact
+returns-clause-exact c =
+    exact c.args.song.now c.args.usage.now c.in_ok-tables.tables c.instrument_numbers-numbers.result c.requires.playable
     c.requires.parts c.in_ok-tables.ensures c.instrument_numbers-numbers.ensures.numbers c.in_ok-patterns.patterns.to _
     (record {
       wave = refl;
