@@ -14,6 +14,7 @@ pub mod Back
 pub mod SameRows
 pub mod WorkedSongs
 pub mod WorkedPointers
+pub mod WorkedRefusals
 pub mod WorkedEdits
 -- Inner: what the code of one edit answers.
 pub mod Does

@@ -114,7 +114,7 @@ fn is_bad(song: &Song, edit: &Edit) -> bool
 /// # Errors
 ///
 /// Out of memory. The song is as before.
-#[tactic(auto, unfolding(crate::specs::Edits::lacks_place, crate::specs::Edits::is_over, crate::specs::Edits::is_bad, crate::specs::Edits::changed))]
+#[tactic(auto, unfolding(crate::proofs::Doing::reading_the_table))]
 fn change(alloc: Global, song: &mut Song, edit: &Edit) -> Result<Inverse, NoMemory>
     requires place { lacks_place song.old edit.now ≡ false }
     requires limit { is_over song.old edit.now ≡ false }

@@ -1,8 +1,9 @@
 //! Facts about the definitions of this crate, each the contract of a function that does nothing.
 
 ghost use Rattle.edit_ops.specs.SameRows.{NamesItAfterAnInsert, NamesItAfterADelete, PointsAtNothingStill};
-ghost use Rattle.edit_ops.specs.WorkedPointers.{RaisesFromTheRow, LowersAboveTheRow, InsertsAWaveRow, DeletesAWaveRow, InsertsAPulseRow, DeletesAFilterRow, InsertsASpeedRow};
-ghost use Rattle.edit_ops.specs.WorkedEdits.{Transposes, KeepsTheRange, CountsPatterns, StoresInstruments, KeepsLengths, RefusesInOrder};
+ghost use Rattle.edit_ops.specs.WorkedPointers.{RaisesFromTheRow, LowersAboveTheRow, InsertsAWaveRow, DeletesAWaveRow, InsertsAPulseRow, DeletesAFilterRow, InsertsASpeedRow, MovesIntoPulse, MovesIntoFilter, MovesIntoSpeed, MovesIntoWave, MovesToTheEnd, MovesRoundARow};
+ghost use Rattle.edit_ops.specs.WorkedRefusals.{LacksPatterns, LacksOrders, LacksTableRows, LacksInstruments, LimitsRows, LimitsOrders, LimitsTables, RangesOfRows, RangesOfValues, RangesOfNotes, OrderOfRows, OrderOfLengths, OrderOfEntries, OrderOfTables};
+ghost use Rattle.edit_ops.specs.WorkedEdits.{SetsRows, InsertsRows, FillsPatterns, DeletesRows, SetsLengths, EditsOnePattern, TransposesToTheEnds, TransposesNotesAlone, EditsOrders, EmptiesOrders, FillsOrders, EditsOneChannel, AddsSubtunes, RemovesSubtunes, SetsFields, StoresInstruments, StoresTheLast, SetsTableRows, InsertsTableRows, FillsTables, SetsTexts, CountsPatterns, FillsSongs};
 
 /// A pointer to a stored row names the same row after an insert, and after the delete of another row; one at nothing
 /// stays one.
@@ -19,7 +20,7 @@ pub fn worked_numbers()
 {}
 
 /// Rows that come into each table and go, in a song with a pointer of each kind.
-#[tactic(auto, unfolding(crate::specs::Edits::edited, crate::specs::Edits::lacks_place, crate::specs::Edits::is_over, crate::specs::Edits::is_bad, crate::specs::Edits::changed, crate::specs::Tables::with_row_inserted, crate::specs::Tables::with_row_deleted, crate::specs::Pointers::moved_song))]
+#[tactic(auto, unfolding(crate::proofs::Doing::doing_edits))]
 pub fn worked_pointers()
     ensures wave_in { InsertsAWaveRow }
     ensures wave_out { DeletesAWaveRow }
@@ -28,13 +29,75 @@ pub fn worked_pointers()
     ensures speed_in { InsertsASpeedRow }
 {}
 
-/// Edits at the edges of their limits, and in which order they are refused.
-#[tactic(auto, unfolding(crate::specs::Edits::edited, crate::specs::Edits::lacks_place, crate::specs::Edits::is_over, crate::specs::Edits::is_bad, crate::specs::Edits::changed, song_model::specs::LookUp::pattern_at, song_model::specs::LookUp::instrument_at))]
-pub fn worked_edits()
-    ensures transposes { Transposes }
-    ensures range { KeepsTheRange }
+/// Of all commands and all rows that are commands those that point into a table; and the ends of what moves.
+#[tactic(auto, unfolding(crate::proofs::Doing::doing_edits))]
+pub fn worked_commands()
+    ensures pulse { MovesIntoPulse }
+    ensures filter { MovesIntoFilter }
+    ensures speed { MovesIntoSpeed }
+    ensures wave { MovesIntoWave }
+    ensures end { MovesToTheEnd }
+    ensures row { MovesRoundARow }
+{}
+
+/// What is no place, and on which side of each limit and each range an edit is refused.
+#[tactic(auto, unfolding(crate::proofs::Doing::doing_edits))]
+pub fn worked_refusals()
+    ensures patterns { LacksPatterns }
+    ensures orders { LacksOrders }
+    ensures tables { LacksTableRows }
+    ensures instruments { LacksInstruments }
+    ensures row_limits { LimitsRows }
+    ensures order_limits { LimitsOrders }
+    ensures table_limits { LimitsTables }
+    ensures rows { RangesOfRows }
+    ensures values { RangesOfValues }
+    ensures notes { RangesOfNotes }
+{}
+
+/// Where there is more than one reason, the place comes before the limit and the limit before the value.
+#[tactic(auto, unfolding(crate::proofs::Doing::doing_edits))]
+pub fn worked_order_of_refusals()
+    ensures rows { OrderOfRows }
+    ensures lengths { OrderOfLengths }
+    ensures entries { OrderOfEntries }
+    ensures tables { OrderOfTables }
+{}
+
+/// Edits of patterns that are done, up to each limit and each range.
+#[tactic(auto, unfolding(crate::proofs::Doing::doing_edits))]
+pub fn worked_patterns()
+    ensures rows { SetsRows }
+    ensures inserts { InsertsRows }
+    ensures full { FillsPatterns }
+    ensures deletes { DeletesRows }
+    ensures lengths { SetsLengths }
+    ensures one { EditsOnePattern }
+    ensures ends { TransposesToTheEnds }
+    ensures notes { TransposesNotesAlone }
     ensures counts { CountsPatterns }
-    ensures instruments { StoresInstruments }
-    ensures lengths { KeepsLengths }
-    ensures order { RefusesInOrder }
+    ensures most { FillsSongs }
+{}
+
+/// Edits of orderlists and subtunes that are done, up to each limit.
+#[tactic(auto, unfolding(crate::proofs::Doing::doing_edits))]
+pub fn worked_orders()
+    ensures entries { EditsOrders }
+    ensures empty { EmptiesOrders }
+    ensures full { FillsOrders }
+    ensures channels { EditsOneChannel }
+    ensures added { AddsSubtunes }
+    ensures removed { RemovesSubtunes }
+{}
+
+/// Edits of instruments, tables and texts that are done, each field of an instrument among them.
+#[tactic(auto, unfolding(crate::proofs::Doing::doing_edits))]
+pub fn worked_instruments_and_tables()
+    ensures fields { SetsFields }
+    ensures stored { StoresInstruments }
+    ensures last { StoresTheLast }
+    ensures rows { SetsTableRows }
+    ensures inserts { InsertsTableRows }
+    ensures full { FillsTables }
+    ensures texts { SetsTexts }
 {}
