@@ -1,6 +1,7 @@
 //! Which edits are refused, and what the others do.
 
 ghost use Rattle.std.specs.Prelude.{◌≡◌, ◌↔◌, false, Ok, Err, Some, IsErrOf, IfOk, OnOk, OnErr};
+ghost use Rattle.std.specs.Result.{result_err};
 ghost use Rattle.edit_ops.specs.Edits.{lacks_place, is_over, is_bad, changed, edited};
 ghost use Rattle.edit_ops.specs.Back.{back};
 ghost use Rattle.edit_ops.specs.Does.{Does};
@@ -176,6 +177,26 @@ fn change(alloc: Global, song: &mut Song, edit: &Edit) -> Result<Inverse, NoMemo
     }
 }
 
+impl Edit {
+    /// Why this edit of a song can't be done: `NoSuchPlace`, `OutOfLimit` or `BadValue`, the first of these that holds;
+    /// none where it can. It takes no memory.
+    #[tactic(auto, unfolding(crate::specs::Edits::edited))]
+    pub fn refusal(&self, song: &Song) -> Option<EditFault>
+        ensures { result ≡ result_err (edited song.now self.now) }
+    {
+        if lacks_place(song, self) {
+            return Some(EditFault::NoSuchPlace);
+        }
+        if is_over(song, self) {
+            return Some(EditFault::OutOfLimit);
+        }
+        if is_bad(song, self) {
+            return Some(EditFault::BadValue);
+        }
+        None
+    }
+}
+
 /// Does an edit, and answers its inverse, by which `revert` leads back.
 ///
 /// It copies the part of the song that it changes. An insert or delete of a table's row copies the tables, the
@@ -197,14 +218,8 @@ pub fn apply(alloc: Global, song: &mut Song, edit: &Edit) -> Result<Inverse, Edi
         ↔ (edited song.old edit.now ≡ Err EditFault.BadValue) }
     ensures err { OnErr result (song.new ≡ song.old) }
 {
-    if lacks_place(song, edit) {
-        return Err(EditFault::NoSuchPlace);
-    }
-    if is_over(song, edit) {
-        return Err(EditFault::OutOfLimit);
-    }
-    if is_bad(song, edit) {
-        return Err(EditFault::BadValue);
+    if let Some(fault) = edit.refusal(song) {
+        return Err(fault);
     }
     match change(alloc, song, edit) {
         Ok(inverse) => Ok(inverse),
