@@ -4,3 +4,5 @@ pub mod KeptLaws
 pub mod StepLaws
 -- What the calls of a session keep, and that each is a step of its history.
 pub mod SessionLaws
+-- What is unfolded to go through histories of songs that are written out.
+pub mod Doing

@@ -10,7 +10,7 @@ pub fn steps_lead_back()
 {}
 
 /// A song that gets a pattern, then a subtune; both undone and redone.
-#[tactic(auto, unfolding(crate::specs::History::after_edit, crate::specs::History::after_undo, crate::specs::History::after_redo, edit_ops::specs::Edits::edited, edit_ops::specs::Edits::lacks_place, edit_ops::specs::Edits::is_over, edit_ops::specs::Edits::is_bad, edit_ops::specs::Edits::changed))]
+#[tactic(auto, unfolding(crate::proofs::Doing::doing_steps))]
 pub fn worked_histories()
     ensures song { HasWhatStands }
     ensures steps { GoesBackAndForth }

@@ -1,6 +1,6 @@
 //! A song, the edits that stand in it, and those that can be redone.
 
-ghost use Rattle.std.specs.Prelude.{◌≡◌, ◌+◌, ◌≤◌, ◌↔◌, [], vec_len, vec_capacity, Ok, Err, Some, IsSome, IsErr, IsErrOf, IfOk, OnOk, OnErr};
+ghost use Rattle.std.specs.Prelude.{◌≡◌, ◌+◌, ◌≤◌, ◌↔◌, [], vec_len, vec_capacity, Ok, Err, Some, IsErr, IsErrOf, IfOk, OnOk, OnErr};
 ghost use Rattle.edit_ops.specs.Edits.{edited};
 ghost use Rattle.edit_ops.specs.Back.{back};
 ghost use Rattle.edit_history.specs.History.{begun, song_of, after_edit, after_undo, after_redo};
@@ -45,15 +45,7 @@ fn make_room(standing: &mut Vec<Done>, undone: &mut Vec<Done>) -> Result<(), All
     undone.reserve(standing.len() + 1)
 }
 
-/// Takes an edit back that there is no room for.
-fn take_back(song: &mut Song, inverse: Inverse)
-    requires { IsSome (back song.old inverse) }
-    ensures { back song.old inverse ≡ Some song.new }
-{
-    let _again = revert(song, inverse);
-}
-
-/// Does an edit, where there is room to keep it.
+/// Does an edit that isn't refused, once there is room to keep it.
 ///
 /// # Errors
 ///
@@ -80,15 +72,13 @@ fn apply_in_room(
     ensures standing_grows { vec_capacity standing.old ≤ vec_capacity standing.new }
     ensures undone_grows { vec_capacity undone.old ≤ vec_capacity undone.new }
 {
-    let alloc = *standing.allocator();
-    let inverse = apply(alloc, song, edit)?;
-    match make_room(standing, undone) {
-        Ok(()) => Ok(inverse),
-        Err(_) => {
-            take_back(song, inverse);
-            Err(EditFault::NoMemory)
-        }
+    if let Some(fault) = edit.refusal(song) {
+        return Err(fault);
     }
+    if make_room(standing, undone).is_err() {
+        return Err(EditFault::NoMemory);
+    }
+    apply(*standing.allocator(), song, edit)
 }
 
 impl Session {

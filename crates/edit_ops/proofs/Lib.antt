@@ -16,5 +16,5 @@ pub mod SpliceLaws
 pub mod NumberedLaws
 -- What was exchanged leads back.
 pub mod BackLaws
--- What does edits of songs that are written out.
+-- What is unfolded to do edits of songs that are written out.
 pub mod Doing
