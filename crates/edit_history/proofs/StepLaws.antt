@@ -25,12 +25,12 @@ last_push edits edit =
     let n : length (edits ++ edit ∷ []) - 1 ≡ length edits = omega (arith, one_long edits edit) in
     rw n (drop-append_seam edits (edit ∷ []))
 
-record Split (edits : List Edit) : Type 0 where
-  rest : List Edit
-  edit : Edit
-  is : edits ≡ rest ++ edit ∷ []
+pub record Split (edits : List Edit) : Type 0 where
+  pub rest : List Edit
+  pub edit : Edit
+  pub is : edits ≡ rest ++ edit ∷ []
 
-split_last : (first : Edit) (edits : List Edit) → Split (first ∷ edits)
+pub split_last : (first : Edit) (edits : List Edit) → Split (first ∷ edits)
 split_last first [] = record { rest = []; edit = first; is = refl }
 split_last first (edit ∷ edits) =
     let s = split_last edit edits in
@@ -58,15 +58,15 @@ redo_push first standing undone edit =
     let some : (length (undone ++ edit ∷ []) == 0) ≡ false = rw (one_long undone edit) (not_none (length undone)) in
     rw (some, but_last_push undone edit, last_push undone edit) refl
 
-same_history : (a b : History) → Some a ≡ Some b → a ≡ b
+pub same_history : (a b : History) → Some a ≡ Some b → a ≡ b
 same_history a b e = cc
 
-undo_none : (first : Song) (undone : List Edit) (other : History) →
+pub undo_none : (first : Song) (undone : List Edit) (other : History) →
     after_undo (record { first = first; standing = []; undone = undone }) ≡ Some other → ⊥
 unfolding after_undo
 undo_none first undone other e = absurd (cc)
 
-redo_none : (first : Song) (standing : List Edit) (other : History) →
+pub redo_none : (first : Song) (standing : List Edit) (other : History) →
     after_redo (record { first = first; standing = standing; undone = [] }) ≡ Some other → ⊥
 unfolding after_redo
 redo_none first standing other e = absurd (cc)
