@@ -12,6 +12,10 @@ unfoldable pub reading_texts : ⊤
 unfolding action_in keyword_at word_of sizes_of made arguments_at argument_at hex_on_literals
 reading_texts = tt
 
+unfoldable pub doing_steps : ⊤
+unfolding after_action after_undo after_redo
+doing_steps = tt
+
 unfoldable pub running_edits : ⊤
-unfolding after_action after_edit after_undo after_redo edited lacks_place is_over is_bad changed with_row_inserted moved_song
+unfolding doing_steps after_edit edited lacks_place is_over is_bad changed with_row_inserted moved_song
 running_edits = tt

@@ -1,5 +1,5 @@
 -- What a text makes of a song, and what is told where it makes nothing of it.
-use Rattle.std.specs.Prelude.{◌≡◌, ℕ, List, ◌++◌, Ok, Err, codes, decimal}
+use Rattle.std.specs.Prelude.{◌≡◌, ℕ, List, [], ◌∷◌, Ok, Err, codes}
 use Rattle.song_model.specs.declared.songs.Song.{Song}
 use Rattle.edit_history.specs.History.{History, begun, song_of}
 use Rattle.edit_script.specs.declared.commands.Command.{Command}
@@ -28,9 +28,11 @@ kind_words NoMemory = codes "no memory"
 abbrev pub bad_line_words : List ℕ
 bad_line_words = codes "bad line"
 
--- what is told of a line
-abbrev pub told_of_line : ℕ → List ℕ → List ℕ
-told_of_line line words = codes "script line " ++ decimal line ++ codes ": " ++ words
+-- what may be told of a line
+abbrev pub failure_words : List (List ℕ)
+failure_words =
+    bad_line_words ∷ kind_words NoSuchPlace ∷ kind_words OutOfLimit ∷ kind_words BadValue ∷ kind_words NothingToUndo
+    ∷ kind_words NothingToRedo ∷ []
 
 -- the text is no script, or a command of it can't be done: the line, and what is told of it
 pub data FailsAt (text : List ℕ) (song : Song) (line : ℕ) (words : List ℕ) : Type 0 where

@@ -9,24 +9,19 @@ use thiserror::Error;
 
 /// Why a command can't be done.
 #[derive(Clone, Copy, Debug, PartialEq, Eq, Error)]
+#[error("{}", self.words())]
 pub enum RunKind {
     /// What the edit speaks of isn't there.
-    #[error("no such place")]
     NoSuchPlace,
     /// A list would leave its limits.
-    #[error("over limit")]
     OutOfLimit,
     /// A value is out of its range.
-    #[error("bad value")]
     BadValue,
     /// No edit stands.
-    #[error("nothing to undo")]
     NothingToUndo,
     /// Nothing was undone since the last edit, or all of it was redone.
-    #[error("nothing to redo")]
     NothingToRedo,
     /// Out of memory.
-    #[error("no memory")]
     NoMemory,
 }
 

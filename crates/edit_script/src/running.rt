@@ -2,7 +2,7 @@
 
 ghost use Rattle.std.specs.Prelude.{◌≡◌, ◌⊎◌, Ok, Err, IfErr, OnOk, OnErr};
 ghost use Rattle.edit_script.specs.Runs.{after_action, fold_of};
-ghost use Rattle.edit_script.specs.Held.{HoldsBefore, stop_of};
+ghost use Rattle.edit_script.specs.Held.{IsNotDone, StopsAt, stop_of};
 
 use crate::{Action, RunFault, RunKind, Script};
 use edit_history::{NothingToRedo, NothingToUndo, Session};
@@ -19,9 +19,8 @@ pub fn run(session: &mut Session, script: &Script) -> Result<(), RunFault>
     // Or one can't be, unless memory runs out.
     ensures stopped { IfErr result (λ fault. (fault.kind ≡ RunKind.NoMemory)
         ⊎ (fold_of session.old script.now ≡ Err (stop_of fault session.new))) }
-    // Those before it are done then.
-    ensures held { IfErr result (λ fault.
-        HoldsBefore fault.line session.old script.now session.new) }
+    // Those before it are done then, and memory runs out at an edit alone.
+    ensures held { IfErr result (λ fault. StopsAt fault session.old script.now session.new) }
 {
     for command in script.as_slice() {
         if let Err(kind) = act(session, &command.action) {
@@ -39,11 +38,10 @@ pub fn run(session: &mut Session, script: &Script) -> Result<(), RunFault>
 /// # Errors
 ///
 /// Why it can't be done; or out of memory. The session is as before.
-#[tactic(auto, unfolding(crate::specs::Runs::after_action, edit_history::specs::History::after_undo, edit_history::specs::History::after_redo))]
+#[tactic(auto, unfolding(crate::proofs::OnTexts::doing_steps))]
 fn act(session: &mut Session, action: &Action) -> Result<(), RunKind>
     ensures done { OnOk result (after_action session.old action.now ≡ Ok session.new) }
-    ensures refused { IfErr result (λ kind. (kind ≡ RunKind.NoMemory)
-        ⊎ (after_action session.old action.now ≡ Err kind)) }
+    ensures refused { IfErr result (λ kind. IsNotDone session.old action.now kind) }
     ensures err { OnErr result (session.new ≡ session.old) }
 {
     match action {

@@ -8,6 +8,26 @@ pub returns-clause-row : goal.returns-clause-row
 unfolding reading_texts
 returns-clause-row c = action_takes _ _ refl
 
+pub returns-clause-edits : goal.returns-clause-edits
+unfolding reading_texts
+returns-clause-edits c = (
+  action_takes _ _ refl,
+  action_takes _ _ refl,
+  action_takes _ _ refl,
+  action_takes _ _ refl,
+  action_takes _ _ refl,
+  action_takes _ _ refl,
+  action_takes _ _ refl,
+  action_takes _ _ refl,
+  action_takes _ _ refl,
+  action_takes _ _ refl,
+  action_takes _ _ refl,
+  action_takes _ _ refl,
+  action_takes _ _ refl,
+  action_takes _ _ refl,
+  action_takes _ _ refl,
+)
+
 pub returns-clause-names : goal.returns-clause-names
 unfolding reading_texts
 returns-clause-names c = (action_takes _ _ refl, action_takes _ _ refl)
@@ -33,11 +53,31 @@ returns-clause-digits c = (
   is_bad_line _ _ refl refl,
   is_bad_line _ _ refl refl,
   is_bad_line _ _ refl refl,
+  is_bad_line _ _ refl refl,
+  is_bad_line _ _ refl refl,
+  is_bad_line _ _ refl refl,
 )
 
 pub returns-clause-forms : goal.returns-clause-forms
 unfolding reading_texts
 returns-clause-forms c = (
+  is_bad_line _ _ refl refl,
+  is_bad_line _ _ refl refl,
+  is_bad_line _ _ refl refl,
+  is_bad_line _ _ refl refl,
+  is_bad_line _ _ refl refl,
+  is_bad_line _ _ refl refl,
+  is_bad_line _ _ refl refl,
+  is_bad_line _ _ refl refl,
+  is_bad_line _ _ refl refl,
+)
+
+pub returns-clause-bytes : goal.returns-clause-bytes
+unfolding reading_texts
+returns-clause-bytes c = (
+  is_bad_line _ _ refl refl,
+  is_bad_line _ _ refl refl,
+  is_bad_line _ _ refl refl,
   is_bad_line _ _ refl refl,
   is_bad_line _ _ refl refl,
   is_bad_line _ _ refl refl,

@@ -30,6 +30,9 @@ stands = record { first = empty_song; standing = row ∷ []; undone = [] }
 abbrev undone : History
 undone = record { first = empty_song; standing = []; undone = row ∷ [] }
 
+abbrev added : History
+added = record { first = empty_song; standing = AddSubtune ∷ []; undone = [] }
+
 pub returns-clause-rows : goal.returns-clause-rows
 unfolding reading_texts running_edits
 returns-clause-rows c = (
@@ -70,7 +73,7 @@ returns-clause-nothing c = (
       (something _ (action_takes _ _ refl) none)
       refl refl refl,
   not_done (row_at 1 ∷ at 2 action.Undo ∷ at 3 (action.Edit AddSubtune) ∷ at 4 action.Redo ∷ [])
-      (record { line = 4; kind = kind.NothingToRedo; before = record { first = empty_song; standing = AddSubtune ∷ []; undone = [] } })
+      (record { line = 4; kind = kind.NothingToRedo; before = added })
       (something _ (action_takes _ _ refl)
       (something _ (action_takes _ _ refl)
       (something _ (action_takes _ _ refl) (something _ (action_takes _ _ refl) none))))

@@ -19,7 +19,7 @@ returns-clause-counted c =
 
 pub returns-clause-nothing : goal.returns-clause-nothing
 unfolding reading_texts
-returns-clause-nothing c = none
+returns-clause-nothing c = (none, nothing (empty refl) (nothing (empty refl) none), nothing (comment _ refl) none)
 
 pub returns-clause-returns : goal.returns-clause-returns
 unfolding reading_texts
@@ -32,6 +32,7 @@ returns-clause-returns c = (
   },
   record { place = 0; counted = refl; first = first_here _ _ (is_bad_line _ _ refl refl) },
   nothing (comment _ refl) none,
+  record { place = 0; counted = refl; first = first_here _ _ (is_bad_line _ _ refl refl) },
 )
 
 pub returns-clause-first : goal.returns-clause-first

@@ -15,5 +15,5 @@ returns-in-Err-clause-stopped c =
 pub returns-in-Err-clause-held : goal.returns-in-Err-clause-held
 returns-in-Err-clause-held c =
     held_in c.args.session.now c.loop-command.session c.act.new.session c.as_slice-command-items.result.now
-    c.args.script.now c.loop-command.command-index _ c.as_slice-command-items.ensures c.loop-command-test.true
-    c.in-Err.ensures.err c.loop-command.invariant
+    c.args.script.now c.loop-command.command-index _ c.in-Err.kind c.as_slice-command-items.ensures
+    c.loop-command-test.true c.in-Err.ensures.err c.loop-command.invariant c.in-Err.ensures.refused
