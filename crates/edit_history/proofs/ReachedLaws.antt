@@ -21,7 +21,8 @@ one_of_three false false false song e = cc (e)
 
 edited_never : (song : Song) (edit : Edit) → edited song edit ≡ Err NoMemory → ⊥
 unfolding edited
-edited_never song edit e = one_of_three (lacks_place song edit) (is_over song edit) (is_bad song edit) (changed song edit) e
+edited_never song edit e =
+    one_of_three (lacks_place song edit) (is_over song edit) (is_bad song edit) (changed song edit) e
 
 goes_on_never : (r : Result Song EditFault) (rest : Song → Result Song EditFault) → (r ≡ Err NoMemory → ⊥) →
     ((next : Song) → rest next ≡ Err NoMemory → ⊥) → goes_on r rest ≡ Err NoMemory → ⊥

@@ -112,14 +112,15 @@ pub stopped_in : (start now after : History) (commands all : List Command) (i : 
     IsNotDone now (get_or commands i d).action kind →
     (kind ≡ NoMemory)
     ⊎ (fold_of start all ≡ Err (record { line = (get_or commands i d).line; kind = kind; before = after }))
-stopped_in start now after commands all i d kind same lt stays done why = elim (or_memory now (get_or commands i d).action kind why) [
-  | inl out ↦ inl out
-  | inr step ↦
-      let command = get_or commands i d in
-      inr (ap (fold_of start) (sym same ∙ parts_at commands i d lt)
-      ∙ fold_stops start now (take i commands) (drop (i + 1) commands) command kind done step
-      ∙ ap (λ (before : History). Err (record { line = command.line; kind = kind; before = before })) (sym stays))
-]
+stopped_in start now after commands all i d kind same lt stays done why =
+    let command = get_or commands i d in
+    elim (or_memory now command.action kind why) [
+      | inl out ↦ inl out
+      | inr step ↦
+          inr (ap (fold_of start) (sym same ∙ parts_at commands i d lt)
+          ∙ fold_stops start now (take i commands) (drop (i + 1) commands) command kind done step
+          ∙ ap (λ (before : History). Err (record { line = command.line; kind = kind; before = before })) (sym stays))
+    ]
 
 pub held_in : (start now after : History) (commands all : List Command) (i : ℕ) (d : Command) (kind : RunKind) →
     commands ≡ all → i < length commands → after ≡ now → fold_of start (take i commands) ≡ Ok now →
@@ -144,7 +145,8 @@ edit_done_never (Err by_edit.OutOfLimit) never e = cc (e)
 edit_done_never (Err by_edit.BadValue) never e = cc (e)
 edit_done_never (Err by_edit.NoMemory) never e = never refl
 
-step_done_never : (kind : RunKind) (step : Option History) → (kind ≡ NoMemory → ⊥) → step_done kind step ≡ Err NoMemory → ⊥
+step_done_never : (kind : RunKind) (step : Option History) → (kind ≡ NoMemory → ⊥) →
+    step_done kind step ≡ Err NoMemory → ⊥
 step_done_never kind (Some after) never e = cc (e)
 step_done_never kind None never e = let same : kind ≡ NoMemory = cc (e) in never same
 
