@@ -183,7 +183,8 @@ jumps_song first second param wave = record empty_song {
 }
 
 -- Row 2, which is pointed at by an instrument and a jump row, goes: these pointers stay, those at row 3 are lowered, and
--- those at row 1 stay. Row 4 goes: nothing pointed above it. A row comes behind the last: nothing moves.
+-- those at row 1 stay. Row 4 goes: nothing pointed above it. A row comes behind the last: nothing moves. One comes
+-- before row 3: pointers at row 3 are raised, and its own right side stays as given.
 abbrev pub MovesRoundARow : Type 0
 MovesRoundARow =
     Make (jumps_song 2 1 3 (sides 0x11 0 ∷ sides 0x21 0 ∷ sides 0xFF 2 ∷ sides 0xFF 3 ∷ [])) (

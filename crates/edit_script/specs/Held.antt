@@ -10,7 +10,7 @@ use Rattle.edit_script.specs.declared.kinds.RunKind.{RunKind}
 use Rattle.edit_script.specs.declared.kinds.RunKind.TheVariants.{NoMemory}
 use Rattle.edit_script.specs.Runs.{Stop, after_action, fold_of}
 
--- it can't be done of this history; or it is an edit that could be, but memory has run out. Undo and redo take none.
+-- the history doesn't allow it; or it is an edit that could be done, but memory has run out. Undo and redo take none.
 pub data IsNotDone (history : History) (what : Action) (kind : RunKind) : Type 0 where
   refused : after_action history what ≡ Err kind → IsNotDone history what kind
   wanting : (edit : Edit) (after : History) → what ≡ action.Edit edit → after_edit history edit ≡ Ok after →
