@@ -249,19 +249,7 @@ fn unplayable_refusal(refusal: Unplayable) -> Refusal<'static>
             channel,
             place,
             pattern,
-        } => Refusal::says(
-            Status::Unplayable,
-            &[
-                Piece::Words("unplayable: missing pattern "),
-                Piece::Number(u64::from(pattern)),
-                Piece::Words(" in subtune "),
-                Piece::Number(u64::from(subtune)),
-                Piece::Words(" channel "),
-                Piece::Number(u64::from(channel)),
-                Piece::Words(" place "),
-                Piece::Number(u64::from(place)),
-            ],
-        ),
+        } => missing_pattern(subtune, channel, place, pattern),
         Unplayable::BadRestart { subtune, channel } => Refusal::says(
             Status::Unplayable,
             &[
@@ -278,6 +266,26 @@ fn unplayable_refusal(refusal: Unplayable) -> Refusal<'static>
             unplayable_row(table, " pointer to jump row ", u16::from(row))
         }
     }
+}
+
+/// The refusal of a song with an orderlist that names a pattern that isn't stored.
+fn missing_pattern(subtune: u8, channel: u8, place: u8, pattern: u8) -> Refusal<'static>
+    ensures { last_of result ≡
+        Says 6 (unplayable_line (Unplayable.MissingPattern subtune channel place pattern)) }
+{
+    Refusal::says(
+        Status::Unplayable,
+        &[
+            Piece::Words("unplayable: missing pattern "),
+            Piece::Number(u64::from(pattern)),
+            Piece::Words(" in subtune "),
+            Piece::Number(u64::from(subtune)),
+            Piece::Words(" channel "),
+            Piece::Number(u64::from(channel)),
+            Piece::Words(" place "),
+            Piece::Number(u64::from(place)),
+        ],
+    )
 }
 
 /// The refusal of a song that can't be played because of a row of a table.

@@ -2,3 +2,5 @@
 
 -- the marks of used parts are tests of what the song uses
 pub use Rattle.song_pack.proofs.MadeTables.{used_sets}
+-- all that a frame of a complete song looks up is stored
+pub use Rattle.song_pack.proofs.FoundRows.{complete_songs_find_all}

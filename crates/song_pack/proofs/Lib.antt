@@ -18,3 +18,4 @@ mod MadeTables
 mod MadeSongs
 mod HandedOn
 mod Answered
+mod FoundRows

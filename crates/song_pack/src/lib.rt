@@ -11,6 +11,8 @@
 //! `docs/packed-form.md`.
 #![tactic(auto)]
 
+/// Facts about the definitions.
+pub mod claims;
 mod faults;
 mod instruments;
 mod numbers;
