@@ -53,7 +53,8 @@ endless_moved maps order endless keeps = record {
     moved_low : (byte : ℕ) → byte < 0xD0 → IsPatternByte (maps.pattern byte) → IsPatternByte (moved_byte maps byte)
     moved_low byte low small = let e = lt-ltb byte 0xD0 low in rw e small
 
-    moved_any : (bytes : List ℕ) → Any IsPatternByte bytes → ((byte : ℕ) → Contains bytes byte → Contains order.entries byte) →
+    moved_any : (bytes : List ℕ) → Any IsPatternByte bytes →
+        ((byte : ℕ) → Contains bytes byte → Contains order.entries byte) →
         Any IsPatternByte (map (moved_byte maps) bytes)
     moved_any bytes (k, byte, inside, is, low) within = (
       k,

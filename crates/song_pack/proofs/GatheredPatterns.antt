@@ -31,7 +31,8 @@ unfolding texts_below
 texts_next text used i =
     let more : i + 1 ≡ suc i = omega arith in
     let next : 0 + i ≡ i = omega arith in
-    ap (λ (k : ℕ). map text (filter used (range_with_len 0 k))) more ∙ ap (λ (ns : List ℕ). map text (filter used ns)) (range_more 0 i)
+    ap (λ (k : ℕ). map text (filter used (range_with_len 0 k))) more
+    ∙ ap (λ (ns : List ℕ). map text (filter used ns)) (range_more 0 i)
     ∙ ap (λ (k : ℕ). map text (filter used (range_with_len 0 i ++ k ∷ []))) next
     ∙ ap (map text) (filter-append used (range_with_len 0 i) (i ∷ []))
     ∙ map-append text (filter used (range_with_len 0 i)) (if used i then i ∷ [] else [])
@@ -48,7 +49,8 @@ list_left text used i fails =
     ∙ append_none (texts_below text used i))
 
 list_more : (text : ℕ → List ℕ) (used : ℕ → Bool) (i : ℕ) → used i ≡ true →
-    first_seen bytes_eq (texts_below text used (i + 1)) ≡ with_text (first_seen bytes_eq (texts_below text used i)) (text i)
+    first_seen bytes_eq (texts_below text used (i + 1)) ≡ with_text (first_seen bytes_eq (texts_below text used i))
+    (text i)
 list_more text used i is =
     ap (first_seen bytes_eq)
     (texts_next text used i ∙ ap (λ (b : Bool). texts_below text used i ++ map text (if b then i ∷ [] else [])) is)

@@ -39,7 +39,8 @@ use Rattle.song_pack.specs.Texts.{text_under, texts_below, ArePatterns, IsCaused
 use Rattle.song_pack.proofs.PlayedOrders.{map_same}
 
 -- a packed song was made of these parts
-pub record IsMadeOf (song : Song) (parts : UsedParts) (tables : PackedTables) (numbers to : List ℕ) (packed : PackedSong)
+pub record IsMadeOf (song : Song) (parts : UsedParts) (tables : PackedTables) (numbers to : List ℕ)
+    (packed : PackedSong)
     : Type 0 where
   pub wave : packed.wave ≡ tables.wave
   pub pulse : packed.pulse ≡ tables.pulse
@@ -66,99 +67,114 @@ module _ (song : Song) (parts : UsedParts) (limits : KeepsLimits song) (are : Ar
     row_is row range =
         let small = range.instrument in
         let instrument = numbers_are row.instrument (omega arith) in
-        ap (λ (n : ℕ). record row { instrument = n; param = pointer_number (row_of tables.numbers) (command_table row.command) row.param }) instrument
-        ∙ ap (λ (f : TableName → ℕ → ℕ). record row { instrument = rank (is_marked parts.instruments) row.instrument; param = pointer_number f (command_table row.command) row.param }) row_numbers_are
+        ap (λ (n : ℕ). record row
+        { instrument = n; param = pointer_number (row_of tables.numbers) (command_table row.command) row.param })
+        instrument
+        ∙ ap (λ (f : TableName → ℕ → ℕ). record row {
+          instrument = rank (is_marked parts.instruments) row.instrument;
+          param = pointer_number f
+              (command_table row.command) row.param;
+        }) row_numbers_are
 
     -- the text of a pattern
     pub text_is : (p : ℕ) → text_under song tables.numbers numbers p ≡ pattern_text song (sets_of parts) p
     unfolding text_under pattern_text
     text_is p =
         ap packed_text
-        (map_same (numbered_row (row_of tables.numbers) (slice_index numbers)) (renumbered_row song (sets_of parts)) (pattern_at song p)
+        (map_same (numbered_row (row_of tables.numbers) (slice_index numbers)) (renumbered_row song (sets_of parts))
+        (pattern_at song p)
         (All-weaker IsRow
-        (λ row. numbered_row (row_of tables.numbers) (slice_index numbers) row ≡ renumbered_row song (sets_of parts) row)
+        (λ row. numbered_row (row_of tables.numbers) (slice_index numbers) row ≡ renumbered_row song (sets_of parts)
+        row)
         row_is (pattern_at song p) (pattern_rows_in_range song p limits)))
 
     texts_are : texts_below (text_under song tables.numbers numbers) (is_marked parts.patterns) MOST_PATTERNS
         ≡ pattern_texts song (sets_of parts)
     unfolding texts_below pattern_texts
     texts_are =
-        ap (λ (f : ℕ → List ℕ). map f (filter (is_marked parts.patterns) (range_with_len 0 MOST_PATTERNS))) (fun_ext text_is)
+        ap (λ (f : ℕ → List ℕ). map f (filter (is_marked parts.patterns) (range_with_len 0 MOST_PATTERNS)))
+        (fun_ext text_is)
 
     -- ---- numbers of patterns
 
     module _ (patterns : List (List ℕ)) (to : List ℕ)
-        (patterns_are : ArePatterns (text_under song tables.numbers numbers) (is_marked parts.patterns) patterns to) where
-      list_is : patterns ≡ first_seen bytes_eq (pattern_texts song (sets_of parts))
-      list_is = patterns_are.list_are ∙ ap (first_seen bytes_eq) texts_are
+        (patterns_are : ArePatterns (text_under song tables.numbers numbers) (is_marked parts.patterns) patterns to)
+      where
+        list_is : patterns ≡ first_seen bytes_eq (pattern_texts song (sets_of parts))
+        list_is = patterns_are.list_are ∙ ap (first_seen bytes_eq) texts_are
 
-      number_is : (p : ℕ) → IsUsedPattern song p → slice_index to p ≡ pattern_number song (sets_of parts) p
-      unfolding pattern_number
-      number_is p is_used =
-          patterns_are.number p ((are.patterns.each p).1 is_used) is_used.is_pattern
-          ∙ ap (λ (t : List ℕ). position_or_len (bytes_eq t) patterns) (text_is p)
-          ∙ ap (position_or_len (bytes_eq (pattern_text song (sets_of parts) p))) list_is
+        number_is : (p : ℕ) → IsUsedPattern song p → slice_index to p ≡ pattern_number song (sets_of parts) p
+        unfolding pattern_number
+        number_is p is_used =
+            patterns_are.number p ((are.patterns.each p).1 is_used) is_used.is_pattern
+            ∙ ap (λ (t : List ℕ). position_or_len (bytes_eq t) patterns) (text_is p)
+            ∙ ap (position_or_len (bytes_eq (pattern_text song (sets_of parts) p))) list_is
 
-      byte_is : (byte : ℕ) → (byte < 0xD0 → IsUsedPattern song byte) →
-          order_byte (slice_index to) byte ≡ order_byte (pattern_number song (sets_of parts)) byte
-      byte_is byte is_used = elim (cases_lt byte 0xD0) [
-        | inl low ↦ (let e = lt-ltb byte 0xD0 low in rw e (number_is byte (is_used low)))
-        | inr high ↦ (let e = le-ltb byte 0xD0 high in rw e refl)
-      ]
+        byte_is : (byte : ℕ) → (byte < 0xD0 → IsUsedPattern song byte) →
+            order_byte (slice_index to) byte ≡ order_byte (pattern_number song (sets_of parts)) byte
+        byte_is byte is_used = elim (cases_lt byte 0xD0) [
+          | inl low ↦ (let e = lt-ltb byte 0xD0 low in rw e (number_is byte (is_used low)))
+          | inr high ↦ (let e = le-ltb byte 0xD0 high in rw e refl)
+        ]
 
-      order_is : (order : Order) → IsPlayedOrder song order →
-          order_bytes (slice_index to) order ≡ order_bytes (pattern_number song (sets_of parts)) order
-      order_is order o =
-          ap (λ (entries : List ℕ). entries ++ 0xFF ∷ order.restart ∷ [])
-          (map_same (order_byte (slice_index to)) (order_byte (pattern_number song (sets_of parts))) order.entries
-          (All-weaker (Contains order.entries)
-          (λ byte. order_byte (slice_index to) byte ≡ order_byte (pattern_number song (sets_of parts)) byte)
-          (λ byte has. byte_is byte
-          (λ low. record { byte = record { order = order; played = o; entry = has }; is_pattern = low }))
-          order.entries (All-contains_itself order.entries)))
+        order_is : (order : Order) → IsPlayedOrder song order →
+            order_bytes (slice_index to) order ≡ order_bytes (pattern_number song (sets_of parts)) order
+        order_is order o =
+            ap (λ (entries : List ℕ). entries ++ 0xFF ∷ order.restart ∷ [])
+            (map_same (order_byte (slice_index to)) (order_byte (pattern_number song (sets_of parts))) order.entries
+            (All-weaker (Contains order.entries)
+            (λ byte. order_byte (slice_index to) byte ≡ order_byte (pattern_number song (sets_of parts)) byte)
+            (λ byte has. byte_is byte
+            (λ low. record { byte = record { order = order; played = o; entry = has }; is_pattern = low }))
+            order.entries (All-contains_itself order.entries)))
 
-      channel_played : (subtune : Subtune) (channel : ℕ) → Contains (playable_subtunes song) subtune → IsChannel channel →
-          IsPlayedOrder song (order_of channel subtune)
-      channel_played subtune channel has c = record {
-        subtune = subtune;
-        playable = has;
-        channel = channel;
-        is_channel = c;
-        order_is = refl;
-      }
+        channel_played : (subtune : Subtune) (channel : ℕ) → Contains (playable_subtunes song) subtune → IsChannel
+            channel →
+            IsPlayedOrder song (order_of channel subtune)
+        channel_played subtune channel has c = record {
+          subtune = subtune;
+          playable = has;
+          channel = channel;
+          is_channel = c;
+          order_is = refl;
+        }
 
-      subtune_is : (subtune : Subtune) → Contains (playable_subtunes song) subtune →
-          packed_subtune (slice_index to) subtune ≡ packed_subtune (pattern_number song (sets_of parts)) subtune
-      subtune_is subtune has =
-          let old = slice_index to in
-          let new = pattern_number song (sets_of parts) in
-          let with_one : List ℕ → PackedSubtune = λ bytes. record {
-            one = bytes;
-            two = order_bytes old subtune.two;
-            three = order_bytes old subtune.three;
-          } in
-          let with_two : List ℕ → PackedSubtune = λ bytes. record {
-            one = order_bytes new subtune.one;
-            two = bytes;
-            three = order_bytes old subtune.three;
-          } in
-          let with_three : List ℕ → PackedSubtune = λ bytes. record {
-            one = order_bytes new subtune.one;
-            two = order_bytes new subtune.two;
-            three = bytes;
-          } in
-          ap with_one (order_is subtune.one (channel_played subtune 1 has (record { first = omega arith; last = omega arith })))
-          ∙ ap with_two (order_is subtune.two (channel_played subtune 2 has (record { first = omega arith; last = omega arith })))
-          ∙ ap with_three (order_is subtune.three (channel_played subtune 3 has (record { first = omega arith; last = omega arith })))
+        subtune_is : (subtune : Subtune) → Contains (playable_subtunes song) subtune →
+            packed_subtune (slice_index to) subtune ≡ packed_subtune (pattern_number song (sets_of parts)) subtune
+        subtune_is subtune has =
+            let old = slice_index to in
+            let new = pattern_number song (sets_of parts) in
+            let with_one : List ℕ → PackedSubtune = λ bytes. record {
+              one = bytes;
+              two = order_bytes old subtune.two;
+              three = order_bytes old subtune.three;
+            } in
+            let with_two : List ℕ → PackedSubtune = λ bytes. record {
+              one = order_bytes new subtune.one;
+              two = bytes;
+              three = order_bytes old subtune.three;
+            } in
+            let with_three : List ℕ → PackedSubtune = λ bytes. record {
+              one = order_bytes new subtune.one;
+              two = order_bytes new subtune.two;
+              three = bytes;
+            } in
+            ap with_one
+            (order_is subtune.one (channel_played subtune 1 has (record { first = omega arith; last = omega arith })))
+            ∙ ap with_two
+            (order_is subtune.two (channel_played subtune 2 has (record { first = omega arith; last = omega arith })))
+            ∙ ap with_three
+            (order_is subtune.three
+            (channel_played subtune 3 has (record { first = omega arith; last = omega arith })))
 
-      subtunes_are : map (packed_subtune (slice_index to)) (playable_subtunes song)
-          ≡ map (packed_subtune (pattern_number song (sets_of parts))) (playable_subtunes song)
-      subtunes_are =
-          map_same (packed_subtune (slice_index to)) (packed_subtune (pattern_number song (sets_of parts)))
-          (playable_subtunes song)
-          (All-weaker (Contains (playable_subtunes song))
-          (λ s. packed_subtune (slice_index to) s ≡ packed_subtune (pattern_number song (sets_of parts)) s) subtune_is
-          (playable_subtunes song) (All-contains_itself (playable_subtunes song)))
+        subtunes_are : map (packed_subtune (slice_index to)) (playable_subtunes song)
+            ≡ map (packed_subtune (pattern_number song (sets_of parts))) (playable_subtunes song)
+        subtunes_are =
+            map_same (packed_subtune (slice_index to)) (packed_subtune (pattern_number song (sets_of parts)))
+            (playable_subtunes song)
+            (All-weaker (Contains (playable_subtunes song))
+            (λ s. packed_subtune (slice_index to) s ≡ packed_subtune (pattern_number song (sets_of parts)) s) subtune_is
+            (playable_subtunes song) (All-contains_itself (playable_subtunes song)))
 
     -- ---- the packed song
 

@@ -35,7 +35,8 @@ pub packed_table : (table : ProgramTable) (kept rows : List TableRow) (keep : Li
     ((p : ℕ) → p < 256 → slice_index both p ≡ slice_index further (slice_index stand p)) → length both ≡ 256 →
     rows ≡ map (retargeted (slice_index both)) kept → IsPackedTable table rows both
 packed_table table kept rows keep stand further both whole small keep_is stand_is is both_is long rows_are =
-    let renumbered = subst (λ (k : ℕ → Bool). IsRenumbering k table.rows kept (slice_index further)) (fun_ext keep_is) is in
+    let renumbered = subst (λ (k : ℕ → Bool). IsRenumbering k table.rows kept (slice_index further)) (fun_ext keep_is)
+    is in
     let packed = stored_once_is_packed table (keeps table) (stand_in table) (slice_index further) kept whole (λ p. refl)
     (λ p. refl) renumbered in
     let number : (p : ℕ) → slice_index both p ≡ program_number table p = λ p. elim (cases_lt p 256) [

@@ -46,7 +46,8 @@ order_is entries restart all =
     let bytes = entries ++ 0xFF ∷ restart ∷ [] in
     let with_entries : List ℕ → Order = λ xs. record { entries = xs; restart = get_or bytes (end_place bytes + 1) 0 } in
     let with_restart : ℕ → Order = λ r. record { entries = entries; restart = r } in
-    ap with_entries (ap (λ (n : ℕ). take n bytes) (end_is entries restart all) ∙ take-append_seam entries (0xFF ∷ restart ∷ []))
+    ap with_entries
+    (ap (λ (n : ℕ). take n bytes) (end_is entries restart all) ∙ take-append_seam entries (0xFF ∷ restart ∷ []))
     ∙ ap with_restart (ap (λ (n : ℕ). get_or bytes (n + 1) 0) (end_is entries restart all)
     ∙ get_or-append-add entries (0xFF ∷ restart ∷ []) 1 0)
 
@@ -97,7 +98,8 @@ module _ (song : Song) (used : UsedSets) (packed : PackedSong) (limits : KeepsLi
       All-contains IsSubtune (playable_subtunes song) subtune
       (All-filter is_playable_subtune IsSubtune song.subtunes limits.subtunes.each) has
 
-  pub entries_fit : (order : Order) → IsPlayedOrder song order → All IsBeforeEnd (moved_order (new_numbers song used) order).entries
+  pub entries_fit : (order : Order) → IsPlayedOrder song order → All IsBeforeEnd
+      (moved_order (new_numbers song used) order).entries
   entries_fit order o =
       let range : IsOrder order =
       subst IsOrder (sym o.order_is) (order_in_range o.subtune o.channel (subtune_in_range o.subtune o.playable)) in
@@ -112,13 +114,15 @@ module _ (song : Song) (used : UsedSets) (packed : PackedSong) (limits : KeepsLi
   order_unpacked order o =
       order_is (moved_order (new_numbers song used) order).entries order.restart (entries_fit order o)
 
-  order_packed : (order : Order) → IsPlayedOrder song order → IsPackedOrder (order_bytes (pattern_number song used) order)
+  order_packed : (order : Order) → IsPlayedOrder song order → IsPackedOrder
+      (order_bytes (pattern_number song used) order)
   order_packed order o = record {
     entries = (moved_order (new_numbers song used) order).entries;
     restart = order.restart;
     text = refl;
     no_end = λ has.
-        let low = All-contains IsBeforeEnd (moved_order (new_numbers song used) order).entries 0xFF (entries_fit order o) has in
+        let low = All-contains IsBeforeEnd (moved_order (new_numbers song used) order).entries 0xFF
+        (entries_fit order o) has in
         omega arith;
   }
 
@@ -144,7 +148,8 @@ module _ (song : Song) (used : UsedSets) (packed : PackedSong) (limits : KeepsLi
   three_played subtune has = channel_played subtune 3 has (record { first = omega arith; last = omega arith })
 
   subtune_unpacked : (subtune : Subtune) → Contains (playable_subtunes song) subtune →
-      unpacked_subtune (packed_subtune (pattern_number song used) subtune) ≡ moved_subtune (new_numbers song used) subtune
+      unpacked_subtune (packed_subtune (pattern_number song used) subtune) ≡ moved_subtune (new_numbers song used)
+      subtune
   subtune_unpacked subtune has =
       let maps = new_numbers song used in
       let with_one : Order → Subtune = λ o. record {
@@ -170,10 +175,13 @@ module _ (song : Song) (used : UsedSets) (packed : PackedSong) (limits : KeepsLi
       ≡ map (moved_subtune (new_numbers song used)) (playable_subtunes song)
   subtunes_unpacked =
       let maps = new_numbers song used in
-      ap (map unpacked_subtune) is.subtunes ∙ map-map unpacked_subtune (packed_subtune (pattern_number song used)) (playable_subtunes song)
-      ∙ map_same (λ s. unpacked_subtune (packed_subtune (pattern_number song used) s)) (moved_subtune maps) (playable_subtunes song)
+      ap (map unpacked_subtune) is.subtunes
+      ∙ map-map unpacked_subtune (packed_subtune (pattern_number song used)) (playable_subtunes song)
+      ∙ map_same (λ s. unpacked_subtune (packed_subtune (pattern_number song used) s)) (moved_subtune maps)
+      (playable_subtunes song)
       (All-weaker (Contains (playable_subtunes song))
-      (λ s. unpacked_subtune (packed_subtune (pattern_number song used) s) ≡ moved_subtune maps s) subtune_unpacked (playable_subtunes song)
+      (λ s. unpacked_subtune (packed_subtune (pattern_number song used) s) ≡ moved_subtune maps s) subtune_unpacked
+      (playable_subtunes song)
       (All-contains_itself (playable_subtunes song)))
 
   has_entries_moved : (order : Order) → has_entries (moved_order (new_numbers song used) order) ≡ has_entries order
@@ -191,7 +199,8 @@ module _ (song : Song) (used : UsedSets) (packed : PackedSong) (limits : KeepsLi
       (subst (All (λ s. is_playable_subtune s ≡ true)) (sym subtunes_unpacked)
       (All-map (λ s. is_playable_subtune s ≡ true) (moved_subtune (new_numbers song used)) (playable_subtunes song)
       (All-weaker (λ s. is_playable_subtune s ≡ true)
-      (λ s. is_playable_subtune (moved_subtune (new_numbers song used) s) ≡ true) stays_playable (playable_subtunes song)
+      (λ s. is_playable_subtune (moved_subtune (new_numbers song used) s) ≡ true) stays_playable
+      (playable_subtunes song)
       (filter_passes is_playable_subtune song.subtunes))))
 
   pub orders_packed : (subtune : PackedSubtune) → Contains packed.subtunes subtune → ArePackedOrders subtune

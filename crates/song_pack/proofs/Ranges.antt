@@ -145,7 +145,8 @@ module _ (song : Song) (used : UsedSets) (packed : PackedSong) (limits : KeepsLi
       ∙ ap (table_row (unpacked_song packed) name) new ∙ row_behind (unpacked_song packed) name i)
       (row_fits name found.number here)
 
-  rows_in_range : (name : TableName) (table : ProgramTable) → table_of (unpacked_song packed) name ≡ program_rows table →
+  rows_in_range : (name : TableName) (table : ProgramTable) → table_of (unpacked_song packed) name ≡ program_rows
+      table →
       IsWhole table → ((p : ℕ) → table_number song used name p ≡ program_number table p) →
       ((p : ℕ) → table.reached p ≡ true → IsReached song name p) → length table.rows ≤ MOST_TABLE_ROWS →
       IsTable (table_of (unpacked_song packed) name)
@@ -248,7 +249,8 @@ module _ (song : Song) (used : UsedSets) (packed : PackedSong) (limits : KeepsLi
         count = omega arith;
         each = All-map IsPattern unpacked_pattern packed.patterns
             (All-weaker (Contains packed.patterns) (λ bytes. IsPattern (unpacked_pattern bytes))
-            (λ bytes has. spelled_are_patterns bytes (unpacked_pattern bytes) (pattern_spelled song used packed are is limits play bytes has)) packed.patterns
+            (λ bytes has. spelled_are_patterns bytes (unpacked_pattern bytes)
+            (pattern_spelled song used packed are is limits play bytes has)) packed.patterns
             (All-contains_itself packed.patterns));
       }
 

@@ -24,7 +24,8 @@ order_length number order =
     let entries = length-map order.entries (order_byte number) in
     omega arith
 
-subtune_length : (number : ℕ → ℕ) (subtune : Subtune) → subtune_size (packed_subtune number subtune) ≡ orders_size subtune
+subtune_length : (number : ℕ → ℕ) (subtune : Subtune) → subtune_size (packed_subtune number subtune) ≡ orders_size
+    subtune
 subtune_length number subtune =
     let one = order_length number subtune.one in
     let two = order_length number subtune.two in

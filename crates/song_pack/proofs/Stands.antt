@@ -84,7 +84,8 @@ module _ (song : Song) (used : UsedSets) (packed : PackedSong) (limits : KeepsLi
 
   can_be_moved : (k : ℕ) → k < length (playable_subtunes song) → CanBeMoved (new_numbers song used) (subtune_at song k)
   can_be_moved k low = record {
-    endless = λ channel c. (whole_lem song play).order (order_of channel (subtune_at song k)) (is_played song k channel low c);
+    endless = λ channel c. (whole_lem song play).order (order_of channel (subtune_at song k))
+        (is_played song k channel low c);
     keeps = λ channel c byte has named.
         pattern_small song used packed are is byte
         (record {
@@ -122,7 +123,8 @@ module _ (song : Song) (used : UsedSets) (packed : PackedSong) (limits : KeepsLi
         no_other_case_lem o (new_numbers song used) song k i (look_ups_of (unpacked_song packed))
         (subtune_at (unpacked_song packed) k) speed limits play low agrees (subtune_plays k low)
         (subtune_adds_none k low) feature
-        (subst (λ (x : FrameState). Uses o (look_ups_of (unpacked_song packed)) (subtune_at (unpacked_song packed) k) x feature)
+        (subst (λ (x : FrameState). Uses o (look_ups_of (unpacked_song packed)) (subtune_at (unpacked_song packed) k)
+        x feature)
         (sym (states_are o (unpacked_song packed) k i)) uses);
   }
 

@@ -47,12 +47,15 @@ pub passing_more : (test : ℕ → Bool) (n : ℕ) → test (n + 1) ≡ true →
     passing_numbers test (n + 1) ≡ passing_numbers test n ++ (n + 1) ∷ []
 passing_more test n is =
     let more : n + 1 ≡ suc n = omega arith in
-    rw more (passing_next test n ∙ ap (λ (b : Bool). passing_numbers test n ++ (if b then suc n ∷ [] else [])) (rw more at is))
+    rw more (passing_next test n
+    ∙ ap (λ (b : Bool). passing_numbers test n ++ (if b then suc n ∷ [] else [])) (rw more at is))
 
-pub passing_left : (test : ℕ → Bool) (n : ℕ) → test (n + 1) ≡ false → passing_numbers test (n + 1) ≡ passing_numbers test n
+pub passing_left : (test : ℕ → Bool) (n : ℕ) → test (n + 1) ≡ false → passing_numbers test (n + 1) ≡ passing_numbers
+    test n
 passing_left test n fails =
     let more : n + 1 ≡ suc n = omega arith in
-    rw more (passing_next test n ∙ ap (λ (b : Bool). passing_numbers test n ++ (if b then suc n ∷ [] else [])) (rw more at fails)
+    rw more (passing_next test n
+    ∙ ap (λ (b : Bool). passing_numbers test n ++ (if b then suc n ∷ [] else [])) (rw more at fails)
     ∙ append_none (passing_numbers test n))
   where
     append_none : (ns : List ℕ) → ns ++ [] ≡ ns
@@ -100,7 +103,8 @@ passing_at test (suc n) i d some most is = elim (cases_lt n i) [
       let low = rank_positive test i some is in
       let high = rank_rises test i n before in
       ap (λ (xs : List ℕ). get_or xs (rank test i - 1) d) (passing_next test n)
-      ∙ get_or_append_left (passing_numbers test n) (if test (suc n) then suc n ∷ [] else []) d (rank test i - 1) (omega arith)
+      ∙ get_or_append_left (passing_numbers test n) (if test (suc n) then suc n ∷ [] else []) d (rank test i - 1)
+      (omega arith)
       ∙ passing_at test n i d some before is)
 ]
 
@@ -123,7 +127,8 @@ used_small song i limits (inr named) =
 
 -- ---- instruments
 
-numbered_at : (items : List Instrument) (n : ℕ) → 1 ≤ n → numbered items n zero_instrument ≡ get_or items (n - 1) zero_instrument
+numbered_at : (items : List Instrument) (n : ℕ) → 1 ≤ n → numbered items n zero_instrument ≡ get_or items (n - 1)
+    zero_instrument
 numbered_at items n some = let e = ne_eqb n 0 (λ (z : n ≡ 0). omega arith) in rw e refl
 
 number_is : (used : UsedSets) (i : ℕ) → instrument_number used i ≡ rank used.instruments i

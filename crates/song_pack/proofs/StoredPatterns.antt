@@ -77,7 +77,8 @@ in_range n i low = (
 pub record NumbersFit (song : Song) (used : UsedSets) (row : Row) : Type 0 where
   pub instrument : row.instrument ≢ 0 → instrument_number used row.instrument ≢ 0
   pub small : instrument_number used row.instrument ≤ 0x3F
-  pub param : (name : TableName) → command_table row.command ≡ Some name → IsByte (table_number song used name row.param)
+  pub param : (name : TableName) → command_table row.command ≡ Some name → IsByte
+      (table_number song used name row.param)
 
 pointer_is : (song : Song) (used : UsedSets) (t : Option TableName) (p : ℕ) →
     pointer_number (table_number song used) t p ≡ moved_pointer (new_numbers song used) t p
@@ -119,7 +120,8 @@ named_normal used last instrument n m n_is m_is some = elim (cases_eq instrument
       rw e (by_named (n == m) refl f))
 ]
   where
-    by_same : (b : Bool) → (0 == m) ≡ b → (if (if 0 == m then 0 else 0) == 0 then m else (if 0 == m then 0 else 0)) ≡ instrument_number used last
+    by_same : (b : Bool) → (0 == m) ≡ b → (if (if 0 == m then 0 else 0) == 0 then m else (if 0 == m then 0 else 0)) ≡
+        instrument_number used last
     by_same true e = rw e m_is
     by_same false e = rw e m_is
 
@@ -152,7 +154,8 @@ rows_for song used last m (row ∷ rows) m_is all =
     let n = instrument_number used row.instrument in (
       record {
         note = refl;
-        instrument = ap (λ (k : ℕ). named_after k (normal_row m (renumbered_row song used row))) (sym m_is) ∙ named_normal used last row.instrument n m refl m_is fits.instrument;
+        instrument = ap (λ (k : ℕ). named_after k (normal_row m (renumbered_row song used row))) (sym m_is)
+            ∙ named_normal used last row.instrument n m refl m_is fits.instrument;
         command = refl;
         param = λ some.
             let e = ne_eqb row.command 0 some in
@@ -165,7 +168,8 @@ rows_for song used last m (row ∷ rows) m_is all =
 
 -- ---- patterns
 
-module _ (song : Song) (used : UsedSets) (packed : PackedSong) (are : AreUsedSets song used) (is : IsPacked song used packed)
+module _ (song : Song) (used : UsedSets) (packed : PackedSong) (are : AreUsedSets song used)
+    (is : IsPacked song used packed)
   where
     pub texts : List (List ℕ)
     texts = pattern_texts song used
@@ -243,7 +247,8 @@ module _ (song : Song) (used : UsedSets) (packed : PackedSong) (are : AreUsedSet
       pub speeds_few : length packed.speed ≤ 255
       unfolding speed_rows
       speeds_few =
-          let seen = first_seen_length same_row (map (speed_row song) (filter (used.pointers Speed) (numbers MOST_TABLE_ROWS))) in
+          let seen = first_seen_length same_row
+          (map (speed_row song) (filter (used.pointers Speed) (numbers MOST_TABLE_ROWS))) in
           let count = length-map (filter (used.pointers Speed) (numbers MOST_TABLE_ROWS)) (speed_row song) in
           let kept = filter_few (used.pointers Speed) (numbers MOST_TABLE_ROWS) in
           let all = length-range_with_len 1 MOST_TABLE_ROWS in
@@ -251,9 +256,12 @@ module _ (song : Song) (used : UsedSets) (packed : PackedSong) (are : AreUsedSet
           omega arith
 
       pub number_fits : (name : TableName) (p : ℕ) → IsReached song name p → IsByte (table_number song used name p)
-      number_fits Wave p reached = (all_programs_agree song used packed limits play are is Wave (λ e. cc)).small p reached
-      number_fits Pulse p reached = (all_programs_agree song used packed limits play are is Pulse (λ e. cc)).small p reached
-      number_fits Filter p reached = (all_programs_agree song used packed limits play are is Filter (λ e. cc)).small p reached
+      number_fits Wave p reached = (all_programs_agree song used packed limits play are is Wave (λ e. cc)).small p
+          reached
+      number_fits Pulse p reached = (all_programs_agree song used packed limits play are is Pulse (λ e. cc)).small p
+          reached
+      number_fits Filter p reached = (all_programs_agree song used packed limits play are is Filter (λ e. cc)).small p
+          reached
       number_fits Speed p reached =
           let last = ((tables_agree song used packed play are is Speed).stored p reached).last in
           let few = speeds_few in
@@ -283,7 +291,8 @@ module _ (song : Song) (used : UsedSets) (packed : PackedSong) (are : AreUsedSet
           All-weaker (Contains (pattern_at song n)) (NumbersFit song used)
           (λ row has. used_row_fits row
           (All-contains IsRow (pattern_at song n) row (pattern_rows_in_range song n limits) has)
-          (record { pattern = n; used = is_used; has = has })) (pattern_at song n) (All-contains_itself (pattern_at song n))
+          (record { pattern = n; used = is_used; has = has })) (pattern_at song n)
+          (All-contains_itself (pattern_at song n))
 
       renumbered : ℕ → List Row
       renumbered n = map (renumbered_row song used) (pattern_at song n)
@@ -331,7 +340,8 @@ module _ (song : Song) (used : UsedSets) (packed : PackedSong) (are : AreUsedSet
           (packed_is_spelled (renumbered n) (pattern_fits n is_used))
 
       -- each stored pattern is the text of a used one
-      pub pattern_spelled : (bytes : List ℕ) → Contains packed.patterns bytes → PackedSpells bytes (unpacked_pattern bytes)
+      pub pattern_spelled : (bytes : List ℕ) → Contains packed.patterns bytes → PackedSpells bytes
+          (unpacked_pattern bytes)
       unfolding stored texts text pattern_texts
       pattern_spelled bytes has =
           let there = subst (λ (all : List (List ℕ)). Contains all bytes) packed_is has in

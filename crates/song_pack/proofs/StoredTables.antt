@@ -196,7 +196,8 @@ wave_is song used play are =
 
 -- ---- the speed table
 
-no_pointer : (song : Song) (used : UsedSets) → AreUsedSets song used → (b : Bool) → used.pointers Speed 0 ≡ b → b ≡ false
+no_pointer : (song : Song) (used : UsedSets) → AreUsedSets song used → (b : Bool) → used.pointers Speed 0 ≡ b → b ≡
+    false
 no_pointer song used are true e =
     absurd ((closed_lem song).some Speed 0 ((closed_lem song).pointer Speed 0 ((are.pointers Speed 0).0 e)) refl)
 no_pointer song used are false e = refl
@@ -206,7 +207,8 @@ speed_agrees : (song : Song) (used : UsedSets) (other : Song) → AreUsedSets so
 unfolding speed_number
 speed_agrees song used other are speeds =
     let none_used : used.pointers Speed 0 ≡ false = no_pointer song used are (used.pointers Speed 0) refl in
-    let used_at = λ (p : ℕ) (is : IsReached song Speed p). (are.pointers Speed p).1 (((closed_lem song).speed p).0 is) in
+    let used_at = λ (p : ℕ) (is : IsReached song Speed p). (are.pointers Speed p).1 (((closed_lem song).speed p).0 is)
+    in
     let there = λ (p : ℕ) (is : IsReached song Speed p).
     subst (IsNumbered other.speed) (sym (speed_number_is song used p)) (speeds.stored p (used_at p is)) in
     record {
@@ -231,7 +233,8 @@ packed_few table rows are =
     omega arith
 
 pub tables_agree : (song : Song) (used : UsedSets) (packed : PackedSong) → IsPlayable song → AreUsedSets song used →
-    IsPacked song used packed → (name : TableName) → TableAgrees (new_numbers song used) song (unpacked_song packed) name
+    IsPacked song used packed → (name : TableName) → TableAgrees (new_numbers song used) song (unpacked_song packed)
+    name
 tables_agree song used packed play are is Wave =
     table_agrees (new_numbers song used) song (unpacked_song packed) Wave (wave_programs song used)
     (keeps_all (wave_programs song used) packed.wave (playable_programs_are_whole song used play are).0 is.wave)

@@ -240,10 +240,12 @@ pointer_moved maps Speed i other is = ap (λ (x : Instrument). x.vibrato) is.mov
 
 pub old_some : (maps : Maps) (song other : Song) (name : TableName) → IsMoved maps song other → (p n : ℕ) →
     maps.row name p ≡ n → n ≢ 0 → p ≢ 0
-old_some maps song other name m p n is some none = some (sym is ∙ ap (maps.row name) none ∙ (m.agrees.rows name).nothing)
+old_some maps song other name m p n is some none = some
+    (sym is ∙ ap (maps.row name) none ∙ (m.agrees.rows name).nothing)
 
 named_command : (command : ℕ) (name : TableName) → command_table command ≡ Some name → command ≢ 0
-named_command command name is none = let e : command_table 0 ≡ Some name = subst (λ (c : ℕ). command_table c ≡ Some name) none is in cc
+named_command command name is none = let e : command_table 0 ≡ Some name = subst
+    (λ (c : ℕ). command_table c ≡ Some name) none is in cc
 
 played_from : (maps : Maps) (song other : Song) → IsMoved maps song other → (name : TableName) (p : ℕ) →
     IsPlayedPointer other name p → StandsForOne (maps.row name) (IsPlayedPointer song name) p
@@ -315,13 +317,15 @@ wave_pointer_from maps song other m name r p from pointer =
 -- ---- where programs go on
 
 -- new numbers leave the left side
-pub same_jump : (maps : Maps) (name : TableName) (row : TableRow) → is_jump name (moved_row maps name row) ≡ is_jump name row
+pub same_jump : (maps : Maps) (name : TableName) (row : TableRow) → is_jump name (moved_row maps name row) ≡ is_jump
+    name row
 same_jump maps Wave row = refl
 same_jump maps Pulse row = refl
 same_jump maps Filter row = refl
 same_jump maps Speed row = refl
 
-same_last : (maps : Maps) (name : TableName) (row : TableRow) → is_last name (moved_row maps name row) ≡ is_last name row
+same_last : (maps : Maps) (name : TableName) (row : TableRow) → is_last name (moved_row maps name row) ≡ is_last name
+    row
 same_last maps Wave row = refl
 same_last maps Pulse row = refl
 same_last maps Filter row = refl
@@ -342,7 +346,8 @@ jumps_to name row p q jump is = elim (cases_eq row.right 0) [
       (let e : None ≡ Some q = sym (rw jump (let f = eq-eqb row.right 0 none in rw f refl)) ∙ is in cc)
   | inr some ↦ record {
     some = some;
-    is = let f = ne_eqb row.right 0 some in let e : Some row.right ≡ Some q = sym (rw jump (rw f refl)) ∙ is in some_same e;
+    is = let f = ne_eqb row.right 0 some in let e : Some row.right ≡ Some q = sym (rw jump (rw f refl))
+        ∙ is in some_same e;
   }
 ]
 

@@ -47,7 +47,8 @@ pub record FindsAll (song : Song) (k : ℕ) (x : FrameState) : Type 0 where
 
 -- so each rule of a frame finds what it looks up
 pub record UsedIsStored (song : Song) : Type 0 where
-  pub voice : (order : Order) (v : Voice) → IsPlayedOrder song order → IsSafeVoice song order v → VoiceFindsAll song order v
+  pub voice : (order : Order) (v : Voice) → IsPlayedOrder song order → IsSafeVoice song order v → VoiceFindsAll song
+      order v
   pub common : (c : Common) → IsSafeCommon song c → FindsRows song Filter c.filter_ptr
   pub state : (k : ℕ) (x : FrameState) → k < length (playable_subtunes song) → IsSafe song k x → FindsAll song k x
 

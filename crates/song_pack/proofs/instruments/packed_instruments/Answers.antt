@@ -23,7 +23,8 @@ loop-index-preserved c =
     let used = is_marked c.args.used.now in
     elim c.if-used-from.branch [
       | then-used-from+in_ok-push w ↦ rw (w.list-is, w.in_ok-push.ensures.items)
-          (made_more made used c.loop-index.index c.loop-index.list.items w.packed_instrument.result c.loop-index.invariant
+          (made_more made used c.loop-index.index c.loop-index.list.items w.packed_instrument.result
+          c.loop-index.invariant
           (rw c.from.ensures at w.if-used-from.true)
           (w.packed_instrument.ensures ∙ ap (packed_instrument (row_of c.args.numbers.now)) w.instrument.ensures))
       | else-used-from w ↦ rw w.list-is

@@ -8,4 +8,5 @@ use Rattle.song_pack.proofs.instruments.packed_instruments.Given as goal
 abbrev pub invariant-loop-index : goal.invariant-loop-index
 invariant-loop-index l =
     l.list.items
-    ≡ map (λ n. packed_instrument (row_of l.numbers) (instrument_at l.song n)) (passing_numbers (is_marked l.used) l.index)
+    ≡ map (λ n. packed_instrument (row_of l.numbers) (instrument_at l.song n))
+    (passing_numbers (is_marked l.used) l.index)

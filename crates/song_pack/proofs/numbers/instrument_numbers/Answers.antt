@@ -37,14 +37,16 @@ loop-index-preserved c =
     elim c.if-used-n.branch [
       | then-used-n w ↦ (
           let next = rank_next_kept (is_marked c.args.used.now) c.loop-index.index w.if-used-n.true in
-          let now : c.if-used-n.count ≡ rank (is_marked c.args.used.now) (c.loop-index.index + 1) = w.count-is ∙ omega arith in (
+          let now : c.if-used-n.count ≡ rank (is_marked c.args.used.now) (c.loop-index.index + 1) = w.count-is
+          ∙ omega arith in (
             filled_more (rank (is_marked c.args.used.now)) 64 (c.loop-index.index + 1) c.if-used-n.count c.loop-index.to
                 c.loop-index.invariant.0 (omega arith) now,
             now,
           ))
       | else-used-n w ↦ (
           let next = rank_next_left (is_marked c.args.used.now) c.loop-index.index w.if-used-n.false in
-          let now : c.if-used-n.count ≡ rank (is_marked c.args.used.now) (c.loop-index.index + 1) = w.count-is ∙ omega arith in (
+          let now : c.if-used-n.count ≡ rank (is_marked c.args.used.now) (c.loop-index.index + 1) = w.count-is
+          ∙ omega arith in (
             filled_more (rank (is_marked c.args.used.now)) 64 (c.loop-index.index + 1) c.if-used-n.count c.loop-index.to
                 c.loop-index.invariant.0 (omega arith) now,
             now,

@@ -6,4 +6,5 @@ use Rattle.song_pack.proofs.orders.packed_subtunes.Given as goal
 
 abbrev pub invariant-loop-subtune : goal.invariant-loop-subtune
 invariant-loop-subtune l =
-    l.list.items ≡ map (packed_subtune (slice_index l.numbers)) (filter is_playable_subtune (take l.subtune-index l.stored))
+    l.list.items ≡ map (packed_subtune (slice_index l.numbers))
+    (filter is_playable_subtune (take l.subtune-index l.stored))

@@ -13,13 +13,15 @@ pub returns-in_err-patterns-clause-fault : goal.returns-in_err-patterns-clause-f
 returns-in_err-patterns-clause-fault c used are limits =
     err_caused (IsCause c.args.song.now used) c.in_err-patterns.field-0.0 c.from_residual-in_err-patterns.result
     c.from_residual-in_err-patterns.ensures.1
-    (cause c.args.song.now c.args.usage.now c.in_ok-tables.tables c.instrument_numbers-numbers.result c.requires.playable
+    (cause c.args.song.now c.args.usage.now c.in_ok-tables.tables c.instrument_numbers-numbers.result
+    c.requires.playable
     c.requires.parts c.in_ok-tables.ensures c.instrument_numbers-numbers.ensures.numbers c.in_err-patterns.field-0.0
     c.in_err-patterns.ensures.fault used are limits)
 
 pub returns-clause-stands : goal.returns-clause-stands
 returns-clause-stands c =
-    stands c.args.song.now c.args.usage.now c.in_ok-tables.tables c.instrument_numbers-numbers.result c.requires.playable
+    stands c.args.song.now c.args.usage.now c.in_ok-tables.tables c.instrument_numbers-numbers.result
+    c.requires.playable
     c.requires.parts c.in_ok-tables.ensures c.instrument_numbers-numbers.ensures.numbers c.in_ok-patterns.patterns.to _
     (record {
       wave = refl;

@@ -17,7 +17,8 @@ returns-clause-number c =
     ∙ ap (position_or_len (bytes_eq c.args.packed)) c.requires.together
 
 -- the text is added exactly where it isn't there
-added : (texts : List (List ℕ)) (text : List ℕ) (there : Bool) → list_any (bytes_eq text) texts ≡ there → there ≡ false →
+added : (texts : List (List ℕ)) (text : List ℕ) (there : Bool) → list_any (bytes_eq text) texts ≡ there → there ≡
+    false →
     texts ++ text ∷ [] ≡ with_text texts text
 added texts text there is none = let e : list_any (bytes_eq text) texts ≡ false = is ∙ none in rw e refl
 

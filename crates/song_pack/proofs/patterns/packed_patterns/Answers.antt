@@ -17,7 +17,8 @@ loop-p-init c =
 
 pub returns-in_err-packed-clause-fault : goal.returns-in_err-packed-clause-fault
 returns-in_err-packed-clause-fault c =
-    err_caused (IsCaused (text_under c.args.song.now c.args.numbers.now c.args.instruments.now) (is_marked c.args.used.now))
+    err_caused
+    (IsCaused (text_under c.args.song.now c.args.numbers.now c.args.instruments.now) (is_marked c.args.used.now))
     c.in_err-packed.field-0.0 c.from_residual.result c.from_residual.ensures.1
     (first_fault (text_under c.args.song.now c.args.numbers.now c.args.instruments.now) (is_marked c.args.used.now)
     c.loop-p.p c.loop-p.list.items c.loop-p.to c.in_err-packed.field-0.0 c.loop-p.invariant.0
@@ -31,7 +32,8 @@ loop-p-preserved c =
       | then-used-from+in_ok-packed+in_ok-to w ↦ rw (w.seen-is, w.list-is, w.to-is, w.from-then-used-from.ensures) (
         rw w.in_ok-to.ensures.list
             (gathered_more text used c.loop-p.p w.in_ok-to.field-0 c.loop-p.list.items c.loop-p.to w.in_ok-packed.packed
-            c.loop-p.invariant.0 (rw c.from.ensures at w.if-used-from.true) c.loop-p-test.true w.in_ok-packed.ensures.packed
+            c.loop-p.invariant.0 (rw c.from.ensures at w.if-used-from.true) c.loop-p-test.true
+            w.in_ok-packed.ensures.packed
             w.in_ok-packed.ensures.short w.in_ok-to.ensures.number),
         w.in_ok-to.ensures.together,
       )

@@ -34,7 +34,8 @@ returns c =
     c.in_ok-speed.ensures.number in
     let rows = wave_rows_are c.args.song.now used _ c.in_ok-rows.rows others c.in_ok-rows.ensures in
     let wave : IsPackedTable (wave_programs c.args.song.now used) c.in_ok-wave.wave.rows c.in_ok-wave.wave.to =
-    subst (λ (all : List TableRow). IsPackedTable (programs_of all c.args.usage.now.wave c.args.usage.now.wave_pointers false)
+    subst (λ (all : List TableRow). IsPackedTable
+    (programs_of all c.args.usage.now.wave c.args.usage.now.wave_pointers false)
     c.in_ok-wave.wave.rows c.in_ok-wave.wave.to) rows c.in_ok-wave.ensures in
     record {
       wave = wave.rows_are;
