@@ -4,7 +4,7 @@ use Rattle.std.proofs.Common.{◌≡◌, ℕ, suc, ◌+◌, ◌<◌, ◌≤◌, 
 use Rattle.std.specs.List.{filter, position_or_len, range_with_len}
 use Rattle.std.specs.Str.{bytes_eq}
 use Rattle.std.proofs.Math.ListN.{set}
-use Rattle.std.proofs.lemmas.List.{get_or-set_same, get_or-set_other, length-set, map-append}
+use Rattle.std.proofs.lemmas.List.{get_or-set_same, get_or-set_other, length-set, map-append, append-nil}
 use Rattle.std.proofs.lemmas.List.Elements.{filter-append}
 use Rattle.song_model.specs.declared.patterns.TheConstants.{MOST_PATTERNS}
 use Rattle.packed_form.specs.declared.packed_patterns.TheConstants.{MOST_PACKED_BYTES}
@@ -37,16 +37,12 @@ texts_next text used i =
     ∙ ap (map text) (filter-append used (range_with_len 0 i) (i ∷ []))
     ∙ map-append text (filter used (range_with_len 0 i)) (if used i then i ∷ [] else [])
 
-append_none : {X : Type 0} (xs : List X) → xs ++ [] ≡ xs
-append_none [] = refl
-append_none {X} (x ∷ xs) = ap (λ (t : List X). x ∷ t) (append_none xs)
-
 list_left : (text : ℕ → List ℕ) (used : ℕ → Bool) (i : ℕ) → used i ≡ false →
     first_seen bytes_eq (texts_below text used (i + 1)) ≡ first_seen bytes_eq (texts_below text used i)
 list_left text used i fails =
     ap (first_seen bytes_eq)
     (texts_next text used i ∙ ap (λ (b : Bool). texts_below text used i ++ map text (if b then i ∷ [] else [])) fails
-    ∙ append_none (texts_below text used i))
+    ∙ append-nil (texts_below text used i))
 
 list_more : (text : ℕ → List ℕ) (used : ℕ → Bool) (i : ℕ) → used i ≡ true →
     first_seen bytes_eq (texts_below text used (i + 1)) ≡ with_text (first_seen bytes_eq (texts_below text used i))

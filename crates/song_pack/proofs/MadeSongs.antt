@@ -15,10 +15,10 @@ use Rattle.song_model.specs.declared.features.FeatureBits.{FeatureBits}
 use Rattle.song_model.specs.declared.songs.Song.{Song}
 use Rattle.song_model.specs.PatternLimits.{IsRow}
 use Rattle.song_model.specs.Limits.{KeepsLimits}
-use Rattle.song_model.specs.LookUp.{instrument_at, pattern_at, order_of, playable_subtunes}
+use Rattle.song_model.specs.LookUp.{instrument_at, pattern_at, playable_subtunes}
 use Rattle.song_model.specs.Pointers.{command_table}
 use Rattle.song_model.proofs.Laws.{pattern_rows_in_range}
-use Rattle.play_model.specs.Used.{IsChannel, IsPlayedOrder, IsUsedPattern}
+use Rattle.play_model.specs.Used.{IsPlayedOrder, IsUsedPattern}
 use Rattle.play_model.specs.Features.{AreFeatures}
 use Rattle.usage.specs.declared.parts.UsedParts.{UsedParts}
 use Rattle.usage.specs.Parts.{AreUsedParts}
@@ -36,6 +36,7 @@ use Rattle.song_pack.specs.declared.faults.PackFault.{PackFault}
 use Rattle.song_pack.specs.declared.faults.PackFault.TheVariants.{PatternTooLong, NoMemory}
 use Rattle.song_pack.specs.Answers.{AreShort, IsCause}
 use Rattle.song_pack.specs.Texts.{text_under, texts_below, ArePatterns, IsCaused}
+use Rattle.song_pack.proofs.UsedParts.{channel_played}
 use Rattle.song_pack.proofs.PlayedOrders.{map_same}
 
 -- a packed song was made of these parts
@@ -128,17 +129,6 @@ module _ (song : Song) (parts : UsedParts) (limits : KeepsLimits song) (are : Ar
             (λ low. record { byte = record { order = order; played = o; entry = has }; is_pattern = low }))
             order.entries (All-contains_itself order.entries)))
 
-        channel_played : (subtune : Subtune) (channel : ℕ) → Contains (playable_subtunes song) subtune → IsChannel
-            channel →
-            IsPlayedOrder song (order_of channel subtune)
-        channel_played subtune channel has c = record {
-          subtune = subtune;
-          playable = has;
-          channel = channel;
-          is_channel = c;
-          order_is = refl;
-        }
-
         subtune_is : (subtune : Subtune) → Contains (playable_subtunes song) subtune →
             packed_subtune (slice_index to) subtune ≡ packed_subtune (pattern_number song (sets_of parts)) subtune
         subtune_is subtune has =
@@ -160,12 +150,12 @@ module _ (song : Song) (parts : UsedParts) (limits : KeepsLimits song) (are : Ar
               three = bytes;
             } in
             ap with_one
-            (order_is subtune.one (channel_played subtune 1 has (record { first = omega arith; last = omega arith })))
+            (order_is subtune.one (channel_played song subtune 1 has (record { first = omega arith; last = omega arith })))
             ∙ ap with_two
-            (order_is subtune.two (channel_played subtune 2 has (record { first = omega arith; last = omega arith })))
+            (order_is subtune.two (channel_played song subtune 2 has (record { first = omega arith; last = omega arith })))
             ∙ ap with_three
             (order_is subtune.three
-            (channel_played subtune 3 has (record { first = omega arith; last = omega arith })))
+            (channel_played song subtune 3 has (record { first = omega arith; last = omega arith })))
 
         subtunes_are : map (packed_subtune (slice_index to)) (playable_subtunes song)
             ≡ map (packed_subtune (pattern_number song (sets_of parts))) (playable_subtunes song)

@@ -13,7 +13,7 @@ use Rattle.song_model.specs.declared.songs.Song.{Song}
 use Rattle.song_model.specs.Endless.{IsPatternByte}
 use Rattle.song_model.specs.Limits.{IsOrder, IsSubtune, KeepsLimits}
 use Rattle.song_model.specs.LookUp.{order_of, has_entries, is_playable_subtune, playable_subtunes}
-use Rattle.play_model.specs.Used.{IsChannel, IsPlayedOrder, IsUsedPattern}
+use Rattle.play_model.specs.Used.{IsPlayedOrder, IsUsedPattern}
 use Rattle.play_model.specs.Playable.{IsPlayable}
 use Rattle.same_frames.specs.OrderLaws.{moved_byte, moved_order, moved_subtune}
 use Rattle.packed_form.specs.declared.packed_songs.PackedSubtune.{PackedSubtune}
@@ -23,7 +23,7 @@ use Rattle.packed_form.specs.Renumbering.{pattern_number}
 use Rattle.packed_form.specs.Unpacked.{IsPackedOrder, end_place, unpacked_order, unpacked_subtune, unpacked_song}
 use Rattle.packed_form.specs.StandsFor.{ArePackedOrders}
 use Rattle.song_pack.specs.Packed.{new_numbers, order_bytes, packed_subtune, IsPacked}
-use Rattle.song_pack.proofs.UsedParts.{image_of}
+use Rattle.song_pack.proofs.UsedParts.{image_of, channel_played}
 use Rattle.song_pack.proofs.StoredPatterns.{pattern_small}
 
 -- ---- bytes of an orderlist
@@ -128,24 +128,14 @@ module _ (song : Song) (used : UsedSets) (packed : PackedSong) (limits : KeepsLi
 
   -- ---- subtunes
 
-  channel_played : (subtune : Subtune) (channel : ℕ) → Contains (playable_subtunes song) subtune → IsChannel channel →
-      IsPlayedOrder song (order_of channel subtune)
-  channel_played subtune channel has c = record {
-    subtune = subtune;
-    playable = has;
-    channel = channel;
-    is_channel = c;
-    order_is = refl;
-  }
-
   pub one_played : (subtune : Subtune) → Contains (playable_subtunes song) subtune → IsPlayedOrder song subtune.one
-  one_played subtune has = channel_played subtune 1 has (record { first = omega arith; last = omega arith })
+  one_played subtune has = channel_played song subtune 1 has (record { first = omega arith; last = omega arith })
 
   pub two_played : (subtune : Subtune) → Contains (playable_subtunes song) subtune → IsPlayedOrder song subtune.two
-  two_played subtune has = channel_played subtune 2 has (record { first = omega arith; last = omega arith })
+  two_played subtune has = channel_played song subtune 2 has (record { first = omega arith; last = omega arith })
 
   pub three_played : (subtune : Subtune) → Contains (playable_subtunes song) subtune → IsPlayedOrder song subtune.three
-  three_played subtune has = channel_played subtune 3 has (record { first = omega arith; last = omega arith })
+  three_played subtune has = channel_played song subtune 3 has (record { first = omega arith; last = omega arith })
 
   subtune_unpacked : (subtune : Subtune) → Contains (playable_subtunes song) subtune →
       unpacked_subtune (packed_subtune (pattern_number song used) subtune) ≡ moved_subtune (new_numbers song used)

@@ -3,7 +3,7 @@ use Rattle.std.specs.Prelude.{if◌then◌else◌}
 use Rattle.std.proofs.Common.{◌≡◌, ℕ, zero, suc, ◌+◌, ◌-◌, ◌≤◌, Bool, true, false, List, [], ◌∷◌, ◌++◌, map, length, get_or, refl, sym, ◌∙◌, ap, subst, inl, inr, arith}
 use Rattle.std.specs.List.{filter}
 use Rattle.std.proofs.lemmas.Bool.{cases_lt, ne_eqb}
-use Rattle.std.proofs.lemmas.List.{length-map, map-append, get_or-map, get_or_append_left}
+use Rattle.std.proofs.lemmas.List.{length-map, map-append, get_or-map, get_or_append_left, append-nil}
 use Rattle.std.proofs.lemmas.List.Elements.{filter-append, All-contains}
 use Rattle.std.proofs.lemmas.List.Sums.{length-filter}
 use Rattle.std.proofs.Math.Seq.{get_or-append_seam}
@@ -56,11 +56,7 @@ passing_left test n fails =
     let more : n + 1 ≡ suc n = omega arith in
     rw more (passing_next test n
     ∙ ap (λ (b : Bool). passing_numbers test n ++ (if b then suc n ∷ [] else [])) (rw more at fails)
-    ∙ append_none (passing_numbers test n))
-  where
-    append_none : (ns : List ℕ) → ns ++ [] ≡ ns
-    append_none [] = refl
-    append_none (n ∷ ns) = ap (λ (t : List ℕ). n ∷ t) (append_none ns)
+    ∙ append-nil (passing_numbers test n))
 
 pub passing_none : (test : ℕ → Bool) → passing_numbers test 0 ≡ []
 unfolding passing_numbers

@@ -16,7 +16,7 @@ use Rattle.song_model.specs.Endless.{IsPatternByte}
 use Rattle.song_model.specs.LookUp.{IsNumbered, table_of, table_row, pattern_at, instrument_at, order_of, playable_subtunes}
 use Rattle.song_model.specs.Pointers.{instrument_pointer, command_table, wave_row_table}
 use Rattle.play_model.specs.LookUps.{look_ups_of}
-use Rattle.play_model.specs.Used.{IsPlayedOrder, IsUsedPattern, IsUsedRow, IsUsedInstrument}
+use Rattle.play_model.specs.Used.{IsChannel, IsPlayedOrder, IsUsedPattern, IsUsedRow, IsUsedInstrument}
 use Rattle.play_model.specs.Reached.{is_jump, is_last, row_led_to, led_to, IsPlayedPointer, of_instrument, of_row, IsWaveRowPointer, IsReached, played, pointed, led, IsPointer, of_played, of_wave_row}
 use Rattle.play_model.specs.Playable.{HasPrograms, IsPlayable}
 use Rattle.play_model.proofs.Laws.{whole_lem, led_by, no_speed_led}
@@ -71,6 +71,17 @@ channel_moved maps subtune channel = by_first (channel == 1) refl
         order_of channel (moved_subtune maps subtune) ≡ moved_order maps (order_of channel subtune)
     by_first true e = rw e refl
     by_first false e = by_second (channel == 2) refl e
+
+-- the orderlists of a playable subtune are played
+pub channel_played : (song : Song) (subtune : Subtune) (channel : ℕ) → Contains (playable_subtunes song) subtune →
+    IsChannel channel → IsPlayedOrder song (order_of channel subtune)
+channel_played song subtune channel has is = record {
+  subtune = subtune;
+  playable = has;
+  channel = channel;
+  is_channel = is;
+  order_is = refl;
+}
 
 -- an orderlist that the other song plays was one of the song
 pub record IsMovedOrder (maps : Maps) (song : Song) (order : Order) : Type 0 where
