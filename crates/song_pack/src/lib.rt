@@ -24,3 +24,6 @@ mod tables;
 
 pub use faults::PackFault;
 pub use packing::pack_song;
+
+#[cfg(test)]
+mod tests;
