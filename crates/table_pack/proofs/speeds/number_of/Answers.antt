@@ -10,7 +10,7 @@ pub returns-clause-number : goal.returns-clause-number
 returns-clause-number c =
     ap (λ (k : ℕ). k + 1)
     (c.in_ok-index.ensures.index
-        ∙ rw c.requires.together (place_of_map sides_of _ (same_row c.args.row) c.args.rows.now.items (λ x. refl)))
+    ∙ rw c.requires.together (place_of_map sides_of _ (same_row c.args.row) c.args.rows.now.items (λ x. refl)))
 
 pub returns-clause-rows : goal.returns-clause-rows
 returns-clause-rows c = elim c.if-is_new.branch [
