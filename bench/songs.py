@@ -2,8 +2,9 @@
 """Times goat on long songs: bench/songs.py [PROGRAM]
 
 Packs and copies silent songs of about 16 KB, 64 KB and 256 KB (the most that a file may have), checks songs of about
-these sizes that use all that they store, and prints for each the processor time of a run and the bytes of the song that
-it takes a second. The time of a run on the smallest song, which is that of starting the program, is taken off first.
+these sizes that use all that they store, packs the data of songs whose patterns differ (which ends with `not built`),
+and prints for each the processor time of a run and the bytes of the song that it takes a second. The time of a run on
+the smallest song, which is that of starting the program, is taken off first.
 """
 import os
 import resource
@@ -49,11 +50,28 @@ def sounding_song(patterns, subtunes):
     return b"".join(parts)
 
 
-def processor_time(program, words, folder):
+def noted_song(patterns, subtunes):
+    """A song whose patterns differ and may be packed: notes, and an instrument in each sixteenth row."""
+    order = bytes([patterns + 1, *range(patterns), 0xFF, 0])
+    instruments = b"".join(bytes([0x09, 0xA0, 4 * n - 3, 4 * n - 3, 0, n, 1, 2, 9]) + bytes(16) for n in range(1, 64))
+    rows = [(0xFF, 0) if n % 4 == 3 else (0x41, n % 128) for n in range(255)]
+    programs = bytes([255]) + bytes(left for left, _ in rows) + bytes(right for _, right in rows)
+    tables = 2 * programs + bytes([0]) + table(255, False)
+    parts = [b"GTS5" + bytes(96), bytes([subtunes]) + 3 * subtunes * order, bytes([63]) + instruments, tables]
+    parts.append(bytes([patterns]))
+    for pattern in range(patterns):
+        notes = (bytes([0x60 + (n * (pattern + 1)) % 89, 1 + n % 63 if n % 16 == 0 else 0, 0, 0]) for n in range(128))
+        parts.append(bytes([129]) + b"".join(notes) + END)
+    return b"".join(parts)
+
+
+def processor_time(program, words, folder, status):
     """Seconds of processor time of one run, the mean of many."""
     before = resource.getrusage(resource.RUSAGE_CHILDREN)
     for _ in range(RUNS):
-        subprocess.run([program, *words], cwd=folder, check=True, stdout=subprocess.DEVNULL)
+        run = subprocess.run([program, *words], cwd=folder, stdout=subprocess.DEVNULL)
+        if run.returncode != status:
+            sys.exit("status %d of %s" % (run.returncode, " ".join(words)))
     after = resource.getrusage(resource.RUSAGE_CHILDREN)
     return (after.ru_utime + after.ru_stime - before.ru_utime - before.ru_stime) / RUNS
 
@@ -63,18 +81,21 @@ def main():
     program = os.path.abspath(sys.argv[1]) if len(sys.argv) > 1 else os.path.join(top, "crates/goat/out/goat")
     silent = [silent_song(*shape) for shape in [(1, 0), (15, 16384), (63, 65536), (208, LIMIT)]]
     sounding = [sounding_song(*shape) for shape in [(1, 1), (25, 8), (110, 16), (208, 32)]]
+    noted = [noted_song(*shape) for shape in [(1, 1), (25, 8), (110, 16), (208, 32)]]
+    pack = ["pack", "in", "out", "raw", "1000", "FC"]
     runs = [
-        ("copy", ["copy", "in", "out"], silent),
-        ("pack", ["pack", "in", "out", "raw", "1000", "FC"], silent),
-        ("check", ["check", "in"], sounding),
+        ("copy", ["copy", "in", "out"], silent, 0),
+        ("pack", pack, silent, 0),
+        ("check", ["check", "in"], sounding, 0),
+        ("data", pack, noted, 15),
     ]
     with tempfile.TemporaryDirectory() as folder:
-        for name, words, songs in runs:
+        for name, words, songs, status in runs:
             start = None
             for song in songs:
                 with open(os.path.join(folder, "in"), "wb") as file:
                     file.write(song)
-                seconds = processor_time(program, words, folder)
+                seconds = processor_time(program, words, folder, status)
                 if start is None:
                     start = seconds
                     continue
