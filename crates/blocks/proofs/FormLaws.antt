@@ -26,19 +26,7 @@ use Rattle.blocks.specs.FormTrees.{sub_word_tree, halve_word_tree, fetch_tree, f
 use Rattle.blocks.specs.FormTrees.{choice_tree, repeat_tree}
 use Rattle.blocks.proofs.Bytes.{shows_equal, shows_below, sums_add}
 
--- two bytes that are put at their places make a word, and each is its own
-word_put : (at : ℕ → ℕ) (p q low high number : ℕ) → p ≢ q → low + 256 * high ≡ number → (at p < 256 → low < 256) →
-    HasWord at (put (put at p low) q high) p q number
-word_put at p q low high number apart e small = record {
-  is = rw (put_other (put at p low) q high p apart, put_same at p low, put_same (put at p low) q high) e;
-  low_byte = λ below.
-      let l = small below in
-      rw (put_other (put at p low) q high p apart, put_same at p low) (omega (arith, e, l));
-  high_byte = λ below. let l = small below in rw (put_same (put at p low) q high) (omega (arith, e, l));
-  rest = λ place np nq. rw (put_other (put at p low) q high place nq, put_other at p low place np) refl;
-}
-
--- and so they do where the high one is put first
+-- two bytes that are put at their places, the high one first, make a word, and each is its own
 word_put_back : (at : ℕ → ℕ) (p q low high number : ℕ) → p ≢ q → low + 256 * high ≡ number →
     (at p < 256 → low < 256) → HasWord at (put (put at q high) p low) p q number
 word_put_back at p q low high number apart e small = record {
@@ -214,55 +202,52 @@ halves low high tree e =
     halved_word desk.at p q _ ne (put_other desk.at q (desk.at q / 2 + 128 * 0) p ne))
 
 -- two words added, byte by byte
-sum_put : (at : ℕ → ℕ) (p q a b c d b1 c1 d1 : ℕ) → p ≢ q → b1 ≡ b → c1 ≡ c → d1 ≡ d → a < 256 → b < 256 →
-    HasWord at (put (put at p ((a + b1 + 0) % 256)) q ((c1 + d1 + one_if (nat_le 256 (a + b1 + 0))) % 256)) p q
+sum_put : (at : ℕ → ℕ) (p q a b c d b1 d1 : ℕ) → p ≢ q → b1 ≡ b → d1 ≡ d → a < 256 → b < 256 →
+    HasWord at (put (put at q ((c + d1 + one_if (nat_le 256 (a + b1 + 0))) % 256)) p ((a + b1 + 0) % 256)) p q
     (word_sum (word a c) (word b d))
-sum_put at p q a b c d b1 c1 d1 ne eb ec ed la lb =
-    rw (eb, ec, ed)
-    (word_put at p q _ _ _ ne (sums_add a b c d 0 la lb (omega arith) ∙ ap (λ n. n % 65536) (omega arith))
+sum_put at p q a b c d b1 d1 ne eb ed la lb =
+    rw (eb, ed)
+    (word_put_back at p q _ _ _ ne (sums_add a b c d 0 la lb (omega arith) ∙ ap (λ n. n % 65536) (omega arith))
     (λ below. mod_below (a + b + 0) 256 (omega arith)))
 
 -- one taken from the other
-difference_put : (at : ℕ → ℕ) (p q a b c d b1 c1 d1 : ℕ) → p ≢ q → b1 ≡ b → c1 ≡ c → d1 ≡ d → a < 256 → b < 256 →
-    d < 256 →
+difference_put : (at : ℕ → ℕ) (p q a b c d b1 d1 : ℕ) → p ≢ q → b1 ≡ b → d1 ≡ d → a < 256 → b < 256 → d < 256 →
     HasWord at
-    (put (put at p ((a + (255 - b1) + 1) % 256)) q ((c1 + (255 - d1) + one_if (nat_le 256 (a + (255 - b1) + 1))) % 256))
-    p q (word_difference (word a c) (word b d))
-difference_put at p q a b c d b1 c1 d1 ne eb ec ed la lb ld =
-    rw (eb, ec, ed)
-    (word_put at p q _ _ _ ne
+    (put (put at q ((c + (255 - d1) + one_if (nat_le 256 (a + (255 - b1) + 1))) % 256)) p ((a + (255 - b1) + 1) % 256)) p q
+    (word_difference (word a c) (word b d))
+difference_put at p q a b c d b1 d1 ne eb ed la lb ld =
+    rw (eb, ed)
+    (word_put_back at p q _ _ _ ne
     (sums_add a (255 - b) c (255 - d) 1 la (omega arith) (omega arith) ∙ ap (λ n. n % 65536) (omega arith))
     (λ below. mod_below (a + (255 - b) + 1) 256 (omega arith)))
 
 -- the steps up to the high byte's load
 abbrev to_high : Cell → Cell → Step → List Step
-to_high low high first = load (HeldOperand low) ∷ first ∷ Store (HeldPlace low) ∷ load (HeldOperand high) ∷ []
+to_high low high first = load (HeldOperand low) ∷ first ∷ Store IntoY ∷ load (HeldOperand high) ∷ []
 
 add_words : (low high : Cell) (other_low other_high : Operand) →
     ChangesWord word_sum low high other_low other_high (add_word_tree low high other_low other_high)
-add_words low high other_low other_high layout voice desk ne apart la lc lb ld =
+add_words low high other_low other_high layout voice desk ne la lc lb ld =
     let p = cell_place layout voice low in
+    let q = cell_place layout voice high in
     let first = chained layout voice (load (HeldOperand low) ∷ []) desk in
     let second = chained layout voice (to_high low high (Add (Plain other_low))) desk in
-    sum_put desk.at p (cell_place layout voice high) (desk.at p) (operand_byte layout voice other_low desk)
-    (desk.at (cell_place layout voice high)) (operand_byte layout voice other_high desk)
-    (operand_byte layout voice other_low first) (second.acc) (operand_byte layout voice other_high second) ne
-    (operand_same layout voice other_low desk first refl)
-    (put_other desk.at p _ (cell_place layout voice high) (λ h. ne (sym h)))
-    (operand_stays layout voice other_high p _ desk second refl apart) la lb
+    sum_put desk.at p q (desk.at p) (operand_byte layout voice other_low desk) (desk.at q)
+    (operand_byte layout voice other_high desk) (operand_byte layout voice other_low first)
+    (operand_byte layout voice other_high second) ne (operand_same layout voice other_low desk first refl)
+    (operand_same layout voice other_high desk second refl) la lb
 
 take_words : (low high : Cell) (other_low other_high : Operand) →
     ChangesWord word_difference low high other_low other_high (sub_word_tree low high other_low other_high)
-take_words low high other_low other_high layout voice desk ne apart la lc lb ld =
+take_words low high other_low other_high layout voice desk ne la lc lb ld =
     let p = cell_place layout voice low in
+    let q = cell_place layout voice high in
     let first = chained layout voice (load (HeldOperand low) ∷ []) desk in
     let second = chained layout voice (to_high low high (Sub (Plain other_low))) desk in
-    difference_put desk.at p (cell_place layout voice high) (desk.at p) (operand_byte layout voice other_low desk)
-    (desk.at (cell_place layout voice high)) (operand_byte layout voice other_high desk)
-    (operand_byte layout voice other_low first) (second.acc) (operand_byte layout voice other_high second) ne
-    (operand_same layout voice other_low desk first refl)
-    (put_other desk.at p _ (cell_place layout voice high) (λ h. ne (sym h)))
-    (operand_stays layout voice other_high p _ desk second refl apart) la lb ld
+    difference_put desk.at p q (desk.at p) (operand_byte layout voice other_low desk) (desk.at q)
+    (operand_byte layout voice other_high desk) (operand_byte layout voice other_low first)
+    (operand_byte layout voice other_high second) ne (operand_same layout voice other_low desk first refl)
+    (operand_same layout voice other_high desk second refl) la lb ld
 
 pub adds_words : (low high : Cell) (other_low other_high : Operand) (tree : Tree) →
     tree ≡ add_word_tree low high other_low other_high → ChangesWord word_sum low high other_low other_high tree

@@ -1,6 +1,7 @@
 -- The trees of forms on named bytes: moves, sums and other changes of a byte, words, entries of tables, and choices.
 use Rattle.std.specs.Prelude.{ℕ, Bool, false, List, [], ◌∷◌, nat_eq, if◌then◌else◌}
-use Rattle.blocks.specs.Words.{Cell, Operand, Const, HeldOperand, Plain, Entry, Direct, Byte, Place, HeldPlace, Pointer}
+use Rattle.blocks.specs.Words.{Cell, Operand, Const, HeldOperand, Plain, Entry, Direct, Byte, FromY, Place, HeldPlace}
+use Rattle.blocks.specs.Words.{Pointer, IntoY}
 use Rattle.blocks.specs.Words.{Low, High, HeldCounted, Counter, ByteTest, SameBytes, BelowByte, CommonBit}
 use Rattle.blocks.specs.Words.{Step, Load, Store, Index, And, Add, Sub, AddOn, SubOn, Inc, Dec, HalveAt, HalveOn}
 use Rattle.blocks.specs.Words.{Zero, Equal, Less, Test, Is, Not}
@@ -31,11 +32,12 @@ abbrev pub sub_tree : Cell → Operand → Tree
 sub_tree to from =
     if is_one from then ChainTree (Dec (HeldCounted to) ∷ []) else changed_tree to (Sub (Plain from))
 
--- the low and then the high byte of a word
+-- the low and then the high byte of a word. Both are changed before either is stored, so that the other word's bytes may
+-- be this word's own; the low one waits in Y, and nothing between the two changes writes the carry
 abbrev pub word_tree : Cell → Cell → Step → Step → Tree
 word_tree low high first second =
-    ChainTree (load (HeldOperand low) ∷ first ∷ Store (HeldPlace low) ∷ load (HeldOperand high) ∷ second ∷ Store
-    (HeldPlace high) ∷ [])
+    ChainTree (load (HeldOperand low) ∷ first ∷ Store IntoY ∷ load (HeldOperand high) ∷ second ∷ Store
+    (HeldPlace high) ∷ Load FromY ∷ Store (HeldPlace low) ∷ [])
 
 -- the sum and the difference of words
 abbrev pub add_word_tree : Cell → Cell → Operand → Operand → Tree

@@ -61,13 +61,12 @@ pub record HasWord (before after : ℕ → ℕ) (low high number : ℕ) : Type 0
   pub high_byte : before low < 256 → after high ≡ number / 256
   pub rest : (place : ℕ) → place ≢ low → place ≢ high → after place ≡ before place
 
--- a word becomes what a rule says of it and another word, where its bytes have places of their own and the other high
--- byte isn't its low one
+-- a word becomes what a rule says of it and another word, where its two bytes have places of their own; the other word's
+-- bytes may be any, its own too
 abbrev pub ChangesWord : (ℕ → ℕ → ℕ) → Cell → Cell → Operand → Operand → Tree → Type 0
 ChangesWord rule low high other_low other_high tree =
     (layout : Layout) (voice : ℕ) (desk : Desk) →
     cell_place layout voice low ≢ cell_place layout voice high →
-    Apart layout voice other_high (cell_place layout voice low) →
     desk.at (cell_place layout voice low) < 256 → desk.at (cell_place layout voice high) < 256 →
     operand_byte layout voice other_low desk < 256 → operand_byte layout voice other_high desk < 256 →
     HasWord desk.at (meaning layout tree voice desk).at (cell_place layout voice low) (cell_place layout voice high)

@@ -12,6 +12,8 @@ use Rattle.blocks.specs.Meaning.{meaning}
 use Rattle.blocks.specs.Sound.{is_sound, is_sound_in}
 use Rattle.blocks.specs.Sizes.{size, code_bytes, label_count, weight, has_no_lines}
 use Rattle.blocks.specs.Costs.{own_cost, node_cost, least}
+use Rattle.blocks.specs.FormTrees.{add_word_tree, sub_word_tree}
+use Rattle.blocks.specs.Forms.{word}
 use Rattle.blocks.specs.WorkedSteps.{laid, bytes, desk}
 
 -- loads of a number and of a byte
@@ -99,6 +101,28 @@ PartIsWorked =
     × ((before : Desk) → meaning (only true) part 0 before ≡ meaning laid loud 0 before)
     × (code_bytes part 5 ≡ 5) × (code_bytes part 255 ≡ 0) × (size part ≡ 5)
     × (least (λ bit. false) part ≡ 0) × (is_sound (WhenTree 5 part) ≡ false) × (is_sound (WhenTree 32 loud) ≡ false)
+
+-- the word under labels 1 and 2 behind a form, from three bytes under labels 1, 2 and 3
+abbrev pub leaves_word : Tree → ℕ → ℕ → ℕ → ℕ → Type 0
+leaves_word tree one two three number =
+    word
+    ((meaning laid tree 0 (record (desk 7 9 true) { at = put (put (put bytes 0x1001 one) 0x1002 two) 0x1003 three })).at
+    0x1001)
+    ((meaning laid tree 0 (record (desk 7 9 true) { at = put (put (put bytes 0x1001 one) 0x1002 two) 0x1003 three })).at
+    0x1002) ≡ number
+
+-- a word and another one whose bytes are its own: the other high byte is its low one, the other low byte its high one,
+-- both are its own, and both the other way round
+abbrev pub WordsAreWorked : Type 0
+WordsAreWorked =
+    leaves_word (add_word_tree (Var 1) (Var 2) (HeldOperand (Var 3)) (HeldOperand (Var 1))) 1 0 1 0x0102
+    × leaves_word (add_word_tree (Var 1) (Var 2) (HeldOperand (Var 2)) (HeldOperand (Var 3))) 0xFF 1 2 0x0400
+    × leaves_word (add_word_tree (Var 1) (Var 2) (HeldOperand (Var 1)) (HeldOperand (Var 2))) 0x80 0x81 9 0x0300
+    × leaves_word (add_word_tree (Var 1) (Var 2) (HeldOperand (Var 2)) (HeldOperand (Var 1))) 0xFE 3 9 0x0201
+    × leaves_word (sub_word_tree (Var 1) (Var 2) (HeldOperand (Var 3)) (HeldOperand (Var 1))) 1 2 2 0x00FF
+    × leaves_word (sub_word_tree (Var 1) (Var 2) (HeldOperand (Var 1)) (HeldOperand (Var 2))) 0xFE 3 9 0
+    × leaves_word (sub_word_tree (Var 1) (Var 2) (HeldOperand (Var 2)) (HeldOperand (Var 1))) 1 0 9 0xFF01
+    × (size (add_word_tree (Var 1) (Var 2) (HeldOperand (Var 3)) (HeldOperand (Var 1))) ≡ 21)
 
 -- bytes under labels, and all registers
 abbrev pub FillsAreWorked : Type 0

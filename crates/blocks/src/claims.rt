@@ -12,7 +12,7 @@ ghost use Rattle.blocks.specs.WorkedSteps.{LoadsAreWorked, StoresAreWorked, Sums
 ghost use Rattle.blocks.specs.WorkedSteps.{CountsAreWorked, HalvesAreWorked, TestsAreWorked, ComparisonsAreWorked};
 ghost use Rattle.blocks.specs.WorkedBlocks.{LoudIsWorked, DownIsWorked, TwiceIsWorked, GatesAreWorked, PartIsWorked};
 ghost use Rattle.blocks.specs.WorkedBlocks.{FillsAreWorked, SidesAreWorked, LoopsAreWorked, KnownIsWorked};
-ghost use Rattle.blocks.specs.WorkedBlocks.{CountersAreWorked};
+ghost use Rattle.blocks.specs.WorkedBlocks.{CountersAreWorked, WordsAreWorked};
 
 /// What differences and tests are as numbers, where bytes are bytes.
 pub fn steps_are_of_bytes()
@@ -52,6 +52,7 @@ pub fn worked_blocks()
     ensures loops { LoopsAreWorked }
     ensures known { KnownIsWorked }
     ensures counters { CountersAreWorked }
+    ensures words { WordsAreWorked }
 {}
 
 /// Numbers of blocks by their shape, which of them are in their place, and what is known behind loops, worked by hand.

@@ -153,7 +153,7 @@ pub fn sub_word(
     changed_word(alloc, low, high, first, second)
 }
 
-/// The low and then the high byte of a word are loaded, changed and stored.
+/// The low and then the high byte of a word are loaded and changed, and then both are stored.
 fn changed_word(
     alloc: Global,
     low: Cell,
@@ -166,10 +166,12 @@ fn changed_word(
     let steps = [
         load(Operand::Held(low)),
         first,
-        Step::Store(Place::Held(low)),
+        Step::Store(Place::Y),
         load(Operand::Held(high)),
         second,
         Step::Store(Place::Held(high)),
+        Step::Load(Source::Y),
+        Step::Store(Place::Held(low)),
     ];
     chain(alloc, &steps)
 }
