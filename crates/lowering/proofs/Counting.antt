@@ -70,13 +70,13 @@ cell_elsewhere : (layout : Layout) (names : Names) (low high : ℕ) → Inside l
 cell_elsewhere layout names low high inside CounterY own in_voices voice voiced cell is named leaves = tt
 cell_elsewhere layout names low high inside (CounterVar label) own in_voices voice voiced (Var other) is named leaves =
     λ same. eqb-false label other (not_true (nat_eq label other) leaves)
-    (inside.own_apart label other own named same)
+    (inside.counters_apart label other own named same)
 cell_elsewhere layout names low high inside (CounterVar label) own in_voices voice voiced (VoiceVar other) is named
     leaves =
     let few = voiced (and_parts in_voices (nat_le other 65521) is).0 in
     let none = none_of (nat_eq label other) (nat_eq label (other + 7)) (nat_eq label (other + 14)) leaves in
     λ same.
-    let e = inside.own_apart label (other + 7 * voice) own (inside.voices_own other voice named few) same in
+    let e = inside.counters_apart label (other + 7 * voice) own (inside.voices_own other voice named few) same in
     three voice few other label none.0 none.1 none.2 e
   where
     three : (voice : ℕ) → voice < 3 → (other label : ℕ) → nat_eq label other ≡ false →
@@ -90,13 +90,13 @@ cell_elsewhere layout names low high inside (CounterVar label) own in_voices voi
 high_elsewhere : (layout : Layout) (names : Names) (low high : ℕ) → Inside layout names low high → (counter : Counter) →
     names_counter names counter ≡ true → (place : ℕ) → 0xD000 ≤ place → Elsewhere layout counter place
 high_elsewhere layout names low high inside (CounterVar label) own place above =
-    let under = inside.own_high label own in λ same. omega arith
+    let under = inside.own_high label (inside.counters_own label own) in λ same. omega arith
 high_elsewhere layout names low high inside CounterY own place above = tt
 
 low_elsewhere : (layout : Layout) (names : Names) (low high : ℕ) → Inside layout names low high → (counter : Counter) →
     names_counter names counter ≡ true → (place : ℕ) → place < 256 → Elsewhere layout counter place
 low_elsewhere layout names low high inside (CounterVar label) own place under =
-    let above = inside.own_low label own in λ same. omega arith
+    let above = inside.own_low label (inside.counters_own label own) in λ same. omega arith
 low_elsewhere layout names low high inside CounterY own place under = tt
 
 place_keeps : (layout : Layout) (names : Names) (low high : ℕ) → Inside layout names low high → (counter : Counter) →
@@ -216,7 +216,7 @@ set_keeps : (layout : Layout) (names : Names) (low high : ℕ) → Inside layout
     counter_value layout counter (counter_set layout other count desk) ≡ counter_value layout counter desk
 set_keeps layout names low high inside (CounterVar label) (CounterVar other) own named leaves count desk =
     put_other desk.at (layout.address other) count (layout.address label)
-    (λ same. eqb-false label other (not_true (nat_eq label other) leaves) (inside.own_apart label other own named same))
+    (λ same. eqb-false label other (not_true (nat_eq label other) leaves) (inside.counters_apart label other own (inside.counters_own other named) same))
 set_keeps layout names low high inside (CounterVar label) CounterY own named leaves count desk = refl
 set_keeps layout names low high inside CounterY (CounterVar other) own named leaves count desk = refl
 set_keeps layout names low high inside CounterY CounterY own named leaves count desk = absurd (cc)
@@ -227,7 +227,7 @@ down_keeps : (layout : Layout) (names : Names) (low high : ℕ) → Inside layou
     counter_value layout counter (counter_down layout other desk) ≡ counter_value layout counter desk
 down_keeps layout names low high inside (CounterVar label) (CounterVar other) own named leaves desk =
     put_other desk.at (layout.address other) _ (layout.address label)
-    (λ same. eqb-false label other (not_true (nat_eq label other) leaves) (inside.own_apart label other own named same))
+    (λ same. eqb-false label other (not_true (nat_eq label other) leaves) (inside.counters_apart label other own (inside.counters_own other named) same))
 down_keeps layout names low high inside (CounterVar label) CounterY own named leaves desk = refl
 down_keeps layout names low high inside CounterY (CounterVar other) own named leaves desk = refl
 down_keeps layout names low high inside CounterY CounterY own named leaves desk = absurd (cc)
@@ -267,7 +267,7 @@ fill_keeps : (layout : Layout) (names : Names) (low high : ℕ) → Inside layou
 fill_keeps layout names low high inside (CounterVar label) own (StartVar first) count named leaves at desk after e =
     ap (λ at. at (layout.address label)) e
     ∙ filled_other (fill_place layout (StartVar first)) count desk.at (layout.address label)
-    (λ k few same. beyond (inside.own_apart label (first + k) own (inside.rows_own first count k named few) same) few
+    (λ k few same. beyond (inside.counters_apart label (first + k) own (inside.rows_own first count k named few) same) few
     (not_true (nat_le first label && nat_lt label (first + count)) leaves))
   where
     beyond : {k : ℕ} → label ≡ first + k → k < count → (nat_le first label && nat_lt label (first + count)) ≡ false → ⊥
@@ -277,7 +277,7 @@ fill_keeps layout names low high inside (CounterVar label) own (StartVar first) 
       within true false ea eb h = let out = ltb-false label (first + count) eb in omega arith
       within true true ea eb h = absurd (cc)
 fill_keeps layout names low high inside (CounterVar label) own (StartRegister register) count named leaves at desk after e =
-    let under = inside.own_high label own in
+    let under = inside.own_high label (inside.counters_own label own) in
     ap (λ at. at (layout.address label)) e
     ∙ filled_other (fill_place layout (StartRegister register)) count desk.at (layout.address label)
     (λ k few same. omega arith)

@@ -16,7 +16,8 @@ pub record Inside (layout : Layout) (names : Names) (low high : ℕ) : Type 0 wh
   pub own_high : (label : ℕ) → names.is_own label ≡ true → layout.address label < 0xD000
   pub own_outside : (label : ℕ) → names.is_own label ≡ true →
       (layout.address label < low) ⊎ (high ≤ layout.address label)
-  pub own_apart : (label other : ℕ) → names.is_own label ≡ true → names.is_own other ≡ true →
+  pub counters_own : (label : ℕ) → names.is_counter label ≡ true → names.is_own label ≡ true
+  pub counters_apart : (label other : ℕ) → names.is_counter label ≡ true → names.is_own other ≡ true →
       layout.address label ≡ layout.address other → label ≡ other
   pub voices : (label voice : ℕ) → names.is_voice label ≡ true → voice < 3 →
       layout.address label + 7 * voice ≡ layout.address (label + 7 * voice)
@@ -70,7 +71,8 @@ site_inside site stands =
       own_low = λ label own. omega arith;
       own_high = λ label own. let under = stands.own_inside label own in omega arith;
       own_outside = stands.own_outside;
-      own_apart = stands.own_apart;
+      counters_own = stands.counters_own;
+      counters_apart = stands.counters_apart;
       voices = stands.voices;
       voices_own = stands.voices_own;
       rows = stands.rows;

@@ -210,7 +210,7 @@ counter_found : (layout : Layout) (names : Names) (low high : ℕ) → Inside la
     (voice : ℕ) (counter : Counter) → names_counter names counter ≡ true →
     FoundCounter layout (the_room layout names X voice) counter
 counter_found layout names low high inside X voice (CounterVar label) named =
-    (inside.labels label, AtOwn label named refl)
+    (inside.labels label, AtOwn label (inside.counters_own label named) refl)
 counter_found layout names low high inside X voice CounterY named = tt
 
 count_parts : (count : ℕ) → is_count count ≡ true → (0 < count) × (count < 256)

@@ -15,17 +15,19 @@ from_origin : (origin k : ℕ) → origin + (0 + k) - origin ≡ 0 + k
 from_origin origin k = omega arith
 
 -- where no voice's byte and no fill is named, the labels of the block's own are in their places alone
-in_place_of : (layout : Layout) (own registers : ℕ → Bool) (start end low high : ℕ) → 0x0800 ≤ start → end ≤ 0xD000 →
+in_place_of : (layout : Layout) (own counters registers : ℕ → Bool) (start end low high : ℕ) → 0x0800 ≤ start → end ≤ 0xD000 →
     2 ≤ layout.pointer → layout.pointer ≤ 254 → ((label : ℕ) → own label ≡ true → layout.address label < end) →
     ((label : ℕ) → own label ≡ true → (layout.address label < low) ⊎ (high ≤ layout.address label)) →
-    ((label other : ℕ) → own label ≡ true → own other ≡ true → layout.address label ≡ layout.address other →
-    label ≡ other) → InPlace layout (names_of own registers) start end low high
-in_place_of layout own registers start end low high begins ends pointer_low pointer_high inside outside apart = record {
+    ((label : ℕ) → counters label ≡ true → own label ≡ true) →
+    ((label other : ℕ) → counters label ≡ true → own other ≡ true → layout.address label ≡ layout.address other →
+    label ≡ other) → InPlace layout (names_of own counters registers) start end low high
+in_place_of layout own counters registers start end low high begins ends pointer_low pointer_high inside outside among apart = record {
   begins = begins;
   ends = ends;
   own_inside = inside;
   own_outside = outside;
-  own_apart = apart;
+  counters_own = among;
+  counters_apart = apart;
   voices = λ label voice e few. absurd (false≢true e);
   voices_own = λ label voice e few. absurd (false≢true e);
   rows = λ label count k e few. absurd (false≢true e);
@@ -39,9 +41,10 @@ loud_placed = record {
   sound = refl;
   named = refl;
   assembles = refl;
-  in_place = in_place_of (layout_at loud_site) (λ label. false) (λ register. nat_eq register 24) 0x1000 0x1005 0x1000 0x1005
+  in_place = in_place_of (layout_at loud_site) (λ label. false) (λ label. false) (λ register. nat_eq register 24) 0x1000 0x1005 0x1000 0x1005
       (omega arith) (omega arith) (omega arith) (omega arith) (λ label e. absurd (false≢true e))
-      (λ label e. absurd (false≢true e)) (λ label other e f same. absurd (false≢true e));
+      (λ label e. absurd (false≢true e)) (λ label e. absurd (false≢true e))
+      (λ label other e f same. absurd (false≢true e));
 }
 
 loud_entered : Enters loud_site (state_with loud_bytes)
@@ -95,19 +98,17 @@ counted_outside label e =
       | inr h ↦ rw h (inr (omega arith))
     ]
 
-counted_apart : (label other : ℕ) → is_counted_label label ≡ true → is_counted_label other ≡ true →
+counter_own : (label : ℕ) → nat_eq label 4 ≡ true → is_counted_label label ≡ true
+counter_own label e = ap is_counted_label (eqb-true label 4 e)
+
+counter_apart : (label other : ℕ) → nat_eq label 4 ≡ true → is_counted_label other ≡ true →
     (layout_at down_site).address label ≡ (layout_at down_site).address other → label ≡ other
-counted_apart label other e f same =
+counter_apart label other e f same =
     let at = (layout_at down_site).address in
-    elim (three_or_four label e) [
-      | inl h ↦ elim (three_or_four other f) [
-        | inl g ↦ h ∙ sym g
-        | inr g ↦ absurd (differ 0x101A 0x101B refl (ap at (sym h) ∙ same ∙ ap at g))
-      ]
-      | inr h ↦ elim (three_or_four other f) [
-        | inl g ↦ absurd (differ 0x101A 0x101B refl (ap at (sym g) ∙ sym same ∙ ap at h))
-        | inr g ↦ h ∙ sym g
-      ]
+    let h = eqb-true label 4 e in
+    elim (three_or_four other f) [
+      | inl g ↦ absurd (differ 0x101A 0x101B refl (ap at (sym g) ∙ sym same ∙ ap at h))
+      | inr g ↦ h ∙ sym g
     ]
 
 down_placed : IsWellPlaced down_site
@@ -115,8 +116,9 @@ down_placed = record {
   sound = refl;
   named = refl;
   assembles = refl;
-  in_place = in_place_of (layout_at down_site) is_counted_label (λ register. false) 0x1000 0x101C 0x1000 0x101A
-      (omega arith) (omega arith) (omega arith) (omega arith) counted_inside counted_outside counted_apart;
+  in_place = in_place_of (layout_at down_site) is_counted_label (λ label. nat_eq label 4) (λ register. false) 0x1000 0x101C
+      0x1000 0x101A (omega arith) (omega arith) (omega arith) (omega arith) counted_inside counted_outside counter_own
+      counter_apart;
 }
 
 down_entered : Enters down_site (state_with down_bytes)

@@ -13,10 +13,12 @@ use Rattle.blocks.specs.Trees.{FillTree}
 use Rattle.blocks.specs.Desk.{Layout, sid_place, timer_place}
 use Rattle.blocks.specs.Steps.{condition_of}
 
--- the labels of bytes of the block's own, those of the first voice's bytes, those from which on so many bytes are
--- filled, and those of tables, whose entries are read alone; and the SID registers and timer bytes that are written
+-- the labels of bytes of the block's own, those of counters among them, those of the first voice's bytes, those from
+-- which on so many bytes are filled, and those of tables, whose entries are read alone; and the SID registers and timer
+-- bytes that are written
 pub record Names : Type 0 where
   pub is_own : ℕ → Bool
+  pub is_counter : ℕ → Bool
   pub is_voice : ℕ → Bool
   pub is_row : ℕ → ℕ → Bool
   pub is_table : ℕ → Bool
@@ -27,6 +29,7 @@ pub record Names : Type 0 where
 abbrev pub any_of : (ℕ → Bool) → Names
 any_of labels = record {
   is_own = labels;
+  is_counter = labels;
   is_voice = labels;
   is_row = λ label count. labels label;
   is_table = labels;
@@ -94,7 +97,7 @@ names_condition names (Less operand) = names_operand names operand
 names_condition names (YEqual number) = true
 
 abbrev pub names_counter : Names → Counter → Bool
-names_counter names (CounterVar label) = names.is_own label
+names_counter names (CounterVar label) = names.is_counter label
 names_counter names CounterY = true
 
 -- whether so many numbers from a first one on are all meant
@@ -122,16 +125,17 @@ names_tree names (WhenTree bit body) = names_tree names body
 names_tree names (FillTree start count) = names_fill names start count
 
 -- the addresses of labels in a listing that stands from start up to end, from $0800 up to $D000, and holds a block's
--- lines from low up to high: the bytes that the block names are bytes of the listing outside these lines, no two of
--- them at one place; the bytes of voices are 7 apart, and those of a fill stand one behind the other; the pointer is in
--- page 0
+-- lines from low up to high: the bytes that the block names are bytes of the listing outside these lines; a counter is
+-- one of them, and no other stands at its place; the bytes of voices are 7 apart, and those of a fill stand one behind
+-- the other; the pointer is in page 0
 pub record InPlace (layout : Layout) (names : Names) (start end low high : ℕ) : Type 0 where
   pub begins : 0x0800 ≤ start
   pub ends : end ≤ 0xD000
   pub own_inside : (label : ℕ) → names.is_own label ≡ true → layout.address label < end
   pub own_outside : (label : ℕ) → names.is_own label ≡ true →
       (layout.address label < low) ⊎ (high ≤ layout.address label)
-  pub own_apart : (label other : ℕ) → names.is_own label ≡ true → names.is_own other ≡ true →
+  pub counters_own : (label : ℕ) → names.is_counter label ≡ true → names.is_own label ≡ true
+  pub counters_apart : (label other : ℕ) → names.is_counter label ≡ true → names.is_own other ≡ true →
       layout.address label ≡ layout.address other → label ≡ other
   pub voices : (label voice : ℕ) → names.is_voice label ≡ true → voice < 3 →
       layout.address label + 7 * voice ≡ layout.address (label + 7 * voice)

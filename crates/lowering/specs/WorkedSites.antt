@@ -45,10 +45,11 @@ pub record ComesTo (site : Site) (bytes : List ℕ) (steps end place byte : ℕ)
   pub pc : after.cpu.pc ≡ end
   pub is : after.at place ≡ byte
 
--- labels of the block's own and registers, and no other
-abbrev pub names_of : (ℕ → Bool) → (ℕ → Bool) → Names
-names_of own registers = record {
+-- labels of the block's own, counters among them, and registers, and no other
+abbrev pub names_of : (ℕ → Bool) → (ℕ → Bool) → (ℕ → Bool) → Names
+names_of own counters registers = record {
   is_own = own;
+  is_counter = counters;
   is_voice = λ label. false;
   is_row = λ label count. false;
   is_table = λ label. false;
@@ -58,7 +59,7 @@ names_of own registers = record {
 
 -- the volume's register alone is named
 abbrev pub loud_site : Site
-loud_site = site_of loud [] (names_of (λ label. false) (λ register. nat_eq register 24))
+loud_site = site_of loud [] (names_of (λ label. false) (λ label. false) (λ register. nat_eq register 24))
 
 -- LDA #$0F, STA $D418
 abbrev pub loud_bytes : List ℕ
@@ -88,7 +89,7 @@ abbrev pub is_counted_label : ℕ → Bool
 is_counted_label label = nat_eq label 3 || nat_eq label 4
 
 abbrev pub down_site : Site
-down_site = site_of (down 5) counted_bytes (names_of is_counted_label (λ register. false))
+down_site = site_of (down 5) counted_bytes (names_of is_counted_label (λ label. nat_eq label 4) (λ register. false))
 
 -- LDA #5, STA $101B
 abbrev pub set_bytes : List ℕ
