@@ -88,6 +88,14 @@ GatesAreWorked =
     }) × (is_sound gates ≡ true) × (is_sound_in true gates ≡ false) × (size gates ≡ 18) × (label_count gates ≡ 1)
     × (weight gates ≡ 26) × (own_cost gates ≡ node_cost 4 14)
 
+-- each voice's byte is one more, once
+abbrev pub VoicesAreCounted : Type 0
+VoicesAreCounted =
+    (meaning laid (EachVoiceTree (ChainTree (Inc (HeldCounted (VoiceVar 3)) ∷ []))) 0 (record (desk 7 9 false) {
+      at = three;
+    })).at
+    ≡ put (put (put three 0x1003 12) 0x100A 13) 0x1011 14
+
 -- a part alone: its body where the bit is kept, and else nothing
 abbrev pub only : Bool → Layout
 only kept = record laid { is_kept = λ bit. kept }

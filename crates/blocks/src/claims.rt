@@ -11,6 +11,7 @@ ghost use Rattle.blocks.specs.WorkedShapes.{FoundBytesAreWorked};
 ghost use Rattle.blocks.specs.WorkedSteps.{LoadsAreWorked, StoresAreWorked, SumsAreWorked, BitsAreWorked};
 ghost use Rattle.blocks.specs.WorkedSteps.{CountsAreWorked, HalvesAreWorked, TestsAreWorked, ComparisonsAreWorked};
 ghost use Rattle.blocks.specs.WorkedBlocks.{LoudIsWorked, DownIsWorked, TwiceIsWorked, GatesAreWorked, PartIsWorked};
+ghost use Rattle.blocks.specs.WorkedBlocks.{VoicesAreCounted};
 ghost use Rattle.blocks.specs.WorkedBlocks.{FillsAreWorked, SidesAreWorked, LoopsAreWorked, KnownIsWorked};
 ghost use Rattle.blocks.specs.WorkedBlocks.{CountersAreWorked, WordsAreWorked};
 
@@ -46,6 +47,7 @@ pub fn worked_blocks()
     ensures down { DownIsWorked }
     ensures twice { TwiceIsWorked }
     ensures gates { GatesAreWorked }
+    ensures voices { VoicesAreCounted }
     ensures part { PartIsWorked }
     ensures fills { FillsAreWorked }
     ensures sides { SidesAreWorked }
