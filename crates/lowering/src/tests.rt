@@ -45,7 +45,7 @@ fn place_at(origin: u16) -> Site {
     Site {
         origin,
         pointer: 0xfc,
-        kept: 5,
+        kept: 1 << 5,
     }
 }
 

@@ -106,7 +106,7 @@ const LOADS: [Row; 10] = [
 ];
 
 /// Sums, differences and bits.
-const SUMS: [Row; 15] = [
+const SUMS: [Row; 18] = [
     Row(
         &[Step::Add(Summand::Plain(Operand::Const(55)))],
         (200, 9, true),
@@ -135,6 +135,24 @@ const SUMS: [Row; 15] = [
         &[Step::Add(Summand::Entry(0))],
         (10, 2, false),
         (139, 2, false, false, true),
+        (1, 1),
+    ),
+    Row(
+        &[Step::AddOn(Summand::Entry(0))],
+        (10, 2, true),
+        (140, 2, false, false, true),
+        (1, 1),
+    ),
+    Row(
+        &[Step::Sub(Summand::Entry(0))],
+        (10, 2, false),
+        (137, 2, false, false, true),
+        (1, 1),
+    ),
+    Row(
+        &[Step::SubOn(Summand::Entry(0))],
+        (10, 2, false),
+        (136, 2, false, false, true),
         (1, 1),
     ),
     Row(
@@ -314,9 +332,15 @@ fn mark(alloc: Global, byte: u8) -> Result<Block, Fail> {
     Ok(chain(alloc, &steps)?)
 }
 
-/// Which side of a choice is taken, by a test.
-fn side(bench: &mut Bench, alloc: Global, test: Test, before: (u8, u8, bool)) -> Result<u8, Fail> {
-    let block = choose(alloc, &[], test, mark(alloc, 1)?, mark(alloc, 2)?)?;
+/// Which side of a choice is taken, by steps and a test.
+fn side(
+    bench: &mut Bench,
+    alloc: Global,
+    steps: &[Step],
+    test: Test,
+    before: (u8, u8, bool),
+) -> Result<u8, Fail> {
+    let block = choose(alloc, steps, test, mark(alloc, 1)?, mark(alloc, 2)?)?;
     bench.run(
         alloc,
         &block,
@@ -332,11 +356,46 @@ fn tests_at_their_edges(rt: HostRuntime) -> Result<(), Fail> {
     let mut bench = Bench::new(alloc)?;
     for Question(condition, before, holds) in QUESTIONS {
         let (met, unmet) = if holds { (1, 2) } else { (2, 1) };
-        assert_eq!(rt; side(&mut bench, alloc, Test::Is(condition), before)?, met);
         assert_eq!(rt;
-            side(&mut bench, alloc, Test::Not(condition), before)?,
+            side(&mut bench, alloc, &[], Test::Is(condition), before)?,
+            met
+        );
+        assert_eq!(rt;
+            side(&mut bench, alloc, &[], Test::Not(condition), before)?,
             unmet
         );
+    }
+    assert!(rt; bench.is_same());
+    Ok(())
+}
+
+/// A byte that is loaded, and whether zero and minus hold behind it.
+const SHOWN: [(u8, bool, bool); 5] = [
+    (0, true, false),
+    (1, false, false),
+    (127, false, false),
+    (128, false, true),
+    (255, false, true),
+];
+
+#[test]
+fn zero_and_minus_at_their_edges(rt: HostRuntime) -> Result<(), Fail> {
+    let alloc = rt.alloc();
+    let mut bench = Bench::new(alloc)?;
+    for (byte, zero, minus) in SHOWN {
+        let load = [Step::Load(Source::number(byte))];
+        for (condition, holds) in [(Condition::Zero, zero), (Condition::Minus, minus)] {
+            let (met, unmet) = if holds { (1, 2) } else { (2, 1) };
+            let before = (7, 9, false);
+            assert_eq!(rt;
+                side(&mut bench, alloc, &load, Test::Is(condition), before)?,
+                met
+            );
+            assert_eq!(rt;
+                side(&mut bench, alloc, &load, Test::Not(condition), before)?,
+                unmet
+            );
+        }
     }
     assert!(rt; bench.is_same());
     Ok(())

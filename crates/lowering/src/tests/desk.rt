@@ -11,14 +11,15 @@ use cpu6502::Memory;
 pub(super) struct Layout {
     pub(super) base: u16,
     pub(super) pointer: u8,
-    /// The one bit that is kept.
-    pub(super) kept: u8,
+    /// The bits that are kept, as a set.
+    pub(super) kept: u32,
 }
 
-/// The memory, and what steps speak of.
+/// The memory, how many bodies of parts were done, and what steps speak of.
 #[derive(Drop)]
 pub(super) struct Desk {
     pub(super) memory: Memory,
+    pub(super) parts: u32,
     pub(super) a: u8,
     pub(super) y: u8,
     pub(super) carry: bool,
@@ -29,6 +30,10 @@ pub(super) struct Desk {
 impl Layout {
     fn address(self, label: u16) -> u16 {
         self.base.wrapping_add(label)
+    }
+
+    fn keeps(self, bit: u8) -> bool {
+        self.kept.wrapping_shr(u32::from(bit)) % 2 == 1
     }
 
     fn cell(self, voice: u16, cell: Cell) -> u16 {
@@ -257,7 +262,8 @@ impl Desk {
                 self.a = 21;
             }
             Block::When(bit, body) => {
-                if *bit == layout.kept {
+                if layout.keeps(*bit) {
+                    self.parts = self.parts.wrapping_add(1);
                     self.mean(layout, voice, body);
                 }
             }

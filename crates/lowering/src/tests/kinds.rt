@@ -45,17 +45,25 @@ const DOWN: [(u8, u8, u8, u8); 8] = [
     (255, 10, 0, 245),
 ];
 
+/// A loop that counts the byte under label 3 down until it is 0.
+fn down(alloc: Global, counter: Counter, count: u8) -> Result<Block, Fail> {
+    let body = sub(alloc, Cell::Var(3), Operand::Const(1))?;
+    let test = ByteTest::Equal(Operand::var(3), Operand::Const(0));
+    Ok(until_holds(alloc, test, counter, count, body)?)
+}
+
 #[test]
 fn turns_end_by_test_or_count(rt: HostRuntime) -> Result<(), Fail> {
     let alloc = rt.alloc();
     let mut bench = Bench::new(alloc)?;
     for (count, from, left, turns) in DOWN {
-        let body = sub(alloc, Cell::Var(3), Operand::Const(1))?;
-        let test = ByteTest::Equal(Operand::var(3), Operand::Const(0));
-        let block = until_holds(alloc, test, Counter::Var(4), count, body)?;
+        let by_byte = down(alloc, Counter::Var(4), count)?;
+        let by_y = down(alloc, Counter::Y, count)?;
         for origin in ORIGINS {
-            run(&mut bench, alloc, &block, place_at(origin), from, true)?;
+            run(&mut bench, alloc, &by_byte, place_at(origin), from, true)?;
             assert_eq!(rt; (bench.byte(3), bench.byte(4)), (left, turns));
+            run(&mut bench, alloc, &by_y, place_at(origin), from, true)?;
+            assert_eq!(rt; (bench.byte(3), bench.machine.cpu.y), (left, turns));
         }
     }
     assert!(rt; bench.is_same());
@@ -123,7 +131,7 @@ fn voices_and_parts(rt: HostRuntime) -> Result<(), Fail> {
     let mut begin = begin(7, 9, false);
     begin.bytes[9] = 12;
     begin.bytes[16] = 13;
-    for (kept, times) in [(5, 1), (6, 0)] {
+    for (kept, times) in [(1 << 5, 1), (1 << 6, 0), (u32::MAX, 1), (!(1 << 5), 0)] {
         let place = Site {
             kept,
             ..place_at(0x1000)

@@ -38,6 +38,11 @@ impl Maker {
         low
     }
 
+    /// A set of about half of the bits.
+    fn set(&mut self) -> u32 {
+        u32::from_le_bytes([self.byte(), self.byte(), self.byte(), self.byte()])
+    }
+
     fn is_heads(&mut self) -> bool {
         self.below(2) == 0
     }
@@ -162,9 +167,10 @@ impl Maker {
     }
 
     #[cycle(making)]
-    fn list(&mut self, alloc: Global, room: Room) -> Result<Block, NoMemory> {
+    fn list(&mut self, alloc: Global, room: Room, least: u32) -> Result<Block, NoMemory> {
         let mut blocks = Vec::new(alloc);
-        for _ in 0..self.below(4) {
+        let more = self.below(4);
+        for _ in 0..least.saturating_add(more) {
             blocks.push(self.block(alloc, room)?)?;
         }
         Ok(seq(blocks))
@@ -234,7 +240,7 @@ impl Maker {
         let depth = room.depth - 1;
         let inner = Room { depth, ..room };
         match self.below(8) {
-            0 | 1 => self.list(alloc, inner),
+            0 | 1 => self.list(alloc, inner, 0),
             2 | 3 => self.choice(alloc, inner),
             4 => self.turns(alloc, inner),
             5 if !room.in_voices => self.voices(alloc, inner),
@@ -260,7 +266,7 @@ impl Maker {
     }
 }
 
-/// 200 blocks, each sound, on two machines.
+/// 200 blocks of one child at least, each sound, on two machines that keep about half of the parts.
 #[test]
 fn random_blocks_do_what_they_mean(rt: HostRuntime) -> Result<(), Fail> {
     let alloc = rt.alloc();
@@ -274,10 +280,10 @@ fn random_blocks_do_what_they_mean(rt: HostRuntime) -> Result<(), Fail> {
     for seed in 1..201 {
         let is_known = false;
         let mut maker = Maker { seed, is_known };
-        let block = maker.list(alloc, room)?;
+        let block = maker.list(alloc, room, 1)?;
         assert!(rt; is_sound(&block));
         for origin in [0x0800, 0x5a5a] {
-            let kept = maker.byte() % 32;
+            let kept = maker.set();
             let pointer = maker.byte() % 253 + 2;
             let place = Site {
                 origin,
@@ -288,5 +294,6 @@ fn random_blocks_do_what_they_mean(rt: HostRuntime) -> Result<(), Fail> {
         }
     }
     assert!(rt; bench.is_same());
+    assert!(rt; bench.parts() >= 100);
     Ok(())
 }

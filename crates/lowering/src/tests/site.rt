@@ -31,7 +31,8 @@ pub(super) struct Begin {
 pub(super) struct Site {
     pub(super) origin: u16,
     pub(super) pointer: u8,
-    pub(super) kept: u8,
+    /// The bits that are kept, as a set.
+    pub(super) kept: u32,
 }
 
 /// A machine and a desk, side by side: what the machine is behind a block's last line, and the desk that the block
@@ -78,9 +79,8 @@ fn assembled(alloc: Global, block: &Block, site: Site, bytes: &[u8]) -> Result<A
     if !listing.is_within_limits() {
         return Err("too many lines".into());
     }
-    let set = FeatureBits(1_u32.wrapping_shl(u32::from(site.kept)));
     Ok(
-        assemble(alloc, &listing, site.origin, set)
+        assemble(alloc, &listing, site.origin, FeatureBits(site.kept))
             .ok()
             .ok_or("refused")?,
     )
@@ -150,6 +150,7 @@ impl Bench {
             },
             desk: Desk {
                 memory: memory_of(alloc)?,
+                parts: 0,
                 a: 0,
                 y: 0,
                 carry: false,
@@ -232,6 +233,11 @@ impl Bench {
     /// The machine's byte under a label.
     pub(super) fn byte(&self, label: u16) -> u8 {
         self.machine.memory.read(self.base.wrapping_add(label))
+    }
+
+    /// How many bodies of parts were done.
+    pub(super) fn parts(&self) -> u32 {
+        self.desk.parts
     }
 
     /// The machine's A, Y, carry, zero and minus.
