@@ -34,8 +34,8 @@ own_cycles tree = (own_cost tree).once + (own_cost tree).turn
 abbrev pub whole_cycles : Tree → ℕ
 whole_cycles tree = over_nodes own_cycles tree
 
--- the least number of cycles that the rules of a bound admit: a loop's turns as often as it counts, the greater side
--- of an If, and a part where it is kept
+-- cycles of the whole with the kept parts: of an If its own lines and the greater side, of a loop its turns as often as
+-- it counts, of a part its body where it is kept
 abbrev pub least : (ℕ → Bool) → Tree → ℕ
 least is_kept (ChainTree steps) = (steps_cost steps).cycles
 least is_kept NoneTree = 0

@@ -1,4 +1,4 @@
-//! The language in which the player is written: chains of steps, choices and loops, as a person writes for the 6502.
+//! A language for the code of a 6502 player: chains of steps, choices and loops, as a person writes for the 6502.
 //!
 //! Its leaves are the processor's own steps, and what a block means is said on a desk: the memory, A, Y and the flags
 //! carry, zero and minus. Its one contract: each builder and each form on named bytes answers a block of exactly the tree
