@@ -1,5 +1,5 @@
 -- What blocks read by Y, worked by hand.
-use Rattle.std.specs.Prelude.{◌≡◌, ◌⊎◌, false, true, [], ◌∷◌}
+use Rattle.std.specs.Prelude.{◌≡◌, ℕ, ◌⊎◌, false, true, [], ◌∷◌}
 use Rattle.code_runs.specs.Runs.{put}
 use Rattle.blocks.specs.Words.{Var, Const, Entry, Direct, Byte, HeldPlace, IntoY, Load, Store, Index, Add, AddOn, Sub}
 use Rattle.blocks.specs.Words.{SubOn, Zero, Minus, Carry, Is, CounterY}
@@ -15,6 +15,18 @@ third = ChainTree (Index (Const 2) ∷ Load (Direct (Entry 3)) ∷ Store (HeldPl
 -- only where a byte isn't 0
 abbrev pub third_or_none : Tree
 third_or_none = IfTree (load_byte 1 ∷ []) (Is Zero) NoneTree third
+
+-- and only where a byte is 0
+abbrev pub third_at_zero : ℕ → Tree
+third_at_zero label = IfTree (load_byte label ∷ []) (Is Zero) third NoneTree
+
+-- where the byte under label 1 isn't 0 the first side isn't taken, and reads nothing; where the one under label 3 is 0
+-- it reads, and the second one doesn't
+abbrev pub SidesReadWhereTaken : Type 0
+SidesReadWhereTaken =
+    Reads (λ place. ⊥) laid (third_at_zero 1) 0 (desk 7 9 true)
+    × (Reads (λ place. ⊥) laid (third_at_zero 3) 0 (desk 7 9 true) → ⊥)
+    × Reads (λ place. ⊥) laid (IfTree (load_byte 3 ∷ []) (Is Zero) NoneTree third) 0 (desk 7 9 true)
 
 -- it stands at $1005, and that is read where the byte under label 1 isn't 0; a part that isn't kept reads nothing
 abbrev pub EntriesAreWorked : Type 0

@@ -15,14 +15,20 @@ use Rattle.blocks.specs.WorkedBlocks.{load_number, load_byte, store_byte, loud, 
 abbrev pub all : ℕ → Bool
 all bit = true
 
--- a fill of nine bytes, a part, and two blocks one after the other: the instructions that are run at most, and the
--- least bound, with the part kept and without it
+-- a fill of nine bytes, a part, two blocks one after the other, and choices of sides that differ: the instructions that
+-- are run at most, and the cycles of the whole, with the part kept and without it
 pub record WeightsAreWorked : Type 0 where
   pub of_fill : (weight (FillTree (StartVar 4) 9) ≡ 29) × (least all (FillTree (StartVar 4) 9) ≡ 103)
   pub of_part : (weight part ≡ 2) × (least all part ≡ 6) × (least (λ bit. false) part ≡ 0)
   pub of_row : (weight (ThenTree loud (ThenTree part NoneTree)) ≡ 4)
       × (least all (ThenTree loud (ThenTree part NoneTree)) ≡ 12)
       × (least (λ bit. false) (ThenTree loud (ThenTree part NoneTree)) ≡ 6)
+  pub of_sides : (weight (IfTree [] (Is Zero) (doubles 2) (doubles 5)) ≡ 6)
+      × (least all (IfTree [] (Is Zero) (doubles 2) (doubles 5)) ≡ 17)
+      × (weight (IfTree [] (Is Zero) (doubles 5) (doubles 2)) ≡ 7)
+      × (least all (IfTree [] (Is Zero) (doubles 5) (doubles 2)) ≡ 17)
+      × (least all (IfTree [] (Is Zero) (doubles 2) NoneTree) ≡ 8) × (least all (IfTree [] (Is Zero) part (doubles 1)) ≡ 13)
+      × (least (λ bit. false) (IfTree [] (Is Zero) part (doubles 1)) ≡ 9)
   pub of_y : (weight twice ≡ 9) × (least all twice ≡ 34)
   pub of_voices : (weight gates ≡ 26) × (least all gates ≡ 76)
 
@@ -82,6 +88,16 @@ pub record LoopsAreKnown : Type 0 where
   pub behind_voices : known (EachVoiceTree (ChainTree (Index (Const 3) ∷ []))) none
       ≡ either (either the_acc the_y) (either the_carry the_shown)
   pub behind_nothing : known (EachVoiceTree NoneTree) none ≡ either the_acc (either the_carry the_shown)
+
+-- what is known behind a choice: A where both sides load it, and not where one of them alone does; and behind a fill A,
+-- Y and what it shows, and what was known before
+pub record SidesAreKnown : Type 0 where
+  pub behind_both : known (IfTree [] (Is Zero) (ChainTree (load_number 1 ∷ [])) (ChainTree (load_byte 3 ∷ []))) none
+      ≡ either the_acc the_shown
+  pub behind_first : known (IfTree [] (Is Zero) (ChainTree (load_number 1 ∷ [])) NoneTree) the_y ≡ the_y
+  pub behind_second : known (IfTree [] (Is Zero) NoneTree (ChainTree (load_number 1 ∷ []))) the_y ≡ the_y
+  pub behind_fill : known (FillTree (StartVar 4) 9) the_carry
+      ≡ either the_carry (either the_acc (either the_y the_shown))
 
 -- a byte that a loop's test has found is stored where each way sets it: by the loop's steps, and read again behind it,
 -- but not straight behind a loop whose body leaves another byte in A

@@ -5,9 +5,9 @@ ghost use Rattle.blocks.specs.StepLaws.{DifferencesAreOfBytes, TestsAreOfBytes};
 ghost use Rattle.blocks.specs.WorkedCosts.{LoadsCost, StoresCost, SumsCost, ChangesCost, TestsCost, ChoicesCost};
 ghost use Rattle.blocks.specs.WorkedCosts.{RepeatsCost, KindsCost};
 ghost use Rattle.blocks.specs.WorkedReads.{EntriesAreWorked, SumsReadEntries, RowsReadOn, TurnsReadOn, VoicesReadEach};
-ghost use Rattle.blocks.specs.WorkedReads.{ByPointerIsWorked};
+ghost use Rattle.blocks.specs.WorkedReads.{SidesReadWhereTaken, ByPointerIsWorked};
 ghost use Rattle.blocks.specs.WorkedShapes.{WeightsAreWorked, LinesAreWorked, EdgesAreWorked, LoopsAreKnown};
-ghost use Rattle.blocks.specs.WorkedShapes.{FoundBytesAreWorked};
+ghost use Rattle.blocks.specs.WorkedShapes.{SidesAreKnown, FoundBytesAreWorked};
 ghost use Rattle.blocks.specs.WorkedSteps.{LoadsAreWorked, StoresAreWorked, SumsAreWorked, BitsAreWorked};
 ghost use Rattle.blocks.specs.WorkedSteps.{CountsAreWorked, HalvesAreWorked, TestsAreWorked, ComparisonsAreWorked};
 ghost use Rattle.blocks.specs.WorkedBlocks.{LoudIsWorked, DownIsWorked, TwiceIsWorked, GatesAreWorked, PartIsWorked};
@@ -57,18 +57,21 @@ pub fn worked_blocks()
     ensures words { WordsAreWorked }
 {}
 
-/// Numbers of blocks by their shape, which of them are in their place, and what is known behind loops, worked by hand.
+/// Numbers of blocks by their shape, which of them are in their place, and what is known behind loops, choices and fills,
+/// worked by hand.
 pub fn worked_shapes()
     ensures weights { WeightsAreWorked }
     ensures lines { LinesAreWorked }
     ensures edges { EdgesAreWorked }
     ensures known { LoopsAreKnown }
+    ensures sides { SidesAreKnown }
     ensures found { FoundBytesAreWorked }
 {}
 
 /// What blocks read by Y, worked by hand.
 pub fn worked_reads()
     ensures entries { EntriesAreWorked }
+    ensures sides { SidesReadWhereTaken }
     ensures sums { SumsReadEntries }
     ensures rows { RowsReadOn }
     ensures turns { TurnsReadOn }
