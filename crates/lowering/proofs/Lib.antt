@@ -26,6 +26,7 @@ mod Isolating
 mod Isolation
 mod Whole
 mod WorkedSites
+mod WorkedVoices
 -- Bytes.
 mod Sizing
 mod OwnLines

@@ -11,7 +11,7 @@ use Rattle.lowering.specs.WorkedSites.{names_of, is_counted_label, state_with, W
 use Rattle.lowering.proofs.Whole.{lowered_blocks_do}
 
 -- a place of the bytes from an origin on
-from_origin : (origin k : ℕ) → origin + (0 + k) - origin ≡ 0 + k
+pub from_origin : (origin k : ℕ) → origin + (0 + k) - origin ≡ 0 + k
 from_origin origin k = omega arith
 
 -- where no voice's byte and no fill is named, the labels of the block's own are in their places alone

@@ -20,3 +20,4 @@ pub mod Lowered
 pub mod Isolation
 -- Claimed: sites that are worked by hand.
 pub mod WorkedSites
+pub mod WorkedVoices

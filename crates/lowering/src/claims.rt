@@ -7,6 +7,7 @@ ghost use Rattle.lowering.specs.OwnLines.{OwnLinesAreCountedOnce, OwnLinesCost, 
 ghost use Rattle.lowering.specs.Passing.{LoweredLinesAreNotRefused};
 ghost use Rattle.lowering.specs.Uses.{LoweredLinesAreAtHome};
 ghost use Rattle.lowering.specs.WorkedSites.{LoudIsLowered, DownIsLowered};
+ghost use Rattle.lowering.specs.WorkedVoices.{EntriesAreLowered};
 
 /// The lines of a sound block do what it means, from any state with a clear decimal flag in whose memory they stand, at
 /// every origin and with every set of kept parts with which the listing around them assembles and is in place: it stands
@@ -47,9 +48,10 @@ pub fn own_lines_cost()
     ensures whole { LinesCost }
 {}
 
-/// Two blocks at `$1000`, worked by hand: their bytes, a site that is well placed, a state that enters it, and where it
+/// Three blocks at `$1000`, worked by hand: their bytes, a site that is well placed, a state that enters it, and where it
 /// comes to. So what the theorem on lowered blocks asks is met there.
 pub fn worked_sites()
     ensures loud { LoudIsLowered }
     ensures down { DownIsLowered }
+    ensures entries { EntriesAreLowered }
 {}
