@@ -55,7 +55,7 @@ operand_stays layout voice (HeldOperand cell) p byte desk after e apart =
 
 -- what is stored at a place stands there
 stored_has : (layout : Layout) (voice : ℕ) (to : Place) (desk : Desk) →
-    HasByte layout voice to desk.acc desk.at (stored layout voice to desk)
+    HasByte layout voice to desk.accumulator desk.at (stored layout voice to desk)
 stored_has layout voice (HeldPlace cell) desk = refl
 stored_has layout voice (Register register) desk = refl
 stored_has layout voice (VoiceRegister register) desk = refl
@@ -93,7 +93,7 @@ far_byte at p l h h1 i i1 eh ei np nq =
     refl
 
 -- what stands at a place, by the byte and the memory that it is stored from
-has_byte : (layout : Layout) (voice : ℕ) (to : Place) (byte : ℕ) (at : ℕ → ℕ) (desk : Desk) → desk.acc ≡ byte →
+has_byte : (layout : Layout) (voice : ℕ) (to : Place) (byte : ℕ) (at : ℕ → ℕ) (desk : Desk) → desk.accumulator ≡ byte →
     desk.at ≡ at → HasByte layout voice to byte at (stored layout voice to desk)
 has_byte layout voice to byte at desk ea em = rw (sym ea, sym em) (stored_has layout voice to desk)
 

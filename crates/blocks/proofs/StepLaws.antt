@@ -24,7 +24,7 @@ pub differences_are_of_bytes : DifferencesAreOfBytes
 differences_are_of_bytes layout voice summand desk la lb =
     let b = summand_byte layout voice summand desk in
     let one = of_carry desk.carry in
-    (ap (λ n. n % 256) (omega arith), passes desk.acc b (one_if (not desk.carry)) (one_if desk.carry) lb one)
+    (ap (λ n. n % 256) (omega arith), passes desk.accumulator b (one_if (not desk.carry)) (one_if desk.carry) lb one)
 
 pub tests_are_of_bytes : TestsAreOfBytes
 tests_are_of_bytes layout voice operand desk la ly lb =

@@ -7,7 +7,7 @@ use Rattle.blocks.specs.Words.{Cell, Var, VoiceVar, Half, Low, High}
 -- the byte at each place of memory; A and Y; the flags C, Z and N
 pub record Desk : Type 0 where
   pub at : ℕ → ℕ
-  pub acc : ℕ
+  pub accumulator : ℕ
   pub y : ℕ
   pub carry : Bool
   pub zero : Bool
@@ -48,8 +48,8 @@ abbrev pub shown : ℕ → Desk → Desk
 shown byte desk = record desk { zero = nat_eq byte 0; minus = nat_le 128 byte }
 
 -- the desk with a byte in A, and shown
-abbrev pub with_acc : ℕ → Desk → Desk
-with_acc byte desk = record desk { acc = byte; zero = nat_eq byte 0; minus = nat_le 128 byte }
+abbrev pub with_accumulator : ℕ → Desk → Desk
+with_accumulator byte desk = record desk { accumulator = byte; zero = nat_eq byte 0; minus = nat_le 128 byte }
 
 -- the desk with a byte in Y, and shown
 abbrev pub with_y : ℕ → Desk → Desk

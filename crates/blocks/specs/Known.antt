@@ -12,7 +12,7 @@ use Rattle.blocks.specs.Steps.{condition_of}
 
 -- a set of registers: A, Y, the two bytes of the pointer, the carry, and zero with minus
 pub record Known : Type 0 where
-  pub acc : Bool
+  pub accumulator : Bool
   pub y : Bool
   pub low : Bool
   pub high : Bool
@@ -21,10 +21,10 @@ pub record Known : Type 0 where
 
 -- no register, one, and those of several sets
 abbrev pub none : Known
-none = record { acc = false; y = false; low = false; high = false; carry = false; shown = false }
+none = record { accumulator = false; y = false; low = false; high = false; carry = false; shown = false }
 
-abbrev pub the_acc : Known
-the_acc = record none { acc = true }
+abbrev pub the_accumulator : Known
+the_accumulator = record none { accumulator = true }
 
 abbrev pub the_y : Known
 the_y = record none { y = true }
@@ -43,7 +43,7 @@ the_shown = record none { shown = true }
 
 abbrev pub either : Known → Known → Known
 either one two = record {
-  acc = one.acc || two.acc;
+  accumulator = one.accumulator || two.accumulator;
   y = one.y || two.y;
   low = one.low || two.low;
   high = one.high || two.high;
@@ -53,7 +53,7 @@ either one two = record {
 
 abbrev pub both : Known → Known → Known
 both one two = record {
-  acc = one.acc && two.acc;
+  accumulator = one.accumulator && two.accumulator;
   y = one.y && two.y;
   low = one.low && two.low;
   high = one.high && two.high;
@@ -63,7 +63,7 @@ both one two = record {
 
 abbrev pub less : Known → Known → Known
 less one two = record {
-  acc = one.acc && not two.acc;
+  accumulator = one.accumulator && not two.accumulator;
   y = one.y && not two.y;
   low = one.low && not two.low;
   high = one.high && not two.high;
@@ -74,7 +74,7 @@ less one two = record {
 -- whether each register of the first set is in the second
 abbrev pub is_within : Known → Known → Bool
 is_within one two =
-    (not one.acc || two.acc) && (not one.y || two.y) && (not one.low || two.low) && (not one.high || two.high)
+    (not one.accumulator || two.accumulator) && (not one.y || two.y) && (not one.low || two.low) && (not one.high || two.high)
     && (not one.carry || two.carry) && (not one.shown || two.shown)
 
 -- what is read of registers
@@ -93,16 +93,16 @@ counted_reads CountedY = the_y
 
 abbrev pub step_reads : Step → Known
 step_reads (Load source) = source_reads source
-step_reads (Store place) = the_acc
+step_reads (Store place) = the_accumulator
 step_reads (Index operand) = none
-step_reads (And operand) = the_acc
-step_reads (Or operand) = the_acc
-step_reads (Xor operand) = the_acc
-step_reads (Add summand) = either the_acc (summand_reads summand)
-step_reads (Sub summand) = either the_acc (summand_reads summand)
-step_reads (AddOn summand) = either (either the_acc the_carry) (summand_reads summand)
-step_reads (SubOn summand) = either (either the_acc the_carry) (summand_reads summand)
-step_reads Double = the_acc
+step_reads (And operand) = the_accumulator
+step_reads (Or operand) = the_accumulator
+step_reads (Xor operand) = the_accumulator
+step_reads (Add summand) = either the_accumulator (summand_reads summand)
+step_reads (Sub summand) = either the_accumulator (summand_reads summand)
+step_reads (AddOn summand) = either (either the_accumulator the_carry) (summand_reads summand)
+step_reads (SubOn summand) = either (either the_accumulator the_carry) (summand_reads summand)
+step_reads Double = the_accumulator
 step_reads (Inc what) = counted_reads what
 step_reads (Dec what) = counted_reads what
 step_reads (HalveAt cell) = none
@@ -112,8 +112,8 @@ abbrev pub condition_reads : Condition → Known
 condition_reads Zero = the_shown
 condition_reads Minus = the_shown
 condition_reads Carry = the_carry
-condition_reads (Equal operand) = the_acc
-condition_reads (Less operand) = the_acc
+condition_reads (Equal operand) = the_accumulator
+condition_reads (Less operand) = the_accumulator
 condition_reads (YEqual number) = the_y
 
 -- what is set of registers
@@ -131,17 +131,17 @@ counted_sets (HeldCounted cell) = the_shown
 counted_sets CountedY = either the_y the_shown
 
 abbrev pub step_sets : Step → Known
-step_sets (Load source) = either the_acc the_shown
+step_sets (Load source) = either the_accumulator the_shown
 step_sets (Store place) = place_sets place
 step_sets (Index operand) = either the_y the_shown
-step_sets (And operand) = either the_acc the_shown
-step_sets (Or operand) = either the_acc the_shown
-step_sets (Xor operand) = either the_acc the_shown
-step_sets (Add summand) = either the_acc (either the_carry the_shown)
-step_sets (Sub summand) = either the_acc (either the_carry the_shown)
-step_sets (AddOn summand) = either the_acc (either the_carry the_shown)
-step_sets (SubOn summand) = either the_acc (either the_carry the_shown)
-step_sets Double = either the_acc (either the_carry the_shown)
+step_sets (And operand) = either the_accumulator the_shown
+step_sets (Or operand) = either the_accumulator the_shown
+step_sets (Xor operand) = either the_accumulator the_shown
+step_sets (Add summand) = either the_accumulator (either the_carry the_shown)
+step_sets (Sub summand) = either the_accumulator (either the_carry the_shown)
+step_sets (AddOn summand) = either the_accumulator (either the_carry the_shown)
+step_sets (SubOn summand) = either the_accumulator (either the_carry the_shown)
+step_sets Double = either the_accumulator (either the_carry the_shown)
 step_sets (Inc what) = counted_sets what
 step_sets (Dec what) = counted_sets what
 step_sets (HalveAt cell) = either the_carry the_shown
@@ -165,7 +165,7 @@ test_sets steps test = either (steps_set steps) (condition_sets (condition_of te
 
 -- a counter is set by A or in Y
 abbrev pub counter_sets : Counter → Known
-counter_sets (CounterVar label) = either the_acc the_shown
+counter_sets (CounterVar label) = either the_accumulator the_shown
 counter_sets CounterY = either the_y the_shown
 
 -- one less shows the counter
@@ -175,10 +175,10 @@ down_sets CounterY = either the_y the_shown
 
 -- a loop over the voices sets A and the flags, a fill A, Y and what it shows
 abbrev pub voices_set : Known
-voices_set = either the_acc (either the_carry the_shown)
+voices_set = either the_accumulator (either the_carry the_shown)
 
 abbrev pub fill_sets : Known
-fill_sets = either the_acc (either the_y the_shown)
+fill_sets = either the_accumulator (either the_y the_shown)
 
 -- the registers that a tree may write: those that any step, test or loop in it sets
 abbrev pub written : Tree → Known

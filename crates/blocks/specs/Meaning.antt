@@ -5,7 +5,7 @@ use Rattle.blocks.specs.Words.{Test, HeldCounted, CountedY, Var, Counter, Counte
 use Rattle.blocks.specs.Words.{StartRegister}
 use Rattle.blocks.specs.Trees.{Tree, ChainTree, NoneTree, ThenTree, IfTree, UntilTree, EachVoiceTree, WhenTree}
 use Rattle.blocks.specs.Trees.{FillTree}
-use Rattle.blocks.specs.Desk.{Desk, Layout, sid_place, with_acc, with_y, with_byte}
+use Rattle.blocks.specs.Desk.{Desk, Layout, sid_place, with_accumulator, with_y, with_byte}
 use Rattle.blocks.specs.Steps.{chained, tested, is_met, counted, one_less}
 
 -- one of two ways, by a test
@@ -14,7 +14,7 @@ by_test test met unmet desk = if is_met test desk then met desk else unmet desk
 
 -- the desk with a number in a counter, by A or in Y
 abbrev pub counter_set : Layout → Counter → ℕ → Desk → Desk
-counter_set layout (CounterVar label) count desk = with_byte (layout.address label) count (with_acc count desk)
+counter_set layout (CounterVar label) count desk = with_byte (layout.address label) count (with_accumulator count desk)
 counter_set layout CounterY count desk = with_y count desk
 
 -- the desk with a counter one less
@@ -30,14 +30,14 @@ turns (suc n) test first turn desk =
 
 -- what is done for a voice: A is 7 times its number, from 0, and shown, and there is no carry
 abbrev pub voice_begun : ℕ → Desk → Desk
-voice_begun voice desk = record (with_acc (7 * voice) desk) { carry = false }
+voice_begun voice desk = record (with_accumulator (7 * voice) desk) { carry = false }
 
 abbrev pub for_voice : ℕ → (ℕ → Desk → Desk) → Desk → Desk
 for_voice voice body desk = body voice (voice_begun voice desk)
 
 -- behind the third voice A is 21, which was compared with 21
 abbrev pub after_voices : Desk → Desk
-after_voices desk = record desk { acc = 21; carry = true; zero = true; minus = false }
+after_voices desk = record desk { accumulator = 21; carry = true; zero = true; minus = false }
 
 abbrev pub for_voices : (ℕ → Desk → Desk) → Desk → Desk
 for_voices body desk = after_voices (for_voice 2 body (for_voice 1 body (for_voice 0 body desk)))
@@ -65,4 +65,4 @@ meaning layout (UntilTree counter count steps test body) voice desk =
 meaning layout (EachVoiceTree body) voice desk = for_voices (meaning layout body) desk
 meaning layout (WhenTree bit body) voice desk = if layout.is_kept bit then meaning layout body voice desk else desk
 meaning layout (FillTree start count) voice desk =
-    record desk { at = filled (fill_place layout start) count desk.at; acc = 0; y = 0; zero = true; minus = false }
+    record desk { at = filled (fill_place layout start) count desk.at; accumulator = 0; y = 0; zero = true; minus = false }

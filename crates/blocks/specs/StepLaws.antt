@@ -9,21 +9,21 @@ use Rattle.blocks.specs.Steps.{operand_byte, summand_byte, stepped, tested, is_m
 -- borrowed
 abbrev pub DifferencesAreOfBytes : Type 0
 DifferencesAreOfBytes =
-    (layout : Layout) (voice : ℕ) (summand : Summand) (desk : Desk) → desk.acc < 256 →
+    (layout : Layout) (voice : ℕ) (summand : Summand) (desk : Desk) → desk.accumulator < 256 →
     summand_byte layout voice summand desk < 256 →
-    ((stepped layout voice (SubOn summand) desk).acc
-    ≡ (desk.acc + 256 - (summand_byte layout voice summand desk + one_if (not desk.carry))) % 256)
+    ((stepped layout voice (SubOn summand) desk).accumulator
+    ≡ (desk.accumulator + 256 - (summand_byte layout voice summand desk + one_if (not desk.carry))) % 256)
     × ((stepped layout voice (SubOn summand) desk).carry
-    ≡ nat_le (summand_byte layout voice summand desk + one_if (not desk.carry)) desk.acc)
+    ≡ nat_le (summand_byte layout voice summand desk + one_if (not desk.carry)) desk.accumulator)
 
 -- a test of A is met exactly where A is the byte, or below it, and one of Y where Y is the number
 abbrev pub TestsAreOfBytes : Type 0
 TestsAreOfBytes =
-    (layout : Layout) (voice : ℕ) (operand : Operand) (desk : Desk) → desk.acc < 256 → desk.y < 256 →
+    (layout : Layout) (voice : ℕ) (operand : Operand) (desk : Desk) → desk.accumulator < 256 → desk.y < 256 →
     operand_byte layout voice operand desk < 256 →
     (is_met (Is (Equal operand)) (tested layout voice [] (Is (Equal operand)) desk)
-    ≡ nat_eq desk.acc (operand_byte layout voice operand desk))
+    ≡ nat_eq desk.accumulator (operand_byte layout voice operand desk))
     × (is_met (Is (Less operand)) (tested layout voice [] (Is (Less operand)) desk)
-    ≡ nat_lt desk.acc (operand_byte layout voice operand desk))
+    ≡ nat_lt desk.accumulator (operand_byte layout voice operand desk))
     × ((number : ℕ) → number < 256 →
     is_met (Is (YEqual number)) (tested layout voice [] (Is (YEqual number)) desk) ≡ nat_eq desk.y number)

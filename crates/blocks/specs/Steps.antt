@@ -10,7 +10,7 @@ use Rattle.blocks.specs.Words.{CountedY}
 use Rattle.blocks.specs.Words.{Step, Load, Store, Index, And, Or, Xor, Add, Sub, AddOn, SubOn, Double, Inc, Dec}
 use Rattle.blocks.specs.Words.{HalveAt, HalveOn}
 use Rattle.blocks.specs.Words.{Condition, Zero, Minus, Carry, Equal, Less, YEqual, Test, Is, Not}
-use Rattle.blocks.specs.Desk.{Desk, Layout, cell_place, sid_place, timer_place, pointer_place, shown, with_acc, with_y}
+use Rattle.blocks.specs.Desk.{Desk, Layout, cell_place, sid_place, timer_place, pointer_place, shown, with_accumulator, with_y}
 use Rattle.blocks.specs.Desk.{with_byte, with_shown_byte}
 
 -- the byte that an operand is
@@ -34,20 +34,20 @@ source_byte layout voice FromY desk = desk.y
 
 -- A is stored; Y shows what it takes
 abbrev pub stored : Layout → ℕ → Place → Desk → Desk
-stored layout voice (HeldPlace cell) desk = with_byte (cell_place layout voice cell) desk.acc desk
-stored layout voice (Register register) desk = with_byte (sid_place register) desk.acc desk
-stored layout voice (VoiceRegister register) desk = with_byte (sid_place register + 7 * voice) desk.acc desk
-stored layout voice (Timer half) desk = with_byte (timer_place half) desk.acc desk
-stored layout voice (Pointer half) desk = with_byte (pointer_place layout half) desk.acc desk
-stored layout voice IntoY desk = with_y desk.acc desk
+stored layout voice (HeldPlace cell) desk = with_byte (cell_place layout voice cell) desk.accumulator desk
+stored layout voice (Register register) desk = with_byte (sid_place register) desk.accumulator desk
+stored layout voice (VoiceRegister register) desk = with_byte (sid_place register + 7 * voice) desk.accumulator desk
+stored layout voice (Timer half) desk = with_byte (timer_place half) desk.accumulator desk
+stored layout voice (Pointer half) desk = with_byte (pointer_place layout half) desk.accumulator desk
+stored layout voice IntoY desk = with_y desk.accumulator desk
 
 -- the desk with a sum in A: its byte, shown, and the carry where it is above 255
 abbrev pub with_sum : ℕ → Desk → Desk
-with_sum sum desk = record (with_acc (sum % 256) desk) { carry = nat_le 256 sum }
+with_sum sum desk = record (with_accumulator (sum % 256) desk) { carry = nat_le 256 sum }
 
 -- the desk with a sum with a byte's complement in A: A less the byte, and one less where the number on the right is 0
 abbrev pub with_difference : ℕ → ℕ → Desk → Desk
-with_difference byte unborrowed desk = with_sum (desk.acc + (255 - byte) + unborrowed) desk
+with_difference byte unborrowed desk = with_sum (desk.accumulator + (255 - byte) + unborrowed) desk
 
 -- the byte that is counted becomes what a rule says of it, and is shown
 abbrev pub counted : Layout → ℕ → (ℕ → ℕ) → Counted → Desk → Desk
@@ -69,20 +69,20 @@ halved place above desk =
 
 -- what a step does
 abbrev pub stepped : Layout → ℕ → Step → Desk → Desk
-stepped layout voice (Load source) desk = with_acc (source_byte layout voice source desk) desk
+stepped layout voice (Load source) desk = with_accumulator (source_byte layout voice source desk) desk
 stepped layout voice (Store place) desk = stored layout voice place desk
 stepped layout voice (Index operand) desk = with_y (operand_byte layout voice operand desk) desk
-stepped layout voice (And operand) desk = with_acc (bit_and desk.acc (operand_byte layout voice operand desk)) desk
-stepped layout voice (Or operand) desk = with_acc (bit_or desk.acc (operand_byte layout voice operand desk)) desk
-stepped layout voice (Xor operand) desk = with_acc (bit_xor desk.acc (operand_byte layout voice operand desk)) desk
-stepped layout voice (Add summand) desk = with_sum (desk.acc + summand_byte layout voice summand desk + 0) desk
+stepped layout voice (And operand) desk = with_accumulator (bit_and desk.accumulator (operand_byte layout voice operand desk)) desk
+stepped layout voice (Or operand) desk = with_accumulator (bit_or desk.accumulator (operand_byte layout voice operand desk)) desk
+stepped layout voice (Xor operand) desk = with_accumulator (bit_xor desk.accumulator (operand_byte layout voice operand desk)) desk
+stepped layout voice (Add summand) desk = with_sum (desk.accumulator + summand_byte layout voice summand desk + 0) desk
 stepped layout voice (Sub summand) desk = with_difference (summand_byte layout voice summand desk) 1 desk
 stepped layout voice (AddOn summand) desk =
-    with_sum (desk.acc + summand_byte layout voice summand desk + one_if desk.carry) desk
+    with_sum (desk.accumulator + summand_byte layout voice summand desk + one_if desk.carry) desk
 stepped layout voice (SubOn summand) desk =
     with_difference (summand_byte layout voice summand desk) (one_if desk.carry) desk
 stepped layout voice Double desk =
-    record (with_acc (2 * desk.acc % 256) desk) { carry = nat_le 128 desk.acc }
+    record (with_accumulator (2 * desk.accumulator % 256) desk) { carry = nat_le 128 desk.accumulator }
 stepped layout voice (Inc what) desk = counted layout voice one_more what desk
 stepped layout voice (Dec what) desk = counted layout voice one_less what desk
 stepped layout voice (HalveAt cell) desk = halved (cell_place layout voice cell) 0 desk
@@ -103,8 +103,8 @@ abbrev pub asked : Layout → ℕ → Condition → Desk → Desk
 asked layout voice Zero desk = desk
 asked layout voice Minus desk = desk
 asked layout voice Carry desk = desk
-asked layout voice (Equal operand) desk = compared desk.acc (operand_byte layout voice operand desk) desk
-asked layout voice (Less operand) desk = compared desk.acc (operand_byte layout voice operand desk) desk
+asked layout voice (Equal operand) desk = compared desk.accumulator (operand_byte layout voice operand desk) desk
+asked layout voice (Less operand) desk = compared desk.accumulator (operand_byte layout voice operand desk) desk
 asked layout voice (YEqual number) desk = compared desk.y number desk
 
 -- whether the condition holds, on that desk

@@ -80,7 +80,7 @@ abbrev pub GatesAreWorked : Type 0
 GatesAreWorked =
     (meaning laid gates 0 (record (desk 7 9 false) { at = three }) ≡ record {
       at = put (put (put three 0xD404 11) 0xD40B 12) 0xD412 13;
-      acc = 21;
+      accumulator = 21;
       y = 9;
       carry = true;
       zero = true;

@@ -6,7 +6,7 @@ use Rattle.blocks.specs.Words.{Zero, Minus, Equal, YEqual, Is, CounterVar, Count
 use Rattle.blocks.specs.Trees.{ChainTree, NoneTree, ThenTree, IfTree, UntilTree, EachVoiceTree, WhenTree}
 use Rattle.blocks.specs.Trees.{FillTree}
 use Rattle.blocks.specs.Places.{is_placed}
-use Rattle.blocks.specs.Known.{none, the_acc, the_y, the_carry, the_shown, either, known}
+use Rattle.blocks.specs.Known.{none, the_accumulator, the_y, the_carry, the_shown, either, known}
 use Rattle.blocks.specs.Sound.{is_sound}
 use Rattle.blocks.specs.Sizes.{line_count, weight}
 use Rattle.blocks.specs.Costs.{whole_cycles, least}
@@ -78,26 +78,26 @@ pub record EdgesAreWorked : Type 0 where
 -- writes it; behind an EachVoice A and the flags, and Y where the body sets it
 pub record LoopsAreKnown : Type 0 where
   pub behind_steps : known (UntilTree (CounterVar 4) 5 (load_byte 3 ∷ []) (Is Zero) NoneTree) none
-      ≡ either the_acc the_shown
+      ≡ either the_accumulator the_shown
   pub behind_body : known (UntilTree CounterY 5 [] (Is Zero) (ChainTree (load_byte 3 ∷ []))) none
       ≡ either the_y the_shown
   pub behind_test : known (UntilTree (CounterVar 4) 5 (load_byte 3 ∷ []) (Is (Equal (Const 0))) NoneTree) none
-      ≡ either the_acc (either the_carry the_shown)
+      ≡ either the_accumulator (either the_carry the_shown)
   pub behind_part : known (UntilTree (CounterVar 4) 5 [] (Is Zero) (WhenTree 5 (ChainTree (load_byte 3 ∷ [])))) the_y
       ≡ the_y
   pub behind_voices : known (EachVoiceTree (ChainTree (Index (Const 3) ∷ []))) none
-      ≡ either (either the_acc the_y) (either the_carry the_shown)
-  pub behind_nothing : known (EachVoiceTree NoneTree) none ≡ either the_acc (either the_carry the_shown)
+      ≡ either (either the_accumulator the_y) (either the_carry the_shown)
+  pub behind_nothing : known (EachVoiceTree NoneTree) none ≡ either the_accumulator (either the_carry the_shown)
 
 -- what is known behind a choice: A where both sides load it, and not where one of them alone does; and behind a fill A,
 -- Y and what it shows, and what was known before
 pub record SidesAreKnown : Type 0 where
   pub behind_both : known (IfTree [] (Is Zero) (ChainTree (load_number 1 ∷ [])) (ChainTree (load_byte 3 ∷ []))) none
-      ≡ either the_acc the_shown
+      ≡ either the_accumulator the_shown
   pub behind_first : known (IfTree [] (Is Zero) (ChainTree (load_number 1 ∷ [])) NoneTree) the_y ≡ the_y
   pub behind_second : known (IfTree [] (Is Zero) NoneTree (ChainTree (load_number 1 ∷ []))) the_y ≡ the_y
   pub behind_fill : known (FillTree (StartVar 4) 9) the_carry
-      ≡ either the_carry (either the_acc (either the_y the_shown))
+      ≡ either the_carry (either the_accumulator (either the_y the_shown))
 
 -- a byte that a loop's test has found is stored where each way sets it: by the loop's steps, and read again behind it,
 -- but not straight behind a loop whose body leaves another byte in A

@@ -15,7 +15,7 @@ use Rattle.blocks.specs.Steps.{one_more, one_less, counted, halved, compared, as
 use Rattle.blocks.specs.Steps.{condition_of}
 use Rattle.blocks.specs.Places.{is_cell, is_operand, is_summand, is_source, is_counted, is_step, are_steps}
 use Rattle.blocks.specs.Places.{is_condition}
-use Rattle.blocks.specs.Known.{Known, the_acc, the_y, the_low, the_high, the_carry, the_shown, either, is_within}
+use Rattle.blocks.specs.Known.{Known, the_accumulator, the_y, the_low, the_high, the_carry, the_shown, either, is_within}
 use Rattle.blocks.specs.Known.{source_reads, summand_reads, counted_reads, counted_sets, place_sets}
 use Rattle.blocks.specs.Known.{step_reads, step_sets, steps_set, steps_read}
 use Rattle.blocks.specs.Known.{condition_reads, condition_sets, test_sets, test_reads}
@@ -24,8 +24,8 @@ use Rattle.lowering.specs.Places.{Names, names_cell, names_operand, names_summan
 use Rattle.lowering.specs.Places.{names_step, names_steps, names_condition}
 use Rattle.lowering.proofs.Inside.{Inside}
 use Rattle.lowering.proofs.Counting.{Voiced}
-use Rattle.lowering.proofs.Alike.{Slot, TheAcc, TheY, TheLow, TheHigh, TheCarry, TheShown, pick, known_when}
-use Rattle.lowering.proofs.Alike.{Same, Alike, or_none, put_on, acc_alike, y_alike, carry_alike, byte_alike}
+use Rattle.lowering.proofs.Alike.{Slot, TheAccumulator, TheY, TheLow, TheHigh, TheCarry, TheShown, pick, known_when}
+use Rattle.lowering.proofs.Alike.{Same, Alike, or_none, put_on, accumulator_alike, y_alike, carry_alike, byte_alike}
 use Rattle.lowering.proofs.Alike.{shown_alike, none_more, regroup, with_carry, shown_with_carry}
 
 -- what two desks share: the addresses of labels, and that the bytes of the block's own are among those that agree
@@ -92,18 +92,18 @@ source_same shared iv voice voiced k one two FromY is named known reads alike =
 -- ---- steps
 
 -- A is known where a step reads it
-acc_same : (shared : Shared) (k : Known) (one two : Desk) (step : Step) → is_within (step_reads step) k ≡ true →
-    pick TheAcc (step_reads step) ≡ true → Alike shared.layout shared.Where k one two → one.acc ≡ two.acc
-acc_same shared k one two step known read alike =
-    alike.same TheAcc (known_when TheAcc (step_reads step) k known read)
+accumulator_same : (shared : Shared) (k : Known) (one two : Desk) (step : Step) → is_within (step_reads step) k ≡ true →
+    pick TheAccumulator (step_reads step) ≡ true → Alike shared.layout shared.Where k one two → one.accumulator ≡ two.accumulator
+accumulator_same shared k one two step known read alike =
+    alike.same TheAccumulator (known_when TheAccumulator (step_reads step) k known read)
 
 sum_alike : {layout : Layout} {Where : ℕ → Type 0} {one two : Desk} (k : Known) (a b : ℕ) → a ≡ b →
     Alike layout Where k one two →
-    Alike layout Where (either k (either the_acc (either the_carry the_shown))) (with_sum a one) (with_sum b two)
+    Alike layout Where (either k (either the_accumulator (either the_carry the_shown))) (with_sum a one) (with_sum b two)
 sum_alike k a b e alike =
     with_carry k
     (carry_alike (nat_le 256 a) (nat_le 256 b) (ap (λ n. nat_le 256 n) e)
-    (acc_alike (a % 256) (b % 256) (ap (λ n. n % 256) e) alike))
+    (accumulator_alike (a % 256) (b % 256) (ap (λ n. n % 256) e) alike))
 
 -- a byte of the pointer
 low_alike : {layout : Layout} {Where : ℕ → Type 0} {one two : Desk} (k : Known) (a b : ℕ) → a ≡ b →
@@ -114,7 +114,7 @@ low_alike {layout = layout} {Where = Where} {one = one} {two = two} k a b e alik
   where
     slot : (s : Slot) → pick s (either k the_low) ≡ true →
         Same layout s (with_byte layout.pointer a one) (with_byte layout.pointer b two)
-    slot TheAcc h = alike.same TheAcc (or_none k.acc h)
+    slot TheAccumulator h = alike.same TheAccumulator (or_none k.accumulator h)
     slot TheY h = alike.same TheY (or_none k.y h)
     slot TheLow h = put_same one.at layout.pointer a ∙ e ∙ sym (put_same two.at layout.pointer b)
     slot TheHigh h =
@@ -131,7 +131,7 @@ high_alike {layout = layout} {Where = Where} {one = one} {two = two} k a b e ali
   where
     slot : (s : Slot) → pick s (either k the_high) ≡ true →
         Same layout s (with_byte (layout.pointer + 1) a one) (with_byte (layout.pointer + 1) b two)
-    slot TheAcc h = alike.same TheAcc (or_none k.acc h)
+    slot TheAccumulator h = alike.same TheAccumulator (or_none k.accumulator h)
     slot TheY h = alike.same TheY (or_none k.y h)
     slot TheLow h =
         put_on one.at two.at (layout.pointer + 1) a b layout.pointer e (alike.same TheLow (or_none k.low h))
@@ -139,21 +139,21 @@ high_alike {layout = layout} {Where = Where} {one = one} {two = two} k a b e ali
     slot TheCarry h = alike.same TheCarry (or_none k.carry h)
     slot TheShown h = alike.same TheShown (or_none k.shown h)
 
-place_alike : (shared : Shared) (voice : ℕ) (k : Known) (one two : Desk) (place : Place) → one.acc ≡ two.acc →
+place_alike : (shared : Shared) (voice : ℕ) (k : Known) (one two : Desk) (place : Place) → one.accumulator ≡ two.accumulator →
     Alike shared.layout shared.Where k one two →
     Alike shared.layout shared.Where (either k (place_sets place)) (stepped shared.layout voice (Store place) one)
     (stepped shared.layout voice (Store place) two)
 place_alike shared voice k one two (HeldPlace cell) e alike =
-    none_more (byte_alike (cell_place shared.layout voice cell) one.acc two.acc e alike)
+    none_more (byte_alike (cell_place shared.layout voice cell) one.accumulator two.accumulator e alike)
 place_alike shared voice k one two (Register register) e alike =
-    none_more (byte_alike (sid_place register) one.acc two.acc e alike)
+    none_more (byte_alike (sid_place register) one.accumulator two.accumulator e alike)
 place_alike shared voice k one two (VoiceRegister register) e alike =
-    none_more (byte_alike (sid_place register + 7 * voice) one.acc two.acc e alike)
+    none_more (byte_alike (sid_place register + 7 * voice) one.accumulator two.accumulator e alike)
 place_alike shared voice k one two (Timer half) e alike =
-    none_more (byte_alike (timer_place half) one.acc two.acc e alike)
-place_alike shared voice k one two (Pointer Low) e alike = low_alike k one.acc two.acc e alike
-place_alike shared voice k one two (Pointer High) e alike = high_alike k one.acc two.acc e alike
-place_alike shared voice k one two IntoY e alike = y_alike one.acc two.acc e alike
+    none_more (byte_alike (timer_place half) one.accumulator two.accumulator e alike)
+place_alike shared voice k one two (Pointer Low) e alike = low_alike k one.accumulator two.accumulator e alike
+place_alike shared voice k one two (Pointer High) e alike = high_alike k one.accumulator two.accumulator e alike
+place_alike shared voice k one two IntoY e alike = y_alike one.accumulator two.accumulator e alike
 
 counted_alike : (shared : Shared) (iv : Bool) (voice : ℕ) → Voiced iv voice → (k : Known) (one two : Desk)
     (rule : ℕ → ℕ) (what : Counted) → is_counted iv what ≡ true → names_counted shared.names what ≡ true →
@@ -187,23 +187,23 @@ y_within : (k : Known) → k.y ≡ true → is_within the_y k ≡ true
 y_within k e = rw e refl
 
 -- what a sum reads besides A and the carry
-of_summand : (k : Known) (summand : Summand) → is_within (either the_acc (summand_reads summand)) k ≡ true →
+of_summand : (k : Known) (summand : Summand) → is_within (either the_accumulator (summand_reads summand)) k ≡ true →
     is_within (summand_reads summand) k ≡ true
 of_summand k (Plain operand) known = refl
-of_summand k (Entry table) known = y_within k (known_when TheY (either the_acc (summand_reads (Entry table))) k known refl)
+of_summand k (Entry table) known = y_within k (known_when TheY (either the_accumulator (summand_reads (Entry table))) k known refl)
 
 of_summand_on : (k : Known) (summand : Summand) →
-    is_within (either (either the_acc the_carry) (summand_reads summand)) k ≡ true →
+    is_within (either (either the_accumulator the_carry) (summand_reads summand)) k ≡ true →
     is_within (summand_reads summand) k ≡ true
 of_summand_on k (Plain operand) known = refl
 of_summand_on k (Entry table) known =
-    y_within k (known_when TheY (either (either the_acc the_carry) (summand_reads (Entry table))) k known refl)
+    y_within k (known_when TheY (either (either the_accumulator the_carry) (summand_reads (Entry table))) k known refl)
 
-acc_too : (summand : Summand) → pick TheAcc (either (either the_acc the_carry) (summand_reads summand)) ≡ true
-acc_too (Plain operand) = refl
-acc_too (Entry table) = refl
+accumulator_too : (summand : Summand) → pick TheAccumulator (either (either the_accumulator the_carry) (summand_reads summand)) ≡ true
+accumulator_too (Plain operand) = refl
+accumulator_too (Entry table) = refl
 
-carry_too : (summand : Summand) → pick TheCarry (either (either the_acc the_carry) (summand_reads summand)) ≡ true
+carry_too : (summand : Summand) → pick TheCarry (either (either the_accumulator the_carry) (summand_reads summand)) ≡ true
 carry_too (Plain operand) = refl
 carry_too (Entry table) = refl
 
@@ -213,49 +213,49 @@ step_alike : (shared : Shared) (iv : Bool) (voice : ℕ) → Voiced iv voice →
     Alike shared.layout shared.Where (either k (step_sets step)) (stepped shared.layout voice step one)
     (stepped shared.layout voice step two)
 step_alike shared iv voice voiced k one two (Load source) is named known reads alike =
-    acc_alike _ _ (source_same shared iv voice voiced k one two source is named known reads alike) alike
+    accumulator_alike _ _ (source_same shared iv voice voiced k one two source is named known reads alike) alike
 step_alike shared iv voice voiced k one two (Store place) is named known reads alike =
-    place_alike shared voice k one two place (acc_same shared k one two (Store place) known refl alike) alike
+    place_alike shared voice k one two place (accumulator_same shared k one two (Store place) known refl alike) alike
 step_alike shared iv voice voiced k one two (Index operand) is named known reads alike =
     y_alike _ _ (operand_same shared iv voice voiced k one two operand is named alike) alike
 step_alike shared iv voice voiced k one two (And operand) is named known reads alike =
-    acc_alike _ _
-    (two_same bit_and (acc_same shared k one two (And operand) known refl alike)
+    accumulator_alike _ _
+    (two_same bit_and (accumulator_same shared k one two (And operand) known refl alike)
     (operand_same shared iv voice voiced k one two operand is named alike)) alike
 step_alike shared iv voice voiced k one two (Or operand) is named known reads alike =
-    acc_alike _ _
-    (two_same bit_or (acc_same shared k one two (Or operand) known refl alike)
+    accumulator_alike _ _
+    (two_same bit_or (accumulator_same shared k one two (Or operand) known refl alike)
     (operand_same shared iv voice voiced k one two operand is named alike)) alike
 step_alike shared iv voice voiced k one two (Xor operand) is named known reads alike =
-    acc_alike _ _
-    (two_same bit_xor (acc_same shared k one two (Xor operand) known refl alike)
+    accumulator_alike _ _
+    (two_same bit_xor (accumulator_same shared k one two (Xor operand) known refl alike)
     (operand_same shared iv voice voiced k one two operand is named alike)) alike
 step_alike shared iv voice voiced k one two (Add summand) is named known reads alike =
     sum_alike k _ _
-    (two_same (λ a b. a + b + 0) (acc_same shared k one two (Add summand) known refl alike)
+    (two_same (λ a b. a + b + 0) (accumulator_same shared k one two (Add summand) known refl alike)
     (summand_same shared iv voice voiced k one two summand is named (of_summand k summand known) reads alike)) alike
 step_alike shared iv voice voiced k one two (Sub summand) is named known reads alike =
     sum_alike k _ _
-    (two_same (λ a b. a + (255 - b) + 1) (acc_same shared k one two (Sub summand) known refl alike)
+    (two_same (λ a b. a + (255 - b) + 1) (accumulator_same shared k one two (Sub summand) known refl alike)
     (summand_same shared iv voice voiced k one two summand is named (of_summand k summand known) reads alike)) alike
 step_alike shared iv voice voiced k one two (AddOn summand) is named known reads alike =
     sum_alike k _ _
-    (two_same (λ a b. a + b + one_if one.carry) (acc_same shared k one two (AddOn summand) known (acc_too summand) alike)
+    (two_same (λ a b. a + b + one_if one.carry) (accumulator_same shared k one two (AddOn summand) known (accumulator_too summand) alike)
     (summand_same shared iv voice voiced k one two summand is named (of_summand_on k summand known) reads alike)
-    ∙ ap (λ c. two.acc + summand_byte shared.layout voice summand two + one_if c)
+    ∙ ap (λ c. two.accumulator + summand_byte shared.layout voice summand two + one_if c)
     (alike.same TheCarry (known_when TheCarry (step_reads (AddOn summand)) k known (carry_too summand)))) alike
 step_alike shared iv voice voiced k one two (SubOn summand) is named known reads alike =
     sum_alike k _ _
     (two_same (λ a b. a + (255 - b) + one_if one.carry)
-    (acc_same shared k one two (SubOn summand) known (acc_too summand) alike)
+    (accumulator_same shared k one two (SubOn summand) known (accumulator_too summand) alike)
     (summand_same shared iv voice voiced k one two summand is named (of_summand_on k summand known) reads alike)
-    ∙ ap (λ c. two.acc + (255 - summand_byte shared.layout voice summand two) + one_if c)
+    ∙ ap (λ c. two.accumulator + (255 - summand_byte shared.layout voice summand two) + one_if c)
     (alike.same TheCarry (known_when TheCarry (step_reads (SubOn summand)) k known (carry_too summand)))) alike
 step_alike shared iv voice voiced k one two Double is named known reads alike =
-    let e = acc_same shared k one two Double known refl alike in
+    let e = accumulator_same shared k one two Double known refl alike in
     with_carry k
-    (carry_alike (nat_le 128 one.acc) (nat_le 128 two.acc) (ap (λ n. nat_le 128 n) e)
-    (acc_alike (2 * one.acc % 256) (2 * two.acc % 256) (ap (λ n. 2 * n % 256) e) alike))
+    (carry_alike (nat_le 128 one.accumulator) (nat_le 128 two.accumulator) (ap (λ n. nat_le 128 n) e)
+    (accumulator_alike (2 * one.accumulator % 256) (2 * two.accumulator % 256) (ap (λ n. 2 * n % 256) e) alike))
 step_alike shared iv voice voiced k one two (Inc what) is named known reads alike =
     counted_alike shared iv voice voiced k one two one_more what is named known alike
 step_alike shared iv voice voiced k one two (Dec what) is named known reads alike =
@@ -315,13 +315,13 @@ asked_alike shared iv voice voiced k one two Carry is named known alike = record
   answer = alike.same TheCarry (known_when TheCarry (condition_reads Carry) k known refl);
 }
 asked_alike shared iv voice voiced k one two (Equal operand) is named known alike =
-    let e = alike.same TheAcc (known_when TheAcc (condition_reads (Equal operand)) k known refl) in
+    let e = alike.same TheAccumulator (known_when TheAccumulator (condition_reads (Equal operand)) k known refl) in
     let f = operand_same shared iv voice voiced k one two operand is named alike in record {
       alike = compared_alike k _ _ _ _ e f alike;
       answer = two_same (λ n m. nat_eq ((n + (256 - m)) % 256) 0) e f;
     }
 asked_alike shared iv voice voiced k one two (Less operand) is named known alike =
-    let e = alike.same TheAcc (known_when TheAcc (condition_reads (Less operand)) k known refl) in
+    let e = alike.same TheAccumulator (known_when TheAccumulator (condition_reads (Less operand)) k known refl) in
     let f = operand_same shared iv voice voiced k one two operand is named alike in record {
       alike = compared_alike k _ _ _ _ e f alike;
       answer = two_same (λ n m. not (nat_le m n)) e f;

@@ -3,14 +3,14 @@ use Rattle.std.proofs.Common.{◌≡◌, ℕ, ◌+◌, ◌&&◌, ◌||◌, Bool,
 use Rattle.std.proofs.Common.{nat_eq, nat_le, if◌then◌else◌, refl, ap, ◌∙◌}
 use Rattle.std.proofs.lemmas.Bool.{and_parts}
 use Rattle.code_runs.specs.Runs.{put}
-use Rattle.blocks.specs.Desk.{Desk, Layout, with_acc, with_y, with_byte}
-use Rattle.blocks.specs.Known.{Known, none, the_acc, the_y, the_carry, the_shown, either, both, less}
+use Rattle.blocks.specs.Desk.{Desk, Layout, with_accumulator, with_y, with_byte}
+use Rattle.blocks.specs.Known.{Known, none, the_accumulator, the_y, the_carry, the_shown, either, both, less}
 use Rattle.blocks.specs.Known.{is_within}
 
 -- ---- registers one by one
 
 pub data Slot : Type 0 where
-  TheAcc : Slot
+  TheAccumulator : Slot
   TheY : Slot
   TheLow : Slot
   TheHigh : Slot
@@ -18,7 +18,7 @@ pub data Slot : Type 0 where
   TheShown : Slot
 
 abbrev pub pick : Slot → Known → Bool
-pick TheAcc k = k.acc
+pick TheAccumulator k = k.accumulator
 pick TheY k = k.y
 pick TheLow k = k.low
 pick TheHigh k = k.high
@@ -26,7 +26,7 @@ pick TheCarry k = k.carry
 pick TheShown k = k.shown
 
 pub pick_either : (s : Slot) (a b : Known) → pick s (either a b) ≡ (pick s a || pick s b)
-pick_either TheAcc a b = refl
+pick_either TheAccumulator a b = refl
 pick_either TheY a b = refl
 pick_either TheLow a b = refl
 pick_either TheHigh a b = refl
@@ -34,7 +34,7 @@ pick_either TheCarry a b = refl
 pick_either TheShown a b = refl
 
 pub pick_both : (s : Slot) (a b : Known) → pick s (both a b) ≡ (pick s a && pick s b)
-pick_both TheAcc a b = refl
+pick_both TheAccumulator a b = refl
 pick_both TheY a b = refl
 pick_both TheLow a b = refl
 pick_both TheHigh a b = refl
@@ -42,7 +42,7 @@ pick_both TheCarry a b = refl
 pick_both TheShown a b = refl
 
 pub pick_less : (s : Slot) (a b : Known) → pick s (less a b) ≡ (pick s a && not (pick s b))
-pick_less TheAcc a b = refl
+pick_less TheAccumulator a b = refl
 pick_less TheY a b = refl
 pick_less TheLow a b = refl
 pick_less TheHigh a b = refl
@@ -50,7 +50,7 @@ pick_less TheCarry a b = refl
 pick_less TheShown a b = refl
 
 pub pick_none : (s : Slot) → pick s none ≡ false
-pick_none TheAcc = refl
+pick_none TheAccumulator = refl
 pick_none TheY = refl
 pick_none TheLow = refl
 pick_none TheHigh = refl
@@ -73,7 +73,7 @@ implied false b e h = absurd (cc)
 
 pub known_when : (s : Slot) (r k : Known) → is_within r k ≡ true → pick s r ≡ true → pick s k ≡ true
 known_when s r k e h =
-    let a = not r.acc || k.acc in
+    let a = not r.accumulator || k.accumulator in
     let b = not r.y || k.y in
     let c = not r.low || k.low in
     let d = not r.high || k.high in
@@ -85,10 +85,10 @@ known_when s r k e h =
     let one = and_parts a b two.0 in
     of_slot s one.0 one.1 two.1 three.1 four.1 five.1 h
   where
-    of_slot : (s : Slot) → (not r.acc || k.acc) ≡ true → (not r.y || k.y) ≡ true → (not r.low || k.low) ≡ true →
+    of_slot : (s : Slot) → (not r.accumulator || k.accumulator) ≡ true → (not r.y || k.y) ≡ true → (not r.low || k.low) ≡ true →
         (not r.high || k.high) ≡ true → (not r.carry || k.carry) ≡ true → (not r.shown || k.shown) ≡ true →
         pick s r ≡ true → pick s k ≡ true
-    of_slot TheAcc a b c d f g h = implied r.acc k.acc a h
+    of_slot TheAccumulator a b c d f g h = implied r.accumulator k.accumulator a h
     of_slot TheY a b c d f g h = implied r.y k.y b h
     of_slot TheLow a b c d f g h = implied r.low k.low c h
     of_slot TheHigh a b c d f g h = implied r.high k.high d h
@@ -98,7 +98,7 @@ known_when s r k e h =
 -- ---- desks that agree
 
 abbrev pub Same : Layout → Slot → Desk → Desk → Type 0
-Same layout TheAcc one two = one.acc ≡ two.acc
+Same layout TheAccumulator one two = one.accumulator ≡ two.accumulator
 Same layout TheY one two = one.y ≡ two.y
 Same layout TheLow one two = one.at layout.pointer ≡ two.at layout.pointer
 Same layout TheHigh one two = one.at (layout.pointer + 1) ≡ two.at (layout.pointer + 1)
@@ -120,15 +120,15 @@ pub put_on : (at at' : ℕ → ℕ) (place byte byte' q : ℕ) → byte ≡ byte
 put_on at at' place byte byte' q b e =
     ap (λ n. if nat_eq q place then n else at q) b ∙ ap (λ n. if nat_eq q place then byte' else n) e
 
-pub acc_alike : {layout : Layout} {Where : ℕ → Type 0} {k : Known} {one two : Desk} (a b : ℕ) → a ≡ b →
+pub accumulator_alike : {layout : Layout} {Where : ℕ → Type 0} {k : Known} {one two : Desk} (a b : ℕ) → a ≡ b →
     Alike layout Where k one two →
-    Alike layout Where (either k (either the_acc the_shown)) (with_acc a one) (with_acc b two)
-acc_alike {layout = layout} {Where = Where} {k = k} {one = one} {two = two} a b e alike =
+    Alike layout Where (either k (either the_accumulator the_shown)) (with_accumulator a one) (with_accumulator b two)
+accumulator_alike {layout = layout} {Where = Where} {k = k} {one = one} {two = two} a b e alike =
     record { at = alike.at; same = slot }
   where
-    slot : (s : Slot) → pick s (either k (either the_acc the_shown)) ≡ true →
-        Same layout s (with_acc a one) (with_acc b two)
-    slot TheAcc h = e
+    slot : (s : Slot) → pick s (either k (either the_accumulator the_shown)) ≡ true →
+        Same layout s (with_accumulator a one) (with_accumulator b two)
+    slot TheAccumulator h = e
     slot TheY h = alike.same TheY (or_none k.y h)
     slot TheLow h = alike.same TheLow (or_none k.low h)
     slot TheHigh h = alike.same TheHigh (or_none k.high h)
@@ -141,7 +141,7 @@ y_alike {layout = layout} {Where = Where} {k = k} {one = one} {two = two} a b e 
     record { at = alike.at; same = slot }
   where
     slot : (s : Slot) → pick s (either k (either the_y the_shown)) ≡ true → Same layout s (with_y a one) (with_y b two)
-    slot TheAcc h = alike.same TheAcc (or_none k.acc h)
+    slot TheAccumulator h = alike.same TheAccumulator (or_none k.accumulator h)
     slot TheY h = e
     slot TheLow h = alike.same TheLow (or_none k.low h)
     slot TheHigh h = alike.same TheHigh (or_none k.high h)
@@ -157,7 +157,7 @@ carry_alike {layout = layout} {Where = Where} {k = k} {one = one} {two = two} a 
   where
     slot : (s : Slot) → pick s (either k the_carry) ≡ true →
         Same layout s (record one { carry = a }) (record two { carry = b })
-    slot TheAcc h = alike.same TheAcc (or_none k.acc h)
+    slot TheAccumulator h = alike.same TheAccumulator (or_none k.accumulator h)
     slot TheY h = alike.same TheY (or_none k.y h)
     slot TheLow h = alike.same TheLow (or_none k.low h)
     slot TheHigh h = alike.same TheHigh (or_none k.high h)
@@ -171,7 +171,7 @@ byte_alike {layout = layout} {Where = Where} {k = k} {one = one} {two = two} pla
     record { at = λ q w. put_on one.at two.at place a b q e (alike.at q w); same = slot }
   where
     slot : (s : Slot) → pick s k ≡ true → Same layout s (with_byte place a one) (with_byte place b two)
-    slot TheAcc h = alike.same TheAcc h
+    slot TheAccumulator h = alike.same TheAccumulator h
     slot TheY h = alike.same TheY h
     slot TheLow h = put_on one.at two.at place a b layout.pointer e (alike.same TheLow h)
     slot TheHigh h = put_on one.at two.at place a b (layout.pointer + 1) e (alike.same TheHigh h)
@@ -189,7 +189,7 @@ shown_alike {layout = layout} {Where = Where} {k = k} {one = one} {two = two} a 
     slot : (s : Slot) → pick s (either k the_shown) ≡ true →
         Same layout s (record one { zero = nat_eq a 0; minus = nat_le 128 a })
         (record two { zero = nat_eq b 0; minus = nat_le 128 b })
-    slot TheAcc h = alike.same TheAcc (or_none k.acc h)
+    slot TheAccumulator h = alike.same TheAccumulator (or_none k.accumulator h)
     slot TheY h = alike.same TheY (or_none k.y h)
     slot TheLow h = alike.same TheLow (or_none k.low h)
     slot TheHigh h = alike.same TheHigh (or_none k.high h)
@@ -201,7 +201,7 @@ pub none_more : {layout : Layout} {Where : ℕ → Type 0} {k : Known} {one two 
     Alike layout Where (either k none) one two
 none_more {k = k} alike = alike_in (λ s h. without s h) alike where
   without : (s : Slot) → pick s (either k none) ≡ true → pick s k ≡ true
-  without TheAcc h = or_none k.acc h
+  without TheAccumulator h = or_none k.accumulator h
   without TheY h = or_none k.y h
   without TheLow h = or_none k.low h
   without TheHigh h = or_none k.high h
@@ -213,7 +213,7 @@ pub regroup : {layout : Layout} {Where : ℕ → Type 0} {one two : Desk} (k a b
     Alike layout Where (either (either k a) b) one two → Alike layout Where (either k (either a b)) one two
 regroup k a b alike = alike_in (λ s h. to s h) alike where
   to : (s : Slot) → pick s (either k (either a b)) ≡ true → pick s (either (either k a) b) ≡ true
-  to TheAcc h = or_assoc k.acc a.acc b.acc h
+  to TheAccumulator h = or_assoc k.accumulator a.accumulator b.accumulator h
   to TheY h = or_assoc k.y a.y b.y h
   to TheLow h = or_assoc k.low a.low b.low h
   to TheHigh h = or_assoc k.high a.high b.high h
@@ -236,12 +236,12 @@ on_none false e = e
 
 -- A and what it shows, with the carry
 pub with_carry : {layout : Layout} {Where : ℕ → Type 0} {one two : Desk} (k : Known) →
-    Alike layout Where (either (either k (either the_acc the_shown)) the_carry) one two →
-    Alike layout Where (either k (either the_acc (either the_carry the_shown))) one two
+    Alike layout Where (either (either k (either the_accumulator the_shown)) the_carry) one two →
+    Alike layout Where (either k (either the_accumulator (either the_carry the_shown))) one two
 with_carry k alike = alike_in (λ s h. to s h) alike where
-  to : (s : Slot) → pick s (either k (either the_acc (either the_carry the_shown))) ≡ true →
-      pick s (either (either k (either the_acc the_shown)) the_carry) ≡ true
-  to TheAcc h = on_true k.acc
+  to : (s : Slot) → pick s (either k (either the_accumulator (either the_carry the_shown))) ≡ true →
+      pick s (either (either k (either the_accumulator the_shown)) the_carry) ≡ true
+  to TheAccumulator h = on_true k.accumulator
   to TheY h = on_none k.y h
   to TheLow h = on_none k.low h
   to TheHigh h = on_none k.high h
@@ -255,7 +255,7 @@ pub shown_with_carry : {layout : Layout} {Where : ℕ → Type 0} {one two : Des
 shown_with_carry k alike = alike_in (λ s h. to s h) alike where
   to : (s : Slot) → pick s (either k (either the_carry the_shown)) ≡ true →
       pick s (either (either k the_shown) the_carry) ≡ true
-  to TheAcc h = on_none k.acc h
+  to TheAccumulator h = on_none k.accumulator h
   to TheY h = on_none k.y h
   to TheLow h = on_none k.low h
   to TheHigh h = on_none k.high h

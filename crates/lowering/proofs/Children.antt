@@ -10,7 +10,7 @@ use Rattle.blocks.specs.Shape.{nothing, jump_cost, down_cost, branch_cost, test_
 use Rattle.blocks.specs.Sizes.{size, has_no_lines, label_count, is_far_on, is_far_back}
 use Rattle.lowering.specs.Instructions.{test_lines}
 use Rattle.lowering.specs.Lines.{every, lines, if_far, back_far, exit_far, voices_far}
-use Rattle.lowering.specs.Kinds.{choice_lines, turn_lines, voice_lines}
+use Rattle.lowering.specs.Kinds.{choice_lines, loop_lines, voice_lines}
 use Rattle.lowering.proofs.Chains.{test_size}
 use Rattle.lowering.proofs.Sizing.{lines_size, far_on_limited}
 
@@ -50,7 +50,7 @@ pub turn_is : (pointer part first : ℕ) (counter : Counter) (count : ℕ) (step
     inner ≡ lines pointer every part (first + 2) body → n ≡ min (size_of inner) limit → m ≡ min (size_of head) limit →
     127 < limit → back ≡ is_far_back (n + m + ((down_cost counter).bytes + 5)) →
     exit ≡ is_far_on (n + ((down_cost counter).bytes + (branch_cost back).bytes)) →
-    turn_lines part first counter count head test exit back inner
+    loop_lines part first counter count head test exit back inner
     ≡ lines pointer every part first (UntilTree counter count steps test body)
 turn_is pointer part first counter count steps test body head inner n m limit exit back e f s h l b x =
     let size_is : size_of inner ≡ size body = ap size_of f ∙ lines_size pointer part (first + 2) body in

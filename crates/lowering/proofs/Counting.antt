@@ -105,28 +105,28 @@ place_keeps : (layout : Layout) (names : Names) (low high : ℕ) → Inside layo
     (desk : Desk) →
     counter_value layout counter (stepped layout voice (Store place) desk) ≡ counter_value layout counter desk
 place_keeps layout names low high inside counter own in_voices voice voiced (HeldPlace cell) is named leaves desk =
-    put_leaves layout counter desk _ (cell_place layout voice cell) desk.acc refl refl
+    put_leaves layout counter desk _ (cell_place layout voice cell) desk.accumulator refl refl
     (cell_elsewhere layout names low high inside counter own in_voices voice voiced cell is named leaves)
 place_keeps layout names low high inside counter own in_voices voice voiced (Register register) is named leaves desk =
-    put_leaves layout counter desk _ (sid_place register) desk.acc refl refl
+    put_leaves layout counter desk _ (sid_place register) desk.accumulator refl refl
     (high_elsewhere layout names low high inside counter own (sid_place register) (omega arith))
 place_keeps layout names low high inside counter own in_voices voice voiced (VoiceRegister register) is named leaves
     desk =
-    put_leaves layout counter desk _ (sid_place register + 7 * voice) desk.acc refl refl
+    put_leaves layout counter desk _ (sid_place register + 7 * voice) desk.accumulator refl refl
     (high_elsewhere layout names low high inside counter own (sid_place register + 7 * voice) (omega arith))
 place_keeps layout names low high inside counter own in_voices voice voiced (Timer Low) is named leaves desk =
-    put_leaves layout counter desk _ 0xDC04 desk.acc refl refl
+    put_leaves layout counter desk _ 0xDC04 desk.accumulator refl refl
     (high_elsewhere layout names low high inside counter own 0xDC04 (omega arith))
 place_keeps layout names low high inside counter own in_voices voice voiced (Timer High) is named leaves desk =
-    put_leaves layout counter desk _ 0xDC05 desk.acc refl refl
+    put_leaves layout counter desk _ 0xDC05 desk.accumulator refl refl
     (high_elsewhere layout names low high inside counter own 0xDC05 (omega arith))
 place_keeps layout names low high inside counter own in_voices voice voiced (Pointer Low) is named leaves desk =
     let top = inside.pointer_high in
-    put_leaves layout counter desk _ layout.pointer desk.acc refl refl
+    put_leaves layout counter desk _ layout.pointer desk.accumulator refl refl
     (low_elsewhere layout names low high inside counter own layout.pointer (omega arith))
 place_keeps layout names low high inside counter own in_voices voice voiced (Pointer High) is named leaves desk =
     let top = inside.pointer_high in
-    put_leaves layout counter desk _ (layout.pointer + 1) desk.acc refl refl
+    put_leaves layout counter desk _ (layout.pointer + 1) desk.accumulator refl refl
     (low_elsewhere layout names low high inside counter own (layout.pointer + 1) (omega arith))
 place_keeps layout names low high inside counter own in_voices voice voiced IntoY is named leaves desk =
     y_other layout counter desk _ refl leaves

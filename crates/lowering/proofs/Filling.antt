@@ -50,7 +50,7 @@ may_fill ground (StartRegister register) count n found few = (found n few).1
 -- a desk within a fill
 abbrev filling : (ℕ → ℕ) → ℕ → Bool → Bool → Bool → Desk
 filling at y carry is_zero is_minus =
-    record { at = at; acc = 0; y = y; carry = carry; zero = is_zero; minus = is_minus }
+    record { at = at; accumulator = 0; y = y; carry = carry; zero = is_zero; minus = is_minus }
 
 -- the lines of the loop
 abbrev fill_turn : ℕ → ℕ → Start → List Line
@@ -127,7 +127,7 @@ pub fill_do : (ground : Ground) → Guarded ground → (part first : ℕ) (start
     LinesDo ground (fill_lines part first start count) (2 + 3 * count) desk
     (record desk {
       at = filled (fill_place ground.layout start) count desk.at;
-      acc = 0;
+      accumulator = 0;
       y = 0;
       zero = true;
       minus = false;

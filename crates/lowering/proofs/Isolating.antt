@@ -24,8 +24,8 @@ use Rattle.lowering.specs.Places.{names_steps, names_condition, names_counter, n
 use Rattle.lowering.specs.Counting.{branch_run, run_by_test, turns_run, run_of}
 use Rattle.lowering.proofs.Counting.{Voiced, tested_keeps, tree_keeps}
 use Rattle.lowering.proofs.Turning.{set_value, down_value}
-use Rattle.lowering.proofs.Alike.{Slot, TheAcc, TheY, TheLow, TheHigh, TheCarry, TheShown, pick}
-use Rattle.lowering.proofs.Alike.{Same, Alike, or_none, alike_in, put_on, acc_alike, y_alike}
+use Rattle.lowering.proofs.Alike.{Slot, TheAccumulator, TheY, TheLow, TheHigh, TheCarry, TheShown, pick}
+use Rattle.lowering.proofs.Alike.{Same, Alike, or_none, alike_in, put_on, accumulator_alike, y_alike}
 use Rattle.lowering.proofs.Alike.{byte_alike, shown_alike, none_more}
 use Rattle.lowering.proofs.Staying.{of_less, stays, parts_write, turn_known, first_known, second_known, head_again}
 use Rattle.lowering.proofs.Staying.{less_known}
@@ -38,7 +38,7 @@ counter_begins : (shared : Shared) (counter : Counter) → (count : ℕ) (k : Kn
     Alike shared.layout shared.Where (either k (counter_sets counter)) (counter_set shared.layout counter count one)
     (counter_set shared.layout counter count two)
 counter_begins shared (CounterVar label) count k one two alike =
-    byte_alike (shared.layout.address label) count count refl (acc_alike count count refl alike)
+    byte_alike (shared.layout.address label) count count refl (accumulator_alike count count refl alike)
 counter_begins shared CounterY count k one two alike = y_alike count count refl alike
 
 counter_falls : (shared : Shared) (counter : Counter) (k : Known) (one two : Desk) →
@@ -134,7 +134,7 @@ fill_isolated shared k start count voice one two alike = record {
     slot : (s : Slot) → pick s (either k fill_sets) ≡ true →
         Same shared.layout s (meaning shared.layout (FillTree start count) voice one)
         (meaning shared.layout (FillTree start count) voice two)
-    slot TheAcc h = refl
+    slot TheAccumulator h = refl
     slot TheY h = refl
     slot TheLow h =
         filled_on (fill_place shared.layout start) count one.at two.at shared.layout.pointer
@@ -155,7 +155,7 @@ voice_begins {layout = layout} {Where = Where} {k = k} {one = one} {two = two} v
   where
     slot : (s : Slot) → pick s (either k voices_set) ≡ true →
         Same layout s (voice_begun voice one) (voice_begun voice two)
-    slot TheAcc h = refl
+    slot TheAccumulator h = refl
     slot TheY h = alike.same TheY (or_none k.y h)
     slot TheLow h = alike.same TheLow (or_none k.low h)
     slot TheHigh h = alike.same TheHigh (or_none k.high h)
@@ -168,7 +168,7 @@ voices_end {layout = layout} {Where = Where} {k = k} {one = one} {two = two} ali
     record { at = alike.at; same = slot }
   where
     slot : (s : Slot) → pick s (either k voices_set) ≡ true → Same layout s (after_voices one) (after_voices two)
-    slot TheAcc h = refl
+    slot TheAccumulator h = refl
     slot TheY h = alike.same TheY (or_none k.y h)
     slot TheLow h = alike.same TheLow (or_none k.low h)
     slot TheHigh h = alike.same TheHigh (or_none k.high h)

@@ -22,7 +22,7 @@ use Rattle.lowering.proofs.Reading.{comes_on, comes_to, comes_here}
 use Rattle.lowering.proofs.Ways.{Ground, Guarded, LinesDo, append_do, still_stand}
 use Rattle.lowering.proofs.Chains.{chain_do, test_do}
 use Rattle.lowering.proofs.Choosing.{sides_do}
-use Rattle.lowering.proofs.Turning.{set_do, set_value, Loop, turn_lines, turn_end, loop_does}
+use Rattle.lowering.proofs.Turning.{set_do, set_value, Loop, whole_turn, turn_end, loop_does}
 use Rattle.lowering.proofs.Filling.{fill_do}
 use Rattle.lowering.proofs.Voicing.{voice_ground, voice_guarded, voices_do}
 
@@ -86,7 +86,7 @@ until_do : (ground : Ground) → Guarded ground → (part first : ℕ) (counter 
     LinesDo ground
     (set_lines part counter count
     ++ name part first
-    ∷ turn_lines (test_lines ground.layout.pointer part steps test) part exit test first inner counter back)
+    ∷ whole_turn (test_lines ground.layout.pointer part steps test) part exit test first inner counter back)
     ((set_cost counter).instructions + turns_run count test (tested ground.layout ground.room.voice steps test)
     (λ more. counter_down ground.layout counter (body more)) run
     ((test_cost steps test).instructions + branch_run exit true)
@@ -105,7 +105,7 @@ until_do ground guarded part first counter (suc n) steps test exit back inner ru
     least most keeps body_keeps way x v pc index l h s =
     let address = ground.layout.address in
     let setting = set_lines part counter (suc n) in
-    let after = turn_lines (test_lines ground.layout.pointer part steps test) part exit test first inner counter back in
+    let after = whole_turn (test_lines ground.layout.pointer part steps test) part exit test first inner counter back in
     let size = size_of-append setting (name part first ∷ after) in
     let begun = counter_set ground.layout counter (suc n) desk in
     let set =

@@ -8,7 +8,7 @@ use Rattle.blocks.specs.Desk.{Desk, Layout}
 use Rattle.blocks.specs.Known.{Known, none, either, both, less, steps_set}
 use Rattle.blocks.specs.Known.{test_sets, counter_sets, down_sets, voices_set, fill_sets, written, written_by_parts}
 use Rattle.blocks.specs.Known.{in_turns, known}
-use Rattle.lowering.proofs.Alike.{Slot, TheAcc, TheY, TheLow, TheHigh, TheCarry, TheShown, pick, pick_either, pick_both}
+use Rattle.lowering.proofs.Alike.{Slot, TheAccumulator, TheY, TheLow, TheHigh, TheCarry, TheShown, pick, pick_either, pick_both}
 use Rattle.lowering.proofs.Alike.{pick_less, pick_none, Alike, alike_in}
 
 pub of_either : (s : Slot) (a b : Known) → pick s a ≡ true → pick s (either a b) ≡ true
@@ -90,7 +90,7 @@ turn_known k sets alike = alike_in (λ s h. to s h) alike where
   at false b e = e
 
   to : (s : Slot) → pick s (either k sets) ≡ true → pick s (either (either k none) sets) ≡ true
-  to TheAcc h = at k.acc sets.acc h
+  to TheAccumulator h = at k.accumulator sets.accumulator h
   to TheY h = at k.y sets.y h
   to TheLow h = at k.low sets.low h
   to TheHigh h = at k.high sets.high h

@@ -77,16 +77,16 @@ less_one n h = omega arith
 -- ---- turns
 
 -- the lines of a loop from its head on
-abbrev pub turn_lines : List Line → ℕ → Bool → Test → ℕ → List Line → Counter → Bool → List Line
-turn_lines head part exit test first inner counter back =
+abbrev pub whole_turn : List Line → ℕ → Bool → Test → ℕ → List Line → Counter → Bool → List Line
+whole_turn head part exit test first inner counter back =
     head ++ (branch_lines part exit test (first + 1)
     ++ (inner ++ down_line part counter ∷ (branch_lines part back (Not Zero) first ++ name part (first + 1) ∷ [])))
 
 -- where its end is named
 pub turn_end : (address at : ℕ → ℕ) (p first part : ℕ) (exit : Bool) (test : Test) (inner : List Line)
     (counter : Counter) (back : Bool) (head : List Line) →
-    LinesAt address at p (turn_lines head part exit test first inner counter back) →
-    address (first + 1) ≡ p + size_of (turn_lines head part exit test first inner counter back)
+    LinesAt address at p (whole_turn head part exit test first inner counter back) →
+    address (first + 1) ≡ p + size_of (whole_turn head part exit test first inner counter back)
 turn_end address at p first part exit test inner counter back head s =
     let exit_lines = branch_lines part exit test (first + 1) in
     let back_lines = branch_lines part back (Not Zero) first in
@@ -151,14 +151,14 @@ pub record Loop (ground : Ground) : Type 1 where
   pub body_keeps : (desk : Desk) →
       counter_value ground.layout counter (body desk) ≡ counter_value ground.layout counter desk
   pub low : ground.low ≤ pc
-  pub high : pc + size_of (turn_lines head part exit test label inner counter back) ≤ ground.high
+  pub high : pc + size_of (whole_turn head part exit test label inner counter back) ≤ ground.high
   pub here : ground.layout.address label ≡ pc
   pub end : ground.layout.address (label + 1)
-      ≡ pc + size_of (turn_lines head part exit test label inner counter back)
+      ≡ pc + size_of (whole_turn head part exit test label inner counter back)
 
 abbrev pub loop_lines : {ground : Ground} → Loop ground → List Line
 loop_lines loop =
-    turn_lines loop.head loop.part loop.exit loop.test loop.label loop.inner loop.counter loop.back
+    whole_turn loop.head loop.part loop.exit loop.test loop.label loop.inner loop.counter loop.back
 
 abbrev pub loop_turn : {ground : Ground} → Loop ground → Desk → Desk
 loop_turn {ground = ground} loop more = counter_down ground.layout loop.counter (loop.body more)

@@ -10,7 +10,7 @@ use Rattle.asm6502.specs.Lines.{size_of}
 use Rattle.asm6502.specs.Standing.{LinesAt}
 use Rattle.asm6502.proofs.Laws.{size_of-append, fronts_stand, backs_stand}
 use Rattle.lowering.specs.Words.{Const, Plain, Step, Add, Equal, Zero, Is, Not}
-use Rattle.blocks.specs.Desk.{Desk, with_acc}
+use Rattle.blocks.specs.Desk.{Desk, with_accumulator}
 use Rattle.blocks.specs.Steps.{tested, is_met}
 use Rattle.blocks.specs.Meaning.{for_voices, voice_begun}
 use Rattle.lowering.specs.Instructions.{code, bare, name, branch_lines}
@@ -38,8 +38,8 @@ voice_guarded ground voice guarded = record {
 
 -- the head of a turn, where zero and minus may say anything
 abbrev head : (ℕ → ℕ) → ℕ → ℕ → Bool → Bool → Desk
-head at acc y is_zero is_minus =
-    record { at = at; acc = acc; y = y; carry = false; zero = is_zero; minus = is_minus }
+head at accumulator y is_zero is_minus =
+    record { at = at; accumulator = accumulator; y = y; carry = false; zero = is_zero; minus = is_minus }
 
 -- A counted on by 7 and compared with 21
 abbrev seven_on : List Step
@@ -48,7 +48,7 @@ seven_on = Add (Plain (Const 7)) ∷ []
 abbrev counted_on : ℕ → Desk → Desk
 counted_on voice desk =
     tested (record { address = λ l. 0; pointer = 0; is_kept = λ b. true }) 0 seven_on (Is (Equal (Const 21)))
-    (with_acc (7 * voice) desk)
+    (with_accumulator (7 * voice) desk)
 
 abbrev count_lines : ℕ → List Line
 count_lines part = bare part Clc ∷ code part Adc Immediate (Number 7) ∷ code part Cmp Immediate (Number 21) ∷ []
@@ -89,11 +89,11 @@ voice_turn ground guarded any part first far inner voice n x v pc at y is_zero i
     (backs_stand address at (pc + 1) inner after s.1) in
     comes_then {X = λ x. x ≡ 7 * voice} body
     (λ x'' v'' j. comes_on
-    (comes_with (ap (λ a. with_acc a desk') j)
-    (gone x'' v'' (p + 1) (with_acc x'' desk') (any x'')
+    (comes_with (ap (λ a. with_accumulator a desk') j)
+    (gone x'' v'' (p + 1) (with_accumulator x'' desk') (any x'')
     (goes_once
     (transfer_steps.txa (bare_works ground.still x'' v'' p desk' Txa rest.0 (omega arith) (omega (arith, size)))))))
-    (λ w u k. test_do ground guarded part (with_acc (7 * voice) desk') seven_on (Is (Equal (Const 21)))
+    (λ w u k. test_do ground guarded part (with_accumulator (7 * voice) desk') seven_on (Is (Equal (Const 21)))
     (tt, tt) tt w u (p + 1) k (omega arith) (omega (arith, size)) (rest.1.0, (rest.1.1.0, (rest.1.1.1.0, tt))))))
 
 -- where the branch back stands
@@ -175,11 +175,11 @@ zero_do ground guarded part desk x v pc index l h s =
     let bottom = guarded.start in
     let top = guarded.top in
     comes_on
-    (gone x v (pc + 2) (with_acc 0 desk) index
+    (gone x v (pc + 2) (with_accumulator 0 desk) index
     (goes_once (load_steps.lda (reads_immediate (pc + 2) s.0 (small (pc + 2) (omega arith)) (omega arith)))))
     (λ x' v' i. gone x' v' (pc + 2 + 1) (head desk.at 0 desk.y true false) i
     (goes_once
-    (flag_steps.clc (bare_works ground.still x' v' (pc + 2) (with_acc 0 desk) Clc s.1.0 (omega arith) (omega arith)))))
+    (flag_steps.clc (bare_works ground.still x' v' (pc + 2) (with_accumulator 0 desk) Clc s.1.0 (omega arith) (omega arith)))))
 
 -- all three turns
 pub voices_do : (ground : Ground) → Guarded ground → ((x : ℕ) → ground.room.may_index x) → (part first : ℕ)

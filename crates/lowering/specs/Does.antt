@@ -13,7 +13,7 @@ pub record Still : Type 0 where
 -- the registers at a place of the code that stand for a desk, with X and the overflow flag; the decimal flag is clear
 abbrev pub cpu_at : Still → ℕ → Bool → ℕ → Desk → Cpu
 cpu_at still x v pc desk = record {
-  a = desk.acc;
+  a = desk.accumulator;
   x = x;
   y = desk.y;
   sp = still.sp;

@@ -31,8 +31,8 @@ until_turns part first counter head test exit back inner =
     ++ down_line part counter ∷ (branch_lines part back (Not Zero) first ++ name part (first + 1) ∷ []))))
 
 -- an Until: its counter, and its turns
-abbrev pub turn_lines : ℕ → ℕ → Counter → ℕ → List Line → Test → Bool → Bool → List Line → List Line
-turn_lines part first counter count head test exit back inner =
+abbrev pub loop_lines : ℕ → ℕ → Counter → ℕ → List Line → Test → Bool → Bool → List Line → List Line
+loop_lines part first counter count head test exit back inner =
     set_lines part counter count ++ until_turns part first counter head test exit back inner
 
 -- an EachVoice: A counts by 7 up to 21, and X is A in each turn

@@ -1,11 +1,12 @@
 -- The words of the language of blocks.
 pub mod Words
--- To believe: the lines of a tree, and how a machine stands for a desk.
+-- To believe: the lines of a tree, where its labels are, and what the theorem on lowered blocks asks and says.
 pub mod Instructions
 pub mod Kinds
 pub mod Lines
--- Claimed: where a tree's labels are, how many instructions are run, and what the lines do.
 pub mod Places
+pub mod Lowered
+-- Claimed: how many instructions are run, and what the lines do.
 pub mod Laid
 pub mod Counting
 pub mod Does
@@ -16,7 +17,6 @@ pub mod Measures
 pub mod OwnLines
 pub mod Uses
 pub mod Passing
-pub mod Lowered
 pub mod Isolation
 -- Claimed: sites that are worked by hand.
 pub mod WorkedSites

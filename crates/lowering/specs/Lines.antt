@@ -8,7 +8,7 @@ use Rattle.blocks.specs.Trees.{FillTree}
 use Rattle.blocks.specs.Sizes.{size, has_no_lines, label_count, if_is_far, back_is_far, exit_is_far, voices_are_far}
 pub use Rattle.blocks.specs.Sizes.{if_labels}
 use Rattle.lowering.specs.Instructions.{chain_lines, test_lines}
-use Rattle.lowering.specs.Kinds.{choice_lines, turn_lines, voice_lines}
+use Rattle.lowering.specs.Kinds.{choice_lines, loop_lines, voice_lines}
 pub use Rattle.lowering.specs.Kinds.{sides, before_start, fill_lines}
 
 -- which branches are far: that of an If over its first side, that of an Until back to its head and to its end, and that
@@ -28,7 +28,7 @@ voices_far body = voices_are_far (size body)
 -- an Until and an EachVoice around the lines of their bodies
 abbrev pub until_lines : ℕ → ℕ → ℕ → Counter → ℕ → List Step → Test → Tree → List Line → List Line
 until_lines pointer part first counter count steps test body inner =
-    turn_lines part first counter count (test_lines pointer part steps test) test (exit_far counter steps test body)
+    loop_lines part first counter count (test_lines pointer part steps test) test (exit_far counter steps test body)
     (back_far counter steps test body) inner
 
 abbrev pub voices_lines : ℕ → ℕ → Tree → List Line → List Line

@@ -78,7 +78,7 @@ pub record Enters (site : Site) (state : State) : Type 0 where
 abbrev pub desk_of : State → Desk
 desk_of state = record {
   at = state.at;
-  acc = state.cpu.a;
+  accumulator = state.cpu.a;
   y = state.cpu.y;
   carry = state.cpu.c;
   zero = state.cpu.z;

@@ -3,7 +3,7 @@
 ghost use Rattle.std.specs.Prelude.{◌≡◌, ◌+◌, ◌≤◌, ◌++◌, true, IfOk, OnOk, if◌then◌else◌};
 ghost use Rattle.lowering.specs.Instructions.{code};
 ghost use Rattle.lowering.specs.Lines.{every, lines, all_lines};
-ghost use Rattle.lowering.specs.Kinds.{sides, choice_lines, turn_lines, voice_lines, before_start, fill_lines};
+ghost use Rattle.lowering.specs.Kinds.{sides, choice_lines, loop_lines, voice_lines, before_start, fill_lines};
 ghost use Rattle.blocks.specs.Trees.{tree_of, IfTree, UntilTree, EachVoiceTree};
 ghost use Rattle.blocks.specs.Shape.{nothing, jump_cost, down_cost, branch_cost};
 ghost use Rattle.blocks.specs.Sizes.{if_labels, label_count};
@@ -92,7 +92,7 @@ fn turns(
 ) -> Result<Listing, NoMemory>
     requires { place.first + 1 ≤ 65535 }
     ensures { IfOk result (λ listing. listing
-        ≡ turn_lines place.part place.first counter.0 counter.1 bodies.0 test far.0 far.1 bodies.1) }
+        ≡ loop_lines place.part place.first counter.0 counter.1 bodies.0 test far.0 far.1 bodies.1) }
 {
     let mut listing = Listing::new(alloc);
     let (mut head, mut inner) = bodies;
