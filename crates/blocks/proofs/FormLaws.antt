@@ -213,7 +213,8 @@ sum_put at p q a b c d b1 d1 ne eb ed la lb =
 -- one taken from the other
 difference_put : (at : ℕ → ℕ) (p q a b c d b1 d1 : ℕ) → p ≢ q → b1 ≡ b → d1 ≡ d → a < 256 → b < 256 → d < 256 →
     HasWord at
-    (put (put at q ((c + (255 - d1) + one_if (nat_le 256 (a + (255 - b1) + 1))) % 256)) p ((a + (255 - b1) + 1) % 256)) p q
+    (put (put at q ((c + (255 - d1) + one_if (nat_le 256 (a + (255 - b1) + 1))) % 256)) p ((a + (255 - b1) + 1) % 256))
+    p q
     (word_difference (word a c) (word b d))
 difference_put at p q a b c d b1 d1 ne eb ed la lb ld =
     rw (eb, ed)

@@ -32,8 +32,8 @@ abbrev pub sub_tree : Cell → Operand → Tree
 sub_tree to from =
     if is_one from then ChainTree (Dec (HeldCounted to) ∷ []) else changed_tree to (Sub (Plain from))
 
--- the low and then the high byte of a word. Both are changed before either is stored, so that the other word's bytes may
--- be this word's own; the low one waits in Y, and nothing between the two changes writes the carry
+-- the low and then the high byte of a word. Both are changed before either is stored, so that the other word's bytes
+-- may be this word's own; the low one waits in Y, and nothing between the two changes writes the carry
 abbrev pub word_tree : Cell → Cell → Step → Step → Tree
 word_tree low high first second =
     ChainTree (load (HeldOperand low) ∷ first ∷ Store IntoY ∷ load (HeldOperand high) ∷ second ∷ Store

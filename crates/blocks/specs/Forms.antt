@@ -61,8 +61,8 @@ pub record HasWord (before after : ℕ → ℕ) (low high number : ℕ) : Type 0
   pub high_byte : before low < 256 → after high ≡ number / 256
   pub rest : (place : ℕ) → place ≢ low → place ≢ high → after place ≡ before place
 
--- a word becomes what a rule says of it and another word, where its two bytes have places of their own; the other word's
--- bytes may be any, its own too
+-- a word becomes what a rule says of it and another word, where its two bytes have places of their own; the other
+-- word's bytes may be any, its own too
 abbrev pub ChangesWord : (ℕ → ℕ → ℕ) → Cell → Cell → Operand → Operand → Tree → Type 0
 ChangesWord rule low high other_low other_high tree =
     (layout : Layout) (voice : ℕ) (desk : Desk) →

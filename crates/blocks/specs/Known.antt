@@ -74,8 +74,8 @@ less one two = record {
 -- whether each register of the first set is in the second
 abbrev pub is_within : Known → Known → Bool
 is_within one two =
-    (not one.accumulator || two.accumulator) && (not one.y || two.y) && (not one.low || two.low) && (not one.high || two.high)
-    && (not one.carry || two.carry) && (not one.shown || two.shown)
+    (not one.accumulator || two.accumulator) && (not one.y || two.y) && (not one.low || two.low)
+    && (not one.high || two.high) && (not one.carry || two.carry) && (not one.shown || two.shown)
 
 -- what is read of registers
 abbrev pub summand_reads : Summand → Known

@@ -65,4 +65,10 @@ meaning layout (UntilTree counter count steps test body) voice desk =
 meaning layout (EachVoiceTree body) voice desk = for_voices (meaning layout body) desk
 meaning layout (WhenTree bit body) voice desk = if layout.is_kept bit then meaning layout body voice desk else desk
 meaning layout (FillTree start count) voice desk =
-    record desk { at = filled (fill_place layout start) count desk.at; accumulator = 0; y = 0; zero = true; minus = false }
+    record desk {
+      at = filled (fill_place layout start) count desk.at;
+      accumulator = 0;
+      y = 0;
+      zero = true;
+      minus = false;
+    }

@@ -10,7 +10,8 @@ use Rattle.blocks.specs.Words.{CountedY}
 use Rattle.blocks.specs.Words.{Step, Load, Store, Index, And, Or, Xor, Add, Sub, AddOn, SubOn, Double, Inc, Dec}
 use Rattle.blocks.specs.Words.{HalveAt, HalveOn}
 use Rattle.blocks.specs.Words.{Condition, Zero, Minus, Carry, Equal, Less, YEqual, Test, Is, Not}
-use Rattle.blocks.specs.Desk.{Desk, Layout, cell_place, sid_place, timer_place, pointer_place, shown, with_accumulator, with_y}
+use Rattle.blocks.specs.Desk.{Desk, Layout, cell_place, sid_place, timer_place, pointer_place, shown}
+use Rattle.blocks.specs.Desk.{with_accumulator, with_y}
 use Rattle.blocks.specs.Desk.{with_byte, with_shown_byte}
 
 -- the byte that an operand is
@@ -72,9 +73,12 @@ abbrev pub stepped : Layout → ℕ → Step → Desk → Desk
 stepped layout voice (Load source) desk = with_accumulator (source_byte layout voice source desk) desk
 stepped layout voice (Store place) desk = stored layout voice place desk
 stepped layout voice (Index operand) desk = with_y (operand_byte layout voice operand desk) desk
-stepped layout voice (And operand) desk = with_accumulator (bit_and desk.accumulator (operand_byte layout voice operand desk)) desk
-stepped layout voice (Or operand) desk = with_accumulator (bit_or desk.accumulator (operand_byte layout voice operand desk)) desk
-stepped layout voice (Xor operand) desk = with_accumulator (bit_xor desk.accumulator (operand_byte layout voice operand desk)) desk
+stepped layout voice (And operand) desk =
+    with_accumulator (bit_and desk.accumulator (operand_byte layout voice operand desk)) desk
+stepped layout voice (Or operand) desk =
+    with_accumulator (bit_or desk.accumulator (operand_byte layout voice operand desk)) desk
+stepped layout voice (Xor operand) desk =
+    with_accumulator (bit_xor desk.accumulator (operand_byte layout voice operand desk)) desk
 stepped layout voice (Add summand) desk = with_sum (desk.accumulator + summand_byte layout voice summand desk + 0) desk
 stepped layout voice (Sub summand) desk = with_difference (summand_byte layout voice summand desk) 1 desk
 stepped layout voice (AddOn summand) desk =

@@ -20,7 +20,7 @@ bytes = put (put (λ place. 0) 0x1001 1) 0x1002 129
 
 -- a desk with these bytes: A, Y and the carry; zero and minus both set, as no byte shows
 abbrev pub desk : ℕ → ℕ → Bool → Desk
-desk accumulator y carry = record { at = bytes; accumulator = accumulator; y = y; carry = carry; zero = true; minus = true }
+desk a y carry = record { at = bytes; accumulator = a; y = y; carry = carry; zero = true; minus = true }
 
 -- the same with another memory, and with zero and minus as a byte shows them
 abbrev pub with_memory : (ℕ → ℕ) → Desk → Desk

@@ -57,8 +57,8 @@ pub fn worked_blocks()
     ensures words { WordsAreWorked }
 {}
 
-/// Numbers of blocks by their shape, which of them are in their place, and what is known behind loops, choices and fills,
-/// worked by hand.
+/// Numbers of blocks by their shape, which of them are in their place, and what is known behind loops, choices and
+/// fills, worked by hand.
 pub fn worked_shapes()
     ensures weights { WeightsAreWorked }
     ensures lines { LinesAreWorked }

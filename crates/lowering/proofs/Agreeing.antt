@@ -15,7 +15,8 @@ use Rattle.blocks.specs.Steps.{one_more, one_less, counted, halved, compared, as
 use Rattle.blocks.specs.Steps.{condition_of}
 use Rattle.blocks.specs.Places.{is_cell, is_operand, is_summand, is_source, is_counted, is_step, are_steps}
 use Rattle.blocks.specs.Places.{is_condition}
-use Rattle.blocks.specs.Known.{Known, the_accumulator, the_y, the_low, the_high, the_carry, the_shown, either, is_within}
+use Rattle.blocks.specs.Known.{Known, the_accumulator, the_y, the_low, the_high, the_carry, the_shown, either}
+use Rattle.blocks.specs.Known.{is_within}
 use Rattle.blocks.specs.Known.{source_reads, summand_reads, counted_reads, counted_sets, place_sets}
 use Rattle.blocks.specs.Known.{step_reads, step_sets, steps_set, steps_read}
 use Rattle.blocks.specs.Known.{condition_reads, condition_sets, test_sets, test_reads}
@@ -93,13 +94,15 @@ source_same shared iv voice voiced k one two FromY is named known reads alike =
 
 -- A is known where a step reads it
 accumulator_same : (shared : Shared) (k : Known) (one two : Desk) (step : Step) → is_within (step_reads step) k ≡ true →
-    pick TheAccumulator (step_reads step) ≡ true → Alike shared.layout shared.Where k one two → one.accumulator ≡ two.accumulator
+    pick TheAccumulator (step_reads step) ≡ true → Alike shared.layout shared.Where k one two →
+    one.accumulator ≡ two.accumulator
 accumulator_same shared k one two step known read alike =
     alike.same TheAccumulator (known_when TheAccumulator (step_reads step) k known read)
 
 sum_alike : {layout : Layout} {Where : ℕ → Type 0} {one two : Desk} (k : Known) (a b : ℕ) → a ≡ b →
     Alike layout Where k one two →
-    Alike layout Where (either k (either the_accumulator (either the_carry the_shown))) (with_sum a one) (with_sum b two)
+    Alike layout Where (either k (either the_accumulator (either the_carry the_shown))) (with_sum a one)
+    (with_sum b two)
 sum_alike k a b e alike =
     with_carry k
     (carry_alike (nat_le 256 a) (nat_le 256 b) (ap (λ n. nat_le 256 n) e)
@@ -139,7 +142,8 @@ high_alike {layout = layout} {Where = Where} {one = one} {two = two} k a b e ali
     slot TheCarry h = alike.same TheCarry (or_none k.carry h)
     slot TheShown h = alike.same TheShown (or_none k.shown h)
 
-place_alike : (shared : Shared) (voice : ℕ) (k : Known) (one two : Desk) (place : Place) → one.accumulator ≡ two.accumulator →
+place_alike : (shared : Shared) (voice : ℕ) (k : Known) (one two : Desk) (place : Place) →
+    one.accumulator ≡ two.accumulator →
     Alike shared.layout shared.Where k one two →
     Alike shared.layout shared.Where (either k (place_sets place)) (stepped shared.layout voice (Store place) one)
     (stepped shared.layout voice (Store place) two)
@@ -190,7 +194,8 @@ y_within k e = rw e refl
 of_summand : (k : Known) (summand : Summand) → is_within (either the_accumulator (summand_reads summand)) k ≡ true →
     is_within (summand_reads summand) k ≡ true
 of_summand k (Plain operand) known = refl
-of_summand k (Entry table) known = y_within k (known_when TheY (either the_accumulator (summand_reads (Entry table))) k known refl)
+of_summand k (Entry table) known =
+    y_within k (known_when TheY (either the_accumulator (summand_reads (Entry table))) k known refl)
 
 of_summand_on : (k : Known) (summand : Summand) →
     is_within (either (either the_accumulator the_carry) (summand_reads summand)) k ≡ true →
@@ -199,11 +204,13 @@ of_summand_on k (Plain operand) known = refl
 of_summand_on k (Entry table) known =
     y_within k (known_when TheY (either (either the_accumulator the_carry) (summand_reads (Entry table))) k known refl)
 
-accumulator_too : (summand : Summand) → pick TheAccumulator (either (either the_accumulator the_carry) (summand_reads summand)) ≡ true
+accumulator_too : (summand : Summand) →
+    pick TheAccumulator (either (either the_accumulator the_carry) (summand_reads summand)) ≡ true
 accumulator_too (Plain operand) = refl
 accumulator_too (Entry table) = refl
 
-carry_too : (summand : Summand) → pick TheCarry (either (either the_accumulator the_carry) (summand_reads summand)) ≡ true
+carry_too : (summand : Summand) →
+    pick TheCarry (either (either the_accumulator the_carry) (summand_reads summand)) ≡ true
 carry_too (Plain operand) = refl
 carry_too (Entry table) = refl
 
@@ -240,7 +247,8 @@ step_alike shared iv voice voiced k one two (Sub summand) is named known reads a
     (summand_same shared iv voice voiced k one two summand is named (of_summand k summand known) reads alike)) alike
 step_alike shared iv voice voiced k one two (AddOn summand) is named known reads alike =
     sum_alike k _ _
-    (two_same (λ a b. a + b + one_if one.carry) (accumulator_same shared k one two (AddOn summand) known (accumulator_too summand) alike)
+    (two_same (λ a b. a + b + one_if one.carry)
+    (accumulator_same shared k one two (AddOn summand) known (accumulator_too summand) alike)
     (summand_same shared iv voice voiced k one two summand is named (of_summand_on k summand known) reads alike)
     ∙ ap (λ c. two.accumulator + summand_byte shared.layout voice summand two + one_if c)
     (alike.same TheCarry (known_when TheCarry (step_reads (AddOn summand)) k known (carry_too summand)))) alike

@@ -85,7 +85,8 @@ known_when s r k e h =
     let one = and_parts a b two.0 in
     of_slot s one.0 one.1 two.1 three.1 four.1 five.1 h
   where
-    of_slot : (s : Slot) → (not r.accumulator || k.accumulator) ≡ true → (not r.y || k.y) ≡ true → (not r.low || k.low) ≡ true →
+    of_slot : (s : Slot) → (not r.accumulator || k.accumulator) ≡ true → (not r.y || k.y) ≡ true →
+        (not r.low || k.low) ≡ true →
         (not r.high || k.high) ≡ true → (not r.carry || k.carry) ≡ true → (not r.shown || k.shown) ≡ true →
         pick s r ≡ true → pick s k ≡ true
     of_slot TheAccumulator a b c d f g h = implied r.accumulator k.accumulator a h

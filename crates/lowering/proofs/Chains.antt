@@ -132,7 +132,8 @@ add_does ground guarded part desk summand x v pc found index l h s =
     let start = guarded.start in
     let top = guarded.top in
     comes_with
-    (ap (λ b. with_sum (desk.accumulator + b + 0) desk) (summand_any_carry ground.layout ground.room.voice summand desk false))
+    (ap (λ b. with_sum (desk.accumulator + b + 0) desk)
+    (summand_any_carry ground.layout ground.room.voice summand desk false))
     (comes_on
     (gone x v (pc + 1) (record desk { carry = false }) index
     (goes_once (flag_steps.clc (bare_works ground.still x v pc desk Clc s.0 (omega arith) (omega arith)))))

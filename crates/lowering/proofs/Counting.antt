@@ -216,7 +216,8 @@ set_keeps : (layout : Layout) (names : Names) (low high : ℕ) → Inside layout
     counter_value layout counter (counter_set layout other count desk) ≡ counter_value layout counter desk
 set_keeps layout names low high inside (CounterVar label) (CounterVar other) own named leaves count desk =
     put_other desk.at (layout.address other) count (layout.address label)
-    (λ same. eqb-false label other (not_true (nat_eq label other) leaves) (inside.counters_apart label other own (inside.counters_own other named) same))
+    (λ same. eqb-false label other (not_true (nat_eq label other) leaves)
+    (inside.counters_apart label other own (inside.counters_own other named) same))
 set_keeps layout names low high inside (CounterVar label) CounterY own named leaves count desk = refl
 set_keeps layout names low high inside CounterY (CounterVar other) own named leaves count desk = refl
 set_keeps layout names low high inside CounterY CounterY own named leaves count desk = absurd (cc)
@@ -227,7 +228,8 @@ down_keeps : (layout : Layout) (names : Names) (low high : ℕ) → Inside layou
     counter_value layout counter (counter_down layout other desk) ≡ counter_value layout counter desk
 down_keeps layout names low high inside (CounterVar label) (CounterVar other) own named leaves desk =
     put_other desk.at (layout.address other) _ (layout.address label)
-    (λ same. eqb-false label other (not_true (nat_eq label other) leaves) (inside.counters_apart label other own (inside.counters_own other named) same))
+    (λ same. eqb-false label other (not_true (nat_eq label other) leaves)
+    (inside.counters_apart label other own (inside.counters_own other named) same))
 down_keeps layout names low high inside (CounterVar label) CounterY own named leaves desk = refl
 down_keeps layout names low high inside CounterY (CounterVar other) own named leaves desk = refl
 down_keeps layout names low high inside CounterY CounterY own named leaves desk = absurd (cc)
@@ -267,7 +269,8 @@ fill_keeps : (layout : Layout) (names : Names) (low high : ℕ) → Inside layou
 fill_keeps layout names low high inside (CounterVar label) own (StartVar first) count named leaves at desk after e =
     ap (λ at. at (layout.address label)) e
     ∙ filled_other (fill_place layout (StartVar first)) count desk.at (layout.address label)
-    (λ k few same. beyond (inside.counters_apart label (first + k) own (inside.rows_own first count k named few) same) few
+    (λ k few same. beyond
+    (inside.counters_apart label (first + k) own (inside.rows_own first count k named few) same) few
     (not_true (nat_le first label && nat_lt label (first + count)) leaves))
   where
     beyond : {k : ℕ} → label ≡ first + k → k < count → (nat_le first label && nat_lt label (first + count)) ≡ false → ⊥

@@ -8,7 +8,8 @@ use Rattle.blocks.specs.Desk.{Desk, Layout}
 use Rattle.blocks.specs.Known.{Known, none, either, both, less, steps_set}
 use Rattle.blocks.specs.Known.{test_sets, counter_sets, down_sets, voices_set, fill_sets, written, written_by_parts}
 use Rattle.blocks.specs.Known.{in_turns, known}
-use Rattle.lowering.proofs.Alike.{Slot, TheAccumulator, TheY, TheLow, TheHigh, TheCarry, TheShown, pick, pick_either, pick_both}
+use Rattle.lowering.proofs.Alike.{Slot, TheAccumulator, TheY, TheLow, TheHigh, TheCarry, TheShown, pick}
+use Rattle.lowering.proofs.Alike.{pick_either, pick_both}
 use Rattle.lowering.proofs.Alike.{pick_less, pick_none, Alike, alike_in}
 
 pub of_either : (s : Slot) (a b : Known) → pick s a ≡ true → pick s (either a b) ≡ true

@@ -179,7 +179,8 @@ zero_do ground guarded part desk x v pc index l h s =
     (goes_once (load_steps.lda (reads_immediate (pc + 2) s.0 (small (pc + 2) (omega arith)) (omega arith)))))
     (λ x' v' i. gone x' v' (pc + 2 + 1) (head desk.at 0 desk.y true false) i
     (goes_once
-    (flag_steps.clc (bare_works ground.still x' v' (pc + 2) (with_accumulator 0 desk) Clc s.1.0 (omega arith) (omega arith)))))
+    (flag_steps.clc
+    (bare_works ground.still x' v' (pc + 2) (with_accumulator 0 desk) Clc s.1.0 (omega arith) (omega arith)))))
 
 -- all three turns
 pub voices_do : (ground : Ground) → Guarded ground → ((x : ℕ) → ground.room.may_index x) → (part first : ℕ)

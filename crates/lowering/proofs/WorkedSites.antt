@@ -15,33 +15,36 @@ pub from_origin : (origin k : ℕ) → origin + (0 + k) - origin ≡ 0 + k
 from_origin origin k = omega arith
 
 -- where no voice's byte and no fill is named, the labels of the block's own are in their places alone
-in_place_of : (layout : Layout) (own counters registers : ℕ → Bool) (start end low high : ℕ) → 0x0800 ≤ start → end ≤ 0xD000 →
+in_place_of : (layout : Layout) (own counters registers : ℕ → Bool) (start end low high : ℕ) → 0x0800 ≤ start →
+    end ≤ 0xD000 →
     2 ≤ layout.pointer → layout.pointer ≤ 254 → ((label : ℕ) → own label ≡ true → layout.address label < end) →
     ((label : ℕ) → own label ≡ true → (layout.address label < low) ⊎ (high ≤ layout.address label)) →
     ((label : ℕ) → counters label ≡ true → own label ≡ true) →
     ((label other : ℕ) → counters label ≡ true → own other ≡ true → layout.address label ≡ layout.address other →
     label ≡ other) → InPlace layout (names_of own counters registers) start end low high
-in_place_of layout own counters registers start end low high begins ends pointer_low pointer_high inside outside among apart = record {
-  begins = begins;
-  ends = ends;
-  own_inside = inside;
-  own_outside = outside;
-  counters_own = among;
-  counters_apart = apart;
-  voices = λ label voice e few. absurd (false≢true e);
-  voices_own = λ label voice e few. absurd (false≢true e);
-  rows = λ label count k e few. absurd (false≢true e);
-  rows_own = λ label count k e few. absurd (false≢true e);
-  pointer_low = pointer_low;
-  pointer_high = pointer_high;
-}
+in_place_of layout own counters registers start end low high begins ends pointer_low pointer_high inside outside
+    among apart = record {
+      begins = begins;
+      ends = ends;
+      own_inside = inside;
+      own_outside = outside;
+      counters_own = among;
+      counters_apart = apart;
+      voices = λ label voice e few. absurd (false≢true e);
+      voices_own = λ label voice e few. absurd (false≢true e);
+      rows = λ label count k e few. absurd (false≢true e);
+      rows_own = λ label count k e few. absurd (false≢true e);
+      pointer_low = pointer_low;
+      pointer_high = pointer_high;
+    }
 
 loud_placed : IsWellPlaced loud_site
 loud_placed = record {
   sound = refl;
   named = refl;
   assembles = refl;
-  in_place = in_place_of (layout_at loud_site) (λ label. false) (λ label. false) (λ register. nat_eq register 24) 0x1000 0x1005 0x1000 0x1005
+  in_place = in_place_of (layout_at loud_site) (λ label. false) (λ label. false) (λ register. nat_eq register 24) 0x1000
+      0x1005 0x1000 0x1005
       (omega arith) (omega arith) (omega arith) (omega arith) (λ label e. absurd (false≢true e))
       (λ label e. absurd (false≢true e)) (λ label e. absurd (false≢true e))
       (λ label other e f same. absurd (false≢true e));
@@ -116,7 +119,8 @@ down_placed = record {
   sound = refl;
   named = refl;
   assembles = refl;
-  in_place = in_place_of (layout_at down_site) is_counted_label (λ label. nat_eq label 4) (λ register. false) 0x1000 0x101C
+  in_place = in_place_of (layout_at down_site) is_counted_label (λ label. nat_eq label 4) (λ register. false) 0x1000
+      0x101C
       0x1000 0x101A (omega arith) (omega arith) (omega arith) (omega arith) counted_inside counted_outside counter_own
       counter_apart;
 }

@@ -1,5 +1,5 @@
--- A lowered block with voices, a fill, a table and a part that is kept, worked by hand at $1000: its site is well placed,
--- and a state enters it. Source: the MOS 6502 programming manual.
+-- A lowered block with voices, a fill, a table and a part that is kept, worked by hand at $1000: its site is well
+-- placed, and a state enters it. Source: the MOS 6502 programming manual.
 use Rattle.std.specs.Prelude.{ℕ, ◌||◌, ◌&&◌, Bool, false, nat_eq, List, [], ◌∷◌, ◌++◌}
 use Rattle.asm6502.specs.declared.lines.Item.TheVariants.{Bytes}
 use Rattle.asm6502.specs.declared.lines.Line.{Line}
@@ -10,8 +10,8 @@ use Rattle.lowering.specs.Places.{Names}
 use Rattle.lowering.specs.Lowered.{Site}
 use Rattle.lowering.specs.WorkedSites.{site_of, IsMet, ComesTo}
 
--- the bytes under labels 4 and 5 become 0; then each voice's byte, under labels 10, 17 and 24, becomes entry 0, 7 and 14
--- of the table under label 3, and one more where bit 5 is kept
+-- the bytes under labels 4 and 5 become 0; then each voice's byte, under labels 10, 17 and 24, becomes entry 0, 7 and
+-- 14 of the table under label 3, and one more where bit 5 is kept
 abbrev pub entries : Tree
 entries =
     ThenTree (FillTree (StartVar 4) 2) (ThenTree (EachVoiceTree (ThenTree

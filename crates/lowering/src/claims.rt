@@ -10,15 +10,15 @@ ghost use Rattle.lowering.specs.WorkedSites.{LoudIsLowered, DownIsLowered};
 ghost use Rattle.lowering.specs.WorkedVoices.{EntriesAreLowered};
 
 /// The lines of a sound block do what it means, from any state with a clear decimal flag in whose memory they stand, at
-/// every origin and with every set of kept parts with which the listing around them assembles and is in place: it stands
-/// from `$0800` up to `$D000`, and the bytes that the block names stand in it outside the block's lines, those of a voice 7
-/// apart, those of a fill one behind the other, and no other of them where a loop's counter is.
+/// every origin and with every set of kept parts with which the listing around them assembles and is in place: it
+/// stands from `$0800` up to `$D000`, and the bytes that the block names stand in it outside its lines, those of
+/// a voice 7 apart, those of a fill one behind the other, and no other of them where a loop's counter is.
 pub fn lowered_blocks_do()
     ensures { LoweredBlocksDo }
 {}
 
-/// There they take the same number of steps from any two states that agree on the listing's bytes, and leave the same bytes
-/// there, where each entry and each byte by the pointer that the block reads on its way is a byte of the listing.
+/// There they take the same number of steps from any two states that agree on the listing's bytes, and leave the same
+/// bytes there, where each entry and each byte by the pointer that the block reads on its way is a byte of the listing.
 pub fn lowered_blocks_are_isolated()
     ensures { LoweredBlocksAreIsolated }
 {}
@@ -48,8 +48,8 @@ pub fn own_lines_cost()
     ensures whole { LinesCost }
 {}
 
-/// Three blocks at `$1000`, worked by hand: their bytes, a site that is well placed, a state that enters it, and where it
-/// comes to. So what the theorem on lowered blocks asks is met there.
+/// Three blocks at `$1000`, worked by hand: their bytes, a site that is well placed, a state that enters it, and where
+/// it comes to. So what the theorem on lowered blocks asks is met there.
 pub fn worked_sites()
     ensures loud { LoudIsLowered }
     ensures down { DownIsLowered }
