@@ -11,8 +11,8 @@ ghost use Rattle.lowering.specs.WorkedVoices.{EntriesAreLowered};
 
 /// The lines of a sound block do what it means, from any state with a clear decimal flag in whose memory they stand, at
 /// every origin and with every set of kept parts with which the listing around them assembles and is in place: it
-/// stands from `$0800` up to `$D000`, and the bytes that the block names stand in it outside its lines, those of
-/// a voice 7 apart, those of a fill one behind the other, and no other of them where a loop's counter is.
+/// stands from `$0800` up to `$D000`, and the bytes that the block names stand in it outside the block's lines, those
+/// of a voice 7 apart, those of a fill one behind the other, and no other of them where a loop's counter is.
 pub fn lowered_blocks_do()
     ensures { LoweredBlocksDo }
 {}
