@@ -6,7 +6,7 @@ use std::test::Fail;
 
 /// Appends a pattern of so many rows, each with another command and with the instruments 1 and 2 in turn.
 fn push_pattern(parts: &mut Vec<u8>, rows: u8) -> Result<(), Fail> {
-    parts.push(rows + 1)?;
+    parts.push(rows.saturating_add(1))?;
     for row in 0..rows {
         parts.extend_from_slice(&[0x90, 1 + row % 2, 5, row])?;
     }
