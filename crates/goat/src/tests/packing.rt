@@ -21,7 +21,8 @@ fn song_of(alloc: Global, plays: [u8; 3], rows: &[u8]) -> Result<Vec<u8>, Fail> 
     for pattern in plays {
         parts.extend_from_slice(&[2, pattern, 0xff, 0])?;
     }
-    parts.extend_from_slice(&[0, 0, 0, 0, 0, rows.len() as u8])?;
+    let patterns = u8::try_from(rows.len()).ok().ok_or("too many patterns")?;
+    parts.extend_from_slice(&[0, 0, 0, 0, 0, patterns])?;
     for rows in rows {
         push_pattern(&mut parts, *rows)?;
     }
