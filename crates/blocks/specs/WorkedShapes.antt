@@ -100,8 +100,9 @@ pub record SidesAreKnown : Type 0 where
   pub behind_fill : known (FillTree (StartVar 4) 9) the_carry
       ≡ either the_carry (either the_accumulator (either the_y the_shown))
 
--- a byte that a loop's test has found is stored where each way sets it: by the loop's steps, and read again behind it,
--- but not straight behind a loop whose body leaves another byte in A
+-- a byte that a loop's test has found is stored by the loop's own steps, or read again behind the loop. Straight behind a
+-- loop with a part that writes A nothing is known of A. Where each turn sets A it is known, but it is the byte that was
+-- found only where the loop ends by its test
 pub record FoundBytesAreWorked : Type 0 where
   pub in_steps : is_sound (UntilTree CounterY 5 (Load (Direct (Entry 9)) ∷ store_byte 3 ∷ []) (Is Minus)
       (ChainTree (Inc (HeldCounted (Var 4)) ∷ []))) ≡ true
@@ -109,5 +110,7 @@ pub record FoundBytesAreWorked : Type 0 where
       3 ∷ store_byte 5 ∷ []))) ≡ true
   pub straight : is_sound (ThenTree (UntilTree (CounterVar 4) 5 (load_byte 3 ∷ []) (Is Minus) part)
       (ChainTree (store_byte 5 ∷ []))) ≡ false
+  pub another : is_sound (ThenTree (UntilTree (CounterVar 4) 5 (load_byte 3 ∷ []) (Is Minus) (ChainTree (load_number 7
+      ∷ []))) (ChainTree (store_byte 5 ∷ []))) ≡ true
   pub no_part : is_sound (ThenTree (UntilTree (CounterVar 4) 5 (load_byte 3 ∷ []) (Is Minus) (ChainTree (Inc (HeldCounted
       (Var 6)) ∷ []))) (ChainTree (store_byte 5 ∷ []))) ≡ true

@@ -203,6 +203,9 @@ pub fn fetch(alloc: Global, to: Place, table: u16, index: Operand) -> Result<Blo
 
 /// Moves the byte at a 16-bit address plus an index, mod 65,536, through the pointer.
 ///
+/// The place that is read must not be a byte of the pointer, nor the high byte stand in the pointer's low one, nor the
+/// index in either.
+///
 /// # Errors
 ///
 /// Out of memory.

@@ -1,0 +1,11 @@
+-- What upper crates may cite.
+pub mod Laws
+-- The desk as the code of a voice sees it.
+pub mod VoiceDesks
+-- The places of memory as it sees them.
+pub mod Spots
+-- Trees lead in memory where they lead as a voice sees them.
+pub mod Leading
+pub mod Following
+-- Lists where it reads them.
+pub mod Reading

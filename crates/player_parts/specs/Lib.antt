@@ -1,0 +1,13 @@
+-- The words of the language of blocks.
+pub mod Words
+pub mod Codes
+-- To believe: the player's labels and lists, when they are laid out for a packed song, and when a memory holds a state.
+pub mod Labels
+pub mod PlayerLists
+pub mod PlayerLayouts
+pub mod Holds
+pub mod Elsewhere
+-- To believe: where an image may stand.
+pub mod Places
+-- Claimed: a memory finds what the packed song has.
+pub mod MemoryLooks

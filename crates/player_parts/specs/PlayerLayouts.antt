@@ -1,0 +1,50 @@
+-- When the labels of a player are laid out for a packed song. This is the project's own player.
+use Rattle.std.specs.Prelude.{◌≡◌, ℕ, ◌+◌, ◌<◌, ◌≤◌, ◌⊎◌, true, IsBitSet}
+use Rattle.song_model.specs.declared.features.Feature.{Feature}
+use Rattle.song_model.specs.Feature.{bit_of}
+
+use Rattle.packed_form.specs.declared.packed_songs.PackedSong.{PackedSong}
+use Rattle.blocks.specs.Desk.{Layout}
+use Rattle.player_parts.specs.Labels.{VARIABLES, FREQUENCY_LOWS, NEXT_FREQUENCY_LOWS, FREQUENCY_HIGHS}
+use Rattle.player_parts.specs.Labels.{NEXT_FREQUENCY_HIGHS, WAVE_LEFTS, NEXT_WAVE_LEFTS, WAVE_RIGHTS, NEXT_WAVE_RIGHTS}
+use Rattle.player_parts.specs.Labels.{PULSE_LEFTS, NEXT_PULSE_LEFTS, PULSE_RIGHTS, NEXT_PULSE_RIGHTS, FILTER_LEFTS}
+use Rattle.player_parts.specs.Labels.{NEXT_FILTER_LEFTS, FILTER_RIGHTS, NEXT_FILTER_RIGHTS}
+use Rattle.player_parts.specs.PlayerLists.{IsListPlace}
+
+-- a variable byte of the player
+abbrev pub IsVariablePlace : Layout → ℕ → Type 0
+IsVariablePlace layout place = (layout.address 0 ≤ place) × (place < layout.address 0 + VARIABLES)
+
+-- the labels that name the byte behind another label's
+pub record AreNext (layout : Layout) : Type 0 where
+  pub frequency_lows : layout.address NEXT_FREQUENCY_LOWS ≡ layout.address FREQUENCY_LOWS + 1
+  pub frequency_highs : layout.address NEXT_FREQUENCY_HIGHS ≡ layout.address FREQUENCY_HIGHS + 1
+  pub wave_lefts : layout.address NEXT_WAVE_LEFTS ≡ layout.address WAVE_LEFTS + 1
+  pub wave_rights : layout.address NEXT_WAVE_RIGHTS ≡ layout.address WAVE_RIGHTS + 1
+  pub pulse_lefts : layout.address NEXT_PULSE_LEFTS ≡ layout.address PULSE_LEFTS + 1
+  pub pulse_rights : layout.address NEXT_PULSE_RIGHTS ≡ layout.address PULSE_RIGHTS + 1
+  pub filter_lefts : layout.address NEXT_FILTER_LEFTS ≡ layout.address FILTER_LEFTS + 1
+  pub filter_rights : layout.address NEXT_FILTER_RIGHTS ≡ layout.address FILTER_RIGHTS + 1
+
+-- the variables stand one behind the other, they and the bytes of the lists from $0800 up to $D000, no byte of a list
+-- among the variables; and the pointer is in page 0
+pub record IsPlayerLayout (layout : Layout) (packed : PackedSong) : Type 0 where
+  pub begins : 0x0800 ≤ layout.address 0
+  pub ends : layout.address 0 + VARIABLES ≤ 0xD000
+  pub variables : (label : ℕ) → label < VARIABLES → layout.address label ≡ layout.address 0 + label
+  pub from : (place : ℕ) → IsListPlace layout packed place → 0x0800 ≤ place
+  pub to : (place : ℕ) → IsListPlace layout packed place → place < 0xD000
+  pub apart : (place : ℕ) → IsListPlace layout packed place →
+      (place < layout.address 0) ⊎ (layout.address 0 + VARIABLES ≤ place)
+  pub next : AreNext layout
+  pub pointer_low : 2 ≤ layout.pointer
+  pub pointer_high : layout.pointer ≤ 254
+
+-- where the player reads by Y: bytes of the lists, and variables
+abbrev pub MayRead : Layout → PackedSong → ℕ → Type 0
+MayRead layout packed place = IsListPlace layout packed place ⊎ IsVariablePlace layout place
+
+-- each feature of a set has its bit kept
+abbrev pub KeepsFeatures : Layout → ℕ → Type 0
+KeepsFeatures layout features =
+    (feature : Feature) → IsBitSet features (bit_of feature) → layout.is_kept (bit_of feature) ≡ true

@@ -1,0 +1,4 @@
+-- The way from a place of an orderlist to its next play.
+pub mod Ways
+-- The row of a voice.
+pub mod Rows
