@@ -1,4 +1,8 @@
--- The way from a place of an orderlist to its next play.
+-- The way from a place of an orderlist to its next play, and the repeats on it.
 pub mod Ways
+pub mod Repeats
+-- The walk, as the player's code does it.
+pub mod Walking
+pub mod Walked
 -- The row of a voice.
-pub mod Rows
+-- pub mod Rows

@@ -9,11 +9,11 @@ use Rattle.song_model.specs.declared.orders.Step.{Step}
 use Rattle.blocks.specs.Trees.{ThenTree, NoneTree, WhenTree}
 use Rattle.blocks.specs.Steps.{one_more, one_less}
 use Rattle.player_parts.specs.Words.{Var, VoiceVar, HeldCounted, CountedY, CounterVar}
-use Rattle.player_parts.specs.Labels.{ENTRY, OFFSET, PATTERN_LOW, PATTERN_HIGH, ORDER_LOW, ORDER_HIGH, ORDER_PLACE}
-use Rattle.player_parts.specs.Labels.{TRANSPOSE, REPEAT, COUNTER, WORK_LOW, PATTERN_LOWS, PATTERN_HIGHS, PATTERNS}
+use Rattle.player_parts.specs.declared.labels.TheConstants.{ENTRY, OFFSET, PATTERN_LOW, PATTERN_HIGH, ORDER_LOW, ORDER_HIGH, ORDER_PLACE}
+use Rattle.player_parts.specs.declared.labels.TheConstants.{TRANSPOSE, REPEAT, COUNTER, WORK_LOW, PATTERN_LOWS, PATTERN_HIGHS, PATTERNS}
 use Rattle.player_parts.specs.Holds.{AreHalves, transpose_byte}
 use Rattle.player_parts.proofs.Laws.{VoiceDesk, Reader, Leads, leads_on, pointed, with_cell, loaded, indexed, counted}
-use Rattle.player_parts.proofs.Laws.{StandsAt, Reads, by_pointer, by_entry}
+use Rattle.player_parts.proofs.Laws.{StandsAt, Reads, halves_add, by_entry}
 use Rattle.player_seq.specs.FetchBlock.{walk_begun_tree, walk_loop_tree, place_tree, again_tree, pattern_tree, walk_tree}
 use Rattle.player_seq.proofs.Ways.{Way, place_behind, Arrives}
 use Rattle.player_seq.proofs.Walking.{WalkGround, WalksAt, walk_touches, work_touches, Fine, IsOn, IsThere, loop_leads}
@@ -145,6 +145,45 @@ place_leads r order place step after first m most there = by_repeat there.rep re
 
 -- ---- the pattern
 
+-- by the halves of an address
+by_address : (r : Reader) (place n : ℕ) (byte : ℕ → ℕ) → StandsAt r place n byte → (low high i : ℕ) →
+    AreHalves low high place → i < n → Reads r ((low + 256 * high + i) % 65536) (byte i)
+by_address r place n byte stands low high i halves l =
+    let sum = halves_add low high place halves in
+    let small = stands.small i l in
+    let at : (low + 256 * high + i) % 65536 ≡ place + i = rw sum (omega (arith, small)) in
+    record { found = rw at (stands.found i l); is = rw at (stands.is i l) }
+
+-- the labels that are touched
+record Apart (label : ℕ) : Type 0 where
+  offset : nat_eq label OFFSET ≡ false
+  entry : nat_eq label ENTRY ≡ false
+  high : nat_eq label PATTERN_HIGH ≡ false
+  low : nat_eq label PATTERN_LOW ≡ false
+  others : (walk_touches label || nat_eq label ORDER_PLACE) ≡ false
+
+apart_of : (label : ℕ) → whole_touches label ≡ false → Apart label
+apart_of label h =
+    let e = apart_left _ (nat_eq label OFFSET) h in
+    let f = apart_left _ (nat_eq label ENTRY) e in
+    let g = apart_left _ (nat_eq label PATTERN_HIGH) f in record {
+      offset = apart_right _ (nat_eq label OFFSET) h;
+      entry = apart_right _ (nat_eq label ENTRY) e;
+      high = apart_right _ (nat_eq label PATTERN_HIGH) f;
+      low = apart_right _ (nat_eq label PATTERN_LOW) g;
+      others = apart_left _ (nat_eq label PATTERN_LOW) g;
+    }
+
+pattern_apart : (own first : ℕ → ℕ) (label low high entry offset : ℕ) → whole_touches label ≡ false →
+    ((label : ℕ) → (walk_touches label || nat_eq label ORDER_PLACE) ≡ false → own label ≡ first label) →
+    put (put (put (put own PATTERN_LOW low) PATTERN_HIGH high) ENTRY entry) OFFSET offset label ≡ first label
+pattern_apart own first label low high entry offset h same =
+    let apart = apart_of label h in
+    other_label (put (put (put own PATTERN_LOW low) PATTERN_HIGH high) ENTRY entry) OFFSET offset label apart.offset
+    ∙ (other_label (put (put own PATTERN_LOW low) PATTERN_HIGH high) ENTRY entry label apart.entry
+    ∙ (other_label (put own PATTERN_LOW low) PATTERN_HIGH high label apart.high
+    ∙ (other_label own PATTERN_LOW low label apart.low ∙ same label apart.others)))
+
 pattern_leads : (r : Reader) (patterns : ℕ) (bytes : ℕ → List ℕ) → PatternGround r patterns bytes → (step : Step)
     (after : OrderPlace) (first m : VoiceDesk) → step.pattern < patterns → Placed step after first m →
     Leads r pattern_tree (Walked r step after bytes first) m
@@ -158,7 +197,8 @@ pattern_leads r patterns bytes ground step after first m l placed =
     let halves : AreHalves (r.before ((r.layout.address PATTERN_LOWS + m.shared WORK_LOW) % 65536))
     (r.before ((r.layout.address PATTERN_HIGHS + m.shared WORK_LOW) % 65536)) (r.layout.address (PATTERNS + n)) =
     record { low_is = low.is; high_is = high.is } in
-    let begun = by_pointer r _ (length (bytes n)) _ (ground.each n l) _ 0 halves refl (ground.some n l) in (
+    let begun = by_address r _ (length (bytes n)) (λ j. get_or (bytes n) j 0) (ground.each n l) _ _ 0 halves
+    (ground.some n l) in (
       low.found,
       (
         high.found,
@@ -172,7 +212,7 @@ pattern_leads r patterns bytes ground step after first m l placed =
             address = halves;
             entry = begun.is;
             offset = refl;
-            own = λ label h. ? ;
+            own = λ label h. pattern_apart m.own first.own label _ _ _ _ h placed.own;
             shared = placed.shared;
             sid = placed.sid;
           },

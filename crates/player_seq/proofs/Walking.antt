@@ -3,10 +3,10 @@ use Rattle.std.proofs.Common.{◌≡◌, ◌≢◌, ◌⊎◌, ℕ, ℤ, pos, �
 use Rattle.std.proofs.Common.{◌||◌, Bool, true, false, not, nat_eq, nat_lt, nat_le, bit_and, if◌then◌else◌, List, []}
 use Rattle.std.proofs.Common.{◌∷◌, ◌++◌, length, drop, get_or, inl, inr, refl, sym, ap, ◌∙◌, subst, arith}
 use Rattle.std.proofs.lemmas.Bool.{agree_below_at, leb-true, leb-false, not-true, not-false, eqb-true, eqb-false, lt-ltb}
-use Rattle.std.proofs.lemmas.Bool.{le-ltb, cases_lt}
+use Rattle.std.proofs.lemmas.Bool.{le-ltb, cases_lt, true≢false}
 use Rattle.code_runs.specs.Runs.{put}
 use Rattle.player_parts.specs.Words.{Var, Const, CountedY, Is, Less, CounterVar}
-use Rattle.blocks.specs.Trees.{WhenTree}
+use Rattle.blocks.specs.Trees.{ChainTree, NoneTree, ThenTree, WhenTree}
 use Rattle.blocks.specs.Steps.{one_more}
 use Rattle.code_runs.proofs.Laws.{put_other}
 use Rattle.song_model.specs.declared.orders.Order.{Order}
@@ -14,11 +14,11 @@ use Rattle.song_model.specs.declared.orders.OrderPlace.{OrderPlace}
 use Rattle.song_model.specs.declared.orders.Step.{Step}
 use Rattle.song_model.specs.Walk.{transpose_after, repeat_after}
 use Rattle.song_model.specs.Endless.{IsEndless}
-use Rattle.player_parts.specs.Labels.{TRANSPOSE, REPEAT, COUNTER, WORK_LOW}
+use Rattle.player_parts.specs.declared.labels.TheConstants.{TRANSPOSE, REPEAT, COUNTER, WORK_LOW}
 use Rattle.player_parts.specs.Holds.{AreHalves, transpose_byte}
 use Rattle.player_parts.proofs.Laws.{VoiceDesk, Reader, TestLeads, EitherLeads, TurnsLead, Leads, pointed, counter_down}
-use Rattle.player_parts.proofs.Laws.{loaded, with_cell, counted, compared}
-use Rattle.player_parts.specs.Codes.{load_byte, store_shared}
+use Rattle.player_parts.proofs.Laws.{loaded, indexed, with_cell, counted, compared}
+use Rattle.player_parts.specs.Codes.{load_byte, store_shared, next_y}
 use Rattle.player_parts.proofs.Laws.{leads_on, StandsAt, Reads, by_pointer}
 use Rattle.player_seq.specs.FetchBlock.{transpose_tree, repeat_tree, walk_on_tree, walk_loop_tree}
 use Rattle.player_seq.proofs.Ways.{Way, way_on, way_round, place_behind, Arrives, arrives}
@@ -88,15 +88,15 @@ pub record WalksAt (place : ℕ) (first d : VoiceDesk) (p : ℕ) (t : ℤ) (rep 
   pub sid : d.sid ≡ first.sid
 
 -- a label apart from one that is written
-apart_left : (a b : Bool) → (a || b) ≡ false → a ≡ false
+pub apart_left : (a b : Bool) → (a || b) ≡ false → a ≡ false
 apart_left false b e = refl
-apart_left true b never = elim never [ ]
+apart_left true b e = absurd (true≢false e)
 
-apart_right : (a b : Bool) → (a || b) ≡ false → b ≡ false
+pub apart_right : (a b : Bool) → (a || b) ≡ false → b ≡ false
 apart_right false b e = e
-apart_right true b never = elim never [ ]
+apart_right true b e = absurd (true≢false e)
 
-other_label : (bytes : ℕ → ℕ) (written byte label : ℕ) → nat_eq label written ≡ false →
+pub other_label : (bytes : ℕ → ℕ) (written byte label : ℕ) → nat_eq label written ≡ false →
     put bytes written byte label ≡ bytes label
 other_label bytes written byte label e = put_other bytes written byte label (eqb-false label written e)
 
@@ -308,7 +308,7 @@ turn_leads r order place looks ground step after first n d p t rep byte at way f
                 p = order.restart;
                 t = t;
                 rep = rep;
-                walks = counted_down (record {
+                walks = counted_down {m = indexed (r.before (pointed moved)) (loaded (r.before (pointed moved)) moved)} (record {
                   y = restart;
                   address = at.address;
                   transpose = at.transpose;
@@ -343,15 +343,17 @@ turn_leads r order place looks ground step after first n d p t rep byte at way f
             λ met. absurd (omega (arith, acc, small, eqb-true d.accumulator 0xFF met)),
             λ unmet.
                 leads_on r (WhenTree 0 transpose_tree)
-                (λ m. WalksAt place first m p (transpose_after byte t) rep) _ asked
+                (λ m. WalksAt place first m p (transpose_after byte t) rep)
+                (Leads r (ThenTree (WhenTree 1 repeat_tree) (ThenTree (ChainTree (next_y ∷ [])) NoneTree)) Goal) asked
                 (λ m h.
                 leads_on r (WhenTree 1 repeat_tree)
-                (λ m. WalksAt place first m p (transpose_after byte t) (repeat_after byte rep)) _ m
+                (λ m. WalksAt place first m p (transpose_after byte t) (repeat_after byte rep))
+                (Leads r (ThenTree (ChainTree (next_y ∷ [])) NoneTree) Goal) m
                 (λ m h. record {
                   p = p + 1;
                   t = transpose_after byte t;
                   rep = repeat_after byte rep;
-                  walks = counted_down (record {
+                  walks = counted_down {m = counted one_more CountedY m} (record {
                     y = ap one_more h.y ∙ omega (arith, l, most);
                     address = h.address;
                     transpose = h.transpose;
@@ -421,18 +423,25 @@ loop_leads r order place looks ground step after first (suc n) d on =
               },
           λ unmet.
               let above = leb-true 0xD0 (r.before (pointed d)) (not-false _ unmet) in
-              leads_on r walk_on_tree _ _ _ (λ m h. loop_leads r order place looks ground step after first n _ h)
-              (turn_leads r order place looks ground step after first n _ on.p on.t on.rep (order_byte order on.p)
+              leads_on r walk_on_tree (λ m. IsOn r order place step after first looks n (counter_down (CounterVar COUNTER) m))
+              (λ m. TurnsLead n (Is (Less (Const 0xD0)))
+              (TestLeads r (load_byte ∷ store_shared WORK_LOW ∷ []) (Is (Less (Const 0xD0))))
+              (λ After. Leads r walk_on_tree (λ more. After (counter_down (CounterVar COUNTER) more)))
+              (IsThere r order place step after first) (counter_down (CounterVar COUNTER) m)) seen
+              (λ m h. loop_leads r order place looks ground step after first n (counter_down (CounterVar COUNTER) m) h)
+              (turn_leads r order place looks ground step after first n seen on.p on.t on.rep (order_byte order on.p)
               (looked at) on.way on.fine on.looks_left refl is (omega (arith, is, above))),
         ),
       ),
     )
   where
     -- a byte was loaded, kept as one to work with, and compared
-    looked : {p : ℕ} {t : ℤ} {rep : ℕ} → WalksAt place first d p t rep →
-        WalksAt place first
-        (compared (r.before (pointed d)) 0xD0
-        (with_cell (Var WORK_LOW) (r.before (pointed d)) (loaded (r.before (pointed d)) d))) p t rep
+    seen : VoiceDesk
+    seen =
+        compared (r.before (pointed d)) 0xD0
+        (with_cell (Var WORK_LOW) (r.before (pointed d)) (loaded (r.before (pointed d)) d))
+
+    looked : {p : ℕ} {t : ℤ} {rep : ℕ} → WalksAt place first d p t rep → WalksAt place first seen p t rep
     looked at = record {
       y = at.y;
       address = at.address;

@@ -140,7 +140,10 @@ first_place_is p byte t (suc r) bytes others l = let low : nat_lt byte 0xD0 ≡ 
 first_play_is : (byte : ℕ) (t : ℤ) (r : ℕ) (bytes : List ℕ) (others : List Step) → byte < 0xD0 →
     get_or (walk_plays (byte ∷ bytes) t r ++ others) 0 no_step ≡ record { pattern = byte; transpose = t }
 first_play_is byte t zero bytes others l = let low : nat_lt byte 0xD0 ≡ true = lt-ltb byte 0xD0 l in rw low refl
-first_play_is byte t (suc r) bytes others l = let low : nat_lt byte 0xD0 ≡ true = lt-ltb byte 0xD0 l in rw low refl
+first_play_is byte t (suc r) bytes others l =
+    let low : nat_lt byte 0xD0 ≡ true = lt-ltb byte 0xD0 l in
+    let more : suc r + 1 ≡ suc (r + 1) = omega arith in
+    rw (low, more) refl
 
 -- a pattern is played
 pub record Arrives (order : Order) (step : Step) (after : OrderPlace) (p : ℕ) (t : ℤ) (r : ℕ) : Type 0 where
@@ -173,6 +176,10 @@ pub record Begun (order : Order) (n : ℕ) (at : OrderPlace) : Type 0 where
   pub next : NextPlace order n after
   pub way : Way order (played order n) after at.place at.transpose at.repeat
 
+moved_way : (order : Order) (step : Step) (after : OrderPlace) (p q : ℕ) (t u : ℤ) (r s : ℕ) → p ≡ q → t ≡ u → r ≡ s →
+    OnWay order step after q u s → OnWay order step after p t r
+moved_way order step after p q t u r s ep et er on = rw (ep, et, er) on
+
 way_of : (order : Order) (step : Step) (after at there : OrderPlace) (z : Bool) →
     nat_eq at.place (length order.entries) ≡ z → restarted order at ≡ there → at.place ≤ length order.entries →
     OnWay order step after there.place there.transpose there.repeat →
@@ -181,7 +188,9 @@ way_of order step after at there true z e l on =
     let place : order.restart ≡ there.place = sym (rw z refl) ∙ ap (λ p. p.place) e in
     let transpose : at.transpose ≡ there.transpose = sym (rw z refl) ∙ ap (λ p. p.transpose) e in
     let repeat : at.repeat ≡ there.repeat = sym (rw z refl) ∙ ap (λ p. p.repeat) e in
-    record { before = l; on = rw z (rw (place, transpose, repeat) on) }
+    let go : OnWay order step after order.restart at.transpose at.repeat =
+    moved_way order step after _ _ _ _ _ _ place transpose repeat on in
+    record { before = l; on = rw z go }
 way_of order step after at there false z e l on =
     let same : at ≡ there = sym (rw z refl) ∙ e in
     record { before = l; on = rw z (rw same on) }
