@@ -9,3 +9,5 @@ pub mod Leading
 pub mod Following
 -- Lists where it reads them.
 pub mod Reading
+-- From the desk of a voice to the whole memory.
+pub mod Moving

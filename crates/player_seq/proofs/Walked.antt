@@ -219,3 +219,60 @@ pattern_leads r patterns bytes ground step after first m l placed =
         ),
       ),
     )
+
+-- ---- the whole
+
+-- where the walk begins: at the place of a play, which comes in so many looks
+pub record WalksFrom (r : Reader) (order : Order) (place : ℕ) (step : Step) (after at : OrderPlace) (looks : ℕ → ℕ)
+    (count : ℕ) (d : VoiceDesk) : Type 0 where
+  pub address : AreHalves (d.own ORDER_LOW) (d.own ORDER_HIGH) place
+  pub place_is : d.own ORDER_PLACE ≡ at.place
+  pub transpose : d.own TRANSPOSE ≡ transpose_byte at.transpose
+  pub repeat : d.own REPEAT ≡ at.repeat
+  pub way : Way order step after at.place at.transpose at.repeat
+  pub fine : Fine r at.repeat
+  pub looks_left : looks at.place < count
+
+pub walk_leads : (r : Reader) (order : Order) (place : ℕ) (looks : ℕ → ℕ) (patterns : ℕ) (bytes : ℕ → List ℕ)
+    (step : Step) (after at : OrderPlace) (count : ℕ) (d : VoiceDesk) → WalkGround r order place looks →
+    PatternGround r patterns bytes → step.pattern < patterns →
+    WalksFrom r order place step after at looks count d →
+    Leads r (walk_tree count) (Walked r step after bytes d) d
+walk_leads r order place looks patterns bytes step after at count d ground list l from =
+    leads_on r (walk_loop_tree count) (IsThere r order place step after d)
+    (Leads r (ThenTree place_tree (ThenTree (WhenTree 1 again_tree) (ThenTree pattern_tree NoneTree)))
+    (Walked r step after bytes d)) begun
+    (λ m there.
+    leads_on r (ThenTree place_tree (WhenTree 1 again_tree)) (Placed step after d)
+    (Leads r (ThenTree pattern_tree NoneTree) (Walked r step after bytes d)) m
+    (λ m placed. pattern_leads r patterns bytes list step after d m l placed)
+    (place_leads r order place step after d m ground.most there))
+    (loop_leads r order place looks ground step after d count counting (record {
+      p = at.place;
+      t = at.transpose;
+      rep = at.repeat;
+      walks = record {
+        y = from.place_is;
+        address = from.address;
+        transpose = from.transpose;
+        repeat = from.repeat;
+        own = λ label h. refl;
+        shared = λ label h.
+            other_label d.shared COUNTER _ label (apart_left (nat_eq label COUNTER) (nat_eq label WORK_LOW) h);
+        sid = refl;
+      };
+      way = from.way;
+      fine = from.fine;
+      looks_left = from.looks_left;
+    }))
+  where
+    -- the pointer is set, and then the counter
+    begun : VoiceDesk
+    begun =
+        indexed (d.own ORDER_PLACE)
+        (record (loaded (d.own ORDER_HIGH) (record (loaded (d.own ORDER_LOW) d) { low = d.own ORDER_LOW })) {
+          high = d.own ORDER_HIGH;
+        })
+
+    counting : VoiceDesk
+    counting = with_cell (Var COUNTER) count (loaded count begun)
