@@ -4,5 +4,7 @@ pub mod Repeats
 -- The walk, as the player's code does it.
 pub mod Walking
 pub mod Walked
+-- What it stands on in a packed song.
+pub mod Orders
 -- The row of a voice.
 -- pub mod Rows

@@ -1,4 +1,5 @@
 -- To believe: the player's blocks that begin a subtune and fetch a row.
+pub mod PackedLimits
 pub mod InitBlock
 pub mod FetchBlock
 -- Claimed: what they do in a memory that holds a state.
