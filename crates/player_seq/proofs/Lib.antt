@@ -7,4 +7,8 @@ pub mod Walked
 -- What it stands on in a packed song.
 pub mod Orders
 -- The row of a voice.
--- pub mod Rows
+pub mod Rows
+-- The patterns of a packed song.
+pub mod Patterns
+-- The whole block.
+pub mod Fetching
