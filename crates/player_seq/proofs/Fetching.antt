@@ -1,25 +1,26 @@
 -- The block that fetches a row does what the rule of the frame does.
 use Rattle.std.proofs.Common.{◌≡◌, ◌≢◌, ℕ, zero, suc, ◌+◌, ◌*◌, ◌<◌, ◌≤◌, ◌||◌, Bool, true, false, nat_eq, ◌==◌}
-use Rattle.std.proofs.Common.{if◌then◌else◌, List, length, get_or, inl, inr, refl, sym, ap, ◌∙◌, subst, arith}
-use Rattle.std.proofs.lemmas.Bool.{eqb-true, eqb-false, true≢false}
+use Rattle.std.proofs.Common.{if◌then◌else◌, List, [], ◌∷◌, length, get_or, inl, inr, refl, sym, ap, ◌∙◌, subst, arith}
+use Rattle.std.proofs.lemmas.Bool.{eqb-true, eqb-false, eq-eqb, ne_eqb, true≢false}
 use Rattle.std.proofs.lemmas.List.{length-map}
 use Rattle.song_model.specs.declared.orders.Order.{Order}
 use Rattle.song_model.specs.declared.orders.OrderPlace.{OrderPlace}
 use Rattle.song_model.specs.declared.orders.Step.{Step}
 use Rattle.song_model.specs.declared.songs.Song.{Song}
 use Rattle.song_model.specs.Endless.{IsEndless}
-use Rattle.song_model.specs.LookUp.{order_of, pattern_at}
+use Rattle.song_model.specs.declared.rows.Row.{Row}
+use Rattle.song_model.specs.LookUp.{IsNumbered, order_of, pattern_at, pattern_row}
 use Rattle.song_model.specs.Places.{restarted, place_of}
 use Rattle.song_model.specs.Walk.{played}
-use Rattle.play_model.specs.LookUps.{look_ups_of}
+use Rattle.play_model.specs.LookUps.{LookUps, look_ups_of}
 use Rattle.play_model.specs.Ranges.{IsVoice, IsFrameState}
 use Rattle.play_model.specs.Safe.{IsSafe, IsSafeVoice}
 use Rattle.play_model.specs.State.{Voice, Common, FrameState, Playing, voice_of, playing_of, with_playing}
-use Rattle.play_model.specs.FetchRow.{fetch_row, fetched_from}
+use Rattle.play_model.specs.FetchRow.{row_taken, fetch_row, fetched_from}
 use Rattle.play_model.specs.Frame.{row_fetched, subtune_at}
 use Rattle.play_model.specs.TickStep.{tempo_of}
 use Rattle.packed_form.specs.declared.packed_songs.PackedSong.{PackedSong}
-use Rattle.packed_form.specs.Unpacked.{unpacked_song}
+use Rattle.packed_form.specs.Unpacked.{unpacked_instrument, unpacked_song}
 use Rattle.packed_form.specs.StandsFor.{StandsFor}
 use Rattle.blocks.specs.Desk.{Desk, Layout}
 use Rattle.blocks.specs.Meaning.{meaning}
@@ -41,14 +42,15 @@ use Rattle.player_parts.specs.Holds.{AreHalves, transpose_byte, OrderPlaceStands
 use Rattle.player_parts.specs.Holds.{FieldsStand, VoiceStands, CommonStands, HandedOn, HandedStands, VoiceOfStands, Holds}
 use Rattle.player_parts.proofs.Laws.{VoiceDesk, Reader, Leads, leads_on, Shows, Led, led, reader, ground_of, seen, desk_seen}
 use Rattle.player_parts.proofs.Laws.{SameOwn, SameShared, fields_moved, common_moved, handed_moved, VoiceDone}
-use Rattle.player_parts.proofs.Laws.{holds_after, leaves_after, loaded}
+use Rattle.player_parts.proofs.Laws.{holds_after, leaves_after, loaded, compared}
 use Rattle.player_seq.specs.PackedLimits.{HasShortPatterns}
 use Rattle.player_seq.specs.FetchBlock.{walk_tree, row_tree, fetch_tree}
 use Rattle.player_seq.proofs.Ways.{Way, begun}
-use Rattle.player_seq.proofs.Walking.{Fine, WalkGround, work_touches}
+use Rattle.player_seq.proofs.Walking.{Fine, WalkGround, work_touches, apart_left}
 use Rattle.player_seq.proofs.Walked.{PatternGround, whole_touches, Walked, WalksFrom, walk_leads}
 use Rattle.player_seq.proofs.Orders.{VoiceOrder, voice_order, walk_ground, repeats_fine}
-use Rattle.player_seq.proofs.Patterns.{pattern_ground, StartsAt, pattern_starts, play_stored, row_ground, instrument_stored}
+use Rattle.player_seq.proofs.Patterns.{pattern_ground, StartsAt, pattern_starts, pattern_short, play_stored}
+use Rattle.player_seq.proofs.Patterns.{row_ground, instrument_stored}
 use Rattle.player_seq.proofs.Rows.{RowGround, RowAt, RowNext, Ended, GoesOnWith, RowFetched, row_touches, row_leads}
 
 -- ---- the orderlist's part
@@ -243,3 +245,140 @@ next_stands layout packed place order v after tempo first d m inside own (GoesOn
       };
       row_stands = row;
     }))
+
+-- the row, where its time has come
+row_done : (layout : Layout) (packed : PackedSong) (song : Song) (k voice : ℕ) (at : ℕ → ℕ) (order : Order)
+    (looks : ℕ → ℕ) (v : Voice) (tempo : ℕ) (first d : VoiceDesk) → Scene layout packed song k voice at order looks →
+    IsVoice v → IsSafeVoice (unpacked_song packed) order v →
+    InPattern layout packed (layout.address (ORDERS + 3 * k + voice)) order v tempo first d →
+    Leads (reader layout packed voice at) (IfTree (load_own TICK ∷ []) (Is (Equal (own_byte GATE_TIMER))) row_tree NoneTree)
+    (FetchDone layout packed k voice order (voice_after packed order v) tempo first) d
+unfolding fetch_row
+row_done layout packed song k voice at order looks v tempo first d scene range safe inside =
+    let tick = inside.fields.tick in
+    let gate = inside.fields.gate_timer in
+    let ticks = range.tick in
+    let gates = range.gate_timer in (
+      omega (arith, tick, ticks),
+      omega (arith, gate, gates),
+      (
+        λ met.
+            let now : (v.tick == v.gate_timer) ≡ true =
+            eq-eqb v.tick v.gate_timer (sym tick ∙ (eqb-true (d.own TICK) (d.own GATE_TIMER) met ∙ gate)) in
+            leads_on r row_tree (RowFetched look bytes rows play.transpose v tempo asked)
+            (FetchDone layout packed k voice order (voice_after packed order v) tempo first) asked
+            (λ m row. rw now (record {
+              own = record {
+                order_address = record {
+                  low_is = row.own ORDER_LOW refl ∙ inside.order_address.low_is;
+                  high_is = row.own ORDER_HIGH refl ∙ inside.order_address.high_is;
+                };
+                fetching =
+                    next_stands layout packed (layout.address (ORDERS + 3 * k + voice)) order v
+                    (fetched_from look rows play.transpose v) tempo first d m inside row.own row.next;
+                fields = row.fields;
+              };
+              shared = λ label h.
+                  row.shared label (apart_left (nat_eq label COUNTER) (nat_eq label WORK_LOW) h)
+                  ∙ inside.shared label h;
+              sid = row.sid ∙ inside.sid;
+            }))
+            (row_leads r look bytes rows (layout.address (PATTERNS + play.pattern)) (length packed.instruments)
+            play.transpose v tempo asked
+            (row_ground packed song layout voice play.pattern at scene.stands scene.laid scene.has scene.short stored)
+            (record {
+              address = inside.play.address;
+              transpose_is = inside.play.transpose;
+              some = inside.some;
+              row_stands = inside.play.row_stands;
+              fields = inside.fields;
+              voice = range;
+              first = numbered.first;
+              last = let count = length-map packed.instruments unpacked_instrument in
+                  let last = numbered.last in
+                  omega (arith, last, count);
+              count = pattern_short packed song play.pattern scene.stands stored;
+            })),
+        λ unmet.
+            let later : (v.tick == v.gate_timer) ≡ false =
+            ne_eqb v.tick v.gate_timer (λ e. eqb-false (d.own TICK) (d.own GATE_TIMER) unmet (tick ∙ (e ∙ sym gate))) in
+            rw later (record {
+              own = record {
+                order_address = inside.order_address;
+                fetching = GoesOn inside.some inside.play;
+                fields = inside.fields;
+              };
+              shared = inside.shared;
+              sid = inside.sid;
+            }),
+      ),
+    )
+  where
+    r : Reader
+    r = reader layout packed voice at
+
+    look : LookUps
+    look = look_ups_of (unpacked_song packed)
+
+    play : Step
+    play = played order v.plays
+
+    bytes : List ℕ
+    bytes = pattern_bytes packed play.pattern
+
+    rows : List Row
+    rows = pattern_at (unpacked_song packed) play.pattern
+
+    asked : VoiceDesk
+    asked = compared (d.own TICK) (d.own GATE_TIMER) (loaded (d.own TICK) d)
+
+    stored : play.pattern < length packed.patterns
+    stored = play_stored packed song order v.plays scene.stands scene.of.played scene.of.endless
+
+    numbered : IsNumbered (unpacked_song packed).instruments (row_taken (pattern_row rows v.row) v).instrument
+    numbered =
+        instrument_stored packed song order v scene.stands scene.of.played scene.of.endless safe.instrument safe.row
+
+-- ---- the whole
+
+fetch_leads : (layout : Layout) (packed : PackedSong) (song : Song) (k voice : ℕ) (at : ℕ → ℕ) (order : Order)
+    (looks : ℕ → ℕ) (v : Voice) (tempo count : ℕ) (d : VoiceDesk) → Scene layout packed song k voice at order looks →
+    ((p : ℕ) → p ≤ length order.entries → looks p < count) → IsVoice v → IsSafeVoice (unpacked_song packed) order v →
+    VoiceStands layout packed k voice order v tempo d.own →
+    Leads (reader layout packed voice at) (fetch_tree count)
+    (FetchDone layout packed k voice order (voice_after packed order v) tempo d) d
+fetch_leads layout packed song k voice at order looks v tempo count d scene within range safe stood =
+    by_fetching stood.fetching
+  where
+    r : Reader
+    r = reader layout packed voice at
+
+    asked : VoiceDesk
+    asked = loaded (d.own ENTRY) d
+
+    Done : VoiceDesk → Type 0
+    Done m = FetchDone layout packed k voice order (voice_after packed order v) tempo d m
+
+    by_fetching : Fetching layout packed order v.plays v.row d.own → Leads r (fetch_tree count) Done d
+    by_fetching (Begins none row place) = (
+      λ met.
+          leads_on r (walk_tree count) (InPattern layout packed (layout.address (ORDERS + 3 * k + voice)) order v tempo d)
+          (Leads r (ThenTree (IfTree (load_own TICK ∷ []) (Is (Equal (own_byte GATE_TIMER))) row_tree NoneTree) NoneTree)
+          Done) asked
+          (λ m inside. row_done layout packed song k voice at order looks v tempo d m scene range safe inside)
+          (begin_leads layout packed song k voice at order looks v tempo count d asked scene within row place stood.fields
+          stood.order_address refl refl refl),
+      λ unmet. absurd (eqb-false (d.own ENTRY) 0 unmet none),
+    )
+    by_fetching (GoesOn some play) = (
+      λ met. absurd (some (eqb-true (d.own ENTRY) 0 met)),
+      λ unmet.
+          row_done layout packed song k voice at order looks v tempo d asked scene range safe (record {
+            some = some;
+            play = play;
+            fields = stood.fields;
+            order_address = stood.order_address;
+            shared = λ label h. refl;
+            sid = refl;
+          }),
+    )

@@ -99,6 +99,14 @@ pattern_rows : (packed : PackedSong) (n : ℕ) → n < length packed.patterns �
 unfolding pattern_at
 pattern_rows packed n l = get_or-map unpacked_pattern packed.patterns n [] [] l
 
+-- a pattern has at most 128 rows
+pub pattern_short : (packed : PackedSong) (song : Song) (n : ℕ) → StandsFor packed song → n < length packed.patterns →
+    length (pattern_at (unpacked_song packed) n) ≤ 128
+pattern_short packed song n stands l =
+    let most = (pattern_spelled packed song n stands l).count.most in
+    let same = ap length (pattern_rows packed n l) in
+    omega (arith, most, same)
+
 -- where they stand
 pub pattern_ground : (packed : PackedSong) (song : Song) (layout : Layout) (voice : ℕ) (at : ℕ → ℕ) →
     StandsFor packed song → IsPlayerLayout layout packed → HasLists layout packed at →
