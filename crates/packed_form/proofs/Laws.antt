@@ -28,3 +28,9 @@ pub use Rattle.packed_form.proofs.NormalRows.{normal_rows_are_fetched}
 pub use Rattle.packed_form.proofs.SizesOfSongs.{same_sets, sizes_are_the_songs, packed_size_is_within}
 -- the tables of a song that can be played are whole
 pub use Rattle.packed_form.proofs.PlayablePrograms.{playable_programs_are_whole}
+-- the greatest of items is at least each, and within what each is within
+pub use Rattle.packed_form.proofs.Greatest.{greatest_cons, greatest_at, greatest_has, greatest_within}
+-- one look of a walk along an orderlist, and how many there are at most
+pub use Rattle.packed_form.proofs.OrderWalks.{looks_pattern, looks_other, looks_behind, looks_endmark, looks_go_on, looks_within, most_at, most_within}
+-- and in a packed song, whose count is above each
+pub use Rattle.packed_form.proofs.SongWalks.{looks_below, walks_end, count_within, walk_counts_are_bytes, endmarks_count, plain_walks_are_two}

@@ -24,9 +24,14 @@ mod FirstSeen
 mod FirstPlaces
 -- Inner: what a frame does with normal rows.
 mod NormalRows
+-- Inner: the way from a place of an orderlist to a pattern, and the count of a packed song.
+mod Greatest
+mod OrderWalks
+mod SongWalks
 -- Inner: sizes, programs and new numbers that were worked out by hand.
 mod WorkedSizes
 mod WorkedUnpacked
+mod WorkedWalks
 mod WorkedNumbers
 mod CrowdedSets
 mod CrowdedSong

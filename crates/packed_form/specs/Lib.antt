@@ -15,16 +15,20 @@ pub mod SongSizes
 -- To believe: a packed song read as a song, and when it stands for a song.
 pub mod Unpacked
 pub mod StandsFor
--- Claimed: laws of these, and packed patterns, sizes, programs and new numbers worked out by hand.
+-- To believe: how many bytes of an orderlist are passed on the way to a pattern.
+pub mod WalkCount
+-- Claimed: laws of these, and packed patterns, sizes, programs, new numbers and ways worked out by hand.
 pub mod PackedLaws
 pub mod FaultLaws
 pub mod ProgramLaws
 pub mod SizeLaws
 pub mod NormalLaws
+pub mod WalkLaws
 pub mod WorkedPatterns
 pub mod WorkedSizes
 pub mod WorkedPrograms
 pub mod WorkedNumbers
 pub mod WorkedUnpacked
+pub mod WorkedWalks
 -- Inner: how the answer of a call stands to what reading gives, and what is kept of the rows.
 pub mod Answers

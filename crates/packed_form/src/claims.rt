@@ -4,10 +4,12 @@ ghost use Rattle.packed_form.specs.PackedLaws.{ConstantsAre, PackedTextIsSpelled
 ghost use Rattle.packed_form.specs.FaultLaws.{BadBytesAreFirst, EndsAreMissing, LengthsAreBad};
 ghost use Rattle.packed_form.specs.NormalLaws.{NormalRowsAreFetched};
 ghost use Rattle.packed_form.specs.SizeLaws.{SizesAreTheSongs, PackedSizeIsWithin};
+ghost use Rattle.packed_form.specs.WalkLaws.{WalksEnd, WalkCountsAreBytes, EndmarksCount, PlainWalksAreTwo};
 ghost use Rattle.packed_form.specs.ProgramMaps.{MapsCompose, ProgramsReadTheSame};
 ghost use Rattle.packed_form.specs.ProgramLaws.{StandInsKeepPrograms, StandInsStay, KeptStandForThemselves, NewPointersAreRead, PlayableProgramsAreWhole};
 ghost use Rattle.packed_form.specs.WorkedSizes.{NoteHas42Bytes, EqualPatternsAreStoredOnce, CodeBoundsAre};
 ghost use Rattle.packed_form.specs.WorkedUnpacked.{OrdersAreUnpacked, PatternsAreUnpacked, PackedNotesAreUnpacked};
+ghost use Rattle.packed_form.specs.WorkedWalks.{PatternsAlone, TransposesArePassed, RepeatsArePassed, RunsArePassed, SubtunesAreCompared, EndsAreCounted};
 ghost use Rattle.packed_form.specs.WorkedPrograms.{EqualProgramsAreStoredOnce, FirstOfThreeStays, PulseProgramsStop, JumpsOutAreKept, MiddleEntriesAreKept, FirstOpenOneIsKept, OthersAreKept, JumpsIntoDroppedPrograms, JumpsIntoTheMiddleAreKept, LoopsAreAsFar};
 ghost use Rattle.packed_form.specs.WorkedNumbers.{CrowdedSongCanBePlayed, CrowdedSetsAreUsed, SpeedsAreSharedOnce, PulsesAreStoredOnce, FiltersMoveUp, WavesAreStoredOnce, InstrumentsMoveUp, CrowdedTexts, PatternsAreStoredOnce, CrowdedSizes};
 ghost use Rattle.packed_form.specs.WorkedPatterns.{EighthsArePacked, KeyoffIsUnpacked, RestsAreGathered, CommandsAreNamedOnce, LongTextsAre, OtherSpellingsAreUnpacked, BadBytesAreFound, EndsAreWanted, LengthsAreLimited};
@@ -142,4 +144,27 @@ pub fn normal_rows_are_fetched()
 /// The tables of a song that can be played are whole.
 pub fn playable_programs_are_whole()
     ensures { PlayableProgramsAreWhole }
+{}
+
+/// Each orderlist of a packed song that goes on for ever is walked within the song's count, a look after the other.
+pub fn walks_end()
+    ensures { WalksEnd }
+{}
+
+/// The count of a packed song whose orderlists go on for ever is a byte, and 2 or more where it has a subtune; it is 2
+/// where all entries are numbers of patterns.
+pub fn walk_counts_are_bytes()
+    ensures bytes { WalkCountsAreBytes }
+    ensures endmarks { EndmarksCount }
+    ensures plain { PlainWalksAreTwo }
+{}
+
+/// Ways to a pattern, and counts of packed songs.
+pub fn worked_walks()
+    ensures patterns { PatternsAlone }
+    ensures transposes { TransposesArePassed }
+    ensures repeats { RepeatsArePassed }
+    ensures runs { RunsArePassed }
+    ensures subtunes { SubtunesAreCompared }
+    ensures ends { EndsAreCounted }
 {}

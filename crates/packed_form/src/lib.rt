@@ -7,7 +7,8 @@
 //! from the code.
 //!
 //! A packed song has the packed patterns and orderlists of a song, and of its instruments and tables only what is used,
-//! under new numbers (`Renumbering`, `Segments`). `data_size` and `packed_size` say how many bytes that is.
+//! under new numbers (`Renumbering`, `Segments`). `data_size` and `packed_size` say how many bytes that is, and
+//! `walk_count` how many bytes of an orderlist are looked at, at most, to come to a pattern.
 //!
 //! It stands on `song_model`, whose patterns it packs, on `play_model` for what a song uses, and on `arrayvec` for
 //! texts that take no memory. See `docs/packed-form.md`.
@@ -24,6 +25,7 @@ mod places;
 mod rows;
 mod sizes;
 mod unpacking;
+mod walk_counts;
 
 pub use entries::{Command, Entry, EntryKind};
 pub use faults::{PackedFault, PatternTooLong};
