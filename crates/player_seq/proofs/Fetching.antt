@@ -70,14 +70,14 @@ record InPattern (layout : Layout) (packed : PackedSong) (place : ℕ) (order : 
   sid : m.sid ≡ first.sid
 
 -- what the proofs of a voice's fetch have in common
-record Scene (layout : Layout) (packed : PackedSong) (song : Song) (k voice : ℕ) (at : ℕ → ℕ) (order : Order)
+pub record Scene (layout : Layout) (packed : PackedSong) (song : Song) (k voice : ℕ) (at : ℕ → ℕ) (order : Order)
     (looks : ℕ → ℕ) : Type 0 where
-  stands : StandsFor packed song
-  laid : IsPlayerLayout layout packed
-  has : HasLists layout packed at
-  short : HasShortPatterns packed
-  of : VoiceOrder packed k voice order
-  ground : WalkGround (reader layout packed voice at) order (layout.address (ORDERS + 3 * k + voice)) looks
+  pub stands : StandsFor packed song
+  pub laid : IsPlayerLayout layout packed
+  pub has : HasLists layout packed at
+  pub short : HasShortPatterns packed
+  pub of : VoiceOrder packed k voice order
+  pub ground : WalkGround (reader layout packed voice at) order (layout.address (ORDERS + 3 * k + voice)) looks
 
 -- the fields of a voice stand where a walk has been done
 fields_walked : (v : Voice) (tempo : ℕ) (one two : ℕ → ℕ) →
@@ -203,14 +203,14 @@ begin_leads layout packed song k voice at order looks v tempo count first d scen
 
 -- a voice's fetch is done: its own bytes stand for the voice afterwards, and the shared ones but for the loop's are as
 -- before
-record FetchDone (layout : Layout) (packed : PackedSong) (k voice : ℕ) (order : Order) (after : Voice) (tempo : ℕ)
+pub record FetchDone (layout : Layout) (packed : PackedSong) (k voice : ℕ) (order : Order) (after : Voice) (tempo : ℕ)
     (first m : VoiceDesk) : Type 0 where
-  own : VoiceStands layout packed k voice order after tempo m.own
-  shared : (label : ℕ) → work_touches label ≡ false → m.shared label ≡ first.shared label
-  sid : m.sid ≡ first.sid
+  pub own : VoiceStands layout packed k voice order after tempo m.own
+  pub shared : (label : ℕ) → work_touches label ≡ false → m.shared label ≡ first.shared label
+  pub sid : m.sid ≡ first.sid
 
 -- the voice behind the fetch, where its time has come
-abbrev voice_after : PackedSong → Order → Voice → Voice
+abbrev pub voice_after : PackedSong → Order → Voice → Voice
 voice_after packed order v =
     if v.tick == v.gate_timer then fetch_row (look_ups_of (unpacked_song packed)) order v else v
 
@@ -341,7 +341,7 @@ row_done layout packed song k voice at order looks v tempo first d scene range s
 
 -- ---- the whole
 
-fetch_leads : (layout : Layout) (packed : PackedSong) (song : Song) (k voice : ℕ) (at : ℕ → ℕ) (order : Order)
+pub fetch_leads : (layout : Layout) (packed : PackedSong) (song : Song) (k voice : ℕ) (at : ℕ → ℕ) (order : Order)
     (looks : ℕ → ℕ) (v : Voice) (tempo count : ℕ) (d : VoiceDesk) → Scene layout packed song k voice at order looks →
     ((p : ℕ) → p ≤ length order.entries → looks p < count) → IsVoice v → IsSafeVoice (unpacked_song packed) order v →
     VoiceStands layout packed k voice order v tempo d.own →

@@ -12,3 +12,4 @@ pub mod Rows
 pub mod Patterns
 -- The whole block.
 pub mod Fetching
+pub mod FetchLaws

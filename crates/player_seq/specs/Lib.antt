@@ -4,4 +4,4 @@ pub mod InitBlock
 pub mod FetchBlock
 -- Claimed: what they do in a memory that holds a state.
 pub mod InitLaws
--- pub mod FetchLaws
+pub mod FetchLaws
