@@ -8,21 +8,12 @@ use Rattle.play_model.specs.LookUps.{LookUps}
 use Rattle.play_model.specs.State.{Voice}
 use Rattle.play_model.specs.Ranges.{IsVoice}
 use Rattle.play_model.specs.FetchRow.{row_taken, fetched_from}
-use Rattle.player_parts.specs.Labels.{ENTRY, OFFSET, PATTERN_LOW, PATTERN_HIGH, TRANSPOSE, INSTRUMENT, NEW_NOTE}
-use Rattle.player_parts.specs.Labels.{NEW_COMMAND, NEW_PARAM, AD, SR, GATE, COUNTER, GATE_TIMERS}
+use Rattle.player_parts.specs.declared.labels.TheConstants.{ENTRY, OFFSET, PATTERN_LOW, PATTERN_HIGH, TRANSPOSE, INSTRUMENT, NEW_NOTE}
+use Rattle.player_parts.specs.declared.labels.TheConstants.{NEW_COMMAND, NEW_PARAM, AD, SR, GATE, COUNTER, GATE_TIMERS}
 use Rattle.player_parts.specs.Holds.{AreHalves, transpose_byte, RowStands, FieldsStand}
 use Rattle.player_parts.proofs.Laws.{VoiceDesk, Reader, Leads, leads_on, StandsAt, by_pointer, by_entry}
 use Rattle.player_seq.specs.FetchBlock.{row_tree}
-
--- what the row's code reads: the bytes of the pattern, and the gateoff timers of so many instruments
-pub record RowGround (r : Reader) (look : LookUps) (bytes : List ℕ) (place instruments : ℕ) : Type 0 where
-  pub pattern : StandsAt r place (length bytes) (λ i. get_or bytes i 0)
-  pub most : length bytes ≤ 256
-  pub each : (i : ℕ) → get_or bytes i 0 < 256
-  pub timers : StandsAt r (r.layout.address GATE_TIMERS + 1) instruments
-      (λ i. (look.instrument (i + 1)).gate_timer)
-  pub few : instruments ≤ 63
-  pub timer_bytes : (i : ℕ) → (look.instrument i).gate_timer < 256
+pub use Rattle.player_seq.proofs.RowDesks.{RowGround, row_touches}
 
 -- where a voice stands whose row is to be fetched: in the pattern with these bytes and rows, at this place of memory
 pub record RowAt (bytes : List ℕ) (rows : List Row) (place instruments : ℕ) (transpose : ℤ) (v : Voice) (tempo : ℕ)
@@ -38,12 +29,6 @@ pub record RowAt (bytes : List ℕ) (rows : List Row) (place instruments : ℕ) 
   pub last : (row_taken (pattern_row rows v.row) v).instrument ≤ instruments
   -- a pattern has at most 128 rows
   pub count : length rows ≤ 128
-
--- the labels of the bytes that it changes
-abbrev pub row_touches : ℕ → Bool
-row_touches label =
-    nat_eq label ENTRY || nat_eq label OFFSET || nat_eq label INSTRUMENT || nat_eq label NEW_NOTE
-    || nat_eq label NEW_COMMAND || nat_eq label NEW_PARAM || nat_eq label AD || nat_eq label SR || nat_eq label GATE
 
 -- the pattern has ended, or its next row stands
 pub data RowNext (bytes : List ℕ) (rows : List Row) (v after : Voice) (own : ℕ → ℕ) : Type 0 where
