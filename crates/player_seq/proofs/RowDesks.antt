@@ -14,7 +14,7 @@ use Rattle.player_parts.specs.Words.{CountedY}
 use Rattle.player_parts.specs.declared.labels.TheConstants.{ENTRY, OFFSET, INSTRUMENT, NEW_NOTE, NEW_COMMAND, NEW_PARAM, AD, SR, GATE, COUNTER}
 use Rattle.player_parts.specs.declared.labels.TheConstants.{GATE_TIMERS}
 use Rattle.player_parts.specs.Holds.{AreHalves, FieldsStand, running_command}
-use Rattle.player_parts.proofs.Laws.{VoiceDesk, Reader, StandsAt, by_pointer, pointed, counted}
+use Rattle.player_parts.proofs.Laws.{VoiceDesk, Reader, StandsAt, by_pointer, pointed, counted, compared}
 use Rattle.player_seq.proofs.Entries.{stands_there}
 
 -- ---- what the code reads and writes
@@ -88,6 +88,18 @@ pub record Reading (bytes : List ℕ) (place : ℕ) (w : Voice) (tempo : ℕ) (f
   pub rest_is : drop (m.y + 1) bytes ≡ rest
   pub no_number : m.y ≡ 0 → w.new_command ≡ 0
   pub no_param : m.y ≡ 0 → w.new_param ≡ 0
+
+-- the same on a desk that has other flags
+pub reading_on : (bytes : List ℕ) (place : ℕ) (w : Voice) (tempo : ℕ) (first : VoiceDesk) (byte : ℕ) (rest : List ℕ)
+    (m : VoiceDesk) (number : ℕ) → Reading bytes place w tempo first byte rest m →
+    Reading bytes place w tempo first byte rest (compared m.accumulator number m)
+reading_on bytes place w tempo first byte rest m number at = record {
+  desk = assumption at.desk;
+  is = at.is;
+  rest_is = at.rest_is;
+  no_number = at.no_number;
+  no_param = at.no_param;
+}
 
 -- the row is taken, and the entries behind it stand
 pub record RowDone (bytes : List ℕ) (place : ℕ) (w : Voice) (tempo : ℕ) (entries : List Entry) (first m : VoiceDesk)

@@ -22,7 +22,7 @@ use Rattle.player_seq.specs.FetchBlock.{command_cleared_tree, instrument_tree, c
 use Rattle.player_seq.proofs.Entries.{kind_first, kind_others, text_with, text_without, first_same, rest_same, kind_from}
 use Rattle.player_seq.proofs.Entries.{kind_to}
 use Rattle.player_seq.proofs.RowDesks.{RowGround, RowDesk, voice_with, Cleared, Reading, NextRead, next_read, still}
-use Rattle.player_seq.proofs.RowDesks.{still_shared}
+use Rattle.player_seq.proofs.RowDesks.{still_shared, reading_on}
 
 -- ---- the running command
 
@@ -263,18 +263,6 @@ behind_rest r bytes place w tempo first m byte rest from to at =
         },
       ),
     )
-
--- the same on a desk that has other flags
-reading_on : (bytes : List ℕ) (place : ℕ) (w : Voice) (tempo : ℕ) (first : VoiceDesk) (byte : ℕ) (rest : List ℕ)
-    (m : VoiceDesk) (number : ℕ) → Reading bytes place w tempo first byte rest m →
-    Reading bytes place w tempo first byte rest (compared m.accumulator number m)
-reading_on bytes place w tempo first byte rest m number at = record {
-  desk = assumption at.desk;
-  is = at.is;
-  rest_is = at.rest_is;
-  no_number = at.no_number;
-  no_param = at.no_param;
-}
 
 -- a byte from $60 on is no command's
 no_command_leads : (r : Reader) (bytes : List ℕ) (place : ℕ) (w : Voice) (tempo : ℕ) (first m : VoiceDesk) (byte : ℕ)
