@@ -1,10 +1,9 @@
 -- The next byte of a packed pattern and the next row of a pattern, and where the text of entries begins.
-use Rattle.std.proofs.Common.{◌≡◌, ◌≢◌, ◌⊎◌, ℕ, zero, suc, ◌+◌, ◌<◌, ◌≤◌, List, [], ◌∷◌, ◌++◌, length, drop, get_or}
-use Rattle.std.proofs.Common.{replicate, slice_index_or, nat_eq, true, false, ◌-◌, inl, inr, refl, sym, ap, ◌∙◌, subst}
-use Rattle.std.proofs.Common.{if◌then◌else◌, Bool, append_assoc, arith}
+use Rattle.std.proofs.Common.{◌≡◌, ◌≢◌, ℕ, zero, suc, ◌+◌, ◌<◌, ◌≤◌, List, [], ◌∷◌, ◌++◌, length, drop, get_or}
+use Rattle.std.proofs.Common.{replicate, nat_eq, true, false, inl, inr, refl, sym, ◌∙◌, Bool, append_assoc, arith}
 use Rattle.std.proofs.Math.ListN.{drop_of_length-le}
 use Rattle.std.proofs.lemmas.List.{drop_more}
-use Rattle.std.proofs.lemmas.Bool.{cases_lt, eqb-true, eqb-false}
+use Rattle.std.proofs.lemmas.Bool.{cases_lt, eqb-false}
 use Rattle.std.proofs.lemmas.List.Elements.{All-cons, All-head}
 use Rattle.std.specs.List.{All, flat_map}
 use Rattle.song_model.specs.declared.rows.Row.{Row}
@@ -13,8 +12,8 @@ use Rattle.packed_form.specs.declared.entries.Command.{Command}
 use Rattle.packed_form.specs.declared.entries.EntryKind.{EntryKind}
 use Rattle.packed_form.specs.declared.entries.EntryKind.TheVariants.{NamedNote, NamedRest, Note, Rests}
 use Rattle.packed_form.specs.declared.entries.Entry.{Entry}
-use Rattle.packed_form.specs.Entries.{IsEntry, IsKind, instrument_bytes, kind_bytes, entry_bytes, rows_from, entry_rows}
-use Rattle.packed_form.specs.Entries.{row_with, entry_note, more_rests, command_behind}
+use Rattle.packed_form.specs.Entries.{IsEntry, IsKind, kind_bytes, entry_bytes, rows_from, row_with, entry_note}
+use Rattle.packed_form.specs.Entries.{more_rests, command_behind}
 use Rattle.packed_form.specs.PackedSpells.{text_of}
 
 -- ---- what stands at a place
@@ -25,29 +24,26 @@ pub record Stands {X : Type 0} (xs : List X) (i : ℕ) (x other : X) (rest : Lis
   pub is : get_or xs i other ≡ x
   pub rest_is : drop (i + 1) xs ≡ rest
 
-head_is : {X : Type 0} (x y : X) (xs ys : List X) → x ∷ xs ≡ y ∷ ys → x ≡ y
-head_is x y xs ys e = cc
+pub first_same : {X : Type 0} (x y : X) (xs ys : List X) → x ∷ xs ≡ y ∷ ys → x ≡ y
+first_same x y xs ys e = cc
 
-tail_is : {X : Type 0} (x y : X) (xs ys : List X) → x ∷ xs ≡ y ∷ ys → xs ≡ ys
-tail_is x y xs ys e = cc
+pub rest_same : {X : Type 0} (x y : X) (xs ys : List X) → x ∷ xs ≡ y ∷ ys → xs ≡ ys
+rest_same x y xs ys e = cc
+
+pub joined : (x y : ℕ) (xs ys : List ℕ) → x ≡ y → xs ≡ ys → x ∷ xs ≡ y ∷ ys
+joined x y xs ys first others = cc
 
 not_none : {X : Type 0} (y : X) (ys : List X) → [] ≡ y ∷ ys → ⊥
 not_none y ys e = cc
 
-pub first_same : (x y : ℕ) (xs ys : List ℕ) → x ∷ xs ≡ y ∷ ys → x ≡ y
-first_same x y xs ys e = head_is x y xs ys e
-
-pub rest_same : (x y : ℕ) (xs ys : List ℕ) → x ∷ xs ≡ y ∷ ys → xs ≡ ys
-rest_same x y xs ys e = tail_is x y xs ys e
-
 pub stands_there : {X : Type 0} (xs : List X) (i : ℕ) (x other : X) (rest : List X) → drop i xs ≡ x ∷ rest →
     Stands xs i x other rest
-stands_there {X = X} xs i x other rest e =
+stands_there xs i x other rest e =
     elim (cases_lt i (length xs)) [
       | inl inside ↦
           let l = inside in
           let more : get_or xs i other ∷ drop (i + 1) xs ≡ x ∷ rest = sym (drop_more xs i other l) ∙ e in
-          record { inside = l; is = head_is _ _ _ _ more; rest_is = tail_is _ _ _ _ more }
+          record { inside = l; is = first_same _ _ _ _ more; rest_is = rest_same _ _ _ _ more }
       | inr past ↦
           let h = past in
           elim (not_none x rest (sym (drop_of_length-le xs h) ∙ e)) [ ]
@@ -100,13 +96,13 @@ text_without entry entries e =
     append_assoc (entry_bytes entry) (flat_map entry_bytes entries) (0x00 ∷ [])
     ∙ rw (e, kind_is entry.kind) refl
 
--- a text begins with some byte, which is 0 exactly at its end
+-- a text begins with some byte
 pub record Begun (entries : List Entry) : Type 0 where
   pub byte : ℕ
   pub others : List ℕ
   pub is : text_of entries ≡ byte ∷ others
-  pub small : byte < 256
 
+-- with an instrument or without, that of an entry isn't 0
 with_or_without : (entry : Entry) (entries : List Entry) → IsEntry entry → (z : Bool) →
     nat_eq entry.instrument 0 ≡ z → (text : Begun (entry ∷ entries)) × (text.byte ≢ 0)
 with_or_without entry entries is true e =
@@ -115,26 +111,24 @@ with_or_without entry entries is true e =
         byte = kind_first entry.kind;
         others = kind_others entry.kind ++ text_of entries;
         is = text_without entry entries e;
-        small = kind_to entry.kind is.kind;
       },
       λ none. absurd (omega (arith, none, from)),
     )
-with_or_without entry entries is false e =
-    let most = is.instrument in (
-      record {
-        byte = entry.instrument;
-        others = kind_first entry.kind ∷ (kind_others entry.kind ++ text_of entries);
-        is = text_with entry entries e;
-        small = omega (arith, most);
-      },
-      eqb-false entry.instrument 0 e,
-    )
+with_or_without entry entries is false e = (
+  record {
+    byte = entry.instrument;
+    others = kind_first entry.kind ∷ (kind_others entry.kind ++ text_of entries);
+    is = text_with entry entries e;
+  },
+  eqb-false entry.instrument 0 e,
+)
 
 pub text_begins : (entries : List Entry) → All IsEntry entries → Begun entries
-text_begins [] each = record { byte = 0; others = []; is = refl; small = omega arith }
+text_begins [] each = record { byte = 0; others = []; is = refl }
 text_begins (entry ∷ entries) each =
     (with_or_without entry entries (All-head IsEntry entry entries each) (nat_eq entry.instrument 0) refl).0
 
+-- so no entry begins with the byte that ends a pattern
 pub text_goes_on : (entry : Entry) (entries : List Entry) (byte : ℕ) (others : List ℕ) → IsEntry entry →
     byte ∷ others ≡ text_of (entry ∷ entries) → byte ≢ 0
 text_goes_on entry entries byte others is e none =
@@ -143,7 +137,7 @@ text_goes_on entry entries byte others is e none =
 
 -- ---- rows
 
--- what is left of the pattern behind the first row of an entry: of a run of rests the rest of it
+-- the entries that are left of the pattern behind the first row of an entry: of a run of rests the rest of it
 abbrev pub left_behind : EntryKind → List Entry → List Entry
 left_behind (NamedNote command note) entries = entries
 left_behind (NamedRest command) entries = entries
@@ -171,7 +165,7 @@ rows_left running (Note note) entries = refl
 rows_left running (Rests zero) entries = refl
 rows_left running (Rests (suc more)) entries = refl
 
--- the row at hand, and the rows behind it
+-- the row at hand is the entry's first, and the rows behind it are those of what is left
 pub record RowIs (rows : List Row) (row : ℕ) (running : Command) (entry : Entry) (entries : List Entry) : Type 0 where
   pub inside : row < length rows
   pub is : pattern_row rows row ≡ row_with (entry_note entry.kind) entry.instrument (command_behind running entry.kind)

@@ -1,6 +1,6 @@
 -- The desk of a voice whose row is fetched, from one step of the row's code to the next.
-use Rattle.std.proofs.Common.{◌≡◌, ◌≢◌, ℕ, ◌+◌, ◌*◌, ◌/◌, ◌%◌, ◌<◌, ◌≤◌, ◌||◌, Bool, true, false, nat_eq, nat_le}
-use Rattle.std.proofs.Common.{if◌then◌else◌, List, [], ◌∷◌, ◌++◌, length, drop, get_or, refl, sym, ap, ◌∙◌, subst, arith}
+use Rattle.std.proofs.Common.{◌≡◌, ◌≢◌, ℕ, ◌+◌, ◌<◌, ◌≤◌, ◌||◌, Bool, true, false, nat_eq, if◌then◌else◌, List, ◌∷◌}
+use Rattle.std.proofs.Common.{length, drop, get_or, refl, sym, ap, ◌∙◌, subst, arith}
 use Rattle.std.proofs.lemmas.Bool.{eqb-true}
 use Rattle.code_runs.specs.Runs.{put}
 use Rattle.play_model.specs.LookUps.{LookUps}
@@ -11,8 +11,8 @@ use Rattle.packed_form.specs.Entries.{no_command}
 use Rattle.packed_form.specs.PackedSpells.{text_of}
 use Rattle.blocks.specs.Steps.{one_more}
 use Rattle.player_parts.specs.Words.{CountedY}
-use Rattle.player_parts.specs.declared.labels.TheConstants.{ENTRY, OFFSET, INSTRUMENT, NEW_NOTE, NEW_COMMAND, NEW_PARAM, AD, SR, GATE, COUNTER}
-use Rattle.player_parts.specs.declared.labels.TheConstants.{GATE_TIMERS}
+use Rattle.player_parts.specs.declared.labels.TheConstants.{ENTRY, OFFSET, INSTRUMENT, NEW_NOTE, NEW_COMMAND}
+use Rattle.player_parts.specs.declared.labels.TheConstants.{NEW_PARAM, AD, SR, GATE, COUNTER, GATE_TIMERS}
 use Rattle.player_parts.specs.Holds.{AreHalves, FieldsStand, running_command}
 use Rattle.player_parts.proofs.Laws.{VoiceDesk, Reader, StandsAt, by_pointer, pointed, counted, compared}
 use Rattle.player_seq.proofs.Entries.{stands_there}
@@ -35,11 +35,9 @@ row_touches label =
     nat_eq label ENTRY || nat_eq label OFFSET || nat_eq label INSTRUMENT || nat_eq label NEW_NOTE
     || nat_eq label NEW_COMMAND || nat_eq label NEW_PARAM || nat_eq label AD || nat_eq label SR || nat_eq label GATE
 
+-- a label that is written isn't one that isn't
 differs : (a b : ℕ) → row_touches b ≡ true → row_touches a ≡ false → (z : Bool) → nat_eq a b ≡ z → z ≡ false
-differs a b written other true e =
-    let same = eqb-true a b e in
-    let clash : true ≡ false = sym written ∙ (ap row_touches (sym same) ∙ other) in
-    clash
+differs a b written other true e = sym written ∙ (ap row_touches (sym (eqb-true a b e)) ∙ other)
 differs a b written other false e = refl
 
 -- a byte that it doesn't change is as before behind a store, too
@@ -108,8 +106,28 @@ pub record RowDone (bytes : List ℕ) (place : ℕ) (w : Voice) (tempo : ℕ) (e
   pub text : m.own ENTRY ∷ drop (m.own OFFSET + 1) bytes ≡ text_of entries
   pub command : running_command m.own ≡ record { number = w.new_command; param = w.new_param }
 
+-- the two bytes of the row's command are the running one's, but at the beginning of a pattern, where both are 0
+pub running_is : (own : ℕ → ℕ) (w : Voice) (tempo : ℕ) → FieldsStand w tempo own →
+    (own OFFSET ≡ 0 → w.new_command ≡ 0) → (own OFFSET ≡ 0 → w.new_param ≡ 0) → (z : Bool) → nat_eq (own OFFSET) 0 ≡ z →
+    running_command own ≡ record { number = w.new_command; param = w.new_param }
+running_is own w tempo fields no_number no_param true e =
+    let number = no_number (eqb-true (own OFFSET) 0 e) in
+    let param = no_param (eqb-true (own OFFSET) 0 e) in
+    rw (e, number, param) refl
+running_is own w tempo fields no_number no_param false e =
+    let number = fields.new_command in
+    let param = fields.new_param in
+    rw (e, number, param) refl
+
+-- the same with the voice said in another way
+pub done_as : {bytes : List ℕ} {place : ℕ} {tempo : ℕ} {entries : List Entry} {first m : VoiceDesk} (u w : Voice) →
+    u ≡ w → RowDone bytes place w tempo entries first m → RowDone bytes place u tempo entries first m
+done_as {bytes = bytes} {place = place} {tempo = tempo} {entries = entries} {first = first} {m = m} u w e h =
+    subst (λ x. RowDone bytes place x tempo entries first m) (sym e) h
+
 -- ---- the next byte
 
+-- the byte behind Y may be read and is this one, and these stand behind it
 pub record NextRead (r : Reader) (bytes : List ℕ) (m : VoiceDesk) (byte : ℕ) (rest : List ℕ) : Type 0 where
   pub found : r.IsFound (pointed (counted one_more CountedY m))
   pub is : r.before (pointed (counted one_more CountedY m)) ≡ byte

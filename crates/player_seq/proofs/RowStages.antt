@@ -1,7 +1,6 @@
 -- The parts of the row's code that read an entry: the command that is running, the instrument, the command.
-use Rattle.std.proofs.Common.{◌≡◌, ◌≢◌, ℕ, ◌+◌, ◌*◌, ◌/◌, ◌%◌, ◌<◌, ◌≤◌, Bool, true, false, not, nat_eq, nat_le}
-use Rattle.std.proofs.Common.{bit_and, if◌then◌else◌, List, [], ◌∷◌, ◌++◌, length, drop, get_or, refl, sym, ap, ◌∙◌}
-use Rattle.std.proofs.Common.{subst, arith}
+use Rattle.std.proofs.Common.{◌≡◌, ◌≢◌, ℕ, ◌+◌, ◌<◌, ◌≤◌, Bool, true, false, nat_eq, bit_and, List, [], ◌∷◌, ◌++◌}
+use Rattle.std.proofs.Common.{drop, refl, sym, ap, ◌∙◌, arith}
 use Rattle.std.proofs.lemmas.Bool.{agree_below_at, leb-true, leb-false, not-true, not-false, eqb-true, eqb-false}
 use Rattle.play_model.specs.LookUps.{LookUps}
 use Rattle.play_model.specs.State.{Voice}
@@ -14,14 +13,15 @@ use Rattle.packed_form.specs.PackedSpells.{text_of}
 use Rattle.blocks.specs.Trees.{Tree, ChainTree, IfTree, NoneTree, ThenTree}
 use Rattle.blocks.specs.Steps.{one_more}
 use Rattle.player_parts.specs.Words.{CountedY, Const, And, Less, Is}
-use Rattle.player_parts.specs.declared.labels.TheConstants.{ENTRY, OFFSET, PATTERN_LOW, PATTERN_HIGH, INSTRUMENT, NEW_COMMAND, NEW_PARAM, COUNTER}
+use Rattle.player_parts.specs.declared.labels.TheConstants.{ENTRY, OFFSET, PATTERN_LOW, PATTERN_HIGH, INSTRUMENT}
+use Rattle.player_parts.specs.declared.labels.TheConstants.{NEW_COMMAND, NEW_PARAM, COUNTER}
 use Rattle.player_parts.specs.Codes.{load_number, load_shared, load_byte, next_y, store_own, store_shared}
-use Rattle.player_parts.specs.Holds.{AreHalves, FieldsStand, running_command}
+use Rattle.player_parts.specs.Holds.{running_command}
 use Rattle.player_parts.proofs.Laws.{VoiceDesk, Reader, Leads, leads_on, pointed, counted, loaded, compared}
 use Rattle.player_seq.specs.FetchBlock.{command_cleared_tree, instrument_tree, command_tree}
-use Rattle.player_seq.proofs.Entries.{kind_first, kind_others, text_with, text_without, first_same, rest_same, kind_from}
-use Rattle.player_seq.proofs.Entries.{kind_to}
-use Rattle.player_seq.proofs.RowDesks.{RowGround, RowDesk, voice_with, Cleared, Reading, NextRead, next_read, still}
+use Rattle.player_seq.proofs.Entries.{kind_first, kind_others, text_with, text_without, first_same, rest_same}
+use Rattle.player_seq.proofs.Entries.{kind_from, kind_to}
+use Rattle.player_seq.proofs.RowDesks.{RowGround, RowDesk, voice_with, Cleared, Reading, next_read, still}
 use Rattle.player_seq.proofs.RowDesks.{still_shared, reading_on}
 
 -- ---- the running command
@@ -105,7 +105,8 @@ instrument_leads r look bytes place instruments ground v tempo running first m e
                 let below : m.own ENTRY < 0x40 = leb-false 0x40 (m.own ENTRY) (not-true _ met) in
                 absurd (omega (arith, below, acc, from)),
             λ unmet.
-                let instrument : m.own INSTRUMENT ≡ w.instrument = at.desk.fields.instrument ∙ sym (rw e refl) in record {
+                let before = at.desk.fields.instrument in
+                let instrument : m.own INSTRUMENT ≡ w.instrument = before ∙ sym (rw e refl) in record {
                   desk = record {
                     address = at.desk.address;
                     fields = assumption (instrument, at.desk.fields);
@@ -186,7 +187,6 @@ named_tree =
     ChainTree (store_shared COUNTER ∷ And (Const 0x0F) ∷ store_own NEW_COMMAND ∷ next_y ∷ load_byte
     ∷ store_own NEW_PARAM ∷ [])
 
--- the other desk has the same bytes and the same Y
 named_leads : (r : Reader) (look : LookUps) (bytes : List ℕ) (place instruments : ℕ) →
     RowGround r look bytes place instruments → (v : Voice) (tempo instrument : ℕ) (running command : Command)
     (first m : VoiceDesk) (byte : ℕ) (rest : List ℕ) → bit_and byte 0x0F ≡ command.number →
@@ -282,7 +282,8 @@ no_command_leads r bytes place w tempo first m byte rest from to at =
 
 -- and one below it is
 is_command_leads : (r : Reader) (m : VoiceDesk) (byte : ℕ) (Q : VoiceDesk → Type 0) → byte < 0x60 →
-    m.accumulator ≡ byte → Leads r (ThenTree named_tree (ThenTree behind_tree NoneTree)) Q (compared m.accumulator 0x60 m) →
+    m.accumulator ≡ byte →
+    Leads r (ThenTree named_tree (ThenTree behind_tree NoneTree)) Q (compared m.accumulator 0x60 m) →
     Leads r command_tree Q m
 is_command_leads r m byte Q to acc leads = (
   omega (arith, acc, to),
@@ -301,7 +302,8 @@ pub command_leads : (r : Reader) (look : LookUps) (bytes : List ℕ) (place inst
     Reading bytes place (voice_with instrument running v) tempo first (kind_first kind) (kind_others kind ++ rest) m →
     Leads r command_tree
     (Reading bytes place (voice_with instrument (command_behind running kind) v) tempo first (kind_last kind) rest) m
-command_leads r look bytes place instruments ground v tempo instrument running first m (NamedNote command note) rest is at =
+command_leads r look bytes place instruments ground v tempo instrument running first m (NamedNote command note)
+    rest is at =
     let few = is.0.number in
     is_command_leads r m (0x40 + command.number)
     (Reading bytes place (voice_with instrument command v) tempo first note rest) (omega (arith, few)) at.is
@@ -318,7 +320,8 @@ command_leads r look bytes place instruments ground v tempo instrument running f
     let few = is.number in
     is_command_leads r m (0x50 + command.number)
     (Reading bytes place (voice_with instrument command v) tempo first 0xC0 rest) (omega (arith, few)) at.is
-    (leads_on r named_tree (Named bytes place (voice_with instrument command v) tempo first (0x50 + command.number) rest) _
+    (leads_on r named_tree
+    (Named bytes place (voice_with instrument command v) tempo first (0x50 + command.number) rest) _
     (compared m.accumulator 0x60 m)
     (λ n h.
     behind_rest r bytes place (voice_with instrument command v) tempo first n

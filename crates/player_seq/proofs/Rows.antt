@@ -1,9 +1,9 @@
 -- The row of a voice is fetched from its packed pattern.
-use Rattle.std.proofs.Common.{◌≡◌, ◌≢◌, ◌⊎◌, ℕ, ℤ, zero, suc, ◌+◌, ◌-◌, ◌*◌, ◌/◌, ◌%◌, ◌<◌, ◌≤◌, ◌||◌, ◌&&◌}
-use Rattle.std.proofs.Common.{Bool, true, false, not, nat_eq, nat_le, bit_and, if◌then◌else◌, List, [], ◌∷◌, ◌++◌}
-use Rattle.std.proofs.Common.{length, drop, get_or, inl, inr, refl, sym, ap, ◌∙◌, subst, arith}
-use Rattle.std.proofs.lemmas.Bool.{leb-true, leb-false, not-true, not-false, eqb-true, eqb-false, eq-eqb, ne_eqb}
-use Rattle.std.proofs.lemmas.Bool.{le-leb, lt-leb, cases_lt, and_right, and_from}
+use Rattle.std.proofs.Common.{◌≡◌, ◌≢◌, ℕ, ℤ, ◌+◌, ◌%◌, ◌<◌, ◌≤◌, ◌||◌, Bool, true, false, not, nat_eq, nat_le}
+use Rattle.std.proofs.Common.{bit_and, if◌then◌else◌, List, [], ◌∷◌, ◌++◌, length, drop, refl, sym, ap, ◌∙◌, subst}
+use Rattle.std.proofs.Common.{arith}
+use Rattle.std.proofs.lemmas.Bool.{leb-true, leb-false, not-true, not-false, eq-eqb, ne_eqb, le-leb, lt-leb, and_right}
+use Rattle.std.proofs.lemmas.Bool.{and_from}
 use Rattle.std.proofs.lemmas.List.{length-drop}
 use Rattle.std.proofs.lemmas.List.Elements.{All-head, All-tail}
 use Rattle.std.specs.List.{All}
@@ -22,15 +22,18 @@ use Rattle.packed_form.specs.Entries.{IsEntry, IsKind, IsNote, row_with, entry_n
 use Rattle.packed_form.specs.PackedSpells.{text_of}
 use Rattle.blocks.specs.Trees.{Tree, IfTree, NoneTree, ThenTree}
 use Rattle.player_parts.specs.Words.{Const, Less, Not}
-use Rattle.player_parts.specs.declared.labels.TheConstants.{ENTRY, OFFSET, PATTERN_LOW, PATTERN_HIGH, TRANSPOSE, COUNTER}
+use Rattle.player_parts.specs.declared.labels.TheConstants.{ENTRY, OFFSET, PATTERN_LOW, PATTERN_HIGH, TRANSPOSE}
+use Rattle.player_parts.specs.declared.labels.TheConstants.{COUNTER}
 use Rattle.player_parts.specs.Holds.{AreHalves, transpose_byte, RowStands, FieldsStand, running_command}
 use Rattle.player_parts.proofs.Laws.{VoiceDesk, Reader, Leads, leads_on, compared}
-use Rattle.player_seq.specs.FetchBlock.{command_cleared_tree, instrument_tree, command_tree, rest_tree, note_tree, row_tree}
-use Rattle.player_seq.proofs.Entries.{first_same, kind_first, kind_others, Begun, text_begins, text_goes_on, left_behind}
-use Rattle.player_seq.proofs.Entries.{left_each, RowIs, row_is, stands_there}
-use Rattle.player_seq.proofs.RowDesks.{voice_with, Cleared, RowDesk, Reading, RowDone, reading_on}
+use Rattle.player_seq.specs.FetchBlock.{command_cleared_tree, instrument_tree, command_tree, rest_tree, note_tree}
+use Rattle.player_seq.specs.FetchBlock.{row_tree}
+use Rattle.player_seq.proofs.Entries.{first_same, kind_first, kind_others, Begun, text_begins, text_goes_on}
+use Rattle.player_seq.proofs.Entries.{left_behind, left_each, RowIs, row_is, stands_there}
+use Rattle.player_seq.proofs.RowDesks.{voice_with, Cleared, Reading, RowDone, reading_on}
 use Rattle.player_seq.proofs.RowStages.{begun, kind_last, cleared_leads, instrument_leads, command_leads}
-use Rattle.player_seq.proofs.RowEnds.{keyed_rest_leads, run_leads, note_leads}
+use Rattle.player_seq.proofs.RowRests.{keyed_rest_leads, run_leads}
+use Rattle.player_seq.proofs.RowNotes.{note_leads}
 pub use Rattle.player_seq.proofs.RowDesks.{RowGround, row_touches}
 
 -- where a voice stands whose row is to be fetched: in the pattern with these bytes and rows, at this place of memory
@@ -113,10 +116,12 @@ param_keeps = record { gate = λ v gate. refl; shut = λ v. refl; new_note = λ 
 -- a rest, keyoff and keyon aren't notes, and notes are none of these
 key_waits : (look : LookUps) (note : ℕ) (transpose : ℤ) (v : Voice) → 0xBD ≤ note →
     note_waits look note transpose v ≡ v
-key_waits look note transpose v from = rw (and_right (nat_le 0x60 note) (nat_le note 0xBC) (lt-leb note 0xBC (omega arith))) refl
+key_waits look note transpose v from =
+    rw (and_right (nat_le 0x60 note) (nat_le note 0xBC) (lt-leb note 0xBC (omega arith))) refl
 
 note_keyed : (note : ℕ) (v : Voice) → note < 0xBD → gate_keyed note v ≡ v
-note_keyed note v l = rw (ne_eqb note 0xBE (λ e. absurd (omega arith)), ne_eqb note 0xBF (λ e. absurd (omega arith))) refl
+note_keyed note v l =
+    rw (ne_eqb note 0xBE (λ e. absurd (omega arith)), ne_eqb note 0xBF (λ e. absurd (omega arith))) refl
 
 note_does_wait : (look : LookUps) (note : ℕ) (transpose : ℤ) (v : Voice) → 0x60 ≤ note → note < 0xBD →
     note_waits look note transpose v
@@ -128,11 +133,6 @@ note_does_wait look note transpose v from to =
 
 abbrev last_tree : Tree
 last_tree = ThenTree (IfTree [] (Not (Less (Const 0xBD))) rest_tree note_tree) NoneTree
-
-done_as : {bytes : List ℕ} {place : ℕ} {tempo : ℕ} {entries : List Entry} {first m : VoiceDesk} (u w : Voice) →
-    u ≡ w → RowDone bytes place w tempo entries first m → RowDone bytes place u tempo entries first m
-done_as {bytes = bytes} {place = place} {tempo = tempo} {entries = entries} {first = first} {m = m} u w e h =
-    subst (λ x. RowDone bytes place x tempo entries first m) (sym e) h
 
 note_or_key : (r : Reader) (look : LookUps) (bytes : List ℕ) (place instruments : ℕ) →
     RowGround r look bytes place instruments → (w : Voice) (tempo : ℕ) (entries : List Entry) → Begun entries →
@@ -207,8 +207,8 @@ last_leads : (r : Reader) (look : LookUps) (bytes : List ℕ) (place instruments
     (RowDone bytes place
     (row_done look (row_with (entry_note kind) instrument (command_behind running kind)) transpose v) tempo
     (left_behind kind entries) first) m
-last_leads r look bytes place instruments ground v tempo instrument running entries begun first m (NamedNote command note)
-    transpose is t from to small at =
+last_leads r look bytes place instruments ground v tempo instrument running entries begun first m
+    (NamedNote command note) transpose is t from to small at =
     let few = is.0.number in
     note_or_key r look bytes place instruments ground (voice_with instrument command v) tempo entries begun first m note
     transpose is.1 t from to (omega (arith, few)) at
@@ -216,49 +216,45 @@ last_leads r look bytes place instruments ground v tempo instrument running entr
     transpose is t from to small at =
     run_of_rests r look bytes place instruments ground (voice_with instrument command v) tempo entries begun first m 0
     (omega arith) at
-last_leads r look bytes place instruments ground v tempo instrument running entries begun first m (Note note) transpose is
-    t from to small at =
+last_leads r look bytes place instruments ground v tempo instrument running entries begun first m (Note note) transpose
+    is t from to small at =
     note_or_key r look bytes place instruments ground (voice_with instrument running v) tempo entries begun first m note
     transpose is t from to small at
-last_leads r look bytes place instruments ground v tempo instrument running entries begun first m (Rests more) transpose is
-    t from to small at =
-    run_of_rests r look bytes place instruments ground (voice_with instrument running v) tempo entries begun first m more
-    is at
+last_leads r look bytes place instruments ground v tempo instrument running entries begun first m (Rests more) transpose
+    is t from to small at =
+    run_of_rests r look bytes place instruments ground (voice_with instrument running v) tempo entries begun first m
+    more is at
 
 -- ---- the whole
 
--- what the row leaves, with this voice behind it
-record Left (bytes : List ℕ) (rows : List Row) (v after : Voice) (tempo : ℕ) (d m : VoiceDesk) : Type 0 where
-  pub fields : FieldsStand after tempo m.own
-  pub next : RowNext bytes rows v after m.own
-  pub own : (label : ℕ) → row_touches label ≡ false → m.own label ≡ d.own label
-  pub shared : (label : ℕ) → nat_eq label COUNTER ≡ false → m.shared label ≡ d.shared label
-  pub sid : m.sid ≡ d.sid
+-- the voice behind the row stands, and what is next
+record Moved (bytes : List ℕ) (rows : List Row) (v after : Voice) (tempo : ℕ) (own : ℕ → ℕ) : Type 0 where
+  pub fields : FieldsStand after tempo own
+  pub next : RowNext bytes rows v after own
 
-finish : (bytes : List ℕ) (rows : List Row) (place : ℕ) (v w : Voice) (tempo : ℕ) (command : Command) (d m : VoiceDesk) →
-    w.row ≡ v.row → w.plays ≡ v.plays → record { number = w.new_command; param = w.new_param } ≡ command →
+finish : (bytes : List ℕ) (rows : List Row) (place : ℕ) (v w : Voice) (tempo : ℕ) (command : Command)
+    (d m : VoiceDesk) → w.row ≡ v.row → w.plays ≡ v.plays →
+    record { number = w.new_command; param = w.new_param } ≡ command →
     v.row < length rows → length rows ≤ 128 → (left : List Entry) → All IsEntry left →
     drop (v.row + 1) rows ≡ rows_from command left → RowDone bytes place w tempo left d m →
-    Left bytes rows v (row_moved (length rows) w) tempo d m
+    Moved bytes rows v (row_moved (length rows) w) tempo m.own
 finish bytes rows place v w tempo command d m row plays is inside few [] each left at =
     let none : length (drop (v.row + 1) rows) ≡ 0 = ap length left in
     let size = length-drop (v.row + 1) rows in
     let last : (w.row + 1) % 256 ≡ length rows = omega (arith, none, size, row, inside, few) in
     let test : nat_eq ((w.row + 1) % 256) (length rows) ≡ true = eq-eqb _ _ last in
     let moved : row_moved (length rows) w ≡ record w { row = 0; plays = w.plays + 1 } = rw test refl in
-    subst (λ x. Left bytes rows v x tempo d m) (sym moved) (record {
+    subst (λ x. Moved bytes rows v x tempo m.own) (sym moved) (record {
       fields = assumption at.desk.fields;
       next = Ended (first_same _ _ _ _ at.text) refl (ap (λ n. n + 1) plays);
-      own = at.desk.own;
-      shared = at.desk.shared;
-      sid = at.desk.sid;
     })
 finish bytes rows place v w tempo command d m row plays is inside few (entry ∷ entries) each left at =
     let more = (stands_there rows (v.row + 1) _ zero_row _ left).inside in
     let next : (w.row + 1) % 256 ≡ v.row + 1 = omega (arith, row, inside, few) in
-    let test : nat_eq ((w.row + 1) % 256) (length rows) ≡ false = ne_eqb _ _ (λ e. absurd (omega (arith, next, more, e))) in
+    let test : nat_eq ((w.row + 1) % 256) (length rows) ≡ false =
+    ne_eqb _ _ (λ e. absurd (omega (arith, next, more, e))) in
     let moved : row_moved (length rows) w ≡ record w { row = (w.row + 1) % 256 } = rw test refl in
-    subst (λ x. Left bytes rows v x tempo d m) (sym moved) (record {
+    subst (λ x. Moved bytes rows v x tempo m.own) (sym moved) (record {
       fields = assumption at.desk.fields;
       next =
           GoesOnWith (text_goes_on entry entries _ _ (All-head IsEntry entry entries each) at.text)
@@ -270,9 +266,6 @@ finish bytes rows place v w tempo command d m row plays is inside few (entry ∷
                 ap (λ n. drop n rows) next
                 ∙ (left ∙ ap (λ c. rows_from c (entry ∷ entries)) (sym (at.command ∙ is)));
           }) plays;
-      own = at.desk.own;
-      shared = at.desk.shared;
-      sid = at.desk.sid;
     })
 
 running_small : (own : ℕ → ℕ) (v : Voice) (tempo : ℕ) → FieldsStand v tempo own → IsVoice v → (z : Bool) →
@@ -336,21 +329,23 @@ entry_row_leads r look bytes rows place instruments transpose v tempo d ground a
 
     from_done : (m : VoiceDesk) → RowDone bytes place done tempo (left_behind entry.kind entries) d m → Goal m
     from_done m h =
-        let number : done.new_command ≡ command.number = done_keeps (λ v. v.new_command) command_keeps look row transpose v in
-        let param : done.new_param ≡ command.param = done_keeps (λ v. v.new_param) param_keeps look row transpose v in
+        let number : done.new_command ≡ command.number =
+        done_keeps (λ v. v.new_command) command_keeps look row transpose v in
+        let param : done.new_param ≡ command.param =
+        done_keeps (λ v. v.new_param) param_keeps look row transpose v in
         let after =
         finish bytes rows place v done tempo command d m (done_keeps (λ v. v.row) row_keeps look row transpose v)
         (done_keeps (λ v. v.plays) plays_keep look row transpose v) (rw (number, param) refl) here.inside at.count
         (left_behind entry.kind entries) (left_each entry.kind entries is_entry.kind others) here.left h in
         let whole =
-        subst (λ x. Left bytes rows v (row_moved (length rows) (row_done look x transpose v)) tempo d m) (sym here.is)
-        after in
+        subst (λ x. Moved bytes rows v (row_moved (length rows) (row_done look x transpose v)) tempo m.own)
+        (sym here.is) after in
         record {
           fields = whole.fields;
           next = whole.next;
-          own = whole.own;
-          shared = whole.shared;
-          sid = whole.sid;
+          own = h.desk.own;
+          shared = h.desk.shared;
+          sid = h.desk.sid;
         }
 
     from_command : (m : VoiceDesk) → Reading bytes place w tempo d (kind_last entry.kind) (text_of entries) m →
