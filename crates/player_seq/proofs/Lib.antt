@@ -7,6 +7,11 @@ pub mod Walked
 -- What it stands on in a packed song.
 pub mod Orders
 -- The row of a voice.
+pub mod Entries
+pub mod RowDesks
+pub mod RowStages
+pub mod RowNotes
+pub mod RowRests
 pub mod Rows
 -- The patterns of a packed song.
 pub mod Patterns
