@@ -14,3 +14,5 @@ pub use Rattle.player_parts.proofs.Reading.{StandsAt, reader, list_stands, groun
 -- what stands in bytes that are the same, and the whole memory behind the code of a voice
 pub use Rattle.player_parts.proofs.Moving.{SameOwn, SameShared, fields_moved, voice_moved, common_moved, handed_moved}
 pub use Rattle.player_parts.proofs.Moving.{seen, desk_seen, list_elsewhere, lists_stay, VoiceDone, holds_after, leaves_after}
+-- a memory as look-ups
+pub use Rattle.player_parts.proofs.MemoryLooks.{memories_find_the_same}

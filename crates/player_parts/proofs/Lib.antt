@@ -11,3 +11,5 @@ pub mod Following
 pub mod Reading
 -- From the desk of a voice to the whole memory.
 pub mod Moving
+-- A memory as look-ups.
+pub mod MemoryLooks

@@ -9,5 +9,11 @@ pub mod Holds
 pub mod Elsewhere
 -- To believe: where an image may stand.
 pub mod Places
+-- To believe: what a part is.
+pub mod Parts
+pub mod PartLaws
 -- Claimed: a memory finds what the packed song has.
 pub mod MemoryLooks
+-- Claimed: edges and labels that are worked by hand.
+pub mod WorkedPlaces
+pub mod WorkedLabels

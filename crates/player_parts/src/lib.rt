@@ -9,8 +9,11 @@
 //! is held. See `docs/player.md`.
 #![tactic(auto)]
 
+pub mod claims;
 pub mod codes;
 pub mod labels;
+mod parts;
 mod place;
 
+pub use parts::{Part, When};
 pub use place::{Place, PlaceFault};
