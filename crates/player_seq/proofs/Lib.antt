@@ -2,3 +2,5 @@
 pub mod Ways
 -- The row of a voice.
 pub mod Rows
+-- The blocks are sound.
+mod Soundness

@@ -1,6 +1,7 @@
 -- To believe: the player's blocks that begin a subtune and fetch a row.
 pub mod InitBlock
 pub mod FetchBlock
--- Claimed: what they do in a memory that holds a state.
+-- Claimed: that they are sound, and what they do in a memory that holds a state.
+pub mod SoundBlocks
 pub mod InitLaws
 pub mod FetchLaws
