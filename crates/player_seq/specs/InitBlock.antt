@@ -1,11 +1,11 @@
 -- The block that begins a subtune: variables and registers are cleared, and what doesn't begin with 0 is set. This is the
 -- project's own player.
 use Rattle.std.specs.Prelude.{ℕ, ◌-◌, ◌*◌, ◌/◌, ◌%◌, [], ◌∷◌}
-use Rattle.player_parts.specs.Words.{Plain, Low, High, Store, Add, Timer, IntoY, StartVar, StartRegister}
+use Rattle.player_parts.specs.Words.{Plain, Low, High, Store, Add, Timer, StartVar, StartRegister}
 use Rattle.blocks.specs.Trees.{Tree, ChainTree, NoneTree, ThenTree, EachVoiceTree, WhenTree, FillTree}
 use Rattle.play_model.specs.declared.options.Options.{Options}
-use Rattle.player_parts.specs.Labels.{ENTRY, ORDER_LOW, ORDER_HIGH, TICK, INSTRUMENT, GATE, TEMPO, CLEARED, VOLUME}
-use Rattle.player_parts.specs.Labels.{FUNK_ONE, FUNK_TWO, SUBTUNE, ORDER_LOWS, ORDER_HIGHS}
+use Rattle.player_parts.specs.declared.labels.TheConstants.{ENTRY, ORDER_LOW, ORDER_HIGH, TICK, INSTRUMENT, GATE, TEMPO, CLEARED, VOLUME}
+use Rattle.player_parts.specs.declared.labels.TheConstants.{FUNK_ONE, FUNK_TWO, SUBTUNE, ORDER_LOWS, ORDER_HIGHS}
 use Rattle.player_parts.specs.Codes.{shared_byte, load_number, load_shared, load_entry, store_own, store_shared, store_y}
 use Rattle.player_parts.specs.Codes.{next_y}
 

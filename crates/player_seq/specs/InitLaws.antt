@@ -10,7 +10,7 @@ use Rattle.player_parts.specs.Words.{Half, Low, High}
 use Rattle.blocks.specs.Desk.{Desk, Layout, sid_place, timer_place}
 use Rattle.blocks.specs.Meaning.{meaning}
 use Rattle.blocks.specs.Reads.{Reads}
-use Rattle.player_parts.specs.Labels.{SUBTUNE}
+use Rattle.player_parts.specs.declared.labels.TheConstants.{SUBTUNE}
 use Rattle.player_parts.specs.PlayerLists.{HasLists}
 use Rattle.player_parts.specs.PlayerLayouts.{IsPlayerLayout, IsVariablePlace, MayRead}
 use Rattle.player_parts.specs.Holds.{Holds, nothing_on}
