@@ -4,3 +4,8 @@ pub mod Ways
 pub mod Rows
 -- The blocks are sound.
 mod Soundness
+-- The memory that a subtune begins with.
+mod Cleared
+mod Started
+mod StartStates
+mod Beginning
