@@ -82,12 +82,14 @@ fn timer(alloc: Global, speed: u8) -> Result<Block, NoMemory>
     ensures { IfOk result (λ block. tree_of block ≡ timer_tree speed) }
 {
     let cycles = 19_656 / u16::from(speed) - 1;
+    let low = load_number((cycles % 256) as u8);
+    let high = load_number((cycles / 256) as u8);
     chain(
         alloc,
         &[
-            load_number((cycles % 256) as u8),
+            low,
             Step::Store(Place::Timer(Half::Low)),
-            load_number((cycles / 256) as u8),
+            high,
             Step::Store(Place::Timer(Half::High)),
         ],
     )
