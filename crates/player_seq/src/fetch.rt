@@ -7,9 +7,9 @@ ghost use Rattle.player_seq.specs.FetchBlock.{keyed_tree, rests_tree, entry_tree
 ghost use Rattle.player_seq.specs.FetchBlock.{note_tree, row_tree, fetch_tree};
 
 use crate::walk::{nothing, walk};
+use base::NoMemory;
 use blocks::{
-    Block, Condition, Counted, Half, NoMemory, Operand, Source, Step, Summand, Test, chain, choose,
-    seq,
+    Block, Condition, Counted, Half, Operand, Source, Step, Summand, Test, chain, choose, seq,
 };
 use player_parts::codes::{
     LOAD_BYTE, LOAD_Y, NEXT_Y, index_own, load_entry, load_number, load_own, load_shared, own_byte,
@@ -211,8 +211,8 @@ fn row(alloc: Global) -> Result<Block, NoMemory>
 }
 
 /// The block that fetches a voice's next row: where a pattern begins, the walk along the orderlist to it; then the row,
-/// where its time has come. The walk looks at most at as many bytes as the count says, 1 to 255: a packed song's own, so
-/// that the walk ends at a pattern.
+/// where its time has come. The count is the most bytes that the walk looks at: 1 to 255, from the packed song's
+/// `walk_count`, so that the walk ends at the number of a pattern.
 ///
 /// # Errors
 ///

@@ -5,9 +5,8 @@ ghost use Rattle.blocks.specs.Trees.{tree_of, WhenTree, EachVoiceTree};
 ghost use Rattle.play_model.specs.Speeds.{IsSpeed};
 ghost use Rattle.player_seq.specs.InitBlock.{cleared_tree, shared_tree, voice_tree, timer_tree, init_tree};
 
-use blocks::{
-    Block, Half, NoMemory, Place, Start, Step, Summand, chain, each_voice, fill, seq, when,
-};
+use base::NoMemory;
+use blocks::{Block, Half, Place, Start, Step, Summand, chain, each_voice, fill, seq, when};
 use play_model::Options;
 use player_parts::codes::{
     NEXT_Y, STORE_Y, load_entry, load_number, load_shared, shared_byte, store_own, store_shared,
@@ -18,7 +17,7 @@ use player_parts::labels::{
 };
 use std::alloc::Global;
 
-/// The feature bit of the timer's code: kept where the play call comes more often than once a picture.
+/// The bit of the timer's code, which is kept where the play call comes more often than once a picture.
 const TIMER_BIT: u8 = 26;
 
 /// Clears the variables that begin with 0, and the 25 registers.

@@ -13,6 +13,6 @@ mod fetch;
 mod init;
 mod walk;
 
-pub use blocks::NoMemory;
+pub use base::NoMemory;
 pub use fetch::fetch_block;
 pub use init::init_block;

@@ -5,9 +5,9 @@ ghost use Rattle.blocks.specs.Trees.{tree_of, NoneTree};
 ghost use Rattle.player_seq.specs.FetchBlock.{walk_begun_tree, transpose_tree, repeat_tree, walk_on_tree};
 ghost use Rattle.player_seq.specs.FetchBlock.{walk_loop_tree, place_tree, again_tree, pattern_tree, walk_tree};
 
+use base::NoMemory;
 use blocks::{
-    Block, Condition, Counter, Half, NoMemory, Operand, Step, Summand, Test, chain, choose, seq,
-    until, when,
+    Block, Condition, Counter, Half, Operand, Step, Summand, Test, chain, choose, seq, until, when,
 };
 use player_parts::codes::{
     LOAD_BYTE, LOAD_Y, NEXT_Y, STORE_Y, index_number, index_own, index_shared, less_own,
@@ -19,10 +19,10 @@ use player_parts::labels::{
 };
 use std::alloc::Global;
 
-/// The feature bit of transposes in orderlists.
+/// The bit of transposes in orderlists.
 const TRANSPOSE_BIT: u8 = 0;
 
-/// The feature bit of repeats in orderlists.
+/// The bit of repeats in orderlists.
 const REPEAT_BIT: u8 = 1;
 
 /// No block.
@@ -69,7 +69,7 @@ fn repeat(alloc: Global) -> Result<Block, NoMemory>
 }
 
 /// Goes on behind a byte that is no pattern's number: behind the endmark at the restart position, else at the next byte.
-fn on(alloc: Global) -> Result<Block, NoMemory>
+fn go_on(alloc: Global) -> Result<Block, NoMemory>
     ensures { IfOk result (λ block. tree_of block ≡ walk_on_tree) }
 {
     let restart = chain(alloc, &[NEXT_Y, LOAD_BYTE, STORE_Y])?;
@@ -93,7 +93,7 @@ fn look(alloc: Global, count: u8) -> Result<Block, NoMemory>
         count,
         &steps,
         pattern,
-        on(alloc)?,
+        go_on(alloc)?,
     )
 }
 
