@@ -1,20 +1,28 @@
+-- The blocks are sound.
+mod Soundness
+-- The memory that a subtune begins with.
+mod Cleared
+mod Started
+mod StartStates
+mod Beginning
 -- The way from a place of an orderlist to its next play, and the repeats on it.
-pub mod Ways
-pub mod Repeats
--- The walk, as the player's code does it.
-pub mod Walking
-pub mod Walked
--- What it stands on in a packed song.
-pub mod Orders
--- The row of a voice.
-pub mod Entries
-pub mod RowDesks
-pub mod RowStages
-pub mod RowNotes
-pub mod RowRests
-pub mod Rows
--- The patterns of a packed song.
-pub mod Patterns
--- The whole block.
-pub mod Fetching
-pub mod FetchLaws
+mod Ways
+mod Repeats
+-- The walk, as the player's code does it, and what it stands on in a packed song.
+mod Walking
+mod Walked
+mod Orders
+-- The next byte and the next row of a pattern.
+mod Entries
+-- The row of a voice, and the patterns of a packed song.
+mod RowDesks
+mod RowStages
+mod RowRests
+mod RowNotes
+mod Rows
+mod Patterns
+-- The whole block that fetches a row.
+mod Fetching
+mod FetchLaws
+-- The laws of the parts.
+mod PartLaws

@@ -1,8 +1,8 @@
 -- The block that fetches a row: the walk along the orderlist, where a pattern begins, and the row. This is the project's
 -- own player.
 use Rattle.std.specs.Prelude.{ℕ, [], ◌∷◌}
-use Rattle.player_parts.specs.Words.{VoiceVar, Const, Plain, Low, High, Step, And, Or, Add, AddOn, SubOn, Double, Dec}
-use Rattle.player_parts.specs.Words.{HeldCounted, Zero, Minus, Carry, Equal, Less, Is, Not, CounterVar}
+use Rattle.player_parts.specs.Words.{Const, Plain, Low, High, And, Or, Add, AddOn, SubOn, Double}
+use Rattle.player_parts.specs.Words.{Zero, Minus, Carry, Equal, Less, Is, Not, CounterVar}
 use Rattle.blocks.specs.Trees.{Tree, ChainTree, NoneTree, ThenTree, IfTree, UntilTree, WhenTree}
 use Rattle.player_parts.specs.declared.labels.TheConstants.{ENTRY, OFFSET, PATTERN_LOW, PATTERN_HIGH, ORDER_LOW, ORDER_HIGH, ORDER_PLACE}
 use Rattle.player_parts.specs.declared.labels.TheConstants.{TRANSPOSE, REPEAT, TICK, GATE_TIMER, INSTRUMENT, NEW_NOTE, NEW_COMMAND, NEW_PARAM}

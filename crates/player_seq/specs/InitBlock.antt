@@ -1,7 +1,7 @@
 -- The block that begins a subtune: variables and registers are cleared, and what doesn't begin with 0 is set. This is the
 -- project's own player.
 use Rattle.std.specs.Prelude.{ℕ, ◌-◌, ◌*◌, ◌/◌, ◌%◌, [], ◌∷◌}
-use Rattle.player_parts.specs.Words.{Plain, Low, High, Store, Add, Timer, IntoY, StartVar, StartRegister}
+use Rattle.player_parts.specs.Words.{Plain, Low, High, Store, Add, Timer, StartVar, StartRegister}
 use Rattle.blocks.specs.Trees.{Tree, ChainTree, NoneTree, ThenTree, EachVoiceTree, WhenTree, FillTree}
 use Rattle.play_model.specs.declared.options.Options.{Options}
 use Rattle.player_parts.specs.declared.labels.TheConstants.{ENTRY, ORDER_LOW, ORDER_HIGH, TICK, INSTRUMENT, GATE, TEMPO, CLEARED, VOLUME}

@@ -2,6 +2,7 @@
 pub mod PackedLimits
 pub mod InitBlock
 pub mod FetchBlock
--- Claimed: what they do in a memory that holds a state.
+-- Claimed: that they are sound, and what they do in a memory that holds a state.
+pub mod SoundBlocks
 pub mod InitLaws
 pub mod FetchLaws

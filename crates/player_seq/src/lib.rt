@@ -7,3 +7,12 @@
 //! It stands on `player_parts` for what a memory holds, and on `blocks` for the language of player code. See
 //! `docs/player.md`.
 #![tactic(auto)]
+
+pub mod claims;
+mod fetch;
+mod init;
+mod walk;
+
+pub use base::NoMemory;
+pub use fetch::fetch_block;
+pub use init::init_block;
