@@ -24,5 +24,4 @@ mod Patterns
 -- The whole block that fetches a row.
 mod Fetching
 mod FetchLaws
--- The laws of the parts.
-mod PartLaws
+

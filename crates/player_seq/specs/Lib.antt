@@ -2,6 +2,8 @@
 pub mod PackedLimits
 pub mod InitBlock
 pub mod FetchBlock
+pub mod Parts
+pub mod PartLaws
 -- Claimed: that they are sound, and what they do in a memory that holds a state.
 pub mod SoundBlocks
 pub mod InitLaws

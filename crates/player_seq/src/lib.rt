@@ -11,8 +11,10 @@
 pub mod claims;
 mod fetch;
 mod init;
+mod parts;
 mod walk;
 
 pub use base::NoMemory;
 pub use fetch::fetch_block;
 pub use init::init_block;
+pub use parts::{PlayedAgain, RepeatTaken, TransposeTaken};

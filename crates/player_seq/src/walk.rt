@@ -5,9 +5,10 @@ ghost use Rattle.blocks.specs.Trees.{tree_of, NoneTree};
 ghost use Rattle.player_seq.specs.FetchBlock.{walk_begun_tree, transpose_tree, repeat_tree, walk_on_tree};
 ghost use Rattle.player_seq.specs.FetchBlock.{walk_loop_tree, place_tree, again_tree, pattern_tree, walk_tree};
 
+use crate::parts::{PlayedAgain, RepeatTaken, TransposeTaken};
 use base::NoMemory;
 use blocks::{
-    Block, Condition, Counter, Half, Operand, Step, Summand, Test, chain, choose, seq, until, when,
+    Block, Condition, Counter, Half, Operand, Step, Summand, Test, chain, choose, seq, until,
 };
 use player_parts::codes::{
     LOAD_BYTE, LOAD_Y, NEXT_Y, STORE_Y, index_number, index_own, index_shared, less_own,
@@ -17,13 +18,8 @@ use player_parts::labels::{
     COUNTER, ENTRY, OFFSET, ORDER_HIGH, ORDER_LOW, ORDER_PLACE, PATTERN_HIGH, PATTERN_HIGHS,
     PATTERN_LOW, PATTERN_LOWS, REPEAT, TRANSPOSE, WORK_LOW,
 };
+use player_parts::{Part, When};
 use std::alloc::Global;
-
-/// The bit of transposes in orderlists.
-const TRANSPOSE_BIT: u8 = 0;
-
-/// The bit of repeats in orderlists.
-const REPEAT_BIT: u8 = 1;
 
 /// No block.
 pub(crate) fn nothing(alloc: Global) -> Block
@@ -49,7 +45,7 @@ fn begun(alloc: Global) -> Result<Block, NoMemory>
 }
 
 /// Takes a transpose, which is a byte from `$E0` on.
-fn transpose(alloc: Global) -> Result<Block, NoMemory>
+pub(crate) fn transpose(alloc: Global) -> Result<Block, NoMemory>
     ensures { IfOk result (λ block. tree_of block ≡ transpose_tree) }
 {
     let add = Step::Add(Summand::Plain(Operand::Const(0x10)));
@@ -59,7 +55,7 @@ fn transpose(alloc: Global) -> Result<Block, NoMemory>
 }
 
 /// Takes a repeat, which is a byte below `$E0`.
-fn repeat(alloc: Global) -> Result<Block, NoMemory>
+pub(crate) fn repeat(alloc: Global) -> Result<Block, NoMemory>
     ensures { IfOk result (λ block. tree_of block ≡ repeat_tree) }
 {
     let mask = Step::And(Operand::Const(0x0f));
@@ -73,8 +69,8 @@ fn go_on(alloc: Global) -> Result<Block, NoMemory>
     ensures { IfOk result (λ block. tree_of block ≡ walk_on_tree) }
 {
     let restart = chain(alloc, &[NEXT_Y, LOAD_BYTE, STORE_Y])?;
-    let transposes = when(alloc, TRANSPOSE_BIT, transpose(alloc)?)?;
-    let repeats = when(alloc, REPEAT_BIT, repeat(alloc)?)?;
+    let transposes = When::<0, TransposeTaken>::new(TransposeTaken).blocks(alloc)?;
+    let repeats = When::<1, RepeatTaken>::new(RepeatTaken).blocks(alloc)?;
     let next = chain(alloc, &[NEXT_Y])?;
     let taken = seq(Vec::from_array(alloc, [transposes, repeats, next])?);
     let endmark = Test::Is(Condition::Equal(Operand::Const(0xff)));
@@ -105,7 +101,7 @@ fn place(alloc: Global) -> Result<Block, NoMemory>
 }
 
 /// Keeps the place on the pattern's number while plays are left.
-fn again(alloc: Global) -> Result<Block, NoMemory>
+pub(crate) fn again(alloc: Global) -> Result<Block, NoMemory>
     ensures { IfOk result (λ block. tree_of block ≡ again_tree) }
 {
     let less = chain(alloc, &[less_own(REPEAT), less_own(ORDER_PLACE)])?;
@@ -143,7 +139,7 @@ pub(crate) fn walk(alloc: Global, count: u8) -> Result<Block, NoMemory>
     let begun = begun(alloc)?;
     let look = look(alloc, count)?;
     let place = place(alloc)?;
-    let again = when(alloc, REPEAT_BIT, again(alloc)?)?;
+    let again = When::<1, PlayedAgain>::new(PlayedAgain).blocks(alloc)?;
     let pattern = pattern(alloc)?;
     Ok(seq(Vec::from_array(alloc, [begun, look, place, again, pattern])?))
 }
