@@ -1,7 +1,7 @@
 -- What leads to a desk of which one thing holds leads to one of which all that follows from it holds.
-use Rattle.std.proofs.Common.{◌≡◌, ℕ, zero, suc, Bool, true, false, List, [], ◌∷◌, nat_le, nat_lt}
-use Rattle.player_parts.specs.Words.{Cell, Var, VoiceVar, Operand, Const, HeldOperand, Summand, Plain, Entry, Source}
-use Rattle.player_parts.specs.Words.{Direct, Byte, FromY, Half, Low, High, Place, HeldPlace, Register, VoiceRegister}
+use Rattle.std.proofs.Common.{ℕ, zero, suc, Bool, true, false, List, [], ◌∷◌, nat_le, nat_lt}
+use Rattle.player_parts.specs.Words.{Operand, Const, HeldOperand, Summand, Plain, Entry, Source}
+use Rattle.player_parts.specs.Words.{Direct, Byte, FromY, Low, High, Place, HeldPlace, Register, VoiceRegister}
 use Rattle.player_parts.specs.Words.{Timer, Pointer, IntoY, Counted, HeldCounted, CountedY}
 use Rattle.player_parts.specs.Words.{Step, Load, Store, Index, And, Or, Xor, Add, Sub, AddOn, SubOn, Double, Inc, Dec}
 use Rattle.player_parts.specs.Words.{HalveAt, HalveOn}
@@ -13,7 +13,7 @@ use Rattle.blocks.specs.Steps.{condition_of, one_more, one_less}
 use Rattle.player_parts.specs.Labels.{VARIABLES, is_shared}
 use Rattle.player_parts.proofs.VoiceDesks.{VoiceDesk, Reader, cell_byte, fits, Fits, OperandLeads, EntryLeads}
 use Rattle.player_parts.proofs.VoiceDesks.{SummandLeads, SourceLeads, PlaceLeads, CountedLeads, StepLeads, StepsLead}
-use Rattle.player_parts.proofs.VoiceDesks.{CompareLeads, ConditionLeads, TestLeads, SetLeads, counter_down}
+use Rattle.player_parts.proofs.VoiceDesks.{ConditionLeads, TestLeads, SetLeads, counter_down}
 use Rattle.player_parts.proofs.VoiceDesks.{EitherLeads, TurnsLead, Leads}
 
 fits_on : (b : Bool) (P Q : Type 0) → (P → Q) → Fits b P → Fits b Q

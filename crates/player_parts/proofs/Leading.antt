@@ -1,12 +1,12 @@
 -- What leads to a desk of which something holds does so in memory, and reads by Y where it may.
-use Rattle.std.proofs.Common.{◌≡◌, ℕ, zero, suc, ◌+◌, ◌-◌, ◌*◌, ◌/◌, ◌%◌, ◌<◌, ◌≤◌, ◌⊎◌, Bool, true, false, not, List}
+use Rattle.std.proofs.Common.{◌≡◌, ℕ, zero, suc, ◌+◌, ◌-◌, ◌*◌, ◌/◌, ◌%◌, ◌<◌, ◌⊎◌, Bool, true, false, not, List}
 use Rattle.std.proofs.Common.{[], ◌∷◌, nat_eq, nat_le, nat_lt, bit_and, bit_or, bit_xor, inl, inr, refl, sym, ap, ◌∙◌}
 use Rattle.std.proofs.Common.{if◌then◌else◌, subst, arith}
 use Rattle.std.proofs.lemmas.Bool.{leb-true, ltb-true, true≢false, and_parts}
 use Rattle.cpu6502.specs.Registers.{one_if}
 use Rattle.code_runs.specs.Runs.{put}
 use Rattle.player_parts.specs.Words.{Cell, Var, VoiceVar, Operand, Const, HeldOperand, Summand, Plain, Entry, Source}
-use Rattle.player_parts.specs.Words.{Direct, Byte, FromY, Half, Low, High, Place, HeldPlace, Register, VoiceRegister}
+use Rattle.player_parts.specs.Words.{Direct, Byte, FromY, Low, High, Place, HeldPlace, Register, VoiceRegister}
 use Rattle.player_parts.specs.Words.{Timer, Pointer, IntoY, Counted, HeldCounted, CountedY}
 use Rattle.player_parts.specs.Words.{Step, Load, Store, Index, And, Or, Xor, Add, Sub, AddOn, SubOn, Double, Inc, Dec}
 use Rattle.player_parts.specs.Words.{HalveAt, HalveOn}
@@ -14,7 +14,7 @@ use Rattle.player_parts.specs.Words.{Condition, Zero, Minus, Carry, Equal, Less,
 use Rattle.player_parts.specs.Words.{Counter, CounterVar, CounterY}
 use Rattle.blocks.specs.Trees.{Tree, ChainTree, NoneTree, ThenTree, IfTree, UntilTree, EachVoiceTree, WhenTree}
 use Rattle.blocks.specs.Trees.{FillTree}
-use Rattle.blocks.specs.Desk.{Desk, Layout, cell_place, with_accumulator}
+use Rattle.blocks.specs.Desk.{Desk, cell_place, with_accumulator}
 use Rattle.blocks.specs.Steps.{condition_of, stepped, chained, asked, tested, one_more, one_less}
 use Rattle.blocks.specs.Steps.{operand_byte as meant_operand, summand_byte as meant_summand, source_byte as meant_source}
 use Rattle.blocks.specs.Steps.{stored as meant_stored, counted as meant_counted, holds as meant_holds}
@@ -23,9 +23,9 @@ use Rattle.blocks.specs.Meaning.{meaning, turns, by_test}
 use Rattle.blocks.specs.Meaning.{counter_set as meant_set, counter_down as meant_down}
 use Rattle.blocks.specs.Reads.{SummandReads, SourceReads, StepReads, StepsRead, TurnsRead, Reads}
 use Rattle.blocks.proofs.Laws.{shows_equal}
-use Rattle.player_parts.specs.Labels.{VARIABLES, is_own, is_shared}
+use Rattle.player_parts.specs.Labels.{VARIABLES, is_shared}
 use Rattle.player_parts.specs.PlayerLayouts.{IsVariablePlace}
-use Rattle.player_parts.proofs.VoiceDesks.{VoiceDesk, Reader, cell_byte, operand_byte, with_cell, showing, loaded}
+use Rattle.player_parts.proofs.VoiceDesks.{VoiceDesk, Reader, cell_byte, with_cell, showing, loaded}
 use Rattle.player_parts.proofs.VoiceDesks.{indexed, summed, counted, halved, fits, Fits, OperandLeads, EntryLeads}
 use Rattle.player_parts.proofs.VoiceDesks.{SummandLeads, SourceLeads, PlaceLeads, CountedLeads, StepLeads, StepsLead}
 use Rattle.player_parts.proofs.VoiceDesks.{compared, CompareLeads, ConditionLeads, holds, is_met, TestLeads, SetLeads}

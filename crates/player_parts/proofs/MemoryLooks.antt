@@ -1,21 +1,20 @@
 -- A memory that has the lists finds what the packed song has.
-use Rattle.std.proofs.Common.{◌≡◌, ℕ, zero, suc, ◌+◌, ◌-◌, ◌<◌, ◌≤◌, false, ◌==◌, List, [], length, map, get_or, replicate, refl, sym, ap}
-use Rattle.std.proofs.Common.{◌∙◌, subst, arith}
+use Rattle.std.proofs.Common.{◌≡◌, ℕ, ◌+◌, ◌-◌, ◌<◌, ◌≤◌, false, ◌==◌, [], length, replicate, refl, sym, ap}
+use Rattle.std.proofs.Common.{◌∙◌, arith}
 use Rattle.std.proofs.lemmas.Bool.{ne_eqb}
-use Rattle.std.proofs.lemmas.List.{length-map, get_or-map}
+use Rattle.std.proofs.lemmas.List.{get_or-map}
 use Rattle.song_model.specs.declared.instruments.Instrument.{Instrument}
 use Rattle.song_model.specs.declared.tables.TableName.{TableName}
 use Rattle.song_model.specs.declared.tables.TableName.TheVariants.{Wave, Pulse, Filter, Speed}
 use Rattle.song_model.specs.declared.tables.TableRow.{TableRow}
-use Rattle.song_model.specs.LookUp.{IsNumbered, numbered, zero_instrument, instrument_at, table_of, table_row}
-use Rattle.packed_form.specs.declared.packed_songs.PackedInstrument.{PackedInstrument}
+use Rattle.song_model.specs.LookUp.{IsNumbered, zero_instrument, instrument_at, table_of, table_row}
 use Rattle.packed_form.specs.declared.packed_songs.PackedSong.{PackedSong}
 use Rattle.packed_form.specs.Unpacked.{unpacked_instrument, unpacked_song}
 use Rattle.blocks.specs.Desk.{Layout}
 use Rattle.player_parts.specs.Labels.{lefts_label, rights_label}
-use Rattle.player_parts.specs.PlayerLists.{PlayerList, Lefts, Rights, Instruments, list_length, list_byte, list_place}
-use Rattle.player_parts.specs.PlayerLists.{instrument_byte, first_row, IsList, HasLists}
-use Rattle.player_parts.specs.MemoryLooks.{instrument_in, memory_instrument, memory_look_ups, FindsTheSame}
+use Rattle.player_parts.specs.PlayerLists.{Lefts, Rights, Instruments, list_length}
+use Rattle.player_parts.specs.PlayerLists.{instrument_byte, first_row, HasLists}
+use Rattle.player_parts.specs.MemoryLooks.{instrument_in, memory_instrument, memory_look_ups}
 use Rattle.player_parts.specs.MemoryLooks.{MemoriesFindTheSame}
 
 -- ---- instruments

@@ -1,7 +1,7 @@
 -- What stands in the bytes of a memory stands in the same bytes of another one; and from the desk of a voice back to the
 -- whole memory.
-use Rattle.std.proofs.Common.{◌≡◌, ◌≢◌, ℕ, zero, suc, ◌+◌, ◌-◌, ◌*◌, ◌<◌, ◌≤◌, ◌⊎◌, Bool, true, false, nat_eq, ◌==◌}
-use Rattle.std.proofs.Common.{if◌then◌else◌, ◌∷◌, drop, inl, inr, refl, sym, ap, ◌∙◌, subst, arith}
+use Rattle.std.proofs.Common.{◌≡◌, ◌≢◌, ℕ, ◌+◌, ◌-◌, ◌<◌, ◌≤◌, ◌⊎◌, true}
+use Rattle.std.proofs.Common.{inl, inr, refl, sym, ap, ◌∙◌, subst, arith}
 use Rattle.std.proofs.lemmas.Bool.{cases_lt, cases_eq}
 use Rattle.song_model.specs.declared.orders.Order.{Order}
 use Rattle.song_model.specs.declared.orders.Step.{Step}
@@ -10,8 +10,6 @@ use Rattle.play_model.specs.State.{Voice, Common, FrameState, voice_of}
 use Rattle.play_model.specs.Frame.{subtune_at}
 use Rattle.play_model.specs.TickStep.{tempo_of}
 use Rattle.packed_form.specs.declared.packed_songs.PackedSong.{PackedSong}
-use Rattle.packed_form.specs.declared.entries.Command.{Command}
-use Rattle.packed_form.specs.Entries.{no_command}
 use Rattle.packed_form.specs.Unpacked.{unpacked_song}
 use Rattle.blocks.specs.Desk.{Desk, Layout, sid_place}
 use Rattle.player_parts.specs.Labels.{ENTRY, OFFSET, PATTERN_LOW, PATTERN_HIGH, ORDER_LOW, ORDER_HIGH, ORDER_PLACE}
@@ -21,15 +19,15 @@ use Rattle.player_parts.specs.Labels.{FREQ_HIGH, LAST_NOTE, WAVE_POINTER, WAVE_T
 use Rattle.player_parts.specs.Labels.{PULSE_LOW, PULSE_HIGH, TEMPO, FILTER_POINTER, FILTER_TIME, FILTER_TYPE}
 use Rattle.player_parts.specs.Labels.{FILTER_CONTROL, CUTOFF, STARTED, LENT_PARAM, LENT_COMMAND, LENT, VOLUME, FUNK_ONE}
 use Rattle.player_parts.specs.Labels.{FUNK_TWO, SUBTUNE, VARIABLES, is_own, is_shared}
-use Rattle.player_parts.specs.PlayerLists.{PlayerList, list_length, list_place, IsList, IsListPlace, HasLists}
-use Rattle.player_parts.specs.PlayerLayouts.{IsPlayerLayout, IsVariablePlace}
-use Rattle.player_parts.specs.Holds.{own_bytes, shared_bytes, AreHalves, OrderPlaceStands, running_command, RowStands}
+use Rattle.player_parts.specs.PlayerLists.{list_place, IsListPlace, HasLists}
+use Rattle.player_parts.specs.PlayerLayouts.{IsPlayerLayout}
+use Rattle.player_parts.specs.Holds.{own_bytes, shared_bytes, AreHalves, OrderPlaceStands, running_command}
 use Rattle.player_parts.specs.Holds.{PlayStands, Fetching, Begins, GoesOn, FieldsStand, VoiceStands, CommonStands}
 use Rattle.player_parts.specs.Holds.{HandedOn, HandedStands, VoiceOfStands, Holds}
 use Rattle.player_parts.specs.Elsewhere.{LeavesElsewhere}
-use Rattle.player_parts.proofs.VoiceDesks.{VoiceDesk, Reader}
+use Rattle.player_parts.proofs.VoiceDesks.{VoiceDesk}
 use Rattle.player_parts.proofs.Spots.{IsElsewhere, Spot, Own, Shared, LowSpot, HighSpot, Sid, Others, Elsewhere}
-use Rattle.player_parts.proofs.Spots.{spot_place, IsSpot, spot_byte}
+use Rattle.player_parts.proofs.Spots.{spot_place, spot_byte}
 use Rattle.player_parts.proofs.Leading.{Shows}
 use Rattle.player_parts.proofs.Reading.{reader}
 

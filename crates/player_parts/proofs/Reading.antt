@@ -1,12 +1,11 @@
 -- Lists where the code of a voice reads them: by the pointer, and as entries of tables.
-use Rattle.std.proofs.Common.{◌≡◌, ℕ, ◌+◌, ◌*◌, ◌/◌, ◌%◌, ◌<◌, ◌≤◌, inl, inr, refl, sym, ap, ◌∙◌, subst, arith}
+use Rattle.std.proofs.Common.{◌≡◌, ℕ, ◌+◌, ◌*◌, ◌%◌, ◌<◌, inl, refl, arith}
 use Rattle.packed_form.specs.declared.packed_songs.PackedSong.{PackedSong}
 use Rattle.blocks.specs.Desk.{Layout}
 use Rattle.player_parts.specs.PlayerLists.{PlayerList, list_length, list_byte, list_place, IsList, IsListPlace, HasLists}
 use Rattle.player_parts.specs.PlayerLayouts.{IsPlayerLayout}
 use Rattle.player_parts.specs.Holds.{AreHalves}
 use Rattle.player_parts.proofs.VoiceDesks.{VoiceDesk, Reader, pointed}
-use Rattle.player_parts.proofs.Spots.{IsRoom, IsElsewhere}
 use Rattle.player_parts.proofs.Leading.{Ground}
 
 -- so many bytes that are found stand from a place on

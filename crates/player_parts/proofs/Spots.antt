@@ -1,13 +1,13 @@
 -- The places of memory as the code of a voice sees them: what stands at each, and that a byte written at one leaves the
 -- others.
 use Rattle.std.proofs.Common.{◌≡◌, ◌≢◌, ◌⊎◌, ℕ, zero, suc, ◌+◌, ◌*◌, ◌/◌, ◌%◌, ◌<◌, ◌≤◌, ◌&&◌, ◌||◌, Bool, true}
-use Rattle.std.proofs.Common.{false, not, nat_eq, nat_lt, if◌then◌else◌, inl, inr, refl, sym, ap, ◌∙◌, arith}
-use Rattle.std.proofs.lemmas.Bool.{and_parts, or_cases, agree_below, agree_below_at, not-true, ltb-true, eqb-true}
-use Rattle.std.proofs.lemmas.Bool.{true≢false, both_ways}
+use Rattle.std.proofs.Common.{not, nat_eq, nat_lt, if◌then◌else◌, inl, inr, refl, sym, ap, ◌∙◌, arith}
+use Rattle.std.proofs.lemmas.Bool.{and_parts, or_cases, agree_below_at, not-true, ltb-true, eqb-true}
+use Rattle.std.proofs.lemmas.Bool.{both_ways}
 use Rattle.std.proofs.lemmas.Bool.Decides.{eqb_tells}
 use Rattle.code_runs.specs.Runs.{put}
 use Rattle.code_runs.proofs.Laws.{put_same, put_other}
-use Rattle.blocks.specs.Desk.{Desk, Layout, sid_place}
+use Rattle.blocks.specs.Desk.{Layout, sid_place}
 use Rattle.player_parts.specs.Labels.{VARIABLES, is_own, is_shared}
 use Rattle.player_parts.proofs.VoiceDesks.{VoiceDesk, Reader}
 

@@ -2,12 +2,12 @@
 -- pointer, the SID registers by their numbers, A, Y and the flags. What steps do to it is computed where labels are
 -- numerals.
 use Rattle.std.specs.Prelude.{◌≡◌, ℕ, zero, suc, ◌+◌, ◌-◌, ◌*◌, ◌/◌, ◌%◌, ◌<◌, Bool, true, false, not, List, [], ◌∷◌}
-use Rattle.std.specs.Prelude.{nat_eq, nat_le, nat_lt, if◌then◌else◌, bit_and, bit_or, bit_xor}
+use Rattle.std.specs.Prelude.{nat_eq, nat_le, nat_lt, bit_and, bit_or, bit_xor}
 use Rattle.cpu6502.specs.declared.memory.TheConstants.{MEMORY_SIZE}
 use Rattle.cpu6502.specs.Registers.{one_if}
 use Rattle.code_runs.specs.Runs.{put}
 use Rattle.player_parts.specs.Words.{Cell, Var, VoiceVar, Operand, Const, HeldOperand, Summand, Plain, Entry, Source}
-use Rattle.player_parts.specs.Words.{Direct, Byte, FromY, Half, Low, High, Place, HeldPlace, Register, VoiceRegister}
+use Rattle.player_parts.specs.Words.{Direct, Byte, FromY, Low, High, Place, HeldPlace, Register, VoiceRegister}
 use Rattle.player_parts.specs.Words.{Timer, Pointer, IntoY, Counted, HeldCounted, CountedY}
 use Rattle.player_parts.specs.Words.{Step, Load, Store, Index, And, Or, Xor, Add, Sub, AddOn, SubOn, Double, Inc, Dec}
 use Rattle.player_parts.specs.Words.{HalveAt, HalveOn}

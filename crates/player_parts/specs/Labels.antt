@@ -1,5 +1,5 @@
 -- The labels of the player's bytes and lists, and whose bytes they are.
-use Rattle.std.specs.Prelude.{ℕ, ◌*◌, ◌%◌, ◌&&◌, ◌||◌, Bool, ◌==◌, nat_lt, nat_le}
+use Rattle.std.specs.Prelude.{ℕ, ◌%◌, ◌&&◌, ◌||◌, Bool, ◌==◌, nat_lt, nat_le}
 use Rattle.song_model.specs.declared.tables.TableName.{TableName}
 use Rattle.song_model.specs.declared.tables.TableName.TheVariants.{Wave, Pulse, Filter, Speed}
 use Rattle.player_parts.specs.declared.labels.TheConstants.{WAVE_LEFTS, WAVE_RIGHTS, PULSE_LEFTS, PULSE_RIGHTS}

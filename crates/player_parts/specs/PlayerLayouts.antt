@@ -2,7 +2,6 @@
 use Rattle.std.specs.Prelude.{◌≡◌, ℕ, ◌+◌, ◌<◌, ◌≤◌, ◌⊎◌, true, IsBitSet}
 use Rattle.song_model.specs.declared.features.Feature.{Feature}
 use Rattle.song_model.specs.Feature.{bit_of}
-
 use Rattle.packed_form.specs.declared.packed_songs.PackedSong.{PackedSong}
 use Rattle.blocks.specs.Desk.{Layout}
 use Rattle.player_parts.specs.Labels.{VARIABLES, FREQUENCY_LOWS, NEXT_FREQUENCY_LOWS, FREQUENCY_HIGHS}

@@ -11,7 +11,7 @@ use Rattle.packed_form.specs.declared.packed_songs.PackedSubtune.{PackedSubtune}
 use Rattle.packed_form.specs.declared.packed_songs.PackedSong.{PackedSong}
 use Rattle.packed_form.specs.Unpacked.{unpacked_song}
 use Rattle.blocks.specs.Desk.{Layout}
-use Rattle.player_parts.specs.Labels.{ORDERS, PATTERNS, FREQUENCY_LOWS, FREQUENCY_HIGHS, SPEED_LEFTS, SPEED_RIGHTS}
+use Rattle.player_parts.specs.Labels.{ORDERS, PATTERNS, FREQUENCY_LOWS, FREQUENCY_HIGHS}
 use Rattle.player_parts.specs.Labels.{INSTRUMENTS, ORDER_LOWS, ORDER_HIGHS, PATTERN_LOWS, PATTERN_HIGHS}
 use Rattle.player_parts.specs.Labels.{lefts_label, rights_label}
 

@@ -1,5 +1,4 @@
 -- Places at the edges of what is allowed.
-use Rattle.std.specs.Prelude.{ℕ}
 use Rattle.player_parts.specs.Places.{IsAddress, IsZeroPage}
 
 -- from $0800 to $CF00 by whole pages, and from $02 to $FE

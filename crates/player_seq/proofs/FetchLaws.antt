@@ -1,21 +1,19 @@
 -- In a memory that holds a state the block that fetches a row leaves the state behind the fetch.
-use Rattle.std.proofs.Common.{◌≡◌, ◌≢◌, ℕ, zero, suc, ◌+◌, ◌*◌, ◌<◌, ◌≤◌, Bool, true, false, ◌==◌, if◌then◌else◌, List}
-use Rattle.std.proofs.Common.{length, get_or, Contains, refl, sym, ap, ◌∙◌, subst, arith}
+use Rattle.std.proofs.Common.{◌≡◌, ◌≢◌, ℕ, zero, suc, ◌+◌, ◌<◌, Bool, true, false, ◌==◌}
+use Rattle.std.proofs.Common.{get_or, refl, sym, ap, ◌∙◌, subst, arith}
 use Rattle.std.proofs.lemmas.List.Elements.{Contains-get_or}
 use Rattle.song_model.specs.declared.orders.Order.{Order}
-use Rattle.song_model.specs.declared.songs.Song.{Song}
 use Rattle.song_model.specs.LookUp.{order_of}
 use Rattle.play_model.specs.LookUps.{look_ups_of}
 use Rattle.play_model.specs.Ranges.{IsVoice, IsFrameState}
 use Rattle.play_model.specs.Safe.{IsSafe, IsSafeVoice}
-use Rattle.play_model.specs.State.{Voice, Common, FrameState, Playing, voice_of, playing_of, with_playing}
+use Rattle.play_model.specs.State.{Voice, FrameState, Playing, voice_of, playing_of, with_playing}
 use Rattle.play_model.specs.Frame.{row_fetched, subtune_at}
 use Rattle.play_model.specs.TickStep.{tempo_of}
 use Rattle.packed_form.specs.declared.packed_songs.PackedSong.{PackedSong}
-use Rattle.packed_form.specs.Unpacked.{unpacked_song, unpacked_subtune}
-use Rattle.packed_form.specs.StandsFor.{StandsFor}
-use Rattle.packed_form.specs.WalkCount.{looks_from, walk_count}
-use Rattle.packed_form.specs.WalkLaws.{IsOrderOf, WalkEnds}
+use Rattle.packed_form.specs.Unpacked.{unpacked_song}
+use Rattle.packed_form.specs.WalkCount.{looks_from}
+use Rattle.packed_form.specs.WalkLaws.{IsOrderOf}
 use Rattle.packed_form.proofs.Laws.{walks_end}
 use Rattle.blocks.specs.Desk.{Desk, Layout}
 use Rattle.blocks.specs.Meaning.{meaning}
@@ -23,14 +21,11 @@ use Rattle.player_parts.specs.declared.labels.TheConstants.{SUBTUNE, FILTER_POIN
 use Rattle.player_parts.specs.declared.labels.TheConstants.{FILTER_CONTROL, CUTOFF, VOLUME, FUNK_ONE, FUNK_TWO, STARTED}
 use Rattle.player_parts.specs.declared.labels.TheConstants.{LENT, LENT_COMMAND, LENT_PARAM}
 use Rattle.player_parts.specs.PlayerLists.{no_subtune}
-use Rattle.player_parts.specs.PlayerLayouts.{IsPlayerLayout, KeepsFeatures}
 use Rattle.player_parts.specs.Holds.{HandedOn, VoiceOfStands, Holds}
-use Rattle.player_parts.proofs.Laws.{VoiceDesk, SameShared, common_moved, handed_moved, VoiceDone, seen, desk_seen}
+use Rattle.player_parts.proofs.Laws.{VoiceDesk, VoiceDone, seen, desk_seen}
 use Rattle.player_parts.proofs.Laws.{ground_of, led, holds_after, leaves_after}
-use Rattle.player_seq.specs.PackedLimits.{HasShortPatterns}
 use Rattle.player_seq.specs.FetchBlock.{fetch_tree}
-use Rattle.player_seq.specs.FetchLaws.{with_row_fetched, Fetches, FetchBlockFetches}
-use Rattle.player_seq.proofs.Walking.{work_touches}
+use Rattle.player_seq.specs.FetchLaws.{with_row_fetched, FetchBlockFetches}
 use Rattle.player_seq.proofs.Orders.{subtune_is, voice_order, walk_ground}
 use Rattle.player_seq.proofs.Fetching.{Scene, FetchDone, voice_after, fetch_leads}
 

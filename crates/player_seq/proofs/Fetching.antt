@@ -1,57 +1,51 @@
 -- The block that fetches a row does what the rule of the frame does.
-use Rattle.std.proofs.Common.{◌≡◌, ◌≢◌, ℕ, zero, suc, ◌+◌, ◌*◌, ◌<◌, ◌≤◌, ◌||◌, Bool, true, false, nat_eq, ◌==◌}
-use Rattle.std.proofs.Common.{if◌then◌else◌, List, [], ◌∷◌, length, get_or, inl, inr, refl, sym, ap, ◌∙◌, subst, arith}
-use Rattle.std.proofs.lemmas.Bool.{eqb-true, eqb-false, eq-eqb, ne_eqb, true≢false}
+use Rattle.std.proofs.Common.{◌≡◌, ◌≢◌, ℕ, ◌+◌, ◌*◌, ◌<◌, ◌≤◌, ◌||◌, Bool, true, false, nat_eq, ◌==◌}
+use Rattle.std.proofs.Common.{if◌then◌else◌, List, [], ◌∷◌, length, refl, sym, ap, ◌∙◌, subst, arith}
+use Rattle.std.proofs.lemmas.Bool.{eqb-true, eqb-false, eq-eqb, ne_eqb}
 use Rattle.std.proofs.lemmas.List.{length-map}
 use Rattle.song_model.specs.declared.orders.Order.{Order}
 use Rattle.song_model.specs.declared.orders.OrderPlace.{OrderPlace}
 use Rattle.song_model.specs.declared.orders.Step.{Step}
 use Rattle.song_model.specs.declared.songs.Song.{Song}
-use Rattle.song_model.specs.Endless.{IsEndless}
 use Rattle.song_model.specs.declared.rows.Row.{Row}
-use Rattle.song_model.specs.LookUp.{IsNumbered, order_of, pattern_at, pattern_row}
+use Rattle.song_model.specs.LookUp.{IsNumbered, pattern_at, pattern_row}
 use Rattle.song_model.specs.Places.{restarted, place_of}
 use Rattle.song_model.specs.Walk.{played}
 use Rattle.play_model.specs.LookUps.{LookUps, look_ups_of}
-use Rattle.play_model.specs.Ranges.{IsVoice, IsFrameState}
-use Rattle.play_model.specs.Safe.{IsSafe, IsSafeVoice}
-use Rattle.play_model.specs.State.{Voice, Common, FrameState, Playing, voice_of, playing_of, with_playing}
+use Rattle.play_model.specs.Ranges.{IsVoice}
+use Rattle.play_model.specs.Safe.{IsSafeVoice}
+use Rattle.play_model.specs.State.{Voice}
 use Rattle.play_model.specs.FetchRow.{row_taken, fetch_row, fetched_from}
-use Rattle.play_model.specs.Frame.{row_fetched, subtune_at}
-use Rattle.play_model.specs.TickStep.{tempo_of}
 use Rattle.packed_form.specs.declared.packed_songs.PackedSong.{PackedSong}
 use Rattle.packed_form.specs.Unpacked.{unpacked_instrument, unpacked_song}
 use Rattle.packed_form.specs.StandsFor.{StandsFor}
-use Rattle.blocks.specs.Desk.{Desk, Layout}
-use Rattle.blocks.specs.Meaning.{meaning}
+use Rattle.blocks.specs.Desk.{Layout}
 use Rattle.blocks.specs.Trees.{ThenTree, NoneTree, IfTree}
-use Rattle.player_parts.specs.Words.{Is, Zero, Equal}
+use Rattle.player_parts.specs.Words.{Is, Equal}
 use Rattle.player_parts.specs.Codes.{own_byte, load_own}
-use Rattle.player_parts.specs.declared.labels.TheConstants.{ENTRY, OFFSET, PATTERN_LOW, PATTERN_HIGH, ORDER_LOW, ORDER_HIGH}
+use Rattle.player_parts.specs.declared.labels.TheConstants.{ENTRY, PATTERN_LOW, PATTERN_HIGH, ORDER_LOW, ORDER_HIGH}
 use Rattle.player_parts.specs.declared.labels.TheConstants.{ORDER_PLACE, TRANSPOSE}
-use Rattle.player_parts.specs.declared.labels.TheConstants.{REPEAT, TICK, GATE_TIMER, PATTERNS, ORDERS, SUBTUNE, COUNTER}
+use Rattle.player_parts.specs.declared.labels.TheConstants.{REPEAT, TICK, GATE_TIMER, PATTERNS, ORDERS, COUNTER}
 use Rattle.player_parts.specs.declared.labels.TheConstants.{WORK_LOW, INSTRUMENT, NOTE, NEW_NOTE, NEW_COMMAND}
 use Rattle.player_parts.specs.declared.labels.TheConstants.{NEW_PARAM, COMMAND, PARAM, AD, SR, VIB_TIME, VIB_DELAY}
 use Rattle.player_parts.specs.declared.labels.TheConstants.{WAVE, GATE, FREQ_LOW, FREQ_HIGH, LAST_NOTE}
 use Rattle.player_parts.specs.declared.labels.TheConstants.{WAVE_POINTER, WAVE_TIME, PULSE_POINTER, PULSE_TIME}
 use Rattle.player_parts.specs.declared.labels.TheConstants.{PULSE_LOW, PULSE_HIGH, TEMPO}
-use Rattle.player_parts.specs.Labels.{is_own, is_shared}
 use Rattle.player_parts.specs.PlayerLists.{pattern_bytes, HasLists}
-use Rattle.player_parts.specs.PlayerLayouts.{IsPlayerLayout, MayRead, KeepsFeatures}
+use Rattle.player_parts.specs.PlayerLayouts.{IsPlayerLayout}
 use Rattle.player_parts.specs.Holds.{AreHalves, transpose_byte, OrderPlaceStands, PlayStands, Fetching, Begins, GoesOn}
-use Rattle.player_parts.specs.Holds.{FieldsStand, VoiceStands, CommonStands, HandedOn, HandedStands, VoiceOfStands, Holds}
-use Rattle.player_parts.proofs.Laws.{VoiceDesk, Reader, Leads, leads_on, Shows, Led, led, reader, ground_of, seen, desk_seen}
-use Rattle.player_parts.proofs.Laws.{SameOwn, SameShared, fields_moved, common_moved, handed_moved, VoiceDone}
-use Rattle.player_parts.proofs.Laws.{holds_after, leaves_after, loaded, compared}
+use Rattle.player_parts.specs.Holds.{FieldsStand, VoiceStands}
+use Rattle.player_parts.proofs.Laws.{VoiceDesk, Reader, Leads, leads_on, reader}
+use Rattle.player_parts.proofs.Laws.{loaded, compared}
 use Rattle.player_seq.specs.PackedLimits.{HasShortPatterns}
 use Rattle.player_seq.specs.FetchBlock.{walk_tree, row_tree, fetch_tree}
-use Rattle.player_seq.proofs.Ways.{Way, begun}
+use Rattle.player_seq.proofs.Ways.{begun}
 use Rattle.player_seq.proofs.Walking.{Fine, WalkGround, work_touches, apart_left}
-use Rattle.player_seq.proofs.Walked.{PatternGround, whole_touches, Walked, WalksFrom, walk_leads}
-use Rattle.player_seq.proofs.Orders.{VoiceOrder, voice_order, walk_ground, repeats_fine}
-use Rattle.player_seq.proofs.Patterns.{pattern_ground, StartsAt, pattern_starts, pattern_short, play_stored}
+use Rattle.player_seq.proofs.Walked.{whole_touches, Walked, walk_leads}
+use Rattle.player_seq.proofs.Orders.{VoiceOrder, repeats_fine}
+use Rattle.player_seq.proofs.Patterns.{pattern_ground, pattern_starts, pattern_short, play_stored}
 use Rattle.player_seq.proofs.Patterns.{row_ground, instrument_stored}
-use Rattle.player_seq.proofs.Rows.{RowGround, RowAt, RowNext, Ended, GoesOnWith, RowFetched, row_touches, row_leads}
+use Rattle.player_seq.proofs.Rows.{RowNext, Ended, GoesOnWith, RowFetched, row_touches, row_leads}
 
 -- ---- the orderlist's part
 

@@ -24,4 +24,3 @@ mod Patterns
 -- The whole block that fetches a row.
 mod Fetching
 mod FetchLaws
-

@@ -1,14 +1,12 @@
 -- The orderlists of a packed song that stands for a song: where they stand, and what the player's walk stands on.
-use Rattle.std.proofs.Common.{◌≡◌, ◌≢◌, ℕ, ℤ, zero, suc, ◌+◌, ◌-◌, ◌*◌, ◌<◌, ◌≤◌, Bool, true, false, nat_eq, ◌==◌, List, []}
-use Rattle.std.proofs.Common.{◌∷◌, ◌++◌, map, length, take, get_or, slice_get, All, Contains, Some, inl, inr, refl, sym}
-use Rattle.std.proofs.Common.{ap, ◌∙◌, subst, arith, if◌then◌else◌, length-append}
+use Rattle.std.proofs.Common.{◌≡◌, ◌≢◌, ℕ, zero, suc, ◌+◌, ◌*◌, ◌<◌, ◌≤◌, Bool, true, false, ◌==◌, List, []}
+use Rattle.std.proofs.Common.{◌∷◌, ◌++◌, length, take, get_or, Contains, inl, inr, refl, sym}
+use Rattle.std.proofs.Common.{ap, ◌∙◌, subst, arith, length-append}
 use Rattle.std.proofs.lemmas.Bool.{cases_lt, ne_eqb, true≢false}
-use Rattle.std.proofs.lemmas.Bool.Decides.{eqb_tells}
 use Rattle.std.proofs.lemmas.List.{length-map, get_or-append-add, get_or-map}
 use Rattle.std.proofs.lemmas.List.Elements.{Contains-get_or, All-from_get_or}
 use Rattle.std.proofs.lemmas.Option.{unwrap_or-slice_get}
 use Rattle.std.proofs.Math.Seq.{take-append_seam}
-use Rattle.base.proofs.Laws.{any_of_more, any_more}
 use Rattle.song_model.specs.declared.features.Feature.{Feature}
 use Rattle.song_model.specs.declared.features.Feature.TheVariants.{Transpose, Repeat}
 use Rattle.song_model.specs.declared.orders.Order.{Order}
@@ -16,13 +14,13 @@ use Rattle.song_model.specs.declared.orders.Subtune.{Subtune}
 use Rattle.song_model.specs.declared.songs.Song.{Song}
 use Rattle.song_model.specs.Endless.{IsEndless}
 use Rattle.song_model.specs.Feature.{bit_of}
-use Rattle.song_model.specs.Limits.{IsOrder, IsSubtune, KeepsLimits}
+use Rattle.song_model.specs.Limits.{IsOrder, IsSubtune}
 use Rattle.song_model.specs.LookUp.{order_of, playable_subtune, playable_subtunes, void_subtune}
 use Rattle.song_model.specs.Places.{place_of}
 use Rattle.play_model.specs.Speeds.{IsSpeed}
 use Rattle.play_model.specs.State.{no_options}
 use Rattle.play_model.specs.Frame.{subtune_at}
-use Rattle.play_model.specs.Used.{IsChannel, IsPlayedOrder}
+use Rattle.play_model.specs.Used.{IsPlayedOrder}
 use Rattle.play_model.specs.Features.{HasFeature}
 use Rattle.play_model.specs.Uses.{HasOrderByte}
 use Rattle.play_model.proofs.Laws.{whole_lem}
@@ -35,7 +33,7 @@ use Rattle.player_parts.specs.declared.labels.TheConstants.{ORDERS}
 use Rattle.player_parts.specs.PlayerLists.{OrderBytes, channel_bytes, no_subtune, order_bytes, HasLists}
 use Rattle.player_parts.specs.PlayerLayouts.{IsPlayerLayout, KeepsFeatures}
 use Rattle.player_parts.proofs.Laws.{StandsAt, reader, list_stands}
-use Rattle.player_seq.proofs.Repeats.{IsFine, OfByte, repeat_fine}
+use Rattle.player_seq.proofs.Repeats.{OfByte, repeat_fine}
 use Rattle.player_seq.proofs.Walking.{order_byte, WalkGround, Fine}
 
 -- ---- bytes

@@ -1,7 +1,7 @@
 -- The patterns of a packed song that stands for a song: where they stand, how they begin, and which is played.
-use Rattle.std.proofs.Common.{◌≡◌, ◌≢◌, ◌⊎◌, ℕ, zero, suc, ◌+◌, ◌*◌, ◌/◌, ◌%◌, ◌<◌, ◌≤◌, Bool, true, false, ◌==◌, List, []}
-use Rattle.std.proofs.Common.{◌∷◌, ◌++◌, map, length, drop, get_or, All, Contains, inl, inr, refl, sym, ap, ◌∙◌, subst}
-use Rattle.std.proofs.Common.{arith, if◌then◌else◌}
+use Rattle.std.proofs.Common.{◌≡◌, ◌≢◌, ℕ, ◌+◌, ◌<◌, ◌≤◌, Bool, true, false, ◌==◌, List, []}
+use Rattle.std.proofs.Common.{◌∷◌, ◌++◌, length, drop, get_or, All, inl, inr, refl, sym, ap, ◌∙◌, subst}
+use Rattle.std.proofs.Common.{arith}
 use Rattle.std.specs.List.{flat_map}
 use Rattle.std.proofs.lemmas.Bool.{cases_lt, eqb-false}
 use Rattle.std.proofs.lemmas.List.{length-map, get_or-map, get_or_past}
@@ -27,12 +27,11 @@ use Rattle.packed_form.specs.PackedSpells.{text_of, PackedSpells}
 use Rattle.packed_form.specs.Unpacked.{unpacked_instrument, unpacked_pattern, unpacked_song}
 use Rattle.packed_form.specs.StandsFor.{StandsFor}
 use Rattle.blocks.specs.Desk.{Layout}
-use Rattle.player_parts.specs.declared.labels.TheConstants.{ENTRY, OFFSET, PATTERN_LOWS, PATTERN_HIGHS, PATTERNS}
-use Rattle.player_parts.specs.declared.labels.TheConstants.{GATE_TIMERS}
+use Rattle.player_parts.specs.declared.labels.TheConstants.{ENTRY, OFFSET, PATTERNS}
 use Rattle.player_parts.specs.PlayerLists.{PatternLows, PatternHighs, PatternBytes, Instruments, pattern_bytes, HasLists}
 use Rattle.player_parts.specs.PlayerLayouts.{IsPlayerLayout}
 use Rattle.player_parts.specs.Holds.{RowStands}
-use Rattle.player_parts.proofs.Laws.{StandsAt, reader, list_stands}
+use Rattle.player_parts.proofs.Laws.{reader, list_stands}
 use Rattle.player_seq.specs.PackedLimits.{HasShortPatterns}
 use Rattle.player_seq.proofs.Walked.{PatternGround}
 use Rattle.player_seq.proofs.Rows.{RowGround}

@@ -1,14 +1,13 @@
 -- What holds of each repeat of an orderlist holds of the repeat at each of its plays.
-use Rattle.std.proofs.Common.{◌≡◌, ℕ, ℤ, pos, zero, suc, ◌+◌, ◌-◌, ◌%◌, ◌<◌, ◌≤◌, Bool, true, false, nat_eq, nat_lt}
-use Rattle.std.proofs.Common.{if◌then◌else◌, List, [], ◌∷◌, ◌++◌, length, drop, get_or, slice_index_or, All, refl, sym, ap}
-use Rattle.std.proofs.Common.{◌∙◌, subst, arith, add-one, inl, inr}
+use Rattle.std.proofs.Common.{ℕ, ℤ, pos, zero, suc, ◌+◌, ◌-◌, ◌%◌, ◌<◌, ◌≤◌, nat_eq, nat_lt}
+use Rattle.std.proofs.Common.{if◌then◌else◌, List, [], ◌∷◌, length, drop, slice_index_or, All}
 use Rattle.std.proofs.lemmas.Bool.{cond_both, ltb-true, ltb-false}
 use Rattle.std.proofs.lemmas.List.Elements.{All-nil, All-head, All-tail, All-append, All-drop, All-cons}
 use Rattle.song_model.specs.declared.orders.Order.{Order}
 use Rattle.song_model.specs.declared.orders.OrderPlace.{OrderPlace}
 use Rattle.song_model.specs.Walk.{transpose_after, repeat_after, end_transpose, end_repeat, unrolled}
 use Rattle.song_model.specs.Places.{first_place, places_of, places_of_pattern, walk_places, prefix_places, cycle_places}
-use Rattle.song_model.specs.Places.{restarted, place_after, place_of}
+use Rattle.song_model.specs.Places.{place_after, place_of}
 use Rattle.base.proofs.Laws.{All-get_or_any}
 
 -- a fact of repeats that stays where one is used up, and holds where there is none

@@ -1,7 +1,7 @@
 -- The walk along an orderlist, byte by byte, as the player's code does it.
-use Rattle.std.proofs.Common.{◌≡◌, ◌≢◌, ◌⊎◌, ℕ, ℤ, pos, ◌-ℤ◌, zero, suc, ◌+◌, ◌-◌, ◌*◌, ◌/◌, ◌%◌, ◌<◌, ◌≤◌}
-use Rattle.std.proofs.Common.{◌||◌, Bool, true, false, not, nat_eq, nat_lt, nat_le, bit_and, if◌then◌else◌, List, []}
-use Rattle.std.proofs.Common.{◌∷◌, ◌++◌, length, drop, get_or, inl, inr, refl, sym, ap, ◌∙◌, subst, arith}
+use Rattle.std.proofs.Common.{◌≡◌, ℕ, ℤ, pos, ◌-ℤ◌, zero, suc, ◌+◌, ◌-◌, ◌%◌, ◌<◌, ◌≤◌}
+use Rattle.std.proofs.Common.{◌||◌, Bool, true, false, nat_eq, nat_lt, bit_and, List, []}
+use Rattle.std.proofs.Common.{◌∷◌, ◌++◌, length, get_or, inl, inr, refl, sym, ap, ◌∙◌, subst, arith}
 use Rattle.std.proofs.lemmas.Bool.{agree_below_at, leb-true, leb-false, not-true, not-false, eqb-true, eqb-false, lt-ltb}
 use Rattle.std.proofs.lemmas.Bool.{le-ltb, cases_lt, true≢false}
 use Rattle.code_runs.specs.Runs.{put}
@@ -16,12 +16,12 @@ use Rattle.song_model.specs.Walk.{transpose_after, repeat_after}
 use Rattle.song_model.specs.Endless.{IsEndless}
 use Rattle.player_parts.specs.declared.labels.TheConstants.{TRANSPOSE, REPEAT, COUNTER, WORK_LOW}
 use Rattle.player_parts.specs.Holds.{AreHalves, transpose_byte}
-use Rattle.player_parts.proofs.Laws.{VoiceDesk, Reader, TestLeads, EitherLeads, TurnsLead, Leads, pointed, counter_down}
+use Rattle.player_parts.proofs.Laws.{VoiceDesk, Reader, TestLeads, TurnsLead, Leads, pointed, counter_down}
 use Rattle.player_parts.proofs.Laws.{loaded, indexed, with_cell, counted, compared}
 use Rattle.player_parts.specs.Codes.{load_byte, store_shared, next_y}
 use Rattle.player_parts.proofs.Laws.{leads_on, StandsAt, Reads, by_pointer}
-use Rattle.player_seq.specs.FetchBlock.{transpose_tree, repeat_tree, walk_on_tree, walk_loop_tree}
-use Rattle.player_seq.proofs.Ways.{Way, way_on, way_round, place_behind, Arrives, arrives}
+use Rattle.player_seq.specs.FetchBlock.{transpose_tree, repeat_tree, walk_on_tree}
+use Rattle.player_seq.proofs.Ways.{Way, way_on, way_round, Arrives, arrives}
 
 -- ---- bytes
 

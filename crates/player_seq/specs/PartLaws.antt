@@ -1,16 +1,15 @@
 -- Each part of the walk changes nothing where the state keeps clear of it.
-use Rattle.std.proofs.Common.{◌≡◌, ℕ, zero, suc, ◌+◌, ◌<◌, ◌≤◌, Bool, true, false, nat_eq, nat_le, if◌then◌else◌, refl}
-use Rattle.std.proofs.Common.{inl, inr, arith, sym, ◌∙◌}
+use Rattle.std.proofs.Common.{◌≡◌, ℕ, zero, suc, ◌+◌, ◌<◌, ◌≤◌, true, false, nat_eq, nat_le, refl}
+use Rattle.std.proofs.Common.{inl, inr, arith, ◌∙◌}
 use Rattle.std.proofs.lemmas.Bool.{lt-leb, le-leb, eq-eqb, cases_lt}
 use Rattle.play_model.specs.Used.{IsChannel}
 use Rattle.blocks.specs.Desk.{Desk}
 use Rattle.blocks.specs.Steps.{byte_place}
-use Rattle.blocks.specs.Meaning.{meaning}
 use Rattle.player_parts.specs.declared.labels.TheConstants.{REPEAT}
 use Rattle.player_parts.specs.Holds.{own_bytes}
 use Rattle.player_parts.specs.Parts.{Turn, LeavesAll}
 use Rattle.player_seq.specs.FetchBlock.{transpose_tree, repeat_tree, again_tree}
-use Rattle.player_seq.specs.Parts.{turn_order, HasNoTranspose, HasNoRepeat, IsPassedEntry, HoldsEntry, PointsAtEntry}
+use Rattle.player_seq.specs.Parts.{HasNoTranspose, HasNoRepeat, IsPassedEntry, HoldsEntry, PointsAtEntry}
 use Rattle.player_seq.specs.Parts.{HasRepeat}
 
 -- the voice's channel

@@ -1,10 +1,9 @@
 -- The parts of the walk along an orderlist: where a frame comes to each of them, when a state keeps clear of it, and that
 -- it then changes nothing.
-use Rattle.std.specs.Prelude.{◌≡◌, ℕ, ◌+◌, ◌<◌, ◌≤◌, Contains}
+use Rattle.std.specs.Prelude.{◌≡◌, ℕ, ◌+◌, ◌≤◌, Contains}
 use Rattle.song_model.specs.declared.orders.Order.{Order}
 use Rattle.song_model.specs.LookUp.{order_of}
 use Rattle.play_model.specs.Frame.{subtune_at}
-use Rattle.play_model.specs.Used.{IsChannel}
 use Rattle.play_model.specs.Uses.{HasOrderByte}
 use Rattle.packed_form.specs.Unpacked.{unpacked_song}
 use Rattle.blocks.specs.Desk.{Desk}
