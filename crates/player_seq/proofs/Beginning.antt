@@ -21,13 +21,16 @@ use Rattle.player_parts.specs.Words.{Low, High}
 use Rattle.blocks.specs.Desk.{Desk, Layout}
 use Rattle.blocks.specs.Trees.{EachVoiceTree}
 use Rattle.blocks.specs.Meaning.{meaning}
+use Rattle.player_parts.specs.declared.labels.TheConstants.{FILTER_POINTER, FILTER_TIME, FILTER_TYPE, FILTER_CONTROL}
+use Rattle.player_parts.specs.declared.labels.TheConstants.{CUTOFF, STARTED, LENT, VOLUME, FUNK_ONE, FUNK_TWO, SUBTUNE}
 use Rattle.player_parts.specs.PlayerLists.{HasLists, list_place, IsListPlace}
 use Rattle.player_parts.specs.PlayerLayouts.{IsPlayerLayout}
 use Rattle.player_parts.specs.Holds.{Holds, nothing_on}
 use Rattle.player_seq.specs.InitBlock.{cleared_tree, shared_tree, voice_tree}
 use Rattle.player_seq.specs.InitLaws.{InitBlockBegins, AtVariable, AtRegister, AtTimer}
 use Rattle.player_seq.proofs.Cleared.{cleared, clears}
-use Rattle.player_seq.proofs.Started.{list_rests, shared_begun, shared_starts, voices_set, voices_start, Ends, timer_ends}
+use Rattle.player_seq.proofs.Started.{list_rests, shared_begun, shared_starts, voices_set, voices_start}
+use Rattle.player_seq.proofs.Started.{Ends, timer_ends}
 use Rattle.player_seq.proofs.StartStates.{voice_stands}
 
 -- ---- the orderlists of a packed song have entries
@@ -67,7 +70,8 @@ have_entries subtune e =
 
 -- the variables at the end
 abbrev start_own : Layout → (ℕ → ℕ) → ℕ → ℕ → ℕ → ℕ
-start_own layout at speed k = voices_set layout (shared_begun (cleared (λ label. at (layout.address label))) speed) speed k
+start_own layout at speed k =
+    voices_set layout (shared_begun (cleared (λ label. at (layout.address label))) speed) speed k
 
 lists_stay : {layout : Layout} {packed : PackedSong} {before own sid at : ℕ → ℕ} {speed : ℕ} →
     IsPlayerLayout layout packed → HasLists layout packed before → Ends layout before own sid at speed →
@@ -80,7 +84,7 @@ lists_stay {layout = layout} {packed = packed} laid has ends list i listed below
     (λ q. omega (arith, top, q)) (λ q. omega (arith, top, q)) ∙ has list i listed below
 
 state_stands : (layout : Layout) (packed : PackedSong) (before sid at : ℕ → ℕ) (k : ℕ) (o : Options) →
-    IsPlayerLayout layout packed → HasLists layout packed before → before (layout.address 120) ≡ k →
+    IsPlayerLayout layout packed → HasLists layout packed before → before (layout.address SUBTUNE) ≡ k →
     HaveEntries (subtune_at (unpacked_song packed) k) →
     Ends layout before (start_own layout before o.speed k) sid at o.speed →
     Holds layout packed k nothing_on (start_state o) at
@@ -88,20 +92,20 @@ state_stands layout packed before sid at k o laid has subtune some ends =
     let own : ℕ → ℕ = start_own layout before o.speed k in
     record {
       lists = lists_stay laid has ends;
-      subtune = ends.variables 120 (omega arith) ∙ subtune;
+      subtune = ends.variables SUBTUNE (omega arith) ∙ subtune;
       common = record {
-        filter_ptr = ends.variables 90 (omega arith);
-        filter_time = ends.variables 97 (omega arith);
-        filter_type = ends.variables 104 (omega arith);
-        filter_control = ends.variables 105 (omega arith);
-        cutoff = ends.variables 106 (omega arith);
-        volume = ends.variables 117 (omega arith);
-        funk_one = ends.variables 118 (omega arith);
-        funk_two = ends.variables 119 (omega arith);
+        filter_ptr = ends.variables FILTER_POINTER (omega arith);
+        filter_time = ends.variables FILTER_TIME (omega arith);
+        filter_type = ends.variables FILTER_TYPE (omega arith);
+        filter_control = ends.variables FILTER_CONTROL (omega arith);
+        cutoff = ends.variables CUTOFF (omega arith);
+        volume = ends.variables VOLUME (omega arith);
+        funk_one = ends.variables FUNK_ONE (omega arith);
+        funk_two = ends.variables FUNK_TWO (omega arith);
       };
       handed_on = record {
-        started = ends.variables 107 (omega arith);
-        lent = ends.variables 111 (omega arith);
+        started = ends.variables STARTED (omega arith);
+        lent = ends.variables LENT (omega arith);
         own_command = λ lent. absurd (lent refl);
         own_param = λ lent. absurd (lent refl);
       };

@@ -10,6 +10,7 @@ use Rattle.packed_form.specs.declared.packed_songs.PackedSong.{PackedSong}
 use Rattle.player_parts.specs.Words.{StartVar, StartRegister}
 use Rattle.blocks.specs.Desk.{Layout, sid_place}
 use Rattle.blocks.specs.Meaning.{fill_place, filled}
+use Rattle.player_parts.specs.declared.labels.TheConstants.{ENTRY, CLEARED, VARIABLES}
 use Rattle.player_parts.specs.PlayerLayouts.{IsPlayerLayout, IsVariablePlace}
 
 -- neither a variable nor a register
@@ -19,13 +20,13 @@ pub record IsRest (layout : Layout) (place : ℕ) : Type 0 where
 
 -- a memory with these bytes under the labels of variables and in the registers, and the rest as before
 pub record IsMemory (layout : Layout) (before own sid at : ℕ → ℕ) : Type 0 where
-  pub variables : (label : ℕ) → label < 121 → at (layout.address label) ≡ own label
+  pub variables : (label : ℕ) → label < VARIABLES → at (layout.address label) ≡ own label
   pub registers : (register : ℕ) → register ≤ 24 → at (sid_place register) ≡ sid register
   pub elsewhere : (place : ℕ) → IsRest layout place → at place ≡ before place
 
 -- a byte of a variable is written
 pub written : {layout : Layout} {packed : PackedSong} {before own sid at : ℕ → ℕ} → IsPlayerLayout layout packed →
-    IsMemory layout before own sid at → (label byte : ℕ) → label < 121 →
+    IsMemory layout before own sid at → (label byte : ℕ) → label < VARIABLES →
     IsMemory layout before (put own label byte) sid (put at (layout.address label) byte)
 written {layout = layout} {own = own} {at = at} laid is label byte below =
     let here = laid.variables label below in
@@ -83,32 +84,32 @@ filled_other place (suc n) at q apart =
 
 -- the variables that begin with 0 are cleared, and the others stay
 abbrev pub cleared : (ℕ → ℕ) → ℕ → ℕ
-cleared own label = if nat_lt label 117 then 0 else own label
+cleared own label = if nat_lt label CLEARED then 0 else own label
 
 -- a memory where variables and registers are cleared
 abbrev pub cleared_memory : Layout → (ℕ → ℕ) → ℕ → ℕ
 cleared_memory layout at =
-    filled (fill_place layout (StartRegister 0)) 25 (filled (fill_place layout (StartVar 0)) 117 at)
+    filled (fill_place layout (StartRegister 0)) 25 (filled (fill_place layout (StartVar ENTRY)) CLEARED at)
 
 cleared_low : {layout : Layout} {packed : PackedSong} (at : ℕ → ℕ) → IsPlayerLayout layout packed → (label : ℕ) →
-    label < 117 → cleared_memory layout at (layout.address label) ≡ 0
+    label < CLEARED → cleared_memory layout at (layout.address label) ≡ 0
 cleared_low {layout = layout} at laid label low =
     let here = laid.variables label (omega (arith, low)) in
     let ends = laid.ends in
     let same : layout.address label ≡ layout.address (0 + label) = ap layout.address (omega arith) in
-    filled_other (fill_place layout (StartRegister 0)) 25 (filled (fill_place layout (StartVar 0)) 117 at)
+    filled_other (fill_place layout (StartRegister 0)) 25 (filled (fill_place layout (StartVar ENTRY)) CLEARED at)
     (layout.address label) (λ j l q. omega (arith, here, ends, low, q))
-    ∙ ap (filled (fill_place layout (StartVar 0)) 117 at) same
-    ∙ filled_zero (fill_place layout (StartVar 0)) 117 at label low
+    ∙ ap (filled (fill_place layout (StartVar ENTRY)) CLEARED at) same
+    ∙ filled_zero (fill_place layout (StartVar ENTRY)) CLEARED at label low
 
 -- a place that is neither a cleared variable nor a register
 cleared_stays : {layout : Layout} {packed : PackedSong} (at : ℕ → ℕ) → IsPlayerLayout layout packed → (place : ℕ) →
-    ((label : ℕ) → label < 117 → place ≢ layout.address label) →
+    ((label : ℕ) → label < CLEARED → place ≢ layout.address label) →
     ((register : ℕ) → register ≤ 24 → place ≢ sid_place register) → cleared_memory layout at place ≡ at place
 cleared_stays {layout = layout} at laid place apart away =
-    filled_other (fill_place layout (StartRegister 0)) 25 (filled (fill_place layout (StartVar 0)) 117 at) place
+    filled_other (fill_place layout (StartRegister 0)) 25 (filled (fill_place layout (StartVar ENTRY)) CLEARED at) place
     (λ j l q. away j (omega (arith, l)) (omega (arith, q)))
-    ∙ filled_other (fill_place layout (StartVar 0)) 117 at place
+    ∙ filled_other (fill_place layout (StartVar ENTRY)) CLEARED at place
     (λ j l q. apart j l (q ∙ ap layout.address (omega arith)))
 
 pub clears : {layout : Layout} {packed : PackedSong} (at : ℕ → ℕ) → IsPlayerLayout layout packed →
@@ -116,12 +117,12 @@ pub clears : {layout : Layout} {packed : PackedSong} (at : ℕ → ℕ) → IsPl
 clears {layout = layout} at laid =
     let ends = laid.ends in record {
       variables = λ label small.
-          elim (cases_lt label 117) [
+          elim (cases_lt label CLEARED) [
             | inl low ↦
-                let e : nat_lt label 117 ≡ true = lt-ltb label 117 low in
+                let e : nat_lt label CLEARED ≡ true = lt-ltb label CLEARED low in
                 rw e (cleared_low at laid label low)
             | inr high ↦
-                let e : nat_lt label 117 ≡ false = le-ltb label 117 high in
+                let e : nat_lt label CLEARED ≡ false = le-ltb label CLEARED high in
                 let here = laid.variables label small in
                 rw e (cleared_stays at laid (layout.address label)
                 (λ other l q.
@@ -130,8 +131,8 @@ clears {layout = layout} at laid =
                 (λ register few q. omega (arith, here, ends, small, q)))
           ];
       registers = λ register few.
-          filled_zero (fill_place layout (StartRegister 0)) 25 (filled (fill_place layout (StartVar 0)) 117 at) register
-          (omega (arith, few));
+          filled_zero (fill_place layout (StartRegister 0)) 25
+          (filled (fill_place layout (StartVar ENTRY)) CLEARED at) register (omega (arith, few));
       elsewhere = λ place rest.
           cleared_stays at laid place
           (λ label low q.

@@ -9,23 +9,31 @@ use Rattle.play_model.specs.State.{start_voice}
 use Rattle.packed_form.specs.declared.packed_songs.PackedSong.{PackedSong}
 use Rattle.blocks.specs.Desk.{Layout}
 use Rattle.player_parts.specs.declared.labels.TheConstants.{ORDERS}
+use Rattle.player_parts.specs.declared.labels.TheConstants.{ENTRY, ORDER_LOW, ORDER_HIGH, ORDER_PLACE, TRANSPOSE}
+use Rattle.player_parts.specs.declared.labels.TheConstants.{REPEAT, TICK, GATE_TIMER, INSTRUMENT, NOTE, NEW_NOTE}
+use Rattle.player_parts.specs.declared.labels.TheConstants.{NEW_COMMAND, NEW_PARAM, COMMAND, PARAM, AD, SR, VIB_TIME}
+use Rattle.player_parts.specs.declared.labels.TheConstants.{VIB_DELAY, WAVE, GATE, FREQ_LOW, FREQ_HIGH, LAST_NOTE}
+use Rattle.player_parts.specs.declared.labels.TheConstants.{WAVE_POINTER, WAVE_TIME, PULSE_POINTER, PULSE_TIME}
+use Rattle.player_parts.specs.declared.labels.TheConstants.{PULSE_LOW, PULSE_HIGH, TEMPO}
 use Rattle.player_parts.specs.Holds.{own_bytes, Begins, VoiceStands}
 
 -- the labels of a voice's bytes that count at the start
 abbrev pub labels : List ℕ
 labels =
-    0 ∷ 4 ∷ 5 ∷ 6 ∷ 21 ∷ 22 ∷ 23 ∷ 24 ∷ 25 ∷ 26 ∷ 27 ∷ 42 ∷ 43 ∷ 44 ∷ 45 ∷ 46 ∷ 47 ∷ 48 ∷ 63 ∷ 64 ∷ 65 ∷ 66 ∷ 67 ∷ 68
-    ∷ 69 ∷ 84 ∷ 85 ∷ 86 ∷ 87 ∷ 88 ∷ 89 ∷ []
+    ENTRY ∷ ORDER_LOW ∷ ORDER_HIGH ∷ ORDER_PLACE ∷ TRANSPOSE ∷ REPEAT ∷ TICK ∷ GATE_TIMER ∷ INSTRUMENT ∷ NOTE
+    ∷ NEW_NOTE ∷ NEW_COMMAND ∷ NEW_PARAM ∷ COMMAND ∷ PARAM ∷ AD ∷ SR ∷ VIB_TIME ∷ VIB_DELAY ∷ WAVE ∷ GATE ∷ FREQ_LOW
+    ∷ FREQ_HIGH ∷ LAST_NOTE ∷ WAVE_POINTER ∷ WAVE_TIME ∷ PULSE_POINTER ∷ PULSE_TIME ∷ PULSE_LOW ∷ PULSE_HIGH ∷ TEMPO
+    ∷ []
 
 -- what stands under them
 abbrev pub start_byte : ℕ → ℕ → ℕ → ℕ → ℕ
 start_byte low high tempo label =
-    if label == 4 then low
-    else if label == 5 then high
-    else if label == 23 then 1
-    else if label == 25 then 1
-    else if label == 65 then 0xFE
-    else if label == 89 then tempo
+    if label == ORDER_LOW then low
+    else if label == ORDER_HIGH then high
+    else if label == TICK then 1
+    else if label == INSTRUMENT then 1
+    else if label == GATE then 0xFE
+    else if label == TEMPO then tempo
     else 0
 
 -- the place of the first play, where an orderlist has entries
@@ -42,38 +50,38 @@ pub voice_stands : (layout : Layout) (packed : PackedSong) (k voice : ℕ) (orde
     tempo) labels →
     length order.entries ≢ 0 → VoiceStands layout packed k voice order start_voice tempo (own_bytes layout at voice)
 voice_stands layout packed k voice order tempo at own is same some = record {
-  order_address = record { low_is = stands 4 1 refl refl; high_is = stands 5 2 refl refl };
-  fetching = Begins (stands 0 0 refl refl) refl record {
+  order_address = record { low_is = stands ORDER_LOW 1 refl refl; high_is = stands ORDER_HIGH 2 refl refl };
+  fetching = Begins (stands ENTRY 0 refl refl) refl record {
     at = first_place;
     is = begins_first order some;
-    place = stands 6 3 refl refl;
-    transpose = stands 21 4 refl refl;
-    repeat = stands 22 5 refl refl;
+    place = stands ORDER_PLACE 3 refl refl;
+    transpose = stands TRANSPOSE 4 refl refl;
+    repeat = stands REPEAT 5 refl refl;
   };
   fields = record {
-    tick = stands 23 6 refl refl;
-    gate_timer = stands 24 7 refl refl;
-    instrument = stands 25 8 refl refl;
-    note = stands 26 9 refl refl;
-    new_note = stands 27 10 refl refl;
-    new_command = stands 42 11 refl refl;
-    new_param = stands 43 12 refl refl;
-    command = stands 44 13 refl refl;
-    param = stands 45 14 refl refl;
-    ad = stands 46 15 refl refl;
-    sr = stands 47 16 refl refl;
-    vib_time = stands 48 17 refl refl;
-    vib_delay = stands 63 18 refl refl;
-    wave = stands 64 19 refl refl;
-    gate = stands 65 20 refl refl;
-    freq = record { low_is = stands 66 21 refl refl; high_is = stands 67 22 refl refl };
-    last_note = stands 68 23 refl refl;
-    wave_ptr = stands 69 24 refl refl;
-    wave_time = stands 84 25 refl refl;
-    pulse_ptr = stands 85 26 refl refl;
-    pulse_time = stands 86 27 refl refl;
-    pulse = record { low_is = stands 87 28 refl refl; high_is = stands 88 29 refl refl };
-    tempo_is = stands 89 30 refl refl;
+    tick = stands TICK 6 refl refl;
+    gate_timer = stands GATE_TIMER 7 refl refl;
+    instrument = stands INSTRUMENT 8 refl refl;
+    note = stands NOTE 9 refl refl;
+    new_note = stands NEW_NOTE 10 refl refl;
+    new_command = stands NEW_COMMAND 11 refl refl;
+    new_param = stands NEW_PARAM 12 refl refl;
+    command = stands COMMAND 13 refl refl;
+    param = stands PARAM 14 refl refl;
+    ad = stands AD 15 refl refl;
+    sr = stands SR 16 refl refl;
+    vib_time = stands VIB_TIME 17 refl refl;
+    vib_delay = stands VIB_DELAY 18 refl refl;
+    wave = stands WAVE 19 refl refl;
+    gate = stands GATE 20 refl refl;
+    freq = record { low_is = stands FREQ_LOW 21 refl refl; high_is = stands FREQ_HIGH 22 refl refl };
+    last_note = stands LAST_NOTE 23 refl refl;
+    wave_ptr = stands WAVE_POINTER 24 refl refl;
+    wave_time = stands WAVE_TIME 25 refl refl;
+    pulse_ptr = stands PULSE_POINTER 26 refl refl;
+    pulse_time = stands PULSE_TIME 27 refl refl;
+    pulse = record { low_is = stands PULSE_LOW 28 refl refl; high_is = stands PULSE_HIGH 29 refl refl };
+    tempo_is = stands TEMPO 30 refl refl;
   };
 }
   where

@@ -9,9 +9,11 @@ use Rattle.blocks.specs.Trees.{EachVoiceTree, WhenTree}
 use Rattle.blocks.specs.Desk.{Desk, Layout, sid_place, timer_place}
 use Rattle.blocks.specs.Meaning.{meaning, voice_begun}
 use Rattle.blocks.specs.Reads.{Reads}
-use Rattle.player_parts.specs.declared.labels.TheConstants.{ORDERS, ORDER_LOWS, ORDER_HIGHS}
-use Rattle.player_parts.specs.PlayerLists.{PlayerList, OrderLows, OrderHighs, IsListPlace, HasLists, IsList, list_length}
-use Rattle.player_parts.specs.PlayerLists.{list_place, list_byte}
+use Rattle.player_parts.specs.declared.labels.TheConstants.{ORDERS, ORDER_LOWS, ORDER_HIGHS, VARIABLES}
+use Rattle.player_parts.specs.declared.labels.TheConstants.{ORDER_LOW, ORDER_HIGH, TICK, INSTRUMENT, GATE, TEMPO}
+use Rattle.player_parts.specs.declared.labels.TheConstants.{VOLUME, FUNK_ONE, FUNK_TWO, SUBTUNE}
+use Rattle.player_parts.specs.PlayerLists.{PlayerList, OrderLows, OrderHighs, IsListPlace, HasLists, IsList}
+use Rattle.player_parts.specs.PlayerLists.{list_length, list_place, list_byte}
 use Rattle.player_parts.specs.PlayerLayouts.{IsPlayerLayout, MayRead}
 use Rattle.player_seq.specs.InitBlock.{shared_tree, voice_tree, timer_tree, timer_value}
 use Rattle.player_seq.specs.InitLaws.{timer_byte}
@@ -55,7 +57,7 @@ list_read {layout = layout} {packed = packed} {at = at} laid has is list listed 
 -- ---- what the voices share
 
 abbrev pub shared_begun : (ℕ → ℕ) → ℕ → ℕ → ℕ
-shared_begun own speed = put (put (put own 117 15) 118 (9 * speed - 1)) 119 (6 * speed - 1)
+shared_begun own speed = put (put (put own VOLUME 15) FUNK_ONE (9 * speed - 1)) FUNK_TWO (6 * speed - 1)
 
 -- what stands behind steps: these variables, and Y
 pub record Behind (layout : Layout) (before own sid : ℕ → ℕ) (y : ℕ) (desk : Desk) : Type 0 where
@@ -68,35 +70,45 @@ three_times k few =
     rw one (omega (arith, few))
 
 pub shared_starts : {layout : Layout} {packed : PackedSong} {before own sid : ℕ → ℕ} → IsPlayerLayout layout packed →
-    (speed k : ℕ) (desk : Desk) → IsMemory layout before own sid desk.at → own 120 ≡ k → k < 86 →
+    (speed k : ℕ) (desk : Desk) → IsMemory layout before own sid desk.at → own SUBTUNE ≡ k → k < 86 →
     Behind layout before (shared_begun own speed) sid (3 * k) (meaning layout (shared_tree speed) 0 desk)
 shared_starts laid speed k desk is subtune few =
-    let one = written laid is 117 15 (omega arith) in
-    let two = written laid one 118 (9 * speed - 1) (omega arith) in
-    let three = written laid two 119 (6 * speed - 1) (omega arith) in
-    let e = three.variables 120 (omega arith) ∙ subtune in
+    let one = written laid is VOLUME 15 (omega arith) in
+    let two = written laid one FUNK_ONE (9 * speed - 1) (omega arith) in
+    let three = written laid two FUNK_TWO (6 * speed - 1) (omega arith) in
+    let e = three.variables SUBTUNE (omega arith) ∙ subtune in
     record { memory = three; y_is = rw e (three_times k few) }
 
 -- ---- a voice
 
 abbrev pub voice_set : (ℕ → ℕ) → ℕ → ℕ → ℕ → ℕ → ℕ → ℕ
 voice_set own voice speed low high =
-    put (put (put (put (put (put own (4 + 7 * voice) low) (5 + 7 * voice) high) (23 + 7 * voice) 1) (25 + 7 * voice) 1)
-    (65 + 7 * voice) 0xFE) (89 + 7 * voice) (6 * speed - 1)
+    put
+    (put
+    (put (put (put (put own (ORDER_LOW + 7 * voice) low) (ORDER_HIGH + 7 * voice) high) (TICK + 7 * voice) 1)
+    (INSTRUMENT + 7 * voice) 1)
+    (GATE + 7 * voice) 0xFE)
+    (TEMPO + 7 * voice) (6 * speed - 1)
 
 voice_written : {layout : Layout} {packed : PackedSong} {before own sid at : ℕ → ℕ} → IsPlayerLayout layout packed →
     IsMemory layout before own sid at → (voice speed low high : ℕ) → voice < 3 →
     IsMemory layout before (voice_set own voice speed low high) sid
-    (put (put (put (put (put (put at (layout.address (4 + 7 * voice)) low) (layout.address (5 + 7 * voice)) high)
-    (layout.address (23 + 7 * voice)) 1) (layout.address (25 + 7 * voice)) 1) (layout.address (65 + 7 * voice)) 0xFE)
-    (layout.address (89 + 7 * voice)) (6 * speed - 1))
+    (put
+    (put
+    (put
+    (put
+    (put (put at (layout.address (ORDER_LOW + 7 * voice)) low) (layout.address (ORDER_HIGH + 7 * voice)) high)
+    (layout.address (TICK + 7 * voice)) 1)
+    (layout.address (INSTRUMENT + 7 * voice)) 1)
+    (layout.address (GATE + 7 * voice)) 0xFE)
+    (layout.address (TEMPO + 7 * voice)) (6 * speed - 1))
 voice_written laid is voice speed low high few =
-    let one = written laid is (4 + 7 * voice) low (omega (arith, few)) in
-    let two = written laid one (5 + 7 * voice) high (omega (arith, few)) in
-    let three = written laid two (23 + 7 * voice) 1 (omega (arith, few)) in
-    let four = written laid three (25 + 7 * voice) 1 (omega (arith, few)) in
-    let five = written laid four (65 + 7 * voice) 0xFE (omega (arith, few)) in
-    written laid five (89 + 7 * voice) (6 * speed - 1) (omega (arith, few))
+    let one = written laid is (ORDER_LOW + 7 * voice) low (omega (arith, few)) in
+    let two = written laid one (ORDER_HIGH + 7 * voice) high (omega (arith, few)) in
+    let three = written laid two (TICK + 7 * voice) 1 (omega (arith, few)) in
+    let four = written laid three (INSTRUMENT + 7 * voice) 1 (omega (arith, few)) in
+    let five = written laid four (GATE + 7 * voice) 0xFE (omega (arith, few)) in
+    written laid five (TEMPO + 7 * voice) (6 * speed - 1) (omega (arith, few))
 
 -- the voice's orderlist, which has this label, and what it begins with; Y is one more
 pub record VoiceStarts (layout : Layout) (packed : PackedSong) (before own sid : ℕ → ℕ) (voice speed i label : ℕ)
@@ -117,10 +129,10 @@ voice_starts {layout = layout} {packed = packed} {before = before} {own = own} {
     (meaning layout (voice_tree speed) voice desk).at in
     let low = list_read laid has is OrderLows tt ORDER_LOWS desk.y i refl e below in
     let low_byte : ℕ = desk.at ((layout.address ORDER_LOWS + desk.y) % 65536) in
-    let one = written laid is (4 + 7 * voice) low_byte (omega (arith, few)) in
+    let one = written laid is (ORDER_LOW + 7 * voice) low_byte (omega (arith, few)) in
     let high = list_read laid has one OrderHighs tt ORDER_HIGHS desk.y i refl e below in
     let high_byte : ℕ =
-    put desk.at (layout.address (4 + 7 * voice)) low_byte ((layout.address ORDER_HIGHS + desk.y) % 65536) in
+    put desk.at (layout.address (ORDER_LOW + 7 * voice)) low_byte ((layout.address ORDER_HIGHS + desk.y) % 65536) in
     let all = voice_written laid is voice speed low_byte high_byte few in
     let low_is = low.is ∙ ap (λ n. layout.address n % 256) named in
     let high_is = high.is ∙ ap (λ n. layout.address n / 256) named in
@@ -170,7 +182,7 @@ voices_start {layout = layout} laid has speed k desk is e below few =
 
 -- what stands at the end: variables, registers, the timer and the rest
 pub record Ends (layout : Layout) (before own sid at : ℕ → ℕ) (speed : ℕ) : Type 0 where
-  pub variables : (label : ℕ) → label < 121 → at (layout.address label) ≡ own label
+  pub variables : (label : ℕ) → label < VARIABLES → at (layout.address label) ≡ own label
   pub registers : (register : ℕ) → register ≤ 24 → at (sid_place register) ≡ sid register
   pub timer : (half : Half) → at (timer_place half) ≡ timer_byte speed half (before (timer_place half))
   pub elsewhere : (place : ℕ) → IsRest layout place → place ≢ 0xDC04 → place ≢ 0xDC05 → at place ≡ before place

@@ -3,8 +3,8 @@
 ghost use Rattle.std.specs.Prelude.{◌≡◌, [], ◌∷◌, IfOk};
 ghost use Rattle.blocks.specs.Trees.{tree_of, ChainTree};
 ghost use Rattle.player_seq.specs.FetchBlock.{row_begun_tree, command_cleared_tree, instrument_tree, command_tree};
-ghost use Rattle.player_seq.specs.FetchBlock.{keyed_tree, rests_tree, entry_tree, rest_tree, note_taken_tree, gate_tree};
-ghost use Rattle.player_seq.specs.FetchBlock.{note_tree, row_tree, fetch_tree};
+ghost use Rattle.player_seq.specs.FetchBlock.{keyed_tree, rests_tree, entry_tree, rest_tree, note_taken_tree};
+ghost use Rattle.player_seq.specs.FetchBlock.{gate_tree, note_tree, row_tree, fetch_tree};
 
 use crate::walk::{nothing, walk};
 use base::NoMemory;

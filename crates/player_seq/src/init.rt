@@ -94,8 +94,9 @@ fn timer(alloc: Global, speed: u8) -> Result<Block, NoMemory>
     )
 }
 
-/// The block that begins a subtune, whose number stands in the player's byte for it: it clears the variables and the SID
-/// registers, sets what doesn't begin with 0, and sets the timer where the play call comes more often than once a picture.
+/// The block that begins a subtune, whose number stands in the player's byte for it. It clears the variables and the
+/// SID registers, and sets what doesn't begin with 0, and the timer where the play call comes more often than once a
+/// picture.
 ///
 /// # Errors
 ///

@@ -64,7 +64,8 @@ pub(crate) fn repeat(alloc: Global) -> Result<Block, NoMemory>
     choose(alloc, &[LOAD_BYTE], below, taken, nothing(alloc))
 }
 
-/// Goes on behind a byte that is no pattern's number: behind the endmark at the restart position, else at the next byte.
+/// Goes on behind a byte that is no pattern's number: behind the endmark at the restart position, else at the next
+/// byte.
 fn go_on(alloc: Global) -> Result<Block, NoMemory>
     ensures { IfOk result (λ block. tree_of block ≡ walk_on_tree) }
 {
