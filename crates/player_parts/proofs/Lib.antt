@@ -13,3 +13,5 @@ pub mod Reading
 pub mod Moving
 -- A memory as look-ups.
 pub mod MemoryLooks
+-- A memory holds one state.
+pub mod HoldsLaws

@@ -11,9 +11,11 @@ pub mod Elsewhere
 pub mod Places
 -- To believe: what a part is.
 pub mod Parts
-pub mod PartLaws
--- Claimed: a memory finds what the packed song has.
+-- Claimed: a memory finds what the packed song has, and holds one state.
 pub mod MemoryLooks
+pub mod HoldsLaws
 -- Claimed: edges and labels that are worked by hand.
 pub mod WorkedPlaces
 pub mod WorkedLabels
+-- Inner: the law of a part that is kept or not.
+pub mod PartLaws

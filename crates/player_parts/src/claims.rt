@@ -1,5 +1,6 @@
 //! Facts about the definitions, each the contract of a function that does nothing.
 
+ghost use Rattle.player_parts.specs.HoldsLaws.{MemoriesHoldOneState};
 ghost use Rattle.player_parts.specs.MemoryLooks.{MemoriesFindTheSame};
 ghost use Rattle.player_parts.specs.WorkedPlaces.{EdgesAreWorked};
 ghost use Rattle.player_parts.specs.WorkedLabels.{LabelsAreWorked};
@@ -9,12 +10,17 @@ pub fn memories_find_the_same()
     ensures { MemoriesFindTheSame }
 {}
 
+/// A memory tells each field of the state that it holds, but for the plays and rows of the voices.
+pub fn memories_hold_one_state()
+    ensures { MemoriesHoldOneState }
+{}
+
 /// The edges of where an image may stand.
 pub fn worked_places()
     ensures { EdgesAreWorked }
 {}
 
-/// Each of the 121 variable bytes is one voice's or none's.
+/// The labels of the voices' bytes and of the others, and that there is no other and none twice.
 pub fn worked_labels()
     ensures { LabelsAreWorked }
 {}

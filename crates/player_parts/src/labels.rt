@@ -99,7 +99,7 @@ pub const LENT_PARAM: u16 = 109;
 pub const LENT_COMMAND: u16 = 110;
 /// 1 where the wave table has lent a command, else 0.
 pub const LENT: u16 = 111;
-/// What counts the turns of a loop.
+/// What counts the turns of a loop; a byte to work with elsewhere.
 pub const COUNTER: u16 = 112;
 /// The low byte of a speed.
 pub const SPEED_LOW: u16 = 113;

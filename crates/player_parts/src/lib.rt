@@ -15,5 +15,5 @@ pub mod labels;
 mod parts;
 mod place;
 
-pub use parts::{Part, When};
+pub use parts::{Part, SKIP_EFFECTS_BIT, SKIP_PULSE_BIT, TIMER_BIT, When};
 pub use place::{Place, PlaceFault};

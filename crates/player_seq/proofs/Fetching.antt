@@ -37,7 +37,7 @@ use Rattle.player_parts.specs.Holds.{AreHalves, transpose_byte, OrderPlaceStands
 use Rattle.player_parts.specs.Holds.{FieldsStand, VoiceStands}
 use Rattle.player_parts.proofs.Laws.{VoiceDesk, Reader, Leads, leads_on, reader}
 use Rattle.player_parts.proofs.Laws.{loaded, compared}
-use Rattle.player_seq.specs.PackedLimits.{HasShortPatterns}
+use Rattle.player_seq.specs.PackedLimits.{KeepsPatternLimits}
 use Rattle.player_seq.specs.FetchBlock.{walk_tree, row_tree, fetch_tree}
 use Rattle.player_seq.proofs.Ways.{begun}
 use Rattle.player_seq.proofs.Walking.{Fine, WalkGround, work_touches, apart_left}
@@ -69,7 +69,7 @@ pub record Scene (layout : Layout) (packed : PackedSong) (song : Song) (k voice 
   pub stands : StandsFor packed song
   pub laid : IsPlayerLayout layout packed
   pub has : HasLists layout packed at
-  pub short : HasShortPatterns packed
+  pub short : KeepsPatternLimits packed
   pub of : VoiceOrder packed k voice order
   pub ground : WalkGround (reader layout packed voice at) order (layout.address (ORDERS + 3 * k + voice)) looks
 

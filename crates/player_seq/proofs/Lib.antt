@@ -24,3 +24,5 @@ mod Patterns
 -- The whole block that fetches a row.
 mod Fetching
 mod FetchLaws
+-- Where the walk comes to its parts.
+mod PartPlaces

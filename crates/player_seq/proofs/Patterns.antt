@@ -32,7 +32,7 @@ use Rattle.player_parts.specs.PlayerLists.{PatternLows, PatternHighs, PatternByt
 use Rattle.player_parts.specs.PlayerLayouts.{IsPlayerLayout}
 use Rattle.player_parts.specs.Holds.{RowStands}
 use Rattle.player_parts.proofs.Laws.{reader, list_stands}
-use Rattle.player_seq.specs.PackedLimits.{HasShortPatterns}
+use Rattle.player_seq.specs.PackedLimits.{KeepsPatternLimits}
 use Rattle.player_seq.proofs.Walked.{PatternGround}
 use Rattle.player_seq.proofs.Rows.{RowGround}
 
@@ -158,7 +158,7 @@ play_stored packed song order n stands played_order endless =
 -- ---- rows
 
 pub row_ground : (packed : PackedSong) (song : Song) (layout : Layout) (voice n : ℕ) (at : ℕ → ℕ) →
-    StandsFor packed song → IsPlayerLayout layout packed → HasLists layout packed at → HasShortPatterns packed →
+    StandsFor packed song → IsPlayerLayout layout packed → HasLists layout packed at → KeepsPatternLimits packed →
     n < length packed.patterns →
     RowGround (reader layout packed voice at) (look_ups_of (unpacked_song packed)) (pattern_bytes packed n)
     (layout.address (PATTERNS + n)) (length packed.instruments)

@@ -17,7 +17,7 @@ use Rattle.blocks.specs.Reads.{Reads}
 use Rattle.player_parts.specs.PlayerLayouts.{IsPlayerLayout, MayRead, KeepsFeatures}
 use Rattle.player_parts.specs.Holds.{HandedOn, Holds}
 use Rattle.player_parts.specs.Elsewhere.{LeavesElsewhere}
-use Rattle.player_seq.specs.PackedLimits.{HasShortPatterns}
+use Rattle.player_seq.specs.PackedLimits.{KeepsPatternLimits}
 use Rattle.player_seq.specs.FetchBlock.{fetch_tree}
 
 -- the state where a voice, counted from 0, has fetched its row, if the time has come
@@ -37,11 +37,11 @@ pub record Fetches (layout : Layout) (packed : PackedSong) (k voice count : ℕ)
   pub reads : Reads (MayRead layout packed) layout (fetch_tree count) voice desk
 
 -- for a packed song that stands for a song, with any layout and kept bits among which are those of its features, from any
--- state that a song may come to
+-- state that is safe and in its ranges
 abbrev pub FetchBlockFetches : Type 0
 FetchBlockFetches =
     (packed : PackedSong) (song : Song) (layout : Layout) (k voice count : ℕ) (handed : HandedOn) (x : FrameState)
-    (desk : Desk) → StandsFor packed song → HasShortPatterns packed → IsPlayerLayout layout packed →
+    (desk : Desk) → StandsFor packed song → KeepsPatternLimits packed → IsPlayerLayout layout packed →
     KeepsFeatures layout packed.features.0 →
     k < length packed.subtunes → voice < 3 → walk_count packed ≤ count → count < 256 →
     IsSafe (unpacked_song packed) k x → IsFrameState x → Holds layout packed k handed x desk.at →

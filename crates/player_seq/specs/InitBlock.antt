@@ -6,6 +6,7 @@ use Rattle.blocks.specs.Trees.{Tree, ChainTree, NoneTree, ThenTree, EachVoiceTre
 use Rattle.play_model.specs.declared.options.Options.{Options}
 use Rattle.player_parts.specs.declared.labels.TheConstants.{ENTRY, ORDER_LOW, ORDER_HIGH, TICK, INSTRUMENT, GATE, TEMPO, CLEARED, VOLUME}
 use Rattle.player_parts.specs.declared.labels.TheConstants.{FUNK_ONE, FUNK_TWO, SUBTUNE, ORDER_LOWS, ORDER_HIGHS}
+use Rattle.player_parts.specs.declared.parts.TheConstants.{TIMER_BIT}
 use Rattle.player_parts.specs.Codes.{shared_byte, load_number, load_shared, load_entry, store_own, store_shared, store_y}
 use Rattle.player_parts.specs.Codes.{next_y}
 
@@ -13,7 +14,7 @@ use Rattle.player_parts.specs.Codes.{next_y}
 abbrev pub timer_value : ℕ → ℕ
 timer_value speed = 19656 / speed - 1
 
--- the 25 registers are cleared, and the variables that begin with 0 among those that begin with another number
+-- the first variables, most of which begin with 0, and the 25 registers are cleared
 abbrev pub cleared_tree : Tree
 cleared_tree = ThenTree (FillTree (StartVar ENTRY) CLEARED) (ThenTree (FillTree (StartRegister 0) 25) NoneTree)
 
@@ -40,4 +41,4 @@ timer_tree speed =
 abbrev pub init_tree : Options → Tree
 init_tree o =
     ThenTree cleared_tree (ThenTree (shared_tree o.speed) (ThenTree (EachVoiceTree (voice_tree o.speed))
-    (ThenTree (WhenTree 26 (timer_tree o.speed)) NoneTree)))
+    (ThenTree (WhenTree TIMER_BIT (timer_tree o.speed)) NoneTree)))

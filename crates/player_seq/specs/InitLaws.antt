@@ -6,6 +6,7 @@ use Rattle.play_model.specs.Speeds.{IsSpeed}
 use Rattle.play_model.specs.State.{start_state}
 use Rattle.packed_form.specs.declared.packed_songs.PackedSong.{PackedSong}
 use Rattle.packed_form.specs.StandsFor.{StandsFor}
+use Rattle.player_parts.specs.declared.parts.TheConstants.{TIMER_BIT}
 use Rattle.player_parts.specs.Words.{Half, Low, High}
 use Rattle.blocks.specs.Desk.{Desk, Layout, sid_place, timer_place}
 use Rattle.blocks.specs.Meaning.{meaning}
@@ -27,9 +28,9 @@ pub data MayBegin (layout : Layout) (place : ℕ) : Type 0 where
   AtRegister : (register : ℕ) → register ≤ 24 → place ≡ sid_place register → MayBegin layout place
   AtTimer : (half : Half) → place ≡ timer_place half → MayBegin layout place
 
--- the memory holds the start state of the subtune and the options, the registers are 0, the timer has its value, all
--- else is as before, and what is read by Y are bytes of the lists
-pub record Begins (layout : Layout) (packed : PackedSong) (k : ℕ) (o : Options) (desk : Desk) : Type 0 where
+-- the memory holds the start state of the subtune and the options, the registers are 0, the timer has its value, each
+-- byte that the block may not write is as before, and what is read by Y are bytes of the lists and variables
+pub record Begun (layout : Layout) (packed : PackedSong) (k : ℕ) (o : Options) (desk : Desk) : Type 0 where
   pub holds : Holds layout packed k nothing_on (start_state o) (meaning layout (init_tree o) 0 desk).at
   pub registers : (register : ℕ) → register ≤ 24 →
       (meaning layout (init_tree o) 0 desk).at (sid_place register) ≡ 0
@@ -38,10 +39,11 @@ pub record Begins (layout : Layout) (packed : PackedSong) (k : ℕ) (o : Options
   pub leaves : (place : ℕ) → ¬ MayBegin layout place → (meaning layout (init_tree o) 0 desk).at place ≡ desk.at place
   pub reads : Reads (MayRead layout packed) layout (init_tree o) 0 desk
 
--- for a packed song that stands for a song, with any layout in which the timer's bit is kept where the speed is above 1
+-- for a packed song that stands for a song, with any layout in which the timer's bit is kept exactly where the speed
+-- is above 1
 abbrev pub InitBlockBegins : Type 0
 InitBlockBegins =
     (packed : PackedSong) (song : Song) (layout : Layout) (k : ℕ) (o : Options) (desk : Desk) →
     StandsFor packed song → IsPlayerLayout layout packed → IsSpeed o.speed →
-    layout.is_kept 26 ≡ nat_lt 1 o.speed → k < length packed.subtunes → HasLists layout packed desk.at →
-    desk.at (layout.address SUBTUNE) ≡ k → Begins layout packed k o desk
+    layout.is_kept TIMER_BIT ≡ nat_lt 1 o.speed → k < length packed.subtunes → HasLists layout packed desk.at →
+    desk.at (layout.address SUBTUNE) ≡ k → Begun layout packed k o desk

@@ -3,8 +3,11 @@ pub mod PackedLimits
 pub mod InitBlock
 pub mod FetchBlock
 pub mod Parts
-pub mod PartLaws
 -- Claimed: that they are sound, and what they do in a memory that holds a state.
 pub mod SoundBlocks
 pub mod InitLaws
 pub mod FetchLaws
+-- Claimed: numbers of the blocks that are worked by hand.
+pub mod WorkedBlocks
+-- Inner: the laws of the parts.
+pub mod PartLaws

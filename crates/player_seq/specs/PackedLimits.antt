@@ -9,5 +9,5 @@ pub record IsShortPattern (pattern : List ℕ) : Type 0 where
   pub are_bytes : AreBytes pattern
   pub most : length pattern ≤ MOST_PACKED_BYTES
 
-abbrev pub HasShortPatterns : PackedSong → Type 0
-HasShortPatterns packed = (pattern : List ℕ) → Contains packed.patterns pattern → IsShortPattern pattern
+abbrev pub KeepsPatternLimits : PackedSong → Type 0
+KeepsPatternLimits packed = (pattern : List ℕ) → Contains packed.patterns pattern → IsShortPattern pattern

@@ -2,6 +2,8 @@
 
 ghost use Rattle.player_seq.specs.FetchLaws.{FetchBlockFetches};
 ghost use Rattle.player_seq.specs.InitLaws.{InitBlockBegins};
+ghost use Rattle.player_seq.specs.WorkedBlocks.{TimersAreWorked, LooksAreWorked};
+ghost use Rattle.player_seq.specs.Parts.{EntriesAreComeTo};
 ghost use Rattle.player_seq.specs.SoundBlocks.{InitIsSound, FetchIsSound};
 
 /// Both blocks are sound: the one that begins a subtune at each speed, and the one that fetches a row with each count
@@ -12,14 +14,27 @@ pub fn blocks_are_sound()
 {}
 
 /// In any memory that has the lists and the subtune's number, the block that begins a subtune leaves the start state,
-/// silent registers and the timer's value, with all else as before, and reads by Y bytes of the lists alone.
+/// silent registers and the timer's value. Each byte that is no variable and no register or timer byte is as before, and
+/// what is read by Y are bytes of the lists and variables.
 pub fn init_block_begins()
     ensures { InitBlockBegins }
 {}
 
-/// In a memory that holds a state, the block that fetches a row leaves the state behind the fetch of a voice, with all
-/// else as before, whichever bits are kept, as long as those of the song's features are; it reads by Y bytes of the lists
-/// alone.
+/// In a memory that holds a state, the block that fetches a row leaves the state behind the fetch of a voice, whichever
+/// bits are kept, as long as those of the song's features are. Each byte that is no variable and no byte of the pointer is
+/// as before, and what is read by Y are bytes of the lists and variables.
 pub fn fetch_block_fetches()
     ensures { FetchBlockFetches }
+{}
+
+/// The timer's values, and what a look of a walk costs.
+pub fn worked_blocks()
+    ensures timers { TimersAreWorked }
+    ensures looks { LooksAreWorked }
+{}
+
+/// The entries of an orderlist that are no pattern's number are those to which its walk comes with the parts for
+/// transposes and repeats.
+pub fn entries_are_come_to()
+    ensures { EntriesAreComeTo }
 {}

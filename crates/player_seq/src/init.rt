@@ -8,6 +8,7 @@ ghost use Rattle.player_seq.specs.InitBlock.{cleared_tree, shared_tree, voice_tr
 use base::NoMemory;
 use blocks::{Block, Half, Place, Start, Step, Summand, chain, each_voice, fill, seq, when};
 use play_model::Options;
+use player_parts::TIMER_BIT;
 use player_parts::codes::{
     NEXT_Y, STORE_Y, load_entry, load_number, load_shared, shared_byte, store_own, store_shared,
 };
@@ -17,10 +18,7 @@ use player_parts::labels::{
 };
 use std::alloc::Global;
 
-/// The bit of the timer's code, which is kept where the play call comes more often than once a picture.
-const TIMER_BIT: u8 = 26;
-
-/// Clears the variables that begin with 0, and the 25 registers.
+/// Clears the first variables, most of which begin with 0, and the 25 registers.
 fn cleared(alloc: Global) -> Result<Block, NoMemory>
     ensures { IfOk result (λ block. tree_of block ≡ cleared_tree) }
 {
