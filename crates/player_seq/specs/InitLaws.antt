@@ -11,7 +11,7 @@ use Rattle.player_parts.specs.Words.{Half, Low, High}
 use Rattle.blocks.specs.Desk.{Desk, Layout, sid_place, timer_place}
 use Rattle.blocks.specs.Meaning.{meaning}
 use Rattle.blocks.specs.Reads.{Reads}
-use Rattle.player_parts.specs.declared.labels.TheConstants.{SUBTUNE}
+use Rattle.player_parts.specs.declared.labels.TheConstants.{SUBTUNE, VARIABLES}
 use Rattle.player_parts.specs.PlayerLists.{HasLists}
 use Rattle.player_parts.specs.PlayerLayouts.{IsPlayerLayout, IsVariablePlace, MayRead}
 use Rattle.player_parts.specs.Holds.{Holds, nothing_on}
@@ -47,3 +47,14 @@ InitBlockBegins =
     StandsFor packed song → IsPlayerLayout layout packed → IsSpeed o.speed →
     layout.is_kept TIMER_BIT ≡ nat_lt 1 o.speed → k < length packed.subtunes → HasLists layout packed desk.at →
     desk.at (layout.address SUBTUNE) ≡ k → Begun layout packed k o desk
+
+-- From any two memories with the lists and the same number it leaves the same in each variable: so it writes all of them,
+-- and nothing of an earlier subtune is left.
+abbrev pub InitWritesAllVariables : Type 0
+InitWritesAllVariables =
+    (packed : PackedSong) (song : Song) (layout : Layout) (k : ℕ) (o : Options) (one two : Desk) →
+    StandsFor packed song → IsPlayerLayout layout packed → layout.is_kept TIMER_BIT ≡ nat_lt 1 o.speed →
+    k < length packed.subtunes → HasLists layout packed one.at → HasLists layout packed two.at →
+    one.at (layout.address SUBTUNE) ≡ k → two.at (layout.address SUBTUNE) ≡ k → (label : ℕ) → label < VARIABLES →
+    (meaning layout (init_tree o) 0 one).at (layout.address label)
+    ≡ (meaning layout (init_tree o) 0 two).at (layout.address label)

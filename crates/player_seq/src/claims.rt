@@ -1,7 +1,7 @@
 //! Facts about the blocks, each the contract of a function that does nothing.
 
 ghost use Rattle.player_seq.specs.FetchLaws.{FetchBlockFetches};
-ghost use Rattle.player_seq.specs.InitLaws.{InitBlockBegins};
+ghost use Rattle.player_seq.specs.InitLaws.{InitBlockBegins, InitWritesAllVariables};
 ghost use Rattle.player_seq.specs.WorkedBlocks.{TimersAreWorked, LooksAreWorked};
 ghost use Rattle.player_seq.specs.Parts.{EntriesAreComeTo};
 ghost use Rattle.player_seq.specs.SoundBlocks.{InitIsSound, FetchIsSound};
@@ -18,6 +18,11 @@ pub fn blocks_are_sound()
 /// what is read by Y are bytes of the lists and variables.
 pub fn init_block_begins()
     ensures { InitBlockBegins }
+{}
+
+/// It writes every variable: from any two such memories the variables come out alike.
+pub fn init_writes_all_variables()
+    ensures { InitWritesAllVariables }
 {}
 
 /// In a memory that holds a state, the block that fetches a row leaves the state behind the fetch of a voice, whichever
