@@ -1,6 +1,6 @@
 -- What leads to a desk of which one thing holds leads to one of which all that follows from it holds.
 use Rattle.std.proofs.Common.{ℕ, zero, suc, Bool, true, false, List, [], ◌∷◌, nat_le, nat_lt}
-use Rattle.player_parts.specs.Words.{Operand, Const, HeldOperand, Summand, Plain, Entry, Source}
+use Rattle.player_parts.specs.Words.{Var, VoiceVar, Operand, Const, HeldOperand, Summand, Plain, Entry, Source}
 use Rattle.player_parts.specs.Words.{Direct, Byte, FromY, Low, High, Place, HeldPlace, Register, VoiceRegister}
 use Rattle.player_parts.specs.Words.{Timer, Pointer, IntoY, Counted, HeldCounted, CountedY}
 use Rattle.player_parts.specs.Words.{Step, Load, Store, Index, And, Or, Xor, Add, Sub, AddOn, SubOn, Double, Inc, Dec}
@@ -10,9 +10,9 @@ use Rattle.player_parts.specs.Words.{Counter, CounterVar, CounterY}
 use Rattle.blocks.specs.Trees.{Tree, ChainTree, NoneTree, ThenTree, IfTree, UntilTree, EachVoiceTree, WhenTree}
 use Rattle.blocks.specs.Trees.{FillTree}
 use Rattle.blocks.specs.Steps.{condition_of, one_more, one_less}
-use Rattle.player_parts.specs.Labels.{VARIABLES, is_shared}
+use Rattle.player_parts.specs.Labels.{VARIABLES, is_own, is_shared, is_tempo}
 use Rattle.player_parts.proofs.VoiceDesks.{VoiceDesk, Reader, cell_byte, fits, Fits, OperandLeads, EntryLeads}
-use Rattle.player_parts.proofs.VoiceDesks.{SummandLeads, SourceLeads, PlaceLeads, CountedLeads, StepLeads, StepsLead}
+use Rattle.player_parts.proofs.VoiceDesks.{SummandLeads, SourceLeads, VarLeads, PlaceLeads, CountedLeads, StepLeads, StepsLead}
 use Rattle.player_parts.proofs.VoiceDesks.{ConditionLeads, TestLeads, SetLeads, counter_down}
 use Rattle.player_parts.proofs.VoiceDesks.{EitherLeads, TurnsLead, Leads}
 
@@ -44,9 +44,17 @@ source_on r Byte P Q d follows p = (p.0, follows _ p.1)
 source_on r FromY P Q d follows p = follows d.y p
 
 -- steps
+var_on : (fits tempo : Bool) (voice label : ℕ) (P Q : VoiceDesk → Type 0) (d : VoiceDesk) →
+    ((m : VoiceDesk) → P m → Q m) → VarLeads fits tempo voice label P d → VarLeads fits tempo voice label Q d
+var_on true tempo voice label P Q d follows p = follows _ p
+var_on false true voice label P Q d follows p = follows _ p
+var_on false false voice label P Q d follows never = elim never [ ]
+
 place_on : (voice : ℕ) (place : Place) (P Q : VoiceDesk → Type 0) (d : VoiceDesk) → ((m : VoiceDesk) → P m → Q m) →
     PlaceLeads voice place P d → PlaceLeads voice place Q d
-place_on voice (HeldPlace cell) P Q d follows p = fits_on (fits cell) _ _ (follows _) p
+place_on voice (HeldPlace (Var label)) P Q d follows p =
+    var_on (is_shared label) (is_tempo label) voice label P Q d follows p
+place_on voice (HeldPlace (VoiceVar label)) P Q d follows p = fits_on (is_own label) _ _ (follows _) p
 place_on voice (Register register) P Q d follows p = fits_on (nat_le register 24) _ _ (follows _) p
 place_on voice (VoiceRegister register) P Q d follows p = fits_on (nat_le register 6) _ _ (follows _) p
 place_on voice (Timer half) P Q d follows never = elim never [ ]

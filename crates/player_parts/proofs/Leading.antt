@@ -1,8 +1,8 @@
 -- What leads to a desk of which something holds does so in memory, and reads by Y where it may.
-use Rattle.std.proofs.Common.{◌≡◌, ℕ, zero, suc, ◌+◌, ◌-◌, ◌*◌, ◌/◌, ◌%◌, ◌<◌, ◌⊎◌, Bool, true, false, not, List}
+use Rattle.std.proofs.Common.{◌≡◌, ◌≢◌, ◌||◌, ℕ, zero, suc, ◌+◌, ◌-◌, ◌*◌, ◌/◌, ◌%◌, ◌<◌, ◌⊎◌, Bool, true, false, not, List}
 use Rattle.std.proofs.Common.{[], ◌∷◌, nat_eq, nat_le, nat_lt, bit_and, bit_or, bit_xor, inl, inr, refl, sym, ap, ◌∙◌}
 use Rattle.std.proofs.Common.{if◌then◌else◌, subst, arith}
-use Rattle.std.proofs.lemmas.Bool.{leb-true, ltb-true, true≢false, and_parts}
+use Rattle.std.proofs.lemmas.Bool.{leb-true, ltb-true, eqb-true, eqb-false, true≢false, and_parts, or_cases}
 use Rattle.cpu6502.specs.Registers.{one_if}
 use Rattle.code_runs.specs.Runs.{put}
 use Rattle.player_parts.specs.Words.{Cell, Var, VoiceVar, Operand, Const, HeldOperand, Summand, Plain, Entry, Source}
@@ -23,14 +23,14 @@ use Rattle.blocks.specs.Meaning.{meaning, turns, by_test}
 use Rattle.blocks.specs.Meaning.{counter_set as meant_set, counter_down as meant_down}
 use Rattle.blocks.specs.Reads.{SummandReads, SourceReads, StepReads, StepsRead, TurnsRead, Reads}
 use Rattle.blocks.proofs.Laws.{shows_equal}
-use Rattle.player_parts.specs.Labels.{VARIABLES, is_shared}
+use Rattle.player_parts.specs.Labels.{TEMPO, VARIABLES, is_own, is_shared, is_tempo}
 use Rattle.player_parts.specs.PlayerLayouts.{IsVariablePlace}
 use Rattle.player_parts.proofs.VoiceDesks.{VoiceDesk, Reader, cell_byte, with_cell, showing, loaded}
 use Rattle.player_parts.proofs.VoiceDesks.{indexed, summed, counted, halved, fits, Fits, OperandLeads, EntryLeads}
-use Rattle.player_parts.proofs.VoiceDesks.{SummandLeads, SourceLeads, PlaceLeads, CountedLeads, StepLeads, StepsLead}
+use Rattle.player_parts.proofs.VoiceDesks.{SummandLeads, SourceLeads, with_tempo, VarLeads, PlaceLeads, CountedLeads, StepLeads, StepsLead}
 use Rattle.player_parts.proofs.VoiceDesks.{compared, CompareLeads, ConditionLeads, holds, is_met, TestLeads, SetLeads}
 use Rattle.player_parts.proofs.VoiceDesks.{counter_down, EitherLeads, TurnsLead, Leads}
-use Rattle.player_parts.proofs.Spots.{IsRoom, IsElsewhere, Spot, Own, Shared, LowSpot, HighSpot, Sid, Others, Elsewhere}
+use Rattle.player_parts.proofs.Spots.{IsRoom, IsElsewhere, Spot, Own, Shared, LowSpot, HighSpot, Sid, Tempo, Others, Elsewhere}
 use Rattle.player_parts.proofs.Spots.{spot_place, IsSpot, spot_byte, spot_set, IsWritten, put_at}
 
 -- ---- desks
@@ -157,6 +157,7 @@ bytes_stay r (Shared label) d m own shared low high sid = ap (λ f. f label) sha
 bytes_stay r LowSpot d m own shared low high sid = low
 bytes_stay r HighSpot d m own shared low high sid = high
 bytes_stay r (Sid register) d m own shared low high sid = ap (λ f. f register) sid
+bytes_stay r (Tempo voice) d m own shared low high sid = ap (λ f. f (TEMPO + 7 * voice)) shared
 bytes_stay r (Others label voice) d m own shared low high sid = refl
 bytes_stay r (Elsewhere place) d m own shared low high sid = refl
 
@@ -222,6 +223,7 @@ registers_stay (Shared label) byte d = (refl, refl, refl, refl, refl)
 registers_stay LowSpot byte d = (refl, refl, refl, refl, refl)
 registers_stay HighSpot byte d = (refl, refl, refl, refl, refl)
 registers_stay (Sid register) byte d = (refl, refl, refl, refl, refl)
+registers_stay (Tempo voice) byte d = (refl, refl, refl, refl, refl)
 registers_stay (Others label voice) byte d = (refl, refl, refl, refl, refl)
 registers_stay (Elsewhere place) byte d = (refl, refl, refl, refl, refl)
 
@@ -254,12 +256,59 @@ pub record Led (r : Reader) (behind : Desk) (DeskReads : Type 0) (Q : VoiceDesk 
   pub done : Q after
   pub reads : DeskReads
 
+-- a tempo is one of three voices'
+tempo_voice : (label : ℕ) → is_tempo label ≡ true → (its : ℕ) × (its < 3) × (label ≡ TEMPO + 7 * its)
+tempo_voice label h =
+    elim (or_cases (nat_eq label TEMPO || nat_eq label (TEMPO + 7)) (nat_eq label (TEMPO + 14)) h) [
+      | inl low ↦
+          elim (or_cases (nat_eq label TEMPO) (nat_eq label (TEMPO + 7)) low) [
+            | inl one ↦ (0, omega arith, eqb-true label TEMPO one)
+            | inr two ↦ (1, omega arith, eqb-true label (TEMPO + 7) two)
+          ]
+      | inr three ↦ (2, omega arith, eqb-true label (TEMPO + 14) three)
+    ]
+
+-- the voice's own tempo, or another's
+tempo_shows : {r : Reader} {desk : Desk} {d : VoiceDesk} → Ground r → (label : ℕ) → is_tempo label ≡ true →
+    (z : Bool) → nat_eq label (TEMPO + 7 * r.voice) ≡ z → (byte seen : ℕ) → byte ≡ seen → Shows r desk d →
+    Shows r (record desk { at = put desk.at (r.layout.address label) byte }) (with_tempo r.voice label seen d)
+tempo_shows {r = r} ground label tempo true own byte seen e shows =
+    let place = ap r.layout.address (eqb-true label (TEMPO + 7 * r.voice) own) in
+    rw own (put_shows ground (Own TEMPO) tt refl _ byte seen place e shows)
+tempo_shows {r = r} ground label tempo false other byte seen e shows =
+    let its = tempo_voice label tempo in
+    let is = its.2 in
+    let apart : its.0 ≢ r.voice =
+    λ same. eqb-false label (TEMPO + 7 * r.voice) other (is ∙ ap (λ n. TEMPO + 7 * n) same) in
+    rw (other, is) (put_shows ground (Tempo its.0) tt (its.1, apart) _ byte seen refl e shows)
+
+var_led : {r : Reader} {desk : Desk} {d : VoiceDesk} → Ground r → (label : ℕ) (one tempo : Bool) →
+    is_shared label ≡ one → is_tempo label ≡ tempo → (Q : VoiceDesk → Type 0) → Shows r desk d →
+    VarLeads one tempo r.voice label Q d →
+    Led r (record desk { at = put desk.at (r.layout.address label) desk.accumulator }) (Unit {0}) Q
+var_led {d = d} ground label true tempo is its Q shows leads = record {
+  after = with_cell (Var label) d.accumulator d;
+  shows = cell_shows ground (Var label) is _ d.accumulator shows.accumulator shows;
+  done = leads;
+  reads = tt;
+}
+var_led {r = r} {d = d} ground label false true is its Q shows leads = record {
+  after = with_tempo r.voice label d.accumulator d;
+  shows =
+      tempo_shows ground label its (nat_eq label (TEMPO + 7 * r.voice)) refl _ d.accumulator shows.accumulator shows;
+  done = leads;
+  reads = tt;
+}
+var_led ground label false false is its Q shows never = elim never [ ]
+
 place_led : {r : Reader} {desk : Desk} {d : VoiceDesk} → Ground r → (place : Place) (Q : VoiceDesk → Type 0) →
     Shows r desk d → PlaceLeads r.voice place Q d → Led r (meant_stored r.layout r.voice place desk) (Unit {0}) Q
-place_led {d = d} ground (HeldPlace cell) Q shows leads =
-    let f = fit (fits cell) (Q (with_cell cell d.accumulator d)) leads in record {
-      after = with_cell cell d.accumulator d;
-      shows = cell_shows ground cell f.0 _ d.accumulator shows.accumulator shows;
+place_led ground (HeldPlace (Var label)) Q shows leads =
+    var_led ground label (is_shared label) (is_tempo label) refl refl Q shows leads
+place_led {d = d} ground (HeldPlace (VoiceVar label)) Q shows leads =
+    let f = fit (is_own label) (Q (with_cell (VoiceVar label) d.accumulator d)) leads in record {
+      after = with_cell (VoiceVar label) d.accumulator d;
+      shows = cell_shows ground (VoiceVar label) f.0 _ d.accumulator shows.accumulator shows;
       done = f.1;
       reads = tt;
     }

@@ -11,7 +11,12 @@ pub mod Following
 pub mod Reading
 -- From the desk of a voice to the whole memory.
 pub mod Moving
+-- What the desk of a voice tells of a state.
+pub mod Views
 -- A memory as look-ups.
 pub mod MemoryLooks
+-- Where the code of a voice finds what the look-ups have.
+pub mod Grounds
+pub mod SharedLeads
 -- A memory holds one state.
 pub mod HoldsLaws

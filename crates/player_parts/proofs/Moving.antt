@@ -1,8 +1,8 @@
 -- What stands in the bytes of a memory stands in the same bytes of another one; and from the desk of a voice back to the
 -- whole memory.
-use Rattle.std.proofs.Common.{◌≡◌, ◌≢◌, ℕ, ◌+◌, ◌-◌, ◌<◌, ◌≤◌, ◌⊎◌, true}
+use Rattle.std.proofs.Common.{◌≡◌, ◌≢◌, ℕ, ◌+◌, ◌-◌, ◌*◌, ◌<◌, ◌≤◌, ◌⊎◌, true, false, nat_eq}
 use Rattle.std.proofs.Common.{inl, inr, refl, sym, ap, ◌∙◌, subst, arith}
-use Rattle.std.proofs.lemmas.Bool.{cases_lt, cases_eq}
+use Rattle.std.proofs.lemmas.Bool.{cases_lt, cases_eq, eqb-false}
 use Rattle.song_model.specs.declared.orders.Order.{Order}
 use Rattle.song_model.specs.declared.orders.Step.{Step}
 use Rattle.song_model.specs.LookUp.{order_of}
@@ -26,7 +26,7 @@ use Rattle.player_parts.specs.Holds.{PlayStands, Fetching, Begins, GoesOn, Field
 use Rattle.player_parts.specs.Holds.{HandedOn, HandedStands, VoiceOfStands, Holds}
 use Rattle.player_parts.specs.Elsewhere.{LeavesElsewhere}
 use Rattle.player_parts.proofs.VoiceDesks.{VoiceDesk}
-use Rattle.player_parts.proofs.Spots.{IsElsewhere, Spot, Own, Shared, LowSpot, HighSpot, Sid, Others, Elsewhere}
+use Rattle.player_parts.proofs.Spots.{IsElsewhere, Spot, Own, Shared, LowSpot, HighSpot, Sid, Tempo, Others, Elsewhere}
 use Rattle.player_parts.proofs.Spots.{spot_place, spot_byte}
 use Rattle.player_parts.proofs.Leading.{Shows}
 use Rattle.player_parts.proofs.Reading.{reader}
@@ -40,36 +40,65 @@ pub record SameOwn (one two : ℕ → ℕ) : Type 0 where
 pub record SameShared (one two : ℕ → ℕ) : Type 0 where
   pub each : (label : ℕ) → is_shared label ≡ true → one label ≡ two label
 
+-- the same in the bytes that tell where a voice is in its song
+pub record SameFetch (one two : ℕ → ℕ) : Type 0 where
+  pub entry : one ENTRY ≡ two ENTRY
+  pub offset : one OFFSET ≡ two OFFSET
+  pub pattern_low : one PATTERN_LOW ≡ two PATTERN_LOW
+  pub pattern_high : one PATTERN_HIGH ≡ two PATTERN_HIGH
+  pub order_low : one ORDER_LOW ≡ two ORDER_LOW
+  pub order_high : one ORDER_HIGH ≡ two ORDER_HIGH
+  pub order_place : one ORDER_PLACE ≡ two ORDER_PLACE
+  pub transpose : one TRANSPOSE ≡ two TRANSPOSE
+  pub repeat : one REPEAT ≡ two REPEAT
+  pub new_command : one NEW_COMMAND ≡ two NEW_COMMAND
+  pub new_param : one NEW_PARAM ≡ two NEW_PARAM
+
+fetch_same : (one two : ℕ → ℕ) → SameOwn one two → SameFetch one two
+fetch_same one two same = record {
+  entry = same.each ENTRY refl;
+  offset = same.each OFFSET refl;
+  pattern_low = same.each PATTERN_LOW refl;
+  pattern_high = same.each PATTERN_HIGH refl;
+  order_low = same.each ORDER_LOW refl;
+  order_high = same.each ORDER_HIGH refl;
+  order_place = same.each ORDER_PLACE refl;
+  transpose = same.each TRANSPOSE refl;
+  repeat = same.each REPEAT refl;
+  new_command = same.each NEW_COMMAND refl;
+  new_param = same.each NEW_PARAM refl;
+}
+
 halves_moved : (a b c d n : ℕ) → a ≡ c → b ≡ d → AreHalves c d n → AreHalves a b n
 halves_moved a b c d n e f halves = record { low_is = e ∙ halves.low_is; high_is = f ∙ halves.high_is }
 
-place_moved : (order : Order) (n : ℕ) (one two : ℕ → ℕ) → SameOwn one two → OrderPlaceStands order n two →
+place_moved : (order : Order) (n : ℕ) (one two : ℕ → ℕ) → SameFetch one two → OrderPlaceStands order n two →
     OrderPlaceStands order n one
 place_moved order n one two same stands = record {
   at = stands.at;
   is = stands.is;
-  place = same.each ORDER_PLACE refl ∙ stands.place;
-  transpose = same.each TRANSPOSE refl ∙ stands.transpose;
-  repeat = same.each REPEAT refl ∙ stands.repeat;
+  place = same.order_place ∙ stands.place;
+  transpose = same.transpose ∙ stands.transpose;
+  repeat = same.repeat ∙ stands.repeat;
 }
 
-running_same : (one two : ℕ → ℕ) → SameOwn one two → running_command one ≡ running_command two
+running_same : (one two : ℕ → ℕ) → SameFetch one two → running_command one ≡ running_command two
 running_same one two same =
-    let o = same.each OFFSET refl in
-    let c = same.each NEW_COMMAND refl in
-    let p = same.each NEW_PARAM refl in
+    let o = same.offset in
+    let c = same.new_command in
+    let p = same.new_param in
     rw (o, c, p) refl
 
 row_moved : (layout : Layout) (packed : PackedSong) (order : Order) (play : Step) (plays row : ℕ) (one two : ℕ → ℕ) →
-    SameOwn one two → PlayStands layout packed order play plays row two →
+    SameFetch one two → PlayStands layout packed order play plays row two →
     PlayStands layout packed order play plays row one
 row_moved layout packed order play plays row one two same stands =
-    let e = same.each ENTRY refl in
-    let o = same.each OFFSET refl in
+    let e = same.entry in
+    let o = same.offset in
     let row = stands.row_stands in record {
       place = place_moved order (plays + 1) one two same stands.place;
-      transpose = same.each TRANSPOSE refl ∙ stands.transpose;
-      address = halves_moved _ _ _ _ _ (same.each PATTERN_LOW refl) (same.each PATTERN_HIGH refl) stands.address;
+      transpose = same.transpose ∙ stands.transpose;
+      address = halves_moved _ _ _ _ _ same.pattern_low same.pattern_high stands.address;
       row_stands = record {
         entries = row.entries;
         each = row.each;
@@ -78,12 +107,12 @@ row_moved layout packed order play plays row one two same stands =
       };
     }
 
-fetching_moved : (layout : Layout) (packed : PackedSong) (order : Order) (plays row : ℕ) (one two : ℕ → ℕ) →
-    SameOwn one two → Fetching layout packed order plays row two → Fetching layout packed order plays row one
+pub fetching_moved : (layout : Layout) (packed : PackedSong) (order : Order) (plays row : ℕ) (one two : ℕ → ℕ) →
+    SameFetch one two → Fetching layout packed order plays row two → Fetching layout packed order plays row one
 fetching_moved layout packed order plays row one two same (Begins e z place) =
-    Begins (same.each ENTRY refl ∙ e) z (place_moved order plays one two same place)
+    Begins (same.entry ∙ e) z (place_moved order plays one two same place)
 fetching_moved layout packed order plays row one two same (GoesOn some stands) =
-    GoesOn (λ e. some (sym (same.each ENTRY refl) ∙ e)) (row_moved layout packed order _ plays row one two same stands)
+    GoesOn (λ e. some (sym same.entry ∙ e)) (row_moved layout packed order _ plays row one two same stands)
 
 pub fields_moved : (v : Voice) (tempo : ℕ) (one two : ℕ → ℕ) → SameOwn one two → FieldsStand v tempo two →
     FieldsStand v tempo one
@@ -113,15 +142,22 @@ fields_moved v tempo one two same f = record {
   tempo_is = same.each TEMPO refl ∙ f.tempo_is;
 }
 
-pub voice_moved : (layout : Layout) (packed : PackedSong) (k voice : ℕ) (order : Order) (v : Voice) (tempo : ℕ)
+-- a voice whose fields have changed where the bytes of its place in the song have not
+pub voice_moved : (layout : Layout) (packed : PackedSong) (k voice : ℕ) (order : Order) (v w : Voice) (t u : ℕ)
+    (one two : ℕ → ℕ) → SameFetch one two → w.plays ≡ v.plays → w.row ≡ v.row → FieldsStand w u one →
+    VoiceStands layout packed k voice order v t two → VoiceStands layout packed k voice order w u one
+voice_moved layout packed k voice order v w t u one two same plays row fields stands = record {
+  order_address = halves_moved _ _ _ _ _ same.order_low same.order_high stands.order_address;
+  fetching = rw (plays, row) (fetching_moved layout packed order v.plays v.row one two same stands.fetching);
+  fields = fields;
+}
+
+voice_stays : (layout : Layout) (packed : PackedSong) (k voice : ℕ) (order : Order) (v : Voice) (tempo : ℕ)
     (one two : ℕ → ℕ) → SameOwn one two → VoiceStands layout packed k voice order v tempo two →
     VoiceStands layout packed k voice order v tempo one
-voice_moved layout packed k voice order v tempo one two same stands = record {
-  order_address =
-      halves_moved _ _ _ _ _ (same.each ORDER_LOW refl) (same.each ORDER_HIGH refl) stands.order_address;
-  fetching = fetching_moved layout packed order v.plays v.row one two same stands.fetching;
-  fields = fields_moved v tempo one two same stands.fields;
-}
+voice_stays layout packed k voice order v tempo one two same stands =
+    voice_moved layout packed k voice order v v tempo tempo one two (fetch_same one two same) refl refl
+    (fields_moved v tempo one two same stands.fields) stands
 
 pub common_moved : (c : Common) (one two : ℕ → ℕ) → SameShared one two → CommonStands c two → CommonStands c one
 common_moved c one two same f = record {
@@ -169,6 +205,7 @@ memory_seen layout packed voice desk (Shared label) = refl
 memory_seen layout packed voice desk LowSpot = refl
 memory_seen layout packed voice desk HighSpot = refl
 memory_seen layout packed voice desk (Sid register) = refl
+memory_seen layout packed voice desk (Tempo its) = refl
 memory_seen layout packed voice desk (Others label its) = refl
 memory_seen layout packed voice desk (Elsewhere place) = refl
 
@@ -212,11 +249,68 @@ own_after : (layout : Layout) (packed : PackedSong) (voice : ℕ) (at : ℕ → 
     Shows (reader layout packed voice at) behind m → SameOwn (own_bytes layout behind.at voice) m.own
 own_after layout packed voice at behind m shows = record { each = λ label h. shows.memory (Own label) h }
 
+-- another voice's bytes, but for its tempo
+other_byte : (layout : Layout) (packed : PackedSong) (voice : ℕ) (at : ℕ → ℕ) (behind : Desk) (m : VoiceDesk) →
+    Shows (reader layout packed voice at) behind m → (its : ℕ) → its < 3 → its ≢ voice → (label : ℕ) →
+    is_own label ≡ true → nat_eq label TEMPO ≡ false →
+    own_bytes layout behind.at its label ≡ own_bytes layout at its label
+other_byte layout packed voice at behind m shows its few other label h apart =
+    shows.memory (Others label its) (h, few, other, eqb-false label TEMPO apart)
+
 other_after : (layout : Layout) (packed : PackedSong) (voice : ℕ) (at : ℕ → ℕ) (behind : Desk) (m : VoiceDesk) →
-    Shows (reader layout packed voice at) behind m → (its : ℕ) → its < 3 → its ≢ voice →
-    SameOwn (own_bytes layout behind.at its) (own_bytes layout at its)
-other_after layout packed voice at behind m shows its few other =
-    record { each = λ label h. shows.memory (Others label its) (h, few, other) }
+    Shows (reader layout packed voice at) behind m → (its : ℕ) → its < 3 → its ≢ voice → (v : Voice) (t : ℕ) →
+    m.shared (TEMPO + 7 * its) ≡ t → (k : ℕ) (order : Order) (u : ℕ) →
+    VoiceStands layout packed k its order v u (own_bytes layout at its) →
+    VoiceStands layout packed k its order v t (own_bytes layout behind.at its)
+other_after layout packed voice at behind m shows its few other v t tempo k order u stood =
+    voice_moved layout packed k its order v v u t (own_bytes layout behind.at its) (own_bytes layout at its)
+    (record {
+      entry = same ENTRY refl refl;
+      offset = same OFFSET refl refl;
+      pattern_low = same PATTERN_LOW refl refl;
+      pattern_high = same PATTERN_HIGH refl refl;
+      order_low = same ORDER_LOW refl refl;
+      order_high = same ORDER_HIGH refl refl;
+      order_place = same ORDER_PLACE refl refl;
+      transpose = same TRANSPOSE refl refl;
+      repeat = same REPEAT refl refl;
+      new_command = same NEW_COMMAND refl refl;
+      new_param = same NEW_PARAM refl refl;
+    })
+    refl refl
+    (record {
+      tick = same TICK refl refl ∙ f.tick;
+      gate_timer = same GATE_TIMER refl refl ∙ f.gate_timer;
+      instrument = same INSTRUMENT refl refl ∙ f.instrument;
+      note = same NOTE refl refl ∙ f.note;
+      new_note = same NEW_NOTE refl refl ∙ f.new_note;
+      new_command = same NEW_COMMAND refl refl ∙ f.new_command;
+      new_param = same NEW_PARAM refl refl ∙ f.new_param;
+      command = same COMMAND refl refl ∙ f.command;
+      param = same PARAM refl refl ∙ f.param;
+      ad = same AD refl refl ∙ f.ad;
+      sr = same SR refl refl ∙ f.sr;
+      vib_time = same VIB_TIME refl refl ∙ f.vib_time;
+      vib_delay = same VIB_DELAY refl refl ∙ f.vib_delay;
+      wave = same WAVE refl refl ∙ f.wave;
+      gate = same GATE refl refl ∙ f.gate;
+      freq = halves_moved _ _ _ _ _ (same FREQ_LOW refl refl) (same FREQ_HIGH refl refl) f.freq;
+      last_note = same LAST_NOTE refl refl ∙ f.last_note;
+      wave_ptr = same WAVE_POINTER refl refl ∙ f.wave_ptr;
+      wave_time = same WAVE_TIME refl refl ∙ f.wave_time;
+      pulse_ptr = same PULSE_POINTER refl refl ∙ f.pulse_ptr;
+      pulse_time = same PULSE_TIME refl refl ∙ f.pulse_time;
+      pulse = halves_moved _ _ _ _ _ (same PULSE_LOW refl refl) (same PULSE_HIGH refl refl) f.pulse;
+      tempo_is = shows.memory (Tempo its) (few, other) ∙ tempo;
+    })
+    stood
+  where
+    f : FieldsStand v u (own_bytes layout at its)
+    f = stood.fields
+
+    same : (label : ℕ) → is_own label ≡ true → nat_eq label TEMPO ≡ false →
+        own_bytes layout behind.at its label ≡ own_bytes layout at its label
+    same = other_byte layout packed voice at behind m shows its few other
 
 shared_after : (layout : Layout) (packed : PackedSong) (voice : ℕ) (at : ℕ → ℕ) (behind : Desk) (m : VoiceDesk) →
     Shows (reader layout packed voice at) behind m → SameShared (shared_bytes layout behind.at) m.shared
@@ -231,7 +325,7 @@ pub record VoiceDone (layout : Layout) (packed : PackedSong) (k voice : ℕ) (ha
   pub handed_on : HandedStands handed m.shared
   pub subtune : m.shared SUBTUNE ≡ k
   pub others : (its : ℕ) → its < 3 → its ≢ voice → voice_of (its + 1) after ≡ voice_of (its + 1) x
-  pub tempos : (its : ℕ) → its < 3 → its ≢ voice → tempo_of (its + 1) after.common ≡ tempo_of (its + 1) x.common
+  pub tempos : (its : ℕ) → its < 3 → its ≢ voice → m.shared (TEMPO + 7 * its) ≡ tempo_of (its + 1) after.common
 
 each_voice : (layout : Layout) (packed : PackedSong) (k voice : ℕ) (before handed : HandedOn) (x after : FrameState)
     (at : ℕ → ℕ) (behind : Desk) (m : VoiceDesk) → Shows (reader layout packed voice at) behind m →
@@ -242,14 +336,12 @@ each_voice layout packed k voice before handed x after at behind m shows done it
       | inl same ↦
           let e = same in
           subst (λ n. VoiceOfStands layout packed k n after behind.at) (sym e)
-          (voice_moved layout packed k voice _ _ _ _ m.own (own_after layout packed voice at behind m shows) done.own)
+          (voice_stays layout packed k voice _ _ _ _ m.own (own_after layout packed voice at behind m shows) done.own)
       | inr other ↦
           let n = other in
           let v = done.others its few n in
-          let t = done.tempos its few n in
-          rw (v, t)
-          (voice_moved layout packed k its _ _ _ _ (own_bytes layout at its)
-          (other_after layout packed voice at behind m shows its few n) stood)
+          rw v
+          (other_after layout packed voice at behind m shows its few n _ _ (done.tempos its few n) k _ _ stood)
     ]
 
 pub holds_after : (layout : Layout) (packed : PackedSong) (k voice : ℕ) (before handed : HandedOn) (x after : FrameState)

@@ -8,7 +8,7 @@ use Rattle.std.proofs.lemmas.Bool.Decides.{eqb_tells}
 use Rattle.code_runs.specs.Runs.{put}
 use Rattle.code_runs.proofs.Laws.{put_same, put_other}
 use Rattle.blocks.specs.Desk.{Layout, sid_place}
-use Rattle.player_parts.specs.Labels.{VARIABLES, is_own, is_shared}
+use Rattle.player_parts.specs.Labels.{TEMPO, VARIABLES, is_own, is_shared}
 use Rattle.player_parts.proofs.VoiceDesks.{VoiceDesk, Reader}
 
 -- ---- labels
@@ -126,6 +126,7 @@ pub data Spot : Type 0 where
   LowSpot : Spot
   HighSpot : Spot
   Sid : (register : ℕ) → Spot
+  Tempo : (voice : ℕ) → Spot
   Others : (label voice : ℕ) → Spot
   Elsewhere : (place : ℕ) → Spot
 
@@ -135,6 +136,7 @@ spot_place r (Shared label) = r.layout.address label
 spot_place r LowSpot = r.layout.pointer
 spot_place r HighSpot = r.layout.pointer + 1
 spot_place r (Sid register) = sid_place register
+spot_place r (Tempo voice) = r.layout.address (TEMPO + 7 * voice)
 spot_place r (Others label voice) = r.layout.address (label + 7 * voice)
 spot_place r (Elsewhere place) = place
 
@@ -144,26 +146,29 @@ IsSpot r (Shared label) = is_shared label ≡ true
 IsSpot r LowSpot = Unit {0}
 IsSpot r HighSpot = Unit {0}
 IsSpot r (Sid register) = register ≤ 24
-IsSpot r (Others label voice) = (is_own label ≡ true) × (voice < 3) × (voice ≢ r.voice)
+IsSpot r (Tempo voice) = (voice < 3) × (voice ≢ r.voice)
+IsSpot r (Others label voice) = (is_own label ≡ true) × (voice < 3) × (voice ≢ r.voice) × (label ≢ TEMPO)
 IsSpot r (Elsewhere place) = IsElsewhere r.layout place
 
--- what stands there: other voices' bytes and what is elsewhere as before
+-- what stands there: other voices' bytes, but for their tempos, and what is elsewhere as before
 abbrev pub spot_byte : Reader → Spot → VoiceDesk → ℕ
 spot_byte r (Own label) d = d.own label
 spot_byte r (Shared label) d = d.shared label
 spot_byte r LowSpot d = d.low
 spot_byte r HighSpot d = d.high
 spot_byte r (Sid register) d = d.sid register
+spot_byte r (Tempo voice) d = d.shared (TEMPO + 7 * voice)
 spot_byte r (Others label voice) d = r.before (r.layout.address (label + 7 * voice))
 spot_byte r (Elsewhere place) d = r.before place
 
--- a byte written at one of the first five
+-- a byte written at one of the first six
 abbrev pub spot_set : Spot → ℕ → VoiceDesk → VoiceDesk
 spot_set (Own label) byte d = record d { own = put d.own label byte }
 spot_set (Shared label) byte d = record d { shared = put d.shared label byte }
 spot_set LowSpot byte d = record d { low = byte }
 spot_set HighSpot byte d = record d { high = byte }
 spot_set (Sid register) byte d = record d { sid = put d.sid register byte }
+spot_set (Tempo voice) byte d = record d { shared = put d.shared (TEMPO + 7 * voice) byte }
 spot_set (Others label voice) byte d = d
 spot_set (Elsewhere place) byte d = d
 
@@ -173,6 +178,7 @@ IsWritten (Shared label) = Unit {0}
 IsWritten LowSpot = Unit {0}
 IsWritten HighSpot = Unit {0}
 IsWritten (Sid register) = Unit {0}
+IsWritten (Tempo voice) = Unit {0}
 IsWritten (Others label voice) = ⊥
 IsWritten (Elsewhere place) = ⊥
 
@@ -256,6 +262,9 @@ put_at r room v (Own l) HighSpot written ws ss at byte d e =
 put_at r room v (Own l) (Sid register) written ws ss at byte d e =
     let apart = variable_apart r.layout room _ _ (own_in r.layout room l r.voice ws v) in
     put_other at _ byte _ (λ q. apart.2 register (sym q)) ∙ e
+put_at r room v (Own l) (Tempo m) written ws ss at byte d e =
+    put_other at _ byte _ (λ q. ss.1 (same_own TEMPO l m r.voice refl ws ss.0 v
+    (one_label r.layout _ _ _ _ (own_in r.layout room TEMPO m refl ss.0) (own_in r.layout room l r.voice ws v) q)).0) ∙ e
 put_at r room v (Own l) (Others m its) written ws ss at byte d e =
     put_other at _ byte _ (λ q. ss.2 (same_own m l its r.voice ss.0 ws ss.1 v
     (one_label r.layout _ _ _ _ (own_in r.layout room m its ss.0 ss.1) (own_in r.layout room l r.voice ws v) q)).0) ∙ e
@@ -277,6 +286,10 @@ put_at r room v (Shared l) HighSpot written ws ss at byte d e =
 put_at r room v (Shared l) (Sid register) written ws ss at byte d e =
     let apart = variable_apart r.layout room _ _ (shared_in r.layout room l ws) in
     put_other at _ byte _ (λ q. apart.2 register (sym q)) ∙ e
+put_at r room v (Shared l) (Tempo m) written ws ss at byte d e =
+    put_other at _ byte _ (λ q. not_shared TEMPO l m refl ws ss.0
+    (one_label r.layout _ _ _ _ (own_in r.layout room TEMPO m refl ss.0) (shared_in r.layout room l ws) q))
+    ∙ e ∙ sym (put_other d.shared l byte (TEMPO + 7 * m) (not_shared TEMPO l m refl ws ss.0))
 put_at r room v (Shared l) (Others m its) written ws ss at byte d e =
     put_other at _ byte _ (λ q. not_shared m l its ss.0 ws ss.1
     (one_label r.layout _ _ _ _ (own_in r.layout room m its ss.0 ss.1) (shared_in r.layout room l ws) q)) ∙ e
@@ -291,6 +304,8 @@ put_at r room v LowSpot LowSpot written ws ss at byte d e = put_same at r.layout
 put_at r room v LowSpot HighSpot written ws ss at byte d e = put_other at _ byte _ (λ q. omega (arith, q)) ∙ e
 put_at r room v LowSpot (Sid register) written ws ss at byte d e =
     let most = room.pointer_high in put_other at _ byte _ (λ q. omega (arith, q, most)) ∙ e
+put_at r room v LowSpot (Tempo m) written ws ss at byte d e =
+    put_other at _ byte _ (variable_apart r.layout room _ _ (own_in r.layout room TEMPO m refl ss.0)).0 ∙ e
 put_at r room v LowSpot (Others m its) written ws ss at byte d e =
     put_other at _ byte _ (variable_apart r.layout room _ _ (own_in r.layout room m its ss.0 ss.1)).0 ∙ e
 put_at r room v LowSpot (Elsewhere place) written ws ss at byte d e = put_other at _ byte _ ss.low ∙ e
@@ -302,6 +317,8 @@ put_at r room v HighSpot LowSpot written ws ss at byte d e = put_other at _ byte
 put_at r room v HighSpot HighSpot written ws ss at byte d e = put_same at (r.layout.pointer + 1) byte
 put_at r room v HighSpot (Sid register) written ws ss at byte d e =
     let most = room.pointer_high in put_other at _ byte _ (λ q. omega (arith, q, most)) ∙ e
+put_at r room v HighSpot (Tempo m) written ws ss at byte d e =
+    put_other at _ byte _ (variable_apart r.layout room _ _ (own_in r.layout room TEMPO m refl ss.0)).1 ∙ e
 put_at r room v HighSpot (Others m its) written ws ss at byte d e =
     put_other at _ byte _ (variable_apart r.layout room _ _ (own_in r.layout room m its ss.0 ss.1)).1 ∙ e
 put_at r room v HighSpot (Elsewhere place) written ws ss at byte d e = put_other at _ byte _ ss.high ∙ e
@@ -315,9 +332,37 @@ put_at r room v (Sid register) HighSpot written ws ss at byte d e =
     let most = room.pointer_high in put_other at _ byte _ (λ q. omega (arith, q, most)) ∙ e
 put_at r room v (Sid register) (Sid other) written ws ss at byte d e =
     by_label at d.sid sid_place register other byte (λ q. omega (arith, q)) e
+put_at r room v (Sid register) (Tempo m) written ws ss at byte d e =
+    put_other at _ byte _ ((variable_apart r.layout room _ _ (own_in r.layout room TEMPO m refl ss.0)).2 register) ∙ e
 put_at r room v (Sid register) (Others m its) written ws ss at byte d e =
     put_other at _ byte _ ((variable_apart r.layout room _ _ (own_in r.layout room m its ss.0 ss.1)).2 register) ∙ e
 put_at r room v (Sid register) (Elsewhere place) written ws ss at byte d e =
     put_other at _ byte _ (λ q. elsewhere_not_sid r.layout place register ss ws (sym q)) ∙ e
+put_at r room v (Tempo l) (Own m) written ws ss at byte d e =
+    put_other at _ byte _ (λ q. ws.1 (sym (same_own m TEMPO r.voice l ss refl v ws.0
+    (one_label r.layout _ _ _ _ (own_in r.layout room m r.voice ss v) (own_in r.layout room TEMPO l refl ws.0) q)).0)) ∙ e
+put_at r room v (Tempo l) (Shared m) written ws ss at byte d e =
+    put_other at _ byte _ (λ q. not_shared TEMPO m l refl ss ws.0
+    (one_label r.layout _ _ _ _ (own_in r.layout room TEMPO l refl ws.0) (shared_in r.layout room m ss) (sym q)))
+    ∙ e ∙ sym (put_other d.shared (TEMPO + 7 * l) byte m (λ q. not_shared TEMPO m l refl ss ws.0 (sym q)))
+put_at r room v (Tempo l) LowSpot written ws ss at byte d e =
+    let apart = variable_apart r.layout room _ _ (own_in r.layout room TEMPO l refl ws.0) in
+    put_other at _ byte _ (λ q. apart.0 (sym q)) ∙ e
+put_at r room v (Tempo l) HighSpot written ws ss at byte d e =
+    let apart = variable_apart r.layout room _ _ (own_in r.layout room TEMPO l refl ws.0) in
+    put_other at _ byte _ (λ q. apart.1 (sym q)) ∙ e
+put_at r room v (Tempo l) (Sid register) written ws ss at byte d e =
+    let apart = variable_apart r.layout room _ _ (own_in r.layout room TEMPO l refl ws.0) in
+    put_other at _ byte _ (λ q. apart.2 register (sym q)) ∙ e
+put_at r room v (Tempo l) (Tempo m) written ws ss at byte d e =
+    by_label at d.shared r.layout.address (TEMPO + 7 * l) (TEMPO + 7 * m) byte
+    (λ q. one_label r.layout _ _ _ _ (own_in r.layout room TEMPO m refl ss.0) (own_in r.layout room TEMPO l refl ws.0) q)
+    e
+put_at r room v (Tempo l) (Others m its) written ws ss at byte d e =
+    put_other at _ byte _ (λ q. ss.3 (same_own m TEMPO its l ss.0 refl ss.1 ws.0
+    (one_label r.layout _ _ _ _ (own_in r.layout room m its ss.0 ss.1) (own_in r.layout room TEMPO l refl ws.0) q)).1) ∙ e
+put_at r room v (Tempo l) (Elsewhere place) written ws ss at byte d e =
+    let apart = variable_apart r.layout room _ _ (own_in r.layout room TEMPO l refl ws.0) in
+    put_other at _ byte _ (λ q. apart.3 place ss (sym q)) ∙ e
 put_at r room v (Others label its) s never ws ss at byte d e = elim never [ ]
 put_at r room v (Elsewhere place) s never ws ss at byte d e = elim never [ ]

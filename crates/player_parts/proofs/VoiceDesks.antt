@@ -1,8 +1,8 @@
 -- The desk as the code of a voice sees it: the voice's own bytes and those that no voice owns, each by its label, the
 -- pointer, the SID registers by their numbers, A, Y and the flags. What steps do to it is computed where labels are
--- numerals.
-use Rattle.std.specs.Prelude.{◌≡◌, ℕ, zero, suc, ◌+◌, ◌-◌, ◌*◌, ◌/◌, ◌%◌, ◌<◌, Bool, true, false, not, List, [], ◌∷◌}
-use Rattle.std.specs.Prelude.{nat_eq, nat_le, nat_lt, bit_and, bit_or, bit_xor}
+-- numerals. The tempos of the other voices are among the shared bytes.
+use Rattle.std.specs.Prelude.{◌≡◌, ℕ, zero, suc, ◌+◌, ◌-◌, ◌*◌, ◌/◌, ◌%◌, ◌<◌, Bool, true, false, not, if◌then◌else◌}
+use Rattle.std.specs.Prelude.{List, [], ◌∷◌, nat_eq, nat_le, nat_lt, bit_and, bit_or, bit_xor}
 use Rattle.cpu6502.specs.declared.memory.TheConstants.{MEMORY_SIZE}
 use Rattle.cpu6502.specs.Registers.{one_if}
 use Rattle.code_runs.specs.Runs.{put}
@@ -17,7 +17,7 @@ use Rattle.blocks.specs.Trees.{Tree, ChainTree, NoneTree, ThenTree, IfTree, Unti
 use Rattle.blocks.specs.Trees.{FillTree}
 use Rattle.blocks.specs.Desk.{Layout}
 use Rattle.blocks.specs.Steps.{condition_of, one_more, one_less}
-use Rattle.player_parts.specs.Labels.{VARIABLES, is_own, is_shared}
+use Rattle.player_parts.specs.Labels.{TEMPO, VARIABLES, is_own, is_shared, is_tempo}
 
 pub record VoiceDesk : Type 0 where
   pub own : ℕ → ℕ
@@ -113,8 +113,22 @@ SourceLeads r (Direct summand) Q d = SummandLeads r summand Q d
 SourceLeads r Byte Q d = r.IsFound (pointed d) × Q (r.before (pointed d))
 SourceLeads r FromY Q d = Q d.y
 
+-- a tempo, which is the voice's own byte or another's
+abbrev pub with_tempo : ℕ → ℕ → ℕ → VoiceDesk → VoiceDesk
+with_tempo voice label byte d = record d {
+  own = if nat_eq label (TEMPO + 7 * voice) then put d.own TEMPO byte else d.own;
+  shared = if nat_eq label (TEMPO + 7 * voice) then d.shared else put d.shared label byte;
+}
+
+abbrev pub VarLeads : Bool → Bool → ℕ → ℕ → (VoiceDesk → Type 0) → VoiceDesk → Type 0
+VarLeads true tempo voice label Q d = Q (with_cell (Var label) d.accumulator d)
+VarLeads false true voice label Q d = Q (with_tempo voice label d.accumulator d)
+VarLeads false false voice label Q d = ⊥
+
 abbrev pub PlaceLeads : ℕ → Place → (VoiceDesk → Type 0) → VoiceDesk → Type 0
-PlaceLeads voice (HeldPlace cell) Q d = Fits (fits cell) (Q (with_cell cell d.accumulator d))
+PlaceLeads voice (HeldPlace (Var label)) Q d = VarLeads (is_shared label) (is_tempo label) voice label Q d
+PlaceLeads voice (HeldPlace (VoiceVar label)) Q d =
+    Fits (is_own label) (Q (with_cell (VoiceVar label) d.accumulator d))
 PlaceLeads voice (Register register) Q d =
     Fits (nat_le register 24) (Q (record d { sid = put d.sid register d.accumulator }))
 PlaceLeads voice (VoiceRegister register) Q d =

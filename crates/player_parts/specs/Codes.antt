@@ -1,7 +1,7 @@
 -- Steps of player code in short: loads and stores of bytes by their labels.
 use Rattle.std.specs.Prelude.{ℕ}
 use Rattle.player_parts.specs.Words.{Var, VoiceVar, Operand, Const, HeldOperand, Plain, Entry, Direct, Byte, FromY, Half}
-use Rattle.player_parts.specs.Words.{HeldPlace, Pointer, IntoY, HeldCounted, CountedY, Step, Load, Store, Index, Inc, Dec}
+use Rattle.player_parts.specs.Words.{HeldPlace, Register, VoiceRegister, Pointer, IntoY, HeldCounted, CountedY, Step, Load, Store, Index, Inc, Dec}
 
 -- a byte of the current voice, and one that no voice owns, as operands
 abbrev pub own_byte : ℕ → Operand
@@ -58,3 +58,22 @@ next_y = Inc CountedY
 
 abbrev pub less_own : ℕ → Step
 less_own label = Dec (HeldCounted (VoiceVar label))
+
+abbrev pub less_shared : ℕ → Step
+less_shared label = Dec (HeldCounted (Var label))
+
+abbrev pub more_own : ℕ → Step
+more_own label = Inc (HeldCounted (VoiceVar label))
+
+abbrev pub more_shared : ℕ → Step
+more_shared label = Inc (HeldCounted (Var label))
+
+abbrev pub less_y : Step
+less_y = Dec CountedY
+
+-- a SID register becomes A, and one of the voice's seven
+abbrev pub store_register : ℕ → Step
+store_register register = Store (Register register)
+
+abbrev pub store_voice_register : ℕ → Step
+store_voice_register register = Store (VoiceRegister register)

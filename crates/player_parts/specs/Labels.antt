@@ -1,5 +1,5 @@
 -- The labels of the player's bytes and lists, and whose bytes they are.
-use Rattle.std.specs.Prelude.{ℕ, ◌%◌, ◌&&◌, ◌||◌, Bool, ◌==◌, nat_lt, nat_le}
+use Rattle.std.specs.Prelude.{ℕ, ◌+◌, ◌%◌, ◌&&◌, ◌||◌, Bool, ◌==◌, nat_lt, nat_le}
 use Rattle.song_model.specs.declared.tables.TableName.{TableName}
 use Rattle.song_model.specs.declared.tables.TableName.TheVariants.{Wave, Pulse, Filter, Speed}
 use Rattle.player_parts.specs.declared.labels.TheConstants.{WAVE_LEFTS, WAVE_RIGHTS, PULSE_LEFTS, PULSE_RIGHTS}
@@ -32,6 +32,10 @@ is_own label = nat_lt label 90 && nat_lt (label % 21) 7
 abbrev pub is_shared : ℕ → Bool
 is_shared label = nat_lt label VARIABLES && (nat_le 105 label || label == 90 || label == 97 || label == 104)
 
+-- the labels of the three tempos, each of which is a voice's own
+abbrev pub is_tempo : ℕ → Bool
+is_tempo label = label == TEMPO || label == TEMPO + 7 || label == TEMPO + 14
+
 -- the labels of a table's sides
 abbrev pub lefts_label : TableName → ℕ
 lefts_label Wave = WAVE_LEFTS
@@ -44,3 +48,16 @@ rights_label Wave = WAVE_RIGHTS
 rights_label Pulse = PULSE_RIGHTS
 rights_label Filter = FILTER_RIGHTS
 rights_label Speed = SPEED_RIGHTS
+
+-- and of the rows behind the ones that these name; the speed table's rows stand alone
+abbrev pub next_lefts_label : TableName → ℕ
+next_lefts_label Wave = NEXT_WAVE_LEFTS
+next_lefts_label Pulse = NEXT_PULSE_LEFTS
+next_lefts_label Filter = NEXT_FILTER_LEFTS
+next_lefts_label Speed = SPEED_LEFTS
+
+abbrev pub next_rights_label : TableName → ℕ
+next_rights_label Wave = NEXT_WAVE_RIGHTS
+next_rights_label Pulse = NEXT_PULSE_RIGHTS
+next_rights_label Filter = NEXT_FILTER_RIGHTS
+next_rights_label Speed = SPEED_RIGHTS

@@ -1,6 +1,8 @@
 -- The words of the language of blocks.
 pub mod Words
 pub mod Codes
+-- Blocks that several blocks have in common.
+pub mod SharedBlocks
 -- To believe: the player's labels and lists, when they are laid out for a packed song, and when a memory holds a state.
 pub mod Labels
 pub mod PlayerLists

@@ -1,10 +1,12 @@
 -- What a part of the player is: a block that may be left out where a state keeps clear of what the part is for. This is
 -- the project's own player.
-use Rattle.std.specs.Prelude.{◌≡◌, ℕ, ◌<◌}
+use Rattle.std.specs.Prelude.{◌≡◌, ℕ, ◌+◌, ◌<◌}
 use Rattle.song_model.specs.declared.features.Feature.{Feature}
 use Rattle.play_model.specs.declared.options.Options.{Options}
 use Rattle.play_model.specs.State.{FrameState}
-use Rattle.play_model.specs.Uses.{UsesFeature}
+use Rattle.play_model.specs.LookUps.{look_ups_of}
+use Rattle.play_model.specs.Frame.{subtune_at}
+use Rattle.play_model.specs.Uses.{Turn, turn_of, UsesFeature}
 use Rattle.packed_form.specs.declared.packed_songs.PackedSong.{PackedSong}
 use Rattle.packed_form.specs.Unpacked.{unpacked_song}
 use Rattle.blocks.specs.Trees.{Tree}
@@ -21,6 +23,12 @@ pub record Visit : Type 0 where
   pub voice : ℕ
   pub options : Options
   pub state : FrameState
+
+-- the turn of the voice in that frame
+abbrev pub visit_turn : Visit → Turn
+visit_turn visit =
+    turn_of (visit.voice + 1) visit.options (look_ups_of (unpacked_song visit.packed))
+    (subtune_at (unpacked_song visit.packed) visit.k) visit.state
 
 -- the frame doesn't use a feature
 abbrev pub IsUnused : Feature → Visit → Type 0

@@ -2,12 +2,17 @@
 use Rattle.std.specs.Prelude.{◌≡◌, ℕ, ◌+◌, ◌<◌, ◌≤◌, ◌⊎◌, true, IsBitSet}
 use Rattle.song_model.specs.declared.features.Feature.{Feature}
 use Rattle.song_model.specs.Feature.{bit_of}
+use Rattle.play_model.specs.declared.options.Options.{Options}
+use Rattle.play_model.specs.State.{FrameState}
+use Rattle.play_model.specs.Uses.{UsesFeature}
 use Rattle.packed_form.specs.declared.packed_songs.PackedSong.{PackedSong}
+use Rattle.packed_form.specs.Unpacked.{unpacked_song}
 use Rattle.blocks.specs.Desk.{Layout}
 use Rattle.player_parts.specs.Labels.{VARIABLES, FREQUENCY_LOWS, NEXT_FREQUENCY_LOWS, FREQUENCY_HIGHS}
 use Rattle.player_parts.specs.Labels.{NEXT_FREQUENCY_HIGHS, WAVE_LEFTS, NEXT_WAVE_LEFTS, WAVE_RIGHTS, NEXT_WAVE_RIGHTS}
 use Rattle.player_parts.specs.Labels.{PULSE_LEFTS, NEXT_PULSE_LEFTS, PULSE_RIGHTS, NEXT_PULSE_RIGHTS, FILTER_LEFTS}
 use Rattle.player_parts.specs.Labels.{NEXT_FILTER_LEFTS, FILTER_RIGHTS, NEXT_FILTER_RIGHTS}
+use Rattle.player_parts.specs.declared.parts.TheConstants.{SKIP_EFFECTS_BIT, SKIP_PULSE_BIT}
 use Rattle.player_parts.specs.PlayerLists.{IsListPlace}
 
 -- a variable byte of the player
@@ -47,3 +52,13 @@ MayRead layout packed place = IsListPlace layout packed place ⊎ IsVariablePlac
 abbrev pub KeepsFeatures : Layout → ℕ → Type 0
 KeepsFeatures layout features =
     (feature : Feature) → IsBitSet features (bit_of feature) → layout.is_kept (bit_of feature) ≡ true
+
+-- each feature that the frame after a state uses has its bit kept
+abbrev pub KeepsUsed : Layout → PackedSong → Options → ℕ → FrameState → Type 0
+KeepsUsed layout packed o k x =
+    (feature : Feature) → UsesFeature o (unpacked_song packed) k x feature → layout.is_kept (bit_of feature) ≡ true
+
+-- the bits of the two options are kept exactly where these are on
+pub record KeepsOptions (layout : Layout) (o : Options) : Type 0 where
+  pub effects : layout.is_kept SKIP_EFFECTS_BIT ≡ o.skip_effects
+  pub pulse : layout.is_kept SKIP_PULSE_BIT ≡ o.skip_pulse

@@ -114,3 +114,41 @@ pub fn less_own(label: u16) -> Step
 {
     Step::Dec(Counted::Held(Cell::VoiceVar(label)))
 }
+
+/// The shared byte becomes one less.
+pub fn less_shared(label: u16) -> Step
+    ensures { result ≡ codes.less_shared label }
+{
+    Step::Dec(Counted::Held(Cell::Var(label)))
+}
+
+/// The voice's byte becomes one more.
+pub fn more_own(label: u16) -> Step
+    ensures { result ≡ codes.more_own label }
+{
+    Step::Inc(Counted::Held(Cell::VoiceVar(label)))
+}
+
+/// The shared byte becomes one more.
+pub fn more_shared(label: u16) -> Step
+    ensures { result ≡ codes.more_shared label }
+{
+    Step::Inc(Counted::Held(Cell::Var(label)))
+}
+
+/// Y becomes one less.
+pub const LESS_Y: Step = Step::Dec(Counted::Y);
+
+/// The SID register becomes A: 0 to 24.
+pub fn store_register(register: u8) -> Step
+    ensures { result ≡ codes.store_register register }
+{
+    Step::Store(Place::Register(register))
+}
+
+/// The voice's SID register becomes A: 0 to 6.
+pub fn store_voice_register(register: u8) -> Step
+    ensures { result ≡ codes.store_voice_register register }
+{
+    Step::Store(Place::VoiceRegister(register))
+}

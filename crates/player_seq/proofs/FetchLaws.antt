@@ -1,5 +1,5 @@
 -- In a memory that holds a state the block that fetches a row leaves the state behind the fetch.
-use Rattle.std.proofs.Common.{◌≡◌, ◌≢◌, ℕ, zero, suc, ◌+◌, ◌<◌, Bool, true, false, ◌==◌}
+use Rattle.std.proofs.Common.{◌≡◌, ◌≢◌, ℕ, zero, suc, ◌+◌, ◌*◌, ◌<◌, Bool, true, false, ◌==◌}
 use Rattle.std.proofs.Common.{get_or, refl, sym, ap, ◌∙◌, subst, arith}
 use Rattle.std.proofs.lemmas.List.Elements.{Contains-get_or}
 use Rattle.song_model.specs.declared.orders.Order.{Order}
@@ -19,10 +19,10 @@ use Rattle.blocks.specs.Desk.{Desk, Layout}
 use Rattle.blocks.specs.Meaning.{meaning}
 use Rattle.player_parts.specs.declared.labels.TheConstants.{SUBTUNE, FILTER_POINTER, FILTER_TIME, FILTER_TYPE}
 use Rattle.player_parts.specs.declared.labels.TheConstants.{FILTER_CONTROL, CUTOFF, VOLUME, FUNK_ONE, FUNK_TWO, STARTED}
-use Rattle.player_parts.specs.declared.labels.TheConstants.{LENT, LENT_COMMAND, LENT_PARAM}
+use Rattle.player_parts.specs.declared.labels.TheConstants.{LENT, LENT_COMMAND, LENT_PARAM, TEMPO}
 use Rattle.player_parts.specs.PlayerLists.{no_subtune}
-use Rattle.player_parts.specs.Holds.{HandedOn, VoiceOfStands, Holds}
-use Rattle.player_parts.proofs.Laws.{VoiceDesk, VoiceDone, seen, desk_seen}
+use Rattle.player_parts.specs.Holds.{HandedOn, Holds}
+use Rattle.player_parts.proofs.Laws.{VoiceDesk, VoiceDone, seen, desk_seen, PutBack, put_back, held_voice, others_tempos}
 use Rattle.player_parts.proofs.Laws.{ground_of, led, holds_after, leaves_after}
 use Rattle.player_seq.specs.FetchBlock.{fetch_tree}
 use Rattle.player_seq.specs.FetchLaws.{with_row_fetched, FetchBlockFetches}
@@ -41,40 +41,6 @@ fetched_is packed order s = by_time (s.voice.tick == s.voice.gate_timer) refl
     by_time true z = rw z refl
     by_time false z = rw z refl
 
--- a voice put back into a state
-record PutBack (voice : ℕ) (v : Voice) (x after : FrameState) : Type 0 where
-  own : voice_of (voice + 1) after ≡ v
-  common : after.common ≡ x.common
-  others : (its : ℕ) → its < 3 → its ≢ voice → voice_of (its + 1) after ≡ voice_of (its + 1) x
-
-put_back : (voice : ℕ) (v : Voice) (x : FrameState) → voice < 3 →
-    PutBack voice v x (with_playing (voice + 1) (record { voice = v; common = x.common }) x)
-put_back zero v x few = record { own = refl; common = refl; others = other }
-  where
-    other : (its : ℕ) → its < 3 → its ≢ 0 →
-        voice_of (its + 1) (with_playing 1 (record { voice = v; common = x.common }) x) ≡ voice_of (its + 1) x
-    other zero f n = absurd (n refl)
-    other (suc zero) f n = refl
-    other (suc (suc zero)) f n = refl
-    other (suc (suc (suc its))) f n = absurd (omega (arith, f))
-put_back (suc zero) v x few = record { own = refl; common = refl; others = other }
-  where
-    other : (its : ℕ) → its < 3 → its ≢ 1 →
-        voice_of (its + 1) (with_playing 2 (record { voice = v; common = x.common }) x) ≡ voice_of (its + 1) x
-    other zero f n = refl
-    other (suc zero) f n = absurd (n refl)
-    other (suc (suc zero)) f n = refl
-    other (suc (suc (suc its))) f n = absurd (omega (arith, f))
-put_back (suc (suc zero)) v x few = record { own = refl; common = refl; others = other }
-  where
-    other : (its : ℕ) → its < 3 → its ≢ 2 →
-        voice_of (its + 1) (with_playing 3 (record { voice = v; common = x.common }) x) ≡ voice_of (its + 1) x
-    other zero f n = refl
-    other (suc zero) f n = refl
-    other (suc (suc zero)) f n = absurd (n refl)
-    other (suc (suc (suc its))) f n = absurd (omega (arith, f))
-put_back (suc (suc (suc voice))) v x few = absurd (omega (arith, few))
-
 state_is : (packed : PackedSong) (k voice : ℕ) (x : FrameState) →
     with_row_fetched packed k voice x
     ≡ with_playing (voice + 1) (record {
@@ -86,13 +52,6 @@ state_is packed k voice x =
     (fetched_is packed (order_of (voice + 1) (subtune_at (unpacked_song packed) k)) (playing_of (voice + 1) x))
 
 -- ---- one of three voices
-
-held_voice : (layout : Layout) (packed : PackedSong) (k voice : ℕ) (handed : HandedOn) (x : FrameState) (at : ℕ → ℕ) →
-    voice < 3 → Holds layout packed k handed x at → VoiceOfStands layout packed k voice x at
-held_voice layout packed k zero handed x at few held = held.one
-held_voice layout packed k (suc zero) handed x at few held = held.two
-held_voice layout packed k (suc (suc zero)) handed x at few held = held.three
-held_voice layout packed k (suc (suc (suc voice))) handed x at few held = absurd (omega (arith, few))
 
 safe_voice : (packed : PackedSong) (k voice : ℕ) (x : FrameState) → voice < 3 → IsSafe (unpacked_song packed) k x →
     IsSafeVoice (unpacked_song packed) (order_of (voice + 1) (subtune_at (unpacked_song packed) k))
@@ -113,7 +72,7 @@ voice_range (suc (suc (suc voice))) x few range = absurd (omega (arith, few))
 -- the shared bytes are as before but for those that the walk works with, which hold no field
 shared_stay : (layout : Layout) (packed : PackedSong) (k voice : ℕ) (handed : HandedOn) (x after : FrameState)
     (order : Order) (desk : Desk) (m : VoiceDesk) → Holds layout packed k handed x desk.at →
-    PutBack voice (voice_after packed order (voice_of (voice + 1) x)) x after →
+    PutBack voice (record { voice = voice_after packed order (voice_of (voice + 1) x); common = x.common }) x after →
     order ≡ order_of (voice + 1) (subtune_at (unpacked_song packed) k) →
     FetchDone layout packed k voice order (voice_after packed order (voice_of (voice + 1) x))
     (tempo_of (voice + 1) x.common) (seen layout voice desk) m →
@@ -138,8 +97,16 @@ shared_stay layout packed k voice handed x after order desk m held back is done 
   };
   subtune = done.shared SUBTUNE refl ∙ held.subtune;
   others = back.others;
-  tempos = λ its few other. rw back.common refl;
+  tempos = λ its few other.
+      tempo_stays its few ∙ others_tempos layout packed k voice handed x desk held its few
+      ∙ ap (tempo_of (its + 1)) (sym back.common);
 }
+  where
+    tempo_stays : (its : ℕ) → its < 3 → m.shared (TEMPO + 7 * its) ≡ (seen layout voice desk).shared (TEMPO + 7 * its)
+    tempo_stays zero few = done.shared TEMPO refl
+    tempo_stays (suc zero) few = done.shared (TEMPO + 7) refl
+    tempo_stays (suc (suc zero)) few = done.shared (TEMPO + 14) refl
+    tempo_stays (suc (suc (suc its))) few = absurd (omega (arith, few))
 
 pub fetch_block_fetches : FetchBlockFetches
 fetch_block_fetches packed song layout k voice count handed x desk stands short laid keeps l few most small safe range
@@ -171,9 +138,9 @@ fetch_block_fetches packed song layout k voice count handed x desk stands short 
     let done = led (ground_of layout packed voice desk.at laid few) (fetch_tree count)
     (FetchDone layout packed k voice order (voice_after packed order (voice_of (voice + 1) x))
     (tempo_of (voice + 1) x.common) (seen layout voice desk)) (desk_seen layout packed voice desk) leads in
-    let back : PutBack voice (voice_after packed order (voice_of (voice + 1) x)) x (with_row_fetched packed k voice x) =
-    subst (PutBack voice (voice_after packed order (voice_of (voice + 1) x)) x) (sym (state_is packed k voice x))
-    (put_back voice (voice_after packed order (voice_of (voice + 1) x)) x few) in record {
+    let s : Playing = record { voice = voice_after packed order (voice_of (voice + 1) x); common = x.common } in
+    let back : PutBack voice s x (with_row_fetched packed k voice x) =
+    subst (PutBack voice s x) (sym (state_is packed k voice x)) (put_back voice s x few) in record {
       holds =
           holds_after layout packed k voice handed handed x (with_row_fetched packed k voice x) desk.at
           (meaning layout (fetch_tree count) voice desk) done.after laid done.shows held

@@ -6,7 +6,7 @@ ghost use Rattle.player_seq.specs.FetchBlock.{row_begun_tree, command_cleared_tr
 ghost use Rattle.player_seq.specs.FetchBlock.{keyed_tree, rests_tree, entry_tree, rest_tree, note_taken_tree};
 ghost use Rattle.player_seq.specs.FetchBlock.{gate_tree, note_tree, row_tree, fetch_tree};
 
-use crate::walk::{nothing, walk};
+use crate::walk::walk;
 use base::NoMemory;
 use blocks::{
     Block, Condition, Counted, Half, Operand, Source, Step, Summand, Test, chain, choose, seq,
@@ -19,6 +19,7 @@ use player_parts::labels::{
     AD, COUNTER, ENTRY, GATE, GATE_TIMER, GATE_TIMERS, INSTRUMENT, NEW_COMMAND, NEW_NOTE,
     NEW_PARAM, OFFSET, PATTERN_HIGH, PATTERN_LOW, SR, TICK, TRANSPOSE,
 };
+use player_parts::nothing;
 use std::alloc::Global;
 
 /// The test of A below a number.

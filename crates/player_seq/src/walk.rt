@@ -1,7 +1,7 @@
 //! The walk along an orderlist, from the place of a play to its pattern.
 
 ghost use Rattle.std.specs.Prelude.{◌≡◌, IfOk};
-ghost use Rattle.blocks.specs.Trees.{tree_of, NoneTree};
+ghost use Rattle.blocks.specs.Trees.{tree_of};
 ghost use Rattle.player_seq.specs.FetchBlock.{walk_begun_tree, transpose_tree, repeat_tree, walk_on_tree};
 ghost use Rattle.player_seq.specs.FetchBlock.{walk_loop_tree, place_tree, again_tree, pattern_tree, walk_tree};
 
@@ -18,15 +18,8 @@ use player_parts::labels::{
     COUNTER, ENTRY, OFFSET, ORDER_HIGH, ORDER_LOW, ORDER_PLACE, PATTERN_HIGH, PATTERN_HIGHS,
     PATTERN_LOW, PATTERN_LOWS, REPEAT, TRANSPOSE, WORK_LOW,
 };
-use player_parts::{Part, When};
+use player_parts::{Part, When, nothing};
 use std::alloc::Global;
-
-/// No block.
-pub(crate) fn nothing(alloc: Global) -> Block
-    ensures { tree_of result ≡ NoneTree }
-{
-    seq(Vec::new(alloc))
-}
 
 /// Sets the pointer to the orderlist, and Y to the place in it.
 fn begun(alloc: Global) -> Result<Block, NoMemory>
