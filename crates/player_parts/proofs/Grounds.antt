@@ -6,7 +6,7 @@ use Rattle.song_model.specs.declared.tables.TableRow.{TableRow}
 use Rattle.song_model.specs.declared.songs.Song.{Song}
 use Rattle.song_model.specs.Limits.{KeepsLimits, IsInstrument, IsTableRow}
 use Rattle.song_model.specs.LookUp.{IsNumbered, table_of, table_row, instrument_at}
-use Rattle.play_model.specs.LookUps.{LookUps}
+use Rattle.play_model.specs.LookUps.{LookUps, look_ups_of}
 use Rattle.play_model.specs.Freq.{freq}
 use Rattle.play_model.specs.Reached.{is_jump, is_last, row_led_to, IsReached, led, IsStep}
 use Rattle.play_model.specs.Playable.{HasPrograms, IsPlayable}
@@ -18,12 +18,10 @@ use Rattle.blocks.specs.Desk.{Layout}
 use Rattle.player_parts.specs.Labels.{FREQUENCY_LOWS, NEXT_FREQUENCY_LOWS, FREQUENCY_HIGHS, NEXT_FREQUENCY_HIGHS}
 use Rattle.player_parts.specs.Labels.{INSTRUMENTS, lefts_label, rights_label, next_lefts_label, next_rights_label}
 use Rattle.player_parts.specs.PlayerLists.{PlayerList, FrequencyLows, FrequencyHighs, Lefts, Rights, Instruments}
-use Rattle.player_parts.specs.PlayerLists.{IsList, list_length, list_place, instrument_byte, first_row, HasLists}
+use Rattle.player_parts.specs.PlayerLists.{IsList, list_length, list_byte, list_place, instrument_byte, first_row, HasLists}
 use Rattle.player_parts.specs.PlayerLayouts.{IsPlayerLayout}
-use Rattle.player_parts.specs.MemoryLooks.{memory_look_ups, FindsTheSame}
 use Rattle.player_parts.proofs.VoiceDesks.{Reader}
 use Rattle.player_parts.proofs.Reading.{StandsAt, reader, list_stands, Reads}
-use Rattle.player_parts.proofs.MemoryLooks.{memories_find_the_same}
 
 -- ---- what a rule's code needs
 
@@ -68,23 +66,16 @@ pub record InstrumentAt (r : Reader) (look : LookUps) (i : ℕ) : Type 0 where
 entry_reads : (layout : Layout) (packed : PackedSong) (voice : ℕ) (at : ℕ → ℕ) → IsPlayerLayout layout packed →
     HasLists layout packed at → (list : PlayerList) → IsList packed list → (table y i : ℕ) →
     table + y ≡ list_place layout list + i → i < list_length packed list →
-    Reads (reader layout packed voice at) ((table + y) % MEMORY_SIZE) (at (table + y))
+    Reads (reader layout packed voice at) ((table + y) % MEMORY_SIZE) (list_byte layout packed list i)
 entry_reads layout packed voice at laid has list is table y i e l =
     let stands = list_stands layout packed voice at laid has list is in
     let small = stands.small i l in
-    let place : (table + y) % 65536 ≡ table + y = omega (arith, e, small) in
-    record { found = rw (place, e) (stands.found i l); is = ap at place }
+    let place : (table + y) % 65536 ≡ list_place layout list + i = omega (arith, e, small) in
+    record { found = rw place (stands.found i l); is = ap at place ∙ stands.is i l }
 
 -- the same, as this byte
 reads_as : {r : Reader} {place byte other : ℕ} → Reads r place byte → byte ≡ other → Reads r place other
 reads_as reads e = record { found = reads.found; is = reads.is ∙ e }
-
--- each row that is stored has bytes
-row_bytes : (packed : PackedSong) → KeepsLimits (unpacked_song packed) → (look : LookUps) → FindsTheSame packed look →
-    (name : TableName) (p : ℕ) → IsNumbered (table_of (unpacked_song packed) name) p → IsTableRow (look.row name p)
-row_bytes packed limits look same name p is =
-    let e = same.row name p is in
-    rw e ((song_look_ups (unpacked_song packed) limits).row name p)
 
 -- a row of a program
 program_sides : (layout : Layout) (packed : PackedSong) (voice : ℕ) (at : ℕ → ℕ) → IsPlayerLayout layout packed →
@@ -92,24 +83,28 @@ program_sides : (layout : Layout) (packed : PackedSong) (voice : ℕ) (at : ℕ 
     list_length packed (Lefts name) ≡ length (table_of (unpacked_song packed) name) →
     list_length packed (Rights name) ≡ length (table_of (unpacked_song packed) name) →
     IsNumbered (table_of (unpacked_song packed) name) p →
-    SidesAt (reader layout packed voice at) (memory_look_ups layout packed at) name p
+    SidesAt (reader layout packed voice at) (look_ups_of (unpacked_song packed)) name p
 program_sides layout packed voice at laid has limits name p one lefts rights is =
     let first = is.first in
-    let last = is.last in record {
+    let last = is.last in
+    let back : first_row name + (p - 1) ≡ p = omega (arith, one, first) in record {
       left =
-          entry_reads layout packed voice at laid has (Lefts name) tt (layout.address (lefts_label name)) p (p - 1)
-          (omega (arith, one, first)) (omega (arith, lefts, first, last));
+          reads_as
+          (entry_reads layout packed voice at laid has (Lefts name) tt (layout.address (lefts_label name)) p (p - 1)
+          (omega (arith, one, first)) (omega (arith, lefts, first, last)))
+          (ap (λ n. (table_row (unpacked_song packed) name n).left) back);
       right =
-          entry_reads layout packed voice at laid has (Rights name) tt (layout.address (rights_label name)) p (p - 1)
-          (omega (arith, one, first)) (omega (arith, rights, first, last));
-      bytes =
-          row_bytes packed limits (memory_look_ups layout packed at) (memories_find_the_same layout packed at has) name p is;
+          reads_as
+          (entry_reads layout packed voice at laid has (Rights name) tt (layout.address (rights_label name)) p (p - 1)
+          (omega (arith, one, first)) (omega (arith, rights, first, last)))
+          (ap (λ n. (table_row (unpacked_song packed) name n).right) back);
+      bytes = (song_look_ups (unpacked_song packed) limits).row name p;
     }
 
 pub sides_at : (layout : Layout) (packed : PackedSong) (voice : ℕ) (at : ℕ → ℕ) → IsPlayerLayout layout packed →
     HasLists layout packed at → KeepsLimits (unpacked_song packed) → (name : TableName) (p : ℕ) → HasPrograms name →
     IsNumbered (table_of (unpacked_song packed) name) p →
-    SidesAt (reader layout packed voice at) (memory_look_ups layout packed at) name p
+    SidesAt (reader layout packed voice at) (look_ups_of (unpacked_song packed)) name p
 sides_at layout packed voice at laid has limits Wave p programs is =
     program_sides layout packed voice at laid has limits Wave p refl refl refl is
 sides_at layout packed voice at laid has limits Pulse p programs is =
@@ -121,32 +116,25 @@ sides_at layout packed voice at laid has limits Speed p programs is = absurd (pr
 -- a row of the speed table, or its row 0
 pub speed_at : (layout : Layout) (packed : PackedSong) (voice : ℕ) (at : ℕ → ℕ) → IsPlayerLayout layout packed →
     HasLists layout packed at → KeepsLimits (unpacked_song packed) → (p : ℕ) → p ≤ length packed.speed →
-    SidesAt (reader layout packed voice at) (memory_look_ups layout packed at) Speed p
+    SidesAt (reader layout packed voice at) (look_ups_of (unpacked_song packed)) Speed p
 speed_at layout packed voice at laid has limits p l = record {
   left =
-      entry_reads layout packed voice at laid has (Lefts Speed) tt (layout.address (lefts_label Speed)) p p (omega arith)
-      (omega (arith, l));
+      reads_as
+      (entry_reads layout packed voice at laid has (Lefts Speed) tt (layout.address (lefts_label Speed)) p p (omega arith)
+      (omega (arith, l)))
+      (ap (λ n. (table_row (unpacked_song packed) Speed n).left) (omega arith));
   right =
-      entry_reads layout packed voice at laid has (Rights Speed) tt (layout.address (rights_label Speed)) p p
-      (omega arith) (omega (arith, l));
-  bytes = bytes_of p l;
+      reads_as
+      (entry_reads layout packed voice at laid has (Rights Speed) tt (layout.address (rights_label Speed)) p p
+      (omega arith) (omega (arith, l)))
+      (ap (λ n. (table_row (unpacked_song packed) Speed n).right) (omega arith));
+  bytes = (song_look_ups (unpacked_song packed) limits).row Speed p;
 }
-  where
-    same : FindsTheSame packed (memory_look_ups layout packed at)
-    same = memories_find_the_same layout packed at has
-
-    bytes_of : (p : ℕ) → p ≤ length packed.speed → IsTableRow ((memory_look_ups layout packed at).row Speed p)
-    bytes_of zero l =
-        let e = same.no_speed in
-        rw e ((song_look_ups (unpacked_song packed) limits).row Speed 0)
-    bytes_of (suc p) l =
-        row_bytes packed limits (memory_look_ups layout packed at) same Speed (suc p)
-        (record { first = omega arith; last = l })
 
 -- ---- programs
 
 -- the labels of the rows behind
-next_label : (layout : Layout) (packed : PackedSong) → IsPlayerLayout layout packed → (name : TableName) →
+pub next_label : (layout : Layout) (packed : PackedSong) → IsPlayerLayout layout packed → (name : TableName) →
     HasPrograms name →
     (layout.address (next_lefts_label name) ≡ layout.address (lefts_label name) + 1)
     × (layout.address (next_rights_label name) ≡ layout.address (rights_label name) + 1)
@@ -176,9 +164,11 @@ next_reads r one two p byte e reads =
 pub rows_at : (layout : Layout) (packed : PackedSong) (voice : ℕ) (at : ℕ → ℕ) → IsPlayerLayout layout packed →
     HasLists layout packed at → KeepsLimits (unpacked_song packed) → IsPlayable (unpacked_song packed) →
     (name : TableName) (p : ℕ) → HasPrograms name → IsStep (unpacked_song packed) name p →
-    RowsAt (reader layout packed voice at) (memory_look_ups layout packed at) name p
-rows_at layout packed voice at laid has limits playable name p programs step =
-    record { this = this; next = λ more. next (ap (is_last name) (sym same) ∙ more) }
+    RowsAt (reader layout packed voice at) (look_ups_of (unpacked_song packed)) name p
+rows_at layout packed voice at laid has limits playable name p programs step = record {
+  this = sides_at layout packed voice at laid has limits name p programs here;
+  next = next;
+}
   where
     song : Song
     song = unpacked_song packed
@@ -186,14 +176,8 @@ rows_at layout packed voice at laid has limits playable name p programs step =
     here : IsNumbered (table_of song name) p
     here = (whole_lem song playable).row name p programs step.reached
 
-    this : SidesAt (reader layout packed voice at) (memory_look_ups layout packed at) name p
-    this = sides_at layout packed voice at laid has limits name p programs here
-
-    same : (memory_look_ups layout packed at).row name p ≡ table_row song name p
-    same = (memories_find_the_same layout packed at has).row name p here
-
     next : is_last name (table_row song name p) ≡ false →
-        NextAt (reader layout packed voice at) (memory_look_ups layout packed at) name p
+        NextAt (reader layout packed voice at) (look_ups_of song) name p
     next more =
         let reached = next_reached song limits playable name p programs step more in
         let there = (whole_lem song playable).row name (p + 1) programs reached in
@@ -204,6 +188,19 @@ rows_at layout packed voice at laid has limits playable name p programs step =
           bytes = sides.bytes;
           below = reached_byte_lem song name (p + 1) limits playable programs reached;
         }
+
+-- a row seen from the one before it
+pub next_here : (r : Reader) (look : LookUps) (name : TableName) (p : ℕ) →
+    r.layout.address (next_lefts_label name) ≡ r.layout.address (lefts_label name) + 1 →
+    r.layout.address (next_rights_label name) ≡ r.layout.address (rights_label name) + 1 → 1 ≤ p → p < 256 →
+    SidesAt r look name p → NextAt r look name (p - 1)
+next_here r look name p lefts rights some small sides =
+    let back : p - 1 + 1 ≡ p = omega (arith, some) in record {
+      left = next_reads r _ _ (p - 1) _ lefts (rw back sides.left);
+      right = next_reads r _ _ (p - 1) _ rights (rw back sides.right);
+      bytes = rw back sides.bytes;
+      below = omega (arith, some, small);
+    }
 
 -- ---- notes and instruments
 
@@ -221,45 +218,24 @@ notes_at layout packed voice at laid has = record {
     lows : (n : ℕ) → n < 98 →
         Reads (reader layout packed voice at) ((layout.address FREQUENCY_LOWS + n) % MEMORY_SIZE) (freq n % 256)
     lows n l =
-        reads_as
-        (entry_reads layout packed voice at laid has FrequencyLows tt (layout.address FREQUENCY_LOWS) n n refl l)
-        (has FrequencyLows n tt l)
+        entry_reads layout packed voice at laid has FrequencyLows tt (layout.address FREQUENCY_LOWS) n n refl l
 
     highs : (n : ℕ) → n < 98 →
         Reads (reader layout packed voice at) ((layout.address FREQUENCY_HIGHS + n) % MEMORY_SIZE) (freq n / 256)
     highs n l =
-        reads_as
-        (entry_reads layout packed voice at laid has FrequencyHighs tt (layout.address FREQUENCY_HIGHS) n n refl l)
-        (has FrequencyHighs n tt l)
-
--- the byte of each field
-instrument_bytes : (layout : Layout) (packed : PackedSong) (at : ℕ → ℕ) (i field : ℕ) → field < 9 →
-    at (layout.address (INSTRUMENTS + field) + i)
-    ≡ instrument_byte field ((memory_look_ups layout packed at).instrument i)
-instrument_bytes layout packed at i zero l = refl
-instrument_bytes layout packed at i (suc zero) l = refl
-instrument_bytes layout packed at i (suc (suc zero)) l = refl
-instrument_bytes layout packed at i (suc (suc (suc zero))) l = refl
-instrument_bytes layout packed at i (suc (suc (suc (suc zero)))) l = refl
-instrument_bytes layout packed at i (suc (suc (suc (suc (suc zero))))) l = refl
-instrument_bytes layout packed at i (suc (suc (suc (suc (suc (suc zero)))))) l = refl
-instrument_bytes layout packed at i (suc (suc (suc (suc (suc (suc (suc zero))))))) l = refl
-instrument_bytes layout packed at i (suc (suc (suc (suc (suc (suc (suc (suc zero)))))))) l = refl
-instrument_bytes layout packed at i (suc (suc (suc (suc (suc (suc (suc (suc (suc more))))))))) l = absurd (omega (arith, l))
+        entry_reads layout packed voice at laid has FrequencyHighs tt (layout.address FREQUENCY_HIGHS) n n refl l
 
 pub instrument_stands : (layout : Layout) (packed : PackedSong) (voice : ℕ) (at : ℕ → ℕ) →
     IsPlayerLayout layout packed → HasLists layout packed at → KeepsLimits (unpacked_song packed) → (i : ℕ) →
     IsNumbered packed.instruments i →
-    InstrumentAt (reader layout packed voice at) (memory_look_ups layout packed at) i
+    InstrumentAt (reader layout packed voice at) (look_ups_of (unpacked_song packed)) i
 instrument_stands layout packed voice at laid has limits i is =
     let first = is.first in
-    let last = is.last in
-    let same = memories_find_the_same layout packed at has in
-    let e = same.instrument i is in record {
+    let last = is.last in record {
       each = λ field l.
           reads_as
-          (entry_reads layout packed voice at laid has (Instruments field) l (layout.address (INSTRUMENTS + field)) i (i - 1)
-          (omega (arith, first)) (omega (arith, first, last)))
-          (instrument_bytes layout packed at i field l);
-      bytes = rw e ((song_look_ups (unpacked_song packed) limits).instrument i);
+          (entry_reads layout packed voice at laid has (Instruments field) l (layout.address (INSTRUMENTS + field)) i
+          (i - 1) (omega (arith, first)) (omega (arith, first, last)))
+          (ap (λ n. instrument_byte field (instrument_at (unpacked_song packed) n)) (omega (arith, first)));
+      bytes = (song_look_ups (unpacked_song packed) limits).instrument i;
     }

@@ -15,6 +15,7 @@ pub use Rattle.player_parts.proofs.Reading.{StandsAt, reader, list_stands, groun
 pub use Rattle.player_parts.proofs.Moving.{SameOwn, SameShared, SameFetch, fetching_moved, fields_moved, voice_moved}
 pub use Rattle.player_parts.proofs.Moving.{common_moved, handed_moved}
 pub use Rattle.player_parts.proofs.Moving.{seen, desk_seen, list_elsewhere, lists_stay, VoiceDone, holds_after, leaves_after}
+pub use Rattle.player_parts.proofs.Moving.{elsewhere_after, AtRegister, Register, NoRegister, at_register}
 -- a memory as look-ups
 pub use Rattle.player_parts.proofs.MemoryLooks.{memories_find_the_same}
 -- what the desk of a voice tells, and back from there to the state
@@ -24,6 +25,6 @@ pub use Rattle.player_parts.proofs.Views.{done_seen, done_low, PutBack, put_back
 pub use Rattle.player_parts.proofs.Views.{held_low, done_holds}
 -- where it finds rows, notes and instruments
 pub use Rattle.player_parts.proofs.Grounds.{side_place, SidesAt, NextAt, RowsAt, NotesAt, InstrumentAt, sides_at, speed_at}
-pub use Rattle.player_parts.proofs.Grounds.{next_reached, rows_at, notes_at, instrument_stands}
+pub use Rattle.player_parts.proofs.Grounds.{next_reached, next_label, rows_at, next_here, notes_at, instrument_stands}
 -- where the blocks lead that several blocks have in common
 pub use Rattle.player_parts.proofs.SharedLeads.{next_leads, note_leads, with_note_bytes}

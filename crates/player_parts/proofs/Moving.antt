@@ -20,7 +20,7 @@ use Rattle.player_parts.specs.Labels.{PULSE_LOW, PULSE_HIGH, TEMPO, FILTER_POINT
 use Rattle.player_parts.specs.Labels.{FILTER_CONTROL, CUTOFF, STARTED, LENT_PARAM, LENT_COMMAND, LENT, VOLUME, FUNK_ONE}
 use Rattle.player_parts.specs.Labels.{FUNK_TWO, SUBTUNE, VARIABLES, is_own, is_shared}
 use Rattle.player_parts.specs.PlayerLists.{list_place, IsListPlace, HasLists}
-use Rattle.player_parts.specs.PlayerLayouts.{IsPlayerLayout}
+use Rattle.player_parts.specs.PlayerLayouts.{IsVariablePlace, IsPlayerLayout}
 use Rattle.player_parts.specs.Holds.{own_bytes, shared_bytes, AreHalves, OrderPlaceStands, running_command}
 use Rattle.player_parts.specs.Holds.{PlayStands, Fetching, Begins, GoesOn, FieldsStand, VoiceStands, CommonStands}
 use Rattle.player_parts.specs.Holds.{HandedOn, HandedStands, VoiceOfStands, Holds}
@@ -358,39 +358,53 @@ holds_after layout packed k voice before handed x after at behind m laid shows h
   three = each_voice layout packed k voice before handed x after at behind m shows done 2 (omega arith) held.three;
 }
 
--- and what isn't the player's own stays, where the registers do
-pub leaves_after : (layout : Layout) (packed : PackedSong) (voice : ℕ) (desk behind : Desk) (m : VoiceDesk) →
-    Shows (reader layout packed voice desk.at) behind m → m.sid ≡ (seen layout voice desk).sid →
-    LeavesElsewhere layout desk.at behind.at
-leaves_after layout packed voice desk behind m shows sid place away low high =
+-- and what isn't the player's own stays: what is no register
+pub elsewhere_after : (layout : Layout) (packed : PackedSong) (voice : ℕ) (desk behind : Desk) (m : VoiceDesk) →
+    Shows (reader layout packed voice desk.at) behind m → (place : ℕ) → ¬ IsVariablePlace layout place →
+    place ≢ layout.pointer → place ≢ layout.pointer + 1 → (place < 0xD400) ⊎ (0xD419 ≤ place) →
+    behind.at place ≡ desk.at place
+elsewhere_after layout packed voice desk behind m shows place away low high registers =
+    shows.memory (Elsewhere place) (record {
+      variables =
+          elim (cases_lt place (layout.address 0)) [
+            | inl under ↦ inl under
+            | inr over ↦
+                elim (cases_lt place (layout.address 0 + VARIABLES)) [
+                  | inl inside ↦ absurd (away (over, inside))
+                  | inr above ↦ inr above
+                ]
+          ];
+      low = low;
+      high = high;
+      registers = registers;
+    })
+
+-- a place is a register's, or none's
+pub data AtRegister (place : ℕ) : Type 0 where
+  Register : (register : ℕ) → register ≤ 24 → sid_place register ≡ place → AtRegister place
+  NoRegister : (place < 0xD400) ⊎ (0xD419 ≤ place) → AtRegister place
+
+pub at_register : (place : ℕ) → AtRegister place
+at_register place =
     elim (cases_lt place 0xD400) [
-      | inl under ↦ let u = under in elsewhere (inl u)
+      | inl under ↦ let u = under in NoRegister (inl u)
       | inr over ↦
           elim (cases_lt place 0xD419) [
             | inl register ↦
                 let o = over in
                 let l = register in
-                let n : sid_place (place - 0xD400) ≡ place = omega (arith, o) in
-                ap behind.at (sym n)
-                ∙ (shows.memory (Sid (place - 0xD400)) (omega (arith, o, l))
-                ∙ (ap (λ f. f (place - 0xD400)) sid ∙ ap desk.at n))
-            | inr above ↦ let a = above in elsewhere (inr a)
+                Register (place - 0xD400) (omega (arith, o, l)) (omega (arith, o))
+            | inr above ↦ let a = above in NoRegister (inr a)
           ]
     ]
+
+-- and the registers, where they do
+pub leaves_after : (layout : Layout) (packed : PackedSong) (voice : ℕ) (desk behind : Desk) (m : VoiceDesk) →
+    Shows (reader layout packed voice desk.at) behind m → m.sid ≡ (seen layout voice desk).sid →
+    LeavesElsewhere layout desk.at behind.at
+leaves_after layout packed voice desk behind m shows sid place away low high = by_place (at_register place)
   where
-    elsewhere : (place < 0xD400) ⊎ (0xD419 ≤ place) → behind.at place ≡ desk.at place
-    elsewhere registers =
-        shows.memory (Elsewhere place) (record {
-          variables =
-              elim (cases_lt place (layout.address 0)) [
-                | inl under ↦ inl under
-                | inr over ↦
-                    elim (cases_lt place (layout.address 0 + VARIABLES)) [
-                      | inl inside ↦ absurd (away (over, inside))
-                      | inr above ↦ inr above
-                    ]
-              ];
-          low = low;
-          high = high;
-          registers = registers;
-        })
+    by_place : AtRegister place → behind.at place ≡ desk.at place
+    by_place (Register register few e) =
+        ap behind.at (sym e) ∙ (shows.memory (Sid register) few ∙ (ap (λ f. f register) sid ∙ ap desk.at e))
+    by_place (NoRegister none) = elsewhere_after layout packed voice desk behind m shows place away low high none
