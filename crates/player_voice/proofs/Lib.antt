@@ -1,0 +1,4 @@
+-- What upper crates may cite.
+pub mod Laws
+-- The voice's registers.
+pub mod Sounding

@@ -1,0 +1,5 @@
+-- To believe: the player's block that writes a voice's registers.
+pub mod RegisterBlock
+-- Claimed: that the blocks are sound, and what they do in a memory that holds a state.
+pub mod RegisterLaws
+pub mod SoundBlocks
