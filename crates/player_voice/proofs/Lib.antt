@@ -2,3 +2,5 @@
 pub mod Laws
 -- The voice's registers.
 pub mod Sounding
+-- A voice at its step.
+pub mod Scenes

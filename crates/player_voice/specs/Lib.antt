@@ -1,5 +1,6 @@
 -- To believe: the player's block that writes a voice's registers.
 pub mod RegisterBlock
+pub mod Turns
 -- Claimed: that the blocks are sound, and what they do in a memory that holds a state.
 pub mod RegisterLaws
 pub mod SoundBlocks
