@@ -1,1 +1,6 @@
--- What upper crates may cite.
+-- What the code of the wave step stands on and leaves.
+pub mod WaveDesks
+-- The cases of the rule.
+mod WaveRows
+-- What the code does with a row that is no command.
+mod Sounds

@@ -1,6 +1,6 @@
 -- The part of the wave step that does a command: where a frame comes to it, and when a state keeps clear of it. This is the
 -- project's own player.
-use Rattle.std.specs.Prelude.{◌≡◌, ℕ, ◌≤◌}
+use Rattle.std.specs.Prelude.{◌≡◌, ◌≤◌}
 use Rattle.song_model.specs.declared.tables.TableName.TheVariants.{Wave}
 use Rattle.song_model.specs.declared.features.Feature.TheVariants.{WaveCommand}
 use Rattle.play_model.specs.Uses.{HasWaveProgram}
