@@ -4,3 +4,5 @@ pub mod WaveDesks
 mod WaveRows
 -- What the code does with a row that is no command.
 mod Sounds
+-- What it does with a command.
+mod Once
