@@ -14,7 +14,7 @@ use Rattle.player_parts.specs.Codes.{load_number, store_own, store_shared}
 use Rattle.player_parts.specs.Holds.{HandedOn}
 use Rattle.player_parts.proofs.Laws.{VoiceDesk, Reader, Leads, leads_on, Done, Reads, side_place, compared, loaded, indexed}
 use Rattle.player_wave.specs.WaveBlock.{on_command, control_tree, volume_tree, once_tree}
-use Rattle.player_wave.proofs.WaveDesks.{done_over, tempos_stay}
+use Rattle.player_wave.proofs.WaveDesks.{done_over, done_as, tempos_stay}
 
 -- ---- one of several commands
 
@@ -336,4 +336,100 @@ volume_leads r look s handed x d k small at y =
               y,
             ),
       ),
+    )
+
+-- ---- whichever it is
+
+-- where the command is this one and its body is that
+by_body : (r : Reader) (look : LookUps) (s : Playing) (handed : HandedOn) (c x : ℕ) (before : List Body) (tree : Tree)
+    (after : List Body) (d n : VoiceDesk) → are_apart c before ≡ true → are_apart c after ≡ true → c < 256 →
+    ((k : VoiceDesk) → AtOnce r.voice (moved look s) handed x d k → k.y ≡ c →
+    Leads r tree (λ m. Done r.voice (commanded look c x s) handed d m × (m.y ≡ c)) k) → n.y ≡ c →
+    AtOnce r.voice (moved look s) handed x d n →
+    Leads r (bodies_tree (before ++ (record { number = c; tree = tree } ∷ after)))
+    (Done r.voice (commanded look c x s) handed d) n
+by_body r look s handed c x before tree after d n one two few does y at =
+    done_there r c (AtOnce r.voice (moved look s) handed x d) (Done r.voice (commanded look c x s) handed d)
+    (once_free r.voice (moved look s) handed x d) (done_free r.voice (commanded look c x s) handed d) before tree after one
+    two few does n y at
+
+-- the commands 8 and $E do nothing
+by_none : (r : Reader) (look : LookUps) (s : Playing) (handed : HandedOn) (c x : ℕ) (d n : VoiceDesk) →
+    are_apart c once_bodies ≡ true → c < 256 → commanded look c x s ≡ moved look s → n.y ≡ c →
+    AtOnce r.voice (moved look s) handed x d n →
+    Leads r (bodies_tree once_bodies) (Done r.voice (commanded look c x s) handed d) n
+by_none r look s handed c x d n apart few is y at =
+    passed r c (Done r.voice (commanded look c x s) handed d) (done_free r.voice (commanded look c x s) handed d)
+    once_bodies apart n y few (done_as (commanded look c x s) (moved look s) is at.done)
+
+eight_moved : (look : LookUps) (x : ℕ) (s : Playing) → commanded look 8 x s ≡ moved look s
+unfolding wave_command
+eight_moved look x s = refl
+
+fourteen_moved : (look : LookUps) (x : ℕ) (s : Playing) → commanded look 0xE x s ≡ moved look s
+unfolding wave_command
+fourteen_moved look x s = refl
+
+by_command : (r : Reader) (look : LookUps) (s : Playing) (handed : HandedOn) (c x : ℕ) (d n : VoiceDesk) → 5 ≤ c →
+    c < 0xF → x < 256 → n.y ≡ c → AtOnce r.voice (moved look s) handed x d n →
+    Leads r (bodies_tree once_bodies) (Done r.voice (commanded look c x s) handed d) n
+by_command r look s handed zero x d n least most small y at = absurd (omega (arith, least))
+by_command r look s handed (suc zero) x d n least most small y at = absurd (omega (arith, least))
+by_command r look s handed (suc (suc zero)) x d n least most small y at = absurd (omega (arith, least))
+by_command r look s handed (suc (suc (suc zero))) x d n least most small y at = absurd (omega (arith, least))
+by_command r look s handed (suc (suc (suc (suc zero)))) x d n least most small y at = absurd (omega (arith, least))
+by_command r look s handed (suc (suc (suc (suc (suc zero))))) x d n least most small y at =
+    by_body r look s handed 5 x [] ad_body.tree
+    (sr_body ∷ wave_body ∷ pulse_body ∷ filter_body ∷ control_body ∷ cutoff_body ∷ volume_body ∷ []) d n refl refl
+    (omega arith) (ad_leads r look s handed x d) y at
+by_command r look s handed (suc (suc (suc (suc (suc (suc zero)))))) x d n least most small y at =
+    by_body r look s handed 6 x (ad_body ∷ []) sr_body.tree
+    (wave_body ∷ pulse_body ∷ filter_body ∷ control_body ∷ cutoff_body ∷ volume_body ∷ []) d n refl refl (omega arith)
+    (sr_leads r look s handed x d) y at
+by_command r look s handed (suc (suc (suc (suc (suc (suc (suc zero))))))) x d n least most small y at =
+    by_body r look s handed 7 x (ad_body ∷ sr_body ∷ []) wave_body.tree
+    (pulse_body ∷ filter_body ∷ control_body ∷ cutoff_body ∷ volume_body ∷ []) d n refl refl (omega arith)
+    (wave_leads r look s handed x d) y at
+by_command r look s handed (suc (suc (suc (suc (suc (suc (suc (suc zero)))))))) x d n least most small y at =
+    by_none r look s handed 8 x d n refl (omega arith) (eight_moved look x s) y at
+by_command r look s handed (suc (suc (suc (suc (suc (suc (suc (suc (suc zero))))))))) x d n least most small y at =
+    by_body r look s handed 9 x (ad_body ∷ sr_body ∷ wave_body ∷ []) pulse_body.tree
+    (filter_body ∷ control_body ∷ cutoff_body ∷ volume_body ∷ []) d n refl refl (omega arith)
+    (pulse_leads r look s handed x d) y at
+by_command r look s handed (suc (suc (suc (suc (suc (suc (suc (suc (suc (suc zero)))))))))) x d n least most small y at =
+    by_body r look s handed 0xA x (ad_body ∷ sr_body ∷ wave_body ∷ pulse_body ∷ []) filter_body.tree
+    (control_body ∷ cutoff_body ∷ volume_body ∷ []) d n refl refl (omega arith) (filter_leads r look s handed x d) y at
+by_command r look s handed (suc (suc (suc (suc (suc (suc (suc (suc (suc (suc (suc zero))))))))))) x d n least most small
+    y at =
+    by_body r look s handed 0xB x (ad_body ∷ sr_body ∷ wave_body ∷ pulse_body ∷ filter_body ∷ []) control_body.tree
+    (cutoff_body ∷ volume_body ∷ []) d n refl refl (omega arith) (λ k. control_leads r look s handed x d k small) y at
+by_command r look s handed (suc (suc (suc (suc (suc (suc (suc (suc (suc (suc (suc (suc zero)))))))))))) x d n least most
+    small y at =
+    by_body r look s handed 0xC x (ad_body ∷ sr_body ∷ wave_body ∷ pulse_body ∷ filter_body ∷ control_body ∷ [])
+    cutoff_body.tree (volume_body ∷ []) d n refl refl (omega arith) (cutoff_leads r look s handed x d) y at
+by_command r look s handed (suc (suc (suc (suc (suc (suc (suc (suc (suc (suc (suc (suc (suc zero))))))))))))) x d n least
+    most small y at =
+    by_body r look s handed 0xD x
+    (ad_body ∷ sr_body ∷ wave_body ∷ pulse_body ∷ filter_body ∷ control_body ∷ cutoff_body ∷ []) volume_body.tree [] d n
+    refl refl (omega arith) (λ k. volume_leads r look s handed x d k small) y at
+by_command r look s handed (suc (suc (suc (suc (suc (suc (suc (suc (suc (suc (suc (suc (suc (suc zero)))))))))))))) x d n
+    least most small y at =
+    by_none r look s handed 0xE x d n refl (omega arith) (fourteen_moved look x s) y at
+by_command r look s handed
+    (suc (suc (suc (suc (suc (suc (suc (suc (suc (suc (suc (suc (suc (suc (suc more))))))))))))))) x d n least most small y
+    at =
+    absurd (omega (arith, most))
+
+-- Y is the row, and the command is kept
+pub once_leads : (r : Reader) (look : LookUps) (s : Playing) (handed : HandedOn) (p c x : ℕ) (d m : VoiceDesk) →
+    5 ≤ c → c < 0xF → x < 256 → Reads r (side_place r WAVE_RIGHTS p) x → m.y ≡ p → m.shared WORK_COMMAND ≡ c →
+    Done r.voice (program_moved look s.voice.wave_ptr s) handed d m →
+    Leads r once_tree (Done r.voice (commanded look c x s) handed d) m
+once_leads r look s handed p c x d m least most small reads y kept done =
+    let here : Reads r (side_place r WAVE_RIGHTS m.y) x =
+    subst (λ q. Reads r (side_place r WAVE_RIGHTS q) x) (sym y) reads in (
+      here.found,
+      by_command r look s handed c x d
+      (indexed (m.shared WORK_COMMAND) (loaded (r.before (side_place r WAVE_RIGHTS m.y)) m)) least most small kept
+      (record { done = done_over r.voice (moved look s) handed d m _ refl refl refl done; is = here.is }),
     )
