@@ -1,0 +1,13 @@
+-- What upper crates may cite.
+pub mod Laws
+-- What the code of the wave step stands on and leaves.
+pub mod WaveDesks
+-- The cases of the rule.
+mod WaveRows
+-- What it does with a row that is no command.
+mod Sounds
+-- What it does with a command.
+mod Once
+mod Commands
+-- The whole code.
+mod Waves
