@@ -59,10 +59,12 @@ vibrato_tree = ThenTree turn_tree (ThenTree swing_tree NoneTree)
 abbrev pub high_tree : Tree
 high_tree = IfTree [] (Is (Equal (Const 4))) vibrato_tree (ChainTree (load_entry SPEED_LEFTS ∷ []))
 
+abbrev pub sides_tree : Tree
+sides_tree = ChainTree (store_shared SPEED_HIGH ∷ load_entry SPEED_RIGHTS ∷ store_shared SPEED_LOW ∷ [])
+
 abbrev pub row_speed_tree : Tree
 row_speed_tree =
-    ThenTree (ChainTree (index_own PARAM ∷ [])) (ThenTree high_tree
-    (ThenTree (ChainTree (store_shared SPEED_HIGH ∷ load_entry SPEED_RIGHTS ∷ store_shared SPEED_LOW ∷ [])) NoneTree))
+    ThenTree (ChainTree (index_own PARAM ∷ [])) (ThenTree high_tree (ThenTree sides_tree NoneTree))
 
 -- the half tone at the last note; those from 96 on have none
 abbrev pub half_tone_tree : Tree
