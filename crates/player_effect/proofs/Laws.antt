@@ -1,0 +1,1 @@
+-- The lemmas that upper crates may cite, and the words that they are said in.

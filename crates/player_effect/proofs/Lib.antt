@@ -1,0 +1,10 @@
+-- What upper crates may cite.
+pub mod Laws
+-- Words by their bytes, halvings, and the vibrato's time.
+mod Numbers
+-- The desk from one step to the next.
+mod EffectDesks
+-- Which command works.
+mod Commands
+-- The speed.
+mod RowSpeeds

@@ -1,0 +1,5 @@
+-- To believe: the block of the running command, and where a frame comes to its parts.
+pub mod EffectBlock
+pub mod Parts
+-- Inner: the laws of the parts.
+pub mod PartLaws
