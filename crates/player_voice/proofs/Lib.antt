@@ -4,3 +4,5 @@ pub mod Laws
 pub mod Sounding
 -- A voice at its step.
 pub mod Scenes
+pub mod Stages
+pub mod WaveStage
