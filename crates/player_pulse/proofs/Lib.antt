@@ -1,0 +1,1 @@
+-- What upper crates may cite.
