@@ -5,3 +5,5 @@ pub mod PulseDesks
 -- The cases of the rule, and its numbers.
 mod PulseRows
 mod Widths
+-- A frame that moves the width.
+mod Slides

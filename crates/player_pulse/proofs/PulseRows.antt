@@ -1,5 +1,5 @@
 -- The cases of the pulse step, each by what the row's sides and the time are.
-use Rattle.std.proofs.Common.{◌≡◌, ◌≢◌, ℕ, ◌+◌, ◌-◌, ◌%◌, ◌<◌, ◌≤◌, ◌&&◌, Bool, true, false, not, nat_eq, nat_le, nat_lt}
+use Rattle.std.proofs.Common.{◌≡◌, ◌≢◌, ℕ, ◌+◌, ◌-◌, ◌%◌, ◌<◌, ◌≤◌, ◌&&◌, Bool, true, false, not, nat_eq, nat_le, nat_lt, if◌then◌else◌}
 use Rattle.std.proofs.Common.{refl, ap, ◌∙◌, arith, eq-eqb}
 use Rattle.std.proofs.lemmas.Bool.{le-leb, lt-leb, ne_eqb, cond_both}
 use Rattle.song_model.specs.declared.tables.TableRow.{TableRow}
@@ -62,8 +62,23 @@ pub slide_stays : (look : LookUps) (row : TableRow) (time : ℕ) (v : Voice) →
 slide_stays look row time v e = rw e refl
 
 -- the step leaves tick and gate timer
-pub tick_stays : (look : LookUps) (v : Voice) → (pulse_step look v).tick ≡ v.tick
+pub record IsSameClock (v w : Voice) : Type 0 where
+  pub tick : w.tick ≡ v.tick
+  pub gate_timer : w.gate_timer ≡ v.gate_timer
+
+row_clock : (look : LookUps) (row : TableRow) (v : Voice) → IsSameClock v (pulse_row look row v)
+row_clock look row v =
+    cond_both (nat_eq v.pulse_time 0 && nat_le 0x80 row.left) (pulse_set look row v)
+    (if nat_eq v.pulse_time 0 && nat_eq row.left 0 then v
+    else pulse_slide look row (if nat_eq v.pulse_time 0 then row.left else v.pulse_time) v)
+    (IsSameClock v) (λ z. record { tick = refl; gate_timer = refl })
+    (λ z.
+    cond_both (nat_eq v.pulse_time 0 && nat_eq row.left 0) v
+    (pulse_slide look row (if nat_eq v.pulse_time 0 then row.left else v.pulse_time) v) (IsSameClock v)
+    (λ y. record { tick = refl; gate_timer = refl }) (λ y. record { tick = refl; gate_timer = refl }))
+
+pub step_clock : (look : LookUps) (v : Voice) → IsSameClock v (pulse_step look v)
 unfolding pulse_step
-tick_stays look v =
-    cond_both (nat_eq v.pulse_ptr 0) v (pulse_row look (look.row Pulse v.pulse_ptr) v) (λ w. w.tick ≡ v.tick) (λ z. refl)
-    (λ z. ?)
+step_clock look v =
+    cond_both (nat_eq v.pulse_ptr 0) v (pulse_row look (look.row Pulse v.pulse_ptr) v) (IsSameClock v)
+    (λ z. record { tick = refl; gate_timer = refl }) (λ z. row_clock look (look.row Pulse v.pulse_ptr) v)
