@@ -1,13 +1,17 @@
-// A library with one function.
+//! The code of the pulse step of a voice: one row of its pulse program, or one frame of it.
+//!
+//! The layer's one contract: on the desk of a voice the code leaves what the rule of the pulse step says, over any look-ups
+//! that the memory has, with the step left out where the option says so.
+//!
+//! It stands on `player_parts` for what a desk tells of a voice, and on `blocks` for the language of player code. See
+//! `docs/player.md`.
 #![tactic(auto)]
 
-ghost use Rattle.std.specs.Prelude.{◌≡◌};
-ghost use Rattle.player_pulse.specs.Echo.{echo_of};
+pub mod claims;
+mod parts;
+mod program;
+mod pulse;
 
-// The `ensures` clause is the contract: what `echo` returns is `echo_of` of its argument, a definition
-// in `specs/Echo.antt`, which a caller's clause can cite too.
-pub fn echo(x: usize) -> usize
-    ensures { result ≡ echo_of x }
-{
-    x
-}
+pub use base::NoMemory;
+pub use parts::ProgramDone;
+pub use pulse::pulse_block;

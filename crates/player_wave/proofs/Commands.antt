@@ -1,23 +1,22 @@
 -- A row of the wave program that is a command: the program goes on, and the command is done at once or lent.
-use Rattle.std.proofs.Common.{◌≡◌, ◌≢◌, ℕ, ◌+◌, ◌-◌, ◌*◌, ◌<◌, ◌≤◌, true, false, not, nat_eq, nat_le}
-use Rattle.std.proofs.Common.{bit_and, bit_xor, [], ◌∷◌, refl, sym, ap, ◌∙◌, subst, arith}
-use Rattle.std.proofs.lemmas.Bool.{agree_below_at, leb-true, leb-false, not-true, not-false, eqb-true, both_ways}
+use Rattle.std.proofs.Common.{◌≡◌, ℕ, ◌+◌, ◌-◌, ◌<◌, ◌≤◌, true, nat_eq}
+use Rattle.std.proofs.Common.{bit_and, [], ◌∷◌, refl, sym, ap, ◌∙◌, subst, arith}
+use Rattle.std.proofs.lemmas.Bool.{agree_below_at, leb-true, leb-false, not-true, not-false, eqb-true}
 use Rattle.code_runs.specs.Runs.{put}
 use Rattle.song_model.specs.declared.tables.TableRow.{TableRow}
 use Rattle.song_model.specs.declared.tables.TableName.TheVariants.{Wave}
 use Rattle.play_model.specs.LookUps.{LookUps}
-use Rattle.play_model.specs.State.{Voice, Playing}
-use Rattle.play_model.specs.WaveStep.{Waved, program_moved, wave_command, wave_row}
-use Rattle.blocks.specs.Trees.{Tree, ChainTree, NoneTree, ThenTree, IfTree}
+use Rattle.play_model.specs.State.{Playing}
+use Rattle.play_model.specs.WaveStep.{program_moved, wave_command}
+use Rattle.blocks.specs.Trees.{Tree, IfTree}
 use Rattle.blocks.specs.Steps.{one_more}
 use Rattle.player_parts.specs.Words.{Const, And, Less, Is}
 use Rattle.player_parts.specs.declared.labels.TheConstants.{COMMAND, PARAM, WORK_COMMAND, LENT, LENT_COMMAND, LENT_PARAM}
 use Rattle.player_parts.specs.declared.labels.TheConstants.{WAVE_LEFTS, WAVE_RIGHTS}
 use Rattle.player_parts.specs.Codes.{load_entry, store_shared}
 use Rattle.player_parts.proofs.Laws.{VoiceDesk, Reader, Leads, leads_on, Done, Reads, NextAt, side_place, handed_in, compared, loaded}
-use Rattle.player_wave.specs.WaveBlock.{lend_tree, once_tree, command_tree, moved_tree, command_way_tree}
-use Rattle.player_wave.proofs.WaveDesks.{Stepped, lent_out, lent_handed, given_back, done_over, done_as, tempos_stay}
-use Rattle.player_wave.proofs.WaveRows.{row_command, slide_back, is_command}
+use Rattle.player_wave.specs.WaveBlock.{lend_tree, once_tree, command_tree, moved_tree}
+use Rattle.player_wave.proofs.WaveDesks.{lent_out, lent_handed, done_over, done_as, tempos_stay}
 use Rattle.player_wave.proofs.Sounds.{AtRow, moved_leads}
 use Rattle.player_wave.proofs.Once.{commanded, once_leads}
 
@@ -47,25 +46,25 @@ lend_leads r look s p c x d m free few reads y acc kept done = (
         let lent : one_more (m.shared LENT) ≡ 1 = ap one_more (done.handed_on.lent ∙ free) in (
           here.found,
           Later (omega (arith, from, acc)) (omega (arith, few))
-          (record {
-            fields = assumption (kept, here.is, done.fields);
-            common = assumption done.common;
-            tempos = λ its l other.
-                tempos_stay (put (put m.shared LENT_PARAM (m.own PARAM)) LENT_COMMAND (m.own COMMAND)) LENT
-                (one_more (m.shared LENT)) its _ (λ e. omega (arith, e, l))
-                (tempos_stay (put m.shared LENT_PARAM (m.own PARAM)) LENT_COMMAND (m.own COMMAND) its _
-                (λ e. omega (arith, e, l))
-                (tempos_stay m.shared LENT_PARAM (m.own PARAM) its _ (λ e. omega (arith, e, l)) (done.tempos its l other)));
-            handed_on = record {
-              started = done.handed_on.started;
-              lent = lent;
-              own_command = λ some. done.fields.command;
-              own_param = λ some. done.fields.param;
-            };
-            fetch = assumption done.fetch;
-            subtune = done.subtune;
-            sid = done.sid;
-          }),
+              (record {
+                fields = assumption (kept, here.is, done.fields);
+                common = assumption done.common;
+                tempos = λ its l other.
+                    tempos_stay (put (put m.shared LENT_PARAM (m.own PARAM)) LENT_COMMAND (m.own COMMAND)) LENT
+                    (one_more (m.shared LENT)) its _ (λ e. omega (arith, e, l))
+                    (tempos_stay (put m.shared LENT_PARAM (m.own PARAM)) LENT_COMMAND (m.own COMMAND) its _
+                    (λ e. omega (arith, e, l))
+                    (tempos_stay m.shared LENT_PARAM (m.own PARAM) its _ (λ e. omega (arith, e, l)) (done.tempos its l other)));
+                handed_on = record {
+                  started = done.handed_on.started;
+                  lent = lent;
+                  own_command = λ some. done.fields.command;
+                  own_param = λ some. done.fields.param;
+                };
+                fetch = assumption done.fetch;
+                subtune = done.subtune;
+                sid = done.sid;
+              }),
         ),
     λ unmet.
         let below : m.accumulator < 1 = leb-false 1 m.accumulator (not-true _ (not-false _ unmet)) in

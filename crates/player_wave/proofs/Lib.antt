@@ -7,6 +7,7 @@ mod WaveRows
 -- What it does with a row that is no command.
 mod Sounds
 -- What it does with a command.
+mod Bodies
 mod Once
 mod Commands
 -- The whole code.

@@ -1,11 +1,11 @@
 -- A command of the wave table that is done at once.
-use Rattle.std.proofs.Common.{◌≡◌, ◌≢◌, ℕ, zero, suc, ◌+◌, ◌*◌, ◌<◌, ◌≤◌, ◌&&◌, Bool, true, false, not, nat_eq, nat_le, nat_lt}
-use Rattle.std.proofs.Common.{if◌then◌else◌, List, [], ◌∷◌, ◌++◌, refl, sym, ap, ◌∙◌, subst, arith, eq-eqb}
-use Rattle.std.proofs.lemmas.Bool.{and_parts, both_ways, ltb-true, leb-true, leb-false, lt-ltb, le-ltb, not-true, not-false, eqb-true, eqb-false, ne_eqb}
+use Rattle.std.proofs.Common.{◌≡◌, ℕ, zero, suc, ◌<◌, ◌≤◌, ◌&&◌, Bool, true, false, not, nat_eq, nat_lt}
+use Rattle.std.proofs.Common.{if◌then◌else◌, List, [], ◌∷◌, ◌++◌, refl, sym, ◌∙◌, subst, arith, eq-eqb}
+use Rattle.std.proofs.lemmas.Bool.{and_parts, ltb-true, leb-true, leb-false, lt-ltb, le-ltb, not-true, not-false, eqb-true, eqb-false, ne_eqb}
 use Rattle.code_runs.specs.Runs.{put}
 use Rattle.play_model.specs.LookUps.{LookUps}
 use Rattle.play_model.specs.Helpers.{do_command}
-use Rattle.play_model.specs.State.{Voice, Playing}
+use Rattle.play_model.specs.State.{Playing}
 use Rattle.play_model.specs.WaveStep.{program_moved, wave_command}
 use Rattle.blocks.specs.Trees.{Tree, ChainTree, NoneTree, ThenTree}
 use Rattle.player_parts.specs.declared.labels.TheConstants.{AD, SR, WAVE, PULSE_POINTER, PULSE_TIME, FILTER_POINTER, FILTER_TIME}
@@ -14,71 +14,8 @@ use Rattle.player_parts.specs.Codes.{load_number, store_own, store_shared}
 use Rattle.player_parts.specs.Holds.{HandedOn}
 use Rattle.player_parts.proofs.Laws.{VoiceDesk, Reader, Leads, leads_on, Done, Reads, side_place, compared, loaded, indexed}
 use Rattle.player_wave.specs.WaveBlock.{on_command, control_tree, volume_tree, once_tree}
-use Rattle.player_wave.proofs.WaveDesks.{done_over, done_as, tempos_stay}
-
--- ---- one of several commands
-
--- what is done for a command
-record Body : Type 0 where
-  number : ℕ
-  tree : Tree
-
-abbrev bodies_tree : List Body → Tree
-bodies_tree [] = NoneTree
-bodies_tree (b ∷ bodies) = ThenTree (on_command b.number b.tree) (bodies_tree bodies)
-
--- none of them is for this command
-abbrev are_apart : ℕ → List Body → Bool
-are_apart c [] = true
-are_apart c (b ∷ bodies) = (not (nat_eq c b.number) && nat_lt b.number 256) && are_apart c bodies
-
--- a fact of which the flags are no part
-abbrev IsFree : (VoiceDesk → Type 0) → Type 0
-IsFree Q = (n : VoiceDesk) (c z m : Bool) → Q n → Q (record n { carry = c; zero = z; minus = m })
-
--- one that isn't for this command is passed
-passed_one : (r : Reader) (c : ℕ) (P : VoiceDesk → Type 0) (b : Body) (n : VoiceDesk) →
-    (not (nat_eq c b.number) && nat_lt b.number 256) ≡ true → n.y ≡ c → c < 256 → P (compared n.y b.number n) →
-    Leads r (on_command b.number b.tree) P n
-passed_one r c P b n apart y few p =
-    let parts = and_parts (not (nat_eq c b.number)) (nat_lt b.number 256) apart in (
-      omega (arith, y, few),
-      ltb-true b.number 256 parts.1,
-      (
-        λ met.
-            absurd (eqb-false c b.number (not-true (nat_eq c b.number) parts.0) (sym y ∙ eqb-true n.y b.number met)),
-        λ unmet. p,
-      ),
-    )
-
-passed : (r : Reader) (c : ℕ) (Q : VoiceDesk → Type 0) → IsFree Q → (bodies : List Body) →
-    are_apart c bodies ≡ true → (n : VoiceDesk) → n.y ≡ c → c < 256 → Q n → Leads r (bodies_tree bodies) Q n
-passed r c Q free [] apart n y few q = q
-passed r c Q free (b ∷ bodies) apart n y few q =
-    let parts = and_parts (not (nat_eq c b.number) && nat_lt b.number 256) (are_apart c bodies) apart in
-    passed_one r c (Leads r (bodies_tree bodies) Q) b n parts.0 y few
-    (passed r c Q free bodies parts.1 (compared n.y b.number n) y few (free n _ _ _ q))
-
--- the one that is for it is done
-done_there : (r : Reader) (c : ℕ) (P Q : VoiceDesk → Type 0) → IsFree P → IsFree Q → (before : List Body) (tree : Tree)
-    (after : List Body) → are_apart c before ≡ true → are_apart c after ≡ true → c < 256 →
-    ((k : VoiceDesk) → P k → k.y ≡ c → Leads r tree (λ m. Q m × (m.y ≡ c)) k) → (n : VoiceDesk) → n.y ≡ c → P n →
-    Leads r (bodies_tree (before ++ (record { number = c; tree = tree } ∷ after))) Q n
-done_there r c P Q free_P free_Q [] tree after before_apart after_apart few does n y p = (
-  omega (arith, y, few),
-  few,
-  (
-    λ met.
-        leads_on r tree (λ m. Q m × (m.y ≡ c)) (Leads r (bodies_tree after) Q) (compared n.y c n)
-        (λ m h. passed r c Q free_Q after after_apart m h.1 few h.0) (does (compared n.y c n) (free_P n _ _ _ p) y),
-    λ unmet. absurd (eqb-false n.y c unmet y),
-  ),
-)
-done_there r c P Q free_P free_Q (b ∷ before) tree after before_apart after_apart few does n y p =
-    let parts = and_parts (not (nat_eq c b.number) && nat_lt b.number 256) (are_apart c before) before_apart in
-    passed_one r c (Leads r (bodies_tree (before ++ (record { number = c; tree = tree } ∷ after))) Q) b n parts.0 y few
-    (done_there r c P Q free_P free_Q before tree after parts.1 after_apart few does (compared n.y b.number n) y
-    (free_P n _ _ _ p))
+use Rattle.player_wave.proofs.Bodies.{Body, bodies_tree, are_apart, IsFree, passed, done_there}
+use Rattle.player_wave.proofs.WaveDesks.{own_done, done_over, done_as, tempos_stay}
 
 -- ---- the eight
 
@@ -137,15 +74,7 @@ ad_leads : (r : Reader) (look : LookUps) (s : Playing) (handed : HandedOn) (x : 
     Leads r ad_body.tree (λ m. Done r.voice (commanded look 5 x s) handed d m × (m.y ≡ 5)) k
 unfolding wave_command do_command
 ad_leads r look s handed x d k at y = (
-  record {
-    fields = assumption (at.is, at.done.fields);
-    common = at.done.common;
-    tempos = at.done.tempos;
-    handed_on = at.done.handed_on;
-    fetch = assumption at.done.fetch;
-    subtune = at.done.subtune;
-    sid = at.done.sid;
-  },
+  own_done _ _ _ _ _ _ _ refl refl refl (assumption (at.is, at.done.fields)) (assumption at.done.fetch) at.done,
   y,
 )
 
@@ -154,15 +83,7 @@ sr_leads : (r : Reader) (look : LookUps) (s : Playing) (handed : HandedOn) (x : 
     Leads r sr_body.tree (λ m. Done r.voice (commanded look 6 x s) handed d m × (m.y ≡ 6)) k
 unfolding wave_command do_command
 sr_leads r look s handed x d k at y = (
-  record {
-    fields = assumption (at.is, at.done.fields);
-    common = at.done.common;
-    tempos = at.done.tempos;
-    handed_on = at.done.handed_on;
-    fetch = assumption at.done.fetch;
-    subtune = at.done.subtune;
-    sid = at.done.sid;
-  },
+  own_done _ _ _ _ _ _ _ refl refl refl (assumption (at.is, at.done.fields)) (assumption at.done.fetch) at.done,
   y,
 )
 
@@ -171,15 +92,7 @@ wave_leads : (r : Reader) (look : LookUps) (s : Playing) (handed : HandedOn) (x 
     Leads r wave_body.tree (λ m. Done r.voice (commanded look 7 x s) handed d m × (m.y ≡ 7)) k
 unfolding wave_command do_command
 wave_leads r look s handed x d k at y = (
-  record {
-    fields = assumption (at.is, at.done.fields);
-    common = at.done.common;
-    tempos = at.done.tempos;
-    handed_on = at.done.handed_on;
-    fetch = assumption at.done.fetch;
-    subtune = at.done.subtune;
-    sid = at.done.sid;
-  },
+  own_done _ _ _ _ _ _ _ refl refl refl (assumption (at.is, at.done.fields)) (assumption at.done.fetch) at.done,
   y,
 )
 
@@ -188,15 +101,7 @@ pulse_leads : (r : Reader) (look : LookUps) (s : Playing) (handed : HandedOn) (x
     Leads r pulse_body.tree (λ m. Done r.voice (commanded look 9 x s) handed d m × (m.y ≡ 9)) k
 unfolding wave_command do_command
 pulse_leads r look s handed x d k at y = (
-  record {
-    fields = assumption (at.is, at.done.fields);
-    common = at.done.common;
-    tempos = at.done.tempos;
-    handed_on = at.done.handed_on;
-    fetch = assumption at.done.fetch;
-    subtune = at.done.subtune;
-    sid = at.done.sid;
-  },
+  own_done _ _ _ _ _ _ _ refl refl refl (assumption (at.is, at.done.fields)) (assumption at.done.fetch) at.done,
   y,
 )
 
@@ -430,6 +335,6 @@ once_leads r look s handed p c x d m least most small reads y kept done =
     subst (λ q. Reads r (side_place r WAVE_RIGHTS q) x) (sym y) reads in (
       here.found,
       by_command r look s handed c x d
-      (indexed (m.shared WORK_COMMAND) (loaded (r.before (side_place r WAVE_RIGHTS m.y)) m)) least most small kept
-      (record { done = done_over r.voice (moved look s) handed d m _ refl refl refl done; is = here.is }),
+          (indexed (m.shared WORK_COMMAND) (loaded (r.before (side_place r WAVE_RIGHTS m.y)) m)) least most small kept
+          (record { done = done_over r.voice (moved look s) handed d m _ refl refl refl done; is = here.is }),
     )

@@ -22,7 +22,7 @@ use Rattle.player_parts.specs.SharedBlocks.{note_tree}
 use Rattle.player_parts.proofs.Laws.{VoiceDesk, Reader, Leads, leads_on, Done, Reads, NextAt, NotesAt, side_place, next_leads, note_leads}
 use Rattle.player_parts.proofs.Laws.{compared, loaded, summed}
 use Rattle.player_wave.specs.WaveBlock.{moved_tree, delay_tree, waveform_tree, sounds_tree, right_tree, over_tree}
-use Rattle.player_wave.proofs.WaveDesks.{Stepped, done_over, stepped_as}
+use Rattle.player_wave.proofs.WaveDesks.{Stepped, own_done, done_over, stepped_as}
 use Rattle.player_wave.proofs.WaveRows.{row_waits, row_over, row_wave, row_low, with_wave, right_kept, right_note}
 use Rattle.player_wave.proofs.WaveRows.{note_relative, note_own}
 
@@ -43,15 +43,7 @@ moved_leads r look u handed p d m next ptr at =
     (λ a c z n.
     let row : next_row look Wave m.y ≡ next_row look Wave p = ap (next_row look Wave) at.y in
     record {
-      done = record {
-        fields = assumption (row, at.done.fields);
-        common = at.done.common;
-        tempos = at.done.tempos;
-        handed_on = at.done.handed_on;
-        fetch = assumption at.done.fetch;
-        subtune = at.done.subtune;
-        sid = at.done.sid;
-      };
+      done = own_done _ _ _ _ _ _ _ refl refl refl (assumption (row, at.done.fields)) (assumption at.done.fetch) at.done;
       y = at.y;
     })
 
@@ -81,15 +73,7 @@ delay_leads r look row s handed d m low small acc at =
             let more : one_more (m.own WAVE_TIME) ≡ byte_plus s.voice.wave_time 1 =
             ap one_more time ∙ omega arith in
             Waits (stepped_as (wave_row look row s) _ (row_waits look row s low apart) (record {
-              done = record {
-                fields = assumption (more, at.done.fields);
-                common = at.done.common;
-                tempos = at.done.tempos;
-                handed_on = at.done.handed_on;
-                fetch = assumption at.done.fetch;
-                subtune = at.done.subtune;
-                sid = at.done.sid;
-              };
+              done = own_done _ _ _ _ _ _ _ refl refl refl (assumption (more, at.done.fields)) (assumption at.done.fetch) at.done;
               zero = refl;
             }))
             refl (ap (λ w. w.effect) (row_waits look row s low apart)),
@@ -119,15 +103,7 @@ wave_set r look row s handed d m n wave at own shared sid y is =
     Over (with_wave wave s) refl
     (record {
       done = done_over r.voice (with_wave wave s) handed d (record m { own = put m.own WAVE wave }) n own shared sid
-      (record {
-        fields = assumption at.done.fields;
-        common = at.done.common;
-        tempos = at.done.tempos;
-        handed_on = at.done.handed_on;
-        fetch = assumption at.done.fetch;
-        subtune = at.done.subtune;
-        sid = at.done.sid;
-      });
+          (own_done _ _ _ _ _ _ _ refl refl refl (assumption at.done.fields) (assumption at.done.fetch) at.done);
       y = y ∙ at.y;
     })
     is
@@ -178,15 +154,7 @@ masked_leads r u handed n d m notes small is at =
     (loaded (bit_and m.accumulator 0x7F) m) notes (omega (arith, masked, few))
     (λ y c l.
     let over : nat_eq (one_more y) 0 ≡ false = ne_eqb (one_more y) 0 (λ e. omega (arith, e, l)) in record {
-      done = record {
-        fields = assumption (last, halves, at.fields);
-        common = at.common;
-        tempos = at.tempos;
-        handed_on = at.handed_on;
-        fetch = assumption at.fetch;
-        subtune = at.subtune;
-        sid = at.sid;
-      };
+      done = own_done _ _ _ _ _ _ _ refl refl refl (assumption (last, halves, at.fields)) (assumption at.fetch) at;
       zero = over;
     })
   where

@@ -12,7 +12,7 @@ use Rattle.play_model.specs.TickStep.{tempo_of}
 use Rattle.blocks.specs.Desk.{Layout}
 use Rattle.player_parts.specs.declared.labels.TheConstants.{TEMPO}
 use Rattle.player_parts.specs.Holds.{HandedOn, FieldsStand, CommonStands, HandedStands}
-use Rattle.player_parts.proofs.Laws.{VoiceDesk, Reader, Done, RowsAt, NotesAt, handed_in}
+use Rattle.player_parts.proofs.Laws.{VoiceDesk, Reader, Done, SameFetch, RowsAt, NotesAt, handed_in}
 
 -- ---- what it stands on
 
@@ -82,6 +82,20 @@ done_over voice s handed d m n own shared sid done = record {
   tempos = λ its l other. ap (λ bytes. bytes (TEMPO + 7 * its)) shared ∙ done.tempos its l other;
   handed_on = subst (HandedStands handed) (sym shared) done.handed_on;
   fetch = rw own done.fetch;
+  subtune = rw shared done.subtune;
+  sid = sid ∙ done.sid;
+}
+
+-- bytes of the voice are set
+pub own_done : (voice : ℕ) (s u : Playing) (handed : HandedOn) (d m n : VoiceDesk) → n.shared ≡ m.shared →
+    n.sid ≡ m.sid → u.common ≡ s.common → FieldsStand u.voice (tempo_of (voice + 1) s.common) n.own →
+    SameFetch n.own d.own → Done voice s handed d m → Done voice u handed d n
+own_done voice s u handed d m n shared sid same fields fetch done = record {
+  fields = rw same fields;
+  common = rw (same, shared) done.common;
+  tempos = λ its l other. ap (λ bytes. bytes (TEMPO + 7 * its)) shared ∙ (done.tempos its l other ∙ ap (tempo_of (its + 1)) (sym same));
+  handed_on = subst (HandedStands handed) (sym shared) done.handed_on;
+  fetch = fetch;
   subtune = rw shared done.subtune;
   sid = sid ∙ done.sid;
 }

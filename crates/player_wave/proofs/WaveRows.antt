@@ -68,12 +68,6 @@ row_low look row s from to =
     let f : nat_le 0x10 row.left ≡ true = le-leb 0x10 row.left (omega (arith, from)) in
     rw (a, b, c, e, f) refl
 
-pub is_command : (row : TableRow) → 0xF0 ≤ row.left → row.left < 0xFF → is_wave_command row ≡ true
-is_command row from to =
-    let a : nat_le 0xF0 row.left ≡ true = le-leb 0xF0 row.left from in
-    let b : nat_le row.left 0xFE ≡ true = le-leb row.left 0xFE (omega (arith, to)) in
-    rw (a, b) refl
-
 pub row_command : (look : LookUps) (row : TableRow) (s : Playing) → 0xF0 ≤ row.left → row.left < 0xFF →
     wave_row look row s ≡ record {
       playing = program_moved look s.voice.wave_ptr (wave_command look (row.left - 0xF0) row.right s);

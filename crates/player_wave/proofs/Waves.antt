@@ -1,22 +1,23 @@
 -- The whole code of the wave step.
-use Rattle.std.proofs.Common.{◌≡◌, ◌≢◌, ℕ, ◌+◌, ◌-◌, ◌<◌, ◌≤◌, true, false, not, nat_eq, nat_le}
-use Rattle.std.proofs.Common.{bit_xor, [], ◌∷◌, refl, sym, ap, ◌∙◌, subst, arith}
+use Rattle.std.proofs.Common.{◌≡◌, ◌≢◌, ℕ, ◌+◌, ◌-◌, ◌<◌, ◌≤◌, true, false, nat_eq}
+use Rattle.std.proofs.Common.{bit_xor, [], ◌∷◌, refl, ap, ◌∙◌, arith}
 use Rattle.std.proofs.lemmas.Bool.{leb-true, leb-false, not-true, not-false, eqb-true, eqb-false, both_ways}
 use Rattle.song_model.specs.declared.tables.TableRow.{TableRow}
 use Rattle.song_model.specs.declared.tables.TableName.TheVariants.{Wave}
 use Rattle.play_model.specs.LookUps.{LookUps}
 use Rattle.play_model.specs.Ranges.{IsVoice}
-use Rattle.play_model.specs.State.{Voice, Playing}
-use Rattle.play_model.specs.WaveStep.{Waved, wave_step, wave_row}
-use Rattle.blocks.specs.Trees.{Tree, ChainTree, NoneTree, ThenTree, IfTree, WhenTree}
+use Rattle.play_model.specs.State.{Playing}
+use Rattle.play_model.specs.WaveStep.{wave_step, wave_row}
+use Rattle.blocks.specs.Trees.{Tree, ChainTree, NoneTree, ThenTree, IfTree}
 use Rattle.player_parts.specs.Words.{Const, Xor, Less, Is}
 use Rattle.player_parts.specs.declared.labels.TheConstants.{WAVE_POINTER, WAVE_LEFTS, LENT}
 use Rattle.player_parts.specs.Codes.{load_shared}
-use Rattle.player_parts.proofs.Laws.{VoiceDesk, Reader, Leads, leads_on, Done, Reads, RowsAt, NextAt, side_place, handed_in, compared, loaded, indexed}
+use Rattle.player_parts.proofs.Laws.{VoiceDesk, Reader, Leads, leads_on, Done, RowsAt, side_place, handed_in, compared, loaded, indexed}
 use Rattle.player_parts.proofs.Laws.{Rest, voice_in, playing_in, HasLowBytes, done_in}
 use Rattle.player_wave.specs.WaveBlock.{command_tree, command_way_tree, delay_tree, waveform_tree, over_tree, sound_way_tree, wave_tree}
-use Rattle.player_wave.proofs.WaveDesks.{WaveGround, WaveKeeps, Stepped, Lends, Waves, Plain, Lent, done_over, stepped_as}
-use Rattle.player_wave.proofs.WaveRows.{step_none, step_some, row_command, slide_back, is_command}
+use Rattle.player_wave.specs.PartLaws.{is_command}
+use Rattle.player_wave.proofs.WaveDesks.{WaveGround, WaveKeeps, Stepped, Waves, Plain, Lent, done_over, stepped_as}
+use Rattle.player_wave.proofs.WaveRows.{step_none, step_some, row_command, slide_back}
 use Rattle.player_wave.proofs.Sounds.{AtRow, LeftDone, delay_leads, waveform_leads, left_then_over}
 use Rattle.player_wave.proofs.Once.{commanded}
 use Rattle.player_wave.proofs.Commands.{Commanded, AtOnce, Later, command_leads}
@@ -34,8 +35,7 @@ sound_leads r look s d m ground some few time low acc at =
     (Leads r over_tree (Stepped r.voice (wave_row look row s) (handed_in d) d)) m
     (λ k h.
     left_then_over r look row s (handed_in d) d k ground.notes (rows.next refl) rows.this.right low rows.this.bytes.right
-    some few h)
-    (
+    some few h) (
       omega (arith, acc, low),
       omega arith,
       (

@@ -14,14 +14,16 @@ pub commands_unused : CoversUnused WaveCommand MeetsNoCommand
 commands_unused visit unused = unused
 
 -- a left side from $F0 to $FE is a command
-is_command : (row : TableRow) (left : ℕ) → left ≡ row.left → 0xF0 ≤ left → left < 0xFF → is_wave_command row ≡ true
-is_command row left e from to =
-    let low : nat_le 0xF0 row.left ≡ true = le-leb 0xF0 row.left (omega (arith, e, from)) in
-    let high : nat_le row.left 0xFE ≡ true = le-leb row.left 0xFE (omega (arith, e, to)) in
+pub is_command : (row : TableRow) → 0xF0 ≤ row.left → row.left < 0xFF → is_wave_command row ≡ true
+is_command row from to =
+    let low : nat_le 0xF0 row.left ≡ true = le-leb 0xF0 row.left from in
+    let high : nat_le row.left 0xFE ≡ true = le-leb row.left 0xFE (omega (arith, to)) in
     rw (low, high) refl
 
 pub commands_leave : LeavesAll command_tree MeetsNoCommand IsAtCommand
 commands_leave visit desk laid few clear comes =
+    let left = comes.left in
+    let from = comes.from in
     let to = comes.to in
     absurd (clear (record {
       channel = visit.voice + 1;
@@ -33,7 +35,7 @@ commands_leave visit desk laid few clear comes =
           program = comes.program;
           row_is = refl;
           is_command =
-              is_command ((visit_turn visit).look.row Wave desk.y) desk.accumulator comes.left comes.from (omega (arith, to));
+              is_command ((visit_turn visit).look.row Wave desk.y) (omega (arith, left, from)) (omega (arith, left, to));
         },
       );
     }))

@@ -101,7 +101,11 @@ fn once(alloc: Global) -> Result<Block, NoMemory>
     let filter = on(
         alloc,
         0x0a,
-        &[store_shared(FILTER_POINTER), zero, store_shared(FILTER_TIME)],
+        &[
+            store_shared(FILTER_POINTER),
+            zero,
+            store_shared(FILTER_TIME),
+        ],
     )?;
     let control = control(alloc)?;
     let cutoff = on(alloc, 0x0c, &[store_shared(CUTOFF)])?;

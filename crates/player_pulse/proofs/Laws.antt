@@ -1,0 +1,4 @@
+-- The lemmas that upper crates may cite, and the words that they are said in.
+
+-- what the code of the pulse step stands on
+pub use Rattle.player_pulse.proofs.PulseDesks.{PulseGround, PulseKeeps}

@@ -1,0 +1,9 @@
+-- What upper crates may cite.
+pub mod Laws
+-- What the code of the pulse step stands on.
+pub mod PulseDesks
+-- The cases of the rule, and its numbers.
+mod PulseRows
+mod Widths
+-- A frame that moves the width.
+mod Slides
