@@ -1,10 +1,12 @@
+-- What upper crates may cite.
+pub mod Laws
 -- The blocks are sound.
 mod Soundness
 -- The memory that a subtune begins with.
 mod Cleared
 mod Started
 mod StartStates
-mod Beginning
+pub mod Beginning
 -- The way from a place of an orderlist to its next play, and the repeats on it.
 mod Ways
 mod Repeats
@@ -23,6 +25,6 @@ mod Rows
 mod Patterns
 -- The whole block that fetches a row.
 mod Fetching
-mod FetchLaws
+pub mod FetchLaws
 -- Where the walk comes to its parts.
 mod PartPlaces
