@@ -4,5 +4,6 @@ pub mod Laws
 pub mod Sounding
 -- A voice at its step.
 pub mod Scenes
+pub mod Kept
 pub mod Stages
 pub mod WaveStage
