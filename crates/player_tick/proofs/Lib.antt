@@ -1,1 +1,4 @@
--- What upper crates may cite.
+-- The desk of a voice in its tick step.
+pub mod TickDesks
+-- At a row: the gateoff timer, the note that starts, the command.
+pub mod NoteStarts
