@@ -2,3 +2,5 @@
 pub mod TickDesks
 -- At a row: the gateoff timer, the note that starts, the command.
 pub mod NoteStarts
+pub mod RunningCommands
+pub mod OnceCommands
