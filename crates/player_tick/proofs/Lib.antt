@@ -4,3 +4,4 @@ pub mod TickDesks
 pub mod NoteStarts
 pub mod RunningCommands
 pub mod OnceCommands
+pub mod TempoCommands

@@ -70,7 +70,7 @@ is_there bit x y kept left = absurd (true≢false (sym kept ∙ left))
 -- ---- the voice's bytes
 
 -- the parameter is that of the row
-param_is : (voice : ℕ) (s : Playing) (handed : HandedOn) (d m : VoiceDesk) (p : ℕ) → d.own NEW_PARAM ≡ p →
+pub param_is : (voice : ℕ) (s : Playing) (handed : HandedOn) (d m : VoiceDesk) (p : ℕ) → d.own NEW_PARAM ≡ p →
     Done voice s handed d m → m.own NEW_PARAM ≡ p
 param_is voice s handed d m p e at = at.fetch.new_param ∙ e
 
