@@ -5,3 +5,4 @@ pub mod NoteStarts
 pub mod RunningCommands
 pub mod OnceCommands
 pub mod TempoCommands
+pub mod RowCommanded

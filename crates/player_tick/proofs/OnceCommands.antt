@@ -20,15 +20,17 @@ use Rattle.player_tick.proofs.TickDesks.{Ticking, ticking_as, tempos_kept}
 -- ---- a part
 
 -- what is done for one command
-abbrev pub after : ℕ → ℕ → (Playing → Playing) → Playing → Playing
+unfoldable pub after : ℕ → ℕ → (Playing → Playing) → Playing → Playing
 after command c rule s = if nat_eq c command then rule s else s
 
-after_none : (command c : ℕ) (rule : Playing → Playing) (s : Playing) → nat_eq c command ≡ false →
+pub after_none : (command c : ℕ) (rule : Playing → Playing) (s : Playing) → nat_eq c command ≡ false →
     s ≡ after command c rule s
+unfolding after
 after_none command c rule s e = rw e refl
 
 after_some : (command c : ℕ) (rule : Playing → Playing) (s : Playing) → nat_eq c command ≡ true →
     rule s ≡ after command c rule s
+unfolding after
 after_some command c rule s e = rw e refl
 
 -- Y is the row's command. Where the part isn't kept, its rule changes nothing.

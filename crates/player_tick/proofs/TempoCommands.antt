@@ -230,9 +230,6 @@ values_some look p s e = rw e refl
 value_is : (byte side : ℕ) → byte ≡ side → (byte + 254 + 1) % 256 ≡ (side + 256 - 1) % 256
 value_is byte side e = rw e (omega arith)
 
-sides_read : (r : Reader) (look : LookUps) (p y : ℕ) → SidesAt r look Speed p → y ≡ p → SidesAt r look Speed y
-sides_read r look p y sides e = rw e sides
-
 values_lead : (r : Reader) (look : LookUps) (p : ℕ) (s : Playing) (handed : HandedOn) (d m : VoiceDesk) →
     SidesAt r look Speed p → m.y ≡ p → Done r.voice s handed d m →
     Leads r funk_values_tree
