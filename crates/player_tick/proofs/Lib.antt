@@ -6,3 +6,4 @@ pub mod RunningCommands
 pub mod OnceCommands
 pub mod TempoCommands
 pub mod RowCommanded
+pub mod Ticks

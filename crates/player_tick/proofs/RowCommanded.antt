@@ -21,7 +21,7 @@ use Rattle.player_tick.specs.RowCommands.{ad_set_tree, sr_set_tree, wave_set_tre
 use Rattle.player_tick.specs.RowCommands.{pulse_pointer_set_tree, filter_pointer_set_tree, filter_control_set_tree}
 use Rattle.player_tick.specs.RowCommands.{cutoff_set_tree, volume_set_tree, funk_choice_tree, tempo_set_tree, funk_set_tree}
 use Rattle.player_tick.specs.RowCommands.{voice_commands_tree, filter_commands_tree, tempo_commands_tree, once_tree}
-use Rattle.player_tick.specs.RowCommands.{command_tree}
+use Rattle.player_tick.specs.RowCommands.{running_tree, command_tree}
 use Rattle.player_tick.proofs.TickDesks.{Ticking, cleared, ticking_as}
 use Rattle.player_tick.proofs.RunningCommands.{running_leads}
 use Rattle.player_tick.proofs.OnceCommands.{after, after_none, part_leads, is_there, wave_pointer_set, ad_leads, sr_leads, wave_leads}
@@ -241,3 +241,117 @@ filter_commands_lead r c p s handed d m few small e keeps at =
         (omega arith) (λ n h. h) (λ left is. is_there (r.layout.is_kept 16) _ _ (keeps.filter_pointer is) left)
         (λ n is h. filter_pointer_leads r c p s handed d n e h) h)
 
+pub tempo_commands_lead : (r : Reader) (look : LookUps) (c p : ℕ) (s : Playing) (handed : HandedOn) (d m : VoiceDesk) →
+    r.voice < 3 → c < 256 → p < 256 → d.own NEW_PARAM ≡ p → CommandKeeps r.layout c p →
+    (c ≡ 0xE → p ≢ 0 → SidesAt r look Speed p) → Ticking c r.voice s handed d m →
+    Leads r tempo_commands_tree (Done r.voice (tempos_done (r.voice + 1) look c p s) handed d) m
+tempo_commands_lead r look c p s handed d m voice few small e keeps sides at =
+    leads_on r (WhenTree 20 funk_chosen_tree) (Ticking c r.voice chosen handed d)
+    (Leads r (ThenTree (WhenTree 21 tempo_tree) (ThenTree (WhenTree 20 funk_tree) NoneTree)) Goal) m from_chosen
+    (part_leads r 20 0xF funk_choice_tree c (funk_chosen p) s handed d m (λ x. Ticking c r.voice x handed d) few
+    (omega arith) (λ n h. h) not_chosen (λ n is h. funk_choice_leads r c p s handed d n voice small e h) at)
+  where
+    chosen : Playing
+    chosen = after 0xF c (funk_chosen p) s
+
+    long : Playing
+    long = after 0xF c (length_set (r.voice + 1) p) chosen
+
+    Goal : VoiceDesk → Type 0
+    Goal = Done r.voice (after 0xE c (funk_tempos look p) long) handed d
+
+    not_chosen : r.layout.is_kept 20 ≡ false → c ≡ 0xF → s ≡ funk_chosen p s
+    not_chosen left is =
+        elim (cases_lt p 2) [
+          | inl short ↦
+              let l = short in
+              is_there (r.layout.is_kept 20) _ _ (keeps.funk_chosen is (omega (arith, l))) left
+          | inr other ↦
+              let l = other in
+              chosen_same p s (lt-leb p 1 (omega (arith, l)))
+        ]
+
+    no_length : r.layout.is_kept 21 ≡ false → c ≡ 0xF → chosen ≡ length_set (r.voice + 1) p chosen
+    no_length left is =
+        elim (cases_lt (p % 128) 3) [
+          | inl short ↦ length_same (r.voice + 1) p chosen small short
+          | inr other ↦ is_there (r.layout.is_kept 21) _ _ (keeps.length is other) left
+        ]
+
+    from_length : (n : VoiceDesk) → Ticking c r.voice long handed d n → Leads r (WhenTree 20 funk_tree) Goal n
+    from_length n h =
+        part_leads r 20 0xE funk_set_tree c (funk_tempos look p) long handed d n (λ x. Done r.voice x handed d) few
+        (omega arith) (λ n h. h.done) (λ left is. is_there (r.layout.is_kept 20) _ _ (keeps.funk is) left)
+        (λ n is h. funk_leads r look p long handed d n voice e (sides is) h.done) h
+
+    from_chosen : (n : VoiceDesk) → Ticking c r.voice chosen handed d n →
+        Leads r (ThenTree (WhenTree 21 tempo_tree) (ThenTree (WhenTree 20 funk_tree) NoneTree)) Goal n
+    from_chosen n h =
+        leads_on r (WhenTree 21 tempo_tree) (Ticking c r.voice long handed d)
+        (Leads r (ThenTree (WhenTree 20 funk_tree) NoneTree) Goal) n from_length
+        (part_leads r 21 0xF tempo_set_tree c (length_set (r.voice + 1) p) chosen handed d n
+        (λ x. Ticking c r.voice x handed d) few (omega arith) (λ n h. h) no_length
+        (λ n is h. length_leads r c p chosen handed d n voice small e h) h)
+
+-- ---- a command that is done once
+
+once_leads : (r : Reader) (look : LookUps) (i : Instrument) (c p : ℕ) (u : Playing) (handed : HandedOn)
+    (d m : VoiceDesk) → r.voice < 3 → 5 ≤ c → c < 256 → p < 256 → d.own NEW_PARAM ≡ p → CommandKeeps r.layout c p →
+    (c ≡ 0xE → p ≢ 0 → SidesAt r look Speed p) → m.accumulator ≡ c → Done r.voice (cleared u) handed d m →
+    Leads r once_tree (Done r.voice (cleared (row_command (r.voice + 1) look i c p u)) handed d) m
+once_leads r look i c p u handed d m voice from few small e keeps sides acc at =
+    leads_on r voice_commands_tree (Ticking c r.voice first handed d)
+    (Leads r (ThenTree filter_commands_tree (ThenTree tempo_commands_tree NoneTree)) Goal) (indexed m.accumulator m)
+    from_voice
+    (voice_commands_lead r c p (cleared u) handed d (indexed m.accumulator m) few small e keeps
+    (record { done = assumption at; y_is = acc }))
+  where
+    first : Playing
+    first = voice_done c p (cleared u)
+
+    second : Playing
+    second = filter_done c p first
+
+    Goal : VoiceDesk → Type 0
+    Goal = Done r.voice (cleared (row_command (r.voice + 1) look i c p u)) handed d
+
+    from_filter : (n : VoiceDesk) → Ticking c r.voice second handed d n → Leads r tempo_commands_tree Goal n
+    from_filter n h =
+        subst (λ x. Leads r tempo_commands_tree (Done r.voice x handed d) n) (once_is (r.voice + 1) look i c p u from)
+        (tempo_commands_lead r look c p second handed d n voice few small e keeps sides h)
+
+    from_voice : (n : VoiceDesk) → Ticking c r.voice first handed d n →
+        Leads r (ThenTree filter_commands_tree (ThenTree tempo_commands_tree NoneTree)) Goal n
+    from_voice n h =
+        leads_on r filter_commands_tree (Ticking c r.voice second handed d)
+        (Leads r (ThenTree tempo_commands_tree NoneTree) Goal) n from_filter
+        (filter_commands_lead r c p first handed d n few small e keeps h)
+
+-- ---- the whole
+
+pub command_leads : (r : Reader) (look : LookUps) (number c p : ℕ) (u : Playing) (handed : HandedOn)
+    (d m : VoiceDesk) → r.voice < 3 → c < 256 → p < 256 → InstrumentAt r look number → CommandKeeps r.layout c p →
+    (c ≡ 0xE → p ≢ 0 → SidesAt r look Speed p) → u.voice.new_command ≡ c → u.voice.new_param ≡ p →
+    Ticking number r.voice (cleared u) handed d m →
+    Leads r command_tree
+    (Done r.voice (cleared (row_command (r.voice + 1) look (look.instrument number) c p u)) handed d) m
+command_leads r look number c p u handed d m voice few small ground keeps sides row_command_is row_param at =
+    let command = at.done.fields.new_command ∙ row_command_is in
+    let n = compared (m.own NEW_COMMAND) 5 (loaded (m.own NEW_COMMAND) m) in (
+      omega (arith, command, few),
+      omega arith,
+      (
+        λ met.
+            let below : m.own NEW_COMMAND < 5 = leb-false 5 (m.own NEW_COMMAND) (not-true _ met) in
+            leads_on r running_tree
+            (Ticking number r.voice
+            (cleared (row_command (r.voice + 1) look (look.instrument number) c p u)) handed d) _ n (λ o h. h.done)
+            (running_leads r look number (r.voice + 1) c p u handed d n ground (omega (arith, command, below)) command
+            row_param (record { done = assumption at.done; y_is = at.y_is })),
+        λ unmet.
+            let above : 5 ≤ m.own NEW_COMMAND = leb-true 5 (m.own NEW_COMMAND) (not-false _ unmet) in
+            once_leads r look (look.instrument number) c p u handed d n voice (omega (arith, command, above)) few small
+            (sym at.done.fetch.new_param ∙ (at.done.fields.new_param ∙ row_param)) keeps sides command
+            (assumption at.done),
+      ),
+    )

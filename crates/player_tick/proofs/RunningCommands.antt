@@ -32,17 +32,15 @@ unfolding row_command
 row_runs channel look i c param u some high low = rw (some, high, low) refl
 
 -- A is the command, and Y the instrument
-pub running_leads : (r : Reader) (look : LookUps) (number channel : ℕ) (u : Playing) (handed : HandedOn)
-    (d m : VoiceDesk) → InstrumentAt r look number → u.voice.new_command < 5 → m.accumulator ≡ u.voice.new_command →
+pub running_leads : (r : Reader) (look : LookUps) (number channel c p : ℕ) (u : Playing) (handed : HandedOn)
+    (d m : VoiceDesk) → InstrumentAt r look number → c < 5 → m.accumulator ≡ c → u.voice.new_param ≡ p →
     Ticking number r.voice (cleared u) handed d m →
     Leads r running_tree
-    (Ticking number r.voice
-    (cleared
-    (row_command channel look (look.instrument number) u.voice.new_command u.voice.new_param u)) handed d) m
-running_leads r look number channel u handed d m ground few acc at =
+    (Ticking number r.voice (cleared (row_command channel look (look.instrument number) c p u)) handed d) m
+running_leads r look number channel c p u handed d m ground few acc row_param at =
     let vibrato = field_reads r look number m.y 5 ground at.y_is (omega arith) in
     let vibrato_is = vibrato.is in
-    let param = at.done.fields.new_param in (
+    let param = at.done.fields.new_param ∙ row_param in (
       omega (arith, acc, few),
       omega arith,
       (
@@ -110,9 +108,3 @@ running_leads r look number channel u handed d m ground few acc at =
   where
     i : Instrument
     i = look.instrument number
-
-    c : ℕ
-    c = u.voice.new_command
-
-    p : ℕ
-    p = u.voice.new_param
