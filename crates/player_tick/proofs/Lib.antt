@@ -1,9 +1,16 @@
+-- What upper crates may cite.
+pub mod Laws
 -- The desk of a voice in its tick step.
-pub mod TickDesks
--- At a row: the gateoff timer, the note that starts, the command.
-pub mod NoteStarts
-pub mod RunningCommands
-pub mod OnceCommands
-pub mod TempoCommands
-pub mod RowCommanded
-pub mod Ticks
+mod TickDesks
+-- At a row: the gateoff timer and the note that starts.
+mod NoteStarts
+-- The row's command: those that run, those that are done once, the tempos, and all of them.
+mod RunningCommands
+mod OnceCommands
+mod TempoCommands
+mod RowCommanded
+-- What is done at a row, and between rows.
+mod Ticks
+mod Between
+-- The whole block.
+mod TickLeads
