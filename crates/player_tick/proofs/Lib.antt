@@ -1,1 +1,16 @@
 -- What upper crates may cite.
+pub mod Laws
+-- The desk of a voice in its tick step.
+mod TickDesks
+-- At a row: the gateoff timer and the note that starts.
+mod NoteStarts
+-- The row's command: those that run, those that are done once, the tempos, and all of them.
+mod RunningCommands
+mod OnceCommands
+mod TempoCommands
+mod RowCommanded
+-- What is done at a row, and between rows.
+mod Ticks
+mod Between
+-- The whole block.
+mod TickLeads

@@ -13,10 +13,12 @@ use Rattle.player_tick.specs.RowCommands.{command_tree}
 -- ---- between rows
 
 -- A is the tempo; 0 and 1 take the two funk values in turn
+abbrev pub funk_turned_tree : Tree
+funk_turned_tree =
+    ChainTree (store_y ∷ Xor (Const 1) ∷ store_own TEMPO ∷ load_entry FUNK_ONE ∷ store_own TICK ∷ [])
+
 abbrev pub funk_turn_tree : Tree
-funk_turn_tree =
-    IfTree [] (Is (Less (Const 2)))
-    (ChainTree (store_y ∷ Xor (Const 1) ∷ store_own TEMPO ∷ load_entry FUNK_ONE ∷ store_own TICK ∷ [])) NoneTree
+funk_turn_tree = IfTree [] (Is (Less (Const 2))) funk_turned_tree NoneTree
 
 -- a row's length is loaded; what follows shows that the byte isn't zero, so that no note has started
 abbrev pub reload_tree : Tree

@@ -1,0 +1,176 @@
+-- The desk of a voice in its tick step, from one piece of the code to the next.
+use Rattle.std.proofs.Common.{◌≡◌, ◌≢◌, ℕ, zero, suc, ◌+◌, ◌*◌, ◌%◌, ◌<◌, Bool, true, false, nat_eq, bit_and, if◌then◌else◌}
+use Rattle.std.proofs.Common.{refl, sym, ap, ◌∙◌, subst, arith}
+use Rattle.std.proofs.lemmas.Bool.{agree_below_at, eqb-true}
+use Rattle.code_runs.specs.Runs.{put}
+use Rattle.song_model.specs.declared.instruments.Instrument.{Instrument}
+use Rattle.play_model.specs.LookUps.{LookUps}
+use Rattle.play_model.specs.State.{Voice, Common, Playing}
+use Rattle.play_model.specs.TickStep.{tempo_of, with_tempo, with_all_tempos}
+use Rattle.player_parts.specs.declared.labels.TheConstants.{TEMPO, INSTRUMENTS}
+use Rattle.player_parts.specs.PlayerLists.{instrument_byte}
+use Rattle.player_parts.specs.Holds.{HandedOn}
+use Rattle.player_parts.proofs.VoiceDesks.{with_tempo as with_its_tempo}
+use Rattle.player_parts.proofs.Laws.{VoiceDesk, Reader, Done, Reads, side_place, InstrumentAt}
+
+-- a desk on which a voice and what the voices share stand, with a number in Y
+pub record Ticking (y voice : ℕ) (s : Playing) (handed : HandedOn) (d m : VoiceDesk) : Type 0 where
+  pub done : Done voice s handed d m
+  pub y_is : m.y ≡ y
+
+-- the note that waits is used up
+abbrev pub cleared : Playing → Playing
+cleared s = record s { voice = record s.voice { new_note = 0 } }
+
+-- the same on a desk with other registers
+pub done_shown : (voice : ℕ) (s : Playing) (handed : HandedOn) (d m : VoiceDesk) (a y : ℕ) (c z n : Bool) →
+    Done voice s handed d m →
+    Done voice s handed d (record m { accumulator = a; y = y; carry = c; zero = z; minus = n })
+done_shown voice s handed d m a y c z n at = assumption at
+
+-- and of the same voice, said in another way
+pub ticking_as : (y voice : ℕ) (s u : Playing) (handed : HandedOn) (d m : VoiceDesk) → s ≡ u →
+    Ticking y voice s handed d m → Ticking y voice u handed d m
+ticking_as y voice s u handed d m e at = subst (λ x. Ticking y voice x handed d m) e at
+
+-- ---- tempos of other voices
+
+-- another byte is stored
+pub tempos_kept : (voice label byte : ℕ) (shared tempo : ℕ → ℕ) → nat_eq TEMPO label ≡ false →
+    nat_eq (TEMPO + 7) label ≡ false → nat_eq (TEMPO + 14) label ≡ false →
+    ((its : ℕ) → its < 3 → its ≢ voice → shared (TEMPO + 7 * its) ≡ tempo its) → (its : ℕ) → its < 3 → its ≢ voice →
+    put shared label byte (TEMPO + 7 * its) ≡ tempo its
+tempos_kept voice label byte shared tempo one two three kept zero l other = rw one (kept 0 l other)
+tempos_kept voice label byte shared tempo one two three kept (suc zero) l other = rw two (kept 1 l other)
+tempos_kept voice label byte shared tempo one two three kept (suc (suc zero)) l other = rw three (kept 2 l other)
+tempos_kept voice label byte shared tempo one two three kept (suc (suc (suc its))) l other = absurd (omega (arith, l))
+
+-- the voice's own tempo is stored
+pub own_tempo_set : (voice : ℕ) (s : Playing) (handed : HandedOn) (d m : VoiceDesk) (tempo : ℕ) → voice < 3 →
+    Done voice s handed d m →
+    Done voice (record s { common = with_tempo (voice + 1) tempo s.common }) handed d
+    (record m { own = put m.own TEMPO tempo })
+own_tempo_set zero s handed d m tempo few at = record {
+  fields = assumption at.fields;
+  common = assumption at.common;
+  tempos = tempos;
+  handed_on = at.handed_on;
+  fetch = assumption at.fetch;
+  subtune = at.subtune;
+  sid = at.sid;
+}
+  where
+    tempos : (its : ℕ) → its < 3 → its ≢ 0 →
+        m.shared (TEMPO + 7 * its) ≡ tempo_of (its + 1) (with_tempo 1 tempo s.common)
+    tempos zero l other = absurd (other refl)
+    tempos (suc zero) l other = at.tempos 1 l other
+    tempos (suc (suc zero)) l other = at.tempos 2 l other
+    tempos (suc (suc (suc its))) l other = absurd (omega (arith, l))
+own_tempo_set (suc zero) s handed d m tempo few at = record {
+  fields = assumption at.fields;
+  common = assumption at.common;
+  tempos = tempos;
+  handed_on = at.handed_on;
+  fetch = assumption at.fetch;
+  subtune = at.subtune;
+  sid = at.sid;
+}
+  where
+    tempos : (its : ℕ) → its < 3 → its ≢ 1 →
+        m.shared (TEMPO + 7 * its) ≡ tempo_of (its + 1) (with_tempo 2 tempo s.common)
+    tempos zero l other = at.tempos 0 l other
+    tempos (suc zero) l other = absurd (other refl)
+    tempos (suc (suc zero)) l other = at.tempos 2 l other
+    tempos (suc (suc (suc its))) l other = absurd (omega (arith, l))
+own_tempo_set (suc (suc zero)) s handed d m tempo few at = record {
+  fields = assumption at.fields;
+  common = assumption at.common;
+  tempos = tempos;
+  handed_on = at.handed_on;
+  fetch = assumption at.fetch;
+  subtune = at.subtune;
+  sid = at.sid;
+}
+  where
+    tempos : (its : ℕ) → its < 3 → its ≢ 2 →
+        m.shared (TEMPO + 7 * its) ≡ tempo_of (its + 1) (with_tempo 3 tempo s.common)
+    tempos zero l other = at.tempos 0 l other
+    tempos (suc zero) l other = at.tempos 1 l other
+    tempos (suc (suc zero)) l other = absurd (other refl)
+    tempos (suc (suc (suc its))) l other = absurd (omega (arith, l))
+own_tempo_set (suc (suc (suc voice))) s handed d m tempo few at = absurd (omega (arith, few))
+
+-- the three tempos are stored
+abbrev pub with_tempos : ℕ → ℕ → VoiceDesk → VoiceDesk
+with_tempos voice tempo m =
+    with_its_tempo voice (TEMPO + 14) tempo (with_its_tempo voice (TEMPO + 7) tempo (with_its_tempo voice TEMPO tempo m))
+
+pub all_tempos_set : (voice : ℕ) (s : Playing) (handed : HandedOn) (d m : VoiceDesk) (tempo : ℕ) → voice < 3 →
+    Done voice s handed d m →
+    Done voice (record s { common = with_all_tempos tempo s.common }) handed d (with_tempos voice tempo m)
+all_tempos_set zero s handed d m tempo few at = record {
+  fields = assumption at.fields;
+  common = assumption at.common;
+  tempos = tempos;
+  handed_on = assumption at.handed_on;
+  fetch = assumption at.fetch;
+  subtune = at.subtune;
+  sid = at.sid;
+}
+  where
+    tempos : (its : ℕ) → its < 3 → its ≢ 0 →
+        (with_tempos 0 tempo m).shared (TEMPO + 7 * its) ≡ tempo_of (its + 1) (with_all_tempos tempo s.common)
+    tempos zero l other = absurd (other refl)
+    tempos (suc zero) l other = refl
+    tempos (suc (suc zero)) l other = refl
+    tempos (suc (suc (suc its))) l other = absurd (omega (arith, l))
+all_tempos_set (suc zero) s handed d m tempo few at = record {
+  fields = assumption at.fields;
+  common = assumption at.common;
+  tempos = tempos;
+  handed_on = assumption at.handed_on;
+  fetch = assumption at.fetch;
+  subtune = at.subtune;
+  sid = at.sid;
+}
+  where
+    tempos : (its : ℕ) → its < 3 → its ≢ 1 →
+        (with_tempos 1 tempo m).shared (TEMPO + 7 * its) ≡ tempo_of (its + 1) (with_all_tempos tempo s.common)
+    tempos zero l other = refl
+    tempos (suc zero) l other = absurd (other refl)
+    tempos (suc (suc zero)) l other = refl
+    tempos (suc (suc (suc its))) l other = absurd (omega (arith, l))
+all_tempos_set (suc (suc zero)) s handed d m tempo few at = record {
+  fields = assumption at.fields;
+  common = assumption at.common;
+  tempos = tempos;
+  handed_on = assumption at.handed_on;
+  fetch = assumption at.fetch;
+  subtune = at.subtune;
+  sid = at.sid;
+}
+  where
+    tempos : (its : ℕ) → its < 3 → its ≢ 2 →
+        (with_tempos 2 tempo m).shared (TEMPO + 7 * its) ≡ tempo_of (its + 1) (with_all_tempos tempo s.common)
+    tempos zero l other = refl
+    tempos (suc zero) l other = refl
+    tempos (suc (suc zero)) l other = absurd (other refl)
+    tempos (suc (suc (suc its))) l other = absurd (omega (arith, l))
+all_tempos_set (suc (suc (suc voice))) s handed d m tempo few at = absurd (omega (arith, few))
+
+-- ---- what is read
+
+-- a byte of the instrument, where Y is its number
+pub field_reads : (r : Reader) (look : LookUps) (i y field : ℕ) → InstrumentAt r look i → y ≡ i → field < 9 →
+    Reads r (side_place r (INSTRUMENTS + field) y) (instrument_byte field (look.instrument i))
+field_reads r look i y field ground e below = rw e (ground.each field below)
+
+-- ---- numbers
+
+pub low_six : (n : ℕ) → n < 256 → bit_and n 0x3F ≡ n % 64
+low_six n l =
+    eqb-true _ _ (agree_below_at (λ n. nat_eq (bit_and n 0x3F) (n % 64)) (λ _. true) 256 n refl l)
+
+pub low_seven : (n : ℕ) → n < 256 → bit_and n 0x7F ≡ n % 128
+low_seven n l =
+    eqb-true _ _ (agree_below_at (λ n. nat_eq (bit_and n 0x7F) (n % 128)) (λ _. true) 256 n refl l)
