@@ -8,3 +8,4 @@ mod EffectDesks
 mod Commands
 -- The speed.
 mod RowSpeeds
+mod Shifts
