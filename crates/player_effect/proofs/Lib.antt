@@ -9,3 +9,5 @@ mod Commands
 -- The speed.
 mod RowSpeeds
 mod Shifts
+-- The way to a note.
+mod Tones

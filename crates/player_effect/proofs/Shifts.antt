@@ -131,7 +131,7 @@ shift_leads r Q first m delay time command wanted word at acc small speed most d
 capped : (n : ℕ) → min 65535 n < 65536
 capped n = grind arith
 
-frequency_small : (n : ℕ) → freq n < 65536
+pub frequency_small : (n : ℕ) → freq n < 65536
 unfolding freq
 frequency_small n = by_note (nat_lt n 96) refl
   where
@@ -139,7 +139,7 @@ frequency_small n = by_note (nat_lt n 96) refl
     by_note true e = rw e (capped _)
     by_note false e = rw e (omega arith)
 
-no_frequency : (n : ℕ) → 96 ≤ n → freq n ≡ 0
+pub no_frequency : (n : ℕ) → 96 ≤ n → freq n ≡ 0
 unfolding freq
 no_frequency n from = let test = le-ltb n 96 from in rw test refl
 
