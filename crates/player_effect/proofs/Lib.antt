@@ -11,3 +11,5 @@ mod RowSpeeds
 mod Shifts
 -- The way to a note.
 mod Tones
+-- The move.
+mod Moves
