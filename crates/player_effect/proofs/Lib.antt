@@ -13,3 +13,4 @@ mod Shifts
 mod Tones
 -- The move.
 mod Moves
+mod Slides

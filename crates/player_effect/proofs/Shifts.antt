@@ -143,7 +143,7 @@ pub no_frequency : (n : ℕ) → 96 ≤ n → freq n ≡ 0
 unfolding freq
 no_frequency n from = let test = le-ltb n 96 from in rw test refl
 
-half_tone_small : (n : ℕ) → half_tone n < 65536
+pub half_tone_small : (n : ℕ) → half_tone n < 65536
 unfolding half_tone
 half_tone_small n = omega arith
 
