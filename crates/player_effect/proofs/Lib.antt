@@ -14,3 +14,8 @@ mod Tones
 -- The move.
 mod Moves
 mod Slides
+-- The rule, case by case.
+mod Rules
+-- The whole.
+mod Effects
+mod Backs

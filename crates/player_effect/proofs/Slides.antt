@@ -5,7 +5,7 @@ use Rattle.std.proofs.lemmas.Bool.{cases_lt, lt-ltb, le-ltb}
 use Rattle.std.proofs.lemmas.Nat.{shr_le}
 use Rattle.play_model.specs.LookUps.{LookUps}
 use Rattle.play_model.specs.Wrap.{freq_plus, freq_minus, distance}
-use Rattle.play_model.specs.Freq.{freq, half_tone}
+use Rattle.play_model.specs.Freq.{freq, half_tone, slide}
 use Rattle.song_model.specs.declared.tables.TableRow.{TableRow}
 use Rattle.song_model.specs.declared.tables.TableName.TheVariants.{Speed}
 use Rattle.blocks.specs.Trees.{Tree, NoneTree, ThenTree, WhenTree}
@@ -156,3 +156,116 @@ goes_towards r Q first m delay time speed word notes at has fast halves wide som
     small kept
     (λ n turns held.
     tone_moves r (Leads r NoneTree Q) first n delay time speed word notes turns held fast halves small tones _ _ refl refl))
+
+-- ---- from the row on
+
+-- a slide
+pub slide_begins : (r : Reader) (look : LookUps) (Q : VoiceDesk → Type 0) (first m : VoiceDesk)
+    (delay time command : ℕ) → Works first m delay time command → m.accumulator ≡ command → command < 4 → NotesAt r →
+    SidesAt r look Speed (first.own PARAM) →
+    (128 ≤ (look.row Speed (first.own PARAM)).left → r.layout.is_kept 8 ≡ true) → first.own LAST_NOTE < 128 →
+    ((k : VoiceDesk) → Works first k delay time command →
+    HasSpeed k (slide look (first.own PARAM) (first.own LAST_NOTE)) → Leads r turned_tree Q k) →
+    Leads r slide_tree Q m
+unfolding slide
+slide_begins r look Q first m delay time command at acc below notes sides kept last done =
+    row_leads r look (Leads r (ThenTree (WhenTree 8 note_dependent_tree) turned_tree) Q) first m delay time command at acc
+    below sides
+    (λ k works y low high.
+    speed_leads r look (Leads r turned_tree Q) first k delay time command (look.row Speed (first.own PARAM)).left works
+    notes y sides kept low high last done)
+
+slide_small : (r : Reader) (look : LookUps) (p last : ℕ) → SidesAt r look Speed p → slide look p last < 65536
+unfolding slide
+slide_small r look p last sides = speed_small (look.row Speed p).left (look.row Speed p) last sides.bytes.left sides.bytes.right
+
+pub up_slides : (r : Reader) (look : LookUps) (Q : VoiceDesk → Type 0) (first m : VoiceDesk) (delay time word : ℕ) →
+    Works first m delay time 1 → m.accumulator ≡ 1 → NotesAt r → SidesAt r look Speed (first.own PARAM) →
+    (128 ≤ (look.row Speed (first.own PARAM)).left → r.layout.is_kept 8 ≡ true) → first.own LAST_NOTE < 128 →
+    AreHalves (first.own FREQ_LOW) (first.own FREQ_HIGH) word →
+    ((k : VoiceDesk) →
+    Ends first k delay time (freq_plus word (slide look (first.own PARAM) (first.own LAST_NOTE))) (first.own LAST_NOTE) →
+    Q k) →
+    Leads r slide_tree Q m
+up_slides r look Q first m delay time word at acc notes sides kept last halves done =
+    slide_begins r look Q first m delay time 1 at acc (omega arith) notes sides kept last
+    (λ k works has.
+    goes_up r Q first k delay time (slide look (first.own PARAM) (first.own LAST_NOTE)) word works has halves done)
+
+pub down_slides : (r : Reader) (look : LookUps) (Q : VoiceDesk → Type 0) (first m : VoiceDesk) (delay time word : ℕ) →
+    Works first m delay time 2 → m.accumulator ≡ 2 → NotesAt r → SidesAt r look Speed (first.own PARAM) →
+    (128 ≤ (look.row Speed (first.own PARAM)).left → r.layout.is_kept 8 ≡ true) → first.own LAST_NOTE < 128 →
+    AreHalves (first.own FREQ_LOW) (first.own FREQ_HIGH) word →
+    ((k : VoiceDesk) →
+    Ends first k delay time (freq_minus word (slide look (first.own PARAM) (first.own LAST_NOTE))) (first.own LAST_NOTE) →
+    Q k) →
+    Leads r slide_tree Q m
+down_slides r look Q first m delay time word at acc notes sides kept last halves done =
+    slide_begins r look Q first m delay time 2 at acc (omega arith) notes sides kept last
+    (λ k works has.
+    goes_down r Q first k delay time (slide look (first.own PARAM) (first.own LAST_NOTE)) word works has
+    (slide_small r look (first.own PARAM) (first.own LAST_NOTE) sides) halves done)
+
+pub tie_slides : (r : Reader) (look : LookUps) (Q : VoiceDesk → Type 0) (first m : VoiceDesk) (delay time : ℕ) →
+    Works first m delay time 3 → m.accumulator ≡ 3 → NotesAt r → SidesAt r look Speed (first.own PARAM) →
+    (128 ≤ (look.row Speed (first.own PARAM)).left → r.layout.is_kept 8 ≡ true) → first.own LAST_NOTE < 128 →
+    first.own PARAM ≡ 0 → r.layout.is_kept 5 ≡ true → first.own NOTE < 256 →
+    ((k : VoiceDesk) → Ends first k delay 0 (freq (first.own NOTE)) (first.own NOTE % 128) → Q k) →
+    Leads r slide_tree Q m
+tie_slides r look Q first m delay time at acc notes sides kept last none tied small done =
+    slide_begins r look Q first m delay time 3 at acc (omega arith) notes sides kept last
+    (λ k works has.
+    ties r Q first k delay time (slide look (first.own PARAM) (first.own LAST_NOTE)) notes works has none tied small done)
+
+pub tone_slides : (r : Reader) (look : LookUps) (Q : VoiceDesk → Type 0) (first m : VoiceDesk) (delay time word : ℕ) →
+    Works first m delay time 3 → m.accumulator ≡ 3 → NotesAt r → SidesAt r look Speed (first.own PARAM) →
+    (128 ≤ (look.row Speed (first.own PARAM)).left → r.layout.is_kept 8 ≡ true) → first.own LAST_NOTE < 128 →
+    AreHalves (first.own FREQ_LOW) (first.own FREQ_HIGH) word → word < 65536 → first.own PARAM ≢ 0 →
+    r.layout.is_kept 4 ≡ true → first.own NOTE < 256 →
+    Tones first delay time (slide look (first.own PARAM) (first.own LAST_NOTE)) word Q → Leads r slide_tree Q m
+tone_slides r look Q first m delay time word at acc notes sides kept last halves wide some turns small tones =
+    slide_begins r look Q first m delay time 3 at acc (omega arith) notes sides kept last
+    (λ k works has.
+    goes_towards r Q first k delay time (slide look (first.own PARAM) (first.own LAST_NOTE)) word notes works has
+    (slide_small r look (first.own PARAM) (first.own LAST_NOTE) sides) halves wide some turns small tones)
+
+-- a vibrato: where it goes by this time
+pub record Swings (first : VoiceDesk) (delay time speed word : ℕ) (Q : VoiceDesk → Type 0) : Type 0 where
+  pub falls : nat_eq (time % 2) 1 ≡ true → (k : VoiceDesk) →
+      Ends first k delay time (freq_minus word speed) (first.own LAST_NOTE) → Q k
+  pub rises : nat_eq (time % 2) 1 ≡ false → (k : VoiceDesk) →
+      Ends first k delay time (freq_plus word speed) (first.own LAST_NOTE) → Q k
+
+swing_moves : (r : Reader) (Q : VoiceDesk → Type 0) (first m : VoiceDesk) (delay time speed word : ℕ) →
+    Works first m delay time (way_of time) → HasSpeed m speed → speed < 65536 →
+    AreHalves (first.own FREQ_LOW) (first.own FREQ_HIGH) word → Swings first delay time speed word Q → (z : Bool) →
+    nat_eq (time % 2) 1 ≡ z → Leads r turned_tree Q m
+swing_moves r Q first m delay time speed word at has fast halves swings true e =
+    goes_down r Q first m delay time speed word (subst (Works first m delay time) (rw e refl) at) has fast halves
+    (swings.falls e)
+swing_moves r Q first m delay time speed word at has fast halves swings false e =
+    goes_up r Q first m delay time speed word (subst (Works first m delay time) (rw e refl) at) has halves
+    (swings.rises e)
+
+pub vibrato_slides : (r : Reader) (look : LookUps) (Q : VoiceDesk → Type 0) (first m : VoiceDesk)
+    (delay time word : ℕ) → Works first m delay time 4 → m.accumulator ≡ 4 → time < 256 → NotesAt r →
+    SidesAt r look Speed (first.own PARAM) →
+    (128 ≤ (look.row Speed (first.own PARAM)).left → r.layout.is_kept 8 ≡ true) → first.own LAST_NOTE < 128 →
+    AreHalves (first.own FREQ_LOW) (first.own FREQ_HIGH) word →
+    Swings first delay (time_on (look.row Speed (first.own PARAM)).left time)
+    (speed_by 0 (look.row Speed (first.own PARAM)) (first.own LAST_NOTE)) word Q →
+    Leads r slide_tree Q m
+vibrato_slides r look Q first m delay time word at acc most notes sides kept last halves swings =
+    vibrato_leads r look (Leads r (ThenTree (WhenTree 8 note_dependent_tree) turned_tree) Q) first m delay time at acc most
+    sides
+    (λ k works y low high.
+    speed_leads r look (Leads r turned_tree Q) first k delay after (way_of after) 0 works notes y sides kept low high last
+    (λ n turns has.
+    swing_moves r Q first n delay after (speed_by 0 row (first.own LAST_NOTE)) word turns has
+    (speed_small 0 row (first.own LAST_NOTE) (omega arith) sides.bytes.right) halves swings _ refl))
+  where
+    row : TableRow
+    row = look.row Speed (first.own PARAM)
+
+    after : ℕ
+    after = time_on row.left time
