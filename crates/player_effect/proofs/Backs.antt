@@ -1,7 +1,8 @@
 -- What a wave command has lent comes back.
 use Rattle.std.proofs.Common.{◌≡◌, ◌≢◌, ℕ, zero, suc, ◌+◌, ◌*◌, ◌%◌, ◌<◌, ◌≤◌, Bool, true, false, not, nat_eq, if◌then◌else◌}
-use Rattle.std.proofs.Common.{refl, sym, ap, ◌∙◌, subst, arith}
-use Rattle.std.proofs.lemmas.Bool.{true≢false, not-true, not-false, eqb-true, eqb-false, cases_eq}
+use Rattle.std.proofs.Common.{refl, sym, ap, ◌∙◌, subst, inl, inr, arith}
+use Rattle.std.proofs.lemmas.Bool.{true≢false, not-true, not-false, eqb-true, eqb-false, cases_eq, eq-eqb}
+use Rattle.code_runs.specs.Runs.{put}
 use Rattle.play_model.specs.Ranges.{IsVoice}
 use Rattle.play_model.specs.State.{Voice, Playing}
 use Rattle.blocks.specs.Desk.{Layout}
@@ -9,7 +10,7 @@ use Rattle.player_parts.specs.declared.labels.TheConstants.{COMMAND, PARAM, LENT
 use Rattle.player_parts.specs.declared.labels.TheConstants.{TICK, GATE_TIMER, INSTRUMENT}
 use Rattle.player_parts.specs.Holds.{HandedOn}
 use Rattle.player_parts.proofs.Laws.{VoiceDesk, Reader, Leads, Rest, voice_in, playing_in, handed_in, HasLowBytes, Done}
-use Rattle.player_parts.proofs.Laws.{done_in}
+use Rattle.player_parts.proofs.Laws.{done_in, loaded}
 use Rattle.player_effect.specs.EffectBlock.{back_tree}
 use Rattle.player_effect.proofs.EffectDesks.{still}
 
@@ -37,29 +38,90 @@ other_tempo_label (suc zero) l = refl
 other_tempo_label (suc (suc zero)) l = refl
 other_tempo_label (suc (suc (suc its))) l = absurd (omega (arith, l))
 
--- the flags and A are no fields
-flags_on : (voice : ℕ) (s : Playing) (handed : HandedOn) (d m : VoiceDesk) (a : ℕ) (z n : Bool) →
-    Done voice s handed d m → Done voice s handed d (record m { accumulator = a; zero = z; minus = n })
-flags_on voice s handed d m a z n done = record {
-  fields = done.fields;
-  common = done.common;
-  tempos = done.tempos;
-  handed_on = done.handed_on;
-  fetch = done.fetch;
-  subtune = done.subtune;
-  sid = done.sid;
-}
-
-nothing_lent : (handed : HandedOn) → handed.lent ≡ 0 → handed ≡ lends_nothing handed
-nothing_lent handed e = rw e refl
-
 -- nothing is lent
-stays_as : (voice : ℕ) (s : Playing) (handed : HandedOn) (d m : VoiceDesk) → handed.lent ≡ 0 → Done voice s handed d m →
-    Done voice (given_back handed s) (lends_nothing handed) d m
-stays_as voice s handed d m e done = ?
+kept_so : (r : Reader) (at : Rest) (d m : VoiceDesk) → d.shared LENT ≡ 0 →
+    Done r.voice (playing_in r.voice at d) (handed_in d) d m →
+    Done r.voice (given_back (handed_in d) (playing_in r.voice at d)) (lends_nothing (handed_in d)) d m
+kept_so r at d m none done =
+    let test : nat_eq (d.shared LENT) 0 ≡ true = eq-eqb (d.shared LENT) 0 none in
+    rw test (record {
+      fields = done.fields;
+      common = done.common;
+      tempos = done.tempos;
+      handed_on = record {
+        started = done.handed_on.started;
+        lent = done.handed_on.lent ∙ none;
+        own_command = λ some. absurd (some refl);
+        own_param = λ some. absurd (some refl);
+      };
+      fetch = done.fetch;
+      subtune = done.subtune;
+      sid = done.sid;
+    })
 
+-- the voice's bytes with its own command and parameter
+abbrev own_again : VoiceDesk → ℕ → ℕ
+own_again d = put (put d.own PARAM (d.shared LENT_PARAM)) COMMAND (d.shared LENT_COMMAND)
+
+came_back : (r : Reader) (at : Rest) (d : VoiceDesk) (left a : ℕ) (z n : Bool) → nat_eq (d.shared LENT) 0 ≡ false →
+    left ≡ 0 → Done r.voice (playing_in r.voice at d) (handed_in d) d d →
+    Done r.voice (given_back (handed_in d) (playing_in r.voice at d)) (lends_nothing (handed_in d)) d (record d {
+      own = own_again d;
+      shared = put d.shared LENT left;
+      accumulator = a;
+      zero = z;
+      minus = n;
+    })
+came_back r at d left a z n lent none before =
+    let command : own_again d COMMAND ≡ d.shared LENT_COMMAND = refl in
+    let param : own_again d PARAM ≡ d.shared LENT_PARAM = refl in
+    rw lent (record {
+      fields = assumption (command, param, before.fields);
+      common = assumption before.common;
+      tempos = λ its l other.
+          let apart = other_tempo_label its l in
+          rw apart (before.tempos its l other);
+      handed_on = record {
+        started = before.handed_on.started;
+        lent = none;
+        own_command = λ some. absurd (some refl);
+        own_param = λ some. absurd (some refl);
+      };
+      fetch = assumption before.fetch;
+      subtune = refl;
+      sid = refl;
+    })
+
+-- The voice's own command and parameter are back where a wave command's were lent, and nothing is lent.
 pub back_leads : (r : Reader) (at : Rest) (d : VoiceDesk) → r.voice < 3 → IsVoice (voice_in at d) → HasLowBytes d →
     d.shared LENT ≤ 1 → BackKeeps r.layout d →
     Leads r back_tree
     (Done r.voice (given_back (handed_in d) (playing_in r.voice at d)) (lends_nothing (handed_in d)) d) d
-back_leads r at d few ranges low most keeps = ?
+back_leads r at d few ranges low most keeps = (
+  λ kept. (
+    λ lent.
+        let some = eqb-false (d.shared LENT) 0 (not-true _ lent) in
+        came_back r at d _ _ _ _ (not-true _ lent) (one (d.shared LENT) some most) before,
+    λ none.
+        kept_so r at d (loaded (d.shared LENT) d) (eqb-true (d.shared LENT) 0 (not-false _ none)) (record {
+          fields = before.fields;
+          common = before.common;
+          tempos = before.tempos;
+          handed_on = before.handed_on;
+          fetch = before.fetch;
+          subtune = before.subtune;
+          sid = before.sid;
+        }),
+  ),
+  λ left.
+      elim (cases_eq (d.shared LENT) 0) [
+        | inl none ↦ kept_so r at d d none before
+        | inr some ↦ absurd (true≢false (sym (keeps.lent some) ∙ left))
+      ],
+)
+  where
+    before : Done r.voice (playing_in r.voice at d) (handed_in d) d d
+    before = done_in r.voice at d few ranges low
+
+    one : (n : ℕ) → n ≢ 0 → n ≤ 1 → (n + 255) % 256 ≡ 0
+    one n some small = omega (arith, some, small)
