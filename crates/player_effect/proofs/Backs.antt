@@ -1,18 +1,16 @@
 -- What a wave command has lent comes back.
-use Rattle.std.proofs.Common.{◌≡◌, ◌≢◌, ℕ, zero, suc, ◌+◌, ◌*◌, ◌%◌, ◌<◌, ◌≤◌, Bool, true, false, not, nat_eq, if◌then◌else◌}
-use Rattle.std.proofs.Common.{refl, sym, ap, ◌∙◌, subst, inl, inr, arith}
+use Rattle.std.proofs.Common.{◌≡◌, ◌≢◌, ℕ, zero, suc, ◌+◌, ◌*◌, ◌%◌, ◌<◌, ◌≤◌, Bool, true, false, nat_eq, if◌then◌else◌}
+use Rattle.std.proofs.Common.{refl, sym, ◌∙◌, inl, inr, arith}
 use Rattle.std.proofs.lemmas.Bool.{true≢false, not-true, not-false, eqb-true, eqb-false, cases_eq, eq-eqb}
 use Rattle.code_runs.specs.Runs.{put}
 use Rattle.play_model.specs.Ranges.{IsVoice}
-use Rattle.play_model.specs.State.{Voice, Playing}
+use Rattle.play_model.specs.State.{Playing}
 use Rattle.blocks.specs.Desk.{Layout}
 use Rattle.player_parts.specs.declared.labels.TheConstants.{COMMAND, PARAM, LENT, LENT_COMMAND, LENT_PARAM, TEMPO}
-use Rattle.player_parts.specs.declared.labels.TheConstants.{TICK, GATE_TIMER, INSTRUMENT}
 use Rattle.player_parts.specs.Holds.{HandedOn}
 use Rattle.player_parts.proofs.Laws.{VoiceDesk, Reader, Leads, Rest, voice_in, playing_in, handed_in, HasLowBytes, Done}
 use Rattle.player_parts.proofs.Laws.{done_in, loaded}
 use Rattle.player_effect.specs.EffectBlock.{back_tree}
-use Rattle.player_effect.proofs.EffectDesks.{still}
 
 -- ---- what the law stands on
 

@@ -1,33 +1,32 @@
 -- The whole effect step: from the desk of a voice its code leads to the voice that the rule of the frame leaves.
-use Rattle.std.proofs.Common.{◌≡◌, ◌≢◌, ℕ, zero, suc, ◌+◌, ◌-◌, ◌*◌, ◌/◌, ◌%◌, ◌<◌, ◌≤◌, ◌&&◌, Bool, true, false, not}
-use Rattle.std.proofs.Common.{nat_eq, nat_le, nat_lt, if◌then◌else◌, inl, inr, ◌⊎◌, refl, sym, ap, ◌∙◌, subst, arith}
+use Rattle.std.proofs.Common.{◌≡◌, ◌≢◌, ℕ, zero, suc, ◌+◌, ◌-◌, ◌*◌, ◌<◌, ◌≤◌, ◌&&◌, Bool, true, false, not}
+use Rattle.std.proofs.Common.{if◌then◌else◌, inl, inr, ◌⊎◌, refl, sym, ◌∙◌, subst, arith}
 use Rattle.std.proofs.lemmas.Bool.{cases_lt, cases_eq}
 use Rattle.play_model.specs.declared.options.Options.{Options}
 use Rattle.play_model.specs.LookUps.{LookUps}
 use Rattle.play_model.specs.Ranges.{IsVoice}
-use Rattle.play_model.specs.State.{Voice, Playing}
+use Rattle.play_model.specs.State.{Playing}
 use Rattle.play_model.specs.EffectStep.{effect_step}
-use Rattle.play_model.specs.Wrap.{freq_plus, freq_minus, distance}
-use Rattle.play_model.specs.Freq.{freq, slide}
+use Rattle.play_model.specs.Freq.{freq}
 use Rattle.play_model.specs.Helpers.{vibrato}
 use Rattle.song_model.specs.declared.tables.TableName.TheVariants.{Speed}
 use Rattle.blocks.specs.Desk.{Layout}
 use Rattle.blocks.specs.Trees.{Tree, NoneTree, ThenTree, WhenTree}
-use Rattle.player_parts.specs.declared.labels.TheConstants.{COMMAND, PARAM, NOTE, VIB_TIME, VIB_DELAY, FREQ_LOW, FREQ_HIGH}
+use Rattle.player_parts.specs.declared.labels.TheConstants.{COMMAND, PARAM, VIB_TIME, VIB_DELAY, FREQ_LOW, FREQ_HIGH}
 use Rattle.player_parts.specs.declared.labels.TheConstants.{LAST_NOTE}
 use Rattle.player_parts.specs.declared.parts.TheConstants.{SKIP_EFFECTS_BIT}
 use Rattle.player_parts.specs.Holds.{AreHalves}
 use Rattle.player_parts.specs.PlayerLayouts.{KeepsOptions}
 use Rattle.player_parts.proofs.Laws.{VoiceDesk, Reader, Leads, Rest, voice_in, playing_in, handed_in, HasLowBytes, Done}
 use Rattle.player_parts.proofs.Laws.{done_in, SidesAt, NotesAt}
-use Rattle.player_effect.specs.EffectBlock.{effect_tree, running_tree, command_tree, skip_tree, instrument_tree, slide_tree}
+use Rattle.player_effect.specs.EffectBlock.{effect_tree, skip_tree, instrument_tree, slide_tree}
 use Rattle.player_effect.proofs.EffectDesks.{Works, Ends, ends_unmoved, voice_left, ends_done}
 use Rattle.player_effect.proofs.Numbers.{halves_from}
 use Rattle.player_effect.proofs.Commands.{command_leads, skips, skip_leads, vibrato_rests, vibrato_waits, vibrato_begins}
 use Rattle.player_effect.proofs.Commands.{done_tree, rests_leads, works_leads}
-use Rattle.player_effect.proofs.Slides.{up_slides, down_slides, tie_slides, Tones, tone_slides, Swings, vibrato_slides}
+use Rattle.player_effect.proofs.Slides.{up_slides, down_slides, tie_slides, tone_slides, vibrato_slides}
 use Rattle.player_effect.proofs.Rules.{idle_rule, waits_rule, begins_rule, up_rule, down_rule, tie_rule, arrives_rule}
-use Rattle.player_effect.proofs.Rules.{rises_rule, falls_rule, vibrato_rule, depth, time_after, falls_vibrato}
+use Rattle.player_effect.proofs.Rules.{rises_rule, falls_rule, vibrato_rule, falls_vibrato}
 use Rattle.player_effect.proofs.Rules.{rises_vibrato}
 
 -- ---- what the law stands on
@@ -235,7 +234,7 @@ idles : (r : Reader) (look : LookUps) (o : Options) (at : Rest) (d m : VoiceDesk
     Works d m (d.own VIB_DELAY) (d.own VIB_TIME) 0 → Leads r behind_option (Behind r look o at d) m
 idles r look o at d m scene runs is none works =
     none_works r (Behind r look o at d) d m (d.own VIB_DELAY) (d.own VIB_TIME) 0 works (inl refl) scene.ranges.vib_delay
-    (λ e some begun. elim none [ | inl a ↦ some a | inr b ↦ begun b ])
+    (λ e some begun. elim none [ inl a ↦ some a | inr b ↦ begun b ])
     (λ k rests.
     ran r look o at d k (d.own VIB_DELAY) (d.own VIB_TIME) (word_in d) (d.own LAST_NOTE) scene runs
     (idle_rule look (voice_in at d) is none)

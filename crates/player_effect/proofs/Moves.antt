@@ -1,6 +1,6 @@
 -- The frequency goes up or down by the speed, or the note sounds.
-use Rattle.std.proofs.Common.{◌≡◌, ◌≢◌, ℕ, ◌+◌, ◌-◌, ◌*◌, ◌/◌, ◌%◌, ◌<◌, ◌≤◌, Bool, true, false, not, nat_eq, nat_le}
-use Rattle.std.proofs.Common.{[], ◌∷◌, refl, sym, ap, ◌∙◌, subst, arith}
+use Rattle.std.proofs.Common.{◌≡◌, ℕ, ◌/◌, ◌%◌, ◌<◌, Bool}
+use Rattle.std.proofs.Common.{refl, ap, arith}
 use Rattle.std.proofs.lemmas.Bool.{eqb-true, eqb-false}
 use Rattle.code_runs.specs.Runs.{put}
 use Rattle.play_model.specs.Wrap.{freq_plus, freq_minus}
@@ -12,7 +12,7 @@ use Rattle.player_parts.specs.Holds.{AreHalves}
 use Rattle.player_parts.proofs.Laws.{VoiceDesk, Reader, Leads, NotesAt, note_leads, compared, loaded}
 use Rattle.player_effect.specs.EffectBlock.{move_tree}
 use Rattle.player_effect.proofs.Numbers.{halves_sum, word_sum, word_difference}
-use Rattle.player_effect.proofs.EffectDesks.{effect_touches, effect_works, move_touches, still, Works, HasSpeed, Ends}
+use Rattle.player_effect.proofs.EffectDesks.{move_touches, still, Works, HasSpeed, Ends}
 use Rattle.player_effect.proofs.EffectDesks.{same_moves}
 
 -- the bytes of the frequency before the move

@@ -1,13 +1,12 @@
 -- Numbers of the effect step: words by their bytes with the carry between them, the distance to a note, halvings, and
 -- the vibrato's time.
-use Rattle.std.proofs.Common.{◌≡◌, ◌≢◌, ℕ, zero, suc, ◌+◌, ◌-◌, ◌*◌, ◌/◌, ◌%◌, ◌^◌, ◌<◌, ◌≤◌, Bool, true, false, not}
-use Rattle.std.proofs.Common.{◌&&◌, if◌then◌else◌, nat_eq, nat_le, nat_lt, bit_and, bit_xor, inl, inr, refl, sym, ap, ◌∙◌, arith}
-use Rattle.std.proofs.lemmas.Bool.{agree_below_at, eqb-true, eq-eqb, ne_eqb, le-leb, lt-leb, lt-ltb, le-ltb}
+use Rattle.std.proofs.Common.{◌≡◌, ℕ, ◌+◌, ◌-◌, ◌*◌, ◌/◌, ◌%◌, ◌<◌, ◌≤◌, Bool, true, false}
+use Rattle.std.proofs.Common.{if◌then◌else◌, nat_eq, nat_le, bit_and, bit_xor, inl, inr, refl, sym, ap, ◌∙◌, arith}
+use Rattle.std.proofs.lemmas.Bool.{agree_below_at, eqb-true, le-leb, lt-leb}
 use Rattle.std.proofs.lemmas.Bool.Decides.{leb_tells, eqb_tells}
 use Rattle.cpu6502.specs.Registers.{one_if}
 use Rattle.blocks.proofs.Laws.{sums_add}
-use Rattle.play_model.specs.Wrap.{byte_plus, freq_plus, freq_minus, distance, shifted_right}
-use Rattle.play_model.specs.Helpers.{turned}
+use Rattle.play_model.specs.Wrap.{freq_plus, freq_minus, distance}
 use Rattle.player_parts.specs.Holds.{AreHalves}
 
 -- ---- words

@@ -1,6 +1,6 @@
 -- The effect step's rule, case by case: which fields it leaves.
-use Rattle.std.proofs.Common.{◌≡◌, ◌≢◌, ℕ, ◌+◌, ◌-◌, ◌*◌, ◌/◌, ◌%◌, ◌<◌, ◌≤◌, ◌||◌, Bool, true, false, not, nat_eq, nat_le}
-use Rattle.std.proofs.Common.{nat_lt, if◌then◌else◌, inl, inr, ◌⊎◌, refl, sym, ap, ◌∙◌, subst, arith}
+use Rattle.std.proofs.Common.{◌≡◌, ◌≢◌, ℕ, ◌+◌, ◌-◌, ◌*◌, ◌%◌, ◌≤◌, Bool, true, false, nat_eq, nat_le}
+use Rattle.std.proofs.Common.{nat_lt, inl, inr, ◌⊎◌, refl, arith}
 use Rattle.std.proofs.lemmas.Bool.{ne_eqb, eq-eqb, le-leb, lt-leb}
 use Rattle.play_model.specs.LookUps.{LookUps}
 use Rattle.play_model.specs.State.{Voice}
@@ -8,7 +8,6 @@ use Rattle.play_model.specs.Wrap.{freq_plus, freq_minus, distance}
 use Rattle.play_model.specs.Freq.{freq, slide}
 use Rattle.play_model.specs.Helpers.{porta_up, porta_down, tone, vibrato}
 use Rattle.play_model.specs.EffectStep.{effect_step}
-use Rattle.song_model.specs.declared.tables.TableRow.{TableRow}
 use Rattle.song_model.specs.declared.tables.TableName.TheVariants.{Speed}
 use Rattle.player_effect.proofs.EffectDesks.{voice_left}
 use Rattle.player_effect.proofs.RowSpeeds.{time_on}

@@ -1,27 +1,26 @@
 -- A calculated speed: the half tone at the last note, shifted right.
-use Rattle.std.proofs.Common.{◌≡◌, ◌≢◌, ℕ, zero, suc, ◌+◌, ◌-◌, ◌*◌, ◌/◌, ◌%◌, ◌^◌, ◌<◌, ◌≤◌, Bool, true, false, not, min}
-use Rattle.std.proofs.Common.{nat_eq, nat_le, nat_lt, if◌then◌else◌, [], ◌∷◌, inl, inr, refl, sym, ap, ◌∙◌, subst, arith}
-use Rattle.std.proofs.lemmas.Bool.{true≢false, not-true, not-false, eqb-true, eqb-false, leb-true, leb-false, lt-ltb, le-ltb}
-use Rattle.std.proofs.lemmas.Bool.{le-leb, lt-leb, cases_lt}
+use Rattle.std.proofs.Common.{◌≡◌, ℕ, zero, suc, ◌+◌, ◌-◌, ◌/◌, ◌%◌, ◌^◌, ◌<◌, ◌≤◌, Bool, true, false, min}
+use Rattle.std.proofs.Common.{nat_le, nat_lt, if◌then◌else◌, [], ◌∷◌, inl, inr, refl, sym, ap, ◌∙◌, subst, arith}
+use Rattle.std.proofs.lemmas.Bool.{true≢false, not-true, not-false, leb-true, leb-false, lt-ltb, le-ltb}
+use Rattle.std.proofs.lemmas.Bool.{cases_lt}
 use Rattle.std.proofs.lemmas.Nat.{shr-shr}
 use Rattle.cpu6502.specs.Registers.{one_if}
 use Rattle.play_model.specs.LookUps.{LookUps}
 use Rattle.play_model.specs.Wrap.{freq_minus, shifted_right}
-use Rattle.play_model.specs.Freq.{freq, half_tone, slide_of}
-use Rattle.song_model.specs.declared.tables.TableRow.{TableRow}
+use Rattle.play_model.specs.Freq.{freq, half_tone}
 use Rattle.song_model.specs.declared.tables.TableName.TheVariants.{Speed}
-use Rattle.blocks.specs.Trees.{Tree, ChainTree, NoneTree, ThenTree, IfTree, WhenTree}
-use Rattle.player_parts.specs.Words.{Var, Const, Plain, Entry, Sub, SubOn, HalveAt, HalveOn, Carry, Less, Not, CounterY}
+use Rattle.blocks.specs.Trees.{Tree, ChainTree, NoneTree, ThenTree, WhenTree}
+use Rattle.player_parts.specs.Words.{Var, Const, Plain, Entry, Sub, SubOn, HalveAt, HalveOn, Carry, Not, CounterY}
 use Rattle.player_parts.specs.declared.labels.TheConstants.{PARAM, LAST_NOTE, COUNTER, SPEED_LOW, SPEED_HIGH}
 use Rattle.player_parts.specs.declared.labels.TheConstants.{SPEED_LEFTS, FREQUENCY_LOWS, NEXT_FREQUENCY_LOWS}
 use Rattle.player_parts.specs.declared.labels.TheConstants.{FREQUENCY_HIGHS, NEXT_FREQUENCY_HIGHS}
-use Rattle.player_parts.specs.Codes.{load_number, load_own, load_shared, load_entry, store_shared, store_y}
+use Rattle.player_parts.specs.Codes.{load_shared, load_entry, store_shared, store_y}
 use Rattle.player_parts.specs.Holds.{AreHalves}
-use Rattle.player_parts.proofs.Laws.{VoiceDesk, Reader, Leads, TestLeads, TurnsLead, Reads, side_place, SidesAt, NotesAt}
+use Rattle.player_parts.proofs.Laws.{VoiceDesk, Reader, Leads, TestLeads, TurnsLead, side_place, SidesAt, NotesAt}
 use Rattle.player_parts.proofs.Laws.{counter_down, compared, loaded, with_cell}
-use Rattle.player_effect.specs.EffectBlock.{half_tone_tree, shift_tree, calculated_tree, note_dependent_tree}
-use Rattle.player_effect.proofs.Numbers.{halves_sum, word_difference, halved_word}
-use Rattle.player_effect.proofs.EffectDesks.{effect_touches, effect_works, still, Works, HasSpeed}
+use Rattle.player_effect.specs.EffectBlock.{half_tone_tree, shift_tree, note_dependent_tree}
+use Rattle.player_effect.proofs.Numbers.{word_difference, halved_word}
+use Rattle.player_effect.proofs.EffectDesks.{effect_works, still, Works, HasSpeed}
 use Rattle.player_effect.proofs.Commands.{as_before}
 
 -- ---- halvings

@@ -1,20 +1,18 @@
 -- A tie arrives at its note at once, and tone portamento becomes a way up or down, or arrives.
-use Rattle.std.proofs.Common.{◌≡◌, ◌≢◌, ℕ, ◌+◌, ◌-◌, ◌*◌, ◌/◌, ◌%◌, ◌<◌, ◌≤◌, Bool, true, false, not, nat_eq, nat_le, nat_lt}
-use Rattle.std.proofs.Common.{if◌then◌else◌, [], ◌∷◌, refl, sym, ap, ◌∙◌, subst, arith}
+use Rattle.std.proofs.Common.{◌≡◌, ◌≢◌, ℕ, ◌/◌, ◌%◌, ◌<◌, ◌≤◌, Bool, true, false, nat_le, nat_lt}
+use Rattle.std.proofs.Common.{if◌then◌else◌, refl, sym, ap, ◌∙◌, subst, arith}
 use Rattle.std.proofs.lemmas.Bool.{true≢false, not-true, not-false, eqb-true, eqb-false, leb-true, leb-false, lt-ltb, le-ltb}
-use Rattle.cpu6502.specs.Registers.{one_if}
 use Rattle.code_runs.specs.Runs.{put}
-use Rattle.play_model.specs.Wrap.{freq_minus, distance}
+use Rattle.play_model.specs.Wrap.{distance}
 use Rattle.play_model.specs.Freq.{freq}
 use Rattle.blocks.specs.Trees.{NoneTree, ThenTree, WhenTree}
-use Rattle.player_parts.specs.Words.{Var}
 use Rattle.player_parts.specs.declared.labels.TheConstants.{PARAM, NOTE, FREQ_LOW, FREQ_HIGH, WORK_COMMAND, SPEED_LOW}
 use Rattle.player_parts.specs.declared.labels.TheConstants.{SPEED_HIGH, WORK_LOW, WORK_HIGH, FREQUENCY_LOWS, FREQUENCY_HIGHS}
 use Rattle.player_parts.specs.Holds.{AreHalves}
 use Rattle.player_parts.proofs.Laws.{VoiceDesk, Reader, Leads, NotesAt, side_place, compared, loaded}
-use Rattle.player_effect.specs.EffectBlock.{tie_tree, target_tree, distance_tree, way_tree, towards_tree, tone_tree}
+use Rattle.player_effect.specs.EffectBlock.{tie_tree, target_tree, distance_tree, way_tree, tone_tree}
 use Rattle.player_effect.proofs.Numbers.{halves_sum, word_difference, no_borrow, down_carries, up_carries}
-use Rattle.player_effect.proofs.EffectDesks.{effect_touches, effect_works, still, Works, HasSpeed}
+use Rattle.player_effect.proofs.EffectDesks.{effect_works, still, Works, HasSpeed}
 use Rattle.player_effect.proofs.Commands.{as_before}
 use Rattle.player_effect.proofs.Shifts.{frequency_small, no_frequency}
 
