@@ -1,9 +1,8 @@
 -- Which command works in the effect step: the voice's, but none that is skipped, and the instrument's vibrato where its
 -- delay is over.
-use Rattle.std.proofs.Common.{◌≡◌, ◌≢◌, ℕ, ◌+◌, ◌-◌, ◌*◌, ◌%◌, ◌<◌, ◌≤◌, ◌&&◌, ◌==◌, Bool, true, false, not, nat_eq, nat_le}
+use Rattle.std.proofs.Common.{◌≡◌, ◌≢◌, ℕ, ◌-◌, ◌<◌, ◌≤◌, ◌&&◌, Bool, true, false, nat_eq}
 use Rattle.std.proofs.Common.{refl, sym, ap, ◌∙◌, inl, inr, arith, ◌⊎◌, [], ◌∷◌}
-use Rattle.std.proofs.lemmas.Bool.{true≢false, not-true, not-false, eqb-true, eqb-false, ne_eqb, eq-eqb, leb-true, lt-leb, le-leb}
-use Rattle.std.proofs.lemmas.Bool.Decides.{eqb_tells}
+use Rattle.std.proofs.lemmas.Bool.{true≢false, not-true, not-false, eqb-true, eqb-false, lt-leb, le-leb}
 use Rattle.play_model.specs.declared.options.Options.{Options}
 use Rattle.blocks.specs.Trees.{Tree, NoneTree, IfTree, WhenTree}
 use Rattle.player_parts.specs.Words.{Zero, Minus, Not}
@@ -11,7 +10,7 @@ use Rattle.player_parts.specs.declared.labels.TheConstants.{TICK, COMMAND, PARAM
 use Rattle.player_parts.specs.declared.parts.TheConstants.{SKIP_EFFECTS_BIT}
 use Rattle.player_parts.specs.Codes.{load_shared}
 use Rattle.player_parts.proofs.Laws.{VoiceDesk, Reader, Leads}
-use Rattle.player_effect.specs.EffectBlock.{command_tree, skip_tree, delay_tree, instrument_tree}
+use Rattle.player_effect.specs.EffectBlock.{command_tree, skip_tree, instrument_tree}
 use Rattle.player_effect.proofs.EffectDesks.{effect_touches, effect_works, still, Works}
 
 -- ---- the voice's command
@@ -118,9 +117,9 @@ vibrato_rests r Q first m delay time command at small rests done = (
     λ idle. (
       λ some. (
         λ begun. absurd (rests
-        (sym at.command_is ∙ eqb-true _ _ idle)
-        (λ e. eqb-false (m.own PARAM) 0 (not-true _ some) (at.own PARAM refl ∙ e))
-        (λ e. eqb-false (m.own VIB_DELAY) 0 (not-true _ begun) (at.delay_is ∙ e))),
+            (sym at.command_is ∙ eqb-true _ _ idle)
+            (λ e. eqb-false (m.own PARAM) 0 (not-true _ some) (at.own PARAM refl ∙ e))
+            (λ e. eqb-false (m.own VIB_DELAY) 0 (not-true _ begun) (at.delay_is ∙ e))),
         λ none. done _ (as_before _ _ _ _ at),
       ),
       λ none. done _ (as_before _ _ _ _ at),

@@ -8,3 +8,14 @@ mod EffectDesks
 mod Commands
 -- The speed.
 mod RowSpeeds
+mod Shifts
+-- The way to a note.
+mod Tones
+-- The move.
+mod Moves
+mod Slides
+-- The rule, case by case.
+mod Rules
+-- The whole.
+mod Effects
+mod Backs

@@ -1,13 +1,12 @@
 -- Numbers of the effect step: words by their bytes with the carry between them, the distance to a note, halvings, and
 -- the vibrato's time.
-use Rattle.std.proofs.Common.{◌≡◌, ◌≢◌, ℕ, zero, suc, ◌+◌, ◌-◌, ◌*◌, ◌/◌, ◌%◌, ◌^◌, ◌<◌, ◌≤◌, Bool, true, false, not}
-use Rattle.std.proofs.Common.{◌&&◌, if◌then◌else◌, nat_eq, nat_le, nat_lt, bit_and, bit_xor, inl, inr, refl, sym, ap, ◌∙◌, arith}
-use Rattle.std.proofs.lemmas.Bool.{agree_below_at, eqb-true, eq-eqb, ne_eqb, le-leb, lt-leb, lt-ltb, le-ltb}
+use Rattle.std.proofs.Common.{◌≡◌, ℕ, ◌+◌, ◌-◌, ◌*◌, ◌/◌, ◌%◌, ◌<◌, ◌≤◌, Bool, true, false}
+use Rattle.std.proofs.Common.{if◌then◌else◌, nat_eq, nat_le, bit_and, bit_xor, inl, inr, refl, sym, ap, ◌∙◌, arith}
+use Rattle.std.proofs.lemmas.Bool.{agree_below_at, eqb-true, le-leb, lt-leb}
 use Rattle.std.proofs.lemmas.Bool.Decides.{leb_tells, eqb_tells}
 use Rattle.cpu6502.specs.Registers.{one_if}
 use Rattle.blocks.proofs.Laws.{sums_add}
-use Rattle.play_model.specs.Wrap.{byte_plus, freq_plus, freq_minus, distance, shifted_right}
-use Rattle.play_model.specs.Helpers.{turned}
+use Rattle.play_model.specs.Wrap.{freq_plus, freq_minus, distance}
 use Rattle.player_parts.specs.Holds.{AreHalves}
 
 -- ---- words
@@ -102,6 +101,32 @@ reaches_up freq target step below small =
   where
     whole : freq_minus freq target ≡ freq + 65536 - target
     whole = omega (arith, below, small)
+
+-- the same by the bytes of the step and of the difference
+pub down_carries : (sl sh step wl wh freq target : ℕ) → AreHalves sl sh step → step < 65536 →
+    AreHalves wl wh (freq_minus freq target) → target ≤ freq → freq < 65536 →
+    nat_le 256 (sh + (255 - wh) + one_if (nat_le 256 (sl + (255 - wl) + 1))) ≡ nat_le (distance freq target) step
+down_carries sl sh step wl wh freq target speed fast away from small =
+    let a = speed.low_is in
+    let b = away.low_is in
+    let c = away.high_is in
+    no_borrow sl sh step wl wh (freq_minus freq target) (omega (arith, a)) (omega (arith, b)) (omega (arith, c))
+    (halves_sum sl sh step speed) (halves_sum wl wh (freq_minus freq target) away)
+    ∙ reaches_down freq target step from small
+
+pub up_carries : (sl sh step wl wh freq target : ℕ) → AreHalves sl sh step →
+    AreHalves wl wh (freq_minus freq target) → freq < target → target < 65536 →
+    nat_le 256 (sh + wh + one_if (nat_le 256 (sl + wl + 0))) ≡ nat_le (distance freq target) step
+up_carries sl sh step wl wh freq target speed away below small =
+    let a = speed.low_is in
+    let b = away.low_is in
+    let s = halves_sum sl sh step speed in
+    let w = halves_sum wl wh (freq_minus freq target) away in
+    carries sl wl sh wh 0 (omega (arith, a)) (omega (arith, b)) (omega arith)
+    ∙ (ap (nat_le 65536) (sums (freq_minus freq target) s w) ∙ reaches_up freq target step below small)
+  where
+    sums : (d : ℕ) → sl + 256 * sh ≡ step → wl + 256 * wh ≡ d → sl + wl + 0 + 256 * (sh + wh) ≡ step + d
+    sums d e f = omega (arith, e, f)
 
 -- ---- halvings
 

@@ -1,14 +1,13 @@
 -- The speed that a row of the speed table says, and the vibrato's turn.
-use Rattle.std.proofs.Common.{◌≡◌, ◌≢◌, ℕ, ◌+◌, ◌-◌, ◌*◌, ◌/◌, ◌%◌, ◌<◌, ◌≤◌, ◌&&◌, Bool, true, false, not, nat_eq, nat_le}
-use Rattle.std.proofs.Common.{nat_lt, if◌then◌else◌, bit_and, bit_xor, [], ◌∷◌, refl, sym, ap, ◌∙◌, subst, arith}
-use Rattle.std.proofs.lemmas.Bool.{true≢false, not-true, not-false, eqb-true, eqb-false, leb-true, leb-false, lt-ltb, le-ltb}
+use Rattle.std.proofs.Common.{◌≡◌, ℕ, ◌+◌, ◌-◌, ◌%◌, ◌<◌, ◌≤◌, ◌&&◌, Bool, true, false, nat_eq}
+use Rattle.std.proofs.Common.{nat_lt, if◌then◌else◌, bit_and, refl, sym, ap, ◌∙◌, subst, arith}
+use Rattle.std.proofs.lemmas.Bool.{not-true, not-false, eqb-true, eqb-false, leb-true, leb-false, lt-ltb, le-ltb}
 use Rattle.play_model.specs.LookUps.{LookUps}
 use Rattle.play_model.specs.Wrap.{byte_plus}
 use Rattle.play_model.specs.Helpers.{turned}
 use Rattle.song_model.specs.declared.tables.TableName.TheVariants.{Speed}
-use Rattle.player_parts.specs.Labels.{lefts_label, rights_label}
-use Rattle.player_parts.specs.declared.labels.TheConstants.{PARAM, VIB_TIME, VIB_DELAY, WORK_COMMAND, SPEED_LOW, SPEED_HIGH}
-use Rattle.player_parts.specs.declared.labels.TheConstants.{SPEED_LEFTS, SPEED_RIGHTS}
+use Rattle.player_parts.specs.declared.labels.TheConstants.{PARAM, VIB_TIME, WORK_COMMAND, SPEED_LOW, SPEED_HIGH}
+use Rattle.player_parts.specs.declared.labels.TheConstants.{SPEED_LEFTS}
 use Rattle.player_parts.proofs.Laws.{VoiceDesk, Reader, Leads, Reads, side_place, SidesAt, compared, indexed}
 use Rattle.blocks.specs.Trees.{ThenTree, NoneTree}
 use Rattle.player_effect.specs.EffectBlock.{turn_tree, swing_tree, sides_tree, row_speed_tree}

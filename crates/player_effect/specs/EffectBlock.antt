@@ -1,6 +1,6 @@
 -- The block of the effect step, which does the running command of a voice, and the block that gives back what a wave
 -- command has lent. This is the project's own player.
-use Rattle.std.specs.Prelude.{ℕ, [], ◌∷◌}
+use Rattle.std.specs.Prelude.{[], ◌∷◌}
 use Rattle.player_parts.specs.Words.{Var, Const, Plain, Entry, And, Xor, Add, Sub, AddOn, SubOn, HalveAt, HalveOn}
 use Rattle.player_parts.specs.Words.{Zero, Minus, Carry, Equal, Less, Is, Not, CounterY}
 use Rattle.blocks.specs.Trees.{Tree, ChainTree, NoneTree, ThenTree, IfTree, UntilTree, WhenTree}

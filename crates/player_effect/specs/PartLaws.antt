@@ -1,6 +1,6 @@
 -- Each part of the effect step changes nothing in frames that don't use its feature.
-use Rattle.std.proofs.Common.{◌≡◌, ◌≢◌, ℕ, zero, suc, ◌+◌, ◌%◌, ◌<◌, ◌≤◌, Bool, true, false, nat_eq, nat_le, refl}
-use Rattle.std.proofs.Common.{inl, inr, arith, ◌∙◌, sym, subst, ap, not}
+use Rattle.std.proofs.Common.{◌≡◌, ◌≢◌, ℕ, ◌+◌, ◌%◌, ◌<◌, ◌≤◌, Bool, true, false, nat_eq, nat_le, refl}
+use Rattle.std.proofs.Common.{inl, inr, arith, ◌∙◌, subst}
 use Rattle.std.proofs.lemmas.Bool.{agree_below_at, lt-leb, cases_lt, eqb-true, eqb-false}
 use Rattle.cpu6502.specs.declared.memory.TheConstants.{MEMORY_SIZE}
 use Rattle.song_model.specs.declared.features.Feature.{Feature}
@@ -9,7 +9,7 @@ use Rattle.song_model.specs.declared.features.Feature.TheVariants.{WaveCommand}
 use Rattle.play_model.specs.Used.{IsChannel}
 use Rattle.blocks.specs.Desk.{Desk}
 use Rattle.blocks.specs.Meaning.{meaning}
-use Rattle.player_parts.specs.declared.labels.TheConstants.{PARAM, VIB_DELAY, WORK_COMMAND, LENT, SPEED_LEFTS}
+use Rattle.player_parts.specs.declared.labels.TheConstants.{VIB_DELAY, LENT, SPEED_LEFTS}
 use Rattle.player_parts.specs.Holds.{own_bytes, shared_bytes}
 use Rattle.player_parts.specs.Parts.{Visit, visit_turn, IsUnused, CoversUnused, LeavesAll}
 use Rattle.play_model.specs.Uses.{Slides}

@@ -146,7 +146,13 @@ fn running(alloc: Global) -> Result<Block, NoMemory>
     let not_skipped = Test::Not(Condition::Minus);
     let kept = choose(alloc, &[], not_skipped, slide(alloc)?, nothing(alloc))?;
     let some = Test::Not(Condition::Zero);
-    let slide = choose(alloc, &[load_shared(WORK_COMMAND)], some, kept, nothing(alloc))?;
+    let slide = choose(
+        alloc,
+        &[load_shared(WORK_COMMAND)],
+        some,
+        kept,
+        nothing(alloc),
+    )?;
     Ok(seq(Vec::from_array(alloc, [command, skip, vibrato, slide])?))
 }
 
@@ -159,5 +165,11 @@ pub fn effect_block(alloc: Global) -> Result<Block, NoMemory>
     ensures { IfOk result (λ block. tree_of block ≡ effect_tree) }
 {
     let running = running(alloc)?;
-    choose(alloc, &[], Test::Is(Condition::Zero), running, nothing(alloc))
+    choose(
+        alloc,
+        &[],
+        Test::Is(Condition::Zero),
+        running,
+        nothing(alloc),
+    )
 }

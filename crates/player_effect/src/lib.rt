@@ -17,4 +17,6 @@ mod tone;
 pub use back::back_block;
 pub use base::NoMemory;
 pub use effect::effect_block;
-pub use parts::{GivenBack, InstrumentVibratoBegun, NoteDependentSpeed, TieArrived, TonePortaTurned};
+pub use parts::{
+    GivenBack, InstrumentVibratoBegun, NoteDependentSpeed, TieArrived, TonePortaTurned,
+};
