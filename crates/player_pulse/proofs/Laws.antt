@@ -2,3 +2,5 @@
 
 -- what the code of the pulse step stands on
 pub use Rattle.player_pulse.proofs.PulseDesks.{PulseGround, PulseKeeps}
+-- its law
+pub use Rattle.player_pulse.proofs.Pulses.{pulse_leads}

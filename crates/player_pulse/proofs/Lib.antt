@@ -7,3 +7,7 @@ mod PulseRows
 mod Widths
 -- A frame that moves the width.
 mod Slides
+-- A row begins or goes on.
+mod Programs
+-- The whole code.
+mod Pulses

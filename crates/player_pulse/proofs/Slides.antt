@@ -2,6 +2,7 @@
 use Rattle.std.proofs.Common.{◌≡◌, ◌≢◌, ℕ, ◌+◌, ◌*◌, ◌/◌, ◌%◌, ◌<◌, ◌≤◌, Bool, true, false, not, nat_eq, nat_le, if◌then◌else◌}
 use Rattle.std.proofs.Common.{bit_and, [], ◌∷◌, refl, sym, ap, ◌∙◌, subst, arith}
 use Rattle.std.proofs.lemmas.Bool.{leb-true, leb-false}
+use Rattle.code_runs.specs.Runs.{put}
 use Rattle.song_model.specs.declared.tables.TableRow.{TableRow}
 use Rattle.song_model.specs.declared.tables.TableName.TheVariants.{Pulse}
 use Rattle.play_model.specs.LookUps.{LookUps}
@@ -130,3 +131,88 @@ sum_leads r s handed width time right d m small byte at = (
         y = at.at.y;
       },
 )
+
+-- ---- the whole frame
+
+-- the width that the rule has
+whole_width : (width right : ℕ) → width < 4096 → right < 256 → (z : Bool) → nat_le 0x80 right ≡ z →
+    (begun_width width right + right) % 65536 % 4096 ≡ pulse_moved width right
+whole_width width right small byte true e =
+    ap (λ w. (w + right) % 65536 % 4096) (fell width right e) ∙ falls width right small (leb-true 0x80 right e) byte
+whole_width width right small byte false e =
+    ap (λ w. (w + right) % 65536 % 4096) (rose width right e) ∙ rises width right (leb-false 0x80 right e)
+
+begun_small : (width right : ℕ) → width < 4096 → (z : Bool) → nat_le 0x80 right ≡ z → begun_width width right < 65536
+begun_small width right small true e = let w = fell width right e in omega (arith, w)
+begun_small width right small false e = let w = rose width right e in omega (arith, w, small)
+
+less_time : (n time : ℕ) → n ≡ time → one_less n ≡ byte_minus time 1
+less_time n time e = omega (arith, e)
+
+abbrev end_tree : Tree
+end_tree =
+    ThenTree (ChainTree (load_own PULSE_HIGH ∷ And (Const 0x0F) ∷ store_own PULSE_HIGH ∷ less_own PULSE_TIME ∷ []))
+    NoneTree
+
+-- the desk behind it
+abbrev ended : VoiceDesk → VoiceDesk
+ended m = record (loaded (bit_and (m.own PULSE_HIGH) 0x0F) m) {
+  own = put (put m.own PULSE_HIGH (bit_and (m.own PULSE_HIGH) 0x0F)) PULSE_TIME (one_less (m.own PULSE_TIME));
+  zero = nat_eq (one_less (m.own PULSE_TIME)) 0;
+  minus = nat_le 128 (one_less (m.own PULSE_TIME));
+}
+
+end_leads : (r : Reader) (look : LookUps) (row : TableRow) (s : Playing) (handed : HandedOn) (width time : ℕ)
+    (d m : VoiceDesk) → width < 65536 → width % 4096 ≡ pulse_moved s.voice.pulse row.right →
+    NextAt r look Pulse s.voice.pulse_ptr → pulse_row look row s.voice ≡ pulse_slide look row time s.voice →
+    AtWidth r.voice s handed width time d m → (z : Bool) → nat_eq (byte_minus time 1) 0 ≡ z →
+    Moved r look row s handed d (ended m)
+end_leads r look row s handed width time d m small width_is next is at z e = by_time z e
+  where
+    less : one_less (m.own PULSE_TIME) ≡ byte_minus time 1
+    less = less_time (m.own PULSE_TIME) time at.done.fields.pulse_time
+
+    halves : AreHalves (m.own PULSE_LOW) (bit_and (m.own PULSE_HIGH) 0x0F) (pulse_moved s.voice.pulse row.right)
+    halves =
+        subst (AreHalves (m.own PULSE_LOW) (bit_and (m.own PULSE_HIGH) 0x0F)) width_is
+        (masked (m.own PULSE_LOW) (m.own PULSE_HIGH) width small at.done.fields.pulse)
+
+    done : Done r.voice (with_voice (slid (pulse_moved s.voice.pulse row.right) time s.voice) s) handed d (ended m)
+    done = own_done r.voice (moving width time s) _ handed d m (ended m) refl refl refl
+        (assumption (less, halves, at.done.fields)) (assumption at.done.fetch) at.done
+
+    by_time : (z : Bool) → nat_eq (byte_minus time 1) 0 ≡ z → Moved r look row s handed d (ended m)
+    by_time true e = Next (record {
+      v = slid (pulse_moved s.voice.pulse row.right) time s.voice;
+      done = done;
+      y = at.y;
+      zero = ap (λ n. nat_eq n 0) less ∙ e;
+      next = next;
+      is = is ∙ slide_ends look row time s.voice e;
+    })
+    by_time false e = Same (record {
+      done =
+          done_as (with_voice (pulse_row look row s.voice) s) _
+          (ap (λ v. with_voice v s) (is ∙ slide_stays look row time s.voice e)) done;
+      zero = ap (λ n. nat_eq n 0) less ∙ e;
+    })
+
+pub slide_leads : (r : Reader) (look : LookUps) (row : TableRow) (s : Playing) (handed : HandedOn) (time : ℕ)
+    (d m : VoiceDesk) → s.voice.pulse < 4096 → row.right < 256 →
+    Reads r (side_place r PULSE_RIGHTS s.voice.pulse_ptr) row.right → NextAt r look Pulse s.voice.pulse_ptr →
+    pulse_row look row s.voice ≡ pulse_slide look row time s.voice →
+    AtWidth r.voice s handed s.voice.pulse time d m → Leads r slide_tree (Moved r look row s handed d) m
+slide_leads r look row s handed time d m small byte reads next is at =
+    leads_on r fall_tree (Fallen r.voice s handed width time row.right d)
+    (Leads r (ThenTree sum_tree (ThenTree end_tree NoneTree)) (Moved r look row s handed d)) m
+    (λ k h.
+    leads_on r sum_tree (AtWidth r.voice s handed ((width + row.right) % 65536) time d)
+    (Leads r end_tree (Moved r look row s handed d)) k
+    (λ n g.
+    end_leads r look row s handed ((width + row.right) % 65536) time d n (omega arith)
+    (whole_width s.voice.pulse row.right small byte _ refl) next is g _ refl)
+    (sum_leads r s handed width time row.right d k (begun_small s.voice.pulse row.right small _ refl) byte h))
+    (fall_leads r s handed s.voice.pulse time row.right d m (omega (arith, small)) reads at)
+  where
+    width : ℕ
+    width = begun_width s.voice.pulse row.right
