@@ -6,4 +6,6 @@ pub mod Sounding
 pub mod Scenes
 pub mod Kept
 pub mod Stages
+pub mod TickStage
 pub mod WaveStage
+pub mod PulseStage

@@ -4,3 +4,5 @@ pub mod Turns
 -- Claimed: that the blocks are sound, and what they do in a memory that holds a state.
 pub mod RegisterLaws
 pub mod SoundBlocks
+pub mod StepBlock
+pub mod StepLaws

@@ -10,6 +10,8 @@
 
 pub mod claims;
 mod registers;
+mod step;
 
 pub use base::NoMemory;
 pub use registers::register_block;
+pub use step::step_block;
