@@ -8,4 +8,7 @@ pub mod Kept
 pub mod Stages
 pub mod TickStage
 pub mod WaveStage
+pub mod EffectStage
+pub mod LentStage
 pub mod PulseStage
+pub mod Stepping
