@@ -1,24 +1,23 @@
 -- The tick step: between rows a length is loaded where the tick has passed 0, and at a row the note starts and the
 -- command is done.
-use Rattle.std.proofs.Common.{◌≡◌, ◌≢◌, ℕ, ◌+◌, ◌-◌, ◌%◌, ◌<◌, ◌≤◌, ◌&&◌, Bool, true, false, not, nat_eq, nat_le, bit_xor}
-use Rattle.std.proofs.Common.{if◌then◌else◌, [], ◌∷◌, inl, inr, refl, sym, ap, ◌∙◌, subst, arith}
-use Rattle.std.proofs.lemmas.Bool.{not-true, not-false, leb-true, leb-false, le-leb, lt-leb, ne_eqb, eqb-true, cases_lt, true≢false}
+use Rattle.std.proofs.Common.{◌≡◌, ◌≢◌, ℕ, ◌+◌, ◌<◌, ◌&&◌, Bool, true, false, not, nat_eq, nat_le, bit_xor}
+use Rattle.std.proofs.Common.{if◌then◌else◌, refl, sym, ◌∙◌, subst}
 use Rattle.song_model.specs.declared.instruments.Instrument.{Instrument}
 use Rattle.song_model.specs.declared.tables.TableName.TheVariants.{Speed}
 use Rattle.play_model.specs.LookUps.{LookUps}
-use Rattle.play_model.specs.State.{Voice, Common, Playing}
-use Rattle.play_model.specs.TickStep.{Ticked, tempo_of, with_tempo, reloaded, between_rows, note_started, gate_timer_set}
-use Rattle.play_model.specs.TickStep.{note_taken, first_wave_set, sound_begun, row_command, note_ended, at_row, ticked, tick_step}
+use Rattle.play_model.specs.State.{Voice, Playing}
+use Rattle.play_model.specs.TickStep.{Ticked, note_started, gate_timer_set}
+use Rattle.play_model.specs.TickStep.{note_taken, first_wave_set, sound_begun, row_command, note_ended, at_row}
 use Rattle.play_model.specs.Helpers.{do_command}
-use Rattle.blocks.specs.Trees.{Tree, NoneTree, ThenTree}
-use Rattle.blocks.specs.Desk.{Layout}
-use Rattle.player_parts.specs.declared.labels.TheConstants.{STARTED, TICK, TEMPO, FUNK_ONE, FUNK_TWO}
+use Rattle.blocks.specs.Trees.{NoneTree, ThenTree}
+use Rattle.player_parts.specs.declared.labels.TheConstants.{STARTED}
 use Rattle.player_parts.specs.Holds.{HandedOn}
 use Rattle.player_parts.proofs.Laws.{VoiceDesk, Reader, Leads, leads_on, Done, InstrumentAt, SidesAt}
 use Rattle.player_tick.specs.RowCommands.{command_tree}
 use Rattle.player_tick.specs.TickBlock.{gate_timer_tree, note_tree, started_tree, row_tree}
 use Rattle.player_tick.proofs.TickDesks.{Ticking, cleared}
-use Rattle.player_tick.proofs.NoteStarts.{handed_behind, starts, gate_timer_leads, note_leads}
+use Rattle.player_tick.proofs.NoteStarts.{starts, gate_timer_leads, note_leads}
+use Rattle.player_tick.proofs.SoundBegins.{handed_behind}
 use Rattle.player_tick.proofs.RowCommanded.{CommandKeeps, command_leads}
 
 -- ---- at a row
