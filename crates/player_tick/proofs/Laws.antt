@@ -5,3 +5,5 @@ pub use Rattle.player_tick.proofs.TickLeads.{IsRow, TickGround, TickKeeps, tick_
 pub use Rattle.player_tick.proofs.RowCommanded.{CommandKeeps}
 pub use Rattle.player_tick.proofs.Ticks.{TickDone}
 pub use Rattle.player_tick.proofs.SoundBegins.{handed_behind}
+-- the voice stays where it is in its song
+pub use Rattle.player_tick.proofs.KeptFields.{tick_rest}

@@ -10,7 +10,8 @@ mod RunningCommands
 mod OnceCommands
 mod TempoCommands
 mod RowCommanded
--- What is done at a row, and between rows.
+-- What is done at a row, and between rows, and what stays.
+mod KeptFields
 mod Ticks
 mod Between
 -- The whole block.
