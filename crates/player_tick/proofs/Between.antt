@@ -1,10 +1,10 @@
 -- Between rows a row's length is loaded where the tick has passed 0.
-use Rattle.std.proofs.Common.{◌≡◌, ◌≢◌, ℕ, zero, suc, ◌+◌, ◌-◌, ◌%◌, ◌<◌, ◌≤◌, Bool, true, false, not, nat_eq, nat_le, bit_xor}
-use Rattle.std.proofs.Common.{if◌then◌else◌, [], ◌∷◌, inl, inr, refl, sym, ap, ◌∙◌, subst, arith}
-use Rattle.std.proofs.lemmas.Bool.{not-true, not-false, leb-true, leb-false, le-leb, lt-leb, cases_lt, true≢false}
+use Rattle.std.proofs.Common.{◌≡◌, ℕ, zero, suc, ◌+◌, ◌<◌, ◌≤◌, Bool, true, false, nat_le}
+use Rattle.std.proofs.Common.{[], ◌∷◌, inl, inr, refl, sym, ◌∙◌, subst, arith}
+use Rattle.std.proofs.lemmas.Bool.{not-true, not-false, leb-true, leb-false, le-leb, cases_lt, true≢false}
 use Rattle.code_runs.specs.Runs.{put}
-use Rattle.play_model.specs.State.{Voice, Common, Playing}
-use Rattle.play_model.specs.TickStep.{Ticked, tempo_of, with_tempo, reloaded, between_rows}
+use Rattle.play_model.specs.State.{Playing}
+use Rattle.play_model.specs.TickStep.{tempo_of, with_tempo, reloaded, between_rows}
 use Rattle.blocks.specs.Trees.{Tree, ChainTree, NoneTree, ThenTree, WhenTree}
 use Rattle.player_parts.specs.declared.labels.TheConstants.{TICK, TEMPO, FUNK_ONE, FUNK_TWO}
 use Rattle.player_parts.specs.Codes.{index_number}
@@ -12,7 +12,6 @@ use Rattle.player_parts.specs.Holds.{HandedOn}
 use Rattle.player_parts.proofs.Laws.{VoiceDesk, Reader, Leads, leads_on, loaded, compared, Done}
 use Rattle.player_tick.specs.TickBlock.{funk_turned_tree, funk_turn_tree, reload_tree, between_tree}
 use Rattle.player_tick.proofs.TickDesks.{own_tempo_set}
-use Rattle.player_tick.proofs.NoteStarts.{handed_behind}
 use Rattle.player_tick.proofs.Ticks.{TickDone}
 
 -- another tick stands
@@ -90,15 +89,15 @@ turn_leads r s handed d m tempo few small acc at = (
         rw e (
           refl,
           done_as r.voice _ _ handed d _ (first_is (r.voice + 1) 0 s refl)
-          (turned_done r.voice (with_tick 0 s) handed d m 1 (m.shared FUNK_ONE) s.common.funk_one _ _ _ _ _ few
-          at.common.funk_one at),
+              (turned_done r.voice (with_tick 0 s) handed d m 1 (m.shared FUNK_ONE) s.common.funk_one _ _ _ _ _ few
+              at.common.funk_one at),
         )
     by_tempo (suc zero) e l at =
         rw e (
           refl,
           done_as r.voice _ _ handed d _ (second_is (r.voice + 1) 1 s refl)
-          (turned_done r.voice (with_tick 1 s) handed d m 0 (m.shared FUNK_TWO) s.common.funk_two _ _ _ _ _ few
-          at.common.funk_two at),
+              (turned_done r.voice (with_tick 1 s) handed d m 0 (m.shared FUNK_TWO) s.common.funk_two _ _ _ _ _ few
+              at.common.funk_two at),
         )
     by_tempo (suc (suc tempo)) e l at = absurd (omega (arith, l))
 
@@ -113,8 +112,7 @@ reload_leads : (r : Reader) (s : Playing) (handed : HandedOn) (d m : VoiceDesk) 
     (TickDone r.voice (record { playing = reloaded (r.voice + 1) tempo s; started = false }) handed d) m
 reload_leads r s handed d m tempo few is small keeps at =
     leads_on r (WhenTree 20 funk_turn_tree) (Done r.voice (reloaded (r.voice + 1) tempo s) handed d)
-    (Leads r shown_tree Goal) ticking (λ n h. record { done = assumption h; zero = refl })
-    (
+    (Leads r shown_tree Goal) ticking (λ n h. record { done = assumption h; zero = refl }) (
       λ kept. turn_leads r s handed d ticking tempo few small acc ticked,
       λ left.
           elim (cases_lt tempo 2) [

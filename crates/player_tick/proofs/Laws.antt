@@ -4,4 +4,6 @@
 pub use Rattle.player_tick.proofs.TickLeads.{IsRow, TickGround, TickKeeps, tick_leads}
 pub use Rattle.player_tick.proofs.RowCommanded.{CommandKeeps}
 pub use Rattle.player_tick.proofs.Ticks.{TickDone}
-pub use Rattle.player_tick.proofs.NoteStarts.{handed_behind}
+pub use Rattle.player_tick.proofs.SoundBegins.{handed_behind}
+-- the voice stays where it is in its song
+pub use Rattle.player_tick.proofs.KeptFields.{tick_rest}

@@ -1,21 +1,21 @@
 -- A row's command from 5 on is done once, by the part for it.
-use Rattle.std.proofs.Common.{◌≡◌, ℕ, ◌+◌, ◌-◌, ◌*◌, ◌%◌, ◌<◌, ◌≤◌, Bool, true, false, not, nat_eq, nat_le, nat_lt}
-use Rattle.std.proofs.Common.{if◌then◌else◌, [], ◌∷◌, inl, inr, refl, sym, ap, ◌∙◌, subst, arith}
-use Rattle.std.proofs.lemmas.Bool.{not-true, not-false, leb-true, leb-false, le-leb, lt-leb, lt-ltb, le-ltb, eqb-true, eq-eqb, true≢false}
+use Rattle.std.proofs.Common.{◌≡◌, ℕ, ◌+◌, ◌<◌, ◌≤◌, Bool, true, false, nat_eq, nat_lt}
+use Rattle.std.proofs.Common.{if◌then◌else◌, inl, inr, refl, sym, ap, ◌∙◌, subst, arith}
+use Rattle.std.proofs.lemmas.Bool.{not-true, not-false, leb-true, leb-false, lt-ltb, le-ltb, eqb-true, true≢false}
 use Rattle.std.proofs.lemmas.Bool.Decides.{eqb_tells}
 use Rattle.code_runs.specs.Runs.{put}
-use Rattle.play_model.specs.State.{Voice, Playing}
+use Rattle.play_model.specs.State.{Playing}
 use Rattle.play_model.specs.TickStep.{tempo_of}
 use Rattle.play_model.specs.Helpers.{do_command}
 use Rattle.blocks.specs.Trees.{Tree, WhenTree}
 use Rattle.player_parts.specs.declared.labels.TheConstants.{NEW_PARAM, FILTER_POINTER, FILTER_TIME, FILTER_CONTROL}
 use Rattle.player_parts.specs.declared.labels.TheConstants.{CUTOFF, VOLUME}
 use Rattle.player_parts.specs.Holds.{HandedOn}
-use Rattle.player_parts.proofs.Laws.{VoiceDesk, Reader, Leads, loaded, compared, Done}
+use Rattle.player_parts.proofs.Laws.{VoiceDesk, Reader, Leads, compared, Done}
 use Rattle.player_tick.specs.RowCommands.{for_command, ad_set_tree, sr_set_tree, wave_set_tree, wave_pointer_set_tree}
 use Rattle.player_tick.specs.RowCommands.{pulse_pointer_set_tree, filter_pointer_set_tree, filter_control_set_tree}
 use Rattle.player_tick.specs.RowCommands.{cutoff_set_tree, volume_set_tree}
-use Rattle.player_tick.proofs.TickDesks.{Ticking, ticking_as, tempos_kept}
+use Rattle.player_tick.proofs.TickDesks.{Ticking, tempos_kept, if_so, if_not}
 
 -- ---- a part
 
@@ -209,12 +209,6 @@ cutoff_leads r c p s handed d m e at =
       };
       y_is = at.y_is;
     }
-
-if_so : (b : Bool) (x y n : ℕ) → b ≡ true → n ≡ x → n ≡ (if b then x else y)
-if_so b x y n e same = rw e same
-
-if_not : (b : Bool) (x y n : ℕ) → b ≡ false → n ≡ y → n ≡ (if b then x else y)
-if_not b x y n e same = rw e same
 
 pub filter_control_leads : (r : Reader) (c p : ℕ) (s : Playing) (handed : HandedOn) (d m : VoiceDesk) →
     d.own NEW_PARAM ≡ p → Ticking c r.voice s handed d m →

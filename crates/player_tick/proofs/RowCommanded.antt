@@ -1,17 +1,16 @@
 -- A row's command is done: it runs from now on, or one of the parts does it once.
-use Rattle.std.proofs.Common.{◌≡◌, ◌≢◌, ℕ, zero, suc, ◌+◌, ◌%◌, ◌<◌, ◌≤◌, Bool, true, false, not, nat_eq, nat_le}
-use Rattle.std.proofs.Common.{if◌then◌else◌, [], ◌∷◌, inl, inr, refl, sym, ap, ◌∙◌, subst, arith}
-use Rattle.std.proofs.lemmas.Bool.{not-true, not-false, leb-true, leb-false, lt-leb, ne_eqb, cases_lt, true≢false}
+use Rattle.std.proofs.Common.{◌≡◌, ◌≢◌, ℕ, zero, suc, ◌+◌, ◌%◌, ◌<◌, ◌≤◌, true, false, nat_eq, nat_le}
+use Rattle.std.proofs.Common.{inl, inr, refl, sym, ap, ◌∙◌, subst, arith}
+use Rattle.std.proofs.lemmas.Bool.{not-true, not-false, leb-true, leb-false, lt-leb, ne_eqb, cases_lt}
 use Rattle.song_model.specs.declared.instruments.Instrument.{Instrument}
 use Rattle.song_model.specs.declared.tables.TableName.TheVariants.{Speed}
 use Rattle.play_model.specs.LookUps.{LookUps}
-use Rattle.play_model.specs.State.{Voice, Playing}
+use Rattle.play_model.specs.State.{Playing}
 use Rattle.play_model.specs.TickStep.{row_command}
 use Rattle.play_model.specs.Helpers.{do_command}
-use Rattle.blocks.specs.Trees.{Tree, ChainTree, NoneTree, ThenTree, IfTree, WhenTree}
+use Rattle.blocks.specs.Trees.{NoneTree, ThenTree, WhenTree}
 use Rattle.blocks.specs.Desk.{Layout}
 use Rattle.player_parts.specs.declared.labels.TheConstants.{NEW_COMMAND, NEW_PARAM}
-use Rattle.player_parts.specs.Codes.{store_y}
 use Rattle.player_parts.specs.Holds.{HandedOn}
 use Rattle.player_parts.proofs.Laws.{VoiceDesk, Reader, Leads, leads_on, loaded, indexed, compared, Done, InstrumentAt, SidesAt}
 use Rattle.player_tick.specs.RowCommands.{ad_tree, sr_tree, wave_tree, wave_pointer_tree, pulse_pointer_tree}
@@ -22,7 +21,7 @@ use Rattle.player_tick.specs.RowCommands.{pulse_pointer_set_tree, filter_pointer
 use Rattle.player_tick.specs.RowCommands.{cutoff_set_tree, volume_set_tree, funk_choice_tree, tempo_set_tree, funk_set_tree}
 use Rattle.player_tick.specs.RowCommands.{voice_commands_tree, filter_commands_tree, tempo_commands_tree, once_tree}
 use Rattle.player_tick.specs.RowCommands.{running_tree, command_tree}
-use Rattle.player_tick.proofs.TickDesks.{Ticking, cleared, ticking_as}
+use Rattle.player_tick.proofs.TickDesks.{Ticking, cleared}
 use Rattle.player_tick.proofs.RunningCommands.{running_leads}
 use Rattle.player_tick.proofs.OnceCommands.{after, after_none, part_leads, is_there, wave_pointer_set, ad_leads, sr_leads, wave_leads}
 use Rattle.player_tick.proofs.OnceCommands.{wave_pointer_leads, pulse_pointer_leads, filter_pointer_leads}

@@ -1,15 +1,13 @@
 -- A row's command from 0 to 4 runs from now on.
-use Rattle.std.proofs.Common.{◌≡◌, ℕ, ◌+◌, ◌-◌, ◌*◌, ◌%◌, ◌<◌, ◌≤◌, Bool, true, false, not, nat_eq, nat_le}
-use Rattle.std.proofs.Common.{if◌then◌else◌, [], ◌∷◌, refl, sym, ap, ◌∙◌, subst, arith}
+use Rattle.std.proofs.Common.{◌≡◌, ℕ, ◌<◌, ◌≤◌, true, false, nat_eq, nat_le}
+use Rattle.std.proofs.Common.{refl, sym, ap, ◌∙◌, arith}
 use Rattle.std.proofs.lemmas.Bool.{not-true, not-false, leb-true, leb-false, le-leb, lt-leb, eqb-true}
-use Rattle.code_runs.specs.Runs.{put}
 use Rattle.song_model.specs.declared.instruments.Instrument.{Instrument}
 use Rattle.play_model.specs.LookUps.{LookUps}
-use Rattle.play_model.specs.State.{Voice, Playing}
+use Rattle.play_model.specs.State.{Playing}
 use Rattle.play_model.specs.TickStep.{row_command}
-use Rattle.player_parts.specs.declared.labels.TheConstants.{NEW_COMMAND, NEW_PARAM}
 use Rattle.player_parts.specs.Holds.{HandedOn}
-use Rattle.player_parts.proofs.Laws.{VoiceDesk, Reader, Leads, loaded, compared, Done, InstrumentAt}
+use Rattle.player_parts.proofs.Laws.{VoiceDesk, Reader, Leads, InstrumentAt}
 use Rattle.player_tick.specs.RowCommands.{running_tree}
 use Rattle.player_tick.proofs.TickDesks.{Ticking, cleared, ticking_as, field_reads}
 
@@ -48,19 +46,19 @@ running_leads r look number channel c p u handed d m ground few acc row_param at
             let none : m.accumulator ≡ 0 = eqb-true m.accumulator 0 met in (
               vibrato.found,
               ticking_as number r.voice _ _ handed d _
-              (ap cleared (row_vibrato channel look i c p u (ap (λ n. nat_eq n 0) (sym acc) ∙ met)))
-              (record {
-                done = record {
-                  fields = assumption (none, vibrato_is, at.done.fields);
-                  common = at.done.common;
-                  tempos = at.done.tempos;
-                  handed_on = at.done.handed_on;
-                  fetch = assumption at.done.fetch;
-                  subtune = at.done.subtune;
-                  sid = at.done.sid;
-                };
-                y_is = at.y_is;
-              }),
+                  (ap cleared (row_vibrato channel look i c p u (ap (λ n. nat_eq n 0) (sym acc) ∙ met)))
+                  (record {
+                    done = record {
+                      fields = assumption (none, vibrato_is, at.done.fields);
+                      common = at.done.common;
+                      tempos = at.done.tempos;
+                      handed_on = at.done.handed_on;
+                      fetch = assumption at.done.fetch;
+                      subtune = at.done.subtune;
+                      sid = at.done.sid;
+                    };
+                    y_is = at.y_is;
+                  }),
             ),
         λ some.
             let some_is : nat_eq c 0 ≡ false = ap (λ n. nat_eq n 0) (sym acc) ∙ some in (

@@ -1,16 +1,15 @@
 -- Commands $E and $F of a row set tempos, for this voice or for all.
-use Rattle.std.proofs.Common.{◌≡◌, ◌≢◌, ℕ, ◌+◌, ◌-◌, ◌*◌, ◌%◌, ◌<◌, ◌≤◌, ◌&&◌, ◌⊎◌, Bool, true, false, not, nat_eq, nat_le, bit_and}
+use Rattle.std.proofs.Common.{◌≡◌, ◌≢◌, ℕ, ◌+◌, ◌-◌, ◌%◌, ◌<◌, ◌≤◌, ◌&&◌, Bool, true, false, nat_eq, nat_le, bit_and}
 use Rattle.std.proofs.Common.{if◌then◌else◌, [], ◌∷◌, inl, inr, refl, sym, ap, ◌∙◌, subst, arith}
-use Rattle.std.proofs.lemmas.Bool.{not-true, not-false, leb-true, leb-false, le-leb, lt-leb, eqb-true, eqb-false, cases_lt}
+use Rattle.std.proofs.lemmas.Bool.{not-true, not-false, leb-true, leb-false, le-leb, lt-leb, eqb-false, cases_lt}
 use Rattle.code_runs.specs.Runs.{put}
 use Rattle.cpu6502.specs.Registers.{one_if}
 use Rattle.song_model.specs.declared.tables.TableName.TheVariants.{Speed}
-use Rattle.song_model.specs.declared.tables.TableRow.{TableRow}
 use Rattle.play_model.specs.LookUps.{LookUps}
-use Rattle.play_model.specs.State.{Voice, Common, Playing}
+use Rattle.play_model.specs.State.{Playing}
 use Rattle.play_model.specs.TickStep.{tempo_of, with_tempo, with_all_tempos, funk_set, funk_tempo, tempo_set}
 use Rattle.blocks.specs.Trees.{Tree, NoneTree, ThenTree, ChainTree}
-use Rattle.player_parts.specs.declared.labels.TheConstants.{NEW_PARAM, TEMPO, FUNK_ONE, FUNK_TWO, SPEED_LEFTS}
+use Rattle.player_parts.specs.declared.labels.TheConstants.{NEW_PARAM, FUNK_ONE, FUNK_TWO, SPEED_LEFTS}
 use Rattle.player_parts.specs.declared.labels.TheConstants.{SPEED_RIGHTS}
 use Rattle.player_parts.specs.Codes.{load_number}
 use Rattle.player_parts.specs.Holds.{HandedOn}
@@ -18,7 +17,8 @@ use Rattle.player_parts.proofs.Laws.{VoiceDesk, Reader, Leads, leads_on, loaded,
 use Rattle.player_parts.proofs.Laws.{side_place}
 use Rattle.player_tick.specs.RowCommands.{tempos_tree, funk_choice_tree, own_tempo_tree, all_tempos_tree, tempo_set_tree}
 use Rattle.player_tick.specs.RowCommands.{funk_values_tree, funk_set_tree}
-use Rattle.player_tick.proofs.TickDesks.{Ticking, ticking_as, tempos_kept, own_tempo_set, all_tempos_set, with_tempos, low_seven}
+use Rattle.player_tick.proofs.TickDesks.{Ticking, ticking_as, tempos_kept, own_tempo_set, all_tempos_set}
+use Rattle.player_tick.specs.PartLaws.{low_seven}
 use Rattle.player_tick.proofs.OnceCommands.{param_is}
 
 -- A becomes the three tempos

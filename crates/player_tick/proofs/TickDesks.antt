@@ -1,11 +1,10 @@
 -- The desk of a voice in its tick step, from one piece of the code to the next.
 use Rattle.std.proofs.Common.{◌≡◌, ◌≢◌, ℕ, zero, suc, ◌+◌, ◌*◌, ◌%◌, ◌<◌, Bool, true, false, nat_eq, bit_and, if◌then◌else◌}
-use Rattle.std.proofs.Common.{refl, sym, ap, ◌∙◌, subst, arith}
+use Rattle.std.proofs.Common.{refl, subst, arith}
 use Rattle.std.proofs.lemmas.Bool.{agree_below_at, eqb-true}
 use Rattle.code_runs.specs.Runs.{put}
-use Rattle.song_model.specs.declared.instruments.Instrument.{Instrument}
 use Rattle.play_model.specs.LookUps.{LookUps}
-use Rattle.play_model.specs.State.{Voice, Common, Playing}
+use Rattle.play_model.specs.State.{Playing}
 use Rattle.play_model.specs.TickStep.{tempo_of, with_tempo, with_all_tempos}
 use Rattle.player_parts.specs.declared.labels.TheConstants.{TEMPO, INSTRUMENTS}
 use Rattle.player_parts.specs.PlayerLists.{instrument_byte}
@@ -22,13 +21,7 @@ pub record Ticking (y voice : ℕ) (s : Playing) (handed : HandedOn) (d m : Voic
 abbrev pub cleared : Playing → Playing
 cleared s = record s { voice = record s.voice { new_note = 0 } }
 
--- the same on a desk with other registers
-pub done_shown : (voice : ℕ) (s : Playing) (handed : HandedOn) (d m : VoiceDesk) (a y : ℕ) (c z n : Bool) →
-    Done voice s handed d m →
-    Done voice s handed d (record m { accumulator = a; y = y; carry = c; zero = z; minus = n })
-done_shown voice s handed d m a y c z n at = assumption at
-
--- and of the same voice, said in another way
+-- the same said in another way
 pub ticking_as : (y voice : ℕ) (s u : Playing) (handed : HandedOn) (d m : VoiceDesk) → s ≡ u →
     Ticking y voice s handed d m → Ticking y voice u handed d m
 ticking_as y voice s u handed d m e at = subst (λ x. Ticking y voice x handed d m) e at
@@ -171,6 +164,9 @@ pub low_six : (n : ℕ) → n < 256 → bit_and n 0x3F ≡ n % 64
 low_six n l =
     eqb-true _ _ (agree_below_at (λ n. nat_eq (bit_and n 0x3F) (n % 64)) (λ _. true) 256 n refl l)
 
-pub low_seven : (n : ℕ) → n < 256 → bit_and n 0x7F ≡ n % 128
-low_seven n l =
-    eqb-true _ _ (agree_below_at (λ n. nat_eq (bit_and n 0x7F) (n % 128)) (λ _. true) 256 n refl l)
+-- a number that depends on a test
+pub if_so : (b : Bool) (x y n : ℕ) → b ≡ true → n ≡ x → n ≡ (if b then x else y)
+if_so b x y n e same = rw e same
+
+pub if_not : (b : Bool) (x y n : ℕ) → b ≡ false → n ≡ y → n ≡ (if b then x else y)
+if_not b x y n e same = rw e same

@@ -1,14 +1,14 @@
 -- The law of the tick step's block: it leaves what the tick step leaves.
-use Rattle.std.proofs.Common.{◌≡◌, ◌≢◌, ℕ, zero, suc, ◌+◌, ◌-◌, ◌%◌, ◌<◌, ◌≤◌, Bool, true, false, not, nat_eq, nat_le}
-use Rattle.std.proofs.Common.{if◌then◌else◌, refl, sym, ap, ◌∙◌, subst, arith}
+use Rattle.std.proofs.Common.{◌≡◌, ◌≢◌, ℕ, ◌+◌, ◌-◌, ◌%◌, ◌<◌, ◌≤◌, Bool, true, false, nat_eq, nat_le}
+use Rattle.std.proofs.Common.{refl, sym, ap, ◌∙◌, subst, arith}
 use Rattle.std.proofs.lemmas.Bool.{not-true, not-false, eqb-true}
 use Rattle.code_runs.specs.Runs.{put}
 use Rattle.song_model.specs.declared.tables.TableName.TheVariants.{Speed}
 use Rattle.play_model.specs.LookUps.{LookUps}
 use Rattle.play_model.specs.Wrap.{byte_minus}
 use Rattle.play_model.specs.Ranges.{IsVoice, IsCommon}
-use Rattle.play_model.specs.State.{Voice, Common, Playing}
-use Rattle.play_model.specs.TickStep.{Ticked, tempo_of, between_rows, at_row, ticked, tick_step}
+use Rattle.play_model.specs.State.{Common, Playing}
+use Rattle.play_model.specs.TickStep.{tempo_of, between_rows, at_row, tick_step}
 use Rattle.blocks.specs.Desk.{Layout}
 use Rattle.player_parts.specs.declared.labels.TheConstants.{TICK, STARTED}
 use Rattle.player_parts.specs.Holds.{HandedOn}

@@ -1,6 +1,6 @@
 -- Each part of the tick step changes nothing in a frame that doesn't use its feature: the test in it fails.
-use Rattle.std.proofs.Common.{◌≡◌, ◌≢◌, ℕ, ◌+◌, ◌-◌, ◌%◌, ◌<◌, ◌≤◌, ◌⊎◌, Bool, true, false, not, nat_eq, nat_le, bit_and, refl, sym, ap}
-use Rattle.std.proofs.Common.{inl, inr, arith, ◌∙◌, subst, if◌then◌else◌}
+use Rattle.std.proofs.Common.{◌≡◌, ◌≢◌, ℕ, ◌+◌, ◌-◌, ◌%◌, ◌<◌, ◌≤◌, ◌⊎◌, Bool, true, false, nat_eq, nat_le, bit_and, refl}
+use Rattle.std.proofs.Common.{inl, inr, arith, ◌∙◌, if◌then◌else◌}
 use Rattle.std.proofs.lemmas.Bool.{lt-leb, le-leb, ne_eqb, cases_lt, agree_below_at, eqb-true}
 use Rattle.std.proofs.lemmas.Bool.Decides.{eqb_tells}
 use Rattle.song_model.specs.declared.features.Feature.{Feature}
@@ -139,11 +139,12 @@ funk_chosen_leaves visit desk laid few clear comes =
         let low : nat_le 2 (row_param visit desk) ≡ true = le-leb 2 (row_param visit desk) least in
         rw (asked, low) refl
 
--- and with a length of 3 or more it would set one
-low_seven : (n : ℕ) → n < 256 → bit_and n 0x7F ≡ n % 128
+-- the bits of a byte below the highest
+pub low_seven : (n : ℕ) → n < 256 → bit_and n 0x7F ≡ n % 128
 low_seven n l =
     eqb-true _ _ (agree_below_at (λ n. nat_eq (bit_and n 0x7F) (n % 128)) (λ _. true) 256 n refl l)
 
+-- with 3 or more in them command $F would set a length
 pub tempo_leaves : LeavesAll tempo_tree (IsUnused SetTempo) ComesToCommand
 tempo_leaves visit desk laid few clear comes =
     elim (eqb_tells desk.y 0xF) [

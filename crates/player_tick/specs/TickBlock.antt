@@ -1,6 +1,6 @@
 -- The block of the tick step: the tick counts down, past 0 a row's length is loaded, and at 0 the note that waits starts
 -- and the row's command is done. This is the project's own player.
-use Rattle.std.specs.Prelude.{ℕ, ◌+◌, [], ◌∷◌}
+use Rattle.std.specs.Prelude.{◌+◌, [], ◌∷◌}
 use Rattle.player_parts.specs.Words.{Const, Plain, And, Xor, Sub, Zero, Minus, Equal, Less, Is, Not}
 use Rattle.blocks.specs.Trees.{Tree, ChainTree, NoneTree, ThenTree, IfTree, WhenTree}
 use Rattle.player_parts.specs.declared.labels.TheConstants.{TICK, GATE_TIMER, INSTRUMENT, NOTE, NEW_NOTE, NEW_COMMAND, COMMAND, PARAM, AD, SR}
@@ -83,7 +83,7 @@ sound_or_slide_tree = IfTree (load_own NEW_COMMAND ∷ []) (Not (Equal (Const 3)
 
 abbrev pub note_tree : Tree
 note_tree =
-    IfTree (load_own NEW_NOTE ∷ []) (Not Zero) 
+    IfTree (load_own NEW_NOTE ∷ []) (Not Zero)
     (ThenTree note_taken_tree (ThenTree vibrato_taken_tree (ThenTree sound_or_slide_tree NoneTree))) NoneTree
 
 -- zero exactly where a note has started

@@ -10,9 +10,7 @@ ghost use Rattle.player_tick.specs.RowCommands.{funk_set_tree, funk_tree};
 
 use base::NoMemory;
 use blocks::{Block, Condition, Operand, Step, Summand, Test, chain, choose, seq};
-use player_parts::codes::{
-    index_own, load_entry, load_number, load_own, store_own, store_shared,
-};
+use player_parts::codes::{index_own, load_entry, load_number, load_own, store_own, store_shared};
 use player_parts::labels::{
     AD, CUTOFF, FILTER_CONTROL, FILTER_POINTER, FILTER_TIME, FUNK_ONE, FUNK_TWO, NEW_PARAM,
     PULSE_POINTER, PULSE_TIME, SPEED_LEFTS, SPEED_RIGHTS, SR, TEMPO, VOLUME, WAVE, WAVE_POINTER,

@@ -12,7 +12,9 @@ ghost use Rattle.song_model.specs.declared.features.Feature.{Feature};
 ghost use Rattle.song_model.specs.declared.features.Feature.TheVariants.{SetAd, SetSr, SetWave, SetWavePointer, SetPulsePointer, SetFilterPointer, FilterControl};
 ghost use Rattle.song_model.specs.declared.features.Feature.TheVariants.{Cutoff, Volume};
 
-use crate::commands::{ad, cutoff, filter_control, filter_pointer, pulse_pointer, sr, volume, wave, wave_pointer};
+use crate::commands::{
+    ad, cutoff, filter_control, filter_pointer, pulse_pointer, sr, volume, wave, wave_pointer,
+};
 use base::NoMemory;
 use blocks::Block;
 use player_parts::Part;
