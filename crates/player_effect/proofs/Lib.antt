@@ -19,3 +19,4 @@ mod Rules
 -- The whole.
 mod Effects
 mod Backs
+mod Chained
