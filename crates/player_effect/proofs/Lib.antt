@@ -20,3 +20,4 @@ mod Rules
 mod Effects
 mod Backs
 mod Chained
+mod Lent
