@@ -11,7 +11,7 @@ use Rattle.player_parts.specs.declared.parts.TheConstants.{SKIP_EFFECTS_BIT}
 use Rattle.player_parts.specs.Codes.{load_shared}
 use Rattle.player_parts.proofs.Laws.{VoiceDesk, Reader, Leads}
 use Rattle.player_effect.specs.EffectBlock.{command_tree, skip_tree, instrument_tree}
-use Rattle.player_effect.proofs.EffectDesks.{effect_touches, effect_works, still, Works}
+use Rattle.player_effect.proofs.EffectDesks.{effect_touches, effect_works, still, Works, as_before, works_over}
 
 -- ---- the voice's command
 
@@ -32,18 +32,6 @@ command_leads r Q d next =
 -- the option leaves the effect out: at tick 0, but not a lent one
 abbrev pub skips : Options → VoiceDesk → Bool
 skips o d = o.skip_effects && (nat_eq (d.own TICK) 0 && nat_eq (d.shared LENT) 0)
-
--- the same desk with other flags and another A
-pub as_before : {first m : VoiceDesk} {delay time command : ℕ} (a : ℕ) (c z n : Bool) → Works first m delay time command →
-    Works first (record m { accumulator = a; carry = c; zero = z; minus = n }) delay time command
-as_before a c z n at = record {
-  own = at.own;
-  shared = at.shared;
-  sid = at.sid;
-  delay_is = at.delay_is;
-  time_is = at.time_is;
-  command_is = at.command_is;
-}
 
 all_hold : (a b c : Bool) → a ≡ true → b ≡ true → c ≡ true → (a && (b && c)) ≡ true
 all_hold a b c e f g = rw (e, f, g) refl
@@ -76,25 +64,18 @@ skip_leads r o Q first m delay time command option at skipped done = (
           skipped
           (all_hold o.skip_effects _ _ (sym option ∙ some) (tested_as (m.own TICK) (first.own TICK) true tick met)
           (tested_as (m.shared LENT) (first.shared LENT) true lent none)) _
-          (record {
-            own = at.own;
-            shared = still effect_works m.shared first.shared WORK_COMMAND 0x80 refl at.shared;
-            sid = at.sid;
-            delay_is = at.delay_is;
-            time_is = at.time_is;
-            command_is = refl;
-          }),
+          (works_over at (still effect_works m.shared first.shared WORK_COMMAND 0x80 refl at.shared) refl),
       λ some_lent.
           done
           (third_fails o.skip_effects (nat_eq (first.own TICK) 0) _
           (tested_as (m.shared LENT) (first.shared LENT) false lent some_lent)) _
-          (as_before _ _ _ _ at),
+          (as_before at),
     ),
     λ unmet.
         done
         (second_fails o.skip_effects (nat_eq (first.own TICK) 0) (nat_eq (first.shared LENT) 0)
         (tested_as (m.own TICK) (first.own TICK) false tick unmet)) _
-        (as_before _ _ _ _ at),
+        (as_before at),
   ),
   λ none. done (first_fails o.skip_effects (nat_eq (first.own TICK) 0) (nat_eq (first.shared LENT) 0) (sym option ∙ none)) m at,
 )
@@ -120,11 +101,11 @@ vibrato_rests r Q first m delay time command at small rests done = (
             (sym at.command_is ∙ eqb-true _ _ idle)
             (λ e. eqb-false (m.own PARAM) 0 (not-true _ some) (at.own PARAM refl ∙ e))
             (λ e. eqb-false (m.own VIB_DELAY) 0 (not-true _ begun) (at.delay_is ∙ e))),
-        λ none. done _ (as_before _ _ _ _ at),
+        λ none. done _ (as_before at),
       ),
-      λ none. done _ (as_before _ _ _ _ at),
+      λ none. done _ (as_before at),
     ),
-    λ busy. done _ (as_before _ _ _ _ at),
+    λ busy. done _ (as_before at),
   ),
   λ left. done m at,
 )
@@ -176,14 +157,7 @@ vibrato_begins r Q first m time at is_kept some done = (
           omega (arith, is),
           omega arith,
           (
-            λ last. done _ (record {
-              own = at.own;
-              shared = still effect_works m.shared first.shared WORK_COMMAND 4 refl at.shared;
-              sid = at.sid;
-              delay_is = at.delay_is;
-              time_is = at.time_is;
-              command_is = refl;
-            }),
+            λ last. done _ (works_over at (still effect_works m.shared first.shared WORK_COMMAND 4 refl at.shared) refl),
             λ more. absurd (eqb-false (m.own VIB_DELAY) 1 more is),
           ),
         ),
@@ -216,9 +190,9 @@ rests_leads r tree Q first m delay time command at rests done = (
           absurd (true≢false (sym (le-leb 128 (m.shared WORK_COMMAND) (let e = at.command_is in let f = skipped in omega (arith, e, f)))
           ∙ not-true _ plus))
     ],
-    λ minus. done _ (as_before _ _ _ _ at),
+    λ minus. done _ (as_before at),
   ),
-  λ none. done _ (as_before _ _ _ _ at),
+  λ none. done _ (as_before at),
 )
 
 -- a command works: it is in A
@@ -228,7 +202,7 @@ pub works_leads : (r : Reader) (tree : Tree) (Q : VoiceDesk → Type 0) (first m
     Leads r (done_tree tree) Q m
 works_leads r tree Q first m delay time command at from to done = (
   λ some. (
-    λ plus. done _ (as_before _ _ _ _ at) is,
+    λ plus. done _ (as_before at) is,
     λ minus.
         absurd (true≢false (sym (not-false _ minus) ∙ lt-leb 128 (m.shared WORK_COMMAND) (omega (arith, is, to)))),
   ),

@@ -65,6 +65,31 @@ pub record Works (first m : VoiceDesk) (delay time command : ℕ) : Type 0 where
   pub time_is : m.own VIB_TIME ≡ time
   pub command_is : m.shared WORK_COMMAND ≡ command
 
+-- the same behind a step that changes registers alone, and behind one that works with shared bytes, too
+pub as_before : {first m : VoiceDesk} {delay time command : ℕ} {a y : ℕ} {c z n : Bool} →
+    Works first m delay time command →
+    Works first (record m { accumulator = a; y = y; carry = c; zero = z; minus = n }) delay time command
+as_before at = record {
+  own = at.own;
+  shared = at.shared;
+  sid = at.sid;
+  delay_is = at.delay_is;
+  time_is = at.time_is;
+  command_is = at.command_is;
+}
+
+pub works_over : {first m : VoiceDesk} {delay time command now : ℕ} {shared : ℕ → ℕ} {a y : ℕ} {c z n : Bool} →
+    Works first m delay time command → Same effect_works shared first.shared → shared WORK_COMMAND ≡ now →
+    Works first (record m { shared = shared; accumulator = a; y = y; carry = c; zero = z; minus = n }) delay time now
+works_over at same is = record {
+  own = at.own;
+  shared = same;
+  sid = at.sid;
+  delay_is = at.delay_is;
+  time_is = at.time_is;
+  command_is = is;
+}
+
 -- the speed
 abbrev pub HasSpeed : VoiceDesk → ℕ → Type 0
 HasSpeed m speed = AreHalves (m.shared SPEED_LOW) (m.shared SPEED_HIGH) speed

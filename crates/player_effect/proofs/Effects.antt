@@ -5,7 +5,7 @@ use Rattle.std.proofs.lemmas.Bool.{cases_lt, cases_eq}
 use Rattle.play_model.specs.declared.options.Options.{Options}
 use Rattle.play_model.specs.LookUps.{LookUps}
 use Rattle.play_model.specs.Ranges.{IsVoice}
-use Rattle.play_model.specs.State.{Playing}
+use Rattle.play_model.specs.State.{Voice, Playing}
 use Rattle.play_model.specs.EffectStep.{effect_step}
 use Rattle.play_model.specs.Freq.{freq}
 use Rattle.play_model.specs.Helpers.{vibrato}
@@ -35,43 +35,42 @@ use Rattle.player_effect.proofs.Rules.{rises_vibrato}
 abbrev pub effect_runs : Options → VoiceDesk → Bool
 effect_runs o d = d.zero && not (skips o d)
 
--- what it leaves
-abbrev pub effect_left : Options → LookUps → VoiceDesk → Playing → Playing
-effect_left o look d s = if effect_runs o d then record s { voice = effect_step look s.voice } else s
+-- what is left by a step that is done or not
+abbrev pub effect_left : LookUps → Bool → Playing → Playing
+effect_left look runs s = if runs then record s { voice = effect_step look s.voice } else s
 
--- a speed is asked for: by a command, or by the instrument's vibrato when its delay is over
-pub data NeedsSpeed (d : VoiceDesk) : Type 0 where
-  ForCommand : d.own COMMAND ≢ 0 → NeedsSpeed d
-  ForVibrato : d.own COMMAND ≡ 0 → d.own PARAM ≢ 0 → d.own VIB_DELAY ≡ 1 → NeedsSpeed d
+-- a voice asks for a speed: by its command, or by the instrument's vibrato when its delay is over
+pub data NeedsSpeed (v : Voice) : Type 0 where
+  ForCommand : v.command ≢ 0 → NeedsSpeed v
+  ForVibrato : v.command ≡ 0 → v.param ≢ 0 → v.vib_delay ≡ 1 → NeedsSpeed v
 
 -- what is read where the step is done: the frequencies of notes, and the row of the speed
-pub record EffectGround (r : Reader) (look : LookUps) (o : Options) (d : VoiceDesk) : Type 0 where
+pub record EffectGround (r : Reader) (look : LookUps) (runs : Bool) (v : Voice) : Type 0 where
   pub notes : NotesAt r
-  pub speed : effect_runs o d ≡ true → NeedsSpeed d → SidesAt r look Speed (d.own PARAM)
+  pub speed : runs ≡ true → NeedsSpeed v → SidesAt r look Speed v.param
 
 -- which parts are kept where it is done: for the instrument's vibrato, for a calculated speed, for a tie and for tone
 -- portamento
-pub record EffectKeeps (layout : Layout) (look : LookUps) (o : Options) (d : VoiceDesk) : Type 0 where
-  pub vibrato : effect_runs o d ≡ true → d.own COMMAND ≡ 0 → d.own PARAM ≢ 0 → d.own VIB_DELAY ≢ 0 →
-      layout.is_kept 7 ≡ true
-  pub calculated : effect_runs o d ≡ true → NeedsSpeed d → 128 ≤ (look.row Speed (d.own PARAM)).left →
-      layout.is_kept 8 ≡ true
-  pub tie : effect_runs o d ≡ true → d.own COMMAND ≡ 3 → d.own PARAM ≡ 0 → layout.is_kept 5 ≡ true
-  pub tone : effect_runs o d ≡ true → d.own COMMAND ≡ 3 → d.own PARAM ≢ 0 → layout.is_kept 4 ≡ true
+pub record EffectKeeps (layout : Layout) (look : LookUps) (runs : Bool) (v : Voice) : Type 0 where
+  pub vibrato : runs ≡ true → v.command ≡ 0 → v.param ≢ 0 → v.vib_delay ≢ 0 → layout.is_kept 7 ≡ true
+  pub calculated : runs ≡ true → NeedsSpeed v → 128 ≤ (look.row Speed v.param).left → layout.is_kept 8 ≡ true
+  pub tie : runs ≡ true → v.command ≡ 3 → v.param ≡ 0 → layout.is_kept 5 ≡ true
+  pub tone : runs ≡ true → v.command ≡ 3 → v.param ≢ 0 → layout.is_kept 4 ≡ true
 
 -- a voice's step: the law's premises
-pub record Scene (r : Reader) (look : LookUps) (o : Options) (at : Rest) (d : VoiceDesk) : Type 0 where
-  pub few : r.voice < 3
-  pub ranges : IsVoice (voice_in at d)
-  pub low : HasLowBytes d
-  pub options : KeepsOptions r.layout o
-  pub most : d.own COMMAND ≤ 4
-  pub ground : EffectGround r look o d
-  pub keeps : EffectKeeps r.layout look o d
+record Scene (r : Reader) (look : LookUps) (o : Options) (at : Rest) (d : VoiceDesk) : Type 0 where
+  few : r.voice < 3
+  ranges : IsVoice (voice_in at d)
+  low : HasLowBytes d
+  options : KeepsOptions r.layout o
+  most : d.own COMMAND ≤ 4
+  ground : EffectGround r look (effect_runs o d) (voice_in at d)
+  keeps : EffectKeeps r.layout look (effect_runs o d) (voice_in at d)
 
 -- the desk behind the step
-abbrev pub Behind : Reader → LookUps → Options → Rest → VoiceDesk → VoiceDesk → Type 0
-Behind r look o at d m = Done r.voice (effect_left o look d (playing_in r.voice at d)) (handed_in d) d m
+abbrev Behind : Reader → LookUps → Options → Rest → VoiceDesk → VoiceDesk → Type 0
+Behind r look o at d m =
+    Done r.voice (effect_left look (effect_runs o d) (playing_in r.voice at d)) (handed_in d) d m
 
 -- ---- the ways to it
 
@@ -133,7 +132,7 @@ none_works r Q d m delay time command works rests small idle done =
 
 -- a vibrato, by the rule that the effect step comes to
 vibrates : (r : Reader) (look : LookUps) (o : Options) (at : Rest) (d m : VoiceDesk) → Scene r look o at d →
-    effect_runs o d ≡ true → NeedsSpeed d →
+    effect_runs o d ≡ true → NeedsSpeed (voice_in at d) →
     effect_step look (voice_in at d) ≡ vibrato look (d.own PARAM) (voice_in at d) →
     Works d m (d.own VIB_DELAY) (d.own VIB_TIME) 4 → m.accumulator ≡ 4 →
     Leads r slide_tree (Behind r look o at d) m
@@ -147,7 +146,7 @@ vibrates r look o at d m scene runs needs rule works acc =
     })
 
 slides_three : (r : Reader) (look : LookUps) (o : Options) (at : Rest) (d m : VoiceDesk) → Scene r look o at d →
-    effect_runs o d ≡ true → d.own COMMAND ≡ 3 → NeedsSpeed d →
+    effect_runs o d ≡ true → d.own COMMAND ≡ 3 → NeedsSpeed (voice_in at d) →
     Works d m (d.own VIB_DELAY) (d.own VIB_TIME) 3 → m.accumulator ≡ 3 →
     Leads r slide_tree (Behind r look o at d) m
 slides_three r look o at d m scene runs is needs works acc =
@@ -298,9 +297,9 @@ scene_leads r look o at d scene = (
 
 -- The effect step is done where the zero flag is set and the option doesn't leave it out: a lent command isn't left out.
 pub effect_leads : (r : Reader) (look : LookUps) (o : Options) (at : Rest) (d : VoiceDesk) → r.voice < 3 →
-    IsVoice (voice_in at d) → HasLowBytes d → KeepsOptions r.layout o → d.own COMMAND ≤ 4 → EffectGround r look o d →
-    EffectKeeps r.layout look o d →
-    Leads r effect_tree (Done r.voice (effect_left o look d (playing_in r.voice at d)) (handed_in d) d) d
+    IsVoice (voice_in at d) → HasLowBytes d → KeepsOptions r.layout o → d.own COMMAND ≤ 4 →
+    EffectGround r look (effect_runs o d) (voice_in at d) → EffectKeeps r.layout look (effect_runs o d) (voice_in at d) →
+    Leads r effect_tree (Done r.voice (effect_left look (effect_runs o d) (playing_in r.voice at d)) (handed_in d) d) d
 effect_leads r look o at d few ranges low options most ground keeps =
     scene_leads r look o at d (record {
       few = few;

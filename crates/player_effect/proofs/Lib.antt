@@ -19,3 +19,5 @@ mod Rules
 -- The whole.
 mod Effects
 mod Backs
+mod Chained
+mod Lent

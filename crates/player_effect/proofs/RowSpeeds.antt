@@ -12,7 +12,7 @@ use Rattle.player_parts.proofs.Laws.{VoiceDesk, Reader, Leads, Reads, side_place
 use Rattle.blocks.specs.Trees.{ThenTree, NoneTree}
 use Rattle.player_effect.specs.EffectBlock.{turn_tree, swing_tree, sides_tree, row_speed_tree}
 use Rattle.player_effect.proofs.Numbers.{low_seven, turned_round, way_is}
-use Rattle.player_effect.proofs.EffectDesks.{effect_touches, effect_works, still, Works}
+use Rattle.player_effect.proofs.EffectDesks.{effect_touches, effect_works, still, Works, works_over}
 
 -- ---- the vibrato's turn
 
@@ -98,16 +98,8 @@ row_leads r look Q first m delay time command at acc below sides done = (
       (
         here.right.found,
         done _
-            (record {
-              own = at.own;
-              shared =
-                  still effect_works _ first.shared SPEED_LOW _ refl
-                  (still effect_works m.shared first.shared SPEED_HIGH _ refl at.shared);
-              sid = at.sid;
-              delay_is = at.delay_is;
-              time_is = at.time_is;
-              command_is = at.command_is;
-            })
+            (works_over at (still effect_works _ first.shared SPEED_LOW _ refl
+            (still effect_works m.shared first.shared SPEED_HIGH _ refl at.shared)) at.command_is)
             param (here.right.is ∙ ap (λ p. (look.row Speed p).right) param)
             (here.left.is ∙ ap (λ p. (look.row Speed p).left) param),
       ),

@@ -20,8 +20,7 @@ use Rattle.player_parts.proofs.Laws.{VoiceDesk, Reader, Leads, TestLeads, TurnsL
 use Rattle.player_parts.proofs.Laws.{counter_down, compared, loaded, with_cell}
 use Rattle.player_effect.specs.EffectBlock.{half_tone_tree, shift_tree, note_dependent_tree}
 use Rattle.player_effect.proofs.Numbers.{word_difference, halved_word}
-use Rattle.player_effect.proofs.EffectDesks.{effect_works, still, Works, HasSpeed}
-use Rattle.player_effect.proofs.Commands.{as_before}
+use Rattle.player_effect.proofs.EffectDesks.{effect_works, still, Works, as_before, works_over, HasSpeed}
 
 -- ---- halvings
 
@@ -82,8 +81,8 @@ unfolding shifts
 turns_lead r Q first delay time command zero wanted word m at acc small speed done = done m at speed
 turns_lead r Q first delay time command (suc n) zero word m at acc small speed done = (
   λ ends.
-      done _ (as_before ((m.accumulator + 254 + 1) % 256) (nat_le 256 (m.accumulator + 254 + 1)) _ _ at)
-      (record { low_is = speed.low_is; high_is = speed.high_is }),
+      done _ (as_before at)
+      speed,
   λ goes_on.
       let over = leb-true 256 (m.accumulator + 254 + 1) (not-false _ goes_on) in absurd (omega (arith, acc, over)),
 )
@@ -92,16 +91,8 @@ turns_lead r Q first delay time command (suc n) (suc wanted) word m at acc small
       let below = leb-false 256 (m.accumulator + 254 + 1) (not-true _ ends) in absurd (omega (arith, acc, below)),
   λ goes_on.
       turns_lead r Q first delay time command n wanted (word / 2) _
-      (record {
-        own = at.own;
-        shared =
-            still effect_works _ first.shared SPEED_LOW _ refl
-            (still effect_works m.shared first.shared SPEED_HIGH _ refl at.shared);
-        sid = at.sid;
-        delay_is = at.delay_is;
-        time_is = at.time_is;
-        command_is = at.command_is;
-      })
+      (works_over at (still effect_works _ first.shared SPEED_LOW _ refl
+      (still effect_works m.shared first.shared SPEED_HIGH _ refl at.shared)) at.command_is)
       (omega (arith, acc, small)) (omega (arith, small))
       (halved_word (m.shared SPEED_LOW) (m.shared SPEED_HIGH) word speed) done,
 )
@@ -113,15 +104,8 @@ shift_leads : (r : Reader) (Q : VoiceDesk → Type 0) (first m : VoiceDesk) (del
     Leads r shift_tree Q m
 shift_leads r Q first m delay time command wanted word at acc small speed most done =
     turns_lead r Q first delay time command 16 wanted word (record m { y = 16; zero = false; minus = false })
-    (record {
-      own = at.own;
-      shared = at.shared;
-      sid = at.sid;
-      delay_is = at.delay_is;
-      time_is = at.time_is;
-      command_is = at.command_is;
-    })
-    acc small (record { low_is = speed.low_is; high_is = speed.high_is })
+    (as_before at)
+    acc small speed
     (λ k works has. done k works (subst (HasSpeed k) (sixteen_shifts wanted word most) has))
 
 -- ---- the half tone
@@ -190,16 +174,8 @@ difference_leads r Q first m delay time command wanted notes at kept small done 
           (
             high.found,
             done _
-                (record {
-                  own = at.own;
-                  shared =
-                      still effect_works _ first.shared SPEED_HIGH _ refl
-                      (still effect_works m.shared first.shared SPEED_LOW _ refl at.shared);
-                  sid = at.sid;
-                  delay_is = at.delay_is;
-                  time_is = at.time_is;
-                  command_is = at.command_is;
-                })
+                (works_over at (still effect_works _ first.shared SPEED_HIGH _ refl
+                (still effect_works m.shared first.shared SPEED_LOW _ refl at.shared)) at.command_is)
                 kept
                 (difference_halves _ _ _ _ (freq (m.accumulator + 1)) (freq m.accumulator) next_low.is next_high.is low.is
                 high.is (frequency_small m.accumulator)),
@@ -219,7 +195,7 @@ half_tone_leads r Q first m delay time command wanted notes at right small done 
   (
     λ met.
         let from : 0x60 ≤ m.own LAST_NOTE = leb-true 0x60 (m.own LAST_NOTE) (not-false _ (not-true _ met)) in
-        difference_leads r Q first (loaded 0x60 asked) delay time command wanted notes (kept_works asked_works) right
+        difference_leads r Q first (loaded 0x60 asked) delay time command wanted notes (as_before asked_works) right
         (omega arith)
         (λ k works acc speed.
         done k works acc (subst (HasSpeed k) (high_half_tone (first.own LAST_NOTE) (omega (arith, last, from))) speed)),
@@ -239,24 +215,7 @@ half_tone_leads r Q first m delay time command wanted notes at right small done 
         (loaded (m.own LAST_NOTE) (with_cell (Var COUNTER) (m.shared SPEED_LOW) (loaded (m.shared SPEED_LOW) m)))
 
     asked_works : Works first asked delay time command
-    asked_works = record {
-      own = at.own;
-      shared = still effect_works m.shared first.shared COUNTER (m.shared SPEED_LOW) refl at.shared;
-      sid = at.sid;
-      delay_is = at.delay_is;
-      time_is = at.time_is;
-      command_is = at.command_is;
-    }
-
-    kept_works : {n : VoiceDesk} → Works first n delay time command → Works first (loaded 0x60 n) delay time command
-    kept_works works = record {
-      own = works.own;
-      shared = works.shared;
-      sid = works.sid;
-      delay_is = works.delay_is;
-      time_is = works.time_is;
-      command_is = works.command_is;
-    }
+    asked_works = works_over at (still effect_works m.shared first.shared COUNTER (m.shared SPEED_LOW) refl at.shared) at.command_is
 
 -- ---- the part
 
@@ -277,7 +236,7 @@ plain_leads r look Q first m delay time command speed at y sides low has done = 
       λ calculates.
           let high = leb-true 128 (r.before (side_place r SPEED_LEFTS m.y)) calculates in
           absurd (omega (arith, high, is, low)),
-      λ plain. done _ (as_before _ _ _ _ at) (record { low_is = has.low_is; high_is = has.high_is }),
+      λ plain. done _ (as_before at) has,
     ),
   ),
   λ left. done m at has,
@@ -302,7 +261,7 @@ calculated_leads r look Q first m delay time command right at notes y sides high
     (
       λ calculates.
           half_tone_leads r (Leads r (ThenTree shift_tree NoneTree) Q) first
-          (loaded (r.before (side_place r SPEED_LEFTS m.y)) m) delay time command right notes (as_before _ _ _ _ at) low
+          (loaded (r.before (side_place r SPEED_LEFTS m.y)) m) delay time command right notes (as_before at) low
           last
           (λ k works acc speed.
           shift_leads r Q first k delay time command right (half_tone (first.own LAST_NOTE)) works acc small speed

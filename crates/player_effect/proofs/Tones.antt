@@ -12,8 +12,7 @@ use Rattle.player_parts.specs.Holds.{AreHalves}
 use Rattle.player_parts.proofs.Laws.{VoiceDesk, Reader, Leads, NotesAt, side_place, compared, loaded}
 use Rattle.player_effect.specs.EffectBlock.{tie_tree, target_tree, distance_tree, way_tree, tone_tree}
 use Rattle.player_effect.proofs.Numbers.{halves_sum, word_difference, no_borrow, down_carries, up_carries}
-use Rattle.player_effect.proofs.EffectDesks.{effect_works, still, Works, HasSpeed}
-use Rattle.player_effect.proofs.Commands.{as_before}
+use Rattle.player_effect.proofs.EffectDesks.{effect_works, still, Works, as_before, works_over, HasSpeed}
 use Rattle.player_effect.proofs.Shifts.{frequency_small, no_frequency}
 
 -- ---- a tie
@@ -32,9 +31,9 @@ tie_passes r Q first m delay time command speed at has small other done = (
             absurd
             (other (sym is ∙ eqb-true (m.shared WORK_COMMAND) 3 slides)
             (sym (at.own PARAM refl) ∙ eqb-true (m.own PARAM) 0 none)),
-        λ some. done _ (on _ _ _ _ _ at) (record { low_is = has.low_is; high_is = has.high_is }),
+        λ some. done _ (as_before at) has,
       ),
-      λ apart. done _ (as_before _ _ _ _ at) (record { low_is = has.low_is; high_is = has.high_is }),
+      λ apart. done _ (as_before at) has,
     ),
   ),
   λ left. done m at has,
@@ -42,17 +41,6 @@ tie_passes r Q first m delay time command speed at has small other done = (
   where
     is : m.shared WORK_COMMAND ≡ command
     is = at.command_is
-
-    on : (a y : ℕ) (c z n : Bool) → Works first m delay time command →
-        Works first (record m { accumulator = a; y = y; carry = c; zero = z; minus = n }) delay time command
-    on a y c z n works = record {
-      own = works.own;
-      shared = works.shared;
-      sid = works.sid;
-      delay_is = works.delay_is;
-      time_is = works.time_is;
-      command_is = works.command_is;
-    }
 
 -- the note comes at once
 pub tie_arrives : (r : Reader) (Q : VoiceDesk → Type 0) (first m : VoiceDesk) (delay time speed : ℕ) →
@@ -66,15 +54,8 @@ tie_arrives r Q first m delay time speed at has none is_kept done = (
       λ slides. (
         λ tied.
             done _
-            (record {
-              own = at.own;
-              shared = still effect_works m.shared first.shared WORK_COMMAND 5 refl at.shared;
-              sid = at.sid;
-              delay_is = at.delay_is;
-              time_is = at.time_is;
-              command_is = refl;
-            })
-            (record { low_is = has.low_is; high_is = has.high_is }),
+            (works_over at (still effect_works m.shared first.shared WORK_COMMAND 5 refl at.shared) refl)
+            has,
         λ some. absurd (eqb-false (m.own PARAM) 0 some (at.own PARAM refl ∙ none)),
       ),
       λ apart. absurd (eqb-false (m.shared WORK_COMMAND) 3 apart is),
@@ -102,27 +83,16 @@ target_leads r Q first m delay time command speed at has small done = (
         let from : 0x60 ≤ m.own NOTE = leb-true 0x60 (m.own NOTE) (not-false _ (not-true _ met)) in
         let low = no_frequency 0x60 (omega arith) in
         let high = no_frequency (first.own NOTE) (omega (arith, note, from)) in
-        done _ (on _ _ _ _ _) (record { low_is = has.low_is; high_is = has.high_is }) (omega arith) (low ∙ sym high),
+        done _ (as_before at) has (omega arith) (low ∙ sym high),
     λ unmet.
         let below : m.own NOTE < 0x60 = leb-false 0x60 (m.own NOTE) (not-true _ (not-false _ unmet)) in
-        done _ (on _ _ _ _ _) (record { low_is = has.low_is; high_is = has.high_is }) (omega (arith, below))
+        done _ (as_before at) has (omega (arith, below))
         (ap freq note),
   ),
 )
   where
     note : m.own NOTE ≡ first.own NOTE
     note = at.own NOTE refl
-
-    on : (a y : ℕ) (c z n : Bool) →
-        Works first (record m { accumulator = a; y = y; carry = c; zero = z; minus = n }) delay time command
-    on a y c z n = record {
-      own = at.own;
-      shared = at.shared;
-      sid = at.sid;
-      delay_is = at.delay_is;
-      time_is = at.time_is;
-      command_is = at.command_is;
-    }
 
 -- ---- the way
 
@@ -154,13 +124,13 @@ distance_leads r Q first m delay time command speed word target notes at has fas
           λ above.
               let from : target ≤ word = leb-true target word (sym borrows ∙ above) in
               let test : nat_lt word target ≡ false = le-ltb word target from in
-              done _ (on _ _ _ _ _ _ _) (record { low_is = has.low_is; high_is = has.high_is })
+              done _ (on _ _ _ _ _ _ _) has
               (ap (λ z. if z then 1 else 2) (sym test))
               (down_carries (m.shared SPEED_LOW) (m.shared SPEED_HIGH) speed _ _ word target has fast away from small),
           λ below.
               let before : word < target = leb-false target word (sym borrows ∙ below) in
               let test : nat_lt word target ≡ true = lt-ltb word target before in
-              done _ (on _ _ _ _ _ _ _) (record { low_is = has.low_is; high_is = has.high_is })
+              done _ (on _ _ _ _ _ _ _) has
               (ap (λ z. if z then 1 else 2) (sym test))
               (up_carries (m.shared SPEED_LOW) (m.shared SPEED_HIGH) speed _ _ word target has away before most),
         ),
@@ -185,16 +155,8 @@ distance_leads r Q first m delay time command speed word target notes at has fas
           zero = z;
           minus = n;
         }) delay time command
-    on wl wh a y c z n = record {
-      own = at.own;
-      shared =
-          still effect_works (put m.shared WORK_LOW wl) first.shared WORK_HIGH wh refl
-          (still effect_works m.shared first.shared WORK_LOW wl refl at.shared);
-      sid = at.sid;
-      delay_is = at.delay_is;
-      time_is = at.time_is;
-      command_is = at.command_is;
-    }
+    on wl wh a y c z n = works_over at (still effect_works (put m.shared WORK_LOW wl) first.shared WORK_HIGH wh refl
+        (still effect_works m.shared first.shared WORK_LOW wl refl at.shared)) at.command_is
 
 -- the command that works then: the arrival, or the way
 abbrev pub turned_to : ℕ → ℕ → ℕ → ℕ
@@ -208,30 +170,16 @@ way_leads : (r : Reader) (Q : VoiceDesk → Type 0) (first m : VoiceDesk) (delay
 way_leads r Q first m delay time command speed way true at has y reached done = (
   λ met.
       done _
-      (record {
-        own = at.own;
-        shared = still effect_works m.shared first.shared WORK_COMMAND 5 refl at.shared;
-        sid = at.sid;
-        delay_is = at.delay_is;
-        time_is = at.time_is;
-        command_is = refl;
-      })
-      (record { low_is = has.low_is; high_is = has.high_is }),
+      (works_over at (still effect_works m.shared first.shared WORK_COMMAND 5 refl at.shared) refl)
+      has,
   λ unmet. absurd (true≢false (sym reached ∙ unmet)),
 )
 way_leads r Q first m delay time command speed way false at has y reached done = (
   λ met. absurd (true≢false (sym met ∙ reached)),
   λ unmet.
       done _
-      (record {
-        own = at.own;
-        shared = still effect_works m.shared first.shared WORK_COMMAND m.y refl at.shared;
-        sid = at.sid;
-        delay_is = at.delay_is;
-        time_is = at.time_is;
-        command_is = y;
-      })
-      (record { low_is = has.low_is; high_is = has.high_is }),
+      (works_over at (still effect_works m.shared first.shared WORK_COMMAND m.y refl at.shared) y)
+      has,
 )
 
 -- ---- the part
@@ -246,7 +194,7 @@ tone_passes r Q first m delay time command speed at has small other done = (
     omega arith,
     (
       λ slides. absurd (other (sym is ∙ eqb-true (m.shared WORK_COMMAND) 3 slides)),
-      λ apart. done _ (as_before _ _ _ _ at) (record { low_is = has.low_is; high_is = has.high_is }),
+      λ apart. done _ (as_before at) has,
     ),
   ),
   λ left. done m at has,
@@ -270,7 +218,7 @@ tone_turns r Q first m delay time speed word notes at has fast halves small note
       λ slides.
           target_leads r (Leads r (ThenTree distance_tree (ThenTree way_tree NoneTree)) Q) first
           (compared (m.shared WORK_COMMAND) 3 (loaded (m.shared WORK_COMMAND) m)) delay time 3 speed
-          (as_before _ _ _ _ at) (record { low_is = has.low_is; high_is = has.high_is }) note
+          (as_before at) has note
           (λ k works its row same.
           distance_leads r (Leads r (ThenTree way_tree NoneTree) Q) first k delay time 3 speed word
           (freq (first.own NOTE)) notes works its fast halves small row same
