@@ -11,3 +11,5 @@ mod Slides
 mod Programs
 -- The whole code.
 mod Pulses
+-- What it stands on is there.
+mod Grounds

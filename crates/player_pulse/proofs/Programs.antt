@@ -1,29 +1,27 @@
 -- A row of a pulse program begins or goes on.
-use Rattle.std.proofs.Common.{◌≡◌, ◌≢◌, ℕ, ◌+◌, ◌-◌, ◌*◌, ◌%◌, ◌<◌, ◌≤◌, Bool, true, false, not, nat_eq, nat_le}
-use Rattle.std.proofs.Common.{bit_and, [], ◌∷◌, refl, sym, ap, ◌∙◌, subst, arith, eq-eqb}
+use Rattle.std.proofs.Common.{◌≡◌, ◌≢◌, ℕ, ◌+◌, ◌-◌, ◌*◌, ◌%◌, ◌<◌, ◌≤◌, false}
+use Rattle.std.proofs.Common.{bit_and, [], ◌∷◌, refl, sym, ap, ◌∙◌, subst, arith}
 use Rattle.std.proofs.lemmas.Bool.{leb-true, leb-false, not-true, not-false, eqb-true, eqb-false, both_ways, ne_eqb}
-use Rattle.code_runs.specs.Runs.{put}
 use Rattle.song_model.specs.declared.tables.TableRow.{TableRow}
 use Rattle.song_model.specs.declared.tables.TableName.TheVariants.{Pulse}
 use Rattle.play_model.specs.LookUps.{LookUps}
-use Rattle.play_model.specs.Wrap.{byte_plus}
 use Rattle.play_model.specs.Helpers.{next_row}
-use Rattle.play_model.specs.State.{Voice, Playing}
-use Rattle.play_model.specs.PulseStep.{pulse_step, pulse_row, pulse_slide, pulse_set}
-use Rattle.blocks.specs.Trees.{Tree, ChainTree, NoneTree, ThenTree, IfTree}
+use Rattle.play_model.specs.State.{Playing}
+use Rattle.play_model.specs.PulseStep.{pulse_step, pulse_row, pulse_slide}
+use Rattle.blocks.specs.Trees.{Tree, NoneTree, ThenTree, IfTree}
 use Rattle.blocks.specs.Steps.{one_less}
 use Rattle.player_parts.specs.Words.{VoiceVar, Zero, Is, Not}
-use Rattle.player_parts.specs.declared.labels.TheConstants.{PULSE_HIGH, PULSE_LOW, PULSE_TIME, PULSE_POINTER, PULSE_LEFTS}
+use Rattle.player_parts.specs.declared.labels.TheConstants.{PULSE_TIME, PULSE_POINTER, PULSE_LEFTS}
 use Rattle.player_parts.specs.declared.labels.TheConstants.{PULSE_RIGHTS}
 use Rattle.player_parts.specs.Codes.{load_own}
 use Rattle.player_parts.specs.SharedBlocks.{next_tree}
 use Rattle.player_parts.specs.Holds.{HandedOn, AreHalves}
 use Rattle.player_parts.proofs.Laws.{VoiceDesk, Reader, Leads, leads_on, Done, Reads, RowsAt, NextAt, side_place, next_leads, loaded, indexed}
-use Rattle.player_pulse.specs.PulseBlock.{begin_tree, slide_tree, program_tree, pulse_program_tree}
+use Rattle.player_pulse.specs.PulseBlock.{begin_tree, slide_tree, pulse_program_tree}
 use Rattle.player_pulse.proofs.PulseDesks.{PulseGround, own_done, done_over, done_as}
 use Rattle.player_pulse.proofs.PulseRows.{step_none, step_some, row_sets, row_stops, row_begins, row_runs}
 use Rattle.player_pulse.proofs.Widths.{set_width}
-use Rattle.player_pulse.proofs.Slides.{with_voice, Passes, Stays, Moved, Next, Same, AtWidth, slide_leads}
+use Rattle.player_pulse.proofs.Slides.{with_voice, Passes, Moved, Next, Same, AtWidth, slide_leads}
 
 -- ---- a row begins
 

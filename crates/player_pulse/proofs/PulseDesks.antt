@@ -1,5 +1,5 @@
 -- What the code of the pulse step stands on.
-use Rattle.std.proofs.Common.{◌≡◌, ◌≢◌, ℕ, ◌+◌, ◌-◌, ◌*◌, ◌&&◌, Bool, true, false, nat_eq, refl, sym, ap, ◌∙◌, subst}
+use Rattle.std.proofs.Common.{◌≡◌, ◌≢◌, ℕ, ◌+◌, ◌-◌, ◌*◌, ◌&&◌, true, false, nat_eq, refl, sym, ap, ◌∙◌, subst}
 use Rattle.code_runs.proofs.Laws.{put_other}
 use Rattle.code_runs.specs.Runs.{put}
 use Rattle.song_model.specs.declared.tables.TableName.TheVariants.{Pulse}
@@ -9,7 +9,7 @@ use Rattle.play_model.specs.State.{Voice, Playing}
 use Rattle.play_model.specs.TickStep.{tempo_of}
 use Rattle.blocks.specs.Desk.{Layout}
 use Rattle.player_parts.specs.declared.labels.TheConstants.{TEMPO}
-use Rattle.player_parts.specs.Holds.{HandedOn, FieldsStand, CommonStands, HandedStands}
+use Rattle.player_parts.specs.Holds.{HandedOn, FieldsStand, HandedStands}
 use Rattle.player_parts.proofs.Laws.{VoiceDesk, Reader, Done, SameFetch, RowsAt, NextAt}
 
 -- Where there is a pulse program at row p its row is found, with the row behind it where the program goes on. A row

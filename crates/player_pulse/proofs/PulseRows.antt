@@ -1,12 +1,12 @@
 -- The cases of the pulse step, each by what the row's sides and the time are.
-use Rattle.std.proofs.Common.{◌≡◌, ◌≢◌, ℕ, ◌+◌, ◌-◌, ◌%◌, ◌<◌, ◌≤◌, ◌&&◌, Bool, true, false, not, nat_eq, nat_le, nat_lt, if◌then◌else◌}
-use Rattle.std.proofs.Common.{refl, ap, ◌∙◌, arith, eq-eqb}
+use Rattle.std.proofs.Common.{◌≡◌, ◌≢◌, ℕ, ◌<◌, ◌≤◌, ◌&&◌, true, false, nat_eq, nat_le, if◌then◌else◌}
+use Rattle.std.proofs.Common.{refl, eq-eqb}
 use Rattle.std.proofs.lemmas.Bool.{le-leb, lt-leb, ne_eqb, cond_both}
 use Rattle.song_model.specs.declared.tables.TableRow.{TableRow}
 use Rattle.song_model.specs.declared.tables.TableName.TheVariants.{Pulse}
 use Rattle.play_model.specs.LookUps.{LookUps}
 use Rattle.play_model.specs.Wrap.{byte_minus}
-use Rattle.play_model.specs.State.{Voice, Playing}
+use Rattle.play_model.specs.State.{Voice}
 use Rattle.play_model.specs.Helpers.{next_row}
 use Rattle.play_model.specs.PulseStep.{pulse_step, pulse_row, pulse_set, pulse_slide, pulse_moved}
 

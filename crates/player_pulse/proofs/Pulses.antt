@@ -1,13 +1,12 @@
 -- The whole code of the pulse step, with the option that leaves the step out where the row is fetched.
-use Rattle.std.proofs.Common.{◌≡◌, ◌≢◌, ℕ, ◌+◌, ◌*◌, ◌<◌, ◌&&◌, Bool, true, false, not, nat_eq, inl, inr, refl, sym, ap, ◌∙◌, arith}
-use Rattle.std.proofs.Common.{[], ◌∷◌, eq-eqb}
-use Rattle.std.proofs.lemmas.Bool.{not-true, not-false, eqb-true, eqb-false, both_ways, ne_eqb}
+use Rattle.std.proofs.Common.{◌≡◌, ◌≢◌, ◌<◌, ◌&&◌, Bool, true, false, nat_eq, inl, inr, refl, sym, ap, ◌∙◌, arith}
+use Rattle.std.proofs.lemmas.Bool.{not-true, eqb-true, eqb-false, both_ways}
 use Rattle.std.proofs.lemmas.Bool.Decides.{eqb_tells}
 use Rattle.code_runs.specs.Runs.{put}
 use Rattle.play_model.specs.declared.options.Options.{Options}
 use Rattle.play_model.specs.LookUps.{LookUps}
 use Rattle.play_model.specs.Ranges.{IsVoice}
-use Rattle.play_model.specs.State.{Voice, Playing}
+use Rattle.play_model.specs.State.{Playing}
 use Rattle.play_model.specs.PulseStep.{pulse_step}
 use Rattle.play_model.specs.Frame.{pulse_done}
 use Rattle.blocks.specs.Trees.{Tree, NoneTree, ThenTree, WhenTree}
@@ -16,8 +15,8 @@ use Rattle.player_parts.specs.Holds.{HandedOn}
 use Rattle.player_parts.specs.PlayerLayouts.{KeepsOptions}
 use Rattle.player_parts.proofs.Laws.{VoiceDesk, Reader, Leads, leads_on, Done, Rest, voice_in, playing_in, handed_in, HasLowBytes, done_in}
 use Rattle.player_parts.proofs.Laws.{compared, loaded, indexed}
-use Rattle.player_pulse.specs.PulseBlock.{hide_tree, show_tree, pulse_tree, pulse_program_tree}
-use Rattle.player_pulse.proofs.PulseDesks.{PulseGround, PulseKeeps, own_done, done_over, done_as, tempos_stay}
+use Rattle.player_pulse.specs.PulseBlock.{show_tree, pulse_tree, pulse_program_tree}
+use Rattle.player_pulse.proofs.PulseDesks.{PulseGround, PulseKeeps, done_over, done_as, tempos_stay}
 use Rattle.player_pulse.proofs.PulseRows.{step_none, step_clock}
 use Rattle.player_pulse.proofs.Slides.{with_voice}
 use Rattle.player_pulse.proofs.Programs.{program_leads}

@@ -1,5 +1,5 @@
 -- A frame of a pulse program's row that moves the width.
-use Rattle.std.proofs.Common.{◌≡◌, ◌≢◌, ℕ, ◌+◌, ◌*◌, ◌/◌, ◌%◌, ◌<◌, ◌≤◌, Bool, true, false, not, nat_eq, nat_le, if◌then◌else◌}
+use Rattle.std.proofs.Common.{◌≡◌, ℕ, ◌+◌, ◌%◌, ◌<◌, ◌≤◌, Bool, true, false, nat_eq, nat_le, if◌then◌else◌}
 use Rattle.std.proofs.Common.{bit_and, [], ◌∷◌, refl, sym, ap, ◌∙◌, subst, arith}
 use Rattle.std.proofs.lemmas.Bool.{leb-true, leb-false}
 use Rattle.code_runs.specs.Runs.{put}
@@ -10,7 +10,7 @@ use Rattle.play_model.specs.Wrap.{byte_minus}
 use Rattle.play_model.specs.Helpers.{next_row}
 use Rattle.play_model.specs.State.{Voice, Playing}
 use Rattle.play_model.specs.PulseStep.{pulse_row, pulse_slide, pulse_moved}
-use Rattle.blocks.specs.Trees.{Tree, ChainTree, NoneTree, ThenTree, IfTree}
+use Rattle.blocks.specs.Trees.{Tree, ChainTree, NoneTree, ThenTree}
 use Rattle.blocks.specs.Steps.{one_less, one_more}
 use Rattle.player_parts.specs.Words.{And, Const}
 use Rattle.player_parts.specs.declared.labels.TheConstants.{PULSE_HIGH, PULSE_LOW, PULSE_TIME, PULSE_RIGHTS}
@@ -18,7 +18,7 @@ use Rattle.player_parts.specs.Codes.{load_own, store_own, less_own}
 use Rattle.player_parts.specs.Holds.{HandedOn, AreHalves}
 use Rattle.player_parts.proofs.Laws.{VoiceDesk, Reader, Leads, leads_on, Done, Reads, NextAt, side_place, loaded}
 use Rattle.player_pulse.specs.PulseBlock.{fall_tree, sum_tree, slide_tree}
-use Rattle.player_pulse.proofs.PulseDesks.{own_done, done_over, done_as}
+use Rattle.player_pulse.proofs.PulseDesks.{own_done, done_as}
 use Rattle.player_pulse.proofs.PulseRows.{slid, slide_ends, slide_stays}
 use Rattle.player_pulse.proofs.Widths.{fallen, risen, risen_over, masked, rises, falls}
 

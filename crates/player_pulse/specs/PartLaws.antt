@@ -1,6 +1,6 @@
 -- The part of the pulse step that does a program changes nothing where the state keeps clear of it, as it does in frames
 -- without the feature.
-use Rattle.std.proofs.Common.{◌≡◌, ◌≢◌, ℕ, zero, suc, ◌+◌, ◌<◌, ◌&&◌, Bool, true, false, nat_eq, if◌then◌else◌, refl, sym}
+use Rattle.std.proofs.Common.{◌≡◌, ◌+◌, ◌<◌, ◌&&◌, Bool, true, false, nat_eq, if◌then◌else◌, refl}
 use Rattle.std.proofs.Common.{◌∙◌, inl, inr, arith, eq-eqb}
 use Rattle.std.proofs.lemmas.Bool.Decides.{eqb_tells}
 use Rattle.song_model.specs.declared.features.Feature.TheVariants.{PulseTable}
@@ -10,7 +10,7 @@ use Rattle.player_parts.specs.declared.labels.TheConstants.{PULSE_POINTER}
 use Rattle.player_parts.specs.Holds.{own_bytes}
 use Rattle.player_parts.specs.Parts.{Visit, visit_turn, CoversUnused, LeavesAll}
 use Rattle.player_pulse.specs.PulseBlock.{pulse_program_tree}
-use Rattle.player_pulse.specs.Parts.{HasNoProgram, voice_at_pulse, program_at_pulse, IsAtProgram}
+use Rattle.player_pulse.specs.Parts.{HasNoProgram, voice_at_pulse, IsAtProgram}
 
 pub programs_unused : CoversUnused PulseTable HasNoProgram
 programs_unused visit unused = unused

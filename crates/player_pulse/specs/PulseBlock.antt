@@ -1,5 +1,5 @@
 -- The code of the pulse step: one row of the pulse program, or one frame of it. This is the project's own player.
-use Rattle.std.specs.Prelude.{ℕ, [], ◌∷◌}
+use Rattle.std.specs.Prelude.{[], ◌∷◌}
 use Rattle.song_model.specs.declared.tables.TableName.TheVariants.{Pulse}
 use Rattle.player_parts.specs.Words.{VoiceVar, Const, Plain, And, Add, Zero, Minus, Carry, Equal, Is, Not}
 use Rattle.blocks.specs.Trees.{Tree, ChainTree, NoneTree, ThenTree, IfTree, WhenTree}
@@ -62,16 +62,18 @@ pulse_program_tree = IfTree (index_own PULSE_POINTER ∷ []) (Not Zero) program_
 
 -- ---- the whole
 
--- by an option no program runs where the row is fetched: its pointer is kept while it is 0
+-- where the row is fetched
+abbrev pub on_fetch : Tree → Tree
+on_fetch body = IfTree (load_own TICK ∷ []) (Is (Equal (own_byte GATE_TIMER))) body NoneTree
+
+-- by an option no program runs there: its pointer is kept while it is 0
 abbrev pub hide_tree : Tree
 hide_tree =
-    IfTree (load_own TICK ∷ []) (Is (Equal (own_byte GATE_TIMER)))
-    (ChainTree (load_own PULSE_POINTER ∷ store_shared COUNTER ∷ load_number 0 ∷ store_own PULSE_POINTER ∷ [])) NoneTree
+    on_fetch
+    (ChainTree (load_own PULSE_POINTER ∷ store_shared COUNTER ∷ load_number 0 ∷ store_own PULSE_POINTER ∷ []))
 
 abbrev pub show_tree : Tree
-show_tree =
-    IfTree (load_own TICK ∷ []) (Is (Equal (own_byte GATE_TIMER)))
-    (ChainTree (load_shared COUNTER ∷ store_own PULSE_POINTER ∷ [])) NoneTree
+show_tree = on_fetch (ChainTree (load_shared COUNTER ∷ store_own PULSE_POINTER ∷ []))
 
 abbrev pub pulse_tree : Tree
 pulse_tree =

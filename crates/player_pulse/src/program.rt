@@ -17,12 +17,15 @@ use player_parts::{next_row, nothing};
 use song_model::TableName;
 use std::alloc::Global;
 
+/// The bits of a width's high byte.
+const HIGH_BITS: u8 = 0x0f;
+
 /// Sets the width: A is a left side from `$80` on.
 fn set(alloc: Global) -> Result<Block, NoMemory>
     ensures { IfOk result (λ block. tree_of block ≡ set_tree) }
 {
     let steps = [
-        Step::And(Operand::Const(0x0f)),
+        Step::And(Operand::Const(HIGH_BITS)),
         store_own(PULSE_HIGH),
         load_entry(PULSE_RIGHTS),
         store_own(PULSE_LOW),
@@ -85,7 +88,7 @@ fn slide(alloc: Global) -> Result<Block, NoMemory>
     let sum = sum(alloc)?;
     let steps = [
         load_own(PULSE_HIGH),
-        Step::And(Operand::Const(0x0f)),
+        Step::And(Operand::Const(HIGH_BITS)),
         store_own(PULSE_HIGH),
         less_own(PULSE_TIME),
     ];

@@ -2,17 +2,23 @@
 
 ghost use Rattle.std.specs.Prelude.{◌≡◌, IfOk};
 ghost use Rattle.blocks.specs.Trees.{tree_of};
-ghost use Rattle.player_pulse.specs.PulseBlock.{hide_tree, show_tree, pulse_tree};
+ghost use Rattle.player_pulse.specs.PulseBlock.{on_fetch, hide_tree, show_tree, pulse_tree};
 
 use crate::parts::ProgramDone;
 use base::NoMemory;
 use blocks::{Block, Condition, Test, chain, choose, seq, when};
-use player_parts::codes::{
-    load_number, load_own, load_shared, own_byte, store_own, store_shared,
-};
+use player_parts::codes::{load_number, load_own, load_shared, own_byte, store_own, store_shared};
 use player_parts::labels::{COUNTER, GATE_TIMER, PULSE_POINTER, TICK};
 use player_parts::{Part, SKIP_PULSE_BIT, When, nothing};
 use std::alloc::Global;
+
+/// Where the row is fetched.
+fn on_fetch(alloc: Global, body: Block) -> Result<Block, NoMemory>
+    ensures { IfOk result (λ block. tree_of block ≡ on_fetch (tree_of body)) }
+{
+    let fetched = Test::Is(Condition::Equal(own_byte(GATE_TIMER)));
+    choose(alloc, &[load_own(TICK)], fetched, body, nothing(alloc))
+}
 
 /// Keeps the program's pointer, which is 0 for a while, where the row is fetched.
 fn hide(alloc: Global) -> Result<Block, NoMemory>
@@ -24,18 +30,15 @@ fn hide(alloc: Global) -> Result<Block, NoMemory>
         load_number(0),
         store_own(PULSE_POINTER),
     ];
-    let kept = chain(alloc, &steps)?;
-    let fetched = Test::Is(Condition::Equal(own_byte(GATE_TIMER)));
-    choose(alloc, &[load_own(TICK)], fetched, kept, nothing(alloc))
+    on_fetch(alloc, chain(alloc, &steps)?)
 }
 
 /// Gives the pointer back.
 fn show(alloc: Global) -> Result<Block, NoMemory>
     ensures { IfOk result (λ block. tree_of block ≡ show_tree) }
 {
-    let back = chain(alloc, &[load_shared(COUNTER), store_own(PULSE_POINTER)])?;
-    let fetched = Test::Is(Condition::Equal(own_byte(GATE_TIMER)));
-    choose(alloc, &[load_own(TICK)], fetched, back, nothing(alloc))
+    let steps = [load_shared(COUNTER), store_own(PULSE_POINTER)];
+    on_fetch(alloc, chain(alloc, &steps)?)
 }
 
 /// One row of the voice's pulse program, or one frame of it, where it has one and no option leaves it out.

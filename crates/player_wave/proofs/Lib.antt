@@ -12,3 +12,5 @@ mod Once
 mod Commands
 -- The whole code.
 mod Waves
+-- What it stands on is there.
+mod Grounds

@@ -1,19 +1,19 @@
 -- A command of the wave table that is done at once.
-use Rattle.std.proofs.Common.{◌≡◌, ℕ, zero, suc, ◌<◌, ◌≤◌, ◌&&◌, Bool, true, false, not, nat_eq, nat_lt}
+use Rattle.std.proofs.Common.{◌≡◌, ℕ, zero, suc, ◌<◌, ◌≤◌, Bool, true, false, nat_eq, nat_lt}
 use Rattle.std.proofs.Common.{if◌then◌else◌, List, [], ◌∷◌, ◌++◌, refl, sym, ◌∙◌, subst, arith, eq-eqb}
-use Rattle.std.proofs.lemmas.Bool.{and_parts, ltb-true, leb-true, leb-false, lt-ltb, le-ltb, not-true, not-false, eqb-true, eqb-false, ne_eqb}
+use Rattle.std.proofs.lemmas.Bool.{leb-true, leb-false, lt-ltb, le-ltb, not-true, not-false, eqb-true, eqb-false, ne_eqb}
 use Rattle.code_runs.specs.Runs.{put}
 use Rattle.play_model.specs.LookUps.{LookUps}
 use Rattle.play_model.specs.Helpers.{do_command}
 use Rattle.play_model.specs.State.{Playing}
 use Rattle.play_model.specs.WaveStep.{program_moved, wave_command}
-use Rattle.blocks.specs.Trees.{Tree, ChainTree, NoneTree, ThenTree}
+use Rattle.blocks.specs.Trees.{Tree, ChainTree}
 use Rattle.player_parts.specs.declared.labels.TheConstants.{AD, SR, WAVE, PULSE_POINTER, PULSE_TIME, FILTER_POINTER, FILTER_TIME}
 use Rattle.player_parts.specs.declared.labels.TheConstants.{FILTER_CONTROL, CUTOFF, VOLUME, WORK_COMMAND, WAVE_RIGHTS}
 use Rattle.player_parts.specs.Codes.{load_number, store_own, store_shared}
 use Rattle.player_parts.specs.Holds.{HandedOn}
-use Rattle.player_parts.proofs.Laws.{VoiceDesk, Reader, Leads, leads_on, Done, Reads, side_place, compared, loaded, indexed}
-use Rattle.player_wave.specs.WaveBlock.{on_command, control_tree, volume_tree, once_tree}
+use Rattle.player_parts.proofs.Laws.{VoiceDesk, Reader, Leads, Done, Reads, side_place, loaded, indexed}
+use Rattle.player_wave.specs.WaveBlock.{control_tree, volume_tree, once_tree}
 use Rattle.player_wave.proofs.Bodies.{Body, bodies_tree, are_apart, IsFree, passed, done_there}
 use Rattle.player_wave.proofs.WaveDesks.{own_done, done_over, done_as, tempos_stay}
 

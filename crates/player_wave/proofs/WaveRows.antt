@@ -11,7 +11,7 @@ use Rattle.play_model.specs.State.{Playing}
 use Rattle.play_model.specs.Helpers.{porta_up, porta_down, tone, vibrato}
 use Rattle.play_model.specs.EffectStep.{effect_step}
 use Rattle.play_model.specs.WaveStep.{wave_step, wave_row, right_done, program_moved, wave_command, with_note}
-use Rattle.play_model.specs.WaveStep.{wave_note, is_wave_command}
+use Rattle.play_model.specs.WaveStep.{wave_note}
 use Rattle.player_wave.proofs.WaveDesks.{lent_out, given_back}
 
 -- ---- left sides

@@ -1,6 +1,6 @@
 -- The part of the wave step that does a command changes nothing where the state keeps clear of it, as it does in frames
 -- without the feature.
-use Rattle.std.proofs.Common.{◌≡◌, ℕ, ◌+◌, ◌<◌, ◌≤◌, true, nat_le, refl, arith}
+use Rattle.std.proofs.Common.{◌≡◌, ◌+◌, ◌<◌, ◌≤◌, true, nat_le, refl, arith}
 use Rattle.std.proofs.lemmas.Bool.{le-leb}
 use Rattle.song_model.specs.declared.tables.TableRow.{TableRow}
 use Rattle.song_model.specs.declared.tables.TableName.TheVariants.{Wave}
