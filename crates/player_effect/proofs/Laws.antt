@@ -6,7 +6,3 @@ pub use Rattle.player_effect.proofs.Effects.{effect_runs, effect_left, NeedsSpee
 pub use Rattle.player_effect.proofs.Effects.{EffectGround, EffectKeeps, effect_leads}
 -- and what was lent comes back
 pub use Rattle.player_effect.proofs.Backs.{given_back, lends_nothing, BackKeeps, back_leads}
--- both behind code that has left a state
-pub use Rattle.player_effect.proofs.Chained.{runs_on, effect_follows, back_follows}
--- and a wave command that was lent
-pub use Rattle.player_effect.proofs.Lent.{lent_state, Lends, lent_rule}

@@ -19,5 +19,3 @@ mod Rules
 -- The whole.
 mod Effects
 mod Backs
-mod Chained
-mod Lent

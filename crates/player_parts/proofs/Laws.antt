@@ -28,3 +28,5 @@ pub use Rattle.player_parts.proofs.Grounds.{side_place, SidesAt, NextAt, RowsAt,
 pub use Rattle.player_parts.proofs.Grounds.{next_reached, next_label, rows_at, next_here, notes_at, instrument_stands}
 -- where the blocks lead that several blocks have in common
 pub use Rattle.player_parts.proofs.SharedLeads.{next_leads, note_leads, with_note_bytes}
+-- what the commands leave that rows share with the wave table
+pub use Rattle.player_parts.proofs.Commands.{if_same, do_leaves}

@@ -18,5 +18,7 @@ pub mod MemoryLooks
 -- Where the code of a voice finds what the look-ups have.
 pub mod Grounds
 pub mod SharedLeads
+-- What commands leave.
+pub mod Commands
 -- A memory holds one state.
 pub mod HoldsLaws

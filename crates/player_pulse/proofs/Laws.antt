@@ -4,5 +4,3 @@
 pub use Rattle.player_pulse.proofs.PulseDesks.{PulseGround, PulseKeeps}
 -- its law
 pub use Rattle.player_pulse.proofs.Pulses.{pulse_leads}
--- what it stands on is there where a playable packed song stands in memory
-pub use Rattle.player_pulse.proofs.Grounds.{pulse_ground}

@@ -11,5 +11,3 @@ mod Slides
 mod Programs
 -- The whole code.
 mod Pulses
--- What it stands on is there.
-mod Grounds

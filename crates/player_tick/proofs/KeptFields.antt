@@ -2,12 +2,12 @@
 use Rattle.std.proofs.Common.{◌≡◌, ℕ, ◌-◌, Bool, true, false, nat_eq, nat_le, if◌then◌else◌, refl, ap, ◌∙◌}
 use Rattle.song_model.specs.declared.instruments.Instrument.{Instrument}
 use Rattle.play_model.specs.LookUps.{LookUps}
-use Rattle.play_model.specs.State.{Voice, Playing}
+use Rattle.play_model.specs.State.{Voice, Common, Playing}
 use Rattle.play_model.specs.TickStep.{note_taken, first_wave_set, sound_begun, note_started, row_command, gate_timer_set}
 use Rattle.play_model.specs.TickStep.{at_row, between_rows, reloaded, tempo_of, tick_step}
 use Rattle.play_model.specs.Wrap.{byte_minus}
 use Rattle.play_model.specs.Helpers.{do_command}
-use Rattle.player_parts.proofs.Laws.{Rest, rest_of}
+use Rattle.player_parts.proofs.Laws.{Rest, rest_of, if_same, do_leaves}
 
 pub record Kept : Type 0 where
   pub rest : Rest
@@ -23,36 +23,31 @@ kept_of s = record {
   new_param = s.voice.new_param;
 }
 
-if_same : {X Y : Type 0} (f : X → Y) (b : Bool) (x y : X) (z : Y) → f x ≡ z → f y ≡ z → f (if b then x else y) ≡ z
-if_same f true x y z here there = here
-if_same f false x y z here there = there
-
 -- the commands that rows share with the wave table
 do_kept : (c p : ℕ) (s : Playing) → kept_of (do_command c p s) ≡ kept_of s
-unfolding do_command
-do_kept c p s =
-    let z = kept_of s in
-    if_same kept_of (nat_eq c 5) _ _ z refl
-    (if_same kept_of (nat_eq c 6) _ _ z refl
-    (if_same kept_of (nat_eq c 7) _ _ z refl
-    (if_same kept_of (nat_eq c 9) _ _ z refl
-    (if_same kept_of (nat_eq c 0xA) _ _ z refl
-    (if_same kept_of (nat_eq c 0xB) _ _ z refl
-    (if_same kept_of (nat_eq c 0xC) _ _ z refl
-    (if_same kept_of (nat_eq c 0xD) _ s z refl refl)))))))
+do_kept c p s = do_leaves kept_of c p s (kept_of s) refl refl refl refl refl (λ common. refl)
 
 -- the row's command
+command_leaves : {X : Type 0} (f : Playing → X) (channel : ℕ) (look : LookUps) (i : Instrument) (c p : ℕ) (s : Playing)
+    (x : X) → f (record s { voice = record s.voice { command = 0; param = i.vibrato } }) ≡ x →
+    f (record s { voice = record s.voice { vib_time = 0; command = c; param = p } }) ≡ x →
+    f (record s { voice = record s.voice { command = c; param = p } }) ≡ x →
+    f (record s { voice = record s.voice { wave_ptr = p; wave_time = 0 } }) ≡ x →
+    ((c : Common) → f (record s { common = c }) ≡ x) → f (do_command c p s) ≡ x →
+    f (row_command channel look i c p s) ≡ x
+unfolding row_command
+command_leaves f channel look i c p s x none slide runs wave common once =
+    if_same f (nat_eq c 0) _ _ x none
+    (if_same f (nat_le c 2) _ _ x slide
+    (if_same f (nat_le c 4) _ _ x runs
+    (if_same f (nat_eq c 8) _ _ x wave
+    (if_same f (nat_eq c 0xE) _ _ x (common _)
+    (if_same f (nat_eq c 0xF) _ (do_command c p s) x (common _) once)))))
+
 pub command_kept : (channel : ℕ) (look : LookUps) (i : Instrument) (c p : ℕ) (s : Playing) →
     kept_of (row_command channel look i c p s) ≡ kept_of s
-unfolding row_command
 command_kept channel look i c p s =
-    let z = kept_of s in
-    if_same kept_of (nat_eq c 0) _ _ z refl
-    (if_same kept_of (nat_le c 2) _ _ z refl
-    (if_same kept_of (nat_le c 4) _ _ z refl
-    (if_same kept_of (nat_eq c 8) _ _ z refl
-    (if_same kept_of (nat_eq c 0xE) _ _ z refl
-    (if_same kept_of (nat_eq c 0xF) _ (do_command c p s) z refl (do_kept c p s))))))
+    command_leaves kept_of channel look i c p s (kept_of s) refl refl refl refl (λ common. refl) (do_kept c p s)
 
 -- the start of a note
 wave_kept : (wave : ℕ) (v : Voice) (s : Playing) →

@@ -5,6 +5,7 @@ pub mod Sounding
 -- A voice at its step.
 pub mod Scenes
 pub mod Kept
+pub mod Rests
 pub mod Stages
 pub mod TickStage
 pub mod WaveStage

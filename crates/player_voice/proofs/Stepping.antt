@@ -2,13 +2,14 @@
 use Rattle.std.proofs.Common.{◌≡◌, ◌≢◌, ℕ, ◌+◌, ◌<◌, ◌≤◌, Bool, true, false, not, if◌then◌else◌, refl, sym, ap, ◌∙◌, subst}
 use Rattle.std.proofs.Common.{arith}
 use Rattle.std.proofs.lemmas.Bool.{not-true, not-false, true≢false}
+use Rattle.song_model.specs.declared.orders.Order.{Order}
 use Rattle.song_model.specs.declared.songs.Song.{Song}
 use Rattle.play_model.specs.declared.options.Options.{Options}
 use Rattle.play_model.specs.LookUps.{LookUps}
-use Rattle.play_model.specs.State.{Voice, FrameState, Playing, voice_of, playing_of}
+use Rattle.play_model.specs.State.{Voice, FrameState, Playing, voice_of, playing_of, with_playing}
 use Rattle.play_model.specs.TickStep.{Ticked}
 use Rattle.play_model.specs.WaveStep.{Waved, wave_step}
-use Rattle.play_model.specs.Frame.{effect_done, pulse_done, voice_step}
+use Rattle.play_model.specs.Frame.{row_fetched, effect_done, pulse_done, voice_step}
 use Rattle.play_model.specs.Uses.{GoesOn}
 use Rattle.packed_form.specs.declared.packed_songs.PackedSong.{PackedSong}
 use Rattle.packed_form.specs.Unpacked.{unpacked_song}
@@ -25,7 +26,8 @@ use Rattle.player_pulse.specs.PulseBlock.{pulse_tree}
 use Rattle.player_voice.specs.StepBlock.{going_on_tree, step_tree}
 use Rattle.player_voice.specs.StepLaws.{StepBlockSteps, StepsAreWhole}
 use Rattle.player_voice.specs.Turns.{look_of, state_before, turn_in, ticked_at, sounded, with_step_done, started_on}
-use Rattle.player_voice.proofs.Scenes.{Scene, rules_range, rules_safe}
+use Rattle.player_voice.proofs.Scenes.{Scene, order_in, rules_range, rules_safe}
+use Rattle.player_voice.proofs.Rests.{sounded_rest}
 use Rattle.player_voice.proofs.Kept.{ticked_range, ticked_safe, effect_range, effect_safe}
 use Rattle.player_voice.proofs.Stages.{Comes}
 use Rattle.player_voice.proofs.TickStage.{TickedTo, tick_stage}
@@ -170,7 +172,53 @@ step_leads packed song layout o k voice x desk scene held =
 
 pub steps_are_whole : StepsAreWhole
 unfolding voice_step
-steps_are_whole packed o k voice x = ?
+steps_are_whole packed o k voice x = by_start (ticked_at (turn_in packed o k voice x)).started refl
+  where
+    t : Ticked
+    t = ticked_at (turn_in packed o k voice x)
+
+    before : FrameState
+    before = state_before packed o k voice x
+
+    order : Order
+    order = order_in packed k voice
+
+    by_start : (z : Bool) → t.started ≡ z →
+        with_playing (voice + 1)
+        (if t.started then t.playing
+        else row_fetched (look_of packed) order
+        (pulse_done o (look_of packed) (effect_done o (look_of packed) (wave_step (look_of packed) t.playing)))) before
+        ≡ (if t.started then with_playing (voice + 1) (sounded o (look_of packed) t) before
+        else with_playing (voice + 1) (row_fetched (look_of packed) order (sounded o (look_of packed) t)) before)
+    by_start true e = rw e refl
+    by_start false e = rw e refl
 
 pub step_block_steps : StepBlockSteps
-step_block_steps packed song layout o k voice x desk stands laid keeps options below few safe range held = ?
+step_block_steps packed song layout o k voice x desk stands laid keeps options below few safe range held =
+    let scene : Scene packed song layout o k voice x = record {
+      stands = stands;
+      laid = laid;
+      keeps = keeps;
+      options = options;
+      below = below;
+      few = few;
+      safe = safe;
+      range = range;
+    } in
+    let t = ticked_at (turn_in packed o k voice x) in
+    let s = sounded o (look_of packed) t in
+    let before = state_before packed o k voice x in
+    let d = seen layout voice desk in
+    let behind = meaning layout step_tree voice desk in
+    let rest = sounded_rest o (look_of packed) (voice + 1) (playing_of (voice + 1) before) in
+    let done = led (ground_of layout packed voice desk.at laid few) step_tree
+    (Done voice s (started_on t.started) d) (desk_seen layout packed voice desk)
+    (step_leads packed song layout o k voice x desk scene held) in record {
+      holds =
+          holds_after layout packed k voice nothing_on (started_on t.started) before
+          (with_step_done packed o k voice x) desk.at behind done.after laid done.shows held
+          (done_holds layout packed k voice nothing_on (started_on t.started) before s desk done.after few held
+          (ap (λ r. r.plays) rest) (ap (λ r. r.row) rest) done.done);
+      leaves = leaves_after layout packed voice desk behind done.after done.shows done.done.sid;
+      reads = done.reads;
+    }

@@ -5,5 +5,3 @@ pub use Rattle.player_wave.proofs.WaveDesks.{WaveGround, WaveKeeps, Stepped, len
 pub use Rattle.player_wave.proofs.WaveDesks.{Lends, Waves, Plain, Lent}
 -- its law
 pub use Rattle.player_wave.proofs.Waves.{wave_leads}
--- what it stands on is there where a playable packed song stands in memory
-pub use Rattle.player_wave.proofs.Grounds.{wave_ground}

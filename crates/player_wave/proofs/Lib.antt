@@ -12,5 +12,3 @@ mod Once
 mod Commands
 -- The whole code.
 mod Waves
--- What it stands on is there.
-mod Grounds
