@@ -15,7 +15,10 @@ use Rattle.player_parts.proofs.Laws.{Done, done_on, done_seen, done_low}
 use Rattle.player_effect.specs.EffectBlock.{effect_tree, back_tree}
 use Rattle.player_effect.proofs.Commands.{skips}
 use Rattle.player_effect.proofs.Effects.{effect_runs, effect_left, EffectGround, EffectKeeps, effect_leads}
-use Rattle.player_effect.proofs.Backs.{given_back, lends_nothing, BackKeeps, back_leads}
+use Rattle.player_effect.proofs.Backs.{given_back, lends_nothing, BackKeeps, back_follows}
+use Rattle.player_effect.proofs.Lent.{lent_state, Lends, lent_rule}
+use Rattle.play_model.specs.WaveStep.{Waved, wave_command, program_moved}
+use Rattle.play_model.specs.Frame.{effect_done}
 
 -- ---- the effect step
 
@@ -86,54 +89,85 @@ effect_follows r look o s handed zero d m few ranges options most ground keeps d
     runs : effect_runs o m ≡ runs_on o zero handed s.voice
     runs = runs_same o zero s handed r.voice d m done e
 
--- ---- what was lent
+-- ---- the two together, behind the wave step
 
--- what comes back is the same by the desk and by what was handed on
-back_same : (s : Playing) (handed : HandedOn) (m : VoiceDesk) → HandedStands handed m.shared →
-    given_back (handed_in m) s ≡ given_back handed s
-back_same s handed m stands =
-    elim (cases_eq handed.lent 0) [
-      | inl none ↦
-          let a : nat_eq (m.shared LENT) 0 ≡ true = eq-eqb (m.shared LENT) 0 (stands.lent ∙ none) in
-          let b : nat_eq handed.lent 0 ≡ true = eq-eqb handed.lent 0 none in
-          rw (a, b) refl
-      | inr some ↦
-          let lent = stands.lent in
-          let a : nat_eq (m.shared LENT) 0 ≡ false = ne_eqb (m.shared LENT) 0 (λ e. some (sym lent ∙ e)) in
-          let b : nat_eq handed.lent 0 ≡ false = ne_eqb handed.lent 0 some in
-          rw (a, b, stands.own_command some, stands.own_param some) refl
-    ]
+given_none : (handed : HandedOn) (s : Playing) → handed.lent ≡ 0 → given_back handed s ≡ s
+given_none handed s none = rw none refl
 
--- Behind code that has left this state, what was lent is given back.
-pub back_follows : (r : Reader) (s : Playing) (handed : HandedOn) (d m : VoiceDesk) → r.voice < 3 → IsVoice s.voice →
-    handed.lent ≤ 1 → (handed.lent ≢ 0 → r.layout.is_kept 23 ≡ true) → Done r.voice s handed d m →
-    Leads r back_tree (Done r.voice (given_back handed s) (lends_nothing handed) d) m
-back_follows r s handed d m few ranges most keeps done =
-    leads_on r back_tree
-    (Done r.voice (given_back (handed_in m) (playing_in r.voice at m)) (lends_nothing (handed_in m)) m)
-    (Done r.voice (given_back handed s) (lends_nothing handed) d) m
-    (λ n two.
-    let after = subst (λ p. Done r.voice p (lends_nothing (handed_in m)) m n) same two in
-    done_on r.voice s (given_back handed s) handed (lends_nothing handed) d m n done
-    (handed_as r.voice _ (lends_nothing (handed_in m)) (lends_nothing handed) m n
-    (record {
-      started = two.handed_on.started ∙ done.handed_on.started;
-      lent = two.handed_on.lent;
-      own_command = λ some. absurd (some refl);
-      own_param = λ some. absurd (some refl);
-    }) after))
-    (back_leads r at m few (subst IsVoice (sym voice) ranges) (done_low r.voice s handed d m done)
-    (let lent = done.handed_on.lent in omega (arith, lent, most))
-    (record { lent = λ some. keeps (λ e. some (done.handed_on.lent ∙ e)) }))
+lends_none : (handed : HandedOn) → handed.lent ≡ 0 → lends_nothing handed ≡ handed
+lends_none handed none = rw (sym none) refl
+
+-- where nothing is lent, the effect step is the frame's
+plain_rule : (o : Options) (look : LookUps) (w : Waved) (handed : HandedOn) → handed.lent ≡ 0 →
+    effect_left look (runs_on o w.effect handed w.playing.voice) w.playing ≡ effect_done o look w
+plain_rule o look w handed none = by_tick (nat_eq w.playing.voice.tick 0) refl
   where
-    at : Rest
-    at = rest_of s.voice
+    by_tick : (z : Bool) → nat_eq w.playing.voice.tick 0 ≡ z →
+        effect_left look (runs_on o w.effect handed w.playing.voice) w.playing ≡ effect_done o look w
+    by_tick true e = rw (none, e) refl
+    by_tick false e = rw (none, e) refl
 
-    seen : playing_in r.voice at m ≡ s
-    seen = done_seen r.voice s handed d m few done
+-- Behind a wave step that has lent nothing, both blocks do the frame's effect step.
+pub plain_follows : (r : Reader) (look : LookUps) (o : Options) (w : Waved) (handed : HandedOn) (d m : VoiceDesk) →
+    r.voice < 3 → IsVoice w.playing.voice → KeepsOptions r.layout o → w.playing.voice.command ≤ 4 →
+    EffectGround r look (runs_on o w.effect handed w.playing.voice) w.playing.voice →
+    EffectKeeps r.layout look (runs_on o w.effect handed w.playing.voice) w.playing.voice → handed.lent ≡ 0 →
+    Done r.voice w.playing handed d m → m.zero ≡ w.effect →
+    Leads r effect_tree (Leads r back_tree (Done r.voice (effect_done o look w) handed d)) m
+plain_follows r look o w handed d m few ranges options most ground keeps none done e =
+    leads_on r effect_tree
+    (Done r.voice (effect_left look (runs_on o w.effect handed w.playing.voice) w.playing) handed d)
+    (Leads r back_tree (Done r.voice (effect_done o look w) handed d)) m
+    (λ n two.
+    leads_on r back_tree
+    (Done r.voice
+    (given_back handed (effect_left look (runs_on o w.effect handed w.playing.voice) w.playing)) (lends_nothing handed) d)
+    (Done r.voice (effect_done o look w) handed d) n
+    (λ k three.
+    subst (λ given. Done r.voice (effect_done o look w) given d k) (lends_none handed none)
+    (subst (λ p. Done r.voice p (lends_nothing handed) d k)
+    (given_none handed (effect_left look (runs_on o w.effect handed w.playing.voice) w.playing) none
+    ∙ plain_rule o look w handed none) three))
+    (back_follows r (effect_left look (runs_on o w.effect handed w.playing.voice) w.playing) handed d n
+    (omega (arith, none)) (record { lent = λ some. absurd (some none) }) two))
+    (effect_follows r look o w.playing handed w.effect d m few ranges options most ground keeps done e)
 
-    voice : voice_in at m ≡ s.voice
-    voice = ap (λ p. p.voice) seen
+lent_runs : (o : Options) (handed : HandedOn) (v : Voice) → handed.lent ≡ 1 → runs_on o true handed v ≡ true
+lent_runs o handed v lent = by_option o.skip_effects (nat_eq v.tick 0) refl refl
+  where
+    by_option : (s t : Bool) → o.skip_effects ≡ s → nat_eq v.tick 0 ≡ t → runs_on o true handed v ≡ true
+    by_option false t e f = rw e refl
+    by_option true false e f = rw (e, f) refl
+    by_option true true e f = rw (e, f, lent) refl
 
-    same : given_back (handed_in m) (playing_in r.voice at m) ≡ given_back handed s
-    same = ap (given_back (handed_in m)) seen ∙ back_same s handed m done.handed_on
+-- Behind a wave step that has lent its command, both blocks do that command, and the voice's own comes back.
+pub lent_follows : (r : Reader) (look : LookUps) (o : Options) (command param p : ℕ) (s : Playing) (handed : HandedOn)
+    (d m : VoiceDesk) → r.voice < 3 → IsVoice (lent_state look command param p s).voice → KeepsOptions r.layout o →
+    1 ≤ command → command ≤ 4 → EffectGround r look true (lent_state look command param p s).voice →
+    EffectKeeps r.layout look true (lent_state look command param p s).voice → r.layout.is_kept 23 ≡ true →
+    Lends handed s → Done r.voice (lent_state look command param p s) handed d m → m.zero ≡ true →
+    Leads r effect_tree
+    (Leads r back_tree
+    (Done r.voice (program_moved look p (wave_command look command param s)) (lends_nothing handed) d)) m
+lent_follows r look o command param p s handed d m few ranges options from to ground keeps kept lends done e =
+    leads_on r effect_tree (Done r.voice (effect_left look true lent) handed d)
+    (Leads r back_tree
+    (Done r.voice (program_moved look p (wave_command look command param s)) (lends_nothing handed) d)) m
+    (λ n two.
+    leads_on r back_tree (Done r.voice (given_back handed (effect_left look true lent)) (lends_nothing handed) d)
+    (Done r.voice (program_moved look p (wave_command look command param s)) (lends_nothing handed) d) n
+    (λ k three.
+    subst (λ u. Done r.voice u (lends_nothing handed) d k)
+    (lent_rule look command param p s handed from to lends) three)
+    (back_follows r (effect_left look true lent) handed d n (let one = lends.lent in omega (arith, one))
+    (record { lent = λ some. kept }) two))
+    (subst (λ b. Leads r effect_tree (Done r.voice (effect_left look b lent) handed d) m) runs
+    (effect_follows r look o lent handed true d m few ranges options to
+    (subst (λ b. EffectGround r look b lent.voice) (sym runs) ground)
+    (subst (λ b. EffectKeeps r.layout look b lent.voice) (sym runs) keeps) done e))
+  where
+    lent : Playing
+    lent = lent_state look command param p s
+
+    runs : runs_on o true handed lent.voice ≡ true
+    runs = lent_runs o handed lent.voice lends.lent

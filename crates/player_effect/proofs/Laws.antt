@@ -6,7 +6,7 @@ pub use Rattle.player_effect.proofs.Effects.{effect_runs, effect_left, NeedsSpee
 pub use Rattle.player_effect.proofs.Effects.{EffectGround, EffectKeeps, effect_leads}
 -- and what was lent comes back
 pub use Rattle.player_effect.proofs.Backs.{given_back, lends_nothing, BackKeeps, back_leads}
--- both behind code that has left a state
-pub use Rattle.player_effect.proofs.Chained.{runs_on, effect_follows, back_follows}
--- and a wave command that was lent
+-- both behind code that has left a state, and together behind the wave step, which has lent a command or not
+pub use Rattle.player_effect.proofs.Backs.{back_follows}
+pub use Rattle.player_effect.proofs.Chained.{runs_on, effect_follows, plain_follows, lent_follows}
 pub use Rattle.player_effect.proofs.Lent.{lent_state, Lends, lent_rule}

@@ -19,5 +19,6 @@ mod Rules
 -- The whole.
 mod Effects
 mod Backs
-mod Chained
 mod Lent
+-- Behind the wave step.
+mod Chained
