@@ -9,7 +9,7 @@ use Rattle.blocks.specs.Desk.{Layout}
 use Rattle.player_parts.specs.declared.labels.TheConstants.{COMMAND, PARAM, LENT, LENT_COMMAND, LENT_PARAM, TEMPO}
 use Rattle.player_parts.specs.Holds.{HandedOn}
 use Rattle.player_parts.proofs.Laws.{VoiceDesk, Reader, Leads, Rest, voice_in, playing_in, handed_in, HasLowBytes, Done}
-use Rattle.player_parts.proofs.Laws.{done_in, loaded}
+use Rattle.player_parts.proofs.Laws.{done_in}
 use Rattle.player_effect.specs.EffectBlock.{back_tree}
 
 -- ---- what the law stands on

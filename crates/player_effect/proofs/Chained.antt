@@ -1,21 +1,18 @@
 -- The effect step and what gives back, behind another rule's code: as laws of the state that this has left.
-use Rattle.std.proofs.Common.{◌≡◌, ◌≢◌, ℕ, ◌+◌, ◌*◌, ◌<◌, ◌≤◌, ◌&&◌, Bool, true, false, not, nat_eq, if◌then◌else◌}
-use Rattle.std.proofs.Common.{refl, sym, ap, ◌∙◌, subst, inl, inr, arith}
-use Rattle.std.proofs.lemmas.Bool.{cases_eq, eq-eqb, ne_eqb}
+use Rattle.std.proofs.Common.{◌≡◌, ℕ, ◌<◌, ◌≤◌, ◌&&◌, Bool, true, false, not, nat_eq}
+use Rattle.std.proofs.Common.{refl, sym, ap, ◌∙◌, subst, arith}
 use Rattle.play_model.specs.declared.options.Options.{Options}
 use Rattle.play_model.specs.LookUps.{LookUps}
 use Rattle.play_model.specs.Ranges.{IsVoice}
 use Rattle.play_model.specs.State.{Voice, Playing}
-use Rattle.play_model.specs.EffectStep.{effect_step}
 use Rattle.player_parts.specs.declared.labels.TheConstants.{TICK, LENT}
 use Rattle.player_parts.specs.Holds.{HandedOn, HandedStands}
 use Rattle.player_parts.specs.PlayerLayouts.{KeepsOptions}
 use Rattle.player_parts.proofs.Laws.{VoiceDesk, Reader, Leads, leads_on, Rest, rest_of, voice_in, playing_in, handed_in}
 use Rattle.player_parts.proofs.Laws.{Done, done_on, done_seen, done_low}
 use Rattle.player_effect.specs.EffectBlock.{effect_tree, back_tree}
-use Rattle.player_effect.proofs.Commands.{skips}
 use Rattle.player_effect.proofs.Effects.{effect_runs, effect_left, EffectGround, EffectKeeps, effect_leads}
-use Rattle.player_effect.proofs.Backs.{given_back, lends_nothing, BackKeeps, back_follows}
+use Rattle.player_effect.proofs.Backs.{given_back, lends_nothing, back_follows}
 use Rattle.player_effect.proofs.Lent.{lent_state, Lends, lent_rule}
 use Rattle.play_model.specs.WaveStep.{Waved, wave_command, program_moved}
 use Rattle.play_model.specs.Frame.{effect_done}

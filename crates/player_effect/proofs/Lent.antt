@@ -1,8 +1,8 @@
 -- A slide or vibrato of the wave table, lent to the effect step and given back, is the wave step's own command.
-use Rattle.std.proofs.Common.{◌≡◌, ◌≢◌, ℕ, zero, suc, ◌+◌, ◌<◌, ◌≤◌, ◌||◌, Bool, true, false, nat_eq, nat_le, if◌then◌else◌}
-use Rattle.std.proofs.Common.{refl, sym, ap, ◌∙◌, arith}
+use Rattle.std.proofs.Common.{◌≡◌, ℕ, zero, suc, ◌≤◌, ◌||◌, Bool, true, false, nat_eq, nat_le}
+use Rattle.std.proofs.Common.{refl, ◌∙◌, arith}
 use Rattle.play_model.specs.LookUps.{LookUps}
-use Rattle.play_model.specs.State.{Voice, Playing}
+use Rattle.play_model.specs.State.{Playing}
 use Rattle.play_model.specs.Wrap.{distance}
 use Rattle.play_model.specs.Freq.{freq, slide}
 use Rattle.play_model.specs.Helpers.{porta_up, porta_down, tone, vibrato}
