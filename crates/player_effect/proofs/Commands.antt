@@ -15,6 +15,7 @@ use Rattle.player_effect.proofs.EffectDesks.{effect_touches, effect_works, still
 
 -- ---- the voice's command
 
+-- it is taken over
 pub command_leads : (r : Reader) (Q : VoiceDesk → Type 0) (d : VoiceDesk) →
     ((m : VoiceDesk) → Works d m (d.own VIB_DELAY) (d.own VIB_TIME) (d.own COMMAND) → Q m) → Leads r command_tree Q d
 command_leads r Q d next =
@@ -33,6 +34,7 @@ command_leads r Q d next =
 abbrev pub skips : Options → VoiceDesk → Bool
 skips o d = o.skip_effects && (nat_eq (d.own TICK) 0 && nat_eq (d.shared LENT) 0)
 
+-- three tests at once
 all_hold : (a b c : Bool) → a ≡ true → b ≡ true → c ≡ true → (a && (b && c)) ≡ true
 all_hold a b c e f g = rw (e, f, g) refl
 
@@ -52,6 +54,7 @@ third_fails false b c e = refl
 tested_as : (a b : ℕ) (z : Bool) → a ≡ b → nat_eq a 0 ≡ z → nat_eq b 0 ≡ z
 tested_as a b z e t = ap (λ n. nat_eq n 0) (sym e) ∙ t
 
+-- a command that is left out becomes $80
 pub skip_leads : (r : Reader) (o : Options) (Q : VoiceDesk → Type 0) (first m : VoiceDesk) (delay time command : ℕ) →
     r.layout.is_kept SKIP_EFFECTS_BIT ≡ o.skip_effects → Works first m delay time command →
     (skips o first ≡ true → (n : VoiceDesk) → Works first n delay time 0x80 → Q n) →

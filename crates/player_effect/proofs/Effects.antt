@@ -99,6 +99,7 @@ rested r look o at d m command scene rests works =
     scene.low
     (ends_unmoved d m (d.own VIB_DELAY) (d.own VIB_TIME) command (word_in d) (its_halves r look o at d scene) works))
 
+-- whether it is done, by the zero flag and the option
 runs_is : (z : Bool) (s : Bool) → z ≡ true → s ≡ false → (z && not s) ≡ true
 runs_is z s e f = rw (e, f) refl
 

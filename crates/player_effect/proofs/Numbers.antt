@@ -11,6 +11,7 @@ use Rattle.player_parts.specs.Holds.{AreHalves}
 
 -- ---- words
 
+-- halves by their sum, and the other way round
 pub halves_from : (low high n : ℕ) → low < 256 → low + 256 * high ≡ n → AreHalves low high n
 halves_from low high n l e = record { low_is = omega (arith, l, e); high_is = omega (arith, l, e) }
 
@@ -130,6 +131,7 @@ up_carries sl sh step wl wh freq target speed away below small =
 
 -- ---- halvings
 
+-- the two bytes, the high one first, with the bit between them
 pub halved_word : (low high n : ℕ) → AreHalves low high n →
     AreHalves (low / 2 + 128 * one_if (nat_eq (high % 2) 1)) (high / 2 + 128 * 0) (n / 2)
 halved_word low high n h =
@@ -146,6 +148,7 @@ halved_word low high n h =
 
 -- ---- the vibrato's time
 
+-- the mask of the period, and the turn
 pub low_seven : (n : ℕ) → n < 256 → bit_and n 0x7F ≡ n % 128
 low_seven n l =
     eqb-true _ _ (agree_below_at (λ n. nat_eq (bit_and n 0x7F) (n % 128)) (λ _. true) 256 n refl l)

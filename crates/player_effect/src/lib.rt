@@ -9,6 +9,7 @@
 #![tactic(auto)]
 
 mod back;
+pub mod claims;
 mod effect;
 mod parts;
 mod speed;

@@ -26,7 +26,7 @@ use Rattle.player_parts.specs.Holds.{HandedOn, nothing_on}
 use Rattle.player_parts.proofs.Laws.{VoiceDesk, Reader, Leads, leads_on, reader, Done, SidesAt, notes_at, done_low, rest_of}
 use Rattle.player_parts.proofs.Laws.{playing_in, handed_in}
 use Rattle.player_effect.specs.EffectBlock.{effect_tree}
-use Rattle.player_effect.proofs.Laws.{skips, effect_runs, effect_left, NeedsSpeed, ForCommand, ForVibrato, EffectGround}
+use Rattle.player_effect.proofs.Laws.{effect_runs, effect_left, NeedsSpeed, ForCommand, ForVibrato, EffectGround}
 use Rattle.player_effect.proofs.Laws.{EffectKeeps, effect_leads}
 use Rattle.player_wave.proofs.Laws.{IsSlide}
 use Rattle.player_voice.specs.Turns.{look_of, turn_in}
@@ -35,74 +35,30 @@ use Rattle.player_voice.proofs.Stages.{Comes, told, voice_range, done_through}
 
 -- ---- what a voice asks of the effect step
 
--- a speed, by a command or by the instrument's vibrato
-pub data Asks (v : Voice) : Type 0 where
-  ByCommand : v.command ≢ 0 → Asks v
-  ByVibrato : v.command ≡ 0 → v.param ≢ 0 → v.vib_delay ≡ 1 → Asks v
-
 -- what it stands on: a command of the effect step, the row of its speed, and the parts whose work is done
 pub record Effective (packed : PackedSong) (layout : Layout) (v : Voice) (runs : Bool) : Type 0 where
   pub most : v.command ≤ 4
-  pub points : runs ≡ true → Asks v → v.param ≢ 0 → IsPointer (unpacked_song packed) Speed v.param
-  pub vibrato : runs ≡ true → v.command ≡ 0 → v.param ≢ 0 → v.vib_delay ≢ 0 → layout.is_kept 7 ≡ true
-  pub calculated : runs ≡ true → Asks v → 128 ≤ ((look_of packed).row Speed v.param).left → layout.is_kept 8 ≡ true
-  pub tie : runs ≡ true → v.command ≡ 3 → v.param ≡ 0 → layout.is_kept 5 ≡ true
-  pub tone : runs ≡ true → v.command ≡ 3 → v.param ≢ 0 → layout.is_kept 4 ≡ true
-
--- the desk says the same
-asks : (voice : ℕ) (s : Playing) (handed : HandedOn) (d m : VoiceDesk) → Done voice s handed d m → NeedsSpeed m →
-    Asks s.voice
-asks voice s handed d m done (ForCommand some) = ByCommand (λ e. some (done.fields.command ∙ e))
-asks voice s handed d m done (ForVibrato command param delay) =
-    ByVibrato (sym done.fields.command ∙ command) (λ e. param (done.fields.param ∙ e))
-    (sym done.fields.vib_delay ∙ delay)
-
-effect_ground : (packed : PackedSong) (song : Song) (layout : Layout) (o : Options) (k voice : ℕ) (x : FrameState)
-    (at : ℕ → ℕ) (s : Playing) (handed : HandedOn) (d m : VoiceDesk) → Scene packed song layout o k voice x →
-    HasLists layout packed at → Done voice s handed d m → Effective packed layout s.voice (effect_runs o m) →
-    EffectGround (reader layout packed voice at) (look_of packed) o m
-effect_ground packed song layout o k voice x at s handed d m scene has done effective = record {
-  notes = notes_at layout packed voice at scene.laid has;
-  speed = λ runs needs.
-      let param = done.fields.param in
-      rw param
-      (speed_ready packed song layout voice s.voice.param at scene.stands scene.laid has
-      (effective.points runs (asks voice s handed d m done needs)));
-}
-
-effect_keeps : (packed : PackedSong) (layout : Layout) (o : Options) (voice : ℕ) (s : Playing) (handed : HandedOn)
-    (d m : VoiceDesk) → Done voice s handed d m → Effective packed layout s.voice (effect_runs o m) →
-    EffectKeeps layout (look_of packed) o m
-effect_keeps packed layout o voice s handed d m done effective =
-    let command = done.fields.command in
-    let param = done.fields.param in
-    let delay = done.fields.vib_delay in record {
-      vibrato = λ runs none some waits.
-          effective.vibrato runs (sym command ∙ none) (λ e. some (param ∙ e)) (λ e. waits (delay ∙ e));
-      calculated = λ runs needs from.
-          effective.calculated runs (asks voice s handed d m done needs)
-          (subst (λ n. 128 ≤ ((look_of packed).row Speed n).left) param from);
-      tie = λ runs is none. effective.tie runs (sym command ∙ is) (sym param ∙ none);
-      tone = λ runs is some. effective.tone runs (sym command ∙ is) (λ e. some (param ∙ e));
-    }
+  pub points : v.param ≢ 0 → runs ≡ true → NeedsSpeed v → IsPointer (unpacked_song packed) Speed v.param
+  pub keeps : EffectKeeps layout (look_of packed) runs v
 
 -- the step, where it stands on that
 pub effect_by : (packed : PackedSong) (song : Song) (layout : Layout) (o : Options) (k voice : ℕ) (x : FrameState)
     (at : ℕ → ℕ) (s : Playing) (handed : HandedOn) (d m : VoiceDesk) → Scene packed song layout o k voice x →
-    HasLists layout packed at → Done voice s handed d m → IsPlaying s → Effective packed layout s.voice (effect_runs o m) →
-    Leads (reader layout packed voice at) effect_tree (Done voice (effect_left o (look_of packed) m s) handed d) m
+    HasLists layout packed at → Done voice s handed d m → IsPlaying s →
+    Effective packed layout s.voice (effect_runs o m) →
+    Leads (reader layout packed voice at) effect_tree
+    (Done voice (effect_left (look_of packed) (effect_runs o m) s) handed d) m
 effect_by packed song layout o k voice x at s handed d m scene has done range effective =
     leads_on r effect_tree
-    (Done voice (effect_left o look m (playing_in voice (rest_of s.voice) m)) (handed_in m) m)
-    (Done voice (effect_left o look m s) handed d) m
+    (Done voice (effect_left look (effect_runs o m) (playing_in voice (rest_of s.voice) m)) (handed_in m) m)
+    (Done voice (effect_left look (effect_runs o m) s) handed d) m
     (λ n h.
-    done_through voice s (effect_left o look m s) handed d m n done
-    (subst (λ u. Done voice (effect_left o look m u) (handed_in m) m n) tells h))
-    (effect_leads r look o (rest_of s.voice) m scene.few
-    (voice_range voice s handed d m scene.few range done) (done_low voice s handed d m done)
-    scene.options (subst (λ n. n ≤ 4) (sym done.fields.command) effective.most)
-    (effect_ground packed song layout o k voice x at s handed d m scene has done effective)
-    (effect_keeps packed layout o voice s handed d m done effective))
+    done_through voice s (effect_left look (effect_runs o m) s) handed d m n done
+    (subst (λ u. Done voice (effect_left look (effect_runs o m) u) (handed_in m) m n) tells h))
+    (effect_leads r look o (rest_of s.voice) m scene.few (voice_range voice s handed d m scene.few range done)
+    (done_low voice s handed d m done) scene.options (subst (λ n. n ≤ 4) (sym done.fields.command) effective.most)
+    (subst (λ u. EffectGround r look (effect_runs o m) u.voice) (sym tells) ground)
+    (subst (λ u. EffectKeeps layout look (effect_runs o m) u.voice) (sym tells) effective.keeps))
   where
     r : Reader
     r = reader layout packed voice at
@@ -112,6 +68,14 @@ effect_by packed song layout o k voice x at s handed d m scene has done range ef
 
     tells : playing_in voice (rest_of s.voice) m ≡ s
     tells = told voice s handed d m scene.few done
+
+    ground : EffectGround (reader layout packed voice at) (look_of packed) (effect_runs o m) s.voice
+    ground = record {
+      notes = notes_at layout packed voice at scene.laid has;
+      speed = λ runs needs.
+          speed_ready packed song layout voice s.voice.param at scene.stands scene.laid has
+          (λ some. effective.points some runs needs);
+    }
 
 -- ---- the running command
 
@@ -163,10 +127,10 @@ meets_vibrato packed o k voice x v effect command some begun = record {
 }
 
 asks_speed : (packed : PackedSong) (o : Options) (k voice : ℕ) (x : FrameState) (v : Voice) →
-    DoesEffect (turn_in packed o k voice x) v → v.command ≤ 4 → Asks v → AsksSpeed (turn_in packed o k voice x) v.param
-asks_speed packed o k voice x v effect most (ByCommand some) =
+    DoesEffect (turn_in packed o k voice x) v → v.command ≤ 4 → NeedsSpeed v → AsksSpeed (turn_in packed o k voice x) v.param
+asks_speed packed o k voice x v effect most (ForCommand some) =
     for_slide v.command (omega (arith, some)) most (inr (runs_command packed o k voice x v effect))
-asks_speed packed o k voice x v effect most (ByVibrato command some one) =
+asks_speed packed o k voice x v effect most (ForVibrato command some one) =
     for_vibrato
     (subst (MeetsVibrato (turn_in packed o k voice x) v.param) one
     (meets_vibrato packed o k voice x v effect command some (λ e. omega (arith, one, e))))
@@ -179,7 +143,8 @@ running_effective : (packed : PackedSong) (song : Song) (layout : Layout) (o : O
     Effective packed layout (wave_step (look_of packed) t).playing.voice runs
 running_effective packed song layout o k voice x t handed d m runs scene goes comes is = record {
   most = most;
-  points = λ run asked some. running_points (unpacked_song packed) v.command v.param comes.safe.voice.running some;
+  points = λ some run asked. running_points (unpacked_song packed) v.command v.param comes.safe.voice.running some;
+  keeps = record {
   vibrato = λ run command some begun.
       scene.keeps InstrumentVibrato (record {
         channel = voice + 1;
@@ -204,6 +169,7 @@ running_effective packed song layout o k voice x t handed d m runs scene goes co
         is_channel = is_channel voice scene.few;
         does = (v.param, inr (record { v = v; effect = effect run; command_is = command; param_is = refl }), some);
       });
+  };
 }
   where
     v : Voice

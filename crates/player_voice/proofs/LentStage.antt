@@ -32,7 +32,7 @@ use Rattle.player_wave.proofs.Laws.{IsSlide, lent_out, lent_handed, given_back}
 use Rattle.player_voice.specs.Turns.{look_of, turn_in}
 use Rattle.player_voice.proofs.Scenes.{Scene, looks, is_channel, rules_range, wave_points}
 use Rattle.player_voice.proofs.Stages.{Comes, told, voice_range, with_handed}
-use Rattle.player_voice.proofs.EffectStage.{Asks, ByCommand, ByVibrato, Effective, effect_by}
+use Rattle.player_voice.proofs.EffectStage.{Effective, effect_by}
 
 -- ---- what was lent comes back
 
@@ -138,12 +138,13 @@ lent_effective : (packed : PackedSong) (song : Song) (layout : Layout) (o : Opti
     Effective packed layout (lent_out (look_of packed) c p t).voice runs
 lent_effective packed song layout o k voice x t c p d m runs scene goes comes slide = record {
   most = slide.most;
-  points = λ run asked some.
+  points = λ some run asked.
       let right = slide.right in
       subst (IsPointer (unpacked_song packed) Speed) right
       (wave_points (unpacked_song packed) t.voice.wave_ptr c
       (is_step (unpacked_song packed) Wave t.voice.wave_ptr comes.safe.voice.wave slide.some).reached slide.left slide.least
       slide.most (λ e. some (sym right ∙ e)));
+  keeps = record {
   vibrato = λ run none some begun. let least = slide.least in absurd (omega (arith, none, least));
   calculated = λ run asked from.
       scene.keeps NoteDependent (record {
@@ -177,6 +178,7 @@ lent_effective packed song layout o k voice x t c p d m runs scene goes comes sl
           some,
         );
       });
+  };
 }
   where
     does : DoesWave (turn_in packed o k voice x) c p
@@ -211,7 +213,7 @@ pub lent_stage : (packed : PackedSong) (song : Song) (layout : Layout) (o : Opti
     (Leads (reader layout packed voice at) back_tree
     (Done voice (effect_done o (look_of packed) (wave_step (look_of packed) t)) nothing_on d)) n
 lent_stage packed song layout o k voice x at t c p d m n scene has goes comes slide done shown rests is =
-    leads_on r effect_tree (Done voice (effect_left o look n s) handed d)
+    leads_on r effect_tree (Done voice (effect_left look (effect_runs o n) s) handed d)
     (Leads r back_tree (Done voice (effect_done o look (wave_step look t)) nothing_on d)) n back
     (effect_by packed song layout o k voice x at s handed d n scene has done range
     (lent_effective packed song layout o k voice x t c p d m (effect_runs o n) scene goes comes slide))
@@ -238,7 +240,7 @@ lent_stage packed song layout o k voice x at t c p d m n scene has goes comes sl
     left : Playing
     left = record s { voice = effect_step look s.voice }
 
-    left_is : effect_left o look n s ≡ left
+    left_is : effect_left look (effect_runs o n) s ≡ left
     left_is = let runs = runs_lent o n shown done.handed_on.lent in rw runs refl
 
     left_range : IsPlaying left
@@ -248,7 +250,7 @@ lent_stage packed song layout o k voice x at t c p d m n scene has goes comes sl
     back_is : own_back handed left ≡ effect_done o look (wave_step look t)
     back_is = sym is ∙ sym (rests_is o look t rests)
 
-    back : (q : VoiceDesk) → Done voice (effect_left o look n s) handed d q →
+    back : (q : VoiceDesk) → Done voice (effect_left look (effect_runs o n) s) handed d q →
         Leads r back_tree (Done voice (effect_done o look (wave_step look t)) nothing_on d) q
     back q h =
         subst (λ u. Leads r back_tree (Done voice u nothing_on d) q) back_is
