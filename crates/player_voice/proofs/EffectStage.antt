@@ -145,30 +145,30 @@ running_effective packed song layout o k voice x t handed d m runs scene goes co
   most = most;
   points = λ some run asked. running_points (unpacked_song packed) v.command v.param comes.safe.voice.running some;
   keeps = record {
-  vibrato = λ run command some begun.
-      scene.keeps InstrumentVibrato (record {
-        channel = voice + 1;
-        is_channel = is_channel voice scene.few;
-        does = (v.param, v.vib_delay, meets_vibrato packed o k voice x v (effect run) command some begun);
-      });
-  calculated = λ run asked from.
-      scene.keeps NoteDependent (record {
-        channel = voice + 1;
-        is_channel = is_channel voice scene.few;
-        does = (v.param, asks_speed packed o k voice x v (effect run) most asked, from);
-      });
-  tie = λ run command at_zero.
-      scene.keeps TieNote (record {
-        channel = voice + 1;
-        is_channel = is_channel voice scene.few;
-        does = inr (record { v = v; effect = effect run; command_is = command; param_is = at_zero });
-      });
-  tone = λ run command some.
-      scene.keeps TonePorta (record {
-        channel = voice + 1;
-        is_channel = is_channel voice scene.few;
-        does = (v.param, inr (record { v = v; effect = effect run; command_is = command; param_is = refl }), some);
-      });
+    vibrato = λ run command some begun.
+        scene.keeps InstrumentVibrato (record {
+          channel = voice + 1;
+          is_channel = is_channel voice scene.few;
+          does = (v.param, v.vib_delay, meets_vibrato packed o k voice x v (effect run) command some begun);
+        });
+    calculated = λ run asked from.
+        scene.keeps NoteDependent (record {
+          channel = voice + 1;
+          is_channel = is_channel voice scene.few;
+          does = (v.param, asks_speed packed o k voice x v (effect run) most asked, from);
+        });
+    tie = λ run command at_zero.
+        scene.keeps TieNote (record {
+          channel = voice + 1;
+          is_channel = is_channel voice scene.few;
+          does = inr (record { v = v; effect = effect run; command_is = command; param_is = at_zero });
+        });
+    tone = λ run command some.
+        scene.keeps TonePorta (record {
+          channel = voice + 1;
+          is_channel = is_channel voice scene.few;
+          does = (v.param, inr (record { v = v; effect = effect run; command_is = command; param_is = refl }), some);
+        });
   };
 }
   where

@@ -145,39 +145,39 @@ lent_effective packed song layout o k voice x t c p d m runs scene goes comes sl
       (is_step (unpacked_song packed) Wave t.voice.wave_ptr comes.safe.voice.wave slide.some).reached slide.left slide.least
       slide.most (λ e. some (sym right ∙ e)));
   keeps = record {
-  vibrato = λ run none some begun. let least = slide.least in absurd (omega (arith, none, least));
-  calculated = λ run asked from.
-      scene.keeps NoteDependent (record {
-        channel = voice + 1;
-        is_channel = is_channel voice scene.few;
-        does = (p, for_slide c slide.least slide.most (inl does), from);
-      });
-  tie = λ run command none.
-      scene.keeps TieNote (record {
-        channel = voice + 1;
-        is_channel = is_channel voice scene.few;
-        does = inl (record {
-          row = does.row;
-          meets = does.meets;
-          command_is = does.command_is ∙ ap (λ n. 0xF0 + n) command;
-          param_is = does.param_is ∙ none;
+    vibrato = λ run none some begun. let least = slide.least in absurd (omega (arith, none, least));
+    calculated = λ run asked from.
+        scene.keeps NoteDependent (record {
+          channel = voice + 1;
+          is_channel = is_channel voice scene.few;
+          does = (p, for_slide c slide.least slide.most (inl does), from);
         });
-      });
-  tone = λ run command some.
-      scene.keeps TonePorta (record {
-        channel = voice + 1;
-        is_channel = is_channel voice scene.few;
-        does = (
-          p,
-          inl (record {
+    tie = λ run command none.
+        scene.keeps TieNote (record {
+          channel = voice + 1;
+          is_channel = is_channel voice scene.few;
+          does = inl (record {
             row = does.row;
             meets = does.meets;
             command_is = does.command_is ∙ ap (λ n. 0xF0 + n) command;
-            param_is = does.param_is;
-          }),
-          some,
-        );
-      });
+            param_is = does.param_is ∙ none;
+          });
+        });
+    tone = λ run command some.
+        scene.keeps TonePorta (record {
+          channel = voice + 1;
+          is_channel = is_channel voice scene.few;
+          does = (
+            p,
+            inl (record {
+              row = does.row;
+              meets = does.meets;
+              command_is = does.command_is ∙ ap (λ n. 0xF0 + n) command;
+              param_is = does.param_is;
+            }),
+            some,
+          );
+        });
   };
 }
   where

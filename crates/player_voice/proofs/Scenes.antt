@@ -86,12 +86,24 @@ playing_range (suc zero) x few range = record { voice = range.two; common = rang
 playing_range (suc (suc zero)) x few range = record { voice = range.three; common = range.common }
 playing_range (suc (suc (suc voice))) x few range = absurd (omega (arith, few))
 
--- the voice that begins its step is in its ranges and safe
+-- the state before the step is in its ranges and safe
+pub state_range : (packed : PackedSong) (song : Song) (layout : Layout) (o : Options) (k voice : ℕ) (x : FrameState) →
+    Scene packed song layout o k voice x → IsFrameState (state_before packed o k voice x)
+state_range packed song layout o k voice x scene =
+    range_before packed song o k voice x scene.stands scene.few scene.range
+
+pub state_safe : (packed : PackedSong) (song : Song) (layout : Layout) (o : Options) (k voice : ℕ) (x : FrameState) →
+    Scene packed song layout o k voice x → IsSafe (unpacked_song packed) k (state_before packed o k voice x)
+state_safe packed song layout o k voice x scene =
+    before_safe (unpacked_song packed) k (voice + 1) o x (playable packed song scene.stands)
+    (plays packed song k scene.stands scene.below) scene.safe
+
+-- and so is the voice that begins it
 pub range_begins : (packed : PackedSong) (song : Song) (layout : Layout) (o : Options) (k voice : ℕ) (x : FrameState) →
     Scene packed song layout o k voice x → IsPlaying (playing_of (voice + 1) (state_before packed o k voice x))
 range_begins packed song layout o k voice x scene =
     playing_range voice (state_before packed o k voice x) scene.few
-    (range_before packed song o k voice x scene.stands scene.few scene.range)
+    (state_range packed song layout o k voice x scene)
 
 pub safe_begins : (packed : PackedSong) (song : Song) (layout : Layout) (o : Options) (k voice : ℕ) (x : FrameState) →
     Scene packed song layout o k voice x →
@@ -99,8 +111,7 @@ pub safe_begins : (packed : PackedSong) (song : Song) (layout : Layout) (o : Opt
     (playing_of (voice + 1) (state_before packed o k voice x))
 safe_begins packed song layout o k voice x scene =
     playing_safe (unpacked_song packed) k (voice + 1) (state_before packed o k voice x)
-    (before_safe (unpacked_song packed) k (voice + 1) o x (playable packed song scene.stands)
-    (plays packed song k scene.stands scene.below) scene.safe)
+    (state_safe packed song layout o k voice x scene)
 
 -- and so is what each rule leaves
 pub rules_range : (packed : PackedSong) (song : Song) → StandsFor packed song → RulesKeepRanges (look_of packed)

@@ -159,9 +159,9 @@ step_leads packed song layout o k voice x desk scene held =
         })))
 
     ticked : (m : VoiceDesk) → TickedTo voice t d m → (
-          (not m.zero ≡ true →
-          Leads r going_on_tree (Done voice (sounded o (look_of packed) t) (started_on t.started) d) m)
-          × (not m.zero ≡ false → Done voice (sounded o (look_of packed) t) (started_on t.started) d m)
+        (not m.zero ≡ true →
+        Leads r going_on_tree (Done voice (sounded o (look_of packed) t) (started_on t.started) d) m)
+        × (not m.zero ≡ false → Done voice (sounded o (look_of packed) t) (started_on t.started) d m)
         )
     ticked m h = (
       λ met. goes m h (sym h.zero ∙ not-true m.zero met),
