@@ -173,8 +173,9 @@ turned packed song layout o k count voice x desk stage few held = record {
     two = meaning layout (row_tree count) voice one
 
     sounds : Sounds layout packed k voice nothing_on (after_voice packed o k voice x) two
-    sounds = register_block_sounds packed layout k voice nothing_on (after_voice packed o k voice x) two stage.laid few
-    row.holds
+    sounds =
+        register_block_sounds packed layout k voice nothing_on (after_voice packed o k voice x) two stage.laid few
+        row.holds
 
     register_reads : Reads (MayRead layout packed) layout register_tree voice two
-    register_reads = (tt, tt, tt, tt, tt, tt, tt, tt, tt, tt, tt, tt, tt, tt, tt, tt)
+    register_reads = (tt, (tt, (tt, (tt, (tt, (tt, (tt, (tt, (tt, (tt, (tt, (tt, (tt, (tt, (tt, tt)))))))))))))))
