@@ -68,37 +68,39 @@ commanded look c x s = program_moved look s.voice.wave_ptr (wave_command look c 
 abbrev moved : LookUps → Playing → Playing
 moved look s = program_moved look s.voice.wave_ptr s
 
+-- where A is the right side and Y this command, the tree leads to what the command leaves, and Y stays
+abbrev Does : Reader → LookUps → Playing → HandedOn → ℕ → ℕ → VoiceDesk → Tree → Type 0
+Does r look s handed c x d tree =
+    (k : VoiceDesk) → AtOnce r.voice (moved look s) handed x d k → k.y ≡ c →
+    Leads r tree (λ m. Done r.voice (commanded look c x s) handed d m × (m.y ≡ c)) k
+
 -- the bytes of a voice are set
-ad_leads : (r : Reader) (look : LookUps) (s : Playing) (handed : HandedOn) (x : ℕ) (d k : VoiceDesk) →
-    AtOnce r.voice (moved look s) handed x d k → k.y ≡ 5 →
-    Leads r ad_body.tree (λ m. Done r.voice (commanded look 5 x s) handed d m × (m.y ≡ 5)) k
+ad_leads : (r : Reader) (look : LookUps) (s : Playing) (handed : HandedOn) (x : ℕ) (d : VoiceDesk) →
+    Does r look s handed 5 x d ad_body.tree
 unfolding wave_command do_command
 ad_leads r look s handed x d k at y = (
   own_done _ _ _ _ _ _ _ refl refl refl (assumption (at.is, at.done.fields)) (assumption at.done.fetch) at.done,
   y,
 )
 
-sr_leads : (r : Reader) (look : LookUps) (s : Playing) (handed : HandedOn) (x : ℕ) (d k : VoiceDesk) →
-    AtOnce r.voice (moved look s) handed x d k → k.y ≡ 6 →
-    Leads r sr_body.tree (λ m. Done r.voice (commanded look 6 x s) handed d m × (m.y ≡ 6)) k
+sr_leads : (r : Reader) (look : LookUps) (s : Playing) (handed : HandedOn) (x : ℕ) (d : VoiceDesk) →
+    Does r look s handed 6 x d sr_body.tree
 unfolding wave_command do_command
 sr_leads r look s handed x d k at y = (
   own_done _ _ _ _ _ _ _ refl refl refl (assumption (at.is, at.done.fields)) (assumption at.done.fetch) at.done,
   y,
 )
 
-wave_leads : (r : Reader) (look : LookUps) (s : Playing) (handed : HandedOn) (x : ℕ) (d k : VoiceDesk) →
-    AtOnce r.voice (moved look s) handed x d k → k.y ≡ 7 →
-    Leads r wave_body.tree (λ m. Done r.voice (commanded look 7 x s) handed d m × (m.y ≡ 7)) k
+wave_leads : (r : Reader) (look : LookUps) (s : Playing) (handed : HandedOn) (x : ℕ) (d : VoiceDesk) →
+    Does r look s handed 7 x d wave_body.tree
 unfolding wave_command do_command
 wave_leads r look s handed x d k at y = (
   own_done _ _ _ _ _ _ _ refl refl refl (assumption (at.is, at.done.fields)) (assumption at.done.fetch) at.done,
   y,
 )
 
-pulse_leads : (r : Reader) (look : LookUps) (s : Playing) (handed : HandedOn) (x : ℕ) (d k : VoiceDesk) →
-    AtOnce r.voice (moved look s) handed x d k → k.y ≡ 9 →
-    Leads r pulse_body.tree (λ m. Done r.voice (commanded look 9 x s) handed d m × (m.y ≡ 9)) k
+pulse_leads : (r : Reader) (look : LookUps) (s : Playing) (handed : HandedOn) (x : ℕ) (d : VoiceDesk) →
+    Does r look s handed 9 x d pulse_body.tree
 unfolding wave_command do_command
 pulse_leads r look s handed x d k at y = (
   own_done _ _ _ _ _ _ _ refl refl refl (assumption (at.is, at.done.fields)) (assumption at.done.fetch) at.done,
@@ -106,9 +108,8 @@ pulse_leads r look s handed x d k at y = (
 )
 
 -- bytes that no voice owns are set
-filter_leads : (r : Reader) (look : LookUps) (s : Playing) (handed : HandedOn) (x : ℕ) (d k : VoiceDesk) →
-    AtOnce r.voice (moved look s) handed x d k → k.y ≡ 0xA →
-    Leads r filter_body.tree (λ m. Done r.voice (commanded look 0xA x s) handed d m × (m.y ≡ 0xA)) k
+filter_leads : (r : Reader) (look : LookUps) (s : Playing) (handed : HandedOn) (x : ℕ) (d : VoiceDesk) →
+    Does r look s handed 0xA x d filter_body.tree
 unfolding wave_command do_command
 filter_leads r look s handed x d k at y = (
   record {
@@ -125,9 +126,8 @@ filter_leads r look s handed x d k at y = (
   y,
 )
 
-cutoff_leads : (r : Reader) (look : LookUps) (s : Playing) (handed : HandedOn) (x : ℕ) (d k : VoiceDesk) →
-    AtOnce r.voice (moved look s) handed x d k → k.y ≡ 0xC →
-    Leads r cutoff_body.tree (λ m. Done r.voice (commanded look 0xC x s) handed d m × (m.y ≡ 0xC)) k
+cutoff_leads : (r : Reader) (look : LookUps) (s : Playing) (handed : HandedOn) (x : ℕ) (d : VoiceDesk) →
+    Does r look s handed 0xC x d cutoff_body.tree
 unfolding wave_command do_command
 cutoff_leads r look s handed x d k at y = (
   record {
@@ -150,11 +150,10 @@ chosen_yes z a b n e h = rw e h
 chosen_no : (z : Bool) (a b n : ℕ) → z ≡ false → n ≡ b → n ≡ (if z then a else b)
 chosen_no z a b n e h = rw e h
 
-control_leads : (r : Reader) (look : LookUps) (s : Playing) (handed : HandedOn) (x : ℕ) (d k : VoiceDesk) → x < 256 →
-    AtOnce r.voice (moved look s) handed x d k → k.y ≡ 0xB →
-    Leads r control_body.tree (λ m. Done r.voice (commanded look 0xB x s) handed d m × (m.y ≡ 0xB)) k
+control_leads : (r : Reader) (look : LookUps) (s : Playing) (handed : HandedOn) (x : ℕ) (d : VoiceDesk) → x < 256 →
+    Does r look s handed 0xB x d control_body.tree
 unfolding wave_command do_command
-control_leads r look s handed x d k small at y =
+control_leads r look s handed x d small k at y =
     let acc = at.is in (
       omega (arith, acc, small),
       omega arith,
@@ -198,11 +197,10 @@ control_leads r look s handed x d k small at y =
       ),
     )
 
-volume_leads : (r : Reader) (look : LookUps) (s : Playing) (handed : HandedOn) (x : ℕ) (d k : VoiceDesk) → x < 256 →
-    AtOnce r.voice (moved look s) handed x d k → k.y ≡ 0xD →
-    Leads r volume_body.tree (λ m. Done r.voice (commanded look 0xD x s) handed d m × (m.y ≡ 0xD)) k
+volume_leads : (r : Reader) (look : LookUps) (s : Playing) (handed : HandedOn) (x : ℕ) (d : VoiceDesk) → x < 256 →
+    Does r look s handed 0xD x d volume_body.tree
 unfolding wave_command do_command
-volume_leads r look s handed x d k small at y =
+volume_leads r look s handed x d small k at y =
     let acc = at.is in (
       omega (arith, acc, small),
       omega arith,
@@ -248,8 +246,7 @@ volume_leads r look s handed x d k small at y =
 -- where the command is this one and its body is that
 by_body : (r : Reader) (look : LookUps) (s : Playing) (handed : HandedOn) (c x : ℕ) (before : List Body) (tree : Tree)
     (after : List Body) (d n : VoiceDesk) → are_apart c before ≡ true → are_apart c after ≡ true → c < 256 →
-    ((k : VoiceDesk) → AtOnce r.voice (moved look s) handed x d k → k.y ≡ c →
-    Leads r tree (λ m. Done r.voice (commanded look c x s) handed d m × (m.y ≡ c)) k) → n.y ≡ c →
+    Does r look s handed c x d tree → n.y ≡ c →
     AtOnce r.voice (moved look s) handed x d n →
     Leads r (bodies_tree (before ++ (record { number = c; tree = tree } ∷ after)))
     (Done r.voice (commanded look c x s) handed d) n
@@ -307,7 +304,7 @@ by_command r look s handed (suc (suc (suc (suc (suc (suc (suc (suc (suc (suc zer
 by_command r look s handed (suc (suc (suc (suc (suc (suc (suc (suc (suc (suc (suc zero))))))))))) x d n least most small
     y at =
     by_body r look s handed 0xB x (ad_body ∷ sr_body ∷ wave_body ∷ pulse_body ∷ filter_body ∷ []) control_body.tree
-    (cutoff_body ∷ volume_body ∷ []) d n refl refl (omega arith) (λ k. control_leads r look s handed x d k small) y at
+    (cutoff_body ∷ volume_body ∷ []) d n refl refl (omega arith) (control_leads r look s handed x d small) y at
 by_command r look s handed (suc (suc (suc (suc (suc (suc (suc (suc (suc (suc (suc (suc zero)))))))))))) x d n least most
     small y at =
     by_body r look s handed 0xC x (ad_body ∷ sr_body ∷ wave_body ∷ pulse_body ∷ filter_body ∷ control_body ∷ [])
@@ -316,7 +313,7 @@ by_command r look s handed (suc (suc (suc (suc (suc (suc (suc (suc (suc (suc (su
     most small y at =
     by_body r look s handed 0xD x
     (ad_body ∷ sr_body ∷ wave_body ∷ pulse_body ∷ filter_body ∷ control_body ∷ cutoff_body ∷ []) volume_body.tree [] d n
-    refl refl (omega arith) (λ k. volume_leads r look s handed x d k small) y at
+    refl refl (omega arith) (volume_leads r look s handed x d small) y at
 by_command r look s handed (suc (suc (suc (suc (suc (suc (suc (suc (suc (suc (suc (suc (suc (suc zero)))))))))))))) x d n
     least most small y at =
     by_none r look s handed 0xE x d n refl (omega arith) (fourteen_moved look x s) y at
