@@ -126,5 +126,5 @@ rowed_fetched packed song layout k voice count x desk stands short laid keeps l 
         ap (λ b. not (nat_eq b 0)) (e ∙ none) in record {
           holds = rw unmet fetches.holds;
           leaves = rw unmet fetches.leaves;
-          reads = (tt, λ met. absurd (true≢false (sym met ∙ unmet)), λ h. fetches.reads);
+          reads = ((tt, tt), λ met. absurd (true≢false (sym met ∙ unmet)), λ h. fetches.reads);
         }

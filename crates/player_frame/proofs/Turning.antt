@@ -155,7 +155,7 @@ turned packed song layout o k count voice x desk stage few held = record {
   leaves = λ place away low high other.
       sounds.leaves place away low high other
       ∙ (row.leaves place away low high ∙ steps.leaves place away low high);
-  reads = (steps.reads, row.reads, (register_reads, tt));
+  reads = (steps.reads, (row.reads, (register_reads, tt)));
 }
   where
     steps : Steps layout packed o k voice x desk
