@@ -7,3 +7,5 @@ pub use Rattle.player_tick.proofs.Ticks.{TickDone}
 pub use Rattle.player_tick.proofs.SoundBegins.{handed_behind}
 -- the voice stays where it is in its song
 pub use Rattle.player_tick.proofs.KeptFields.{tick_rest}
+-- the parts that it needs are those of what the frame uses
+pub use Rattle.player_tick.proofs.UsedParts.{tick_keeps}

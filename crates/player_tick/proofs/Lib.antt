@@ -16,3 +16,5 @@ mod Ticks
 mod Between
 -- The whole block.
 mod TickLeads
+-- Which parts are needed.
+mod UsedParts

@@ -5,7 +5,8 @@ use Rattle.std.proofs.lemmas.Bool.{not-true, not-false, eqb-true}
 use Rattle.song_model.specs.declared.instruments.Instrument.{Instrument}
 use Rattle.play_model.specs.LookUps.{LookUps}
 use Rattle.play_model.specs.State.{Voice, Playing}
-use Rattle.play_model.specs.TickStep.{note_taken, first_wave_set, programs_begun, sound_begun, note_started, gate_timer_set}
+use Rattle.play_model.specs.TickStep.{note_taken, first_wave_set, programs_begun, sound_begun, note_started}
+use Rattle.play_model.specs.TickStep.{gate_timer_set}
 use Rattle.blocks.specs.Trees.{NoneTree, ThenTree}
 use Rattle.player_parts.specs.declared.labels.TheConstants.{INSTRUMENT, NEW_NOTE, NEW_COMMAND}
 use Rattle.player_parts.specs.Holds.{HandedOn}

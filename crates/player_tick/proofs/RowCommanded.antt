@@ -12,18 +12,21 @@ use Rattle.blocks.specs.Trees.{NoneTree, ThenTree, WhenTree}
 use Rattle.blocks.specs.Desk.{Layout}
 use Rattle.player_parts.specs.declared.labels.TheConstants.{NEW_COMMAND, NEW_PARAM}
 use Rattle.player_parts.specs.Holds.{HandedOn}
-use Rattle.player_parts.proofs.Laws.{VoiceDesk, Reader, Leads, leads_on, loaded, indexed, compared, Done, InstrumentAt, SidesAt}
+use Rattle.player_parts.proofs.Laws.{VoiceDesk, Reader, Leads, leads_on, loaded, indexed, compared, Done, InstrumentAt}
+use Rattle.player_parts.proofs.Laws.{SidesAt}
 use Rattle.player_tick.specs.RowCommands.{ad_tree, sr_tree, wave_tree, wave_pointer_tree, pulse_pointer_tree}
 use Rattle.player_tick.specs.RowCommands.{filter_pointer_tree, filter_control_tree, cutoff_tree, volume_tree}
 use Rattle.player_tick.specs.RowCommands.{funk_chosen_tree, tempo_tree, funk_tree}
 use Rattle.player_tick.specs.RowCommands.{ad_set_tree, sr_set_tree, wave_set_tree, wave_pointer_set_tree}
 use Rattle.player_tick.specs.RowCommands.{pulse_pointer_set_tree, filter_pointer_set_tree, filter_control_set_tree}
-use Rattle.player_tick.specs.RowCommands.{cutoff_set_tree, volume_set_tree, funk_choice_tree, tempo_set_tree, funk_set_tree}
+use Rattle.player_tick.specs.RowCommands.{cutoff_set_tree, volume_set_tree, funk_choice_tree, tempo_set_tree}
+use Rattle.player_tick.specs.RowCommands.{funk_set_tree}
 use Rattle.player_tick.specs.RowCommands.{voice_commands_tree, filter_commands_tree, tempo_commands_tree, once_tree}
 use Rattle.player_tick.specs.RowCommands.{running_tree, command_tree}
 use Rattle.player_tick.proofs.TickDesks.{Ticking, cleared}
 use Rattle.player_tick.proofs.RunningCommands.{running_leads}
-use Rattle.player_tick.proofs.OnceCommands.{after, after_none, part_leads, is_there, wave_pointer_set, ad_leads, sr_leads, wave_leads}
+use Rattle.player_tick.proofs.OnceCommands.{after, after_none, part_leads, is_there, wave_pointer_set, ad_leads}
+use Rattle.player_tick.proofs.OnceCommands.{sr_leads, wave_leads}
 use Rattle.player_tick.proofs.OnceCommands.{wave_pointer_leads, pulse_pointer_leads, filter_pointer_leads}
 use Rattle.player_tick.proofs.OnceCommands.{filter_control_leads, cutoff_leads, volume_leads}
 use Rattle.player_tick.proofs.TempoCommands.{funk_chosen, chosen_same, funk_choice_leads, length_set, length_same}

@@ -13,9 +13,11 @@ use Rattle.player_parts.specs.declared.labels.TheConstants.{NEW_PARAM, FUNK_ONE,
 use Rattle.player_parts.specs.declared.labels.TheConstants.{SPEED_RIGHTS}
 use Rattle.player_parts.specs.Codes.{load_number}
 use Rattle.player_parts.specs.Holds.{HandedOn}
-use Rattle.player_parts.proofs.Laws.{VoiceDesk, Reader, Leads, leads_on, loaded, indexed, compared, Done, Reads, SidesAt}
+use Rattle.player_parts.proofs.Laws.{VoiceDesk, Reader, Leads, leads_on, loaded, indexed, compared, Done, Reads}
+use Rattle.player_parts.proofs.Laws.{SidesAt}
 use Rattle.player_parts.proofs.Laws.{side_place}
-use Rattle.player_tick.specs.RowCommands.{tempos_tree, funk_choice_tree, own_tempo_tree, all_tempos_tree, tempo_set_tree}
+use Rattle.player_tick.specs.RowCommands.{tempos_tree, funk_choice_tree, own_tempo_tree, all_tempos_tree}
+use Rattle.player_tick.specs.RowCommands.{tempo_set_tree}
 use Rattle.player_tick.specs.RowCommands.{funk_values_tree, funk_set_tree}
 use Rattle.player_tick.proofs.TickDesks.{Ticking, ticking_as, tempos_kept, own_tempo_set, all_tempos_set}
 use Rattle.player_tick.specs.PartLaws.{low_seven}

@@ -1,14 +1,13 @@
 -- The tick step: between rows a length is loaded where the tick has passed 0, and at a row the note starts and the
 -- command is done.
-use Rattle.std.proofs.Common.{◌≡◌, ◌≢◌, ℕ, ◌+◌, ◌<◌, ◌&&◌, Bool, true, false, not, nat_eq, nat_le, bit_xor}
-use Rattle.std.proofs.Common.{if◌then◌else◌, refl, sym, ap, ◌∙◌, subst}
+use Rattle.std.proofs.Common.{◌≡◌, ◌≢◌, ℕ, ◌+◌, ◌<◌, Bool, true, false, nat_eq, bit_xor}
+use Rattle.std.proofs.Common.{refl, sym, ◌∙◌, subst}
 use Rattle.song_model.specs.declared.instruments.Instrument.{Instrument}
 use Rattle.song_model.specs.declared.tables.TableName.TheVariants.{Speed}
 use Rattle.play_model.specs.LookUps.{LookUps}
-use Rattle.play_model.specs.State.{Voice, Playing}
+use Rattle.play_model.specs.State.{Playing}
 use Rattle.play_model.specs.TickStep.{Ticked, note_started, gate_timer_set}
-use Rattle.play_model.specs.TickStep.{note_taken, first_wave_set, sound_begun, row_command, note_ended, at_row}
-use Rattle.play_model.specs.Helpers.{do_command}
+use Rattle.play_model.specs.TickStep.{row_command, note_ended, at_row}
 use Rattle.blocks.specs.Trees.{NoneTree, ThenTree}
 use Rattle.player_parts.specs.declared.labels.TheConstants.{STARTED}
 use Rattle.player_parts.specs.Holds.{HandedOn}
@@ -16,7 +15,7 @@ use Rattle.player_parts.proofs.Laws.{VoiceDesk, Reader, Leads, leads_on, Done, I
 use Rattle.player_tick.specs.RowCommands.{command_tree}
 use Rattle.player_tick.specs.TickBlock.{gate_timer_tree, note_tree, started_tree, row_tree}
 use Rattle.player_tick.proofs.TickDesks.{Ticking, cleared}
-use Rattle.player_tick.proofs.KeptFields.{Kept, command_kept, note_kept}
+use Rattle.player_tick.proofs.KeptFields.{command_kept, note_kept, starts_same, command_same, param_same}
 use Rattle.player_tick.proofs.NoteStarts.{starts, gate_timer_leads, note_leads}
 use Rattle.player_tick.proofs.SoundBegins.{handed_behind}
 use Rattle.player_tick.proofs.RowCommanded.{CommandKeeps, command_leads}
@@ -78,8 +77,8 @@ row_leads r look s handed d m voice few small ground keeps sides none at =
 
     same : starts timed ≡ starts behind
     same =
-        ap (λ (k : Kept). not (nat_eq k.new_note 0) && not (nat_eq k.new_command 3))
-        (sym
+        sym
+        (starts_same behind timed
         (command_kept (r.voice + 1) look i s.voice.new_command s.voice.new_param noted ∙ note_kept i timed))
 
     from_command : (n : VoiceDesk) → Done r.voice (cleared behind) (handed_behind (starts timed) handed) d n →
@@ -94,8 +93,7 @@ row_leads r look s handed d m voice few small ground keeps sides none at =
         leads_on r command_tree (Done r.voice (cleared behind) (handed_behind (starts timed) handed) d)
         (Leads r (ThenTree started_tree NoneTree) Goal) n from_command
         (command_leads r look number s.voice.new_command s.voice.new_param noted (handed_behind (starts timed) handed) d
-        n voice few small ground keeps sides (ap (λ (k : Kept). k.new_command) (note_kept i timed))
-        (ap (λ (k : Kept). k.new_param) (note_kept i timed)) h)
+        n voice few small ground keeps sides (command_same noted timed (note_kept i timed)) (param_same noted timed (note_kept i timed)) h)
 
     from_timer : (n : VoiceDesk) → Ticking number r.voice timed handed d n →
         Leads r (ThenTree note_tree (ThenTree command_tree (ThenTree started_tree NoneTree))) Goal n

@@ -1,10 +1,12 @@
 -- Each part of the tick step changes nothing in a frame that doesn't use its feature: the test in it fails.
-use Rattle.std.proofs.Common.{◌≡◌, ◌≢◌, ℕ, ◌+◌, ◌-◌, ◌%◌, ◌<◌, ◌≤◌, ◌⊎◌, Bool, true, false, nat_eq, nat_le, bit_and, refl}
+use Rattle.std.proofs.Common.{◌≡◌, ◌≢◌, ℕ, ◌+◌, ◌-◌, ◌%◌, ◌<◌, ◌≤◌, ◌⊎◌, Bool, true, false, nat_eq, nat_le, bit_and}
+use Rattle.std.proofs.Common.{refl}
 use Rattle.std.proofs.Common.{inl, inr, arith, ◌∙◌, if◌then◌else◌}
 use Rattle.std.proofs.lemmas.Bool.{lt-leb, le-leb, ne_eqb, cases_lt, agree_below_at, eqb-true}
 use Rattle.std.proofs.lemmas.Bool.Decides.{eqb_tells}
 use Rattle.song_model.specs.declared.features.Feature.{Feature}
-use Rattle.song_model.specs.declared.features.Feature.TheVariants.{SetAd, SetSr, SetWave, SetWavePointer, SetPulsePointer}
+use Rattle.song_model.specs.declared.features.Feature.TheVariants.{SetAd, SetSr, SetWave, SetWavePointer}
+use Rattle.song_model.specs.declared.features.Feature.TheVariants.{SetPulsePointer}
 use Rattle.song_model.specs.declared.features.Feature.TheVariants.{SetFilterPointer, FilterControl, Cutoff, Volume}
 use Rattle.song_model.specs.declared.features.Feature.TheVariants.{FunkTempo, SetTempo}
 use Rattle.play_model.specs.Used.{IsChannel}
@@ -36,7 +38,7 @@ is_channel : (voice : ℕ) → voice < 3 → IsChannel (voice + 1)
 is_channel voice few = record { first = omega arith; last = omega (arith, few) }
 
 -- the voice that the visit is about does something in its turn
-in_turn : (visit : Visit) (Does : Turn → Type 0) → visit.voice < 3 → Does (visit_turn visit) →
+pub in_turn : (visit : Visit) (Does : Turn → Type 0) → visit.voice < 3 → Does (visit_turn visit) →
     InATurn visit.options (look_ups_of (unpacked_song visit.packed))
     (subtune_at (unpacked_song visit.packed) visit.k) visit.state Does
 in_turn visit Does few does =

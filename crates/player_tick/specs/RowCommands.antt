@@ -3,9 +3,12 @@
 use Rattle.std.specs.Prelude.{ℕ, ◌+◌, [], ◌∷◌}
 use Rattle.player_parts.specs.Words.{Const, Plain, And, Sub, SubOn, Zero, Minus, Equal, Less, YEqual, Is, Not}
 use Rattle.blocks.specs.Trees.{Tree, ChainTree, NoneTree, ThenTree, IfTree, WhenTree}
-use Rattle.player_parts.specs.declared.labels.TheConstants.{NEW_COMMAND, NEW_PARAM, COMMAND, PARAM, AD, SR, VIB_TIME, WAVE, WAVE_POINTER}
-use Rattle.player_parts.specs.declared.labels.TheConstants.{WAVE_TIME, PULSE_POINTER, PULSE_TIME, FILTER_POINTER, FILTER_TIME}
-use Rattle.player_parts.specs.declared.labels.TheConstants.{FILTER_CONTROL, CUTOFF, VOLUME, FUNK_ONE, FUNK_TWO, TEMPO, SPEED_LEFTS}
+use Rattle.player_parts.specs.declared.labels.TheConstants.{NEW_COMMAND, NEW_PARAM, COMMAND, PARAM, AD, SR, VIB_TIME}
+use Rattle.player_parts.specs.declared.labels.TheConstants.{WAVE, WAVE_POINTER}
+use Rattle.player_parts.specs.declared.labels.TheConstants.{WAVE_TIME, PULSE_POINTER, PULSE_TIME, FILTER_POINTER}
+use Rattle.player_parts.specs.declared.labels.TheConstants.{FILTER_TIME}
+use Rattle.player_parts.specs.declared.labels.TheConstants.{FILTER_CONTROL, CUTOFF, VOLUME, FUNK_ONE, FUNK_TWO, TEMPO}
+use Rattle.player_parts.specs.declared.labels.TheConstants.{SPEED_LEFTS}
 use Rattle.player_parts.specs.declared.labels.TheConstants.{SPEED_RIGHTS, INSTRUMENTS}
 use Rattle.player_parts.specs.Codes.{load_number, load_own, load_entry, store_own, store_shared, store_y, index_own}
 

@@ -3,9 +3,12 @@
 use Rattle.std.specs.Prelude.{◌+◌, [], ◌∷◌}
 use Rattle.player_parts.specs.Words.{Const, Plain, And, Xor, Sub, Zero, Minus, Equal, Less, Is, Not}
 use Rattle.blocks.specs.Trees.{Tree, ChainTree, NoneTree, ThenTree, IfTree, WhenTree}
-use Rattle.player_parts.specs.declared.labels.TheConstants.{TICK, GATE_TIMER, INSTRUMENT, NOTE, NEW_NOTE, NEW_COMMAND, COMMAND, PARAM, AD, SR}
-use Rattle.player_parts.specs.declared.labels.TheConstants.{VIB_DELAY, WAVE, GATE, WAVE_POINTER, WAVE_TIME, PULSE_POINTER, PULSE_TIME, TEMPO}
-use Rattle.player_parts.specs.declared.labels.TheConstants.{FILTER_POINTER, FILTER_TIME, STARTED, FUNK_ONE, INSTRUMENTS, GATE_TIMERS}
+use Rattle.player_parts.specs.declared.labels.TheConstants.{TICK, GATE_TIMER, INSTRUMENT, NOTE, NEW_NOTE, NEW_COMMAND}
+use Rattle.player_parts.specs.declared.labels.TheConstants.{COMMAND, PARAM, AD, SR}
+use Rattle.player_parts.specs.declared.labels.TheConstants.{VIB_DELAY, WAVE, GATE, WAVE_POINTER, WAVE_TIME}
+use Rattle.player_parts.specs.declared.labels.TheConstants.{PULSE_POINTER, PULSE_TIME, TEMPO}
+use Rattle.player_parts.specs.declared.labels.TheConstants.{FILTER_POINTER, FILTER_TIME, STARTED, FUNK_ONE, INSTRUMENTS}
+use Rattle.player_parts.specs.declared.labels.TheConstants.{GATE_TIMERS}
 use Rattle.player_parts.specs.Codes.{load_number, load_own, load_shared, load_entry, store_own, store_shared, store_y}
 use Rattle.player_parts.specs.Codes.{index_own, index_number, less_own, more_shared}
 use Rattle.player_tick.specs.RowCommands.{command_tree}

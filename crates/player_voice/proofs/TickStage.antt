@@ -20,72 +20,11 @@ use Rattle.player_parts.specs.Holds.{HandedOn, HandedStands, Holds, nothing_on}
 use Rattle.player_parts.proofs.Laws.{VoiceDesk, Reader, Leads, leads_on, reader, seen, Done, Rest, rest_of, voice_in, common_in}
 use Rattle.player_parts.proofs.Laws.{playing_in, handed_in, held_seen, held_low}
 use Rattle.player_tick.specs.TickBlock.{tick_tree}
-use Rattle.player_tick.proofs.Laws.{IsRow, TickGround, TickKeeps, CommandKeeps, TickDone, handed_behind, tick_leads}
+use Rattle.player_tick.proofs.Laws.{IsRow, TickGround, TickKeeps, TickDone, handed_behind, tick_leads, tick_keeps}
 use Rattle.player_voice.specs.Turns.{look_of, state_before, turn_in, ticked_at, started_on}
 use Rattle.player_voice.proofs.Scenes.{Scene, order_in, is_channel, range_begins, safe_begins, instrument_ready}
 use Rattle.player_voice.proofs.Scenes.{speed_ready, waiting_points}
 use Rattle.player_voice.proofs.Stages.{with_handed}
-
--- ---- what is kept
-
--- a row's command is done by the voice
-does_row : (packed : PackedSong) (o : Options) (k voice : ℕ) (x : FrameState) (command : ℕ) →
-    IsRow (playing_of (voice + 1) (state_before packed o k voice x)) →
-    (voice_of (voice + 1) (state_before packed o k voice x)).new_command ≡ command →
-    DoesRow (turn_in packed o k voice x) command (voice_of (voice + 1) (state_before packed o k voice x)).new_param
-does_row packed o k voice x command row is = record { now = row; command_is = is; param_is = refl }
-
-command_kept : (packed : PackedSong) (song : Song) (layout : Layout) (o : Options) (k voice : ℕ) (x : FrameState) →
-    Scene packed song layout o k voice x → IsRow (playing_of (voice + 1) (state_before packed o k voice x)) →
-    CommandKeeps layout (voice_of (voice + 1) (state_before packed o k voice x)).new_command
-    (voice_of (voice + 1) (state_before packed o k voice x)).new_param
-command_kept packed song layout o k voice x scene row = record {
-  ad = λ e. scene.keeps SetAd (record { channel = voice + 1; is_channel = turns; does = (param, inl (does 5 e)) });
-  sr = λ e. scene.keeps SetSr (record { channel = voice + 1; is_channel = turns; does = (param, inl (does 6 e)) });
-  wave = λ e. scene.keeps SetWave (record { channel = voice + 1; is_channel = turns; does = (param, inl (does 7 e)) });
-  wave_pointer = λ e.
-      scene.keeps SetWavePointer (record { channel = voice + 1; is_channel = turns; does = (param, does 8 e) });
-  pulse_pointer = λ e.
-      scene.keeps SetPulsePointer (record { channel = voice + 1; is_channel = turns; does = (param, inl (does 9 e)) });
-  filter_pointer = λ e.
-      scene.keeps SetFilterPointer (record { channel = voice + 1; is_channel = turns; does = (param, inl (does 0xA e)) });
-  filter_control = λ e.
-      scene.keeps FilterControl (record { channel = voice + 1; is_channel = turns; does = (param, inl (does 0xB e)) });
-  cutoff = λ e.
-      scene.keeps Cutoff (record { channel = voice + 1; is_channel = turns; does = (param, inl (does 0xC e)) });
-  volume = λ e.
-      scene.keeps Volume (record { channel = voice + 1; is_channel = turns; does = (param, inl (does 0xD e)) });
-  length = λ e more.
-      scene.keeps SetTempo (record { channel = voice + 1; is_channel = turns; does = (param, does 0xF e, more) });
-  funk_chosen = λ e few.
-      scene.keeps FunkTempo
-      (record { channel = voice + 1; is_channel = turns; does = by_tempo param (does 0xF e) few });
-  funk = λ e.
-      scene.keeps FunkTempo (record { channel = voice + 1; is_channel = turns; does = by_values param (does 0xE e) });
-}
-  where
-    param : ℕ
-    param = (voice_of (voice + 1) (state_before packed o k voice x)).new_param
-
-    turns : IsChannel (voice + 1)
-    turns = is_channel voice scene.few
-
-    does : (command : ℕ) → (voice_of (voice + 1) (state_before packed o k voice x)).new_command ≡ command →
-        DoesRow (turn_in packed o k voice x) command param
-    does command e = does_row packed o k voice x command row e
-
-tick_kept : (packed : PackedSong) (song : Song) (layout : Layout) (o : Options) (k voice : ℕ) (x : FrameState) →
-    Scene packed song layout o k voice x →
-    TickKeeps layout (voice + 1) (playing_of (voice + 1) (state_before packed o k voice x))
-tick_kept packed song layout o k voice x scene = record {
-  command = λ row. command_kept packed song layout o k voice x scene row;
-  length = λ past few.
-      scene.keeps FunkTempo (record {
-        channel = voice + 1;
-        is_channel = is_channel voice scene.few;
-        does = by_length _ (record { past = past; tempo_is = refl }) few;
-      });
-}
 
 -- ---- what is read
 
@@ -154,7 +93,9 @@ tick_stage packed song layout o k voice x desk scene held =
     (held_low layout packed k voice nothing_on (state_before packed o k voice x) desk scene.few held)
     held.handed_on.started
     (subst (TickGround r look) (sym tells) (tick_ground packed song layout o k voice x desk scene held))
-    (subst (TickKeeps layout (voice + 1)) (sym tells) (tick_kept packed song layout o k voice x scene)))
+    (subst (TickKeeps layout (voice + 1)) (sym tells)
+    (tick_keeps (record { layout = layout; packed = packed; k = k; voice = voice; options = o; state = x }) scene.few
+    scene.keeps)))
   where
     r : Reader
     r = reader layout packed voice desk.at
