@@ -1,23 +1,21 @@
 -- A frame: the filter, and the three voices one after the other.
-use Rattle.std.proofs.Common.{◌≡◌, ◌≢◌, ℕ, zero, suc, ◌+◌, ◌-◌, ◌*◌, ◌<◌, ◌≤◌, ◌⊎◌, List, ◌++◌, slice_index, refl, sym, ap}
+use Rattle.std.proofs.Common.{◌≡◌, ◌≢◌, ℕ, zero, suc, ◌+◌, ◌-◌, ◌*◌, ◌<◌, List, ◌++◌, slice_index, refl, sym}
 use Rattle.std.proofs.Common.{◌∙◌, subst, inl, inr, arith}
 use Rattle.std.proofs.lemmas.Bool.{cases_lt}
-use Rattle.song_model.specs.declared.songs.Song.{Song}
 use Rattle.play_model.specs.declared.options.Options.{Options}
 use Rattle.play_model.specs.State.{FrameState, voice_of}
-use Rattle.play_model.specs.Frame.{filter_registers, voice_registers, frame_of, frame_with, subtune_at}
+use Rattle.play_model.specs.Frame.{filter_registers, voice_registers, frame_of, frame_with}
 use Rattle.packed_form.specs.declared.packed_songs.PackedSong.{PackedSong}
 use Rattle.packed_form.specs.Unpacked.{unpacked_song}
 use Rattle.blocks.specs.Desk.{Desk, Layout, sid_place}
-use Rattle.blocks.specs.Meaning.{meaning, voice_begun, after_voices}
+use Rattle.blocks.specs.Meaning.{meaning, voice_begun}
 use Rattle.player_parts.specs.PlayerLayouts.{IsVariablePlace, IsPlayerLayout}
-use Rattle.player_parts.specs.Holds.{Holds, nothing_on}
+use Rattle.player_parts.specs.Holds.{nothing_on}
 use Rattle.player_filter.specs.FilterBlock.{filter_tree}
 use Rattle.player_filter.specs.FilterLaws.{Filters, with_filter_done}
 use Rattle.player_filter.proofs.Laws.{filter_block_filters}
-use Rattle.player_voice.specs.Turns.{look_of, state_before}
 use Rattle.player_frame.specs.PlayBlock.{voice_tree, play_tree}
-use Rattle.player_frame.specs.PlayLaws.{Plays, PlayBlockPlays}
+use Rattle.player_frame.specs.PlayLaws.{PlayBlockPlays}
 use Rattle.player_frame.proofs.Turning.{Stage, Turned, after_voice, turned}
 
 -- ---- a register's place

@@ -1,9 +1,9 @@
 -- The row of a voice: where a note has started none is fetched, and the word of it is taken back.
-use Rattle.std.proofs.Common.{◌≡◌, ◌≢◌, ℕ, zero, suc, ◌+◌, ◌*◌, ◌<◌, ◌≤◌, Bool, true, false, not, nat_eq, nat_le, length, refl, sym, ap}
-use Rattle.std.proofs.Common.{◌∙◌, subst, if◌then◌else◌, arith}
+use Rattle.std.proofs.Common.{◌≡◌, ℕ, zero, suc, ◌+◌, ◌*◌, ◌<◌, ◌≤◌, true, false, not, nat_eq, nat_le, length, refl, sym, ap}
+use Rattle.std.proofs.Common.{◌∙◌, arith}
 use Rattle.std.proofs.lemmas.Bool.{true≢false}
 use Rattle.song_model.specs.declared.songs.Song.{Song}
-use Rattle.play_model.specs.State.{FrameState, voice_of, playing_of}
+use Rattle.play_model.specs.State.{FrameState}
 use Rattle.play_model.specs.Ranges.{IsFrameState}
 use Rattle.play_model.specs.Safe.{IsSafe}
 use Rattle.packed_form.specs.declared.packed_songs.PackedSong.{PackedSong}
@@ -15,12 +15,11 @@ use Rattle.blocks.specs.Meaning.{meaning}
 use Rattle.blocks.specs.Reads.{Reads}
 use Rattle.player_parts.specs.declared.labels.TheConstants.{STARTED}
 use Rattle.player_parts.specs.PlayerLayouts.{IsPlayerLayout, MayRead, KeepsFeatures}
-use Rattle.player_parts.specs.Holds.{Holds, nothing_on, shared_bytes}
+use Rattle.player_parts.specs.Holds.{Holds, nothing_on}
 use Rattle.player_parts.specs.Elsewhere.{LeavesElsewhere}
 use Rattle.player_parts.proofs.Laws.{VoiceDesk, Reader, Leads, VoiceDone, seen, desk_seen, ground_of, led, reader}
 use Rattle.player_parts.proofs.Laws.{held_voice, others_tempos, holds_after, leaves_after}
 use Rattle.player_seq.specs.PackedLimits.{KeepsPatternLimits}
-use Rattle.player_seq.specs.FetchBlock.{fetch_tree}
 use Rattle.player_seq.specs.FetchLaws.{with_row_fetched, Fetches}
 use Rattle.player_seq.proofs.Laws.{fetch_block_fetches}
 use Rattle.player_voice.specs.Turns.{started_on}

@@ -1,12 +1,10 @@
 -- A voice in a frame: its step, its row and its registers.
-use Rattle.std.proofs.Common.{◌≡◌, ◌≢◌, ℕ, zero, suc, ◌+◌, ◌*◌, ◌<◌, ◌≤◌, ◌⊎◌, Bool, true, false, if◌then◌else◌, length}
-use Rattle.std.proofs.Common.{slice_index, refl, sym, ap, ◌∙◌, subst, inl, inr, arith}
-use Rattle.song_model.specs.declared.orders.Order.{Order}
+use Rattle.std.proofs.Common.{◌≡◌, ◌≢◌, ℕ, zero, suc, ◌+◌, ◌*◌, ◌<◌, ◌≤◌, Bool, true, false, length}
+use Rattle.std.proofs.Common.{slice_index, refl, sym, ap, ◌∙◌, subst, arith}
 use Rattle.song_model.specs.declared.songs.Song.{Song}
 use Rattle.song_model.specs.LookUp.{order_of}
 use Rattle.play_model.specs.declared.options.Options.{Options}
-use Rattle.play_model.specs.LookUps.{LookUps}
-use Rattle.play_model.specs.State.{Voice, FrameState, Playing, voice_of, playing_of, with_playing}
+use Rattle.play_model.specs.State.{FrameState, Playing, voice_of, playing_of, with_playing}
 use Rattle.play_model.specs.Ranges.{IsPlaying, IsFrameState}
 use Rattle.play_model.specs.Frame.{row_fetched, voice_done, voice_registers, subtune_at}
 use Rattle.play_model.specs.Safe.{IsSafe}
@@ -27,7 +25,7 @@ use Rattle.player_voice.specs.StepLaws.{Steps}
 use Rattle.player_voice.specs.RegisterBlock.{register_tree}
 use Rattle.player_voice.specs.RegisterLaws.{Sounds}
 use Rattle.player_voice.specs.Turns.{look_of, state_before, turn_in, ticked_at, sounded, with_step_done, started_on}
-use Rattle.player_voice.proofs.Laws.{Scene, order_in, state_safe, state_range, sounded_safe, sounded_range}
+use Rattle.player_voice.proofs.Laws.{Scene, state_safe, state_range, sounded_safe, sounded_range}
 use Rattle.player_voice.proofs.Laws.{step_block_steps, steps_are_whole, register_block_sounds}
 use Rattle.player_frame.specs.PlayBlock.{row_tree, voice_tree}
 use Rattle.player_frame.proofs.Rowing.{Rowed, rowed_started, rowed_fetched}

@@ -1,5 +1,5 @@
 -- Where the code of a voice finds the rows of tables, the frequencies of notes and the instruments.
-use Rattle.std.proofs.Common.{◌≡◌, ℕ, zero, suc, ◌+◌, ◌-◌, ◌/◌, ◌%◌, ◌<◌, ◌≤◌, false, length, Some, refl, sym, ap, ◌∙◌, arith, subst}
+use Rattle.std.proofs.Common.{◌≡◌, ℕ, ◌+◌, ◌-◌, ◌/◌, ◌%◌, ◌<◌, ◌≤◌, false, length, Some, refl, sym, ap, ◌∙◌, arith, subst}
 use Rattle.song_model.specs.declared.tables.TableName.{TableName}
 use Rattle.song_model.specs.declared.tables.TableName.TheVariants.{Wave, Pulse, Filter, Speed}
 use Rattle.song_model.specs.declared.tables.TableRow.{TableRow}
@@ -21,7 +21,7 @@ use Rattle.player_parts.specs.PlayerLists.{PlayerList, FrequencyLows, FrequencyH
 use Rattle.player_parts.specs.PlayerLists.{IsList, list_length, list_byte, list_place, instrument_byte, first_row, HasLists}
 use Rattle.player_parts.specs.PlayerLayouts.{IsPlayerLayout}
 use Rattle.player_parts.proofs.VoiceDesks.{Reader}
-use Rattle.player_parts.proofs.Reading.{StandsAt, reader, list_stands, Reads}
+use Rattle.player_parts.proofs.Reading.{reader, list_stands, Reads}
 
 -- ---- what a rule's code needs
 

@@ -1,6 +1,6 @@
 -- Where the blocks lead that several blocks have in common.
-use Rattle.std.proofs.Common.{◌≡◌, ◌≢◌, ℕ, ◌+◌, ◌-◌, ◌/◌, ◌%◌, ◌<◌, ◌≤◌, Bool, true, false, not, nat_eq, nat_le, nat_lt}
-use Rattle.std.proofs.Common.{bit_and, [], ◌∷◌, if◌then◌else◌, refl, sym, ap, ◌∙◌, subst, arith}
+use Rattle.std.proofs.Common.{◌≡◌, ◌≢◌, ℕ, ◌+◌, ◌-◌, ◌/◌, ◌%◌, ◌<◌, ◌≤◌, Bool, true, false, nat_eq, nat_le, nat_lt}
+use Rattle.std.proofs.Common.{bit_and, [], ◌∷◌, refl, sym, ap, ◌∙◌, subst, arith}
 use Rattle.std.proofs.lemmas.Bool.{agree_below_at, true≢false, eqb-true, eqb-false, ne_eqb, leb-true, leb-false, le-ltb, not-true, not-false}
 use Rattle.code_runs.specs.Runs.{put}
 use Rattle.song_model.specs.declared.tables.TableName.{TableName}
@@ -16,7 +16,7 @@ use Rattle.player_parts.specs.Labels.{LAST_NOTE, FREQ_LOW, FREQ_HIGH, VIB_TIME, 
 use Rattle.player_parts.specs.Labels.{next_lefts_label, next_rights_label, VARIABLES}
 use Rattle.player_parts.specs.Codes.{load_number, load_entry, store_own}
 use Rattle.player_parts.specs.SharedBlocks.{next_tree, note_tree}
-use Rattle.player_parts.proofs.VoiceDesks.{VoiceDesk, Reader, Leads, PlaceLeads, Fits, EntryLeads, with_cell, cell_byte, fits}
+use Rattle.player_parts.proofs.VoiceDesks.{VoiceDesk, Reader, Leads, PlaceLeads, Fits, with_cell, cell_byte, fits}
 use Rattle.player_parts.proofs.Reading.{Reads}
 use Rattle.player_parts.proofs.Grounds.{side_place, NextAt, NotesAt}
 

@@ -1,16 +1,15 @@
 -- What the desk of a voice tells of a state: the voice, what the voices share, and what is handed on; and from the desk
 -- behind a rule's code back to the whole state.
-use Rattle.std.proofs.Common.{◌≡◌, ◌≢◌, ℕ, zero, suc, ◌+◌, ◌*◌, ◌/◌, ◌%◌, ◌<◌, false, nat_eq, if◌then◌else◌}
+use Rattle.std.proofs.Common.{◌≡◌, ◌≢◌, ℕ, zero, suc, ◌+◌, ◌*◌, ◌<◌, nat_eq, if◌then◌else◌}
 use Rattle.std.proofs.Common.{inl, inr, refl, sym, ap, ◌∙◌, arith}
 use Rattle.std.proofs.lemmas.Bool.{ne_eqb}
 use Rattle.std.proofs.lemmas.Bool.Decides.{eqb_tells}
-use Rattle.play_model.specs.Ranges.{IsVoice, IsCommon}
+use Rattle.play_model.specs.Ranges.{IsVoice}
 use Rattle.play_model.specs.State.{Voice, Common, FrameState, Playing, voice_of, playing_of, with_playing}
 use Rattle.play_model.specs.TickStep.{tempo_of}
 use Rattle.packed_form.specs.declared.packed_songs.PackedSong.{PackedSong}
 use Rattle.blocks.specs.Desk.{Desk, Layout}
-use Rattle.player_parts.specs.Labels.{ENTRY, OFFSET, PATTERN_LOW, PATTERN_HIGH, ORDER_LOW, ORDER_HIGH, ORDER_PLACE}
-use Rattle.player_parts.specs.Labels.{TRANSPOSE, REPEAT, TICK, GATE_TIMER, INSTRUMENT, NOTE, NEW_NOTE, NEW_COMMAND}
+use Rattle.player_parts.specs.Labels.{TICK, GATE_TIMER, INSTRUMENT, NOTE, NEW_NOTE, NEW_COMMAND}
 use Rattle.player_parts.specs.Labels.{NEW_PARAM, COMMAND, PARAM, AD, SR, VIB_TIME, VIB_DELAY, WAVE, GATE, FREQ_LOW}
 use Rattle.player_parts.specs.Labels.{FREQ_HIGH, LAST_NOTE, WAVE_POINTER, WAVE_TIME, PULSE_POINTER, PULSE_TIME}
 use Rattle.player_parts.specs.Labels.{PULSE_LOW, PULSE_HIGH, TEMPO, FILTER_POINTER, FILTER_TIME, FILTER_TYPE}

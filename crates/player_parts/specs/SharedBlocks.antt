@@ -1,12 +1,12 @@
 -- What several blocks of the player have in common: a program goes on, and a note's frequency is set. This is the
 -- project's own player.
-use Rattle.std.specs.Prelude.{ℕ, [], ◌∷◌}
+use Rattle.std.specs.Prelude.{[], ◌∷◌}
 use Rattle.song_model.specs.declared.tables.TableName.{TableName}
 use Rattle.player_parts.specs.Words.{Cell, Const, HeldPlace, HeldCounted, Store, And, Inc, Equal, Less, Is, Not}
 use Rattle.blocks.specs.Trees.{Tree, ChainTree, NoneTree, ThenTree, IfTree}
 use Rattle.player_parts.specs.Labels.{LAST_NOTE, FREQ_LOW, FREQ_HIGH, VIB_TIME, FREQUENCY_LOWS, FREQUENCY_HIGHS}
 use Rattle.player_parts.specs.Labels.{next_lefts_label, next_rights_label}
-use Rattle.player_parts.specs.Codes.{load_number, load_entry, load_y, store_own, store_y, index_number}
+use Rattle.player_parts.specs.Codes.{load_number, load_entry, store_own, store_y, index_number}
 
 -- Y is the row: the pointer goes to the next one, or where that is a jump to the row that the jump names
 abbrev pub next_tree : TableName → Cell → Tree

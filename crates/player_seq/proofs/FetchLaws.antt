@@ -1,5 +1,5 @@
 -- In a memory that holds a state the block that fetches a row leaves the state behind the fetch.
-use Rattle.std.proofs.Common.{◌≡◌, ◌≢◌, ℕ, zero, suc, ◌+◌, ◌*◌, ◌<◌, Bool, true, false, ◌==◌}
+use Rattle.std.proofs.Common.{◌≡◌, ℕ, zero, suc, ◌+◌, ◌*◌, ◌<◌, Bool, true, false, ◌==◌}
 use Rattle.std.proofs.Common.{get_or, refl, sym, ap, ◌∙◌, subst, arith}
 use Rattle.std.proofs.lemmas.List.Elements.{Contains-get_or}
 use Rattle.song_model.specs.declared.orders.Order.{Order}
@@ -7,7 +7,7 @@ use Rattle.song_model.specs.LookUp.{order_of}
 use Rattle.play_model.specs.LookUps.{look_ups_of}
 use Rattle.play_model.specs.Ranges.{IsVoice, IsFrameState}
 use Rattle.play_model.specs.Safe.{IsSafe, IsSafeVoice}
-use Rattle.play_model.specs.State.{Voice, FrameState, Playing, voice_of, playing_of, with_playing}
+use Rattle.play_model.specs.State.{FrameState, Playing, voice_of, playing_of, with_playing}
 use Rattle.play_model.specs.Frame.{row_fetched, subtune_at}
 use Rattle.play_model.specs.TickStep.{tempo_of}
 use Rattle.packed_form.specs.declared.packed_songs.PackedSong.{PackedSong}

@@ -1,5 +1,5 @@
 -- What no rule at a row changes: where the voice is in its song, the note that waits, and the row's command.
-use Rattle.std.proofs.Common.{◌≡◌, ℕ, ◌&&◌, Bool, true, false, not, nat_eq, nat_le, if◌then◌else◌, refl, ap, ◌∙◌}
+use Rattle.std.proofs.Common.{◌≡◌, ℕ, ◌&&◌, not, nat_eq, nat_le, refl, ap, ◌∙◌}
 use Rattle.song_model.specs.declared.instruments.Instrument.{Instrument}
 use Rattle.play_model.specs.LookUps.{LookUps}
 use Rattle.play_model.specs.State.{Voice, Common, Playing}

@@ -1,11 +1,10 @@
 -- The effect step in a frame: of the running command, and of a slide that the wave table has lent to it.
-use Rattle.std.proofs.Common.{◌≡◌, ◌≢◌, ◌⊎◌, ℕ, zero, suc, ◌+◌, ◌<◌, ◌≤◌, ◌&&◌, ◌==◌, Bool, true, false, not, nat_eq, nat_le}
-use Rattle.std.proofs.Common.{if◌then◌else◌, inl, inr, refl, sym, ap, ◌∙◌, subst, arith}
-use Rattle.std.proofs.lemmas.Bool.{and_parts, not-true, true≢false, le-leb, cases_eq}
+use Rattle.std.proofs.Common.{◌≡◌, ◌≢◌, ℕ, ◌+◌, ◌≤◌, ◌&&◌, ◌==◌, Bool, true, false, not}
+use Rattle.std.proofs.Common.{if◌then◌else◌, inr, refl, sym, ap, ◌∙◌, subst, arith}
+use Rattle.std.proofs.lemmas.Bool.{and_parts, not-true}
 use Rattle.song_model.specs.declared.songs.Song.{Song}
-use Rattle.song_model.specs.declared.features.Feature.TheVariants.{TonePorta, TieNote, InstrumentVibrato, NoteDependent, WaveCommand}
-use Rattle.song_model.specs.declared.tables.TableName.TheVariants.{Wave, Speed}
-use Rattle.song_model.specs.declared.tables.TableRow.{TableRow}
+use Rattle.song_model.specs.declared.features.Feature.TheVariants.{TonePorta, TieNote, InstrumentVibrato, NoteDependent}
+use Rattle.song_model.specs.declared.tables.TableName.TheVariants.{Speed}
 use Rattle.play_model.specs.declared.options.Options.{Options}
 use Rattle.play_model.specs.LookUps.{LookUps}
 use Rattle.play_model.specs.State.{Voice, FrameState, Playing}
@@ -15,22 +14,21 @@ use Rattle.play_model.specs.EffectStep.{effect_step}
 use Rattle.play_model.specs.Frame.{effect_done}
 use Rattle.play_model.specs.Safe.{IsSafeRunning, none, of_instrument, of_row}
 use Rattle.play_model.specs.Reached.{IsPointer}
-use Rattle.play_model.specs.Uses.{GoesOn, DoesEffect, DoesRunning, DoesWave, Slides, AsksSpeed, for_slide, for_vibrato}
-use Rattle.play_model.specs.Uses.{MeetsVibrato, MeetsWaveCommand}
+use Rattle.play_model.specs.Uses.{GoesOn, DoesEffect, DoesRunning, AsksSpeed, for_slide, for_vibrato}
+use Rattle.play_model.specs.Uses.{MeetsVibrato}
 use Rattle.packed_form.specs.declared.packed_songs.PackedSong.{PackedSong}
 use Rattle.packed_form.specs.Unpacked.{unpacked_song}
 use Rattle.blocks.specs.Desk.{Layout}
 use Rattle.player_parts.specs.declared.labels.TheConstants.{LENT}
 use Rattle.player_parts.specs.PlayerLists.{HasLists}
 use Rattle.player_parts.specs.Holds.{HandedOn, nothing_on}
-use Rattle.player_parts.proofs.Laws.{VoiceDesk, Reader, Leads, leads_on, reader, Done, SidesAt, notes_at, done_low, rest_of}
+use Rattle.player_parts.proofs.Laws.{VoiceDesk, Reader, Leads, leads_on, reader, Done, notes_at, done_low, rest_of}
 use Rattle.player_parts.proofs.Laws.{playing_in, handed_in}
 use Rattle.player_effect.specs.EffectBlock.{effect_tree}
 use Rattle.player_effect.proofs.Laws.{effect_runs, effect_left, NeedsSpeed, ForCommand, ForVibrato, EffectGround}
 use Rattle.player_effect.proofs.Laws.{EffectKeeps, effect_leads}
-use Rattle.player_wave.proofs.Laws.{IsSlide}
 use Rattle.player_voice.specs.Turns.{look_of, turn_in}
-use Rattle.player_voice.proofs.Scenes.{Scene, is_channel, speed_ready, running_points, wave_points}
+use Rattle.player_voice.proofs.Scenes.{Scene, is_channel, speed_ready, running_points}
 use Rattle.player_voice.proofs.Stages.{Comes, told, voice_range, done_through}
 
 -- ---- what a voice asks of the effect step

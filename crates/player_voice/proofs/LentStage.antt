@@ -1,5 +1,5 @@
 -- A slide of the wave table, which is lent to the effect step, and that comes back behind it.
-use Rattle.std.proofs.Common.{◌≡◌, ◌≢◌, ℕ, zero, suc, ◌+◌, ◌<◌, ◌≤◌, ◌&&◌, Bool, true, false, not, nat_eq, nat_le, inl, refl, sym, ap}
+use Rattle.std.proofs.Common.{◌≡◌, ◌≢◌, ℕ, ◌+◌, ◌<◌, ◌≤◌, ◌&&◌, Bool, true, false, not, nat_eq, nat_le, inl, refl, sym, ap}
 use Rattle.std.proofs.Common.{◌∙◌, ◌%◌, subst, if◌then◌else◌, arith}
 use Rattle.std.proofs.lemmas.Bool.{le-leb, eqb-false}
 use Rattle.song_model.specs.declared.songs.Song.{Song}
@@ -9,14 +9,14 @@ use Rattle.song_model.specs.declared.tables.TableRow.{TableRow}
 use Rattle.song_model.specs.Limits.{IsTableRow}
 use Rattle.play_model.specs.declared.options.Options.{Options}
 use Rattle.play_model.specs.LookUps.{LookUps}
-use Rattle.play_model.specs.State.{Voice, FrameState, Playing}
-use Rattle.play_model.specs.Ranges.{AreLookUps, IsVoice, IsPlaying}
+use Rattle.play_model.specs.State.{FrameState, Playing}
+use Rattle.play_model.specs.Ranges.{AreLookUps, IsPlaying}
 use Rattle.play_model.specs.Helpers.{row_after, next_row}
 use Rattle.play_model.specs.WaveStep.{wave_step, is_wave_command}
 use Rattle.play_model.specs.EffectStep.{effect_step}
 use Rattle.play_model.specs.Frame.{effect_done}
 use Rattle.play_model.specs.Reached.{IsPointer}
-use Rattle.play_model.specs.Uses.{GoesOn, DoesWave, MeetsWaveCommand, AsksSpeed, for_slide}
+use Rattle.play_model.specs.Uses.{GoesOn, DoesWave, MeetsWaveCommand, for_slide}
 use Rattle.safe_states.proofs.Laws.{is_step}
 use Rattle.packed_form.specs.declared.packed_songs.PackedSong.{PackedSong}
 use Rattle.packed_form.specs.Unpacked.{unpacked_song}
@@ -27,7 +27,7 @@ use Rattle.player_parts.specs.Holds.{HandedOn, HandedStands, nothing_on}
 use Rattle.player_parts.proofs.Laws.{VoiceDesk, Reader, Leads, leads_on, reader, Done, done_low, done_on, rest_of, playing_in}
 use Rattle.player_parts.proofs.Laws.{handed_in}
 use Rattle.player_effect.specs.EffectBlock.{effect_tree, back_tree}
-use Rattle.player_effect.proofs.Laws.{effect_runs, effect_left, given_back as own_back, lends_nothing, BackKeeps, back_leads}
+use Rattle.player_effect.proofs.Laws.{effect_runs, effect_left, given_back as own_back, lends_nothing, back_leads}
 use Rattle.player_wave.proofs.Laws.{IsSlide, lent_out, lent_handed, given_back}
 use Rattle.player_voice.specs.Turns.{look_of, turn_in}
 use Rattle.player_voice.proofs.Scenes.{Scene, looks, is_channel, rules_range, wave_points}

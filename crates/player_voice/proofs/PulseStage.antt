@@ -1,11 +1,11 @@
 -- The pulse step in a frame.
-use Rattle.std.proofs.Common.{◌≡◌, ◌≢◌, ℕ, ◌+◌, ◌-◌, ◌≤◌, ◌&&◌, ◌==◌, false, refl, sym, ap, ◌∙◌, subst, arith}
+use Rattle.std.proofs.Common.{◌≡◌, ◌≢◌, ℕ, ◌+◌, refl, sym, ap, subst, arith}
 use Rattle.song_model.specs.declared.songs.Song.{Song}
 use Rattle.song_model.specs.declared.features.Feature.TheVariants.{PulseTable}
 use Rattle.song_model.specs.declared.tables.TableName.TheVariants.{Pulse}
 use Rattle.play_model.specs.declared.options.Options.{Options}
 use Rattle.play_model.specs.LookUps.{LookUps}
-use Rattle.play_model.specs.State.{Voice, FrameState, Playing}
+use Rattle.play_model.specs.State.{FrameState, Playing}
 use Rattle.play_model.specs.WaveStep.{wave_step}
 use Rattle.play_model.specs.Frame.{effect_done, pulse_done}
 use Rattle.play_model.specs.Uses.{GoesOn}

@@ -1,14 +1,14 @@
 -- The rules of a voice's step leave a voice where it is in its song.
-use Rattle.std.proofs.Common.{◌≡◌, ◌≢◌, ℕ, ◌+◌, ◌-◌, ◌%◌, ◌&&◌, ◌||◌, ◌==◌, Bool, true, false, not, nat_eq, nat_le, nat_lt}
-use Rattle.std.proofs.Common.{if◌then◌else◌, refl, sym, ap, ◌∙◌}
+use Rattle.std.proofs.Common.{◌≡◌, ℕ, ◌-◌, ◌&&◌, ◌||◌, ◌==◌, not, nat_le, nat_lt}
+use Rattle.std.proofs.Common.{refl, ◌∙◌}
 use Rattle.song_model.specs.declared.tables.TableRow.{TableRow}
-use Rattle.song_model.specs.declared.tables.TableName.TheVariants.{Wave, Pulse, Speed}
+use Rattle.song_model.specs.declared.tables.TableName.TheVariants.{Wave, Pulse}
 use Rattle.play_model.specs.declared.options.Options.{Options}
 use Rattle.play_model.specs.LookUps.{LookUps}
 use Rattle.play_model.specs.Freq.{freq, slide}
 use Rattle.play_model.specs.Wrap.{distance}
 use Rattle.play_model.specs.State.{Voice, Playing}
-use Rattle.play_model.specs.TickStep.{Ticked, tick_step}
+use Rattle.play_model.specs.TickStep.{tick_step}
 use Rattle.play_model.specs.Helpers.{porta_up, porta_down, tone, vibrato, do_command}
 use Rattle.play_model.specs.WaveStep.{Waved, wave_command, left_done, program_moved, right_done, wave_row, wave_step}
 use Rattle.play_model.specs.WaveStep.{is_wave_command}

@@ -1,22 +1,20 @@
 -- A voice at its step in a frame of a packed song: what it stands on.
-use Rattle.std.proofs.Common.{◌≡◌, ◌≢◌, ◌⊎◌, ℕ, zero, suc, ◌+◌, ◌<◌, ◌≤◌, Bool, true, false, ◌==◌, length, Some, inl, inr}
-use Rattle.std.proofs.Common.{refl, sym, ap, ◌∙◌, subst, arith}
+use Rattle.std.proofs.Common.{◌≡◌, ◌≢◌, ℕ, zero, suc, ◌+◌, ◌<◌, ◌≤◌, false, length, Some, inl, inr}
+use Rattle.std.proofs.Common.{refl, ap, arith}
 use Rattle.std.proofs.lemmas.Bool.{cases_eq}
 use Rattle.std.proofs.lemmas.List.{length-map}
 use Rattle.song_model.specs.declared.orders.Order.{Order}
 use Rattle.song_model.specs.declared.songs.Song.{Song}
-use Rattle.song_model.specs.declared.tables.TableName.{TableName}
 use Rattle.song_model.specs.declared.tables.TableName.TheVariants.{Wave, Pulse, Speed}
-use Rattle.song_model.specs.LookUp.{IsNumbered, order_of, playable_subtunes, table_row}
+use Rattle.song_model.specs.LookUp.{order_of, playable_subtunes, table_row}
 use Rattle.song_model.specs.Pointers.{command_table, wave_row_table}
 use Rattle.play_model.specs.declared.options.Options.{Options}
-use Rattle.play_model.specs.LookUps.{LookUps}
-use Rattle.play_model.specs.State.{FrameState, Playing, voice_of, playing_of}
+use Rattle.play_model.specs.State.{FrameState, playing_of}
 use Rattle.play_model.specs.Frame.{subtune_at}
 use Rattle.play_model.specs.Ranges.{AreLookUps, IsPlaying, IsFrameState}
 use Rattle.play_model.specs.RangeLaws.{RulesKeepRanges, FramesKeepRanges}
 use Rattle.play_model.specs.Used.{IsChannel, IsUsedInstrument}
-use Rattle.play_model.specs.Reached.{is_jump, IsReached, of_instrument, of_row, IsPointer, of_played, of_wave_row, IsStep}
+use Rattle.play_model.specs.Reached.{is_jump, IsReached, of_instrument, of_row, IsPointer, of_played, of_wave_row}
 use Rattle.play_model.specs.Safe.{IsSafePointer, HasCommand, IsSafeWaiting, IsSafeRunning, IsSafe, none}
 use Rattle.play_model.specs.Safe.{of_row as row_waits, of_instrument as of_vibrato}
 use Rattle.play_model.proofs.Laws.{song_look_ups, ranges_lem, frame_ranges_lem}
@@ -28,7 +26,7 @@ use Rattle.packed_form.specs.StandsFor.{StandsFor}
 use Rattle.blocks.specs.Desk.{Layout}
 use Rattle.player_parts.specs.PlayerLists.{HasLists}
 use Rattle.player_parts.specs.PlayerLayouts.{IsPlayerLayout, KeepsUsed, KeepsOptions}
-use Rattle.player_parts.proofs.Laws.{reader, SidesAt, RowsAt, NotesAt, InstrumentAt, rows_at, speed_at, notes_at}
+use Rattle.player_parts.proofs.Laws.{reader, SidesAt, RowsAt, InstrumentAt, rows_at, speed_at}
 use Rattle.player_parts.proofs.Laws.{instrument_stands}
 use Rattle.player_voice.specs.Turns.{look_of, state_before}
 

@@ -1,5 +1,5 @@
 -- The registers of a voice have the frame's values.
-use Rattle.std.proofs.Common.{◌≡◌, ◌≢◌, ℕ, zero, suc, ◌+◌, ◌*◌, ◌/◌, ◌%◌, ◌<◌, List, [], ◌∷◌, slice_index, bit_and, refl, sym, ap}
+use Rattle.std.proofs.Common.{◌≡◌, ◌≢◌, ℕ, zero, suc, ◌+◌, ◌*◌, ◌<◌, List, [], ◌∷◌, slice_index, bit_and, refl, sym, ap}
 use Rattle.std.proofs.Common.{◌∙◌, arith}
 use Rattle.code_runs.specs.Runs.{put}
 use Rattle.std.proofs.lemmas.Bool.{ne_eqb}
@@ -11,7 +11,7 @@ use Rattle.blocks.specs.Meaning.{meaning}
 use Rattle.player_parts.specs.declared.labels.TheConstants.{FREQ_LOW, FREQ_HIGH, PULSE_LOW, PULSE_HIGH, WAVE, GATE, AD, SR}
 use Rattle.player_parts.specs.PlayerLayouts.{IsVariablePlace}
 use Rattle.player_parts.specs.Holds.{HandedOn, FieldsStand, Holds}
-use Rattle.player_parts.proofs.Laws.{VoiceDesk, Reader, Leads, VoiceDone, seen, desk_seen, ground_of, led, Led, Where, Shows}
+use Rattle.player_parts.proofs.Laws.{VoiceDesk, Reader, Leads, VoiceDone, seen, desk_seen, ground_of, led, Shows}
 use Rattle.player_parts.proofs.Laws.{reader, Sid, held_voice, others_tempos, holds_after}
 use Rattle.player_parts.proofs.Laws.{elsewhere_after, AtRegister, Register, NoRegister, at_register}
 use Rattle.player_voice.specs.RegisterBlock.{register_tree}

@@ -1,13 +1,13 @@
 -- From one rule of a voice's step to the next: what has been done so far, and what the next rule stands on.
-use Rattle.std.proofs.Common.{◌≡◌, ◌≢◌, ℕ, ◌+◌, ◌<◌, refl, sym, ap, ◌∙◌, subst}
-use Rattle.play_model.specs.State.{Voice, Common, Playing}
+use Rattle.std.proofs.Common.{◌≡◌, ℕ, ◌<◌, sym, ◌∙◌, subst}
+use Rattle.play_model.specs.State.{Playing}
 use Rattle.play_model.specs.Ranges.{IsVoice, IsCommon, IsPlaying}
 use Rattle.safe_states.specs.SafeLaws.{IsSafePlaying}
 use Rattle.packed_form.specs.declared.packed_songs.PackedSong.{PackedSong}
 use Rattle.packed_form.specs.Unpacked.{unpacked_song}
 use Rattle.player_parts.specs.Holds.{HandedOn, HandedStands}
-use Rattle.player_parts.proofs.Laws.{VoiceDesk, Done, HasLowBytes, rest_of, voice_in, common_in, playing_in, handed_in}
-use Rattle.player_parts.proofs.Laws.{done_on, done_seen, done_low}
+use Rattle.player_parts.proofs.Laws.{VoiceDesk, Done, rest_of, voice_in, common_in, playing_in, handed_in}
+use Rattle.player_parts.proofs.Laws.{done_on, done_seen}
 use Rattle.player_voice.proofs.Scenes.{order_in}
 
 -- the desk tells a voice that is in its ranges and safe, after the rules from an earlier desk on

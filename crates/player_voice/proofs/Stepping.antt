@@ -1,14 +1,14 @@
 -- The whole step of a voice in a frame.
-use Rattle.std.proofs.Common.{◌≡◌, ◌≢◌, ℕ, ◌+◌, ◌<◌, ◌≤◌, Bool, true, false, not, if◌then◌else◌, refl, sym, ap, ◌∙◌, subst}
+use Rattle.std.proofs.Common.{◌≡◌, ℕ, ◌+◌, Bool, true, false, not, if◌then◌else◌, refl, sym, ap, ◌∙◌, subst}
 use Rattle.std.proofs.Common.{arith}
-use Rattle.std.proofs.lemmas.Bool.{not-true, not-false, true≢false}
+use Rattle.std.proofs.lemmas.Bool.{not-true, not-false}
 use Rattle.song_model.specs.declared.orders.Order.{Order}
 use Rattle.song_model.specs.declared.songs.Song.{Song}
 use Rattle.play_model.specs.declared.options.Options.{Options}
 use Rattle.play_model.specs.LookUps.{LookUps}
-use Rattle.play_model.specs.State.{Voice, FrameState, Playing, voice_of, playing_of, with_playing}
+use Rattle.play_model.specs.State.{FrameState, Playing, playing_of, with_playing}
 use Rattle.play_model.specs.TickStep.{Ticked}
-use Rattle.play_model.specs.WaveStep.{Waved, wave_step}
+use Rattle.play_model.specs.WaveStep.{wave_step}
 use Rattle.play_model.specs.Frame.{row_fetched, effect_done, pulse_done, voice_step}
 use Rattle.play_model.specs.Uses.{GoesOn}
 use Rattle.packed_form.specs.declared.packed_songs.PackedSong.{PackedSong}
@@ -16,7 +16,7 @@ use Rattle.packed_form.specs.Unpacked.{unpacked_song}
 use Rattle.blocks.specs.Desk.{Desk, Layout}
 use Rattle.blocks.specs.Meaning.{meaning}
 use Rattle.player_parts.specs.PlayerLists.{HasLists}
-use Rattle.player_parts.specs.Holds.{HandedOn, Holds, nothing_on}
+use Rattle.player_parts.specs.Holds.{Holds, nothing_on}
 use Rattle.player_parts.proofs.Laws.{VoiceDesk, Reader, Leads, leads_on, reader, Done, seen, desk_seen, ground_of, led}
 use Rattle.player_parts.proofs.Laws.{done_holds, holds_after, leaves_after}
 use Rattle.player_tick.specs.TickBlock.{tick_tree}

@@ -1,28 +1,22 @@
 -- The tick step in a frame.
-use Rattle.std.proofs.Common.{◌≡◌, ◌≢◌, ℕ, ◌+◌, ◌%◌, ◌<◌, ◌≤◌, Bool, true, false, inl, refl, sym, ap, ◌∙◌, subst}
+use Rattle.std.proofs.Common.{◌≡◌, ℕ, ◌+◌, Bool, true, false, refl, sym, ◌∙◌, subst}
 use Rattle.song_model.specs.declared.songs.Song.{Song}
-use Rattle.song_model.specs.declared.features.Feature.{Feature}
-use Rattle.song_model.specs.declared.features.Feature.TheVariants.{SetAd, SetSr, SetWave, SetWavePointer, SetPulsePointer}
-use Rattle.song_model.specs.declared.features.Feature.TheVariants.{SetFilterPointer, FilterControl, Cutoff, Volume, FunkTempo}
-use Rattle.song_model.specs.declared.features.Feature.TheVariants.{SetTempo}
 use Rattle.play_model.specs.declared.options.Options.{Options}
 use Rattle.play_model.specs.LookUps.{LookUps}
-use Rattle.play_model.specs.State.{Voice, FrameState, Playing, voice_of, playing_of}
+use Rattle.play_model.specs.State.{FrameState, Playing, playing_of}
 use Rattle.play_model.specs.Ranges.{IsVoice, IsCommon, IsPlaying}
 use Rattle.play_model.specs.TickStep.{Ticked, tick_step}
-use Rattle.play_model.specs.Used.{IsChannel}
-use Rattle.play_model.specs.Uses.{DoesRow, by_values, by_tempo, by_length}
 use Rattle.safe_states.specs.SafeLaws.{IsSafePlaying}
 use Rattle.packed_form.specs.declared.packed_songs.PackedSong.{PackedSong}
 use Rattle.packed_form.specs.Unpacked.{unpacked_song}
 use Rattle.blocks.specs.Desk.{Desk, Layout}
-use Rattle.player_parts.specs.Holds.{HandedOn, HandedStands, Holds, nothing_on}
-use Rattle.player_parts.proofs.Laws.{VoiceDesk, Reader, Leads, leads_on, reader, seen, Done, Rest, rest_of, voice_in, common_in}
+use Rattle.player_parts.specs.Holds.{HandedStands, Holds, nothing_on}
+use Rattle.player_parts.proofs.Laws.{VoiceDesk, Reader, Leads, leads_on, reader, seen, Done, Rest, rest_of}
 use Rattle.player_parts.proofs.Laws.{playing_in, handed_in, held_seen, held_low}
 use Rattle.player_tick.specs.TickBlock.{tick_tree}
-use Rattle.player_tick.proofs.Laws.{IsRow, TickGround, TickKeeps, TickDone, handed_behind, tick_leads, tick_keeps}
+use Rattle.player_tick.proofs.Laws.{TickGround, TickKeeps, TickDone, handed_behind, tick_leads, tick_keeps}
 use Rattle.player_voice.specs.Turns.{look_of, state_before, turn_in, ticked_at, started_on}
-use Rattle.player_voice.proofs.Scenes.{Scene, order_in, is_channel, range_begins, safe_begins, instrument_ready}
+use Rattle.player_voice.proofs.Scenes.{Scene, order_in, range_begins, safe_begins, instrument_ready}
 use Rattle.player_voice.proofs.Scenes.{speed_ready, waiting_points}
 use Rattle.player_voice.proofs.Stages.{with_handed}
 

@@ -1,17 +1,17 @@
 -- The wave step in a frame.
-use Rattle.std.proofs.Common.{◌≡◌, ◌≢◌, ℕ, ◌+◌, ◌≤◌, true, false, refl, sym, ap, ◌∙◌, subst}
+use Rattle.std.proofs.Common.{◌≡◌, ℕ, ◌+◌, true, false, refl, sym, ◌∙◌, subst}
 use Rattle.song_model.specs.declared.songs.Song.{Song}
 use Rattle.song_model.specs.declared.features.Feature.TheVariants.{WaveCommand}
 use Rattle.song_model.specs.declared.tables.TableName.TheVariants.{Wave}
 use Rattle.play_model.specs.declared.options.Options.{Options}
 use Rattle.play_model.specs.LookUps.{LookUps}
-use Rattle.play_model.specs.State.{Voice, FrameState, Playing}
-use Rattle.play_model.specs.WaveStep.{wave_step, is_wave_command}
+use Rattle.play_model.specs.State.{FrameState, Playing}
+use Rattle.play_model.specs.WaveStep.{wave_step}
 use Rattle.play_model.specs.Uses.{GoesOn}
 use Rattle.packed_form.specs.declared.packed_songs.PackedSong.{PackedSong}
 use Rattle.blocks.specs.Desk.{Layout}
 use Rattle.player_parts.specs.PlayerLists.{HasLists}
-use Rattle.player_parts.specs.Holds.{HandedOn, HandedStands, nothing_on}
+use Rattle.player_parts.specs.Holds.{nothing_on}
 use Rattle.player_parts.proofs.Laws.{VoiceDesk, Reader, Leads, leads_on, reader, Done, done_low, done_on, rest_of, playing_in, handed_in}
 use Rattle.player_parts.proofs.Laws.{notes_at}
 use Rattle.player_wave.specs.WaveBlock.{wave_tree}
@@ -19,7 +19,7 @@ use Rattle.player_wave.proofs.Laws.{WaveGround, WaveKeeps, lent_out, lent_handed
 use Rattle.player_wave.proofs.Laws.{wave_leads}
 use Rattle.player_voice.specs.Turns.{look_of, turn_in}
 use Rattle.player_voice.proofs.Scenes.{Scene, is_channel, wave_ready, wave_stays}
-use Rattle.player_voice.proofs.Stages.{Comes, told, voice_range, common_range, done_through, with_handed}
+use Rattle.player_voice.proofs.Stages.{Comes, told, voice_range, done_through, with_handed}
 
 -- the wave step is done, or a slide of the wave table is lent to the effect step
 pub data WavedTo (voice : ℕ) (look : LookUps) (s : Playing) (d n : VoiceDesk) : Type 0 where
