@@ -11,7 +11,8 @@ use Rattle.player_parts.specs.declared.parts.TheConstants.{SKIP_EFFECTS_BIT}
 use Rattle.player_parts.specs.Codes.{load_shared}
 use Rattle.player_parts.proofs.Laws.{VoiceDesk, Reader, Leads}
 use Rattle.player_effect.specs.EffectBlock.{command_tree, skip_tree, instrument_tree}
-use Rattle.player_effect.proofs.EffectDesks.{effect_touches, effect_works, still, Works, as_before, works_over}
+use Rattle.player_effect.proofs.EffectDesks.{effect_touches, effect_works, Works, as_before, works_over}
+use Rattle.player_parts.proofs.Laws.{still}
 
 -- ---- the voice's command
 

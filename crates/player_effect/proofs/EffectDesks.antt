@@ -15,6 +15,7 @@ use Rattle.player_parts.specs.declared.labels.TheConstants.{ENTRY, OFFSET, PATTE
 use Rattle.player_parts.specs.declared.labels.TheConstants.{ORDER_PLACE, TRANSPOSE, REPEAT}
 use Rattle.player_parts.specs.declared.labels.TheConstants.{WORK_COMMAND, COUNTER, SPEED_LOW, SPEED_HIGH, WORK_LOW, WORK_HIGH}
 use Rattle.player_parts.specs.Holds.{AreHalves}
+use Rattle.player_parts.proofs.Laws.{Same, still}
 use Rattle.player_parts.proofs.Laws.{VoiceDesk, Rest, voice_in, playing_in, handed_in, HasLowBytes, Done, done_in}
 
 -- ---- bytes that stay
@@ -33,21 +34,6 @@ abbrev pub effect_works : ℕ → Bool
 effect_works label =
     nat_eq label WORK_COMMAND || nat_eq label COUNTER || nat_eq label SPEED_LOW || nat_eq label SPEED_HIGH
     || nat_eq label WORK_LOW || nat_eq label WORK_HIGH
-
-differs : (touches : ℕ → Bool) (a b : ℕ) → touches b ≡ true → touches a ≡ false → (z : Bool) → nat_eq a b ≡ z → z ≡ false
-differs touches a b written other true e = sym written ∙ (ap touches (sym (eqb-true a b e)) ∙ other)
-differs touches a b written other false e = refl
-
--- bytes that aren't written are as before behind a store, too
-abbrev pub Same : (ℕ → Bool) → (ℕ → ℕ) → (ℕ → ℕ) → Type 0
-Same touches bytes before = (label : ℕ) → touches label ≡ false → bytes label ≡ before label
-
-pub still : (touches : ℕ → Bool) (bytes before : ℕ → ℕ) (written byte : ℕ) → touches written ≡ true →
-    Same touches bytes before → Same touches (put bytes written byte) before
-still touches bytes before written byte touched same label other =
-    let apart : nat_eq label written ≡ false =
-    differs touches label written touched other (nat_eq label written) refl in
-    rw apart (same label other)
 
 moves_more : (a b : Bool) (c d e : Bool) → (a || b || c || d || e) ≡ false → (a || b) ≡ false
 moves_more false false c d e h = refl

@@ -12,7 +12,8 @@ use Rattle.player_parts.specs.Holds.{AreHalves}
 use Rattle.player_parts.proofs.Laws.{VoiceDesk, Reader, Leads, NotesAt, note_leads, compared, loaded}
 use Rattle.player_effect.specs.EffectBlock.{move_tree}
 use Rattle.player_effect.proofs.Numbers.{halves_sum, word_sum, word_difference}
-use Rattle.player_effect.proofs.EffectDesks.{move_touches, still, Works, HasSpeed, Ends}
+use Rattle.player_effect.proofs.EffectDesks.{move_touches, Works, HasSpeed, Ends}
+use Rattle.player_parts.proofs.Laws.{still}
 use Rattle.player_effect.proofs.EffectDesks.{same_moves}
 
 -- the bytes of the frequency before the move

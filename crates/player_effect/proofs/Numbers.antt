@@ -149,10 +149,6 @@ halved_word low high n h =
 -- ---- the vibrato's time
 
 -- the mask of the period, and the turn
-pub low_seven : (n : ℕ) → n < 256 → bit_and n 0x7F ≡ n % 128
-low_seven n l =
-    eqb-true _ _ (agree_below_at (λ n. nat_eq (bit_and n 0x7F) (n % 128)) (λ _. true) 256 n refl l)
-
 pub turned_round : (n : ℕ) → n < 256 → bit_xor n 0xFF ≡ 255 - n
 turned_round n l =
     eqb-true _ _ (agree_below_at (λ n. nat_eq (bit_xor n 0xFF) (255 - n)) (λ _. true) 256 n refl l)

@@ -11,8 +11,10 @@ use Rattle.player_parts.specs.declared.labels.TheConstants.{SPEED_LEFTS}
 use Rattle.player_parts.proofs.Laws.{VoiceDesk, Reader, Leads, Reads, side_place, SidesAt, compared, indexed}
 use Rattle.blocks.specs.Trees.{ThenTree, NoneTree}
 use Rattle.player_effect.specs.EffectBlock.{turn_tree, swing_tree, sides_tree, row_speed_tree}
-use Rattle.player_effect.proofs.Numbers.{low_seven, turned_round, way_is}
-use Rattle.player_effect.proofs.EffectDesks.{effect_touches, effect_works, still, Works, works_over}
+use Rattle.player_effect.proofs.Numbers.{turned_round, way_is}
+use Rattle.player_parts.proofs.Laws.{low_seven}
+use Rattle.player_effect.proofs.EffectDesks.{effect_touches, effect_works, Works, works_over}
+use Rattle.player_parts.proofs.Laws.{still}
 
 -- ---- the vibrato's turn
 

@@ -20,7 +20,8 @@ use Rattle.player_parts.proofs.Laws.{VoiceDesk, Reader, Leads, TestLeads, TurnsL
 use Rattle.player_parts.proofs.Laws.{counter_down, compared, loaded, with_cell}
 use Rattle.player_effect.specs.EffectBlock.{half_tone_tree, shift_tree, note_dependent_tree}
 use Rattle.player_effect.proofs.Numbers.{word_difference, halved_word}
-use Rattle.player_effect.proofs.EffectDesks.{effect_works, still, Works, as_before, works_over, HasSpeed}
+use Rattle.player_effect.proofs.EffectDesks.{effect_works, Works, as_before, works_over, HasSpeed}
+use Rattle.player_parts.proofs.Laws.{still}
 
 -- ---- halvings
 

@@ -12,7 +12,8 @@ use Rattle.player_parts.specs.Holds.{AreHalves}
 use Rattle.player_parts.proofs.Laws.{VoiceDesk, Reader, Leads, NotesAt, side_place, compared, loaded}
 use Rattle.player_effect.specs.EffectBlock.{tie_tree, target_tree, distance_tree, way_tree, tone_tree}
 use Rattle.player_effect.proofs.Numbers.{halves_sum, word_difference, no_borrow, down_carries, up_carries}
-use Rattle.player_effect.proofs.EffectDesks.{effect_works, still, Works, as_before, works_over, HasSpeed}
+use Rattle.player_effect.proofs.EffectDesks.{effect_works, Works, as_before, works_over, HasSpeed}
+use Rattle.player_parts.proofs.Laws.{still}
 use Rattle.player_effect.proofs.Shifts.{frequency_small, no_frequency}
 
 -- ---- a tie

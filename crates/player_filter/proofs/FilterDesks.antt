@@ -17,19 +17,6 @@ touches label =
     nat_eq label FILTER_POINTER || nat_eq label FILTER_TIME || nat_eq label FILTER_TYPE || nat_eq label FILTER_CONTROL
     || nat_eq label CUTOFF
 
--- a label that is written isn't one that isn't
-differs : (a b : ℕ) → touches b ≡ true → touches a ≡ false → (z : Bool) → nat_eq a b ≡ z → z ≡ false
-differs a b written other true e = sym written ∙ (ap touches (sym (eqb-true a b e)) ∙ other)
-differs a b written other false e = refl
-
--- a byte that it doesn't change is as before behind a store, too
-pub still : (shared before : ℕ → ℕ) (written byte : ℕ) → touches written ≡ true →
-    ((label : ℕ) → touches label ≡ false → shared label ≡ before label) →
-    (label : ℕ) → touches label ≡ false → put shared written byte label ≡ before label
-still shared before written byte touched as_before label other =
-    let apart : nat_eq label written ≡ false = differs label written touched other (nat_eq label written) refl in
-    rw apart (as_before label other)
-
 -- the filter's fields stand, and all else is as on the first desk
 pub record FiltersTo (c : Common) (d m : VoiceDesk) : Type 0 where
   pub filter_ptr : m.shared FILTER_POINTER ≡ c.filter_ptr

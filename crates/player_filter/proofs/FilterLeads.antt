@@ -18,7 +18,8 @@ use Rattle.player_parts.proofs.Laws.{VoiceDesk, Reader, Leads, leads_on, side_pl
 use Rattle.player_parts.proofs.Laws.{indexed}
 use Rattle.player_filter.specs.FilterBlock.{met_tree, slide_tree, goes_on_tree, row_tree, step_tree, registers_tree}
 use Rattle.player_filter.specs.FilterBlock.{filter_tree}
-use Rattle.player_filter.proofs.FilterDesks.{FiltersTo, FilterGround, Met, Goes, Slides, still}
+use Rattle.player_filter.proofs.FilterDesks.{FiltersTo, FilterGround, Met, Goes, Slides, touches}
+use Rattle.player_parts.proofs.Laws.{still}
 use Rattle.player_filter.proofs.FilterRows.{met_leads}
 
 -- ---- a frame of a slide
@@ -78,7 +79,7 @@ slid r look c d m time byte at y is next rule carry true minus e =
       filter_type = at.filter_type;
       filter_control = at.filter_control;
       cutoff = sum_is (m.shared CUTOFF) byte c.cutoff (look.row Filter c.filter_ptr).right at.cutoff is;
-      others = still _ d.shared FILTER_TIME _ refl (still m.shared d.shared CUTOFF _ refl at.others);
+      others = still touches _ d.shared FILTER_TIME _ refl (still touches m.shared d.shared CUTOFF _ refl at.others);
       own = at.own;
       sid = at.sid;
     })
@@ -97,7 +98,7 @@ slid r look c d m time byte at y is next rule carry false minus e =
       filter_type = at.filter_type;
       filter_control = at.filter_control;
       cutoff = sum_is (m.shared CUTOFF) byte c.cutoff (look.row Filter c.filter_ptr).right at.cutoff is;
-      others = still _ d.shared FILTER_TIME _ refl (still m.shared d.shared CUTOFF _ refl at.others);
+      others = still touches _ d.shared FILTER_TIME _ refl (still touches m.shared d.shared CUTOFF _ refl at.others);
       own = at.own;
       sid = at.sid;
     })
@@ -138,7 +139,7 @@ goes_on_leads r look c d m (Ends b at zero y next rule) = (
         filter_type = at.filter_type;
         filter_control = at.filter_control;
         cutoff = at.cutoff;
-        others = still m.shared d.shared FILTER_POINTER (next_row look Filter m.y) refl at.others;
+        others = still touches m.shared d.shared FILTER_POINTER (next_row look Filter m.y) refl at.others;
         own = at.own;
         sid = at.sid;
       })),

@@ -13,7 +13,8 @@ use Rattle.player_parts.specs.declared.labels.TheConstants.{FILTER_POINTER, FILT
 use Rattle.player_parts.specs.declared.labels.TheConstants.{CUTOFF}
 use Rattle.player_parts.proofs.Laws.{VoiceDesk, Reader, Leads, SidesAt, NextAt, RowsAt, common_in, indexed}
 use Rattle.player_filter.specs.FilterBlock.{met_tree}
-use Rattle.player_filter.proofs.FilterDesks.{FilterGround, Met, Goes, Slides, still}
+use Rattle.player_filter.proofs.FilterDesks.{FilterGround, Met, Goes, Slides, touches}
+use Rattle.player_parts.proofs.Laws.{still}
 
 -- ---- the rule, by cases
 
@@ -82,10 +83,10 @@ met_leads r look d some ground = (
                     filter_control = sides.right.is;
                     cutoff = next.right.is;
                     others =
-                        still _ d.shared FILTER_POINTER _ refl
-                        (still _ d.shared CUTOFF _ refl
-                        (still _ d.shared FILTER_CONTROL _ refl
-                        (still d.shared d.shared FILTER_TYPE _ refl (λ label h. refl))));
+                        still touches _ d.shared FILTER_POINTER _ refl
+                        (still touches _ d.shared CUTOFF _ refl
+                        (still touches _ d.shared FILTER_CONTROL _ refl
+                        (still touches d.shared d.shared FILTER_TYPE _ refl (λ label h. refl))));
                     own = refl;
                     sid = refl;
                   })
@@ -102,8 +103,8 @@ met_leads r look d some ground = (
                   filter_control = sides.right.is;
                   cutoff = refl;
                   others =
-                      still _ d.shared FILTER_CONTROL _ refl
-                      (still d.shared d.shared FILTER_TYPE _ refl (λ label h. refl));
+                      still touches _ d.shared FILTER_CONTROL _ refl
+                      (still touches d.shared d.shared FILTER_TYPE _ refl (λ label h. refl));
                   own = refl;
                   sid = refl;
                 })
@@ -122,7 +123,7 @@ met_leads r look d some ground = (
                 filter_type = refl;
                 filter_control = refl;
                 cutoff = sides.right.is;
-                others = still d.shared d.shared CUTOFF _ refl (λ label h. refl);
+                others = still touches d.shared d.shared CUTOFF _ refl (λ label h. refl);
                 own = refl;
                 sid = refl;
               })
@@ -136,7 +137,7 @@ met_leads r look d some ground = (
               filter_type = refl;
               filter_control = refl;
               cutoff = refl;
-              others = still d.shared d.shared FILTER_TIME _ refl (λ label h. refl);
+              others = still touches d.shared d.shared FILTER_TIME _ refl (λ label h. refl);
               own = refl;
               sid = refl;
             })

@@ -27,6 +27,8 @@ pub use Rattle.player_parts.proofs.Views.{held_low, done_holds}
 pub use Rattle.player_parts.proofs.Grounds.{side_place, SidesAt, NextAt, RowsAt, NotesAt, InstrumentAt, sides_at, speed_at}
 pub use Rattle.player_parts.proofs.Grounds.{next_reached, next_label, rows_at, next_here, notes_at, instrument_stands}
 -- where the blocks lead that several blocks have in common
-pub use Rattle.player_parts.proofs.SharedLeads.{next_leads, note_leads, with_note_bytes}
+pub use Rattle.player_parts.proofs.SharedLeads.{next_leads, note_leads, with_note_bytes, low_seven}
+-- what stays behind a store
+pub use Rattle.player_parts.proofs.Staying.{Same, still, tempos_stay, own_done, done_over, done_as}
 -- what the commands leave that rows share with the wave table
 pub use Rattle.player_parts.proofs.Commands.{if_same, do_leaves}

@@ -18,6 +18,8 @@ pub mod MemoryLooks
 -- Where the code of a voice finds what the look-ups have.
 pub mod Grounds
 pub mod SharedLeads
+-- What stays behind a store.
+pub mod Staying
 -- What commands leave.
 pub mod Commands
 -- A memory holds one state.

@@ -133,7 +133,8 @@ next_leads r look name pointer Q d fit next at done =
 
 -- ---- a note sounds
 
-low_seven : (n : ℕ) → n < 256 → bit_and n 0x7F ≡ n % 128
+-- the last seven bits of a byte
+pub low_seven : (n : ℕ) → n < 256 → bit_and n 0x7F ≡ n % 128
 low_seven n l =
     eqb-true _ _ (agree_below_at (λ n. nat_eq (bit_and n 0x7F) (n % 128)) (λ _. true) 256 n refl l)
 

@@ -18,7 +18,8 @@ use Rattle.player_parts.specs.SharedBlocks.{next_tree}
 use Rattle.player_parts.specs.Holds.{HandedOn, AreHalves}
 use Rattle.player_parts.proofs.Laws.{VoiceDesk, Reader, Leads, leads_on, Done, Reads, RowsAt, NextAt, side_place, next_leads, loaded, indexed}
 use Rattle.player_pulse.specs.PulseBlock.{begin_tree, slide_tree, pulse_program_tree}
-use Rattle.player_pulse.proofs.PulseDesks.{PulseGround, own_done, done_over, done_as}
+use Rattle.player_pulse.proofs.PulseDesks.{PulseGround}
+use Rattle.player_parts.proofs.Laws.{own_done, done_over, done_as}
 use Rattle.player_pulse.proofs.PulseRows.{step_none, step_some, row_sets, row_stops, row_begins, row_runs}
 use Rattle.player_pulse.proofs.Widths.{set_width}
 use Rattle.player_pulse.proofs.Slides.{with_voice, Passes, Moved, Next, Same, AtWidth, slide_leads}

@@ -16,7 +16,8 @@ use Rattle.player_parts.specs.PlayerLayouts.{KeepsOptions}
 use Rattle.player_parts.proofs.Laws.{VoiceDesk, Reader, Leads, leads_on, Done, Rest, voice_in, playing_in, handed_in, HasLowBytes, done_in}
 use Rattle.player_parts.proofs.Laws.{compared, loaded, indexed}
 use Rattle.player_pulse.specs.PulseBlock.{show_tree, pulse_tree, pulse_program_tree}
-use Rattle.player_pulse.proofs.PulseDesks.{PulseGround, PulseKeeps, done_over, done_as, tempos_stay}
+use Rattle.player_pulse.proofs.PulseDesks.{PulseGround, PulseKeeps}
+use Rattle.player_parts.proofs.Laws.{done_over, done_as, tempos_stay}
 use Rattle.player_pulse.proofs.PulseRows.{step_none, step_clock}
 use Rattle.player_pulse.proofs.Slides.{with_voice}
 use Rattle.player_pulse.proofs.Programs.{program_leads}

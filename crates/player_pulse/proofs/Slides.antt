@@ -18,7 +18,7 @@ use Rattle.player_parts.specs.Codes.{load_own, store_own, less_own}
 use Rattle.player_parts.specs.Holds.{HandedOn, AreHalves}
 use Rattle.player_parts.proofs.Laws.{VoiceDesk, Reader, Leads, leads_on, Done, Reads, NextAt, side_place, loaded}
 use Rattle.player_pulse.specs.PulseBlock.{fall_tree, sum_tree, slide_tree}
-use Rattle.player_pulse.proofs.PulseDesks.{own_done, done_as}
+use Rattle.player_parts.proofs.Laws.{own_done, done_as}
 use Rattle.player_pulse.proofs.PulseRows.{slid, slide_ends, slide_stays}
 use Rattle.player_pulse.proofs.Widths.{fallen, risen, risen_over, masked, rises, falls}
 

@@ -35,19 +35,6 @@ row_touches label =
     nat_eq label ENTRY || nat_eq label OFFSET || nat_eq label INSTRUMENT || nat_eq label NEW_NOTE
     || nat_eq label NEW_COMMAND || nat_eq label NEW_PARAM || nat_eq label AD || nat_eq label SR || nat_eq label GATE
 
--- a label that is written isn't one that isn't
-differs : (a b : ℕ) → row_touches b ≡ true → row_touches a ≡ false → (z : Bool) → nat_eq a b ≡ z → z ≡ false
-differs a b written other true e = sym written ∙ (ap row_touches (sym (eqb-true a b e)) ∙ other)
-differs a b written other false e = refl
-
--- a byte that it doesn't change is as before behind a store, too
-pub still : (own before : ℕ → ℕ) (written byte : ℕ) → row_touches written ≡ true →
-    ((label : ℕ) → row_touches label ≡ false → own label ≡ before label) →
-    (label : ℕ) → row_touches label ≡ false → put own written byte label ≡ before label
-still own before written byte touched as_before label other =
-    let apart : nat_eq label written ≡ false = differs label written touched other (nat_eq label written) refl in
-    rw apart (as_before label other)
-
 pub still_shared : (shared before : ℕ → ℕ) (byte : ℕ) →
     ((label : ℕ) → nat_eq label COUNTER ≡ false → shared label ≡ before label) →
     (label : ℕ) → nat_eq label COUNTER ≡ false → put shared COUNTER byte label ≡ before label

@@ -17,11 +17,12 @@ use Rattle.player_parts.specs.declared.labels.TheConstants.{ENTRY, OFFSET, TRANS
 use Rattle.player_parts.specs.declared.labels.TheConstants.{NEW_COMMAND, AD, SR, GATE, GATE_TIMERS}
 use Rattle.player_parts.specs.Codes.{load_own}
 use Rattle.player_parts.specs.Holds.{transpose_byte}
+use Rattle.player_parts.proofs.Laws.{still}
 use Rattle.player_parts.proofs.Laws.{VoiceDesk, Reader, Leads, leads_on, pointed, counted, loaded, compared, Reads}
 use Rattle.player_parts.proofs.Laws.{by_entry}
 use Rattle.player_seq.specs.FetchBlock.{note_taken_tree, gate_tree, note_tree}
 use Rattle.player_seq.proofs.Entries.{Begun, joined}
-use Rattle.player_seq.proofs.RowDesks.{RowGround, Reading, RowDone, next_read, still, running_is, done_as}
+use Rattle.player_seq.proofs.RowDesks.{RowGround, Reading, RowDone, next_read, row_touches, running_is, done_as}
 
 -- ---- numbers
 
@@ -57,8 +58,8 @@ note_taken_leads r look bytes place instruments ground w tempo entries begun fir
           address = at.desk.address;
           fields = assumption (new_note, at.desk.fields);
           own =
-              still _ first.own OFFSET _ refl
-              (still _ first.own ENTRY _ refl (still m.own first.own NEW_NOTE _ refl at.desk.own));
+              still row_touches _ first.own OFFSET _ refl
+              (still row_touches _ first.own ENTRY _ refl (still row_touches m.own first.own NEW_NOTE _ refl at.desk.own));
           shared = at.desk.shared;
           sid = at.desk.sid;
         };
@@ -114,8 +115,8 @@ gate_leads r look bytes place instruments ground w tempo entries first m from to
               address = at.desk.address;
               fields = assumption at.desk.fields;
               own =
-                  still _ first.own SR 0 refl
-                  (still _ first.own AD 0x0F refl (still m.own first.own GATE 0xFE refl at.desk.own));
+                  still row_touches _ first.own SR 0 refl
+                  (still row_touches _ first.own AD 0x0F refl (still row_touches m.own first.own GATE 0xFE refl at.desk.own));
               shared = at.desk.shared;
               sid = at.desk.sid;
             };
@@ -129,7 +130,7 @@ gate_leads r look bytes place instruments ground w tempo entries first m from to
             desk = record {
               address = at.desk.address;
               fields = assumption at.desk.fields;
-              own = still m.own first.own GATE 0xFE refl at.desk.own;
+              own = still row_touches m.own first.own GATE 0xFE refl at.desk.own;
               shared = at.desk.shared;
               sid = at.desk.sid;
             };

@@ -14,10 +14,11 @@ use Rattle.blocks.specs.Trees.{Tree, ChainTree, IfTree, NoneTree}
 use Rattle.player_parts.specs.Words.{Const, Or, Less, Equal, Is, Not}
 use Rattle.player_parts.specs.declared.labels.TheConstants.{ENTRY, OFFSET, GATE}
 use Rattle.player_parts.specs.Codes.{load_byte, next_y, store_own}
+use Rattle.player_parts.proofs.Laws.{still}
 use Rattle.player_parts.proofs.Laws.{VoiceDesk, Reader, Leads, leads_on, compared, summed}
 use Rattle.player_seq.specs.FetchBlock.{keyed_tree, rests_tree, entry_tree, rest_tree}
 use Rattle.player_seq.proofs.Entries.{Begun, joined, left_behind}
-use Rattle.player_seq.proofs.RowDesks.{RowGround, RowDesk, Reading, RowDone, next_read, still, reading_on, running_is}
+use Rattle.player_seq.proofs.RowDesks.{RowGround, RowDesk, Reading, RowDone, next_read, row_touches, reading_on, running_is}
 
 -- ---- the next entry
 
@@ -36,7 +37,7 @@ entry_leads r bytes place w tempo entries first m at = record {
   desk = record {
     address = at.desk.address;
     fields = assumption at.desk.fields;
-    own = still _ first.own OFFSET m.y refl (still m.own first.own ENTRY m.accumulator refl at.desk.own);
+    own = still row_touches _ first.own OFFSET m.y refl (still row_touches m.own first.own ENTRY m.accumulator refl at.desk.own);
     shared = at.desk.shared;
     sid = at.desk.sid;
   };
@@ -94,7 +95,7 @@ gated_leads r bytes place w tempo entries first m note gate small other gate_is 
               desk = record {
                 address = at.desk.address;
                 fields = assumption (set, at.desk.fields);
-                own = still m.own first.own GATE _ refl at.desk.own;
+                own = still row_touches m.own first.own GATE _ refl at.desk.own;
                 shared = at.desk.shared;
                 sid = at.desk.sid;
               };

@@ -17,11 +17,12 @@ use Rattle.player_parts.specs.declared.labels.TheConstants.{ENTRY, OFFSET, PATTE
 use Rattle.player_parts.specs.declared.labels.TheConstants.{NEW_COMMAND, NEW_PARAM, COUNTER}
 use Rattle.player_parts.specs.Codes.{load_number, load_shared, load_byte, next_y, store_own, store_shared}
 use Rattle.player_parts.specs.Holds.{running_command}
+use Rattle.player_parts.proofs.Laws.{still}
 use Rattle.player_parts.proofs.Laws.{VoiceDesk, Reader, Leads, leads_on, pointed, counted, loaded, compared}
 use Rattle.player_seq.specs.FetchBlock.{command_cleared_tree, instrument_tree, command_tree}
 use Rattle.player_seq.proofs.Entries.{kind_first, kind_others, text_with, text_without, first_same, rest_same}
 use Rattle.player_seq.proofs.Entries.{kind_from, kind_to}
-use Rattle.player_seq.proofs.RowDesks.{RowGround, RowDesk, voice_with, Cleared, Reading, next_read, still}
+use Rattle.player_seq.proofs.RowDesks.{RowGround, RowDesk, voice_with, Cleared, Reading, next_read, row_touches}
 use Rattle.player_seq.proofs.RowDesks.{still_shared, reading_on}
 
 -- ---- the running command
@@ -41,7 +42,7 @@ cleared_leads r place v tempo running d desk is = (
         desk = record {
           address = desk.address;
           fields = assumption (number, param, desk.fields);
-          own = still _ d.own NEW_PARAM 0 refl (still d.own d.own NEW_COMMAND 0 refl desk.own);
+          own = still row_touches _ d.own NEW_PARAM 0 refl (still row_touches d.own d.own NEW_COMMAND 0 refl desk.own);
           shared = desk.shared;
           sid = desk.sid;
         };
@@ -139,7 +140,7 @@ instrument_leads r look bytes place instruments ground v tempo running first m e
                     desk = record {
                       address = at.desk.address;
                       fields = assumption (instrument, at.desk.fields);
-                      own = still m.own first.own INSTRUMENT (m.own ENTRY) refl at.desk.own;
+                      own = still row_touches m.own first.own INSTRUMENT (m.own ENTRY) refl at.desk.own;
                       shared = at.desk.shared;
                       sid = at.desk.sid;
                     };
@@ -201,7 +202,7 @@ named_leads r look bytes place instruments ground v tempo instrument running com
         desk = record {
           address = at.desk.address;
           fields = assumption (command_is, param, at.desk.fields);
-          own = still _ first.own NEW_PARAM _ refl (still m.own first.own NEW_COMMAND _ refl at.desk.own);
+          own = still row_touches _ first.own NEW_PARAM _ refl (still row_touches m.own first.own NEW_COMMAND _ refl at.desk.own);
           shared = still_shared m.shared first.shared m.accumulator at.desk.shared;
           sid = at.desk.sid;
         };

@@ -20,7 +20,7 @@ use Rattle.player_tick.specs.RowCommands.{tempos_tree, funk_choice_tree, own_tem
 use Rattle.player_tick.specs.RowCommands.{tempo_set_tree}
 use Rattle.player_tick.specs.RowCommands.{funk_values_tree, funk_set_tree}
 use Rattle.player_tick.proofs.TickDesks.{Ticking, ticking_as, tempos_kept, own_tempo_set, all_tempos_set}
-use Rattle.player_tick.specs.PartLaws.{low_seven}
+use Rattle.player_parts.proofs.Laws.{low_seven}
 use Rattle.player_tick.proofs.OnceCommands.{param_is}
 
 -- A becomes the three tempos

@@ -19,6 +19,7 @@ use Rattle.blocks.specs.Desk.{Desk}
 use Rattle.blocks.specs.Steps.{compared}
 use Rattle.blocks.specs.Meaning.{meaning}
 use Rattle.blocks.proofs.Laws.{shows_equal}
+use Rattle.player_parts.proofs.Laws.{low_seven}
 use Rattle.player_parts.specs.Parts.{Visit, visit_turn, IsUnused, CoversUnused, LeavesAll}
 use Rattle.player_tick.specs.RowCommands.{for_command, ad_set_tree, ad_tree, sr_set_tree, sr_tree, wave_set_tree}
 use Rattle.player_tick.specs.RowCommands.{wave_tree, wave_pointer_set_tree, wave_pointer_tree, pulse_pointer_set_tree}
@@ -141,12 +142,7 @@ funk_chosen_leaves visit desk laid few clear comes =
         let low : nat_le 2 (row_param visit desk) ≡ true = le-leb 2 (row_param visit desk) least in
         rw (asked, low) refl
 
--- the bits of a byte below the highest
-pub low_seven : (n : ℕ) → n < 256 → bit_and n 0x7F ≡ n % 128
-low_seven n l =
-    eqb-true _ _ (agree_below_at (λ n. nat_eq (bit_and n 0x7F) (n % 128)) (λ _. true) 256 n refl l)
-
--- with 3 or more in them command $F would set a length
+-- with 3 or more in the last seven bits command $F would set a length
 pub tempo_leaves : LeavesAll tempo_tree (IsUnused SetTempo) ComesToCommand
 tempo_leaves visit desk laid few clear comes =
     elim (eqb_tells desk.y 0xF) [

@@ -16,7 +16,8 @@ use Rattle.player_parts.specs.declared.labels.TheConstants.{WAVE_LEFTS, WAVE_RIG
 use Rattle.player_parts.specs.Codes.{load_entry, store_shared}
 use Rattle.player_parts.proofs.Laws.{VoiceDesk, Reader, Leads, leads_on, Done, Reads, NextAt, side_place, handed_in, compared, loaded}
 use Rattle.player_wave.specs.WaveBlock.{lend_tree, once_tree, command_tree, moved_tree}
-use Rattle.player_wave.proofs.WaveDesks.{lent_out, lent_handed, done_over, done_as, tempos_stay}
+use Rattle.player_wave.proofs.WaveDesks.{lent_out, lent_handed}
+use Rattle.player_parts.proofs.Laws.{done_over, done_as, tempos_stay}
 use Rattle.player_wave.proofs.Sounds.{AtRow, moved_leads}
 use Rattle.player_wave.proofs.Once.{commanded, once_leads}
 

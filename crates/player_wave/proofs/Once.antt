@@ -15,7 +15,7 @@ use Rattle.player_parts.specs.Holds.{HandedOn}
 use Rattle.player_parts.proofs.Laws.{VoiceDesk, Reader, Leads, Done, Reads, side_place, loaded, indexed}
 use Rattle.player_wave.specs.WaveBlock.{control_tree, volume_tree, once_tree}
 use Rattle.player_wave.proofs.Bodies.{Body, bodies_tree, are_apart, IsFree, passed, done_there}
-use Rattle.player_wave.proofs.WaveDesks.{own_done, done_over, done_as, tempos_stay}
+use Rattle.player_parts.proofs.Laws.{own_done, done_over, done_as, tempos_stay}
 
 -- ---- the eight
 

@@ -19,10 +19,12 @@ use Rattle.player_parts.specs.declared.labels.TheConstants.{WAVE_TIME, WAVE_POIN
 use Rattle.player_parts.specs.Codes.{next_y}
 use Rattle.player_parts.specs.Holds.{HandedOn, AreHalves}
 use Rattle.player_parts.specs.SharedBlocks.{note_tree}
+use Rattle.player_parts.proofs.Laws.{low_seven}
 use Rattle.player_parts.proofs.Laws.{VoiceDesk, Reader, Leads, leads_on, Done, Reads, NextAt, NotesAt, side_place, next_leads, note_leads}
 use Rattle.player_parts.proofs.Laws.{compared, loaded, summed}
 use Rattle.player_wave.specs.WaveBlock.{moved_tree, delay_tree, waveform_tree, sounds_tree, right_tree, over_tree}
-use Rattle.player_wave.proofs.WaveDesks.{Stepped, own_done, done_over, stepped_as}
+use Rattle.player_wave.proofs.WaveDesks.{Stepped, stepped_as}
+use Rattle.player_parts.proofs.Laws.{own_done, done_over}
 use Rattle.player_wave.proofs.WaveRows.{row_waits, row_over, row_wave, row_low, with_wave, right_kept, right_note}
 use Rattle.player_wave.proofs.WaveRows.{note_relative, note_own}
 
@@ -130,9 +132,6 @@ waveform_leads r look row s handed d m from to acc at = (
 )
 
 -- ---- the right side
-
-low_seven : (n : ℕ) → n < 256 → bit_and n 0x7F ≡ n % 128
-low_seven n l = eqb-true _ _ (agree_below_at (λ n. nat_eq (bit_and n 0x7F) (n % 128)) (λ _. true) 256 n refl l)
 
 abbrev masked_tree : Tree
 masked_tree =

@@ -71,48 +71,8 @@ pub data Waves (voice : ℕ) (look : LookUps) (s : Playing) (d m : VoiceDesk) : 
   Plain : Stepped voice (wave_step look s) (handed_in d) d m → Waves voice look s d m
   Lent : Lends voice look s d m → Waves voice look s d m
 
--- ---- desks that tell the same
-
--- the registers don't count
-pub done_over : (voice : ℕ) (s : Playing) (handed : HandedOn) (d m n : VoiceDesk) → n.own ≡ m.own →
-    n.shared ≡ m.shared → n.sid ≡ m.sid → Done voice s handed d m → Done voice s handed d n
-done_over voice s handed d m n own shared sid done = record {
-  fields = subst (FieldsStand s.voice (tempo_of (voice + 1) s.common)) (sym own) done.fields;
-  common = subst (CommonStands s.common) (sym shared) done.common;
-  tempos = λ its l other. ap (λ bytes. bytes (TEMPO + 7 * its)) shared ∙ done.tempos its l other;
-  handed_on = subst (HandedStands handed) (sym shared) done.handed_on;
-  fetch = rw own done.fetch;
-  subtune = rw shared done.subtune;
-  sid = sid ∙ done.sid;
-}
-
--- bytes of the voice are set
-pub own_done : (voice : ℕ) (s u : Playing) (handed : HandedOn) (d m n : VoiceDesk) → n.shared ≡ m.shared →
-    n.sid ≡ m.sid → u.common ≡ s.common → FieldsStand u.voice (tempo_of (voice + 1) s.common) n.own →
-    SameFetch n.own d.own → Done voice s handed d m → Done voice u handed d n
-own_done voice s u handed d m n shared sid same fields fetch done = record {
-  fields = rw same fields;
-  common = rw (same, shared) done.common;
-  tempos = λ its l other. ap (λ bytes. bytes (TEMPO + 7 * its)) shared ∙ (done.tempos its l other ∙ ap (tempo_of (its + 1)) (sym same));
-  handed_on = subst (HandedStands handed) (sym shared) done.handed_on;
-  fetch = fetch;
-  subtune = rw shared done.subtune;
-  sid = sid ∙ done.sid;
-}
-
--- what is said of a state in another way
-pub done_as : {voice : ℕ} {handed : HandedOn} {d m : VoiceDesk} (s u : Playing) → s ≡ u → Done voice u handed d m →
-    Done voice s handed d m
-done_as {voice = voice} {handed = handed} {d = d} {m = m} s u e done =
-    subst (λ x. Done voice x handed d m) (sym e) done
-
+-- the same said of another
 pub stepped_as : {voice : ℕ} {handed : HandedOn} {d m : VoiceDesk} (w u : Waved) → w ≡ u →
     Stepped voice u handed d m → Stepped voice w handed d m
 stepped_as {voice = voice} {handed = handed} {d = d} {m = m} w u e stepped =
     subst (λ x. Stepped voice x handed d m) (sym e) stepped
-
--- a byte that is no tempo leaves the tempos of the others
-pub tempos_stay : (shared : ℕ → ℕ) (label byte its tempo : ℕ) → TEMPO + 7 * its ≢ label →
-    shared (TEMPO + 7 * its) ≡ tempo → put shared label byte (TEMPO + 7 * its) ≡ tempo
-tempos_stay shared label byte its tempo apart e =
-    put_other shared label byte (TEMPO + 7 * its) apart ∙ e

@@ -16,7 +16,8 @@ use Rattle.player_parts.proofs.Laws.{VoiceDesk, Reader, Leads, leads_on, Done, R
 use Rattle.player_parts.proofs.Laws.{Rest, voice_in, playing_in, HasLowBytes, done_in}
 use Rattle.player_wave.specs.WaveBlock.{command_tree, command_way_tree, delay_tree, waveform_tree, over_tree, sound_way_tree, wave_tree}
 use Rattle.player_wave.specs.PartLaws.{is_command}
-use Rattle.player_wave.proofs.WaveDesks.{WaveGround, WaveKeeps, Stepped, Waves, Plain, Lent, done_over, stepped_as}
+use Rattle.player_wave.proofs.WaveDesks.{WaveGround, WaveKeeps, Stepped, Waves, Plain, Lent, stepped_as}
+use Rattle.player_parts.proofs.Laws.{done_over}
 use Rattle.player_wave.proofs.WaveRows.{step_none, step_some, row_command, slide_back}
 use Rattle.player_wave.proofs.Sounds.{AtRow, LeftDone, delay_leads, waveform_leads, left_then_over}
 use Rattle.player_wave.proofs.Once.{commanded}
