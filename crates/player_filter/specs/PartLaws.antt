@@ -10,7 +10,7 @@ use Rattle.player_filter.specs.FilterBlock.{step_tree}
 use Rattle.player_filter.specs.Parts.{HasNoFilter, HoldsFilter}
 
 pub filters_unused : CoversUnused FilterTable HasNoFilter
-filters_unused visit unused = unused
+filters_unused visit few unused = unused
 
 pub filters_leave : LeavesAll step_tree HasNoFilter HoldsFilter
 filters_leave visit desk laid few clear comes =

@@ -117,7 +117,7 @@ filter_byte x filter (suc (suc (suc (suc i)))) l = absurd (omega (arith, l))
 
 pub play_block_plays : PlayBlockPlays
 unfolding frame_of
-play_block_plays packed song layout o k count x desk stands short laid features keeps options below most small safe range
+play_block_plays packed song layout o k count x desk stands short laid keeps options below most small safe range
     held = record {
       holds = three.holds;
       registers = registers;
@@ -130,7 +130,6 @@ play_block_plays packed song layout o k count x desk stands short laid features 
       stands = stands;
       short = short;
       laid = laid;
-      features = features;
       keeps = keeps;
       options = options;
       below = below;

@@ -14,13 +14,13 @@ use Rattle.blocks.specs.Desk.{Desk, Layout}
 use Rattle.blocks.specs.Meaning.{meaning}
 use Rattle.blocks.specs.Reads.{Reads}
 use Rattle.player_parts.specs.declared.labels.TheConstants.{STARTED}
-use Rattle.player_parts.specs.PlayerLayouts.{IsPlayerLayout, MayRead, KeepsFeatures}
+use Rattle.player_parts.specs.PlayerLayouts.{IsPlayerLayout, MayRead}
 use Rattle.player_parts.specs.Holds.{Holds, nothing_on}
 use Rattle.player_parts.specs.Elsewhere.{LeavesElsewhere}
 use Rattle.player_parts.proofs.Laws.{VoiceDesk, Reader, Leads, VoiceDone, seen, desk_seen, ground_of, led, reader}
 use Rattle.player_parts.proofs.Laws.{held_voice, others_tempos, holds_after, leaves_after}
 use Rattle.player_seq.specs.PackedLimits.{KeepsPatternLimits}
-use Rattle.player_seq.specs.FetchLaws.{with_row_fetched, Fetches}
+use Rattle.player_seq.specs.FetchLaws.{KeepsWalk, with_row_fetched, Fetches}
 use Rattle.player_seq.proofs.Laws.{fetch_block_fetches}
 use Rattle.player_voice.specs.Turns.{started_on}
 use Rattle.player_frame.specs.PlayBlock.{row_tree}
@@ -100,7 +100,7 @@ rowed_started packed layout k voice count x desk laid few held =
 
 pub rowed_fetched : (packed : PackedSong) (song : Song) (layout : Layout) (k voice count : ℕ) (x : FrameState)
     (desk : Desk) → StandsFor packed song → KeepsPatternLimits packed → IsPlayerLayout layout packed →
-    KeepsFeatures layout packed.features.0 → k < length packed.subtunes → voice < 3 → walk_count packed ≤ count →
+    KeepsWalk layout packed k → k < length packed.subtunes → voice < 3 → walk_count packed ≤ count →
     count < 256 → IsSafe (unpacked_song packed) k x → IsFrameState x → Holds layout packed k nothing_on x desk.at →
     Rowed layout packed k voice count (with_row_fetched packed k voice x) desk
 rowed_fetched packed song layout k voice count x desk stands short laid keeps l few most small safe range held =

@@ -1,6 +1,7 @@
 -- A voice in a frame: its step, its row and its registers.
 use Rattle.std.proofs.Common.{◌≡◌, ◌≢◌, ℕ, zero, suc, ◌+◌, ◌*◌, ◌<◌, ◌≤◌, Bool, true, false, length}
 use Rattle.std.proofs.Common.{slice_index, refl, sym, ap, ◌∙◌, subst, arith}
+use Rattle.song_model.specs.declared.features.Feature.TheVariants.{Transpose, Repeat}
 use Rattle.song_model.specs.declared.songs.Song.{Song}
 use Rattle.song_model.specs.LookUp.{order_of}
 use Rattle.play_model.specs.declared.options.Options.{Options}
@@ -16,7 +17,7 @@ use Rattle.packed_form.specs.WalkCount.{walk_count}
 use Rattle.blocks.specs.Desk.{Desk, Layout, sid_place}
 use Rattle.blocks.specs.Meaning.{meaning}
 use Rattle.blocks.specs.Reads.{Reads}
-use Rattle.player_parts.specs.PlayerLayouts.{IsVariablePlace, IsPlayerLayout, MayRead, KeepsFeatures, KeepsUsed, KeepsOptions}
+use Rattle.player_parts.specs.PlayerLayouts.{IsVariablePlace, IsPlayerLayout, MayRead, KeepsUsed, KeepsOptions}
 use Rattle.player_parts.specs.Holds.{Holds, nothing_on}
 use Rattle.player_seq.specs.PackedLimits.{KeepsPatternLimits}
 use Rattle.player_seq.specs.FetchLaws.{with_row_fetched}
@@ -35,7 +36,6 @@ pub record Stage (packed : PackedSong) (song : Song) (layout : Layout) (o : Opti
   pub stands : StandsFor packed song
   pub short : KeepsPatternLimits packed
   pub laid : IsPlayerLayout layout packed
-  pub features : KeepsFeatures layout packed.features.0
   pub keeps : KeepsUsed layout packed o k x
   pub options : KeepsOptions layout o
   pub below : k < length packed.subtunes
@@ -135,7 +135,7 @@ rowed packed song layout o k count voice x desk stage few false e held =
     let scene = scene_of packed song layout o k count voice x stage few in
     subst (λ y. Rowed layout packed k voice count y desk) (sym (whole_fetched packed o k voice x few e))
     (rowed_fetched packed song layout k voice count (with_step_done packed o k voice x) desk stage.stands stage.short
-    stage.laid stage.features stage.below few stage.most stage.small
+    stage.laid (record { transposes = stage.keeps Transpose; repeats = stage.keeps Repeat }) stage.below few stage.most stage.small
     (put_safe (unpacked_song packed) k voice _ _ few (sounded_safe packed song layout o k voice x scene)
     (state_safe packed song layout o k voice x scene))
     (put_range voice _ _ few (sounded_range packed song layout o k voice x scene)

@@ -13,7 +13,7 @@ use Rattle.packed_form.specs.WalkCount.{walk_count}
 use Rattle.blocks.specs.Desk.{Desk, Layout, sid_place}
 use Rattle.blocks.specs.Meaning.{meaning}
 use Rattle.blocks.specs.Reads.{Reads}
-use Rattle.player_parts.specs.PlayerLayouts.{IsVariablePlace, IsPlayerLayout, MayRead, KeepsFeatures, KeepsUsed, KeepsOptions}
+use Rattle.player_parts.specs.PlayerLayouts.{IsVariablePlace, IsPlayerLayout, MayRead, KeepsUsed, KeepsOptions}
 use Rattle.player_parts.specs.Holds.{Holds, nothing_on}
 use Rattle.player_seq.specs.PackedLimits.{KeepsPatternLimits}
 use Rattle.player_frame.specs.PlayBlock.{play_tree}
@@ -31,12 +31,11 @@ pub record Plays (layout : Layout) (packed : PackedSong) (o : Options) (k count 
       ((i : ℕ) → i < 25 → place ≢ sid_place i) → (meaning layout (play_tree count) 0 desk).at place ≡ desk.at place
   pub reads : Reads (MayRead layout packed) layout (play_tree count) 0 desk
 
--- for a packed song that stands for a song, with any layout and kept bits among which are those of its features and of
--- what the frame uses, and of the options those that are on, from any state that is safe and in its ranges
+-- for a packed song that stands for a song, with any layout and kept bits among which are those of what the frame uses,
+-- and of the options those that are on, from any state that is safe and in its ranges
 abbrev pub PlayBlockPlays : Type 0
 PlayBlockPlays =
     (packed : PackedSong) (song : Song) (layout : Layout) (o : Options) (k count : ℕ) (x : FrameState) (desk : Desk) →
     StandsFor packed song → KeepsPatternLimits packed → IsPlayerLayout layout packed →
-    KeepsFeatures layout packed.features.0 → KeepsUsed layout packed o k x → KeepsOptions layout o →
-    k < length packed.subtunes → walk_count packed ≤ count → count < 256 → IsSafe (unpacked_song packed) k x →
+    KeepsUsed layout packed o k x → KeepsOptions layout o → k < length packed.subtunes → walk_count packed ≤ count → count < 256 → IsSafe (unpacked_song packed) k x →
     IsFrameState x → Holds layout packed k nothing_on x desk.at → Plays layout packed o k count x desk

@@ -9,7 +9,7 @@ pub fn block_is_sound()
 {}
 
 /// In a memory that holds a state, the block that plays a frame leaves the state behind the frame and its 25 registers, with
-/// all options and whichever bits are kept, as long as those of the song's features and of what the frame uses are. Each
+/// all options and whichever bits are kept, as long as those of what the frame uses are. Each
 /// other byte that is no variable and no byte of the pointer is as before, and what is read by Y are bytes of the lists and
 /// variables.
 pub fn play_block_plays()

@@ -36,7 +36,7 @@ IsUnused feature visit = ¬ UsesFeature visit.options (unpacked_song visit.packe
 
 -- a part keeps clear of its work in each frame that doesn't use its feature
 abbrev pub CoversUnused : Feature → (Visit → Type 0) → Type 0
-CoversUnused feature IsClear = (visit : Visit) → IsUnused feature visit → IsClear visit
+CoversUnused feature IsClear = (visit : Visit) → visit.voice < 3 → IsUnused feature visit → IsClear visit
 
 -- a part's block changes no byte of memory on a desk to which a frame comes in a state that keeps clear: so the memory
 -- holds the state that it held, and the SID registers stay

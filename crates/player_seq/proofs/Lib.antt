@@ -13,7 +13,7 @@ mod Repeats
 -- The walk, as the player's code does it, and what it stands on in a packed song.
 mod Walking
 mod Walked
-mod Orders
+pub mod Orders
 -- The next byte and the next row of a pattern.
 mod Entries
 -- The row of a voice, and the patterns of a packed song.

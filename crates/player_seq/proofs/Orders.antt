@@ -31,7 +31,8 @@ use Rattle.packed_form.specs.StandsFor.{ArePackedOrders, StandsFor}
 use Rattle.blocks.specs.Desk.{Layout}
 use Rattle.player_parts.specs.declared.labels.TheConstants.{ORDERS}
 use Rattle.player_parts.specs.PlayerLists.{OrderBytes, channel_bytes, no_subtune, order_bytes, HasLists}
-use Rattle.player_parts.specs.PlayerLayouts.{IsPlayerLayout, KeepsFeatures}
+use Rattle.player_parts.specs.PlayerLayouts.{IsPlayerLayout}
+use Rattle.player_seq.specs.FetchLaws.{KeepsWalk, FeaturesKeepWalks}
 use Rattle.player_parts.proofs.Laws.{StandsAt, reader, list_stands}
 use Rattle.player_seq.proofs.Repeats.{OfByte, repeat_fine}
 use Rattle.player_seq.proofs.Walking.{order_byte, WalkGround, Fine}
@@ -156,19 +157,21 @@ voice_order packed song k voice stands l few =
 
 -- ---- what the walk stands on
 
--- a bit that isn't kept stands for what no orderlist of the song has
-unused : (packed : PackedSong) (song : Song) (layout : Layout) (k : ℕ) (feature : Feature) (from to : ℕ) →
-    StandsFor packed song → KeepsFeatures layout packed.features.0 → k < length packed.subtunes →
-    (HasOrderByte (subtune_at (unpacked_song packed) k) from to →
-    HasFeature song feature) → layout.is_kept (bit_of feature) ≡ false →
-    ¬ HasOrderByte (subtune_at (unpacked_song packed) k) from to
-unused packed song layout k feature from to stands keeps l used left has =
-    true≢false (sym (keeps feature ((stands.features.each feature).1 (used has))) ∙ left)
+-- where the bits of a song's features are kept, those of its walks are
+pub features_keep_walks : FeaturesKeepWalks
+features_keep_walks packed song layout k stands keeps l =
+    let uses = (stands.plays no_options k (record { least = omega arith; most = omega arith }) below).uses 0 in record {
+      transposes = λ has. keeps Transpose ((stands.features.each Transpose).1 (uses Transpose has));
+      repeats = λ has. keeps Repeat ((stands.features.each Repeat).1 (uses Repeat has));
+    }
+  where
+    below : k < length (playable_subtunes song)
+    below = let same = stands.subtunes in omega (arith, same, l)
 
 -- the walk's ground
 pub walk_ground : (packed : PackedSong) (song : Song) (layout : Layout) (k voice : ℕ) (at : ℕ → ℕ) (order : Order)
     (looks : ℕ → ℕ) → StandsFor packed song → IsPlayerLayout layout packed →
-    KeepsFeatures layout packed.features.0 → HasLists layout packed at → k < length packed.subtunes → voice < 3 →
+    KeepsWalk layout packed k → HasLists layout packed at → k < length packed.subtunes → voice < 3 →
     order ≡ order_of (voice + 1) (subtune_at (unpacked_song packed) k) → VoiceOrder packed k voice order →
     ((p : ℕ) → p < length order.entries → 0xD0 ≤ get_or order.entries p 0 → looks p ≡ 1 + looks (p + 1)) →
     looks (length order.entries) ≡ 1 + looks order.restart →
@@ -185,29 +188,21 @@ walk_ground packed song layout k voice at order looks stands laid keeps has l fe
             | inr high ↦
                 let h = high in
                 let below = of.limits.entries.each i 0 inside in
-                absurd (unused packed song layout k Transpose 0xE0 0xFE stands keeps l
-                (λ used. (stands.plays no_options k one (song_has l)).uses 0 Transpose used) left
-                (order_has i inside 0xE0 0xFE h (omega (arith, below))))
+                let has = order_has i inside 0xE0 0xFE h (omega (arith, below)) in
+                absurd (true≢false (sym (keeps.transposes has) ∙ left))
           ];
       repeats = λ left i inside from.
           elim (cases_lt (get_or order.entries i 0) 0xE0) [
             | inl low ↦
                 let b = low in
-                absurd (unused packed song layout k Repeat 0xD0 0xDF stands keeps l
-                (λ used. (stands.plays no_options k one (song_has l)).uses 0 Repeat used) left
-                (order_has i inside 0xD0 0xDF from (omega (arith, b))))
+                let has = order_has i inside 0xD0 0xDF from (omega (arith, b)) in
+                absurd (true≢false (sym (keeps.repeats has) ∙ left))
             | inr high ↦ high
           ];
       looks_on = looks_on;
       looks_round = looks_round;
     }
   where
-    one : IsSpeed 1
-    one = record { least = omega arith; most = omega arith }
-
-    song_has : k < length packed.subtunes → k < length (playable_subtunes song)
-    song_has l = let same = stands.subtunes in omega (arith, same, l)
-
     order_has : (i : ℕ) → i < length order.entries → (from to : ℕ) → from ≤ get_or order.entries i 0 →
         get_or order.entries i 0 ≤ to → HasOrderByte (subtune_at (unpacked_song packed) k) from to
     order_has i inside from to low high = record {

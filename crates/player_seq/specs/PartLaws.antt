@@ -34,10 +34,10 @@ low_entry visit byte few none is =
 
 -- a frame that doesn't use transposes or repeats has none in its orderlists
 pub transposes_unused : CoversUnused Transpose HasNoTranspose
-transposes_unused visit unused = unused
+transposes_unused visit few unused = unused
 
 pub repeats_unused : CoversUnused Repeat HasNoRepeat
-repeats_unused visit unused = unused
+repeats_unused visit few unused = unused
 
 pub transposes_leave : LeavesAll transpose_tree HasNoTranspose HoldsEntry
 transposes_leave visit desk laid few clear comes =

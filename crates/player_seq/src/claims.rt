@@ -1,6 +1,6 @@
 //! Facts about the blocks, each the contract of a function that does nothing.
 
-ghost use Rattle.player_seq.specs.FetchLaws.{FetchBlockFetches};
+ghost use Rattle.player_seq.specs.FetchLaws.{FetchBlockFetches, FeaturesKeepWalks};
 ghost use Rattle.player_seq.specs.InitLaws.{InitBlockBegins, InitWritesAllVariables};
 ghost use Rattle.player_seq.specs.WorkedBlocks.{TimersAreWorked, LooksAreWorked};
 ghost use Rattle.player_seq.specs.Parts.{EntriesAreComeTo};
@@ -26,7 +26,7 @@ pub fn init_writes_all_variables()
 {}
 
 /// In a memory that holds a state, the block that fetches a row leaves the state behind the fetch of a voice, whichever
-/// bits are kept, as long as those of the song's features are. Each byte that is no variable and no byte of the pointer is
+/// bits are kept, as long as those of transposes and repeats are where an orderlist of the subtune has one. Each byte that is no variable and no byte of the pointer is
 /// as before, and what is read by Y are bytes of the lists and variables.
 pub fn fetch_block_fetches()
     ensures { FetchBlockFetches }
@@ -42,4 +42,9 @@ pub fn worked_blocks()
 /// transposes and repeats.
 pub fn entries_are_come_to()
     ensures { EntriesAreComeTo }
+{}
+
+/// A player that keeps the bits of the song's features keeps those of its walks along orderlists.
+pub fn features_keep_walks()
+    ensures { FeaturesKeepWalks }
 {}
