@@ -1,5 +1,5 @@
 -- The parts of the tick step are come to where the memory holds what the code before them has left.
-use Rattle.std.proofs.Common.{◌≡◌, ℕ, ◌+◌, ◌<◌, refl, sym, ap, ◌∙◌, arith}
+use Rattle.std.proofs.Common.{◌≡◌, ℕ, ◌<◌, sym, ap, ◌∙◌}
 use Rattle.play_model.specs.Wrap.{byte_minus}
 use Rattle.player_parts.proofs.Laws.{held_voice}
 use Rattle.player_tick.specs.Coming.{RowsComeToCommands, RowsComeToTempos}

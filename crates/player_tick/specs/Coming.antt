@@ -1,6 +1,6 @@
 -- The frame comes to the parts of the tick step: where a memory holds what the code before a part has left, the part is
 -- come to. This is the project's own player.
-use Rattle.std.specs.Prelude.{◌≡◌, ℕ, ◌+◌, ◌<◌, ◌≤◌}
+use Rattle.std.specs.Prelude.{◌≡◌, ◌+◌, ◌<◌, ◌≤◌}
 use Rattle.play_model.specs.State.{Voice, FrameState, voice_of}
 use Rattle.play_model.specs.TickStep.{tempo_of}
 use Rattle.play_model.specs.Wrap.{byte_minus}

@@ -1,9 +1,9 @@
 -- Each part of the tick step changes nothing where the voice's turn keeps clear of it: the test in it fails. The turns of
 -- a frame that doesn't use its feature do.
-use Rattle.std.proofs.Common.{◌≡◌, ◌≢◌, ℕ, ◌+◌, ◌-◌, ◌%◌, ◌<◌, ◌≤◌, ◌⊎◌, Bool, true, false, nat_eq, nat_le, bit_and}
+use Rattle.std.proofs.Common.{◌≡◌, ◌≢◌, ℕ, ◌+◌, ◌-◌, ◌%◌, ◌<◌, ◌≤◌, ◌⊎◌, Bool, true, false, nat_eq, nat_le}
 use Rattle.std.proofs.Common.{refl}
 use Rattle.std.proofs.Common.{inl, inr, arith, ◌∙◌, if◌then◌else◌}
-use Rattle.std.proofs.lemmas.Bool.{lt-leb, le-leb, ne_eqb, cases_lt, agree_below_at, eqb-true}
+use Rattle.std.proofs.lemmas.Bool.{lt-leb, le-leb, ne_eqb, cases_lt}
 use Rattle.std.proofs.lemmas.Bool.Decides.{eqb_tells}
 use Rattle.song_model.specs.declared.features.Feature.TheVariants.{SetAd, SetSr, SetWave, SetWavePointer}
 use Rattle.song_model.specs.declared.features.Feature.TheVariants.{SetPulsePointer}
