@@ -18,3 +18,5 @@ mod Between
 mod TickLeads
 -- Which parts are needed.
 mod UsedParts
+-- Where a frame comes to them.
+mod Coming

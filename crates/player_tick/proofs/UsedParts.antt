@@ -7,7 +7,7 @@ use Rattle.song_model.specs.declared.features.Feature.TheVariants.{FunkTempo, Se
 use Rattle.play_model.specs.Uses.{DoesRow, by_values, by_tempo, by_length}
 use Rattle.player_parts.specs.PlayerLayouts.{KeepsUsed}
 use Rattle.player_parts.specs.Parts.{Visit, visit_turn}
-use Rattle.player_tick.specs.PartLaws.{in_turn}
+use Rattle.player_parts.specs.PartLaws.{in_turn}
 use Rattle.player_tick.proofs.TickLeads.{IsRow, TickKeeps}
 
 -- the voice does its row in its turn, with this command

@@ -2,7 +2,8 @@
 pub mod RowCommands
 pub mod TickBlock
 pub mod Parts
--- Claimed: that it is sound.
+-- Claimed: that it is sound, and that a frame comes to the parts.
 pub mod SoundTick
+pub mod Coming
 -- Inner: the laws of the parts.
 pub mod PartLaws

@@ -1,26 +1,23 @@
--- Each part of the tick step changes nothing in a frame that doesn't use its feature: the test in it fails.
-use Rattle.std.proofs.Common.{◌≡◌, ◌≢◌, ℕ, ◌+◌, ◌-◌, ◌%◌, ◌<◌, ◌≤◌, ◌⊎◌, Bool, true, false, nat_eq, nat_le, bit_and}
+-- Each part of the tick step changes nothing where the voice's turn keeps clear of it: the test in it fails. The turns of
+-- a frame that doesn't use its feature do.
+use Rattle.std.proofs.Common.{◌≡◌, ◌≢◌, ℕ, ◌+◌, ◌-◌, ◌%◌, ◌<◌, ◌≤◌, ◌⊎◌, Bool, true, false, nat_eq, nat_le}
 use Rattle.std.proofs.Common.{refl}
 use Rattle.std.proofs.Common.{inl, inr, arith, ◌∙◌, if◌then◌else◌}
-use Rattle.std.proofs.lemmas.Bool.{lt-leb, le-leb, ne_eqb, cases_lt, agree_below_at, eqb-true}
+use Rattle.std.proofs.lemmas.Bool.{lt-leb, le-leb, ne_eqb, cases_lt}
 use Rattle.std.proofs.lemmas.Bool.Decides.{eqb_tells}
-use Rattle.song_model.specs.declared.features.Feature.{Feature}
 use Rattle.song_model.specs.declared.features.Feature.TheVariants.{SetAd, SetSr, SetWave, SetWavePointer}
 use Rattle.song_model.specs.declared.features.Feature.TheVariants.{SetPulsePointer}
 use Rattle.song_model.specs.declared.features.Feature.TheVariants.{SetFilterPointer, FilterControl, Cutoff, Volume}
 use Rattle.song_model.specs.declared.features.Feature.TheVariants.{FunkTempo, SetTempo}
-use Rattle.play_model.specs.Used.{IsChannel}
-use Rattle.play_model.specs.LookUps.{look_ups_of}
-use Rattle.play_model.specs.Frame.{subtune_at}
-use Rattle.play_model.specs.Uses.{Turn, DoesRow, InATurn, by_values, by_tempo, by_length}
-use Rattle.packed_form.specs.Unpacked.{unpacked_song}
+use Rattle.play_model.specs.Uses.{DoesRow, by_values, by_tempo, by_length}
 use Rattle.blocks.specs.Trees.{Tree}
 use Rattle.blocks.specs.Desk.{Desk}
 use Rattle.blocks.specs.Steps.{compared}
 use Rattle.blocks.specs.Meaning.{meaning}
 use Rattle.blocks.proofs.Laws.{shows_equal}
 use Rattle.player_parts.proofs.Laws.{low_seven}
-use Rattle.player_parts.specs.Parts.{Visit, visit_turn, IsUnused, CoversUnused, LeavesAll}
+use Rattle.player_parts.specs.Parts.{Visit, visit_turn, CoversUnused, LeavesAll}
+use Rattle.player_parts.specs.PartLaws.{in_turn}
 use Rattle.player_tick.specs.RowCommands.{for_command, ad_set_tree, ad_tree, sr_set_tree, sr_tree, wave_set_tree}
 use Rattle.player_tick.specs.RowCommands.{wave_tree, wave_pointer_set_tree, wave_pointer_tree, pulse_pointer_set_tree}
 use Rattle.player_tick.specs.RowCommands.{pulse_pointer_tree, filter_pointer_set_tree, filter_pointer_tree}
@@ -29,21 +26,51 @@ use Rattle.player_tick.specs.RowCommands.{volume_set_tree, volume_tree, funk_cho
 use Rattle.player_tick.specs.RowCommands.{tempo_set_tree, tempo_tree, funk_set_tree, funk_tree}
 use Rattle.player_tick.specs.TickBlock.{funk_turn_tree}
 use Rattle.player_tick.specs.Parts.{row_param, ComesToCommand, ComesToTempo}
+use Rattle.player_tick.specs.Parts.{NoRowCommand, NoFunkChoice, NoLengthSet, NoFunkLength}
 
--- a frame that doesn't use a feature keeps clear of it
-pub unused_is_clear : (feature : Feature) → CoversUnused feature (IsUnused feature)
-unused_is_clear feature visit unused = unused
+-- ---- a frame that doesn't use a feature
 
--- the voice's channel
-is_channel : (voice : ℕ) → voice < 3 → IsChannel (voice + 1)
-is_channel voice few = record { first = omega arith; last = omega (arith, few) }
+-- its turns don't do the feature's command, and load no tempo of a funk tempo
+pub ad_covers : CoversUnused SetAd (NoRowCommand 5)
+ad_covers visit few unused d does = unused (in_turn visit _ few (d, inl does))
 
--- the voice that the visit is about does something in its turn
-pub in_turn : (visit : Visit) (Does : Turn → Type 0) → visit.voice < 3 → Does (visit_turn visit) →
-    InATurn visit.options (look_ups_of (unpacked_song visit.packed))
-    (subtune_at (unpacked_song visit.packed) visit.k) visit.state Does
-in_turn visit Does few does =
-    record { channel = visit.voice + 1; is_channel = is_channel visit.voice few; does = does }
+pub sr_covers : CoversUnused SetSr (NoRowCommand 6)
+sr_covers visit few unused d does = unused (in_turn visit _ few (d, inl does))
+
+pub wave_covers : CoversUnused SetWave (NoRowCommand 7)
+wave_covers visit few unused d does = unused (in_turn visit _ few (d, inl does))
+
+pub wave_pointer_covers : CoversUnused SetWavePointer (NoRowCommand 8)
+wave_pointer_covers visit few unused d does = unused (in_turn visit _ few (d, does))
+
+pub pulse_pointer_covers : CoversUnused SetPulsePointer (NoRowCommand 9)
+pulse_pointer_covers visit few unused d does = unused (in_turn visit _ few (d, inl does))
+
+pub filter_pointer_covers : CoversUnused SetFilterPointer (NoRowCommand 0xA)
+filter_pointer_covers visit few unused d does = unused (in_turn visit _ few (d, inl does))
+
+pub filter_control_covers : CoversUnused FilterControl (NoRowCommand 0xB)
+filter_control_covers visit few unused d does = unused (in_turn visit _ few (d, inl does))
+
+pub cutoff_covers : CoversUnused Cutoff (NoRowCommand 0xC)
+cutoff_covers visit few unused d does = unused (in_turn visit _ few (d, inl does))
+
+pub volume_covers : CoversUnused Volume (NoRowCommand 0xD)
+volume_covers visit few unused d does = unused (in_turn visit _ few (d, inl does))
+
+pub funk_covers : CoversUnused FunkTempo (NoRowCommand 0xE)
+funk_covers visit few unused d does = unused (in_turn visit _ few (by_values d does))
+
+pub funk_chosen_covers : CoversUnused FunkTempo NoFunkChoice
+funk_chosen_covers visit few unused d short does = unused (in_turn visit _ few (by_tempo d does short))
+
+pub tempo_covers : CoversUnused SetTempo NoLengthSet
+tempo_covers visit few unused d long does = unused (in_turn visit _ few (d, does, long))
+
+pub funk_turn_covers : CoversUnused FunkTempo NoFunkLength
+funk_turn_covers visit few unused tempo short loads = unused (in_turn visit _ few (by_length tempo loads short))
+
+-- ---- a part changes nothing where the voice's turn keeps clear of it
 
 -- where Y is the command, the row does it
 does_row : (visit : Visit) (desk : Desk) (command : ℕ) → ComesToCommand visit desk → desk.y ≡ command →
@@ -72,58 +99,45 @@ other_leaves visit desk command body few small other =
     other_way (nat_eq ((desk.y + (256 - command)) % 256) 0) (meaning visit.layout body visit.voice asked) asked desk.at
     (asked_apart desk.y command few small other) refl
 
-pub ad_leaves : LeavesAll ad_tree (IsUnused SetAd) ComesToCommand
-ad_leaves visit desk laid few clear comes =
-    other_leaves visit desk 5 ad_set_tree comes.command_byte (omega arith)
-    (λ e. clear (in_turn visit _ few (row_param visit desk, inl (does_row visit desk 5 comes e))))
+-- the turn doesn't do that command
+none_leaves : (command : ℕ) (body : Tree) → command < 256 →
+    LeavesAll (for_command command body) (NoRowCommand command) ComesToCommand
+none_leaves command body small visit desk laid few clear comes =
+    other_leaves visit desk command body comes.command_byte small
+    (λ e. clear (row_param visit desk) (does_row visit desk command comes e))
 
-pub sr_leaves : LeavesAll sr_tree (IsUnused SetSr) ComesToCommand
-sr_leaves visit desk laid few clear comes =
-    other_leaves visit desk 6 sr_set_tree comes.command_byte (omega arith)
-    (λ e. clear (in_turn visit _ few (row_param visit desk, inl (does_row visit desk 6 comes e))))
+pub ad_leaves : LeavesAll ad_tree (NoRowCommand 5) ComesToCommand
+ad_leaves = none_leaves 5 ad_set_tree (omega arith)
 
-pub wave_leaves : LeavesAll wave_tree (IsUnused SetWave) ComesToCommand
-wave_leaves visit desk laid few clear comes =
-    other_leaves visit desk 7 wave_set_tree comes.command_byte (omega arith)
-    (λ e. clear (in_turn visit _ few (row_param visit desk, inl (does_row visit desk 7 comes e))))
+pub sr_leaves : LeavesAll sr_tree (NoRowCommand 6) ComesToCommand
+sr_leaves = none_leaves 6 sr_set_tree (omega arith)
 
-pub wave_pointer_leaves : LeavesAll wave_pointer_tree (IsUnused SetWavePointer) ComesToCommand
-wave_pointer_leaves visit desk laid few clear comes =
-    other_leaves visit desk 8 wave_pointer_set_tree comes.command_byte (omega arith)
-    (λ e. clear (in_turn visit _ few (row_param visit desk, does_row visit desk 8 comes e)))
+pub wave_leaves : LeavesAll wave_tree (NoRowCommand 7) ComesToCommand
+wave_leaves = none_leaves 7 wave_set_tree (omega arith)
 
-pub pulse_pointer_leaves : LeavesAll pulse_pointer_tree (IsUnused SetPulsePointer) ComesToCommand
-pulse_pointer_leaves visit desk laid few clear comes =
-    other_leaves visit desk 9 pulse_pointer_set_tree comes.command_byte (omega arith)
-    (λ e. clear (in_turn visit _ few (row_param visit desk, inl (does_row visit desk 9 comes e))))
+pub wave_pointer_leaves : LeavesAll wave_pointer_tree (NoRowCommand 8) ComesToCommand
+wave_pointer_leaves = none_leaves 8 wave_pointer_set_tree (omega arith)
 
-pub filter_pointer_leaves : LeavesAll filter_pointer_tree (IsUnused SetFilterPointer) ComesToCommand
-filter_pointer_leaves visit desk laid few clear comes =
-    other_leaves visit desk 0xA filter_pointer_set_tree comes.command_byte (omega arith)
-    (λ e. clear (in_turn visit _ few (row_param visit desk, inl (does_row visit desk 0xA comes e))))
+pub pulse_pointer_leaves : LeavesAll pulse_pointer_tree (NoRowCommand 9) ComesToCommand
+pulse_pointer_leaves = none_leaves 9 pulse_pointer_set_tree (omega arith)
 
-pub filter_control_leaves : LeavesAll filter_control_tree (IsUnused FilterControl) ComesToCommand
-filter_control_leaves visit desk laid few clear comes =
-    other_leaves visit desk 0xB filter_control_set_tree comes.command_byte (omega arith)
-    (λ e. clear (in_turn visit _ few (row_param visit desk, inl (does_row visit desk 0xB comes e))))
+pub filter_pointer_leaves : LeavesAll filter_pointer_tree (NoRowCommand 0xA) ComesToCommand
+filter_pointer_leaves = none_leaves 0xA filter_pointer_set_tree (omega arith)
 
-pub cutoff_leaves : LeavesAll cutoff_tree (IsUnused Cutoff) ComesToCommand
-cutoff_leaves visit desk laid few clear comes =
-    other_leaves visit desk 0xC cutoff_set_tree comes.command_byte (omega arith)
-    (λ e. clear (in_turn visit _ few (row_param visit desk, inl (does_row visit desk 0xC comes e))))
+pub filter_control_leaves : LeavesAll filter_control_tree (NoRowCommand 0xB) ComesToCommand
+filter_control_leaves = none_leaves 0xB filter_control_set_tree (omega arith)
 
-pub volume_leaves : LeavesAll volume_tree (IsUnused Volume) ComesToCommand
-volume_leaves visit desk laid few clear comes =
-    other_leaves visit desk 0xD volume_set_tree comes.command_byte (omega arith)
-    (λ e. clear (in_turn visit _ few (row_param visit desk, inl (does_row visit desk 0xD comes e))))
+pub cutoff_leaves : LeavesAll cutoff_tree (NoRowCommand 0xC) ComesToCommand
+cutoff_leaves = none_leaves 0xC cutoff_set_tree (omega arith)
 
-pub funk_leaves : LeavesAll funk_tree (IsUnused FunkTempo) ComesToCommand
-funk_leaves visit desk laid few clear comes =
-    other_leaves visit desk 0xE funk_set_tree comes.command_byte (omega arith)
-    (λ e. clear (in_turn visit _ few (by_values (row_param visit desk) (does_row visit desk 0xE comes e))))
+pub volume_leaves : LeavesAll volume_tree (NoRowCommand 0xD) ComesToCommand
+volume_leaves = none_leaves 0xD volume_set_tree (omega arith)
+
+pub funk_leaves : LeavesAll funk_tree (NoRowCommand 0xE) ComesToCommand
+funk_leaves = none_leaves 0xE funk_set_tree (omega arith)
 
 -- command $F with 0 or 1 would choose a funk tempo
-pub funk_chosen_leaves : LeavesAll funk_chosen_tree (IsUnused FunkTempo) ComesToCommand
+pub funk_chosen_leaves : LeavesAll funk_chosen_tree NoFunkChoice ComesToCommand
 funk_chosen_leaves visit desk laid few clear comes =
     elim (eqb_tells desk.y 0xF) [
       | inl same ↦ long same.0 same.1 (cases_lt (row_param visit desk) 2)
@@ -135,15 +149,14 @@ funk_chosen_leaves visit desk laid few clear comes =
         (meaning visit.layout funk_chosen_tree visit.voice desk).at ≡ desk.at
     long test e (inl short) =
         let l = short in
-        absurd (clear (in_turn visit _ few
-        (by_tempo (row_param visit desk) (does_row visit desk 0xF comes e) (omega (arith, l)))))
+        absurd (clear (row_param visit desk) (omega (arith, l)) (does_row visit desk 0xF comes e))
     long test e (inr least) =
         let asked = asked_same desk.y 0xF comes.command_byte (omega arith) test in
         let low : nat_le 2 (row_param visit desk) ≡ true = le-leb 2 (row_param visit desk) least in
         rw (asked, low) refl
 
 -- with 3 or more in the last seven bits command $F would set a length
-pub tempo_leaves : LeavesAll tempo_tree (IsUnused SetTempo) ComesToCommand
+pub tempo_leaves : LeavesAll tempo_tree NoLengthSet ComesToCommand
 tempo_leaves visit desk laid few clear comes =
     elim (eqb_tells desk.y 0xF) [
       | inl same ↦ short same.0 same.1 (cases_lt (row_param visit desk % 128) 3) (cases_lt (row_param visit desk) 128)
@@ -155,7 +168,7 @@ tempo_leaves visit desk laid few clear comes =
         (row_param visit desk < 128) ⊎ (128 ≤ row_param visit desk) →
         (meaning visit.layout tempo_tree visit.voice desk).at ≡ desk.at
     short test e (inr long) way =
-        absurd (clear (in_turn visit _ few (row_param visit desk, does_row visit desk 0xF comes e, long)))
+        absurd (clear (row_param visit desk) long (does_row visit desk 0xF comes e))
     short test e (inl length) (inl small) =
         let l = length in
         let s = small in
@@ -174,13 +187,13 @@ tempo_leaves visit desk laid few clear comes =
         rw (asked, minus, masked, low) refl
 
 -- a tempo of 0 or 1 would take a funk tempo's length
-pub funk_turn_leaves : LeavesAll funk_turn_tree (IsUnused FunkTempo) ComesToTempo
+pub funk_turn_leaves : LeavesAll funk_turn_tree NoFunkLength ComesToTempo
 funk_turn_leaves visit desk laid few clear comes = by_length_of (cases_lt desk.accumulator 2)
   where
     by_length_of : (desk.accumulator < 2) ⊎ (2 ≤ desk.accumulator) →
         (meaning visit.layout funk_turn_tree visit.voice desk).at ≡ desk.at
     by_length_of (inl short) =
-        absurd (clear (in_turn visit _ few (by_length desk.accumulator comes short)))
+        absurd (clear desk.accumulator short comes)
     by_length_of (inr least) =
         let low : nat_le 2 desk.accumulator ≡ true = le-leb 2 desk.accumulator least in
         rw low refl

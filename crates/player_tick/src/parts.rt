@@ -3,9 +3,10 @@
 ghost use Rattle.blocks.specs.Trees.{Tree};
 ghost use Rattle.player_tick.specs.RowCommands.{ad_tree, sr_tree, wave_tree, wave_pointer_tree, pulse_pointer_tree, filter_pointer_tree};
 ghost use Rattle.player_tick.specs.RowCommands.{filter_control_tree, cutoff_tree, volume_tree};
-ghost use Rattle.player_parts.specs.Parts.{IsUnused};
-ghost use Rattle.player_tick.specs.Parts.{ComesToCommand};
-ghost use Rattle.player_tick.specs.PartLaws.{unused_is_clear, ad_leaves, sr_leaves, wave_leaves, wave_pointer_leaves};
+ghost use Rattle.player_tick.specs.Parts.{NoRowCommand, ComesToCommand};
+ghost use Rattle.player_tick.specs.PartLaws.{ad_covers, sr_covers, wave_covers, wave_pointer_covers, pulse_pointer_covers};
+ghost use Rattle.player_tick.specs.PartLaws.{filter_pointer_covers, filter_control_covers, cutoff_covers, volume_covers};
+ghost use Rattle.player_tick.specs.PartLaws.{ad_leaves, sr_leaves, wave_leaves, wave_pointer_leaves};
 ghost use Rattle.player_tick.specs.PartLaws.{pulse_pointer_leaves, filter_pointer_leaves, filter_control_leaves, cutoff_leaves};
 ghost use Rattle.player_tick.specs.PartLaws.{volume_leaves};
 ghost use Rattle.song_model.specs.declared.features.Feature.{Feature};
@@ -34,11 +35,11 @@ impl Part for AdSet {
 
     ghost tree = { ad_tree };
 
-    ghost is_clear = { IsUnused SetAd };
+    ghost is_clear = { NoRowCommand 5 };
 
     ghost comes = { ComesToCommand };
 
-    ghost covers = { unused_is_clear SetAd };
+    ghost covers = { ad_covers };
 
     ghost leaves = { ad_leaves };
 
@@ -64,11 +65,11 @@ impl Part for SrSet {
 
     ghost tree = { sr_tree };
 
-    ghost is_clear = { IsUnused SetSr };
+    ghost is_clear = { NoRowCommand 6 };
 
     ghost comes = { ComesToCommand };
 
-    ghost covers = { unused_is_clear SetSr };
+    ghost covers = { sr_covers };
 
     ghost leaves = { sr_leaves };
 
@@ -94,11 +95,11 @@ impl Part for WaveSet {
 
     ghost tree = { wave_tree };
 
-    ghost is_clear = { IsUnused SetWave };
+    ghost is_clear = { NoRowCommand 7 };
 
     ghost comes = { ComesToCommand };
 
-    ghost covers = { unused_is_clear SetWave };
+    ghost covers = { wave_covers };
 
     ghost leaves = { wave_leaves };
 
@@ -124,11 +125,11 @@ impl Part for WavePointerSet {
 
     ghost tree = { wave_pointer_tree };
 
-    ghost is_clear = { IsUnused SetWavePointer };
+    ghost is_clear = { NoRowCommand 8 };
 
     ghost comes = { ComesToCommand };
 
-    ghost covers = { unused_is_clear SetWavePointer };
+    ghost covers = { wave_pointer_covers };
 
     ghost leaves = { wave_pointer_leaves };
 
@@ -154,11 +155,11 @@ impl Part for PulsePointerSet {
 
     ghost tree = { pulse_pointer_tree };
 
-    ghost is_clear = { IsUnused SetPulsePointer };
+    ghost is_clear = { NoRowCommand 9 };
 
     ghost comes = { ComesToCommand };
 
-    ghost covers = { unused_is_clear SetPulsePointer };
+    ghost covers = { pulse_pointer_covers };
 
     ghost leaves = { pulse_pointer_leaves };
 
@@ -184,11 +185,11 @@ impl Part for FilterPointerSet {
 
     ghost tree = { filter_pointer_tree };
 
-    ghost is_clear = { IsUnused SetFilterPointer };
+    ghost is_clear = { NoRowCommand 0xA };
 
     ghost comes = { ComesToCommand };
 
-    ghost covers = { unused_is_clear SetFilterPointer };
+    ghost covers = { filter_pointer_covers };
 
     ghost leaves = { filter_pointer_leaves };
 
@@ -214,11 +215,11 @@ impl Part for FilterControlSet {
 
     ghost tree = { filter_control_tree };
 
-    ghost is_clear = { IsUnused FilterControl };
+    ghost is_clear = { NoRowCommand 0xB };
 
     ghost comes = { ComesToCommand };
 
-    ghost covers = { unused_is_clear FilterControl };
+    ghost covers = { filter_control_covers };
 
     ghost leaves = { filter_control_leaves };
 
@@ -244,11 +245,11 @@ impl Part for CutoffSet {
 
     ghost tree = { cutoff_tree };
 
-    ghost is_clear = { IsUnused Cutoff };
+    ghost is_clear = { NoRowCommand 0xC };
 
     ghost comes = { ComesToCommand };
 
-    ghost covers = { unused_is_clear Cutoff };
+    ghost covers = { cutoff_covers };
 
     ghost leaves = { cutoff_leaves };
 
@@ -274,11 +275,11 @@ impl Part for VolumeSet {
 
     ghost tree = { volume_tree };
 
-    ghost is_clear = { IsUnused Volume };
+    ghost is_clear = { NoRowCommand 0xD };
 
     ghost comes = { ComesToCommand };
 
-    ghost covers = { unused_is_clear Volume };
+    ghost covers = { volume_covers };
 
     ghost leaves = { volume_leaves };
 

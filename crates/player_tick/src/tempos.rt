@@ -3,9 +3,9 @@
 ghost use Rattle.blocks.specs.Trees.{Tree};
 ghost use Rattle.player_tick.specs.RowCommands.{funk_chosen_tree, tempo_tree, funk_tree};
 ghost use Rattle.player_tick.specs.TickBlock.{funk_turn_tree};
-ghost use Rattle.player_parts.specs.Parts.{IsUnused};
-ghost use Rattle.player_tick.specs.Parts.{ComesToCommand, ComesToTempo};
-ghost use Rattle.player_tick.specs.PartLaws.{unused_is_clear, funk_chosen_leaves, tempo_leaves, funk_leaves, funk_turn_leaves};
+ghost use Rattle.player_tick.specs.Parts.{NoRowCommand, NoFunkChoice, NoLengthSet, NoFunkLength, ComesToCommand, ComesToTempo};
+ghost use Rattle.player_tick.specs.PartLaws.{funk_chosen_covers, tempo_covers, funk_covers, funk_turn_covers};
+ghost use Rattle.player_tick.specs.PartLaws.{funk_chosen_leaves, tempo_leaves, funk_leaves, funk_turn_leaves};
 ghost use Rattle.song_model.specs.declared.features.Feature.{Feature};
 ghost use Rattle.song_model.specs.declared.features.Feature.TheVariants.{FunkTempo, SetTempo};
 
@@ -30,11 +30,11 @@ impl Part for FunkTempoChosen {
 
     ghost tree = { funk_chosen_tree };
 
-    ghost is_clear = { IsUnused FunkTempo };
+    ghost is_clear = { NoFunkChoice };
 
     ghost comes = { ComesToCommand };
 
-    ghost covers = { unused_is_clear FunkTempo };
+    ghost covers = { funk_chosen_covers };
 
     ghost leaves = { funk_chosen_leaves };
 
@@ -60,11 +60,11 @@ impl Part for TempoSet {
 
     ghost tree = { tempo_tree };
 
-    ghost is_clear = { IsUnused SetTempo };
+    ghost is_clear = { NoLengthSet };
 
     ghost comes = { ComesToCommand };
 
-    ghost covers = { unused_is_clear SetTempo };
+    ghost covers = { tempo_covers };
 
     ghost leaves = { tempo_leaves };
 
@@ -90,11 +90,11 @@ impl Part for FunkTempoSet {
 
     ghost tree = { funk_tree };
 
-    ghost is_clear = { IsUnused FunkTempo };
+    ghost is_clear = { NoRowCommand 0xE };
 
     ghost comes = { ComesToCommand };
 
-    ghost covers = { unused_is_clear FunkTempo };
+    ghost covers = { funk_covers };
 
     ghost leaves = { funk_leaves };
 
@@ -120,11 +120,11 @@ impl Part for FunkTempoTurned {
 
     ghost tree = { funk_turn_tree };
 
-    ghost is_clear = { IsUnused FunkTempo };
+    ghost is_clear = { NoFunkLength };
 
     ghost comes = { ComesToTempo };
 
-    ghost covers = { unused_is_clear FunkTempo };
+    ghost covers = { funk_turn_covers };
 
     ghost leaves = { funk_turn_leaves };
 
