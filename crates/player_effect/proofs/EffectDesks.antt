@@ -1,8 +1,6 @@
 -- The desk of a voice whose effect step is done, from one step of its code to the next.
 use Rattle.std.proofs.Common.{◌≡◌, ℕ, zero, suc, ◌+◌, ◌*◌, ◌<◌, ◌||◌, Bool, true, false, nat_eq}
-use Rattle.std.proofs.Common.{refl, sym, ap, ◌∙◌, arith}
-use Rattle.std.proofs.lemmas.Bool.{eqb-true}
-use Rattle.code_runs.specs.Runs.{put}
+use Rattle.std.proofs.Common.{refl, ◌∙◌, arith}
 use Rattle.play_model.specs.State.{Voice}
 use Rattle.play_model.specs.Ranges.{IsVoice}
 use Rattle.player_parts.specs.declared.labels.TheConstants.{COMMAND, PARAM, VIB_TIME, VIB_DELAY, FREQ_LOW, FREQ_HIGH, LAST_NOTE}
@@ -15,7 +13,7 @@ use Rattle.player_parts.specs.declared.labels.TheConstants.{ENTRY, OFFSET, PATTE
 use Rattle.player_parts.specs.declared.labels.TheConstants.{ORDER_PLACE, TRANSPOSE, REPEAT}
 use Rattle.player_parts.specs.declared.labels.TheConstants.{WORK_COMMAND, COUNTER, SPEED_LOW, SPEED_HIGH, WORK_LOW, WORK_HIGH}
 use Rattle.player_parts.specs.Holds.{AreHalves}
-use Rattle.player_parts.proofs.Laws.{Same, still}
+use Rattle.player_parts.proofs.Laws.{Same}
 use Rattle.player_parts.proofs.Laws.{VoiceDesk, Rest, voice_in, playing_in, handed_in, HasLowBytes, Done, done_in}
 
 -- ---- bytes that stay

@@ -19,3 +19,5 @@ mod Rules
 -- The whole.
 mod Effects
 mod Backs
+-- That a frame comes to the parts.
+mod Coming

@@ -1,14 +1,40 @@
--- The parts of the effect step: where a frame comes to each of them. This is the project's own player.
+-- The parts of the effect step: when a voice keeps clear of each of them, and where a frame comes to it. This is the
+-- project's own player.
 use Rattle.std.specs.Prelude.{◌≡◌, ◌≢◌, ℕ, ◌+◌, ◌%◌, ◌<◌}
 use Rattle.cpu6502.specs.declared.memory.TheConstants.{MEMORY_SIZE}
 use Rattle.song_model.specs.declared.tables.TableRow.{TableRow}
 use Rattle.song_model.specs.declared.tables.TableName.TheVariants.{Speed}
 use Rattle.play_model.specs.State.{Voice}
-use Rattle.play_model.specs.Uses.{DoesEffect, MeetsWaveCommand, Slides, AsksSpeed}
+use Rattle.play_model.specs.Uses.{DoesEffect, MeetsVibrato, MeetsWaveCommand, Slides, AsksSpeed}
 use Rattle.blocks.specs.Desk.{Desk}
 use Rattle.player_parts.specs.declared.labels.TheConstants.{PARAM, VIB_DELAY, WORK_COMMAND, LENT, SPEED_LEFTS}
 use Rattle.player_parts.specs.Holds.{own_bytes, shared_bytes}
 use Rattle.player_parts.specs.Parts.{Visit, visit_turn}
+
+-- ---- keeping clear
+
+-- the voice doesn't meet the instrument's vibrato
+abbrev pub MeetsNoVibrato : Visit → Type 0
+MeetsNoVibrato visit = (param delay : ℕ) → ¬ MeetsVibrato (visit_turn visit) param delay
+
+-- each speed that the voice asks for stands in its row and isn't calculated
+abbrev pub AsksNoCalculated : Visit → Type 0
+AsksNoCalculated visit =
+    (param : ℕ) → AsksSpeed (visit_turn visit) param → ((visit_turn visit).look.row Speed param).left < 0x80
+
+-- the voice has no tie: no tone portamento with parameter 0
+abbrev pub HasNoTie : Visit → Type 0
+HasNoTie visit = ¬ Slides (visit_turn visit) 3 0
+
+-- each tone portamento of the voice is a tie
+abbrev pub HasTiesAlone : Visit → Type 0
+HasTiesAlone visit = (param : ℕ) → Slides (visit_turn visit) 3 param → param ≡ 0
+
+-- the voice meets no command in the wave table
+abbrev pub MeetsNoWaveCommand : Visit → Type 0
+MeetsNoWaveCommand visit = (row : TableRow) → ¬ MeetsWaveCommand (visit_turn visit) row
+
+-- ---- coming to a part
 
 -- the command that works, and the voice's parameter
 abbrev pub work_command : Visit → Desk → ℕ

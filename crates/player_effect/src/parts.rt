@@ -4,9 +4,9 @@ ghost use Rattle.blocks.specs.Trees.{Tree};
 ghost use Rattle.player_effect.specs.EffectBlock.{instrument_tree, note_dependent_tree, tie_tree, tone_tree};
 ghost use Rattle.player_effect.specs.EffectBlock.{give_back_tree};
 ghost use Rattle.player_effect.specs.Parts.{ComesToVibrato, ComesToSpeed, ComesToTie, ComesToTone, ComesToBack};
-ghost use Rattle.player_effect.specs.PartLaws.{covers_unused, vibrato_leaves, speed_leaves, tie_leaves, tone_leaves};
-ghost use Rattle.player_effect.specs.PartLaws.{back_leaves};
-ghost use Rattle.player_parts.specs.Parts.{IsUnused};
+ghost use Rattle.player_effect.specs.Parts.{MeetsNoVibrato, AsksNoCalculated, HasNoTie, HasTiesAlone, MeetsNoWaveCommand};
+ghost use Rattle.player_effect.specs.PartLaws.{covers_vibrato, covers_speed, covers_tie, covers_tone, covers_back};
+ghost use Rattle.player_effect.specs.PartLaws.{vibrato_leaves, speed_leaves, tie_leaves, tone_leaves, back_leaves};
 ghost use Rattle.song_model.specs.declared.features.Feature.{Feature};
 ghost use Rattle.song_model.specs.declared.features.Feature.TheVariants.{InstrumentVibrato, NoteDependent};
 ghost use Rattle.song_model.specs.declared.features.Feature.TheVariants.{TieNote, TonePorta, WaveCommand};
@@ -34,11 +34,11 @@ impl Part for InstrumentVibratoBegun {
 
     ghost tree = { instrument_tree };
 
-    ghost is_clear = { IsUnused InstrumentVibrato };
+    ghost is_clear = { MeetsNoVibrato };
 
     ghost comes = { ComesToVibrato };
 
-    ghost covers = { covers_unused InstrumentVibrato };
+    ghost covers = { covers_vibrato };
 
     ghost leaves = { vibrato_leaves };
 
@@ -64,11 +64,11 @@ impl Part for NoteDependentSpeed {
 
     ghost tree = { note_dependent_tree };
 
-    ghost is_clear = { IsUnused NoteDependent };
+    ghost is_clear = { AsksNoCalculated };
 
     ghost comes = { ComesToSpeed };
 
-    ghost covers = { covers_unused NoteDependent };
+    ghost covers = { covers_speed };
 
     ghost leaves = { speed_leaves };
 
@@ -94,11 +94,11 @@ impl Part for TieArrived {
 
     ghost tree = { tie_tree };
 
-    ghost is_clear = { IsUnused TieNote };
+    ghost is_clear = { HasNoTie };
 
     ghost comes = { ComesToTie };
 
-    ghost covers = { covers_unused TieNote };
+    ghost covers = { covers_tie };
 
     ghost leaves = { tie_leaves };
 
@@ -124,11 +124,11 @@ impl Part for TonePortaTurned {
 
     ghost tree = { tone_tree };
 
-    ghost is_clear = { IsUnused TonePorta };
+    ghost is_clear = { HasTiesAlone };
 
     ghost comes = { ComesToTone };
 
-    ghost covers = { covers_unused TonePorta };
+    ghost covers = { covers_tone };
 
     ghost leaves = { tone_leaves };
 
@@ -154,11 +154,11 @@ impl Part for GivenBack {
 
     ghost tree = { give_back_tree };
 
-    ghost is_clear = { IsUnused WaveCommand };
+    ghost is_clear = { MeetsNoWaveCommand };
 
     ghost comes = { ComesToBack };
 
-    ghost covers = { covers_unused WaveCommand };
+    ghost covers = { covers_back };
 
     ghost leaves = { back_leaves };
 
