@@ -6,3 +6,5 @@ pub mod FilterRows
 pub mod FilterLeads
 -- In a memory that holds a state.
 pub mod FilterHeld
+-- Where a frame comes to the part.
+mod Coming

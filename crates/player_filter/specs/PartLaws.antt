@@ -10,13 +10,13 @@ use Rattle.player_filter.specs.FilterBlock.{step_tree}
 use Rattle.player_filter.specs.Parts.{HasNoFilter, HoldsFilter}
 
 pub filters_unused : CoversUnused FilterTable HasNoFilter
-filters_unused visit few unused = unused
+filters_unused visit few unused =
+    elim (cases_eq visit.state.common.filter_ptr 0) [
+      | inl none ↦ none
+      | inr some ↦ absurd (unused some)
+    ]
 
 pub filters_leave : LeavesAll step_tree HasNoFilter HoldsFilter
 filters_leave visit desk laid few clear comes =
-    elim (cases_eq visit.state.common.filter_ptr 0) [
-      | inl none ↦
-          let test : nat_eq (shared_bytes visit.layout desk.at FILTER_POINTER) 0 ≡ true = eq-eqb _ _ (comes ∙ none) in
-          rw test refl
-      | inr some ↦ absurd (clear some)
-    ]
+    let test : nat_eq (shared_bytes visit.layout desk.at FILTER_POINTER) 0 ≡ true = eq-eqb _ _ (comes ∙ clear) in
+    rw test refl

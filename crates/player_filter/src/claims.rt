@@ -1,5 +1,6 @@
 //! Facts about the block, each the contract of a function that does nothing.
 
+ghost use Rattle.player_filter.specs.Coming.{FramesComeToFilters};
 ghost use Rattle.player_filter.specs.FilterLaws.{FilterBlockFilters};
 ghost use Rattle.player_filter.specs.SoundBlocks.{FilterIsSound};
 
@@ -13,4 +14,9 @@ pub fn block_is_sound()
 /// no variable and no byte of the pointer is as before, and what is read by Y are bytes of the lists and variables.
 pub fn filter_block_filters()
     ensures { FilterBlockFilters }
+{}
+
+/// In a memory that holds a state whose filter pointer is that with which the frame began, the frame comes to the part.
+pub fn frames_come_to_filters()
+    ensures { FramesComeToFilters }
 {}

@@ -11,3 +11,5 @@ mod Slides
 mod Programs
 -- The whole code.
 mod Pulses
+-- Where a frame comes to the part.
+mod Coming

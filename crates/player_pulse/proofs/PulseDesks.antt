@@ -1,16 +1,11 @@
 -- What the code of the pulse step stands on.
-use Rattle.std.proofs.Common.{◌≡◌, ◌≢◌, ℕ, ◌+◌, ◌-◌, ◌*◌, ◌&&◌, true, false, nat_eq, refl, sym, ap, ◌∙◌, subst}
-use Rattle.code_runs.proofs.Laws.{put_other}
-use Rattle.code_runs.specs.Runs.{put}
+use Rattle.std.proofs.Common.{◌≡◌, ◌≢◌, ℕ, ◌-◌, ◌&&◌, true, false, nat_eq}
 use Rattle.song_model.specs.declared.tables.TableName.TheVariants.{Pulse}
 use Rattle.play_model.specs.declared.options.Options.{Options}
 use Rattle.play_model.specs.LookUps.{LookUps}
-use Rattle.play_model.specs.State.{Voice, Playing}
-use Rattle.play_model.specs.TickStep.{tempo_of}
+use Rattle.play_model.specs.State.{Voice}
 use Rattle.blocks.specs.Desk.{Layout}
-use Rattle.player_parts.specs.declared.labels.TheConstants.{TEMPO}
-use Rattle.player_parts.specs.Holds.{HandedOn, FieldsStand, HandedStands}
-use Rattle.player_parts.proofs.Laws.{VoiceDesk, Reader, Done, SameFetch, RowsAt, NextAt}
+use Rattle.player_parts.proofs.Laws.{Reader, RowsAt, NextAt}
 
 -- Where there is a pulse program at row p its row is found, with the row behind it where the program goes on. A row
 -- whose time runs has one. Where the row stops the program, it is also found as the row behind the one before it.

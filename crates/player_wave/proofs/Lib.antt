@@ -12,3 +12,5 @@ mod Once
 mod Commands
 -- The whole code.
 mod Waves
+-- Where a frame comes to the part.
+mod Coming

@@ -1,18 +1,14 @@
 -- What the code of the wave step stands on, and what it leaves on the desk of a voice.
-use Rattle.std.proofs.Common.{◌≡◌, ◌≢◌, ℕ, ◌+◌, ◌*◌, ◌≤◌, true, false, sym, ap, ◌∙◌, subst}
-use Rattle.code_runs.proofs.Laws.{put_other}
-use Rattle.code_runs.specs.Runs.{put}
+use Rattle.std.proofs.Common.{◌≡◌, ◌≢◌, ℕ, ◌+◌, ◌≤◌, true, false, sym, subst}
 use Rattle.song_model.specs.declared.tables.TableName.TheVariants.{Wave}
 use Rattle.play_model.specs.LookUps.{LookUps}
 use Rattle.play_model.specs.State.{Voice, Playing}
 use Rattle.play_model.specs.Reached.{is_jump}
 use Rattle.play_model.specs.WaveStep.{Waved, wave_step, is_wave_command, program_moved}
 use Rattle.play_model.specs.EffectStep.{effect_step}
-use Rattle.play_model.specs.TickStep.{tempo_of}
 use Rattle.blocks.specs.Desk.{Layout}
-use Rattle.player_parts.specs.declared.labels.TheConstants.{TEMPO}
-use Rattle.player_parts.specs.Holds.{HandedOn, FieldsStand, CommonStands, HandedStands}
-use Rattle.player_parts.proofs.Laws.{VoiceDesk, Reader, Done, SameFetch, RowsAt, NotesAt, handed_in}
+use Rattle.player_parts.specs.Holds.{HandedOn}
+use Rattle.player_parts.proofs.Laws.{VoiceDesk, Reader, Done, RowsAt, NotesAt, handed_in}
 
 -- ---- what it stands on
 

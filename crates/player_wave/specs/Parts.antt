@@ -2,14 +2,14 @@
 -- project's own player.
 use Rattle.std.specs.Prelude.{◌≡◌, ◌≤◌}
 use Rattle.song_model.specs.declared.tables.TableName.TheVariants.{Wave}
-use Rattle.song_model.specs.declared.features.Feature.TheVariants.{WaveCommand}
-use Rattle.play_model.specs.Uses.{HasWaveProgram}
+use Rattle.song_model.specs.declared.tables.TableRow.{TableRow}
+use Rattle.play_model.specs.Uses.{HasWaveProgram, MeetsWaveCommand}
 use Rattle.blocks.specs.Desk.{Desk}
-use Rattle.player_parts.specs.Parts.{Visit, visit_turn, IsUnused}
+use Rattle.player_parts.specs.Parts.{Visit, visit_turn}
 
--- the frame meets no command in a wave program
+-- the voice meets no command of a wave program in its turn
 abbrev pub MeetsNoCommand : Visit → Type 0
-MeetsNoCommand visit = IsUnused WaveCommand visit
+MeetsNoCommand visit = (row : TableRow) → ¬ MeetsWaveCommand (visit_turn visit) row
 
 -- the wave program is at row Y, and A is its left side, which is neither a waveform nor a delay, nor a jump
 pub record IsAtCommand (visit : Visit) (desk : Desk) : Type 0 where
