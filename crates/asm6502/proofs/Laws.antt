@@ -7,7 +7,7 @@ pub use Rattle.asm6502.proofs.Reaches.{branches_reach, far_is_out_of_reach, bran
 pub use Rattle.asm6502.proofs.Naming.{kept-append, kept_more, kept_same, size_of-append, place_of-append}
 pub use Rattle.asm6502.proofs.Parts.{part_size-append, parts_add_up, parts_stand_together}
 -- lines that stand
-pub use Rattle.asm6502.proofs.Standing.{fronts_stand, backs_stand, both_stand, lines_stay}
+pub use Rattle.asm6502.proofs.Standing.{fronts_stand, backs_stand, both_stand, lines_stay, bytes_append}
 pub use Rattle.asm6502.proofs.Whole.{assembled_lines_stand}
 pub use Rattle.asm6502.proofs.Stretches.{stretches_stand}
 -- what passes in any listing, and where its labels are

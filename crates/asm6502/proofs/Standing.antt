@@ -1,8 +1,8 @@
 -- Lines that stand in memory: from their bytes, and the tools of those who stand on them.
-use Rattle.std.proofs.Common.{◌≡◌, ℕ, ◌+◌, ◌*◌, ◌/◌, ◌%◌, ◌<◌, ◌≤◌, Bool, true, false, ◌&&◌, not, List, [], ◌∷◌, ◌++◌, length, Option, Some, None, unwrap_or, nat_eq, nat_lt, if◌then◌else◌, refl, ap, sym, ◌∙◌, subst, arith, append_assoc, length-append}
+use Rattle.std.proofs.Common.{◌≡◌, ℕ, ◌+◌, ◌-◌, ◌*◌, ◌/◌, ◌%◌, ◌<◌, ◌≤◌, Bool, true, false, ◌&&◌, not, List, [], ◌∷◌, ◌++◌, length, Option, Some, None, unwrap_or, nat_eq, nat_lt, if◌then◌else◌, refl, ap, sym, ◌∙◌, subst, arith, inl, inr, append_assoc, length-append}
 use Rattle.std.specs.Option.{option_or, option_map, is_some}
-use Rattle.std.proofs.lemmas.Bool.{and_parts, eqb-true, eq-eqb}
-use Rattle.std.proofs.lemmas.List.{get_or_append_left, get_or-append-add}
+use Rattle.std.proofs.lemmas.Bool.{and_parts, eqb-true, eq-eqb, cases_lt}
+use Rattle.std.proofs.lemmas.List.{get_or_append_left, get_or-append-add, get_or-append_right}
 use Rattle.cpu6502.specs.declared.memory.TheConstants.{MEMORY_SIZE}
 use Rattle.cpu6502.specs.declared.mnemonic.Mnemonic.{Mnemonic}
 use Rattle.cpu6502.specs.declared.mnemonic.Mode.{Mode}
@@ -320,3 +320,24 @@ lines_stay address at at' pc (x ∷ lines) k same s = (
   lines_stay address at at' (pc + item_size x.item) lines (omega arith)
       (λ place l h. same place (omega arith) (omega arith)) s.1,
 )
+
+-- bytes stand one behind the other
+pub bytes_append : (at : ℕ → ℕ) (place : ℕ) (front back : List ℕ) → BytesStand at place front →
+    BytesStand at (place + length front) back → BytesStand at place (front ++ back)
+bytes_append at place front back one two = record {
+  byte = λ k h.
+      elim (cases_lt k (length front)) [
+        | inl low ↦ let l = low in one.byte k l ∙ sym (get_or_append_left front back 0 k l)
+        | inr high ↦
+            let l = high in
+            ap at (behind place k (length front) l)
+            ∙ two.byte (k - length front) (below k (length front) (length back) _ (length-append front back) h l)
+            ∙ sym (get_or-append_right front back (length front) k 0 refl l)
+      ];
+}
+  where
+    behind : (place k n : ℕ) → n ≤ k → place + k ≡ place + n + (k - n)
+    behind place k n h = omega (arith, h)
+
+    below : (k n m all : ℕ) → all ≡ n + m → k < all → n ≤ k → k - n < m
+    below k n m all e h l = omega (arith, e, h, l)

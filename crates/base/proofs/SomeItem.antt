@@ -1,8 +1,8 @@
 -- What holds of some item of a list, one item more at a time, and what a filter keeps.
-use Rattle.std.proofs.Common.{◌≡◌, ℕ, zero, suc, ◌+◌, ◌<◌, ◌⊎◌, Bool, true, List, [], ◌∷◌, ◌++◌, length, get_or, take, refl, sym, ◌∙◌, inl, inr, arith, length-append, subst}
+use Rattle.std.proofs.Common.{◌≡◌, ℕ, zero, suc, ◌+◌, ◌<◌, ◌⊎◌, Bool, true, List, [], ◌∷◌, ◌++◌, length, map, get_or, take, refl, sym, ap, ◌∙◌, inl, inr, arith, length-append, subst}
 use Rattle.std.specs.List.{Any, Contains, filter}
 use Rattle.std.proofs.lemmas.Bool.{cases_lt, cases_Bool}
-use Rattle.std.proofs.lemmas.List.{take_more, get_or_append_left}
+use Rattle.std.proofs.lemmas.List.{take_more, get_or_append_left, length-map, get_or-map}
 use Rattle.std.proofs.lemmas.List.Elements.{All-contains, All-contains_itself, All-filter, filter_passes}
 use Rattle.std.proofs.Math.Seq.{get_or-append_seam}
 
@@ -69,4 +69,12 @@ pub filter_of : {X : Type 0} (p : X → Bool) (xs : List X) (x : X) → Contains
 filter_of p xs x c = (
   All-contains (Contains xs) (filter p xs) x (All-filter p (Contains xs) xs (All-contains_itself xs)) c,
   All-contains (λ y. p y ≡ true) (filter p xs) x (filter_passes p xs) c,
+)
+
+-- an item of a list, as what a function makes of it
+pub contains_map : {X Y : Type 0} (f : X → Y) (xs : List X) (x : X) → Contains xs x → Contains (map f xs) (f x)
+contains_map f xs x (k, inside, is) = (
+  k,
+  subst (λ (n : ℕ). k < n) (sym (length-map xs f)) inside,
+  get_or-map f xs k x (f x) inside ∙ ap f is,
 )

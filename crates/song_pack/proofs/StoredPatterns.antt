@@ -10,7 +10,7 @@ use Rattle.std.proofs.lemmas.List.FromFn.{get_or-range_with_len, length-range_wi
 use Rattle.std.proofs.lemmas.List.Elements.{All-head, All-tail, All-contains, All-contains_itself, All-map, All-weaker, Contains-get_or}
 use Rattle.std.proofs.lemmas.List.Sums.{passes_at_first}
 use Rattle.std.proofs.lemmas.List.Filters.{length-filter_both}
-use Rattle.base.proofs.Laws.{filter_keeps, filter_of}
+use Rattle.base.proofs.Laws.{filter_keeps, filter_of, contains_map}
 use Rattle.song_model.specs.declared.rows.Row.{Row}
 use Rattle.song_model.specs.declared.patterns.TheConstants.{MOST_PATTERNS}
 use Rattle.song_model.specs.declared.tables.TheConstants.{MOST_TABLE_ROWS}
@@ -56,13 +56,6 @@ pub filter_few : {X : Type 0} (p : X → Bool) (xs : List X) → length (filter 
 filter_few p xs =
     let both = length-filter_both p (λ x. not (p x)) (λ x. refl) xs in
     omega arith
-
-contains_map : {X Y : Type 0} (f : X → Y) (xs : List X) (x : X) → Contains xs x → Contains (map f xs) (f x)
-contains_map f xs x (k, inside, is) = (
-  k,
-  subst (λ (n : ℕ). k < n) (sym (length-map xs f)) inside,
-  get_or-map f xs k x (f x) inside ∙ ap f is,
-)
 
 in_range : (n i : ℕ) → i < n → Contains (range_with_len 0 n) i
 in_range n i low = (
