@@ -12,7 +12,7 @@ pub use Rattle.player_parts.proofs.Leading.{Shows, Ground, Led, Where, led}
 -- lists where the code of a voice reads them
 pub use Rattle.player_parts.proofs.Reading.{StandsAt, reader, list_stands, ground_of, halves_add, Reads, by_pointer, by_entry}
 -- what stands in bytes that are the same, and the whole memory behind the code of a voice
-pub use Rattle.player_parts.proofs.Moving.{SameOwn, SameShared, SameFetch, fetching_moved, fields_moved, voice_moved}
+pub use Rattle.player_parts.proofs.Moving.{SameOwn, SameShared, SameFetch, fetch_same, fetching_moved, fields_moved, voice_moved}
 pub use Rattle.player_parts.proofs.Moving.{common_moved, handed_moved}
 pub use Rattle.player_parts.proofs.Moving.{seen, desk_seen, list_elsewhere, lists_stay, VoiceDone, holds_after, leaves_after}
 pub use Rattle.player_parts.proofs.Moving.{elsewhere_after, AtRegister, Register, NoRegister, at_register}

@@ -54,7 +54,7 @@ pub record SameFetch (one two : ℕ → ℕ) : Type 0 where
   pub new_command : one NEW_COMMAND ≡ two NEW_COMMAND
   pub new_param : one NEW_PARAM ≡ two NEW_PARAM
 
-fetch_same : (one two : ℕ → ℕ) → SameOwn one two → SameFetch one two
+pub fetch_same : (one two : ℕ → ℕ) → SameOwn one two → SameFetch one two
 fetch_same one two same = record {
   entry = same.each ENTRY refl;
   offset = same.each OFFSET refl;
