@@ -35,23 +35,23 @@ times_append : (label : ℕ) (front back : List Line) →
 times_append label [] back = omega arith
 times_append label (line ∷ front) back = omega (arith, times_append label front back)
 
-named_then : (label n m : ℕ) (front back : List Line) → Named label n front → Named label m back →
+pub named_then : (label n m : ℕ) (front back : List Line) → Named label n front → Named label m back →
     Named label (n + m) (front ++ back)
 named_then label n m front back one two = record {
   times = times_append label front back ∙ (let a = one.times in let b = two.times in omega (arith, a, b));
 }
 
 -- a line that names none, and more
-none_line : (label n : ℕ) (line : Line) (rest : List Line) → names label line.item ≡ false → Named label n rest →
+pub none_line : (label n : ℕ) (line : Line) (rest : List Line) → names label line.item ≡ false → Named label n rest →
     Named label n (line ∷ rest)
 none_line label n line rest e more = record {
   times = ap (λ z. (if z then 1 else 0) + times_named label rest) e ∙ (let a = more.times in omega (arith, a));
 }
 
-none_named : (label : ℕ) → Named label 0 []
+pub none_named : (label : ℕ) → Named label 0 []
 none_named label = record { times = refl }
 
-lone : (label : ℕ) (line : Line) → names label line.item ≡ false → Named label 0 (line ∷ [])
+pub lone : (label : ℕ) (line : Line) → names label line.item ≡ false → Named label 0 (line ∷ [])
 lone label line e = none_line label 0 line [] e (none_named label)
 
 -- ---- instructions name no label
@@ -142,7 +142,7 @@ down_none label part CounterY = refl
 -- ---- names, and labels in a row
 
 -- the next label by itself
-name_once : (label part to : ℕ) → Named label (once_within to 1 label) (name part to ∷ [])
+pub name_once : (label part to : ℕ) → Named label (once_within to 1 label) (name part to ∷ [])
 name_once label part to = record {
   times =
       elim (eqb_tells to label) [
@@ -161,17 +161,17 @@ name_once label part to = record {
         ]
 
 -- where a label is in a row, and where it isn't
-within_is : (first n label : ℕ) → first ≤ label → label < first + n → once_within first n label ≡ 1
+pub within_is : (first n label : ℕ) → first ≤ label → label < first + n → once_within first n label ≡ 1
 within_is first n label l h = rw (le-leb first label l, lt-ltb label (first + n) h) refl
 
-before_is : (first n label : ℕ) → label < first → once_within first n label ≡ 0
+pub before_is : (first n label : ℕ) → label < first → once_within first n label ≡ 0
 before_is first n label l = rw (lt-leb first label l) refl
 
-behind_is : (first n label : ℕ) → first + n ≤ label → once_within first n label ≡ 0
+pub behind_is : (first n label : ℕ) → first + n ≤ label → once_within first n label ≡ 0
 behind_is first n label l = rw (le-leb first label (omega arith), le-ltb label (first + n) l) refl
 
 -- two rows, one behind the other
-rows : (first n second m label : ℕ) → second ≡ first + n →
+pub rows : (first n second m label : ℕ) → second ≡ first + n →
     once_within first n label + once_within second m label ≡ once_within first (n + m) label
 rows first n second m label e =
     elim (cases_lt label first) [
@@ -211,14 +211,14 @@ rows first n second m label e =
           ]
     ]
 
-no_row : (first label : ℕ) → once_within first 0 label ≡ 0
+pub no_row : (first label : ℕ) → once_within first 0 label ≡ 0
 no_row first label =
     elim (cases_lt label first) [
       | inl under ↦ before_is first 0 label under
       | inr over ↦ behind_is first 0 label (omega (arith, over))
     ]
 
-named_as : (label n m : ℕ) (lines : List Line) → n ≡ m → Named label n lines → Named label m lines
+pub named_as : (label n m : ℕ) (lines : List Line) → n ≡ m → Named label n lines → Named label m lines
 named_as label n m lines e one = record { times = one.times ∙ e }
 
 -- a tree without lines has no labels

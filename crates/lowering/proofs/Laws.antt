@@ -10,6 +10,9 @@ pub use Rattle.lowering.proofs.Keeping.{kept_lines}
 pub use Rattle.lowering.proofs.Sizing.{lines_size}
 pub use Rattle.lowering.proofs.PartSizes.{parts_size}
 pub use Rattle.lowering.proofs.LabelNames.{tree_named}
+-- how often lines name a label, list after list
+pub use Rattle.lowering.proofs.LabelNames.{Named, none_named, lone, name_once, none_line, named_then, named_as}
+pub use Rattle.lowering.proofs.LabelNames.{within_is, before_is, behind_is, rows, no_row}
 -- how many there are, and their greatest cycles
 pub use Rattle.lowering.proofs.LineCounts.{lines_are_counted, lines_cost}
 -- each node's own lines, and their greatest cycles
