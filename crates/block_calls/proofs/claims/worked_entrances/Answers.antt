@@ -1,0 +1,9 @@
+-- Entrances that are worked by hand.
+use Rattle.block_calls.proofs.claims.worked_entrances.Goals as goal
+use Rattle.block_calls.proofs.WorkedEntrances.{loud_is_called, volume_is_called}
+
+pub returns-clause-loud : goal.returns-clause-loud
+returns-clause-loud c = loud_is_called
+
+pub returns-clause-volume : goal.returns-clause-volume
+returns-clause-volume c = volume_is_called

@@ -1,0 +1,4 @@
+-- What upper crates may cite.
+pub mod Laws
+mod Always
+mod WorkedPlaces

@@ -1,0 +1,10 @@
+-- To believe: where a call may write, what the timer is set to, and when an image plays a song.
+pub mod Confined
+pub mod Timers
+pub mod Faithful
+pub mod Histories
+pub mod Isolation
+-- Claimed: laws of these definitions, and numbers worked by hand.
+pub mod Laws
+pub mod WorkedTimers
+pub mod WorkedPlaces

@@ -1,0 +1,13 @@
+//! Images: machine code and data that play a song when they are called, wherever in memory they stand.
+//!
+//! It has definitions and laws, and no code. `IsFaithful` says when an image plays a song: whatever else is in memory,
+//! init and each play return, write in their own places only, and leave the SID's registers as the song's frames do.
+//! `PlaysAlways` says the same of any calls in any order, each within 60,000 steps, and `IsIsolated` that a call depends
+//! on the image's bytes alone. Its one claim: what plays always is faithful.
+//!
+//! It stands on `play_model` for what a song sounds like, and on `cpu6502` and `sid_run` for the machine and its calls.
+//! See `docs/player.md`.
+#![tactic(auto)]
+
+/// Facts about the definitions.
+pub mod claims;
