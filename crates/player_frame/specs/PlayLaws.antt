@@ -37,5 +37,6 @@ abbrev pub PlayBlockPlays : Type 0
 PlayBlockPlays =
     (packed : PackedSong) (song : Song) (layout : Layout) (o : Options) (k count : ℕ) (x : FrameState) (desk : Desk) →
     StandsFor packed song → KeepsPatternLimits packed → IsPlayerLayout layout packed →
-    KeepsUsed layout packed o k x → KeepsOptions layout o → k < length packed.subtunes → walk_count packed ≤ count → count < 256 → IsSafe (unpacked_song packed) k x →
+    KeepsUsed layout packed o k x → KeepsOptions layout o → k < length packed.subtunes → walk_count packed ≤ count →
+    count < 256 → IsSafe (unpacked_song packed) k x →
     IsFrameState x → Holds layout packed k nothing_on x desk.at → Plays layout packed o k count x desk

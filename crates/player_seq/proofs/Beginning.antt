@@ -41,7 +41,7 @@ use Rattle.player_seq.proofs.StartStates.{voice_stands}
 -- ---- the orderlists of a packed song have entries
 
 -- a subtune that can be played
-plays : (packed : PackedSong) (k : ℕ) → IsComplete (unpacked_song packed) → k < length packed.subtunes →
+pub plays : (packed : PackedSong) (k : ℕ) → IsComplete (unpacked_song packed) → k < length packed.subtunes →
     is_playable_subtune (subtune_at (unpacked_song packed) k) ≡ true
 unfolding playable_subtune
 plays packed k complete below =
@@ -61,7 +61,7 @@ pub record HaveEntries (subtune : Subtune) : Type 0 where
   pub two : length subtune.two.entries ≢ 0
   pub three : length subtune.three.entries ≢ 0
 
-have_entries : (subtune : Subtune) → is_playable_subtune subtune ≡ true → HaveEntries subtune
+pub have_entries : (subtune : Subtune) → is_playable_subtune subtune ≡ true → HaveEntries subtune
 have_entries subtune e =
     let last = and_parts (has_entries subtune.one && has_entries subtune.two) (has_entries subtune.three) e in
     let first = and_parts (has_entries subtune.one) (has_entries subtune.two) last.0 in

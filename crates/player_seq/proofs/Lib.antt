@@ -7,6 +7,7 @@ mod Cleared
 mod Started
 mod StartStates
 pub mod Beginning
+pub mod Variables
 -- The way from a place of an orderlist to its next play, and the repeats on it.
 mod Ways
 mod Repeats

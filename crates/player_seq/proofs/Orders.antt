@@ -7,21 +7,17 @@ use Rattle.std.proofs.lemmas.List.{length-map, get_or-append-add, get_or-map}
 use Rattle.std.proofs.lemmas.List.Elements.{Contains-get_or, All-from_get_or}
 use Rattle.std.proofs.lemmas.Option.{unwrap_or-slice_get}
 use Rattle.std.proofs.Math.Seq.{take-append_seam}
-use Rattle.song_model.specs.declared.features.Feature.{Feature}
 use Rattle.song_model.specs.declared.features.Feature.TheVariants.{Transpose, Repeat}
 use Rattle.song_model.specs.declared.orders.Order.{Order}
 use Rattle.song_model.specs.declared.orders.Subtune.{Subtune}
 use Rattle.song_model.specs.declared.songs.Song.{Song}
 use Rattle.song_model.specs.Endless.{IsEndless}
-use Rattle.song_model.specs.Feature.{bit_of}
 use Rattle.song_model.specs.Limits.{IsOrder, IsSubtune}
 use Rattle.song_model.specs.LookUp.{order_of, playable_subtune, playable_subtunes, void_subtune}
 use Rattle.song_model.specs.Places.{place_of}
-use Rattle.play_model.specs.Speeds.{IsSpeed}
 use Rattle.play_model.specs.State.{no_options}
 use Rattle.play_model.specs.Frame.{subtune_at}
 use Rattle.play_model.specs.Used.{IsPlayedOrder}
-use Rattle.play_model.specs.Features.{HasFeature}
 use Rattle.play_model.specs.Uses.{HasOrderByte}
 use Rattle.play_model.proofs.Laws.{whole_lem}
 use Rattle.packed_form.specs.declared.packed_songs.PackedSubtune.{PackedSubtune}

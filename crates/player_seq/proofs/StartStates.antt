@@ -1,7 +1,6 @@
 -- The start state of a subtune in memory: a voice's bytes, by the list of its labels.
-use Rattle.std.proofs.Common.{◌≡◌, ◌≢◌, ℕ, ◌+◌, ◌*◌, ◌/◌, ◌%◌, ◌<◌, true, false, nat_lt, if◌then◌else◌}
+use Rattle.std.proofs.Common.{◌≡◌, ◌≢◌, ℕ, ◌+◌, ◌*◌, ◌/◌, ◌%◌, ◌<◌, true, false, nat_lt}
 use Rattle.std.proofs.Common.{List, [], ◌∷◌, length, map, get_or, nat_eq, refl, sym, ap, ◌∙◌}
-use Rattle.std.specs.Prelude.{◌==◌}
 use Rattle.std.proofs.lemmas.Bool.{ltb-true, ne_eqb}
 use Rattle.song_model.specs.declared.orders.Order.{Order}
 use Rattle.song_model.specs.Places.{first_place, restarted, place_of}
@@ -16,6 +15,7 @@ use Rattle.player_parts.specs.declared.labels.TheConstants.{VIB_DELAY, WAVE, GAT
 use Rattle.player_parts.specs.declared.labels.TheConstants.{WAVE_POINTER, WAVE_TIME, PULSE_POINTER, PULSE_TIME}
 use Rattle.player_parts.specs.declared.labels.TheConstants.{PULSE_LOW, PULSE_HIGH, TEMPO}
 use Rattle.player_parts.specs.Holds.{own_bytes, Begins, VoiceStands}
+use Rattle.player_seq.specs.StartVariables.{start_byte}
 
 -- the labels of a voice's bytes that count at the start
 abbrev pub labels : List ℕ
@@ -24,17 +24,6 @@ labels =
     ∷ NEW_NOTE ∷ NEW_COMMAND ∷ NEW_PARAM ∷ COMMAND ∷ PARAM ∷ AD ∷ SR ∷ VIB_TIME ∷ VIB_DELAY ∷ WAVE ∷ GATE ∷ FREQ_LOW
     ∷ FREQ_HIGH ∷ LAST_NOTE ∷ WAVE_POINTER ∷ WAVE_TIME ∷ PULSE_POINTER ∷ PULSE_TIME ∷ PULSE_LOW ∷ PULSE_HIGH ∷ TEMPO
     ∷ []
-
--- what stands under them
-abbrev pub start_byte : ℕ → ℕ → ℕ → ℕ → ℕ
-start_byte low high tempo label =
-    if label == ORDER_LOW then low
-    else if label == ORDER_HIGH then high
-    else if label == TICK then 1
-    else if label == INSTRUMENT then 1
-    else if label == GATE then 0xFE
-    else if label == TEMPO then tempo
-    else 0
 
 -- the place of the first play, where an orderlist has entries
 begins_first : (order : Order) → length order.entries ≢ 0 → restarted order first_place ≡ place_of order 0

@@ -15,7 +15,8 @@ use Rattle.player_parts.specs.declared.labels.TheConstants.{SUBTUNE, VARIABLES}
 use Rattle.player_parts.specs.PlayerLists.{HasLists}
 use Rattle.player_parts.specs.PlayerLayouts.{IsPlayerLayout, IsVariablePlace, MayRead}
 use Rattle.player_parts.specs.Holds.{Holds, nothing_on}
-use Rattle.player_seq.specs.InitBlock.{init_tree, timer_value}
+use Rattle.images.specs.Timers.{timer_value}
+use Rattle.player_seq.specs.InitBlock.{init_tree}
 
 -- what stands in the timer's bytes: its value where the play call comes more often than once a picture, else what was
 abbrev pub timer_byte : ℕ → Half → ℕ → ℕ

@@ -1,6 +1,7 @@
 -- To believe: the player's blocks that begin a subtune and fetch a row.
 pub mod PackedLimits
 pub mod InitBlock
+pub mod StartVariables
 pub mod FetchBlock
 pub mod Parts
 -- Claimed: that they are sound, and what they do in a memory that holds a state.

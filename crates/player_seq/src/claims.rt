@@ -2,7 +2,8 @@
 
 ghost use Rattle.player_seq.specs.FetchLaws.{FetchBlockFetches, FeaturesKeepWalks};
 ghost use Rattle.player_seq.specs.InitLaws.{InitBlockBegins, InitWritesAllVariables};
-ghost use Rattle.player_seq.specs.WorkedBlocks.{TimersAreWorked, LooksAreWorked};
+ghost use Rattle.player_seq.specs.WorkedBlocks.{LooksAreWorked};
+ghost use Rattle.player_seq.specs.StartVariables.{StartVariablesHold};
 ghost use Rattle.player_seq.specs.Parts.{EntriesAreComeTo};
 ghost use Rattle.player_seq.specs.SoundBlocks.{InitIsSound, FetchIsSound};
 
@@ -25,16 +26,21 @@ pub fn init_writes_all_variables()
     ensures { InitWritesAllVariables }
 {}
 
+/// In any memory that has the lists and the variables' first bytes, the start state of the first subtune stands.
+pub fn start_variables_hold()
+    ensures { StartVariablesHold }
+{}
+
 /// In a memory that holds a state, the block that fetches a row leaves the state behind the fetch of a voice, whichever
-/// bits are kept, as long as those of transposes and repeats are where an orderlist of the subtune has one. Each byte that is no variable and no byte of the pointer is
-/// as before, and what is read by Y are bytes of the lists and variables.
+/// bits are kept, as long as those of transposes and repeats are where an orderlist of the subtune has one. Each byte
+/// that is no variable and no byte of the pointer is as before, and what is read by Y are bytes of the lists and
+/// variables.
 pub fn fetch_block_fetches()
     ensures { FetchBlockFetches }
 {}
 
-/// The timer's values, and what a look of a walk costs.
+/// What a look of a walk costs.
 pub fn worked_blocks()
-    ensures timers { TimersAreWorked }
     ensures looks { LooksAreWorked }
 {}
 
