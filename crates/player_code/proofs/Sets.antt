@@ -1,0 +1,99 @@
+-- The bits of a kept set: those of features below 24, and three of options.
+use Rattle.std.proofs.Common.{◌≡◌, ℕ, ◌+◌, ◌-◌, ◌*◌, ◌<◌, ◌^◌, Bool, true, false, nat_eq, if◌then◌else◌, refl, ap, ◌∙◌, arith}
+use Rattle.std.specs.Int.{bit_at}
+use Rattle.std.proofs.lemmas.Nat.Bits.{bit_at_cat_low, bit_at_cat_high}
+use Rattle.lowering.specs.Lowered.{bit_kept}
+use Rattle.player_code.specs.Lengths.{option_bit}
+
+-- three bits as a number
+abbrev three : Bool → Bool → Bool → ℕ
+three effects pulse timer =
+    (if effects then 1 else 0) + (if pulse then 2 else 0) + (if timer then 4 else 0)
+
+-- a set with them on top
+abbrev with_three : ℕ → Bool → Bool → Bool → ℕ
+with_three features effects pulse timer =
+    features + option_bit effects 24 + option_bit pulse 25 + option_bit timer 26
+
+on_top : (features : ℕ) (effects pulse timer : Bool) →
+    with_three features effects pulse timer ≡ three effects pulse timer * 2 ^ 24 + features
+on_top features false false false = omega arith
+on_top features false false true = omega arith
+on_top features false true false = omega arith
+on_top features false true true = omega arith
+on_top features true false false = omega arith
+on_top features true false true = omega arith
+on_top features true true false = omega arith
+on_top features true true true = omega arith
+
+pub low_bits : (features bit : ℕ) (effects pulse timer : Bool) → bit < 24 →
+    bit_at (with_three features effects pulse timer) bit ≡ bit_at features bit
+low_bits features bit effects pulse timer low =
+    ap (λ (set : ℕ). bit_at set bit) (on_top features effects pulse timer)
+    ∙ bit_at_cat_low (three effects pulse timer) 24 features bit low
+
+high_bits : (features k : ℕ) (effects pulse timer : Bool) → features < 2 ^ 24 →
+    bit_kept (with_three features effects pulse timer) (24 + k) ≡ bit_kept (three effects pulse timer) (24 + k - 24)
+high_bits features k effects pulse timer small =
+    ap (λ (n : ℕ). nat_eq n 1)
+    (ap (λ (set : ℕ). bit_at set (24 + k)) (on_top features effects pulse timer)
+    ∙ bit_at_cat_high (three effects pulse timer) 24 features (24 + k) small (omega arith))
+
+pub effects_bit : (features : ℕ) (effects pulse timer : Bool) → features < 2 ^ 24 →
+    bit_kept (with_three features effects pulse timer) 24 ≡ effects
+effects_bit features effects pulse timer small = high_bits features 0 effects pulse timer small ∙ is effects pulse timer
+  where
+    is : (effects pulse timer : Bool) → bit_kept (three effects pulse timer) 0 ≡ effects
+    is false false false = refl
+    is false false true = refl
+    is false true false = refl
+    is false true true = refl
+    is true false false = refl
+    is true false true = refl
+    is true true false = refl
+    is true true true = refl
+
+pub pulse_bit : (features : ℕ) (effects pulse timer : Bool) → features < 2 ^ 24 →
+    bit_kept (with_three features effects pulse timer) 25 ≡ pulse
+pulse_bit features effects pulse timer small = high_bits features 1 effects pulse timer small ∙ is effects pulse timer
+  where
+    is : (effects pulse timer : Bool) → bit_kept (three effects pulse timer) 1 ≡ pulse
+    is false false false = refl
+    is false false true = refl
+    is false true false = refl
+    is false true true = refl
+    is true false false = refl
+    is true false true = refl
+    is true true false = refl
+    is true true true = refl
+
+pub timer_bit : (features : ℕ) (effects pulse timer : Bool) → features < 2 ^ 24 →
+    bit_kept (with_three features effects pulse timer) 26 ≡ timer
+timer_bit features effects pulse timer small = high_bits features 2 effects pulse timer small ∙ is effects pulse timer
+  where
+    is : (effects pulse timer : Bool) → bit_kept (three effects pulse timer) 2 ≡ timer
+    is false false false = refl
+    is false false true = refl
+    is false true false = refl
+    is false true true = refl
+    is true false false = refl
+    is true false true = refl
+    is true true false = refl
+    is true true true = refl
+
+three_small : (effects pulse timer : Bool) → three effects pulse timer < 8
+three_small false false false = omega arith
+three_small false false true = omega arith
+three_small false true false = omega arith
+three_small false true true = omega arith
+three_small true false false = omega arith
+three_small true false true = omega arith
+three_small true true false = omega arith
+three_small true true true = omega arith
+
+pub set_small : (features : ℕ) (effects pulse timer : Bool) → features < 2 ^ 24 →
+    with_three features effects pulse timer < 2 ^ 27
+set_small features effects pulse timer small =
+    let e = on_top features effects pulse timer in
+    let few = three_small effects pulse timer in
+    omega (arith, e, few)

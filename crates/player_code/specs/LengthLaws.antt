@@ -1,0 +1,69 @@
+-- What holds of the bytes of a player's code, by its parts. This is the project's own player.
+use Rattle.std.specs.Prelude.{◌≡◌, ℕ, ◌+◌, ◌<◌, ◌≤◌, ◌^◌, List, length, nat_lt}
+use Rattle.std.specs.Int.{bit_at}
+use Rattle.asm6502.specs.Lines.{kept, size_of, data_size}
+use Rattle.asm6502.specs.Parts.{part_size}
+use Rattle.play_model.specs.declared.options.Options.{Options}
+use Rattle.play_model.specs.Speeds.{IsSpeed}
+use Rattle.packed_form.specs.SongSizes.{code_bound}
+use Rattle.blocks.specs.Sizes.{weight}
+use Rattle.lowering.specs.Lowered.{bit_kept}
+use Rattle.player_parts.specs.declared.labels.TheConstants.{VARIABLES}
+use Rattle.player_parts.specs.declared.parts.TheConstants.{SKIP_EFFECTS_BIT, SKIP_PULSE_BIT, TIMER_BIT}
+use Rattle.player_seq.specs.InitBlock.{init_tree}
+use Rattle.player_frame.specs.PlayBlock.{play_tree}
+use Rattle.player_code.specs.CodeLines.{always, code_lines}
+use Rattle.player_code.specs.Lengths.{kept_set, frequency_bytes, part_length, code_length}
+
+-- a kept set has the bits of the features, and those of the options that are on
+pub record AreKept (features : ℕ) (o : Options) : Type 0 where
+  pub features_are : (bit : ℕ) → bit < 24 → bit_at (kept_set features o) bit ≡ bit_at features bit
+  pub effects : bit_kept (kept_set features o) SKIP_EFFECTS_BIT ≡ o.skip_effects
+  pub pulse : bit_kept (kept_set features o) SKIP_PULSE_BIT ≡ o.skip_pulse
+  pub timer : bit_kept (kept_set features o) TIMER_BIT ≡ nat_lt 1 o.speed
+  pub small : kept_set features o < 2 ^ 27
+
+abbrev pub SetsAreKept : Type 0
+SetsAreKept = (features : ℕ) (o : Options) → features < 2 ^ 24 → AreKept features o
+
+-- the lines of each part take its bytes
+pub record HaveLengths (variables : List ℕ) (pointer : ℕ) (o : Options) (count : ℕ) : Type 0 where
+  pub parts : (part : ℕ) → part < 32 → part_size part (code_lines variables pointer o count) ≡ part_length part
+  pub rest : part_size always (code_lines variables pointer o count) + frequency_bytes ≡ part_length always
+
+abbrev pub PartsHaveLengths : Type 0
+PartsHaveLengths =
+    (variables : List ℕ) (pointer : ℕ) (o : Options) (count : ℕ) → length variables ≡ VARIABLES →
+    HaveLengths variables pointer o count
+
+-- so the kept lines take those of the parts that are kept
+abbrev pub CodeHasItsLength : Type 0
+CodeHasItsLength =
+    (variables : List ℕ) (pointer : ℕ) (o : Options) (count features : ℕ) → length variables ≡ VARIABLES →
+    features < 2 ^ 24 → size_of (kept (kept_set features o) (code_lines variables pointer o count)) + frequency_bytes
+    ≡ code_length features o
+
+-- no part is longer than the bound of a player's code says
+pub record AreShort : Type 0 where
+  pub parts : (part : ℕ) → part < 32 → part_length part ≤ 320
+  pub rest : part_length always ≤ 3072
+
+-- nor is the code
+abbrev pub CodeIsBounded : Type 0
+CodeIsBounded = (features : ℕ) (o : Options) → code_length features o ≤ code_bound features o
+
+-- each block, and the routine around it, runs far fewer instructions than a call may
+abbrev pub CallsAreShort : Type 0
+CallsAreShort =
+    (count : ℕ) (o : Options) → count < 256 → IsSpeed o.speed → (weight (play_tree count) + 20 ≤ 60000)
+    × (weight (init_tree o) + 20 ≤ 60000)
+
+-- the lines are within the assembler's limits
+pub record AreFew (variables : List ℕ) (pointer : ℕ) (o : Options) (count : ℕ) : Type 0 where
+  pub lines : length (code_lines variables pointer o count) ≤ 5000
+  pub bytes : data_size (code_lines variables pointer o count) ≡ VARIABLES
+
+abbrev pub CodeIsWithinLimits : Type 0
+CodeIsWithinLimits =
+    (variables : List ℕ) (pointer : ℕ) (o : Options) (count : ℕ) → length variables ≡ VARIABLES →
+    AreFew variables pointer o count
