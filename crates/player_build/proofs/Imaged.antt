@@ -1,0 +1,407 @@
+-- What is built is an image.
+use Rattle.std.proofs.Common.{◌≡◌, ◌≢◌, ℕ, zero, suc, ◌+◌, ◌-◌, ◌*◌, ◌^◌, ◌<◌, ◌≤◌, ◌⊎◌, ◌||◌, ◌&&◌, Bool, true, false, nat_eq, nat_lt, if◌then◌else◌, None, List, [], ◌∷◌, ◌++◌, length, refl, sym, ap, ◌∙◌, arith, inl, inr, subst}
+use Rattle.std.specs.Prelude.{slice_index, sum_by}
+use Rattle.std.proofs.lemmas.Bool.{cases_lt, cases_eq, lt-ltb, le-ltb, eqb-true, ne_eqb, true≢false}
+use Rattle.std.proofs.lemmas.List.{length-append, get_or_past}
+use Rattle.std.proofs.lemmas.List.Elements.{Contains-append_left, Contains-append_right}
+use Rattle.std.proofs.lemmas.List.Sums.{sum_by-append}
+use Rattle.song_model.specs.declared.songs.Song.{Song}
+use Rattle.play_model.specs.declared.options.Options.{Options}
+use Rattle.play_model.specs.Speeds.{IsSpeed}
+use Rattle.packed_form.specs.declared.packed_songs.PackedSong.{PackedSong}
+use Rattle.packed_form.specs.Sizes.{packed_song_size}
+use Rattle.asm6502.specs.declared.lines.Line.{Line}
+use Rattle.asm6502.specs.Lines.{is_kept, is_part_kept, item_size, kept, size_of, data_size}
+use Rattle.asm6502.specs.Parts.{part_size as bytes_in}
+use Rattle.asm6502.specs.Assembly.{assembled_bytes}
+use Rattle.asm6502.specs.Faults.{fault_of}
+use Rattle.lowering.specs.Lowered.{bit_kept}
+use Rattle.player_parts.specs.Places.{IsAddress, IsZeroPage}
+use Rattle.player_parts.specs.declared.place.Place.{Place}
+use Rattle.player_seq.specs.PackedLimits.{KeepsPatternLimits}
+use Rattle.player_lists.specs.DataLists.{HasLines}
+use Rattle.player_lists.specs.ListLaws.{KeepsCounts}
+use Rattle.player_lists.proofs.Laws.{lines_take_size, lines_are_few}
+use Rattle.player_code.specs.CodeLines.{always, code_lines}
+use Rattle.player_code.specs.Lengths.{kept_set, code_length, part_length, part_lengths, length_if}
+use Rattle.player_code.specs.LengthLaws.{AreFew}
+use Rattle.player_code.specs.Plans.{Plan, plan_code, plan_lines, code_size}
+use Rattle.player_code.proofs.Laws.{code_is_within_limits, parts_have_lengths}
+use Rattle.player_build.specs.declared.image.Image.{Image}
+use Rattle.player_build.specs.declared.image.PartSpan.{PartSpan}
+use Rattle.player_build.specs.ImageLines.{lists_start, plan_of, IsImageOf}
+use Rattle.player_build.specs.Lengths.{image_length}
+use Rattle.player_build.specs.Spans.{StandInOrder, spans_size, part_size, IsNamed, IsPacked, length_of_part, NamesParts}
+use Rattle.player_build.specs.Joined.{Follow, frequency_span, AreSpansOf}
+use Rattle.player_build.specs.Built.{IsBuild}
+use Rattle.player_build.proofs.Planned.{is_plan}
+use Rattle.player_build.proofs.Layouts.{Made, code_size_is, plan_size_is}
+use Rattle.player_build.proofs.Bytes.{Assembled, assembles}
+use Rattle.player_build.proofs.Joining.{follow_append, follows_in_order, follows_size, follows_named}
+use Rattle.player_build.proofs.Whole.{image_plays}
+
+-- ---- what an image is made from
+
+-- as the types say, where the image fits
+pub record Allowed (packed : PackedSong) (place : Place) (o : Options) (code : ℕ) : Type 0 where
+  pub counts : KeepsCounts packed
+  pub patterns : KeepsPatternLimits packed
+  pub features : packed.features.0 < 2 ^ 24
+  pub address : IsAddress place.address
+  pub page : IsZeroPage place.zero_page
+  pub speed : IsSpeed o.speed
+  pub code_is : code + 196 ≡ code_length packed.features.0 o
+  pub fits : place.address + (code + 196 + packed_song_size packed) ≤ 0xD000
+
+start_by : (code length : ℕ) → code + 196 ≡ length → code ≡ length - 196
+start_by code length e = omega (arith, e)
+
+pub start_of : {packed : PackedSong} {place : Place} {o : Options} {code : ℕ} → Allowed packed place o code →
+    place.address + code ≡ lists_start packed place o
+start_of {place = place} a = ap (λ n. place.address + n) (start_by _ _ a.code_is)
+
+fits_by : (address code size length : ℕ) → code + 196 ≡ length → address + (code + 196 + size) ≤ 0xD000 →
+    address + (size + length) ≤ 0xD000
+fits_by address code size length e h = omega (arith, e, h)
+
+pub made : {packed : PackedSong} {place : Place} {o : Options} {code : ℕ} (lists : List Line) →
+    Allowed packed place o code → HasLines packed (lists_start packed place o) lists → Made packed place o lists
+made {packed = packed} {place = place} {o = o} lists a has = record {
+  plan = is_plan packed place o lists a.page.least a.page.most a.speed a.counts has;
+  counts = a.counts;
+  lines = has;
+  features = a.features;
+  begins = a.address.least;
+  fits = fits_by place.address _ _ _ a.code_is a.fits;
+}
+
+-- the code's size
+pub code_by : (size code length : ℕ) → size + 196 ≡ length → code + 196 ≡ length → code ≡ size
+code_by size code length a b = omega (arith, a, b)
+
+pub code_is : {packed : PackedSong} {place : Place} {o : Options} {code : ℕ} {lists : List Line} →
+    Allowed packed place o code → Made packed place o lists → code ≡ code_size (plan_of packed place o lists)
+code_is a m = code_by _ _ _ (code_size_is m) a.code_is
+
+-- ---- limits
+
+few_lines : (code lists all : ℕ) → code ≤ 5000 → lists ≤ 1000 → all ≡ code + lists → all ≤ 1000000
+few_lines code lists all a b e = omega (arith, a, b, e)
+
+pub lines_fit : {packed : PackedSong} {place : Place} {o : Options} {lists : List Line} → Made packed place o lists →
+    length (plan_lines (plan_of packed place o lists)) ≤ 1000000
+lines_fit {packed = packed} {place = place} {o = o} {lists = lists} m =
+    let plan : Plan = plan_of packed place o lists in
+    few_lines _ _ _ (code_is_within_limits plan.variables plan.pointer o plan.count m.plan.variables).lines
+    (lines_are_few packed (lists_start packed place o) lists m.counts m.lines) (length-append (plan_code plan) lists)
+
+data_append : (front back : List Line) → data_size (front ++ back) ≡ data_size front + data_size back
+data_append [] back = zero_more (data_size back)
+  where
+    zero_more : (n : ℕ) → n ≡ 0 + n
+    zero_more n = omega arith
+data_append (line ∷ front) back = group _ _ _ _ (data_append front back)
+  where
+    group : (one two three rest : ℕ) → rest ≡ two + three → one + rest ≡ one + two + three
+    group one two three rest e = omega (arith, e)
+
+few_bytes : (code lists all size address : ℕ) → code ≡ 121 → lists ≡ 196 + size → all ≡ code + lists →
+    address + size ≤ 0xD000 → all ≤ 1000000
+few_bytes code lists all size address a b e h = omega (arith, a, b, e, h)
+
+within : (address size length : ℕ) → address + (size + length) ≤ 0xD000 → address + size ≤ 0xD000
+within address size length h = omega (arith, h)
+
+pub bytes_fit : {packed : PackedSong} {place : Place} {o : Options} {lists : List Line} → Made packed place o lists →
+    data_size (plan_lines (plan_of packed place o lists)) ≤ 1000000
+bytes_fit {packed = packed} {place = place} {o = o} {lists = lists} m =
+    let plan : Plan = plan_of packed place o lists in
+    few_bytes _ _ _ (packed_song_size packed) place.address
+    (code_is_within_limits plan.variables plan.pointer o plan.count m.plan.variables).bytes
+    (lines_take_size packed (lists_start packed place o) lists m.lines).1 (data_append (plan_code plan) lists)
+    (within place.address _ _ m.fits)
+
+-- ---- parts
+
+-- of the kept lines, those of one part are all there or none is
+one_part : (z s a : Bool) (size rest kept : ℕ) → (s ≡ true → z ≡ a) → kept ≡ (if a then rest else 0) →
+    (if z then (if s then size else 0) + kept else kept) ≡ (if a then (if s then size else 0) + rest else 0)
+one_part true true true size rest kept same e = omega (arith, e)
+one_part true true false size rest kept same e = absurd (true≢false (same refl))
+one_part false true true size rest kept same e = absurd (true≢false (sym (same refl)))
+one_part false true false size rest kept same e = omega (arith, e)
+one_part true false true size rest kept same e = omega (arith, e)
+one_part true false false size rest kept same e = omega (arith, e)
+one_part false false true size rest kept same e = omega (arith, e)
+one_part false false false size rest kept same e = omega (arith, e)
+
+kept_part : (set part : ℕ) (lines : List Line) →
+    bytes_in part (kept set lines) ≡ (if is_part_kept set part then bytes_in part lines else 0)
+kept_part set part [] = none (is_part_kept set part)
+  where
+    none : (z : Bool) → ◌≡◌ {A = ℕ} 0 (if z then 0 else 0)
+    none true = refl
+    none false = refl
+kept_part set part (line ∷ lines) =
+    first (is_kept set line) refl
+    ∙ one_part (is_kept set line) (nat_eq line.part part) (is_part_kept set part) (item_size line.item)
+    (bytes_in part lines) (bytes_in part (kept set lines)) same (kept_part set part lines)
+  where
+    first : (z : Bool) → is_kept set line ≡ z →
+        bytes_in part (kept set (line ∷ lines))
+        ≡ (if is_kept set line then (if nat_eq line.part part then item_size line.item else 0)
+        + bytes_in part (kept set lines) else bytes_in part (kept set lines))
+    first true e = rw (e) refl
+    first false e = rw (e) refl
+
+    same : nat_eq line.part part ≡ true → is_kept set line ≡ is_part_kept set part
+    same e = ap (is_part_kept set) (eqb-true line.part part e)
+
+-- ---- the spans of an image
+
+frequencies_sum : (code one two : ℕ) → code + (0 + one + two) ≡ code + one + two
+frequencies_sum code one two = omega arith
+
+-- of one part
+pub spans_part : (part : ℕ) (code : List PartSpan) (a b : ℕ) →
+    part_size part (code ++ frequency_span a ∷ frequency_span b ∷ [])
+    ≡ part_size part code + (if nat_eq always part then 98 else 0) + (if nat_eq always part then 98 else 0)
+spans_part part code a b =
+    sum_by-append _ code (frequency_span a ∷ frequency_span b ∷ [])
+    ∙ frequencies_sum (part_size part code) (if nat_eq always part then 98 else 0) (if nat_eq always part then 98 else 0)
+
+pub spans_all : (code : List PartSpan) (a b : ℕ) →
+    spans_size (code ++ frequency_span a ∷ frequency_span b ∷ []) ≡ spans_size code + 98 + 98
+spans_all code a b =
+    sum_by-append _ code (frequency_span a ∷ frequency_span b ∷ []) ∙ frequencies_sum (spans_size code) 98 98
+
+-- the lengths of parts that there aren't
+no_length : (part : ℕ) → 27 ≤ part → slice_index part_lengths part ≡ 0
+no_length part h = get_or_past part_lengths part 0 h
+
+kept_other : (set part : ℕ) → nat_eq part 255 ≡ false → nat_lt part 32 ≡ true →
+    is_part_kept set part ≡ bit_kept set part
+kept_other set part a b = rw (a, b) refl
+
+kept_none : (set part : ℕ) → nat_eq part 255 ≡ false → nat_lt part 32 ≡ false → is_part_kept set part ≡ false
+kept_none set part a b = rw (a, b) refl
+
+length_none : (z : Bool) (part : ℕ) → part_length part ≡ 0 → length_if z part ≡ 0
+length_none true part e = e
+length_none false part e = refl
+
+if_same : (z : Bool) (one two : ℕ) → one ≡ two → (if z then one else 0) ≡ (if z then two else 0)
+if_same z one two e = ap (λ (n : ℕ). if z then n else 0) e
+
+whole : (n : ℕ) (all : ℕ) → n + 196 ≡ all → n + 98 + 98 ≡ all
+whole n all e = omega (arith, e)
+
+plain : (n : ℕ) → n + 0 + 0 ≡ n
+plain n = omega arith
+
+far : (n : ℕ) → 32 ≤ n → 27 ≤ n
+far n h = omega (arith, h)
+
+-- each part has its length
+pub part_is : {packed : PackedSong} {place : Place} {o : Options} {lists : List Line} → Made packed place o lists →
+    (part a b : ℕ) (code : List PartSpan) →
+    part_size part code
+    ≡ bytes_in part (kept (kept_set packed.features.0 o) (plan_code (plan_of packed place o lists))) →
+    part_size part (code ++ frequency_span a ∷ frequency_span b ∷ []) ≡ length_of_part packed o part
+part_is {packed = packed} {place = place} {o = o} {lists = lists} m part a b code is =
+    let plan : Plan = plan_of packed place o lists in
+    let set : ℕ = kept_set packed.features.0 o in
+    let lengths = parts_have_lengths plan.variables plan.pointer o plan.count m.plan.variables in
+    let all = spans_part part code a b in
+    let one = is ∙ kept_part set part (plan_code plan) in
+    elim (cases_eq part 255) [
+      | inl e ↦
+          let f = e in
+          subst (λ n. part_size n (code ++ frequency_span a ∷ frequency_span b ∷ []) ≡ length_of_part packed o n) (sym f)
+          (spans_part 255 code a b
+          ∙ whole (part_size 255 code) (part_length always)
+          (ap (λ n. n + 196) (subst (λ n. part_size n code ≡ bytes_in n (kept set (plan_code plan))) f is
+          ∙ kept_part set 255 (plan_code plan)) ∙ lengths.rest))
+      | inr n ↦
+          let other = n in
+          let not : nat_eq part 255 ≡ false = ne_eqb part 255 other in
+          let back : nat_eq 255 part ≡ false = ne_eqb 255 part (λ q. other (sym q)) in
+          let own : length_of_part packed o part ≡ length_if (bit_kept set part) part =
+          ap (λ (z : Bool). if z then part_length always else length_if (bit_kept set part) part) not in
+          let alone =
+          all
+          ∙ ap (λ (z : Bool). part_size part code + (if z then 98 else 0) + (if z then 98 else 0)) back
+          ∙ plain (part_size part code) ∙ one in
+          elim (cases_lt part 32) [
+            | inl l ↦
+                let low = l in
+                let kept_is = kept_other set part not (lt-ltb part 32 low) in
+                alone ∙ ap (λ (z : Bool). if z then bytes_in part (plan_code plan) else 0) kept_is
+                ∙ if_same (bit_kept set part) _ _ (lengths.parts part low) ∙ sym own
+            | inr h ↦
+                let high = h in
+                let kept_is = kept_none set part not (le-ltb part 32 high) in
+                let none : part_length part ≡ 0 =
+                ap (λ (z : Bool). if z then 1255 else slice_index part_lengths part) not
+                ∙ no_length part (far part high) in
+                alone ∙ ap (λ (z : Bool). if z then bytes_in part (plan_code plan) else 0) kept_is
+                ∙ sym (length_none (bit_kept set part) part none) ∙ sym own
+          ]
+    ]
+
+-- ---- the spans name the parts
+
+end_follows : (code speeds : ℕ) → code + 98 + 98 + speeds ≡ code + 98 + speeds + 98
+end_follows code speeds = omega arith
+
+code_end : (from code : ℕ) → from ≡ code → from ≤ code
+code_end from code e = omega (arith, e)
+
+rows_between : (code speeds : ℕ) → code + 98 ≤ code + 98 + speeds
+rows_between code speeds = omega arith
+
+span_begin : (start from : ℕ) → start ≡ from → from ≤ start
+span_begin start from e = omega (arith, e)
+
+all_in_order : (front : List PartSpan) (from code speeds : ℕ) → Follow from front code →
+    StandInOrder from (front ++ frequency_span code ∷ frequency_span (code + 98 + speeds) ∷ [])
+all_in_order [] from code speeds f = (code_end from code f, (rows_between code speeds, tt))
+all_in_order (span ∷ front) from code speeds f = (
+  span_begin _ _ f.0,
+  all_in_order front (span.start + span.length) code speeds
+      (subst (λ n. Follow (n + span.length) front code) (sym f.0) f.1),
+)
+
+named_left : (front back : List PartSpan) (byte : ℕ) → IsNamed front byte → IsNamed (front ++ back) byte
+named_left front back byte n = record {
+  span = n.span;
+  is_there = Contains-append_left front back n.span n.is_there;
+  from = n.from;
+  below = n.below;
+}
+
+named_right : (front back : List PartSpan) (byte : ℕ) → IsNamed back byte → IsNamed (front ++ back) byte
+named_right front back byte n = record {
+  span = n.span;
+  is_there = Contains-append_right front back n.span n.is_there;
+  from = n.from;
+  below = n.below;
+}
+
+zero_few : 0 < 2
+zero_few = omega arith
+
+one_few : 1 < 2
+one_few = omega arith
+
+nothing_low : (byte : ℕ) → 0 ≤ byte
+nothing_low byte = omega arith
+
+rows_low : (byte code all : ℕ) → code + 196 ≡ all → code + 98 ≤ byte → all - 98 ≤ byte
+rows_low byte code all e h = omega (arith, e, h)
+
+rows_high : (byte code speeds rows all : ℕ) → code + 196 ≡ all → speeds ≡ rows → byte < code + 98 + speeds →
+    byte < all - 98 + rows
+rows_high byte code speeds rows all e f h = omega (arith, e, f, h)
+
+rest_low : (byte code speeds rows all : ℕ) → code + 196 ≡ all → speeds ≡ rows → code + 98 + speeds + 98 ≤ byte →
+    all + rows ≤ byte
+rest_low byte code speeds rows all e f h = omega (arith, e, f, h)
+
+all_named : (byte code speeds rows all : ℕ) → code + 196 ≡ all → speeds ≡ rows → (front : List PartSpan) →
+    Follow 0 front code →
+    IsNamed (front ++ frequency_span code ∷ frequency_span (code + 98 + speeds) ∷ []) byte
+    ⊎ (((all - 98 ≤ byte) × (byte < all - 98 + rows)) ⊎ (all + rows ≤ byte))
+all_named byte code speeds rows all e f front follow =
+    let back : List PartSpan = frequency_span code ∷ frequency_span (code + 98 + speeds) ∷ [] in
+    elim (cases_lt byte code) [
+      | inl a ↦
+          let low = a in
+          inl (named_left front back byte (follows_named front 0 code byte follow (nothing_low byte) low))
+      | inr a ↦
+          let first = a in
+          elim (cases_lt byte (code + 98)) [
+            | inl b ↦
+                let in_first = b in
+                inl (named_right front back byte record {
+                  span = frequency_span code;
+                  is_there = (0, zero_few, refl);
+                  from = first;
+                  below = in_first;
+                })
+            | inr b ↦
+                let second = b in
+                elim (cases_lt byte (code + 98 + speeds)) [
+                  | inl d ↦
+                      let in_rows = d in
+                      inr (inl (rows_low byte code all e second, rows_high byte code speeds rows all e f in_rows))
+                  | inr d ↦
+                      let third = d in
+                      elim (cases_lt byte (code + 98 + speeds + 98)) [
+                        | inl g ↦
+                            let in_second = g in
+                            inl (named_right front back byte record {
+                              span = frequency_span (code + 98 + speeds);
+                              is_there = (1, one_few, refl);
+                              from = third;
+                              below = in_second;
+                            })
+                        | inr g ↦
+                            let last = g in inr (inr (rest_low byte code speeds rows all e f last))
+                      ]
+                ]
+          ]
+    ]
+
+added : (spans code packed all size : ℕ) → 0 + spans ≡ code → code + 196 ≡ all → size ≡ packed + all →
+    spans + 98 + 98 + packed ≡ size
+added spans code packed all size a b c = omega (arith, a, b, c)
+
+pub is_parts : {packed : PackedSong} {place : Place} {o : Options} {lists : List Line} → Made packed place o lists →
+    (size speeds : ℕ) (spans : List PartSpan) → size ≡ image_length packed o → speeds ≡ length packed.speed →
+    AreSpansOf (kept_set packed.features.0 o) (plan_code (plan_of packed place o lists)) speeds spans →
+    NamesParts packed o size spans
+is_parts {packed = packed} {place = place} {o = o} {lists = lists} m size speeds spans size_is speeds_are are =
+    let code : ℕ = code_size (plan_of packed place o lists) in
+    let parts : NamesParts packed o size
+    (are.code ++ frequency_span code ∷ frequency_span (code + 98 + speeds) ∷ []) =
+    record {
+      in_order = all_in_order are.code 0 code speeds are.follow;
+      named = λ byte below.
+          all_named byte code speeds (length packed.speed) (code_length packed.features.0 o) (code_size_is m) speeds_are
+          are.code are.follow;
+      add_up = ap (λ n. n + packed_song_size packed) (spans_all are.code code (code + 98 + speeds))
+          ∙ added _ _ _ _ _ (follows_size are.code 0 code are.follow) (code_size_is m) size_is;
+      parts = λ part. part_is m part code (code + 98 + speeds) are.code (are.parts part);
+    } in
+    subst (NamesParts packed o size) (sym are.are) parts
+
+-- ---- the whole
+
+fits_as : (address size length : ℕ) → size ≡ length → address + length ≤ 0xD000 → address + size ≤ 0xD000
+fits_as address size length e h = omega (arith, e, h)
+
+-- what the code has come to is the image
+pub is_build : {packed : PackedSong} {o : Options} {code : ℕ} (lists : List Line) (built : Image) (speeds : ℕ) →
+    Allowed packed built.place o code → HasLines packed (lists_start packed built.place o) lists →
+    built.bytes
+    ≡ assembled_bytes (kept_set packed.features.0 o) built.place.address
+    (plan_lines (plan_of packed built.place o lists)) →
+    length built.bytes
+    ≡ size_of (kept (kept_set packed.features.0 o) (plan_lines (plan_of packed built.place o lists))) →
+    speeds ≡ length packed.speed →
+    AreSpansOf (kept_set packed.features.0 o) (plan_code (plan_of packed built.place o lists)) speeds built.parts →
+    IsBuild packed built.place o built
+is_build {packed = packed} {o = o} lists built speeds a has are size_is speeds_are spans =
+    let m = made lists a has in
+    let size : length built.bytes ≡ image_length packed o = size_is ∙ plan_size_is m in
+    let assembled : Assembled packed built.place o lists built.bytes = record { made = m; are = are; size = size } in
+    let image : IsImageOf packed built.place o built.bytes = record { lists = lists; has_lines = has; are = are } in
+    record {
+      place_is = refl;
+      image = image;
+      size = size;
+      fits = fits_as _ _ _ size m.fits;
+      parts = is_parts m (length built.bytes) speeds built.parts size speeds_are spans;
+      plays = λ song stands. image_plays packed song o built image assembled a.patterns a.speed stands;
+    }

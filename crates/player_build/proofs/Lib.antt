@@ -1,0 +1,21 @@
+-- An image's plan, its layout and its bytes.
+mod Sums
+mod Ranges
+mod Joining
+mod Planned
+mod Layouts
+mod Bytes
+mod Entered
+mod Moved
+mod Reached
+mod Spots
+mod Answers
+mod Begun
+mod Started
+mod Agreed
+mod Histories
+mod Served
+mod Isolated
+mod Untimed
+mod Whole
+mod Imaged

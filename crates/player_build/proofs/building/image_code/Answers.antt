@@ -1,0 +1,58 @@
+-- The code's lines are those of the image.
+use Rattle.std.proofs.Common.{◌≡◌, ℕ, zero, suc, ◌+◌, ◌-◌, ◌*◌, ◌<◌, List, [], ◌∷◌, map, min, IfOk, refl, sym, ap, ◌∙◌, arith}
+use Rattle.std.specs.Prelude.{slice_index}
+use Rattle.std.specs.List.{range_with_len}
+use Rattle.std.proofs.lemmas.Result.{IfOk-weaker}
+use Rattle.play_model.specs.declared.options.Options.{Options}
+use Rattle.packed_form.specs.declared.packed_songs.PackedSong.{PackedSong}
+use Rattle.packed_form.specs.WalkCount.{walk_count}
+use Rattle.asm6502.specs.declared.lines.Line.{Line}
+use Rattle.player_parts.specs.declared.labels.TheConstants.{VARIABLES}
+use Rattle.player_parts.specs.declared.place.Place.{Place}
+use Rattle.player_seq.specs.StartVariables.{start_variable, voice_at}
+use Rattle.player_lists.specs.DataLists.{order_places}
+use Rattle.player_code.specs.CodeLines.{code_lines}
+use Rattle.player_build.specs.ImageLines.{count_of, lists_start, first_order, first_variables}
+use Rattle.player_build.proofs.Started.{start_same, voice_few}
+use Rattle.player_build.proofs.building.image_code.Goals as goal
+
+same_orders : (places : List ℕ) (start voice : ℕ) → voice < 3 →
+    slice_index ((start + slice_index places 0) ∷ (start + slice_index places 1) ∷ (start + slice_index places 2) ∷ []) voice
+    ≡ start + slice_index places voice
+same_orders places start zero few = refl
+same_orders places start (suc zero) few = refl
+same_orders places start (suc (suc zero)) few = refl
+same_orders places start (suc (suc (suc voice))) few = absurd (omega (arith, few))
+
+same_variables : (o : Options) (order other : ℕ → ℕ) → ((voice : ℕ) → voice < 3 → order voice ≡ other voice) →
+    (labels : List ℕ) → map (start_variable o order) labels ≡ map (start_variable o other) labels
+same_variables o order other same [] = refl
+same_variables o order other same (label ∷ labels) =
+    ap (λ (byte : ℕ). byte ∷ map (start_variable o order) labels)
+    (start_same o order other label (same (voice_at label) (voice_few label)))
+    ∙ ap (λ (rest : List ℕ). start_variable o other label ∷ rest) (same_variables o order other same labels)
+
+variables_are : (packed : PackedSong) (place : Place) (o : Options) (start : ℕ) (orders variables : List ℕ) →
+    start ≡ lists_start packed place o →
+    orders ≡ map (λ voice. start + slice_index (order_places packed) voice) (range_with_len 0 3) →
+    variables ≡ map (start_variable o (λ voice. slice_index orders voice)) (range_with_len 0 VARIABLES) →
+    variables ≡ first_variables packed place o
+variables_are packed place o start orders variables begins are is =
+    is
+    ∙ same_variables o (λ voice. slice_index orders voice) (first_order packed place o)
+    (λ voice few. ap (λ (list : List ℕ). slice_index list voice) are ∙ same_orders (order_places packed) start voice few
+    ∙ ap (λ n. n + slice_index (order_places packed) voice) begins)
+    (range_with_len 0 VARIABLES)
+
+pub returns : goal.returns
+returns c =
+    let variables = variables_are c.args.packed.now c.args.place.now c.args.options.now c.args.start
+    c.in_ok-orders.orders c.first_variables-variables.result c.requires.start c.in_ok-orders.ensures
+    c.first_variables-variables.ensures in
+    IfOk-weaker c.code_listing.result _ _
+    (λ listing is.
+    is
+    ∙ ap (λ (bytes : List ℕ). code_lines bytes c.args.place.now.zero_page c.args.options.now c.walk_count.result) variables
+    ∙ ap (code_lines (first_variables c.args.packed.now c.args.place.now c.args.options.now) c.args.place.now.zero_page
+    c.args.options.now) c.walk_count.ensures.count)
+    c.code_listing.ensures

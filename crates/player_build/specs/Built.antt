@@ -1,0 +1,30 @@
+-- What `build` gives: an image of the packed song, its length and its parts, and that it plays each song that the packed
+-- song stands for. This is the project's own player.
+use Rattle.std.specs.Prelude.{◌≡◌, ℕ, ◌+◌, ◌≤◌, length}
+use Rattle.song_model.specs.declared.songs.Song.{Song}
+use Rattle.play_model.specs.declared.options.Options.{Options}
+use Rattle.packed_form.specs.declared.packed_songs.PackedSong.{PackedSong}
+use Rattle.packed_form.specs.StandsFor.{StandsFor}
+use Rattle.images.specs.Histories.{PlaysAlways}
+use Rattle.images.specs.Isolation.{IsIsolated}
+use Rattle.player_parts.specs.declared.place.Place.{Place}
+use Rattle.player_build.specs.declared.image.Image.{Image}
+use Rattle.player_build.specs.ImageLines.{IsImageOf}
+use Rattle.player_build.specs.Lengths.{image_length, image_end}
+use Rattle.player_build.specs.Spans.{NamesParts}
+use Rattle.player_build.specs.Starts.{HoldsStart}
+
+-- it plays the song: any calls in any order, each by the image's bytes alone, and from the start on
+pub record Plays (packed : PackedSong) (song : Song) (o : Options) (built : Image)
+    (image : IsImageOf packed built.place o built.bytes) : Type 0 where
+  pub always : PlaysAlways built.bytes built.place.address built.place.zero_page song o
+  pub isolated : IsIsolated built.bytes built.place.address song
+  pub start : HoldsStart packed built.place o built.bytes image
+
+pub record IsBuild (packed : PackedSong) (place : Place) (o : Options) (built : Image) : Type 0 where
+  pub place_is : built.place ≡ place
+  pub image : IsImageOf packed built.place o built.bytes
+  pub size : length built.bytes ≡ image_length packed o
+  pub fits : place.address + length built.bytes ≤ image_end
+  pub parts : NamesParts packed o (length built.bytes) built.parts
+  pub plays : (song : Song) → StandsFor packed song → Plays packed song o built image

@@ -1,0 +1,30 @@
+-- Spans that stand one behind the other without a gap.
+use Rattle.std.specs.Prelude.{◌≡◌, ℕ, ◌+◌, List, [], ◌∷◌, ◌++◌, if◌then◌else◌}
+use Rattle.asm6502.specs.declared.lines.Line.{Line}
+use Rattle.asm6502.specs.Lines.{is_kept, item_size, kept, size_of}
+use Rattle.asm6502.specs.Parts.{part_size as bytes_in}
+use Rattle.player_code.specs.CodeLines.{always}
+use Rattle.player_build.specs.declared.image.PartSpan.{PartSpan}
+use Rattle.player_build.specs.Spans.{part_size}
+
+-- from one place up to another
+abbrev pub Follow : ℕ → List PartSpan → ℕ → Type 0
+Follow from [] to = from ≡ to
+Follow from (span ∷ rest) to = (span.start ≡ from) × Follow (from + span.length) rest to
+
+-- the bytes that a line takes in a listing that is assembled with a set
+abbrev pub kept_size : ℕ → Line → ℕ
+kept_size set line = if is_kept set line then item_size line.item else 0
+
+-- frequencies that stand from a place on
+abbrev pub frequency_span : ℕ → PartSpan
+frequency_span start = record { part = always; start = start; length = 98 }
+
+-- the spans of a listing's kept lines, and behind them those of the frequencies, with so many rows of the speed table
+-- between them
+pub record AreSpansOf (set : ℕ) (lines : List Line) (speeds : ℕ) (spans : List PartSpan) : Type 0 where
+  pub code : List PartSpan
+  pub follow : Follow 0 code (size_of (kept set lines))
+  pub parts : (part : ℕ) → part_size part code ≡ bytes_in part (kept set lines)
+  pub are : spans ≡ code
+      ++ frequency_span (size_of (kept set lines)) ∷ frequency_span (size_of (kept set lines) + 98 + speeds) ∷ []
