@@ -14,7 +14,7 @@ use Rattle.goat_cli.specs.Stands as stands
 use Rattle.goat_cli.specs.Stands.{FolderState, SinkState, AreFiles, Counted, Appends, Account, TellsWant, Stands, RunStands}
 use Rattle.goat_cli.specs.Answers.{IsOrdinary, IsPrinted, IsBeforeWriting, HoldsDone, ComesAbout, ComesWhere, SinkCounted, RunsPacked}
 use Rattle.goat_cli.specs.Traces.{first_traces}
-use Rattle.play_model.specs.State.{no_options}
+use Rattle.play_model.specs.declared.options.Options.{Options}
 use Rattle.goat_cli.proofs.Told.{as_before}
 use Rattle.goat_cli.proofs.Due.{is_no_stage, ends_with_stage, done_under, outcome_due, one_due, one_text}
 use Rattle.goat_cli.proofs.PlayedFiles.{packed_file_plays, packed_file_is_due}
@@ -248,12 +248,12 @@ module _ {words : List (List ℕ)} {files : Files} {answer : ℕ} {folder after 
 
   -- a packed file is run to its end, and prints its song's trace
   run_of_packed : folder.told ≡ Some files → Stands words files answer folder after s t →
-      (song : Song) (subtune frames : ℕ) →
-      RunsPacked words files song subtune frames → IsOneOf (0 ∷ 4 ∷ 10 ∷ 14 ∷ []) answer ×
+      (song : Song) (o : Options) (subtune frames : ℕ) →
+      RunsPacked words files song o subtune frames → IsOneOf (0 ∷ 4 ∷ 10 ∷ 14 ∷ []) answer ×
       (answer ≡ 0 →
-      t.told ≡ told_with_piece s.told (register_text (first_traces no_options song (subtune - 1) (frames + 1))))
-  run_of_packed known is song subtune frames runs = (
-    comes_due is 0 None (packed_file_is_due words files song subtune frames runs),
+      t.told ≡ told_with_piece s.told (register_text (first_traces o song (subtune - 1) (frames + 1))))
+  run_of_packed known is song o subtune frames runs = (
+    comes_due is 0 None (packed_file_is_due words files song o subtune frames runs),
     (λ zero.
         let other : (n : ℕ) → 0 ≢ n → answer ≢ n = λ n differ same. differ (sym zero ∙ same) in
         let ordinary : IsOrdinary answer = record {
@@ -264,10 +264,10 @@ module _ {words : List (List ℕ)} {files : Files} {answer : ℕ} {folder after 
         } in
         let came = outcome_is known is ordinary in
         let mine = subst (λ n. Outcome words files n came.lines came.write) zero came.outcome in
-        let write = writes_nothing came.write mine (packed_file_is_due words files song subtune frames runs) in
+        let write = writes_nothing came.write mine (packed_file_is_due words files song o subtune frames runs) in
         let same =
         one_text (subst (Outcome words files 0 came.lines) write mine)
-        (packed_file_plays words files song subtune frames runs) in
+        (packed_file_plays words files song o subtune frames runs) in
         came.appended ∙ ap (λ lines. told_with_piece s.told (concat lines)) same),
   )
 
@@ -310,8 +310,8 @@ module _ {words : List (List ℕ)} {answer : ℕ} {folder after : FolderState} {
   files_stay = early_stays run.stands
 
   pub packed_plays : IfSome folder.told
-      (λ files. (song : Song) (subtune frames : ℕ) → RunsPacked words files song subtune frames →
+      (λ files. (song : Song) (o : Options) (subtune frames : ℕ) → RunsPacked words files song o subtune frames →
       IsOneOf (0 ∷ 4 ∷ 10 ∷ 14 ∷ []) answer ×
       (answer ≡ 0 →
-      t.told ≡ told_with_piece s.told (register_text (first_traces no_options song (subtune - 1) (frames + 1)))))
+      t.told ≡ told_with_piece s.told (register_text (first_traces o song (subtune - 1) (frames + 1)))))
   packed_plays = told_case _ (λ files known is. run_of_packed known is)

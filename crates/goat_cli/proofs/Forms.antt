@@ -10,7 +10,7 @@ use Rattle.play_model.specs.Speeds.{IsSpeed}
 use Rattle.goat_cli.specs.Words.{Job, Pack, Copy, Edit, Check, Trace, Run, texts, format_word, skip_word, IsAddressWord, IsZeroPageWord, IsNumberWord, IsSpeedWord, AreOptionWords, unsaid, said, ArePackArguments, AreTraceArguments}
 use Rattle.goat_cli.specs.Jobs.{WordsOf, command_of}
 
--- ---- a list of five words
+-- ---- a list of so many words
 
 pub five_texts : (ws : List (String Global)) (a b c d e : String Global) → 5 ≤ length ws → length ws < 6 →
     a ≡ get_or ws 0 a → b ≡ get_or ws 1 b → c ≡ get_or ws 2 c → d ≡ get_or ws 3 d → e ≡ get_or ws 4 e →
@@ -31,6 +31,22 @@ three_texts (x0 ∷ []) a b c l m p q r = absurd (omega arith)
 three_texts (x0 ∷ x1 ∷ []) a b c l m p q r = absurd (omega arith)
 three_texts (x0 ∷ x1 ∷ x2 ∷ []) a b c l m p q r = cc
 three_texts (x0 ∷ x1 ∷ x2 ∷ x3 ∷ ws) a b c l m p q r = absurd (omega arith)
+
+pub seven_texts : (ws : List (String Global)) (a b c d e f g : String Global) → 7 ≤ length ws → length ws < 8 →
+    a ≡ get_or ws 0 a → b ≡ get_or ws 1 b → c ≡ get_or ws 2 c → d ≡ get_or ws 3 d → e ≡ get_or ws 4 e →
+    f ≡ get_or ws 5 f → g ≡ get_or ws 6 g →
+    texts ws
+    ≡ string_bytes a ∷ string_bytes b ∷ string_bytes c ∷ string_bytes d ∷ string_bytes e ∷ string_bytes f
+    ∷ string_bytes g ∷ []
+seven_texts [] a b c d e f g l m p q r s t u v = absurd (omega arith)
+seven_texts (x0 ∷ []) a b c d e f g l m p q r s t u v = absurd (omega arith)
+seven_texts (x0 ∷ x1 ∷ []) a b c d e f g l m p q r s t u v = absurd (omega arith)
+seven_texts (x0 ∷ x1 ∷ x2 ∷ []) a b c d e f g l m p q r s t u v = absurd (omega arith)
+seven_texts (x0 ∷ x1 ∷ x2 ∷ x3 ∷ []) a b c d e f g l m p q r s t u v = absurd (omega arith)
+seven_texts (x0 ∷ x1 ∷ x2 ∷ x3 ∷ x4 ∷ []) a b c d e f g l m p q r s t u v = absurd (omega arith)
+seven_texts (x0 ∷ x1 ∷ x2 ∷ x3 ∷ x4 ∷ x5 ∷ []) a b c d e f g l m p q r s t u v = absurd (omega arith)
+seven_texts (x0 ∷ x1 ∷ x2 ∷ x3 ∷ x4 ∷ x5 ∷ x6 ∷ []) a b c d e f g l m p q r s t u v = cc
+seven_texts (x0 ∷ x1 ∷ x2 ∷ x3 ∷ x4 ∷ x5 ∷ x6 ∷ x7 ∷ ws) a b c d e f g l m p q r s t u v = absurd (omega arith)
 
 -- ---- the arguments of `trace`
 
@@ -83,25 +99,20 @@ no_options_said ws a b c d e five none = λ input subtune frames o w.
 
 -- ---- the arguments of `pack`
 
-module _ (ws : List (List ℕ)) (a b c d e : List ℕ) (five : ws ≡ a ∷ b ∷ c ∷ d ∷ e ∷ []) where
-  pub no_format : ((psid : Bool) → c ≡ format_word psid → ⊥) →
-      (input output : List ℕ) (psid : Bool) (address zero_page : ℕ) →
-      ArePackArguments ws input output psid address zero_page → ⊥
-  no_format none = λ input output psid address zero_page w. none psid (cc (five, w.form))
+pub no_pack_options : (ws : List (List ℕ)) (a b c d e f g : List ℕ) → ws ≡ a ∷ b ∷ c ∷ d ∷ e ∷ f ∷ g ∷ [] →
+    ((o : Options) → AreOptionWords (f ∷ g ∷ []) o → ⊥) →
+    (input output : List ℕ) (psid : Bool) (address zero_page : ℕ) (o : Options) →
+    ArePackArguments ws input output psid address zero_page o → ⊥
+no_pack_options ws a b c d e f g seven none = λ input output psid address zero_page o w.
+    let same : w.option_words ≡ f ∷ g ∷ [] = cc (seven, w.form) in
+    none o (subst (λ words. AreOptionWords words o) same w.options_spelled)
 
-  pub no_address : ((address : ℕ) → IsAddressWord d address → ⊥) →
-      (input output : List ℕ) (psid : Bool) (address zero_page : ℕ) →
-      ArePackArguments ws input output psid address zero_page → ⊥
-  no_address none = λ input output psid address zero_page w.
-      let same : w.address_word ≡ d = cc (five, w.form) in
-      none address (subst (λ word. IsAddressWord word address) same w.address_spelled)
-
-  pub no_zero_page : ((zero_page : ℕ) → IsZeroPageWord e zero_page → ⊥) →
-      (input output : List ℕ) (psid : Bool) (address zero_page : ℕ) →
-      ArePackArguments ws input output psid address zero_page → ⊥
-  no_zero_page none = λ input output psid address zero_page w.
-      let same : w.zero_page_word ≡ e = cc (five, w.form) in
-      none zero_page (subst (λ word. IsZeroPageWord word zero_page) same w.zero_page_spelled)
+pub no_address_said : (a b c d e : List ℕ) → ((address : ℕ) → IsAddressWord d address → ⊥) →
+    (words : List (List ℕ)) (input output : List ℕ) (psid : Bool) (address zero_page : ℕ) (o : Options) →
+    ArePackArguments (a ∷ b ∷ c ∷ d ∷ e ∷ words) input output psid address zero_page o → ⊥
+no_address_said a b c d e none = λ words input output psid address zero_page o w.
+    let same : w.address_word ≡ d = cc (w.form) in
+    none address (subst (λ word. IsAddressWord word address) same w.address_spelled)
 
 -- ---- the words name one job
 
@@ -189,7 +200,7 @@ differ ws a b p q same other =
 
 -- words of one list name one job
 pub one_job : (ws : List (List ℕ)) (a b : Job) → WordsOf ws a → WordsOf ws b → a ≡ b
-one_job ws (Pack i o f a z) (Pack i2 o2 f2 a2 z2) p q =
+one_job ws (Pack i o f a z x) (Pack i2 o2 f2 a2 z2 x2) p q =
     let v = p.are_arguments in
     let w = q.are_arguments in
     let format : f ≡ f2 = same_format f f2 (cc (p.words_are, q.words_are, v.form, w.form)) in
@@ -197,8 +208,10 @@ one_job ws (Pack i o f a z) (Pack i2 o2 f2 a2 z2) p q =
     same_address (cc (p.words_are, q.words_are, v.form, w.form)) v.address_spelled w.address_spelled in
     let page : z ≡ z2 =
     same_zero_page (cc (p.words_are, q.words_are, v.form, w.form)) v.zero_page_spelled w.zero_page_spelled in
+    let options : x ≡ x2 =
+    same_options x x2 (cc (p.words_are, q.words_are, v.form, w.form)) v.options_spelled w.options_spelled in
     cc (p.words_are, q.words_are, v.form, w.form)
-one_job ws (Pack i o f a z) other p q = absurd (differ ws (Pack i o f a z) other p q refl refl)
+one_job ws (Pack i o f a z x) other p q = absurd (differ ws (Pack i o f a z x) other p q refl refl)
 one_job ws (Copy i o) (Copy i2 o2) p q = cc (p.words_are, q.words_are, p.are_arguments.0, q.are_arguments.0)
 one_job ws (Copy i o) other p q = absurd (differ ws (Copy i o) other p q refl refl)
 one_job ws (Edit i s o) (Edit i2 s2 o2) p q = cc (p.words_are, q.words_are, p.are_arguments.0, q.are_arguments.0)

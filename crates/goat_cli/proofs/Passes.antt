@@ -1,10 +1,9 @@
 -- Each stage passes where what it asks for is there, and ends a run with one text.
-use Rattle.std.proofs.Common.{◌≡◌, ℕ, ◌+◌, ◌-◌, ◌≤◌, List, [], ◌∷◌, ◌++◌, Some, None, Ok, Err, length, refl, sym, ap, ◌∙◌, subst, inl, inr, arith}
+use Rattle.std.proofs.Common.{◌≡◌, ℕ, ◌+◌, ◌-◌, ◌<◌, ◌≤◌, List, [], ◌∷◌, ◌++◌, Some, None, Ok, Err, length, refl, sym, ap, ◌∙◌, subst, inl, inr, arith}
 use Rattle.std.proofs.lemmas.Bool.{cases_lt}
 use Rattle.goat_io.specs.Files.{Files, file_of}
 use Rattle.song_model.specs.declared.songs.Song.{Song}
 use Rattle.song_model.specs.LookUp.{IsNumbered, playable_subtunes}
-use Rattle.song_model.specs.Silent.{IsSilent}
 use Rattle.gts5.specs.Spells.{Spells}
 use Rattle.gts5.specs.Faults.{fault_of}
 use Rattle.edit_script.specs.Edited.{IsEditedBy, FailsAt}
@@ -14,18 +13,23 @@ use Rattle.psid.specs.Reading.{psid_read}
 use Rattle.sid_run.specs.State.{loaded}
 use Rattle.goat_cli.specs.Calls.{HasSubtune, FirstCalls, MeetsStopAt, StopsIn}
 use Rattle.goat_cli.specs.RegisterText.{register_lines}
-use Rattle.goat_cli.specs.Lines.{song_fault_line, unplayable_line, too_large_line, psid_fault_line, no_subtune_line, script_line, stop_line}
-use Rattle.goat_cli.specs.Stages.{Stage, IsThere, Fits, SpellsSong, CanBePlayed, HasShortPatterns, CanBePacked, HasPlayableSubtune, CanBeEdited, IsPsid, OffersSubtune, CallsReturn, HoldsSong, HoldsPsid, IsMet, Ends, Passes}
+use Rattle.goat_cli.specs.Lines.{song_fault_line, unplayable_line, too_large_line, image_too_large_line, psid_fault_line, no_subtune_line, script_line, stop_line}
+use Rattle.goat_cli.specs.Stages.{Stage, IsThere, Fits, SpellsSong, CanBePlayed, HasShortPatterns, HasRoomForImage, HasPlayableSubtune, CanBeEdited, IsPsid, OffersSubtune, CallsReturn, HoldsSong, HoldsPsid, IsMet, Ends, Passes}
+use Rattle.play_model.specs.declared.options.Options.{Options}
 use Rattle.play_model.specs.Playable.{IsPlayable, IsRefusedFor}
 use Rattle.play_model.proofs.Laws.{refused_or_playable_lem}
 use Rattle.usage.proofs.Laws.{one_refusal}
 use Rattle.packed_form.specs.UsedSets.{UsedSets, AreUsedSets}
 use Rattle.packed_form.specs.Renumbering.{pattern_text}
+use Rattle.packed_form.specs.SongSizes.{packed_size}
 use Rattle.packed_form.proofs.Laws.{same_sets}
 use Rattle.song_pack.specs.Answers.{AreShort, IsTooLong}
+use Rattle.player_code.specs.Lengths.{code_length}
+use Rattle.goat_cli.specs.Packed.{IsImageLength}
 use Rattle.goat_cli.specs.Laws.{PlayableSongsPass}
 use Rattle.gts5.proofs.Laws.{spells_once, spells_has_no_fault}
 use Rattle.goat_cli.proofs.Calls.{returned_or_stopped, one_list, one_stop_at, one_reason}
+use Rattle.goat_cli.proofs.OneFeatures.{one_features}
 
 -- a name has one file, which spells one song and is one PSID file
 pub one_file : (files : Files) (name a b : List ℕ) → file_of files name ≡ Some a → file_of files name ≡ Some b → a ≡ b
@@ -88,6 +92,17 @@ one_too_long song used p q m n one other =
     let count : m ≡ n = sym one.text ∙ ap (λ k. length (pattern_text song used k)) same ∙ other.text in
     ap (λ k. too_large_line k m ∷ []) same ∙ ap (λ k. too_large_line q k ∷ []) count
 
+-- the image of a song has one length
+pub one_length : (song : Song) (o : Options) (m n : ℕ) → IsImageLength song o m → IsImageLength song o n → m ≡ n
+one_length song o m n p q =
+    let used = same_sets song p.used q.used p.are_used q.are_used in
+    let features = one_features song p.features q.features p.are_features q.are_features in
+    p.count_is ∙ ap (λ u. packed_size song u + code_length p.features o) used
+    ∙ ap (λ f. packed_size song q.used + code_length f o) features ∙ sym q.count_is
+
+too_large_or_not : (end address m n : ℕ) → m ≡ n → address + m ≤ end → end < address + n → ⊥
+too_large_or_not end address m n same fits passes = omega arith
+
 -- ---- what each stage asks for lets it pass, and each stage ends a run with one text
 
 pub record StageFacts (files : Files) (stage : Stage) : Type 0 where
@@ -137,9 +152,16 @@ module _ (files : Files) where
         let long = subst (λ u. IsTooLong q.0 u p.2 p.3) used (subst (λ s. IsTooLong s p.1 p.2 p.3) song p.6) in
         p.7 ∙ one_too_long q.0 q.1 p.2 q.2 p.3 q.3 long q.6 ∙ sym q.7;
   }
-  stage_facts (CanBePacked name) = record {
-    passes = λ met lines ends. ends.2 (subst IsSilent (one_song_held files name met.0 ends.0 met.1 ends.1) met.2);
-    once = λ lines others p q. p.3 ∙ sym q.3;
+  stage_facts (HasRoomForImage name address o) = record {
+    passes = λ met lines ends.
+        let song = one_song_held files name met.0 ends.0 met.2 ends.2 in
+        let count =
+        one_length ends.0 o met.1 ends.1 (subst (λ s. IsImageLength s o met.1) song met.3) ends.3 in
+        too_large_or_not 0xD000 address met.1 ends.1 count met.4 ends.4;
+    once = λ lines others p q.
+        let song = one_song_held files name p.0 q.0 p.2 q.2 in
+        let count = one_length q.0 o p.1 q.1 (subst (λ s. IsImageLength s o p.1) song p.3) q.3 in
+        p.5 ∙ ap (λ n. image_too_large_line n ∷ []) count ∙ sym q.5;
   }
   stage_facts (CanBeEdited name script) = record {
     passes = λ met lines ends.

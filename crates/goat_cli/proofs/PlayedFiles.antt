@@ -1,11 +1,12 @@
 -- A packed file that is run plays its song.
-use Rattle.std.proofs.Common.{◌≡◌, ℕ, zero, suc, ◌+◌, ◌-◌, ◌≤◌, ◌<◌, List, [], ◌++◌, None, Ok, All, length, refl, sym, ap, ◌∙◌, subst, arith, lit≤}
+use Rattle.std.proofs.Common.{◌≡◌, ℕ, zero, suc, ◌+◌, ◌-◌, ◌≤◌, ◌<◌, ◌^◌, Bool, true, false, if◌then◌else◌, nat_eq, List, [], ◌++◌, None, Ok, All, length, refl, sym, ap, ◌∙◌, subst, arith, lit≤, lit<}
 use Rattle.song_model.specs.declared.songs.Song.{Song}
 use Rattle.song_model.specs.Limits.{KeepsLimits}
 use Rattle.base.proofs.Laws.{All-append_right}
 use Rattle.std.proofs.lemmas.List.Sums.{length-filter, count_by-le-length}
 use Rattle.song_model.specs.LookUp.{playable_subtunes, is_playable_subtune}
-use Rattle.play_model.specs.Frame.{trace}
+use Rattle.play_model.specs.declared.options.Options.{Options}
+use Rattle.play_model.specs.Frame.{trace_with}
 use Rattle.cpu6502.specs.declared.machine.Machine.{Machine}
 use Rattle.cpu6502.specs.Code.{IsMachine}
 use Rattle.cpu6502.proofs.Laws.{call_keeps}
@@ -20,9 +21,9 @@ use Rattle.sid_run.proofs.Laws.{image_stands, loaded_is_machine}
 use Rattle.goat_io.specs.Files.{Files}
 use Rattle.goat_cli.specs.Words.{Run}
 use Rattle.goat_cli.specs.Calls.{HasSubtune, ReturnsTo, FirstCalls}
-use Rattle.goat_cli.specs.Faithful.{Leaves, PlaysOn, IsFaithful}
-use Rattle.goat_cli.specs.Place.{IsAddress}
-use Rattle.goat_cli.specs.Packed.{song_header, psid_file}
+use Rattle.images.specs.Faithful.{Leaves, PlaysOn, IsFaithful}
+use Rattle.player_parts.specs.Places.{IsAddress}
+use Rattle.goat_cli.specs.Packed.{song_header, psid_file, caller_bits}
 use Rattle.goat_cli.specs.RegisterText.{register_lines}
 use Rattle.goat_cli.specs.Stages.{IsThere, Fits, IsPsid, OffersSubtune, CallsReturn, HoldsPsid, AllPass, input_limit}
 use Rattle.goat_cli.specs.Jobs.{stages, Shows}
@@ -30,65 +31,64 @@ use Rattle.goat_cli.specs.Outcome as outcome
 use Rattle.goat_cli.specs.Outcome.{Outcome}
 use Rattle.goat_cli.specs.Due as due
 use Rattle.goat_cli.specs.Due.{IsDue}
-use Rattle.play_model.specs.State.{no_options}
 use Rattle.goat_cli.specs.Traces.{first_traces}
 use Rattle.goat_cli.specs.Answers.{IsPackedPsid, RunsPacked}
 use Rattle.goat_cli.specs.Laws.{PackedFilesPlay}
 use Rattle.goat_cli.proofs.Passes.{met_passes}
 
 -- what a call of a faithful image leaves is what a call of a loaded file returns with
-returned_by : (image : List ℕ) (address zero_page : ℕ) (machine : Machine) (entry number : ℕ) (registers : List ℕ)
-    (after : Machine) →
-    Leaves image address zero_page machine entry number registers after → ReturnsTo machine entry number registers after
-returned_by image address zero_page machine entry number registers after leaves = record {
+returned_by : (image : List ℕ) (address zero_page : ℕ) (o : Options) (machine : Machine) (entry number : ℕ)
+    (registers : List ℕ) (after : Machine) →
+    Leaves image address zero_page o machine entry number registers after →
+    ReturnsTo machine entry number registers after
+returned_by image address zero_page o machine entry number registers after leaves = record {
   steps = leaves.steps;
   within = leaves.within;
   called = leaves.called;
   registers_are = leaves.registers_are;
 }
 
-module _ (file : RunnerState) (image : List ℕ) (address zero_page : ℕ) (song : Song) (k : ℕ)
+module _ (file : RunnerState) (image : List ℕ) (address zero_page : ℕ) (song : Song) (o : Options) (k : ℕ)
     (init : file.init ≡ address) (play : file.play ≡ address + 3) (play_small : address + 3 < 65536) where
   -- the machine that the first calls leave, with the plays that follow
   record PlaysOnFrom (calls : ℕ) : Type 0 where
     after : Machine
     is : IsMachine after
-    first : FirstCalls file k calls (first_traces no_options song k calls) after
+    first : FirstCalls file k calls (first_traces o song k calls) after
 
   play_on : (n i : ℕ) (before : Machine) → IsMachine before →
-      FirstCalls file k (suc i) (first_traces no_options song k (suc i)) before →
-      PlaysOn image address zero_page song k (suc i) n before → PlaysOnFrom (n + suc i)
-  unfolding trace
+      FirstCalls file k (suc i) (first_traces o song k (suc i)) before →
+      PlaysOn image address zero_page song o k (suc i) n before → PlaysOnFrom (n + suc i)
   play_on zero i before is first plays =
       let z : 0 + suc i ≡ suc i = omega arith in rw z (record { after = before; is = is; first = first })
   play_on (suc n) i before is first plays =
       let next = plays before before.cpu.a is is.a (record { same = λ j inside. refl }) in
-      let after = next.0 in
+      let after = next.after in
       let returns =
-      subst (λ entry. ReturnsTo before entry before.cpu.a (trace song k (suc i)) after) (sym play)
-      (returned_by image address zero_page before (address + 3) before.cpu.a (trace song k (suc i)) after next.1) in
-      let there = call_keeps before after (address + 3) before.cpu.a next.1.steps is play_small is.a next.1.called in
+      subst (λ entry. ReturnsTo before entry before.cpu.a (trace_with o song k (suc i)) after) (sym play)
+      (returned_by image address zero_page o before (address + 3) before.cpu.a (trace_with o song k (suc i)) after next.leaves)
+      in
+      let there = call_keeps before after (address + 3) before.cpu.a next.leaves.steps is play_small is.a next.leaves.called in
       let z : suc n + suc i ≡ n + suc (suc i) = omega arith in
       rw z
       (play_on n (suc i) after there
-      (first_traces no_options song k (suc i), before, trace song k (suc i), first, returns, refl) next.2)
+      (first_traces o song k (suc i), before, trace_with o song k (suc i), first, returns, refl) next.goes_on)
 
   -- init, and the plays after it
   plays_all : (frames : ℕ) → IsMachine file.machine → k < 256 → (after : Machine) →
-      Leaves image address zero_page file.machine address k (trace song k 0) after →
-      PlaysOn image address zero_page song k 1 frames after → PlaysOnFrom (frames + 1)
-  unfolding trace
+      Leaves image address zero_page o file.machine address k (trace_with o song k 0) after →
+      PlaysOn image address zero_page song o k 1 frames after → PlaysOnFrom (frames + 1)
   plays_all frames is small after leaves plays =
       let returns =
-      subst (λ entry. ReturnsTo file.machine entry k (trace song k 0) after) (sym init)
-      (returned_by image address zero_page file.machine address k (trace song k 0) after leaves) in
+      subst (λ entry. ReturnsTo file.machine entry k (trace_with o song k 0) after) (sym init)
+      (returned_by image address zero_page o file.machine address k (trace_with o song k 0) after leaves) in
       let there =
       call_keeps file.machine after address k leaves.steps is (omega (arith, play_small)) small leaves.called in
-      play_on frames 0 after there ([], file.machine, trace song k 0, (refl, refl), returns, refl) plays
+      play_on frames 0 after there ([], file.machine, trace_with o song k 0, (refl, refl), returns, refl) plays
 
 -- ---- a packed file
 
-count_small : (song : Song) → KeepsLimits song → length (playable_subtunes song) ≤ 32
+pub count_small : (song : Song) → KeepsLimits song → length (playable_subtunes song) ≤ 32
 count_small song keeps =
     omega (
       arith,
@@ -97,29 +97,38 @@ count_small song keeps =
       keeps.subtunes.count,
     )
 
-header_is : (song : Song) (address : ℕ) → KeepsLimits song → IsAddress address → IsHeader (song_header song address)
-header_is song address keeps place = record {
+caller_small : (speed : ℕ) → caller_bits speed < 2 ^ 32
+caller_small speed = both (nat_eq speed 1)
+  where
+    both : (one : Bool) → (if one then 0 else 0xFFFFFFFF) < 2 ^ 32
+    both true = lit< tt
+    both false = lit< tt
+
+header_is : (song : Song) (address : ℕ) (o : Options) → KeepsLimits song → IsAddress address →
+    IsHeader (song_header song address o)
+header_is song address o keeps place = record {
   init = omega (arith, place.most);
   play = omega (arith, place.most);
   songs = omega (arith, count_small song keeps);
   start_song = lit≤ tt;
-  speed = lit≤ tt;
+  speed = caller_small o.speed;
   name = keeps.name.count;
   author = keeps.author.count;
   released = keeps.copyright.count;
   flags = lit≤ tt;
 }
 
-writable : (song : Song) (address : ℕ) (image : List ℕ) → KeepsLimits song → IsAddress address → length image ≤ 64 →
-    1 ≤ length (playable_subtunes song) → IsWritable (song_header song address) address image
-writable song address image keeps place small some = record {
+pub writable : (song : Song) (address : ℕ) (image : List ℕ) (o : Options) → KeepsLimits song →
+    address + length image ≤ 0xD000 → 1 ≤ length (playable_subtunes song) →
+    IsWritable (song_header song address o) address image
+writable song address image o keeps below some = record {
   has_play = omega arith;
   has_no_kind = refl;
   has_song = some;
   most_songs = omega (arith, count_small song keeps);
   has_start = lit≤ tt;
   start_is_song = some;
-  fits = omega (arith, place.most, small);
+  fits = omega (arith, below);
 }
 
 -- the image's bytes are among the file's
@@ -127,57 +136,58 @@ image_bytes : (header : Header) (load : ℕ) (image : List ℕ) → All (λ byte
     All (λ byte. byte < 256) image
 image_bytes header load image = All-append_right (λ byte. byte < 256) (header_bytes header ++ address_bytes load) image
 
-module _ (song : Song) (address zero_page : ℕ) (image : List ℕ) (keeps : KeepsLimits song) (place : IsAddress address)
-    (small : length image ≤ 64) (faithful : IsFaithful image address zero_page song) where
+module _ (song : Song) (o : Options) (address zero_page : ℕ) (image : List ℕ) (keeps : KeepsLimits song)
+    (place : IsAddress address) (below : address + length image ≤ 0xD000)
+    (faithful : IsFaithful image address zero_page song o) where
   abbrev packed : Psid
-  packed = record { header = song_header song address; load = address; image = image }
+  packed = record { header = song_header song address o; load = address; image = image }
 
   -- the calls of a packed file, with the registers of the song's trace
   pub record Plays (subtune frames : ℕ) : Type 0 where
-    pub reads : psid_read (psid_file song address image) ≡ Ok packed
+    pub reads : psid_read (psid_file song address image o) ≡ Ok packed
     pub after : Machine
     pub calls : FirstCalls (loaded packed) (subtune - 1) (frames + 1)
-        (first_traces no_options song (subtune - 1) (frames + 1)) after
+        (first_traces o song (subtune - 1) (frames + 1)) after
 
-  plays_its_song : (subtune frames : ℕ) → All (λ byte. byte < 256) (psid_file song address image) → 1 ≤ subtune →
+  plays_its_song : (subtune frames : ℕ) → All (λ byte. byte < 256) (psid_file song address image o) → 1 ≤ subtune →
       subtune ≤ length (playable_subtunes song) → Plays subtune frames
   plays_its_song subtune frames all first last =
-      let fits : address + length image ≤ 65536 = omega (arith, place.most, small) in
-      let bytes = image_bytes (song_header song address) address image all in
+      let fits : address + length image ≤ 65536 = omega (arith, below) in
+      let bytes = image_bytes (song_header song address o) address image all in
       let reads =
-      written_is_read_as_is (song_header song address) address image (header_is song address keeps place)
-      (omega (arith, place.most)) (writable song address image keeps place small (omega (arith, first, last)))
+      written_is_read_as_is (song_header song address o) address image (header_is song address o keeps place)
+      (omega (arith, place.most)) (writable song address image o keeps below (omega (arith, first, last)))
       (λ never. omega (arith, never, place.least)) in
       let is = loaded_is_machine packed fits bytes in
       let holds = image_stands packed fits in
       let began = faithful.plays (subtune - 1) frames (loaded_machine packed) (omega (arith, first, last)) is holds in
       let later =
-      plays_all (loaded packed) image address zero_page song (subtune - 1) refl refl (omega (arith, place.most))
-      frames is (omega (arith, last, count_small song keeps)) began.0 began.1 began.2 in
+      plays_all (loaded packed) image address zero_page song o (subtune - 1) refl refl (omega (arith, place.most))
+      frames is (omega (arith, last, count_small song keeps)) began.after began.leaves began.goes_on in
       record { reads = reads; after = later.after; calls = later.first }
 
 -- the packed file of a song, as a PSID file
-abbrev psid_of : (song : Song) (file : List ℕ) → IsPackedPsid song file → Psid
-psid_of song file is = record { header = song_header song is.address; load = is.address; image = is.packed.image }
+abbrev psid_of : (song : Song) (o : Options) (file : List ℕ) → IsPackedPsid song o file → Psid
+psid_of song o file is = record { header = song_header song is.address o; load = is.address; image = is.packed.image }
 
-plays : (song : Song) (file : List ℕ) (subtune frames : ℕ) (is : IsPackedPsid song file) → 1 ≤ subtune →
-    subtune ≤ length (playable_subtunes song) →
-    Plays song is.address is.zero_page is.packed.image is.keeps is.place is.packed.small is.packed.faithful subtune
+plays : (song : Song) (o : Options) (file : List ℕ) (subtune frames : ℕ) (is : IsPackedPsid song o file) →
+    1 ≤ subtune → subtune ≤ length (playable_subtunes song) →
+    Plays song o is.address is.zero_page is.packed.image is.keeps is.place is.packed.below is.packed.faithful subtune
     frames
-plays song file subtune frames is first last =
-    plays_its_song song is.address is.zero_page is.packed.image is.keeps is.place is.packed.small is.packed.faithful
+plays song o file subtune frames is first last =
+    plays_its_song song o is.address is.zero_page is.packed.image is.keeps is.place is.packed.below is.packed.faithful
     subtune frames (subst (All (λ byte. byte < 256)) is.packed.holds is.bytes) first last
 
 pub packed_files_play : PackedFilesPlay
-packed_files_play song file subtune frames is first last =
-    let its = plays song file subtune frames is first last in
-    let has : HasSubtune (psid_of song file is) subtune = record { first = first; last = last } in
-    (psid_of song file is, ap psid_read is.packed.holds ∙ its.reads, has, its.after, its.calls)
+packed_files_play song o file subtune frames is first last =
+    let its = plays song o file subtune frames is first last in
+    let has : HasSubtune (psid_of song o file is) subtune = record { first = first; last = last } in
+    (psid_of song o file is, ap psid_read is.packed.holds ∙ its.reads, has, its.after, its.calls)
 
-module _ (words : List (List ℕ)) (files : Files) (song : Song) (subtune frames : ℕ)
-    (runs : RunsPacked words files song subtune frames) where
+module _ (words : List (List ℕ)) (files : Files) (song : Song) (o : Options) (subtune frames : ℕ)
+    (runs : RunsPacked words files song o subtune frames) where
   abbrev traces : List (List ℕ)
-  traces = first_traces no_options song (subtune - 1) (frames + 1)
+  traces = first_traces o song (subtune - 1) (frames + 1)
 
   pub record Met : Type 0 where
     pub psid : Psid
@@ -188,7 +198,7 @@ module _ (words : List (List ℕ)) (files : Files) (song : Song) (subtune frames
 
   met : Met
   met =
-      let is = packed_files_play song runs.file subtune frames runs.is_packed runs.first runs.last in
+      let is = packed_files_play song o runs.file subtune frames runs.is_packed runs.first runs.last in
       let held : HoldsPsid files runs.input is.0 = record { bytes = runs.file; found = runs.found; reads = is.1 } in
       record {
         psid = is.0;

@@ -7,8 +7,9 @@ use Rattle.goat_io.specs.Written.{told_with_piece}
 use Rattle.song_model.specs.declared.songs.Song.{Song}
 use Rattle.song_model.specs.Limits.{KeepsLimits}
 use Rattle.song_model.specs.LookUp.{playable_subtunes}
+use Rattle.play_model.specs.declared.options.Options.{Options}
+use Rattle.player_parts.specs.Places.{IsAddress}
 use Rattle.goat_cli.specs.Words.{Job, Run}
-use Rattle.goat_cli.specs.Place.{IsAddress}
 use Rattle.goat_cli.specs.Stages.{AllPass, input_limit}
 use Rattle.goat_cli.specs.Jobs.{WordsOf, stages, Done}
 use Rattle.goat_cli.specs.Outcome.{Outcome, files_after}
@@ -64,22 +65,23 @@ pub record SinkCounted (status before after : ℕ) : Type 0 where
   pub stays : status ≢ 10 → after ≡ before
 
 -- the file is made of bytes, the song keeps the limits of the format, and the file is a packed PSID file of the
--- song, for some allowed address and some zero page
-pub record IsPackedPsid (song : Song) (file : List ℕ) : Type 0 where
+-- song, played with these options, for some allowed address and some zero page
+pub record IsPackedPsid (song : Song) (options : Options) (file : List ℕ) : Type 0 where
   pub bytes : All (λ byte. byte < 256) file
   pub keeps : KeepsLimits song
   pub address : ℕ
   pub zero_page : ℕ
   pub place : IsAddress address
-  pub packed : IsPackedFile true address zero_page song file
+  pub packed : IsPackedFile true address zero_page song options file
 
 -- the words ask for a run of a packed PSID file of the song: of its subtune, counted from 1, with this number of frames
-pub record RunsPacked (words : List (List ℕ)) (files : Files) (song : Song) (subtune frames : ℕ) : Type 0 where
+pub record RunsPacked (words : List (List ℕ)) (files : Files) (song : Song) (options : Options)
+    (subtune frames : ℕ) : Type 0 where
   pub input : List ℕ
   pub form : WordsOf words (Run input subtune frames)
   pub file : List ℕ
   pub found : file_of files input ≡ Some file
   pub fits : length file ≤ input_limit
-  pub is_packed : IsPackedPsid song file
+  pub is_packed : IsPackedPsid song options file
   pub first : 1 ≤ subtune
   pub last : subtune ≤ length (playable_subtunes song)

@@ -3,6 +3,11 @@ use Rattle.std.specs.Prelude.{◌≡◌, ◌≢◌, ℕ, ◌+◌, ◌≤◌, Lis
 use Rattle.std.specs.List.{concat}
 use Rattle.goat_io.specs.Files.{Files, file_of, told_with_file, IsAbsent, IsAbove, IsWrittenInPart}
 use Rattle.song_model.specs.declared.songs.Song.{Song}
+use Rattle.packed_form.specs.declared.packed_songs.PackedSong.{PackedSong}
+use Rattle.packed_form.specs.Sizes.{packed_song_size}
+use Rattle.packed_form.specs.UsedSets.{UsedSets, AreUsedSets}
+use Rattle.packed_form.specs.SongSizes.{packed_size}
+use Rattle.packed_form.specs.StandsFor.{StandsFor}
 use Rattle.gts5.specs.Spells.{Spells}
 use Rattle.edit_script.specs.Edited.{FailsAt}
 use Rattle.cpu6502.specs.declared.machine.Machine.{Machine}
@@ -79,6 +84,13 @@ pub data EditFails (text : List ℕ) (song : Song) (last : Last) : Type 0 where
   fails : (number : ℕ) (words : List ℕ) → FailsAt text song number words → last ≡ Says 8 (script_line number words) →
       EditFails text song last
   wanting : last ≡ Wants → EditFails text song last
+
+-- a packed song stands for a song, and has the bytes of the song's packed data
+pub record PacksSong (packed : PackedSong) (song : Song) : Type 0 where
+  pub stands : StandsFor packed song
+  pub used : UsedSets
+  pub are_used : AreUsedSets song used
+  pub size : packed_song_size packed ≡ packed_size song used
 
 -- a file was written, or not
 pub data WriteEnds (name bytes : List ℕ) (before after : FolderState) (last : Last) : Type 0 where

@@ -4,7 +4,8 @@ use Rattle.goat_cli.specs.declared.words.Job.TheVariants.{Pack, Copy, Edit, Chec
 use Rattle.goat_cli.specs.Words as asked
 
 abbrev pub job_of : Job → asked.Job
-job_of (Pack input output psid address zero_page) = asked.Pack input.now output.now psid address zero_page
+job_of (Pack input output psid address zero_page options) =
+    asked.Pack input.now output.now psid address zero_page options
 job_of (Copy input output) = asked.Copy input.now output.now
 job_of (Edit input script output) = asked.Edit input.now script.now output.now
 job_of (Check input) = asked.Check input.now

@@ -11,8 +11,8 @@ use Rattle.psid.specs.declared.header.Psid.{Psid}
 use Rattle.cpu6502.specs.declared.machine.Machine.{Machine}
 use Rattle.sid_run.specs.State.{loaded}
 use Rattle.goat_cli.specs.Words.{Job, Pack, Copy, Edit, Check, Trace, Run, ArePackArguments, AreTraceArguments, AreRunArguments}
-use Rattle.goat_cli.specs.Stages.{Stage, IsThere, Fits, SpellsSong, CanBePlayed, HasShortPatterns, CanBePacked, HasPlayableSubtune, CanBeEdited, IsPsid, OffersSubtune, CallsReturn, HoldsSong, HoldsPsid, IsEditedIn, input_limit, script_limit}
-use Rattle.goat_cli.specs.Packed.{IsPackedFile}
+use Rattle.goat_cli.specs.Stages.{Stage, IsThere, Fits, SpellsSong, CanBePlayed, HasShortPatterns, HasRoomForImage, HasPlayableSubtune, CanBeEdited, IsPsid, OffersSubtune, CallsReturn, HoldsSong, HoldsPsid, IsEditedIn, input_limit, script_limit}
+use Rattle.goat_cli.specs.Packed.{IsWrittenFile}
 use Rattle.goat_cli.specs.Calls.{FirstCalls}
 use Rattle.goat_cli.specs.RegisterText.{register_lines}
 use Rattle.goat_cli.specs.Traces.{first_traces}
@@ -39,14 +39,14 @@ pub record About : Type 1 where
   pub does : Deed
 
 abbrev pub about : Job → About
--- of a song a packed file is written
-about (Pack input output psid address zero_page) = record {
+-- of a song a packed file is written, played with these options
+about (Pack input output psid address zero_page options) = record {
   command = codes "pack";
-  has_arguments = λ words. ArePackArguments words input output psid address zero_page;
+  has_arguments = λ words. ArePackArguments words input output psid address zero_page options;
   stages = IsThere input ∷ Fits input input_limit ∷ SpellsSong input ∷ CanBePlayed input ∷ HasShortPatterns input ∷
-      CanBePacked input ∷ [];
+      HasRoomForImage input address options ∷ [];
   does = WritesFile output (λ files file. (song : Song) × HoldsSong files input song ×
-      IsPackedFile psid address zero_page song file);
+      IsWrittenFile psid address zero_page song options file);
 }
 -- of a song the canonical spelling is written; the arguments are `IN OUT`
 about (Copy input output) = record {

@@ -1,22 +1,26 @@
 -- What follows from the definitions: words name one job, a run has one outcome, each status comes exactly where its
--- cause is, and a packed file that is run prints its song.
-use Rattle.std.specs.Prelude.{◌≡◌, ◌≢◌, ℕ, ◌+◌, ◌-◌, ◌^◌, ◌<◌, ◌≤◌, ◌↔◌, List, Option, None, Ok, length, sum_by}
+-- cause is, which songs are packed, and a packed file that is run prints its song.
+use Rattle.std.specs.Prelude.{◌≡◌, ◌≢◌, ℕ, ◌+◌, ◌-◌, ◌^◌, ◌<◌, ◌≤◌, ◌↔◌, Bool, List, Option, None, Ok, length, sum_by}
 use Rattle.goat_io.specs.Files.{Files}
 use Rattle.song_model.specs.declared.songs.Song.{Song}
 use Rattle.song_model.specs.LookUp.{playable_subtunes}
+use Rattle.play_model.specs.declared.options.Options.{Options}
+use Rattle.play_model.specs.Playable.{IsPlayable}
+use Rattle.play_model.specs.Features.{AreFeatures}
+use Rattle.packed_form.specs.UsedSets.{UsedSets, AreUsedSets}
+use Rattle.packed_form.specs.SongSizes.{data_size, code_bound}
+use Rattle.song_pack.specs.Answers.{AreShort}
 use Rattle.cpu6502.specs.declared.machine.Machine.{Machine}
 use Rattle.sid_run.specs.State.{loaded}
 use Rattle.psid.specs.declared.header.Psid.{Psid}
 use Rattle.psid.specs.Reading.{psid_read}
-use Rattle.goat_cli.specs.Words.{Job}
+use Rattle.goat_cli.specs.Words.{Job, Pack}
 use Rattle.goat_cli.specs.Calls.{HasSubtune, FirstCalls}
-use Rattle.play_model.specs.Playable.{IsPlayable}
-use Rattle.goat_cli.specs.Stages.{Stage, CanBePlayed, HoldsSong, status_of, Ends, IsMet, Passes, AllPass}
+use Rattle.goat_cli.specs.Stages.{Stage, CanBePlayed, HasRoomForImage, HoldsSong, status_of, Ends, IsMet, Passes, AllPass, input_limit}
 use Rattle.goat_cli.specs.Jobs.{WordsOf, IsNoForm, stages}
 use Rattle.goat_cli.specs.Outcome.{Outcome}
 use Rattle.goat_cli.specs.Due.{IsDue}
 use Rattle.goat_cli.specs.Stands.{ComesTo}
-use Rattle.play_model.specs.State.{no_options}
 use Rattle.goat_cli.specs.Traces.{first_traces}
 use Rattle.goat_cli.specs.Answers.{IsPackedPsid}
 use Rattle.goat_cli.specs.declared.message.Piece.{Piece}
@@ -69,16 +73,47 @@ abbrev pub PlayableSongsPass : Type 0
 PlayableSongsPass = (files : Files) (name : List ℕ) (song : Song) → HoldsSong files name song →
     Passes files (CanBePlayed name) ↔ IsPlayable song
 
+-- ---- which songs are packed
+
+-- the image of a song is refused only where the song's data and the bound of a player's code pass $D000 too
+abbrev pub OnlyLargeImagesAreRefused : Type 0
+OnlyLargeImagesAreRefused =
+    (files : Files) (name : List ℕ) (address : ℕ) (options : Options) (lines : List (List ℕ)) (song : Song)
+    (used : UsedSets) (features : ℕ) → Ends files (HasRoomForImage name address options) lines →
+    HoldsSong files name song → AreUsedSets song used → AreFeatures song features →
+    0xD000 < address + data_size song used + code_bound features options
+
+-- a file with a song that can be played, with patterns that are short, and small enough for its image at the address
+pub record HoldsSmallSong (files : Files) (name : List ℕ) (address : ℕ) (options : Options) : Type 0 where
+  pub song : Song
+  pub used : UsedSets
+  pub features : ℕ
+  pub holds : HoldsSong files name song
+  pub fits : length holds.bytes ≤ input_limit
+  pub playable : IsPlayable song
+  pub are_used : AreUsedSets song used
+  pub are_features : AreFeatures song features
+  pub short : AreShort song used
+  pub room : address + data_size song used + code_bound features options ≤ 0xD000
+
+-- it is packed: all stages pass
+abbrev pub SmallSongsArePacked : Type 0
+SmallSongsArePacked =
+    (files : Files) (input output : List ℕ) (psid : Bool) (address zero_page : ℕ) (options : Options) →
+    HoldsSmallSong files input address options →
+    AllPass files (stages (Pack input output psid address zero_page options))
+
 -- ---- packed files
 
 -- a packed PSID file is read, has the subtune, and its calls return with the registers of the subtune's trace, for any
 -- number of frames
 abbrev pub PackedFilesPlay : Type 0
 PackedFilesPlay =
-    (song : Song) (file : List ℕ) (subtune frames : ℕ) → IsPackedPsid song file → 1 ≤ subtune →
+    (song : Song) (options : Options) (file : List ℕ) (subtune frames : ℕ) → IsPackedPsid song options file →
+    1 ≤ subtune →
     subtune ≤ length (playable_subtunes song) →
     (psid : Psid) × (psid_read file ≡ Ok psid) × HasSubtune psid subtune × (after : Machine) ×
-    FirstCalls (loaded psid) (subtune - 1) (frames + 1) (first_traces no_options song (subtune - 1) (frames + 1)) after
+    FirstCalls (loaded psid) (subtune - 1) (frames + 1) (first_traces options song (subtune - 1) (frames + 1)) after
 
 -- ---- room
 

@@ -1,14 +1,11 @@
 -- To believe: the command line, the stages of a job, what a job does, and what stands after a run.
-pub mod Place
 pub mod Words
 pub mod Lines
 pub mod RegisterText
 pub mod Traces
 pub mod Calls
-pub mod Stages
-pub mod Confined
-pub mod Faithful
 pub mod Packed
+pub mod Stages
 pub mod Jobs
 pub mod Outcome
 pub mod Due
@@ -22,6 +19,3 @@ pub mod Message
 pub mod Room
 pub mod Last
 pub mod Endings
-pub mod SilentParts
-pub mod Image
-pub mod SilentRun

@@ -74,9 +74,6 @@ stop_text Budget = codes "no return"
 abbrev pub stop_line : CallStop → ℕ → List ℕ
 stop_line reason call = line (codes "machine stopped: " ∷ stop_text reason ∷ codes " in call " ∷ decimal call ∷ [])
 
-abbrev pub not_built_line : List ℕ
-not_built_line = line (codes "not built" ∷ [])
-
 -- ---- songs that can be played, and others
 
 -- the name of a table
@@ -103,6 +100,10 @@ unplayable_line (PointerToJump name row) =
 abbrev pub too_large_line : ℕ → ℕ → List ℕ
 too_large_line pattern count =
     line (codes "too large: pattern " ∷ decimal pattern ∷ codes " packs to " ∷ decimal count ∷ codes " bytes" ∷ [])
+
+-- for an image of this length that would pass $D000
+abbrev pub image_too_large_line : ℕ → List ℕ
+image_too_large_line count = line (codes "too large: image of " ∷ decimal count ∷ codes " bytes" ∷ [])
 
 -- the low 24 bits of a number as six hexadecimal digits in lower case
 abbrev pub feature_digits : ℕ → List ℕ

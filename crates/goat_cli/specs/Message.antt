@@ -23,7 +23,6 @@ number_of status.NoSubtune = 11
 number_of status.NotAPsid = 12
 number_of status.Stopped = 13
 number_of status.NoMemory = 14
-number_of status.NotBuilt = 15
 
 -- the bytes of a piece
 abbrev pub piece_text : Piece → List ℕ

@@ -1,15 +1,15 @@
 -- What a run goes through, one stage after the other, and what ends it there. Each stage is a condition of the files
 -- as they are before the run; the first one that doesn't pass ends the run, with the stage's status and lines. The
 -- order of a job's stages is the order of its refusals.
-use Rattle.std.specs.Prelude.{◌≡◌, ℕ, ◌+◌, ◌-◌, ◌≤◌, List, [], ◌∷◌, ◌++◌, ◌⊎◌, Some, Ok, Err, length}
+use Rattle.std.specs.Prelude.{◌≡◌, ℕ, ◌+◌, ◌-◌, ◌<◌, ◌≤◌, List, [], ◌∷◌, ◌++◌, ◌⊎◌, Some, Ok, Err, length}
 use Rattle.goat_io.specs.Files.{Files, file_of, IsAbsent, IsAbove}
 use Rattle.song_model.specs.declared.songs.Song.{Song}
 use Rattle.song_model.specs.LookUp.{IsNumbered, playable_subtunes}
-use Rattle.song_model.specs.Silent.{IsSilent}
 use Rattle.gts5.specs.declared.faults.SongFault.{SongFault}
 use Rattle.gts5.specs.Spells.{Spells}
 use Rattle.gts5.specs.Faults.{fault_of}
 use Rattle.play_model.specs.declared.unplayable.Unplayable.{Unplayable}
+use Rattle.play_model.specs.declared.options.Options.{Options}
 use Rattle.play_model.specs.Playable.{IsPlayable, IsRefusedFor}
 use Rattle.packed_form.specs.UsedSets.{UsedSets, AreUsedSets}
 use Rattle.song_pack.specs.Answers.{AreShort, IsTooLong}
@@ -20,8 +20,9 @@ use Rattle.psid.specs.Reading.{psid_read}
 use Rattle.cpu6502.specs.declared.machine.Machine.{Machine}
 use Rattle.sid_run.specs.State.{loaded}
 use Rattle.goat_cli.specs.Calls.{HasSubtune, FirstCalls, StopsIn}
+use Rattle.goat_cli.specs.Packed.{IsImageLength}
 use Rattle.goat_cli.specs.RegisterText.{register_lines}
-use Rattle.goat_cli.specs.Lines.{missing_line, too_long_line, song_fault_line, unplayable_line, too_large_line, not_built_line, script_line, psid_fault_line, no_subtune_line, stop_line}
+use Rattle.goat_cli.specs.Lines.{missing_line, too_long_line, song_fault_line, unplayable_line, too_large_line, image_too_large_line, script_line, psid_fault_line, no_subtune_line, stop_line}
 
 -- the most bytes of a song or a PSID file
 abbrev pub input_limit : ℕ
@@ -38,7 +39,7 @@ pub data Stage : Type 0 where
   SpellsSong : (name : List ℕ) → Stage
   CanBePlayed : (name : List ℕ) → Stage
   HasShortPatterns : (name : List ℕ) → Stage
-  CanBePacked : (name : List ℕ) → Stage
+  HasRoomForImage : (name : List ℕ) (address : ℕ) (options : Options) → Stage
   HasPlayableSubtune : (name : List ℕ) (subtune : ℕ) → Stage
   CanBeEdited : (name script : List ℕ) → Stage
   IsPsid : (name : List ℕ) → Stage
@@ -121,11 +122,13 @@ rule_of (HasShortPatterns name) = record {
   ends = λ files lines. (song : Song) × (used : UsedSets) × (pattern : ℕ) × (count : ℕ) × HoldsSong files name song ×
       AreUsedSets song used × IsTooLong song used pattern count × (lines ≡ too_large_line pattern count ∷ []);
 }
--- the song is silent
-rule_of (CanBePacked name) = record {
-  asks = λ files. (song : Song) × HoldsSong files name song × IsSilent song;
-  status = 15;
-  ends = λ files lines. (song : Song) × HoldsSong files name song × (¬ IsSilent song) × (lines ≡ not_built_line ∷ []);
+-- the song's image, where it stands at the address, ends at or below $D000
+rule_of (HasRoomForImage name address options) = record {
+  asks = λ files. (song : Song) × (count : ℕ) × HoldsSong files name song × IsImageLength song options count ×
+      (address + count ≤ 0xD000);
+  status = 7;
+  ends = λ files lines. (song : Song) × (count : ℕ) × HoldsSong files name song × IsImageLength song options count ×
+      (0xD000 < address + count) × (lines ≡ image_too_large_line count ∷ []);
 }
 -- the script can be done on the song
 rule_of (CanBeEdited name script) = record {

@@ -6,7 +6,7 @@ use Rattle.hex.specs.Hex.{decode_sized}
 use Rattle.play_model.specs.declared.options.Options.{Options}
 use Rattle.play_model.specs.Speeds.{IsSpeed}
 use Rattle.play_model.specs.State.{no_options}
-use Rattle.goat_cli.specs.Place.{IsAddress, IsZeroPage}
+use Rattle.player_parts.specs.Places.{IsAddress, IsZeroPage}
 
 -- the words' bytes
 abbrev pub texts : List (String Global) → List (List ℕ)
@@ -40,30 +40,14 @@ subtune_limit = 255
 
 -- what the program is asked to do: pack the song in one file into another, a PSID file or a raw one; copy it into
 -- another file; edit it by a script, into another file; tell what a song uses; trace a song, or run a PSID file: a
--- subtune, counted from 1, and a number of frames, and for a song how it is played
+-- subtune, counted from 1, and a number of frames. Of a song that is packed or traced, how it is played
 pub data Job : Type 0 where
-  Pack : (input output : List ℕ) (psid : Bool) (address zero_page : ℕ) → Job
+  Pack : (input output : List ℕ) (psid : Bool) (address zero_page : ℕ) (options : Options) → Job
   Copy : (input output : List ℕ) → Job
   Edit : (input script output : List ℕ) → Job
   Check : (input : List ℕ) → Job
   Trace : (input : List ℕ) (subtune frames : ℕ) (options : Options) → Job
   Run : (input : List ℕ) (subtune frames : ℕ) → Job
-
--- the word for the format of a packed file
-abbrev pub format_word : Bool → List ℕ
-format_word true = codes "psid"
-format_word false = codes "raw"
-
--- the arguments are `IN OUT psid ADDRESS ZP`, or `raw` in place of `psid`
-pub record ArePackArguments (arguments : List (List ℕ)) (input output : List ℕ) (psid : Bool)
-    (address zero_page : ℕ) : Type 0 where
-  pub address_word : List ℕ
-  pub zero_page_word : List ℕ
-  pub form : arguments ≡ input ∷ output ∷ format_word psid ∷ address_word ∷ zero_page_word ∷ []
-  pub in_named : input ≢ []
-  pub out_named : output ≢ []
-  pub address_spelled : IsAddressWord address_word address
-  pub zero_page_spelled : IsZeroPageWord zero_page_word zero_page
 
 -- the word for what is left out of a frame: the effect step, the pulse step
 abbrev pub skip_word : Bool → Bool → List ℕ
@@ -82,6 +66,24 @@ pub data AreOptionWords : List (List ℕ) → Options → Type 0 where
   unsaid : AreOptionWords [] no_options
   said : {speed_word : List ℕ} (options : Options) → IsSpeedWord speed_word options.speed →
       AreOptionWords (skip_word options.skip_effects options.skip_pulse ∷ speed_word ∷ []) options
+
+-- the word for the format of a packed file
+abbrev pub format_word : Bool → List ℕ
+format_word true = codes "psid"
+format_word false = codes "raw"
+
+-- the arguments are `IN OUT psid ADDRESS ZP`, or `raw` in place of `psid`, and then how the song is played
+pub record ArePackArguments (arguments : List (List ℕ)) (input output : List ℕ) (psid : Bool) (address zero_page : ℕ)
+    (options : Options) : Type 0 where
+  pub address_word : List ℕ
+  pub zero_page_word : List ℕ
+  pub option_words : List (List ℕ)
+  pub form : arguments ≡ input ∷ output ∷ format_word psid ∷ address_word ∷ zero_page_word ∷ option_words
+  pub in_named : input ≢ []
+  pub out_named : output ≢ []
+  pub address_spelled : IsAddressWord address_word address
+  pub zero_page_spelled : IsZeroPageWord zero_page_word zero_page
+  pub options_spelled : AreOptionWords option_words options
 
 -- the arguments are `IN SUBTUNE FRAMES`, and then how the song is played
 pub record AreTraceArguments (arguments : List (List ℕ)) (input : List ℕ) (subtune frames : ℕ)
@@ -104,9 +106,10 @@ pub record AreRunArguments (arguments : List (List ℕ)) (input : List ℕ) (sub
   pub subtune_spelled : IsNumberWord subtune_limit subtune_word subtune
   pub frames_spelled : IsNumberWord frame_limit frames_word frames
 
--- the numbers of a job are allowed: an image can stand at the address, and there are at most 100,000 frames
+-- the numbers of a job are allowed: an image can stand at the address and have the two bytes of page 0, and there are
+-- at most 100,000 frames
 abbrev pub HasAllowedNumbers : Job → Type 0
-HasAllowedNumbers (Pack input output psid address zero_page) = IsAddress address
+HasAllowedNumbers (Pack input output psid address zero_page options) = IsAddress address × IsZeroPage zero_page
 HasAllowedNumbers (Trace input subtune frames options) = frames ≤ frame_limit
 HasAllowedNumbers (Run input subtune frames) = frames ≤ frame_limit
 HasAllowedNumbers _ = Unit {0}

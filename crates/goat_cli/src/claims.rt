@@ -1,6 +1,6 @@
 //! Facts about the definitions, each the contract of a function that does nothing.
 
-ghost use Rattle.goat_cli.specs.Laws.{WordsNameOneJob, OutcomesAreDue, OneStatusIsDue, OneTextIsPrinted, StagesPass, PlayableSongsPass, StatusesHaveCauses, PackedFilesPlay, LinesHaveRoom};
+ghost use Rattle.goat_cli.specs.Laws.{WordsNameOneJob, OutcomesAreDue, OneStatusIsDue, OneTextIsPrinted, StagesPass, PlayableSongsPass, StatusesHaveCauses, OnlyLargeImagesAreRefused, SmallSongsArePacked, PackedFilesPlay, LinesHaveRoom};
 
 /// The words of a line name one job at most.
 pub fn words_name_one_job()
@@ -27,6 +27,13 @@ pub fn playable_songs_pass()
 /// Each status comes of its own cause, and of no other.
 pub fn statuses_have_causes()
     ensures { StatusesHaveCauses }
+{}
+
+/// A song that can be played is packed where no text of a used pattern is too long and its data and the bound of its
+/// player end at or below `$D000`; for an image no song is refused else.
+pub fn small_songs_are_packed()
+    ensures images { OnlyLargeImagesAreRefused }
+    ensures songs { SmallSongsArePacked }
 {}
 
 /// All calls of a packed PSID file return, with the registers of the song's trace.

@@ -12,7 +12,7 @@ pub mod check;
 pub mod copy;
 /// `edit IN SCRIPT OUT`.
 pub mod edit;
-/// `pack IN OUT psid|raw ADDRESS ZP`.
+/// `pack IN OUT psid|raw ADDRESS ZP`, or with `SKIP SPEED` behind it.
 pub mod pack;
 /// `run IN SUBTUNE FRAMES`.
 pub mod run;
@@ -56,8 +56,11 @@ pub fn perform<'a, F: Folder, K: Sink>(
             output,
             psid,
             address,
-            ..
-        } => pack_song(alloc, input, output, psid, address, folder),
+            zero_page,
+            options,
+        } => pack_song(
+            alloc, input, output, psid, address, zero_page, options, folder,
+        ),
         Job::Copy { input, output } => copy_song(alloc, input, output, folder),
         Job::Edit {
             input,

@@ -4,33 +4,31 @@
 //! file; a file that is written holds an image that plays the song that was read, whatever else is in memory. Each
 //! status comes only where its cause does.
 //!
-//! Every song is copied, edited and checked; those that can be played are traced; silent songs are packed, with one
-//! fixed player. PSID files are run.
+//! Every song is copied, edited and checked. Those that can be played are traced, and packed with a player of their own.
+//! PSID files are run.
 //!
 //! It stands on `goat_io` for folders and sinks, on `gts5` and `song_model` for the song, on `edit_history` and
 //! `edit_script` for editing it, on `usage` for what it uses, on `play_model` for what it sounds like, on `playroutine`
-//! for playing it, on `psid` and `sid_run` for PSID files, and on `cpu6502` and `code_runs` for what machine code does.
+//! for playing it, on `song_pack` and `player_build` for packing it, on `images` for what an image is to do, and on
+//! `psid`, `sid_run` and `cpu6502` for PSID files and their calls.
 #![tactic(auto)]
 
 mod arguments;
 mod commands;
-mod image;
 /// Facts about the definitions.
 pub mod claims;
 mod line;
 mod message;
 mod packed;
+mod packing;
 mod program;
 mod refusal;
 mod registers;
-mod silent;
 mod stages;
 mod status;
 mod top;
 mod words;
 
-pub use image::silent_image;
 pub use program::run_program;
-pub use silent::is_silent;
 pub use top::goat;
 pub use words::{Job, WordsFault, parse_words};

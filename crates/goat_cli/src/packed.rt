@@ -1,11 +1,13 @@
 //! Packed files: the image of a player with its song, raw or as a PSID file.
 
-ghost use Rattle.std.specs.Prelude.{◌≡◌, ℕ, ◌≤◌, length, IfOk};
-ghost use Rattle.song_model.specs.Silent.{IsSilent};
-ghost use Rattle.goat_cli.specs.Place.{IsAddress};
-ghost use Rattle.goat_cli.specs.Packed.{IsPackedFile, raw_file, psid_file};
+ghost use Rattle.std.specs.Prelude.{◌≡◌, ◌+◌, ◌≤◌, ◌<◌, length, IfOk};
+ghost use Rattle.song_model.specs.Limits.{KeepsLimits};
+ghost use Rattle.song_model.specs.LookUp.{playable_subtunes};
+ghost use Rattle.player_parts.specs.Places.{IsAddress};
+ghost use Rattle.goat_cli.specs.Packed.{packed_file, raw_file, psid_file, song_header, caller_bits};
 
-use crate::image::silent_image;
+use play_model::{Options, Speed};
+use player_build::Image;
 use psid::Header;
 use song_model::{NoMemory, Song};
 use std::alloc::Global;
@@ -16,7 +18,7 @@ const PAL_6581: u16 = 0x0014;
 /// How far play stands after init, in bytes.
 const PLAY_OFFSET: u16 = 3;
 
-/// The packed file of a silent song, for an allowed address.
+/// The file of an image of a song that is played with these options.
 ///
 /// # Errors
 ///
@@ -25,18 +27,21 @@ pub fn packed_file(
     alloc: Global,
     psid: bool,
     song: &Song,
-    address: u16,
+    image: &Image,
+    options: &Options,
 ) -> Result<Vec<u8>, NoMemory>
-    requires silent { IsSilent song.now }
-    requires place { IsAddress address }
-    ensures { (zero_page : ℕ) → IfOk result (λ file.
-        IsPackedFile psid address zero_page song.now file.items) }
+    requires limits { KeepsLimits song.now }
+    requires some { 1 ≤ length (playable_subtunes song.now) }
+    requires below { image.now.place.address + length image.now.bytes ≤ 0xD000 }
+    ensures { IfOk result (λ file. file.items ≡
+        packed_file psid song.now image.now.place.address image.now.bytes options.now) }
 {
-    let image = silent_image(alloc, address)?;
+    let address = image.place.address;
+    let bytes = image.bytes.as_slice();
     if psid {
-        psid_file(alloc, song, address, &image)
+        psid_file(alloc, song, address, bytes, options)
     } else {
-        raw_file(alloc, address, &image)
+        raw_file(alloc, address, bytes)
     }
 }
 
@@ -50,26 +55,47 @@ fn raw_file(alloc: Global, address: u16, image: &[u8]) -> Result<Vec<u8>, NoMemo
     Ok(file)
 }
 
-/// The PSID file of a silent song's image.
-fn psid_file(alloc: Global, song: &Song, address: u16, image: &[u8]) -> Result<Vec<u8>, NoMemory>
-    requires silent { IsSilent song.now }
+/// The PSID file of a song's image.
+fn psid_file(
+    alloc: Global,
+    song: &Song,
+    address: u16,
+    image: &[u8],
+    options: &Options,
+) -> Result<Vec<u8>, NoMemory>
+    requires limits { KeepsLimits song.now }
+    requires some { 1 ≤ length (playable_subtunes song.now) }
     requires place { IsAddress address }
-    requires small { length image.now ≤ 64 }
-    ensures { IfOk result (λ file. file.items ≡ psid_file song.now address image.now) }
+    requires below { address + length image.now ≤ 0xD000 }
+    ensures { IfOk result (λ file. file.items ≡ psid_file song.now address image.now options.now) }
 {
-    let header = Header {
+    match psid::write(alloc, &song_header(song, address, options), address, image) {
+        Ok(file) => Ok(file),
+        Err(_) => Err(NoMemory),
+    }
+}
+
+/// The header of a song's PSID file.
+fn song_header(song: &Song, address: u16, options: &Options) -> Header
+    requires place { IsAddress address }
+    ensures { result ≡ song_header song.now address options.now }
+{
+    Header {
         init: address,
         play: address + PLAY_OFFSET,
         songs: u16::from(song.playable_count()),
         start_song: 1,
-        speed: 0,
+        speed: caller_bits(options.speed),
         name: song.name,
         author: song.author,
         released: song.copyright,
         flags: PAL_6581,
-    };
-    match psid::write(alloc, &header, address, image) {
-        Ok(file) => Ok(file),
-        Err(_) => Err(NoMemory),
     }
+}
+
+/// What calls play, a bit for each song of a file: at speed 1 the vertical blank, else the timer.
+fn caller_bits(speed: Speed) -> u32
+    ensures { result ≡ caller_bits speed }
+{
+    if speed.calls() == 1 { 0 } else { u32::MAX }
 }

@@ -4,32 +4,26 @@
 ghost use Rattle.std.specs.Prelude.{◌≡◌, ◌≢◌, ◌+◌, ◌-◌, ◌≤◌, ℕ, List, [], ◌∷◌, codes, Some, IfOk, IfErr, OnOk, Ok, decimal, length};
 ghost use Rattle.goat_io.specs.Files.{Files, file_of};
 ghost use Rattle.song_model.specs.LookUp.{IsNumbered, playable_subtunes};
-ghost use Rattle.song_model.specs.Silent.{IsSilent};
 ghost use Rattle.gts5.specs.Spells.{Spells};
 ghost use Rattle.play_model.specs.Playable.{IsPlayable};
 ghost use Rattle.usage.specs.Parts.{AreUsedParts};
-ghost use Rattle.song_model.specs.Limits.{KeepsLimits};
-ghost use Rattle.packed_form.specs.StandsFor.{StandsFor};
 ghost use Rattle.psid.specs.declared.reading.TheConstants.{ADDRESSES};
 ghost use Rattle.psid.specs.Reading.{psid_read};
 ghost use Rattle.goat_cli.specs.Calls.{HasSubtune};
 ghost use Rattle.goat_cli.specs.Last.{last_of, last_word, Says};
-ghost use Rattle.goat_cli.specs.Lines.{line, song_fault_line, table_word, unplayable_line, too_large_line, no_subtune_line, psid_fault_line};
-ghost use Rattle.goat_cli.specs.Stages.{SpellsSong, CanBePlayed, HasPlayableSubtune, HasShortPatterns, CanBePacked, IsPsid, OffersSubtune, HoldsSong, HoldsPsid, IsMet, input_limit, script_limit};
+ghost use Rattle.goat_cli.specs.Lines.{line, song_fault_line, table_word, unplayable_line, no_subtune_line, psid_fault_line};
+ghost use Rattle.goat_cli.specs.Stages.{SpellsSong, CanBePlayed, HasPlayableSubtune, IsPsid, OffersSubtune, HoldsSong, HoldsPsid, input_limit, script_limit};
 ghost use Rattle.goat_cli.specs.Stands.{folder_state};
 ghost use Rattle.goat_cli.specs.Endings.{Refuses, WasRead, ReadFails, SongWasRead, SpellingWasRead, SongFails, BothWereRead, BothFail, WriteEnds};
 
 use crate::message::Piece;
 use crate::refusal::{Refusal, Report};
-use crate::silent::is_silent;
 use crate::status::Status;
 use goat_io::{Folder, ReadFault, WriteFault};
 use gts5::SongFault;
-use packed_form::PackedSong;
 use play_model::Unplayable;
 use psid::{Psid, PsidFault};
 use song_model::{Song, TableName};
-use song_pack::{PackFault, pack_song};
 use std::alloc::Global;
 use usage::{UsedParts, usage};
 
@@ -350,66 +344,6 @@ fn no_such_subtune(subtune: u8, count: u16) -> Refusal<'static>
             Piece::Number(u64::from(count)),
         ],
     )
-}
-
-/// The packed song of a song.
-///
-/// # Errors
-///
-/// The text of a used pattern is too long; out of memory.
-pub fn packed_song(
-    alloc: Global,
-    song: &Song,
-    parts: &UsedParts,
-) -> Result<PackedSong, Refusal<'static>>
-    requires playable { IsPlayable song.now }
-    requires parts { AreUsedParts song.now parts.now }
-    ensures stands { IfOk result (λ packed. KeepsLimits song.now → StandsFor packed song.now) }
-    ensures short { OnOk result ((files : Files) (name : List ℕ) → HoldsSong files name song.now →
-        IsMet files (HasShortPatterns name)) }
-    ensures refused { IfErr result (λ refusal. (files : Files) (name : List ℕ) →
-        HoldsSong files name song.now → Refuses files (HasShortPatterns name) (last_of refusal)) }
-{
-    match pack_song(alloc, song, parts) {
-        Ok(packed) => Ok(packed),
-        Err(PackFault::NoMemory) => Err(Refusal::NoMemory),
-        Err(PackFault::PatternTooLong { pattern, length }) => {
-            Err(too_large_pattern(pattern, length))
-        }
-    }
-}
-
-/// The refusal of a song with a pattern whose text is too long.
-fn too_large_pattern(pattern: u8, length: u16) -> Refusal<'static>
-    ensures { last_of result ≡ Says 7 (too_large_line pattern length) }
-{
-    Refusal::says(
-        Status::TooLarge,
-        &[
-            Piece::Words("too large: pattern "),
-            Piece::Number(u64::from(pattern)),
-            Piece::Words(" packs to "),
-            Piece::Number(u64::from(length)),
-            Piece::Words(" bytes"),
-        ],
-    )
-}
-
-/// Tells whether the song can be packed: silent songs can.
-///
-/// # Errors
-///
-/// It isn't silent.
-pub fn can_be_packed(song: &Song) -> Result<(), Refusal<'static>>
-    ensures silent { OnOk result (IsSilent song.now) }
-    ensures refused { IfErr result (λ refusal. (files : Files) (name : List ℕ) →
-        HoldsSong files name song.now → Refuses files (CanBePacked name) (last_of refusal)) }
-{
-    if is_silent(song) {
-        Ok(())
-    } else {
-        Err(Refusal::says(Status::NotBuilt, &[Piece::Words("not built")]))
-    }
 }
 
 /// The PSID file that the bytes of a file are.

@@ -20,7 +20,7 @@ pub enum Status {
     NotASong = 5,
     /// The song can't be played.
     Unplayable = 6,
-    /// A pattern of the song has more bytes than a packed pattern may have.
+    /// A pattern of the song, or its image, has more bytes than it may have.
     TooLarge = 7,
     /// The script breaks the format of scripts, or one of its commands can't be done.
     BadScript = 8,
@@ -36,8 +36,6 @@ pub enum Status {
     Stopped = 13,
     /// Out of memory.
     NoMemory = 14,
-    /// The song can't be packed.
-    NotBuilt = 15,
 }
 
 impl Status {

@@ -10,7 +10,7 @@ ghost use Rattle.goat_cli.specs.Due.{IsDue, IsOneOf, instead};
 ghost use Rattle.goat_cli.specs.Stands.{folder_state, sink_state, RunStands, Counted, TellsWant};
 ghost use Rattle.goat_cli.specs.Answers.{HoldsDone, IsOrdinary, IsPrinted, IsBeforeWriting, ComesAbout, ComesWhere, SinkCounted, RunsPacked};
 ghost use Rattle.goat_cli.specs.Traces.{first_traces};
-ghost use Rattle.play_model.specs.State.{no_options};
+ghost use Rattle.play_model.specs.declared.options.Options.{Options};
 ghost use Rattle.goat_cli.specs.Last.{last_word};
 ghost use Rattle.goat_cli.specs.Message.{line_of};
 ghost use Rattle.goat_cli.specs.Endings.{RunEnds, Prints, PrintsLine};
@@ -32,7 +32,7 @@ const USAGE: &str = "usage: goat check|trace|pack|run|edit|copy|selftest";
 /// The words are those of the command line without the program's name. What a run prints goes to the sink line by
 /// line; a line that tells of the ending comes after all else that the run does.
 pub fn goat<F: Folder, K: Sink>(alloc: Global, words: &[String], folder: &mut F, out: &mut K) -> u8
-    // After status 0 the job was done: the file that was packed plays the song, whatever else is in memory.
+    // After status 0 the job was done: a file that was packed plays its song, whatever else is in memory.
     ensures headline { IfSome (F.files folder.old) (λ files. result ≡ 0 →
         HoldsDone (texts words.now) files (F.files folder.new)) }
 
@@ -45,12 +45,12 @@ pub fn goat<F: Folder, K: Sink>(alloc: Global, words: &[String], folder: &mut F,
         IsDue (texts words.now) files status output → IsOneOf (status ∷ instead output) result) }
     ensures usage { ComesWhere (IsNoForm (texts words.now)) result 1 (10 ∷ 14 ∷ []) }
 
-    // A packed file that is run prints its song's trace.
-    ensures packed { IfSome (F.files folder.old) (λ files. (song : Song) (subtune frames : ℕ) →
-        RunsPacked (texts words.now) files song subtune frames →
+    // A packed file that is run prints its song's trace, with the options that it was packed with.
+    ensures packed { IfSome (F.files folder.old) (λ files. (song : Song) (options : Options)
+        (subtune frames : ℕ) → RunsPacked (texts words.now) files song options subtune frames →
         IsOneOf (0 ∷ 4 ∷ 10 ∷ 14 ∷ []) result × (result ≡ 0 →
         K.written out.new ≡ told_with_piece (K.written out.old)
-        (register_text (first_traces no_options song (subtune - 1) (frames + 1))))) }
+        (register_text (first_traces options song (subtune - 1) (frames + 1))))) }
 
     // Where all lines were printed each count of the folder rises with its own status and with no other; the sink's
     // always.

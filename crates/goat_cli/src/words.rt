@@ -16,7 +16,8 @@ use play_model::Options;
 /// What the program is asked to do.
 #[derive(Clone, Copy, Debug)]
 pub enum Job<'a> {
-    /// `pack IN OUT psid ADDRESS ZP`, or `raw` in place of `psid`: pack the song in the file IN into the file OUT.
+    /// `pack IN OUT psid ADDRESS ZP`, or `raw` in place of `psid`, or with `SKIP SPEED` behind it: pack the song in the
+    /// file IN into the file OUT.
     Pack {
         input: &'a str,
         output: &'a str,
@@ -26,6 +27,8 @@ pub enum Job<'a> {
         address: u16,
         /// The first of the player's two zero page bytes, `$02` to `$FE`.
         zero_page: u8,
+        /// What is left out of a frame, and the speed.
+        options: Options,
     },
     /// `copy IN OUT`: write the canonical spelling of the song in the file IN into the file OUT.
     Copy {

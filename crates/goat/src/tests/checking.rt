@@ -88,9 +88,7 @@ fn a_song_with_three_instruments_is_told(rt: HostRuntime) -> Result<(), Fail> {
         alloc,
         &file,
         "subtunes 2 patterns 4 instruments 3 wave 6 pulse 4 filter 4 speed 1 features 40a083",
-    )?;
-    assert_refused(&rt, &run(alloc, &PACK, &file)?, 15, "not built\n");
-    Ok(())
+    )
 }
 
 /// What `check` prints of the song with one note where the row after it has this command.

@@ -16,10 +16,10 @@ const FRONT: [u8; 22] = [
 const BACK: [u8; 8] = [0, 0x14, 0, 0, 0, 0, 0, 0x10];
 
 /// The registers of a line in which all are 0.
-const ZEROS: &str = "00000000000000000000000000000000000000000000000000";
+pub const ZEROS: &str = "00000000000000000000000000000000000000000000000000";
 
 /// The file of an image at `$1000`.
-fn psid_file(alloc: Global, image: &[u8]) -> Result<Vec<u8>, Fail> {
+pub fn psid_file(alloc: Global, image: &[u8]) -> Result<Vec<u8>, Fail> {
     let mut file = FRONT.to_vec(alloc)?;
     file.resize(0x76, 0)?;
     file.extend_from_slice(&BACK)?;
@@ -33,7 +33,6 @@ fn a_silent_song_is_packed_as_psid_and_run(rt: HostRuntime) -> Result<(), Fail> 
     let words = ["pack", "s0", "o", "psid", "1000", "FC"];
     let packed = run(alloc, &words, &silence(alloc)?)?;
     assert_eq!(rt; packed.status, 0);
-    assert_eq!(rt; packed.text.as_slice(), b"wrote 156 bytes\n".as_slice());
     let file = packed.output.ok_or("no file")?;
     assert!(rt; file.starts_with(&FRONT));
     let back = file.get(0x76..0x7e).ok_or("short")?;

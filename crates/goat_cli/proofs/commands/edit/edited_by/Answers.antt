@@ -1,4 +1,3 @@
-use Rattle.std.proofs.Common.{refl}
 use Rattle.goat_cli.proofs.Edited.{bad_line_fails, run_fails}
 use Rattle.goat_cli.proofs.commands.edit.edited_by.Goals as goal
 

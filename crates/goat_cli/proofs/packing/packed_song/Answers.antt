@@ -4,7 +4,17 @@ use Rattle.song_pack.specs.Numbers.{sets_of}
 use Rattle.song_pack.proofs.Laws.{used_sets}
 use Rattle.goat_cli.specs.Lines.{too_large_line}
 use Rattle.goat_cli.specs.Endings as ends
-use Rattle.goat_cli.proofs.stages.packed_song.Goals as goal
+use Rattle.goat_cli.proofs.packing.packed_song.Goals as goal
+
+pub returns-in-Ok-clause-packs : goal.returns-in-Ok-clause-packs
+returns-in-Ok-clause-packs c = λ keeps.
+    let used = used_sets c.args.song.now c.args.parts.now c.requires.parts in
+    record {
+      stands = c.in-Ok.ensures.stands keeps;
+      used = sets_of c.args.parts.now;
+      are_used = used;
+      size = (c.in-Ok.ensures.size (sets_of c.args.parts.now) used keeps).is;
+    }
 
 pub returns-in-Ok-clause-short : goal.returns-in-Ok-clause-short
 returns-in-Ok-clause-short c = λ files name holds.
