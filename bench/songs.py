@@ -2,9 +2,9 @@
 """Times goat on long songs: bench/songs.py [PROGRAM]
 
 Packs and copies silent songs of about 16 KB, 64 KB and 256 KB (the most that a file may have), checks songs of about
-these sizes that use all that they store, packs the data of songs whose patterns differ (which ends with `not built`),
-and prints for each the processor time of a run and the bytes of the song that it takes a second. The time of a run on
-the smallest song, which is that of starting the program, is taken off first.
+these sizes that use all that they store, packs songs whose patterns differ, and prints for each the processor time of a
+run and the bytes of the song that it takes a second. The time of a run on the smallest song, which is that of starting
+the program, is taken off first.
 """
 import os
 import resource
@@ -87,7 +87,7 @@ def main():
         ("copy", ["copy", "in", "out"], silent, 0),
         ("pack", pack, silent, 0),
         ("check", ["check", "in"], sounding, 0),
-        ("data", pack, noted, 15),
+        ("notes", pack, noted, 0),
     ]
     with tempfile.TemporaryDirectory() as folder:
         for name, words, songs, status in runs:
