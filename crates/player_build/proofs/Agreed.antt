@@ -9,21 +9,20 @@ use Rattle.cpu6502.specs.declared.machine.Machine.{Machine}
 use Rattle.code_runs.specs.Runs.{view}
 use Rattle.asm6502.specs.declared.lines.Line.{Line}
 use Rattle.images.specs.Faithful.{AgreesOn}
-use Rattle.blocks.specs.Desk.{Layout}
 use Rattle.lowering.specs.Lowered.{Site, end_at}
-use Rattle.lowering.specs.Isolation.{InListing, AgreeOnListing}
+use Rattle.lowering.specs.Isolation.{AgreeOnListing}
 use Rattle.block_calls.proofs.Laws.{code_is_shared}
 use Rattle.player_parts.specs.declared.place.Place.{Place}
 use Rattle.player_parts.specs.PlayerLists.{IsListPlace}
 use Rattle.player_parts.specs.Holds.{nothing_on}
 use Rattle.player_lists.proofs.Laws.{data_takes_size, lists_stand_inside}
-use Rattle.player_code.specs.Plans.{Plan, plan_size, code_size, play_site, init_site}
+use Rattle.player_code.specs.Plans.{Plan, plan_size, play_site, init_site}
 use Rattle.player_build.specs.ImageLines.{lists_start, plan_of}
-use Rattle.player_build.proofs.Layouts.{layout_of, play_end, init_end, Made, size_splits, plan_size_is, start_is, lists_size, is_data_layout}
+use Rattle.player_build.proofs.Layouts.{layout_of, play_end, init_end, size_splits, plan_size_is, start_is, lists_size, is_data_layout}
 use Rattle.player_code.specs.Lengths.{kept_set}
 use Rattle.player_build.proofs.Bytes.{Assembled}
 use Rattle.player_build.proofs.Entered.{play_entrance, init_entrance, play_well, init_well}
-use Rattle.player_build.proofs.Spots.{IsLong, image_long, first_is, label_variable, in_image_from, within_to}
+use Rattle.player_build.proofs.Spots.{image_long, first_is, label_variable, in_image_from, within_to}
 use Rattle.player_build.proofs.Moved.{SameParts, holds_same}
 use Rattle.player_build.proofs.Answers.{Player, Ready}
 

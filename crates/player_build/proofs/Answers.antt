@@ -1,5 +1,5 @@
 -- What a play of an image answers.
-use Rattle.std.proofs.Common.{◌≡◌, ◌≢◌, ℕ, zero, suc, ◌+◌, ◌-◌, ◌*◌, ◌%◌, ◌^◌, ◌<◌, ◌≤◌, ◌⊎◌, List, [], ◌∷◌, true, nat_lt, None, Some, length, refl, sym, ap, ◌∙◌, arith, inl, inr, subst, All}
+use Rattle.std.proofs.Common.{◌≡◌, ◌≢◌, ℕ, zero, suc, ◌+◌, ◌<◌, ◌≤◌, List, [], ◌∷◌, length, refl, sym, ap, ◌∙◌, arith, subst}
 use Rattle.std.specs.Prelude.{slice_index}
 use Rattle.song_model.specs.declared.songs.Song.{Song}
 use Rattle.play_model.specs.declared.options.Options.{Options}
@@ -20,25 +20,20 @@ use Rattle.images.specs.Confined.{IsOwnPlace, IsConfined}
 use Rattle.images.specs.Timers.{SameTimer}
 use Rattle.blocks.specs.Desk.{Desk, Layout, sid_place}
 use Rattle.blocks.specs.Meaning.{meaning}
-use Rattle.lowering.specs.Lowered.{layout_at}
 use Rattle.block_calls.specs.Entrances.{Entrance, HasCode, entrance_desk}
 use Rattle.block_calls.specs.EntranceLaws.{Returns}
 use Rattle.block_calls.proofs.Laws.{entrances_return, code_stays}
-use Rattle.player_parts.specs.declared.labels.TheConstants.{VARIABLES}
 use Rattle.player_parts.specs.declared.place.Place.{Place}
-use Rattle.player_parts.specs.PlayerLists.{IsListPlace}
-use Rattle.player_parts.specs.PlayerLayouts.{IsPlayerLayout, IsVariablePlace}
 use Rattle.player_parts.specs.Holds.{Holds, nothing_on}
 use Rattle.player_seq.specs.PackedLimits.{KeepsPatternLimits}
 use Rattle.player_frame.specs.PlayBlock.{play_tree}
 use Rattle.player_frame.specs.PlayLaws.{Plays}
 use Rattle.player_frame.proofs.Laws.{play_block_plays}
-use Rattle.player_code.specs.Plans.{Plan, plan_address, play_site, init_site}
 use Rattle.player_build.specs.ImageLines.{count_of, plan_of}
 use Rattle.player_build.proofs.Layouts.{layout_of, play_layout, Made, is_player_layout}
 use Rattle.player_build.proofs.Bytes.{Assembled}
 use Rattle.player_build.proofs.Entered.{play_entrance, init_entrance, play_well, init_well}
-use Rattle.player_build.proofs.Spots.{variable_at, variable_own, label_variable, play_code_spot, init_code_spot, play_apart}
+use Rattle.player_build.proofs.Spots.{variable_at, variable_own, play_code_spot, init_code_spot, play_apart}
 use Rattle.player_build.proofs.Moved.{SameParts, holds_same}
 use Rattle.player_build.proofs.Reached.{count_enough, count_few, state_safe, state_ranges, keeps_used, keeps_options}
 

@@ -1,46 +1,41 @@
 -- What an init of an image answers.
-use Rattle.std.proofs.Common.{◌≡◌, ◌≢◌, ℕ, zero, suc, ◌+◌, ◌-◌, ◌*◌, ◌/◌, ◌%◌, ◌^◌, ◌<◌, ◌≤◌, ◌⊎◌, List, [], ◌∷◌, true, false, nat_lt, None, Some, length, refl, sym, ap, ◌∙◌, arith, inl, inr, subst, All, if◌then◌else◌}
+use Rattle.std.proofs.Common.{◌≡◌, ◌≢◌, ℕ, ◌+◌, ◌/◌, ◌%◌, ◌<◌, ◌≤◌, ◌⊎◌, List, length, refl, sym, ap, ◌∙◌, arith, inl, inr, subst}
 use Rattle.std.specs.Prelude.{slice_index, replicate}
 use Rattle.std.proofs.lemmas.List.{get_or-replicate}
 use Rattle.std.proofs.lemmas.Bool.{cases_lt, cases_eq, lt-ltb, le-ltb}
 use Rattle.song_model.specs.declared.songs.Song.{Song}
 use Rattle.play_model.specs.declared.options.Options.{Options}
-use Rattle.play_model.specs.Speeds.{IsSpeed}
-use Rattle.play_model.specs.State.{FrameState, start_state}
+use Rattle.play_model.specs.State.{start_state}
 use Rattle.play_model.specs.Frame.{state_after_with, trace_with}
 use Rattle.packed_form.specs.declared.packed_songs.PackedSong.{PackedSong}
 use Rattle.packed_form.specs.Unpacked.{unpacked_song}
 use Rattle.cpu6502.specs.declared.machine.Machine.{Machine}
-use Rattle.cpu6502.specs.declared.memory.TheConstants.{MEMORY_SIZE}
 use Rattle.cpu6502.specs.Call.{entered}
-use Rattle.cpu6502.specs.Code.{IsMachine, bytes_at}
-use Rattle.code_runs.specs.Runs.{put}
-use Rattle.code_runs.proofs.Laws.{entry_kept, put_same, put_other}
+use Rattle.cpu6502.specs.Code.{IsMachine}
+use Rattle.code_runs.proofs.Laws.{put_same, put_other}
 use Rattle.asm6502.specs.declared.lines.Line.{Line}
 use Rattle.sid_run.specs.State.{sid_registers}
 use Rattle.images.specs.Confined.{IsOwnPlace, IsConfined}
-use Rattle.images.specs.Timers.{SetsTimer, HasTimer, timer_value}
-use Rattle.blocks.specs.Desk.{Desk, Layout, sid_place, timer_place}
+use Rattle.images.specs.Timers.{SetsTimer, timer_value}
+use Rattle.blocks.specs.Desk.{Desk, Layout}
 use Rattle.blocks.specs.Meaning.{meaning}
-use Rattle.lowering.specs.Lowered.{layout_at}
 use Rattle.block_calls.specs.Entrances.{Entrance, HasCode, entrance_desk}
 use Rattle.block_calls.specs.EntranceLaws.{Returns}
 use Rattle.block_calls.proofs.Laws.{entrances_return, code_stays}
-use Rattle.player_parts.specs.Words.{Half, Low, High}
-use Rattle.player_parts.specs.declared.labels.TheConstants.{VARIABLES, SUBTUNE}
+use Rattle.player_parts.specs.Words.{Low, High}
+use Rattle.player_parts.specs.declared.labels.TheConstants.{SUBTUNE}
 use Rattle.player_parts.specs.declared.place.Place.{Place}
-use Rattle.player_parts.specs.PlayerLists.{IsListPlace, HasLists}
-use Rattle.player_parts.specs.PlayerLayouts.{IsPlayerLayout, IsVariablePlace}
+use Rattle.player_parts.specs.PlayerLists.{HasLists}
 use Rattle.player_parts.specs.Holds.{Holds, nothing_on}
 use Rattle.player_seq.specs.InitBlock.{init_tree}
 use Rattle.player_seq.specs.InitLaws.{Begun, MayBegin, AtVariable, AtRegister, AtTimer, timer_byte}
 use Rattle.player_seq.proofs.Laws.{init_begins}
-use Rattle.player_code.specs.Plans.{Plan, plan_address, play_site, init_site}
+use Rattle.player_code.specs.Plans.{plan_address}
 use Rattle.player_build.specs.ImageLines.{plan_of}
-use Rattle.player_build.proofs.Layouts.{layout_of, init_layout, Made, is_player_layout}
+use Rattle.player_build.proofs.Layouts.{layout_of, init_layout, is_player_layout}
 use Rattle.player_build.proofs.Bytes.{Assembled}
 use Rattle.player_build.proofs.Entered.{play_entrance, init_entrance, play_well, init_well, subtune_few}
-use Rattle.player_build.proofs.Spots.{variable_at, variable_own, label_variable, play_code_spot, init_code_spot, init_apart}
+use Rattle.player_build.proofs.Spots.{variable_own, label_variable, play_code_spot, init_code_spot, init_apart}
 use Rattle.player_build.proofs.Moved.{lists_moved}
 use Rattle.player_build.proofs.Reached.{keeps_timer}
 use Rattle.player_build.proofs.Answers.{Player, Ready, parts_kept, bytes_are, register_own}

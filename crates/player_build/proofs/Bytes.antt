@@ -1,8 +1,5 @@
 -- Where an image's bytes stand: its instructions and its lists.
-use Rattle.std.proofs.Common.{◌≡◌, ℕ, ◌+◌, ◌-◌, ◌<◌, ◌≤◌, ◌⊎◌, List, [], ◌∷◌, ◌++◌, length, refl, sym, ap, ◌∙◌, arith, inl, inr, subst, take, drop, None}
-use Rattle.std.specs.Prelude.{slice_index}
-use Rattle.std.proofs.lemmas.Bool.{cases_lt}
-use Rattle.std.proofs.lemmas.List.{take-append-drop, length-append, get_or_append_left, get_or-append_right}
+use Rattle.std.proofs.Common.{◌≡◌, ℕ, ◌+◌, ◌<◌, ◌≤◌, List, length, refl, sym, ap, ◌∙◌, arith, subst, None}
 use Rattle.play_model.specs.declared.options.Options.{Options}
 use Rattle.packed_form.specs.declared.packed_songs.PackedSong.{PackedSong}
 use Rattle.cpu6502.specs.declared.memory.TheConstants.{MEMORY_SIZE}
@@ -14,15 +11,13 @@ use Rattle.asm6502.specs.Faults.{fault_of}
 use Rattle.asm6502.specs.Standing.{BytesStand, LinesAt}
 use Rattle.asm6502.specs.Stretches.{HasBytes}
 use Rattle.asm6502.proofs.Laws.{kept-append, assembled_lines_stand, backs_stand}
-use Rattle.lowering.specs.Lowered.{Site, lines_at, listing_at, low_at, high_at}
+use Rattle.lowering.specs.Lowered.{Site, lines_at, listing_at}
 use Rattle.player_parts.specs.declared.place.Place.{Place}
 use Rattle.player_parts.specs.PlayerLists.{HasLists}
-use Rattle.player_lists.specs.declared.marks.Mark.{Mark}
-use Rattle.player_lists.specs.Marks.{marked}
 use Rattle.player_lists.specs.DataLists.{data_bytes}
 use Rattle.player_lists.proofs.Laws.{lines_are_kept, data_stands, marked_stand}
 use Rattle.player_code.specs.Lengths.{kept_set}
-use Rattle.player_code.specs.Plans.{Plan, plan_code, plan_lines, code_size, plan_size, plan_address, play_site, init_site}
+use Rattle.player_code.specs.Plans.{Plan, plan_code, plan_lines, plan_size, plan_address, play_site, init_site}
 use Rattle.player_code.specs.CodeLaws.{CodeStands}
 use Rattle.player_code.proofs.Laws.{code_assembles, kept_code_stands, labels_stand_in_place, sites_are_in_one_listing}
 use Rattle.player_build.specs.ImageLines.{lists_start, plan_of}

@@ -1,24 +1,24 @@
 -- The two entrances of an image: its bytes are their code.
-use Rattle.std.proofs.Common.{◌≡◌, ◌≢◌, ℕ, ◌+◌, ◌-◌, ◌<◌, ◌≤◌, ◌⊎◌, List, true, nat_lt, Option, None, Some, refl, sym, ap, ◌∙◌, arith, inl, inr, subst}
+use Rattle.std.proofs.Common.{◌≡◌, ◌≢◌, ℕ, ◌+◌, ◌-◌, ◌<◌, ◌≤◌, List, true, nat_lt, Option, None, Some, sym, ap, ◌∙◌, arith, inl, subst}
 use Rattle.std.proofs.lemmas.Bool.{ltb-true}
 use Rattle.play_model.specs.declared.options.Options.{Options}
 use Rattle.packed_form.specs.declared.packed_songs.PackedSong.{PackedSong}
-use Rattle.cpu6502.specs.declared.mnemonic.Mnemonic.TheVariants.{Cld, Jmp, Rts, Sta}
+use Rattle.cpu6502.specs.declared.mnemonic.Mnemonic.TheVariants.{Cld, Jmp, Sta}
 use Rattle.cpu6502.specs.declared.mnemonic.Mode.TheVariants.{Implied, Absolute}
 use Rattle.code_runs.specs.Code.{Stands}
 use Rattle.asm6502.specs.declared.lines.Line.{Line}
 use Rattle.asm6502.specs.Standing.{BytesStand}
 use Rattle.blocks.specs.Desk.{Layout}
-use Rattle.lowering.specs.Lowered.{low_at, high_at, end_at, layout_at}
+use Rattle.lowering.specs.Lowered.{low_at, end_at, layout_at}
 use Rattle.block_calls.specs.Entrances.{Entrance, opening, HasCode, IsWellEntered}
 use Rattle.player_parts.specs.declared.labels.TheConstants.{VARIABLES, SUBTUNE}
 use Rattle.player_parts.specs.declared.place.Place.{Place}
 use Rattle.player_code.specs.declared.labels.TheConstants.{INIT_CODE, PLAY_CODE}
-use Rattle.player_code.specs.Plans.{Plan, code_size, plan_size, plan_address, play_site, init_site}
-use Rattle.player_code.specs.CodeLaws.{AreInPlace, AreWellPlaced, CodeStands}
+use Rattle.player_code.specs.Plans.{Plan, plan_address, play_site, init_site}
+use Rattle.player_code.specs.CodeLaws.{AreInPlace}
 use Rattle.player_code.proofs.Laws.{labels_stand_in_place, code_is_well_placed}
 use Rattle.player_build.specs.ImageLines.{plan_of}
-use Rattle.player_build.proofs.Layouts.{layout_of, play_layout, init_layout, play_end, init_end, Made, size_splits, plan_ends, BlocksStand, blocks_stand, code_is_there}
+use Rattle.player_build.proofs.Layouts.{layout_of, play_layout, init_layout, play_end, init_end, Made, size_splits, plan_ends, blocks_stand, code_is_there}
 use Rattle.player_build.proofs.Bytes.{Assembled, code_stands, play_stands, init_stands}
 
 abbrev pub play_entrance : Plan → Entrance

@@ -1,11 +1,11 @@
 -- An image serves any call after any calls.
-use Rattle.std.proofs.Common.{◌≡◌, ◌≢◌, ℕ, zero, suc, ◌+◌, ◌-◌, ◌%◌, ◌<◌, ◌≤◌, ◌⊎◌, List, [], ◌∷◌, length, Option, Some, None, Result, Ok, refl, sym, ap, ◌∙◌, arith, inl, inr, subst, All}
+use Rattle.std.proofs.Common.{◌≡◌, ℕ, suc, ◌+◌, ◌<◌, List, [], ◌∷◌, length, Option, Some, None, Result, Ok, sym, ap, ◌∙◌, subst}
 use Rattle.std.specs.Prelude.{slice_index}
 use Rattle.std.specs.Option.{option_map}
 use Rattle.song_model.specs.declared.songs.Song.{Song}
 use Rattle.song_model.specs.LookUp.{playable_subtunes}
 use Rattle.play_model.specs.declared.options.Options.{Options}
-use Rattle.play_model.specs.Frame.{state_after_with, trace_with}
+use Rattle.play_model.specs.Frame.{state_after_with}
 use Rattle.packed_form.specs.declared.packed_songs.PackedSong.{PackedSong}
 use Rattle.packed_form.specs.Unpacked.{unpacked_song}
 use Rattle.cpu6502.specs.declared.machine.Machine.{Machine}
@@ -16,7 +16,7 @@ use Rattle.cpu6502.proofs.Laws.{called_once}
 use Rattle.asm6502.specs.declared.lines.Line.{Line}
 use Rattle.asm6502.specs.Standing.{BytesStand}
 use Rattle.images.specs.Faithful.{AgreesOn}
-use Rattle.images.specs.Histories.{ImageCall, Init, Play, entry_of, IsMade, LeadTo, since_init}
+use Rattle.images.specs.Histories.{ImageCall, Init, Play, LeadTo, since_init}
 use Rattle.block_calls.specs.EntranceLaws.{Returns}
 use Rattle.player_parts.specs.declared.place.Place.{Place}
 use Rattle.player_build.specs.ImageLines.{plan_of}

@@ -1,11 +1,11 @@
 -- What is built is an image.
-use Rattle.std.proofs.Common.{◌≡◌, ◌≢◌, ℕ, zero, suc, ◌+◌, ◌-◌, ◌*◌, ◌^◌, ◌<◌, ◌≤◌, ◌⊎◌, ◌||◌, ◌&&◌, Bool, true, false, nat_eq, nat_lt, if◌then◌else◌, None, List, [], ◌∷◌, ◌++◌, length, refl, sym, ap, ◌∙◌, arith, inl, inr, subst}
-use Rattle.std.specs.Prelude.{slice_index, sum_by}
+use Rattle.std.proofs.Common.{◌≡◌, ℕ, ◌+◌, ◌-◌, ◌*◌, ◌^◌, ◌<◌, ◌≤◌, ◌⊎◌, Bool, true, false, nat_eq, nat_lt, if◌then◌else◌, List, [], ◌∷◌, ◌++◌, All, length, replicate, refl, sym, ap, ◌∙◌, arith, inl, inr, subst}
+use Rattle.std.specs.Prelude.{slice_index}
 use Rattle.std.proofs.lemmas.Bool.{cases_lt, cases_eq, lt-ltb, le-ltb, eqb-true, ne_eqb, true≢false}
 use Rattle.std.proofs.lemmas.List.{length-append, get_or_past}
-use Rattle.std.proofs.lemmas.List.Elements.{Contains-append_left, Contains-append_right}
+use Rattle.std.proofs.lemmas.List.Elements.{All-nil, All-cons, All-append}
 use Rattle.std.proofs.lemmas.List.Sums.{sum_by-append}
-use Rattle.song_model.specs.declared.songs.Song.{Song}
+use Rattle.base.specs.Bytes.{AreBytes}
 use Rattle.play_model.specs.declared.options.Options.{Options}
 use Rattle.play_model.specs.Speeds.{IsSpeed}
 use Rattle.packed_form.specs.declared.packed_songs.PackedSong.{PackedSong}
@@ -14,7 +14,6 @@ use Rattle.asm6502.specs.declared.lines.Line.{Line}
 use Rattle.asm6502.specs.Lines.{is_kept, is_part_kept, item_size, kept, size_of, data_size}
 use Rattle.asm6502.specs.Parts.{part_size as bytes_in}
 use Rattle.asm6502.specs.Assembly.{assembled_bytes}
-use Rattle.asm6502.specs.Faults.{fault_of}
 use Rattle.lowering.specs.Lowered.{bit_kept}
 use Rattle.player_parts.specs.Places.{IsAddress, IsZeroPage}
 use Rattle.player_parts.specs.declared.place.Place.{Place}
@@ -22,22 +21,23 @@ use Rattle.player_seq.specs.PackedLimits.{KeepsPatternLimits}
 use Rattle.player_lists.specs.DataLists.{HasLines}
 use Rattle.player_lists.specs.ListLaws.{KeepsCounts}
 use Rattle.player_lists.proofs.Laws.{lines_take_size, lines_are_few}
-use Rattle.player_code.specs.CodeLines.{always, code_lines}
+use Rattle.player_code.specs.CodeLines.{always}
 use Rattle.player_code.specs.Lengths.{kept_set, code_length, part_length, part_lengths, length_if}
-use Rattle.player_code.specs.LengthLaws.{AreFew}
 use Rattle.player_code.specs.Plans.{Plan, plan_code, plan_lines, code_size}
-use Rattle.player_code.proofs.Laws.{code_is_within_limits, parts_have_lengths}
+use Rattle.player_code.proofs.Laws.{code_is_within_limits, parts_have_lengths, labels_stand_in_place}
 use Rattle.player_build.specs.declared.image.Image.{Image}
 use Rattle.player_build.specs.declared.image.PartSpan.{PartSpan}
 use Rattle.player_build.specs.ImageLines.{lists_start, plan_of, IsImageOf}
 use Rattle.player_build.specs.Lengths.{image_length}
-use Rattle.player_build.specs.Spans.{StandInOrder, spans_size, part_size, IsNamed, IsPacked, length_of_part, NamesParts}
+use Rattle.player_build.specs.Spans.{StandInOrder, spans_size, part_size, parts_of_spans, IsNamed, length_of_part, NamesParts}
 use Rattle.player_build.specs.Joined.{Follow, frequency_span, AreSpansOf}
 use Rattle.player_build.specs.Built.{IsBuild}
 use Rattle.player_build.proofs.Planned.{is_plan}
-use Rattle.player_build.proofs.Layouts.{Made, code_size_is, plan_size_is}
-use Rattle.player_build.proofs.Bytes.{Assembled, assembles}
-use Rattle.player_build.proofs.Joining.{follow_append, follows_in_order, follows_size, follows_named}
+use Rattle.player_build.proofs.Layouts.{Made, code_size_is, plan_size_is, blocks_stand}
+use Rattle.player_build.proofs.Bytes.{Assembled}
+use Rattle.player_build.proofs.Parted.{spans_split, parts_sized}
+use Rattle.player_build.proofs.Joining.{follows_size, follows_named}
+use Rattle.player_build.proofs.Naming.{named_left, named_right, named_as_left, none_packed, follow_inside, front_named, lows_named, highs_named}
 use Rattle.player_build.proofs.Whole.{image_plays}
 
 -- ---- what an image is made from
@@ -272,22 +272,6 @@ all_in_order (span ∷ front) from code speeds f = (
       (subst (λ n. Follow (n + span.length) front code) (sym f.0) f.1),
 )
 
-named_left : (front back : List PartSpan) (byte : ℕ) → IsNamed front byte → IsNamed (front ++ back) byte
-named_left front back byte n = record {
-  span = n.span;
-  is_there = Contains-append_left front back n.span n.is_there;
-  from = n.from;
-  below = n.below;
-}
-
-named_right : (front back : List PartSpan) (byte : ℕ) → IsNamed back byte → IsNamed (front ++ back) byte
-named_right front back byte n = record {
-  span = n.span;
-  is_there = Contains-append_right front back n.span n.is_there;
-  from = n.from;
-  below = n.below;
-}
-
 zero_few : 0 < 2
 zero_few = omega arith
 
@@ -353,28 +337,95 @@ all_named byte code speeds rows all e f front follow =
           ]
     ]
 
+-- so a byte that isn't the packed song's is named
+named_else : (byte code speeds rows all : ℕ) → code + 196 ≡ all → speeds ≡ rows → (front : List PartSpan) →
+    Follow 0 front code → ((((all - 98 ≤ byte) × (byte < all - 98 + rows)) ⊎ (all + rows ≤ byte)) → ⊥) →
+    IsNamed (front ++ frequency_span code ∷ frequency_span (code + 98 + speeds) ∷ []) byte
+named_else byte code speeds rows all e f front follow other =
+    elim (all_named byte code speeds rows all e f front follow) [
+      | inl a ↦ let named = a in named
+      | inr b ↦ let packed = b in absurd (other packed)
+    ]
+
 added : (spans code packed all size : ℕ) → 0 + spans ≡ code → code + 196 ≡ all → size ≡ packed + all →
     spans + 98 + 98 + packed ≡ size
 added spans code packed all size a b c = omega (arith, a, b, c)
 
+-- how its parts follow each other
+frequency_parts : (code : List PartSpan) (a b : ℕ) →
+    parts_of_spans (code ++ frequency_span a ∷ frequency_span b ∷ []) ≡ parts_of_spans code ++ replicate 196 always
+frequency_parts code a b = spans_split code (frequency_span a ∷ frequency_span b ∷ [])
+
+front_size : (origin size low : ℕ) → low ≡ origin + size → low ≡ origin + 128 → size ≡ 128
+front_size origin size low a b = omega (arith, a, b)
+
+rows_within : (packed : PackedSong) → length packed.speed ≤ packed_song_size packed
+rows_within packed = within _ (length packed.speed)
+  where
+    within : (rest rows : ℕ) → rows ≤ rest + 2 * rows
+    within rest rows = omega arith
+
+code_ends : (code packed all size : ℕ) → code + 196 ≡ all → size ≡ packed + all → code ≤ size
+code_ends code packed all size a b = omega (arith, a, b)
+
+lows_end : (code packed all size : ℕ) → code + 196 ≡ all → size ≡ packed + all → code + 98 ≤ size
+lows_end code packed all size a b = omega (arith, a, b)
+
+highs_end : (code packed all size speeds rows : ℕ) → code + 196 ≡ all → size ≡ packed + all → speeds ≡ rows →
+    rows ≤ packed → code + 98 + speeds + 98 ≤ size
+highs_end code packed all size speeds rows a b c h = omega (arith, a, b, c, h)
+
+abbrev Ends : ℕ → PartSpan → Type 0
+Ends size span = span.start + span.length ≤ size
+
+all_inside : (front : List PartSpan) (code packed all size speeds rows : ℕ) → Follow 0 front code → code + 196 ≡ all →
+    size ≡ packed + all → speeds ≡ rows → rows ≤ packed →
+    All (Ends size) (front ++ frequency_span code ∷ frequency_span (code + 98 + speeds) ∷ [])
+all_inside front code packed all size speeds rows follow a b c h =
+    All-append (Ends size) front (frequency_span code ∷ frequency_span (code + 98 + speeds) ∷ [])
+    (follow_inside front 0 code size follow (code_ends code packed all size a b))
+    (All-cons (Ends size) (frequency_span code) (frequency_span (code + 98 + speeds) ∷ [])
+    (lows_end code packed all size a b)
+    (All-cons (Ends size) (frequency_span (code + 98 + speeds)) [] (highs_end code packed all size speeds rows a b c h)
+    (All-nil (Ends size))))
+
 pub is_parts : {packed : PackedSong} {place : Place} {o : Options} {lists : List Line} → Made packed place o lists →
     (size speeds : ℕ) (spans : List PartSpan) → size ≡ image_length packed o → speeds ≡ length packed.speed →
     AreSpansOf (kept_set packed.features.0 o) (plan_code (plan_of packed place o lists)) speeds spans →
-    NamesParts packed o size spans
+    NamesParts packed place o size spans
 is_parts {packed = packed} {place = place} {o = o} {lists = lists} m size speeds spans size_is speeds_are are =
     let code : ℕ = code_size (plan_of packed place o lists) in
-    let parts : NamesParts packed o size
+    let plan : Plan = plan_of packed place o lists in
+    let parts : NamesParts packed place o size
     (are.code ++ frequency_span code ∷ frequency_span (code + 98 + speeds) ∷ []) =
     record {
       in_order = all_in_order are.code 0 code speeds are.follow;
-      named = λ byte below.
-          all_named byte code speeds (length packed.speed) (code_length packed.features.0 o) (code_size_is m) speeds_are
-          are.code are.follow;
+      inside = all_inside are.code code _ _ size speeds (length packed.speed) are.follow (code_size_is m) size_is speeds_are
+          (rows_within packed);
+      named = λ byte below. (
+        none_packed byte code speeds (length packed.speed) (code_length packed.features.0 o) (code_size_is m) speeds_are
+            are.code are.follow,
+        named_else byte code speeds (length packed.speed) (code_length packed.features.0 o) (code_size_is m) speeds_are
+            are.code are.follow,
+      );
       add_up = ap (λ n. n + packed_song_size packed) (spans_all are.code code (code + 98 + speeds))
           ∙ added _ _ _ _ _ (follows_size are.code 0 code are.follow) (code_size_is m) size_is;
-      parts = λ part. part_is m part code (code + 98 + speeds) are.code (are.parts part);
+      in_parts = frequency_parts are.code code (code + 98 + speeds)
+          ∙ ap (λ (ps : List ℕ). ps ++ replicate 196 always) are.parts;
+      common = record {
+        front = λ byte few.
+            named_as_left are.code _ byte always
+            (front_named are.code plan code are.follow are.parts
+            (front_size place.address _ _ refl (blocks_stand plan (labels_stand_in_place plan m.plan)).play_low) byte few);
+        lows = λ note few. lows_named are.code code (code + 98 + speeds) _ note (code_size_is m) few;
+        highs = λ note few.
+            highs_named are.code code speeds (length packed.speed) _ note (code_size_is m) speeds_are few;
+      };
+      parts = λ part.
+          part_is m part code (code + 98 + speeds) are.code
+          (parts_sized part are.code (kept plan.set (plan_code plan)) are.parts);
     } in
-    subst (NamesParts packed o size) (sym are.are) parts
+    subst (NamesParts packed place o size) (sym are.are) parts
 
 -- ---- the whole
 
@@ -389,10 +440,10 @@ pub is_build : {packed : PackedSong} {o : Options} {code : ℕ} (lists : List Li
     (plan_lines (plan_of packed built.place o lists)) →
     length built.bytes
     ≡ size_of (kept (kept_set packed.features.0 o) (plan_lines (plan_of packed built.place o lists))) →
-    speeds ≡ length packed.speed →
+    AreBytes built.bytes → speeds ≡ length packed.speed →
     AreSpansOf (kept_set packed.features.0 o) (plan_code (plan_of packed built.place o lists)) speeds built.parts →
     IsBuild packed built.place o built
-is_build {packed = packed} {o = o} lists built speeds a has are size_is speeds_are spans =
+is_build {packed = packed} {o = o} lists built speeds a has are size_is bytes speeds_are spans =
     let m = made lists a has in
     let size : length built.bytes ≡ image_length packed o = size_is ∙ plan_size_is m in
     let assembled : Assembled packed built.place o lists built.bytes = record { made = m; are = are; size = size } in
@@ -400,6 +451,7 @@ is_build {packed = packed} {o = o} lists built speeds a has are size_is speeds_a
     record {
       place_is = refl;
       image = image;
+      bytes = bytes;
       size = size;
       fits = fits_as _ _ _ size m.fits;
       parts = is_parts m (length built.bytes) speeds built.parts size speeds_are spans;

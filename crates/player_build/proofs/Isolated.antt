@@ -1,5 +1,5 @@
 -- A call of an image depends on the image's bytes alone.
-use Rattle.std.proofs.Common.{◌≡◌, ◌≢◌, ℕ, zero, suc, ◌+◌, ◌-◌, ◌<◌, ◌≤◌, ◌⊎◌, List, [], ◌∷◌, length, Option, Some, None, refl, sym, ap, ◌∙◌, arith, inl, inr, subst}
+use Rattle.std.proofs.Common.{◌≡◌, ◌≢◌, ℕ, ◌+◌, ◌<◌, ◌≤◌, List, ◌∷◌, length, Option, Some, None, refl, sym, ap, ◌∙◌, arith, inl, inr, subst}
 use Rattle.std.specs.Prelude.{slice_index}
 use Rattle.song_model.specs.declared.songs.Song.{Song}
 use Rattle.play_model.specs.declared.options.Options.{Options}
@@ -16,13 +16,13 @@ use Rattle.images.specs.Histories.{ImageCall, Init, Play, entry_of, IsMade, Lead
 use Rattle.images.specs.Isolation.{EndAlike, IsIsolated}
 use Rattle.blocks.specs.Desk.{Desk, Layout}
 use Rattle.blocks.specs.Reads.{Reads}
-use Rattle.lowering.specs.Lowered.{Site, layout_at, end_at}
+use Rattle.lowering.specs.Lowered.{Site, end_at}
 use Rattle.lowering.specs.Isolation.{InListing}
 use Rattle.block_calls.specs.Entrances.{Entrance, entrance_desk}
 use Rattle.block_calls.specs.EntranceLaws.{Returns, AreAlike}
 use Rattle.block_calls.proofs.Laws.{entrances_are_isolated}
 use Rattle.player_parts.specs.declared.place.Place.{Place}
-use Rattle.player_parts.specs.PlayerLayouts.{IsVariablePlace, MayRead}
+use Rattle.player_parts.specs.PlayerLayouts.{MayRead}
 use Rattle.player_code.specs.Plans.{Plan, plan_size, play_site, init_site}
 use Rattle.player_frame.specs.PlayBlock.{play_tree}
 use Rattle.player_seq.specs.InitBlock.{init_tree}

@@ -1,15 +1,15 @@
 -- Spans, one more or a longer one, and what lists of them have.
-use Rattle.std.proofs.Common.{◌≡◌, ℕ, zero, suc, ◌+◌, ◌-◌, ◌<◌, ◌≤◌, ◌⊎◌, Bool, true, false, nat_eq, if◌then◌else◌, List, [], ◌∷◌, ◌++◌, length, take, refl, sym, ap, ◌∙◌, arith, inl, inr, subst, Contains, get_or}
-use Rattle.std.specs.Prelude.{sum_by}
-use Rattle.std.proofs.lemmas.Bool.{cases_lt, eq-eqb, ne_eqb}
+use Rattle.std.proofs.Common.{◌≡◌, ℕ, suc, ◌+◌, ◌<◌, ◌≤◌, Bool, true, false, List, [], ◌∷◌, ◌++◌, length, replicate, refl, sym, ap, ◌∙◌, arith, inl, inr, subst}
+use Rattle.std.proofs.lemmas.Bool.{cases_lt}
+use Rattle.std.proofs.lemmas.List.{append-nil, append_assoc}
 use Rattle.std.proofs.lemmas.List.Sums.{sum_by-append}
 use Rattle.asm6502.specs.declared.lines.Line.{Line}
-use Rattle.asm6502.specs.Lines.{is_kept, is_part_kept, item_size, kept, size_of}
-use Rattle.asm6502.specs.Parts.{part_size as bytes_in}
-use Rattle.asm6502.proofs.Laws.{kept-append, size_of-append, part_size-append}
+use Rattle.asm6502.specs.Lines.{is_kept, item_size, kept, size_of}
+use Rattle.asm6502.proofs.Laws.{kept-append, size_of-append}
 use Rattle.player_build.specs.declared.image.PartSpan.{PartSpan}
 use Rattle.player_build.specs.Joined.{Follow, kept_size}
-use Rattle.player_build.specs.Spans.{StandInOrder, spans_size, part_size, IsNamed}
+use Rattle.player_build.specs.Spans.{StandInOrder, spans_size, parts_of_spans, parts_of_lines, IsNamed}
+use Rattle.player_build.proofs.Parted.{spans_split, lines_split, replicate_more}
 
 -- ---- lists of spans
 
@@ -46,27 +46,18 @@ size_more set front line =
     one true e = rw (e) (alone (item_size line.item))
     one false e = rw (e) refl
 
-part_of : ℕ → ℕ → ℕ → ℕ
-part_of part own size = if nat_eq own part then size else 0
-
-pub part_more : (part set : ℕ) (front : List Line) (line : Line) →
-    bytes_in part (kept set (front ++ line ∷ []))
-    ≡ bytes_in part (kept set front) + (if nat_eq line.part part then kept_size set line else 0)
-part_more part set front line =
-    ap (bytes_in part) (kept-append set front (line ∷ [])) ∙ part_size-append part (kept set front) (kept set (line ∷ []))
-    ∙ ap (λ n. bytes_in part (kept set front) + n) (one (is_kept set line) refl)
+-- and its part
+pub parts_more : (set : ℕ) (front : List Line) (line : Line) →
+    parts_of_lines (kept set (front ++ line ∷ []))
+    ≡ parts_of_lines (kept set front) ++ replicate (kept_size set line) line.part
+parts_more set front line =
+    ap parts_of_lines (kept-append set front (line ∷ [])) ∙ lines_split (kept set front) (kept set (line ∷ []))
+    ∙ ap (λ (parts : List ℕ). parts_of_lines (kept set front) ++ parts) (one (is_kept set line) refl)
   where
-    alone : (z : Bool) (n : ℕ) → (if z then n else 0) + 0 ≡ (if z then n else 0)
-    alone z n = omega arith
-
-    nothing : (z : Bool) → ◌≡◌ {A = ℕ} 0 (if z then 0 else 0)
-    nothing true = refl
-    nothing false = refl
-
     one : (z : Bool) → is_kept set line ≡ z →
-        bytes_in part (kept set (line ∷ [])) ≡ (if nat_eq line.part part then kept_size set line else 0)
-    one true e = rw (e) (alone (nat_eq line.part part) (item_size line.item))
-    one false e = rw (e) (nothing (nat_eq line.part part))
+        parts_of_lines (kept set (line ∷ [])) ≡ replicate (kept_size set line) line.part
+    one true e = rw (e) (append-nil (replicate (item_size line.item) line.part))
+    one false e = rw (e) refl
 
 -- no more than all
 pub size_within : (set : ℕ) (front : List Line) (line : Line) (back : List Line) →
@@ -95,16 +86,13 @@ size_within set front line back =
 pub record Joins (spans : List PartSpan) (span : PartSpan) (set : ℕ) (lines : List Line) : Type 0 where
   pub follow : Follow 0 (spans ++ span ∷ []) (size_of (kept set lines))
   pub end : span.start + span.length ≡ size_of (kept set lines)
-  pub parts : (part : ℕ) → part_size part (spans ++ span ∷ []) ≡ bytes_in part (kept set lines)
+  pub parts : parts_of_spans (spans ++ span ∷ []) ≡ parts_of_lines (kept set lines)
 
-last_part : (part : ℕ) (spans : List PartSpan) (span : PartSpan) →
-    part_size part (spans ++ span ∷ []) ≡ part_size part spans + (0 + (if nat_eq span.part part then span.length else 0))
-last_part part spans span = sum_by-append _ spans (span ∷ [])
-
-sum_longer : (z : Bool) (front size more all old : ℕ) → front + (0 + (if z then size else 0)) ≡ old →
-    all ≡ old + (if z then more else 0) → front + (0 + (if z then size + more else 0)) ≡ all
-sum_longer true front size more all old a b = omega (arith, a, b)
-sum_longer false front size more all old a b = omega (arith, a, b)
+last_parts : (spans : List PartSpan) (span : PartSpan) →
+    parts_of_spans (spans ++ span ∷ []) ≡ parts_of_spans spans ++ replicate span.length span.part
+last_parts spans span =
+    spans_split spans (span ∷ [])
+    ∙ ap (λ (parts : List ℕ). parts_of_spans spans ++ parts) (append-nil (replicate span.length span.part))
 
 -- the line is of the open span's part
 pub joins_longer : (spans : List PartSpan) (span : PartSpan) (set : ℕ) (front : List Line) (line : Line) (size : ℕ) →
@@ -116,13 +104,13 @@ joins_longer spans span set front line size e same j =
       follow = subst (Follow 0 (spans ++ record span { length = span.length + size } ∷ [])) (sym all)
           (longer spans span.part span.start span.length size 0 (size_of (kept set front)) j.follow);
       end = more _ _ _ _ _ j.end all;
-      parts = λ part.
-          let bytes = part_more part set front line
-          ∙ ap (λ (n : ℕ). bytes_in part (kept set front) + (if nat_eq n part then kept_size set line else 0)) same
-          ∙ ap (λ (n : ℕ). bytes_in part (kept set front) + (if nat_eq span.part part then n else 0)) (sym e) in
-          last_part part spans (record span { length = span.length + size })
-          ∙ sum_longer (nat_eq span.part part) (part_size part spans) span.length size _ _
-          (sym (last_part part spans span) ∙ j.parts part) bytes;
+      parts = last_parts spans (record span { length = span.length + size })
+          ∙ ap (λ (parts : List ℕ). parts_of_spans spans ++ parts) (replicate_more span.length size span.part)
+          ∙ sym (append_assoc (parts_of_spans spans) (replicate span.length span.part) (replicate size span.part))
+          ∙ ap (λ (parts : List ℕ). parts ++ replicate size span.part) (sym (last_parts spans span) ∙ j.parts)
+          ∙ ap (λ (n : ℕ). parts_of_lines (kept set front) ++ replicate n span.part) e
+          ∙ ap (λ (part : ℕ). parts_of_lines (kept set front) ++ replicate (kept_size set line) part) (sym same)
+          ∙ sym (parts_more set front line);
     }
   where
     more : (start length size old new : ℕ) → start + length ≡ old → new ≡ old + size → start + (length + size) ≡ new
@@ -138,15 +126,12 @@ joins_more spans span next set front line size part start j =
       follow = follow_append (spans ++ span ∷ []) (next ∷ []) 0 (size_of (kept set front)) _ j.follow
           (start ∙ j.end, sym all);
       end = ap (λ n. n + next.length) (start ∙ j.end) ∙ sym all;
-      parts = λ p.
-          last_part p (spans ++ span ∷ []) next ∙ ap (λ n. n + (0 + (if nat_eq next.part p then next.length else 0))) (j.parts p)
-          ∙ sum (bytes_in p (kept set front)) _ _ (ap (λ (n : ℕ). if nat_eq n p then next.length else 0) part
-          ∙ ap (λ (n : ℕ). if nat_eq line.part p then n else 0) size)
-          ∙ sym (part_more p set front line);
+      parts = last_parts (spans ++ span ∷ []) next
+          ∙ ap (λ (parts : List ℕ). parts ++ replicate next.length next.part) j.parts
+          ∙ ap (λ (n : ℕ). parts_of_lines (kept set front) ++ replicate n next.part) size
+          ∙ ap (λ (p : ℕ). parts_of_lines (kept set front) ++ replicate (kept_size set line) p) part
+          ∙ sym (parts_more set front line);
     }
-  where
-    sum : (old n m : ℕ) → n ≡ m → old + (0 + n) ≡ old + m
-    sum old n m e = omega (arith, e)
 
 -- it takes no bytes
 pub joins_same : (spans : List PartSpan) (span : PartSpan) (set : ℕ) (front : List Line) (line : Line) →
@@ -156,17 +141,13 @@ joins_same spans span set front line none j =
     record {
       follow = subst (Follow 0 (spans ++ span ∷ [])) (sym all) j.follow;
       end = j.end ∙ sym all;
-      parts = λ p. j.parts p ∙ sym (part_more p set front line
-          ∙ ap (λ (n : ℕ). bytes_in p (kept set front) + (if nat_eq line.part p then n else 0)) none
-          ∙ nothing (nat_eq line.part p) (bytes_in p (kept set front)));
+      parts = j.parts ∙ sym (parts_more set front line
+          ∙ ap (λ (n : ℕ). parts_of_lines (kept set front) ++ replicate n line.part) none
+          ∙ append-nil (parts_of_lines (kept set front)));
     }
   where
     alone : (n : ℕ) → n + 0 ≡ n
     alone n = omega arith
-
-    nothing : (z : Bool) (n : ℕ) → n + (if z then 0 else 0) ≡ n
-    nothing true n = omega arith
-    nothing false n = omega arith
 
 -- ---- what lists without a gap have
 
@@ -193,7 +174,7 @@ follows_size (span ∷ spans) from to f =
     group : (a b c : ℕ) → a + (0 + b + c) ≡ a + b + c
     group a b c = omega arith
 
-named_behind : (span : PartSpan) (spans : List PartSpan) (byte : ℕ) → IsNamed spans byte → IsNamed (span ∷ spans) byte
+unfoldable pub named_behind : (span : PartSpan) (spans : List PartSpan) (byte : ℕ) → IsNamed spans byte → IsNamed (span ∷ spans) byte
 named_behind span spans byte n = record {
   span = n.span;
   is_there = (suc n.is_there.0, less _ _ n.is_there.1, n.is_there.2);

@@ -1,24 +1,20 @@
 -- Where an image's labels are.
-use Rattle.std.proofs.Common.{◌≡◌, ℕ, ◌+◌, ◌-◌, ◌*◌, ◌^◌, ◌<◌, ◌≤◌, ◌⊎◌, List, ◌++◌, length, refl, sym, ap, ◌∙◌, arith, inl, inr, subst, Contains, Some}
+use Rattle.std.proofs.Common.{◌≡◌, ℕ, ◌+◌, ◌-◌, ◌^◌, ◌<◌, ◌≤◌, List, length, sym, ap, ◌∙◌, arith, inr, subst}
 use Rattle.player_lists.specs.ListLaws.{KeepsCounts}
 use Rattle.play_model.specs.declared.options.Options.{Options}
-use Rattle.play_model.specs.Speeds.{IsSpeed}
 use Rattle.packed_form.specs.declared.packed_songs.PackedSong.{PackedSong}
 use Rattle.packed_form.specs.Sizes.{packed_song_size}
-use Rattle.packed_form.specs.Unpacked.{unpacked_song}
 use Rattle.asm6502.specs.declared.lines.Line.{Line}
-use Rattle.asm6502.specs.Lines.{kept, size_of, address_in, place_of}
+use Rattle.asm6502.specs.Lines.{kept, size_of, address_in}
 use Rattle.asm6502.proofs.Laws.{kept-append, size_of-append}
 use Rattle.blocks.specs.Desk.{Layout}
-use Rattle.lowering.specs.Lowered.{Site, bit_kept, listing_at, low_at, high_at, end_at, layout_at, lines_at}
+use Rattle.lowering.specs.Lowered.{bit_kept, listing_at, low_at, high_at, end_at, layout_at}
 use Rattle.player_parts.specs.declared.labels.TheConstants.{VARIABLES}
 use Rattle.player_parts.specs.declared.place.Place.{Place}
-use Rattle.player_parts.specs.PlayerLists.{IsListPlace}
 use Rattle.player_parts.specs.PlayerLayouts.{IsPlayerLayout}
-use Rattle.player_lists.specs.declared.marks.Mark.{Mark}
-use Rattle.player_lists.specs.DataLists.{data_bytes, data_marks, HasLines, IsDataLayout}
+use Rattle.player_lists.specs.DataLists.{HasLines, IsDataLayout}
 use Rattle.player_lists.proofs.Laws.{data_takes_size, lines_take_size, lines_are_kept, labels_have_places, lists_stand_inside, next_bytes_are_next}
-use Rattle.player_code.specs.Lengths.{kept_set, code_length, frequency_bytes}
+use Rattle.player_code.specs.Lengths.{kept_set, code_length}
 use Rattle.player_code.specs.Plans.{Plan, IsPlan, plan_code, plan_lines, code_size, plan_size, plan_address, play_site, init_site}
 use Rattle.player_code.specs.CodeLaws.{AreInPlace}
 use Rattle.player_code.proofs.Laws.{sites_are_in_one_listing, labels_stand_in_place, code_has_its_length}

@@ -1,7 +1,9 @@
 -- An image's plan, its layout and its bytes.
 mod Sums
 mod Ranges
+mod Parted
 mod Joining
+mod Naming
 mod Planned
 mod Layouts
 mod Bytes

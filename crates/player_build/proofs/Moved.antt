@@ -1,5 +1,5 @@
 -- A memory that has the same variables and lists holds the same state.
-use Rattle.std.proofs.Common.{◌≡◌, ℕ, ◌+◌, ◌*◌, ◌%◌, ◌&&◌, ◌<◌, true, nat_lt, refl, sym, ap, ◌∙◌, arith}
+use Rattle.std.proofs.Common.{◌≡◌, ℕ, ◌+◌, ◌*◌, ◌%◌, ◌<◌, true, nat_lt, refl, ◌∙◌, arith}
 use Rattle.std.proofs.lemmas.Bool.{and_parts, ltb-true}
 use Rattle.play_model.specs.State.{FrameState}
 use Rattle.packed_form.specs.declared.packed_songs.PackedSong.{PackedSong}

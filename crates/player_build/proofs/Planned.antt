@@ -1,32 +1,26 @@
 -- What an image is made from is a plan, and how long its listing is.
-use Rattle.std.proofs.Common.{◌≡◌, ℕ, ◌+◌, ◌-◌, ◌*◌, ◌^◌, ◌<◌, ◌≤◌, ◌⊎◌, List, [], ◌∷◌, ◌++◌, length, map, min, get_or, refl, sym, ap, ◌∙◌, arith, inl, inr, drop, take, suc, Some, All, subst, true}
+use Rattle.std.proofs.Common.{◌≡◌, ℕ, ◌<◌, ◌≤◌, List, min, get_or, refl, arith, inl, inr, drop, take, suc, Some, true}
 use Rattle.std.specs.List.{range_with_len}
 use Rattle.std.proofs.Math.Seq.{split_at}
 use Rattle.std.proofs.lemmas.List.{length-map}
-use Rattle.song_model.specs.declared.songs.Song.{Song}
 use Rattle.play_model.specs.declared.options.Options.{Options}
 use Rattle.play_model.specs.Speeds.{IsSpeed}
 use Rattle.packed_form.specs.declared.packed_songs.PackedSong.{PackedSong}
-use Rattle.packed_form.specs.Sizes.{packed_song_size}
-use Rattle.packed_form.specs.Unpacked.{unpacked_song}
 use Rattle.packed_form.specs.WalkCount.{walk_count}
 use Rattle.asm6502.specs.declared.lines.Item.{Item}
 use Rattle.asm6502.specs.declared.lines.Item.TheVariants.{Label, Code, Bytes}
 use Rattle.asm6502.specs.declared.lines.Line.{Line}
-use Rattle.asm6502.specs.Lines.{kept, size_of, label_named}
-use Rattle.asm6502.proofs.Laws.{kept-append, size_of-append}
-use Rattle.player_parts.specs.declared.labels.TheConstants.{VARIABLES, FREQUENCY_LOWS, PATTERN_HIGHS}
+use Rattle.asm6502.specs.Lines.{label_named}
+use Rattle.player_parts.specs.declared.labels.TheConstants.{VARIABLES, FREQUENCY_LOWS}
 use Rattle.player_parts.specs.declared.place.Place.{Place}
 use Rattle.player_seq.specs.StartVariables.{start_variable}
 use Rattle.player_lists.specs.DataLists.{HasLines}
-use Rattle.player_lists.specs.ListLaws.{KeepsCounts, IsPlainLine, IsDataLabel, is_plain}
-use Rattle.player_lists.proofs.Laws.{lines_take_size, lines_are_plain, lines_are_kept, no_label_is_named_twice, own_labels_are_named, list_labels_are_named}
+use Rattle.player_lists.specs.ListLaws.{KeepsCounts, IsDataLabel, is_plain}
+use Rattle.player_lists.proofs.Laws.{lines_are_plain, no_label_is_named_twice, own_labels_are_named, list_labels_are_named}
 use Rattle.player_code.specs.declared.labels.TheConstants.{INIT_CODE}
-use Rattle.player_code.specs.IsData.{IsListItem, IsListLine, IsData}
-use Rattle.player_code.specs.Lengths.{kept_set, code_length, frequency_bytes}
-use Rattle.player_code.specs.Plans.{Plan, IsPlan, plan_code, plan_lines, code_size, plan_size}
+use Rattle.player_code.specs.IsData.{IsListItem, IsData}
+use Rattle.player_code.specs.Plans.{IsPlan}
 use Rattle.player_build.specs.ImageLines.{lists_start, first_order, plan_of}
-use Rattle.player_build.specs.Lengths.{image_length}
 
 -- ---- the lists
 

@@ -1,6 +1,6 @@
 -- The frames that an image plays: their states are safe and in range, their parts are kept, and the walks are within the
 -- count.
-use Rattle.std.proofs.Common.{◌≡◌, ℕ, ◌+◌, ◌-◌, ◌/◌, ◌^◌, ◌<◌, ◌≤◌, ◌==◌, Bool, true, false, List, length, map, min, nat_eq, nat_lt, refl, sym, ap, ◌∙◌, arith, subst, Contains, IsBitSet, if◌then◌else◌}
+use Rattle.std.proofs.Common.{◌≡◌, ℕ, ◌^◌, ◌<◌, ◌≤◌, ◌==◌, Bool, true, false, List, length, map, min, nat_lt, sym, ap, ◌∙◌, arith, subst, Contains, IsBitSet, if◌then◌else◌}
 use Rattle.std.specs.Int.{bit_at}
 use Rattle.std.proofs.lemmas.Bool.{eq-eqb}
 use Rattle.std.proofs.lemmas.List.{length-map}
@@ -15,25 +15,21 @@ use Rattle.song_model.specs.declared.orders.Order.{Order}
 use Rattle.song_model.specs.declared.orders.Subtune.{Subtune}
 use Rattle.song_model.specs.declared.songs.Song.{Song}
 use Rattle.song_model.specs.Feature.{bit_of}
-use Rattle.song_model.specs.Limits.{KeepsLimits, IsOrder, IsSubtune}
+use Rattle.song_model.specs.Limits.{IsOrder, IsSubtune}
 use Rattle.song_model.specs.LookUp.{order_of, playable_subtunes}
 use Rattle.play_model.specs.declared.options.Options.{Options}
 use Rattle.play_model.specs.Speeds.{IsSpeed}
-use Rattle.play_model.specs.State.{FrameState}
 use Rattle.play_model.specs.Ranges.{IsFrameState}
 use Rattle.play_model.specs.Frame.{state_after_with}
 use Rattle.play_model.specs.Safe.{IsSafe}
 use Rattle.play_model.specs.Used.{IsPlayedOrder}
-use Rattle.play_model.specs.Uses.{UsesFeature}
 use Rattle.play_model.proofs.Laws.{whole_lem, song_ranges_lem}
 use Rattle.safe_states.proofs.Laws.{states_are_safe_lem}
 use Rattle.packed_form.specs.declared.packed_songs.PackedSong.{PackedSong}
 use Rattle.packed_form.specs.Unpacked.{unpacked_song, unpacked_subtune}
 use Rattle.packed_form.specs.StandsFor.{StandsFor}
 use Rattle.packed_form.specs.WalkCount.{walk_count}
-use Rattle.packed_form.specs.WalkLaws.{IsOrderOf}
 use Rattle.packed_form.proofs.Laws.{walk_counts_are_bytes}
-use Rattle.lowering.specs.Lowered.{bit_kept}
 use Rattle.asm6502.specs.declared.lines.Line.{Line}
 use Rattle.player_parts.specs.declared.place.Place.{Place}
 use Rattle.player_parts.specs.declared.parts.TheConstants.{TIMER_BIT}

@@ -1,12 +1,11 @@
 -- Each call of an image is served.
-use Rattle.std.proofs.Common.{◌≡◌, ◌≢◌, ℕ, zero, suc, ◌+◌, ◌-◌, ◌%◌, ◌<◌, ◌≤◌, ◌⊎◌, List, [], ◌∷◌, Bool, true, false, length, Some, refl, sym, ap, ◌∙◌, arith, inl, inr, subst, All}
+use Rattle.std.proofs.Common.{◌≡◌, ℕ, zero, suc, ◌+◌, ◌%◌, ◌<◌, ◌≤◌, List, ◌∷◌, Bool, true, false, length, sym, ap, ◌∙◌, arith, inl, inr, subst, All}
 use Rattle.std.specs.Prelude.{slice_index}
 use Rattle.cpu6502.specs.declared.effect.Write.{Write}
 use Rattle.cpu6502.specs.Call.{entered, writes_in}
 use Rattle.player_seq.specs.InitBlock.{init_tree}
 use Rattle.std.proofs.lemmas.Bool.{ltb-true, true≢false, cases_lt}
 use Rattle.song_model.specs.declared.songs.Song.{Song}
-use Rattle.song_model.specs.LookUp.{playable_subtunes}
 use Rattle.play_model.specs.declared.options.Options.{Options}
 use Rattle.play_model.specs.Frame.{trace_with}
 use Rattle.packed_form.specs.declared.packed_songs.PackedSong.{PackedSong}
@@ -15,9 +14,8 @@ use Rattle.cpu6502.specs.Code.{IsMachine}
 use Rattle.asm6502.specs.declared.lines.Line.{Line}
 use Rattle.images.specs.Confined.{IsOwnPlace}
 use Rattle.images.specs.Faithful.{AgreesOn}
-use Rattle.images.specs.Histories.{ImageCall, Init, Play, IsMade, LeadTo, since_init, Serves, PlaysAlways}
-use Rattle.sid_run.specs.State.{sid_registers}
-use Rattle.blocks.specs.Desk.{Layout, sid_place, timer_place}
+use Rattle.images.specs.Histories.{ImageCall, Init, Play, IsMade, LeadTo, Serves, PlaysAlways}
+use Rattle.blocks.specs.Desk.{Layout, timer_place}
 use Rattle.blocks.specs.Sizes.{weight}
 use Rattle.lowering.specs.Places.{MayWrite, AtOwn, AtRegister, AtTimer, AtPointer}
 use Rattle.lowering.specs.Lowered.{layout_at}
@@ -26,7 +24,7 @@ use Rattle.block_calls.specs.EntranceLaws.{Returns}
 use Rattle.player_parts.specs.Words.{Half, Low, High}
 use Rattle.player_parts.specs.declared.labels.TheConstants.{VARIABLES}
 use Rattle.player_parts.specs.declared.place.Place.{Place}
-use Rattle.player_code.specs.Plans.{Plan, play_site, init_site, play_names, init_names, names_with}
+use Rattle.player_code.specs.Plans.{play_site, init_site, names_with}
 use Rattle.player_code.proofs.Laws.{calls_are_short}
 use Rattle.player_build.specs.ImageLines.{count_of, plan_of}
 use Rattle.player_build.proofs.Layouts.{layout_of, play_layout, init_layout}

@@ -1,23 +1,20 @@
 -- Where the places of an image's calls are: its variables, its code, the lists, and where a call may write.
-use Rattle.std.proofs.Common.{◌≡◌, ◌≢◌, ℕ, ◌+◌, ◌-◌, ◌*◌, ◌%◌, ◌<◌, ◌≤◌, ◌⊎◌, List, true, nat_lt, Option, None, Some, length, refl, sym, ap, ◌∙◌, arith, inl, inr, subst, All}
-use Rattle.std.proofs.lemmas.Bool.{ltb-true, leb-true}
+use Rattle.std.proofs.Common.{◌≡◌, ◌≢◌, ℕ, ◌+◌, ◌-◌, ◌<◌, ◌≤◌, ◌⊎◌, List, true, nat_lt, length, sym, arith, inl, inr, subst}
+use Rattle.std.proofs.lemmas.Bool.{ltb-true}
 use Rattle.play_model.specs.declared.options.Options.{Options}
 use Rattle.packed_form.specs.declared.packed_songs.PackedSong.{PackedSong}
-use Rattle.cpu6502.specs.declared.effect.Write.{Write}
 use Rattle.asm6502.specs.declared.lines.Line.{Line}
 use Rattle.images.specs.Confined.{IsOwnPlace}
-use Rattle.blocks.specs.Desk.{Layout, sid_place}
-use Rattle.lowering.specs.Lowered.{low_at, high_at, end_at, layout_at}
-use Rattle.block_calls.specs.Entrances.{Entrance, opening, IsCode, HasCode, IsWellEntered}
+use Rattle.blocks.specs.Desk.{Layout}
+use Rattle.lowering.specs.Lowered.{layout_at}
+use Rattle.block_calls.specs.Entrances.{IsCode}
 use Rattle.block_calls.specs.EntranceLaws.{IsApart}
 use Rattle.player_parts.specs.declared.labels.TheConstants.{VARIABLES, SUBTUNE}
 use Rattle.player_parts.specs.declared.place.Place.{Place}
 use Rattle.player_parts.specs.PlayerLayouts.{IsVariablePlace}
-use Rattle.player_code.specs.Plans.{Plan, plan_address, plan_size, code_size, play_site, init_site}
-use Rattle.player_code.specs.CodeLaws.{AreInPlace}
+use Rattle.player_code.specs.Plans.{Plan, plan_address, code_size, play_site, init_site}
 use Rattle.player_code.proofs.Laws.{labels_stand_in_place}
 use Rattle.player_build.specs.ImageLines.{plan_of}
-use Rattle.player_build.specs.Lengths.{image_length}
 use Rattle.player_build.proofs.Layouts.{layout_of, play_layout, init_layout, Made, size_splits, plan_size_is, blocks_stand, BlocksStand, code_is_there}
 use Rattle.player_build.proofs.Bytes.{Assembled}
 use Rattle.player_build.proofs.Entered.{play_entrance, init_entrance, none_some, some_same, subtune_few}

@@ -1,11 +1,9 @@
 -- An image as it is built holds the start state of its first subtune.
-use Rattle.std.proofs.Common.{◌≡◌, ℕ, zero, suc, ◌+◌, ◌-◌, ◌*◌, ◌/◌, ◌%◌, ◌<◌, ◌≤◌, List, [], ◌∷◌, ◌++◌, length, map, refl, sym, ap, ◌∙◌, arith, subst, if◌then◌else◌}
+use Rattle.std.proofs.Common.{◌≡◌, ℕ, zero, suc, ◌+◌, ◌-◌, ◌*◌, ◌/◌, ◌%◌, ◌<◌, List, [], ◌∷◌, ◌++◌, length, refl, sym, ap, ◌∙◌, arith, subst, if◌then◌else◌}
 use Rattle.std.specs.Prelude.{slice_index}
-use Rattle.std.specs.List.{range_with_len}
 use Rattle.std.proofs.lemmas.List.FromFn.{get_or-map-range_with_len}
 use Rattle.song_model.specs.declared.songs.Song.{Song}
 use Rattle.play_model.specs.declared.options.Options.{Options}
-use Rattle.play_model.specs.State.{start_state}
 use Rattle.play_model.specs.Frame.{state_after_with}
 use Rattle.packed_form.specs.declared.packed_songs.PackedSong.{PackedSong}
 use Rattle.packed_form.specs.Unpacked.{unpacked_song}
@@ -18,19 +16,16 @@ use Rattle.lowering.specs.Lines.{all_lines}
 use Rattle.player_parts.specs.declared.labels.TheConstants.{VARIABLES, ORDERS}
 use Rattle.player_parts.specs.declared.place.Place.{Place}
 use Rattle.player_parts.specs.Labels.{is_shared}
-use Rattle.player_parts.specs.Holds.{Holds, nothing_on}
 use Rattle.player_seq.specs.InitBlock.{init_tree}
 use Rattle.player_seq.specs.StartVariables.{start_byte, shared_start, voice_at, start_variable}
 use Rattle.player_seq.proofs.Laws.{start_variables_hold}
 use Rattle.player_frame.specs.PlayBlock.{play_tree}
-use Rattle.player_lists.specs.DataLists.{order_places}
 use Rattle.player_lists.proofs.Laws.{order_at_label}
 use Rattle.player_code.specs.declared.labels.TheConstants.{INIT_LABELS, PLAY_LABELS}
 use Rattle.player_code.specs.CodeLines.{entry_lines, variable_lines, play_head, front_lines, middle_lines, return_lines}
-use Rattle.player_code.specs.Lengths.{kept_set}
-use Rattle.player_code.specs.Plans.{Plan, plan_code, plan_lines, plan_address}
-use Rattle.player_build.specs.ImageLines.{lists_start, first_order, first_variables, plan_of}
-use Rattle.player_build.proofs.Layouts.{layout_of, Made, is_data_layout}
+use Rattle.player_code.specs.Plans.{Plan, plan_address}
+use Rattle.player_build.specs.ImageLines.{lists_start, first_order, plan_of}
+use Rattle.player_build.proofs.Layouts.{layout_of, is_data_layout}
 use Rattle.player_build.proofs.Bytes.{Assembled, lines_stand, lists_stand}
 use Rattle.player_build.proofs.Entered.{has_play_code, has_init_code}
 use Rattle.player_build.proofs.Spots.{variable_at}

@@ -1,5 +1,5 @@
 -- An image plays each song that its packed song stands for.
-use Rattle.std.proofs.Common.{◌≡◌, ◌≢◌, ℕ, zero, suc, ◌+◌, ◌<◌, ◌≤◌, List, [], ◌∷◌, length, map, refl, sym, ap, ◌∙◌, arith, subst}
+use Rattle.std.proofs.Common.{◌≢◌, ℕ, suc, ◌<◌, List, [], ◌∷◌, length, refl, sym, ap, ◌∙◌, arith, subst}
 use Rattle.std.proofs.lemmas.List.{length-map}
 use Rattle.song_model.specs.declared.songs.Song.{Song}
 use Rattle.song_model.specs.declared.orders.Subtune.{Subtune}
@@ -23,7 +23,7 @@ use Rattle.player_code.specs.Plans.{play_site}
 use Rattle.player_build.specs.declared.image.Image.{Image}
 use Rattle.player_build.specs.ImageLines.{plan_of, IsImageOf}
 use Rattle.player_build.specs.Built.{Plays}
-use Rattle.player_build.proofs.Layouts.{layout_of, play_layout}
+use Rattle.player_build.proofs.Layouts.{play_layout}
 use Rattle.player_build.proofs.Bytes.{Assembled}
 use Rattle.player_build.proofs.Answers.{Player}
 use Rattle.player_build.proofs.Started.{image_ready}

@@ -1,6 +1,7 @@
 -- What `build` gives: an image of the packed song, its length and its parts, and that it plays each song that the packed
 -- song stands for. This is the project's own player.
-use Rattle.std.specs.Prelude.{◌≡◌, ℕ, ◌+◌, ◌≤◌, length}
+use Rattle.std.specs.Prelude.{◌≡◌, ◌+◌, ◌≤◌, length}
+use Rattle.base.specs.Bytes.{AreBytes}
 use Rattle.song_model.specs.declared.songs.Song.{Song}
 use Rattle.play_model.specs.declared.options.Options.{Options}
 use Rattle.packed_form.specs.declared.packed_songs.PackedSong.{PackedSong}
@@ -24,7 +25,8 @@ pub record Plays (packed : PackedSong) (song : Song) (o : Options) (built : Imag
 pub record IsBuild (packed : PackedSong) (place : Place) (o : Options) (built : Image) : Type 0 where
   pub place_is : built.place ≡ place
   pub image : IsImageOf packed built.place o built.bytes
+  pub bytes : AreBytes built.bytes
   pub size : length built.bytes ≡ image_length packed o
   pub fits : place.address + length built.bytes ≤ image_end
-  pub parts : NamesParts packed o (length built.bytes) built.parts
+  pub parts : NamesParts packed place o (length built.bytes) built.parts
   pub plays : (song : Song) → StandsFor packed song → Plays packed song o built image

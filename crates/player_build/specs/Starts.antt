@@ -1,6 +1,6 @@
 -- That an image as it is built holds a start state, so that a play may come before the first init. This is the project's
 -- own player.
-use Rattle.std.specs.Prelude.{◌≡◌, ℕ, List}
+use Rattle.std.specs.Prelude.{ℕ, List}
 use Rattle.play_model.specs.declared.options.Options.{Options}
 use Rattle.play_model.specs.State.{start_state}
 use Rattle.packed_form.specs.declared.packed_songs.PackedSong.{PackedSong}

@@ -1,6 +1,7 @@
 //! From a packed song to its image.
 
 ghost use Rattle.std.specs.Prelude.{◌≡◌, ◌≢◌, ◌+◌, ◌-◌, ◌^◌, ◌<◌, ◌≤◌, ◌↔◌, None, length, IfOk, IsErrOf};
+ghost use Rattle.base.specs.Bytes.{AreBytes};
 ghost use Rattle.packed_form.specs.Sizes.{packed_song_size};
 ghost use Rattle.asm6502.specs.Lines.{kept, size_of, data_size};
 ghost use Rattle.asm6502.specs.Assembly.{assembled_bytes};
@@ -15,7 +16,7 @@ ghost use Rattle.player_build.specs.Built.{IsBuild};
 use crate::faults::BuildFault;
 use crate::image::Image;
 use crate::lengths::{code_length, image_length};
-use crate::limits::keep_limits;
+use crate::limits::{are_bytes, keep_limits};
 use crate::spans::image_spans;
 use crate::variables::{first_orders, first_variables};
 use asm6502::{AsmFault, Listing, MOST_BYTES, MOST_LINES, assemble};
@@ -91,9 +92,13 @@ fn assembled(
     requires right { fault_of set.0 origin listing.now ≡ None }
     ensures bytes { IfOk result (λ bytes. bytes ≡ assembled_bytes set.0 origin listing.now) }
     ensures size { IfOk result (λ bytes. length bytes ≡ size_of (kept set.0 listing.now)) }
+    ensures are_bytes { IfOk result AreBytes }
 {
     match assemble(alloc, listing, origin, set) {
-        Ok(done) => Ok(done.bytes),
+        Ok(done) => {
+            are_bytes(done.bytes.as_slice());
+            Ok(done.bytes)
+        }
         Err(AsmFault::NoMemory) => Err(NoMemory),
         Err(_) => unreachable!(),
     }

@@ -12,7 +12,7 @@ use play_model::Options;
 use player_parts::Place;
 
 /// Bytes are below 256.
-fn are_bytes(bytes: &[u8])
+pub(crate) fn are_bytes(bytes: &[u8])
     ensures { AreBytes bytes.now }
 {}
 

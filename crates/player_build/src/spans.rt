@@ -2,9 +2,8 @@
 
 ghost use Rattle.std.specs.Prelude.{◌≡◌, ◌+◌, ◌-◌, ◌≤◌, IfOk, length};
 ghost use Rattle.asm6502.specs.Lines.{item_size, is_kept, kept, size_of};
-ghost use Rattle.asm6502.specs.Parts.{part_size as bytes_in};
 ghost use Rattle.player_build.specs.Joined.{Follow, kept_size, frequency_span, AreSpansOf};
-ghost use Rattle.player_build.specs.Spans.{part_size};
+ghost use Rattle.player_build.specs.Spans.{parts_of_spans, parts_of_lines};
 
 use crate::image::{PartSpan, SpanList};
 use crate::lengths::ALWAYS;
@@ -59,11 +58,12 @@ fn frequency_span(start: u16) -> PartSpan
     }
 }
 
-/// The spans of a listing's kept lines, each as long as lines of one part stand one behind the other.
+/// The spans of a listing's kept lines, each as long as lines of one part stand one behind the other. Each byte has its
+/// line's part.
 fn code_spans(alloc: Global, lines: &[Line], set: FeatureBits) -> Result<Items<PartSpan>, NoMemory>
     requires { size_of (kept set.0 lines.now) ≤ 0xD000 }
     ensures follow { IfOk result (λ spans. Follow 0 spans (size_of (kept set.0 lines.now))) }
-    ensures parts { (part : _) → IfOk result (λ spans. part_size part spans ≡ bytes_in part (kept set.0 lines.now)) }
+    ensures parts { IfOk result (λ spans. parts_of_spans spans ≡ parts_of_lines (kept set.0 lines.now)) }
 {
     let mut spans = Items::new(alloc);
     let mut open = PartSpan {

@@ -1,5 +1,6 @@
 -- The image is built.
-use Rattle.std.proofs.Common.{◌≡◌, ℕ, ◌+◌, ◌^◌, ◌<◌, ◌≤◌, List, [], ◌++◌, None, length, refl, sym, ap, ◌∙◌, subst}
+use Rattle.std.proofs.Common.{◌≡◌, ℕ, ◌+◌, ◌^◌, ◌<◌, ◌≤◌, List, [], ◌++◌, None, length, sym, ap, ◌∙◌, subst}
+use Rattle.base.specs.Bytes.{AreBytes}
 use Rattle.play_model.specs.declared.options.Options.{Options}
 use Rattle.play_model.specs.Speeds.{IsSpeed}
 use Rattle.packed_form.specs.declared.packed_songs.PackedSong.{PackedSong}
@@ -81,9 +82,9 @@ built_so : (packed : PackedSong) (place : Place) (o : Options) (code set speeds 
     (bytes : List ℕ) (parts : List PartSpan) → Allowed packed place o code → set ≡ kept_set packed.features.0 o →
     lines ≡ plan_code (plan_of packed place o []) → HasLines packed (place.address + code) lists →
     all ≡ lines ++ lists → bytes ≡ assembled_bytes set place.address all → length bytes ≡ size_of (kept set all) →
-    speeds ≡ length packed.speed → AreSpansOf set lines speeds parts →
+    AreBytes bytes → speeds ≡ length packed.speed → AreSpansOf set lines speeds parts →
     IsBuild packed place o (record { place = place; bytes = bytes; parts = parts })
-built_so packed place o code set speeds lines lists all bytes parts a sets is has whole are size speeds_are spans =
+built_so packed place o code set speeds lines lists all bytes parts a sets is has whole are size are_bytes speeds_are spans =
     let built : Image = record { place = place; bytes = bytes; parts = parts } in
     let lines_are = all_lines_are packed place o lines lists all is whole in
     is_build lists built speeds a (lists_have packed place o code lists a has)
@@ -91,7 +92,7 @@ built_so packed place o code set speeds lines lists all bytes parts a sets is ha
     ∙ ap (λ (ls : List Line). assembled_bytes (kept_set packed.features.0 o) place.address ls) lines_are)
     (size ∙ ap (λ (n : ℕ). size_of (kept n all)) sets
     ∙ ap (λ (ls : List Line). size_of (kept (kept_set packed.features.0 o) ls)) lines_are)
-    speeds_are
+    are_bytes speeds_are
     (subst (λ (n : ℕ). AreSpansOf n (plan_code (plan_of packed place o lists)) speeds parts) sets
     (subst (λ (ls : List Line). AreSpansOf set ls speeds parts) is spans))
 
@@ -145,6 +146,6 @@ returns c =
     built_so c.args.packed.now c.args.place c.args.options.now c.args.code c.kept_set-set.result.0
     (length c.as_slice.result.now) c.in_ok-listing.listing c.in_ok-lists.lists c.append.new.self c.in_ok-bytes.bytes c.in_ok-parts.parts a
     c.kept_set-set.ensures c.in_ok-listing.ensures c.in_ok-lists.ensures c.in_ok-append.ensures.ok
-    c.in_ok-bytes.ensures.bytes c.in_ok-bytes.ensures.size (ap length c.as_slice.ensures.items)
+    c.in_ok-bytes.ensures.bytes c.in_ok-bytes.ensures.size c.in_ok-bytes.ensures.are_bytes (ap length c.as_slice.ensures.items)
     (subst (λ (ls : List Line). AreSpansOf c.kept_set-set.result.0 ls (length c.as_slice.result.now) c.in_ok-parts.parts) c.as_slice-2.ensures
     c.in_ok-parts.ensures)

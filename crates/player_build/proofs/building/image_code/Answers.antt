@@ -1,18 +1,16 @@
 -- The code's lines are those of the image.
-use Rattle.std.proofs.Common.{◌≡◌, ℕ, zero, suc, ◌+◌, ◌-◌, ◌*◌, ◌<◌, List, [], ◌∷◌, map, min, IfOk, refl, sym, ap, ◌∙◌, arith}
+use Rattle.std.proofs.Common.{◌≡◌, ℕ, zero, suc, ◌+◌, ◌<◌, List, [], ◌∷◌, map, refl, ap, ◌∙◌, arith}
 use Rattle.std.specs.Prelude.{slice_index}
 use Rattle.std.specs.List.{range_with_len}
 use Rattle.std.proofs.lemmas.Result.{IfOk-weaker}
 use Rattle.play_model.specs.declared.options.Options.{Options}
 use Rattle.packed_form.specs.declared.packed_songs.PackedSong.{PackedSong}
-use Rattle.packed_form.specs.WalkCount.{walk_count}
-use Rattle.asm6502.specs.declared.lines.Line.{Line}
 use Rattle.player_parts.specs.declared.labels.TheConstants.{VARIABLES}
 use Rattle.player_parts.specs.declared.place.Place.{Place}
 use Rattle.player_seq.specs.StartVariables.{start_variable, voice_at}
 use Rattle.player_lists.specs.DataLists.{order_places}
 use Rattle.player_code.specs.CodeLines.{code_lines}
-use Rattle.player_build.specs.ImageLines.{count_of, lists_start, first_order, first_variables}
+use Rattle.player_build.specs.ImageLines.{lists_start, first_order, first_variables}
 use Rattle.player_build.proofs.Started.{start_same, voice_few}
 use Rattle.player_build.proofs.building.image_code.Goals as goal
 

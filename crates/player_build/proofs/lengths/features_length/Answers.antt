@@ -1,6 +1,4 @@
-use Rattle.std.proofs.Common.{◌≡◌, ◌≤◌, ℕ, ◌+◌, ◌*◌, ap, sym, ◌∙◌, arith}
-use Rattle.std.specs.Prelude.{sum_by}
-use Rattle.lowering.specs.Lowered.{bit_kept}
+use Rattle.std.proofs.Common.{◌≡◌, ◌≤◌, ℕ, ◌+◌, ◌*◌, ap, ◌∙◌, arith}
 use Rattle.player_code.specs.Lengths.{length_if}
 use Rattle.player_build.proofs.Sums.{sum_more}
 use Rattle.player_build.proofs.lengths.features_length.Goals as goal

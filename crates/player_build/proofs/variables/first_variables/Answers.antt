@@ -1,5 +1,4 @@
 -- One variable more, and all of them.
-use Rattle.std.proofs.Common.{◌≡◌, ℕ}
 use Rattle.player_build.proofs.Ranges.{filled_more, size_stays, filled_all}
 use Rattle.player_build.proofs.variables.first_variables.Goals as goal
 
