@@ -21,3 +21,4 @@ mod Isolated
 mod Untimed
 mod Whole
 mod Imaged
+mod WorkedImages

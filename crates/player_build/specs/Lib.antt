@@ -8,3 +8,5 @@ pub mod Starts
 pub mod Built
 -- Claimed: numbers of images.
 pub mod LengthLaws
+-- Worked by hand.
+pub mod WorkedImages

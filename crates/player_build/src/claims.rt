@@ -1,8 +1,18 @@
 //! Facts about the definitions, each the contract of a function that does nothing.
 
 ghost use Rattle.player_build.specs.LengthLaws.{ImageLengthIsBounded};
+ghost use Rattle.player_build.specs.WorkedImages.{SilencesAreMeasured, NotesAreMeasured, NotesHaveRoom, VariablesAreWorked};
 
 /// An image is at most as long as its packed song and the bound of its player.
 pub fn image_length_is_bounded()
     ensures { ImageLengthIsBounded }
+{}
+
+/// Images of two small packed songs: how long they are, at which addresses they are too long, and what the variables begin
+/// with.
+pub fn worked_images()
+    ensures silence { SilencesAreMeasured }
+    ensures note { NotesAreMeasured }
+    ensures room { NotesHaveRoom }
+    ensures variables { VariablesAreWorked }
 {}
