@@ -37,7 +37,7 @@ use Rattle.player_build.proofs.Layouts.{Made, code_size_is, plan_size_is, blocks
 use Rattle.player_build.proofs.Bytes.{Assembled}
 use Rattle.player_build.proofs.Parted.{spans_split, parts_sized}
 use Rattle.player_build.proofs.Joining.{follows_size, follows_named}
-use Rattle.player_build.proofs.Naming.{named_left, named_right, named_as_left, none_packed, follow_inside, front_named, lows_named, highs_named}
+use Rattle.player_build.proofs.Naming.{named_left, named_right, named_as_left, code_named, none_packed, follow_inside, front_named, lows_named, highs_named}
 use Rattle.player_build.proofs.Whole.{image_plays}
 
 -- ---- what an image is made from
@@ -412,6 +412,9 @@ is_parts {packed = packed} {place = place} {o = o} {lists = lists} m size speeds
           ∙ added _ _ _ _ _ (follows_size are.code 0 code are.follow) (code_size_is m) size_is;
       in_parts = frequency_parts are.code code (code + 98 + speeds)
           ∙ ap (λ (ps : List ℕ). ps ++ replicate 196 always) are.parts;
+      in_code = λ byte few.
+          named_as_left are.code _ byte _
+          (code_named are.code (kept plan.set (plan_code plan)) _ byte are.follow are.parts (code_size_is m) few);
       common = record {
         front = λ byte few.
             named_as_left are.code _ byte always

@@ -1,6 +1,6 @@
 -- Which bytes are in spans, and of which part.
 use Rattle.std.proofs.Common.{◌≡◌, ℕ, zero, suc, ◌+◌, ◌-◌, ◌<◌, ◌≤◌, ◌⊎◌, List, [], ◌∷◌, ◌++◌, All, length, replicate, get_or, refl, sym, ap, ◌∙◌, arith, inl, inr, subst}
-use Rattle.std.specs.Prelude.{slice_index_or}
+use Rattle.std.specs.Prelude.{slice_index, slice_index_or}
 use Rattle.std.proofs.lemmas.Bool.{cases_lt}
 use Rattle.std.proofs.lemmas.List.{length-append, length-replicate, get_or-replicate, get_or_append_left, get_or-append_right}
 use Rattle.std.proofs.lemmas.List.Elements.{All-nil, All-cons, All-append, Contains-append_left, Contains-append_right, Contains-append_cases}
@@ -18,7 +18,7 @@ use Rattle.player_code.specs.Plans.{Plan, plan_code}
 use Rattle.player_build.specs.declared.image.PartSpan.{PartSpan}
 use Rattle.player_build.specs.Joined.{Follow, frequency_span}
 use Rattle.player_build.specs.Spans.{parts_of_spans, parts_of_lines, IsNamed, IsNamedAs, spans_size}
-use Rattle.player_build.proofs.Parted.{IsOf, lines_split, lines_alike}
+use Rattle.player_build.proofs.Parted.{IsOf, lines_split, lines_alike, lines_long}
 use Rattle.player_build.proofs.Joining.{named_behind, follows_size}
 
 -- ---- in one of two lists
@@ -226,6 +226,22 @@ follows_named_as (span ∷ spans) from to k f inside =
 
     there : (from length k : ℕ) → length ≤ k → from + length + (k - length) ≡ from + k
     there from length k h = omega (arith, h)
+
+-- so each byte of lines is of its line's part
+pub code_named : (spans : List PartSpan) (lines : List Line) (all byte : ℕ) → Follow 0 spans (size_of lines) →
+    parts_of_spans spans ≡ parts_of_lines lines → size_of lines + 196 ≡ all → byte < all - 196 →
+    IsNamedAs spans byte (slice_index (parts_of_lines lines) byte)
+code_named spans lines all byte follow parts size few =
+    let here = follows_named_as spans 0 (size_of lines) byte follow
+    (less _ _ _ _ size (ap length parts ∙ lines_long lines) few) in
+    subst (λ n. IsNamedAs spans n (get_or (parts_of_lines lines) byte 0)) (plain byte)
+    (subst (λ p. IsNamedAs spans (0 + byte) p) (ap (λ (ps : List ℕ). get_or ps byte 0) parts) here)
+  where
+    less : (byte size all long : ℕ) → size + 196 ≡ all → long ≡ size → byte < all - 196 → byte < long
+    less byte size all long e f h = omega (arith, e, f, h)
+
+    plain : (n : ℕ) → 0 + n ≡ n
+    plain n = omega arith
 
 -- ---- what stands in front
 

@@ -1,7 +1,8 @@
 -- Lists of parts, one for each byte.
-use Rattle.std.proofs.Common.{◌≡◌, ℕ, zero, suc, ◌+◌, Bool, true, false, nat_eq, if◌then◌else◌, List, [], ◌∷◌, ◌++◌, All, replicate, refl, sym, ap, ◌∙◌, arith}
+use Rattle.std.proofs.Common.{◌≡◌, ℕ, zero, suc, ◌+◌, Bool, true, false, nat_eq, if◌then◌else◌, List, [], ◌∷◌, ◌++◌, All, length, replicate, refl, sym, ap, ◌∙◌, arith}
 use Rattle.std.specs.Prelude.{sum_by}
 use Rattle.std.proofs.lemmas.Grind.{flat_map-append}
+use Rattle.std.proofs.lemmas.List.{length-append, length-replicate}
 use Rattle.std.proofs.lemmas.List.Elements.{All-head, All-tail}
 use Rattle.std.proofs.lemmas.List.Sums.{sum_by-append}
 use Rattle.asm6502.specs.declared.lines.Line.{Line}
@@ -44,6 +45,14 @@ lines_alike part (line ∷ lines) all =
     ∙ ap (λ (parts : List ℕ). replicate (item_size line.item) part ++ parts)
     (lines_alike part lines (All-tail (IsOf part) line lines all))
     ∙ sym (replicate_more (item_size line.item) (size_of lines) part)
+
+-- as many as there are bytes
+pub lines_long : (lines : List Line) → length (parts_of_lines lines) ≡ size_of lines
+lines_long [] = refl
+lines_long (line ∷ lines) =
+    length-append (replicate (item_size line.item) line.part) (parts_of_lines lines)
+    ∙ ap (λ (n : ℕ). n + length (parts_of_lines lines)) (length-replicate (item_size line.item) line.part)
+    ∙ ap (λ (n : ℕ). item_size line.item + n) (lines_long lines)
 
 -- ---- how often a part is in a list
 

@@ -1,5 +1,5 @@
 -- Which bytes of an image belong to which part of the player. This is the project's own player.
-use Rattle.std.specs.Prelude.{◌≡◌, ℕ, ◌+◌, ◌-◌, ◌<◌, ◌≤◌, ◌⊎◌, ◌↔◌, List, [], ◌∷◌, ◌++◌, All, Contains, flat_map, replicate, sum_by, length, nat_eq, if◌then◌else◌}
+use Rattle.std.specs.Prelude.{◌≡◌, ℕ, ◌+◌, ◌-◌, ◌<◌, ◌≤◌, ◌⊎◌, ◌↔◌, List, [], ◌∷◌, ◌++◌, All, Contains, flat_map, replicate, slice_index, sum_by, length, nat_eq, if◌then◌else◌}
 use Rattle.play_model.specs.declared.options.Options.{Options}
 use Rattle.packed_form.specs.declared.packed_songs.PackedSong.{PackedSong}
 use Rattle.packed_form.specs.Sizes.{packed_song_size}
@@ -75,8 +75,9 @@ pub record NamesCommon (packed : PackedSong) (o : Options) (spans : List PartSpa
 
 -- the spans are in order, don't overlap, and end within the image; a byte of the image is in one exactly where it isn't the
 -- packed song's; the parts of the bytes in them, in order, are those of the bytes of the kept code, and behind these that
--- which is always kept, once for each byte of the frequencies; entries, variables and frequencies are of that one; and each
--- part has its length where it is kept, and none elsewhere
+-- which is always kept, once for each byte of the frequencies; so each byte of the code is of its line's part; entries,
+-- variables and frequencies are of that which is always kept; and each part has its length where it is kept, and none
+-- elsewhere
 pub record NamesParts (packed : PackedSong) (place : Place) (o : Options) (size : ℕ) (spans : List PartSpan)
     : Type 0 where
   pub in_order : StandInOrder 0 spans
@@ -84,5 +85,7 @@ pub record NamesParts (packed : PackedSong) (place : Place) (o : Options) (size 
   pub named : (byte : ℕ) → byte < size → IsNamed spans byte ↔ (IsPacked packed o byte → ⊥)
   pub add_up : spans_size spans + packed_song_size packed ≡ size
   pub in_parts : parts_of_spans spans ≡ parts_of_lines (kept_code packed place o) ++ replicate frequency_bytes always
+  pub in_code : (byte : ℕ) → byte < code_length packed.features.0 o - frequency_bytes →
+      IsNamedAs spans byte (slice_index (parts_of_lines (kept_code packed place o)) byte)
   pub common : NamesCommon packed o spans
   pub parts : (part : ℕ) → part_size part spans ≡ length_of_part packed o part
