@@ -4,6 +4,7 @@ mod broken;
 mod checking;
 mod copying;
 mod editing;
+mod histories;
 mod hostile;
 mod options;
 mod packing;

@@ -1,6 +1,7 @@
-//! Songs that are packed with options: a packed file that is run prints what the song's trace prints.
+//! Songs that are packed, with options and without: a packed file that is run prints what the song's trace prints.
 
-use super::parts::{NOTE, Parts, SILENT, three_instruments};
+use super::parts::{NOTE, Parts, SILENT, case_of, three_instruments};
+use super::tracing::{STILL, TRACED};
 use super::{ANY, Answer, assert_refused, one_note, run, silence};
 use cpu6502::{Machine, Memory, WriteLog};
 use std::alloc::Global;
@@ -8,12 +9,12 @@ use std::process::Abort;
 use std::test::Fail;
 
 /// How a song may be played: what is left out of a frame, and the speed.
-const OPTIONS: [(&str, &str); 5] = [
-    ("none", "1"),
-    ("effects", "1"),
-    ("pulse", "1"),
-    ("none", "2"),
-    ("both", "4"),
+const OPTIONS: [[&str; 2]; 5] = [
+    ["none", "1"],
+    ["effects", "1"],
+    ["pulse", "1"],
+    ["none", "2"],
+    ["both", "4"],
 ];
 
 /// A song that is packed with options.
@@ -28,25 +29,39 @@ fn packed(
     run(alloc, &words, song)
 }
 
-/// Asserts that each subtune of a packed song prints what its trace prints.
+/// Asserts that each of these subtunes of a packed song prints 300 frames as its trace does, where both have these words
+/// for how it is played.
 fn assert_plays(
     rt: &impl Abort,
     alloc: Global,
     song: &[u8],
     subtunes: &[&str],
-    frames: &str,
+    how: &[&str],
 ) -> Result<(), Fail> {
-    for (skip, speed) in OPTIONS {
-        let file = packed(alloc, song, "psid", skip, speed)?
-            .output
-            .ok_or("no file")?;
-        for subtune in subtunes {
-            let traced = run(alloc, &["trace", "s0", subtune, frames, skip, speed], song)?;
-            assert_eq!(rt; traced.status, 0, "{skip} {speed}");
-            let played = run(alloc, &["run", "s0", subtune, frames], &file)?;
-            assert_eq!(rt; played.status, 0, "{skip} {speed}");
-            assert_eq!(rt; played.text, traced.text, "{skip} {speed}");
-        }
+    let mut pack = vec![in alloc; "pack", "s0", "o", "psid", "1000", "FC"]?;
+    pack.extend_from_slice(how)?;
+    let file = run(alloc, &pack, song)?.output.ok_or("no file")?;
+    for subtune in subtunes {
+        let mut trace = vec![in alloc; "trace", "s0", subtune, "300"]?;
+        trace.extend_from_slice(how)?;
+        let traced = run(alloc, &trace, song)?;
+        assert_eq!(rt; traced.status, 0, "{subtune}");
+        let played = run(alloc, &["run", "s0", subtune, "300"], &file)?;
+        assert_eq!(rt; played.status, 0, "{subtune}");
+        assert_eq!(rt; played.text, traced.text, "{subtune}");
+    }
+    Ok(())
+}
+
+/// Asserts that they do with each of the options.
+fn assert_plays_with_each(
+    rt: &impl Abort,
+    alloc: Global,
+    song: &[u8],
+    subtunes: &[&str],
+) -> Result<(), Fail> {
+    for how in OPTIONS {
+        assert_plays(rt, alloc, song, subtunes, &how)?;
     }
     Ok(())
 }
@@ -54,9 +69,28 @@ fn assert_plays(
 #[test]
 fn a_packed_song_prints_its_trace_with_each_option(rt: HostRuntime) -> Result<(), Fail> {
     let alloc = rt.alloc();
-    assert_plays(&rt, alloc, &silence(alloc)?, &["1"], "3")?;
-    assert_plays(&rt, alloc, &one_note(alloc)?, &["1"], "40")?;
-    assert_plays(&rt, alloc, &three_instruments(alloc)?, &["1", "2"], "300")
+    assert_plays_with_each(&rt, alloc, &silence(alloc)?, &["1"])?;
+    assert_plays_with_each(&rt, alloc, &one_note(alloc)?, &["1"])?;
+    assert_plays_with_each(&rt, alloc, &three_instruments(alloc)?, &["1", "2"])
+}
+
+#[test]
+fn each_song_that_is_traced_is_packed_and_run(rt: HostRuntime) -> Result<(), Fail> {
+    let alloc = rt.alloc();
+    for text in TRACED.split("\n\n") {
+        let case = case_of(text)?;
+        let mut words = Vec::new(alloc);
+        for word in case.words.split(' ') {
+            words.push(word)?;
+        }
+        let subtune = words.get(..1).ok_or("no subtune")?;
+        let how = words.get(2..).ok_or("no frames")?;
+        assert_plays(&rt, alloc, &case.song.file(alloc)?, subtune, how)?;
+    }
+    for (song, _) in STILL {
+        assert_plays(&rt, alloc, &song.file(alloc)?, &["1"], &[])?;
+    }
+    Ok(())
 }
 
 #[test]
@@ -73,7 +107,7 @@ fn effects_and_pulse_are_left_out_of_packed_songs(rt: HostRuntime) -> Result<(),
             ..NOTE
         },
     ] {
-        assert_plays(&rt, alloc, &song.file(alloc)?, &["1"], "40")?;
+        assert_plays_with_each(&rt, alloc, &song.file(alloc)?, &["1"])?;
     }
     Ok(())
 }
@@ -120,22 +154,43 @@ fn the_timer_calls_play_above_one_call_in_the_time_of_a_picture(
             caller.as_slice(),
             "{speed}"
         );
-        let machine = begun(alloc, file.get(0x7e..).ok_or("short")?, 0x55)?;
+        let mut machine = begun(alloc, file.get(0x7e..).ok_or("short")?, 0x55)?;
         assert_eq!(rt; machine.memory.read(0xdc04), low, "{speed}");
         assert_eq!(rt; machine.memory.read(0xdc05), high, "{speed}");
+        // Play leaves both bytes as it finds them.
+        machine.memory.write(0xdc04, 0xc3);
+        machine.memory.write(0xdc05, 0x3c);
+        let mut log = WriteLog::new();
+        for _ in 0..17 {
+            assert!(rt;
+                machine.call(0x1003, 0, 60_000, &mut log).is_ok(),
+                "{speed}"
+            );
+            assert_eq!(rt; machine.memory.read(0xdc04), 0xc3, "{speed}");
+            assert_eq!(rt; machine.memory.read(0xdc05), 0x3c, "{speed}");
+        }
     }
     Ok(())
 }
 
 #[test]
-fn a_small_song_with_all_options_is_small(rt: HostRuntime) -> Result<(), Fail> {
+fn a_small_song_is_small(rt: HostRuntime) -> Result<(), Fail> {
     let alloc = rt.alloc();
-    let file = packed(alloc, &one_note(alloc)?, "raw", "both", "4")?
-        .output
-        .ok_or("no file")?;
-    // The address, 42 bytes of data, and a player with two features and three options.
-    assert!(rt; file.len() <= 2 + 42 + 3_072 + 5 * 320);
-    assert!(rt; file.starts_with(&[0x00, 0x10]));
+    let song = one_note(alloc)?;
+    // Two features, and with them three options.
+    for (skip, speed, parts) in [("none", "1", 2), ("both", "4", 5)] {
+        let answer = packed(alloc, &song, "raw", skip, speed)?;
+        assert_eq!(rt; answer.status, 0, "{skip} {speed}");
+        let file = answer.output.ok_or("no file")?;
+        let text = format!(in alloc; "wrote {} bytes\n", file.len())?;
+        assert_eq!(rt; answer.text.as_slice(), text.as_bytes());
+        assert!(rt; file.starts_with(&[0x00, 0x10]), "{skip} {speed}");
+        // The address, 42 bytes of data, and a player with its parts.
+        assert!(rt;
+            file.len() <= 2 + 42 + 3_072 + parts * 320,
+            "{skip} {speed}"
+        );
+    }
     Ok(())
 }
 

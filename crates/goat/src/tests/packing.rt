@@ -15,7 +15,7 @@ fn push_pattern(parts: &mut Vec<u8>, rows: u8) -> Result<(), Fail> {
 }
 
 /// A song whose channels play these patterns, and whose patterns have so many rows.
-fn song_of(alloc: Global, plays: [u8; 3], rows: &[u8]) -> Result<Vec<u8>, Fail> {
+pub fn song_of(alloc: Global, plays: [u8; 3], rows: &[u8]) -> Result<Vec<u8>, Fail> {
     let mut parts = Vec::new(alloc);
     parts.push(1)?;
     for pattern in plays {

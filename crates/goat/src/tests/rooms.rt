@@ -1,5 +1,6 @@
 //! The greatest address at which a song's image has room.
 
+use super::packing::song_of;
 use super::parts::three_instruments;
 use super::{Answer, assert_refused, one_note, run, silence};
 use std::alloc::Global;
@@ -28,7 +29,7 @@ fn assert_room(rt: &impl Abort, alloc: Global, song: &[u8], how: &[&str]) -> Res
     assert_eq!(rt; fits.status, 0, "{last}");
     assert_eq!(rt; fits.output.ok_or("no file")?.len(), length + 2);
     let text = format!(in alloc; "too large: image of {length} bytes\n")?;
-    for page in [last + 1, 0xcf] {
+    for page in [last + 1, 0xce, 0xcf] {
         let above = packed_at(alloc, song, page, how)?;
         assert_refused(rt, &above, 7, &text);
     }
@@ -40,5 +41,7 @@ fn images_end_at_or_below_d000(rt: HostRuntime) -> Result<(), Fail> {
     let alloc = rt.alloc();
     assert_room(&rt, alloc, &silence(alloc)?, &[])?;
     assert_room(&rt, alloc, &one_note(alloc)?, &["none", "1"])?;
-    assert_room(&rt, alloc, &three_instruments(alloc)?, &["both", "4"])
+    assert_room(&rt, alloc, &three_instruments(alloc)?, &["both", "4"])?;
+    // Three patterns of 60 rows, which pack to 241 bytes each.
+    assert_room(&rt, alloc, &song_of(alloc, [0, 1, 2], &[60, 60, 60])?, &[])
 }

@@ -27,16 +27,23 @@ pub fn psid_file(alloc: Global, image: &[u8]) -> Result<Vec<u8>, Fail> {
     Ok(file)
 }
 
-#[test]
-fn a_silent_song_is_packed_as_psid_and_run(rt: HostRuntime) -> Result<(), Fail> {
-    let alloc = rt.alloc();
-    let words = ["pack", "s0", "o", "psid", "1000", "FC"];
-    let packed = run(alloc, &words, &silence(alloc)?)?;
-    assert_eq!(rt; packed.status, 0);
-    let file = packed.output.ok_or("no file")?;
+/// The PSID file of a packed song, and asserts its header and the line that is told of it.
+fn packed(rt: &impl Abort, alloc: Global, song: &[u8]) -> Result<Vec<u8>, Fail> {
+    let answer = run(alloc, &["pack", "s0", "o", "psid", "1000", "FC"], song)?;
+    assert_eq!(rt; answer.status, 0);
+    let file = answer.output.ok_or("no file")?;
+    let text = format!(in alloc; "wrote {} bytes\n", file.len())?;
+    assert_eq!(rt; answer.text.as_slice(), text.as_bytes());
     assert!(rt; file.starts_with(&FRONT));
     let back = file.get(0x76..0x7e).ok_or("short")?;
     assert_eq!(rt; back, BACK.as_slice());
+    Ok(file)
+}
+
+#[test]
+fn a_silent_song_is_packed_as_psid_and_run(rt: HostRuntime) -> Result<(), Fail> {
+    let alloc = rt.alloc();
+    let file = packed(&rt, alloc, &silence(alloc)?)?;
     let wanted = format!(in alloc;
         "000000 {ZEROS}\n000001 {VOLUME}\n000002 {VOLUME}\n000003 {VOLUME}\n"
     )?;
@@ -48,6 +55,18 @@ fn a_silent_song_is_packed_as_psid_and_run(rt: HostRuntime) -> Result<(), Fail> 
         cut.text.as_slice(),
         wanted.as_bytes().get(..145).ok_or("short")?
     );
+    Ok(())
+}
+
+#[test]
+fn a_note_is_packed_as_psid_and_run(rt: HostRuntime) -> Result<(), Fail> {
+    let alloc = rt.alloc();
+    let song = one_note(alloc)?;
+    let file = packed(&rt, alloc, &song)?;
+    let traced = run(alloc, &["trace", "s0", "1", "300"], &song)?;
+    let played = run(alloc, &["run", "s0", "1", "300"], &file)?;
+    assert_eq!(rt; played.status, 0);
+    assert_eq!(rt; played.text, traced.text);
     Ok(())
 }
 

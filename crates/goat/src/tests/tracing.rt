@@ -8,7 +8,7 @@ use std::test::Fail;
 
 /// Songs, the words after the name of each, and digits of the registers: each as the number of a call, the first
 /// digit's place and the digits, with `@` and `:` between.
-const TRACED: &str = "
+pub const TRACED: &str = "
 silent
 trace 1 3
 = 0@0:00000000000000000000000000000000000000000000000000
@@ -26,6 +26,21 @@ orders 01 03E000FF00 0201FF00 0201FF00
 patterns 02 03 60010000 BE000000 FF000000 02 BD000000 FF000000
 trace 1 8
 = 8@0:000000084109a0
+
+# Both without a pulse program.
+note
+instruments 09A001000000000209
+pulse
+trace 1 17
+= 8@0:681100004109a0 11@0:681100004009a0 17@0:68110000400f00
+
+note
+orders 01 03E000FF00 0201FF00 0201FF00
+instruments 09A001000000000209
+pulse
+patterns 02 03 60010000 BE000000 FF000000 02 BD000000 FF000000
+trace 1 8
+= 8@0:000000004109a0
 
 # A vibrato at the highest frequency.
 note
@@ -125,6 +140,27 @@ trace 1 17 none 2
 = 11@0:00000000000f00 13@0:000000000909a0 14@0:681100084109a0
 ";
 
+/// Songs whose calls all leave the same, and how many calls are looked at: one with a funk value of 0 frames, after which
+/// no row is fetched, and one with a gateoff timer that is longer than a row.
+pub const STILL: [(Parts<'static>, usize); 2] = [
+    (
+        Parts {
+            speed: "0001",
+            patterns: "02 03 BD000E01 90010000 FF000000 02 BD000000 FF000000",
+            ..NOTE
+        },
+        20,
+    ),
+    (
+        Parts {
+            instruments: "09A001010000003F09",
+            patterns: "02 03 90010000 BD000000 FF000000 02 BD000000 FF000000",
+            ..NOTE
+        },
+        300,
+    ),
+];
+
 /// What `trace` answers of a song.
 fn trace(alloc: Global, words: &str, song: &[u8]) -> Result<Answer, Fail> {
     let mut line = vec![in alloc; "trace", "s0"]?;
@@ -181,25 +217,7 @@ fn a_filter_program_is_traced(rt: HostRuntime) -> Result<(), Fail> {
 #[test]
 fn calls_that_leave_the_same_are_traced(rt: HostRuntime) -> Result<(), Fail> {
     let alloc = rt.alloc();
-    // A funk value of 0 frames, after which no row is fetched; and a gateoff timer that is longer than a row.
-    for (song, frames) in [
-        (
-            Parts {
-                speed: "0001",
-                patterns: "02 03 BD000E01 90010000 FF000000 02 BD000000 FF000000",
-                ..NOTE
-            },
-            20,
-        ),
-        (
-            Parts {
-                instruments: "09A001010000003F09",
-                patterns: "02 03 90010000 BD000000 FF000000 02 BD000000 FF000000",
-                ..NOTE
-            },
-            300,
-        ),
-    ] {
+    for (song, frames) in STILL {
         let words = format!(in alloc; "1 {frames}")?;
         let answer = trace(alloc, &words, &song.file(alloc)?)?;
         assert_eq!(rt; answer.text.len(), 58 * (frames + 1));
