@@ -9,12 +9,12 @@ use std::process::Abort;
 use std::test::Fail;
 
 /// How a song may be played: what is left out of a frame, and the speed.
-const OPTIONS: [[&str; 2]; 5] = [
-    ["none", "1"],
-    ["effects", "1"],
-    ["pulse", "1"],
-    ["none", "2"],
-    ["both", "4"],
+const OPTIONS: [(&str, &str); 5] = [
+    ("none", "1"),
+    ("effects", "1"),
+    ("pulse", "1"),
+    ("none", "2"),
+    ("both", "4"),
 ];
 
 /// A song that is packed with options.
@@ -29,26 +29,24 @@ fn packed(
     run(alloc, &words, song)
 }
 
-/// Asserts that each of these subtunes of a packed song prints 300 frames as its trace does, where both have these words
-/// for how it is played.
+/// Asserts that each of these subtunes of a song that is packed with options prints 300 frames as its trace does.
 fn assert_plays(
     rt: &impl Abort,
     alloc: Global,
     song: &[u8],
     subtunes: &[&str],
-    how: &[&str],
+    skip: &str,
+    speed: &str,
 ) -> Result<(), Fail> {
-    let mut pack = vec![in alloc; "pack", "s0", "o", "psid", "1000", "FC"]?;
-    pack.extend_from_slice(how)?;
-    let file = run(alloc, &pack, song)?.output.ok_or("no file")?;
+    let file = packed(alloc, song, "psid", skip, speed)?
+        .output
+        .ok_or("no file")?;
     for subtune in subtunes {
-        let mut trace = vec![in alloc; "trace", "s0", subtune, "300"]?;
-        trace.extend_from_slice(how)?;
-        let traced = run(alloc, &trace, song)?;
-        assert_eq!(rt; traced.status, 0, "{subtune}");
+        let traced = run(alloc, &["trace", "s0", subtune, "300", skip, speed], song)?;
+        assert_eq!(rt; traced.status, 0, "{skip} {speed}");
         let played = run(alloc, &["run", "s0", subtune, "300"], &file)?;
-        assert_eq!(rt; played.status, 0, "{subtune}");
-        assert_eq!(rt; played.text, traced.text, "{subtune}");
+        assert_eq!(rt; played.status, 0, "{skip} {speed}");
+        assert_eq!(rt; played.text, traced.text, "{skip} {speed}");
     }
     Ok(())
 }
@@ -60,8 +58,8 @@ fn assert_plays_with_each(
     song: &[u8],
     subtunes: &[&str],
 ) -> Result<(), Fail> {
-    for how in OPTIONS {
-        assert_plays(rt, alloc, song, subtunes, &how)?;
+    for (skip, speed) in OPTIONS {
+        assert_plays(rt, alloc, song, subtunes, skip, speed)?;
     }
     Ok(())
 }
@@ -79,16 +77,13 @@ fn each_song_that_is_traced_is_packed_and_run(rt: HostRuntime) -> Result<(), Fai
     let alloc = rt.alloc();
     for text in TRACED.split("\n\n") {
         let case = case_of(text)?;
-        let mut words = Vec::new(alloc);
-        for word in case.words.split(' ') {
-            words.push(word)?;
-        }
-        let subtune = words.get(..1).ok_or("no subtune")?;
-        let how = words.get(2..).ok_or("no frames")?;
-        assert_plays(&rt, alloc, &case.song.file(alloc)?, subtune, how)?;
+        let (subtune, words) = case.words.split_once(' ').ok_or("no frames")?;
+        let (_, options) = words.split_once(' ').unwrap_or((words, "none 1"));
+        let (skip, speed) = options.split_once(' ').ok_or("no speed")?;
+        assert_plays(&rt, alloc, &case.song.file(alloc)?, &[subtune], skip, speed)?;
     }
     for (song, _) in STILL {
-        assert_plays(&rt, alloc, &song.file(alloc)?, &["1"], &[])?;
+        assert_plays(&rt, alloc, &song.file(alloc)?, &["1"], "none", "1")?;
     }
     Ok(())
 }
