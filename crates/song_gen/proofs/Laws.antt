@@ -1,0 +1,1 @@
+-- The lemmas that upper crates may cite.

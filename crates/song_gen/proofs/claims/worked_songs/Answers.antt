@@ -1,0 +1,8 @@
+use Rattle.song_gen.proofs.WorkedSongs.{first_draws_are, last_draws_are}
+use Rattle.song_gen.proofs.claims.worked_songs.Goals as goal
+
+pub returns-clause-first : goal.returns-clause-first
+returns-clause-first c = first_draws_are
+
+pub returns-clause-last : goal.returns-clause-last
+returns-clause-last c = last_draws_are

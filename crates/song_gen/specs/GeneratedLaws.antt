@@ -1,0 +1,35 @@
+-- What a reader may rely on in generated songs: each can be played and packed.
+use Rattle.std.specs.Prelude.{ℕ, ◌+◌, ◌≤◌, length}
+use Rattle.song_model.specs.declared.songs.Song.{Song}
+use Rattle.song_model.specs.Limits.{KeepsLimits}
+use Rattle.play_model.specs.State.{no_options}
+use Rattle.play_model.specs.Playable.{IsPlayable}
+use Rattle.play_model.specs.Features.{AreFeatures}
+use Rattle.packed_form.specs.declared.packed_patterns.TheConstants.{MOST_PACKED_BYTES}
+use Rattle.packed_form.specs.UsedSets.{UsedSets, AreUsedSets}
+use Rattle.packed_form.specs.Renumbering.{pattern_text}
+use Rattle.packed_form.specs.SongSizes.{data_size, code_bound}
+use Rattle.song_gen.specs.GeneratedSong.{generated_song}
+
+-- each pattern of the song may be packed
+abbrev pub HasShortPatterns : Song → Type 0
+HasShortPatterns song = (used : UsedSets) (p : ℕ) → length (pattern_text song used p) ≤ MOST_PACKED_BYTES
+
+-- the song's data and the bound of a player's code are at most 48 KB
+abbrev pub IsSmall : Song → Type 0
+IsSmall song = (used : UsedSets) (features : ℕ) → AreUsedSets song used → AreFeatures song features →
+    data_size song used + code_bound features no_options ≤ 0xC000
+
+-- a generated song keeps the limits of the format
+abbrev pub GeneratedSongsKeepLimits : Type 0
+GeneratedSongsKeepLimits = (x : ℕ) → KeepsLimits (generated_song x)
+
+-- it can be played, and packed
+abbrev pub GeneratedSongsArePlayable : Type 0
+GeneratedSongsArePlayable = (x : ℕ) → IsPlayable (generated_song x)
+
+abbrev pub GeneratedPatternsAreShort : Type 0
+GeneratedPatternsAreShort = (x : ℕ) → HasShortPatterns (generated_song x)
+
+abbrev pub GeneratedSongsAreSmall : Type 0
+GeneratedSongsAreSmall = (x : ℕ) → IsSmall (generated_song x)
