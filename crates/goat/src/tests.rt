@@ -11,6 +11,7 @@ mod packing;
 mod parts;
 mod rooms;
 mod running;
+mod selftest;
 mod tracing;
 mod unplayable;
 mod used;

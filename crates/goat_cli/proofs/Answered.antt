@@ -4,8 +4,11 @@ use Rattle.std.specs.List.{concat}
 use Rattle.goat_io.specs.Files.{Files}
 use Rattle.goat_io.specs.Written.{told_with_piece}
 use Rattle.song_model.specs.declared.songs.Song.{Song}
+use Rattle.base.proofs.Laws.{nil_is_no_append}
+use Rattle.goat_cli.specs.Words.{Job, Run, Selftest}
 use Rattle.goat_cli.specs.RegisterText.{register_text}
-use Rattle.goat_cli.specs.Jobs.{about, IsNoForm, stages}
+use Rattle.goat_cli.specs.Stages.{IsThere, FirstEnds}
+use Rattle.goat_cli.specs.Jobs.{about, WordsOf, IsNoForm, stages, Done}
 use Rattle.goat_cli.specs.Outcome as outcome
 use Rattle.goat_cli.specs.Outcome.{Outcome, told_after}
 use Rattle.goat_cli.specs.Due as due
@@ -15,9 +18,18 @@ use Rattle.goat_cli.specs.Stands.{FolderState, SinkState, AreFiles, Counted, App
 use Rattle.goat_cli.specs.Answers.{IsOrdinary, IsPrinted, IsBeforeWriting, HoldsDone, ComesAbout, ComesWhere, SinkCounted, RunsPacked}
 use Rattle.goat_cli.specs.Traces.{first_traces}
 use Rattle.play_model.specs.declared.options.Options.{Options}
+use Rattle.goat_cli.proofs.Forms.{one_job}
 use Rattle.goat_cli.proofs.Told.{as_before}
 use Rattle.goat_cli.proofs.Due.{is_no_stage, ends_with_stage, done_under, outcome_due, one_due, one_text}
 use Rattle.goat_cli.proofs.PlayedFiles.{packed_file_plays, packed_file_is_due}
+
+run_is_no_selftest : {input : List ℕ} {subtune frames number : ℕ} → Run input subtune frames ≡ Selftest number → ⊥
+run_is_no_selftest e = absurd (cc (e))
+
+no_selftest : (ws : List (List ℕ)) {input : List ℕ} {subtune frames : ℕ} → WordsOf ws (Run input subtune frames) →
+    (number : ℕ) → WordsOf ws (Selftest number) → ⊥
+no_selftest ws {input} {subtune} {frames} form number other =
+    run_is_no_selftest (one_job ws (Run input subtune frames) (Selftest number) form other)
 
 -- ---- a run that is cut short
 
@@ -266,10 +278,60 @@ module _ {words : List (List ℕ)} {files : Files} {answer : ℕ} {folder after 
         let mine = subst (λ n. Outcome words files n came.lines came.write) zero came.outcome in
         let write = writes_nothing came.write mine (packed_file_is_due words files song o subtune frames runs) in
         let same =
-        one_text (subst (Outcome words files 0 came.lines) write mine)
+        one_text (no_selftest words runs.form) (subst (Outcome words files 0 came.lines) write mine)
         (packed_file_plays words files song o subtune frames runs) in
         came.appended ∙ ap (λ lines. told_with_piece s.told (concat lines)) same),
   )
+
+-- ---- a self test
+
+module _ {words : List (List ℕ)} {number : ℕ} (form : WordsOf words (Selftest number)) where
+  no_stage : (job : Job) → WordsOf words job → stages job ≡ []
+  no_stage job other = ap stages (one_job words job (Selftest number) other form)
+
+  no_end : (files : Files) (job : Job) (status : ℕ) (lines : List (List ℕ)) → WordsOf words job →
+      FirstEnds files (stages job) status lines → ⊥
+  no_end files job status lines other first =
+      subst (λ list. FirstEnds files list status lines) (no_stage job other) first
+
+  nothing_written : (files : Files) (job : Job) (lines : List (List ℕ)) (output file : List ℕ) → WordsOf words job →
+      Done job files lines (Some (output, file)) → ⊥
+  nothing_written files job lines output file other did =
+      let mine : Done (Selftest number) files lines (Some (output, file)) =
+      subst (λ j. Done j files lines (Some (output, file))) (one_job words job (Selftest number) other form) did in
+      let none = mine.1 in
+      absurd (cc (none))
+
+  no_write : (files : Files) (text : List (List ℕ)) (output file : List ℕ) →
+      Outcome words files 0 text (Some (output, file)) → ⊥
+  no_write files text output file (outcome.usage none s l w) = none (Selftest number) form
+  no_write files text output file (outcome.ended job other first w) = no_end files job 0 text other first
+  no_write files text output file (outcome.done job other pass did s) =
+      nothing_written files job text output file other did
+
+  account_of : {files : Files} {status : ℕ} {lines : List (List ℕ)} {before after : Option Files} →
+      Account words files status lines before after → status ≡ 0
+  account_of (stands.outcome write (outcome.usage none s l w) told) = absurd (none (Selftest number) form)
+  account_of {files} {status} {lines} (stands.outcome write (outcome.ended job other first w) told) =
+      absurd (no_end files job status lines other first)
+  account_of (stands.outcome write (outcome.done job other pass did s) told) = s
+  account_of (stands.read_fault name comes s l told) =
+      absurd (nil_is_no_append comes.earlier (IsThere name) comes.later
+      (sym (no_stage comes.job comes.form) ∙ comes.stages_are))
+  account_of {files} (stands.write_fault text output file out s l told) = absurd (no_write files text output file out)
+
+  of_want : {bytes : List ℕ} {answer : ℕ} {s t : SinkState} → TellsWant bytes answer s t →
+      IsOneOf (0 ∷ 10 ∷ 14 ∷ []) answer
+  of_want (stands.told is appends) = inr (inr (inl is))
+  of_want (stands.failed kept is fails) = inr (inl is)
+  of_want (stands.untold is appends) = inr (inr (inl is))
+
+  tested : {files : Files} {answer : ℕ} {folder after : FolderState} {s t : SinkState} →
+      Stands words files answer folder after s t → IsOneOf (0 ∷ 10 ∷ 14 ∷ []) answer
+  tested (stands.whole lines account counted appends) = inl (account_of account)
+  tested (stands.cut_in_line earlier later line kept printing ten fails) = inr (inl ten)
+  tested (stands.wanting earlier later line printing tells) = of_want tells
+  tested (stands.wanting_first stays tells) = of_want tells
 
 -- ---- the same of a folder that may tell its files or not
 
@@ -315,3 +377,6 @@ module _ {words : List (List ℕ)} {answer : ℕ} {folder after : FolderState} {
       (answer ≡ 0 →
       t.told ≡ told_with_piece s.told (register_text (first_traces o song (subtune - 1) (frames + 1)))))
   packed_plays = told_case _ (λ files known is. run_of_packed known is)
+
+  pub selftest_comes : (number : ℕ) → WordsOf words (Selftest number) → IsOneOf (0 ∷ 10 ∷ 14 ∷ []) answer
+  selftest_comes number form = tested form run.stands

@@ -10,6 +10,7 @@ use Rattle.cpu6502.specs.declared.stop.CallStop.TheVariants.{Stopped, Budget}
 use Rattle.cpu6502.proofs.Laws.{called_once, returned_fails, stopped_fails, under_way_fails}
 use Rattle.sid_run.specs.State.{RunnerState, sid_registers, most_steps}
 use Rattle.goat_cli.specs.Calls.{entry_of, accumulator_of, ReturnsTo, FirstCalls, MeetsStopAt}
+use Rattle.goat_cli.specs.Selftest.{Takes}
 use Rattle.goat_cli.specs.RegisterText.{register_line, register_lines}
 use Rattle.goat_cli.specs.Lines.{stop_line}
 use Rattle.goat_io.specs.declared.fault.SinkFault.{SinkFault}
@@ -35,6 +36,13 @@ returns_with machine after entry number steps (Ok registers) called within are =
   registers_are = sym are;
 }
 returns_with machine after entry number steps (Err reason) called within are = tt
+
+-- and how many steps it took
+pub takes_with : (machine after : Machine) (entry number steps : ℕ) (r : Result (List ℕ) CallStop) →
+    OnOk r (Called machine entry number steps after) → OnOk r (steps ≤ most_steps) →
+    OnOk r (Takes machine entry number steps after)
+takes_with machine after entry number steps (Ok registers) called within = record { called = called; within = within }
+takes_with machine after entry number steps (Err reason) called within = tt
 
 -- a call with a number other than 0 is play
 pub later_entry : (file : RunnerState) (call : ℕ) → call ≢ 0 → entry_of file call ≡ file.play

@@ -3,7 +3,7 @@ use Rattle.std.proofs.Common.{◌≡◌, ◌≢◌, ℕ, ◌+◌, ◌-◌, ◌�
 use Rattle.std.proofs.lemmas.List.{append_assoc}
 use Rattle.goat_io.specs.Files.{Files}
 use Rattle.sid_run.specs.State.{loaded}
-use Rattle.goat_cli.specs.Words.{Job, Check, Trace, Run}
+use Rattle.goat_cli.specs.Words.{Job, Check, Trace, Run, Selftest}
 use Rattle.song_model.specs.declared.songs.Song.{Song}
 use Rattle.song_model.specs.LookUp.{playable_subtunes}
 use Rattle.usage.specs.declared.parts.UsedParts.{UsedParts}
@@ -91,17 +91,18 @@ one_check_line song a b p q one other =
     rw (one, other)
     (rw (same.patterns, same.instruments, same.wave, same.pulse, same.filter, same.speed, same.features) refl)
 
-has_one_text : (files : Files) (job : Job) → HasOneText files (about job).does
-has_one_text files (Check input) = λ lines others p q.
+has_one_text : (files : Files) (job : Job) → ((number : ℕ) → job ≢ Selftest number) → HasOneText files (about job).does
+has_one_text files (Selftest number) other = absurd (other number refl)
+has_one_text files (Check input) other = λ lines others p q.
     let same = one_song_held files input p.0 q.0 p.2 q.2 in
     one_check_line q.0 p.1 q.1 (subst (λ song. AreUsedParts song p.1) same p.3) q.3
     (p.4 ∙ ap (λ song. check_line (length (playable_subtunes song)) p.1 ∷ []) same) q.4
-has_one_text files (Trace input subtune frames options) = λ lines others p q.
+has_one_text files (Trace input subtune frames options) other = λ lines others p q.
     p.2
     ∙ ap (λ song. register_lines (first_traces options song (subtune - 1) (frames + 1)))
     (one_song_held files input p.0 q.0 p.1 q.1)
     ∙ sym q.2
-has_one_text files (Run input subtune frames) = λ lines others p q.
+has_one_text files (Run input subtune frames) other = λ lines others p q.
     let same = one_psid_held files input p.0 q.0 p.1 q.1 in
     let first =
     subst (λ x. FirstCalls (loaded x) (subtune - 1) (frames + 1) p.2.registers p.2.after) same p.2.returned in
@@ -109,7 +110,7 @@ has_one_text files (Run input subtune frames) = λ lines others p q.
     one_list (loaded q.0) (subtune - 1) (frames + 1) p.2.registers q.2.registers p.2.after q.2.after first
     q.2.returned in
     p.2.lines_are ∙ ap register_lines calls ∙ sym q.2.lines_are
-has_one_text files _ = tt
+has_one_text files _ other = tt
 
 done_once : (deed : Deed) (files : Files) (lines others : List (List ℕ)) → HasOneText files deed →
     DoneBy deed files lines None →
@@ -157,22 +158,23 @@ module _ {words : List (List ℕ)} {files : Files} where
   one_due (due.done job form pass p x) (due.done job' form' pass' q y) =
       (p ∙ sym q, x ∙ ap output_of (one_job words job job' form form') ∙ sym y)
 
-  pub one_text : {s t : ℕ} {lines others : List (List ℕ)} → Outcome words files s lines None →
+  pub one_text : {s t : ℕ} {lines others : List (List ℕ)} →
+      ((number : ℕ) → WordsOf words (Selftest number) → ⊥) → Outcome words files s lines None →
       Outcome words files t others None →
       lines ≡ others
-  one_text (outcome.usage none p l w) (outcome.usage none' q m v) = l ∙ sym m
-  one_text (outcome.usage none p l w) (outcome.ended job form first v) = absurd (none job form)
-  one_text (outcome.usage none p l w) (outcome.done job form pass did q) = absurd (none job form)
-  one_text (outcome.ended job form first w) (outcome.usage none q m v) = absurd (none job form)
-  one_text {s} {t} {lines} {others} (outcome.ended job form first w) (outcome.ended job' form' first' v) =
+  one_text other (outcome.usage none p l w) (outcome.usage none' q m v) = l ∙ sym m
+  one_text other (outcome.usage none p l w) (outcome.ended job form first v) = absurd (none job form)
+  one_text other (outcome.usage none p l w) (outcome.done job form pass did q) = absurd (none job form)
+  one_text other (outcome.ended job form first w) (outcome.usage none q m v) = absurd (none job form)
+  one_text {s} {t} {lines} {others} other (outcome.ended job form first w) (outcome.ended job' form' first' v) =
       (both_end files form form' s t lines others first first').1
-  one_text {s} {lines} (outcome.ended job form first w) (outcome.done job' form' pass did q) =
+  one_text {s} {lines} other (outcome.ended job form first w) (outcome.done job' form' pass did q) =
       absurd (never_both files form form' s lines first pass)
-  one_text (outcome.done job form pass did p) (outcome.usage none q m v) = absurd (none job form)
-  one_text {t} {others} (outcome.done job form pass did p) (outcome.ended job' form' first v) =
+  one_text other (outcome.done job form pass did p) (outcome.usage none q m v) = absurd (none job form)
+  one_text {t} {others} other (outcome.done job form pass did p) (outcome.ended job' form' first v) =
       absurd (never_both files form' form t others first pass)
-  one_text {lines} {others} (outcome.done job form pass did p) (outcome.done job' form' pass' did' q) =
-      done_once (about job').does files lines others (has_one_text files job')
+  one_text {lines} {others} other (outcome.done job form pass did p) (outcome.done job' form' pass' did' q) =
+      done_once (about job').does files lines others (has_one_text files job' (λ number is. other number (subst (WordsOf words) is form')))
       (moved form form' (λ j. Done j files lines None) did) did'
 
 -- ---- each status has its cause

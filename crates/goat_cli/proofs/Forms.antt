@@ -7,7 +7,7 @@ use Rattle.std.specs.Str.{bytes_eq}
 use Rattle.base.proofs.Laws.{same_head}
 use Rattle.play_model.specs.declared.options.Options.{Options}
 use Rattle.play_model.specs.Speeds.{IsSpeed}
-use Rattle.goat_cli.specs.Words.{Job, Pack, Copy, Edit, Check, Trace, Run, texts, format_word, skip_word, IsAddressWord, IsZeroPageWord, IsNumberWord, IsSpeedWord, AreOptionWords, unsaid, said, ArePackArguments, AreTraceArguments}
+use Rattle.goat_cli.specs.Words.{Job, Pack, Copy, Edit, Check, Trace, Run, Selftest, texts, format_word, skip_word, IsAddressWord, IsZeroPageWord, IsNumberWord, IsSpeedWord, AreOptionWords, unsaid, said, ArePackArguments, AreTraceArguments}
 use Rattle.goat_cli.specs.Jobs.{WordsOf, command_of}
 
 -- ---- a list of so many words
@@ -238,3 +238,10 @@ one_job ws (Run i s n) (Run i2 s2 n2) p q =
     same_number (omega arith) (cc (p.words_are, q.words_are, v.form, w.form)) v.frames_spelled w.frames_spelled in
     cc (p.words_are, q.words_are, v.form, w.form)
 one_job ws (Run i s n) other p q = absurd (differ ws (Run i s n) other p q refl refl)
+one_job ws (Selftest n) (Selftest n2) p q =
+    let v = p.are_arguments in
+    let w = q.are_arguments in
+    let number : n ≡ n2 =
+    same_number (omega arith) (cc (p.words_are, q.words_are, v.form, w.form)) v.number_spelled w.number_spelled in
+    cc (number)
+one_job ws (Selftest n) other p q = absurd (differ ws (Selftest n) other p q refl refl)

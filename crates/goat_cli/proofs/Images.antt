@@ -17,7 +17,7 @@ use Rattle.goat_cli.specs.Endings as ends
 use Rattle.goat_cli.specs.Endings.{Refuses, PacksSong}
 
 module _ (packed : PackedSong) (song : Song) (o : Options) (packs : PacksSong packed song) where
-  length_is : (count : ℕ) → count ≡ image_length packed o → IsImageLength song o count
+  pub length_is : (count : ℕ) → count ≡ image_length packed o → IsImageLength song o count
   length_is count is = record {
     used = packs.used;
     features = packed.features.0;
@@ -54,6 +54,7 @@ module _ (packed : PackedSong) (song : Song) (o : Options) (packs : PacksSong pa
       let written : IsWrittenFile psid built.place.address built.place.zero_page song o file = record {
         packed = record {
           image = built.bytes;
+          bytes = is.bytes;
           holds = holds;
           below = is.fits;
           faithful = always_is_faithful built.bytes built.place.address built.place.zero_page song o plays.always;

@@ -8,6 +8,7 @@ mod Edited
 mod Ends
 mod Forms
 mod Images
+mod Measured
 mod OneFeatures
 mod Passes
 mod PlayedFiles

@@ -1,8 +1,8 @@
 -- A packed file that is run plays its song.
-use Rattle.std.proofs.Common.{◌≡◌, ℕ, zero, suc, ◌+◌, ◌-◌, ◌≤◌, ◌<◌, ◌^◌, Bool, true, false, if◌then◌else◌, nat_eq, List, [], ◌++◌, None, Ok, All, length, refl, sym, ap, ◌∙◌, subst, arith, lit≤, lit<}
+use Rattle.std.proofs.Common.{◌≡◌, ℕ, zero, suc, ◌+◌, ◌-◌, ◌≤◌, ◌<◌, ◌^◌, Bool, true, false, if◌then◌else◌, nat_eq, List, [], ◌++◌, None, Ok, length, refl, sym, ap, ◌∙◌, subst, arith, lit≤, lit<}
 use Rattle.song_model.specs.declared.songs.Song.{Song}
 use Rattle.song_model.specs.Limits.{KeepsLimits}
-use Rattle.base.proofs.Laws.{All-append_right}
+use Rattle.base.specs.Bytes.{AreBytes}
 use Rattle.std.proofs.lemmas.List.Sums.{length-filter, count_by-le-length}
 use Rattle.song_model.specs.LookUp.{playable_subtunes, is_playable_subtune}
 use Rattle.play_model.specs.declared.options.Options.{Options}
@@ -12,8 +12,7 @@ use Rattle.cpu6502.specs.Code.{IsMachine}
 use Rattle.cpu6502.proofs.Laws.{call_keeps}
 use Rattle.psid.specs.declared.header.Header.{Header}
 use Rattle.psid.specs.declared.header.Psid.{Psid}
-use Rattle.psid.specs.Format.{IsHeader, IsWritable, header_bytes, psid_bytes}
-use Rattle.psid.specs.Words.{address_bytes}
+use Rattle.psid.specs.Format.{IsHeader, IsWritable, psid_bytes}
 use Rattle.psid.specs.Reading.{psid_read}
 use Rattle.psid.proofs.Laws.{written_is_read_as_is}
 use Rattle.sid_run.specs.State.{RunnerState, loaded, loaded_machine}
@@ -23,7 +22,7 @@ use Rattle.goat_cli.specs.Words.{Run}
 use Rattle.goat_cli.specs.Calls.{HasSubtune, ReturnsTo, FirstCalls}
 use Rattle.images.specs.Faithful.{Leaves, PlaysOn, IsFaithful}
 use Rattle.player_parts.specs.Places.{IsAddress}
-use Rattle.goat_cli.specs.Packed.{song_header, psid_file, caller_bits}
+use Rattle.goat_cli.specs.Packed.{song_header, psid_file, caller_bits, IsWrittenFile}
 use Rattle.goat_cli.specs.RegisterText.{register_lines}
 use Rattle.goat_cli.specs.Stages.{IsThere, Fits, IsPsid, OffersSubtune, CallsReturn, HoldsPsid, AllPass, input_limit}
 use Rattle.goat_cli.specs.Jobs.{stages, Shows}
@@ -33,7 +32,7 @@ use Rattle.goat_cli.specs.Due as due
 use Rattle.goat_cli.specs.Due.{IsDue}
 use Rattle.goat_cli.specs.Traces.{first_traces}
 use Rattle.goat_cli.specs.Answers.{IsPackedPsid, RunsPacked}
-use Rattle.goat_cli.specs.Laws.{PackedFilesPlay}
+use Rattle.goat_cli.specs.Laws.{WrittenFilesArePacked, PackedFilesPlay}
 use Rattle.goat_cli.proofs.Passes.{met_passes}
 
 -- what a call of a faithful image leaves is what a call of a loaded file returns with
@@ -131,11 +130,6 @@ writable song address image o keeps below some = record {
   fits = omega (arith, below);
 }
 
--- the image's bytes are among the file's
-image_bytes : (header : Header) (load : ℕ) (image : List ℕ) → All (λ byte. byte < 256) (psid_bytes header load image) →
-    All (λ byte. byte < 256) image
-image_bytes header load image = All-append_right (λ byte. byte < 256) (header_bytes header ++ address_bytes load) image
-
 module _ (song : Song) (o : Options) (address zero_page : ℕ) (image : List ℕ) (keeps : KeepsLimits song)
     (place : IsAddress address) (below : address + length image ≤ 0xD000)
     (faithful : IsFaithful image address zero_page song o) where
@@ -149,11 +143,10 @@ module _ (song : Song) (o : Options) (address zero_page : ℕ) (image : List ℕ
     pub calls : FirstCalls (loaded packed) (subtune - 1) (frames + 1)
         (first_traces o song (subtune - 1) (frames + 1)) after
 
-  plays_its_song : (subtune frames : ℕ) → All (λ byte. byte < 256) (psid_file song address image o) → 1 ≤ subtune →
+  plays_its_song : (subtune frames : ℕ) → AreBytes image → 1 ≤ subtune →
       subtune ≤ length (playable_subtunes song) → Plays subtune frames
-  plays_its_song subtune frames all first last =
+  plays_its_song subtune frames bytes first last =
       let fits : address + length image ≤ 65536 = omega (arith, below) in
-      let bytes = image_bytes (song_header song address o) address image all in
       let reads =
       written_is_read_as_is (song_header song address o) address image (header_is song address o keeps place)
       (omega (arith, place.most)) (writable song address image o keeps below (omega (arith, first, last)))
@@ -176,7 +169,11 @@ plays : (song : Song) (o : Options) (file : List ℕ) (subtune frames : ℕ) (is
     frames
 plays song o file subtune frames is first last =
     plays_its_song song o is.address is.zero_page is.packed.image is.keeps is.place is.packed.below is.packed.faithful
-    subtune frames (subst (All (λ byte. byte < 256)) is.packed.holds is.bytes) first last
+    subtune frames is.packed.bytes first last
+
+pub written_files_are_packed : WrittenFilesArePacked
+written_files_are_packed song o address zero_page file keeps place is =
+    record { keeps = keeps; address = address; zero_page = zero_page; place = place; packed = is.packed }
 
 pub packed_files_play : PackedFilesPlay
 packed_files_play song o file subtune frames is first last =

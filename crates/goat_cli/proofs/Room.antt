@@ -7,8 +7,8 @@ use Rattle.std.proofs.lemmas.List.Sums.{sum_by-cons}
 use Rattle.hex.specs.Hex.{lower_digits, upper_digits, encode_lower}
 use Rattle.hex.proofs.HexLemmas.{length-encode_with}
 use Rattle.goat_cli.specs.declared.message.Piece.{Piece}
-use Rattle.goat_cli.specs.declared.message.Piece.TheVariants.{Words, Name, Number, Address, Features}
-use Rattle.goat_cli.specs.Lines.{address_digits, feature_digits}
+use Rattle.goat_cli.specs.declared.message.Piece.TheVariants.{Words, Name, Number, Address, Features, Sum}
+use Rattle.goat_cli.specs.Lines.{address_digits, feature_digits, sum_digits}
 use Rattle.goat_cli.specs.RegisterText.{register_line, call_digits}
 use Rattle.std.proofs.lemmas.List.{length-replicate}
 use Rattle.goat_cli.specs.Laws.{LinesHaveRoom}
@@ -34,7 +34,16 @@ three_digits n small = length-decimal-le 3 n (lit< tt) (omega arith) (omega (ari
 pub features_fit : (bits : ℕ) → length (feature_digits bits) ≡ 6
 features_fit bits = length-encode_with lower_digits ((bits / 65536 % 256) ∷ (bits / 256 % 256) ∷ (bits % 256) ∷ [])
 
-pub ruleset pieces_fit = (digits_fit, byte_fits, address_fits, features_fit)
+pub sum_fits : (sum : ℕ) → length (sum_digits sum) ≡ 8
+sum_fits sum =
+    length-encode_with lower_digits
+    ((sum / 16777216 % 256) ∷ (sum / 65536 % 256) ∷ (sum / 256 % 256) ∷ (sum % 256) ∷ [])
+
+-- a number of at most ten digits
+pub ten_digits : (n : ℕ) → n < 10 ^ 10 → length (decimal n) ≤ 10
+ten_digits n small = length-decimal-le 10 n (lit< tt) small (omega (arith, small))
+
+pub ruleset pieces_fit = (digits_fit, byte_fits, address_fits, features_fit, sum_fits)
 
 -- a line is longer than its first pieces
 pub first_pieces : (pieces : List Piece) (i room : ℕ) (text : List ℕ) (d : Piece) → i < length pieces →
@@ -58,6 +67,7 @@ piece_lengths (Name name) = omega arith
 piece_lengths (Number number) = omega arith
 piece_lengths (Address address) = omega arith
 piece_lengths (Features bits) = omega arith
+piece_lengths (Sum sum) = omega arith
 
 lengths : (pieces : List Piece) →
     sum_by (λ piece. length (piece_text piece)) pieces ≡ sum_by own_length pieces + sum_by name_length pieces

@@ -13,7 +13,7 @@ use Rattle.player_code.specs.Lengths.{code_length}
 use Rattle.player_code.proofs.Laws.{code_is_bounded}
 use Rattle.goat_cli.specs.Packed.{IsImageLength}
 use Rattle.goat_cli.specs.Stages.{IsThere, Fits, SpellsSong, CanBePlayed, HasShortPatterns, HasRoomForImage, input_limit}
-use Rattle.goat_cli.specs.Laws.{OnlyLargeImagesAreRefused, SmallSongsArePacked}
+use Rattle.goat_cli.specs.Laws.{ImagesAreBounded, OnlyLargeImagesAreRefused, SmallSongsArePacked}
 use Rattle.goat_cli.proofs.Passes.{one_song_held, one_length, met_passes}
 
 -- a song that can be played has a subtune
@@ -43,6 +43,15 @@ within address most bound size code count p q is passes = omega arith
 fits_too : (address most bound size code : ℕ) → size ≤ most → code ≤ bound → address + most + bound ≤ 0xD000 →
     address + (size + code) ≤ 0xD000
 fits_too address most bound size code p q room = omega arith
+
+adds : (most bound size code count : ℕ) → size ≤ most → code ≤ bound → count ≡ size + code → count ≤ most + bound
+adds most bound size code count p q is = omega (arith, p, q, is)
+
+pub images_are_bounded : ImagesAreBounded
+images_are_bounded song o used features count is are_used are_features =
+    adds (data_size song used) (code_bound features o) (packed_size song used) (code_length features o) count
+    (packed_size_is_within song used) (code_is_bounded features o)
+    (one_length song o count _ is (length_is song o used features are_used are_features))
 
 pub only_large_images : OnlyLargeImagesAreRefused
 only_large_images files name address o lines song used features ends holds are_used are_features =

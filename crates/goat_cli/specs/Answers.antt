@@ -1,5 +1,5 @@
 -- What the answers say, in the top call's clauses.
-use Rattle.std.specs.Prelude.{◌≡◌, ◌≢◌, ℕ, ◌<◌, ◌≤◌, List, ◌∷◌, Option, Some, All, length, true}
+use Rattle.std.specs.Prelude.{◌≡◌, ◌≢◌, ℕ, ◌≤◌, List, ◌∷◌, Option, Some, length, true}
 use Rattle.std.specs.List.{concat}
 use Rattle.goat_io.specs.Count.{Rose}
 use Rattle.goat_io.specs.Files.{Files, file_of}
@@ -64,10 +64,9 @@ pub record SinkCounted (status before after : ℕ) : Type 0 where
   pub rose : status ≡ 10 → Rose before after
   pub stays : status ≢ 10 → after ≡ before
 
--- the file is made of bytes, the song keeps the limits of the format, and the file is a packed PSID file of the
--- song, played with these options, for some allowed address and some zero page
+-- the song keeps the limits of the format, and the file is a packed PSID file of the song, played with these options,
+-- for some allowed address and some zero page
 pub record IsPackedPsid (song : Song) (options : Options) (file : List ℕ) : Type 0 where
-  pub bytes : All (λ byte. byte < 256) file
   pub keeps : KeepsLimits song
   pub address : ℕ
   pub zero_page : ℕ

@@ -14,6 +14,7 @@ use Rattle.cpu6502.specs.declared.machine.Machine.{Machine}
 use Rattle.cpu6502.specs.declared.stop.CallStop.{CallStop}
 use Rattle.sid_run.specs.State.{RunnerState}
 use Rattle.goat_cli.specs.Calls.{FirstCalls, MeetsStopAt}
+use Rattle.goat_cli.specs.Selftest.{FirstCallsTake}
 use Rattle.goat_cli.specs.RegisterText.{register_lines}
 use Rattle.goat_cli.specs.Lines.{missing_line, too_long_line, read_fault_line, write_fault_line, script_line, stop_line, wrote_line}
 use Rattle.goat_cli.specs.Last.{Last, Says, SaysNothing, SinkFailed, Wants}
@@ -133,6 +134,17 @@ pub data CallsEnd (file : RunnerState) (subtune frames : ℕ) (last : Last) (bef
       calls ≤ frames + 1 → FirstCalls file subtune calls registers machine →
       register_lines registers ≡ earlier ++ line ∷ [] → last ≡ Wants → Appends (concat earlier) before after →
       CallsEnd file subtune frames last before after
+
+-- the first calls of a loaded file return
+pub record FirstCallsReturn (file : RunnerState) (subtune calls : ℕ) : Type 0 where
+  pub registers : List (List ℕ)
+  pub after : Machine
+  pub first : FirstCalls file subtune calls registers after
+
+-- they take these steps altogether
+pub record CallsTake (file : RunnerState) (subtune calls steps : ℕ) : Type 0 where
+  pub after : Machine
+  pub take : FirstCallsTake file subtune calls steps after
 
 -- ---- a run but for its last line
 

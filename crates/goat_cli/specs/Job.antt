@@ -1,6 +1,6 @@
 -- The job that the code's type stands for.
 use Rattle.goat_cli.specs.declared.words.Job.{Job}
-use Rattle.goat_cli.specs.declared.words.Job.TheVariants.{Pack, Copy, Edit, Check, Trace, Run}
+use Rattle.goat_cli.specs.declared.words.Job.TheVariants.{Pack, Copy, Edit, Check, Trace, Run, Selftest}
 use Rattle.goat_cli.specs.Words as asked
 
 abbrev pub job_of : Job → asked.Job
@@ -11,3 +11,4 @@ job_of (Edit input script output) = asked.Edit input.now script.now output.now
 job_of (Check input) = asked.Check input.now
 job_of (Trace input subtune frames options) = asked.Trace input.now subtune frames options
 job_of (Run input subtune frames) = asked.Run input.now subtune frames
+job_of (Selftest number) = asked.Selftest number

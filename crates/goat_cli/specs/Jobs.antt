@@ -5,18 +5,20 @@ use Rattle.goat_io.specs.Files.{Files}
 use Rattle.song_model.specs.declared.songs.Song.{Song}
 use Rattle.song_model.specs.Canonical.{canonical}
 use Rattle.song_model.specs.LookUp.{playable_subtunes}
+use Rattle.song_gen.specs.GeneratedSong.{generated_song}
 use Rattle.usage.specs.declared.parts.UsedParts.{UsedParts}
 use Rattle.usage.specs.Parts.{AreUsedParts}
 use Rattle.psid.specs.declared.header.Psid.{Psid}
 use Rattle.cpu6502.specs.declared.machine.Machine.{Machine}
 use Rattle.sid_run.specs.State.{loaded}
-use Rattle.goat_cli.specs.Words.{Job, Pack, Copy, Edit, Check, Trace, Run, ArePackArguments, AreTraceArguments, AreRunArguments}
+use Rattle.goat_cli.specs.Words.{Job, Pack, Copy, Edit, Check, Trace, Run, Selftest, ArePackArguments, AreTraceArguments, AreRunArguments, AreSelftestArguments}
 use Rattle.goat_cli.specs.Stages.{Stage, IsThere, Fits, SpellsSong, CanBePlayed, HasShortPatterns, HasRoomForImage, HasPlayableSubtune, CanBeEdited, IsPsid, OffersSubtune, CallsReturn, HoldsSong, HoldsPsid, IsEditedIn, input_limit, script_limit}
 use Rattle.goat_cli.specs.Packed.{IsWrittenFile}
 use Rattle.goat_cli.specs.Calls.{FirstCalls}
 use Rattle.goat_cli.specs.RegisterText.{register_lines}
 use Rattle.goat_cli.specs.Traces.{first_traces}
-use Rattle.goat_cli.specs.Lines.{wrote_line, check_line}
+use Rattle.goat_cli.specs.Lines.{wrote_line, check_line, selftest_line}
+use Rattle.goat_cli.specs.Selftest.{register_sum, TakesSteps}
 
 -- what a job does that passes all its stages: it prints these lines and writes nothing; or it writes such a file under
 -- the name, and prints how many bytes it has
@@ -89,6 +91,15 @@ about (Run input subtune frames) = record {
       CallsReturn input subtune frames ∷ [];
   does = PrintsLines (λ files lines. (psid : Psid) × HoldsPsid files input psid ×
       Shows psid subtune (frames + 1) lines);
+}
+-- the song of a number is made, traced and packed, and its file is run; no file is read or written
+about (Selftest number) = record {
+  command = codes "selftest";
+  has_arguments = λ words. AreSelftestArguments words number;
+  stages = [];
+  does = PrintsLines (λ files lines. (steps : ℕ) × TakesSteps (generated_song number) steps ×
+      (lines ≡ selftest_line number (length (playable_subtunes (generated_song number)))
+      (register_sum (generated_song number)) steps ∷ []));
 }
 
 abbrev pub command_of : Job → List ℕ

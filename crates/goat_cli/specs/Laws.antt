@@ -1,8 +1,9 @@
 -- What follows from the definitions: words name one job, a run has one outcome, each status comes exactly where its
 -- cause is, which songs are packed, and a packed file that is run prints its song.
-use Rattle.std.specs.Prelude.{◌≡◌, ◌≢◌, ℕ, ◌+◌, ◌-◌, ◌^◌, ◌<◌, ◌≤◌, ◌↔◌, Bool, List, Option, None, Ok, length, sum_by}
+use Rattle.std.specs.Prelude.{◌≡◌, ◌≢◌, ℕ, ◌+◌, ◌-◌, ◌^◌, ◌<◌, ◌≤◌, ◌↔◌, Bool, true, List, Option, None, Ok, length, sum_by}
 use Rattle.goat_io.specs.Files.{Files}
 use Rattle.song_model.specs.declared.songs.Song.{Song}
+use Rattle.song_model.specs.Limits.{KeepsLimits}
 use Rattle.song_model.specs.LookUp.{playable_subtunes}
 use Rattle.play_model.specs.declared.options.Options.{Options}
 use Rattle.play_model.specs.Playable.{IsPlayable}
@@ -14,7 +15,7 @@ use Rattle.cpu6502.specs.declared.machine.Machine.{Machine}
 use Rattle.sid_run.specs.State.{loaded}
 use Rattle.psid.specs.declared.header.Psid.{Psid}
 use Rattle.psid.specs.Reading.{psid_read}
-use Rattle.goat_cli.specs.Words.{Job, Pack}
+use Rattle.goat_cli.specs.Words.{Job, Pack, Selftest}
 use Rattle.goat_cli.specs.Calls.{HasSubtune, FirstCalls}
 use Rattle.goat_cli.specs.Stages.{Stage, CanBePlayed, HasRoomForImage, HoldsSong, status_of, Ends, IsMet, Passes, AllPass, input_limit}
 use Rattle.goat_cli.specs.Jobs.{WordsOf, IsNoForm, stages}
@@ -22,6 +23,8 @@ use Rattle.goat_cli.specs.Outcome.{Outcome}
 use Rattle.goat_cli.specs.Due.{IsDue}
 use Rattle.goat_cli.specs.Stands.{ComesTo}
 use Rattle.goat_cli.specs.Traces.{first_traces}
+use Rattle.player_parts.specs.Places.{IsAddress}
+use Rattle.goat_cli.specs.Packed.{IsImageLength, IsWrittenFile}
 use Rattle.goat_cli.specs.Answers.{IsPackedPsid}
 use Rattle.goat_cli.specs.declared.message.Piece.{Piece}
 use Rattle.goat_cli.specs.Message.{line_of, name_length, IsShort}
@@ -41,9 +44,10 @@ abbrev pub OneStatusIsDue : Type 0
 OneStatusIsDue = (words : List (List ℕ)) (files : Files) (status other : ℕ) (output other_output : Option (List ℕ)) →
     IsDue words files status output → IsDue words files other other_output → (status ≡ other) × (output ≡ other_output)
 
--- outcomes that write nothing have one text
+-- outcomes that write nothing have one text, but for `selftest`, which counts the steps of a player that may be chosen
 abbrev pub OneTextIsPrinted : Type 0
 OneTextIsPrinted = (words : List (List ℕ)) (files : Files) (status other : ℕ) (lines others : List (List ℕ)) →
+    ((number : ℕ) → ¬ WordsOf words (Selftest number)) →
     Outcome words files status lines None → Outcome words files other others None → lines ≡ others
 
 -- ---- each status and its cause
@@ -75,6 +79,12 @@ PlayableSongsPass = (files : Files) (name : List ℕ) (song : Song) → HoldsSon
 
 -- ---- which songs are packed
 
+-- the image of a song is at most as long as the song's data and the bound of a player's code
+abbrev pub ImagesAreBounded : Type 0
+ImagesAreBounded =
+    (song : Song) (options : Options) (used : UsedSets) (features count : ℕ) → IsImageLength song options count →
+    AreUsedSets song used → AreFeatures song features → count ≤ data_size song used + code_bound features options
+
 -- the image of a song is refused only where the song's data and the bound of a player's code pass $D000 too
 abbrev pub OnlyLargeImagesAreRefused : Type 0
 OnlyLargeImagesAreRefused =
@@ -104,6 +114,12 @@ SmallSongsArePacked =
     AllPass files (stages (Pack input output psid address zero_page options))
 
 -- ---- packed files
+
+-- a PSID file that `pack` writes for an allowed address is a packed PSID file of its song
+abbrev pub WrittenFilesArePacked : Type 0
+WrittenFilesArePacked =
+    (song : Song) (options : Options) (address zero_page : ℕ) (file : List ℕ) → KeepsLimits song → IsAddress address →
+    IsWrittenFile true address zero_page song options file → IsPackedPsid song options file
 
 -- a packed PSID file is read, has the subtune, and its calls return with the registers of the subtune's trace, for any
 -- number of frames

@@ -5,6 +5,7 @@ pub mod RegisterText
 pub mod Traces
 pub mod Calls
 pub mod Packed
+pub mod Selftest
 pub mod Stages
 pub mod Jobs
 pub mod Outcome

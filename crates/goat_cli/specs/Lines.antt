@@ -125,3 +125,13 @@ script_line number words = line (codes "script line " ∷ decimal number ∷ cod
 -- for a file of this length
 abbrev pub wrote_line : ℕ → List ℕ
 wrote_line count = line (codes "wrote " ∷ decimal count ∷ codes " bytes" ∷ [])
+
+-- a number of 32 bits as eight hexadecimal digits in lower case
+abbrev pub sum_digits : ℕ → List ℕ
+sum_digits sum = encode_lower ((sum / 16777216 % 256) ∷ (sum / 65536 % 256) ∷ (sum / 256 % 256) ∷ (sum % 256) ∷ [])
+
+-- for the song of a number, with so many playable subtunes, this sum of its registers and so many steps of the machine
+abbrev pub selftest_line : ℕ → ℕ → ℕ → ℕ → List ℕ
+selftest_line number subtunes sum steps =
+    line (codes "selftest " ∷ decimal number ∷ codes ": " ∷ decimal subtunes ∷ codes " subtunes, 300 frames, sum " ∷
+    sum_digits sum ∷ codes ", " ∷ decimal steps ∷ codes " steps" ∷ [])

@@ -3,8 +3,8 @@ use Rattle.std.specs.Prelude.{ℕ, ◌≤◌, List, ◌++◌, flat_map, sum_by, 
 use Rattle.goat_cli.specs.declared.status.Status.{Status}
 use Rattle.goat_cli.specs.declared.status.Status.TheVariants as status
 use Rattle.goat_cli.specs.declared.message.Piece.{Piece}
-use Rattle.goat_cli.specs.declared.message.Piece.TheVariants.{Words, Name, Number, Address, Features}
-use Rattle.goat_cli.specs.Lines.{address_digits, feature_digits}
+use Rattle.goat_cli.specs.declared.message.Piece.TheVariants.{Words, Name, Number, Address, Features, Sum}
+use Rattle.goat_cli.specs.Lines.{address_digits, feature_digits, sum_digits}
 
 -- the exit status
 abbrev pub number_of : Status → ℕ
@@ -31,6 +31,7 @@ piece_text (Name name) = name.now
 piece_text (Number number) = decimal number
 piece_text (Address address) = address_digits address
 piece_text (Features bits) = feature_digits bits
+piece_text (Sum sum) = sum_digits sum
 
 -- the line of these pieces
 abbrev pub line_of : List Piece → List ℕ

@@ -1,5 +1,6 @@
 -- The files that `pack` may write: a raw file, or a PSID v2 file, of an image that plays the song.
 use Rattle.std.specs.Prelude.{◌≡◌, ℕ, ◌+◌, ◌/◌, ◌%◌, ◌≤◌, List, ◌∷◌, Bool, true, false, if◌then◌else◌, nat_eq, length}
+use Rattle.base.specs.Bytes.{AreBytes}
 use Rattle.song_model.specs.declared.songs.Song.{Song}
 use Rattle.song_model.specs.LookUp.{playable_subtunes}
 use Rattle.play_model.specs.declared.options.Options.{Options}
@@ -49,6 +50,7 @@ packed_file false song address image options = raw_file address image
 pub record IsPackedFile (psid : Bool) (address zero_page : ℕ) (song : Song) (options : Options)
     (file : List ℕ) : Type 0 where
   pub image : List ℕ
+  pub bytes : AreBytes image
   pub holds : file ≡ packed_file psid song address image options
   pub below : address + length image ≤ 0xD000
   pub faithful : IsFaithful image address zero_page song options

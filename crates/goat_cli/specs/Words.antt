@@ -1,5 +1,5 @@
 -- The command line's words, and the job that they ask for.
-use Rattle.std.specs.Prelude.{◌≡◌, ◌≢◌, ℕ, ◌+◌, ◌*◌, ◌≤◌, List, [], ◌∷◌, map, codes, decimal, String, Ok, Bool, true, false}
+use Rattle.std.specs.Prelude.{◌≡◌, ◌≢◌, ℕ, ◌+◌, ◌-◌, ◌*◌, ◌^◌, ◌≤◌, List, [], ◌∷◌, map, codes, decimal, String, Ok, Bool, true, false}
 use Rattle.std.specs.Global.{Global}
 use Rattle.std.specs.String.{string_bytes}
 use Rattle.hex.specs.Hex.{decode_sized}
@@ -34,13 +34,18 @@ pub record IsNumberWord (limit : ℕ) (word : List ℕ) (number : ℕ) : Type 0 
 abbrev pub frame_limit : ℕ
 frame_limit = 100000
 
+-- the greatest number that a song may be made from: of 64 bits
+abbrev pub seed_limit : ℕ
+seed_limit = 2 ^ 64 - 1
+
 -- the greatest number of a subtune that may be asked for
 abbrev pub subtune_limit : ℕ
 subtune_limit = 255
 
 -- what the program is asked to do: pack the song in one file into another, a PSID file or a raw one; copy it into
 -- another file; edit it by a script, into another file; tell what a song uses; trace a song, or run a PSID file: a
--- subtune, counted from 1, and a number of frames. Of a song that is packed or traced, how it is played
+-- subtune, counted from 1, and a number of frames. Of a song that is packed or traced, how it is played. Or to make a song
+-- from a number, and to pack, trace and run it
 pub data Job : Type 0 where
   Pack : (input output : List ℕ) (psid : Bool) (address zero_page : ℕ) (options : Options) → Job
   Copy : (input output : List ℕ) → Job
@@ -48,6 +53,7 @@ pub data Job : Type 0 where
   Check : (input : List ℕ) → Job
   Trace : (input : List ℕ) (subtune frames : ℕ) (options : Options) → Job
   Run : (input : List ℕ) (subtune frames : ℕ) → Job
+  Selftest : (number : ℕ) → Job
 
 -- the word for what is left out of a frame: the effect step, the pulse step
 abbrev pub skip_word : Bool → Bool → List ℕ
@@ -105,6 +111,12 @@ pub record AreRunArguments (arguments : List (List ℕ)) (input : List ℕ) (sub
   pub in_named : input ≢ []
   pub subtune_spelled : IsNumberWord subtune_limit subtune_word subtune
   pub frames_spelled : IsNumberWord frame_limit frames_word frames
+
+-- the argument is a number, of 64 bits at most
+pub record AreSelftestArguments (arguments : List (List ℕ)) (number : ℕ) : Type 0 where
+  pub number_word : List ℕ
+  pub form : arguments ≡ number_word ∷ []
+  pub number_spelled : IsNumberWord seed_limit number_word number
 
 -- the numbers of a job are allowed: an image can stand at the address and have the two bytes of page 0, and there are
 -- at most 100,000 frames

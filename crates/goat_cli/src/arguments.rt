@@ -9,10 +9,10 @@ use crate::words::WordsFault;
 use play_model::{HIGHEST_SPEED, Options};
 
 /// The greatest number of a subtune that may be asked for.
-pub const SUBTUNE_LIMIT: u32 = 255;
+pub const SUBTUNE_LIMIT: u64 = 255;
 
 /// The most frames that may be asked for.
-pub const FRAME_LIMIT: u32 = 100_000;
+pub const FRAME_LIMIT: u64 = 100_000;
 
 /// Whether a word for the format of a packed file says PSID.
 ///
@@ -35,11 +35,11 @@ pub fn is_psid(word: &str) -> Result<bool, WordsFault>
 /// # Errors
 ///
 /// The word has another byte than a digit, or a leading zero, or the number is above the limit.
-pub fn decimal_of(word: &str, limit: u32) -> Result<u32, WordsFault>
+pub fn decimal_of(word: &str, limit: u64) -> Result<u64, WordsFault>
     ensures { MatchResult result (IsNumberWord limit word.now) (λ _. (number : ℕ) →
         ¬ IsNumberWord limit word.now number) }
 {
-    let Ok(number) = word.parse::<u32>() else {
+    let Ok(number) = word.parse::<u64>() else {
         return Err(WordsFault);
     };
     let mut digits = itoa::Buffer::new();
@@ -120,7 +120,7 @@ pub fn options_of(skip: &str, speed: &str) -> Result<Options, WordsFault>
         (options : Chosen) → ¬ AreOptionWords (skip.now ∷ speed.now ∷ []) options) }
 {
     let (skip_effects, skip_pulse) = skip_of(skip)?;
-    let calls = decimal_of(speed, u32::from(HIGHEST_SPEED))?;
+    let calls = decimal_of(speed, u64::from(HIGHEST_SPEED))?;
     match Options::new(skip_effects, skip_pulse, calls as u8) {
         Some(options) => Ok(options),
         None => Err(WordsFault),

@@ -1,6 +1,6 @@
 //! Facts about the definitions, each the contract of a function that does nothing.
 
-ghost use Rattle.goat_cli.specs.Laws.{WordsNameOneJob, OutcomesAreDue, OneStatusIsDue, OneTextIsPrinted, StagesPass, PlayableSongsPass, StatusesHaveCauses, OnlyLargeImagesAreRefused, SmallSongsArePacked, PackedFilesPlay, LinesHaveRoom};
+ghost use Rattle.goat_cli.specs.Laws.{WordsNameOneJob, OutcomesAreDue, OneStatusIsDue, OneTextIsPrinted, StagesPass, PlayableSongsPass, StatusesHaveCauses, OnlyLargeImagesAreRefused, SmallSongsArePacked, ImagesAreBounded, WrittenFilesArePacked, PackedFilesPlay, LinesHaveRoom};
 
 /// The words of a line name one job at most.
 pub fn words_name_one_job()
@@ -30,15 +30,17 @@ pub fn statuses_have_causes()
 {}
 
 /// A song that can be played is packed where no text of a used pattern is too long and its data and the bound of its
-/// player end at or below `$D000`; for an image no song is refused else.
+/// player end at or below `$D000`; for an image no song is refused else, and no image is longer than these.
 pub fn small_songs_are_packed()
+    ensures bounded { ImagesAreBounded }
     ensures images { OnlyLargeImagesAreRefused }
     ensures songs { SmallSongsArePacked }
 {}
 
-/// All calls of a packed PSID file return, with the registers of the song's trace.
+/// A PSID file that is written is a packed one; all calls of such a file return, with the registers of the song's trace.
 pub fn packed_files_play_their_song()
-    ensures { PackedFilesPlay }
+    ensures written { WrittenFilesArePacked }
+    ensures play { PackedFilesPlay }
 {}
 
 /// 96 bytes hold each line beside the names in it, so a line with its room takes no memory.

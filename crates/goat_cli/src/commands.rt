@@ -16,6 +16,8 @@ pub mod edit;
 pub mod pack;
 /// `run IN SUBTUNE FRAMES`.
 pub mod run;
+/// `selftest NUMBER`.
+pub mod selftest;
 /// `trace IN SUBTUNE FRAMES`, or with `SKIP SPEED` behind it.
 pub mod trace;
 
@@ -24,6 +26,7 @@ use crate::commands::copy::copy_song;
 use crate::commands::edit::edit_song;
 use crate::commands::pack::pack_song;
 use crate::commands::run::run_psid;
+use crate::commands::selftest::self_test;
 use crate::commands::trace::trace_song;
 use crate::line::Line;
 use crate::refusal::{Refusal, Report};
@@ -79,5 +82,6 @@ pub fn perform<'a, F: Folder, K: Sink>(
             subtune,
             frames,
         } => run_psid(alloc, input, subtune, frames, folder, line, out),
+        Job::Selftest { number } => self_test(alloc, number),
     }
 }

@@ -18,6 +18,7 @@ mod commands;
 /// Facts about the definitions.
 pub mod claims;
 mod line;
+mod measuring;
 mod message;
 mod packed;
 mod packing;

@@ -2,7 +2,7 @@
 
 ghost use Rattle.std.specs.Prelude.{◌≡◌, ◌<◌, ◌≤◌, ◌+◌, ◌*◌, ◌++◌, [], length, All, IfOk, OnOk, OnErr};
 ghost use Rattle.hex.specs.Hex.{encode_lower};
-ghost use Rattle.goat_cli.specs.Lines.{address_digits, feature_digits};
+ghost use Rattle.goat_cli.specs.Lines.{address_digits, feature_digits, sum_digits};
 ghost use Rattle.goat_cli.specs.Words.{texts};
 
 use crate::message::{Message, Piece};
@@ -117,6 +117,10 @@ impl Line {
                 let digits = lower_digits(*bits);
                 self.add(&digits)
             }
+            Piece::Sum(sum) => {
+                let digits = sum_digits(*sum);
+                self.add(&digits)
+            }
         }
     }
 
@@ -186,5 +190,15 @@ fn lower_digits(bits: u32) -> [u8; 6]
     let [low, middle, high, _] = bits.to_le_bytes();
     let mut digits = [0; 6];
     encode(&[high, middle, low], &mut digits);
+    digits
+}
+
+/// A number as eight hexadecimal digits in lower case.
+fn sum_digits(sum: u32) -> [u8; 8]
+    ensures { result ≡ sum_digits sum }
+{
+    let [low, middle, high, top] = sum.to_le_bytes();
+    let mut digits = [0; 8];
+    encode(&[top, high, middle, low], &mut digits);
     digits
 }

@@ -23,6 +23,8 @@ pub enum Piece<'a> {
     Address(u16),
     /// The bits of features, as six hexadecimal digits in lower case: the low 24 bits of the number.
     Features(u32),
+    /// A sum, as eight hexadecimal digits in lower case.
+    Sum(u32),
 }
 
 impl Default for Piece<'_> {

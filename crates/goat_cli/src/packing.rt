@@ -70,7 +70,7 @@ fn too_large_pattern(pattern: u8, length: u16) -> Refusal<'static>
 }
 
 /// The place of an image at an allowed address, with two allowed bytes of page 0.
-fn place_of(address: u16, zero_page: u8) -> Place
+pub fn place_of(address: u16, zero_page: u8) -> Place
     requires address { IsAddress address }
     requires zero_page { IsZeroPage zero_page }
     ensures address { result.address ≡ address }

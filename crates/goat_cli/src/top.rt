@@ -3,8 +3,8 @@
 ghost use Rattle.std.specs.Prelude.{◌≡◌, ℕ, ◌+◌, ◌-◌, List, [], ◌∷◌, Option, IfSome};
 ghost use Rattle.goat_io.specs.Written.{told_with_piece};
 ghost use Rattle.song_model.specs.declared.songs.Song.{Song};
-ghost use Rattle.goat_cli.specs.Words.{texts};
-ghost use Rattle.goat_cli.specs.Jobs.{IsNoForm};
+ghost use Rattle.goat_cli.specs.Words.{texts, Selftest};
+ghost use Rattle.goat_cli.specs.Jobs.{IsNoForm, WordsOf};
 ghost use Rattle.goat_cli.specs.RegisterText.{register_text};
 ghost use Rattle.goat_cli.specs.Due.{IsDue, IsOneOf, instead};
 ghost use Rattle.goat_cli.specs.Stands.{folder_state, sink_state, RunStands, Counted, TellsWant};
@@ -51,6 +51,10 @@ pub fn goat<F: Folder, K: Sink>(alloc: Global, words: &[String], folder: &mut F,
         IsOneOf (0 ∷ 4 ∷ 10 ∷ 14 ∷ []) result × (result ≡ 0 →
         K.written out.new ≡ told_with_piece (K.written out.old)
         (register_text (first_traces options song (subtune - 1) (frames + 1))))) }
+
+    // A self test asks for nothing but memory and the sink.
+    ensures selftest { (number : ℕ) → WordsOf (texts words.now) (Selftest number) →
+        IsOneOf (0 ∷ 10 ∷ 14 ∷ []) result }
 
     // Where all lines were printed each count of the folder rises with its own status and with no other; the sink's
     // always.

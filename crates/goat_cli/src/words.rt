@@ -10,6 +10,7 @@ use crate::commands::copy::copy_job;
 use crate::commands::edit::edit_job;
 use crate::commands::pack::pack_job;
 use crate::commands::run::run_job;
+use crate::commands::selftest::selftest_job;
 use crate::commands::trace::trace_job;
 use play_model::Options;
 
@@ -65,6 +66,10 @@ pub enum Job<'a> {
         /// How often play is called, at most 100,000 times.
         frames: u32,
     },
+    /// `selftest NUMBER`: make a song from a number, and pack, trace and run it.
+    Selftest {
+        number: u64,
+    },
 }
 
 /// No form of the command line has the words.
@@ -91,6 +96,7 @@ pub fn parse_words(words: &[String]) -> Result<Job<'_>, WordsFault>
         "check" => check_job(arguments),
         "trace" => trace_job(arguments),
         "run" => run_job(arguments),
+        "selftest" => selftest_job(arguments),
         _ => Err(WordsFault),
     }
 }

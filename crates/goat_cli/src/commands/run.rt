@@ -5,6 +5,7 @@ ghost use Rattle.std.specs.Prelude.{◌≡◌, ℕ, ◌≤◌, ◌++◌, [], ◌
 ghost use Rattle.cpu6502.specs.Call.{FailsBy};
 ghost use Rattle.sid_run.specs.State.{most_steps};
 ghost use Rattle.goat_cli.specs.Calls.{entry_of, accumulator_of, ReturnsTo};
+ghost use Rattle.goat_cli.specs.Selftest.{Takes};
 ghost use Rattle.goat_cli.specs.Job.{job_of};
 ghost use Rattle.goat_cli.specs.Last.{last_of, last_word, Says};
 ghost use Rattle.goat_cli.specs.Lines.{line, address_digits, stop_line};
@@ -50,7 +51,7 @@ pub fn run_job(arguments: &[String]) -> Result<Job<'_>, WordsFault>
     Ok(Job::Run {
         input: input.as_str(),
         subtune: subtune as u8,
-        frames,
+        frames: frames as u32,
     })
 }
 
@@ -146,11 +147,17 @@ fn refusal_at(words: &'static str, address: u16, call: u32) -> Refusal<'static>
 }
 
 /// Makes the call with this index: call 0 is init, the others are play.
-fn next_call(runner: &mut Runner, number: u8, call: u32) -> Result<[u8; 25], CallStop>
+///
+/// # Errors
+///
+/// The reason why the call did not return.
+pub fn next_call(runner: &mut Runner, number: u8, call: u32) -> Result<[u8; 25], CallStop>
     requires { runner.old.stopped ≡ None }
     ensures returned { IfOk result (λ registers. ReturnsTo runner.old.machine
         (entry_of runner.old call)
         (accumulator_of number call runner.old.machine) registers runner.new.machine) }
+    ensures takes { OnOk result (Takes runner.old.machine (entry_of runner.old call)
+        (accumulator_of number call runner.old.machine) runner.new.spent runner.new.machine) }
     ensures failed { IfErr result (λ reason. FailsBy runner.old.machine (entry_of runner.old call)
         (accumulator_of number call runner.old.machine) most_steps reason runner.new.machine) }
     ensures running { OnOk result (runner.new.stopped ≡ None) }

@@ -79,7 +79,7 @@ fn trace_of<'a>(
     Ok(Job::Trace {
         input,
         subtune: subtune as u8,
-        frames,
+        frames: frames as u32,
         options,
     })
 }
@@ -138,7 +138,7 @@ fn show_frames<K: Sink>(
 
 /// What the call with this index leaves in the registers: call 0 is the start, which leaves zeros; each other one plays
 /// a frame.
-fn next_frame(player: &mut Player, call: u32) -> [u8; 25]
+pub fn next_frame(player: &mut Player, call: u32) -> [u8; 25]
     ensures { (song : Kept) (k : ℕ) (options : Chosen) →
         StandsAfter player.old song k options (call - 1) →
         (result ≡ trace_with options song k call) × StandsAfter player.new song k options call }

@@ -8,7 +8,7 @@ returns-in_default c =
     let fits = c.ranges.limit in
     λ number w.
     let ok =
-    parse-decimal 32 number c.args.word.now c.parse.result (omega (arith, w.allowed, fits))
+    parse-decimal 64 number c.args.word.now c.parse.result (omega (arith, w.allowed, fits))
     (omega (arith, w.allowed, fits)) w.spelled c.parse.ensures.value.0 in
     absurd (search (rules, ok))
 
@@ -16,7 +16,7 @@ pub returns-else-number-limit : goal.returns-else-number-limit
 returns-else-number-limit c = λ number w.
     let fits = c.ranges.limit in
     let ok =
-    parse-decimal 32 number c.args.word.now c.parse.result (omega (arith, w.allowed, fits))
+    parse-decimal 64 number c.args.word.now c.parse.result (omega (arith, w.allowed, fits))
     (omega (arith, w.allowed, fits)) w.spelled c.parse.ensures.value.0 in
     let is = c.in-Ok.is in
     let same : c.in-Ok.number ≡ number = cc (is, ok) in

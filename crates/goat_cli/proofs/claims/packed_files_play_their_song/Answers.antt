@@ -1,5 +1,5 @@
-use Rattle.goat_cli.proofs.PlayedFiles.{packed_files_play}
+use Rattle.goat_cli.proofs.PlayedFiles.{written_files_are_packed, packed_files_play}
 use Rattle.goat_cli.proofs.claims.packed_files_play_their_song.Goals as goal
 
 pub returns : goal.returns
-returns c = packed_files_play
+returns c = record { written = written_files_are_packed; play = packed_files_play }

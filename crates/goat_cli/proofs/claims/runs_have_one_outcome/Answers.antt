@@ -5,5 +5,5 @@ pub returns : goal.returns
 returns c = record {
   due = λ words files status lines write o. outcome_due o;
   status = λ words files s t a b p q. one_due p q;
-  text = λ words files s t lines others p q. one_text p q;
+  text = λ words files s t lines others other p q. one_text other p q;
 }

@@ -1,4 +1,4 @@
-use Rattle.goat_cli.proofs.Answered.{headline, outcome_comes, due_comes, usage_comes, packed_plays, counts, sink_counts, files_stay}
+use Rattle.goat_cli.proofs.Answered.{headline, outcome_comes, due_comes, usage_comes, packed_plays, selftest_comes, counts, sink_counts, files_stay}
 use Rattle.goat_cli.proofs.top.goat.Goals as goal
 
 pub returns-clause-headline : goal.returns-clause-headline
@@ -15,6 +15,9 @@ returns-clause-usage g c = usage_comes c.answer.ensures
 
 pub returns-clause-packed : goal.returns-clause-packed
 returns-clause-packed g c = packed_plays c.answer.ensures
+
+pub returns-clause-selftest : goal.returns-clause-selftest
+returns-clause-selftest g c = selftest_comes c.answer.ensures
 
 pub returns-clause-counted : goal.returns-clause-counted
 returns-clause-counted g c = counts c.answer.ensures

@@ -1,0 +1,341 @@
+-- Sums of registers and counts of steps, a call and a subtune more at a time.
+use Rattle.std.proofs.Common.{◌≡◌, ℕ, zero, suc, ◌+◌, ◌*◌, ◌-◌, ◌%◌, ◌^◌, ◌≤◌, ◌<◌, List, [], ◌∷◌, ◌++◌, length, take, get_or, None, Ok, true, refl, sym, ap, ◌∙◌, subst, arith}
+use Rattle.std.specs.List.{sum_by, range_with_len}
+use Rattle.std.proofs.Math.Seq.{take-length}
+use Rattle.std.proofs.lemmas.List.{take_more}
+use Rattle.std.proofs.lemmas.List.Sums.{sum_by_push}
+use Rattle.std.proofs.lemmas.List.FromFn.{map-range_with_len_more}
+use Rattle.song_model.specs.declared.songs.Song.{Song}
+use Rattle.song_model.specs.Limits.{KeepsLimits}
+use Rattle.song_model.specs.LookUp.{playable_subtunes}
+use Rattle.play_model.specs.Frame.{trace_with}
+use Rattle.play_model.specs.declared.options.Options.{Options}
+use Rattle.play_model.specs.State.{no_options, start_state}
+use Rattle.player_parts.specs.Places.{IsAddress}
+use Rattle.player_build.specs.Lengths.{IsTooLarge}
+use Rattle.packed_form.specs.declared.packed_songs.PackedSong.{PackedSong}
+use Rattle.packed_form.specs.UsedSets.{UsedSets}
+use Rattle.song_pack.specs.Answers.{IsTooLong}
+use Rattle.song_gen.specs.GeneratedSong.{generated_song}
+use Rattle.song_gen.specs.GeneratedLaws.{HasShortPatterns, IsSmall}
+use Rattle.psid.specs.declared.header.Psid.{Psid}
+use Rattle.psid.specs.Reading.{psid_read}
+use Rattle.playroutine.specs.Playback.{Playback, PlaysSubtune, PlayerStandsFor}
+use Rattle.playroutine.specs.Played.{StandsAfter}
+use Rattle.playroutine.proofs.Laws.{start_after}
+use Rattle.packed_form.proofs.Laws.{range_more}
+use Rattle.cpu6502.specs.declared.machine.Machine.{Machine}
+use Rattle.cpu6502.specs.declared.stop.CallStop.{CallStop}
+use Rattle.cpu6502.specs.Call.{FailsBy}
+use Rattle.sid_run.specs.State.{RunnerState, most_steps, sid_registers, loaded}
+use Rattle.goat_cli.specs.Calls.{entry_of, accumulator_of, FirstCalls}
+use Rattle.goat_cli.specs.Traces.{first_traces}
+use Rattle.goat_cli.specs.Selftest.{bytes_sum, calls_sum, subtunes_sum, register_sum, selftest_calls, Takes, TakesOneMore, FirstCallsTake, SubtuneTakes, SubtunesTake, TakesSteps}
+use Rattle.goat_cli.specs.Words.{Selftest}
+use Rattle.goat_cli.specs.Lines.{selftest_line}
+use Rattle.goat_cli.specs.Last.{Says}
+use Rattle.goat_cli.specs.Outcome as outcome
+use Rattle.goat_cli.specs.Stands as stands
+use Rattle.goat_cli.specs.Stands.{FolderState, SinkState}
+use Rattle.goat_cli.specs.Packed.{IsWrittenFile}
+use Rattle.goat_cli.specs.Endings.{PacksSong, FirstCallsReturn, CallsTake, JobEnds}
+use Rattle.goat_cli.proofs.Told.{some_files, as_before, uncounted, stays_itself}
+use Rattle.goat_cli.proofs.Ends.{has_last}
+use Rattle.goat_cli.proofs.Calls.{returned_or_stopped}
+use Rattle.goat_cli.proofs.Images.{length_is}
+use Rattle.goat_cli.proofs.SmallSongs.{images_are_bounded}
+use Rattle.goat_cli.proofs.PlayedFiles.{written_files_are_packed, packed_files_play}
+
+-- ---- sums
+
+-- a byte more
+pub record BytesSoFar (bytes : List ℕ) (i sum : ℕ) : Type 0 where
+  pub is : sum ≡ bytes_sum (take i bytes)
+  pub most : sum ≤ 255 * i
+
+pub no_bytes : (bytes : List ℕ) → BytesSoFar bytes 0 0
+no_bytes bytes = record { is = refl; most = omega arith }
+
+pub byte_more : {bytes : List ℕ} {i sum : ℕ} (byte more : ℕ) → BytesSoFar bytes i sum → i < length bytes →
+    byte ≡ get_or bytes i byte → byte < 256 → more ≡ sum + byte → BytesSoFar bytes (i + 1) more
+byte_more {bytes} {i} {sum} byte more so_far inside is small adds =
+    let most = so_far.most in
+    record {
+      is = adds ∙ ap (λ (n : ℕ). n + byte) so_far.is ∙ sym (sum_by_push (λ n. n) (take i bytes) byte)
+          ∙ ap (λ (b : ℕ). bytes_sum (take i bytes ++ b ∷ [])) is
+          ∙ ap bytes_sum (sym (take_more bytes i byte inside));
+      most = omega (arith, most, small, adds);
+    }
+
+pub all_bytes : {bytes : List ℕ} {i sum : ℕ} → BytesSoFar bytes i sum → length bytes ≡ i → sum ≡ bytes_sum bytes
+all_bytes {bytes} {i} so_far all =
+    so_far.is ∙ ap (λ (n : ℕ). bytes_sum (take n bytes)) (sym all) ∙ ap bytes_sum (take-length bytes)
+
+-- the sum of the first calls of a subtune, which a player has played
+pub record SummedSoFar (song : Song) (k calls : ℕ) (player : Playback) (sum : ℕ) : Type 0 where
+  pub stands : StandsAfter player song k no_options (calls - 1)
+  pub is : sum ≡ calls_sum song k calls
+  pub most : sum ≤ 6375 * calls
+
+pub none_summed : (song : Song) (k : ℕ) (player : Playback) → StandsAfter player song k no_options 0 →
+    SummedSoFar song k 0 player 0
+unfolding calls_sum
+none_summed song k player stands = record { stands = stands; is = refl; most = omega arith }
+
+-- a player that was started plays the subtune from its start
+pub player_stands : (song : Song) (k : ℕ) (o : Options) (player : Playback) → o ≡ no_options →
+    PlaysSubtune player song k o → PlayerStandsFor player (start_state o) → StandsAfter player song k no_options 0
+player_stands song k o player is plays stands =
+    subst (λ (x : Options). StandsAfter player song k x 0) is (start_after player song k o plays stands)
+
+pub call_summed : {song : Song} {k calls : ℕ} {player : Playback} {sum : ℕ} (later : Playback) (registers : List ℕ)
+    (own more : ℕ) → SummedSoFar song k calls player sum → registers ≡ trace_with no_options song k calls →
+    StandsAfter later song k no_options calls → own ≡ bytes_sum registers → own ≤ 6375 → more ≡ sum + own →
+    SummedSoFar song k (calls + 1) later more
+unfolding calls_sum
+call_summed {song} {k} {calls} {player} {sum} later registers own more so_far is stands own_is own_most adds =
+    let most = so_far.most in
+    let z : calls ≡ calls + 1 - 1 = omega arith in
+    let one : suc calls ≡ calls + 1 = omega arith in
+    record {
+      stands = subst (StandsAfter later song k no_options) z stands;
+      is = adds ∙ ap (λ (n : ℕ). n + own) so_far.is
+          ∙ ap (λ (n : ℕ). calls_sum song k calls + n) (own_is ∙ ap bytes_sum is)
+          ∙ sym (sum_by_push bytes_sum (first_traces no_options song k calls) (trace_with no_options song k calls))
+          ∙ ap (calls_sum song k) one;
+      most = omega (arith, most, own_most, adds);
+    }
+
+-- the sum of the first subtunes
+pub record SubtunesSummed (song : Song) (count sum : ℕ) : Type 0 where
+  pub is : sum ≡ subtunes_sum song count
+  pub most : sum ≤ 1918875 * count
+
+pub no_subtune_summed : (song : Song) → SubtunesSummed song 0 0
+unfolding subtunes_sum
+no_subtune_summed song = record { is = refl; most = omega arith }
+
+pub subtune_summed : {song : Song} {count sum : ℕ} (own more : ℕ) → SubtunesSummed song count sum →
+    own ≡ calls_sum song count selftest_calls → own ≤ 1918875 → more ≡ sum + own →
+    SubtunesSummed song (count + 1) more
+unfolding subtunes_sum
+subtune_summed {song} {count} {sum} own more so_far own_is own_most adds =
+    let most = so_far.most in
+    let first : 0 + count ≡ count = omega arith in
+    let one : suc count ≡ count + 1 = omega arith in
+    let f : ℕ → ℕ = λ k. calls_sum song k selftest_calls in
+    record {
+      is = adds ∙ ap (λ (n : ℕ). n + own) so_far.is ∙ ap (λ (n : ℕ). subtunes_sum song count + n) own_is
+          ∙ sym (sum_by_push f (range_with_len 0 count) count)
+          ∙ ap (λ (k : ℕ). sum_by f (range_with_len 0 count ++ k ∷ [])) (sym first)
+          ∙ ap (sum_by f) (sym (range_more 0 count)) ∙ ap (subtunes_sum song) one;
+      most = omega (arith, most, own_most, adds);
+    }
+
+-- ---- steps
+
+pub steps_within : (file : RunnerState) (subtune calls steps : ℕ) (machine : Machine) →
+    FirstCallsTake file subtune calls steps machine → steps ≤ 200000 * calls
+steps_within file subtune zero steps machine take = (let none = take.0 in omega (arith, none))
+steps_within file subtune (suc calls) steps machine take =
+    let earlier = steps_within file subtune calls take.earlier take.before take.took in
+    let own = take.takes.within in
+    let sum = take.steps_are in
+    omega (arith, earlier, own, sum)
+
+-- they are the first calls of the file
+record Shown (file : RunnerState) (subtune calls : ℕ) (machine : Machine) : Type 0 where
+  registers : List (List ℕ)
+  first : FirstCalls file subtune calls registers machine
+
+shown : (file : RunnerState) (subtune calls steps : ℕ) (machine : Machine) →
+    FirstCallsTake file subtune calls steps machine → Shown file subtune calls machine
+shown file subtune zero steps machine take = record { registers = []; first = (refl, take.1) }
+shown file subtune (suc calls) steps machine take =
+    let earlier = shown file subtune calls take.earlier take.before take.took in
+    let last = sid_registers machine in
+    record {
+      registers = earlier.registers ++ last ∷ [];
+      first = (
+        earlier.registers,
+        take.before,
+        last,
+        earlier.first,
+        record { steps = take.last; within = take.takes.within; called = take.takes.called; registers_are = refl },
+        refl,
+      );
+    }
+
+-- what a runner has taken of a loaded file's calls
+pub record HasTaken (file : RunnerState) (subtune calls steps : ℕ) (now : RunnerState) : Type 0 where
+  pub take : FirstCallsTake file subtune calls steps now.machine
+  pub same_init : now.init ≡ file.init
+  pub same_play : now.play ≡ file.play
+  pub running : now.stopped ≡ None
+
+pub none_taken : (file : RunnerState) (subtune : ℕ) → file.stopped ≡ None → HasTaken file subtune 0 0 file
+none_taken file subtune running =
+    record { take = (refl, refl); same_init = refl; same_play = refl; running = running }
+
+entry_same : (now file : RunnerState) (call : ℕ) → now.init ≡ file.init → now.play ≡ file.play →
+    entry_of now call ≡ entry_of file call
+entry_same now file zero init play = init
+entry_same now file (suc call) init play = play
+
+pub call_taken : {file now : RunnerState} {subtune calls steps : ℕ} (later : RunnerState) (own more : ℕ) →
+    HasTaken file subtune calls steps now →
+    Takes now.machine (entry_of now calls) (accumulator_of subtune calls now.machine) own later.machine →
+    later.init ≡ now.init → later.play ≡ now.play → later.stopped ≡ None → more ≡ steps + own →
+    HasTaken file subtune (calls + 1) more later
+call_taken {file} {now} {subtune} {calls} {steps} later own more so_far takes init play running adds =
+    let one : suc calls ≡ calls + 1 = omega arith in
+    let entry = entry_same now file calls so_far.same_init so_far.same_play in
+    let took : FirstCallsTake file subtune (suc calls) more later.machine = record {
+      earlier = steps;
+      before = now.machine;
+      took = so_far.take;
+      last = own;
+      takes = subst (λ e. Takes now.machine e (accumulator_of subtune calls now.machine) own later.machine) entry takes;
+      steps_are = adds;
+    } in
+    record {
+      take = subst (λ n. FirstCallsTake file subtune n more later.machine) one took;
+      same_init = init ∙ so_far.same_init;
+      same_play = play ∙ so_far.same_play;
+      running = running;
+    }
+
+-- of a file whose calls return none fails
+pub none_fails : {file now : RunnerState} {subtune calls steps : ℕ} (all : ℕ) (after : Machine) (reason : CallStop) →
+    FirstCallsReturn file subtune all → HasTaken file subtune calls steps now → calls < all →
+    FailsBy now.machine (entry_of now calls) (accumulator_of subtune calls now.machine) most_steps reason after → ⊥
+none_fails {file} {now} {subtune} {calls} {steps} all after reason return so_far inside fails =
+    let before = shown file subtune calls steps now.machine so_far.take in
+    let entry = entry_same now file calls so_far.same_init so_far.same_play in
+    returned_or_stopped file subtune all calls return.registers before.registers return.after reason return.first inside
+    (record {
+      before = now.machine;
+      calls = before.first;
+      after = after;
+      fails = subst
+          (λ e. FailsBy now.machine e (accumulator_of subtune calls now.machine) most_steps reason after) entry fails;
+    })
+
+-- the steps of the first subtunes
+pub record HaveTaken (file : RunnerState) (count steps : ℕ) : Type 0 where
+  pub take : SubtunesTake file count steps
+  pub most : steps ≤ 60200000 * count
+
+pub no_subtune_taken : (file : RunnerState) → HaveTaken file 0 0
+no_subtune_taken file = record { take = refl; most = omega arith }
+
+pub subtune_taken : {file : RunnerState} {count steps : ℕ} (own more : ℕ) → HaveTaken file count steps →
+    CallsTake file count selftest_calls own → own ≤ 60200000 → more ≡ steps + own → HaveTaken file (count + 1) more
+subtune_taken {file} {count} {steps} own more so_far calls few adds =
+    let one : suc count ≡ count + 1 = omega arith in
+    let most = so_far.most in
+    let took : SubtunesTake file (suc count) more = record {
+      earlier = steps;
+      took = so_far.take;
+      own = own;
+      after = calls.after;
+      calls = calls.take;
+      steps_are = adds;
+    } in
+    record {
+      take = subst (λ n. SubtunesTake file n more) one took;
+      most = omega (arith, most, few, adds);
+    }
+
+-- ---- the packed file
+
+-- a short pattern isn't too long
+pub short_is_not_long : (song : Song) (used : UsedSets) (pattern n : ℕ) → HasShortPatterns song →
+    IsTooLong song used pattern n → ⊥
+short_is_not_long song used pattern n short long =
+    let text = long.text in
+    let above = long.long in
+    let below = short used pattern in
+    omega (arith, text, above, below)
+
+-- of a small song the image has room at $1000
+pub small_has_room : (packed : PackedSong) (song : Song) (size : ℕ) → PacksSong packed song → IsSmall song →
+    IsTooLarge packed no_options 0x1000 size → ⊥
+small_has_room packed song size packs small large =
+    let bounds =
+    images_are_bounded song no_options packs.used packed.features.0 size
+    (length_is packed song no_options packs size large.size_is) packs.are_used packs.stands.features in
+    let room = small packs.used packed.features.0 packs.are_used packs.stands.features in
+    let passes = large.passes in
+    omega (arith, bounds, room, passes)
+
+at_1000 : IsAddress 0x1000
+at_1000 = record { whole_page = refl; least = omega arith; most = omega arith }
+
+-- the calls of its subtunes return
+pub file_returns : (song : Song) (file : List ℕ) (psid : Psid) (k : ℕ) → KeepsLimits song →
+    IsWrittenFile true 0x1000 0xFC song no_options file → psid_read file ≡ Ok psid →
+    k < length (playable_subtunes song) → FirstCallsReturn (loaded psid) k selftest_calls
+file_returns song file psid k keeps written reads few =
+    let is = written_files_are_packed song no_options 0x1000 0xFC file keeps at_1000 written in
+    let play = packed_files_play song no_options file (k + 1) 300 is (omega arith) (omega (arith, few)) in
+    let same : play.0 ≡ psid = cc (play.1, reads) in
+    let number : k + 1 - 1 ≡ k = omega arith in
+    let first = subst (λ p. FirstCalls (loaded p) (k + 1 - 1) 301 (first_traces no_options song (k + 1 - 1) 301) play.3)
+    same play.4 in
+    record {
+      registers = first_traces no_options song (k + 1 - 1) 301;
+      after = play.3;
+      first = subst (λ n. FirstCalls (loaded psid) n 301 (first_traces no_options song (k + 1 - 1) 301) play.3) number
+          first;
+    }
+
+pub file_is_read : (song : Song) (file : List ℕ) → KeepsLimits song →
+    IsWrittenFile true 0x1000 0xFC song no_options file → 1 ≤ length (playable_subtunes song) →
+    (psid : Psid) × (psid_read file ≡ Ok psid)
+file_is_read song file keeps written some =
+    let is = written_files_are_packed song no_options 0x1000 0xFC file keeps at_1000 written in
+    let play = packed_files_play song no_options file 1 0 is (omega arith) some in
+    (play.0, play.1)
+
+-- all the first calls
+pub all_taken : {file now : RunnerState} {subtune calls steps : ℕ} → HasTaken file subtune calls steps now →
+    calls ≤ selftest_calls → selftest_calls ≤ calls → CallsTake file subtune selftest_calls steps
+all_taken {file} {now} {subtune} {calls} {steps} so_far most least =
+    let all : calls ≡ 301 = omega (arith, most, least) in
+    record { after = now.machine; take = subst (λ n. FirstCallsTake file subtune n steps now.machine) all so_far.take }
+
+pub few_taken : {file now : RunnerState} {subtune calls steps : ℕ} → HasTaken file subtune calls steps now →
+    calls ≤ selftest_calls → steps ≤ 60200000
+few_taken {file} {now} {subtune} {calls} {steps} so_far most =
+    let within = steps_within file subtune calls steps now.machine so_far.take in omega (arith, within, most)
+
+-- all subtunes
+pub all_subtunes_taken : {file : RunnerState} {count steps : ℕ} (all : ℕ) → HaveTaken file count steps → count ≤ all →
+    all ≤ count → SubtunesTake file all steps
+all_subtunes_taken {file} {count} {steps} all so_far most least =
+    let same : count ≡ all = omega (arith, most, least) in
+    subst (λ n. SubtunesTake file n steps) same so_far.take
+
+pub few_subtunes_taken : {file : RunnerState} {count steps : ℕ} → HaveTaken file count steps → count ≤ 32 →
+    steps < 10 ^ 10
+few_subtunes_taken so_far few = (let most = so_far.most in omega (arith, most, few))
+
+-- ---- how the job ends
+
+pub selftest_ends : (number count sum steps : ℕ) (song : Song) → song ≡ generated_song number →
+    count ≡ length (playable_subtunes song) → sum ≡ register_sum song → TakesSteps song steps →
+    (folder : FolderState) (sink : SinkState) →
+    JobEnds (Selftest number) (Says 0 (selftest_line number count sum steps)) folder folder sink sink
+selftest_ends number count sum steps song is counted summed takes folder sink =
+    let some = some_files folder.told in
+    let line = ap (λ n. selftest_line number n sum steps) (counted ∙ ap (λ s. length (playable_subtunes s)) is)
+    ∙ ap (λ n. selftest_line number (length (playable_subtunes (generated_song number))) n steps)
+    (summed ∙ ap register_sum is) in
+    has_last sink {files = some.files} some.are_files
+    (λ words form.
+    stands.outcome None
+    (outcome.done (Selftest number) form tt
+    ((steps, subst (λ s. TakesSteps s steps) is takes, ap (λ (l : List ℕ). l ∷ []) line), refl) refl)
+    (as_before folder.told))
+    (uncounted refl (stays_itself folder).counts)

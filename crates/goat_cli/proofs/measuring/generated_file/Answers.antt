@@ -1,0 +1,23 @@
+use Rattle.std.proofs.Common.{◌≡◌, List, ℕ, true, ap, ◌∙◌, IfOk}
+use Rattle.play_model.specs.declared.options.Options.{Options}
+use Rattle.play_model.specs.State.{no_options}
+use Rattle.goat_cli.specs.Packed.{packed_file}
+use Rattle.goat_cli.proofs.Forms.{ok_mapped}
+use Rattle.goat_cli.proofs.SmallSongs.{has_subtune}
+use Rattle.goat_cli.proofs.Images.{image_written}
+use Rattle.goat_cli.proofs.measuring.generated_file.Goals as goal
+
+pub packed_file-requires-clause-some : goal.packed_file-requires-clause-some
+packed_file-requires-clause-some c = has_subtune c.args.song.now c.requires.playable
+
+pub returns : goal.returns
+returns c =
+    let song = c.args.song.now in
+    let image = c.in_ok-image.image in
+    let e = c.in_ok-image.ensures in
+    ok_mapped c.packed_file.result
+    (λ file is.
+    image_written c.in_ok-packed.packed song no_options c.in_ok-packed.ensures true 0x1000 0xFC image file.items e.built
+    e.address e.zero_page
+    (is ∙ ap (λ (o : Options). packed_file true song image.place.address image.bytes o) c.none.ensures))
+    c.packed_file.ensures

@@ -1,0 +1,209 @@
+//! What a song leaves in the SID's registers, added up, and the steps that the machine makes in playing its packed file.
+
+ghost use Rattle.std.specs.Prelude.{◌≡◌, ℕ, ◌+◌, ◌*◌, ◌%◌, ◌^◌, ◌<◌, ◌≤◌, true, None, length, IfOk, Ok};
+ghost use Rattle.song_model.specs.Limits.{KeepsLimits};
+ghost use Rattle.song_model.specs.LookUp.{playable_subtunes};
+ghost use Rattle.play_model.specs.State.{no_options};
+ghost use Rattle.play_model.specs.Playable.{IsPlayable};
+ghost use Rattle.usage.specs.Parts.{AreUsedParts};
+ghost use Rattle.song_gen.specs.GeneratedLaws.{HasShortPatterns, IsSmall};
+ghost use Rattle.psid.specs.declared.header.Psid.{Psid as File};
+ghost use Rattle.psid.specs.Reading.{psid_read};
+ghost use Rattle.sid_run.specs.State.{loaded};
+ghost use Rattle.player_build.specs.Built.{IsBuild};
+ghost use Rattle.goat_cli.specs.Packed.{IsWrittenFile};
+ghost use Rattle.goat_cli.specs.Endings.{PacksSong, FirstCallsReturn, CallsTake};
+ghost use Rattle.goat_cli.specs.Selftest.{bytes_sum, calls_sum, subtunes_sum, register_sum, selftest_calls, TakesSteps};
+
+use crate::commands::run::next_call;
+use crate::commands::trace::next_frame;
+use crate::packed::packed_file;
+use crate::packing::place_of;
+use base::NoMemory;
+use packed_form::PackedSong;
+use play_model::Options;
+use player_build::{BuildFault, Image, build};
+use playroutine::start;
+use psid::{Psid, PsidFault};
+use sid_run::Runner;
+use song_model::Song;
+use song_pack::{PackFault, pack_song};
+use std::alloc::Global;
+use usage::usage;
+
+/// How many calls of each subtune are made: its init, and 300 plays.
+const CALLS: u32 = 301;
+
+/// Where the packed file's image stands.
+const ADDRESS: u16 = 0x1000;
+
+/// The first of the player's two bytes of page 0.
+const ZERO_PAGE: u8 = 0xfc;
+
+/// The sum of the registers.
+fn bytes_sum(registers: &[u8; 25]) -> u64
+    ensures sum { result ≡ bytes_sum registers.now }
+    ensures most { result ≤ 6375 }
+{
+    let mut sum = 0;
+    for register in registers {
+        sum += u64::from(*register);
+    }
+    sum
+}
+
+/// The sum of the registers after init of a subtune, counted from 0, and after each of its frames.
+fn subtune_sum(song: &Song, subtune: u8) -> u64
+    requires playable { IsPlayable song.now }
+    requires there { subtune < length (playable_subtunes song.now) }
+    ensures sum { result ≡ calls_sum song.now subtune selftest_calls }
+    ensures most { result ≤ 1918875 }
+{
+    let Ok(mut player) = start(song, subtune, Options::none()) else {
+        unreachable!()
+    };
+    let mut sum = 0;
+    for call in 0..CALLS {
+        sum += bytes_sum(&next_frame(&mut player, call));
+    }
+    sum
+}
+
+/// The sum of the registers after all these calls of all subtunes, as a number of 32 bits.
+pub fn register_sum(song: &Song) -> u32
+    requires { IsPlayable song.now }
+    ensures { result ≡ register_sum song.now }
+{
+    let mut sum = 0;
+    for subtune in 0..song.playable_count() {
+        sum += subtune_sum(song, subtune);
+    }
+    sum as u32
+}
+
+/// The packed song of a song with short patterns.
+///
+/// # Errors
+///
+/// Out of memory.
+fn short_song(alloc: Global, song: &Song) -> Result<PackedSong, NoMemory>
+    requires limits { KeepsLimits song.now }
+    requires playable { IsPlayable song.now }
+    requires short { HasShortPatterns song.now }
+    ensures { IfOk result (λ packed. PacksSong packed song.now) }
+{
+    let Ok(parts) = usage(song) else {
+        unreachable!()
+    };
+    match pack_song(alloc, song, &parts) {
+        Ok(packed) => Ok(packed),
+        Err(PackFault::NoMemory) => Err(NoMemory),
+        Err(PackFault::PatternTooLong { .. }) => unreachable!(),
+    }
+}
+
+/// The image of a small song, at `$1000`.
+///
+/// # Errors
+///
+/// Out of memory.
+fn small_image(alloc: Global, song: &Song, packed: &PackedSong) -> Result<Image, NoMemory>
+    requires packs { PacksSong packed.now song.now }
+    requires small { IsSmall song.now }
+    ensures built { IfOk result (λ image. IsBuild packed.now image.place no_options image) }
+    ensures address { IfOk result (λ image. image.place.address ≡ 0x1000) }
+    ensures zero_page { IfOk result (λ image. image.place.zero_page ≡ 0xFC) }
+{
+    let place = place_of(ADDRESS, ZERO_PAGE);
+    match build(alloc, packed, place, Options::none()) {
+        Ok(image) => Ok(image),
+        Err(BuildFault::NoMemory) => Err(NoMemory),
+        Err(BuildFault::TooLarge { .. }) => unreachable!(),
+    }
+}
+
+/// The PSID file of a small song with short patterns, for `$1000` and page 0's `$FC`.
+///
+/// # Errors
+///
+/// Out of memory.
+pub fn generated_file(alloc: Global, song: &Song) -> Result<Vec<u8>, NoMemory>
+    requires limits { KeepsLimits song.now }
+    requires playable { IsPlayable song.now }
+    requires short { HasShortPatterns song.now }
+    requires small { IsSmall song.now }
+    ensures { IfOk result (λ file. IsWrittenFile true 0x1000 0xFC song.now no_options file.items) }
+{
+    let packed = short_song(alloc, song)?;
+    let image = small_image(alloc, song, &packed)?;
+    packed_file(alloc, true, song, &image, &Options::none())
+}
+
+/// The steps of the first calls of a loaded file: init of a subtune, counted from 0, and its plays.
+fn count_steps(runner: &mut Runner, subtune: u8) -> u64
+    requires running { runner.old.stopped ≡ None }
+    requires returns { FirstCallsReturn runner.old subtune selftest_calls }
+    ensures take { CallsTake runner.old subtune selftest_calls result }
+    ensures most { result ≤ 60200000 }
+{
+    let mut steps = 0;
+    for call in 0..CALLS {
+        match next_call(runner, subtune, call) {
+            Ok(_) => steps += u64::from(runner.spent()),
+            Err(_) => unreachable!(),
+        }
+    }
+    steps
+}
+
+/// The same of a file that is loaded anew.
+///
+/// # Errors
+///
+/// Out of memory.
+fn subtune_steps(alloc: Global, psid: &Psid, subtune: u8) -> Result<u64, NoMemory>
+    requires room { psid.now.load + length psid.now.image ≤ 65536 }
+    requires returns { FirstCallsReturn (loaded psid.now) subtune selftest_calls }
+    ensures take { IfOk result (CallsTake (loaded psid.now) subtune selftest_calls) }
+    ensures most { IfOk result (λ steps. steps ≤ 60200000) }
+{
+    let mut runner = Runner::load(alloc, psid)?;
+    Ok(count_steps(&mut runner, subtune))
+}
+
+/// The header and the image of a packed file.
+///
+/// # Errors
+///
+/// Out of memory.
+fn read_packed(alloc: Global, file: &[u8]) -> Result<Psid, NoMemory>
+    requires { (psid : File) × (psid_read file.now ≡ Ok psid) }
+    ensures reads { IfOk result (λ psid. psid_read file.now ≡ Ok psid) }
+    ensures fits { IfOk result (λ psid. psid.load + length psid.image ≤ 65536) }
+{
+    match psid::read(alloc, file) {
+        Ok(psid) => Ok(psid),
+        Err(PsidFault::NoMemory) => Err(NoMemory),
+        Err(_) => unreachable!(),
+    }
+}
+
+/// The steps of all subtunes of a song's packed file.
+///
+/// # Errors
+///
+/// Out of memory.
+pub fn steps_of(alloc: Global, song: &Song, file: &[u8]) -> Result<u64, NoMemory>
+    requires limits { KeepsLimits song.now }
+    requires playable { IsPlayable song.now }
+    requires written { IsWrittenFile true 0x1000 0xFC song.now no_options file.now }
+    ensures steps { IfOk result (TakesSteps song.now) }
+    ensures most { IfOk result (λ steps. steps < 10 ^ 10) }
+{
+    let psid = read_packed(alloc, file)?;
+    let mut steps = 0;
+    for subtune in 0..song.playable_count() {
+        steps += subtune_steps(alloc, &psid, subtune)?;
+    }
+    Ok(steps)
+}
