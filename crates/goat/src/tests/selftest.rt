@@ -53,14 +53,14 @@ fn other_words_are_answered_by_the_usage(rt: HostRuntime) -> Result<(), Fail> {
 /// The steps of init and 300 plays of each subtune of a PSID file, which is loaded anew for each.
 fn steps_of(alloc: Global, file: &[u8]) -> Result<u64, Fail> {
     let psid = psid::read(alloc, file).ok().ok_or("no PSID file")?;
-    let mut steps = 0;
+    let mut steps = 0u64;
     for subtune in 0..8 {
         let mut runner = Runner::load(alloc, &psid).ok().ok_or("no room")?;
         let _registers = runner.init(subtune).ok().ok_or("stopped")?;
-        steps += u64::from(runner.spent());
+        steps = steps.saturating_add(u64::from(runner.spent()));
         for _ in 0..300 {
             let _registers = runner.play().ok().ok_or("stopped")?;
-            steps += u64::from(runner.spent());
+            steps = steps.saturating_add(u64::from(runner.spent()));
         }
     }
     Ok(steps)
