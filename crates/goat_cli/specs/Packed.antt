@@ -65,7 +65,7 @@ pub record IsImageLength (song : Song) (options : Options) (count : ℕ) : Type 
   pub count_is : count ≡ packed_size song used + code_length features options
 
 -- a file that `pack` writes: a packed file, of an image that is as long as that, and that plays the song after any calls,
--- each by the image's bytes alone
+-- from the first init on each by the image's bytes alone
 pub record IsWrittenFile (psid : Bool) (address zero_page : ℕ) (song : Song) (options : Options)
     (file : List ℕ) : Type 0 where
   pub packed : IsPackedFile psid address zero_page song options file

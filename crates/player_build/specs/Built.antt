@@ -15,7 +15,8 @@ use Rattle.player_build.specs.Lengths.{image_length, image_end}
 use Rattle.player_build.specs.Spans.{NamesParts}
 use Rattle.player_build.specs.Starts.{HoldsStart}
 
--- it plays the song: any calls in any order, each by the image's bytes alone, and from the start on
+-- it plays the song: any calls in any order, from the first init on each by the image's bytes alone; and it holds the start
+-- of the first subtune
 pub record Plays (packed : PackedSong) (song : Song) (o : Options) (built : Image)
     (image : IsImageOf packed built.place o built.bytes) : Type 0 where
   pub always : PlaysAlways built.bytes built.place.address built.place.zero_page song o
