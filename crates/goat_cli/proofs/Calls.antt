@@ -9,8 +9,7 @@ use Rattle.cpu6502.specs.Call.{run, entered, Called, FailsBy}
 use Rattle.cpu6502.specs.declared.stop.CallStop.TheVariants.{Stopped, Budget}
 use Rattle.cpu6502.proofs.Laws.{called_once, returned_fails, stopped_fails, under_way_fails}
 use Rattle.sid_run.specs.State.{RunnerState, sid_registers, most_steps}
-use Rattle.goat_cli.specs.Calls.{entry_of, accumulator_of, ReturnsTo, FirstCalls, MeetsStopAt}
-use Rattle.goat_cli.specs.Selftest.{Takes}
+use Rattle.goat_cli.specs.Calls.{entry_of, accumulator_of, Takes, ReturnsTo, FirstCalls, MeetsStopAt}
 use Rattle.goat_cli.specs.RegisterText.{register_line, register_lines}
 use Rattle.goat_cli.specs.Lines.{stop_line}
 use Rattle.goat_io.specs.declared.fault.SinkFault.{SinkFault}
@@ -18,7 +17,7 @@ use Rattle.goat_io.specs.declared.fault.SinkFault.TheVariants as sink
 use Rattle.goat_cli.specs.declared.refusal.Refusal.{Refusal}
 use Rattle.goat_cli.specs.Last.{Last, Says, SaysNothing, last_of, IsOfSink}
 use Rattle.goat_cli.specs.Stands.{SinkState, Appends}
-use Rattle.goat_cli.specs.Endings.{CallsEnd, FailsIn, played, stopped, failed, wanting}
+use Rattle.goat_cli.specs.Endings.{CallsEnd, PutFails, played, stopped, failed, wanting}
 use Rattle.goat_cli.proofs.RegisterLines.{lines_more, text_more}
 use Rattle.goat_cli.proofs.Told.{appends_nothing, appends_both, appends_none, fails_then}
 
@@ -31,8 +30,7 @@ pub returns_with : (machine after : Machine) (entry number steps : ℕ) (r : Res
     IfOk r (λ registers. ReturnsTo machine entry number registers after)
 returns_with machine after entry number steps (Ok registers) called within are = record {
   steps = steps;
-  within = within;
-  called = called;
+  takes = record { called = called; within = within };
   registers_are = sym are;
 }
 returns_with machine after entry number steps (Err reason) called within are = tt
@@ -59,9 +57,9 @@ module _ {m : Machine} {entry number : ℕ} where
   returns_once : {registers registers' : List ℕ} {after after' : Machine} → ReturnsTo m entry number registers after →
       ReturnsTo m entry number registers' after' → after ≡ after'
   returns_once {after} {after'} p q =
-      let same = called_once m entry number p.steps q.steps after after' p.called q.called in
-      let one = p.called.runs in
-      let two = q.called.runs in
+      let same = called_once m entry number p.steps q.steps after after' p.takes.called q.takes.called in
+      let one = p.takes.called.runs in
+      let two = q.takes.called.runs in
       let both : Ok after ≡ Ok after' = sym one ∙ ap (λ n. run n (entered m entry number)) same ∙ two in
       cc (both)
 
@@ -71,7 +69,7 @@ module _ {m : Machine} {entry number : ℕ} where
       FailsBy m entry number most_steps reason after' → ⊥
   returns_or_fails {after} after' reason p fails =
       let never : Ok 0 ≡ Err reason =
-      returned_fails m entry number p.steps most_steps after after' reason (Ok 0) p.called p.within fails in
+      returned_fails m entry number p.steps most_steps after after' reason (Ok 0) p.takes.called p.takes.within fails in
       cc (never)
 
 -- a call fails for one reason
@@ -234,7 +232,7 @@ module _ {file : RunnerState} {subtune calls : ℕ} {now : RunnerState} {before 
   pub line_over : (frames : ℕ) → calls ≤ frames → (machine : Machine) (last : List ℕ) →
       ReturnsTo now.machine (entry_of now calls) (accumulator_of subtune calls now.machine) last machine →
       {shown : SinkState} (fault : SinkFault) (it : Refusal) → IsOfSink fault it →
-      (fault ≡ sink.Failed → FailsIn (register_line calls last) after shown) →
+      (fault ≡ sink.Failed → PutFails (register_line calls last) after shown) →
       (fault ≡ sink.NoMemory → Appends [] after shown) →
       CallsEnd file subtune frames (last_of it) before shown
   line_over frames within machine last returns sink.Failed it is fails none =

@@ -1,8 +1,9 @@
 -- Sums of registers and counts of steps, a call and a subtune more at a time.
-use Rattle.std.proofs.Common.{◌≡◌, ℕ, zero, suc, ◌+◌, ◌*◌, ◌-◌, ◌%◌, ◌^◌, ◌≤◌, ◌<◌, List, [], ◌∷◌, ◌++◌, length, take, get_or, None, Ok, true, refl, sym, ap, ◌∙◌, subst, arith}
-use Rattle.std.specs.List.{sum_by, range_with_len}
+use Rattle.std.proofs.Common.{◌≡◌, ℕ, zero, suc, ◌+◌, ◌*◌, ◌-◌, ◌%◌, ◌^◌, ◌≤◌, ◌<◌, inl, inr, List, [], ◌∷◌, ◌++◌, length, take, get_or, slice_index, None, Ok, true, refl, sym, ap, ◌∙◌, subst, arith}
+use Rattle.std.specs.List.{sum, sum_by, range_with_len}
 use Rattle.std.proofs.Math.Seq.{take-length}
-use Rattle.std.proofs.lemmas.List.{take_more}
+use Rattle.std.proofs.lemmas.Bool.{cases_lt}
+use Rattle.std.proofs.lemmas.List.{take_more, length-append, get_or_append_left, get_or_push}
 use Rattle.std.proofs.lemmas.List.Sums.{sum_by_push}
 use Rattle.std.proofs.lemmas.List.FromFn.{map-range_with_len_more}
 use Rattle.song_model.specs.declared.songs.Song.{Song}
@@ -17,7 +18,7 @@ use Rattle.packed_form.specs.declared.packed_songs.PackedSong.{PackedSong}
 use Rattle.packed_form.specs.UsedSets.{UsedSets}
 use Rattle.song_pack.specs.Answers.{IsTooLong}
 use Rattle.song_gen.specs.GeneratedSong.{generated_song}
-use Rattle.song_gen.specs.GeneratedLaws.{HasShortPatterns, IsSmall}
+use Rattle.song_gen.specs.GeneratedLaws.{PatternsAreShort, IsSmall}
 use Rattle.psid.specs.declared.header.Psid.{Psid}
 use Rattle.psid.specs.Reading.{psid_read}
 use Rattle.playroutine.specs.Playback.{Playback, PlaysSubtune, PlayerStandsFor}
@@ -28,9 +29,9 @@ use Rattle.cpu6502.specs.declared.machine.Machine.{Machine}
 use Rattle.cpu6502.specs.declared.stop.CallStop.{CallStop}
 use Rattle.cpu6502.specs.Call.{FailsBy}
 use Rattle.sid_run.specs.State.{RunnerState, most_steps, sid_registers, loaded}
-use Rattle.goat_cli.specs.Calls.{entry_of, accumulator_of, FirstCalls}
+use Rattle.goat_cli.specs.Calls.{entry_of, accumulator_of, Takes, FirstCalls, FirstCallsTake}
 use Rattle.goat_cli.specs.Traces.{first_traces}
-use Rattle.goat_cli.specs.Selftest.{bytes_sum, calls_sum, subtunes_sum, register_sum, selftest_calls, Takes, TakesOneMore, FirstCallsTake, SubtuneTakes, SubtunesTake, TakesSteps}
+use Rattle.goat_cli.specs.Selftest.{calls_sum, subtunes_sum, register_sum, selftest_calls, CallsTake, SubtunesTake, TakesSteps}
 use Rattle.goat_cli.specs.Words.{Selftest}
 use Rattle.goat_cli.specs.Lines.{selftest_line}
 use Rattle.goat_cli.specs.Last.{Says}
@@ -38,8 +39,9 @@ use Rattle.goat_cli.specs.Outcome as outcome
 use Rattle.goat_cli.specs.Stands as stands
 use Rattle.goat_cli.specs.Stands.{FolderState, SinkState}
 use Rattle.goat_cli.specs.Packed.{IsWrittenFile}
-use Rattle.goat_cli.specs.Endings.{PacksSong, FirstCallsReturn, CallsTake, JobEnds}
+use Rattle.goat_cli.specs.Endings.{PacksSong, FirstCallsReturn, JobEnds}
 use Rattle.goat_cli.proofs.Told.{some_files, as_before, uncounted, stays_itself}
+use Rattle.goat_cli.proofs.RegisterLines.{traces_more}
 use Rattle.goat_cli.proofs.Ends.{has_last}
 use Rattle.goat_cli.proofs.Calls.{returned_or_stopped}
 use Rattle.goat_cli.proofs.Images.{length_is}
@@ -50,7 +52,7 @@ use Rattle.goat_cli.proofs.PlayedFiles.{written_files_are_packed, packed_files_p
 
 -- a byte more
 pub record BytesSoFar (bytes : List ℕ) (i sum : ℕ) : Type 0 where
-  pub is : sum ≡ bytes_sum (take i bytes)
+  pub is : sum ≡ sum (take i bytes)
   pub most : sum ≤ 255 * i
 
 pub no_bytes : (bytes : List ℕ) → BytesSoFar bytes 0 0
@@ -62,20 +64,20 @@ byte_more {bytes} {i} {sum} byte more so_far inside is small adds =
     let most = so_far.most in
     record {
       is = adds ∙ ap (λ (n : ℕ). n + byte) so_far.is ∙ sym (sum_by_push (λ n. n) (take i bytes) byte)
-          ∙ ap (λ (b : ℕ). bytes_sum (take i bytes ++ b ∷ [])) is
-          ∙ ap bytes_sum (sym (take_more bytes i byte inside));
+          ∙ ap (λ (b : ℕ). sum (take i bytes ++ b ∷ [])) is
+          ∙ ap sum (sym (take_more bytes i byte inside));
       most = omega (arith, most, small, adds);
     }
 
-pub all_bytes : {bytes : List ℕ} {i sum : ℕ} → BytesSoFar bytes i sum → length bytes ≡ i → sum ≡ bytes_sum bytes
+pub all_bytes : {bytes : List ℕ} {i sum : ℕ} → BytesSoFar bytes i sum → length bytes ≡ i → sum ≡ sum bytes
 all_bytes {bytes} {i} so_far all =
-    so_far.is ∙ ap (λ (n : ℕ). bytes_sum (take n bytes)) (sym all) ∙ ap bytes_sum (take-length bytes)
+    so_far.is ∙ ap (λ (n : ℕ). sum (take n bytes)) (sym all) ∙ ap sum (take-length bytes)
 
 -- the sum of the first calls of a subtune, which a player has played
 pub record SummedSoFar (song : Song) (k calls : ℕ) (player : Playback) (sum : ℕ) : Type 0 where
   pub stands : StandsAfter player song k no_options (calls - 1)
   pub is : sum ≡ calls_sum song k calls
-  pub most : sum ≤ 6375 * calls
+  pub most : sum ≤ 25 * 255 * calls
 
 pub none_summed : (song : Song) (k : ℕ) (player : Playback) → StandsAfter player song k no_options 0 →
     SummedSoFar song k 0 player 0
@@ -90,7 +92,7 @@ player_stands song k o player is plays stands =
 
 pub call_summed : {song : Song} {k calls : ℕ} {player : Playback} {sum : ℕ} (later : Playback) (registers : List ℕ)
     (own more : ℕ) → SummedSoFar song k calls player sum → registers ≡ trace_with no_options song k calls →
-    StandsAfter later song k no_options calls → own ≡ bytes_sum registers → own ≤ 6375 → more ≡ sum + own →
+    StandsAfter later song k no_options calls → own ≡ sum registers → own ≤ 25 * 255 → more ≡ sum + own →
     SummedSoFar song k (calls + 1) later more
 unfolding calls_sum
 call_summed {song} {k} {calls} {player} {sum} later registers own more so_far is stands own_is own_most adds =
@@ -100,23 +102,23 @@ call_summed {song} {k} {calls} {player} {sum} later registers own more so_far is
     record {
       stands = subst (StandsAfter later song k no_options) z stands;
       is = adds ∙ ap (λ (n : ℕ). n + own) so_far.is
-          ∙ ap (λ (n : ℕ). calls_sum song k calls + n) (own_is ∙ ap bytes_sum is)
-          ∙ sym (sum_by_push bytes_sum (first_traces no_options song k calls) (trace_with no_options song k calls))
-          ∙ ap (calls_sum song k) one;
+          ∙ ap (λ (n : ℕ). calls_sum song k calls + n) (own_is ∙ ap sum is)
+          ∙ sym (sum_by_push sum (first_traces no_options song k calls) (trace_with no_options song k calls))
+          ∙ ap (sum_by sum) (sym (traces_more no_options song k calls)) ∙ ap (calls_sum song k) one;
       most = omega (arith, most, own_most, adds);
     }
 
 -- the sum of the first subtunes
 pub record SubtunesSummed (song : Song) (count sum : ℕ) : Type 0 where
   pub is : sum ≡ subtunes_sum song count
-  pub most : sum ≤ 1918875 * count
+  pub most : sum ≤ 301 * 25 * 255 * count
 
 pub no_subtune_summed : (song : Song) → SubtunesSummed song 0 0
 unfolding subtunes_sum
 no_subtune_summed song = record { is = refl; most = omega arith }
 
 pub subtune_summed : {song : Song} {count sum : ℕ} (own more : ℕ) → SubtunesSummed song count sum →
-    own ≡ calls_sum song count selftest_calls → own ≤ 1918875 → more ≡ sum + own →
+    own ≡ calls_sum song count selftest_calls → own ≤ 301 * 25 * 255 → more ≡ sum + own →
     SubtunesSummed song (count + 1) more
 unfolding subtunes_sum
 subtune_summed {song} {count} {sum} own more so_far own_is own_most adds =
@@ -134,48 +136,53 @@ subtune_summed {song} {count} {sum} own more so_far own_is own_most adds =
 
 -- ---- steps
 
-pub steps_within : (file : RunnerState) (subtune calls steps : ℕ) (machine : Machine) →
-    FirstCallsTake file subtune calls steps machine → steps ≤ 200000 * calls
-steps_within file subtune zero steps machine take = (let none = take.0 in omega (arith, none))
-steps_within file subtune (suc calls) steps machine take =
-    let earlier = steps_within file subtune calls take.earlier take.before take.took in
-    let own = take.takes.within in
-    let sum = take.steps_are in
-    omega (arith, earlier, own, sum)
-
--- they are the first calls of the file
-record Shown (file : RunnerState) (subtune calls : ℕ) (machine : Machine) : Type 0 where
+-- they are the first calls of the file, and none takes more than a call may
+record Shown (file : RunnerState) (subtune calls : ℕ) (each : List ℕ) (machine : Machine) : Type 0 where
   registers : List (List ℕ)
   first : FirstCalls file subtune calls registers machine
+  most : sum each ≤ 200000 * calls
 
-shown : (file : RunnerState) (subtune calls steps : ℕ) (machine : Machine) →
-    FirstCallsTake file subtune calls steps machine → Shown file subtune calls machine
-shown file subtune zero steps machine take = record { registers = []; first = (refl, take.1) }
-shown file subtune (suc calls) steps machine take =
-    let earlier = shown file subtune calls take.earlier take.before take.took in
-    let last = sid_registers machine in
+shown : (file : RunnerState) (subtune calls : ℕ) (each : List ℕ) (machine : Machine) →
+    FirstCallsTake file subtune calls each machine → Shown file subtune calls each machine
+shown file subtune zero each machine take =
+    record { registers = []; first = (refl, take.1); most = rw take.0 (omega arith) }
+shown file subtune (suc calls) each machine (before_each, before, last, first, takes, are) =
+    let earlier = shown file subtune calls before_each before first in
+    let registers = sid_registers machine in
+    let total = ap sum are ∙ sum_by_push (λ n. n) before_each last in
+    let most = earlier.most in
+    let own = takes.within in
     record {
-      registers = earlier.registers ++ last ∷ [];
+      registers = earlier.registers ++ registers ∷ [];
       first = (
         earlier.registers,
-        take.before,
-        last,
+        before,
+        registers,
         earlier.first,
-        record { steps = take.last; within = take.takes.within; called = take.takes.called; registers_are = refl },
+        record { steps = last; takes = takes; registers_are = refl },
         refl,
       );
+      most = omega (arith, most, own, total);
     }
 
 -- what a runner has taken of a loaded file's calls
 pub record HasTaken (file : RunnerState) (subtune calls steps : ℕ) (now : RunnerState) : Type 0 where
-  pub take : FirstCallsTake file subtune calls steps now.machine
+  pub each : List ℕ
+  pub take : FirstCallsTake file subtune calls each now.machine
+  pub adds : steps ≡ sum each
   pub same_init : now.init ≡ file.init
   pub same_play : now.play ≡ file.play
   pub running : now.stopped ≡ None
 
 pub none_taken : (file : RunnerState) (subtune : ℕ) → file.stopped ≡ None → HasTaken file subtune 0 0 file
-none_taken file subtune running =
-    record { take = (refl, refl); same_init = refl; same_play = refl; running = running }
+none_taken file subtune running = record {
+  each = [];
+  take = (refl, refl);
+  adds = refl;
+  same_init = refl;
+  same_play = refl;
+  running = running;
+}
 
 entry_same : (now file : RunnerState) (call : ℕ) → now.init ≡ file.init → now.play ≡ file.play →
     entry_of now call ≡ entry_of file call
@@ -190,16 +197,14 @@ pub call_taken : {file now : RunnerState} {subtune calls steps : ℕ} (later : R
 call_taken {file} {now} {subtune} {calls} {steps} later own more so_far takes init play running adds =
     let one : suc calls ≡ calls + 1 = omega arith in
     let entry = entry_same now file calls so_far.same_init so_far.same_play in
-    let took : FirstCallsTake file subtune (suc calls) more later.machine = record {
-      earlier = steps;
-      before = now.machine;
-      took = so_far.take;
-      last = own;
-      takes = subst (λ e. Takes now.machine e (accumulator_of subtune calls now.machine) own later.machine) entry takes;
-      steps_are = adds;
-    } in
+    let moved =
+    subst (λ e. Takes now.machine e (accumulator_of subtune calls now.machine) own later.machine) entry takes in
+    let took : FirstCallsTake file subtune (suc calls) (so_far.each ++ own ∷ []) later.machine =
+    (so_far.each, now.machine, own, so_far.take, moved, refl) in
     record {
-      take = subst (λ n. FirstCallsTake file subtune n more later.machine) one took;
+      each = so_far.each ++ own ∷ [];
+      take = subst (λ n. FirstCallsTake file subtune n (so_far.each ++ own ∷ []) later.machine) one took;
+      adds = adds ∙ ap (λ n. n + own) so_far.adds ∙ sym (sum_by_push (λ n. n) so_far.each own);
       same_init = init ∙ so_far.same_init;
       same_play = play ∙ so_far.same_play;
       running = running;
@@ -210,7 +215,7 @@ pub none_fails : {file now : RunnerState} {subtune calls steps : ℕ} (all : ℕ
     FirstCallsReturn file subtune all → HasTaken file subtune calls steps now → calls < all →
     FailsBy now.machine (entry_of now calls) (accumulator_of subtune calls now.machine) most_steps reason after → ⊥
 none_fails {file} {now} {subtune} {calls} {steps} all after reason return so_far inside fails =
-    let before = shown file subtune calls steps now.machine so_far.take in
+    let before = shown file subtune calls so_far.each now.machine so_far.take in
     let entry = entry_same now file calls so_far.same_init so_far.same_play in
     returned_or_stopped file subtune all calls return.registers before.registers return.after reason return.first inside
     (record {
@@ -221,36 +226,81 @@ none_fails {file} {now} {subtune} {calls} {steps} all after reason return so_far
           (λ e. FailsBy now.machine e (accumulator_of subtune calls now.machine) most_steps reason after) entry fails;
     })
 
+pub few_taken : {file now : RunnerState} {subtune calls steps : ℕ} → HasTaken file subtune calls steps now →
+    calls ≤ selftest_calls → steps ≤ 301 * 200000
+few_taken {file} {now} {subtune} {calls} {steps} so_far most =
+    let within = (shown file subtune calls so_far.each now.machine so_far.take).most in
+    let adds = so_far.adds in
+    omega (arith, within, most, adds)
+
+-- all the first calls
+pub all_taken : {file now : RunnerState} {subtune calls steps : ℕ} → HasTaken file subtune calls steps now →
+    calls ≤ selftest_calls → selftest_calls ≤ calls → CallsTake file subtune selftest_calls steps
+all_taken {file} {now} {subtune} {calls} {steps} so_far most least =
+    let all : calls ≡ 301 = omega (arith, most, least) in
+    record {
+      each = so_far.each;
+      after = now.machine;
+      take = subst (λ n. FirstCallsTake file subtune n so_far.each now.machine) all so_far.take;
+      steps_are = so_far.adds;
+    }
+
 -- the steps of the first subtunes
 pub record HaveTaken (file : RunnerState) (count steps : ℕ) : Type 0 where
-  pub take : SubtunesTake file count steps
-  pub most : steps ≤ 60200000 * count
+  pub each : List ℕ
+  pub take : SubtunesTake file count each
+  pub adds : steps ≡ sum each
+  pub most : steps ≤ 301 * 200000 * count
 
 pub no_subtune_taken : (file : RunnerState) → HaveTaken file 0 0
-no_subtune_taken file = record { take = refl; most = omega arith }
+no_subtune_taken file = record {
+  each = [];
+  take = record { many = refl; take = λ subtune few. absurd (omega (arith, few)) };
+  adds = refl;
+  most = omega arith;
+}
 
 pub subtune_taken : {file : RunnerState} {count steps : ℕ} (own more : ℕ) → HaveTaken file count steps →
-    CallsTake file count selftest_calls own → own ≤ 60200000 → more ≡ steps + own → HaveTaken file (count + 1) more
+    CallsTake file count selftest_calls own → own ≤ 301 * 200000 → more ≡ steps + own → HaveTaken file (count + 1) more
 subtune_taken {file} {count} {steps} own more so_far calls few adds =
-    let one : suc count ≡ count + 1 = omega arith in
     let most = so_far.most in
-    let took : SubtunesTake file (suc count) more = record {
-      earlier = steps;
-      took = so_far.take;
-      own = own;
-      after = calls.after;
-      calls = calls.take;
-      steps_are = adds;
-    } in
+    let many = so_far.take.many in
+    let each = so_far.each ++ own ∷ [] in
     record {
-      take = subst (λ n. SubtunesTake file n more) one took;
-      most = omega (arith, most, few, adds);
+      each = each;
+      take = record {
+        many = length-append so_far.each (own ∷ []) ∙ ap (λ n. n + 1) many;
+        take = λ subtune inside.
+            elim (cases_lt subtune count) [
+              | inl below ↦
+                  subst (λ n. CallsTake file subtune selftest_calls n)
+                  (sym (get_or_append_left so_far.each (own ∷ []) 0 subtune (omega (arith, below, many))))
+                  (so_far.take.take subtune below)
+              | inr above ↦
+                  let here : count ≡ subtune = omega (arith, inside, above) in
+                  subst (λ n. CallsTake file n selftest_calls (slice_index each n)) here
+                  (subst (CallsTake file count selftest_calls) (sym (get_or_push so_far.each own 0 count many)) calls)
+            ];
+      };
+      adds = adds ∙ ap (λ n. n + own) so_far.adds ∙ sym (sum_by_push (λ n. n) so_far.each own);
+      most = omega (arith, most, adds, few);
     }
+
+-- all subtunes
+pub all_subtunes_taken : {file : RunnerState} {count steps : ℕ} (all : ℕ) → (so_far : HaveTaken file count steps) →
+    count ≤ all → all ≤ count → SubtunesTake file all so_far.each
+all_subtunes_taken {file} {count} {steps} all so_far most least =
+    let same : count ≡ all = omega (arith, most, least) in
+    subst (λ n. SubtunesTake file n so_far.each) same so_far.take
+
+pub few_subtunes_taken : {file : RunnerState} {count steps : ℕ} → HaveTaken file count steps → count ≤ 32 →
+    steps < 10 ^ 10
+few_subtunes_taken so_far few = (let most = so_far.most in omega (arith, most, few))
 
 -- ---- the packed file
 
 -- a short pattern isn't too long
-pub short_is_not_long : (song : Song) (used : UsedSets) (pattern n : ℕ) → HasShortPatterns song →
+pub short_is_not_long : (song : Song) (used : UsedSets) (pattern n : ℕ) → PatternsAreShort song →
     IsTooLong song used pattern n → ⊥
 short_is_not_long song used pattern n short long =
     let text = long.text in
@@ -297,29 +347,6 @@ file_is_read song file keeps written some =
     let is = written_files_are_packed song no_options 0x1000 0xFC file keeps at_1000 written in
     let play = packed_files_play song no_options file 1 0 is (omega arith) some in
     (play.0, play.1)
-
--- all the first calls
-pub all_taken : {file now : RunnerState} {subtune calls steps : ℕ} → HasTaken file subtune calls steps now →
-    calls ≤ selftest_calls → selftest_calls ≤ calls → CallsTake file subtune selftest_calls steps
-all_taken {file} {now} {subtune} {calls} {steps} so_far most least =
-    let all : calls ≡ 301 = omega (arith, most, least) in
-    record { after = now.machine; take = subst (λ n. FirstCallsTake file subtune n steps now.machine) all so_far.take }
-
-pub few_taken : {file now : RunnerState} {subtune calls steps : ℕ} → HasTaken file subtune calls steps now →
-    calls ≤ selftest_calls → steps ≤ 60200000
-few_taken {file} {now} {subtune} {calls} {steps} so_far most =
-    let within = steps_within file subtune calls steps now.machine so_far.take in omega (arith, within, most)
-
--- all subtunes
-pub all_subtunes_taken : {file : RunnerState} {count steps : ℕ} (all : ℕ) → HaveTaken file count steps → count ≤ all →
-    all ≤ count → SubtunesTake file all steps
-all_subtunes_taken {file} {count} {steps} all so_far most least =
-    let same : count ≡ all = omega (arith, most, least) in
-    subst (λ n. SubtunesTake file n steps) same so_far.take
-
-pub few_subtunes_taken : {file : RunnerState} {count steps : ℕ} → HaveTaken file count steps → count ≤ 32 →
-    steps < 10 ^ 10
-few_subtunes_taken so_far few = (let most = so_far.most in omega (arith, most, few))
 
 -- ---- how the job ends
 

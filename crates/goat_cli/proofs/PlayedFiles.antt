@@ -33,6 +33,7 @@ use Rattle.goat_cli.specs.Due.{IsDue}
 use Rattle.goat_cli.specs.Traces.{first_traces}
 use Rattle.goat_cli.specs.Answers.{IsPackedPsid, RunsPacked}
 use Rattle.goat_cli.specs.Laws.{WrittenFilesArePacked, PackedFilesPlay}
+use Rattle.goat_cli.proofs.RegisterLines.{traces_more}
 use Rattle.goat_cli.proofs.Passes.{met_passes}
 
 -- what a call of a faithful image leaves is what a call of a loaded file returns with
@@ -42,8 +43,7 @@ returned_by : (image : List ℕ) (address zero_page : ℕ) (o : Options) (machin
     ReturnsTo machine entry number registers after
 returned_by image address zero_page o machine entry number registers after leaves = record {
   steps = leaves.steps;
-  within = leaves.within;
-  called = leaves.called;
+  takes = record { called = leaves.called; within = leaves.within };
   registers_are = leaves.registers_are;
 }
 
@@ -71,7 +71,8 @@ module _ (file : RunnerState) (image : List ℕ) (address zero_page : ℕ) (song
       let z : suc n + suc i ≡ n + suc (suc i) = omega arith in
       rw z
       (play_on n (suc i) after there
-      (first_traces o song k (suc i), before, trace_with o song k (suc i), first, returns, refl) next.goes_on)
+      (first_traces o song k (suc i), before, trace_with o song k (suc i), first, returns, traces_more o song k (suc i))
+      next.goes_on)
 
   -- init, and the plays after it
   plays_all : (frames : ℕ) → IsMachine file.machine → k < 256 → (after : Machine) →

@@ -8,7 +8,7 @@ use Rattle.goat_cli.specs.Last.{Last, Says, SaysNothing, SinkFailed, Wants}
 use Rattle.goat_cli.specs.Stands as stands
 use Rattle.goat_cli.specs.Stands.{FolderState, SinkState, Account, Counted, Appends, TellsWant, Stands, RunStands}
 use Rattle.goat_cli.specs.Endings as ends
-use Rattle.goat_cli.specs.Endings.{IsOver, RunEnds, Prints}
+use Rattle.goat_cli.specs.Endings.{IsOver, RunEnds, PrintsLast}
 use Rattle.goat_cli.proofs.Told.{some_files, stays_itself, appends_both, fails_then, tells_then}
 
 concat-snoc : (lines : List (List ℕ)) (line : List ℕ) → concat (lines ++ line ∷ []) ≡ concat lines ++ line
@@ -24,7 +24,7 @@ module _ {words : List (List ℕ)} {files : Files} {answer : ℕ} {folder after 
       stands.whole lines (subst (λ n. Account words files n lines folder.told after.told) (sym is) account)
       (subst (λ n. Counted n folder.counts after.counts) (sym is) counted) appends
 
-  stands_then : (t : SinkState) (last : Last) → IsOver words files last folder after s t → Prints last answer t u →
+  stands_then : (t : SinkState) (last : Last) → IsOver words files last folder after s t → PrintsLast last answer t u →
       Stands words files answer folder after s u
   stands_then t (Says status line) over (ends.whole is appends) =
       let text =
@@ -49,7 +49,7 @@ module _ {words : List (List ℕ)} {files : Files} {answer : ℕ} {folder after 
   stands_then t Wants (ends.first stays appends) tells = stands.wanting_first stays (tells_then appends tells)
 
 pub run_stands : {words : List (List ℕ)} {answer : ℕ} {folder after : FolderState} {s t u : SinkState} (last : Last) →
-    RunEnds words last folder after s t → Prints last answer t u → RunStands words answer folder after s u
+    RunEnds words last folder after s t → PrintsLast last answer t u → RunStands words answer folder after s u
 run_stands {t} last run prints = record {
   files = run.files;
   are_files = run.are_files;

@@ -1,9 +1,10 @@
 -- The lines of calls, one more after the other.
-use Rattle.std.proofs.Common.{◌≡◌, ℕ, zero, suc, ◌+◌, ◌<◌, inl, inr, List, [], ◌∷◌, ◌++◌, length, refl, ap, ◌∙◌, arith, add-one}
+use Rattle.std.proofs.Common.{◌≡◌, ℕ, zero, suc, ◌+◌, ◌<◌, inl, inr, List, [], ◌∷◌, ◌++◌, length, refl, ap, ◌∙◌, arith}
 use Rattle.std.proofs.lemmas.Bool.{cases_lt}
-use Rattle.std.proofs.lemmas.List.{append-nil, append_assoc, length-append}
+use Rattle.std.proofs.lemmas.List.{append-nil, append_assoc, length-map}
 use Rattle.std.proofs.lemmas.List.Folds.{concat-append}
-use Rattle.std.specs.List.{concat}
+use Rattle.std.proofs.lemmas.List.FromFn.{length-range_with_len, map-range_with_len_more}
+use Rattle.std.specs.List.{concat, range_with_len}
 use Rattle.song_model.specs.declared.songs.Song.{Song}
 use Rattle.play_model.specs.declared.options.Options.{Options}
 use Rattle.play_model.specs.Frame.{trace_with}
@@ -37,11 +38,28 @@ text_more {calls} registers last many =
 -- ---- traces
 
 module _ (o : Options) (song : Song) (k : ℕ) where
-  pub as_many_traces : (calls : ℕ) → length (first_traces o song k calls) ≡ calls
-  as_many_traces zero = refl
-  as_many_traces (suc calls) =
-      length-append (first_traces o song k calls) (trace_with o song k calls ∷ [])
-      ∙ ap (λ n. n + 1) (as_many_traces calls) ∙ add-one calls
+  as_many_traces : (calls : ℕ) → length (first_traces o song k calls) ≡ calls
+  as_many_traces calls = length-map (range_with_len 0 calls) (trace_with o song k) ∙ length-range_with_len 0 calls
+
+  pub traces_more : (calls : ℕ) →
+      first_traces o song k (suc calls) ≡ first_traces o song k calls ++ trace_with o song k calls ∷ []
+  traces_more calls =
+      let one : suc calls ≡ calls + 1 = omega arith in
+      ap (first_traces o song k) one ∙ map-range_with_len_more (trace_with o song k) 0 calls calls (omega arith)
+
+  trace_lines_more : (calls : ℕ) →
+      register_lines (first_traces o song k (suc calls)) ≡
+      register_lines (first_traces o song k calls) ++ register_line calls (trace_with o song k calls) ∷ []
+  trace_lines_more calls =
+      ap register_lines (traces_more calls)
+      ∙ lines_more (first_traces o song k calls) (trace_with o song k calls) (as_many_traces calls)
+
+  pub trace_text_more : (calls : ℕ) →
+      concat (register_lines (first_traces o song k (suc calls))) ≡
+      concat (register_lines (first_traces o song k calls)) ++ register_line calls (trace_with o song k calls)
+  trace_text_more calls =
+      ap (λ traces. concat (register_lines traces)) (traces_more calls)
+      ∙ text_more (first_traces o song k calls) (trace_with o song k calls) (as_many_traces calls)
 
   -- the lines that come after those of the first calls and the next one
   pub record HasLater (calls all : ℕ) : Type 0 where
@@ -58,7 +76,7 @@ module _ (o : Options) (song : Song) (k : ℕ) where
         record {
           later = rest.later ++ register_line all last ∷ [];
           lines_are =
-              lines_more (first_traces o song k all) last (as_many_traces all)
+              trace_lines_more all
               ∙ ap (λ lines. lines ++ register_line all last ∷ []) rest.lines_are
               ∙ append_assoc (register_lines (first_traces o song k calls))
               (register_line calls (trace_with o song k calls) ∷ rest.later) (register_line all last ∷ []);
@@ -66,9 +84,5 @@ module _ (o : Options) (song : Song) (k : ℕ) where
     | inr after ↦
         let same : all ≡ calls = omega (arith, after, below) in
         rw same
-        (record {
-          later = [];
-          lines_are = lines_more (first_traces o song k calls) (trace_with o song k calls)
-              (as_many_traces calls);
-        })
+        (record { later = []; lines_are = trace_lines_more calls })
   ]

@@ -13,8 +13,8 @@ use Rattle.goat_cli.specs.RegisterText.{register_line, register_lines}
 use Rattle.goat_cli.specs.Traces.{first_traces}
 use Rattle.goat_cli.specs.Last.{SaysNothing, last_of, IsOfSink}
 use Rattle.goat_cli.specs.Stands.{SinkState, Appends}
-use Rattle.goat_cli.specs.Endings.{LinesEnd, FailsIn, shown, cut, unsaid}
-use Rattle.goat_cli.proofs.RegisterLines.{text_more, as_many_traces, has_later}
+use Rattle.goat_cli.specs.Endings.{LinesEnd, PutFails, shown, cut, unsaid}
+use Rattle.goat_cli.proofs.RegisterLines.{trace_text_more, has_later}
 use Rattle.goat_cli.proofs.Told.{appends_nothing, appends_both, appends_none, fails_then}
 
 -- the lines of the first calls are printed, and the player stands after the last of them
@@ -34,26 +34,25 @@ module _ {song : Song} {k : ℕ} {o : Options} {calls : ℕ} {player : Playback}
       StandsAfter later song k o calls → Appends (register_line calls registers) after told →
       TracedSoFar song k o (suc calls) later before told
   traced_on later registers {told} is stands appends =
-      let last = trace_with o song k calls in
       let line = subst (λ r. Appends (register_line calls r) after told) is appends in
       let z : suc calls - 1 ≡ calls = omega arith in
       record {
         stands = rw z stands;
         printed =
             subst (λ text. Appends text before told)
-            (sym (text_more (first_traces o song k calls) last (as_many_traces o song k calls)))
+            (sym (trace_text_more o song k calls))
             (appends_both so_far.printed line);
       }
 
   -- the line of a call was not put
   pub trace_cut : (all : ℕ) → calls < all → (registers : List ℕ) → registers ≡ trace_with o song k calls →
       {told : SinkState} (fault : SinkFault) (it : Refusal) → IsOfSink fault it →
-      (fault ≡ sink.Failed → FailsIn (register_line calls registers) after told) →
+      (fault ≡ sink.Failed → PutFails (register_line calls registers) after told) →
       (fault ≡ sink.NoMemory → Appends [] after told) →
       LinesEnd (register_lines (first_traces o song k all)) (last_of it) before told
   trace_cut all below registers same {told} sink.Failed it is fails none =
       let rest = has_later o song k calls all below in
-      let failing = subst (λ r. FailsIn (register_line calls r) after told) same (fails refl) in
+      let failing = subst (λ r. PutFails (register_line calls r) after told) same (fails refl) in
       rw is (cut (register_lines (first_traces o song k calls)) rest.later
       (register_line calls (trace_with o song k calls)) failing.kept rest.lines_are refl
       (fails_then so_far.printed failing.fails))

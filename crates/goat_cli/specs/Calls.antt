@@ -19,22 +19,35 @@ abbrev pub accumulator_of : ℕ → ℕ → Machine → ℕ
 accumulator_of subtune zero machine = subtune
 accumulator_of subtune (suc call) machine = machine.cpu.a
 
--- a call returns within the most steps that a call may take, in a machine with these registers of the SID
+-- a call returns after so many steps, which are no more than a call may take
+pub record Takes (machine : Machine) (entry number steps : ℕ) (after : Machine) : Type 0 where
+  pub called : Called machine entry number steps after
+  pub within : steps ≤ MOST_STEPS
+
+-- a call returns, in a machine with these registers of the SID
 pub record ReturnsTo (machine : Machine) (entry number : ℕ) (registers : List ℕ) (after : Machine) : Type 0 where
   pub steps : ℕ
-  pub within : steps ≤ MOST_STEPS
-  pub called : Called machine entry number steps after
+  pub takes : Takes machine entry number steps after
   pub registers_are : sid_registers after ≡ registers
 
--- the first calls of a loaded file return, this many of them: the registers after each of them, and the machine after
--- the last
+-- the first calls of a loaded file tell something each, this many of them: what they tell, in order, and the machine
+-- after the last
+abbrev pub CallsTell : {A : Type 0} → (Machine → ℕ → ℕ → A → Machine → Type 0) → RunnerState → ℕ → ℕ → List A →
+    Machine → Type 0
+CallsTell Tells file subtune zero told machine = (told ≡ []) × (machine ≡ file.machine)
+CallsTell {A} Tells file subtune (suc call) told machine =
+    (earlier : List A) × (before : Machine) × (last : A) ×
+    CallsTell Tells file subtune call earlier before ×
+    Tells before (entry_of file call) (accumulator_of subtune call before) last machine ×
+    (told ≡ earlier ++ last ∷ [])
+
+-- they return, and leave these registers
 abbrev pub FirstCalls : RunnerState → ℕ → ℕ → List (List ℕ) → Machine → Type 0
-FirstCalls file subtune zero registers machine = (registers ≡ []) × (machine ≡ file.machine)
-FirstCalls file subtune (suc call) registers machine =
-    (earlier : List (List ℕ)) × (before : Machine) × (last : List ℕ) ×
-    FirstCalls file subtune call earlier before ×
-    ReturnsTo before (entry_of file call) (accumulator_of subtune call before) last machine ×
-    (registers ≡ earlier ++ last ∷ [])
+FirstCalls file subtune calls registers machine = CallsTell ReturnsTo file subtune calls registers machine
+
+-- and they take these steps
+abbrev pub FirstCallsTake : RunnerState → ℕ → ℕ → List ℕ → Machine → Type 0
+FirstCallsTake file subtune calls steps machine = CallsTell Takes file subtune calls steps machine
 
 -- the calls before this one return and leave these registers, and this one does not return, for this reason
 pub record MeetsStopAt (file : RunnerState) (subtune call : ℕ) (registers : List (List ℕ))

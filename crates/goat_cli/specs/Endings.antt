@@ -14,7 +14,6 @@ use Rattle.cpu6502.specs.declared.machine.Machine.{Machine}
 use Rattle.cpu6502.specs.declared.stop.CallStop.{CallStop}
 use Rattle.sid_run.specs.State.{RunnerState}
 use Rattle.goat_cli.specs.Calls.{FirstCalls, MeetsStopAt}
-use Rattle.goat_cli.specs.Selftest.{FirstCallsTake}
 use Rattle.goat_cli.specs.RegisterText.{register_lines}
 use Rattle.goat_cli.specs.Lines.{missing_line, too_long_line, read_fault_line, write_fault_line, script_line, stop_line, wrote_line}
 use Rattle.goat_cli.specs.Last.{Last, Says, SaysNothing, SinkFailed, Wants}
@@ -104,7 +103,7 @@ pub data WriteEnds (name bytes : List ℕ) (before after : FolderState) (last : 
 -- ---- lines one after the other
 
 -- the put of these bytes failed
-pub record FailsIn (bytes : List ℕ) (before after : SinkState) : Type 0 where
+pub record PutFails (bytes : List ℕ) (before after : SinkState) : Type 0 where
   pub kept : ℕ
   pub fails : FailsAfter (take kept bytes) before after
 
@@ -140,11 +139,6 @@ pub record FirstCallsReturn (file : RunnerState) (subtune calls : ℕ) : Type 0 
   pub registers : List (List ℕ)
   pub after : Machine
   pub first : FirstCalls file subtune calls registers after
-
--- they take these steps altogether
-pub record CallsTake (file : RunnerState) (subtune calls steps : ℕ) : Type 0 where
-  pub after : Machine
-  pub take : FirstCallsTake file subtune calls steps after
 
 -- ---- a run but for its last line
 
@@ -219,8 +213,8 @@ pub record PrintsNothing (status answer : ℕ) (before after : SinkState) : Type
   pub same : after ≡ before
 
 -- what became of the last line
-abbrev pub Prints : Last → ℕ → SinkState → SinkState → Type 0
-Prints (Says status line) answer before after = PrintsLine status line answer before after
-Prints SaysNothing answer before after = PrintsNothing 0 answer before after
-Prints SinkFailed answer before after = PrintsNothing 10 answer before after
-Prints Wants answer before after = TellsWant [] answer before after
+abbrev pub PrintsLast : Last → ℕ → SinkState → SinkState → Type 0
+PrintsLast (Says status line) answer before after = PrintsLine status line answer before after
+PrintsLast SaysNothing answer before after = PrintsNothing 0 answer before after
+PrintsLast SinkFailed answer before after = PrintsNothing 10 answer before after
+PrintsLast Wants answer before after = TellsWant [] answer before after

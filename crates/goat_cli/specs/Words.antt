@@ -35,8 +35,8 @@ abbrev pub frame_limit : ℕ
 frame_limit = 100000
 
 -- the greatest number that a song may be made from: of 64 bits
-abbrev pub seed_limit : ℕ
-seed_limit = 2 ^ 64 - 1
+abbrev pub song_number_limit : ℕ
+song_number_limit = 2 ^ 64 - 1
 
 -- the greatest number of a subtune that may be asked for
 abbrev pub subtune_limit : ℕ
@@ -116,7 +116,7 @@ pub record AreRunArguments (arguments : List (List ℕ)) (input : List ℕ) (sub
 pub record AreSelftestArguments (arguments : List (List ℕ)) (number : ℕ) : Type 0 where
   pub number_word : List ℕ
   pub form : arguments ≡ number_word ∷ []
-  pub number_spelled : IsNumberWord seed_limit number_word number
+  pub number_spelled : IsNumberWord song_number_limit number_word number
 
 -- the numbers of a job are allowed: an image can stand at the address and have the two bytes of page 0, and there are
 -- at most 100,000 frames

@@ -5,15 +5,16 @@
 //! status comes only where its cause does.
 //!
 //! Every song is copied, edited and checked. Those that can be played are traced, and packed with a player of their own.
-//! PSID files are run.
+//! PSID files are run. A song that is made from a number is traced, packed and run.
 //!
 //! It stands on `goat_io` for folders and sinks, on `gts5` and `song_model` for the song, on `edit_history` and
 //! `edit_script` for editing it, on `usage` for what it uses, on `play_model` for what it sounds like, on `playroutine`
-//! for playing it, on `song_pack` and `player_build` for packing it, on `images` for what an image is to do, and on
-//! `psid`, `sid_run` and `cpu6502` for PSID files and their calls.
+//! for playing it, on `song_pack` and `player_build` for packing it, on `images` for what an image is to do, on `psid`,
+//! `sid_run` and `cpu6502` for PSID files and their calls, and on `song_gen` for songs that are made from numbers.
 #![tactic(auto)]
 
 mod arguments;
+mod calling;
 mod commands;
 /// Facts about the definitions.
 pub mod claims;

@@ -1,22 +1,20 @@
 //! What a song leaves in the SID's registers, added up, and the steps that the machine makes in playing its packed file.
 
-ghost use Rattle.std.specs.Prelude.{◌≡◌, ℕ, ◌+◌, ◌*◌, ◌%◌, ◌^◌, ◌<◌, ◌≤◌, true, None, length, IfOk, Ok};
+ghost use Rattle.std.specs.Prelude.{◌≡◌, ◌+◌, ◌*◌, ◌^◌, ◌<◌, ◌≤◌, true, None, length, sum, IfOk, Ok};
 ghost use Rattle.song_model.specs.Limits.{KeepsLimits};
 ghost use Rattle.song_model.specs.LookUp.{playable_subtunes};
 ghost use Rattle.play_model.specs.State.{no_options};
 ghost use Rattle.play_model.specs.Playable.{IsPlayable};
-ghost use Rattle.usage.specs.Parts.{AreUsedParts};
-ghost use Rattle.song_gen.specs.GeneratedLaws.{HasShortPatterns, IsSmall};
+ghost use Rattle.song_gen.specs.GeneratedLaws.{PatternsAreShort, IsSmall};
 ghost use Rattle.psid.specs.declared.header.Psid.{Psid as File};
 ghost use Rattle.psid.specs.Reading.{psid_read};
 ghost use Rattle.sid_run.specs.State.{loaded};
 ghost use Rattle.player_build.specs.Built.{IsBuild};
 ghost use Rattle.goat_cli.specs.Packed.{IsWrittenFile};
-ghost use Rattle.goat_cli.specs.Endings.{PacksSong, FirstCallsReturn, CallsTake};
-ghost use Rattle.goat_cli.specs.Selftest.{bytes_sum, calls_sum, subtunes_sum, register_sum, selftest_calls, TakesSteps};
+ghost use Rattle.goat_cli.specs.Endings.{PacksSong, FirstCallsReturn};
+ghost use Rattle.goat_cli.specs.Selftest.{calls_sum, register_sum, selftest_calls, CallsTake, TakesSteps};
 
-use crate::commands::run::next_call;
-use crate::commands::trace::next_frame;
+use crate::calling::{next_call, next_frame};
 use crate::packed::packed_file;
 use crate::packing::place_of;
 use base::NoMemory;
@@ -42,8 +40,8 @@ const ZERO_PAGE: u8 = 0xfc;
 
 /// The sum of the registers.
 fn bytes_sum(registers: &[u8; 25]) -> u64
-    ensures sum { result ≡ bytes_sum registers.now }
-    ensures most { result ≤ 6375 }
+    ensures sum { result ≡ sum registers.now }
+    ensures most { result ≤ 25 * 255 }
 {
     let mut sum = 0;
     for register in registers {
@@ -57,7 +55,7 @@ fn subtune_sum(song: &Song, subtune: u8) -> u64
     requires playable { IsPlayable song.now }
     requires there { subtune < length (playable_subtunes song.now) }
     ensures sum { result ≡ calls_sum song.now subtune selftest_calls }
-    ensures most { result ≤ 1918875 }
+    ensures most { result ≤ 301 * 25 * 255 }
 {
     let Ok(mut player) = start(song, subtune, Options::none()) else {
         unreachable!()
@@ -89,7 +87,7 @@ pub fn register_sum(song: &Song) -> u32
 fn short_song(alloc: Global, song: &Song) -> Result<PackedSong, NoMemory>
     requires limits { KeepsLimits song.now }
     requires playable { IsPlayable song.now }
-    requires short { HasShortPatterns song.now }
+    requires short { PatternsAreShort song.now }
     ensures { IfOk result (λ packed. PacksSong packed song.now) }
 {
     let Ok(parts) = usage(song) else {
@@ -130,7 +128,7 @@ fn small_image(alloc: Global, song: &Song, packed: &PackedSong) -> Result<Image,
 pub fn generated_file(alloc: Global, song: &Song) -> Result<Vec<u8>, NoMemory>
     requires limits { KeepsLimits song.now }
     requires playable { IsPlayable song.now }
-    requires short { HasShortPatterns song.now }
+    requires short { PatternsAreShort song.now }
     requires small { IsSmall song.now }
     ensures { IfOk result (λ file. IsWrittenFile true 0x1000 0xFC song.now no_options file.items) }
 {
@@ -144,7 +142,7 @@ fn count_steps(runner: &mut Runner, subtune: u8) -> u64
     requires running { runner.old.stopped ≡ None }
     requires returns { FirstCallsReturn runner.old subtune selftest_calls }
     ensures take { CallsTake runner.old subtune selftest_calls result }
-    ensures most { result ≤ 60200000 }
+    ensures most { result ≤ 301 * 200000 }
 {
     let mut steps = 0;
     for call in 0..CALLS {
@@ -165,7 +163,7 @@ fn subtune_steps(alloc: Global, psid: &Psid, subtune: u8) -> Result<u64, NoMemor
     requires room { psid.now.load + length psid.now.image ≤ 65536 }
     requires returns { FirstCallsReturn (loaded psid.now) subtune selftest_calls }
     ensures take { IfOk result (CallsTake (loaded psid.now) subtune selftest_calls) }
-    ensures most { IfOk result (λ steps. steps ≤ 60200000) }
+    ensures most { IfOk result (λ steps. steps ≤ 301 * 200000) }
 {
     let mut runner = Runner::load(alloc, psid)?;
     Ok(count_steps(&mut runner, subtune))

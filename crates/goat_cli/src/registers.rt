@@ -3,7 +3,7 @@
 ghost use Rattle.std.specs.Prelude.{[], OnOk, IsErrOf};
 ghost use Rattle.goat_cli.specs.RegisterText.{register_line};
 ghost use Rattle.goat_cli.specs.Stands.{sink_state, Appends};
-ghost use Rattle.goat_cli.specs.Endings.{FailsIn};
+ghost use Rattle.goat_cli.specs.Endings.{PutFails};
 
 use crate::line::Line;
 use goat_io::{Sink, SinkFault};
@@ -22,7 +22,7 @@ pub fn put_registers<K: Sink>(
     ensures ok { OnOk result (Appends (register_line call registers.now)
         (sink_state (K.written out.old) (K.faults out.old))
         (sink_state (K.written out.new) (K.faults out.new))) }
-    ensures failed { IsErrOf result SinkFault.Failed → FailsIn (register_line call registers.now)
+    ensures failed { IsErrOf result SinkFault.Failed → PutFails (register_line call registers.now)
         (sink_state (K.written out.old) (K.faults out.old))
         (sink_state (K.written out.new) (K.faults out.new)) }
     ensures no_memory { IsErrOf result SinkFault.NoMemory → Appends []

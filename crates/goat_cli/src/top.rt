@@ -13,7 +13,7 @@ ghost use Rattle.goat_cli.specs.Traces.{first_traces};
 ghost use Rattle.play_model.specs.declared.options.Options.{Options};
 ghost use Rattle.goat_cli.specs.Last.{last_word};
 ghost use Rattle.goat_cli.specs.Message.{line_of};
-ghost use Rattle.goat_cli.specs.Endings.{RunEnds, Prints, PrintsLine};
+ghost use Rattle.goat_cli.specs.Endings.{RunEnds, PrintsLast, PrintsLine};
 
 use crate::commands::perform;
 use crate::line::Line;
@@ -110,7 +110,7 @@ fn run<'a, F: Folder, K: Sink>(
 
 /// Prints the last line, and answers the status.
 fn print<K: Sink>(ended: &Result<Report, Refusal>, line: &mut Line, out: &mut K) -> u8
-    ensures { Prints (last_word ended.now) result
+    ensures { PrintsLast (last_word ended.now) result
         (sink_state (K.written out.old) (K.faults out.old))
         (sink_state (K.written out.new) (K.faults out.new)) }
 {

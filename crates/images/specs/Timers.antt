@@ -10,7 +10,8 @@ timer_low = 0xDC04
 abbrev pub timer_high : ℕ
 timer_high = 0xDC05
 
--- the cycles of a picture, parted by the play calls; the timer counts one more
+-- the cycles from one play call to the next: those of a picture, divided by the play calls in it and rounded down; less 1,
+-- since the timer counts one cycle more than its value
 abbrev pub timer_value : ℕ → ℕ
 timer_value speed = 19656 / speed - 1
 

@@ -73,7 +73,8 @@ fn voice(alloc: Global, speed: u8) -> Result<Block, NoMemory>
     )
 }
 
-/// Sets the timer to the cycles of a picture, parted by the play calls, less 1, which the timer counts itself.
+/// Sets the timer to the cycles of a picture, divided by the play calls and rounded down, less 1: the timer counts one
+/// cycle more than its value.
 fn timer(alloc: Global, speed: u8) -> Result<Block, NoMemory>
     requires { IsSpeed speed }
     ensures { IfOk result (λ block. tree_of block ≡ timer_tree speed) }

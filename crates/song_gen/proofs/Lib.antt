@@ -7,5 +7,5 @@ mod Playable
 mod Small
 -- What upper crates may cite.
 pub mod Laws
--- Songs that are worked by hand.
+-- Draws of two songs.
 mod WorkedSongs

@@ -1,5 +1,5 @@
 -- The limits of rows, patterns, orderlists and instruments that are drawn.
-use Rattle.std.proofs.Common.{◌≡◌, ℕ, zero, suc, ◌+◌, ◌-◌, ◌*◌, ◌/◌, ◌%◌, ◌<◌, ◌≤◌, ◌^◌, ◌==◌, ◌&&◌, nat_lt, Bool, true, false, if◌then◌else◌, List, [], ◌∷◌, length, map, replicate, All, refl, sym, ap, ◌∙◌, subst, arith}
+use Rattle.std.proofs.Common.{◌≡◌, ℕ, ◌+◌, ◌*◌, ◌%◌, ◌<◌, ◌≤◌, ◌==◌, ◌&&◌, nat_lt, Bool, true, false, if◌then◌else◌, List, [], ◌∷◌, length, map, replicate, All, refl, ◌∙◌, arith}
 use Rattle.std.specs.List.{range_with_len, list_all}
 use Rattle.std.proofs.Math.Nat.{mod-lt}
 use Rattle.std.proofs.lemmas.Bool.{and_parts, ltb-true}
@@ -7,15 +7,13 @@ use Rattle.std.proofs.lemmas.List.{length-map, length-replicate}
 use Rattle.std.proofs.lemmas.List.FromFn.{length-range_with_len}
 use Rattle.std.proofs.lemmas.List.Elements.{All-nil, All-cons, All-map, All-replicate}
 use Rattle.song_model.specs.declared.rows.Row.{Row}
-use Rattle.song_model.specs.declared.orders.Order.{Order}
 use Rattle.song_model.specs.Silence.{rest_row}
-use Rattle.song_model.specs.declared.orders.Subtune.{Subtune}
 use Rattle.song_model.specs.declared.tables.TableRow.{TableRow}
 use Rattle.song_model.specs.Basics.{IsByte, KeepsLimit}
 use Rattle.song_model.specs.Limits.{IsText, IsOrder, IsSubtune, IsInstrument, IsTableRow, IsTable}
 use Rattle.song_model.specs.PatternLimits.{IsRow, IsPattern}
 use Rattle.song_model.specs.OrderLimits.{AreEntries}
-use Rattle.song_gen.specs.Draws.{after, below, draw}
+use Rattle.song_gen.specs.Draws.{after, draw}
 use Rattle.song_gen.specs.GeneratedSong.{wave_rows, pulse_rows, filter_rows, speed_rows, instrument_from, instruments_from, keyoff_row, row_from, behind_rows, pattern_from, patterns_from, order_from, subtune_from, subtunes_from, behind_instruments, behind_patterns, generated_song}
 use Rattle.song_gen.specs.GeneratedLaws.{GeneratedSongsKeepLimits}
 

@@ -1,33 +1,31 @@
 -- Generated songs can be played: their orderlists name stored patterns and go on for ever, and their programs stay in the
 -- tables.
-use Rattle.std.proofs.Common.{◌≡◌, ◌≢◌, ℕ, zero, suc, ◌+◌, ◌-◌, ◌==◌, ◌*◌, ◌<◌, ◌≤◌, ◌⊎◌, Bool, true, false, not, nat_le, ◌&&◌, if◌then◌else◌, List, [], ◌∷◌, length, drop, get_or, map, filter, All, Any, Option, Some, None, slice_get, inl, inr, refl, sym, ap, ◌∙◌, subst, arith, Contains}
+use Rattle.std.proofs.Common.{◌≡◌, ◌≢◌, ℕ, zero, suc, ◌+◌, ◌-◌, ◌==◌, ◌*◌, ◌<◌, ◌≤◌, ◌⊎◌, Bool, true, false, not, nat_le, ◌&&◌, if◌then◌else◌, List, [], length, drop, get_or, All, Option, Some, None, slice_get, inl, inr, refl, sym, ap, ◌∙◌, subst, arith}
 use Rattle.std.specs.List.{range_with_len, list_all}
 use Rattle.std.proofs.lemmas.Bool.{and_parts, leb-true}
 use Rattle.std.proofs.lemmas.List.{length-drop, get_or-drop, length-map}
 use Rattle.std.proofs.lemmas.List.FromFn.{length-range_with_len, get_or-map-range_with_len}
 use Rattle.std.proofs.lemmas.List.Elements.{All-contains, All-map, All-filter}
 use Rattle.std.proofs.lemmas.Option.{get_or_from_slice_get, slice_get_within}
-use Rattle.base.proofs.Laws.{same_some, All-get_or_any}
+use Rattle.base.proofs.Laws.{All-get_or_any}
 use Rattle.song_model.specs.declared.rows.Row.{Row}
 use Rattle.song_model.specs.declared.orders.Order.{Order}
 use Rattle.song_model.specs.declared.orders.Subtune.{Subtune}
-use Rattle.song_model.specs.declared.instruments.Instrument.{Instrument}
 use Rattle.song_model.specs.declared.tables.TableRow.{TableRow}
 use Rattle.song_model.specs.declared.tables.TableName.{TableName}
 use Rattle.song_model.specs.declared.tables.TableName.TheVariants.{Wave, Pulse, Filter, Speed}
 use Rattle.song_model.specs.declared.songs.Song.{Song}
-use Rattle.song_model.specs.Endless.{IsPatternByte, IsEndless}
+use Rattle.song_model.specs.Endless.{IsEndless}
 use Rattle.song_model.specs.LookUp.{numbered, zero_table_row, instrument_at, table_of, table_row, pattern_at, order_of, is_playable_subtune, playable_subtunes}
 use Rattle.song_model.specs.Pointers.{instrument_pointer, command_table, wave_row_table}
-use Rattle.play_model.specs.declared.unplayable.Unplayable.{Unplayable}
 use Rattle.play_model.specs.declared.unplayable.Unplayable.TheVariants.{NoSubtune, MissingPattern, BadRestart, TableOverflow, PointerToJump}
 use Rattle.play_model.specs.Used.{IsPlayedOrder, IsUsedRow, IsUsedInstrument}
 use Rattle.play_model.specs.Reached.{is_jump, led_to, IsPlayedPointer, of_instrument, of_row, IsReached, played, pointed, led, IsPointer, of_played, of_wave_row}
-use Rattle.play_model.specs.Playable.{HasOrder, MissesPattern, StopsAtRestart, RunsOff, IsJumpTarget, PointsAtJump, IsPlayable}
+use Rattle.play_model.specs.Playable.{HasOrder, MissesPattern, StopsAtRestart, IsJumpTarget, PointsAtJump}
 use Rattle.packed_form.proofs.Laws.{all_at}
 use Rattle.song_gen.specs.Draws.{after, draw}
-use Rattle.song_gen.specs.GeneratedSong.{wave_rows, pulse_rows, filter_rows, speed_rows, instrument_from, instruments_from, behind_instruments, behind_patterns, behind_rows, pattern_from, patterns_from, order_from, subtune_from, subtunes_from, generated_song}
-use Rattle.song_gen.specs.GeneratedLaws.{GeneratedSongsArePlayable}
+use Rattle.song_gen.specs.GeneratedSong.{wave_rows, pulse_rows, filter_rows, speed_rows, instruments_from, behind_instruments, behind_patterns, behind_rows, pattern_from, patterns_from, order_from, subtune_from, subtunes_from, generated_song}
+use Rattle.song_gen.specs.GeneratedLaws.{GeneratedSongsArePlayable, GeneratedSongsHaveEightSubtunes}
 use Rattle.song_gen.proofs.Limits.{IsDrawnRow, rows_are_drawn, pattern_rows, IsDrawnEntry, transpose, pattern, order_length, entries_are_drawn, restart_below, draw_small}
 
 -- ---- orderlists
@@ -139,6 +137,10 @@ endless : (x s c : ℕ) → ¬ StopsAtRestart (generated_song x) s c
 endless x s c h =
     let drawn = stored_is_drawn x s c h.order h.has in
     h.stops (subst IsEndless (sym drawn.is) (drawn_is_endless drawn.number))
+
+pub generated_songs_have_eight_subtunes : GeneratedSongsHaveEightSubtunes
+unfolding generated_song subtunes_from order_from
+generated_songs_have_eight_subtunes x = refl
 
 some_subtune : (x : ℕ) → playable_subtunes (generated_song x) ≢ []
 unfolding generated_song subtunes_from order_from

@@ -1,5 +1,5 @@
 -- The patterns of generated songs may be packed, and their data and a player fit in 48 KB.
-use Rattle.std.proofs.Common.{◌≡◌, ℕ, zero, suc, ◌+◌, ◌*◌, ◌^◌, ◌<◌, ◌≤◌, Bool, true, false, if◌then◌else◌, nat_lt, List, [], ◌∷◌, length, get_or, map, filter, All, refl, sym, ap, ◌∙◌, subst, arith}
+use Rattle.std.proofs.Common.{◌≡◌, ℕ, ◌+◌, ◌*◌, ◌≤◌, Bool, List, [], length, map, filter, All, refl, arith}
 use Rattle.std.specs.List.{range_with_len, sum_by, count_by}
 use Rattle.std.specs.Int.{bit_at}
 use Rattle.std.proofs.lemmas.List.{length-map}
@@ -8,7 +8,6 @@ use Rattle.std.proofs.lemmas.List.Elements.{All-map}
 use Rattle.std.proofs.lemmas.List.Sums.{sum_by-le, count_by-le-length, length-filter}
 use Rattle.base.proofs.Laws.{All-get_or_any}
 use Rattle.song_model.specs.declared.rows.Row.{Row}
-use Rattle.song_model.specs.declared.tables.TableRow.{TableRow}
 use Rattle.song_model.specs.declared.tables.TableName.TheVariants.{Speed}
 use Rattle.song_model.specs.declared.songs.Song.{Song}
 use Rattle.song_model.specs.declared.instruments.TheConstants.{MOST_INSTRUMENTS}
@@ -19,8 +18,8 @@ use Rattle.play_model.specs.State.{no_options}
 use Rattle.packed_form.specs.UsedSets.{UsedSets}
 use Rattle.packed_form.specs.Segments.{ProgramTable, numbers}
 use Rattle.packed_form.specs.Sizes.{list_size}
-use Rattle.packed_form.specs.Renumbering.{first_seen, same_row, renumbered_row, pattern_text, pattern_texts, speed_rows as packed_speeds, wave_programs, pulse_programs, filter_programs}
-use Rattle.packed_form.specs.SongSizes.{orders_size, common_size, rows_size, programs_size, data_size, kept_parts, code_bound}
+use Rattle.packed_form.specs.Renumbering.{same_row, renumbered_row, pattern_text, pattern_texts, speed_rows as packed_speeds, wave_programs, pulse_programs, filter_programs}
+use Rattle.packed_form.specs.SongSizes.{orders_size, programs_size, data_size, kept_parts, code_bound}
 use Rattle.packed_form.proofs.Laws.{text_is_short, first_seen_length}
 use Rattle.song_gen.specs.GeneratedSong.{behind_rows, behind_instruments, pattern_from, patterns_from, subtunes_from, order_from, generated_song}
 use Rattle.song_gen.specs.GeneratedLaws.{GeneratedPatternsAreShort, GeneratedSongsAreSmall}

@@ -1,4 +1,4 @@
--- The first draws of two generated songs, and the last ones of one, worked out by hand.
+-- The first draws of two generated songs, and the last ones of one, by an independent reading of the rules.
 use Rattle.std.specs.Prelude.{◌≡◌, ℕ, ◌-◌, ◌^◌, List, [], ◌∷◌, map, take, drop}
 use Rattle.song_model.specs.declared.rows.Row.{Row}
 use Rattle.song_model.specs.declared.instruments.Instrument.{Instrument}

@@ -1,17 +1,19 @@
 //! Facts about the definitions, each the contract of a function that does nothing.
 
-ghost use Rattle.song_gen.specs.GeneratedLaws.{GeneratedSongsKeepLimits, GeneratedSongsArePlayable, GeneratedPatternsAreShort, GeneratedSongsAreSmall};
+ghost use Rattle.song_gen.specs.GeneratedLaws.{GeneratedSongsKeepLimits, GeneratedSongsArePlayable, GeneratedSongsHaveEightSubtunes, GeneratedPatternsAreShort, GeneratedSongsAreSmall};
 ghost use Rattle.song_gen.specs.WorkedSongs.{FirstDrawsAre, LastDrawsAre};
 
-/// Each generated song keeps the limits of the format, can be played, and is packed.
-pub fn generated_songs_are_packed()
+/// Each generated song keeps the limits of the format, has eight subtunes that can be played, and is small enough to be
+/// packed.
+pub fn generated_songs_can_be_packed()
     ensures limits { GeneratedSongsKeepLimits }
     ensures playable { GeneratedSongsArePlayable }
+    ensures subtunes { GeneratedSongsHaveEightSubtunes }
     ensures short { GeneratedPatternsAreShort }
     ensures small { GeneratedSongsAreSmall }
 {}
 
-/// The first and the last draws of two songs.
+/// The first draws of two songs, and the last draws of one.
 pub fn worked_songs()
     ensures first { FirstDrawsAre }
     ensures last { LastDrawsAre }

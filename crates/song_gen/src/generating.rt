@@ -3,7 +3,7 @@
 ghost use Rattle.std.specs.Prelude.{◌≡◌, IfOk};
 ghost use Rattle.play_model.specs.Playable.{IsPlayable};
 ghost use Rattle.song_gen.specs.GeneratedSong.{generated_song};
-ghost use Rattle.song_gen.specs.GeneratedLaws.{HasShortPatterns, IsSmall};
+ghost use Rattle.song_gen.specs.GeneratedLaws.{PatternsAreShort, IsSmall};
 
 use crate::draws::Draws;
 use crate::instruments::draw_instruments;
@@ -23,7 +23,7 @@ use std::alloc::Global;
 pub fn generate(alloc: Global, number: u64) -> Result<Song, NoMemory>
     ensures song { IfOk result (λ song. song ≡ generated_song number) }
     ensures playable { IfOk result IsPlayable }
-    ensures short { IfOk result HasShortPatterns }
+    ensures short { IfOk result PatternsAreShort }
     ensures small { IfOk result IsSmall }
 {
     let mut draws = Draws { number };

@@ -17,4 +17,5 @@ mod patterns;
 mod subtunes;
 mod tables;
 
+pub use base::NoMemory;
 pub use generating::generate;

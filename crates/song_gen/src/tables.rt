@@ -68,7 +68,7 @@ pub(crate) fn filter_table(alloc: Global) -> Result<Table, NoMemory>
     table(alloc, &rows)
 }
 
-/// A slide, a vibrato, and a vibrato whose speed depends on the note.
+/// A slide, a vibrato, and a vibrato whose depth depends on the note.
 pub(crate) fn speed_table(alloc: Global) -> Result<Table, NoMemory>
     ensures { IfOk result (λ table. table ≡ speed_rows) }
 {

@@ -1,21 +1,17 @@
 //! `run IN SUBTUNE FRAMES`: the PSID file IN is run, and the SID's registers are printed after each call.
 #![tactic(auto, using(crate::proofs::Room::pieces_fit))]
 
-ghost use Rattle.std.specs.Prelude.{◌≡◌, ℕ, ◌≤◌, ◌++◌, [], ◌∷◌, codes, decimal, length, None, IfOk, IfErr, OnOk, OnErr, IsErrOf, List};
-ghost use Rattle.cpu6502.specs.Call.{FailsBy};
-ghost use Rattle.sid_run.specs.State.{most_steps};
-ghost use Rattle.goat_cli.specs.Calls.{entry_of, accumulator_of, ReturnsTo};
-ghost use Rattle.goat_cli.specs.Selftest.{Takes};
+ghost use Rattle.std.specs.Prelude.{◌≡◌, ℕ, ◌≤◌, ◌++◌, [], ◌∷◌, codes, decimal, length, None, IfOk, OnErr, List};
 ghost use Rattle.goat_cli.specs.Job.{job_of};
 ghost use Rattle.goat_cli.specs.Last.{last_of, last_word, Says};
 ghost use Rattle.goat_cli.specs.Lines.{line, address_digits, stop_line};
-ghost use Rattle.goat_cli.specs.RegisterText.{register_line};
-ghost use Rattle.goat_cli.specs.Stands.{folder_state, sink_state, Appends};
-ghost use Rattle.goat_cli.specs.Endings.{JobEnds, CallsEnd, FailsIn};
+ghost use Rattle.goat_cli.specs.Stands.{folder_state, sink_state};
+ghost use Rattle.goat_cli.specs.Endings.{JobEnds, CallsEnd};
 ghost use Rattle.goat_cli.specs.Words.{texts, HasAllowedNumbers, AreRunArguments, Run, frame_limit};
 ghost use Rattle.goat_cli.specs.Jobs.{command_of, AreArgumentsOf};
 
 use crate::arguments::{FRAME_LIMIT, SUBTUNE_LIMIT, decimal_of};
+use crate::calling::next_call;
 use crate::line::Line;
 use crate::message::Piece;
 use crate::refusal::{Refusal, Report};
@@ -144,29 +140,4 @@ fn refusal_at(words: &'static str, address: u16, call: u32) -> Refusal<'static>
             Piece::Number(u64::from(call)),
         ],
     )
-}
-
-/// Makes the call with this index: call 0 is init, the others are play.
-///
-/// # Errors
-///
-/// The reason why the call did not return.
-pub fn next_call(runner: &mut Runner, number: u8, call: u32) -> Result<[u8; 25], CallStop>
-    requires { runner.old.stopped ≡ None }
-    ensures returned { IfOk result (λ registers. ReturnsTo runner.old.machine
-        (entry_of runner.old call)
-        (accumulator_of number call runner.old.machine) registers runner.new.machine) }
-    ensures takes { OnOk result (Takes runner.old.machine (entry_of runner.old call)
-        (accumulator_of number call runner.old.machine) runner.new.spent runner.new.machine) }
-    ensures failed { IfErr result (λ reason. FailsBy runner.old.machine (entry_of runner.old call)
-        (accumulator_of number call runner.old.machine) most_steps reason runner.new.machine) }
-    ensures running { OnOk result (runner.new.stopped ≡ None) }
-    ensures same_init { runner.new.init ≡ runner.old.init }
-    ensures same_play { runner.new.play ≡ runner.old.play }
-{
-    if call == 0 {
-        runner.init(number)
-    } else {
-        runner.play()
-    }
 }

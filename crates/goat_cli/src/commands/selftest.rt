@@ -23,7 +23,7 @@ use std::alloc::Global;
 ///
 /// # Errors
 ///
-/// It isn't one word, or no number of 64 bits.
+/// It isn't one word, or that isn't a number of at most 64 bits in decimal digits, without zeros in front.
 pub fn selftest_job(arguments: &[String]) -> Result<Job<'_>, WordsFault>
     ensures found { IfOk result (λ job. AreArgumentsOf (job_of job) (texts arguments.now)) }
     ensures command { IfOk result (λ job. command_of (job_of job) ≡ codes "selftest") }

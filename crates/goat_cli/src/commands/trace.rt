@@ -4,7 +4,6 @@
 ghost use Rattle.std.specs.Prelude.{◌≡◌, ℕ, ◌+◌, ◌-◌, ◌≤◌, ◌∷◌, codes, IfOk, OnErr, List};
 ghost use Rattle.song_model.specs.declared.songs.Song.{Song as Kept};
 ghost use Rattle.play_model.specs.declared.options.Options.{Options as Chosen};
-ghost use Rattle.play_model.specs.Frame.{trace_with};
 ghost use Rattle.playroutine.specs.Played.{StandsAfter};
 ghost use Rattle.goat_cli.specs.Job.{job_of};
 ghost use Rattle.goat_cli.specs.Last.{last_word};
@@ -16,6 +15,7 @@ ghost use Rattle.goat_cli.specs.Words.{texts, HasAllowedNumbers, AreOptionWords,
 ghost use Rattle.goat_cli.specs.Jobs.{command_of, AreArgumentsOf};
 
 use crate::arguments::{FRAME_LIMIT, SUBTUNE_LIMIT, decimal_of, options_of};
+use crate::calling::next_frame;
 use crate::line::Line;
 use crate::refusal::{Refusal, Report};
 use crate::registers::put_registers;
@@ -134,14 +134,4 @@ fn show_frames<K: Sink>(
         put_registers(call, &registers, line, out)?;
     }
     Ok(Report::Shown)
-}
-
-/// What the call with this index leaves in the registers: call 0 is the start, which leaves zeros; each other one plays
-/// a frame.
-pub fn next_frame(player: &mut Player, call: u32) -> [u8; 25]
-    ensures { (song : Kept) (k : ℕ) (options : Chosen) →
-        StandsAfter player.old song k options (call - 1) →
-        (result ≡ trace_with options song k call) × StandsAfter player.new song k options call }
-{
-    if call == 0 { [0; 25] } else { player.frame() }
 }

@@ -36,9 +36,12 @@ returns-clause-steps c = record {
   is_written = c.requires.written;
   psid = c.in_ok-psid.psid;
   reads = c.in_ok-psid.ensures.reads;
-  take = subst (λ n. SubtunesTake (loaded c.in_ok-psid.psid) n c.loop-subtune.steps) c.playable_count-subtune-end.ensures
+  each = c.loop-subtune.invariant.each;
+  take = subst (λ n. SubtunesTake (loaded c.in_ok-psid.psid) n c.loop-subtune.invariant.each)
+      c.playable_count-subtune-end.ensures
       (all_subtunes_taken c.playable_count-subtune-end.result c.loop-subtune.invariant c.loop-subtune.auto.subtune-end
       c.loop-subtune-test.false);
+  steps_are = c.loop-subtune.invariant.adds;
 }
 
 pub returns-clause-most : goal.returns-clause-most

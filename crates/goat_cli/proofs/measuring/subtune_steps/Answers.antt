@@ -1,7 +1,7 @@
 use Rattle.std.proofs.Common.{◌≡◌, sym, subst}
 use Rattle.sid_run.specs.State.{RunnerState}
-use Rattle.goat_cli.specs.Selftest.{selftest_calls}
-use Rattle.goat_cli.specs.Endings.{FirstCallsReturn, CallsTake}
+use Rattle.goat_cli.specs.Selftest.{selftest_calls, CallsTake}
+use Rattle.goat_cli.specs.Endings.{FirstCallsReturn}
 use Rattle.goat_cli.proofs.measuring.subtune_steps.Goals as goal
 
 pub count_steps-requires-clause-returns : goal.count_steps-requires-clause-returns

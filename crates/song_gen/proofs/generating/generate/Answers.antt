@@ -1,4 +1,4 @@
-use Rattle.std.proofs.Common.{◌≡◌, ℕ, List, refl, sym, ap, ◌∙◌, subst}
+use Rattle.std.proofs.Common.{◌≡◌, ℕ, List, sym, ap, ◌∙◌, subst}
 use Rattle.song_model.specs.declared.rows.Row.{Row}
 use Rattle.song_model.specs.declared.orders.Subtune.{Subtune}
 use Rattle.song_model.specs.declared.instruments.Instrument.{Instrument}
@@ -7,8 +7,8 @@ use Rattle.song_model.specs.declared.songs.Song.{Song}
 use Rattle.song_model.specs.Silence.{empty_song}
 use Rattle.play_model.specs.Playable.{IsPlayable}
 use Rattle.song_gen.specs.Draws.{after}
-use Rattle.song_gen.specs.GeneratedSong.{wave_rows, pulse_rows, filter_rows, speed_rows, instruments_from, patterns_from, subtunes_from, behind_rows, behind_instruments, behind_patterns, generated_song}
-use Rattle.song_gen.specs.GeneratedLaws.{HasShortPatterns, IsSmall}
+use Rattle.song_gen.specs.GeneratedSong.{wave_rows, pulse_rows, filter_rows, speed_rows, instruments_from, patterns_from, subtunes_from, behind_rows, behind_patterns, generated_song}
+use Rattle.song_gen.specs.GeneratedLaws.{PatternsAreShort, IsSmall}
 use Rattle.song_gen.proofs.Playable.{generated_songs_are_playable}
 use Rattle.song_gen.proofs.Small.{generated_patterns_are_short, generated_songs_are_small}
 use Rattle.song_gen.proofs.generating.generate.Goals as goal
@@ -58,7 +58,7 @@ pub returns-clause-playable : goal.returns-clause-playable
 returns-clause-playable c = subst IsPlayable (sym (returns-clause-song c)) (generated_songs_are_playable c.args.number)
 
 pub returns-clause-short : goal.returns-clause-short
-returns-clause-short c = subst HasShortPatterns (sym (returns-clause-song c)) (generated_patterns_are_short c.args.number)
+returns-clause-short c = subst PatternsAreShort (sym (returns-clause-song c)) (generated_patterns_are_short c.args.number)
 
 pub returns-clause-small : goal.returns-clause-small
 returns-clause-small c = subst IsSmall (sym (returns-clause-song c)) (generated_songs_are_small c.args.number)

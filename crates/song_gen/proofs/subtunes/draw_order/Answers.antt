@@ -1,4 +1,4 @@
-use Rattle.std.proofs.Common.{◌≡◌, ℕ, ◌+◌, List, refl, sym, ap, ◌∙◌}
+use Rattle.std.proofs.Common.{◌≡◌, ℕ, List, ap, ◌∙◌}
 use Rattle.song_model.specs.declared.orders.Order.{Order}
 use Rattle.song_gen.specs.Draws.{next, after, below, draw}
 use Rattle.song_gen.specs.GeneratedSong.{order_from}

@@ -1,6 +1,6 @@
 use Rattle.std.proofs.Common.{◌≡◌, ◌≢◌, rules}
 use Rattle.goat_cli.proofs.Calls.{returns_with, takes_with, later_entry, later_number}
-use Rattle.goat_cli.proofs.commands.run.next_call.Goals as goal
+use Rattle.goat_cli.proofs.calling.next_call.Goals as goal
 
 pub returns-then-call-eq0-clause-returned : goal.returns-then-call-eq0-clause-returned
 returns-then-call-eq0-clause-returned c =

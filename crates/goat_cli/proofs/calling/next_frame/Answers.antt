@@ -1,6 +1,6 @@
 use Rattle.std.proofs.Common.{◌≡◌, ◌≢◌, suc, ◌-◌, refl, rules, arith}
 use Rattle.playroutine.proofs.Laws.{frame_after}
-use Rattle.goat_cli.proofs.commands.trace.next_frame.Goals as goal
+use Rattle.goat_cli.proofs.calling.next_frame.Goals as goal
 
 pub returns-then-call-eq0 : goal.returns-then-call-eq0
 returns-then-call-eq0 c = λ song k options stands.
