@@ -1,7 +1,8 @@
 //! The program.
 //!
-//! All that goat does is in `goat_cli`. This crate has its `main`, a stored run, and the tests of worked examples,
-//! which make the top call over a folder and a sink in memory.
+//! All that goat does is in `goat_cli`. This crate has its `main`, a stored run, and the tests of words, of devices and
+//! of files that aren't songs, which make the top call over a folder and a sink in memory by `goat_trials`. The tests of
+//! songs are in `goat_songs`.
 #![tactic(auto)]
 
 use std::process::ExitCode;

@@ -1,118 +1,18 @@
-//! Worked examples from outside: words, files, the status, the line and what was written.
+//! Worked examples from outside: words, files, the status, the line and what was written. Those of songs are in
+//! `goat_songs`.
 
 mod broken;
-mod checking;
 mod copying;
-mod editing;
-mod histories;
 mod hostile;
-mod options;
-mod packing;
-mod parts;
-mod rooms;
 mod running;
 mod selftest;
-mod tracing;
-mod unplayable;
-mod used;
 mod wanting;
 
-use cpu6502::{Cpu, Machine, Memory, WriteLog};
 use goat_cli::goat;
-use goat_io::{DiskFolder, MemFolder, MemSink};
-use std::alloc::Global;
+use goat_io::{DiskFolder, MemSink};
+use goat_trials::{Answer, PACK, USAGE, run, run_failing, silence};
 use std::process::Abort;
 use std::test::Fail;
-
-const USAGE: &str = "usage: goat check|trace|pack|run|edit|copy|selftest\n";
-
-/// The registers of a line in which the volume alone is not 0.
-const VOLUME: &str = "0000000000000000000000000000000000000000000000000f";
-
-const PACK: [&str; 6] = ["pack", "s0", "o", "raw", "1000", "FC"];
-
-/// The bytes of a silent song after its three texts: one subtune whose orderlists play pattern 0, which is one rest.
-const SILENCE: [u8; 28] = [
-    1, 2, 0, 0xff, 0, 2, 0, 0xff, 0, 2, 0, 0xff, 0, 0, 0, 0, 0, 0, 1, 2, 0xbd, 0, 0, 0, 0xff, 0, 0,
-    0,
-];
-
-/// The bytes of a song with one note after its three texts: orderlists `00`, `01`, `01`, one instrument with a wave
-/// and a pulse program, and two patterns.
-const ONE_NOTE: [u8; 74] = [
-    1, 2, 0, 0xff, 0, 2, 1, 0xff, 0, 2, 1, 0xff, 0, 1, 0x09, 0xa0, 1, 1, 0, 0, 0, 2, 9, 0, 0, 0, 0,
-    0, 0, 0, 0, 0, 0, 0, 0, 0, 0, 0, 0, 2, 0x41, 0xff, 0, 0, 2, 0x88, 0xff, 0, 0, 0, 0, 2, 3, 0x90,
-    1, 0, 0, 0xbe, 0, 0, 0, 0xff, 0, 0, 0, 2, 0xbd, 0, 0, 0, 0xff, 0, 0, 0,
-];
-
-/// What a run answered: its status, its lines, and the file `o`.
-#[derive(Drop)]
-struct Answer {
-    status: u8,
-    text: Vec<u8>,
-    output: Option<Vec<u8>>,
-}
-
-/// The magic, three texts of zeros, and these bytes.
-fn song_with(alloc: Global, parts: &[u8]) -> Result<Vec<u8>, Fail> {
-    let mut bytes = Vec::new(alloc);
-    bytes.extend_from_slice(b"GTS5")?;
-    bytes.resize(100, 0)?;
-    bytes.extend_from_slice(parts)?;
-    Ok(bytes)
-}
-
-/// The silent song's 128 bytes.
-fn silence(alloc: Global) -> Result<Vec<u8>, Fail> {
-    song_with(alloc, &SILENCE)
-}
-
-/// The 174 bytes of the song with one note.
-fn one_note(alloc: Global) -> Result<Vec<u8>, Fail> {
-    song_with(alloc, &ONE_NOTE)
-}
-
-/// A run over a folder, and a sink whose listed puts fail.
-fn run_over(
-    alloc: Global,
-    words: &[&str],
-    mut folder: MemFolder,
-    puts: &[u32],
-) -> Result<Answer, Fail> {
-    let mut out = MemSink::new(alloc, puts.to_vec(alloc)?);
-    let mut owned = Vec::new(alloc);
-    for word in words {
-        owned.push(word.to_string(alloc)?)?;
-    }
-    let status = goat(alloc, &owned, &mut folder, &mut out);
-    let output = match folder.get("o") {
-        Some(bytes) => Some(bytes.to_vec(alloc)?),
-        None => None,
-    };
-    Ok(Answer {
-        status,
-        text: out.bytes().to_vec(alloc)?,
-        output,
-    })
-}
-
-/// A run over a folder with this song as `s0`, whose listed calls fail, and a sink whose listed puts fail.
-fn run_failing(
-    alloc: Global,
-    words: &[&str],
-    song: &[u8],
-    calls: &[u32],
-    puts: &[u32],
-) -> Result<Answer, Fail> {
-    let mut folder = MemFolder::new(alloc, calls.to_vec(alloc)?);
-    folder.add("s0", song)?;
-    run_over(alloc, words, folder, puts)
-}
-
-/// A run on whole devices.
-fn run(alloc: Global, words: &[&str], song: &[u8]) -> Result<Answer, Fail> {
-    run_failing(alloc, words, song, &[], &[])
-}
 
 /// Asserts the status and the text of a run, and that it wrote nothing.
 fn assert_refused(rt: &impl Abort, answer: &Answer, status: u8, text: &str) {
@@ -323,57 +223,5 @@ fn failing_devices_are_told(rt: HostRuntime) -> Result<(), Fail> {
     let cut = whole.text.get(..whole.text.len() / 2).ok_or("short")?;
     assert_eq!(rt; sink.text.as_slice(), cut);
     assert_eq!(rt; sink.output.ok_or("no file")?, file);
-    Ok(())
-}
-
-/// Registers that a player must not count on, the decimal flag among them.
-const ANY: Cpu = Cpu {
-    a: 0x81,
-    x: 0x7e,
-    y: 0x3c,
-    sp: 0x01,
-    pc: 0xbeef,
-    n: true,
-    v: true,
-    d: true,
-    i: false,
-    z: true,
-    c: true,
-};
-
-/// A memory of `$FF` with the image of a raw file at `$1000`.
-fn loaded(alloc: Global, file: &[u8]) -> Result<Memory, Fail> {
-    let mut memory = Memory::filled(alloc, 0xff)?;
-    let mut place: u16 = 0x1000;
-    for byte in file.get(2..).ok_or("short")? {
-        memory.write(place, *byte);
-        place = place.wrapping_add(1);
-    }
-    Ok(memory)
-}
-
-#[test]
-fn the_packed_file_plays_silence(rt: HostRuntime) -> Result<(), Fail> {
-    let alloc = rt.alloc();
-    let answer = run(alloc, &PACK, &silence(alloc)?)?;
-    let file = answer.output.ok_or("no file")?;
-    let memory = loaded(alloc, &file)?;
-    let mut machine = Machine { cpu: ANY, memory };
-    let mut log = WriteLog::new();
-    assert!(rt; machine.call(0x1000, 0, 200_000, &mut log).is_ok());
-    for register in 0..25 {
-        assert_eq!(rt; machine.memory.read(0xd400 + register), 0, "{register}");
-    }
-    for _ in 0..3 {
-        assert!(rt; machine.call(0x1003, 0, 200_000, &mut log).is_ok());
-        for register in 0..25 {
-            let wanted = if register == 24 { 15 } else { 0 };
-            assert_eq!(rt;
-                machine.memory.read(0xd400 + register),
-                wanted,
-                "{register}"
-            );
-        }
-    }
     Ok(())
 }

@@ -1,6 +1,7 @@
 //! Files that break the format, each with the line that says where.
 
-use super::{assert_refused, one_note, run, silence, song_with};
+use super::assert_refused;
+use goat_trials::{PACK, one_note, run, silence, song_with};
 use std::alloc::Global;
 use std::process::Abort;
 use std::test::Fail;
@@ -8,7 +9,7 @@ use std::test::Fail;
 /// Asserts that both commands refuse the file with this line and write nothing.
 fn assert_broken(rt: &impl Abort, alloc: Global, song: &[u8], text: &str) -> Result<(), Fail> {
     assert_refused(rt, &run(alloc, &["copy", "s0", "o"], song)?, 5, text);
-    assert_refused(rt, &run(alloc, &super::PACK, song)?, 5, text);
+    assert_refused(rt, &run(alloc, &PACK, song)?, 5, text);
     Ok(())
 }
 
@@ -100,7 +101,7 @@ fn with_rows(alloc: Global, count: u8, rows: usize, has_end: bool) -> Result<Vec
     if has_end {
         parts.extend_from_slice(&[0xff, 0, 0, 0])?;
     }
-    song_with(alloc, &parts)
+    Ok(song_with(alloc, &parts)?)
 }
 
 #[test]

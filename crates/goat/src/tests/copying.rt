@@ -1,6 +1,7 @@
 //! Songs that are copied.
 
-use super::{assert_refused, one_note, run, run_failing, silence, song_with};
+use super::assert_refused;
+use goat_trials::{USAGE, one_note, run, run_failing, silence, song_with};
 use std::alloc::Global;
 use std::process::Abort;
 use std::test::Fail;
@@ -84,11 +85,11 @@ fn words_that_name_no_copy(rt: HostRuntime) -> Result<(), Fail> {
         ["Copy", "s0", "o"],
         ["pack", "s0", "o"],
     ] {
-        assert_refused(&rt, &run(alloc, &words, &song)?, 1, super::USAGE);
+        assert_refused(&rt, &run(alloc, &words, &song)?, 1, USAGE);
     }
-    assert_refused(&rt, &run(alloc, &["copy", "s0"], &song)?, 1, super::USAGE);
+    assert_refused(&rt, &run(alloc, &["copy", "s0"], &song)?, 1, USAGE);
     let more = ["copy", "s0", "o", "o"];
-    assert_refused(&rt, &run(alloc, &more, &song)?, 1, super::USAGE);
+    assert_refused(&rt, &run(alloc, &more, &song)?, 1, USAGE);
     Ok(())
 }
 

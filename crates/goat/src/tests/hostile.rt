@@ -1,8 +1,9 @@
 //! PSID files of machine code that isn't a player.
 
+use super::assert_refused;
 use super::running::{ZEROS, psid_file};
-use super::{assert_refused, run};
 use cpu6502::{CallStop, Stop};
+use goat_trials::run;
 use psid::{Psid, read};
 use sid_run::Runner;
 use std::alloc::Global;

@@ -1,6 +1,7 @@
 //! PSID files that are packed and run.
 
-use super::{USAGE, VOLUME, assert_refused, one_note, run, run_failing, silence};
+use super::assert_refused;
+use goat_trials::{USAGE, VOLUME, one_note, run, run_failing, silence};
 use std::alloc::Global;
 use std::process::Abort;
 use std::test::Fail;

@@ -1,6 +1,7 @@
 //! Songs that are made from a number, packed and run.
 
-use super::{USAGE, assert_refused, run, silence};
+use super::assert_refused;
+use goat_trials::{USAGE, run, silence};
 use sid_run::Runner;
 use song_gen::generate;
 use std::alloc::Global;

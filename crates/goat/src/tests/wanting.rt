@@ -3,9 +3,9 @@
 ghost use Rattle.std.specs.Prelude.{None};
 ghost use Rattle.goat_io.specs.FolderCounts.{no_counts};
 
-use super::silence;
 use goat_cli::goat;
 use goat_io::{Folder, MemSink, ReadFault, WriteFault};
+use goat_trials::silence;
 use std::alloc::Global;
 use std::process::Abort;
 use std::test::Fail;

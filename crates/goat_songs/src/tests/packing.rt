@@ -1,6 +1,7 @@
 //! Songs with a pattern that is too long to be packed.
 
-use super::{PACK, assert_refused, run, song_with};
+use super::assert_refused;
+use goat_trials::{PACK, run, song_with};
 use std::alloc::Global;
 use std::test::Fail;
 
@@ -26,7 +27,7 @@ pub fn song_of(alloc: Global, plays: [u8; 3], rows: &[u8]) -> Result<Vec<u8>, Fa
     for rows in rows {
         push_pattern(&mut parts, *rows)?;
     }
-    song_with(alloc, &parts)
+    Ok(song_with(alloc, &parts)?)
 }
 
 #[test]

@@ -1,9 +1,10 @@
 //! What a song uses, and songs that can't be played.
 
+use super::assert_refused;
 use super::parts::{NOTE, SILENT, case_of, three_instruments};
 use super::unplayable::{BAD_ORDERS, POINTED_JUMPS, SHORT_TABLES};
 use super::used::{USED, USED_BY_WAVES};
-use super::{PACK, USAGE, assert_refused, one_note, run, run_failing, silence, song_with};
+use goat_trials::{PACK, USAGE, one_note, run, run_failing, silence, song_with};
 use std::alloc::Global;
 use std::process::Abort;
 use std::test::Fail;
@@ -152,7 +153,7 @@ fn with_long_order(alloc: Global, restart: u8) -> Result<Vec<u8>, Fail> {
         0xff, restart, 2, 0, 0xff, 0, 2, 0, 0xff, 0, 0, 0, 0, 0, 0, 1, 2,
     ])?;
     parts.extend_from_slice(&[0xbd, 0, 0, 0, 0xff, 0, 0, 0])?;
-    song_with(alloc, &parts)
+    Ok(song_with(alloc, &parts)?)
 }
 
 #[test]
@@ -187,7 +188,7 @@ fn with_long_table(alloc: Global, pointer: u8, left: u8, right: u8) -> Result<Ve
     parts.resize(549, 0)?;
     parts.push(right)?;
     parts.extend_from_slice(&[0, 0, 0, 1, 2, 0x90, 1, 0, 0, 0xff, 0, 0, 0])?;
-    song_with(alloc, &parts)
+    Ok(song_with(alloc, &parts)?)
 }
 
 #[test]

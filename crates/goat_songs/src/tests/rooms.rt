@@ -1,8 +1,9 @@
 //! The greatest address at which a song's image has room.
 
+use super::assert_refused;
 use super::packing::song_of;
 use super::parts::three_instruments;
-use super::{Answer, assert_refused, one_note, run, silence};
+use goat_trials::{Answer, one_note, run, silence};
 use std::alloc::Global;
 use std::process::Abort;
 use std::test::Fail;
@@ -20,7 +21,7 @@ fn packed_at(
 ) -> Result<Answer, Fail> {
     let address = format!(in alloc; "{page:02x}00")?;
     let words = ["pack", "s0", "o", "raw", &address, "FC", skip, speed];
-    run(alloc, &words, song)
+    Ok(run(alloc, &words, song)?)
 }
 
 /// Asserts that a song is packed at the last page from which its image ends at or below `$D000`, and behind that page

@@ -1,8 +1,9 @@
 //! Songs that are edited by scripts.
 
+use super::assert_refused;
 use super::parts::{NOTE, Parts};
-use super::{Answer, USAGE, assert_refused, one_note, run, run_over, silence};
 use goat_io::MemFolder;
+use goat_trials::{Answer, USAGE, one_note, run, run_over, silence};
 use std::alloc::Global;
 use std::process::Abort;
 use std::test::Fail;
@@ -14,7 +15,7 @@ fn edit_failing(alloc: Global, script: &[u8], calls: &[u32]) -> Result<Answer, F
     let mut folder = MemFolder::new(alloc, calls.to_vec(alloc)?);
     folder.add("s0", &one_note(alloc)?)?;
     folder.add("t", script)?;
-    run_over(alloc, &EDIT, folder, &[])
+    Ok(run_over(alloc, &EDIT, folder, &[])?)
 }
 
 /// What `edit` answers of the song with one note and this script.

@@ -1,8 +1,9 @@
 //! Calls of a packed song's image in an order that no run of the program has.
 
 use super::parts::{NOTE, Parts};
-use super::{ANY, loaded, one_note, run};
+use super::{ANY, loaded};
 use cpu6502::{Machine, WriteLog};
+use goat_trials::{one_note, run};
 use std::alloc::Global;
 use std::process::Abort;
 use std::test::Fail;

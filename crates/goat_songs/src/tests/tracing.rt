@@ -1,7 +1,8 @@
 //! Songs that are traced.
 
+use super::assert_refused;
 use super::parts::{NOTE, Parts, case_of, three_instruments};
-use super::{Answer, USAGE, VOLUME, assert_refused, one_note, run, run_failing};
+use goat_trials::{Answer, USAGE, VOLUME, one_note, run, run_failing};
 use std::alloc::Global;
 use std::process::Abort;
 use std::test::Fail;
@@ -167,7 +168,7 @@ fn trace(alloc: Global, words: &str, song: &[u8]) -> Result<Answer, Fail> {
     for word in words.split(' ') {
         line.push(word)?;
     }
-    run(alloc, &line, song)
+    Ok(run(alloc, &line, song)?)
 }
 
 /// The number of a call, the first digit's place in its line, and the digits.

@@ -1,5 +1,6 @@
 //! Songs that are spelled part by part, in hexadecimal digits.
 
+use goat_trials::song_with;
 use std::alloc::Global;
 use std::test::Fail;
 
@@ -144,7 +145,7 @@ fn add_table(alloc: Global, file: &mut Vec<u8>, rows: &str) -> Result<(), Fail> 
 impl Parts<'_> {
     /// The song's file up to its patterns.
     pub fn head(&self, alloc: Global) -> Result<Vec<u8>, Fail> {
-        let mut file = super::song_with(alloc, &bytes_of(alloc, self.orders)?)?;
+        let mut file = song_with(alloc, &bytes_of(alloc, self.orders)?)?;
         add_instruments(alloc, &mut file, self.instruments)?;
         add_table(alloc, &mut file, self.wave)?;
         add_table(alloc, &mut file, self.pulse)?;

@@ -2,8 +2,9 @@
 
 use super::parts::{NOTE, Parts, SILENT, case_of, three_instruments};
 use super::tracing::{STILL, TRACED};
-use super::{ANY, Answer, assert_refused, one_note, run, silence};
+use super::{ANY, assert_refused};
 use cpu6502::{Machine, Memory, WriteLog};
+use goat_trials::{Answer, one_note, run, silence};
 use std::alloc::Global;
 use std::process::Abort;
 use std::test::Fail;
@@ -26,7 +27,7 @@ fn packed(
     speed: &str,
 ) -> Result<Answer, Fail> {
     let words = ["pack", "s0", "o", format, "1000", "FC", skip, speed];
-    run(alloc, &words, song)
+    Ok(run(alloc, &words, song)?)
 }
 
 /// Asserts that each of these subtunes of a song that is packed with options prints 300 frames as its trace does.
