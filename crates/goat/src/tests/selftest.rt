@@ -1,7 +1,7 @@
 //! Songs that are made from a number, packed and run.
 
 use super::assert_refused;
-use goat_trials::{USAGE, run, silence};
+use goat_trials::{USAGE, run, run_failing, silence};
 use sid_run::Runner;
 use song_gen::generate;
 use std::alloc::Global;
@@ -34,8 +34,24 @@ fn the_greatest_number_is_taken(rt: HostRuntime) -> Result<(), Fail> {
     let words = ["selftest", "18446744073709551615"];
     let answer = run(alloc, &words, &silence(alloc)?)?;
     assert_eq!(rt; answer.status, 0);
-    let line = "selftest 18446744073709551615: 8 subtunes, 300 frames, sum ";
+    let line = "selftest 18446744073709551615: 8 subtunes, 300 frames, sum 0046a947, ";
     assert!(rt; answer.text.starts_with(line.as_bytes()));
+    assert!(rt; answer.text.ends_with(b" steps\n"));
+    assert!(rt; answer.output.is_none());
+    Ok(())
+}
+
+#[test]
+fn a_sink_that_fails_is_told(rt: HostRuntime) -> Result<(), Fail> {
+    let alloc = rt.alloc();
+    let words = ["selftest", "0"];
+    let song = silence(alloc)?;
+    let whole = run(alloc, &words, &song)?;
+    let sink = run_failing(alloc, &words, &song, &[], &[0])?;
+    assert_eq!(rt; sink.status, 10);
+    let cut = whole.text.get(..whole.text.len() / 2).ok_or("short")?;
+    assert_eq!(rt; sink.text.as_slice(), cut);
+    assert!(rt; sink.output.is_none());
     Ok(())
 }
 
