@@ -17,17 +17,17 @@ use Rattle.player_code.proofs.CodeHome.{IsFit, is_known}
 pub play_named : (count : ℕ) → names_tree play_names (play_tree count) ≡ true
 play_named count = refl
 
-pub init_named : (o : Options) → names_tree init_names (init_tree o) ≡ true
-init_named o = refl
+pub init_named : (options : Options) → names_tree init_names (init_tree options) ≡ true
+init_named options = refl
 
 pub play_known : (count : ℕ) → names_tree (any_of is_known) (play_tree count) ≡ true
 play_known count = refl
 
-pub init_known : (o : Options) → names_tree (any_of is_known) (init_tree o) ≡ true
-init_known o = refl
+pub init_known : (options : Options) → names_tree (any_of is_known) (init_tree options) ≡ true
+init_known options = refl
 
-pub init_labels : (o : Options) → label_count (init_tree o) ≤ 256
-init_labels o = omega arith
+pub init_labels : (options : Options) → label_count (init_tree options) ≤ 256
+init_labels options = omega arith
 
 -- ---- sound
 
@@ -51,13 +51,14 @@ play_fits count least most =
     }
 
 -- by the speed
-sound_by_speed : (speed : ℕ) (o : Options) → o.speed ≡ speed → IsSpeed speed → is_sound (init_tree o) ≡ true
-sound_by_speed zero o e is = let least = is.least in absurd (omega (arith, least))
-sound_by_speed (suc zero) o e is = rw e refl
-sound_by_speed (suc (suc zero)) o e is = rw e refl
-sound_by_speed (suc (suc (suc zero))) o e is = rw e refl
-sound_by_speed (suc (suc (suc (suc zero)))) o e is = rw e refl
-sound_by_speed (suc (suc (suc (suc (suc more))))) o e is = let most = is.most in absurd (omega (arith, most))
+sound_by_speed : (speed : ℕ) (options : Options) → options.speed ≡ speed → IsSpeed speed →
+    is_sound (init_tree options) ≡ true
+sound_by_speed zero options e is = let least = is.least in absurd (omega (arith, least))
+sound_by_speed (suc zero) options e is = rw e refl
+sound_by_speed (suc (suc zero)) options e is = rw e refl
+sound_by_speed (suc (suc (suc zero))) options e is = rw e refl
+sound_by_speed (suc (suc (suc (suc zero)))) options e is = rw e refl
+sound_by_speed (suc (suc (suc (suc (suc more))))) options e is = let most = is.most in absurd (omega (arith, most))
 
-pub init_fits : (o : Options) → IsSpeed o.speed → IsFit (init_tree o)
-init_fits o is = record { sound = sound_by_speed o.speed o refl is; named = init_known o }
+pub init_fits : (options : Options) → IsSpeed options.speed → IsFit (init_tree options)
+init_fits options is = record { sound = sound_by_speed options.speed options refl is; named = init_known options }

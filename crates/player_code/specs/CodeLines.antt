@@ -60,4 +60,4 @@ lines_around variables pointer play init =
 -- the code of a player, with the bytes with which its variables begin, the place of its pointer in page 0, its options
 -- and the count of its walks
 abbrev pub code_lines : List ℕ → ℕ → Options → ℕ → List Line
-code_lines variables pointer o count = lines_around variables pointer (play_tree count) (init_tree o)
+code_lines variables pointer options count = lines_around variables pointer (play_tree count) (init_tree options)

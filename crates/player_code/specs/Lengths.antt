@@ -13,9 +13,9 @@ option_bit is_on bit = if is_on then 2 ^ bit else 0
 
 -- the set of the parts that are kept for features and options
 abbrev pub kept_set : ℕ → Options → ℕ
-kept_set features o =
-    features + option_bit o.skip_effects SKIP_EFFECTS_BIT + option_bit o.skip_pulse SKIP_PULSE_BIT
-    + option_bit (nat_lt 1 o.speed) TIMER_BIT
+kept_set features options =
+    features + option_bit options.skip_effects SKIP_EFFECTS_BIT + option_bit options.skip_pulse SKIP_PULSE_BIT
+    + option_bit (nat_lt 1 options.speed) TIMER_BIT
 
 -- the bytes of the frequencies of notes, which every player has among its lists
 abbrev pub frequency_bytes : ℕ
@@ -38,7 +38,7 @@ length_if is_kept part = if is_kept then part_length part else 0
 
 -- the bytes of the code with the frequencies
 abbrev pub code_length : ℕ → Options → ℕ
-code_length features o =
+code_length features options =
     part_length always + sum_by (λ bit. length_if (bit_kept features bit) bit) (range_with_len 0 24)
-    + length_if o.skip_effects SKIP_EFFECTS_BIT + length_if o.skip_pulse SKIP_PULSE_BIT
-    + length_if (nat_lt 1 o.speed) TIMER_BIT
+    + length_if options.skip_effects SKIP_EFFECTS_BIT + length_if options.skip_pulse SKIP_PULSE_BIT
+    + length_if (nat_lt 1 options.speed) TIMER_BIT
