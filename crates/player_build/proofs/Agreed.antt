@@ -51,12 +51,13 @@ pub end_is : (address size all end : ℕ) → size ≡ all → end ≡ address +
 end_is address size all end e f = omega (arith, e, f)
 
 -- the listing of each block is the image
-pub site_agrees : {packed : PackedSong} {place : Place} {o : Options} {lists : List Line} {bytes : List ℕ} →
-    Assembled packed place o lists bytes → (site : Site) → site.origin ≡ place.address →
-    end_at site ≡ place.address + plan_size (plan_of packed place o lists) → (one two : Machine) →
+pub site_agrees : {packed : PackedSong} {place : Place} {options : Options} {lists : List Line} {bytes : List ℕ} →
+    Assembled packed place options lists bytes → (site : Site) → site.origin ≡ place.address →
+    end_at site ≡ place.address + plan_size (plan_of packed place options lists) → (one two : Machine) →
     SameImage bytes place.address (slice_index one.memory) (slice_index two.memory) →
     AgreeOnListing site (view one) (view two)
-site_agrees {packed = packed} {place = place} {o = o} {lists = lists} {bytes = bytes} a site begins ends one two same =
+site_agrees {packed = packed} {place = place} {options = options} {lists = lists} {bytes = bytes}
+    a site begins ends one two same =
     let end : end_at site ≡ place.address + length bytes =
     end_is place.address (length bytes) _ (end_at site) (a.size ∙ sym (plan_size_is a.made)) ends in
     record {
@@ -76,24 +77,26 @@ pub record InImage (bytes : List ℕ) (address q : ℕ) : Type 0 where
   pub to : q < address + length bytes
 
 -- a byte of a list stands in it
-pub list_inside : {packed : PackedSong} {place : Place} {o : Options} {lists : List Line} {bytes : List ℕ} →
-    Assembled packed place o lists bytes → (q : ℕ) →
-    IsListPlace (layout_of (plan_of packed place o lists)) packed q → InImage bytes place.address q
-list_inside {packed = packed} {place = place} {o = o} {lists = lists} {bytes = bytes} a q is =
+pub list_inside : {packed : PackedSong} {place : Place} {options : Options} {lists : List Line} {bytes : List ℕ} →
+    Assembled packed place options lists bytes → (q : ℕ) →
+    IsListPlace (layout_of (plan_of packed place options lists)) packed q → InImage bytes place.address q
+list_inside {packed = packed} {place = place} {options = options} {lists = lists} {bytes = bytes} a q is =
     let m = a.made in
-    let plan : Plan = plan_of packed place o lists in
-    let inside = lists_stand_inside (layout_of plan) packed (lists_start packed place o) q (is_data_layout m) is in
+    let plan : Plan = plan_of packed place options lists in
+    let inside = lists_stand_inside (layout_of plan) packed (lists_start packed place options) q
+    (is_data_layout m) is in
     record {
       from = list_begin q _ place.address _ inside.0 (start_is m);
       to = list_end q _ _ _ place.address _ _ (length bytes) inside.1
-          (data_takes_size packed (lists_start packed place o) ∙ sym (lists_size (kept_set packed.features.0 o) m))
-          (start_is m) (size_splits plan) (a.size ∙ sym (plan_size_is m));
+          (data_takes_size packed (lists_start packed place options)
+          ∙ sym (lists_size (kept_set packed.features.0 options) m)) (start_is m) (size_splits plan)
+          (a.size ∙ sym (plan_size_is m));
     }
 
-same_parts : {packed : PackedSong} {place : Place} {o : Options} {lists : List Line} {bytes : List ℕ} →
-    Assembled packed place o lists bytes → (one two : ℕ → ℕ) → SameImage bytes place.address one two →
-    SameParts (layout_of (plan_of packed place o lists)) packed one two
-same_parts {packed = packed} {place = place} {o = o} {lists = lists} a one two same =
+same_parts : {packed : PackedSong} {place : Place} {options : Options} {lists : List Line} {bytes : List ℕ} →
+    Assembled packed place options lists bytes → (one two : ℕ → ℕ) → SameImage bytes place.address one two →
+    SameParts (layout_of (plan_of packed place options lists)) packed one two
+same_parts {packed = packed} {place = place} {options = options} {lists = lists} a one two same =
     let long = image_long a in record {
       variables = λ label few.
           let is = label_variable a.made label few in
@@ -103,13 +106,15 @@ same_parts {packed = packed} {place = place} {o = o} {lists = lists} a one two s
     }
 
 -- it goes on
-pub ready_moved : {packed : PackedSong} {song : Song} {place : Place} {o : Options} {lists : List Line}
-    {bytes : List ℕ} → Player packed song place o lists bytes → (k : ℕ) (x : FrameState) (before machine : Machine) →
-    AgreesOn bytes place.address before machine → Ready packed place o lists k x (slice_index before.memory) →
-    Ready packed place o lists k x (slice_index machine.memory)
-ready_moved {packed = packed} {place = place} {o = o} {lists = lists} {bytes = bytes} p k x before machine agrees ready =
+pub ready_moved : {packed : PackedSong} {song : Song} {place : Place} {options : Options} {lists : List Line}
+    {bytes : List ℕ} → Player packed song place options lists bytes → (k : ℕ) (x : FrameState)
+    (before machine : Machine) → AgreesOn bytes place.address before machine →
+    Ready packed place options lists k x (slice_index before.memory) →
+    Ready packed place options lists k x (slice_index machine.memory)
+ready_moved {packed = packed} {place = place} {options = options} {lists = lists} {bytes = bytes}
+    p k x before machine agrees ready =
     let a = p.image in
-    let plan : Plan = plan_of packed place o lists in
+    let plan : Plan = plan_of packed place options lists in
     let same = agrees_same bytes place.address before machine agrees in
     let back : SameImage bytes place.address (slice_index before.memory) (slice_index machine.memory) =
     record { same = λ q from to. sym (same.same q from to) } in

@@ -27,50 +27,50 @@ use Rattle.player_build.proofs.Layouts.{layout_of, Made, size_splits, plan_size_
 -- ---- an image
 
 -- the bytes of an image with these lines of its lists
-pub record Assembled (packed : PackedSong) (place : Place) (o : Options) (lists : List Line) (bytes : List ℕ)
+pub record Assembled (packed : PackedSong) (place : Place) (options : Options) (lists : List Line) (bytes : List ℕ)
     : Type 0 where
-  pub made : Made packed place o lists
-  pub are : bytes ≡ assembled_bytes (kept_set packed.features.0 o) place.address
-      (plan_lines (plan_of packed place o lists))
-  pub size : length bytes ≡ image_length packed o
+  pub made : Made packed place options lists
+  pub are : bytes ≡ assembled_bytes (kept_set packed.features.0 options) place.address
+      (plan_lines (plan_of packed place options lists))
+  pub size : length bytes ≡ image_length packed options
 
 in_memory : (origin size : ℕ) → origin + size ≤ 0xD000 → origin + size ≤ MEMORY_SIZE
 in_memory origin size h = omega (arith, h)
 
-pub fits_memory : {packed : PackedSong} {place : Place} {o : Options} {lists : List Line} →
-    Made packed place o lists → place.address + plan_size (plan_of packed place o lists) ≤ MEMORY_SIZE
+pub fits_memory : {packed : PackedSong} {place : Place} {options : Options} {lists : List Line} →
+    Made packed place options lists → place.address + plan_size (plan_of packed place options lists) ≤ MEMORY_SIZE
 fits_memory {place = place} m = in_memory place.address _ (plan_ends m)
 
-pub assembles : {packed : PackedSong} {place : Place} {o : Options} {lists : List Line} →
-    Made packed place o lists →
-    fault_of (kept_set packed.features.0 o) place.address (plan_lines (plan_of packed place o lists)) ≡ None
-assembles {packed = packed} {place = place} {o = o} {lists = lists} m =
-    code_assembles (plan_of packed place o lists) m.plan (fits_memory m)
+pub assembles : {packed : PackedSong} {place : Place} {options : Options} {lists : List Line} →
+    Made packed place options lists →
+    fault_of (kept_set packed.features.0 options) place.address (plan_lines (plan_of packed place options lists)) ≡ None
+assembles {packed = packed} {place = place} {options = options} {lists = lists} m =
+    code_assembles (plan_of packed place options lists) m.plan (fits_memory m)
 
 -- its lines stand where its bytes do
-pub lines_stand : {packed : PackedSong} {place : Place} {o : Options} {lists : List Line} {bytes : List ℕ}
-    (at : ℕ → ℕ) → Assembled packed place o lists bytes → BytesStand at place.address bytes →
-    LinesAt (plan_address (plan_of packed place o lists)) at place.address
-    (kept (kept_set packed.features.0 o) (plan_lines (plan_of packed place o lists)))
-lines_stand {packed = packed} {place = place} {o = o} {lists = lists} at a stand =
-    assembled_lines_stand opcodes_have_rows (kept_set packed.features.0 o) place.address
-    (plan_lines (plan_of packed place o lists)) (assembles a.made) at
+pub lines_stand : {packed : PackedSong} {place : Place} {options : Options} {lists : List Line} {bytes : List ℕ}
+    (at : ℕ → ℕ) → Assembled packed place options lists bytes → BytesStand at place.address bytes →
+    LinesAt (plan_address (plan_of packed place options lists)) at place.address
+    (kept (kept_set packed.features.0 options) (plan_lines (plan_of packed place options lists)))
+lines_stand {packed = packed} {place = place} {options = options} {lists = lists} at a stand =
+    assembled_lines_stand opcodes_have_rows (kept_set packed.features.0 options) place.address
+    (plan_lines (plan_of packed place options lists)) (assembles a.made) at
     (subst (λ (bs : List ℕ). BytesStand at place.address bs) a.are stand)
 
-pub code_stands : {packed : PackedSong} {place : Place} {o : Options} {lists : List Line} {bytes : List ℕ}
-    (at : ℕ → ℕ) → Assembled packed place o lists bytes → BytesStand at place.address bytes →
-    CodeStands (plan_of packed place o lists) at
-code_stands {packed = packed} {place = place} {o = o} {lists = lists} at a stand =
-    kept_code_stands (plan_of packed place o lists) at a.made.plan (fits_memory a.made) (lines_stand at a stand)
+pub code_stands : {packed : PackedSong} {place : Place} {options : Options} {lists : List Line} {bytes : List ℕ}
+    (at : ℕ → ℕ) → Assembled packed place options lists bytes → BytesStand at place.address bytes →
+    CodeStands (plan_of packed place options lists) at
+code_stands {packed = packed} {place = place} {options = options} {lists = lists} at a stand =
+    kept_code_stands (plan_of packed place options lists) at a.made.plan (fits_memory a.made) (lines_stand at a stand)
 
 -- and so do its lists
-pub lists_stand : {packed : PackedSong} {place : Place} {o : Options} {lists : List Line} {bytes : List ℕ}
-    (at : ℕ → ℕ) → Assembled packed place o lists bytes → BytesStand at place.address bytes →
-    HasLists (layout_of (plan_of packed place o lists)) packed at
-lists_stand {packed = packed} {place = place} {o = o} {lists = lists} at a stand =
-    let plan : Plan = plan_of packed place o lists in
-    let set = kept_set packed.features.0 o in
-    let start = lists_start packed place o in
+pub lists_stand : {packed : PackedSong} {place : Place} {options : Options} {lists : List Line} {bytes : List ℕ}
+    (at : ℕ → ℕ) → Assembled packed place options lists bytes → BytesStand at place.address bytes →
+    HasLists (layout_of (plan_of packed place options lists)) packed at
+lists_stand {packed = packed} {place = place} {options = options} {lists = lists} at a stand =
+    let plan : Plan = plan_of packed place options lists in
+    let set = kept_set packed.features.0 options in
+    let start = lists_start packed place options in
     let all = subst (λ (ls : List Line). LinesAt (plan_address plan) at place.address ls)
     (kept-append set (plan_code plan) lists) (lines_stand at a stand) in
     let back =
@@ -106,15 +106,15 @@ pub record BlockStands (site : Site) (at : ℕ → ℕ) : Type 0 where
   pub has : HasBytes at site.origin (size_of (kept site.set site.front)) (size_of (kept site.set (lines_at site)))
       (assembled_bytes site.set site.origin (listing_at site))
 
-pub play_stands : {packed : PackedSong} {place : Place} {o : Options} {lists : List Line} {bytes : List ℕ}
-    (at : ℕ → ℕ) → Assembled packed place o lists bytes → BytesStand at place.address bytes →
-    BlockStands (play_site (plan_of packed place o lists)) at
-play_stands {packed = packed} {place = place} {o = o} {lists = lists} {bytes = bytes} at a stand =
-    let plan : Plan = plan_of packed place o lists in
+pub play_stands : {packed : PackedSong} {place : Place} {options : Options} {lists : List Line} {bytes : List ℕ}
+    (at : ℕ → ℕ) → Assembled packed place options lists bytes → BytesStand at place.address bytes →
+    BlockStands (play_site (plan_of packed place options lists)) at
+play_stands {packed = packed} {place = place} {options = options} {lists = lists} {bytes = bytes} at a stand =
+    let plan : Plan = plan_of packed place options lists in
     let site : Site = play_site plan in
     let b : BlocksStand plan = blocks_stand plan (labels_stand_in_place plan a.made.plan) in
     let one : bytes ≡ assembled_bytes site.set site.origin (listing_at site) =
-    a.are ∙ ap (λ (ls : List Line). assembled_bytes (kept_set packed.features.0 o) place.address ls)
+    a.are ∙ ap (λ (ls : List Line). assembled_bytes (kept_set packed.features.0 options) place.address ls)
     (sym (sites_are_in_one_listing plan).play) in
     record {
       has = subst (λ (bs : List ℕ). HasBytes at place.address (size_of (kept site.set site.front))
@@ -124,15 +124,15 @@ play_stands {packed = packed} {place = place} {o = o} {lists = lists} {bytes = b
           (a.size ∙ sym (plan_size_is a.made))));
     }
 
-pub init_stands : {packed : PackedSong} {place : Place} {o : Options} {lists : List Line} {bytes : List ℕ}
-    (at : ℕ → ℕ) → Assembled packed place o lists bytes → BytesStand at place.address bytes →
-    BlockStands (init_site (plan_of packed place o lists)) at
-init_stands {packed = packed} {place = place} {o = o} {lists = lists} {bytes = bytes} at a stand =
-    let plan : Plan = plan_of packed place o lists in
+pub init_stands : {packed : PackedSong} {place : Place} {options : Options} {lists : List Line} {bytes : List ℕ}
+    (at : ℕ → ℕ) → Assembled packed place options lists bytes → BytesStand at place.address bytes →
+    BlockStands (init_site (plan_of packed place options lists)) at
+init_stands {packed = packed} {place = place} {options = options} {lists = lists} {bytes = bytes} at a stand =
+    let plan : Plan = plan_of packed place options lists in
     let site : Site = init_site plan in
     let b : BlocksStand plan = blocks_stand plan (labels_stand_in_place plan a.made.plan) in
     let one : bytes ≡ assembled_bytes site.set site.origin (listing_at site) =
-    a.are ∙ ap (λ (ls : List Line). assembled_bytes (kept_set packed.features.0 o) place.address ls)
+    a.are ∙ ap (λ (ls : List Line). assembled_bytes (kept_set packed.features.0 options) place.address ls)
     (sym (sites_are_in_one_listing plan).init) in
     record {
       has = subst (λ (bs : List ℕ). HasBytes at place.address (size_of (kept site.set site.front))

@@ -119,10 +119,10 @@ own_address plan layout label e there is =
     subst (λ (l : Layout). l.address label < plan.origin + 127) (sym e)
     (own_below (plan_address plan label) plan.origin label (there.variables label small) small)
 
-pub play_well : {packed : PackedSong} {place : Place} {o : Options} {lists : List Line} → Made packed place o lists →
-    IsWellEntered (play_entrance (plan_of packed place o lists))
-play_well {packed = packed} {place = place} {o = o} {lists = lists} m =
-    let plan : Plan = plan_of packed place o lists in
+pub play_well : {packed : PackedSong} {place : Place} {options : Options} {lists : List Line} →
+    Made packed place options lists → IsWellEntered (play_entrance (plan_of packed place options lists))
+play_well {packed = packed} {place = place} {options = options} {lists = lists} m =
+    let plan : Plan = plan_of packed place options lists in
     let there = labels_stand_in_place plan m.plan in
     let b = blocks_stand plan there in
     let code = code_is_there plan b in
@@ -141,10 +141,10 @@ play_well {packed = packed} {place = place} {o = o} {lists = lists} m =
       stored_outside = λ p e. absurd (none_some e);
     }
 
-pub init_well : {packed : PackedSong} {place : Place} {o : Options} {lists : List Line} → Made packed place o lists →
-    IsWellEntered (init_entrance (plan_of packed place o lists))
-init_well {packed = packed} {place = place} {o = o} {lists = lists} m =
-    let plan : Plan = plan_of packed place o lists in
+pub init_well : {packed : PackedSong} {place : Place} {options : Options} {lists : List Line} →
+    Made packed place options lists → IsWellEntered (init_entrance (plan_of packed place options lists))
+init_well {packed = packed} {place = place} {options = options} {lists = lists} m =
+    let plan : Plan = plan_of packed place options lists in
     let there = labels_stand_in_place plan m.plan in
     let b = blocks_stand plan there in
     let code = code_is_there plan b in
@@ -169,11 +169,11 @@ init_well {packed = packed} {place = place} {o = o} {lists = lists} m =
 
 -- ---- their code
 
-pub has_play_code : {packed : PackedSong} {place : Place} {o : Options} {lists : List Line} {bytes : List ℕ}
-    (at : ℕ → ℕ) → Assembled packed place o lists bytes → BytesStand at place.address bytes →
-    HasCode (play_entrance (plan_of packed place o lists)) at
-has_play_code {packed = packed} {place = place} {o = o} {lists = lists} at a stand =
-    let plan : Plan = plan_of packed place o lists in
+pub has_play_code : {packed : PackedSong} {place : Place} {options : Options} {lists : List Line} {bytes : List ℕ}
+    (at : ℕ → ℕ) → Assembled packed place options lists bytes → BytesStand at place.address bytes →
+    HasCode (play_entrance (plan_of packed place options lists)) at
+has_play_code {packed = packed} {place = place} {options = options} {lists = lists} at a stand =
+    let plan : Plan = plan_of packed place options lists in
     let there = labels_stand_in_place plan a.made.plan in
     let b = blocks_stand plan there in
     let code = code_stands at a stand in
@@ -187,11 +187,11 @@ has_play_code {packed = packed} {place = place} {o = o} {lists = lists} at a sta
       back = code.play_returns;
     }
 
-pub has_init_code : {packed : PackedSong} {place : Place} {o : Options} {lists : List Line} {bytes : List ℕ}
-    (at : ℕ → ℕ) → Assembled packed place o lists bytes → BytesStand at place.address bytes →
-    HasCode (init_entrance (plan_of packed place o lists)) at
-has_init_code {packed = packed} {place = place} {o = o} {lists = lists} at a stand =
-    let plan : Plan = plan_of packed place o lists in
+pub has_init_code : {packed : PackedSong} {place : Place} {options : Options} {lists : List Line} {bytes : List ℕ}
+    (at : ℕ → ℕ) → Assembled packed place options lists bytes → BytesStand at place.address bytes →
+    HasCode (init_entrance (plan_of packed place options lists)) at
+has_init_code {packed = packed} {place = place} {options = options} {lists = lists} at a stand =
+    let plan : Plan = plan_of packed place options lists in
     let there = labels_stand_in_place plan a.made.plan in
     let b = blocks_stand plan there in
     let code = code_stands at a stand in

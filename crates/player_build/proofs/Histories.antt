@@ -87,29 +87,29 @@ same_after machine entry number n m after other one two =
 -- ---- what stands after any calls
 
 -- the subtune is there, and the memory holds its state
-pub record Stand (packed : PackedSong) (place : Place) (o : Options) (lists : List Line) (calls : List ImageCall)
+pub record Stand (packed : PackedSong) (place : Place) (options : Options) (lists : List Line) (calls : List ImageCall)
     (last : Machine) : Type 0 where
   pub below : (spot_after calls).subtune < length packed.subtunes
-  pub ready : Ready packed place o lists (spot_after calls).subtune
-      (state_after_with o (unpacked_song packed) (spot_after calls).subtune (spot_after calls).plays)
+  pub ready : Ready packed place options lists (spot_after calls).subtune
+      (state_after_with options (unpacked_song packed) (spot_after calls).subtune (spot_after calls).plays)
       (slice_index last.memory)
 
 -- it does in each machine that agrees
-pub stand_moved : {packed : PackedSong} {song : Song} {place : Place} {o : Options} {lists : List Line}
-    {bytes : List ℕ} → Player packed song place o lists bytes → (calls : List ImageCall) (before machine : Machine) →
-    AgreesOn bytes place.address before machine → Stand packed place o lists calls before →
-    Stand packed place o lists calls machine
-stand_moved {packed = packed} {o = o} p calls before machine agrees stand = record {
+pub stand_moved : {packed : PackedSong} {song : Song} {place : Place} {options : Options} {lists : List Line}
+    {bytes : List ℕ} → Player packed song place options lists bytes → (calls : List ImageCall)
+    (before machine : Machine) → AgreesOn bytes place.address before machine →
+    Stand packed place options lists calls before → Stand packed place options lists calls machine
+stand_moved {packed = packed} {options = options} p calls before machine agrees stand = record {
   below = stand.below;
   ready = ready_moved p (spot_after calls).subtune _ before machine agrees stand.ready;
 }
 
 -- behind a play
-play_stands_on : {packed : PackedSong} {song : Song} {place : Place} {o : Options} {lists : List Line}
-    {bytes : List ℕ} → Player packed song place o lists bytes → (calls : List ImageCall) (machine : Machine)
-    (number : ℕ) → IsMachine machine → Stand packed place o lists calls machine →
-    (r : Returns (play_entrance (plan_of packed place o lists)) machine number) →
-    Stand packed place o lists (Play ∷ calls) r.after
+play_stands_on : {packed : PackedSong} {song : Song} {place : Place} {options : Options} {lists : List Line}
+    {bytes : List ℕ} → Player packed song place options lists bytes → (calls : List ImageCall) (machine : Machine)
+    (number : ℕ) → IsMachine machine → Stand packed place options lists calls machine →
+    (r : Returns (play_entrance (plan_of packed place options lists)) machine number) →
+    Stand packed place options lists (Play ∷ calls) r.after
 unfolding spot_after
 play_stands_on p calls machine number is stand r = record {
   below = stand.below;
@@ -118,11 +118,12 @@ play_stands_on p calls machine number is stand r = record {
 }
 
 -- behind an init
-init_stands_on : {packed : PackedSong} {song : Song} {place : Place} {o : Options} {lists : List Line}
-    {bytes : List ℕ} → Player packed song place o lists bytes → (calls : List ImageCall) (k : ℕ) (machine : Machine) →
-    IsMachine machine → k < length packed.subtunes → Stand packed place o lists calls machine →
-    (r : Returns (init_entrance (plan_of packed place o lists)) machine k) →
-    Stand packed place o lists (Init k ∷ calls) r.after
+init_stands_on : {packed : PackedSong} {song : Song} {place : Place} {options : Options} {lists : List Line}
+    {bytes : List ℕ} → Player packed song place options lists bytes → (calls : List ImageCall) (k : ℕ)
+    (machine : Machine) → IsMachine machine → k < length packed.subtunes →
+    Stand packed place options lists calls machine →
+    (r : Returns (init_entrance (plan_of packed place options lists)) machine k) →
+    Stand packed place options lists (Init k ∷ calls) r.after
 unfolding spot_after
 init_stands_on p calls k machine is few stand r = record {
   below = few;
@@ -131,36 +132,36 @@ init_stands_on p calls k machine is few stand r = record {
 }
 
 -- the image as it is loaded
-loaded_stands : {packed : PackedSong} {song : Song} {place : Place} {o : Options} {lists : List Line}
-    {bytes : List ℕ} → Player packed song place o lists bytes → 0 < length packed.subtunes → (machine : Machine) →
-    Holds machine.memory place.address bytes → Stand packed place o lists [] machine
+loaded_stands : {packed : PackedSong} {song : Song} {place : Place} {options : Options} {lists : List Line}
+    {bytes : List ℕ} → Player packed song place options lists bytes → 0 < length packed.subtunes → (machine : Machine) →
+    Holds machine.memory place.address bytes → Stand packed place options lists [] machine
 unfolding spot_after
 loaded_stands {place = place} {bytes = bytes} p some machine holds =
     let stand : BytesStand (slice_index machine.memory) place.address bytes = record { byte = holds.byte } in
     record { below = some; ready = image_ready (slice_index machine.memory) p some stand }
 
-pub subtune_few : {packed : PackedSong} {song : Song} {place : Place} {o : Options} {lists : List Line}
-    {bytes : List ℕ} → Player packed song place o lists bytes → (k : ℕ) → k < length (playable_subtunes song) →
+pub subtune_few : {packed : PackedSong} {song : Song} {place : Place} {options : Options} {lists : List Line}
+    {bytes : List ℕ} → Player packed song place options lists bytes → (k : ℕ) → k < length (playable_subtunes song) →
     k < length packed.subtunes
 subtune_few p k h = subst (λ n. k < n) (sym p.stands.subtunes) h
 
-pub stand_after : {packed : PackedSong} {song : Song} {place : Place} {o : Options} {lists : List Line}
-    {bytes : List ℕ} → Player packed song place o lists bytes → 0 < length packed.subtunes →
+pub stand_after : {packed : PackedSong} {song : Song} {place : Place} {options : Options} {lists : List Line}
+    {bytes : List ℕ} → Player packed song place options lists bytes → 0 < length packed.subtunes →
     (calls : List ImageCall) (last : Machine) → LeadTo bytes place.address song calls last →
-    Stand packed place o lists calls last
+    Stand packed place options lists calls last
 stand_after p some [] last led = loaded_stands p some last led.1
-stand_after {packed = packed} {place = place} {o = o} {lists = lists} p some (Play ∷ earlier) last led =
+stand_after {packed = packed} {place = place} {options = options} {lists = lists} p some (Play ∷ earlier) last led =
     let stand = stand_moved p earlier led.before led.machine led.agrees (stand_after p some earlier led.before led.stood) in
     let r = play_returns p (spot_after earlier).subtune _ led.machine led.number led.is stand.ready in
-    subst (Stand packed place o lists (Play ∷ earlier))
+    subst (Stand packed place options lists (Play ∷ earlier))
     (same_after led.machine (place.address + 3) led.number _ _ r.after last r.called led.called)
     (play_stands_on p earlier led.machine led.number led.is stand r)
-stand_after {packed = packed} {place = place} {o = o} {lists = lists} p some (Init k ∷ earlier) last led =
+stand_after {packed = packed} {place = place} {options = options} {lists = lists} p some (Init k ∷ earlier) last led =
     let machine : Machine = led.machine in
     let stand = stand_moved p earlier led.before machine led.agrees (stand_after p some earlier led.before led.stood) in
     let r = init_returns p machine k led.is stand.ready.init_code in
     let here : Called machine place.address k led.steps last =
     subst (λ n. Called machine place.address n led.steps last) led.made.1 led.called in
-    subst (Stand packed place o lists (Init k ∷ earlier))
+    subst (Stand packed place options lists (Init k ∷ earlier))
     (same_after machine place.address k _ _ r.after last r.called here)
     (init_stands_on p earlier k machine led.is (subtune_few p k led.made.0) stand r)

@@ -43,31 +43,32 @@ use Rattle.player_build.proofs.Whole.{image_plays}
 -- ---- what an image is made from
 
 -- as the types say, where the image fits
-pub record Allowed (packed : PackedSong) (place : Place) (o : Options) (code : ℕ) : Type 0 where
+pub record Allowed (packed : PackedSong) (place : Place) (options : Options) (code : ℕ) : Type 0 where
   pub counts : KeepsCounts packed
   pub patterns : KeepsPatternLimits packed
   pub features : packed.features.0 < 2 ^ 24
   pub address : IsAddress place.address
   pub page : IsZeroPage place.zero_page
-  pub speed : IsSpeed o.speed
-  pub code_is : code + 196 ≡ code_length packed.features.0 o
+  pub speed : IsSpeed options.speed
+  pub code_is : code + 196 ≡ code_length packed.features.0 options
   pub fits : place.address + (code + 196 + packed_song_size packed) ≤ 0xD000
 
 start_by : (code length : ℕ) → code + 196 ≡ length → code ≡ length - 196
 start_by code length e = omega (arith, e)
 
-pub start_of : {packed : PackedSong} {place : Place} {o : Options} {code : ℕ} → Allowed packed place o code →
-    place.address + code ≡ lists_start packed place o
+pub start_of : {packed : PackedSong} {place : Place} {options : Options} {code : ℕ} →
+    Allowed packed place options code → place.address + code ≡ lists_start packed place options
 start_of {place = place} a = ap (λ n. place.address + n) (start_by _ _ a.code_is)
 
 fits_by : (address code size length : ℕ) → code + 196 ≡ length → address + (code + 196 + size) ≤ 0xD000 →
     address + (size + length) ≤ 0xD000
 fits_by address code size length e h = omega (arith, e, h)
 
-pub made : {packed : PackedSong} {place : Place} {o : Options} {code : ℕ} (lists : List Line) →
-    Allowed packed place o code → HasLines packed (lists_start packed place o) lists → Made packed place o lists
-made {packed = packed} {place = place} {o = o} lists a has = record {
-  plan = is_plan packed place o lists a.page.least a.page.most a.speed a.counts has;
+pub made : {packed : PackedSong} {place : Place} {options : Options} {code : ℕ} (lists : List Line) →
+    Allowed packed place options code → HasLines packed (lists_start packed place options) lists →
+    Made packed place options lists
+made {packed = packed} {place = place} {options = options} lists a has = record {
+  plan = is_plan packed place options lists a.page.least a.page.most a.speed a.counts has;
   counts = a.counts;
   lines = has;
   features = a.features;
@@ -79,8 +80,9 @@ made {packed = packed} {place = place} {o = o} lists a has = record {
 pub code_by : (size code length : ℕ) → size + 196 ≡ length → code + 196 ≡ length → code ≡ size
 code_by size code length a b = omega (arith, a, b)
 
-pub code_is : {packed : PackedSong} {place : Place} {o : Options} {code : ℕ} {lists : List Line} →
-    Allowed packed place o code → Made packed place o lists → code ≡ code_size (plan_of packed place o lists)
+pub code_is : {packed : PackedSong} {place : Place} {options : Options} {code : ℕ} {lists : List Line} →
+    Allowed packed place options code → Made packed place options lists →
+    code ≡ code_size (plan_of packed place options lists)
 code_is a m = code_by _ _ _ (code_size_is m) a.code_is
 
 -- ---- limits
@@ -88,12 +90,13 @@ code_is a m = code_by _ _ _ (code_size_is m) a.code_is
 few_lines : (code lists all : ℕ) → code ≤ 5000 → lists ≤ 1000 → all ≡ code + lists → all ≤ 1000000
 few_lines code lists all a b e = omega (arith, a, b, e)
 
-pub lines_fit : {packed : PackedSong} {place : Place} {o : Options} {lists : List Line} → Made packed place o lists →
-    length (plan_lines (plan_of packed place o lists)) ≤ 1000000
-lines_fit {packed = packed} {place = place} {o = o} {lists = lists} m =
-    let plan : Plan = plan_of packed place o lists in
-    few_lines _ _ _ (code_is_within_limits plan.variables plan.pointer o plan.count m.plan.variables).lines
-    (lines_are_few packed (lists_start packed place o) lists m.counts m.lines) (length-append (plan_code plan) lists)
+pub lines_fit : {packed : PackedSong} {place : Place} {options : Options} {lists : List Line} →
+    Made packed place options lists → length (plan_lines (plan_of packed place options lists)) ≤ 1000000
+lines_fit {packed = packed} {place = place} {options = options} {lists = lists} m =
+    let plan : Plan = plan_of packed place options lists in
+    few_lines _ _ _ (code_is_within_limits plan.variables plan.pointer options plan.count m.plan.variables).lines
+    (lines_are_few packed (lists_start packed place options) lists m.counts m.lines)
+    (length-append (plan_code plan) lists)
 
 data_append : (front back : List Line) → data_size (front ++ back) ≡ data_size front + data_size back
 data_append [] back = zero_more (data_size back)
@@ -112,13 +115,13 @@ few_bytes code lists all size address a b e h = omega (arith, a, b, e, h)
 within : (address size length : ℕ) → address + (size + length) ≤ 0xD000 → address + size ≤ 0xD000
 within address size length h = omega (arith, h)
 
-pub bytes_fit : {packed : PackedSong} {place : Place} {o : Options} {lists : List Line} → Made packed place o lists →
-    data_size (plan_lines (plan_of packed place o lists)) ≤ 1000000
-bytes_fit {packed = packed} {place = place} {o = o} {lists = lists} m =
-    let plan : Plan = plan_of packed place o lists in
+pub bytes_fit : {packed : PackedSong} {place : Place} {options : Options} {lists : List Line} →
+    Made packed place options lists → data_size (plan_lines (plan_of packed place options lists)) ≤ 1000000
+bytes_fit {packed = packed} {place = place} {options = options} {lists = lists} m =
+    let plan : Plan = plan_of packed place options lists in
     few_bytes _ _ _ (packed_song_size packed) place.address
-    (code_is_within_limits plan.variables plan.pointer o plan.count m.plan.variables).bytes
-    (lines_take_size packed (lists_start packed place o) lists m.lines).1 (data_append (plan_code plan) lists)
+    (code_is_within_limits plan.variables plan.pointer options plan.count m.plan.variables).bytes
+    (lines_take_size packed (lists_start packed place options) lists m.lines).1 (data_append (plan_code plan) lists)
     (within place.address _ _ m.fits)
 
 -- ---- parts
@@ -203,22 +206,22 @@ far : (n : ℕ) → 32 ≤ n → 27 ≤ n
 far n h = omega (arith, h)
 
 -- each part has its length
-pub part_is : {packed : PackedSong} {place : Place} {o : Options} {lists : List Line} → Made packed place o lists →
-    (part a b : ℕ) (code : List PartSpan) →
+pub part_is : {packed : PackedSong} {place : Place} {options : Options} {lists : List Line} →
+    Made packed place options lists → (part a b : ℕ) (code : List PartSpan) →
     part_size part code
-    ≡ bytes_in part (kept (kept_set packed.features.0 o) (plan_code (plan_of packed place o lists))) →
-    part_size part (code ++ frequency_span a ∷ frequency_span b ∷ []) ≡ length_of_part packed o part
-part_is {packed = packed} {place = place} {o = o} {lists = lists} m part a b code is =
-    let plan : Plan = plan_of packed place o lists in
-    let set : ℕ = kept_set packed.features.0 o in
-    let lengths = parts_have_lengths plan.variables plan.pointer o plan.count m.plan.variables in
+    ≡ bytes_in part (kept (kept_set packed.features.0 options) (plan_code (plan_of packed place options lists))) →
+    part_size part (code ++ frequency_span a ∷ frequency_span b ∷ []) ≡ length_of_part packed options part
+part_is {packed = packed} {place = place} {options = options} {lists = lists} m part a b code is =
+    let plan : Plan = plan_of packed place options lists in
+    let set : ℕ = kept_set packed.features.0 options in
+    let lengths = parts_have_lengths plan.variables plan.pointer options plan.count m.plan.variables in
     let all = spans_part part code a b in
     let one = is ∙ kept_part set part (plan_code plan) in
     elim (cases_eq part 255) [
       | inl e ↦
           let f = e in
-          subst (λ n. part_size n (code ++ frequency_span a ∷ frequency_span b ∷ []) ≡ length_of_part packed o n) (sym f)
-          (spans_part 255 code a b
+          subst (λ n. part_size n (code ++ frequency_span a ∷ frequency_span b ∷ []) ≡ length_of_part packed options n)
+          (sym f) (spans_part 255 code a b
           ∙ whole (part_size 255 code) (part_length always)
           (ap (λ n. n + 196) (subst (λ n. part_size n code ≡ bytes_in n (kept set (plan_code plan))) f is
           ∙ kept_part set 255 (plan_code plan)) ∙ lengths.rest))
@@ -226,7 +229,7 @@ part_is {packed = packed} {place = place} {o = o} {lists = lists} m part a b cod
           let other = n in
           let not : nat_eq part 255 ≡ false = ne_eqb part 255 other in
           let back : nat_eq 255 part ≡ false = ne_eqb 255 part (λ q. other (sym q)) in
-          let own : length_of_part packed o part ≡ length_if (bit_kept set part) part =
+          let own : length_of_part packed options part ≡ length_if (bit_kept set part) part =
           ap (λ (z : Bool). if z then part_length always else length_if (bit_kept set part) part) not in
           let alone =
           all
@@ -389,23 +392,26 @@ all_inside front code packed all size speeds rows follow a b c h =
     (All-cons (Ends size) (frequency_span (code + 98 + speeds)) [] (highs_end code packed all size speeds rows a b c h)
     (All-nil (Ends size))))
 
-pub is_parts : {packed : PackedSong} {place : Place} {o : Options} {lists : List Line} → Made packed place o lists →
-    (size speeds : ℕ) (spans : List PartSpan) → size ≡ image_length packed o → speeds ≡ length packed.speed →
-    AreSpansOf (kept_set packed.features.0 o) (plan_code (plan_of packed place o lists)) speeds spans →
-    NamesParts packed place o size spans
-is_parts {packed = packed} {place = place} {o = o} {lists = lists} m size speeds spans size_is speeds_are are =
-    let code : ℕ = code_size (plan_of packed place o lists) in
-    let plan : Plan = plan_of packed place o lists in
-    let parts : NamesParts packed place o size
+pub is_parts : {packed : PackedSong} {place : Place} {options : Options} {lists : List Line} →
+    Made packed place options lists → (size speeds : ℕ) (spans : List PartSpan) → size ≡ image_length packed options →
+    speeds ≡ length packed.speed → AreSpansOf (kept_set packed.features.0 options)
+    (plan_code (plan_of packed place options lists)) speeds spans → NamesParts packed place options size spans
+is_parts {packed = packed} {place = place} {options = options} {lists = lists}
+    m size speeds spans size_is speeds_are are =
+    let code : ℕ = code_size (plan_of packed place options lists) in
+    let plan : Plan = plan_of packed place options lists in
+    let parts : NamesParts packed place options size
     (are.code ++ frequency_span code ∷ frequency_span (code + 98 + speeds) ∷ []) =
     record {
       in_order = all_in_order are.code 0 code speeds are.follow;
       inside = all_inside are.code code _ _ size speeds (length packed.speed) are.follow (code_size_is m) size_is speeds_are
           (rows_within packed);
       named = λ byte below. (
-        none_packed byte code speeds (length packed.speed) (code_length packed.features.0 o) (code_size_is m) speeds_are
+        none_packed byte code speeds (length packed.speed) (code_length packed.features.0 options)
+            (code_size_is m) speeds_are
             are.code are.follow,
-        named_else byte code speeds (length packed.speed) (code_length packed.features.0 o) (code_size_is m) speeds_are
+        named_else byte code speeds (length packed.speed) (code_length packed.features.0 options)
+            (code_size_is m) speeds_are
             are.code are.follow,
       );
       add_up = ap (λ n. n + packed_song_size packed) (spans_all are.code code (code + 98 + speeds))
@@ -428,7 +434,7 @@ is_parts {packed = packed} {place = place} {o = o} {lists = lists} m size speeds
           part_is m part code (code + 98 + speeds) are.code
           (parts_sized part are.code (kept plan.set (plan_code plan)) are.parts);
     } in
-    subst (NamesParts packed place o size) (sym are.are) parts
+    subst (NamesParts packed place options size) (sym are.are) parts
 
 -- ---- the whole
 
@@ -436,21 +442,23 @@ fits_as : (address size length : ℕ) → size ≡ length → address + length �
 fits_as address size length e h = omega (arith, e, h)
 
 -- what the code has come to is the image
-pub is_build : {packed : PackedSong} {o : Options} {code : ℕ} (lists : List Line) (built : Image) (speeds : ℕ) →
-    Allowed packed built.place o code → HasLines packed (lists_start packed built.place o) lists →
+pub is_build : {packed : PackedSong} {options : Options} {code : ℕ} (lists : List Line) (built : Image) (speeds : ℕ) →
+    Allowed packed built.place options code → HasLines packed (lists_start packed built.place options) lists →
     built.bytes
-    ≡ assembled_bytes (kept_set packed.features.0 o) built.place.address
-    (plan_lines (plan_of packed built.place o lists)) →
+    ≡ assembled_bytes (kept_set packed.features.0 options) built.place.address
+    (plan_lines (plan_of packed built.place options lists)) →
     length built.bytes
-    ≡ size_of (kept (kept_set packed.features.0 o) (plan_lines (plan_of packed built.place o lists))) →
+    ≡ size_of (kept (kept_set packed.features.0 options) (plan_lines (plan_of packed built.place options lists))) →
     AreBytes built.bytes → speeds ≡ length packed.speed →
-    AreSpansOf (kept_set packed.features.0 o) (plan_code (plan_of packed built.place o lists)) speeds built.parts →
-    IsBuild packed built.place o built
-is_build {packed = packed} {o = o} lists built speeds a has are size_is bytes speeds_are spans =
+    AreSpansOf (kept_set packed.features.0 options) (plan_code (plan_of packed built.place options lists))
+    speeds built.parts → IsBuild packed built.place options built
+is_build {packed = packed} {options = options} lists built speeds a has are size_is bytes speeds_are spans =
     let m = made lists a has in
-    let size : length built.bytes ≡ image_length packed o = size_is ∙ plan_size_is m in
-    let assembled : Assembled packed built.place o lists built.bytes = record { made = m; are = are; size = size } in
-    let image : IsImageOf packed built.place o built.bytes = record { lists = lists; has_lines = has; are = are } in
+    let size : length built.bytes ≡ image_length packed options = size_is ∙ plan_size_is m in
+    let assembled : Assembled packed built.place options lists built.bytes =
+    record { made = m; are = are; size = size } in
+    let image : IsImageOf packed built.place options built.bytes =
+    record { lists = lists; has_lines = has; are = are } in
     record {
       place_is = refl;
       image = image;
@@ -458,5 +466,5 @@ is_build {packed = packed} {o = o} lists built speeds a has are size_is bytes sp
       size = size;
       fits = fits_as _ _ _ size m.fits;
       parts = is_parts m (length built.bytes) speeds built.parts size speeds_are spans;
-      plays = λ song stands. image_plays packed song o built image assembled a.patterns a.speed stands;
+      plays = λ song stands. image_plays packed song options built image assembled a.patterns a.speed stands;
     }

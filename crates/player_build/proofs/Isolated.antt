@@ -40,9 +40,9 @@ use Rattle.player_build.proofs.Served.{plays_always}
 
 -- ---- what is read is in the image
 
-read_inside : {packed : PackedSong} {place : Place} {o : Options} {lists : List Line} {bytes : List ℕ} →
-    Assembled packed place o lists bytes → (q : ℕ) → MayRead (layout_of (plan_of packed place o lists)) packed q →
-    InImage bytes place.address q
+read_inside : {packed : PackedSong} {place : Place} {options : Options} {lists : List Line} {bytes : List ℕ} →
+    Assembled packed place options lists bytes → (q : ℕ) →
+    MayRead (layout_of (plan_of packed place options lists)) packed q → InImage bytes place.address q
 read_inside a q (inl is) = list_inside a q is
 read_inside {place = place} a q (inr is) =
     let long = image_long a in record {
@@ -51,10 +51,10 @@ read_inside {place = place} a q (inr is) =
     }
 
 -- the listing of a site is the image
-in_listing : {packed : PackedSong} {place : Place} {o : Options} {lists : List Line} {bytes : List ℕ} →
-    Assembled packed place o lists bytes → (site : Site) → site.origin ≡ place.address →
-    end_at site ≡ place.address + plan_size (plan_of packed place o lists) →
-    IsWider (MayRead (layout_of (plan_of packed place o lists)) packed) (InListing site)
+in_listing : {packed : PackedSong} {place : Place} {options : Options} {lists : List Line} {bytes : List ℕ} →
+    Assembled packed place options lists bytes → (site : Site) → site.origin ≡ place.address →
+    end_at site ≡ place.address + plan_size (plan_of packed place options lists) →
+    IsWider (MayRead (layout_of (plan_of packed place options lists)) packed) (InListing site)
 in_listing {packed = packed} {place = place} {bytes = bytes} a site begins ends =
     let end : end_at site ≡ place.address + length bytes =
     end_is place.address (length bytes) _ (end_at site) (a.size ∙ sym (plan_size_is a.made)) ends in
@@ -73,9 +73,9 @@ image_begin : (address k : ℕ) → address ≤ address + k
 image_begin address k = omega arith
 
 -- two calls of one entrance that end as its laws say
-ends_alike : {packed : PackedSong} {place : Place} {o : Options} {lists : List Line} {bytes : List ℕ} →
-    Assembled packed place o lists bytes → (e : Entrance) → e.site.origin ≡ place.address →
-    end_at e.site ≡ place.address + plan_size (plan_of packed place o lists) → (one two : Machine)
+ends_alike : {packed : PackedSong} {place : Place} {options : Options} {lists : List Line} {bytes : List ℕ} →
+    Assembled packed place options lists bytes → (e : Entrance) → e.site.origin ≡ place.address →
+    end_at e.site ≡ place.address + plan_size (plan_of packed place options lists) → (one two : Machine)
     (number other : ℕ) (a : Returns e one number) (b : Returns e two other) →
     AreAlike e one two number other a b → (registers : List ℕ) → sid_registers a.after ≡ registers →
     sid_registers b.after ≡ registers → EndAlike bytes place.address a.steps b.steps a.after b.after
@@ -119,15 +119,16 @@ both_same {bytes = bytes} {address = address} before one two a b =
 
 -- ---- plays
 
-play_alike : {packed : PackedSong} {song : Song} {place : Place} {o : Options} {lists : List Line} {bytes : List ℕ} →
-    Player packed song place o lists bytes → (earlier : List ImageCall) (one two : Machine) (number other : ℕ) →
-    IsMachine one → Stand packed place o lists earlier one →
+play_alike : {packed : PackedSong} {song : Song} {place : Place} {options : Options} {lists : List Line}
+    {bytes : List ℕ} → Player packed song place options lists bytes → (earlier : List ImageCall) (one two : Machine)
+    (number other : ℕ) → IsMachine one → Stand packed place options lists earlier one →
     SameImage bytes place.address (slice_index one.memory) (slice_index two.memory) →
-    (a : Returns (play_entrance (plan_of packed place o lists)) one number)
-    (b : Returns (play_entrance (plan_of packed place o lists)) two other) →
-    AreAlike (play_entrance (plan_of packed place o lists)) one two number other a b
-play_alike {packed = packed} {place = place} {o = o} {lists = lists} p earlier one two number other is stand same a b =
-    let plan : Plan = plan_of packed place o lists in
+    (a : Returns (play_entrance (plan_of packed place options lists)) one number)
+    (b : Returns (play_entrance (plan_of packed place options lists)) two other) →
+    AreAlike (play_entrance (plan_of packed place options lists)) one two number other a b
+play_alike {packed = packed} {place = place} {options = options} {lists = lists}
+    p earlier one two number other is stand same a b =
+    let plan : Plan = plan_of packed place options lists in
     let e : Entrance = play_entrance plan in
     let desk : Desk = entrance_desk e one number in
     let plays = play_plays p (spot_after earlier).subtune (spot_after earlier).plays one number is stand.below stand.ready in
@@ -142,25 +143,26 @@ play_alike {packed = packed} {place = place} {o = o} {lists = lists} p earlier o
 
 -- ---- inits
 
-init_alike : {packed : PackedSong} {song : Song} {place : Place} {o : Options} {lists : List Line} {bytes : List ℕ} →
-    Player packed song place o lists bytes → (earlier : List ImageCall) (k : ℕ) (one two : Machine) → IsMachine one →
-    k < length packed.subtunes → Stand packed place o lists earlier one →
+init_alike : {packed : PackedSong} {song : Song} {place : Place} {options : Options} {lists : List Line}
+    {bytes : List ℕ} → Player packed song place options lists bytes → (earlier : List ImageCall) (k : ℕ)
+    (one two : Machine) → IsMachine one → k < length packed.subtunes → Stand packed place options lists earlier one →
     SameImage bytes place.address (slice_index one.memory) (slice_index two.memory) →
-    (a : Returns (init_entrance (plan_of packed place o lists)) one k)
-    (b : Returns (init_entrance (plan_of packed place o lists)) two k) →
-    AreAlike (init_entrance (plan_of packed place o lists)) one two k k a b
-init_alike {packed = packed} {place = place} {o = o} {lists = lists} p earlier k one two is few stand same a b =
-    let plan : Plan = plan_of packed place o lists in
+    (a : Returns (init_entrance (plan_of packed place options lists)) one k)
+    (b : Returns (init_entrance (plan_of packed place options lists)) two k) →
+    AreAlike (init_entrance (plan_of packed place options lists)) one two k k a b
+init_alike {packed = packed} {place = place} {options = options} {lists = lists}
+    p earlier k one two is few stand same a b =
+    let plan : Plan = plan_of packed place options lists in
     let e : Entrance = init_entrance plan in
     let desk : Desk = entrance_desk e one k in
     let begun = init_begun p k one is few stand.ready.holds.lists in
-    let reads : Reads (InListing (init_site plan)) (layout_of plan) (init_tree o) 0 desk =
-    reads_wider (in_listing p.image (init_site plan) refl (init_end plan)) (layout_of plan) (init_tree o) 0 desk
+    let reads : Reads (InListing (init_site plan)) (layout_of plan) (init_tree options) 0 desk =
+    reads_wider (in_listing p.image (init_site plan) refl (init_end plan)) (layout_of plan) (init_tree options) 0 desk
     begun.reads in
     entrances_are_isolated e one two k k (init_well p.image.made)
     (site_agrees p.image (init_site plan) refl (init_end plan) one two same) (λ q s. refl)
-    (subst (λ (l : Layout). Reads (InListing (init_site plan)) l (init_tree o) 0 desk) (sym (init_layout plan)) reads)
-    a b
+    (subst (λ (l : Layout). Reads (InListing (init_site plan)) l (init_tree options) 0 desk)
+    (sym (init_layout plan)) reads) a b
 
 -- ---- any calls
 
@@ -178,23 +180,23 @@ since : (calls : List ImageCall) → since_init calls ≢ None → Since calls
 since calls some =
     let is = since_some (since_init calls) some in record { k = is.0; n = is.1; is = is.2 }
 
-pub is_isolated : {packed : PackedSong} {song : Song} {place : Place} {o : Options} {lists : List Line}
-    {bytes : List ℕ} → Player packed song place o lists bytes → 0 < length packed.subtunes →
+pub is_isolated : {packed : PackedSong} {song : Song} {place : Place} {options : Options} {lists : List Line}
+    {bytes : List ℕ} → Player packed song place options lists bytes → 0 < length packed.subtunes →
     IsIsolated bytes place.address song
-is_isolated {packed = packed} {song = song} {place = place} {o = o} {lists = lists} {bytes = bytes} p some =
+is_isolated {packed = packed} {song = song} {place = place} {options = options} {lists = lists} {bytes = bytes} p some =
     record { alike = by_call }
   where
     plan : Plan
-    plan = plan_of packed place o lists
+    plan = plan_of packed place options lists
 
-    always : PlaysAlways bytes place.address place.zero_page song o
+    always : PlaysAlways bytes place.address place.zero_page song options
     always = plays_always p some
 
     -- the registers of a call that serves, in the machine of another that returns
     registers_of : (earlier : List ImageCall) (call : ImageCall) (machine : Machine) (number n : ℕ) (after : Machine) →
-        Serves bytes place.address place.zero_page song o earlier call machine number →
+        Serves bytes place.address place.zero_page song options earlier call machine number →
         Called machine (entry_of place.address call) number n after → (s : Since (call ∷ earlier)) →
-        sid_registers after ≡ trace_with o song s.k s.n
+        sid_registers after ≡ trace_with options song s.k s.n
     registers_of earlier call machine number n after serves called s =
         ap sid_registers
         (sym (same_after machine (entry_of place.address call) number serves.steps n serves.after after serves.called
@@ -221,7 +223,7 @@ is_isolated {packed = packed} {song = song} {place = place} {o = o} {lists = lis
         let two_serves = always.serves earlier Play before two other led is' agrees' made' in
         as_called one two (place.address + 3) number other a.steps b.steps n m a.after b.after after after'
         (ends_alike p.image (play_entrance plan) refl (play_end plan) one two number other a b alike
-        (trace_with o song s.k s.n)
+        (trace_with options song s.k s.n)
         (registers_of earlier Play one number a.steps a.after one_serves a.called s)
         (registers_of earlier Play two other b.steps b.after two_serves b.called s))
         a.called b.called called called'
@@ -241,7 +243,7 @@ is_isolated {packed = packed} {song = song} {place = place} {o = o} {lists = lis
         let d = subst (λ i. Called two place.address i m after') made'.1 called' in
         as_called one two place.address k k a.steps b.steps n m a.after b.after after after'
         (ends_alike p.image (init_entrance plan) refl (init_end plan) one two k k a b alike
-        (trace_with o song s.k s.n)
+        (trace_with options song s.k s.n)
         (registers_of earlier (Init k) one k a.steps a.after one_serves a.called s)
         (registers_of earlier (Init k) two k b.steps b.after two_serves b.called s))
         a.called b.called c d

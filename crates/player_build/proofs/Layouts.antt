@@ -99,55 +99,58 @@ code_is_there plan b = code_more _ _ _ _ _ _ b.play_low b.play_high b.init_low b
 -- ---- of a packed song
 
 -- what an image is made from, with the lines of its lists
-pub record Made (packed : PackedSong) (place : Place) (o : Options) (lists : List Line) : Type 0 where
-  pub plan : IsPlan (plan_of packed place o lists)
+pub record Made (packed : PackedSong) (place : Place) (options : Options) (lists : List Line) : Type 0 where
+  pub plan : IsPlan (plan_of packed place options lists)
   pub counts : KeepsCounts packed
-  pub lines : HasLines packed (lists_start packed place o) lists
+  pub lines : HasLines packed (lists_start packed place options) lists
   pub features : packed.features.0 < 2 ^ 24
   pub begins : 0x0800 ≤ place.address
-  pub fits : place.address + image_length packed o ≤ 0xD000
+  pub fits : place.address + image_length packed options ≤ 0xD000
 
 code_is : (size length : ℕ) → size + 196 ≡ length → size ≡ length - 196
 code_is size length e = omega (arith, e)
 
 -- the code's size, which counts the frequencies too, and the whole
-pub code_size_is : {packed : PackedSong} {place : Place} {o : Options} {lists : List Line} →
-    Made packed place o lists → code_size (plan_of packed place o lists) + 196 ≡ code_length packed.features.0 o
-code_size_is {packed = packed} {place = place} {o = o} {lists = lists} m =
-    let plan : Plan = plan_of packed place o lists in
-    code_has_its_length plan.variables plan.pointer o plan.count packed.features.0 m.plan.variables m.features
+pub code_size_is : {packed : PackedSong} {place : Place} {options : Options} {lists : List Line} →
+    Made packed place options lists → code_size (plan_of packed place options lists) + 196
+    ≡ code_length packed.features.0 options
+code_size_is {packed = packed} {place = place} {options = options} {lists = lists} m =
+    let plan : Plan = plan_of packed place options lists in
+    code_has_its_length plan.variables plan.pointer options plan.count packed.features.0 m.plan.variables m.features
 
-pub start_is : {packed : PackedSong} {place : Place} {o : Options} {lists : List Line} → Made packed place o lists →
-    lists_start packed place o ≡ place.address + code_size (plan_of packed place o lists)
+pub start_is : {packed : PackedSong} {place : Place} {options : Options} {lists : List Line} →
+    Made packed place options lists → lists_start packed place options ≡ place.address
+    + code_size (plan_of packed place options lists)
 start_is {place = place} m = ap (λ n. place.address + n) (sym (code_is _ _ (code_size_is m)))
 
-pub lists_size : {packed : PackedSong} {place : Place} {o : Options} {lists : List Line} (set : ℕ) →
-    Made packed place o lists → size_of (kept set lists) ≡ 196 + packed_song_size packed
-lists_size {packed = packed} {place = place} {o = o} {lists = lists} set m =
-    ap size_of (lines_are_kept packed (lists_start packed place o) set lists m.lines)
-    ∙ (lines_take_size packed (lists_start packed place o) lists m.lines).0
+pub lists_size : {packed : PackedSong} {place : Place} {options : Options} {lists : List Line} (set : ℕ) →
+    Made packed place options lists → size_of (kept set lists) ≡ 196 + packed_song_size packed
+lists_size {packed = packed} {place = place} {options = options} {lists = lists} set m =
+    ap size_of (lines_are_kept packed (lists_start packed place options) set lists m.lines)
+    ∙ (lines_take_size packed (lists_start packed place options) lists m.lines).0
 
 all_size : (plan code lists size length : ℕ) → plan ≡ code + lists → lists ≡ 196 + size → code + 196 ≡ length →
     plan ≡ size + length
 all_size plan code lists size length a b c = omega (arith, a, b, c)
 
-pub plan_size_is : {packed : PackedSong} {place : Place} {o : Options} {lists : List Line} →
-    Made packed place o lists → plan_size (plan_of packed place o lists) ≡ image_length packed o
-plan_size_is {packed = packed} {place = place} {o = o} {lists = lists} m =
-    all_size _ _ _ _ _ (size_splits (plan_of packed place o lists)) (lists_size (kept_set packed.features.0 o) m)
-    (code_size_is m)
+pub plan_size_is : {packed : PackedSong} {place : Place} {options : Options} {lists : List Line} →
+    Made packed place options lists → plan_size (plan_of packed place options lists) ≡ image_length packed options
+plan_size_is {packed = packed} {place = place} {options = options} {lists = lists} m =
+    all_size _ _ _ _ _ (size_splits (plan_of packed place options lists))
+    (lists_size (kept_set packed.features.0 options) m) (code_size_is m)
 
-pub plan_ends : {packed : PackedSong} {place : Place} {o : Options} {lists : List Line} →
-    Made packed place o lists → place.address + plan_size (plan_of packed place o lists) ≤ 0xD000
+pub plan_ends : {packed : PackedSong} {place : Place} {options : Options} {lists : List Line} →
+    Made packed place options lists → place.address + plan_size (plan_of packed place options lists) ≤ 0xD000
 plan_ends {place = place} m = subst (λ n. place.address + n ≤ 0xD000) (sym (plan_size_is m)) m.fits
 
 -- each label of the lists is at its byte
-pub is_data_layout : {packed : PackedSong} {place : Place} {o : Options} {lists : List Line} →
-    Made packed place o lists → IsDataLayout (layout_of (plan_of packed place o lists)) packed (lists_start packed place o)
-is_data_layout {packed = packed} {place = place} {o = o} {lists = lists} m = record {
+pub is_data_layout : {packed : PackedSong} {place : Place} {options : Options} {lists : List Line} →
+    Made packed place options lists → IsDataLayout (layout_of (plan_of packed place options lists)) packed
+    (lists_start packed place options)
+is_data_layout {packed = packed} {place = place} {options = options} {lists = lists} m = record {
   stands = λ mark is.
-      (labels_stand_in_place (plan_of packed place o lists) m.plan).lists mark.label mark.place
-      (labels_have_places packed (lists_start packed place o) lists mark m.counts m.lines is)
+      (labels_stand_in_place (plan_of packed place options lists) m.plan).lists mark.label mark.place
+      (labels_have_places packed (lists_start packed place options) lists mark m.counts m.lines is)
       ∙ ap (λ n. n + mark.place) (sym (start_is m));
 }
 
@@ -181,10 +184,10 @@ list_apart : (start origin code place first : ℕ) → start ≡ origin + code �
     134 ≤ code → first + 121 ≤ place
 list_apart start origin code place first e l f c = omega (arith, e, l, f, c)
 
-pub is_player_layout : {packed : PackedSong} {place : Place} {o : Options} {lists : List Line} →
-    Made packed place o lists → IsPlayerLayout (layout_of (plan_of packed place o lists)) packed
-is_player_layout {packed = packed} {place = place} {o = o} {lists = lists} m =
-    let plan : Plan = plan_of packed place o lists in
+pub is_player_layout : {packed : PackedSong} {place : Place} {options : Options} {lists : List Line} →
+    Made packed place options lists → IsPlayerLayout (layout_of (plan_of packed place options lists)) packed
+is_player_layout {packed = packed} {place = place} {options = options} {lists = lists} m =
+    let plan : Plan = plan_of packed place options lists in
     let there = labels_stand_in_place plan m.plan in
     let code = code_is_there plan (blocks_stand plan there) in
     let first : plan_address plan 0 ≡ place.address + (6 + 0) = there.variables 0 some_variables in
@@ -197,17 +200,17 @@ is_player_layout {packed = packed} {place = place} {o = o} {lists = lists} m =
           variable_is (plan_address plan label) place.address (plan_address plan 0) label (there.variables label few) first;
       from = λ p is.
           list_from _ _ _ p (start_is m) m.begins
-          (lists_stand_inside (layout_of plan) packed (lists_start packed place o) p laid is).0;
+          (lists_stand_inside (layout_of plan) packed (lists_start packed place options) p laid is).0;
       to = λ p is.
           list_to _ _ _ p _ 0 _ _ (start_is m)
-          (lists_stand_inside (layout_of plan) packed (lists_start packed place o) p laid is).1
-          (data_takes_size packed (lists_start packed place o) ∙ sym (lists_size (kept_set packed.features.0 o) m))
-          (size_splits plan) (plan_ends m);
+          (lists_stand_inside (layout_of plan) packed (lists_start packed place options) p laid is).1
+          (data_takes_size packed (lists_start packed place options)
+          ∙ sym (lists_size (kept_set packed.features.0 options) m)) (size_splits plan) (plan_ends m);
       apart = λ p is.
           inr
           (list_apart _ _ _ p _ (start_is m)
-          (lists_stand_inside (layout_of plan) packed (lists_start packed place o) p laid is).0 first code);
-      next = next_bytes_are_next (layout_of plan) packed (lists_start packed place o) laid;
+          (lists_stand_inside (layout_of plan) packed (lists_start packed place options) p laid is).0 first code);
+      next = next_bytes_are_next (layout_of plan) packed (lists_start packed place options) laid;
       pointer_low = m.plan.pointer_low;
       pointer_high = m.plan.pointer_high;
     }

@@ -66,15 +66,15 @@ walk_some : (packed : PackedSong) → 0 < walk_count packed
 unfolding walk_count
 walk_some packed = omega arith
 
-pub is_plan : (packed : PackedSong) (place : Place) (o : Options) (lists : List Line) →
-    2 ≤ place.zero_page → place.zero_page ≤ 254 → IsSpeed o.speed → KeepsCounts packed →
-    HasLines packed (lists_start packed place o) lists → IsPlan (plan_of packed place o lists)
-is_plan packed place o lists low high speed counts has = record {
-  variables = length-map (range_with_len 0 VARIABLES) (start_variable o (first_order packed place o));
+pub is_plan : (packed : PackedSong) (place : Place) (options : Options) (lists : List Line) →
+    2 ≤ place.zero_page → place.zero_page ≤ 254 → IsSpeed options.speed → KeepsCounts packed →
+    HasLines packed (lists_start packed place options) lists → IsPlan (plan_of packed place options lists)
+is_plan packed place options lists low high speed counts has = record {
+  variables = length-map (range_with_len 0 VARIABLES) (start_variable options (first_order packed place options));
   pointer_low = low;
   pointer_high = high;
   speed = speed;
   count_low = count_low _ (walk_some packed);
   count_high = count_high _;
-  lists = is_data packed (lists_start packed place o) lists counts has;
+  lists = is_data packed (lists_start packed place options) lists counts has;
 }

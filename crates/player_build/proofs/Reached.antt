@@ -96,17 +96,17 @@ pub subtunes_count : (packed : PackedSong) (song : Song) → StandsFor packed so
 subtunes_count packed song stands =
     ap length (subtunes_same packed song stands) ∙ length-map packed.subtunes unpacked_subtune
 
-pub state_safe : (packed : PackedSong) (song : Song) (o : Options) (k i : ℕ) → StandsFor packed song →
-    IsSpeed o.speed → k < length packed.subtunes →
-    IsSafe (unpacked_song packed) k (state_after_with o (unpacked_song packed) k i)
-state_safe packed song o k i stands speed below =
-    states_are_safe_lem o (unpacked_song packed) k i speed stands.packed_song.limits stands.complete.playable
+pub state_safe : (packed : PackedSong) (song : Song) (options : Options) (k i : ℕ) → StandsFor packed song →
+    IsSpeed options.speed → k < length packed.subtunes →
+    IsSafe (unpacked_song packed) k (state_after_with options (unpacked_song packed) k i)
+state_safe packed song options k i stands speed below =
+    states_are_safe_lem options (unpacked_song packed) k i speed stands.packed_song.limits stands.complete.playable
     (subst (λ n. k < n) (sym (subtunes_count packed song stands)) below)
 
-pub state_ranges : (packed : PackedSong) (song : Song) (o : Options) (k i : ℕ) → StandsFor packed song →
-    IsSpeed o.speed → IsFrameState (state_after_with o (unpacked_song packed) k i)
-state_ranges packed song o k i stands speed =
-    (song_ranges_lem o (unpacked_song packed) speed stands.packed_song.limits).state k i
+pub state_ranges : (packed : PackedSong) (song : Song) (options : Options) (k i : ℕ) → StandsFor packed song →
+    IsSpeed options.speed → IsFrameState (state_after_with options (unpacked_song packed) k i)
+state_ranges packed song options k i stands speed =
+    (song_ranges_lem options (unpacked_song packed) speed stands.packed_song.limits).state k i
 
 -- ---- kept parts
 
@@ -139,22 +139,23 @@ bit_few SetTempo = omega arith
 bit_few WaveTable = omega arith
 bit_few WaveCommand = omega arith
 
-pub keeps_used : (packed : PackedSong) (song : Song) (place : Place) (o : Options) (lists : List Line) (k i : ℕ) →
-    StandsFor packed song → packed.features.0 < 2 ^ 24 → IsSpeed o.speed → k < length packed.subtunes →
-    KeepsUsed (layout_of (plan_of packed place o lists)) packed o k (state_after_with o (unpacked_song packed) k i)
-keeps_used packed song place o lists k i stands small speed below feature uses =
-    let in_song = (stands.plays o k speed (subst (λ n. k < n) stands.subtunes below)).uses i feature uses in
+pub keeps_used : (packed : PackedSong) (song : Song) (place : Place) (options : Options) (lists : List Line) (k i : ℕ) →
+    StandsFor packed song → packed.features.0 < 2 ^ 24 → IsSpeed options.speed → k < length packed.subtunes →
+    KeepsUsed (layout_of (plan_of packed place options lists)) packed options k
+    (state_after_with options (unpacked_song packed) k i)
+keeps_used packed song place options lists k i stands small speed below feature uses =
+    let in_song = (stands.plays options k speed (subst (λ n. k < n) stands.subtunes below)).uses i feature uses in
     let set = (stands.features.each feature).1 in_song in
-    let bit = (sets_are_kept packed.features.0 o small).features_are (bit_of feature) (bit_few feature)
+    let bit = (sets_are_kept packed.features.0 options small).features_are (bit_of feature) (bit_few feature)
     ∙ bit_in packed.features.0 (bit_of feature) set in
-    eq-eqb (bit_at (kept_set packed.features.0 o) (bit_of feature)) 1 bit
+    eq-eqb (bit_at (kept_set packed.features.0 options) (bit_of feature)) 1 bit
 
-pub keeps_options : (packed : PackedSong) (place : Place) (o : Options) (lists : List Line) →
-    packed.features.0 < 2 ^ 24 → KeepsOptions (layout_of (plan_of packed place o lists)) o
-keeps_options packed place o lists small =
-    let kept = sets_are_kept packed.features.0 o small in record { effects = kept.effects; pulse = kept.pulse }
+pub keeps_options : (packed : PackedSong) (place : Place) (options : Options) (lists : List Line) →
+    packed.features.0 < 2 ^ 24 → KeepsOptions (layout_of (plan_of packed place options lists)) options
+keeps_options packed place options lists small =
+    let kept = sets_are_kept packed.features.0 options small in record { effects = kept.effects; pulse = kept.pulse }
 
-pub keeps_timer : (packed : PackedSong) (place : Place) (o : Options) (lists : List Line) →
+pub keeps_timer : (packed : PackedSong) (place : Place) (options : Options) (lists : List Line) →
     packed.features.0 < 2 ^ 24 →
-    (layout_of (plan_of packed place o lists)).is_kept TIMER_BIT ≡ nat_lt 1 o.speed
-keeps_timer packed place o lists small = (sets_are_kept packed.features.0 o small).timer
+    (layout_of (plan_of packed place options lists)).is_kept TIMER_BIT ≡ nat_lt 1 options.speed
+keeps_timer packed place options lists small = (sets_are_kept packed.features.0 options small).timer

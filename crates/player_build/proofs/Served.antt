@@ -42,8 +42,8 @@ use Rattle.player_build.proofs.Histories.{IsSpot, spot_after, spot_is, Stand, st
 few_registers : (i : ℕ) → i ≤ 24 → i < 25
 few_registers i h = omega (arith, h)
 
-pointer_own : {size address zero_page : ℕ} {o : Options} (sp q k : ℕ) → k ≤ 1 → zero_page + k ≡ q →
-    IsOwnPlace size address zero_page o sp q
+pointer_own : {size address zero_page : ℕ} {options : Options} (sp q k : ℕ) → k ≤ 1 → zero_page + k ≡ q →
+    IsOwnPlace size address zero_page options sp q
 pointer_own sp q zero few e = IsOwnPlace.low_pointer (low _ q e)
   where
     low : (zero_page q : ℕ) → zero_page + 0 ≡ q → q ≡ zero_page
@@ -51,23 +51,24 @@ pointer_own sp q zero few e = IsOwnPlace.low_pointer (low _ q e)
 pointer_own sp q (suc zero) few e = IsOwnPlace.high_pointer (sym e)
 pointer_own sp q (suc (suc k)) few e = absurd (omega (arith, few))
 
-timer_own : {size address zero_page : ℕ} {o : Options} (sp q : ℕ) (half : Half) → 1 < o.speed → timer_place half ≡ q →
-    IsOwnPlace size address zero_page o sp q
+timer_own : {size address zero_page : ℕ} {options : Options} (sp q : ℕ) (half : Half) → 1 < options.speed →
+    timer_place half ≡ q → IsOwnPlace size address zero_page options sp q
 timer_own sp q Low fast e = IsOwnPlace.in_timer fast (inl (sym e))
 timer_own sp q High fast e = IsOwnPlace.in_timer fast (inr (sym e))
 
 -- a place at which a block may write, where it writes the timer at higher speeds alone
-pub write_own : {packed : PackedSong} {place : Place} {o : Options} {lists : List Line} {bytes : List ℕ} →
-    Assembled packed place o lists bytes → (with_timer : Bool) → (with_timer ≡ true → 1 < o.speed) →
-    (layout : Layout) → layout ≡ layout_of (plan_of packed place o lists) → (sp q : ℕ) →
-    MayWrite layout (names_with with_timer) q → IsOwnPlace (length bytes) place.address place.zero_page o sp q
-write_own {packed = packed} {place = place} {o = o} {lists = lists} {bytes = bytes} a with_timer fast layout same sp q
-    (AtOwn label is e) =
+pub write_own : {packed : PackedSong} {place : Place} {options : Options} {lists : List Line} {bytes : List ℕ} →
+    Assembled packed place options lists bytes → (with_timer : Bool) → (with_timer ≡ true → 1 < options.speed) →
+    (layout : Layout) → layout ≡ layout_of (plan_of packed place options lists) → (sp q : ℕ) →
+    MayWrite layout (names_with with_timer) q → IsOwnPlace (length bytes) place.address place.zero_page options sp q
+write_own {packed = packed} {place = place} {options = options} {lists = lists} {bytes = bytes}
+    a with_timer fast layout same sp q (AtOwn label is e) =
     let small : label < VARIABLES = ltb-true label VARIABLES is in
-    subst (IsOwnPlace (length bytes) place.address place.zero_page o sp)
+    subst (IsOwnPlace (length bytes) place.address place.zero_page options sp)
     (ap (λ (l : Layout). l.address label) (sym same) ∙ e) (variable_own a sp _ (label_variable a.made label small))
-write_own {place = place} {o = o} {bytes = bytes} a with_timer fast layout same sp q (AtRegister register is few e) =
-    register_own (length bytes) place.address place.zero_page o sp q register (few_registers register few) (sym e)
+write_own {place = place} {options = options} {bytes = bytes}
+    a with_timer fast layout same sp q (AtRegister register is few e) =
+    register_own (length bytes) place.address place.zero_page options sp q register (few_registers register few) (sym e)
 write_own a with_timer fast layout same sp q (AtTimer half is e) = timer_own sp q half (fast is) e
 write_own a with_timer fast layout same sp q (AtPointer k few e) =
     pointer_own sp q k few (ap (λ (l : Layout). l.pointer + k) (sym same) ∙ e)
@@ -75,40 +76,42 @@ write_own a with_timer fast layout same sp q (AtPointer k few e) =
 no_timer : {speed : ℕ} → false ≡ true → 1 < speed
 no_timer e = absurd (true≢false (sym e))
 
-play_store : {packed : PackedSong} {place : Place} {o : Options} {lists : List Line} {bytes : List ℕ} →
-    Assembled packed place o lists bytes → (sp q : ℕ) → MayStore (play_entrance (plan_of packed place o lists)) q →
-    IsOwnPlace (length bytes) place.address place.zero_page o sp q
-play_store {packed = packed} {place = place} {o = o} {lists = lists} a sp q (AsBlock may) =
-    write_own a false no_timer (layout_at (play_site (plan_of packed place o lists)))
-    (play_layout (plan_of packed place o lists)) sp q may
+play_store : {packed : PackedSong} {place : Place} {options : Options} {lists : List Line} {bytes : List ℕ} →
+    Assembled packed place options lists bytes → (sp q : ℕ) →
+    MayStore (play_entrance (plan_of packed place options lists)) q →
+    IsOwnPlace (length bytes) place.address place.zero_page options sp q
+play_store {packed = packed} {place = place} {options = options} {lists = lists} a sp q (AsBlock may) =
+    write_own a false no_timer (layout_at (play_site (plan_of packed place options lists)))
+    (play_layout (plan_of packed place options lists)) sp q may
 play_store a sp q (AsNumber e) = absurd (none_some e)
 
-fast_store : {packed : PackedSong} {place : Place} {o : Options} {lists : List Line} {bytes : List ℕ} →
-    Assembled packed place o lists bytes → 1 < o.speed → (sp q : ℕ) →
-    MayStore (init_entrance (plan_of packed place o lists)) q →
-    IsOwnPlace (length bytes) place.address place.zero_page o sp q
-fast_store {packed = packed} {place = place} {o = o} {lists = lists} a fast sp q (AsBlock may) =
-    write_own a true (λ e. fast) (layout_at (init_site (plan_of packed place o lists)))
-    (init_layout (plan_of packed place o lists)) sp q may
+fast_store : {packed : PackedSong} {place : Place} {options : Options} {lists : List Line} {bytes : List ℕ} →
+    Assembled packed place options lists bytes → 1 < options.speed → (sp q : ℕ) →
+    MayStore (init_entrance (plan_of packed place options lists)) q →
+    IsOwnPlace (length bytes) place.address place.zero_page options sp q
+fast_store {packed = packed} {place = place} {options = options} {lists = lists} a fast sp q (AsBlock may) =
+    write_own a true (λ e. fast) (layout_at (init_site (plan_of packed place options lists)))
+    (init_layout (plan_of packed place options lists)) sp q may
 fast_store a fast sp q (AsNumber e) = subtune_own a sp q (sym (some_same e))
 
-slow_store : {packed : PackedSong} {place : Place} {o : Options} {lists : List Line} {bytes : List ℕ} →
-    Assembled packed place o lists bytes → o.speed ≤ 1 → (sp q : ℕ) →
-    MayStore (untimed_entrance (plan_of packed place o lists)) q →
-    IsOwnPlace (length bytes) place.address place.zero_page o sp q
-slow_store {packed = packed} {place = place} {o = o} {lists = lists} a slow sp q (AsBlock may) =
-    write_own a false no_timer (layout_at (untimed_site (plan_of packed place o lists))) (untimed_layout a.made slow) sp
-    q may
+slow_store : {packed : PackedSong} {place : Place} {options : Options} {lists : List Line} {bytes : List ℕ} →
+    Assembled packed place options lists bytes → options.speed ≤ 1 → (sp q : ℕ) →
+    MayStore (untimed_entrance (plan_of packed place options lists)) q →
+    IsOwnPlace (length bytes) place.address place.zero_page options sp q
+slow_store {packed = packed} {place = place} {options = options} {lists = lists} a slow sp q (AsBlock may) =
+    write_own a false no_timer (layout_at (untimed_site (plan_of packed place options lists)))
+    (untimed_layout a.made slow) sp q may
 slow_store a slow sp q (AsNumber e) = subtune_own a sp q (sym (some_same e))
 
-init_stores : {packed : PackedSong} {song : Song} {place : Place} {o : Options} {lists : List Line} {bytes : List ℕ} →
-    Player packed song place o lists bytes → (k : ℕ) (machine : Machine) → IsMachine machine →
-    HasCode (init_entrance (plan_of packed place o lists)) (slice_index machine.memory) →
-    (r : Returns (init_entrance (plan_of packed place o lists)) machine k) →
-    All (λ (write : Write). IsOwnPlace (length bytes) place.address place.zero_page o ((machine.cpu.sp + 254) % 256)
+init_stores : {packed : PackedSong} {song : Song} {place : Place} {options : Options} {lists : List Line}
+    {bytes : List ℕ} → Player packed song place options lists bytes → (k : ℕ) (machine : Machine) → IsMachine machine →
+    HasCode (init_entrance (plan_of packed place options lists)) (slice_index machine.memory) →
+    (r : Returns (init_entrance (plan_of packed place options lists)) machine k) →
+    All (λ (write : Write). IsOwnPlace (length bytes) place.address place.zero_page options
+    ((machine.cpu.sp + 254) % 256)
     write.place) (writes_in r.steps (entered machine place.address k))
-init_stores {o = o} p k machine is code r =
-    elim (cases_lt 1 o.speed) [
+init_stores {options = options} p k machine is code r =
+    elim (cases_lt 1 options.speed) [
       | inl fast ↦ let f = fast in λ n d h. fast_store p.image f _ _ (r.writes n d h)
       | inr slow ↦
           let s = slow in
@@ -121,20 +124,21 @@ init_stores {o = o} p k machine is code r =
 short : (steps weight : ℕ) → steps ≤ weight + 4 → weight + 20 ≤ 60000 → steps ≤ 60000
 short steps weight a b = omega (arith, a, b)
 
-play_serves : {packed : PackedSong} {song : Song} {place : Place} {o : Options} {lists : List Line} {bytes : List ℕ} →
-    Player packed song place o lists bytes → (earlier : List ImageCall) (machine : Machine) (number : ℕ) →
-    IsMachine machine → Stand packed place o lists earlier machine →
-    Serves bytes place.address place.zero_page song o earlier Play machine number
+play_serves : {packed : PackedSong} {song : Song} {place : Place} {options : Options} {lists : List Line}
+    {bytes : List ℕ} → Player packed song place options lists bytes → (earlier : List ImageCall)
+    (machine : Machine) (number : ℕ) → IsMachine machine → Stand packed place options lists earlier machine →
+    Serves bytes place.address place.zero_page song options earlier Play machine number
 unfolding spot_after
-play_serves {packed = packed} {song = song} {place = place} {o = o} {lists = lists} p earlier machine number is stand =
+play_serves {packed = packed} {song = song} {place = place} {options = options} {lists = lists}
+    p earlier machine number is stand =
     let j = (spot_after earlier).subtune in
     let i = (spot_after earlier).plays in
     let plays = play_plays p j i machine number is stand.below stand.ready in
-    let r : Returns (play_entrance (plan_of packed place o lists)) machine number =
+    let r : Returns (play_entrance (plan_of packed place options lists)) machine number =
     play_returns p j _ machine number is stand.ready in
     record {
       steps = r.steps;
-      within = short r.steps _ r.most (calls_are_short (count_of packed) o (count_few packed) p.speed).0;
+      within = short r.steps _ r.most (calls_are_short (count_of packed) options (count_few packed) p.speed).0;
       after = r.after;
       called = r.called;
       confined = play_confined p j i machine number plays r;
@@ -143,25 +147,27 @@ play_serves {packed = packed} {song = song} {place = place} {o = o} {lists = lis
       registers = λ k n since.
           let spot : IsSpot (Play ∷ earlier) k n = spot_is (Play ∷ earlier) k n since in
           play_registers p j i machine number stand.below plays r
-          ∙ ap (λ (m : ℕ). trace_with o song m (suc i)) spot.subtune
-          ∙ ap (λ (m : ℕ). trace_with o song k m) spot.plays;
+          ∙ ap (λ (m : ℕ). trace_with options song m (suc i)) spot.subtune
+          ∙ ap (λ (m : ℕ). trace_with options song k m) spot.plays;
     }
 
 -- ---- an init
 
-init_serves : {packed : PackedSong} {song : Song} {place : Place} {o : Options} {lists : List Line} {bytes : List ℕ} →
-    Player packed song place o lists bytes → (earlier : List ImageCall) (k : ℕ) (machine : Machine) →
-    IsMachine machine → k < length packed.subtunes → Stand packed place o lists earlier machine →
-    Serves bytes place.address place.zero_page song o earlier (Init k) machine k
+init_serves : {packed : PackedSong} {song : Song} {place : Place} {options : Options} {lists : List Line}
+    {bytes : List ℕ} → Player packed song place options lists bytes → (earlier : List ImageCall) (k : ℕ)
+    (machine : Machine) → IsMachine machine → k < length packed.subtunes →
+    Stand packed place options lists earlier machine → Serves bytes place.address place.zero_page song options earlier
+    (Init k) machine k
 unfolding spot_after
-init_serves {packed = packed} {song = song} {place = place} {o = o} {lists = lists} p earlier k machine is few stand =
+init_serves {packed = packed} {song = song} {place = place} {options = options} {lists = lists}
+    p earlier k machine is few stand =
     let begun = init_begun p k machine is few stand.ready.holds.lists in
-    let r : Returns (init_entrance (plan_of packed place o lists)) machine k =
+    let r : Returns (init_entrance (plan_of packed place options lists)) machine k =
     init_returns p machine k is stand.ready.init_code in
     record {
       steps = r.steps;
-      within = short r.steps (weight (init_tree o)) r.most
-          (calls_are_short (count_of packed) o (count_few packed) p.speed).1;
+      within = short r.steps (weight (init_tree options)) r.most
+          (calls_are_short (count_of packed) options (count_few packed) p.speed).1;
       after = r.after;
       called = r.called;
       confined = init_confined p k machine begun r;
@@ -169,26 +175,27 @@ init_serves {packed = packed} {song = song} {place = place} {o = o} {lists = lis
       timer = init_timer p k machine begun r;
       registers = λ j n since.
           let spot : IsSpot (Init k ∷ earlier) j n = spot_is (Init k ∷ earlier) j n since in
-          init_registers p k machine begun r ∙ ap (λ (m : ℕ). trace_with o song m 0) spot.subtune
-          ∙ ap (λ (m : ℕ). trace_with o song j m) spot.plays;
+          init_registers p k machine begun r ∙ ap (λ (m : ℕ). trace_with options song m 0) spot.subtune
+          ∙ ap (λ (m : ℕ). trace_with options song j m) spot.plays;
     }
 
 -- ---- any call
 
-pub plays_always : {packed : PackedSong} {song : Song} {place : Place} {o : Options} {lists : List Line}
-    {bytes : List ℕ} → Player packed song place o lists bytes → 0 < length packed.subtunes →
-    PlaysAlways bytes place.address place.zero_page song o
-plays_always {packed = packed} {song = song} {place = place} {o = o} {lists = lists} {bytes = bytes} p some =
+pub plays_always : {packed : PackedSong} {song : Song} {place : Place} {options : Options} {lists : List Line}
+    {bytes : List ℕ} → Player packed song place options lists bytes → 0 < length packed.subtunes →
+    PlaysAlways bytes place.address place.zero_page song options
+plays_always {packed = packed} {song = song} {place = place} {options = options} {lists = lists} {bytes = bytes}
+    p some =
     record { serves = by_call }
   where
     by_call : (earlier : List ImageCall) (call : ImageCall) (before machine : Machine) (number : ℕ) →
         LeadTo bytes place.address song earlier before → IsMachine machine →
         AgreesOn bytes place.address before machine → IsMade song call number →
-        Serves bytes place.address place.zero_page song o earlier call machine number
+        Serves bytes place.address place.zero_page song options earlier call machine number
     by_call earlier Play before machine number led is agrees made =
         play_serves p earlier machine number is
         (stand_moved p earlier before machine agrees (stand_after p some earlier before led))
     by_call earlier (Init k) before machine number led is agrees made =
-        subst (Serves bytes place.address place.zero_page song o earlier (Init k) machine) (sym made.1)
+        subst (Serves bytes place.address place.zero_page song options earlier (Init k) machine) (sym made.1)
         (init_serves p earlier k machine is (subtune_few p k made.0)
         (stand_moved p earlier before machine agrees (stand_after p some earlier before led)))

@@ -84,30 +84,31 @@ six_more pc label = omega arith
 zero_add : (n : ℕ) → 0 + n ≡ n
 zero_add n = omega arith
 
-pub variable_byte : {packed : PackedSong} {place : Place} {o : Options} {lists : List Line} {bytes : List ℕ}
-    (at : ℕ → ℕ) → Assembled packed place o lists bytes → BytesStand at place.address bytes → (label : ℕ) →
+pub variable_byte : {packed : PackedSong} {place : Place} {options : Options} {lists : List Line} {bytes : List ℕ}
+    (at : ℕ → ℕ) → Assembled packed place options lists bytes → BytesStand at place.address bytes → (label : ℕ) →
     label < VARIABLES →
-    at (plan_address (plan_of packed place o lists) label) ≡ start_variable o (first_order packed place o) label
-variable_byte {packed = packed} {place = place} {o = o} {lists = lists} at a stand label few =
-    let plan : Plan = plan_of packed place o lists in
+    at (plan_address (plan_of packed place options lists) label)
+    ≡ start_variable options (first_order packed place options) label
+variable_byte {packed = packed} {place = place} {options = options} {lists = lists} at a stand label few =
+    let plan : Plan = plan_of packed place options lists in
     let front =
     front_stands (plan_address plan) at plan.set place.address (front_lines plan.variables)
     (all_lines plan.pointer PLAY_LABELS (play_tree plan.count)
-    ++ (middle_lines ++ (all_lines plan.pointer INIT_LABELS (init_tree o) ++ return_lines))) lists
+    ++ (middle_lines ++ (all_lines plan.pointer INIT_LABELS (init_tree options) ++ return_lines))) lists
     (lines_stand at a stand) in
     let variables = in_front (plan_address plan) at plan.set place.address plan.variables front in
     ap at (variable_at a.made label few ∙ six_more place.address label)
     ∙ variables_stand (plan_address plan) at plan.set (place.address + 6) 0 plan.variables variables label
     (subst (λ n. label < n) (sym a.made.plan.variables) few)
-    ∙ get_or-map-range_with_len (start_variable o (first_order packed place o)) 0 VARIABLES label label 0 few
-    (zero_add label)
+    ∙ get_or-map-range_with_len (start_variable options (first_order packed place options)) 0 VARIABLES
+    label label 0 few (zero_add label)
 
 -- the same address for the voice's orderlist, and the same bytes
-pub start_same : (o : Options) (order other : ℕ → ℕ) (label : ℕ) → order (voice_at label) ≡ other (voice_at label) →
-    start_variable o order label ≡ start_variable o other label
-start_same o order other label e =
-    ap (λ (n : ℕ). if is_shared label then shared_start o.speed label
-    else start_byte (n % 256) (n / 256) (6 * o.speed - 1) (label - 7 * voice_at label)) e
+pub start_same : (options : Options) (order other : ℕ → ℕ) (label : ℕ) → order (voice_at label)
+    ≡ other (voice_at label) → start_variable options order label ≡ start_variable options other label
+start_same options order other label e =
+    ap (λ (n : ℕ). if is_shared label then shared_start options.speed label
+    else start_byte (n % 256) (n / 256) (6 * options.speed - 1) (label - 7 * voice_at label)) e
 
 pub voice_few : (n : ℕ) → n / 7 % 3 < 3
 voice_few n = omega arith
@@ -116,21 +117,21 @@ voice_below : (voice count : ℕ) → voice < 3 → 0 < count → voice < 3 * co
 voice_below voice count h l = omega (arith, h, l)
 
 -- a memory with the image's bytes is ready
-pub image_ready : {packed : PackedSong} {song : Song} {place : Place} {o : Options} {lists : List Line}
-    {bytes : List ℕ} (at : ℕ → ℕ) → Player packed song place o lists bytes → 0 < length packed.subtunes →
+pub image_ready : {packed : PackedSong} {song : Song} {place : Place} {options : Options} {lists : List Line}
+    {bytes : List ℕ} (at : ℕ → ℕ) → Player packed song place options lists bytes → 0 < length packed.subtunes →
     BytesStand at place.address bytes →
-    Ready packed place o lists 0 (state_after_with o (unpacked_song packed) 0 0) at
+    Ready packed place options lists 0 (state_after_with options (unpacked_song packed) 0 0) at
 unfolding state_after_with
-image_ready {packed = packed} {song = song} {place = place} {o = o} {lists = lists} at p some stand =
+image_ready {packed = packed} {song = song} {place = place} {options = options} {lists = lists} at p some stand =
     let a = p.image in
-    let layout : Layout = layout_of (plan_of packed place o lists) in
+    let layout : Layout = layout_of (plan_of packed place options lists) in
     record {
       play_code = has_play_code at a stand;
       init_code = has_init_code at a stand;
-      holds = start_variables_hold packed song layout o at p.stands some (lists_stand at a stand)
+      holds = start_variables_hold packed song layout options at p.stands some (lists_stand at a stand)
           (λ label few.
           variable_byte at a stand label few
-          ∙ start_same o (first_order packed place o) (λ voice. layout.address (ORDERS + voice)) label
-          (sym (order_at_label layout packed (lists_start packed place o) (voice_at label) (is_data_layout a.made)
+          ∙ start_same options (first_order packed place options) (λ voice. layout.address (ORDERS + voice)) label
+          (sym (order_at_label layout packed (lists_start packed place options) (voice_at label) (is_data_layout a.made)
           (voice_below (voice_at label) _ (voice_few label) some))));
     }

@@ -46,8 +46,8 @@ use Rattle.player_build.proofs.Entered.{init_entrance, init_well}
 
 -- the block that begins a subtune, its site and its entrance, without the timer's part and without its name
 abbrev pub untimed_tree : Options → Tree
-untimed_tree o =
-    ThenTree cleared_tree (ThenTree (shared_tree o.speed) (ThenTree (EachVoiceTree (voice_tree o.speed))
+untimed_tree options =
+    ThenTree cleared_tree (ThenTree (shared_tree options.speed) (ThenTree (EachVoiceTree (voice_tree options.speed))
     (ThenTree NoneTree NoneTree)))
 
 abbrev pub untimed_site : Plan → Site
@@ -91,18 +91,18 @@ timer_gone : (set pointer first speed : ℕ) → bit_kept set TIMER_BIT ≡ fals
     (lines pointer every 255 first (ThenTree (WhenTree TIMER_BIT (timer_tree speed)) NoneTree))
 timer_gone set pointer first speed gone = record { same = rw gone refl }
 
-block_same : (set pointer first : ℕ) (o : Options) → bit_kept set TIMER_BIT ≡ false →
-    SameKept set (all_lines pointer first (untimed_tree o)) (all_lines pointer first (init_tree o))
-block_same set pointer first o gone =
+block_same : (set pointer first : ℕ) (options : Options) → bit_kept set TIMER_BIT ≡ false →
+    SameKept set (all_lines pointer first (untimed_tree options)) (all_lines pointer first (init_tree options))
+block_same set pointer first options gone =
     let two : ℕ = first + label_count cleared_tree in
-    let three : ℕ = two + label_count (shared_tree o.speed) in
-    let four : ℕ = three + label_count (EachVoiceTree (voice_tree o.speed)) in
+    let three : ℕ = two + label_count (shared_tree options.speed) in
+    let four : ℕ = three + label_count (EachVoiceTree (voice_tree options.speed)) in
     behind_three set (lines pointer every 255 first cleared_tree)
-    (lines pointer every 255 two (shared_tree o.speed))
-    (lines pointer every 255 three (EachVoiceTree (voice_tree o.speed)))
+    (lines pointer every 255 two (shared_tree options.speed))
+    (lines pointer every 255 three (EachVoiceTree (voice_tree options.speed)))
     (lines pointer every 255 four (ThenTree NoneTree NoneTree))
-    (lines pointer every 255 four (ThenTree (WhenTree TIMER_BIT (timer_tree o.speed)) NoneTree))
-    (timer_gone set pointer four o.speed gone)
+    (lines pointer every 255 four (ThenTree (WhenTree TIMER_BIT (timer_tree options.speed)) NoneTree))
+    (timer_gone set pointer four options.speed gone)
 
 lines_same : (set : ℕ) (a b c one two d e : List Line) → SameKept set one two →
     SameKept set ((a ++ (b ++ (c ++ (one ++ d)))) ++ e) ((a ++ (b ++ (c ++ (two ++ d)))) ++ e)
@@ -163,33 +163,39 @@ are_same plan gone =
 -- ---- an entrance to it
 
 -- the timer's part isn't kept at one call a picture
-pub timer_off : {packed : PackedSong} {place : Place} {o : Options} {lists : List Line} →
-    Made packed place o lists → o.speed ≤ 1 → bit_kept (plan_of packed place o lists).set TIMER_BIT ≡ false
-timer_off {packed = packed} {o = o} m slow =
-    (sets_are_kept packed.features.0 o m.features).timer ∙ le-ltb 1 o.speed slow
+pub timer_off : {packed : PackedSong} {place : Place} {options : Options} {lists : List Line} →
+    Made packed place options lists → options.speed ≤ 1 →
+    bit_kept (plan_of packed place options lists).set TIMER_BIT ≡ false
+timer_off {packed = packed} {options = options} m slow =
+    (sets_are_kept packed.features.0 options m.features).timer ∙ le-ltb 1 options.speed slow
 
-pub untimed_layout : {packed : PackedSong} {place : Place} {o : Options} {lists : List Line} →
-    Made packed place o lists → o.speed ≤ 1 →
-    layout_at (untimed_site (plan_of packed place o lists)) ≡ layout_of (plan_of packed place o lists)
-untimed_layout {packed = packed} {place = place} {o = o} {lists = lists} m slow =
-    (are_same (plan_of packed place o lists) (timer_off m slow)).layout ∙ init_layout (plan_of packed place o lists)
+pub untimed_layout : {packed : PackedSong} {place : Place} {options : Options} {lists : List Line} →
+    Made packed place options lists → options.speed ≤ 1 →
+    layout_at (untimed_site (plan_of packed place options lists)) ≡ layout_of (plan_of packed place options lists)
+untimed_layout {packed = packed} {place = place} {options = options} {lists = lists} m slow =
+    (are_same (plan_of packed place options lists) (timer_off m slow)).layout
+    ∙ init_layout (plan_of packed place options lists)
 
-sound_by_speed : (speed : ℕ) (o : Options) → o.speed ≡ speed → speed ≤ 1 → is_sound (untimed_tree o) ≡ true
-sound_by_speed zero o e slow = rw e refl
-sound_by_speed (suc zero) o e slow = rw e refl
-sound_by_speed (suc (suc more)) o e slow = absurd (omega (arith, slow))
+sound_by_speed : (speed : ℕ) (options : Options) → options.speed ≡ speed → speed ≤ 1 →
+    is_sound (untimed_tree options) ≡ true
+sound_by_speed zero options e slow = rw e refl
+sound_by_speed (suc zero) options e slow = rw e refl
+sound_by_speed (suc (suc more)) options e slow = absurd (omega (arith, slow))
 
-untimed_known : (o : Options) → names_tree (any_of is_known) (untimed_tree o) ≡ true
-untimed_known o = refl
+untimed_known : (options : Options) → names_tree (any_of is_known) (untimed_tree options) ≡ true
+untimed_known options = refl
 
-untimed_named : (o : Options) → names_tree play_names (untimed_tree o) ≡ true
-untimed_named o = refl
+untimed_named : (options : Options) → names_tree play_names (untimed_tree options) ≡ true
+untimed_named options = refl
 
-untimed_labels : (o : Options) → label_count (untimed_tree o) ≤ 256
-untimed_labels o = omega arith
+untimed_labels : (options : Options) → label_count (untimed_tree options) ≤ 256
+untimed_labels options = omega arith
 
-untimed_fits : (o : Options) → o.speed ≤ 1 → IsFit (untimed_tree o)
-untimed_fits o slow = record { sound = sound_by_speed o.speed o refl slow; named = untimed_known o }
+untimed_fits : (options : Options) → options.speed ≤ 1 → IsFit (untimed_tree options)
+untimed_fits options slow = record {
+  sound = sound_by_speed options.speed options refl slow;
+  named = untimed_known options;
+}
 
 untimed_assembles : (plan : Plan) → IsPlan plan → bit_kept plan.set TIMER_BIT ≡ false → plan.options.speed ≤ 1 →
     plan.origin + plan_size plan ≤ MEMORY_SIZE → fault_of plan.set plan.origin (untimed_lines plan) ≡ None
@@ -202,10 +208,11 @@ untimed_assembles plan is gone slow fits =
 behind : (origin low high low' : ℕ) → low ≡ origin + 128 → low ≤ high → low' ≡ high + 5 → origin + 127 ≤ low'
 behind origin low high low' a b c = omega (arith, a, b, c)
 
-untimed_placed : {packed : PackedSong} {place : Place} {o : Options} {lists : List Line} → Made packed place o lists →
-    o.speed ≤ 1 → IsWellPlaced (untimed_site (plan_of packed place o lists))
-untimed_placed {packed = packed} {place = place} {o = o} {lists = lists} m slow =
-    let plan : Plan = plan_of packed place o lists in
+untimed_placed : {packed : PackedSong} {place : Place} {options : Options} {lists : List Line} →
+    Made packed place options lists → options.speed ≤ 1 →
+    IsWellPlaced (untimed_site (plan_of packed place options lists))
+untimed_placed {packed = packed} {place = place} {options = options} {lists = lists} m slow =
+    let plan : Plan = plan_of packed place options lists in
     let gone = timer_off m slow in
     let there = labels_stand_in_place plan m.plan in
     let b : BlocksStand plan = blocks_stand plan there in
@@ -213,8 +220,8 @@ untimed_placed {packed = packed} {place = place} {o = o} {lists = lists} m slow 
     (record {
       listing = untimed_listing plan;
       names = refl;
-      sound = (untimed_fits o slow).sound;
-      named = untimed_named o;
+      sound = (untimed_fits options slow).sound;
+      named = untimed_named options;
     })
     (untimed_assembles plan m.plan gone slow (fits_memory m))
     (λ label below. ap (λ (ls : List Line). address_in ls place.address label) (untimed_kept plan gone)
@@ -223,10 +230,11 @@ untimed_placed {packed = packed} {place = place} {o = o} {lists = lists} m slow 
     (subst (λ (ls : List Line). place.address + size_of ls ≤ 0xD000) (sym (untimed_kept plan gone)) (plan_ends m))
     (behind place.address _ _ _ b.play_low b.play_high b.init_low) m.plan.pointer_low m.plan.pointer_high
 
-untimed_well : {packed : PackedSong} {place : Place} {o : Options} {lists : List Line} → Made packed place o lists →
-    o.speed ≤ 1 → IsWellEntered (untimed_entrance (plan_of packed place o lists))
-untimed_well {packed = packed} {place = place} {o = o} {lists = lists} m slow =
-    let plan : Plan = plan_of packed place o lists in
+untimed_well : {packed : PackedSong} {place : Place} {options : Options} {lists : List Line} →
+    Made packed place options lists → options.speed ≤ 1 →
+    IsWellEntered (untimed_entrance (plan_of packed place options lists))
+untimed_well {packed = packed} {place = place} {options = options} {lists = lists} m slow =
+    let plan : Plan = plan_of packed place options lists in
     let same : AreSame plan = are_same plan (timer_off m slow) in
     let well : IsWellEntered (init_entrance plan) = init_well m in
     record {
@@ -246,11 +254,12 @@ untimed_well {packed = packed} {place = place} {o = o} {lists = lists} m slow =
           (well.stored_outside p e);
     }
 
-untimed_code : {packed : PackedSong} {place : Place} {o : Options} {lists : List Line} → Made packed place o lists →
-    o.speed ≤ 1 → (at : ℕ → ℕ) → HasCode (init_entrance (plan_of packed place o lists)) at →
-    HasCode (untimed_entrance (plan_of packed place o lists)) at
-untimed_code {packed = packed} {place = place} {o = o} {lists = lists} m slow at code =
-    let plan : Plan = plan_of packed place o lists in
+untimed_code : {packed : PackedSong} {place : Place} {options : Options} {lists : List Line} →
+    Made packed place options lists → options.speed ≤ 1 → (at : ℕ → ℕ) →
+    HasCode (init_entrance (plan_of packed place options lists)) at →
+    HasCode (untimed_entrance (plan_of packed place options lists)) at
+untimed_code {packed = packed} {place = place} {options = options} {lists = lists} m slow at code =
+    let plan : Plan = plan_of packed place options lists in
     let same : AreSame plan = are_same plan (timer_off m slow) in
     let front : ℕ = size_of (kept plan.set (init_site plan).front) in
     record {
@@ -265,15 +274,16 @@ untimed_code {packed = packed} {place = place} {o = o} {lists = lists} m slow at
     }
 
 -- a call that begins a subtune stores where it may without a timer
-pub untimed_stores : {packed : PackedSong} {place : Place} {o : Options} {lists : List Line} →
-    Made packed place o lists → o.speed ≤ 1 → (machine : Machine) (number : ℕ) →
+pub untimed_stores : {packed : PackedSong} {place : Place} {options : Options} {lists : List Line} →
+    Made packed place options lists → options.speed ≤ 1 → (machine : Machine) (number : ℕ) →
     length machine.memory ≡ MEMORY_SIZE → machine.cpu.sp < 256 →
-    HasCode (init_entrance (plan_of packed place o lists)) (slice_index machine.memory) →
-    (r : Returns (init_entrance (plan_of packed place o lists)) machine number) →
-    All (λ (write : Write). MayStore (untimed_entrance (plan_of packed place o lists)) write.place)
+    HasCode (init_entrance (plan_of packed place options lists)) (slice_index machine.memory) →
+    (r : Returns (init_entrance (plan_of packed place options lists)) machine number) →
+    All (λ (write : Write). MayStore (untimed_entrance (plan_of packed place options lists)) write.place)
     (writes_in r.steps (entered machine place.address number))
-untimed_stores {packed = packed} {place = place} {o = o} {lists = lists} m slow machine number size sp code r =
-    let plan : Plan = plan_of packed place o lists in
+untimed_stores {packed = packed} {place = place} {options = options} {lists = lists}
+    m slow machine number size sp code r =
+    let plan : Plan = plan_of packed place options lists in
     let other : Returns (untimed_entrance plan) machine number =
     entrances_return (untimed_entrance plan) machine number (untimed_well m slow) size sp
     (untimed_code m slow (slice_index machine.memory) code) in

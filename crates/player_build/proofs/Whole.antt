@@ -45,21 +45,22 @@ some_subtunes packed song stands =
     (some_items (playable_subtunes (unpacked_song packed)) (whole_lem (unpacked_song packed) stands.complete.playable).subtune)
 
 -- the start state, by the addresses of the listing
-starts : {packed : PackedSong} {song : Song} {place : Place} {o : Options} {lists : List Line} {bytes : List ℕ} →
-    Player packed song place o lists bytes → 0 < length packed.subtunes → (at : ℕ → ℕ) →
+starts : {packed : PackedSong} {song : Song} {place : Place} {options : Options} {lists : List Line} {bytes : List ℕ} →
+    Player packed song place options lists bytes → 0 < length packed.subtunes → (at : ℕ → ℕ) →
     BytesStand at place.address bytes →
-    Holds (layout_at (play_site (plan_of packed place o lists))) packed 0 nothing_on (start_state o) at
+    Holds (layout_at (play_site (plan_of packed place options lists))) packed 0 nothing_on (start_state options) at
 unfolding state_after_with
-starts {packed = packed} {place = place} {o = o} {lists = lists} p some at stand =
-    subst (λ (l : Layout). Holds l packed 0 nothing_on (start_state o) at) (sym (play_layout (plan_of packed place o lists)))
+starts {packed = packed} {place = place} {options = options} {lists = lists} p some at stand =
+    subst (λ (l : Layout). Holds l packed 0 nothing_on (start_state options) at)
+    (sym (play_layout (plan_of packed place options lists)))
     (image_ready at p some stand).holds
 
-pub image_plays : (packed : PackedSong) (song : Song) (o : Options) (built : Image)
-    (image : IsImageOf packed built.place o built.bytes) →
-    Assembled packed built.place o image.lists built.bytes → KeepsPatternLimits packed → IsSpeed o.speed →
-    StandsFor packed song → Plays packed song o built image
-image_plays packed song o built image assembled patterns speed stands =
-    let p : Player packed song built.place o image.lists built.bytes =
+pub image_plays : (packed : PackedSong) (song : Song) (options : Options) (built : Image)
+    (image : IsImageOf packed built.place options built.bytes) →
+    Assembled packed built.place options image.lists built.bytes → KeepsPatternLimits packed → IsSpeed options.speed →
+    StandsFor packed song → Plays packed song options built image
+image_plays packed song options built image assembled patterns speed stands =
+    let p : Player packed song built.place options image.lists built.bytes =
     record { image = assembled; stands = stands; patterns = patterns; speed = speed } in
     let some = some_subtunes packed song stands in
     record { always = plays_always p some; isolated = is_isolated p some; start = starts p some }

@@ -17,17 +17,17 @@ use Rattle.player_build.specs.Starts.{HoldsStart}
 
 -- it plays the song: any calls in any order, from the first init on each by the image's bytes alone; and it holds the start
 -- of the first subtune
-pub record Plays (packed : PackedSong) (song : Song) (o : Options) (built : Image)
-    (image : IsImageOf packed built.place o built.bytes) : Type 0 where
-  pub always : PlaysAlways built.bytes built.place.address built.place.zero_page song o
+pub record Plays (packed : PackedSong) (song : Song) (options : Options) (built : Image)
+    (image : IsImageOf packed built.place options built.bytes) : Type 0 where
+  pub always : PlaysAlways built.bytes built.place.address built.place.zero_page song options
   pub isolated : IsIsolated built.bytes built.place.address song
-  pub start : HoldsStart packed built.place o built.bytes image
+  pub start : HoldsStart packed built.place options built.bytes image
 
-pub record IsBuild (packed : PackedSong) (place : Place) (o : Options) (built : Image) : Type 0 where
+pub record IsBuild (packed : PackedSong) (place : Place) (options : Options) (built : Image) : Type 0 where
   pub place_is : built.place ≡ place
-  pub image : IsImageOf packed built.place o built.bytes
+  pub image : IsImageOf packed built.place options built.bytes
   pub bytes : AreBytes built.bytes
-  pub size : length built.bytes ≡ image_length packed o
+  pub size : length built.bytes ≡ image_length packed options
   pub fits : place.address + length built.bytes ≤ image_end
-  pub parts : NamesParts packed place o (length built.bytes) built.parts
-  pub plays : (song : Song) → StandsFor packed song → Plays packed song o built image
+  pub parts : NamesParts packed place options (length built.bytes) built.parts
+  pub plays : (song : Song) → StandsFor packed song → Plays packed song options built image

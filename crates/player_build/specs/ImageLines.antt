@@ -20,32 +20,32 @@ count_of packed = min (walk_count packed) 255
 
 -- where the frequencies and lists begin, behind the code
 abbrev pub lists_start : PackedSong → Place → Options → ℕ
-lists_start packed place o = place.address + (code_length packed.features.0 o - frequency_bytes)
+lists_start packed place options = place.address + (code_length packed.features.0 options - frequency_bytes)
 
 -- the address of the orderlist of a voice, counted from 0, in the first subtune
 abbrev pub first_order : PackedSong → Place → Options → ℕ → ℕ
-first_order packed place o voice = lists_start packed place o + slice_index (order_places packed) voice
+first_order packed place options voice = lists_start packed place options + slice_index (order_places packed) voice
 
 -- the variables begin with the start state of the first subtune
 abbrev pub first_variables : PackedSong → Place → Options → List ℕ
-first_variables packed place o =
-    map (start_variable o (first_order packed place o)) (range_with_len 0 VARIABLES)
+first_variables packed place options =
+    map (start_variable options (first_order packed place options)) (range_with_len 0 VARIABLES)
 
 -- what an image with these lines of lists is made from
 abbrev pub plan_of : PackedSong → Place → Options → List Line → Plan
-plan_of packed place o lists = record {
-  variables = first_variables packed place o;
+plan_of packed place options lists = record {
+  variables = first_variables packed place options;
   pointer = place.zero_page;
-  options = o;
+  options = options;
   count = count_of packed;
   lists = lists;
-  set = kept_set packed.features.0 o;
+  set = kept_set packed.features.0 options;
   origin = place.address;
 }
 
 -- the bytes are those lines, assembled with the parts of the features and of the options, and not a byte more
-pub record IsImageOf (packed : PackedSong) (place : Place) (o : Options) (bytes : List ℕ) : Type 0 where
+pub record IsImageOf (packed : PackedSong) (place : Place) (options : Options) (bytes : List ℕ) : Type 0 where
   pub lists : List Line
-  pub has_lines : HasLines packed (lists_start packed place o) lists
-  pub are : bytes ≡ assembled_bytes (kept_set packed.features.0 o) place.address
-      (plan_lines (plan_of packed place o lists))
+  pub has_lines : HasLines packed (lists_start packed place options) lists
+  pub are : bytes ≡ assembled_bytes (kept_set packed.features.0 options) place.address
+      (plan_lines (plan_of packed place options lists))

@@ -9,5 +9,5 @@ use Rattle.player_build.specs.Lengths.{image_length}
 -- it is within the bound of a packed song and its player
 abbrev pub ImageLengthIsBounded : Type 0
 ImageLengthIsBounded =
-    (packed : PackedSong) (o : Options) →
-    image_length packed o ≤ packed_song_size packed + code_bound packed.features.0 o
+    (packed : PackedSong) (options : Options) →
+    image_length packed options ≤ packed_song_size packed + code_bound packed.features.0 options

@@ -7,13 +7,13 @@ use Rattle.player_code.specs.Lengths.{code_length}
 
 -- the bytes of the packed song, those of the part that is always kept, and those of each other kept part
 abbrev pub image_length : PackedSong → Options → ℕ
-image_length packed o = packed_song_size packed + code_length packed.features.0 o
+image_length packed options = packed_song_size packed + code_length packed.features.0 options
 
 -- the first place behind an image's room
 abbrev pub image_end : ℕ
 image_end = 0xD000
 
 -- at this address the image, which is so long, would pass $D000
-pub record IsTooLarge (packed : PackedSong) (o : Options) (address size : ℕ) : Type 0 where
-  pub size_is : size ≡ image_length packed o
+pub record IsTooLarge (packed : PackedSong) (options : Options) (address size : ℕ) : Type 0 where
+  pub size_is : size ≡ image_length packed options
   pub passes : image_end < address + size

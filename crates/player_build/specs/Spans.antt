@@ -47,45 +47,46 @@ pub record IsNamedAs (spans : List PartSpan) (byte part : ℕ) : Type 0 where
 -- it is one of the packed song's: behind the low bytes of the frequencies the right sides of the speed table, and behind
 -- the high bytes all the rest
 abbrev pub IsPacked : PackedSong → Options → ℕ → Type 0
-IsPacked packed o byte =
-    ((code_length packed.features.0 o - 98 ≤ byte)
-    × (byte < code_length packed.features.0 o - 98 + length packed.speed))
-    ⊎ (code_length packed.features.0 o + length packed.speed ≤ byte)
+IsPacked packed options byte =
+    ((code_length packed.features.0 options - 98 ≤ byte)
+    × (byte < code_length packed.features.0 options - 98 + length packed.speed))
+    ⊎ (code_length packed.features.0 options + length packed.speed ≤ byte)
 
 -- the parts for which a bit is kept, and the one that always is
 abbrev pub length_of_part : PackedSong → Options → ℕ → ℕ
-length_of_part packed o part =
+length_of_part packed options part =
     if nat_eq part always then part_length always
-    else length_if (bit_kept (kept_set packed.features.0 o) part) part
+    else length_if (bit_kept (kept_set packed.features.0 options) part) part
 
 -- the lines of the image's code that are kept
 abbrev pub kept_code : PackedSong → Place → Options → List Line
-kept_code packed place o =
-    kept (kept_set packed.features.0 o)
-    (code_lines (first_variables packed place o) place.zero_page o (count_of packed))
+kept_code packed place options =
+    kept (kept_set packed.features.0 options)
+    (code_lines (first_variables packed place options) place.zero_page options (count_of packed))
 
 -- the two entries of three bytes and the variables behind them, and the low and the high bytes of the frequencies, are of
 -- the part that is always kept
-pub record NamesCommon (packed : PackedSong) (o : Options) (spans : List PartSpan) : Type 0 where
+pub record NamesCommon (packed : PackedSong) (options : Options) (spans : List PartSpan) : Type 0 where
   pub front : (byte : ℕ) → byte < 6 + VARIABLES → IsNamedAs spans byte always
   pub lows : (note : ℕ) → note < 98 →
-      IsNamedAs spans (code_length packed.features.0 o - frequency_bytes + note) always
+      IsNamedAs spans (code_length packed.features.0 options - frequency_bytes + note) always
   pub highs : (note : ℕ) → note < 98 →
-      IsNamedAs spans (code_length packed.features.0 o - 98 + length packed.speed + note) always
+      IsNamedAs spans (code_length packed.features.0 options - 98 + length packed.speed + note) always
 
 -- the spans are in order, don't overlap, and end within the image; a byte of the image is in one exactly where it isn't the
 -- packed song's; the parts of the bytes in them, in order, are those of the bytes of the kept code, and behind these that
 -- which is always kept, once for each byte of the frequencies; so each byte of the code is of its line's part; entries,
 -- variables and frequencies are of that which is always kept; and each part has its length where it is kept, and none
 -- elsewhere
-pub record NamesParts (packed : PackedSong) (place : Place) (o : Options) (size : ℕ) (spans : List PartSpan)
+pub record NamesParts (packed : PackedSong) (place : Place) (options : Options) (size : ℕ) (spans : List PartSpan)
     : Type 0 where
   pub in_order : StandInOrder 0 spans
   pub inside : All (λ (span : PartSpan). span.start + span.length ≤ size) spans
-  pub named : (byte : ℕ) → byte < size → IsNamed spans byte ↔ (IsPacked packed o byte → ⊥)
+  pub named : (byte : ℕ) → byte < size → IsNamed spans byte ↔ (IsPacked packed options byte → ⊥)
   pub add_up : spans_size spans + packed_song_size packed ≡ size
-  pub in_parts : parts_of_spans spans ≡ parts_of_lines (kept_code packed place o) ++ replicate frequency_bytes always
-  pub in_code : (byte : ℕ) → byte < code_length packed.features.0 o - frequency_bytes →
-      IsNamedAs spans byte (slice_index (parts_of_lines (kept_code packed place o)) byte)
-  pub common : NamesCommon packed o spans
-  pub parts : (part : ℕ) → part_size part spans ≡ length_of_part packed o part
+  pub in_parts : parts_of_spans spans ≡ parts_of_lines (kept_code packed place options)
+      ++ replicate frequency_bytes always
+  pub in_code : (byte : ℕ) → byte < code_length packed.features.0 options - frequency_bytes →
+      IsNamedAs spans byte (slice_index (parts_of_lines (kept_code packed place options)) byte)
+  pub common : NamesCommon packed options spans
+  pub parts : (part : ℕ) → part_size part spans ≡ length_of_part packed options part

@@ -12,8 +12,9 @@ use Rattle.player_code.specs.Plans.{play_site}
 use Rattle.player_build.specs.ImageLines.{plan_of, IsImageOf}
 
 -- in any memory with the image's bytes the start state of the first subtune stands at the addresses of the player's labels
-abbrev pub HoldsStart : (packed : PackedSong) (place : Place) (o : Options) (bytes : List ℕ) →
-    IsImageOf packed place o bytes → Type 0
-HoldsStart packed place o bytes image =
+abbrev pub HoldsStart : (packed : PackedSong) (place : Place) (options : Options) (bytes : List ℕ) →
+    IsImageOf packed place options bytes → Type 0
+HoldsStart packed place options bytes image =
     (at : ℕ → ℕ) → BytesStand at place.address bytes →
-    Holds (layout_at (play_site (plan_of packed place o image.lists))) packed 0 nothing_on (start_state o) at
+    Holds (layout_at (play_site (plan_of packed place options image.lists))) packed 0 nothing_on
+    (start_state options) at

@@ -32,11 +32,11 @@ use Rattle.player_build.proofs.Imaged.{Allowed, start_of, made, code_by, lines_f
 use Rattle.player_build.proofs.building.image.Goals as goal
 
 -- what the types keep, and what is asked for
-allowed : (packed : PackedSong) (place : Place) (o : Options) (code : ℕ) → KeepsCounts packed →
+allowed : (packed : PackedSong) (place : Place) (options : Options) (code : ℕ) → KeepsCounts packed →
     KeepsPatternLimits packed → packed.features.0 < 2 ^ 24 → IsAddress place.address → IsZeroPage place.zero_page →
-    IsSpeed o.speed → code + 196 ≡ code_length packed.features.0 o →
-    place.address + (code + 196 + packed_song_size packed) ≤ 0xD000 → Allowed packed place o code
-allowed packed place o code counts patterns features address page speed code_is fits = record {
+    IsSpeed options.speed → code + 196 ≡ code_length packed.features.0 options →
+    place.address + (code + 196 + packed_song_size packed) ≤ 0xD000 → Allowed packed place options code
+allowed packed place options code counts patterns features address page speed code_is fits = record {
   counts = counts;
   patterns = patterns;
   features = features;
@@ -48,52 +48,54 @@ allowed packed place o code counts patterns features address page speed code_is 
 }
 
 -- the code's size, of the lines that came
-size_is : (packed : PackedSong) (place : Place) (o : Options) (code : ℕ) (lines : List Line) (set : ℕ) →
-    Allowed packed place o code → set ≡ kept_set packed.features.0 o →
-    lines ≡ plan_code (plan_of packed place o []) → code ≡ size_of (kept set lines)
-size_is packed place o code lines set a sets is =
-    let plan : Plan = plan_of packed place o [] in
+size_is : (packed : PackedSong) (place : Place) (options : Options) (code : ℕ) (lines : List Line) (set : ℕ) →
+    Allowed packed place options code → set ≡ kept_set packed.features.0 options →
+    lines ≡ plan_code (plan_of packed place options []) → code ≡ size_of (kept set lines)
+size_is packed place options code lines set a sets is =
+    let plan : Plan = plan_of packed place options [] in
     code_by _ _ _
-    (code_has_its_length plan.variables plan.pointer o plan.count packed.features.0
-    (length-map (range_with_len 0 VARIABLES) (start_variable o (first_order packed place o))) a.features)
+    (code_has_its_length plan.variables plan.pointer options plan.count packed.features.0
+    (length-map (range_with_len 0 VARIABLES) (start_variable options (first_order packed place options))) a.features)
     a.code_is
-    ∙ ap (λ (ls : List Line). size_of (kept (kept_set packed.features.0 o) ls)) (sym is)
+    ∙ ap (λ (ls : List Line). size_of (kept (kept_set packed.features.0 options) ls)) (sym is)
     ∙ ap (λ (n : ℕ). size_of (kept n lines)) (sym sets)
 
 -- the lines of the image
-all_lines_are : (packed : PackedSong) (place : Place) (o : Options) (code lists all : List Line) →
-    code ≡ plan_code (plan_of packed place o []) → all ≡ code ++ lists →
-    all ≡ plan_lines (plan_of packed place o lists)
-all_lines_are packed place o code lists all is whole = whole ∙ ap (λ (ls : List Line). ls ++ lists) is
+all_lines_are : (packed : PackedSong) (place : Place) (options : Options) (code lists all : List Line) →
+    code ≡ plan_code (plan_of packed place options []) → all ≡ code ++ lists →
+    all ≡ plan_lines (plan_of packed place options lists)
+all_lines_are packed place options code lists all is whole = whole ∙ ap (λ (ls : List Line). ls ++ lists) is
 
-lists_have : (packed : PackedSong) (place : Place) (o : Options) (code : ℕ) (lists : List Line) →
-    Allowed packed place o code → HasLines packed (place.address + code) lists →
-    HasLines packed (lists_start packed place o) lists
-lists_have packed place o code lists a has = subst (λ (n : ℕ). HasLines packed n lists) (start_of a) has
+lists_have : (packed : PackedSong) (place : Place) (options : Options) (code : ℕ) (lists : List Line) →
+    Allowed packed place options code → HasLines packed (place.address + code) lists →
+    HasLines packed (lists_start packed place options) lists
+lists_have packed place options code lists a has = subst (λ (n : ℕ). HasLines packed n lists) (start_of a) has
 
-right : (packed : PackedSong) (place : Place) (o : Options) (lists all : List Line) (set : ℕ) →
-    Made packed place o lists → set ≡ kept_set packed.features.0 o → all ≡ plan_lines (plan_of packed place o lists) →
-    fault_of set place.address all ≡ None
-right packed place o lists all set m sets is =
+right : (packed : PackedSong) (place : Place) (options : Options) (lists all : List Line) (set : ℕ) →
+    Made packed place options lists → set ≡ kept_set packed.features.0 options →
+    all ≡ plan_lines (plan_of packed place options lists) → fault_of set place.address all ≡ None
+right packed place options lists all set m sets is =
     ap (λ (n : ℕ). fault_of n place.address all) sets
-    ∙ ap (λ (ls : List Line). fault_of (kept_set packed.features.0 o) place.address ls) is ∙ assembles m
+    ∙ ap (λ (ls : List Line). fault_of (kept_set packed.features.0 options) place.address ls) is ∙ assembles m
 
-built_so : (packed : PackedSong) (place : Place) (o : Options) (code set speeds : ℕ) (lines lists all : List Line)
-    (bytes : List ℕ) (parts : List PartSpan) → Allowed packed place o code → set ≡ kept_set packed.features.0 o →
-    lines ≡ plan_code (plan_of packed place o []) → HasLines packed (place.address + code) lists →
-    all ≡ lines ++ lists → bytes ≡ assembled_bytes set place.address all → length bytes ≡ size_of (kept set all) →
-    AreBytes bytes → speeds ≡ length packed.speed → AreSpansOf set lines speeds parts →
-    IsBuild packed place o (record { place = place; bytes = bytes; parts = parts })
-built_so packed place o code set speeds lines lists all bytes parts a sets is has whole are size are_bytes speeds_are spans =
+built_so : (packed : PackedSong) (place : Place) (options : Options) (code set speeds : ℕ) (lines lists all : List Line)
+    (bytes : List ℕ) (parts : List PartSpan) → Allowed packed place options code →
+    set ≡ kept_set packed.features.0 options → lines ≡ plan_code (plan_of packed place options []) →
+    HasLines packed (place.address + code) lists → all ≡ lines ++ lists →
+    bytes ≡ assembled_bytes set place.address all → length bytes ≡ size_of (kept set all) → AreBytes bytes →
+    speeds ≡ length packed.speed → AreSpansOf set lines speeds parts →
+    IsBuild packed place options (record { place = place; bytes = bytes; parts = parts })
+built_so packed place options code set speeds lines lists all bytes parts a sets is has whole are size are_bytes
+    speeds_are spans =
     let built : Image = record { place = place; bytes = bytes; parts = parts } in
-    let lines_are = all_lines_are packed place o lines lists all is whole in
-    is_build lists built speeds a (lists_have packed place o code lists a has)
+    let lines_are = all_lines_are packed place options lines lists all is whole in
+    is_build lists built speeds a (lists_have packed place options code lists a has)
     (are ∙ ap (λ (n : ℕ). assembled_bytes n place.address all) sets
-    ∙ ap (λ (ls : List Line). assembled_bytes (kept_set packed.features.0 o) place.address ls) lines_are)
+    ∙ ap (λ (ls : List Line). assembled_bytes (kept_set packed.features.0 options) place.address ls) lines_are)
     (size ∙ ap (λ (n : ℕ). size_of (kept n all)) sets
-    ∙ ap (λ (ls : List Line). size_of (kept (kept_set packed.features.0 o) ls)) lines_are)
+    ∙ ap (λ (ls : List Line). size_of (kept (kept_set packed.features.0 options) ls)) lines_are)
     are_bytes speeds_are
-    (subst (λ (n : ℕ). AreSpansOf n (plan_code (plan_of packed place o lists)) speeds parts) sets
+    (subst (λ (n : ℕ). AreSpansOf n (plan_code (plan_of packed place options lists)) speeds parts) sets
     (subst (λ (ls : List Line). AreSpansOf set ls speeds parts) is spans))
 
 pub image_spans-requires-clause-size : goal.image_spans-requires-clause-size

@@ -22,22 +22,22 @@ same_orders places start (suc zero) few = refl
 same_orders places start (suc (suc zero)) few = refl
 same_orders places start (suc (suc (suc voice))) few = absurd (omega (arith, few))
 
-same_variables : (o : Options) (order other : ℕ → ℕ) → ((voice : ℕ) → voice < 3 → order voice ≡ other voice) →
-    (labels : List ℕ) → map (start_variable o order) labels ≡ map (start_variable o other) labels
-same_variables o order other same [] = refl
-same_variables o order other same (label ∷ labels) =
-    ap (λ (byte : ℕ). byte ∷ map (start_variable o order) labels)
-    (start_same o order other label (same (voice_at label) (voice_few label)))
-    ∙ ap (λ (rest : List ℕ). start_variable o other label ∷ rest) (same_variables o order other same labels)
+same_variables : (options : Options) (order other : ℕ → ℕ) → ((voice : ℕ) → voice < 3 → order voice ≡ other voice) →
+    (labels : List ℕ) → map (start_variable options order) labels ≡ map (start_variable options other) labels
+same_variables options order other same [] = refl
+same_variables options order other same (label ∷ labels) =
+    ap (λ (byte : ℕ). byte ∷ map (start_variable options order) labels)
+    (start_same options order other label (same (voice_at label) (voice_few label)))
+    ∙ ap (λ (rest : List ℕ). start_variable options other label ∷ rest) (same_variables options order other same labels)
 
-variables_are : (packed : PackedSong) (place : Place) (o : Options) (start : ℕ) (orders variables : List ℕ) →
-    start ≡ lists_start packed place o →
+variables_are : (packed : PackedSong) (place : Place) (options : Options) (start : ℕ) (orders variables : List ℕ) →
+    start ≡ lists_start packed place options →
     orders ≡ map (λ voice. start + slice_index (order_places packed) voice) (range_with_len 0 3) →
-    variables ≡ map (start_variable o (λ voice. slice_index orders voice)) (range_with_len 0 VARIABLES) →
-    variables ≡ first_variables packed place o
-variables_are packed place o start orders variables begins are is =
+    variables ≡ map (start_variable options (λ voice. slice_index orders voice)) (range_with_len 0 VARIABLES) →
+    variables ≡ first_variables packed place options
+variables_are packed place options start orders variables begins are is =
     is
-    ∙ same_variables o (λ voice. slice_index orders voice) (first_order packed place o)
+    ∙ same_variables options (λ voice. slice_index orders voice) (first_order packed place options)
     (λ voice few. ap (λ (list : List ℕ). slice_index list voice) are ∙ same_orders (order_places packed) start voice few
     ∙ ap (λ n. n + slice_index (order_places packed) voice) begins)
     (range_with_len 0 VARIABLES)

@@ -7,7 +7,7 @@ more : (size a b : ℕ) → a ≤ b → size + a ≤ size + b
 more size a b h = omega (arith, h)
 
 bounded : ImageLengthIsBounded
-bounded packed o = more _ _ _ (code_is_bounded packed.features.0 o)
+bounded packed options = more _ _ _ (code_is_bounded packed.features.0 options)
 
 pub returns : goal.returns
 returns c = bounded
