@@ -15,85 +15,55 @@ abbrev with_three : ℕ → Bool → Bool → Bool → ℕ
 with_three features effects pulse timer =
     features + option_bit effects 24 + option_bit pulse 25 + option_bit timer 26
 
-on_top : (features : ℕ) (effects pulse timer : Bool) →
-    with_three features effects pulse timer ≡ three effects pulse timer * 2 ^ 24 + features
-on_top features false false false = omega arith
-on_top features false false true = omega arith
-on_top features false true false = omega arith
-on_top features false true true = omega arith
-on_top features true false false = omega arith
-on_top features true false true = omega arith
-on_top features true true false = omega arith
-on_top features true true true = omega arith
+-- where they stand in it, that they are few, and which of them are kept
+record Three (features : ℕ) (effects pulse timer : Bool) : Type 0 where
+  top : with_three features effects pulse timer ≡ three effects pulse timer * 2 ^ 24 + features
+  few : three effects pulse timer < 8
+  low : bit_kept (three effects pulse timer) 0 ≡ effects
+  middle : bit_kept (three effects pulse timer) 1 ≡ pulse
+  high : bit_kept (three effects pulse timer) 2 ≡ timer
+
+are_three : (features : ℕ) (effects pulse timer : Bool) → Three features effects pulse timer
+are_three n false false false = record { top = omega arith; few = omega arith; low = refl; middle = refl; high = refl }
+are_three n false false true = record { top = omega arith; few = omega arith; low = refl; middle = refl; high = refl }
+are_three n false true false = record { top = omega arith; few = omega arith; low = refl; middle = refl; high = refl }
+are_three n false true true = record { top = omega arith; few = omega arith; low = refl; middle = refl; high = refl }
+are_three n true false false = record { top = omega arith; few = omega arith; low = refl; middle = refl; high = refl }
+are_three n true false true = record { top = omega arith; few = omega arith; low = refl; middle = refl; high = refl }
+are_three n true true false = record { top = omega arith; few = omega arith; low = refl; middle = refl; high = refl }
+are_three n true true true = record { top = omega arith; few = omega arith; low = refl; middle = refl; high = refl }
 
 pub low_bits : (features bit : ℕ) (effects pulse timer : Bool) → bit < 24 →
     bit_at (with_three features effects pulse timer) bit ≡ bit_at features bit
 low_bits features bit effects pulse timer low =
-    ap (λ (set : ℕ). bit_at set bit) (on_top features effects pulse timer)
+    ap (λ (set : ℕ). bit_at set bit) (are_three features effects pulse timer).top
     ∙ bit_at_cat_low (three effects pulse timer) 24 features bit low
 
 high_bits : (features k : ℕ) (effects pulse timer : Bool) → features < 2 ^ 24 →
     bit_kept (with_three features effects pulse timer) (24 + k) ≡ bit_kept (three effects pulse timer) (24 + k - 24)
 high_bits features k effects pulse timer small =
     ap (λ (n : ℕ). nat_eq n 1)
-    (ap (λ (set : ℕ). bit_at set (24 + k)) (on_top features effects pulse timer)
+    (ap (λ (set : ℕ). bit_at set (24 + k)) (are_three features effects pulse timer).top
     ∙ bit_at_cat_high (three effects pulse timer) 24 features (24 + k) small (omega arith))
 
 pub effects_bit : (features : ℕ) (effects pulse timer : Bool) → features < 2 ^ 24 →
     bit_kept (with_three features effects pulse timer) 24 ≡ effects
-effects_bit features effects pulse timer small = high_bits features 0 effects pulse timer small ∙ is effects pulse timer
-  where
-    is : (effects pulse timer : Bool) → bit_kept (three effects pulse timer) 0 ≡ effects
-    is false false false = refl
-    is false false true = refl
-    is false true false = refl
-    is false true true = refl
-    is true false false = refl
-    is true false true = refl
-    is true true false = refl
-    is true true true = refl
+effects_bit features effects pulse timer small =
+    high_bits features 0 effects pulse timer small ∙ (are_three features effects pulse timer).low
 
 pub pulse_bit : (features : ℕ) (effects pulse timer : Bool) → features < 2 ^ 24 →
     bit_kept (with_three features effects pulse timer) 25 ≡ pulse
-pulse_bit features effects pulse timer small = high_bits features 1 effects pulse timer small ∙ is effects pulse timer
-  where
-    is : (effects pulse timer : Bool) → bit_kept (three effects pulse timer) 1 ≡ pulse
-    is false false false = refl
-    is false false true = refl
-    is false true false = refl
-    is false true true = refl
-    is true false false = refl
-    is true false true = refl
-    is true true false = refl
-    is true true true = refl
+pulse_bit features effects pulse timer small =
+    high_bits features 1 effects pulse timer small ∙ (are_three features effects pulse timer).middle
 
 pub timer_bit : (features : ℕ) (effects pulse timer : Bool) → features < 2 ^ 24 →
     bit_kept (with_three features effects pulse timer) 26 ≡ timer
-timer_bit features effects pulse timer small = high_bits features 2 effects pulse timer small ∙ is effects pulse timer
-  where
-    is : (effects pulse timer : Bool) → bit_kept (three effects pulse timer) 2 ≡ timer
-    is false false false = refl
-    is false false true = refl
-    is false true false = refl
-    is false true true = refl
-    is true false false = refl
-    is true false true = refl
-    is true true false = refl
-    is true true true = refl
-
-three_small : (effects pulse timer : Bool) → three effects pulse timer < 8
-three_small false false false = omega arith
-three_small false false true = omega arith
-three_small false true false = omega arith
-three_small false true true = omega arith
-three_small true false false = omega arith
-three_small true false true = omega arith
-three_small true true false = omega arith
-three_small true true true = omega arith
+timer_bit features effects pulse timer small =
+    high_bits features 2 effects pulse timer small ∙ (are_three features effects pulse timer).high
 
 pub set_small : (features : ℕ) (effects pulse timer : Bool) → features < 2 ^ 24 →
     with_three features effects pulse timer < 2 ^ 27
 set_small features effects pulse timer small =
-    let e = on_top features effects pulse timer in
-    let few = three_small effects pulse timer in
+    let e = (are_three features effects pulse timer).top in
+    let few = (are_three features effects pulse timer).few in
     omega (arith, e, few)
