@@ -106,39 +106,21 @@ image_spans-requires-clause-size c =
     size_is c.args.packed.now c.args.place c.args.options.now c.args.code c.as_slice-2.result.now
     c.kept_set-set.result.0 a c.kept_set-set.ensures (c.as_slice-2.ensures ∙ c.in_ok-listing.ensures)
 
-pub assembled-requires-clause-lines : goal.assembled-requires-clause-lines
-assembled-requires-clause-lines c =
+pub assembled-requires : goal.assembled-requires
+assembled-requires c =
     let a = allowed c.args.packed.now c.args.place c.args.options.now c.args.code c.keep_limits.ensures.counts
     c.keep_limits.ensures.patterns c.keep_limits.ensures.features c.keep_limits.ensures.address
     c.keep_limits.ensures.page c.keep_limits.ensures.speed c.requires.code c.requires.fits in
     let m = made c.in_ok-lists.lists a
     (lists_have c.args.packed.now c.args.place c.args.options.now c.args.code c.in_ok-lists.lists a c.in_ok-lists.ensures) in
-    subst (λ (ls : List Line). length ls ≤ 1000000)
-    (sym (all_lines_are c.args.packed.now c.args.place c.args.options.now c.in_ok-listing.listing c.in_ok-lists.lists
-    c.append.new.self c.in_ok-listing.ensures c.in_ok-append.ensures.ok)) (lines_fit m)
-
-pub assembled-requires-clause-bytes : goal.assembled-requires-clause-bytes
-assembled-requires-clause-bytes c =
-    let a = allowed c.args.packed.now c.args.place c.args.options.now c.args.code c.keep_limits.ensures.counts
-    c.keep_limits.ensures.patterns c.keep_limits.ensures.features c.keep_limits.ensures.address
-    c.keep_limits.ensures.page c.keep_limits.ensures.speed c.requires.code c.requires.fits in
-    let m = made c.in_ok-lists.lists a
-    (lists_have c.args.packed.now c.args.place c.args.options.now c.args.code c.in_ok-lists.lists a c.in_ok-lists.ensures) in
-    subst (λ (ls : List Line). data_size ls ≤ 1000000)
-    (sym (all_lines_are c.args.packed.now c.args.place c.args.options.now c.in_ok-listing.listing c.in_ok-lists.lists
-    c.append.new.self c.in_ok-listing.ensures c.in_ok-append.ensures.ok)) (bytes_fit m)
-
-pub assembled-requires-clause-right : goal.assembled-requires-clause-right
-assembled-requires-clause-right c =
-    let a = allowed c.args.packed.now c.args.place c.args.options.now c.args.code c.keep_limits.ensures.counts
-    c.keep_limits.ensures.patterns c.keep_limits.ensures.features c.keep_limits.ensures.address
-    c.keep_limits.ensures.page c.keep_limits.ensures.speed c.requires.code c.requires.fits in
-    let m = made c.in_ok-lists.lists a
-    (lists_have c.args.packed.now c.args.place c.args.options.now c.args.code c.in_ok-lists.lists a c.in_ok-lists.ensures) in
-    right c.args.packed.now c.args.place c.args.options.now c.in_ok-lists.lists c.append.new.self c.kept_set-set.result.0 m
-    c.kept_set-set.ensures
-    (all_lines_are c.args.packed.now c.args.place c.args.options.now c.in_ok-listing.listing c.in_ok-lists.lists
-    c.append.new.self c.in_ok-listing.ensures c.in_ok-append.ensures.ok)
+    let lines = all_lines_are c.args.packed.now c.args.place c.args.options.now c.in_ok-listing.listing
+    c.in_ok-lists.lists c.append.new.self c.in_ok-listing.ensures c.in_ok-append.ensures.ok in
+    record {
+      lines = subst (λ (ls : List Line). length ls ≤ 1000000) (sym lines) (lines_fit m);
+      bytes = subst (λ (ls : List Line). data_size ls ≤ 1000000) (sym lines) (bytes_fit m);
+      right = right c.args.packed.now c.args.place c.args.options.now c.in_ok-lists.lists c.append.new.self
+          c.kept_set-set.result.0 m c.kept_set-set.ensures lines;
+    }
 
 pub returns : goal.returns
 returns c =
