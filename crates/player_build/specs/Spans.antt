@@ -8,6 +8,7 @@ use Rattle.asm6502.specs.Lines.{item_size, kept}
 use Rattle.lowering.specs.Lowered.{bit_kept}
 use Rattle.player_parts.specs.declared.labels.TheConstants.{VARIABLES}
 use Rattle.player_parts.specs.declared.place.Place.{Place}
+use Rattle.player_parts.specs.PlayerLists.{frequencies}
 use Rattle.player_code.specs.CodeLines.{always, code_lines}
 use Rattle.player_code.specs.Lengths.{kept_set, code_length, frequency_bytes, part_length, length_if}
 use Rattle.player_build.specs.declared.image.PartSpan.{PartSpan}
@@ -48,8 +49,8 @@ pub record IsNamedAs (spans : List PartSpan) (byte part : ℕ) : Type 0 where
 -- the high bytes all the rest
 abbrev pub IsPacked : PackedSong → Options → ℕ → Type 0
 IsPacked packed options byte =
-    ((code_length packed.features.0 options - 98 ≤ byte)
-    × (byte < code_length packed.features.0 options - 98 + length packed.speed))
+    ((code_length packed.features.0 options - frequencies ≤ byte)
+    × (byte < code_length packed.features.0 options - frequencies + length packed.speed))
     ⊎ (code_length packed.features.0 options + length packed.speed ≤ byte)
 
 -- the parts for which a bit is kept, and the one that always is
@@ -68,10 +69,10 @@ kept_code packed place options =
 -- the part that is always kept
 pub record NamesCommon (packed : PackedSong) (options : Options) (spans : List PartSpan) : Type 0 where
   pub front : (byte : ℕ) → byte < 6 + VARIABLES → IsNamedAs spans byte always
-  pub lows : (note : ℕ) → note < 98 →
+  pub lows : (note : ℕ) → note < frequencies →
       IsNamedAs spans (code_length packed.features.0 options - frequency_bytes + note) always
-  pub highs : (note : ℕ) → note < 98 →
-      IsNamedAs spans (code_length packed.features.0 options - 98 + length packed.speed + note) always
+  pub highs : (note : ℕ) → note < frequencies →
+      IsNamedAs spans (code_length packed.features.0 options - frequencies + length packed.speed + note) always
 
 -- the spans are in order, don't overlap, and end within the image; a byte of the image is in one exactly where it isn't the
 -- packed song's; the parts of the bytes in them, in order, are those of the bytes of the kept code, and behind these that

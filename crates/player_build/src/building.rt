@@ -8,7 +8,7 @@ ghost use Rattle.asm6502.specs.Assembly.{assembled_bytes};
 ghost use Rattle.asm6502.specs.Faults.{fault_of};
 ghost use Rattle.player_lists.specs.DataLists.{HasLines};
 ghost use Rattle.player_code.specs.CodeLines.{code_lines};
-ghost use Rattle.player_code.specs.Lengths.{option_bit, kept_set, code_length};
+ghost use Rattle.player_code.specs.Lengths.{option_bit, kept_set, code_length, frequency_bytes};
 ghost use Rattle.player_build.specs.ImageLines.{count_of, lists_start, first_variables};
 ghost use Rattle.player_build.specs.Lengths.{IsTooLarge};
 ghost use Rattle.player_build.specs.Built.{IsBuild};
@@ -65,7 +65,7 @@ fn image_code(
     start: u16,
 ) -> Result<Listing, NoMemory>
     requires start { start ≡ lists_start packed.now place.now options.now }
-    requires fits { start + 196 + packed_song_size packed.now ≤ 0xD000 }
+    requires fits { start + frequency_bytes + packed_song_size packed.now ≤ 0xD000 }
     ensures { IfOk result (λ listing. listing
         ≡ code_lines (first_variables packed.now place.now options.now) place.now.zero_page options.now (count_of packed.now)) }
 {
@@ -112,8 +112,8 @@ fn image(
     options: &Options,
     code: u16,
 ) -> Result<Image, NoMemory>
-    requires code { code + 196 ≡ code_length packed.now.features.0 options.now }
-    requires fits { place.address + (code + 196 + packed_song_size packed.now) ≤ 0xD000 }
+    requires code { code + frequency_bytes ≡ code_length packed.now.features.0 options.now }
+    requires fits { place.address + (code + frequency_bytes + packed_song_size packed.now) ≤ 0xD000 }
     ensures { IfOk result (IsBuild packed.now place options.now) }
 {
     keep_limits(packed, &place, options);

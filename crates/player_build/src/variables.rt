@@ -6,6 +6,7 @@ ghost use Rattle.play_model.specs.Speeds.{IsSpeed};
 ghost use Rattle.packed_form.specs.Sizes.{packed_song_size};
 ghost use Rattle.player_seq.specs.StartVariables.{start_byte, shared_start, start_variable};
 ghost use Rattle.player_lists.specs.DataLists.{order_places};
+ghost use Rattle.player_code.specs.Lengths.{frequency_bytes};
 
 use base::NoMemory;
 use packed_form::PackedSong;
@@ -93,7 +94,7 @@ pub(crate) fn first_orders(
     packed: &PackedSong,
     start: u16,
 ) -> Result<[u16; 3], NoMemory>
-    requires { start + 196 + packed_song_size packed.now ≤ 0xD000 }
+    requires { start + frequency_bytes + packed_song_size packed.now ≤ 0xD000 }
     ensures { IfOk result (λ orders. orders ≡ map (λ voice. start + slice_index (order_places packed.now) voice)
         (range_with_len 0 3)) }
 {
