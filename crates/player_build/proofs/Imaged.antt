@@ -21,8 +21,9 @@ use Rattle.player_seq.specs.PackedLimits.{KeepsPatternLimits}
 use Rattle.player_lists.specs.DataLists.{HasLines}
 use Rattle.player_lists.specs.ListLaws.{KeepsCounts}
 use Rattle.player_lists.proofs.Laws.{lines_take_size, lines_are_few}
+use Rattle.player_parts.specs.PlayerLists.{frequencies}
 use Rattle.player_code.specs.CodeLines.{always}
-use Rattle.player_code.specs.Lengths.{kept_set, code_length, part_length, part_lengths, length_if}
+use Rattle.player_code.specs.Lengths.{kept_set, frequency_bytes, code_length, part_length, part_lengths, length_if}
 use Rattle.player_code.specs.Plans.{Plan, plan_code, plan_lines, code_size}
 use Rattle.player_code.proofs.Laws.{code_is_within_limits, parts_have_lengths, labels_stand_in_place}
 use Rattle.player_build.specs.declared.image.Image.{Image}
@@ -50,18 +51,18 @@ pub record Allowed (packed : PackedSong) (place : Place) (options : Options) (co
   pub address : IsAddress place.address
   pub page : IsZeroPage place.zero_page
   pub speed : IsSpeed options.speed
-  pub code_is : code + 196 ≡ code_length packed.features.0 options
-  pub fits : place.address + (code + 196 + packed_song_size packed) ≤ 0xD000
+  pub code_is : code + frequency_bytes ≡ code_length packed.features.0 options
+  pub fits : place.address + (code + frequency_bytes + packed_song_size packed) ≤ 0xD000
 
-start_by : (code length : ℕ) → code + 196 ≡ length → code ≡ length - 196
+start_by : (code length : ℕ) → code + frequency_bytes ≡ length → code ≡ length - frequency_bytes
 start_by code length e = omega (arith, e)
 
 pub start_of : {packed : PackedSong} {place : Place} {options : Options} {code : ℕ} →
     Allowed packed place options code → place.address + code ≡ lists_start packed place options
 start_of {place = place} a = ap (λ n. place.address + n) (start_by _ _ a.code_is)
 
-fits_by : (address code size length : ℕ) → code + 196 ≡ length → address + (code + 196 + size) ≤ 0xD000 →
-    address + (size + length) ≤ 0xD000
+fits_by : (address code size length : ℕ) → code + frequency_bytes ≡ length →
+    address + (code + frequency_bytes + size) ≤ 0xD000 → address + (size + length) ≤ 0xD000
 fits_by address code size length e h = omega (arith, e, h)
 
 pub made : {packed : PackedSong} {place : Place} {options : Options} {code : ℕ} (lists : List Line) →
@@ -77,7 +78,7 @@ made {packed = packed} {place = place} {options = options} lists a has = record 
 }
 
 -- the code's size
-pub code_by : (size code length : ℕ) → size + 196 ≡ length → code + 196 ≡ length → code ≡ size
+pub code_by : (size code length : ℕ) → size + frequency_bytes ≡ length → code + frequency_bytes ≡ length → code ≡ size
 code_by size code length a b = omega (arith, a, b)
 
 pub code_is : {packed : PackedSong} {place : Place} {options : Options} {code : ℕ} {lists : List Line} →
@@ -108,7 +109,7 @@ data_append (line ∷ front) back = group _ _ _ _ (data_append front back)
     group : (one two three rest : ℕ) → rest ≡ two + three → one + rest ≡ one + two + three
     group one two three rest e = omega (arith, e)
 
-few_bytes : (code lists all size address : ℕ) → code ≡ 121 → lists ≡ 196 + size → all ≡ code + lists →
+few_bytes : (code lists all size address : ℕ) → code ≡ 121 → lists ≡ frequency_bytes + size → all ≡ code + lists →
     address + size ≤ 0xD000 → all ≤ 1000000
 few_bytes code lists all size address a b e h = omega (arith, a, b, e, h)
 
@@ -168,15 +169,18 @@ frequencies_sum code one two = omega arith
 -- of one part
 pub spans_part : (part : ℕ) (code : List PartSpan) (a b : ℕ) →
     part_size part (code ++ frequency_span a ∷ frequency_span b ∷ [])
-    ≡ part_size part code + (if nat_eq always part then 98 else 0) + (if nat_eq always part then 98 else 0)
+    ≡ part_size part code + (if nat_eq always part then frequencies else 0)
+    + (if nat_eq always part then frequencies else 0)
 spans_part part code a b =
     sum_by-append _ code (frequency_span a ∷ frequency_span b ∷ [])
-    ∙ frequencies_sum (part_size part code) (if nat_eq always part then 98 else 0) (if nat_eq always part then 98 else 0)
+    ∙ frequencies_sum (part_size part code)
+    (if nat_eq always part then frequencies else 0) (if nat_eq always part then frequencies else 0)
 
 pub spans_all : (code : List PartSpan) (a b : ℕ) →
-    spans_size (code ++ frequency_span a ∷ frequency_span b ∷ []) ≡ spans_size code + 98 + 98
+    spans_size (code ++ frequency_span a ∷ frequency_span b ∷ []) ≡ spans_size code + frequencies + frequencies
 spans_all code a b =
-    sum_by-append _ code (frequency_span a ∷ frequency_span b ∷ []) ∙ frequencies_sum (spans_size code) 98 98
+    sum_by-append _ code (frequency_span a ∷ frequency_span b ∷ [])
+    ∙ frequencies_sum (spans_size code) frequencies frequencies
 
 -- the lengths of parts that there aren't
 no_length : (part : ℕ) → 27 ≤ part → slice_index part_lengths part ≡ 0
@@ -196,7 +200,7 @@ length_none false part e = refl
 if_same : (z : Bool) (one two : ℕ) → one ≡ two → (if z then one else 0) ≡ (if z then two else 0)
 if_same z one two e = ap (λ (n : ℕ). if z then n else 0) e
 
-whole : (n : ℕ) (all : ℕ) → n + 196 ≡ all → n + 98 + 98 ≡ all
+whole : (n : ℕ) (all : ℕ) → n + frequency_bytes ≡ all → n + frequencies + frequencies ≡ all
 whole n all e = omega (arith, e)
 
 plain : (n : ℕ) → n + 0 + 0 ≡ n
@@ -223,7 +227,7 @@ part_is {packed = packed} {place = place} {options = options} {lists = lists} m 
           subst (λ n. part_size n (code ++ frequency_span a ∷ frequency_span b ∷ []) ≡ length_of_part packed options n)
           (sym f) (spans_part 255 code a b
           ∙ whole (part_size 255 code) (part_length always)
-          (ap (λ n. n + 196) (subst (λ n. part_size n code ≡ bytes_in n (kept set (plan_code plan))) f is
+          (ap (λ n. n + frequency_bytes) (subst (λ n. part_size n code ≡ bytes_in n (kept set (plan_code plan))) f is
           ∙ kept_part set 255 (plan_code plan)) ∙ lengths.rest))
       | inr n ↦
           let other = n in
@@ -233,8 +237,8 @@ part_is {packed = packed} {place = place} {options = options} {lists = lists} m 
           ap (λ (z : Bool). if z then part_length always else length_if (bit_kept set part) part) not in
           let alone =
           all
-          ∙ ap (λ (z : Bool). part_size part code + (if z then 98 else 0) + (if z then 98 else 0)) back
-          ∙ plain (part_size part code) ∙ one in
+          ∙ ap (λ (z : Bool). part_size part code + (if z then frequencies else 0) + (if z then frequencies else 0))
+          back ∙ plain (part_size part code) ∙ one in
           elim (cases_lt part 32) [
             | inl l ↦
                 let low = l in
@@ -254,20 +258,20 @@ part_is {packed = packed} {place = place} {options = options} {lists = lists} m 
 
 -- ---- the spans name the parts
 
-end_follows : (code speeds : ℕ) → code + 98 + 98 + speeds ≡ code + 98 + speeds + 98
+end_follows : (code speeds : ℕ) → code + frequencies + frequencies + speeds ≡ code + frequencies + speeds + frequencies
 end_follows code speeds = omega arith
 
 code_end : (from code : ℕ) → from ≡ code → from ≤ code
 code_end from code e = omega (arith, e)
 
-rows_between : (code speeds : ℕ) → code + 98 ≤ code + 98 + speeds
+rows_between : (code speeds : ℕ) → code + frequencies ≤ code + frequencies + speeds
 rows_between code speeds = omega arith
 
 span_begin : (start from : ℕ) → start ≡ from → from ≤ start
 span_begin start from e = omega (arith, e)
 
 all_in_order : (front : List PartSpan) (from code speeds : ℕ) → Follow from front code →
-    StandInOrder from (front ++ frequency_span code ∷ frequency_span (code + 98 + speeds) ∷ [])
+    StandInOrder from (front ++ frequency_span code ∷ frequency_span (code + frequencies + speeds) ∷ [])
 all_in_order [] from code speeds f = (code_end from code f, (rows_between code speeds, tt))
 all_in_order (span ∷ front) from code speeds f = (
   span_begin _ _ f.0,
@@ -284,30 +288,30 @@ one_few = omega arith
 nothing_low : (byte : ℕ) → 0 ≤ byte
 nothing_low byte = omega arith
 
-rows_low : (byte code all : ℕ) → code + 196 ≡ all → code + 98 ≤ byte → all - 98 ≤ byte
+rows_low : (byte code all : ℕ) → code + frequency_bytes ≡ all → code + frequencies ≤ byte → all - frequencies ≤ byte
 rows_low byte code all e h = omega (arith, e, h)
 
-rows_high : (byte code speeds rows all : ℕ) → code + 196 ≡ all → speeds ≡ rows → byte < code + 98 + speeds →
-    byte < all - 98 + rows
+rows_high : (byte code speeds rows all : ℕ) → code + frequency_bytes ≡ all → speeds ≡ rows →
+    byte < code + frequencies + speeds → byte < all - frequencies + rows
 rows_high byte code speeds rows all e f h = omega (arith, e, f, h)
 
-rest_low : (byte code speeds rows all : ℕ) → code + 196 ≡ all → speeds ≡ rows → code + 98 + speeds + 98 ≤ byte →
-    all + rows ≤ byte
+rest_low : (byte code speeds rows all : ℕ) → code + frequency_bytes ≡ all → speeds ≡ rows →
+    code + frequencies + speeds + frequencies ≤ byte → all + rows ≤ byte
 rest_low byte code speeds rows all e f h = omega (arith, e, f, h)
 
-all_named : (byte code speeds rows all : ℕ) → code + 196 ≡ all → speeds ≡ rows → (front : List PartSpan) →
+all_named : (byte code speeds rows all : ℕ) → code + frequency_bytes ≡ all → speeds ≡ rows → (front : List PartSpan) →
     Follow 0 front code →
-    IsNamed (front ++ frequency_span code ∷ frequency_span (code + 98 + speeds) ∷ []) byte
-    ⊎ (((all - 98 ≤ byte) × (byte < all - 98 + rows)) ⊎ (all + rows ≤ byte))
+    IsNamed (front ++ frequency_span code ∷ frequency_span (code + frequencies + speeds) ∷ []) byte
+    ⊎ (((all - frequencies ≤ byte) × (byte < all - frequencies + rows)) ⊎ (all + rows ≤ byte))
 all_named byte code speeds rows all e f front follow =
-    let back : List PartSpan = frequency_span code ∷ frequency_span (code + 98 + speeds) ∷ [] in
+    let back : List PartSpan = frequency_span code ∷ frequency_span (code + frequencies + speeds) ∷ [] in
     elim (cases_lt byte code) [
       | inl a ↦
           let low = a in
           inl (named_left front back byte (follows_named front 0 code byte follow (nothing_low byte) low))
       | inr a ↦
           let first = a in
-          elim (cases_lt byte (code + 98)) [
+          elim (cases_lt byte (code + frequencies)) [
             | inl b ↦
                 let in_first = b in
                 inl (named_right front back byte record {
@@ -318,17 +322,17 @@ all_named byte code speeds rows all e f front follow =
                 })
             | inr b ↦
                 let second = b in
-                elim (cases_lt byte (code + 98 + speeds)) [
+                elim (cases_lt byte (code + frequencies + speeds)) [
                   | inl d ↦
                       let in_rows = d in
                       inr (inl (rows_low byte code all e second, rows_high byte code speeds rows all e f in_rows))
                   | inr d ↦
                       let third = d in
-                      elim (cases_lt byte (code + 98 + speeds + 98)) [
+                      elim (cases_lt byte (code + frequencies + speeds + frequencies)) [
                         | inl g ↦
                             let in_second = g in
                             inl (named_right front back byte record {
-                              span = frequency_span (code + 98 + speeds);
+                              span = frequency_span (code + frequencies + speeds);
                               is_there = (1, one_few, refl);
                               from = third;
                               below = in_second;
@@ -341,22 +345,24 @@ all_named byte code speeds rows all e f front follow =
     ]
 
 -- so a byte that isn't the packed song's is named
-named_else : (byte code speeds rows all : ℕ) → code + 196 ≡ all → speeds ≡ rows → (front : List PartSpan) →
-    Follow 0 front code → ((((all - 98 ≤ byte) × (byte < all - 98 + rows)) ⊎ (all + rows ≤ byte)) → ⊥) →
-    IsNamed (front ++ frequency_span code ∷ frequency_span (code + 98 + speeds) ∷ []) byte
+named_else : (byte code speeds rows all : ℕ) → code + frequency_bytes ≡ all → speeds ≡ rows → (front : List PartSpan) →
+    Follow 0 front code →
+    ((((all - frequencies ≤ byte) × (byte < all - frequencies + rows)) ⊎ (all + rows ≤ byte)) → ⊥) →
+    IsNamed (front ++ frequency_span code ∷ frequency_span (code + frequencies + speeds) ∷ []) byte
 named_else byte code speeds rows all e f front follow other =
     elim (all_named byte code speeds rows all e f front follow) [
       | inl a ↦ let named = a in named
       | inr b ↦ let packed = b in absurd (other packed)
     ]
 
-added : (spans code packed all size : ℕ) → 0 + spans ≡ code → code + 196 ≡ all → size ≡ packed + all →
-    spans + 98 + 98 + packed ≡ size
+added : (spans code packed all size : ℕ) → 0 + spans ≡ code → code + frequency_bytes ≡ all → size ≡ packed + all →
+    spans + frequencies + frequencies + packed ≡ size
 added spans code packed all size a b c = omega (arith, a, b, c)
 
 -- how its parts follow each other
 frequency_parts : (code : List PartSpan) (a b : ℕ) →
-    parts_of_spans (code ++ frequency_span a ∷ frequency_span b ∷ []) ≡ parts_of_spans code ++ replicate 196 always
+    parts_of_spans (code ++ frequency_span a ∷ frequency_span b ∷ []) ≡ parts_of_spans code
+    ++ replicate frequency_bytes always
 frequency_parts code a b = spans_split code (frequency_span a ∷ frequency_span b ∷ [])
 
 front_size : (origin size low : ℕ) → low ≡ origin + size → low ≡ origin + 128 → size ≡ 128
@@ -368,29 +374,29 @@ rows_within packed = within _ (length packed.speed)
     within : (rest rows : ℕ) → rows ≤ rest + 2 * rows
     within rest rows = omega arith
 
-code_ends : (code packed all size : ℕ) → code + 196 ≡ all → size ≡ packed + all → code ≤ size
+code_ends : (code packed all size : ℕ) → code + frequency_bytes ≡ all → size ≡ packed + all → code ≤ size
 code_ends code packed all size a b = omega (arith, a, b)
 
-lows_end : (code packed all size : ℕ) → code + 196 ≡ all → size ≡ packed + all → code + 98 ≤ size
+lows_end : (code packed all size : ℕ) → code + frequency_bytes ≡ all → size ≡ packed + all → code + frequencies ≤ size
 lows_end code packed all size a b = omega (arith, a, b)
 
-highs_end : (code packed all size speeds rows : ℕ) → code + 196 ≡ all → size ≡ packed + all → speeds ≡ rows →
-    rows ≤ packed → code + 98 + speeds + 98 ≤ size
+highs_end : (code packed all size speeds rows : ℕ) → code + frequency_bytes ≡ all → size ≡ packed + all →
+    speeds ≡ rows → rows ≤ packed → code + frequencies + speeds + frequencies ≤ size
 highs_end code packed all size speeds rows a b c h = omega (arith, a, b, c, h)
 
 abbrev Ends : ℕ → PartSpan → Type 0
 Ends size span = span.start + span.length ≤ size
 
-all_inside : (front : List PartSpan) (code packed all size speeds rows : ℕ) → Follow 0 front code → code + 196 ≡ all →
-    size ≡ packed + all → speeds ≡ rows → rows ≤ packed →
-    All (Ends size) (front ++ frequency_span code ∷ frequency_span (code + 98 + speeds) ∷ [])
+all_inside : (front : List PartSpan) (code packed all size speeds rows : ℕ) → Follow 0 front code →
+    code + frequency_bytes ≡ all → size ≡ packed + all → speeds ≡ rows → rows ≤ packed →
+    All (Ends size) (front ++ frequency_span code ∷ frequency_span (code + frequencies + speeds) ∷ [])
 all_inside front code packed all size speeds rows follow a b c h =
-    All-append (Ends size) front (frequency_span code ∷ frequency_span (code + 98 + speeds) ∷ [])
+    All-append (Ends size) front (frequency_span code ∷ frequency_span (code + frequencies + speeds) ∷ [])
     (follow_inside front 0 code size follow (code_ends code packed all size a b))
-    (All-cons (Ends size) (frequency_span code) (frequency_span (code + 98 + speeds) ∷ [])
+    (All-cons (Ends size) (frequency_span code) (frequency_span (code + frequencies + speeds) ∷ [])
     (lows_end code packed all size a b)
-    (All-cons (Ends size) (frequency_span (code + 98 + speeds)) [] (highs_end code packed all size speeds rows a b c h)
-    (All-nil (Ends size))))
+    (All-cons (Ends size) (frequency_span (code + frequencies + speeds)) []
+    (highs_end code packed all size speeds rows a b c h) (All-nil (Ends size))))
 
 pub is_parts : {packed : PackedSong} {place : Place} {options : Options} {lists : List Line} →
     Made packed place options lists → (size speeds : ℕ) (spans : List PartSpan) → size ≡ image_length packed options →
@@ -401,7 +407,7 @@ is_parts {packed = packed} {place = place} {options = options} {lists = lists}
     let code : ℕ = code_size (plan_of packed place options lists) in
     let plan : Plan = plan_of packed place options lists in
     let parts : NamesParts packed place options size
-    (are.code ++ frequency_span code ∷ frequency_span (code + 98 + speeds) ∷ []) =
+    (are.code ++ frequency_span code ∷ frequency_span (code + frequencies + speeds) ∷ []) =
     record {
       in_order = all_in_order are.code 0 code speeds are.follow;
       inside = all_inside are.code code _ _ size speeds (length packed.speed) are.follow (code_size_is m) size_is speeds_are
@@ -414,10 +420,10 @@ is_parts {packed = packed} {place = place} {options = options} {lists = lists}
             (code_size_is m) speeds_are
             are.code are.follow,
       );
-      add_up = ap (λ n. n + packed_song_size packed) (spans_all are.code code (code + 98 + speeds))
+      add_up = ap (λ n. n + packed_song_size packed) (spans_all are.code code (code + frequencies + speeds))
           ∙ added _ _ _ _ _ (follows_size are.code 0 code are.follow) (code_size_is m) size_is;
-      in_parts = frequency_parts are.code code (code + 98 + speeds)
-          ∙ ap (λ (ps : List ℕ). ps ++ replicate 196 always) are.parts;
+      in_parts = frequency_parts are.code code (code + frequencies + speeds)
+          ∙ ap (λ (ps : List ℕ). ps ++ replicate frequency_bytes always) are.parts;
       in_code = λ byte few.
           named_as_left are.code _ byte _
           (code_named are.code (kept plan.set (plan_code plan)) _ byte are.follow are.parts (code_size_is m) few);
@@ -426,12 +432,12 @@ is_parts {packed = packed} {place = place} {options = options} {lists = lists}
             named_as_left are.code _ byte always
             (front_named are.code plan code are.follow are.parts
             (front_size place.address _ _ refl (blocks_stand plan (labels_stand_in_place plan m.plan)).play_low) byte few);
-        lows = λ note few. lows_named are.code code (code + 98 + speeds) _ note (code_size_is m) few;
+        lows = λ note few. lows_named are.code code (code + frequencies + speeds) _ note (code_size_is m) few;
         highs = λ note few.
             highs_named are.code code speeds (length packed.speed) _ note (code_size_is m) speeds_are few;
       };
       parts = λ part.
-          part_is m part code (code + 98 + speeds) are.code
+          part_is m part code (code + frequencies + speeds) are.code
           (parts_sized part are.code (kept plan.set (plan_code plan)) are.parts);
     } in
     subst (NamesParts packed place options size) (sym are.are) parts

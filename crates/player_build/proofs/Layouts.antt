@@ -14,7 +14,7 @@ use Rattle.player_parts.specs.declared.place.Place.{Place}
 use Rattle.player_parts.specs.PlayerLayouts.{IsPlayerLayout}
 use Rattle.player_lists.specs.DataLists.{HasLines, IsDataLayout}
 use Rattle.player_lists.proofs.Laws.{data_takes_size, lines_take_size, lines_are_kept, labels_have_places, lists_stand_inside, next_bytes_are_next}
-use Rattle.player_code.specs.Lengths.{kept_set, code_length}
+use Rattle.player_code.specs.Lengths.{kept_set, frequency_bytes, code_length}
 use Rattle.player_code.specs.Plans.{Plan, IsPlan, plan_code, plan_lines, code_size, plan_size, plan_address, play_site, init_site}
 use Rattle.player_code.specs.CodeLaws.{AreInPlace}
 use Rattle.player_code.proofs.Laws.{sites_are_in_one_listing, labels_stand_in_place, code_has_its_length}
@@ -107,12 +107,12 @@ pub record Made (packed : PackedSong) (place : Place) (options : Options) (lists
   pub begins : 0x0800 ≤ place.address
   pub fits : place.address + image_length packed options ≤ 0xD000
 
-code_is : (size length : ℕ) → size + 196 ≡ length → size ≡ length - 196
+code_is : (size length : ℕ) → size + frequency_bytes ≡ length → size ≡ length - frequency_bytes
 code_is size length e = omega (arith, e)
 
 -- the code's size, which counts the frequencies too, and the whole
 pub code_size_is : {packed : PackedSong} {place : Place} {options : Options} {lists : List Line} →
-    Made packed place options lists → code_size (plan_of packed place options lists) + 196
+    Made packed place options lists → code_size (plan_of packed place options lists) + frequency_bytes
     ≡ code_length packed.features.0 options
 code_size_is {packed = packed} {place = place} {options = options} {lists = lists} m =
     let plan : Plan = plan_of packed place options lists in
@@ -124,13 +124,13 @@ pub start_is : {packed : PackedSong} {place : Place} {options : Options} {lists 
 start_is {place = place} m = ap (λ n. place.address + n) (sym (code_is _ _ (code_size_is m)))
 
 pub lists_size : {packed : PackedSong} {place : Place} {options : Options} {lists : List Line} (set : ℕ) →
-    Made packed place options lists → size_of (kept set lists) ≡ 196 + packed_song_size packed
+    Made packed place options lists → size_of (kept set lists) ≡ frequency_bytes + packed_song_size packed
 lists_size {packed = packed} {place = place} {options = options} {lists = lists} set m =
     ap size_of (lines_are_kept packed (lists_start packed place options) set lists m.lines)
     ∙ (lines_take_size packed (lists_start packed place options) lists m.lines).0
 
-all_size : (plan code lists size length : ℕ) → plan ≡ code + lists → lists ≡ 196 + size → code + 196 ≡ length →
-    plan ≡ size + length
+all_size : (plan code lists size length : ℕ) → plan ≡ code + lists → lists ≡ frequency_bytes + size →
+    code + frequency_bytes ≡ length → plan ≡ size + length
 all_size plan code lists size length a b c = omega (arith, a, b, c)
 
 pub plan_size_is : {packed : PackedSong} {place : Place} {options : Options} {lists : List Line} →

@@ -11,9 +11,11 @@ use Rattle.lowering.specs.Instructions.{name}
 use Rattle.lowering.specs.Lines.{all_lines}
 use Rattle.player_seq.specs.InitBlock.{init_tree}
 use Rattle.player_frame.specs.PlayBlock.{play_tree}
+use Rattle.player_parts.specs.PlayerLists.{frequencies}
 use Rattle.player_code.specs.CodeLines.{always, byte_line, entry_lines, variable_lines, play_head, front_lines}
 use Rattle.player_code.specs.declared.labels.TheConstants.{PLAY_LABELS, INIT_LABELS}
 use Rattle.player_code.specs.CodeLines.{middle_lines, return_lines}
+use Rattle.player_code.specs.Lengths.{frequency_bytes}
 use Rattle.player_code.specs.Plans.{Plan, plan_code}
 use Rattle.player_build.specs.declared.image.PartSpan.{PartSpan}
 use Rattle.player_build.specs.Joined.{Follow, frequency_span}
@@ -113,36 +115,39 @@ follow_bounds (span ∷ spans) from to byte f n =
 
 -- ---- a byte in spans of code and frequencies isn't the packed song's
 
-in_code : (byte code rows all : ℕ) → code + 196 ≡ all → byte < code →
-    ((all - 98 ≤ byte) × (byte < all - 98 + rows)) ⊎ (all + rows ≤ byte) → ⊥
+in_code : (byte code rows all : ℕ) → code + frequency_bytes ≡ all → byte < code →
+    ((all - frequencies ≤ byte) × (byte < all - frequencies + rows)) ⊎ (all + rows ≤ byte) → ⊥
 in_code byte code rows all e h (inl p) = first _ _ _ e h p.0
   where
-    first : (byte code all : ℕ) → code + 196 ≡ all → byte < code → all - 98 ≤ byte → ⊥
+    first : (byte code all : ℕ) → code + frequency_bytes ≡ all → byte < code → all - frequencies ≤ byte → ⊥
     first byte code all e h l = omega (arith, e, h, l)
 in_code byte code rows all e h (inr p) = omega (arith, e, h, p)
 
-in_lows : (byte code rows all : ℕ) → code + 196 ≡ all → byte < code + 98 →
-    ((all - 98 ≤ byte) × (byte < all - 98 + rows)) ⊎ (all + rows ≤ byte) → ⊥
+in_lows : (byte code rows all : ℕ) → code + frequency_bytes ≡ all → byte < code + frequencies →
+    ((all - frequencies ≤ byte) × (byte < all - frequencies + rows)) ⊎ (all + rows ≤ byte) → ⊥
 in_lows byte code rows all e h (inl p) = first _ _ _ e h p.0
   where
-    first : (byte code all : ℕ) → code + 196 ≡ all → byte < code + 98 → all - 98 ≤ byte → ⊥
+    first : (byte code all : ℕ) → code + frequency_bytes ≡ all → byte < code + frequencies →
+        all - frequencies ≤ byte → ⊥
     first byte code all e h l = omega (arith, e, h, l)
 in_lows byte code rows all e h (inr p) = omega (arith, e, h, p)
 
-in_highs : (byte code speeds rows all : ℕ) → code + 196 ≡ all → speeds ≡ rows → code + 98 + speeds ≤ byte →
-    byte < code + 98 + speeds + 98 → ((all - 98 ≤ byte) × (byte < all - 98 + rows)) ⊎ (all + rows ≤ byte) → ⊥
+in_highs : (byte code speeds rows all : ℕ) → code + frequency_bytes ≡ all → speeds ≡ rows →
+    code + frequencies + speeds ≤ byte → byte < code + frequencies + speeds + frequencies →
+    ((all - frequencies ≤ byte) × (byte < all - frequencies + rows)) ⊎ (all + rows ≤ byte) → ⊥
 in_highs byte code speeds rows all e f l h (inl p) = first _ _ _ _ _ e f l p.1
   where
-    first : (byte code speeds rows all : ℕ) → code + 196 ≡ all → speeds ≡ rows → code + 98 + speeds ≤ byte →
-        byte < all - 98 + rows → ⊥
+    first : (byte code speeds rows all : ℕ) → code + frequency_bytes ≡ all → speeds ≡ rows →
+        code + frequencies + speeds ≤ byte → byte < all - frequencies + rows → ⊥
     first byte code speeds rows all e f l h = omega (arith, e, f, l, h)
 in_highs byte code speeds rows all e f l h (inr p) = omega (arith, e, f, h, p)
 
-pub none_packed : (byte code speeds rows all : ℕ) → code + 196 ≡ all → speeds ≡ rows → (front : List PartSpan) →
-    Follow 0 front code → IsNamed (front ++ frequency_span code ∷ frequency_span (code + 98 + speeds) ∷ []) byte →
-    ((all - 98 ≤ byte) × (byte < all - 98 + rows)) ⊎ (all + rows ≤ byte) → ⊥
+pub none_packed : (byte code speeds rows all : ℕ) → code + frequency_bytes ≡ all → speeds ≡ rows →
+    (front : List PartSpan) → Follow 0 front code →
+    IsNamed (front ++ frequency_span code ∷ frequency_span (code + frequencies + speeds) ∷ []) byte →
+    ((all - frequencies ≤ byte) × (byte < all - frequencies + rows)) ⊎ (all + rows ≤ byte) → ⊥
 none_packed byte code speeds rows all e f front follow n p =
-    let highs : List PartSpan = frequency_span (code + 98 + speeds) ∷ [] in
+    let highs : List PartSpan = frequency_span (code + frequencies + speeds) ∷ [] in
     elim (named_split front (frequency_span code ∷ highs) byte n) [
       | inl a ↦
           let first = a in in_code byte code rows all e (follow_bounds front 0 code byte follow first).1 p
@@ -152,7 +157,7 @@ none_packed byte code speeds rows all e f front follow n p =
             | inl b ↦ let second = b in in_lows byte code rows all e second.1 p
             | inr b ↦
                 let last = b in
-                elim (named_cases (frequency_span (code + 98 + speeds)) [] byte last) [
+                elim (named_cases (frequency_span (code + frequencies + speeds)) [] byte last) [
                   | inl c ↦ let third = c in in_highs byte code speeds rows all e f third.0 third.1 p
                   | inr c ↦ let none = c in absurd (named_none byte none)
                 ]
@@ -229,7 +234,7 @@ follows_named_as (span ∷ spans) from to k f inside =
 
 -- so each byte of lines is of its line's part
 pub code_named : (spans : List PartSpan) (lines : List Line) (all byte : ℕ) → Follow 0 spans (size_of lines) →
-    parts_of_spans spans ≡ parts_of_lines lines → size_of lines + 196 ≡ all → byte < all - 196 →
+    parts_of_spans spans ≡ parts_of_lines lines → size_of lines + frequency_bytes ≡ all → byte < all - frequency_bytes →
     IsNamedAs spans byte (slice_index (parts_of_lines lines) byte)
 code_named spans lines all byte follow parts size few =
     let here = follows_named_as spans 0 (size_of lines) byte follow
@@ -237,7 +242,8 @@ code_named spans lines all byte follow parts size few =
     subst (λ n. IsNamedAs spans n (get_or (parts_of_lines lines) byte 0)) (plain byte)
     (subst (λ p. IsNamedAs spans (0 + byte) p) (ap (λ (ps : List ℕ). get_or ps byte 0) parts) here)
   where
-    less : (byte size all long : ℕ) → size + 196 ≡ all → long ≡ size → byte < all - 196 → byte < long
+    less : (byte size all long : ℕ) → size + frequency_bytes ≡ all → long ≡ size →
+        byte < all - frequency_bytes → byte < long
     less byte size all long e f h = omega (arith, e, f, h)
 
     plain : (n : ℕ) → 0 + n ≡ n
@@ -312,7 +318,7 @@ front_named spans plan to follow parts size byte few =
     less byte n e h = omega (arith, e, h)
 
 -- the frequencies behind the code
-frequency_named : (start note : ℕ) (back : List PartSpan) → note < 98 →
+frequency_named : (start note : ℕ) (back : List PartSpan) → note < frequencies →
     IsNamedAs (frequency_span start ∷ back) (start + note) always
 frequency_named start note back few = record {
   named = record {
@@ -330,28 +336,29 @@ frequency_named start note back few = record {
     begin : (start note : ℕ) → start ≤ start + note
     begin start note = omega arith
 
-    end : (start note : ℕ) → note < 98 → start + note < start + 98
+    end : (start note : ℕ) → note < frequencies → start + note < start + frequencies
     end start note h = omega (arith, h)
 
-pub lows_named : (front : List PartSpan) (code other all note : ℕ) → code + 196 ≡ all → note < 98 →
-    IsNamedAs (front ++ frequency_span code ∷ frequency_span other ∷ []) (all - 196 + note) always
+pub lows_named : (front : List PartSpan) (code other all note : ℕ) → code + frequency_bytes ≡ all → note < frequencies →
+    IsNamedAs (front ++ frequency_span code ∷ frequency_span other ∷ []) (all - frequency_bytes + note) always
 lows_named front code other all note e few =
     subst (λ n. IsNamedAs (front ++ frequency_span code ∷ frequency_span other ∷ []) n always) (there code all note e)
     (named_as_right front _ (code + note) always (frequency_named code note (frequency_span other ∷ []) few))
   where
-    there : (code all note : ℕ) → code + 196 ≡ all → code + note ≡ all - 196 + note
+    there : (code all note : ℕ) → code + frequency_bytes ≡ all → code + note ≡ all - frequency_bytes + note
     there code all note e = omega (arith, e)
 
-pub highs_named : (front : List PartSpan) (code speeds rows all note : ℕ) → code + 196 ≡ all → speeds ≡ rows →
-    note < 98 →
-    IsNamedAs (front ++ frequency_span code ∷ frequency_span (code + 98 + speeds) ∷ []) (all - 98 + rows + note) always
+pub highs_named : (front : List PartSpan) (code speeds rows all note : ℕ) → code + frequency_bytes ≡ all →
+    speeds ≡ rows → note < frequencies →
+    IsNamedAs (front ++ frequency_span code ∷ frequency_span (code + frequencies + speeds) ∷ [])
+    (all - frequencies + rows + note) always
 highs_named front code speeds rows all note e f few =
-    subst (λ n. IsNamedAs (front ++ frequency_span code ∷ frequency_span (code + 98 + speeds) ∷ []) n always)
+    subst (λ n. IsNamedAs (front ++ frequency_span code ∷ frequency_span (code + frequencies + speeds) ∷ []) n always)
     (there code speeds rows all note e f)
-    (named_as_right front _ (code + 98 + speeds + note) always
-    (named_as_behind (frequency_span code) (frequency_span (code + 98 + speeds) ∷ []) _ always
-    (frequency_named (code + 98 + speeds) note [] few)))
+    (named_as_right front _ (code + frequencies + speeds + note) always
+    (named_as_behind (frequency_span code) (frequency_span (code + frequencies + speeds) ∷ []) _ always
+    (frequency_named (code + frequencies + speeds) note [] few)))
   where
-    there : (code speeds rows all note : ℕ) → code + 196 ≡ all → speeds ≡ rows →
-        code + 98 + speeds + note ≡ all - 98 + rows + note
+    there : (code speeds rows all note : ℕ) → code + frequency_bytes ≡ all → speeds ≡ rows →
+        code + frequencies + speeds + note ≡ all - frequencies + rows + note
     there code speeds rows all note e f = omega (arith, e, f)

@@ -14,7 +14,7 @@ use Rattle.player_parts.specs.Places.{IsAddress, IsZeroPage}
 use Rattle.player_seq.specs.PackedLimits.{KeepsPatternLimits}
 use Rattle.player_lists.specs.DataLists.{HasLines}
 use Rattle.player_lists.specs.ListLaws.{KeepsCounts}
-use Rattle.player_code.specs.Lengths.{kept_set, code_length}
+use Rattle.player_code.specs.Lengths.{kept_set, frequency_bytes, code_length}
 use Rattle.std.specs.List.{range_with_len}
 use Rattle.std.proofs.lemmas.List.{length-map}
 use Rattle.player_parts.specs.declared.labels.TheConstants.{VARIABLES}
@@ -34,8 +34,8 @@ use Rattle.player_build.proofs.building.image.Goals as goal
 -- what the types keep, and what is asked for
 allowed : (packed : PackedSong) (place : Place) (options : Options) (code : ℕ) → KeepsCounts packed →
     KeepsPatternLimits packed → packed.features.0 < 2 ^ 24 → IsAddress place.address → IsZeroPage place.zero_page →
-    IsSpeed options.speed → code + 196 ≡ code_length packed.features.0 options →
-    place.address + (code + 196 + packed_song_size packed) ≤ 0xD000 → Allowed packed place options code
+    IsSpeed options.speed → code + frequency_bytes ≡ code_length packed.features.0 options →
+    place.address + (code + frequency_bytes + packed_song_size packed) ≤ 0xD000 → Allowed packed place options code
 allowed packed place options code counts patterns features address page speed code_is fits = record {
   counts = counts;
   patterns = patterns;
