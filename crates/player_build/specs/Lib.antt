@@ -10,3 +10,4 @@ pub mod Built
 pub mod LengthLaws
 -- Worked by hand.
 pub mod WorkedImages
+pub mod WorkedSpans

@@ -2,6 +2,7 @@
 
 ghost use Rattle.player_build.specs.LengthLaws.{ImageLengthIsBounded};
 ghost use Rattle.player_build.specs.WorkedImages.{SilencesAreMeasured, NotesAreMeasured, NotesHaveRoom, VariablesAreWorked};
+ghost use Rattle.player_build.specs.WorkedSpans.{SpansAreWorked};
 
 /// An image is at most as long as its packed song and the bound of its player.
 pub fn image_length_is_bounded()
@@ -15,4 +16,9 @@ pub fn worked_images()
     ensures note { NotesAreMeasured }
     ensures room { NotesHaveRoom }
     ensures variables { VariablesAreWorked }
+{}
+
+/// The parts of the bytes in two spans and in three lines, and how many bytes of a part two spans have.
+pub fn worked_spans()
+    ensures { SpansAreWorked }
 {}
