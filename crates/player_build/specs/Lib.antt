@@ -1,11 +1,12 @@
--- To believe: the lines of an image, how long it is, and what `build` answers.
+-- To believe: the lines of an image, how long it is, whose each of its bytes is, what it holds as it is built, and what
+-- `build` answers.
 pub mod ImageLines
 pub mod Lengths
 pub mod Spans
--- Inner: spans without a gap.
-pub mod Joined
 pub mod Starts
 pub mod Built
+-- Inner: spans without a gap.
+pub mod Joined
 -- Claimed: numbers of images.
 pub mod LengthLaws
 -- Worked by hand.
