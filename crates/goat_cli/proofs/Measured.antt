@@ -1,11 +1,10 @@
 -- Sums of registers and counts of steps, a call and a subtune more at a time.
-use Rattle.std.proofs.Common.{◌≡◌, ℕ, zero, suc, ◌+◌, ◌*◌, ◌-◌, ◌%◌, ◌^◌, ◌≤◌, ◌<◌, inl, inr, List, [], ◌∷◌, ◌++◌, length, take, get_or, slice_index, None, Ok, true, refl, sym, ap, ◌∙◌, subst, arith}
+use Rattle.std.proofs.Common.{◌≡◌, ℕ, zero, suc, ◌+◌, ◌*◌, ◌-◌, ◌^◌, ◌≤◌, ◌<◌, inl, inr, List, [], ◌∷◌, ◌++◌, length, take, get_or, slice_index, None, Ok, true, refl, sym, ap, ◌∙◌, subst, arith}
 use Rattle.std.specs.List.{sum, sum_by, range_with_len}
 use Rattle.std.proofs.Math.Seq.{take-length}
 use Rattle.std.proofs.lemmas.Bool.{cases_lt}
 use Rattle.std.proofs.lemmas.List.{take_more, length-append, get_or_append_left, get_or_push}
 use Rattle.std.proofs.lemmas.List.Sums.{sum_by_push}
-use Rattle.std.proofs.lemmas.List.FromFn.{map-range_with_len_more}
 use Rattle.song_model.specs.declared.songs.Song.{Song}
 use Rattle.song_model.specs.Limits.{KeepsLimits}
 use Rattle.song_model.specs.LookUp.{playable_subtunes}
@@ -51,16 +50,16 @@ use Rattle.goat_cli.proofs.PlayedFiles.{written_files_are_packed, packed_files_p
 -- ---- sums
 
 -- a byte more
-pub record BytesSoFar (bytes : List ℕ) (i sum : ℕ) : Type 0 where
-  pub is : sum ≡ sum (take i bytes)
-  pub most : sum ≤ 255 * i
+pub record BytesSoFar (bytes : List ℕ) (i total : ℕ) : Type 0 where
+  pub is : total ≡ sum (take i bytes)
+  pub most : total ≤ 255 * i
 
 pub no_bytes : (bytes : List ℕ) → BytesSoFar bytes 0 0
 no_bytes bytes = record { is = refl; most = omega arith }
 
-pub byte_more : {bytes : List ℕ} {i sum : ℕ} (byte more : ℕ) → BytesSoFar bytes i sum → i < length bytes →
-    byte ≡ get_or bytes i byte → byte < 256 → more ≡ sum + byte → BytesSoFar bytes (i + 1) more
-byte_more {bytes} {i} {sum} byte more so_far inside is small adds =
+pub byte_more : {bytes : List ℕ} {i total : ℕ} (byte more : ℕ) → BytesSoFar bytes i total → i < length bytes →
+    byte ≡ get_or bytes i byte → byte < 256 → more ≡ total + byte → BytesSoFar bytes (i + 1) more
+byte_more {bytes} {i} {total} byte more so_far inside is small adds =
     let most = so_far.most in
     record {
       is = adds ∙ ap (λ (n : ℕ). n + byte) so_far.is ∙ sym (sum_by_push (λ n. n) (take i bytes) byte)
@@ -69,15 +68,15 @@ byte_more {bytes} {i} {sum} byte more so_far inside is small adds =
       most = omega (arith, most, small, adds);
     }
 
-pub all_bytes : {bytes : List ℕ} {i sum : ℕ} → BytesSoFar bytes i sum → length bytes ≡ i → sum ≡ sum bytes
+pub all_bytes : {bytes : List ℕ} {i total : ℕ} → BytesSoFar bytes i total → length bytes ≡ i → total ≡ sum bytes
 all_bytes {bytes} {i} so_far all =
     so_far.is ∙ ap (λ (n : ℕ). sum (take n bytes)) (sym all) ∙ ap sum (take-length bytes)
 
 -- the sum of the first calls of a subtune, which a player has played
-pub record SummedSoFar (song : Song) (k calls : ℕ) (player : Playback) (sum : ℕ) : Type 0 where
+pub record SummedSoFar (song : Song) (k calls : ℕ) (player : Playback) (total : ℕ) : Type 0 where
   pub stands : StandsAfter player song k no_options (calls - 1)
-  pub is : sum ≡ calls_sum song k calls
-  pub most : sum ≤ 25 * 255 * calls
+  pub is : total ≡ calls_sum song k calls
+  pub most : total ≤ 25 * 255 * calls
 
 pub none_summed : (song : Song) (k : ℕ) (player : Playback) → StandsAfter player song k no_options 0 →
     SummedSoFar song k 0 player 0
@@ -90,12 +89,12 @@ pub player_stands : (song : Song) (k : ℕ) (o : Options) (player : Playback) �
 player_stands song k o player is plays stands =
     subst (λ (x : Options). StandsAfter player song k x 0) is (start_after player song k o plays stands)
 
-pub call_summed : {song : Song} {k calls : ℕ} {player : Playback} {sum : ℕ} (later : Playback) (registers : List ℕ)
-    (own more : ℕ) → SummedSoFar song k calls player sum → registers ≡ trace_with no_options song k calls →
-    StandsAfter later song k no_options calls → own ≡ sum registers → own ≤ 25 * 255 → more ≡ sum + own →
+pub call_summed : {song : Song} {k calls : ℕ} {player : Playback} {total : ℕ} (later : Playback) (registers : List ℕ)
+    (own more : ℕ) → SummedSoFar song k calls player total → registers ≡ trace_with no_options song k calls →
+    StandsAfter later song k no_options calls → own ≡ sum registers → own ≤ 25 * 255 → more ≡ total + own →
     SummedSoFar song k (calls + 1) later more
 unfolding calls_sum
-call_summed {song} {k} {calls} {player} {sum} later registers own more so_far is stands own_is own_most adds =
+call_summed {song} {k} {calls} {player} {total} later registers own more so_far is stands own_is own_most adds =
     let most = so_far.most in
     let z : calls ≡ calls + 1 - 1 = omega arith in
     let one : suc calls ≡ calls + 1 = omega arith in
@@ -109,19 +108,19 @@ call_summed {song} {k} {calls} {player} {sum} later registers own more so_far is
     }
 
 -- the sum of the first subtunes
-pub record SubtunesSummed (song : Song) (count sum : ℕ) : Type 0 where
-  pub is : sum ≡ subtunes_sum song count
-  pub most : sum ≤ 301 * 25 * 255 * count
+pub record SubtunesSummed (song : Song) (count total : ℕ) : Type 0 where
+  pub is : total ≡ subtunes_sum song count
+  pub most : total ≤ 301 * 25 * 255 * count
 
 pub no_subtune_summed : (song : Song) → SubtunesSummed song 0 0
 unfolding subtunes_sum
 no_subtune_summed song = record { is = refl; most = omega arith }
 
-pub subtune_summed : {song : Song} {count sum : ℕ} (own more : ℕ) → SubtunesSummed song count sum →
-    own ≡ calls_sum song count selftest_calls → own ≤ 301 * 25 * 255 → more ≡ sum + own →
+pub subtune_summed : {song : Song} {count total : ℕ} (own more : ℕ) → SubtunesSummed song count total →
+    own ≡ calls_sum song count selftest_calls → own ≤ 301 * 25 * 255 → more ≡ total + own →
     SubtunesSummed song (count + 1) more
 unfolding subtunes_sum
-subtune_summed {song} {count} {sum} own more so_far own_is own_most adds =
+subtune_summed {song} {count} {total} own more so_far own_is own_most adds =
     let most = so_far.most in
     let first : 0 + count ≡ count = omega arith in
     let one : suc count ≡ count + 1 = omega arith in

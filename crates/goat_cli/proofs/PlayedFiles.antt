@@ -1,5 +1,5 @@
 -- A packed file that is run plays its song.
-use Rattle.std.proofs.Common.{◌≡◌, ℕ, zero, suc, ◌+◌, ◌-◌, ◌≤◌, ◌<◌, ◌^◌, Bool, true, false, if◌then◌else◌, nat_eq, List, [], ◌++◌, None, Ok, length, refl, sym, ap, ◌∙◌, subst, arith, lit≤, lit<}
+use Rattle.std.proofs.Common.{◌≡◌, ℕ, zero, suc, ◌+◌, ◌-◌, ◌≤◌, ◌<◌, ◌^◌, Bool, true, false, if◌then◌else◌, nat_eq, List, [], None, Ok, length, refl, sym, ap, ◌∙◌, subst, arith, lit≤, lit<}
 use Rattle.song_model.specs.declared.songs.Song.{Song}
 use Rattle.song_model.specs.Limits.{KeepsLimits}
 use Rattle.base.specs.Bytes.{AreBytes}
@@ -10,9 +10,8 @@ use Rattle.play_model.specs.Frame.{trace_with}
 use Rattle.cpu6502.specs.declared.machine.Machine.{Machine}
 use Rattle.cpu6502.specs.Code.{IsMachine}
 use Rattle.cpu6502.proofs.Laws.{call_keeps}
-use Rattle.psid.specs.declared.header.Header.{Header}
 use Rattle.psid.specs.declared.header.Psid.{Psid}
-use Rattle.psid.specs.Format.{IsHeader, IsWritable, psid_bytes}
+use Rattle.psid.specs.Format.{IsHeader, IsWritable}
 use Rattle.psid.specs.Reading.{psid_read}
 use Rattle.psid.proofs.Laws.{written_is_read_as_is}
 use Rattle.sid_run.specs.State.{RunnerState, loaded, loaded_machine}
@@ -22,7 +21,7 @@ use Rattle.goat_cli.specs.Words.{Run}
 use Rattle.goat_cli.specs.Calls.{HasSubtune, ReturnsTo, FirstCalls}
 use Rattle.images.specs.Faithful.{Leaves, PlaysOn, IsFaithful}
 use Rattle.player_parts.specs.Places.{IsAddress}
-use Rattle.goat_cli.specs.Packed.{song_header, psid_file, caller_bits, IsWrittenFile}
+use Rattle.goat_cli.specs.Packed.{song_header, psid_file, caller_bits}
 use Rattle.goat_cli.specs.RegisterText.{register_lines}
 use Rattle.goat_cli.specs.Stages.{IsThere, Fits, IsPsid, OffersSubtune, CallsReturn, HoldsPsid, AllPass, input_limit}
 use Rattle.goat_cli.specs.Jobs.{stages, Shows}

@@ -1,6 +1,6 @@
 //! A call more: of a loaded file, and of a song that is played.
 
-ghost use Rattle.std.specs.Prelude.{◌≡◌, ◌-◌, None, IfOk, IfErr, OnOk};
+ghost use Rattle.std.specs.Prelude.{◌≡◌, ℕ, ◌-◌, None, IfOk, IfErr, OnOk};
 ghost use Rattle.song_model.specs.declared.songs.Song.{Song};
 ghost use Rattle.play_model.specs.declared.options.Options.{Options};
 ghost use Rattle.play_model.specs.Frame.{trace_with};

@@ -1,4 +1,4 @@
-use Rattle.std.proofs.Common.{◌≡◌, ℕ, ◌+◌, ◌<◌, ◌≤◌, refl, sym, ◌∙◌, subst, arith, Fits, w64}
+use Rattle.std.proofs.Common.{◌+◌, refl, sym, ◌∙◌, subst, arith}
 use Rattle.goat_cli.specs.Calls.{entry_of, accumulator_of, Takes}
 use Rattle.goat_cli.proofs.Measured.{none_fails, call_taken, none_taken, few_taken, all_taken}
 use Rattle.goat_cli.proofs.measuring.count_steps.Goals as goal

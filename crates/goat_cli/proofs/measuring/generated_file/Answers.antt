@@ -1,4 +1,4 @@
-use Rattle.std.proofs.Common.{◌≡◌, List, ℕ, true, ap, ◌∙◌, IfOk}
+use Rattle.std.proofs.Common.{true, ap, ◌∙◌}
 use Rattle.play_model.specs.declared.options.Options.{Options}
 use Rattle.play_model.specs.State.{no_options}
 use Rattle.goat_cli.specs.Packed.{packed_file}

@@ -1,5 +1,4 @@
-use Rattle.std.proofs.Common.{◌≡◌, ◌+◌, ◌≤◌, ◌<◌, refl, sym, ◌∙◌, subst, arith, length, ℕ}
-use Rattle.song_model.specs.LookUp.{playable_subtunes}
+use Rattle.std.proofs.Common.{◌+◌, refl, subst, arith}
 use Rattle.sid_run.specs.State.{loaded}
 use Rattle.goat_cli.specs.Selftest.{SubtunesTake}
 use Rattle.goat_cli.proofs.SmallSongs.{has_subtune}

@@ -1,4 +1,4 @@
-use Rattle.std.proofs.Common.{◌≡◌, sym, subst}
+use Rattle.std.proofs.Common.{sym, subst}
 use Rattle.sid_run.specs.State.{RunnerState}
 use Rattle.goat_cli.specs.Selftest.{selftest_calls, CallsTake}
 use Rattle.goat_cli.specs.Endings.{FirstCallsReturn}

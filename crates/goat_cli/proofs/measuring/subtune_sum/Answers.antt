@@ -1,4 +1,4 @@
-use Rattle.std.proofs.Common.{◌≡◌, ◌+◌, refl, subst}
+use Rattle.std.proofs.Common.{◌+◌, refl}
 use Rattle.goat_cli.proofs.Measured.{none_summed, call_summed, player_stands}
 use Rattle.play_model.specs.State.{no_options}
 use Rattle.goat_cli.proofs.measuring.subtune_sum.Goals as goal

@@ -1,4 +1,4 @@
-use Rattle.std.proofs.Common.{◌≤◌, ◌<◌, arith}
+use Rattle.std.proofs.Common.{arith}
 use Rattle.goat_cli.proofs.Room.{digits_fit, byte_fits, ten_digits, sum_fits}
 use Rattle.goat_cli.proofs.commands.selftest.report_of.Goals as goal
 

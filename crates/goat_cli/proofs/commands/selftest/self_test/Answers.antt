@@ -1,4 +1,4 @@
-use Rattle.std.proofs.Common.{◌≡◌, sym, subst}
+use Rattle.std.proofs.Common.{sym, subst}
 use Rattle.std.proofs.lemmas.Result.{err_from_is_err_and}
 use Rattle.song_model.specs.Limits.{KeepsLimits}
 use Rattle.song_gen.proofs.Laws.{generated_songs_keep_limits}
