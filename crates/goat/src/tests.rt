@@ -1,5 +1,5 @@
-//! Worked examples from outside: words, files, the status, the line and what was written. Those of songs are in
-//! `goat_songs`.
+//! Worked examples from outside: words, devices, broken files and the silent song, and of `copy`, `run` and `selftest`.
+//! Those of songs that are spelled part by part are in `goat_songs`.
 
 mod broken;
 mod copying;

@@ -46,12 +46,16 @@ pub record SubtunesTake (file : RunnerState) (count : ℕ) (each : List ℕ) : T
   pub many : length each ≡ count
   pub take : (subtune : ℕ) → subtune < count → CallsTake file subtune selftest_calls (slice_index each subtune)
 
--- the steps of all playable subtunes of a song, of a PSID file that `pack` may write for $1000 and page 0's $FC
-pub record TakesSteps (song : Song) (steps : ℕ) : Type 0 where
-  pub file : List ℕ
-  pub is_written : IsWrittenFile true 0x1000 0xFC song no_options file
+-- all playable subtunes of a song take so many steps altogether, of this PSID file
+pub record FileTakes (song : Song) (file : List ℕ) (steps : ℕ) : Type 0 where
   pub psid : Psid
   pub reads : psid_read file ≡ Ok psid
   pub each : List ℕ
   pub take : SubtunesTake (loaded psid) (length (playable_subtunes song)) each
   pub steps_are : steps ≡ sum each
+
+-- and of a file that `pack` may write for $1000 and page 0's $FC
+pub record TakesSteps (song : Song) (steps : ℕ) : Type 0 where
+  pub file : List ℕ
+  pub is_written : IsWrittenFile true 0x1000 0xFC song no_options file
+  pub takes : FileTakes song file steps

@@ -12,7 +12,7 @@ ghost use Rattle.sid_run.specs.State.{loaded};
 ghost use Rattle.player_build.specs.Built.{IsBuild};
 ghost use Rattle.goat_cli.specs.Packed.{IsWrittenFile};
 ghost use Rattle.goat_cli.specs.Endings.{PacksSong, FirstCallsReturn};
-ghost use Rattle.goat_cli.specs.Selftest.{calls_sum, register_sum, selftest_calls, CallsTake, TakesSteps};
+ghost use Rattle.goat_cli.specs.Selftest.{calls_sum, register_sum, selftest_calls, CallsTake, FileTakes};
 
 use crate::calling::{next_call, next_frame};
 use crate::packed::packed_file;
@@ -195,7 +195,7 @@ pub fn steps_of(alloc: Global, song: &Song, file: &[u8]) -> Result<u64, NoMemory
     requires limits { KeepsLimits song.now }
     requires playable { IsPlayable song.now }
     requires written { IsWrittenFile true 0x1000 0xFC song.now no_options file.now }
-    ensures steps { IfOk result (TakesSteps song.now) }
+    ensures steps { IfOk result (FileTakes song.now file.now) }
     ensures most { IfOk result (λ steps. steps < 10 ^ 10) }
 {
     let psid = read_packed(alloc, file)?;

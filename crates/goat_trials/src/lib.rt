@@ -1,8 +1,8 @@
 //! What the tests of the program have in common: two small songs, and runs of the program over a folder and a sink in
 //! memory.
 //!
-//! The layer's one contract: a song has the bytes that it was given behind its magic and its texts. What a run answers
-//! is the top call's to say: this crate hands it words and a folder, and copies what stands after it.
+//! The layer's one contract: a song has the bytes that it was given behind its magic and its texts. Of runs nothing is
+//! claimed: what one answers is the top call's to say.
 //!
 //! It stands on `goat_cli` for the top call, and on `goat_io` for the folder and the sink. The crates of tests stand on
 //! it, so it knows no `Abort`: it asserts nothing.

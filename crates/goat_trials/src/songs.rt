@@ -41,7 +41,8 @@ pub fn song_with(alloc: Global, parts: &[u8]) -> Result<Vec<u8>, AllocError>
 ///
 /// Out of memory.
 pub fn silence(alloc: Global) -> Result<Vec<u8>, AllocError>
-    ensures { IfOk result (λ song. vec_len song ≡ 128) }
+    ensures bytes { IfOk result (λ song. song.items ≡ codes "GTS5" ++ (replicate 96 0 ++ SILENCE)) }
+    ensures length { IfOk result (λ song. vec_len song ≡ 128) }
 {
     song_with(alloc, &SILENCE)
 }
@@ -52,7 +53,8 @@ pub fn silence(alloc: Global) -> Result<Vec<u8>, AllocError>
 ///
 /// Out of memory.
 pub fn one_note(alloc: Global) -> Result<Vec<u8>, AllocError>
-    ensures { IfOk result (λ song. vec_len song ≡ 174) }
+    ensures bytes { IfOk result (λ song. song.items ≡ codes "GTS5" ++ (replicate 96 0 ++ ONE_NOTE)) }
+    ensures length { IfOk result (λ song. vec_len song ≡ 174) }
 {
     song_with(alloc, &ONE_NOTE)
 }

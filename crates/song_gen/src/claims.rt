@@ -3,8 +3,8 @@
 ghost use Rattle.song_gen.specs.GeneratedLaws.{GeneratedSongsKeepLimits, GeneratedSongsArePlayable, GeneratedSongsHaveEightSubtunes, GeneratedPatternsAreShort, GeneratedSongsAreSmall};
 ghost use Rattle.song_gen.specs.WorkedSongs.{FirstDrawsAre, LastDrawsAre};
 
-/// Each generated song keeps the limits of the format, has eight subtunes that can be played, and is small enough to be
-/// packed.
+/// Each generated song keeps the limits of the format, can be played, has eight playable subtunes, and is small enough to
+/// be packed.
 pub fn generated_songs_can_be_packed()
     ensures limits { GeneratedSongsKeepLimits }
     ensures playable { GeneratedSongsArePlayable }

@@ -31,8 +31,6 @@ loop-subtune-preserved c =
 
 pub returns-clause-steps : goal.returns-clause-steps
 returns-clause-steps c = record {
-  file = c.args.file.now;
-  is_written = c.requires.written;
   psid = c.in_ok-psid.psid;
   reads = c.in_ok-psid.ensures.reads;
   each = c.loop-subtune.invariant.each;

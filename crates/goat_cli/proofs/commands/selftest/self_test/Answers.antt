@@ -2,6 +2,7 @@ use Rattle.std.proofs.Common.{sym, subst}
 use Rattle.std.proofs.lemmas.Result.{err_from_is_err_and}
 use Rattle.song_model.specs.Limits.{KeepsLimits}
 use Rattle.song_gen.proofs.Laws.{generated_songs_keep_limits}
+use Rattle.goat_cli.specs.Selftest.{FileTakes}
 use Rattle.goat_cli.proofs.Told.{stays_itself}
 use Rattle.goat_cli.proofs.Ends.{wants_first}
 use Rattle.goat_cli.proofs.Measured.{selftest_ends}
@@ -34,4 +35,11 @@ pub returns : goal.returns
 returns c = λ folder sink.
     rw c.report_of.ensures
     (selftest_ends c.args.number c.playable_count.result c.register_sum.result c.in_ok-steps.steps c.in_ok-song.song
-    c.in_ok-song.ensures.song c.playable_count.ensures c.register_sum.ensures c.in_ok-steps.ensures.steps folder sink)
+    c.in_ok-song.ensures.song c.playable_count.ensures c.register_sum.ensures
+    (record {
+      file = c.in_ok-file.file.items;
+      is_written = c.in_ok-file.ensures;
+      takes = subst (λ bytes. FileTakes c.in_ok-song.song bytes c.in_ok-steps.steps) c.deref.ensures.value
+          c.in_ok-steps.ensures.steps;
+    })
+    folder sink)
