@@ -22,8 +22,6 @@ mod labels;
 mod lines;
 mod moving;
 mod output;
-#[cfg(test)]
-mod tests;
 
 pub use assembled::Assembled;
 pub use assembling::assemble;

@@ -17,8 +17,6 @@ mod forms;
 mod labels;
 mod names;
 mod steps;
-#[cfg(test)]
-mod tests;
 
 pub use base::NoMemory;
 pub use block::{Block, Counter, Start};

@@ -31,8 +31,6 @@ mod opcodes;
 mod shift;
 mod stack;
 mod stop;
-#[cfg(test)]
-mod tests;
 mod transfer;
 
 pub use base::NoMemory;

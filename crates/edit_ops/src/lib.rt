@@ -32,6 +32,3 @@ pub use numbered::NumberedPattern;
 pub use shifts::Shift;
 pub use song_model::NoMemory;
 pub use splices::Splice;
-
-#[cfg(test)]
-mod tests;

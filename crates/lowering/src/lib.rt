@@ -16,8 +16,6 @@ mod instructions;
 mod lowered;
 mod pieces;
 mod sizes;
-#[cfg(test)]
-mod tests;
 
 pub use asm6502::Listing;
 pub use base::NoMemory;

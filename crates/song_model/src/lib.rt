@@ -37,6 +37,3 @@ pub use pointers::{command_table, wave_row_table};
 pub use rows::Row;
 pub use songs::Song;
 pub use tables::{MOST_TABLE_ROWS, Table, TableName, TableRow};
-
-#[cfg(test)]
-mod tests;
