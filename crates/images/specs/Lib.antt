@@ -6,5 +6,4 @@ pub mod Histories
 pub mod Isolation
 -- Claimed: laws of these definitions, and numbers worked by hand.
 pub mod Laws
-pub mod WorkedTimers
 pub mod WorkedPlaces

@@ -1,6 +1,7 @@
 -- The timer that calls play more often than once a picture: the two bytes of timer A of the C64's first CIA, at $DC04
--- and $DC05, low byte first, and the cycles of a picture on a PAL machine.
-use Rattle.std.specs.Prelude.{◌≡◌, ℕ, ◌-◌, ◌/◌, ◌%◌, ◌<◌, slice_index}
+-- and $DC05, low byte first.
+use Rattle.std.specs.Prelude.{◌≡◌, ℕ, ◌/◌, ◌%◌, ◌<◌, slice_index}
+use Rattle.play_model.specs.Speeds.{timer_value}
 use Rattle.play_model.specs.declared.options.Options.{Options}
 use Rattle.cpu6502.specs.declared.machine.Machine.{Machine}
 
@@ -9,11 +10,6 @@ timer_low = 0xDC04
 
 abbrev pub timer_high : ℕ
 timer_high = 0xDC05
-
--- the cycles from one play call to the next: those of a picture, divided by the play calls in it and rounded down; less 1,
--- since the timer counts one cycle more than its value
-abbrev pub timer_value : ℕ → ℕ
-timer_value speed = 19656 / speed - 1
 
 -- the timer of a machine has a value
 pub record HasTimer (machine : Machine) (value : ℕ) : Type 0 where

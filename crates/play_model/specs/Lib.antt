@@ -31,8 +31,9 @@ pub mod UseLaws
 pub mod Parts
 pub mod WorkedUses
 pub mod WorkedRefusals
--- Claimed: frames of small songs, worked out by hand.
+-- Claimed: frequencies, timers, and frames of small songs, worked out by hand.
 pub mod WorkedFrequencies
+pub mod WorkedTimers
 pub mod WorkedSongs
 pub mod WorkedRuns
 pub mod WorkedFrames

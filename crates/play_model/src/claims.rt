@@ -19,6 +19,7 @@ ghost use Rattle.play_model.specs.WorkedLongPulses.{WorkedLongPulsesHold};
 ghost use Rattle.play_model.specs.WorkedWithoutBoth.{WorkedWithoutBothHold};
 ghost use Rattle.play_model.specs.WorkedBareVoices.{WorkedBareVoicesHold};
 ghost use Rattle.play_model.specs.WorkedFrequencies.{FrequenciesAreAsWorked};
+ghost use Rattle.play_model.specs.WorkedTimers.{TimersAreWorked};
 ghost use Rattle.play_model.specs.WorkedFrames.{OneNoteSounds, LowNoteIsMute, VibratoWraps, SlideStops, FunkTempoWraps, LongFunkTempoIsCut, GateTimerBits, LongTimerIsNeverMet, WaveProgramWaits, VibratoChangesAlone, FilterFollows, OptionsAreAsWorked};
 
 /// Each call leaves 25 registers.
@@ -260,4 +261,9 @@ pub fn worked_without_both()
 #[tactic(auto, using(crate::proofs::WorkedBareVoices::worked_bare_voices_lem))]
 pub fn worked_bare_voices()
     ensures { WorkedBareVoicesHold }
+{}
+
+/// The timer's values at each speed.
+pub fn worked_timers()
+    ensures { TimersAreWorked }
 {}

@@ -5,6 +5,7 @@ use Rattle.std.proofs.lemmas.List.{get_or-replicate}
 use Rattle.std.proofs.lemmas.Bool.{cases_lt, cases_eq, lt-ltb, le-ltb}
 use Rattle.song_model.specs.declared.songs.Song.{Song}
 use Rattle.play_model.specs.declared.options.Options.{Options}
+use Rattle.play_model.specs.Speeds.{timer_value}
 use Rattle.play_model.specs.State.{start_state}
 use Rattle.play_model.specs.Frame.{state_after_with, trace_with}
 use Rattle.packed_form.specs.declared.packed_songs.PackedSong.{PackedSong}
@@ -16,7 +17,7 @@ use Rattle.code_runs.proofs.Laws.{put_same, put_other}
 use Rattle.asm6502.specs.declared.lines.Line.{Line}
 use Rattle.sid_run.specs.State.{sid_registers}
 use Rattle.images.specs.Confined.{IsOwnPlace, IsConfined}
-use Rattle.images.specs.Timers.{SetsTimer, timer_value}
+use Rattle.images.specs.Timers.{SetsTimer}
 use Rattle.blocks.specs.Desk.{Desk, Layout}
 use Rattle.blocks.specs.Meaning.{meaning}
 use Rattle.block_calls.specs.Entrances.{Entrance, HasCode, entrance_desk}

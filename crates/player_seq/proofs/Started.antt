@@ -15,7 +15,7 @@ use Rattle.player_parts.specs.declared.labels.TheConstants.{VOLUME, FUNK_ONE, FU
 use Rattle.player_parts.specs.PlayerLists.{PlayerList, OrderLows, OrderHighs, IsListPlace, HasLists, IsList}
 use Rattle.player_parts.specs.PlayerLists.{list_length, list_place, list_byte}
 use Rattle.player_parts.specs.PlayerLayouts.{IsPlayerLayout, MayRead}
-use Rattle.images.specs.Timers.{timer_value}
+use Rattle.play_model.specs.Speeds.{timer_value}
 use Rattle.player_seq.specs.InitBlock.{shared_tree, voice_tree, timer_tree}
 use Rattle.player_seq.specs.InitLaws.{timer_byte}
 use Rattle.player_seq.proofs.Cleared.{IsRest, IsMemory, written}

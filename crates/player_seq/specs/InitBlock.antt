@@ -6,7 +6,7 @@ use Rattle.blocks.specs.Trees.{Tree, ChainTree, NoneTree, ThenTree, EachVoiceTre
 use Rattle.play_model.specs.declared.options.Options.{Options}
 use Rattle.player_parts.specs.declared.labels.TheConstants.{ENTRY, ORDER_LOW, ORDER_HIGH, TICK, INSTRUMENT, GATE, TEMPO, CLEARED, VOLUME}
 use Rattle.player_parts.specs.declared.labels.TheConstants.{FUNK_ONE, FUNK_TWO, SUBTUNE, ORDER_LOWS, ORDER_HIGHS}
-use Rattle.images.specs.Timers.{timer_value}
+use Rattle.play_model.specs.Speeds.{timer_value}
 use Rattle.player_parts.specs.declared.parts.TheConstants.{TIMER_BIT}
 use Rattle.player_parts.specs.Codes.{shared_byte, load_number, load_shared, load_entry, store_own, store_shared, store_y}
 use Rattle.player_parts.specs.Codes.{next_y}

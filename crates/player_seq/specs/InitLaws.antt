@@ -2,7 +2,7 @@
 use Rattle.std.specs.Prelude.{◌≡◌, ℕ, ◌/◌, ◌%◌, ◌<◌, ◌≤◌, length, nat_lt, if◌then◌else◌}
 use Rattle.song_model.specs.declared.songs.Song.{Song}
 use Rattle.play_model.specs.declared.options.Options.{Options}
-use Rattle.play_model.specs.Speeds.{IsSpeed}
+use Rattle.play_model.specs.Speeds.{IsSpeed, timer_value}
 use Rattle.play_model.specs.State.{start_state}
 use Rattle.packed_form.specs.declared.packed_songs.PackedSong.{PackedSong}
 use Rattle.packed_form.specs.StandsFor.{StandsFor}
@@ -15,7 +15,6 @@ use Rattle.player_parts.specs.declared.labels.TheConstants.{SUBTUNE, VARIABLES}
 use Rattle.player_parts.specs.PlayerLists.{HasLists}
 use Rattle.player_parts.specs.PlayerLayouts.{IsPlayerLayout, IsVariablePlace, MayRead}
 use Rattle.player_parts.specs.Holds.{Holds, nothing_on}
-use Rattle.images.specs.Timers.{timer_value}
 use Rattle.player_seq.specs.InitBlock.{init_tree}
 
 -- what stands in the timer's bytes: its value where the play call comes more often than once a picture, else what was

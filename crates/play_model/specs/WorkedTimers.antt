@@ -1,6 +1,6 @@
 -- The timer's values at each speed, from the cycles of a picture: 63 in each of 312 lines.
 use Rattle.std.specs.Prelude.{◌≡◌, ◌*◌, ◌/◌, ◌%◌}
-use Rattle.images.specs.Timers.{timer_value}
+use Rattle.play_model.specs.Speeds.{timer_value}
 
 -- the timer counts 9,828, 6,552 and 4,914 cycles at the speeds 2, 3 and 4
 pub record TimersAreWorked : Type 0 where
