@@ -14,7 +14,7 @@ use Rattle.play_model.specs.State.{no_options, start_state}
 use Rattle.player_parts.specs.Places.{IsAddress}
 use Rattle.player_build.specs.Lengths.{IsTooLarge}
 use Rattle.packed_form.specs.declared.packed_songs.PackedSong.{PackedSong}
-use Rattle.packed_form.specs.UsedSets.{UsedSets}
+use Rattle.packing_rules.specs.UsedSets.{UsedSets}
 use Rattle.song_pack.specs.Answers.{IsTooLong}
 use Rattle.song_gen.specs.GeneratedSong.{generated_song}
 use Rattle.song_gen.specs.GeneratedLaws.{PatternsAreShort, IsSmall}
@@ -23,7 +23,7 @@ use Rattle.psid.specs.Reading.{psid_read}
 use Rattle.playroutine.specs.Playback.{Playback, PlaysSubtune, PlayerStandsFor}
 use Rattle.playroutine.specs.Played.{StandsAfter}
 use Rattle.playroutine.proofs.Laws.{start_after}
-use Rattle.packed_form.proofs.Laws.{range_more}
+use Rattle.packing_rules.proofs.Laws.{range_more}
 use Rattle.cpu6502.specs.declared.machine.Machine.{Machine}
 use Rattle.cpu6502.specs.declared.stop.CallStop.{CallStop}
 use Rattle.cpu6502.specs.Call.{FailsBy}

@@ -19,10 +19,10 @@ use Rattle.play_model.specs.declared.options.Options.{Options}
 use Rattle.play_model.specs.Playable.{IsPlayable, IsRefusedFor}
 use Rattle.play_model.proofs.Laws.{refused_or_playable_lem}
 use Rattle.usage.proofs.Laws.{one_refusal}
-use Rattle.packed_form.specs.UsedSets.{UsedSets, AreUsedSets}
-use Rattle.packed_form.specs.Renumbering.{pattern_text}
-use Rattle.packed_form.specs.SongSizes.{packed_size}
-use Rattle.packed_form.proofs.Laws.{same_sets}
+use Rattle.packing_rules.specs.UsedSets.{UsedSets, AreUsedSets}
+use Rattle.packing_rules.specs.Renumbering.{pattern_text}
+use Rattle.packing_rules.specs.SongSizes.{packed_size}
+use Rattle.packing_rules.proofs.Laws.{same_sets}
 use Rattle.song_pack.specs.Answers.{AreShort, IsTooLong}
 use Rattle.player_code.specs.Lengths.{code_length}
 use Rattle.goat_cli.specs.Packed.{IsImageLength}

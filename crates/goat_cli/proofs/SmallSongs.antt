@@ -6,9 +6,10 @@ use Rattle.play_model.specs.declared.options.Options.{Options}
 use Rattle.play_model.specs.declared.unplayable.Unplayable.TheVariants.{NoSubtune}
 use Rattle.play_model.specs.Playable.{IsPlayable}
 use Rattle.play_model.specs.Features.{AreFeatures}
-use Rattle.packed_form.specs.UsedSets.{UsedSets, AreUsedSets}
-use Rattle.packed_form.specs.SongSizes.{data_size, packed_size, code_bound}
-use Rattle.packed_form.proofs.Laws.{packed_size_is_within}
+use Rattle.packing_rules.specs.UsedSets.{UsedSets, AreUsedSets}
+use Rattle.packed_form.specs.CodeBounds.{code_bound}
+use Rattle.packing_rules.specs.SongSizes.{data_size, packed_size}
+use Rattle.packing_rules.proofs.Laws.{packed_size_is_within}
 use Rattle.player_code.specs.Lengths.{code_length}
 use Rattle.player_code.proofs.Laws.{code_is_bounded}
 use Rattle.goat_cli.specs.Packed.{IsImageLength}

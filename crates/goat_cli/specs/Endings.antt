@@ -5,8 +5,8 @@ use Rattle.goat_io.specs.Files.{Files, file_of, told_with_file, IsAbsent, IsAbov
 use Rattle.song_model.specs.declared.songs.Song.{Song}
 use Rattle.packed_form.specs.declared.packed_songs.PackedSong.{PackedSong}
 use Rattle.packed_form.specs.Sizes.{packed_song_size}
-use Rattle.packed_form.specs.UsedSets.{UsedSets, AreUsedSets}
-use Rattle.packed_form.specs.SongSizes.{packed_size}
+use Rattle.packing_rules.specs.UsedSets.{UsedSets, AreUsedSets}
+use Rattle.packing_rules.specs.SongSizes.{packed_size}
 use Rattle.packed_form.specs.StandsFor.{StandsFor}
 use Rattle.gts5.specs.Spells.{Spells}
 use Rattle.edit_script.specs.Edited.{FailsAt}

@@ -8,8 +8,9 @@ use Rattle.song_model.specs.LookUp.{playable_subtunes}
 use Rattle.play_model.specs.declared.options.Options.{Options}
 use Rattle.play_model.specs.Playable.{IsPlayable}
 use Rattle.play_model.specs.Features.{AreFeatures}
-use Rattle.packed_form.specs.UsedSets.{UsedSets, AreUsedSets}
-use Rattle.packed_form.specs.SongSizes.{data_size, code_bound}
+use Rattle.packing_rules.specs.UsedSets.{UsedSets, AreUsedSets}
+use Rattle.packed_form.specs.CodeBounds.{code_bound}
+use Rattle.packing_rules.specs.SongSizes.{data_size}
 use Rattle.song_pack.specs.Answers.{AreShort}
 use Rattle.cpu6502.specs.declared.machine.Machine.{Machine}
 use Rattle.sid_run.specs.State.{loaded}

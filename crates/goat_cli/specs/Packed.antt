@@ -5,8 +5,8 @@ use Rattle.song_model.specs.declared.songs.Song.{Song}
 use Rattle.song_model.specs.LookUp.{playable_subtunes}
 use Rattle.play_model.specs.declared.options.Options.{Options}
 use Rattle.play_model.specs.Features.{AreFeatures}
-use Rattle.packed_form.specs.UsedSets.{UsedSets, AreUsedSets}
-use Rattle.packed_form.specs.SongSizes.{packed_size}
+use Rattle.packing_rules.specs.UsedSets.{UsedSets, AreUsedSets}
+use Rattle.packing_rules.specs.SongSizes.{packed_size}
 use Rattle.player_code.specs.Lengths.{code_length}
 use Rattle.psid.specs.declared.header.Header.{Header}
 use Rattle.psid.specs.Format.{psid_bytes}

@@ -11,7 +11,7 @@ use Rattle.gts5.specs.Faults.{fault_of}
 use Rattle.play_model.specs.declared.unplayable.Unplayable.{Unplayable}
 use Rattle.play_model.specs.declared.options.Options.{Options}
 use Rattle.play_model.specs.Playable.{IsPlayable, IsRefusedFor}
-use Rattle.packed_form.specs.UsedSets.{UsedSets, AreUsedSets}
+use Rattle.packing_rules.specs.UsedSets.{UsedSets, AreUsedSets}
 use Rattle.song_pack.specs.Answers.{AreShort, IsTooLong}
 use Rattle.edit_script.specs.Edited.{IsEditedBy, FailsAt}
 use Rattle.psid.specs.declared.header.Psid.{Psid}

@@ -12,14 +12,6 @@ pub struct Command {
     pub param: u8,
 }
 
-impl Command {
-    /// The command with which each pattern begins.
-    pub const NONE: Command = Command {
-        number: 0,
-        param: 0,
-    };
-}
-
 /// What an entry has behind its instrument.
 #[derive(Clone, Copy, Debug, PartialEq, Eq)]
 pub enum EntryKind {

@@ -1,16 +1,9 @@
-//! What the calls of this crate answer in place of a value.
+//! What is answered where bytes are no packed pattern.
 
 ghost use Rattle.std.specs.Prelude.{◌≡◌};
 ghost use Rattle.packed_form.specs.declared.faults.PackedFault.TheVariants.{NoMemory};
 
 use std::alloc::{AllocError, AllocFailed};
-
-/// The packed text of a pattern is longer than a packed pattern may be.
-#[derive(Clone, Copy, Debug, PartialEq, Eq)]
-pub struct PatternTooLong {
-    /// Its length in bytes, with the `$00` at its end. `pack_pattern` answers 257 to 513.
-    pub length: u16,
-}
 
 /// Why bytes aren't a packed pattern. Offsets are in bytes, counted from 0.
 #[derive(Clone, Copy, Debug, PartialEq, Eq)]

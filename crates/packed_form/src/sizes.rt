@@ -7,12 +7,15 @@ use crate::packed_songs::{PackedPatternList, PackedSubtuneList};
 use crate::{PackedOrder, PackedPattern, PackedSong, PackedSubtune};
 use song_model::Table;
 
+/// The most bytes of a packed song.
+pub const MOST_PACKED_SIZE: u32 = 81_039;
+
 impl PackedSong {
     /// How many bytes the packed song has in memory: the bytes of its orderlists and patterns and two for the address
     /// of each, nine of an instrument, two of a table's row.
     pub fn size(&self) -> u32
         ensures size { result ≡ packed_song_size self.now }
-        ensures most { result ≤ 81_039 }
+        ensures most { result ≤ MOST_PACKED_SIZE }
     {
         let instruments = self.instruments.as_slice();
         subtunes_size(&self.subtunes)

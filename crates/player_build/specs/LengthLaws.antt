@@ -3,7 +3,7 @@ use Rattle.std.specs.Prelude.{◌+◌, ◌≤◌}
 use Rattle.play_model.specs.declared.options.Options.{Options}
 use Rattle.packed_form.specs.declared.packed_songs.PackedSong.{PackedSong}
 use Rattle.packed_form.specs.Sizes.{packed_song_size}
-use Rattle.packed_form.specs.SongSizes.{code_bound}
+use Rattle.packed_form.specs.CodeBounds.{code_bound}
 use Rattle.player_build.specs.Lengths.{image_length}
 
 -- it is within the bound of a packed song and its player

@@ -5,7 +5,7 @@ use Rattle.asm6502.specs.Lines.{kept, size_of, data_size}
 use Rattle.asm6502.specs.Parts.{part_size}
 use Rattle.play_model.specs.declared.options.Options.{Options}
 use Rattle.play_model.specs.Speeds.{IsSpeed}
-use Rattle.packed_form.specs.SongSizes.{code_bound}
+use Rattle.packed_form.specs.CodeBounds.{code_bound}
 use Rattle.blocks.specs.Sizes.{weight}
 use Rattle.lowering.specs.Lowered.{bit_kept}
 use Rattle.player_parts.specs.declared.labels.TheConstants.{VARIABLES}

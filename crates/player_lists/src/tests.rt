@@ -3,10 +3,10 @@
 use crate::data_listing;
 use asm6502::{FeatureBits, assemble};
 use packed_form::{
-    PackedInstrument, PackedInstrumentList, PackedOrder, PackedPatternList, PackedSong,
-    PackedSubtune, PackedSubtuneList, pack_pattern,
+    PackedInstrument, PackedInstrumentList, PackedOrder, PackedPattern, PackedPatternList,
+    PackedSong, PackedSubtune, PackedSubtuneList,
 };
-use song_model::{Pattern, Row, Table, TableRow};
+use song_model::{Table, TableRow};
 use std::alloc::Global;
 use std::process::Abort;
 use std::test::Fail;
@@ -89,12 +89,6 @@ const CASES: [Case; 2] = [
 
 /// A packed song with one subtune, one pattern of a rest, one instrument and these tables.
 fn song(alloc: Global, tables: [&[TableRow]; 4]) -> Result<PackedSong, Fail> {
-    let rest = Row {
-        note: 0xBD,
-        instrument: 0,
-        command: 0,
-        param: 0,
-    };
     let mut subtunes = PackedSubtuneList::new(alloc);
     subtunes.push(PackedSubtune {
         one: PackedOrder::from_slice(alloc, &[0, 0xFF, 0])?,
@@ -102,7 +96,7 @@ fn song(alloc: Global, tables: [&[TableRow]; 4]) -> Result<PackedSong, Fail> {
         three: PackedOrder::from_slice(alloc, &[0xD1, 0, 0xFF, 0])?,
     })?;
     let mut patterns = PackedPatternList::new(alloc);
-    patterns.push(pack_pattern(&Pattern::from_rows(alloc, &[rest])?)?)?;
+    patterns.push(PackedPattern::of(&[0xC0, 0]))?;
     let mut instruments = PackedInstrumentList::new(alloc);
     instruments.push(PackedInstrument {
         bytes: [0x09, 0xA0, 1, 0, 0, 0, 0, 2, 0x41],

@@ -22,7 +22,7 @@ use Rattle.play_model.specs.declared.unplayable.Unplayable.TheVariants.{NoSubtun
 use Rattle.play_model.specs.Used.{IsPlayedOrder, IsUsedRow, IsUsedInstrument}
 use Rattle.play_model.specs.Reached.{is_jump, led_to, IsPlayedPointer, of_instrument, of_row, IsReached, played, pointed, led, IsPointer, of_played, of_wave_row}
 use Rattle.play_model.specs.Playable.{HasOrder, MissesPattern, StopsAtRestart, IsJumpTarget, PointsAtJump}
-use Rattle.packed_form.proofs.Laws.{all_at}
+use Rattle.packing_rules.proofs.Laws.{all_at}
 use Rattle.song_gen.specs.Draws.{after, draw}
 use Rattle.song_gen.specs.GeneratedSong.{wave_rows, pulse_rows, filter_rows, speed_rows, instruments_from, behind_instruments, behind_patterns, behind_rows, pattern_from, patterns_from, order_from, subtune_from, subtunes_from, generated_song}
 use Rattle.song_gen.specs.GeneratedLaws.{GeneratedSongsArePlayable, GeneratedSongsHaveEightSubtunes}

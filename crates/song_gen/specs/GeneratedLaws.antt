@@ -7,9 +7,10 @@ use Rattle.play_model.specs.State.{no_options}
 use Rattle.play_model.specs.Playable.{IsPlayable}
 use Rattle.play_model.specs.Features.{AreFeatures}
 use Rattle.packed_form.specs.declared.packed_patterns.TheConstants.{MOST_PACKED_BYTES}
-use Rattle.packed_form.specs.UsedSets.{UsedSets, AreUsedSets}
-use Rattle.packed_form.specs.Renumbering.{pattern_text}
-use Rattle.packed_form.specs.SongSizes.{data_size, code_bound}
+use Rattle.packing_rules.specs.UsedSets.{UsedSets, AreUsedSets}
+use Rattle.packing_rules.specs.Renumbering.{pattern_text}
+use Rattle.packed_form.specs.CodeBounds.{code_bound}
+use Rattle.packing_rules.specs.SongSizes.{data_size}
 use Rattle.song_gen.specs.GeneratedSong.{generated_song}
 
 -- each pattern of the song is short enough to be packed, whatever the song uses

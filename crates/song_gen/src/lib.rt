@@ -4,7 +4,7 @@
 //! The song has four instruments, a hundred patterns and eight subtunes. What is free in it is drawn from the number, in
 //! a stated order, so that a number names the same song in each version and on each machine.
 //!
-//! It stands on `song_model` for songs, and on `play_model` and `packed_form` for what its laws say. See
+//! It stands on `song_model` for songs, and on `play_model`, `packed_form` and `packing_rules` for what its laws say. See
 //! `docs/song-format.md`.
 #![tactic(auto)]
 

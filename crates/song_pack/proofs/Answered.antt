@@ -6,10 +6,10 @@ use Rattle.play_model.specs.Playable.{IsPlayable}
 use Rattle.usage.specs.declared.parts.UsedParts.{UsedParts}
 use Rattle.usage.specs.Parts.{AreUsedParts}
 use Rattle.packed_form.specs.declared.packed_songs.PackedSong.{PackedSong}
-use Rattle.packed_form.specs.UsedSets.{UsedSets, AreUsedSets}
-use Rattle.packed_form.specs.Renumbering.{rank}
+use Rattle.packing_rules.specs.UsedSets.{UsedSets, AreUsedSets}
+use Rattle.packing_rules.specs.Renumbering.{rank}
 use Rattle.packed_form.specs.StandsFor.{StandsFor}
-use Rattle.packed_form.proofs.Laws.{same_sets, packed_size_is_within}
+use Rattle.packing_rules.proofs.Laws.{same_sets, packed_size_is_within}
 use Rattle.table_pack.specs.Marks.{is_marked}
 use Rattle.song_pack.specs.declared.faults.PackFault.{PackFault}
 use Rattle.song_pack.specs.declared.tables.PackedTables.{PackedTables}

@@ -8,8 +8,8 @@ use Rattle.std.proofs.lemmas.List.{get_or-set_same, get_or-set_other, length-set
 use Rattle.std.proofs.lemmas.List.Elements.{filter-append}
 use Rattle.song_model.specs.declared.patterns.TheConstants.{MOST_PATTERNS}
 use Rattle.packed_form.specs.declared.packed_patterns.TheConstants.{MOST_PACKED_BYTES}
-use Rattle.packed_form.specs.Renumbering.{first_seen}
-use Rattle.packed_form.proofs.Laws.{range_more, first_seen_push, new_place, old_place, with_new_length}
+use Rattle.packing_rules.specs.Renumbering.{first_seen}
+use Rattle.packing_rules.proofs.Laws.{range_more, first_seen_push, new_place, old_place, with_new_length}
 use Rattle.song_pack.specs.declared.faults.PackFault.{PackFault}
 use Rattle.song_pack.specs.declared.faults.PackFault.TheVariants.{PatternTooLong, NoMemory}
 use Rattle.song_pack.specs.Texts.{texts_below, with_text, ArePatterns, IsCaused, IsCausedAt}

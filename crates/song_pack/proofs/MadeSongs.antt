@@ -26,7 +26,7 @@ use Rattle.packed_form.specs.declared.packed_songs.PackedSubtune.{PackedSubtune}
 use Rattle.packed_form.specs.declared.packed_songs.PackedSong.{PackedSong}
 use Rattle.packed_form.specs.declared.packed_patterns.TheConstants.{MOST_PACKED_BYTES}
 use Rattle.packed_form.specs.PackedText.{packed_text}
-use Rattle.packed_form.specs.Renumbering.{rank, first_seen, pointer_number, table_number, instrument_number, renumbered_row, pattern_text, pattern_texts, pattern_number}
+use Rattle.packing_rules.specs.Renumbering.{rank, first_seen, pointer_number, table_number, instrument_number, renumbered_row, pattern_text, pattern_texts, pattern_number}
 use Rattle.table_pack.specs.Marks.{is_marked}
 use Rattle.song_pack.specs.declared.tables.PackedTables.{PackedTables}
 use Rattle.song_pack.specs.Numbers.{sets_of, row_of, numbered_row}

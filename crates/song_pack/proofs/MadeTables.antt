@@ -11,9 +11,9 @@ use Rattle.play_model.specs.Reached.{IsReached, IsPointer}
 use Rattle.play_model.proofs.Laws.{closed_lem}
 use Rattle.usage.specs.declared.parts.UsedParts.{UsedParts}
 use Rattle.usage.specs.Parts.{AreUsedParts}
-use Rattle.packed_form.specs.ProgramMaps.{row_at}
-use Rattle.packed_form.specs.UsedSets.{UsedSets, IsTestOf, AreUsedSets}
-use Rattle.packed_form.specs.Renumbering.{speed_number, foreign_number, wave_row, table_number}
+use Rattle.packing_rules.specs.ProgramMaps.{row_at}
+use Rattle.packing_rules.specs.UsedSets.{UsedSets, IsTestOf, AreUsedSets}
+use Rattle.packing_rules.specs.Renumbering.{speed_number, foreign_number, wave_row, table_number}
 use Rattle.table_pack.specs.Marks.{is_marked}
 use Rattle.table_pack.specs.Speeds.{IsSpeedMerge}
 use Rattle.song_pack.specs.declared.numbers.ForeignNumbers.{ForeignNumbers}

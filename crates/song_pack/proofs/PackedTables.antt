@@ -4,9 +4,9 @@ use Rattle.std.proofs.lemmas.Bool.{cases_lt}
 use Rattle.std.proofs.lemmas.List.{get_or_past}
 use mathlib.Core.Path.{fun_ext}
 use Rattle.song_model.specs.declared.tables.TableRow.{TableRow}
-use Rattle.packed_form.specs.Segments.{ProgramTable, IsWhole, keeps, stand_in}
-use Rattle.packed_form.specs.ProgramMaps.{retargeted}
-use Rattle.packed_form.specs.Renumbering.{program_number}
+use Rattle.packing_rules.specs.Segments.{ProgramTable, IsWhole, keeps, stand_in}
+use Rattle.packing_rules.specs.ProgramMaps.{retargeted}
+use Rattle.packing_rules.specs.Renumbering.{program_number}
 use Rattle.table_pack.specs.Marks.{is_marked}
 use Rattle.table_pack.specs.TableMaps.{IsRenumbering}
 use Rattle.table_pack.proofs.Laws.{stored_once_is_packed}

@@ -18,8 +18,8 @@ use Rattle.play_model.specs.Playable.{IsPlayable}
 use Rattle.same_frames.specs.OrderLaws.{moved_byte, moved_order, moved_subtune}
 use Rattle.packed_form.specs.declared.packed_songs.PackedSubtune.{PackedSubtune}
 use Rattle.packed_form.specs.declared.packed_songs.PackedSong.{PackedSong}
-use Rattle.packed_form.specs.UsedSets.{UsedSets, AreUsedSets}
-use Rattle.packed_form.specs.Renumbering.{pattern_number}
+use Rattle.packing_rules.specs.UsedSets.{UsedSets, AreUsedSets}
+use Rattle.packing_rules.specs.Renumbering.{pattern_number}
 use Rattle.packed_form.specs.Unpacked.{IsPackedOrder, end_place, unpacked_order, unpacked_subtune, unpacked_song}
 use Rattle.packed_form.specs.StandsFor.{ArePackedOrders}
 use Rattle.song_pack.specs.Packed.{new_numbers, order_bytes, packed_subtune, IsPacked}

@@ -29,11 +29,12 @@ use Rattle.same_frames.specs.Maps.{Maps, moved_pointer, foreign_table, right_tab
 use Rattle.same_frames.specs.OrderLaws.{moved_byte, moved_order, moved_subtune}
 use Rattle.packed_form.specs.declared.packed_songs.PackedInstrument.{PackedInstrument}
 use Rattle.packed_form.specs.declared.packed_songs.PackedSong.{PackedSong}
-use Rattle.packed_form.specs.Segments.{ProgramTable, IsWhole, numbers, keeps}
-use Rattle.packed_form.specs.UsedSets.{UsedSets, AreUsedSets}
-use Rattle.packed_form.specs.Renumbering.{rank, same_row, speed_rows, wave_row, filter_programs, pulse_programs, wave_programs, table_number, program_number, program_rows}
+use Rattle.packing_rules.specs.Segments.{ProgramTable, IsWhole, numbers, keeps}
+use Rattle.packing_rules.specs.UsedSets.{UsedSets, AreUsedSets}
+use Rattle.packing_rules.specs.Renumbering.{rank, same_row, speed_rows, wave_row, filter_programs, pulse_programs, wave_programs, table_number, program_number, program_rows}
 use Rattle.packed_form.specs.Unpacked.{unpacked_instrument, unpacked_pattern, unpacked_song}
-use Rattle.packed_form.proofs.Laws.{kept_parts, kept_stands, playable_programs_are_whole, spelled_are_patterns, first_seen_all}
+use Rattle.packing_rules.proofs.Laws.{kept_parts, kept_stands, playable_programs_are_whole, first_seen_all}
+use Rattle.pattern_pack.proofs.Laws.{spelled_are_patterns}
 use Rattle.table_pack.proofs.Laws.{rank_kept, rank_left}
 use Rattle.song_pack.specs.Packed.{new_numbers, passing_numbers, packed_instrument, IsPacked}
 use Rattle.song_pack.proofs.UsedParts.{image_of}

@@ -11,10 +11,10 @@ use Rattle.song_model.specs.declared.songs.Song.{Song}
 use Rattle.song_model.specs.LookUp.{instrument_at, playable_subtunes}
 use Rattle.packed_form.specs.declared.packed_songs.PackedSong.{PackedSong}
 use Rattle.packed_form.specs.Sizes.{list_size, subtune_size, packed_song_size}
-use Rattle.packed_form.specs.Segments.{ProgramTable, numbers, keeps}
-use Rattle.packed_form.specs.UsedSets.{UsedSets}
-use Rattle.packed_form.specs.Renumbering.{program_rows, table_number, pattern_number}
-use Rattle.packed_form.specs.SongSizes.{order_size, orders_size, packed_size}
+use Rattle.packing_rules.specs.Segments.{ProgramTable, numbers, keeps}
+use Rattle.packing_rules.specs.UsedSets.{UsedSets}
+use Rattle.packing_rules.specs.Renumbering.{program_rows, table_number, pattern_number}
+use Rattle.packing_rules.specs.SongSizes.{order_size, orders_size, packed_size}
 use Rattle.song_pack.proofs.StoredTables.{program_count}
 use Rattle.song_pack.specs.Packed.{order_byte, order_bytes, packed_subtune, passing_numbers, packed_instrument, IsPacked}
 

@@ -21,8 +21,8 @@ use Rattle.same_frames.specs.FrameLaws.{state_after_of}
 use Rattle.same_frames.specs.OrderLaws.{moved_subtune, CanBeMoved}
 use Rattle.same_frames.proofs.Laws.{frames_same_lem, traces_of_songs_lem, no_other_case_lem, moved_subtunes_lem}
 use Rattle.packed_form.specs.declared.packed_songs.PackedSong.{PackedSong}
-use Rattle.packed_form.specs.UsedSets.{UsedSets, AreUsedSets}
-use Rattle.packed_form.specs.Renumbering.{pattern_number}
+use Rattle.packing_rules.specs.UsedSets.{UsedSets, AreUsedSets}
+use Rattle.packing_rules.specs.Renumbering.{pattern_number}
 use Rattle.packed_form.specs.Unpacked.{unpacked_song}
 use Rattle.packed_form.specs.StandsFor.{PlaysAlike, StandsFor}
 use Rattle.song_pack.specs.Packed.{new_numbers, packed_subtune, IsPacked}

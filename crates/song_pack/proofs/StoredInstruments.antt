@@ -20,11 +20,11 @@ use Rattle.play_model.specs.Used.{IsUsedRow, IsUsedInstrument}
 use Rattle.same_frames.specs.Agreement.{InstrumentsAgree}
 use Rattle.packed_form.specs.declared.packed_songs.PackedInstrument.{PackedInstrument}
 use Rattle.packed_form.specs.declared.packed_songs.PackedSong.{PackedSong}
-use Rattle.packed_form.specs.Segments.{numbers}
-use Rattle.packed_form.specs.UsedSets.{UsedSets, AreUsedSets}
-use Rattle.packed_form.specs.Renumbering.{rank, instrument_number, table_number}
+use Rattle.packing_rules.specs.Segments.{numbers}
+use Rattle.packing_rules.specs.UsedSets.{UsedSets, AreUsedSets}
+use Rattle.packing_rules.specs.Renumbering.{rank, instrument_number, table_number}
 use Rattle.packed_form.specs.Unpacked.{unpacked_instrument, unpacked_song}
-use Rattle.packed_form.proofs.Laws.{range_more}
+use Rattle.packing_rules.proofs.Laws.{range_more}
 use Rattle.table_pack.proofs.Laws.{rank_kept, rank_rises, rank_positive}
 use Rattle.song_pack.specs.Packed.{new_numbers, passing_numbers, packed_instrument, IsPacked}
 

@@ -33,11 +33,12 @@ use Rattle.packed_form.specs.declared.packed_songs.PackedSong.{PackedSong}
 use Rattle.packed_form.specs.Normal.{last_instrument, normal_row, normal_from, normal_rows}
 use Rattle.packed_form.specs.PackedSpells.{PackedSpells}
 use Rattle.packed_form.specs.PackedText.{packed_text}
-use Rattle.packed_form.specs.Segments.{numbers}
-use Rattle.packed_form.specs.UsedSets.{UsedSets, AreUsedSets}
-use Rattle.packed_form.specs.Renumbering.{first_seen, same_row, speed_rows, pointer_number, table_number, instrument_number, renumbered_row, pattern_text, pattern_texts, pattern_number}
+use Rattle.packing_rules.specs.Segments.{numbers}
+use Rattle.packing_rules.specs.UsedSets.{UsedSets, AreUsedSets}
+use Rattle.packing_rules.specs.Renumbering.{first_seen, same_row, speed_rows, pointer_number, table_number, instrument_number, renumbered_row, pattern_text, pattern_texts, pattern_number}
 use Rattle.packed_form.specs.Unpacked.{rows_or_none, unpacked_pattern, unpacked_song}
-use Rattle.packed_form.proofs.Laws.{packed_is_spelled, spelled_is_unpacked, place_there, first_seen_has, first_seen_length, first_seen_all}
+use Rattle.packing_rules.proofs.Laws.{place_there, first_seen_has, first_seen_length, first_seen_all}
+use Rattle.pattern_pack.proofs.Laws.{packed_is_spelled, spelled_is_unpacked}
 use Rattle.table_pack.proofs.Laws.{rank_most}
 use Rattle.song_pack.specs.Packed.{new_numbers, IsPacked}
 use Rattle.song_pack.proofs.UsedParts.{image_of}

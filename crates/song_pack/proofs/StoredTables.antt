@@ -19,11 +19,11 @@ use Rattle.play_model.proofs.Laws.{closed_lem, whole_lem, no_wave_pointer}
 use Rattle.same_frames.specs.Maps.{Maps, moved_pointer, foreign_table, moved_row}
 use Rattle.same_frames.specs.Agreement.{RowsAgree, ProgramsAgree}
 use Rattle.packed_form.specs.declared.packed_songs.PackedSong.{PackedSong}
-use Rattle.packed_form.specs.Segments.{ProgramTable, IsWhole, numbers, row_of, is_jump_row, is_end, keeps}
-use Rattle.packed_form.specs.ProgramMaps.{retargeted, row_at, KeepsPrograms}
-use Rattle.packed_form.specs.UsedSets.{UsedSets, AreUsedSets}
-use Rattle.packed_form.specs.Renumbering.{rank, pointer_number, foreign_number, program_number, program_rows, wave_row, wave_programs, pulse_programs, filter_programs, table_number, speed_number}
-use Rattle.packed_form.proofs.Laws.{numbered_map, playable_programs_are_whole}
+use Rattle.packing_rules.specs.Segments.{ProgramTable, IsWhole, numbers, row_of, is_jump_row, is_end, keeps}
+use Rattle.packing_rules.specs.ProgramMaps.{retargeted, row_at, KeepsPrograms}
+use Rattle.packing_rules.specs.UsedSets.{UsedSets, AreUsedSets}
+use Rattle.packing_rules.specs.Renumbering.{rank, pointer_number, foreign_number, program_number, program_rows, wave_row, wave_programs, pulse_programs, filter_programs, table_number, speed_number}
+use Rattle.packing_rules.proofs.Laws.{numbered_map, playable_programs_are_whole}
 use Rattle.packed_form.specs.Unpacked.{unpacked_song}
 use Rattle.table_pack.proofs.Laws.{packed_tables_keep, rank_most}
 use Rattle.song_pack.specs.Packed.{new_numbers, AreSpeeds, IsPacked}

@@ -5,9 +5,9 @@ use Rattle.play_model.specs.Used.{IsUsedPattern}
 use Rattle.packed_form.specs.declared.packed_patterns.TheConstants.{MOST_PACKED_BYTES}
 use Rattle.packed_form.specs.declared.packed_songs.PackedSong.{PackedSong}
 use Rattle.packed_form.specs.Sizes.{packed_song_size}
-use Rattle.packed_form.specs.UsedSets.{UsedSets}
-use Rattle.packed_form.specs.Renumbering.{pattern_text}
-use Rattle.packed_form.specs.SongSizes.{data_size, packed_size}
+use Rattle.packing_rules.specs.UsedSets.{UsedSets}
+use Rattle.packing_rules.specs.Renumbering.{pattern_text}
+use Rattle.packing_rules.specs.SongSizes.{data_size, packed_size}
 use Rattle.song_pack.specs.declared.faults.PackFault.{PackFault}
 use Rattle.song_pack.specs.declared.faults.PackFault.TheVariants.{PatternTooLong, NoMemory}
 

@@ -6,8 +6,8 @@ use Rattle.song_model.specs.declared.tables.TableName.{TableName}
 use Rattle.song_model.specs.declared.tables.TableName.TheVariants.{Wave, Pulse, Filter, Speed}
 use Rattle.song_model.specs.Pointers.{command_table, wave_row_table}
 use Rattle.usage.specs.declared.parts.UsedParts.{UsedParts}
-use Rattle.packed_form.specs.UsedSets.{UsedSets}
-use Rattle.packed_form.specs.Renumbering.{pointer_number}
+use Rattle.packing_rules.specs.UsedSets.{UsedSets}
+use Rattle.packing_rules.specs.Renumbering.{pointer_number}
 use Rattle.table_pack.specs.Marks.{is_marked}
 use Rattle.song_pack.specs.declared.numbers.ForeignNumbers.{ForeignNumbers}
 use Rattle.song_pack.specs.declared.numbers.RowNumbers.{RowNumbers}

@@ -15,10 +15,10 @@ use Rattle.same_frames.specs.Maps.{Maps}
 use Rattle.packed_form.specs.declared.packed_songs.PackedSubtune.{PackedSubtune}
 use Rattle.packed_form.specs.declared.packed_songs.PackedInstrument.{PackedInstrument}
 use Rattle.packed_form.specs.declared.packed_songs.PackedSong.{PackedSong}
-use Rattle.packed_form.specs.Segments.{numbers}
-use Rattle.packed_form.specs.ProgramMaps.{row_at}
-use Rattle.packed_form.specs.UsedSets.{UsedSets}
-use Rattle.packed_form.specs.Renumbering.{first_seen, speed_rows, speed_number, program_rows, wave_programs, pulse_programs, filter_programs, table_number, instrument_number, pattern_number, pattern_texts}
+use Rattle.packing_rules.specs.Segments.{numbers}
+use Rattle.packing_rules.specs.ProgramMaps.{row_at}
+use Rattle.packing_rules.specs.UsedSets.{UsedSets}
+use Rattle.packing_rules.specs.Renumbering.{first_seen, speed_rows, speed_number, program_rows, wave_programs, pulse_programs, filter_programs, table_number, instrument_number, pattern_number, pattern_texts}
 
 -- the new numbers of a song's parts
 abbrev pub new_numbers : Song → UsedSets → Maps

@@ -2,8 +2,8 @@
 use Rattle.std.specs.Prelude.{◌≡◌, ℕ, Bool, List, slice_index}
 use Rattle.song_model.specs.declared.tables.TableRow.{TableRow}
 use Rattle.song_model.specs.declared.songs.Song.{Song}
-use Rattle.packed_form.specs.Segments.{ProgramTable}
-use Rattle.packed_form.specs.Renumbering.{speed_number, program_number, program_rows}
+use Rattle.packing_rules.specs.Segments.{ProgramTable}
+use Rattle.packing_rules.specs.Renumbering.{speed_number, program_number, program_rows}
 use Rattle.song_pack.specs.Packed.{AreSpeeds}
 
 -- the rows that stay, and the new number of each row

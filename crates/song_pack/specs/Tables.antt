@@ -3,8 +3,8 @@ use Rattle.std.specs.Prelude.{◌≡◌, ℕ}
 use Rattle.song_model.specs.declared.tables.TableName.{TableName}
 use Rattle.song_model.specs.declared.tables.TableName.TheVariants.{Speed}
 use Rattle.song_model.specs.declared.songs.Song.{Song}
-use Rattle.packed_form.specs.UsedSets.{UsedSets}
-use Rattle.packed_form.specs.Renumbering.{wave_programs, pulse_programs, filter_programs, program_rows, table_number}
+use Rattle.packing_rules.specs.UsedSets.{UsedSets}
+use Rattle.packing_rules.specs.Renumbering.{wave_programs, pulse_programs, filter_programs, program_rows, table_number}
 use Rattle.song_pack.specs.declared.tables.PackedTables.{PackedTables}
 use Rattle.song_pack.specs.Numbers.{row_of}
 use Rattle.song_pack.specs.Packed.{AreSpeeds}

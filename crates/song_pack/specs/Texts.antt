@@ -7,7 +7,7 @@ use Rattle.song_model.specs.declared.songs.Song.{Song}
 use Rattle.song_model.specs.LookUp.{pattern_at}
 use Rattle.packed_form.specs.declared.packed_patterns.TheConstants.{MOST_PACKED_BYTES}
 use Rattle.packed_form.specs.PackedText.{packed_text}
-use Rattle.packed_form.specs.Renumbering.{first_seen}
+use Rattle.packing_rules.specs.Renumbering.{first_seen}
 use Rattle.song_pack.specs.declared.faults.PackFault.{PackFault}
 use Rattle.song_pack.specs.declared.faults.PackFault.TheVariants.{PatternTooLong, NoMemory}
 use Rattle.song_pack.specs.declared.numbers.RowNumbers.{RowNumbers}

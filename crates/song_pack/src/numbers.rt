@@ -2,7 +2,7 @@
 
 ghost use Rattle.std.specs.Prelude.{◌≡◌, ℕ, ◌<◌, ◌≤◌, false, slice_index};
 ghost use Rattle.table_pack.specs.Marks.{is_marked};
-ghost use Rattle.packed_form.specs.Renumbering.{rank, pointer_number};
+ghost use Rattle.packing_rules.specs.Renumbering.{rank, pointer_number};
 ghost use Rattle.song_pack.specs.Numbers.{foreign_of, row_of};
 
 use song_model::TableName;

@@ -4,7 +4,7 @@ ghost use Rattle.std.specs.Prelude.{◌≡◌, IfOk, IfErr, OnOk};
 ghost use Rattle.song_model.specs.Limits.{KeepsLimits};
 ghost use Rattle.play_model.specs.Playable.{IsPlayable};
 ghost use Rattle.usage.specs.Parts.{AreUsedParts};
-ghost use Rattle.packed_form.specs.UsedSets.{UsedSets, AreUsedSets};
+ghost use Rattle.packing_rules.specs.UsedSets.{UsedSets, AreUsedSets};
 ghost use Rattle.packed_form.specs.StandsFor.{StandsFor};
 ghost use Rattle.song_pack.specs.Packed.{IsPacked};
 ghost use Rattle.song_pack.specs.Answers.{HasPackedSize, AreShort, IsCause};

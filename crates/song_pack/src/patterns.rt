@@ -14,7 +14,8 @@ use crate::numbers::RowNumbers;
 use crate::orders::PatternNumbers;
 use base::NoMemory;
 use indexmap::IndexSet;
-use packed_form::{PackedPattern, PackedPatternList, pack_pattern};
+use packed_form::{PackedPattern, PackedPatternList};
+use pattern_pack::pack_pattern;
 use song_model::{Bounded, Pattern, Row, Song, command_table};
 use std::alloc::Global;
 

@@ -1,8 +1,8 @@
 //! The tables under new numbers, with equal programs and equal speeds stored once.
 
 ghost use Rattle.std.specs.Prelude.{◌≡◌, ℕ, ◌<◌, ◌≤◌, false, IfOk, length, map, slice_index};
-ghost use Rattle.packed_form.specs.Segments.{IsWhole};
-ghost use Rattle.packed_form.specs.ProgramMaps.{retargeted};
+ghost use Rattle.packing_rules.specs.Segments.{IsWhole};
+ghost use Rattle.packing_rules.specs.ProgramMaps.{retargeted};
 ghost use Rattle.table_pack.specs.Marks.{is_marked};
 ghost use Rattle.table_pack.specs.Programs.{programs_of};
 ghost use Rattle.song_pack.specs.Numbers.{foreign_of, foreign_row};

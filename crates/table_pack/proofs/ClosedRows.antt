@@ -6,8 +6,8 @@ use Rattle.std.proofs.lemmas.List.{get_or-set_same, get_or-set_other, get_or-rep
 use Rattle.std.proofs.lemmas.List.Folds.{list_all-append}
 use Rattle.std.proofs.lemmas.Bool.{cases_Bool, cases_eq, eq-eqb, ne_eqb, or_right}
 use Rattle.song_model.specs.declared.tables.TableRow.{TableRow}
-use Rattle.packed_form.specs.Segments.{ProgramTable, IsWhole, numbers, row_of, is_jump_row, first_row, is_in, enters, jumps, is_closed_at, is_closed}
-use Rattle.packed_form.proofs.Laws.{range_more, row_of_segment, is_in_from}
+use Rattle.packing_rules.specs.Segments.{ProgramTable, IsWhole, numbers, row_of, is_jump_row, first_row, is_in, enters, jumps, is_closed_at, is_closed}
+use Rattle.packing_rules.proofs.Laws.{range_more, row_of_segment, is_in_from}
 use Rattle.table_pack.specs.Marks.{is_marked}
 use Rattle.table_pack.specs.Programs.{AreFirsts, Narrows}
 use Rattle.table_pack.proofs.FirstRows.{not_at_0}

@@ -4,8 +4,8 @@ use Rattle.std.proofs.Math.ListN.{set}
 use Rattle.std.proofs.lemmas.List.{get_or-set_same, get_or-set_other, length-set}
 use Rattle.std.proofs.lemmas.Bool.{cases_Bool}
 use Rattle.song_model.specs.declared.tables.TableRow.{TableRow}
-use Rattle.packed_form.specs.Segments.{ProgramTable, IsWhole, row_of, is_end, begins, first_row, is_in}
-use Rattle.packed_form.specs.ProgramMaps.{row_at}
+use Rattle.packing_rules.specs.Segments.{ProgramTable, IsWhole, row_of, is_end, begins, first_row, is_in}
+use Rattle.packing_rules.specs.ProgramMaps.{row_at}
 use Rattle.table_pack.specs.Marks.{is_marked}
 use Rattle.table_pack.specs.Programs.{IsTableOf, AreSegments}
 

@@ -3,10 +3,10 @@ use Rattle.std.proofs.Common.{◌≡◌, ℕ, zero, suc, ◌+◌, Bool, true, fa
 use mathlib.Core.Path.{fun_ext}
 use Rattle.song_model.specs.declared.tables.TableRow.{TableRow}
 use Rattle.song_model.specs.LookUp.{IsNumbered}
-use Rattle.packed_form.specs.Segments.{ProgramTable, IsWhole, row_of, is_end, keeps, stand_in}
-use Rattle.packed_form.specs.ProgramMaps.{retargeted, row_at, KeepsPrograms}
-use Rattle.packed_form.specs.Renumbering.{rank}
-use Rattle.packed_form.proofs.Laws.{retargeted_twice, end_stays, kept_parts, stand_in_stays, next_stays, numbered_map, numbered_length, stand_ins_keep}
+use Rattle.packing_rules.specs.Segments.{ProgramTable, IsWhole, row_of, is_end, keeps, stand_in}
+use Rattle.packing_rules.specs.ProgramMaps.{retargeted, row_at, KeepsPrograms}
+use Rattle.packing_rules.specs.Renumbering.{rank}
+use Rattle.packing_rules.proofs.Laws.{retargeted_twice, end_stays, kept_parts, stand_in_stays, next_stays, numbered_map, numbered_length, stand_ins_keep}
 use Rattle.table_pack.specs.TableMaps.{IsRenumbering}
 use Rattle.table_pack.specs.TableLaws.{RenumberingsKeepPrograms, RenumberingsKeepOrder, StoredOnceKeepsPrograms}
 use Rattle.table_pack.proofs.Ranks.{rank_kept, rank_rises, rank_positive}

@@ -8,10 +8,10 @@ use Rattle.std.proofs.lemmas.Simd.{map-map}
 use Rattle.std.proofs.lemmas.List.Elements.{filter-append}
 use Rattle.song_model.specs.declared.tables.TableRow.{TableRow}
 use Rattle.song_model.specs.LookUp.{IsNumbered, zero_table_row}
-use Rattle.packed_form.specs.Segments.{ProgramTable, IsWhole, keeps, stand_in}
-use Rattle.packed_form.specs.ProgramMaps.{retargeted, row_at, KeepsPrograms}
-use Rattle.packed_form.specs.Renumbering.{rank, program_number, program_rows, wave_programs, pulse_programs, filter_programs, table_number}
-use Rattle.packed_form.proofs.Laws.{range_more, stand_in_stays, stands_for_none, programs_read_the_same, new_pointers_are_read}
+use Rattle.packing_rules.specs.Segments.{ProgramTable, IsWhole, keeps, stand_in}
+use Rattle.packing_rules.specs.ProgramMaps.{retargeted, row_at, KeepsPrograms}
+use Rattle.packing_rules.specs.Renumbering.{rank, program_number, program_rows, wave_programs, pulse_programs, filter_programs, table_number}
+use Rattle.packing_rules.proofs.Laws.{range_more, stand_in_stays, stands_for_none, programs_read_the_same, new_pointers_are_read}
 use Rattle.table_pack.specs.TableMaps.{IsRenumbering}
 use Rattle.table_pack.specs.TableLaws.{RenumberedRowsAreKept, StoredOnceIsPacked, PackedTablesKeepPrograms, PackedProgramsAreRead}
 use Rattle.table_pack.proofs.Ranks.{last_or_before, rank_kept, rank_left, rank_rises, rank_positive}

@@ -4,8 +4,8 @@ use Rattle.std.proofs.Math.ListN.{set}
 use Rattle.std.proofs.lemmas.List.{get_or-set_same, get_or-set_other, length-set}
 use Rattle.std.proofs.lemmas.Bool.{cases_Bool, and_parts}
 use Rattle.song_model.specs.declared.tables.TableRow.{TableRow}
-use Rattle.packed_form.specs.Segments.{ProgramTable, IsWhole, begins, first_row, first_equal, keeps, stand_in}
-use Rattle.packed_form.proofs.Laws.{segment_of, stands_at, stands_for, stands_for_none}
+use Rattle.packing_rules.specs.Segments.{ProgramTable, IsWhole, begins, first_row, first_equal, keeps, stand_in}
+use Rattle.packing_rules.proofs.Laws.{segment_of, stands_at, stands_for, stands_for_none}
 use Rattle.table_pack.specs.Programs.{IsTableOf, AreSegments, AreEquals, AreStaying, IsMapOf, programs_of}
 use Rattle.table_pack.proofs.FirstRows.{not_at_0}
 

@@ -3,8 +3,8 @@ use Rattle.std.proofs.Common.{◌≡◌, ℕ, zero, suc, ◌+◌, ◌≤◌, ◌
 use Rattle.std.specs.List.{range_with_len, count_by}
 use Rattle.std.proofs.lemmas.List.Sums.{sum_by_push}
 use Rattle.std.proofs.lemmas.Bool.{cases_Bool}
-use Rattle.packed_form.specs.Renumbering.{rank}
-use Rattle.packed_form.proofs.Laws.{range_more}
+use Rattle.packing_rules.specs.Renumbering.{rank}
+use Rattle.packing_rules.proofs.Laws.{range_more}
 
 pub rank_next : (keep : ℕ → Bool) (n : ℕ) → rank keep (suc n) ≡ rank keep n + cond (keep (suc n)) 1 0
 rank_next keep n =

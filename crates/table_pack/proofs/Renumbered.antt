@@ -5,8 +5,8 @@ use Rattle.std.proofs.lemmas.List.{get_or-set_same, get_or-set_other, get_or_app
 use Rattle.std.proofs.lemmas.Bool.{ne_eqb}
 use Rattle.song_model.specs.declared.tables.TableRow.{TableRow}
 use Rattle.song_model.specs.LookUp.{IsNumbered, zero_table_row}
-use Rattle.packed_form.specs.ProgramMaps.{row_at}
-use Rattle.packed_form.specs.Renumbering.{rank}
+use Rattle.packing_rules.specs.ProgramMaps.{row_at}
+use Rattle.packing_rules.specs.Renumbering.{rank}
 use Rattle.table_pack.specs.TableMaps.{IsRenumbering}
 use Rattle.table_pack.proofs.Ranks.{rank_kept, rank_left, rank_rises, rank_positive}
 

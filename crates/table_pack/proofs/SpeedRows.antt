@@ -9,9 +9,9 @@ use Rattle.std.proofs.lemmas.Bool.{ne_eqb, eq-eqb, and_from, not-true, not-false
 use Rattle.song_model.specs.declared.tables.TableRow.{TableRow}
 use Rattle.song_model.specs.declared.songs.Song.{Song}
 use Rattle.song_model.specs.LookUp.{speed_row, zero_table_row}
-use Rattle.packed_form.specs.ProgramMaps.{row_at}
-use Rattle.packed_form.specs.Renumbering.{first_seen, same_row, speed_rows, speed_number}
-use Rattle.packed_form.proofs.Laws.{range_more, first_seen_push, same_row_is, any_of_map, new_place, old_place}
+use Rattle.packing_rules.specs.ProgramMaps.{row_at}
+use Rattle.packing_rules.specs.Renumbering.{first_seen, same_row, speed_rows, speed_number}
+use Rattle.packing_rules.proofs.Laws.{range_more, first_seen_push, same_row_is, any_of_map, new_place, old_place}
 use Rattle.table_pack.specs.Speeds.{IsSpeedMerge, sides_of, with_row}
 
 row_itself : (x : TableRow) → same_row x x ≡ true

@@ -1,8 +1,8 @@
 -- The new numbers that were worked out by hand.
 use Rattle.std.proofs.Common.{◌≡◌, sym, ◌∙◌, ap, refl, arith}
 use Rattle.song_model.specs.LookUp.{table_row}
-use Rattle.packed_form.specs.ProgramMaps.{row_at}
-use Rattle.packed_form.specs.Renumbering.{speed_rows, speed_number}
+use Rattle.packing_rules.specs.ProgramMaps.{row_at}
+use Rattle.packing_rules.specs.Renumbering.{speed_rows, speed_number}
 use Rattle.table_pack.specs.WorkedTables.{LastFourAreKept, ZeroSpeedsAreOne}
 
 pub last_four_are_kept : LastFourAreKept

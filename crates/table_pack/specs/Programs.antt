@@ -1,7 +1,7 @@
 -- The programs of a table, and its segments as they are found.
 use Rattle.std.specs.Prelude.{◌≡◌, ℕ, ◌≤◌, ◌<◌, ◌&&◌, Bool, true, List, length, slice_index, Contains}
 use Rattle.song_model.specs.declared.tables.TableRow.{TableRow}
-use Rattle.packed_form.specs.Segments.{ProgramTable, IsWhole, begins, first_row, is_closed, first_equal, keeps, stand_in}
+use Rattle.packing_rules.specs.Segments.{ProgramTable, IsWhole, begins, first_row, is_closed, first_equal, keeps, stand_in}
 use Rattle.table_pack.specs.Marks.{is_marked}
 
 -- a table with the marks of the rows that programs come to and of those that pointers name

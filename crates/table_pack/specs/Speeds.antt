@@ -4,8 +4,8 @@ use Rattle.std.specs.List.{list_any}
 use Rattle.song_model.specs.declared.tables.TableRow.{TableRow}
 use Rattle.song_model.specs.declared.songs.Song.{Song}
 use Rattle.song_model.specs.LookUp.{IsNumbered, speed_row}
-use Rattle.packed_form.specs.ProgramMaps.{row_at}
-use Rattle.packed_form.specs.Renumbering.{same_row, speed_rows, speed_number}
+use Rattle.packing_rules.specs.ProgramMaps.{row_at}
+use Rattle.packing_rules.specs.Renumbering.{same_row, speed_rows, speed_number}
 
 -- the used rows of the speed table under new numbers
 pub record IsSpeedMerge (song : Song) (used : ℕ → Bool) (rows : List TableRow) (to : ℕ → ℕ) : Type 0 where

@@ -4,10 +4,10 @@ use Rattle.song_model.specs.declared.tables.TableRow.{TableRow}
 use Rattle.song_model.specs.declared.tables.TableName.TheVariants.{Wave, Pulse, Filter}
 use Rattle.song_model.specs.declared.songs.Song.{Song}
 use Rattle.song_model.specs.LookUp.{IsNumbered}
-use Rattle.packed_form.specs.Segments.{ProgramTable, IsWhole, numbers, is_jump_row, is_end, keeps, stand_in}
-use Rattle.packed_form.specs.ProgramMaps.{retargeted, row_at, KeepsPrograms, rows_read}
-use Rattle.packed_form.specs.UsedSets.{UsedSets}
-use Rattle.packed_form.specs.Renumbering.{program_number, program_rows, wave_row, wave_programs, pulse_programs, filter_programs, table_number}
+use Rattle.packing_rules.specs.Segments.{ProgramTable, IsWhole, numbers, is_jump_row, is_end, keeps, stand_in}
+use Rattle.packing_rules.specs.ProgramMaps.{retargeted, row_at, KeepsPrograms, rows_read}
+use Rattle.packing_rules.specs.UsedSets.{UsedSets}
+use Rattle.packing_rules.specs.Renumbering.{program_number, program_rows, wave_row, wave_programs, pulse_programs, filter_programs, table_number}
 use Rattle.table_pack.specs.TableMaps.{IsRenumbering}
 
 -- new numbers keep the programs of the rows that are kept, where a program goes on to a kept row and jumps to one, or

@@ -1,8 +1,8 @@
 -- What new numbers of a table's rows mean, by the look-up.
 use Rattle.std.specs.Prelude.{◌≡◌, ℕ, Bool, true, false, List, length}
 use Rattle.song_model.specs.declared.tables.TableRow.{TableRow}
-use Rattle.packed_form.specs.ProgramMaps.{row_at}
-use Rattle.packed_form.specs.Renumbering.{rank}
+use Rattle.packing_rules.specs.ProgramMaps.{row_at}
+use Rattle.packing_rules.specs.Renumbering.{rank}
 
 -- the rows that are kept, in order
 pub record IsRenumbering (keep : ℕ → Bool) (old new : List TableRow) (to : ℕ → ℕ) : Type 0 where

@@ -2,8 +2,8 @@
 use Rattle.std.specs.Prelude.{◌≡◌, ℕ, List, [], ◌∷◌, length}
 use Rattle.song_model.specs.declared.tables.TableRow.{TableRow}
 use Rattle.song_model.specs.Silence.{empty_song}
-use Rattle.packed_form.specs.ProgramMaps.{row_at}
-use Rattle.packed_form.specs.WorkedSizes.{among}
+use Rattle.packing_rules.specs.ProgramMaps.{row_at}
+use Rattle.packing_rules.specs.WorkedSizes.{among}
 use Rattle.table_pack.specs.TableMaps.{IsRenumbering}
 use Rattle.table_pack.specs.Speeds.{IsSpeedMerge}
 

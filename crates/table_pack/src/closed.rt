@@ -1,7 +1,7 @@
 //! Which segments are closed.
 
 ghost use Rattle.std.specs.Prelude.{◌≡◌, ◌≢◌, ℕ, ◌≤◌, ◌<◌, not, ◌&&◌, ◌||◌, true, length};
-ghost use Rattle.packed_form.specs.Segments.{ProgramTable, row_of, is_jump_row, enters, jumps, is_closed};
+ghost use Rattle.packing_rules.specs.Segments.{ProgramTable, row_of, is_jump_row, enters, jumps, is_closed};
 ghost use Rattle.table_pack.specs.Marks.{is_marked};
 ghost use Rattle.table_pack.specs.Programs.{AreFirsts, AreSegments, AreEntries, Narrows};
 

@@ -6,7 +6,7 @@
 //! `renumber` leaves out rows, `merge_speed` stores equal rows of the speed table once, and `merge_programs` names the
 //! rows that stand for those of equal programs.
 //!
-//! It stands on `packed_form`, whose definitions say which programs are stored once and which numbers come out, on
+//! It stands on `packing_rules`, whose definitions say which programs are stored once and which numbers come out, on
 //! `song_model` for tables, and on `arrayvec` and `indexmap`. See `docs/packed-form.md`.
 #![tactic(auto)]
 

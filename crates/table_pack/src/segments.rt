@@ -1,8 +1,8 @@
 //! The segments of a table: where each begins.
 
 ghost use Rattle.std.specs.Prelude.{◌≡◌, ◌≤◌, not, ◌&&◌, if◌then◌else◌, length};
-ghost use Rattle.packed_form.specs.Segments.{ProgramTable, is_jump_row, is_end, is_in};
-ghost use Rattle.packed_form.specs.ProgramMaps.{row_at};
+ghost use Rattle.packing_rules.specs.Segments.{ProgramTable, is_jump_row, is_end, is_in};
+ghost use Rattle.packing_rules.specs.ProgramMaps.{row_at};
 ghost use Rattle.table_pack.specs.Programs.{IsTableOf, AreSegments};
 
 use crate::ByteMarks;

@@ -2,7 +2,7 @@
 
 ghost use Rattle.std.specs.Prelude.{◌≡◌, ◌≤◌, ◌+◌, false, length, map, slice_index, IfOk, OnOk};
 ghost use Rattle.std.specs.List.{position_or_len};
-ghost use Rattle.packed_form.specs.Renumbering.{same_row};
+ghost use Rattle.packing_rules.specs.Renumbering.{same_row};
 ghost use Rattle.table_pack.specs.Marks.{is_marked};
 ghost use Rattle.table_pack.specs.Speeds.{IsSpeedMerge, sides_of, with_row};
 

@@ -1,7 +1,7 @@
 use Rattle.std.proofs.Common.{◌≡◌, ℕ, Bool, true, false, ◌+◌, suc, refl, ◌∙◌, inl, inr, arith}
 use Rattle.std.proofs.lemmas.Bool.{cases_lt}
 use Rattle.std.proofs.lemmas.List.{length-replicate, get_or_past}
-use Rattle.packed_form.specs.Renumbering.{rank}
+use Rattle.packing_rules.specs.Renumbering.{rank}
 use Rattle.table_pack.specs.Marks.{is_marked}
 use Rattle.table_pack.proofs.Laws.{rank_most, rank_kept, rank_left}
 use Rattle.song_pack.proofs.FilledLists.{filled_more}

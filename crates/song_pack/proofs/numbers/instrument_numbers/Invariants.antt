@@ -1,5 +1,5 @@
 use Rattle.std.proofs.Common.{◌≡◌, ◌+◌}
-use Rattle.packed_form.specs.Renumbering.{rank}
+use Rattle.packing_rules.specs.Renumbering.{rank}
 use Rattle.table_pack.specs.Marks.{is_marked}
 use Rattle.song_pack.proofs.FilledLists.{FilledTo}
 use Rattle.song_pack.proofs.numbers.instrument_numbers.Given as goal

@@ -2,7 +2,7 @@ use Rattle.std.proofs.Common.{◌≡◌, ℕ, Bool, true, false, not, List, [], 
 use Rattle.std.specs.List.{position_or_len, list_any}
 use Rattle.std.specs.Str.{bytes_eq}
 use Rattle.std.proofs.Math.Bool.{not-not}
-use Rattle.packed_form.proofs.Laws.{place_of_map, any_of_map}
+use Rattle.packing_rules.proofs.Laws.{place_of_map, any_of_map}
 use Rattle.song_pack.specs.Texts.{with_text}
 use Rattle.song_pack.proofs.patterns.number_of.Goals as goal
 use Rattle.song_pack.proofs.patterns.number_of.Goals.{then-is_new+in_ok-push, else-is_new}

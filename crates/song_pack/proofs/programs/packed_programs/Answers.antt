@@ -1,5 +1,5 @@
 use Rattle.std.proofs.Common.{ℕ, ◌<◌, sym, ◌∙◌, subst}
-use Rattle.packed_form.proofs.Laws.{kept_parts}
+use Rattle.packing_rules.proofs.Laws.{kept_parts}
 use Rattle.table_pack.specs.Programs.{programs_of}
 use Rattle.song_pack.proofs.PackedTables.{marked_within, packed_table}
 use Rattle.song_pack.proofs.programs.packed_programs.Goals as goal

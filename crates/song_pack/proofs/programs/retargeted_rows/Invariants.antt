@@ -1,5 +1,5 @@
 use Rattle.std.proofs.Common.{◌≡◌, map, take, slice_index}
-use Rattle.packed_form.specs.ProgramMaps.{retargeted}
+use Rattle.packing_rules.specs.ProgramMaps.{retargeted}
 use Rattle.song_pack.proofs.programs.retargeted_rows.Given as goal
 
 abbrev pub invariant-loop-row : goal.invariant-loop-row

@@ -1,7 +1,7 @@
 use Rattle.std.proofs.Common.{false, List, sym, ◌∙◌, subst}
 use Rattle.song_model.specs.declared.tables.TableRow.{TableRow}
-use Rattle.packed_form.specs.Renumbering.{wave_programs}
-use Rattle.packed_form.proofs.Laws.{playable_programs_are_whole}
+use Rattle.packing_rules.specs.Renumbering.{wave_programs}
+use Rattle.packing_rules.proofs.Laws.{playable_programs_are_whole}
 use Rattle.table_pack.specs.Programs.{programs_of}
 use Rattle.song_pack.specs.Numbers.{sets_of}
 use Rattle.song_pack.specs.Programs.{IsPackedTable}

@@ -1,6 +1,6 @@
 use Rattle.std.proofs.Common.{◌≡◌, ◌∙◌, ◌+◌, sym, subst, arith}
 use Rattle.song_model.specs.declared.tables.TableRow.{TableRow}
-use Rattle.packed_form.specs.Segments.{row_of, is_closed_at}
+use Rattle.packing_rules.specs.Segments.{row_of, is_closed_at}
 use Rattle.table_pack.specs.Programs.{Narrows}
 use Rattle.table_pack.proofs.ClosedRows.{says, closed_start, closed_more, closed_all}
 use Rattle.table_pack.proofs.EqualRows.{rows_there}

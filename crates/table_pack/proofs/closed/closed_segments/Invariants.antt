@@ -1,6 +1,6 @@
 use Rattle.std.proofs.Common.{ℕ, ◌<◌, ◌≡◌}
 use Rattle.std.specs.List.{list_all}
-use Rattle.packed_form.specs.Segments.{ProgramTable, numbers, is_closed_at}
+use Rattle.packing_rules.specs.Segments.{ProgramTable, numbers, is_closed_at}
 use Rattle.table_pack.specs.Marks.{is_marked}
 use Rattle.table_pack.specs.Programs.{AreSegments, AreEntries}
 use Rattle.table_pack.proofs.closed.closed_segments.Given as goal

@@ -1,6 +1,6 @@
 use Rattle.std.proofs.Common.{ℕ, ◌<◌}
-use Rattle.packed_form.specs.Segments.{ProgramTable}
-use Rattle.packed_form.proofs.Laws.{SameAt}
+use Rattle.packing_rules.specs.Segments.{ProgramTable}
+use Rattle.packing_rules.proofs.Laws.{SameAt}
 use Rattle.table_pack.specs.Programs.{AreSegments}
 use Rattle.table_pack.proofs.equal.are_equal.Given as goal
 

@@ -1,6 +1,6 @@
 use Rattle.std.proofs.Common.{◌≡◌, ℕ, false, take}
 use Rattle.std.specs.Prelude.{All}
-use Rattle.packed_form.specs.Segments.{ProgramTable, are_equal}
+use Rattle.packing_rules.specs.Segments.{ProgramTable, are_equal}
 use Rattle.table_pack.specs.Programs.{AreSegments}
 use Rattle.table_pack.proofs.equal.equal_among.Given as goal
 

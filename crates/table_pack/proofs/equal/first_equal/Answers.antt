@@ -1,6 +1,6 @@
 use Rattle.std.proofs.Common.{◌≡◌, ℕ, List, false, Contains, inl, inr, sym, subst}
 use Rattle.std.specs.List.{All}
-use Rattle.packed_form.specs.Segments.{are_equal}
+use Rattle.packing_rules.specs.Segments.{are_equal}
 use Rattle.table_pack.specs.Programs.{AreDifferent}
 use Rattle.table_pack.proofs.EqualRows.{asked_open, asked_found, asked_none}
 use Rattle.table_pack.proofs.equal.first_equal.Goals as goal

@@ -1,5 +1,5 @@
 use Rattle.std.proofs.Common.{◌≡◌, ◌≤◌, ◌<◌, ℕ, length}
-use Rattle.packed_form.specs.Segments.{ProgramTable, is_closed}
+use Rattle.packing_rules.specs.Segments.{ProgramTable, is_closed}
 use Rattle.table_pack.specs.Marks.{is_marked}
 use Rattle.table_pack.specs.Programs.{AreSegments}
 use Rattle.table_pack.proofs.EqualRows.{EqualsSoFar}

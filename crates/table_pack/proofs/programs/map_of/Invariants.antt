@@ -1,4 +1,4 @@
-use Rattle.packed_form.specs.Segments.{ProgramTable}
+use Rattle.packing_rules.specs.Segments.{ProgramTable}
 use Rattle.table_pack.specs.Programs.{AreSegments, AreEquals}
 use Rattle.table_pack.proofs.Mapped.{MapSoFar}
 use Rattle.table_pack.proofs.programs.map_of.Given as goal

@@ -1,4 +1,4 @@
-use Rattle.packed_form.specs.Segments.{ProgramTable}
+use Rattle.packing_rules.specs.Segments.{ProgramTable}
 use Rattle.table_pack.specs.Programs.{IsTableOf}
 use Rattle.table_pack.proofs.FirstRows.{IsWalked}
 use Rattle.table_pack.proofs.segments.first_rows.Given as goal

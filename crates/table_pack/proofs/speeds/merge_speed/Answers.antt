@@ -3,8 +3,8 @@ use Rattle.std.proofs.lemmas.List.{length-replicate}
 use Rattle.base.proofs.Laws.{get_or-replicate_any}
 use Rattle.table_pack.specs.Marks.{is_marked}
 use Rattle.table_pack.specs.Speeds.{sides_of}
-use Rattle.packed_form.specs.Renumbering.{same_row}
-use Rattle.packed_form.proofs.Laws.{with_new_length}
+use Rattle.packing_rules.specs.Renumbering.{same_row}
+use Rattle.packing_rules.proofs.Laws.{with_new_length}
 use Rattle.table_pack.proofs.SpeedRows.{merged_none, merged_left, merged_more, merged_all}
 use Rattle.table_pack.proofs.speeds.merge_speed.Goals as goal
 use Rattle.table_pack.proofs.speeds.merge_speed.Goals.{then-marks-p+in_ok-to, else-marks-p}

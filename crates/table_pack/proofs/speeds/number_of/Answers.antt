@@ -1,6 +1,6 @@
 use Rattle.std.proofs.Common.{◌∙◌, ◌+◌, ℕ, refl, ap}
-use Rattle.packed_form.specs.Renumbering.{same_row}
-use Rattle.packed_form.proofs.Laws.{place_of_map}
+use Rattle.packing_rules.specs.Renumbering.{same_row}
+use Rattle.packing_rules.proofs.Laws.{place_of_map}
 use Rattle.table_pack.specs.Speeds.{sides_of}
 use Rattle.table_pack.proofs.SpeedRows.{new_row, old_row}
 use Rattle.table_pack.proofs.speeds.number_of.Goals as goal

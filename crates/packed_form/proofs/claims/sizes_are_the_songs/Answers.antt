@@ -1,5 +1,0 @@
-use Rattle.packed_form.proofs.SizesOfSongs.{sizes_are_the_songs}
-use Rattle.packed_form.proofs.claims.sizes_are_the_songs.Goals as goal
-
-pub returns-clause-one : goal.returns-clause-one
-returns-clause-one c = sizes_are_the_songs

@@ -1,5 +1,0 @@
-use Rattle.packed_form.proofs.StandIns.{stand_ins_keep}
-use Rattle.packed_form.proofs.claims.stand_ins_keep_programs.Goals as goal
-
-pub returns-clause-keep : goal.returns-clause-keep
-returns-clause-keep c = stand_ins_keep

@@ -1,5 +1,0 @@
-use Rattle.packed_form.proofs.Walks.{Walked}
-use Rattle.packed_form.proofs.unpacking.read.Given as goal
-
-abbrev pub invariant-loop-offset : goal.invariant-loop-offset
-invariant-loop-offset l = Walked l.bytes l.rows l.place l.offset
