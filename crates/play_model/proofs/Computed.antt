@@ -14,9 +14,8 @@ use Rattle.play_model.specs.Frame.{voice_step, voice_registers, filter_registers
 use Rattle.song_model.specs.declared.songs.Song.{Song}
 use Rattle.play_model.specs.declared.options.Options.{Options}
 use Rattle.play_model.specs.State.{FrameState, no_options, start_state}
-use Rattle.play_model.specs.SilentTrace.{silent_registers}
 use Rattle.play_model.specs.WorkedSongs.{one_note, with_gate_timer}
-use Rattle.play_model.specs.WorkedRuns.{from_call, digits, Plays}
+use Rattle.play_model.specs.WorkedRuns.{silent_registers, from_call, digits, Plays}
 use Rattle.play_model.specs.WorkedFrames.{OneNoteSounds, LowNoteIsMute, VibratoWraps, SlideStops, FunkTempoWraps, LongFunkTempoIsCut, GateTimerBits, LongTimerIsNeverMet, WaveProgramWaits, VibratoChangesAlone, FilterFollows, OptionsAreAsWorked}
 
 pub one_note_sounds_lem : OneNoteSounds
@@ -77,7 +76,7 @@ unfoldable pub calls_from : Options → Song → ℕ → ℕ → FrameState → 
 calls_from o song k zero x = []
 calls_from o song k (suc n) x = let f = frame_with o song k x in f.registers ∷ calls_from o song k n f.state
 
-calls_are_traced : (o : Options) (song : Song) (k m n : ℕ) →
+pub calls_are_traced : (o : Options) (song : Song) (k m n : ℕ) →
     from_call (trace_with o song k) (suc m) n ≡ calls_from o song k n (state_after_with o song k m)
 unfolding calls_from state_after_with
 calls_are_traced o song k m zero = refl

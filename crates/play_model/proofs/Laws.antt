@@ -7,9 +7,7 @@ pub use Rattle.play_model.proofs.RangesOfRules.{transposed_small}
 pub use Rattle.play_model.proofs.RangesOfFrames.{transposes_lem}
 -- a song that is refused for nothing can be played
 pub use Rattle.play_model.proofs.FirstRefusals.{refused_or_playable_lem}
--- silent songs are silent
-pub use Rattle.play_model.proofs.IdleTrace.{silent_songs_lem}
--- and each can be played
+-- each silent song can be played
 pub use Rattle.play_model.proofs.SilentSongs.{silent_songs_can_be_played_lem}
 -- what a song comes to is closed, and what a playable song comes to is there
 pub use Rattle.play_model.proofs.ReachedRows.{stored_if, jump_left, jump_is_stored, jumps_are_programs, no_wave_pointer, led_by, no_speed_led, closed_lem}

@@ -2,12 +2,8 @@
 pub mod Laws
 -- Of no subject.
 pub mod Choices
--- Silent songs: no row of a table is reached, and no rule fails.
+-- Songs that play rests: nothing points at a row but instrument 1, and only their tables can fail.
 pub mod SilentSongs
--- Silent songs: a voice with nothing to play stays so.
-pub mod IdleVoice
-pub mod IdleOrder
-pub mod IdleTrace
 -- Where a rule fails, some refusal is the first.
 pub mod FirstRefusals
 -- Ranges: each rule, each step, each voice and each frame keeps them.
@@ -21,14 +17,7 @@ pub mod PlayableSongs
 pub mod OneRefusal
 pub mod UnusedParts
 pub mod UnusedFeatures
--- What a song uses, decided by tests of lists.
-mod ListTests
-mod UsedLists
-mod RowTests
-mod FeatureTests
-mod PartTests
-mod RefusalTests
-mod FailureTests
+-- What a small song uses, and why others can't be played, worked out by hand.
 pub mod WorkedUses
 pub mod WorkedRefusals
 -- Worked frames, computed: those by hand, and those that bench/worked_frames.py has written.
@@ -36,7 +25,6 @@ pub mod Computed
 pub mod WorkedCorners
 pub mod WorkedEdges
 pub mod WorkedTunes
-pub mod WorkedPeriods
 pub mod WorkedSubtunes
 pub mod WorkedSlides
 pub mod WorkedWithoutEffects
@@ -44,3 +32,4 @@ pub mod WorkedWithoutPulse
 pub mod WorkedLongPulses
 pub mod WorkedWithoutBoth
 pub mod WorkedBareVoices
+pub mod WorkedPeriods

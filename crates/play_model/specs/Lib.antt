@@ -20,15 +20,14 @@ pub mod Playable
 pub mod Features
 pub mod Uses
 pub mod Safe
--- Claimed: ranges, the length of a trace, what silent songs sound like, and laws of what a song uses.
+-- Claimed: ranges, the length of a trace, that silent songs can be played, and laws of what a song uses.
 pub mod Ranges
 pub mod RangeLaws
 pub mod RefusalLaws
 pub mod TraceLaws
-pub mod SilentTrace
+pub mod SilentLaws
 pub mod UseLaws
--- Claimed: what small songs use, and why others can't be played, worked out by hand.
-pub mod Parts
+-- Claimed: what a small song uses, and why others can't be played, worked out by hand.
 pub mod WorkedUses
 pub mod WorkedRefusals
 -- Claimed: frequencies, timers, and frames of small songs, worked out by hand.
@@ -41,7 +40,6 @@ pub mod WorkedFrames
 pub mod WorkedCorners
 pub mod WorkedEdges
 pub mod WorkedTunes
-pub mod WorkedPeriods
 pub mod WorkedSubtunes
 pub mod WorkedSlides
 pub mod WorkedWithoutEffects
@@ -49,3 +47,5 @@ pub mod WorkedWithoutPulse
 pub mod WorkedLongPulses
 pub mod WorkedWithoutBoth
 pub mod WorkedBareVoices
+-- Claimed: that another period is worked out with one of these.
+pub mod WorkedPeriods

@@ -3,8 +3,7 @@ use Rattle.std.specs.Prelude.{true, false, ◌≡◌, ℕ, ◌+◌, ◌*◌, Lis
 use Rattle.song_model.specs.declared.songs.Song.{Song}
 use Rattle.play_model.specs.declared.options.Options.{Options}
 use Rattle.play_model.specs.Frame.{trace, trace_with, state_after}
-use Rattle.play_model.specs.SilentTrace.{silent_registers}
-use Rattle.play_model.specs.WorkedRuns.{from_call, left_out}
+use Rattle.play_model.specs.WorkedRuns.{silent_registers, from_call, left_out}
 use Rattle.play_model.specs.WorkedSongs.{one_note, low_note, wrapping_note, sliding_note, tied_note, funk_song, long_funk_song, rising_note, rising_pulse, long_note, with_gate_timer, waiting_wave, other_vibrato, small_song}
 
 -- the seven registers of voice 1 after a call

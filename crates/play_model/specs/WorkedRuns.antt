@@ -1,5 +1,5 @@
 -- Words for the runs of small songs: the parts of a song, and the registers of many calls.
-use Rattle.std.specs.Prelude.{◌≡◌, ℕ, zero, suc, ◌+◌, ◌/◌, ◌%◌, ◌^◌, Bool, List, [], ◌∷◌, length, map, replicate}
+use Rattle.std.specs.Prelude.{◌≡◌, ℕ, zero, suc, ◌+◌, ◌/◌, ◌%◌, ◌^◌, Bool, List, [], ◌∷◌, ◌++◌, length, map, replicate}
 use Rattle.song_model.specs.declared.orders.Order.{Order}
 use Rattle.song_model.specs.declared.orders.Subtune.{Subtune}
 use Rattle.song_model.specs.declared.instruments.Instrument.{Instrument}
@@ -31,6 +31,10 @@ instrument ad sr wave pulse filter vibrato vibrato_delay gate_timer first_wave =
 -- whether effects and pulse are left out, and the speed
 abbrev pub left_out : Bool → Bool → ℕ → Options
 left_out effects pulse speed = record { skip_effects = effects; skip_pulse = pulse; speed = speed }
+
+-- the registers of silence: zeros, and the volume in the last one
+abbrev pub silent_registers : List ℕ
+silent_registers = replicate 24 0 ++ 15 ∷ []
 
 -- something of n calls, from this one on
 abbrev pub from_call : {X : Type 0} → (ℕ → X) → ℕ → ℕ → List X

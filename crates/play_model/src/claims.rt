@@ -2,7 +2,7 @@
 
 ghost use Rattle.play_model.specs.TraceLaws.{TracesHaveAllRegisters};
 ghost use Rattle.play_model.specs.RefusalLaws.{RefusedOrPlayable};
-ghost use Rattle.play_model.specs.SilentTrace.{SilentSongsAreSilent, SilentSongsCanBePlayed};
+ghost use Rattle.play_model.specs.SilentLaws.{SilentSongsCanBePlayed};
 ghost use Rattle.play_model.specs.RangeLaws.{RangesAreKept, FrameRangesAreKept, StartIsInRange, SongRangesAreKept, TransposesWrap};
 ghost use Rattle.play_model.specs.UseLaws.{PlayableSongsAreWhole, ReachedRowsAreBytes, ProgramsStayInTheirTables, ReachedRowsAreClosed, SongsAreRefusedForOneThing, RefusedSongsAreNotPlayable, UnusedPartsDoNotCount};
 ghost use Rattle.play_model.specs.WorkedUses.{UsesAreAsWorked};
@@ -64,11 +64,6 @@ pub fn songs_are_refused_or_playable()
     ensures { RefusedOrPlayable }
 {}
 
-/// Each play call of a silent song leaves zeros and the volume, whatever the song's length.
-pub fn silent_songs_are_silent()
-    ensures { SilentSongsAreSilent }
-{}
-
 /// Each silent song can be played.
 #[tactic(auto, using(crate::proofs::SilentSongs::silent_songs_can_be_played_lem))]
 pub fn silent_songs_can_be_played()
@@ -117,13 +112,13 @@ pub fn unused_parts_do_not_count()
     ensures { UnusedPartsDoNotCount }
 {}
 
-/// What small songs use: their patterns, instruments, rows and features; and what stands in them unused.
+/// What a small song uses: the rows that it comes to and what they name; and what stands in it unused.
 #[tactic(auto, using(crate::proofs::WorkedUses::uses_are_as_worked_lem))]
 pub fn worked_uses()
     ensures { UsesAreAsWorked }
 {}
 
-/// Why small songs can't be played: each of the five rules, their order, and the least of two places.
+/// Why small songs can't be played: no subtune, the least of two places, and a program that runs off its table.
 #[tactic(auto, using(crate::proofs::WorkedRefusals::refusals_are_as_worked_lem))]
 pub fn worked_refusals()
     ensures { RefusalsAreAsWorked }
@@ -214,7 +209,7 @@ pub fn worked_tunes()
     ensures { WorkedTunesHold }
 {}
 
-/// A vibrato with a long period, 180 calls.
+/// A vibrato whose period is one less than the longest, 180 calls.
 #[tactic(auto, using(crate::proofs::WorkedPeriods::worked_periods_lem))]
 pub fn worked_periods()
     ensures { WorkedPeriodsHold }

@@ -1,15 +1,16 @@
 -- What frames of small songs use, worked out by hand.
-use Rattle.std.specs.Prelude.{ℕ, ◌+◌, ◌↔◌, true, false, List, [], ◌∷◌, ◌++◌, Contains}
+use Rattle.std.specs.Prelude.{ℕ, ◌+◌, ◌↔◌, true, false, List, [], ◌∷◌, ◌++◌, replicate, Contains}
 use Rattle.song_model.specs.declared.features.Feature.{Feature}
 use Rattle.song_model.specs.declared.features.Feature.TheVariants.{Transpose, Repeat, PortaUp, PortaDown, TonePorta, TieNote, Vibrato, InstrumentVibrato, NoteDependent, SetAd, SetSr, SetWave, SetWavePointer, PulseTable, SetPulsePointer, FilterTable, SetFilterPointer, FilterControl, Cutoff, Volume, FunkTempo, SetTempo, WaveTable, WaveCommand}
+use Rattle.song_model.specs.declared.orders.Subtune.{Subtune}
 use Rattle.song_model.specs.declared.songs.Song.{Song}
+use Rattle.song_model.specs.declared.tables.TableRow.{TableRow}
 use Rattle.play_model.specs.declared.options.Options.{Options}
 use Rattle.play_model.specs.State.{no_options}
 use Rattle.play_model.specs.Frame.{state_after_with}
 use Rattle.play_model.specs.Uses.{UsesFeature}
 use Rattle.play_model.specs.WorkedRuns.{left_out}
-use Rattle.play_model.specs.WorkedSongs.{subtune, row, sides, plucked, rests, with_rows, with_instrument, one_note, wrapping_note, sliding_note, funk_song, long_funk_song, rising_note, rising_pulse, waiting_wave, other_vibrato}
-use Rattle.play_model.specs.WorkedUses.{with_wave, with_subtunes, tempo_song, pointing_wave, late_restart}
+use Rattle.play_model.specs.WorkedSongs.{order, subtune, row, sides, plucked, rests, with_rows, with_instrument, one_note, wrapping_note, sliding_note, funk_song, long_funk_song, rising_note, rising_pulse, waiting_wave, other_vibrato}
 
 -- the frame of playable subtune 0 after n frames uses exactly these features
 pub record UsesExactlyWith (o : Options) (song : Song) (n : ℕ) (features : List Feature) : Type 0 where
@@ -18,6 +19,13 @@ pub record UsesExactlyWith (o : Options) (song : Song) (n : ℕ) (features : Lis
 
 abbrev pub UsesExactly : Song → ℕ → List Feature → Type 0
 UsesExactly song n features = UsesExactlyWith no_options song n features
+
+-- the same song with another wave table, and with other subtunes
+abbrev pub with_wave : List TableRow → Song → Song
+with_wave rows song = record song { wave = rows }
+
+abbrev pub with_subtunes : List Subtune → Song → Song
+with_subtunes subtunes song = record song { subtunes = subtunes }
 
 -- The note's row is fetched in the fifth frame and done in the seventh, which starts the note and ends the voice's
 -- step. In the eighth the two programs are begun, and both stop after a row.
@@ -56,6 +64,10 @@ pub record VibratosAreUsed : Type 0 where
   pub no_delay : UsesExactly (other_vibrato 0) 12 []
   pub no_pointer : UsesExactly (other_vibrato 1) 11 []
   pub both : UsesExactly (other_vibrato 1) 12 (InstrumentVibrato ∷ [])
+
+-- a row with command $F
+abbrev pub tempo_song : ℕ → Song
+tempo_song tempo = with_rows (row 0x90 1 0xF tempo ∷ rests 1) one_note
 
 -- funk tempos for all, and then a tempo of channel 1 alone
 abbrev pub own_tempo : Song
@@ -149,6 +161,15 @@ pub record EachWaveCommandIsUsed : Type 0 where
   pub volume : UsesExactly (wave_command_song 0xD) 7 (Volume ∷ PulseTable ∷ WaveTable ∷ WaveCommand ∷ [])
   pub fourteen : UsesExactly (wave_command_song 0xE) 7 (PulseTable ∷ WaveTable ∷ WaveCommand ∷ [])
 
+-- a row of the wave table that alone points at a pulse program, and one at a filter program
+abbrev pub pointing_wave : Song
+pointing_wave = record one_note {
+  instruments = record plucked { pulse = 0 } ∷ [];
+  wave = sides 0xF9 2 ∷ sides 0xFA 1 ∷ sides 0xF1 3 ∷ sides 0xFF 0 ∷ [];
+  pulse = sides 0x88 0 ∷ sides 0x90 0 ∷ sides 0xFF 0 ∷ [];
+  filter = sides 0 0x20 ∷ sides 0xFF 0 ∷ [];
+}
+
 -- a row of the wave table after the other: a pulse program, a filter program, which the next frame's filter step is
 -- at, and a slide
 pub record WaveCommandsAreUsed : Type 0 where
@@ -168,6 +189,14 @@ pub record EffectsRest : Type 0 where
 -- the note's song with other orderlists
 abbrev pub with_orders : List ℕ → List ℕ → List ℕ → Song
 with_orders one two three = with_subtunes (subtune one two three ∷ []) one_note
+
+-- its restart position has the number of a transpose
+abbrev pub late_restart : Song
+late_restart = with_subtunes (record {
+  one = record { entries = replicate 225 0; restart = 224 };
+  two = order (1 ∷ []);
+  three = order (1 ∷ []);
+} ∷ []) one_note
 
 -- transposes and repeats of a subtune are used in each of its frames, but a restart position isn't one
 pub record OrdersAreUsed : Type 0 where
