@@ -20,4 +20,4 @@ mod sizes;
 pub use asm6502::Listing;
 pub use base::NoMemory;
 pub use blocks::Block;
-pub use lowered::lower;
+pub use lowered::{lines_of, lower};

@@ -333,7 +333,32 @@ pub(crate) fn lowered(alloc: Global, block: &Block, place: Place) -> Result<List
     }
 }
 
-/// The lines of a block: each of its labels is numbered from the first one on, and its pointer is at two bytes of page 0.
+/// The lines of any block, sound or not: each of its labels is numbered from the first one on, and its pointer is at two
+/// bytes of page 0. What lines do is promised of those of [`lower`] alone.
+///
+/// # Errors
+///
+/// Out of memory.
+pub fn lines_of(
+    alloc: Global,
+    block: &Block,
+    zero_page: u8,
+    first_label: u16,
+) -> Result<Listing, NoMemory>
+    requires { first_label + label_count (tree_of block.now) ≤ 65535 }
+    ensures { IfOk result (λ listing. listing
+        ≡ all_lines zero_page first_label (tree_of block.now)) }
+{
+    let place = Place {
+        pointer: zero_page,
+        part: 255,
+        first: first_label,
+    };
+    lowered(alloc, block, place)
+}
+
+/// The lines of a sound block: each of its labels is numbered from the first one on, and its pointer is at two bytes of
+/// page 0.
 ///
 /// # Errors
 ///
@@ -351,10 +376,5 @@ pub fn lower(
     ensures { IfOk result (λ listing. listing
         ≡ all_lines zero_page first_label (tree_of block.now)) }
 {
-    let place = Place {
-        pointer: zero_page,
-        part: 255,
-        first: first_label,
-    };
-    lowered(alloc, block, place)
+    lines_of(alloc, block, zero_page, first_label)
 }
