@@ -1,5 +1,7 @@
 -- The door: what upper crates may cite.
 pub mod Laws
+-- The fetch of a row.
+mod Fetched
 -- A voice at its step, the registers, and a frame.
 mod Steps
 mod JoinedLists

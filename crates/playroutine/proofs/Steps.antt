@@ -10,7 +10,7 @@ use Rattle.play_model.specs.StandsFor.{voice_after, VoiceStandsFor}
 use Rattle.play_model.specs.TickStep.{Ticked, tick_step}
 use Rattle.play_model.specs.WaveStep.{wave_step}
 use Rattle.play_model.specs.Frame.{effect_done, pulse_done, row_fetched, after_tick, voice_step}
-use Rattle.play_voice.specs.PlayingAfter.{playing_after, ticked_after}
+use Rattle.playroutine.specs.PlayingAfter.{playing_after, ticked_after}
 use Rattle.playroutine.specs.AtStep.{StepStandsFor}
 
 -- a voice, with what the voices share, stands for itself, with the plays whose place it has

@@ -7,10 +7,10 @@ ghost use Rattle.play_model.specs.StandsFor.{StateStandsFor};
 ghost use Rattle.play_model.specs.Frame.{frame_of, voices_done};
 ghost use Rattle.playroutine.specs.Playback.{IsEndlessSubtune};
 
+use crate::filter_step;
 use crate::registers::{all_registers, filter_registers, voice_registers};
 use crate::voices::voice_step;
 use play_model::{Options, PlayState};
-use play_voice::filter_step;
 use song_model::{Song, Subtune};
 
 /// One frame: the filter, its registers, and the three voices in turn. Answers registers 0 to 24.

@@ -8,11 +8,11 @@ ghost use Rattle.play_model.specs.State.{Voice};
 ghost use Rattle.play_model.specs.StandsFor.{VoiceStandsFor};
 ghost use Rattle.play_model.specs.WaveStep.{wave_step};
 ghost use Rattle.play_model.specs.Frame.{effect_done, pulse_done, row_fetched, voice_step};
-ghost use Rattle.play_voice.specs.PlayingAfter.{playing_after, waved_after};
+ghost use Rattle.playroutine.specs.PlayingAfter.{playing_after, waved_after};
 ghost use Rattle.playroutine.specs.AtStep.{StepStandsFor};
 
+use crate::{effect_step, fetch_row, pulse_step, tick_step, wave_step};
 use play_model::{CommonState, Options, VoiceState};
-use play_voice::{effect_step, fetch_row, pulse_step, tick_step, wave_step};
 use song_model::{Order, Song};
 
 /// The step of the voice of channel 1, 2 or 3, which plays this orderlist.

@@ -1,2 +1,0 @@
--- The fetch of a row.
-mod Fetched
