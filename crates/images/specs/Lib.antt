@@ -7,3 +7,5 @@ pub mod Isolation
 -- Claimed: laws of these definitions, and numbers worked by hand.
 pub mod Laws
 pub mod WorkedPlaces
+pub mod WorkedMachines
+pub mod WorkedImages

@@ -24,6 +24,11 @@ pub record PlacesAreWorked : Type 0 where
   pub high : IsOwn no_options 0xFD 0xFD
   pub below_pointer : ¬ IsOwn no_options 0xFD 0xFB
   pub above_pointer : ¬ IsOwn no_options 0xFD 0xFE
+  -- the port of the processor, and the other end of the stack
+  pub port_direction : ¬ IsOwn no_options 0xFD 0
+  pub port : ¬ IsOwn no_options 0xFD 1
+  pub stack_end : ¬ IsOwn no_options 0xFD 0x0100
+  pub stack_middle : ¬ IsOwn no_options 0xFD 0x0180
   -- eight bytes of the stack, the first of them where the stack pointer is; below $0100 comes $01FF
   pub top : IsOwn no_options 0xFD 0x01FD
   pub eighth : IsOwn no_options 0xFD 0x01F6
