@@ -1,0 +1,42 @@
+//! What must stand in a file after a run.
+
+use crate::desk::Desk;
+use case_text::{Names, Wrong, bytes_of, first_word, has_sum, number_of};
+use std::alloc::Global;
+
+/// Whether the file has these bytes from an offset on.
+fn has_at(alloc: Global, desk: &Desk, file: &[u8], rest: &str) -> Result<bool, Wrong> {
+    let (offset, rest) = first_word(rest);
+    let place = number_of(offset)? as usize;
+    let bytes = bytes_of(alloc, desk, rest)?;
+    Ok(file.get(place..).unwrap_or(&[]).starts_with(&bytes))
+}
+
+/// Whether the file is as a line says that begins with this word; none where no line does.
+pub fn is_as_said(
+    alloc: Global,
+    desk: &Desk,
+    word: &str,
+    name: &str,
+    rest: &str,
+) -> Result<Option<bool>, Wrong> {
+    if !matches!(
+        word,
+        "wrote" | "begins" | "closes" | "holds" | "size" | "most" | "digest"
+    ) {
+        return Ok(None);
+    }
+    let Some(file) = desk.named(name) else {
+        return Ok(Some(false));
+    };
+    let is_so = match word {
+        "wrote" => file == bytes_of(alloc, desk, rest)?.as_slice(),
+        "begins" => file.starts_with(&bytes_of(alloc, desk, rest)?),
+        "closes" => file.ends_with(&bytes_of(alloc, desk, rest)?),
+        "holds" => has_at(alloc, desk, file, rest)?,
+        "size" => file.len() == number_of(rest)? as usize,
+        "most" => file.len() <= number_of(rest)? as usize,
+        _ => has_sum(alloc, file, rest)?,
+    };
+    Ok(Some(is_so))
+}

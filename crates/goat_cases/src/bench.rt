@@ -1,0 +1,178 @@
+//! What a case works on: its files, what fails, its runs and their answers.
+
+use crate::after::is_as_said;
+use crate::answer::Answer;
+use crate::desk::Desk;
+use crate::devices::Devices;
+use crate::machine::Loaded;
+use crate::patterns::{pack, unpack};
+use crate::runs::run;
+use crate::steps::{count, generated};
+use case_text::{Wrong, first_word, words_of};
+use std::alloc::Global;
+use std::rt::Files;
+
+/// What a case works on.
+#[derive(Drop)]
+pub struct Bench<'a, R> {
+    rt: &'a R,
+    alloc: Global,
+    /// The files that were put before the first case, from that case on.
+    common: Option<Desk>,
+    desk: Desk,
+    devices: Devices,
+    machine: Option<Loaded>,
+    /// What the last run answered.
+    answer: Option<Answer>,
+    /// The texts of the case's runs.
+    texts: Vec<Vec<u8>>,
+}
+
+impl<'a, R: Files + AllocGlobal> Bench<'a, R> {
+    /// No files and no runs.
+    pub fn new(rt: &'a R) -> Self {
+        let alloc = rt.alloc();
+        Bench {
+            rt,
+            alloc,
+            common: None,
+            desk: Desk::new(alloc),
+            devices: Devices::whole(alloc),
+            machine: None,
+            answer: None,
+            texts: Vec::new(alloc),
+        }
+    }
+
+    /// Begins a case with the files that were put before the first one.
+    pub fn begin_case(&mut self) -> Result<(), Wrong> {
+        let common = match self.common.take() {
+            Some(common) => common,
+            None => self.desk.copy()?,
+        };
+        self.desk = common.copy()?;
+        self.common = Some(common);
+        self.devices = Devices::whole(self.alloc);
+        self.machine = None;
+        self.answer = None;
+        self.texts = Vec::new(self.alloc);
+        Ok(())
+    }
+
+    /// Ends a case: it has a run, and all that its last run answered has been named.
+    pub fn end_case(&self) -> Result<(), Wrong> {
+        match &self.answer {
+            Some(answer) => answer.end(),
+            None => Err(Wrong::Differs("no run")),
+        }
+    }
+
+    /// Takes what a run answered, in place of the one before, of which all has to have been named.
+    fn take_answer(&mut self, answer: Answer) -> Result<(), Wrong> {
+        if let Some(last) = &self.answer {
+            last.end()?;
+        }
+        self.texts.push(answer.text().to_vec(self.alloc)?)?;
+        self.answer = Some(answer);
+        Ok(())
+    }
+
+    /// Takes a line of a case.
+    pub fn take(&mut self, word: &str, rest: &str) -> Result<(), Wrong> {
+        let is_taken = self.desk.take(word, rest)?
+            || self.devices.take(self.alloc, word, rest)?
+            || self.take_run(word, rest)?
+            || self.take_answered(word, rest)?
+            || self.take_after(word, rest)?
+            || self.take_of_machine(word, rest)?;
+        if is_taken {
+            Ok(())
+        } else {
+            Err(Wrong::BadLine)
+        }
+    }
+
+    /// The loaded machine.
+    fn machine(&mut self) -> Result<&mut Loaded, Wrong> {
+        match &mut self.machine {
+            Some(machine) => Ok(machine),
+            None => Err(Wrong::BadLine),
+        }
+    }
+
+    /// Takes a line that makes a run or a song; answers whether it is one.
+    fn take_run(&mut self, word: &str, rest: &str) -> Result<bool, Wrong> {
+        let alloc = self.alloc;
+        let answer = match word {
+            "run" => {
+                let words = words_of(alloc, rest)?;
+                let answer = run(self.rt, &words, &mut self.desk, &self.devices)?;
+                self.devices = Devices::whole(alloc);
+                answer
+            }
+            "count" => count(alloc, &self.desk, rest)?,
+            "pack-pattern" => pack(alloc, &self.desk, rest)?,
+            "unpack-pattern" => unpack(alloc, &self.desk, rest)?,
+            "calls" => self.machine()?.calls(alloc, rest)?,
+            "plays" => self.machine()?.plays(alloc, rest)?,
+            "generated" => {
+                let (name, number) = first_word(rest);
+                self.desk.put(name, generated(alloc, number)?)?;
+                return Ok(true);
+            }
+            _ => return Ok(false),
+        };
+        self.take_answer(answer)?;
+        Ok(true)
+    }
+
+    /// Takes a line that says what must come of the last run; answers whether it is one.
+    fn take_answered(&mut self, word: &str, rest: &str) -> Result<bool, Wrong> {
+        match &mut self.answer {
+            Some(answer) => answer.take(self.alloc, word, rest, &self.texts),
+            None => Ok(false),
+        }
+    }
+
+    /// Takes a line that says what must stand in a file; answers whether it is one.
+    fn take_after(&mut self, word: &str, rest: &str) -> Result<bool, Wrong> {
+        let (name, rest) = first_word(rest);
+        let Some(answer) = &mut self.answer else {
+            return Ok(false);
+        };
+        match is_as_said(self.alloc, &self.desk, word, name, rest)? {
+            None => Ok(false),
+            Some(true) => {
+                answer.name_file(name);
+                Ok(true)
+            }
+            Some(false) => Err(Wrong::Differs("another file")),
+        }
+    }
+
+    /// Takes a line on the machine; answers whether it is one.
+    fn take_of_machine(&mut self, word: &str, rest: &str) -> Result<bool, Wrong> {
+        let alloc = self.alloc;
+        if word == "load" {
+            self.machine = Some(Loaded::load(alloc, &self.desk, rest)?);
+            return Ok(true);
+        }
+        let Some(machine) = &mut self.machine else {
+            return Ok(false);
+        };
+        let is_so = match word {
+            "poke" => {
+                machine.poke(alloc, &self.desk, rest)?;
+                true
+            }
+            "memory" => machine.holds(alloc, &self.desk, rest)?,
+            "stores" => machine.has_stores(rest)?,
+            _ => return Ok(false),
+        };
+        if is_so {
+            Ok(true)
+        } else {
+            Err(Wrong::Differs("another byte in the machine"))
+        }
+    }
+}
