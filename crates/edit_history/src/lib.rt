@@ -16,6 +16,3 @@ mod session;
 
 pub use done::{NothingToRedo, NothingToUndo};
 pub use session::Session;
-
-#[cfg(test)]
-mod tests;

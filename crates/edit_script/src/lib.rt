@@ -28,6 +28,3 @@ pub use faults::ScriptFault;
 pub use kinds::{RunFault, RunKind};
 pub use parsing::{MOST_BYTES, parse};
 pub use running::run;
-
-#[cfg(test)]
-mod tests;

@@ -24,6 +24,3 @@ pub use faults::SongFault;
 pub use song_model::NoMemory;
 pub use songs::{MOST_BYTES, read};
 pub use writing::write;
-
-#[cfg(test)]
-mod tests;

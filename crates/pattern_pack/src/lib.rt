@@ -20,6 +20,3 @@ mod unpacking;
 pub use faults::PatternTooLong;
 pub use packing::pack_pattern;
 pub use unpacking::{MOST_BYTES, unpack_pattern};
-
-#[cfg(test)]
-mod tests;

@@ -15,8 +15,6 @@ mod labels;
 mod listing;
 mod marks;
 mod places;
-#[cfg(test)]
-mod tests;
 
 pub use asm6502::Listing;
 pub use base::NoMemory;

@@ -20,6 +20,3 @@ pub use faults::PsidFault;
 pub use header::{Header, Psid};
 pub use reading::{ADDRESSES, read};
 pub use writing::write;
-
-#[cfg(test)]
-mod tests;

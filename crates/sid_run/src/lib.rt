@@ -15,6 +15,3 @@ mod runner;
 pub use cpu6502::NoMemory;
 pub use memory::REGISTERS;
 pub use runner::{MOST_STEPS, Runner};
-
-#[cfg(test)]
-mod tests;

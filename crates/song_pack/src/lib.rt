@@ -24,6 +24,3 @@ mod tables;
 
 pub use faults::PackFault;
 pub use packing::pack_song;
-
-#[cfg(test)]
-mod tests;

@@ -25,6 +25,3 @@ pub use marks::ByteMarks;
 pub use programs::{ProgramMap, merge_programs};
 pub use renumbering::{TableMap, renumber};
 pub use speeds::merge_speed;
-
-#[cfg(test)]
-mod tests;
