@@ -4,11 +4,11 @@ use Rattle.goat_io.specs.Files.{Files}
 use Rattle.song_model.specs.declared.songs.Song.{Song}
 use Rattle.play_model.specs.declared.options.Options.{Options}
 use Rattle.packed_form.specs.declared.packed_songs.PackedSong.{PackedSong}
-use Rattle.player_code.specs.Lengths.{code_length}
-use Rattle.images.proofs.Laws.{always_is_faithful}
-use Rattle.player_build.specs.declared.image.Image.{Image}
-use Rattle.player_build.specs.Lengths.{image_length, IsTooLarge}
-use Rattle.player_build.specs.Built.{IsBuild}
+use Rattle.image_code.specs.Lengths.{code_length}
+use Rattle.faithful.proofs.Laws.{always_is_faithful}
+use Rattle.image_build.specs.declared.image.Image.{Image}
+use Rattle.image_build.specs.Lengths.{image_length, IsTooLarge}
+use Rattle.image_build.specs.Built.{IsBuild}
 use Rattle.goat_cli.specs.Packed.{IsImageLength, IsWrittenFile, packed_file}
 use Rattle.goat_cli.specs.Lines.{image_too_large_line}
 use Rattle.goat_cli.specs.Last.{Last, Says}

@@ -24,7 +24,7 @@ use Rattle.packing_rules.specs.Renumbering.{pattern_text}
 use Rattle.packing_rules.specs.SongSizes.{packed_size}
 use Rattle.packing_rules.proofs.Laws.{same_sets}
 use Rattle.song_pack.specs.Answers.{AreShort, IsTooLong}
-use Rattle.player_code.specs.Lengths.{code_length}
+use Rattle.image_code.specs.Lengths.{code_length}
 use Rattle.goat_cli.specs.Packed.{IsImageLength}
 use Rattle.goat_cli.specs.Laws.{PlayableSongsPass}
 use Rattle.gts5.proofs.Laws.{spells_once, spells_has_no_fault}

@@ -19,7 +19,7 @@ use Rattle.sid_run.proofs.Laws.{image_stands, loaded_is_machine}
 use Rattle.goat_io.specs.Files.{Files}
 use Rattle.goat_cli.specs.Words.{Run}
 use Rattle.goat_cli.specs.Calls.{HasSubtune, ReturnsTo, FirstCalls}
-use Rattle.images.specs.Faithful.{Leaves, PlaysOn, IsFaithful}
+use Rattle.faithful.specs.Faithful.{Leaves, PlaysOn, IsFaithful}
 use Rattle.player_parts.specs.Places.{IsAddress}
 use Rattle.goat_cli.specs.Packed.{song_header, psid_file, caller_bits}
 use Rattle.goat_cli.specs.RegisterText.{register_lines}

@@ -10,8 +10,8 @@ use Rattle.packing_rules.specs.UsedSets.{UsedSets, AreUsedSets}
 use Rattle.packed_form.specs.CodeBounds.{code_bound}
 use Rattle.packing_rules.specs.SongSizes.{data_size, packed_size}
 use Rattle.packing_rules.proofs.Laws.{packed_size_is_within}
-use Rattle.player_code.specs.Lengths.{code_length}
-use Rattle.player_code.proofs.Laws.{code_is_bounded}
+use Rattle.image_code.specs.Lengths.{code_length}
+use Rattle.image_code.proofs.Laws.{code_is_bounded}
 use Rattle.goat_cli.specs.Packed.{IsImageLength}
 use Rattle.goat_cli.specs.Stages.{IsThere, Fits, SpellsSong, CanBePlayed, HasShortPatterns, HasRoomForImage, input_limit}
 use Rattle.goat_cli.specs.Laws.{ImagesAreBounded, OnlyLargeImagesAreRefused, SmallSongsArePacked}

@@ -7,12 +7,12 @@ use Rattle.play_model.specs.declared.options.Options.{Options}
 use Rattle.play_model.specs.Features.{AreFeatures}
 use Rattle.packing_rules.specs.UsedSets.{UsedSets, AreUsedSets}
 use Rattle.packing_rules.specs.SongSizes.{packed_size}
-use Rattle.player_code.specs.Lengths.{code_length}
+use Rattle.image_code.specs.Lengths.{code_length}
 use Rattle.psid.specs.declared.header.Header.{Header}
 use Rattle.psid.specs.Format.{psid_bytes}
-use Rattle.images.specs.Faithful.{IsFaithful}
-use Rattle.images.specs.Histories.{PlaysAlways}
-use Rattle.images.specs.Isolation.{IsIsolated}
+use Rattle.faithful.specs.Faithful.{IsFaithful}
+use Rattle.faithful.specs.Histories.{PlaysAlways}
+use Rattle.faithful.specs.Isolation.{IsIsolated}
 
 -- a raw file: the address, low byte first, and the image
 abbrev pub raw_file : ℕ → List ℕ → List ℕ

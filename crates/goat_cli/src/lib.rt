@@ -9,7 +9,7 @@
 //!
 //! It stands on `goat_io` for folders and sinks, on `gts5` and `song_model` for the song, on `edit_history` and
 //! `edit_script` for editing it, on `usage` for what it uses, on `play_model` for what it sounds like, on `playroutine`
-//! for playing it, on `song_pack` and `player_build` for packing it, on `images` for what an image is to do, on `psid`,
+//! for playing it, on `song_pack` and `image_build` for packing it, on `faithful` for what an image is to do, on `psid`,
 //! `sid_run` and `cpu6502` for PSID files and their calls, and on `song_gen` for songs that are made from numbers.
 #![tactic(auto)]
 

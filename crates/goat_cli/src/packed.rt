@@ -6,8 +6,8 @@ ghost use Rattle.song_model.specs.LookUp.{playable_subtunes};
 ghost use Rattle.player_parts.specs.Places.{IsAddress};
 ghost use Rattle.goat_cli.specs.Packed.{packed_file, raw_file, psid_file, song_header, caller_bits};
 
+use image_build::Image;
 use play_model::{Options, Speed};
-use player_build::Image;
 use psid::Header;
 use song_model::{NoMemory, Song};
 use std::alloc::Global;

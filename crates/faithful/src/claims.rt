@@ -1,0 +1,56 @@
+//! Facts about the definitions, each the contract of a function that does nothing.
+
+ghost use Rattle.faithful.specs.Laws.{AlwaysIsFaithful, OwnPlacesAreFew, CallsStoreAtHome, FirstPlaysAreFree, InitsEndAlike, PlaysEndAlike};
+ghost use Rattle.faithful.specs.WorkedPlaces.{PlacesAreWorked, CallsAreCounted};
+ghost use Rattle.faithful.specs.WorkedMachines.{TimersAreTold, ChangesAreTold, PairsAreTold};
+ghost use Rattle.faithful.specs.WorkedImages.{RegistersAreTold, StoresAreTold, TimerBytesAreTold, DependencesAreTold};
+
+/// An image that plays a song after any calls plays it after init and any number of plays.
+pub fn what_plays_always_is_faithful()
+    ensures { AlwaysIsFaithful }
+{}
+
+/// A place that a call may write lies in the image, in page 0, on the stack, in the SID or in the timer.
+pub fn own_places_are_few()
+    ensures { OwnPlacesAreFew }
+{}
+
+/// A call that serves stores at own places alone, in each of its steps.
+pub fn calls_store_at_home()
+    ensures { CallsStoreAtHome }
+{}
+
+/// The first play of a faithful image is entered with any registers.
+pub fn first_plays_are_free()
+    ensures { FirstPlaysAreFree }
+{}
+
+/// Inits of an isolated image end alike, and so do plays after an init, whatever else the machines hold.
+pub fn isolated_calls_end_alike()
+    ensures inits { InitsEndAlike }
+    ensures plays { PlaysEndAlike }
+{}
+
+/// Places that a call may write, and others; and what some calls came to.
+pub fn worked_places()
+    ensures places { PlacesAreWorked }
+    ensures calls { CallsAreCounted }
+{}
+
+/// Machines with a timer and with another; calls that changed an own place and another; and machines that differ in one
+/// byte.
+#[tactic(auto, using(crate::proofs::WorkedMachines::timers_are_told, crate::proofs::WorkedMachines::changes_are_told, crate::proofs::WorkedMachines::pairs_are_told))]
+pub fn worked_machines()
+    ensures timers { TimersAreTold }
+    ensures changes { ChangesAreTold }
+    ensures pairs { PairsAreTold }
+{}
+
+/// Small images that play no song, each for one reason: a register, a place, the timer, or what a call depends on.
+#[tactic(auto, using(crate::proofs::WorkedImages::registers_are_told, crate::proofs::WorkedImages::stores_are_told, crate::proofs::WorkedImages::timer_bytes_are_told, crate::proofs::WorkedImages::dependences_are_told))]
+pub fn worked_images()
+    ensures registers { RegistersAreTold }
+    ensures stores { StoresAreTold }
+    ensures timers { TimerBytesAreTold }
+    ensures dependences { DependencesAreTold }
+{}

@@ -1,0 +1,21 @@
+-- One pattern more.
+use Rattle.std.proofs.Common.{◌≡◌, ℕ, ◌+◌, ◌<◌, List, [], ◌∷◌, ◌++◌, All, length, take, get_or, sym, ap, ◌∙◌, subst}
+use Rattle.std.proofs.lemmas.List.{take_more}
+use Rattle.std.proofs.lemmas.List.Elements.{All-append, All-cons, All-nil}
+use Rattle.player_seq.specs.PackedLimits.{IsShortPattern}
+use Rattle.image_build.proofs.limits.are_short.Goals as goal
+
+more : (patterns : List (List ℕ)) (i : ℕ) (pattern : List ℕ) → i < length patterns →
+    pattern ≡ get_or patterns i pattern → IsShortPattern pattern → All IsShortPattern (take i patterns) →
+    All IsShortPattern (take (i + 1) patterns)
+more patterns i pattern inside is short old =
+    subst (All IsShortPattern)
+    (ap (λ (p : List ℕ). take i patterns ++ p ∷ []) is ∙ sym (take_more patterns i pattern inside))
+    (All-append IsShortPattern (take i patterns) (pattern ∷ []) old
+    (All-cons IsShortPattern pattern [] short (All-nil IsShortPattern)))
+
+pub loop-pattern-preserved : goal.loop-pattern-preserved
+loop-pattern-preserved c = record {
+  each = more c.args.patterns.now c.loop-pattern.pattern-index c.pattern-item.result c.loop-pattern-test.true
+      c.pattern-item.is c.is_short.ensures c.loop-pattern.invariant.each;
+}

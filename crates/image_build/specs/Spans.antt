@@ -1,0 +1,93 @@
+-- Which bytes of an image belong to which part of the player. This is the project's own player.
+use Rattle.std.specs.Prelude.{◌≡◌, ℕ, ◌+◌, ◌-◌, ◌<◌, ◌≤◌, ◌⊎◌, ◌↔◌, List, [], ◌∷◌, ◌++◌, All, Contains, flat_map, replicate, slice_index, sum_by, length, nat_eq, if◌then◌else◌}
+use Rattle.play_model.specs.declared.options.Options.{Options}
+use Rattle.packed_form.specs.declared.packed_songs.PackedSong.{PackedSong}
+use Rattle.packed_form.specs.Sizes.{packed_song_size}
+use Rattle.asm6502.specs.declared.lines.Line.{Line}
+use Rattle.asm6502.specs.Lines.{item_size, kept}
+use Rattle.lowering.specs.Lowered.{bit_kept}
+use Rattle.player_parts.specs.declared.labels.TheConstants.{VARIABLES}
+use Rattle.player_parts.specs.declared.place.Place.{Place}
+use Rattle.player_parts.specs.PlayerLists.{frequencies}
+use Rattle.image_code.specs.CodeLines.{always, code_lines}
+use Rattle.image_code.specs.Lengths.{kept_set, code_length, frequency_bytes, part_length, length_if}
+use Rattle.image_build.specs.declared.image.PartSpan.{PartSpan}
+use Rattle.image_build.specs.ImageLines.{count_of, first_variables}
+
+-- each span begins where the one before it ends, or behind that, the first at a place or behind it
+abbrev pub StandInOrder : ℕ → List PartSpan → Type 0
+StandInOrder from [] = Unit {0}
+StandInOrder from (span ∷ rest) = (from ≤ span.start) × StandInOrder (span.start + span.length) rest
+
+-- how many bytes all spans have, and those of one part
+abbrev pub spans_size : List PartSpan → ℕ
+spans_size spans = sum_by (λ (span : PartSpan). span.length) spans
+
+abbrev pub part_size : ℕ → List PartSpan → ℕ
+part_size part spans = sum_by (λ (span : PartSpan). if nat_eq span.part part then span.length else 0) spans
+
+-- the part of each byte that spans name, in order, and that of each byte of lines
+abbrev pub parts_of_spans : List PartSpan → List ℕ
+parts_of_spans spans = flat_map (λ (span : PartSpan). replicate span.length span.part) spans
+
+abbrev pub parts_of_lines : List Line → List ℕ
+parts_of_lines lines = flat_map (λ (line : Line). replicate (item_size line.item) line.part) lines
+
+-- a byte of the image, counted from 0, is in one of the spans
+pub record IsNamed (spans : List PartSpan) (byte : ℕ) : Type 0 where
+  pub span : PartSpan
+  pub is_there : Contains spans span
+  pub from : span.start ≤ byte
+  pub below : byte < span.start + span.length
+
+-- and this is its part
+pub record IsNamedAs (spans : List PartSpan) (byte part : ℕ) : Type 0 where
+  pub named : IsNamed spans byte
+  pub part_is : named.span.part ≡ part
+
+-- it is one of the packed song's: behind the low bytes of the frequencies the right sides of the speed table, and behind
+-- the high bytes all the rest
+abbrev pub IsPacked : PackedSong → Options → ℕ → Type 0
+IsPacked packed options byte =
+    ((code_length packed.features.0 options - frequencies ≤ byte)
+    × (byte < code_length packed.features.0 options - frequencies + length packed.speed))
+    ⊎ (code_length packed.features.0 options + length packed.speed ≤ byte)
+
+-- the parts for which a bit is kept, and the one that always is
+abbrev pub length_of_part : PackedSong → Options → ℕ → ℕ
+length_of_part packed options part =
+    if nat_eq part always then part_length always
+    else length_if (bit_kept (kept_set packed.features.0 options) part) part
+
+-- the lines of the image's code that are kept
+abbrev pub kept_code : PackedSong → Place → Options → List Line
+kept_code packed place options =
+    kept (kept_set packed.features.0 options)
+    (code_lines (first_variables packed place options) place.zero_page options (count_of packed))
+
+-- the two entries of three bytes and the variables behind them, and the low and the high bytes of the frequencies, are of
+-- the part that is always kept
+pub record NamesCommon (packed : PackedSong) (options : Options) (spans : List PartSpan) : Type 0 where
+  pub front : (byte : ℕ) → byte < 6 + VARIABLES → IsNamedAs spans byte always
+  pub lows : (note : ℕ) → note < frequencies →
+      IsNamedAs spans (code_length packed.features.0 options - frequency_bytes + note) always
+  pub highs : (note : ℕ) → note < frequencies →
+      IsNamedAs spans (code_length packed.features.0 options - frequencies + length packed.speed + note) always
+
+-- the spans are in order, don't overlap, and end within the image; a byte of the image is in one exactly where it isn't the
+-- packed song's; the parts of the bytes in them, in order, are those of the bytes of the kept code, and behind these that
+-- which is always kept, once for each byte of the frequencies; so each byte of the code is of its line's part; entries,
+-- variables and frequencies are of that which is always kept; and each part has its length where it is kept, and none
+-- elsewhere
+pub record NamesParts (packed : PackedSong) (place : Place) (options : Options) (size : ℕ) (spans : List PartSpan)
+    : Type 0 where
+  pub in_order : StandInOrder 0 spans
+  pub inside : All (λ (span : PartSpan). span.start + span.length ≤ size) spans
+  pub named : (byte : ℕ) → byte < size → IsNamed spans byte ↔ (IsPacked packed options byte → ⊥)
+  pub add_up : spans_size spans + packed_song_size packed ≡ size
+  pub in_parts : parts_of_spans spans ≡ parts_of_lines (kept_code packed place options)
+      ++ replicate frequency_bytes always
+  pub in_code : (byte : ℕ) → byte < code_length packed.features.0 options - frequency_bytes →
+      IsNamedAs spans byte (slice_index (parts_of_lines (kept_code packed place options)) byte)
+  pub common : NamesCommon packed options spans
+  pub parts : (part : ℕ) → part_size part spans ≡ length_of_part packed options part

@@ -1,0 +1,26 @@
+-- The parts of the bytes in spans and in lines, worked by hand.
+use Rattle.std.specs.Prelude.{◌≡◌, List, [], ◌∷◌}
+use Rattle.cpu6502.specs.declared.mnemonic.Mnemonic.TheVariants.{Lda, Rts}
+use Rattle.cpu6502.specs.declared.mnemonic.Mode.TheVariants.{Immediate}
+use Rattle.asm6502.specs.declared.lines.Operand.TheVariants.{Number}
+use Rattle.asm6502.specs.declared.lines.Line.{Line}
+use Rattle.lowering.specs.Instructions.{code, bare, name}
+use Rattle.image_code.specs.CodeLines.{always}
+use Rattle.image_build.specs.declared.image.PartSpan.{PartSpan}
+use Rattle.image_build.specs.Spans.{spans_size, part_size, parts_of_spans, parts_of_lines}
+
+-- the bytes 6 and 7, of part 3, and byte 10, of the part that is always kept
+abbrev pub two_spans : List PartSpan
+two_spans = record { part = 3; start = 6; length = 2 } ∷ record { part = 255; start = 10; length = 1 } ∷ []
+
+-- LDA #$0F in part 3; a label, which takes no byte, and RTS, in the part that is always kept
+abbrev pub three_lines : List Line
+three_lines = code 3 Lda Immediate (Number 0x0F) ∷ name always 128 ∷ bare always Rts ∷ []
+
+pub record SpansAreWorked : Type 0 where
+  pub of_spans : parts_of_spans two_spans ≡ 3 ∷ 3 ∷ 255 ∷ []
+  pub of_lines : parts_of_lines three_lines ≡ 3 ∷ 3 ∷ 255 ∷ []
+  pub all : spans_size two_spans ≡ 3
+  pub part_3 : part_size 3 two_spans ≡ 2
+  pub part_255 : part_size 255 two_spans ≡ 1
+  pub no_part : part_size 4 two_spans ≡ 0

@@ -1,0 +1,53 @@
+//! An image with its parts.
+
+use base::{ByteList, Items};
+use player_parts::Place;
+use std::marker::Model;
+
+/// Bytes of an image that belong to one part of the player.
+#[derive(Clone, Copy, Debug, PartialEq, Eq)]
+pub struct PartSpan {
+    /// The part: 0 to 23 for a feature's bit, 24 to 26 for an option's, 255 for what every image has.
+    pub part: u8,
+    /// The first of the bytes, counted from the image's first.
+    pub start: u16,
+    /// How many there are.
+    pub length: u16,
+}
+
+/// Spans in order. Contracts see the list.
+#[derive(Drop)]
+pub struct SpanList {
+    pub(crate) spans: Items<PartSpan>,
+}
+
+impl Model for SpanList {
+    ghost use Rattle.std.specs.Prelude.{List};
+    ghost use Rattle.image_build.specs.declared.image.PartSpan.{PartSpan};
+
+    ghost Value = { List PartSpan };
+
+    ghost view = { λ list. list.spans };
+}
+
+impl SpanList {
+    ghost use Rattle.std.specs.Prelude.{◌≡◌};
+
+    /// The spans in order.
+    pub fn as_slice(&self) -> &[PartSpan]
+        ensures { result.now ≡ self.now }
+    {
+        self.spans.as_slice()
+    }
+}
+
+/// An image: the bytes of a player with its song, built to stand at a place.
+#[derive(Drop)]
+pub struct Image {
+    /// Where it stands.
+    pub place: Place,
+    /// Its bytes. Init is entered at the first, play at the fourth.
+    pub bytes: ByteList,
+    /// Which of them belong to which part; the others are the packed song's.
+    pub parts: SpanList,
+}

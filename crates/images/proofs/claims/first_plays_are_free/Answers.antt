@@ -1,5 +1,0 @@
-use Rattle.images.proofs.FreeCalls.{first_plays_are_free}
-use Rattle.images.proofs.claims.first_plays_are_free.Goals as goal
-
-pub returns : goal.returns
-returns c = first_plays_are_free

@@ -1,5 +1,0 @@
-use Rattle.images.proofs.WorkedPlaces.{places_are_worked}
-use Rattle.images.proofs.claims.worked_places.Goals as goal
-
-pub returns-clause-places : goal.returns-clause-places
-returns-clause-places c = places_are_worked
