@@ -146,10 +146,10 @@ impl<'a, R: Files + Print + AllocGlobal> Reading<'a, R> {
 }
 
 /// Goes through a file of cases, and counts them.
-pub fn go_through<R: Files + Print + AllocGlobal>(
-    rt: &R,
-    file: &str,
-    text: &str,
+pub fn go_through<'a, R: Files + Print + AllocGlobal>(
+    rt: &'a R,
+    file: &'a str,
+    text: &'a str,
     tally: &mut Tally,
 ) -> Result<(), Wrong> {
     let mut reading = Reading {
