@@ -10,5 +10,7 @@ pub mod InitLaws
 pub mod FetchLaws
 -- Claimed: numbers of the blocks that are worked by hand.
 pub mod WorkedBlocks
+-- Claimed: where the walk comes to its parts.
+pub mod PartPlaces
 -- Inner: the laws of the parts.
 pub mod PartLaws

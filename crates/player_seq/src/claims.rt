@@ -5,6 +5,7 @@ ghost use Rattle.player_seq.specs.InitLaws.{InitBlockBegins, InitWritesAllVariab
 ghost use Rattle.player_seq.specs.WorkedBlocks.{LooksAreWorked};
 ghost use Rattle.player_seq.specs.StartVariables.{StartVariablesHold};
 ghost use Rattle.player_seq.specs.Parts.{EntriesAreComeTo};
+ghost use Rattle.player_seq.specs.PartPlaces.{EntriesArePointedAt, EntriesAreHeld, RepeatsAreSet, UnusedPartsLeave};
 ghost use Rattle.player_seq.specs.SoundBlocks.{InitIsSound, FetchIsSound};
 
 /// Both blocks are sound: the one that begins a subtune at each speed, and the one that fetches a row with each count
@@ -48,6 +49,19 @@ pub fn worked_blocks()
 /// transposes and repeats.
 pub fn entries_are_come_to()
     ensures { EntriesAreComeTo }
+{}
+
+/// In a memory that holds a state, at each place of the walk, a frame has come to the parts of the walk, for each voice.
+pub fn frames_come_to_the_walk()
+    ensures pointed { EntriesArePointedAt }
+    ensures held { EntriesAreHeld }
+    ensures repeats { RepeatsAreSet }
+{}
+
+/// So in a frame that doesn't use transposes or repeats, and for each voice, a part of the walk leaves the memory as it
+/// was.
+pub fn unused_parts_leave()
+    ensures { UnusedPartsLeave }
 {}
 
 /// A player that keeps the bits of the song's features keeps those of its walks along orderlists.
