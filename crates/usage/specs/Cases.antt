@@ -1,5 +1,5 @@
 -- What the features that are answered promise to a player of the song.
-use Rattle.std.specs.Prelude.{ℕ, ◌<◌, length, IsBitSet}
+use Rattle.std.specs.Prelude.{ℕ, ◌<◌, ◌≤◌, Bool, length, IsBitSet}
 use Rattle.song_model.specs.declared.features.Feature.{Feature}
 use Rattle.song_model.specs.declared.songs.Song.{Song}
 use Rattle.song_model.specs.Feature.{bit_of}
@@ -16,3 +16,12 @@ pub record NameEachCase (song : Song) (bits : ℕ) : Type 0 where
   pub each : (o : Options) (k i : ℕ) → IsSpeed o.speed → KeepsLimits song →
       k < length (playable_subtunes song) → (feature : Feature) →
       UsesFeature o song k (state_after_with o song k i) feature → IsBitSet bits (bit_of feature)
+
+-- so they do at each speed from 1 to 4, and with each step of a frame left out or kept
+abbrev pub EachSpeedIsNamed : Type 0
+EachSpeedIsNamed =
+    (song : Song) (bits : ℕ) → NameEachCase song bits → KeepsLimits song → (effects pulse : Bool) (speed k i : ℕ) →
+    1 ≤ speed → speed ≤ 4 → k < length (playable_subtunes song) → (feature : Feature) →
+    UsesFeature (record { skip_effects = effects; skip_pulse = pulse; speed = speed }) song k
+    (state_after_with (record { skip_effects = effects; skip_pulse = pulse; speed = speed }) song k i) feature →
+    IsBitSet bits (bit_of feature)
