@@ -1,10 +1,35 @@
--- The first draws of two generated songs, and the last ones of one, by an independent reading of the rules.
-use Rattle.std.specs.Prelude.{◌≡◌, ℕ, ◌-◌, ◌^◌, List, [], ◌∷◌, map, take, drop}
+-- What each generated song has, the first draws of two, and the last ones of one, by an independent reading of the rules.
+use Rattle.std.specs.Prelude.{◌≡◌, ℕ, ◌+◌, ◌-◌, ◌*◌, ◌^◌, List, [], ◌∷◌, map, take, drop}
 use Rattle.song_model.specs.declared.rows.Row.{Row}
 use Rattle.song_model.specs.declared.instruments.Instrument.{Instrument}
 use Rattle.song_model.specs.declared.orders.Order.{Order}
+use Rattle.song_model.specs.declared.tables.TableRow.{TableRow}
 use Rattle.song_gen.specs.Draws.{after}
-use Rattle.song_gen.specs.GeneratedSong.{instruments_from, pattern_from, order_from, behind_instruments, behind_patterns}
+use Rattle.song_gen.specs.GeneratedSong.{generated_song, instruments_from, pattern_from, order_from, behind_instruments, behind_patterns}
+
+-- both sides of a row, as a number of four hexadecimal digits
+abbrev pub row_number : TableRow → ℕ
+row_number r = 256 * r.left + r.right
+
+-- what isn't drawn of an instrument: its wave, pulse and filter program, its vibrato, its gate timer and its first
+-- waveform
+abbrev pub fixed_bytes : Instrument → List ℕ
+fixed_bytes i = i.wave ∷ i.pulse ∷ i.filter ∷ i.vibrato ∷ i.gate_timer ∷ i.first_wave ∷ []
+
+-- the tables and the instruments of the song of a number
+pub record TablesAre (x : ℕ) : Type 0 where
+  pub wave : map row_number (generated_song x).wave
+      ≡ 0x2100 ∷ 0x4100 ∷ 0x4104 ∷ 0x4107 ∷ 0xFF02 ∷ 0x81C0 ∷ 0x1180 ∷ 0xF529 ∷ 0xFF00 ∷ []
+  pub pulse : map row_number (generated_song x).pulse ≡ 0x8800 ∷ 0x2010 ∷ 0x20F0 ∷ 0xFF02 ∷ []
+  pub filter : map row_number (generated_song x).filter
+      ≡ 0x90F1 ∷ 0x0040 ∷ 0x3002 ∷ 0x30FE ∷ 0xFF03 ∷ []
+  pub speed : map row_number (generated_song x).speed ≡ 0x0040 ∷ 0x0320 ∷ 0x8303 ∷ []
+  pub instruments : map fixed_bytes (generated_song x).instruments
+      ≡ (1 ∷ 1 ∷ 1 ∷ 0 ∷ 2 ∷ 0x09 ∷ []) ∷ (6 ∷ 1 ∷ 0 ∷ 1 ∷ 2 ∷ 0x09 ∷ [])
+      ∷ (1 ∷ 1 ∷ 0 ∷ 2 ∷ 2 ∷ 0x09 ∷ []) ∷ (6 ∷ 1 ∷ 0 ∷ 3 ∷ 2 ∷ 0x09 ∷ []) ∷ []
+
+abbrev pub EachHasTables : Type 0
+EachHasTables = (x : ℕ) → TablesAre x
 
 -- attack and decay, sustain and release, and the vibrato's delay
 abbrev pub drawn_bytes : Instrument → List ℕ
@@ -33,6 +58,8 @@ pub record FirstDrawsAre : Type 0 where
 abbrev pub last_order : Order
 last_order = order_from (after (behind_patterns 0) 1150)
 
+-- it begins with a transpose
 pub record LastDrawsAre : Type 0 where
+  pub first : take 3 last_order.entries ≡ 0xF1 ∷ 57 ∷ 95 ∷ []
   pub entries : drop 46 last_order.entries ≡ 31 ∷ 91 ∷ 98 ∷ []
   pub restart : last_order.restart ≡ 36
