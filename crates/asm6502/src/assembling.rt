@@ -10,10 +10,9 @@ ghost use Rattle.asm6502.specs.declared.faults.AsmFault.TheVariants.{PastEnd, No
 use crate::assembled::Assembled;
 use crate::faults::AsmFault;
 use crate::labels::{check_lines, check_operands, labels_of};
-use crate::lines::{Listing, MOST_BYTES, MOST_LINES};
+use crate::lines::{Listing, MOST_BYTES, MOST_LINES, PartSet};
 use crate::output::output_of;
 use cpu6502::MEMORY_SIZE;
-use song_model::FeatureBits;
 use std::alloc::Global;
 
 /// Assembles the lines of a listing that a set of parts keeps, to stand at an origin: each kept line stands after the
@@ -26,7 +25,7 @@ pub fn assemble(
     alloc: Global,
     listing: &Listing,
     origin: u16,
-    set: FeatureBits,
+    set: PartSet,
 ) -> Result<Assembled, AsmFault>
     requires lines { length listing.now ≤ MOST_LINES }
     requires bytes { data_size listing.now ≤ MOST_BYTES }

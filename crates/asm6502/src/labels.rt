@@ -10,9 +10,8 @@ ghost use Rattle.asm6502.specs.Branches.{branch_byte};
 
 use crate::faults::AsmFault;
 use crate::fixes::{Fix, FixKind};
-use crate::lines::{Line, MOST_BYTES, MOST_LINES, Operand};
+use crate::lines::{Line, MOST_BYTES, MOST_LINES, Operand, PartSet};
 use cpu6502::{MEMORY_SIZE, Mode};
-use song_model::FeatureBits;
 use std::alloc::Global;
 use std::collections::BTreeMap;
 
@@ -53,7 +52,7 @@ impl Labels {
     /// # Errors
     ///
     /// The label is named already; or out of memory.
-    fn note(&mut self, line: &Line, set: FeatureBits) -> Result<(), AsmFault>
+    fn note(&mut self, line: &Line, set: PartSet) -> Result<(), AsmFault>
         requires { self.old.size + item_size line.now.item < 2 ^ 32 }
         ensures { (before : List Line) →
             HasPlaces self.old (kept set.0 before) →
@@ -104,7 +103,7 @@ impl Labels {
     }
 
     /// The label in the operand of a line, if the line is kept and the label isn't named.
-    fn unknown(&self, line: &Line, set: FeatureBits) -> Option<u16>
+    fn unknown(&self, line: &Line, set: PartSet) -> Option<u16>
         ensures { (lines before : List Line) →
             HasPlaces self.now (kept set.0 lines) →
             option_map UnknownLabel result ≡ unknown_label set.0 lines before line.now }
@@ -206,7 +205,7 @@ fn branch_byte(pc: u32, target: u16) -> Option<u8>
 /// # Errors
 ///
 /// The first label that is named a second time; or out of memory.
-pub(crate) fn labels_of(alloc: Global, lines: &[Line], set: FeatureBits) -> Result<Labels, AsmFault>
+pub(crate) fn labels_of(alloc: Global, lines: &[Line], set: PartSet) -> Result<Labels, AsmFault>
     requires lines { length lines.now ≤ MOST_LINES }
     requires bytes { data_size lines.now ≤ MOST_BYTES }
     ensures { MatchResult result
@@ -227,7 +226,7 @@ pub(crate) fn labels_of(alloc: Global, lines: &[Line], set: FeatureBits) -> Resu
 /// # Errors
 ///
 /// The first such line.
-pub(crate) fn check_lines(lines: &[Line], set: FeatureBits) -> Result<(), AsmFault>
+pub(crate) fn check_lines(lines: &[Line], set: PartSet) -> Result<(), AsmFault>
     requires { length lines.now ≤ MOST_LINES }
     ensures { MatchResult result
         (λ _. first_fault (bad_line set.0) [] lines.now ≡ None)
@@ -246,11 +245,7 @@ pub(crate) fn check_lines(lines: &[Line], set: FeatureBits) -> Result<(), AsmFau
 /// # Errors
 ///
 /// The first such label.
-pub(crate) fn check_operands(
-    lines: &[Line],
-    set: FeatureBits,
-    labels: &Labels,
-) -> Result<(), AsmFault>
+pub(crate) fn check_operands(lines: &[Line], set: PartSet, labels: &Labels) -> Result<(), AsmFault>
     requires { HasPlaces labels.now (kept set.0 lines.now) }
     ensures { MatchResult result
         (λ _. first_fault (unknown_label set.0 lines.now) [] lines.now ≡ None)

@@ -7,8 +7,8 @@
 //! of assembling there. Its definitions are in `specs/`, of which `Standing` and `Stretches` are those that callers
 //! reason with.
 //!
-//! It stands on `cpu6502` for the decode table, on `code_runs` for instructions that stand in memory, on `song_model`
-//! for sets of parts, on `base` for lists, and on `arrayvec`. See `docs/assembler.md`.
+//! It stands on `cpu6502` for the decode table, on `code_runs` for instructions that stand in memory, on `base` for
+//! lists, and on `arrayvec`. See `docs/assembler.md`.
 #![tactic(auto)]
 
 mod assembled;
@@ -30,5 +30,4 @@ pub use encodings::{decode, encode};
 pub use faults::{AsmFault, PastEnd};
 pub use fixes::{Fix, FixKind, FixList};
 pub use instructions::{Encoded, Instr};
-pub use lines::{Item, Line, Listing, MOST_BYTES, MOST_LINES, Operand};
-pub use song_model::FeatureBits;
+pub use lines::{Item, Line, Listing, MOST_BYTES, MOST_LINES, Operand, PartSet};

@@ -5,7 +5,6 @@ ghost use Rattle.asm6502.specs.Operands.{fits, takes_label, is_immediate};
 
 use base::{ByteList, Items, NoMemory};
 use cpu6502::{Mnemonic, Mode, opcode};
-use song_model::FeatureBits;
 use std::alloc::Global;
 use std::marker::Model;
 
@@ -14,6 +13,10 @@ pub const MOST_LINES: usize = 1_000_000;
 
 /// The most bytes that such a listing has in its items of bytes, together.
 pub const MOST_BYTES: usize = 1_000_000;
+
+/// A set of parts of a program: bit n is that of part n, 0 to 31.
+#[derive(Clone, Copy, Debug, PartialEq, Eq)]
+pub struct PartSet(pub u32);
 
 /// What stands after the opcode of an instruction in a listing.
 #[derive(Clone, Copy, Debug)]
@@ -170,7 +173,7 @@ impl Line {
     ghost use Rattle.asm6502.specs.Lines.{is_kept, is_no_part, is_sound};
 
     /// Whether it is kept with a set of parts.
-    pub(crate) fn is_kept(&self, set: FeatureBits) -> bool
+    pub(crate) fn is_kept(&self, set: PartSet) -> bool
         ensures { result ≡ is_kept set.0 self.now }
     {
         if self.part == 255 {
@@ -180,7 +183,7 @@ impl Line {
     }
 
     /// Whether it is in a part that there isn't, or is kept and can't stand in a listing.
-    pub(crate) fn is_bad(&self, set: FeatureBits) -> bool
+    pub(crate) fn is_bad(&self, set: PartSet) -> bool
         ensures { result ≡ is_no_part self.now.part
             || is_kept set.0 self.now && not (is_sound self.now.item) }
     {

@@ -11,10 +11,9 @@ use crate::faults::AsmFault;
 use crate::fixes::FixList;
 use crate::instructions::Instr;
 use crate::labels::Labels;
-use crate::lines::{Item, Line, MOST_LINES, Operand};
+use crate::lines::{Item, Line, MOST_LINES, Operand, PartSet};
 use base::ByteList;
 use cpu6502::{MEMORY_SIZE, Mnemonic, Mode};
-use song_model::FeatureBits;
 use std::alloc::Global;
 
 /// What the lines before have given.
@@ -146,7 +145,7 @@ impl Output {
     fn put(
         &mut self,
         labels: &Labels,
-        set: FeatureBits,
+        set: PartSet,
         origin: u16,
         number: u32,
         line: &Line,
@@ -180,7 +179,7 @@ impl Output {
 pub(crate) fn output_of(
     alloc: Global,
     lines: &[Line],
-    set: FeatureBits,
+    set: PartSet,
     origin: u16,
     labels: &Labels,
 ) -> Result<Output, AsmFault>

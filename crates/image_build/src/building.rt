@@ -19,7 +19,7 @@ use crate::lengths::{code_length, image_length};
 use crate::limits::{are_bytes, keep_limits};
 use crate::spans::image_spans;
 use crate::variables::{first_orders, first_variables};
-use asm6502::{AsmFault, Listing, MOST_BYTES, MOST_LINES, assemble};
+use asm6502::{AsmFault, Listing, MOST_BYTES, MOST_LINES, PartSet, assemble};
 use base::{ByteList, NoMemory};
 use image_code::code_listing;
 use image_lists::data_listing;
@@ -44,11 +44,11 @@ fn option_bit(is_on: bool, bit: u8) -> u32
 }
 
 /// The set of the parts that are kept for features and options.
-fn kept_set(features: FeatureBits, options: &Options) -> FeatureBits
+fn kept_set(features: FeatureBits, options: &Options) -> PartSet
     requires { features.0 < 2 ^ 24 }
     ensures { result.0 ≡ kept_set features.0 options.now }
 {
-    FeatureBits(
+    PartSet(
         features.0
             + option_bit(options.skip_effects, SKIP_EFFECTS_BIT)
             + option_bit(options.skip_pulse, SKIP_PULSE_BIT)
@@ -85,7 +85,7 @@ fn assembled(
     alloc: Global,
     listing: &Listing,
     origin: u16,
-    set: FeatureBits,
+    set: PartSet,
 ) -> Result<ByteList, NoMemory>
     requires lines { length listing.now ≤ MOST_LINES }
     requires bytes { data_size listing.now ≤ MOST_BYTES }

@@ -7,9 +7,8 @@ ghost use Rattle.image_build.specs.Spans.{parts_of_spans, parts_of_lines};
 
 use crate::image::{PartSpan, SpanList};
 use crate::lengths::ALWAYS;
-use asm6502::{Item, Line};
+use asm6502::{Item, Line, PartSet};
 use base::{Items, NoMemory};
-use song_model::FeatureBits;
 use std::alloc::Global;
 
 /// How many frequencies of notes stand one behind the other, once their low bytes and once their high bytes.
@@ -27,7 +26,7 @@ fn item_size(item: &Item) -> usize
 }
 
 /// Whether a line is kept with a set of parts.
-fn is_kept(line: &Line, set: FeatureBits) -> bool
+fn is_kept(line: &Line, set: PartSet) -> bool
     ensures { result ≡ is_kept set.0 line.now }
 {
     if line.part == ALWAYS {
@@ -37,7 +36,7 @@ fn is_kept(line: &Line, set: FeatureBits) -> bool
 }
 
 /// The bytes that a line takes with a set of parts.
-fn kept_size(line: &Line, set: FeatureBits) -> usize
+fn kept_size(line: &Line, set: PartSet) -> usize
     ensures { result ≡ kept_size set.0 line.now }
 {
     if is_kept(line, set) {
@@ -60,7 +59,7 @@ fn frequency_span(start: u16) -> PartSpan
 
 /// The spans of a listing's kept lines, each as long as lines of one part stand one behind the other. Each byte has its
 /// line's part.
-fn code_spans(alloc: Global, lines: &[Line], set: FeatureBits) -> Result<Items<PartSpan>, NoMemory>
+fn code_spans(alloc: Global, lines: &[Line], set: PartSet) -> Result<Items<PartSpan>, NoMemory>
     requires { size_of (kept set.0 lines.now) ≤ 0xD000 }
     ensures follow { IfOk result (λ spans. Follow 0 spans (size_of (kept set.0 lines.now))) }
     ensures parts { IfOk result (λ spans. parts_of_spans spans ≡ parts_of_lines (kept set.0 lines.now)) }
@@ -93,7 +92,7 @@ fn code_spans(alloc: Global, lines: &[Line], set: FeatureBits) -> Result<Items<P
 pub(crate) fn image_spans(
     alloc: Global,
     lines: &[Line],
-    set: FeatureBits,
+    set: PartSet,
     size: u16,
     speeds: u16,
 ) -> Result<SpanList, NoMemory>
