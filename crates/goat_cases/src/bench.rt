@@ -6,6 +6,7 @@ use crate::desk::Desk;
 use crate::devices::Devices;
 use crate::machine::Loaded;
 use crate::patterns::{pack, unpack};
+use crate::readers::{read_psid, read_script, read_song};
 use crate::runs::run;
 use crate::steps::{count, generated};
 use case_text::{Wrong, first_word, words_of};
@@ -100,27 +101,46 @@ impl<'a, R: Files + AllocGlobal> Bench<'a, R> {
         }
     }
 
-    /// Takes a line that makes a run or a song; answers whether it is one.
-    fn take_run(&mut self, word: &str, rest: &str) -> Result<bool, Wrong> {
+    /// What comes of a line that asks something else than the program; none where it asks nothing.
+    fn asked(&mut self, word: &str, rest: &str) -> Result<Option<Answer>, Wrong> {
         let alloc = self.alloc;
+        let desk = &self.desk;
         let answer = match word {
-            "run" => {
-                let words = words_of(alloc, rest)?;
-                let answer = run(self.rt, &words, &mut self.desk, &self.devices)?;
-                self.devices = Devices::whole(alloc);
-                answer
-            }
-            "count" => count(alloc, &self.desk, rest)?,
-            "pack-pattern" => pack(alloc, &self.desk, rest)?,
-            "unpack-pattern" => unpack(alloc, &self.desk, rest)?,
+            "count" => count(alloc, desk, rest)?,
+            "pack-pattern" => pack(alloc, desk, rest)?,
+            "unpack-pattern" => unpack(alloc, desk, rest)?,
+            "read-song" => read_song(alloc, desk, rest)?,
+            "read-psid" => read_psid(alloc, desk, rest)?,
+            "read-script" => read_script(alloc, desk, rest)?,
             "calls" => self.machine()?.calls(alloc, rest)?,
             "plays" => self.machine()?.plays(alloc, rest)?,
-            "generated" => {
-                let (name, number) = first_word(rest);
-                self.desk.put(name, generated(alloc, number)?)?;
-                return Ok(true);
-            }
-            _ => return Ok(false),
+            _ => return Ok(None),
+        };
+        Ok(Some(answer))
+    }
+
+    /// The answer of the program to these words.
+    fn run(&mut self, rest: &str) -> Result<Answer, Wrong> {
+        let words = words_of(self.alloc, rest)?;
+        let answer = run(self.rt, &words, &mut self.desk, &self.devices)?;
+        self.devices = Devices::whole(self.alloc);
+        Ok(answer)
+    }
+
+    /// Takes a line that makes a run or a song; answers whether it is one.
+    fn take_run(&mut self, word: &str, rest: &str) -> Result<bool, Wrong> {
+        if word == "generated" {
+            let (name, number) = first_word(rest);
+            self.desk.put(name, generated(self.alloc, number)?)?;
+            return Ok(true);
+        }
+        let asked = if word == "run" {
+            Some(self.run(rest)?)
+        } else {
+            self.asked(word, rest)?
+        };
+        let Some(answer) = asked else {
+            return Ok(false);
         };
         self.take_answer(answer)?;
         Ok(true)

@@ -5,8 +5,8 @@
 //! own answer. `docs/cases.md` has the lines of such a file. Its words are the names of the files.
 //!
 //! It stands on `goat_cli` for the top call, on `goat_io` for folders and sinks, on `case_text` for lines, on `cpu6502`,
-//! `psid` and `sid_run` for the machine, on `song_gen` and `gts5` for songs that are made from numbers, and on
-//! `pattern_pack`, `packed_form` and `song_model` for patterns.
+//! `psid` and `sid_run` for the machine, on `song_gen` and `gts5` for songs that are made from numbers, on `pattern_pack`,
+//! `packed_form` and `song_model` for patterns, and on `edit_script` and `edit_history` for what their readers say.
 #![tactic(auto)]
 
 mod after;
@@ -18,6 +18,7 @@ mod machine;
 mod parts;
 mod patterns;
 mod poor;
+mod readers;
 mod report;
 mod runs;
 mod steps;

@@ -1,0 +1,62 @@
+//! What the readers of songs, PSID files and scripts say of a file by themselves.
+
+use crate::answer::Answer;
+use case_text::{Names, Wrong};
+use edit_history::Session;
+use edit_script::{MOST_BYTES as MOST_SCRIPT, RunFault, ScriptFault, parse, run};
+use gts5::{MOST_BYTES as MOST_SONG, SongFault};
+use psid::PsidFault;
+use song_model::Song;
+use std::alloc::Global;
+
+/// A line as the answer of a reader.
+fn told(alloc: Global, line: &str) -> Result<Answer, Wrong> {
+    let text = format!(in alloc; "{line}\n")?;
+    Answer::new(alloc, 0, text.as_bytes())
+}
+
+/// What the reader of songs says of a file.
+pub fn read_song<N: Names>(alloc: Global, names: &N, name: &str) -> Result<Answer, Wrong> {
+    let file = names.named(name).ok_or(Wrong::BadLine)?;
+    if file.len() > MOST_SONG {
+        return Err(Wrong::BadLine);
+    }
+    match gts5::read(alloc, file) {
+        Ok(_) => told(alloc, "a song"),
+        Err(SongFault::NoMemory) => Err(Wrong::NoMemory),
+        Err(fault) => told(alloc, &fault.to_string(alloc)?),
+    }
+}
+
+/// What the reader of PSID files says of a file.
+pub fn read_psid<N: Names>(alloc: Global, names: &N, name: &str) -> Result<Answer, Wrong> {
+    let file = names.named(name).ok_or(Wrong::BadLine)?;
+    match psid::read(alloc, file) {
+        Ok(_) => told(alloc, "a PSID file"),
+        Err(PsidFault::NoMemory) => Err(Wrong::NoMemory),
+        Err(fault) => told(alloc, &fault.to_string(alloc)?),
+    }
+}
+
+/// What the reader of scripts says of a file, or what is said of its commands in an empty song.
+pub fn read_script<N: Names>(alloc: Global, names: &N, name: &str) -> Result<Answer, Wrong> {
+    let file = names.named(name).ok_or(Wrong::BadLine)?;
+    if file.len() > MOST_SCRIPT {
+        return Err(Wrong::BadLine);
+    }
+    let script = match parse(alloc, file) {
+        Ok(script) => script,
+        Err(ScriptFault::NoMemory) => return Err(Wrong::NoMemory),
+        Err(fault) => return told(alloc, &fault.to_string(alloc)?),
+    };
+    let mut session = Session::new(alloc, Song::empty(alloc));
+    match run(&mut session, &script) {
+        Ok(()) => told(alloc, "done"),
+        Err(fault) => stopped(alloc, &fault),
+    }
+}
+
+/// What is said of a command that can't be done.
+fn stopped(alloc: Global, fault: &RunFault) -> Result<Answer, Wrong> {
+    told(alloc, &fault.to_string(alloc)?)
+}
