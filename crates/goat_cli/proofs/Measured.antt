@@ -11,7 +11,7 @@ use Rattle.song_model.specs.LookUp.{playable_subtunes}
 use Rattle.play_model.specs.Frame.{trace_with}
 use Rattle.play_model.specs.declared.options.Options.{Options}
 use Rattle.play_model.specs.State.{no_options, start_state}
-use Rattle.player_parts.specs.Places.{IsAddress}
+use Rattle.packed_form.specs.ImagePlaces.{IsAddress}
 use Rattle.image_build.specs.Lengths.{IsTooLarge}
 use Rattle.packed_form.specs.declared.packed_songs.PackedSong.{PackedSong}
 use Rattle.packing_rules.specs.UsedSets.{UsedSets}

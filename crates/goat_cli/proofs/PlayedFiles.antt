@@ -20,7 +20,7 @@ use Rattle.goat_io.specs.Files.{Files}
 use Rattle.goat_cli.specs.Words.{Run}
 use Rattle.goat_cli.specs.Calls.{HasSubtune, ReturnsTo, FirstCalls}
 use Rattle.faithful.specs.Faithful.{Leaves, PlaysOn, IsFaithful}
-use Rattle.player_parts.specs.Places.{IsAddress}
+use Rattle.packed_form.specs.ImagePlaces.{IsAddress}
 use Rattle.goat_cli.specs.Packed.{song_header, psid_file, caller_bits}
 use Rattle.goat_cli.specs.RegisterText.{register_lines}
 use Rattle.goat_cli.specs.Stages.{IsThere, Fits, IsPsid, OffersSubtune, CallsReturn, HoldsPsid, AllPass, input_limit}

@@ -8,7 +8,7 @@ use Rattle.song_model.specs.declared.songs.Song.{Song}
 use Rattle.song_model.specs.Limits.{KeepsLimits}
 use Rattle.song_model.specs.LookUp.{playable_subtunes}
 use Rattle.play_model.specs.declared.options.Options.{Options}
-use Rattle.player_parts.specs.Places.{IsAddress}
+use Rattle.packed_form.specs.ImagePlaces.{IsAddress}
 use Rattle.goat_cli.specs.Words.{Job, Run}
 use Rattle.goat_cli.specs.Stages.{AllPass, input_limit}
 use Rattle.goat_cli.specs.Jobs.{WordsOf, stages, Done}

@@ -24,7 +24,7 @@ use Rattle.goat_cli.specs.Outcome.{Outcome}
 use Rattle.goat_cli.specs.Due.{IsDue}
 use Rattle.goat_cli.specs.Stands.{ComesTo}
 use Rattle.goat_cli.specs.Traces.{first_traces}
-use Rattle.player_parts.specs.Places.{IsAddress}
+use Rattle.packed_form.specs.ImagePlaces.{IsAddress}
 use Rattle.goat_cli.specs.Packed.{IsImageLength, IsWrittenFile}
 use Rattle.goat_cli.specs.Answers.{IsPackedPsid}
 use Rattle.goat_cli.specs.declared.message.Piece.{Piece}

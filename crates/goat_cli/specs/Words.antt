@@ -6,7 +6,7 @@ use Rattle.hex.specs.Hex.{decode_sized}
 use Rattle.play_model.specs.declared.options.Options.{Options}
 use Rattle.play_model.specs.Speeds.{IsSpeed}
 use Rattle.play_model.specs.State.{no_options}
-use Rattle.player_parts.specs.Places.{IsAddress, IsZeroPage}
+use Rattle.packed_form.specs.ImagePlaces.{IsAddress, IsZeroPage}
 
 -- the words' bytes
 abbrev pub texts : List (String Global) → List (List ℕ)

@@ -3,7 +3,7 @@
 ghost use Rattle.std.specs.Prelude.{◌≡◌, ◌+◌, ◌≤◌, ◌<◌, length, IfOk};
 ghost use Rattle.song_model.specs.Limits.{KeepsLimits};
 ghost use Rattle.song_model.specs.LookUp.{playable_subtunes};
-ghost use Rattle.player_parts.specs.Places.{IsAddress};
+ghost use Rattle.packed_form.specs.ImagePlaces.{IsAddress};
 ghost use Rattle.goat_cli.specs.Packed.{packed_file, raw_file, psid_file, song_header, caller_bits};
 
 use image_build::Image;

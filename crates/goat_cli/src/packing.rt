@@ -7,7 +7,7 @@ ghost use Rattle.song_model.specs.Limits.{KeepsLimits};
 ghost use Rattle.goat_io.specs.Files.{Files};
 ghost use Rattle.play_model.specs.Playable.{IsPlayable};
 ghost use Rattle.usage.specs.Parts.{AreUsedParts};
-ghost use Rattle.player_parts.specs.Places.{IsAddress, IsZeroPage};
+ghost use Rattle.packed_form.specs.ImagePlaces.{IsAddress, IsZeroPage};
 ghost use Rattle.image_build.specs.Built.{IsBuild};
 ghost use Rattle.goat_cli.specs.Last.{last_of, Says};
 ghost use Rattle.goat_cli.specs.Lines.{too_large_line, image_too_large_line};

@@ -15,7 +15,7 @@ use Rattle.asm6502.specs.Lines.{is_kept, is_part_kept, item_size, kept, size_of,
 use Rattle.asm6502.specs.Parts.{part_size as bytes_in}
 use Rattle.asm6502.specs.Assembly.{assembled_bytes}
 use Rattle.lowering.specs.Lowered.{bit_kept}
-use Rattle.player_parts.specs.Places.{IsAddress, IsZeroPage}
+use Rattle.packed_form.specs.ImagePlaces.{IsAddress, IsZeroPage}
 use Rattle.player_parts.specs.declared.place.Place.{Place}
 use Rattle.player_seq.specs.PackedLimits.{KeepsPatternLimits}
 use Rattle.image_lists.specs.DataLists.{HasLines}

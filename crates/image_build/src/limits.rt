@@ -2,7 +2,7 @@
 
 ghost use Rattle.std.specs.Prelude.{◌^◌, ◌<◌, All};
 ghost use Rattle.play_model.specs.Speeds.{IsSpeed};
-ghost use Rattle.player_parts.specs.Places.{IsAddress, IsZeroPage};
+ghost use Rattle.packed_form.specs.ImagePlaces.{IsAddress, IsZeroPage};
 ghost use Rattle.base.specs.Bytes.{AreBytes};
 ghost use Rattle.player_seq.specs.PackedLimits.{IsShortPattern, KeepsPatternLimits};
 ghost use Rattle.image_lists.specs.ListLaws.{KeepsCounts};

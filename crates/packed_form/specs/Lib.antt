@@ -4,16 +4,18 @@ pub mod PackedSpells
 pub mod Normal
 pub mod PackedText
 pub mod Faults
--- To believe: the size of a packed song, and the bound of its player's code.
+-- To believe: the size of a packed song, the bound of its player's code, and where its image may stand.
 pub mod Sizes
 pub mod CodeBounds
+pub mod ImagePlaces
 -- To believe: a packed song read as a song, and when it stands for a song.
 pub mod Unpacked
 pub mod StandsFor
 -- To believe: how many bytes of an orderlist are passed on the way to a pattern.
 pub mod WalkCount
--- Claimed: laws of these, and bounds, packed songs and ways worked out by hand.
+-- Claimed: laws of these, and bounds, places, packed songs and ways worked out by hand.
 pub mod WalkLaws
 pub mod WorkedBounds
+pub mod WorkedPlaces
 pub mod WorkedUnpacked
 pub mod WorkedWalks

@@ -2,6 +2,7 @@
 
 ghost use Rattle.packed_form.specs.WalkLaws.{WalksEnd, WalkCountsAreBytes, EndmarksCount, PlainWalksAreTwo};
 ghost use Rattle.packed_form.specs.WorkedBounds.{CodeBoundsAre, MostSizeIs};
+ghost use Rattle.packed_form.specs.WorkedPlaces.{EdgesAreWorked};
 ghost use Rattle.packed_form.specs.WorkedUnpacked.{OrdersAreUnpacked, PatternsAreUnpacked, PackedNotesAreUnpacked};
 ghost use Rattle.packed_form.specs.WorkedWalks.{PatternsAlone, TransposesArePassed, RepeatsArePassed, RunsArePassed, SubtunesAreCompared, EndsAreCounted};
 
@@ -9,6 +10,11 @@ ghost use Rattle.packed_form.specs.WorkedWalks.{PatternsAlone, TransposesArePass
 pub fn worked_bounds()
     ensures code { CodeBoundsAre }
     ensures size { MostSizeIs }
+{}
+
+/// The edges of where an image may stand.
+pub fn worked_places()
+    ensures { EdgesAreWorked }
 {}
 
 /// Orderlists and patterns, unpacked.

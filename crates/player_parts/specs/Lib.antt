@@ -9,15 +9,12 @@ pub mod PlayerLists
 pub mod PlayerLayouts
 pub mod Holds
 pub mod Elsewhere
--- To believe: where an image may stand.
-pub mod Places
 -- To believe: what a part is.
 pub mod Parts
 -- Claimed: a memory finds what the packed song has, and holds one state.
 pub mod MemoryLooks
 pub mod HoldsLaws
--- Claimed: edges and labels that are worked by hand.
-pub mod WorkedPlaces
+-- Claimed: labels that are worked by hand.
 pub mod WorkedLabels
 -- Inner: the law of a part that is kept or not.
 pub mod PartLaws

@@ -2,7 +2,6 @@
 
 ghost use Rattle.player_parts.specs.HoldsLaws.{MemoriesHoldOneState};
 ghost use Rattle.player_parts.specs.MemoryLooks.{MemoriesFindTheSame};
-ghost use Rattle.player_parts.specs.WorkedPlaces.{EdgesAreWorked};
 ghost use Rattle.player_parts.specs.WorkedLabels.{LabelsAreWorked};
 
 /// A memory that has the lists, read as look-ups, finds each instrument and each row that the packed song has.
@@ -13,11 +12,6 @@ pub fn memories_find_the_same()
 /// A memory tells each field of the state that it holds, but for the plays and rows of the voices.
 pub fn memories_hold_one_state()
     ensures { MemoriesHoldOneState }
-{}
-
-/// The edges of where an image may stand.
-pub fn worked_places()
-    ensures { EdgesAreWorked }
 {}
 
 /// The labels of the voices' bytes and of the others, and that there is no other and none twice.

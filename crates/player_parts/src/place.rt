@@ -1,7 +1,7 @@
 //! Where the player's image stands.
 
 ghost use Rattle.std.specs.Prelude.{◌≡◌, ◌↔◌, IfOk, IsErrOf};
-ghost use Rattle.player_parts.specs.Places.{IsAddress, IsZeroPage};
+ghost use Rattle.packed_form.specs.ImagePlaces.{IsAddress, IsZeroPage};
 
 /// Why an image may not stand there.
 #[derive(Clone, Copy, Debug, PartialEq, Eq)]

@@ -2,7 +2,7 @@
 
 ghost use Rattle.std.specs.Prelude.{◌≡◌, ◌∷◌, codes, Bool, IfOk, OnErr, List, ℕ};
 ghost use Rattle.play_model.specs.declared.options.Options.{Options as Chosen};
-ghost use Rattle.player_parts.specs.Places.{IsAddress, IsZeroPage};
+ghost use Rattle.packed_form.specs.ImagePlaces.{IsAddress, IsZeroPage};
 ghost use Rattle.goat_cli.specs.Job.{job_of};
 ghost use Rattle.goat_cli.specs.Last.{last_word};
 ghost use Rattle.goat_cli.specs.Stands.{folder_state, SinkState};

@@ -10,7 +10,7 @@ use Rattle.asm6502.specs.Lines.{kept, size_of, data_size}
 use Rattle.asm6502.specs.Assembly.{assembled_bytes}
 use Rattle.asm6502.specs.Faults.{fault_of}
 use Rattle.player_parts.specs.declared.place.Place.{Place}
-use Rattle.player_parts.specs.Places.{IsAddress, IsZeroPage}
+use Rattle.packed_form.specs.ImagePlaces.{IsAddress, IsZeroPage}
 use Rattle.player_seq.specs.PackedLimits.{KeepsPatternLimits}
 use Rattle.image_lists.specs.DataLists.{HasLines}
 use Rattle.image_lists.specs.ListLaws.{KeepsCounts}

@@ -1,5 +1,5 @@
 -- Places at the edges of what is allowed.
-use Rattle.player_parts.specs.Places.{IsAddress, IsZeroPage}
+use Rattle.packed_form.specs.ImagePlaces.{IsAddress, IsZeroPage}
 
 -- from $0800 to $CF00 by whole pages, and from $02 to $FE
 pub record EdgesAreWorked : Type 0 where

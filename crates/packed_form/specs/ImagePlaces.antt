@@ -1,4 +1,5 @@
--- Where the player's image may stand, and which bytes of page 0 it may have. This is the project's own player.
+-- Where the image of a packed song may stand, and which bytes of page 0 its player may have. This is the project's own
+-- player.
 use Rattle.std.specs.Prelude.{◌≡◌, ℕ, ◌%◌, ◌≤◌}
 
 -- a multiple of 256 from $0800 to $CF00
