@@ -13,9 +13,5 @@ pub mod Steps
 pub mod Running
 pub mod Turns
 pub mod Frames
--- What frames of small songs use, decided by tests and computed.
-pub mod CaseTests
-pub mod EffectTests
-pub mod AskTests
-pub mod FrameTests
+-- What frames of small songs use, and what they don't.
 pub mod WorkedCases

@@ -25,7 +25,7 @@ pub fn safe_within()
     ensures { SafeWithin }
 {}
 
-/// What frames of small songs use: each feature where its case comes first, and none besides.
+/// What frames of small songs use where a case comes first, and what others that are close to it don't.
 #[tactic(auto, using(crate::proofs::WorkedCases::cases_are_as_worked_lem))]
 pub fn worked_cases()
     ensures { CasesAreAsWorked }
