@@ -4,11 +4,20 @@ use crate::desk::Desk;
 use case_text::{Names, Wrong, bytes_of, first_word, has_sum, number_of};
 use std::alloc::Global;
 
+/// The bytes that a line spells, one at least.
+pub fn some_bytes<N: Names>(alloc: Global, names: &N, text: &str) -> Result<Vec<u8>, Wrong> {
+    let bytes = bytes_of(alloc, names, text)?;
+    if bytes.is_empty() {
+        return Err(Wrong::BadLine);
+    }
+    Ok(bytes)
+}
+
 /// Whether the file has these bytes from an offset on.
 fn has_at(alloc: Global, desk: &Desk, file: &[u8], rest: &str) -> Result<bool, Wrong> {
     let (offset, rest) = first_word(rest);
     let place = number_of(offset)? as usize;
-    let bytes = bytes_of(alloc, desk, rest)?;
+    let bytes = some_bytes(alloc, desk, rest)?;
     Ok(file.get(place..).unwrap_or(&[]).starts_with(&bytes))
 }
 
@@ -31,8 +40,8 @@ pub fn is_as_said(
     };
     let is_so = match word {
         "wrote" => file == bytes_of(alloc, desk, rest)?.as_slice(),
-        "begins" => file.starts_with(&bytes_of(alloc, desk, rest)?),
-        "closes" => file.ends_with(&bytes_of(alloc, desk, rest)?),
+        "begins" => file.starts_with(&some_bytes(alloc, desk, rest)?),
+        "closes" => file.ends_with(&some_bytes(alloc, desk, rest)?),
         "holds" => has_at(alloc, desk, file, rest)?,
         "size" => file.len() == number_of(rest)? as usize,
         "most" => file.len() <= number_of(rest)? as usize,

@@ -147,12 +147,13 @@ impl Answer {
     }
 }
 
-/// The text of the case's run that has this number, from 1 on.
+/// The text of the earlier run of the case that has this number, from 1 on. The last of the texts is the run's own.
 fn text_of<'a>(texts: &'a [Vec<u8>], number: &str) -> Result<&'a [u8], Wrong> {
-    let place = number_of(number)?.checked_sub(1).ok_or(Wrong::BadLine)?;
-    match texts.get(place as usize) {
-        Some(text) => Ok(text.as_slice()),
-        None => Err(Wrong::BadLine),
+    let number = number_of(number)? as usize;
+    let place = number.checked_sub(1).ok_or(Wrong::BadLine)?;
+    match texts.get(place) {
+        Some(text) if number < texts.len() => Ok(text.as_slice()),
+        _ => Err(Wrong::BadLine),
     }
 }
 

@@ -60,8 +60,11 @@ impl<'a, R: Files + AllocGlobal> Bench<'a, R> {
         Ok(())
     }
 
-    /// Ends a case: it has a run, and all that its last run answered has been named.
+    /// Ends a case: it has a run, all that its last run answered has been named, and nothing is said to fail after it.
     pub fn end_case(&self) -> Result<(), Wrong> {
+        if !self.devices.is_whole() {
+            return Err(Wrong::Differs("no run after what fails"));
+        }
         match &self.answer {
             Some(answer) => answer.end(),
             None => Err(Wrong::Differs("no run")),

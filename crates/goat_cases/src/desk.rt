@@ -91,7 +91,11 @@ impl Desk {
             "set" => self.with_set(name, rest)?,
             "cut" => {
                 let mut bytes = self.file(name)?;
-                bytes.truncate(number_of(rest)? as usize);
+                let length = number_of(rest)? as usize;
+                if length > bytes.len() {
+                    return Err(Wrong::BadLine);
+                }
+                bytes.truncate(length);
                 bytes
             }
             _ => self.with_line(name, rest)?,

@@ -47,6 +47,11 @@ impl Devices {
         }
     }
 
+    /// Whether nothing fails.
+    pub fn is_whole(&self) -> bool {
+        self.calls.is_empty() && self.puts.is_empty() && matches!(self.place, Place::Memory)
+    }
+
     /// Takes a line that says what fails; answers whether it is one.
     pub fn take(&mut self, alloc: Global, word: &str, rest: &str) -> Result<bool, Wrong> {
         match (word, rest) {

@@ -1,5 +1,6 @@
 //! An image in a machine of its own, and its calls.
 
+use crate::after::some_bytes;
 use crate::answer::Answer;
 use case_text::{Names, Wrong, bytes_of, first_word, number_of};
 use cpu6502::{Cpu, Machine, Memory, WriteLog};
@@ -157,7 +158,7 @@ impl Loaded {
     pub fn holds<N: Names>(&self, alloc: Global, names: &N, rest: &str) -> Result<bool, Wrong> {
         let (address, rest) = first_word(rest);
         let mut place = address_of(address)?;
-        for byte in bytes_of(alloc, names, rest)? {
+        for byte in some_bytes(alloc, names, rest)? {
             if self.machine.memory.read(place) != byte {
                 return Ok(false);
             }

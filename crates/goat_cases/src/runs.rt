@@ -70,6 +70,20 @@ fn names_of(alloc: Global, words: &[String], desk: &Desk) -> Result<Vec<String>,
     Ok(names)
 }
 
+/// Takes over what a run with these words changed.
+fn take_over_all(
+    alloc: Global,
+    words: &[String],
+    folder: &MemFolder,
+    desk: &mut Desk,
+    answer: &mut Answer,
+) -> Result<(), Wrong> {
+    for name in names_of(alloc, words, desk)? {
+        take_over(alloc, &name, folder, desk, answer)?;
+    }
+    Ok(())
+}
+
 /// A run over files in memory.
 fn run_in_memory(
     alloc: Global,
@@ -79,9 +93,22 @@ fn run_in_memory(
 ) -> Result<Answer, Wrong> {
     let mut folder = folder_of(alloc, desk, &devices.calls)?;
     let mut answer = answered(alloc, words, &mut folder, &devices.puts)?;
-    for name in names_of(alloc, words, desk)? {
-        take_over(alloc, &name, &folder, desk, &mut answer)?;
-    }
+    take_over_all(alloc, words, &folder, desk, &mut answer)?;
+    Ok(answer)
+}
+
+/// A run over files in memory that finds no memory for writes, and for reads or not.
+fn run_in_want(
+    alloc: Global,
+    words: &[String],
+    desk: &mut Desk,
+    devices: &Devices,
+    reads: bool,
+) -> Result<Answer, Wrong> {
+    let files = folder_of(alloc, desk, &devices.calls)?;
+    let mut folder = PoorFolder { files, reads };
+    let mut answer = answered(alloc, words, &mut folder, &devices.puts)?;
+    take_over_all(alloc, words, &folder.files, desk, &mut answer)?;
     Ok(answer)
 }
 
@@ -95,11 +122,7 @@ pub fn run<R: Files + AllocGlobal>(
     let alloc = rt.alloc();
     match devices.place {
         Place::Memory => run_in_memory(alloc, words, desk, devices),
-        Place::Poor { reads } => {
-            let files = folder_of(alloc, desk, &devices.calls)?;
-            let mut folder = PoorFolder { files, reads };
-            answered(alloc, words, &mut folder, &devices.puts)
-        }
+        Place::Poor { reads } => run_in_want(alloc, words, desk, devices, reads),
         Place::Disk => answered(alloc, words, &mut DiskFolder::new(rt), &devices.puts),
     }
 }
