@@ -1,8 +1,7 @@
 -- Calls of an image that may begin in any machine that has its bytes.
-use Rattle.std.proofs.Common.{◌≡◌, ℕ, ◌+◌, ◌%◌, [], ◌∷◌, length, refl, sym, ◌∙◌}
+use Rattle.std.proofs.Common.{◌+◌, ◌%◌, [], ◌∷◌, length, refl, sym, ◌∙◌}
 use Rattle.std.proofs.lemmas.List.Elements.{All-contains}
 use Rattle.cpu6502.specs.declared.effect.Write.{Write}
-use Rattle.cpu6502.specs.declared.machine.Machine.{Machine}
 use Rattle.cpu6502.specs.Call.{entered, writes_in}
 use Rattle.faithful.specs.Confined.{IsOwnPlace}
 use Rattle.faithful.specs.Histories.{Init, Play, entry_of, LeadTo}

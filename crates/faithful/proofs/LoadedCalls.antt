@@ -1,13 +1,12 @@
 -- Calls of images that are loaded into zeros, run by computing.
 use Rattle.std.specs.Prelude.{◌&&◌, ◌==◌, not, nat_lt}
-use Rattle.std.specs.List.{list_all}
-use Rattle.std.proofs.Common.{◌≡◌, ◌≢◌, ℕ, zero, suc, ◌+◌, ◌<◌, ◌≤◌, Bool, true, false, List, [], ◌∷◌, length, All, Result, Ok, Err, replicate, refl, sym, ap, subst, ◌∙◌, arith}
+use Rattle.std.proofs.Common.{◌≡◌, ◌≢◌, ℕ, zero, suc, ◌+◌, ◌<◌, ◌≤◌, Bool, true, false, List, [], ◌∷◌, length, All, Result, Ok, Err, refl, subst, arith}
 use Rattle.std.proofs.lemmas.Bool.Decides.{nat_tests}
 use Rattle.std.proofs.lemmas.List.Elements.{All-nil, All-cons}
 use Rattle.cpu6502.specs.declared.machine.Machine.{Machine}
 use Rattle.cpu6502.specs.declared.stop.Stop.{Stop}
 use Rattle.cpu6502.specs.Step.{step}
-use Rattle.cpu6502.specs.Call.{after_step, run, entered, HasReturned, IsOutFor, Called}
+use Rattle.cpu6502.specs.Call.{after_step, run, entered, Called}
 use Rattle.cpu6502.specs.Code.{IsMachine, Holds}
 use Rattle.cpu6502.proofs.Laws.{called_once}
 use Rattle.psid.specs.declared.header.Psid.{Psid}

@@ -1,5 +1,5 @@
 -- Small images that play no song: their calls are run by computing, and leave what they may not.
-use Rattle.std.proofs.Common.{◌≡◌, ◌≢◌, ℕ, ◌+◌, ◌<◌, ◌≤◌, true, false, Bool, List, [], ◌∷◌, ◌++◌, length, Contains, slice_index, lit<, lit≤, inl, inr, refl, sym, ap, ◌∙◌, subst, length-set, arith}
+use Rattle.std.proofs.Common.{◌≡◌, ◌≢◌, ℕ, ◌+◌, ◌<◌, ◌≤◌, true, false, List, [], ◌∷◌, ◌++◌, length, Contains, slice_index, lit<, lit≤, refl, sym, ap, ◌∙◌, subst, length-set, arith}
 use Rattle.std.proofs.lemmas.List.{get_or-set_other}
 use Rattle.std.proofs.lemmas.List.Elements.{All-set}
 use Rattle.song_model.specs.declared.songs.Song.{Song}
@@ -15,13 +15,12 @@ use Rattle.play_model.specs.EffectStep.{effect_step}
 use Rattle.play_model.specs.PulseStep.{pulse_step}
 use Rattle.play_model.specs.FetchRow.{fetch_row}
 use Rattle.play_model.specs.Frame.{voice_step, voice_registers, filter_registers, frame_of, state_after_with, trace_with}
-use Rattle.cpu6502.specs.declared.effect.Write.{Write}
 use Rattle.cpu6502.specs.declared.machine.Machine.{Machine}
-use Rattle.cpu6502.specs.Code.{IsMachine, Holds}
-use Rattle.cpu6502.specs.Call.{Called, entered, writes_in}
+use Rattle.cpu6502.specs.Code.{IsMachine}
+use Rattle.cpu6502.specs.Call.{entered, writes_in}
 use Rattle.cpu6502.proofs.Laws.{call_keeps, called_once}
 use Rattle.sid_run.specs.State.{loaded_memory, sid_registers}
-use Rattle.faithful.specs.Confined.{IsOwnPlace, memory_at_entry}
+use Rattle.faithful.specs.Confined.{memory_at_entry}
 use Rattle.faithful.specs.Faithful.{Leaves, AgreesOn, LeavesAndGoesOn}
 use Rattle.faithful.specs.Histories.{Init, PlaysAlways}
 use Rattle.faithful.specs.Isolation.{EndAlike, IsIsolated}

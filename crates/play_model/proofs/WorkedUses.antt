@@ -1,22 +1,19 @@
 -- What a small song uses, and which songs can be played, worked out by hand.
-use Rattle.std.proofs.Common.{◌≡◌, ◌≢◌, ℕ, zero, suc, ◌<◌, ◌↔◌, true, false, List, [], ◌∷◌, length, All, Contains, Some, None, slice_get, lit<, lit≤, inl, inr, refl, sym, ◌∙◌, subst, arith}
+use Rattle.std.proofs.Common.{◌≡◌, ◌≢◌, ℕ, zero, suc, ◌<◌, true, false, List, [], ◌∷◌, length, All, Contains, Some, None, slice_get, lit<, lit≤, inl, inr, refl, sym, ◌∙◌, subst, arith}
 use Rattle.std.proofs.lemmas.List.Elements.{All-cons, All-nil}
 use Rattle.base.proofs.Laws.{same_some}
 use Rattle.song_model.specs.declared.rows.Row.{Row}
-use Rattle.song_model.specs.declared.features.Feature.TheVariants.{PortaUp, PortaDown, PulseTable, FilterTable, SetTempo, WaveTable, WaveCommand}
+use Rattle.song_model.specs.declared.features.Feature.TheVariants.{PortaUp, FilterTable}
 use Rattle.song_model.specs.declared.instruments.Instrument.{Instrument}
 use Rattle.song_model.specs.declared.tables.TableName.{TableName}
 use Rattle.song_model.specs.declared.tables.TableName.TheVariants.{Wave, Pulse, Filter, Speed}
 use Rattle.song_model.specs.declared.tables.TableRow.{TableRow}
-use Rattle.song_model.specs.declared.songs.Song.{Song}
-use Rattle.song_model.specs.LookUp.{zero_instrument, instrument_at, table_row, table_of}
-use Rattle.song_model.specs.Pointers.{instrument_pointer}
+use Rattle.song_model.specs.LookUp.{instrument_at, table_row, table_of}
 use Rattle.song_model.specs.Silence.{silence, rest_row, order_of_zero}
 use Rattle.song_model.specs.Silent.{IsSilentRow, IsSilentOrder, IsSilentSubtune}
-use Rattle.play_model.specs.declared.unplayable.Unplayable.{Unplayable}
-use Rattle.play_model.specs.Reached.{is_jump, led_to, IsPlayedPointer, of_instrument, of_row, IsWaveRowPointer, IsReached, played, pointed, led, IsPointer, of_played, of_wave_row}
+use Rattle.play_model.specs.Reached.{is_jump, led_to, IsPlayedPointer, of_instrument, IsWaveRowPointer, IsReached, played, pointed, led, IsPointer, of_played, of_wave_row}
 use Rattle.play_model.specs.Playable.{RunsOff, IsJumpTarget, PointsAtJump, IsPlayable}
-use Rattle.play_model.specs.Features.{HasRow, HasWaveRow, HasFeature}
+use Rattle.play_model.specs.Features.{HasRow, HasFeature}
 use Rattle.play_model.specs.WorkedUses.{with_programs, looping_song, UsesAreAsWorked}
 use Rattle.play_model.proofs.ReachedRows.{no_wave_pointer}
 use Rattle.play_model.proofs.SilentSongs.{PlaysRests, used_is_silent, pointer_is, tables_alone, silent_songs_can_be_played_lem}

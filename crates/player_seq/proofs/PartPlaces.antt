@@ -1,6 +1,6 @@
 -- The entries to which a walk comes, and the places at which it comes to its parts.
 use Rattle.std.specs.Prelude.{slice_index}
-use Rattle.std.proofs.Common.{◌≡◌, ℕ, suc, ◌+◌, ◌-◌, ◌*◌, ◌<◌, ◌≤◌, ◌==◌, [], ◌∷◌, ◌++◌, length, get_or, Contains, refl, sym, ap, ◌∙◌, subst, arith, length-append}
+use Rattle.std.proofs.Common.{◌≡◌, ℕ, ◌+◌, ◌*◌, ◌<◌, ◌==◌, [], ◌∷◌, length, get_or, refl, sym, ap, ◌∙◌, subst, arith, length-append}
 use Rattle.std.proofs.lemmas.Bool.{cond_both}
 use Rattle.std.proofs.lemmas.List.{get_or_append_left}
 use Rattle.std.proofs.lemmas.List.Elements.{Contains-get_or, All-from_get_or}
@@ -14,7 +14,7 @@ use Rattle.play_model.specs.Uses.{HasOrderByte}
 use Rattle.packed_form.specs.declared.packed_songs.PackedSong.{PackedSong}
 use Rattle.packed_form.specs.StandsFor.{StandsFor}
 use Rattle.packed_form.specs.Unpacked.{unpacked_song}
-use Rattle.blocks.specs.Desk.{Desk, Layout}
+use Rattle.blocks.specs.Desk.{Layout}
 use Rattle.blocks.specs.Steps.{byte_place}
 use Rattle.player_parts.specs.declared.labels.TheConstants.{REPEAT, ORDERS}
 use Rattle.player_parts.specs.Holds.{own_bytes, OrderPlaceStands, Fetching, Begins, GoesOn}
@@ -24,7 +24,7 @@ use Rattle.player_parts.specs.PlayerLists.{OrderBytes, order_bytes, HasLists}
 use Rattle.player_parts.proofs.Laws.{list_stands, held_voice}
 use Rattle.player_seq.specs.Parts.{visit_order, IsPassedEntry, EntriesAreComeTo}
 use Rattle.player_seq.specs.PartLaws.{transposes_unused, repeats_unused, transposes_leave, repeats_leave, plays_leave}
-use Rattle.player_seq.specs.PartPlaces.{IsVisited, IsAtEntry, EntriesArePointedAt, EntriesAreHeld, RepeatsAreSet, UnusedPartsLeave}
+use Rattle.player_seq.specs.PartPlaces.{EntriesArePointedAt, EntriesAreHeld, RepeatsAreSet, UnusedPartsLeave}
 use Rattle.player_seq.proofs.Orders.{voice_order}
 use Rattle.player_seq.proofs.Repeats.{OfByte, repeat_fine}
 
