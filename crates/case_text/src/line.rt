@@ -12,7 +12,7 @@ pub fn first_word(line: &str) -> (&str, &str) {
 ///
 /// # Errors
 ///
-/// Out of memory.
+/// A quotation mark is left open; or out of memory.
 pub fn words_of(alloc: Global, text: &str) -> Result<Vec<String>, Wrong> {
     let mut words = Vec::new(alloc);
     let mut is_quoted = false;
@@ -23,6 +23,10 @@ pub fn words_of(alloc: Global, text: &str) -> Result<Vec<String>, Wrong> {
             add_words(alloc, &mut words, part)?;
         }
         is_quoted = !is_quoted;
+    }
+    // What stands behind the last mark isn't quoted.
+    if !is_quoted {
+        return Err(Wrong::BadLine);
     }
     Ok(words)
 }
@@ -41,8 +45,9 @@ fn add_words(alloc: Global, words: &mut Vec<String>, text: &str) -> Result<(), W
 ///
 /// The text is no such number, or the number is above 4,294,967,295.
 pub fn number_of(text: &str) -> Result<u32, Wrong> {
+    let is_digits = text.bytes().all(|byte| byte.is_ascii_digit());
     match text.parse::<u32>() {
-        Ok(number) => Ok(number),
-        Err(_) => Err(Wrong::BadLine),
+        Ok(number) if is_digits => Ok(number),
+        _ => Err(Wrong::BadLine),
     }
 }

@@ -21,6 +21,15 @@ fn has_at(alloc: Global, desk: &Desk, file: &[u8], rest: &str) -> Result<bool, W
     Ok(file.get(place..).unwrap_or(&[]).starts_with(&bytes))
 }
 
+/// The bytes that must stand in a file. The line may not speak of the file itself.
+fn other_bytes(alloc: Global, desk: &Desk, name: &str, rest: &str) -> Result<Vec<u8>, Wrong> {
+    let is_own = |word: &str| word.strip_prefix('@') == Some(name);
+    if rest.split_whitespace().any(is_own) {
+        return Err(Wrong::BadLine);
+    }
+    bytes_of(alloc, desk, rest)
+}
+
 /// Whether the file is as a line says that begins with this word; none where no line does.
 pub fn is_as_said(
     alloc: Global,
@@ -29,23 +38,17 @@ pub fn is_as_said(
     name: &str,
     rest: &str,
 ) -> Result<Option<bool>, Wrong> {
-    if !matches!(
-        word,
-        "wrote" | "begins" | "closes" | "holds" | "size" | "most" | "digest"
-    ) {
-        return Ok(None);
-    }
-    let Some(file) = desk.named(name) else {
-        return Ok(Some(false));
-    };
+    let found = desk.named(name);
+    let file = found.unwrap_or(&[]);
     let is_so = match word {
-        "wrote" => file == bytes_of(alloc, desk, rest)?.as_slice(),
+        "wrote" => file == other_bytes(alloc, desk, name, rest)?.as_slice(),
         "begins" => file.starts_with(&some_bytes(alloc, desk, rest)?),
         "closes" => file.ends_with(&some_bytes(alloc, desk, rest)?),
         "holds" => has_at(alloc, desk, file, rest)?,
         "size" => file.len() == number_of(rest)? as usize,
         "most" => file.len() <= number_of(rest)? as usize,
-        _ => has_sum(alloc, file, rest)?,
+        "digest" => has_sum(alloc, file, rest)?,
+        _ => return Ok(None),
     };
-    Ok(Some(is_so))
+    Ok(Some(found.is_some() && is_so))
 }

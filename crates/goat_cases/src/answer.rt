@@ -2,14 +2,14 @@
 
 ghost use Rattle.std.specs.Prelude.{◌↔◌, IsOk, IsTrue};
 
-use case_text::{Wrong, add_bytes, first_word, has_sum, number_of};
+use case_text::{Wrong, first_word, has_sum, number_of};
 use std::alloc::Global;
 
 /// A line of registers: six digits of the call's number and a space, 50 digits, and a line feed.
 const LINE: usize = 58;
 
-/// What stands in it before the registers.
-const NUMBER: usize = 7;
+/// The digits of its registers.
+const DIGITS: usize = 50;
 
 /// What a run answered, and what has been named of it.
 #[derive(Drop)]
@@ -45,6 +45,17 @@ impl Answer {
             has_status: false,
             changes: Vec::new(alloc),
         })
+    }
+
+    /// A line as the text of a run that ends with 0.
+    pub fn line(alloc: Global, line: &str) -> Result<Answer, Wrong> {
+        let text = format!(in alloc; "{line}\n")?;
+        Answer::new(alloc, 0, text.as_bytes())
+    }
+
+    /// Whether a read or a write failed, or a put.
+    pub fn tells_failure(&self) -> bool {
+        matches!(self.status, 4 | 9 | 10)
     }
 
     /// The text.
@@ -114,11 +125,15 @@ impl Answer {
             Some((at, digits)) => (number_of(at)? as usize, digits),
             None => (0, rest),
         };
-        let mut spelled = Vec::new(alloc);
-        add_bytes(alloc, digits, 1, &mut spelled)?;
-        let line = (number_of(call)? as usize).saturating_mul(LINE);
-        let first = line.saturating_add(NUMBER).saturating_add(at);
-        let shown = self.text.get(first..).unwrap_or(&[]);
+        let call = number_of(call)?;
+        if digits.is_empty() || at.saturating_add(digits.len()) > DIGITS {
+            return Err(Wrong::BadLine);
+        }
+        let number = format!(in alloc; "{call:06} ")?;
+        let first = (call as usize).saturating_mul(LINE);
+        let line = self.text.get(first..).unwrap_or(&[]);
+        let registers = line.strip_prefix(number.as_bytes()).unwrap_or(&[]);
+        let shown = registers.get(at..).unwrap_or(&[]);
         holds(shown.starts_with(digits.as_bytes()), "other registers")
     }
 
@@ -136,6 +151,7 @@ impl Answer {
             "half" => text == half_of(text_of(texts, rest)?),
             "sum" => has_sum(alloc, text, rest)?,
             "length" => text.len() == number_of(rest)? as usize,
+            "ends" if rest.is_empty() => return Err(Wrong::BadLine),
             "ends" => text
                 .strip_suffix(b"\n")
                 .is_some_and(|lines| lines.ends_with(rest.as_bytes())),

@@ -23,7 +23,7 @@ pub struct Bench<'a, R> {
     desk: Desk,
     devices: Devices,
     machine: Option<Loaded>,
-    /// What the last run answered.
+    /// What the last run answered, up to the line that changes something after it.
     answer: Option<Answer>,
     /// The texts of the case's runs.
     texts: Vec<Vec<u8>>,
@@ -60,40 +60,63 @@ impl<'a, R: Files + AllocGlobal> Bench<'a, R> {
         Ok(())
     }
 
-    /// Ends a case: it has a run, all that its last run answered has been named, and nothing is said to fail after it.
-    pub fn end_case(&self) -> Result<(), Wrong> {
-        if !self.devices.is_whole() {
-            return Err(Wrong::Differs("no run after what fails"));
-        }
-        match &self.answer {
+    /// Ends what is said of the last run, all of which has to have been named.
+    fn settle(&mut self) -> Result<(), Wrong> {
+        match self.answer.take() {
             Some(answer) => answer.end(),
-            None => Err(Wrong::Differs("no run")),
+            None => Ok(()),
         }
     }
 
-    /// Takes what a run answered, in place of the one before, of which all has to have been named.
-    fn take_answer(&mut self, answer: Answer) -> Result<(), Wrong> {
-        if let Some(last) = &self.answer {
-            last.end()?;
+    /// Ends a case: it has a run, all that its last run answered has been named, and nothing is said to fail after it.
+    pub fn end_case(&mut self) -> Result<(), Wrong> {
+        self.settle()?;
+        if self.texts.is_empty() {
+            return Err(Wrong::Differs("no run"));
         }
-        self.texts.push(answer.text().to_vec(self.alloc)?)?;
-        self.answer = Some(answer);
+        if !self.devices.is_whole() {
+            return Err(Wrong::Differs("no run after what fails"));
+        }
         Ok(())
+    }
+
+    /// Takes a line before the first case, which puts or changes a file.
+    pub fn take_common(&mut self, word: &str, rest: &str) -> Result<(), Wrong> {
+        if self.take_file(word, rest)? {
+            Ok(())
+        } else {
+            Err(Wrong::BadLine)
+        }
     }
 
     /// Takes a line of a case.
     pub fn take(&mut self, word: &str, rest: &str) -> Result<(), Wrong> {
-        let is_taken = self.desk.take(word, rest)?
+        if self.take_answered(word, rest)? || self.take_after(word, rest)? {
+            return Ok(());
+        }
+        if self.take_told(word, rest)? {
+            return Ok(());
+        }
+        self.settle()?;
+        let is_taken = self.take_file(word, rest)?
             || self.devices.take(self.alloc, word, rest)?
             || self.take_run(word, rest)?
-            || self.take_answered(word, rest)?
-            || self.take_after(word, rest)?
-            || self.take_of_machine(word, rest)?;
+            || self.take_load(word, rest)?;
         if is_taken {
             Ok(())
         } else {
             Err(Wrong::BadLine)
         }
+    }
+
+    /// Takes a line that puts or changes a file; answers whether it is one.
+    fn take_file(&mut self, word: &str, rest: &str) -> Result<bool, Wrong> {
+        if word == "generated" {
+            let (name, number) = first_word(rest);
+            self.desk.put(name, generated(self.alloc, number)?)?;
+            return Ok(true);
+        }
+        self.desk.take(word, rest)
     }
 
     /// The loaded machine.
@@ -126,17 +149,15 @@ impl<'a, R: Files + AllocGlobal> Bench<'a, R> {
     fn run(&mut self, rest: &str) -> Result<Answer, Wrong> {
         let words = words_of(self.alloc, rest)?;
         let answer = run(self.rt, &words, &mut self.desk, &self.devices)?;
+        if self.devices.lists_failures() && !answer.tells_failure() {
+            return Err(Wrong::Differs("nothing failed"));
+        }
         self.devices = Devices::whole(self.alloc);
         Ok(answer)
     }
 
-    /// Takes a line that makes a run or a song; answers whether it is one.
+    /// Takes a line that makes a run; answers whether it is one.
     fn take_run(&mut self, word: &str, rest: &str) -> Result<bool, Wrong> {
-        if word == "generated" {
-            let (name, number) = first_word(rest);
-            self.desk.put(name, generated(self.alloc, number)?)?;
-            return Ok(true);
-        }
         let asked = if word == "run" {
             Some(self.run(rest)?)
         } else {
@@ -145,7 +166,8 @@ impl<'a, R: Files + AllocGlobal> Bench<'a, R> {
         let Some(answer) = asked else {
             return Ok(false);
         };
-        self.take_answer(answer)?;
+        self.texts.push(answer.text().to_vec(self.alloc)?)?;
+        self.answer = Some(answer);
         Ok(true)
     }
 
@@ -173,22 +195,13 @@ impl<'a, R: Files + AllocGlobal> Bench<'a, R> {
         }
     }
 
-    /// Takes a line on the machine; answers whether it is one.
-    fn take_of_machine(&mut self, word: &str, rest: &str) -> Result<bool, Wrong> {
-        let alloc = self.alloc;
-        if word == "load" {
-            self.machine = Some(Loaded::load(alloc, &self.desk, rest)?);
-            return Ok(true);
-        }
-        let Some(machine) = &mut self.machine else {
+    /// Takes a line that says what must stand in the machine; answers whether it is one.
+    fn take_told(&mut self, word: &str, rest: &str) -> Result<bool, Wrong> {
+        let Some(machine) = &self.machine else {
             return Ok(false);
         };
         let is_so = match word {
-            "poke" => {
-                machine.poke(alloc, &self.desk, rest)?;
-                true
-            }
-            "memory" => machine.holds(alloc, &self.desk, rest)?,
+            "memory" => machine.holds(self.alloc, &self.desk, rest)?,
             "stores" => machine.has_stores(rest)?,
             _ => return Ok(false),
         };
@@ -197,5 +210,19 @@ impl<'a, R: Files + AllocGlobal> Bench<'a, R> {
         } else {
             Err(Wrong::Differs("another byte in the machine"))
         }
+    }
+
+    /// Takes a line that loads or changes the machine; answers whether it is one.
+    fn take_load(&mut self, word: &str, rest: &str) -> Result<bool, Wrong> {
+        let alloc = self.alloc;
+        match word {
+            "load" => self.machine = Some(Loaded::load(alloc, &self.desk, rest)?),
+            "poke" => {
+                let machine = self.machine.as_mut().ok_or(Wrong::BadLine)?;
+                machine.poke(alloc, &self.desk, rest)?;
+            }
+            _ => return Ok(false),
+        }
+        Ok(true)
     }
 }

@@ -28,11 +28,14 @@ pub struct Devices {
     pub place: Place,
 }
 
-/// Numbers between spaces.
+/// Numbers between spaces, one at least.
 fn numbers_of(alloc: Global, text: &str) -> Result<Vec<u32>, Wrong> {
     let mut numbers = Vec::new(alloc);
     for word in text.split_whitespace() {
         numbers.push(number_of(word)?)?;
+    }
+    if numbers.is_empty() {
+        return Err(Wrong::BadLine);
     }
     Ok(numbers)
 }
@@ -47,9 +50,14 @@ impl Devices {
         }
     }
 
+    /// Whether some call or put is said to fail.
+    pub fn lists_failures(&self) -> bool {
+        !self.calls.is_empty() || !self.puts.is_empty()
+    }
+
     /// Whether nothing fails.
     pub fn is_whole(&self) -> bool {
-        self.calls.is_empty() && self.puts.is_empty() && matches!(self.place, Place::Memory)
+        !self.lists_failures() && matches!(self.place, Place::Memory)
     }
 
     /// Takes a line that says what fails; answers whether it is one.

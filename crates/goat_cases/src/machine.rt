@@ -79,7 +79,9 @@ impl Loaded {
     pub fn load<N: Names>(alloc: Global, names: &N, rest: &str) -> Result<Loaded, Wrong> {
         let (name, fill) = first_word(rest);
         let file = names.named(name).ok_or(Wrong::BadLine)?;
-        let fill = *bytes_of(alloc, names, fill)?.first().ok_or(Wrong::BadLine)?;
+        let [fill] = *bytes_of(alloc, names, fill)?.as_slice() else {
+            return Err(Wrong::BadLine);
+        };
         let (init, image) = image_of(file).ok_or(Wrong::BadLine)?;
         let Ok(mut memory) = Memory::filled(alloc, fill) else {
             return Err(Wrong::NoMemory);

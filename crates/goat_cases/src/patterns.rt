@@ -28,20 +28,14 @@ fn pattern_of(alloc: Global, bytes: &[u8]) -> Result<Pattern, Wrong> {
     }
 }
 
-/// A line as the answer of a run that ends with 0.
-fn told(alloc: Global, line: &str) -> Result<Answer, Wrong> {
-    let text = format!(in alloc; "{line}\n")?;
-    Answer::new(alloc, 0, text.as_bytes())
-}
-
 /// The text that a pattern packs to, or how long it would be.
 pub fn pack<N: Names>(alloc: Global, names: &N, rest: &str) -> Result<Answer, Wrong> {
     let pattern = pattern_of(alloc, &bytes_of(alloc, names, rest)?)?;
     match pack_pattern(&pattern) {
-        Ok(packed) => told(alloc, &hex::encode(alloc, packed.as_slice())?),
+        Ok(packed) => Answer::line(alloc, &hex::encode(alloc, packed.as_slice())?),
         Err(long) => {
             let length = long.length;
-            told(alloc, &format!(in alloc; "too long {length}")?)
+            Answer::line(alloc, &format!(in alloc; "too long {length}")?)
         }
     }
 }
@@ -53,13 +47,13 @@ pub fn unpack<N: Names>(alloc: Global, names: &N, rest: &str) -> Result<Answer, 
         return Err(Wrong::BadLine);
     }
     match unpack_pattern(alloc, &bytes) {
-        Ok(pattern) => told(alloc, &digits_of(alloc, &pattern)?),
+        Ok(pattern) => Answer::line(alloc, &digits_of(alloc, &pattern)?),
         Err(PackedFault::NoMemory) => Err(Wrong::NoMemory),
         Err(PackedFault::BadByte { offset }) => {
-            told(alloc, &format!(in alloc; "bad byte at {offset}")?)
+            Answer::line(alloc, &format!(in alloc; "bad byte at {offset}")?)
         }
-        Err(PackedFault::NoEnd) => told(alloc, "no end"),
-        Err(PackedFault::BadLength) => told(alloc, "bad length"),
+        Err(PackedFault::NoEnd) => Answer::line(alloc, "no end"),
+        Err(PackedFault::BadLength) => Answer::line(alloc, "bad length"),
     }
 }
 

@@ -3,17 +3,11 @@
 use crate::answer::Answer;
 use case_text::{Names, Wrong};
 use edit_history::Session;
-use edit_script::{MOST_BYTES as MOST_SCRIPT, RunFault, ScriptFault, parse, run};
+use edit_script::{MOST_BYTES as MOST_SCRIPT, ScriptFault, parse, run};
 use gts5::{MOST_BYTES as MOST_SONG, SongFault};
 use psid::PsidFault;
 use song_model::Song;
 use std::alloc::Global;
-
-/// A line as the answer of a reader.
-fn told(alloc: Global, line: &str) -> Result<Answer, Wrong> {
-    let text = format!(in alloc; "{line}\n")?;
-    Answer::new(alloc, 0, text.as_bytes())
-}
 
 /// What the reader of songs says of a file.
 pub fn read_song<N: Names>(alloc: Global, names: &N, name: &str) -> Result<Answer, Wrong> {
@@ -22,9 +16,9 @@ pub fn read_song<N: Names>(alloc: Global, names: &N, name: &str) -> Result<Answe
         return Err(Wrong::BadLine);
     }
     match gts5::read(alloc, file) {
-        Ok(_) => told(alloc, "a song"),
+        Ok(_) => Answer::line(alloc, "a song"),
         Err(SongFault::NoMemory) => Err(Wrong::NoMemory),
-        Err(fault) => told(alloc, &fault.to_string(alloc)?),
+        Err(fault) => Answer::line(alloc, &fault.to_string(alloc)?),
     }
 }
 
@@ -32,9 +26,9 @@ pub fn read_song<N: Names>(alloc: Global, names: &N, name: &str) -> Result<Answe
 pub fn read_psid<N: Names>(alloc: Global, names: &N, name: &str) -> Result<Answer, Wrong> {
     let file = names.named(name).ok_or(Wrong::BadLine)?;
     match psid::read(alloc, file) {
-        Ok(_) => told(alloc, "a PSID file"),
+        Ok(_) => Answer::line(alloc, "a PSID file"),
         Err(PsidFault::NoMemory) => Err(Wrong::NoMemory),
-        Err(fault) => told(alloc, &fault.to_string(alloc)?),
+        Err(fault) => Answer::line(alloc, &fault.to_string(alloc)?),
     }
 }
 
@@ -47,16 +41,11 @@ pub fn read_script<N: Names>(alloc: Global, names: &N, name: &str) -> Result<Ans
     let script = match parse(alloc, file) {
         Ok(script) => script,
         Err(ScriptFault::NoMemory) => return Err(Wrong::NoMemory),
-        Err(fault) => return told(alloc, &fault.to_string(alloc)?),
+        Err(fault) => return Answer::line(alloc, &fault.to_string(alloc)?),
     };
     let mut session = Session::new(alloc, Song::empty(alloc));
     match run(&mut session, &script) {
-        Ok(()) => told(alloc, "done"),
-        Err(fault) => stopped(alloc, &fault),
+        Ok(()) => Answer::line(alloc, "done"),
+        Err(fault) => Answer::line(alloc, &fault.to_string(alloc)?),
     }
-}
-
-/// What is said of a command that can't be done.
-fn stopped(alloc: Global, fault: &RunFault) -> Result<Answer, Wrong> {
-    told(alloc, &fault.to_string(alloc)?)
 }

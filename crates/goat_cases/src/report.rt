@@ -41,14 +41,45 @@ impl Tally {
     }
 }
 
+/// How a case is to end.
+#[derive(Clone, Copy, PartialEq, Eq)]
+enum End {
+    /// Each line is met.
+    Agrees,
+    /// What some line says doesn't come.
+    Differs,
+    /// Some line spells nothing.
+    Misspelled,
+}
+
+impl End {
+    /// The end of a case that a word begins, if it begins one.
+    fn wanted_by(word: &str) -> Option<End> {
+        match word {
+            "case" => Some(End::Agrees),
+            "denial" => Some(End::Differs),
+            "misspelling" => Some(End::Misspelled),
+            _ => None,
+        }
+    }
+
+    /// The end of a case that was left for this reason.
+    fn of(wrong: &Wrong) -> End {
+        match wrong {
+            Wrong::BadLine => End::Misspelled,
+            _ => End::Differs,
+        }
+    }
+}
+
 /// A case that is gone through.
 #[derive(Clone, Copy, Drop)]
 struct Case<'a> {
     name: &'a str,
-    /// Whether each line has been met up to here.
-    agrees: bool,
-    /// Whether some line is not to be met.
-    is_denied: bool,
+    /// How it is to end.
+    wanted: End,
+    /// How it has gone up to here.
+    end: End,
 }
 
 /// A file of cases that is gone through.
@@ -72,18 +103,14 @@ impl<'a, R: Files + Print + AllocGlobal> Reading<'a, R> {
         }
     }
 
-    /// Notes that a line isn't met, and tells it where it is to be.
+    /// Notes that a line isn't met, and tells it where the case wants another end.
     fn differ(&mut self, number: usize, wrong: &Wrong) -> Result<(), Wrong> {
         let Some(case) = &mut self.case else {
             return self.tell(number, "before the first case", wrong);
         };
-        case.agrees = false;
-        let Case {
-            name,
-            is_denied,
-            ..
-        } = *case;
-        if is_denied {
+        case.end = End::of(wrong);
+        let Case { name, wanted, end } = *case;
+        if wanted == end {
             return Ok(());
         }
         self.tell(number, name, wrong)
@@ -91,29 +118,35 @@ impl<'a, R: Files + Print + AllocGlobal> Reading<'a, R> {
 
     /// Ends the case, if there is one, and counts it.
     fn end_case(&mut self, number: usize, tally: &mut Tally) -> Result<(), Wrong> {
-        let is_open = match self.case {
-            Some(case) => case.agrees,
-            None => false,
-        };
-        if is_open && let Err(wrong) = self.bench.end_case() {
+        if self.is_open()
+            && let Err(wrong) = self.bench.end_case()
+        {
             self.differ(number, &wrong)?;
         }
         let Some(case) = self.case else {
             return Ok(());
         };
-        if case.agrees && case.is_denied {
+        if case.end == End::Agrees && case.wanted != End::Agrees {
             self.tell(number, case.name, &Wrong::Differs("agrees"))?;
         }
-        tally.count(case.agrees != case.is_denied);
+        tally.count(case.end == case.wanted);
         Ok(())
     }
 
+    /// Whether there is a case of which each line has been met up to here.
+    fn is_open(&self) -> bool {
+        match self.case {
+            Some(case) => case.end == End::Agrees,
+            None => false,
+        }
+    }
+
     /// Begins a case.
-    fn begin_case(&mut self, name: &'a str, is_denied: bool) -> Result<(), Wrong> {
+    fn begin_case(&mut self, name: &'a str, wanted: End) -> Result<(), Wrong> {
         self.case = Some(Case {
             name,
-            agrees: true,
-            is_denied,
+            wanted,
+            end: End::Agrees,
         });
         self.bench.begin_case()
     }
@@ -121,18 +154,22 @@ impl<'a, R: Files + Print + AllocGlobal> Reading<'a, R> {
     /// Takes a line. A case that differs is left at its first such line.
     fn take(&mut self, number: usize, line: &'a str, tally: &mut Tally) -> Result<(), Wrong> {
         let (word, rest) = first_word(line.trim());
-        if word == "case" || word == "denial" {
+        if let Some(wanted) = End::wanted_by(word) {
             self.end_case(number, tally)?;
-            return self.begin_case(rest, word == "denial");
+            return self.begin_case(rest, wanted);
         }
-        let is_left = match self.case {
-            Some(case) => !case.agrees,
-            None => false,
-        };
-        if is_left || word.is_empty() || word.starts_with('#') {
+        if word.is_empty() || word.starts_with('#') {
             return Ok(());
         }
-        match self.bench.take(word, rest) {
+        let taken = if self.is_open() {
+            self.bench.take(word, rest)
+        } else if self.case.is_none() {
+            self.bench.take_common(word, rest)
+        } else {
+            Ok(())
+        };
+        match taken {
+            Ok(()) => Ok(()),
             Err(Wrong::NoMemory) => Err(Wrong::NoMemory),
             Err(wrong) => {
                 if self.case.is_none() {
@@ -140,7 +177,6 @@ impl<'a, R: Files + Print + AllocGlobal> Reading<'a, R> {
                 }
                 self.differ(number, &wrong)
             }
-            Ok(()) => Ok(()),
         }
     }
 }
