@@ -1,5 +1,5 @@
 -- Small images that play no song: their calls are run by computing, and leave what they may not.
-use Rattle.std.proofs.Common.{◌≡◌, ◌≢◌, ℕ, ◌+◌, ◌<◌, ◌≤◌, true, false, List, [], ◌∷◌, ◌++◌, length, Contains, slice_index, lit<, lit≤, refl, sym, ap, ◌∙◌, subst, length-set, arith}
+use Rattle.std.proofs.Common.{◌≡◌, ◌≢◌, ℕ, ◌+◌, ◌<◌, ◌≤◌, true, false, List, [], ◌∷◌, ◌++◌, length, Contains, slice_index, slice_set, ◌%◌, lit<, lit≤, refl, sym, ap, ◌∙◌, subst, length-set, arith}
 use Rattle.std.proofs.lemmas.List.{get_or-set_other}
 use Rattle.std.proofs.lemmas.List.Elements.{All-set}
 use Rattle.song_model.specs.declared.songs.Song.{Song}
@@ -20,14 +20,14 @@ use Rattle.cpu6502.specs.Code.{IsMachine}
 use Rattle.cpu6502.specs.Call.{entered, writes_in}
 use Rattle.cpu6502.proofs.Laws.{call_keeps, called_once}
 use Rattle.sid_run.specs.State.{loaded_memory, sid_registers}
-use Rattle.faithful.specs.Confined.{memory_at_entry}
+use Rattle.faithful.specs.Confined.{IsOwnPlace, IsConfined, memory_at_entry}
 use Rattle.faithful.specs.Faithful.{Leaves, AgreesOn, LeavesAndGoesOn}
 use Rattle.faithful.specs.Histories.{Init, PlaysAlways}
 use Rattle.faithful.specs.Isolation.{EndAlike, IsIsolated}
 use Rattle.faithful.specs.Timers.{SetsTimer, KeepsTimer}
 use Rattle.faithful.specs.WorkedPlaces.{twice}
 use Rattle.faithful.specs.WorkedMachines.{machine_with, with_byte}
-use Rattle.faithful.specs.WorkedImages.{with_routines, set_volume, store, rts, right_init, right_play, right_timer, two_silences, by_register, by_steps, by_image, by_number, Plays, StandsAlone, RegistersAreTold, StoresAreTold, TimerBytesAreTold, DependencesAreTold}
+use Rattle.faithful.specs.WorkedImages.{right_image, RightCallsLeave, with_routines, set_volume, store, rts, right_init, right_play, right_timer, two_silences, by_register, by_steps, by_image, by_number, Plays, StandsAlone, RegistersAreTold, StoresAreTold, TimerBytesAreTold, DependencesAreTold}
 use Rattle.faithful.proofs.FreeCalls.{calls_store_at_home, first_plays_are_free, inits_end_alike, plays_end_alike}
 use Rattle.faithful.proofs.LoadedCalls.{are_bytes, is_machine, holds, returns, end_of, called, one_end}
 use Rattle.faithful.proofs.WorkedPlaces.{is_own, not_own}
@@ -94,6 +94,53 @@ wrong_volume image o machine entry number steps registers after l r other =
     other
     (ap (λ (m : Machine). slice_index (sid_registers m) 24) (sym (ends_there image o machine entry number steps registers after l r))
     ∙ ap (λ (r : List ℕ). slice_index r 24) l.registers_are)
+
+-- ---- the image that leaves what it should
+
+-- a call that has changed an own place alone is confined
+confined_to : (image : List ℕ) (o : Options) (machine after : Machine) (place byte : ℕ) →
+    IsOwnPlace (length image) 0x1000 0xFC o ((machine.cpu.sp + 254) % 256) place →
+    after.memory ≡ slice_set (memory_at_entry machine) place byte →
+    IsConfined machine after (length image) 0x1000 0xFC o
+confined_to image o machine after place byte own is = record {
+  same = λ q within not_own.
+      ap (λ (memory : List ℕ). slice_index memory q) is
+      ∙ get_or-set_other (memory_at_entry machine) place q byte 0
+      (λ e. not_own (subst (IsOwnPlace (length image) 0x1000 0xFC o ((machine.cpu.sp + 254) % 256)) (sym e) own));
+}
+
+right_begins : returns (machine_with right_image) 0x1000 0 4 ≡ true
+unfolding loaded_memory
+right_begins = refl
+
+right_plays : returns (begun right_image 4) 0x1003 0 4 ≡ true
+unfolding loaded_memory
+right_plays = refl
+
+pub right_calls_leave : RightCallsLeave
+unfolding loaded_memory prefix_of cycle_of played playable_subtune instrument_at table_row pattern_at filter_step between_rows note_started row_command at_row tick_step wave_command wave_step effect_step pulse_step fetch_row voice_step voice_registers filter_registers frame_of state_after_with
+right_calls_leave = record {
+  after = begun right_image 4;
+  init = record {
+    steps = 4;
+    within = lit≤ tt;
+    called = called (machine_with right_image) 0x1000 0 4 right_begins;
+    confined =
+        confined_to right_image no_options (machine_with right_image) (begun right_image 4) 0xD418 0
+        (IsOwnPlace.in_sid (omega arith) (omega arith)) refl;
+    registers_are = refl;
+  };
+  last = end_of (begun right_image 4) 0x1003 0 4;
+  play = record {
+    steps = 4;
+    within = lit≤ tt;
+    called = called (begun right_image 4) 0x1003 0 4 right_plays;
+    confined =
+        confined_to right_image no_options (begun right_image 4) (end_of (begun right_image 4) 0x1003 0 4) 0xD418 15
+        (IsOwnPlace.in_sid (omega arith) (omega arith)) refl;
+    registers_are = refl;
+  };
+}
 
 -- ---- registers
 

@@ -1,13 +1,17 @@
--- Small images at $1000 that play no song, each for one reason, worked out by hand. Loaded into zeros they do all else
--- that is asked: the SID's registers are 0 before the first call, and each frame of a silent song leaves 24 zeros and 15.
+-- Small images at $1000, worked out by hand: one whose first two calls leave what they should, and images beside it that
+-- play no song, each for one reason. Loaded into zeros they do all else that is asked: the SID's registers are 0 before
+-- the first call, and the first frame of a silent song leaves 24 zeros and 15.
 use Rattle.std.specs.Prelude.{ℕ, ◌+◌, List, [], ◌∷◌, ◌++◌, length}
 use Rattle.song_model.specs.declared.songs.Song.{Song}
 use Rattle.song_model.specs.Silence.{silence, order_of_zero}
 use Rattle.play_model.specs.declared.options.Options.{Options}
 use Rattle.play_model.specs.State.{no_options}
-use Rattle.faithful.specs.Faithful.{IsFaithful}
+use Rattle.play_model.specs.Frame.{trace_with}
+use Rattle.cpu6502.specs.declared.machine.Machine.{Machine}
+use Rattle.faithful.specs.Faithful.{Leaves, IsFaithful}
 use Rattle.faithful.specs.Histories.{PlaysAlways}
 use Rattle.faithful.specs.Isolation.{IsIsolated}
+use Rattle.faithful.specs.WorkedMachines.{machine_with}
 use Rattle.faithful.specs.WorkedPlaces.{twice}
 
 -- JMP to the routine of init, JMP to that of play, and the two routines
@@ -31,6 +35,17 @@ right_init = set_volume 0 ++ rts
 
 abbrev pub right_play : List ℕ
 right_play = set_volume 15 ++ rts
+
+abbrev pub right_image : List ℕ
+right_image = with_routines right_init right_play
+
+-- its init, from the machine that it is loaded into, and its play, from the machine that init leaves
+pub record RightCallsLeave : Type 0 where
+  pub after : Machine
+  pub init : Leaves right_image 0x1000 0xFC no_options (machine_with right_image) 0x1000 0
+      (trace_with no_options silence 0 0) after
+  pub last : Machine
+  pub play : Leaves right_image 0x1000 0xFC no_options after 0x1003 0 (trace_with no_options silence 0 1) last
 
 -- the silent song twice
 abbrev pub two_silences : Song
