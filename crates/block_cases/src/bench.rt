@@ -1,0 +1,226 @@
+//! A machine, and the memory that is wanted behind what it does.
+
+ghost use Rattle.std.specs.Prelude.{◌≡◌, OnOk};
+
+use crate::difference::{Difference, same};
+use crate::words::Reader;
+use base::NoMemory;
+use cpu6502::{Cpu, Machine, Memory};
+use std::alloc::Global;
+
+/// A machine, and the memory that is wanted. Both memories hold at each place the low byte of the place times 7, with
+/// the bits of the high one turned, but where a case says otherwise.
+#[derive(Drop)]
+pub struct Bench {
+    pub machine: Machine,
+    wanted: Memory,
+    /// Whether a case speaks of a page, by the high byte of its places.
+    touched: [bool; 256],
+}
+
+/// The registers before any are given.
+pub const IDLE: Cpu = Cpu {
+    a: 0,
+    x: 0,
+    y: 0,
+    sp: 0xf0,
+    pc: 0,
+    n: false,
+    v: false,
+    d: false,
+    i: false,
+    z: false,
+    c: false,
+};
+
+/// What a place holds where no case says otherwise.
+fn byte_at(place: u16) -> u8 {
+    let [low, high] = place.to_le_bytes();
+    low.wrapping_mul(7) ^ high
+}
+
+/// Whether each case is held against a page: the first two, and those of the SID and of the timers.
+fn is_watched(page: u8) -> bool {
+    matches!(page, 0 | 1 | 0xd4 | 0xdc)
+}
+
+/// Puts bytes from a place on.
+fn put(memory: &mut Memory, at: u16, bytes: &[u8]) {
+    let mut place = at;
+    for byte in bytes {
+        memory.write(place, *byte);
+        place = place.wrapping_add(1);
+    }
+}
+
+impl Bench {
+    pub fn new(alloc: Global) -> Result<Bench, NoMemory> {
+        let mut bench = Bench {
+            machine: Machine {
+                cpu: IDLE,
+                memory: Memory::filled(alloc, 0)?,
+            },
+            wanted: Memory::filled(alloc, 0)?,
+            touched: [false; 256],
+        };
+        bench.renew();
+        Ok(bench)
+    }
+
+    /// Makes a page of both memories what no case says otherwise.
+    fn fill(&mut self, page: u8) {
+        for low in 0..=255_u8 {
+            let place = u16::from_le_bytes([low, page]);
+            self.machine.memory.write(place, byte_at(place));
+            self.wanted.write(place, byte_at(place));
+        }
+    }
+
+    /// Makes all of both memories what no case says otherwise.
+    pub fn renew(&mut self) {
+        for page in 0..=255_u8 {
+            self.fill(page);
+        }
+    }
+
+    /// Begins a case.
+    pub fn begin(&mut self) {
+        for page in 0..=255_u8 {
+            if self.touched[usize::from(page)] || is_watched(page) {
+                self.fill(page);
+                self.touched[usize::from(page)] = false;
+            }
+        }
+    }
+
+    /// Notes the pages in which so many bytes stand from a place on.
+    fn touch(&mut self, at: u16, count: usize) {
+        let mut place = at;
+        for _ in 0..count {
+            let [_, page] = place.to_le_bytes();
+            self.touched[usize::from(page)] = true;
+            place = place.wrapping_add(1);
+        }
+    }
+
+    /// Puts bytes into memory, which are wanted there too.
+    pub fn put(&mut self, at: u16, bytes: &[u8]) {
+        put(&mut self.machine.memory, at, bytes);
+        self.want(at, bytes);
+    }
+
+    /// Wants bytes in memory.
+    pub fn want(&mut self, at: u16, bytes: &[u8]) {
+        put(&mut self.wanted, at, bytes);
+        self.touch(at, bytes.len());
+    }
+
+    /// Sees that a page is as it is wanted.
+    fn compare_page(&self, page: u8) -> Result<(), Difference> {
+        for low in 0..=255_u8 {
+            let place = u16::from_le_bytes([low, page]);
+            let (found, wanted) = (self.machine.memory.read(place), self.wanted.read(place));
+            if found != wanted {
+                return Err(Difference::Place(place, found, wanted));
+            }
+        }
+        Ok(())
+    }
+
+    /// Sees that the pages of which the case speaks, and those that are watched, are as they are wanted.
+    pub fn compare(&self) -> Result<(), Difference> {
+        for page in 0..=255_u8 {
+            if self.touched[usize::from(page)] || is_watched(page) {
+                self.compare_page(page)?;
+            }
+        }
+        Ok(())
+    }
+
+    /// Sees that no case has written where it doesn't speak of: all of memory is as it is wanted.
+    pub fn compare_all(&self) -> Result<(), Difference> {
+        for page in 0..=255_u8 {
+            self.compare_page(page)?;
+        }
+        Ok(())
+    }
+
+    /// Steps up to a place, at most so often, and answers how often.
+    pub fn step_to(&mut self, end: u16, budget: u32) -> Result<u32, Difference>
+        ensures { OnOk result (self.new.machine.cpu.pc ≡ end) }
+    {
+        for steps in 0..budget {
+            if self.machine.cpu.pc == end {
+                return Ok(steps);
+            }
+            if let Err(stop) = self.machine.step() {
+                return Err(Difference::Stopped(stop));
+            }
+        }
+        Err(Difference::Endless)
+    }
+}
+
+/// Registers with the flags that are named, and no other.
+fn with_flags(cpu: Cpu, word: &[u8]) -> Option<Cpu> {
+    let mut after = Cpu {
+        n: false,
+        v: false,
+        d: false,
+        i: false,
+        z: false,
+        c: false,
+        ..cpu
+    };
+    for letter in word {
+        match letter {
+            b'n' => after.n = true,
+            b'v' => after.v = true,
+            b'd' => after.d = true,
+            b'i' => after.i = true,
+            b'z' => after.z = true,
+            b'c' => after.c = true,
+            b'-' => {}
+            _ => return None,
+        }
+    }
+    Some(after)
+}
+
+impl Reader<'_> {
+    /// Reads the letters of the flags that are set, into registers.
+    pub fn flags(&mut self, cpu: Cpu) -> Result<Cpu, Difference> {
+        with_flags(cpu, self.word()?).ok_or(Difference::Unread)
+    }
+}
+
+fn flag(set: bool) -> u32 {
+    if set { 1 } else { 0 }
+}
+
+/// Sees that A, Y, the stack pointer and all flags but the overflow are those that are wanted.
+pub fn same_registers(found: Cpu, wanted: Cpu) -> Result<(), Difference> {
+    same("A", u32::from(found.a), u32::from(wanted.a))?;
+    same("Y", u32::from(found.y), u32::from(wanted.y))?;
+    same(
+        "the stack pointer",
+        u32::from(found.sp),
+        u32::from(wanted.sp),
+    )?;
+    same("the flag n", flag(found.n), flag(wanted.n))?;
+    same("the flag d", flag(found.d), flag(wanted.d))?;
+    same("the flag i", flag(found.i), flag(wanted.i))?;
+    same("the flag z", flag(found.z), flag(wanted.z))?;
+    same("the flag c", flag(found.c), flag(wanted.c))
+}
+
+/// Sees that X, the program counter and the overflow are those that are wanted.
+pub fn same_others(found: Cpu, wanted: Cpu) -> Result<(), Difference> {
+    same("X", u32::from(found.x), u32::from(wanted.x))?;
+    same(
+        "the program counter",
+        u32::from(found.pc),
+        u32::from(wanted.pc),
+    )?;
+    same("the flag v", flag(found.v), flag(wanted.v))
+}

@@ -1,0 +1,91 @@
+//! What differs from what a case wants.
+
+ghost use Rattle.std.specs.Prelude.{◌≡◌, ◌↔◌, IsOk};
+
+use asm6502::{AsmFault, PastEnd};
+use base::NoMemory;
+use cpu6502::Stop;
+use std::alloc::{AllocError, AllocFailed};
+use std::fmt;
+
+/// What differs from what a case wants, or why it can't be told.
+#[derive(Clone, Copy, Debug)]
+pub enum Difference {
+    /// The line isn't of the notation.
+    Unread,
+    /// The case wants nothing.
+    WantsNothing,
+    /// The lines aren't assembled.
+    Refused(AsmFault),
+    /// They are, or are moved, and that isn't wanted.
+    Done,
+    /// They aren't moved.
+    Unmoved(PastEnd),
+    /// The machine stops.
+    Stopped(Stop),
+    /// It doesn't come to the end.
+    Endless,
+    /// A number with this name: the one that is found, and the one that is wanted.
+    Number(&'static str, u32, u32),
+    /// The byte at a place: the one that is found, and the one that is wanted.
+    Place(u16, u8, u8),
+    /// Out of memory.
+    NoMemory,
+}
+
+impl fmt::Display for Difference {
+    fn fmt<W: fmt::Write>(&self, f: &mut fmt::Formatter<W>) -> fmt::Result {
+        match self {
+            Difference::Unread => write!(f, "the line isn't of the notation"),
+            Difference::WantsNothing => write!(f, "the case wants nothing"),
+            Difference::Refused(fault) => write!(f, "refused: {fault:?}"),
+            Difference::Done => write!(f, "not refused"),
+            Difference::Unmoved(end) => write!(f, "not moved: {end:?}"),
+            Difference::Stopped(stop) => write!(f, "stopped: {stop:?}"),
+            Difference::Endless => write!(f, "no end"),
+            Difference::Number(name, found, wanted) => {
+                write!(f, "{name} is {found:x}, wanted {wanted:x}")
+            }
+            Difference::Place(at, found, wanted) => {
+                write!(
+                    f,
+                    "the byte at {at:04x} is {found:02x}, wanted {wanted:02x}"
+                )
+            }
+            Difference::NoMemory => write!(f, "out of memory"),
+        }
+    }
+}
+
+impl From<NoMemory> for Difference {
+    fn from(_: NoMemory) -> Difference {
+        Difference::NoMemory
+    }
+}
+
+impl From<AllocError> for Difference {
+    fn from(_: AllocError) -> Difference {
+        Difference::NoMemory
+    }
+}
+
+impl<T: Drop> From<AllocFailed<T>> for Difference {
+    fn from(_: AllocFailed<T>) -> Difference {
+        Difference::NoMemory
+    }
+}
+
+/// Sees that a number is the one that is wanted.
+///
+/// # Errors
+///
+/// It isn't.
+pub fn same(name: &'static str, found: u32, wanted: u32) -> Result<(), Difference>
+    ensures { IsOk result ↔ (found ≡ wanted) }
+{
+    if found == wanted {
+        Ok(())
+    } else {
+        Err(Difference::Number(name, found, wanted))
+    }
+}

@@ -1,0 +1,178 @@
+//! The words of a file of cases.
+
+use crate::difference::Difference;
+use std::alloc::{AllocError, Global};
+
+/// A word, or one of the marks `[`, `]`, `,` and `*`.
+#[derive(Clone, Copy)]
+pub struct Word<'a> {
+    /// Its bytes.
+    pub text: &'a [u8],
+    /// The line that it is in, counted from 1.
+    pub line: u32,
+    /// Whether a line begins with it.
+    pub is_head: bool,
+}
+
+fn is_mark(byte: u8) -> bool {
+    matches!(byte, b'[' | b']' | b',' | b'*')
+}
+
+/// Adds a word, if it has bytes.
+fn push_word<'a>(
+    words: &mut Vec<Word<'a>>,
+    text: &'a [u8],
+    line: u32,
+    is_head: bool,
+) -> Result<(), AllocError> {
+    if !text.is_empty() {
+        words.push(Word {
+            text,
+            line,
+            is_head,
+        })?;
+    }
+    Ok(())
+}
+
+/// Adds the words of a line with no comment.
+fn push_words<'a>(
+    words: &mut Vec<Word<'a>>,
+    line: &'a [u8],
+    number: u32,
+) -> Result<(), AllocError> {
+    let mut start = 0;
+    for place in 0..line.len() {
+        let byte = line[place];
+        if byte == b' ' || is_mark(byte) {
+            push_word(words, &line[place.min(start)..place], number, start == 0)?;
+            start = place + 1;
+        }
+        if is_mark(byte) {
+            push_word(words, &line[place..place + 1], number, false)?;
+        }
+    }
+    let last = start.min(line.len());
+    push_word(words, &line[last..], number, start == 0)
+}
+
+/// A line without the comment at its end.
+fn without_comment(line: &[u8]) -> &[u8] {
+    match line.iter().position(|byte| *byte == b'#') {
+        Some(end) => &line[..end],
+        None => line,
+    }
+}
+
+/// The words of a text.
+pub fn words_of(alloc: Global, text: &str) -> Result<Vec<Word<'_>>, AllocError> {
+    let mut words = Vec::new(alloc);
+    let mut number = 0_u32;
+    for line in text.lines() {
+        number = number.saturating_add(1);
+        push_words(&mut words, without_comment(line.as_bytes()), number)?;
+    }
+    Ok(words)
+}
+
+/// A reader of words.
+#[derive(Clone, Copy)]
+pub struct Reader<'a> {
+    words: &'a [Word<'a>],
+    /// How many words were read.
+    at: usize,
+    /// The line of the word that was read last.
+    pub line: u32,
+}
+
+impl<'a> Reader<'a> {
+    /// A reader before the first of these words.
+    pub fn new(words: &'a [Word<'a>]) -> Reader<'a> {
+        Reader {
+            words,
+            at: 0,
+            line: 0,
+        }
+    }
+
+    /// How many words are left.
+    pub fn left(&self) -> usize {
+        self.words.len().saturating_sub(self.at)
+    }
+
+    /// Reads the next word, if there is one.
+    fn next(&mut self) -> Option<Word<'a>> {
+        let word = *self.words.get(self.at)?;
+        self.at = self.at.saturating_add(1);
+        self.line = word.line;
+        Some(word)
+    }
+
+    /// Goes on to the next word that begins a line, and reads it.
+    pub fn head(&mut self) -> Option<&'a [u8]> {
+        for _ in 0..self.left() {
+            let word = self.next()?;
+            if word.is_head {
+                return Some(word.text);
+            }
+        }
+        None
+    }
+
+    /// The next word, if it doesn't begin a line.
+    pub fn peek(&self) -> Option<&'a [u8]> {
+        match self.words.get(self.at) {
+            Some(word) if !word.is_head => Some(word.text),
+            _ => None,
+        }
+    }
+
+    /// Reads the next word.
+    ///
+    /// # Errors
+    ///
+    /// It begins a line, or there is none.
+    pub fn word(&mut self) -> Result<&'a [u8], Difference> {
+        match self.peek() {
+            Some(text) => {
+                let _ = self.next();
+                Ok(text)
+            }
+            None => Err(Difference::Unread),
+        }
+    }
+
+    /// Reads the next word if it is this one, and answers whether it is.
+    pub fn takes(&mut self, word: &[u8]) -> bool {
+        let is_next = self.peek() == Some(word);
+        if is_next {
+            let _ = self.next();
+        }
+        is_next
+    }
+
+    /// Reads the next word, which has to be this one.
+    ///
+    /// # Errors
+    ///
+    /// It isn't.
+    pub fn mark(&mut self, word: &[u8]) -> Result<(), Difference> {
+        if self.takes(word) {
+            Ok(())
+        } else {
+            Err(Difference::Unread)
+        }
+    }
+
+    /// Sees that no word is left in the line and those that go on with it.
+    ///
+    /// # Errors
+    ///
+    /// One is.
+    pub fn end(&self) -> Result<(), Difference> {
+        match self.peek() {
+            Some(_) => Err(Difference::Unread),
+            None => Ok(()),
+        }
+    }
+}
