@@ -5,10 +5,11 @@ use Rattle.goat_io.specs.Files.{Files}
 use Rattle.goat_io.specs.Written.{told_with_piece}
 use Rattle.song_model.specs.declared.songs.Song.{Song}
 use Rattle.base.proofs.Laws.{nil_is_no_append}
-use Rattle.goat_cli.specs.Words.{Job, Run, Selftest}
-use Rattle.goat_cli.specs.RegisterText.{register_text}
+use Rattle.command_line.specs.Words.{Job, Run, Selftest}
+use Rattle.command_line.specs.RegisterText.{register_text}
 use Rattle.goat_cli.specs.Stages.{IsThere, FirstEnds}
-use Rattle.goat_cli.specs.Jobs.{about, WordsOf, IsNoForm, stages, Done}
+use Rattle.command_line.specs.Forms.{WordsOf, IsNoForm}
+use Rattle.goat_cli.specs.Jobs.{about, stages, Done}
 use Rattle.goat_cli.specs.Outcome as outcome
 use Rattle.goat_cli.specs.Outcome.{Outcome, told_after}
 use Rattle.goat_cli.specs.Due as due
@@ -18,7 +19,7 @@ use Rattle.goat_cli.specs.Stands.{FolderState, SinkState, AreFiles, Counted, App
 use Rattle.goat_cli.specs.Answers.{IsOrdinary, IsPrinted, IsBeforeWriting, HoldsDone, ComesAbout, ComesWhere, SinkCounted, RunsPacked}
 use Rattle.goat_cli.specs.Traces.{first_traces}
 use Rattle.play_model.specs.declared.options.Options.{Options}
-use Rattle.goat_cli.proofs.Forms.{one_job}
+use Rattle.command_line.proofs.Laws.{one_job}
 use Rattle.goat_cli.proofs.Told.{as_before}
 use Rattle.goat_cli.proofs.Due.{is_no_stage, ends_with_stage, done_under, outcome_due, one_due, one_text}
 use Rattle.goat_cli.proofs.PlayedFiles.{packed_file_plays, packed_file_is_due}

@@ -10,12 +10,12 @@ use Rattle.cpu6502.specs.declared.stop.CallStop.TheVariants.{Stopped, Budget}
 use Rattle.cpu6502.proofs.Laws.{called_once, returned_fails, stopped_fails, under_way_fails}
 use Rattle.sid_run.specs.State.{RunnerState, sid_registers, most_steps}
 use Rattle.goat_cli.specs.Calls.{entry_of, accumulator_of, Takes, ReturnsTo, FirstCalls, MeetsStopAt}
-use Rattle.goat_cli.specs.RegisterText.{register_line, register_lines}
+use Rattle.command_line.specs.RegisterText.{register_line, register_lines}
 use Rattle.goat_cli.specs.Lines.{stop_line}
 use Rattle.goat_io.specs.declared.fault.SinkFault.{SinkFault}
 use Rattle.goat_io.specs.declared.fault.SinkFault.TheVariants as sink
-use Rattle.goat_cli.specs.declared.refusal.Refusal.{Refusal}
-use Rattle.goat_cli.specs.Last.{Last, Says, SaysNothing, last_of, IsOfSink}
+use Rattle.command_line.specs.declared.refusal.Refusal.{Refusal}
+use Rattle.command_line.specs.Last.{Last, Says, SaysNothing, last_of, IsOfSink}
 use Rattle.goat_cli.specs.Stands.{SinkState, Appends}
 use Rattle.goat_cli.specs.Endings.{CallsEnd, PutFails, played, stopped, failed, wanting}
 use Rattle.goat_cli.proofs.RegisterLines.{lines_more, text_more}

@@ -6,14 +6,15 @@ use Rattle.song_model.specs.declared.songs.Song.{Song}
 use Rattle.psid.specs.declared.header.Psid.{Psid}
 use Rattle.psid.specs.Reading.{psid_read}
 use Rattle.sid_run.specs.State.{loaded}
-use Rattle.goat_cli.specs.Words.{Job, Run}
+use Rattle.command_line.specs.Words.{Job, Run}
 use Rattle.cpu6502.specs.declared.machine.Machine.{Machine}
 use Rattle.goat_cli.specs.Calls.{FirstCalls, StopsIn}
-use Rattle.goat_cli.specs.RegisterText.{register_lines}
+use Rattle.command_line.specs.RegisterText.{register_lines}
 use Rattle.goat_cli.specs.Lines.{stop_line, wrote_line}
-use Rattle.goat_cli.specs.Last.{Last, Says}
+use Rattle.command_line.specs.Last.{Last, Says}
 use Rattle.goat_cli.specs.Stages.{Stage, IsThere, Fits, SpellsSong, CallsReturn, HoldsSong, HoldsPsid, status_of, IsMet, Passes, AllPass, FirstEnds, input_limit}
-use Rattle.goat_cli.specs.Jobs.{WordsOf, stages, Shows, Done}
+use Rattle.command_line.specs.Forms.{WordsOf}
+use Rattle.goat_cli.specs.Jobs.{stages, Shows, Done}
 use Rattle.goat_cli.specs.Outcome as outcome
 use Rattle.goat_cli.specs.Outcome.{told_after}
 use Rattle.goat_cli.specs.Stands as stands

@@ -3,7 +3,7 @@ use Rattle.std.proofs.Common.{◌≡◌, ◌≢◌, ℕ, ◌+◌, ◌-◌, ◌�
 use Rattle.std.proofs.lemmas.List.{append_assoc}
 use Rattle.goat_io.specs.Files.{Files}
 use Rattle.sid_run.specs.State.{loaded}
-use Rattle.goat_cli.specs.Words.{Job, Check, Trace, Run, Selftest}
+use Rattle.command_line.specs.Words.{Job, Check, Trace, Run, Selftest}
 use Rattle.song_model.specs.declared.songs.Song.{Song}
 use Rattle.song_model.specs.LookUp.{playable_subtunes}
 use Rattle.usage.specs.declared.parts.UsedParts.{UsedParts}
@@ -11,16 +11,17 @@ use Rattle.usage.specs.Parts.{AreUsedParts}
 use Rattle.usage.proofs.Laws.{parts_are_the_songs_lem}
 use Rattle.goat_cli.specs.Lines.{check_line}
 use Rattle.goat_cli.specs.Calls.{FirstCalls}
-use Rattle.goat_cli.specs.RegisterText.{register_lines}
+use Rattle.command_line.specs.RegisterText.{register_lines}
 use Rattle.goat_cli.specs.Traces.{first_traces}
 use Rattle.goat_cli.specs.Stages.{Stage, IsThere, status_of, Ends, AllPass, FirstEnds}
-use Rattle.goat_cli.specs.Jobs.{Deed, PrintsLines, WritesFile, DoneBy, output_under, about, WordsOf, IsNoForm, output_of, stages, Done}
+use Rattle.command_line.specs.Forms.{WordsOf, IsNoForm}
+use Rattle.goat_cli.specs.Jobs.{Deed, PrintsLines, WritesFile, DoneBy, output_under, about, output_of, stages, Done}
 use Rattle.goat_cli.specs.Outcome as outcome
 use Rattle.goat_cli.specs.Outcome.{Outcome}
 use Rattle.goat_cli.specs.Due as due
 use Rattle.goat_cli.specs.Due.{IsDue}
 use Rattle.goat_cli.specs.Stands.{ComesTo}
-use Rattle.goat_cli.proofs.Forms.{one_job}
+use Rattle.command_line.proofs.Laws.{one_job}
 use Rattle.goat_cli.proofs.Calls.{one_list}
 use Rattle.goat_cli.proofs.Passes.{one_song_held, one_psid_held, stage_facts}
 use Rattle.goat_cli.proofs.Ends.{first_ends}

@@ -13,8 +13,8 @@ use Rattle.edit_script.specs.Scripts.{IsScript, IsFirstBadLine}
 use Rattle.edit_script.specs.Runs.{fold_of}
 use Rattle.edit_script.specs.Edited.{IsEditedBy, no_script, not_done, kind_words, bad_line_words}
 use Rattle.edit_script.specs.Held.{stop_of}
-use Rattle.goat_cli.specs.Words.{Edit}
-use Rattle.goat_cli.specs.Last.{Last, Says, Wants}
+use Rattle.command_line.specs.Words.{Edit}
+use Rattle.command_line.specs.Last.{Last, Says, Wants}
 use Rattle.goat_cli.specs.Lines.{script_line}
 use Rattle.goat_cli.specs.Stages.{CanBeEdited, IsEditedIn, input_limit, script_limit}
 use Rattle.goat_cli.specs.Stands.{FolderState, SinkState}

@@ -1,11 +1,12 @@
 -- From what a stage answers to how the run is over.
 use Rattle.std.proofs.Common.{◌≡◌, ℕ, inl, inr, List, [], ◌∷◌, ◌++◌, None, refl, sym, ◌∙◌, subst}
 use Rattle.goat_io.specs.Files.{Files}
-use Rattle.goat_cli.specs.Words.{Job}
-use Rattle.goat_cli.specs.Lines.{usage_line}
-use Rattle.goat_cli.specs.Last.{Last, Says, Wants}
+use Rattle.command_line.specs.Words.{Job}
+use Rattle.command_line.specs.Lines.{usage_line}
+use Rattle.command_line.specs.Last.{Last, Says, Wants}
 use Rattle.goat_cli.specs.Stages.{Stage, IsThere, Fits, status_of, Ends, AllPass, FirstEnds}
-use Rattle.goat_cli.specs.Jobs.{WordsOf, IsNoForm, stages}
+use Rattle.command_line.specs.Forms.{WordsOf, IsNoForm}
+use Rattle.goat_cli.specs.Jobs.{stages}
 use Rattle.goat_cli.specs.Outcome as outcome
 use Rattle.goat_cli.specs.Stands as stands
 use Rattle.goat_cli.specs.Stands.{FolderState, SinkState, AreFiles, Account, Counted, FolderStays, ComesTo}

@@ -11,7 +11,7 @@ use Rattle.image_build.specs.Lengths.{image_length, IsTooLarge}
 use Rattle.image_build.specs.Built.{IsBuild}
 use Rattle.goat_cli.specs.Packed.{IsImageLength, IsWrittenFile, packed_file}
 use Rattle.goat_cli.specs.Lines.{image_too_large_line}
-use Rattle.goat_cli.specs.Last.{Last, Says}
+use Rattle.command_line.specs.Last.{Last, Says}
 use Rattle.goat_cli.specs.Stages.{HasRoomForImage, HoldsSong, IsMet}
 use Rattle.goat_cli.specs.Endings as ends
 use Rattle.goat_cli.specs.Endings.{Refuses, PacksSong}

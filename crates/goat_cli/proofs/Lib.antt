@@ -2,11 +2,9 @@ mod Answered
 mod RegisterLines
 mod Calls
 mod Chains
-mod Digits
 mod Due
 mod Edited
 mod Ends
-mod Forms
 mod Images
 mod Measured
 mod OneFeatures

@@ -31,9 +31,9 @@ use Rattle.sid_run.specs.State.{RunnerState, most_steps, sid_registers, loaded}
 use Rattle.goat_cli.specs.Calls.{entry_of, accumulator_of, Takes, FirstCalls, FirstCallsTake}
 use Rattle.goat_cli.specs.Traces.{first_traces}
 use Rattle.goat_cli.specs.Selftest.{calls_sum, subtunes_sum, register_sum, selftest_calls, CallsTake, SubtunesTake, TakesSteps}
-use Rattle.goat_cli.specs.Words.{Selftest}
+use Rattle.command_line.specs.Words.{Selftest}
 use Rattle.goat_cli.specs.Lines.{selftest_line}
-use Rattle.goat_cli.specs.Last.{Says}
+use Rattle.command_line.specs.Last.{Says}
 use Rattle.goat_cli.specs.Outcome as outcome
 use Rattle.goat_cli.specs.Stands as stands
 use Rattle.goat_cli.specs.Stands.{FolderState, SinkState}

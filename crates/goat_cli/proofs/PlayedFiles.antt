@@ -17,12 +17,12 @@ use Rattle.psid.proofs.Laws.{written_is_read_as_is}
 use Rattle.sid_run.specs.State.{RunnerState, loaded, loaded_machine}
 use Rattle.sid_run.proofs.Laws.{image_stands, loaded_is_machine}
 use Rattle.goat_io.specs.Files.{Files}
-use Rattle.goat_cli.specs.Words.{Run}
+use Rattle.command_line.specs.Words.{Run}
 use Rattle.goat_cli.specs.Calls.{HasSubtune, ReturnsTo, FirstCalls}
 use Rattle.faithful.specs.Faithful.{Leaves, PlaysOn, IsFaithful}
 use Rattle.packed_form.specs.ImagePlaces.{IsAddress}
 use Rattle.goat_cli.specs.Packed.{song_header, psid_file, caller_bits}
-use Rattle.goat_cli.specs.RegisterText.{register_lines}
+use Rattle.command_line.specs.RegisterText.{register_lines}
 use Rattle.goat_cli.specs.Stages.{IsThere, Fits, IsPsid, OffersSubtune, CallsReturn, HoldsPsid, AllPass, input_limit}
 use Rattle.goat_cli.specs.Jobs.{stages, Shows}
 use Rattle.goat_cli.specs.Outcome as outcome

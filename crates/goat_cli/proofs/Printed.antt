@@ -4,7 +4,7 @@ use Rattle.std.proofs.lemmas.List.{append-nil}
 use Rattle.std.proofs.lemmas.List.Folds.{concat-append}
 use Rattle.std.specs.List.{concat}
 use Rattle.goat_io.specs.Files.{Files}
-use Rattle.goat_cli.specs.Last.{Last, Says, SaysNothing, SinkFailed, Wants}
+use Rattle.command_line.specs.Last.{Last, Says, SaysNothing, SinkFailed, Wants}
 use Rattle.goat_cli.specs.Stands as stands
 use Rattle.goat_cli.specs.Stands.{FolderState, SinkState, Account, Counted, Appends, TellsWant, Stands, RunStands}
 use Rattle.goat_cli.specs.Endings as ends

@@ -10,7 +10,7 @@ use Rattle.goat_io.specs.declared.folder_counts.FolderCounts.{FolderCounts}
 use Rattle.goat_io.specs.FolderCounts.{CountsRead}
 use Rattle.goat_io.specs.Files.{Files, file_of, with_file, IsAbsent, IsAbove}
 use Rattle.goat_cli.specs.Lines.{missing_line, too_long_line}
-use Rattle.goat_cli.specs.Last.{Last, Says}
+use Rattle.command_line.specs.Last.{Last, Says}
 use Rattle.goat_cli.specs.Stands.{FolderState, AreFiles, Counted, FolderStays}
 use Rattle.goat_cli.proofs.Told.{same_count, still}
 use Rattle.goat_cli.specs.Endings as ends

@@ -8,7 +8,7 @@ use Rattle.std.specs.List.{concat, range_with_len}
 use Rattle.song_model.specs.declared.songs.Song.{Song}
 use Rattle.play_model.specs.declared.options.Options.{Options}
 use Rattle.play_model.specs.Frame.{trace_with}
-use Rattle.goat_cli.specs.RegisterText.{register_line, lines_from, register_lines}
+use Rattle.command_line.specs.RegisterText.{register_line, lines_from, register_lines}
 use Rattle.goat_cli.specs.Traces.{first_traces}
 
 lines-append : (call : ℕ) (registers : List (List ℕ)) (last : List ℕ) →

@@ -6,9 +6,9 @@ use Rattle.std.specs.FinMap.{empty, get-empty}
 use Rattle.goat_io.specs.Files.{Files, file_of, with_file, IsAbsent, IsAbove}
 use Rattle.goat_io.proofs.Laws.{file_put, file_beside}
 use Rattle.song_model.specs.declared.songs.Song.{Song}
-use Rattle.goat_cli.specs.Words.{Job}
+use Rattle.command_line.specs.Words.{Job}
 use Rattle.goat_cli.specs.Lines.{missing_line, too_long_line, read_fault_line}
-use Rattle.goat_cli.specs.Last.{Last, Says}
+use Rattle.command_line.specs.Last.{Last, Says}
 use Rattle.goat_cli.specs.Stages.{Stage, IsThere, Fits, SpellsSong, HoldsSong, AllPass, input_limit}
 use Rattle.goat_cli.specs.Jobs.{stages}
 use Rattle.goat_cli.specs.Stands as stands

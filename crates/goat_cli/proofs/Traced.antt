@@ -8,10 +8,10 @@ use Rattle.play_model.specs.declared.options.Options.{Options}
 use Rattle.play_model.specs.Frame.{trace_with}
 use Rattle.playroutine.specs.Playback.{Playback}
 use Rattle.playroutine.specs.Played.{StandsAfter}
-use Rattle.goat_cli.specs.declared.refusal.Refusal.{Refusal}
-use Rattle.goat_cli.specs.RegisterText.{register_line, register_lines}
+use Rattle.command_line.specs.declared.refusal.Refusal.{Refusal}
+use Rattle.command_line.specs.RegisterText.{register_line, register_lines}
 use Rattle.goat_cli.specs.Traces.{first_traces}
-use Rattle.goat_cli.specs.Last.{SaysNothing, last_of, IsOfSink}
+use Rattle.command_line.specs.Last.{SaysNothing, last_of, IsOfSink}
 use Rattle.goat_cli.specs.Stands.{SinkState, Appends}
 use Rattle.goat_cli.specs.Endings.{LinesEnd, PutFails, shown, cut, unsaid}
 use Rattle.goat_cli.proofs.RegisterLines.{trace_text_more, has_later}

@@ -9,9 +9,10 @@ use Rattle.song_model.specs.Limits.{KeepsLimits}
 use Rattle.song_model.specs.LookUp.{playable_subtunes}
 use Rattle.play_model.specs.declared.options.Options.{Options}
 use Rattle.packed_form.specs.ImagePlaces.{IsAddress}
-use Rattle.goat_cli.specs.Words.{Job, Run}
+use Rattle.command_line.specs.Words.{Job, Run}
 use Rattle.goat_cli.specs.Stages.{AllPass, input_limit}
-use Rattle.goat_cli.specs.Jobs.{WordsOf, stages, Done}
+use Rattle.command_line.specs.Forms.{WordsOf}
+use Rattle.goat_cli.specs.Jobs.{stages, Done}
 use Rattle.goat_cli.specs.Outcome.{Outcome, files_after}
 use Rattle.goat_cli.specs.Packed.{IsPackedFile}
 use Rattle.goat_cli.specs.Due.{IsOneOf}

@@ -1,9 +1,10 @@
 -- Which status a run has to answer, known without the bytes that it prints and writes.
 use Rattle.std.specs.Prelude.{◌≡◌, ℕ, List, [], ◌∷◌, Option, Some, None, ◌⊎◌}
 use Rattle.goat_io.specs.Files.{Files}
-use Rattle.goat_cli.specs.Words.{Job}
+use Rattle.command_line.specs.Words.{Job}
 use Rattle.goat_cli.specs.Stages.{AllPass, FirstEnds}
-use Rattle.goat_cli.specs.Jobs.{WordsOf, IsNoForm, output_of, stages}
+use Rattle.command_line.specs.Forms.{WordsOf, IsNoForm}
+use Rattle.goat_cli.specs.Jobs.{output_of, stages}
 
 -- the status that is due, and the name of the file that is written with it, if any
 pub data IsDue (words : List (List ℕ)) (files : Files) (status : ℕ) (output : Option (List ℕ)) : Type 0 where

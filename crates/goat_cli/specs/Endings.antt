@@ -14,12 +14,12 @@ use Rattle.cpu6502.specs.declared.machine.Machine.{Machine}
 use Rattle.cpu6502.specs.declared.stop.CallStop.{CallStop}
 use Rattle.sid_run.specs.State.{RunnerState}
 use Rattle.goat_cli.specs.Calls.{FirstCalls, MeetsStopAt}
-use Rattle.goat_cli.specs.RegisterText.{register_lines}
+use Rattle.command_line.specs.RegisterText.{register_lines}
 use Rattle.goat_cli.specs.Lines.{missing_line, too_long_line, read_fault_line, write_fault_line, script_line, stop_line, wrote_line}
-use Rattle.goat_cli.specs.Last.{Last, Says, SaysNothing, SinkFailed, Wants}
-use Rattle.goat_cli.specs.Words.{Job}
+use Rattle.command_line.specs.Last.{Last, Says, SaysNothing, SinkFailed, Wants}
+use Rattle.command_line.specs.Words.{Job}
 use Rattle.goat_cli.specs.Stages.{Stage, SpellsSong, Ends, status_of, input_limit}
-use Rattle.goat_cli.specs.Jobs.{WordsOf}
+use Rattle.command_line.specs.Forms.{WordsOf}
 use Rattle.goat_cli.specs.Stands.{FolderState, SinkState, AreFiles, Counted, FolderStays, Appends, FailsAfter, Account, Printing, TellsWant}
 
 -- ---- a stage

@@ -1,6 +1,6 @@
--- What belongs to each command: the words that name its job, the stages of a run, and what the job does where all
--- pass. It is a relation, since the player's bytes may be chosen.
-use Rattle.std.specs.Prelude.{◌≡◌, ◌≢◌, ℕ, ◌+◌, ◌-◌, ◌≤◌, List, [], ◌∷◌, codes, Option, Some, None, length}
+-- What belongs to each job: the stages of its run, and what it does where all pass. It is a relation, since the player's
+-- bytes may be chosen.
+use Rattle.std.specs.Prelude.{◌≡◌, ℕ, ◌+◌, ◌-◌, ◌≤◌, List, [], ◌∷◌, Option, Some, None, length}
 use Rattle.goat_io.specs.Files.{Files}
 use Rattle.song_model.specs.declared.songs.Song.{Song}
 use Rattle.song_model.specs.Canonical.{canonical}
@@ -11,11 +11,11 @@ use Rattle.usage.specs.Parts.{AreUsedParts}
 use Rattle.psid.specs.declared.header.Psid.{Psid}
 use Rattle.cpu6502.specs.declared.machine.Machine.{Machine}
 use Rattle.sid_run.specs.State.{loaded}
-use Rattle.goat_cli.specs.Words.{Job, Pack, Copy, Edit, Check, Trace, Run, Selftest, ArePackArguments, AreTraceArguments, AreRunArguments, AreSelftestArguments}
+use Rattle.command_line.specs.Words.{Job, Pack, Copy, Edit, Check, Trace, Run, Selftest}
 use Rattle.goat_cli.specs.Stages.{Stage, IsThere, Fits, SpellsSong, CanBePlayed, HasShortPatterns, HasRoomForImage, HasPlayableSubtune, CanBeEdited, IsPsid, OffersSubtune, CallsReturn, HoldsSong, HoldsPsid, IsEditedIn, input_limit, script_limit}
 use Rattle.goat_cli.specs.Packed.{IsWrittenFile}
 use Rattle.goat_cli.specs.Calls.{FirstCalls}
-use Rattle.goat_cli.specs.RegisterText.{register_lines}
+use Rattle.command_line.specs.RegisterText.{register_lines}
 use Rattle.goat_cli.specs.Traces.{first_traces}
 use Rattle.goat_cli.specs.Lines.{wrote_line, check_line, selftest_line}
 use Rattle.goat_cli.specs.Selftest.{register_sum, TakesSteps}
@@ -33,51 +33,39 @@ pub record Shows (psid : Psid) (subtune calls : ℕ) (lines : List (List ℕ)) :
   pub returned : FirstCalls (loaded psid) (subtune - 1) calls registers after
   pub lines_are : lines ≡ register_lines registers
 
--- a command's first word, and the words after it; the stages of its run, in the order of its refusals; and what it does
+-- the stages of a job's run, in the order of its refusals; and what it does
 pub record About : Type 1 where
-  pub command : List ℕ
-  pub has_arguments : List (List ℕ) → Type 0
   pub stages : List Stage
   pub does : Deed
 
 abbrev pub about : Job → About
 -- of a song a packed file is written, played with these options
 about (Pack input output psid address zero_page options) = record {
-  command = codes "pack";
-  has_arguments = λ words. ArePackArguments words input output psid address zero_page options;
   stages = IsThere input ∷ Fits input input_limit ∷ SpellsSong input ∷ CanBePlayed input ∷ HasShortPatterns input ∷
       HasRoomForImage input address options ∷ [];
   does = WritesFile output (λ files file. (song : Song) × HoldsSong files input song ×
       IsWrittenFile psid address zero_page song options file);
 }
--- of a song the canonical spelling is written; the arguments are `IN OUT`
+-- of a song the canonical spelling is written
 about (Copy input output) = record {
-  command = codes "copy";
-  has_arguments = λ words. (words ≡ input ∷ output ∷ []) × (input ≢ []) × (output ≢ []);
   stages = IsThere input ∷ Fits input input_limit ∷ SpellsSong input ∷ [];
   does = WritesFile output (λ files file. (song : Song) × HoldsSong files input song × (file ≡ canonical song));
 }
--- of a song that a script has edited the canonical spelling is written; the arguments are `IN SCRIPT OUT`
+-- of a song that a script has edited the canonical spelling is written
 about (Edit input script output) = record {
-  command = codes "edit";
-  has_arguments = λ words. (words ≡ input ∷ script ∷ output ∷ []) × (input ≢ []) × (script ≢ []) × (output ≢ []);
   stages = IsThere input ∷ Fits input input_limit ∷ SpellsSong input ∷ IsThere script ∷ Fits script script_limit ∷
       CanBeEdited input script ∷ [];
   does = WritesFile output (λ files file. (song : Song) × (after : Song) × IsEditedIn files input script song after ×
       (file ≡ canonical after));
 }
--- of a song it is told what it uses; the argument is `IN`
+-- of a song it is told what it uses
 about (Check input) = record {
-  command = codes "check";
-  has_arguments = λ words. (words ≡ input ∷ []) × (input ≢ []);
   stages = IsThere input ∷ Fits input input_limit ∷ SpellsSong input ∷ CanBePlayed input ∷ [];
   does = PrintsLines (λ files lines. (song : Song) × (parts : UsedParts) × HoldsSong files input song ×
       AreUsedParts song parts × (lines ≡ check_line (length (playable_subtunes song)) parts ∷ []));
 }
 -- of a song the calls are shown: its start, and then as many frames, played with these options
 about (Trace input subtune frames options) = record {
-  command = codes "trace";
-  has_arguments = λ words. AreTraceArguments words input subtune frames options;
   stages = IsThere input ∷ Fits input input_limit ∷ SpellsSong input ∷ CanBePlayed input ∷
       HasPlayableSubtune input subtune ∷ [];
   does = PrintsLines (λ files lines. (song : Song) × HoldsSong files input song ×
@@ -85,8 +73,6 @@ about (Trace input subtune frames options) = record {
 }
 -- of a PSID file the calls are shown: init, and play as often as there are frames
 about (Run input subtune frames) = record {
-  command = codes "run";
-  has_arguments = λ words. AreRunArguments words input subtune frames;
   stages = IsThere input ∷ Fits input input_limit ∷ IsPsid input ∷ OffersSubtune input subtune ∷
       CallsReturn input subtune frames ∷ [];
   does = PrintsLines (λ files lines. (psid : Psid) × HoldsPsid files input psid ×
@@ -94,19 +80,11 @@ about (Run input subtune frames) = record {
 }
 -- the song of a number is made, traced and packed, and its file is run; no file is read or written
 about (Selftest number) = record {
-  command = codes "selftest";
-  has_arguments = λ words. AreSelftestArguments words number;
   stages = [];
   does = PrintsLines (λ files lines. (steps : ℕ) × TakesSteps (generated_song number) steps ×
       (lines ≡ selftest_line number (length (playable_subtunes (generated_song number)))
       (register_sum (generated_song number)) steps ∷ []));
 }
-
-abbrev pub command_of : Job → List ℕ
-command_of job = (about job).command
-
-abbrev pub AreArgumentsOf : Job → List (List ℕ) → Type 0
-AreArgumentsOf job words = (about job).has_arguments words
 
 abbrev pub stages : Job → List Stage
 stages job = (about job).stages
@@ -131,16 +109,6 @@ DoneBy (WritesFile output holds) files lines write = (file : List ℕ) × holds 
 
 abbrev pub Done : Job → Files → List (List ℕ) → Option (List ℕ × List ℕ) → Type 0
 Done job files lines write = DoneBy (about job).does files lines write
-
--- the words name this job
-pub record WordsOf (words : List (List ℕ)) (job : Job) : Type 0 where
-  pub arguments : List (List ℕ)
-  pub words_are : words ≡ command_of job ∷ arguments
-  pub are_arguments : AreArgumentsOf job arguments
-
--- no form of the command line has these words
-abbrev pub IsNoForm : List (List ℕ) → Type 0
-IsNoForm words = (job : Job) → ¬ WordsOf words job
 
 -- lines that a stage prints before it is known whether it ends the run: those of the first calls, which have returned
 abbrev pub Prints : Files → Stage → List (List ℕ) → Type 0

@@ -16,10 +16,11 @@ use Rattle.cpu6502.specs.declared.machine.Machine.{Machine}
 use Rattle.sid_run.specs.State.{loaded}
 use Rattle.psid.specs.declared.header.Psid.{Psid}
 use Rattle.psid.specs.Reading.{psid_read}
-use Rattle.goat_cli.specs.Words.{Job, Pack, Selftest}
+use Rattle.command_line.specs.Words.{Job, Pack, Selftest}
 use Rattle.goat_cli.specs.Calls.{HasSubtune, FirstCalls}
 use Rattle.goat_cli.specs.Stages.{Stage, CanBePlayed, HasRoomForImage, HoldsSong, status_of, Ends, IsMet, Passes, AllPass, input_limit}
-use Rattle.goat_cli.specs.Jobs.{WordsOf, IsNoForm, stages}
+use Rattle.command_line.specs.Forms.{WordsOf, IsNoForm}
+use Rattle.goat_cli.specs.Jobs.{stages}
 use Rattle.goat_cli.specs.Outcome.{Outcome}
 use Rattle.goat_cli.specs.Due.{IsDue}
 use Rattle.goat_cli.specs.Stands.{ComesTo}
@@ -27,13 +28,6 @@ use Rattle.goat_cli.specs.Traces.{first_traces}
 use Rattle.packed_form.specs.ImagePlaces.{IsAddress}
 use Rattle.goat_cli.specs.Packed.{IsImageLength, IsWrittenFile}
 use Rattle.goat_cli.specs.Answers.{IsPackedPsid}
-use Rattle.goat_cli.specs.declared.message.Piece.{Piece}
-use Rattle.goat_cli.specs.Message.{line_of, name_length, IsShort}
-use Rattle.goat_cli.specs.RegisterText.{register_line}
-use Rattle.goat_cli.specs.Lines.{no_memory_line}
-
-abbrev pub WordsNameOneJob : Type 0
-WordsNameOneJob = (words : List (List ℕ)) (a b : Job) → WordsOf words a → WordsOf words b → a ≡ b
 
 -- an outcome's status is due, and one status alone is due
 abbrev pub OutcomesAreDue : Type 0
@@ -133,10 +127,3 @@ PackedFilesPlay =
     FirstCalls (loaded psid) (subtune - 1) (frames + 1) (first_traces options song (subtune - 1) (frames + 1)) after
 
 -- ---- room
-
--- a line has at most 96 bytes beside the names in it: that of a message, that of a call, and `no memory`
-pub record LinesHaveRoom : Type 0 where
-  pub messages : (pieces : List Piece) → IsShort pieces → length (line_of pieces) ≤ 96 + sum_by name_length pieces
-  pub registers : (call : ℕ) (registers : List ℕ) → call < 10 ^ 6 → length registers ≡ 25 →
-      length (register_line call registers) ≤ 96
-  pub no_memory : length no_memory_line ≤ 96

@@ -1,7 +1,5 @@
--- To believe: the command line, the stages of a job, what a job does, and what stands after a run.
-pub mod Words
+-- To believe: the lines of a job, its stages, what it does, and what stands after a run.
 pub mod Lines
-pub mod RegisterText
 pub mod Traces
 pub mod Calls
 pub mod Packed
@@ -15,8 +13,4 @@ pub mod Answers
 -- Claimed: laws of these definitions.
 pub mod Laws
 -- Inner: what the parts of the top call promise each other.
-pub mod Job
-pub mod Message
-pub mod Room
-pub mod Last
 pub mod Endings

@@ -1,7 +1,6 @@
--- The lines that the program prints, but for those of registers.
-use Rattle.std.specs.Prelude.{ℕ, ◌/◌, ◌%◌, List, [], ◌∷◌, ◌++◌, codes, decimal}
-use Rattle.std.specs.List.{concat}
-use Rattle.hex.specs.Hex.{encode_lower, encode_upper}
+-- The lines that tell what became of a job.
+use Rattle.std.specs.Prelude.{ℕ, List, [], ◌∷◌, ◌++◌, codes, decimal}
+use Rattle.command_line.specs.Lines.{line, no_memory_line, address_digits, feature_digits, sum_digits}
 use Rattle.song_model.specs.declared.tables.TableName.{TableName}
 use Rattle.song_model.specs.declared.tables.TableName.TheVariants.{Wave, Pulse, Filter, Speed}
 use Rattle.play_model.specs.declared.unplayable.Unplayable.{Unplayable}
@@ -16,13 +15,6 @@ use Rattle.cpu6502.specs.declared.stop.Stop.TheVariants.{Illegal, Break, Decimal
 use Rattle.cpu6502.specs.declared.stop.CallStop.{CallStop}
 use Rattle.cpu6502.specs.declared.stop.CallStop.TheVariants.{Stopped, Budget}
 
--- the line of these parts
-abbrev pub line : List (List ℕ) → List ℕ
-line parts = concat parts ++ codes "\n"
-
-abbrev pub usage_line : List ℕ
-usage_line = line (codes "usage: goat check|trace|pack|run|edit|copy|selftest" ∷ [])
-
 abbrev pub missing_line : List ℕ → List ℕ
 missing_line name = line (codes "missing: " ∷ name ∷ [])
 
@@ -34,9 +26,6 @@ read_fault_line name = line (codes "read fault: " ∷ name ∷ [])
 
 abbrev pub write_fault_line : List ℕ → List ℕ
 write_fault_line name = line (codes "write fault: " ∷ name ∷ [])
-
-abbrev pub no_memory_line : List ℕ
-no_memory_line = line (codes "no memory" ∷ [])
 
 -- the faults of a file that spells no song; running out of memory is none of the file's
 abbrev pub song_fault_line : SongFault → List ℕ
@@ -58,10 +47,6 @@ psid_fault_line psid.NoMemory = no_memory_line
 -- for a subtune that isn't one of this number
 abbrev pub no_subtune_line : ℕ → ℕ → List ℕ
 no_subtune_line asked songs = line (codes "no such subtune: " ∷ decimal asked ∷ codes " of " ∷ decimal songs ∷ [])
-
--- an address as four hexadecimal digits in upper case
-abbrev pub address_digits : ℕ → List ℕ
-address_digits address = encode_upper ((address / 256) ∷ (address % 256) ∷ [])
 
 -- how a call ended that did not return
 abbrev pub stop_text : CallStop → List ℕ
@@ -105,10 +90,6 @@ too_large_line pattern count =
 abbrev pub image_too_large_line : ℕ → List ℕ
 image_too_large_line count = line (codes "too large: image of " ∷ decimal count ∷ codes " bytes" ∷ [])
 
--- the low 24 bits of a number as six hexadecimal digits in lower case
-abbrev pub feature_digits : ℕ → List ℕ
-feature_digits bits = encode_lower ((bits / 65536 % 256) ∷ (bits / 256 % 256) ∷ (bits % 256) ∷ [])
-
 -- for a song with this number of playable subtunes, and these used parts
 abbrev pub check_line : ℕ → UsedParts → List ℕ
 check_line subtunes parts =
@@ -125,10 +106,6 @@ script_line number words = line (codes "script line " ∷ decimal number ∷ cod
 -- for a file of this length
 abbrev pub wrote_line : ℕ → List ℕ
 wrote_line count = line (codes "wrote " ∷ decimal count ∷ codes " bytes" ∷ [])
-
--- a number of 32 bits as eight hexadecimal digits in lower case
-abbrev pub sum_digits : ℕ → List ℕ
-sum_digits sum = encode_lower ((sum / 16777216 % 256) ∷ (sum / 65536 % 256) ∷ (sum / 256 % 256) ∷ (sum % 256) ∷ [])
 
 -- for the song of a number, with so many playable subtunes, this sum of its registers and so many steps of the machine
 abbrev pub selftest_line : ℕ → ℕ → ℕ → ℕ → List ℕ

@@ -2,10 +2,11 @@
 -- name and the bytes of the file that it writes.
 use Rattle.std.specs.Prelude.{◌≡◌, ℕ, List, [], ◌∷◌, Option, Some, None, option_map}
 use Rattle.goat_io.specs.Files.{Files, with_file}
-use Rattle.goat_cli.specs.Words.{Job}
+use Rattle.command_line.specs.Words.{Job}
 use Rattle.goat_cli.specs.Stages.{AllPass, FirstEnds}
-use Rattle.goat_cli.specs.Jobs.{WordsOf, IsNoForm, stages, Done}
-use Rattle.goat_cli.specs.Lines.{usage_line}
+use Rattle.command_line.specs.Forms.{WordsOf, IsNoForm}
+use Rattle.goat_cli.specs.Jobs.{stages, Done}
+use Rattle.command_line.specs.Lines.{usage_line}
 
 -- the words are of no form; or the first stage of their job that doesn't pass ends the run; or all pass and the job is
 -- done

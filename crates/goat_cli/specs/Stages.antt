@@ -21,7 +21,7 @@ use Rattle.cpu6502.specs.declared.machine.Machine.{Machine}
 use Rattle.sid_run.specs.State.{loaded}
 use Rattle.goat_cli.specs.Calls.{HasSubtune, FirstCalls, StopsIn}
 use Rattle.goat_cli.specs.Packed.{IsImageLength}
-use Rattle.goat_cli.specs.RegisterText.{register_lines}
+use Rattle.command_line.specs.RegisterText.{register_lines}
 use Rattle.goat_cli.specs.Lines.{missing_line, too_long_line, song_fault_line, unplayable_line, too_large_line, image_too_large_line, script_line, psid_fault_line, no_subtune_line, stop_line}
 
 -- the most bytes of a song or a PSID file

@@ -6,11 +6,13 @@ use Rattle.goat_io.specs.declared.folder_counts.FolderCounts.{FolderCounts}
 use Rattle.goat_io.specs.Count.{Rose}
 use Rattle.goat_io.specs.Files.{Files, IsWrittenInPart}
 use Rattle.goat_io.specs.Written.{told_with_piece}
-use Rattle.goat_cli.specs.Words.{Job}
+use Rattle.command_line.specs.Words.{Job}
 use Rattle.goat_cli.specs.Stages.{Stage, IsThere, AllPass}
-use Rattle.goat_cli.specs.Jobs.{WordsOf, stages, Prints}
+use Rattle.command_line.specs.Forms.{WordsOf}
+use Rattle.goat_cli.specs.Jobs.{stages, Prints}
 use Rattle.goat_cli.specs.Outcome.{Outcome, told_after}
-use Rattle.goat_cli.specs.Lines.{read_fault_line, write_fault_line, no_memory_line}
+use Rattle.command_line.specs.Lines.{no_memory_line}
+use Rattle.goat_cli.specs.Lines.{read_fault_line, write_fault_line}
 
 -- the files that a folder tells, if it tells them, and its four counts
 pub record FolderState : Type 0 where

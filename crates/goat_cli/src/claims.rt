@@ -1,11 +1,6 @@
 //! Facts about the definitions, each the contract of a function that does nothing.
 
-ghost use Rattle.goat_cli.specs.Laws.{WordsNameOneJob, OutcomesAreDue, OneStatusIsDue, OneTextIsPrinted, StagesPass, PlayableSongsPass, StatusesHaveCauses, OnlyLargeImagesAreRefused, SmallSongsArePacked, ImagesAreBounded, WrittenFilesArePacked, PackedFilesPlay, LinesHaveRoom};
-
-/// The words of a line name one job at most.
-pub fn words_name_one_job()
-    ensures { WordsNameOneJob }
-{}
+ghost use Rattle.goat_cli.specs.Laws.{OutcomesAreDue, OneStatusIsDue, OneTextIsPrinted, StagesPass, PlayableSongsPass, StatusesHaveCauses, OnlyLargeImagesAreRefused, SmallSongsArePacked, ImagesAreBounded, WrittenFilesArePacked, PackedFilesPlay};
 
 /// A run has one outcome at most: one status and one name to write under, and, where nothing is written, one text.
 pub fn runs_have_one_outcome()
@@ -41,9 +36,4 @@ pub fn small_songs_are_packed()
 pub fn packed_files_play_their_song()
     ensures written { WrittenFilesArePacked }
     ensures play { PackedFilesPlay }
-{}
-
-/// 96 bytes hold each line beside the names in it, so a line with its room takes no memory.
-pub fn lines_have_room()
-    ensures { LinesHaveRoom }
 {}

@@ -1,10 +1,10 @@
 //! The commands, a file each: the words that name its job, and its chain of stages.
 
-ghost use Rattle.goat_cli.specs.Job.{job_of};
-ghost use Rattle.goat_cli.specs.Last.{last_word};
+ghost use Rattle.command_line.specs.Job.{job_of};
+ghost use Rattle.command_line.specs.Last.{last_word};
 ghost use Rattle.goat_cli.specs.Stands.{folder_state, sink_state};
 ghost use Rattle.goat_cli.specs.Endings.{JobEnds};
-ghost use Rattle.goat_cli.specs.Words.{HasAllowedNumbers};
+ghost use Rattle.command_line.specs.Words.{HasAllowedNumbers};
 
 /// `check IN`.
 pub mod check;
@@ -28,9 +28,7 @@ use crate::commands::pack::pack_song;
 use crate::commands::run::run_psid;
 use crate::commands::selftest::self_test;
 use crate::commands::trace::trace_song;
-use crate::line::Line;
-use crate::refusal::{Refusal, Report};
-use crate::words::Job;
+use command_line::{Job, Line, Refusal, Report};
 use goat_io::{Folder, Sink};
 use std::alloc::Global;
 

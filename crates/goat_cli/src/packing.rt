@@ -9,14 +9,12 @@ ghost use Rattle.play_model.specs.Playable.{IsPlayable};
 ghost use Rattle.usage.specs.Parts.{AreUsedParts};
 ghost use Rattle.packed_form.specs.ImagePlaces.{IsAddress, IsZeroPage};
 ghost use Rattle.image_build.specs.Built.{IsBuild};
-ghost use Rattle.goat_cli.specs.Last.{last_of, Says};
+ghost use Rattle.command_line.specs.Last.{last_of, Says};
 ghost use Rattle.goat_cli.specs.Lines.{too_large_line, image_too_large_line};
 ghost use Rattle.goat_cli.specs.Stages.{HasShortPatterns, HasRoomForImage, HoldsSong, IsMet};
 ghost use Rattle.goat_cli.specs.Endings.{Refuses, PacksSong};
 
-use crate::message::Piece;
-use crate::refusal::Refusal;
-use crate::status::Status;
+use command_line::{Piece, Refusal, Status};
 use image_build::{BuildFault, Image, build};
 use packed_form::PackedSong;
 use play_model::Options;

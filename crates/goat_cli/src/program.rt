@@ -1,7 +1,7 @@
 //! The edge around the top call: the system's words, its files and its standard output. It claims nothing.
 
-use crate::status::Status;
 use crate::top::goat;
+use command_line::Status;
 use goat_io::{DiskFolder, StdSink};
 use song_model::NoMemory;
 use std::env;

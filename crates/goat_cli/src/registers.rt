@@ -1,11 +1,11 @@
 //! Printing the registers of the SID after a call.
 
 ghost use Rattle.std.specs.Prelude.{[], OnOk, IsErrOf};
-ghost use Rattle.goat_cli.specs.RegisterText.{register_line};
+ghost use Rattle.command_line.specs.RegisterText.{register_line};
 ghost use Rattle.goat_cli.specs.Stands.{sink_state, Appends};
 ghost use Rattle.goat_cli.specs.Endings.{PutFails};
 
-use crate::line::Line;
+use command_line::Line;
 use goat_io::{Sink, SinkFault};
 
 /// Prints the line of a call.

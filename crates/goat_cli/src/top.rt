@@ -3,24 +3,20 @@
 ghost use Rattle.std.specs.Prelude.{◌≡◌, ℕ, ◌+◌, ◌-◌, List, [], ◌∷◌, Option, IfSome};
 ghost use Rattle.goat_io.specs.Written.{told_with_piece};
 ghost use Rattle.song_model.specs.declared.songs.Song.{Song};
-ghost use Rattle.goat_cli.specs.Words.{texts, Selftest};
-ghost use Rattle.goat_cli.specs.Jobs.{IsNoForm, WordsOf};
-ghost use Rattle.goat_cli.specs.RegisterText.{register_text};
+ghost use Rattle.command_line.specs.Words.{texts, Selftest};
+ghost use Rattle.command_line.specs.Forms.{IsNoForm, WordsOf};
+ghost use Rattle.command_line.specs.RegisterText.{register_text};
 ghost use Rattle.goat_cli.specs.Due.{IsDue, IsOneOf, instead};
 ghost use Rattle.goat_cli.specs.Stands.{folder_state, sink_state, RunStands, Counted, TellsWant};
 ghost use Rattle.goat_cli.specs.Answers.{HoldsDone, IsOrdinary, IsPrinted, IsBeforeWriting, ComesAbout, ComesWhere, SinkCounted, RunsPacked};
 ghost use Rattle.goat_cli.specs.Traces.{first_traces};
 ghost use Rattle.play_model.specs.declared.options.Options.{Options};
-ghost use Rattle.goat_cli.specs.Last.{last_word};
-ghost use Rattle.goat_cli.specs.Message.{line_of};
+ghost use Rattle.command_line.specs.Last.{last_word};
+ghost use Rattle.command_line.specs.Message.{line_of};
 ghost use Rattle.goat_cli.specs.Endings.{RunEnds, PrintsLast, PrintsLine};
 
 use crate::commands::perform;
-use crate::line::Line;
-use crate::message::{Message, Piece};
-use crate::refusal::{Refusal, Report};
-use crate::status::Status;
-use crate::words::{WordsFault, parse_words};
+use command_line::{Line, Message, Piece, Refusal, Report, Status, WordsFault, parse_words};
 use goat_io::{Folder, Sink, SinkFault};
 use std::alloc::Global;
 

@@ -5,8 +5,8 @@
 //! their spellings is packed; `pattern_pack` has the calls.
 //!
 //! A packed song has the packed patterns and orderlists of a song, and of its instruments and tables only what is used;
-//! `packing_rules` says under which numbers. Read as a song it is `unpacked_song`, and it stands for the songs that this
-//! one plays as (`StandsFor`).
+//! `packing_rules` says under which numbers. Read as a song it is `unpacked_song`, and it stands for the songs that
+//! this one plays as (`StandsFor`).
 //!
 //! The layer's one contract: `PackedSong::size` is how many bytes that is, and `PackedSong::walk_count` how many bytes
 //! of an orderlist are looked at, at most, to come to a pattern, which is a byte where each orderlist goes on for ever.

@@ -3,9 +3,9 @@
 //! The layer's one contract: a player that `start` has made gives with its n-th frame the registers of the trace
 //! after call n, and stands then for the state after n frames. It takes no memory, and a frame has no condition.
 //!
-//! Each rule of a frame is a call that leaves in the voice, and in what the voices share, exactly what the rule says: the
-//! filter, tick, wave, effect and pulse step, and the fetch of a row. Its file stands beside the file of definitions
-//! that it computes.
+//! Each rule of a frame is a call that leaves in the voice, and in what the voices share, exactly what the rule says:
+//! the filter, tick, wave, effect and pulse step, and the fetch of a row. Each has a file of its own, as its definition
+//! has in `play_model`.
 //!
 //! It stands on `play_model` for the rules' definitions and the states, on `song_model` for the song, and on
 //! `safe_states` for the law that the song's features name whatever a frame does. The command `trace` stands on it.

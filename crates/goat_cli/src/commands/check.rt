@@ -1,48 +1,21 @@
 //! `check IN`: what the song in IN uses is told, or why it can't be played.
 #![tactic(auto, using(crate::proofs::Room::pieces_fit))]
 
-ghost use Rattle.std.specs.Prelude.{◌≡◌, ◌≤◌, codes, length, IfOk, OnErr, Ok, List, ℕ};
+ghost use Rattle.std.specs.Prelude.{◌≡◌, ◌≤◌, length, Ok};
 ghost use Rattle.song_model.specs.LookUp.{playable_subtunes};
 ghost use Rattle.usage.specs.Marks.{count_of};
-ghost use Rattle.goat_cli.specs.Job.{job_of};
-ghost use Rattle.goat_cli.specs.Last.{last_word, Says};
+ghost use Rattle.command_line.specs.Last.{last_word, Says};
 ghost use Rattle.goat_cli.specs.Lines.{check_line};
 ghost use Rattle.goat_cli.specs.Stands.{folder_state, SinkState};
 ghost use Rattle.goat_cli.specs.Endings.{JobEnds};
-ghost use Rattle.goat_cli.specs.Words.{texts, HasAllowedNumbers, Check};
-ghost use Rattle.goat_cli.specs.Jobs.{command_of, AreArgumentsOf};
+ghost use Rattle.command_line.specs.Words.{Check};
 
-use crate::message::Piece;
-use crate::refusal::{Refusal, Report};
 use crate::stages::{parts_of, read_song};
-use crate::words::{Job, WordsFault};
+use command_line::{Piece, Refusal, Report};
 use goat_io::Folder;
 use song_model::Song;
 use std::alloc::Global;
 use usage::UsedParts;
-
-/// The job that the word after `check` names.
-///
-/// # Errors
-///
-/// It isn't one word, or it is empty.
-pub fn check_job(arguments: &[String]) -> Result<Job<'_>, WordsFault>
-    ensures found { IfOk result (λ job. AreArgumentsOf (job_of job) (texts arguments.now)) }
-    ensures command { IfOk result (λ job. command_of (job_of job) ≡ codes "check") }
-    ensures limits { IfOk result (λ job. HasAllowedNumbers (job_of job)) }
-    ensures none { OnErr result ((input : List ℕ) →
-        ¬ AreArgumentsOf (Check input) (texts arguments.now)) }
-{
-    let [input] = arguments else {
-        return Err(WordsFault);
-    };
-    if input.is_empty() {
-        return Err(WordsFault);
-    }
-    Ok(Job::Check {
-        input: input.as_str(),
-    })
-}
 
 /// Tells what the song in a file uses.
 ///

@@ -1,52 +1,22 @@
 //! `edit IN SCRIPT OUT`: the commands in SCRIPT are done on the song in IN, and the canonical spelling of what they make
 //! of it is written into OUT.
 
-ghost use Rattle.std.specs.Prelude.{◌≡◌, ◌≢◌, ◌≤◌, codes, length, IfOk, IfErr, OnErr, List, ℕ};
+ghost use Rattle.std.specs.Prelude.{◌≡◌, ◌≢◌, ◌≤◌, length, IfOk, IfErr};
 ghost use Rattle.edit_script.specs.Edited.{IsEditedBy, kind_words};
-ghost use Rattle.goat_cli.specs.Job.{job_of};
-ghost use Rattle.goat_cli.specs.Last.{Says, Wants, last_of, last_word};
+ghost use Rattle.command_line.specs.Last.{Says, Wants, last_of, last_word};
 ghost use Rattle.goat_cli.specs.Lines.{script_line};
 ghost use Rattle.goat_cli.specs.Stages.{script_limit};
 ghost use Rattle.goat_cli.specs.Stands.{folder_state, SinkState};
 ghost use Rattle.goat_cli.specs.Endings.{EditFails, JobEnds};
-ghost use Rattle.goat_cli.specs.Words.{texts, HasAllowedNumbers, Edit};
-ghost use Rattle.goat_cli.specs.Jobs.{command_of, AreArgumentsOf};
+ghost use Rattle.command_line.specs.Words.{Edit};
 
-use crate::message::Piece;
-use crate::refusal::{Refusal, Report};
 use crate::stages::{read_song_and_script, write_file};
-use crate::status::Status;
-use crate::words::{Job, WordsFault};
+use command_line::{Piece, Refusal, Report, Status};
 use edit_history::Session;
 use edit_script::{RunFault, RunKind, ScriptFault, parse, run};
 use goat_io::Folder;
 use song_model::Song;
 use std::alloc::Global;
-
-/// The job that the words after `edit` name.
-///
-/// # Errors
-///
-/// They aren't three, or one of them is empty.
-pub fn edit_job(arguments: &[String]) -> Result<Job<'_>, WordsFault>
-    ensures found { IfOk result (λ job. AreArgumentsOf (job_of job) (texts arguments.now)) }
-    ensures command { IfOk result (λ job. command_of (job_of job) ≡ codes "edit") }
-    ensures limits { IfOk result (λ job. HasAllowedNumbers (job_of job)) }
-    ensures none { OnErr result ((input script output : List ℕ) →
-        ¬ AreArgumentsOf (Edit input script output) (texts arguments.now)) }
-{
-    let [input, script, output] = arguments else {
-        return Err(WordsFault);
-    };
-    if input.is_empty() || script.is_empty() || output.is_empty() {
-        return Err(WordsFault);
-    }
-    Ok(Job::Edit {
-        input: input.as_str(),
-        script: script.as_str(),
-        output: output.as_str(),
-    })
-}
 
 /// Does a script on the song in a file, and writes the canonical spelling of what it makes into another.
 ///

@@ -1,55 +1,22 @@
 //! `run IN SUBTUNE FRAMES`: the PSID file IN is run, and the SID's registers are printed after each call.
 #![tactic(auto, using(crate::proofs::Room::pieces_fit))]
 
-ghost use Rattle.std.specs.Prelude.{◌≡◌, ℕ, ◌≤◌, ◌++◌, [], ◌∷◌, codes, decimal, length, None, IfOk, OnErr, List};
-ghost use Rattle.goat_cli.specs.Job.{job_of};
-ghost use Rattle.goat_cli.specs.Last.{last_of, last_word, Says};
-ghost use Rattle.goat_cli.specs.Lines.{line, address_digits, stop_line};
+ghost use Rattle.std.specs.Prelude.{◌≡◌, ◌≤◌, ◌++◌, [], ◌∷◌, codes, decimal, length, None};
+ghost use Rattle.command_line.specs.Last.{last_of, last_word, Says};
+ghost use Rattle.command_line.specs.Lines.{line, address_digits};
+ghost use Rattle.goat_cli.specs.Lines.{stop_line};
 ghost use Rattle.goat_cli.specs.Stands.{folder_state, sink_state};
 ghost use Rattle.goat_cli.specs.Endings.{JobEnds, CallsEnd};
-ghost use Rattle.goat_cli.specs.Words.{texts, HasAllowedNumbers, AreRunArguments, Run, frame_limit};
-ghost use Rattle.goat_cli.specs.Jobs.{command_of, AreArgumentsOf};
+ghost use Rattle.command_line.specs.Words.{Run, frame_limit};
 
-use crate::arguments::{FRAME_LIMIT, SUBTUNE_LIMIT, decimal_of};
 use crate::calling::next_call;
-use crate::line::Line;
-use crate::message::Piece;
-use crate::refusal::{Refusal, Report};
 use crate::registers::put_registers;
 use crate::stages::{INPUT_LIMIT, psid_of, read_file, subtune_of};
-use crate::status::Status;
-use crate::words::{Job, WordsFault};
+use command_line::{Line, Piece, Refusal, Report, Status};
 use cpu6502::{CallStop, Stop};
 use goat_io::{Folder, Sink};
 use sid_run::Runner;
 use std::alloc::Global;
-
-/// The job that the words after `run` name.
-///
-/// # Errors
-///
-/// They aren't three, or one of them is out of its range.
-pub fn run_job(arguments: &[String]) -> Result<Job<'_>, WordsFault>
-    ensures found { IfOk result (λ job. AreArgumentsOf (job_of job) (texts arguments.now)) }
-    ensures command { IfOk result (λ job. command_of (job_of job) ≡ codes "run") }
-    ensures limits { IfOk result (λ job. HasAllowedNumbers (job_of job)) }
-    ensures none { OnErr result ((input : List ℕ) (subtune frames : ℕ) →
-        ¬ AreRunArguments (texts arguments.now) input subtune frames) }
-{
-    let [input, subtune, frames] = arguments else {
-        return Err(WordsFault);
-    };
-    if input.is_empty() {
-        return Err(WordsFault);
-    }
-    let subtune = decimal_of(subtune.as_str(), SUBTUNE_LIMIT)?;
-    let frames = decimal_of(frames.as_str(), FRAME_LIMIT)?;
-    Ok(Job::Run {
-        input: input.as_str(),
-        subtune: subtune as u8,
-        frames: frames as u32,
-    })
-}
 
 /// Runs a subtune, counted from 1, of a PSID file: init, and then play `frames` times. Prints a line of registers
 /// after each call.

@@ -1,42 +1,17 @@
 //! `selftest NUMBER`: the song of a number is made, traced and packed, and its packed file is run.
 #![tactic(auto, using(crate::proofs::Room::pieces_fit))]
 
-ghost use Rattle.std.specs.Prelude.{◌≡◌, ℕ, ◌≤◌, ◌<◌, ◌%◌, ◌^◌, codes, length, IfOk, OnErr, Ok};
-ghost use Rattle.song_model.specs.LookUp.{playable_subtunes};
-ghost use Rattle.goat_cli.specs.Job.{job_of};
-ghost use Rattle.goat_cli.specs.Last.{last_word, Says};
+ghost use Rattle.std.specs.Prelude.{◌≡◌, ◌<◌, ◌^◌, Ok};
+ghost use Rattle.command_line.specs.Last.{last_word, Says};
 ghost use Rattle.goat_cli.specs.Lines.{selftest_line};
 ghost use Rattle.goat_cli.specs.Stands.{FolderState, SinkState};
 ghost use Rattle.goat_cli.specs.Endings.{JobEnds};
-ghost use Rattle.goat_cli.specs.Words.{texts, HasAllowedNumbers, AreSelftestArguments, Selftest};
-ghost use Rattle.goat_cli.specs.Jobs.{command_of, AreArgumentsOf};
+ghost use Rattle.command_line.specs.Words.{Selftest};
 
-use crate::arguments::decimal_of;
 use crate::measuring::{generated_file, register_sum, steps_of};
-use crate::message::Piece;
-use crate::refusal::{Refusal, Report};
-use crate::words::{Job, WordsFault};
+use command_line::{Piece, Refusal, Report};
 use song_gen::generate;
 use std::alloc::Global;
-
-/// The job that the word after `selftest` names.
-///
-/// # Errors
-///
-/// It isn't one word, or that isn't a number of at most 64 bits in decimal digits, without zeros in front.
-pub fn selftest_job(arguments: &[String]) -> Result<Job<'_>, WordsFault>
-    ensures found { IfOk result (λ job. AreArgumentsOf (job_of job) (texts arguments.now)) }
-    ensures command { IfOk result (λ job. command_of (job_of job) ≡ codes "selftest") }
-    ensures limits { IfOk result (λ job. HasAllowedNumbers (job_of job)) }
-    ensures none { OnErr result ((number : ℕ) →
-        ¬ AreSelftestArguments (texts arguments.now) number) }
-{
-    let [number] = arguments else {
-        return Err(WordsFault);
-    };
-    let number = decimal_of(number.as_str(), u64::MAX)?;
-    Ok(Job::Selftest { number })
-}
 
 /// Makes the song of a number, and tells the sum of what it leaves in the registers and the steps that its packed file
 /// takes: of each subtune one init, and 300 plays.

@@ -2,7 +2,7 @@ use Rattle.std.proofs.Common.{true, ap, ◌∙◌}
 use Rattle.play_model.specs.declared.options.Options.{Options}
 use Rattle.play_model.specs.State.{no_options}
 use Rattle.goat_cli.specs.Packed.{packed_file}
-use Rattle.goat_cli.proofs.Forms.{ok_mapped}
+use Rattle.command_line.proofs.Laws.{ok_mapped}
 use Rattle.goat_cli.proofs.SmallSongs.{has_subtune}
 use Rattle.goat_cli.proofs.Images.{image_written}
 use Rattle.goat_cli.proofs.measuring.generated_file.Goals as goal

@@ -1,4 +1,4 @@
-use Rattle.goat_cli.specs.Words.{texts}
+use Rattle.command_line.specs.Words.{texts}
 use Rattle.goat_cli.proofs.Ends.{usage_ends}
 use Rattle.goat_cli.proofs.top.run.Goals as goal
 

@@ -1,7 +1,7 @@
 use Rattle.std.proofs.Common.{◌≤◌, length, arith}
 use Rattle.std.proofs.lemmas.List.Sums.{length-filter, count_by-le-length}
 use Rattle.song_model.specs.LookUp.{is_playable_subtune, playable_subtunes}
-use Rattle.goat_cli.proofs.Room.{two_digits, three_digits, features_fit}
+use Rattle.command_line.proofs.Laws.{two_digits, three_digits, features_fit}
 use Rattle.goat_cli.proofs.commands.check.report_of.Goals as goal
 
 pub says-requires-clause-short : goal.says-requires-clause-short

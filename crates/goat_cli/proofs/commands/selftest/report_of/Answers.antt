@@ -1,5 +1,5 @@
 use Rattle.std.proofs.Common.{arith}
-use Rattle.goat_cli.proofs.Room.{digits_fit, byte_fits, ten_digits, sum_fits}
+use Rattle.command_line.proofs.Laws.{digits_fit, byte_fits, ten_digits, sum_fits}
 use Rattle.goat_cli.proofs.commands.selftest.report_of.Goals as goal
 
 pub says-requires-clause-short : goal.says-requires-clause-short

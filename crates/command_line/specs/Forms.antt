@@ -1,0 +1,57 @@
+-- The forms of the command line: the words that name each job.
+use Rattle.std.specs.Prelude.{◌≡◌, ◌≢◌, ℕ, List, [], ◌∷◌, codes}
+use Rattle.command_line.specs.Words.{Job, Pack, Copy, Edit, Check, Trace, Run, Selftest, ArePackArguments, AreTraceArguments, AreRunArguments, AreSelftestArguments}
+
+-- a command's first word, and the words after it
+pub record Form : Type 1 where
+  pub command : List ℕ
+  pub has_arguments : List (List ℕ) → Type 0
+
+abbrev pub form_of : Job → Form
+form_of (Pack input output psid address zero_page options) = record {
+  command = codes "pack";
+  has_arguments = λ words. ArePackArguments words input output psid address zero_page options;
+}
+-- the arguments are `IN OUT`
+form_of (Copy input output) = record {
+  command = codes "copy";
+  has_arguments = λ words. (words ≡ input ∷ output ∷ []) × (input ≢ []) × (output ≢ []);
+}
+-- the arguments are `IN SCRIPT OUT`
+form_of (Edit input script output) = record {
+  command = codes "edit";
+  has_arguments = λ words. (words ≡ input ∷ script ∷ output ∷ []) × (input ≢ []) × (script ≢ []) × (output ≢ []);
+}
+-- the argument is `IN`
+form_of (Check input) = record {
+  command = codes "check";
+  has_arguments = λ words. (words ≡ input ∷ []) × (input ≢ []);
+}
+form_of (Trace input subtune frames options) = record {
+  command = codes "trace";
+  has_arguments = λ words. AreTraceArguments words input subtune frames options;
+}
+form_of (Run input subtune frames) = record {
+  command = codes "run";
+  has_arguments = λ words. AreRunArguments words input subtune frames;
+}
+form_of (Selftest number) = record {
+  command = codes "selftest";
+  has_arguments = λ words. AreSelftestArguments words number;
+}
+
+abbrev pub command_of : Job → List ℕ
+command_of job = (form_of job).command
+
+abbrev pub AreArgumentsOf : Job → List (List ℕ) → Type 0
+AreArgumentsOf job words = (form_of job).has_arguments words
+
+-- the words name this job
+pub record WordsOf (words : List (List ℕ)) (job : Job) : Type 0 where
+  pub arguments : List (List ℕ)
+  pub words_are : words ≡ command_of job ∷ arguments
+  pub are_arguments : AreArgumentsOf job arguments
+
+-- no form of the command line has these words
+abbrev pub IsNoForm : List (List ℕ) → Type 0
+IsNoForm words = (job : Job) → ¬ WordsOf words job

@@ -1,0 +1,26 @@
+-- What lines are made of, and two lines that no file is named in.
+use Rattle.std.specs.Prelude.{ℕ, ◌/◌, ◌%◌, List, [], ◌∷◌, ◌++◌, codes}
+use Rattle.std.specs.List.{concat}
+use Rattle.hex.specs.Hex.{encode_lower, encode_upper}
+
+-- the line of these parts
+abbrev pub line : List (List ℕ) → List ℕ
+line parts = concat parts ++ codes "\n"
+
+abbrev pub usage_line : List ℕ
+usage_line = line (codes "usage: goat check|trace|pack|run|edit|copy|selftest" ∷ [])
+
+abbrev pub no_memory_line : List ℕ
+no_memory_line = line (codes "no memory" ∷ [])
+
+-- an address as four hexadecimal digits in upper case
+abbrev pub address_digits : ℕ → List ℕ
+address_digits address = encode_upper ((address / 256) ∷ (address % 256) ∷ [])
+
+-- the low 24 bits of a number as six hexadecimal digits in lower case
+abbrev pub feature_digits : ℕ → List ℕ
+feature_digits bits = encode_lower ((bits / 65536 % 256) ∷ (bits / 256 % 256) ∷ (bits % 256) ∷ [])
+
+-- a number of 32 bits as eight hexadecimal digits in lower case
+abbrev pub sum_digits : ℕ → List ℕ
+sum_digits sum = encode_lower ((sum / 16777216 % 256) ∷ (sum / 65536 % 256) ∷ (sum / 256 % 256) ∷ (sum % 256) ∷ [])

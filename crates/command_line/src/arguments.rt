@@ -1,0 +1,128 @@
+//! What single words of the command line spell.
+
+ghost use Rattle.std.specs.Prelude.{◌≡◌, ℕ, Bool, MatchResult};
+ghost use Rattle.std.specs.Prelude.{[], ◌∷◌};
+ghost use Rattle.play_model.specs.declared.options.Options.{Options as Chosen};
+ghost use Rattle.command_line.specs.Words.{format_word, IsAddressWord, IsZeroPageWord, IsNumberWord, skip_word, AreOptionWords};
+
+use crate::words::WordsFault;
+use play_model::{HIGHEST_SPEED, Options};
+
+/// The greatest number of a subtune that may be asked for.
+pub const SUBTUNE_LIMIT: u64 = 255;
+
+/// The most frames that may be asked for.
+pub const FRAME_LIMIT: u64 = 100_000;
+
+/// Whether a word for the format of a packed file says PSID.
+///
+/// # Errors
+///
+/// The word is neither `psid` nor `raw`.
+pub fn is_psid(word: &str) -> Result<bool, WordsFault>
+    ensures { MatchResult result (λ psid. word.now ≡ format_word psid) (λ _. (psid : Bool) →
+        ¬ (word.now ≡ format_word psid)) }
+{
+    match word {
+        "psid" => Ok(true),
+        "raw" => Ok(false),
+        _ => Err(WordsFault),
+    }
+}
+
+/// The number of at most `limit` that a word spells in decimal.
+///
+/// # Errors
+///
+/// The word has another byte than a digit, or a leading zero, or the number is above the limit.
+pub fn decimal_of(word: &str, limit: u64) -> Result<u64, WordsFault>
+    ensures { MatchResult result (IsNumberWord limit word.now) (λ _. (number : ℕ) →
+        ¬ IsNumberWord limit word.now number) }
+{
+    let Ok(number) = word.parse::<u64>() else {
+        return Err(WordsFault);
+    };
+    let mut digits = itoa::Buffer::new();
+    if number <= limit && digits.format(number) == word {
+        Ok(number)
+    } else {
+        Err(WordsFault)
+    }
+}
+
+/// The address that four hexadecimal digits spell: a multiple of 256 from `$0800` to `$CF00`.
+///
+/// # Errors
+///
+/// The word isn't four hexadecimal digits, or the address isn't allowed.
+pub fn address_of(word: &str) -> Result<u16, WordsFault>
+    ensures { MatchResult result (IsAddressWord word.now) (λ _. (address : ℕ) →
+        ¬ IsAddressWord word.now address) }
+{
+    let mut bytes = [0u8; 2];
+    if hex::decode_to_slice(word, &mut bytes).is_err() {
+        return Err(WordsFault);
+    }
+    let address = u16::from_be_bytes(bytes);
+    if address % 256 == 0 && 0x0800 <= address && address <= 0xcf00 {
+        Ok(address)
+    } else {
+        Err(WordsFault)
+    }
+}
+
+/// The zero page byte that two hexadecimal digits spell, `$02` to `$FE`.
+///
+/// # Errors
+///
+/// The word isn't two hexadecimal digits, or the byte isn't allowed.
+pub fn zero_page_of(word: &str) -> Result<u8, WordsFault>
+    ensures { MatchResult result (IsZeroPageWord word.now) (λ _. (zero_page : ℕ) →
+        ¬ IsZeroPageWord word.now zero_page) }
+{
+    let mut bytes = [0u8; 1];
+    if hex::decode_to_slice(word, &mut bytes).is_err() {
+        return Err(WordsFault);
+    }
+    let [zero_page] = bytes;
+    if 0x02 <= zero_page && zero_page <= 0xfe {
+        Ok(zero_page)
+    } else {
+        Err(WordsFault)
+    }
+}
+
+/// What a word says is left out of a frame: the effect step, and the pulse step.
+///
+/// # Errors
+///
+/// The word is none of `none`, `effects`, `pulse` and `both`.
+fn skip_of(word: &str) -> Result<(bool, bool), WordsFault>
+    ensures { MatchResult result (λ skips. word.now ≡ skip_word skips.0 skips.1) (λ _.
+        (effects pulse : Bool) → ¬ (word.now ≡ skip_word effects pulse)) }
+{
+    match word {
+        "none" => Ok((false, false)),
+        "effects" => Ok((true, false)),
+        "pulse" => Ok((false, true)),
+        "both" => Ok((true, true)),
+        _ => Err(WordsFault),
+    }
+}
+
+/// How a song is played: a word for what is left out of a frame, and a digit for the speed, 1 to 4.
+///
+/// # Errors
+///
+/// One of them is another word.
+pub fn options_of(skip: &str, speed: &str) -> Result<Options, WordsFault>
+    ensures { MatchResult result (AreOptionWords (skip.now ∷ speed.now ∷ [])) (λ _.
+        (options : Chosen) → ¬ AreOptionWords (skip.now ∷ speed.now ∷ []) options) }
+{
+    let (skip_effects, skip_pulse) = skip_of(skip)?;
+    let calls = decimal_of(speed, u64::from(HIGHEST_SPEED))?;
+    match Options::new(skip_effects, skip_pulse, calls as u8) {
+        Some(options) => Ok(options),
+        None => Err(WordsFault),
+    }
+}

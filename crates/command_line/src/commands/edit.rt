@@ -1,0 +1,33 @@
+//! The words of `edit IN SCRIPT OUT`.
+
+ghost use Rattle.std.specs.Prelude.{◌≡◌, codes, IfOk, OnErr, List, ℕ};
+ghost use Rattle.command_line.specs.Job.{job_of};
+ghost use Rattle.command_line.specs.Words.{texts, HasAllowedNumbers, Edit};
+ghost use Rattle.command_line.specs.Forms.{command_of, AreArgumentsOf};
+
+use crate::words::{Job, WordsFault};
+
+/// The job that the words after `edit` name.
+///
+/// # Errors
+///
+/// They aren't three, or one of them is empty.
+pub fn edit_job(arguments: &[String]) -> Result<Job<'_>, WordsFault>
+    ensures found { IfOk result (λ job. AreArgumentsOf (job_of job) (texts arguments.now)) }
+    ensures command { IfOk result (λ job. command_of (job_of job) ≡ codes "edit") }
+    ensures limits { IfOk result (λ job. HasAllowedNumbers (job_of job)) }
+    ensures none { OnErr result ((input script output : List ℕ) →
+        ¬ AreArgumentsOf (Edit input script output) (texts arguments.now)) }
+{
+    let [input, script, output] = arguments else {
+        return Err(WordsFault);
+    };
+    if input.is_empty() || script.is_empty() || output.is_empty() {
+        return Err(WordsFault);
+    }
+    Ok(Job::Edit {
+        input: input.as_str(),
+        script: script.as_str(),
+        output: output.as_str(),
+    })
+}

@@ -1,0 +1,102 @@
+//! The command line's words, and the job that they name.
+
+ghost use Rattle.std.specs.Prelude.{IfOk, OnErr};
+ghost use Rattle.command_line.specs.Words.{texts, HasAllowedNumbers};
+ghost use Rattle.command_line.specs.Forms.{IsNoForm, WordsOf};
+ghost use Rattle.command_line.specs.Job.{job_of};
+
+use crate::commands::check::check_job;
+use crate::commands::copy::copy_job;
+use crate::commands::edit::edit_job;
+use crate::commands::pack::pack_job;
+use crate::commands::run::run_job;
+use crate::commands::selftest::selftest_job;
+use crate::commands::trace::trace_job;
+use play_model::Options;
+
+/// What the program is asked to do.
+#[derive(Clone, Copy, Debug)]
+pub enum Job<'a> {
+    /// `pack IN OUT psid ADDRESS ZP`, or `raw` in place of `psid`, or with `SKIP SPEED` behind it: pack the song in the
+    /// file IN into the file OUT.
+    Pack {
+        input: &'a str,
+        output: &'a str,
+        /// Whether OUT is a PSID file; else it is a raw one.
+        psid: bool,
+        /// Where the image will stand: a multiple of 256 from `$0800` to `$CF00`.
+        address: u16,
+        /// The first of the player's two zero page bytes, `$02` to `$FE`.
+        zero_page: u8,
+        /// What is left out of a frame, and the speed.
+        options: Options,
+    },
+    /// `copy IN OUT`: write the canonical spelling of the song in the file IN into the file OUT.
+    Copy {
+        input: &'a str,
+        output: &'a str,
+    },
+    /// `edit IN SCRIPT OUT`: do the script on the song in the file IN, and write the canonical spelling of what it makes
+    /// into the file OUT.
+    Edit {
+        input: &'a str,
+        script: &'a str,
+        output: &'a str,
+    },
+    /// `check IN`: tell what the song in the file IN uses, or why it can't be played.
+    Check {
+        input: &'a str,
+    },
+    /// `trace IN SUBTUNE FRAMES`, or with `SKIP SPEED` behind it: print the SID's registers after each call of the
+    /// song in the file IN.
+    Trace {
+        input: &'a str,
+        /// The subtune, counted from 1.
+        subtune: u8,
+        /// The number of frames, at most 100,000.
+        frames: u32,
+        /// What is left out of a frame, and the speed.
+        options: Options,
+    },
+    /// `run IN SUBTUNE FRAMES`: run the PSID file IN, and print the SID's registers after each call.
+    Run {
+        input: &'a str,
+        /// The subtune, counted from 1.
+        subtune: u8,
+        /// How often play is called, at most 100,000 times.
+        frames: u32,
+    },
+    /// `selftest NUMBER`: make a song from a number, and pack, trace and run it.
+    Selftest {
+        number: u64,
+    },
+}
+
+/// No form of the command line has the words.
+#[derive(Clone, Copy, Debug, PartialEq, Eq)]
+pub struct WordsFault;
+
+/// The job that the words name. The first word tells the command.
+///
+/// # Errors
+///
+/// The words are of no form, or one of them is out of its range.
+pub fn parse_words(words: &[String]) -> Result<Job<'_>, WordsFault>
+    ensures found { IfOk result (λ job. WordsOf (texts words.now) (job_of job)) }
+    ensures limits { IfOk result (λ job. HasAllowedNumbers (job_of job)) }
+    ensures none { OnErr result (IsNoForm (texts words.now)) }
+{
+    let Some((command, arguments)) = words.split_first() else {
+        return Err(WordsFault);
+    };
+    match command.as_str() {
+        "pack" => pack_job(arguments),
+        "copy" => copy_job(arguments),
+        "edit" => edit_job(arguments),
+        "check" => check_job(arguments),
+        "trace" => trace_job(arguments),
+        "run" => run_job(arguments),
+        "selftest" => selftest_job(arguments),
+        _ => Err(WordsFault),
+    }
+}
