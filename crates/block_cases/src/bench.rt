@@ -54,6 +54,11 @@ fn put(memory: &mut Memory, at: u16, bytes: &[u8]) {
 }
 
 impl Bench {
+    /// A machine and a memory before the first case.
+    ///
+    /// # Errors
+    ///
+    /// Out of memory.
     pub fn new(alloc: Global) -> Result<Bench, NoMemory> {
         let mut bench = Bench {
             machine: Machine {
@@ -194,6 +199,7 @@ impl Reader<'_> {
     }
 }
 
+/// A flag as a number.
 fn flag(set: bool) -> u32 {
     if set { 1 } else { 0 }
 }

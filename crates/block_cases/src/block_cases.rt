@@ -53,6 +53,7 @@ pub struct Wants {
 }
 
 impl Setup {
+    /// Nothing is given yet.
     pub fn new(alloc: Global) -> Setup {
         Setup {
             origins: Vec::new(alloc),
@@ -109,6 +110,7 @@ impl Setup {
         Ok(listing)
     }
 
+    /// The block's bytes at an origin, and those behind them.
     fn assembled(
         &self,
         alloc: Global,
@@ -187,6 +189,7 @@ fn registers(reader: &mut Reader<'_>) -> Result<Cpu, Difference> {
 }
 
 impl Wants {
+    /// Nothing is wanted yet.
     pub fn new(alloc: Global) -> Wants {
         Wants {
             after: None,
@@ -222,6 +225,7 @@ impl Wants {
         Ok(())
     }
 
+    /// Reads bytes that are wanted.
     fn read_bytes(
         &mut self,
         alloc: Global,

@@ -46,6 +46,7 @@ impl Reader<'_> {
         }
     }
 
+    /// Reads what stands behind an opcode.
     fn argument(&mut self) -> Result<Operand, Difference> {
         let word = self.word()?;
         if word == b"Nothing".as_slice() {
@@ -89,6 +90,7 @@ pub fn same_bytes(found: &[u8], wanted: &[u8]) -> Result<(), Difference> {
     Ok(())
 }
 
+/// Reads an instruction with a number.
 fn instruction(reader: &mut Reader<'_>) -> Result<Instr, Difference> {
     Ok(Instr {
         mnemonic: reader.mnemonic()?,

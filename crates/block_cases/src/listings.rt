@@ -42,6 +42,7 @@ pub struct ListingCase {
     moves: Vec<Move>,
 }
 
+/// Reads why a listing is refused.
 fn fault(reader: &mut Reader<'_>) -> Result<AsmFault, Difference> {
     match reader.word()? {
         b"BadLine" => Ok(AsmFault::BadLine {
@@ -63,6 +64,7 @@ fn fault(reader: &mut Reader<'_>) -> Result<AsmFault, Difference> {
     }
 }
 
+/// So many zeros.
 fn zeros(alloc: Global, count: u32) -> Result<ByteList, NoMemory> {
     let mut bytes = ByteList::new(alloc);
     for _ in 0..count {
@@ -95,6 +97,7 @@ fn line_of(alloc: Global, row: Row, more: u16) -> Result<Line, NoMemory> {
 }
 
 impl ListingCase {
+    /// No lines, at $1000 with no part, and nothing wanted.
     pub fn new(alloc: Global) -> ListingCase {
         ListingCase {
             rows: Vec::new(alloc),
@@ -138,6 +141,7 @@ impl ListingCase {
         Ok(())
     }
 
+    /// Reads a line of the listing.
     fn read_row(&mut self, reader: &mut Reader<'_>) -> Result<(), Difference> {
         let part = reader.byte()?;
         let piece = reader.piece()?;
@@ -147,6 +151,7 @@ impl ListingCase {
         Ok(())
     }
 
+    /// The lines, as often as they stand.
     fn listing(&self, alloc: Global) -> Result<Listing, NoMemory> {
         let mut listing = Listing::new(alloc);
         let mut more = 0_u16;

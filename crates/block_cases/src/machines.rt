@@ -13,6 +13,7 @@ pub struct MachineCase {
     wants: bool,
 }
 
+/// Reads all registers.
 fn registers(reader: &mut Reader<'_>) -> Result<Cpu, Difference> {
     let a = reader.byte()?;
     let x = reader.byte()?;
@@ -73,6 +74,7 @@ fn step(bench: &mut Bench, reader: &mut Reader<'_>) -> Result<(), Difference> {
 }
 
 impl MachineCase {
+    /// No call was made, and nothing is wanted.
     pub fn new() -> MachineCase {
         MachineCase {
             log: WriteLog::new(),

@@ -75,6 +75,7 @@ fn tell(rt: &impl Print, count: Count) -> io::Result<bool>
     Ok(differ == 0 && agree > 0)
 }
 
+/// Goes through the cases of the files, and ends with status 0 where all agree.
 fn main(rt: HostRuntime) -> io::Result<ExitCode> {
     let count = run(&rt)?;
     if tell(&rt, count)? {

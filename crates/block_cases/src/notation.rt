@@ -49,6 +49,7 @@ enum Kind {
     Form(Form),
 }
 
+/// The kind, or the form, of a word.
 fn kind_of(word: &[u8]) -> Option<Kind> {
     Some(match word {
         b"Chain" => Kind::Chain,
@@ -63,6 +64,7 @@ fn kind_of(word: &[u8]) -> Option<Kind> {
     })
 }
 
+/// The form of a word.
 fn form_of(word: &[u8]) -> Option<Form> {
     Some(match word {
         b"add" => Form::Change(Change::Add),
@@ -81,6 +83,7 @@ fn form_of(word: &[u8]) -> Option<Form> {
     })
 }
 
+/// A form on one byte.
 fn changed(alloc: Global, change: Change, to: Cell, from: Operand) -> Result<Block, NoMemory> {
     match change {
         Change::Add => add(alloc, to, from),
@@ -92,6 +95,7 @@ fn changed(alloc: Global, change: Change, to: Cell, from: Operand) -> Result<Blo
 }
 
 impl Reader<'_> {
+    /// Reads a test of two bytes.
     fn byte_test(&mut self) -> Result<ByteTest, Difference> {
         let word = self.word()?;
         let one = self.operand()?;
@@ -111,6 +115,7 @@ impl Reader<'_> {
         Ok(changed(alloc, change, to, from)?)
     }
 
+    /// Reads the rest of `add_word` or `sub_word`.
     fn word_form(&mut self, alloc: Global, is_sum: bool) -> Result<Block, Difference> {
         let low = self.cell()?;
         let high = self.cell()?;
@@ -123,18 +128,21 @@ impl Reader<'_> {
         }
     }
 
+    /// Reads the rest of `halve_word`.
     fn half_form(&mut self, alloc: Global) -> Result<Block, Difference> {
         let low = self.cell()?;
         let high = self.cell()?;
         Ok(halve_word(alloc, low, high)?)
     }
 
+    /// Reads the rest of `move_byte`.
     fn move_form(&mut self, alloc: Global) -> Result<Block, Difference> {
         let to = self.place()?;
         let from = self.operand()?;
         Ok(move_byte(alloc, to, from)?)
     }
 
+    /// Reads the rest of `fetch`.
     fn fetch_form(&mut self, alloc: Global) -> Result<Block, Difference> {
         let to = self.place()?;
         let table = self.short()?;
@@ -142,6 +150,7 @@ impl Reader<'_> {
         Ok(fetch(alloc, to, table, index)?)
     }
 
+    /// Reads the rest of `far`.
     fn far_form(&mut self, alloc: Global) -> Result<Block, Difference> {
         let to = self.place()?;
         let low = self.operand()?;
@@ -150,6 +159,7 @@ impl Reader<'_> {
         Ok(far(alloc, to, low, high, index)?)
     }
 
+    /// Reads the rest of a `Fill`.
     fn zeros(&mut self) -> Result<Block, Difference> {
         let start = self.start()?;
         Ok(fill(start, self.byte()?))
@@ -187,6 +197,7 @@ impl Reader<'_> {
         Err(Difference::Unread)
     }
 
+    /// Reads the rest of an `If`.
     #[cycle(reading)]
     fn choice(&mut self, alloc: Global, depth: u16) -> Result<Block, Difference> {
         let steps = self.steps(alloc)?;
@@ -196,6 +207,7 @@ impl Reader<'_> {
         Ok(choose(alloc, &steps, test, this, other)?)
     }
 
+    /// Reads the rest of an `Until`.
     #[cycle(reading)]
     fn turns(&mut self, alloc: Global, depth: u16) -> Result<Block, Difference> {
         let counter = self.counter()?;
@@ -206,6 +218,7 @@ impl Reader<'_> {
         Ok(until(alloc, counter, count, &steps, test, body)?)
     }
 
+    /// Reads the rest of `if_holds`.
     #[cycle(reading)]
     fn choice_of_bytes(&mut self, alloc: Global, depth: u16) -> Result<Block, Difference> {
         let test = self.byte_test()?;
@@ -214,6 +227,7 @@ impl Reader<'_> {
         Ok(if_holds(alloc, test, this, other)?)
     }
 
+    /// Reads the rest of `until_holds`.
     #[cycle(reading)]
     fn turns_of_bytes(&mut self, alloc: Global, depth: u16) -> Result<Block, Difference> {
         let test = self.byte_test()?;
@@ -223,12 +237,14 @@ impl Reader<'_> {
         Ok(until_holds(alloc, test, counter, count, body)?)
     }
 
+    /// Reads the rest of an `EachVoice`.
     #[cycle(reading)]
     fn voices(&mut self, alloc: Global, depth: u16) -> Result<Block, Difference> {
         let body = self.block(alloc, depth)?;
         Ok(each_voice(alloc, body)?)
     }
 
+    /// Reads the rest of a `When`.
     #[cycle(reading)]
     fn part(&mut self, alloc: Global, depth: u16) -> Result<Block, Difference> {
         let bit = self.byte()?;
@@ -236,6 +252,7 @@ impl Reader<'_> {
         Ok(when(alloc, bit, body)?)
     }
 
+    /// Reads the rest of a `Chain`.
     fn chain_of_steps(&mut self, alloc: Global) -> Result<Block, Difference> {
         let steps = self.steps(alloc)?;
         Ok(chain(alloc, &steps)?)

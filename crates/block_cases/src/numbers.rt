@@ -4,6 +4,7 @@ use crate::difference::Difference;
 use crate::words::Reader;
 use std::alloc::Global;
 
+/// The value of a digit.
 fn digit(byte: u8) -> Option<u8> {
     match byte {
         b'0'..=b'9' => Some(byte - b'0'),

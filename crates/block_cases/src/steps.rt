@@ -51,6 +51,7 @@ enum Halve {
     On,
 }
 
+/// The step of a word.
 fn name_of(word: &[u8]) -> Option<Name> {
     Some(match word {
         b"Load" => Name::Load,
@@ -72,6 +73,7 @@ fn name_of(word: &[u8]) -> Option<Name> {
     })
 }
 
+/// The step with an operand.
 fn bits_step(name: Bits, operand: Operand) -> Step {
     match name {
         Bits::Index => Step::Index(operand),
@@ -81,6 +83,7 @@ fn bits_step(name: Bits, operand: Operand) -> Step {
     }
 }
 
+/// The step with an operand of sums.
 fn sum_step(name: Sum, summand: Summand) -> Step {
     match name {
         Sum::Add => Step::Add(summand),
@@ -90,6 +93,7 @@ fn sum_step(name: Sum, summand: Summand) -> Step {
     }
 }
 
+/// The step that counts this.
 fn count_step(name: Count, what: Counted) -> Step {
     match name {
         Count::Inc => Step::Inc(what),
@@ -97,6 +101,7 @@ fn count_step(name: Count, what: Counted) -> Step {
     }
 }
 
+/// The step that halves this.
 fn halve_step(name: Halve, cell: Cell) -> Step {
     match name {
         Halve::At => Step::HalveAt(cell),
@@ -122,6 +127,7 @@ impl Reader<'_> {
         Ok(Operand::Held(self.cell()?))
     }
 
+    /// Reads an operand of sums.
     fn summand(&mut self) -> Result<Summand, Difference> {
         if self.takes(b"Entry") {
             return Ok(Summand::Entry(self.short()?));
@@ -129,6 +135,7 @@ impl Reader<'_> {
         Ok(Summand::Plain(self.operand()?))
     }
 
+    /// Reads what is loaded.
     fn source(&mut self) -> Result<Source, Difference> {
         if self.takes(b"Byte") {
             return Ok(Source::Byte);
@@ -139,6 +146,7 @@ impl Reader<'_> {
         Ok(Source::Direct(self.summand()?))
     }
 
+    /// Reads which of two bytes is meant.
     fn half(&mut self) -> Result<Half, Difference> {
         match self.word()? {
             b"Low" => Ok(Half::Low),
@@ -167,6 +175,7 @@ impl Reader<'_> {
         Ok(Place::Held(self.cell()?))
     }
 
+    /// Reads what is counted.
     fn counted(&mut self) -> Result<Counted, Difference> {
         if self.takes(b"Y") {
             return Ok(Counted::Y);
@@ -174,6 +183,7 @@ impl Reader<'_> {
         Ok(Counted::Held(self.cell()?))
     }
 
+    /// Reads a step.
     fn step(&mut self) -> Result<Step, Difference> {
         match name_of(self.word()?).ok_or(Difference::Unread)? {
             Name::Load => Ok(Step::Load(self.source()?)),
@@ -206,6 +216,7 @@ impl Reader<'_> {
         Err(Difference::Unread)
     }
 
+    /// Reads what a test asks.
     fn condition(&mut self) -> Result<Condition, Difference> {
         Ok(match self.word()? {
             b"Zero" => Condition::Zero,

@@ -14,6 +14,7 @@ pub struct Word<'a> {
     pub is_head: bool,
 }
 
+/// Whether a byte is a mark.
 fn is_mark(byte: u8) -> bool {
     matches!(byte, b'[' | b']' | b',' | b'*')
 }
