@@ -7,6 +7,7 @@ mod Edited
 mod Ends
 mod Images
 mod Measured
+mod MetPremises
 mod OneFeatures
 mod Passes
 mod PlayedFiles

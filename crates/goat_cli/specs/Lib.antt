@@ -12,5 +12,7 @@ pub mod Stands
 pub mod Answers
 -- Claimed: laws of these definitions.
 pub mod Laws
+-- Claimed: the premises of the clauses can be met.
+pub mod MetPremises
 -- Inner: what the parts of the top call promise each other.
 pub mod Endings

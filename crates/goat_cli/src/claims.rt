@@ -1,6 +1,7 @@
 //! Facts about the definitions, each the contract of a function that does nothing.
 
 ghost use Rattle.goat_cli.specs.Laws.{OutcomesAreDue, OneStatusIsDue, OneTextIsPrinted, StagesPass, PlayableSongsPass, StatusesHaveCauses, OnlyLargeImagesAreRefused, SmallSongsArePacked, ImagesAreBounded, WrittenFilesArePacked, PackedFilesPlay};
+ghost use Rattle.goat_cli.specs.MetPremises.{StatusesAreTold, FittingSongsArePacked, PackedFilesAreRun};
 
 /// A run has one outcome at most: one status and one name to write under, and, where nothing is written, one text.
 pub fn runs_have_one_outcome()
@@ -36,4 +37,11 @@ pub fn small_songs_are_packed()
 pub fn packed_files_play_their_song()
     ensures written { WrittenFilesArePacked }
     ensures play { PackedFilesPlay }
+{}
+
+/// What the clauses on statuses, packing and running ask for is met.
+pub fn premises_are_met()
+    ensures statuses { StatusesAreTold }
+    ensures packed { FittingSongsArePacked }
+    ensures run { PackedFilesAreRun }
 {}

@@ -1,0 +1,11 @@
+use Rattle.goat_cli.proofs.MetPremises.{statuses_are_told, fitting_songs_are_packed, packed_files_are_run}
+use Rattle.goat_cli.proofs.claims.premises_are_met.Goals as goal
+
+pub returns-clause-statuses : goal.returns-clause-statuses
+returns-clause-statuses c = statuses_are_told
+
+pub returns-clause-packed : goal.returns-clause-packed
+returns-clause-packed c = fitting_songs_are_packed
+
+pub returns-clause-run : goal.returns-clause-run
+returns-clause-run c = packed_files_are_run
