@@ -1,5 +1,5 @@
 -- What frames of small songs use, and what they don't.
-use Rattle.std.proofs.Common.{◌≡◌, ◌≢◌, ℕ, zero, suc, ◌+◌, ◌<◌, true, false, [], ◌∷◌, Contains, replicate, lit<, lit≤, inl, inr, refl, sym, ap, ◌∙◌, arith}
+use Rattle.std.proofs.Common.{◌≡◌, ◌≢◌, ℕ, zero, suc, ◌+◌, ◌<◌, ◌≤◌, true, false, [], ◌∷◌, Contains, replicate, lit<, lit≤, inl, inr, refl, sym, ap, ◌∙◌, arith}
 use Rattle.std.specs.Prelude.{◌&&◌, ◌==◌}
 use Rattle.std.proofs.lemmas.List.Elements.{All-replicate, All-contains}
 use Rattle.song_model.specs.declared.orders.Subtune.{Subtune}
@@ -8,10 +8,10 @@ use Rattle.song_model.specs.declared.tables.TableName.TheVariants.{Wave}
 use Rattle.song_model.specs.Walk.{prefix_of, cycle_of, played}
 use Rattle.song_model.specs.LookUp.{order_of, playable_subtune, instrument_at, table_row, pattern_at}
 use Rattle.play_model.specs.declared.options.Options.{Options}
-use Rattle.play_model.specs.LookUps.{LookUps}
+use Rattle.play_model.specs.LookUps.{LookUps, look_ups_of}
 use Rattle.play_model.specs.Wrap.{byte_minus}
 use Rattle.play_model.specs.Freq.{freq, half_tone, slide}
-use Rattle.play_model.specs.State.{Voice, Playing, FrameState}
+use Rattle.play_model.specs.State.{Voice, Playing, FrameState, no_options}
 use Rattle.play_model.specs.Helpers.{next_row, porta_up, porta_down, tone, vibrato, do_command}
 use Rattle.play_model.specs.FilterStep.{filter_step}
 use Rattle.play_model.specs.TickStep.{Ticked, tempo_of, between_rows, note_started, row_command, at_row, tick_step}
@@ -21,9 +21,9 @@ use Rattle.play_model.specs.PulseStep.{pulse_step}
 use Rattle.play_model.specs.FetchRow.{fetch_row}
 use Rattle.play_model.specs.Frame.{effect_done, subtune_at, voice_step, voice_registers, filter_registers, frame_of, state_after_with}
 use Rattle.play_model.specs.Used.{IsChannel}
-use Rattle.play_model.specs.Uses.{Turn, turn_of, InATurn, HasWaveProgram, MeetsWaveCommand, DoesWave, DoesEffect, DoesRunning, MeetsVibrato, HasPulseProgram, Slides, AsksSpeed, for_slide, for_vibrato, AsksFunkTempo, by_values, by_tempo, by_length}
+use Rattle.play_model.specs.Uses.{Turn, turn_of, InATurn, DoesRow, DoesOnce, HasOrderByte, HasWaveProgram, MeetsWaveCommand, DoesWave, DoesEffect, DoesRunning, MeetsVibrato, HasPulseProgram, Slides, AsksSpeed, for_slide, for_vibrato, AsksFunkTempo, by_values, by_tempo, by_length}
 use Rattle.play_model.specs.WorkedSongs.{sides}
-use Rattle.safe_states.specs.WorkedCases.{late_restart, ProgramsAreUsed, SlidesAreUsed, VibratosAreUsed, TemposAreUsed, WaveCommandsAreUsed, OrdersAreUsed, CasesAreAsWorked}
+use Rattle.safe_states.specs.WorkedCases.{command_song, late_restart, ProgramsAreUsed, SlidesAreUsed, VibratosAreUsed, CommandsAreUsed, FiltersAreUsed, SpeedsAreUsed, TemposAreUsed, WaveCommandsAreUsed, VoicesAreUsed, OrdersAreUsed, CasesAreAsWorked}
 
 abbrev Same : ℕ → ℕ → Type 0
 Same m n = m ≡ n
@@ -43,11 +43,20 @@ first = record { first = lit≤ tt; last = lit≤ tt }
 second : IsChannel 2
 second = record { first = lit≤ tt; last = lit≤ tt }
 
+third : IsChannel 3
+third = record { first = lit≤ tt; last = lit≤ tt }
+
+-- voice 1 does it in its turn
+in_first : {o : Options} {look : LookUps} {subtune : Subtune} {x : FrameState} {Does : Turn → Type 0} →
+    Does (turn_of 1 o look subtune x) → InATurn o look subtune x Does
+in_first does = record { channel = 1; is_channel = first; does = does }
+
 -- no voice does it in its turn
-in_no_turn : (o : Options) (look : LookUps) (subtune : Subtune) (x : FrameState) (Does : Turn → Type 0) →
+in_no_turn : {o : Options} {look : LookUps} {subtune : Subtune} {x : FrameState} {Does : Turn → Type 0} →
     ¬ Does (turn_of 1 o look subtune x) → ¬ Does (turn_of 2 o look subtune x) → ¬ Does (turn_of 3 o look subtune x) →
     ¬ InATurn o look subtune x Does
-in_no_turn o look subtune x Does one two three h = by_number h.channel h.is_channel h.does
+in_no_turn {o = o} {look = look} {subtune = subtune} {x = x} {Does = Does} one two three h =
+    by_number h.channel h.is_channel h.does
   where
     by_number : (channel : ℕ) → IsChannel channel → Does (turn_of channel o look subtune x) → ⊥
     by_number zero is does = (let least = is.first in omega arith)
@@ -67,12 +76,13 @@ meets_command : (turn : Turn) (p : ℕ) (row : TableRow) → HasWaveProgram turn
     is_wave_command row ≡ true → MeetsWaveCommand turn row
 meets_command turn p row program row_is is = record { p = p; program = program; row_is = row_is; is_command = is }
 
-does_wave : (turn : Turn) (p command : ℕ) (row : TableRow) → HasWaveProgram turn p → turn.look.row Wave p ≡ row →
-    is_wave_command row ≡ true → row.left ≡ 0xF0 + command → DoesWave turn command row.right
-does_wave turn p command row program row_is is left = record {
-  row = row;
-  meets = meets_command turn p row program row_is is;
-  command_is = left;
+does_wave : (turn : Turn) (p command param : ℕ) → (ticked turn).started ≡ false →
+    (ticked turn).playing.voice.wave_ptr ≡ p → p ≢ 0 → turn.look.row Wave p ≡ sides (0xF0 + command) param →
+    is_wave_command (sides (0xF0 + command) param) ≡ true → DoesWave turn command param
+does_wave turn p command param waits ptr some row_is is = record {
+  row = sides (0xF0 + command) param;
+  meets = meets_command turn p (sides (0xF0 + command) param) (has_wave turn p waits ptr some) row_is is;
+  command_is = refl;
   param_is = refl;
 }
 
@@ -116,7 +126,8 @@ no_wave turn p none h = h.some (sym h.ptr ∙ ap (λ (s : Playing). s.voice.wave
 no_pulse : (turn : Turn) (p : ℕ) → (effect_done turn.options turn.look (waved turn)).voice.pulse_ptr ≡ 0 →
     ¬ HasPulseProgram turn p
 no_pulse turn p none h =
-    let same = ap (λ (s : Playing). (effect_done turn.options turn.look (wave_step turn.look s)).voice.pulse_ptr) h.goes_on.left in
+    let same =
+    ap (λ (s : Playing). (effect_done turn.options turn.look (wave_step turn.look s)).voice.pulse_ptr) h.goes_on.left in
     h.some (sym h.ptr ∙ ap (λ v. v.pulse_ptr) (sym h.voice_is) ∙ sym same ∙ none)
 
 -- the voice that the effect step is done on
@@ -139,12 +150,40 @@ delay_is : (turn : Turn) (param delay : ℕ) → MeetsVibrato turn param delay �
     (waved turn).playing.voice.vib_delay ≡ delay
 delay_is turn param delay h = ap (λ (v : Voice). v.vib_delay) (effect_voice turn (h.v, h.effect)) ∙ h.delay_is
 
--- no slide up without a wave program and another command running
-no_slide : (turn : Turn) (d : ℕ) → (ticked turn).playing.voice.wave_ptr ≡ 0 → (waved turn).playing.voice.command ≡ 0 →
-    ¬ Slides turn 1 d
-no_slide turn d none other (inl wave) = no_wave turn wave.meets.p none wave.meets.program
-no_slide turn d none other (inr running) =
-    (let is = running_is turn 1 d running in let no : Same 0 1 = sym other ∙ is in omega arith)
+-- no slide without a wave program and another command running
+no_slide : (turn : Turn) (command d : ℕ) → (ticked turn).playing.voice.wave_ptr ≡ 0 →
+    (waved turn).playing.voice.command ≢ command → ¬ Slides turn command d
+no_slide turn command d none other (inl wave) = no_wave turn wave.meets.p none wave.meets.program
+no_slide turn command d none other (inr running) = other (running_is turn command d running)
+
+-- and none with this parameter where another runs
+no_param : (turn : Turn) (command d : ℕ) → (ticked turn).playing.voice.wave_ptr ≡ 0 →
+    (waved turn).playing.voice.param ≢ d → ¬ Slides turn command d
+no_param turn command d none other (inl wave) = no_wave turn wave.meets.p none wave.meets.program
+no_param turn command d none other (inr h) =
+    other (ap (λ (v : Voice). v.param) (effect_voice turn (h.v, h.effect)) ∙ h.param_is)
+
+-- no command of a row, where the row has another
+no_row : (turn : Turn) (command d : ℕ) → turn.start.voice.new_command ≢ command → ¬ DoesRow turn command d
+no_row turn command d other row = other row.command_is
+
+-- the wave program has no command there
+abbrev Quiet : Turn → Type 0
+Quiet turn = is_wave_command (turn.look.row Wave (ticked turn).playing.voice.wave_ptr) ≡ false
+
+no_wave_command : (turn : Turn) (row : TableRow) → Quiet turn → ¬ MeetsWaveCommand turn row
+no_wave_command turn row none meets =
+    let ptr = ap (λ (s : Playing). s.voice.wave_ptr) meets.program.goes_on.left ∙ meets.program.ptr in
+    let same = ap (λ p. is_wave_command (turn.look.row Wave p)) ptr in
+    let row_is = ap is_wave_command meets.row_is in
+    let is = meets.is_command in
+    cc
+
+-- no command that is done once, where the row has another
+no_once : (turn : Turn) (command d : ℕ) → turn.start.voice.new_command ≢ command → Quiet turn →
+    ¬ DoesOnce turn command d
+no_once turn command d other none (inl row) = other row.command_is
+no_once turn command d other none (inr wave) = no_wave_command turn wave.row none wave.meets
 
 no_speed : (turn : Turn) (d : ℕ) → (ticked turn).playing.voice.wave_ptr ≡ 0 → (waved turn).playing.voice.command ≡ 0 →
     (waved turn).playing.voice.vib_delay ≢ 1 → ¬ AsksSpeed turn d
@@ -154,8 +193,8 @@ no_speed turn d none other delayed (for_slide command from to (inr running)) =
     (let is = running_is turn command d running in let no : Same 0 command = sym other ∙ is in omega arith)
 no_speed turn d none other delayed (for_vibrato meets) = delayed (delay_is turn d 1 meets)
 
--- no funk tempo, where the row has no command, where it has $F with another parameter, where the tick is between the two,
--- and where another tempo is loaded
+-- no funk tempo, where the row has no command, where it has $F with another parameter, where the tick is between the
+-- two, and where another tempo is loaded
 no_command : (turn : Turn) → turn.start.voice.new_command ≡ 0 → byte_minus turn.start.voice.tick 1 < 0x80 →
     ¬ AsksFunkTempo turn
 no_command turn none low (by_values d does) = (let no : Same 0 0xE = sym none ∙ does.command_is in omega arith)
@@ -185,178 +224,263 @@ between turn some low (by_length tempo loads small) = (let past = loads.past in 
 programs_lem : ProgramsAreUsed
 unfolding prefix_of cycle_of played playable_subtune instrument_at table_row pattern_at freq half_tone slide next_row porta_up porta_down tone vibrato do_command filter_step between_rows note_started row_command at_row tick_step wave_command wave_step effect_step pulse_step fetch_row voice_step voice_registers filter_registers frame_of state_after_with
 programs_lem = record {
-  started = λ h.
-      in_no_turn _ _ _ _ _ (λ w. note_ends_it _ w.0 refl w.1) (λ w. no_wave _ w.0 refl w.1) (λ w. no_wave _ w.0 refl w.1) h;
-  wave = record { channel = 1; is_channel = first; does = (1, has_wave _ 1 refl refl (λ e. omega arith)) };
-  pulse = record {
-    channel = 1;
-    is_channel = first;
-    does = (
-      1,
-      record {
-        s = _;
-        goes_on = record { waits = refl; left = refl };
-        v = _;
-        voice_is = refl;
-        kept = refl;
-        ptr = refl;
-        some = λ e. omega arith;
-      },
-    );
-  };
-  wave_stopped = λ h.
-      in_no_turn _ _ _ _ _ (λ w. no_wave _ w.0 refl w.1) (λ w. no_wave _ w.0 refl w.1) (λ w. no_wave _ w.0 refl w.1) h;
-  pulse_stopped = λ h.
-      in_no_turn _ _ _ _ _ (λ w. no_pulse _ w.0 refl w.1) (λ w. no_pulse _ w.0 refl w.1) (λ w. no_pulse _ w.0 refl w.1) h;
+  started = in_no_turn (λ w. note_ends_it _ w.0 refl w.1) (λ w. no_wave _ w.0 refl w.1) (λ w. no_wave _ w.0 refl w.1);
+  wave = in_first (1, has_wave _ 1 refl refl (λ e. omega arith));
+  pulse = in_first (
+    1,
+    record {
+      s = _;
+      goes_on = record { waits = refl; left = refl };
+      v = _;
+      voice_is = refl;
+      kept = refl;
+      ptr = refl;
+      some = λ e. omega arith;
+    },
+  );
+  no_command = in_no_turn (λ w. no_wave_command _ w.0 refl w.1) (λ w. no_wave_command _ w.0 refl w.1)
+      (λ w. no_wave_command _ w.0 refl w.1);
+  wave_stopped = in_no_turn (λ w. no_wave _ w.0 refl w.1) (λ w. no_wave _ w.0 refl w.1) (λ w. no_wave _ w.0 refl w.1);
+  pulse_stopped = in_no_turn (λ w. no_pulse _ w.0 refl w.1) (λ w. no_pulse _ w.0 refl w.1)
+      (λ w. no_pulse _ w.0 refl w.1);
 }
 
 slides_lem : SlidesAreUsed
 unfolding prefix_of cycle_of played playable_subtune instrument_at table_row pattern_at freq half_tone slide next_row porta_up porta_down tone vibrato do_command filter_step between_rows note_started row_command at_row tick_step wave_command wave_step effect_step pulse_step fetch_row voice_step voice_registers filter_registers frame_of state_after_with
 slides_lem = record {
-  before = λ h.
-      in_no_turn _ _ _ _ _ (λ w. no_slide _ w.0 refl refl w.1) (λ w. no_slide _ w.0 refl refl w.1)
-      (λ w. no_slide _ w.0 refl refl w.1) h;
-  first = record {
-    channel = 1;
-    is_channel = first;
-    does = (1, inr (does_running _ 1 (does_effect _ refl refl refl) refl));
-  };
-  later = record {
-    channel = 1;
-    is_channel = first;
-    does = (1, inr (does_running _ 1 (does_effect _ refl refl refl) refl));
-  };
-  kept_out = λ h.
-      in_no_turn _ _ _ _ _
-      (λ w. elim w.1 [
-        | inl wave ↦ no_wave _ wave.meets.p refl wave.meets.program
-        | inr running ↦ left_out_there _ running.v refl running.effect
-      ]) (λ w. no_slide _ w.0 refl refl w.1) (λ w. no_slide _ w.0 refl refl w.1) h;
-  begun_late = record {
-    channel = 1;
-    is_channel = first;
-    does = (1, inr (does_running _ 1 (does_effect _ refl refl refl) refl));
-  };
+  before = in_no_turn (λ w. no_slide _ 1 w.0 refl (λ e. omega arith) w.1)
+      (λ w. no_slide _ 1 w.0 refl (λ e. omega arith) w.1) (λ w. no_slide _ 1 w.0 refl (λ e. omega arith) w.1);
+  first = in_first (1, inr (does_running _ 1 (does_effect _ refl refl refl) refl));
+  later = in_first (1, inr (does_running _ 1 (does_effect _ refl refl refl) refl));
+  kept_out = in_no_turn (λ w. elim w.1 [
+    | inl wave ↦ no_wave _ wave.meets.p refl wave.meets.program
+    | inr running ↦ left_out_there _ running.v refl running.effect
+  ]) (λ w. no_slide _ 1 w.0 refl (λ e. omega arith) w.1) (λ w. no_slide _ 1 w.0 refl (λ e. omega arith) w.1);
+  begun_late = in_first (1, inr (does_running _ 1 (does_effect _ refl refl refl) refl));
 }
 
 vibratos_lem : VibratosAreUsed
 unfolding prefix_of cycle_of played playable_subtune instrument_at table_row pattern_at freq half_tone slide next_row porta_up porta_down tone vibrato do_command filter_step between_rows note_started row_command at_row tick_step wave_command wave_step effect_step pulse_step fetch_row voice_step voice_registers filter_registers frame_of state_after_with
 vibratos_lem = record {
-  begins = record {
-    channel = 1;
-    is_channel = first;
-    does = (1, 1, meets_vibrato _ 1 (does_effect _ refl refl refl) refl refl (λ e. omega arith) (λ e. omega arith));
+  begins = in_first (
+    1,
+    1,
+    meets_vibrato _ 1 (does_effect _ refl refl refl) refl refl (λ e. omega arith) (λ e. omega arith),
+  );
+  by_note = in_first (
+    1,
+    for_vibrato
+        (meets_vibrato _ 1 (does_effect _ refl refl refl) refl refl (λ e. omega arith) (λ e. omega arith)),
+    lit≤ tt,
+  );
+  delayed = in_first (
+    1,
+    2,
+    meets_vibrato _ 2 (does_effect _ refl refl refl) refl refl (λ e. omega arith) (λ e. omega arith),
+  );
+  not_yet = in_no_turn (λ w. no_speed _ w.0 refl refl (λ e. omega arith) w.1)
+      (λ w. no_speed _ w.0 refl refl (λ e. omega arith) w.1) (λ w. no_speed _ w.0 refl refl (λ e. omega arith) w.1);
+  no_delay = in_no_turn (λ w. w.2.begun (sym (delay_is _ w.0 w.1 w.2))) (λ w. w.2.begun (sym (delay_is _ w.0 w.1 w.2)))
+      (λ w. w.2.begun (sym (delay_is _ w.0 w.1 w.2)));
+}
+
+-- the turn that does the row's command
+abbrev turn_with : ℕ → ℕ → Turn
+turn_with channel command =
+    turn_of channel no_options (look_ups_of (command_song command 1)) (subtune_at (command_song command 1) 0)
+    (state_after_with no_options (command_song command 1) 0 6)
+
+done_in_row : (command : ℕ) → DoesRow (turn_with 1 command) command 1
+unfolding prefix_of cycle_of played playable_subtune instrument_at table_row pattern_at freq half_tone slide next_row porta_up porta_down tone vibrato do_command filter_step between_rows note_started row_command at_row tick_step wave_command wave_step effect_step pulse_step fetch_row voice_step voice_registers filter_registers frame_of state_after_with
+done_in_row command = record { now = refl; command_is = refl; param_is = refl }
+
+-- no voice does another command that is done once
+no_other : (command other : ℕ) → command ≢ other → 0 ≢ other → Quiet (turn_with 1 command) →
+    Quiet (turn_with 2 command) → Quiet (turn_with 3 command) →
+    ¬ InATurn no_options (look_ups_of (command_song command 1)) (subtune_at (command_song command 1) 0)
+    (state_after_with no_options (command_song command 1) 0 6) (λ turn. (d : ℕ) × DoesOnce turn other d)
+unfolding prefix_of cycle_of played playable_subtune instrument_at table_row pattern_at freq half_tone slide next_row porta_up porta_down tone vibrato do_command filter_step between_rows note_started row_command at_row tick_step wave_command wave_step effect_step pulse_step fetch_row voice_step voice_registers filter_registers frame_of state_after_with
+no_other command other differs some one two three =
+    in_no_turn (λ w. no_once _ other w.0 differs one w.1) (λ w. no_once _ other w.0 some two w.1)
+    (λ w. no_once _ other w.0 some three w.1)
+
+commands_lem : CommandsAreUsed
+unfolding prefix_of cycle_of played playable_subtune instrument_at table_row pattern_at freq half_tone slide next_row porta_up porta_down tone vibrato do_command filter_step between_rows note_started row_command at_row tick_step wave_command wave_step effect_step pulse_step fetch_row voice_step voice_registers filter_registers frame_of state_after_with
+commands_lem = record {
+  up = record {
+    used = in_first (1, inr (does_running _ 1 (does_effect _ refl refl refl) refl));
+    unused = in_no_turn (λ w. no_slide _ 2 w.0 refl (λ e. omega arith) w.1)
+        (λ w. no_slide _ 2 w.0 refl (λ e. omega arith) w.1) (λ w. no_slide _ 2 w.0 refl (λ e. omega arith) w.1);
   };
-  by_note = record {
-    channel = 1;
-    is_channel = first;
-    does = (
-      1,
-      for_vibrato
-          (meets_vibrato _ 1 (does_effect _ refl refl refl) refl refl (λ e. omega arith) (λ e. omega arith)),
-      lit≤ tt,
-    );
+  down = record {
+    used = in_first (1, inr (does_running _ 2 (does_effect _ refl refl refl) refl));
+    unused = in_no_turn (λ w. no_slide _ 4 w.0 refl (λ e. omega arith) w.1)
+        (λ w. no_slide _ 4 w.0 refl (λ e. omega arith) w.1) (λ w. no_slide _ 4 w.0 refl (λ e. omega arith) w.1);
   };
-  delayed = record {
-    channel = 1;
-    is_channel = first;
-    does = (1, 2, meets_vibrato _ 2 (does_effect _ refl refl refl) refl refl (λ e. omega arith) (λ e. omega arith));
+  tone = record {
+    used = in_first (1, inr (does_running _ 3 (does_effect _ refl refl refl) refl), λ e. omega arith);
+    unused = in_no_turn (λ w. no_param _ 3 0 refl (λ e. omega arith) w) (λ w. no_slide _ 3 0 refl (λ e. omega arith) w)
+        (λ w. no_slide _ 3 0 refl (λ e. omega arith) w);
   };
-  not_yet = λ h.
-      in_no_turn _ _ _ _ _ (λ w. no_speed _ w.0 refl refl (λ e. omega arith) w.1)
-      (λ w. no_speed _ w.0 refl refl (λ e. omega arith) w.1) (λ w. no_speed _ w.0 refl refl (λ e. omega arith) w.1) h;
-  no_delay = λ h.
-      in_no_turn _ _ _ _ _ (λ w. w.2.begun (sym (delay_is _ w.0 w.1 w.2))) (λ w. w.2.begun (sym (delay_is _ w.0 w.1 w.2)))
-      (λ w. w.2.begun (sym (delay_is _ w.0 w.1 w.2))) h;
+  tie = record {
+    used = in_first (inr (does_running _ 3 (does_effect _ refl refl refl) refl));
+    unused = in_no_turn (λ w. no_param _ 3 w.0 refl (λ e. w.2 (sym e)) w.1)
+        (λ w. no_slide _ 3 w.0 refl (λ e. omega arith) w.1) (λ w. no_slide _ 3 w.0 refl (λ e. omega arith) w.1);
+  };
+  vibrato = record {
+    used = in_first (1, inr (does_running _ 4 (does_effect _ refl refl refl) refl));
+    unused = in_no_turn (λ w. no_slide _ 1 w.0 refl (λ e. omega arith) w.1)
+        (λ w. no_slide _ 1 w.0 refl (λ e. omega arith) w.1) (λ w. no_slide _ 1 w.0 refl (λ e. omega arith) w.1);
+  };
+  ad = record {
+    used = in_first (1, inl (done_in_row 5));
+    unused = no_other 5 6 (λ e. omega arith) (λ e. omega arith) refl refl refl;
+  };
+  sr = record {
+    used = in_first (1, inl (done_in_row 6));
+    unused = no_other 6 7 (λ e. omega arith) (λ e. omega arith) refl refl refl;
+  };
+  wave = record {
+    used = in_first (1, inl (done_in_row 7));
+    unused = in_no_turn (λ w. no_row _ 8 w.0 (λ e. omega arith) w.1) (λ w. no_row _ 8 w.0 (λ e. omega arith) w.1)
+        (λ w. no_row _ 8 w.0 (λ e. omega arith) w.1);
+  };
+  wave_pointer = record {
+    used = in_first (1, done_in_row 8);
+    unused = no_other 8 9 (λ e. omega arith) (λ e. omega arith) refl refl refl;
+  };
+  pulse_pointer = record {
+    used = in_first (1, inl (done_in_row 9));
+    unused = no_other 9 0xA (λ e. omega arith) (λ e. omega arith) refl refl refl;
+  };
+  filter_pointer = record {
+    used = in_first (1, inl (done_in_row 0xA));
+    unused = no_other 0xA 0xB (λ e. omega arith) (λ e. omega arith) refl refl refl;
+  };
+  control = record {
+    used = in_first (1, inl (done_in_row 0xB));
+    unused = no_other 0xB 0xC (λ e. omega arith) (λ e. omega arith) refl refl refl;
+  };
+  cutoff = record {
+    used = in_first (1, inl (done_in_row 0xC));
+    unused = no_other 0xC 0xD (λ e. omega arith) (λ e. omega arith) refl refl refl;
+  };
+  volume = record {
+    used = in_first (1, inl (done_in_row 0xD));
+    unused = no_other 0xD 5 (λ e. omega arith) (λ e. omega arith) refl refl refl;
+  };
+  funk = record {
+    used = in_first (by_values 1 (done_in_row 0xE));
+    unused = in_no_turn (λ w. no_row _ 0xF w.0 (λ e. omega arith) w.1) (λ w. no_row _ 0xF w.0 (λ e. omega arith) w.1)
+        (λ w. no_row _ 0xF w.0 (λ e. omega arith) w.1);
+  };
+}
+
+filters_lem : FiltersAreUsed
+unfolding prefix_of cycle_of played playable_subtune instrument_at table_row pattern_at freq half_tone slide next_row porta_up porta_down tone vibrato do_command filter_step between_rows note_started row_command at_row tick_step wave_command wave_step effect_step pulse_step fetch_row voice_step voice_registers filter_registers frame_of state_after_with
+filters_lem = record { begun = λ h. h refl; met = λ e. omega arith }
+
+speeds_lem : SpeedsAreUsed
+unfolding prefix_of cycle_of played playable_subtune instrument_at table_row pattern_at freq half_tone slide next_row porta_up porta_down tone vibrato do_command filter_step between_rows note_started row_command at_row tick_step wave_command wave_step effect_step pulse_step fetch_row voice_step voice_registers filter_registers frame_of state_after_with
+speeds_lem = record {
+  up = in_first (
+    1,
+    for_slide 1 (lit≤ tt) (lit≤ tt) (inr (does_running _ 1 (does_effect _ refl refl refl) refl)),
+    lit≤ tt,
+  );
+  vibrato = in_first (
+    1,
+    for_slide 4 (lit≤ tt) (lit≤ tt) (inr (does_running _ 4 (does_effect _ refl refl refl) refl)),
+    lit≤ tt,
+  );
+  ad = in_no_turn (λ w. no_speed _ w.0 refl refl (λ e. omega arith) w.1)
+      (λ w. no_speed _ w.0 refl refl (λ e. omega arith) w.1) (λ w. no_speed _ w.0 refl refl (λ e. omega arith) w.1);
 }
 
 tempos_lem : TemposAreUsed
 unfolding prefix_of cycle_of played playable_subtune instrument_at table_row pattern_at freq half_tone slide next_row porta_up porta_down tone vibrato do_command filter_step between_rows note_started row_command at_row tick_step wave_command wave_step effect_step pulse_step fetch_row voice_step voice_registers filter_registers frame_of state_after_with
 tempos_lem = record {
-  three = record {
-    channel = 1;
-    is_channel = first;
-    does = (3, record { now = refl; command_is = refl; param_is = refl }, lit≤ tt);
-  };
-  two = λ h.
-      in_no_turn _ _ _ _ _ (λ w. (let e : Same 2 w.0 = w.1.param_is in let from = w.2 in omega arith))
-      (λ w. (let e : Same 0 0xF = w.1.command_is in omega arith)) (λ w. (let e : Same 0 0xF = w.1.command_is in omega arith)) h;
-  two_is_no_funk = λ h.
-      in_no_turn _ _ _ _ _ (λ a. other_tempo _ refl (lit< tt) (lit< tt) a) (λ a. no_command _ refl (lit< tt) a)
-      (λ a. no_command _ refl (lit< tt) a) h;
-  one = record {
-    channel = 1;
-    is_channel = first;
-    does = by_tempo 1 (record { now = refl; command_is = refl; param_is = refl }) (lit≤ tt);
-  };
-  one_loads = record {
-    channel = 1;
-    is_channel = first;
-    does = by_length 1 (record { past = lit≤ tt; tempo_is = refl }) (lit< tt);
-  };
-  one_loaded = λ h.
-      in_no_turn _ _ _ _ _ (λ a. between _ (lit< tt) (lit< tt) a) (λ a. between _ (lit< tt) (lit< tt) a)
-      (λ a. between _ (lit< tt) (lit< tt) a) h;
-  in_one_frame = λ h.
-      in_no_turn _ _ _ _ _ (λ a. other_tempo _ refl (lit< tt) (lit< tt) a) (λ a. loads_another _ refl (lit< tt) a)
-      (λ a. loads_another _ refl (lit< tt) a) h;
+  three = in_first (3, record { now = refl; command_is = refl; param_is = refl }, lit≤ tt);
+  here = in_first (0x83, record { now = refl; command_is = refl; param_is = refl }, lit≤ tt);
+  two = in_no_turn (λ w. (let e : Same 2 w.0 = w.1.param_is in let from = w.2 in omega arith))
+      (λ w. no_row _ 0xF w.0 (λ e. omega arith) w.1) (λ w. no_row _ 0xF w.0 (λ e. omega arith) w.1);
+  two_is_no_funk = in_no_turn (λ a. other_tempo _ refl (lit< tt) (lit< tt) a) (λ a. no_command _ refl (lit< tt) a)
+      (λ a. no_command _ refl (lit< tt) a);
+  one = in_first (by_tempo 1 (record { now = refl; command_is = refl; param_is = refl }) (lit≤ tt));
+  one_loads = in_first (by_length 1 (record { past = lit≤ tt; tempo_is = refl }) (lit< tt));
+  one_loaded = in_no_turn (λ a. between _ (lit< tt) (lit< tt) a) (λ a. between _ (lit< tt) (lit< tt) a)
+      (λ a. between _ (lit< tt) (lit< tt) a);
+  in_one_frame = in_no_turn (λ a. other_tempo _ refl (lit< tt) (lit< tt) a) (λ a. loads_another _ refl (lit< tt) a)
+      (λ a. loads_another _ refl (lit< tt) a);
 }
 
 waves_lem : WaveCommandsAreUsed
 unfolding prefix_of cycle_of played playable_subtune instrument_at table_row pattern_at freq half_tone slide next_row porta_up porta_down tone vibrato do_command filter_step between_rows note_started row_command at_row tick_step wave_command wave_step effect_step pulse_step fetch_row voice_step voice_registers filter_registers frame_of state_after_with
 waves_lem = record {
-  command = record {
-    channel = 1;
-    is_channel = first;
-    does = (sides 0xF9 2, meets_command _ 1 (sides 0xF9 2) (has_wave _ 1 refl refl (λ e. omega arith)) refl refl);
-  };
-  pulse = record {
-    channel = 1;
-    is_channel = first;
-    does = (2, inr (does_wave _ 1 9 (sides 0xF9 2) (has_wave _ 1 refl refl (λ e. omega arith)) refl refl refl));
-  };
-  filter = record {
-    channel = 1;
-    is_channel = first;
-    does = (1, inr (does_wave _ 2 0xA (sides 0xFA 1) (has_wave _ 2 refl refl (λ e. omega arith)) refl refl refl));
-  };
-  slide = record {
-    channel = 1;
-    is_channel = first;
-    does = (3, inl (does_wave _ 3 1 (sides 0xF1 3) (has_wave _ 3 refl refl (λ e. omega arith)) refl refl refl));
-  };
+  command = in_first (
+    sides 0xF9 2,
+    meets_command _ 1 (sides 0xF9 2) (has_wave _ 1 refl refl (λ e. omega arith)) refl refl,
+  );
+  pulse = in_first (2, inr (does_wave _ 1 9 2 refl refl (λ e. omega arith) refl refl));
+  filter = in_first (1, inr (does_wave _ 2 0xA 1 refl refl (λ e. omega arith) refl refl));
+  up = in_first (1, inl (does_wave _ 3 1 1 refl refl (λ e. omega arith) refl refl));
+  down = in_first (1, inl (does_wave _ 4 2 1 refl refl (λ e. omega arith) refl refl));
+  tone = in_first (1, inl (does_wave _ 5 3 1 refl refl (λ e. omega arith) refl refl), λ e. omega arith);
+  tie = in_first (inl (does_wave _ 6 3 0 refl refl (λ e. omega arith) refl refl));
+  vibrato = in_first (1, inl (does_wave _ 7 4 1 refl refl (λ e. omega arith) refl refl));
+  ad = in_first (1, inr (does_wave _ 8 5 1 refl refl (λ e. omega arith) refl refl));
+  sr = in_first (1, inr (does_wave _ 9 6 1 refl refl (λ e. omega arith) refl refl));
+  wave = in_first (1, inr (does_wave _ 10 7 1 refl refl (λ e. omega arith) refl refl));
+  control = in_first (1, inr (does_wave _ 11 0xB 1 refl refl (λ e. omega arith) refl refl));
+  cutoff = in_first (1, inr (does_wave _ 12 0xC 1 refl refl (λ e. omega arith) refl refl));
+  volume = in_first (1, inr (does_wave _ 13 0xD 1 refl refl (λ e. omega arith) refl refl));
+  eight = in_first (
+    sides 0xF8 1,
+    meets_command _ 14 (sides 0xF8 1) (has_wave _ 14 refl refl (λ e. omega arith)) refl refl,
+  );
+  no_pointer = in_no_turn (λ w. no_row _ 8 w.0 (λ e. omega arith) w.1)
+      (λ w. no_row _ 8 w.0 (λ e. omega arith) w.1) (λ w. no_row _ 8 w.0 (λ e. omega arith) w.1);
+}
+
+voices_lem : VoicesAreUsed
+unfolding prefix_of cycle_of played playable_subtune instrument_at table_row pattern_at freq half_tone slide next_row porta_up porta_down tone vibrato do_command filter_step between_rows note_started row_command at_row tick_step wave_command wave_step effect_step pulse_step fetch_row voice_step voice_registers filter_registers frame_of state_after_with
+voices_lem = record {
+  second = record { channel = 2; is_channel = second; does = (1, has_wave _ 1 refl refl (λ e. omega arith)) };
+  third = record { channel = 3; is_channel = third; does = (1, has_wave _ 1 refl refl (λ e. omega arith)) };
 }
 
 -- ---- orderlists
 
-one_is : (byte : ℕ) → Contains (1 ∷ []) byte → byte < 0xE0
+-- the first byte of an orderlist
+has_byte : {subtune : Subtune} {from to : ℕ} (channel byte : ℕ) → IsChannel channel →
+    Contains (order_of channel subtune).entries byte → from ≤ byte → byte ≤ to → HasOrderByte subtune from to
+has_byte channel byte is has low high =
+    record { channel = channel; is_channel = is; byte = byte; entry = has; low = low; high = high }
+
+one_is : (byte : ℕ) → Contains (1 ∷ []) byte → byte < 0xD0
 one_is byte (zero, inside, is) = (let e : Same 1 byte = is in omega arith)
 one_is byte (suc k, inside, is) = absurd (omega arith)
 
--- no entry of the orderlists is a transpose
-no_transpose : (channel byte : ℕ) → IsChannel channel →
-    Contains (order_of channel (subtune_at late_restart 0)).entries byte → byte < 0xE0
+-- no entry of the orderlists is a repeat or a transpose
+plays_only : (channel byte : ℕ) → IsChannel channel →
+    Contains (order_of channel (subtune_at late_restart 0)).entries byte → byte < 0xD0
 unfolding playable_subtune
-no_transpose zero byte is has = absurd (let least = is.first in omega arith)
-no_transpose (suc zero) byte is has =
-    All-contains (λ b. b < 0xE0) (replicate 225 0) byte (All-replicate (λ b. b < 0xE0) 225 0 (lit< tt)) has
-no_transpose (suc (suc zero)) byte is has = one_is byte has
-no_transpose (suc (suc (suc zero))) byte is has = one_is byte has
-no_transpose (suc (suc (suc (suc channel)))) byte is has = absurd (let most = is.last in omega arith)
+plays_only zero byte is has = absurd (let least = is.first in omega arith)
+plays_only (suc zero) byte is has =
+    All-contains (λ b. b < 0xD0) (replicate 225 0) byte (All-replicate (λ b. b < 0xD0) 225 0 (lit< tt)) has
+plays_only (suc (suc zero)) byte is has = one_is byte has
+plays_only (suc (suc (suc zero))) byte is has = one_is byte has
+plays_only (suc (suc (suc (suc channel)))) byte is has = absurd (let most = is.last in omega arith)
 
 orders_lem : OrdersAreUsed
 unfolding playable_subtune
 orders_lem = record {
-  repeat = record {
-    channel = 2;
-    is_channel = second;
-    byte = 0xDF;
-    entry = (0, lit< tt, refl);
-    low = lit≤ tt;
-    high = lit≤ tt;
-  };
-  restart = λ h.
-      (let small = no_transpose h.channel h.byte h.is_channel h.entry in let low = h.low in omega arith);
+  least_repeat = has_byte 1 0xD0 first (0, lit< tt, refl) (lit≤ tt) (lit≤ tt);
+  most_repeat = has_byte 2 0xDF second (0, lit< tt, refl) (lit≤ tt) (lit≤ tt);
+  least_transpose = has_byte 3 0xE0 third (0, lit< tt, refl) (lit≤ tt) (lit≤ tt);
+  most_transpose = has_byte 1 0xFE first (0, lit< tt, refl) (lit≤ tt) (lit≤ tt);
+  no_repeat = λ h. (let small = plays_only h.channel h.byte h.is_channel h.entry in let low = h.low in omega arith);
+  no_transpose = λ h. (let small = plays_only h.channel h.byte h.is_channel h.entry in let low = h.low in omega arith);
 }
 
 pub cases_are_as_worked_lem : CasesAreAsWorked
@@ -364,7 +488,11 @@ cases_are_as_worked_lem = record {
   programs = programs_lem;
   slides = slides_lem;
   vibratos = vibratos_lem;
+  commands = commands_lem;
+  filters = filters_lem;
+  speeds = speeds_lem;
   tempos = tempos_lem;
   waves = waves_lem;
+  voices = voices_lem;
   orders = orders_lem;
 }

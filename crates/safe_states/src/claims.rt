@@ -25,7 +25,7 @@ pub fn safe_within()
     ensures { SafeWithin }
 {}
 
-/// What frames of small songs use where a case comes first, and what others that are close to it don't.
+/// What frames of small songs use, each feature at least once, and what others that are close to them don't.
 #[tactic(auto, using(crate::proofs::WorkedCases::cases_are_as_worked_lem))]
 pub fn worked_cases()
     ensures { CasesAreAsWorked }
