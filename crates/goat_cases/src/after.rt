@@ -13,21 +13,18 @@ pub fn some_bytes<N: Names>(alloc: Global, names: &N, text: &str) -> Result<Vec<
     Ok(bytes)
 }
 
+/// Whether a line holds a file against itself.
+fn names_itself(name: &str, rest: &str) -> bool {
+    rest.split_whitespace()
+        .any(|word| word.strip_prefix('@') == Some(name))
+}
+
 /// Whether the file has these bytes from an offset on.
 fn has_at(alloc: Global, desk: &Desk, file: &[u8], rest: &str) -> Result<bool, Wrong> {
     let (offset, rest) = first_word(rest);
     let place = number_of(offset)? as usize;
     let bytes = some_bytes(alloc, desk, rest)?;
     Ok(file.get(place..).unwrap_or(&[]).starts_with(&bytes))
-}
-
-/// The bytes that must stand in a file. The line may not speak of the file itself.
-fn other_bytes(alloc: Global, desk: &Desk, name: &str, rest: &str) -> Result<Vec<u8>, Wrong> {
-    let is_own = |word: &str| word.strip_prefix('@') == Some(name);
-    if rest.split_whitespace().any(is_own) {
-        return Err(Wrong::BadLine);
-    }
-    bytes_of(alloc, desk, rest)
 }
 
 /// Whether the file is as a line says that begins with this word; none where no line does.
@@ -41,7 +38,10 @@ pub fn is_as_said(
     let found = desk.named(name);
     let file = found.unwrap_or(&[]);
     let is_so = match word {
-        "wrote" => file == other_bytes(alloc, desk, name, rest)?.as_slice(),
+        "wrote" | "begins" | "closes" | "holds" if names_itself(name, rest) => {
+            return Err(Wrong::BadLine);
+        }
+        "wrote" => file == bytes_of(alloc, desk, rest)?.as_slice(),
         "begins" => file.starts_with(&some_bytes(alloc, desk, rest)?),
         "closes" => file.ends_with(&some_bytes(alloc, desk, rest)?),
         "holds" => has_at(alloc, desk, file, rest)?,

@@ -53,9 +53,9 @@ impl Answer {
         Answer::new(alloc, 0, text.as_bytes())
     }
 
-    /// Whether a read or a write failed, or a put.
+    /// Whether a read or a write failed, or a put, or one of them found no memory.
     pub fn tells_failure(&self) -> bool {
-        matches!(self.status, 4 | 9 | 10)
+        matches!(self.status, 4 | 9 | 10 | 14)
     }
 
     /// The text.
@@ -96,6 +96,7 @@ impl Answer {
                 self.take_piece(rest.as_bytes())?;
                 self.take_piece(b"\n")?;
             }
+            "piece" if rest.is_empty() => return Err(Wrong::BadLine),
             "piece" => self.take_piece(rest.as_bytes())?,
             "rest" => self.named = self.text.len(),
             "call" => self.take_call(alloc, rest)?,

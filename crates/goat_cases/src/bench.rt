@@ -148,8 +148,9 @@ impl<'a, R: Files + AllocGlobal> Bench<'a, R> {
     /// The answer of the program to these words.
     fn run(&mut self, rest: &str) -> Result<Answer, Wrong> {
         let words = words_of(self.alloc, rest)?;
+        self.machine = None;
         let answer = run(self.rt, &words, &mut self.desk, &self.devices)?;
-        if self.devices.lists_failures() && !answer.tells_failure() {
+        if self.devices.fail() && !answer.tells_failure() {
             return Err(Wrong::Differs("nothing failed"));
         }
         self.devices = Devices::whole(self.alloc);

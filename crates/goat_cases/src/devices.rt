@@ -50,18 +50,22 @@ impl Devices {
         }
     }
 
-    /// Whether some call or put is said to fail.
-    pub fn lists_failures(&self) -> bool {
-        !self.calls.is_empty() || !self.puts.is_empty()
+    /// Whether something is said to fail.
+    pub fn fail(&self) -> bool {
+        let is_poor = matches!(self.place, Place::Poor { .. });
+        is_poor || !self.calls.is_empty() || !self.puts.is_empty()
     }
 
-    /// Whether nothing fails.
+    /// Whether nothing is said of the next run.
     pub fn is_whole(&self) -> bool {
-        !self.lists_failures() && matches!(self.place, Place::Memory)
+        !self.fail() && matches!(self.place, Place::Memory)
     }
 
     /// Takes a line that says what fails; answers whether it is one.
     pub fn take(&mut self, alloc: Global, word: &str, rest: &str) -> Result<bool, Wrong> {
+        if !self.is_whole() && matches!(word, "fail" | "fail-puts" | "poor" | "disk") {
+            return Err(Wrong::BadLine);
+        }
         match (word, rest) {
             ("fail", _) => self.calls = numbers_of(alloc, rest)?,
             ("fail-puts", _) => self.puts = numbers_of(alloc, rest)?,

@@ -123,7 +123,6 @@ pub fn run<R: Files + AllocGlobal>(
     match devices.place {
         Place::Memory => run_in_memory(alloc, words, desk, devices),
         Place::Poor { reads } => run_in_want(alloc, words, desk, devices, reads),
-        Place::Disk if !devices.calls.is_empty() => Err(Wrong::BadLine),
         Place::Disk => answered(alloc, words, &mut DiskFolder::new(rt), &devices.puts),
     }
 }

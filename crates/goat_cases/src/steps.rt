@@ -8,8 +8,10 @@ use std::alloc::Global;
 
 /// The file of the song that is made from a number.
 pub fn generated(alloc: Global, number: &str) -> Result<Vec<u8>, Wrong> {
-    let Ok(number) = number.parse::<u64>() else {
-        return Err(Wrong::BadLine);
+    let is_digits = number.bytes().all(|byte| byte.is_ascii_digit());
+    let number = match number.parse::<u64>() {
+        Ok(number) if is_digits => number,
+        _ => return Err(Wrong::BadLine),
     };
     let Ok(song) = generate(alloc, number) else {
         return Err(Wrong::NoMemory);

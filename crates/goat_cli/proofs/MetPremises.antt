@@ -1,4 +1,4 @@
--- What the clauses on statuses, packing and running ask for is met.
+-- What the clauses on statuses, packing and running ask for.
 use Rattle.std.proofs.Common.{◌≡◌, ◌≤◌, ◌++◌, length, refl, ap, arith, length-append}
 use Rattle.song_model.specs.declared.songs.Song.{Song}
 use Rattle.play_model.specs.declared.options.Options.{Options}
@@ -8,11 +8,11 @@ use Rattle.psid.specs.Words.{address_bytes}
 use Rattle.goat_cli.specs.Packed.{song_header}
 use Rattle.goat_cli.specs.Stages.{input_limit}
 use Rattle.goat_cli.specs.Answers.{IsPackedPsid}
-use Rattle.goat_cli.specs.MetPremises.{StatusesAreTold, FittingSongsArePacked, PackedFilesAreRun}
+use Rattle.goat_cli.specs.MetPremises.{StatusesAreOrdinary, FittingSongsArePacked, PackedFilesAreRun}
 use Rattle.goat_cli.proofs.SmallSongs.{small_songs}
 
-pub statuses_are_told : StatusesAreTold
-statuses_are_told = record {
+pub statuses_are_ordinary : StatusesAreOrdinary
+statuses_are_ordinary = record {
   done = record {
     no_read_fault = λ e. omega arith;
     no_write_fault = λ e. omega arith;
@@ -27,6 +27,8 @@ statuses_are_told = record {
       record { not_done = done; no_write_fault = write; no_sink_fault = sink; no_want = want };
   read_fault = λ h. h.no_read_fault refl;
   write_fault = λ h. h.no_write_fault refl;
+  unprinted = λ h. h.no_sink_fault refl;
+  no_memory = λ h. h.no_want refl;
   sink_fault = λ h. h.no_sink_fault refl;
   want = λ h. h.no_want refl;
   written = λ h. h.not_done refl;

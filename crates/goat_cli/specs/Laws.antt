@@ -1,6 +1,6 @@
--- What follows from the definitions: words name one job, a run has one outcome, each status comes exactly where its
+-- What follows from the definitions: a run has one outcome, each status comes exactly where its
 -- cause is, which songs are packed, and a packed file that is run prints its song.
-use Rattle.std.specs.Prelude.{◌≡◌, ◌≢◌, ℕ, ◌+◌, ◌-◌, ◌^◌, ◌<◌, ◌≤◌, ◌↔◌, Bool, true, List, Option, None, Ok, length, sum_by}
+use Rattle.std.specs.Prelude.{◌≡◌, ◌≢◌, ℕ, ◌+◌, ◌-◌, ◌<◌, ◌≤◌, ◌↔◌, Bool, true, List, Option, None, Ok, length}
 use Rattle.goat_io.specs.Files.{Files}
 use Rattle.song_model.specs.declared.songs.Song.{Song}
 use Rattle.song_model.specs.Limits.{KeepsLimits}
@@ -125,5 +125,3 @@ PackedFilesPlay =
     subtune ≤ length (playable_subtunes song) →
     (psid : Psid) × (psid_read file ≡ Ok psid) × HasSubtune psid subtune × (after : Machine) ×
     FirstCalls (loaded psid) (subtune - 1) (frames + 1) (first_traces options song (subtune - 1) (frames + 1)) after
-
--- ---- room

@@ -1,5 +1,5 @@
--- What the clauses on statuses, packing and running ask for is met: by each status but those of failing devices, by each
--- small song that a file spells, and by each packed file that the words name.
+-- What the clauses on statuses, packing and running ask for: each status but those of failing devices and of running out
+-- of memory is ordinary; a small song that a file spells is asked for no more; a packed file is never too long to be run.
 use Rattle.std.specs.Prelude.{◌≡◌, ◌≢◌, ℕ, ◌+◌, ◌≤◌, Bool, List, Some, length}
 use Rattle.goat_io.specs.Files.{Files, file_of}
 use Rattle.song_model.specs.declared.songs.Song.{Song}
@@ -19,7 +19,7 @@ use Rattle.goat_cli.specs.Answers.{IsOrdinary, IsPrinted, IsBeforeWriting, IsPac
 
 -- 0 and each other status but 4, 9, 10 and 14 is ordinary, all lines are printed with each but 10 and 14, and nothing is
 -- written with each but 0, 9, 10 and 14
-pub record StatusesAreTold : Type 0 where
+pub record StatusesAreOrdinary : Type 0 where
   pub done : IsOrdinary 0
   pub done_printed : IsPrinted 0
   pub ordinary : (status : ℕ) → status ≢ 4 → status ≢ 9 → status ≢ 10 → status ≢ 14 → IsOrdinary status
@@ -27,6 +27,8 @@ pub record StatusesAreTold : Type 0 where
   pub before_writing : (status : ℕ) → status ≢ 0 → status ≢ 9 → status ≢ 10 → status ≢ 14 → IsBeforeWriting status
   pub read_fault : ¬ IsOrdinary 4
   pub write_fault : ¬ IsOrdinary 9
+  pub unprinted : ¬ IsOrdinary 10
+  pub no_memory : ¬ IsOrdinary 14
   pub sink_fault : ¬ IsPrinted 10
   pub want : ¬ IsPrinted 14
   pub written : ¬ IsBeforeWriting 0

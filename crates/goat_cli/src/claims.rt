@@ -1,7 +1,7 @@
 //! Facts about the definitions, each the contract of a function that does nothing.
 
 ghost use Rattle.goat_cli.specs.Laws.{OutcomesAreDue, OneStatusIsDue, OneTextIsPrinted, StagesPass, PlayableSongsPass, StatusesHaveCauses, OnlyLargeImagesAreRefused, SmallSongsArePacked, ImagesAreBounded, WrittenFilesArePacked, PackedFilesPlay};
-ghost use Rattle.goat_cli.specs.MetPremises.{StatusesAreTold, FittingSongsArePacked, PackedFilesAreRun};
+ghost use Rattle.goat_cli.specs.MetPremises.{StatusesAreOrdinary, FittingSongsArePacked, PackedFilesAreRun};
 
 /// A run has one outcome at most: one status and one name to write under, and, where nothing is written, one text.
 pub fn runs_have_one_outcome()
@@ -39,9 +39,10 @@ pub fn packed_files_play_their_song()
     ensures play { PackedFilesPlay }
 {}
 
-/// What the clauses on statuses, packing and running ask for is met.
+/// What the clauses on statuses, packing and running ask for: which statuses are ordinary, that a small song is asked for
+/// no more than fits it, and that a packed file is never too long.
 pub fn premises_are_met()
-    ensures statuses { StatusesAreTold }
+    ensures statuses { StatusesAreOrdinary }
     ensures packed { FittingSongsArePacked }
     ensures run { PackedFilesAreRun }
 {}

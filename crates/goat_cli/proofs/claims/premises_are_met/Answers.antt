@@ -1,8 +1,8 @@
-use Rattle.goat_cli.proofs.MetPremises.{statuses_are_told, fitting_songs_are_packed, packed_files_are_run}
+use Rattle.goat_cli.proofs.MetPremises.{statuses_are_ordinary, fitting_songs_are_packed, packed_files_are_run}
 use Rattle.goat_cli.proofs.claims.premises_are_met.Goals as goal
 
 pub returns-clause-statuses : goal.returns-clause-statuses
-returns-clause-statuses c = statuses_are_told
+returns-clause-statuses c = statuses_are_ordinary
 
 pub returns-clause-packed : goal.returns-clause-packed
 returns-clause-packed c = fitting_songs_are_packed
