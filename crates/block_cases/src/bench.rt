@@ -90,6 +90,7 @@ impl Bench {
 
     /// Begins a case.
     pub fn begin(&mut self) {
+        self.machine.cpu = IDLE;
         for page in 0..=255_u8 {
             if self.touched[usize::from(page)] || is_watched(page) {
                 self.fill(page);

@@ -3,7 +3,7 @@
 use crate::bench::{Bench, IDLE, same_registers};
 use crate::difference::{Difference, same};
 use crate::notation::DEPTH;
-use crate::words::Reader;
+use crate::words::{Reader, once};
 use asm6502::{Assembled, Item, Line, Listing, PartSet, assemble};
 use base::ByteList;
 use blocks::Block;
@@ -128,7 +128,13 @@ impl Setup {
     }
 
     /// Runs the block at an origin, and sees that all is as it is wanted.
-    fn run_at(&self, bench: &mut Bench, code: &Assembled, wants: &Wants) -> Result<(), Difference> {
+    fn run_at(
+        &self,
+        bench: &mut Bench,
+        code: &Assembled,
+        after: Cpu,
+        wants: &Wants,
+    ) -> Result<(), Difference> {
         let bytes = code.bytes.as_slice();
         let size = bytes.len().saturating_sub(self.bytes.len()).min(0xffff) as u16;
         let base = code.origin.wrapping_add(size);
@@ -142,9 +148,6 @@ impl Setup {
         let steps = bench.step_to(base, BUDGET)?;
         wants.put_into(bench, base.wrapping_sub(self.first));
         same("instructions", steps, wants.steps.unwrap_or(steps))?;
-        let Some(after) = wants.after else {
-            return Err(Difference::WantsNothing);
-        };
         let Cpu { sp, d, i, .. } = self.begin;
         same_registers(bench.machine.cpu, Cpu { sp, d, i, ..after })?;
         bench.compare()
@@ -152,7 +155,7 @@ impl Setup {
 
     /// Runs the block at each origin.
     pub fn run(&self, alloc: Global, bench: &mut Bench, wants: &Wants) -> Result<(), Difference> {
-        let Some(block) = &self.block else {
+        let (Some(block), Some(after)) = (&self.block, wants.after) else {
             return Err(Difference::WantsNothing);
         };
         if self.origins.is_empty() {
@@ -162,7 +165,7 @@ impl Setup {
         same("labels", labels, wants.labels.unwrap_or(labels))?;
         for origin in &self.origins {
             let code = self.assembled(alloc, block, *origin)?;
-            self.run_at(bench, &code, wants)?;
+            self.run_at(bench, &code, after, wants)?;
         }
         Ok(())
     }
@@ -188,6 +191,17 @@ fn registers(reader: &mut Reader<'_>) -> Result<Cpu, Difference> {
     reader.flags(Cpu { a, x, y, ..IDLE })
 }
 
+/// Reads A, Y, and those flags that are compared.
+fn compared(reader: &mut Reader<'_>) -> Result<Cpu, Difference> {
+    let a = reader.byte()?;
+    let y = reader.byte()?;
+    let after = reader.flags(Cpu { a, y, ..IDLE })?;
+    if after.v || after.d || after.i {
+        return Err(Difference::Unread);
+    }
+    Ok(after)
+}
+
 impl Wants {
     /// Nothing is wanted yet.
     pub fn new(alloc: Global) -> Wants {
@@ -209,17 +223,13 @@ impl Wants {
         reader: &mut Reader<'_>,
     ) -> Result<(), Difference> {
         match head {
-            b"after" => {
-                let a = reader.byte()?;
-                let y = reader.byte()?;
-                self.after = Some(reader.flags(Cpu { a, y, ..IDLE })?);
-            }
+            b"after" => once(&mut self.after, compared(reader)?)?,
             b"label" => self.read_bytes(alloc, true, reader)?,
             b"at" => self.read_bytes(alloc, false, reader)?,
-            b"steps" => self.steps = Some(reader.number()?),
-            b"size" => self.size = Some(reader.number()?),
-            b"labels" => self.labels = Some(reader.number()?),
-            b"code" => self.code = Some(reader.bytes(alloc)?),
+            b"steps" => once(&mut self.steps, reader.number()?)?,
+            b"size" => once(&mut self.size, reader.number()?)?,
+            b"labels" => once(&mut self.labels, reader.number()?)?,
+            b"code" => once(&mut self.code, reader.bytes(alloc)?)?,
             _ => return Err(Difference::Unread),
         }
         Ok(())
@@ -233,7 +243,7 @@ impl Wants {
         reader: &mut Reader<'_>,
     ) -> Result<(), Difference> {
         let at = reader.short()?;
-        let bytes = reader.bytes(alloc)?;
+        let bytes = reader.some_bytes(alloc)?;
         self.places.push(Bytes {
             is_label,
             at,

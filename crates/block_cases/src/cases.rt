@@ -1,5 +1,7 @@
 //! The cases of a file, one after the other.
 
+ghost use Rattle.std.specs.Prelude.{◌≡◌, ◌+◌, min, IsOk, IsErr};
+
 use crate::bench::Bench;
 use crate::block_cases::{Setup, Wants};
 use crate::difference::Difference;
@@ -19,17 +21,10 @@ pub struct Count {
 
 /// Whether a case begins with this word.
 fn is_case(head: &[u8]) -> bool {
-    matches!(head, b"case" | b"listing" | b"machine" | b"instruction")
-}
-
-impl Reader<'_> {
-    /// Passes over the name of a case.
-    fn pass_name(&mut self) {
-        for _ in 0..self.left() {
-            if self.word().is_err() {
-                break;
-            }
-        }
+    match head {
+        b"case" | b"listing" | b"machine" | b"memory" | b"instruction" => true,
+        b"denial" | b"unread" => true,
+        _ => false,
     }
 }
 
@@ -44,6 +39,27 @@ fn next_line<'a>(reader: &mut Reader<'a>) -> Option<&'a [u8]> {
     Some(head)
 }
 
+impl Reader<'_> {
+    /// Passes over the name of a case.
+    ///
+    /// # Errors
+    ///
+    /// It doesn't end with its line.
+    fn pass_name(&mut self) -> Result<(), Difference> {
+        self.pass_line();
+        self.end()
+    }
+
+    /// Passes over the lines that are left of a case.
+    fn pass_lines(&mut self) {
+        for _ in 0..self.left() {
+            if next_line(self).is_none() {
+                break;
+            }
+        }
+    }
+}
+
 /// Reads a case of a block, and runs it.
 fn block_case(
     alloc: Global,
@@ -53,7 +69,7 @@ fn block_case(
 ) -> Result<(), Difference> {
     let line = reader.line;
     let mut wants = Wants::new(alloc);
-    reader.pass_name();
+    reader.pass_name()?;
     for _ in 0..reader.left() {
         let Some(head) = next_line(reader) else {
             break;
@@ -71,7 +87,7 @@ fn block_case(
 fn listing_case(alloc: Global, reader: &mut Reader<'_>) -> Result<(), Difference> {
     let line = reader.line;
     let mut case = ListingCase::new(alloc);
-    reader.pass_name();
+    reader.pass_name()?;
     for _ in 0..reader.left() {
         let Some(head) = next_line(reader) else {
             break;
@@ -92,7 +108,7 @@ fn machine_case(
     let line = reader.line;
     let mut case = MachineCase::new();
     bench.begin();
-    reader.pass_name();
+    reader.pass_name()?;
     for _ in 0..reader.left() {
         let Some(head) = next_line(reader) else {
             break;
@@ -104,6 +120,56 @@ fn machine_case(
     case.end(bench)
 }
 
+/// Reads a case of all of memory, and compares it.
+fn memory_case(bench: &Bench, reader: &mut Reader<'_>) -> Result<(), Difference> {
+    reader.pass_name()?;
+    bench.compare_all()
+}
+
+/// Does a case of this kind. Where it differs, memory is again what it was before the first case.
+fn do_kind(
+    alloc: Global,
+    bench: &mut Bench,
+    setup: &mut Setup,
+    kind: &[u8],
+    reader: &mut Reader<'_>,
+) -> Result<(), Difference> {
+    let done = match kind {
+        b"case" => block_case(alloc, bench, setup, reader),
+        b"listing" => listing_case(alloc, reader),
+        b"machine" => machine_case(alloc, bench, reader),
+        b"memory" => memory_case(bench, reader),
+        b"instruction" => check_instruction(alloc, reader),
+        _ => Err(Difference::Unread),
+    };
+    if done.is_err() {
+        bench.renew();
+    }
+    done
+}
+
+/// What becomes of a denial: it agrees where its case differs by what comes.
+fn denied(done: Result<(), Difference>) -> Result<(), Difference>
+    ensures { IsOk done → IsErr result }
+{
+    match done {
+        Ok(()) => Err(Difference::Agrees),
+        Err(Difference::Unread | Difference::WantsNothing | Difference::NoMemory) => done,
+        Err(_) => Ok(()),
+    }
+}
+
+/// What becomes of a case that is to be unread: it agrees where a line of it isn't of the notation.
+fn unread(done: Result<(), Difference>) -> Result<(), Difference>
+    ensures { IsOk done → IsErr result }
+{
+    match done {
+        Ok(()) => Err(Difference::Agrees),
+        Err(Difference::Unread) => Ok(()),
+        Err(_) => done,
+    }
+}
+
 /// Does the case that begins with this word.
 fn do_case(
     alloc: Global,
@@ -113,20 +179,20 @@ fn do_case(
     reader: &mut Reader<'_>,
 ) -> Result<(), Difference> {
     match head {
-        b"case" => block_case(alloc, bench, setup, reader),
-        b"listing" => listing_case(alloc, reader),
-        b"machine" => machine_case(alloc, bench, reader),
-        b"instruction" => {
-            check_instruction(alloc, reader)?;
+        b"denial" => {
+            let kind = reader.word()?;
+            denied(do_kind(alloc, bench, setup, kind, reader))?;
             reader.end()
         }
-        _ => Err(Difference::Unread),
+        b"unread" => {
+            let kind = reader.word()?;
+            unread(do_kind(alloc, bench, setup, kind, reader))
+        }
+        _ => do_kind(alloc, bench, setup, head, reader),
     }
 }
 
 impl Count {
-    ghost use Rattle.std.specs.Prelude.{◌≡◌, ◌+◌, min, IsOk, IsErr};
-
     /// Counts a case, and prints what differs.
     ///
     /// # Errors
@@ -163,20 +229,18 @@ impl Count {
     ) -> io::Result<()> {
         let mut setup = Setup::new(rt.alloc());
         let mut cases = 0_u32;
+        if let Err(stray) = reader.end() {
+            self.note(rt, file, reader.line, Err(stray))?;
+        }
         for _ in 0..reader.left() {
             let Some(head) = reader.head() else {
                 break;
             };
             cases = cases.saturating_add(1);
             let done = do_case(rt.alloc(), bench, &mut setup, head, &mut reader);
-            if done.is_err() {
-                bench.renew();
-            }
             self.note(rt, file, reader.line, done)?;
-            for _ in 0..reader.left() {
-                if next_line(&mut reader).is_none() {
-                    break;
-                }
+            if done.is_err() {
+                reader.pass_lines();
             }
         }
         if cases == 0 {

@@ -29,6 +29,10 @@ pub enum Difference {
     Number(&'static str, u32, u32),
     /// The byte at a place: the one that is found, and the one that is wanted.
     Place(u16, u8, u8),
+    /// There is no instruction of this name, mode and operand, or of these bytes.
+    NoInstruction,
+    /// Nothing differs, and something is to.
+    Agrees,
     /// Out of memory.
     NoMemory,
 }
@@ -52,6 +56,8 @@ impl fmt::Display for Difference {
                     "the byte at {at:04x} is {found:02x}, wanted {wanted:02x}"
                 )
             }
+            Difference::NoInstruction => write!(f, "no such instruction"),
+            Difference::Agrees => write!(f, "nothing differs, and something is to"),
             Difference::NoMemory => write!(f, "out of memory"),
         }
     }

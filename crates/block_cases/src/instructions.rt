@@ -99,33 +99,39 @@ fn instruction(reader: &mut Reader<'_>) -> Result<Instr, Difference> {
     })
 }
 
-/// An instruction that is spelled by these bytes, and read from them.
-fn check_encoded(alloc: Global, reader: &mut Reader<'_>) -> Result<(), Difference> {
-    let instr = instruction(reader)?;
-    let wanted = reader.bytes(alloc)?;
-    let Some(encoded) = encode(instr) else {
-        return Err(Difference::Unread);
+/// An instruction that is read from these bytes, which are no longer: its operand and its own bytes are those wanted.
+fn check_read(instr: Instr, bytes: &[u8]) -> Result<(), Difference> {
+    let Some((read, length)) = decode(bytes) else {
+        return Err(Difference::NoInstruction);
     };
-    same_bytes(encoded.as_slice(), &wanted)?;
-    let Some((read, length)) = decode(&wanted) else {
-        return Err(Difference::Unread);
-    };
+    let size = bytes.len().min(0xffff_ffff) as u32;
+    same("the length", u32::from(length), size)?;
     same(
         "the operand",
         u32::from(read.operand),
         u32::from(instr.operand),
     )?;
-    same(
-        "the length",
-        u32::from(length),
-        wanted.len().min(0xffff_ffff) as u32,
-    )
+    match (encode(read), encode(instr)) {
+        (Some(found), Some(wanted)) => same_bytes(found.as_slice(), wanted.as_slice()),
+        _ => Err(Difference::NoInstruction),
+    }
+}
+
+/// An instruction that is spelled by these bytes, and read from them.
+fn check_encoded(instr: Instr, bytes: &[u8]) -> Result<(), Difference> {
+    let Some(encoded) = encode(instr) else {
+        return Err(Difference::NoInstruction);
+    };
+    same_bytes(encoded.as_slice(), bytes)?;
+    check_read(instr, bytes)
 }
 
 /// Reads and checks a line of one instruction.
 pub fn check_instruction(alloc: Global, reader: &mut Reader<'_>) -> Result<(), Difference> {
     if reader.takes(b"has-no-bytes") {
-        return match encode(instruction(reader)?) {
+        let instr = instruction(reader)?;
+        reader.end()?;
+        return match encode(instr) {
             Some(_) => Err(Difference::Done),
             None => Ok(()),
         };
@@ -136,5 +142,8 @@ pub fn check_instruction(alloc: Global, reader: &mut Reader<'_>) -> Result<(), D
             None => Ok(()),
         };
     }
-    check_encoded(alloc, reader)
+    if reader.takes(b"is-read") {
+        return check_read(instruction(reader)?, &reader.bytes(alloc)?);
+    }
+    check_encoded(instruction(reader)?, &reader.bytes(alloc)?)
 }

@@ -2,7 +2,7 @@
 
 use crate::difference::{Difference, same};
 use crate::instructions::{Piece, same_bytes};
-use crate::words::Reader;
+use crate::words::{Reader, once};
 use asm6502::{AsmFault, Assembled, Item, Line, Listing, Operand, PartSet, assemble};
 use base::{ByteList, NoMemory};
 use std::alloc::Global;
@@ -122,10 +122,10 @@ impl ListingCase {
             b"copies" => self.copies = reader.number()?,
             b"origin" => self.origin = reader.short()?,
             b"kept" => self.kept = reader.number()?,
-            b"assembles" => self.want = Want::Bytes(reader.bytes(alloc)?),
-            b"length" => self.want = Want::Length(reader.number()?),
-            b"refused" => self.want = Want::Fault(fault(reader)?),
-            b"fixes" => self.fixes = Some(reader.number()?),
+            b"assembles" => self.wish(Want::Bytes(reader.bytes(alloc)?))?,
+            b"length" => self.wish(Want::Length(reader.number()?))?,
+            b"refused" => self.wish(Want::Fault(fault(reader)?))?,
+            b"fixes" => once(&mut self.fixes, reader.number()?)?,
             b"moves" => {
                 let origin = reader.short()?;
                 let want = Want::Bytes(reader.bytes(alloc)?);
@@ -138,6 +138,15 @@ impl ListingCase {
             }
             _ => return Err(Difference::Unread),
         }
+        Ok(())
+    }
+
+    /// Wants this, if nothing was wanted before.
+    fn wish(&mut self, want: Want) -> Result<(), Difference> {
+        let Want::Nothing = &self.want else {
+            return Err(Difference::Unread);
+        };
+        self.want = want;
         Ok(())
     }
 
@@ -164,8 +173,20 @@ impl ListingCase {
         Ok(listing)
     }
 
+    /// Sees that something is wanted, and of a refused listing nothing but why.
+    fn check_wants(&self) -> Result<(), Difference> {
+        match &self.want {
+            Want::Nothing => Err(Difference::WantsNothing),
+            Want::Fault(_) if self.fixes.is_some() || !self.moves.is_empty() => {
+                Err(Difference::Unread)
+            }
+            _ => Ok(()),
+        }
+    }
+
     /// Assembles the listing, and sees that what comes of it is wanted.
     pub fn run(&self, alloc: Global) -> Result<(), Difference> {
+        self.check_wants()?;
         let listing = self.listing(alloc)?;
         if !listing.is_within_limits() {
             return Err(Difference::Unread);

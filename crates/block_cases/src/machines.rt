@@ -10,7 +10,10 @@ use std::alloc::Global;
 #[derive(Drop)]
 pub struct MachineCase {
     log: WriteLog,
+    /// Whether registers were compared.
     wants: bool,
+    /// Whether something was done behind that.
+    is_open: bool,
 }
 
 /// Reads all registers.
@@ -79,6 +82,7 @@ impl MachineCase {
         MachineCase {
             log: WriteLog::new(),
             wants: false,
+            is_open: false,
         }
     }
 
@@ -100,6 +104,9 @@ impl MachineCase {
 
     /// Sees that the log has these writes: a register and a byte each.
     fn check_log(&self, wanted: &[u8]) -> Result<(), Difference> {
+        if wanted.len() % 2 != 0 {
+            return Err(Difference::Unread);
+        }
         let writes = self.log.writes.as_slice();
         let count = (wanted.len() / 2).min(0xffff_ffff) as u32;
         same("writes", writes.len().min(0xffff_ffff) as u32, count)?;
@@ -116,6 +123,35 @@ impl MachineCase {
         Ok(())
     }
 
+    /// Reads a line that does something, if it is one, and does it.
+    fn does(
+        &mut self,
+        alloc: Global,
+        bench: &mut Bench,
+        head: &[u8],
+        reader: &mut Reader<'_>,
+    ) -> Result<bool, Difference> {
+        match head {
+            b"cpu" => bench.machine.cpu = registers(reader)?,
+            b"put" => {
+                let at = reader.short()?;
+                bench.put(at, &reader.some_bytes(alloc)?);
+            }
+            b"step" => step(bench, reader)?,
+            b"call" => self.call(bench, reader)?,
+            _ => return Ok(false),
+        }
+        self.is_open = true;
+        Ok(true)
+    }
+
+    /// Sees that so many writes were kept, and so many came beyond them.
+    fn check_count(&self, count: u32, beyond: u32) -> Result<(), Difference> {
+        let kept = self.log.writes.as_slice().len().min(0xffff_ffff) as u32;
+        same("writes", kept, count)?;
+        same("writes beyond", self.log.beyond, beyond)
+    }
+
     /// Reads a line of the case, and does it.
     pub fn read(
         &mut self,
@@ -124,41 +160,36 @@ impl MachineCase {
         head: &[u8],
         reader: &mut Reader<'_>,
     ) -> Result<(), Difference> {
+        if self.does(alloc, bench, head, reader)? {
+            return Ok(());
+        }
         match head {
-            b"cpu" => bench.machine.cpu = registers(reader)?,
-            b"put" => {
-                let at = reader.short()?;
-                bench.put(at, &reader.bytes(alloc)?);
-            }
             b"at" => {
                 let at = reader.short()?;
-                bench.want(at, &reader.bytes(alloc)?);
+                bench.want(at, &reader.some_bytes(alloc)?);
+                Ok(())
             }
-            b"step" => step(bench, reader)?,
-            b"call" => self.call(bench, reader)?,
-            b"writes" => self.check_log(&reader.bytes(alloc)?)?,
-            b"log" => {
-                let kept = self.log.writes.as_slice().len().min(0xffff_ffff) as u32;
-                same("writes", kept, reader.number()?)?;
-                same("writes beyond", self.log.beyond, reader.number()?)?;
-            }
+            b"writes" => self.check_log(&reader.bytes(alloc)?),
+            b"log" => self.check_count(reader.number()?, reader.number()?),
             b"after" => {
-                self.wants = true;
                 let wanted = registers(reader)?;
+                self.wants = true;
+                self.is_open = false;
                 same_registers(bench.machine.cpu, wanted)?;
-                same_others(bench.machine.cpu, wanted)?;
+                same_others(bench.machine.cpu, wanted)
             }
-            _ => return Err(Difference::Unread),
+            _ => Err(Difference::Unread),
         }
-        Ok(())
     }
 
-    /// Sees that memory is as it is wanted.
+    /// Sees that all that was done was compared, and that memory is as it is wanted.
     pub fn end(&self, bench: &Bench) -> Result<(), Difference> {
-        if self.wants {
-            bench.compare()
-        } else {
-            Err(Difference::WantsNothing)
+        if !self.wants {
+            return Err(Difference::WantsNothing);
         }
+        if self.is_open {
+            return Err(Difference::Unread);
+        }
+        bench.compare()
     }
 }

@@ -4,7 +4,7 @@
 //! with what the case says: A, Y and flags, and memory. A case of a listing is assembled, or refused; a case of a
 //! machine is stepped and called. What the cases want was worked by hand, or by a second reading of what blocks mean
 //! (`bench/block_cases.py`). Each case that differs is told by its file and line; one that can't be read differs too.
-//! The notation is in `docs/block-cases.md`.
+//! A denial is a case that has to differ. The notation is in `docs/block-cases.md`.
 //!
 //! It has no contract above it but that a case that differs isn't counted as one that agrees. It stands on `lowering`
 //! for lines, on `asm6502` for their bytes, and on `cpu6502` for the machine.

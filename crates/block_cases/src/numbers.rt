@@ -68,6 +68,15 @@ impl Reader<'_> {
         }
     }
 
+    /// Reads all bytes up to the end, of which there is one at least.
+    pub fn some_bytes(&mut self, alloc: Global) -> Result<Vec<u8>, Difference> {
+        let bytes = self.bytes(alloc)?;
+        if bytes.is_empty() {
+            return Err(Difference::Unread);
+        }
+        Ok(bytes)
+    }
+
     /// Reads all bytes up to the end.
     pub fn bytes(&mut self, alloc: Global) -> Result<Vec<u8>, Difference> {
         let mut bytes = Vec::new(alloc);

@@ -76,6 +76,19 @@ pub fn words_of(alloc: Global, text: &str) -> Result<Vec<Word<'_>>, AllocError> 
     Ok(words)
 }
 
+/// Notes what a line gives, if no line has given it before.
+///
+/// # Errors
+///
+/// One has.
+pub fn once<T: Drop>(given: &mut Option<T>, value: T) -> Result<(), Difference> {
+    if given.is_some() {
+        return Err(Difference::Unread);
+    }
+    *given = Some(value);
+    Ok(())
+}
+
 /// A reader of words.
 #[derive(Clone, Copy)]
 pub struct Reader<'a> {
@@ -118,6 +131,24 @@ impl<'a> Reader<'a> {
             }
         }
         None
+    }
+
+    /// Whether the next word stands in the same line as the one before.
+    fn is_within_line(&self) -> bool {
+        match self.words.get(self.at) {
+            Some(word) => !word.is_head && word.line == self.line,
+            None => false,
+        }
+    }
+
+    /// Passes over the rest of the line, but not over lines that go on with it.
+    pub fn pass_line(&mut self) {
+        for _ in 0..self.left() {
+            if !self.is_within_line() {
+                break;
+            }
+            let _ = self.next();
+        }
     }
 
     /// The next word, if it doesn't begin a line.
