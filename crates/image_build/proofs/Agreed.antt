@@ -19,7 +19,7 @@ use Rattle.image_lists.proofs.Laws.{data_takes_size, lists_stand_inside}
 use Rattle.image_code.specs.Plans.{Plan, plan_size, play_site, init_site}
 use Rattle.image_build.specs.ImageLines.{lists_start, plan_of}
 use Rattle.image_build.proofs.Layouts.{layout_of, play_end, init_end, size_splits, plan_size_is, start_is, lists_size, is_data_layout}
-use Rattle.image_code.specs.Lengths.{kept_set}
+use Rattle.code_lengths.specs.Lengths.{kept_set}
 use Rattle.image_build.proofs.Bytes.{Assembled}
 use Rattle.image_build.proofs.Entered.{play_entrance, init_entrance, play_well, init_well}
 use Rattle.image_build.proofs.Spots.{image_long, first_is, label_variable, in_image_from, within_to}

@@ -16,7 +16,7 @@ use Rattle.player_parts.specs.declared.place.Place.{Place}
 use Rattle.player_parts.specs.PlayerLists.{HasLists}
 use Rattle.image_lists.specs.DataLists.{data_bytes}
 use Rattle.image_lists.proofs.Laws.{lines_are_kept, data_stands, marked_stand}
-use Rattle.image_code.specs.Lengths.{kept_set}
+use Rattle.code_lengths.specs.Lengths.{kept_set}
 use Rattle.image_code.specs.Plans.{Plan, plan_code, plan_lines, plan_size, plan_address, play_site, init_site}
 use Rattle.image_code.specs.CodeLaws.{CodeStands}
 use Rattle.image_code.proofs.Laws.{code_assembles, kept_code_stands, labels_stand_in_place, sites_are_in_one_listing}

@@ -22,8 +22,8 @@ use Rattle.image_lists.specs.DataLists.{HasLines}
 use Rattle.image_lists.specs.ListLaws.{KeepsCounts}
 use Rattle.image_lists.proofs.Laws.{lines_take_size, lines_are_few}
 use Rattle.player_parts.specs.PlayerLists.{frequencies}
-use Rattle.image_code.specs.CodeLines.{always}
-use Rattle.image_code.specs.Lengths.{kept_set, frequency_bytes, code_length, part_length, part_lengths, length_if}
+use Rattle.code_lengths.specs.Lengths.{always, kept_set, frequency_bytes, code_length, part_length, length_if}
+use Rattle.code_lengths.specs.declared.lengths.TheConstants.{PART_LENGTHS}
 use Rattle.image_code.specs.Plans.{Plan, plan_code, plan_lines, code_size}
 use Rattle.image_code.proofs.Laws.{code_is_within_limits, parts_have_lengths, labels_stand_in_place}
 use Rattle.image_build.specs.declared.image.Image.{Image}
@@ -183,8 +183,8 @@ spans_all code a b =
     ∙ frequencies_sum (spans_size code) frequencies frequencies
 
 -- the lengths of parts that there aren't
-no_length : (part : ℕ) → 27 ≤ part → slice_index part_lengths part ≡ 0
-no_length part h = get_or_past part_lengths part 0 h
+no_length : (part : ℕ) → 27 ≤ part → slice_index PART_LENGTHS part ≡ 0
+no_length part h = get_or_past PART_LENGTHS part 0 h
 
 kept_other : (set part : ℕ) → nat_eq part 255 ≡ false → nat_lt part 32 ≡ true →
     is_part_kept set part ≡ bit_kept set part
@@ -249,7 +249,7 @@ part_is {packed = packed} {place = place} {options = options} {lists = lists} m 
                 let high = h in
                 let kept_is = kept_none set part not (le-ltb part 32 high) in
                 let none : part_length part ≡ 0 =
-                ap (λ (z : Bool). if z then 1255 else slice_index part_lengths part) not
+                ap (λ (z : Bool). if z then 1255 else slice_index PART_LENGTHS part) not
                 ∙ no_length part (far part high) in
                 alone ∙ ap (λ (z : Bool). if z then bytes_in part (plan_code plan) else 0) kept_is
                 ∙ sym (length_none (bit_kept set part) part none) ∙ sym own

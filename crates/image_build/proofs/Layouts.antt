@@ -14,7 +14,7 @@ use Rattle.player_parts.specs.declared.place.Place.{Place}
 use Rattle.player_parts.specs.PlayerLayouts.{IsPlayerLayout}
 use Rattle.image_lists.specs.DataLists.{HasLines, IsDataLayout}
 use Rattle.image_lists.proofs.Laws.{data_takes_size, lines_take_size, lines_are_kept, labels_have_places, lists_stand_inside, next_bytes_are_next}
-use Rattle.image_code.specs.Lengths.{kept_set, frequency_bytes, code_length}
+use Rattle.code_lengths.specs.Lengths.{kept_set, frequency_bytes, code_length}
 use Rattle.image_code.specs.Plans.{Plan, IsPlan, plan_code, plan_lines, code_size, plan_size, plan_address, play_site, init_site}
 use Rattle.image_code.specs.CodeLaws.{AreInPlace}
 use Rattle.image_code.proofs.Laws.{sites_are_in_one_listing, labels_stand_in_place, code_has_its_length}

@@ -1,5 +1,4 @@
 -- An image's plan, its layout and its bytes.
-mod Sums
 mod Ranges
 mod Parted
 mod Joining

@@ -12,10 +12,10 @@ use Rattle.lowering.specs.Lines.{all_lines}
 use Rattle.player_seq.specs.InitBlock.{init_tree}
 use Rattle.player_frame.specs.PlayBlock.{play_tree}
 use Rattle.player_parts.specs.PlayerLists.{frequencies}
-use Rattle.image_code.specs.CodeLines.{always, byte_line, entry_lines, variable_lines, play_head, front_lines}
+use Rattle.code_lengths.specs.Lengths.{always, frequency_bytes}
+use Rattle.image_code.specs.CodeLines.{byte_line, entry_lines, variable_lines, play_head, front_lines}
 use Rattle.image_code.specs.declared.labels.TheConstants.{PLAY_LABELS, INIT_LABELS}
 use Rattle.image_code.specs.CodeLines.{middle_lines, return_lines}
-use Rattle.image_code.specs.Lengths.{frequency_bytes}
 use Rattle.image_code.specs.Plans.{Plan, plan_code}
 use Rattle.image_build.specs.declared.image.PartSpan.{PartSpan}
 use Rattle.image_build.specs.Joined.{Follow, frequency_span}

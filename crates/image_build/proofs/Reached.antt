@@ -34,8 +34,8 @@ use Rattle.asm6502.specs.declared.lines.Line.{Line}
 use Rattle.player_parts.specs.declared.place.Place.{Place}
 use Rattle.player_parts.specs.declared.parts.TheConstants.{TIMER_BIT}
 use Rattle.player_parts.specs.PlayerLayouts.{KeepsUsed, KeepsOptions}
-use Rattle.image_code.specs.Lengths.{kept_set}
-use Rattle.image_code.proofs.Laws.{sets_are_kept}
+use Rattle.code_lengths.specs.Lengths.{kept_set}
+use Rattle.code_lengths.proofs.Laws.{sets_are_kept}
 use Rattle.image_build.specs.ImageLines.{count_of, plan_of}
 use Rattle.image_build.proofs.Layouts.{layout_of}
 

@@ -36,7 +36,8 @@ use Rattle.image_code.specs.declared.labels.TheConstants.{INIT_LABELS, PLAY_LABE
 use Rattle.image_code.specs.CodeLines.{front_lines, middle_lines, return_lines, lines_around}
 use Rattle.image_code.specs.Plans.{Plan, IsPlan, plan_lines, plan_size, play_names, init_site}
 use Rattle.image_code.proofs.Laws.{IsFit, is_known, play_fits, lines_assemble, well_placed}
-use Rattle.image_code.proofs.Laws.{sites_are_in_one_listing, labels_stand_in_place, sets_are_kept}
+use Rattle.code_lengths.proofs.Laws.{sets_are_kept}
+use Rattle.image_code.proofs.Laws.{sites_are_in_one_listing, labels_stand_in_place}
 use Rattle.image_build.specs.ImageLines.{plan_of}
 use Rattle.image_build.proofs.Layouts.{layout_of, init_layout, Made, plan_ends, BlocksStand, blocks_stand}
 use Rattle.image_build.proofs.Bytes.{fits_memory}

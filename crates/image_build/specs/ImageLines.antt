@@ -11,7 +11,7 @@ use Rattle.player_parts.specs.declared.labels.TheConstants.{VARIABLES}
 use Rattle.player_parts.specs.declared.place.Place.{Place}
 use Rattle.player_seq.specs.StartVariables.{start_variable}
 use Rattle.image_lists.specs.DataLists.{order_places, HasLines}
-use Rattle.image_code.specs.Lengths.{kept_set, code_length, frequency_bytes}
+use Rattle.code_lengths.specs.Lengths.{kept_set, code_length, frequency_bytes}
 use Rattle.image_code.specs.Plans.{Plan, plan_lines}
 
 -- the count of the loop that walks the orderlists: the packed song's own, which is a byte where they go on for ever

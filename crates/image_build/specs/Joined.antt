@@ -3,7 +3,7 @@ use Rattle.std.specs.Prelude.{◌≡◌, ℕ, ◌+◌, List, [], ◌∷◌, ◌+
 use Rattle.asm6502.specs.declared.lines.Line.{Line}
 use Rattle.asm6502.specs.Lines.{is_kept, item_size, kept, size_of}
 use Rattle.player_parts.specs.PlayerLists.{frequencies}
-use Rattle.image_code.specs.CodeLines.{always}
+use Rattle.code_lengths.specs.Lengths.{always}
 use Rattle.image_build.specs.declared.image.PartSpan.{PartSpan}
 use Rattle.image_build.specs.Spans.{parts_of_spans, parts_of_lines}
 

@@ -3,7 +3,7 @@ use Rattle.std.specs.Prelude.{◌≡◌, ℕ, ◌+◌, ◌<◌}
 use Rattle.play_model.specs.declared.options.Options.{Options}
 use Rattle.packed_form.specs.declared.packed_songs.PackedSong.{PackedSong}
 use Rattle.packed_form.specs.Sizes.{packed_song_size}
-use Rattle.image_code.specs.Lengths.{code_length}
+use Rattle.code_lengths.specs.Lengths.{code_length}
 
 -- the bytes of the packed song, those of the part that is always kept, and those of each other kept part
 abbrev pub image_length : PackedSong → Options → ℕ

@@ -9,8 +9,8 @@ use Rattle.lowering.specs.Lowered.{bit_kept}
 use Rattle.player_parts.specs.declared.labels.TheConstants.{VARIABLES}
 use Rattle.player_parts.specs.declared.place.Place.{Place}
 use Rattle.player_parts.specs.PlayerLists.{frequencies}
-use Rattle.image_code.specs.CodeLines.{always, code_lines}
-use Rattle.image_code.specs.Lengths.{kept_set, code_length, frequency_bytes, part_length, length_if}
+use Rattle.code_lengths.specs.Lengths.{always, kept_set, code_length, frequency_bytes, part_length, length_if}
+use Rattle.image_code.specs.CodeLines.{code_lines}
 use Rattle.image_build.specs.declared.image.PartSpan.{PartSpan}
 use Rattle.image_build.specs.ImageLines.{count_of, first_variables}
 

@@ -5,7 +5,7 @@ use Rattle.cpu6502.specs.declared.mnemonic.Mode.TheVariants.{Immediate}
 use Rattle.asm6502.specs.declared.lines.Operand.TheVariants.{Number}
 use Rattle.asm6502.specs.declared.lines.Line.{Line}
 use Rattle.lowering.specs.Instructions.{code, bare, name}
-use Rattle.image_code.specs.CodeLines.{always}
+use Rattle.code_lengths.specs.Lengths.{always}
 use Rattle.image_build.specs.declared.image.PartSpan.{PartSpan}
 use Rattle.image_build.specs.Spans.{spans_size, part_size, parts_of_spans, parts_of_lines}
 

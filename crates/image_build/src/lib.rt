@@ -21,8 +21,8 @@ mod spans;
 mod variables;
 
 pub use building::build;
+pub use code_lengths::part_length;
 pub use faults::BuildFault;
 pub use image::{Image, PartSpan, SpanList};
-pub use image_code::part_length;
 pub use lengths::image_length;
 pub use player_parts::{Place, PlaceFault};

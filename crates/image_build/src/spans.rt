@@ -6,9 +6,9 @@ ghost use Rattle.image_build.specs.Joined.{Follow, kept_size, frequency_span, Ar
 ghost use Rattle.image_build.specs.Spans.{parts_of_spans, parts_of_lines};
 
 use crate::image::{PartSpan, SpanList};
-use crate::lengths::ALWAYS;
 use asm6502::{Item, Line, PartSet};
 use base::{Items, NoMemory};
+use code_lengths::ALWAYS;
 use std::alloc::Global;
 
 /// How many frequencies of notes stand one behind the other, once their low bytes and once their high bytes.

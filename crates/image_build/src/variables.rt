@@ -6,7 +6,7 @@ ghost use Rattle.play_model.specs.Speeds.{IsSpeed};
 ghost use Rattle.packed_form.specs.Sizes.{packed_song_size};
 ghost use Rattle.player_seq.specs.StartVariables.{start_byte, shared_start, start_variable};
 ghost use Rattle.image_lists.specs.DataLists.{order_places};
-ghost use Rattle.image_code.specs.Lengths.{frequency_bytes};
+ghost use Rattle.code_lengths.specs.Lengths.{frequency_bytes};
 
 use base::NoMemory;
 use image_lists::order_places;

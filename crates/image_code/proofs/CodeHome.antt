@@ -18,7 +18,8 @@ use Rattle.lowering.specs.Lines.{all_lines}
 use Rattle.lowering.specs.Places.{any_of, names_tree}
 use Rattle.lowering.proofs.Laws.{lowered_lines_are_at_home}
 use Rattle.player_parts.specs.declared.labels.TheConstants.{SUBTUNE, VARIABLES}
-use Rattle.image_code.specs.CodeLines.{INIT_CODE, PLAY_CODE, INIT_LABELS, PLAY_LABELS, always, entry_lines, byte_line}
+use Rattle.code_lengths.specs.Lengths.{always}
+use Rattle.image_code.specs.CodeLines.{INIT_CODE, PLAY_CODE, INIT_LABELS, PLAY_LABELS, entry_lines, byte_line}
 use Rattle.image_code.specs.CodeLines.{variable_lines, play_head, return_lines, front_lines, middle_lines}
 use Rattle.image_code.specs.CodeLines.{lines_around}
 use Rattle.image_code.specs.IsData.{IsListItem, IsListLine, IsData}

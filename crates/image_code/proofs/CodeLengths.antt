@@ -1,8 +1,7 @@
--- The bytes of a player's code, by its parts, their bounds, and how long its calls and listings are at most.
-use Rattle.std.proofs.Common.{◌≡◌, ℕ, ◌+◌, ◌*◌, ◌<◌, ◌≤◌, Bool, true, nat_eq, nat_lt, nat_le, if◌then◌else◌, refl, sym, ap, ◌∙◌, arith}
+-- The bytes of a player's code, by its parts, and how long its calls and listings are at most.
+use Rattle.std.proofs.Common.{◌≡◌, ℕ, ◌+◌, ◌<◌, ◌≤◌, Bool, true, nat_eq, nat_lt, if◌then◌else◌, refl, sym, ap, ◌∙◌, arith}
 use Rattle.std.specs.List.{range_with_len, sum_by}
-use Rattle.std.specs.Int.{bit_at}
-use Rattle.std.proofs.lemmas.Bool.{agree_below_at, eqb-true, leb-true, ne_eqb}
+use Rattle.std.proofs.lemmas.Bool.{agree_below_at, eqb-true, ne_eqb}
 use Rattle.asm6502.proofs.Laws.{parts_add_up}
 use Rattle.play_model.specs.declared.options.Options.{Options}
 use Rattle.blocks.specs.Sizes.{code_bytes, line_count}
@@ -11,23 +10,13 @@ use Rattle.player_parts.specs.declared.labels.TheConstants.{VARIABLES}
 use Rattle.player_parts.specs.declared.parts.TheConstants.{SKIP_EFFECTS_BIT, SKIP_PULSE_BIT, TIMER_BIT}
 use Rattle.player_seq.specs.InitBlock.{init_tree}
 use Rattle.player_frame.specs.PlayBlock.{play_tree}
-use Rattle.image_code.specs.CodeLines.{always, code_lines}
-use Rattle.image_code.specs.Lengths.{kept_set, frequency_bytes, part_length, length_if}
-use Rattle.image_code.specs.LengthLaws.{AreKept, SetsAreKept, PartsHaveLengths, CodeHasItsLength, AreShort}
-use Rattle.image_code.specs.LengthLaws.{CodeIsBounded, CallsAreShort, CodeIsWithinLimits}
-use Rattle.image_code.proofs.Sets.{low_bits, effects_bit, pulse_bit, timer_bit, set_small}
-use Rattle.image_code.proofs.Sums.{below, below_same, below_most, features_sum, all_sum, kept_sum, nothing_if, bit_most}
-use Rattle.image_code.proofs.Sums.{if_most}
+use Rattle.code_lengths.specs.Lengths.{always, kept_set, frequency_bytes, part_length, length_if}
+use Rattle.code_lengths.specs.LengthLaws.{AreKept}
+use Rattle.code_lengths.proofs.Laws.{sets_are_kept, below, features_sum}
+use Rattle.image_code.specs.CodeLines.{code_lines}
+use Rattle.image_code.specs.LengthLaws.{PartsHaveLengths, CodeHasItsLength, CallsAreShort, CodeIsWithinLimits}
+use Rattle.image_code.proofs.Sums.{below_same, all_sum, kept_sum, nothing_if}
 use Rattle.image_code.proofs.PartSizes.{other_part, always_part, count_lines, count_data}
-
-pub sets_are_kept : SetsAreKept
-sets_are_kept features options small = record {
-  features_are = λ bit low. low_bits features bit options.skip_effects options.skip_pulse (nat_lt 1 options.speed) low;
-  effects = effects_bit features options.skip_effects options.skip_pulse (nat_lt 1 options.speed) small;
-  pulse = pulse_bit features options.skip_effects options.skip_pulse (nat_lt 1 options.speed) small;
-  timer = timer_bit features options.skip_effects options.skip_pulse (nat_lt 1 options.speed) small;
-  small = set_small features options.skip_effects options.skip_pulse (nat_lt 1 options.speed) small;
-}
 
 -- ---- part by part
 
@@ -100,31 +89,6 @@ code_has_its_length variables pointer options count features all small =
         n + 196 ≡ 1255 + features_length + effects_length + pulse_length + timer_length
     in_all n rest sizes sum part effects pulse timer features_length effects_length pulse_length timer_length a b c d e f
         g h = omega arith
-
--- ---- bounds
-
-short_table : (part : ℕ) → part < 32 → nat_le (part_length part) 320 ≡ true
-short_table part few = agree_below_at (λ p. nat_le (part_length p) 320) (λ p. true) 32 part refl few
-
-short : (part : ℕ) → part < 32 → part_length part ≤ 320
-short part few = leb-true (part_length part) 320 (short_table part few)
-
-pub parts_are_short : AreShort
-parts_are_short = record { parts = short; rest = omega arith }
-
-pub code_is_bounded : CodeIsBounded
-code_is_bounded features options =
-    let most = below_most (of_feature features) (bit_at features) 320 24
-    (λ part few. bit_most 320 (part_length part) (bit_at features part) (short part (omega (arith, few)))) in
-    in_all _ _ _ _ _ _ _ _ _ _ (features_sum (of_feature features)) (features_sum (bit_at features)) most
-    (if_most 320 (part_length SKIP_EFFECTS_BIT) options.skip_effects (short SKIP_EFFECTS_BIT (omega arith)))
-    (if_most 320 (part_length SKIP_PULSE_BIT) options.skip_pulse (short SKIP_PULSE_BIT (omega arith)))
-    (if_most 320 (part_length TIMER_BIT) (nat_lt 1 options.speed) (short TIMER_BIT (omega arith)))
-  where
-    in_all : (lengths sum bits count effects pulse timer one two three : ℕ) → lengths ≡ sum → bits ≡ count →
-        sum ≤ 320 * count → effects ≤ 320 * one → pulse ≤ 320 * two → timer ≤ 320 * three →
-        1255 + lengths + effects + pulse + timer ≤ 3072 + 320 * (bits + one + two + three)
-    in_all lengths sum bits count effects pulse timer one two three a b c d e f = omega arith
 
 -- ---- calls and listings
 

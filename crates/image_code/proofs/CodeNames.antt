@@ -17,7 +17,8 @@ use Rattle.lowering.specs.Lines.{all_lines}
 use Rattle.lowering.specs.Measures.{times_named, once_within}
 use Rattle.lowering.proofs.Laws.{Named, none_named, lone, name_once, none_line, named_then, named_as, tree_named}
 use Rattle.lowering.proofs.Laws.{before_is, behind_is, rows, no_row}
-use Rattle.image_code.specs.CodeLines.{INIT_CODE, PLAY_CODE, INIT_LABELS, PLAY_LABELS, always, entry_lines, byte_line}
+use Rattle.code_lengths.specs.Lengths.{always}
+use Rattle.image_code.specs.CodeLines.{INIT_CODE, PLAY_CODE, INIT_LABELS, PLAY_LABELS, entry_lines, byte_line}
 use Rattle.image_code.specs.CodeLines.{variable_lines, play_head, init_head, return_lines, front_lines, middle_lines}
 use Rattle.image_code.specs.CodeLines.{lines_around}
 use Rattle.image_code.specs.IsData.{IsListItem, IsListLine, IsData}

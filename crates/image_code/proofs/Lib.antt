@@ -16,9 +16,8 @@ pub mod PartSizes
 -- The player's two blocks, and an image.
 pub mod Blocks
 pub mod Planned
--- Sets of parts, sums over them, and the bytes of the code.
-pub mod Sets
+-- Sums over parts, and the bytes of the code.
 pub mod Sums
 pub mod CodeLengths
--- Codes that are worked by hand.
+-- The image that is worked by hand.
 pub mod WorkedCode

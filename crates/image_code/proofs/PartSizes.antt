@@ -9,7 +9,8 @@ use Rattle.blocks.specs.Trees.{Tree}
 use Rattle.blocks.specs.Sizes.{code_bytes, line_count}
 use Rattle.lowering.specs.Lines.{all_lines}
 use Rattle.lowering.proofs.Laws.{parts_size, lines_are_counted}
-use Rattle.image_code.specs.CodeLines.{INIT_LABELS, PLAY_LABELS, always, variable_lines, play_head}
+use Rattle.code_lengths.specs.Lengths.{always}
+use Rattle.image_code.specs.CodeLines.{INIT_LABELS, PLAY_LABELS, variable_lines, play_head}
 use Rattle.image_code.specs.CodeLines.{return_lines, front_lines, middle_lines, lines_around}
 use Rattle.image_code.proofs.NoData.{data_add, block_has_no_data}
 

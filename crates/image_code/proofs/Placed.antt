@@ -11,7 +11,8 @@ use Rattle.lowering.specs.Instructions.{name}
 use Rattle.lowering.specs.Lines.{all_lines}
 use Rattle.lowering.specs.Measures.{times_named}
 use Rattle.player_parts.specs.declared.labels.TheConstants.{VARIABLES}
-use Rattle.image_code.specs.CodeLines.{INIT_CODE, PLAY_CODE, INIT_LABELS, PLAY_LABELS, always, entry_lines}
+use Rattle.code_lengths.specs.Lengths.{always}
+use Rattle.image_code.specs.CodeLines.{INIT_CODE, PLAY_CODE, INIT_LABELS, PLAY_LABELS, entry_lines}
 use Rattle.image_code.specs.CodeLines.{variable_lines, play_head, return_lines, front_lines, middle_lines}
 use Rattle.image_code.specs.CodeLines.{lines_around}
 use Rattle.image_code.specs.IsData.{IsListLine, IsData}

@@ -16,7 +16,8 @@ use Rattle.blocks.specs.Trees.{Tree}
 use Rattle.lowering.specs.Instructions.{code, bare, name, jump}
 use Rattle.lowering.specs.Lines.{all_lines}
 use Rattle.player_parts.specs.declared.labels.TheConstants.{SUBTUNE, VARIABLES}
-use Rattle.image_code.specs.CodeLines.{INIT_CODE, PLAY_CODE, INIT_LABELS, PLAY_LABELS, always, entry_lines}
+use Rattle.code_lengths.specs.Lengths.{always}
+use Rattle.image_code.specs.CodeLines.{INIT_CODE, PLAY_CODE, INIT_LABELS, PLAY_LABELS, entry_lines}
 use Rattle.image_code.specs.CodeLines.{variable_lines, play_head, init_head, return_lines, front_lines, middle_lines, lines_around}
 use Rattle.image_code.proofs.Splits.{LineAt, first_line, next_line, in_front, in_back, kept_size, line_stands_at}
 use Rattle.image_code.proofs.CodeHome.{middle_in_code}

@@ -1,4 +1,4 @@
--- Codes that are worked by hand are as they say.
+-- The image that is worked by hand is as it says.
 use Rattle.std.proofs.Common.{◌≡◌, ℕ, zero, suc, ◌+◌, ◌<◌, ◌≤◌, ◌-◌, List, [], ◌∷◌, All, refl, sym, ap, ◌∙◌, arith}
 use Rattle.std.proofs.lemmas.List.Elements.{All-nil, All-cons}
 use Rattle.asm6502.specs.declared.lines.Line.{Line}
@@ -6,14 +6,12 @@ use Rattle.asm6502.specs.Stretches.{IsNamedAlways}
 use Rattle.lowering.specs.Instructions.{name}
 use Rattle.lowering.specs.Measures.{once_within}
 use Rattle.lowering.proofs.Laws.{Named, none_named, name_once, named_then, named_as, rows, no_row}
-use Rattle.image_code.specs.CodeLines.{INIT_CODE, always}
+use Rattle.code_lengths.specs.Lengths.{always}
+use Rattle.image_code.specs.CodeLines.{INIT_CODE}
 use Rattle.image_code.specs.IsData.{IsListLine, IsData}
-use Rattle.image_code.specs.WorkedCode.{AreWorked, label_lines, PlansAreMet}
+use Rattle.image_code.specs.WorkedCode.{label_lines, PlansAreMet}
 use Rattle.image_code.proofs.Splits.{LineAt, next_line, always_named}
 use Rattle.image_code.proofs.Counts.{once_by_count, row_most}
-
-pub lengths_are_worked : AreWorked
-lengths_are_worked = record { none_kept = refl; none_long = refl; all_kept = refl; all_long = refl }
 
 labels_fit : (first n : ℕ) → 128 ≤ first → first + n ≤ INIT_CODE → All IsListLine (label_lines first n)
 labels_fit first zero low high = All-nil IsListLine

@@ -10,14 +10,11 @@ use Rattle.play_model.specs.declared.options.Options.{Options}
 use Rattle.blocks.specs.Trees.{Tree}
 use Rattle.lowering.specs.Instructions.{code, bare, name, jump}
 use Rattle.lowering.specs.Lines.{all_lines}
+use Rattle.code_lengths.specs.Lengths.{always}
 use Rattle.player_parts.specs.declared.labels.TheConstants.{SUBTUNE}
 use Rattle.player_seq.specs.InitBlock.{init_tree}
 use Rattle.player_frame.specs.PlayBlock.{play_tree}
 pub use Rattle.image_code.specs.declared.labels.TheConstants.{INIT_CODE, PLAY_CODE, INIT_LABELS, PLAY_LABELS}
-
--- the part that every image has
-abbrev pub always : ℕ
-always = 255
 
 -- the entry that begins a subtune, and behind it the one that plays a frame
 abbrev pub entry_lines : List Line

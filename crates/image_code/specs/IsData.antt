@@ -5,7 +5,8 @@ use Rattle.asm6502.specs.declared.lines.Item.TheVariants.{Label, Code, Bytes}
 use Rattle.asm6502.specs.declared.lines.Line.{Line}
 use Rattle.asm6502.specs.Stretches.{NamesNoLabelTwice, IsNamedAlways}
 use Rattle.player_parts.specs.declared.labels.TheConstants.{FREQUENCY_LOWS, PATTERN_HIGHS}
-use Rattle.image_code.specs.CodeLines.{INIT_CODE, always}
+use Rattle.code_lengths.specs.Lengths.{always}
+use Rattle.image_code.specs.CodeLines.{INIT_CODE}
 
 -- a label of a list, or bytes; no instruction
 abbrev pub IsListItem : Item → Type 0

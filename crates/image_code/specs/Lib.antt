@@ -2,7 +2,6 @@
 pub mod CodeLines
 pub mod IsData
 pub mod Plans
-pub mod Lengths
 -- Claimed.
 pub mod CodeLaws
 pub mod LengthLaws

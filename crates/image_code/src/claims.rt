@@ -2,9 +2,8 @@
 
 ghost use Rattle.image_code.specs.CodeLaws.{CodeAssembles, SitesAreInOneListing, CodeIsWellPlaced};
 ghost use Rattle.image_code.specs.CodeLaws.{LabelsStandInPlace, KeptCodeStands};
-ghost use Rattle.image_code.specs.LengthLaws.{SetsAreKept, PartsHaveLengths, CodeHasItsLength, AreShort};
-ghost use Rattle.image_code.specs.LengthLaws.{CodeIsBounded, CallsAreShort, CodeIsWithinLimits};
-ghost use Rattle.image_code.specs.WorkedCode.{AreWorked, PlansAreMet};
+ghost use Rattle.image_code.specs.LengthLaws.{PartsHaveLengths, CodeHasItsLength, CallsAreShort, CodeIsWithinLimits};
+ghost use Rattle.image_code.specs.WorkedCode.{PlansAreMet};
 
 /// With any lists behind it the code assembles, whichever parts are kept, at each origin at which it fits.
 pub fn code_assembles()
@@ -29,18 +28,10 @@ pub fn kept_code_stands()
     ensures { KeptCodeStands }
 {}
 
-/// A kept set has the bits of the features, and those of the options that are on.
-pub fn sets_are_kept()
-    ensures { SetsAreKept }
-{}
-
-/// Each part has the bytes of the table, so the code has those of the parts that are kept. No part is longer than its share
-/// of the bound of a player's code, and so the code isn't longer than the bound.
+/// Each part has the bytes of the table of lengths, so the code has those of the parts that are kept.
 pub fn code_has_its_length()
     ensures parts { PartsHaveLengths }
     ensures code { CodeHasItsLength }
-    ensures short { AreShort }
-    ensures bound { CodeIsBounded }
 {}
 
 /// Each routine runs at most 60,000 instructions, and the listing is within the assembler's limits.
@@ -49,9 +40,7 @@ pub fn code_is_within_limits()
     ensures listing { CodeIsWithinLimits }
 {}
 
-/// Codes that are worked by hand: how long they are with no part and with all, and an image with empty lists, which is one
-/// that the facts above speak of.
+/// A code that is worked by hand: an image with empty lists is one that the facts above speak of.
 pub fn worked_codes()
-    ensures lengths { AreWorked }
-    ensures plan { PlansAreMet }
+    ensures { PlansAreMet }
 {}

@@ -2,7 +2,7 @@
 //!
 //! The layer's one contract: with any lists behind them the lines assemble, whichever parts are kept, at each origin at which
 //! they fit; both blocks are well placed there, and the entries and routines around them stand; and the kept lines take the
-//! bytes that the table of the parts says.
+//! bytes that the table of `code_lengths` says.
 //!
 //! It stands on `lowering` for the blocks' lines, on `asm6502` for listings, and on `player_seq` and `player_frame` for the
 //! two blocks. See `docs/player.md`.
@@ -10,10 +10,8 @@
 
 pub mod claims;
 pub mod labels;
-mod lengths;
 mod listing;
 
 pub use asm6502::Listing;
 pub use base::NoMemory;
-pub use lengths::part_length;
 pub use listing::code_listing;

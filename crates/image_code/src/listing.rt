@@ -7,12 +7,14 @@ ghost use Rattle.lowering.specs.Instructions.{code, bare, name};
 ghost use Rattle.lowering.specs.Lines.{all_lines};
 ghost use Rattle.player_seq.specs.InitBlock.{init_tree};
 ghost use Rattle.player_frame.specs.PlayBlock.{play_tree};
-ghost use Rattle.image_code.specs.CodeLines.{always, entry_lines, byte_line, variable_lines, play_head};
+ghost use Rattle.code_lengths.specs.Lengths.{always};
+ghost use Rattle.image_code.specs.CodeLines.{entry_lines, byte_line, variable_lines, play_head};
 ghost use Rattle.image_code.specs.CodeLines.{front_lines, middle_lines, return_lines, code_lines};
 
 use crate::labels::{INIT_CODE, INIT_LABELS, PLAY_CODE, PLAY_LABELS};
 use asm6502::{ByteList, Item, Line, Listing, Operand};
 use base::NoMemory;
+use code_lengths::ALWAYS;
 use cpu6502::{Mnemonic, Mode};
 use lowering::lower;
 use play_model::Options;
@@ -20,9 +22,6 @@ use player_frame::play_block;
 use player_parts::labels::SUBTUNE;
 use player_seq::init_block;
 use std::alloc::Global;
-
-/// The part that is always kept.
-const ALWAYS: u8 = 255;
 
 /// An instruction.
 fn code(mnemonic: Mnemonic, mode: Mode, operand: Operand) -> Line

@@ -14,7 +14,7 @@ use Rattle.packed_form.specs.ImagePlaces.{IsAddress, IsZeroPage}
 use Rattle.player_seq.specs.PackedLimits.{KeepsPatternLimits}
 use Rattle.image_lists.specs.DataLists.{HasLines}
 use Rattle.image_lists.specs.ListLaws.{KeepsCounts}
-use Rattle.image_code.specs.Lengths.{kept_set, frequency_bytes, code_length}
+use Rattle.code_lengths.specs.Lengths.{kept_set, frequency_bytes, code_length}
 use Rattle.std.specs.List.{range_with_len}
 use Rattle.std.proofs.lemmas.List.{length-map}
 use Rattle.player_parts.specs.declared.labels.TheConstants.{VARIABLES}

@@ -1,5 +1,5 @@
 use Rattle.std.proofs.Common.{ℕ, ◌+◌, ◌≤◌, arith}
-use Rattle.image_code.proofs.Laws.{code_is_bounded}
+use Rattle.code_lengths.proofs.Laws.{code_is_bounded}
 use Rattle.image_build.specs.LengthLaws.{ImageLengthIsBounded}
 use Rattle.image_build.proofs.claims.image_length_is_bounded.Goals as goal
 

@@ -1,11 +1,6 @@
--- The bytes of the parts, of the code, and their bounds.
-use Rattle.image_code.proofs.CodeLengths.{parts_have_lengths, code_has_its_length, parts_are_short, code_is_bounded}
+-- The bytes of the parts and of the code.
+use Rattle.image_code.proofs.CodeLengths.{parts_have_lengths, code_has_its_length}
 use Rattle.image_code.proofs.claims.code_has_its_length.Goals as goal
 
 pub returns : goal.returns
-returns c = record {
-  parts = parts_have_lengths;
-  code = code_has_its_length;
-  short = parts_are_short;
-  bound = code_is_bounded;
-}
+returns c = record { parts = parts_have_lengths; code = code_has_its_length }

@@ -1,7 +1,7 @@
 use Rattle.std.proofs.Common.{◌≡◌, ◌≤◌, ℕ, ◌+◌, ◌*◌, ap, ◌∙◌, arith}
-use Rattle.image_code.specs.Lengths.{length_if}
-use Rattle.image_build.proofs.Sums.{sum_more}
-use Rattle.image_build.proofs.lengths.features_length.Goals as goal
+use Rattle.code_lengths.specs.Lengths.{length_if}
+use Rattle.code_lengths.proofs.Sums.{sum_more}
+use Rattle.code_lengths.proofs.lengths.features_length.Goals as goal
 
 more : (old new part sum whole : ℕ) → old ≡ sum → new ≡ part → whole ≡ sum + part → old + new ≡ whole
 more old new part sum whole a b c = omega (arith, a, b, c)

@@ -2,8 +2,8 @@ use Rattle.std.proofs.Common.{◌≡◌, ◌≤◌, ◌*◌}
 use Rattle.std.specs.Prelude.{sum_by}
 use Rattle.std.specs.List.{range_with_len}
 use Rattle.lowering.specs.Lowered.{bit_kept}
-use Rattle.image_code.specs.Lengths.{length_if}
-use Rattle.image_build.proofs.lengths.features_length.Given as goal
+use Rattle.code_lengths.specs.Lengths.{length_if}
+use Rattle.code_lengths.proofs.lengths.features_length.Given as goal
 
 abbrev pub invariant-loop-bit : goal.invariant-loop-bit
 invariant-loop-bit l = record {

@@ -1,11 +1,11 @@
--- How many bytes the code of a player takes, by its parts: those that every player has, those of features, and those of
--- options. This is the project's own player.
-use Rattle.std.specs.Prelude.{ℕ, ◌+◌, ◌^◌, Bool, if◌then◌else◌, nat_eq, nat_lt, List, [], ◌∷◌, slice_index, sum_by}
+-- Which parts of a player are kept, and how many bytes its code takes by its parts: those that every player has, those of
+-- features, and those of options. This is the project's own player.
+use Rattle.std.specs.Prelude.{ℕ, ◌+◌, ◌^◌, Bool, if◌then◌else◌, nat_eq, nat_lt, List, slice_index, sum_by}
 use Rattle.std.specs.List.{range_with_len}
 use Rattle.play_model.specs.declared.options.Options.{Options}
 use Rattle.lowering.specs.Lowered.{bit_kept}
 use Rattle.player_parts.specs.declared.parts.TheConstants.{SKIP_EFFECTS_BIT, SKIP_PULSE_BIT, TIMER_BIT}
-use Rattle.image_code.specs.CodeLines.{always}
+use Rattle.code_lengths.specs.declared.lengths.TheConstants.{ALWAYS, ALWAYS_LENGTH, PART_LENGTHS}
 
 -- the bit of an option that is on
 abbrev pub option_bit : Bool → ℕ → ℕ
@@ -17,20 +17,17 @@ kept_set features options =
     features + option_bit options.skip_effects SKIP_EFFECTS_BIT + option_bit options.skip_pulse SKIP_PULSE_BIT
     + option_bit (nat_lt 1 options.speed) TIMER_BIT
 
+-- the part that is always kept
+abbrev pub always : ℕ
+always = ALWAYS
+
 -- the bytes of the frequencies of notes, which every player has among its lists
 abbrev pub frequency_bytes : ℕ
 frequency_bytes = 196
 
--- the bytes of the features' parts, from bit 0 on, and of the options' behind them
-abbrev pub part_lengths : List ℕ
-part_lengths =
-    10 ∷ 22 ∷ 0 ∷ 0 ∷ 82 ∷ 17 ∷ 0 ∷ 30 ∷ 59
-    ∷ 10 ∷ 10 ∷ 10 ∷ 15 ∷ 99 ∷ 15 ∷ 98 ∷ 15 ∷ 15
-    ∷ 10 ∷ 14 ∷ 74 ∷ 38 ∷ 0 ∷ 173 ∷ 15 ∷ 33 ∷ 10 ∷ []
-
 -- the bytes of a part; the one that is always kept is counted with the frequencies
 abbrev pub part_length : ℕ → ℕ
-part_length part = if nat_eq part always then 1255 else slice_index part_lengths part
+part_length part = if nat_eq part always then ALWAYS_LENGTH else slice_index PART_LENGTHS part
 
 -- of a part where it is kept
 abbrev pub length_if : Bool → ℕ → ℕ

@@ -3,7 +3,7 @@ use Rattle.std.proofs.Common.{◌≡◌, ℕ, ◌+◌, ◌-◌, ◌*◌, ◌<◌
 use Rattle.std.specs.Int.{bit_at}
 use Rattle.std.proofs.lemmas.Nat.Bits.{bit_at_cat_low, bit_at_cat_high}
 use Rattle.lowering.specs.Lowered.{bit_kept}
-use Rattle.image_code.specs.Lengths.{option_bit}
+use Rattle.code_lengths.specs.Lengths.{option_bit}
 
 -- three bits as a number
 abbrev three : Bool → Bool → Bool → ℕ

@@ -2,15 +2,15 @@
 use Rattle.std.proofs.Common.{◌≡◌, ℕ, ◌≤◌, arith, sym}
 use Rattle.std.proofs.lemmas.Bool.{ne_eqb}
 use Rattle.std.proofs.lemmas.List.{get_or_past}
-use Rattle.image_code.specs.CodeLines.{always}
-use Rattle.image_code.specs.Lengths.{part_lengths, part_length}
-use Rattle.image_code.proofs.lengths.part_length.Goals as goal
+use Rattle.code_lengths.specs.declared.lengths.TheConstants.{PART_LENGTHS}
+use Rattle.code_lengths.specs.Lengths.{always, part_length}
+use Rattle.code_lengths.proofs.lengths.part_length.Goals as goal
 
 no_part : (part : ℕ) → (part ≡ always → ⊥) → 27 ≤ part → 0 ≡ part_length part
-no_part part other behind = rw (ne_eqb part always other) (sym (get_or_past part_lengths part 0 behind))
+no_part part other behind = rw (ne_eqb part always other) (sym (get_or_past PART_LENGTHS part 0 behind))
 
 pub returns-else-part-lt27 : goal.returns-else-part-lt27
 returns-else-part-lt27 c =
     let behind = c.if-part-lt27.false in
     let same = c.from-part.ensures in
-    no_part c.args.part c.if-part-eq255.false (omega (arith, behind, same))
+    no_part c.args.part c.if-part-eq-ALWAYS.false (omega (arith, behind, same))
