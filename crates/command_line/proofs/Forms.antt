@@ -7,7 +7,8 @@ use Rattle.std.specs.Str.{bytes_eq}
 use Rattle.base.proofs.Laws.{same_head}
 use Rattle.play_model.specs.declared.options.Options.{Options}
 use Rattle.play_model.specs.Speeds.{IsSpeed}
-use Rattle.command_line.specs.Words.{Job, Pack, Copy, Edit, Check, Trace, Run, Selftest, texts, format_word, skip_word, IsAddressWord, IsZeroPageWord, IsNumberWord, IsSpeedWord, AreOptionWords, unsaid, said, ArePackArguments, AreTraceArguments}
+use Rattle.command_line.specs.Words as asked
+use Rattle.command_line.specs.Words.{Job, texts, format_word, skip_word, IsAddressWord, IsZeroPageWord, IsNumberWord, IsSpeedWord, AreOptionWords, unsaid, said, ArePackArguments, AreTraceArguments}
 use Rattle.command_line.specs.Forms.{WordsOf, command_of}
 
 -- ---- a list of so many words
@@ -200,7 +201,7 @@ differ ws a b p q same other =
 
 -- words of one list name one job
 pub one_job : (ws : List (List ℕ)) (a b : Job) → WordsOf ws a → WordsOf ws b → a ≡ b
-one_job ws (Pack i o f a z x) (Pack i2 o2 f2 a2 z2 x2) p q =
+one_job ws (asked.Pack i o f a z x) (asked.Pack i2 o2 f2 a2 z2 x2) p q =
     let v = p.are_arguments in
     let w = q.are_arguments in
     let format : f ≡ f2 = same_format f f2 (cc (p.words_are, q.words_are, v.form, w.form)) in
@@ -211,14 +212,14 @@ one_job ws (Pack i o f a z x) (Pack i2 o2 f2 a2 z2 x2) p q =
     let options : x ≡ x2 =
     same_options x x2 (cc (p.words_are, q.words_are, v.form, w.form)) v.options_spelled w.options_spelled in
     cc (p.words_are, q.words_are, v.form, w.form)
-one_job ws (Pack i o f a z x) other p q = absurd (differ ws (Pack i o f a z x) other p q refl refl)
-one_job ws (Copy i o) (Copy i2 o2) p q = cc (p.words_are, q.words_are, p.are_arguments.0, q.are_arguments.0)
-one_job ws (Copy i o) other p q = absurd (differ ws (Copy i o) other p q refl refl)
-one_job ws (Edit i s o) (Edit i2 s2 o2) p q = cc (p.words_are, q.words_are, p.are_arguments.0, q.are_arguments.0)
-one_job ws (Edit i s o) other p q = absurd (differ ws (Edit i s o) other p q refl refl)
-one_job ws (Check i) (Check i2) p q = cc (p.words_are, q.words_are, p.are_arguments.0, q.are_arguments.0)
-one_job ws (Check i) other p q = absurd (differ ws (Check i) other p q refl refl)
-one_job ws (Trace i s n o) (Trace i2 s2 n2 o2) p q =
+one_job ws (asked.Pack i o f a z x) other p q = absurd (differ ws (asked.Pack i o f a z x) other p q refl refl)
+one_job ws (asked.Copy i o) (asked.Copy i2 o2) p q = cc (p.words_are, q.words_are, p.are_arguments.0, q.are_arguments.0)
+one_job ws (asked.Copy i o) other p q = absurd (differ ws (asked.Copy i o) other p q refl refl)
+one_job ws (asked.Edit i s o) (asked.Edit i2 s2 o2) p q = cc (p.words_are, q.words_are, p.are_arguments.0, q.are_arguments.0)
+one_job ws (asked.Edit i s o) other p q = absurd (differ ws (asked.Edit i s o) other p q refl refl)
+one_job ws (asked.Check i) (asked.Check i2) p q = cc (p.words_are, q.words_are, p.are_arguments.0, q.are_arguments.0)
+one_job ws (asked.Check i) other p q = absurd (differ ws (asked.Check i) other p q refl refl)
+one_job ws (asked.Trace i s n o) (asked.Trace i2 s2 n2 o2) p q =
     let v = p.are_arguments in
     let w = q.are_arguments in
     let subtune : s ≡ s2 =
@@ -228,8 +229,8 @@ one_job ws (Trace i s n o) (Trace i2 s2 n2 o2) p q =
     let options : o ≡ o2 =
     same_options o o2 (cc (p.words_are, q.words_are, v.form, w.form)) v.options_spelled w.options_spelled in
     cc (p.words_are, q.words_are, v.form, w.form)
-one_job ws (Trace i s n o) other p q = absurd (differ ws (Trace i s n o) other p q refl refl)
-one_job ws (Run i s n) (Run i2 s2 n2) p q =
+one_job ws (asked.Trace i s n o) other p q = absurd (differ ws (asked.Trace i s n o) other p q refl refl)
+one_job ws (asked.Run i s n) (asked.Run i2 s2 n2) p q =
     let v = p.are_arguments in
     let w = q.are_arguments in
     let subtune : s ≡ s2 =
@@ -237,11 +238,11 @@ one_job ws (Run i s n) (Run i2 s2 n2) p q =
     let frames : n ≡ n2 =
     same_number (omega arith) (cc (p.words_are, q.words_are, v.form, w.form)) v.frames_spelled w.frames_spelled in
     cc (p.words_are, q.words_are, v.form, w.form)
-one_job ws (Run i s n) other p q = absurd (differ ws (Run i s n) other p q refl refl)
-one_job ws (Selftest n) (Selftest n2) p q =
+one_job ws (asked.Run i s n) other p q = absurd (differ ws (asked.Run i s n) other p q refl refl)
+one_job ws (asked.Selftest n) (asked.Selftest n2) p q =
     let v = p.are_arguments in
     let w = q.are_arguments in
     let number : n ≡ n2 =
     same_number (omega arith) (cc (p.words_are, q.words_are, v.form, w.form)) v.number_spelled w.number_spelled in
     cc (number)
-one_job ws (Selftest n) other p q = absurd (differ ws (Selftest n) other p q refl refl)
+one_job ws (asked.Selftest n) other p q = absurd (differ ws (asked.Selftest n) other p q refl refl)

@@ -1,6 +1,7 @@
 -- The forms of the command line: the words that name each job.
 use Rattle.std.specs.Prelude.{◌≡◌, ◌≢◌, ℕ, List, [], ◌∷◌, codes}
-use Rattle.command_line.specs.Words.{Job, Pack, Copy, Edit, Check, Trace, Run, Selftest, ArePackArguments, AreTraceArguments, AreRunArguments, AreSelftestArguments}
+use Rattle.command_line.specs.Words as asked
+use Rattle.command_line.specs.Words.{Job, ArePackArguments, AreTraceArguments, AreRunArguments, AreSelftestArguments}
 
 -- a command's first word, and the words after it
 pub record Form : Type 1 where
@@ -8,34 +9,34 @@ pub record Form : Type 1 where
   pub has_arguments : List (List ℕ) → Type 0
 
 abbrev pub form_of : Job → Form
-form_of (Pack input output psid address zero_page options) = record {
+form_of (asked.Pack input output psid address zero_page options) = record {
   command = codes "pack";
   has_arguments = λ words. ArePackArguments words input output psid address zero_page options;
 }
 -- the arguments are `IN OUT`
-form_of (Copy input output) = record {
+form_of (asked.Copy input output) = record {
   command = codes "copy";
   has_arguments = λ words. (words ≡ input ∷ output ∷ []) × (input ≢ []) × (output ≢ []);
 }
 -- the arguments are `IN SCRIPT OUT`
-form_of (Edit input script output) = record {
+form_of (asked.Edit input script output) = record {
   command = codes "edit";
   has_arguments = λ words. (words ≡ input ∷ script ∷ output ∷ []) × (input ≢ []) × (script ≢ []) × (output ≢ []);
 }
 -- the argument is `IN`
-form_of (Check input) = record {
+form_of (asked.Check input) = record {
   command = codes "check";
   has_arguments = λ words. (words ≡ input ∷ []) × (input ≢ []);
 }
-form_of (Trace input subtune frames options) = record {
+form_of (asked.Trace input subtune frames options) = record {
   command = codes "trace";
   has_arguments = λ words. AreTraceArguments words input subtune frames options;
 }
-form_of (Run input subtune frames) = record {
+form_of (asked.Run input subtune frames) = record {
   command = codes "run";
   has_arguments = λ words. AreRunArguments words input subtune frames;
 }
-form_of (Selftest number) = record {
+form_of (asked.Selftest number) = record {
   command = codes "selftest";
   has_arguments = λ words. AreSelftestArguments words number;
 }

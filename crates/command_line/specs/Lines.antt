@@ -2,13 +2,14 @@
 use Rattle.std.specs.Prelude.{ℕ, ◌/◌, ◌%◌, List, [], ◌∷◌, ◌++◌, codes}
 use Rattle.std.specs.List.{concat}
 use Rattle.hex.specs.Hex.{encode_lower, encode_upper}
+use Rattle.command_line.specs.declared.words.TheConstants.{USAGE}
 
 -- the line of these parts
 abbrev pub line : List (List ℕ) → List ℕ
 line parts = concat parts ++ codes "\n"
 
 abbrev pub usage_line : List ℕ
-usage_line = line (codes "usage: goat check|trace|pack|run|edit|copy|selftest" ∷ [])
+usage_line = line (USAGE.now ∷ [])
 
 abbrev pub no_memory_line : List ℕ
 no_memory_line = line (codes "no memory" ∷ [])

@@ -24,4 +24,4 @@ pub use line::Line;
 pub use message::{Message, Piece};
 pub use refusal::{Refusal, Report};
 pub use status::Status;
-pub use words::{Job, WordsFault, parse_words};
+pub use words::{Job, USAGE, WordsFault, parse_words};

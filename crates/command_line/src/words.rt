@@ -5,14 +5,11 @@ ghost use Rattle.command_line.specs.Words.{texts, HasAllowedNumbers};
 ghost use Rattle.command_line.specs.Forms.{IsNoForm, WordsOf};
 ghost use Rattle.command_line.specs.Job.{job_of};
 
-use crate::commands::check::check_job;
-use crate::commands::copy::copy_job;
-use crate::commands::edit::edit_job;
-use crate::commands::pack::pack_job;
-use crate::commands::run::run_job;
-use crate::commands::selftest::selftest_job;
-use crate::commands::trace::trace_job;
+use crate::commands;
 use play_model::Options;
+
+/// The line of words that are of no form: the command, and a word for each form.
+pub const USAGE: &str = "usage: goat check|trace|pack|run|edit|copy|selftest";
 
 /// What the program is asked to do.
 #[derive(Clone, Copy, Debug)]
@@ -90,13 +87,13 @@ pub fn parse_words(words: &[String]) -> Result<Job<'_>, WordsFault>
         return Err(WordsFault);
     };
     match command.as_str() {
-        "pack" => pack_job(arguments),
-        "copy" => copy_job(arguments),
-        "edit" => edit_job(arguments),
-        "check" => check_job(arguments),
-        "trace" => trace_job(arguments),
-        "run" => run_job(arguments),
-        "selftest" => selftest_job(arguments),
+        "pack" => commands::pack::pack_job(arguments),
+        "copy" => commands::copy::copy_job(arguments),
+        "edit" => commands::edit::edit_job(arguments),
+        "check" => commands::check::check_job(arguments),
+        "trace" => commands::trace::trace_job(arguments),
+        "run" => commands::run::run_job(arguments),
+        "selftest" => commands::selftest::selftest_job(arguments),
         _ => Err(WordsFault),
     }
 }
