@@ -4,26 +4,18 @@
 //! file; a file that is written holds an image that plays the song that was read, whatever else is in memory. Each
 //! status comes only where its cause does.
 //!
-//! Every song is copied, edited and checked. Those that can be played are traced, and packed with a player of their own.
-//! PSID files are run. A song that is made from a number is traced, packed and run.
+//! What a job is, and what became of it, is said in `jobs`, where also those jobs are done that make no player. Here a
+//! song is packed with a player of its own, and a song that is made from a number is traced, packed and run.
 //!
-//! It stands on `command_line` for words and lines, on `goat_io` for folders and sinks, on `gts5` and `song_model` for
-//! the song, on `edit_history` and `edit_script` for editing it, on `usage` for what it uses, on `play_model` for what
-//! it sounds like, on `playroutine` for playing it, on `song_pack` and `image_build` for packing it, on `faithful` for
-//! what an image is to do, on `psid`, `sid_run` and `cpu6502` for PSID files and their calls, and on `song_gen` for songs
-//! that are made from numbers.
+//! It stands on `jobs`, on `command_line` for words and lines, on `goat_io` for folders and sinks, on `image_build` for
+//! the image of a packed song, and on `song_gen` for songs that are made from numbers.
 #![tactic(auto)]
 
-mod calling;
 mod commands;
-/// Facts about the definitions.
-pub mod claims;
-mod measuring;
-mod packed;
-mod packing;
+mod images;
+mod pack;
 mod program;
-mod registers;
-mod stages;
+mod selftest;
 mod top;
 
 pub use command_line::{Job, WordsFault, parse_words};

@@ -6,22 +6,19 @@ ghost use Rattle.song_model.specs.declared.songs.Song.{Song};
 ghost use Rattle.command_line.specs.Words.{texts, Selftest};
 ghost use Rattle.command_line.specs.Forms.{IsNoForm, WordsOf};
 ghost use Rattle.command_line.specs.RegisterText.{register_text};
-ghost use Rattle.goat_cli.specs.Due.{IsDue, IsOneOf, instead};
-ghost use Rattle.goat_cli.specs.Stands.{folder_state, sink_state, RunStands, Counted, TellsWant};
-ghost use Rattle.goat_cli.specs.Answers.{HoldsDone, IsOrdinary, IsPrinted, IsBeforeWriting, ComesAbout, ComesWhere, SinkCounted, RunsPacked};
-ghost use Rattle.goat_cli.specs.Traces.{first_traces};
+ghost use Rattle.jobs.specs.Due.{IsDue, IsOneOf, instead};
+ghost use Rattle.jobs.specs.Stands.{folder_state, sink_state, RunStands, Counted};
+ghost use Rattle.jobs.specs.Answers.{HoldsDone, IsOrdinary, IsPrinted, IsBeforeWriting, ComesAbout, ComesWhere, SinkCounted, RunsPacked};
+ghost use Rattle.jobs.specs.Traces.{first_traces};
 ghost use Rattle.play_model.specs.declared.options.Options.{Options};
 ghost use Rattle.command_line.specs.Last.{last_word};
-ghost use Rattle.command_line.specs.Message.{line_of};
-ghost use Rattle.goat_cli.specs.Endings.{RunEnds, PrintsLast, PrintsLine};
+ghost use Rattle.jobs.specs.Endings.{RunEnds};
 
 use crate::commands::perform;
-use command_line::{Line, Message, Piece, Refusal, Report, Status, WordsFault, parse_words};
-use goat_io::{Folder, Sink, SinkFault};
+use command_line::{Line, Piece, Refusal, Report, Status, USAGE, WordsFault, parse_words};
+use goat_io::{Folder, Sink};
+use jobs::{print, want_memory};
 use std::alloc::Global;
-
-/// The line of a command line that has no form.
-const USAGE: &str = "usage: goat check|trace|pack|run|edit|copy|selftest";
 
 /// Does all that the program does, and answers its exit status, the number of a [`Status`].
 ///
@@ -101,57 +98,5 @@ fn run<'a, F: Folder, K: Sink>(
     match parse_words(words) {
         Ok(job) => perform(alloc, &job, folder, line, out),
         Err(WordsFault) => Err(Refusal::says(Status::Usage, &[Piece::Words(USAGE)])),
-    }
-}
-
-/// Prints the last line, and answers the status.
-fn print<K: Sink>(ended: &Result<Report, Refusal>, line: &mut Line, out: &mut K) -> u8
-    ensures { PrintsLast (last_word ended.now) result
-        (sink_state (K.written out.old) (K.faults out.old))
-        (sink_state (K.written out.new) (K.faults out.new)) }
-{
-    match ended {
-        Ok(Report::Says(message)) => say(message, line, out),
-        Ok(Report::Shown) => Status::Done.number(),
-        Err(Refusal::Says(message)) => say(message, line, out),
-        Err(Refusal::SinkFault) => Status::SinkFault.number(),
-        Err(Refusal::NoMemory) => want_memory(out),
-    }
-}
-
-/// Prints the line of a message, and answers its status.
-fn say<K: Sink>(message: &Message, line: &mut Line, out: &mut K) -> u8
-    ensures { PrintsLine message.now.status (line_of message.now.pieces) result
-        (sink_state (K.written out.old) (K.faults out.old))
-        (sink_state (K.written out.new) (K.faults out.new)) }
-{
-    match line.tell(message) {
-        Ok(()) => put_line(message.status(), line, out),
-        Err(_) => want_memory(out),
-    }
-}
-
-/// Prints a line, and answers the status that goes with it.
-fn put_line<K: Sink>(status: u8, line: &Line, out: &mut K) -> u8
-    ensures { PrintsLine status line.now.text result
-        (sink_state (K.written out.old) (K.faults out.old))
-        (sink_state (K.written out.new) (K.faults out.new)) }
-{
-    match out.put(line.as_slice()) {
-        Ok(()) => status,
-        Err(SinkFault::Failed) => Status::SinkFault.number(),
-        Err(SinkFault::NoMemory) => want_memory(out),
-    }
-}
-
-/// Prints that the program is out of memory, and answers the status.
-fn want_memory<K: Sink>(out: &mut K) -> u8
-    ensures { TellsWant [] result (sink_state (K.written out.old) (K.faults out.old))
-        (sink_state (K.written out.new) (K.faults out.new)) }
-{
-    match out.put(b"no memory\n") {
-        Ok(()) => Status::NoMemory.number(),
-        Err(SinkFault::NoMemory) => Status::NoMemory.number(),
-        Err(SinkFault::Failed) => Status::SinkFault.number(),
     }
 }

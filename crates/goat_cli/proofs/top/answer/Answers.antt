@@ -1,4 +1,4 @@
-use Rattle.goat_cli.proofs.Printed.{run_stands, no_room}
+use Rattle.jobs.proofs.Laws.{run_stands, no_room}
 use Rattle.goat_cli.proofs.top.answer.Goals as goal
 
 pub returns-in_default : goal.returns-in_default

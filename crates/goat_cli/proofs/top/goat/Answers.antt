@@ -1,4 +1,4 @@
-use Rattle.goat_cli.proofs.Answered.{headline, outcome_comes, due_comes, usage_comes, packed_plays, selftest_comes, counts, sink_counts, files_stay}
+use Rattle.jobs.proofs.Laws.{headline, outcome_comes, due_comes, usage_comes, packed_plays, selftest_comes, counts, sink_counts, files_stay}
 use Rattle.goat_cli.proofs.top.goat.Goals as goal
 
 pub returns-clause-headline : goal.returns-clause-headline

@@ -1,5 +1,5 @@
 use Rattle.command_line.specs.Words.{texts}
-use Rattle.goat_cli.proofs.Ends.{usage_ends}
+use Rattle.jobs.proofs.Laws.{usage_ends}
 use Rattle.goat_cli.proofs.top.run.Goals as goal
 
 pub returns-in-Ok : goal.returns-in-Ok

@@ -1,0 +1,81 @@
+-- The image of a packed song, and the stage that asks whether it has room.
+use Rattle.std.proofs.Common.{◌≡◌, ℕ, ◌+◌, ◌≤◌, Bool, List, length, refl, ap, ◌∙◌, subst, arith}
+use Rattle.goat_io.specs.Files.{Files}
+use Rattle.song_model.specs.declared.songs.Song.{Song}
+use Rattle.play_model.specs.declared.options.Options.{Options}
+use Rattle.play_model.specs.State.{no_options}
+use Rattle.packed_form.specs.declared.packed_songs.PackedSong.{PackedSong}
+use Rattle.code_lengths.specs.Lengths.{code_length}
+use Rattle.faithful.proofs.Laws.{always_is_faithful}
+use Rattle.image_build.specs.declared.image.Image.{Image}
+use Rattle.image_build.specs.Lengths.{image_length, IsTooLarge}
+use Rattle.image_build.specs.Built.{IsBuild}
+use Rattle.jobs.specs.Packed.{IsImageLength, IsWrittenFile, packed_file}
+use Rattle.jobs.specs.Lines.{image_too_large_line}
+use Rattle.command_line.specs.Last.{Last, Says}
+use Rattle.jobs.specs.Stages.{HasRoomForImage, HoldsSong, IsMet}
+use Rattle.jobs.specs.Endings as ends
+use Rattle.jobs.specs.Endings.{Refuses, PacksSong}
+use Rattle.jobs.proofs.Laws.{images_are_bounded}
+use Rattle.song_gen.specs.GeneratedLaws.{IsSmall}
+
+module _ (packed : PackedSong) (song : Song) (o : Options) (packs : PacksSong packed song) where
+  pub length_is : (count : ℕ) → count ≡ image_length packed o → IsImageLength song o count
+  length_is count is = record {
+    used = packs.used;
+    features = packed.features.0;
+    are_used = packs.are_used;
+    are_features = packs.stands.features;
+    count_is = is ∙ ap (λ size. size + code_length packed.features.0 o) packs.size;
+  }
+
+  module _ (files : Files) (name : List ℕ) (address : ℕ) (holds : HoldsSong files name song) where
+    pub has_room : (built : Image) → IsBuild packed built.place o built → built.place.address ≡ address →
+        IsMet files (HasRoomForImage name address o)
+    has_room built is there = (
+      song,
+      length built.bytes,
+      holds,
+      length_is (length built.bytes) is.size,
+      subst (λ a. a + length built.bytes ≤ 0xD000) there is.fits,
+    )
+
+    pub has_no_room : (count : ℕ) {last : Last} → IsTooLarge packed o address count →
+        last ≡ Says 7 (image_too_large_line count) →
+        Refuses files (HasRoomForImage name address o) last
+    has_no_room count large says =
+        ends.ends (image_too_large_line count)
+        (song, count, holds, length_is count large.size_is, large.passes, refl) says
+
+  -- the file of its image is one that is written
+  pub image_written : (psid : Bool) (address zero_page : ℕ) (built : Image) (file : List ℕ) →
+      IsBuild packed built.place o built → built.place.address ≡ address → built.place.zero_page ≡ zero_page →
+      file ≡ packed_file psid song built.place.address built.bytes o →
+      IsWrittenFile psid address zero_page song o file
+  image_written psid address zero_page built file is there page holds =
+      let plays = is.plays song packs.stands in
+      let written : IsWrittenFile psid built.place.address built.place.zero_page song o file = record {
+        packed = record {
+          image = built.bytes;
+          bytes = is.bytes;
+          holds = holds;
+          below = is.fits;
+          faithful = always_is_faithful built.bytes built.place.address built.place.zero_page song o plays.always;
+        };
+        size = length_is (length built.bytes) is.size;
+        always = plays.always;
+        isolated = plays.isolated;
+      } in
+      let paged = subst (λ z. IsWrittenFile psid built.place.address z song o file) page written in
+      subst (λ a. IsWrittenFile psid a zero_page song o file) there paged
+
+-- of a small song the image has room at $1000
+pub small_has_room : (packed : PackedSong) (song : Song) (size : ℕ) → PacksSong packed song → IsSmall song →
+    IsTooLarge packed no_options 0x1000 size → ⊥
+small_has_room packed song size packs small large =
+    let bounds =
+    images_are_bounded song no_options packs.used packed.features.0 size
+    (length_is packed song no_options packs size large.size_is) packs.are_used packs.stands.features in
+    let room = small packs.used packed.features.0 packs.are_used packs.stands.features in
+    let passes = large.passes in
+    omega (arith, bounds, room, passes)

@@ -1,5 +1,0 @@
-use Rattle.goat_cli.proofs.Passes.{playable_songs_pass_lem}
-use Rattle.goat_cli.proofs.claims.playable_songs_pass.Goals as goal
-
-pub returns : goal.returns
-returns c = playable_songs_pass_lem

@@ -1,9 +1,0 @@
-use Rattle.goat_cli.proofs.Due.{outcome_due, one_due, one_text}
-use Rattle.goat_cli.proofs.claims.runs_have_one_outcome.Goals as goal
-
-pub returns : goal.returns
-returns c = record {
-  due = λ words files status lines write o. outcome_due o;
-  status = λ words files s t a b p q. one_due p q;
-  text = λ words files s t lines others other p q. one_text other p q;
-}

@@ -1,5 +1,0 @@
-use Rattle.goat_cli.proofs.SmallSongs.{images_are_bounded, only_large_images, small_songs}
-use Rattle.goat_cli.proofs.claims.small_songs_are_packed.Goals as goal
-
-pub returns : goal.returns
-returns c = record { bounded = images_are_bounded; images = only_large_images; songs = small_songs }

@@ -1,9 +1,0 @@
-use Rattle.goat_cli.specs.Stands.{sink_state}
-use Rattle.goat_cli.proofs.Calls.{CallsSoFar}
-use Rattle.goat_cli.proofs.commands.run.show_calls.Given as goal
-
-abbrev pub invariant-loop-call : goal.invariant-loop-call
-invariant-loop-call g l =
-    CallsSoFar l.initial.runner l.number l.call l.runner
-    (sink_state (g.K.Sink.written l.initial.out) (g.K.Sink.faults l.initial.out))
-    (sink_state (g.K.Sink.written l.out) (g.K.Sink.faults l.out))

@@ -1,5 +1,0 @@
-use Rattle.goat_cli.proofs.Measured.{SubtunesSummed}
-use Rattle.goat_cli.proofs.measuring.register_sum.Given as goal
-
-abbrev pub invariant-loop-subtune : goal.invariant-loop-subtune
-invariant-loop-subtune l = SubtunesSummed l.song l.subtune l.sum

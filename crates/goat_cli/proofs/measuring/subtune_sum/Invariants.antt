@@ -1,5 +1,0 @@
-use Rattle.goat_cli.proofs.Measured.{SummedSoFar}
-use Rattle.goat_cli.proofs.measuring.subtune_sum.Given as goal
-
-abbrev pub invariant-loop-call : goal.invariant-loop-call
-invariant-loop-call l = SummedSoFar l.song l.subtune l.call l.player l.sum

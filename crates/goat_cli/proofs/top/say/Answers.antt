@@ -1,8 +1,0 @@
-use Rattle.goat_cli.specs.Endings as ends
-use Rattle.goat_cli.proofs.top.say.Goals as goal
-
-pub returns-in-Ok : goal.returns-in-Ok
-returns-in-Ok g c = rw (c.status.ensures, c.in-Ok.ensures.told) at c.put_line.ensures
-
-pub returns-in-Err : goal.returns-in-Err
-returns-in-Err g c = ends.wanting c.want_memory.ensures

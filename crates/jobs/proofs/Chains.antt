@@ -1,0 +1,242 @@
+-- How a run goes through the stages of its job: each one is met, or ends it; and how the commands end after the last.
+use Rattle.std.proofs.Common.{◌≡◌, ℕ, ◌+◌, ◌-◌, ◌≤◌, List, [], ◌∷◌, ◌++◌, Option, Some, None, Ok, true, length, refl, sym, ap, ◌∙◌, subst}
+use Rattle.std.proofs.lemmas.List.{append-nil, append_assoc}
+use Rattle.goat_io.specs.Files.{Files, IsWrittenInPart}
+use Rattle.song_model.specs.declared.songs.Song.{Song}
+use Rattle.psid.specs.declared.header.Psid.{Psid}
+use Rattle.psid.specs.Reading.{psid_read}
+use Rattle.sid_run.specs.State.{loaded}
+use Rattle.command_line.specs.Words.{Job, Run}
+use Rattle.cpu6502.specs.declared.machine.Machine.{Machine}
+use Rattle.jobs.specs.Calls.{FirstCalls, StopsIn}
+use Rattle.command_line.specs.RegisterText.{register_lines}
+use Rattle.jobs.specs.Lines.{stop_line, wrote_line}
+use Rattle.command_line.specs.Last.{Last, Says}
+use Rattle.jobs.specs.Stages.{Stage, IsThere, Fits, SpellsSong, CallsReturn, HoldsSong, HoldsPsid, status_of, IsMet, Passes, AllPass, FirstEnds, input_limit}
+use Rattle.command_line.specs.Forms.{WordsOf}
+use Rattle.jobs.specs.Jobs.{stages, Shows, Done}
+use Rattle.jobs.specs.Outcome as outcome
+use Rattle.jobs.specs.Outcome.{told_after}
+use Rattle.jobs.specs.Stands as stands
+use Rattle.jobs.specs.Stands.{FolderState, SinkState, AreFiles, Account, Counted, FolderStays, IsPrinting, Printing}
+use Rattle.jobs.specs.Endings as ends
+use Rattle.jobs.specs.Endings.{Refuses, WasRead, SongWasRead, SongFails, WriteEnds, LinesEnd, CallsEnd, IsOver, JobEnds}
+use Rattle.jobs.proofs.Told.{as_before, is_uncounted, uncounted, counted_on, stays_on}
+use Rattle.jobs.proofs.Passes.{met_passes}
+use Rattle.jobs.proofs.Ends.{first_ends, says_ends, has_last, wants_first, read_ends}
+
+-- the run of a job has come to these stages, and met those before them; the folder is as before
+pub record At (job : Job) (files : Files) (folder after : FolderState) (rest : List Stage) : Type 0 where
+  pub are_files : AreFiles folder.told files
+  pub stays : FolderStays folder after
+  pub met : List Stage
+  pub stages_are : stages job ≡ met ++ rest
+  pub pass : AllPass files met
+
+pub pass_more : (files : Files) (list : List Stage) (stage : Stage) → AllPass files list → Passes files stage →
+    AllPass files (list ++ stage ∷ [])
+pass_more files [] stage pass last = (last, tt)
+pass_more files (first ∷ rest) stage pass last = (pass.0, pass_more files rest stage pass.1 last)
+
+module _ {job : Job} {folder after : FolderState} where
+  -- the file that a job begins with was read
+  pub begun : {name bytes : List ℕ} {limit : ℕ} {rest : List Stage} →
+      stages job ≡ IsThere name ∷ Fits name limit ∷ rest →
+      (was : WasRead name limit folder after bytes) → At job was.files folder after rest
+  begun {name} {bytes} {limit} are was = record {
+    are_files = was.are_files;
+    stays = was.stays;
+    met = IsThere name ∷ Fits name limit ∷ [];
+    stages_are = are;
+    pass = (
+      met_passes was.files (IsThere name) (bytes, was.found),
+      (met_passes was.files (Fits name limit) (bytes, was.found, was.fits), tt),
+    );
+  }
+
+  module _ {files : Files} where
+    -- the next stage is met
+    pub met_next : {stage : Stage} {rest : List Stage} → At job files folder after (stage ∷ rest) → IsMet files stage →
+        At job files folder after rest
+    met_next {stage} {rest} at met = record {
+      are_files = at.are_files;
+      stays = at.stays;
+      met = at.met ++ stage ∷ [];
+      stages_are = at.stages_are ∙ sym (append_assoc at.met (stage ∷ []) rest);
+      pass = pass_more files at.met stage at.pass (met_passes files stage met);
+    }
+
+    -- or it refuses
+    pub refused : {stage : Stage} {rest : List Stage} {last : Last} (sink : SinkState) →
+        At job files folder after (stage ∷ rest) →
+        is_uncounted (status_of stage) ≡ true → Refuses files stage last → JobEnds job last folder after sink sink
+    refused {stage} {rest} sink at free (ends.ends line is says) =
+        let counted = uncounted free at.stays.counts in
+        rw says (says_ends sink files at.met rest stage at.are_files at.stages_are at.pass is at.stays.told counted)
+    refused sink at free (ends.wanting wants) = rw wants (wants_first sink at.stays)
+
+    -- how the run is over, for all words that name the job
+    pub over_with : {rest : List Stage} {last : Last} {s t : SinkState} → At job files folder after rest →
+        ((words : List (List ℕ)) → WordsOf words job → IsOver words files last folder after s t) →
+        JobEnds job last folder after s t
+    over_with at is =
+        record { ends = λ words form. record { files = files; are_files = at.are_files; is_over = is words form } }
+
+    -- all stages are met
+    pub all_met : At job files folder after [] → AllPass files (stages job)
+    all_met at = subst (AllPass files) (sym (at.stages_are ∙ append-nil at.met)) at.pass
+
+module _ {job : Job} {folder between after : FolderState} {files : Files} (sink : SinkState)
+    (at : At job files folder between []) where
+  -- the job is done, with one line to print; a file was written, or none
+  pub done_says : {line : List ℕ} (write : Option (List ℕ × List ℕ)) → Done job files (line ∷ []) write →
+      after.told ≡ told_after between.told write → Counted 0 between.counts after.counts →
+      JobEnds job (Says 0 line) folder after sink sink
+  done_says write did told counted =
+      let files_are = told ∙ ap (λ t. told_after t write) at.stays.told in
+      has_last sink at.are_files
+      (λ words form. stands.outcome write (outcome.done job form (all_met at) did refl) files_are)
+      (counted_on at.stays.counts counted)
+
+  -- its file was written, or not
+  pub written : {output file : List ℕ} {last : Last} →
+      Done job files (wrote_line (length file) ∷ []) (Some (output, file)) →
+      WriteEnds output file between after last → JobEnds job last folder after sink sink
+  written {output} {file} did (ends.wrote says told counted) =
+      rw says (done_says (Some (output, file)) did told counted)
+  written {output} {file} did (ends.failed says part counted) =
+      let part_of = subst (λ t. IsWrittenInPart t after.told output file) at.stays.told part in
+      let lines = wrote_line (length file) ∷ [] in
+      rw says (has_last sink at.are_files
+      (λ words form.
+      stands.write_fault lines output file (outcome.done job form (all_met at) did refl) refl refl part_of)
+      (counted_on at.stays.counts counted))
+  written did (ends.wanting wants more) = rw wants (wants_first sink (stays_on at.stays more))
+
+module _ {job : Job} {folder after : FolderState} {files : Files} (at : At job files folder after [])
+    {lines : List (List ℕ)} (did : Done job files lines None) where
+  -- the job is done with these lines, and no file is written
+  done_with : (words : List (List ℕ)) → WordsOf words job → Account words files 0 lines folder.told after.told
+  done_with words form =
+      stands.outcome None (outcome.done job form (all_met at) did refl) (at.stays.told ∙ as_before folder.told)
+
+  printing_done : {others : List (List ℕ)} → lines ≡ others → (words : List (List ℕ)) → WordsOf words job →
+      Printing words files others folder after
+  printing_done are words form =
+      subst (λ l. Printing words files l folder after) are (stands.of_account 0 (done_with words form) at.stays.counts)
+
+  -- they are printed, or not
+  pub lines_over : {last : Last} {s t : SinkState} → LinesEnd lines last s t → JobEnds job last folder after s t
+  lines_over (ends.shown is shown) =
+      rw is
+      (over_with at
+      (λ words form.
+      record { lines = lines; account = done_with words form; counted = at.stays.counts; appends = shown }))
+  lines_over (ends.cut earlier later line kept are is fails) =
+      rw is (over_with at (λ words form. record {
+        earlier = earlier;
+        later = later;
+        line = line;
+        kept = kept;
+        printing = printing_done are words form;
+        fails = fails;
+      }))
+  lines_over (ends.unsaid earlier later line are is appends) =
+      rw is (over_with at (λ words form. ends.for_line earlier later line (printing_done are words form) appends))
+
+-- ---- the files that a run has read
+
+pub song_held : {name : List ℕ} {folder after : FolderState} {song : Song} →
+    (read : SongWasRead name folder after song) → HoldsSong read.was.files name song
+song_held read = record { bytes = read.bytes; found = read.was.found; spells = read.spells }
+
+pub psid_held : {name bytes : List ℕ} {limit : ℕ} {folder after : FolderState} {psid : Psid} →
+    (was : WasRead name limit folder after bytes) → psid_read bytes ≡ Ok psid → HoldsPsid was.files name psid
+psid_held {bytes = bytes} was reads = record { bytes = bytes; found = was.found; reads = reads }
+
+module _ {job : Job} {folder after : FolderState} {name : List ℕ} {rest : List Stage} where
+  -- a job that begins with a song has read it
+  pub song_begun : {song : Song} → stages job ≡ IsThere name ∷ Fits name input_limit ∷ SpellsSong name ∷ rest →
+      (read : SongWasRead name folder after song) → At job read.was.files folder after rest
+  song_begun {song} are read = met_next (begun are read.was) (song, song_held read)
+
+  -- or has not
+  pub song_fails : {last : Last} (sink : SinkState) →
+      stages job ≡ IsThere name ∷ Fits name input_limit ∷ SpellsSong name ∷ rest →
+      SongFails name folder after last → JobEnds job last folder after sink sink
+  song_fails sink are (ends.unread fails) = read_ends sink _ are fails
+  song_fails sink are (ends.unspelled bytes was refuses) = refused sink (begun are was) refl refuses
+
+-- ---- the calls of `run`
+
+module _ {input : List ℕ} {subtune frames : ℕ} {files : Files} {folder after : FolderState} {psid : Psid}
+    (at : At (Run input subtune frames) files folder after (CallsReturn input subtune frames ∷ []))
+    (holds : HoldsPsid files input psid) where
+  -- the first calls, which have returned
+  printing : {calls : ℕ} (registers : List (List ℕ)) (machine : Machine) → calls ≤ frames + 1 →
+      FirstCalls (loaded psid) (subtune - 1) calls registers machine → {lines : List (List ℕ)} →
+      lines ≡ register_lines registers →
+      (words : List (List ℕ)) → WordsOf words (Run input subtune frames) → IsPrinting words files lines
+  printing {calls} registers machine within first {lines} are words form = record {
+    stage = CallsReturn input subtune frames;
+    comes = record {
+      job = Run input subtune frames;
+      form = form;
+      earlier = at.met;
+      later = [];
+      stages_are = at.stages_are;
+      pass = at.pass;
+    };
+    prints = (
+      psid,
+      holds,
+      calls,
+      within,
+      record { registers = registers; after = machine; returned = first; lines_are = are },
+    );
+  }
+
+  pub calls_over : {last : Last} {s t : SinkState} → CallsEnd (loaded psid) (subtune - 1) frames last s t →
+      JobEnds (Run input subtune frames) last folder after s t
+  calls_over (ends.played registers machine first is shown) =
+      let pass = all_met (met_next at (psid, holds, registers, machine, first)) in
+      let shows : Shows psid subtune (frames + 1) (register_lines registers) =
+      record { registers = registers; after = machine; returned = first; lines_are = refl } in
+      rw is (over_with at (λ words form. record {
+        lines = register_lines registers;
+        account =
+            stands.outcome None (outcome.done (Run input subtune frames) form pass ((psid, holds, shows), refl) refl)
+            (at.stays.told ∙ as_before folder.told);
+        counted = at.stays.counts;
+        appends = shown;
+      }))
+  calls_over (ends.stopped call registers reason within meets is shown) =
+      let lines = register_lines registers ++ stop_line reason call ∷ [] in
+      let stop : StopsIn psid subtune frames =
+      record { call = call; within = within; registers = registers; reason = reason; meets = meets } in
+      let first = subst (λ list. FirstEnds files list 13 lines) (sym at.stages_are)
+      (first_ends files at.met [] (CallsReturn input subtune frames) lines at.pass (psid, holds, stop, refl)) in
+      rw is (over_with at (λ words form. record {
+        earlier = register_lines registers;
+        account =
+            stands.outcome None (outcome.ended (Run input subtune frames) form first refl)
+            (at.stays.told ∙ as_before folder.told);
+        counted = uncounted refl at.stays.counts;
+        appends = shown;
+      }))
+  calls_over (ends.failed calls kept earlier line registers machine within first lines_are is fails) =
+      rw is (over_with at (λ words form. record {
+        earlier = earlier;
+        later = [];
+        line = line;
+        kept = kept;
+        printing =
+            stands.of_stage (printing registers machine within first (sym lines_are) words form) at.stays;
+        fails = fails;
+      }))
+  calls_over (ends.wanting calls earlier line registers machine within first lines_are is appends) =
+      rw is
+      (over_with at
+      (λ words form.
+      ends.for_line earlier [] line
+      (stands.of_stage (printing registers machine within first (sym lines_are) words form) at.stays) appends))

@@ -1,0 +1,23 @@
+-- What upper crates may cite.
+pub mod Laws
+-- What the parts of a run come to.
+mod Answered
+mod RegisterLines
+mod Calls
+mod Chains
+mod Due
+mod Edited
+mod Ends
+mod Measured
+mod MetPremises
+mod OneFeatures
+mod Passes
+mod PlayedFiles
+mod Printed
+mod Reading
+mod Room
+mod SecondFile
+mod SmallSongs
+mod Told
+mod Traced
+mod WorkedLines

@@ -1,0 +1,11 @@
+use Rattle.jobs.proofs.MetPremises.{statuses_are_ordinary, fitting_songs_are_packed, packed_files_are_run}
+use Rattle.jobs.proofs.claims.premises_are_met.Goals as goal
+
+pub returns-clause-statuses : goal.returns-clause-statuses
+returns-clause-statuses c = statuses_are_ordinary
+
+pub returns-clause-packed : goal.returns-clause-packed
+returns-clause-packed c = fitting_songs_are_packed
+
+pub returns-clause-run : goal.returns-clause-run
+returns-clause-run c = packed_files_are_run

@@ -1,0 +1,10 @@
+use Rattle.std.proofs.Common.{rules, refl}
+use Rattle.jobs.specs.Lines.{song_fault_line}
+use Rattle.jobs.specs.Endings as ends
+use Rattle.jobs.proofs.stages.song_of.Goals as goal
+
+pub returns-in-Err-clause-refused : goal.returns-in-Err-clause-refused
+returns-in-Err-clause-refused c =
+    λ files name found.
+    ends.ends (song_fault_line c.in-Err.fault) (c.args.bytes.now, c.in-Err.fault, found, (search rules), refl)
+    c.song_refusal.ensures

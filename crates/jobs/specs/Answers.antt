@@ -1,0 +1,87 @@
+-- What the answers say, in the top call's clauses.
+use Rattle.std.specs.Prelude.{◌≡◌, ◌≢◌, ℕ, ◌≤◌, List, ◌∷◌, Option, Some, length, true}
+use Rattle.std.specs.List.{concat}
+use Rattle.goat_io.specs.Count.{Rose}
+use Rattle.goat_io.specs.Files.{Files, file_of}
+use Rattle.goat_io.specs.Written.{told_with_piece}
+use Rattle.song_model.specs.declared.songs.Song.{Song}
+use Rattle.song_model.specs.Limits.{KeepsLimits}
+use Rattle.song_model.specs.LookUp.{playable_subtunes}
+use Rattle.play_model.specs.declared.options.Options.{Options}
+use Rattle.packed_form.specs.ImagePlaces.{IsAddress}
+use Rattle.command_line.specs.Words.{Job, Run}
+use Rattle.jobs.specs.Stages.{AllPass, input_limit}
+use Rattle.command_line.specs.Forms.{WordsOf}
+use Rattle.jobs.specs.Jobs.{stages, Done}
+use Rattle.jobs.specs.Outcome.{Outcome, files_after}
+use Rattle.jobs.specs.Packed.{IsPackedFile}
+use Rattle.jobs.specs.Due.{IsOneOf}
+
+-- a status that no failing device and no running out of memory gives
+pub record IsOrdinary (status : ℕ) : Type 0 where
+  pub no_read_fault : status ≢ 4
+  pub no_write_fault : status ≢ 9
+  pub no_sink_fault : status ≢ 10
+  pub no_want : status ≢ 14
+
+-- all lines were printed: no put failed, and memory was found
+pub record IsPrinted (status : ℕ) : Type 0 where
+  pub no_sink_fault : status ≢ 10
+  pub no_want : status ≢ 14
+
+-- a status with which no file is written
+pub record IsBeforeWriting (status : ℕ) : Type 0 where
+  pub not_done : status ≢ 0
+  pub no_write_fault : status ≢ 9
+  pub no_sink_fault : status ≢ 10
+  pub no_want : status ≢ 14
+
+-- the job that the words name was done, each of its stages passes, and the files are as it leaves them
+pub record HoldsDone (words : List (List ℕ)) (files : Files) (files_now : Option Files) : Type 0 where
+  pub job : Job
+  pub form : WordsOf words job
+  pub pass : AllPass files (stages job)
+  pub lines : List (List ℕ)
+  pub write : Option (List ℕ × List ℕ)
+  pub done : Done job files lines write
+  pub files_are : files_now ≡ Some (files_after files write)
+
+-- the outcome came about: its lines were appended, and the files are as it says
+pub record ComesAbout (words : List (List ℕ)) (files : Files) (status : ℕ) (printed printed_now : Option (List ℕ))
+    (files_now : Option Files) : Type 0 where
+  pub lines : List (List ℕ)
+  pub write : Option (List ℕ × List ℕ)
+  pub outcome : Outcome words files status lines write
+  pub appended : printed_now ≡ told_with_piece printed (concat lines)
+  pub files_are : files_now ≡ Some (files_after files write)
+
+-- the status comes only where its cause holds, and where that holds it comes, or one of those in its place
+pub record ComesWhere (Cause : Type 0) (answer status : ℕ) (instead : List ℕ) : Type 0 where
+  pub only : answer ≡ status → Cause
+  pub always : Cause → IsOneOf (status ∷ instead) answer
+
+-- a sink's count rose where the status tells of a failed put, and with no other
+pub record SinkCounted (status before after : ℕ) : Type 0 where
+  pub rose : status ≡ 10 → Rose before after
+  pub stays : status ≢ 10 → after ≡ before
+
+-- the song keeps the limits of the format, and the file is a packed PSID file of the song, played with these options,
+-- for some allowed address and some zero page
+pub record IsPackedPsid (song : Song) (options : Options) (file : List ℕ) : Type 0 where
+  pub keeps : KeepsLimits song
+  pub address : ℕ
+  pub zero_page : ℕ
+  pub place : IsAddress address
+  pub packed : IsPackedFile true address zero_page song options file
+
+-- the words ask for a run of a packed PSID file of the song: of its subtune, counted from 1, with this number of frames
+pub record RunsPacked (words : List (List ℕ)) (files : Files) (song : Song) (options : Options)
+    (subtune frames : ℕ) : Type 0 where
+  pub input : List ℕ
+  pub form : WordsOf words (Run input subtune frames)
+  pub file : List ℕ
+  pub found : file_of files input ≡ Some file
+  pub fits : length file ≤ input_limit
+  pub is_packed : IsPackedPsid song options file
+  pub first : 1 ≤ subtune
+  pub last : subtune ≤ length (playable_subtunes song)

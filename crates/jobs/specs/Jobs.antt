@@ -1,0 +1,118 @@
+-- What belongs to each job: the stages of its run, and what it does where all pass. It is a relation, since the player's
+-- bytes may be chosen.
+use Rattle.std.specs.Prelude.{◌≡◌, ℕ, ◌+◌, ◌-◌, ◌≤◌, List, [], ◌∷◌, Option, Some, None, length}
+use Rattle.goat_io.specs.Files.{Files}
+use Rattle.song_model.specs.declared.songs.Song.{Song}
+use Rattle.song_model.specs.Canonical.{canonical}
+use Rattle.song_model.specs.LookUp.{playable_subtunes}
+use Rattle.song_gen.specs.GeneratedSong.{generated_song}
+use Rattle.usage.specs.declared.parts.UsedParts.{UsedParts}
+use Rattle.usage.specs.Parts.{AreUsedParts}
+use Rattle.psid.specs.declared.header.Psid.{Psid}
+use Rattle.cpu6502.specs.declared.machine.Machine.{Machine}
+use Rattle.sid_run.specs.State.{loaded}
+use Rattle.command_line.specs.Words as asked
+use Rattle.command_line.specs.Words.{Job}
+use Rattle.jobs.specs.Stages.{Stage, IsThere, Fits, SpellsSong, CanBePlayed, HasShortPatterns, HasRoomForImage, HasPlayableSubtune, CanBeEdited, IsPsid, OffersSubtune, CallsReturn, HoldsSong, HoldsPsid, IsEditedIn, input_limit, script_limit}
+use Rattle.jobs.specs.Packed.{IsWrittenFile}
+use Rattle.jobs.specs.Calls.{FirstCalls}
+use Rattle.command_line.specs.RegisterText.{register_lines}
+use Rattle.jobs.specs.Traces.{first_traces}
+use Rattle.jobs.specs.Lines.{wrote_line, check_line, selftest_line}
+use Rattle.jobs.specs.Selftest.{register_sum, TakesSteps}
+
+-- what a job does that passes all its stages: it prints these lines and writes nothing; or it writes such a file under
+-- the name, and prints how many bytes it has
+pub data Deed : Type 1 where
+  PrintsLines : (Files → List (List ℕ) → Type 0) → Deed
+  WritesFile : (output : List ℕ) → (Files → List ℕ → Type 0) → Deed
+
+-- this number of calls, init and then play, return, and there is a line for each
+pub record Shows (psid : Psid) (subtune calls : ℕ) (lines : List (List ℕ)) : Type 0 where
+  pub registers : List (List ℕ)
+  pub after : Machine
+  pub returned : FirstCalls (loaded psid) (subtune - 1) calls registers after
+  pub lines_are : lines ≡ register_lines registers
+
+-- the stages of a job's run, in the order of its refusals; and what it does
+pub record About : Type 1 where
+  pub stages : List Stage
+  pub does : Deed
+
+abbrev pub about : Job → About
+-- of a song a packed file is written, played with these options
+about (asked.Pack input output psid address zero_page options) = record {
+  stages = IsThere input ∷ Fits input input_limit ∷ SpellsSong input ∷ CanBePlayed input ∷ HasShortPatterns input ∷
+      HasRoomForImage input address options ∷ [];
+  does = WritesFile output (λ files file. (song : Song) × HoldsSong files input song ×
+      IsWrittenFile psid address zero_page song options file);
+}
+-- of a song the canonical spelling is written
+about (asked.Copy input output) = record {
+  stages = IsThere input ∷ Fits input input_limit ∷ SpellsSong input ∷ [];
+  does = WritesFile output (λ files file. (song : Song) × HoldsSong files input song × (file ≡ canonical song));
+}
+-- of a song that a script has edited the canonical spelling is written
+about (asked.Edit input script output) = record {
+  stages = IsThere input ∷ Fits input input_limit ∷ SpellsSong input ∷ IsThere script ∷ Fits script script_limit ∷
+      CanBeEdited input script ∷ [];
+  does = WritesFile output (λ files file. (song : Song) × (after : Song) × IsEditedIn files input script song after ×
+      (file ≡ canonical after));
+}
+-- of a song it is told what it uses
+about (asked.Check input) = record {
+  stages = IsThere input ∷ Fits input input_limit ∷ SpellsSong input ∷ CanBePlayed input ∷ [];
+  does = PrintsLines (λ files lines. (song : Song) × (parts : UsedParts) × HoldsSong files input song ×
+      AreUsedParts song parts × (lines ≡ check_line (length (playable_subtunes song)) parts ∷ []));
+}
+-- of a song the calls are shown: its start, and then as many frames, played with these options
+about (asked.Trace input subtune frames options) = record {
+  stages = IsThere input ∷ Fits input input_limit ∷ SpellsSong input ∷ CanBePlayed input ∷
+      HasPlayableSubtune input subtune ∷ [];
+  does = PrintsLines (λ files lines. (song : Song) × HoldsSong files input song ×
+      (lines ≡ register_lines (first_traces options song (subtune - 1) (frames + 1))));
+}
+-- of a PSID file the calls are shown: init, and play as often as there are frames
+about (asked.Run input subtune frames) = record {
+  stages = IsThere input ∷ Fits input input_limit ∷ IsPsid input ∷ OffersSubtune input subtune ∷
+      CallsReturn input subtune frames ∷ [];
+  does = PrintsLines (λ files lines. (psid : Psid) × HoldsPsid files input psid ×
+      Shows psid subtune (frames + 1) lines);
+}
+-- the song of a number is made, traced and packed, and its file is run; no file is read or written
+about (asked.Selftest number) = record {
+  stages = [];
+  does = PrintsLines (λ files lines. (steps : ℕ) × TakesSteps (generated_song number) steps ×
+      (lines ≡ selftest_line number (length (playable_subtunes (generated_song number)))
+      (register_sum (generated_song number)) steps ∷ []));
+}
+
+abbrev pub stages : Job → List Stage
+stages job = (about job).stages
+
+-- the name of the file that is written, if one is
+abbrev pub output_under : Deed → Option (List ℕ)
+output_under (PrintsLines text) = None
+output_under (WritesFile output holds) = Some output
+
+abbrev pub output_of : Job → Option (List ℕ)
+output_of job = output_under (about job).does
+
+-- the bytes are written under the name, and their number is printed
+pub record Writes (output file : List ℕ) (lines : List (List ℕ)) (write : Option (List ℕ × List ℕ)) : Type 0 where
+  pub lines_are : lines ≡ wrote_line (length file) ∷ []
+  pub write_is : write ≡ Some (output, file)
+
+-- it is done with these lines, and this name and these bytes written
+abbrev pub DoneBy : Deed → Files → List (List ℕ) → Option (List ℕ × List ℕ) → Type 0
+DoneBy (PrintsLines text) files lines write = text files lines × (write ≡ None)
+DoneBy (WritesFile output holds) files lines write = (file : List ℕ) × holds files file × Writes output file lines write
+
+abbrev pub Done : Job → Files → List (List ℕ) → Option (List ℕ × List ℕ) → Type 0
+Done job files lines write = DoneBy (about job).does files lines write
+
+-- lines that a stage prints before it is known whether it ends the run: those of the first calls, which have returned
+abbrev pub Prints : Files → Stage → List (List ℕ) → Type 0
+Prints files (CallsReturn name subtune frames) lines =
+    (psid : Psid) × HoldsPsid files name psid × (calls : ℕ) × (calls ≤ frames + 1) × Shows psid subtune calls lines
+Prints files _ lines = ⊥

@@ -1,0 +1,127 @@
+-- What follows from the definitions: a run has one outcome, each status comes exactly where its
+-- cause is, which songs are packed, and a packed file that is run prints its song.
+use Rattle.std.specs.Prelude.{◌≡◌, ◌≢◌, ℕ, ◌+◌, ◌-◌, ◌<◌, ◌≤◌, ◌↔◌, Bool, true, List, Option, None, Ok, length}
+use Rattle.goat_io.specs.Files.{Files}
+use Rattle.song_model.specs.declared.songs.Song.{Song}
+use Rattle.song_model.specs.Limits.{KeepsLimits}
+use Rattle.song_model.specs.LookUp.{playable_subtunes}
+use Rattle.play_model.specs.declared.options.Options.{Options}
+use Rattle.play_model.specs.Playable.{IsPlayable}
+use Rattle.play_model.specs.Features.{AreFeatures}
+use Rattle.packing_rules.specs.UsedSets.{UsedSets, AreUsedSets}
+use Rattle.packed_form.specs.CodeBounds.{code_bound}
+use Rattle.packing_rules.specs.SongSizes.{data_size}
+use Rattle.song_pack.specs.Answers.{AreShort}
+use Rattle.cpu6502.specs.declared.machine.Machine.{Machine}
+use Rattle.sid_run.specs.State.{loaded}
+use Rattle.psid.specs.declared.header.Psid.{Psid}
+use Rattle.psid.specs.Reading.{psid_read}
+use Rattle.command_line.specs.Words.{Job, Pack, Selftest}
+use Rattle.jobs.specs.Calls.{HasSubtune, FirstCalls}
+use Rattle.jobs.specs.Stages.{Stage, CanBePlayed, HasRoomForImage, HoldsSong, status_of, Ends, IsMet, Passes, AllPass, input_limit}
+use Rattle.command_line.specs.Forms.{WordsOf, IsNoForm}
+use Rattle.jobs.specs.Jobs.{stages}
+use Rattle.jobs.specs.Outcome.{Outcome}
+use Rattle.jobs.specs.Due.{IsDue}
+use Rattle.jobs.specs.Stands.{ComesTo}
+use Rattle.jobs.specs.Traces.{first_traces}
+use Rattle.packed_form.specs.ImagePlaces.{IsAddress}
+use Rattle.jobs.specs.Packed.{IsImageLength, IsWrittenFile}
+use Rattle.jobs.specs.Answers.{IsPackedPsid}
+
+-- an outcome's status is due, and one status alone is due
+abbrev pub OutcomesAreDue : Type 0
+OutcomesAreDue = (words : List (List ℕ)) (files : Files) (status : ℕ) (lines : List (List ℕ))
+    (write : Option (List ℕ × List ℕ)) → Outcome words files status lines write →
+    (output : Option (List ℕ)) × IsDue words files status output
+
+abbrev pub OneStatusIsDue : Type 0
+OneStatusIsDue = (words : List (List ℕ)) (files : Files) (status other : ℕ) (output other_output : Option (List ℕ)) →
+    IsDue words files status output → IsDue words files other other_output → (status ≡ other) × (output ≡ other_output)
+
+-- outcomes that write nothing have one text, but for `selftest`, which counts the steps of a player that may be chosen
+abbrev pub OneTextIsPrinted : Type 0
+OneTextIsPrinted = (words : List (List ℕ)) (files : Files) (status other : ℕ) (lines others : List (List ℕ)) →
+    ((number : ℕ) → ¬ WordsOf words (Selftest number)) →
+    Outcome words files status lines None → Outcome words files other others None → lines ≡ others
+
+-- ---- each status and its cause
+
+-- a status is due, with no file written
+abbrev pub IsRefused : List (List ℕ) → Files → ℕ → Type 0
+IsRefused words files status = IsDue words files status None
+
+-- when each status is due: 0 where the words name a job whose stages all pass, 1 where they name none, and each other
+-- one where they name a job that comes to a stage of this status, which ends the run
+pub record StatusesHaveCauses : Type 0 where
+  pub done : (words : List (List ℕ)) (files : Files) →
+      ((output : Option (List ℕ)) × IsDue words files 0 output) ↔
+      ((job : Job) × WordsOf words job × AllPass files (stages job))
+  pub usage : (words : List (List ℕ)) (files : Files) → IsRefused words files 1 ↔ IsNoForm words
+  pub others : (words : List (List ℕ)) (files : Files) (status : ℕ) → status ≢ 0 → status ≢ 1 →
+      IsRefused words files status ↔
+      ((stage : Stage) × (lines : List (List ℕ)) × (status ≡ status_of stage) × ComesTo words files stage ×
+      Ends files stage lines)
+
+-- a stage passes where what it asks for is there
+abbrev pub StagesPass : Type 0
+StagesPass = (files : Files) (stage : Stage) → IsMet files stage → Passes files stage
+
+-- of a song that a file spells, the stage passes exactly where the song can be played
+abbrev pub PlayableSongsPass : Type 0
+PlayableSongsPass = (files : Files) (name : List ℕ) (song : Song) → HoldsSong files name song →
+    Passes files (CanBePlayed name) ↔ IsPlayable song
+
+-- ---- which songs are packed
+
+-- the image of a song is at most as long as the song's data and the bound of a player's code
+abbrev pub ImagesAreBounded : Type 0
+ImagesAreBounded =
+    (song : Song) (options : Options) (used : UsedSets) (features count : ℕ) → IsImageLength song options count →
+    AreUsedSets song used → AreFeatures song features → count ≤ data_size song used + code_bound features options
+
+-- the image of a song is refused only where the song's data and the bound of a player's code pass $D000 too
+abbrev pub OnlyLargeImagesAreRefused : Type 0
+OnlyLargeImagesAreRefused =
+    (files : Files) (name : List ℕ) (address : ℕ) (options : Options) (lines : List (List ℕ)) (song : Song)
+    (used : UsedSets) (features : ℕ) → Ends files (HasRoomForImage name address options) lines →
+    HoldsSong files name song → AreUsedSets song used → AreFeatures song features →
+    0xD000 < address + data_size song used + code_bound features options
+
+-- a file with a song that can be played, with patterns that are short, and small enough for its image at the address
+pub record HoldsSmallSong (files : Files) (name : List ℕ) (address : ℕ) (options : Options) : Type 0 where
+  pub song : Song
+  pub used : UsedSets
+  pub features : ℕ
+  pub holds : HoldsSong files name song
+  pub fits : length holds.bytes ≤ input_limit
+  pub playable : IsPlayable song
+  pub are_used : AreUsedSets song used
+  pub are_features : AreFeatures song features
+  pub short : AreShort song used
+  pub room : address + data_size song used + code_bound features options ≤ 0xD000
+
+-- it is packed: all stages pass
+abbrev pub SmallSongsArePacked : Type 0
+SmallSongsArePacked =
+    (files : Files) (input output : List ℕ) (psid : Bool) (address zero_page : ℕ) (options : Options) →
+    HoldsSmallSong files input address options →
+    AllPass files (stages (Pack input output psid address zero_page options))
+
+-- ---- packed files
+
+-- a PSID file that `pack` writes for an allowed address is a packed PSID file of its song
+abbrev pub WrittenFilesArePacked : Type 0
+WrittenFilesArePacked =
+    (song : Song) (options : Options) (address zero_page : ℕ) (file : List ℕ) → KeepsLimits song → IsAddress address →
+    IsWrittenFile true address zero_page song options file → IsPackedPsid song options file
+
+-- a packed PSID file is read, has the subtune, and its calls return with the registers of the subtune's trace, for any
+-- number of frames
+abbrev pub PackedFilesPlay : Type 0
+PackedFilesPlay =
+    (song : Song) (options : Options) (file : List ℕ) (subtune frames : ℕ) → IsPackedPsid song options file →
+    1 ≤ subtune →
+    subtune ≤ length (playable_subtunes song) →
+    (psid : Psid) × (psid_read file ≡ Ok psid) × HasSubtune psid subtune × (after : Machine) ×
+    FirstCalls (loaded psid) (subtune - 1) (frames + 1) (first_traces options song (subtune - 1) (frames + 1)) after

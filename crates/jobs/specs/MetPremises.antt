@@ -1,0 +1,51 @@
+-- What the clauses on statuses, packing and running ask for: each status but those of failing devices and of running out
+-- of memory is ordinary; a small song that a file spells is asked for no more; a packed file is never too long to be run.
+use Rattle.std.specs.Prelude.{◌≡◌, ◌≢◌, ℕ, ◌+◌, ◌≤◌, Bool, List, Some, length}
+use Rattle.goat_io.specs.Files.{Files, file_of}
+use Rattle.song_model.specs.declared.songs.Song.{Song}
+use Rattle.song_model.specs.LookUp.{playable_subtunes}
+use Rattle.play_model.specs.declared.options.Options.{Options}
+use Rattle.play_model.specs.Playable.{IsPlayable}
+use Rattle.play_model.specs.Features.{AreFeatures}
+use Rattle.packing_rules.specs.UsedSets.{UsedSets, AreUsedSets}
+use Rattle.packed_form.specs.CodeBounds.{code_bound}
+use Rattle.packing_rules.specs.SongSizes.{data_size}
+use Rattle.song_pack.specs.Answers.{AreShort}
+use Rattle.command_line.specs.Words.{Pack, Run}
+use Rattle.command_line.specs.Forms.{WordsOf}
+use Rattle.jobs.specs.Stages.{HoldsSong, AllPass, input_limit}
+use Rattle.jobs.specs.Jobs.{stages}
+use Rattle.jobs.specs.Answers.{IsOrdinary, IsPrinted, IsBeforeWriting, IsPackedPsid, RunsPacked}
+
+-- 0 and each other status but 4, 9, 10 and 14 is ordinary, all lines are printed with each but 10 and 14, and nothing is
+-- written with each but 0, 9, 10 and 14
+pub record StatusesAreOrdinary : Type 0 where
+  pub done : IsOrdinary 0
+  pub done_printed : IsPrinted 0
+  pub ordinary : (status : ℕ) → status ≢ 4 → status ≢ 9 → status ≢ 10 → status ≢ 14 → IsOrdinary status
+  pub printed : (status : ℕ) → status ≢ 10 → status ≢ 14 → IsPrinted status
+  pub before_writing : (status : ℕ) → status ≢ 0 → status ≢ 9 → status ≢ 10 → status ≢ 14 → IsBeforeWriting status
+  pub read_fault : ¬ IsOrdinary 4
+  pub write_fault : ¬ IsOrdinary 9
+  pub unprinted : ¬ IsOrdinary 10
+  pub no_memory : ¬ IsOrdinary 14
+  pub sink_fault : ¬ IsPrinted 10
+  pub want : ¬ IsPrinted 14
+  pub written : ¬ IsBeforeWriting 0
+
+-- a song is packed where each of these holds of it and of its file
+abbrev pub FittingSongsArePacked : Type 0
+FittingSongsArePacked =
+    (files : Files) (input output : List ℕ) (psid : Bool) (address zero_page : ℕ) (options : Options) (song : Song)
+    (used : UsedSets) (features : ℕ) → (holds : HoldsSong files input song) → length holds.bytes ≤ input_limit →
+    IsPlayable song → AreUsedSets song used → AreFeatures song features → AreShort song used →
+    address + data_size song used + code_bound features options ≤ 0xD000 →
+    AllPass files (stages (Pack input output psid address zero_page options))
+
+-- a packed PSID file under the name that the words have is one that they run: no such file is too long
+abbrev pub PackedFilesAreRun : Type 0
+PackedFilesAreRun =
+    (words : List (List ℕ)) (files : Files) (song : Song) (options : Options) (input file : List ℕ)
+    (subtune frames : ℕ) → WordsOf words (Run input subtune frames) → file_of files input ≡ Some file →
+    IsPackedPsid song options file → 1 ≤ subtune → subtune ≤ length (playable_subtunes song) →
+    RunsPacked words files song options subtune frames

@@ -1,0 +1,86 @@
+-- Lines, limits and headers that are worked by hand.
+use Rattle.std.specs.Prelude.{◌≡◌, [], ◌∷◌, codes, false}
+use Rattle.song_model.specs.declared.songs.Song.{Song}
+use Rattle.song_model.specs.declared.tables.TableName.TheVariants.{Wave, Filter}
+use Rattle.play_model.specs.declared.options.Options.{Options}
+use Rattle.play_model.specs.declared.unplayable.Unplayable.TheVariants.{NoSubtune, MissingPattern, BadRestart, TableOverflow, PointerToJump}
+use Rattle.gts5.specs.declared.faults.SongFault.TheVariants as song
+use Rattle.psid.specs.declared.faults.PsidFault.TheVariants as psid
+use Rattle.cpu6502.specs.declared.stop.Stop.TheVariants.{Illegal, Break, Decimal}
+use Rattle.cpu6502.specs.declared.stop.CallStop.TheVariants.{Stopped, Budget}
+use Rattle.command_line.specs.Lines.{usage_line, no_memory_line}
+use Rattle.command_line.specs.Words.{frame_limit, subtune_limit, song_number_limit}
+use Rattle.code_lengths.specs.WorkedLengths.{plain}
+use Rattle.jobs.specs.Lines.{missing_line, too_long_line, read_fault_line, write_fault_line, wrote_line, song_fault_line}
+use Rattle.jobs.specs.Lines.{psid_fault_line, no_subtune_line, stop_line, unplayable_line, too_large_line}
+use Rattle.jobs.specs.Lines.{image_too_large_line, script_line, selftest_line}
+use Rattle.jobs.specs.Packed.{raw_file, song_header}
+use Rattle.jobs.specs.Selftest.{selftest_calls}
+use Rattle.jobs.specs.Stages.{input_limit, script_limit}
+
+-- one line of each kind
+pub record LinesAreWorked : Type 0 where
+  pub usage : usage_line ≡ codes "usage: goat check|trace|pack|run|edit|copy|selftest\n"
+  pub missing : missing_line (codes "a.sng") ≡ codes "missing: a.sng\n"
+  pub too_long : too_long_line (codes "a.sng") ≡ codes "too long: a.sng\n"
+  pub read_fault : read_fault_line (codes "a.sng") ≡ codes "read fault: a.sng\n"
+  pub write_fault : write_fault_line (codes "b.sid") ≡ codes "write fault: b.sid\n"
+  pub wrote : wrote_line 1283 ≡ codes "wrote 1283 bytes\n"
+  pub script : script_line 12 (codes "no such place") ≡ codes "script line 12: no such place\n"
+  pub no_subtune : no_subtune_line 3 2 ≡ codes "no such subtune: 3 of 2\n"
+  pub no_memory : no_memory_line ≡ codes "no memory\n"
+  pub selftest : selftest_line 0 8 0x00431937 817435
+      ≡ codes "selftest 0: 8 subtunes, 300 frames, sum 00431937, 817435 steps\n"
+
+-- one for each way in which a file is no song, or no PSID file
+pub record FaultsAreWorked : Type 0 where
+  pub not_gts5 : song_fault_line song.NotGts5 ≡ codes "not a song: bad magic\n"
+  pub cut : song_fault_line (song.Truncated 100) ≡ codes "not a song: truncated at 100\n"
+  pub over : song_fault_line (song.OutOfLimit 100) ≡ codes "not a song: over limit at 100\n"
+  pub order : song_fault_line (song.BadOrder 104) ≡ codes "not a song: bad order at 104\n"
+  pub row : song_fault_line (song.BadRow 300) ≡ codes "not a song: bad row at 300\n"
+  pub not_psid : psid_fault_line psid.NotPsid ≡ codes "not a PSID: bad magic\n"
+  pub psid_cut : psid_fault_line psid.Truncated ≡ codes "not a PSID: truncated\n"
+  pub unsupported : psid_fault_line psid.Unsupported ≡ codes "not a PSID: unsupported\n"
+  pub bad_field : psid_fault_line psid.BadField ≡ codes "not a PSID: bad field\n"
+
+-- one for each way in which a song can't be played or packed, or a call doesn't return
+pub record RefusalsAreWorked : Type 0 where
+  pub none : unplayable_line NoSubtune ≡ codes "unplayable: no subtune\n"
+  pub pattern : unplayable_line (MissingPattern 1 2 3 4)
+      ≡ codes "unplayable: missing pattern 4 in subtune 1 channel 2 place 3\n"
+  pub restart : unplayable_line (BadRestart 1 3) ≡ codes "unplayable: bad restart in subtune 1 channel 3\n"
+  pub row : unplayable_line (TableOverflow Wave 9) ≡ codes "unplayable: wave table ends before row 9\n"
+  pub jump : unplayable_line (PointerToJump Filter 2) ≡ codes "unplayable: filter pointer to jump row 2\n"
+  pub text : too_large_line 7 260 ≡ codes "too large: pattern 7 packs to 260 bytes\n"
+  pub image : image_too_large_line 50000 ≡ codes "too large: image of 50000 bytes\n"
+  pub at_illegal : stop_line (Stopped (Illegal 0x1003)) 0 ≡ codes "machine stopped: illegal at $1003 in call 0\n"
+  pub at_break : stop_line (Stopped (Break 0x0A0B)) 1 ≡ codes "machine stopped: break at $0A0B in call 1\n"
+  pub at_decimal : stop_line (Stopped (Decimal 0x1003)) 2 ≡ codes "machine stopped: decimal at $1003 in call 2\n"
+  pub budget : stop_line Budget 3 ≡ codes "machine stopped: no return in call 3\n"
+
+-- the limits in numbers
+pub record LimitsAreWorked : Type 0 where
+  pub input : input_limit ≡ 262144
+  pub script : script_limit ≡ 1048576
+  pub frames : frame_limit ≡ 100000
+  pub subtune : subtune_limit ≡ 255
+  pub number : song_number_limit ≡ 18446744073709551615
+  pub calls : selftest_calls ≡ 301
+
+-- nothing left out, twice a picture
+abbrev pub twice : Options
+twice = record { skip_effects = false; skip_pulse = false; speed = 2 }
+
+-- of each song: its texts in their places, play three bytes after init, and by the timer where it is played twice
+pub record HeadersAreWorked : Type 0 where
+  pub name : (s : Song) → (song_header s 0x1000 plain).name ≡ s.name
+  pub author : (s : Song) → (song_header s 0x1000 plain).author ≡ s.author
+  pub released : (s : Song) → (song_header s 0x1000 plain).released ≡ s.copyright
+  pub init : (s : Song) → (song_header s 0x1000 plain).init ≡ 0x1000
+  pub play : (s : Song) → (song_header s 0x1000 plain).play ≡ 0x1003
+  pub first : (s : Song) → (song_header s 0x1000 plain).start_song ≡ 1
+  pub by_picture : (s : Song) → (song_header s 0x1000 plain).speed ≡ 0
+  pub by_timer : (s : Song) → (song_header s 0x1000 twice).speed ≡ 0xFFFFFFFF
+  pub flags : (s : Song) → (song_header s 0x1000 plain).flags ≡ 0x0014
+  pub raw : raw_file 0x1000 (1 ∷ 2 ∷ []) ≡ 0x00 ∷ 0x10 ∷ 1 ∷ 2 ∷ []

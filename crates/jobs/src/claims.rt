@@ -1,0 +1,58 @@
+//! Facts about the definitions, each the contract of a function that does nothing.
+
+ghost use Rattle.jobs.specs.Laws.{OutcomesAreDue, OneStatusIsDue, OneTextIsPrinted, StagesPass, PlayableSongsPass, StatusesHaveCauses, OnlyLargeImagesAreRefused, SmallSongsArePacked, ImagesAreBounded, WrittenFilesArePacked, PackedFilesPlay};
+ghost use Rattle.jobs.specs.MetPremises.{StatusesAreOrdinary, FittingSongsArePacked, PackedFilesAreRun};
+ghost use Rattle.jobs.specs.WorkedLines.{LinesAreWorked, FaultsAreWorked, RefusalsAreWorked, LimitsAreWorked, HeadersAreWorked};
+
+/// A run has one outcome at most: one status and one name to write under, and, where nothing is written, one text.
+pub fn runs_have_one_outcome()
+    ensures due { OutcomesAreDue }
+    ensures status { OneStatusIsDue }
+    ensures text { OneTextIsPrinted }
+{}
+
+/// A stage passes where what it asks for is there.
+pub fn stages_pass()
+    ensures { StagesPass }
+{}
+
+/// A song that a file spells can be played exactly where the stage that asks for it passes.
+pub fn playable_songs_pass()
+    ensures { PlayableSongsPass }
+{}
+
+/// Each status comes of its own cause, and of no other.
+pub fn statuses_have_causes()
+    ensures { StatusesHaveCauses }
+{}
+
+/// A song that can be played is packed where no text of a used pattern is too long and its data and the bound of its
+/// player end at or below `$D000`; for an image no song is refused else, and no image is longer than these.
+pub fn small_songs_are_packed()
+    ensures bounded { ImagesAreBounded }
+    ensures images { OnlyLargeImagesAreRefused }
+    ensures songs { SmallSongsArePacked }
+{}
+
+/// A PSID file that is written is a packed one; all calls of such a file return, with the registers of the song's trace.
+pub fn packed_files_play_their_song()
+    ensures written { WrittenFilesArePacked }
+    ensures play { PackedFilesPlay }
+{}
+
+/// What the clauses on statuses, packing and running ask for: which statuses are ordinary, that a small song is asked for
+/// no more than fits it, and that a packed file is never too long.
+pub fn premises_are_met()
+    ensures statuses { StatusesAreOrdinary }
+    ensures packed { FittingSongsArePacked }
+    ensures run { PackedFilesAreRun }
+{}
+
+/// A line of each kind, each limit in numbers, and what the header of a packed PSID file says of each song, worked by hand.
+pub fn worked_lines()
+    ensures lines { LinesAreWorked }
+    ensures faults { FaultsAreWorked }
+    ensures refusals { RefusalsAreWorked }
+    ensures limits { LimitsAreWorked }
+    ensures headers { HeadersAreWorked }
+{}
