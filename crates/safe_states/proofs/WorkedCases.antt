@@ -1,10 +1,10 @@
 -- What frames of small songs use, and what they don't.
-use Rattle.std.proofs.Common.{◌≡◌, ◌≢◌, ℕ, zero, suc, ◌+◌, ◌<◌, ◌≤◌, true, false, [], ◌∷◌, Contains, replicate, lit<, lit≤, inl, inr, refl, sym, ap, ◌∙◌, arith}
+use Rattle.std.proofs.Common.{◌≡◌, ◌≢◌, ℕ, zero, suc, ◌+◌, ◌<◌, ◌≤◌, true, false, [], ◌∷◌, Contains, replicate, lit<, lit≤, inl, inr, refl, sym, ap, ◌∙◌, subst, arith}
 use Rattle.std.specs.Prelude.{◌&&◌, ◌==◌}
-use Rattle.std.proofs.lemmas.List.Elements.{All-replicate, All-contains}
+use Rattle.std.proofs.lemmas.List.Elements.{All-cons, All-replicate, All-contains}
 use Rattle.song_model.specs.declared.orders.Subtune.{Subtune}
 use Rattle.song_model.specs.declared.tables.TableRow.{TableRow}
-use Rattle.song_model.specs.declared.tables.TableName.TheVariants.{Wave}
+use Rattle.song_model.specs.declared.tables.TableName.TheVariants.{Wave, Speed}
 use Rattle.song_model.specs.Walk.{prefix_of, cycle_of, played}
 use Rattle.song_model.specs.LookUp.{order_of, playable_subtune, instrument_at, table_row, pattern_at}
 use Rattle.play_model.specs.declared.options.Options.{Options}
@@ -23,7 +23,7 @@ use Rattle.play_model.specs.Frame.{effect_done, subtune_at, voice_step, voice_re
 use Rattle.play_model.specs.Used.{IsChannel}
 use Rattle.play_model.specs.Uses.{Turn, turn_of, InATurn, DoesRow, DoesOnce, HasOrderByte, HasWaveProgram, MeetsWaveCommand, DoesWave, DoesEffect, DoesRunning, MeetsVibrato, HasPulseProgram, Slides, AsksSpeed, for_slide, for_vibrato, AsksFunkTempo, by_values, by_tempo, by_length}
 use Rattle.play_model.specs.WorkedSongs.{sides}
-use Rattle.safe_states.specs.WorkedCases.{command_song, late_restart, ProgramsAreUsed, SlidesAreUsed, VibratosAreUsed, CommandsAreUsed, FiltersAreUsed, SpeedsAreUsed, TemposAreUsed, WaveCommandsAreUsed, VoicesAreUsed, OrdersAreUsed, CasesAreAsWorked}
+use Rattle.safe_states.specs.WorkedCases.{command_song, late_subtune, ProgramsAreUsed, SlidesAreUsed, VibratosAreUsed, CommandsAreUsed, FiltersAreUsed, SpeedsAreUsed, TemposAreUsed, WaveCommandsAreUsed, VoicesAreUsed, OrdersAreUsed, CasesAreAsWorked}
 
 abbrev Same : ℕ → ℕ → Type 0
 Same m n = m ≡ n
@@ -192,6 +192,16 @@ no_speed turn d none other delayed (for_slide command from to (inl wave)) =
 no_speed turn d none other delayed (for_slide command from to (inr running)) =
     (let is = running_is turn command d running in let no : Same 0 command = sym other ∙ is in omega arith)
 no_speed turn d none other delayed (for_vibrato meets) = delayed (delay_is turn d 1 meets)
+
+-- a speed that is asked for is that of the effect's parameter
+asked_is : (turn : Turn) (p d : ℕ) → (ticked turn).playing.voice.wave_ptr ≡ 0 →
+    (waved turn).playing.voice.param ≡ p → AsksSpeed turn d → p ≡ d
+asked_is turn p d none is (for_slide command from to (inl wave)) =
+    absurd (no_wave turn wave.meets.p none wave.meets.program)
+asked_is turn p d none is (for_slide command from to (inr running)) =
+    sym is ∙ ap (λ (v : Voice). v.param) (effect_voice turn (running.v, running.effect)) ∙ running.param_is
+asked_is turn p d none is (for_vibrato meets) =
+    sym is ∙ ap (λ (v : Voice). v.param) (effect_voice turn (meets.v, meets.effect)) ∙ meets.param_is
 
 -- no funk tempo, where the row has no command, where it has $F with another parameter, where the tick is between the
 -- two, and where another tempo is loaded
@@ -380,6 +390,14 @@ filters_lem : FiltersAreUsed
 unfolding prefix_of cycle_of played playable_subtune instrument_at table_row pattern_at freq half_tone slide next_row porta_up porta_down tone vibrato do_command filter_step between_rows note_started row_command at_row tick_step wave_command wave_step effect_step pulse_step fetch_row voice_step voice_registers filter_registers frame_of state_after_with
 filters_lem = record { begun = λ h. h refl; met = λ e. omega arith }
 
+-- the speed of the commands' song is no half tone
+own_speed : (d : ℕ) → 1 ≡ d → 0x80 ≤ ((look_ups_of (command_song 1 1)).row Speed d).left → ⊥
+unfolding table_row
+own_speed d e high =
+    let low : 0x80 ≤ 0x10 =
+    subst (λ n. 0x80 ≤ ((look_ups_of (command_song 1 1)).row Speed n).left) (sym e) high in
+    omega arith
+
 speeds_lem : SpeedsAreUsed
 unfolding prefix_of cycle_of played playable_subtune instrument_at table_row pattern_at freq half_tone slide next_row porta_up porta_down tone vibrato do_command filter_step between_rows note_started row_command at_row tick_step wave_command wave_step effect_step pulse_step fetch_row voice_step voice_registers filter_registers frame_of state_after_with
 speeds_lem = record {
@@ -388,12 +406,24 @@ speeds_lem = record {
     for_slide 1 (lit≤ tt) (lit≤ tt) (inr (does_running _ 1 (does_effect _ refl refl refl) refl)),
     lit≤ tt,
   );
+  down = in_first (
+    1,
+    for_slide 2 (lit≤ tt) (lit≤ tt) (inr (does_running _ 2 (does_effect _ refl refl refl) refl)),
+    lit≤ tt,
+  );
+  tone = in_first (
+    1,
+    for_slide 3 (lit≤ tt) (lit≤ tt) (inr (does_running _ 3 (does_effect _ refl refl refl) refl)),
+    lit≤ tt,
+  );
   vibrato = in_first (
     1,
     for_slide 4 (lit≤ tt) (lit≤ tt) (inr (does_running _ 4 (does_effect _ refl refl refl) refl)),
     lit≤ tt,
   );
   ad = in_no_turn (λ w. no_speed _ w.0 refl refl (λ e. omega arith) w.1)
+      (λ w. no_speed _ w.0 refl refl (λ e. omega arith) w.1) (λ w. no_speed _ w.0 refl refl (λ e. omega arith) w.1);
+  fixed = in_no_turn (λ w. own_speed w.0 (asked_is _ 1 w.0 refl refl w.1) w.2)
       (λ w. no_speed _ w.0 refl refl (λ e. omega arith) w.1) (λ w. no_speed _ w.0 refl refl (λ e. omega arith) w.1);
 }
 
@@ -462,15 +492,15 @@ one_is byte (zero, inside, is) = (let e : Same 1 byte = is in omega arith)
 one_is byte (suc k, inside, is) = absurd (omega arith)
 
 -- no entry of the orderlists is a repeat or a transpose
-plays_only : (channel byte : ℕ) → IsChannel channel →
-    Contains (order_of channel (subtune_at late_restart 0)).entries byte → byte < 0xD0
-unfolding playable_subtune
-plays_only zero byte is has = absurd (let least = is.first in omega arith)
-plays_only (suc zero) byte is has =
-    All-contains (λ b. b < 0xD0) (replicate 225 0) byte (All-replicate (λ b. b < 0xD0) 225 0 (lit< tt)) has
-plays_only (suc (suc zero)) byte is has = one_is byte has
-plays_only (suc (suc (suc zero))) byte is has = one_is byte has
-plays_only (suc (suc (suc (suc channel)))) byte is has = absurd (let most = is.last in omega arith)
+plays_only : (restart channel byte : ℕ) → IsChannel channel →
+    Contains (order_of channel (late_subtune restart)).entries byte → byte < 0xD0
+plays_only restart zero byte is has = absurd (let least = is.first in omega arith)
+plays_only restart (suc zero) byte is has =
+    All-contains (λ b. b < 0xD0) (0 ∷ replicate restart 0) byte
+    (All-cons (λ b. b < 0xD0) 0 (replicate restart 0) (lit< tt) (All-replicate (λ b. b < 0xD0) restart 0 (lit< tt))) has
+plays_only restart (suc (suc zero)) byte is has = one_is byte has
+plays_only restart (suc (suc (suc zero))) byte is has = one_is byte has
+plays_only restart (suc (suc (suc (suc channel)))) byte is has = absurd (let most = is.last in omega arith)
 
 orders_lem : OrdersAreUsed
 unfolding playable_subtune
@@ -479,8 +509,10 @@ orders_lem = record {
   most_repeat = has_byte 2 0xDF second (0, lit< tt, refl) (lit≤ tt) (lit≤ tt);
   least_transpose = has_byte 3 0xE0 third (0, lit< tt, refl) (lit≤ tt) (lit≤ tt);
   most_transpose = has_byte 1 0xFE first (0, lit< tt, refl) (lit≤ tt) (lit≤ tt);
-  no_repeat = λ h. (let small = plays_only h.channel h.byte h.is_channel h.entry in let low = h.low in omega arith);
-  no_transpose = λ h. (let small = plays_only h.channel h.byte h.is_channel h.entry in let low = h.low in omega arith);
+  no_repeat =
+      λ h. (let small = plays_only 0xD0 h.channel h.byte h.is_channel h.entry in let low = h.low in omega arith);
+  no_transpose =
+      λ h. (let small = plays_only 0xE0 h.channel h.byte h.is_channel h.entry in let low = h.low in omega arith);
 }
 
 pub cases_are_as_worked_lem : CasesAreAsWorked

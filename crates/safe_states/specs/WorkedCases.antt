@@ -2,6 +2,7 @@
 use Rattle.std.specs.Prelude.{ℕ, List, [], ◌∷◌, ◌++◌, true, false, replicate}
 use Rattle.song_model.specs.declared.features.Feature.{Feature}
 use Rattle.song_model.specs.declared.features.Feature.TheVariants.{Transpose, Repeat, PortaUp, PortaDown, TonePorta, TieNote, Vibrato, InstrumentVibrato, NoteDependent, SetAd, SetSr, SetWave, SetWavePointer, PulseTable, SetPulsePointer, FilterTable, SetFilterPointer, FilterControl, Cutoff, Volume, FunkTempo, SetTempo, WaveTable, WaveCommand}
+use Rattle.song_model.specs.declared.orders.Subtune.{Subtune}
 use Rattle.song_model.specs.declared.songs.Song.{Song}
 use Rattle.play_model.specs.declared.options.Options.{Options}
 use Rattle.play_model.specs.State.{no_options}
@@ -88,11 +89,14 @@ pub record FiltersAreUsed : Type 0 where
 abbrev pub by_note_song : ℕ → Song
 by_note_song command = record (command_song command 1) { speed = sides 0x80 4 ∷ [] }
 
--- the commands 1 to 4 ask for a speed, and 5 doesn't
+-- the commands 1 to 4 ask for a speed, and 5 doesn't; and a speed below $8000 doesn't depend on the note
 pub record SpeedsAreUsed : Type 0 where
   pub up : FrameUses (by_note_song 1) 6 NoteDependent
+  pub down : FrameUses (by_note_song 2) 6 NoteDependent
+  pub tone : FrameUses (by_note_song 3) 6 NoteDependent
   pub vibrato : FrameUses (by_note_song 4) 6 NoteDependent
   pub ad : ¬ FrameUses (by_note_song 5) 6 NoteDependent
+  pub fixed : ¬ FrameUses (command_song 1 1) 6 NoteDependent
 
 -- a row with command $F
 abbrev pub tempo_song : ℕ → Song
@@ -156,25 +160,26 @@ pub record VoicesAreUsed : Type 0 where
   pub second : FrameUses (with_orders (1 ∷ []) (0 ∷ []) (1 ∷ [])) 7 WaveTable
   pub third : FrameUses (with_orders (1 ∷ []) (1 ∷ []) (0 ∷ [])) 7 WaveTable
 
--- the note's song with a restart position that has the number of a transpose
-abbrev pub late_restart : Song
-late_restart = record one_note {
-  subtunes =
-      (record {
-        one = record { entries = replicate 225 0; restart = 224 };
-        two = order (1 ∷ []);
-        three = order (1 ∷ []);
-      }) ∷ [];
+-- the note's song with this restart position, which is the place of an orderlist's last entry
+abbrev pub late_subtune : ℕ → Subtune
+late_subtune restart = record {
+  one = record { entries = 0 ∷ replicate restart 0; restart = restart };
+  two = order (1 ∷ []);
+  three = order (1 ∷ []);
 }
 
--- repeats and transposes of a subtune are used in each of its frames, but a restart position is neither
+abbrev pub late_restart : ℕ → Song
+late_restart restart = record one_note { subtunes = late_subtune restart ∷ [] }
+
+-- repeats and transposes of a subtune are used in each of its frames; a restart position that has the number of one is
+-- neither
 pub record OrdersAreUsed : Type 0 where
   pub least_repeat : FrameUses (with_orders (0xD0 ∷ 0 ∷ []) (1 ∷ []) (1 ∷ [])) 3 Repeat
   pub most_repeat : FrameUses (with_orders (1 ∷ []) (0xDF ∷ 0 ∷ []) (1 ∷ [])) 3 Repeat
   pub least_transpose : FrameUses (with_orders (1 ∷ []) (1 ∷ []) (0xE0 ∷ 0 ∷ [])) 3 Transpose
   pub most_transpose : FrameUses (with_orders (0xFE ∷ 0 ∷ []) (1 ∷ []) (1 ∷ [])) 3 Transpose
-  pub no_repeat : ¬ FrameUses late_restart 3 Repeat
-  pub no_transpose : ¬ FrameUses late_restart 3 Transpose
+  pub no_repeat : ¬ FrameUses (late_restart 0xD0) 3 Repeat
+  pub no_transpose : ¬ FrameUses (late_restart 0xE0) 3 Transpose
 
 pub record CasesAreAsWorked : Type 0 where
   pub programs : ProgramsAreUsed
