@@ -5,4 +5,10 @@ mod FreeCalls
 mod WorkedPlaces
 mod WorkedMachines
 mod LoadedCalls
+-- Small images, which are worked: their routines, their calls, the silent song, those that play it, and others.
+mod Waiting
+mod Routines
+mod SmallImages
+mod SilentFrames
+mod RightImages
 mod WorkedImages

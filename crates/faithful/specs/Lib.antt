@@ -8,4 +8,5 @@ pub mod Isolation
 pub mod Laws
 pub mod WorkedPlaces
 pub mod WorkedMachines
+pub mod Routines
 pub mod WorkedImages

@@ -3,7 +3,7 @@
 ghost use Rattle.faithful.specs.Laws.{AlwaysIsFaithful, OwnPlacesAreFew, CallsStoreAtHome, FirstPlaysAreFree, InitsEndAlike, PlaysEndAlike};
 ghost use Rattle.faithful.specs.WorkedPlaces.{PlacesAreWorked, CallsAreCounted};
 ghost use Rattle.faithful.specs.WorkedMachines.{TimersAreTold, ChangesAreTold, PairsAreTold};
-ghost use Rattle.faithful.specs.WorkedImages.{RightCallsLeave, RegistersAreTold, StoresAreTold, TimerBytesAreTold, DependencesAreTold};
+ghost use Rattle.faithful.specs.WorkedImages.{RightImagesPlay, RegistersAreTold, StepsAreTold, StoresAreTold, TimerBytesAreTold, DependencesAreTold};
 
 /// An image that plays a song after any calls plays it after init and any number of plays.
 pub fn what_plays_always_is_faithful()
@@ -46,12 +46,13 @@ pub fn worked_machines()
     ensures pairs { PairsAreTold }
 {}
 
-/// A small image whose first two calls leave what they should; and images beside it that play no song, each for one
-/// reason: a register, a place, the timer, or what a call depends on.
-#[tactic(auto, using(crate::proofs::WorkedImages::right_calls_leave, crate::proofs::WorkedImages::registers_are_told, crate::proofs::WorkedImages::stores_are_told, crate::proofs::WorkedImages::timer_bytes_are_told, crate::proofs::WorkedImages::dependences_are_told))]
+/// Small images that play the silent song, at the speeds 1 and 2, whatever else is in memory; and images beside them, each
+/// with one thing that is wrong: a register, the steps, a place, the timer, or what a call depends on.
+#[tactic(auto, using(crate::proofs::WorkedImages::right_images_play, crate::proofs::WorkedImages::registers_are_told, crate::proofs::WorkedImages::steps_are_told, crate::proofs::WorkedImages::stores_are_told, crate::proofs::WorkedImages::timer_bytes_are_told, crate::proofs::WorkedImages::dependences_are_told))]
 pub fn worked_images()
-    ensures right { RightCallsLeave }
+    ensures right { RightImagesPlay }
     ensures registers { RegistersAreTold }
+    ensures steps { StepsAreTold }
     ensures stores { StoresAreTold }
     ensures timers { TimerBytesAreTold }
     ensures dependences { DependencesAreTold }
