@@ -13,7 +13,7 @@ use Rattle.lowering.specs.Counting.{run_of}
 use Rattle.lowering.specs.Lowered.{low_at, layout_at}
 use Rattle.lowering.proofs.Laws.{run_most}
 use Rattle.block_calls.specs.Entrances.{Entrance, around, HasCode, IsWellEntered, entrance_desk, MayStore, AsNumber}
-use Rattle.block_calls.specs.EntranceLaws.{Returns, EntrancesReturn}
+use Rattle.block_calls.specs.EntranceLaws.{Returns, EntrancesReturn, CallsAreShort}
 use Rattle.block_calls.proofs.Spans.{Spans, spans_of}
 use Rattle.block_calls.proofs.Places.{may_below}
 use Rattle.block_calls.proofs.Carrying.{code_within, code_carried}
@@ -97,3 +97,6 @@ entrances_return e machine number well size few has =
     (call_returns (MayStore e) (record { below = λ q may. may_below e q well may }) machine e.entry number
     (around e.stored + run_of (layout_at e.site) e.site.tree 0 (entrance_desk e machine number))
     (returned machine.cpu.sp ends.meant.after) size (call_leads e machine number well code ends) refl refl)
+
+pub calls_are_short : CallsAreShort
+calls_are_short e machine number r = r.most

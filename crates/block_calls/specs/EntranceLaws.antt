@@ -33,6 +33,11 @@ EntrancesReturn =
     (e : Entrance) (machine : Machine) (number : ℕ) → IsWellEntered e → length machine.memory ≡ MEMORY_SIZE →
     machine.cpu.sp < 256 → HasCode e (slice_index machine.memory) → Returns e machine number
 
+-- the steps of a call are at most 4 more than the block's weight
+abbrev pub CallsAreShort : Type 0
+CallsAreShort =
+    (e : Entrance) (machine : Machine) (number : ℕ) → (r : Returns e machine number) → r.steps ≤ weight e.site.tree + 4
+
 -- two calls take the same number of steps, and leave the same bytes in the listing
 pub record AreAlike (e : Entrance) (one two : Machine) (number other : ℕ) (a : Returns e one number)
     (b : Returns e two other) : Type 0 where

@@ -1,7 +1,7 @@
 -- Entrances that are worked by hand at $1000: one to a block that sets the volume to 15, and one to a block that sets it
 -- to the number of the call, which is stored. Their code can stand, so what the law on entrances asks can be met. Source:
 -- the MOS 6502 programming manual.
-use Rattle.std.specs.Prelude.{◌≡◌, ℕ, ◌<◌, Bool, false, nat_eq, List, [], ◌∷◌, Some, None, length, slice_index}
+use Rattle.std.specs.Prelude.{◌≡◌, ℕ, ◌+◌, ◌<◌, Bool, false, nat_eq, List, [], ◌∷◌, Some, None, length, slice_index}
 use Rattle.cpu6502.specs.declared.machine.Machine.{Machine}
 use Rattle.cpu6502.specs.declared.memory.TheConstants.{MEMORY_SIZE}
 use Rattle.cpu6502.specs.declared.mnemonic.Mnemonic.TheVariants.{Cld, Jmp, Rts, Sta}
@@ -13,6 +13,7 @@ use Rattle.asm6502.specs.declared.lines.Operand.TheVariants.{Number, Label}
 use Rattle.asm6502.specs.Assembly.{assembled_bytes}
 use Rattle.blocks.specs.declared.steps.Place.TheVariants.{Register}
 use Rattle.blocks.specs.declared.steps.Step.TheVariants.{Store}
+use Rattle.blocks.specs.Sizes.{weight}
 use Rattle.blocks.specs.Trees.{Tree, ChainTree}
 use Rattle.blocks.specs.WorkedBlocks.{load_byte, loud}
 use Rattle.lowering.specs.Instructions.{bare, code, name}
@@ -80,3 +81,7 @@ volume_code =
 -- six steps, and the volume is the number
 abbrev pub VolumeIsCalled : Type 0
 VolumeIsCalled = IsCalledSo volume_entrance volume_code 6 (λ number. number)
+
+-- they are as many as such a call may take
+abbrev pub VolumeTakesMost : Type 0
+VolumeTakesMost = weight volume_block + 4 ≡ 6

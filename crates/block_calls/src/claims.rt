@@ -1,7 +1,7 @@
 //! Facts about calls of entrances, each the contract of a function that does nothing.
 
-ghost use Rattle.block_calls.specs.EntranceLaws.{EntrancesReturn, EntrancesAreIsolated, OthersStay, ListingsStay, CodeStays, CodeIsShared};
-ghost use Rattle.block_calls.specs.WorkedEntrances.{LoudIsCalled, VolumeIsCalled};
+ghost use Rattle.block_calls.specs.EntranceLaws.{EntrancesReturn, CallsAreShort, EntrancesAreIsolated, OthersStay, ListingsStay, CodeStays, CodeIsShared};
+ghost use Rattle.block_calls.specs.WorkedEntrances.{LoudIsCalled, VolumeIsCalled, VolumeTakesMost};
 
 /// A machine of 65,536 bytes that holds the code of a well placed entrance, and is called at it with any number in A,
 /// returns in the machine whose memory is what the block means from the memory of the call, with the number in the stored
@@ -9,6 +9,12 @@ ghost use Rattle.block_calls.specs.WorkedEntrances.{LoudIsCalled, VolumeIsCalled
 /// at a place that the block may write, or at the stored byte.
 pub fn entrances_return()
     ensures { EntrancesReturn }
+{}
+
+/// A call that returns so takes at most 4 steps more than the block's weight.
+#[tactic(auto, using(crate::proofs::Whole::calls_are_short))]
+pub fn calls_are_short()
+    ensures { CallsAreShort }
 {}
 
 /// Calls of an entrance in two machines that agree on the listing's bytes take the same number of steps, and leave the
@@ -30,8 +36,9 @@ pub fn listings_stay()
 
 /// Two entrances at `$1000`, worked by hand: one to a block that sets the volume to 15, and one that sets it to the number
 /// of the call. Both are well placed, and any machine that holds their bytes holds their code; so what the law on entrances
-/// asks is met there.
+/// asks is met there. The second takes as many steps as it may.
 pub fn worked_entrances()
     ensures loud { LoudIsCalled }
     ensures volume { VolumeIsCalled }
+    ensures most { VolumeTakesMost }
 {}
