@@ -8,8 +8,7 @@ use Rattle.std.proofs.lemmas.List.Elements.{All-head, All-tail}
 use Rattle.cpu6502.specs.declared.mnemonic.Mnemonic.{Mnemonic}
 use Rattle.cpu6502.specs.declared.mnemonic.Mode.{Mode}
 use Rattle.cpu6502.specs.declared.mnemonic.Mode.TheVariants.{Implied, Accumulator, Immediate, ZeroPage, ZeroPageX, ZeroPageY, Absolute, AbsoluteX, AbsoluteY, IndirectX, IndirectY, Indirect, Relative}
-use Rattle.cpu6502.specs.Opcodes.{Meaning, meaning_of, length_of}
-use Rattle.cpu6502.specs.Encoding.{opcode_of, OpcodesHaveRows, RowsHaveOpcodes}
+use Rattle.cpu6502.specs.Opcodes.{Meaning, meaning_of, opcode_of, length_of, OpcodesHaveRows, RowsHaveOpcodes}
 use Rattle.asm6502.specs.declared.instructions.Instr.{Instr}
 use Rattle.asm6502.specs.Instructions.{operand_bytes, encoding, byte_from, word_from, operand_from, decoding_as, decoding}
 

@@ -7,8 +7,7 @@ use Rattle.cpu6502.specs.declared.memory.TheConstants.{MEMORY_SIZE}
 use Rattle.cpu6502.specs.declared.mnemonic.Mnemonic.{Mnemonic}
 use Rattle.cpu6502.specs.declared.mnemonic.Mode.{Mode}
 use Rattle.cpu6502.specs.declared.mnemonic.Mode.TheVariants.{Implied, Accumulator, Immediate, ZeroPage, ZeroPageX, ZeroPageY, Absolute, AbsoluteX, AbsoluteY, IndirectX, IndirectY, Indirect, Relative}
-use Rattle.cpu6502.specs.Opcodes.{length_of}
-use Rattle.cpu6502.specs.Encoding.{opcode_of}
+use Rattle.cpu6502.specs.Opcodes.{opcode_of, length_of}
 use Rattle.asm6502.specs.declared.lines.Operand.{Operand}
 use Rattle.asm6502.specs.declared.lines.Operand.TheVariants.{Nothing, Number, Label, Low, High}
 use Rattle.asm6502.specs.declared.lines.Item.{Item}

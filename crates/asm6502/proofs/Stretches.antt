@@ -1,7 +1,7 @@
 -- A stretch of lines stands where its bytes do, whatever else the memory holds.
 use Rattle.std.proofs.Common.{◌≡◌, ℕ, ◌+◌, ◌-◌, ◌<◌, ◌≤◌, List, ◌++◌, None, ap, ◌∙◌, subst, arith}
 use Rattle.std.specs.Prelude.{slice_index}
-use Rattle.cpu6502.specs.Encoding.{OpcodesHaveRows}
+use Rattle.cpu6502.specs.Opcodes.{OpcodesHaveRows}
 use Rattle.asm6502.specs.declared.lines.Line.{Line}
 use Rattle.asm6502.specs.Lines.{kept, size_of, address_in}
 use Rattle.asm6502.specs.Assembly.{assembled_bytes}

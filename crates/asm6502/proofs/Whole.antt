@@ -4,7 +4,7 @@ use mathlib.Core.Path.{fun_ext}
 use Rattle.std.specs.Option.{option_or, is_some}
 use Rattle.std.proofs.lemmas.Bool.{le-ltb, ltb-false}
 use Rattle.cpu6502.specs.declared.memory.TheConstants.{MEMORY_SIZE}
-use Rattle.cpu6502.specs.Encoding.{OpcodesHaveRows}
+use Rattle.cpu6502.specs.Opcodes.{OpcodesHaveRows}
 use Rattle.asm6502.specs.declared.lines.Operand.TheVariants.{Nothing, Number, Label, Low, High}
 use Rattle.asm6502.specs.declared.lines.Item.{Item}
 use Rattle.asm6502.specs.declared.lines.Item.TheVariants.{Label as Named, Code, Bytes}

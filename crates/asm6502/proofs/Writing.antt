@@ -18,7 +18,7 @@ use Rattle.asm6502.specs.Assembly.{instr_at, item_bytes, along, bytes_of, item_f
 use Rattle.asm6502.specs.Faults.{is_far_item, far_by}
 use Rattle.asm6502.specs.Places.{IsWritten, address_by}
 use Rattle.asm6502.proofs.Naming.{kept-append, kept_more, size_of-append}
-use Rattle.asm6502.proofs.Sound.{item_length}
+use Rattle.asm6502.proofs.Sound.{encodes, item_length}
 
 -- what two lists of lines give, one after the other
 pub along-append : {X : Type 0} (given : ℕ → Item → List X) (place : ℕ) (front back : List Line) →
@@ -99,6 +99,18 @@ near_kept address set origin before line size far k s h =
     let e : is_far_item address (origin + size_of (kept set before)) line.item ≡ far =
     ap (λ (n : ℕ). is_far_item address (origin + n) line.item) (sym s) ∙ h in
     rw (k, e) refl
+
+-- an instruction that can stand in a listing has bytes
+never_none : (bytes : List ℕ) → Some bytes ≡ None → ⊥
+never_none bytes h = cc
+
+pub code_encodes : (address : ℕ → ℕ) (pc : ℕ) (mn : Mnemonic) (mode : Mode) (x : Operand) (number : ℕ) →
+    is_sound (Code mn mode x) ≡ true → number ≡ operand_of address pc mode x →
+    encoding (record { mnemonic = mn; mode = mode; operand = number }) ≡ None → ⊥
+code_encodes address pc mn mode x number h n e =
+    let spelled = encodes address pc mn mode x h in
+    never_none spelled.bytes
+    (sym spelled.is ∙ ap (λ (k : ℕ). encoding (record { mnemonic = mn; mode = mode; operand = k })) (sym n) ∙ e)
 
 -- what an instruction's encoding puts after the bytes
 pub code_bytes : (address : ℕ → ℕ) (origin at : ℕ) (mn : Mnemonic) (mode : Mode) (x : Operand) (number : ℕ)

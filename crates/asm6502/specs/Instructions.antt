@@ -2,8 +2,7 @@
 use Rattle.std.specs.Prelude.{◌≡◌, ℕ, ◌+◌, ◌*◌, ◌/◌, ◌%◌, ◌<◌, List, [], ◌∷◌, ◌++◌, length, take, Option, Some, None, nat_eq, nat_lt, if◌then◌else◌, All}
 use Rattle.std.specs.Option.{option_map, option_and_then}
 use Rattle.cpu6502.specs.declared.mnemonic.Mode.{Mode}
-use Rattle.cpu6502.specs.Opcodes.{Meaning, meaning_of, length_of}
-use Rattle.cpu6502.specs.Encoding.{opcode_of}
+use Rattle.cpu6502.specs.Opcodes.{Meaning, meaning_of, opcode_of, length_of}
 use Rattle.asm6502.specs.declared.instructions.Instr.{Instr}
 
 -- the bytes after the opcode: none, one, or two with the low one first; none where the operand doesn't fit

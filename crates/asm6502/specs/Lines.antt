@@ -3,8 +3,7 @@
 use Rattle.std.specs.Prelude.{ℕ, ◌+◌, ◌&&◌, ◌||◌, Bool, true, false, List, [], ◌∷◌, length, filter, Option, Some, None, unwrap_or, nat_eq, nat_lt, if◌then◌else◌}
 use Rattle.std.specs.Int.{bit_at}
 use Rattle.std.specs.Option.{option_map, is_some}
-use Rattle.cpu6502.specs.Opcodes.{length_of}
-use Rattle.cpu6502.specs.Encoding.{opcode_of}
+use Rattle.cpu6502.specs.Opcodes.{opcode_of, length_of}
 use Rattle.asm6502.specs.declared.lines.Item.{Item}
 use Rattle.asm6502.specs.declared.lines.Item.TheVariants.{Label, Code, Bytes}
 use Rattle.asm6502.specs.declared.lines.Line.{Line}

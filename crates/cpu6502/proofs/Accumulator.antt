@@ -6,13 +6,12 @@ use Rattle.cpu6502.specs.declared.mnemonic.Mnemonic.TheVariants.{Asl, Lsr, Rol, 
 use Rattle.cpu6502.specs.declared.mnemonic.Mode.{Mode}
 use Rattle.cpu6502.specs.declared.mnemonic.Mode.TheVariants.{Accumulator}
 use Rattle.cpu6502.specs.declared.cpu.Cpu.{Cpu}
-use Rattle.cpu6502.specs.Opcodes.{meaning_of, length_of, is_accumulator}
-use Rattle.cpu6502.specs.Encoding.{opcode_of, accumulator_opcode}
+use Rattle.cpu6502.specs.Opcodes.{meaning_of, opcode_of, length_of, is_accumulator}
 use Rattle.cpu6502.specs.Shifts.{shifted, accumulator_effect}
 use Rattle.cpu6502.specs.Effects.{done_by, effect, moved}
 use Rattle.cpu6502.proofs.Inverse.{rows_have_opcodes}
 
-shifts : (mn : Mnemonic) (opcode byte : ℕ) (carry : Bool) → accumulator_opcode mn ≡ Some opcode →
+shifts : (mn : Mnemonic) (opcode byte : ℕ) (carry : Bool) → opcode_of mn Accumulator ≡ Some opcode →
     IsSome (shifted mn byte carry)
 shifts Asl opcode byte carry e = refl
 shifts Lsr opcode byte carry e = refl

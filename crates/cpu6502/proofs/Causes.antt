@@ -10,8 +10,7 @@ use Rattle.cpu6502.specs.declared.cpu.Cpu.{Cpu}
 use Rattle.cpu6502.specs.declared.effect.Effect.{Effect}
 use Rattle.cpu6502.specs.declared.stop.Stop.{Stop}
 use Rattle.cpu6502.specs.declared.stop.Stop.TheVariants.{Illegal, Break, Decimal}
-use Rattle.cpu6502.specs.Opcodes.{Meaning, meaning_of, length_of}
-use Rattle.cpu6502.specs.Encoding.{opcode_of, accumulator_opcode}
+use Rattle.cpu6502.specs.Opcodes.{Meaning, meaning_of, opcode_of, length_of}
 use Rattle.cpu6502.specs.Shifts.{accumulator_effect}
 use Rattle.cpu6502.specs.Effects.{effect, effect_of, done_by, address_of, moved, unless_stopped}
 use Rattle.cpu6502.specs.Stops.{IsCause, StopsHaveCauses}
@@ -43,7 +42,7 @@ stopped_by Brk own place at cpu stop h = inl (refl, cc)
 stopped_by _ own place at cpu stop h = absurd (ok_no_err _ stop h)
 
 -- a shift of the accumulator has an effect
-accumulator_goes : (mn : Mnemonic) (opcode own : ℕ) (cpu : Cpu) (stop : Stop) → accumulator_opcode mn ≡ Some opcode →
+accumulator_goes : (mn : Mnemonic) (opcode own : ℕ) (cpu : Cpu) (stop : Stop) → opcode_of mn Accumulator ≡ Some opcode →
     accumulator_effect mn own cpu ≡ Err stop → ⊥
 accumulator_goes Asl opcode own cpu stop e h = ok_no_err _ stop h
 accumulator_goes Lsr opcode own cpu stop e h = ok_no_err _ stop h

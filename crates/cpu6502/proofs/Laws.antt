@@ -1,7 +1,7 @@
 -- What upper crates may cite of the proofs of this crate.
 
 -- the table and its inverse
-pub use Rattle.cpu6502.proofs.Inverse.{opcodes_have_rows, rows_have_opcodes}
+pub use Rattle.cpu6502.proofs.Inverse.{opcodes_have_rows, rows_have_opcodes, rows_differ}
 -- each stop has its cause; sums are of numbers
 pub use Rattle.cpu6502.proofs.Causes.{stops_have_causes}
 pub use Rattle.cpu6502.proofs.Sums.{sums_are_of_numbers, differences_are_of_numbers}

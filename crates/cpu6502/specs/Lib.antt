@@ -1,6 +1,5 @@
 -- to believe: the table of opcodes
 pub mod Opcodes
-pub mod Encoding
 -- to believe: what each group of instructions does, and one instruction of any
 pub mod Registers
 pub mod Loads

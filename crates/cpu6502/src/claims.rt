@@ -1,7 +1,7 @@
 //! Facts about the definitions of this crate, each the contract of a function that does nothing.
 
-ghost use Rattle.cpu6502.specs.Encoding.{OpcodesHaveRows, RowsHaveOpcodes};
-ghost use Rattle.cpu6502.specs.Rows.{TableHas151Rows};
+ghost use Rattle.cpu6502.specs.Opcodes.{OpcodesHaveRows, RowsHaveOpcodes};
+ghost use Rattle.cpu6502.specs.Rows.{TableHas151Rows, RowsDiffer, CyclesAreCounted, ReadsHaveRows, StoresHaveRows, ChangesHaveRows, OthersHaveRows, UndocumentedBytesHaveNone, MissingModesHaveNone};
 ghost use Rattle.cpu6502.specs.Stops.{StopsHaveCauses};
 ghost use Rattle.cpu6502.specs.Machines.{CallsKeepMachines, StepsKeepMachines};
 ghost use Rattle.cpu6502.specs.Sums.{DifferencesAreOfNumbers, SumsAreOfNumbers};
@@ -9,11 +9,24 @@ ghost use Rattle.cpu6502.specs.WorkedCalls.{CallersPush, LogsHaveRoom, MemoryIsF
 ghost use Rattle.cpu6502.specs.WorkedModes.{ComparesInModes, CountsInModes, LoadsInModes, LogicInModes, ShiftsInModes, StoresInModes, SumsInModes};
 ghost use Rattle.cpu6502.specs.WorkedSteps.{Branches, Differences, JumpsAndReturns, LoadsAndStores, ShiftsAndCounts, Stack, Stops, Sums, TransfersAndFlags};
 
-/// The decode table has 151 rows, and `opcode` and `meaning` are each other's inverse over them.
+/// The decode table has 151 rows, no two of them alike, and `opcode` and `meaning` are each other's inverse over them.
 pub fn opcode_is_inverse_of_meaning()
     ensures opcodes { OpcodesHaveRows }
     ensures rows { RowsHaveOpcodes }
+    ensures differ { RowsDiffer }
     ensures count { TableHas151Rows }
+{}
+
+/// Rows as the manual prints them, the number of rows that take each number of cycles, and bytes and modes that have no
+/// row.
+pub fn worked_rows()
+    ensures reads { ReadsHaveRows }
+    ensures stores { StoresHaveRows }
+    ensures changes { ChangesHaveRows }
+    ensures others { OthersHaveRows }
+    ensures cycles { CyclesAreCounted }
+    ensures undocumented { UndocumentedBytesHaveNone }
+    ensures missing { MissingModesHaveNone }
 {}
 
 /// A step stops as Illegal exactly where the byte at the program counter has no row, as Break exactly at BRK, and as

@@ -1,7 +1,7 @@
 //! The names of instructions, and their addressing modes.
 
 /// The name of an instruction, as the MOS 6502 programming manual writes it.
-#[derive(Clone, Copy, Debug)]
+#[derive(Clone, Copy, Debug, PartialEq, Eq)]
 pub enum Mnemonic {
     /// Add a byte and the carry to A.
     Adc,
@@ -118,7 +118,7 @@ pub enum Mnemonic {
 }
 
 /// How an instruction finds its operand: the addressing modes of the MOS 6502 programming manual.
-#[derive(Clone, Copy, Debug)]
+#[derive(Clone, Copy, Debug, PartialEq, Eq)]
 pub enum Mode {
     /// No operand: the name says it all.
     Implied,

@@ -9,7 +9,7 @@ use Rattle.cpu6502.specs.declared.mnemonic.Mnemonic.TheVariants.{Inc as IncByte,
 use Rattle.cpu6502.specs.declared.mnemonic.Mnemonic.TheVariants.{Sta}
 use Rattle.cpu6502.specs.declared.mnemonic.Mode.{Mode}
 use Rattle.cpu6502.specs.declared.mnemonic.Mode.TheVariants.{Implied, Immediate, Absolute, AbsoluteX, AbsoluteY}
-use Rattle.cpu6502.specs.Encoding.{opcode_of}
+use Rattle.cpu6502.specs.Opcodes.{opcode_of}
 use Rattle.asm6502.specs.declared.lines.Operand.TheVariants.{Nothing, Number, Label}
 use Rattle.asm6502.specs.declared.lines.Line.{Line}
 use Rattle.asm6502.specs.Lines.{label_used, is_sound, is_no_part}

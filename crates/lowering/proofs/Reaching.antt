@@ -4,7 +4,7 @@ use Rattle.std.proofs.Common.{subst, inl, inr, append_assoc}
 use Rattle.std.specs.Option.{is_some}
 use Rattle.base.proofs.Laws.{same_some}
 use Rattle.cpu6502.specs.declared.mnemonic.Mode.TheVariants.{Relative}
-use Rattle.cpu6502.specs.Encoding.{opcode_of}
+use Rattle.cpu6502.specs.Opcodes.{opcode_of}
 use Rattle.asm6502.specs.declared.lines.Operand.TheVariants.{Number, Label}
 use Rattle.asm6502.specs.declared.lines.Line.{Line}
 use Rattle.asm6502.specs.Lines.{size_of, is_no_part}
