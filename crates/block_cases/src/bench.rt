@@ -2,7 +2,7 @@
 
 ghost use Rattle.std.specs.Prelude.{◌≡◌, OnOk};
 
-use crate::difference::{Difference, same};
+use crate::difference::{Difference, same, same_byte};
 use crate::words::Reader;
 use base::NoMemory;
 use cpu6502::{Cpu, Machine, Memory};
@@ -167,67 +167,55 @@ impl Bench {
     }
 }
 
-/// Registers with the flags that are named, and no other.
-fn with_flags(cpu: Cpu, word: &[u8]) -> Option<Cpu> {
-    let mut after = Cpu {
-        n: false,
-        v: false,
-        d: false,
-        i: false,
-        z: false,
-        c: false,
-        ..cpu
-    };
-    for letter in word {
-        match letter {
-            b'n' => after.n = true,
-            b'v' => after.v = true,
-            b'd' => after.d = true,
-            b'i' => after.i = true,
-            b'z' => after.z = true,
-            b'c' => after.c = true,
-            b'-' => {}
-            _ => return None,
-        }
-    }
-    Some(after)
-}
-
 impl Reader<'_> {
     /// Reads the letters of the flags that are set, into registers.
-    pub fn flags(&mut self, cpu: Cpu) -> Result<Cpu, Difference> {
-        with_flags(cpu, self.word()?).ok_or(Difference::Unread)
+    pub fn flags(&mut self, cpu: Cpu) -> Cpu {
+        let mut after = cpu;
+        for letter in self.word() {
+            match letter {
+                b'n' => after.n = true,
+                b'v' => after.v = true,
+                b'd' => after.d = true,
+                b'i' => after.i = true,
+                b'z' => after.z = true,
+                b'c' => after.c = true,
+                b'-' => {}
+                _ => self.is_unread = true,
+            }
+        }
+        after
     }
 }
 
-/// A flag as a number.
-fn flag(set: bool) -> u32 {
-    if set { 1 } else { 0 }
+/// Sees that a flag is the one that is wanted.
+fn same_flag(name: &'static str, found: bool, wanted: bool) -> Result<(), Difference> {
+    same_byte(name, u8::from(found), u8::from(wanted))
+}
+
+/// Sees that all flags but the overflow are those that are wanted.
+fn same_flags(found: Cpu, wanted: Cpu) -> Result<(), Difference> {
+    same_flag("the flag n", found.n, wanted.n)?;
+    same_flag("the flag d", found.d, wanted.d)?;
+    same_flag("the flag i", found.i, wanted.i)?;
+    same_flag("the flag z", found.z, wanted.z)?;
+    same_flag("the flag c", found.c, wanted.c)
 }
 
 /// Sees that A, Y, the stack pointer and all flags but the overflow are those that are wanted.
 pub fn same_registers(found: Cpu, wanted: Cpu) -> Result<(), Difference> {
-    same("A", u32::from(found.a), u32::from(wanted.a))?;
-    same("Y", u32::from(found.y), u32::from(wanted.y))?;
-    same(
-        "the stack pointer",
-        u32::from(found.sp),
-        u32::from(wanted.sp),
-    )?;
-    same("the flag n", flag(found.n), flag(wanted.n))?;
-    same("the flag d", flag(found.d), flag(wanted.d))?;
-    same("the flag i", flag(found.i), flag(wanted.i))?;
-    same("the flag z", flag(found.z), flag(wanted.z))?;
-    same("the flag c", flag(found.c), flag(wanted.c))
+    same_byte("A", found.a, wanted.a)?;
+    same_byte("Y", found.y, wanted.y)?;
+    same_byte("the stack pointer", found.sp, wanted.sp)?;
+    same_flags(found, wanted)
 }
 
 /// Sees that X, the program counter and the overflow are those that are wanted.
 pub fn same_others(found: Cpu, wanted: Cpu) -> Result<(), Difference> {
-    same("X", u32::from(found.x), u32::from(wanted.x))?;
+    same_byte("X", found.x, wanted.x)?;
     same(
         "the program counter",
         u32::from(found.pc),
         u32::from(wanted.pc),
     )?;
-    same("the flag v", flag(found.v), flag(wanted.v))
+    same_flag("the flag v", found.v, wanted.v)
 }

@@ -1,12 +1,13 @@
 //! Cases of blocks: a block, how the machine begins, and what stands behind its last line.
 
 use crate::bench::{Bench, IDLE, same_registers};
-use crate::difference::{Difference, same};
+use crate::difference::{Difference, same, same_byte};
 use crate::notation::DEPTH;
 use crate::words::{Reader, once};
 use asm6502::{Assembled, Item, Line, Listing, PartSet, assemble};
-use base::ByteList;
+use base::{ByteList, NoMemory};
 use blocks::Block;
+use case_text::look_up;
 use cpu6502::Cpu;
 use lowering::lines_of;
 use std::alloc::Global;
@@ -52,6 +53,81 @@ pub struct Wants {
     code: Option<Vec<u8>>,
 }
 
+/// What a line gives of how a case begins.
+#[derive(Drop)]
+enum Given {
+    Origins(Vec<u16>),
+    Pointer(u8),
+    Kept(u32),
+    Begin(Cpu),
+    Bytes(u16, Vec<u8>),
+    Block(Block),
+}
+
+/// What a line of a case says.
+#[derive(Clone, Copy)]
+enum Head {
+    Origin,
+    Pointer,
+    Kept,
+    Begin,
+    Bytes,
+    Block,
+    Wants(Wish),
+}
+
+/// What a line wants.
+#[derive(Clone, Copy)]
+enum Wish {
+    After,
+    Label,
+    At,
+    Steps,
+    Size,
+    Labels,
+    Code,
+}
+
+/// What a line says, by its first word.
+const HEADS: [(&[u8], Head); 13] = [
+    (b"origin", Head::Origin),
+    (b"pointer", Head::Pointer),
+    (b"kept", Head::Kept),
+    (b"begin", Head::Begin),
+    (b"bytes", Head::Bytes),
+    (b"block", Head::Block),
+    (b"after", Head::Wants(Wish::After)),
+    (b"label", Head::Wants(Wish::Label)),
+    (b"at", Head::Wants(Wish::At)),
+    (b"steps", Head::Wants(Wish::Steps)),
+    (b"size", Head::Wants(Wish::Size)),
+    (b"labels", Head::Wants(Wish::Labels)),
+    (b"code", Head::Wants(Wish::Code)),
+];
+
+/// Reads a line of a case.
+pub fn read_line(
+    alloc: Global,
+    head: &[u8],
+    setup: &mut Setup,
+    wants: &mut Wants,
+    reader: &mut Reader<'_>,
+) -> Result<(), Difference> {
+    let given = match look_up(&HEADS, head) {
+        Some(Head::Wants(wish)) => return wants.read(alloc, wish, reader),
+        Some(Head::Origin) => Given::Origins(origins(alloc, reader)),
+        Some(Head::Pointer) => Given::Pointer(reader.byte()),
+        Some(Head::Kept) => Given::Kept(reader.number()),
+        Some(Head::Begin) => Given::Begin(registers(reader)),
+        Some(Head::Bytes) => Given::Bytes(reader.short(), reader.bytes(alloc)),
+        Some(Head::Block) => Given::Block(reader.block(alloc, DEPTH)?),
+        None => return Err(Difference::Unread),
+    };
+    reader.end()?;
+    setup.take(given);
+    Ok(())
+}
+
 impl Setup {
     /// Nothing is given yet.
     pub fn new(alloc: Global) -> Setup {
@@ -66,26 +142,19 @@ impl Setup {
         }
     }
 
-    /// Reads a line that says how the case begins, if it is one.
-    pub fn read(
-        &mut self,
-        alloc: Global,
-        head: &[u8],
-        reader: &mut Reader<'_>,
-    ) -> Result<bool, Difference> {
-        match head {
-            b"origin" => self.origins = origins(alloc, reader)?,
-            b"pointer" => self.pointer = reader.byte()?,
-            b"kept" => self.kept = reader.number()?,
-            b"begin" => self.begin = registers(reader)?,
-            b"bytes" => {
-                self.first = reader.short()?;
-                self.bytes = reader.bytes(alloc)?;
+    /// Takes what a line gives.
+    fn take(&mut self, given: Given) {
+        match given {
+            Given::Origins(origins) => self.origins = origins,
+            Given::Pointer(pointer) => self.pointer = pointer,
+            Given::Kept(kept) => self.kept = kept,
+            Given::Begin(begin) => self.begin = begin,
+            Given::Bytes(first, bytes) => {
+                self.first = first;
+                self.bytes = bytes;
             }
-            b"block" => self.block = Some(reader.block(alloc, DEPTH)?),
-            _ => return Ok(false),
+            Given::Block(block) => self.block = Some(block),
         }
-        Ok(true)
     }
 
     /// The lines of the block, with the bytes behind them.
@@ -97,14 +166,7 @@ impl Setup {
         let mut listing = lines_of(alloc, block, self.pointer, FIRST_LABEL)?;
         let mut label = self.first;
         for byte in &self.bytes {
-            listing.push(Line {
-                part: 255,
-                item: Item::Label(label),
-            })?;
-            listing.push(Line {
-                part: 255,
-                item: Item::Bytes(ByteList::from_slice(alloc, &[*byte])?),
-            })?;
+            push_byte(alloc, &mut listing, label, *byte)?;
             label = label.wrapping_add(1);
         }
         Ok(listing)
@@ -171,35 +233,49 @@ impl Setup {
     }
 }
 
+/// Adds a byte behind a block's lines, and its label.
+fn push_byte(alloc: Global, listing: &mut Listing, label: u16, byte: u8) -> Result<(), NoMemory> {
+    listing.push(Line {
+        part: 255,
+        item: Item::Label(label),
+    })?;
+    listing.push(Line {
+        part: 255,
+        item: Item::Bytes(ByteList::from_slice(alloc, &[byte])?),
+    })
+}
+
 /// Reads addresses up to the end.
-fn origins(alloc: Global, reader: &mut Reader<'_>) -> Result<Vec<u16>, Difference> {
+fn origins(alloc: Global, reader: &mut Reader<'_>) -> Vec<u16> {
     let mut origins = Vec::new(alloc);
     for _ in 0..reader.left() {
         if reader.peek().is_none() {
             break;
         }
-        origins.push(reader.short()?)?;
+        if origins.push(reader.short()).is_err() {
+            reader.is_poor = true;
+        }
     }
-    Ok(origins)
+    origins
 }
 
 /// Reads A, X, Y and flags.
-fn registers(reader: &mut Reader<'_>) -> Result<Cpu, Difference> {
-    let a = reader.byte()?;
-    let x = reader.byte()?;
-    let y = reader.byte()?;
+fn registers(reader: &mut Reader<'_>) -> Cpu {
+    let a = reader.byte();
+    let x = reader.byte();
+    let y = reader.byte();
     reader.flags(Cpu { a, x, y, ..IDLE })
 }
 
 /// Reads A, Y, and those flags that are compared.
-fn compared(reader: &mut Reader<'_>) -> Result<Cpu, Difference> {
-    let a = reader.byte()?;
-    let y = reader.byte()?;
-    let after = reader.flags(Cpu { a, y, ..IDLE })?;
+fn compared(reader: &mut Reader<'_>) -> Cpu {
+    let a = reader.byte();
+    let y = reader.byte();
+    let after = reader.flags(Cpu { a, y, ..IDLE });
     if after.v || after.d || after.i {
-        return Err(Difference::Unread);
+        reader.is_unread = true;
     }
-    Ok(after)
+    after
 }
 
 impl Wants {
@@ -215,24 +291,22 @@ impl Wants {
         }
     }
 
-    /// Reads a line that says what is wanted.
-    pub fn read(
+    /// Reads what a line wants.
+    fn read(
         &mut self,
         alloc: Global,
-        head: &[u8],
+        wish: Wish,
         reader: &mut Reader<'_>,
     ) -> Result<(), Difference> {
-        match head {
-            b"after" => once(&mut self.after, compared(reader)?)?,
-            b"label" => self.read_bytes(alloc, true, reader)?,
-            b"at" => self.read_bytes(alloc, false, reader)?,
-            b"steps" => once(&mut self.steps, reader.number()?)?,
-            b"size" => once(&mut self.size, reader.number()?)?,
-            b"labels" => once(&mut self.labels, reader.number()?)?,
-            b"code" => once(&mut self.code, reader.bytes(alloc)?)?,
-            _ => return Err(Difference::Unread),
+        match wish {
+            Wish::After => once(&mut self.after, compared(reader)),
+            Wish::Label => self.read_bytes(alloc, true, reader),
+            Wish::At => self.read_bytes(alloc, false, reader),
+            Wish::Steps => once(&mut self.steps, reader.number()),
+            Wish::Size => once(&mut self.size, reader.number()),
+            Wish::Labels => once(&mut self.labels, reader.number()),
+            Wish::Code => once(&mut self.code, reader.bytes(alloc)),
         }
-        Ok(())
     }
 
     /// Reads bytes that are wanted.
@@ -242,8 +316,8 @@ impl Wants {
         is_label: bool,
         reader: &mut Reader<'_>,
     ) -> Result<(), Difference> {
-        let at = reader.short()?;
-        let bytes = reader.some_bytes(alloc)?;
+        let at = reader.short();
+        let bytes = reader.some_bytes(alloc);
         self.places.push(Bytes {
             is_label,
             at,
@@ -261,7 +335,7 @@ impl Wants {
         };
         same("the size", size, code.len().min(0xffff_ffff) as u32)?;
         for (found, wanted) in bytes.iter().zip(code) {
-            same("a byte of the code", u32::from(*found), u32::from(*wanted))?;
+            same_byte("a byte of the code", *found, *wanted)?;
         }
         Ok(())
     }

@@ -3,29 +3,50 @@
 ghost use Rattle.std.specs.Prelude.{◌≡◌, ◌+◌, min, IsOk, IsErr};
 
 use crate::bench::Bench;
-use crate::block_cases::{Setup, Wants};
+use crate::block_cases::{Setup, Wants, read_line};
 use crate::difference::Difference;
 use crate::instructions::check_instruction;
 use crate::listings::ListingCase;
 use crate::machines::MachineCase;
 use crate::words::Reader;
+use case_text::{Tally, look_up};
 use std::alloc::Global;
 use std::io;
 
-/// How many cases agree, and how many don't.
+/// What a case is of.
 #[derive(Clone, Copy)]
-pub struct Count {
-    pub agree: u32,
-    pub differ: u32,
+enum Kind {
+    Block,
+    Listing,
+    Machine,
+    Memory,
+    Instruction,
 }
+
+/// What a case is of, by its first word.
+const KINDS: [(&[u8], Kind); 5] = [
+    (b"case", Kind::Block),
+    (b"listing", Kind::Listing),
+    (b"machine", Kind::Machine),
+    (b"memory", Kind::Memory),
+    (b"instruction", Kind::Instruction),
+];
+
+/// How a case is to end that doesn't have to agree.
+#[derive(Clone, Copy)]
+enum End {
+    /// Something differs.
+    Differs,
+    /// A line isn't of the notation.
+    Unread,
+}
+
+/// How a case is to end that doesn't have to agree, by its first word.
+const ENDS: [(&[u8], End); 2] = [(b"denial", End::Differs), (b"unread", End::Unread)];
 
 /// Whether a case begins with this word.
 fn is_case(head: &[u8]) -> bool {
-    match head {
-        b"case" | b"listing" | b"machine" | b"memory" | b"instruction" => true,
-        b"denial" | b"unread" => true,
-        _ => false,
-    }
+    look_up(&KINDS, head).is_some() || look_up(&ENDS, head).is_some()
 }
 
 /// The next line of a case; none where the next case begins.
@@ -74,9 +95,7 @@ fn block_case(
         let Some(head) = next_line(reader) else {
             break;
         };
-        if !setup.read(alloc, head, reader)? {
-            wants.read(alloc, head, reader)?;
-        }
+        read_line(alloc, head, setup, &mut wants, reader)?;
         reader.end()?;
     }
     reader.line = line;
@@ -126,21 +145,21 @@ fn memory_case(bench: &Bench, reader: &mut Reader<'_>) -> Result<(), Difference>
     bench.compare_all()
 }
 
-/// Does a case of this kind. Where it differs, memory is again what it was before the first case.
+/// Does a case of the kind that a word names. Where it differs, memory is again what it was before the first case.
 fn do_kind(
     alloc: Global,
     bench: &mut Bench,
     setup: &mut Setup,
-    kind: &[u8],
+    word: &[u8],
     reader: &mut Reader<'_>,
 ) -> Result<(), Difference> {
-    let done = match kind {
-        b"case" => block_case(alloc, bench, setup, reader),
-        b"listing" => listing_case(alloc, reader),
-        b"machine" => machine_case(alloc, bench, reader),
-        b"memory" => memory_case(bench, reader),
-        b"instruction" => check_instruction(alloc, reader),
-        _ => Err(Difference::Unread),
+    let done = match look_up(&KINDS, word) {
+        Some(Kind::Block) => block_case(alloc, bench, setup, reader),
+        Some(Kind::Listing) => listing_case(alloc, reader),
+        Some(Kind::Machine) => machine_case(alloc, bench, reader),
+        Some(Kind::Memory) => memory_case(bench, reader),
+        Some(Kind::Instruction) => check_instruction(alloc, reader),
+        None => Err(Difference::Unread),
     };
     if done.is_err() {
         bench.renew();
@@ -178,77 +197,78 @@ fn do_case(
     head: &[u8],
     reader: &mut Reader<'_>,
 ) -> Result<(), Difference> {
-    match head {
-        b"denial" => {
-            let kind = reader.word()?;
-            denied(do_kind(alloc, bench, setup, kind, reader))?;
+    let Some(end) = look_up(&ENDS, head) else {
+        return do_kind(alloc, bench, setup, head, reader);
+    };
+    let Some(kind) = reader.peek() else {
+        return Err(Difference::Unread);
+    };
+    reader.pass();
+    let done = do_kind(alloc, bench, setup, kind, reader);
+    match end {
+        End::Unread => unread(done),
+        End::Differs => {
+            denied(done)?;
             reader.end()
         }
-        b"unread" => {
-            let kind = reader.word()?;
-            unread(do_kind(alloc, bench, setup, kind, reader))
-        }
-        _ => do_kind(alloc, bench, setup, head, reader),
     }
 }
 
-impl Count {
-    /// Counts a case, and prints what differs.
-    ///
-    /// # Errors
-    ///
-    /// The line can't be printed.
-    fn note(
-        &mut self,
-        rt: &impl Print,
-        file: &str,
-        line: u32,
-        done: Result<(), Difference>,
-    ) -> io::Result<()>
-        ensures agrees { IsOk done → self.new.differ ≡ self.old.differ }
-        ensures differs { IsErr done → self.new.agree ≡ self.old.agree }
-        ensures is_counted { IsErr done → self.new.differ ≡ min (self.old.differ + 1) u32.MAX }
-    {
-        match done {
-            Ok(()) => self.agree = self.agree.saturating_add(1),
-            Err(difference) => {
-                self.differ = self.differ.saturating_add(1);
-                println!(rt; "{file}:{line}: {difference}")?;
-            }
+/// Counts a case, and prints what differs.
+///
+/// # Errors
+///
+/// The line can't be printed.
+fn note(
+    rt: &impl Print,
+    tally: &mut Tally,
+    file: &str,
+    line: u32,
+    done: Result<(), Difference>,
+) -> io::Result<()>
+    ensures agrees { IsOk done → tally.new.differ ≡ tally.old.differ }
+    ensures differs { IsErr done → tally.new.agree ≡ tally.old.agree }
+    ensures is_counted { IsErr done → tally.new.differ ≡ min (tally.old.differ + 1) u32.MAX }
+{
+    match done {
+        Ok(()) => tally.count(true),
+        Err(difference) => {
+            tally.count(false);
+            println!(rt; "{file}:{line}: {difference}")?;
         }
-        Ok(())
     }
+    Ok(())
+}
 
-    /// Does all cases of a file.
-    pub fn do_file<R: Print + AllocGlobal>(
-        &mut self,
-        rt: &R,
-        file: &str,
-        bench: &mut Bench,
-        mut reader: Reader<'_>,
-    ) -> io::Result<()> {
-        let mut setup = Setup::new(rt.alloc());
-        let mut cases = 0_u32;
-        if let Err(stray) = reader.end() {
-            self.note(rt, file, reader.line, Err(stray))?;
+/// Does all cases of a file.
+pub fn do_file<R: Print + AllocGlobal>(
+    rt: &R,
+    tally: &mut Tally,
+    file: &str,
+    bench: &mut Bench,
+    mut reader: Reader<'_>,
+) -> io::Result<()> {
+    let mut setup = Setup::new(rt.alloc());
+    let mut cases = 0_u32;
+    if let Err(stray) = reader.end() {
+        note(rt, tally, file, reader.line, Err(stray))?;
+    }
+    for _ in 0..reader.left() {
+        let Some(head) = reader.head() else {
+            break;
+        };
+        cases = cases.saturating_add(1);
+        let done = do_case(rt.alloc(), bench, &mut setup, head, &mut reader);
+        note(rt, tally, file, reader.line, done)?;
+        if done.is_err() {
+            reader.pass_lines();
         }
-        for _ in 0..reader.left() {
-            let Some(head) = reader.head() else {
-                break;
-            };
-            cases = cases.saturating_add(1);
-            let done = do_case(rt.alloc(), bench, &mut setup, head, &mut reader);
-            self.note(rt, file, reader.line, done)?;
-            if done.is_err() {
-                reader.pass_lines();
-            }
-        }
-        if cases == 0 {
-            self.note(rt, file, 0, Err(Difference::WantsNothing))?;
-        }
-        match bench.compare_all() {
-            Ok(()) => Ok(()),
-            stray => self.note(rt, file, reader.line, stray),
-        }
+    }
+    if cases == 0 {
+        note(rt, tally, file, 0, Err(Difference::WantsNothing))?;
+    }
+    match bench.compare_all() {
+        Ok(()) => Ok(()),
+        stray => note(rt, tally, file, reader.line, stray),
     }
 }

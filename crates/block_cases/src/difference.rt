@@ -9,7 +9,7 @@ use std::alloc::{AllocError, AllocFailed};
 use std::fmt;
 
 /// What differs from what a case wants, or why it can't be told.
-#[derive(Clone, Copy, Debug)]
+#[derive(Clone, Copy)]
 pub enum Difference {
     /// The line isn't of the notation.
     Unread,
@@ -37,16 +37,27 @@ pub enum Difference {
     NoMemory,
 }
 
+impl Difference {
+    /// What is said of it, where that is the same each time.
+    fn says(&self) -> &'static str {
+        match self {
+            Difference::Unread => "the line isn't of the notation",
+            Difference::WantsNothing => "the case wants nothing",
+            Difference::Done => "not refused",
+            Difference::Endless => "no end",
+            Difference::NoInstruction => "no such instruction",
+            Difference::Agrees => "nothing differs, and something is to",
+            _ => "out of memory",
+        }
+    }
+}
+
 impl fmt::Display for Difference {
     fn fmt<W: fmt::Write>(&self, f: &mut fmt::Formatter<W>) -> fmt::Result {
         match self {
-            Difference::Unread => write!(f, "the line isn't of the notation"),
-            Difference::WantsNothing => write!(f, "the case wants nothing"),
             Difference::Refused(fault) => write!(f, "refused: {fault:?}"),
-            Difference::Done => write!(f, "not refused"),
             Difference::Unmoved(end) => write!(f, "not moved: {end:?}"),
             Difference::Stopped(stop) => write!(f, "stopped: {stop:?}"),
-            Difference::Endless => write!(f, "no end"),
             Difference::Number(name, found, wanted) => {
                 write!(f, "{name} is {found:x}, wanted {wanted:x}")
             }
@@ -56,9 +67,7 @@ impl fmt::Display for Difference {
                     "the byte at {at:04x} is {found:02x}, wanted {wanted:02x}"
                 )
             }
-            Difference::NoInstruction => write!(f, "no such instruction"),
-            Difference::Agrees => write!(f, "nothing differs, and something is to"),
-            Difference::NoMemory => write!(f, "out of memory"),
+            _ => f.write_str(self.says()),
         }
     }
 }
@@ -94,4 +103,15 @@ pub fn same(name: &'static str, found: u32, wanted: u32) -> Result<(), Differenc
     } else {
         Err(Difference::Number(name, found, wanted))
     }
+}
+
+/// Sees that a byte is the one that is wanted.
+///
+/// # Errors
+///
+/// It isn't.
+pub fn same_byte(name: &'static str, found: u8, wanted: u8) -> Result<(), Difference>
+    ensures { IsOk result ↔ (found ≡ wanted) }
+{
+    same(name, u32::from(found), u32::from(wanted))
 }

@@ -1,6 +1,6 @@
 //! Lines of a listing, as they are written, and single instructions.
 
-use crate::difference::{Difference, same};
+use crate::difference::{Difference, same, same_byte};
 use crate::words::Reader;
 use asm6502::{Instr, Operand, decode, encode};
 use cpu6502::{Mnemonic, Mode};
@@ -14,66 +14,70 @@ pub enum Piece {
     Zeros(u32),
 }
 
+/// The instructions that cases use.
+const MNEMONICS: [(&[u8], Mnemonic); 9] = [
+    (b"Asl", Mnemonic::Asl),
+    (b"Beq", Mnemonic::Beq),
+    (b"Bne", Mnemonic::Bne),
+    (b"Jmp", Mnemonic::Jmp),
+    (b"Lda", Mnemonic::Lda),
+    (b"Ldx", Mnemonic::Ldx),
+    (b"Nop", Mnemonic::Nop),
+    (b"Rts", Mnemonic::Rts),
+    (b"Sta", Mnemonic::Sta),
+];
+
+/// The modes that cases use.
+const MODES: [(&[u8], Mode); 8] = [
+    (b"Absolute", Mode::Absolute),
+    (b"Accumulator", Mode::Accumulator),
+    (b"Immediate", Mode::Immediate),
+    (b"Implied", Mode::Implied),
+    (b"Indirect", Mode::Indirect),
+    (b"Relative", Mode::Relative),
+    (b"ZeroPage", Mode::ZeroPage),
+    (b"ZeroPageX", Mode::ZeroPageX),
+];
+
 impl Reader<'_> {
-    /// Reads an instruction's name: one of those that cases use.
-    fn mnemonic(&mut self) -> Result<Mnemonic, Difference> {
-        match self.word()? {
-            b"Asl" => Ok(Mnemonic::Asl),
-            b"Beq" => Ok(Mnemonic::Beq),
-            b"Bne" => Ok(Mnemonic::Bne),
-            b"Jmp" => Ok(Mnemonic::Jmp),
-            b"Lda" => Ok(Mnemonic::Lda),
-            b"Ldx" => Ok(Mnemonic::Ldx),
-            b"Nop" => Ok(Mnemonic::Nop),
-            b"Rts" => Ok(Mnemonic::Rts),
-            b"Sta" => Ok(Mnemonic::Sta),
-            _ => Err(Difference::Unread),
-        }
-    }
-
-    /// Reads a mode: one of those that cases use.
-    fn mode(&mut self) -> Result<Mode, Difference> {
-        match self.word()? {
-            b"Absolute" => Ok(Mode::Absolute),
-            b"Accumulator" => Ok(Mode::Accumulator),
-            b"Immediate" => Ok(Mode::Immediate),
-            b"Implied" => Ok(Mode::Implied),
-            b"Indirect" => Ok(Mode::Indirect),
-            b"Relative" => Ok(Mode::Relative),
-            b"ZeroPage" => Ok(Mode::ZeroPage),
-            b"ZeroPageX" => Ok(Mode::ZeroPageX),
-            _ => Err(Difference::Unread),
-        }
-    }
-
     /// Reads what stands behind an opcode.
-    fn argument(&mut self) -> Result<Operand, Difference> {
-        let word = self.word()?;
-        if word == b"Nothing".as_slice() {
-            return Ok(Operand::Nothing);
+    fn argument(&mut self) -> Operand {
+        if self.takes(b"Nothing") {
+            return Operand::Nothing;
         }
-        let number = self.short()?;
-        if word == b"Number".as_slice() {
-            return Ok(Operand::Number(number));
+        if self.takes(b"Number") {
+            return Operand::Number(self.short());
         }
-        let offset = self.short()?;
-        match word {
-            b"Label" => Ok(Operand::Label(number, offset)),
-            b"Low" => Ok(Operand::Low(number, offset)),
-            b"High" => Ok(Operand::High(number, offset)),
-            _ => Err(Difference::Unread),
+        if self.takes(b"Low") {
+            return Operand::Low(self.short(), self.short());
         }
+        if self.takes(b"High") {
+            return Operand::High(self.short(), self.short());
+        }
+        self.mark(b"Label");
+        Operand::Label(self.short(), self.short())
     }
 
     /// Reads what a line holds.
-    pub fn piece(&mut self) -> Result<Piece, Difference> {
+    pub fn piece(&mut self) -> Piece {
         if self.takes(b"Label") {
-            return Ok(Piece::Label(self.short()?));
+            return Piece::Label(self.short());
         }
         if self.takes(b"Zeros") {
-            return Ok(Piece::Zeros(self.number()?));
+            return Piece::Zeros(self.number());
         }
-        Ok(Piece::Code(self.mnemonic()?, self.mode()?, self.argument()?))
+        let mnemonic = self.one_of(&MNEMONICS, Mnemonic::Nop);
+        let mode = self.one_of(&MODES, Mode::Implied);
+        Piece::Code(mnemonic, mode, self.argument())
+    }
+
+    /// Reads an instruction with a number.
+    fn instruction(&mut self) -> Instr {
+        Instr {
+            mnemonic: self.one_of(&MNEMONICS, Mnemonic::Nop),
+            mode: self.one_of(&MODES, Mode::Implied),
+            operand: self.short(),
+        }
     }
 }
 
@@ -85,18 +89,9 @@ pub fn same_bytes(found: &[u8], wanted: &[u8]) -> Result<(), Difference> {
     );
     same("the size", found_size, wanted_size)?;
     for (one, two) in found.iter().zip(wanted) {
-        same("a byte", u32::from(*one), u32::from(*two))?;
+        same_byte("a byte", *one, *two)?;
     }
     Ok(())
-}
-
-/// Reads an instruction with a number.
-fn instruction(reader: &mut Reader<'_>) -> Result<Instr, Difference> {
-    Ok(Instr {
-        mnemonic: reader.mnemonic()?,
-        mode: reader.mode()?,
-        operand: reader.short()?,
-    })
 }
 
 /// An instruction that is read from these bytes, which are no longer: its operand and its own bytes are those wanted.
@@ -126,24 +121,33 @@ fn check_encoded(instr: Instr, bytes: &[u8]) -> Result<(), Difference> {
     check_read(instr, bytes)
 }
 
+/// Sees that there is no instruction, or that there are no bytes of one.
+fn check_none<T: Drop>(found: Option<T>) -> Result<(), Difference> {
+    match found {
+        Some(_) => Err(Difference::Done),
+        None => Ok(()),
+    }
+}
+
 /// Reads and checks a line of one instruction.
 pub fn check_instruction(alloc: Global, reader: &mut Reader<'_>) -> Result<(), Difference> {
-    if reader.takes(b"has-no-bytes") {
-        let instr = instruction(reader)?;
-        reader.end()?;
-        return match encode(instr) {
-            Some(_) => Err(Difference::Done),
-            None => Ok(()),
-        };
-    }
     if reader.takes(b"isn't-read") {
-        return match decode(&reader.bytes(alloc)?) {
-            Some(_) => Err(Difference::Done),
-            None => Ok(()),
-        };
+        let bytes = reader.bytes(alloc);
+        reader.end()?;
+        return check_none(decode(&bytes));
     }
-    if reader.takes(b"is-read") {
-        return check_read(instruction(reader)?, &reader.bytes(alloc)?);
+    if reader.takes(b"has-no-bytes") {
+        let instr = reader.instruction();
+        reader.end()?;
+        return check_none(encode(instr));
     }
-    check_encoded(instruction(reader)?, &reader.bytes(alloc)?)
+    let is_read_alone = reader.takes(b"is-read");
+    let instr = reader.instruction();
+    let bytes = reader.bytes(alloc);
+    reader.end()?;
+    if is_read_alone {
+        check_read(instr, &bytes)
+    } else {
+        check_encoded(instr, &bytes)
+    }
 }

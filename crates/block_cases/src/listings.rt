@@ -3,8 +3,9 @@
 use crate::difference::{Difference, same};
 use crate::instructions::{Piece, same_bytes};
 use crate::words::{Reader, once};
-use asm6502::{AsmFault, Assembled, Item, Line, Listing, Operand, PartSet, assemble};
+use asm6502::{AsmFault, Assembled, Item, Line, Listing, Operand, PartSet, PastEnd, assemble};
 use base::{ByteList, NoMemory};
+use case_text::look_up;
 use std::alloc::Global;
 
 /// A line: its part, and what it holds.
@@ -42,25 +43,69 @@ pub struct ListingCase {
     moves: Vec<Move>,
 }
 
+/// What a line of a case says.
+#[derive(Clone, Copy)]
+enum Head {
+    Line,
+    Place(Place),
+    Assembles,
+    Length,
+    Refused,
+    Fixes,
+    Moves,
+    Stays,
+}
+
+/// How often the lines stand, where, and which.
+#[derive(Clone, Copy)]
+enum Place {
+    Copies,
+    Origin,
+    Kept,
+}
+
+/// What a line says, by its first word.
+const HEADS: [(&[u8], Head); 10] = [
+    (b"line", Head::Line),
+    (b"copies", Head::Place(Place::Copies)),
+    (b"origin", Head::Place(Place::Origin)),
+    (b"kept", Head::Place(Place::Kept)),
+    (b"assembles", Head::Assembles),
+    (b"length", Head::Length),
+    (b"refused", Head::Refused),
+    (b"fixes", Head::Fixes),
+    (b"moves", Head::Moves),
+    (b"stays", Head::Stays),
+];
+
+/// Why a listing is refused, by its name, with no matter which number.
+const FAULTS: [(&[u8], AsmFault); 5] = [
+    (b"BadLine", AsmFault::BadLine { line: 0 }),
+    (b"DoubleLabel", AsmFault::DoubleLabel { label: 0 }),
+    (b"UnknownLabel", AsmFault::UnknownLabel { label: 0 }),
+    (b"PastEnd", AsmFault::PastEnd { length: 0 }),
+    (b"BranchTooFar", AsmFault::BranchTooFar { line: 0 }),
+];
+
 /// Reads why a listing is refused.
-fn fault(reader: &mut Reader<'_>) -> Result<AsmFault, Difference> {
-    match reader.word()? {
-        b"BadLine" => Ok(AsmFault::BadLine {
-            line: reader.number()?,
-        }),
-        b"DoubleLabel" => Ok(AsmFault::DoubleLabel {
-            label: reader.short()?,
-        }),
-        b"UnknownLabel" => Ok(AsmFault::UnknownLabel {
-            label: reader.short()?,
-        }),
-        b"PastEnd" => Ok(AsmFault::PastEnd {
-            length: reader.number()?,
-        }),
-        b"BranchTooFar" => Ok(AsmFault::BranchTooFar {
-            line: reader.number()?,
-        }),
-        _ => Err(Difference::Unread),
+fn fault(reader: &mut Reader<'_>) -> AsmFault {
+    match reader.one_of(&FAULTS, AsmFault::NoMemory) {
+        AsmFault::BadLine { .. } => AsmFault::BadLine {
+            line: reader.number(),
+        },
+        AsmFault::DoubleLabel { .. } => AsmFault::DoubleLabel {
+            label: reader.short(),
+        },
+        AsmFault::UnknownLabel { .. } => AsmFault::UnknownLabel {
+            label: reader.short(),
+        },
+        AsmFault::PastEnd { .. } => AsmFault::PastEnd {
+            length: reader.number(),
+        },
+        AsmFault::BranchTooFar { .. } => AsmFault::BranchTooFar {
+            line: reader.number(),
+        },
+        AsmFault::NoMemory => AsmFault::NoMemory,
     }
 }
 
@@ -117,26 +162,25 @@ impl ListingCase {
         head: &[u8],
         reader: &mut Reader<'_>,
     ) -> Result<(), Difference> {
-        match head {
-            b"line" => self.read_row(reader)?,
-            b"copies" => self.copies = reader.number()?,
-            b"origin" => self.origin = reader.short()?,
-            b"kept" => self.kept = reader.number()?,
-            b"assembles" => self.wish(Want::Bytes(reader.bytes(alloc)?))?,
-            b"length" => self.wish(Want::Length(reader.number()?))?,
-            b"refused" => self.wish(Want::Fault(fault(reader)?))?,
-            b"fixes" => once(&mut self.fixes, reader.number()?)?,
-            b"moves" => {
-                let origin = reader.short()?;
-                let want = Want::Bytes(reader.bytes(alloc)?);
-                self.moves.push(Move { origin, want })?;
-            }
-            b"stays" => {
-                let origin = reader.short()?;
-                let want = Want::Length(reader.number()?);
-                self.moves.push(Move { origin, want })?;
-            }
-            _ => return Err(Difference::Unread),
+        match look_up(&HEADS, head) {
+            Some(Head::Line) => self.read_row(reader),
+            Some(Head::Place(place)) => self.read_place(place, reader),
+            Some(Head::Assembles) => self.wish(Want::Bytes(reader.bytes(alloc))),
+            Some(Head::Length) => self.wish(Want::Length(reader.number())),
+            Some(Head::Refused) => self.wish(Want::Fault(fault(reader))),
+            Some(Head::Fixes) => once(&mut self.fixes, reader.number()),
+            Some(Head::Moves) => self.push_move(reader.short(), Want::Bytes(reader.bytes(alloc))),
+            Some(Head::Stays) => self.push_move(reader.short(), Want::Length(reader.number())),
+            None => Err(Difference::Unread),
+        }
+    }
+
+    /// Reads how often the lines stand, and where.
+    fn read_place(&mut self, place: Place, reader: &mut Reader<'_>) -> Result<(), Difference> {
+        match place {
+            Place::Copies => self.copies = reader.number(),
+            Place::Origin => self.origin = reader.short(),
+            Place::Kept => self.kept = reader.number(),
         }
         Ok(())
     }
@@ -150,11 +194,17 @@ impl ListingCase {
         Ok(())
     }
 
+    /// Notes a move, or one that isn't made.
+    fn push_move(&mut self, origin: u16, want: Want) -> Result<(), Difference> {
+        self.moves.push(Move { origin, want })?;
+        Ok(())
+    }
+
     /// Reads a line of the listing.
     fn read_row(&mut self, reader: &mut Reader<'_>) -> Result<(), Difference> {
-        let part = reader.byte()?;
-        let piece = reader.piece()?;
-        for _ in 0..reader.times()? {
+        let part = reader.byte();
+        let piece = reader.piece();
+        for _ in 0..reader.times() {
             self.rows.push(Row { part, piece })?;
         }
         Ok(())
@@ -223,24 +273,28 @@ fn check_move(assembled: &mut Assembled, step: &Move) -> Result<(), Difference> 
     let Move { origin, want } = step;
     let before = assembled.origin;
     match assembled.relocate(*origin) {
-        Ok(()) => {
-            if let Want::Length(_) = want {
-                return Err(Difference::Done);
-            }
-            same(
-                "the origin",
-                u32::from(assembled.origin),
-                u32::from(*origin),
-            )?;
-            check_bytes(assembled, want)
-        }
+        Ok(()) => check_moved(assembled, *origin, want),
         Err(end) => {
             same("the origin", u32::from(assembled.origin), u32::from(before))?;
-            match want {
-                Want::Length(length) => same("the length", end.length, *length),
-                _ => Err(Difference::Unmoved(end)),
-            }
+            check_stay(end, want)
         }
+    }
+}
+
+/// Sees that bytes that were moved are those that are wanted.
+fn check_moved(assembled: &Assembled, origin: u16, want: &Want) -> Result<(), Difference> {
+    if let Want::Length(_) = want {
+        return Err(Difference::Done);
+    }
+    same("the origin", u32::from(assembled.origin), u32::from(origin))?;
+    check_bytes(assembled, want)
+}
+
+/// Sees that it is wanted that the bytes weren't moved, and how long they are.
+fn check_stay(end: PastEnd, want: &Want) -> Result<(), Difference> {
+    match want {
+        Want::Length(length) => same("the length", end.length, *length),
+        _ => Err(Difference::Unmoved(end)),
     }
 }
 

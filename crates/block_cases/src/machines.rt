@@ -1,9 +1,10 @@
 //! Cases of machines: bytes and registers, and what steps and calls make of them.
 
 use crate::bench::{Bench, IDLE, same_others, same_registers};
-use crate::difference::{Difference, same};
+use crate::difference::{Difference, same, same_byte};
 use crate::words::Reader;
-use cpu6502::{CallStop, Cpu, Stop, WriteLog};
+use case_text::look_up;
+use cpu6502::{CallStop, Cpu, SidWrite, Stop, WriteLog};
 use std::alloc::Global;
 
 /// A case of a machine: its lines are done one after the other.
@@ -16,13 +17,51 @@ pub struct MachineCase {
     is_open: bool,
 }
 
+/// What a line of a case says.
+#[derive(Clone, Copy)]
+enum Head {
+    Does(Deed),
+    At,
+    Writes,
+    Log,
+    After,
+}
+
+/// What a line does.
+#[derive(Clone, Copy)]
+enum Deed {
+    Cpu,
+    Put,
+    Step,
+    Call,
+}
+
+/// What a line says, by its first word.
+const HEADS: [(&[u8], Head); 8] = [
+    (b"cpu", Head::Does(Deed::Cpu)),
+    (b"put", Head::Does(Deed::Put)),
+    (b"step", Head::Does(Deed::Step)),
+    (b"call", Head::Does(Deed::Call)),
+    (b"at", Head::At),
+    (b"writes", Head::Writes),
+    (b"log", Head::Log),
+    (b"after", Head::After),
+];
+
+/// A stop of each name, at no matter which place.
+const STOPS: [(&[u8], Stop); 3] = [
+    (b"Illegal", Stop::Illegal { at: 0 }),
+    (b"Break", Stop::Break { at: 0 }),
+    (b"Decimal", Stop::Decimal { at: 0 }),
+];
+
 /// Reads all registers.
-fn registers(reader: &mut Reader<'_>) -> Result<Cpu, Difference> {
-    let a = reader.byte()?;
-    let x = reader.byte()?;
-    let y = reader.byte()?;
-    let sp = reader.byte()?;
-    let pc = reader.short()?;
+fn registers(reader: &mut Reader<'_>) -> Cpu {
+    let a = reader.byte();
+    let x = reader.byte();
+    let y = reader.byte();
+    let sp = reader.byte();
+    let pc = reader.short();
     reader.flags(Cpu {
         a,
         x,
@@ -34,33 +73,28 @@ fn registers(reader: &mut Reader<'_>) -> Result<Cpu, Difference> {
 }
 
 /// Reads why a step stops.
-fn stop(reader: &mut Reader<'_>) -> Result<Stop, Difference> {
-    match reader.word()? {
-        b"Illegal" => Ok(Stop::Illegal {
-            at: reader.short()?,
-        }),
-        b"Break" => Ok(Stop::Break {
-            at: reader.short()?,
-        }),
-        b"Decimal" => Ok(Stop::Decimal {
-            at: reader.short()?,
-        }),
-        _ => Err(Difference::Unread),
+fn stop(reader: &mut Reader<'_>) -> Stop {
+    let stop = reader.one_of(&STOPS, Stop::Break { at: 0 });
+    let at = reader.short();
+    match stop {
+        Stop::Illegal { .. } => Stop::Illegal { at },
+        Stop::Break { .. } => Stop::Break { at },
+        Stop::Decimal { .. } => Stop::Decimal { at },
     }
 }
 
 /// Reads how a call ends.
-fn end_of_call(reader: &mut Reader<'_>) -> Result<Result<u32, CallStop>, Difference> {
+fn end_of_call(reader: &mut Reader<'_>) -> Result<u32, CallStop> {
     if reader.takes(b"returns") {
-        return Ok(Ok(reader.number()?));
+        return Ok(reader.number());
     }
     if reader.takes(b"Budget") {
-        return Ok(Err(CallStop::Budget));
+        return Err(CallStop::Budget);
     }
-    Ok(Err(CallStop::Stopped(stop(reader)?)))
+    Err(CallStop::Stopped(stop(reader)))
 }
 
-/// Makes one step, which is done or stops as it is wanted.
+/// Makes one step, which is done, or stops as it is wanted.
 fn step(bench: &mut Bench, reader: &mut Reader<'_>) -> Result<(), Difference> {
     if reader.peek().is_none() {
         return match bench.machine.step() {
@@ -68,12 +102,42 @@ fn step(bench: &mut Bench, reader: &mut Reader<'_>) -> Result<(), Difference> {
             Err(found) => Err(Difference::Stopped(found)),
         };
     }
-    let wanted = stop(reader)?;
+    let wanted = stop(reader);
+    reader.end()?;
     match bench.machine.step() {
         Ok(()) => Err(Difference::Done),
         Err(found) if found == wanted => Ok(()),
         Err(found) => Err(Difference::Stopped(found)),
     }
+}
+
+/// Sees that a call ended as it is wanted.
+fn same_end(found: Result<u32, CallStop>, wanted: Result<u32, CallStop>) -> Result<(), Difference> {
+    match (found, wanted) {
+        (Ok(steps), Ok(wanted)) => same("instructions", steps, wanted),
+        (Err(found), Err(wanted)) if found == wanted => Ok(()),
+        (Ok(_), Err(_)) => Err(Difference::Done),
+        (Err(CallStop::Stopped(stop)), _) => Err(Difference::Stopped(stop)),
+        (Err(CallStop::Budget), _) => Err(Difference::Endless),
+    }
+}
+
+/// Puts bytes into memory, or only wants them there.
+fn bytes_at(
+    alloc: Global,
+    bench: &mut Bench,
+    reader: &mut Reader<'_>,
+    are_put: bool,
+) -> Result<(), Difference> {
+    let at = reader.short();
+    let bytes = reader.some_bytes(alloc);
+    reader.end()?;
+    if are_put {
+        bench.put(at, &bytes);
+    } else {
+        bench.want(at, &bytes);
+    }
+    Ok(())
 }
 
 impl MachineCase {
@@ -88,68 +152,70 @@ impl MachineCase {
 
     /// Makes a call, which ends as it is wanted.
     fn call(&mut self, bench: &mut Bench, reader: &mut Reader<'_>) -> Result<(), Difference> {
-        let address = reader.short()?;
-        let a = reader.byte()?;
-        let budget = reader.number()?;
-        let wanted = end_of_call(reader)?;
+        let address = reader.short();
+        let a = reader.byte();
+        let budget = reader.number();
+        let wanted = end_of_call(reader);
+        reader.end()?;
         let found = bench.machine.call(address, a, budget, &mut self.log);
-        match (found, wanted) {
-            (Ok(steps), Ok(wanted)) => same("instructions", steps, wanted),
-            (Err(found), Err(wanted)) if found == wanted => Ok(()),
-            (Ok(_), Err(_)) => Err(Difference::Done),
-            (Err(CallStop::Stopped(stop)), _) => Err(Difference::Stopped(stop)),
-            (Err(CallStop::Budget), _) => Err(Difference::Endless),
-        }
+        same_end(found, wanted)
     }
 
-    /// Sees that the log has these writes: a register and a byte each.
-    fn check_log(&self, wanted: &[u8]) -> Result<(), Difference> {
-        if wanted.len() % 2 != 0 {
-            return Err(Difference::Unread);
-        }
-        let writes = self.log.writes.as_slice();
-        let count = (wanted.len() / 2).min(0xffff_ffff) as u32;
-        same("writes", writes.len().min(0xffff_ffff) as u32, count)?;
-        for (write, pair) in writes.iter().zip(wanted.chunks(2)) {
-            if let [register, value] = pair {
-                same(
-                    "a register",
-                    u32::from(write.register),
-                    u32::from(*register),
-                )?;
-                same("a value", u32::from(write.value), u32::from(*value))?;
-            }
-        }
-        Ok(())
-    }
-
-    /// Reads a line that does something, if it is one, and does it.
+    /// Does what a line says.
     fn does(
         &mut self,
         alloc: Global,
         bench: &mut Bench,
-        head: &[u8],
+        deed: Deed,
         reader: &mut Reader<'_>,
-    ) -> Result<bool, Difference> {
-        match head {
-            b"cpu" => bench.machine.cpu = registers(reader)?,
-            b"put" => {
-                let at = reader.short()?;
-                bench.put(at, &reader.some_bytes(alloc)?);
-            }
-            b"step" => step(bench, reader)?,
-            b"call" => self.call(bench, reader)?,
-            _ => return Ok(false),
-        }
+    ) -> Result<(), Difference> {
         self.is_open = true;
-        Ok(true)
+        match deed {
+            Deed::Cpu => {
+                bench.machine.cpu = registers(reader);
+                reader.end()
+            }
+            Deed::Put => bytes_at(alloc, bench, reader, true),
+            Deed::Step => step(bench, reader),
+            Deed::Call => self.call(bench, reader),
+        }
+    }
+
+    /// Sees that the log has the writes that a line has: a register and a byte each.
+    fn check_log(&self, alloc: Global, reader: &mut Reader<'_>) -> Result<(), Difference> {
+        let wanted = reader.bytes(alloc);
+        reader.end()?;
+        let writes = self.log.writes.as_slice();
+        if wanted.len() % 2 != 0 {
+            return Err(Difference::Unread);
+        }
+        let count = (wanted.len() / 2).min(0xffff_ffff) as u32;
+        same("writes", writes.len().min(0xffff_ffff) as u32, count)?;
+        same_writes(writes, &wanted)
     }
 
     /// Sees that so many writes were kept, and so many came beyond them.
-    fn check_count(&self, count: u32, beyond: u32) -> Result<(), Difference> {
+    fn check_count(&self, reader: &mut Reader<'_>) -> Result<(), Difference> {
+        let count = reader.number();
+        let beyond = reader.number();
+        reader.end()?;
         let kept = self.log.writes.as_slice().len().min(0xffff_ffff) as u32;
         same("writes", kept, count)?;
         same("writes beyond", self.log.beyond, beyond)
+    }
+
+    /// Sees that all registers are those of a line.
+    fn check_registers(
+        &mut self,
+        bench: &Bench,
+        reader: &mut Reader<'_>,
+    ) -> Result<(), Difference> {
+        let wanted = registers(reader);
+        reader.end()?;
+        self.wants = true;
+        self.is_open = false;
+        same_registers(bench.machine.cpu, wanted)?;
+        same_others(bench.machine.cpu, wanted)
     }
 
     /// Reads a line of the case, and does it.
@@ -160,25 +226,13 @@ impl MachineCase {
         head: &[u8],
         reader: &mut Reader<'_>,
     ) -> Result<(), Difference> {
-        if self.does(alloc, bench, head, reader)? {
-            return Ok(());
-        }
-        match head {
-            b"at" => {
-                let at = reader.short()?;
-                bench.want(at, &reader.some_bytes(alloc)?);
-                Ok(())
-            }
-            b"writes" => self.check_log(&reader.bytes(alloc)?),
-            b"log" => self.check_count(reader.number()?, reader.number()?),
-            b"after" => {
-                let wanted = registers(reader)?;
-                self.wants = true;
-                self.is_open = false;
-                same_registers(bench.machine.cpu, wanted)?;
-                same_others(bench.machine.cpu, wanted)
-            }
-            _ => Err(Difference::Unread),
+        match look_up(&HEADS, head) {
+            Some(Head::Does(deed)) => self.does(alloc, bench, deed, reader),
+            Some(Head::At) => bytes_at(alloc, bench, reader, false),
+            Some(Head::Writes) => self.check_log(alloc, reader),
+            Some(Head::Log) => self.check_count(reader),
+            Some(Head::After) => self.check_registers(bench, reader),
+            None => Err(Difference::Unread),
         }
     }
 
@@ -192,4 +246,15 @@ impl MachineCase {
         }
         bench.compare()
     }
+}
+
+/// Sees that writes are these pairs of a register and a byte, as far as both go.
+fn same_writes(writes: &[SidWrite], wanted: &[u8]) -> Result<(), Difference> {
+    for (write, pair) in writes.iter().zip(wanted.chunks(2)) {
+        if let [register, value] = pair {
+            same_byte("a register", write.register, *register)?;
+            same_byte("a value", write.value, *value)?;
+        }
+    }
+    Ok(())
 }

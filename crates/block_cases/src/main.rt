@@ -7,7 +7,7 @@
 //! A denial is a case that has to differ. The notation is in `docs/block-cases.md`.
 //!
 //! It has no contract above it but that a case that differs isn't counted as one that agrees. It stands on `lowering`
-//! for lines, on `asm6502` for their bytes, and on `cpu6502` for the machine.
+//! for lines, on `asm6502` for their bytes, on `cpu6502` for the machine, and on `case_text` for the count.
 #![tactic(auto)]
 
 mod bench;
@@ -22,10 +22,8 @@ mod numbers;
 mod steps;
 mod words;
 
-ghost use Rattle.std.specs.Prelude.{◌≡◌, ◌≤◌, ◌↔◌, IsTrue, IfOk};
-
 use bench::Bench;
-use cases::Count;
+use case_text::Tally;
 use std::process::ExitCode;
 use std::rt::{Env, Files};
 use std::{env, fs, io};
@@ -36,49 +34,29 @@ fn do_file<R: Files + Print + AllocGlobal>(
     rt: &R,
     bench: &mut Bench,
     file: &str,
-    count: &mut Count,
+    tally: &mut Tally,
 ) -> io::Result<()> {
     let text = fs::read_to_string(rt, file)?;
     let words = words_of(rt.alloc(), text.as_str())?;
-    count.do_file(rt, file, bench, Reader::new(words.as_slice()))
+    cases::do_file(rt, tally, file, bench, Reader::new(words.as_slice()))
 }
 
 /// Does the cases of each file that the program is given.
-fn run<R: Env + Files + Print + AllocGlobal>(rt: &R) -> io::Result<Count> {
-    let mut count = Count {
-        agree: 0,
-        differ: 0,
-    };
+fn run<R: Env + Files + Print + AllocGlobal>(rt: &R) -> io::Result<Tally> {
+    let mut tally = Tally::new();
     let Ok(mut bench) = Bench::new(rt.alloc()) else {
         return Err(io::Error::from(io::ErrorKind::OutOfMemory));
     };
     for file in env::args(rt)?.skip(1) {
-        do_file(rt, &mut bench, file.as_str(), &mut count)?;
+        do_file(rt, &mut bench, file.as_str(), &mut tally)?;
     }
-    Ok(count)
+    Ok(tally)
 }
 
-/// Prints how many cases agree, and answers whether there are cases and all of them do.
-///
-/// # Errors
-///
-/// The line can't be printed.
-fn tell(rt: &impl Print, count: Count) -> io::Result<bool>
-    ensures { IfOk result (λ passes. IsTrue passes ↔ ((count.differ ≡ 0) × (1 ≤ count.agree))) }
-{
-    let Count { agree, differ } = count;
-    if differ == 0 {
-        println!(rt; "{agree} cases agree")?;
-    } else {
-        println!(rt; "{agree} agree, {differ} differ")?;
-    }
-    Ok(differ == 0 && agree > 0)
-}
-
-/// Goes through the cases of the files, and ends with status 0 where all agree.
+/// Goes through the cases of the files, and ends with status 0 where there are cases and all agree.
 fn main(rt: HostRuntime) -> io::Result<ExitCode> {
-    let count = run(&rt)?;
-    if tell(&rt, count)? {
+    let tally = run(&rt)?;
+    if tally.tell(&rt)? {
         Ok(ExitCode::SUCCESS)
     } else {
         Ok(ExitCode::FAILURE)

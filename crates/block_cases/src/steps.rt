@@ -7,252 +7,192 @@ use blocks::{
 };
 use std::alloc::Global;
 
-/// A step's name, by what it takes.
-#[derive(Clone, Copy)]
-enum Name {
-    Load,
-    Store,
-    Double,
-    Bits(Bits),
-    Sum(Sum),
-    Count(Count),
-    Halve(Halve),
-}
+/// A step of each name, with no matter which operand.
+const STEPS: [(&[u8], Step); 15] = [
+    (b"Load", Step::Load(Source::Byte)),
+    (b"Store", Step::Store(Place::Y)),
+    (b"Double", Step::Double),
+    (b"Index", Step::Index(Operand::Const(0))),
+    (b"And", Step::And(Operand::Const(0))),
+    (b"Or", Step::Or(Operand::Const(0))),
+    (b"Xor", Step::Xor(Operand::Const(0))),
+    (b"Add", Step::Add(Summand::Entry(0))),
+    (b"Sub", Step::Sub(Summand::Entry(0))),
+    (b"AddOn", Step::AddOn(Summand::Entry(0))),
+    (b"SubOn", Step::SubOn(Summand::Entry(0))),
+    (b"Inc", Step::Inc(Counted::Y)),
+    (b"Dec", Step::Dec(Counted::Y)),
+    (b"HalveAt", Step::HalveAt(Cell::Var(0))),
+    (b"HalveOn", Step::HalveOn(Cell::Var(0))),
+];
 
-/// The steps that take an operand.
-#[derive(Clone, Copy)]
-enum Bits {
-    Index,
-    And,
-    Or,
-    Xor,
-}
-
-/// The steps that take an operand of sums.
-#[derive(Clone, Copy)]
-enum Sum {
-    Add,
-    Sub,
-    AddOn,
-    SubOn,
-}
-
-/// The steps that count.
-#[derive(Clone, Copy)]
-enum Count {
-    Inc,
-    Dec,
-}
-
-/// The steps that halve.
-#[derive(Clone, Copy)]
-enum Halve {
-    At,
-    On,
-}
-
-/// The step of a word.
-fn name_of(word: &[u8]) -> Option<Name> {
-    Some(match word {
-        b"Load" => Name::Load,
-        b"Store" => Name::Store,
-        b"Double" => Name::Double,
-        b"Index" => Name::Bits(Bits::Index),
-        b"And" => Name::Bits(Bits::And),
-        b"Or" => Name::Bits(Bits::Or),
-        b"Xor" => Name::Bits(Bits::Xor),
-        b"Add" => Name::Sum(Sum::Add),
-        b"Sub" => Name::Sum(Sum::Sub),
-        b"AddOn" => Name::Sum(Sum::AddOn),
-        b"SubOn" => Name::Sum(Sum::SubOn),
-        b"Inc" => Name::Count(Count::Inc),
-        b"Dec" => Name::Count(Count::Dec),
-        b"HalveAt" => Name::Halve(Halve::At),
-        b"HalveOn" => Name::Halve(Halve::On),
-        _ => return None,
-    })
-}
-
-/// The step with an operand.
-fn bits_step(name: Bits, operand: Operand) -> Step {
-    match name {
-        Bits::Index => Step::Index(operand),
-        Bits::And => Step::And(operand),
-        Bits::Or => Step::Or(operand),
-        Bits::Xor => Step::Xor(operand),
-    }
-}
-
-/// The step with an operand of sums.
-fn sum_step(name: Sum, summand: Summand) -> Step {
-    match name {
-        Sum::Add => Step::Add(summand),
-        Sum::Sub => Step::Sub(summand),
-        Sum::AddOn => Step::AddOn(summand),
-        Sum::SubOn => Step::SubOn(summand),
-    }
-}
-
-/// The step that counts this.
-fn count_step(name: Count, what: Counted) -> Step {
-    match name {
-        Count::Inc => Step::Inc(what),
-        Count::Dec => Step::Dec(what),
-    }
-}
-
-/// The step that halves this.
-fn halve_step(name: Halve, cell: Cell) -> Step {
-    match name {
-        Halve::At => Step::HalveAt(cell),
-        Halve::On => Step::HalveOn(cell),
-    }
-}
+/// What a test of each name asks, with no matter which operand.
+const CONDITIONS: [(&[u8], Condition); 6] = [
+    (b"Zero", Condition::Zero),
+    (b"Minus", Condition::Minus),
+    (b"Carry", Condition::Carry),
+    (b"Equal", Condition::Equal(Operand::Const(0))),
+    (b"Less", Condition::Less(Operand::Const(0))),
+    (b"YEqual", Condition::YEqual(0)),
+];
 
 impl Reader<'_> {
     /// Reads a byte of the block's own.
-    pub fn cell(&mut self) -> Result<Cell, Difference> {
-        match self.word()? {
-            b"Var" => Ok(Cell::Var(self.short()?)),
-            b"VoiceVar" => Ok(Cell::VoiceVar(self.short()?)),
-            _ => Err(Difference::Unread),
+    pub fn cell(&mut self) -> Cell {
+        if self.takes(b"VoiceVar") {
+            return Cell::VoiceVar(self.short());
         }
+        self.mark(b"Var");
+        Cell::Var(self.short())
     }
 
     /// Reads an operand.
-    pub fn operand(&mut self) -> Result<Operand, Difference> {
+    pub fn operand(&mut self) -> Operand {
         if self.takes(b"Const") {
-            return Ok(Operand::Const(self.byte()?));
+            return Operand::Const(self.byte());
         }
-        Ok(Operand::Held(self.cell()?))
+        Operand::Held(self.cell())
     }
 
     /// Reads an operand of sums.
-    fn summand(&mut self) -> Result<Summand, Difference> {
+    fn summand(&mut self) -> Summand {
         if self.takes(b"Entry") {
-            return Ok(Summand::Entry(self.short()?));
+            return Summand::Entry(self.short());
         }
-        Ok(Summand::Plain(self.operand()?))
+        Summand::Plain(self.operand())
     }
 
     /// Reads what is loaded.
-    fn source(&mut self) -> Result<Source, Difference> {
+    fn source(&mut self) -> Source {
         if self.takes(b"Byte") {
-            return Ok(Source::Byte);
+            return Source::Byte;
         }
         if self.takes(b"Y") {
-            return Ok(Source::Y);
+            return Source::Y;
         }
-        Ok(Source::Direct(self.summand()?))
+        Source::Direct(self.summand())
     }
 
     /// Reads which of two bytes is meant.
-    fn half(&mut self) -> Result<Half, Difference> {
-        match self.word()? {
-            b"Low" => Ok(Half::Low),
-            b"High" => Ok(Half::High),
-            _ => Err(Difference::Unread),
+    fn half(&mut self) -> Half {
+        if self.takes(b"High") {
+            return Half::High;
         }
+        self.mark(b"Low");
+        Half::Low
     }
 
     /// Reads where a byte is stored.
-    pub fn place(&mut self) -> Result<Place, Difference> {
+    pub fn place(&mut self) -> Place {
         if self.takes(b"Y") {
-            return Ok(Place::Y);
+            return Place::Y;
         }
         if self.takes(b"Register") {
-            return Ok(Place::Register(self.byte()?));
+            return Place::Register(self.byte());
         }
         if self.takes(b"VoiceRegister") {
-            return Ok(Place::VoiceRegister(self.byte()?));
+            return Place::VoiceRegister(self.byte());
         }
         if self.takes(b"Timer") {
-            return Ok(Place::Timer(self.half()?));
+            return Place::Timer(self.half());
         }
         if self.takes(b"Pointer") {
-            return Ok(Place::Pointer(self.half()?));
+            return Place::Pointer(self.half());
         }
-        Ok(Place::Held(self.cell()?))
+        Place::Held(self.cell())
     }
 
     /// Reads what is counted.
-    fn counted(&mut self) -> Result<Counted, Difference> {
+    fn counted(&mut self) -> Counted {
         if self.takes(b"Y") {
-            return Ok(Counted::Y);
+            return Counted::Y;
         }
-        Ok(Counted::Held(self.cell()?))
+        Counted::Held(self.cell())
     }
 
     /// Reads a step.
-    fn step(&mut self) -> Result<Step, Difference> {
-        match name_of(self.word()?).ok_or(Difference::Unread)? {
-            Name::Load => Ok(Step::Load(self.source()?)),
-            Name::Store => Ok(Step::Store(self.place()?)),
-            Name::Double => Ok(Step::Double),
-            Name::Bits(name) => Ok(bits_step(name, self.operand()?)),
-            Name::Sum(name) => Ok(sum_step(name, self.summand()?)),
-            Name::Count(name) => Ok(count_step(name, self.counted()?)),
-            Name::Halve(name) => Ok(halve_step(name, self.cell()?)),
+    fn step(&mut self) -> Step {
+        match self.one_of(&STEPS, Step::Double) {
+            Step::Load(_) => Step::Load(self.source()),
+            Step::Store(_) => Step::Store(self.place()),
+            Step::Double => Step::Double,
+            Step::Index(_) => Step::Index(self.operand()),
+            Step::And(_) => Step::And(self.operand()),
+            Step::Or(_) => Step::Or(self.operand()),
+            Step::Xor(_) => Step::Xor(self.operand()),
+            Step::Add(_) => Step::Add(self.summand()),
+            Step::Sub(_) => Step::Sub(self.summand()),
+            Step::AddOn(_) => Step::AddOn(self.summand()),
+            Step::SubOn(_) => Step::SubOn(self.summand()),
+            Step::Inc(_) => Step::Inc(self.counted()),
+            Step::Dec(_) => Step::Dec(self.counted()),
+            Step::HalveAt(_) => Step::HalveAt(self.cell()),
+            Step::HalveOn(_) => Step::HalveOn(self.cell()),
+        }
+    }
+
+    /// Reads a step, as often as it stands, and adds it.
+    fn add_step(&mut self, steps: &mut Vec<Step>) {
+        let step = self.step();
+        for _ in 0..self.times() {
+            if steps.push(step).is_err() {
+                self.is_poor = true;
+                break;
+            }
         }
     }
 
     /// Reads steps.
-    pub fn steps(&mut self, alloc: Global) -> Result<Vec<Step>, Difference> {
+    pub fn steps(&mut self, alloc: Global) -> Vec<Step> {
         let mut steps = Vec::new(alloc);
-        self.mark(b"[")?;
+        self.mark(b"[");
         if self.takes(b"]") {
-            return Ok(steps);
+            return steps;
         }
         for _ in 0..self.left() {
-            let step = self.step()?;
-            for _ in 0..self.times()? {
-                steps.push(step)?;
+            self.add_step(&mut steps);
+            if !self.takes(b",") {
+                break;
             }
-            if self.takes(b"]") {
-                return Ok(steps);
-            }
-            self.mark(b",")?;
         }
-        Err(Difference::Unread)
+        self.mark(b"]");
+        steps
     }
 
     /// Reads what a test asks.
-    fn condition(&mut self) -> Result<Condition, Difference> {
-        Ok(match self.word()? {
-            b"Zero" => Condition::Zero,
-            b"Minus" => Condition::Minus,
-            b"Carry" => Condition::Carry,
-            b"Equal" => Condition::Equal(self.operand()?),
-            b"Less" => Condition::Less(self.operand()?),
-            b"YEqual" => Condition::YEqual(self.byte()?),
-            _ => return Err(Difference::Unread),
-        })
+    fn condition(&mut self) -> Condition {
+        match self.one_of(&CONDITIONS, Condition::Zero) {
+            Condition::Equal(_) => Condition::Equal(self.operand()),
+            Condition::Less(_) => Condition::Less(self.operand()),
+            Condition::YEqual(_) => Condition::YEqual(self.byte()),
+            condition => condition,
+        }
     }
 
     /// Reads a test.
-    pub fn test(&mut self) -> Result<Test, Difference> {
-        match self.word()? {
-            b"Is" => Ok(Test::Is(self.condition()?)),
-            b"Not" => Ok(Test::Not(self.condition()?)),
-            _ => Err(Difference::Unread),
+    pub fn test(&mut self) -> Test {
+        if self.takes(b"Not") {
+            return Test::Not(self.condition());
         }
+        self.mark(b"Is");
+        Test::Is(self.condition())
     }
 
     /// Reads what counts the turns of a loop.
-    pub fn counter(&mut self) -> Result<Counter, Difference> {
-        match self.word()? {
-            b"Y" => Ok(Counter::Y),
-            b"Var" => Ok(Counter::Var(self.short()?)),
-            _ => Err(Difference::Unread),
+    pub fn counter(&mut self) -> Counter {
+        if self.takes(b"Y") {
+            return Counter::Y;
         }
+        self.mark(b"Var");
+        Counter::Var(self.short())
     }
 
     /// Reads where a fill begins.
-    pub fn start(&mut self) -> Result<Start, Difference> {
-        match self.word()? {
-            b"Var" => Ok(Start::Var(self.short()?)),
-            b"Register" => Ok(Start::Register(self.byte()?)),
-            _ => Err(Difference::Unread),
+    pub fn start(&mut self) -> Start {
+        if self.takes(b"Register") {
+            return Start::Register(self.byte());
         }
+        self.mark(b"Var");
+        Start::Var(self.short())
     }
 }

@@ -1,6 +1,7 @@
 //! The words of a file of cases.
 
 use crate::difference::Difference;
+use case_text::look_up;
 use std::alloc::{AllocError, Global};
 
 /// A word, or one of the marks `[`, `]`, `,` and `*`.
@@ -89,7 +90,8 @@ pub fn once<T: Drop>(given: &mut Option<T>, value: T) -> Result<(), Difference> 
     Ok(())
 }
 
-/// A reader of words.
+/// A reader of words. It notes that a line isn't of the notation, and goes on with 0 or the like up to the line's end,
+/// which tells it.
 #[derive(Clone, Copy)]
 pub struct Reader<'a> {
     words: &'a [Word<'a>],
@@ -97,6 +99,10 @@ pub struct Reader<'a> {
     at: usize,
     /// The line of the word that was read last.
     pub line: u32,
+    /// Whether the line isn't of the notation.
+    pub is_unread: bool,
+    /// Whether there was no memory for what it says.
+    pub is_poor: bool,
 }
 
 impl<'a> Reader<'a> {
@@ -106,6 +112,8 @@ impl<'a> Reader<'a> {
             words,
             at: 0,
             line: 0,
+            is_unread: false,
+            is_poor: false,
         }
     }
 
@@ -114,18 +122,32 @@ impl<'a> Reader<'a> {
         self.words.len().saturating_sub(self.at)
     }
 
-    /// Reads the next word, if there is one.
-    fn next(&mut self) -> Option<Word<'a>> {
-        let word = *self.words.get(self.at)?;
-        self.at = self.at.saturating_add(1);
-        self.line = word.line;
-        Some(word)
+    /// A value that the line has to have, or another where it hasn't, which is noted.
+    pub fn known<T: Copy>(&mut self, value: Option<T>, otherwise: T) -> T {
+        match value {
+            Some(value) => value,
+            None => {
+                self.is_unread = true;
+                otherwise
+            }
+        }
+    }
+
+    /// Passes over the next word, if there is one.
+    pub fn pass(&mut self) {
+        if let Some(word) = self.words.get(self.at) {
+            self.at = self.at.saturating_add(1);
+            self.line = word.line;
+        }
     }
 
     /// Goes on to the next word that begins a line, and reads it.
     pub fn head(&mut self) -> Option<&'a [u8]> {
+        self.is_unread = false;
+        self.is_poor = false;
         for _ in 0..self.left() {
-            let word = self.next()?;
+            let word = *self.words.get(self.at)?;
+            self.pass();
             if word.is_head {
                 return Some(word.text);
             }
@@ -133,21 +155,13 @@ impl<'a> Reader<'a> {
         None
     }
 
-    /// Whether the next word stands in the same line as the one before.
-    fn is_within_line(&self) -> bool {
-        match self.words.get(self.at) {
-            Some(word) => !word.is_head && word.line == self.line,
-            None => false,
-        }
-    }
-
     /// Passes over the rest of the line, but not over lines that go on with it.
     pub fn pass_line(&mut self) {
         for _ in 0..self.left() {
-            if !self.is_within_line() {
-                break;
+            match self.words.get(self.at) {
+                Some(word) if !word.is_head && word.line == self.line => self.pass(),
+                _ => break,
             }
-            let _ = self.next();
         }
     }
 
@@ -159,52 +173,54 @@ impl<'a> Reader<'a> {
         }
     }
 
-    /// Reads the next word.
-    ///
-    /// # Errors
-    ///
-    /// It begins a line, or there is none.
-    pub fn word(&mut self) -> Result<&'a [u8], Difference> {
+    /// Reads the next word; an empty one where it begins a line or there is none, which is noted.
+    pub fn word(&mut self) -> &'a [u8] {
         match self.peek() {
             Some(text) => {
-                let _ = self.next();
-                Ok(text)
+                self.pass();
+                text
             }
-            None => Err(Difference::Unread),
+            None => {
+                self.is_unread = true;
+                &[]
+            }
         }
+    }
+
+    /// Reads the next word, and answers what stands for it in a table; where nothing does, which is noted, another value.
+    pub fn one_of<T: Copy>(&mut self, table: &[(&[u8], T)], otherwise: T) -> T {
+        let value = look_up(table, self.word());
+        self.known(value, otherwise)
     }
 
     /// Reads the next word if it is this one, and answers whether it is.
     pub fn takes(&mut self, word: &[u8]) -> bool {
         let is_next = self.peek() == Some(word);
         if is_next {
-            let _ = self.next();
+            self.pass();
         }
         is_next
     }
 
     /// Reads the next word, which has to be this one.
-    ///
-    /// # Errors
-    ///
-    /// It isn't.
-    pub fn mark(&mut self, word: &[u8]) -> Result<(), Difference> {
-        if self.takes(word) {
-            Ok(())
-        } else {
-            Err(Difference::Unread)
+    pub fn mark(&mut self, word: &[u8]) {
+        if !self.takes(word) {
+            self.is_unread = true;
         }
     }
 
-    /// Sees that no word is left in the line and those that go on with it.
+    /// Sees that the line was of the notation, and that no word is left in it and those that go on with it.
     ///
     /// # Errors
     ///
-    /// One is.
+    /// It wasn't, or one is; or out of memory.
     pub fn end(&self) -> Result<(), Difference> {
-        match self.peek() {
-            Some(_) => Err(Difference::Unread),
-            None => Ok(()),
+        if self.is_poor {
+            return Err(Difference::NoMemory);
         }
+        if self.is_unread || self.peek().is_some() {
+            return Err(Difference::Unread);
+        }
+        Ok(())
     }
 }

@@ -1,4 +1,4 @@
-//! A line: its first word, its other words, and its numbers.
+//! A line: its first word, its other words, what a word stands for, and numbers.
 
 use crate::Wrong;
 use std::alloc::Global;
@@ -6,6 +6,16 @@ use std::alloc::Global;
 /// The first word of a line, and the rest behind one space.
 pub fn first_word(line: &str) -> (&str, &str) {
     line.split_once(' ').unwrap_or((line, ""))
+}
+
+/// What stands in a table for a word, if anything does.
+pub fn look_up<T: Copy>(table: &[(&[u8], T)], word: &[u8]) -> Option<T> {
+    for entry in table {
+        if entry.0 == word {
+            return Some(entry.1);
+        }
+    }
+    None
 }
 
 /// The words of a text. A word in quotation marks may hold spaces, or nothing.

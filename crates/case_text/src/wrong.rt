@@ -1,9 +1,11 @@
 //! Why a line of a file of cases isn't met.
 
+ghost use Rattle.std.specs.Prelude.{◌↔◌, IsOk, IsTrue};
+
 use std::alloc::{AllocError, AllocFailed};
 
 /// Why a line of a file of cases isn't met.
-#[derive(Debug, Drop)]
+#[derive(Clone, Copy, Debug)]
 pub enum Wrong {
     /// The line spells nothing.
     BadLine,
@@ -22,5 +24,20 @@ impl From<AllocError> for Wrong {
 impl<T: Drop> From<AllocFailed<T>> for Wrong {
     fn from(_: AllocFailed<T>) -> Wrong {
         Wrong::NoMemory
+    }
+}
+
+/// Sees that a fact holds that a line states.
+///
+/// # Errors
+///
+/// It doesn't.
+pub fn holds(fact: bool, else_says: &'static str) -> Result<(), Wrong>
+    ensures { IsOk result ↔ IsTrue fact }
+{
+    if fact {
+        Ok(())
+    } else {
+        Err(Wrong::Differs(else_says))
     }
 }

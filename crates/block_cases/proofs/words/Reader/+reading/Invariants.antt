@@ -8,20 +8,5 @@ decreases-block l = 2 * l.depth + 1
 abbrev pub decreases-list : goal.decreases-list
 decreases-list l = 2 * l.depth + 2
 
-abbrev pub decreases-choice : goal.decreases-choice
-decreases-choice l = 2 * l.depth + 2
-
-abbrev pub decreases-turns : goal.decreases-turns
-decreases-turns l = 2 * l.depth + 2
-
-abbrev pub decreases-choice_of_bytes : goal.decreases-choice_of_bytes
-decreases-choice_of_bytes l = 2 * l.depth + 2
-
-abbrev pub decreases-turns_of_bytes : goal.decreases-turns_of_bytes
-decreases-turns_of_bytes l = 2 * l.depth + 2
-
-abbrev pub decreases-voices : goal.decreases-voices
-decreases-voices l = 2 * l.depth + 2
-
-abbrev pub decreases-part : goal.decreases-part
-decreases-part l = 2 * l.depth + 2
+abbrev pub decreases-some_blocks : goal.decreases-some_blocks
+decreases-some_blocks l = 2 * l.depth + 2

@@ -45,11 +45,28 @@ pub struct Loaded {
     log: WriteLog,
 }
 
+/// A decimal number of 8 bits.
+pub fn byte_of(text: &str) -> Result<u8, Wrong> {
+    match u8::try_from(number_of(text)?) {
+        Ok(byte) => Ok(byte),
+        Err(_) => Err(Wrong::BadLine),
+    }
+}
+
 /// A hexadecimal address of four digits.
 fn address_of(text: &str) -> Result<u16, Wrong> {
     match u16::from_str_radix(text, 16) {
         Ok(address) => Ok(address),
         Err(_) => Err(Wrong::BadLine),
+    }
+}
+
+/// The one byte that a text spells.
+fn fill_of<N: Names>(alloc: Global, names: &N, text: &str) -> Result<u8, Wrong> {
+    let bytes = bytes_of(alloc, names, text)?;
+    match bytes.as_slice() {
+        [fill] => Ok(*fill),
+        _ => Err(Wrong::BadLine),
     }
 }
 
@@ -79,9 +96,7 @@ impl Loaded {
     pub fn load<N: Names>(alloc: Global, names: &N, rest: &str) -> Result<Loaded, Wrong> {
         let (name, fill) = first_word(rest);
         let file = names.named(name).ok_or(Wrong::BadLine)?;
-        let [fill] = *bytes_of(alloc, names, fill)?.as_slice() else {
-            return Err(Wrong::BadLine);
-        };
+        let fill = fill_of(alloc, names, fill)?;
         let (init, image) = image_of(file).ok_or(Wrong::BadLine)?;
         let Ok(mut memory) = Memory::filled(alloc, fill) else {
             return Err(Wrong::NoMemory);
@@ -129,22 +144,22 @@ impl Loaded {
     /// Init with a number, and then so many plays.
     pub fn calls(&mut self, alloc: Global, rest: &str) -> Result<Answer, Wrong> {
         let (number, count) = first_word(rest);
-        let Ok(number) = u8::try_from(number_of(number)?) else {
-            return Err(Wrong::BadLine);
-        };
+        let number = byte_of(number)?;
+        let count = number_of(count)?;
         let mut text = Vec::new(alloc);
-        let mut returns = self.call(self.init, number);
-        if returns {
-            self.add_line(alloc, 0, &mut text)?;
-            returns = self.play(alloc, number_of(count)?, &mut text)?;
+        if !self.call(self.init, number) {
+            return Answer::new(alloc, STOPPED, &[]);
         }
+        self.add_line(alloc, 0, &mut text)?;
+        let returns = self.play(alloc, count, &mut text)?;
         Answer::new(alloc, if returns { 0 } else { STOPPED }, &text)
     }
 
     /// So many plays.
     pub fn plays(&mut self, alloc: Global, rest: &str) -> Result<Answer, Wrong> {
+        let count = number_of(rest)?;
         let mut text = Vec::new(alloc);
-        let returns = self.play(alloc, number_of(rest)?, &mut text)?;
+        let returns = self.play(alloc, count, &mut text)?;
         Answer::new(alloc, if returns { 0 } else { STOPPED }, &text)
     }
 

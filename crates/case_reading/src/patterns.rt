@@ -32,12 +32,21 @@ fn pattern_of(alloc: Global, bytes: &[u8]) -> Result<Pattern, Wrong> {
 pub fn pack<N: Names>(alloc: Global, names: &N, rest: &str) -> Result<Answer, Wrong> {
     let pattern = pattern_of(alloc, &bytes_of(alloc, names, rest)?)?;
     match pack_pattern(&pattern) {
-        Ok(packed) => Answer::line(alloc, &hex::encode(alloc, packed.as_slice())?),
-        Err(long) => {
-            let length = long.length;
-            Answer::line(alloc, &format!(in alloc; "too long {length}")?)
-        }
+        Ok(packed) => digits_of(alloc, packed.as_slice()),
+        Err(long) => too_long(alloc, long.length),
     }
+}
+
+/// Bytes in digits, as a text.
+fn digits_of(alloc: Global, bytes: &[u8]) -> Result<Answer, Wrong> {
+    let digits = hex::encode(alloc, bytes)?;
+    Answer::line(alloc, &digits)
+}
+
+/// How long a pattern would be that is too long.
+fn too_long(alloc: Global, length: u16) -> Result<Answer, Wrong> {
+    let text = format!(in alloc; "too long {length}")?;
+    Answer::line(alloc, &text)
 }
 
 /// The rows that bytes unpack to, or their fault.
@@ -47,22 +56,33 @@ pub fn unpack<N: Names>(alloc: Global, names: &N, rest: &str) -> Result<Answer, 
         return Err(Wrong::BadLine);
     }
     match unpack_pattern(alloc, &bytes) {
-        Ok(pattern) => Answer::line(alloc, &digits_of(alloc, &pattern)?),
-        Err(PackedFault::NoMemory) => Err(Wrong::NoMemory),
-        Err(PackedFault::BadByte { offset }) => {
-            Answer::line(alloc, &format!(in alloc; "bad byte at {offset}")?)
-        }
-        Err(PackedFault::NoEnd) => Answer::line(alloc, "no end"),
-        Err(PackedFault::BadLength) => Answer::line(alloc, "bad length"),
+        Ok(pattern) => digits_of(alloc, &bytes_of_rows(alloc, &pattern)?),
+        Err(fault) => told(alloc, fault),
     }
 }
 
-/// The digits of a pattern's rows, four bytes each.
-fn digits_of(alloc: Global, pattern: &Pattern) -> Result<String, Wrong> {
+/// Why bytes aren't unpacked, as it is told.
+fn told(alloc: Global, fault: PackedFault) -> Result<Answer, Wrong> {
+    match fault {
+        PackedFault::NoMemory => Err(Wrong::NoMemory),
+        PackedFault::BadByte { offset } => bad_byte(alloc, offset),
+        PackedFault::NoEnd => Answer::line(alloc, "no end"),
+        PackedFault::BadLength => Answer::line(alloc, "bad length"),
+    }
+}
+
+/// Why bytes aren't unpacked of which one is bad.
+fn bad_byte(alloc: Global, offset: u32) -> Result<Answer, Wrong> {
+    let text = format!(in alloc; "bad byte at {offset}")?;
+    Answer::line(alloc, &text)
+}
+
+/// The bytes of a pattern's rows, four each.
+fn bytes_of_rows(alloc: Global, pattern: &Pattern) -> Result<Vec<u8>, Wrong> {
     let mut bytes = Vec::new(alloc);
     for row in pattern.as_slice() {
         let four = [row.note, row.instrument, row.command, row.param];
         bytes.extend_from_slice(&four)?;
     }
-    Ok(hex::encode(alloc, bytes.as_slice())?)
+    Ok(bytes)
 }

@@ -1,6 +1,7 @@
 //! Songs that are made from a number, and the steps of a packed file.
 
 use crate::answer::Answer;
+use crate::machine::byte_of;
 use case_text::{Names, Wrong, first_word, number_of};
 use sid_run::Runner;
 use song_gen::generate;
@@ -35,22 +36,23 @@ fn subtune_steps(alloc: Global, file: &[u8], subtune: u8, frames: u32) -> Option
     Some(steps)
 }
 
-/// The steps of so many subtunes, each loaded anew, as a text.
+/// The steps of so many subtunes, each loaded anew.
+fn all_steps(alloc: Global, file: &[u8], subtunes: u8, frames: u32) -> Result<u64, Wrong> {
+    let mut steps = 0u64;
+    for subtune in 0..subtunes {
+        match subtune_steps(alloc, file, subtune, frames) {
+            Some(more) => steps = steps.saturating_add(more),
+            None => return Err(Wrong::Differs("a call doesn't return")),
+        }
+    }
+    Ok(steps)
+}
+
+/// The steps of so many subtunes of a file, as a text.
 pub fn count<N: Names>(alloc: Global, names: &N, rest: &str) -> Result<Answer, Wrong> {
     let (name, rest) = first_word(rest);
     let (subtunes, frames) = first_word(rest);
     let file = names.named(name).ok_or(Wrong::BadLine)?;
-    let Ok(subtunes) = u8::try_from(number_of(subtunes)?) else {
-        return Err(Wrong::BadLine);
-    };
-    let frames = number_of(frames)?;
-    let mut steps = 0u64;
-    for subtune in 0..subtunes {
-        let Some(more) = subtune_steps(alloc, file, subtune, frames) else {
-            return Err(Wrong::Differs("a call doesn't return"));
-        };
-        steps = steps.saturating_add(more);
-    }
-    let text = format!(in alloc; "{steps} steps\n")?;
-    Answer::new(alloc, 0, text.as_bytes())
+    let steps = all_steps(alloc, file, byte_of(subtunes)?, number_of(frames)?)?;
+    Answer::line(alloc, &format!(in alloc; "{steps} steps")?)
 }

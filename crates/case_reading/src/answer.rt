@@ -1,8 +1,6 @@
 //! What a run answered, and what must come of it.
 
-ghost use Rattle.std.specs.Prelude.{◌↔◌, IsOk, IsTrue};
-
-use case_text::{Wrong, first_word, has_sum, number_of};
+use case_text::{Wrong, first_word, has_sum, holds, number_of};
 use std::alloc::Global;
 
 /// A line of registers: six digits of the call's number and a space, 50 digits, and a line feed.
@@ -10,6 +8,38 @@ const LINE: usize = 58;
 
 /// The digits of its registers.
 const DIGITS: usize = 50;
+
+/// What a line says of the status or the text of a run.
+#[derive(Clone, Copy)]
+pub enum Said {
+    /// The status.
+    Status,
+    /// The next line.
+    Text,
+    /// The next bytes.
+    Piece,
+    /// Anything after that.
+    Rest,
+    /// Digits of the line of a call.
+    Call,
+    /// The whole text.
+    Whole(Whole),
+}
+
+/// What a line says of the whole text.
+#[derive(Clone, Copy)]
+pub enum Whole {
+    /// It is that of an earlier run.
+    As,
+    /// It is the first half of that.
+    Half,
+    /// Its sum.
+    Sum,
+    /// Its length.
+    Length,
+    /// How it ends.
+    Ends,
+}
 
 /// What a run answered, and what has been named of it.
 #[derive(Drop)]
@@ -22,17 +52,6 @@ pub struct Answer {
     has_status: bool,
     /// The names of the files that the run changed and that no line has named.
     changes: Vec<String>,
-}
-
-/// Whether a fact holds that a line states.
-fn holds(fact: bool, else_says: &'static str) -> Result<(), Wrong>
-    ensures { IsOk result ↔ IsTrue fact }
-{
-    if fact {
-        Ok(())
-    } else {
-        Err(Wrong::Differs(else_says))
-    }
 }
 
 impl Answer {
@@ -81,34 +100,35 @@ impl Answer {
         holds(self.changes.is_empty(), "another file was written")
     }
 
-    /// Takes a line that says what must come of the status or the text; answers whether it is one. The texts are those
-    /// of the case's runs.
+    /// Takes a line that says what must come of the status or the text. The texts are those of the case's runs.
     pub fn take(
         &mut self,
         alloc: Global,
-        word: &str,
+        said: Said,
         rest: &str,
         texts: &[Vec<u8>],
-    ) -> Result<bool, Wrong> {
-        match word {
-            "status" => self.take_status(rest)?,
-            "text" => {
-                self.take_piece(rest.as_bytes())?;
-                self.take_piece(b"\n")?;
-            }
-            "piece" if rest.is_empty() => return Err(Wrong::BadLine),
-            "piece" => self.take_piece(rest.as_bytes())?,
-            "rest" => self.named = self.text.len(),
-            "call" => self.take_call(alloc, rest)?,
-            _ => return self.take_whole(alloc, word, rest, texts),
+    ) -> Result<(), Wrong> {
+        match said {
+            Said::Status => self.take_status(rest),
+            Said::Text => self.take_line(rest),
+            Said::Piece if rest.is_empty() => Err(Wrong::BadLine),
+            Said::Piece => self.take_piece(rest.as_bytes()),
+            Said::Rest => self.take_rest(),
+            Said::Call => self.take_call(alloc, rest),
+            Said::Whole(whole) => self.take_whole(alloc, whole, rest, texts),
         }
-        Ok(true)
     }
 
     /// The status must be this one.
     fn take_status(&mut self, rest: &str) -> Result<(), Wrong> {
         self.has_status = true;
         holds(u32::from(self.status) == number_of(rest)?, "another status")
+    }
+
+    /// This line must come next.
+    fn take_line(&mut self, line: &str) -> Result<(), Wrong> {
+        self.take_piece(line.as_bytes())?;
+        self.take_piece(b"\n")
     }
 
     /// These bytes must come next.
@@ -119,48 +139,87 @@ impl Answer {
         Ok(())
     }
 
+    /// Anything may come.
+    fn take_rest(&mut self) -> Result<(), Wrong> {
+        self.named = self.text.len();
+        Ok(())
+    }
+
     /// The line of a call must have these digits, from a place on.
     fn take_call(&mut self, alloc: Global, rest: &str) -> Result<(), Wrong> {
         let (call, rest) = first_word(rest);
-        let (at, digits) = match rest.split_once(' ') {
-            Some((at, digits)) => (number_of(at)? as usize, digits),
-            None => (0, rest),
-        };
         let call = number_of(call)?;
+        let (at, digits) = place_and_digits(rest)?;
         if digits.is_empty() || at.saturating_add(digits.len()) > DIGITS {
             return Err(Wrong::BadLine);
         }
         let number = format!(in alloc; "{call:06} ")?;
-        let first = (call as usize).saturating_mul(LINE);
-        let line = self.text.get(first..).unwrap_or(&[]);
-        let registers = line.strip_prefix(number.as_bytes()).unwrap_or(&[]);
+        let registers = self.registers(call as usize, number.as_bytes());
         let shown = registers.get(at..).unwrap_or(&[]);
         holds(shown.starts_with(digits.as_bytes()), "other registers")
     }
 
-    /// Takes a line that speaks of the whole text; answers whether it is one.
+    /// What stands behind the number of a call in its line, and all after it; nothing where another number stands there.
+    fn registers(&self, call: usize, number: &[u8]) -> &[u8] {
+        let first = call.saturating_mul(LINE);
+        let line = self.text.get(first..).unwrap_or(&[]);
+        line.strip_prefix(number).unwrap_or(&[])
+    }
+
+    /// Takes a line that speaks of the whole text.
     fn take_whole(
         &mut self,
         alloc: Global,
-        word: &str,
+        whole: Whole,
         rest: &str,
         texts: &[Vec<u8>],
-    ) -> Result<bool, Wrong> {
-        let text = self.text.as_slice();
-        let fact = match word {
-            "as" => text == text_of(texts, rest)?,
-            "half" => text == half_of(text_of(texts, rest)?),
-            "sum" => has_sum(alloc, text, rest)?,
-            "length" => text.len() == number_of(rest)? as usize,
-            "ends" if rest.is_empty() => return Err(Wrong::BadLine),
-            "ends" => text
-                .strip_suffix(b"\n")
-                .is_some_and(|lines| lines.ends_with(rest.as_bytes())),
-            _ => return Ok(false),
+    ) -> Result<(), Wrong> {
+        let fact = match whole {
+            Whole::As => self.is_as(rest, texts),
+            Whole::Half => self.is_half(rest, texts),
+            Whole::Sum => has_sum(alloc, &self.text, rest),
+            Whole::Length => self.has_length(rest),
+            Whole::Ends => self.ends_with(rest),
         };
         self.named = self.text.len();
-        holds(fact, "another text")?;
-        Ok(true)
+        holds(fact?, "another text")
+    }
+
+    /// Whether the text is that of the earlier run that has this number.
+    fn is_as(&self, number: &str, texts: &[Vec<u8>]) -> Result<bool, Wrong> {
+        let other = text_of(texts, number)?;
+        Ok(self.text.as_slice() == other)
+    }
+
+    /// Whether the text is the first half of it, rounded down.
+    fn is_half(&self, number: &str, texts: &[Vec<u8>]) -> Result<bool, Wrong> {
+        let other = text_of(texts, number)?;
+        let half = other.get(..other.len() / 2).unwrap_or(&[]);
+        Ok(self.text.as_slice() == half)
+    }
+
+    /// Whether the text has so many bytes.
+    fn has_length(&self, length: &str) -> Result<bool, Wrong> {
+        Ok(self.text.len() == number_of(length)? as usize)
+    }
+
+    /// Whether the text ends with this and a line feed.
+    fn ends_with(&self, end: &str) -> Result<bool, Wrong> {
+        if end.is_empty() {
+            return Err(Wrong::BadLine);
+        }
+        match self.text.strip_suffix(b"\n") {
+            Some(lines) => Ok(lines.ends_with(end.as_bytes())),
+            None => Ok(false),
+        }
+    }
+}
+
+/// Digits, and the place that stands before them, or 0.
+fn place_and_digits(text: &str) -> Result<(usize, &str), Wrong> {
+    match text.split_once(' ') {
+        Some((at, digits)) => Ok((number_of(at)? as usize, digits)),
+        None => Ok((0, text)),
     }
 }
 
@@ -172,9 +231,4 @@ fn text_of<'a>(texts: &'a [Vec<u8>], number: &str) -> Result<&'a [u8], Wrong> {
         Some(text) if number < texts.len() => Ok(text.as_slice()),
         _ => Err(Wrong::BadLine),
     }
-}
-
-/// The first half of a text, rounded down.
-fn half_of(text: &[u8]) -> &[u8] {
-    text.get(..text.len() / 2).unwrap_or(&[])
 }

@@ -4,11 +4,22 @@ use crate::answer::Answer;
 use crate::desk::Desk;
 use crate::devices::{Devices, Place};
 use crate::poor::PoorFolder;
-use case_text::Wrong;
-use goat_cli::goat;
+use case_text::{Names, Wrong};
 use goat_io::{DiskFolder, Folder, MemFolder, MemSink, NoMemory};
 use std::alloc::Global;
 use std::rt::Files;
+
+/// The program that cases run.
+pub trait Program {
+    /// Does what the words ask for, with the files of a folder and what is printed to a sink; answers the status.
+    fn run<F: Folder>(
+        &self,
+        alloc: Global,
+        words: &[String],
+        folder: &mut F,
+        out: &mut MemSink,
+    ) -> u8;
+}
 
 /// Out of memory, as a case tells it.
 fn wanting(_: NoMemory) -> Wrong {
@@ -25,14 +36,15 @@ fn folder_of(alloc: Global, desk: &Desk, failing: &[u32]) -> Result<MemFolder, W
 }
 
 /// The status and the text of a run over a folder.
-fn answered<F: Folder>(
+fn answered<P: Program, F: Folder>(
+    program: &P,
     alloc: Global,
     words: &[String],
     folder: &mut F,
     puts: &[u32],
 ) -> Result<Answer, Wrong> {
     let mut out = MemSink::new(alloc, puts.to_vec(alloc)?);
-    let status = goat(alloc, words, folder, &mut out);
+    let status = program.run(alloc, words, folder, &mut out);
     Answer::new(alloc, status, out.bytes())
 }
 
@@ -47,30 +59,23 @@ fn take_over(
     let Some(bytes) = folder.get(name) else {
         return Ok(());
     };
-    let is_same = match desk.files().get(name) {
-        Some(old) => old.as_slice() == bytes,
-        None => false,
-    };
-    if !is_same {
-        desk.put(name, bytes.to_vec(alloc)?)?;
-        answer.changed(alloc, name)?;
+    if desk.named(name) == Some(bytes) {
+        return Ok(());
     }
-    Ok(())
+    desk.put(name, bytes.to_vec(alloc)?)?;
+    answer.changed(alloc, name)
 }
 
-/// The names of the files of the desk, and the words of a run, which may name new ones.
-fn names_of(alloc: Global, words: &[String], desk: &Desk) -> Result<Vec<String>, Wrong> {
+/// The names of the desk's files.
+fn names_of(alloc: Global, desk: &Desk) -> Result<Vec<String>, Wrong> {
     let mut names = Vec::new(alloc);
     for name in desk.files().keys() {
         names.push(name.clone()?)?;
     }
-    for word in words {
-        names.push(word.clone()?)?;
-    }
     Ok(names)
 }
 
-/// Takes over what a run with these words changed.
+/// Takes over what a run with these words changed: files of the desk, or those that its words name.
 fn take_over_all(
     alloc: Global,
     words: &[String],
@@ -78,51 +83,61 @@ fn take_over_all(
     desk: &mut Desk,
     answer: &mut Answer,
 ) -> Result<(), Wrong> {
-    for name in names_of(alloc, words, desk)? {
-        take_over(alloc, &name, folder, desk, answer)?;
+    let names = names_of(alloc, desk)?;
+    for name in &names {
+        take_over(alloc, name, folder, desk, answer)?;
+    }
+    for name in words {
+        take_over(alloc, name, folder, desk, answer)?;
     }
     Ok(())
 }
 
 /// A run over files in memory.
-fn run_in_memory(
+fn run_in_memory<P: Program>(
+    program: &P,
     alloc: Global,
     words: &[String],
     desk: &mut Desk,
     devices: &Devices,
 ) -> Result<Answer, Wrong> {
     let mut folder = folder_of(alloc, desk, &devices.calls)?;
-    let mut answer = answered(alloc, words, &mut folder, &devices.puts)?;
+    let mut answer = answered(program, alloc, words, &mut folder, &devices.puts)?;
     take_over_all(alloc, words, &folder, desk, &mut answer)?;
     Ok(answer)
 }
 
 /// A run over files in memory that finds no memory for writes, and for reads or not.
-fn run_in_want(
+fn run_in_want<P: Program>(
+    program: &P,
     alloc: Global,
     words: &[String],
     desk: &mut Desk,
     devices: &Devices,
-    reads: bool,
 ) -> Result<Answer, Wrong> {
     let files = folder_of(alloc, desk, &devices.calls)?;
+    let reads = matches!(devices.place, Place::PoorWrites);
     let mut folder = PoorFolder { files, reads };
-    let mut answer = answered(alloc, words, &mut folder, &devices.puts)?;
+    let mut answer = answered(program, alloc, words, &mut folder, &devices.puts)?;
     take_over_all(alloc, words, &folder.files, desk, &mut answer)?;
     Ok(answer)
 }
 
 /// The run of the program with these words.
-pub fn run<R: Files + AllocGlobal>(
+pub fn run<R: Files, P: Program>(
     rt: &R,
+    program: &P,
+    alloc: Global,
     words: &[String],
     desk: &mut Desk,
     devices: &Devices,
 ) -> Result<Answer, Wrong> {
-    let alloc = rt.alloc();
     match devices.place {
-        Place::Memory => run_in_memory(alloc, words, desk, devices),
-        Place::Poor { reads } => run_in_want(alloc, words, desk, devices, reads),
-        Place::Disk => answered(alloc, words, &mut DiskFolder::new(rt), &devices.puts),
+        Place::Memory => run_in_memory(program, alloc, words, desk, devices),
+        Place::PoorWrites | Place::PoorReads => run_in_want(program, alloc, words, desk, devices),
+        Place::Disk => {
+            let mut folder = DiskFolder::new(rt);
+            answered(program, alloc, words, &mut folder, &devices.puts)
+        }
     }
 }

@@ -3,11 +3,18 @@
 use crate::answer::Answer;
 use case_text::{Names, Wrong};
 use edit_history::Session;
-use edit_script::{MOST_BYTES as MOST_SCRIPT, ScriptFault, parse, run};
+use edit_script::{MOST_BYTES as MOST_SCRIPT, Script, ScriptFault, parse, run};
 use gts5::{MOST_BYTES as MOST_SONG, SongFault};
 use psid::PsidFault;
 use song_model::Song;
 use std::alloc::Global;
+use std::fmt;
+
+/// A fault, as it is told.
+fn told<T: fmt::Display>(alloc: Global, fault: &T) -> Result<Answer, Wrong> {
+    let text = format!(in alloc; "{fault}")?;
+    Answer::line(alloc, &text)
+}
 
 /// What the reader of songs says of a file.
 pub fn read_song<N: Names>(alloc: Global, names: &N, name: &str) -> Result<Answer, Wrong> {
@@ -18,7 +25,7 @@ pub fn read_song<N: Names>(alloc: Global, names: &N, name: &str) -> Result<Answe
     match gts5::read(alloc, file) {
         Ok(_) => Answer::line(alloc, "a song"),
         Err(SongFault::NoMemory) => Err(Wrong::NoMemory),
-        Err(fault) => Answer::line(alloc, &fault.to_string(alloc)?),
+        Err(fault) => told(alloc, &fault),
     }
 }
 
@@ -28,7 +35,7 @@ pub fn read_psid<N: Names>(alloc: Global, names: &N, name: &str) -> Result<Answe
     match psid::read(alloc, file) {
         Ok(_) => Answer::line(alloc, "a PSID file"),
         Err(PsidFault::NoMemory) => Err(Wrong::NoMemory),
-        Err(fault) => Answer::line(alloc, &fault.to_string(alloc)?),
+        Err(fault) => told(alloc, &fault),
     }
 }
 
@@ -38,14 +45,18 @@ pub fn read_script<N: Names>(alloc: Global, names: &N, name: &str) -> Result<Ans
     if file.len() > MOST_SCRIPT {
         return Err(Wrong::BadLine);
     }
-    let script = match parse(alloc, file) {
-        Ok(script) => script,
-        Err(ScriptFault::NoMemory) => return Err(Wrong::NoMemory),
-        Err(fault) => return Answer::line(alloc, &fault.to_string(alloc)?),
-    };
+    match parse(alloc, file) {
+        Ok(script) => done(alloc, &script),
+        Err(ScriptFault::NoMemory) => Err(Wrong::NoMemory),
+        Err(fault) => told(alloc, &fault),
+    }
+}
+
+/// What is said of a script's commands in an empty song.
+fn done(alloc: Global, script: &Script) -> Result<Answer, Wrong> {
     let mut session = Session::new(alloc, Song::empty(alloc));
-    match run(&mut session, &script) {
+    match run(&mut session, script) {
         Ok(()) => Answer::line(alloc, "done"),
-        Err(fault) => Answer::line(alloc, &fault.to_string(alloc)?),
+        Err(fault) => told(alloc, &fault),
     }
 }

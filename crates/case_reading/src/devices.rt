@@ -4,16 +4,28 @@ use case_text::{Wrong, number_of};
 use std::alloc::Global;
 
 /// Where the files of a run are.
-#[derive(Clone, Copy, Drop)]
+#[derive(Clone, Copy)]
 pub enum Place {
     /// In memory, and memory is found.
     Memory,
-    /// In memory; reads find memory or don't, and writes don't.
-    Poor {
-        /// Whether reads find memory.
-        reads: bool,
-    },
+    /// In memory, and writes find none.
+    PoorWrites,
+    /// In memory, and neither reads nor writes find any.
+    PoorReads,
     /// On the disk.
+    Disk,
+}
+
+/// What a line says to fail, or to stand elsewhere.
+#[derive(Clone, Copy)]
+pub enum Failure {
+    /// Calls of the folder.
+    Calls,
+    /// Puts of the sink.
+    Puts,
+    /// Memory.
+    Memory,
+    /// Nothing: the files are on the disk.
     Disk,
 }
 
@@ -26,6 +38,15 @@ pub struct Devices {
     pub puts: Vec<u32>,
     /// Where the files are.
     pub place: Place,
+}
+
+/// The calls that find no memory.
+fn poor_of(rest: &str) -> Result<Place, Wrong> {
+    match rest {
+        "writes" => Ok(Place::PoorWrites),
+        "reads" => Ok(Place::PoorReads),
+        _ => Err(Wrong::BadLine),
+    }
 }
 
 /// Numbers between spaces, one at least.
@@ -52,7 +73,7 @@ impl Devices {
 
     /// Whether something is said to fail.
     pub fn fail(&self) -> bool {
-        let is_poor = matches!(self.place, Place::Poor { .. });
+        let is_poor = matches!(self.place, Place::PoorWrites | Place::PoorReads);
         is_poor || !self.calls.is_empty() || !self.puts.is_empty()
     }
 
@@ -61,19 +82,18 @@ impl Devices {
         !self.fail() && matches!(self.place, Place::Memory)
     }
 
-    /// Takes a line that says what fails; answers whether it is one.
-    pub fn take(&mut self, alloc: Global, word: &str, rest: &str) -> Result<bool, Wrong> {
-        if !self.is_whole() && matches!(word, "fail" | "fail-puts" | "poor" | "disk") {
+    /// Takes a line that says what fails.
+    pub fn take(&mut self, alloc: Global, failure: Failure, rest: &str) -> Result<(), Wrong> {
+        if !self.is_whole() {
             return Err(Wrong::BadLine);
         }
-        match (word, rest) {
-            ("fail", _) => self.calls = numbers_of(alloc, rest)?,
-            ("fail-puts", _) => self.puts = numbers_of(alloc, rest)?,
-            ("poor", "reads") => self.place = Place::Poor { reads: false },
-            ("poor", "writes") => self.place = Place::Poor { reads: true },
-            ("disk", "") => self.place = Place::Disk,
-            _ => return Ok(false),
+        match failure {
+            Failure::Calls => self.calls = numbers_of(alloc, rest)?,
+            Failure::Puts => self.puts = numbers_of(alloc, rest)?,
+            Failure::Memory => self.place = poor_of(rest)?,
+            Failure::Disk if rest.is_empty() => self.place = Place::Disk,
+            Failure::Disk => return Err(Wrong::BadLine),
         }
-        Ok(true)
+        Ok(())
     }
 }
