@@ -19,3 +19,5 @@ mod MadeSongs
 mod HandedOn
 mod Answered
 mod FoundRows
+-- A size that is worked by hand.
+mod WorkedSizes
