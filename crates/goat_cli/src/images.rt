@@ -24,8 +24,14 @@ use player_parts::Place;
 use song_model::{NoMemory, Song};
 use std::alloc::Global;
 
+/// Where the image of a song that was made from a number stands.
+const ADDRESS: u16 = 0x1000;
+
+/// The first of its player's two bytes of page 0.
+const ZERO_PAGE: u8 = 0xfc;
+
 /// The place of an image at an allowed address, with two allowed bytes of page 0.
-pub fn place_of(address: u16, zero_page: u8) -> Place
+fn place_of(address: u16, zero_page: u8) -> Place
     requires address { IsAddress address }
     requires zero_page { IsZeroPage zero_page }
     ensures address { result.address ≡ address }
@@ -87,14 +93,15 @@ pub fn image_file(
     ensures { IfOk result (λ file. file.items ≡
         packed_file psid song.now image.now.place.address image.now.bytes options.now) }
 {
-    packed_file(alloc, psid, song, image.place.address, image.bytes.as_slice(), options)
+    packed_file(
+        alloc,
+        psid,
+        song,
+        image.place.address,
+        image.bytes.as_slice(),
+        options,
+    )
 }
-
-/// Where the image of a song that was made from a number stands.
-const ADDRESS: u16 = 0x1000;
-
-/// The first of its player's two bytes of page 0.
-const ZERO_PAGE: u8 = 0xfc;
 
 /// The image of a small song, at `$1000`.
 ///
