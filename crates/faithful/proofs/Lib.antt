@@ -12,3 +12,10 @@ mod SmallImages
 mod SilentFrames
 mod RightImages
 mod WorkedImages
+mod LoadedImages
+mod WrongRegisters
+mod WrongStores
+mod WrongTimers
+mod WrongDependences
+mod OrderedCalls
+mod WrongOrders

@@ -1,10 +1,10 @@
--- Small images that play the silent song, whatever else is in memory.
+-- Small images that play a silent song, whatever else is in memory.
 use Rattle.std.specs.Option.{option_map}
-use Rattle.std.proofs.Common.{◌≡◌, ◌≢◌, ℕ, suc, ◌+◌, ◌/◌, ◌%◌, ◌<◌, ◌≤◌, ◌⊎◌, inl, inr, Bool, true, false, ◌&&◌, ◌||◌, nat_eq, nat_lt, nat_le, Option, Some, None, List, [], ◌∷◌, ◌++◌, length, replicate, slice_index, lit≤, refl, sym, ap, ◌∙◌, arith}
+use Rattle.std.proofs.Common.{◌≡◌, ◌≢◌, ℕ, suc, ◌+◌, ◌/◌, ◌%◌, ◌<◌, ◌≤◌, ◌⊎◌, inl, inr, Bool, true, false, ◌&&◌, ◌||◌, nat_eq, nat_lt, nat_le, Option, Some, None, List, [], ◌∷◌, ◌++◌, length, replicate, slice_index, lit≤, refl, sym, ap, ◌∙◌, subst, arith}
 use Rattle.std.proofs.lemmas.Bool.{eqb-true}
 use Rattle.std.proofs.lemmas.Bool.Decides.{nat_tests}
+use Rattle.song_model.specs.declared.songs.Song.{Song}
 use Rattle.song_model.specs.LookUp.{playable_subtunes}
-use Rattle.song_model.specs.Silence.{silence}
 use Rattle.play_model.specs.declared.options.Options.{Options}
 use Rattle.play_model.specs.Frame.{trace_with}
 use Rattle.play_model.specs.Speeds.{timer_value}
@@ -39,14 +39,14 @@ is_port o place =
     (nat_le 0xD400 place && nat_le place 0xD418)
     || (nat_lt 1 o.speed && (nat_eq place 0xDC04 || nat_eq place 0xDC05))
 
-or_true : {a b : Bool} → (a || b) ≡ true → (a ≡ true) ⊎ (b ≡ true)
+pub or_true : {a b : Bool} → (a || b) ≡ true → (a ≡ true) ⊎ (b ≡ true)
 or_true {a = true} h = inl refl
 or_true {a = false} h = inr h
 
-le_is : (a b : ℕ) → nat_le a b ≡ true → a ≤ b
+pub le_is : (a b : ℕ) → nat_le a b ≡ true → a ≤ b
 le_is a b h = grind (arith, nat_tests)
 
-lt_is : (a b : ℕ) → nat_lt a b ≡ true → a < b
+pub lt_is : (a b : ℕ) → nat_lt a b ≡ true → a < b
 lt_is a b h = grind (arith, nat_tests)
 
 sid_is : (place : ℕ) → (nat_le 0xD400 place && nat_le place 0xD418) ≡ true → (0xD400 ≤ place) × (place ≤ 0xD418)
@@ -74,7 +74,7 @@ port_is o place h =
     {b = nat_lt 1 o.speed && (nat_eq place 0xDC04 || nat_eq place 0xDC05)} h)
     [ inl sid ↦ inl (sid_is place sid) | inr timer ↦ inr (timer_is o place timer) ]
 
-port_high : (o : Options) (place : ℕ) → is_port o place ≡ true → 0xD400 ≤ place
+pub port_high : (o : Options) (place : ℕ) → is_port o place ≡ true → 0xD400 ≤ place
 port_high o place h = elim (port_is o place h) [
   | inl sid ↦ sid.0
   | inr timer ↦ elim timer.1 [
@@ -83,27 +83,27 @@ port_high o place h = elim (port_is o place h) [
   ]
 ]
 
-port_own : (o : Options) (size sp place : ℕ) → is_port o place ≡ true → IsOwnPlace size 0x1000 0xFC o sp place
+pub port_own : (o : Options) (size sp place : ℕ) → is_port o place ≡ true → IsOwnPlace size 0x1000 0xFC o sp place
 port_own o size sp place h = elim (port_is o place h) [
   | inl sid ↦ IsOwnPlace.in_sid sid.0 sid.1
   | inr timer ↦ IsOwnPlace.in_timer timer.0 timer.1
 ]
 
-high_off : (sp place : ℕ) → 0xD400 ≤ place → place ≢ stack_place sp
+pub high_off : (sp place : ℕ) → 0x1000 ≤ place → place ≢ stack_place sp
 high_off sp place high e = omega (arith, high, e)
 
-port_safe : (o : Options) (size sp below place : ℕ) → is_port o place ≡ true →
+pub port_safe : (o : Options) (size sp below place : ℕ) → is_port o place ≡ true →
     IsSafe (IsOwnPlace size 0x1000 0xFC o below) sp place
 port_safe o size sp below place h =
     let high = port_high o place h in
     record {
       may = port_own o size below place h;
       apart = inr (omega (arith, high));
-      first = high_off sp place high;
-      second = high_off (sp + 255) place high;
+      first = high_off sp place (omega (arith, high));
+      second = high_off (sp + 255) place (omega (arith, high));
     }
 
-own_below : (o : Options) (size sp : ℕ) → 0x1000 + size ≤ 0x2000 → IsBelow (IsOwnPlace size 0x1000 0xFC o sp)
+pub own_below : (o : Options) (size sp : ℕ) → 0x1000 + size ≤ 0x2000 → IsBelow (IsOwnPlace size 0x1000 0xFC o sp)
 own_below o size sp room = record { below = λ q own. by_kind q (own_places_are_few size 0x1000 0xFC o sp q (omega arith) own) }
   where
     by_kind : (q : ℕ) → ((0x1000 ≤ q) × (q < 0x1000 + size)) ⊎ (q < 512) ⊎ ((0xD400 ≤ q) × (q ≤ 0xD418))
@@ -121,7 +121,7 @@ pub record LeavesSo (ops : List Op) (steps : ℕ) (registers : List ℕ) : Type 
   pub registers_are : (s : State) → bytes_at (all_done ops s).at SID_BASE REGISTERS ≡ registers
   pub steps_are : (s : State) → step_count ops s ≡ steps
 
-pub record IsRight (o : Options) (init play : List Op) (steps more : ℕ) : Type 0 where
+pub record IsRight (o : Options) (song : Song) (init play : List Op) (steps more : ℕ) : Type 0 where
   pub fits : Fits init play
   pub few : (steps ≤ 100) × (more ≤ 100)
   pub init_ports : stores_pass (is_port o) init ≡ true
@@ -132,7 +132,8 @@ pub record IsRight (o : Options) (init play : List Op) (steps more : ℕ) : Type
       × ((all_done init s).at timer_high ≡ timer_value o.speed / 256)
   pub timer_kept : (s : State) → ((all_done play s).at timer_low ≡ s.at timer_low)
       × ((all_done play s).at timer_high ≡ s.at timer_high)
-  pub frames : (n : ℕ) → trace_with o silence 0 (suc n) ≡ replicate 24 0 ++ 15 ∷ []
+  pub frames : (k n : ℕ) → k < length (playable_subtunes song) →
+      trace_with o song k (suc n) ≡ replicate 24 0 ++ 15 ∷ []
 
 abbrev registers_of : ImageCall → List ℕ
 registers_of (Init k) = replicate 25 0
@@ -157,21 +158,22 @@ some_second j m k n e = ap (λ (p : ℕ × ℕ). p.1) (same_pair (j, m) (k, n) e
 abbrev one_more : Option (ℕ × ℕ) → Option (ℕ × ℕ)
 one_more z = option_map (λ (last : ℕ × ℕ). (last.0, suc last.1)) z
 
-played_first : (z : Option (ℕ × ℕ)) (k n : ℕ) → one_more z ≡ Some (k, n) → ((m : ℕ) → z ≡ Some (k, m) → k ≡ 0) → k ≡ 0
-played_first None k n e first = absurd (cc)
-played_first (Some (j, m)) k n e first = first m (ap (λ i. Some (i, m)) (some_first j (suc m) k n e))
+played_few : (count : ℕ) (z : Option (ℕ × ℕ)) (k n : ℕ) → one_more z ≡ Some (k, n) →
+    ((m : ℕ) → z ≡ Some (k, m) → k < count) → k < count
+played_few count None k n e few = absurd (cc)
+played_few count (Some (j, m)) k n e few = few m (ap (λ i. Some (i, m)) (some_first j (suc m) k n e))
 
-played_trace : (o : Options) → ((m : ℕ) → trace_with o silence 0 (suc m) ≡ replicate 24 0 ++ 15 ∷ []) →
-    (z : Option (ℕ × ℕ)) (k n : ℕ) → one_more z ≡ Some (k, n) → ((m : ℕ) → z ≡ Some (k, m) → k ≡ 0) →
-    replicate 24 0 ++ 15 ∷ [] ≡ trace_with o silence k n
-played_trace o frames None k n e first = absurd (cc)
-played_trace o frames (Some (j, m)) k n e first =
-    let k_is = first m (ap (λ i. Some (i, m)) (some_first j (suc m) k n e)) in
-    sym (frames m)
-    ∙ ap (λ i. trace_with o silence 0 i) (some_second j (suc m) k n e)
-    ∙ ap (λ i. trace_with o silence i n) (sym k_is)
+played_trace : (o : Options) (song : Song) →
+    ((k n : ℕ) → k < length (playable_subtunes song) → trace_with o song k (suc n) ≡ replicate 24 0 ++ 15 ∷ []) →
+    (z : Option (ℕ × ℕ)) (k n : ℕ) → one_more z ≡ Some (k, n) →
+    ((m : ℕ) → z ≡ Some (k, m) → k < length (playable_subtunes song)) →
+    replicate 24 0 ++ 15 ∷ [] ≡ trace_with o song k n
+played_trace o song frames None k n e few = absurd (cc)
+played_trace o song frames (Some (j, m)) k n e few =
+    sym (frames k m (few m (ap (λ i. Some (i, m)) (some_first j (suc m) k n e))))
+    ∙ ap (λ i. trace_with o song k i) (some_second j (suc m) k n e)
 
-module _ (o : Options) (init play : List Op) (steps more : ℕ) (right : IsRight o init play steps more) where
+module _ (o : Options) (song : Song) (init play : List Op) (steps more : ℕ) (right : IsRight o song init play steps more) where
   abbrev image : List ℕ
   image = image_of init play
 
@@ -281,33 +283,31 @@ module _ (o : Options) (init play : List Op) (steps more : ℕ) (right : IsRight
       Holds machine.memory 0x1000 image
   agreed before machine held agrees = record { byte = λ k few. agrees.same k few ∙ held.byte k few }
 
-  led_holds : (earlier : List ImageCall) (last : Machine) → LeadTo image 0x1000 silence earlier last →
+  led_holds : (earlier : List ImageCall) (last : Machine) → LeadTo image 0x1000 song earlier last →
       Holds last.memory 0x1000 image
   led_holds [] last led = led.1
   led_holds (call ∷ earlier) last led =
       holds_on led.machine last call led.number led.steps led.is
       (agreed led.before led.machine (led_holds earlier led.before led.stood) led.agrees) led.called
 
-  one_subtune : (k : ℕ) → k < length (playable_subtunes silence) → k ≡ 0
-  one_subtune k few = (let first : k < 1 = few in omega arith)
-
-  -- the last init was of subtune 0
-  first_subtune : (earlier : List ImageCall) (last : Machine) (k n : ℕ) → LeadTo image 0x1000 silence earlier last →
-      since_init earlier ≡ Some (k, n) → k ≡ 0
-  first_subtune [] last k n led e = absurd (cc)
-  first_subtune (Init j ∷ earlier) last k n led e =
-      sym (some_first j 0 k n e) ∙ one_subtune j led.made.0
-  first_subtune (Play ∷ earlier) last k n led e =
-      played_first (since_init earlier) k n e (λ m e'. first_subtune earlier led.before k m led.stood e')
+  -- the last init was of a playable subtune
+  last_subtune : (earlier : List ImageCall) (last : Machine) (k n : ℕ) → LeadTo image 0x1000 song earlier last →
+      since_init earlier ≡ Some (k, n) → k < length (playable_subtunes song)
+  last_subtune [] last k n led e = absurd (cc)
+  last_subtune (Init j ∷ earlier) last k n led e =
+      subst (λ i. i < length (playable_subtunes song)) (some_first j 0 k n e) led.made.0
+  last_subtune (Play ∷ earlier) last k n led e =
+      played_few (length (playable_subtunes song)) (since_init earlier) k n e
+      (λ m e'. last_subtune earlier led.before k m led.stood e')
 
   trace_is : (call : ImageCall) (earlier : List ImageCall) (before : Machine) (number k n : ℕ) →
-      LeadTo image 0x1000 silence earlier before → IsMade silence call number →
-      since_init (call ∷ earlier) ≡ Some (k, n) → registers_of call ≡ trace_with o silence k n
-  trace_is (Init j) earlier before number k n led made e = ap (λ i. trace_with o silence k i) (some_second j 0 k n e)
+      LeadTo image 0x1000 song earlier before → IsMade song call number →
+      since_init (call ∷ earlier) ≡ Some (k, n) → registers_of call ≡ trace_with o song k n
+  trace_is (Init j) earlier before number k n led made e = ap (λ i. trace_with o song k i) (some_second j 0 k n e)
   trace_is Play earlier before number k n led made e =
-      played_trace o right.frames (since_init earlier) k n e (λ m e'. first_subtune earlier before k m led e')
+      played_trace o song right.frames (since_init earlier) k n e (λ m e'. last_subtune earlier before k m led e')
 
-  pub plays_always : PlaysAlways image 0x1000 0xFC silence o
+  pub plays_always : PlaysAlways image 0x1000 0xFC song o
   plays_always = record {
     serves = λ earlier call before machine number led is agrees made.
         let held = agreed before machine (led_holds earlier before led) agrees in
@@ -331,7 +331,7 @@ module _ (o : Options) (init play : List Op) (steps more : ℕ) (right : IsRight
         };
   }
 
-  pub stands_alone : IsIsolated image 0x1000 silence
+  pub stands_alone : IsIsolated image 0x1000 song
   stands_alone = record {
     alike = λ earlier call before one two number other led since is agrees made is' agrees' made' n after called n' after' called'.
         let begins = led_holds earlier before led in

@@ -13,7 +13,7 @@ use Rattle.code_runs.specs.Code.{Stands}
 use Rattle.code_runs.specs.Calls.{IsBelow, CallsTo, Pulls}
 use Rattle.code_runs.proofs.Laws.{jumped, stay, goes, puts, goes_once, leads_on, put_other, stands_implied, stands_immediate, stands_absolute, stands_relative, works, reads, reads_immediate, load_steps, flag_steps, lda, ldx, sta, jmp, rts, beq_taken, beq_passed, call_returns, entry_pulls}
 use Rattle.faithful.specs.Routines.{Op, LoadA, LoadX, FetchA, StoreA, StoreX, SkipNop, Wait, routine}
-use Rattle.faithful.proofs.Waiting.{LoopStands, loop_leads}
+use Rattle.faithful.proofs.Waiting.{LoopStands, wait_steps, loop_leads}
 
 -- ---- what a routine does
 
@@ -24,36 +24,42 @@ done (FetchA place) s = record { cpu = with_a s.cpu (s.at place); at = s.at }
 done (StoreA place) s = record { cpu = s.cpu; at = put s.at place s.cpu.a }
 done (StoreX place) s = record { cpu = s.cpu; at = put s.at place s.cpu.x }
 done SkipNop s = s
-done Wait s = record { cpu = with_y (with_x s.cpu 0) 0; at = s.at }
+done (Wait turns) s = record { cpu = with_y (with_x s.cpu 0) 0; at = s.at }
 
 abbrev pub all_done : List Op → State → State
 all_done [] s = s
 all_done (op ∷ ops) s = all_done ops (done op s)
 
--- in how many steps
+-- in how many steps, before n more
 abbrev skipped : Bool → ℕ → ℕ
 skipped is_zero n = if is_zero then suc n else suc (suc n)
 
+abbrev steps_on : Op → State → ℕ → ℕ
+steps_on (LoadA byte) s n = suc n
+steps_on (LoadX byte) s n = suc n
+steps_on (FetchA place) s n = suc n
+steps_on (StoreA place) s n = suc n
+steps_on (StoreX place) s n = suc n
+steps_on SkipNop s n = skipped s.cpu.z n
+steps_on (Wait turns) s n = suc (suc (wait_steps (turns % 256) + n))
+
 abbrev pub step_count : List Op → State → ℕ
 step_count [] s = 0
-step_count (LoadA byte ∷ ops) s = suc (step_count ops (done (LoadA byte) s))
-step_count (LoadX byte ∷ ops) s = suc (step_count ops (done (LoadX byte) s))
-step_count (FetchA place ∷ ops) s = suc (step_count ops (done (FetchA place) s))
-step_count (StoreA place ∷ ops) s = suc (step_count ops (done (StoreA place) s))
-step_count (StoreX place ∷ ops) s = suc (step_count ops (done (StoreX place) s))
-step_count (SkipNop ∷ ops) s = skipped s.cpu.z (step_count ops s)
-step_count (Wait ∷ ops) s = suc (suc (262656 + step_count ops (done Wait s)))
+step_count (op ∷ ops) s = steps_on op s (step_count ops (done op s))
 
 -- where its RTS stands
+abbrev behind : ℕ → Op → ℕ
+behind pc (LoadA byte) = pc + 1 + 1
+behind pc (LoadX byte) = pc + 1 + 1
+behind pc (FetchA place) = pc + 1 + 1 + 1
+behind pc (StoreA place) = pc + 1 + 1 + 1
+behind pc (StoreX place) = pc + 1 + 1 + 1
+behind pc SkipNop = pc + 1 + 1 + 1
+behind pc (Wait turns) = pc + 1 + 1 + 1 + 1 + 1 + 1 + 1 + 1 + 1 + 1 + 1 + 1
+
 abbrev end_at : ℕ → List Op → ℕ
 end_at pc [] = pc
-end_at pc (LoadA byte ∷ ops) = end_at (pc + 1 + 1) ops
-end_at pc (LoadX byte ∷ ops) = end_at (pc + 1 + 1) ops
-end_at pc (FetchA place ∷ ops) = end_at (pc + 1 + 1 + 1) ops
-end_at pc (StoreA place ∷ ops) = end_at (pc + 1 + 1 + 1) ops
-end_at pc (StoreX place ∷ ops) = end_at (pc + 1 + 1 + 1) ops
-end_at pc (SkipNop ∷ ops) = end_at (pc + 1 + 1 + 1) ops
-end_at pc (Wait ∷ ops) = end_at (pc + 1 + 1 + 1 + 1 + 1 + 1 + 1 + 1 + 1 + 1 + 1 + 1) ops
+end_at pc (op ∷ ops) = end_at (behind pc op) ops
 
 -- each place at which it stores
 abbrev pub EachStore : (ℕ → Type 0) → List Op → Type 0
@@ -64,7 +70,7 @@ EachStore P (FetchA place ∷ ops) = EachStore P ops
 EachStore P (StoreA place ∷ ops) = P place × EachStore P ops
 EachStore P (StoreX place ∷ ops) = P place × EachStore P ops
 EachStore P (SkipNop ∷ ops) = EachStore P ops
-EachStore P (Wait ∷ ops) = EachStore P ops
+EachStore P (Wait turns ∷ ops) = EachStore P ops
 
 -- a place that keeps the routine and the return address as they are
 pub record IsSafe (W : ℕ → Type 0) (sp place : ℕ) : Type 0 where
@@ -107,7 +113,7 @@ others_stay P (StoreX place ∷ ops) s q each out =
     others_stay P ops (done (StoreX place) s) q each.1 out
     ∙ put_other s.at place s.cpu.x q (λ e. out (subst P (sym e) each.0))
 others_stay P (SkipNop ∷ ops) s q each out = others_stay P ops s q each out
-others_stay P (Wait ∷ ops) s q each out = others_stay P ops (done Wait s) q each out
+others_stay P (Wait turns ∷ ops) s q each out = others_stay P ops (done (Wait turns) s) q each out
 
 -- so is the stack pointer
 same_sp : (ops : List Op) (s : State) → (all_done ops s).cpu.sp ≡ s.cpu.sp
@@ -118,7 +124,7 @@ same_sp (FetchA place ∷ ops) s = same_sp ops (done (FetchA place) s)
 same_sp (StoreA place ∷ ops) s = same_sp ops (done (StoreA place) s)
 same_sp (StoreX place ∷ ops) s = same_sp ops (done (StoreX place) s)
 same_sp (SkipNop ∷ ops) s = same_sp ops s
-same_sp (Wait ∷ ops) s = same_sp ops (done Wait s)
+same_sp (Wait turns ∷ ops) s = same_sp ops (done (Wait turns) s)
 
 -- ---- its instructions
 
@@ -229,69 +235,78 @@ pub record Passes (W : ℕ → Type 0) (pc : ℕ) (ops : List Op) (s : State) : 
   pub from : 0x1006 ≤ end_at pc ops
   pub below : end_at pc ops < 0x2000
 
+-- an instruction, or a few, and then the rest
+record PassesOne (W : ℕ → Type 0) (sp pc : ℕ) (op : Op) (ops : List Op) (s : State) : Type 0 where
+  from : 0x1006 ≤ behind pc op
+  bytes : BytesStand (done op s).at (behind pc op) (routine ops)
+  each : EachStore (IsSafe W sp) ops
+  leads : (n : ℕ) (after : State) → Leads W n (at_pc (behind pc op) (done op s)) after →
+      Leads W (steps_on op s n) (at_pc pc s) after
+
+passes_one : (W : ℕ → Type 0) (sp pc : ℕ) (op : Op) (ops : List Op) (s : State) → 0x1006 ≤ pc →
+    BytesStand s.at pc (routine (op ∷ ops)) → EachStore (IsSafe W sp) (op ∷ ops) → PassesOne W sp pc op ops s
+passes_one W sp pc (LoadA byte) ops s from has each = record {
+  from = omega arith;
+  bytes = has.2.2;
+  each = each;
+  leads = λ n after rest. goes (load_a s pc byte from has.1 has.0 has.2.0) rest;
+}
+passes_one W sp pc (LoadX byte) ops s from has each = record {
+  from = omega arith;
+  bytes = has.2.2;
+  each = each;
+  leads = λ n after rest. goes (load_x s pc byte from has.1 has.0 has.2.0) rest;
+}
+passes_one W sp pc (FetchA place) ops s from has each = record {
+  from = omega arith;
+  bytes = has.2.2.2;
+  each = each;
+  leads = λ n after rest. goes (fetch_a s pc place from has.1 has.0 has.2.0 has.2.2.0) rest;
+}
+passes_one W sp pc (StoreA place) ops s from has each = record {
+  from = omega arith;
+  bytes = bytes_stay s.at place s.cpu.a (pc + 1 + 1 + 1) (routine ops) (omega arith) each.0.apart has.2.2.2;
+  each = each.1;
+  leads = λ n after rest. puts (store_a s pc place from has.1 has.0 has.2.0 has.2.2.0) each.0.may rest;
+}
+passes_one W sp pc (StoreX place) ops s from has each = record {
+  from = omega arith;
+  bytes = bytes_stay s.at place s.cpu.x (pc + 1 + 1 + 1) (routine ops) (omega arith) each.0.apart has.2.2.2;
+  each = each.1;
+  leads = λ n after rest. puts (store_x s pc place from has.1 has.0 has.2.0 has.2.2.0) each.0.may rest;
+}
+passes_one W sp pc SkipNop ops s from has each = record {
+  from = omega arith;
+  bytes = has.2.2.2;
+  each = each;
+  leads = λ n after rest. skip_nop s pc from has.1 has.0 has.2.0 has.2.2.0 s.cpu.z refl rest;
+}
+passes_one W sp pc (Wait turns) ops s from has each =
+    let loop = waits s.at (pc + 1 + 1 + 1 + 1) (routine ops) (omega arith) has.2.2.2.2 in
+    let begins : State = record { cpu = with_x s.cpu 0; at = s.at } in
+    record {
+      from = omega arith;
+      bytes = loop.1;
+      each = each;
+      leads = λ n after rest.
+          goes (load_x s pc 0 from has.1 has.0 has.2.0)
+          (goes (load_y begins (pc + 1 + 1) (turns % 256) (omega arith) has.2.2.1 has.2.2.0 has.2.2.2.0)
+          (leads_on
+          (loop_leads s.at (pc + 1 + 1 + 1 + 1) loop.0 (turns % 256) (with_y (with_x s.cpu 0) (turns % 256)) (few_turns turns) refl refl)
+          rest));
+    }
+  where
+    few_turns : (turns : ℕ) → turns % 256 < 256
+    few_turns turns = omega arith
+
 passes : (W : ℕ → Type 0) (sp pc : ℕ) (ops : List Op) (s : State) → 0x1006 ≤ pc →
     BytesStand s.at pc (routine ops) → EachStore (IsSafe W sp) ops → Passes W pc ops s
 passes W sp pc [] s from has each = record { leads = stay _; back = has.0; from = from; below = has.1 }
-passes W sp pc (LoadA byte ∷ ops) s from has each =
-    let rest = passes W sp (pc + 1 + 1) ops (done (LoadA byte) s) (omega arith) has.2.2 each in
+passes W sp pc (op ∷ ops) s from has each =
+    let one = passes_one W sp pc op ops s from has each in
+    let rest = passes W sp (behind pc op) ops (done op s) one.from one.bytes one.each in
     record {
-      leads = goes (load_a s pc byte from has.1 has.0 has.2.0) rest.leads;
-      back = rest.back;
-      from = rest.from;
-      below = rest.below;
-    }
-passes W sp pc (LoadX byte ∷ ops) s from has each =
-    let rest = passes W sp (pc + 1 + 1) ops (done (LoadX byte) s) (omega arith) has.2.2 each in
-    record {
-      leads = goes (load_x s pc byte from has.1 has.0 has.2.0) rest.leads;
-      back = rest.back;
-      from = rest.from;
-      below = rest.below;
-    }
-passes W sp pc (FetchA place ∷ ops) s from has each =
-    let rest = passes W sp (pc + 1 + 1 + 1) ops (done (FetchA place) s) (omega arith) has.2.2.2 each in
-    record {
-      leads = goes (fetch_a s pc place from has.1 has.0 has.2.0 has.2.2.0) rest.leads;
-      back = rest.back;
-      from = rest.from;
-      below = rest.below;
-    }
-passes W sp pc (StoreA place ∷ ops) s from has each =
-    let rest =
-    passes W sp (pc + 1 + 1 + 1) ops (done (StoreA place) s) (omega arith)
-    (bytes_stay s.at place s.cpu.a (pc + 1 + 1 + 1) (routine ops) (omega arith) each.0.apart has.2.2.2) each.1 in
-    record {
-      leads = puts (store_a s pc place from has.1 has.0 has.2.0 has.2.2.0) each.0.may rest.leads;
-      back = rest.back;
-      from = rest.from;
-      below = rest.below;
-    }
-passes W sp pc (StoreX place ∷ ops) s from has each =
-    let rest =
-    passes W sp (pc + 1 + 1 + 1) ops (done (StoreX place) s) (omega arith)
-    (bytes_stay s.at place s.cpu.x (pc + 1 + 1 + 1) (routine ops) (omega arith) each.0.apart has.2.2.2) each.1 in
-    record {
-      leads = puts (store_x s pc place from has.1 has.0 has.2.0 has.2.2.0) each.0.may rest.leads;
-      back = rest.back;
-      from = rest.from;
-      below = rest.below;
-    }
-passes W sp pc (SkipNop ∷ ops) s from has each =
-    let rest = passes W sp (pc + 1 + 1 + 1) ops s (omega arith) has.2.2.2 each in
-    record {
-      leads = skip_nop s pc from has.1 has.0 has.2.0 has.2.2.0 s.cpu.z refl rest.leads;
-      back = rest.back;
-      from = rest.from;
-      below = rest.below;
-    }
-passes W sp pc (Wait ∷ ops) s from has each =
-    let loop = waits s.at (pc + 1 + 1 + 1 + 1) (routine ops) (omega arith) has.2.2.2.2 in
-    let rest = passes W sp (pc + 1 + 1 + 1 + 1 + 1 + 1 + 1 + 1 + 1 + 1 + 1 + 1) ops (done Wait s) (omega arith) loop.1 each in
-    let begins : State = record { cpu = with_x s.cpu 0; at = s.at } in
-    record {
-      leads = goes (load_x s pc 0 from has.1 has.0 has.2.0)
-          (goes (load_y begins (pc + 1 + 1) 0 (omega arith) has.2.2.1 has.2.2.0 has.2.2.2.0)
-          (leads_on (loop_leads s.at (pc + 1 + 1 + 1 + 1) loop.0 (with_y (with_x s.cpu 0) 0) refl refl) rest.leads));
+      leads = one.leads (step_count ops (done op s)) (at_pc (end_at (behind pc op) ops) (all_done ops (done op s))) rest.leads;
       back = rest.back;
       from = rest.from;
       below = rest.below;

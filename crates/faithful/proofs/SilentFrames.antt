@@ -1,8 +1,9 @@
--- The trace of the silent song: after init zeros, and in each frame 24 zeros and the volume, at the speeds 1 and 2.
+-- The trace of the silent song: after init zeros, and in each frame 24 zeros and the volume, at the speeds 1 and 2; and
+-- so of each subtune of the same song twice.
 use Rattle.std.specs.Prelude.{nat_lt, slice_index_or}
 use Rattle.std.proofs.Common.{◌≡◌, ℕ, zero, suc, ◌+◌, ◌-◌, ◌*◌, ◌%◌, ◌<◌, ◌≤◌, ◌⊎◌, inl, inr, Bool, true, false, if◌then◌else◌, List, [], ◌∷◌, ◌++◌, replicate, refl, ap, ◌∙◌, arith}
 use Rattle.std.proofs.lemmas.Bool.Decides.{nat_tests}
-use Rattle.song_model.specs.LookUp.{playable_subtune, instrument_at, pattern_at}
+use Rattle.song_model.specs.LookUp.{playable_subtune, instrument_at, table_row, pattern_at}
 use Rattle.song_model.specs.Silence.{silence, order_of_zero}
 use Rattle.song_model.specs.Walk.{no_step, prefix_of, cycle_of, played}
 use Rattle.play_model.specs.declared.options.Options.{Options}
@@ -14,7 +15,8 @@ use Rattle.play_model.specs.WaveStep.{wave_step}
 use Rattle.play_model.specs.EffectStep.{effect_step}
 use Rattle.play_model.specs.PulseStep.{pulse_step}
 use Rattle.play_model.specs.FetchRow.{fetched, fetch_row}
-use Rattle.play_model.specs.Frame.{voice_step, voice_done, voice_registers, filter_registers, Framed, framed, frame_of, subtune_at, state_after_with, trace_with}
+use Rattle.play_model.specs.Frame.{voice_step, voice_done, voice_registers, filter_registers, Framed, framed, frame_of, subtune_at, frame_with, state_after_with, trace_with}
+use Rattle.faithful.specs.WorkedImages.{two_silences}
 
 -- ---- the states
 
@@ -190,9 +192,34 @@ all_rest speed (suc n) s =
       is = ap (λ (f : Framed). f.state) (frame_is speed (state_after_with (at_speed speed) silence 0 n) s r);
     }
 
--- the registers of each frame
-pub silent_trace : (speed n : ℕ) → (speed ≡ 1) ⊎ (speed ≡ 2) →
-    trace_with (at_speed speed) silence 0 (suc n) ≡ replicate 24 0 ++ 15 ∷ []
-silent_trace speed n s =
+-- the registers of each frame of its one subtune
+pub silent_trace : (speed k n : ℕ) → k < 1 → (speed ≡ 1) ⊎ (speed ≡ 2) →
+    trace_with (at_speed speed) silence k (suc n) ≡ replicate 24 0 ++ 15 ∷ []
+silent_trace speed zero n few s =
     ap (λ (f : Framed). f.registers)
     (frame_is speed (state_after_with (at_speed speed) silence 0 n) s (all_rest speed n s))
+silent_trace speed (suc k) n few s = absurd (omega arith)
+
+-- ---- the same song twice
+
+-- each of its subtunes is played as the one
+two_frames : (k : ℕ) → k < 2 → (x : FrameState) → frame_with no_options two_silences k x ≡ frame_with no_options silence 0 x
+unfolding playable_subtune instrument_at table_row pattern_at
+two_frames zero few x = refl
+two_frames (suc zero) few x = refl
+two_frames (suc (suc k)) few x = absurd (omega arith)
+
+two_states : (k n : ℕ) → k < 2 → state_after_with no_options two_silences k n ≡ state_after_with no_options silence 0 n
+unfolding state_after_with
+two_states k zero few = refl
+two_states k (suc n) few =
+    ap (λ (f : Framed). f.state)
+    (two_frames k few (state_after_with no_options two_silences k n)
+    ∙ ap (frame_with no_options silence 0) (two_states k n few))
+
+pub two_traces : (k n : ℕ) → k < 2 → trace_with no_options two_silences k (suc n) ≡ replicate 24 0 ++ 15 ∷ []
+two_traces k n few =
+    ap (λ (f : Framed). f.registers)
+    (two_frames k few (state_after_with no_options two_silences k n)
+    ∙ ap (frame_with no_options silence 0) (two_states k n few))
+    ∙ silent_trace 1 0 n (omega arith) (inl refl)

@@ -6,13 +6,13 @@ use Rattle.cpu6502.specs.Code.{IsMachine, Holds}
 use Rattle.code_runs.specs.Calls.{IsBelow, CallsTo}
 use Rattle.code_runs.proofs.Laws.{stands_absolute, entry_kept}
 use Rattle.faithful.specs.Histories.{ImageCall, Init, Play, entry_of}
-use Rattle.faithful.specs.Routines.{Op, LoadA, LoadX, FetchA, StoreA, StoreX, SkipNop, Wait, routine, image_of}
+use Rattle.faithful.specs.Routines.{Op, LoadA, LoadX, FetchA, StoreA, StoreX, SkipNop, Wait, routine, image_with, image_of}
 use Rattle.faithful.proofs.LoadedCalls.{and_true, are_bytes}
 use Rattle.faithful.proofs.Routines.{EachStore, IsSafe, BytesStand, begun, ended, call_steps, HasRoutine, routine_is_called}
 
 -- ---- where routines stand
 
-bytes_from : (at : ℕ → ℕ) (pc : ℕ) (bytes : List ℕ) → pc + length bytes ≤ 0x2000 →
+pub bytes_from : (at : ℕ → ℕ) (pc : ℕ) (bytes : List ℕ) → pc + length bytes ≤ 0x2000 →
     ((k : ℕ) → k < length bytes → at (pc + k) ≡ slice_index bytes k) → BytesStand at pc bytes
 bytes_from at pc [] room held = tt
 bytes_from at pc (byte ∷ bytes) room held = (
@@ -60,21 +60,33 @@ target_of init Play = 0x1006 + length (routine init)
 play_target : (n : ℕ) → 6 + n + 256 * 0x10 ≡ 0x1006 + n
 play_target n = omega arith
 
-has_routine : (init play : List Op) (at : ℕ → ℕ) (call : ImageCall) → BytesStand at 0x1000 (image_of init play) →
-    HasRoutine at (entry_of 0x1000 call) (target_of init call) (ops_of init play call)
-has_routine init play at (Init k) has = record {
+-- the jump to play, and the routines
+abbrev pub play_part : List Op → List Op → List ℕ
+play_part init play = 0x4C ∷ (6 + length (routine init)) ∷ 0x10 ∷ (routine init ++ routine play)
+
+pub init_routine : (opcode : ℕ) (init play : List Op) (at : ℕ → ℕ) → BytesStand at 0x1000 (image_with opcode init play) →
+    HasRoutine at 0x1000 0x1006 init
+init_routine opcode init play at has = record {
   away = lit< tt;
   jump = stands_absolute at 0x1000 0x4C 0x1001 0x1002 0x06 0x10 0x1006 Jmp has.0 refl refl refl has.2.0 has.2.2.0 refl;
   from = lit≤ tt;
   bytes = front at 0x1006 (routine init) (routine play) has.2.2.2.2.2.2;
 }
-has_routine init play at Play has = record {
+
+pub play_routine : (init play : List Op) (at : ℕ → ℕ) → BytesStand at 0x1003 (play_part init play) →
+    HasRoutine at 0x1003 (0x1006 + length (routine init)) play
+play_routine init play at has = record {
   away = lit< tt;
   jump = stands_absolute at 0x1003 0x4C 0x1004 0x1005 (6 + length (routine init)) 0x10 (0x1006 + length (routine init)) Jmp
-      has.2.2.2.0 refl refl refl has.2.2.2.2.0 has.2.2.2.2.2.0 (play_target (length (routine init)));
+      has.0 refl refl refl has.2.0 has.2.2.0 (play_target (length (routine init)));
   from = omega arith;
-  bytes = behind at 0x1006 (routine init) (routine play) has.2.2.2.2.2.2;
+  bytes = behind at 0x1006 (routine init) (routine play) has.2.2.2;
 }
+
+has_routine : (init play : List Op) (at : ℕ → ℕ) (call : ImageCall) → BytesStand at 0x1000 (image_of init play) →
+    HasRoutine at (entry_of 0x1000 call) (target_of init call) (ops_of init play call)
+has_routine init play at (Init k) has = init_routine 0x4C init play at has
+has_routine init play at Play has = play_routine init play at has.2.2.2
 
 image_stands : (init play : List Op) (machine : Machine) (entry number : ℕ) → Fits init play → IsMachine machine →
     Holds machine.memory 0x1000 (image_of init play) →
@@ -93,7 +105,7 @@ stores_pass test (FetchA place ∷ ops) = stores_pass test ops
 stores_pass test (StoreA place ∷ ops) = test place && stores_pass test ops
 stores_pass test (StoreX place ∷ ops) = test place && stores_pass test ops
 stores_pass test (SkipNop ∷ ops) = stores_pass test ops
-stores_pass test (Wait ∷ ops) = stores_pass test ops
+stores_pass test (Wait turns ∷ ops) = stores_pass test ops
 
 pub each_store : (P : ℕ → Type 0) (test : ℕ → Bool) → ((place : ℕ) → test place ≡ true → P place) → (ops : List Op) →
     stores_pass test ops ≡ true → EachStore P ops
@@ -106,7 +118,7 @@ each_store P test is (StoreA place ∷ ops) pass =
 each_store P test is (StoreX place ∷ ops) pass =
     (is place (and_true pass).0, each_store P test is ops (and_true pass).1)
 each_store P test is (SkipNop ∷ ops) pass = each_store P test is ops pass
-each_store P test is (Wait ∷ ops) pass = each_store P test is ops pass
+each_store P test is (Wait turns ∷ ops) pass = each_store P test is ops pass
 
 -- ---- calls
 

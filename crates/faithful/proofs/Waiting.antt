@@ -1,4 +1,4 @@
--- A loop in a loop, which takes 262,656 steps and leaves X and Y at 0.
+-- A loop in a loop, which takes 1,026 steps a turn and leaves X and Y at 0.
 use Rattle.std.proofs.Common.{◌≡◌, ℕ, zero, suc, ◌+◌, ◌%◌, ◌<◌, ◌≤◌, false, true, refl, arith}
 use Rattle.std.specs.Prelude.{nat_eq}
 use Rattle.std.proofs.lemmas.Bool.Decides.{nat_tests}
@@ -6,7 +6,7 @@ use Rattle.cpu6502.specs.declared.cpu.Cpu.{Cpu}
 use Rattle.cpu6502.specs.declared.mnemonic.Mnemonic.TheVariants.{Bne, Dex, Dey, Nop}
 use Rattle.cpu6502.specs.Registers.{with_x, with_y}
 use Rattle.code_runs.specs.Runs.{State, Goes, Leads}
-use Rattle.code_runs.proofs.Laws.{jumped, goes, goes_once, leads_on, in_steps, stands_implied, stands_relative, works, flag_steps, count_steps, dex, bne_taken, bne_passed}
+use Rattle.code_runs.proofs.Laws.{jumped, Works, goes, goes_once, leads_on, in_steps, stands_implied, stands_relative, works, flag_steps, count_steps, dex, bne_taken, bne_passed}
 
 -- two NOPs, DEX and BNE to the first of them; DEY and BNE to it
 pub record LoopStands (at : ℕ → ℕ) (a : ℕ) : Type 0 where
@@ -34,6 +34,11 @@ inner_steps (suc n) = suc (suc (suc (suc (inner_steps n))))
 abbrev outer_steps : ℕ → ℕ
 outer_steps zero = 1024 + 2
 outer_steps (suc n) = 1024 + suc (suc (outer_steps n))
+
+-- 0 is 256 turns
+abbrev pub wait_steps : ℕ → ℕ
+wait_steps zero = 262656
+wait_steps (suc n) = outer_steps n
 
 module _ (at : ℕ → ℕ) (a : ℕ) (loop : LoopStands at a) where
   -- ---- its instructions
@@ -77,41 +82,35 @@ module _ (at : ℕ → ℕ) (a : ℕ) (loop : LoopStands at a) where
   outer_target : (a + 1 + 1 + 1 + 1 + 1 + 1 + 2 + 65528) % 65536 ≡ a
   outer_target = (let below = loop.below in omega arith)
 
-  inner_again : (cpu : Cpu) → cpu.z ≡ false → Goes (in_memory at cpu (a + 1 + 1 + 1)) (jumped cpu a)
-  inner_again cpu is =
+  inner_branch : (cpu : Cpu) → Works (in_memory at cpu (a + 1 + 1 + 1)) Bne a (a + 1 + 1 + 1 + 1 + 1)
+  inner_branch cpu =
       let from = loop.from in
       let below = loop.below in
-      bne_taken
-      (works {at = at} {cpu = jumped cpu (a + 1 + 1 + 1)} a (a + 1 + 1 + 1 + 1 + 1)
-      (stands_relative at (a + 1 + 1 + 1) 0xD0 (a + 1 + 1 + 1 + 1) 0xFB a Bne loop.on refl (omega arith) loop.back inner_target) refl refl
-      (omega arith) (omega arith)) is
+      works {at = at} {cpu = jumped cpu (a + 1 + 1 + 1)} a (a + 1 + 1 + 1 + 1 + 1)
+      (stands_relative at (a + 1 + 1 + 1) 0xD0 (a + 1 + 1 + 1 + 1) 0xFB a Bne loop.on refl (omega arith) loop.back
+      inner_target) refl refl (omega arith) (omega arith)
+
+  inner_again : (cpu : Cpu) → cpu.z ≡ false → Goes (in_memory at cpu (a + 1 + 1 + 1)) (jumped cpu a)
+  inner_again cpu is = bne_taken (inner_branch cpu) is
 
   inner_over : (cpu : Cpu) → cpu.z ≡ true → Goes (in_memory at cpu (a + 1 + 1 + 1)) (jumped cpu (a + 1 + 1 + 1 + 1 + 1))
-  inner_over cpu is =
+  inner_over cpu is = bne_passed (inner_branch cpu) is
+
+  outer_branch : (cpu : Cpu) →
+      Works (in_memory at cpu (a + 1 + 1 + 1 + 1 + 1 + 1)) Bne a (a + 1 + 1 + 1 + 1 + 1 + 1 + 1 + 1)
+  outer_branch cpu =
       let from = loop.from in
       let below = loop.below in
-      bne_passed
-      (works {at = at} {cpu = jumped cpu (a + 1 + 1 + 1)} a (a + 1 + 1 + 1 + 1 + 1)
-      (stands_relative at (a + 1 + 1 + 1) 0xD0 (a + 1 + 1 + 1 + 1) 0xFB a Bne loop.on refl (omega arith) loop.back inner_target) refl refl
-      (omega arith) (omega arith)) is
+      works {at = at} {cpu = jumped cpu (a + 1 + 1 + 1 + 1 + 1 + 1)} a (a + 1 + 1 + 1 + 1 + 1 + 1 + 1 + 1)
+      (stands_relative at (a + 1 + 1 + 1 + 1 + 1 + 1) 0xD0 (a + 1 + 1 + 1 + 1 + 1 + 1 + 1) 0xF8 a Bne loop.outer_on refl
+      (omega arith) loop.outer_back outer_target) refl refl (omega arith) (omega arith)
 
   outer_again : (cpu : Cpu) → cpu.z ≡ false → Goes (in_memory at cpu (a + 1 + 1 + 1 + 1 + 1 + 1)) (jumped cpu a)
-  outer_again cpu is =
-      let from = loop.from in
-      let below = loop.below in
-      bne_taken
-      (works {at = at} {cpu = jumped cpu (a + 1 + 1 + 1 + 1 + 1 + 1)} a (a + 1 + 1 + 1 + 1 + 1 + 1 + 1 + 1)
-      (stands_relative at (a + 1 + 1 + 1 + 1 + 1 + 1) 0xD0 (a + 1 + 1 + 1 + 1 + 1 + 1 + 1) 0xF8 a Bne loop.outer_on refl (omega arith) loop.outer_back outer_target) refl
-      refl (omega arith) (omega arith)) is
+  outer_again cpu is = bne_taken (outer_branch cpu) is
 
-  outer_over : (cpu : Cpu) → cpu.z ≡ true → Goes (in_memory at cpu (a + 1 + 1 + 1 + 1 + 1 + 1)) (jumped cpu (a + 1 + 1 + 1 + 1 + 1 + 1 + 1 + 1))
-  outer_over cpu is =
-      let from = loop.from in
-      let below = loop.below in
-      bne_passed
-      (works {at = at} {cpu = jumped cpu (a + 1 + 1 + 1 + 1 + 1 + 1)} a (a + 1 + 1 + 1 + 1 + 1 + 1 + 1 + 1)
-      (stands_relative at (a + 1 + 1 + 1 + 1 + 1 + 1) 0xD0 (a + 1 + 1 + 1 + 1 + 1 + 1 + 1) 0xF8 a Bne loop.outer_on refl (omega arith) loop.outer_back outer_target) refl
-      refl (omega arith) (omega arith)) is
+  outer_over : (cpu : Cpu) → cpu.z ≡ true →
+      Goes (in_memory at cpu (a + 1 + 1 + 1 + 1 + 1 + 1)) (jumped cpu (a + 1 + 1 + 1 + 1 + 1 + 1 + 1 + 1))
+  outer_over cpu is = bne_passed (outer_branch cpu) is
 
   -- ---- the inner loop
 
@@ -151,11 +150,13 @@ module _ (at : ℕ → ℕ) (a : ℕ) (loop : LoopStands at a) where
       (goes (outer_again (with_y (with_x cpu 0) (suc n)) (some n))
       (outer_from n (with_y (with_x cpu 0) (suc n)) refl refl (omega arith))))
 
-  pub loop_leads : {W : ℕ → Type 0} (cpu : Cpu) → cpu.x ≡ 0 → cpu.y ≡ 0 →
-      Leads W 262656 (in_memory at cpu a) (in_memory at (with_y (with_x cpu 0) 0) (a + 1 + 1 + 1 + 1 + 1 + 1 + 1 + 1))
-  loop_leads cpu x y =
+  pub loop_leads : {W : ℕ → Type 0} (turns : ℕ) (cpu : Cpu) → turns < 256 → cpu.x ≡ 0 → cpu.y ≡ turns →
+      Leads W (wait_steps turns) (in_memory at cpu a)
+      (in_memory at (with_y (with_x cpu 0) 0) (a + 1 + 1 + 1 + 1 + 1 + 1 + 1 + 1))
+  loop_leads zero cpu few x y =
       in_steps refl
       (leads_on (inner_all cpu x)
       (goes (down_y (with_x cpu 0) 255 (most cpu.y y))
       (goes (outer_again (with_y (with_x cpu 0) 255) refl)
       (outer_from 254 (with_y (with_x cpu 0) 255) refl refl (omega arith)))))
+  loop_leads (suc n) cpu few x y = outer_from n cpu x y (omega (arith, few))

@@ -1,5 +1,5 @@
 -- Small images at $1000 for a silent song, worked by hand: two that play it, whatever else is in memory, at the speeds 1
--- and 2; and images beside them, each of which goes wrong in one thing.
+-- and 2; images that play it in order alone; and images beside them, each of which goes wrong in one thing.
 use Rattle.std.specs.Prelude.{ℕ, List, [], ◌∷◌, ◌++◌, map}
 use Rattle.std.specs.List.{range_with_len}
 use Rattle.song_model.specs.declared.songs.Song.{Song}
@@ -9,7 +9,7 @@ use Rattle.play_model.specs.State.{no_options}
 use Rattle.faithful.specs.Faithful.{IsFaithful}
 use Rattle.faithful.specs.Histories.{PlaysAlways}
 use Rattle.faithful.specs.Isolation.{IsIsolated}
-use Rattle.faithful.specs.Routines.{Op, LoadA, LoadX, FetchA, StoreA, StoreX, SkipNop, Wait, image_of}
+use Rattle.faithful.specs.Routines.{Op, LoadA, LoadX, FetchA, StoreA, StoreX, SkipNop, Wait, image_with, image_of}
 use Rattle.faithful.specs.WorkedPlaces.{twice}
 
 -- ---- the right images
@@ -37,15 +37,6 @@ StandsAlone init play = IsIsolated (image_of init play) 0x1000 silence
 abbrev pub timed : List Op
 timed = leave 0 ++ store 0x63 0xDC04 ++ store 0x26 0xDC05
 
--- init leaves zeros in all registers, and play zeros and the volume 15, as the silent song's frames do
-pub record RightImagesPlay : Type 0 where
-  pub at_one : Plays (leave 0) (leave 15) silence no_options
-  pub at_two : Plays timed (leave 15) silence twice
-  pub always : PlaysAlways (image_of (leave 0) (leave 15)) 0x1000 0xFC silence no_options
-  pub alone : StandsAlone (leave 0) (leave 15)
-
--- ---- images that go wrong
-
 -- the silent song twice
 abbrev pub two_silences : Song
 two_silences = record silence {
@@ -53,6 +44,40 @@ two_silences = record silence {
       (record { one = order_of_zero; two = order_of_zero; three = order_of_zero })
       ∷ (record { one = order_of_zero; two = order_of_zero; three = order_of_zero }) ∷ [];
 }
+
+-- init leaves zeros in all registers, and play zeros and the volume 15, as the silent song's frames do
+pub record RightImagesPlay : Type 0 where
+  pub at_one : Plays (leave 0) (leave 15) silence no_options
+  pub at_two : Plays timed (leave 15) silence twice
+  pub second : Plays (leave 0) (leave 15) two_silences no_options
+  pub always : PlaysAlways (image_of (leave 0) (leave 15)) 0x1000 0xFC silence no_options
+  pub alone : StandsAlone (leave 0) (leave 15)
+
+-- ---- images that play in order alone
+
+-- init takes more than 60,000 steps, and less than 200,000
+abbrev pub slow : List Op
+slow = Wait 100 ∷ leave 0
+
+-- init puts an RTS in place of its own jump
+abbrev pub once : List Op
+once = leave 0 ++ store 0x60 0x1000
+
+-- init puts the jump to play in place of a byte that is no opcode
+abbrev pub late : List Op
+late = leave 0 ++ store 0x4C 0x1003
+
+-- an init and the plays after it are right; but of any calls one is too long, or a second init leaves the registers as
+-- they are, or a play before the first init doesn't return
+pub record OrderIsTold : Type 0 where
+  pub slow_plays : Plays slow (leave 15) silence no_options
+  pub slow_init : ¬ PlaysAlways (image_of slow (leave 15)) 0x1000 0xFC silence no_options
+  pub once_plays : Plays once (leave 15) silence no_options
+  pub second_init : ¬ PlaysAlways (image_of once (leave 15)) 0x1000 0xFC silence no_options
+  pub late_plays : IsFaithful (image_with 0x02 late (leave 15)) 0x1000 0xFC silence no_options
+  pub first_play : ¬ PlaysAlways (image_with 0x02 late (leave 15)) 0x1000 0xFC silence no_options
+
+-- ---- images that go wrong
 
 -- the registers: the volume after init and after play, and the first register after play; the number of the subtune as the
 -- volume of init; and the volume of play by STX of the 15 that init left in X
@@ -65,16 +90,16 @@ pub record RegistersAreTold : Type 0 where
 
 -- init takes more steps than a call may
 pub record StepsAreTold : Type 0 where
-  pub init : ¬ Plays (Wait ∷ leave 0) (leave 15) silence no_options
+  pub init : ¬ Plays (Wait 256 ∷ leave 0) (leave 15) silence no_options
 
 -- a store at $0400, at the ninth byte below the stack pointer $FF, and at the processor's port; and at $0400 of the byte
--- that stands there
+-- that stands there, which changes nothing
 pub record StoresAreTold : Type 0 where
   pub screen : ¬ Plays (leave 0 ++ store 1 0x0400) (leave 15) silence no_options
   pub ninth : ¬ Plays (leave 0 ++ store 1 0x01F5) (leave 15) silence no_options
   pub port : ¬ Plays (leave 0 ++ store 1 0x0001) (leave 15) silence no_options
   pub same_byte :
-      ¬ PlaysAlways (image_of (store 0 0x0400 ++ leave 0) (leave 15)) 0x1000 0xFC silence no_options
+      ¬ PlaysAlways (image_of (FetchA 0x0400 ∷ StoreA 0x0400 ∷ leave 0) (leave 15)) 0x1000 0xFC silence no_options
 
 -- at speed 2 init leaves $2763 for $2663, and play changes the high byte
 pub record TimerBytesAreTold : Type 0 where

@@ -3,7 +3,7 @@
 ghost use Rattle.faithful.specs.Laws.{AlwaysIsFaithful, OwnPlacesAreFew, CallsStoreAtHome, FirstPlaysAreFree, InitsEndAlike, PlaysEndAlike};
 ghost use Rattle.faithful.specs.WorkedPlaces.{PlacesAreWorked, CallsAreCounted};
 ghost use Rattle.faithful.specs.WorkedMachines.{TimersAreTold, ChangesAreTold, PairsAreTold};
-ghost use Rattle.faithful.specs.WorkedImages.{RightImagesPlay, RegistersAreTold, StepsAreTold, StoresAreTold, TimerBytesAreTold, DependencesAreTold};
+ghost use Rattle.faithful.specs.WorkedImages.{RightImagesPlay, OrderIsTold, RegistersAreTold, StepsAreTold, StoresAreTold, TimerBytesAreTold, DependencesAreTold};
 
 /// An image that plays a song after any calls plays it after init and any number of plays.
 pub fn what_plays_always_is_faithful()
@@ -46,11 +46,13 @@ pub fn worked_machines()
     ensures pairs { PairsAreTold }
 {}
 
-/// Small images that play the silent song, at the speeds 1 and 2, whatever else is in memory; and images beside them, each
-/// with one thing that is wrong: a register, the steps, a place, the timer, or what a call depends on.
-#[tactic(auto, using(crate::proofs::WorkedImages::right_images_play, crate::proofs::WorkedImages::registers_are_told, crate::proofs::WorkedImages::steps_are_told, crate::proofs::WorkedImages::stores_are_told, crate::proofs::WorkedImages::timer_bytes_are_told, crate::proofs::WorkedImages::dependences_are_told))]
+/// Small images that play the silent song, at the speeds 1 and 2, whatever else is in memory; images that play it in order
+/// alone; and images beside them, each with one thing that is wrong: a register, the steps, a place, the timer, or what a
+/// call depends on.
+#[tactic(auto, using(crate::proofs::WorkedImages::right_images_play, crate::proofs::WrongOrders::order_is_told, crate::proofs::WrongRegisters::registers_are_told, crate::proofs::WrongRegisters::steps_are_told, crate::proofs::WrongStores::stores_are_told, crate::proofs::WrongTimers::timer_bytes_are_told, crate::proofs::WrongDependences::dependences_are_told))]
 pub fn worked_images()
     ensures right { RightImagesPlay }
+    ensures order { OrderIsTold }
     ensures registers { RegistersAreTold }
     ensures steps { StepsAreTold }
     ensures stores { StoresAreTold }
