@@ -10,7 +10,7 @@ pub fn complete_songs_find_all()
 {}
 
 /// The size of a packed song isn't above its song's data size; and the packed song of one note has the size of its song, and
-/// not that of the song without one of its patterns, worked by hand.
+/// neither that of the song without one of its patterns nor that of the song with another one, worked by hand.
 #[tactic(auto, using(crate::proofs::WorkedSizes::packed_sizes_are_within, crate::proofs::WorkedSizes::notes_have_their_size))]
 pub fn packed_songs_have_their_size()
     ensures within { PackedSizesAreWithin }
