@@ -1,8 +1,8 @@
 -- The lines, limits and headers that are worked by hand are as they say.
-use Rattle.std.proofs.Common.{refl}
+use Rattle.std.proofs.Common.{◌≡◌, ℕ, ◌+◌, ◌<◌, ◌≤◌, List, length, drop, refl, ap, arith}
 use Rattle.std.specs.Fmt.{digits}
 use Rattle.hex.specs.Hex.{encode_with}
-use Rattle.jobs.specs.WorkedLines.{LinesAreWorked, FaultsAreWorked, RefusalsAreWorked, LimitsAreWorked, HeadersAreWorked}
+use Rattle.jobs.specs.WorkedLines.{LinesAreWorked, ChecksAreWorked, FaultsAreWorked, RefusalsAreWorked, StatusesAreWorked, LimitsAreWorked, HeadersAreWorked, LargeImagesAreNotPacked}
 
 pub lines_are_worked : LinesAreWorked
 unfolding digits encode_with
@@ -18,6 +18,11 @@ lines_are_worked = record {
   no_memory = refl;
   selftest = refl;
 }
+
+pub checks_are_worked : ChecksAreWorked
+unfolding digits encode_with
+checks_are_worked parts are =
+    rw (are.patterns, are.instruments, are.wave, are.pulse, are.filter, are.speed, are.features) refl
 
 pub faults_are_worked : FaultsAreWorked
 unfolding digits
@@ -40,6 +45,7 @@ refusals_are_worked = record {
   pattern = refl;
   restart = refl;
   row = refl;
+  pulse_row = refl;
   jump = refl;
   text = refl;
   image = refl;
@@ -47,6 +53,21 @@ refusals_are_worked = record {
   at_break = refl;
   at_decimal = refl;
   budget = refl;
+}
+
+pub statuses_are_worked : StatusesAreWorked
+statuses_are_worked = record {
+  no_file = refl;
+  long_file = refl;
+  no_song = refl;
+  unplayable = refl;
+  no_playable_subtune = refl;
+  long_pattern = refl;
+  long_image = refl;
+  no_edit = refl;
+  no_psid = refl;
+  no_subtune = refl;
+  no_return = refl;
 }
 
 pub limits_are_worked : LimitsAreWorked
@@ -66,9 +87,18 @@ headers_are_worked = record {
   released = λ s. refl;
   init = λ s. refl;
   play = λ s. refl;
+  songs = refl;
   first = λ s. refl;
   by_picture = λ s. refl;
   by_timer = λ s. refl;
   flags = λ s. refl;
   raw = refl;
 }
+
+pub large_images_are_not_packed : LargeImagesAreNotPacked
+large_images_are_not_packed address zero_page song options image large packed =
+    let same : image ≡ packed.image = ap (drop 2) packed.holds in
+    no_room address (length image) (length packed.image) (ap length same) large packed.below
+  where
+    no_room : (address n m : ℕ) → n ≡ m → 0xD000 < address + n → address + m ≤ 0xD000 → ⊥
+    no_room address n m e large below = omega (arith, e, large, below)

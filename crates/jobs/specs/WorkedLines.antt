@@ -1,8 +1,11 @@
--- Lines, limits and headers that are worked by hand.
-use Rattle.std.specs.Prelude.{◌≡◌, [], ◌∷◌, codes, false}
+-- Lines, statuses, limits and headers that are worked by hand.
+use Rattle.std.specs.Prelude.{◌≡◌, ℕ, ◌+◌, ◌-◌, ◌<◌, List, [], ◌∷◌, ◌++◌, Bool, true, false, codes, length, replicate}
 use Rattle.song_model.specs.declared.songs.Song.{Song}
-use Rattle.song_model.specs.declared.tables.TableName.TheVariants.{Wave, Filter}
+use Rattle.song_model.specs.declared.tables.TableName.TheVariants.{Wave, Pulse, Filter}
+use Rattle.song_model.specs.Silence.{silence}
 use Rattle.play_model.specs.declared.options.Options.{Options}
+use Rattle.play_model.specs.State.{no_options}
+use Rattle.play_model.specs.WorkedSongs.{subtune as orders}
 use Rattle.play_model.specs.declared.unplayable.Unplayable.TheVariants.{NoSubtune, MissingPattern, BadRestart, TableOverflow, PointerToJump}
 use Rattle.gts5.specs.declared.faults.SongFault.TheVariants as song
 use Rattle.psid.specs.declared.faults.PsidFault.TheVariants as psid
@@ -10,13 +13,15 @@ use Rattle.cpu6502.specs.declared.stop.Stop.TheVariants.{Illegal, Break, Decimal
 use Rattle.cpu6502.specs.declared.stop.CallStop.TheVariants.{Stopped, Budget}
 use Rattle.command_line.specs.Lines.{usage_line, no_memory_line}
 use Rattle.command_line.specs.Words.{frame_limit, subtune_limit, song_number_limit}
-use Rattle.code_lengths.specs.WorkedLengths.{plain}
+use Rattle.usage.specs.declared.parts.UsedParts.{UsedParts}
+use Rattle.faithful.specs.WorkedPlaces.{twice}
 use Rattle.jobs.specs.Lines.{missing_line, too_long_line, read_fault_line, write_fault_line, wrote_line, song_fault_line}
 use Rattle.jobs.specs.Lines.{psid_fault_line, no_subtune_line, stop_line, unplayable_line, too_large_line}
-use Rattle.jobs.specs.Lines.{image_too_large_line, script_line, selftest_line}
-use Rattle.jobs.specs.Packed.{raw_file, song_header}
+use Rattle.jobs.specs.Lines.{image_too_large_line, check_line, script_line, selftest_line}
+use Rattle.jobs.specs.Packed.{raw_file, song_header, IsPackedFile}
 use Rattle.jobs.specs.Selftest.{selftest_calls}
-use Rattle.jobs.specs.Stages.{input_limit, script_limit}
+use Rattle.jobs.specs.Stages.{IsThere, Fits, SpellsSong, CanBePlayed, HasShortPatterns, HasRoomForImage, HasPlayableSubtune}
+use Rattle.jobs.specs.Stages.{CanBeEdited, IsPsid, OffersSubtune, CallsReturn, status_of, input_limit, script_limit}
 
 -- one line of each kind
 pub record LinesAreWorked : Type 0 where
@@ -31,6 +36,26 @@ pub record LinesAreWorked : Type 0 where
   pub no_memory : no_memory_line ≡ codes "no memory\n"
   pub selftest : selftest_line 0 8 0x00431937 817435
       ≡ codes "selftest 0: 8 subtunes, 300 frames, sum 00431937, 817435 steps\n"
+
+-- the first n numbers are marked, of so many
+abbrev pub first_marked : ℕ → ℕ → List Bool
+first_marked n all = replicate n true ++ replicate (all - n) false
+
+-- what a song uses, with another number of each part
+pub record AreCounted (parts : UsedParts) : Type 0 where
+  pub patterns : parts.patterns ≡ first_marked 3 208
+  pub instruments : parts.instruments ≡ first_marked 4 64
+  pub wave : parts.wave ≡ first_marked 15 256
+  pub pulse : parts.pulse ≡ first_marked 6 256
+  pub filter : parts.filter ≡ first_marked 7 256
+  pub speed : parts.speed ≡ first_marked 8 256
+  pub features : parts.features.0 ≡ 0x40200A
+
+abbrev pub ChecksAreWorked : Type 0
+ChecksAreWorked =
+    (parts : UsedParts) → AreCounted parts →
+    check_line 2 parts
+    ≡ codes "subtunes 2 patterns 3 instruments 4 wave 15 pulse 6 filter 7 speed 8 features 40200a\n"
 
 -- one for each way in which a file is no song, or no PSID file
 pub record FaultsAreWorked : Type 0 where
@@ -51,6 +76,7 @@ pub record RefusalsAreWorked : Type 0 where
       ≡ codes "unplayable: missing pattern 4 in subtune 1 channel 2 place 3\n"
   pub restart : unplayable_line (BadRestart 1 3) ≡ codes "unplayable: bad restart in subtune 1 channel 3\n"
   pub row : unplayable_line (TableOverflow Wave 9) ≡ codes "unplayable: wave table ends before row 9\n"
+  pub pulse_row : unplayable_line (TableOverflow Pulse 3) ≡ codes "unplayable: pulse table ends before row 3\n"
   pub jump : unplayable_line (PointerToJump Filter 2) ≡ codes "unplayable: filter pointer to jump row 2\n"
   pub text : too_large_line 7 260 ≡ codes "too large: pattern 7 packs to 260 bytes\n"
   pub image : image_too_large_line 50000 ≡ codes "too large: image of 50000 bytes\n"
@@ -58,6 +84,20 @@ pub record RefusalsAreWorked : Type 0 where
   pub at_break : stop_line (Stopped (Break 0x0A0B)) 1 ≡ codes "machine stopped: break at $0A0B in call 1\n"
   pub at_decimal : stop_line (Stopped (Decimal 0x1003)) 2 ≡ codes "machine stopped: decimal at $1003 in call 2\n"
   pub budget : stop_line Budget 3 ≡ codes "machine stopped: no return in call 3\n"
+
+-- the status with which each stage ends a run
+pub record StatusesAreWorked : Type 0 where
+  pub no_file : status_of (IsThere (codes "a.sng")) ≡ 2
+  pub long_file : status_of (Fits (codes "a.sng") input_limit) ≡ 3
+  pub no_song : status_of (SpellsSong (codes "a.sng")) ≡ 5
+  pub unplayable : status_of (CanBePlayed (codes "a.sng")) ≡ 6
+  pub no_playable_subtune : status_of (HasPlayableSubtune (codes "a.sng") 3) ≡ 11
+  pub long_pattern : status_of (HasShortPatterns (codes "a.sng")) ≡ 7
+  pub long_image : status_of (HasRoomForImage (codes "a.sng") 0x1000 no_options) ≡ 7
+  pub no_edit : status_of (CanBeEdited (codes "a.sng") (codes "a.txt")) ≡ 8
+  pub no_psid : status_of (IsPsid (codes "b.sid")) ≡ 12
+  pub no_subtune : status_of (OffersSubtune (codes "b.sid") 3) ≡ 11
+  pub no_return : status_of (CallsReturn (codes "b.sid") 1 300) ≡ 13
 
 -- the limits in numbers
 pub record LimitsAreWorked : Type 0 where
@@ -68,19 +108,29 @@ pub record LimitsAreWorked : Type 0 where
   pub number : song_number_limit ≡ 18446744073709551615
   pub calls : selftest_calls ≡ 301
 
--- nothing left out, twice a picture
-abbrev pub twice : Options
-twice = record { skip_effects = false; skip_pulse = false; speed = 2 }
+-- the silent song twice, and between the two a subtune that can't be played
+abbrev pub two_of_three : Song
+two_of_three = record silence {
+  subtunes = orders (0 ∷ []) (0 ∷ []) (0 ∷ []) ∷ orders (0 ∷ []) [] (0 ∷ []) ∷ orders (0 ∷ []) (0 ∷ []) (0 ∷ []) ∷ [];
+}
 
--- of each song: its texts in their places, play three bytes after init, and by the timer where it is played twice
+-- of each song: its texts in their places, play three bytes after init, and by the timer where it is played twice; and
+-- its playable subtunes are counted
 pub record HeadersAreWorked : Type 0 where
-  pub name : (s : Song) → (song_header s 0x1000 plain).name ≡ s.name
-  pub author : (s : Song) → (song_header s 0x1000 plain).author ≡ s.author
-  pub released : (s : Song) → (song_header s 0x1000 plain).released ≡ s.copyright
-  pub init : (s : Song) → (song_header s 0x1000 plain).init ≡ 0x1000
-  pub play : (s : Song) → (song_header s 0x1000 plain).play ≡ 0x1003
-  pub first : (s : Song) → (song_header s 0x1000 plain).start_song ≡ 1
-  pub by_picture : (s : Song) → (song_header s 0x1000 plain).speed ≡ 0
+  pub name : (s : Song) → (song_header s 0x1000 no_options).name ≡ s.name
+  pub author : (s : Song) → (song_header s 0x1000 no_options).author ≡ s.author
+  pub released : (s : Song) → (song_header s 0x1000 no_options).released ≡ s.copyright
+  pub init : (s : Song) → (song_header s 0x1000 no_options).init ≡ 0x1000
+  pub play : (s : Song) → (song_header s 0x1000 no_options).play ≡ 0x1003
+  pub songs : (song_header two_of_three 0x1000 no_options).songs ≡ 2
+  pub first : (s : Song) → (song_header s 0x1000 no_options).start_song ≡ 1
+  pub by_picture : (s : Song) → (song_header s 0x1000 no_options).speed ≡ 0
   pub by_timer : (s : Song) → (song_header s 0x1000 twice).speed ≡ 0xFFFFFFFF
-  pub flags : (s : Song) → (song_header s 0x1000 plain).flags ≡ 0x0014
+  pub flags : (s : Song) → (song_header s 0x1000 no_options).flags ≡ 0x0014
   pub raw : raw_file 0x1000 (1 ∷ 2 ∷ []) ≡ 0x00 ∷ 0x10 ∷ 1 ∷ 2 ∷ []
+
+-- the raw file of an image that would pass $D000 is no packed file, whatever the image plays
+abbrev pub LargeImagesAreNotPacked : Type 0
+LargeImagesAreNotPacked =
+    (address zero_page : ℕ) (song : Song) (options : Options) (image : List ℕ) → 0xD000 < address + length image →
+    ¬ IsPackedFile false address zero_page song options (raw_file address image)
