@@ -15,7 +15,10 @@ pub struct Tally {
 
 impl Tally {
     /// No cases.
-    pub fn new() -> Tally {
+    pub fn new() -> Tally
+        ensures agree { result.agree ≡ 0 }
+        ensures differ { result.differ ≡ 0 }
+    {
         Tally {
             agree: 0,
             differ: 0,
