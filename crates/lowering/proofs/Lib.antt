@@ -30,6 +30,7 @@ mod WorkedVoices
 -- Bytes.
 mod Sizing
 mod OwnLines
+mod WorkedCycles
 mod LineCounts
 mod Children
 mod PartSizes

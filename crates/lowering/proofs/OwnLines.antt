@@ -4,13 +4,13 @@ use Rattle.std.proofs.Common.{arith}
 use Rattle.std.proofs.lemmas.Bool.{and_parts}
 use Rattle.cpu6502.specs.declared.mnemonic.Mnemonic.{Mnemonic}
 use Rattle.cpu6502.specs.declared.mnemonic.Mnemonic.TheVariants.{Adc, And as AndA, Clc, Cmp, Dec as DecByte, Eor}
-use Rattle.cpu6502.specs.declared.mnemonic.Mnemonic.TheVariants.{Inc as IncByte, Lda, Ldy, Lsr, Ora, Ror, Sbc, Txa}
-use Rattle.cpu6502.specs.declared.mnemonic.Mode.TheVariants.{Immediate}
+use Rattle.cpu6502.specs.declared.mnemonic.Mnemonic.TheVariants.{Inc as IncByte, Jmp, Lda, Ldy, Lsr, Ora, Ror, Sbc, Txa}
+use Rattle.cpu6502.specs.declared.mnemonic.Mode.TheVariants.{Immediate, Absolute, Relative}
 use Rattle.asm6502.specs.declared.lines.Operand.TheVariants.{Number}
 use Rattle.asm6502.specs.declared.lines.Line.{Line}
 use Rattle.lowering.specs.Words.{Cell, Var, VoiceVar, Operand, Const, HeldOperand, Summand, Plain, Entry}
 use Rattle.lowering.specs.Words.{Direct, Byte, FromY, HeldPlace, Register, VoiceRegister, Timer, Pointer, IntoY}
-use Rattle.lowering.specs.Words.{HeldCounted, CountedY, Test, Not, Counter, CounterVar, CounterY}
+use Rattle.lowering.specs.Words.{HeldCounted, CountedY, Test, Is, Not, Counter, CounterVar, CounterY, Start}
 use Rattle.lowering.specs.Words.{Step, Load, Store, Index, And, Or, Xor, Add, Sub, AddOn, SubOn, Double, Inc, Dec}
 use Rattle.lowering.specs.Words.{HalveAt, HalveOn, Condition, Zero, Minus, Carry, Equal, Less, YEqual}
 use Rattle.blocks.specs.Trees.{Tree, ChainTree, NoneTree, ThenTree, IfTree, UntilTree, EachVoiceTree, WhenTree}
@@ -19,12 +19,13 @@ use Rattle.blocks.specs.Steps.{condition_of}
 use Rattle.blocks.specs.Shape.{step_cost, steps_cost, condition_cost, test_cost, branch_cost, set_cost, down_cost}
 use Rattle.blocks.specs.Shape.{operand_cost, summand_cost, change_cost}
 use Rattle.blocks.specs.Shape.{nothing, jump_cost}
-use Rattle.blocks.specs.Sizes.{has_no_lines, label_count}
+use Rattle.blocks.specs.Sizes.{has_no_lines, label_count, voices_once, fill_once, fill_turn}
 use Rattle.lowering.specs.Instructions.{code, bare, name, jump, operand_line, summand_line}
 use Rattle.lowering.specs.Instructions.{cell_line, step_lines, chain_lines, condition_lines, test_lines}
-use Rattle.lowering.specs.Instructions.{branch_lines, opposite, set_lines, down_line}
+use Rattle.lowering.specs.Instructions.{branch_lines, where_met, opposite, set_lines, down_line}
+use Rattle.lowering.specs.Kinds.{voices_begin, voices_turns, fill_begin, fill_turns}
 use Rattle.lowering.specs.Lines.{lines, sides, if_far, back_far, exit_far, voices_far, if_labels}
-use Rattle.lowering.specs.Cycles.{line_cycles, total, cycles_of}
+use Rattle.lowering.specs.Cycles.{greatest_cycles, line_cycles, total, cycles_of}
 use Rattle.lowering.specs.OwnLines.{OwnLinesAreCountedOnce, OwnLinesCost}
 
 -- ---- lines one after the other
@@ -115,18 +116,23 @@ own_lines_are_counted_once rule pointer k part first (FillTree start count) = om
 
 -- ---- cycles
 
-operand_cycles : (part : ℕ) (mn : Mnemonic) (operand : Operand) → ((l : ℕ) → line_cycles (cell_line part mn (Var l)) ≡ 4) →
-    ((l : ℕ) → line_cycles (cell_line part mn (VoiceVar l)) ≡ 5) →
-    line_cycles (operand_line part mn operand) ≡ (operand_cost operand).cycles
-operand_cycles part mn (Const number) a b = refl
-operand_cycles part mn (HeldOperand (Var label)) a b = a label
-operand_cycles part mn (HeldOperand (VoiceVar label)) a b = b label
+-- an instruction that reads has so many by its operand
+record Reads (part : ℕ) (mn : Mnemonic) : Type 0 where
+  number : (n : ℕ) → line_cycles (operand_line part mn (Const n)) ≡ 2
+  plain : (l : ℕ) → line_cycles (cell_line part mn (Var l)) ≡ 4
+  indexed : (l : ℕ) → line_cycles (cell_line part mn (VoiceVar l)) ≡ 5
 
-summand_cycles : (part : ℕ) (mn : Mnemonic) (summand : Summand) → ((l : ℕ) → line_cycles (cell_line part mn (Var l)) ≡ 4) →
-    ((l : ℕ) → line_cycles (cell_line part mn (VoiceVar l)) ≡ 5) →
+operand_cycles : (part : ℕ) (mn : Mnemonic) (operand : Operand) → Reads part mn →
+    line_cycles (operand_line part mn operand) ≡ (operand_cost operand).cycles
+operand_cycles part mn (Const number) reads = reads.number number
+operand_cycles part mn (HeldOperand (Var label)) reads = reads.plain label
+operand_cycles part mn (HeldOperand (VoiceVar label)) reads = reads.indexed label
+
+summand_cycles : (part : ℕ) (mn : Mnemonic) (summand : Summand) → Reads part mn →
+    ((t : ℕ) → line_cycles (summand_line part mn (Entry t)) ≡ 5) →
     line_cycles (summand_line part mn summand) ≡ (summand_cost summand).cycles
-summand_cycles part mn (Plain operand) a b = operand_cycles part mn operand a b
-summand_cycles part mn (Entry table) a b = refl
+summand_cycles part mn (Plain operand) reads entry = operand_cycles part mn operand reads
+summand_cycles part mn (Entry table) reads entry = entry table
 
 change_cycles : (part : ℕ) (mn : Mnemonic) (cell : Cell) → ((l : ℕ) → line_cycles (cell_line part mn (Var l)) ≡ 6) →
     ((l : ℕ) → line_cycles (cell_line part mn (VoiceVar l)) ≡ 7) →
@@ -135,8 +141,9 @@ change_cycles part mn (Var label) a b = a label
 change_cycles part mn (VoiceVar label) a b = b label
 
 step_cycles : (pointer part : ℕ) (step : Step) → cycles_of (step_lines pointer part step) ≡ (step_cost step).cycles
+unfolding greatest_cycles
 step_cycles pointer part (Load (Direct summand)) =
-    omega (arith, summand_cycles part Lda summand (λ l. refl) (λ l. refl))
+    omega (arith, summand_cycles part Lda summand (record { number = λ n. refl; plain = λ l. refl; indexed = λ l. refl }) (λ t. refl))
 step_cycles pointer part (Load Byte) = refl
 step_cycles pointer part (Load FromY) = refl
 step_cycles pointer part (Store (HeldPlace (Var label))) = refl
@@ -146,14 +153,14 @@ step_cycles pointer part (Store (VoiceRegister register)) = refl
 step_cycles pointer part (Store (Timer half)) = refl
 step_cycles pointer part (Store (Pointer half)) = refl
 step_cycles pointer part (Store IntoY) = refl
-step_cycles pointer part (Index operand) = omega (arith, operand_cycles part Ldy operand (λ l. refl) (λ l. refl))
-step_cycles pointer part (And operand) = omega (arith, operand_cycles part AndA operand (λ l. refl) (λ l. refl))
-step_cycles pointer part (Or operand) = omega (arith, operand_cycles part Ora operand (λ l. refl) (λ l. refl))
-step_cycles pointer part (Xor operand) = omega (arith, operand_cycles part Eor operand (λ l. refl) (λ l. refl))
-step_cycles pointer part (Add summand) = omega (arith, summand_cycles part Adc summand (λ l. refl) (λ l. refl))
-step_cycles pointer part (Sub summand) = omega (arith, summand_cycles part Sbc summand (λ l. refl) (λ l. refl))
-step_cycles pointer part (AddOn summand) = omega (arith, summand_cycles part Adc summand (λ l. refl) (λ l. refl))
-step_cycles pointer part (SubOn summand) = omega (arith, summand_cycles part Sbc summand (λ l. refl) (λ l. refl))
+step_cycles pointer part (Index operand) = omega (arith, operand_cycles part Ldy operand (record { number = λ n. refl; plain = λ l. refl; indexed = λ l. refl }))
+step_cycles pointer part (And operand) = omega (arith, operand_cycles part AndA operand (record { number = λ n. refl; plain = λ l. refl; indexed = λ l. refl }))
+step_cycles pointer part (Or operand) = omega (arith, operand_cycles part Ora operand (record { number = λ n. refl; plain = λ l. refl; indexed = λ l. refl }))
+step_cycles pointer part (Xor operand) = omega (arith, operand_cycles part Eor operand (record { number = λ n. refl; plain = λ l. refl; indexed = λ l. refl }))
+step_cycles pointer part (Add summand) = omega (arith, summand_cycles part Adc summand (record { number = λ n. refl; plain = λ l. refl; indexed = λ l. refl }) (λ t. refl))
+step_cycles pointer part (Sub summand) = omega (arith, summand_cycles part Sbc summand (record { number = λ n. refl; plain = λ l. refl; indexed = λ l. refl }) (λ t. refl))
+step_cycles pointer part (AddOn summand) = omega (arith, summand_cycles part Adc summand (record { number = λ n. refl; plain = λ l. refl; indexed = λ l. refl }) (λ t. refl))
+step_cycles pointer part (SubOn summand) = omega (arith, summand_cycles part Sbc summand (record { number = λ n. refl; plain = λ l. refl; indexed = λ l. refl }) (λ t. refl))
 step_cycles pointer part Double = refl
 step_cycles pointer part (Inc (HeldCounted cell)) = omega (arith, change_cycles part IncByte cell (λ l. refl) (λ l. refl))
 step_cycles pointer part (Inc CountedY) = refl
@@ -175,11 +182,12 @@ chain_cycles pointer part (step ∷ steps) =
 
 condition_cycles : (part : ℕ) (condition : Condition) →
     cycles_of (condition_lines part condition) ≡ (condition_cost condition).cycles
+unfolding greatest_cycles
 condition_cycles part Zero = refl
 condition_cycles part Minus = refl
 condition_cycles part Carry = refl
-condition_cycles part (Equal operand) = omega (arith, operand_cycles part Cmp operand (λ l. refl) (λ l. refl))
-condition_cycles part (Less operand) = omega (arith, operand_cycles part Cmp operand (λ l. refl) (λ l. refl))
+condition_cycles part (Equal operand) = omega (arith, operand_cycles part Cmp operand (record { number = λ n. refl; plain = λ l. refl; indexed = λ l. refl }))
+condition_cycles part (Less operand) = omega (arith, operand_cycles part Cmp operand (record { number = λ n. refl; plain = λ l. refl; indexed = λ l. refl }))
 condition_cycles part (YEqual number) = refl
 
 test_cycles : (pointer part : ℕ) (steps : List Step) (test : Test) →
@@ -192,23 +200,65 @@ test_cycles pointer part steps test =
       condition_cycles part (condition_of test),
     )
 
+-- each branch is one
+fork_cycles : (test : Test) → greatest_cycles (where_met test) Relative ≡ 4
+unfolding greatest_cycles
+fork_cycles (Is Zero) = refl
+fork_cycles (Is Minus) = refl
+fork_cycles (Is Carry) = refl
+fork_cycles (Is (Equal operand)) = refl
+fork_cycles (Is (Less operand)) = refl
+fork_cycles (Is (YEqual number)) = refl
+fork_cycles (Not Zero) = refl
+fork_cycles (Not Minus) = refl
+fork_cycles (Not Carry) = refl
+fork_cycles (Not (Equal operand)) = refl
+fork_cycles (Not (Less operand)) = refl
+fork_cycles (Not (YEqual number)) = refl
+
+jump_cycles : greatest_cycles Jmp Absolute ≡ 3
+unfolding greatest_cycles
+jump_cycles = refl
+
 branch_cycles : (part : ℕ) (far : Bool) (test : Test) (label : ℕ) →
     cycles_of (branch_lines part far test label) ≡ (branch_cost far).cycles
-branch_cycles part true test label = refl
-branch_cycles part false test label = refl
+branch_cycles part true test label = omega (arith, fork_cycles (opposite test), jump_cycles)
+branch_cycles part false test label = omega (arith, fork_cycles test)
 
 set_cycles : (part : ℕ) (counter : Counter) (count : ℕ) → cycles_of (set_lines part counter count) ≡ (set_cost counter).cycles
+unfolding greatest_cycles
 set_cycles part (CounterVar label) count = refl
 set_cycles part CounterY count = refl
 
 down_cycles : (part : ℕ) (counter : Counter) → line_cycles (down_line part counter) ≡ (down_cost counter).cycles
+unfolding greatest_cycles
 down_cycles part (CounterVar label) = refl
 down_cycles part CounterY = refl
 
 over_cycles : (one : Bool) (part first : ℕ) →
     cycles_of (sides one part first [] []) ≡ (if one then nothing else jump_cost).cycles
+unfolding greatest_cycles
 over_cycles true part first = refl
 over_cycles false part first = refl
+
+-- before the turns of all voices, and in each of them; and so of a fill
+voices_begin_cycles : (part : ℕ) → cycles_of (voices_begin part) ≡ voices_once.cycles
+unfolding greatest_cycles
+voices_begin_cycles part = refl
+
+voices_turn_cycles : (part first : ℕ) (is_far : Bool) →
+    cycles_of (voices_turns part first is_far []) ≡ 10 + (branch_cost is_far).cycles
+unfolding greatest_cycles
+voices_turn_cycles part first true = refl
+voices_turn_cycles part first false = refl
+
+fill_begin_cycles : (part count : ℕ) → cycles_of (fill_begin part count) ≡ fill_once.cycles
+unfolding greatest_cycles
+fill_begin_cycles part count = refl
+
+fill_turn_cycles : (part first : ℕ) (start : Start) → cycles_of (fill_turns part first start) ≡ fill_turn.cycles
+unfolding greatest_cycles
+fill_turn_cycles part first start = refl
 
 pub own_lines_cost : OwnLinesCost
 own_lines_cost pointer part first (ChainTree steps) = (chain_cycles pointer part steps, refl)
@@ -246,6 +296,7 @@ own_lines_cost pointer part first (UntilTree counter count steps test body) =
       ),
     )
 own_lines_cost pointer part first (EachVoiceTree body) =
-    (refl, omega (arith, branch_cycles part (voices_far body) (Not Zero) first))
+    (voices_begin_cycles part, omega (arith, voices_turn_cycles part first (voices_far body)))
 own_lines_cost pointer part first (WhenTree bit body) = (refl, refl)
-own_lines_cost pointer part first (FillTree start count) = (refl, refl)
+own_lines_cost pointer part first (FillTree start count) =
+    (fill_begin_cycles part count, fill_turn_cycles part first start)

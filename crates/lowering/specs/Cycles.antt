@@ -1,58 +1,46 @@
--- Cycles of lines: the greatest number that each instruction takes. Source: the MOS 6502 programming manual.
-use Rattle.std.specs.Prelude.{ℕ, ◌+◌, Bool, true, false, List, [], ◌∷◌, if◌then◌else◌}
+-- Cycles of lines: the greatest number that each instruction takes, by the cycles of the decode table. Source: the MOS 6502
+-- programming manual.
+use Rattle.std.specs.Prelude.{◌≡◌, ℕ, ◌+◌, Bool, true, false, Option, Some, None, List, [], ◌∷◌, if◌then◌else◌}
+use Rattle.std.specs.Option.{option_and_then}
 use Rattle.cpu6502.specs.declared.mnemonic.Mnemonic.{Mnemonic}
-use Rattle.cpu6502.specs.declared.mnemonic.Mnemonic.TheVariants.{Asl, Brk, Dec, Inc, Jmp, Jsr, Lsr, Pha, Php, Pla}
-use Rattle.cpu6502.specs.declared.mnemonic.Mnemonic.TheVariants.{Plp, Rol, Ror, Rti, Rts}
+use Rattle.cpu6502.specs.declared.mnemonic.Mnemonic.TheVariants.{Adc, Asl, Bne, Cmp, Dec, Inc, Jmp, Lda, Lsr, Nop, Rol, Ror, Rts, Sta}
 use Rattle.cpu6502.specs.declared.mnemonic.Mode.{Mode}
-use Rattle.cpu6502.specs.declared.mnemonic.Mode.TheVariants.{Implied, Accumulator, Immediate, ZeroPage, ZeroPageX}
-use Rattle.cpu6502.specs.declared.mnemonic.Mode.TheVariants.{ZeroPageY, Absolute, AbsoluteX, AbsoluteY, IndirectX}
-use Rattle.cpu6502.specs.declared.mnemonic.Mode.TheVariants.{IndirectY, Indirect, Relative}
+use Rattle.cpu6502.specs.declared.mnemonic.Mode.TheVariants.{Implied, Immediate, ZeroPage, Absolute, AbsoluteX, AbsoluteY}
+use Rattle.cpu6502.specs.declared.mnemonic.Mode.TheVariants.{IndirectY, Relative}
+use Rattle.cpu6502.specs.declared.table.Row.{Row}
+use Rattle.cpu6502.specs.Opcodes.{row_of, opcode_of}
 use Rattle.asm6502.specs.declared.lines.Item.{Item}
 use Rattle.asm6502.specs.declared.lines.Item.TheVariants.{Code}
 use Rattle.asm6502.specs.declared.lines.Line.{Line}
 
--- whether an instruction reads a byte and writes it back
-abbrev pub changes : Mnemonic → Bool
-changes Asl = true
-changes Lsr = true
-changes Rol = true
-changes Ror = true
-changes Inc = true
-changes Dec = true
-changes _ = false
+-- the cycles of a row of the decode table; an instruction that has none takes none
+abbrev pub cycles_in : Option Row → ℕ
+cycles_in None = 0
+cycles_in (Some row) = row.cycles
 
--- an instruction without operand
-abbrev pub implied_cycles : Mnemonic → ℕ
-implied_cycles Pha = 3
-implied_cycles Php = 3
-implied_cycles Pla = 4
-implied_cycles Plp = 4
-implied_cycles Rts = 6
-implied_cycles Rti = 6
-implied_cycles Brk = 7
-implied_cycles _ = 2
+-- whether an instruction with an index writes a byte
+abbrev pub writes : Mnemonic → Bool
+writes Sta = true
+writes Asl = true
+writes Lsr = true
+writes Rol = true
+writes Ror = true
+writes Inc = true
+writes Dec = true
+writes _ = false
 
--- one by an address
-abbrev pub absolute_cycles : Mnemonic → ℕ
-absolute_cycles Jmp = 3
-absolute_cycles Jsr = 6
-absolute_cycles mnemonic = if changes mnemonic then 6 else 4
+-- what the table leaves out, at most: a cycle where the index of a read crosses a page, and two where a branch is taken to
+-- another page
+abbrev pub left_out : Mnemonic → Mode → ℕ
+left_out mnemonic AbsoluteX = if writes mnemonic then 0 else 1
+left_out mnemonic AbsoluteY = if writes mnemonic then 0 else 1
+left_out mnemonic IndirectY = if writes mnemonic then 0 else 1
+left_out mnemonic Relative = 2
+left_out mnemonic _ = 0
 
--- the greatest number of cycles: an index crosses a page, and a branch is taken to another one
-abbrev pub greatest_cycles : Mnemonic → Mode → ℕ
-greatest_cycles mnemonic Implied = implied_cycles mnemonic
-greatest_cycles mnemonic Accumulator = 2
-greatest_cycles mnemonic Immediate = 2
-greatest_cycles mnemonic ZeroPage = if changes mnemonic then 5 else 3
-greatest_cycles mnemonic ZeroPageX = if changes mnemonic then 6 else 4
-greatest_cycles mnemonic ZeroPageY = 4
-greatest_cycles mnemonic Absolute = absolute_cycles mnemonic
-greatest_cycles mnemonic AbsoluteX = if changes mnemonic then 7 else 5
-greatest_cycles mnemonic AbsoluteY = 5
-greatest_cycles mnemonic Indirect = 5
-greatest_cycles mnemonic IndirectX = 6
-greatest_cycles mnemonic IndirectY = 6
-greatest_cycles mnemonic Relative = 4
+-- the greatest number of cycles
+unfoldable pub greatest_cycles : Mnemonic → Mode → ℕ
+greatest_cycles mnemonic mode = cycles_in (option_and_then row_of (opcode_of mnemonic mode)) + left_out mnemonic mode
 
 -- of a line: a name takes none, and data aren't run
 abbrev pub item_cycles : Item → ℕ
@@ -69,3 +57,21 @@ total rule (line ∷ rest) = rule line + total rule rest
 
 abbrev pub cycles_of : List Line → ℕ
 cycles_of lines = total line_cycles lines
+
+-- worked by hand: reads without an index and with one, a write, a byte that is changed, a branch, a jump and a return
+pub record CyclesAreWorked : Type 0 where
+  pub of_number : greatest_cycles Lda Immediate ≡ 2
+  pub of_zero_page : greatest_cycles Lda ZeroPage ≡ 3
+  pub of_read : greatest_cycles Cmp Absolute ≡ 4
+  pub of_indexed_read : greatest_cycles Cmp AbsoluteX ≡ 5
+  pub of_read_by_y : greatest_cycles Adc AbsoluteY ≡ 5
+  pub of_read_by_pointer : greatest_cycles Lda IndirectY ≡ 6
+  pub of_indexed_write : greatest_cycles Sta AbsoluteX ≡ 5
+  pub of_write_by_y : greatest_cycles Sta AbsoluteY ≡ 5
+  pub of_write_by_pointer : greatest_cycles Sta IndirectY ≡ 6
+  pub of_change : greatest_cycles Inc Absolute ≡ 6
+  pub of_indexed_change : greatest_cycles Inc AbsoluteX ≡ 7
+  pub of_branch : greatest_cycles Bne Relative ≡ 4
+  pub of_jump : greatest_cycles Jmp Absolute ≡ 3
+  pub of_return : greatest_cycles Rts Implied ≡ 6
+  pub of_nothing : greatest_cycles Nop Implied ≡ 2

@@ -1,5 +1,6 @@
 //! Facts about the definitions, each the contract of a function that does nothing.
 
+ghost use Rattle.lowering.specs.Cycles.{CyclesAreWorked};
 ghost use Rattle.lowering.specs.Isolation.{LoweredBlocksAreIsolated};
 ghost use Rattle.lowering.specs.Lowered.{LoweredBlocksDo};
 ghost use Rattle.lowering.specs.Measures.{LinesAreCounted, LinesTakeSize, PartsTakeBytes, LabelsAreNamedOnce};
@@ -46,6 +47,12 @@ pub fn own_lines_cost()
     ensures each { OwnLinesAreCountedOnce }
     ensures cycles { OwnLinesCost }
     ensures whole { LinesCost }
+{}
+
+/// The greatest cycles of some instructions, worked by hand.
+#[tactic(auto, using(crate::proofs::WorkedCycles::cycles_are_worked))]
+pub fn worked_cycles()
+    ensures { CyclesAreWorked }
 {}
 
 /// Three blocks at `$1000`, worked by hand: their bytes, a site that is well placed, a state that enters it, and where
