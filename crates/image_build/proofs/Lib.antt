@@ -19,5 +19,7 @@ mod Served
 mod Isolated
 mod Untimed
 mod Whole
+mod Spanned
 mod Imaged
 mod WorkedImages
+mod WorkedSpans

@@ -45,6 +45,10 @@ pub record IsNamedAs (spans : List PartSpan) (byte part : ℕ) : Type 0 where
   pub named : IsNamed spans byte
   pub part_is : named.span.part ≡ part
 
+-- each byte below a number is of the part that stands for it in a list
+abbrev pub NamesEach : List PartSpan → List ℕ → ℕ → Type 0
+NamesEach spans parts count = (byte : ℕ) → byte < count → IsNamedAs spans byte (slice_index parts byte)
+
 -- it is one of the packed song's: behind the low bytes of the frequencies the right sides of the speed table, and behind
 -- the high bytes all the rest
 abbrev pub IsPacked : PackedSong → Options → ℕ → Type 0
@@ -87,7 +91,7 @@ pub record NamesParts (packed : PackedSong) (place : Place) (options : Options) 
   pub add_up : spans_size spans + packed_song_size packed ≡ size
   pub in_parts : parts_of_spans spans ≡ parts_of_lines (kept_code packed place options)
       ++ replicate frequency_bytes always
-  pub in_code : (byte : ℕ) → byte < code_length packed.features.0 options - frequency_bytes →
-      IsNamedAs spans byte (slice_index (parts_of_lines (kept_code packed place options)) byte)
+  pub in_code : NamesEach spans (parts_of_lines (kept_code packed place options))
+      (code_length packed.features.0 options - frequency_bytes)
   pub common : NamesCommon packed options spans
   pub parts : (part : ℕ) → part_size part spans ≡ length_of_part packed options part

@@ -18,7 +18,9 @@ pub fn worked_images()
     ensures variables { VariablesAreWorked }
 {}
 
-/// The parts of the bytes in two spans and in three lines, and how many bytes of a part two spans have.
+/// The parts of the bytes in two spans and in three lines, how many bytes of a part two spans have, and which bytes spans
+/// name, with their parts.
+#[tactic(auto, using(crate::proofs::WorkedSpans::spans_are_worked))]
 pub fn worked_spans()
     ensures { SpansAreWorked }
 {}
