@@ -1,7 +1,6 @@
 -- Small images that play the silent song from their first init on: init may also store in the two jumps before the
 -- routines, and leaves the one to play.
 use Rattle.std.proofs.Common.{◌≡◌, ℕ, zero, suc, ◌+◌, ◌%◌, ◌<◌, ◌≤◌, inl, inr, Bool, true, ◌&&◌, ◌||◌, nat_lt, nat_le, List, [], ◌∷◌, ◌++◌, length, replicate, slice_index, refl, sym, ap, ◌∙◌, arith}
-use Rattle.song_model.specs.LookUp.{playable_subtunes}
 use Rattle.song_model.specs.Silence.{silence}
 use Rattle.play_model.specs.State.{no_options}
 use Rattle.play_model.specs.Frame.{trace_with}
@@ -14,7 +13,7 @@ use Rattle.code_runs.proofs.Laws.{entry_kept}
 use Rattle.sid_run.specs.declared.memory.TheConstants.{REGISTERS}
 use Rattle.faithful.specs.Confined.{IsOwnPlace}
 use Rattle.faithful.specs.Faithful.{Leaves, AgreesOn, LeavesAndGoesOn, PlaysOn, IsFaithful}
-use Rattle.faithful.specs.Timers.{SetsTimer, KeepsTimer}
+use Rattle.faithful.specs.Timers.{SetsTimer}
 use Rattle.faithful.specs.Routines.{Op, routine, image_with}
 use Rattle.faithful.proofs.LoadedCalls.{and_true}
 use Rattle.faithful.proofs.Routines.{all_done, step_count, EachStore, IsSafe, begun, ended, call_steps, others_stay, HasRoutine, routine_is_called}

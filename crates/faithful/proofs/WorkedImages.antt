@@ -1,5 +1,5 @@
 -- Small images that play a silent song, at the speeds 1 and 2.
-use Rattle.std.proofs.Common.{◌<◌, ◌≤◌, inl, inr, lit≤, refl, arith}
+use Rattle.std.proofs.Common.{inl, inr, lit≤, refl, arith}
 use Rattle.song_model.specs.Silence.{silence}
 use Rattle.play_model.specs.State.{no_options}
 use Rattle.faithful.specs.Routines.{image_of}

@@ -1,5 +1,5 @@
 -- Small images that play the silent song where their calls come in order, and not always.
-use Rattle.std.proofs.Common.{◌≡◌, ℕ, zero, suc, ◌+◌, ◌<◌, ◌≤◌, Bool, true, ◌&&◌, ◌||◌, nat_lt, nat_le, List, [], ◌∷◌, ◌++◌, length, replicate, slice_index, Ok, lit<, lit≤, refl, sym, ap, ◌∙◌, arith, length-set}
+use Rattle.std.proofs.Common.{◌≡◌, ℕ, zero, suc, ◌+◌, ◌<◌, ◌≤◌, Bool, true, ◌||◌, nat_le, List, [], ◌∷◌, length, replicate, slice_index, Ok, lit<, lit≤, refl, sym, ap, ◌∙◌, arith, length-set}
 use Rattle.std.proofs.lemmas.Bool.Decides.{nat_tests}
 use Rattle.std.proofs.lemmas.List.{get_or-set_other}
 use Rattle.std.proofs.lemmas.List.Elements.{All-set}
@@ -10,52 +10,48 @@ use Rattle.cpu6502.specs.declared.stop.Stop.TheVariants.{Illegal}
 use Rattle.cpu6502.specs.Code.{IsMachine, Holds}
 use Rattle.cpu6502.specs.Call.{run, entered, Called, IsOutFor, HasReturned}
 use Rattle.cpu6502.proofs.Laws.{called_once, no_stop}
+use Rattle.code_runs.specs.Runs.{State}
 use Rattle.code_runs.proofs.Laws.{entry_kept}
 use Rattle.sid_run.specs.State.{loaded_memory, sid_registers}
 use Rattle.faithful.specs.Histories.{Init, Play, LeadTo, PlaysAlways}
-use Rattle.faithful.specs.Routines.{image_with, image_of}
+use Rattle.faithful.specs.Routines.{Op, image_with, image_of}
 use Rattle.faithful.specs.WorkedMachines.{machine_with, with_byte}
 use Rattle.faithful.specs.WorkedImages.{leave, slow, once, late, OrderIsTold}
 use Rattle.faithful.proofs.LoadedCalls.{is_machine, holds, one_end, after_of, done_is}
 use Rattle.faithful.proofs.Routines.{all_done, begun, call_steps, others_stay}
 use Rattle.faithful.proofs.SmallImages.{stores_pass, each_store, play_part}
+use Rattle.faithful.proofs.RightImages.{LeavesSo}
 use Rattle.faithful.proofs.LoadedImages.{zeros_is, zeros_hold, ran, byte_is, unequal}
-use Rattle.faithful.proofs.OrderedCalls.{IsBegun, is_begun, plays_in_order}
+use Rattle.faithful.proofs.OrderedCalls.{is_begun, IsBegun, plays_in_order}
 
 -- ---- in order they are right
 
-slow_begins : IsBegun 0x4C slow (leave 15) 102629 27
-slow_begins = record {
-  room = lit≤ tt;
-  few = (lit≤ tt, lit≤ tt);
-  init_stores = refl;
+begins : (opcode : ℕ) (init : List Op) (steps : ℕ) → 0x1000 + length (image_with opcode init (leave 15)) ≤ 0x2000 →
+    steps ≤ 150000 → stores_pass is_begun init ≡ true → LeavesSo init steps (replicate 25 0) →
+    ((s : State) → s.at 0x1003 ≡ opcode → (all_done init s).at 0x1003 ≡ 0x4C) →
+    IsBegun opcode init (leave 15) steps 27
+begins opcode init steps room few stores leaves jumps = record {
+  room = room;
+  few = (few, lit≤ tt);
+  init_stores = stores;
   play_stores = refl;
-  init_leaves = record { registers_are = λ s. refl; steps_are = λ s. refl };
+  init_leaves = leaves;
   play_leaves = record { registers_are = λ s. refl; steps_are = λ s. refl };
-  jumps = λ s e. e;
+  jumps = jumps;
 }
+
+slow_begins : IsBegun 0x4C slow (leave 15) 102629 27
+slow_begins =
+    begins 0x4C slow 102629 (lit≤ tt) (lit≤ tt) refl (record { registers_are = λ s. refl; steps_are = λ s. refl })
+    (λ s e. e)
 
 once_begins : IsBegun 0x4C once (leave 15) 29 27
-once_begins = record {
-  room = lit≤ tt;
-  few = (lit≤ tt, lit≤ tt);
-  init_stores = refl;
-  play_stores = refl;
-  init_leaves = record { registers_are = λ s. refl; steps_are = λ s. refl };
-  play_leaves = record { registers_are = λ s. refl; steps_are = λ s. refl };
-  jumps = λ s e. e;
-}
+once_begins =
+    begins 0x4C once 29 (lit≤ tt) (lit≤ tt) refl (record { registers_are = λ s. refl; steps_are = λ s. refl }) (λ s e. e)
 
 late_begins : IsBegun 0x02 late (leave 15) 29 27
-late_begins = record {
-  room = lit≤ tt;
-  few = (lit≤ tt, lit≤ tt);
-  init_stores = refl;
-  play_stores = refl;
-  init_leaves = record { registers_are = λ s. refl; steps_are = λ s. refl };
-  play_leaves = record { registers_are = λ s. refl; steps_are = λ s. refl };
-  jumps = λ s e. refl;
-}
+late_begins =
+    begins 0x02 late 29 (lit≤ tt) (lit≤ tt) refl (record { registers_are = λ s. refl; steps_are = λ s. refl }) (λ s e. refl)
 
 -- ---- a call that is too long
 

@@ -1,5 +1,5 @@
 -- Small images that don't play the silent song: they leave a wrong register, or take too many steps.
-use Rattle.std.proofs.Common.{◌≡◌, ℕ, ◌+◌, ◌<◌, ◌≤◌, List, [], ◌∷◌, ◌++◌, slice_index, lit<, refl, arith}
+use Rattle.std.proofs.Common.{◌≡◌, ℕ, ◌<◌, ◌≤◌, [], ◌∷◌, ◌++◌, slice_index, lit<, refl, arith}
 use Rattle.song_model.specs.Silence.{silence}
 use Rattle.play_model.specs.State.{no_options}
 use Rattle.cpu6502.specs.declared.machine.Machine.{Machine}
