@@ -14,4 +14,5 @@ pub mod Running
 pub mod Turns
 pub mod Frames
 -- What frames of small songs use, and what they don't.
+pub mod WorkedTurns
 pub mod WorkedCases

@@ -1,238 +1,39 @@
 -- What frames of small songs use, and what they don't.
-use Rattle.std.proofs.Common.{◌≡◌, ◌≢◌, ℕ, zero, suc, ◌+◌, ◌<◌, ◌≤◌, true, false, [], ◌∷◌, Contains, replicate, lit<, lit≤, inl, inr, refl, sym, ap, ◌∙◌, subst, arith}
-use Rattle.std.specs.Prelude.{◌&&◌, ◌==◌}
+use Rattle.std.proofs.Common.{◌≡◌, ◌≢◌, ℕ, zero, suc, ◌<◌, ◌≤◌, [], ◌∷◌, Contains, replicate, lit<, lit≤, inl, inr, refl, sym, subst, arith}
 use Rattle.std.proofs.lemmas.List.Elements.{All-cons, All-replicate, All-contains}
 use Rattle.song_model.specs.declared.orders.Subtune.{Subtune}
-use Rattle.song_model.specs.declared.tables.TableRow.{TableRow}
-use Rattle.song_model.specs.declared.tables.TableName.TheVariants.{Wave, Speed}
+use Rattle.song_model.specs.declared.tables.TableName.TheVariants.{Speed}
 use Rattle.song_model.specs.Walk.{prefix_of, cycle_of, played}
 use Rattle.song_model.specs.LookUp.{order_of, playable_subtune, instrument_at, table_row, pattern_at}
-use Rattle.play_model.specs.declared.options.Options.{Options}
-use Rattle.play_model.specs.LookUps.{LookUps, look_ups_of}
-use Rattle.play_model.specs.Wrap.{byte_minus}
+use Rattle.play_model.specs.LookUps.{look_ups_of}
 use Rattle.play_model.specs.Freq.{freq, half_tone, slide}
-use Rattle.play_model.specs.State.{Voice, Playing, FrameState, no_options}
+use Rattle.play_model.specs.State.{no_options}
 use Rattle.play_model.specs.Helpers.{next_row, porta_up, porta_down, tone, vibrato, do_command}
 use Rattle.play_model.specs.FilterStep.{filter_step}
-use Rattle.play_model.specs.TickStep.{Ticked, tempo_of, between_rows, note_started, row_command, at_row, tick_step}
-use Rattle.play_model.specs.WaveStep.{Waved, is_wave_command, wave_command, wave_step}
+use Rattle.play_model.specs.TickStep.{between_rows, note_started, row_command, at_row, tick_step}
+use Rattle.play_model.specs.WaveStep.{wave_command, wave_step}
 use Rattle.play_model.specs.EffectStep.{effect_step}
 use Rattle.play_model.specs.PulseStep.{pulse_step}
 use Rattle.play_model.specs.FetchRow.{fetch_row}
-use Rattle.play_model.specs.Frame.{effect_done, subtune_at, voice_step, voice_registers, filter_registers, frame_of, state_after_with}
+use Rattle.play_model.specs.Frame.{subtune_at, voice_step, voice_registers, filter_registers, frame_of, state_after_with}
 use Rattle.play_model.specs.Used.{IsChannel}
-use Rattle.play_model.specs.Uses.{Turn, turn_of, InATurn, DoesRow, DoesOnce, HasOrderByte, HasWaveProgram, MeetsWaveCommand, DoesWave, DoesEffect, DoesRunning, MeetsVibrato, HasPulseProgram, Slides, AsksSpeed, for_slide, for_vibrato, AsksFunkTempo, by_values, by_tempo, by_length}
+use Rattle.play_model.specs.Uses.{Turn, turn_of, InATurn, DoesRow, DoesOnce, HasOrderByte, for_slide, for_vibrato, by_values, by_tempo, by_length}
 use Rattle.play_model.specs.WorkedSongs.{sides}
-use Rattle.safe_states.specs.WorkedCases.{command_song, late_subtune, ProgramsAreUsed, SlidesAreUsed, VibratosAreUsed, CommandsAreUsed, FiltersAreUsed, SpeedsAreUsed, TemposAreUsed, WaveCommandsAreUsed, VoicesAreUsed, OrdersAreUsed, CasesAreAsWorked}
-
-abbrev Same : ℕ → ℕ → Type 0
-Same m n = m ≡ n
-
--- ---- a turn
-
--- what the tick step leaves, and the wave step behind it
-abbrev ticked : Turn → Ticked
-ticked turn = tick_step turn.channel turn.look turn.start
-
-abbrev waved : Turn → Waved
-waved turn = wave_step turn.look (ticked turn).playing
-
-first : IsChannel 1
-first = record { first = lit≤ tt; last = lit≤ tt }
-
-second : IsChannel 2
-second = record { first = lit≤ tt; last = lit≤ tt }
-
-third : IsChannel 3
-third = record { first = lit≤ tt; last = lit≤ tt }
-
--- voice 1 does it in its turn
-in_first : {o : Options} {look : LookUps} {subtune : Subtune} {x : FrameState} {Does : Turn → Type 0} →
-    Does (turn_of 1 o look subtune x) → InATurn o look subtune x Does
-in_first does = record { channel = 1; is_channel = first; does = does }
-
--- no voice does it in its turn
-in_no_turn : {o : Options} {look : LookUps} {subtune : Subtune} {x : FrameState} {Does : Turn → Type 0} →
-    ¬ Does (turn_of 1 o look subtune x) → ¬ Does (turn_of 2 o look subtune x) → ¬ Does (turn_of 3 o look subtune x) →
-    ¬ InATurn o look subtune x Does
-in_no_turn {o = o} {look = look} {subtune = subtune} {x = x} {Does = Does} one two three h =
-    by_number h.channel h.is_channel h.does
-  where
-    by_number : (channel : ℕ) → IsChannel channel → Does (turn_of channel o look subtune x) → ⊥
-    by_number zero is does = (let least = is.first in omega arith)
-    by_number (suc zero) is does = one does
-    by_number (suc (suc zero)) is does = two does
-    by_number (suc (suc (suc zero))) is does = three does
-    by_number (suc (suc (suc (suc channel)))) is does = (let most = is.last in omega arith)
-
--- ---- what a turn does, from what is computed of it
-
-has_wave : (turn : Turn) (p : ℕ) → (ticked turn).started ≡ false → (ticked turn).playing.voice.wave_ptr ≡ p → p ≢ 0 →
-    HasWaveProgram turn p
-has_wave turn p waits ptr some =
-    record { s = (ticked turn).playing; goes_on = record { waits = waits; left = refl }; ptr = ptr; some = some }
-
-meets_command : (turn : Turn) (p : ℕ) (row : TableRow) → HasWaveProgram turn p → turn.look.row Wave p ≡ row →
-    is_wave_command row ≡ true → MeetsWaveCommand turn row
-meets_command turn p row program row_is is = record { p = p; program = program; row_is = row_is; is_command = is }
-
-does_wave : (turn : Turn) (p command param : ℕ) → (ticked turn).started ≡ false →
-    (ticked turn).playing.voice.wave_ptr ≡ p → p ≢ 0 → turn.look.row Wave p ≡ sides (0xF0 + command) param →
-    is_wave_command (sides (0xF0 + command) param) ≡ true → DoesWave turn command param
-does_wave turn p command param waits ptr some row_is is = record {
-  row = sides (0xF0 + command) param;
-  meets = meets_command turn p (sides (0xF0 + command) param) (has_wave turn p waits ptr some) row_is is;
-  command_is = refl;
-  param_is = refl;
-}
-
-does_effect : (turn : Turn) → (ticked turn).started ≡ false → (waved turn).effect ≡ true →
-    turn.options.skip_effects && ((waved turn).playing.voice.tick == 0) ≡ false →
-    DoesEffect turn (waved turn).playing.voice
-does_effect turn waits runs kept = record {
-  s = (ticked turn).playing;
-  goes_on = record { waits = waits; left = refl };
-  runs = runs;
-  voice_is = refl;
-  kept = kept;
-}
-
-does_running : (turn : Turn) (command : ℕ) → DoesEffect turn (waved turn).playing.voice →
-    (waved turn).playing.voice.command ≡ command → DoesRunning turn command (waved turn).playing.voice.param
-does_running turn command effect is =
-    record { v = (waved turn).playing.voice; effect = effect; command_is = is; param_is = refl }
-
-meets_vibrato : (turn : Turn) (delay : ℕ) → DoesEffect turn (waved turn).playing.voice →
-    (waved turn).playing.voice.command ≡ 0 → (waved turn).playing.voice.vib_delay ≡ delay →
-    (waved turn).playing.voice.param ≢ 0 → delay ≢ 0 → MeetsVibrato turn (waved turn).playing.voice.param delay
-meets_vibrato turn delay effect is delay_is some begun = record {
-  v = (waved turn).playing.voice;
-  effect = effect;
-  command_is = is;
-  param_is = refl;
-  delay_is = delay_is;
-  some = some;
-  begun = begun;
-}
-
--- ---- and what it doesn't
-
-note_ends_it : (turn : Turn) (p : ℕ) → (ticked turn).started ≡ true → ¬ HasWaveProgram turn p
-note_ends_it turn p starts h = (let waits = h.goes_on.waits in cc)
-
-no_wave : (turn : Turn) (p : ℕ) → (ticked turn).playing.voice.wave_ptr ≡ 0 → ¬ HasWaveProgram turn p
-no_wave turn p none h = h.some (sym h.ptr ∙ ap (λ (s : Playing). s.voice.wave_ptr) (sym h.goes_on.left) ∙ none)
-
-no_pulse : (turn : Turn) (p : ℕ) → (effect_done turn.options turn.look (waved turn)).voice.pulse_ptr ≡ 0 →
-    ¬ HasPulseProgram turn p
-no_pulse turn p none h =
-    let same =
-    ap (λ (s : Playing). (effect_done turn.options turn.look (wave_step turn.look s)).voice.pulse_ptr) h.goes_on.left in
-    h.some (sym h.ptr ∙ ap (λ v. v.pulse_ptr) (sym h.voice_is) ∙ sym same ∙ none)
-
--- the voice that the effect step is done on
-effect_voice : (turn : Turn) → (h : (v : Voice) × DoesEffect turn v) → (waved turn).playing.voice ≡ h.0
-effect_voice turn (v, h) =
-    ap (λ (s : Playing). (wave_step turn.look s).playing.voice) h.goes_on.left ∙ h.voice_is
-
-left_out_there : (turn : Turn) (v : Voice) →
-    turn.options.skip_effects && ((waved turn).playing.voice.tick == 0) ≡ true → ¬ DoesEffect turn v
-left_out_there turn v out h =
-    let kept : turn.options.skip_effects && ((waved turn).playing.voice.tick == 0) ≡ false =
-    rw (effect_voice turn (v, h)) h.kept in
-    cc
-
-running_is : (turn : Turn) (command param : ℕ) → DoesRunning turn command param →
-    (waved turn).playing.voice.command ≡ command
-running_is turn command param h = ap (λ (v : Voice). v.command) (effect_voice turn (h.v, h.effect)) ∙ h.command_is
-
-delay_is : (turn : Turn) (param delay : ℕ) → MeetsVibrato turn param delay →
-    (waved turn).playing.voice.vib_delay ≡ delay
-delay_is turn param delay h = ap (λ (v : Voice). v.vib_delay) (effect_voice turn (h.v, h.effect)) ∙ h.delay_is
-
--- no slide without a wave program and another command running
-no_slide : (turn : Turn) (command d : ℕ) → (ticked turn).playing.voice.wave_ptr ≡ 0 →
-    (waved turn).playing.voice.command ≢ command → ¬ Slides turn command d
-no_slide turn command d none other (inl wave) = no_wave turn wave.meets.p none wave.meets.program
-no_slide turn command d none other (inr running) = other (running_is turn command d running)
-
--- and none with this parameter where another runs
-no_param : (turn : Turn) (command d : ℕ) → (ticked turn).playing.voice.wave_ptr ≡ 0 →
-    (waved turn).playing.voice.param ≢ d → ¬ Slides turn command d
-no_param turn command d none other (inl wave) = no_wave turn wave.meets.p none wave.meets.program
-no_param turn command d none other (inr h) =
-    other (ap (λ (v : Voice). v.param) (effect_voice turn (h.v, h.effect)) ∙ h.param_is)
-
--- no command of a row, where the row has another
-no_row : (turn : Turn) (command d : ℕ) → turn.start.voice.new_command ≢ command → ¬ DoesRow turn command d
-no_row turn command d other row = other row.command_is
-
--- the wave program has no command there
-abbrev Quiet : Turn → Type 0
-Quiet turn = is_wave_command (turn.look.row Wave (ticked turn).playing.voice.wave_ptr) ≡ false
-
-no_wave_command : (turn : Turn) (row : TableRow) → Quiet turn → ¬ MeetsWaveCommand turn row
-no_wave_command turn row none meets =
-    let ptr = ap (λ (s : Playing). s.voice.wave_ptr) meets.program.goes_on.left ∙ meets.program.ptr in
-    let same = ap (λ p. is_wave_command (turn.look.row Wave p)) ptr in
-    let row_is = ap is_wave_command meets.row_is in
-    let is = meets.is_command in
-    cc
-
--- no command that is done once, where the row has another
-no_once : (turn : Turn) (command d : ℕ) → turn.start.voice.new_command ≢ command → Quiet turn →
-    ¬ DoesOnce turn command d
-no_once turn command d other none (inl row) = other row.command_is
-no_once turn command d other none (inr wave) = no_wave_command turn wave.row none wave.meets
-
-no_speed : (turn : Turn) (d : ℕ) → (ticked turn).playing.voice.wave_ptr ≡ 0 → (waved turn).playing.voice.command ≡ 0 →
-    (waved turn).playing.voice.vib_delay ≢ 1 → ¬ AsksSpeed turn d
-no_speed turn d none other delayed (for_slide command from to (inl wave)) =
-    no_wave turn wave.meets.p none wave.meets.program
-no_speed turn d none other delayed (for_slide command from to (inr running)) =
-    (let is = running_is turn command d running in let no : Same 0 command = sym other ∙ is in omega arith)
-no_speed turn d none other delayed (for_vibrato meets) = delayed (delay_is turn d 1 meets)
-
--- a speed that is asked for is that of the effect's parameter
-asked_is : (turn : Turn) (p d : ℕ) → (ticked turn).playing.voice.wave_ptr ≡ 0 →
-    (waved turn).playing.voice.param ≡ p → AsksSpeed turn d → p ≡ d
-asked_is turn p d none is (for_slide command from to (inl wave)) =
-    absurd (no_wave turn wave.meets.p none wave.meets.program)
-asked_is turn p d none is (for_slide command from to (inr running)) =
-    sym is ∙ ap (λ (v : Voice). v.param) (effect_voice turn (running.v, running.effect)) ∙ running.param_is
-asked_is turn p d none is (for_vibrato meets) =
-    sym is ∙ ap (λ (v : Voice). v.param) (effect_voice turn (meets.v, meets.effect)) ∙ meets.param_is
-
--- no funk tempo, where the row has no command, where it has $F with another parameter, where the tick is between the
--- two, and where another tempo is loaded
-no_command : (turn : Turn) → turn.start.voice.new_command ≡ 0 → byte_minus turn.start.voice.tick 1 < 0x80 →
-    ¬ AsksFunkTempo turn
-no_command turn none low (by_values d does) = (let no : Same 0 0xE = sym none ∙ does.command_is in omega arith)
-no_command turn none low (by_tempo d does small) = (let no : Same 0 0xF = sym none ∙ does.command_is in omega arith)
-no_command turn none low (by_length tempo loads small) = (let past = loads.past in omega arith)
-
-other_tempo : (turn : Turn) → turn.start.voice.new_command ≡ 0xF → 1 < turn.start.voice.new_param →
-    byte_minus turn.start.voice.tick 1 < 0x80 → ¬ AsksFunkTempo turn
-other_tempo turn is more low (by_values d does) = (let no : Same 0xF 0xE = sym is ∙ does.command_is in omega arith)
-other_tempo turn is more low (by_tempo d does small) = (let e = does.param_is in omega arith)
-other_tempo turn is more low (by_length tempo loads small) = (let past = loads.past in omega arith)
-
-loads_another : (turn : Turn) → turn.start.voice.new_command ≡ 0 → 1 < tempo_of turn.channel turn.start.common →
-    ¬ AsksFunkTempo turn
-loads_another turn none more (by_values d does) = (let no : Same 0 0xE = sym none ∙ does.command_is in omega arith)
-loads_another turn none more (by_tempo d does small) = (let no : Same 0 0xF = sym none ∙ does.command_is in omega arith)
-loads_another turn none more (by_length tempo loads small) = (let e = loads.tempo_is in omega arith)
-
-between : (turn : Turn) → 0 < byte_minus turn.start.voice.tick 1 → byte_minus turn.start.voice.tick 1 < 0x80 →
-    ¬ AsksFunkTempo turn
-between turn some low (by_values d does) = (let now = does.now in omega arith)
-between turn some low (by_tempo d does small) = (let now = does.now in omega arith)
-between turn some low (by_length tempo loads small) = (let past = loads.past in omega arith)
+use Rattle.safe_states.specs.WorkedCases.{command_song, late_subtune, ProgramsAreUsed, SlidesAreUsed, VibratosAreUsed}
+use Rattle.safe_states.specs.WorkedCases.{CommandsAreUsed, FiltersAreUsed, SpeedsAreUsed, TemposAreUsed, WaveCommandsAreUsed}
+use Rattle.safe_states.specs.WorkedCases.{VoicesAreUsed, OrdersAreUsed, CasesAreAsWorked}
+use Rattle.safe_states.proofs.WorkedTurns.{Same, first, second, third, in_first, in_no_turn, has_wave, meets_command, does_wave}
+use Rattle.safe_states.proofs.WorkedTurns.{does_effect, does_running, meets_vibrato, delay_is, note_ends_it, no_wave, no_pulse}
+use Rattle.safe_states.proofs.WorkedTurns.{left_out_there, no_slide, no_param, no_row, Quiet, no_wave_command, no_once, no_speed}
+use Rattle.safe_states.proofs.WorkedTurns.{asked_is, between, no_command, other_tempo, loads_another}
 
 -- ---- the frames
 
 programs_lem : ProgramsAreUsed
-unfolding prefix_of cycle_of played playable_subtune instrument_at table_row pattern_at freq half_tone slide next_row porta_up porta_down tone vibrato do_command filter_step between_rows note_started row_command at_row tick_step wave_command wave_step effect_step pulse_step fetch_row voice_step voice_registers filter_registers frame_of state_after_with
+unfolding prefix_of cycle_of played playable_subtune instrument_at table_row pattern_at freq half_tone slide next_row
+    porta_up porta_down tone vibrato do_command filter_step between_rows note_started row_command at_row tick_step
+    wave_command wave_step effect_step pulse_step fetch_row voice_step voice_registers filter_registers frame_of
+    state_after_with
 programs_lem = record {
   started = in_no_turn (λ w. note_ends_it _ w.0 refl w.1) (λ w. no_wave _ w.0 refl w.1) (λ w. no_wave _ w.0 refl w.1);
   wave = in_first (1, has_wave _ 1 refl refl (λ e. omega arith));
@@ -256,7 +57,10 @@ programs_lem = record {
 }
 
 slides_lem : SlidesAreUsed
-unfolding prefix_of cycle_of played playable_subtune instrument_at table_row pattern_at freq half_tone slide next_row porta_up porta_down tone vibrato do_command filter_step between_rows note_started row_command at_row tick_step wave_command wave_step effect_step pulse_step fetch_row voice_step voice_registers filter_registers frame_of state_after_with
+unfolding prefix_of cycle_of played playable_subtune instrument_at table_row pattern_at freq half_tone slide next_row
+    porta_up porta_down tone vibrato do_command filter_step between_rows note_started row_command at_row tick_step
+    wave_command wave_step effect_step pulse_step fetch_row voice_step voice_registers filter_registers frame_of
+    state_after_with
 slides_lem = record {
   before = in_no_turn (λ w. no_slide _ 1 w.0 refl (λ e. omega arith) w.1)
       (λ w. no_slide _ 1 w.0 refl (λ e. omega arith) w.1) (λ w. no_slide _ 1 w.0 refl (λ e. omega arith) w.1);
@@ -270,7 +74,10 @@ slides_lem = record {
 }
 
 vibratos_lem : VibratosAreUsed
-unfolding prefix_of cycle_of played playable_subtune instrument_at table_row pattern_at freq half_tone slide next_row porta_up porta_down tone vibrato do_command filter_step between_rows note_started row_command at_row tick_step wave_command wave_step effect_step pulse_step fetch_row voice_step voice_registers filter_registers frame_of state_after_with
+unfolding prefix_of cycle_of played playable_subtune instrument_at table_row pattern_at freq half_tone slide next_row
+    porta_up porta_down tone vibrato do_command filter_step between_rows note_started row_command at_row tick_step
+    wave_command wave_step effect_step pulse_step fetch_row voice_step voice_registers filter_registers frame_of
+    state_after_with
 vibratos_lem = record {
   begins = in_first (
     1,
@@ -301,7 +108,10 @@ turn_with channel command =
     (state_after_with no_options (command_song command 1) 0 6)
 
 done_in_row : (command : ℕ) → DoesRow (turn_with 1 command) command 1
-unfolding prefix_of cycle_of played playable_subtune instrument_at table_row pattern_at freq half_tone slide next_row porta_up porta_down tone vibrato do_command filter_step between_rows note_started row_command at_row tick_step wave_command wave_step effect_step pulse_step fetch_row voice_step voice_registers filter_registers frame_of state_after_with
+unfolding prefix_of cycle_of played playable_subtune instrument_at table_row pattern_at freq half_tone slide next_row
+    porta_up porta_down tone vibrato do_command filter_step between_rows note_started row_command at_row tick_step
+    wave_command wave_step effect_step pulse_step fetch_row voice_step voice_registers filter_registers frame_of
+    state_after_with
 done_in_row command = record { now = refl; command_is = refl; param_is = refl }
 
 -- no voice does another command that is done once
@@ -309,13 +119,19 @@ no_other : (command other : ℕ) → command ≢ other → 0 ≢ other → Quiet
     Quiet (turn_with 2 command) → Quiet (turn_with 3 command) →
     ¬ InATurn no_options (look_ups_of (command_song command 1)) (subtune_at (command_song command 1) 0)
     (state_after_with no_options (command_song command 1) 0 6) (λ turn. (d : ℕ) × DoesOnce turn other d)
-unfolding prefix_of cycle_of played playable_subtune instrument_at table_row pattern_at freq half_tone slide next_row porta_up porta_down tone vibrato do_command filter_step between_rows note_started row_command at_row tick_step wave_command wave_step effect_step pulse_step fetch_row voice_step voice_registers filter_registers frame_of state_after_with
+unfolding prefix_of cycle_of played playable_subtune instrument_at table_row pattern_at freq half_tone slide next_row
+    porta_up porta_down tone vibrato do_command filter_step between_rows note_started row_command at_row tick_step
+    wave_command wave_step effect_step pulse_step fetch_row voice_step voice_registers filter_registers frame_of
+    state_after_with
 no_other command other differs some one two three =
     in_no_turn (λ w. no_once _ other w.0 differs one w.1) (λ w. no_once _ other w.0 some two w.1)
     (λ w. no_once _ other w.0 some three w.1)
 
 commands_lem : CommandsAreUsed
-unfolding prefix_of cycle_of played playable_subtune instrument_at table_row pattern_at freq half_tone slide next_row porta_up porta_down tone vibrato do_command filter_step between_rows note_started row_command at_row tick_step wave_command wave_step effect_step pulse_step fetch_row voice_step voice_registers filter_registers frame_of state_after_with
+unfolding prefix_of cycle_of played playable_subtune instrument_at table_row pattern_at freq half_tone slide next_row
+    porta_up porta_down tone vibrato do_command filter_step between_rows note_started row_command at_row tick_step
+    wave_command wave_step effect_step pulse_step fetch_row voice_step voice_registers filter_registers frame_of
+    state_after_with
 commands_lem = record {
   up = record {
     used = in_first (1, inr (does_running _ 1 (does_effect _ refl refl refl) refl));
@@ -387,7 +203,10 @@ commands_lem = record {
 }
 
 filters_lem : FiltersAreUsed
-unfolding prefix_of cycle_of played playable_subtune instrument_at table_row pattern_at freq half_tone slide next_row porta_up porta_down tone vibrato do_command filter_step between_rows note_started row_command at_row tick_step wave_command wave_step effect_step pulse_step fetch_row voice_step voice_registers filter_registers frame_of state_after_with
+unfolding prefix_of cycle_of played playable_subtune instrument_at table_row pattern_at freq half_tone slide next_row
+    porta_up porta_down tone vibrato do_command filter_step between_rows note_started row_command at_row tick_step
+    wave_command wave_step effect_step pulse_step fetch_row voice_step voice_registers filter_registers frame_of
+    state_after_with
 filters_lem = record { begun = λ h. h refl; met = λ e. omega arith }
 
 -- the speed of the commands' song is no half tone
@@ -399,7 +218,10 @@ own_speed d e high =
     omega arith
 
 speeds_lem : SpeedsAreUsed
-unfolding prefix_of cycle_of played playable_subtune instrument_at table_row pattern_at freq half_tone slide next_row porta_up porta_down tone vibrato do_command filter_step between_rows note_started row_command at_row tick_step wave_command wave_step effect_step pulse_step fetch_row voice_step voice_registers filter_registers frame_of state_after_with
+unfolding prefix_of cycle_of played playable_subtune instrument_at table_row pattern_at freq half_tone slide next_row
+    porta_up porta_down tone vibrato do_command filter_step between_rows note_started row_command at_row tick_step
+    wave_command wave_step effect_step pulse_step fetch_row voice_step voice_registers filter_registers frame_of
+    state_after_with
 speeds_lem = record {
   up = in_first (
     1,
@@ -428,7 +250,10 @@ speeds_lem = record {
 }
 
 tempos_lem : TemposAreUsed
-unfolding prefix_of cycle_of played playable_subtune instrument_at table_row pattern_at freq half_tone slide next_row porta_up porta_down tone vibrato do_command filter_step between_rows note_started row_command at_row tick_step wave_command wave_step effect_step pulse_step fetch_row voice_step voice_registers filter_registers frame_of state_after_with
+unfolding prefix_of cycle_of played playable_subtune instrument_at table_row pattern_at freq half_tone slide next_row
+    porta_up porta_down tone vibrato do_command filter_step between_rows note_started row_command at_row tick_step
+    wave_command wave_step effect_step pulse_step fetch_row voice_step voice_registers filter_registers frame_of
+    state_after_with
 tempos_lem = record {
   three = in_first (3, record { now = refl; command_is = refl; param_is = refl }, lit≤ tt);
   here = in_first (0x83, record { now = refl; command_is = refl; param_is = refl }, lit≤ tt);
@@ -445,7 +270,10 @@ tempos_lem = record {
 }
 
 waves_lem : WaveCommandsAreUsed
-unfolding prefix_of cycle_of played playable_subtune instrument_at table_row pattern_at freq half_tone slide next_row porta_up porta_down tone vibrato do_command filter_step between_rows note_started row_command at_row tick_step wave_command wave_step effect_step pulse_step fetch_row voice_step voice_registers filter_registers frame_of state_after_with
+unfolding prefix_of cycle_of played playable_subtune instrument_at table_row pattern_at freq half_tone slide next_row
+    porta_up porta_down tone vibrato do_command filter_step between_rows note_started row_command at_row tick_step
+    wave_command wave_step effect_step pulse_step fetch_row voice_step voice_registers filter_registers frame_of
+    state_after_with
 waves_lem = record {
   command = in_first (
     sides 0xF9 2,
@@ -473,7 +301,10 @@ waves_lem = record {
 }
 
 voices_lem : VoicesAreUsed
-unfolding prefix_of cycle_of played playable_subtune instrument_at table_row pattern_at freq half_tone slide next_row porta_up porta_down tone vibrato do_command filter_step between_rows note_started row_command at_row tick_step wave_command wave_step effect_step pulse_step fetch_row voice_step voice_registers filter_registers frame_of state_after_with
+unfolding prefix_of cycle_of played playable_subtune instrument_at table_row pattern_at freq half_tone slide next_row
+    porta_up porta_down tone vibrato do_command filter_step between_rows note_started row_command at_row tick_step
+    wave_command wave_step effect_step pulse_step fetch_row voice_step voice_registers filter_registers frame_of
+    state_after_with
 voices_lem = record {
   second = record { channel = 2; is_channel = second; does = (1, has_wave _ 1 refl refl (λ e. omega arith)) };
   third = record { channel = 3; is_channel = third; does = (1, has_wave _ 1 refl refl (λ e. omega arith)) };
