@@ -1,9 +1,9 @@
 -- The parts of the bytes in spans and in lines that are worked by hand.
-use Rattle.std.proofs.Common.{◌≡◌, ℕ, zero, suc, ◌+◌, ◌<◌, ◌≤◌, List, [], ◌∷◌, All, refl, arith}
+use Rattle.std.proofs.Common.{◌≡◌, ℕ, zero, suc, ◌+◌, ◌<◌, ◌≤◌, [], ◌∷◌, refl, arith}
 use Rattle.std.proofs.lemmas.List.Elements.{All-nil, All-cons, All-contains}
 use Rattle.image_build.specs.declared.image.PartSpan.{PartSpan}
 use Rattle.image_build.specs.Spans.{IsNamed, IsNamedAs, NamesEach, parts_of_lines}
-use Rattle.image_build.specs.WorkedSpans.{two_spans, three_lines, line_spans, other_spans, SpansAreWorked}
+use Rattle.image_build.specs.WorkedSpans.{three_lines, line_spans, other_spans, SpansAreWorked}
 
 abbrev span_of : ℕ → ℕ → ℕ → PartSpan
 span_of part start length = record { part = part; start = start; length = length }
