@@ -2,7 +2,7 @@
 use Rattle.std.proofs.Common.{◌≡◌, ℕ, ◌+◌, ◌<◌, ◌≤◌, length, drop, refl, ap, arith}
 use Rattle.std.specs.Fmt.{digits}
 use Rattle.hex.specs.Hex.{encode_with}
-use Rattle.jobs.specs.WorkedLines.{LinesAreWorked, ChecksAreWorked, FaultsAreWorked, RefusalsAreWorked, StatusesAreWorked, LimitsAreWorked, HeadersAreWorked, LargeImagesAreNotPacked}
+use Rattle.jobs.specs.WorkedLines.{LinesAreWorked, FaultsAreWorked, RefusalsAreWorked, StatusesAreWorked, LimitsAreWorked, HeadersAreWorked, LargeImagesAreNotPacked}
 
 pub lines_are_worked : LinesAreWorked
 unfolding digits encode_with
@@ -12,17 +12,13 @@ lines_are_worked = record {
   too_long = refl;
   read_fault = refl;
   write_fault = refl;
+  checked = refl;
   wrote = refl;
   script = refl;
   no_subtune = refl;
   no_memory = refl;
   selftest = refl;
 }
-
-pub checks_are_worked : ChecksAreWorked
-unfolding digits encode_with
-checks_are_worked parts are =
-    rw (are.patterns, are.instruments, are.wave, are.pulse, are.filter, are.speed, are.features) refl
 
 pub faults_are_worked : FaultsAreWorked
 unfolding digits

@@ -23,6 +23,25 @@ use Rattle.jobs.specs.Selftest.{selftest_calls}
 use Rattle.jobs.specs.Stages.{IsThere, Fits, SpellsSong, CanBePlayed, HasShortPatterns, HasRoomForImage, HasPlayableSubtune}
 use Rattle.jobs.specs.Stages.{CanBeEdited, IsPsid, OffersSubtune, CallsReturn, status_of, input_limit, script_limit}
 
+-- the first n numbers are marked, of so many
+abbrev pub first_marked : ℕ → ℕ → List Bool
+first_marked n all = replicate n true ++ replicate (all - n) false
+
+-- what a song uses, with another number of each part
+abbrev pub used_parts : UsedParts
+used_parts = record {
+  patterns = first_marked 3 208;
+  instruments = first_marked 4 64;
+  wave = first_marked 15 256;
+  pulse = first_marked 6 256;
+  filter = first_marked 7 256;
+  speed = first_marked 8 256;
+  wave_pointers = first_marked 1 256;
+  pulse_pointers = first_marked 2 256;
+  filter_pointers = first_marked 5 256;
+  features = record { 0 = 0x40200A };
+}
+
 -- one line of each kind
 pub record LinesAreWorked : Type 0 where
   pub usage : usage_line ≡ codes "usage: goat check|trace|pack|run|edit|copy|selftest\n"
@@ -30,32 +49,14 @@ pub record LinesAreWorked : Type 0 where
   pub too_long : too_long_line (codes "a.sng") ≡ codes "too long: a.sng\n"
   pub read_fault : read_fault_line (codes "a.sng") ≡ codes "read fault: a.sng\n"
   pub write_fault : write_fault_line (codes "b.sid") ≡ codes "write fault: b.sid\n"
+  pub checked : check_line 2 used_parts
+      ≡ codes "subtunes 2 patterns 3 instruments 4 wave 15 pulse 6 filter 7 speed 8 features 40200a\n"
   pub wrote : wrote_line 1283 ≡ codes "wrote 1283 bytes\n"
   pub script : script_line 12 (codes "no such place") ≡ codes "script line 12: no such place\n"
   pub no_subtune : no_subtune_line 3 2 ≡ codes "no such subtune: 3 of 2\n"
   pub no_memory : no_memory_line ≡ codes "no memory\n"
   pub selftest : selftest_line 0 8 0x00431937 817435
       ≡ codes "selftest 0: 8 subtunes, 300 frames, sum 00431937, 817435 steps\n"
-
--- the first n numbers are marked, of so many
-abbrev pub first_marked : ℕ → ℕ → List Bool
-first_marked n all = replicate n true ++ replicate (all - n) false
-
--- what a song uses, with another number of each part
-pub record AreCounted (parts : UsedParts) : Type 0 where
-  pub patterns : parts.patterns ≡ first_marked 3 208
-  pub instruments : parts.instruments ≡ first_marked 4 64
-  pub wave : parts.wave ≡ first_marked 15 256
-  pub pulse : parts.pulse ≡ first_marked 6 256
-  pub filter : parts.filter ≡ first_marked 7 256
-  pub speed : parts.speed ≡ first_marked 8 256
-  pub features : parts.features.0 ≡ 0x40200A
-
-abbrev pub ChecksAreWorked : Type 0
-ChecksAreWorked =
-    (parts : UsedParts) → AreCounted parts →
-    check_line 2 parts
-    ≡ codes "subtunes 2 patterns 3 instruments 4 wave 15 pulse 6 filter 7 speed 8 features 40200a\n"
 
 -- one for each way in which a file is no song, or no PSID file
 pub record FaultsAreWorked : Type 0 where

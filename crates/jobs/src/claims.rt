@@ -2,7 +2,7 @@
 
 ghost use Rattle.jobs.specs.Laws.{OutcomesAreDue, OneStatusIsDue, OneTextIsPrinted, StagesPass, PlayableSongsPass, StatusesHaveCauses, OnlyLargeImagesAreRefused, SmallSongsArePacked, ImagesAreBounded, WrittenFilesArePacked, PackedFilesPlay};
 ghost use Rattle.jobs.specs.MetPremises.{StatusesAreOrdinary, FittingSongsArePacked, PackedFilesAreRun};
-ghost use Rattle.jobs.specs.WorkedLines.{LinesAreWorked, ChecksAreWorked, FaultsAreWorked, RefusalsAreWorked, StatusesAreWorked, LimitsAreWorked, HeadersAreWorked, LargeImagesAreNotPacked};
+ghost use Rattle.jobs.specs.WorkedLines.{LinesAreWorked, FaultsAreWorked, RefusalsAreWorked, StatusesAreWorked, LimitsAreWorked, HeadersAreWorked, LargeImagesAreNotPacked};
 
 /// A run has one outcome at most: one status and one name to write under, and, where nothing is written, one text.
 pub fn runs_have_one_outcome()
@@ -52,7 +52,6 @@ pub fn premises_are_met()
 /// each song, worked by hand; and that no packed file is of an image that would pass `$D000`.
 pub fn worked_lines()
     ensures lines { LinesAreWorked }
-    ensures checks { ChecksAreWorked }
     ensures faults { FaultsAreWorked }
     ensures refusals { RefusalsAreWorked }
     ensures statuses { StatusesAreWorked }
