@@ -1,6 +1,6 @@
 -- A player's frames use the features of its song alone.
 use Rattle.std.specs.Option.{unwrap_or}
-use Rattle.std.proofs.Common.{◌≡◌, Option, Some, sym, ap, subst}
+use Rattle.std.proofs.Common.{◌≡◌, Option, sym, ap, subst}
 use Rattle.std.proofs.lemmas.Option.{slice_get_within}
 use Rattle.song_model.specs.declared.orders.Subtune.{Subtune}
 use Rattle.song_model.specs.LookUp.{playable_subtunes, playable_subtune, void_subtune}

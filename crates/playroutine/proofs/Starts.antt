@@ -15,7 +15,7 @@ use Rattle.play_model.specs.declared.states.PlayState.{PlayState}
 use Rattle.play_model.specs.LookUps.{look_ups_of}
 use Rattle.play_model.specs.State.{FrameState, start_state}
 use Rattle.play_model.specs.StandsFor.{StateStandsFor}
-use Rattle.play_model.specs.Frame.{Framed, frame_of, subtune_at, frame_with, state_after_with}
+use Rattle.play_model.specs.Frame.{frame_of, subtune_at, state_after_with}
 use Rattle.playroutine.specs.Playback.{IsEndlessSubtune, IsAtFrame}
 
 played : (song : Song) (k : ℕ) (subtune : Subtune) → Some subtune ≡ playable_subtune song k →
