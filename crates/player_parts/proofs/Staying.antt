@@ -3,7 +3,7 @@ use Rattle.std.proofs.Common.{◌≡◌, ◌≢◌, ℕ, ◌+◌, ◌*◌, Bool,
 use Rattle.std.proofs.lemmas.Bool.{eqb-true}
 use Rattle.code_runs.specs.Runs.{put}
 use Rattle.code_runs.proofs.Laws.{put_other}
-use Rattle.play_model.specs.State.{Voice, Playing}
+use Rattle.play_model.specs.State.{Playing}
 use Rattle.play_model.specs.TickStep.{tempo_of}
 use Rattle.player_parts.specs.Labels.{TEMPO}
 use Rattle.player_parts.specs.Holds.{HandedOn, FieldsStand, HandedStands}
