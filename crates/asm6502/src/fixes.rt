@@ -42,7 +42,8 @@ impl Model for FixList {
 }
 
 impl FixList {
-    ghost use Rattle.std.specs.Prelude.{◌≡◌, [], ◌∷◌, ◌++◌, OnOk, OnErr};
+    ghost use Rattle.std.specs.Prelude.{◌≡◌, [], ◌++◌, OnOk, OnErr};
+    ghost use Rattle.std.specs.Option.{option_to_list};
 
     /// No fixes.
     pub(crate) fn new(alloc: Global) -> FixList
@@ -53,16 +54,19 @@ impl FixList {
         }
     }
 
-    /// Appends a fix.
+    /// Appends a fix, if there is one.
     ///
     /// # Errors
     ///
     /// Out of memory: the list is as before.
-    pub(crate) fn push(&mut self, fix: Fix) -> Result<(), NoMemory>
-        ensures ok { OnOk result (self.new ≡ self.old ++ fix ∷ []) }
+    pub(crate) fn add(&mut self, fix: Option<Fix>) -> Result<(), NoMemory>
+        ensures ok { OnOk result (self.new ≡ self.old ++ option_to_list fix) }
         ensures err { OnErr result (self.new ≡ self.old) }
     {
-        self.fixes.push(fix)
+        match fix {
+            Some(fix) => self.fixes.push(fix),
+            None => Ok(()),
+        }
     }
 
     /// The fixes in order.

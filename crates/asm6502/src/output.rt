@@ -91,9 +91,7 @@ impl Output {
             unreachable!();
         };
         self.bytes.extend(encoded.as_slice())?;
-        if let Some(fix) = labels.fix(at + 1, mode, operand) {
-            self.fixes.push(fix)?;
-        }
+        self.fixes.add(labels.fix(at + 1, mode, operand))?;
         Ok(())
     }
 
