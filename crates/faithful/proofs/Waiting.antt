@@ -67,13 +67,14 @@ module _ (at : ℕ → ℕ) (a : ℕ) (loop : LoopStands at a) where
       (works {at = at} {cpu = jumped cpu (a + 1 + 1)} 0 (a + 1 + 1 + 1) (stands_implied at (a + 1 + 1) 0xCA Dex loop.down refl) refl refl
       (omega arith) (omega arith)) is
 
-  down_y : (cpu : Cpu) (y : ℕ) → (cpu.y + 255) % 256 ≡ y → Goes (in_memory at cpu (a + 1 + 1 + 1 + 1 + 1)) (jumped (with_y cpu y) (a + 1 + 1 + 1 + 1 + 1 + 1))
+  down_y : (cpu : Cpu) (y : ℕ) → (cpu.y + 255) % 256 ≡ y →
+      Goes (in_memory at cpu (a + 1 + 1 + 1 + 1 + 1)) (jumped (with_y cpu y) (a + 1 + 1 + 1 + 1 + 1 + 1))
   down_y cpu y is =
       let from = loop.from in
       let below = loop.below in
       count_steps.dey
-      (works {at = at} {cpu = jumped cpu (a + 1 + 1 + 1 + 1 + 1)} 0 (a + 1 + 1 + 1 + 1 + 1 + 1) (stands_implied at (a + 1 + 1 + 1 + 1 + 1) 0x88 Dey loop.outer_down refl) refl
-      refl (omega arith) (omega arith)) is
+      (works {at = at} {cpu = jumped cpu (a + 1 + 1 + 1 + 1 + 1)} 0 (a + 1 + 1 + 1 + 1 + 1 + 1)
+      (stands_implied at (a + 1 + 1 + 1 + 1 + 1) 0x88 Dey loop.outer_down refl) refl refl (omega arith) (omega arith)) is
 
   -- the two branches go back to the first NOP
   inner_target : (a + 1 + 1 + 1 + 2 + 65531) % 65536 ≡ a
