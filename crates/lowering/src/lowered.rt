@@ -333,9 +333,9 @@ pub(crate) fn lowered(alloc: Global, block: &Block, place: Place) -> Result<List
     }
 }
 
-/// The lines of any block, sound or not: each of its labels is numbered from the first one on, and its pointer is named by
-/// the byte of page 0 and the place behind it, which is 256 for a byte of 255. What lines do is promised of those of
-/// [`lower`] alone.
+/// The lines of any block, sound or not: each of its labels is numbered from the first one on, and its pointer is at a place
+/// of page 0 and the place behind it, which is 256 where the first is 255. What lines do is promised of those of [`lower`]
+/// alone.
 ///
 /// # Errors
 ///
