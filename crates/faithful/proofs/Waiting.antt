@@ -4,6 +4,7 @@ use Rattle.std.specs.Prelude.{nat_eq}
 use Rattle.std.proofs.lemmas.Bool.Decides.{nat_tests}
 use Rattle.cpu6502.specs.declared.cpu.Cpu.{Cpu}
 use Rattle.cpu6502.specs.declared.mnemonic.Mnemonic.TheVariants.{Bne, Dex, Dey, Nop}
+use Rattle.cpu6502.specs.Effects.{displacement}
 use Rattle.cpu6502.specs.Registers.{with_x, with_y}
 use Rattle.code_runs.specs.Runs.{State, Goes, Leads}
 use Rattle.code_runs.proofs.Laws.{jumped, Works, goes, goes_once, leads_on, in_steps, stands_implied, stands_relative, works, flag_steps, count_steps, dex, bne_taken, bne_passed}
@@ -83,13 +84,17 @@ module _ (at : ℕ → ℕ) (a : ℕ) (loop : LoopStands at a) where
   outer_target : (a + 1 + 1 + 1 + 1 + 1 + 1 + 2 + 65528) % 65536 ≡ a
   outer_target = (let below = loop.below in omega arith)
 
+  branch_works : (cpu : Cpu) (pc byte : ℕ) → 0 < pc → pc < 0x2000 → at pc ≡ 0xD0 → at (pc + 1) ≡ byte →
+      (pc + 2 + displacement byte) % 65536 ≡ a → Works (in_memory at cpu pc) Bne a (pc + 1 + 1)
+  branch_works cpu pc byte away below on back target =
+      works {at = at} {cpu = jumped cpu pc} a (pc + 1 + 1)
+      (stands_relative at pc 0xD0 (pc + 1) byte a Bne on refl (omega arith) back target) refl refl (omega arith) away
+
   inner_branch : (cpu : Cpu) → Works (in_memory at cpu (a + 1 + 1 + 1)) Bne a (a + 1 + 1 + 1 + 1 + 1)
   inner_branch cpu =
       let from = loop.from in
       let below = loop.below in
-      works {at = at} {cpu = jumped cpu (a + 1 + 1 + 1)} a (a + 1 + 1 + 1 + 1 + 1)
-      (stands_relative at (a + 1 + 1 + 1) 0xD0 (a + 1 + 1 + 1 + 1) 0xFB a Bne loop.on refl (omega arith) loop.back
-      inner_target) refl refl (omega arith) (omega arith)
+      branch_works cpu (a + 1 + 1 + 1) 0xFB (omega arith) (omega arith) loop.on loop.back inner_target
 
   inner_again : (cpu : Cpu) → cpu.z ≡ false → Goes (in_memory at cpu (a + 1 + 1 + 1)) (jumped cpu a)
   inner_again cpu is = bne_taken (inner_branch cpu) is
@@ -102,9 +107,8 @@ module _ (at : ℕ → ℕ) (a : ℕ) (loop : LoopStands at a) where
   outer_branch cpu =
       let from = loop.from in
       let below = loop.below in
-      works {at = at} {cpu = jumped cpu (a + 1 + 1 + 1 + 1 + 1 + 1)} a (a + 1 + 1 + 1 + 1 + 1 + 1 + 1 + 1)
-      (stands_relative at (a + 1 + 1 + 1 + 1 + 1 + 1) 0xD0 (a + 1 + 1 + 1 + 1 + 1 + 1 + 1) 0xF8 a Bne loop.outer_on refl
-      (omega arith) loop.outer_back outer_target) refl refl (omega arith) (omega arith)
+      branch_works cpu (a + 1 + 1 + 1 + 1 + 1 + 1) 0xF8 (omega arith) (omega arith) loop.outer_on loop.outer_back
+      outer_target
 
   outer_again : (cpu : Cpu) → cpu.z ≡ false → Goes (in_memory at cpu (a + 1 + 1 + 1 + 1 + 1 + 1)) (jumped cpu a)
   outer_again cpu is = bne_taken (outer_branch cpu) is
