@@ -67,8 +67,9 @@ once = leave 0 ++ store 0x60 0x1000
 abbrev pub late : List Op
 late = leave 0 ++ store 0x4C 0x1003
 
--- an init and the plays after it are right; but of any calls one is too long, or a second init leaves the registers as
--- they are, or a play before the first init doesn't return
+-- in each an init and the plays after it are right, as long as no call may take more than 200,000 steps; but in the first
+-- init takes more than 60,000, in the second a second init leaves the registers as it finds them, and in the third a play
+-- before the first init doesn't return
 pub record OrderIsTold : Type 0 where
   pub slow_plays : Plays slow (leave 15) silence no_options
   pub slow_init : ¬ PlaysAlways (image_of slow (leave 15)) 0x1000 0xFC silence no_options
