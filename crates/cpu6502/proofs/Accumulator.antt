@@ -1,33 +1,27 @@
 -- The rows of the table that work on the accumulator are shifts and rotations.
 use Rattle.std.proofs.Common.{◌≡◌, ℕ, ◌<◌, Bool, true, Some, refl, ap, ◌∙◌}
 use Rattle.std.specs.Option.{IsSome}
+use Rattle.std.proofs.lemmas.Bool.{false≢true}
 use Rattle.cpu6502.specs.declared.mnemonic.Mnemonic.{Mnemonic}
 use Rattle.cpu6502.specs.declared.mnemonic.Mnemonic.TheVariants.{Asl, Lsr, Rol, Ror}
 use Rattle.cpu6502.specs.declared.mnemonic.Mode.{Mode}
-use Rattle.cpu6502.specs.declared.mnemonic.Mode.TheVariants.{Accumulator}
 use Rattle.cpu6502.specs.declared.cpu.Cpu.{Cpu}
-use Rattle.cpu6502.specs.Opcodes.{meaning_of, opcode_of, length_of, is_accumulator}
+use Rattle.cpu6502.specs.Opcodes.{meaning_of, length_of, is_accumulator}
 use Rattle.cpu6502.specs.Shifts.{shifted, accumulator_effect}
 use Rattle.cpu6502.specs.Effects.{done_by, effect, moved}
-use Rattle.cpu6502.proofs.Inverse.{rows_have_opcodes}
+use Rattle.cpu6502.proofs.EachRow.{shifts, accumulator_shifts}
 
-shifts : (mn : Mnemonic) (opcode byte : ℕ) (carry : Bool) → opcode_of mn Accumulator ≡ Some opcode →
-    IsSome (shifted mn byte carry)
-shifts Asl opcode byte carry e = refl
-shifts Lsr opcode byte carry e = refl
-shifts Rol opcode byte carry e = refl
-shifts Ror opcode byte carry e = refl
-shifts _ opcode byte carry e = absurd (cc)
+is_shifted : (mn : Mnemonic) (byte : ℕ) (carry : Bool) → shifts mn ≡ true → IsSome (shifted mn byte carry)
+is_shifted Asl byte carry e = refl
+is_shifted Lsr byte carry e = refl
+is_shifted Rol byte carry e = refl
+is_shifted Ror byte carry e = refl
+is_shifted _ byte carry e = absurd (false≢true e)
 
-by_mode : (mn : Mnemonic) (mode : Mode) (opcode byte : ℕ) (carry : Bool) → is_accumulator mode ≡ true →
-    opcode_of mn mode ≡ Some opcode → IsSome (shifted mn byte carry)
-by_mode mn Accumulator opcode byte carry a e = shifts mn opcode byte carry e
-by_mode mn _ opcode byte carry a e = absurd (cc)
-
-pub accumulator_shifts : (opcode byte : ℕ) (carry : Bool) (mn : Mnemonic) (mode : Mode) → opcode < 256 →
+pub accumulator_is_shifted : (opcode byte : ℕ) (carry : Bool) (mn : Mnemonic) (mode : Mode) → opcode < 256 →
     meaning_of opcode ≡ Some (mn, mode) → is_accumulator mode ≡ true → IsSome (shifted mn byte carry)
-accumulator_shifts opcode byte carry mn mode small e a =
-    by_mode mn mode opcode byte carry a (rows_have_opcodes opcode mn mode small e)
+accumulator_is_shifted opcode byte carry mn mode small row is =
+    is_shifted mn byte carry (accumulator_shifts opcode mn mode small row is)
 
 -- the effect at the program counter is that of the row
 pub accumulator_is : (at : ℕ → ℕ) (cpu : Cpu) (mn : Mnemonic) (mode : Mode) →

@@ -2,6 +2,7 @@
 -- decimal flag set.
 use Rattle.std.specs.Prelude.{◌≡◌, ℕ, ◌<◌, Bool, true, false, ◌⊎◌, Option, Some, None, Ok, Err, if◌then◌else◌}
 use Rattle.std.proofs.Common.{refl, subst, inl, inr}
+use Rattle.std.proofs.lemmas.Bool.{false≢true}
 use Rattle.cpu6502.specs.declared.mnemonic.Mnemonic.{Mnemonic}
 use Rattle.cpu6502.specs.declared.mnemonic.Mnemonic.TheVariants.{Adc, Asl, Brk, Lsr, Rol, Ror, Sbc}
 use Rattle.cpu6502.specs.declared.mnemonic.Mode.{Mode}
@@ -10,11 +11,11 @@ use Rattle.cpu6502.specs.declared.cpu.Cpu.{Cpu}
 use Rattle.cpu6502.specs.declared.effect.Effect.{Effect}
 use Rattle.cpu6502.specs.declared.stop.Stop.{Stop}
 use Rattle.cpu6502.specs.declared.stop.Stop.TheVariants.{Illegal, Break, Decimal}
-use Rattle.cpu6502.specs.Opcodes.{Meaning, meaning_of, opcode_of, length_of}
+use Rattle.cpu6502.specs.Opcodes.{Meaning, meaning_of, length_of}
 use Rattle.cpu6502.specs.Shifts.{accumulator_effect}
 use Rattle.cpu6502.specs.Effects.{effect, effect_of, done_by, address_of, moved, unless_stopped}
 use Rattle.cpu6502.specs.Stops.{IsCause, StopsHaveCauses}
-use Rattle.cpu6502.proofs.Inverse.{rows_have_opcodes}
+use Rattle.cpu6502.proofs.EachRow.{shifts, accumulator_shifts, break_is_implied}
 
 ok_no_err : (done : Effect) (stop : Stop) → Ok done ≡ Err stop → ⊥
 ok_no_err done stop h = cc
@@ -42,42 +43,36 @@ stopped_by Brk own place at cpu stop h = inl (refl, cc)
 stopped_by _ own place at cpu stop h = absurd (ok_no_err _ stop h)
 
 -- a shift of the accumulator has an effect
-accumulator_goes : (mn : Mnemonic) (opcode own : ℕ) (cpu : Cpu) (stop : Stop) → opcode_of mn Accumulator ≡ Some opcode →
+accumulator_goes : (mn : Mnemonic) (own : ℕ) (cpu : Cpu) (stop : Stop) → shifts mn ≡ true →
     accumulator_effect mn own cpu ≡ Err stop → ⊥
-accumulator_goes Asl opcode own cpu stop e h = ok_no_err _ stop h
-accumulator_goes Lsr opcode own cpu stop e h = ok_no_err _ stop h
-accumulator_goes Rol opcode own cpu stop e h = ok_no_err _ stop h
-accumulator_goes Ror opcode own cpu stop e h = ok_no_err _ stop h
-accumulator_goes _ opcode own cpu stop e h = cc
-
--- BRK has a row in mode Implied alone
-only_implied : (mode : Mode) (opcode : ℕ) → opcode_of Brk mode ≡ Some opcode → mode ≡ Implied
-only_implied Implied opcode e = refl
-only_implied _ opcode e = cc
+accumulator_goes Asl own cpu stop e h = ok_no_err _ stop h
+accumulator_goes Lsr own cpu stop e h = ok_no_err _ stop h
+accumulator_goes Rol own cpu stop e h = ok_no_err _ stop h
+accumulator_goes Ror own cpu stop e h = ok_no_err _ stop h
+accumulator_goes _ own cpu stop e h = absurd (false≢true e)
 
 -- a row that is not of the accumulator, with the stop that its instruction meets
 plain_cause : (mn : Mnemonic) (mode : Mode) (at : ℕ → ℕ) (cpu : Cpu) (stop : Stop) →
-    meaning_of (at cpu.pc) ≡ Some (mn, mode) → opcode_of mn mode ≡ Some (at cpu.pc) → Stopped mn cpu.pc cpu.d stop →
-    IsCause at cpu stop
-plain_cause mn mode at cpu (Illegal place) row back (inl (is, e)) = absurd cc
-plain_cause mn mode at cpu (Decimal place) row back (inl (is, e)) = absurd cc
-plain_cause mn mode at cpu (Break place) row back (inl (is, e)) =
+    meaning_of (at cpu.pc) ≡ Some (mn, mode) → at cpu.pc < 256 → Stopped mn cpu.pc cpu.d stop → IsCause at cpu stop
+plain_cause mn mode at cpu (Illegal place) row below (inl (is, e)) = absurd cc
+plain_cause mn mode at cpu (Decimal place) row below (inl (is, e)) = absurd cc
+plain_cause mn mode at cpu (Break place) row below (inl (is, e)) =
     let implied : mode ≡ Implied =
-    only_implied mode (at cpu.pc) (subst (λ n. opcode_of n mode ≡ Some (at cpu.pc)) is back) in
+    break_is_implied (at cpu.pc) mode below (subst (λ n. meaning_of (at cpu.pc) ≡ Some (n, mode)) is row) in
     (cc, cc)
-plain_cause mn mode at cpu (Illegal place) row back (inr (is, d, e)) = absurd cc
-plain_cause mn mode at cpu (Break place) row back (inr (is, d, e)) = absurd cc
-plain_cause mn mode at cpu (Decimal place) row back (inr (inl is, d, e)) = (inl (mode, cc), d, cc)
-plain_cause mn mode at cpu (Decimal place) row back (inr (inr is, d, e)) = (inr (mode, cc), d, cc)
+plain_cause mn mode at cpu (Illegal place) row below (inr (is, d, e)) = absurd cc
+plain_cause mn mode at cpu (Break place) row below (inr (is, d, e)) = absurd cc
+plain_cause mn mode at cpu (Decimal place) row below (inr (inl is, d, e)) = (inl (mode, cc), d, cc)
+plain_cause mn mode at cpu (Decimal place) row below (inr (inr is, d, e)) = (inr (mode, cc), d, cc)
 
 -- the instruction of a row, with the stop that it meets
 row_cause : (mn : Mnemonic) (mode : Mode) (at : ℕ → ℕ) (cpu : Cpu) (stop : Stop) →
-    meaning_of (at cpu.pc) ≡ Some (mn, mode) → opcode_of mn mode ≡ Some (at cpu.pc) →
-    done_by (Some (mn, mode)) at cpu ≡ Err stop → IsCause at cpu stop
-row_cause mn Accumulator at cpu stop row back h =
-    absurd (accumulator_goes mn (at cpu.pc) cpu.pc (moved cpu 1) stop back h)
-row_cause mn mode at cpu stop row back h =
-    plain_cause mn mode at cpu stop row back (stopped_by mn cpu.pc (address_of mode at cpu.pc cpu.x cpu.y) at
+    meaning_of (at cpu.pc) ≡ Some (mn, mode) → at cpu.pc < 256 → done_by (Some (mn, mode)) at cpu ≡ Err stop →
+    IsCause at cpu stop
+row_cause mn Accumulator at cpu stop row below h =
+    absurd (accumulator_goes mn cpu.pc (moved cpu 1) stop (accumulator_shifts (at cpu.pc) mn Accumulator below row refl) h)
+row_cause mn mode at cpu stop row below h =
+    plain_cause mn mode at cpu stop row below (stopped_by mn cpu.pc (address_of mode at cpu.pc cpu.x cpu.y) at
     (moved cpu (length_of mode)) stop h)
 
 cause : (r : Option Meaning) (at : ℕ → ℕ) (cpu : Cpu) (stop : Stop) → at cpu.pc < 256 → meaning_of (at cpu.pc) ≡ r →
@@ -86,23 +81,26 @@ cause None at cpu (Illegal place) below row h = (row, cc)
 cause None at cpu (Break place) below row h = absurd cc
 cause None at cpu (Decimal place) below row h = absurd cc
 cause (Some meaning) at cpu stop below row h =
-    row_cause meaning.0 meaning.1 at cpu stop row (rows_have_opcodes (at cpu.pc) meaning.0 meaning.1 below row) h
+    row_cause meaning.0 meaning.1 at cpu stop row below h
 
 -- a sum or difference stops where the decimal flag is set: its row is not of the accumulator
 sum_stops : (mn : Mnemonic) (mode : Mode) (at : ℕ → ℕ) (cpu : Cpu) → (mn ≡ Adc) ⊎ (mn ≡ Sbc) →
-    opcode_of mn mode ≡ Some (at cpu.pc) → cpu.d ≡ true → done_by (Some (mn, mode)) at cpu ≡ Err (Decimal cpu.pc)
-sum_stops Adc Accumulator at cpu is back d = cc
-sum_stops Sbc Accumulator at cpu is back d = cc
-sum_stops Adc mode at cpu is back d = rw d refl
-sum_stops Sbc mode at cpu is back d = rw d refl
-sum_stops _ mode at cpu (inl is) back d = absurd cc
-sum_stops _ mode at cpu (inr is) back d = absurd cc
+    at cpu.pc < 256 → meaning_of (at cpu.pc) ≡ Some (mn, mode) → cpu.d ≡ true →
+    done_by (Some (mn, mode)) at cpu ≡ Err (Decimal cpu.pc)
+sum_stops Adc Accumulator at cpu is below row d =
+    absurd (false≢true (accumulator_shifts (at cpu.pc) Adc Accumulator below row refl))
+sum_stops Sbc Accumulator at cpu is below row d =
+    absurd (false≢true (accumulator_shifts (at cpu.pc) Sbc Accumulator below row refl))
+sum_stops Adc mode at cpu is below row d = rw d refl
+sum_stops Sbc mode at cpu is below row d = rw d refl
+sum_stops _ mode at cpu (inl is) below row d = absurd cc
+sum_stops _ mode at cpu (inr is) below row d = absurd cc
 
 sum_row_stops : (mn : Mnemonic) (mode : Mode) (at : ℕ → ℕ) (cpu : Cpu) (place : ℕ) → (mn ≡ Adc) ⊎ (mn ≡ Sbc) →
     at cpu.pc < 256 → meaning_of (at cpu.pc) ≡ Some (mn, mode) → cpu.d ≡ true → place ≡ cpu.pc →
     effect at cpu ≡ Err (Decimal place)
 sum_row_stops mn mode at cpu place is below row d e =
-    rw (row, e) (sum_stops mn mode at cpu is (rows_have_opcodes (at cpu.pc) mn mode below row) d)
+    rw (row, e) (sum_stops mn mode at cpu is below row d)
 
 stops : (at : ℕ → ℕ) (cpu : Cpu) (stop : Stop) → at cpu.pc < 256 → IsCause at cpu stop → effect at cpu ≡ Err stop
 stops at cpu (Illegal place) below (row, e) = rw (row, e) refl

@@ -1,7 +1,7 @@
 -- The two directions of the decode table are each other's inverse, so no two of its rows are alike.
-use Rattle.std.proofs.Common.{◌≡◌, ℕ, zero, suc, ◌<◌, Bool, true, false, Option, Some, None, nat_eq, if◌then◌else◌, refl, sym, ap, ◌∙◌, subst, arith, inl, inr}
+use Rattle.std.proofs.Common.{◌≡◌, ℕ, ◌<◌, Bool, true, false, Option, Some, None, nat_eq, refl, sym, ap, ◌∙◌, subst}
 use Rattle.std.specs.Option.{option_map}
-use Rattle.std.proofs.lemmas.Bool.{and_parts, eqb-true, false≢true, cases_lt}
+use Rattle.std.proofs.lemmas.Bool.{and_parts, eqb-true, false≢true}
 use Rattle.std.proofs.lemmas.List.Quantifiers.{position-Some}
 use Rattle.base.proofs.Laws.{same_some}
 use Rattle.cpu6502.specs.declared.mnemonic.Mnemonic.{Mnemonic}
@@ -12,6 +12,7 @@ use Rattle.cpu6502.specs.contracts.mnemonic.Mnemonic.{the_type as mnemonics}
 use Rattle.cpu6502.specs.contracts.mnemonic.Mode.{the_type as modes}
 use Rattle.cpu6502.specs.Opcodes.{Meaning, row_of, meaning_in, meaning_of, is_row, opcode_of, OpcodesHaveRows, RowsHaveOpcodes}
 use Rattle.cpu6502.specs.Rows.{RowsDiffer}
+use Rattle.cpu6502.proofs.EachRow.{all_below, each_below}
 use denote.Enum.Bare.{sameb, same_true}
 
 -- ---- from an instruction to its row
@@ -42,28 +43,8 @@ abbrev agrees : Option Meaning → ℕ → Bool
 agrees None byte = true
 agrees (Some meaning) byte = is_opcode (opcode_of meaning.0 meaning.1) byte
 
--- the test of all bytes below a number
-abbrev all_agree : ℕ → Bool
-all_agree zero = true
-all_agree (suc n) = if agrees (meaning_of n) n then all_agree n else false
-
-all_bytes : all_agree 256 ≡ true
-all_bytes = refl
-
-both : (b c : Bool) → (if b then c else false) ≡ true → (b ≡ true) × (c ≡ true)
-both true c e = (refl, e)
-both false c e = absurd (false≢true e)
-
-below_agrees : (n k : ℕ) → all_agree n ≡ true → k < n → agrees (meaning_of k) k ≡ true
-below_agrees zero k e lt = absurd (omega arith)
-below_agrees (suc n) k e lt =
-    let parts = both (agrees (meaning_of n) n) (all_agree n) e in
-    elim (cases_lt k n) [
-      | inl below ↦ below_agrees n k parts.1 below
-      | inr above ↦
-          let same : k ≡ n = omega arith in
-          rw same parts.0
-    ]
+all_agree : all_below (λ byte. agrees (meaning_of byte) byte) 256 ≡ true
+all_agree = refl
 
 agreed : (mn : Mnemonic) (mode : Mode) (op : ℕ) (r : Option ℕ) → opcode_of mn mode ≡ r → is_opcode r op ≡ true →
     opcode_of mn mode ≡ Some op
@@ -73,7 +54,8 @@ agreed mn mode op (Some o) e h = e ∙ ap Some (eqb-true o op h)
 pub rows_have_opcodes : RowsHaveOpcodes
 rows_have_opcodes op mn mode lt e =
     let h : agrees (Some (mn, mode)) op ≡ true =
-    subst (λ (m : Option Meaning). agrees m op ≡ true) e (below_agrees 256 op all_bytes lt) in
+    subst (λ (m : Option Meaning). agrees m op ≡ true) e
+    (each_below (λ byte. agrees (meaning_of byte) byte) 256 op all_agree lt) in
     agreed mn mode op (opcode_of mn mode) refl h
 
 pub rows_differ : RowsDiffer

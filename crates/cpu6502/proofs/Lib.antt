@@ -7,6 +7,7 @@ pub mod Calls
 pub mod Causes
 pub mod Machines
 -- inner: the table and its inverse, sums
+pub mod EachRow
 pub mod Inverse
 pub mod Accumulator
 pub mod Sums
