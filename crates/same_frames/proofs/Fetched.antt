@@ -1,6 +1,6 @@
 -- Fetching a row that stands for another, over any two look-ups.
 use Rattle.std.specs.Prelude.{ℤ, bit_and, not, ◌==◌, ◌||◌}
-use Rattle.std.proofs.Common.{◌≡◌, ◌≢◌, ℕ, cond, List, length, refl, ap, sym, ◌∙◌, inl, inr}
+use Rattle.std.proofs.Common.{◌≡◌, ◌≢◌, ℕ, true, cond, List, length, refl, ap, sym, ◌∙◌, inl, inr}
 use Rattle.std.proofs.lemmas.Bool.{cases_eq, ne_eqb}
 use Rattle.song_model.specs.declared.rows.Row.{Row}
 use Rattle.song_model.specs.LookUp.{pattern_row}
@@ -82,31 +82,32 @@ shut_moved maps h timer v is =
 
 waits_moved : (maps : Maps) (h : Held) (look other : LookUps) (note : ℕ) (transpose : ℤ) (v : Voice) →
     h.new_command ≡ v.new_command →
-    (other.instrument h.instrument).gate_timer ≡ (look.instrument v.instrument).gate_timer →
+    (is_note note ≡ true → (other.instrument h.instrument).gate_timer ≡ (look.instrument v.instrument).gate_timer) →
     note_waits other note transpose (put maps h v) ≡ put maps h (note_waits look note transpose v)
 waits_moved maps h look other note transpose v is timer =
     same_choice (put maps h) (is_note note) _ v _ (put maps h v)
-    (λ z. rw timer (shut_moved maps h (look.instrument v.instrument).gate_timer
+    (λ z. rw (timer z) (shut_moved maps h (look.instrument v.instrument).gate_timer
     (record v { new_note = transposed note transpose }) is))
     (λ z. refl)
 
 -- behind what the row says at once nothing that is held changes
-after_taken : (maps : Maps) (h : Held) (look other : LookUps) (note : ℕ) (transpose : ℤ) (v : Voice) →
+pub after_taken : (maps : Maps) (h : Held) (look other : LookUps) (note : ℕ) (transpose : ℤ) (v : Voice) →
     h.new_command ≡ (gate_keyed note v).new_command →
-    (other.instrument h.instrument).gate_timer ≡ (look.instrument (gate_keyed note v).instrument).gate_timer →
+    (is_note note ≡ true →
+    (other.instrument h.instrument).gate_timer ≡ (look.instrument (gate_keyed note v).instrument).gate_timer) →
     note_waits other note transpose (gate_keyed note (put maps h v))
     ≡ put maps h (note_waits look note transpose (gate_keyed note v))
 after_taken maps h look other note transpose v is timer =
     ap (note_waits other note transpose) (keyed_moved maps h note v)
     ∙ waits_moved maps h look other note transpose (gate_keyed note v) is timer
 
-keyed_holds : (note : ℕ) (v : Voice) → held_of (gate_keyed note v) ≡ held_of v
+pub keyed_holds : (note : ℕ) (v : Voice) → held_of (gate_keyed note v) ≡ held_of v
 keyed_holds note v = ap held_of (keyed_moved same_numbers (held_of v) note v)
 
 waits_holds : (look : LookUps) (note : ℕ) (transpose : ℤ) (v : Voice) →
     held_of (note_waits look note transpose v) ≡ held_of v
 waits_holds look note transpose v =
-    ap held_of (waits_moved same_numbers (held_of v) look look note transpose v refl refl)
+    ap held_of (waits_moved same_numbers (held_of v) look look note transpose v refl (λ z. refl))
 
 pub done_holds : (look : LookUps) (row : Row) (transpose : ℤ) (v : Voice) →
     held_of (row_done look row transpose v) ≡ held_of (row_taken row v)
@@ -127,7 +128,7 @@ done_moved maps look other last p row beyond transpose v q =
     q.row_for.note
     ∙ after_taken maps (moved_held maps beyond.param (held_of taken)) look other row.note transpose taken
     (sym (ap (λ (h : Held). h.new_command) keyed))
-    (q.timer ∙ ap (λ (h : Held). (look.instrument h.instrument).gate_timer) (sym keyed))
+    (λ z. q.timer ∙ ap (λ (h : Held). (look.instrument h.instrument).gate_timer) (sym keyed))
     ∙ moved_again maps beyond.param (row_done look row transpose v) taken (done_holds look row transpose v)
 
 -- ---- the next row

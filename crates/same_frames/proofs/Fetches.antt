@@ -80,7 +80,7 @@ fetch_for maps song other order v w play a o q =
 -- ---- what is held then
 
 -- the next row is on
-abbrev next_held : ℕ → Held → Held
+abbrev pub next_held : ℕ → Held → Held
 next_held rows h =
     if byte_plus h.row 1 == rows then record h { row = 0; plays = h.plays + 1 }
     else record h { row = byte_plus h.row 1 }
@@ -88,7 +88,7 @@ next_held rows h =
 moved_holds : (rows : ℕ) (v : Voice) → held_of (row_moved rows v) ≡ next_held rows (held_of v)
 moved_holds rows v = sym (same_choice held_of (byte_plus v.row 1 == rows) _ _ _ _ (λ z. refl) (λ z. refl))
 
-fetched_holds : (look : LookUps) (rows : ℕ) (row : Row) (transpose : ℤ) (v : Voice) →
+pub fetched_holds : (look : LookUps) (rows : ℕ) (row : Row) (transpose : ℤ) (v : Voice) →
     held_of (row_moved rows (row_done look row transpose v)) ≡ next_held rows (held_of (row_taken row v))
 fetched_holds look rows row transpose v =
     moved_holds rows (row_done look row transpose v) ∙ ap (next_held rows) (done_holds look row transpose v)
@@ -100,7 +100,7 @@ named_on last i a is some = elim (cases_eq a 0) [
   | inr n ↦ (let f = ne_eqb a 0 n in rw f refl)
 ]
 
-next_is : (row rows : ℕ) → row < rows → rows ≤ 128 → byte_plus row 1 ≡ suc row
+pub next_is : (row rows : ℕ) → row < rows → rows ≤ 128 → byte_plus row 1 ≡ suc row
 next_is row rows inside most = omega arith
 
 named_then : (song : Song) (order : Order) (v : Voice) → CanBePlayed song → IsPlayedOrder song order →

@@ -1,6 +1,6 @@
 -- Frames of states that are alike leave states that are alike, and the same registers.
 use Rattle.std.specs.Prelude.{◌==◌}
-use Rattle.std.proofs.Common.{◌≡◌, ℕ, zero, suc, ◌<◌, Bool, true, false, cond, length, lit≤, refl, ap}
+use Rattle.std.proofs.Common.{◌≡◌, ℕ, zero, suc, ◌<◌, Bool, true, false, cond, length, lit≤, refl, sym, ap, ◌∙◌, subst}
 use Rattle.song_model.specs.declared.orders.Order.{Order}
 use Rattle.song_model.specs.declared.orders.Subtune.{Subtune}
 use Rattle.song_model.specs.declared.tables.TableName.TheVariants.{Wave, Pulse, Filter, Speed}
@@ -19,7 +19,7 @@ use Rattle.safe_states.proofs.Laws.{CanBePlayed, plays_safely_lem, safe_within_l
 use Rattle.same_frames.specs.Maps.{Maps}
 use Rattle.same_frames.specs.Agreement.{Agrees, SubtunePlaysFor}
 use Rattle.same_frames.specs.Alike.{VoicesAreAlike, CommonsAreAlike, PlayingsAreAlike, StatesAreAlike}
-use Rattle.same_frames.specs.FrameLaws.{state_after_of, trace_of, TracesOfSongs, RulesAreSame, FramesAreAlike, FramesAreSame}
+use Rattle.same_frames.specs.FrameLaws.{state_after_of, trace_of, start_with, state_from, trace_from, TracesOfSongs, RulesAreSame, FramesAreAlike, FramesAreSame}
 use Rattle.same_frames.proofs.Rules.{tick_alike, wave_step_alike, effect_alike, pulse_step_alike, filter_step_alike}
 use Rattle.same_frames.proofs.Fetches.{fetch_alike}
 use Rattle.same_frames.proofs.Steps.{voice_step_alike}
@@ -159,7 +159,8 @@ frame_alike maps song k o other subtune x y play a h plays q =
 -- ---- starts and traces
 
 start_alike : (maps : Maps) (song : Song) (k : ℕ) (o : Options) (other : LookUps) → Agrees maps song other →
-    IsSafe song k (start_state o) → StatesAreAlike maps song k (start_state o) (start_state o)
+    IsSafe song k (start_state o) →
+    StatesAreAlike maps song k (start_state o) (start_with o (maps.instrument 1))
 start_alike maps song k o other a safe = record {
   common = record {
     safe = safe.common;
@@ -171,46 +172,65 @@ start_alike maps song k o other a safe = record {
 }
   where
     voice : (order : Order) → IsSafeVoice song order start_voice →
-        VoicesAreAlike maps song order start_voice start_voice
+        VoicesAreAlike maps song order start_voice (record start_voice { instrument = maps.instrument 1 })
     voice order is = record {
       safe = is;
       named = λ some. absurd (some refl);
       moved =
-          rw a.instruments.first
-          (rw (a.rows Speed).nothing (rw (a.rows Wave).nothing (rw (a.rows Pulse).nothing refl)));
+          rw (a.rows Speed).nothing (rw (a.rows Wave).nothing (rw (a.rows Pulse).nothing refl));
       waiting = λ some. absurd (some refl);
     }
 
 module _ (o : Options) (maps : Maps) (song : Song) (k : ℕ) (other : LookUps) (subtune : Subtune)
     (play : CanBePlayed song) (a : Agrees maps song other) (h : k < length (playable_subtunes song))
     (plays : SubtunePlaysFor maps (subtune_at song k) subtune)
-    (start : StatesAreAlike maps song k (start_state o) (start_state o)) where
-  states_alike : (n : ℕ) → StatesAreAlike maps song k (state_after_with o song k n) (state_after_of o other subtune n)
-  unfolding state_after_with state_after_of
+    (begun : FrameState) (start : StatesAreAlike maps song k (start_state o) begun) where
+  states_alike : (n : ℕ) → StatesAreAlike maps song k (state_after_with o song k n) (state_from o other subtune begun n)
+  unfolding state_after_with state_from
   states_alike zero = start
   states_alike (suc n) =
-      (frame_alike maps song k o other subtune (state_after_with o song k n) (state_after_of o other subtune n)
+      (frame_alike maps song k o other subtune (state_after_with o song k n) (state_from o other subtune begun n)
       play a h plays (states_alike n)).state
 
-  pub trace_same : (i : ℕ) → trace_of o other subtune i ≡ trace_with o song k i
+  pub trace_same : (i : ℕ) → trace_from o other subtune begun i ≡ trace_with o song k i
   trace_same zero = refl
   trace_same (suc n) =
-      (frame_alike maps song k o other subtune (state_after_with o song k n) (state_after_of o other subtune n)
+      (frame_alike maps song k o other subtune (state_after_with o song k n) (state_from o other subtune begun n)
       play a h plays (states_alike n)).registers
+
+-- from the start on
+state_from_start : (o : Options) (look : LookUps) (subtune : Subtune) (n : ℕ) →
+    state_from o look subtune (start_state o) n ≡ state_after_of o look subtune n
+unfolding state_from state_after_of
+state_from_start o look subtune zero = refl
+state_from_start o look subtune (suc n) =
+    ap (λ (x : FrameState). (frame_of o look subtune x).state) (state_from_start o look subtune n)
+
+pub trace_from_start : (o : Options) (look : LookUps) (subtune : Subtune) (i : ℕ) →
+    trace_from o look subtune (start_state o) i ≡ trace_of o look subtune i
+trace_from_start o look subtune zero = refl
+trace_from_start o look subtune (suc n) =
+    ap (λ (x : FrameState). (frame_of o look subtune x).registers) (state_from_start o look subtune n)
+
+first_kept : (o : Options) (maps : Maps) → maps.instrument 1 ≡ 1 → start_with o (maps.instrument 1) ≡ start_state o
+first_kept o maps first = ap (λ (i : ℕ). start_with o i) first
 
 start_is : (o : Options) (maps : Maps) (song : Song) (k : ℕ) (other : LookUps) → IsSpeed o.speed → KeepsLimits song →
     IsPlayable song → k < length (playable_subtunes song) → Agrees maps song other →
-    StatesAreAlike maps song k (start_state o) (start_state o)
+    StatesAreAlike maps song k (start_state o) (start_with o (maps.instrument 1))
 start_is o maps song k other speed limits playable h a =
     start_alike maps song k o other a (plays_safely_lem o song k speed limits playable h).start
 
 pub states_alike_lem : (o : Options) (maps : Maps) (song : Song) (k : ℕ) (other : LookUps) (subtune : Subtune)
     (n : ℕ) → IsSpeed o.speed → KeepsLimits song → IsPlayable song → k < length (playable_subtunes song) →
-    Agrees maps song other → SubtunePlaysFor maps (subtune_at song k) subtune →
+    Agrees maps song other → SubtunePlaysFor maps (subtune_at song k) subtune → maps.instrument 1 ≡ 1 →
     StatesAreAlike maps song k (state_after_with o song k n) (state_after_of o other subtune n)
-states_alike_lem o maps song k other subtune n speed limits playable h a plays =
-    states_alike o maps song k other subtune (record { limits = limits; playable = playable }) a h plays
-    (start_is o maps song k other speed limits playable h a) n
+states_alike_lem o maps song k other subtune n speed limits playable h a plays first =
+    subst (StatesAreAlike maps song k (state_after_with o song k n)) (state_from_start o other subtune n)
+    (states_alike o maps song k other subtune (record { limits = limits; playable = playable }) a h plays
+    (start_state o)
+    (subst (StatesAreAlike maps song k (start_state o)) (first_kept o maps first)
+    (start_is o maps song k other speed limits playable h a)) n)
 
 pub frames_same_lem : FramesAreSame
 frames_same_lem o maps song k other subtune speed limits playable h a plays =
@@ -221,7 +241,11 @@ frames_same_lem o maps song k other subtune speed limits playable h a plays =
       filter = λ x y q. filter_done_alike maps song k other x y play a q;
       voice = λ channel x y is q. voice_done_alike maps song k channel o other subtune x y play a h is plays q;
       frame = λ x y q. frame_alike maps song k o other subtune x y play a h plays q;
-      trace = λ i. trace_same o maps song k other subtune play a h plays start i;
+      moved_trace = λ i. trace_same o maps song k other subtune play a h plays (start_with o (maps.instrument 1)) start i;
+      trace = λ first i.
+          sym (trace_from_start o other subtune i)
+          ∙ trace_same o maps song k other subtune play a h plays (start_state o)
+          (subst (StatesAreAlike maps song k (start_state o)) (first_kept o maps first) start) i;
     }
 
 -- over a song's own look-ups

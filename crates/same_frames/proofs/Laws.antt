@@ -1,10 +1,14 @@
 -- The lemmas that upper crates may cite.
 
 -- look-ups that agree with a playable song up to new numbers play it
-pub use Rattle.same_frames.proofs.Frames.{rules_same_lem, frames_same_lem, traces_of_songs_lem}
+pub use Rattle.same_frames.proofs.Frames.{rules_same_lem, frames_same_lem, traces_of_songs_lem, trace_from_start}
 -- the states after any number of frames are alike, and so are those within a frame
 pub use Rattle.same_frames.proofs.Frames.{states_alike_lem, frame_alike}
 pub use Rattle.same_frames.proofs.Uses.{before_alike}
+-- the instrument with which voices begin doesn't show, where they name one before a note
+pub use Rattle.same_frames.proofs.BegunFrames.{first_instruments_lem}
+-- the first item of a list that passes a test
+pub use Rattle.same_frames.proofs.BegunFetches.{find_first, find_none}
 -- what their frames use is what the song's frames use
 pub use Rattle.same_frames.proofs.Uses.{uses_same_lem, no_other_case_lem}
 -- without new numbers a song agrees with itself
@@ -20,3 +24,5 @@ pub use Rattle.same_frames.proofs.Programs.{GoesOnFor, IsPulseFor, pulse_moved_l
 pub use Rattle.same_frames.proofs.Waves.{effect_moved, IsWaveFor, wave_moved}
 pub use Rattle.same_frames.proofs.Ticks.{BeginsFor, IsRowParam, IsTickFor, tick_moved}
 pub use Rattle.same_frames.proofs.Fetched.{IsFetchFor, fetch_moved}
+-- a song whose rows another song has under new numbers: what the other song comes to from them
+pub use Rattle.same_frames.proofs.Images.{IsUnder, StandsForOne, IsImage, image_of, endless_moved, channel_moved, low_byte, high_byte, is_there, stored_is_played, old_some, row_under, wave_pointer_from, same_jump, jump_right, led_from, target_from, step_from, no_jump_there, row_there}

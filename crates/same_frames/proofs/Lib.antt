@@ -20,10 +20,20 @@ pub mod Themselves
 -- Steps of voices, frames and traces.
 pub mod Steps
 pub mod Frames
+-- Before an instrument is named: which one a voice begins with doesn't show.
+pub mod Runs
+pub mod Begun
+pub mod BegunTicks
+pub mod BegunFetches
+pub mod BegunFrames
 -- What frames use.
 pub mod Turns
 pub mod Uses
 -- Orderlists.
 pub mod Orders
+-- A song under new numbers in another one.
+pub mod Images
 -- Parts and frames of a small song with other numbers, computed.
 pub mod WorkedMaps
+-- Small songs that begin with one instrument or another, computed.
+pub mod WorkedBegins

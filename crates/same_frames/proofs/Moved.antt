@@ -15,6 +15,8 @@ pub record Held : Type 0 where
   pub instrument : ℕ
   pub new_command : ℕ
   pub new_param : ℕ
+  -- what stands for the parameter that runs
+  pub running : ℕ → ℕ
 
 abbrev pub held_of : Voice → Held
 held_of v = record {
@@ -23,6 +25,7 @@ held_of v = record {
   instrument = v.instrument;
   new_command = v.new_command;
   new_param = v.new_param;
+  running = λ param. param;
 }
 
 -- a voice that holds this, with its pointers moved
@@ -33,7 +36,7 @@ put maps h v = record v {
   instrument = h.instrument;
   new_command = h.new_command;
   new_param = h.new_param;
-  param = maps.row Speed v.param;
+  param = h.running v.param;
   wave_ptr = maps.row Wave v.wave_ptr;
   pulse_ptr = maps.row Pulse v.pulse_ptr;
 }
@@ -63,7 +66,8 @@ same_pointer None p = refl
 -- ---- the same held, under new numbers
 
 abbrev pub moved_held : Maps → ℕ → Held → Held
-moved_held maps param h = record h { instrument = maps.instrument h.instrument; new_param = param }
+moved_held maps param h =
+    record h { instrument = maps.instrument h.instrument; new_param = param; running = maps.row Speed }
 
 -- a voice that holds what this one holds
 pub moved_again : (maps : Maps) (param : ℕ) (v w : Voice) → held_of v ≡ held_of w →

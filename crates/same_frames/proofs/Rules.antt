@@ -40,7 +40,7 @@ tick_holds channel look s =
       param = same_param look s.voice.new_command s.voice.new_param;
     }))
 
-wave_holds : (look : LookUps) (s : Playing) → held_of (wave_step look s).playing.voice ≡ held_of s.voice
+pub wave_holds : (look : LookUps) (s : Playing) → held_of (wave_step look s).playing.voice ≡ held_of s.voice
 wave_holds look s =
     ap (λ (w : Waved). held_of w.playing.voice)
     (wave_moved same_numbers (held_of s.voice) look look s refl refl (λ some. record {
@@ -50,10 +50,10 @@ wave_holds look s =
       speed = λ low high. same_speed look _;
     }))
 
-effect_holds : (look : LookUps) (v : Voice) → held_of (effect_step look v) ≡ held_of v
+pub effect_holds : (look : LookUps) (v : Voice) → held_of (effect_step look v) ≡ held_of v
 effect_holds look v = ap held_of (effect_moved same_numbers (held_of v) look look v (same_speed look v.param))
 
-pulse_holds : (look : LookUps) (v : Voice) → held_of (pulse_step look v) ≡ held_of v
+pub pulse_holds : (look : LookUps) (v : Voice) → held_of (pulse_step look v) ≡ held_of v
 pulse_holds look v =
     ap held_of
     (pulse_moved_lem same_numbers (held_of v) look look v refl (λ some. record { row = refl; next = λ goes. refl }))

@@ -56,7 +56,6 @@ themselves_lem song limits playable = record {
   no_speed = speed_0 song;
   instruments = record {
     nothing = refl;
-    first = refl;
     some = used_some song;
     stands_for = λ i used. record { moved = refl };
   };

@@ -50,7 +50,7 @@ reloaded_moved maps h channel tempo s =
       common = c;
     }) (tempo_moved maps channel (1 - tempo) s.common))
 
-between_moved : (maps : Maps) (h : Held) (channel : ℕ) (s : Playing) →
+pub between_moved : (maps : Maps) (h : Held) (channel : ℕ) (s : Playing) →
     between_rows channel (put_playing maps h s) ≡ put_playing maps h (between_rows channel s)
 unfolding between_rows
 between_moved maps h channel s =
@@ -80,26 +80,30 @@ programs_moved maps h i s b =
     (maps.row Filter s.common.filter_ptr) (maps.row Filter i.filter) b.filter (λ z. refl) (λ z. refl))
     (rw b.pulse (rw b.filter refl)))
 
-sound_moved : (maps : Maps) (h : Held) (i : Instrument) (s : Playing) → BeginsFor maps i →
+pub sound_moved : (maps : Maps) (h : Held) (i : Instrument) (s : Playing) → BeginsFor maps i →
     sound_begun (moved_instrument maps i) (put_playing maps h s) ≡ put_playing maps h (sound_begun i s)
 sound_moved maps h i s b =
     ap (λ (v : Voice). programs_begun (moved_instrument maps i)
     (record { voice = v; common = moved_common maps s.common })) (first_wave_moved maps h i.first_wave s.voice)
     ∙ programs_moved maps h i (record s { voice = first_wave_set i.first_wave s.voice }) b
 
+-- with the speeds under their new numbers
+abbrev pub sped : Maps → Held → Held
+sped maps h = record h { running = maps.row Speed }
+
 started_moved : (maps : Maps) (h : Held) (i : Instrument) (s : Playing) → BeginsFor maps i →
     h.new_command ≡ s.voice.new_command →
-    note_started (moved_instrument maps i) (put_playing maps h s) ≡ put_playing maps h (note_started i s)
+    note_started (moved_instrument maps i) (put_playing maps (sped maps h) s) ≡ put_playing maps (sped maps h) (note_started i s)
 unfolding note_started
 started_moved maps h i s b is =
-    same_choice f (s.voice.new_note == 0) s (taken i s) (put_playing maps h s)
-    (taken (moved_instrument maps i) (put_playing maps h s)) (λ z. refl)
+    same_choice f (s.voice.new_note == 0) s (taken i s) (put_playing maps (sped maps h) s)
+    (taken (moved_instrument maps i) (put_playing maps (sped maps h) s)) (λ z. refl)
     (λ z. choice_moved f (s.voice.new_command == 3) (h.new_command == 3)
     (record s { voice = note_taken i s.voice }) (sound_begun i (record s { voice = note_taken i s.voice })) _ _
-    (rw is refl) (λ z. refl) (λ z. sound_moved maps h i (record s { voice = note_taken i s.voice }) b))
+    (rw is refl) (λ z. refl) (λ z. sound_moved maps (sped maps h) i (record s { voice = note_taken i s.voice }) b))
   where
     f : Playing → Playing
-    f = put_playing maps h
+    f = put_playing maps (sped maps h)
 
 -- ---- the row's command
 
@@ -116,8 +120,8 @@ two_is_low c h = omega arith
 
 row_commands_moved : (maps : Maps) (h : Held) (channel : ℕ) (look other : LookUps) (i : Instrument) (c d e : ℕ)
     (s : Playing) → maps.row Filter 0 ≡ 0 → IsRowParam maps look other c d e →
-    PlayingMoved maps h (row_command channel look i c d s)
-    (row_command channel other (moved_instrument maps i) c e (put_playing maps h s))
+    PlayingMoved maps (sped maps h) (row_command channel look i c d s)
+    (row_command channel other (moved_instrument maps i) c e (put_playing maps (sped maps h) s))
 unfolding row_command
 row_commands_moved maps h channel look other i c d e s nothing p =
     both R (c == 0) _ _ _ _ (λ z. record { is = refl })
@@ -130,14 +134,14 @@ row_commands_moved maps h channel look other i c d e s nothing p =
     (λ z. common _ _ (funk_moved maps look other d e s.common (p.lengths (eqb-true c 0xE z))))
     (λ z. both R (c == 0xF) _ _ _ _
     (λ z. common _ _ (tempos_by (by_command some 0xF (eqb-true c 0xF z))))
-    (λ z. record { is = command_moved maps h c d e s nothing (p.is some) }))))))
+    (λ z. record { is = command_moved maps (sped maps h) c d e s nothing (p.is some) }))))))
   where
     R : Playing → Playing → Type 0
-    R = PlayingMoved maps h
+    R = PlayingMoved maps (sped maps h)
 
     common : (x y : Common) → y ≡ moved_common maps x →
-        PlayingMoved maps h (record s { common = x }) (record { voice = put maps h s.voice; common = y })
-    common x y is = record { is = ap (λ (x : Common). record { voice = put maps h s.voice; common = x }) is }
+        PlayingMoved maps (sped maps h) (record s { common = x }) (record { voice = put maps (sped maps h) s.voice; common = y })
+    common x y is = record { is = ap (λ (x : Common). record { voice = put maps (sped maps h) s.voice; common = x }) is }
 
     tempos_by : e ≡ d →
         tempo_set channel e (moved_common maps s.common) ≡ moved_common maps (tempo_set channel d s.common)
@@ -152,8 +156,8 @@ row_commands_moved maps h channel look other i c d e s nothing p =
 
 row_command_moved : (maps : Maps) (h : Held) (channel : ℕ) (look other : LookUps) (i : Instrument) (c d e : ℕ)
     (s : Playing) → maps.row Filter 0 ≡ 0 → IsRowParam maps look other c d e →
-    row_command channel other (moved_instrument maps i) c e (put_playing maps h s)
-    ≡ put_playing maps h (row_command channel look i c d s)
+    row_command channel other (moved_instrument maps i) c e (put_playing maps (sped maps h) s)
+    ≡ put_playing maps (sped maps h) (row_command channel look i c d s)
 row_command_moved maps h channel look other i c d e s nothing p =
     (row_commands_moved maps h channel look other i c d e s nothing p).is
 
@@ -178,13 +182,13 @@ command_holds channel look i c d s =
     (row_command_moved same_numbers (held_of s.voice) channel look look i c d d s refl (same_param look c d))
 
 ended_moved : (maps : Maps) (h : Held) (s : Playing) → h.new_command ≡ s.voice.new_command →
-    note_ended (put_playing maps h s) ≡ put_ticked maps h (note_ended s)
+    note_ended (put_playing maps (sped maps h) s) ≡ put_ticked maps (sped maps h) (note_ended s)
 ended_moved maps h s is = rw is refl
 
-at_row_moved : (maps : Maps) (h : Held) (channel : ℕ) (look other : LookUps) (i : Instrument) (s : Playing) →
+pub at_row_moved : (maps : Maps) (h : Held) (channel : ℕ) (look other : LookUps) (i : Instrument) (s : Playing) →
     maps.row Filter 0 ≡ 0 → BeginsFor maps i → h.new_command ≡ s.voice.new_command →
     IsRowParam maps look other s.voice.new_command s.voice.new_param h.new_param →
-    at_row channel other (moved_instrument maps i) (put_playing maps h s) ≡ put_ticked maps h (at_row channel look i s)
+    at_row channel other (moved_instrument maps i) (put_playing maps (sped maps h) s) ≡ put_ticked maps (sped maps h) (at_row channel look i s)
 unfolding at_row
 at_row_moved maps h channel look other i s nothing b is p =
     let c = s.voice.new_command in
@@ -195,7 +199,7 @@ at_row_moved maps h channel look other i s nothing b is p =
     let j = moved_instrument maps i in
     ap (λ (x : Playing). note_ended (row_command channel other j h.new_command h.new_param x))
     (started_moved maps h i timed b is)
-    ∙ ap (λ (n : ℕ). note_ended (row_command channel other j n h.new_param (put_playing maps h started))) is
+    ∙ ap (λ (n : ℕ). note_ended (row_command channel other j n h.new_param (put_playing maps (sped maps h) started))) is
     ∙ ap note_ended (row_command_moved maps h channel look other i c d h.new_param started nothing p)
     ∙ ended_moved maps h done
     (is ∙ ap (λ (x : Held). x.new_command)
@@ -217,15 +221,15 @@ pub record IsTickFor (maps : Maps) (look other : LookUps) (h : Held) (v : Voice)
 
 pub tick_moved : (maps : Maps) (h : Held) (channel : ℕ) (look other : LookUps) (s : Playing) →
     maps.row Filter 0 ≡ 0 → IsTickFor maps look other h s.voice →
-    tick_step channel other (put_playing maps h s) ≡ put_ticked maps h (tick_step channel look s)
+    tick_step channel other (put_playing maps (sped maps h) s) ≡ put_ticked maps (sped maps h) (tick_step channel look s)
 unfolding tick_step
 tick_moved maps h channel look other s nothing t =
     let next = record s { voice = record s.voice { tick = byte_minus s.voice.tick 1 } } in
     let i = look.instrument s.voice.instrument in
-    same_choice (put_ticked maps h) (byte_minus s.voice.tick 1 == 0) (at_row channel look i next)
+    same_choice (put_ticked maps (sped maps h)) (byte_minus s.voice.tick 1 == 0) (at_row channel look i next)
     (record { playing = between_rows channel next; started = false })
-    (at_row channel other (other.instrument h.instrument) (put_playing maps h next))
-    (record { playing = between_rows channel (put_playing maps h next); started = false })
-    (λ z. named_alike maps channel other i (other.instrument h.instrument) (put_playing maps h next) t.instrument
+    (at_row channel other (other.instrument h.instrument) (put_playing maps (sped maps h) next))
+    (record { playing = between_rows channel (put_playing maps (sped maps h) next); started = false })
+    (λ z. named_alike maps channel other i (other.instrument h.instrument) (put_playing maps (sped maps h) next) t.instrument
     ∙ at_row_moved maps h channel look other i next nothing t.begins t.command t.param)
-    (λ z. rw (between_moved maps h channel next) refl)
+    (λ z. rw (between_moved maps (sped maps h) channel next) refl)

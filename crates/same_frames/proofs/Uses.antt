@@ -212,8 +212,8 @@ uses_same_lem o maps song k other subtune limits playable h a plays adds x y q f
     feature u
 
 pub no_other_case_lem : NoOtherCase
-no_other_case_lem o maps song k i other subtune speed limits playable h a plays adds feature u =
+no_other_case_lem o maps song k i other subtune speed limits playable h a plays adds first feature u =
     no_unused_case_lem o song k i speed limits playable h feature
     (uses_same_lem o maps song k other subtune limits playable h a plays adds (state_after_with o song k i)
-    (state_after_of o other subtune i) (states_alike_lem o maps song k other subtune i speed limits playable h a plays)
-    feature u)
+    (state_after_of o other subtune i)
+    (states_alike_lem o maps song k other subtune i speed limits playable h a plays first) feature u)

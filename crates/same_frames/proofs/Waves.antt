@@ -4,7 +4,7 @@ use Rattle.std.proofs.Common.{◌≡◌, ◌≢◌, ℕ, ◌-◌, ◌≤◌, tru
 use Rattle.std.proofs.lemmas.Bool.{eqb-true, eqb-false, leb-true, and_parts}
 use Rattle.std.proofs.lemmas.Bool.Decides.{nat_tests}
 use Rattle.song_model.specs.declared.tables.TableRow.{TableRow}
-use Rattle.song_model.specs.declared.tables.TableName.TheVariants.{Wave, Filter, Speed}
+use Rattle.song_model.specs.declared.tables.TableName.TheVariants.{Wave, Filter}
 use Rattle.song_model.specs.Pointers.{command_table, wave_row_table}
 use Rattle.play_model.specs.LookUps.{LookUps}
 use Rattle.play_model.specs.State.{Voice, Playing}
@@ -21,17 +21,17 @@ use Rattle.same_frames.proofs.Programs.{GoesOnFor}
 -- ---- the effect step
 
 vibrato_begins : (maps : Maps) (h : Held) (look other : LookUps) (v : Voice) →
-    IsSpeedFor look other v.param (maps.row Speed v.param) →
+    IsSpeedFor look other v.param (h.running v.param) →
     instrument_vibrato other (put maps h v) ≡ put maps h (instrument_vibrato look v)
 vibrato_begins maps h look other v s =
     choice_moved (put maps h) ((v.param == 0) || (v.vib_delay == 0))
-    ((maps.row Speed v.param == 0) || (v.vib_delay == 0)) _ _ _ _ (rw s.none refl) (λ z. refl)
+    ((h.running v.param == 0) || (v.vib_delay == 0)) _ _ _ _ (rw s.none refl) (λ z. refl)
     (λ z. same_choice (put maps h) (nat_le 2 v.vib_delay) _ (vibrato look v.param v) _
-    (vibrato other (maps.row Speed v.param) (put maps h v)) (λ z. refl)
-    (λ z. vibrato_moved maps h look other v.param (maps.row Speed v.param) v s))
+    (vibrato other (h.running v.param) (put maps h v)) (λ z. refl)
+    (λ z. vibrato_moved maps h look other v.param (h.running v.param) v s))
 
 effects_moved : (maps : Maps) (h : Held) (look other : LookUps) (v : Voice) →
-    IsSpeedFor look other v.param (maps.row Speed v.param) →
+    IsSpeedFor look other v.param (h.running v.param) →
     VoiceMoved maps h (effect_step look v) (effect_step other (put maps h v))
 unfolding effect_step
 effects_moved maps h look other v s =
@@ -46,10 +46,10 @@ effects_moved maps h look other v s =
     R = VoiceMoved maps h
 
     e : ℕ
-    e = maps.row Speed v.param
+    e = h.running v.param
 
 pub effect_moved : (maps : Maps) (h : Held) (look other : LookUps) (v : Voice) →
-    IsSpeedFor look other v.param (maps.row Speed v.param) →
+    IsSpeedFor look other v.param (h.running v.param) →
     effect_step other (put maps h v) ≡ put maps h (effect_step look v)
 effect_moved maps h look other v s = (effects_moved maps h look other v s).is
 

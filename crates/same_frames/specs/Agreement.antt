@@ -32,8 +32,6 @@ pub record ProgramsAgree (maps : Maps) (song : Song) (name : TableName) : Type 0
 -- the instruments that the song uses
 pub record InstrumentsAgree (maps : Maps) (song : Song) (other : LookUps) : Type 0 where
   pub nothing : maps.instrument 0 ≡ 0
-  -- each voice begins with instrument 1
-  pub first : maps.instrument 1 ≡ 1
   pub some : (i : ℕ) → IsUsedInstrument song i → maps.instrument i ≢ 0
   pub stands_for : (i : ℕ) → IsUsedInstrument song i →
       IsInstrumentFor maps (instrument_at song i) (other.instrument (maps.instrument i))

@@ -9,7 +9,7 @@ use Rattle.song_model.specs.LookUp.{playable_subtunes}
 use Rattle.play_model.specs.declared.options.Options.{Options}
 use Rattle.play_model.specs.Speeds.{IsSpeed}
 use Rattle.play_model.specs.LookUps.{LookUps, look_ups_of}
-use Rattle.play_model.specs.State.{Voice, Common, FrameState, Playing, start_state}
+use Rattle.play_model.specs.State.{Voice, Common, FrameState, Playing, start_voice, start_common, start_state}
 use Rattle.play_model.specs.FilterStep.{filter_step}
 use Rattle.play_model.specs.TickStep.{Ticked, tick_step}
 use Rattle.play_model.specs.WaveStep.{Waved, wave_step}
@@ -39,6 +39,22 @@ trace_of o look subtune (suc n) = (frame_of o look subtune (state_after_of o loo
 abbrev pub TracesOfSongs : Type 0
 TracesOfSongs = (o : Options) (song : Song) (k i : ℕ) →
     trace_of o (look_ups_of song) (subtune_at song k) i ≡ trace_with o song k i
+
+-- the start, but that each voice begins with this instrument
+abbrev pub start_with : Options → ℕ → FrameState
+start_with o i =
+    let voice = record start_voice { instrument = i } in
+    record { common = start_common o.speed; one = voice; two = voice; three = voice }
+
+-- the state after n frames from this one on
+unfoldable pub state_from : Options → LookUps → Subtune → FrameState → ℕ → FrameState
+state_from o look subtune x zero = x
+state_from o look subtune x (suc n) = (frame_of o look subtune (state_from o look subtune x n)).state
+
+-- the registers after call i, where the first frame begins with this state
+abbrev pub trace_from : Options → LookUps → Subtune → FrameState → ℕ → List ℕ
+trace_from o look subtune x zero = replicate 25 0
+trace_from o look subtune x (suc n) = (frame_of o look subtune (state_from o look subtune x n)).registers
 
 -- ---- agreement
 
@@ -92,7 +108,8 @@ pub record FramesAreAlike (maps : Maps) (song : Song) (k : ℕ) (framed other : 
 
 pub record PlaysTheSame (o : Options) (maps : Maps) (song : Song) (k : ℕ) (other : LookUps) (subtune : Subtune)
     : Type 0 where
-  pub start : StatesAreAlike maps song k (start_state o) (start_state o)
+  -- the start, where each voice has the new number of instrument 1
+  pub start : StatesAreAlike maps song k (start_state o) (start_with o (maps.instrument 1))
   -- the filter step and the steps of the voices, from which a frame is made up
   pub filter : (x y : FrameState) → StatesAreAlike maps song k x y →
       StatesAreAlike maps song k (filter_done (look_ups_of song) x) (filter_done other y)
@@ -101,7 +118,9 @@ pub record PlaysTheSame (o : Options) (maps : Maps) (song : Song) (k : ℕ) (oth
       (voice_done channel o other subtune y)
   pub frame : (x y : FrameState) → StatesAreAlike maps song k x y →
       FramesAreAlike maps song k (frame_with o song k x) (frame_of o other subtune y)
-  pub trace : (i : ℕ) → trace_of o other subtune i ≡ trace_with o song k i
+  pub moved_trace : (i : ℕ) → trace_from o other subtune (start_with o (maps.instrument 1)) i ≡ trace_with o song k i
+  -- where instrument 1, with which each voice begins, keeps its number
+  pub trace : maps.instrument 1 ≡ 1 → (i : ℕ) → trace_of o other subtune i ≡ trace_with o song k i
 
 -- with any options, whatever the maps and the other look-ups are
 abbrev pub FramesAreSame : Type 0

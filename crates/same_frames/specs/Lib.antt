@@ -7,5 +7,9 @@ pub mod Alike
 pub mod FrameLaws
 pub mod UseLaws
 pub mod OrderLaws
+-- What is played before an instrument is named, and claimed: that the first one doesn't show then.
+pub mod Begins
 -- Claimed: a small song with other numbers, worked out by hand.
 pub mod WorkedMaps
+-- Claimed: small songs that begin with one instrument or another, worked out by hand.
+pub mod WorkedBegins

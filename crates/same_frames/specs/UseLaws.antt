@@ -1,5 +1,5 @@
 -- Look-ups that agree with a song up to new numbers use no more than the song does.
-use Rattle.std.specs.Prelude.{ℕ, ◌<◌, length}
+use Rattle.std.specs.Prelude.{◌≡◌, ℕ, ◌<◌, length}
 use Rattle.song_model.specs.declared.orders.Subtune.{Subtune}
 use Rattle.song_model.specs.declared.features.Feature.{Feature}
 use Rattle.song_model.specs.declared.songs.Song.{Song}
@@ -27,10 +27,12 @@ UsesAreSame =
     (x y : FrameState) → StatesAreAlike maps song k x y → (feature : Feature) →
     Uses o other subtune y feature → UsesFeature o song k x feature
 
--- so no frame over the other look-ups uses more than the song's features
+-- so no frame over the other look-ups uses more than the song's features, where instrument 1, with which each voice
+-- begins, keeps its number
 abbrev pub NoOtherCase : Type 0
 NoOtherCase =
     (o : Options) (maps : Maps) (song : Song) (k i : ℕ) (other : LookUps) (subtune : Subtune) → IsSpeed o.speed →
     KeepsLimits song → IsPlayable song → k < length (playable_subtunes song) → Agrees maps song other →
     SubtunePlaysFor maps (subtune_at song k) subtune → AddsNoOrderByte (subtune_at song k) subtune →
-    (feature : Feature) → Uses o other subtune (state_after_of o other subtune i) feature → HasFeature song feature
+    maps.instrument 1 ≡ 1 → (feature : Feature) → Uses o other subtune (state_after_of o other subtune i) feature →
+    HasFeature song feature

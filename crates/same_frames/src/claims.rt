@@ -1,12 +1,15 @@
 //! Facts about the definitions, each the contract of a function that does nothing.
 
 ghost use Rattle.same_frames.specs.FrameLaws.{SongsAgreeWithThemselves, TracesOfSongs, RulesAreSame, FramesAreSame};
+ghost use Rattle.same_frames.specs.Begins.{FirstInstrumentsDoNotShow};
 ghost use Rattle.same_frames.specs.UseLaws.{UsesAreSame, NoOtherCase};
 ghost use Rattle.same_frames.specs.OrderLaws.{MovedOrdersPlayFor, MovedSubtunesPlayFor};
 ghost use Rattle.same_frames.specs.WorkedMaps.{NumbersAreAsWorked};
+ghost use Rattle.same_frames.specs.WorkedBegins.{BeginningsAreAsWorked};
 
 /// Over look-ups that agree with a playable song up to new numbers, frames of states that are alike leave the same
-/// registers and states that are alike, with any options, and each call of a subtune leaves the same registers.
+/// registers and states that are alike, with any options. So does each call of a subtune, where the voices begin with the
+/// new number of instrument 1, or that is 1.
 pub fn frames_are_same()
     ensures { FramesAreSame }
 {}
@@ -28,13 +31,20 @@ pub fn traces_of_songs()
     ensures { TracesOfSongs }
 {}
 
+/// Where rows name instruments before notes are played, or with them, the instrument with which each voice begins doesn't
+/// show, but in when rows are fetched.
+#[tactic(auto, using(crate::proofs::BegunFrames::first_instruments_lem))]
+pub fn first_instruments_do_not_show()
+    ensures { FirstInstrumentsDoNotShow }
+{}
+
 /// A frame over the other look-ups uses what the song's frame after a state that is alike uses.
 #[tactic(auto, using(crate::proofs::Uses::uses_same_lem))]
 pub fn uses_are_same()
     ensures { UsesAreSame }
 {}
 
-/// No frame over the other look-ups uses more than the song's features.
+/// Where instrument 1 keeps its number no frame over the other look-ups uses more than the song's features.
 pub fn no_other_case()
     ensures { NoOtherCase }
 {}
@@ -55,4 +65,10 @@ pub fn moved_subtunes_play()
 #[tactic(auto, using(crate::proofs::WorkedMaps::numbers_are_as_worked_lem))]
 pub fn worked_maps()
     ensures { NumbersAreAsWorked }
+{}
+
+/// Small songs whose voices begin with one instrument or another: what is played before one is named, and where it shows.
+#[tactic(auto, using(crate::proofs::WorkedBegins::beginnings_are_as_worked_lem))]
+pub fn worked_begins()
+    ensures { BeginningsAreAsWorked }
 {}

@@ -23,7 +23,8 @@ use Rattle.packing_rules.specs.Renumbering.{pattern_number}
 use Rattle.packed_form.specs.Unpacked.{IsPackedOrder, end_place, unpacked_order, unpacked_subtune, unpacked_song}
 use Rattle.packed_form.specs.StandsFor.{ArePackedOrders}
 use Rattle.song_pack.specs.Packed.{new_numbers, order_bytes, packed_subtune, IsPacked}
-use Rattle.song_pack.proofs.UsedParts.{image_of, channel_played}
+use Rattle.same_frames.proofs.Laws.{image_of}
+use Rattle.song_pack.proofs.UsedParts.{channel_played}
 use Rattle.song_pack.proofs.StoredPatterns.{pattern_small}
 
 -- ---- bytes of an orderlist

@@ -37,7 +37,7 @@ use Rattle.packing_rules.proofs.Laws.{kept_parts, kept_stands, playable_programs
 use Rattle.pattern_pack.proofs.Laws.{spelled_are_patterns}
 use Rattle.table_pack.proofs.Laws.{rank_kept, rank_left}
 use Rattle.song_pack.specs.Packed.{new_numbers, passing_numbers, packed_instrument, IsPacked}
-use Rattle.song_pack.proofs.UsedParts.{image_of}
+use Rattle.same_frames.proofs.Laws.{image_of}
 use Rattle.song_pack.proofs.StoredTables.{tables_agree, packed_few, program_count, filter_number, pulse_number, wave_number}
 use Rattle.song_pack.proofs.StoredPatterns.{number_fits, speeds_few, filter_few, few_texts, packed_is, pattern_spelled}
 use Rattle.song_pack.proofs.PlayedOrders.{entries_fit, subtune_in_range, one_played, two_played, three_played, subtunes_unpacked}

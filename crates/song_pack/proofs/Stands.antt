@@ -29,7 +29,7 @@ use Rattle.song_pack.specs.Packed.{new_numbers, packed_subtune, IsPacked}
 use Rattle.song_pack.proofs.UsedParts.{IsMoved}
 use Rattle.song_pack.proofs.Complete.{complete_lem}
 use Rattle.song_pack.proofs.StoredTables.{tables_agree, all_programs_agree}
-use Rattle.song_pack.proofs.StoredInstruments.{instruments_agree, instrument_stored}
+use Rattle.song_pack.proofs.StoredInstruments.{instruments_agree, first_is_first, instrument_stored}
 use Rattle.song_pack.proofs.StoredPatterns.{pattern_stored, pattern_small, pattern_agrees, pattern_spelled}
 use Rattle.song_pack.proofs.PlayedOrders.{subtunes_unpacked, all_playable, orders_packed}
 use Rattle.song_pack.proofs.Ranges.{keeps_limits}
@@ -65,6 +65,7 @@ module _ (song : Song) (used : UsedSets) (packed : PackedSong) (limits : KeepsLi
   moved = record {
     playable = play;
     agrees = agrees;
+    first = first_is_first song used packed limits are is;
     subtunes = all_playable song used packed limits play are is ∙ subtunes_unpacked song used packed limits play are is;
     number = pattern_small song used packed are is;
     pattern = pattern_stored song used packed are is;
@@ -118,11 +119,12 @@ module _ (song : Song) (used : UsedSets) (packed : PackedSong) (limits : KeepsLi
     trace = λ i.
         sym (traces_of_songs_lem o (unpacked_song packed) k i)
         ∙ (frames_same_lem o (new_numbers song used) song k (look_ups_of (unpacked_song packed))
-        (subtune_at (unpacked_song packed) k) speed limits play low agrees (subtune_plays k low)).trace i;
+        (subtune_at (unpacked_song packed) k) speed limits play low agrees (subtune_plays k low)).trace
+        (first_is_first song used packed limits are is) i;
     uses = λ i feature uses.
         no_other_case_lem o (new_numbers song used) song k i (look_ups_of (unpacked_song packed))
         (subtune_at (unpacked_song packed) k) speed limits play low agrees (subtune_plays k low)
-        (subtune_adds_none k low) feature
+        (subtune_adds_none k low) (first_is_first song used packed limits are is) feature
         (subst (λ (x : FrameState). Uses o (look_ups_of (unpacked_song packed)) (subtune_at (unpacked_song packed) k)
         x feature)
         (sym (states_are o (unpacked_song packed) k i)) uses);

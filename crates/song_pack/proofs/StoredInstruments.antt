@@ -182,12 +182,15 @@ module _ (song : Song) (used : UsedSets) (packed : PackedSong) (limits : KeepsLi
   unfolding packed_at
   instruments_agree = record {
     nothing = number_is used 0;
-    first = number_is used 1 ∙ ap (λ (b : Bool). 0 + (if b then 1 else 0)) (passes 1 (inl refl));
     some = λ i is_used none. let low = number_low i is_used in omega arith;
     stands_for = λ i is_used. record {
       moved = ap (λ (other : Instrument). record other { name = (instrument_at song i).name }) (found i is_used);
     };
   }
+
+  -- each voice begins with instrument 1, which is used and the first that is
+  pub first_is_first : instrument_number used 1 ≡ 1
+  first_is_first = number_is used 1 ∙ ap (λ (b : Bool). 0 + (if b then 1 else 0)) (passes 1 (inl refl))
 
   pub instrument_stored : (i : ℕ) → IsUsedInstrument song i →
       IsNumbered (unpacked_song packed).instruments (instrument_number used i)

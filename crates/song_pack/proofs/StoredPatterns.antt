@@ -41,7 +41,7 @@ use Rattle.packing_rules.proofs.Laws.{place_there, first_seen_has, first_seen_le
 use Rattle.pattern_pack.proofs.Laws.{packed_is_spelled, spelled_is_unpacked}
 use Rattle.table_pack.proofs.Laws.{rank_most}
 use Rattle.song_pack.specs.Packed.{new_numbers, IsPacked}
-use Rattle.song_pack.proofs.UsedParts.{image_of}
+use Rattle.same_frames.proofs.Laws.{image_of}
 use Rattle.song_pack.proofs.StoredTables.{tables_agree, all_programs_agree}
 use Rattle.song_pack.proofs.StoredInstruments.{instruments_agree}
 

@@ -1,42 +1,25 @@
 -- What a song under new numbers uses are the parts of the song that it was made of, under these numbers.
 use Rattle.std.specs.Prelude.{◌==◌}
-use Rattle.std.proofs.Common.{◌≡◌, ◌≢◌, ℕ, zero, suc, ◌+◌, ◌<◌, ◌≤◌, true, false, List, [], ◌∷◌, map, length, Contains, Option, Some, None, refl, sym, ◌∙◌, ap, subst, inl, inr, arith}
-use Rattle.std.specs.Option.{unwrap_or}
-use Rattle.std.proofs.lemmas.Bool.{cases_lt, cases_eq, cases_Bool, eqb-true, eq-eqb, ne_eqb, lt-ltb, le-ltb}
-use Rattle.std.proofs.lemmas.List.Elements.{All-map, All-weaker, All-contains, All-contains_itself}
+use Rattle.std.proofs.Common.{◌≡◌, ◌≢◌, ℕ, zero, suc, ◌<◌, false, List, [], ◌∷◌, map, length, Contains, Some, refl, sym, ◌∙◌, ap, subst, inl, inr, arith}
+use Rattle.std.proofs.lemmas.Bool.{cases_lt, cases_Bool, ne_eqb}
 use Rattle.song_model.specs.declared.rows.Row.{Row}
 use Rattle.song_model.specs.declared.orders.Order.{Order}
 use Rattle.song_model.specs.declared.orders.Subtune.{Subtune}
 use Rattle.song_model.specs.declared.instruments.Instrument.{Instrument}
-use Rattle.song_model.specs.declared.tables.TableRow.{TableRow}
 use Rattle.song_model.specs.declared.tables.TableName.{TableName}
 use Rattle.song_model.specs.declared.tables.TableName.TheVariants.{Wave, Pulse, Filter, Speed}
 use Rattle.song_model.specs.declared.songs.Song.{Song}
 use Rattle.song_model.specs.Endless.{IsPatternByte}
-use Rattle.song_model.specs.LookUp.{IsNumbered, table_of, table_row, pattern_at, instrument_at, order_of, playable_subtunes}
-use Rattle.song_model.specs.Pointers.{instrument_pointer, command_table, wave_row_table}
+use Rattle.song_model.specs.LookUp.{IsNumbered, table_of, pattern_at, instrument_at, order_of, playable_subtunes}
+use Rattle.song_model.specs.Pointers.{instrument_pointer, command_table}
 use Rattle.play_model.specs.LookUps.{look_ups_of}
 use Rattle.play_model.specs.Used.{IsChannel, IsPlayedOrder, IsUsedPattern, IsUsedRow, IsUsedInstrument}
-use Rattle.play_model.specs.Reached.{is_jump, is_last, row_led_to, led_to, IsPlayedPointer, of_instrument, of_row, IsWaveRowPointer, IsReached, played, pointed, led, IsPointer, of_played, of_wave_row}
-use Rattle.play_model.specs.Playable.{HasPrograms, IsPlayable}
-use Rattle.play_model.proofs.Laws.{whole_lem, led_by, no_speed_led}
-use Rattle.same_frames.specs.Maps.{Maps, moved_pointer, moved_row, named_after, IsRowFor, AreRowsFor, IsInstrumentFor}
+use Rattle.play_model.specs.Reached.{IsPlayedPointer, of_instrument, of_row, IsReached, played, pointed, led, IsPointer, of_played, of_wave_row}
+use Rattle.play_model.specs.Playable.{IsPlayable}
+use Rattle.same_frames.specs.Maps.{Maps, moved_pointer, named_after, IsRowFor, AreRowsFor, IsInstrumentFor}
 use Rattle.same_frames.specs.Agreement.{Agrees}
 use Rattle.same_frames.specs.OrderLaws.{moved_byte, moved_order, moved_subtune}
-
--- ---- items of a list that a function has made
-
-pub record IsImage {X Y : Type 0} (f : X → Y) (xs : List X) (y : Y) : Type 0 where
-  pub from : X
-  pub has : Contains xs from
-  pub is : f from ≡ y
-
-pub image_of : {X Y : Type 0} (f : X → Y) (xs : List X) (y : Y) → Contains (map f xs) y → IsImage f xs y
-image_of f xs y has =
-    All-contains (IsImage f xs) (map f xs) y
-    (All-map (IsImage f xs) f xs
-    (All-weaker (Contains xs) (λ x. IsImage f xs (f x)) (λ x there. record { from = x; has = there; is = refl }) xs
-    (All-contains_itself xs))) has
+use Rattle.same_frames.proofs.Laws.{IsUnder, StandsForOne, image_of, channel_moved, low_byte, high_byte, old_some, wave_pointer_from, led_from}
 
 -- ---- the other song
 
@@ -44,33 +27,17 @@ image_of f xs y has =
 pub record IsMoved (maps : Maps) (song other : Song) : Type 0 where
   pub playable : IsPlayable song
   pub agrees : Agrees maps song (look_ups_of other)
+  pub first : maps.instrument 1 ≡ 1
   pub subtunes : playable_subtunes other ≡ map (moved_subtune maps) (playable_subtunes song)
   pub number : (n : ℕ) → IsUsedPattern song n → IsPatternByte (maps.pattern n)
   pub pattern : (n : ℕ) → IsUsedPattern song n → maps.pattern n < length other.patterns
   pub instrument : (i : ℕ) → IsUsedInstrument song i → IsNumbered other.instruments (maps.instrument i)
   pub row : (name : TableName) (p : ℕ) → IsReached song name p → IsNumbered (table_of other name) (maps.row name p)
 
--- a number that stands for one with this property
-pub record StandsForOne (map : ℕ → ℕ) (IsSuch : ℕ → Type 0) (n : ℕ) : Type 0 where
-  pub old : ℕ
-  pub is_such : IsSuch old
-  pub new : map old ≡ n
+pub under : (maps : Maps) (song other : Song) → IsMoved maps song other → IsUnder maps song other
+under maps song other m = record { playable = m.playable; agrees = m.agrees; row = m.row }
 
 -- ---- orderlists
-
-channel_moved : (maps : Maps) (subtune : Subtune) (channel : ℕ) →
-    order_of channel (moved_subtune maps subtune) ≡ moved_order maps (order_of channel subtune)
-channel_moved maps subtune channel = by_first (channel == 1) refl
-  where
-    by_second : (b : _) → (channel == 2) ≡ b → (channel == 1) ≡ false →
-        order_of channel (moved_subtune maps subtune) ≡ moved_order maps (order_of channel subtune)
-    by_second true e f = rw (f, e) refl
-    by_second false e f = rw (f, e) refl
-
-    by_first : (b : _) → (channel == 1) ≡ b →
-        order_of channel (moved_subtune maps subtune) ≡ moved_order maps (order_of channel subtune)
-    by_first true e = rw e refl
-    by_first false e = by_second (channel == 2) refl e
 
 -- the orderlists of a playable subtune are played
 pub channel_played : (song : Song) (subtune : Subtune) (channel : ℕ) → Contains (playable_subtunes song) subtune →
@@ -107,12 +74,6 @@ order_from maps song other m order is =
     }
 
 -- ---- patterns
-
-low_byte : (maps : Maps) (byte : ℕ) → byte < 0xD0 → moved_byte maps byte ≡ maps.pattern byte
-low_byte maps byte low = let e = lt-ltb byte 0xD0 low in rw e refl
-
-high_byte : (maps : Maps) (byte : ℕ) → 0xD0 ≤ byte → moved_byte maps byte ≡ byte
-high_byte maps byte high = let e = le-ltb byte 0xD0 high in rw e refl
 
 pub pattern_from : (maps : Maps) (song other : Song) → IsMoved maps song other → (n : ℕ) → IsUsedPattern other n →
     StandsForOne maps.pattern (IsUsedPattern song) n
@@ -225,7 +186,7 @@ pub instrument_from : (maps : Maps) (song other : Song) → IsMoved maps song ot
 instrument_from maps song other m i (inl first) = record {
   old = 1;
   is_such = inl refl;
-  new = m.agrees.instruments.first ∙ sym first;
+  new = m.first ∙ sym first;
 }
 instrument_from maps song other m i (inr named) =
     let row = used_row_from maps song other m named.row named.used in
@@ -249,11 +210,6 @@ pointer_moved maps Pulse i other is = ap (λ (x : Instrument). x.pulse) is.moved
 pointer_moved maps Filter i other is = ap (λ (x : Instrument). x.filter) is.moved
 pointer_moved maps Speed i other is = ap (λ (x : Instrument). x.vibrato) is.moved
 
-pub old_some : (maps : Maps) (song other : Song) (name : TableName) → IsMoved maps song other → (p n : ℕ) →
-    maps.row name p ≡ n → n ≢ 0 → p ≢ 0
-old_some maps song other name m p n is some none = some
-    (sym is ∙ ap (maps.row name) none ∙ (m.agrees.rows name).nothing)
-
 named_command : (command : ℕ) (name : TableName) → command_table command ≡ Some name → command ≢ 0
 named_command command name is none = let e : command_table 0 ≡ Some name = subst
     (λ (c : ℕ). command_table c ≡ Some name) none is in cc
@@ -269,7 +225,7 @@ played_from maps song other m name p (of_instrument i used is some) =
     record {
       old = instrument_pointer name (instrument_at song from.old);
       is_such = of_instrument from.old from.is_such refl
-          (old_some maps song other name m (instrument_pointer name (instrument_at song from.old)) p new some);
+          (old_some maps song other name (under maps song other m) (instrument_pointer name (instrument_at song from.old)) p new some);
       new = new;
     }
 played_from maps song other m name p (of_row row used command is some) =
@@ -281,147 +237,11 @@ played_from maps song other m name p (of_row row used command is some) =
     ∙ sym (from.is_for.param (named_command from.from.command name table)) ∙ is in
     record {
       old = from.from.param;
-      is_such = of_row from.from from.used table refl (old_some maps song other name m from.from.param p new some);
+      is_such = of_row from.from from.used table refl (old_some maps song other name (under maps song other m) from.from.param p new some);
       new = new;
     }
 
 -- ---- reached rows
-
--- the row of the other song under a number that stands for a reached row
-pub row_under : (maps : Maps) (song other : Song) → IsMoved maps song other → (name : TableName) (q : ℕ)
-    (from : StandsForOne (maps.row name) (IsReached song name) q) →
-    table_row other name q ≡ moved_row maps name (table_row song name from.old)
-row_under maps song other m name q from =
-    ap (table_row other name) (sym from.new) ∙ (m.agrees.rows name).row from.old from.is_such
-
--- a pointer of the wave table is no jump
-wave_pointer_goes : (maps : Maps) (row : TableRow) (name : TableName) → wave_row_table row.left ≡ Some name →
-    (moved_row maps Wave row).right ≡ maps.row name row.right
-wave_pointer_goes maps row name is = elim (cases_Bool (row.left == 0xFF)) [
-  | inl jump ↦ (
-      let e : row.left ≡ 0xFF = eqb-true row.left 0xFF jump in
-      let f : wave_row_table 0xFF ≡ Some name = subst (λ (left : ℕ). wave_row_table left ≡ Some name) e is in
-      absurd cc)
-  | inr goes ↦ rw goes (ap (λ t. moved_pointer maps t row.right) is)
-]
-
-wave_pointer_from : (maps : Maps) (song other : Song) → IsMoved maps song other → (name : TableName) (r p : ℕ)
-    (from : StandsForOne (maps.row Wave) (IsReached song Wave) r) → IsWaveRowPointer other r name p →
-    StandsForOne (maps.row name) (IsWaveRowPointer song from.old name) p
-wave_pointer_from maps song other m name r p from pointer =
-    let here = row_under maps song other m Wave r from in
-    let row = table_row song Wave from.old in
-    let table : wave_row_table row.left ≡ Some name =
-    ap (λ (x : TableRow). wave_row_table x.left) (sym here) ∙ pointer.table in
-    let new : maps.row name row.right ≡ p =
-    sym (wave_pointer_goes maps row name table) ∙ ap (λ (x : TableRow). x.right) (sym here) ∙ pointer.right in
-    record {
-      old = row.right;
-      is_such = record {
-        table = table;
-        right = refl;
-        some = old_some maps song other name m row.right p new pointer.some;
-      };
-      new = new;
-    }
-
--- ---- where programs go on
-
--- new numbers leave the left side
-pub same_jump : (maps : Maps) (name : TableName) (row : TableRow) → is_jump name (moved_row maps name row) ≡ is_jump
-    name row
-same_jump maps Wave row = refl
-same_jump maps Pulse row = refl
-same_jump maps Filter row = refl
-same_jump maps Speed row = refl
-
-same_last : (maps : Maps) (name : TableName) (row : TableRow) → is_last name (moved_row maps name row) ≡ is_last name
-    row
-same_last maps Wave row = refl
-same_last maps Pulse row = refl
-same_last maps Filter row = refl
-same_last maps Speed row = refl
-
-some_same : {X : Type 0} {x y : X} → Some x ≡ Some y → x ≡ y
-some_same {X} {x} {y} e = ap (λ (o : Option X). unwrap_or o x) e
-
--- where a jump leads
-record JumpsTo (row : TableRow) (q : ℕ) : Type 0 where
-  some : row.right ≢ 0
-  is : row.right ≡ q
-
-jumps_to : (name : TableName) (row : TableRow) (p q : ℕ) → is_jump name row ≡ true → row_led_to name row p ≡ Some q →
-    JumpsTo row q
-jumps_to name row p q jump is = elim (cases_eq row.right 0) [
-  | inl none ↦ absurd
-      (let e : None ≡ Some q = sym (rw jump (let f = eq-eqb row.right 0 none in rw f refl)) ∙ is in cc)
-  | inr some ↦ record {
-    some = some;
-    is = let f = ne_eqb row.right 0 some in let e : Some row.right ≡ Some q = sym (rw jump (rw f refl))
-        ∙ is in some_same e;
-  }
-]
-
-jump_leads : (name : TableName) (row : TableRow) (p : ℕ) → is_jump name row ≡ true → row.right ≢ 0 →
-    row_led_to name row p ≡ Some row.right
-jump_leads name row p jump some = let f = ne_eqb row.right 0 some in rw jump (rw f refl)
-
--- where another row leads
-record StepsTo (name : TableName) (row : TableRow) (p q : ℕ) : Type 0 where
-  more : is_last name row ≡ false
-  is : p + 1 ≡ q
-
-steps_to : (name : TableName) (row : TableRow) (p q : ℕ) → is_jump name row ≡ false → row_led_to name row p ≡ Some q →
-    StepsTo name row p q
-steps_to name row p q no_jump is = elim (cases_Bool (is_last name row)) [
-  | inl last ↦ absurd (let e : None ≡ Some q = sym (rw no_jump (rw last refl)) ∙ is in cc)
-  | inr more ↦ record {
-    more = more;
-    is = let e : Some (p + 1) ≡ Some q = sym (rw no_jump (rw more refl)) ∙ is in some_same e;
-  }
-]
-
-step_leads : (name : TableName) (row : TableRow) (p : ℕ) → is_jump name row ≡ false → is_last name row ≡ false →
-    row_led_to name row p ≡ Some (p + 1)
-step_leads name row p no_jump more = rw no_jump (rw more refl)
-
-pub jump_right : (maps : Maps) (name : TableName) (row : TableRow) → is_jump name row ≡ true →
-    (moved_row maps name row).right ≡ maps.row name row.right
-jump_right maps name row jump = rw jump refl
-
--- a row that a program of the other song goes on to
-led_from : (maps : Maps) (song other : Song) → IsMoved maps song other → (name : TableName) (p q : ℕ) →
-    HasPrograms name → (from : StandsForOne (maps.row name) (IsReached song name) p) →
-    row_led_to name (table_row other name p) p ≡ Some q → StandsForOne (maps.row name) (IsReached song name) q
-led_from maps song other m name p q programs from is =
-    let row = table_row song name from.old in
-    let here = (whole_lem song m.playable).row name from.old programs from.is_such in
-    let goes = λ (n : ℕ) (e : row_led_to name row from.old ≡ Some n).
-    led from.old from.is_such (led_by song name from.old here.first here.last ∙ e) in
-    let there : row_led_to name (moved_row maps name row) p ≡ Some q =
-    ap (λ (x : TableRow). row_led_to name x p) (sym (row_under maps song other m name p from)) ∙ is in
-    elim (cases_Bool (is_jump name row)) [
-      | inl jump ↦ (
-          let to = jumps_to name (moved_row maps name row) p q (same_jump maps name row ∙ jump) there in
-          let new : maps.row name row.right ≡ q = sym (jump_right maps name row jump) ∙ to.is in
-          let some = old_some maps song other name m row.right q new (λ z. to.some (to.is ∙ z)) in
-          record { old = row.right; is_such = goes row.right (jump_leads name row from.old jump some); new = new })
-      | inr no_jump ↦ (
-          let to = steps_to name (moved_row maps name row) p q (same_jump maps name row ∙ no_jump) there in
-          let more : is_last name row ≡ false = sym (same_last maps name row) ∙ to.more in
-          record {
-            old = from.old + 1;
-            is_such = goes (from.old + 1) (step_leads name row from.old no_jump more);
-            new = (m.agrees.programs name programs).next from.old from.is_such no_jump more
-                ∙ ap (λ (n : ℕ). n + 1) from.new ∙ to.is;
-          })
-    ]
-
-leading_programs : (name : TableName) (rows : List TableRow) (p q : ℕ) → led_to name rows p ≡ Some q → HasPrograms name
-leading_programs Wave rows p q is = λ e. cc
-leading_programs Pulse rows p q is = λ e. cc
-leading_programs Filter rows p q is = λ e. cc
-leading_programs Speed rows p q is = absurd (no_speed_led rows p q is)
 
 pub reached_from : (maps : Maps) (song other : Song) → IsMoved maps song other → (name : TableName) (p : ℕ) →
     IsReached other name p → StandsForOne (maps.row name) (IsReached song name) p
@@ -430,14 +250,10 @@ reached_from maps song other m name p (played pointer) =
     record { old = from.old; is_such = played from.is_such; new = from.new }
 reached_from maps song other m name p (pointed r reached pointer) =
     let at = reached_from maps song other m Wave r reached in
-    let from = wave_pointer_from maps song other m name r p at pointer in
+    let from = wave_pointer_from maps song other (under maps song other m) name r p at pointer in
     record { old = from.old; is_such = pointed at.old at.is_such from.is_such; new = from.new }
 reached_from maps song other m name p (led r reached goes) =
-    let at = reached_from maps song other m name r reached in
-    let there : IsNumbered (table_of other name) r =
-    subst (IsNumbered (table_of other name)) at.new (m.row name at.old at.is_such) in
-    led_from maps song other m name r p (leading_programs name (table_of other name) r p goes) at
-    (sym (led_by other name r there.first there.last) ∙ goes)
+    led_from maps song other (under maps song other m) name r p (reached_from maps song other m name r reached) goes
 
 pub pointer_from : (maps : Maps) (song other : Song) → IsMoved maps song other → (name : TableName) (p : ℕ) →
     IsPointer other name p → StandsForOne (maps.row name) (IsPointer song name) p
@@ -446,5 +262,5 @@ pointer_from maps song other m name p (of_played pointer) =
     record { old = from.old; is_such = of_played from.is_such; new = from.new }
 pointer_from maps song other m name p (of_wave_row r reached pointer) =
     let at = reached_from maps song other m Wave r reached in
-    let from = wave_pointer_from maps song other m name r p at pointer in
+    let from = wave_pointer_from maps song other (under maps song other m) name r p at pointer in
     record { old = from.old; is_such = of_wave_row at.old at.is_such from.is_such; new = from.new }
