@@ -213,9 +213,11 @@ one_job ws (asked.Pack i o f a z x) (asked.Pack i2 o2 f2 a2 z2 x2) p q =
     same_options x x2 (cc (p.words_are, q.words_are, v.form, w.form)) v.options_spelled w.options_spelled in
     cc (p.words_are, q.words_are, v.form, w.form)
 one_job ws (asked.Pack i o f a z x) other p q = absurd (differ ws (asked.Pack i o f a z x) other p q refl refl)
-one_job ws (asked.Copy i o) (asked.Copy i2 o2) p q = cc (p.words_are, q.words_are, p.are_arguments.0, q.are_arguments.0)
+one_job ws (asked.Copy i o) (asked.Copy i2 o2) p q =
+    cc (p.words_are, q.words_are, p.are_arguments.form, q.are_arguments.form)
 one_job ws (asked.Copy i o) other p q = absurd (differ ws (asked.Copy i o) other p q refl refl)
-one_job ws (asked.Edit i s o) (asked.Edit i2 s2 o2) p q = cc (p.words_are, q.words_are, p.are_arguments.0, q.are_arguments.0)
+one_job ws (asked.Edit i s o) (asked.Edit i2 s2 o2) p q =
+    cc (p.words_are, q.words_are, p.are_arguments.form, q.are_arguments.form)
 one_job ws (asked.Edit i s o) other p q = absurd (differ ws (asked.Edit i s o) other p q refl refl)
 one_job ws (asked.Check i) (asked.Check i2) p q = cc (p.words_are, q.words_are, p.are_arguments.0, q.are_arguments.0)
 one_job ws (asked.Check i) other p q = absurd (differ ws (asked.Check i) other p q refl refl)
@@ -246,3 +248,12 @@ one_job ws (asked.Selftest n) (asked.Selftest n2) p q =
     same_number (omega arith) (cc (p.words_are, q.words_are, v.form, w.form)) v.number_spelled w.number_spelled in
     cc (number)
 one_job ws (asked.Selftest n) other p q = absurd (differ ws (asked.Selftest n) other p q refl refl)
+one_job ws (asked.Disasm i o) (asked.Disasm i2 o2) p q =
+    cc (p.words_are, q.words_are, p.are_arguments.form, q.are_arguments.form)
+one_job ws (asked.Disasm i o) other p q = absurd (differ ws (asked.Disasm i o) other p q refl refl)
+one_job ws (asked.Asm i o) (asked.Asm i2 o2) p q =
+    cc (p.words_are, q.words_are, p.are_arguments.form, q.are_arguments.form)
+one_job ws (asked.Asm i o) other p q = absurd (differ ws (asked.Asm i o) other p q refl refl)
+one_job ws (asked.Join i s o) (asked.Join i2 s2 o2) p q =
+    cc (p.words_are, q.words_are, p.are_arguments.form, q.are_arguments.form)
+one_job ws (asked.Join i s o) other p q = absurd (differ ws (asked.Join i s o) other p q refl refl)

@@ -8,20 +8,31 @@ pub record Form : Type 1 where
   pub command : List ℕ
   pub has_arguments : List (List ℕ) → Type 0
 
+-- the arguments are `IN OUT`
+pub record AreTwoNames (words : List (List ℕ)) (input output : List ℕ) : Type 0 where
+  pub form : words ≡ input ∷ output ∷ []
+  pub in_named : input ≢ []
+  pub out_named : output ≢ []
+
+-- the arguments are `IN SCRIPT OUT`, or `IN SECOND OUT`
+pub record AreThreeNames (words : List (List ℕ)) (input other output : List ℕ) : Type 0 where
+  pub form : words ≡ input ∷ other ∷ output ∷ []
+  pub in_named : input ≢ []
+  pub other_named : other ≢ []
+  pub out_named : output ≢ []
+
 abbrev pub form_of : Job → Form
 form_of (asked.Pack input output psid address zero_page options) = record {
   command = codes "pack";
   has_arguments = λ words. ArePackArguments words input output psid address zero_page options;
 }
--- the arguments are `IN OUT`
 form_of (asked.Copy input output) = record {
   command = codes "copy";
-  has_arguments = λ words. (words ≡ input ∷ output ∷ []) × (input ≢ []) × (output ≢ []);
+  has_arguments = λ words. AreTwoNames words input output;
 }
--- the arguments are `IN SCRIPT OUT`
 form_of (asked.Edit input script output) = record {
   command = codes "edit";
-  has_arguments = λ words. (words ≡ input ∷ script ∷ output ∷ []) × (input ≢ []) × (script ≢ []) × (output ≢ []);
+  has_arguments = λ words. AreThreeNames words input script output;
 }
 -- the argument is `IN`
 form_of (asked.Check input) = record {
@@ -39,6 +50,18 @@ form_of (asked.Run input subtune frames) = record {
 form_of (asked.Selftest number) = record {
   command = codes "selftest";
   has_arguments = λ words. AreSelftestArguments words number;
+}
+form_of (asked.Disasm input output) = record {
+  command = codes "disasm";
+  has_arguments = λ words. AreTwoNames words input output;
+}
+form_of (asked.Asm input output) = record {
+  command = codes "asm";
+  has_arguments = λ words. AreTwoNames words input output;
+}
+form_of (asked.Join input second output) = record {
+  command = codes "join";
+  has_arguments = λ words. AreThreeNames words input second output;
 }
 
 abbrev pub command_of : Job → List ℕ

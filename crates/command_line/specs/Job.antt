@@ -12,3 +12,6 @@ job_of (code.Check input) = asked.Check input.now
 job_of (code.Trace input subtune frames options) = asked.Trace input.now subtune frames options
 job_of (code.Run input subtune frames) = asked.Run input.now subtune frames
 job_of (code.Selftest number) = asked.Selftest number
+job_of (code.Disasm input output) = asked.Disasm input.now output.now
+job_of (code.Asm input output) = asked.Asm input.now output.now
+job_of (code.Join input second output) = asked.Join input.now second.now output.now

@@ -23,6 +23,8 @@ number_of status.NoSubtune = 11
 number_of status.NotAPsid = 12
 number_of status.Stopped = 13
 number_of status.NoMemory = 14
+number_of status.BadListing = 17
+number_of status.CannotJoin = 18
 
 -- the bytes of a piece
 abbrev pub piece_text : Piece → List ℕ

@@ -45,7 +45,8 @@ subtune_limit = 255
 -- what the program is asked to do: pack the song in one file into another, a PSID file or a raw one; copy it into
 -- another file; edit it by a script, into another file; tell what a song uses; trace a song, or run a PSID file: a
 -- subtune, counted from 1, and a number of frames. Of a song that is packed or traced, how it is played. Or to make a song
--- from a number, and to pack, trace and run it
+-- from a number, and to pack, trace and run it. Or to write a listing of a PSID file's image into another file, or the
+-- bytes of a listing. Or to write the songs in two files into another, as one song
 pub data Job : Type 0 where
   Pack : (input output : List ℕ) (psid : Bool) (address zero_page : ℕ) (options : Options) → Job
   Copy : (input output : List ℕ) → Job
@@ -54,6 +55,9 @@ pub data Job : Type 0 where
   Trace : (input : List ℕ) (subtune frames : ℕ) (options : Options) → Job
   Run : (input : List ℕ) (subtune frames : ℕ) → Job
   Selftest : (number : ℕ) → Job
+  Disasm : (input output : List ℕ) → Job
+  Asm : (input output : List ℕ) → Job
+  Join : (input second output : List ℕ) → Job
 
 -- the word for what is left out of a frame: the effect step, the pulse step
 abbrev pub skip_word : Bool → Bool → List ℕ

@@ -1,9 +1,10 @@
 //! What single words of the command line spell.
 
 ghost use Rattle.std.specs.Prelude.{◌≡◌, ℕ, Bool, MatchResult};
-ghost use Rattle.std.specs.Prelude.{[], ◌∷◌};
+ghost use Rattle.std.specs.Prelude.{List, [], ◌∷◌};
 ghost use Rattle.play_model.specs.declared.options.Options.{Options as Chosen};
-ghost use Rattle.command_line.specs.Words.{format_word, IsAddressWord, IsZeroPageWord, IsNumberWord, skip_word, AreOptionWords};
+ghost use Rattle.command_line.specs.Forms.{AreTwoNames, AreThreeNames};
+ghost use Rattle.command_line.specs.Words.{texts, format_word, IsAddressWord, IsZeroPageWord, IsNumberWord, skip_word, AreOptionWords};
 
 use crate::words::WordsFault;
 use play_model::{HIGHEST_SPEED, Options};
@@ -13,6 +14,44 @@ pub const SUBTUNE_LIMIT: u64 = 255;
 
 /// The most frames that may be asked for.
 pub const FRAME_LIMIT: u64 = 100_000;
+
+/// The names of a file that is read and of a file that is written.
+///
+/// # Errors
+///
+/// The words aren't two, or one of them is empty.
+pub fn two_names(arguments: &[String]) -> Result<(&str, &str), WordsFault>
+    ensures { MatchResult result
+        (λ names. AreTwoNames (texts arguments.now) names.0.now names.1.now)
+        (λ _. (input output : List ℕ) → ¬ AreTwoNames (texts arguments.now) input output) }
+{
+    let [input, output] = arguments else {
+        return Err(WordsFault);
+    };
+    if input.is_empty() || output.is_empty() {
+        return Err(WordsFault);
+    }
+    Ok((input.as_str(), output.as_str()))
+}
+
+/// The names of two files that are read and of a file that is written.
+///
+/// # Errors
+///
+/// The words aren't three, or one of them is empty.
+pub fn three_names(arguments: &[String]) -> Result<(&str, &str, &str), WordsFault>
+    ensures { MatchResult result
+        (λ names. AreThreeNames (texts arguments.now) names.0.now names.1.now names.2.now)
+        (λ _. (input other output : List ℕ) → ¬ AreThreeNames (texts arguments.now) input other output) }
+{
+    let [input, other, output] = arguments else {
+        return Err(WordsFault);
+    };
+    if input.is_empty() || other.is_empty() || output.is_empty() {
+        return Err(WordsFault);
+    }
+    Ok((input.as_str(), other.as_str(), output.as_str()))
+}
 
 /// Whether a word for the format of a packed file says PSID.
 ///

@@ -1,11 +1,17 @@
 //! The words of each command, and the job that they name.
 
+/// `asm IN OUT`.
+pub mod asm;
 /// `check IN`.
 pub mod check;
 /// `copy IN OUT`.
 pub mod copy;
+/// `disasm IN OUT`.
+pub mod disasm;
 /// `edit IN SCRIPT OUT`.
 pub mod edit;
+/// `join IN SECOND OUT`.
+pub mod join;
 /// `pack IN OUT psid|raw ADDRESS ZP`, or with `SKIP SPEED` behind it.
 pub mod pack;
 /// `run IN SUBTUNE FRAMES`.

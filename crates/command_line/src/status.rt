@@ -36,6 +36,10 @@ pub enum Status {
     Stopped = 13,
     /// Out of memory.
     NoMemory = 14,
+    /// The listing can't be assembled.
+    BadListing = 17,
+    /// The two songs can't be joined.
+    CannotJoin = 18,
 }
 
 impl Status {

@@ -9,7 +9,7 @@ use crate::commands;
 use play_model::Options;
 
 /// The line of words that are of no form: the command, and a word for each form.
-pub const USAGE: &str = "usage: goat check|trace|pack|run|edit|copy|selftest";
+pub const USAGE: &str = "usage: goat check|trace|pack|run|edit|copy|selftest|disasm|asm|join";
 
 /// What the program is asked to do.
 #[derive(Clone, Copy, Debug)]
@@ -67,6 +67,22 @@ pub enum Job<'a> {
     Selftest {
         number: u64,
     },
+    /// `disasm IN OUT`: write a listing of the image in the PSID file IN into the file OUT.
+    Disasm {
+        input: &'a str,
+        output: &'a str,
+    },
+    /// `asm IN OUT`: assemble the listing in the file IN, and write its bytes with their address into the file OUT.
+    Asm {
+        input: &'a str,
+        output: &'a str,
+    },
+    /// `join IN SECOND OUT`: write the songs in the files IN and SECOND into the file OUT, as one song.
+    Join {
+        input: &'a str,
+        second: &'a str,
+        output: &'a str,
+    },
 }
 
 /// No form of the command line has the words.
@@ -94,6 +110,9 @@ pub fn parse_words(words: &[String]) -> Result<Job<'_>, WordsFault>
         "trace" => commands::trace::trace_job(arguments),
         "run" => commands::run::run_job(arguments),
         "selftest" => commands::selftest::selftest_job(arguments),
+        "disasm" => commands::disasm::disasm_job(arguments),
+        "asm" => commands::asm::asm_job(arguments),
+        "join" => commands::join::join_job(arguments),
         _ => Err(WordsFault),
     }
 }

@@ -61,5 +61,12 @@ pub fn perform<'a, F: Folder, K: Sink>(
             frames,
         } => jobs::run::run_psid(alloc, input, subtune, frames, folder, line, out),
         Job::Selftest { number } => self_test(alloc, number),
+        Job::Disasm { input, output } => jobs::disasm::list_psid(alloc, input, output, folder),
+        Job::Asm { input, output } => jobs::asm::assemble_listing(alloc, input, output, folder),
+        Job::Join {
+            input,
+            second,
+            output,
+        } => jobs::join::join_songs(alloc, input, second, output, folder),
     }
 }

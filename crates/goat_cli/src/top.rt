@@ -1,6 +1,6 @@
 //! The top call: words, files and the sink.
 
-ghost use Rattle.std.specs.Prelude.{◌≡◌, ℕ, ◌+◌, ◌-◌, List, [], ◌∷◌, Option, IfSome};
+ghost use Rattle.std.specs.Prelude.{◌≡◌, ℕ, ◌+◌, ◌-◌, List, [], ◌∷◌, Option, Some, IfSome};
 ghost use Rattle.goat_io.specs.Written.{told_with_piece};
 ghost use Rattle.song_model.specs.declared.songs.Song.{Song};
 ghost use Rattle.command_line.specs.Words.{texts, Selftest};
@@ -8,7 +8,9 @@ ghost use Rattle.command_line.specs.Forms.{IsNoForm, WordsOf};
 ghost use Rattle.command_line.specs.RegisterText.{register_text};
 ghost use Rattle.jobs.specs.Due.{IsDue, IsOneOf, instead};
 ghost use Rattle.jobs.specs.Stands.{folder_state, sink_state, RunStands, Counted};
-ghost use Rattle.jobs.specs.Answers.{HoldsDone, IsOrdinary, IsPrinted, IsBeforeWriting, ComesAbout, ComesWhere, SinkCounted, RunsPacked};
+ghost use Rattle.jobs.specs.Answers.{HoldsDone, IsOrdinary, IsPrinted, IsBeforeWriting, ComesAbout, ComesWhere, SinkCounted, RunsPacked, AssemblesListing, AsksToJoin, HoldsJoined};
+ghost use Rattle.jobs.specs.Outcome.{files_after};
+ghost use Rattle.jobs.specs.Packed.{raw_file};
 ghost use Rattle.jobs.specs.Traces.{first_traces};
 ghost use Rattle.play_model.specs.declared.options.Options.{Options};
 ghost use Rattle.command_line.specs.Last.{last_word};
@@ -44,6 +46,17 @@ pub fn goat<F: Folder, K: Sink>(alloc: Global, words: &[String], folder: &mut F,
         IsOneOf (0 ∷ 4 ∷ 10 ∷ 14 ∷ []) result × (result ≡ 0 →
         K.written out.new ≡ told_with_piece (K.written out.old)
         (register_text (first_traces options song (subtune - 1) (frames + 1))))) }
+
+    // The listing of an image is assembled to that image again, behind its address.
+    ensures listed { IfSome (F.files folder.old) (λ files. (origin : ℕ) (image output : List ℕ) →
+        AssemblesListing (texts words.now) files origin image output →
+        IsOneOf (0 ∷ 4 ∷ 9 ∷ 10 ∷ 14 ∷ []) result × (result ≡ 0 → F.files folder.new ≡
+        Some (files_after files (Some (output, raw_file origin image))))) }
+
+    // A joined song can be played, and plays what both songs play, with any options.
+    ensures joined { IfSome (F.files folder.old) (λ files. (first second : Song) (output : List ℕ) →
+        AsksToJoin (texts words.now) files first second output → result ≡ 0 →
+        HoldsJoined files first second output (F.files folder.new)) }
 
     // A self test asks for nothing but memory and the sink.
     ensures selftest { (number : ℕ) → WordsOf (texts words.now) (Selftest number) →

@@ -4,25 +4,27 @@ use Rattle.std.specs.List.{concat}
 use Rattle.goat_io.specs.Files.{Files}
 use Rattle.goat_io.specs.Written.{told_with_piece}
 use Rattle.song_model.specs.declared.songs.Song.{Song}
-use Rattle.base.proofs.Laws.{nil_is_no_append}
-use Rattle.command_line.specs.Words.{Job, Run, Selftest}
+use Rattle.command_line.specs.Words.{Run, Selftest}
 use Rattle.command_line.specs.RegisterText.{register_text}
-use Rattle.jobs.specs.Stages.{IsThere, FirstEnds}
 use Rattle.command_line.specs.Forms.{WordsOf, IsNoForm}
-use Rattle.jobs.specs.Jobs.{about, stages, Done}
+use Rattle.jobs.specs.Jobs.{about, stages}
 use Rattle.jobs.specs.Outcome as outcome
-use Rattle.jobs.specs.Outcome.{Outcome, told_after}
+use Rattle.jobs.specs.Outcome.{Outcome, files_after, told_after}
 use Rattle.jobs.specs.Due as due
 use Rattle.jobs.specs.Due.{IsDue, IsOneOf, instead}
 use Rattle.jobs.specs.Stands as stands
 use Rattle.jobs.specs.Stands.{FolderState, SinkState, AreFiles, Counted, Appends, Account, TellsWant, Stands, RunStands}
-use Rattle.jobs.specs.Answers.{IsOrdinary, IsPrinted, IsBeforeWriting, HoldsDone, ComesAbout, ComesWhere, SinkCounted, RunsPacked}
+use Rattle.jobs.specs.Answers.{IsOrdinary, IsPrinted, IsBeforeWriting, HoldsDone, ComesAbout, ComesWhere, SinkCounted, RunsPacked, AssemblesListing, AsksToJoin, HoldsJoined}
+use Rattle.jobs.specs.Packed.{raw_file}
 use Rattle.jobs.specs.Traces.{first_traces}
 use Rattle.play_model.specs.declared.options.Options.{Options}
 use Rattle.command_line.proofs.Laws.{one_job}
 use Rattle.jobs.proofs.Told.{as_before}
 use Rattle.jobs.proofs.Due.{is_no_stage, ends_with_stage, done_under, outcome_due, one_due, one_text}
+use Rattle.jobs.proofs.Joining.{songs_join}
+use Rattle.jobs.proofs.Listed.{listing_is_due, writes_image}
 use Rattle.jobs.proofs.PlayedFiles.{packed_file_plays, packed_file_is_due}
+use Rattle.jobs.proofs.SelfTested.{tested}
 
 run_is_no_selftest : {input : List ℕ} {subtune frames number : ℕ} → Run input subtune frames ≡ Selftest number → ⊥
 run_is_no_selftest e = absurd (cc (e))
@@ -183,6 +185,17 @@ module _ {words : List (List ℕ)} {files : Files} where
           always = λ none. absurd (writes_of_form (written_under o) none);
         }
 
+-- the status of what was done is ordinary
+zero_is_ordinary : {answer : ℕ} → answer ≡ 0 → IsOrdinary answer
+zero_is_ordinary {answer} zero =
+    let other : (n : ℕ) → 0 ≢ n → answer ≢ n = λ n differ same. differ (sym zero ∙ same) in
+    record {
+      no_read_fault = other 4 (λ e. omega arith);
+      no_write_fault = other 9 (λ e. omega arith);
+      no_sink_fault = other 10 (λ e. omega arith);
+      no_want = other 14 (λ e. omega arith);
+    }
+
 -- ---- what stands
 
 -- all lines were printed
@@ -259,6 +272,32 @@ module _ {words : List (List ℕ)} {files : Files} {answer : ℕ} {folder after 
     | inr cut ↦ absurd (not_cut early.no_sink_fault early.no_want cut)
   ]
 
+  -- the listing of an image is assembled to the image
+  assembles_listing : folder.told ≡ Some files → Stands words files answer folder after s t →
+      (origin : ℕ) (image output : List ℕ) → AssemblesListing words files origin image output →
+      IsOneOf (0 ∷ 4 ∷ 9 ∷ 10 ∷ 14 ∷ []) answer ×
+      (answer ≡ 0 → after.told ≡ Some (files_after files (Some (output, raw_file origin image))))
+  assembles_listing known is origin image output asked = (
+    comes_due is 0 (Some output) (listing_is_due words files origin image output asked),
+    (λ zero.
+        let came = outcome_is known is (zero_is_ordinary zero) in
+        let mine = subst (λ n. Outcome words files n came.lines came.write) zero came.outcome in
+        came.files_are ∙ ap (λ w. Some (files_after files w)) (writes_image words files origin image output asked mine)),
+  )
+
+  -- two songs are joined
+  joins_songs : folder.told ≡ Some files → Stands words files answer folder after s t → (first second : Song)
+      (output : List ℕ) → AsksToJoin words files first second output → answer ≡ 0 →
+      HoldsJoined files first second output after.told
+  joins_songs known is first second output asked zero =
+      let came = outcome_is known is (zero_is_ordinary zero) in
+      let mine = subst (λ n. Outcome words files n came.lines came.write) zero came.outcome in
+      let joins = songs_join words files first second output asked mine in
+      record {
+        files_are = came.files_are ∙ ap (λ w. Some (files_after files w)) joins.write_is;
+        whole = joins.whole;
+      }
+
   -- a packed file is run to its end, and prints its song's trace
   run_of_packed : folder.told ≡ Some files → Stands words files answer folder after s t →
       (song : Song) (o : Options) (subtune frames : ℕ) →
@@ -268,14 +307,7 @@ module _ {words : List (List ℕ)} {files : Files} {answer : ℕ} {folder after 
   run_of_packed known is song o subtune frames runs = (
     comes_due is 0 None (packed_file_is_due words files song o subtune frames runs),
     (λ zero.
-        let other : (n : ℕ) → 0 ≢ n → answer ≢ n = λ n differ same. differ (sym zero ∙ same) in
-        let ordinary : IsOrdinary answer = record {
-          no_read_fault = other 4 (λ e. omega arith);
-          no_write_fault = other 9 (λ e. omega arith);
-          no_sink_fault = other 10 (λ e. omega arith);
-          no_want = other 14 (λ e. omega arith);
-        } in
-        let came = outcome_is known is ordinary in
+        let came = outcome_is known is (zero_is_ordinary zero) in
         let mine = subst (λ n. Outcome words files n came.lines came.write) zero came.outcome in
         let write = writes_nothing came.write mine (packed_file_is_due words files song o subtune frames runs) in
         let same =
@@ -283,56 +315,6 @@ module _ {words : List (List ℕ)} {files : Files} {answer : ℕ} {folder after 
         (packed_file_plays words files song o subtune frames runs) in
         came.appended ∙ ap (λ lines. told_with_piece s.told (concat lines)) same),
   )
-
--- ---- a self test
-
-module _ {words : List (List ℕ)} {number : ℕ} (form : WordsOf words (Selftest number)) where
-  no_stage : (job : Job) → WordsOf words job → stages job ≡ []
-  no_stage job other = ap stages (one_job words job (Selftest number) other form)
-
-  no_end : (files : Files) (job : Job) (status : ℕ) (lines : List (List ℕ)) → WordsOf words job →
-      FirstEnds files (stages job) status lines → ⊥
-  no_end files job status lines other first =
-      subst (λ list. FirstEnds files list status lines) (no_stage job other) first
-
-  nothing_written : (files : Files) (job : Job) (lines : List (List ℕ)) (output file : List ℕ) → WordsOf words job →
-      Done job files lines (Some (output, file)) → ⊥
-  nothing_written files job lines output file other did =
-      let mine : Done (Selftest number) files lines (Some (output, file)) =
-      subst (λ j. Done j files lines (Some (output, file))) (one_job words job (Selftest number) other form) did in
-      let none = mine.1 in
-      absurd (cc (none))
-
-  no_write : (files : Files) (text : List (List ℕ)) (output file : List ℕ) →
-      Outcome words files 0 text (Some (output, file)) → ⊥
-  no_write files text output file (outcome.usage none s l w) = none (Selftest number) form
-  no_write files text output file (outcome.ended job other first w) = no_end files job 0 text other first
-  no_write files text output file (outcome.done job other pass did s) =
-      nothing_written files job text output file other did
-
-  account_of : {files : Files} {status : ℕ} {lines : List (List ℕ)} {before after : Option Files} →
-      Account words files status lines before after → status ≡ 0
-  account_of (stands.outcome write (outcome.usage none s l w) told) = absurd (none (Selftest number) form)
-  account_of {files} {status} {lines} (stands.outcome write (outcome.ended job other first w) told) =
-      absurd (no_end files job status lines other first)
-  account_of (stands.outcome write (outcome.done job other pass did s) told) = s
-  account_of (stands.read_fault name comes s l told) =
-      absurd (nil_is_no_append comes.earlier (IsThere name) comes.later
-      (sym (no_stage comes.job comes.form) ∙ comes.stages_are))
-  account_of {files} (stands.write_fault text output file out s l told) = absurd (no_write files text output file out)
-
-  of_want : {bytes : List ℕ} {answer : ℕ} {s t : SinkState} → TellsWant bytes answer s t →
-      IsOneOf (0 ∷ 10 ∷ 14 ∷ []) answer
-  of_want (stands.told is appends) = inr (inr (inl is))
-  of_want (stands.failed kept is fails) = inr (inl is)
-  of_want (stands.untold is appends) = inr (inr (inl is))
-
-  tested : {files : Files} {answer : ℕ} {folder after : FolderState} {s t : SinkState} →
-      Stands words files answer folder after s t → IsOneOf (0 ∷ 10 ∷ 14 ∷ []) answer
-  tested (stands.whole lines account counted appends) = inl (account_of account)
-  tested (stands.cut_in_line earlier later line kept printing ten fails) = inr (inl ten)
-  tested (stands.wanting earlier later line printing tells) = of_want tells
-  tested (stands.wanting_first stays tells) = of_want tells
 
 -- ---- the same of a folder that may tell its files or not
 
@@ -378,6 +360,17 @@ module _ {words : List (List ℕ)} {answer : ℕ} {folder after : FolderState} {
       (answer ≡ 0 →
       t.told ≡ told_with_piece s.told (register_text (first_traces o song (subtune - 1) (frames + 1)))))
   packed_plays = told_case _ (λ files known is. run_of_packed known is)
+
+  pub listing_goes_back : IfSome folder.told
+      (λ files. (origin : ℕ) (image output : List ℕ) → AssemblesListing words files origin image output →
+      IsOneOf (0 ∷ 4 ∷ 9 ∷ 10 ∷ 14 ∷ []) answer ×
+      (answer ≡ 0 → after.told ≡ Some (files_after files (Some (output, raw_file origin image)))))
+  listing_goes_back = told_case _ (λ files known is. assembles_listing known is)
+
+  pub joined_plays : IfSome folder.told
+      (λ files. (first second : Song) (output : List ℕ) → AsksToJoin words files first second output → answer ≡ 0 →
+      HoldsJoined files first second output after.told)
+  joined_plays = told_case _ (λ files known is. joins_songs known is)
 
   pub selftest_comes : (number : ℕ) → WordsOf words (Selftest number) → IsOneOf (0 ∷ 10 ∷ 14 ∷ []) answer
   selftest_comes number form = tested form run.stands

@@ -8,11 +8,16 @@ use Rattle.psid.specs.Reading.{psid_read}
 use Rattle.sid_run.specs.State.{loaded}
 use Rattle.command_line.specs.Words.{Job, Run}
 use Rattle.cpu6502.specs.declared.machine.Machine.{Machine}
+use Rattle.asm6502.specs.declared.assembled.Assembled.{Assembled}
+use Rattle.asm6502.specs.Assembly.{assembled_bytes}
+use Rattle.asm_text.specs.Lines.{IsListing}
+use Rattle.asm_text.specs.Laying.{listing_at}
+use Rattle.asm_text.specs.Faults.{fault_in, Reads}
 use Rattle.jobs.specs.Calls.{FirstCalls, StopsIn}
 use Rattle.command_line.specs.RegisterText.{register_lines}
 use Rattle.jobs.specs.Lines.{stop_line, wrote_line}
 use Rattle.command_line.specs.Last.{Last, Says}
-use Rattle.jobs.specs.Stages.{Stage, IsThere, Fits, SpellsSong, CallsReturn, HoldsSong, HoldsPsid, status_of, IsMet, Passes, AllPass, FirstEnds, input_limit}
+use Rattle.jobs.specs.Stages.{Stage, IsThere, Fits, SpellsSong, CallsReturn, HoldsSong, HoldsPsid, HoldsListing, status_of, IsMet, Passes, AllPass, FirstEnds, input_limit}
 use Rattle.command_line.specs.Forms.{WordsOf}
 use Rattle.jobs.specs.Jobs.{stages, Shows, Done}
 use Rattle.jobs.specs.Outcome as outcome
@@ -153,6 +158,21 @@ song_held read = record { bytes = read.bytes; found = read.was.found; spells = r
 pub psid_held : {name bytes : List ℕ} {limit : ℕ} {folder after : FolderState} {psid : Psid} →
     (was : WasRead name limit folder after bytes) → psid_read bytes ≡ Ok psid → HoldsPsid was.files name psid
 psid_held {bytes = bytes} was reads = record { bytes = bytes; found = was.found; reads = reads }
+
+pub listing_held : {name text : List ℕ} {limit : ℕ} {folder after : FolderState} {assembled : Assembled} →
+    (was : WasRead name limit folder after text) → Reads text assembled →
+    HoldsListing was.files name assembled.origin assembled.bytes
+listing_held {text = text} {assembled = assembled} was reads =
+    let origin = sym reads.given.origin_is in
+    record {
+      text = text;
+      found = was.found;
+      script = reads.script;
+      listing = subst (λ o. IsListing text o reads.script) origin reads.listing;
+      sound = subst (λ o. fault_in o reads.script ≡ None) origin reads.sound;
+      image_is =
+          subst (λ o. assembled.bytes ≡ assembled_bytes 0 o (listing_at o reads.script)) origin reads.given.bytes_are;
+    }
 
 module _ {job : Job} {folder after : FolderState} {name : List ℕ} {rest : List Stage} where
   -- a job that begins with a song has read it

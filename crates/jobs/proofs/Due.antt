@@ -45,7 +45,7 @@ ends_with_stage files [] status lines never = absurd never
 ends_with_stage files (stage ∷ rest) status lines (inl here) = rw here.0 (stage_status stage)
 ends_with_stage files (stage ∷ rest) status lines (inr later) = ends_with_stage files rest status lines later.1
 
-not_zero : (files : Files) (list : List Stage) (lines : List (List ℕ)) → FirstEnds files list 0 lines → ⊥
+pub not_zero : (files : Files) (list : List Stage) (lines : List (List ℕ)) → FirstEnds files list 0 lines → ⊥
 not_zero files list lines first =
     let never : true ≡ false = ends_with_stage files list 0 lines first in absurd (cc (never))
 

@@ -66,7 +66,8 @@ module _ {input script : List ℕ} (output : List ℕ) {text : List ℕ} {folder
   pub edit_begun :
       BothBegun (Edit input script output) folder after (CanBeEdited input script ∷ []) input script song text
   edit_begun =
-      let within : input_limit ≤ script_limit = omega arith in both_begun refl both within
+      let within : input_limit ≤ script_limit = omega arith in both_begun (Edit input script output) input script script_limit [] (CanBeEdited input script ∷ []) refl
+      (λ files held. tt) both within
 
   -- it fails
   pub edit_fails : {last : Last} (sink : SinkState) → EditFails text song last →

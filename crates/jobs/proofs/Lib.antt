@@ -8,6 +8,8 @@ mod Chains
 mod Due
 mod Edited
 mod Ends
+mod Joining
+mod Listed
 mod Measured
 mod MetPremises
 mod OneFeatures
@@ -17,6 +19,7 @@ mod Printed
 mod Reading
 mod Room
 mod SecondFile
+mod SelfTested
 mod SmallSongs
 mod Told
 mod Traced

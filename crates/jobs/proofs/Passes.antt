@@ -13,8 +13,8 @@ use Rattle.psid.specs.Reading.{psid_read}
 use Rattle.sid_run.specs.State.{loaded}
 use Rattle.jobs.specs.Calls.{HasSubtune, FirstCalls, MeetsStopAt, StopsIn}
 use Rattle.command_line.specs.RegisterText.{register_lines}
-use Rattle.jobs.specs.Lines.{song_fault_line, unplayable_line, too_large_line, image_too_large_line, psid_fault_line, no_subtune_line, script_line, stop_line}
-use Rattle.jobs.specs.Stages.{Stage, IsThere, Fits, SpellsSong, CanBePlayed, HasShortPatterns, HasRoomForImage, HasPlayableSubtune, CanBeEdited, IsPsid, OffersSubtune, CallsReturn, HoldsSong, HoldsPsid, IsMet, Ends, Passes}
+use Rattle.jobs.specs.Lines.{song_fault_line, unplayable_line, too_large_line, image_too_large_line, psid_fault_line, no_subtune_line, script_line, stop_line, listing_line, join_line}
+use Rattle.jobs.specs.Stages.{Stage, IsThere, Fits, SpellsSong, CanBePlayed, HasShortPatterns, HasRoomForImage, HasPlayableSubtune, CanBeEdited, IsPsid, OffersSubtune, CallsReturn, CanBeAssembled, GoTogether, HoldsSong, HoldsPsid, IsMet, Ends, Passes}
 use Rattle.play_model.specs.declared.options.Options.{Options}
 use Rattle.play_model.specs.Playable.{IsPlayable, IsRefusedFor}
 use Rattle.play_model.proofs.Laws.{refused_or_playable_lem}
@@ -28,6 +28,11 @@ use Rattle.code_lengths.specs.Lengths.{code_length}
 use Rattle.jobs.specs.Packed.{IsImageLength}
 use Rattle.jobs.specs.Laws.{PlayableSongsPass}
 use Rattle.gts5.proofs.Laws.{spells_once, spells_has_no_fault}
+use Rattle.song_join.specs.Refusals.{CanBeJoined, IsRefusedFor as IsNotJoined}
+use Rattle.song_join.proofs.Laws.{none_refused, one_reason as one_join_reason}
+use Rattle.asm_text.specs.Lines.{IsListing}
+use Rattle.asm_text.specs.Faults.{IsFaultOf}
+use Rattle.asm_text.proofs.Laws.{sound_listings_have_no_fault, texts_read_in_one_way}
 use Rattle.jobs.proofs.Calls.{returned_or_stopped, one_list, one_stop_at, one_reason}
 use Rattle.jobs.proofs.OneFeatures.{one_features}
 
@@ -223,6 +228,29 @@ module _ (files : Files) where
     once =
         λ lines others p q. p.3 ∙ one_stop subtune frames p.0 q.0 (one_psid_held files name p.0 q.0 p.1 q.1) p.2 q.2
         ∙ sym q.3;
+  }
+  stage_facts (CanBeAssembled name) = record {
+    passes = λ met lines ends.
+        let held = met.2 in
+        let text = one_file files name held.text ends.0 held.found ends.2 in
+        sound_listings_have_no_fault ends.0 met.0 held.script ends.1
+        (subst (λ t. IsListing t met.0 held.script) text held.listing) held.sound ends.3;
+    once = λ lines others p q.
+        let text = one_file files name p.0 q.0 p.2 q.2 in
+        let one = (texts_read_in_one_way q.0).one_fault p.1 q.1 (subst (λ t. IsFaultOf t p.1) text p.3) q.3 in
+        p.4 ∙ ap (λ fault. listing_line fault ∷ []) one ∙ sym q.4;
+  }
+  stage_facts (GoTogether name other) = record {
+    passes = λ met lines ends.
+        let one = one_song_held files name met.0 ends.0 met.2 ends.3 in
+        let two = one_song_held files other met.1 ends.1 met.3 ends.4 in
+        none_refused ends.0 ends.1 ends.2
+        (subst (CanBeJoined ends.0) two (subst (λ song. CanBeJoined song met.1) one met.4)) ends.5;
+    once = λ lines others p q.
+        let one = one_song_held files name p.0 q.0 p.3 q.3 in
+        let two = one_song_held files other p.1 q.1 p.4 q.4 in
+        let here = subst (λ song. IsNotJoined q.0 song p.2) two (subst (λ song. IsNotJoined song p.1 p.2) one p.5) in
+        p.6 ∙ ap (λ fault. join_line fault ∷ []) (one_join_reason q.0 q.1 p.2 q.2 here q.5) ∙ sym q.6;
   }
 
   pub met_passes : (stage : Stage) → IsMet files stage → Passes files stage

@@ -2,7 +2,7 @@
 use Rattle.std.proofs.Common.{◌≡◌, ℕ, ◌+◌, ◌<◌, ◌≤◌, length, drop, refl, ap, arith}
 use Rattle.std.specs.Fmt.{digits}
 use Rattle.hex.specs.Hex.{encode_with}
-use Rattle.jobs.specs.WorkedLines.{LinesAreWorked, FaultsAreWorked, RefusalsAreWorked, StatusesAreWorked, LimitsAreWorked, HeadersAreWorked, LargeImagesAreNotPacked}
+use Rattle.jobs.specs.WorkedLines.{LinesAreWorked, FaultsAreWorked, ListingFaultsAreWorked, JoinFaultsAreWorked, RefusalsAreWorked, StatusesAreWorked, LimitsAreWorked, HeadersAreWorked, LargeImagesAreNotPacked}
 
 pub lines_are_worked : LinesAreWorked
 unfolding digits encode_with
@@ -32,6 +32,26 @@ faults_are_worked = record {
   psid_cut = refl;
   unsupported = refl;
   bad_field = refl;
+}
+
+pub listing_faults_are_worked : ListingFaultsAreWorked
+unfolding digits
+listing_faults_are_worked = record { bad = refl; double = refl; unknown = refl; past = refl; far = refl }
+
+pub join_faults_are_worked : JoinFaultsAreWorked
+unfolding digits
+join_faults_are_worked = record {
+  subtunes = refl;
+  instruments = refl;
+  wave = refl;
+  pulse = refl;
+  filter = refl;
+  speed = refl;
+  patterns = refl;
+  instrument = refl;
+  row = refl;
+  timers = refl;
+  note = refl;
 }
 
 pub refusals_are_worked : RefusalsAreWorked
@@ -64,12 +84,15 @@ statuses_are_worked = record {
   no_psid = refl;
   no_subtune = refl;
   no_return = refl;
+  no_listing = refl;
+  not_joined = refl;
 }
 
 pub limits_are_worked : LimitsAreWorked
 limits_are_worked = record {
   input = refl;
   script = refl;
+  listing = refl;
   frames = refl;
   subtune = refl;
   number = refl;

@@ -1,5 +1,5 @@
 -- What the answers say, in the top call's clauses.
-use Rattle.std.specs.Prelude.{◌≡◌, ◌≢◌, ℕ, ◌≤◌, List, ◌∷◌, Option, Some, length, true}
+use Rattle.std.specs.Prelude.{◌≡◌, ◌≢◌, ℕ, ◌+◌, ◌≤◌, List, ◌∷◌, Option, Some, length, true}
 use Rattle.std.specs.List.{concat}
 use Rattle.goat_io.specs.Count.{Rose}
 use Rattle.goat_io.specs.Files.{Files, file_of}
@@ -7,10 +7,16 @@ use Rattle.goat_io.specs.Written.{told_with_piece}
 use Rattle.song_model.specs.declared.songs.Song.{Song}
 use Rattle.song_model.specs.Limits.{KeepsLimits}
 use Rattle.song_model.specs.LookUp.{playable_subtunes}
+use Rattle.song_model.specs.Canonical.{canonical}
 use Rattle.play_model.specs.declared.options.Options.{Options}
+use Rattle.song_join.specs.Joined.{joined}
+use Rattle.song_join.specs.JoinLaws.{IsWholeJoin}
 use Rattle.packed_form.specs.ImagePlaces.{IsAddress}
-use Rattle.command_line.specs.Words.{Job, Run}
-use Rattle.jobs.specs.Stages.{AllPass, input_limit}
+use Rattle.base.specs.Bytes.{AreBytes, IsWord}
+use Rattle.cpu6502.specs.declared.memory.TheConstants.{MEMORY_SIZE}
+use Rattle.asm_text.specs.Printing.{listing_of}
+use Rattle.command_line.specs.Words.{Job, Run, Asm, Join}
+use Rattle.jobs.specs.Stages.{AllPass, HoldsSong, input_limit}
 use Rattle.command_line.specs.Forms.{WordsOf}
 use Rattle.jobs.specs.Jobs.{stages, Done}
 use Rattle.jobs.specs.Outcome.{Outcome, files_after}
@@ -73,6 +79,28 @@ pub record IsPackedPsid (song : Song) (options : Options) (file : List ℕ) : Ty
   pub zero_page : ℕ
   pub place : IsAddress address
   pub packed : IsPackedFile true address zero_page song options file
+
+-- the words ask for a listing to be assembled that is the listing of an image at an origin
+pub record AssemblesListing (words : List (List ℕ)) (files : Files) (origin : ℕ) (image output : List ℕ) : Type 0 where
+  pub input : List ℕ
+  pub form : WordsOf words (Asm input output)
+  pub found : file_of files input ≡ Some (listing_of origin image)
+  pub place : IsWord origin
+  pub bytes : AreBytes image
+  pub fits : origin + length image ≤ MEMORY_SIZE
+
+-- the words ask for the songs in two files to be joined
+pub record AsksToJoin (words : List (List ℕ)) (files : Files) (first second : Song) (output : List ℕ) : Type 0 where
+  pub input : List ℕ
+  pub other : List ℕ
+  pub form : WordsOf words (Join input other output)
+  pub holds : HoldsSong files input first
+  pub other_holds : HoldsSong files other second
+
+-- the joined song was written, which can be played and plays what both songs play
+pub record HoldsJoined (files : Files) (first second : Song) (output : List ℕ) (files_now : Option Files) : Type 0 where
+  pub files_are : files_now ≡ Some (files_after files (Some (output, canonical (joined first second))))
+  pub whole : IsWholeJoin (joined first second) first second
 
 -- the words ask for a run of a packed PSID file of the song: of its subtune, counted from 1, with this number of frames
 pub record RunsPacked (words : List (List ℕ)) (files : Files) (song : Song) (options : Options)

@@ -10,11 +10,14 @@ use Rattle.usage.specs.declared.parts.UsedParts.{UsedParts}
 use Rattle.usage.specs.Parts.{AreUsedParts}
 use Rattle.psid.specs.declared.header.Psid.{Psid}
 use Rattle.cpu6502.specs.declared.machine.Machine.{Machine}
+use Rattle.song_join.specs.Joined.{joined}
+use Rattle.song_join.specs.Refusals.{CanBeJoined}
+use Rattle.asm_text.specs.Printing.{listing_of}
 use Rattle.sid_run.specs.State.{loaded}
 use Rattle.command_line.specs.Words as asked
 use Rattle.command_line.specs.Words.{Job}
-use Rattle.jobs.specs.Stages.{Stage, IsThere, Fits, SpellsSong, CanBePlayed, HasShortPatterns, HasRoomForImage, HasPlayableSubtune, CanBeEdited, IsPsid, OffersSubtune, CallsReturn, HoldsSong, HoldsPsid, IsEditedIn, input_limit, script_limit}
-use Rattle.jobs.specs.Packed.{IsWrittenFile}
+use Rattle.jobs.specs.Stages.{Stage, IsThere, Fits, SpellsSong, CanBePlayed, HasShortPatterns, HasRoomForImage, HasPlayableSubtune, CanBeEdited, IsPsid, OffersSubtune, CallsReturn, CanBeAssembled, GoTogether, HoldsSong, HoldsPsid, HoldsListing, IsEditedIn, input_limit, script_limit, listing_limit}
+use Rattle.jobs.specs.Packed.{IsWrittenFile, raw_file}
 use Rattle.jobs.specs.Calls.{FirstCalls}
 use Rattle.command_line.specs.RegisterText.{register_lines}
 use Rattle.jobs.specs.Traces.{first_traces}
@@ -85,6 +88,25 @@ about (asked.Selftest number) = record {
   does = PrintsLines (λ files lines. (steps : ℕ) × TakesSteps (generated_song number) steps ×
       (lines ≡ selftest_line number (length (playable_subtunes (generated_song number)))
       (register_sum (generated_song number)) steps ∷ []));
+}
+-- of a PSID file a listing of its image is written
+about (asked.Disasm input output) = record {
+  stages = IsThere input ∷ Fits input input_limit ∷ IsPsid input ∷ [];
+  does = WritesFile output (λ files file. (psid : Psid) × HoldsPsid files input psid ×
+      (file ≡ listing_of psid.load psid.image));
+}
+-- of a listing the bytes are written, behind their address
+about (asked.Asm input output) = record {
+  stages = IsThere input ∷ Fits input listing_limit ∷ CanBeAssembled input ∷ [];
+  does = WritesFile output (λ files file. (origin : ℕ) × (image : List ℕ) × HoldsListing files input origin image ×
+      (file ≡ raw_file origin image));
+}
+-- of two songs one is written
+about (asked.Join input second output) = record {
+  stages = IsThere input ∷ Fits input input_limit ∷ SpellsSong input ∷ CanBePlayed input ∷ IsThere second ∷
+      Fits second input_limit ∷ SpellsSong second ∷ CanBePlayed second ∷ GoTogether input second ∷ [];
+  does = WritesFile output (λ files file. (song : Song) × (other : Song) × HoldsSong files input song ×
+      HoldsSong files second other × CanBeJoined song other × (file ≡ canonical (joined song other)));
 }
 
 abbrev pub stages : Job → List Stage

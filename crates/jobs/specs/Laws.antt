@@ -1,10 +1,16 @@
 -- What follows from the definitions: a run has one outcome, each status comes exactly where its
 -- cause is, which songs are packed, and a packed file that is run prints its song.
-use Rattle.std.specs.Prelude.{◌≡◌, ◌≢◌, ℕ, ◌+◌, ◌-◌, ◌<◌, ◌≤◌, ◌↔◌, Bool, true, List, Option, None, Ok, length}
-use Rattle.goat_io.specs.Files.{Files}
+use Rattle.std.specs.Prelude.{◌≡◌, ◌≢◌, ℕ, ◌+◌, ◌-◌, ◌<◌, ◌≤◌, ◌↔◌, Bool, true, List, Option, Some, None, Ok, length}
+use Rattle.std.specs.Option.{option_and_then}
+use Rattle.base.specs.Bytes.{AreBytes, IsWord}
+use Rattle.goat_io.specs.Files.{Files, file_of}
 use Rattle.song_model.specs.declared.songs.Song.{Song}
 use Rattle.song_model.specs.Limits.{KeepsLimits}
 use Rattle.song_model.specs.LookUp.{playable_subtunes}
+use Rattle.song_model.specs.Canonical.{canonical}
+use Rattle.song_join.specs.Joined.{joined}
+use Rattle.play_model.specs.Speeds.{IsSpeed}
+use Rattle.play_model.specs.Frame.{trace_with}
 use Rattle.play_model.specs.declared.options.Options.{Options}
 use Rattle.play_model.specs.Playable.{IsPlayable}
 use Rattle.play_model.specs.Features.{AreFeatures}
@@ -16,18 +22,18 @@ use Rattle.cpu6502.specs.declared.machine.Machine.{Machine}
 use Rattle.sid_run.specs.State.{loaded}
 use Rattle.psid.specs.declared.header.Psid.{Psid}
 use Rattle.psid.specs.Reading.{psid_read}
-use Rattle.command_line.specs.Words.{Job, Pack, Selftest}
+use Rattle.command_line.specs.Words.{Job, Pack, Selftest, Disasm, Asm}
 use Rattle.jobs.specs.Calls.{HasSubtune, FirstCalls}
-use Rattle.jobs.specs.Stages.{Stage, CanBePlayed, HasRoomForImage, HoldsSong, status_of, Ends, IsMet, Passes, AllPass, input_limit}
+use Rattle.jobs.specs.Stages.{Stage, CanBePlayed, HasRoomForImage, HoldsSong, HoldsPsid, status_of, Ends, IsMet, Passes, AllPass, input_limit}
 use Rattle.command_line.specs.Forms.{WordsOf, IsNoForm}
-use Rattle.jobs.specs.Jobs.{stages}
-use Rattle.jobs.specs.Outcome.{Outcome}
+use Rattle.jobs.specs.Jobs.{stages, Done}
+use Rattle.jobs.specs.Outcome.{Outcome, files_after}
 use Rattle.jobs.specs.Due.{IsDue}
 use Rattle.jobs.specs.Stands.{ComesTo}
 use Rattle.jobs.specs.Traces.{first_traces}
 use Rattle.packed_form.specs.ImagePlaces.{IsAddress}
 use Rattle.jobs.specs.Packed.{IsImageLength, IsWrittenFile}
-use Rattle.jobs.specs.Answers.{IsPackedPsid}
+use Rattle.jobs.specs.Answers.{IsPackedPsid, AssemblesListing, HoldsJoined}
 
 -- an outcome's status is due, and one status alone is due
 abbrev pub OutcomesAreDue : Type 0
@@ -125,3 +131,28 @@ PackedFilesPlay =
     subtune ≤ length (playable_subtunes song) →
     (psid : Psid) × (psid_read file ≡ Ok psid) × HasSubtune psid subtune × (after : Machine) ×
     FirstCalls (loaded psid) (subtune - 1) (frames + 1) (first_traces options song (subtune - 1) (frames + 1)) after
+
+-- ---- listings and joined songs
+
+-- what `disasm` wrote of a PSID file is a listing that `asm` is asked for, and so gives its image back at its address;
+-- the file's bytes are bytes
+abbrev pub ListingsGoBack : Type 0
+ListingsGoBack =
+    (words : List (List ℕ)) (files : Files) (input listing output : List ℕ) (lines : List (List ℕ))
+    (write : Option (List ℕ × List ℕ)) (psid : Psid) → HoldsPsid files input psid → IsWord psid.load →
+    AreBytes psid.image → Done (Disasm input listing) files lines write → WordsOf words (Asm listing output) →
+    AssemblesListing words (files_after files write) psid.load psid.image output
+
+-- what a file of two songs holds: the joined song, which plays what each of them plays
+pub record HoldsBoth (first second : Song) (output : List ℕ) (now : Option Files) : Type 0 where
+  pub file : option_and_then (λ files. file_of files output) now ≡ Some (canonical (joined first second))
+  pub first_song : (o : Options) (k i : ℕ) → IsSpeed o.speed → k < length (playable_subtunes first) →
+      trace_with o (joined first second) k i ≡ trace_with o first k i
+  pub second_song : (o : Options) (k i : ℕ) → IsSpeed o.speed → k < length (playable_subtunes second) →
+      trace_with o (joined first second) (length (playable_subtunes first) + k) i ≡ trace_with o second k i
+
+-- so it is of a file that was joined
+abbrev pub JoinedFilesHoldBoth : Type 0
+JoinedFilesHoldBoth =
+    (files : Files) (first second : Song) (output : List ℕ) (now : Option Files) →
+    HoldsJoined files first second output now → HoldsBoth first second output now

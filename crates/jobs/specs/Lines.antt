@@ -11,6 +11,15 @@ use Rattle.gts5.specs.declared.faults.SongFault.{SongFault}
 use Rattle.gts5.specs.declared.faults.SongFault.TheVariants as song
 use Rattle.psid.specs.declared.faults.PsidFault.{PsidFault}
 use Rattle.psid.specs.declared.faults.PsidFault.TheVariants as psid
+use Rattle.song_join.specs.declared.faults.JoinPart.{JoinPart}
+use Rattle.song_join.specs.declared.faults.JoinPart.TheVariants as parts
+use Rattle.song_join.specs.declared.faults.JoinPart.TheVariants.{Subtunes, Instruments, Patterns}
+use Rattle.song_join.specs.declared.faults.JoinFault.{JoinFault}
+use Rattle.song_join.specs.declared.faults.JoinFault.TheVariants as faults
+use Rattle.song_join.specs.declared.faults.JoinFault.TheVariants.{OverLimit, LooseInstrument, LooseSpeed, GateTimer, NoteBeforeInstrument}
+use Rattle.asm_text.specs.declared.faults.TextFault.{TextFault}
+use Rattle.asm_text.specs.declared.faults.TextKind.{TextKind}
+use Rattle.asm_text.specs.declared.faults.TextKind.TheVariants as text
 use Rattle.cpu6502.specs.declared.stop.Stop.TheVariants.{Illegal, Break, Decimal}
 use Rattle.cpu6502.specs.declared.stop.CallStop.{CallStop}
 use Rattle.cpu6502.specs.declared.stop.CallStop.TheVariants.{Stopped, Budget}
@@ -102,6 +111,43 @@ check_line subtunes parts =
 -- for a line of a script that can't be done, with the cause
 abbrev pub script_line : ℕ → List ℕ → List ℕ
 script_line number words = line (codes "script line " ∷ decimal number ∷ codes ": " ∷ words ∷ [])
+
+-- what is wrong with a line of a listing; running out of memory is none of the listing's
+abbrev pub listing_words : TextKind → List ℕ
+listing_words text.BadLine = codes "bad line"
+listing_words text.DoubleLabel = codes "double label"
+listing_words text.UnknownLabel = codes "unknown label"
+listing_words text.PastEnd = codes "past end"
+listing_words text.BranchTooFar = codes "branch too far"
+listing_words text.NoMemory = codes "no memory"
+
+-- for a listing that can't be assembled
+abbrev pub listing_line : TextFault → List ℕ
+listing_line fault = line (codes "asm line " ∷ decimal fault.line ∷ codes ": " ∷ listing_words fault.kind ∷ [])
+
+-- what the joined song would have too many of
+abbrev pub part_words : JoinPart → List ℕ
+part_words Subtunes = codes " subtunes"
+part_words Instruments = codes " instruments"
+part_words parts.Wave = codes " wave rows"
+part_words parts.Pulse = codes " pulse rows"
+part_words parts.Filter = codes " filter rows"
+part_words parts.Speed = codes " speed rows"
+part_words Patterns = codes " patterns"
+
+-- for two songs that can't be joined; running out of memory is none of the songs'
+abbrev pub join_line : JoinFault → List ℕ
+join_line (OverLimit part sum) = line (codes "cannot join: " ∷ decimal sum ∷ part_words part ∷ [])
+join_line (LooseInstrument song instrument) =
+    line (codes "cannot join: " ∷ codes "loose instrument " ∷ decimal instrument ∷ codes " in song " ∷ decimal song ∷ [])
+join_line (LooseSpeed song row) =
+    line (codes "cannot join: " ∷ codes "loose speed row " ∷ decimal row ∷ codes " in song " ∷ decimal song ∷ [])
+join_line (GateTimer first second) =
+    line (codes "cannot join: " ∷ codes "gate timers " ∷ decimal first ∷ codes " and " ∷ decimal second ∷ [])
+join_line (NoteBeforeInstrument subtune channel) =
+    line (codes "cannot join: " ∷ codes "note before instrument in subtune " ∷ decimal subtune ∷ codes " channel " ∷
+    decimal channel ∷ [])
+join_line faults.NoMemory = no_memory_line
 
 -- for a file of this length
 abbrev pub wrote_line : ℕ → List ℕ

@@ -11,11 +11,15 @@ use Rattle.packing_rules.specs.UsedSets.{UsedSets, AreUsedSets}
 use Rattle.packed_form.specs.CodeBounds.{code_bound}
 use Rattle.packing_rules.specs.SongSizes.{data_size}
 use Rattle.song_pack.specs.Answers.{AreShort}
-use Rattle.command_line.specs.Words.{Pack, Run}
+use Rattle.base.specs.Bytes.{AreBytes, IsWord}
+use Rattle.cpu6502.specs.declared.memory.TheConstants.{MEMORY_SIZE}
+use Rattle.song_join.specs.Refusals.{CanBeJoined}
+use Rattle.asm_text.specs.Printing.{listing_of}
+use Rattle.command_line.specs.Words.{Pack, Run, Asm, Join}
 use Rattle.command_line.specs.Forms.{WordsOf}
 use Rattle.jobs.specs.Stages.{HoldsSong, AllPass, input_limit}
 use Rattle.jobs.specs.Jobs.{stages}
-use Rattle.jobs.specs.Answers.{IsOrdinary, IsPrinted, IsBeforeWriting, IsPackedPsid, RunsPacked}
+use Rattle.jobs.specs.Answers.{IsOrdinary, IsPrinted, IsBeforeWriting, IsPackedPsid, RunsPacked, AssemblesListing, AsksToJoin}
 
 -- 0 and each other status but 4, 9, 10 and 14 is ordinary, all lines are printed with each but 10 and 14, and nothing is
 -- written with each but 0, 9, 10 and 14
@@ -41,6 +45,25 @@ FittingSongsArePacked =
     IsPlayable song → AreUsedSets song used → AreFeatures song features → AreShort song used →
     address + data_size song used + code_bound features options ≤ 0xD000 →
     AllPass files (stages (Pack input output psid address zero_page options))
+
+-- the listing of an image under the name that the words have is one that they have assembled, and the longest is read:
+-- that of an image that fills the memory
+abbrev pub ListingsAreAssembled : Type 0
+ListingsAreAssembled =
+    (words : List (List ℕ)) (files : Files) (input output : List ℕ) (origin : ℕ) (image : List ℕ) →
+    WordsOf words (Asm input output) → file_of files input ≡ Some (listing_of origin image) → IsWord origin →
+    AreBytes image → origin + length image ≤ MEMORY_SIZE → AssemblesListing words files origin image output
+    × AllPass files (stages (Asm input output))
+
+-- two files that spell songs, under the names that the words have, are asked to be joined; where they aren't too long and
+-- the songs can be played and joined, they are
+abbrev pub JoinableSongsAreJoined : Type 0
+JoinableSongsAreJoined =
+    (words : List (List ℕ)) (files : Files) (input other output : List ℕ) (first second : Song) →
+    WordsOf words (Join input other output) → (holds : HoldsSong files input first) →
+    (other_holds : HoldsSong files other second) → AsksToJoin words files first second output
+    × (length holds.bytes ≤ input_limit → length other_holds.bytes ≤ input_limit → IsPlayable first →
+    IsPlayable second → CanBeJoined first second → AllPass files (stages (Join input other output)))
 
 -- a packed PSID file under the name that the words have is one that they run: no such file is too long
 abbrev pub PackedFilesAreRun : Type 0

@@ -1,7 +1,7 @@
 -- What a run goes through, one stage after the other, and what ends it there. Each stage is a condition of the files
 -- as they are before the run; the first one that doesn't pass ends the run, with the stage's status and lines. The
 -- order of a job's stages is the order of its refusals.
-use Rattle.std.specs.Prelude.{◌≡◌, ℕ, ◌+◌, ◌-◌, ◌<◌, ◌≤◌, List, [], ◌∷◌, ◌++◌, ◌⊎◌, Some, Ok, Err, length}
+use Rattle.std.specs.Prelude.{◌≡◌, ℕ, ◌+◌, ◌-◌, ◌<◌, ◌≤◌, List, [], ◌∷◌, ◌++◌, ◌⊎◌, Some, None, Ok, Err, length}
 use Rattle.goat_io.specs.Files.{Files, file_of, IsAbsent, IsAbove}
 use Rattle.song_model.specs.declared.songs.Song.{Song}
 use Rattle.song_model.specs.LookUp.{IsNumbered, playable_subtunes}
@@ -10,19 +10,27 @@ use Rattle.gts5.specs.Spells.{Spells}
 use Rattle.gts5.specs.Faults.{fault_of}
 use Rattle.play_model.specs.declared.unplayable.Unplayable.{Unplayable}
 use Rattle.play_model.specs.declared.options.Options.{Options}
-use Rattle.play_model.specs.Playable.{IsPlayable, IsRefusedFor}
+use Rattle.play_model.specs.Playable.{IsPlayable, IsRefusedFor as IsUnplayableFor}
 use Rattle.packing_rules.specs.UsedSets.{UsedSets, AreUsedSets}
 use Rattle.song_pack.specs.Answers.{AreShort, IsTooLong}
+use Rattle.song_join.specs.declared.faults.JoinFault.{JoinFault}
+use Rattle.song_join.specs.Refusals.{CanBeJoined, IsRefusedFor}
 use Rattle.edit_script.specs.Edited.{IsEditedBy, FailsAt}
 use Rattle.psid.specs.declared.header.Psid.{Psid}
 use Rattle.psid.specs.declared.faults.PsidFault.{PsidFault}
 use Rattle.psid.specs.Reading.{psid_read}
 use Rattle.cpu6502.specs.declared.machine.Machine.{Machine}
 use Rattle.sid_run.specs.State.{loaded}
+use Rattle.asm6502.specs.Assembly.{assembled_bytes}
+use Rattle.asm_text.specs.declared.statements.Written.{Written}
+use Rattle.asm_text.specs.declared.faults.TextFault.{TextFault}
+use Rattle.asm_text.specs.Lines.{IsListing}
+use Rattle.asm_text.specs.Laying.{listing_at}
+use Rattle.asm_text.specs.Faults.{fault_in, IsFaultOf}
 use Rattle.jobs.specs.Calls.{HasSubtune, FirstCalls, StopsIn}
 use Rattle.jobs.specs.Packed.{IsImageLength}
 use Rattle.command_line.specs.RegisterText.{register_lines}
-use Rattle.jobs.specs.Lines.{missing_line, too_long_line, song_fault_line, unplayable_line, too_large_line, image_too_large_line, script_line, psid_fault_line, no_subtune_line, stop_line}
+use Rattle.jobs.specs.Lines.{missing_line, too_long_line, song_fault_line, unplayable_line, too_large_line, image_too_large_line, script_line, psid_fault_line, no_subtune_line, stop_line, listing_line, join_line}
 
 -- the most bytes of a song or a PSID file
 abbrev pub input_limit : ℕ
@@ -31,6 +39,10 @@ input_limit = 262144
 -- the most bytes of a script
 abbrev pub script_limit : ℕ
 script_limit = 1048576
+
+-- the most bytes of a listing that is assembled
+abbrev pub listing_limit : ℕ
+listing_limit = 1048576
 
 -- a condition of the files as they are before the run
 pub data Stage : Type 0 where
@@ -45,6 +57,8 @@ pub data Stage : Type 0 where
   IsPsid : (name : List ℕ) → Stage
   OffersSubtune : (name : List ℕ) (subtune : ℕ) → Stage
   CallsReturn : (name : List ℕ) (subtune frames : ℕ) → Stage
+  CanBeAssembled : (name : List ℕ) → Stage
+  GoTogether : (name other : List ℕ) → Stage
 
 -- the file with the name holds these bytes; spells the song; is this PSID file
 abbrev pub HoldsBytes : Files → List ℕ → List ℕ → Type 0
@@ -59,6 +73,15 @@ pub record HoldsPsid (files : Files) (name : List ℕ) (psid : Psid) : Type 0 wh
   pub bytes : List ℕ
   pub found : HoldsBytes files name bytes
   pub reads : psid_read bytes ≡ Ok psid
+
+-- the file with the name is a listing with which nothing is wrong, of this origin and these bytes
+pub record HoldsListing (files : Files) (name : List ℕ) (origin : ℕ) (image : List ℕ) : Type 0 where
+  pub text : List ℕ
+  pub found : HoldsBytes files name text
+  pub script : List Written
+  pub listing : IsListing text origin script
+  pub sound : fault_in origin script ≡ None
+  pub image_is : image ≡ assembled_bytes 0 origin (listing_at origin script)
 
 -- the file with the name spells the song, and the script in the other file makes another song of it
 pub record IsEditedIn (files : Files) (name script : List ℕ) (song after : Song) : Type 0 where
@@ -104,7 +127,7 @@ rule_of (SpellsSong name) = record {
 rule_of (CanBePlayed name) = record {
   asks = λ files. (song : Song) × HoldsSong files name song × IsPlayable song;
   status = 6;
-  ends = λ files lines. (song : Song) × (refusal : Unplayable) × HoldsSong files name song × IsRefusedFor song refusal ×
+  ends = λ files lines. (song : Song) × (refusal : Unplayable) × HoldsSong files name song × IsUnplayableFor song refusal ×
       (lines ≡ unplayable_line refusal ∷ []);
 }
 -- the song has the playable subtune, counted from 1
@@ -158,6 +181,21 @@ rule_of (CallsReturn name subtune frames) = record {
   status = 13;
   ends = λ files lines. (psid : Psid) × HoldsPsid files name psid × (stop : StopsIn psid subtune frames) ×
       (lines ≡ register_lines stop.registers ++ stop_line stop.reason stop.call ∷ []);
+}
+-- it is a listing that can be assembled
+rule_of (CanBeAssembled name) = record {
+  asks = λ files. (origin : ℕ) × (image : List ℕ) × HoldsListing files name origin image;
+  status = 17;
+  ends = λ files lines. (text : List ℕ) × (fault : TextFault) × HoldsBytes files name text × IsFaultOf text fault ×
+      (lines ≡ listing_line fault ∷ []);
+}
+-- the songs in both files can be joined
+rule_of (GoTogether name other) = record {
+  asks = λ files. (first : Song) × (second : Song) × HoldsSong files name first × HoldsSong files other second ×
+      CanBeJoined first second;
+  status = 18;
+  ends = λ files lines. (first : Song) × (second : Song) × (fault : JoinFault) × HoldsSong files name first ×
+      HoldsSong files other second × IsRefusedFor first second fault × (lines ≡ join_line fault ∷ []);
 }
 
 -- the status with which a stage ends a run

@@ -9,6 +9,10 @@ use Rattle.play_model.specs.WorkedSongs.{subtune as orders}
 use Rattle.play_model.specs.declared.unplayable.Unplayable.TheVariants.{NoSubtune, MissingPattern, BadRestart, TableOverflow, PointerToJump}
 use Rattle.gts5.specs.declared.faults.SongFault.TheVariants as song
 use Rattle.psid.specs.declared.faults.PsidFault.TheVariants as psid
+use Rattle.song_join.specs.declared.faults.JoinPart.TheVariants as parts
+use Rattle.song_join.specs.declared.faults.JoinPart.TheVariants.{Subtunes, Instruments, Patterns}
+use Rattle.song_join.specs.declared.faults.JoinFault.TheVariants.{OverLimit, LooseInstrument, LooseSpeed, GateTimer, NoteBeforeInstrument}
+use Rattle.asm_text.specs.declared.faults.TextKind.TheVariants as text
 use Rattle.cpu6502.specs.declared.stop.Stop.TheVariants.{Illegal, Break, Decimal}
 use Rattle.cpu6502.specs.declared.stop.CallStop.TheVariants.{Stopped, Budget}
 use Rattle.command_line.specs.Lines.{usage_line, no_memory_line}
@@ -17,11 +21,11 @@ use Rattle.usage.specs.declared.parts.UsedParts.{UsedParts}
 use Rattle.faithful.specs.WorkedPlaces.{twice}
 use Rattle.jobs.specs.Lines.{missing_line, too_long_line, read_fault_line, write_fault_line, wrote_line, song_fault_line}
 use Rattle.jobs.specs.Lines.{psid_fault_line, no_subtune_line, stop_line, unplayable_line, too_large_line}
-use Rattle.jobs.specs.Lines.{image_too_large_line, check_line, script_line, selftest_line}
+use Rattle.jobs.specs.Lines.{image_too_large_line, check_line, script_line, listing_line, join_line, selftest_line}
 use Rattle.jobs.specs.Packed.{raw_file, song_header, IsPackedFile}
 use Rattle.jobs.specs.Selftest.{selftest_calls}
 use Rattle.jobs.specs.Stages.{IsThere, Fits, SpellsSong, CanBePlayed, HasShortPatterns, HasRoomForImage, HasPlayableSubtune}
-use Rattle.jobs.specs.Stages.{CanBeEdited, IsPsid, OffersSubtune, CallsReturn, status_of, input_limit, script_limit}
+use Rattle.jobs.specs.Stages.{CanBeEdited, IsPsid, OffersSubtune, CallsReturn, CanBeAssembled, GoTogether, status_of, input_limit, script_limit, listing_limit}
 
 -- the first n numbers are marked, of so many
 abbrev pub first_marked : ℕ → ℕ → List Bool
@@ -44,7 +48,7 @@ used_parts = record {
 
 -- one line of each kind
 pub record LinesAreWorked : Type 0 where
-  pub usage : usage_line ≡ codes "usage: goat check|trace|pack|run|edit|copy|selftest\n"
+  pub usage : usage_line ≡ codes "usage: goat check|trace|pack|run|edit|copy|selftest|disasm|asm|join\n"
   pub missing : missing_line (codes "a.sng") ≡ codes "missing: a.sng\n"
   pub too_long : too_long_line (codes "a.sng") ≡ codes "too long: a.sng\n"
   pub read_fault : read_fault_line (codes "a.sng") ≡ codes "read fault: a.sng\n"
@@ -69,6 +73,29 @@ pub record FaultsAreWorked : Type 0 where
   pub psid_cut : psid_fault_line psid.Truncated ≡ codes "not a PSID: truncated\n"
   pub unsupported : psid_fault_line psid.Unsupported ≡ codes "not a PSID: unsupported\n"
   pub bad_field : psid_fault_line psid.BadField ≡ codes "not a PSID: bad field\n"
+
+-- one for each way in which a listing can't be assembled
+pub record ListingFaultsAreWorked : Type 0 where
+  pub bad : listing_line (record { line = 1; kind = text.BadLine }) ≡ codes "asm line 1: bad line\n"
+  pub double : listing_line (record { line = 12; kind = text.DoubleLabel }) ≡ codes "asm line 12: double label\n"
+  pub unknown : listing_line (record { line = 12; kind = text.UnknownLabel }) ≡ codes "asm line 12: unknown label\n"
+  pub past : listing_line (record { line = 300; kind = text.PastEnd }) ≡ codes "asm line 300: past end\n"
+  pub far : listing_line (record { line = 2; kind = text.BranchTooFar }) ≡ codes "asm line 2: branch too far\n"
+
+-- one for each way in which two songs can't be joined
+pub record JoinFaultsAreWorked : Type 0 where
+  pub subtunes : join_line (OverLimit Subtunes 33) ≡ codes "cannot join: 33 subtunes\n"
+  pub instruments : join_line (OverLimit Instruments 64) ≡ codes "cannot join: 64 instruments\n"
+  pub wave : join_line (OverLimit parts.Wave 256) ≡ codes "cannot join: 256 wave rows\n"
+  pub pulse : join_line (OverLimit parts.Pulse 257) ≡ codes "cannot join: 257 pulse rows\n"
+  pub filter : join_line (OverLimit parts.Filter 258) ≡ codes "cannot join: 258 filter rows\n"
+  pub speed : join_line (OverLimit parts.Speed 510) ≡ codes "cannot join: 510 speed rows\n"
+  pub patterns : join_line (OverLimit Patterns 209) ≡ codes "cannot join: 209 patterns\n"
+  pub instrument : join_line (LooseInstrument 2 1) ≡ codes "cannot join: loose instrument 1 in song 2\n"
+  pub row : join_line (LooseSpeed 1 9) ≡ codes "cannot join: loose speed row 9 in song 1\n"
+  pub timers : join_line (GateTimer 2 3) ≡ codes "cannot join: gate timers 2 and 3\n"
+  pub note : join_line (NoteBeforeInstrument 2 3)
+      ≡ codes "cannot join: note before instrument in subtune 2 channel 3\n"
 
 -- one for each way in which a song can't be played or packed, or a call doesn't return
 pub record RefusalsAreWorked : Type 0 where
@@ -99,11 +126,14 @@ pub record StatusesAreWorked : Type 0 where
   pub no_psid : status_of (IsPsid (codes "b.sid")) ≡ 12
   pub no_subtune : status_of (OffersSubtune (codes "b.sid") 3) ≡ 11
   pub no_return : status_of (CallsReturn (codes "b.sid") 1 300) ≡ 13
+  pub no_listing : status_of (CanBeAssembled (codes "b.asm")) ≡ 17
+  pub not_joined : status_of (GoTogether (codes "a.sng") (codes "b.sng")) ≡ 18
 
 -- the limits in numbers
 pub record LimitsAreWorked : Type 0 where
   pub input : input_limit ≡ 262144
   pub script : script_limit ≡ 1048576
+  pub listing : listing_limit ≡ 1048576
   pub frames : frame_limit ≡ 100000
   pub subtune : subtune_limit ≡ 255
   pub number : song_number_limit ≡ 18446744073709551615

@@ -1,8 +1,8 @@
 //! Facts about the definitions, each the contract of a function that does nothing.
 
-ghost use Rattle.jobs.specs.Laws.{OutcomesAreDue, OneStatusIsDue, OneTextIsPrinted, StagesPass, PlayableSongsPass, StatusesHaveCauses, OnlyLargeImagesAreRefused, SmallSongsArePacked, ImagesAreBounded, WrittenFilesArePacked, PackedFilesPlay};
-ghost use Rattle.jobs.specs.MetPremises.{StatusesAreOrdinary, FittingSongsArePacked, PackedFilesAreRun};
-ghost use Rattle.jobs.specs.WorkedLines.{LinesAreWorked, FaultsAreWorked, RefusalsAreWorked, StatusesAreWorked, LimitsAreWorked, HeadersAreWorked, LargeImagesAreNotPacked};
+ghost use Rattle.jobs.specs.Laws.{OutcomesAreDue, OneStatusIsDue, OneTextIsPrinted, StagesPass, PlayableSongsPass, StatusesHaveCauses, OnlyLargeImagesAreRefused, SmallSongsArePacked, ImagesAreBounded, WrittenFilesArePacked, PackedFilesPlay, ListingsGoBack, JoinedFilesHoldBoth};
+ghost use Rattle.jobs.specs.MetPremises.{StatusesAreOrdinary, FittingSongsArePacked, PackedFilesAreRun, ListingsAreAssembled, JoinableSongsAreJoined};
+ghost use Rattle.jobs.specs.WorkedLines.{LinesAreWorked, FaultsAreWorked, ListingFaultsAreWorked, JoinFaultsAreWorked, RefusalsAreWorked, StatusesAreWorked, LimitsAreWorked, HeadersAreWorked, LargeImagesAreNotPacked};
 
 /// A run has one outcome at most: one status and one name to write under, and, where nothing is written, one text.
 pub fn runs_have_one_outcome()
@@ -40,12 +40,22 @@ pub fn packed_files_play_their_song()
     ensures play { PackedFilesPlay }
 {}
 
+/// What `disasm` writes is what `asm` gives the image back of; and a joined file holds the joined song, which plays what
+/// both songs play.
+pub fn written_files_hold_what_was_read()
+    ensures listings { ListingsGoBack }
+    ensures joined { JoinedFilesHoldBoth }
+{}
+
 /// What the clauses on statuses, packing and running ask for: which statuses are ordinary, that a small song is asked for
-/// no more than fits it, and that a packed file is never too long.
+/// no more than fits it, that a packed file is never too long, that the listing of an image is one that is
+/// assembled, and that two songs that can be joined are.
 pub fn premises_are_met()
     ensures statuses { StatusesAreOrdinary }
     ensures packed { FittingSongsArePacked }
     ensures run { PackedFilesAreRun }
+    ensures listing { ListingsAreAssembled }
+    ensures joined { JoinableSongsAreJoined }
 {}
 
 /// A line of each kind, the status of each stage, each limit in numbers, and what the header of a packed PSID file says of
@@ -53,6 +63,8 @@ pub fn premises_are_met()
 pub fn worked_lines()
     ensures lines { LinesAreWorked }
     ensures faults { FaultsAreWorked }
+    ensures listings { ListingFaultsAreWorked }
+    ensures joins { JoinFaultsAreWorked }
     ensures refusals { RefusalsAreWorked }
     ensures statuses { StatusesAreWorked }
     ensures limits { LimitsAreWorked }

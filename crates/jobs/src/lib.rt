@@ -5,16 +5,18 @@
 //! are those of the top call's clauses, and the laws that follow from them stand here: a run has one outcome, each status
 //! comes of its own cause, which songs are packed, and that a packed file that is run prints its song.
 //!
-//! The jobs that make no player are done here: a song is checked, copied, edited and traced, and a PSID file is run. Of
-//! packing, all but the image is here.
+//! The jobs that make no player are done here: a song is checked, copied, edited and traced, two are joined, a PSID
+//! file is run and listed, and a listing is assembled. Of packing, all but the image is here.
 //!
 //! It stands on `command_line` for words and lines, on `goat_io` for folders and sinks, on `gts5` and `song_model` for
 //! the song, on `edit_history` and `edit_script` for editing it, on `usage` for what it uses, on `play_model` for what
 //! it sounds like, on `playroutine` for playing it, on `song_pack` for packing it, on `code_lengths` for how long its
 //! image is, on `faithful` for what an image is to do, on `psid`, `sid_run` and `cpu6502` for PSID files and their calls,
-//! and on `song_gen` for songs that are made from numbers.
+//! on `song_join` for joining songs, on `asm_text` and `asm6502` for listings, and on `song_gen` for songs that are made from numbers.
 #![tactic(auto)]
 
+/// `asm IN OUT`.
+pub mod asm;
 mod calling;
 /// `check IN`.
 pub mod check;
@@ -22,12 +24,17 @@ pub mod check;
 pub mod claims;
 /// `copy IN OUT`.
 pub mod copy;
+/// `disasm IN OUT`.
+pub mod disasm;
 /// `edit IN SCRIPT OUT`.
 pub mod edit;
+/// `join IN SECOND OUT`.
+pub mod join;
 mod measuring;
 mod packed_files;
 mod packed_songs;
 mod printing;
+mod psid_stages;
 mod registers;
 /// `run IN SUBTUNE FRAMES`.
 pub mod run;

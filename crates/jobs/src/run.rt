@@ -10,8 +10,9 @@ ghost use Rattle.jobs.specs.Endings.{JobEnds, CallsEnd};
 ghost use Rattle.command_line.specs.Words.{Run, frame_limit};
 
 use crate::calling::next_call;
+use crate::psid_stages::{psid_of, subtune_of};
 use crate::registers::put_registers;
-use crate::stages::{INPUT_LIMIT, psid_of, read_file, subtune_of};
+use crate::stages::{INPUT_LIMIT, read_file};
 use command_line::{Line, Piece, Refusal, Report, Status};
 use cpu6502::{CallStop, Stop};
 use goat_io::{Folder, Sink};

@@ -1,27 +1,24 @@
-//! The stages of a run: each passes, or ends the run.
+//! The stages of a run: each passes, or ends the run. Those of PSID files are in `psid_stages.rt`.
 #![tactic(auto, using(crate::proofs::Room::pieces_fit))]
 
-ghost use Rattle.std.specs.Prelude.{◌≡◌, ◌≢◌, ◌+◌, ◌-◌, ◌≤◌, ℕ, List, [], ◌∷◌, codes, Some, IfOk, IfErr, OnOk, Ok, decimal, length};
+ghost use Rattle.std.specs.Prelude.{◌≡◌, ◌≢◌, ◌+◌, ◌-◌, ◌≤◌, ℕ, List, [], ◌∷◌, codes, Some, IfOk, IfErr, OnOk, decimal, length};
 ghost use Rattle.goat_io.specs.Files.{Files, file_of};
 ghost use Rattle.song_model.specs.LookUp.{IsNumbered, playable_subtunes};
 ghost use Rattle.gts5.specs.Spells.{Spells};
 ghost use Rattle.play_model.specs.Playable.{IsPlayable};
 ghost use Rattle.usage.specs.Parts.{AreUsedParts};
-ghost use Rattle.psid.specs.declared.reading.TheConstants.{ADDRESSES};
-ghost use Rattle.psid.specs.Reading.{psid_read};
-ghost use Rattle.jobs.specs.Calls.{HasSubtune};
 ghost use Rattle.command_line.specs.Last.{last_of, last_word, Says};
 ghost use Rattle.command_line.specs.Lines.{line};
-ghost use Rattle.jobs.specs.Lines.{song_fault_line, table_word, unplayable_line, no_subtune_line, psid_fault_line};
-ghost use Rattle.jobs.specs.Stages.{SpellsSong, CanBePlayed, HasPlayableSubtune, IsPsid, OffersSubtune, HoldsSong, HoldsPsid, input_limit, script_limit};
-ghost use Rattle.jobs.specs.Stands.{folder_state};
+ghost use Rattle.jobs.specs.Lines.{song_fault_line, table_word, unplayable_line, no_subtune_line};
+ghost use Rattle.jobs.specs.Stages.{SpellsSong, CanBePlayed, HasPlayableSubtune, HoldsSong, input_limit, script_limit};
+ghost use Rattle.song_model.specs.declared.songs.Song.{Song as Read};
+ghost use Rattle.jobs.specs.Stands.{FolderState, folder_state};
 ghost use Rattle.jobs.specs.Endings.{Refuses, WasRead, ReadFails, SongWasRead, SpellingWasRead, SongFails, BothWereRead, BothFail, WriteEnds};
 
 use command_line::{Piece, Refusal, Report, Status};
 use goat_io::{Folder, ReadFault, WriteFault};
 use gts5::SongFault;
 use play_model::Unplayable;
-use psid::{Psid, PsidFault};
 use song_model::{Song, TableName};
 use std::alloc::Global;
 use usage::{UsedParts, usage};
@@ -121,7 +118,7 @@ pub fn read_song<'a, F: Folder>(
 /// # Errors
 ///
 /// The file isn't read, its bytes break the format of songs, or out of memory.
-fn read_song_and_bytes<'a, F: Folder>(
+pub fn read_song_and_bytes<'a, F: Folder>(
     alloc: Global,
     name: &'a str,
     folder: &mut F,
@@ -157,11 +154,35 @@ pub fn read_song_and_script<'a, F: Folder>(
         (folder_state (F.files folder.new) (F.counts folder.new)) (last_of refusal)) }
 {
     let (song, bytes) = read_song_and_bytes(alloc, name, folder)?;
-    if script == name {
-        return Ok((song, bytes));
-    }
-    let text = read_file(alloc, script, SCRIPT_LIMIT, folder)?;
+    let text = read_other(alloc, name, bytes, script, SCRIPT_LIMIT, folder)?;
     Ok((song, text))
+}
+
+/// The bytes of another file, where those of one are read already. A file that is both is read once.
+///
+/// # Errors
+///
+/// The other file isn't read, or out of memory.
+pub fn read_other<'a, F: Folder>(
+    alloc: Global,
+    name: &str,
+    bytes: Vec<u8>,
+    other: &'a str,
+    limit: u32,
+    folder: &mut F,
+) -> Result<Vec<u8>, Refusal<'a>>
+    ensures read { IfOk result (λ text. (before : FolderState) (song : Read) →
+        SpellingWasRead name.now before (folder_state (F.files folder.old) (F.counts folder.old))
+        song bytes.items → BothWereRead name.now other.now limit before
+        (folder_state (F.files folder.new) (F.counts folder.new)) song text.items) }
+    ensures refused { IfErr result (λ refusal. (other.now ≢ name.now) × ReadFails other.now limit
+        (folder_state (F.files folder.old) (F.counts folder.old))
+        (folder_state (F.files folder.new) (F.counts folder.new)) (last_of refusal)) }
+{
+    if other == name {
+        return Ok(bytes);
+    }
+    read_file(alloc, other, limit, folder)
 }
 
 /// The song that the bytes of a file spell.
@@ -169,7 +190,7 @@ pub fn read_song_and_script<'a, F: Folder>(
 /// # Errors
 ///
 /// The bytes break the format of songs, or out of memory.
-fn song_of(alloc: Global, bytes: &[u8]) -> Result<Song, Refusal<'static>>
+pub fn song_of(alloc: Global, bytes: &[u8]) -> Result<Song, Refusal<'static>>
     requires { length bytes.now ≤ input_limit }
     ensures spells { IfOk result (Spells bytes.now) }
     ensures refused { IfErr result (λ refusal. (files : Files) (name : List ℕ) →
@@ -331,7 +352,7 @@ pub fn playable_subtune_of(song: &Song, subtune: u8) -> Result<u8, Refusal<'stat
 }
 
 /// The refusal of a subtune that isn't one of this number.
-fn no_such_subtune(subtune: u8, count: u16) -> Refusal<'static>
+pub(crate) fn no_such_subtune(subtune: u8, count: u16) -> Refusal<'static>
     ensures { last_of result ≡ Says 11 (no_subtune_line subtune count) }
 {
     Refusal::says(
@@ -343,56 +364,4 @@ fn no_such_subtune(subtune: u8, count: u16) -> Refusal<'static>
             Piece::Number(u64::from(count)),
         ],
     )
-}
-
-/// The PSID file that the bytes of a file are.
-///
-/// # Errors
-///
-/// The bytes break the format of PSID files, or out of memory.
-pub fn psid_of(alloc: Global, bytes: &[u8]) -> Result<Psid, Refusal<'static>>
-    ensures reads { IfOk result (λ psid. psid_read bytes.now ≡ Ok psid) }
-    ensures fits { IfOk result (λ psid. psid.load + length psid.image ≤ ADDRESSES) }
-    ensures refused { IfErr result (λ refusal. (files : Files) (name : List ℕ) →
-        file_of files name ≡ Some bytes.now → Refuses files (IsPsid name) (last_of refusal)) }
-{
-    match psid::read(alloc, bytes) {
-        Ok(psid) => Ok(psid),
-        Err(PsidFault::NoMemory) => Err(Refusal::NoMemory),
-        Err(fault) => Err(psid_refusal(fault)),
-    }
-}
-
-/// The refusal of a file that is no PSID file.
-fn psid_refusal(fault: PsidFault) -> Refusal<'static>
-    requires { fault ≢ PsidFault.NoMemory }
-    ensures { last_of result ≡ Says 12 (psid_fault_line fault) }
-{
-    let words = match fault {
-        PsidFault::NotPsid => "not a PSID: bad magic",
-        PsidFault::Truncated => "not a PSID: truncated",
-        PsidFault::Unsupported => "not a PSID: unsupported",
-        PsidFault::BadField => "not a PSID: bad field",
-        PsidFault::NoMemory => unreachable!(),
-    };
-    Refusal::says(Status::NotAPsid, &[Piece::Words(words)])
-}
-
-/// The number from 0 that init takes of a subtune that is counted from 1.
-///
-/// # Errors
-///
-/// The file doesn't have the subtune.
-pub fn subtune_of(psid: &Psid, subtune: u8) -> Result<u8, Refusal<'static>>
-    ensures has { OnOk result (HasSubtune psid.now subtune) }
-    ensures number { IfOk result (λ number. number ≡ subtune - 1) }
-    ensures refused { IfErr result (λ refusal. (files : Files) (name : List ℕ) →
-        HoldsPsid files name psid.now → Refuses files (OffersSubtune name subtune)
-        (last_of refusal)) }
-{
-    let songs = psid.header.songs;
-    if subtune == 0 || u16::from(subtune) > songs {
-        return Err(no_such_subtune(subtune, songs));
-    }
-    Ok(subtune - 1)
 }

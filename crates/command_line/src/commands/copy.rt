@@ -5,6 +5,7 @@ ghost use Rattle.command_line.specs.Job.{job_of};
 ghost use Rattle.command_line.specs.Words.{texts, HasAllowedNumbers, Copy};
 ghost use Rattle.command_line.specs.Forms.{command_of, AreArgumentsOf};
 
+use crate::arguments::two_names;
 use crate::words::{Job, WordsFault};
 
 /// The job that the words after `copy` name.
@@ -19,14 +20,6 @@ pub fn copy_job(arguments: &[String]) -> Result<Job<'_>, WordsFault>
     ensures none { OnErr result ((input output : List ℕ) →
         ¬ AreArgumentsOf (Copy input output) (texts arguments.now)) }
 {
-    let [input, output] = arguments else {
-        return Err(WordsFault);
-    };
-    if input.is_empty() || output.is_empty() {
-        return Err(WordsFault);
-    }
-    Ok(Job::Copy {
-        input: input.as_str(),
-        output: output.as_str(),
-    })
+    let (input, output) = two_names(arguments)?;
+    Ok(Job::Copy { input, output })
 }

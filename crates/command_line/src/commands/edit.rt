@@ -5,6 +5,7 @@ ghost use Rattle.command_line.specs.Job.{job_of};
 ghost use Rattle.command_line.specs.Words.{texts, HasAllowedNumbers, Edit};
 ghost use Rattle.command_line.specs.Forms.{command_of, AreArgumentsOf};
 
+use crate::arguments::three_names;
 use crate::words::{Job, WordsFault};
 
 /// The job that the words after `edit` name.
@@ -19,15 +20,10 @@ pub fn edit_job(arguments: &[String]) -> Result<Job<'_>, WordsFault>
     ensures none { OnErr result ((input script output : List ℕ) →
         ¬ AreArgumentsOf (Edit input script output) (texts arguments.now)) }
 {
-    let [input, script, output] = arguments else {
-        return Err(WordsFault);
-    };
-    if input.is_empty() || script.is_empty() || output.is_empty() {
-        return Err(WordsFault);
-    }
+    let (input, script, output) = three_names(arguments)?;
     Ok(Job::Edit {
-        input: input.as_str(),
-        script: script.as_str(),
-        output: output.as_str(),
+        input,
+        script,
+        output,
     })
 }

@@ -1,3 +1,5 @@
+use Rattle.jobs.proofs.Joining.{joinable_songs_are_joined}
+use Rattle.jobs.proofs.Listed.{listings_are_assembled}
 use Rattle.jobs.proofs.MetPremises.{statuses_are_ordinary, fitting_songs_are_packed, packed_files_are_run}
 use Rattle.jobs.proofs.claims.premises_are_met.Goals as goal
 
@@ -9,3 +11,9 @@ returns-clause-packed c = fitting_songs_are_packed
 
 pub returns-clause-run : goal.returns-clause-run
 returns-clause-run c = packed_files_are_run
+
+pub returns-clause-listing : goal.returns-clause-listing
+returns-clause-listing c = listings_are_assembled
+
+pub returns-clause-joined : goal.returns-clause-joined
+returns-clause-joined c = joinable_songs_are_joined

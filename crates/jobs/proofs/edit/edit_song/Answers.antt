@@ -1,6 +1,8 @@
-use Rattle.std.proofs.Common.{refl}
+use Rattle.std.proofs.Common.{[], ◌∷◌, refl}
 use Rattle.std.proofs.lemmas.Result.{err_from_is_err_and}
 use Rattle.song_model.specs.Canonical.{canonical}
+use Rattle.command_line.specs.Words.{Edit}
+use Rattle.jobs.specs.Stages.{CanBeEdited, script_limit}
 use Rattle.jobs.proofs.Ends.{wants_first}
 use Rattle.jobs.proofs.Chains.{written}
 use Rattle.jobs.proofs.SecondFile.{both_fail}
@@ -10,7 +12,8 @@ use Rattle.jobs.proofs.edit.edit_song.Goals as goal
 pub returns-in_err-song : goal.returns-in_err-song
 returns-in_err-song g c =
     let p = err_from_is_err_and c.from_residual.result c.from_residual.ensures.1 in
-    rw (p.1, p.2) (λ sink. both_fail refl sink c.in_err-song.ensures.refused)
+    rw (p.1, p.2) (λ sink. both_fail (Edit c.args.input.now c.args.script.now c.args.output.now) c.args.input.now c.args.script.now script_limit [] (CanBeEdited c.args.input.now c.args.script.now ∷ []) refl
+    (λ files song held. tt) sink c.in_err-song.ensures.refused)
 
 pub returns-in_err-edited : goal.returns-in_err-edited
 returns-in_err-edited g c =

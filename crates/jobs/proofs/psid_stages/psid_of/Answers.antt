@@ -1,7 +1,7 @@
 use Rattle.std.proofs.Common.{rules, refl}
 use Rattle.jobs.specs.Lines.{psid_fault_line}
 use Rattle.jobs.specs.Endings as ends
-use Rattle.jobs.proofs.stages.psid_of.Goals as goal
+use Rattle.jobs.proofs.psid_stages.psid_of.Goals as goal
 
 pub returns-in-Err-clause-refused : goal.returns-in-Err-clause-refused
 returns-in-Err-clause-refused c =
