@@ -11,6 +11,8 @@ import resource
 import subprocess
 import sys
 import tempfile
+
+from runs import built_program
 from songs import sounding_song
 
 PATTERNS = 208
@@ -48,8 +50,7 @@ def processor_time(program, folder):
 
 
 def main():
-    top = os.path.dirname(os.path.dirname(os.path.abspath(__file__)))
-    program = os.path.abspath(sys.argv[1]) if len(sys.argv) > 1 else os.path.join(top, "crates/goat/out/goat")
+    program = os.path.abspath(sys.argv[1]) if len(sys.argv) > 1 else built_program()
     with tempfile.TemporaryDirectory() as folder:
         with open(os.path.join(folder, "in"), "wb") as file:
             file.write(sounding_song(PATTERNS, 16))

@@ -86,9 +86,16 @@ def print_rate(program, command, path, what):
 
 
 def built_program():
-    """The binary of this repository, built if it wasn't."""
+    """The program that `./goat` runs: the one that was built of these sources, or their release."""
     subprocess.run([os.path.join(TOP, "goat")], stdout=subprocess.DEVNULL, check=False)
-    return os.path.join(TOP, "crates", "goat", "out", "goat")
+    release = os.path.join(TOP, "release")
+    wanted = "sources " + subprocess.check_output([os.path.join(release, "sum")], text=True).strip()
+    for name, sums in [("out/goat", "out/goat.sources"), ("goat-x86_64-linux", "SOURCES")]:
+        if os.path.isfile(os.path.join(release, sums)):
+            with open(os.path.join(release, sums), encoding="utf-8") as file:
+                if wanted in file.read().splitlines():
+                    return os.path.join(release, name)
+    sys.exit("there is no program of these sources")
 
 
 def main():

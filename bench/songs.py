@@ -12,6 +12,8 @@ import subprocess
 import sys
 import tempfile
 
+from runs import built_program
+
 RUNS = 50
 LIMIT = 262144
 ORDERLIST = bytes([2, 0, 0xFF, 0])
@@ -77,8 +79,7 @@ def processor_time(program, words, folder, status):
 
 
 def main():
-    top = os.path.dirname(os.path.dirname(os.path.abspath(__file__)))
-    program = os.path.abspath(sys.argv[1]) if len(sys.argv) > 1 else os.path.join(top, "crates/goat/out/goat")
+    program = os.path.abspath(sys.argv[1]) if len(sys.argv) > 1 else built_program()
     silent = [silent_song(*shape) for shape in [(1, 0), (15, 16384), (63, 65536), (208, LIMIT)]]
     sounding = [sounding_song(*shape) for shape in [(1, 1), (25, 8), (110, 16), (208, 32)]]
     noted = [noted_song(*shape) for shape in [(1, 1), (25, 8), (110, 16), (208, 32)]]
