@@ -27,3 +27,5 @@ pub mod WorkedRefusals
 pub mod WorkedStill
 pub mod WorkedWhole
 pub mod WorkedJoinable
+-- What a joined song has of each part.
+pub mod Sums

@@ -9,6 +9,9 @@ use Rattle.play_model.specs.Speeds.{IsSpeed}
 use Rattle.play_model.specs.Frame.{trace_with}
 use Rattle.play_model.specs.Playable.{IsPlayable}
 use Rattle.same_frames.specs.OrderLaws.{moved_subtune}
+use Rattle.song_join.specs.declared.faults.JoinPart.{JoinPart}
+use Rattle.song_join.specs.declared.faults.JoinPart.TheVariants.{Subtunes, Instruments, Wave, Pulse, Filter, Speed, Patterns}
+use Rattle.song_join.specs.Limits.{sum_of}
 use Rattle.song_join.specs.Numbers.{new_numbers}
 use Rattle.song_join.specs.Joined.{joined}
 use Rattle.song_join.specs.Refusals.{CanBeJoined}
@@ -51,3 +54,19 @@ pub record AreJoinable (first second : Song) : Type 0 where
 
 abbrev pub JoinedSongsAreWhole : Type 0
 JoinedSongsAreWhole = (first second : Song) → AreJoinable first second → IsWholeJoin (joined first second) first second
+
+-- how many of a part a song brings as the second of two: of its subtunes those that can be played
+abbrev pub brought : Song → JoinPart → ℕ
+brought song Subtunes = length (playable_subtunes song)
+brought song Instruments = length song.instruments
+brought song Wave = length song.wave
+brought song Pulse = length song.pulse
+brought song Filter = length song.filter
+brought song Speed = length song.speed
+brought song Patterns = length song.patterns
+
+-- a third song behind a joined one: of each part there are as many as all three have
+abbrev pub SumsAdd : Type 0
+SumsAdd =
+    (first second third : Song) (part : JoinPart) →
+    sum_of (joined first second) third part ≡ sum_of first second part + brought third part

@@ -1,6 +1,6 @@
 //! Facts about the definitions, each the contract of a function that does nothing.
 
-ghost use Rattle.song_join.specs.JoinLaws.{JoinedSongsAreWhole};
+ghost use Rattle.song_join.specs.JoinLaws.{JoinedSongsAreWhole, SumsAdd};
 ghost use Rattle.song_join.specs.WorkedJoins.{NumbersRise, SongsAreJoined};
 ghost use Rattle.song_join.specs.WorkedJoinable.{JoinableSongs, SongsAreRefused};
 ghost use Rattle.song_join.specs.WorkedWhole.{BeginningsAreKept, BothArePlayed, JoinsAreWhole, SongsAreJoinable};
@@ -10,6 +10,13 @@ ghost use Rattle.song_join.specs.WorkedRefusals.{PartsAreLimited, OversAreFirst,
 /// play, with any options: the first song's subtunes, and then the second's.
 pub fn joined_songs_are_whole()
     ensures { JoinedSongsAreWhole }
+{}
+
+/// A joined song has of each part what both songs bring: so a third song is refused for a part exactly where the three
+/// have too many of it.
+#[tactic(auto, using(crate::proofs::Sums::sums_add_lem))]
+pub fn sums_add()
+    ensures { SumsAdd }
 {}
 
 /// Numbers that rise, and two small songs in one.
