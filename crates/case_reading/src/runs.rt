@@ -136,7 +136,7 @@ pub fn run<R: Files, P: Program>(
         Place::Memory => run_in_memory(program, alloc, words, desk, devices),
         Place::PoorWrites | Place::PoorReads => run_in_want(program, alloc, words, desk, devices),
         Place::Disk => {
-            let mut folder = DiskFolder::new(rt);
+            let mut folder = DiskFolder::new(alloc, rt);
             answered(program, alloc, words, &mut folder, &devices.puts)
         }
     }

@@ -14,7 +14,7 @@ pub fn run_program<R: Env + Files + Print + AllocGlobal>(rt: &R) -> ExitCode {
     let Ok(words) = words(rt) else {
         return ExitCode::from(Status::NoMemory.number());
     };
-    let mut folder = DiskFolder::new(rt);
+    let mut folder = DiskFolder::new(rt.alloc(), rt);
     let mut out = StdSink::new(rt);
     ExitCode::from(goat(rt.alloc(), &words, &mut folder, &mut out))
 }

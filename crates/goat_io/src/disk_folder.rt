@@ -3,6 +3,7 @@
 ghost use Rattle.std.specs.Prelude.{◌≡◌, None};
 ghost use Rattle.goat_io.specs.FolderCounts.{no_counts};
 
+use crate::whole_file::write_whole;
 use crate::{Folder, FolderCounts, ReadFault, WriteFault};
 use std::alloc::Global;
 use std::io::{ErrorKind, Read};
@@ -13,9 +14,10 @@ use std::{fs, io};
 /// The files of the system, by path. It tells nothing of their content.
 ///
 /// Only "not found" is a missing file. A path that is a folder, a right that is wanting and any other error is a fault
-/// of the device.
+/// of the device. A regular file is written whole or not at all.
 #[derive(Drop)]
 pub struct DiskFolder<'a, R> {
+    alloc: Global,
     rt: &'a R,
     counts: FolderCounts,
 }
@@ -30,10 +32,11 @@ impl<'a, R> Model for DiskFolder<'a, R> {
 
 impl<'a, R: Files> DiskFolder<'a, R> {
     /// The system's files through the program's runtime, with every count at 0.
-    pub fn new(rt: &'a R) -> Self
+    pub fn new(alloc: Global, rt: &'a R) -> Self
         ensures { result ≡ no_counts }
     {
         DiskFolder {
+            alloc,
             rt,
             counts: FolderCounts::zero(),
         }
@@ -75,7 +78,7 @@ impl<'a, R: Files> Folder for DiskFolder<'a, R> {
     }
 
     fn write(&mut self, name: &str, bytes: &[u8]) -> Result<(), WriteFault> {
-        match fs::write(self.rt, name, bytes) {
+        match write_whole(self.alloc, self.rt, name, bytes) {
             Ok(()) => Ok(()),
             Err(error) => match error.kind() {
                 ErrorKind::OutOfMemory => Err(WriteFault::NoMemory),

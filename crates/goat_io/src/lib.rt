@@ -20,6 +20,7 @@ mod mem_folder;
 mod mem_sink;
 mod sink;
 mod std_sink;
+mod whole_file;
 
 pub use base::NoMemory;
 pub use count::Count;
