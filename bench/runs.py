@@ -88,14 +88,10 @@ def print_rate(program, command, path, what):
 def built_program():
     """The program that `./goat` runs: the one that was built of these sources, or their release."""
     subprocess.run([os.path.join(TOP, "goat")], stdout=subprocess.DEVNULL, check=False)
-    release = os.path.join(TOP, "release")
-    wanted = "sources " + subprocess.check_output([os.path.join(release, "sum")], text=True).strip()
-    for name, sums in [("out/goat", "out/goat.sources"), ("goat-x86_64-linux", "SOURCES")]:
-        if os.path.isfile(os.path.join(release, sums)):
-            with open(os.path.join(release, sums), encoding="utf-8") as file:
-                if wanted in file.read().splitlines():
-                    return os.path.join(release, name)
-    sys.exit("there is no program of these sources")
+    found = subprocess.run([os.path.join(TOP, "release", "program")], stdout=subprocess.PIPE, text=True)
+    if found.returncode != 0:
+        sys.exit("there is no program of these sources")
+    return found.stdout.strip()
 
 
 def main():
