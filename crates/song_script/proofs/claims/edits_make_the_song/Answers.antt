@@ -1,0 +1,5 @@
+use Rattle.song_script.proofs.WholeLaws.{edits_make_the_song as lemma}
+use Rattle.song_script.proofs.claims.edits_make_the_song.Goals as goal
+
+pub returns : goal.returns
+returns c = lemma
