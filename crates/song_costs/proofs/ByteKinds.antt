@@ -1,0 +1,114 @@
+-- The kinds of a packed song have the bytes that its song says.
+use Rattle.std.proofs.Common.{◌≡◌, ℕ, ◌+◌, ◌-◌, ◌*◌, List, [], ◌∷◌, map, length, refl, ◌∙◌, ap, arith}
+use Rattle.std.specs.List.{filter, sum_by, count_by}
+use Rattle.std.proofs.lemmas.List.{length-map, length-append}
+use Rattle.std.proofs.lemmas.List.Sums.{sum_by-cons, length-filter}
+use Rattle.song_model.specs.declared.orders.Order.{Order}
+use Rattle.song_model.specs.declared.orders.Subtune.{Subtune}
+use Rattle.song_model.specs.declared.instruments.TheConstants.{MOST_INSTRUMENTS}
+use Rattle.song_model.specs.declared.tables.TableRow.{TableRow}
+use Rattle.song_model.specs.declared.songs.Song.{Song}
+use Rattle.song_model.specs.LookUp.{instrument_at, playable_subtunes}
+use Rattle.play_model.specs.declared.options.Options.{Options}
+use Rattle.packed_form.specs.declared.packed_songs.PackedSong.{PackedSong}
+use Rattle.packed_form.specs.Sizes.{list_size, subtune_size, packed_song_size}
+use Rattle.packing_rules.specs.Segments.{ProgramTable, numbers, row_of, keeps}
+use Rattle.packing_rules.specs.ProgramMaps.{retargeted}
+use Rattle.packing_rules.specs.UsedSets.{UsedSets}
+use Rattle.packing_rules.specs.Renumbering.{program_rows, program_number, table_number, pattern_number, wave_programs, pulse_programs, filter_programs}
+use Rattle.packing_rules.specs.SongSizes.{order_size, orders_size, rows_size}
+use Rattle.code_lengths.specs.Lengths.{code_length}
+use Rattle.song_pack.specs.Packed.{order_byte, order_bytes, packed_subtune, passing_numbers, packed_instrument, IsPacked}
+use Rattle.song_costs.specs.declared.costs.Costs.{Costs}
+use Rattle.song_costs.specs.Kinds.{costs_of}
+
+order_bytes_are : (number : ℕ → ℕ) (order : Order) → list_size (order_bytes number order) ≡ order_size order
+order_bytes_are number order =
+    let all = length-append (map (order_byte number) order.entries) (0xFF ∷ order.restart ∷ []) in
+    let entries = length-map order.entries (order_byte number) in
+    omega arith
+
+orders_are : (number : ℕ → ℕ) (subtunes : List Subtune) →
+    sum_by subtune_size (map (packed_subtune number) subtunes) ≡ sum_by orders_size subtunes
+orders_are number [] = refl
+orders_are number (subtune ∷ subtunes) =
+    let packed = sum_by-cons subtune_size (packed_subtune number subtune) (map (packed_subtune number) subtunes) in
+    let plain = sum_by-cons orders_size subtune subtunes in
+    let one = order_bytes_are number subtune.one in
+    let two = order_bytes_are number subtune.two in
+    let three = order_bytes_are number subtune.three in
+    let rest = orders_are number subtunes in
+    omega arith
+
+rows_are : (table : ProgramTable) (rows : List TableRow) → rows ≡ program_rows table →
+    2 * length rows ≡ rows_size keeps table
+unfolding program_rows
+rows_are table rows are =
+    let all = ap length are in
+    let kept = length-map (filter (keeps table) (numbers (length table.rows)))
+    (λ p. retargeted (program_number table) (row_of table p)) in
+    let count = length-filter (keeps table) (numbers (length table.rows)) in
+    omega arith
+
+instruments_are : (song : Song) (used : UsedSets) (packed : PackedSong) → IsPacked song used packed →
+    9 * length packed.instruments ≡ 9 * count_by used.instruments (numbers MOST_INSTRUMENTS)
+unfolding passing_numbers
+instruments_are song used packed is =
+    let all = ap length is.instruments in
+    let kept = filter used.instruments (numbers MOST_INSTRUMENTS) in
+    let made = length-map kept (λ n. packed_instrument (table_number song used) (instrument_at song n)) in
+    let count = length-filter used.instruments (numbers MOST_INSTRUMENTS) in
+    omega arith
+
+-- what is left of the whole size is that of the orderlists
+rest_is : (orders patterns instruments wave pulse filters speed size : ℕ) →
+    size ≡ orders + patterns + instruments + wave + pulse + filters + speed →
+    size - patterns - instruments - wave - pulse - filters - speed ≡ orders
+rest_is orders patterns instruments wave pulse filters speed size e = omega arith
+
+same_costs : {r r' o o' p p' i i' w w' u u' f f' s s' : ℕ} → r ≡ r' → o ≡ o' → p ≡ p' → i ≡ i' → w ≡ w' → u ≡ u' →
+    f ≡ f' →
+    s ≡ s' → ◌≡◌ {A = Costs}
+    (record { player = r; orders = o; patterns = p; instruments = i; wave = w; pulse = u; filter = f; speed = s })
+    (record {
+      player = r';
+      orders = o';
+      patterns = p';
+      instruments = i';
+      wave = w';
+      pulse = u';
+      filter = f';
+      speed = s';
+    })
+same_costs a b c d e f g h = rw (a, b, c, d, e, f, g, h) refl
+
+-- numbers that were taken from the packed song
+pub costs_are : (song : Song) (used : UsedSets) (packed : PackedSong) (options : Options) → IsPacked song used packed →
+    {player patterns count wave pulse filters speed size : ℕ} → player ≡ code_length packed.features.0 options →
+    patterns ≡ sum_by list_size packed.patterns → count ≡ length packed.instruments → wave ≡ 2 * length packed.wave →
+    pulse ≡ 2 * length packed.pulse → filters ≡ 2 * length packed.filter → speed ≡ 2 * length packed.speed →
+    size ≡ packed_song_size packed →
+    ◌≡◌ {A = Costs}
+    (record {
+      player = player;
+      orders = size - patterns - 9 * count - wave - pulse - filters - speed;
+      patterns = patterns;
+      instruments = 9 * count;
+      wave = wave;
+      pulse = pulse;
+      filter = filters;
+      speed = speed;
+    })
+    (costs_of song used packed.features.0 options)
+costs_are song used packed options is {player} {patterns} {count} {wave} {pulse} {filters} {speed} {size}
+    a b c d e f g h =
+    let orders : size - patterns - 9 * count - wave - pulse - filters - speed ≡ sum_by subtune_size packed.subtunes =
+    rest_is (sum_by subtune_size packed.subtunes) patterns (9 * count) wave pulse filters speed size (omega arith) in
+    same_costs a
+    (orders ∙ ap (sum_by subtune_size) is.subtunes ∙ orders_are (pattern_number song used) (playable_subtunes song))
+    (b ∙ ap (sum_by list_size) is.patterns)
+    (ap (λ (n : ℕ). 9 * n) c ∙ instruments_are song used packed is)
+    (d ∙ rows_are (wave_programs song used) packed.wave is.wave)
+    (e ∙ rows_are (pulse_programs song used) packed.pulse is.pulse)
+    (f ∙ rows_are (filter_programs song used) packed.filter is.filter)
+    (g ∙ ap (λ (rows : List TableRow). 2 * length rows) is.speed.rows_are)

@@ -1,0 +1,21 @@
+-- The door: what upper crates may cite.
+pub mod Laws
+-- The order of places, and the search part after part.
+mod Ranks
+mod Search
+mod Leaves
+mod OrderPlaces
+mod PatternPlaces
+mod MarkedPlaces
+mod SongPlaces
+-- Features and places.
+mod FeaturePlaces
+mod OnePlace
+-- Bytes.
+mod ByteKinds
+mod Sums
+mod KeptParts
+mod KeptLists
+-- Worked by hand.
+mod WorkedPlaces
+mod WorkedCosts

@@ -1,0 +1,38 @@
+-- How many bytes a song takes in a packed file, kind by kind, by this project's own packed form. Orderlists and
+-- patterns are counted with two bytes each for their addresses, and the player with the frequencies of notes.
+use Rattle.std.specs.Prelude.{ℕ, ◌+◌, ◌*◌, length, sum_by, count_by}
+use Rattle.std.specs.Str.{bytes_eq}
+use Rattle.song_model.specs.declared.instruments.TheConstants.{MOST_INSTRUMENTS}
+use Rattle.song_model.specs.declared.tables.TableName.TheVariants.{Speed}
+use Rattle.song_model.specs.declared.songs.Song.{Song}
+use Rattle.song_model.specs.LookUp.{playable_subtunes}
+use Rattle.play_model.specs.declared.options.Options.{Options}
+use Rattle.packed_form.specs.Sizes.{list_size}
+use Rattle.packing_rules.specs.Segments.{numbers, keeps}
+use Rattle.packing_rules.specs.UsedSets.{UsedSets}
+use Rattle.packing_rules.specs.Renumbering.{first_seen, speed_rows, filter_programs, pulse_programs, wave_programs, pattern_texts}
+use Rattle.packing_rules.specs.SongSizes.{orders_size, rows_size}
+use Rattle.code_lengths.specs.Lengths.{code_length}
+use Rattle.song_costs.specs.declared.costs.Costs.{Costs}
+
+-- patterns with the same text are counted once, and so are programs that are equal
+abbrev pub costs_of : Song → UsedSets → ℕ → Options → Costs
+costs_of song used features options = record {
+  player = code_length features options;
+  orders = sum_by orders_size (playable_subtunes song);
+  patterns = sum_by list_size (first_seen bytes_eq (pattern_texts song used));
+  instruments = 9 * count_by used.instruments (numbers MOST_INSTRUMENTS);
+  wave = rows_size keeps (wave_programs song used);
+  pulse = rows_size keeps (pulse_programs song used);
+  filter = rows_size keeps (filter_programs song used);
+  speed = 2 * length (speed_rows song (used.pointers Speed));
+}
+
+-- those of the song's data
+abbrev pub data_bytes : Costs → ℕ
+data_bytes costs =
+    costs.orders + costs.patterns + costs.instruments + costs.wave + costs.pulse + costs.filter + costs.speed
+
+-- and all
+abbrev pub all_bytes : Costs → ℕ
+all_bytes costs = costs.player + data_bytes costs

@@ -1,0 +1,88 @@
+-- What of a song needs a feature: which bytes of orderlists, rows of patterns, instruments and rows of the wave table.
+-- This is this project's profile of the GoatTracker 2 readme's commands and tables.
+use Rattle.std.specs.Prelude.{◌≡◌, ◌≢◌, ℕ, ◌+◌, ◌%◌, ◌≤◌, ◌⊎◌, Option, Some}
+use Rattle.song_model.specs.declared.rows.Row.{Row}
+use Rattle.song_model.specs.declared.instruments.Instrument.{Instrument}
+use Rattle.song_model.specs.declared.tables.TableRow.{TableRow}
+use Rattle.song_model.specs.declared.tables.TableName.{TableName}
+use Rattle.song_model.specs.declared.tables.TableName.TheVariants.{Wave, Pulse, Filter, Speed}
+use Rattle.song_model.specs.declared.features.Feature.{Feature}
+use Rattle.song_model.specs.declared.features.Feature.TheVariants.{Transpose, Repeat, PortaUp, PortaDown, TonePorta, TieNote, Vibrato, InstrumentVibrato, NoteDependent, SetAd, SetSr, SetWave, SetWavePointer, PulseTable, SetPulsePointer, FilterTable, SetFilterPointer, FilterControl, Cutoff, Volume, FunkTempo, SetTempo, WaveTable, WaveCommand}
+use Rattle.song_model.specs.declared.songs.Song.{Song}
+use Rattle.song_model.specs.LookUp.{speed_row, instrument_at}
+use Rattle.song_model.specs.Pointers.{instrument_pointer, command_table, wave_row_table}
+use Rattle.play_model.specs.Features.{IsAny, HasInstrument}
+
+pub record Need : Type 1 where
+  pub byte : ℕ → Type 0
+  pub row : Row → Type 0
+  pub instrument : Instrument → Type 0
+  pub wave_row : TableRow → Type 0
+
+abbrev pub nothing : Need
+nothing = record { byte = λ b. ⊥; row = λ r. ⊥; instrument = λ i. ⊥; wave_row = λ r. ⊥ }
+
+-- bytes of orderlists in this range
+abbrev pub of_bytes : ℕ → ℕ → Need
+of_bytes from to = record nothing { byte = λ b. (from ≤ b) × (b ≤ to) }
+
+-- rows of patterns with such a command and parameter
+abbrev pub of_rows : (ℕ → ℕ → Type 0) → Need
+of_rows IsMeant = record nothing { row = λ r. IsMeant r.command r.param }
+
+-- the command with such a parameter, in rows of patterns, and in rows of the wave table, whose left side is $F0 plus
+-- the command
+abbrev pub of_command : ℕ → (ℕ → Type 0) → Need
+of_command command IsMeant = record nothing {
+  row = λ r. (r.command ≡ command) × IsMeant r.param;
+  wave_row = λ r. (r.left ≡ 0xF0 + command) × IsMeant r.right;
+}
+
+-- the number points into the table, at such a row
+abbrev pub Points : TableName → (ℕ → Type 0) → Option TableName → ℕ → Type 0
+Points name IsMeant table p = (table ≡ Some name) × (p ≢ 0) × IsMeant p
+
+-- pointers to such a row of the table
+abbrev pub of_pointers : TableName → (ℕ → Type 0) → Need
+of_pointers name IsMeant = record nothing {
+  row = λ r. Points name IsMeant (command_table r.command) r.param;
+  instrument = λ i. Points name IsMeant (Some name) (instrument_pointer name i);
+  wave_row = λ r. Points name IsMeant (wave_row_table r.left) r.right;
+}
+
+-- a vibrato parameter, where some used instrument, not always the same, has a vibrato delay
+abbrev pub of_vibrato : Song → Need
+of_vibrato song = record nothing {
+  instrument = λ i. (i.vibrato ≢ 0) × HasInstrument song (λ j. (instrument_at song j).vibrato_delay);
+}
+
+-- rows of the wave table with a left side in this range
+abbrev pub of_left_sides : ℕ → ℕ → Need
+of_left_sides from to = record nothing { wave_row = λ r. (from ≤ r.left) × (r.left ≤ to) }
+
+-- what needs the feature
+abbrev pub need_of : Song → Feature → Need
+need_of song Transpose = of_bytes 0xE0 0xFE
+need_of song Repeat = of_bytes 0xD0 0xDF
+need_of song PortaUp = of_command 1 IsAny
+need_of song PortaDown = of_command 2 IsAny
+need_of song TonePorta = of_command 3 (λ d. d ≢ 0)
+need_of song TieNote = of_command 3 (λ d. d ≡ 0)
+need_of song Vibrato = of_command 4 IsAny
+need_of song InstrumentVibrato = of_vibrato song
+need_of song NoteDependent = of_pointers Speed (λ p. 0x80 ≤ (speed_row song p).left)
+need_of song SetAd = of_command 5 IsAny
+need_of song SetSr = of_command 6 IsAny
+need_of song SetWave = of_command 7 IsAny
+need_of song SetWavePointer = of_rows (λ c d. c ≡ 8)
+need_of song PulseTable = of_pointers Pulse IsAny
+need_of song SetPulsePointer = of_command 9 IsAny
+need_of song FilterTable = of_pointers Filter IsAny
+need_of song SetFilterPointer = of_command 0xA IsAny
+need_of song FilterControl = of_command 0xB IsAny
+need_of song Cutoff = of_command 0xC IsAny
+need_of song Volume = of_command 0xD IsAny
+need_of song FunkTempo = of_rows (λ c d. (c ≡ 0xE) ⊎ ((c ≡ 0xF) × (d ≤ 1)))
+need_of song SetTempo = of_rows (λ c d. (c ≡ 0xF) × (3 ≤ d % 128))
+need_of song WaveTable = of_pointers Wave IsAny
+need_of song WaveCommand = of_left_sides 0xF0 0xFE

@@ -1,0 +1,71 @@
+-- First places of small songs, worked out by hand, each with places beside it that aren't the first; and the order of
+-- places.
+use Rattle.std.specs.Prelude.{[], ◌∷◌}
+use Rattle.song_model.specs.declared.features.Feature.TheVariants.{Transpose, PortaUp, InstrumentVibrato, FilterTable, WaveCommand}
+use Rattle.song_model.specs.declared.songs.Song.{Song}
+use Rattle.song_model.specs.LookUp.{zero_instrument}
+use Rattle.song_model.specs.Silence.{empty_song, rest_row}
+use Rattle.play_model.specs.WorkedSongs.{subtune, row, sides, other_vibrato}
+use Rattle.song_costs.specs.declared.places.Place.{Place}
+use Rattle.song_costs.specs.declared.places.Place.TheVariants.{InOrder, InPattern, InInstrument, InWaveTable}
+use Rattle.song_costs.specs.Places.{NeedsAt, IsNotAfter, IsFirstPlace}
+
+-- the first subtune has an empty orderlist, so it isn't played, nor are pattern 0 and instrument 2 used; in the second
+-- one channels 2 and 3 have a transpose each, and pattern 2 names instrument 3
+abbrev pub crossing : Song
+crossing = record empty_song {
+  subtunes = subtune (0xE1 ∷ 0 ∷ []) [] (0 ∷ [])
+      ∷ subtune (1 ∷ []) (1 ∷ 0xF0 ∷ 1 ∷ []) (0xE2 ∷ 2 ∷ []) ∷ [];
+  patterns = (row 0x90 2 1 0 ∷ []) ∷ (rest_row ∷ row 0xBD 0 1 0 ∷ row 0xBD 0 1 0 ∷ [])
+      ∷ (row 0x90 3 1 0 ∷ []) ∷ [];
+  instruments = (record zero_instrument { wave = 1 }) ∷ (record zero_instrument { filter = 1 })
+      ∷ (record zero_instrument { filter = 1 }) ∷ [];
+  wave = sides 0x41 0 ∷ sides 0xF1 0 ∷ sides 0xFF 0 ∷ [];
+  filter = sides 0x90 0 ∷ sides 0xFF 0 ∷ [];
+}
+
+-- a transpose in an orderlist that isn't played is none, and one in channel 3 is later
+pub record TransposesAreWorked : Type 0 where
+  pub first : IsFirstPlace crossing Transpose (InOrder 2 2 1)
+  pub unplayed : ¬ NeedsAt crossing Transpose (InOrder 1 1 0)
+  pub later : NeedsAt crossing Transpose (InOrder 2 3 0)
+  pub not_first : ¬ IsFirstPlace crossing Transpose (InOrder 2 3 0)
+
+-- the command in a pattern that isn't used is none; the next row, the next pattern and the wave table are later
+pub record PortamentosAreWorked : Type 0 where
+  pub first : IsFirstPlace crossing PortaUp (InPattern 1 1)
+  pub unused : ¬ NeedsAt crossing PortaUp (InPattern 0 0)
+  pub next_row : ¬ IsFirstPlace crossing PortaUp (InPattern 1 2)
+  pub next_pattern : ¬ IsFirstPlace crossing PortaUp (InPattern 2 0)
+  pub in_wave_table : NeedsAt crossing PortaUp (InWaveTable 2)
+  pub wave_table : ¬ IsFirstPlace crossing PortaUp (InWaveTable 2)
+
+-- the pointer of an instrument that isn't used is no filter's place, nor is a portamento; and the jump behind a command
+-- of the wave table isn't the command's
+pub record TablesAreWorked : Type 0 where
+  pub first : IsFirstPlace crossing FilterTable (InInstrument 3)
+  pub unused : ¬ NeedsAt crossing FilterTable (InInstrument 2)
+  pub no_row : ¬ NeedsAt crossing FilterTable (InPattern 1 1)
+  pub command : IsFirstPlace crossing WaveCommand (InWaveTable 2)
+  pub jump : ¬ NeedsAt crossing WaveCommand (InWaveTable 3)
+
+-- instrument 1 has a vibrato delay and no parameter, instrument 2 a parameter and no delay, and both are used: the
+-- place is that of the parameter
+pub record VibratosAreWorked : Type 0 where
+  pub first : IsFirstPlace (other_vibrato 5) InstrumentVibrato (InInstrument 2)
+  pub delay : ¬ NeedsAt (other_vibrato 5) InstrumentVibrato (InInstrument 1)
+
+-- ---- the order
+
+abbrev pub ComesBefore : Place → Place → Type 0
+ComesBefore place other = IsNotAfter place other × ¬ IsNotAfter other place
+
+-- subtunes come before channels and these before entries, patterns before rows, and numbers ascend
+pub record PlacesInOrder : Type 0 where
+  pub subtunes : ComesBefore (InOrder 1 3 0) (InOrder 2 1 0)
+  pub channels : ComesBefore (InOrder 1 1 4) (InOrder 1 2 3)
+  pub entries : ComesBefore (InOrder 1 1 3) (InOrder 1 1 4)
+  pub patterns : ComesBefore (InPattern 1 4) (InPattern 2 3)
+  pub rows : ComesBefore (InPattern 1 3) (InPattern 1 4)
+  pub instruments : ComesBefore (InInstrument 1) (InInstrument 2)
+  pub wave_rows : ComesBefore (InWaveTable 3) (InWaveTable 4)

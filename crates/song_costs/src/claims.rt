@@ -1,0 +1,58 @@
+//! Facts about the definitions, each the contract of a function that does nothing.
+
+ghost use Rattle.song_costs.specs.PlaceLaws.{FeaturesAreNeeded, FirstPlacesAreOne};
+ghost use Rattle.song_costs.specs.CostLaws.{CostsAddUp, PartsAddUp, KeptPartsAddUp, KeptPartsAreOne};
+ghost use Rattle.song_costs.specs.Names.{NamesAreShort};
+ghost use Rattle.song_costs.specs.WorkedCosts.{NoteIsWorked, TablesAreCounted, PartsAreWorked, ListIsWorked, OptionsAreWorked};
+ghost use Rattle.song_costs.specs.WorkedPlaces.{TransposesAreWorked, PortamentosAreWorked, TablesAreWorked, VibratosAreWorked, PlacesInOrder};
+
+/// A song uses a feature exactly where some place needs it, and at most one place is the first.
+pub fn features_have_first_places()
+    ensures needed { FeaturesAreNeeded }
+    ensures one { FirstPlacesAreOne }
+{}
+
+/// The kinds of data add up to the packed size, and with the player to the length of an image; and the parts that are
+/// kept to the player, as do those that are told.
+pub fn costs_add_up()
+    ensures costs { CostsAddUp }
+    ensures parts { PartsAddUp }
+    ensures told { KeptPartsAddUp }
+{}
+
+/// A song and options have one list of parts that are told.
+pub fn kept_parts_are_one()
+    ensures { KeptPartsAreOne }
+{}
+
+/// The names of parts are short, and no two are alike.
+pub fn part_names_are_short()
+    ensures { NamesAreShort }
+{}
+
+/// First places of small songs: in an orderlist, in a pattern, an instrument and in the wave table, with others beside
+/// them that are later, or that aren't used; and the place of a vibrato, which is that of its parameter.
+#[tactic(auto, using(crate::proofs::WorkedPlaces::transposes_are_worked, crate::proofs::WorkedPlaces::portamentos_are_worked, crate::proofs::WorkedPlaces::tables_are_worked, crate::proofs::WorkedPlaces::vibratos_are_worked))]
+pub fn worked_places()
+    ensures orders { TransposesAreWorked }
+    ensures patterns { PortamentosAreWorked }
+    ensures tables { TablesAreWorked }
+    ensures vibrato { VibratosAreWorked }
+{}
+
+/// Which of two places comes first.
+#[tactic(auto, using(crate::proofs::WorkedPlaces::places_in_order))]
+pub fn places_in_order()
+    ensures { PlacesInOrder }
+{}
+
+/// The bytes of a song of one note, kind by kind, and of one whose four tables have different numbers of rows; and
+/// parts that are told, with others beside them that aren't.
+#[tactic(auto, using(crate::proofs::WorkedCosts::note_is_worked, crate::proofs::WorkedCosts::tables_are_counted, crate::proofs::WorkedCosts::parts_are_worked, crate::proofs::WorkedCosts::list_is_worked, crate::proofs::WorkedCosts::options_are_worked))]
+pub fn worked_costs()
+    ensures note { NoteIsWorked }
+    ensures tables { TablesAreCounted }
+    ensures parts { PartsAreWorked }
+    ensures list { ListIsWorked }
+    ensures options { OptionsAreWorked }
+{}

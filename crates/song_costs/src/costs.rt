@@ -1,0 +1,98 @@
+//! Bytes by kind.
+
+ghost use Rattle.std.specs.Prelude.{◌≡◌, ◌≤◌, ◌+◌, ◌*◌, sum_by, length};
+ghost use Rattle.song_model.specs.declared.songs.Song.{Song as AnySong};
+ghost use Rattle.packed_form.specs.Sizes.{list_size, packed_song_size};
+ghost use Rattle.packing_rules.specs.UsedSets.{UsedSets};
+ghost use Rattle.code_lengths.specs.Lengths.{code_length};
+ghost use Rattle.song_pack.specs.Packed.{IsPacked};
+ghost use Rattle.song_costs.specs.Kinds.{costs_of, all_bytes};
+
+use code_lengths::code_length;
+use packed_form::{PackedPatternList, PackedSong};
+use play_model::Options;
+use song_model::Table;
+
+/// How many bytes a song takes in a packed file, kind by kind.
+#[derive(Clone, Copy, Debug, PartialEq, Eq)]
+pub struct Costs {
+    /// The player's code with its variables and the 196 bytes of the frequencies of notes.
+    pub player: u32,
+    /// The orderlists, with two bytes for the address of each.
+    pub orders: u32,
+    /// The patterns, with two bytes for the address of each.
+    pub patterns: u32,
+    /// The instruments, nine bytes each.
+    pub instruments: u32,
+    /// The rows of the wave table, two bytes each.
+    pub wave: u32,
+    /// Those of the pulse table.
+    pub pulse: u32,
+    /// Those of the filter table.
+    pub filter: u32,
+    /// Those of the speed table.
+    pub speed: u32,
+}
+
+impl Costs {
+    /// The bytes of all kinds: the length of the image.
+    pub fn sum(&self) -> u64
+        ensures { result ≡ all_bytes self.now }
+    {
+        u64::from(self.player)
+            + u64::from(self.orders)
+            + u64::from(self.patterns)
+            + u64::from(self.instruments)
+            + u64::from(self.wave)
+            + u64::from(self.pulse)
+            + u64::from(self.filter)
+            + u64::from(self.speed)
+    }
+}
+
+/// The bytes of packed patterns.
+fn patterns_bytes(patterns: &PackedPatternList) -> u32
+    ensures size { result ≡ sum_by list_size patterns.now }
+    ensures most { result ≤ 53_664 }
+{
+    let mut bytes = 0;
+    for pattern in patterns.as_slice() {
+        bytes += 2 + pattern.as_slice().len() as u32;
+    }
+    bytes
+}
+
+/// The bytes of a packed table.
+fn rows_bytes(table: &Table) -> u32
+    ensures size { result ≡ 2 * length table.now }
+    ensures most { result ≤ 510 }
+{
+    2 * table.as_slice().len() as u32
+}
+
+/// How many bytes each kind takes of a song that is packed so, with a player for these options.
+pub fn costs_by_kind(packed: &PackedSong, options: Options) -> Costs
+    // Each number is the one that the packed form's definitions name.
+    ensures exact { (song : AnySong) (used : UsedSets) → IsPacked song used packed.now →
+        result ≡ costs_of song used packed.now.features.0 options }
+    // They add up to the image's length.
+    ensures length { all_bytes result ≡
+        packed_song_size packed.now + code_length packed.now.features.0 options }
+{
+    let patterns = patterns_bytes(&packed.patterns);
+    let instruments = 9 * packed.instruments.as_slice().len() as u32;
+    let wave = rows_bytes(&packed.wave);
+    let pulse = rows_bytes(&packed.pulse);
+    let filter = rows_bytes(&packed.filter);
+    let speed = rows_bytes(&packed.speed);
+    Costs {
+        player: code_length(packed.features, options),
+        orders: packed.size() - patterns - instruments - wave - pulse - filter - speed,
+        patterns,
+        instruments,
+        wave,
+        pulse,
+        filter,
+        speed,
+    }
+}

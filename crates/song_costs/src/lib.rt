@@ -1,0 +1,28 @@
+//! What a song costs in a packed file, and why: bytes by kind, and for each part of the player the first place that
+//! wants it.
+//!
+//! The layer's one contract: the numbers of `costs_by_kind` are those of the packed form's definitions and add up to
+//! the image's length, and `part_cost` tells a part exactly where it is kept and has code, with the first place of the
+//! song that needs its feature, which is that of `first_place`.
+//!
+//! It stands on `usage` for what a song uses, on `play_model` for what a feature is, on `packed_form`, `packing_rules`
+//! and `song_pack` for what is packed and how many bytes that has, and on `code_lengths` for the bytes of the player's
+//! parts. The command that tells costs stands on it.
+#![tactic(auto)]
+
+/// Facts about the definitions.
+pub mod claims;
+mod costs;
+mod first_places;
+mod instruments;
+mod kept;
+mod needs;
+mod orders;
+mod patterns;
+mod places;
+mod wave_rows;
+
+pub use costs::{Costs, costs_by_kind};
+pub use first_places::first_place;
+pub use kept::{Cause, PART_NAMES, PARTS, PartCost, part_cost};
+pub use places::Place;
