@@ -3,13 +3,21 @@ use Rattle.std.proofs.Common.{◌≡◌, ℕ, ◌<◌, ◌/◌, ◌%◌, Bool, t
 use Rattle.std.proofs.lemmas.Bool.{agree_below_at, eqb-true}
 use Rattle.std.specs.Char.{to_ascii_uppercase}
 use Rattle.hex.specs.Hex.{lower_digits, upper_digits, encode_with, encode_lower, encode_upper}
-use Rattle.command_line.specs.Lines.{address_digits}
+use Rattle.command_line.specs.Lines.{byte_digits, address_digits}
 
 pub digit_up : (d : ℕ) → d < 16 → to_ascii_uppercase (slice_index lower_digits d) ≡ slice_index upper_digits d
 digit_up d lt =
     let test : ℕ → Bool = λ n. nat_eq (to_ascii_uppercase (slice_index lower_digits n)) (slice_index upper_digits n) in
     eqb-true (to_ascii_uppercase (slice_index lower_digits d)) (slice_index upper_digits d)
     (agree_below_at test (λ n. true) 16 d refl lt)
+
+pub byte_up : (byte : ℕ) (digits up : List ℕ) → byte < 256 → digits ≡ encode_lower (byte ∷ []) →
+    up ≡ map to_ascii_uppercase digits → up ≡ byte_digits byte
+unfolding encode_with
+byte_up byte digits up small lower upper =
+    let a = digit_up (byte / 16) (omega arith) in
+    let b = digit_up (byte % 16) (omega arith) in
+    upper ∙ ap (map to_ascii_uppercase) lower ∙ cc
 
 pub word_up : (high low : ℕ) → high < 256 → low < 256 →
     map to_ascii_uppercase (encode_lower (high ∷ low ∷ [])) ≡ encode_upper (high ∷ low ∷ [])

@@ -1,15 +1,19 @@
 -- The words of the command line, and the job that they name.
-use Rattle.std.proofs.Common.{◌≡◌, ℕ, ◌≤◌, ◌<◌, ◌+◌, ◌*◌, ◌^◌, Bool, true, false, List, [], ◌∷◌, subst, length, get_or, Result, Ok, Err, IfOk, OnErr, refl, sym, ap, ◌∙◌, String, arith}
+use Rattle.std.proofs.Common.{◌≡◌, ℕ, ◌≤◌, ◌<◌, ◌+◌, ◌*◌, ◌^◌, Bool, true, false, if◌then◌else◌, codes, List, [], ◌∷◌, subst, length, get_or, Result, Ok, Err, IfOk, OnErr, refl, sym, ap, ◌∙◌, String, arith}
 use Rattle.std.proofs.lemmas.Fmt.{decimal_injective}
 use Rattle.std.specs.Global.{Global}
 use Rattle.std.specs.String.{string_bytes}
 use Rattle.std.specs.Str.{bytes_eq}
+use Rattle.std.specs.Option.{option_to_list}
 use Rattle.base.proofs.Laws.{same_head}
 use Rattle.play_model.specs.declared.options.Options.{Options}
 use Rattle.play_model.specs.Speeds.{IsSpeed}
+use Rattle.command_line.specs.declared.topics.Topic.{Topic}
+use Rattle.command_line.specs.declared.topics.Topic.TheVariants.{All, Check, Parts, Trace, Pack, Run, Show, Edit, Copy, Join, Disasm, Asm, Selftest, Help, Version}
+use Rattle.command_line.specs.Topics.{form_word}
 use Rattle.command_line.specs.Words as asked
 use Rattle.command_line.specs.Words.{Job, texts, format_word, skip_word, IsAddressWord, IsZeroPageWord, IsNumberWord, IsSpeedWord, AreOptionWords, unsaid, said, ArePackArguments, AreTraceArguments}
-use Rattle.command_line.specs.Forms.{WordsOf, command_of}
+use Rattle.command_line.specs.Forms.{WordsOf, command_of, command_named}
 
 -- ---- a list of so many words
 
@@ -192,11 +196,52 @@ same_options a b same (said o speed) (said o2 speed2) =
     let speeds = same_speed (cc (same)) speed speed2 in
     same_record o o2 skips.0 skips.1 speeds
 
+-- the topic that words tell
+abbrev topic_in : List (List ℕ) → Topic
+topic_in [] = All
+topic_in (word ∷ words) =
+    if bytes_eq word (codes "check") then Check
+    else if bytes_eq word (codes "parts") then Parts
+    else if bytes_eq word (codes "trace") then Trace
+    else if bytes_eq word (codes "pack") then Pack
+    else if bytes_eq word (codes "run") then Run
+    else if bytes_eq word (codes "show") then Show
+    else if bytes_eq word (codes "edit") then Edit
+    else if bytes_eq word (codes "copy") then Copy
+    else if bytes_eq word (codes "join") then Join
+    else if bytes_eq word (codes "disasm") then Disasm
+    else if bytes_eq word (codes "asm") then Asm
+    else if bytes_eq word (codes "selftest") then Selftest
+    else if bytes_eq word (codes "help") then Help
+    else if bytes_eq word (codes "version") then Version
+    else All
+
+told_back : (topic : Topic) → topic_in (option_to_list (form_word topic)) ≡ topic
+told_back All = refl
+told_back Check = refl
+told_back Parts = refl
+told_back Trace = refl
+told_back Pack = refl
+told_back Run = refl
+told_back Show = refl
+told_back Edit = refl
+told_back Copy = refl
+told_back Join = refl
+told_back Disasm = refl
+told_back Asm = refl
+told_back Selftest = refl
+told_back Help = refl
+told_back Version = refl
+
+same_topic : (a b : Topic) → option_to_list (form_word a) ≡ option_to_list (form_word b) → a ≡ b
+same_topic a b same = sym (told_back a) ∙ ap topic_in same ∙ told_back b
+
 -- a first word is that of one command
 differ : (ws : List (List ℕ)) (a b : Job) → WordsOf ws a → WordsOf ws b →
     bytes_eq (command_of a) (command_of a) ≡ true → bytes_eq (command_of a) (command_of b) ≡ false → ⊥
 differ ws a b p q same other =
-    let first = same_head _ _ _ _ (sym p.words_are ∙ q.words_are) in
+    let word = same_head _ _ _ _ (sym p.words_are ∙ q.words_are) in
+    let first : command_of a ≡ command_of b = sym p.is_command ∙ ap command_named word ∙ q.is_command in
     let never : true ≡ false = sym same ∙ ap (bytes_eq (command_of a)) first ∙ other in absurd (cc (never))
 
 -- words of one list name one job
@@ -257,3 +302,18 @@ one_job ws (asked.Asm i o) other p q = absurd (differ ws (asked.Asm i o) other p
 one_job ws (asked.Join i s o) (asked.Join i2 s2 o2) p q =
     cc (p.words_are, q.words_are, p.are_arguments.form, q.are_arguments.form)
 one_job ws (asked.Join i s o) other p q = absurd (differ ws (asked.Join i s o) other p q refl refl)
+one_job ws (asked.Help t) (asked.Help t2) p q =
+    ap asked.Help (same_topic t t2 (cc (p.words_are, q.words_are, p.are_arguments, q.are_arguments)))
+one_job ws (asked.Help t) other p q = absurd (differ ws (asked.Help t) other p q refl refl)
+one_job ws asked.Version asked.Version p q = refl
+one_job ws asked.Version other p q = absurd (differ ws asked.Version other p q refl refl)
+one_job ws (asked.Show i o) (asked.Show i2 o2) p q =
+    cc (p.words_are, q.words_are, p.are_arguments.form, q.are_arguments.form)
+one_job ws (asked.Show i o) other p q = absurd (differ ws (asked.Show i o) other p q refl refl)
+one_job ws (asked.Parts i x) (asked.Parts i2 x2) p q =
+    let v = p.are_arguments in
+    let w = q.are_arguments in
+    let options : x ≡ x2 =
+    same_options x x2 (cc (p.words_are, q.words_are, v.form, w.form)) v.options_spelled w.options_spelled in
+    cc (p.words_are, q.words_are, v.form, w.form, options)
+one_job ws (asked.Parts i x) other p q = absurd (differ ws (asked.Parts i x) other p q refl refl)

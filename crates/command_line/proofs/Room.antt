@@ -7,8 +7,8 @@ use Rattle.std.proofs.lemmas.List.Sums.{sum_by-cons}
 use Rattle.hex.specs.Hex.{lower_digits, upper_digits, encode_lower}
 use Rattle.hex.proofs.HexLemmas.{length-encode_with}
 use Rattle.command_line.specs.declared.message.Piece.{Piece}
-use Rattle.command_line.specs.declared.message.Piece.TheVariants.{Words, Name, Number, Address, Features, Sum}
-use Rattle.command_line.specs.Lines.{address_digits, feature_digits, sum_digits}
+use Rattle.command_line.specs.declared.message.Piece.TheVariants.{Words, Name, Number, Byte, Address, Features, Sum}
+use Rattle.command_line.specs.Lines.{byte_digits, address_digits, feature_digits, sum_digits}
 use Rattle.command_line.specs.RegisterText.{register_line, call_digits}
 use Rattle.std.proofs.lemmas.List.{length-replicate}
 use Rattle.command_line.specs.Laws.{LinesHaveRoom}
@@ -20,6 +20,9 @@ digits_fit n small = length-decimal-le 20 n (lit< tt) (omega arith) small
 
 pub byte_fits : (n : ℕ) → n < 256 → length (decimal n) ≤ 3
 byte_fits n small = length-decimal-le 3 n (lit< tt) (omega arith) (omega (arith, small))
+
+pub hex_fits : (byte : ℕ) → length (byte_digits byte) ≡ 2
+hex_fits byte = length-encode_with upper_digits (byte ∷ [])
 
 pub address_fits : (address : ℕ) → length (address_digits address) ≡ 4
 address_fits address = length-encode_with upper_digits ((address / 256) ∷ (address % 256) ∷ [])
@@ -43,7 +46,7 @@ sum_fits sum =
 pub ten_digits : (n : ℕ) → n < 10 ^ 10 → length (decimal n) ≤ 10
 ten_digits n small = length-decimal-le 10 n (lit< tt) small (omega (arith, small))
 
-pub ruleset pieces_fit = (digits_fit, byte_fits, address_fits, features_fit, sum_fits)
+pub ruleset pieces_fit = (digits_fit, byte_fits, hex_fits, address_fits, features_fit, sum_fits)
 
 -- a line is longer than its first pieces
 pub first_pieces : (pieces : List Piece) (i room : ℕ) (text : List ℕ) (d : Piece) → i < length pieces →
@@ -65,6 +68,7 @@ piece_lengths : (piece : Piece) → length (piece_text piece) ≡ own_length pie
 piece_lengths (Words words) = omega arith
 piece_lengths (Name name) = omega arith
 piece_lengths (Number number) = omega arith
+piece_lengths (Byte byte) = omega arith
 piece_lengths (Address address) = omega arith
 piece_lengths (Features bits) = omega arith
 piece_lengths (Sum sum) = omega arith

@@ -1,9 +1,12 @@
 -- The forms of the command line: the words that name each job.
-use Rattle.std.specs.Prelude.{◌≡◌, ◌≢◌, ℕ, List, [], ◌∷◌, codes}
+use Rattle.std.specs.Prelude.{◌≡◌, ◌≢◌, ℕ, List, [], ◌∷◌, codes, ◌||◌, if◌then◌else◌}
+use Rattle.std.specs.Option.{option_to_list}
+use Rattle.std.specs.Str.{bytes_eq}
+use Rattle.command_line.specs.Topics.{form_word}
 use Rattle.command_line.specs.Words as asked
-use Rattle.command_line.specs.Words.{Job, ArePackArguments, AreTraceArguments, AreRunArguments, AreSelftestArguments}
+use Rattle.command_line.specs.Words.{Job, ArePackArguments, AreTraceArguments, AreRunArguments, AreSelftestArguments, ArePartsArguments}
 
--- a command's first word, and the words after it
+-- a command, and the words after it
 pub record Form : Type 1 where
   pub command : List ℕ
   pub has_arguments : List (List ℕ) → Type 0
@@ -63,6 +66,23 @@ form_of (asked.Join input second output) = record {
   command = codes "join";
   has_arguments = λ words. AreThreeNames words input second output;
 }
+-- there is no argument, or the first word of a form
+form_of (asked.Help topic) = record {
+  command = codes "help";
+  has_arguments = λ words. words ≡ option_to_list (form_word topic);
+}
+form_of asked.Version = record {
+  command = codes "version";
+  has_arguments = λ words. words ≡ [];
+}
+form_of (asked.Show input output) = record {
+  command = codes "show";
+  has_arguments = λ words. AreTwoNames words input output;
+}
+form_of (asked.Parts input options) = record {
+  command = codes "parts";
+  has_arguments = λ words. ArePartsArguments words input options;
+}
 
 abbrev pub command_of : Job → List ℕ
 command_of job = (form_of job).command
@@ -70,10 +90,18 @@ command_of job = (form_of job).command
 abbrev pub AreArgumentsOf : Job → List (List ℕ) → Type 0
 AreArgumentsOf job words = (form_of job).has_arguments words
 
+-- the command that a first word names: its own, but for the words that other programs have for help and version
+abbrev pub command_named : List ℕ → List ℕ
+command_named word =
+    if bytes_eq word (codes "--help") || bytes_eq word (codes "-h") then codes "help"
+    else if bytes_eq word (codes "--version") then codes "version" else word
+
 -- the words name this job
 pub record WordsOf (words : List (List ℕ)) (job : Job) : Type 0 where
+  pub first : List ℕ
   pub arguments : List (List ℕ)
-  pub words_are : words ≡ command_of job ∷ arguments
+  pub words_are : words ≡ first ∷ arguments
+  pub is_command : command_named first ≡ command_of job
   pub are_arguments : AreArgumentsOf job arguments
 
 -- no form of the command line has these words

@@ -15,3 +15,7 @@ job_of (code.Selftest number) = asked.Selftest number
 job_of (code.Disasm input output) = asked.Disasm input.now output.now
 job_of (code.Asm input output) = asked.Asm input.now output.now
 job_of (code.Join input second output) = asked.Join input.now second.now output.now
+job_of (code.Help topic) = asked.Help topic
+job_of code.Version = asked.Version
+job_of (code.Show input output) = asked.Show input.now output.now
+job_of (code.Parts input options) = asked.Parts input.now options

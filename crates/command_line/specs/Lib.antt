@@ -1,6 +1,7 @@
 -- To believe: the words of the command line and the job that they name, and what lines are made of.
 pub mod Words
 pub mod Forms
+pub mod Topics
 pub mod Lines
 pub mod RegisterText
 -- Claimed: laws of these definitions.

@@ -14,6 +14,10 @@ usage_line = line (USAGE.now ∷ [])
 abbrev pub no_memory_line : List ℕ
 no_memory_line = line (codes "no memory" ∷ [])
 
+-- a byte as two hexadecimal digits in upper case
+abbrev pub byte_digits : ℕ → List ℕ
+byte_digits byte = encode_upper (byte ∷ [])
+
 -- an address as four hexadecimal digits in upper case
 abbrev pub address_digits : ℕ → List ℕ
 address_digits address = encode_upper ((address / 256) ∷ (address % 256) ∷ [])

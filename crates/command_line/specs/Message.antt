@@ -3,8 +3,8 @@ use Rattle.std.specs.Prelude.{ℕ, ◌≤◌, List, ◌++◌, flat_map, sum_by, 
 use Rattle.command_line.specs.declared.status.Status.{Status}
 use Rattle.command_line.specs.declared.status.Status.TheVariants as status
 use Rattle.command_line.specs.declared.message.Piece.{Piece}
-use Rattle.command_line.specs.declared.message.Piece.TheVariants.{Words, Name, Number, Address, Features, Sum}
-use Rattle.command_line.specs.Lines.{address_digits, feature_digits, sum_digits}
+use Rattle.command_line.specs.declared.message.Piece.TheVariants.{Words, Name, Number, Byte, Address, Features, Sum}
+use Rattle.command_line.specs.Lines.{byte_digits, address_digits, feature_digits, sum_digits}
 
 -- the exit status
 abbrev pub number_of : Status → ℕ
@@ -31,6 +31,7 @@ abbrev pub piece_text : Piece → List ℕ
 piece_text (Words words) = words.now
 piece_text (Name name) = name.now
 piece_text (Number number) = decimal number
+piece_text (Byte byte) = byte_digits byte
 piece_text (Address address) = address_digits address
 piece_text (Features bits) = feature_digits bits
 piece_text (Sum sum) = sum_digits sum

@@ -7,6 +7,7 @@ use Rattle.play_model.specs.declared.options.Options.{Options}
 use Rattle.play_model.specs.Speeds.{IsSpeed}
 use Rattle.play_model.specs.State.{no_options}
 use Rattle.packed_form.specs.ImagePlaces.{IsAddress, IsZeroPage}
+use Rattle.command_line.specs.declared.topics.Topic.{Topic}
 
 -- the words' bytes
 abbrev pub texts : List (String Global) → List (List ℕ)
@@ -46,7 +47,8 @@ subtune_limit = 255
 -- another file; edit it by a script, into another file; tell what a song uses; trace a song, or run a PSID file: a
 -- subtune, counted from 1, and a number of frames. Of a song that is packed or traced, how it is played. Or to make a song
 -- from a number, and to pack, trace and run it. Or to write a listing of a PSID file's image into another file, or the
--- bytes of a listing. Or to write the songs in two files into another, as one song
+-- bytes of a listing. Or to write the songs in two files into another, as one song. Or to tell of the forms, or the
+-- version. Or to write a song as a script into another file, or to tell what it costs when it is packed
 pub data Job : Type 0 where
   Pack : (input output : List ℕ) (psid : Bool) (address zero_page : ℕ) (options : Options) → Job
   Copy : (input output : List ℕ) → Job
@@ -58,6 +60,10 @@ pub data Job : Type 0 where
   Disasm : (input output : List ℕ) → Job
   Asm : (input output : List ℕ) → Job
   Join : (input second output : List ℕ) → Job
+  Help : (topic : Topic) → Job
+  Version : Job
+  Show : (input output : List ℕ) → Job
+  Parts : (input : List ℕ) (options : Options) → Job
 
 -- the word for what is left out of a frame: the effect step, the pulse step
 abbrev pub skip_word : Bool → Bool → List ℕ
@@ -121,6 +127,14 @@ pub record AreSelftestArguments (arguments : List (List ℕ)) (number : ℕ) : T
   pub number_word : List ℕ
   pub form : arguments ≡ number_word ∷ []
   pub number_spelled : IsNumberWord song_number_limit number_word number
+
+-- the arguments are `IN SKIP SPEED`
+pub record ArePartsArguments (arguments : List (List ℕ)) (input : List ℕ) (options : Options) : Type 0 where
+  pub skip_word : List ℕ
+  pub speed_word : List ℕ
+  pub form : arguments ≡ input ∷ skip_word ∷ speed_word ∷ []
+  pub in_named : input ≢ []
+  pub options_spelled : AreOptionWords (skip_word ∷ speed_word ∷ []) options
 
 -- the numbers of a job are allowed: an image can stand at the address and have the two bytes of page 0, and there are
 -- at most 100,000 frames

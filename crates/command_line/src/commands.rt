@@ -10,13 +10,21 @@ pub mod copy;
 pub mod disasm;
 /// `edit IN SCRIPT OUT`.
 pub mod edit;
+/// `help`, or with the first word of a form behind it.
+pub mod help;
 /// `join IN SECOND OUT`.
 pub mod join;
 /// `pack IN OUT psid|raw ADDRESS ZP`, or with `SKIP SPEED` behind it.
 pub mod pack;
+/// `parts IN SKIP SPEED`.
+pub mod parts;
 /// `run IN SUBTUNE FRAMES`.
 pub mod run;
 /// `selftest NUMBER`.
 pub mod selftest;
+/// `show IN OUT`.
+pub mod show;
 /// `trace IN SUBTUNE FRAMES`, or with `SKIP SPEED` behind it.
 pub mod trace;
+/// `version`.
+pub mod version;

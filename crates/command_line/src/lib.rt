@@ -13,10 +13,13 @@ mod arguments;
 /// Facts about the definitions.
 pub mod claims;
 mod commands;
+/// What `help` and `version` print.
+pub mod help;
 mod line;
 mod message;
 mod refusal;
 mod status;
+mod topics;
 mod words;
 
 pub use arguments::{FRAME_LIMIT, SUBTUNE_LIMIT};
@@ -24,4 +27,5 @@ pub use line::Line;
 pub use message::{Message, Piece};
 pub use refusal::{Refusal, Report};
 pub use status::Status;
+pub use topics::{Topic, version_lines};
 pub use words::{Job, USAGE, WordsFault, parse_words};

@@ -2,7 +2,7 @@
 
 ghost use Rattle.std.specs.Prelude.{◌≡◌, ◌<◌, ◌≤◌, ◌+◌, ◌*◌, ◌++◌, [], length, All, IfOk, OnOk, OnErr};
 ghost use Rattle.hex.specs.Hex.{encode_lower};
-ghost use Rattle.command_line.specs.Lines.{address_digits, feature_digits, sum_digits};
+ghost use Rattle.command_line.specs.Lines.{byte_digits, address_digits, feature_digits, sum_digits};
 ghost use Rattle.command_line.specs.Words.{texts};
 
 use crate::message::{Message, Piece};
@@ -109,6 +109,10 @@ impl Line {
                 let mut digits = itoa::Buffer::new();
                 self.add(digits.format(*number).as_bytes())
             }
+            Piece::Byte(byte) => {
+                let digits = upper_byte(*byte);
+                self.add(&digits)
+            }
             Piece::Address(address) => {
                 let digits = upper_digits(*address);
                 self.add(&digits)
@@ -170,6 +174,16 @@ fn encode(bytes: &[u8], digits: &mut [u8])
     if hex::encode_to_slice(bytes, digits).is_err() {
         unreachable!();
     }
+}
+
+/// A byte as two hexadecimal digits in upper case.
+fn upper_byte(byte: u8) -> [u8; 2]
+    ensures { result ≡ byte_digits byte }
+{
+    let mut digits = [0; 2];
+    encode(&[byte], &mut digits);
+    digits.make_ascii_uppercase();
+    digits
 }
 
 /// An address as four hexadecimal digits in upper case.

@@ -19,6 +19,8 @@ pub enum Piece<'a> {
     Name(&'a str),
     /// A number, in decimal.
     Number(u64),
+    /// A byte, as two hexadecimal digits in upper case.
+    Byte(u8),
     /// An address, as four hexadecimal digits in upper case.
     Address(u16),
     /// The bits of features, as six hexadecimal digits in lower case: the low 24 bits of the number.

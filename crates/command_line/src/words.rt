@@ -1,15 +1,17 @@
 //! The command line's words, and the job that they name.
 
-ghost use Rattle.std.specs.Prelude.{IfOk, OnErr};
+ghost use Rattle.std.specs.Prelude.{◌≡◌, IfOk, OnErr};
 ghost use Rattle.command_line.specs.Words.{texts, HasAllowedNumbers};
-ghost use Rattle.command_line.specs.Forms.{IsNoForm, WordsOf};
+ghost use Rattle.command_line.specs.Forms.{IsNoForm, WordsOf, command_named};
 ghost use Rattle.command_line.specs.Job.{job_of};
 
 use crate::commands;
+use crate::topics::Topic;
 use play_model::Options;
 
 /// The line of words that are of no form: the command, and a word for each form.
-pub const USAGE: &str = "usage: goat check|trace|pack|run|edit|copy|selftest|disasm|asm|join";
+pub const USAGE: &str =
+    "usage: goat check|trace|pack|run|edit|copy|selftest|disasm|asm|join|help|version|show|parts";
 
 /// What the program is asked to do.
 #[derive(Clone, Copy, Debug)]
@@ -83,6 +85,23 @@ pub enum Job<'a> {
         second: &'a str,
         output: &'a str,
     },
+    /// `help`, or with the first word of a form behind it: tell of all forms, or of that one.
+    Help {
+        topic: Topic,
+    },
+    /// `version`: tell the version, and what it was proved with.
+    Version,
+    /// `show IN OUT`: write the song in the file IN as a script into the file OUT.
+    Show {
+        input: &'a str,
+        output: &'a str,
+    },
+    /// `parts IN SKIP SPEED`: tell what the song in the file IN costs when it is packed, and why.
+    Parts {
+        input: &'a str,
+        /// What is left out of a frame, and the speed.
+        options: Options,
+    },
 }
 
 /// No form of the command line has the words.
@@ -102,7 +121,7 @@ pub fn parse_words(words: &[String]) -> Result<Job<'_>, WordsFault>
     let Some((command, arguments)) = words.split_first() else {
         return Err(WordsFault);
     };
-    match command.as_str() {
+    match command_named(command.as_str()) {
         "pack" => commands::pack::pack_job(arguments),
         "copy" => commands::copy::copy_job(arguments),
         "edit" => commands::edit::edit_job(arguments),
@@ -113,6 +132,21 @@ pub fn parse_words(words: &[String]) -> Result<Job<'_>, WordsFault>
         "disasm" => commands::disasm::disasm_job(arguments),
         "asm" => commands::asm::asm_job(arguments),
         "join" => commands::join::join_job(arguments),
+        "help" => commands::help::help_job(arguments),
+        "version" => commands::version::version_job(arguments),
+        "show" => commands::show::show_job(arguments),
+        "parts" => commands::parts::parts_job(arguments),
         _ => Err(WordsFault),
+    }
+}
+
+/// The command that a first word names.
+fn command_named(word: &str) -> &str
+    ensures { result.now ≡ command_named word.now }
+{
+    match word {
+        "--help" | "-h" => "help",
+        "--version" => "version",
+        _ => word,
     }
 }

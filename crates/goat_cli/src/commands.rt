@@ -1,4 +1,4 @@
-//! The job of a run, done by its command: a chain of stages, in a file of its own here or in `jobs`.
+//! The job of a run, done by its command: a chain of stages, in a file of its own here, in `jobs` or in `file_jobs`.
 
 ghost use Rattle.command_line.specs.Job.{job_of};
 ghost use Rattle.command_line.specs.Last.{last_word};
@@ -6,6 +6,7 @@ ghost use Rattle.jobs.specs.Stands.{folder_state, sink_state};
 ghost use Rattle.jobs.specs.Endings.{JobEnds};
 ghost use Rattle.command_line.specs.Words.{HasAllowedNumbers};
 
+use crate::help::{tell_forms, tell_version};
 use crate::pack::pack_song;
 use crate::selftest::self_test;
 use command_line::{Job, Line, Refusal, Report};
@@ -42,13 +43,13 @@ pub fn perform<'a, F: Folder, K: Sink>(
         } => pack_song(
             alloc, input, output, psid, address, zero_page, options, folder,
         ),
-        Job::Copy { input, output } => jobs::copy::copy_song(alloc, input, output, folder),
+        Job::Copy { input, output } => file_jobs::copy::copy_song(alloc, input, output, folder),
         Job::Edit {
             input,
             script,
             output,
-        } => jobs::edit::edit_song(alloc, input, script, output, folder),
-        Job::Check { input } => jobs::check::check_song(alloc, input, folder),
+        } => file_jobs::edit::edit_song(alloc, input, script, output, folder),
+        Job::Check { input } => file_jobs::check::check_song(alloc, input, folder),
         Job::Trace {
             input,
             subtune,
@@ -61,12 +62,20 @@ pub fn perform<'a, F: Folder, K: Sink>(
             frames,
         } => jobs::run::run_psid(alloc, input, subtune, frames, folder, line, out),
         Job::Selftest { number } => self_test(alloc, number),
-        Job::Disasm { input, output } => jobs::disasm::list_psid(alloc, input, output, folder),
-        Job::Asm { input, output } => jobs::asm::assemble_listing(alloc, input, output, folder),
+        Job::Disasm { input, output } => file_jobs::disasm::list_psid(alloc, input, output, folder),
+        Job::Asm { input, output } => file_jobs::asm::assemble_listing(
+            alloc, input, output, folder,
+        ),
         Job::Join {
             input,
             second,
             output,
-        } => jobs::join::join_songs(alloc, input, second, output, folder),
+        } => file_jobs::join::join_songs(alloc, input, second, output, folder),
+        Job::Help { topic } => tell_forms(topic, out),
+        Job::Version => tell_version(out),
+        Job::Parts { input, options } => {
+            file_jobs::parts::tell_parts(alloc, input, options, folder, line, out)
+        }
+        Job::Show { input, output } => file_jobs::show::show_song(alloc, input, output, folder),
     }
 }

@@ -4,14 +4,16 @@
 //! file; a file that is written holds an image that plays the song that was read, whatever else is in memory. Each
 //! status comes only where its cause does.
 //!
-//! What a job is, and what became of it, is said in `jobs`, where also those jobs are done that make no player. Here a
-//! song is packed with a player of its own, and a song that is made from a number is traced, packed and run.
+//! What a job is, and what became of it, is said in `jobs`; the jobs that make no player are done there and in `file_jobs`.
+//! Here a song is packed with a player of its own, a song that is made from a number is traced, packed and run, and the
+//! program tells of itself.
 //!
-//! It stands on `jobs`, on `command_line` for words and lines, on `goat_io` for folders and sinks, on `image_build` for
-//! the image of a packed song, and on `song_gen` for songs that are made from numbers.
+//! It stands on `jobs` and `file_jobs`, on `command_line` for words and lines, on `goat_io` for folders and sinks, on
+//! `image_build` for the image of a packed song, and on `song_gen` for songs that are made from numbers.
 #![tactic(auto)]
 
 mod commands;
+mod help;
 mod images;
 mod pack;
 mod program;

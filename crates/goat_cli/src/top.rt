@@ -3,12 +3,14 @@
 ghost use Rattle.std.specs.Prelude.{◌≡◌, ℕ, ◌+◌, ◌-◌, List, [], ◌∷◌, Option, Some, IfSome};
 ghost use Rattle.goat_io.specs.Written.{told_with_piece};
 ghost use Rattle.song_model.specs.declared.songs.Song.{Song};
-ghost use Rattle.command_line.specs.Words.{texts, Selftest};
+ghost use Rattle.song_model.specs.Canonical.{canonical};
+ghost use Rattle.command_line.specs.Words.{texts, Job as Asked};
 ghost use Rattle.command_line.specs.Forms.{IsNoForm, WordsOf};
 ghost use Rattle.command_line.specs.RegisterText.{register_text};
 ghost use Rattle.jobs.specs.Due.{IsDue, IsOneOf, instead};
 ghost use Rattle.jobs.specs.Stands.{folder_state, sink_state, RunStands, Counted};
-ghost use Rattle.jobs.specs.Answers.{HoldsDone, IsOrdinary, IsPrinted, IsBeforeWriting, ComesAbout, ComesWhere, SinkCounted, RunsPacked, AssemblesListing, AsksToJoin, HoldsJoined};
+ghost use Rattle.jobs.specs.Answers.{HoldsDone, IsOrdinary, IsPrinted, IsBeforeWriting, ComesAbout, ComesWhere, SinkCounted, RunsPacked, AssemblesListing, AsksToMake, AsksToJoin, HoldsJoined};
+ghost use Rattle.jobs.specs.Jobs.{stages};
 ghost use Rattle.jobs.specs.Outcome.{files_after};
 ghost use Rattle.jobs.specs.Packed.{raw_file};
 ghost use Rattle.jobs.specs.Traces.{first_traces};
@@ -53,13 +55,19 @@ pub fn goat<F: Folder, K: Sink>(alloc: Global, words: &[String], folder: &mut F,
         IsOneOf (0 ∷ 4 ∷ 9 ∷ 10 ∷ 14 ∷ []) result × (result ≡ 0 → F.files folder.new ≡
         Some (files_after files (Some (output, raw_file origin image))))) }
 
+    // The script that shows a song makes it of the empty song.
+    ensures shown { IfSome (F.files folder.old) (λ files. (song : Song) (output : List ℕ) →
+        AsksToMake (texts words.now) files song output →
+        IsOneOf (0 ∷ 4 ∷ 9 ∷ 10 ∷ 14 ∷ []) result × (result ≡ 0 → F.files folder.new ≡
+        Some (files_after files (Some (output, canonical song))))) }
+
     // A joined song can be played, and plays what both songs play, with any options.
     ensures joined { IfSome (F.files folder.old) (λ files. (first second : Song) (output : List ℕ) →
         AsksToJoin (texts words.now) files first second output → result ≡ 0 →
         HoldsJoined files first second output (F.files folder.new)) }
 
-    // A self test asks for nothing but memory and the sink.
-    ensures selftest { (number : ℕ) → WordsOf (texts words.now) (Selftest number) →
+    // A job without stages, help, version or a self test, asks for nothing but memory and the sink.
+    ensures fileless { (job : Asked) → WordsOf (texts words.now) job → stages job ≡ [] →
         IsOneOf (0 ∷ 10 ∷ 14 ∷ []) result }
 
     // Where all lines were printed each count of the folder rises with its own status and with no other; the sink's

@@ -4,7 +4,8 @@ use Rattle.std.specs.List.{concat}
 use Rattle.goat_io.specs.Files.{Files}
 use Rattle.goat_io.specs.Written.{told_with_piece}
 use Rattle.song_model.specs.declared.songs.Song.{Song}
-use Rattle.command_line.specs.Words.{Run, Selftest}
+use Rattle.song_model.specs.Canonical.{canonical}
+use Rattle.command_line.specs.Words.{Job, Run, Selftest}
 use Rattle.command_line.specs.RegisterText.{register_text}
 use Rattle.command_line.specs.Forms.{WordsOf, IsNoForm}
 use Rattle.jobs.specs.Jobs.{about, stages}
@@ -14,7 +15,7 @@ use Rattle.jobs.specs.Due as due
 use Rattle.jobs.specs.Due.{IsDue, IsOneOf, instead}
 use Rattle.jobs.specs.Stands as stands
 use Rattle.jobs.specs.Stands.{FolderState, SinkState, AreFiles, Counted, Appends, Account, TellsWant, Stands, RunStands}
-use Rattle.jobs.specs.Answers.{IsOrdinary, IsPrinted, IsBeforeWriting, HoldsDone, ComesAbout, ComesWhere, SinkCounted, RunsPacked, AssemblesListing, AsksToJoin, HoldsJoined}
+use Rattle.jobs.specs.Answers.{IsOrdinary, IsPrinted, IsBeforeWriting, HoldsDone, ComesAbout, ComesWhere, SinkCounted, RunsPacked, AssemblesListing, AsksToMake, AsksToJoin, HoldsJoined}
 use Rattle.jobs.specs.Packed.{raw_file}
 use Rattle.jobs.specs.Traces.{first_traces}
 use Rattle.play_model.specs.declared.options.Options.{Options}
@@ -24,7 +25,8 @@ use Rattle.jobs.proofs.Due.{is_no_stage, ends_with_stage, done_under, outcome_du
 use Rattle.jobs.proofs.Joining.{songs_join}
 use Rattle.jobs.proofs.Listed.{listing_is_due, writes_image}
 use Rattle.jobs.proofs.PlayedFiles.{packed_file_plays, packed_file_is_due}
-use Rattle.jobs.proofs.SelfTested.{tested}
+use Rattle.jobs.proofs.Fileless.{answered}
+use Rattle.jobs.proofs.Shown.{script_is_due, writes_song}
 
 run_is_no_selftest : {input : List ℕ} {subtune frames number : ℕ} → Run input subtune frames ≡ Selftest number → ⊥
 run_is_no_selftest e = absurd (cc (e))
@@ -285,6 +287,18 @@ module _ {words : List (List ℕ)} {files : Files} {answer : ℕ} {folder after 
         came.files_are ∙ ap (λ w. Some (files_after files w)) (writes_image words files origin image output asked mine)),
   )
 
+  -- a song's script makes the song of the empty one
+  makes_song : folder.told ≡ Some files → Stands words files answer folder after s t → (song : Song)
+      (output : List ℕ) → AsksToMake words files song output → IsOneOf (0 ∷ 4 ∷ 9 ∷ 10 ∷ 14 ∷ []) answer ×
+      (answer ≡ 0 → after.told ≡ Some (files_after files (Some (output, canonical song))))
+  makes_song known is song output asked = (
+    comes_due is 0 (Some output) (script_is_due words files song output asked),
+    (λ zero.
+        let came = outcome_is known is (zero_is_ordinary zero) in
+        let mine = subst (λ n. Outcome words files n came.lines came.write) zero came.outcome in
+        came.files_are ∙ ap (λ w. Some (files_after files w)) (writes_song words files song output asked mine)),
+  )
+
   -- two songs are joined
   joins_songs : folder.told ≡ Some files → Stands words files answer folder after s t → (first second : Song)
       (output : List ℕ) → AsksToJoin words files first second output → answer ≡ 0 →
@@ -367,10 +381,16 @@ module _ {words : List (List ℕ)} {answer : ℕ} {folder after : FolderState} {
       (answer ≡ 0 → after.told ≡ Some (files_after files (Some (output, raw_file origin image)))))
   listing_goes_back = told_case _ (λ files known is. assembles_listing known is)
 
+  pub script_makes_song : IfSome folder.told
+      (λ files. (song : Song) (output : List ℕ) → AsksToMake words files song output →
+      IsOneOf (0 ∷ 4 ∷ 9 ∷ 10 ∷ 14 ∷ []) answer ×
+      (answer ≡ 0 → after.told ≡ Some (files_after files (Some (output, canonical song)))))
+  script_makes_song = told_case _ (λ files known is. makes_song known is)
+
   pub joined_plays : IfSome folder.told
       (λ files. (first second : Song) (output : List ℕ) → AsksToJoin words files first second output → answer ≡ 0 →
       HoldsJoined files first second output after.told)
   joined_plays = told_case _ (λ files known is. joins_songs known is)
 
-  pub selftest_comes : (number : ℕ) → WordsOf words (Selftest number) → IsOneOf (0 ∷ 10 ∷ 14 ∷ []) answer
-  selftest_comes number form = tested form run.stands
+  pub fileless_comes : (job : Job) → WordsOf words job → stages job ≡ [] → IsOneOf (0 ∷ 10 ∷ 14 ∷ []) answer
+  fileless_comes job form bare = answered form bare run.stands

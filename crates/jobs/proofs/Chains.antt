@@ -26,7 +26,7 @@ use Rattle.jobs.specs.Stands as stands
 use Rattle.jobs.specs.Stands.{FolderState, SinkState, AreFiles, Account, Counted, FolderStays, IsPrinting, Printing}
 use Rattle.jobs.specs.Endings as ends
 use Rattle.jobs.specs.Endings.{Refuses, WasRead, SongWasRead, SongFails, WriteEnds, LinesEnd, CallsEnd, IsOver, JobEnds}
-use Rattle.jobs.proofs.Told.{as_before, is_uncounted, uncounted, counted_on, stays_on}
+use Rattle.jobs.proofs.Told.{some_files, as_before, is_uncounted, uncounted, counted_on, stays_itself, stays_on}
 use Rattle.jobs.proofs.Passes.{met_passes}
 use Rattle.jobs.proofs.Ends.{first_ends, says_ends, has_last, wants_first, read_ends}
 
@@ -148,6 +148,16 @@ module _ {job : Job} {folder after : FolderState} {files : Files} (at : At job f
       }))
   lines_over (ends.unsaid earlier later line are is appends) =
       rw is (over_with at (λ words form. ends.for_line earlier later line (printing_done are words form) appends))
+
+-- of a job without stages
+pub fileless_over : {job : Job} {lines : List (List ℕ)} {last : Last} {s t : SinkState} → stages job ≡ [] →
+    ((files : Files) → Done job files lines None) → (folder : FolderState) → LinesEnd lines last s t →
+    JobEnds job last folder folder s t
+fileless_over {job} bare did folder ended =
+    let some = some_files folder.told in
+    let at : At job some.files folder folder [] =
+    record { are_files = some.are_files; stays = stays_itself folder; met = []; stages_are = bare; pass = tt } in
+    lines_over at (did some.files) ended
 
 -- ---- the files that a run has read
 

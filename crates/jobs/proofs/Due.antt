@@ -23,6 +23,8 @@ use Rattle.jobs.specs.Due as due
 use Rattle.jobs.specs.Due.{IsDue}
 use Rattle.jobs.specs.Stands.{ComesTo}
 use Rattle.command_line.proofs.Laws.{one_job}
+use Rattle.jobs.specs.Costs.{TellCosts}
+use Rattle.jobs.proofs.Costs.{one_cost_text}
 use Rattle.jobs.proofs.Calls.{one_list}
 use Rattle.jobs.proofs.Passes.{one_song_held, one_psid_held, stage_facts}
 use Rattle.jobs.proofs.Ends.{first_ends}
@@ -112,6 +114,11 @@ has_one_text files (asked.Run input subtune frames) other = λ lines others p q.
     one_list (loaded q.0) (subtune - 1) (frames + 1) p.2.registers q.2.registers p.2.after q.2.after first
     q.2.returned in
     p.2.lines_are ∙ ap register_lines calls ∙ sym q.2.lines_are
+has_one_text files (asked.Help topic) other = λ lines others p q. p ∙ sym q
+has_one_text files asked.Version other = λ lines others p q. p ∙ sym q
+has_one_text files (asked.Parts input options) other = λ lines others p q.
+    let same = one_song_held files input p.0 q.0 p.1 q.1 in
+    one_cost_text q.0 options lines others (subst (λ song. TellCosts song options lines) same p.2) q.2
 has_one_text files _ other = tt
 
 done_once : (deed : Deed) (files : Files) (lines others : List (List ℕ)) → HasOneText files deed →

@@ -5,9 +5,10 @@ mod Answered
 mod RegisterLines
 mod Calls
 mod Chains
+mod Costs
 mod Due
-mod Edited
 mod Ends
+mod Fileless
 mod Joining
 mod Listed
 mod Measured
@@ -16,10 +17,10 @@ mod OneFeatures
 mod Passes
 mod PlayedFiles
 mod Printed
+mod PrintedLines
 mod Reading
 mod Room
-mod SecondFile
-mod SelfTested
+mod Shown
 mod SmallSongs
 mod Told
 mod Traced

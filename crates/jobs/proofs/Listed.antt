@@ -1,22 +1,16 @@
--- Listings: how one that can't be assembled is refused, and what comes of the listing of an image.
-use Rattle.std.proofs.Common.{◌≡◌, ◌≢◌, ◌⊎◌, ℕ, List, Option, Some, length, inl, inr, ◌≤◌, refl, sym, ap, ◌∙◌, subst, arith}
+-- What comes of the listing of an image.
+use Rattle.std.proofs.Common.{◌≡◌, ℕ, List, Option, Some, length, ◌≤◌, refl, sym, ap, ◌∙◌, subst, arith}
 use Rattle.goat_io.specs.Files.{Files, file_of}
 use Rattle.goat_io.proofs.Laws.{file_put}
 use Rattle.psid.proofs.Laws.{read_is_writable}
 use Rattle.asm6502.specs.Assembly.{assembled_bytes}
-use Rattle.asm_text.specs.declared.faults.TextFault.{TextFault}
-use Rattle.asm_text.specs.declared.faults.TextKind.{TextKind}
-use Rattle.asm_text.specs.declared.faults.TextKind.TheVariants.{BadLine, DoubleLabel, UnknownLabel, PastEnd, BranchTooFar, NoMemory}
 use Rattle.asm_text.specs.Lines.{IsListing}
 use Rattle.asm_text.specs.Laying.{listing_at}
-use Rattle.asm_text.specs.Faults.{IsFaultOf}
 use Rattle.asm_text.specs.Printing.{listing_of}
 use Rattle.asm_text.specs.Laws.{ReadsBack}
 use Rattle.asm_text.proofs.Laws.{listings_read_back, listing_short, one_listing}
-use Rattle.command_line.specs.Last.{Last, Says, Wants}
 use Rattle.command_line.specs.Words.{Asm}
 use Rattle.command_line.proofs.Laws.{one_job}
-use Rattle.jobs.specs.Lines.{listing_line}
 use Rattle.jobs.specs.Stages.{IsThere, Fits, CanBeAssembled, HoldsListing, AllPass, listing_limit}
 use Rattle.jobs.specs.Jobs.{stages, Done}
 use Rattle.jobs.specs.Outcome as outcome
@@ -27,31 +21,8 @@ use Rattle.jobs.specs.Packed.{raw_file}
 use Rattle.jobs.specs.Answers.{AssemblesListing}
 use Rattle.jobs.specs.MetPremises.{ListingsAreAssembled}
 use Rattle.jobs.specs.Laws.{ListingsGoBack}
-use Rattle.jobs.specs.Endings as ends
-use Rattle.jobs.specs.Endings.{Refuses}
 use Rattle.jobs.proofs.Passes.{met_passes, one_file, one_psid_held}
 use Rattle.jobs.proofs.Due.{not_zero}
-
--- whether running out of memory is why a text isn't read
-wants_or_not : (kind : TextKind) → (kind ≡ NoMemory) ⊎ (kind ≢ NoMemory)
-wants_or_not NoMemory = inl refl
-wants_or_not BadLine = inr (λ never. absurd (cc (never)))
-wants_or_not DoubleLabel = inr (λ never. absurd (cc (never)))
-wants_or_not UnknownLabel = inr (λ never. absurd (cc (never)))
-wants_or_not PastEnd = inr (λ never. absurd (cc (never)))
-wants_or_not BranchTooFar = inr (λ never. absurd (cc (never)))
-
-pub listing_fails : {text : List ℕ} (fault : TextFault) {last : Last} →
-    (fault.kind ≡ NoMemory) ⊎ IsFaultOf text fault → (fault.kind ≡ NoMemory → last ≡ Wants) →
-    (fault.kind ≢ NoMemory → last ≡ Says 17 (listing_line fault)) → (files : Files) (name : List ℕ) →
-    file_of files name ≡ Some text → Refuses files (CanBeAssembled name) last
-listing_fails fault (inl none) wants says files name found = ends.wanting (wants none)
-listing_fails {text} fault (inr is) wants says files name found = elim (wants_or_not fault.kind) [
-  | inl none ↦ ends.wanting (wants none)
-  | inr other ↦ ends.ends (listing_line fault) (text, fault, found, is, refl) (says other)
-]
-
--- ---- the listing of an image
 
 module _ (words : List (List ℕ)) (files : Files) (origin : ℕ) (image output : List ℕ)
     (asked : AssemblesListing words files origin image output) where

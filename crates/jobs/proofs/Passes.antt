@@ -7,14 +7,15 @@ use Rattle.song_model.specs.LookUp.{IsNumbered, playable_subtunes}
 use Rattle.gts5.specs.Spells.{Spells}
 use Rattle.gts5.specs.Faults.{fault_of}
 use Rattle.edit_script.specs.Edited.{IsEditedBy, FailsAt}
+use Rattle.song_script.specs.Shown.{script_of}
 use Rattle.edit_script.proofs.Laws.{edits_in_one_way}
 use Rattle.psid.specs.declared.header.Psid.{Psid}
 use Rattle.psid.specs.Reading.{psid_read}
 use Rattle.sid_run.specs.State.{loaded}
 use Rattle.jobs.specs.Calls.{HasSubtune, FirstCalls, MeetsStopAt, StopsIn}
 use Rattle.command_line.specs.RegisterText.{register_lines}
-use Rattle.jobs.specs.Lines.{song_fault_line, unplayable_line, too_large_line, image_too_large_line, psid_fault_line, no_subtune_line, script_line, stop_line, listing_line, join_line}
-use Rattle.jobs.specs.Stages.{Stage, IsThere, Fits, SpellsSong, CanBePlayed, HasShortPatterns, HasRoomForImage, HasPlayableSubtune, CanBeEdited, IsPsid, OffersSubtune, CallsReturn, CanBeAssembled, GoTogether, HoldsSong, HoldsPsid, IsMet, Ends, Passes}
+use Rattle.jobs.specs.Lines.{song_fault_line, unplayable_line, too_large_line, image_too_large_line, psid_fault_line, no_subtune_line, script_line, stop_line, listing_line, join_line, script_too_large_line}
+use Rattle.jobs.specs.Stages.{Stage, IsThere, Fits, SpellsSong, CanBePlayed, HasShortPatterns, HasRoomForImage, HasPlayableSubtune, CanBeEdited, IsPsid, OffersSubtune, CallsReturn, CanBeAssembled, GoTogether, HoldsSong, HoldsPsid, IsMet, Ends, Passes, HasShortScript, script_limit}
 use Rattle.play_model.specs.declared.options.Options.{Options}
 use Rattle.play_model.specs.Playable.{IsPlayable, IsRefusedFor}
 use Rattle.play_model.proofs.Laws.{refused_or_playable_lem}
@@ -156,6 +157,15 @@ module _ (files : Files) where
         let used = same_sets q.0 p.1 q.1 (subst (λ s. AreUsedSets s p.1) song p.5) q.5 in
         let long = subst (λ u. IsTooLong q.0 u p.2 p.3) used (subst (λ s. IsTooLong s p.1 p.2 p.3) song p.6) in
         p.7 ∙ one_too_long q.0 q.1 p.2 q.2 p.3 q.3 long q.6 ∙ sym q.7;
+  }
+  stage_facts (HasShortScript name) = record {
+    passes = λ met lines ends.
+        let song = one_song_held files name met.0 ends.0 met.1 ends.1 in
+        let fits = subst (λ s. length (script_of s) ≤ script_limit) song met.2 in
+        absurd (omega (arith, fits, ends.2));
+    once = λ lines others p q.
+        p.3 ∙ ap (λ s. script_too_large_line (length (script_of s)) ∷ []) (one_song_held files name p.0 q.0 p.1 q.1)
+        ∙ sym q.3;
   }
   stage_facts (HasRoomForImage name address o) = record {
     passes = λ met lines ends.

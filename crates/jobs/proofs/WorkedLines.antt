@@ -2,7 +2,7 @@
 use Rattle.std.proofs.Common.{◌≡◌, ℕ, ◌+◌, ◌<◌, ◌≤◌, length, drop, refl, ap, arith}
 use Rattle.std.specs.Fmt.{digits}
 use Rattle.hex.specs.Hex.{encode_with}
-use Rattle.jobs.specs.WorkedLines.{LinesAreWorked, FaultsAreWorked, ListingFaultsAreWorked, JoinFaultsAreWorked, RefusalsAreWorked, StatusesAreWorked, LimitsAreWorked, HeadersAreWorked, LargeImagesAreNotPacked}
+use Rattle.jobs.specs.WorkedLines.{LinesAreWorked, CostLinesAreWorked, FaultsAreWorked, ListingFaultsAreWorked, JoinFaultsAreWorked, RefusalsAreWorked, StatusesAreWorked, LimitsAreWorked, HeadersAreWorked, LargeImagesAreNotPacked}
 
 pub lines_are_worked : LinesAreWorked
 unfolding digits encode_with
@@ -18,6 +18,19 @@ lines_are_worked = record {
   no_subtune = refl;
   no_memory = refl;
   selftest = refl;
+}
+
+pub cost_lines_are_worked : CostLinesAreWorked
+unfolding digits encode_with
+cost_lines_are_worked = record {
+  kinds = refl;
+  in_order = refl;
+  in_pattern = refl;
+  in_instrument = refl;
+  in_wave_table = refl;
+  by_skip = refl;
+  by_speed = refl;
+  names = refl;
 }
 
 pub faults_are_worked : FaultsAreWorked
@@ -64,6 +77,7 @@ refusals_are_worked = record {
   pulse_row = refl;
   jump = refl;
   text = refl;
+  shown = refl;
   image = refl;
   at_illegal = refl;
   at_break = refl;
@@ -79,6 +93,7 @@ statuses_are_worked = record {
   unplayable = refl;
   no_playable_subtune = refl;
   long_pattern = refl;
+  long_script = refl;
   long_image = refl;
   no_edit = refl;
   no_psid = refl;

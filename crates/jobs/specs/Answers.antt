@@ -15,8 +15,10 @@ use Rattle.packed_form.specs.ImagePlaces.{IsAddress}
 use Rattle.base.specs.Bytes.{AreBytes, IsWord}
 use Rattle.cpu6502.specs.declared.memory.TheConstants.{MEMORY_SIZE}
 use Rattle.asm_text.specs.Printing.{listing_of}
-use Rattle.command_line.specs.Words.{Job, Run, Asm, Join}
-use Rattle.jobs.specs.Stages.{AllPass, HoldsSong, input_limit}
+use Rattle.song_model.specs.Silence.{empty_song}
+use Rattle.song_script.specs.Shown.{script_of}
+use Rattle.command_line.specs.Words.{Job, Run, Asm, Join, Edit}
+use Rattle.jobs.specs.Stages.{AllPass, HoldsSong, input_limit, script_limit}
 use Rattle.command_line.specs.Forms.{WordsOf}
 use Rattle.jobs.specs.Jobs.{stages, Done}
 use Rattle.jobs.specs.Outcome.{Outcome, files_after}
@@ -88,6 +90,17 @@ pub record AssemblesListing (words : List (List ℕ)) (files : Files) (origin : 
   pub place : IsWord origin
   pub bytes : AreBytes image
   pub fits : origin + length image ≤ MEMORY_SIZE
+
+-- the words ask for the script of a song to be done on the empty song
+pub record AsksToMake (words : List (List ℕ)) (files : Files) (song : Song) (output : List ℕ) : Type 0 where
+  pub input : List ℕ
+  pub script : List ℕ
+  pub form : WordsOf words (Edit input script output)
+  pub empty : HoldsSong files input empty_song
+  pub short : length empty.bytes ≤ input_limit
+  pub limits : KeepsLimits song
+  pub found : file_of files script ≡ Some (script_of song)
+  pub fits : length (script_of song) ≤ script_limit
 
 -- the words ask for the songs in two files to be joined
 pub record AsksToJoin (words : List (List ℕ)) (files : Files) (first second : Song) (output : List ℕ) : Type 0 where

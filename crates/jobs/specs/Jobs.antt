@@ -16,13 +16,16 @@ use Rattle.asm_text.specs.Printing.{listing_of}
 use Rattle.sid_run.specs.State.{loaded}
 use Rattle.command_line.specs.Words as asked
 use Rattle.command_line.specs.Words.{Job}
-use Rattle.jobs.specs.Stages.{Stage, IsThere, Fits, SpellsSong, CanBePlayed, HasShortPatterns, HasRoomForImage, HasPlayableSubtune, CanBeEdited, IsPsid, OffersSubtune, CallsReturn, CanBeAssembled, GoTogether, HoldsSong, HoldsPsid, HoldsListing, IsEditedIn, input_limit, script_limit, listing_limit}
+use Rattle.jobs.specs.Stages.{Stage, IsThere, Fits, SpellsSong, CanBePlayed, HasShortPatterns, HasShortScript, HasRoomForImage, HasPlayableSubtune, CanBeEdited, IsPsid, OffersSubtune, CallsReturn, CanBeAssembled, GoTogether, HoldsSong, HoldsPsid, HoldsListing, IsEditedIn, input_limit, script_limit, listing_limit}
 use Rattle.jobs.specs.Packed.{IsWrittenFile, raw_file}
 use Rattle.jobs.specs.Calls.{FirstCalls}
 use Rattle.command_line.specs.RegisterText.{register_lines}
 use Rattle.jobs.specs.Traces.{first_traces}
 use Rattle.jobs.specs.Lines.{wrote_line, check_line, selftest_line}
+use Rattle.jobs.specs.Costs.{TellCosts}
 use Rattle.jobs.specs.Selftest.{register_sum, TakesSteps}
+use Rattle.song_script.specs.Shown.{script_of}
+use Rattle.command_line.specs.Topics.{help_lines, version_lines}
 
 -- what a job does that passes all its stages: it prints these lines and writes nothing; or it writes such a file under
 -- the name, and prints how many bytes it has
@@ -107,6 +110,19 @@ about (asked.Join input second output) = record {
       Fits second input_limit ∷ SpellsSong second ∷ CanBePlayed second ∷ GoTogether input second ∷ [];
   does = WritesFile output (λ files file. (song : Song) × (other : Song) × HoldsSong files input song ×
       HoldsSong files second other × CanBeJoined song other × (file ≡ canonical (joined song other)));
+}
+-- of the forms it is told, or of the version; no file is read or written
+about (asked.Help topic) = record { stages = []; does = PrintsLines (λ files lines. lines ≡ help_lines topic) }
+about asked.Version = record { stages = []; does = PrintsLines (λ files lines. lines ≡ version_lines) }
+-- of a song a script that makes it is written
+about (asked.Show input output) = record {
+  stages = IsThere input ∷ Fits input input_limit ∷ SpellsSong input ∷ HasShortScript input ∷ [];
+  does = WritesFile output (λ files file. (song : Song) × HoldsSong files input song × (file ≡ script_of song));
+}
+-- of a song it is told what it costs when it is packed, played with these options
+about (asked.Parts input options) = record {
+  stages = IsThere input ∷ Fits input input_limit ∷ SpellsSong input ∷ CanBePlayed input ∷ HasShortPatterns input ∷ [];
+  does = PrintsLines (λ files lines. (song : Song) × HoldsSong files input song × TellCosts song options lines);
 }
 
 abbrev pub stages : Job → List Stage

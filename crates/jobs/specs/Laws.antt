@@ -8,6 +8,7 @@ use Rattle.song_model.specs.declared.songs.Song.{Song}
 use Rattle.song_model.specs.Limits.{KeepsLimits}
 use Rattle.song_model.specs.LookUp.{playable_subtunes}
 use Rattle.song_model.specs.Canonical.{canonical}
+use Rattle.song_model.specs.Silence.{empty_song}
 use Rattle.song_join.specs.Joined.{joined}
 use Rattle.play_model.specs.Speeds.{IsSpeed}
 use Rattle.play_model.specs.Frame.{trace_with}
@@ -22,7 +23,7 @@ use Rattle.cpu6502.specs.declared.machine.Machine.{Machine}
 use Rattle.sid_run.specs.State.{loaded}
 use Rattle.psid.specs.declared.header.Psid.{Psid}
 use Rattle.psid.specs.Reading.{psid_read}
-use Rattle.command_line.specs.Words.{Job, Pack, Selftest, Disasm, Asm}
+use Rattle.command_line.specs.Words.{Job, Pack, Selftest, Disasm, Asm, Show, Edit}
 use Rattle.jobs.specs.Calls.{HasSubtune, FirstCalls}
 use Rattle.jobs.specs.Stages.{Stage, CanBePlayed, HasRoomForImage, HoldsSong, HoldsPsid, status_of, Ends, IsMet, Passes, AllPass, input_limit}
 use Rattle.command_line.specs.Forms.{WordsOf, IsNoForm}
@@ -32,8 +33,10 @@ use Rattle.jobs.specs.Due.{IsDue}
 use Rattle.jobs.specs.Stands.{ComesTo}
 use Rattle.jobs.specs.Traces.{first_traces}
 use Rattle.packed_form.specs.ImagePlaces.{IsAddress}
+use Rattle.song_costs.specs.Kinds.{costs_of, all_bytes}
+use Rattle.jobs.specs.Costs.{TellCosts}
 use Rattle.jobs.specs.Packed.{IsImageLength, IsWrittenFile}
-use Rattle.jobs.specs.Answers.{IsPackedPsid, AssemblesListing, HoldsJoined}
+use Rattle.jobs.specs.Answers.{IsPackedPsid, AssemblesListing, AsksToMake, HoldsJoined}
 
 -- an outcome's status is due, and one status alone is due
 abbrev pub OutcomesAreDue : Type 0
@@ -114,6 +117,13 @@ SmallSongsArePacked =
     HoldsSmallSong files input address options →
     AllPass files (stages (Pack input output psid address zero_page options))
 
+-- what is told of a song's costs adds up to the length of the image in each file that `pack` writes of it
+abbrev pub CostsAreTheImages : Type 0
+CostsAreTheImages =
+    (song : Song) (options : Options) (lines : List (List ℕ)) (psid : Bool) (address zero_page : ℕ) (file : List ℕ) →
+    (told : TellCosts song options lines) → (written : IsWrittenFile psid address zero_page song options file) →
+    length written.packed.image ≡ all_bytes (costs_of song told.used told.features options)
+
 -- ---- packed files
 
 -- a PSID file that `pack` writes for an allowed address is a packed PSID file of its song
@@ -132,7 +142,7 @@ PackedFilesPlay =
     (psid : Psid) × (psid_read file ≡ Ok psid) × HasSubtune psid subtune × (after : Machine) ×
     FirstCalls (loaded psid) (subtune - 1) (frames + 1) (first_traces options song (subtune - 1) (frames + 1)) after
 
--- ---- listings and joined songs
+-- ---- listings, scripts and joined songs
 
 -- what `disasm` wrote of a PSID file is a listing that `asm` is asked for, and so gives its image back at its address;
 -- the file's bytes are bytes
@@ -142,6 +152,16 @@ ListingsGoBack =
     (write : Option (List ℕ × List ℕ)) (psid : Psid) → HoldsPsid files input psid → IsWord psid.load →
     AreBytes psid.image → Done (Disasm input listing) files lines write → WordsOf words (Asm listing output) →
     AssemblesListing words (files_after files write) psid.load psid.image output
+
+-- what `show` wrote of a song is a script that `edit` is asked to do on the empty song, in a file beside it; so it gives the
+-- song again, in the spelling that `copy` gives
+abbrev pub ScriptsMakeSongsAgain : Type 0
+ScriptsMakeSongsAgain =
+    (words : List (List ℕ)) (files : Files) (input script empty output : List ℕ) (lines : List (List ℕ))
+    (write : Option (List ℕ × List ℕ)) (song : Song) → HoldsSong files input song →
+    AllPass files (stages (Show input script)) → Done (Show input script) files lines write →
+    (holds : HoldsSong (files_after files write) empty empty_song) → length holds.bytes ≤ input_limit →
+    WordsOf words (Edit empty script output) → AsksToMake words (files_after files write) song output
 
 -- what a file of two songs holds: the joined song, which plays what each of them plays
 pub record HoldsBoth (first second : Song) (output : List ℕ) (now : Option Files) : Type 0 where

@@ -4,6 +4,7 @@ pub mod Traces
 pub mod Calls
 pub mod Packed
 pub mod Selftest
+pub mod Costs
 pub mod Stages
 pub mod Jobs
 pub mod Outcome

@@ -99,6 +99,10 @@ too_large_line pattern count =
 abbrev pub image_too_large_line : ℕ → List ℕ
 image_too_large_line count = line (codes "too large: image of " ∷ decimal count ∷ codes " bytes" ∷ [])
 
+-- for a song whose script has this length, too long to be read
+abbrev pub script_too_large_line : ℕ → List ℕ
+script_too_large_line count = line (codes "too large: script of " ∷ decimal count ∷ codes " bytes" ∷ [])
+
 -- for a song with this number of playable subtunes, and these used parts
 abbrev pub check_line : ℕ → UsedParts → List ℕ
 check_line subtunes parts =

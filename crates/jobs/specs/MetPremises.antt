@@ -1,6 +1,6 @@
 -- What the clauses on statuses, packing and running ask for: each status but those of failing devices and of running out
 -- of memory is ordinary; a small song that a file spells is asked for no more; a packed file is never too long to be run.
-use Rattle.std.specs.Prelude.{◌≡◌, ◌≢◌, ℕ, ◌+◌, ◌≤◌, Bool, List, Some, length}
+use Rattle.std.specs.Prelude.{◌≡◌, ◌≢◌, ℕ, ◌+◌, ◌≤◌, Bool, List, [], Some, length}
 use Rattle.goat_io.specs.Files.{Files, file_of}
 use Rattle.song_model.specs.declared.songs.Song.{Song}
 use Rattle.song_model.specs.LookUp.{playable_subtunes}
@@ -15,11 +15,15 @@ use Rattle.base.specs.Bytes.{AreBytes, IsWord}
 use Rattle.cpu6502.specs.declared.memory.TheConstants.{MEMORY_SIZE}
 use Rattle.song_join.specs.Refusals.{CanBeJoined}
 use Rattle.asm_text.specs.Printing.{listing_of}
-use Rattle.command_line.specs.Words.{Pack, Run, Asm, Join}
+use Rattle.song_model.specs.Limits.{KeepsLimits}
+use Rattle.song_model.specs.Silence.{empty_song}
+use Rattle.song_script.specs.Shown.{script_of}
+use Rattle.command_line.specs.declared.topics.Topic.{Topic}
+use Rattle.command_line.specs.Words.{Pack, Run, Asm, Join, Edit, Selftest, Help, Version, Show, Parts}
 use Rattle.command_line.specs.Forms.{WordsOf}
-use Rattle.jobs.specs.Stages.{HoldsSong, AllPass, input_limit}
+use Rattle.jobs.specs.Stages.{HoldsSong, AllPass, input_limit, script_limit}
 use Rattle.jobs.specs.Jobs.{stages}
-use Rattle.jobs.specs.Answers.{IsOrdinary, IsPrinted, IsBeforeWriting, IsPackedPsid, RunsPacked, AssemblesListing, AsksToJoin}
+use Rattle.jobs.specs.Answers.{IsOrdinary, IsPrinted, IsBeforeWriting, IsPackedPsid, RunsPacked, AssemblesListing, AsksToMake, AsksToJoin}
 
 -- 0 and each other status but 4, 9, 10 and 14 is ordinary, all lines are printed with each but 10 and 14, and nothing is
 -- written with each but 0, 9, 10 and 14
@@ -54,6 +58,24 @@ ListingsAreAssembled =
     WordsOf words (Asm input output) → file_of files input ≡ Some (listing_of origin image) → IsWord origin →
     AreBytes image → origin + length image ≤ MEMORY_SIZE → AssemblesListing words files origin image output
     × AllPass files (stages (Asm input output))
+
+-- a file that spells the empty song and one that is a song's script, under the names that the words have, are asked for
+-- the song, and it is made
+abbrev pub ScriptsAreDone : Type 0
+ScriptsAreDone =
+    (words : List (List ℕ)) (files : Files) (input script output : List ℕ) (song : Song) →
+    WordsOf words (Edit input script output) → (holds : HoldsSong files input empty_song) →
+    length holds.bytes ≤ input_limit → KeepsLimits song → file_of files script ≡ Some (script_of song) →
+    length (script_of song) ≤ script_limit → AsksToMake words files song output
+    × AllPass files (stages (Edit input script output))
+
+-- the jobs that read no file, and two beside them that do
+pub record SomeJobsHaveNoStage : Type 0 where
+  pub selftest : (number : ℕ) → stages (Selftest number) ≡ []
+  pub help : (topic : Topic) → stages (Help topic) ≡ []
+  pub version : stages Version ≡ []
+  pub show : (input output : List ℕ) → stages (Show input output) ≢ []
+  pub parts : (input : List ℕ) (options : Options) → stages (Parts input options) ≢ []
 
 -- two files that spell songs, under the names that the words have, are asked to be joined; where they aren't too long and
 -- the songs can be played and joined, they are

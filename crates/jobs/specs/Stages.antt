@@ -16,6 +16,7 @@ use Rattle.song_pack.specs.Answers.{AreShort, IsTooLong}
 use Rattle.song_join.specs.declared.faults.JoinFault.{JoinFault}
 use Rattle.song_join.specs.Refusals.{CanBeJoined, IsRefusedFor}
 use Rattle.edit_script.specs.Edited.{IsEditedBy, FailsAt}
+use Rattle.song_script.specs.Shown.{script_of}
 use Rattle.psid.specs.declared.header.Psid.{Psid}
 use Rattle.psid.specs.declared.faults.PsidFault.{PsidFault}
 use Rattle.psid.specs.Reading.{psid_read}
@@ -30,7 +31,7 @@ use Rattle.asm_text.specs.Faults.{fault_in, IsFaultOf}
 use Rattle.jobs.specs.Calls.{HasSubtune, FirstCalls, StopsIn}
 use Rattle.jobs.specs.Packed.{IsImageLength}
 use Rattle.command_line.specs.RegisterText.{register_lines}
-use Rattle.jobs.specs.Lines.{missing_line, too_long_line, song_fault_line, unplayable_line, too_large_line, image_too_large_line, script_line, psid_fault_line, no_subtune_line, stop_line, listing_line, join_line}
+use Rattle.jobs.specs.Lines.{missing_line, too_long_line, song_fault_line, unplayable_line, too_large_line, image_too_large_line, script_too_large_line, script_line, psid_fault_line, no_subtune_line, stop_line, listing_line, join_line}
 
 -- the most bytes of a song or a PSID file
 abbrev pub input_limit : ℕ
@@ -51,6 +52,7 @@ pub data Stage : Type 0 where
   SpellsSong : (name : List ℕ) → Stage
   CanBePlayed : (name : List ℕ) → Stage
   HasShortPatterns : (name : List ℕ) → Stage
+  HasShortScript : (name : List ℕ) → Stage
   HasRoomForImage : (name : List ℕ) (address : ℕ) (options : Options) → Stage
   HasPlayableSubtune : (name : List ℕ) (subtune : ℕ) → Stage
   CanBeEdited : (name script : List ℕ) → Stage
@@ -144,6 +146,13 @@ rule_of (HasShortPatterns name) = record {
   status = 7;
   ends = λ files lines. (song : Song) × (used : UsedSets) × (pattern : ℕ) × (count : ℕ) × HoldsSong files name song ×
       AreUsedSets song used × IsTooLong song used pattern count × (lines ≡ too_large_line pattern count ∷ []);
+}
+-- a script that makes the song isn't longer than one that is read; else its length is told
+rule_of (HasShortScript name) = record {
+  asks = λ files. (song : Song) × HoldsSong files name song × (length (script_of song) ≤ script_limit);
+  status = 7;
+  ends = λ files lines. (song : Song) × HoldsSong files name song × (script_limit < length (script_of song)) ×
+      (lines ≡ script_too_large_line (length (script_of song)) ∷ []);
 }
 -- the song's image, where it stands at the address, ends at or below $D000
 rule_of (HasRoomForImage name address options) = record {

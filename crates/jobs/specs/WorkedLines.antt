@@ -1,5 +1,6 @@
 -- Lines, statuses, limits and headers that are worked by hand.
-use Rattle.std.specs.Prelude.{◌≡◌, ℕ, ◌+◌, ◌-◌, ◌<◌, List, [], ◌∷◌, ◌++◌, Bool, true, false, codes, length, replicate}
+use Rattle.std.specs.Prelude.{◌≡◌, ℕ, ◌+◌, ◌-◌, ◌<◌, List, [], ◌∷◌, ◌++◌, Bool, true, false, codes, length, map, replicate}
+use Rattle.std.specs.List.{range_with_len}
 use Rattle.song_model.specs.declared.songs.Song.{Song}
 use Rattle.song_model.specs.declared.tables.TableName.TheVariants.{Wave, Pulse, Filter}
 use Rattle.song_model.specs.Silence.{silence}
@@ -21,10 +22,16 @@ use Rattle.usage.specs.declared.parts.UsedParts.{UsedParts}
 use Rattle.faithful.specs.WorkedPlaces.{twice}
 use Rattle.jobs.specs.Lines.{missing_line, too_long_line, read_fault_line, write_fault_line, wrote_line, song_fault_line}
 use Rattle.jobs.specs.Lines.{psid_fault_line, no_subtune_line, stop_line, unplayable_line, too_large_line}
-use Rattle.jobs.specs.Lines.{image_too_large_line, check_line, script_line, listing_line, join_line, selftest_line}
+use Rattle.jobs.specs.Lines.{image_too_large_line, script_too_large_line, check_line, script_line, listing_line, join_line, selftest_line}
+use Rattle.song_costs.specs.declared.costs.Costs.{Costs}
+use Rattle.song_costs.specs.declared.places.Place.TheVariants.{InOrder, InPattern, InInstrument, InWaveTable}
+use Rattle.song_costs.specs.declared.kept.Cause.{Cause}
+use Rattle.song_costs.specs.declared.kept.Cause.TheVariants.{InSong, SkipOption, SpeedOption}
+use Rattle.song_costs.specs.declared.kept.PartCost.{PartCost}
+use Rattle.jobs.specs.Costs.{kind_lines, part_line, part_name}
 use Rattle.jobs.specs.Packed.{raw_file, song_header, IsPackedFile}
 use Rattle.jobs.specs.Selftest.{selftest_calls}
-use Rattle.jobs.specs.Stages.{IsThere, Fits, SpellsSong, CanBePlayed, HasShortPatterns, HasRoomForImage, HasPlayableSubtune}
+use Rattle.jobs.specs.Stages.{IsThere, Fits, SpellsSong, CanBePlayed, HasShortPatterns, HasShortScript, HasRoomForImage, HasPlayableSubtune}
 use Rattle.jobs.specs.Stages.{CanBeEdited, IsPsid, OffersSubtune, CallsReturn, CanBeAssembled, GoTogether, status_of, input_limit, script_limit, listing_limit}
 
 -- the first n numbers are marked, of so many
@@ -48,7 +55,7 @@ used_parts = record {
 
 -- one line of each kind
 pub record LinesAreWorked : Type 0 where
-  pub usage : usage_line ≡ codes "usage: goat check|trace|pack|run|edit|copy|selftest|disasm|asm|join\n"
+  pub usage : usage_line ≡ codes "usage: goat check|trace|pack|run|edit|copy|selftest|disasm|asm|join|help|version|show|parts\n"
   pub missing : missing_line (codes "a.sng") ≡ codes "missing: a.sng\n"
   pub too_long : too_long_line (codes "a.sng") ≡ codes "too long: a.sng\n"
   pub read_fault : read_fault_line (codes "a.sng") ≡ codes "read fault: a.sng\n"
@@ -61,6 +68,68 @@ pub record LinesAreWorked : Type 0 where
   pub no_memory : no_memory_line ≡ codes "no memory\n"
   pub selftest : selftest_line 0 8 0x00431937 817435
       ≡ codes "selftest 0: 8 subtunes, 300 frames, sum 00431937, 817435 steps\n"
+
+-- another number of bytes of each kind
+abbrev pub some_costs : Costs
+some_costs = record {
+  player = 1575;
+  orders = 48;
+  patterns = 327;
+  instruments = 63;
+  wave = 42;
+  pulse = 12;
+  filter = 6;
+  speed = 8;
+}
+
+-- a part at its bit, so many bytes, and what they are for
+abbrev pub costly : ℕ → ℕ → Cause → PartCost
+costly part bytes cause = record { part = part; bytes = bytes; cause = cause }
+
+-- the lines of the kinds, one of a part for each cause, and what each part is called
+pub record CostLinesAreWorked : Type 0 where
+  pub kinds : kind_lines some_costs
+      ≡ codes "player 1575 bytes\n" ∷ codes "orderlists 48 bytes\n" ∷ codes "patterns 327 bytes\n"
+      ∷ codes "instruments 63 bytes\n" ∷ codes "wave table 42 bytes\n" ∷ codes "pulse table 12 bytes\n"
+      ∷ codes "filter table 6 bytes\n" ∷ codes "speed table 8 bytes\n" ∷ codes "image 2081 bytes\n" ∷ []
+  pub in_order : part_line (costly 0 10 (InSong (InOrder 12 3 0x1F)))
+      ≡ codes "transpose 10 bytes, subtune 12 channel 3 place 1F\n"
+  pub in_pattern : part_line (costly 4 82 (InSong (InPattern 0x1A 3)))
+      ≡ codes "tone portamento 82 bytes, pattern 1A row 03\n"
+  pub in_instrument : part_line (costly 7 30 (InSong (InInstrument 16)))
+      ≡ codes "instrument vibrato 30 bytes, instrument 10\n"
+  pub in_wave_table : part_line (costly 23 173 (InSong (InWaveTable 12)))
+      ≡ codes "wave commands 173 bytes, wave row 0C\n"
+  pub by_skip : part_line (costly 25 33 SkipOption) ≡ codes "skip pulse 33 bytes, SKIP\n"
+  pub by_speed : part_line (costly 26 10 SpeedOption) ≡ codes "play by timer 10 bytes, SPEED\n"
+  pub names : map part_name (range_with_len 0 27)
+      ≡ codes "transpose"
+      ∷ codes "repeat"
+      ∷ codes "portamento up"
+      ∷ codes "portamento down"
+      ∷ codes "tone portamento"
+      ∷ codes "tie note"
+      ∷ codes "vibrato"
+      ∷ codes "instrument vibrato"
+      ∷ codes "note-dependent speed"
+      ∷ codes "set attack/decay"
+      ∷ codes "set sustain/release"
+      ∷ codes "set waveform"
+      ∷ codes "set wave pointer"
+      ∷ codes "pulse table"
+      ∷ codes "set pulse pointer"
+      ∷ codes "filter table"
+      ∷ codes "set filter pointer"
+      ∷ codes "filter control"
+      ∷ codes "filter cutoff"
+      ∷ codes "master volume"
+      ∷ codes "funk tempo"
+      ∷ codes "set tempo"
+      ∷ codes "wave table"
+      ∷ codes "wave commands"
+      ∷ codes "skip effects"
+      ∷ codes "skip pulse"
+      ∷ codes "play by timer" ∷ []
 
 -- one for each way in which a file is no song, or no PSID file
 pub record FaultsAreWorked : Type 0 where
@@ -107,6 +176,7 @@ pub record RefusalsAreWorked : Type 0 where
   pub pulse_row : unplayable_line (TableOverflow Pulse 3) ≡ codes "unplayable: pulse table ends before row 3\n"
   pub jump : unplayable_line (PointerToJump Filter 2) ≡ codes "unplayable: filter pointer to jump row 2\n"
   pub text : too_large_line 7 260 ≡ codes "too large: pattern 7 packs to 260 bytes\n"
+  pub shown : script_too_large_line 1048577 ≡ codes "too large: script of 1048577 bytes\n"
   pub image : image_too_large_line 50000 ≡ codes "too large: image of 50000 bytes\n"
   pub at_illegal : stop_line (Stopped (Illegal 0x1003)) 0 ≡ codes "machine stopped: illegal at $1003 in call 0\n"
   pub at_break : stop_line (Stopped (Break 0x0A0B)) 1 ≡ codes "machine stopped: break at $0A0B in call 1\n"
@@ -121,6 +191,7 @@ pub record StatusesAreWorked : Type 0 where
   pub unplayable : status_of (CanBePlayed (codes "a.sng")) ≡ 6
   pub no_playable_subtune : status_of (HasPlayableSubtune (codes "a.sng") 3) ≡ 11
   pub long_pattern : status_of (HasShortPatterns (codes "a.sng")) ≡ 7
+  pub long_script : status_of (HasShortScript (codes "a.sng")) ≡ 7
   pub long_image : status_of (HasRoomForImage (codes "a.sng") 0x1000 no_options) ≡ 7
   pub no_edit : status_of (CanBeEdited (codes "a.sng") (codes "a.txt")) ≡ 8
   pub no_psid : status_of (IsPsid (codes "b.sid")) ≡ 12

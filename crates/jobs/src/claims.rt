@@ -1,8 +1,8 @@
 //! Facts about the definitions, each the contract of a function that does nothing.
 
-ghost use Rattle.jobs.specs.Laws.{OutcomesAreDue, OneStatusIsDue, OneTextIsPrinted, StagesPass, PlayableSongsPass, StatusesHaveCauses, OnlyLargeImagesAreRefused, SmallSongsArePacked, ImagesAreBounded, WrittenFilesArePacked, PackedFilesPlay, ListingsGoBack, JoinedFilesHoldBoth};
-ghost use Rattle.jobs.specs.MetPremises.{StatusesAreOrdinary, FittingSongsArePacked, PackedFilesAreRun, ListingsAreAssembled, JoinableSongsAreJoined};
-ghost use Rattle.jobs.specs.WorkedLines.{LinesAreWorked, FaultsAreWorked, ListingFaultsAreWorked, JoinFaultsAreWorked, RefusalsAreWorked, StatusesAreWorked, LimitsAreWorked, HeadersAreWorked, LargeImagesAreNotPacked};
+ghost use Rattle.jobs.specs.Laws.{OutcomesAreDue, OneStatusIsDue, OneTextIsPrinted, StagesPass, PlayableSongsPass, StatusesHaveCauses, OnlyLargeImagesAreRefused, SmallSongsArePacked, ImagesAreBounded, CostsAreTheImages, WrittenFilesArePacked, PackedFilesPlay, ListingsGoBack, ScriptsMakeSongsAgain, JoinedFilesHoldBoth};
+ghost use Rattle.jobs.specs.MetPremises.{StatusesAreOrdinary, FittingSongsArePacked, PackedFilesAreRun, ListingsAreAssembled, ScriptsAreDone, JoinableSongsAreJoined, SomeJobsHaveNoStage};
+ghost use Rattle.jobs.specs.WorkedLines.{LinesAreWorked, CostLinesAreWorked, FaultsAreWorked, ListingFaultsAreWorked, JoinFaultsAreWorked, RefusalsAreWorked, StatusesAreWorked, LimitsAreWorked, HeadersAreWorked, LargeImagesAreNotPacked};
 
 /// A run has one outcome at most: one status and one name to write under, and, where nothing is written, one text.
 pub fn runs_have_one_outcome()
@@ -34,34 +34,44 @@ pub fn small_songs_are_packed()
     ensures songs { SmallSongsArePacked }
 {}
 
+/// The bytes that `parts` tells of a song, kind by kind, add up to the length of the image that `pack` writes.
+pub fn costs_are_the_images()
+    ensures { CostsAreTheImages }
+{}
+
 /// A PSID file that is written is a packed one; all calls of such a file return, with the registers of the song's trace.
 pub fn packed_files_play_their_song()
     ensures written { WrittenFilesArePacked }
     ensures play { PackedFilesPlay }
 {}
 
-/// What `disasm` writes is what `asm` gives the image back of; and a joined file holds the joined song, which plays what
-/// both songs play.
+/// What `disasm` writes is what `asm` gives the image back of; what `show` writes of a song is what `edit` makes the song
+/// of, from the empty one; and a joined file holds the joined song, which plays what both songs play.
 pub fn written_files_hold_what_was_read()
     ensures listings { ListingsGoBack }
+    ensures scripts { ScriptsMakeSongsAgain }
     ensures joined { JoinedFilesHoldBoth }
 {}
 
 /// What the clauses on statuses, packing and running ask for: which statuses are ordinary, that a small song is asked for
 /// no more than fits it, that a packed file is never too long, that the listing of an image is one that is
-/// assembled, and that two songs that can be joined are.
+/// assembled, that a song's script is done on the empty song, that two songs that can be joined are, and which jobs have no
+/// stage.
 pub fn premises_are_met()
     ensures statuses { StatusesAreOrdinary }
     ensures packed { FittingSongsArePacked }
     ensures run { PackedFilesAreRun }
     ensures listing { ListingsAreAssembled }
+    ensures script { ScriptsAreDone }
     ensures joined { JoinableSongsAreJoined }
+    ensures fileless { SomeJobsHaveNoStage }
 {}
 
 /// A line of each kind, the status of each stage, each limit in numbers, and what the header of a packed PSID file says of
 /// each song, worked by hand; and that no packed file is of an image that would pass `$D000`.
 pub fn worked_lines()
     ensures lines { LinesAreWorked }
+    ensures costs { CostLinesAreWorked }
     ensures faults { FaultsAreWorked }
     ensures listings { ListingFaultsAreWorked }
     ensures joins { JoinFaultsAreWorked }

@@ -45,7 +45,7 @@ pub fn packed_file(
 }
 
 /// A raw file: the address, low byte first, and the image.
-pub(crate) fn raw_file(alloc: Global, address: u16, image: &[u8]) -> Result<Vec<u8>, NoMemory>
+pub fn raw_file(alloc: Global, address: u16, image: &[u8]) -> Result<Vec<u8>, NoMemory>
     ensures { IfOk result (λ file. file.items ≡ raw_file address image.now) }
 {
     let mut file = Vec::new(alloc);

@@ -6,6 +6,8 @@ ghost use Rattle.goat_io.specs.Files.{Files};
 ghost use Rattle.song_model.specs.Limits.{KeepsLimits};
 ghost use Rattle.play_model.specs.Playable.{IsPlayable};
 ghost use Rattle.usage.specs.Parts.{AreUsedParts};
+ghost use Rattle.packing_rules.specs.UsedSets.{UsedSets, AreUsedSets};
+ghost use Rattle.song_pack.specs.Packed.{IsPacked};
 ghost use Rattle.song_gen.specs.GeneratedLaws.{PatternsAreShort};
 ghost use Rattle.command_line.specs.Last.{last_of, Says};
 ghost use Rattle.jobs.specs.Lines.{too_large_line, image_too_large_line};
@@ -32,6 +34,8 @@ pub fn packed_song(
     requires playable { IsPlayable song.now }
     requires parts { AreUsedParts song.now parts.now }
     ensures packs { IfOk result (λ packed. KeepsLimits song.now → PacksSong packed song.now) }
+    ensures exact { (used : UsedSets) → AreUsedSets song.now used → KeepsLimits song.now →
+        IfOk result (IsPacked song.now used) }
     ensures short { OnOk result ((files : Files) (name : List ℕ) → HoldsSong files name song.now →
         IsMet files (HasShortPatterns name)) }
     ensures refused { IfErr result (λ refusal. (files : Files) (name : List ℕ) →

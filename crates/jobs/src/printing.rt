@@ -1,10 +1,10 @@
-//! Printing the last line of a run.
+//! Printing the last line of a run, and the lines of a text.
 
-ghost use Rattle.std.specs.Prelude.{[]};
+ghost use Rattle.std.specs.Prelude.{[], map, OnOk, IsErrOf};
 ghost use Rattle.command_line.specs.Last.{last_word};
 ghost use Rattle.command_line.specs.Message.{line_of};
-ghost use Rattle.jobs.specs.Stands.{sink_state, TellsWant};
-ghost use Rattle.jobs.specs.Endings.{PrintsLast, PrintsLine};
+ghost use Rattle.jobs.specs.Stands.{sink_state, Appends, TellsWant};
+ghost use Rattle.jobs.specs.Endings.{PrintsLast, PrintsLine, LinesEnd, PutFails};
 
 use command_line::{Line, Message, Refusal, Report, Status};
 use goat_io::{Sink, SinkFault};
@@ -47,6 +47,70 @@ fn put_line<K: Sink>(status: u8, line: &Line, out: &mut K) -> u8
         Err(SinkFault::Failed) => Status::SinkFault.number(),
         Err(SinkFault::NoMemory) => want_memory(out),
     }
+}
+
+/// Prints these lines, each with its line feed, one after the other. It takes no memory.
+///
+/// # Errors
+///
+/// The sink fails, or is out of memory for a line.
+pub fn print_lines<K: Sink>(
+    lines: &[&'static str],
+    out: &mut K,
+) -> Result<Report<'static>, Refusal<'static>>
+    ensures { LinesEnd (map (λ line. line.now) lines.now) (last_word result)
+        (sink_state (K.written out.old) (K.faults out.old))
+        (sink_state (K.written out.new) (K.faults out.new)) }
+{
+    for line in lines {
+        put_text(line.as_bytes(), out)?;
+    }
+    Ok(Report::Shown)
+}
+
+/// Prints the line of a message.
+///
+/// # Errors
+///
+/// The sink failed, and a beginning of the line is printed; or out of memory.
+pub fn put_message<K: Sink>(
+    message: &Message,
+    line: &mut Line,
+    out: &mut K,
+) -> Result<(), SinkFault>
+    ensures ok { OnOk result (Appends (line_of message.now.pieces)
+        (sink_state (K.written out.old) (K.faults out.old))
+        (sink_state (K.written out.new) (K.faults out.new))) }
+    ensures failed { IsErrOf result SinkFault.Failed → PutFails (line_of message.now.pieces)
+        (sink_state (K.written out.old) (K.faults out.old))
+        (sink_state (K.written out.new) (K.faults out.new)) }
+    ensures no_memory { IsErrOf result SinkFault.NoMemory → Appends []
+        (sink_state (K.written out.old) (K.faults out.old))
+        (sink_state (K.written out.new) (K.faults out.new)) }
+{
+    match line.tell(message) {
+        Ok(()) => put_text(line.as_slice(), out),
+        Err(_) => Err(SinkFault::NoMemory),
+    }
+}
+
+/// Prints a text, in one piece.
+///
+/// # Errors
+///
+/// The sink failed, and a beginning of the text is printed; or it is out of memory.
+pub(crate) fn put_text<K: Sink>(text: &[u8], out: &mut K) -> Result<(), SinkFault>
+    ensures ok { OnOk result (Appends text.now
+        (sink_state (K.written out.old) (K.faults out.old))
+        (sink_state (K.written out.new) (K.faults out.new))) }
+    ensures failed { IsErrOf result SinkFault.Failed → PutFails text.now
+        (sink_state (K.written out.old) (K.faults out.old))
+        (sink_state (K.written out.new) (K.faults out.new)) }
+    ensures no_memory { IsErrOf result SinkFault.NoMemory → Appends []
+        (sink_state (K.written out.old) (K.faults out.old))
+        (sink_state (K.written out.new) (K.faults out.new)) }
+{
+    out.put(text)
 }
 
 /// Prints that the program is out of memory, and answers the status.

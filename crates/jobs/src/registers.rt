@@ -5,6 +5,7 @@ ghost use Rattle.command_line.specs.RegisterText.{register_line};
 ghost use Rattle.jobs.specs.Stands.{sink_state, Appends};
 ghost use Rattle.jobs.specs.Endings.{PutFails};
 
+use crate::printing::put_text;
 use command_line::Line;
 use goat_io::{Sink, SinkFault};
 
@@ -30,7 +31,7 @@ pub fn put_registers<K: Sink>(
         (sink_state (K.written out.new) (K.faults out.new)) }
 {
     match line.tell_registers(call, registers) {
-        Ok(()) => out.put(line.as_slice()),
+        Ok(()) => put_text(line.as_slice(), out),
         Err(_) => Err(SinkFault::NoMemory),
     }
 }

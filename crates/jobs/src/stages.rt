@@ -1,7 +1,7 @@
 //! The stages of a run: each passes, or ends the run. Those of PSID files are in `psid_stages.rt`.
 #![tactic(auto, using(crate::proofs::Room::pieces_fit))]
 
-ghost use Rattle.std.specs.Prelude.{◌≡◌, ◌≢◌, ◌+◌, ◌-◌, ◌≤◌, ℕ, List, [], ◌∷◌, codes, Some, IfOk, IfErr, OnOk, decimal, length};
+ghost use Rattle.std.specs.Prelude.{◌≡◌, ◌≢◌, ◌-◌, ◌≤◌, ℕ, List, [], ◌∷◌, codes, Some, IfOk, IfErr, OnOk, decimal, length};
 ghost use Rattle.goat_io.specs.Files.{Files, file_of};
 ghost use Rattle.song_model.specs.LookUp.{IsNumbered, playable_subtunes};
 ghost use Rattle.gts5.specs.Spells.{Spells};
@@ -10,10 +10,9 @@ ghost use Rattle.usage.specs.Parts.{AreUsedParts};
 ghost use Rattle.command_line.specs.Last.{last_of, last_word, Says};
 ghost use Rattle.command_line.specs.Lines.{line};
 ghost use Rattle.jobs.specs.Lines.{song_fault_line, table_word, unplayable_line, no_subtune_line};
-ghost use Rattle.jobs.specs.Stages.{SpellsSong, CanBePlayed, HasPlayableSubtune, HoldsSong, input_limit, script_limit};
-ghost use Rattle.song_model.specs.declared.songs.Song.{Song as Read};
-ghost use Rattle.jobs.specs.Stands.{FolderState, folder_state};
-ghost use Rattle.jobs.specs.Endings.{Refuses, WasRead, ReadFails, SongWasRead, SpellingWasRead, SongFails, BothWereRead, BothFail, WriteEnds};
+ghost use Rattle.jobs.specs.Stages.{SpellsSong, CanBePlayed, HasPlayableSubtune, HoldsSong, input_limit};
+ghost use Rattle.jobs.specs.Stands.{folder_state};
+ghost use Rattle.jobs.specs.Endings.{Refuses, WasRead, ReadFails, SongWasRead, SpellingWasRead, SongFails, WriteEnds};
 
 use command_line::{Piece, Refusal, Report, Status};
 use goat_io::{Folder, ReadFault, WriteFault};
@@ -25,9 +24,6 @@ use usage::{UsedParts, usage};
 
 /// The most bytes of a song or a PSID file.
 pub const INPUT_LIMIT: u32 = 262_144;
-
-/// The most bytes of a script.
-pub const SCRIPT_LIMIT: u32 = 1_048_576;
 
 /// The bytes of a file.
 ///
@@ -133,56 +129,6 @@ pub fn read_song_and_bytes<'a, F: Folder>(
     let bytes = read_file(alloc, name, INPUT_LIMIT, folder)?;
     let song = song_of(alloc, &bytes)?;
     Ok((song, bytes))
-}
-
-/// The song in one file, and the bytes of another. A file that is both is read once.
-///
-/// # Errors
-///
-/// One of the files isn't read, the first one's bytes break the format of songs, or out of memory.
-pub fn read_song_and_script<'a, F: Folder>(
-    alloc: Global,
-    name: &'a str,
-    script: &'a str,
-    folder: &mut F,
-) -> Result<(Song, Vec<u8>), Refusal<'a>>
-    ensures read { IfOk result (λ both. BothWereRead name.now script.now script_limit
-        (folder_state (F.files folder.old) (F.counts folder.old))
-        (folder_state (F.files folder.new) (F.counts folder.new)) both.0 both.1.items) }
-    ensures refused { IfErr result (λ refusal. BothFail name.now script.now script_limit
-        (folder_state (F.files folder.old) (F.counts folder.old))
-        (folder_state (F.files folder.new) (F.counts folder.new)) (last_of refusal)) }
-{
-    let (song, bytes) = read_song_and_bytes(alloc, name, folder)?;
-    let text = read_other(alloc, name, bytes, script, SCRIPT_LIMIT, folder)?;
-    Ok((song, text))
-}
-
-/// The bytes of another file, where those of one are read already. A file that is both is read once.
-///
-/// # Errors
-///
-/// The other file isn't read, or out of memory.
-pub fn read_other<'a, F: Folder>(
-    alloc: Global,
-    name: &str,
-    bytes: Vec<u8>,
-    other: &'a str,
-    limit: u32,
-    folder: &mut F,
-) -> Result<Vec<u8>, Refusal<'a>>
-    ensures read { IfOk result (λ text. (before : FolderState) (song : Read) →
-        SpellingWasRead name.now before (folder_state (F.files folder.old) (F.counts folder.old))
-        song bytes.items → BothWereRead name.now other.now limit before
-        (folder_state (F.files folder.new) (F.counts folder.new)) song text.items) }
-    ensures refused { IfErr result (λ refusal. (other.now ≢ name.now) × ReadFails other.now limit
-        (folder_state (F.files folder.old) (F.counts folder.old))
-        (folder_state (F.files folder.new) (F.counts folder.new)) (last_of refusal)) }
-{
-    if other == name {
-        return Ok(bytes);
-    }
-    read_file(alloc, other, limit, folder)
 }
 
 /// The song that the bytes of a file spell.

@@ -1,4 +1,4 @@
-use Rattle.jobs.proofs.Laws.{headline, outcome_comes, due_comes, usage_comes, packed_plays, listing_goes_back, joined_plays, selftest_comes, counts, sink_counts, files_stay}
+use Rattle.jobs.proofs.Laws.{headline, outcome_comes, due_comes, usage_comes, packed_plays, listing_goes_back, script_makes_song, joined_plays, fileless_comes, counts, sink_counts, files_stay}
 use Rattle.goat_cli.proofs.top.goat.Goals as goal
 
 pub returns-clause-headline : goal.returns-clause-headline
@@ -19,11 +19,14 @@ returns-clause-packed g c = packed_plays c.answer.ensures
 pub returns-clause-listed : goal.returns-clause-listed
 returns-clause-listed g c = listing_goes_back c.answer.ensures
 
+pub returns-clause-shown : goal.returns-clause-shown
+returns-clause-shown g c = script_makes_song c.answer.ensures
+
 pub returns-clause-joined : goal.returns-clause-joined
 returns-clause-joined g c = joined_plays c.answer.ensures
 
-pub returns-clause-selftest : goal.returns-clause-selftest
-returns-clause-selftest g c = selftest_comes c.answer.ensures
+pub returns-clause-fileless : goal.returns-clause-fileless
+returns-clause-fileless g c = fileless_comes c.answer.ensures
 
 pub returns-clause-counted : goal.returns-clause-counted
 returns-clause-counted g c = counts c.answer.ensures

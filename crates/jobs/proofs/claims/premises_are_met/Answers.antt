@@ -1,6 +1,8 @@
+use Rattle.jobs.proofs.Fileless.{some_jobs_have_no_stage}
 use Rattle.jobs.proofs.Joining.{joinable_songs_are_joined}
 use Rattle.jobs.proofs.Listed.{listings_are_assembled}
 use Rattle.jobs.proofs.MetPremises.{statuses_are_ordinary, fitting_songs_are_packed, packed_files_are_run}
+use Rattle.jobs.proofs.Shown.{scripts_are_done}
 use Rattle.jobs.proofs.claims.premises_are_met.Goals as goal
 
 pub returns-clause-statuses : goal.returns-clause-statuses
@@ -17,3 +19,9 @@ returns-clause-listing c = listings_are_assembled
 
 pub returns-clause-joined : goal.returns-clause-joined
 returns-clause-joined c = joinable_songs_are_joined
+
+pub returns-clause-script : goal.returns-clause-script
+returns-clause-script c = scripts_are_done
+
+pub returns-clause-fileless : goal.returns-clause-fileless
+returns-clause-fileless c = some_jobs_have_no_stage

@@ -1,0 +1,8 @@
+-- What the parts of a run come to.
+mod Costs
+mod Edited
+mod Joining
+mod Listed
+mod Room
+mod Showing
+mod SecondFile

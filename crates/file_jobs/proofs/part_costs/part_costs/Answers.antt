@@ -1,0 +1,21 @@
+use Rattle.std.proofs.Common.{◌<◌}
+use Rattle.std.proofs.lemmas.List.Elements.{All-nil}
+use Rattle.song_costs.proofs.Laws.{kept_none}
+use Rattle.file_jobs.proofs.Costs.{kept_next, below_next}
+use Rattle.file_jobs.proofs.part_costs.part_costs.Goals as goal
+
+pub loop-part-init : goal.loop-part-init
+loop-part-init c =
+    rw c.new-told.ensures.items (record {
+      kept = kept_none c.args.song.now c.args.parts.now.features.0 c.args.options.now;
+      named = All-nil (λ cost. cost.part < 0);
+    })
+
+pub loop-part-preserved : goal.loop-part-preserved
+loop-part-preserved c =
+    let so_far = c.loop-part.invariant in
+    let e = c.part_cost.ensures in
+    rw c.in_ok-add_cost.ensures (record {
+      kept = kept_next c.args.song.now c.args.parts.now.features.0 c.args.options.now _ _ _ so_far.kept e.exact e.told;
+      named = below_next c.args.song.now c.args.parts.now.features.0 c.args.options.now _ _ _ so_far.named e.exact;
+    })

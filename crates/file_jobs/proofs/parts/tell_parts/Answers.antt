@@ -1,0 +1,60 @@
+use Rattle.std.proofs.Common.{refl, ap, ◌∙◌, ◌++◌, map}
+use Rattle.std.proofs.lemmas.Result.{err_from_is_err_and}
+use Rattle.song_pack.specs.Numbers.{sets_of}
+use Rattle.song_pack.proofs.Laws.{used_sets}
+use Rattle.song_costs.specs.Kinds.{costs_of}
+use Rattle.jobs.specs.Costs.{TellCosts, kind_lines, part_line}
+use Rattle.jobs.proofs.Laws.{song_begun, song_fails, song_held, met_next, refused, wants_first, lines_over, one_features}
+use Rattle.file_jobs.proofs.parts.tell_parts.Goals as goal
+
+pub returns-in_err-song : goal.returns-in_err-song
+returns-in_err-song g c =
+    let p = err_from_is_err_and c.from_residual.result c.from_residual.ensures.1 in
+    rw (p.1, p.2) (song_fails _ refl c.in_err-song.ensures.refused)
+
+pub returns-in_err-parts : goal.returns-in_err-parts
+returns-in_err-parts g c =
+    let read = c.in_ok-song.ensures.read in
+    let p = err_from_is_err_and c.from_residual-in_err-parts.result c.from_residual-in_err-parts.ensures.1 in
+    let refuses = c.in_err-parts.ensures.refused read.was.files c.args.input.now (song_held read) in
+    rw (p.1, p.2) (refused _ (song_begun refl read) refl refuses)
+
+pub returns-in_err-packed : goal.returns-in_err-packed
+returns-in_err-packed g c =
+    let read = c.in_ok-song.ensures.read in
+    let holds = song_held read in
+    let p = err_from_is_err_and c.from_residual-in_err-packed.result c.from_residual-in_err-packed.ensures.1 in
+    let refuses = c.in_err-packed.ensures.refused read.was.files c.args.input.now holds in
+    rw (p.1, p.2)
+    (refused _ (met_next (song_begun refl read) (c.in_ok-song.song, holds, c.in_ok-parts.ensures.playable)) refl refuses)
+
+pub returns-in_err-told : goal.returns-in_err-told
+returns-in_err-told g c =
+    let p = err_from_is_err_and c.from_residual-in_err-told.result c.from_residual-in_err-told.ensures.1 in
+    rw (p.1, p.2) (wants_first _ c.in_ok-song.ensures.read.was.stays)
+
+pub returns : goal.returns
+returns g c =
+    let read = c.in_ok-song.ensures.read in
+    let song = c.in_ok-song.song in
+    let holds = song_held read in
+    let parts = c.in_ok-parts.parts in
+    let used = used_sets song parts c.in_ok-parts.ensures.parts in
+    let packed = c.in_ok-packed.ensures.exact (sets_of parts) used holds.spells.limits in
+    let features = c.in_ok-parts.ensures.parts.features in
+    let same = one_features song _ _ packed.features features in
+    let costs = c.costs_by_kind-costs.ensures.exact song (sets_of parts) packed
+    ∙ ap (λ f. costs_of song (sets_of parts) f c.args.options) same in
+    let told : TellCosts song c.args.options (kind_lines c.costs_by_kind-costs.result ++ map part_line c.in_ok-told.told.items) =
+    record {
+      used = sets_of parts;
+      are_used = used;
+      features = parts.features.0;
+      are_features = features;
+      parts = c.in_ok-told.told.items;
+      are_parts = c.in_ok-told.ensures.kept;
+      lines_are = ap (λ k. kind_lines k ++ map part_line c.in_ok-told.told.items) costs;
+    } in
+    let short = c.in_ok-packed.ensures.short read.was.files c.args.input.now holds in
+    lines_over (met_next (met_next (song_begun refl read) (song, holds, c.in_ok-parts.ensures.playable)) short)
+    ((song, holds, told), refl) (rw c.as_slice.ensures.value at c.show_costs.ensures)

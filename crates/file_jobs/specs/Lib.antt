@@ -1,0 +1,2 @@
+-- Inner: kinds of bytes, as they are told.
+pub mod Kinds

@@ -1,0 +1,35 @@
+-- A song has one text of costs, and its image is as long as it says.
+use Rattle.std.proofs.Common.{◌≡◌, List, ℕ, ◌++◌, map, sym, ap, ◌∙◌, subst}
+use Rattle.song_model.specs.declared.songs.Song.{Song}
+use Rattle.play_model.specs.declared.options.Options.{Options}
+use Rattle.packing_rules.proofs.Laws.{same_sets}
+use Rattle.song_costs.specs.Kinds.{costs_of, all_bytes}
+use Rattle.song_costs.specs.Kept.{AreKeptParts}
+use Rattle.song_costs.proofs.Laws.{costs_add_up, kept_parts_are_one}
+use Rattle.jobs.specs.Costs.{TellCosts, kind_lines, part_line}
+use Rattle.jobs.specs.Packed.{IsImageLength}
+use Rattle.jobs.specs.Laws.{CostsAreTheImages}
+use Rattle.jobs.proofs.OneFeatures.{one_features}
+use Rattle.jobs.proofs.Passes.{one_length}
+
+pub one_cost_text : (song : Song) (o : Options) (lines others : List (List ℕ)) → TellCosts song o lines →
+    TellCosts song o others → lines ≡ others
+one_cost_text song o lines others p q =
+    let used = same_sets song p.used q.used p.are_used q.are_used in
+    let features = one_features song p.features q.features p.are_features q.are_features in
+    let mine = subst (λ f. AreKeptParts song f o p.parts) features p.are_parts in
+    let parts = kept_parts_are_one song q.features o p.parts q.parts mine q.are_parts in
+    p.lines_are ∙ ap (λ u. kind_lines (costs_of song u p.features o) ++ map part_line p.parts) used
+    ∙ ap (λ f. kind_lines (costs_of song q.used f o) ++ map part_line p.parts) features
+    ∙ ap (λ l. kind_lines (costs_of song q.used q.features o) ++ map part_line l) parts ∙ sym q.lines_are
+
+pub costs_are_the_images : CostsAreTheImages
+costs_are_the_images song o lines psid address zero_page file told written =
+    let mine : IsImageLength song o (all_bytes (costs_of song told.used told.features o)) = record {
+      used = told.used;
+      features = told.features;
+      are_used = told.are_used;
+      are_features = told.are_features;
+      count_is = (costs_add_up song told.used told.features o).1;
+    } in
+    one_length song o _ _ written.size mine
