@@ -16,7 +16,7 @@ use Rattle.play_model.specs.declared.options.Options.{Options}
 use Rattle.play_model.specs.State.{FrameState, no_options, start_state}
 use Rattle.play_model.specs.WorkedSongs.{one_note, with_gate_timer}
 use Rattle.play_model.specs.WorkedRuns.{silent_registers, from_call, digits, Plays}
-use Rattle.play_model.specs.WorkedFrames.{OneNoteSounds, LowNoteIsMute, VibratoWraps, SlideStops, FunkTempoWraps, LongFunkTempoIsCut, GateTimerBits, LongTimerIsNeverMet, WaveProgramWaits, VibratoChangesAlone, FilterFollows, OptionsAreAsWorked}
+use Rattle.play_model.specs.WorkedFrames.{OneNoteSounds, LowNoteIsMute, VibratoWraps, SlideStops, FunkTempoWraps, LongFunkTempoIsCut, GateTimerBits, LongTimerIsNeverMet, WaveProgramWaits, VibratoChangesAlone, FilterFollows, OptionsAreAsWorked, FirstSkipsAreAsWorked}
 
 pub one_note_sounds_lem : OneNoteSounds
 unfolding prefix_of cycle_of played playable_subtune instrument_at table_row pattern_at freq half_tone slide next_row porta_up porta_down tone vibrato do_command filter_step between_rows note_started row_command at_row tick_step wave_command wave_step effect_step pulse_step fetch_row voice_step voice_registers filter_registers frame_of state_after_with trace
@@ -69,6 +69,32 @@ options_are_as_worked_lem = record {
   twice_fetched = refl;
   twice_started = refl;
   twice_sounds = refl;
+}
+
+pub first_skips_are_as_worked_lem : FirstSkipsAreAsWorked
+unfolding prefix_of cycle_of played playable_subtune instrument_at table_row pattern_at freq half_tone slide next_row porta_up porta_down tone vibrato do_command filter_step between_rows note_started row_command at_row tick_step wave_command wave_step effect_step pulse_step fetch_row voice_step voice_registers filter_registers frame_of state_after_with
+first_skips_are_as_worked_lem = record {
+  two_rows = refl;
+  kept = refl;
+  all = refl;
+  third_to_come = refl;
+  third_done = refl;
+  one_row = refl;
+  rests_first = refl;
+  first_row_kept = refl;
+  second_row_left_out = refl;
+  both_at_once = refl;
+  timer_of_one = refl;
+  timer_never_met = refl;
+  quick = refl;
+  loaded_with_0 = refl;
+  time_rests = refl;
+  at_once = refl;
+  set_rests = refl;
+  effect_done = refl;
+  effect_left_out = refl;
+  twice = refl;
+  four_times = refl;
 }
 
 -- the registers of n calls in one go, which doesn't begin anew for each call

@@ -1,6 +1,6 @@
 -- A frame: the filter, its registers, and the three voices in turn. This is this project's profile of
 -- the playroutine, and the meaning of a song.
-use Rattle.std.specs.Prelude.{ℕ, zero, suc, ◌/◌, ◌%◌, not, ◌&&◌, ◌==◌, List, [], ◌∷◌, ◌++◌, replicate, if◌then◌else◌, bit_and, bit_or}
+use Rattle.std.specs.Prelude.{ℕ, zero, suc, ◌/◌, ◌%◌, not, ◌&&◌, ◌||◌, ◌==◌, Bool, List, [], ◌∷◌, ◌++◌, replicate, if◌then◌else◌, bit_and, bit_or}
 use Rattle.std.specs.Option.{unwrap_or}
 use Rattle.song_model.specs.declared.orders.Order.{Order}
 use Rattle.song_model.specs.declared.orders.Subtune.{Subtune}
@@ -23,15 +23,25 @@ effect_done o look w =
     then record w.playing { voice = effect_step look w.playing.voice }
     else w.playing
 
--- the pulse step, but an option leaves it out where the row is fetched
+-- the frame in which the row is fetched
+abbrev pub is_at_fetch : Voice → Bool
+is_at_fetch v = v.tick == v.gate_timer
+
+-- tick 0 between two patterns: the next row is the first of its pattern
+abbrev pub is_between_patterns : Voice → Bool
+is_between_patterns v = (v.tick == 0) && (v.row == 0)
+
+-- each of these two frames has an option that leaves the pulse step out
+abbrev pub pulse_left_out : Options → Voice → Bool
+pulse_left_out o v = o.skip_pulse && is_at_fetch v || o.skip_first && is_between_patterns v
+
+-- the pulse step, but where an option leaves it out
 abbrev pub pulse_done : Options → LookUps → Playing → Playing
-pulse_done o look s =
-    if o.skip_pulse && (s.voice.tick == s.voice.gate_timer) then s
-    else record s { voice = pulse_step look s.voice }
+pulse_done o look s = if pulse_left_out o s.voice then s else record s { voice = pulse_step look s.voice }
 
 abbrev pub row_fetched : LookUps → Order → Playing → Playing
 row_fetched look order s =
-    if s.voice.tick == s.voice.gate_timer then record s { voice = fetch_row look order s.voice } else s
+    if is_at_fetch s.voice then record s { voice = fetch_row look order s.voice } else s
 
 -- a started note ends the voice step
 abbrev pub after_tick : Options → LookUps → Order → Ticked → Playing

@@ -1,6 +1,7 @@
 -- What the playroutine keeps from one frame to the next, with the values at the start.
 use Rattle.std.specs.Prelude.{ℕ, ◌-◌, ◌*◌, false, ◌==◌, if◌then◌else◌}
 use Rattle.play_model.specs.declared.options.Options.{Options}
+use Rattle.play_model.specs.declared.options.System.TheVariants.{Pal}
 use Rattle.play_model.specs.declared.states.CommonState.{CommonState}
 
 -- what each voice keeps
@@ -80,9 +81,14 @@ start_voice = record {
   pulse = 0;
 }
 
--- nothing is left out, at one play call in the time of a picture
+-- nothing is left out, at so many play calls in the time of a picture of the PAL system
+abbrev pub at_speed : ℕ → Options
+at_speed speed =
+    record { skip_effects = false; skip_pulse = false; skip_first = false; speed = speed; system = Pal }
+
+-- the same at one play call
 abbrev pub no_options : Options
-no_options = record { skip_effects = false; skip_pulse = false; speed = 1 }
+no_options = at_speed 1
 
 -- at the start a row lasts as long at each speed: 6 pictures, or 9 and 6 in turn
 abbrev pub start_common : ℕ → Common

@@ -14,7 +14,7 @@ use Rattle.play_model.specs.Wrap.{byte_minus}
 use Rattle.play_model.specs.State.{Voice, FrameState, Playing, playing_of}
 use Rattle.play_model.specs.TickStep.{tempo_of, tick_step}
 use Rattle.play_model.specs.WaveStep.{is_wave_command, wave_step}
-use Rattle.play_model.specs.Frame.{effect_done, filter_done, voice_done, subtune_at}
+use Rattle.play_model.specs.Frame.{effect_done, pulse_left_out, filter_done, voice_done, subtune_at}
 use Rattle.play_model.specs.Used.{IsChannel}
 
 -- ---- a turn
@@ -118,7 +118,7 @@ pub record HasPulseProgram (turn : Turn) (p : ℕ) : Type 0 where
   pub goes_on : GoesOn turn s
   pub v : Voice
   pub voice_is : (effect_done turn.options turn.look (wave_step turn.look s)).voice ≡ v
-  pub kept : turn.options.skip_pulse && (v.tick == v.gate_timer) ≡ false
+  pub kept : pulse_left_out turn.options v ≡ false
   pub ptr : v.pulse_ptr ≡ p
   pub some : p ≢ 0
 

@@ -3,8 +3,8 @@ use Rattle.std.specs.Prelude.{true, false, ◌≡◌, ℕ, ◌+◌, ◌*◌, Lis
 use Rattle.song_model.specs.declared.songs.Song.{Song}
 use Rattle.play_model.specs.declared.options.Options.{Options}
 use Rattle.play_model.specs.Frame.{trace, trace_with, state_after}
-use Rattle.play_model.specs.WorkedRuns.{silent_registers, from_call, left_out}
-use Rattle.play_model.specs.WorkedSongs.{one_note, low_note, wrapping_note, sliding_note, tied_note, funk_song, long_funk_song, rising_note, rising_pulse, long_note, with_gate_timer, waiting_wave, other_vibrato, small_song}
+use Rattle.play_model.specs.WorkedRuns.{silent_registers, from_call, left_out, first_left_out, all_left_out}
+use Rattle.play_model.specs.WorkedSongs.{with_rows, one_note, low_note, wrapping_note, sliding_note, tied_note, funk_song, long_funk_song, rising_note, rising_pulse, three_rows, late_note, in_turn, never_fetched, quick_turns, at_once_tempo, short_pulse, set_pulse, long_note, with_gate_timer, waiting_wave, other_vibrato, small_song}
 
 -- the seven registers of voice 1 after a call
 abbrev pub first_voice_at : Song → ℕ → List ℕ
@@ -107,3 +107,48 @@ pub record OptionsAreAsWorked : Type 0 where
       ∷ 0x09 ∷ 0x09 ∷ 0xA0 ∷ []
   pub twice_sounds : take 7 (trace_with (left_out false false 2) one_note 0 14) ≡ 0x68 ∷ 0x11 ∷ 0
       ∷ 0x08 ∷ 0x41 ∷ 0x09 ∷ 0xA0 ∷ []
+
+-- At tick 0 between two patterns the pulse step can be left out. In a pattern of two rows the second is done at call
+-- 13; in one of three rows the third is done six calls later. In patterns of one row it is left out at each row. Behind
+-- rests with which a pattern begins it is done from their second on.
+pub record FirstSkipsAreAsWorked : Type 0 where
+  pub two_rows : from_call (number_with (first_left_out 1) rising_pulse 2) 12 3 ≡ 0x0840 ∷ 0x0840 ∷ 0x0850 ∷ []
+  pub kept : from_call (number_with (left_out true true 1) rising_pulse 2) 12 3 ≡ 0x0830 ∷ 0x0840 ∷ 0x0850 ∷ []
+  pub all : from_call (number_with (all_left_out 1) rising_pulse 2) 12 3 ≡ 0x0830 ∷ 0x0830 ∷ 0x0840 ∷ []
+  pub third_to_come : from_call (number_with (first_left_out 1) (with_rows three_rows rising_pulse) 2) 12 3
+      ≡ 0x0840 ∷ 0x0850 ∷ 0x0860 ∷ []
+  pub third_done : from_call (number_with (first_left_out 1) (with_rows three_rows rising_pulse) 2) 18 3
+      ≡ 0x08A0 ∷ 0x08A0 ∷ 0x08B0 ∷ []
+  pub one_row : from_call (number_with (first_left_out 1) in_turn 2) 12 9
+      ≡ 0x0840 ∷ 0x0840 ∷ 0x0850 ∷ 0x0860 ∷ 0x0870 ∷ 0x0880 ∷ 0x0890 ∷ 0x0890 ∷ 0x08A0 ∷ []
+  pub rests_first : from_call (number_with (first_left_out 1) (with_rows late_note rising_pulse) 2) 23 9
+      ≡ 0x0830 ∷ 0x0840 ∷ 0x0840 ∷ 0x0850 ∷ 0x0860 ∷ 0x0870 ∷ 0x0880 ∷ 0x0890 ∷ 0x08A0 ∷ []
+  -- with a gateoff timer of 0 the row is fetched in that frame, after the pulse step; one of 1 is met a frame before,
+  -- and one above the tempo never
+  pub first_row_kept : from_call (number_with (first_left_out 1) (with_gate_timer 0 rising_pulse) 2) 12 3
+      ≡ 0x0840 ∷ 0x0850 ∷ 0x0860 ∷ []
+  pub second_row_left_out : from_call (number_with (first_left_out 1) (with_gate_timer 0 rising_pulse) 2) 18 3
+      ≡ 0x08A0 ∷ 0x08A0 ∷ 0x08B0 ∷ []
+  pub both_at_once : from_call (number_with (all_left_out 1) (with_gate_timer 0 rising_pulse) 2) 12 9
+      ≡ 0x0840 ∷ 0x0840 ∷ 0x0850 ∷ 0x0860 ∷ 0x0870 ∷ 0x0880 ∷ 0x0890 ∷ 0x0890 ∷ 0x08A0 ∷ []
+  pub timer_of_one : from_call (number_with (first_left_out 1) (with_gate_timer 1 rising_pulse) 2) 12 3
+      ≡ 0x0840 ∷ 0x0840 ∷ 0x0850 ∷ []
+  pub timer_never_met : from_call (number_with (first_left_out 1) never_fetched 2) 12 9
+      ≡ 0x0840 ∷ 0x0840 ∷ 0x0850 ∷ 0x0860 ∷ 0x0870 ∷ 0x0880 ∷ 0x0890 ∷ 0x0890 ∷ 0x08A0 ∷ []
+  -- at tempo 3; and with a funk value of 0, where the tick is loaded with 0
+  pub quick : from_call (number_with (first_left_out 1) quick_turns 2) 8 7
+      ≡ 0x0800 ∷ 0x0810 ∷ 0x0810 ∷ 0x0820 ∷ 0x0830 ∷ 0x0830 ∷ 0x0800 ∷ []
+  pub loaded_with_0 : from_call (number_with (first_left_out 1) at_once_tempo 2) 13 4
+      ≡ 0x0850 ∷ 0x0850 ∷ 0x0850 ∷ 0x0860 ∷ []
+  -- a program's time rests too, and so does a row that sets the width; but no effect
+  pub time_rests : from_call (number_with (first_left_out 1) short_pulse 2) 12 4
+      ≡ 0x0840 ∷ 0x0840 ∷ 0x0850 ∷ 0x0850 ∷ []
+  pub at_once : from_call (number_with (left_out false false 1) short_pulse 2) 12 4
+      ≡ 0x0840 ∷ 0x0850 ∷ 0x0850 ∷ 0x0850 ∷ []
+  pub set_rests : from_call (number_with (first_left_out 1) set_pulse 2) 12 4 ≡ 0x0840 ∷ 0x0840 ∷ 0x0A00 ∷ 0x0A10 ∷ []
+  pub effect_done : from_call (number_with (first_left_out 1) rising_note 0) 13 3 ≡ 0x1178 ∷ 0x1188 ∷ 0x1198 ∷ []
+  pub effect_left_out : from_call (number_with (all_left_out 1) rising_note 0) 13 3 ≡ 0x1168 ∷ 0x1178 ∷ 0x1188 ∷ []
+  -- at the speeds 2 and 4
+  pub twice : from_call (number_with (all_left_out 2) rising_pulse 2) 24 3 ≡ 0x0890 ∷ 0x0890 ∷ 0x08A0 ∷ []
+  pub four_times : from_call (number_with (all_left_out 4) rising_pulse 2) 46 6
+      ≡ 0x0940 ∷ 0x0940 ∷ 0x0950 ∷ 0x0950 ∷ 0x0960 ∷ 0x0970 ∷ []

@@ -1,10 +1,11 @@
 -- Words for the runs of small songs: the parts of a song, and the registers of many calls.
-use Rattle.std.specs.Prelude.{◌≡◌, ℕ, zero, suc, ◌+◌, ◌/◌, ◌%◌, ◌^◌, Bool, List, [], ◌∷◌, ◌++◌, length, map, replicate}
+use Rattle.std.specs.Prelude.{◌≡◌, ℕ, zero, suc, ◌+◌, ◌/◌, ◌%◌, ◌^◌, Bool, true, List, [], ◌∷◌, ◌++◌, length, map, replicate}
 use Rattle.song_model.specs.declared.orders.Order.{Order}
 use Rattle.song_model.specs.declared.orders.Subtune.{Subtune}
 use Rattle.song_model.specs.declared.instruments.Instrument.{Instrument}
 use Rattle.song_model.specs.declared.songs.Song.{Song}
 use Rattle.play_model.specs.declared.options.Options.{Options}
+use Rattle.play_model.specs.State.{at_speed}
 use Rattle.play_model.specs.Frame.{trace_with}
 
 abbrev pub order_from : List ℕ → ℕ → Order
@@ -28,9 +29,17 @@ instrument ad sr wave pulse filter vibrato vibrato_delay gate_timer first_wave =
   name = replicate 16 0;
 }
 
--- whether effects and pulse are left out, and the speed
+-- whether effects are left out at tick 0, and the pulse step where a row is fetched, and the speed
 abbrev pub left_out : Bool → Bool → ℕ → Options
-left_out effects pulse speed = record { skip_effects = effects; skip_pulse = pulse; speed = speed }
+left_out effects pulse speed = record (at_speed speed) { skip_effects = effects; skip_pulse = pulse }
+
+-- the pulse step is left out between two patterns, alone
+abbrev pub first_left_out : ℕ → Options
+first_left_out speed = record (at_speed speed) { skip_first = true }
+
+-- all of them are
+abbrev pub all_left_out : ℕ → Options
+all_left_out speed = record (left_out true true speed) { skip_first = true }
 
 -- the registers of silence: zeros, and the volume in the last one
 abbrev pub silent_registers : List ℕ

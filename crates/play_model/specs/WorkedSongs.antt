@@ -112,6 +112,45 @@ rising_note = record (with_rows (row 0x90 1 0 0 ∷ row 0xBD 0 1 1 ∷ []) one_n
 abbrev pub rising_pulse : Song
 rising_pulse = record one_note { pulse = sides 0x88 0 ∷ sides 0x20 0x10 ∷ sides 0xFF 2 ∷ [] }
 
+-- a note and two rests, and a note between rests
+abbrev pub three_rows : List Row
+three_rows = row 0x90 1 0 0 ∷ rests 2
+
+abbrev pub late_note : List Row
+late_note = rests 2 ++ row 0x90 1 0 0 ∷ rests 1
+
+-- the note and then two rests, in patterns of one row, under that pulse program
+abbrev pub in_turn : Song
+in_turn = record (with_rows (row 0x90 1 0 0 ∷ []) rising_pulse) {
+  subtunes = subtune (0 ∷ 1 ∷ 1 ∷ []) (1 ∷ []) (1 ∷ []) ∷ [];
+}
+
+-- a note of an instrument whose gateoff timer is above the tempo, so that no other row is fetched
+abbrev pub never_fetched : Song
+never_fetched = record (with_rows (row 0x90 2 0 0 ∷ []) rising_pulse) {
+  instruments = plucked ∷ record plucked { gate_timer = 0x3F } ∷ [];
+}
+
+-- the note and a rest in turn, in patterns of one row, at tempo 3
+abbrev pub quick_turns : Song
+quick_turns = record (with_rows (row 0x90 1 0xF 3 ∷ []) rising_pulse) {
+  subtunes = subtune (0 ∷ 1 ∷ []) (1 ∷ []) (1 ∷ []) ∷ [];
+}
+
+-- funk values of 0 and 5
+abbrev pub at_once_tempo : Song
+at_once_tempo = record (with_rows (row 0x90 1 0xE 1 ∷ rests 1) rising_pulse) { speed = sides 1 6 ∷ [] }
+
+-- a pulse program that goes up for five frames and stops
+abbrev pub short_pulse : Song
+short_pulse = record one_note { pulse = sides 0x88 0 ∷ sides 5 0x10 ∷ sides 0xFF 0 ∷ [] }
+
+-- one that goes up for four frames, sets the width anew and goes up
+abbrev pub set_pulse : Song
+set_pulse = record one_note {
+  pulse = sides 0x88 0 ∷ sides 4 0x10 ∷ sides 0x8A 0 ∷ sides 0x20 0x10 ∷ sides 0xFF 4 ∷ [];
+}
+
 -- a rest after the note
 abbrev pub long_note : Song
 long_note = with_rows (row 0x90 1 0 0 ∷ rests 1) one_note

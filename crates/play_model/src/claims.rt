@@ -1,6 +1,6 @@
 //! Facts about the definitions of this crate, each the contract of a function that does nothing.
 
-ghost use Rattle.play_model.specs.TraceLaws.{TracesHaveAllRegisters};
+ghost use Rattle.play_model.specs.TraceLaws.{TracesHaveAllRegisters, SystemsPlayAlike};
 ghost use Rattle.play_model.specs.RefusalLaws.{RefusedOrPlayable};
 ghost use Rattle.play_model.specs.SilentLaws.{SilentSongsCanBePlayed};
 ghost use Rattle.play_model.specs.RangeLaws.{RangesAreKept, FrameRangesAreKept, StartIsInRange, SongRangesAreKept, TransposesWrap};
@@ -20,11 +20,16 @@ ghost use Rattle.play_model.specs.WorkedWithoutBoth.{WorkedWithoutBothHold};
 ghost use Rattle.play_model.specs.WorkedBareVoices.{WorkedBareVoicesHold};
 ghost use Rattle.play_model.specs.WorkedFrequencies.{FrequenciesAreAsWorked};
 ghost use Rattle.play_model.specs.WorkedTimers.{TimersAreWorked};
-ghost use Rattle.play_model.specs.WorkedFrames.{OneNoteSounds, LowNoteIsMute, VibratoWraps, SlideStops, FunkTempoWraps, LongFunkTempoIsCut, GateTimerBits, LongTimerIsNeverMet, WaveProgramWaits, VibratoChangesAlone, FilterFollows, OptionsAreAsWorked};
+ghost use Rattle.play_model.specs.WorkedFrames.{OneNoteSounds, LowNoteIsMute, VibratoWraps, SlideStops, FunkTempoWraps, LongFunkTempoIsCut, GateTimerBits, LongTimerIsNeverMet, WaveProgramWaits, VibratoChangesAlone, FilterFollows, OptionsAreAsWorked, FirstSkipsAreAsWorked};
 
 /// Each call leaves 25 registers.
 pub fn traces_have_all_registers()
     ensures { TracesHaveAllRegisters }
+{}
+
+/// No register depends on the system.
+pub fn systems_play_alike()
+    ensures { SystemsPlayAlike }
 {}
 
 /// Each rule keeps the ranges of what a voice keeps and what the voices share, over any look-ups
@@ -184,6 +189,12 @@ pub fn filter_follows()
 #[tactic(auto, using(crate::proofs::Computed::options_are_as_worked_lem))]
 pub fn options_are_as_worked()
     ensures { OptionsAreAsWorked }
+{}
+
+/// What leaving out the pulse step between two patterns changes in some of them.
+#[tactic(auto, using(crate::proofs::Computed::first_skips_are_as_worked_lem))]
+pub fn first_skips_are_as_worked()
+    ensures { FirstSkipsAreAsWorked }
 {}
 
 /// A gateoff timer that is longer than a row.

@@ -22,7 +22,7 @@ mod unplayable;
 mod widths;
 
 pub use frequencies::{freq, slide};
-pub use options::{HIGHEST_SPEED, Options, Speed};
+pub use options::{HIGHEST_SPEED, Options, Speed, System};
 pub use states::{CommonState, PlayState, VoiceState};
 pub use unplayable::Unplayable;
 pub use widths::{LastNote, PulseWidth};

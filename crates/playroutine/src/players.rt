@@ -67,11 +67,7 @@ pub fn start(song: &Song, subtune: u8, options: Options) -> Result<Player<'_>, N
             song,
             subtune: played,
             number: subtune,
-            options: Options {
-                skip_effects: options.skip_effects,
-                skip_pulse: options.skip_pulse,
-                speed: options.speed,
-            },
+            options: Options { ..options },
             state: PlayState::start(options),
         }),
         None => Err(NoSuchSubtune {

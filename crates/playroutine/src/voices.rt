@@ -5,9 +5,9 @@ ghost use Rattle.song_model.specs.Endless.{IsEndless};
 ghost use Rattle.song_model.specs.Places.{place_of};
 ghost use Rattle.play_model.specs.LookUps.{look_ups_of};
 ghost use Rattle.play_model.specs.State.{Voice};
-ghost use Rattle.play_model.specs.StandsFor.{VoiceStandsFor};
+ghost use Rattle.play_model.specs.StandsFor.{voice_after, VoiceStandsFor};
 ghost use Rattle.play_model.specs.WaveStep.{wave_step};
-ghost use Rattle.play_model.specs.Frame.{effect_done, pulse_done, row_fetched, voice_step};
+ghost use Rattle.play_model.specs.Frame.{effect_done, pulse_left_out, pulse_done, row_fetched, voice_step};
 ghost use Rattle.playroutine.specs.PlayingAfter.{playing_after, waved_after};
 ghost use Rattle.playroutine.specs.AtStep.{StepStandsFor};
 
@@ -62,14 +62,24 @@ fn effect_done(voice: &mut VoiceState, effect: bool, song: &Song, options: &Opti
     }
 }
 
-/// The pulse step, but an option leaves it out where the row is fetched.
+/// Whether an option leaves the pulse step out: one where the row is fetched, the other at tick 0 where the next row is
+/// the first of its pattern.
+fn pulse_left_out(voice: &VoiceState, options: &Options) -> bool
+    ensures rule { (plays : ℕ) →
+        result ≡ pulse_left_out options.now (voice_after plays voice.now) }
+{
+    let at_fetch = options.skip_pulse && voice.tick == voice.gate_timer;
+    let at_first = options.skip_first && voice.tick == 0 && voice.row == 0;
+    at_fetch || at_first
+}
+
+/// The pulse step, but where an option leaves it out.
 fn pulse_done(voice: &mut VoiceState, song: &Song, options: &Options)
     ensures rule { (plays : ℕ) (common : CommonState) → playing_after plays voice.new common ≡
         pulse_done options.now (look_ups_of song.now) (playing_after plays voice.old common) }
     ensures place { voice.new.place ≡ voice.old.place }
 {
-    let skipped = options.skip_pulse && voice.tick == voice.gate_timer;
-    if !skipped {
+    if !pulse_left_out(voice, options) {
         pulse_step(voice, song);
     }
 }

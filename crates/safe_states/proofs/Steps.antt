@@ -16,7 +16,7 @@ use Rattle.play_model.specs.WaveStep.{Waved, wave_step}
 use Rattle.play_model.specs.EffectStep.{effect_step}
 use Rattle.play_model.specs.PulseStep.{pulse_step}
 use Rattle.play_model.specs.FetchRow.{fetch_row}
-use Rattle.play_model.specs.Frame.{effect_done, pulse_done, row_fetched, after_tick, voice_step, filter_done, voice_done, frame_of, frame_with, subtune_at, state_after_with}
+use Rattle.play_model.specs.Frame.{effect_done, pulse_left_out, pulse_done, row_fetched, after_tick, voice_step, filter_done, voice_done, frame_of, frame_with, subtune_at, state_after_with}
 use Rattle.play_model.specs.Used.{IsChannel, IsPlayedOrder}
 use Rattle.play_model.specs.Safe.{none, IsSafeVoice, IsSafeTempo, IsSafeCommon, IsSafe}
 use Rattle.safe_states.specs.SafeLaws.{IsSafePlaying, VoiceRulesKeepSafe, SafeWithin}
@@ -41,7 +41,7 @@ effect_done_keeps song order o w q =
 pulse_done_keeps : (song : Song) (order : Order) (o : Options) (s : Playing) → CanBePlayed song →
     IsSafePlaying song order s → IsSafePlaying song order (pulse_done o (look_ups_of song) s)
 pulse_done_keeps song order o s play q =
-    cond_both (o.skip_pulse && (s.voice.tick == s.voice.gate_timer)) s
+    cond_both (pulse_left_out o s.voice) s
     (record s { voice = pulse_step (look_ups_of song) s.voice }) (IsSafePlaying song order) (λ h. q)
     (λ h. with_voice song order s (pulse_step (look_ups_of song) s.voice) q
     (pulse_keeps song order s.voice play q.voice))

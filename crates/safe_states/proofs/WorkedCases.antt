@@ -19,12 +19,12 @@ use Rattle.play_model.specs.Frame.{subtune_at, voice_step, voice_registers, filt
 use Rattle.play_model.specs.Used.{IsChannel}
 use Rattle.play_model.specs.Uses.{Turn, turn_of, InATurn, DoesRow, DoesOnce, HasOrderByte, for_slide, for_vibrato, by_values, by_tempo, by_length}
 use Rattle.play_model.specs.WorkedSongs.{sides}
-use Rattle.safe_states.specs.WorkedCases.{command_song, late_subtune, ProgramsAreUsed, SlidesAreUsed, VibratosAreUsed}
+use Rattle.safe_states.specs.WorkedCases.{command_song, late_subtune, ProgramsAreUsed, SlidesAreUsed, PulseProgramsAreLeftOut, VibratosAreUsed}
 use Rattle.safe_states.specs.WorkedCases.{CommandsAreUsed, FiltersAreUsed, SpeedsAreUsed, TemposAreUsed, WaveCommandsAreUsed}
 use Rattle.safe_states.specs.WorkedCases.{VoicesAreUsed, OrdersAreUsed, CasesAreAsWorked}
 use Rattle.safe_states.proofs.WorkedTurns.{Same, first, second, third, in_first, in_no_turn, has_wave, meets_command, does_wave}
 use Rattle.safe_states.proofs.WorkedTurns.{does_effect, does_running, meets_vibrato, delay_is, note_ends_it, no_wave, no_pulse}
-use Rattle.safe_states.proofs.WorkedTurns.{left_out_there, no_slide, no_param, no_row, Quiet, no_wave_command, no_once, no_speed}
+use Rattle.safe_states.proofs.WorkedTurns.{left_out_there, pulse_out, no_slide, no_param, no_row, Quiet, no_wave_command, no_once, no_speed}
 use Rattle.safe_states.proofs.WorkedTurns.{asked_is, between, no_command, other_tempo, loads_another}
 
 -- ---- the frames
@@ -71,6 +71,40 @@ slides_lem = record {
     | inr running ↦ left_out_there _ running.v refl running.effect
   ]) (λ w. no_slide _ 1 w.0 refl (λ e. omega arith) w.1) (λ w. no_slide _ 1 w.0 refl (λ e. omega arith) w.1);
   begun_late = in_first (1, inr (does_running _ 1 (does_effect _ refl refl refl) refl));
+}
+
+left_out_programs_lem : PulseProgramsAreLeftOut
+unfolding prefix_of cycle_of played playable_subtune instrument_at table_row pattern_at freq half_tone slide next_row
+    porta_up porta_down tone vibrato do_command filter_step between_rows note_started row_command at_row tick_step
+    wave_command wave_step effect_step pulse_step fetch_row voice_step voice_registers filter_registers frame_of
+    state_after_with
+left_out_programs_lem = record {
+  fetched = in_no_turn (λ w. pulse_out _ w.0 refl w.1) (λ w. no_pulse _ w.0 refl w.1) (λ w. no_pulse _ w.0 refl w.1);
+  behind_fetch = in_first (
+    2,
+    record {
+      s = _;
+      goes_on = record { waits = refl; left = refl };
+      v = _;
+      voice_is = refl;
+      kept = refl;
+      ptr = refl;
+      some = λ e. omega arith;
+    },
+  );
+  between = in_no_turn (λ w. pulse_out _ w.0 refl w.1) (λ w. no_pulse _ w.0 refl w.1) (λ w. no_pulse _ w.0 refl w.1);
+  behind_it = in_first (
+    2,
+    record {
+      s = _;
+      goes_on = record { waits = refl; left = refl };
+      v = _;
+      voice_is = refl;
+      kept = refl;
+      ptr = refl;
+      some = λ e. omega arith;
+    },
+  );
 }
 
 vibratos_lem : VibratosAreUsed
@@ -350,6 +384,7 @@ pub cases_are_as_worked_lem : CasesAreAsWorked
 cases_are_as_worked_lem = record {
   programs = programs_lem;
   slides = slides_lem;
+  left_out_programs = left_out_programs_lem;
   vibratos = vibratos_lem;
   commands = commands_lem;
   filters = filters_lem;

@@ -10,7 +10,7 @@ use Rattle.play_model.specs.Wrap.{byte_minus}
 use Rattle.play_model.specs.State.{Voice, Playing, FrameState}
 use Rattle.play_model.specs.TickStep.{Ticked, tempo_of, tick_step}
 use Rattle.play_model.specs.WaveStep.{Waved, is_wave_command, wave_step}
-use Rattle.play_model.specs.Frame.{effect_done}
+use Rattle.play_model.specs.Frame.{effect_done, pulse_left_out}
 use Rattle.play_model.specs.Used.{IsChannel}
 use Rattle.play_model.specs.Uses.{Turn, turn_of, InATurn, DoesRow, DoesOnce, HasWaveProgram, MeetsWaveCommand, DoesWave}
 use Rattle.play_model.specs.Uses.{DoesEffect, DoesRunning, MeetsVibrato, HasPulseProgram, Slides, AsksSpeed, for_slide}
@@ -121,6 +121,15 @@ no_pulse turn p none h =
     let same =
     ap (λ (s : Playing). (effect_done turn.options turn.look (wave_step turn.look s)).voice.pulse_ptr) h.goes_on.left in
     h.some (sym h.ptr ∙ ap (λ v. v.pulse_ptr) (sym h.voice_is) ∙ sym same ∙ none)
+
+pub pulse_out : (turn : Turn) (p : ℕ) →
+    pulse_left_out turn.options (effect_done turn.options turn.look (waved turn)).voice ≡ true → ¬ HasPulseProgram turn p
+pulse_out turn p out h =
+    let same =
+    ap (λ (s : Playing). pulse_left_out turn.options (effect_done turn.options turn.look (wave_step turn.look s)).voice)
+    h.goes_on.left in
+    let voice = ap (pulse_left_out turn.options) h.voice_is in
+    let never : true ≡ false = sym out ∙ same ∙ voice ∙ h.kept in absurd (cc (never))
 
 -- the voice that the effect step is done on
 effect_voice : (turn : Turn) → (h : (v : Voice) × DoesEffect turn v) → (waved turn).playing.voice ≡ h.0

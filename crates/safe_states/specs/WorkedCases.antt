@@ -8,8 +8,8 @@ use Rattle.play_model.specs.declared.options.Options.{Options}
 use Rattle.play_model.specs.State.{no_options}
 use Rattle.play_model.specs.Frame.{state_after_with}
 use Rattle.play_model.specs.Uses.{UsesFeature}
-use Rattle.play_model.specs.WorkedRuns.{left_out}
-use Rattle.play_model.specs.WorkedSongs.{order, subtune, row, sides, plucked, rests, with_rows, with_instrument, one_note, wrapping_note, rising_note, other_vibrato}
+use Rattle.play_model.specs.WorkedRuns.{left_out, first_left_out}
+use Rattle.play_model.specs.WorkedSongs.{order, subtune, row, sides, plucked, rests, with_rows, with_instrument, one_note, wrapping_note, rising_note, rising_pulse, other_vibrato}
 
 -- the frame of playable subtune 0 after n frames uses the feature
 abbrev pub UsesWith : Options → Song → ℕ → Feature → Type 0
@@ -36,6 +36,14 @@ pub record SlidesAreUsed : Type 0 where
   pub later : FrameUses rising_note 15 PortaUp
   pub kept_out : ¬ UsesWith (left_out true false 1) rising_note 12 PortaUp
   pub begun_late : UsesWith (left_out true false 1) rising_note 13 PortaUp
+
+-- An option leaves a pulse program out where it says, and there alone: where the row is fetched, in the eleventh frame,
+-- and between two patterns, in the thirteenth.
+pub record PulseProgramsAreLeftOut : Type 0 where
+  pub fetched : ¬ UsesWith (left_out false true 1) rising_pulse 10 PulseTable
+  pub behind_fetch : UsesWith (left_out false true 1) rising_pulse 11 PulseTable
+  pub between : ¬ UsesWith (first_left_out 1) rising_pulse 12 PulseTable
+  pub behind_it : UsesWith (first_left_out 1) rising_pulse 13 PulseTable
 
 -- the same vibrato with a longer delay
 abbrev pub later_vibrato : Song
@@ -184,6 +192,7 @@ pub record OrdersAreUsed : Type 0 where
 pub record CasesAreAsWorked : Type 0 where
   pub programs : ProgramsAreUsed
   pub slides : SlidesAreUsed
+  pub left_out_programs : PulseProgramsAreLeftOut
   pub vibratos : VibratosAreUsed
   pub commands : CommandsAreUsed
   pub filters : FiltersAreUsed

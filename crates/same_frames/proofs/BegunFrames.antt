@@ -9,7 +9,7 @@ use Rattle.play_model.specs.State.{Voice, Common, FrameState, Playing, start_voi
 use Rattle.play_model.specs.FilterStep.{filter_step}
 use Rattle.play_model.specs.TickStep.{Ticked, tick_step}
 use Rattle.play_model.specs.WaveStep.{Waved, wave_step}
-use Rattle.play_model.specs.Frame.{Framed, effect_done, pulse_done, row_fetched, after_tick, voice_step, voice_registers, filter_registers, filter_done, voice_done, framed, frame_of}
+use Rattle.play_model.specs.Frame.{Framed, effect_done, pulse_left_out, pulse_done, row_fetched, after_tick, voice_step, voice_registers, filter_registers, filter_done, voice_done, framed, frame_of}
 use Rattle.play_model.specs.Used.{IsChannel}
 use Rattle.same_frames.specs.FrameLaws.{start_with, state_from, trace_from}
 use Rattle.same_frames.specs.Begins.{MayBeginWith, FirstInstrumentsDoNotShow}
@@ -44,9 +44,8 @@ module _ (look : LookUps) (subtune : Subtune) (i j : ℕ) (m : MayBeginWith look
   pulse_done_begun : (channel : ℕ) (o : Options) (s t : Playing) → Begun channel s t →
       Begun channel (pulse_done o look s) (pulse_done o look t)
   pulse_done_begun channel o s t q =
-      choice_related (Begun channel) (o.skip_pulse && (s.voice.tick == s.voice.gate_timer))
-      (o.skip_pulse && (t.voice.tick == t.voice.gate_timer)) s _ t _
-      (ap (λ (v : Voice). o.skip_pulse && (v.tick == v.gate_timer)) q.voice.is)
+      choice_related (Begun channel) (pulse_left_out o s.voice) (pulse_left_out o t.voice) s _ t _
+      (ap (pulse_left_out o) q.voice.is)
       (λ z. q)
       (λ z. with_voices channel s t _ _ q
       (pulse_begun look (order_of channel subtune) i j s.voice t.voice q.voice))

@@ -8,7 +8,7 @@ use Rattle.play_model.specs.LookUps.{LookUps, look_ups_of}
 use Rattle.play_model.specs.State.{Voice, Playing}
 use Rattle.play_model.specs.TickStep.{Ticked, tick_step}
 use Rattle.play_model.specs.WaveStep.{Waved, wave_step}
-use Rattle.play_model.specs.Frame.{effect_done, pulse_done, row_fetched, after_tick, voice_step}
+use Rattle.play_model.specs.Frame.{effect_done, pulse_left_out, pulse_done, row_fetched, after_tick, voice_step}
 use Rattle.play_model.specs.Used.{IsPlayedOrder}
 use Rattle.safe_states.specs.SafeLaws.{VoiceRulesKeepSafe}
 use Rattle.safe_states.proofs.Laws.{CanBePlayed}
@@ -28,6 +28,10 @@ same_tick maps song order v w q = ap (λ (x : Voice). x.tick) q.moved
 same_timer : (maps : Maps) (song : Song) (order : Order) (v w : Voice) → VoicesAreAlike maps song order v w →
     w.gate_timer ≡ v.gate_timer
 same_timer maps song order v w q = ap (λ (x : Voice). x.gate_timer) q.moved
+
+same_row : (maps : Maps) (song : Song) (order : Order) (v w : Voice) → VoicesAreAlike maps song order v w →
+    w.row ≡ v.row
+same_row maps song order v w q = ap (λ (x : Voice). x.row) q.moved
 
 with_voices : (maps : Maps) (song : Song) (order : Order) (s t : Playing) (v w : Voice) →
     PlayingsAreAlike maps song order s t → VoicesAreAlike maps song order v w →
@@ -50,10 +54,10 @@ module _ (maps : Maps) (song : Song) (other : LookUps) (order : Order) (play : C
   pulse_done_alike : (o : Options) (s t : Playing) → PlayingsAreAlike maps song order s t →
       PlayingsAreAlike maps song order (pulse_done o (look_ups_of song) s) (pulse_done o other t)
   pulse_done_alike o s t q =
-      choice_related (PlayingsAreAlike maps song order) (o.skip_pulse && (s.voice.tick == s.voice.gate_timer))
-      (o.skip_pulse && (t.voice.tick == t.voice.gate_timer)) s _ t _
+      choice_related (PlayingsAreAlike maps song order) (pulse_left_out o s.voice) (pulse_left_out o t.voice) s _ t _
       (rw (same_tick maps song order s.voice t.voice q.voice)
-      (rw (same_timer maps song order s.voice t.voice q.voice) refl))
+      (rw (same_timer maps song order s.voice t.voice q.voice)
+      (rw (same_row maps song order s.voice t.voice q.voice) refl)))
       (λ z. q)
       (λ z. with_voices maps song order s t _ _ q
       (pulse_step_alike maps song other order s.voice t.voice play a rules q.voice))

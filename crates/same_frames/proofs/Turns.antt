@@ -256,6 +256,7 @@ module _ (maps : Maps) (song : Song) (other : LookUps) (order : Order) (play : C
       let alike : VoicesAreAlike maps song order v h.v = subst (VoicesAreAlike maps song order v) h.voice_is done in
       let ticks : h.v.tick ≡ v.tick = ap (λ (x : Voice). x.tick) alike.moved in
       let timers : h.v.gate_timer ≡ v.gate_timer = ap (λ (x : Voice). x.gate_timer) alike.moved in
+      let rows : h.v.row ≡ v.row = ap (λ (x : Voice). x.row) alike.moved in
       let is : e ≡ maps.row Pulse v.pulse_ptr = sym h.ptr ∙ ap (λ (x : Voice). x.pulse_ptr) alike.moved in (
         v.pulse_ptr,
         record {
@@ -263,7 +264,7 @@ module _ (maps : Maps) (song : Song) (other : LookUps) (order : Order) (play : C
           goes_on = g.goes_on;
           v = v;
           voice_is = refl;
-          kept = rw (← ticks) (rw (← timers) h.kept);
+          kept = rw (← ticks) (rw (← timers) (rw (← rows) h.kept));
           ptr = refl;
           some = some_before (maps.row Pulse) v.pulse_ptr e (a.rows Pulse).nothing is h.some;
         },

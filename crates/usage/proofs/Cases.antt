@@ -7,7 +7,7 @@ use Rattle.play_model.specs.Features.{AreFeatures}
 use Rattle.safe_states.proofs.Laws.{no_unused_case_lem}
 use Rattle.usage.specs.declared.parts.UsedParts.{UsedParts}
 use Rattle.usage.specs.Parts.{AreUsedParts}
-use Rattle.usage.specs.Cases.{NameEachCase, EachSpeedIsNamed}
+use Rattle.usage.specs.Cases.{NameEachCase, options_of, EachSpeedIsNamed}
 
 features_name : (song : Song) (bits : ℕ) → IsPlayable song → AreFeatures song bits → NameEachCase song bits
 features_name song bits playable are = record {
@@ -22,6 +22,6 @@ names_each song (Ok parts) playable are = features_name song parts.features.0 pl
 names_each song (Err refusal) playable are = tt
 
 pub each_speed_is_named : EachSpeedIsNamed
-each_speed_is_named song bits named limits effects pulse speed k i least most few feature uses =
-    named.each (record { skip_effects = effects; skip_pulse = pulse; speed = speed }) k i
+each_speed_is_named song bits named limits effects pulse first speed system k i least most few feature uses =
+    named.each (options_of effects pulse first speed system) k i
     (record { least = least; most = most }) limits few feature uses

@@ -6,6 +6,7 @@ use Rattle.song_model.specs.Feature.{bit_of}
 use Rattle.song_model.specs.Limits.{KeepsLimits}
 use Rattle.song_model.specs.LookUp.{playable_subtunes}
 use Rattle.play_model.specs.declared.options.Options.{Options}
+use Rattle.play_model.specs.declared.options.System.{System}
 use Rattle.play_model.specs.Speeds.{IsSpeed}
 use Rattle.play_model.specs.Frame.{state_after_with}
 use Rattle.play_model.specs.Uses.{UsesFeature}
@@ -17,11 +18,20 @@ pub record NameEachCase (song : Song) (bits : ℕ) : Type 0 where
       k < length (playable_subtunes song) → (feature : Feature) →
       UsesFeature o song k (state_after_with o song k i) feature → IsBitSet bits (bit_of feature)
 
--- so they do at each speed from 1 to 4, and with each step of a frame left out or kept
+-- the options with each step of a frame left out or kept, a speed and a system
+abbrev pub options_of : Bool → Bool → Bool → ℕ → System → Options
+options_of effects pulse first speed system = record {
+  skip_effects = effects;
+  skip_pulse = pulse;
+  skip_first = first;
+  speed = speed;
+  system = system;
+}
+
+-- so they do at each speed from 1 to 4, on each system, and with each step of a frame left out or kept
 abbrev pub EachSpeedIsNamed : Type 0
 EachSpeedIsNamed =
-    (song : Song) (bits : ℕ) → NameEachCase song bits → KeepsLimits song → (effects pulse : Bool) (speed k i : ℕ) →
-    1 ≤ speed → speed ≤ 4 → k < length (playable_subtunes song) → (feature : Feature) →
-    UsesFeature (record { skip_effects = effects; skip_pulse = pulse; speed = speed }) song k
-    (state_after_with (record { skip_effects = effects; skip_pulse = pulse; speed = speed }) song k i) feature →
-    IsBitSet bits (bit_of feature)
+    (song : Song) (bits : ℕ) → NameEachCase song bits → KeepsLimits song → (effects pulse first : Bool) (speed : ℕ)
+    (system : System) (k i : ℕ) → 1 ≤ speed → speed ≤ 4 → k < length (playable_subtunes song) → (feature : Feature) →
+    UsesFeature (options_of effects pulse first speed system) song k
+    (state_after_with (options_of effects pulse first speed system) song k i) feature → IsBitSet bits (bit_of feature)
