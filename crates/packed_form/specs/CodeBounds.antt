@@ -11,7 +11,7 @@ one_if b = if b then 1 else 0
 abbrev pub kept_parts : ℕ → Options → ℕ
 kept_parts features options =
     sum_by (bit_at features) (range_with_len 0 24) + one_if options.skip_effects + one_if options.skip_pulse
-    + one_if (nat_lt 1 options.speed)
+    + one_if (nat_lt 1 options.speed) + one_if options.skip_first
 
 -- the bound of a player's code: so many bytes, and so many for each part that is kept
 abbrev pub code_bound : ℕ → Options → ℕ
