@@ -6,7 +6,7 @@ ghost use Rattle.lowering.specs.Lowered.{bit_kept};
 ghost use Rattle.code_lengths.specs.Lengths.{part_length, length_if, code_length};
 
 use play_model::Options;
-use player_parts::{SKIP_EFFECTS_BIT, SKIP_PULSE_BIT, TIMER_BIT};
+use player_parts::{SKIP_EFFECTS_BIT, SKIP_FIRST_BIT, SKIP_PULSE_BIT, TIMER_BIT};
 use song_model::FeatureBits;
 
 /// The part that every image has.
@@ -16,13 +16,13 @@ pub const ALWAYS: u8 = 255;
 pub const ALWAYS_LENGTH: u16 = 1255;
 
 /// The bytes of the features' parts, by their bits, and of the options' behind them.
-pub const PART_LENGTHS: [u16; 27] = [
+pub const PART_LENGTHS: [u16; 28] = [
     10, 22, 0, 0, 82, 17, 0, 30, 59, 10, 10, 10, 15, 99, 15, 98, 15, 15, 10, 14, 74, 38, 0, 173,
-    15, 33, 10,
+    15, 33, 10, 57,
 ];
 
-/// The bytes of a part of the code: 0 to 23 are the features', 24 to 26 the options', and 255 is what every image has. A
-/// part that there isn't has none.
+/// The bytes of a part of the code: 0 to 23 are the features', 24 to 27 the options', and 255 is what every image has.
+/// A part that there isn't has none.
 pub fn part_length(part: u8) -> u16
     ensures { result ≡ part_length part }
 {
@@ -72,7 +72,7 @@ fn features_length(features: FeatureBits) -> u32
 /// The bytes of a player's code and of its frequencies, with the parts of these features and options.
 pub fn code_length(features: FeatureBits, options: Options) -> u32
     ensures size { result ≡ code_length features.0 options }
-    ensures most { result ≤ 1_834_980 }
+    ensures most { result ≤ 1_900_515 }
 {
     let is_fast = options.speed.calls() > 1;
     u32::from(part_length(ALWAYS))
@@ -80,4 +80,5 @@ pub fn code_length(features: FeatureBits, options: Options) -> u32
         + length_if(options.skip_effects, SKIP_EFFECTS_BIT)
         + length_if(options.skip_pulse, SKIP_PULSE_BIT)
         + length_if(is_fast, TIMER_BIT)
+        + length_if(options.skip_first, SKIP_FIRST_BIT)
 }

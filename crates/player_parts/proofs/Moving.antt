@@ -1,6 +1,6 @@
 -- What stands in the bytes of a memory stands in the same bytes of another one; and from the desk of a voice back to the
 -- whole memory.
-use Rattle.std.proofs.Common.{◌≡◌, ◌≢◌, ℕ, ◌+◌, ◌-◌, ◌*◌, ◌<◌, ◌≤◌, ◌⊎◌, true, false, nat_eq}
+use Rattle.std.proofs.Common.{◌≡◌, ◌≢◌, ℕ, ◌+◌, ◌-◌, ◌*◌, ◌<◌, ◌≤◌, ◌⊎◌, true, false, nat_eq, List, slice_index}
 use Rattle.std.proofs.Common.{inl, inr, refl, sym, ap, ◌∙◌, subst, arith}
 use Rattle.std.proofs.lemmas.Bool.{cases_lt, cases_eq, eqb-false}
 use Rattle.song_model.specs.declared.orders.Order.{Order}
@@ -19,9 +19,9 @@ use Rattle.player_parts.specs.Labels.{FREQ_HIGH, LAST_NOTE, WAVE_POINTER, WAVE_T
 use Rattle.player_parts.specs.Labels.{PULSE_LOW, PULSE_HIGH, TEMPO, FILTER_POINTER, FILTER_TIME, FILTER_TYPE}
 use Rattle.player_parts.specs.Labels.{FILTER_CONTROL, CUTOFF, STARTED, LENT_PARAM, LENT_COMMAND, LENT, VOLUME, FUNK_ONE}
 use Rattle.player_parts.specs.Labels.{FUNK_TWO, SUBTUNE, VARIABLES, is_own, is_shared}
-use Rattle.player_parts.specs.PlayerLists.{list_place, IsListPlace, HasLists}
+use Rattle.player_parts.specs.PlayerLists.{pattern_bytes, list_place, IsListPlace, HasLists}
 use Rattle.player_parts.specs.PlayerLayouts.{IsVariablePlace, IsPlayerLayout}
-use Rattle.player_parts.specs.Holds.{own_bytes, shared_bytes, AreHalves, OrderPlaceStands, running_command}
+use Rattle.player_parts.specs.Holds.{own_bytes, shared_bytes, AreHalves, OrderPlaceStands, IsAtFirst, running_command}
 use Rattle.player_parts.specs.Holds.{PlayStands, Fetching, Begins, GoesOn, FieldsStand, VoiceStands, CommonStands}
 use Rattle.player_parts.specs.Holds.{HandedOn, HandedStands, VoiceOfStands, Holds}
 use Rattle.player_parts.specs.Elsewhere.{LeavesElsewhere}
@@ -89,6 +89,24 @@ running_same one two same =
     let p = same.new_param in
     rw (o, c, p) refl
 
+same_back : (one two : ℕ → ℕ) → SameFetch one two → SameFetch two one
+same_back one two same = record {
+  entry = sym same.entry;
+  offset = sym same.offset;
+  pattern_low = sym same.pattern_low;
+  pattern_high = sym same.pattern_high;
+  order_low = sym same.order_low;
+  order_high = sym same.order_high;
+  order_place = sym same.order_place;
+  transpose = sym same.transpose;
+  repeat = sym same.repeat;
+  new_command = sym same.new_command;
+  new_param = sym same.new_param;
+}
+
+first_moved : (bytes : List ℕ) (one two : ℕ → ℕ) → SameFetch one two → IsAtFirst bytes two → IsAtFirst bytes one
+first_moved bytes one two same first = record { offset = same.offset ∙ first.offset; entry = same.entry ∙ first.entry }
+
 row_moved : (layout : Layout) (packed : PackedSong) (order : Order) (play : Step) (plays row : ℕ) (one two : ℕ → ℕ) →
     SameFetch one two → PlayStands layout packed order play plays row two →
     PlayStands layout packed order play plays row one
@@ -104,6 +122,11 @@ row_moved layout packed order play plays row one two same stands =
         each = row.each;
         text = rw (e, o) row.text;
         left = rw (running_same one two same) row.left;
+        first = (
+          λ begins. first_moved _ one two same (row.first.0 begins),
+          λ first. row.first.1 (first_moved _ two one (same_back one two same) first),
+        );
+        counted = λ none. subst (λ n. n ≤ slice_index (pattern_bytes packed play.pattern) 0) (sym e) (row.counted (sym o ∙ none));
       };
     }
 

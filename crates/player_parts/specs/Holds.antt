@@ -1,7 +1,7 @@
 -- When a memory holds a state of the playroutine: which field stands under which of the player's labels. This is the
 -- project's own player.
-use Rattle.std.specs.Prelude.{◌≡◌, ◌≢◌, ℕ, ◌+◌, ◌*◌, ◌/◌, ◌%◌, ℤ, pos, unsigned_abs, ◌==◌, if◌then◌else◌, List, ◌∷◌, drop}
-use Rattle.std.specs.Prelude.{All}
+use Rattle.std.specs.Prelude.{◌≡◌, ◌≢◌, ◌↔◌, ◌≤◌, ℕ, ◌+◌, ◌*◌, ◌/◌, ◌%◌, ℤ, pos, unsigned_abs, ◌==◌, if◌then◌else◌, List, ◌∷◌, drop}
+use Rattle.std.specs.Prelude.{All, slice_index}
 use Rattle.std.specs.Int.{int_rem_euclid}
 use Rattle.song_model.specs.declared.rows.Row.{Row}
 use Rattle.song_model.specs.declared.orders.Order.{Order}
@@ -64,13 +64,21 @@ abbrev pub running_command : (ℕ → ℕ) → Command
 running_command own =
     if own OFFSET == 0 then no_command else record { number = own NEW_COMMAND; param = own NEW_PARAM }
 
--- a row stands in a packed pattern: the packed pattern's bytes from the offset on, with the entry's byte in place of
--- the first, spell the rows from this one on, from the running command on
+-- the entry is the first of a packed pattern, as it stands there: none of its rows has been fetched
+pub record IsAtFirst (bytes : List ℕ) (own : ℕ → ℕ) : Type 0 where
+  pub offset : own OFFSET ≡ 0
+  pub entry : own ENTRY ≡ slice_index bytes 0
+
+-- A row stands in a packed pattern: the packed pattern's bytes from the offset on, with the entry's byte in place of
+-- the first, spell the rows from this one on, from the running command on. The first row is where the entry is the
+-- first one, whole; of that entry a run of rests is counted down.
 pub record RowStands (bytes : List ℕ) (rows : List Row) (row : ℕ) (own : ℕ → ℕ) : Type 0 where
   pub entries : List Entry
   pub each : All IsEntry entries
   pub text : own ENTRY ∷ drop (own OFFSET + 1) bytes ≡ text_of entries
   pub left : drop row rows ≡ rows_from (running_command own) entries
+  pub first : row ≡ 0 ↔ IsAtFirst bytes own
+  pub counted : own OFFSET ≡ 0 → own ENTRY ≤ slice_index bytes 0
 
 -- within a play: the orderlist has been walked on to the next play, and the row stands in the pattern that is played
 pub record PlayStands (layout : Layout) (packed : PackedSong) (order : Order) (play : Step) (plays row : ℕ) (own : ℕ → ℕ)

@@ -12,7 +12,7 @@ use Rattle.player_parts.specs.Labels.{VARIABLES, FREQUENCY_LOWS, NEXT_FREQUENCY_
 use Rattle.player_parts.specs.Labels.{NEXT_FREQUENCY_HIGHS, WAVE_LEFTS, NEXT_WAVE_LEFTS, WAVE_RIGHTS, NEXT_WAVE_RIGHTS}
 use Rattle.player_parts.specs.Labels.{PULSE_LEFTS, NEXT_PULSE_LEFTS, PULSE_RIGHTS, NEXT_PULSE_RIGHTS, FILTER_LEFTS}
 use Rattle.player_parts.specs.Labels.{NEXT_FILTER_LEFTS, FILTER_RIGHTS, NEXT_FILTER_RIGHTS}
-use Rattle.player_parts.specs.declared.parts.TheConstants.{SKIP_EFFECTS_BIT, SKIP_PULSE_BIT}
+use Rattle.player_parts.specs.declared.parts.TheConstants.{SKIP_EFFECTS_BIT, SKIP_PULSE_BIT, SKIP_FIRST_BIT}
 use Rattle.player_parts.specs.PlayerLists.{IsListPlace}
 
 -- a variable byte of the player
@@ -58,7 +58,8 @@ abbrev pub KeepsUsed : Layout → PackedSong → Options → ℕ → FrameState 
 KeepsUsed layout packed o k x =
     (feature : Feature) → UsesFeature o (unpacked_song packed) k x feature → layout.is_kept (bit_of feature) ≡ true
 
--- the bits of the two options are kept exactly where these are on
+-- the bits of the three options are kept exactly where these are on
 pub record KeepsOptions (layout : Layout) (o : Options) : Type 0 where
   pub effects : layout.is_kept SKIP_EFFECTS_BIT ≡ o.skip_effects
   pub pulse : layout.is_kept SKIP_PULSE_BIT ≡ o.skip_pulse
+  pub first : layout.is_kept SKIP_FIRST_BIT ≡ o.skip_first

@@ -89,7 +89,8 @@ pub const FILTER_CONTROL: u16 = 105;
 /// The cutoff.
 pub const CUTOFF: u16 = 106;
 
-/// 1 where the step of the voice has started a note, else 0.
+/// 1 where the step of the voice has started a note, else 0; within the pulse step the program's pointer, while it is
+/// hidden between two patterns.
 pub const STARTED: u16 = 107;
 /// The command that the effect step works on.
 pub const WORK_COMMAND: u16 = 108;
@@ -99,7 +100,8 @@ pub const LENT_PARAM: u16 = 109;
 pub const LENT_COMMAND: u16 = 110;
 /// 1 where the wave table has lent a command, else 0.
 pub const LENT: u16 = 111;
-/// What counts the turns of a loop; a byte to work with elsewhere.
+/// What counts the turns of a loop; a byte to work with elsewhere. Within the pulse step it is the program's pointer,
+/// while it is hidden where the row is fetched.
 pub const COUNTER: u16 = 112;
 /// The low byte of a speed.
 pub const SPEED_LOW: u16 = 113;

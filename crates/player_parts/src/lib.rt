@@ -16,6 +16,6 @@ mod parts;
 mod place;
 mod shared;
 
-pub use parts::{Part, SKIP_EFFECTS_BIT, SKIP_PULSE_BIT, TIMER_BIT, When};
+pub use parts::{Part, SKIP_EFFECTS_BIT, SKIP_FIRST_BIT, SKIP_PULSE_BIT, TIMER_BIT, When};
 pub use place::{Place, PlaceFault};
 pub use shared::{next_row, note, nothing};

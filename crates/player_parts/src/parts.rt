@@ -1,6 +1,6 @@
 //! Parts of the player: blocks that are left out of the player of a song that doesn't use them.
 //!
-//! Three bits more stand for options. What they keep is code behind a `when`, and no part: it isn't a feature's.
+//! Four bits more stand for options. What they keep is code behind a `when`, and no part: it isn't a feature's.
 
 ghost use Rattle.std.specs.Prelude.{◌≡◌, ◌<◌, ℕ, IfOk};
 ghost use Rattle.song_model.specs.declared.features.Feature.{Feature};
@@ -23,6 +23,9 @@ pub const SKIP_PULSE_BIT: u8 = 25;
 
 /// The bit of a speed above 1.
 pub const TIMER_BIT: u8 = 26;
+
+/// The bit of the option that leaves the pulse step out between two patterns.
+pub const SKIP_FIRST_BIT: u8 = 27;
 
 /// A part of the player: the code of a feature.
 ///

@@ -9,7 +9,8 @@ mod Widths
 mod Slides
 -- A row begins or goes on.
 mod Programs
--- The whole code.
+-- The code with the option of the fetch, and the whole.
+mod Fetched
 mod Pulses
 -- Where a frame comes to the part.
 mod Coming

@@ -1,207 +1,288 @@
--- The whole code of the pulse step, with the option that leaves the step out where the row is fetched.
-use Rattle.std.proofs.Common.{◌≡◌, ◌≢◌, ◌<◌, ◌&&◌, Bool, true, false, nat_eq, inl, inr, refl, sym, ap, ◌∙◌, arith}
-use Rattle.std.proofs.lemmas.Bool.{not-true, eqb-true, eqb-false, both_ways}
+-- The whole code of the pulse step, with the options that leave the step out where the row is fetched and between two
+-- patterns.
+use Rattle.std.proofs.Common.{◌≡◌, ◌≢◌, ℕ, ◌+◌, ◌-◌, ◌%◌, ◌<◌, ◌≤◌, ◌&&◌, Bool, true, false, nat_eq, nat_le}
+use Rattle.std.proofs.Common.{inl, inr, refl, sym, ap, ◌∙◌, subst, arith}
+use Rattle.std.proofs.lemmas.Bool.{not-true, not-false, eqb-true, eqb-false, eq-eqb, ne_eqb, both_ways}
 use Rattle.std.proofs.lemmas.Bool.Decides.{eqb_tells}
 use Rattle.code_runs.specs.Runs.{put}
 use Rattle.play_model.specs.declared.options.Options.{Options}
 use Rattle.play_model.specs.LookUps.{LookUps}
 use Rattle.play_model.specs.Ranges.{IsVoice}
-use Rattle.play_model.specs.State.{Playing}
-use Rattle.play_model.specs.PulseStep.{pulse_step}
-use Rattle.play_model.specs.Frame.{pulse_done}
+use Rattle.play_model.specs.State.{Voice, Playing}
+use Rattle.play_model.specs.Frame.{is_between_patterns, pulse_done}
 use Rattle.blocks.specs.Trees.{Tree, NoneTree, ThenTree, WhenTree}
-use Rattle.player_parts.specs.declared.labels.TheConstants.{PULSE_POINTER, PULSE_TIME, TICK, GATE_TIMER, COUNTER}
-use Rattle.player_parts.specs.Holds.{HandedOn}
+use Rattle.player_parts.specs.declared.labels.TheConstants.{ENTRY, OFFSET, PATTERN_LOW, PATTERN_HIGH}
+use Rattle.player_parts.specs.declared.labels.TheConstants.{PULSE_POINTER, PULSE_TIME, TICK, GATE_TIMER, STARTED}
 use Rattle.player_parts.specs.PlayerLayouts.{KeepsOptions}
 use Rattle.player_parts.proofs.Laws.{VoiceDesk, Reader, Leads, leads_on, Done, Rest, voice_in, playing_in, handed_in, HasLowBytes, done_in}
-use Rattle.player_parts.proofs.Laws.{compared, loaded, indexed}
-use Rattle.player_pulse.specs.PulseBlock.{show_tree, pulse_tree, pulse_program_tree}
-use Rattle.player_pulse.proofs.PulseDesks.{PulseGround, PulseKeeps}
-use Rattle.player_parts.proofs.Laws.{done_over, done_as, tempos_stay}
-use Rattle.player_pulse.proofs.PulseRows.{step_none, step_clock}
+use Rattle.player_parts.proofs.Laws.{loaded, done_over, done_as, done_on, tempos_stay}
+use Rattle.player_pulse.specs.PulseBlock.{first_tree, keep_first_tree, show_first_tree, unless_fetched_tree, pulse_tree}
+use Rattle.player_pulse.proofs.PulseDesks.{PulseGround, PulseKeeps, FirstGround, first_place}
+use Rattle.player_pulse.proofs.PulseRows.{step_none}
 use Rattle.player_pulse.proofs.Slides.{with_voice}
-use Rattle.player_pulse.proofs.Programs.{program_leads}
+use Rattle.player_pulse.proofs.Fetched.{unless_fetched, fetched_leads}
 
 -- ---- the rule
 
-skips : (o : Options) (look : LookUps) (s : Playing) →
-    (o.skip_pulse && nat_eq s.voice.tick s.voice.gate_timer) ≡ true → pulse_done o look s ≡ s
-skips o look s e = rw e refl
+-- the option leaves the step out, between two patterns
+abbrev first_is_out : Options → Voice → Bool
+first_is_out o v = o.skip_first && is_between_patterns v
 
-runs : (o : Options) (look : LookUps) (s : Playing) →
-    (o.skip_pulse && nat_eq s.voice.tick s.voice.gate_timer) ≡ false →
-    pulse_done o look s ≡ with_voice (pulse_step look s.voice) s
-runs o look s e = rw e refl
+out_by_first : (o : Options) (look : LookUps) (s : Playing) → first_is_out o s.voice ≡ true → pulse_done o look s ≡ s
+out_by_first o look s e = by_fetch (o.skip_pulse && nat_eq s.voice.tick s.voice.gate_timer) refl
+  where
+    by_fetch : (z : Bool) → (o.skip_pulse && nat_eq s.voice.tick s.voice.gate_timer) ≡ z → pulse_done o look s ≡ s
+    by_fetch true f = rw f refl
+    by_fetch false f = rw (f, e) refl
 
-both_true : (a b : Bool) → a ≡ true → b ≡ true → (a && b) ≡ true
-both_true a b e f = rw (e, f) refl
+-- else the fetch of the row alone counts
+in_by_first : (o : Options) (look : LookUps) (s : Playing) → first_is_out o s.voice ≡ false →
+    pulse_done o look s ≡ unless_fetched o look s
+in_by_first o look s e = by_fetch (o.skip_pulse && nat_eq s.voice.tick s.voice.gate_timer) refl
+  where
+    by_fetch : (z : Bool) → (o.skip_pulse && nat_eq s.voice.tick s.voice.gate_timer) ≡ z →
+        pulse_done o look s ≡ unless_fetched o look s
+    by_fetch true f = rw f refl
+    by_fetch false f = rw (f, e) refl
 
-first_false : (a b : Bool) → a ≡ false → (a && b) ≡ false
-first_false a b e = rw e refl
+-- a voice without a program stays as it is
+idle : (o : Options) (look : LookUps) (s : Playing) → s.voice.pulse_ptr ≡ 0 → unless_fetched o look s ≡ s
+idle o look s none = by_fetch (o.skip_pulse && nat_eq s.voice.tick s.voice.gate_timer) refl
+  where
+    by_fetch : (z : Bool) → (o.skip_pulse && nat_eq s.voice.tick s.voice.gate_timer) ≡ z → unless_fetched o look s ≡ s
+    by_fetch true f = rw f refl
+    by_fetch false f = rw f (ap (λ v. with_voice v s) (step_none look s.voice none))
 
-second_false : (a b : Bool) → a ≡ true → b ≡ false → (a && b) ≡ false
-second_false a b e f = rw (e, f) refl
+-- ---- between two patterns
 
--- ---- the part
+-- the desk with other registers and another pointer
+abbrev changed : VoiceDesk → ℕ → ℕ → ℕ → ℕ → Bool → Bool → Bool → VoiceDesk
+changed d low high a y c z m = record {
+  own = d.own;
+  shared = d.shared;
+  low = low;
+  high = high;
+  sid = d.sid;
+  accumulator = a;
+  y = y;
+  carry = c;
+  zero = z;
+  minus = m;
+}
 
--- it is kept where there is a program
-part_leads : (r : Reader) (look : LookUps) (s : Playing) (handed : HandedOn) (d m : VoiceDesk) →
-    PulseGround r look s.voice.pulse_ptr s.voice.pulse_time → s.voice.pulse_ptr < 256 → s.voice.pulse < 4096 →
-    (s.voice.pulse_ptr ≢ 0 → r.layout.is_kept 13 ≡ true) → Done r.voice s handed d m →
-    Leads r (WhenTree 13 pulse_program_tree) (Done r.voice (with_voice (pulse_step look s.voice) s) handed d) m
-part_leads r look s handed d m ground few small kept done = (
-  λ yes. program_leads r look s handed d m ground few small done,
-  λ no.
-      elim (eqb_tells s.voice.pulse_ptr 0) [
-        | inl none ↦
-            let z = none.1 in
-            done_as (with_voice (pulse_step look s.voice) s) s (ap (λ v. with_voice v s) (step_none look s.voice z)) done
-        | inr some ↦ absurd (both_ways (r.layout.is_kept 13) no (kept some.1))
-      ],
-)
+-- what holds wherever zero says whether the next row is the first one
+abbrev WhereTold : ℕ → VoiceDesk → (VoiceDesk → Type 0) → Type 0
+WhereTold row d Q =
+    (low high a y : ℕ) (c z m : Bool) → z ≡ nat_eq row 0 → Q (changed d low high a y c z m)
 
--- and does nothing where there is none
-idle_leads : (r : Reader) (Q : VoiceDesk → Type 0) (m : VoiceDesk) → m.own PULSE_POINTER ≡ 0 →
-    Q (indexed (m.own PULSE_POINTER) m) → Q m → Leads r (WhenTree 13 pulse_program_tree) Q m
-idle_leads r Q m none idle same = (
-  λ yes. (
-    λ met. absurd (eqb-false (m.own PULSE_POINTER) 0 (not-true _ met) none),
-    λ unmet. idle,
-  ),
-  λ no. same,
+-- the difference of two bytes is 0 where they are the same
+same_bytes : (first entry : ℕ) → entry ≤ first → first < 256 → nat_eq ((first + (255 - entry) + 1) % 256) 0 ≡ true →
+    entry ≡ first
+same_bytes first entry most byte e = (let z = eqb-true _ 0 e in omega (arith, most, byte, z))
+
+difference : (first entry : ℕ) → entry ≤ first → first < 256 →
+    nat_eq ((first + (255 - entry) + 1) % 256) 0 ≡ nat_eq entry first
+difference first entry most byte =
+    elim (eqb_tells entry first) [
+      | inl same ↦
+          let e = same.1 in
+          eq-eqb ((first + (255 - entry) + 1) % 256) 0 (omega (arith, e, byte)) ∙ sym same.0
+      | inr apart ↦
+          ne_eqb ((first + (255 - entry) + 1) % 256) 0
+          (λ z. apart.1 (same_bytes first entry most byte (eq-eqb _ 0 z))) ∙ sym apart.0
+    ]
+
+-- what is the same says the same
+tells : (row entry first : ℕ) → (row ≡ 0 → entry ≡ first) → (entry ≡ first → row ≡ 0) → nat_eq entry first ≡ nat_eq row 0
+tells row entry first to from =
+    elim (eqb_tells entry first) [
+      | inl same ↦ same.0 ∙ sym (eq-eqb row 0 (from same.1))
+      | inr apart ↦ apart.0 ∙ sym (ne_eqb row 0 (λ none. apart.1 (to none)))
+    ]
+
+first_leads : (r : Reader) (row : ℕ) (d : VoiceDesk) (Q : VoiceDesk → Type 0) → FirstGround r row d → WhereTold row d Q →
+    Leads r first_tree Q (loaded (d.own TICK) d)
+first_leads r row d Q ground told = (
+  λ met.
+      let some : d.own ENTRY ≢ 0 = eqb-false (d.own ENTRY) 0 (not-true _ met) in (
+        λ whole.
+            let none : d.own OFFSET ≡ 0 = eqb-true (d.own OFFSET) 0 whole in
+            let byte : ℕ = r.before (first_place d) in
+            let left : ℕ = byte + (255 - d.own ENTRY) + 1 in (
+              ground.found some none,
+              told (d.own PATTERN_LOW) (d.own PATTERN_HIGH) (left % 256) (d.own OFFSET) (nat_le 256 left)
+                  (nat_eq (left % 256) 0) (nat_le 128 (left % 256))
+                  (difference byte (d.own ENTRY) (ground.counted some none) (ground.byte some none)
+                  ∙ tells row (d.own ENTRY) byte (ground.first some none).0 (ground.first some none).1),
+            ),
+        λ later.
+            told d.low d.high (d.own ENTRY) (d.own OFFSET) d.carry (nat_eq (d.own OFFSET) 0) (nat_le 128 (d.own OFFSET))
+            (later ∙ sym (ne_eqb row 0 (ground.later some (eqb-false (d.own OFFSET) 0 later)))),
+      ),
+  λ unmet.
+      let none : d.own ENTRY ≡ 0 = eqb-true (d.own ENTRY) 0 (not-false _ unmet) in
+      told d.low d.high (d.own ENTRY) d.y d.carry (nat_eq (d.own ENTRY) 0) (nat_le 128 (d.own ENTRY))
+      (not-false _ unmet ∙ sym (eq-eqb row 0 (ground.begins none))),
 )
 
 -- ---- the option
 
 abbrev last_tree : Tree
-last_tree = ThenTree (WhenTree 25 show_tree) NoneTree
+last_tree = ThenTree (WhenTree 27 show_first_tree) NoneTree
 
--- the desk of which the pointer is kept, whatever the registers
-abbrev hidden : VoiceDesk → VoiceDesk → VoiceDesk
-hidden d n = record n {
-  own = put d.own PULSE_POINTER 0;
-  shared = put d.shared COUNTER (d.own PULSE_POINTER);
-  sid = d.sid;
-}
+abbrev rest_tree : Tree
+rest_tree = ThenTree unless_fetched_tree last_tree
 
--- the pointer comes back
-show_leads : (r : Reader) (s : Playing) (handed : HandedOn) (d n : VoiceDesk) → r.layout.is_kept 25 ≡ true →
-    d.own TICK ≡ d.own GATE_TIMER → d.own GATE_TIMER < 256 → Done r.voice s handed d d →
-    Leads r last_tree (Done r.voice s handed d) (hidden d n)
-show_leads r s handed d n kept same small done = (
-  λ yes. (
-    omega (arith, same, small),
-    small,
-    (
-      λ met. record {
-        fields = assumption done.fields;
+module _ (r : Reader) (look : LookUps) (o : Options) (at : Rest) (d : VoiceDesk) (few : r.voice < 3)
+    (ranges : IsVoice (voice_in at d)) (low : HasLowBytes d) (options : KeepsOptions r.layout o)
+    (ground : PulseGround r look (d.own PULSE_POINTER) (d.own PULSE_TIME)) (keeps : PulseKeeps r.layout o (voice_in at d))
+    (first : FirstGround r at.row d) (still : d.shared STARTED ≡ 0) where
+  abbrev s : Playing
+  s = playing_in r.voice at d
+
+  abbrev Goal : VoiceDesk → Type 0
+  Goal = Done r.voice (pulse_done o look s) (handed_in d) d
+
+  begun : Done r.voice s (handed_in d) d d
+  begun = done_in r.voice at d few ranges low
+
+  -- ---- the step isn't left out for it
+
+  -- the pointer that is kept is none
+  nothing_shown : (u : Playing) (n : VoiceDesk) → Done r.voice u (handed_in d) d n → pulse_done o look s ≡ u →
+      Leads r last_tree Goal n
+  nothing_shown u n done is = (
+    λ yes. (
+      λ met. absurd (eqb-false (n.shared STARTED) 0 (not-true _ met) (done.handed_on.started ∙ still)),
+      λ unmet. done_as (pulse_done o look s) u is (done_over r.voice u (handed_in d) d n _ refl refl refl done),
+    ),
+    λ no. done_as (pulse_done o look s) u is done,
+  )
+
+  -- the same desk but for the registers and the pointer
+  same_playing : (n : VoiceDesk) → n.own ≡ d.own → n.shared ≡ d.shared → playing_in r.voice at n ≡ s
+  same_playing n own shared = rw (own, shared) refl
+
+  done_from : (n k : VoiceDesk) → n.own ≡ d.own → n.shared ≡ d.shared → n.sid ≡ d.sid →
+      Done r.voice (unless_fetched o look (playing_in r.voice at n)) (handed_in n) n k →
+      Done r.voice (unless_fetched o look s) (handed_in d) d k
+  done_from n k own shared sid done =
+      let handed : handed_in n ≡ handed_in d = rw shared refl in
+      subst (λ h. Done r.voice (unless_fetched o look s) h d k) handed
+      (subst (λ u. Done r.voice (unless_fetched o look u) (handed_in n) d k) (same_playing n own shared)
+      (done_on r.voice s (unless_fetched o look (playing_in r.voice at n)) (handed_in d) (handed_in n) d n k
+      (done_over r.voice s (handed_in d) d d n own shared sid begun) done))
+
+  step_on : (n : VoiceDesk) → n.own ≡ d.own → n.shared ≡ d.shared → n.sid ≡ d.sid → first_is_out o s.voice ≡ false →
+      Leads r rest_tree Goal n
+  step_on n own shared sid goes =
+      let same = same_playing n own shared in
+      leads_on r unless_fetched_tree
+      (Done r.voice (unless_fetched o look (playing_in r.voice at n)) (handed_in n) n) (Leads r last_tree Goal) n
+      (λ k h. nothing_shown (unless_fetched o look s) k (done_from n k own shared sid h) (in_by_first o look s goes))
+      (fetched_leads r look o at n few (subst (λ u. IsVoice u.voice) (sym same) ranges)
+      (record { freq = rw own low.freq; pulse = rw own low.pulse }) options
+      (subst (λ bytes. PulseGround r look (bytes PULSE_POINTER) (bytes PULSE_TIME)) (sym own) ground)
+      (subst
+      (λ bytes. bytes PULSE_POINTER ≢ 0 → (o.skip_pulse && nat_eq (bytes TICK) (bytes GATE_TIMER)) ≡ false →
+      r.layout.is_kept 13 ≡ true) (sym own)
+      (λ some unfetched. keeps.program some (rw (unfetched, goes) refl))))
+
+  -- ---- the step is left out
+
+  -- the desk of which the pointer is kept
+  abbrev hidden : VoiceDesk → VoiceDesk
+  hidden n = record (loaded 0 n) {
+    own = put d.own PULSE_POINTER 0;
+    shared = put d.shared STARTED (d.own PULSE_POINTER);
+    sid = d.sid;
+  }
+
+  -- where it tells no program, the pointer comes back
+  pointer_shown : (n k : VoiceDesk) → first_is_out o s.voice ≡ true → r.layout.is_kept 27 ≡ true →
+      Done r.voice (playing_in r.voice at (hidden n)) (handed_in (hidden n)) (hidden n) k → Leads r last_tree Goal k
+  pointer_shown n k out kept done = (
+    λ yes. (
+      λ met. done_as (pulse_done o look s) s is (record {
+        fields = assumption (saved, done.fields, begun.fields);
         common = assumption done.common;
-        tempos = λ its l other.
-            tempos_stay d.shared COUNTER (d.own PULSE_POINTER) its _ (λ e. omega (arith, e, l)) (done.tempos its l other);
-        handed_on = assumption done.handed_on;
+        tempos = λ its l other. tempos_stay k.shared STARTED 0 its _ (λ e. omega (arith, e, l)) (done.tempos its l other);
+        handed_on = assumption (sym still, done.handed_on);
         fetch = assumption done.fetch;
         subtune = done.subtune;
         sid = done.sid;
-      },
-      λ unmet. absurd (eqb-false (d.own TICK) (d.own GATE_TIMER) unmet same),
+      }),
+      λ unmet.
+          let none : k.shared STARTED ≡ 0 = eqb-true (k.shared STARTED) 0 (not-false _ unmet) in
+          let pointer : k.own PULSE_POINTER ≡ d.own PULSE_POINTER = done.fields.pulse_ptr ∙ (sym none ∙ saved) in
+          let started : k.shared STARTED ≡ d.shared STARTED = none ∙ sym still in
+          done_as (pulse_done o look s) s is (record {
+            fields = assumption (pointer, done.fields, begun.fields);
+            common = assumption done.common;
+            tempos = done.tempos;
+            handed_on = assumption (started, done.handed_on);
+            fetch = assumption done.fetch;
+            subtune = done.subtune;
+            sid = done.sid;
+          }),
     ),
-  ),
-  λ no. absurd (both_ways (r.layout.is_kept 25) no kept),
-)
+    λ no. absurd (both_ways (r.layout.is_kept 27) no kept),
+  )
+    where
+      is : pulse_done o look s ≡ s
+      is = out_by_first o look s out
 
--- or it wasn't kept, and the row isn't fetched
-shown_leads : (r : Reader) (u : Playing) (handed : HandedOn) (d n : VoiceDesk) → u.voice.tick < 256 →
-    u.voice.gate_timer < 256 → u.voice.tick ≢ u.voice.gate_timer → Done r.voice u handed d n →
-    Leads r last_tree (Done r.voice u handed d) n
-shown_leads r u handed d n tick gate apart done =
-    let t = done.fields.tick in
-    let g = done.fields.gate_timer in (
-      λ yes. (
-        omega (arith, t, tick),
-        omega (arith, g, gate),
-        (
-          λ met. absurd (apart (sym t ∙ (eqb-true (n.own TICK) (n.own GATE_TIMER) met ∙ g))),
-          λ unmet. done_over r.voice u handed d n _ refl refl refl done,
+      saved : k.shared STARTED ≡ d.own PULSE_POINTER
+      saved = done.handed_on.started
+
+  step_out : (n : VoiceDesk) → first_is_out o s.voice ≡ true → r.layout.is_kept 27 ≡ true →
+      Leads r rest_tree Goal (hidden n)
+  step_out n out kept =
+      let nothing : 0 < 256 = omega arith in
+      leads_on r unless_fetched_tree
+      (Done r.voice (unless_fetched o look (playing_in r.voice at (hidden n))) (handed_in (hidden n)) (hidden n))
+      (Leads r last_tree Goal) (hidden n)
+      (λ k h.
+      pointer_shown n k out kept
+      (done_as (playing_in r.voice at (hidden n)) (unless_fetched o look (playing_in r.voice at (hidden n)))
+      (sym (idle o look (playing_in r.voice at (hidden n)) refl)) h))
+      (fetched_leads r look o at (hidden n) few (assumption (nothing, ranges))
+      (record { freq = low.freq; pulse = low.pulse }) options
+      (record {
+        rows = λ some. absurd (some refl);
+        runs = λ some. absurd (some refl);
+        itself = λ some. absurd (some refl);
+      })
+      (λ some. absurd (some refl)))
+
+  -- ---- the law
+
+  all_leads : Leads r pulse_tree Goal d
+  all_leads = (
+    λ kept.
+        let skips : o.skip_first ≡ true = sym options.first ∙ kept in (
+          λ met.
+              first_leads r at.row d (Leads r keep_first_tree (Leads r rest_tree Goal)) first (λ low high a y c z m told. (
+                λ is.
+                    let row : nat_eq at.row 0 ≡ true = sym told ∙ is in
+                    step_out (changed d low high a y c z m) (rw (skips, met, row) refl) kept,
+                λ other.
+                    let row : nat_eq at.row 0 ≡ false = sym told ∙ other in
+                    step_on (changed d low high a y c z m) refl refl refl (rw (skips, met, row) refl),
+              )),
+          λ unmet. step_on (loaded (d.own TICK) d) refl refl refl (rw (skips, unmet) refl),
         ),
-      ),
-      λ no. done,
-    )
+    λ left_out.
+        let stays : o.skip_first ≡ false = sym options.first ∙ left_out in
+        step_on d refl refl refl (rw stays refl),
+  )
 
--- ---- the law
-
--- On the desk of a voice whose pulse program is found, the code of the pulse step leaves what the rule says.
+-- On the desk of a voice whose pulse program is found, and which tells whether the next row is the first of its pattern,
+-- the code of the pulse step leaves what the rule says. The voice has started no note.
 pub pulse_leads : (r : Reader) (look : LookUps) (o : Options) (at : Rest) (d : VoiceDesk) → r.voice < 3 →
     IsVoice (voice_in at d) → HasLowBytes d → KeepsOptions r.layout o →
     PulseGround r look (d.own PULSE_POINTER) (d.own PULSE_TIME) → PulseKeeps r.layout o (voice_in at d) →
+    FirstGround r at.row d → d.shared STARTED ≡ 0 →
     Leads r pulse_tree (Done r.voice (pulse_done o look (playing_in r.voice at d)) (handed_in d) d) d
-pulse_leads r look o at d few ranges low options ground keeps = (
-  λ kept. (
-    ranges.tick,
-    ranges.gate_timer,
-    (
-      λ met.
-          let same : d.own TICK ≡ d.own GATE_TIMER = eqb-true (d.own TICK) (d.own GATE_TIMER) met in
-          let skipped : (o.skip_pulse && nat_eq (d.own TICK) (d.own GATE_TIMER)) ≡ true =
-          both_true o.skip_pulse (nat_eq (d.own TICK) (d.own GATE_TIMER)) (sym options.pulse ∙ kept) met in
-          idle_leads r (Leads r last_tree (Done r.voice (pulse_done o look s) (handed_in d) d)) (hidden d (loaded 0 now)) refl
-          (shown kept same skipped (indexed 0 (loaded 0 now))) (shown kept same skipped (loaded 0 now)),
-      λ unmet.
-          let apart : d.own TICK ≢ d.own GATE_TIMER = eqb-false (d.own TICK) (d.own GATE_TIMER) unmet in
-          let done_is : (o.skip_pulse && nat_eq (d.own TICK) (d.own GATE_TIMER)) ≡ false =
-          second_false o.skip_pulse (nat_eq (d.own TICK) (d.own GATE_TIMER)) (sym options.pulse ∙ kept) unmet in
-          leads_on r (WhenTree 13 pulse_program_tree) (Done r.voice u (handed_in d) d)
-          (Leads r last_tree (Done r.voice (pulse_done o look s) (handed_in d) d)) now
-          (λ n h.
-          leads_on r last_tree (Done r.voice u (handed_in d) d) (Done r.voice (pulse_done o look s) (handed_in d) d) n
-          (λ k g. done_as (pulse_done o look s) u (runs o look s done_is) g)
-          (shown_leads r u (handed_in d) d n (tick_small ranges.tick) (gate_small ranges.gate_timer) (clock_apart apart) h))
-          (program done_is now (done_over r.voice s (handed_in d) d d now refl refl refl begun)),
-    ),
-  ),
-  λ left_out.
-      let done_is : (o.skip_pulse && nat_eq (d.own TICK) (d.own GATE_TIMER)) ≡ false =
-      first_false o.skip_pulse (nat_eq (d.own TICK) (d.own GATE_TIMER)) (sym options.pulse ∙ left_out) in
-      leads_on r (WhenTree 13 pulse_program_tree) (Done r.voice u (handed_in d) d)
-      (Leads r last_tree (Done r.voice (pulse_done o look s) (handed_in d) d)) d
-      (λ n h. (
-        λ yes. absurd (both_ways (r.layout.is_kept 25) left_out yes),
-        λ no. done_as (pulse_done o look s) u (runs o look s done_is) h,
-      ))
-      (program done_is d begun),
-)
-  where
-    s : Playing
-    s = playing_in r.voice at d
-
-    u : Playing
-    u = with_voice (pulse_step look s.voice) s
-
-    now : VoiceDesk
-    now = compared (d.own TICK) (d.own GATE_TIMER) (loaded (d.own TICK) d)
-
-    begun : Done r.voice s (handed_in d) d d
-    begun = done_in r.voice at d few ranges low
-
-    shown : r.layout.is_kept 25 ≡ true → d.own TICK ≡ d.own GATE_TIMER →
-        (o.skip_pulse && nat_eq (d.own TICK) (d.own GATE_TIMER)) ≡ true → (n : VoiceDesk) →
-        Leads r last_tree (Done r.voice (pulse_done o look s) (handed_in d) d) (hidden d n)
-    shown kept same skipped n =
-        leads_on r last_tree (Done r.voice s (handed_in d) d) (Done r.voice (pulse_done o look s) (handed_in d) d)
-        (hidden d n) (λ k g. done_as (pulse_done o look s) s (skips o look s skipped) g)
-        (show_leads r s (handed_in d) d n kept same ranges.gate_timer begun)
-
-    program : (o.skip_pulse && nat_eq (d.own TICK) (d.own GATE_TIMER)) ≡ false → (m : VoiceDesk) →
-        Done r.voice s (handed_in d) d m →
-        Leads r (WhenTree 13 pulse_program_tree) (Done r.voice u (handed_in d) d) m
-    program done_is m done =
-        part_leads r look s (handed_in d) d m ground ranges.pulse_ptr ranges.pulse (λ some. keeps.program some done_is) done
-
-    tick_small : d.own TICK < 256 → u.voice.tick < 256
-    tick_small small = rw ((step_clock look s.voice).tick) small
-
-    gate_small : d.own GATE_TIMER < 256 → u.voice.gate_timer < 256
-    gate_small small = rw ((step_clock look s.voice).gate_timer) small
-
-    clock_apart : d.own TICK ≢ d.own GATE_TIMER → u.voice.tick ≢ u.voice.gate_timer
-    clock_apart apart e =
-        apart (sym (step_clock look s.voice).tick ∙ (e ∙ (step_clock look s.voice).gate_timer))
+pulse_leads r look o at d few ranges low options ground keeps first still =
+    all_leads r look o at d few ranges low options ground keeps first still

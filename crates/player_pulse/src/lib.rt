@@ -9,6 +9,7 @@
 #![tactic(auto)]
 
 pub mod claims;
+mod first;
 mod parts;
 mod program;
 mod pulse;

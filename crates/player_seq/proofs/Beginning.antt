@@ -78,8 +78,8 @@ abbrev start_own : Layout → (ℕ → ℕ) → ℕ → ℕ → ℕ → ℕ
 start_own layout at speed k =
     voices_set layout (shared_begun (cleared (λ label. at (layout.address label))) speed) speed k
 
-lists_stay : {layout : Layout} {packed : PackedSong} {before own sid at : ℕ → ℕ} {speed : ℕ} →
-    IsPlayerLayout layout packed → HasLists layout packed before → Ends layout before own sid at speed →
+lists_stay : {layout : Layout} {packed : PackedSong} {before own sid at : ℕ → ℕ} {o : Options} →
+    IsPlayerLayout layout packed → HasLists layout packed before → Ends layout before own sid at o →
     HasLists layout packed at
 lists_stay {layout = layout} {packed = packed} laid has ends list i listed below =
     let found : IsListPlace layout packed (list_place layout list + i) =
@@ -91,7 +91,7 @@ lists_stay {layout = layout} {packed = packed} laid has ends list i listed below
 state_stands : (layout : Layout) (packed : PackedSong) (before sid at : ℕ → ℕ) (k : ℕ) (o : Options) →
     IsPlayerLayout layout packed → HasLists layout packed before → before (layout.address SUBTUNE) ≡ k →
     HaveEntries (subtune_at (unpacked_song packed) k) →
-    Ends layout before (start_own layout before o.speed k) sid at o.speed →
+    Ends layout before (start_own layout before o.speed k) sid at o →
     Holds layout packed k nothing_on (start_state o) at
 state_stands layout packed before sid at k o laid has subtune some ends =
     let own : ℕ → ℕ = start_own layout before o.speed k in
@@ -135,7 +135,7 @@ pub init_ends : (packed : PackedSong) (layout : Layout) (k : ℕ) (o : Options) 
     length packed.subtunes ≤ 32 → IsPlayerLayout layout packed → layout.is_kept TIMER_BIT ≡ nat_lt 1 o.speed →
     k < length packed.subtunes → HasLists layout packed desk.at → desk.at (layout.address SUBTUNE) ≡ k →
     Ends layout desk.at (start_own layout desk.at o.speed k) (λ register. 0) (meaning layout (init_tree o) 0 desk).at
-    o.speed
+    o
 init_ends packed layout k o desk count laid kept below has subtune =
     let clear : Desk = meaning layout cleared_tree 0 desk in
     let first = clears desk.at laid in
@@ -144,7 +144,7 @@ init_ends packed layout k o desk count laid kept below has subtune =
     let begun : Desk = meaning layout (EachVoiceTree (voice_tree o.speed)) 0 set in
     let third =
     voices_start laid has o.speed k set second.memory second.y_is below (omega (arith, below, count)) in
-    timer_ends laid o.speed begun kept third.memory (nat_lt 1 o.speed) refl
+    timer_ends laid o begun kept third.memory (nat_lt 1 o.speed) refl
 
 pub init_begins : InitBlockBegins
 init_begins packed song layout k o desk stands laid speed kept below has subtune =
@@ -157,7 +157,7 @@ init_begins packed song layout k o desk stands laid speed kept below has subtune
     let begun : Desk = meaning layout (EachVoiceTree (voice_tree o.speed)) 0 set in
     let third =
     voices_start laid has o.speed k set second.memory second.y_is below (omega (arith, below, count)) in
-    let ends = timer_ends laid o.speed begun kept third.memory (nat_lt 1 o.speed) refl in
+    let ends = timer_ends laid o begun kept third.memory (nat_lt 1 o.speed) refl in
     record {
       holds =
           state_stands layout packed desk.at (λ register. 0) _ k o laid has subtune

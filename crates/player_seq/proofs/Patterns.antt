@@ -134,6 +134,8 @@ pattern_starts packed song n own stands l e o =
         each = spells.each;
         text = rw (e, o) (whole_again (pattern_bytes packed n) well.some ∙ spells.text);
         left = rw o (pattern_rows packed n l ∙ spells.are);
+        first = (λ none. record { offset = o; entry = e }, λ whole. refl);
+        counted = λ none. omega (arith, e);
       };
     }
 

@@ -65,7 +65,8 @@ pub record Cleared (place : ℕ) (v : Voice) (tempo : ℕ) (running : Command) (
   pub entry : m.own ENTRY ≡ first.own ENTRY
   pub bare : m.y ≡ 0 → running ≡ no_command
 
--- A is this byte of the pattern, and these stand behind it; at its first byte no command is running
+-- A is this byte of the pattern, and these stand behind it; at its first byte no command is running, and the byte is the
+-- entry's
 pub record Reading (bytes : List ℕ) (place : ℕ) (w : Voice) (tempo : ℕ) (first : VoiceDesk) (byte : ℕ) (rest : List ℕ)
     (m : VoiceDesk) : Type 0 where
   pub desk : RowDesk place w tempo first m
@@ -73,6 +74,7 @@ pub record Reading (bytes : List ℕ) (place : ℕ) (w : Voice) (tempo : ℕ) (f
   pub rest_is : drop (m.y + 1) bytes ≡ rest
   pub no_number : m.y ≡ 0 → w.new_command ≡ 0
   pub no_param : m.y ≡ 0 → w.new_param ≡ 0
+  pub whole : m.y ≡ 0 → (first.own OFFSET ≡ 0) × (first.own ENTRY ≡ byte)
 
 -- the same on a desk that has other flags
 pub reading_on : (bytes : List ℕ) (place : ℕ) (w : Voice) (tempo : ℕ) (first : VoiceDesk) (byte : ℕ) (rest : List ℕ)
@@ -84,14 +86,16 @@ reading_on bytes place w tempo first byte rest m number at = record {
   rest_is = at.rest_is;
   no_number = at.no_number;
   no_param = at.no_param;
+  whole = at.whole;
 }
 
--- the row is taken, and the entries behind it stand
+-- the row is taken, and the entries behind it stand; where the first entry still stands it is counted down
 pub record RowDone (bytes : List ℕ) (place : ℕ) (w : Voice) (tempo : ℕ) (entries : List Entry) (first m : VoiceDesk)
     : Type 0 where
   pub desk : RowDesk place w tempo first m
   pub text : m.own ENTRY ∷ drop (m.own OFFSET + 1) bytes ≡ text_of entries
   pub command : running_command m.own ≡ record { number = w.new_command; param = w.new_param }
+  pub less : m.own OFFSET ≡ 0 → (first.own OFFSET ≡ 0) × (m.own ENTRY < first.own ENTRY)
 
 -- the two bytes of the row's command are the running one's, but at the beginning of a pattern, where both are 0
 pub running_is : (own : ℕ → ℕ) (w : Voice) (tempo : ℕ) → FieldsStand w tempo own →

@@ -70,6 +70,7 @@ note_taken_leads r look bytes place instruments ground w tempo entries begun fir
             (r.before (pointed (counted one_more CountedY m)))) OFFSET (one_more m.y))
             (record w { new_note = transposed note transpose }) tempo (assumption (new_note, at.desk.fields))
             (λ none. elim (next.some none) [ ]) (λ none. elim (next.some none) [ ]) (nat_eq (one_more m.y) 0) refl;
+        less = λ none. elim (next.some none) [ ];
       },
     )
 
@@ -122,6 +123,7 @@ gate_leads r look bytes place instruments ground w tempo entries first m from to
             };
             text = at.text;
             command = at.command;
+            less = at.less;
           }),
       λ kept.
           done_as (gate_shut t w) (record w { gate = 0xFE })
@@ -136,12 +138,13 @@ gate_leads r look bytes place instruments ground w tempo entries first m from to
             };
             text = at.text;
             command = at.command;
+            less = at.less;
           }),
     ),
     λ unmet.
         done_as (gate_shut t w) w
         (shut_held t w apart (bit_six t small ∙ (ap (λ n. not (nat_le 128 (2 * n % 256))) (sym is) ∙ unmet)))
-        (record { desk = assumption at.desk; text = at.text; command = at.command }),
+        (record { desk = assumption at.desk; text = at.text; command = at.command; less = at.less }),
   ),
 )
   where
@@ -205,10 +208,10 @@ note_leads r look bytes place instruments ground w tempo entries begun first m n
                 gate_leads r look bytes place instruments ground u tempo entries first
                 (compared (n.own NEW_COMMAND) 3 (loaded (n.own NEW_COMMAND) n)) from to
                 (ap (λ b. nat_eq b 3) (sym command) ∙ not-true _ met)
-                (record { desk = assumption h.desk; text = h.text; command = h.command }),
+                (record { desk = assumption h.desk; text = h.text; command = h.command; less = h.less }),
             λ unmet.
                 done_as (gate_shut timer u) u
                 (shut_kept timer u (ap (λ b. nat_eq b 3) (sym command) ∙ not-false _ unmet))
-                (record { desk = assumption h.desk; text = h.text; command = h.command }),
+                (record { desk = assumption h.desk; text = h.text; command = h.command; less = h.less }),
           ),
         )

@@ -29,6 +29,7 @@ pub record NextEntry (bytes : List ℕ) (place : ℕ) (w : Voice) (tempo : ℕ) 
   pub text : m.accumulator ∷ drop (m.y + 1) bytes ≡ text_of entries
   pub no_number : m.y ≡ 0 → w.new_command ≡ 0
   pub no_param : m.y ≡ 0 → w.new_param ≡ 0
+  pub less : m.y ≡ 0 → (first.own OFFSET ≡ 0) × (m.accumulator < first.own ENTRY)
 
 pub entry_leads : (r : Reader) (bytes : List ℕ) (place : ℕ) (w : Voice) (tempo : ℕ) (entries : List Entry)
     (first m : VoiceDesk) → NextEntry bytes place w tempo entries first m →
@@ -45,6 +46,7 @@ entry_leads r bytes place w tempo entries first m at = record {
   command =
       running_is (put (put m.own ENTRY m.accumulator) OFFSET m.y) w tempo (assumption at.desk.fields) at.no_number
       at.no_param (nat_eq m.y 0) refl;
+  less = at.less;
 }
 
 -- the row is taken, and the next entry's bytes stand behind Y
@@ -66,6 +68,7 @@ next_entry_leads r look bytes place instruments ground w tempo entries begun fir
         text = joined _ _ _ _ next.is next.rest_is ∙ sym begun.is;
         no_number = λ none. elim (next.some none) [ ];
         no_param = λ none. elim (next.some none) [ ];
+        less = λ none. elim (next.some none) [ ];
       },
     )
 
@@ -184,6 +187,9 @@ rests_leads r look bytes place instruments ground w tempo entries begun first m 
           text = joined _ _ _ _ left at.rest_is;
           no_number = at.no_number;
           no_param = at.no_param;
+          less = λ none.
+              let entry = (at.whole none).1 in
+              ((at.whole none).0, omega (arith, left, entry));
         },
       ),
     )

@@ -119,6 +119,7 @@ instrument_leads r look bytes place instruments ground v tempo running first m e
                   rest_is = ap (λ n. drop (n + 1) bytes) at.y ∙ rest;
                   no_number = λ none. ap (λ c. c.number) (at.bare none);
                   no_param = λ none. ap (λ c. c.param) (at.bare none);
+                  whole = λ none. (sym at.y ∙ none, byte);
                 },
           ),
         )
@@ -148,6 +149,7 @@ instrument_leads r look bytes place instruments ground v tempo running first m e
                     rest_is = next.rest_is;
                     no_number = λ none. elim (next.some none) [ ];
                     no_param = λ none. elim (next.some none) [ ];
+                    whole = λ none. elim (next.some none) [ ];
                   },
                 ),
             λ unmet.
@@ -236,6 +238,7 @@ behind_note r look bytes place instruments ground w tempo first m byte note rest
             rest_is = next.rest_is;
             no_number = λ none. elim (next.some none) [ ];
             no_param = λ none. elim (next.some none) [ ];
+            whole = λ none. elim (next.some none) [ ];
           },
         ),
         λ unmet.
@@ -261,6 +264,7 @@ behind_rest r bytes place w tempo first m byte rest from to at =
           rest_is = at.rest_is;
           no_number = λ none. elim (at.some none) [ ];
           no_param = λ none. elim (at.some none) [ ];
+          whole = λ none. elim (at.some none) [ ];
         },
       ),
     )

@@ -1,7 +1,7 @@
 -- The row of a voice is fetched from its packed pattern.
 use Rattle.std.proofs.Common.{◌≡◌, ◌≢◌, ℕ, ℤ, ◌+◌, ◌%◌, ◌<◌, ◌≤◌, ◌||◌, Bool, true, false, not, nat_eq, nat_le}
 use Rattle.std.proofs.Common.{bit_and, if◌then◌else◌, List, [], ◌∷◌, ◌++◌, length, drop, refl, sym, ap, ◌∙◌, subst}
-use Rattle.std.proofs.Common.{arith}
+use Rattle.std.proofs.Common.{arith, slice_index}
 use Rattle.std.proofs.lemmas.Bool.{leb-true, leb-false, not-true, not-false, eq-eqb, ne_eqb, le-leb, lt-leb, and_right}
 use Rattle.std.proofs.lemmas.Bool.{and_from}
 use Rattle.std.proofs.lemmas.List.{length-drop}
@@ -235,10 +235,11 @@ record Moved (bytes : List ℕ) (rows : List Row) (v after : Voice) (tempo : ℕ
 finish : (bytes : List ℕ) (rows : List Row) (place : ℕ) (v w : Voice) (tempo : ℕ) (command : Command)
     (d m : VoiceDesk) → w.row ≡ v.row → w.plays ≡ v.plays →
     record { number = w.new_command; param = w.new_param } ≡ command →
-    v.row < length rows → length rows ≤ 128 → (left : List Entry) → All IsEntry left →
+    v.row < length rows → length rows ≤ 128 → (d.own OFFSET ≡ 0 → d.own ENTRY ≤ slice_index bytes 0) →
+    (left : List Entry) → All IsEntry left →
     drop (v.row + 1) rows ≡ rows_from command left → RowDone bytes place w tempo left d m →
     Moved bytes rows v (row_moved (length rows) w) tempo m.own
-finish bytes rows place v w tempo command d m row plays is inside few [] each left at =
+finish bytes rows place v w tempo command d m row plays is inside few counted [] each left at =
     let none : length (drop (v.row + 1) rows) ≡ 0 = ap length left in
     let size = length-drop (v.row + 1) rows in
     let last : (w.row + 1) % 256 ≡ length rows = omega (arith, none, size, row, inside, few) in
@@ -248,7 +249,7 @@ finish bytes rows place v w tempo command d m row plays is inside few [] each le
       fields = assumption at.desk.fields;
       next = Ended (first_same _ _ _ _ at.text) refl (ap (λ n. n + 1) plays);
     })
-finish bytes rows place v w tempo command d m row plays is inside few (entry ∷ entries) each left at =
+finish bytes rows place v w tempo command d m row plays is inside few counted (entry ∷ entries) each left at =
     let more = (stands_there rows (v.row + 1) _ zero_row _ left).inside in
     let next : (w.row + 1) % 256 ≡ v.row + 1 = omega (arith, row, inside, few) in
     let test : nat_eq ((w.row + 1) % 256) (length rows) ≡ false =
@@ -265,6 +266,20 @@ finish bytes rows place v w tempo command d m row plays is inside few (entry ∷
             left =
                 ap (λ n. drop n rows) next
                 ∙ (left ∙ ap (λ c. rows_from c (entry ∷ entries)) (sym (at.command ∙ is)));
+            first = (
+              λ none. absurd (omega (arith, next, none)),
+              λ whole.
+                  let less = at.less whole.offset in
+                  let most = counted less.0 in
+                  let fewer = less.1 in
+                  let entry = whole.entry in
+                  absurd (omega (arith, most, fewer, entry)),
+            );
+            counted = λ none.
+                let less = at.less none in
+                let most = counted less.0 in
+                let fewer = less.1 in
+                omega (arith, most, fewer);
           }) plays;
     })
 
@@ -336,7 +351,7 @@ entry_row_leads r look bytes rows place instruments transpose v tempo d ground a
         let after =
         finish bytes rows place v done tempo command d m (done_keeps (λ v. v.row) row_keeps look row transpose v)
         (done_keeps (λ v. v.plays) plays_keep look row transpose v) (rw (number, param) refl) here.inside at.count
-        (left_behind entry.kind entries) (left_each entry.kind entries is_entry.kind others) here.left h in
+        at.row_stands.counted (left_behind entry.kind entries) (left_each entry.kind entries is_entry.kind others) here.left h in
         let whole =
         subst (λ x. Moved bytes rows v (row_moved (length rows) (row_done look x transpose v)) tempo m.own)
         (sym here.is) after in

@@ -1,6 +1,8 @@
 -- The blocks that begin a subtune and fetch a row are sound: each part is in range where its numbers are.
 use Rattle.std.proofs.Common.{◌≡◌, ℕ, zero, suc, ◌<◌, ◌&&◌, Bool, true, false, nat_lt, refl, arith}
 use Rattle.std.proofs.lemmas.Bool.{lt-ltb}
+use Rattle.play_model.specs.declared.options.System.{System}
+use Rattle.play_model.specs.declared.options.System.TheVariants.{Pal, Ntsc}
 use Rattle.play_model.specs.Speeds.{IsSpeed}
 use Rattle.blocks.specs.Trees.{NoneTree, ThenTree, EachVoiceTree, WhenTree}
 use Rattle.blocks.specs.Places.{is_count, is_placed}
@@ -11,20 +13,24 @@ use Rattle.player_seq.specs.InitBlock.{cleared_tree, shared_tree, voice_tree, ti
 use Rattle.player_seq.specs.FetchBlock.{fetch_tree}
 use Rattle.player_seq.specs.SoundBlocks.{InitIsSound, FetchIsSound}
 
--- by the speed
-sound_by_speed : (speed : ℕ) → IsSpeed speed →
+-- by the system and the speed
+sound_by_speed : (system : System) (speed : ℕ) → IsSpeed speed →
     is_sound
     (ThenTree cleared_tree (ThenTree (shared_tree speed) (ThenTree (EachVoiceTree (voice_tree speed))
-    (ThenTree (WhenTree 26 (timer_tree speed)) NoneTree)))) ≡ true
-sound_by_speed zero is = let least = is.least in absurd (omega (arith, least))
-sound_by_speed (suc zero) is = refl
-sound_by_speed (suc (suc zero)) is = refl
-sound_by_speed (suc (suc (suc zero))) is = refl
-sound_by_speed (suc (suc (suc (suc zero)))) is = refl
-sound_by_speed (suc (suc (suc (suc (suc more))))) is = let most = is.most in absurd (omega (arith, most))
+    (ThenTree (WhenTree 26 (timer_tree system speed)) NoneTree)))) ≡ true
+sound_by_speed system zero is = let least = is.least in absurd (omega (arith, least))
+sound_by_speed Pal (suc zero) is = refl
+sound_by_speed Pal (suc (suc zero)) is = refl
+sound_by_speed Pal (suc (suc (suc zero))) is = refl
+sound_by_speed Pal (suc (suc (suc (suc zero)))) is = refl
+sound_by_speed Ntsc (suc zero) is = refl
+sound_by_speed Ntsc (suc (suc zero)) is = refl
+sound_by_speed Ntsc (suc (suc (suc zero))) is = refl
+sound_by_speed Ntsc (suc (suc (suc (suc zero)))) is = refl
+sound_by_speed system (suc (suc (suc (suc (suc more))))) is = let most = is.most in absurd (omega (arith, most))
 
 pub init_is_sound : InitIsSound
-init_is_sound o is = sound_by_speed o.speed is
+init_is_sound o is = sound_by_speed o.system o.speed is
 
 -- two facts at once
 both : (one two : Bool) → one ≡ true → two ≡ true → (one && two) ≡ true

@@ -15,6 +15,7 @@ use Rattle.player_parts.specs.declared.labels.TheConstants.{VOLUME, FUNK_ONE, FU
 use Rattle.player_parts.specs.PlayerLists.{PlayerList, OrderLows, OrderHighs, IsListPlace, HasLists, IsList}
 use Rattle.player_parts.specs.PlayerLists.{list_length, list_place, list_byte}
 use Rattle.player_parts.specs.PlayerLayouts.{IsPlayerLayout, MayRead}
+use Rattle.play_model.specs.declared.options.Options.{Options}
 use Rattle.play_model.specs.Speeds.{timer_value}
 use Rattle.player_seq.specs.InitBlock.{shared_tree, voice_tree, timer_tree}
 use Rattle.player_seq.specs.InitLaws.{timer_byte}
@@ -182,10 +183,10 @@ voices_start {layout = layout} laid has speed k desk is e below few =
 -- ---- the timer
 
 -- what stands at the end: variables, registers, the timer and the rest
-pub record Ends (layout : Layout) (before own sid at : ℕ → ℕ) (speed : ℕ) : Type 0 where
+pub record Ends (layout : Layout) (before own sid at : ℕ → ℕ) (o : Options) : Type 0 where
   pub variables : (label : ℕ) → label < VARIABLES → at (layout.address label) ≡ own label
   pub registers : (register : ℕ) → register ≤ 24 → at (sid_place register) ≡ sid register
-  pub timer : (half : Half) → at (timer_place half) ≡ timer_byte speed half (before (timer_place half))
+  pub timer : (half : Half) → at (timer_place half) ≡ timer_byte o half (before (timer_place half))
   pub elsewhere : (place : ℕ) → IsRest layout place → place ≢ 0xDC04 → place ≢ 0xDC05 → at place ≡ before place
 
 timer_rests : {layout : Layout} {packed : PackedSong} → IsPlayerLayout layout packed → (half : Half) →
@@ -200,58 +201,58 @@ timer_rests laid High = record {
 }
 
 -- set
-abbrev low_set : (ℕ → ℕ) → ℕ → ℕ → ℕ
-low_set at speed = put at 0xDC04 (timer_value speed % 256)
+abbrev low_set : (ℕ → ℕ) → Options → ℕ → ℕ
+low_set at o = put at 0xDC04 (timer_value o.system o.speed % 256)
 
-abbrev timer_set : (ℕ → ℕ) → ℕ → ℕ → ℕ
-timer_set at speed = put (low_set at speed) 0xDC05 (timer_value speed / 256)
+abbrev timer_set : (ℕ → ℕ) → Options → ℕ → ℕ
+timer_set at o = put (low_set at o) 0xDC05 (timer_value o.system o.speed / 256)
 
-set_byte : (at : ℕ → ℕ) (speed : ℕ) (half : Half) (before : ℕ) → nat_lt 1 speed ≡ true →
-    timer_set at speed (timer_place half) ≡ timer_byte speed half before
-set_byte at speed Low before e = rw e refl
-set_byte at speed High before e = rw e refl
+set_byte : (at : ℕ → ℕ) (o : Options) (half : Half) (before : ℕ) → nat_lt 1 o.speed ≡ true →
+    timer_set at o (timer_place half) ≡ timer_byte o half before
+set_byte at o Low before e = rw e refl
+set_byte at o High before e = rw e refl
 
-set_other : (at : ℕ → ℕ) (speed place : ℕ) → place ≢ 0xDC04 → place ≢ 0xDC05 → timer_set at speed place ≡ at place
-set_other at speed place low high =
-    put_other (low_set at speed) 0xDC05 (timer_value speed / 256) place high
-    ∙ put_other at 0xDC04 (timer_value speed % 256) place low
+set_other : (at : ℕ → ℕ) (o : Options) (place : ℕ) → place ≢ 0xDC04 → place ≢ 0xDC05 → timer_set at o place ≡ at place
+set_other at o place low high =
+    put_other (low_set at o) 0xDC05 (timer_value o.system o.speed / 256) place high
+    ∙ put_other at 0xDC04 (timer_value o.system o.speed % 256) place low
 
 ends_set : {layout : Layout} {packed : PackedSong} {before own sid at : ℕ → ℕ} → IsPlayerLayout layout packed →
-    (speed : ℕ) → nat_lt 1 speed ≡ true → IsMemory layout before own sid at →
-    Ends layout before own sid (timer_set at speed) speed
-ends_set {layout = layout} {before = before} {at = at} laid speed e is =
+    (o : Options) → nat_lt 1 o.speed ≡ true → IsMemory layout before own sid at →
+    Ends layout before own sid (timer_set at o) o
+ends_set {layout = layout} {before = before} {at = at} laid o e is =
     let ends = laid.ends in record {
       variables = λ label small.
           let here = laid.variables label small in
-          set_other at speed (layout.address label) (λ q. omega (arith, here, ends, small, q))
+          set_other at o (layout.address label) (λ q. omega (arith, here, ends, small, q))
           (λ q. omega (arith, here, ends, small, q)) ∙ is.variables label small;
       registers = λ register few.
-          set_other at speed (sid_place register) (λ q. omega (arith, few, q)) (λ q. omega (arith, few, q))
+          set_other at o (sid_place register) (λ q. omega (arith, few, q)) (λ q. omega (arith, few, q))
           ∙ is.registers register few;
-      timer = λ half. set_byte at speed half (before (timer_place half)) e;
-      elsewhere = λ place rest low high. set_other at speed place low high ∙ is.elsewhere place rest;
+      timer = λ half. set_byte at o half (before (timer_place half)) e;
+      elsewhere = λ place rest low high. set_other at o place low high ∙ is.elsewhere place rest;
     }
 
 -- or left alone
-left_byte : (speed : ℕ) (half : Half) (byte before : ℕ) → byte ≡ before → nat_lt 1 speed ≡ false →
-    byte ≡ timer_byte speed half before
-left_byte speed Low byte before same e = rw e same
-left_byte speed High byte before same e = rw e same
+left_byte : (o : Options) (half : Half) (byte before : ℕ) → byte ≡ before → nat_lt 1 o.speed ≡ false →
+    byte ≡ timer_byte o half before
+left_byte o Low byte before same e = rw e same
+left_byte o High byte before same e = rw e same
 
 ends_left : {layout : Layout} {packed : PackedSong} {before own sid at : ℕ → ℕ} → IsPlayerLayout layout packed →
-    (speed : ℕ) → nat_lt 1 speed ≡ false → IsMemory layout before own sid at → Ends layout before own sid at speed
-ends_left {before = before} {at = at} laid speed e is = record {
+    (o : Options) → nat_lt 1 o.speed ≡ false → IsMemory layout before own sid at → Ends layout before own sid at o
+ends_left {before = before} {at = at} laid o e is = record {
   variables = is.variables;
   registers = is.registers;
   timer = λ half.
-      left_byte speed half (at (timer_place half)) (before (timer_place half))
+      left_byte o half (at (timer_place half)) (before (timer_place half))
       (is.elsewhere (timer_place half) (timer_rests laid half)) e;
   elsewhere = λ place rest low high. is.elsewhere place rest;
 }
 
 pub timer_ends : {layout : Layout} {packed : PackedSong} {before own sid : ℕ → ℕ} → IsPlayerLayout layout packed →
-    (speed : ℕ) (desk : Desk) → layout.is_kept 26 ≡ nat_lt 1 speed → IsMemory layout before own sid desk.at →
-    (z : Bool) → nat_lt 1 speed ≡ z →
-    Ends layout before own sid (meaning layout (WhenTree 26 (timer_tree speed)) 0 desk).at speed
-timer_ends laid speed desk kept is true e = rw (kept ∙ e) (ends_set laid speed e is)
-timer_ends laid speed desk kept is false e = rw (kept ∙ e) (ends_left laid speed e is)
+    (o : Options) (desk : Desk) → layout.is_kept 26 ≡ nat_lt 1 o.speed → IsMemory layout before own sid desk.at →
+    (z : Bool) → nat_lt 1 o.speed ≡ z →
+    Ends layout before own sid (meaning layout (WhenTree 26 (timer_tree o.system o.speed)) 0 desk).at o
+timer_ends laid o desk kept is true e = rw (kept ∙ e) (ends_set laid o e is)
+timer_ends laid o desk kept is false e = rw (kept ∙ e) (ends_left laid o e is)

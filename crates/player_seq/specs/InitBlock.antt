@@ -6,6 +6,7 @@ use Rattle.blocks.specs.Trees.{Tree, ChainTree, NoneTree, ThenTree, EachVoiceTre
 use Rattle.play_model.specs.declared.options.Options.{Options}
 use Rattle.player_parts.specs.declared.labels.TheConstants.{ENTRY, ORDER_LOW, ORDER_HIGH, TICK, INSTRUMENT, GATE, TEMPO, CLEARED, VOLUME}
 use Rattle.player_parts.specs.declared.labels.TheConstants.{FUNK_ONE, FUNK_TWO, SUBTUNE, ORDER_LOWS, ORDER_HIGHS}
+use Rattle.play_model.specs.declared.options.System.{System}
 use Rattle.play_model.specs.Speeds.{timer_value}
 use Rattle.player_parts.specs.declared.parts.TheConstants.{TIMER_BIT}
 use Rattle.player_parts.specs.Codes.{shared_byte, load_number, load_shared, load_entry, store_own, store_shared, store_y}
@@ -30,12 +31,12 @@ voice_tree speed =
     ∷ load_number (6 * speed - 1) ∷ store_own TEMPO ∷ [])
 
 -- the timer, where the play call comes more often than once a picture
-abbrev pub timer_tree : ℕ → Tree
-timer_tree speed =
-    ChainTree (load_number (timer_value speed % 256) ∷ Store (Timer Low) ∷ load_number (timer_value speed / 256)
-    ∷ Store (Timer High) ∷ [])
+abbrev pub timer_tree : System → ℕ → Tree
+timer_tree system speed =
+    ChainTree (load_number (timer_value system speed % 256) ∷ Store (Timer Low)
+    ∷ load_number (timer_value system speed / 256) ∷ Store (Timer High) ∷ [])
 
 abbrev pub init_tree : Options → Tree
 init_tree o =
     ThenTree cleared_tree (ThenTree (shared_tree o.speed) (ThenTree (EachVoiceTree (voice_tree o.speed))
-    (ThenTree (WhenTree TIMER_BIT (timer_tree o.speed)) NoneTree)))
+    (ThenTree (WhenTree TIMER_BIT (timer_tree o.system o.speed)) NoneTree)))

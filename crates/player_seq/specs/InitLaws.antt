@@ -18,9 +18,9 @@ use Rattle.player_parts.specs.Holds.{Holds, nothing_on}
 use Rattle.player_seq.specs.InitBlock.{init_tree}
 
 -- what stands in the timer's bytes: its value where the play call comes more often than once a picture, else what was
-abbrev pub timer_byte : ℕ → Half → ℕ → ℕ
-timer_byte speed Low before = if nat_lt 1 speed then timer_value speed % 256 else before
-timer_byte speed High before = if nat_lt 1 speed then timer_value speed / 256 else before
+abbrev pub timer_byte : Options → Half → ℕ → ℕ
+timer_byte o Low before = if nat_lt 1 o.speed then timer_value o.system o.speed % 256 else before
+timer_byte o High before = if nat_lt 1 o.speed then timer_value o.system o.speed / 256 else before
 
 -- a place that the block may write
 pub data MayBegin (layout : Layout) (place : ℕ) : Type 0 where
@@ -35,7 +35,7 @@ pub record Begun (layout : Layout) (packed : PackedSong) (k : ℕ) (o : Options)
   pub registers : (register : ℕ) → register ≤ 24 →
       (meaning layout (init_tree o) 0 desk).at (sid_place register) ≡ 0
   pub timer : (half : Half) →
-      (meaning layout (init_tree o) 0 desk).at (timer_place half) ≡ timer_byte o.speed half (desk.at (timer_place half))
+      (meaning layout (init_tree o) 0 desk).at (timer_place half) ≡ timer_byte o half (desk.at (timer_place half))
   pub leaves : (place : ℕ) → ¬ MayBegin layout place → (meaning layout (init_tree o) 0 desk).at place ≡ desk.at place
   pub reads : Reads (MayRead layout packed) layout (init_tree o) 0 desk
 

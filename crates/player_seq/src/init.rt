@@ -73,15 +73,13 @@ fn voice(alloc: Global, speed: u8) -> Result<Block, NoMemory>
     )
 }
 
-/// Sets the timer to the cycles of a picture, divided by the play calls and rounded down, less 1: the timer counts one
-/// cycle more than its value.
-fn timer(alloc: Global, speed: u8) -> Result<Block, NoMemory>
-    requires { IsSpeed speed }
-    ensures { IfOk result (λ block. tree_of block ≡ timer_tree speed) }
+/// Sets the timer to its value at the speed of the options, on their system.
+fn timer(alloc: Global, options: Options) -> Result<Block, NoMemory>
+    ensures { IfOk result (λ block. tree_of block ≡ timer_tree options.system options.speed) }
 {
-    let cycles = 19_656 / u16::from(speed) - 1;
-    let low = load_number((cycles % 256) as u8);
-    let high = load_number((cycles / 256) as u8);
+    let [high, low] = options.timer_value().to_be_bytes();
+    let low = load_number(low);
+    let high = load_number(high);
     chain(
         alloc,
         &[
@@ -107,6 +105,6 @@ pub fn init_block(alloc: Global, options: Options) -> Result<Block, NoMemory>
     let cleared = cleared(alloc)?;
     let shared = shared(alloc, speed)?;
     let voices = each_voice(alloc, voice(alloc, speed)?)?;
-    let timer = when(alloc, TIMER_BIT, timer(alloc, speed)?)?;
+    let timer = when(alloc, TIMER_BIT, timer(alloc, options)?)?;
     Ok(seq(Vec::from_array(alloc, [cleared, shared, voices, timer])?))
 }

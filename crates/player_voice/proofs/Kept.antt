@@ -11,7 +11,7 @@ use Rattle.play_model.specs.TickStep.{Ticked}
 use Rattle.play_model.specs.WaveStep.{Waved, wave_step}
 use Rattle.play_model.specs.EffectStep.{effect_step}
 use Rattle.play_model.specs.PulseStep.{pulse_step}
-use Rattle.play_model.specs.Frame.{effect_done, pulse_done}
+use Rattle.play_model.specs.Frame.{effect_done, pulse_left_out, pulse_done}
 use Rattle.safe_states.specs.SafeLaws.{IsSafePlaying, VoiceRulesKeepSafe}
 use Rattle.packed_form.specs.declared.packed_songs.PackedSong.{PackedSong}
 use Rattle.packed_form.specs.Unpacked.{unpacked_song}
@@ -36,7 +36,7 @@ effect_range o look w rules range =
 pub pulse_range : (o : Options) (look : LookUps) (s : Playing) → RulesKeepRanges look → IsPlaying s →
     IsPlaying (pulse_done o look s)
 pulse_range o look s rules range =
-    either IsPlaying (o.skip_pulse && (s.voice.tick == s.voice.gate_timer)) s
+    either IsPlaying (pulse_left_out o s.voice) s
     (record s { voice = pulse_step look s.voice }) range
     (record { voice = rules.pulse s.voice range.voice; common = range.common })
 
@@ -60,7 +60,7 @@ pub pulse_safe : (song : Song) (order : Order) (o : Options) (look : LookUps) (s
     IsSafePlaying song order (record s { voice = pulse_step look s.voice }) →
     IsSafePlaying song order (pulse_done o look s)
 pulse_safe song order o look s safe done =
-    either (IsSafePlaying song order) (o.skip_pulse && (s.voice.tick == s.voice.gate_timer)) s
+    either (IsSafePlaying song order) (pulse_left_out o s.voice) s
     (record s { voice = pulse_step look s.voice }) safe done
 
 -- ---- in a frame

@@ -11,5 +11,6 @@ pub mod TickStage
 pub mod WaveStage
 pub mod EffectStage
 pub mod LentStage
+mod FirstRows
 pub mod PulseStage
 pub mod Stepping

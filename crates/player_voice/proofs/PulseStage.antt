@@ -12,13 +12,14 @@ use Rattle.play_model.specs.Uses.{GoesOn}
 use Rattle.packed_form.specs.declared.packed_songs.PackedSong.{PackedSong}
 use Rattle.blocks.specs.Desk.{Layout}
 use Rattle.player_parts.specs.PlayerLists.{HasLists}
-use Rattle.player_parts.specs.Holds.{nothing_on}
+use Rattle.player_parts.specs.Holds.{Fetching, nothing_on}
 use Rattle.player_parts.proofs.Laws.{VoiceDesk, Reader, Leads, leads_on, reader, Done, RowsAt, done_low, rest_of, playing_in}
-use Rattle.player_parts.proofs.Laws.{handed_in, next_label, next_here}
+use Rattle.player_parts.proofs.Laws.{handed_in, next_label, next_here, fetching_moved}
 use Rattle.player_pulse.specs.PulseBlock.{pulse_tree}
 use Rattle.player_pulse.proofs.Laws.{PulseGround, PulseKeeps, pulse_leads}
 use Rattle.player_voice.specs.Turns.{look_of, turn_in}
-use Rattle.player_voice.proofs.Scenes.{Scene, is_channel, pulse_ready}
+use Rattle.player_voice.proofs.Scenes.{Scene, is_channel, order_in, pulse_ready}
+use Rattle.player_voice.proofs.FirstRows.{first_ground}
 use Rattle.player_voice.proofs.Stages.{Comes, told, voice_range, done_through}
 
 pulse_ground : (packed : PackedSong) (song : Song) (layout : Layout) (o : Options) (k voice : ℕ) (x : FrameState)
@@ -64,12 +65,14 @@ program_kept packed song layout o k voice x t s scene goes is = record {
       });
 }
 
+-- the voice is where it is in its song, and the desk before its step tells that
 pub pulse_stage : (packed : PackedSong) (song : Song) (layout : Layout) (o : Options) (k voice : ℕ) (x : FrameState)
     (at : ℕ → ℕ) (t s : Playing) (d m : VoiceDesk) → Scene packed song layout o k voice x → HasLists layout packed at →
     GoesOn (turn_in packed o k voice x) t → effect_done o (look_of packed) (wave_step (look_of packed) t) ≡ s →
+    Fetching layout packed (order_in packed k voice) s.voice.plays s.voice.row d.own →
     Comes packed k voice s nothing_on d m →
     Leads (reader layout packed voice at) pulse_tree (Done voice (pulse_done o (look_of packed) s) nothing_on d) m
-pulse_stage packed song layout o k voice x at t s d m scene has goes is comes =
+pulse_stage packed song layout o k voice x at t s d m scene has goes is fetching comes =
     leads_on r pulse_tree
     (Done voice (pulse_done o look (playing_in voice (rest_of s.voice) m)) (handed_in m) m)
     (Done voice (pulse_done o look s) nothing_on d) m
@@ -82,7 +85,11 @@ pulse_stage packed song layout o k voice x at t s d m scene has goes is comes =
     (subst (λ u. PulseGround r look u.voice.pulse_ptr u.voice.pulse_time) (sym tells)
     (pulse_ground packed song layout o k voice x at s d m scene has comes))
     (subst (λ u. PulseKeeps layout o u.voice) (sym tells)
-    (program_kept packed song layout o k voice x t s scene goes is)))
+    (program_kept packed song layout o k voice x t s scene goes is))
+    (first_ground packed song layout voice (order_in packed k voice) s.voice.plays s.voice.row at m scene.stands scene.laid
+    has comes.safe.voice.row
+    (fetching_moved layout packed (order_in packed k voice) s.voice.plays s.voice.row m.own d.own comes.done.fetch fetching))
+    comes.done.handed_on.started)
   where
     r : Reader
     r = reader layout packed voice at

@@ -14,7 +14,7 @@ use Rattle.play_model.specs.WaveStep.{Waved, wave_command, left_done, program_mo
 use Rattle.play_model.specs.WaveStep.{is_wave_command}
 use Rattle.play_model.specs.EffectStep.{instrument_vibrato, effect_step}
 use Rattle.play_model.specs.PulseStep.{pulse_row, pulse_step}
-use Rattle.play_model.specs.Frame.{effect_done, pulse_done}
+use Rattle.play_model.specs.Frame.{effect_done, pulse_left_out, pulse_done}
 use Rattle.player_parts.proofs.Laws.{Rest, rest_of, if_same, do_leaves}
 use Rattle.player_tick.proofs.Laws.{tick_rest}
 use Rattle.player_voice.specs.Turns.{sounded}
@@ -56,7 +56,7 @@ effect_rest look v =
 
 -- ---- the wave step
 
-abbrev where_is : Playing → Rest
+abbrev pub where_is : Playing → Rest
 where_is s = rest_of s.voice
 
 do_rest : (c d : ℕ) (s : Playing) → where_is (do_command c d s) ≡ where_is s
@@ -79,7 +79,7 @@ left_rest look row s =
     (if_same where_is (nat_le 0xE0 row.left && nat_le row.left 0xEF) _ _ z refl
     (if_same where_is (is_wave_command row) _ s z (command_rest look (row.left - 0xF0) row.right s) refl))
 
-abbrev where_left : Waved → Rest
+abbrev pub where_left : Waved → Rest
 where_left w = where_is w.playing
 
 right_rest : (row : TableRow) (s : Playing) → where_left (right_done row s) ≡ where_is s
@@ -92,7 +92,7 @@ row_rest look row s =
     if_same where_left (nat_lt row.left 0x10 && not (s.voice.wave_time == row.left)) _ _ (where_is s) refl
     (right_rest row (program_moved look s.voice.wave_ptr (left_done look row s)) ∙ left_rest look row s)
 
-wave_rest : (look : LookUps) (s : Playing) → where_left (wave_step look s) ≡ where_is s
+pub wave_rest : (look : LookUps) (s : Playing) → where_left (wave_step look s) ≡ where_is s
 unfolding wave_step
 wave_rest look s =
     if_same where_left (s.voice.wave_ptr == 0) _ _ (where_is s) refl (row_rest look (look.row Wave s.voice.wave_ptr) s)
@@ -111,14 +111,14 @@ pulse_rest look v =
 
 -- ---- the step
 
-effected_rest : (o : Options) (look : LookUps) (w : Waved) → where_is (effect_done o look w) ≡ where_left w
+pub effected_rest : (o : Options) (look : LookUps) (w : Waved) → where_is (effect_done o look w) ≡ where_left w
 effected_rest o look w =
     if_same where_is (w.effect && not (o.skip_effects && (w.playing.voice.tick == 0))) _ w.playing (where_left w)
     (effect_rest look w.playing.voice) refl
 
 pulsed_rest : (o : Options) (look : LookUps) (s : Playing) → where_is (pulse_done o look s) ≡ where_is s
 pulsed_rest o look s =
-    if_same where_is (o.skip_pulse && (s.voice.tick == s.voice.gate_timer)) s _ (where_is s) refl (pulse_rest look s.voice)
+    if_same where_is (pulse_left_out o s.voice) s _ (where_is s) refl (pulse_rest look s.voice)
 
 pub sounded_rest : (o : Options) (look : LookUps) (channel : ℕ) (s : Playing) →
     rest_of (sounded o look (tick_step channel look s)).voice ≡ rest_of s.voice

@@ -16,9 +16,10 @@ use Rattle.packed_form.specs.Unpacked.{unpacked_song}
 use Rattle.blocks.specs.Desk.{Desk, Layout}
 use Rattle.blocks.specs.Meaning.{meaning}
 use Rattle.player_parts.specs.PlayerLists.{HasLists}
-use Rattle.player_parts.specs.Holds.{Holds, nothing_on}
+use Rattle.player_parts.specs.Holds.{Fetching, Holds, nothing_on}
 use Rattle.player_parts.proofs.Laws.{VoiceDesk, Reader, Leads, leads_on, reader, Done, seen, desk_seen, ground_of, led}
-use Rattle.player_parts.proofs.Laws.{done_holds, holds_after, leaves_after}
+use Rattle.player_parts.proofs.Laws.{Rest, held_voice, done_holds, holds_after, leaves_after}
+use Rattle.player_tick.proofs.Laws.{tick_rest}
 use Rattle.player_tick.specs.TickBlock.{tick_tree}
 use Rattle.player_wave.specs.WaveBlock.{wave_tree}
 use Rattle.player_effect.specs.EffectBlock.{effect_tree, back_tree}
@@ -27,7 +28,7 @@ use Rattle.player_voice.specs.StepBlock.{going_on_tree, step_tree}
 use Rattle.player_voice.specs.StepLaws.{StepBlockSteps, StepsAreWhole}
 use Rattle.player_voice.specs.Turns.{look_of, state_before, turn_in, ticked_at, sounded, with_step_done, started_on}
 use Rattle.player_voice.proofs.Scenes.{Scene, order_in, rules_range, rules_safe}
-use Rattle.player_voice.proofs.Rests.{sounded_rest}
+use Rattle.player_voice.proofs.Rests.{wave_rest, effected_rest, sounded_rest}
 use Rattle.player_voice.proofs.Kept.{ticked_range, ticked_safe, effect_range, effect_safe}
 use Rattle.player_voice.proofs.Stages.{Comes}
 use Rattle.player_voice.proofs.TickStage.{TickedTo, tick_stage}
@@ -67,11 +68,12 @@ effected_comes packed song layout o k voice x t d m n scene comes done =
 
 going_on_leads : (packed : PackedSong) (song : Song) (layout : Layout) (o : Options) (k voice : ℕ) (x : FrameState)
     (at : ℕ → ℕ) (t : Playing) (d m : VoiceDesk) → Scene packed song layout o k voice x → HasLists layout packed at →
-    GoesOn (turn_in packed o k voice x) t → Comes packed k voice t nothing_on d m →
+    GoesOn (turn_in packed o k voice x) t →
+    Fetching layout packed (order_in packed k voice) t.voice.plays t.voice.row d.own → Comes packed k voice t nothing_on d m →
     Leads (reader layout packed voice at) going_on_tree
     (Done voice (pulse_done o (look_of packed) (effect_done o (look_of packed) (wave_step (look_of packed) t))) nothing_on d)
     m
-going_on_leads packed song layout o k voice x at t d m scene has goes comes =
+going_on_leads packed song layout o k voice x at t d m scene has goes fetching comes =
     leads_on r wave_tree (WavedTo voice look t d)
     (Leads r effect_tree (Leads r back_tree (Leads r pulse_tree Goal))) m waved
     (wave_stage packed song layout o k voice x at t d m scene has goes comes)
@@ -88,9 +90,15 @@ going_on_leads packed song layout o k voice x at t d m scene has goes comes =
     Goal : VoiceDesk → Type 0
     Goal = Done voice (pulse_done o look effected) nothing_on d
 
+    -- the wave step and the effect step leave the voice where it is in its song
+    there : Fetching layout packed (order_in packed k voice) effected.voice.plays effected.voice.row d.own
+    there =
+        let rest = effected_rest o look (wave_step look t) ∙ wave_rest look t in
+        subst (λ (r : Rest). Fetching layout packed (order_in packed k voice) r.plays r.row d.own) (sym rest) fetching
+
     pulsed : (q : VoiceDesk) → Done voice effected nothing_on d q → Leads r pulse_tree Goal q
     pulsed q h =
-        pulse_stage packed song layout o k voice x at t effected d q scene has goes refl
+        pulse_stage packed song layout o k voice x at t effected d q scene has goes refl there
         (effected_comes packed song layout o k voice x t d m q scene comes h)
 
     backed : (q : VoiceDesk) → Done voice effected nothing_on d q → Leads r back_tree (Leads r pulse_tree Goal) q
@@ -140,6 +148,14 @@ step_leads packed song layout o k voice x desk scene held =
     t : Ticked
     t = ticked_at (turn_in packed o k voice x)
 
+    -- the tick step leaves the voice where it is in its song
+    there : Fetching layout packed (order_in packed k voice) t.playing.voice.plays t.playing.voice.row d.own
+    there =
+        let before = state_before packed o k voice x in
+        let rest = tick_rest (voice + 1) (look_of packed) (playing_of (voice + 1) before) in
+        subst (λ (r : Rest). Fetching layout packed (order_in packed k voice) r.plays r.row d.own) (sym rest)
+        (held_voice layout packed k voice nothing_on before desk.at scene.few held).fetching
+
     started : (m : VoiceDesk) → TickedTo voice t d m → t.started ≡ true →
         Done voice (sounded o (look_of packed) t) (started_on t.started) d m
     started m h e =
@@ -151,7 +167,7 @@ step_leads packed song layout o k voice x desk scene held =
         subst (λ z. Leads r going_on_tree (Done voice (sounded o (look_of packed) t) (started_on z) d) m) (sym e)
         (subst (λ u. Leads r going_on_tree (Done voice u nothing_on d) m) (sym (going_is o (look_of packed) t e))
         (going_on_leads packed song layout o k voice x desk.at t.playing d m scene held.lists
-        (record { waits = e; left = refl })
+        (record { waits = e; left = refl }) there
         (record {
           done = subst (λ z. Done voice t.playing (started_on z) d m) e h.done;
           range = ticked_range packed song layout o k voice x scene;
