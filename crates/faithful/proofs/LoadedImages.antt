@@ -230,7 +230,7 @@ module _ (init play : List Op) (passed : passes init play ≡ true) where
   play_denied outside next is held sp place i same differs f =
       unequal _ _ differs
       (play_register outside no_options f next is held sp place i same
-      ∙ ap (λ (r : List ℕ). slice_index r i) (silent_trace 1 0 0 (omega arith) (inl refl)))
+      ∙ ap (λ (r : List ℕ). slice_index r i) (silent_trace _ 1 0 0 (omega arith) (inl refl)))
 
   -- a byte at another's place
   pub place_denied : (q : ℕ) → q < MEMORY_SIZE → is_own (length image) no_options 0xFD q ≡ false →

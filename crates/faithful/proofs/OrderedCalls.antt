@@ -203,7 +203,7 @@ module _ (opcode : ℕ) (init play : List Op) (steps more : ℕ) (begins : IsBeg
         after = c.after;
         leaves = leaves machine 0x1003 number target more play is has safe own (replicate 24 0 ++ 15 ∷ [])
             (trace_with no_options silence 0 (suc i)) begins.play_leaves begins.few.1
-            (sym (silent_trace 1 0 i (omega arith) (inl refl)));
+            (sym (silent_trace _ 1 0 i (omega arith) (inl refl)));
         timer = λ fast. absurd (omega arith);
         goes_on = plays_on (suc i) n c.after kept;
       }

@@ -128,8 +128,8 @@ pub record IsRight (o : Options) (song : Song) (init play : List Op) (steps more
   pub play_ports : stores_pass (is_port o) play ≡ true
   pub init_leaves : LeavesSo init steps (replicate 25 0)
   pub play_leaves : LeavesSo play more (replicate 24 0 ++ 15 ∷ [])
-  pub timer_set : 1 < o.speed → (s : State) → ((all_done init s).at timer_low ≡ timer_value o.speed % 256)
-      × ((all_done init s).at timer_high ≡ timer_value o.speed / 256)
+  pub timer_set : 1 < o.speed → (s : State) → ((all_done init s).at timer_low ≡ timer_value o.system o.speed % 256)
+      × ((all_done init s).at timer_high ≡ timer_value o.system o.speed / 256)
   pub timer_kept : (s : State) → ((all_done play s).at timer_low ≡ s.at timer_low)
       × ((all_done play s).at timer_high ≡ s.at timer_high)
   pub frames : (k n : ℕ) → k < length (playable_subtunes song) →

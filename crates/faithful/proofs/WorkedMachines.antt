@@ -18,6 +18,9 @@ timers_are_told = record {
   set = λ fast. record { low = refl; high = refl };
   low_not_set = λ h. (let e : 0x64 ≡ 0x63 = (h (lit< tt)).low in omega arith);
   high_not_set = λ h. (let e : 0x27 ≡ 0x26 = (h (lit< tt)).high in omega arith);
+  ntsc_set = λ fast. record { low = refl; high = refl };
+  ntsc_low_not_set = λ h. (let e : 0x63 ≡ 0x62 = (h (lit< tt)).low in omega arith);
+  ntsc_high_not_set = λ h. (let e : 0x26 ≡ 0x21 = (h (lit< tt)).high in omega arith);
   free = λ fast. absurd (omega arith);
   low_changed = λ h. (let e : 0x64 ≡ 0x63 = h.low in omega arith);
   high_changed = λ h. (let e : 0x27 ≡ 0x26 = h.high in omega arith);

@@ -18,7 +18,7 @@ pub record HasTimer (machine : Machine) (value : ℕ) : Type 0 where
 
 -- init sets the timer, where the speed is above 1
 abbrev pub SetsTimer : Options → Machine → Type 0
-SetsTimer options after = 1 < options.speed → HasTimer after (timer_value options.speed)
+SetsTimer options after = 1 < options.speed → HasTimer after (timer_value options.system options.speed)
 
 -- play leaves it as it finds it
 pub record SameTimer (machine after : Machine) : Type 0 where

@@ -1,5 +1,6 @@
--- Small images at $1000 for a silent song, worked by hand: two that play it, whatever else is in memory, at the speeds 1
--- and 2; images that play it in order alone; and images beside them, each of which goes wrong in one thing.
+-- Small images at $1000 for a silent song, worked by hand: three that play it, whatever else is in memory, at the speed 1
+-- and at the speed 2 of either system; images that play it in order alone; and images beside them, each of which goes
+-- wrong in one thing.
 use Rattle.std.specs.Prelude.{ℕ, List, [], ◌∷◌, ◌++◌, map}
 use Rattle.std.specs.List.{range_with_len}
 use Rattle.song_model.specs.declared.songs.Song.{Song}
@@ -10,7 +11,7 @@ use Rattle.faithful.specs.Faithful.{IsFaithful}
 use Rattle.faithful.specs.Histories.{PlaysAlways}
 use Rattle.faithful.specs.Isolation.{IsIsolated}
 use Rattle.faithful.specs.Routines.{Op, LoadA, LoadX, FetchA, StoreA, StoreX, SkipNop, Wait, image_with, image_of}
-use Rattle.faithful.specs.WorkedPlaces.{twice}
+use Rattle.faithful.specs.WorkedPlaces.{twice, twice_on_ntsc}
 
 -- ---- the right images
 
@@ -37,6 +38,10 @@ StandsAlone init play = IsIsolated (image_of init play) 0x1000 silence
 abbrev pub timed : List Op
 timed = leave 0 ++ store 0x63 0xDC04 ++ store 0x26 0xDC05
 
+-- and for NTSC to 8,546, which is $2162
+abbrev pub timed_for_ntsc : List Op
+timed_for_ntsc = leave 0 ++ store 0x62 0xDC04 ++ store 0x21 0xDC05
+
 -- the silent song twice
 abbrev pub two_silences : Song
 two_silences = record silence {
@@ -49,6 +54,7 @@ two_silences = record silence {
 pub record RightImagesPlay : Type 0 where
   pub at_one : Plays (leave 0) (leave 15) silence no_options
   pub at_two : Plays timed (leave 15) silence twice
+  pub on_ntsc : Plays timed_for_ntsc (leave 15) silence twice_on_ntsc
   pub second : Plays (leave 0) (leave 15) two_silences no_options
   pub always : PlaysAlways (image_of (leave 0) (leave 15)) 0x1000 0xFC silence no_options
   pub alone : StandsAlone (leave 0) (leave 15)
@@ -102,10 +108,12 @@ pub record StoresAreTold : Type 0 where
   pub same_byte :
       ¬ PlaysAlways (image_of (FetchA 0x0400 ∷ StoreA 0x0400 ∷ leave 0) (leave 15)) 0x1000 0xFC silence no_options
 
--- at speed 2 init leaves $2763 for $2663, and play changes the high byte
+-- at speed 2 init leaves $2763 for $2663, and play changes the high byte; and init sets the timer of the other system
 pub record TimerBytesAreTold : Type 0 where
   pub set : ¬ Plays (leave 0 ++ store 0x63 0xDC04 ++ store 0x27 0xDC05) (leave 15) silence twice
   pub kept : ¬ Plays timed (leave 15 ++ store 0x27 0xDC05) silence twice
+  pub for_pal : ¬ Plays timed (leave 15) silence twice_on_ntsc
+  pub for_ntsc : ¬ Plays timed_for_ntsc (leave 15) silence twice
 
 -- init, and play after it, that depend on the byte at $0400: by the volume; by the steps alone, where BEQ passes over a
 -- NOP; by a byte of the image alone; and play whose volume is the number that it is entered with

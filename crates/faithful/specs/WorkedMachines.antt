@@ -9,7 +9,7 @@ use Rattle.faithful.specs.Faithful.{AgreesOn}
 use Rattle.faithful.specs.Histories.{most_call_steps}
 use Rattle.faithful.specs.Isolation.{EndAlike}
 use Rattle.faithful.specs.Timers.{HasTimer, SetsTimer, SameTimer, KeepsTimer}
-use Rattle.faithful.specs.WorkedPlaces.{twice}
+use Rattle.faithful.specs.WorkedPlaces.{twice, twice_on_ntsc}
 
 -- a machine that holds an image at $1000, and zeros elsewhere
 abbrev pub machine_with : List ℕ → Machine
@@ -24,7 +24,7 @@ with_byte place byte machine = record machine { memory = slice_set machine.memor
 abbrev pub with_timer : ℕ → ℕ → Machine
 with_timer low high = with_byte 0xDC05 high (with_byte 0xDC04 low (machine_with []))
 
--- the timer's value at speed 2 is 9827, which is $2663
+-- the timer's value at speed 2 is 9827, which is $2663; and 8546, which is $2162, for NTSC
 pub record TimersAreTold : Type 0 where
   pub right : HasTimer (with_timer 0x63 0x26) 9827
   pub wrong_low : ¬ HasTimer (with_timer 0x64 0x26) 9827
@@ -32,6 +32,9 @@ pub record TimersAreTold : Type 0 where
   pub set : SetsTimer twice (with_timer 0x63 0x26)
   pub low_not_set : ¬ SetsTimer twice (with_timer 0x64 0x26)
   pub high_not_set : ¬ SetsTimer twice (with_timer 0x63 0x27)
+  pub ntsc_set : SetsTimer twice_on_ntsc (with_timer 0x62 0x21)
+  pub ntsc_low_not_set : ¬ SetsTimer twice_on_ntsc (with_timer 0x63 0x21)
+  pub ntsc_high_not_set : ¬ SetsTimer twice_on_ntsc (with_timer 0x62 0x26)
   pub free : SetsTimer no_options (with_timer 0x64 0x27)
   pub low_changed : ¬ SameTimer (with_timer 0x63 0x26) (with_timer 0x64 0x26)
   pub high_changed : ¬ SameTimer (with_timer 0x63 0x26) (with_timer 0x63 0x27)

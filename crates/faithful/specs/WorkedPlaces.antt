@@ -1,7 +1,8 @@
 -- Places that a call may write, and places beside them, worked by hand; and what some calls came to.
 use Rattle.std.specs.Prelude.{◌≡◌, ℕ, [], ◌∷◌, Some, None}
 use Rattle.play_model.specs.declared.options.Options.{Options}
-use Rattle.play_model.specs.State.{no_options}
+use Rattle.play_model.specs.declared.options.System.TheVariants.{Ntsc}
+use Rattle.play_model.specs.State.{no_options, at_speed}
 use Rattle.faithful.specs.Confined.{IsOwnPlace}
 use Rattle.faithful.specs.Histories.{Init, Play, since_init}
 
@@ -11,7 +12,10 @@ abbrev pub IsOwn : Options → ℕ → ℕ → Type 0
 IsOwn options sp place = IsOwnPlace 16 0x1000 0xFC options sp place
 
 abbrev pub twice : Options
-twice = record no_options { speed = 2 }
+twice = at_speed 2
+
+abbrev pub twice_on_ntsc : Options
+twice_on_ntsc = record twice { system = Ntsc }
 
 pub record PlacesAreWorked : Type 0 where
   -- the first and the last byte of the image, and the places beside them

@@ -46,9 +46,9 @@ pub fn worked_machines()
     ensures pairs { PairsAreTold }
 {}
 
-/// Small images that play the silent song, at the speeds 1 and 2, whatever else is in memory; images that play it in order
-/// alone; and images beside them, each with one thing that is wrong: a register, the steps, a place, the timer, or what a
-/// call depends on.
+/// Small images that play the silent song, at the speed 1 and at the speed 2 of either system, whatever else is in memory;
+/// images that play it in order alone; and images beside them, each with one thing that is wrong: a register, the steps,
+/// a place, the timer, or what a call depends on.
 #[tactic(auto, using(crate::proofs::WorkedImages::right_images_play, crate::proofs::WrongOrders::order_is_told, crate::proofs::WrongRegisters::registers_are_told, crate::proofs::WrongRegisters::steps_are_told, crate::proofs::WrongStores::stores_are_told, crate::proofs::WrongTimers::timer_bytes_are_told, crate::proofs::WrongDependences::dependences_are_told))]
 pub fn worked_images()
     ensures right { RightImagesPlay }

@@ -126,17 +126,17 @@ init_registers {packed = packed} {place = place} {options = options} {lists = li
 
 -- ---- the timer
 
-low_set : (speed before : ℕ) → 1 < speed → timer_byte speed Low before ≡ timer_value speed % 256
-low_set speed before h = rw (lt-ltb 1 speed h) refl
+low_set : (o : Options) (before : ℕ) → 1 < o.speed → timer_byte o Low before ≡ timer_value o.system o.speed % 256
+low_set o before h = rw (lt-ltb 1 o.speed h) refl
 
-high_set : (speed before : ℕ) → 1 < speed → timer_byte speed High before ≡ timer_value speed / 256
-high_set speed before h = rw (lt-ltb 1 speed h) refl
+high_set : (o : Options) (before : ℕ) → 1 < o.speed → timer_byte o High before ≡ timer_value o.system o.speed / 256
+high_set o before h = rw (lt-ltb 1 o.speed h) refl
 
-low_left : (speed before : ℕ) → speed ≤ 1 → timer_byte speed Low before ≡ before
-low_left speed before h = rw (le-ltb 1 speed h) refl
+low_left : (o : Options) (before : ℕ) → o.speed ≤ 1 → timer_byte o Low before ≡ before
+low_left o before h = rw (le-ltb 1 o.speed h) refl
 
-high_left : (speed before : ℕ) → speed ≤ 1 → timer_byte speed High before ≡ before
-high_left speed before h = rw (le-ltb 1 speed h) refl
+high_left : (o : Options) (before : ℕ) → o.speed ≤ 1 → timer_byte o High before ≡ before
+high_left o before h = rw (le-ltb 1 o.speed h) refl
 
 pub init_timer : {packed : PackedSong} {song : Song} {place : Place} {options : Options} {lists : List Line}
     {bytes : List ℕ} → Player packed song place options lists bytes → (k : ℕ) (machine : Machine) →
@@ -145,9 +145,9 @@ pub init_timer : {packed : PackedSong} {song : Song} {place : Place} {options : 
     (r : Returns (init_entrance (plan_of packed place options lists)) machine k) → SetsTimer options r.after
 init_timer {packed = packed} {place = place} {options = options} {lists = lists} p k machine begun r fast = record {
   low = ap (λ (at : ℕ → ℕ). at 0xDC04) (init_memory packed place options lists machine k r) ∙ begun.timer Low
-      ∙ low_set options.speed _ fast;
+      ∙ low_set options _ fast;
   high = ap (λ (at : ℕ → ℕ). at 0xDC05) (init_memory packed place options lists machine k r) ∙ begun.timer High
-      ∙ high_set options.speed _ fast;
+      ∙ high_set options _ fast;
 }
 
 -- ---- where it writes
@@ -170,13 +170,13 @@ desk_other {packed = packed} {place = place} {options = options} {lists = lists}
     (λ e. away (subtune_own a sp q e))
 
 -- a byte of the timer, where it isn't set
-left_low : (after before : ℕ → ℕ) (speed q : ℕ) → after 0xDC04 ≡ timer_byte speed Low (before 0xDC04) → speed ≤ 1 →
+left_low : (after before : ℕ → ℕ) (o : Options) (q : ℕ) → after 0xDC04 ≡ timer_byte o Low (before 0xDC04) → o.speed ≤ 1 →
     q ≡ 0xDC04 → after q ≡ before q
-left_low after before speed q is slow e = ap after e ∙ is ∙ low_left speed _ slow ∙ ap before (sym e)
+left_low after before o q is slow e = ap after e ∙ is ∙ low_left o _ slow ∙ ap before (sym e)
 
-left_high : (after before : ℕ → ℕ) (speed q : ℕ) → after 0xDC05 ≡ timer_byte speed High (before 0xDC05) → speed ≤ 1 →
+left_high : (after before : ℕ → ℕ) (o : Options) (q : ℕ) → after 0xDC05 ≡ timer_byte o High (before 0xDC05) → o.speed ≤ 1 →
     q ≡ 0xDC05 → after q ≡ before q
-left_high after before speed q is slow e = ap after e ∙ is ∙ high_left speed _ slow ∙ ap before (sym e)
+left_high after before o q is slow e = ap after e ∙ is ∙ high_left o _ slow ∙ ap before (sym e)
 
 begin_own : {packed : PackedSong} {place : Place} {options : Options} {lists : List Line} {bytes : List ℕ} →
     Assembled packed place options lists bytes → (sp q : ℕ) → q ≢ 0xDC04 → q ≢ 0xDC05 →
@@ -203,11 +203,11 @@ init_leaves {packed = packed} {place = place} {options = options} {lists = lists
     (meaning (layout_of (plan_of packed place options lists)) (init_tree options) 0
     (init_desk packed place options lists machine k)).at in
     elim (cases_eq q 0xDC04) [
-      | inl e ↦ let f = e in left_low after before options.speed q (begun.timer Low) (slow (inl f)) f
+      | inl e ↦ let f = e in left_low after before options q (begun.timer Low) (slow (inl f)) f
       | inr n ↦
           let low = n in
           elim (cases_eq q 0xDC05) [
-            | inl e ↦ let f = e in left_high after before options.speed q (begun.timer High) (slow (inr f)) f
+            | inl e ↦ let f = e in left_high after before options q (begun.timer High) (slow (inr f)) f
             | inr n ↦ let high = n in begun.leaves q (λ may. away (begin_own a sp q low high may))
           ]
     ]

@@ -21,5 +21,7 @@ mod Untimed
 mod Whole
 mod Spanned
 mod Imaged
+mod Alone
+mod Systems
 mod WorkedImages
 mod WorkedSpans

@@ -153,7 +153,8 @@ keeps_used packed song place options lists k i stands small speed below feature 
 pub keeps_options : (packed : PackedSong) (place : Place) (options : Options) (lists : List Line) →
     packed.features.0 < 2 ^ 24 → KeepsOptions (layout_of (plan_of packed place options lists)) options
 keeps_options packed place options lists small =
-    let kept = sets_are_kept packed.features.0 options small in record { effects = kept.effects; pulse = kept.pulse }
+    let kept = sets_are_kept packed.features.0 options small in
+    record { effects = kept.effects; pulse = kept.pulse; first = kept.first }
 
 pub keeps_timer : (packed : PackedSong) (place : Place) (options : Options) (lists : List Line) →
     packed.features.0 < 2 ^ 24 →

@@ -87,7 +87,7 @@ spans_all code a b =
     ∙ frequencies_sum (spans_size code) frequencies frequencies
 
 -- the lengths of parts that there aren't
-no_length : (part : ℕ) → 27 ≤ part → slice_index PART_LENGTHS part ≡ 0
+no_length : (part : ℕ) → 28 ≤ part → slice_index PART_LENGTHS part ≡ 0
 no_length part h = get_or_past PART_LENGTHS part 0 h
 
 kept_other : (set part : ℕ) → nat_eq part 255 ≡ false → nat_lt part 32 ≡ true →
@@ -110,7 +110,7 @@ whole n all e = omega (arith, e)
 plain : (n : ℕ) → n + 0 + 0 ≡ n
 plain n = omega arith
 
-far : (n : ℕ) → 32 ≤ n → 27 ≤ n
+far : (n : ℕ) → 32 ≤ n → 28 ≤ n
 far n h = omega (arith, h)
 
 -- each part has its length

@@ -87,10 +87,10 @@ behind_three set a b c one two e =
     (kept_behind set b (c ++ one) (c ++ two) (kept_behind set c one two e))
 
 -- the timer's lines are in one part
-timer_gone : (set pointer first speed : ℕ) → bit_kept set TIMER_BIT ≡ false →
+timer_gone : (set pointer first : ℕ) (options : Options) → bit_kept set TIMER_BIT ≡ false →
     SameKept set (lines pointer every 255 first (ThenTree NoneTree NoneTree))
-    (lines pointer every 255 first (ThenTree (WhenTree TIMER_BIT (timer_tree speed)) NoneTree))
-timer_gone set pointer first speed gone = record { same = rw gone refl }
+    (lines pointer every 255 first (ThenTree (WhenTree TIMER_BIT (timer_tree options.system options.speed)) NoneTree))
+timer_gone set pointer first options gone = record { same = rw gone refl }
 
 block_same : (set pointer first : ℕ) (options : Options) → bit_kept set TIMER_BIT ≡ false →
     SameKept set (all_lines pointer first (untimed_tree options)) (all_lines pointer first (init_tree options))
@@ -102,8 +102,8 @@ block_same set pointer first options gone =
     (lines pointer every 255 two (shared_tree options.speed))
     (lines pointer every 255 three (EachVoiceTree (voice_tree options.speed)))
     (lines pointer every 255 four (ThenTree NoneTree NoneTree))
-    (lines pointer every 255 four (ThenTree (WhenTree TIMER_BIT (timer_tree options.speed)) NoneTree))
-    (timer_gone set pointer four options.speed gone)
+    (lines pointer every 255 four (ThenTree (WhenTree TIMER_BIT (timer_tree options.system options.speed)) NoneTree))
+    (timer_gone set pointer four options gone)
 
 lines_same : (set : ℕ) (a b c one two d e : List Line) → SameKept set one two →
     SameKept set ((a ++ (b ++ (c ++ (one ++ d)))) ++ e) ((a ++ (b ++ (c ++ (two ++ d)))) ++ e)

@@ -1,9 +1,10 @@
 -- Images that are worked by hand are as they say.
 use Rattle.std.proofs.Common.{◌≡◌, ℕ, ◌<◌, refl, sym, arith}
 use Rattle.play_model.specs.State.{no_options}
+use Rattle.play_model.specs.WorkedRuns.{all_left_out}
 use Rattle.packed_form.specs.declared.packed_songs.PackedSong.{PackedSong}
 use Rattle.image_build.specs.Lengths.{image_length}
-use Rattle.image_build.specs.WorkedImages.{SilencesAreMeasured, IsPlayedNote, NotesAreMeasured, NotesHaveRoom, VariablesAreWorked, sparing}
+use Rattle.image_build.specs.WorkedImages.{SilencesAreMeasured, IsPlayedNote, NotesAreMeasured, NotesHaveRoom, VariablesAreWorked}
 
 pub silences_are_measured : SilencesAreMeasured
 silences_are_measured packed is = record {
@@ -18,7 +19,7 @@ note_length packed is =
     let l = is.lists in
     rw (l.subtunes, l.patterns, l.instruments, l.wave, l.pulse, l.filter, l.speed, is.features) refl
 
-note_length_all : (packed : PackedSong) → IsPlayedNote packed → image_length packed sparing ≡ 1454
+note_length_all : (packed : PackedSong) → IsPlayedNote packed → image_length packed (all_left_out 4) ≡ 1511
 note_length_all packed is =
     let l = is.lists in
     rw (l.subtunes, l.patterns, l.instruments, l.wave, l.pulse, l.filter, l.speed, is.features) refl

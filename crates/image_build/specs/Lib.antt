@@ -7,8 +7,9 @@ pub mod Starts
 pub mod Built
 -- Inner: spans without a gap.
 pub mod Joined
--- Claimed: numbers of images.
+-- Claimed: numbers of images, and images for another system.
 pub mod LengthLaws
+pub mod Systems
 -- Worked by hand.
 pub mod WorkedImages
 pub mod WorkedSpans

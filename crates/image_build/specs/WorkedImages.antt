@@ -2,7 +2,8 @@
 use Rattle.std.specs.Prelude.{◌≡◌, ℕ, List, [], ◌∷◌, length, map, slice_index, true}
 use Rattle.std.specs.List.{range_with_len}
 use Rattle.play_model.specs.declared.options.Options.{Options}
-use Rattle.play_model.specs.State.{no_options}
+use Rattle.play_model.specs.State.{no_options, at_speed}
+use Rattle.play_model.specs.WorkedRuns.{all_left_out}
 use Rattle.packed_form.specs.declared.packed_songs.PackedSubtune.{PackedSubtune}
 use Rattle.packed_form.specs.declared.packed_songs.PackedSong.{PackedSong}
 use Rattle.packed_form.specs.WorkedUnpacked.{IsPackedNote}
@@ -10,12 +11,9 @@ use Rattle.player_parts.specs.declared.labels.TheConstants.{VARIABLES}
 use Rattle.player_seq.specs.StartVariables.{start_variable}
 use Rattle.image_build.specs.Lengths.{image_length, IsTooLarge}
 
--- all is left out, four times a picture; and two frames for each picture
-abbrev pub sparing : Options
-sparing = record { skip_effects = true; skip_pulse = true; speed = 4 }
-
+-- two frames for each picture
 abbrev pub twice : Options
-twice = record no_options { speed = 2 }
+twice = at_speed 2
 
 -- ---- lengths
 
@@ -33,10 +31,10 @@ pub record IsPackedSilence (packed : PackedSong) : Type 0 where
   pub speed : packed.speed ≡ []
   pub features : packed.features.0 ≡ 0
 
--- 28 bytes of the packed song and the 1,255 of each player; 15, 33 and 10 more where all three options are on
+-- 28 bytes of the packed song and the 1,255 of each player; 15, 33, 10 and 57 more where all four options are on
 pub record SilenceIsMeasured (packed : PackedSong) : Type 0 where
   pub with_none : image_length packed no_options ≡ 1283
-  pub with_all : image_length packed sparing ≡ 1341
+  pub with_all : image_length packed (all_left_out 4) ≡ 1398
 
 abbrev pub SilencesAreMeasured : Type 0
 SilencesAreMeasured = (packed : PackedSong) → IsPackedSilence packed → SilenceIsMeasured packed
@@ -48,7 +46,7 @@ pub record IsPlayedNote (packed : PackedSong) : Type 0 where
 
 pub record NoteIsMeasured (packed : PackedSong) : Type 0 where
   pub with_none : image_length packed no_options ≡ 1396
-  pub with_all : image_length packed sparing ≡ 1454
+  pub with_all : image_length packed (all_left_out 4) ≡ 1511
 
 abbrev pub NotesAreMeasured : Type 0
 NotesAreMeasured = (packed : PackedSong) → IsPlayedNote packed → NoteIsMeasured packed

@@ -26,7 +26,7 @@ use image_code::code_listing;
 use image_lists::data_listing;
 use packed_form::PackedSong;
 use play_model::Options;
-use player_parts::{Place, SKIP_EFFECTS_BIT, SKIP_PULSE_BIT, TIMER_BIT};
+use player_parts::{Place, SKIP_EFFECTS_BIT, SKIP_FIRST_BIT, SKIP_PULSE_BIT, TIMER_BIT};
 use song_model::FeatureBits;
 use std::alloc::Global;
 
@@ -53,7 +53,8 @@ fn kept_set(features: FeatureBits, options: &Options) -> PartSet
         features.0
             + option_bit(options.skip_effects, SKIP_EFFECTS_BIT)
             + option_bit(options.skip_pulse, SKIP_PULSE_BIT)
-            + option_bit(options.speed.calls() > 1, TIMER_BIT),
+            + option_bit(options.speed.calls() > 1, TIMER_BIT)
+            + option_bit(options.skip_first, SKIP_FIRST_BIT),
     )
 }
 

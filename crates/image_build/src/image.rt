@@ -7,7 +7,7 @@ use std::marker::Model;
 /// Bytes of an image that belong to one part of the player.
 #[derive(Clone, Copy, Debug, PartialEq, Eq)]
 pub struct PartSpan {
-    /// The part: 0 to 23 for a feature's bit, 24 to 26 for an option's, 255 for what every image has.
+    /// The part: 0 to 23 for a feature's bit, 24 to 27 for an option's, 255 for what every image has.
     pub part: u8,
     /// The first of the bytes, counted from the image's first.
     pub start: u16,

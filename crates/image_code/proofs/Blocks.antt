@@ -2,6 +2,8 @@
 use Rattle.std.proofs.Common.{◌≡◌, ℕ, zero, suc, ◌<◌, ◌≤◌, ◌&&◌, Bool, true, false, nat_lt, refl, arith}
 use Rattle.std.proofs.lemmas.Bool.{lt-ltb}
 use Rattle.play_model.specs.declared.options.Options.{Options}
+use Rattle.play_model.specs.declared.options.System.{System}
+use Rattle.play_model.specs.declared.options.System.TheVariants.{Pal, Ntsc}
 use Rattle.play_model.specs.Speeds.{IsSpeed}
 use Rattle.blocks.specs.Places.{is_count, is_placed}
 use Rattle.blocks.specs.Counters.{counters_are_left}
@@ -50,15 +52,20 @@ play_fits count least most =
       named = play_known count;
     }
 
--- by the speed
-sound_by_speed : (speed : ℕ) (options : Options) → options.speed ≡ speed → IsSpeed speed →
-    is_sound (init_tree options) ≡ true
-sound_by_speed zero options e is = let least = is.least in absurd (omega (arith, least))
-sound_by_speed (suc zero) options e is = rw e refl
-sound_by_speed (suc (suc zero)) options e is = rw e refl
-sound_by_speed (suc (suc (suc zero))) options e is = rw e refl
-sound_by_speed (suc (suc (suc (suc zero)))) options e is = rw e refl
-sound_by_speed (suc (suc (suc (suc (suc more))))) options e is = let most = is.most in absurd (omega (arith, most))
+-- by the system and the speed
+sound_by_speed : (system : System) (speed : ℕ) (options : Options) → options.system ≡ system → options.speed ≡ speed →
+    IsSpeed speed → is_sound (init_tree options) ≡ true
+sound_by_speed system zero options s e is = let least = is.least in absurd (omega (arith, least))
+sound_by_speed Pal (suc zero) options s e is = rw (s, e) refl
+sound_by_speed Pal (suc (suc zero)) options s e is = rw (s, e) refl
+sound_by_speed Pal (suc (suc (suc zero))) options s e is = rw (s, e) refl
+sound_by_speed Pal (suc (suc (suc (suc zero)))) options s e is = rw (s, e) refl
+sound_by_speed Ntsc (suc zero) options s e is = rw (s, e) refl
+sound_by_speed Ntsc (suc (suc zero)) options s e is = rw (s, e) refl
+sound_by_speed Ntsc (suc (suc (suc zero))) options s e is = rw (s, e) refl
+sound_by_speed Ntsc (suc (suc (suc (suc zero)))) options s e is = rw (s, e) refl
+sound_by_speed system (suc (suc (suc (suc (suc more))))) options s e is =
+    let most = is.most in absurd (omega (arith, most))
 
 pub init_fits : (options : Options) → IsSpeed options.speed → IsFit (init_tree options)
-init_fits options is = record { sound = sound_by_speed options.speed options refl is; named = init_known options }
+init_fits options is = record { sound = sound_by_speed options.system options.speed options refl refl is; named = init_known options }

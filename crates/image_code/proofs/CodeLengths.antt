@@ -7,7 +7,7 @@ use Rattle.play_model.specs.declared.options.Options.{Options}
 use Rattle.blocks.specs.Sizes.{code_bytes, line_count}
 use Rattle.lowering.specs.Lowered.{bit_kept}
 use Rattle.player_parts.specs.declared.labels.TheConstants.{VARIABLES}
-use Rattle.player_parts.specs.declared.parts.TheConstants.{SKIP_EFFECTS_BIT, SKIP_PULSE_BIT, TIMER_BIT}
+use Rattle.player_parts.specs.declared.parts.TheConstants.{SKIP_EFFECTS_BIT, SKIP_PULSE_BIT, SKIP_FIRST_BIT, TIMER_BIT}
 use Rattle.player_seq.specs.InitBlock.{init_tree}
 use Rattle.player_frame.specs.PlayBlock.{play_tree}
 use Rattle.code_lengths.specs.Lengths.{always, kept_set, frequency_bytes, part_length, length_if}
@@ -73,22 +73,24 @@ code_has_its_length variables pointer options count features all small =
     let is = sets_are_kept features options small in
     let set = kept_set features options in
     let lines = code_lines variables pointer options count in
-    in_all _ _ _ _ _ _ _ _ _ _ _ _
+    in_all _ _ _ _ _ _ _ _ _ _ _ _ _ _
     (parts_add_up (kept_set features options) (code_lines variables pointer options count))
     (kept_sum (kept_set features options) 32 (code_lines variables pointer options count) part_length lengths.parts)
-    (all_sum (in_set (kept_set features options)) (nothing_if (bit_kept (kept_set features options) 27))
-    (nothing_if (bit_kept (kept_set features options) 28)) (nothing_if (bit_kept (kept_set features options) 29))
+    (all_sum (in_set (kept_set features options)) (nothing_if (bit_kept (kept_set features options) 28)) (nothing_if (bit_kept (kept_set features options) 29))
     (nothing_if (bit_kept (kept_set features options) 30)) (nothing_if (bit_kept (kept_set features options) 31)))
     (set_sum features options is) (option_length features SKIP_EFFECTS_BIT options options.skip_effects is.effects)
     (option_length features SKIP_PULSE_BIT options options.skip_pulse is.pulse)
-    (option_length features TIMER_BIT options (nat_lt 1 options.speed) is.timer) lengths.rest
+    (option_length features TIMER_BIT options (nat_lt 1 options.speed) is.timer)
+    (option_length features SKIP_FIRST_BIT options options.skip_first is.first) lengths.rest
   where
-    in_all : (n rest sizes sum part effects pulse timer features_length effects_length pulse_length timer_length : ℕ) →
-        n ≡ rest + sizes → sizes ≡ sum → sum ≡ part + effects + pulse + timer → part ≡ features_length →
-        effects ≡ effects_length → pulse ≡ pulse_length → timer ≡ timer_length → rest + 196 ≡ 1255 →
-        n + 196 ≡ 1255 + features_length + effects_length + pulse_length + timer_length
-    in_all n rest sizes sum part effects pulse timer features_length effects_length pulse_length timer_length a b c d e f
-        g h = omega arith
+    in_all : (n rest sizes sum part effects pulse timer first features_length effects_length pulse_length timer_length
+        first_length : ℕ) →
+        n ≡ rest + sizes → sizes ≡ sum → sum ≡ part + effects + pulse + timer + first → part ≡ features_length →
+        effects ≡ effects_length → pulse ≡ pulse_length → timer ≡ timer_length → first ≡ first_length →
+        rest + 196 ≡ 1255 →
+        n + 196 ≡ 1255 + features_length + effects_length + pulse_length + timer_length + first_length
+    in_all n rest sizes sum part effects pulse timer first features_length effects_length pulse_length timer_length
+        first_length a b c d e f g h i = omega arith
 
 -- ---- calls and listings
 
@@ -101,8 +103,8 @@ code_is_within_limits variables pointer options count all = record {
       (lines_of count options);
   bytes = count_data variables pointer (play_tree count) (init_tree options) ∙ all;
 } where
-  count_is : (lines n blocks : ℕ) → lines ≡ 9 + (n + n) + blocks → n ≡ VARIABLES → blocks ≡ 887 → lines ≤ 5000
+  count_is : (lines n blocks : ℕ) → lines ≡ 9 + (n + n) + blocks → n ≡ VARIABLES → blocks ≡ 915 → lines ≤ 5000
   count_is lines n blocks a b c = omega arith
 
-  lines_of : (few : ℕ) (options : Options) → line_count (play_tree few) + line_count (init_tree options) ≡ 887
+  lines_of : (few : ℕ) (options : Options) → line_count (play_tree few) + line_count (init_tree options) ≡ 915
   lines_of few options = refl

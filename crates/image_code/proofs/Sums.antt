@@ -13,10 +13,10 @@ below_same one two (suc n) same =
     let last = same n (omega arith) in
     omega (arith, rest, last)
 
--- of all parts, where there are three behind those of the features
-pub all_sum : (number : ℕ → ℕ) → number 27 ≡ 0 → number 28 ≡ 0 → number 29 ≡ 0 → number 30 ≡ 0 → number 31 ≡ 0 →
-    below number 32 ≡ below number 24 + number 24 + number 25 + number 26
-all_sum number a b c d e = omega arith
+-- of all parts, where there are four behind those of the features
+pub all_sum : (number : ℕ → ℕ) → number 28 ≡ 0 → number 29 ≡ 0 → number 30 ≡ 0 → number 31 ≡ 0 →
+    below number 32 ≡ below number 24 + number 24 + number 25 + number 26 + number 27
+all_sum number a b c d = omega arith
 
 -- the bytes of lines in the parts that are kept
 pub kept_sum : (set n : ℕ) (lines : List Line) (length_of : ℕ → ℕ) →
