@@ -1,90 +1,24 @@
 -- The words of the command line, and the job that they name.
-use Rattle.std.proofs.Common.{◌≡◌, ℕ, ◌≤◌, ◌<◌, ◌+◌, ◌*◌, ◌^◌, Bool, true, false, if◌then◌else◌, codes, List, [], ◌∷◌, subst, length, get_or, Result, Ok, Err, IfOk, OnErr, refl, sym, ap, ◌∙◌, String, arith}
-use Rattle.std.proofs.lemmas.Fmt.{decimal_injective}
+use Rattle.std.proofs.Common.{◌≡◌, ℕ, ◌≤◌, ◌<◌, ◌+◌, ◌-◌, ◌*◌, ◌^◌, Bool, true, false, if◌then◌else◌, codes, List, [], ◌∷◌, length, get_or, drop, Option, Some, None, subst, Result, Ok, Err, IfOk, OnErr, refl, sym, ap, ◌∙◌, String, arith}
+use Rattle.std.proofs.lemmas.Fmt.{decimal_injective, decimal_digit}
 use Rattle.std.specs.Global.{Global}
 use Rattle.std.specs.String.{string_bytes}
 use Rattle.std.specs.Str.{bytes_eq}
 use Rattle.std.specs.Option.{option_to_list}
 use Rattle.base.proofs.Laws.{same_head}
 use Rattle.play_model.specs.declared.options.Options.{Options}
+use Rattle.play_model.specs.declared.options.System.{System}
+use Rattle.play_model.specs.declared.options.System.TheVariants.{Pal, Ntsc}
 use Rattle.play_model.specs.Speeds.{IsSpeed}
+use Rattle.play_model.specs.State.{no_options}
+use Rattle.command_line.specs.declared.chip.Chip.{Chip}
+use Rattle.command_line.specs.declared.chip.Chip.TheVariants.{Mos6581, Mos8580}
 use Rattle.command_line.specs.declared.topics.Topic.{Topic}
 use Rattle.command_line.specs.declared.topics.Topic.TheVariants.{All, Check, Parts, Trace, Pack, Run, Show, Edit, Copy, Join, Disasm, Asm, Selftest, Help, Version}
 use Rattle.command_line.specs.Topics.{form_word}
 use Rattle.command_line.specs.Words as asked
-use Rattle.command_line.specs.Words.{Job, texts, format_word, skip_word, IsAddressWord, IsZeroPageWord, IsNumberWord, IsSpeedWord, AreOptionWords, unsaid, said, ArePackArguments, AreTraceArguments}
+use Rattle.command_line.specs.Words.{Job, texts, format_word, skip_word, system_word, chip_word, IsAddressWord, IsZeroPageWord, IsNumberWord, IsSpeedWord, AreOptionWords, unsaid, said, ArePackOptionWords, untold, told, ArePackArguments}
 use Rattle.command_line.specs.Forms.{WordsOf, command_of, command_named}
-
--- ---- a list of so many words
-
-pub five_texts : (ws : List (String Global)) (a b c d e : String Global) → 5 ≤ length ws → length ws < 6 →
-    a ≡ get_or ws 0 a → b ≡ get_or ws 1 b → c ≡ get_or ws 2 c → d ≡ get_or ws 3 d → e ≡ get_or ws 4 e →
-    texts ws ≡ string_bytes a ∷ string_bytes b ∷ string_bytes c ∷ string_bytes d ∷ string_bytes e ∷ []
-five_texts [] a b c d e l m p q r s t = absurd (omega arith)
-five_texts (x0 ∷ []) a b c d e l m p q r s t = absurd (omega arith)
-five_texts (x0 ∷ x1 ∷ []) a b c d e l m p q r s t = absurd (omega arith)
-five_texts (x0 ∷ x1 ∷ x2 ∷ []) a b c d e l m p q r s t = absurd (omega arith)
-five_texts (x0 ∷ x1 ∷ x2 ∷ x3 ∷ []) a b c d e l m p q r s t = absurd (omega arith)
-five_texts (x0 ∷ x1 ∷ x2 ∷ x3 ∷ x4 ∷ []) a b c d e l m p q r s t = cc
-five_texts (x0 ∷ x1 ∷ x2 ∷ x3 ∷ x4 ∷ x5 ∷ ws) a b c d e l m p q r s t = absurd (omega arith)
-
-pub three_texts : (ws : List (String Global)) (a b c : String Global) → 3 ≤ length ws → length ws < 4 →
-    a ≡ get_or ws 0 a → b ≡ get_or ws 1 b → c ≡ get_or ws 2 c →
-    texts ws ≡ string_bytes a ∷ string_bytes b ∷ string_bytes c ∷ []
-three_texts [] a b c l m p q r = absurd (omega arith)
-three_texts (x0 ∷ []) a b c l m p q r = absurd (omega arith)
-three_texts (x0 ∷ x1 ∷ []) a b c l m p q r = absurd (omega arith)
-three_texts (x0 ∷ x1 ∷ x2 ∷ []) a b c l m p q r = cc
-three_texts (x0 ∷ x1 ∷ x2 ∷ x3 ∷ ws) a b c l m p q r = absurd (omega arith)
-
-pub seven_texts : (ws : List (String Global)) (a b c d e f g : String Global) → 7 ≤ length ws → length ws < 8 →
-    a ≡ get_or ws 0 a → b ≡ get_or ws 1 b → c ≡ get_or ws 2 c → d ≡ get_or ws 3 d → e ≡ get_or ws 4 e →
-    f ≡ get_or ws 5 f → g ≡ get_or ws 6 g →
-    texts ws
-    ≡ string_bytes a ∷ string_bytes b ∷ string_bytes c ∷ string_bytes d ∷ string_bytes e ∷ string_bytes f
-    ∷ string_bytes g ∷ []
-seven_texts [] a b c d e f g l m p q r s t u v = absurd (omega arith)
-seven_texts (x0 ∷ []) a b c d e f g l m p q r s t u v = absurd (omega arith)
-seven_texts (x0 ∷ x1 ∷ []) a b c d e f g l m p q r s t u v = absurd (omega arith)
-seven_texts (x0 ∷ x1 ∷ x2 ∷ []) a b c d e f g l m p q r s t u v = absurd (omega arith)
-seven_texts (x0 ∷ x1 ∷ x2 ∷ x3 ∷ []) a b c d e f g l m p q r s t u v = absurd (omega arith)
-seven_texts (x0 ∷ x1 ∷ x2 ∷ x3 ∷ x4 ∷ []) a b c d e f g l m p q r s t u v = absurd (omega arith)
-seven_texts (x0 ∷ x1 ∷ x2 ∷ x3 ∷ x4 ∷ x5 ∷ []) a b c d e f g l m p q r s t u v = absurd (omega arith)
-seven_texts (x0 ∷ x1 ∷ x2 ∷ x3 ∷ x4 ∷ x5 ∷ x6 ∷ []) a b c d e f g l m p q r s t u v = cc
-seven_texts (x0 ∷ x1 ∷ x2 ∷ x3 ∷ x4 ∷ x5 ∷ x6 ∷ x7 ∷ ws) a b c d e f g l m p q r s t u v = absurd (omega arith)
-
--- ---- the arguments of `trace`
-
--- a skip and a speed say options
-pub options_said : (skip speed : List ℕ) (effects pulse : Bool) (calls : ℕ) → skip ≡ skip_word effects pulse →
-    IsNumberWord 4 speed calls → IsSpeed calls →
-    AreOptionWords (skip ∷ speed ∷ []) (record { skip_effects = effects; skip_pulse = pulse; speed = calls })
-options_said skip speed effects pulse calls is number allowed =
-    rw is
-    (said (record { skip_effects = effects; skip_pulse = pulse; speed = calls })
-    (record { spelled = number.spelled; allowed = allowed }))
-
--- the speed that words of two say
-record SaysSpeed (speed : List ℕ) : Type 0 where
-  calls : ℕ
-  word : IsSpeedWord speed calls
-
-said_speed : {words : List (List ℕ)} (skip speed : List ℕ) (o : Options) → words ≡ skip ∷ speed ∷ [] →
-    AreOptionWords words o → SaysSpeed speed
-said_speed skip speed o same unsaid = absurd (cc (same))
-said_speed skip speed o same (said {speed_word} o2 is) =
-    let here : speed_word ≡ speed = cc (same) in
-    record { calls = o2.speed; word = subst (λ w. IsSpeedWord w o2.speed) here is }
-
--- a number that is no speed says none
-pub no_speed : (skip speed : List ℕ) (calls : ℕ) → IsNumberWord 4 speed calls → (IsSpeed calls → ⊥) → (o : Options) →
-    AreOptionWords (skip ∷ speed ∷ []) o → ⊥
-no_speed skip speed calls number none o words =
-    let is = said_speed skip speed o refl words in
-    let same : is.calls ≡ calls =
-    decimal_injective is.calls calls (omega (arith, is.word.allowed.most)) (omega (arith, number.allowed))
-    (sym is.word.spelled ∙ number.spelled) in
-    none (subst IsSpeed same is.word.allowed)
 
 module _ {T E : Type 0} where
   pub ok_mapped : {P Q : T → Type 0} (r : Result T E) → ((x : T) → P x → Q x) → IfOk r P → IfOk r Q
@@ -95,29 +29,70 @@ module _ {T E : Type 0} where
   err_mapped (Ok x) f p = tt
   err_mapped (Err e) f p = f p
 
-pub no_options_said : (ws : List (List ℕ)) (a b c d e : List ℕ) → ws ≡ a ∷ b ∷ c ∷ d ∷ e ∷ [] →
-    ((o : Options) → AreOptionWords (d ∷ e ∷ []) o → ⊥) → (input : List ℕ) (subtune frames : ℕ) (o : Options) →
-    AreTraceArguments ws input subtune frames o → ⊥
-no_options_said ws a b c d e five none = λ input subtune frames o w.
-    let same : w.option_words ≡ d ∷ e ∷ [] = cc (five, w.form) in
-    none o (subst (λ words. AreOptionWords words o) same w.options_spelled)
+-- ---- how a song is played
+
+-- a number that is no speed says none
+pub no_speed : (word : List ℕ) (calls : ℕ) → IsNumberWord 4 word calls → (IsSpeed calls → ⊥) → (speed : ℕ) →
+    IsSpeedWord word speed → ⊥
+no_speed word calls number none speed is =
+    let same : speed ≡ calls =
+    decimal_injective speed calls (omega (arith, is.allowed.most)) (omega (arith, number.allowed))
+    (sym is.spelled ∙ number.spelled) in
+    none (subst IsSpeed same is.allowed)
+
+-- no words say the options of no words
+pub none_said : (words : List (String Global)) → length words < 1 → AreOptionWords (texts words) no_options
+none_said [] none = unsaid
+none_said (word ∷ words) none = absurd (omega arith)
+
+-- what four words say
+pub record Tells (skip speed system_said chip_said : List ℕ) : Type 0 where
+  pub options : Options
+  pub system : System
+  pub chip : Chip
+  pub are_options : AreOptionWords (skip ∷ speed ∷ []) options
+  pub is_system : system_said ≡ system_word system
+  pub is_chip : chip_said ≡ chip_word chip
+
+tells : {words : List (List ℕ)} {o : Options} {sid : Chip} (skip speed system_said chip_said : List ℕ) →
+    words ≡ skip ∷ speed ∷ system_said ∷ chip_said ∷ [] → ArePackOptionWords words o sid →
+    Tells skip speed system_said chip_said
+tells skip speed system_said chip_said same (untold unsaid) = absurd (cc (same))
+tells skip speed system_said chip_said same (untold (said o skips calls pal)) = absurd (cc (same))
+tells skip speed system_said chip_said same (told {options} are system chip) = record {
+  options = options;
+  system = system;
+  chip = chip;
+  are_options = subst (λ words. AreOptionWords words options) (cc (same)) are;
+  is_system = cc (same);
+  is_chip = cc (same);
+}
+
+-- words that say nothing are no words for a packed file
+pub none_told : (skip speed system_said chip_said : List ℕ) → (Tells skip speed system_said chip_said → ⊥) →
+    (o : Options) (sid : Chip) → ArePackOptionWords (skip ∷ speed ∷ system_said ∷ chip_said ∷ []) o sid → ⊥
+none_told skip speed system_said chip_said none o sid are = none (tells skip speed system_said chip_said refl are)
 
 -- ---- the arguments of `pack`
 
-pub no_pack_options : (ws : List (List ℕ)) (a b c d e f g : List ℕ) → ws ≡ a ∷ b ∷ c ∷ d ∷ e ∷ f ∷ g ∷ [] →
-    ((o : Options) → AreOptionWords (f ∷ g ∷ []) o → ⊥) →
-    (input output : List ℕ) (psid : Bool) (address zero_page : ℕ) (o : Options) →
-    ArePackArguments ws input output psid address zero_page o → ⊥
-no_pack_options ws a b c d e f g seven none = λ input output psid address zero_page o w.
-    let same : w.option_words ≡ f ∷ g ∷ [] = cc (seven, w.form) in
-    none o (subst (λ words. AreOptionWords words o) same w.options_spelled)
-
 pub no_address_said : (a b c d e : List ℕ) → ((address : ℕ) → IsAddressWord d address → ⊥) →
-    (words : List (List ℕ)) (input output : List ℕ) (psid : Bool) (address zero_page : ℕ) (o : Options) →
-    ArePackArguments (a ∷ b ∷ c ∷ d ∷ e ∷ words) input output psid address zero_page o → ⊥
-no_address_said a b c d e none = λ words input output psid address zero_page o w.
+    (words : List (List ℕ)) (input output : List ℕ) (psid : Bool) (address zero_page : ℕ) (o : Options) (sid : Chip) →
+    ArePackArguments (a ∷ b ∷ c ∷ d ∷ e ∷ words) input output psid address zero_page o sid → ⊥
+no_address_said a b c d e none = λ words input output psid address zero_page o sid w.
     let same : w.address_word ≡ d = cc (w.form) in
     none address (subst (λ word. IsAddressWord word address) same w.address_spelled)
+
+-- the words behind the first five
+pub behind_five : (ws : List (String Global)) (a b c d e : String Global) → 5 ≤ length ws → a ≡ get_or ws 0 a →
+    b ≡ get_or ws 1 b → c ≡ get_or ws 2 c → d ≡ get_or ws 3 d → e ≡ get_or ws 4 e →
+    texts ws
+    ≡ string_bytes a ∷ string_bytes b ∷ string_bytes c ∷ string_bytes d ∷ string_bytes e ∷ texts (drop 5 ws)
+behind_five [] a b c d e l q r s t u = absurd (omega arith)
+behind_five (x0 ∷ []) a b c d e l q r s t u = absurd (omega arith)
+behind_five (x0 ∷ x1 ∷ []) a b c d e l q r s t u = absurd (omega arith)
+behind_five (x0 ∷ x1 ∷ x2 ∷ []) a b c d e l q r s t u = absurd (omega arith)
+behind_five (x0 ∷ x1 ∷ x2 ∷ x3 ∷ []) a b c d e l q r s t u = absurd (omega arith)
+behind_five (x0 ∷ x1 ∷ x2 ∷ x3 ∷ x4 ∷ ws) a b c d e l q r s t u = cc
 
 -- ---- the words name one job
 
@@ -148,53 +123,93 @@ same_zero_page same p q =
     let e = q.digits in
     cc
 
--- words say options in one way
-abbrev apart : Bool → Bool → Bool → Bool → Type 0
-apart a b c d = bytes_eq (skip_word a b) (skip_word a b) ≡ true → bytes_eq (skip_word a b) (skip_word c d) ≡ false →
-    skip_word a b ≡ skip_word c d → ⊥
+-- what words say of options, read back
+abbrev skips_in : Option (List ℕ) → Options
+skips_in None = no_options
+skips_in (Some word) =
+    if bytes_eq word (codes "effects") then record no_options { skip_effects = true }
+    else if bytes_eq word (codes "pulse") then record no_options { skip_pulse = true }
+    else if bytes_eq word (codes "both") then record no_options { skip_effects = true; skip_pulse = true }
+    else if bytes_eq word (codes "all") then
+    record no_options { skip_effects = true; skip_pulse = true; skip_first = true }
+    else no_options
 
-never_same : (a b c d : Bool) → apart a b c d
-never_same a b c d same other e =
-    let never : true ≡ false = sym same ∙ ap (bytes_eq (skip_word a b)) e ∙ other in absurd (cc (never))
+skips_back : (a b c : Bool) (word : List ℕ) → skip_word a b c ≡ Some word →
+    skips_in (Some word) ≡ record no_options { skip_effects = a; skip_pulse = b; skip_first = c }
+skips_back false false false word e = sym (ap skips_in e)
+skips_back true false false word e = sym (ap skips_in e)
+skips_back false true false word e = sym (ap skips_in e)
+skips_back true true false word e = sym (ap skips_in e)
+skips_back true true true word e = sym (ap skips_in e)
+skips_back false false true word e = absurd (cc (e))
+skips_back true false true word e = absurd (cc (e))
+skips_back false true true word e = absurd (cc (e))
 
-same_skip : (a b c d : Bool) → skip_word a b ≡ skip_word c d → (a ≡ c) × (b ≡ d)
-same_skip false false false false e = (refl, refl)
-same_skip true false true false e = (refl, refl)
-same_skip false true false true e = (refl, refl)
-same_skip true true true true e = (refl, refl)
-same_skip false false true false e = absurd (never_same false false true false refl refl e)
-same_skip false false false true e = absurd (never_same false false false true refl refl e)
-same_skip false false true true e = absurd (never_same false false true true refl refl e)
-same_skip true false false false e = absurd (never_same true false false false refl refl e)
-same_skip true false false true e = absurd (never_same true false false true refl refl e)
-same_skip true false true true e = absurd (never_same true false true true refl refl e)
-same_skip false true false false e = absurd (never_same false true false false refl refl e)
-same_skip false true true false e = absurd (never_same false true true false refl refl e)
-same_skip false true true true e = absurd (never_same false true true true refl refl e)
-same_skip true true false false e = absurd (never_same true true false false refl refl e)
-same_skip true true true false e = absurd (never_same true true true false refl refl e)
-same_skip true true false true e = absurd (never_same true true false true refl refl e)
+-- a digit is a byte, $30 and its number
+abbrev speed_in : List ℕ → ℕ
+speed_in word = get_or word 0 0x30 - 0x30
 
-same_speed : {v w : List ℕ} {a b : ℕ} → v ≡ w → IsSpeedWord v a → IsSpeedWord w b → a ≡ b
-same_speed {a} {b} same p q =
-    decimal_injective a b (omega (arith, p.allowed.most)) (omega (arith, q.allowed.most))
-    (sym p.spelled ∙ same ∙ q.spelled)
+speed_back : {word : List ℕ} {speed : ℕ} → IsSpeedWord word speed → speed_in word ≡ speed
+speed_back {speed} is =
+    let small : speed < 10 = omega (arith, is.allowed.most) in
+    ap speed_in is.spelled ∙ ap speed_in (decimal_digit speed small) ∙ omega arith
 
-same_record : (a b : Options) → a.skip_effects ≡ b.skip_effects → a.skip_pulse ≡ b.skip_pulse → a.speed ≡ b.speed →
-    a ≡ b
-same_record a b effects pulse speed =
-    ap (λ (x : Bool). record a { skip_effects = x }) effects
-    ∙ ap (λ (x : Bool). record a { skip_effects = b.skip_effects; skip_pulse = x }) pulse
-    ∙ ap (λ (x : ℕ). record b { speed = x }) speed
+abbrev options_in : List (List ℕ) → Options
+options_in (skip ∷ speed ∷ words) = record (skips_in (Some skip)) { speed = speed_in speed }
+options_in words = no_options
 
-same_options : {v w : List (List ℕ)} (a b : Options) → v ≡ w → AreOptionWords v a → AreOptionWords w b → a ≡ b
-same_options a b same unsaid unsaid = refl
-same_options a b same unsaid (said o speed) = absurd (cc (same))
-same_options a b same (said o speed) unsaid = absurd (cc (same))
-same_options a b same (said o speed) (said o2 speed2) =
-    let skips = same_skip o.skip_effects o.skip_pulse o2.skip_effects o2.skip_pulse (cc (same)) in
-    let speeds = same_speed (cc (same)) speed speed2 in
-    same_record o o2 skips.0 skips.1 speeds
+options_back : {words : List (List ℕ)} {o : Options} → AreOptionWords words o → options_in words ≡ o
+options_back unsaid = refl
+options_back (said {word} {speed_word} o skips speed pal) =
+    ap (λ (x : Options). record x { speed = speed_in speed_word })
+    (skips_back o.skip_effects o.skip_pulse o.skip_first word skips)
+    ∙ ap (λ (n : ℕ). record o { speed = n; system = Pal }) (speed_back speed)
+    ∙ ap (λ (s : System). record o { system = s }) (sym pal)
+
+same_options : {v w : List (List ℕ)} {a b : Options} → v ≡ w → AreOptionWords v a → AreOptionWords w b → a ≡ b
+same_options same p q = sym (options_back p) ∙ ap options_in same ∙ options_back q
+
+-- what words say of the system and the SID, read back
+abbrev system_in : List ℕ → System
+system_in word = if bytes_eq word (codes "ntsc") then Ntsc else Pal
+
+system_back : (system : System) → system_in (system_word system) ≡ system
+system_back Pal = refl
+system_back Ntsc = refl
+
+abbrev chip_in : List ℕ → Chip
+chip_in word = if bytes_eq word (codes "8580") then Mos8580 else Mos6581
+
+chip_back : (chip : Chip) → chip_in (chip_word chip) ≡ chip
+chip_back Mos6581 = refl
+chip_back Mos8580 = refl
+
+-- what is chosen for a packed file
+record Choice : Type 0 where
+  options : Options
+  chip : Chip
+
+abbrev choice_in : List (List ℕ) → Choice
+choice_in (skip ∷ speed ∷ system ∷ chip ∷ words) =
+    record { options = record (options_in (skip ∷ speed ∷ [])) { system = system_in system }; chip = chip_in chip }
+choice_in words = record { options = options_in words; chip = Mos6581 }
+
+choice_back : {words : List (List ℕ)} {o : Options} {chip : Chip} → ArePackOptionWords words o chip →
+    choice_in words ≡ record { options = o; chip = chip }
+choice_back (untold unsaid) = refl
+choice_back (untold (said o skips speed pal)) =
+    ap (λ (o : Options). record { options = o; chip = Mos6581 }) (options_back (said o skips speed pal))
+choice_back (told {skip} {speed} {options} is system chip) =
+    ap (λ (o : Options).
+    record { options = record o { system = system_in (system_word system) }; chip = chip_in (chip_word chip) })
+    (options_back is)
+    ∙ ap (λ (s : System). record { options = record options { system = s }; chip = chip_in (chip_word chip) })
+    (system_back system)
+    ∙ ap (λ (c : Chip). record { options = record options { system = system }; chip = c }) (chip_back chip)
+
+same_choice : {v w : List (List ℕ)} {a b : Options} {c d : Chip} → v ≡ w → ArePackOptionWords v a c →
+    ArePackOptionWords w b d → ◌≡◌ {A = Choice} (record { options = a; chip = c }) (record { options = b; chip = d })
+same_choice same p q = sym (choice_back p) ∙ ap choice_in same ∙ choice_back q
 
 -- the topic that words tell
 abbrev topic_in : List (List ℕ) → Topic
@@ -246,7 +261,7 @@ differ ws a b p q same other =
 
 -- words of one list name one job
 pub one_job : (ws : List (List ℕ)) (a b : Job) → WordsOf ws a → WordsOf ws b → a ≡ b
-one_job ws (asked.Pack i o f a z x) (asked.Pack i2 o2 f2 a2 z2 x2) p q =
+one_job ws (asked.Pack i o f a z x c) (asked.Pack i2 o2 f2 a2 z2 x2 c2) p q =
     let v = p.are_arguments in
     let w = q.are_arguments in
     let format : f ≡ f2 = same_format f f2 (cc (p.words_are, q.words_are, v.form, w.form)) in
@@ -254,10 +269,11 @@ one_job ws (asked.Pack i o f a z x) (asked.Pack i2 o2 f2 a2 z2 x2) p q =
     same_address (cc (p.words_are, q.words_are, v.form, w.form)) v.address_spelled w.address_spelled in
     let page : z ≡ z2 =
     same_zero_page (cc (p.words_are, q.words_are, v.form, w.form)) v.zero_page_spelled w.zero_page_spelled in
-    let options : x ≡ x2 =
-    same_options x x2 (cc (p.words_are, q.words_are, v.form, w.form)) v.options_spelled w.options_spelled in
+    let choice = same_choice (cc (p.words_are, q.words_are, v.form, w.form)) v.options_spelled w.options_spelled in
+    let options : x ≡ x2 = ap (λ chosen. chosen.options) choice in
+    let chip : c ≡ c2 = ap (λ chosen. chosen.chip) choice in
     cc (p.words_are, q.words_are, v.form, w.form)
-one_job ws (asked.Pack i o f a z x) other p q = absurd (differ ws (asked.Pack i o f a z x) other p q refl refl)
+one_job ws (asked.Pack i o f a z x c) other p q = absurd (differ ws (asked.Pack i o f a z x c) other p q refl refl)
 one_job ws (asked.Copy i o) (asked.Copy i2 o2) p q =
     cc (p.words_are, q.words_are, p.are_arguments.form, q.are_arguments.form)
 one_job ws (asked.Copy i o) other p q = absurd (differ ws (asked.Copy i o) other p q refl refl)
@@ -274,7 +290,7 @@ one_job ws (asked.Trace i s n o) (asked.Trace i2 s2 n2 o2) p q =
     let frames : n ≡ n2 =
     same_number (omega arith) (cc (p.words_are, q.words_are, v.form, w.form)) v.frames_spelled w.frames_spelled in
     let options : o ≡ o2 =
-    same_options o o2 (cc (p.words_are, q.words_are, v.form, w.form)) v.options_spelled w.options_spelled in
+    same_options (cc (p.words_are, q.words_are, v.form, w.form)) v.options_spelled w.options_spelled in
     cc (p.words_are, q.words_are, v.form, w.form)
 one_job ws (asked.Trace i s n o) other p q = absurd (differ ws (asked.Trace i s n o) other p q refl refl)
 one_job ws (asked.Run i s n) (asked.Run i2 s2 n2) p q =
@@ -314,6 +330,6 @@ one_job ws (asked.Parts i x) (asked.Parts i2 x2) p q =
     let v = p.are_arguments in
     let w = q.are_arguments in
     let options : x ≡ x2 =
-    same_options x x2 (cc (p.words_are, q.words_are, v.form, w.form)) v.options_spelled w.options_spelled in
+    same_options (cc (p.words_are, q.words_are, v.form, w.form)) v.options_spelled w.options_spelled in
     cc (p.words_are, q.words_are, v.form, w.form, options)
 one_job ws (asked.Parts i x) other p q = absurd (differ ws (asked.Parts i x) other p q refl refl)

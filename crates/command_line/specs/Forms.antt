@@ -25,9 +25,9 @@ pub record AreThreeNames (words : List (List ℕ)) (input other output : List �
   pub out_named : output ≢ []
 
 abbrev pub form_of : Job → Form
-form_of (asked.Pack input output psid address zero_page options) = record {
+form_of (asked.Pack input output psid address zero_page options chip) = record {
   command = codes "pack";
-  has_arguments = λ words. ArePackArguments words input output psid address zero_page options;
+  has_arguments = λ words. ArePackArguments words input output psid address zero_page options chip;
 }
 form_of (asked.Copy input output) = record {
   command = codes "copy";

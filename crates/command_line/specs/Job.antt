@@ -4,8 +4,8 @@ use Rattle.command_line.specs.declared.words.Job.TheVariants as code
 use Rattle.command_line.specs.Words as asked
 
 abbrev pub job_of : Job → asked.Job
-job_of (code.Pack input output psid address zero_page options) =
-    asked.Pack input.now output.now psid address zero_page options
+job_of (code.Pack input output psid address zero_page options chip) =
+    asked.Pack input.now output.now psid address zero_page options chip
 job_of (code.Copy input output) = asked.Copy input.now output.now
 job_of (code.Edit input script output) = asked.Edit input.now script.now output.now
 job_of (code.Check input) = asked.Check input.now

@@ -1,12 +1,16 @@
 -- The command line's words, and the job that they ask for.
-use Rattle.std.specs.Prelude.{◌≡◌, ◌≢◌, ℕ, ◌+◌, ◌-◌, ◌*◌, ◌^◌, ◌≤◌, List, [], ◌∷◌, map, codes, decimal, String, Ok, Bool, true, false}
+use Rattle.std.specs.Prelude.{◌≡◌, ◌≢◌, ℕ, ◌+◌, ◌-◌, ◌*◌, ◌^◌, ◌≤◌, List, [], ◌∷◌, map, codes, decimal, String, Ok, Option, Some, None, Bool, true, false}
 use Rattle.std.specs.Global.{Global}
 use Rattle.std.specs.String.{string_bytes}
 use Rattle.hex.specs.Hex.{decode_sized}
 use Rattle.play_model.specs.declared.options.Options.{Options}
+use Rattle.play_model.specs.declared.options.System.{System}
+use Rattle.play_model.specs.declared.options.System.TheVariants.{Pal, Ntsc}
 use Rattle.play_model.specs.Speeds.{IsSpeed}
 use Rattle.play_model.specs.State.{no_options}
 use Rattle.packed_form.specs.ImagePlaces.{IsAddress, IsZeroPage}
+use Rattle.command_line.specs.declared.chip.Chip.{Chip}
+use Rattle.command_line.specs.declared.chip.Chip.TheVariants.{Mos6581, Mos8580}
 use Rattle.command_line.specs.declared.topics.Topic.{Topic}
 
 -- the words' bytes
@@ -45,12 +49,14 @@ subtune_limit = 255
 
 -- what the program is asked to do: pack the song in one file into another, a PSID file or a raw one; copy it into
 -- another file; edit it by a script, into another file; tell what a song uses; trace a song, or run a PSID file: a
--- subtune, counted from 1, and a number of frames. Of a song that is packed or traced, how it is played. Or to make a song
--- from a number, and to pack, trace and run it. Or to write a listing of a PSID file's image into another file, or the
--- bytes of a listing. Or to write the songs in two files into another, as one song. Or to tell of the forms, or the
--- version. Or to write a song as a script into another file, or to tell what it costs when it is packed
+-- subtune, counted from 1, and a number of frames. Of a song that is packed or traced, how it is played, and of one
+-- that is packed, for which SID it is made. Or to make a song from a number, and to pack, trace and run it. Or to write
+-- a listing of a PSID file's image into another file, or the bytes of a listing. Or to write the songs in two files into
+-- another, as one song. Or to tell of the forms, or the version. Or to write a song as a script into another file, or
+-- to tell what it costs when it is packed
 pub data Job : Type 0 where
-  Pack : (input output : List ℕ) (psid : Bool) (address zero_page : ℕ) (options : Options) → Job
+  Pack : (input output : List ℕ) (psid : Bool) (address zero_page : ℕ) (options : Options)
+      (chip : Chip) → Job
   Copy : (input output : List ℕ) → Job
   Edit : (input script output : List ℕ) → Job
   Check : (input : List ℕ) → Job
@@ -65,32 +71,61 @@ pub data Job : Type 0 where
   Show : (input output : List ℕ) → Job
   Parts : (input : List ℕ) (options : Options) → Job
 
--- the word for what is left out of a frame: the effect step, the pulse step
-abbrev pub skip_word : Bool → Bool → List ℕ
-skip_word false false = codes "none"
-skip_word true false = codes "effects"
-skip_word false true = codes "pulse"
-skip_word true true = codes "both"
+-- the word for what is left out of a frame: the effect step, the pulse step where a row is fetched, and the pulse step
+-- between two patterns. The other three choices have none
+abbrev pub skip_word : Bool → Bool → Bool → Option (List ℕ)
+skip_word false false false = Some (codes "none")
+skip_word true false false = Some (codes "effects")
+skip_word false true false = Some (codes "pulse")
+skip_word true true false = Some (codes "both")
+skip_word true true true = Some (codes "all")
+skip_word false false true = None
+skip_word true false true = None
+skip_word false true true = None
 
 -- a digit from 1 to 4
 pub record IsSpeedWord (word : List ℕ) (speed : ℕ) : Type 0 where
   pub spelled : word ≡ decimal speed
   pub allowed : IsSpeed speed
 
--- how a song is played: without words nothing is left out and the speed is 1, else the words are `SKIP SPEED`
+-- how a song is played, on the PAL system: without words nothing is left out and the speed is 1, else the words are
+-- `SKIP SPEED`
 pub data AreOptionWords : List (List ℕ) → Options → Type 0 where
   unsaid : AreOptionWords [] no_options
-  said : {speed_word : List ℕ} (options : Options) → IsSpeedWord speed_word options.speed →
-      AreOptionWords (skip_word options.skip_effects options.skip_pulse ∷ speed_word ∷ []) options
+  said : {word speed_word : List ℕ} (options : Options) →
+      skip_word options.skip_effects options.skip_pulse options.skip_first ≡ Some word →
+      IsSpeedWord speed_word options.speed → options.system ≡ Pal →
+      AreOptionWords (word ∷ speed_word ∷ []) options
+
+-- the word for the system
+abbrev pub system_word : System → List ℕ
+system_word Pal = codes "pal"
+system_word Ntsc = codes "ntsc"
+
+-- the word for the SID
+abbrev pub chip_word : Chip → List ℕ
+chip_word Mos6581 = codes "6581"
+chip_word Mos8580 = codes "8580"
+
+-- how a song is played that is packed, and for which SID it is made: as above and for the 6581, or the words are
+-- `SKIP SPEED SYSTEM CHIP`
+pub data ArePackOptionWords : List (List ℕ) → Options → Chip → Type 0 where
+  untold : {words : List (List ℕ)} {options : Options} → AreOptionWords words options →
+      ArePackOptionWords words options Mos6581
+  told : {skip speed : List ℕ} {options : Options} → AreOptionWords (skip ∷ speed ∷ []) options →
+      (system : System) (chip : Chip) →
+      ArePackOptionWords (skip ∷ speed ∷ system_word system ∷ chip_word chip ∷ [])
+      (record options { system = system }) chip
 
 -- the word for the format of a packed file
 abbrev pub format_word : Bool → List ℕ
 format_word true = codes "psid"
 format_word false = codes "raw"
 
--- the arguments are `IN OUT psid ADDRESS ZP`, or `raw` in place of `psid`, and then how the song is played
+-- the arguments are `IN OUT psid ADDRESS ZP`, or `raw` in place of `psid`, and then how the song is played and for
+-- which SID it is made
 pub record ArePackArguments (arguments : List (List ℕ)) (input output : List ℕ) (psid : Bool) (address zero_page : ℕ)
-    (options : Options) : Type 0 where
+    (options : Options) (chip : Chip) : Type 0 where
   pub address_word : List ℕ
   pub zero_page_word : List ℕ
   pub option_words : List (List ℕ)
@@ -99,7 +134,7 @@ pub record ArePackArguments (arguments : List (List ℕ)) (input output : List �
   pub out_named : output ≢ []
   pub address_spelled : IsAddressWord address_word address
   pub zero_page_spelled : IsZeroPageWord zero_page_word zero_page
-  pub options_spelled : AreOptionWords option_words options
+  pub options_spelled : ArePackOptionWords option_words options chip
 
 -- the arguments are `IN SUBTUNE FRAMES`, and then how the song is played
 pub record AreTraceArguments (arguments : List (List ℕ)) (input : List ℕ) (subtune frames : ℕ)
@@ -139,7 +174,7 @@ pub record ArePartsArguments (arguments : List (List ℕ)) (input : List ℕ) (o
 -- the numbers of a job are allowed: an image can stand at the address and have the two bytes of page 0, and there are
 -- at most 100,000 frames
 abbrev pub HasAllowedNumbers : Job → Type 0
-HasAllowedNumbers (Pack input output psid address zero_page options) = IsAddress address × IsZeroPage zero_page
+HasAllowedNumbers (Pack input output psid address zero_page options chip) = IsAddress address × IsZeroPage zero_page
 HasAllowedNumbers (Trace input subtune frames options) = frames ≤ frame_limit
 HasAllowedNumbers (Run input subtune frames) = frames ≤ frame_limit
 HasAllowedNumbers _ = Unit {0}

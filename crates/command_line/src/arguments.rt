@@ -3,11 +3,14 @@
 ghost use Rattle.std.specs.Prelude.{◌≡◌, ℕ, Bool, MatchResult};
 ghost use Rattle.std.specs.Prelude.{List, [], ◌∷◌};
 ghost use Rattle.play_model.specs.declared.options.Options.{Options as Chosen};
+ghost use Rattle.play_model.specs.declared.options.System.{System as Timing};
+ghost use Rattle.command_line.specs.declared.chip.Chip.{Chip as Sid};
 ghost use Rattle.command_line.specs.Forms.{AreTwoNames, AreThreeNames};
-ghost use Rattle.command_line.specs.Words.{texts, format_word, IsAddressWord, IsZeroPageWord, IsNumberWord, skip_word, AreOptionWords};
+ghost use Rattle.command_line.specs.Words.{texts, format_word, IsAddressWord, IsZeroPageWord, IsNumberWord, IsSpeedWord, system_word, chip_word, AreOptionWords, ArePackOptionWords};
 
+use crate::chip::Chip;
 use crate::words::WordsFault;
-use play_model::{HIGHEST_SPEED, Options};
+use play_model::{HIGHEST_SPEED, Options, Speed, System};
 
 /// The greatest number of a subtune that may be asked for.
 pub const SUBTUNE_LIMIT: u64 = 255;
@@ -131,21 +134,19 @@ pub fn zero_page_of(word: &str) -> Result<u8, WordsFault>
     }
 }
 
-/// What a word says is left out of a frame: the effect step, and the pulse step.
+/// The speed that a digit spells, 1 to 4.
 ///
 /// # Errors
 ///
-/// The word is none of `none`, `effects`, `pulse` and `both`.
-fn skip_of(word: &str) -> Result<(bool, bool), WordsFault>
-    ensures { MatchResult result (λ skips. word.now ≡ skip_word skips.0 skips.1) (λ _.
-        (effects pulse : Bool) → ¬ (word.now ≡ skip_word effects pulse)) }
+/// The word is another.
+fn speed_of(word: &str) -> Result<Speed, WordsFault>
+    ensures { MatchResult result (IsSpeedWord word.now) (λ _. (speed : ℕ) →
+        ¬ IsSpeedWord word.now speed) }
 {
-    match word {
-        "none" => Ok((false, false)),
-        "effects" => Ok((true, false)),
-        "pulse" => Ok((false, true)),
-        "both" => Ok((true, true)),
-        _ => Err(WordsFault),
+    let calls = decimal_of(word, u64::from(HIGHEST_SPEED))?;
+    match Speed::new(calls as u8) {
+        Some(speed) => Ok(speed),
+        None => Err(WordsFault),
     }
 }
 
@@ -154,14 +155,108 @@ fn skip_of(word: &str) -> Result<(bool, bool), WordsFault>
 /// # Errors
 ///
 /// One of them is another word.
-pub fn options_of(skip: &str, speed: &str) -> Result<Options, WordsFault>
+pub fn said_options(skip: &str, speed: &str) -> Result<Options, WordsFault>
     ensures { MatchResult result (AreOptionWords (skip.now ∷ speed.now ∷ [])) (λ _.
         (options : Chosen) → ¬ AreOptionWords (skip.now ∷ speed.now ∷ []) options) }
 {
-    let (skip_effects, skip_pulse) = skip_of(skip)?;
-    let calls = decimal_of(speed, u64::from(HIGHEST_SPEED))?;
-    match Options::new(skip_effects, skip_pulse, calls as u8) {
-        Some(options) => Ok(options),
-        None => Err(WordsFault),
+    let speed = speed_of(speed)?;
+    match skip {
+        "none" => Ok(Options::none(speed)),
+        "effects" => Ok(Options::effects(speed)),
+        "pulse" => Ok(Options::pulse(speed)),
+        "both" => Ok(Options::both(speed)),
+        "all" => Ok(Options::all(speed)),
+        _ => Err(WordsFault),
+    }
+}
+
+/// How a song is played: no words, or `SKIP SPEED`.
+///
+/// # Errors
+///
+/// They are neither none nor two, or one of them is another word.
+pub fn options_of(words: &[String]) -> Result<Options, WordsFault>
+    ensures { MatchResult result (AreOptionWords (texts words.now)) (λ _. (options : Chosen) →
+        ¬ AreOptionWords (texts words.now) options) }
+{
+    match words {
+        [] => Ok(Options::default()),
+        [skip, speed] => said_options(skip.as_str(), speed.as_str()),
+        _ => Err(WordsFault),
+    }
+}
+
+/// The system that a word names.
+///
+/// # Errors
+///
+/// The word is neither `pal` nor `ntsc`.
+fn system_of(word: &str) -> Result<System, WordsFault>
+    ensures { MatchResult result (λ system. word.now ≡ system_word system) (λ _.
+        (system : Timing) → ¬ (word.now ≡ system_word system)) }
+{
+    match word {
+        "pal" => Ok(System::Pal),
+        "ntsc" => Ok(System::Ntsc),
+        _ => Err(WordsFault),
+    }
+}
+
+/// The SID that a word names.
+///
+/// # Errors
+///
+/// The word is neither `6581` nor `8580`.
+fn chip_of(word: &str) -> Result<Chip, WordsFault>
+    ensures { MatchResult result (λ chip. word.now ≡ chip_word chip) (λ _. (chip : Sid) →
+        ¬ (word.now ≡ chip_word chip)) }
+{
+    match word {
+        "6581" => Ok(Chip::Mos6581),
+        "8580" => Ok(Chip::Mos8580),
+        _ => Err(WordsFault),
+    }
+}
+
+/// How a song is played that is packed, and for which SID it is made, by the words `SKIP SPEED SYSTEM CHIP`.
+///
+/// # Errors
+///
+/// One of them is another word.
+fn told_options(
+    skip: &str,
+    speed: &str,
+    system: &str,
+    chip: &str,
+) -> Result<(Options, Chip), WordsFault>
+    ensures { MatchResult result
+        (λ told. ArePackOptionWords (skip.now ∷ speed.now ∷ system.now ∷ chip.now ∷ []) told.0 told.1)
+        (λ _. (options : Chosen) (sid : Sid) →
+        ¬ ArePackOptionWords (skip.now ∷ speed.now ∷ system.now ∷ chip.now ∷ []) options sid) }
+{
+    let options = said_options(skip, speed)?;
+    let system = system_of(system)?;
+    let chip = chip_of(chip)?;
+    Ok((options.on(system), chip))
+}
+
+/// How a song is played that is packed, and for which SID it is made: no words, `SKIP SPEED`, or
+/// `SKIP SPEED SYSTEM CHIP`.
+///
+/// # Errors
+///
+/// They are of another number, or one of them is another word.
+pub fn pack_options_of(words: &[String]) -> Result<(Options, Chip), WordsFault>
+    ensures { MatchResult result (λ told. ArePackOptionWords (texts words.now) told.0 told.1) (λ _.
+        (options : Chosen) (sid : Sid) → ¬ ArePackOptionWords (texts words.now) options sid) }
+{
+    match words {
+        [skip, speed, system, chip] => told_options(
+            skip.as_str(),
+            speed.as_str(),
+            system.as_str(),
+            chip.as_str(),
+        ),
+        _ => Ok((options_of(words)?, Chip::Mos6581)),
     }
 }

@@ -14,7 +14,7 @@ pub mod edit;
 pub mod help;
 /// `join IN SECOND OUT`.
 pub mod join;
-/// `pack IN OUT psid|raw ADDRESS ZP`, or with `SKIP SPEED` behind it.
+/// `pack IN OUT psid|raw ADDRESS ZP`, or with `SKIP SPEED` or `SKIP SPEED SYSTEM CHIP` behind it.
 pub mod pack;
 /// `parts IN SKIP SPEED`.
 pub mod parts;

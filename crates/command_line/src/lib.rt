@@ -10,6 +10,7 @@
 #![tactic(auto)]
 
 mod arguments;
+mod chip;
 /// Facts about the definitions.
 pub mod claims;
 mod commands;
@@ -23,6 +24,7 @@ mod topics;
 mod words;
 
 pub use arguments::{FRAME_LIMIT, SUBTUNE_LIMIT};
+pub use chip::Chip;
 pub use line::Line;
 pub use message::{Message, Piece};
 pub use refusal::{Refusal, Report};

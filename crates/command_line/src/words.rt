@@ -5,6 +5,7 @@ ghost use Rattle.command_line.specs.Words.{texts, HasAllowedNumbers};
 ghost use Rattle.command_line.specs.Forms.{IsNoForm, WordsOf, command_named};
 ghost use Rattle.command_line.specs.Job.{job_of};
 
+use crate::chip::Chip;
 use crate::commands;
 use crate::topics::Topic;
 use play_model::Options;
@@ -16,8 +17,8 @@ pub const USAGE: &str =
 /// What the program is asked to do.
 #[derive(Clone, Copy, Debug)]
 pub enum Job<'a> {
-    /// `pack IN OUT psid ADDRESS ZP`, or `raw` in place of `psid`, or with `SKIP SPEED` behind it: pack the song in the
-    /// file IN into the file OUT.
+    /// `pack IN OUT psid ADDRESS ZP`, or `raw` in place of `psid`, or with `SKIP SPEED` or `SKIP SPEED SYSTEM CHIP`
+    /// behind it: pack the song in the file IN into the file OUT.
     Pack {
         input: &'a str,
         output: &'a str,
@@ -27,8 +28,10 @@ pub enum Job<'a> {
         address: u16,
         /// The first of the player's two zero page bytes, `$02` to `$FE`.
         zero_page: u8,
-        /// What is left out of a frame, and the speed.
+        /// What is left out of a frame, the speed, and the system.
         options: Options,
+        /// Which SID the song is made for.
+        chip: Chip,
     },
     /// `copy IN OUT`: write the canonical spelling of the song in the file IN into the file OUT.
     Copy {

@@ -42,7 +42,7 @@ module _ (song : Song) (features : ℕ) (o : Options) (n : ℕ) (costs : List Pa
 
 -- ---- names
 
-pub names_short : (part : ℕ) → part < 27 → length (part_name part) ≤ 24
+pub names_short : (part : ℕ) → part < 28 → length (part_name part) ≤ 24
 names_short part below =
     leb-true (length (part_name part)) 24
-    (agree_below_at (λ n. nat_le (length (part_name n)) 24) (λ n. true) 27 part refl below)
+    (agree_below_at (λ n. nat_le (length (part_name n)) 24) (λ n. true) 28 part refl below)

@@ -12,6 +12,7 @@ use Rattle.image_build.specs.Lengths.{image_length, IsTooLarge}
 use Rattle.image_build.specs.Built.{IsBuild}
 use Rattle.jobs.specs.Packed.{IsImageLength, IsWrittenFile, packed_file}
 use Rattle.jobs.specs.Lines.{image_too_large_line}
+use Rattle.command_line.specs.declared.chip.Chip.{Chip}
 use Rattle.command_line.specs.Last.{Last, Says}
 use Rattle.jobs.specs.Stages.{HasRoomForImage, HoldsSong, IsMet}
 use Rattle.jobs.specs.Endings as ends
@@ -48,13 +49,13 @@ module _ (packed : PackedSong) (song : Song) (o : Options) (packs : PacksSong pa
         (song, count, holds, length_is count large.size_is, large.passes, refl) says
 
   -- the file of its image is one that is written
-  pub image_written : (psid : Bool) (address zero_page : ℕ) (built : Image) (file : List ℕ) →
+  pub image_written : (psid : Bool) (address zero_page : ℕ) (chip : Chip) (built : Image) (file : List ℕ) →
       IsBuild packed built.place o built → built.place.address ≡ address → built.place.zero_page ≡ zero_page →
-      file ≡ packed_file psid song built.place.address built.bytes o →
-      IsWrittenFile psid address zero_page song o file
-  image_written psid address zero_page built file is there page holds =
+      file ≡ packed_file psid song built.place.address built.bytes o chip →
+      IsWrittenFile psid address zero_page song o chip file
+  image_written psid address zero_page chip built file is there page holds =
       let plays = is.plays song packs.stands in
-      let written : IsWrittenFile psid built.place.address built.place.zero_page song o file = record {
+      let written : IsWrittenFile psid built.place.address built.place.zero_page song o chip file = record {
         packed = record {
           image = built.bytes;
           bytes = is.bytes;
@@ -66,8 +67,8 @@ module _ (packed : PackedSong) (song : Song) (o : Options) (packs : PacksSong pa
         always = plays.always;
         isolated = plays.isolated;
       } in
-      let paged = subst (λ z. IsWrittenFile psid built.place.address z song o file) page written in
-      subst (λ a. IsWrittenFile psid a zero_page song o file) there paged
+      let paged = subst (λ z. IsWrittenFile psid built.place.address z song o chip file) page written in
+      subst (λ a. IsWrittenFile psid a zero_page song o chip file) there paged
 
 -- of a small song the image has room at $1000
 pub small_has_room : (packed : PackedSong) (song : Song) (size : ℕ) → PacksSong packed song → IsSmall song →

@@ -40,8 +40,9 @@ pub fn perform<'a, F: Folder, K: Sink>(
             address,
             zero_page,
             options,
+            chip,
         } => pack_song(
-            alloc, input, output, psid, address, zero_page, options, folder,
+            alloc, input, output, psid, address, zero_page, options, chip, folder,
         ),
         Job::Copy { input, output } => file_jobs::copy::copy_song(alloc, input, output, folder),
         Job::Edit {

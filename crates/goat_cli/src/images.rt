@@ -10,12 +10,13 @@ ghost use Rattle.play_model.specs.Playable.{IsPlayable};
 ghost use Rattle.packed_form.specs.ImagePlaces.{IsAddress, IsZeroPage};
 ghost use Rattle.song_gen.specs.GeneratedLaws.{PatternsAreShort, IsSmall};
 ghost use Rattle.image_build.specs.Built.{IsBuild};
+ghost use Rattle.command_line.specs.declared.chip.Chip.TheVariants.{Mos6581};
 ghost use Rattle.command_line.specs.Last.{last_of};
 ghost use Rattle.jobs.specs.Packed.{packed_file, IsWrittenFile};
 ghost use Rattle.jobs.specs.Stages.{HasRoomForImage, HoldsSong, IsMet};
 ghost use Rattle.jobs.specs.Endings.{Refuses, PacksSong};
 
-use command_line::Refusal;
+use command_line::{Chip, Refusal};
 use image_build::{BuildFault, Image, build};
 use jobs::{packed_file, short_song, too_large_image};
 use packed_form::PackedSong;
@@ -75,7 +76,7 @@ pub fn image_of(
     }
 }
 
-/// The file of an image of a song that is played with these options.
+/// The file of an image of a song that is played with these options and made for this SID.
 ///
 /// # Errors
 ///
@@ -86,12 +87,13 @@ pub fn image_file(
     song: &Song,
     image: &Image,
     options: &Options,
+    chip: Chip,
 ) -> Result<Vec<u8>, NoMemory>
     requires limits { KeepsLimits song.now }
     requires some { 1 ≤ length (playable_subtunes song.now) }
     requires below { image.now.place.address + length image.now.bytes ≤ 0xD000 }
     ensures { IfOk result (λ file. file.items ≡
-        packed_file psid song.now image.now.place.address image.now.bytes options.now) }
+        packed_file psid song.now image.now.place.address image.now.bytes options.now chip) }
 {
     packed_file(
         alloc,
@@ -100,6 +102,7 @@ pub fn image_file(
         image.place.address,
         image.bytes.as_slice(),
         options,
+        chip,
     )
 }
 
@@ -116,7 +119,7 @@ fn small_image(alloc: Global, song: &Song, packed: &PackedSong) -> Result<Image,
     ensures zero_page { IfOk result (λ image. image.place.zero_page ≡ 0xFC) }
 {
     let place = place_of(ADDRESS, ZERO_PAGE);
-    match build(alloc, packed, place, Options::none()) {
+    match build(alloc, packed, place, Options::default()) {
         Ok(image) => Ok(image),
         Err(BuildFault::NoMemory) => Err(NoMemory),
         Err(BuildFault::TooLarge { .. }) => unreachable!(),
@@ -133,9 +136,16 @@ pub fn generated_file(alloc: Global, song: &Song) -> Result<Vec<u8>, NoMemory>
     requires playable { IsPlayable song.now }
     requires short { PatternsAreShort song.now }
     requires small { IsSmall song.now }
-    ensures { IfOk result (λ file. IsWrittenFile true 0x1000 0xFC song.now no_options file.items) }
+    ensures { IfOk result (λ file. IsWrittenFile true 0x1000 0xFC song.now no_options Mos6581 file.items) }
 {
     let packed = short_song(alloc, song)?;
     let image = small_image(alloc, song, &packed)?;
-    image_file(alloc, true, song, &image, &Options::none())
+    image_file(
+        alloc,
+        true,
+        song,
+        &image,
+        &Options::default(),
+        Chip::Mos6581,
+    )
 }

@@ -24,7 +24,7 @@ one_cost_text song o lines others p q =
     ∙ ap (λ l. kind_lines (costs_of song q.used q.features o) ++ map part_line l) parts ∙ sym q.lines_are
 
 pub costs_are_the_images : CostsAreTheImages
-costs_are_the_images song o lines psid address zero_page file told written =
+costs_are_the_images song o lines psid address zero_page chip file told written =
     let mine : IsImageLength song o (all_bytes (costs_of song told.used told.features o)) = record {
       used = told.used;
       features = told.features;

@@ -11,6 +11,7 @@ use Rattle.song_model.specs.LookUp.{playable_subtunes}
 use Rattle.play_model.specs.Frame.{trace_with}
 use Rattle.play_model.specs.declared.options.Options.{Options}
 use Rattle.play_model.specs.State.{no_options, start_state}
+use Rattle.command_line.specs.declared.chip.Chip.TheVariants.{Mos6581}
 use Rattle.packed_form.specs.ImagePlaces.{IsAddress}
 use Rattle.packing_rules.specs.UsedSets.{UsedSets}
 use Rattle.song_pack.specs.Answers.{IsTooLong}
@@ -308,10 +309,10 @@ at_1000 = record { whole_page = refl; least = omega arith; most = omega arith }
 
 -- the calls of its subtunes return
 pub file_returns : (song : Song) (file : List ℕ) (psid : Psid) (k : ℕ) → KeepsLimits song →
-    IsWrittenFile true 0x1000 0xFC song no_options file → psid_read file ≡ Ok psid →
+    IsWrittenFile true 0x1000 0xFC song no_options Mos6581 file → psid_read file ≡ Ok psid →
     k < length (playable_subtunes song) → FirstCallsReturn (loaded psid) k selftest_calls
 file_returns song file psid k keeps written reads few =
-    let is = written_files_are_packed song no_options 0x1000 0xFC file keeps at_1000 written in
+    let is = written_files_are_packed song no_options 0x1000 0xFC Mos6581 file keeps at_1000 written in
     let play = packed_files_play song no_options file (k + 1) 300 is (omega arith) (omega (arith, few)) in
     let same : play.0 ≡ psid = cc (play.1, reads) in
     let number : k + 1 - 1 ≡ k = omega arith in
@@ -325,10 +326,10 @@ file_returns song file psid k keeps written reads few =
     }
 
 pub file_is_read : (song : Song) (file : List ℕ) → KeepsLimits song →
-    IsWrittenFile true 0x1000 0xFC song no_options file → 1 ≤ length (playable_subtunes song) →
+    IsWrittenFile true 0x1000 0xFC song no_options Mos6581 file → 1 ≤ length (playable_subtunes song) →
     (psid : Psid) × (psid_read file ≡ Ok psid)
 file_is_read song file keeps written some =
-    let is = written_files_are_packed song no_options 0x1000 0xFC file keeps at_1000 written in
+    let is = written_files_are_packed song no_options 0x1000 0xFC Mos6581 file keeps at_1000 written in
     let play = packed_files_play song no_options file 1 0 is (omega arith) some in
     (play.0, play.1)
 

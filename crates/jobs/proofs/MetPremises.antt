@@ -35,9 +35,9 @@ statuses_are_ordinary = record {
 }
 
 pub fitting_songs_are_packed : FittingSongsArePacked
-fitting_songs_are_packed files input output psid address zero_page o song used features holds fits playable are_used
-    are_features short room =
-    small_songs files input output psid address zero_page o
+fitting_songs_are_packed files input output psid address zero_page o chip song used features holds fits playable
+    are_used are_features short room =
+    small_songs files input output psid address zero_page o chip
     (record {
       song = song;
       used = used;
@@ -61,7 +61,7 @@ header_length header name author released = simp length-append (omega (arith, na
 packed_is_short : (song : Song) (o : Options) (file : List ℕ) → IsPackedPsid song o file → length file ≤ input_limit
 packed_is_short song o file is =
     let image = is.packed.image in
-    let header = song_header song is.address o in
+    let header = song_header song is.address o is.chip in
     let head : length (header_bytes header) ≡ 124 =
     header_length header is.keeps.name.count is.keeps.author.count is.keeps.copyright.count in
     let below = is.packed.below in

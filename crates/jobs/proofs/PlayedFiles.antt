@@ -1,5 +1,5 @@
 -- A packed file that is run plays its song.
-use Rattle.std.proofs.Common.{◌≡◌, ℕ, zero, suc, ◌+◌, ◌-◌, ◌≤◌, ◌<◌, ◌^◌, Bool, true, false, if◌then◌else◌, nat_eq, List, [], None, Ok, length, refl, sym, ap, ◌∙◌, subst, arith, lit≤, lit<}
+use Rattle.std.proofs.Common.{◌≡◌, ℕ, zero, suc, ◌+◌, ◌-◌, ◌%◌, ◌≤◌, ◌<◌, ◌^◌, Bool, true, false, if◌then◌else◌, nat_eq, List, [], None, Ok, length, refl, sym, ap, ◌∙◌, subst, arith, lit≤, lit<}
 use Rattle.song_model.specs.declared.songs.Song.{Song}
 use Rattle.song_model.specs.Limits.{KeepsLimits}
 use Rattle.base.specs.Bytes.{AreBytes}
@@ -17,11 +17,15 @@ use Rattle.psid.proofs.Laws.{written_is_read_as_is}
 use Rattle.sid_run.specs.State.{RunnerState, loaded, loaded_machine}
 use Rattle.sid_run.proofs.Laws.{image_stands, loaded_is_machine}
 use Rattle.goat_io.specs.Files.{Files}
+use Rattle.play_model.specs.declared.options.System.{System}
+use Rattle.play_model.specs.declared.options.System.TheVariants.{Pal, Ntsc}
+use Rattle.command_line.specs.declared.chip.Chip.{Chip}
+use Rattle.command_line.specs.declared.chip.Chip.TheVariants.{Mos6581, Mos8580}
 use Rattle.command_line.specs.Words.{Run}
 use Rattle.jobs.specs.Calls.{HasSubtune, ReturnsTo, FirstCalls}
 use Rattle.faithful.specs.Faithful.{Leaves, PlaysOn, IsFaithful}
 use Rattle.packed_form.specs.ImagePlaces.{IsAddress}
-use Rattle.jobs.specs.Packed.{song_header, psid_file, caller_bits}
+use Rattle.jobs.specs.Packed.{song_header, psid_file, caller_bits, flags_of}
 use Rattle.command_line.specs.RegisterText.{register_lines}
 use Rattle.jobs.specs.Stages.{IsThere, Fits, IsPsid, OffersSubtune, CallsReturn, HoldsPsid, AllPass, input_limit}
 use Rattle.jobs.specs.Jobs.{stages, Shows}
@@ -103,9 +107,22 @@ caller_small speed = both (nat_eq speed 1)
     both true = lit< tt
     both false = lit< tt
 
-header_is : (song : Song) (address : ℕ) (o : Options) → KeepsLimits song → IsAddress address →
-    IsHeader (song_header song address o)
-header_is song address o keeps place = record {
+flags_small : (system : System) (chip : Chip) → flags_of system chip < 2 ^ 16
+flags_small Pal Mos6581 = lit< tt
+flags_small Pal Mos8580 = lit< tt
+flags_small Ntsc Mos6581 = lit< tt
+flags_small Ntsc Mos8580 = lit< tt
+
+-- bits 0 and 1 are clear
+flags_whole : (system : System) (chip : Chip) → flags_of system chip % 4 ≡ 0
+flags_whole Pal Mos6581 = refl
+flags_whole Pal Mos8580 = refl
+flags_whole Ntsc Mos6581 = refl
+flags_whole Ntsc Mos8580 = refl
+
+header_is : (song : Song) (address : ℕ) (o : Options) (chip : Chip) → KeepsLimits song → IsAddress address →
+    IsHeader (song_header song address o chip)
+header_is song address o chip keeps place = record {
   init = omega (arith, place.most);
   play = omega (arith, place.most);
   songs = omega (arith, count_small song keeps);
@@ -114,15 +131,15 @@ header_is song address o keeps place = record {
   name = keeps.name.count;
   author = keeps.author.count;
   released = keeps.copyright.count;
-  flags = lit≤ tt;
+  flags = flags_small o.system chip;
 }
 
-pub writable : (song : Song) (address : ℕ) (image : List ℕ) (o : Options) → KeepsLimits song →
+pub writable : (song : Song) (address : ℕ) (image : List ℕ) (o : Options) (chip : Chip) → KeepsLimits song →
     address + length image ≤ 0xD000 → 1 ≤ length (playable_subtunes song) →
-    IsWritable (song_header song address o) address image
-writable song address image o keeps below some = record {
+    IsWritable (song_header song address o chip) address image
+writable song address image o chip keeps below some = record {
   has_play = omega arith;
-  has_no_kind = refl;
+  has_no_kind = flags_whole o.system chip;
   has_song = some;
   most_songs = omega (arith, count_small song keeps);
   has_start = lit≤ tt;
@@ -130,15 +147,15 @@ writable song address image o keeps below some = record {
   fits = omega (arith, below);
 }
 
-module _ (song : Song) (o : Options) (address zero_page : ℕ) (image : List ℕ) (keeps : KeepsLimits song)
-    (place : IsAddress address) (below : address + length image ≤ 0xD000)
+module _ (song : Song) (o : Options) (chip : Chip) (address zero_page : ℕ) (image : List ℕ)
+    (keeps : KeepsLimits song) (place : IsAddress address) (below : address + length image ≤ 0xD000)
     (faithful : IsFaithful image address zero_page song o) where
   abbrev packed : Psid
-  packed = record { header = song_header song address o; load = address; image = image }
+  packed = record { header = song_header song address o chip; load = address; image = image }
 
   -- the calls of a packed file, with the registers of the song's trace
   pub record Plays (subtune frames : ℕ) : Type 0 where
-    pub reads : psid_read (psid_file song address image o) ≡ Ok packed
+    pub reads : psid_read (psid_file song address image o chip) ≡ Ok packed
     pub after : Machine
     pub calls : FirstCalls (loaded packed) (subtune - 1) (frames + 1)
         (first_traces o song (subtune - 1) (frames + 1)) after
@@ -148,8 +165,9 @@ module _ (song : Song) (o : Options) (address zero_page : ℕ) (image : List ℕ
   plays_its_song subtune frames bytes first last =
       let fits : address + length image ≤ 65536 = omega (arith, below) in
       let reads =
-      written_is_read_as_is (song_header song address o) address image (header_is song address o keeps place)
-      (omega (arith, place.most)) (writable song address image o keeps below (omega (arith, first, last)))
+      written_is_read_as_is (song_header song address o chip) address image
+      (header_is song address o chip keeps place) (omega (arith, place.most))
+      (writable song address image o chip keeps below (omega (arith, first, last)))
       (λ never. omega (arith, never, place.least)) in
       let is = loaded_is_machine packed fits bytes in
       let holds = image_stands packed fits in
@@ -161,19 +179,20 @@ module _ (song : Song) (o : Options) (address zero_page : ℕ) (image : List ℕ
 
 -- the packed file of a song, as a PSID file
 abbrev psid_of : (song : Song) (o : Options) (file : List ℕ) → IsPackedPsid song o file → Psid
-psid_of song o file is = record { header = song_header song is.address o; load = is.address; image = is.packed.image }
+psid_of song o file is =
+    record { header = song_header song is.address o is.chip; load = is.address; image = is.packed.image }
 
 plays : (song : Song) (o : Options) (file : List ℕ) (subtune frames : ℕ) (is : IsPackedPsid song o file) →
     1 ≤ subtune → subtune ≤ length (playable_subtunes song) →
-    Plays song o is.address is.zero_page is.packed.image is.keeps is.place is.packed.below is.packed.faithful subtune
-    frames
+    Plays song o is.chip is.address is.zero_page is.packed.image is.keeps is.place is.packed.below is.packed.faithful
+    subtune frames
 plays song o file subtune frames is first last =
-    plays_its_song song o is.address is.zero_page is.packed.image is.keeps is.place is.packed.below is.packed.faithful
-    subtune frames is.packed.bytes first last
+    plays_its_song song o is.chip is.address is.zero_page is.packed.image is.keeps is.place is.packed.below
+    is.packed.faithful subtune frames is.packed.bytes first last
 
 pub written_files_are_packed : WrittenFilesArePacked
-written_files_are_packed song o address zero_page file keeps place is =
-    record { keeps = keeps; address = address; zero_page = zero_page; place = place; packed = is.packed }
+written_files_are_packed song o address zero_page chip file keeps place is =
+    record { keeps = keeps; address = address; zero_page = zero_page; place = place; chip = chip; packed = is.packed }
 
 pub packed_files_play : PackedFilesPlay
 packed_files_play song o file subtune frames is first last =

@@ -63,7 +63,7 @@ only_large_images files name address o lines song used features ends holds are_u
     (packed_size_is_within song used) (code_is_bounded features o) count ends.4
 
 pub small_songs : SmallSongsArePacked
-small_songs files input output psid address zero_page o small =
+small_songs files input output psid address zero_page o chip small =
     let song = small.song in
     let used = small.used in
     let holds = small.holds in

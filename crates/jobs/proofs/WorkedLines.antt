@@ -2,7 +2,8 @@
 use Rattle.std.proofs.Common.{◌≡◌, ℕ, ◌+◌, ◌<◌, ◌≤◌, length, drop, refl, ap, arith}
 use Rattle.std.specs.Fmt.{digits}
 use Rattle.hex.specs.Hex.{encode_with}
-use Rattle.jobs.specs.WorkedLines.{LinesAreWorked, CostLinesAreWorked, FaultsAreWorked, ListingFaultsAreWorked, JoinFaultsAreWorked, RefusalsAreWorked, StatusesAreWorked, LimitsAreWorked, HeadersAreWorked, LargeImagesAreNotPacked}
+use Rattle.psid.specs.Format.{header_fields}
+use Rattle.jobs.specs.WorkedLines.{LinesAreWorked, CostLinesAreWorked, FaultsAreWorked, ListingFaultsAreWorked, JoinFaultsAreWorked, RefusalsAreWorked, StatusesAreWorked, LimitsAreWorked, HeadersAreWorked, FlagsAreWorked, LargeImagesAreNotPacked}
 
 pub lines_are_worked : LinesAreWorked
 unfolding digits encode_with
@@ -29,6 +30,7 @@ cost_lines_are_worked = record {
   in_instrument = refl;
   in_wave_table = refl;
   by_skip = refl;
+  by_first = refl;
   by_speed = refl;
   names = refl;
 }
@@ -125,12 +127,15 @@ headers_are_worked = record {
   first = λ s. refl;
   by_picture = λ s. refl;
   by_timer = λ s. refl;
-  flags = λ s. refl;
   raw = refl;
 }
 
+pub flags_are_worked : FlagsAreWorked
+unfolding header_fields
+flags_are_worked = record { pal_6581 = refl; pal_8580 = refl; ntsc_6581 = refl; ntsc_8580 = refl; all_four = refl }
+
 pub large_images_are_not_packed : LargeImagesAreNotPacked
-large_images_are_not_packed address zero_page song options image large packed =
+large_images_are_not_packed address zero_page song options chip image large packed =
     let same : image ≡ packed.image = ap (drop 2) packed.holds in
     no_room address (length image) (length packed.image) (ap length same) large packed.below
   where

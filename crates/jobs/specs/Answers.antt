@@ -17,6 +17,7 @@ use Rattle.cpu6502.specs.declared.memory.TheConstants.{MEMORY_SIZE}
 use Rattle.asm_text.specs.Printing.{listing_of}
 use Rattle.song_model.specs.Silence.{empty_song}
 use Rattle.song_script.specs.Shown.{script_of}
+use Rattle.command_line.specs.declared.chip.Chip.{Chip}
 use Rattle.command_line.specs.Words.{Job, Run, Asm, Join, Edit}
 use Rattle.jobs.specs.Stages.{AllPass, HoldsSong, input_limit, script_limit}
 use Rattle.command_line.specs.Forms.{WordsOf}
@@ -74,13 +75,14 @@ pub record SinkCounted (status before after : ℕ) : Type 0 where
   pub stays : status ≢ 10 → after ≡ before
 
 -- the song keeps the limits of the format, and the file is a packed PSID file of the song, played with these options,
--- for some allowed address and some zero page
+-- for some allowed address, some zero page and one of the SIDs
 pub record IsPackedPsid (song : Song) (options : Options) (file : List ℕ) : Type 0 where
   pub keeps : KeepsLimits song
   pub address : ℕ
   pub zero_page : ℕ
   pub place : IsAddress address
-  pub packed : IsPackedFile true address zero_page song options file
+  pub chip : Chip
+  pub packed : IsPackedFile true address zero_page song options chip file
 
 -- the words ask for a listing to be assembled that is the listing of an image at an origin
 pub record AssemblesListing (words : List (List ℕ)) (files : Files) (origin : ℕ) (image output : List ℕ) : Type 0 where

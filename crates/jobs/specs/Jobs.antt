@@ -46,12 +46,12 @@ pub record About : Type 1 where
   pub does : Deed
 
 abbrev pub about : Job → About
--- of a song a packed file is written, played with these options
-about (asked.Pack input output psid address zero_page options) = record {
+-- of a song a packed file is written, played with these options and made for this SID
+about (asked.Pack input output psid address zero_page options chip) = record {
   stages = IsThere input ∷ Fits input input_limit ∷ SpellsSong input ∷ CanBePlayed input ∷ HasShortPatterns input ∷
       HasRoomForImage input address options ∷ [];
   does = WritesFile output (λ files file. (song : Song) × HoldsSong files input song ×
-      IsWrittenFile psid address zero_page song options file);
+      IsWrittenFile psid address zero_page song options chip file);
 }
 -- of a song the canonical spelling is written
 about (asked.Copy input output) = record {

@@ -23,6 +23,7 @@ use Rattle.cpu6502.specs.declared.machine.Machine.{Machine}
 use Rattle.sid_run.specs.State.{loaded}
 use Rattle.psid.specs.declared.header.Psid.{Psid}
 use Rattle.psid.specs.Reading.{psid_read}
+use Rattle.command_line.specs.declared.chip.Chip.{Chip}
 use Rattle.command_line.specs.Words.{Job, Pack, Selftest, Disasm, Asm, Show, Edit}
 use Rattle.jobs.specs.Calls.{HasSubtune, FirstCalls}
 use Rattle.jobs.specs.Stages.{Stage, CanBePlayed, HasRoomForImage, HoldsSong, HoldsPsid, status_of, Ends, IsMet, Passes, AllPass, input_limit}
@@ -113,15 +114,16 @@ pub record HoldsSmallSong (files : Files) (name : List ℕ) (address : ℕ) (opt
 -- it is packed: all stages pass
 abbrev pub SmallSongsArePacked : Type 0
 SmallSongsArePacked =
-    (files : Files) (input output : List ℕ) (psid : Bool) (address zero_page : ℕ) (options : Options) →
+    (files : Files) (input output : List ℕ) (psid : Bool) (address zero_page : ℕ) (options : Options) (chip : Chip) →
     HoldsSmallSong files input address options →
-    AllPass files (stages (Pack input output psid address zero_page options))
+    AllPass files (stages (Pack input output psid address zero_page options chip))
 
 -- what is told of a song's costs adds up to the length of the image in each file that `pack` writes of it
 abbrev pub CostsAreTheImages : Type 0
 CostsAreTheImages =
-    (song : Song) (options : Options) (lines : List (List ℕ)) (psid : Bool) (address zero_page : ℕ) (file : List ℕ) →
-    (told : TellCosts song options lines) → (written : IsWrittenFile psid address zero_page song options file) →
+    (song : Song) (options : Options) (lines : List (List ℕ)) (psid : Bool) (address zero_page : ℕ) (chip : Chip)
+    (file : List ℕ) → (told : TellCosts song options lines) →
+    (written : IsWrittenFile psid address zero_page song options chip file) →
     length written.packed.image ≡ all_bytes (costs_of song told.used told.features options)
 
 -- ---- packed files
@@ -129,8 +131,8 @@ CostsAreTheImages =
 -- a PSID file that `pack` writes for an allowed address is a packed PSID file of its song
 abbrev pub WrittenFilesArePacked : Type 0
 WrittenFilesArePacked =
-    (song : Song) (options : Options) (address zero_page : ℕ) (file : List ℕ) → KeepsLimits song → IsAddress address →
-    IsWrittenFile true address zero_page song options file → IsPackedPsid song options file
+    (song : Song) (options : Options) (address zero_page : ℕ) (chip : Chip) (file : List ℕ) → KeepsLimits song →
+    IsAddress address → IsWrittenFile true address zero_page song options chip file → IsPackedPsid song options file
 
 -- a packed PSID file is read, has the subtune, and its calls return with the registers of the subtune's trace, for any
 -- number of frames

@@ -18,6 +18,7 @@ use Rattle.asm_text.specs.Printing.{listing_of}
 use Rattle.song_model.specs.Limits.{KeepsLimits}
 use Rattle.song_model.specs.Silence.{empty_song}
 use Rattle.song_script.specs.Shown.{script_of}
+use Rattle.command_line.specs.declared.chip.Chip.{Chip}
 use Rattle.command_line.specs.declared.topics.Topic.{Topic}
 use Rattle.command_line.specs.Words.{Pack, Run, Asm, Join, Edit, Selftest, Help, Version, Show, Parts}
 use Rattle.command_line.specs.Forms.{WordsOf}
@@ -44,11 +45,11 @@ pub record StatusesAreOrdinary : Type 0 where
 -- a song is packed where each of these holds of it and of its file
 abbrev pub FittingSongsArePacked : Type 0
 FittingSongsArePacked =
-    (files : Files) (input output : List ℕ) (psid : Bool) (address zero_page : ℕ) (options : Options) (song : Song)
-    (used : UsedSets) (features : ℕ) → (holds : HoldsSong files input song) → length holds.bytes ≤ input_limit →
+    (files : Files) (input output : List ℕ) (psid : Bool) (address zero_page : ℕ) (options : Options) (chip : Chip)
+    (song : Song) (used : UsedSets) (features : ℕ) → (holds : HoldsSong files input song) → length holds.bytes ≤ input_limit →
     IsPlayable song → AreUsedSets song used → AreFeatures song features → AreShort song used →
     address + data_size song used + code_bound features options ≤ 0xD000 →
-    AllPass files (stages (Pack input output psid address zero_page options))
+    AllPass files (stages (Pack input output psid address zero_page options chip))
 
 -- the listing of an image under the name that the words have is one that they have assembled, and the longest is read:
 -- that of an image that fills the memory

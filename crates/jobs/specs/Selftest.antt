@@ -6,6 +6,7 @@ use Rattle.std.specs.List.{sum, range_with_len}
 use Rattle.song_model.specs.declared.songs.Song.{Song}
 use Rattle.song_model.specs.LookUp.{playable_subtunes}
 use Rattle.play_model.specs.State.{no_options}
+use Rattle.command_line.specs.declared.chip.Chip.TheVariants.{Mos6581}
 use Rattle.cpu6502.specs.declared.machine.Machine.{Machine}
 use Rattle.psid.specs.declared.header.Psid.{Psid}
 use Rattle.psid.specs.Reading.{psid_read}
@@ -57,5 +58,5 @@ pub record FileTakes (song : Song) (file : List ℕ) (steps : ℕ) : Type 0 wher
 -- and of a file that `pack` may write for $1000 and page 0's $FC
 pub record TakesSteps (song : Song) (steps : ℕ) : Type 0 where
   pub file : List ℕ
-  pub is_written : IsWrittenFile true 0x1000 0xFC song no_options file
+  pub is_written : IsWrittenFile true 0x1000 0xFC song no_options Mos6581 file
   pub takes : FileTakes song file steps

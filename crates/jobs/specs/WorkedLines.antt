@@ -1,10 +1,11 @@
 -- Lines, statuses, limits and headers that are worked by hand.
-use Rattle.std.specs.Prelude.{◌≡◌, ℕ, ◌+◌, ◌-◌, ◌<◌, List, [], ◌∷◌, ◌++◌, Bool, true, false, codes, length, map, replicate}
+use Rattle.std.specs.Prelude.{◌≡◌, ℕ, ◌+◌, ◌-◌, ◌<◌, List, [], ◌∷◌, ◌++◌, Bool, true, false, codes, length, map, replicate, take, drop}
 use Rattle.std.specs.List.{range_with_len}
 use Rattle.song_model.specs.declared.songs.Song.{Song}
 use Rattle.song_model.specs.declared.tables.TableName.TheVariants.{Wave, Pulse, Filter}
 use Rattle.song_model.specs.Silence.{silence}
 use Rattle.play_model.specs.declared.options.Options.{Options}
+use Rattle.play_model.specs.declared.options.System.TheVariants.{Ntsc}
 use Rattle.play_model.specs.State.{no_options}
 use Rattle.play_model.specs.WorkedSongs.{subtune as orders}
 use Rattle.play_model.specs.declared.unplayable.Unplayable.TheVariants.{NoSubtune, MissingPattern, BadRestart, TableOverflow, PointerToJump}
@@ -16,6 +17,8 @@ use Rattle.song_join.specs.declared.faults.JoinFault.TheVariants.{OverLimit, Loo
 use Rattle.asm_text.specs.declared.faults.TextKind.TheVariants as text
 use Rattle.cpu6502.specs.declared.stop.Stop.TheVariants.{Illegal, Break, Decimal}
 use Rattle.cpu6502.specs.declared.stop.CallStop.TheVariants.{Stopped, Budget}
+use Rattle.command_line.specs.declared.chip.Chip.{Chip}
+use Rattle.command_line.specs.declared.chip.Chip.TheVariants.{Mos6581, Mos8580}
 use Rattle.command_line.specs.Lines.{usage_line, no_memory_line}
 use Rattle.command_line.specs.Words.{frame_limit, subtune_limit, song_number_limit}
 use Rattle.usage.specs.declared.parts.UsedParts.{UsedParts}
@@ -29,7 +32,7 @@ use Rattle.song_costs.specs.declared.kept.Cause.{Cause}
 use Rattle.song_costs.specs.declared.kept.Cause.TheVariants.{InSong, SkipOption, SpeedOption}
 use Rattle.song_costs.specs.declared.kept.PartCost.{PartCost}
 use Rattle.jobs.specs.Costs.{kind_lines, part_line, part_name}
-use Rattle.jobs.specs.Packed.{raw_file, song_header, IsPackedFile}
+use Rattle.jobs.specs.Packed.{raw_file, song_header, psid_file, IsPackedFile}
 use Rattle.jobs.specs.Selftest.{selftest_calls}
 use Rattle.jobs.specs.Stages.{IsThere, Fits, SpellsSong, CanBePlayed, HasShortPatterns, HasShortScript, HasRoomForImage, HasPlayableSubtune}
 use Rattle.jobs.specs.Stages.{CanBeEdited, IsPsid, OffersSubtune, CallsReturn, CanBeAssembled, GoTogether, status_of, input_limit, script_limit, listing_limit}
@@ -101,8 +104,9 @@ pub record CostLinesAreWorked : Type 0 where
   pub in_wave_table : part_line (costly 23 173 (InSong (InWaveTable 12)))
       ≡ codes "wave commands 173 bytes, wave row 0C\n"
   pub by_skip : part_line (costly 25 33 SkipOption) ≡ codes "skip pulse 33 bytes, SKIP\n"
+  pub by_first : part_line (costly 27 57 SkipOption) ≡ codes "skip between patterns 57 bytes, SKIP\n"
   pub by_speed : part_line (costly 26 10 SpeedOption) ≡ codes "play by timer 10 bytes, SPEED\n"
-  pub names : map part_name (range_with_len 0 27)
+  pub names : map part_name (range_with_len 0 28)
       ≡ codes "transpose"
       ∷ codes "repeat"
       ∷ codes "portamento up"
@@ -129,7 +133,8 @@ pub record CostLinesAreWorked : Type 0 where
       ∷ codes "wave commands"
       ∷ codes "skip effects"
       ∷ codes "skip pulse"
-      ∷ codes "play by timer" ∷ []
+      ∷ codes "play by timer"
+      ∷ codes "skip between patterns" ∷ []
 
 -- one for each way in which a file is no song, or no PSID file
 pub record FaultsAreWorked : Type 0 where
@@ -219,20 +224,34 @@ two_of_three = record silence {
 -- of each song: its texts in their places, play three bytes after init, and by the timer where it is played twice; and
 -- its playable subtunes are counted
 pub record HeadersAreWorked : Type 0 where
-  pub name : (s : Song) → (song_header s 0x1000 no_options).name ≡ s.name
-  pub author : (s : Song) → (song_header s 0x1000 no_options).author ≡ s.author
-  pub released : (s : Song) → (song_header s 0x1000 no_options).released ≡ s.copyright
-  pub init : (s : Song) → (song_header s 0x1000 no_options).init ≡ 0x1000
-  pub play : (s : Song) → (song_header s 0x1000 no_options).play ≡ 0x1003
-  pub songs : (song_header two_of_three 0x1000 no_options).songs ≡ 2
-  pub first : (s : Song) → (song_header s 0x1000 no_options).start_song ≡ 1
-  pub by_picture : (s : Song) → (song_header s 0x1000 no_options).speed ≡ 0
-  pub by_timer : (s : Song) → (song_header s 0x1000 twice).speed ≡ 0xFFFFFFFF
-  pub flags : (s : Song) → (song_header s 0x1000 no_options).flags ≡ 0x0014
+  pub name : (s : Song) → (song_header s 0x1000 no_options Mos6581).name ≡ s.name
+  pub author : (s : Song) → (song_header s 0x1000 no_options Mos6581).author ≡ s.author
+  pub released : (s : Song) → (song_header s 0x1000 no_options Mos6581).released ≡ s.copyright
+  pub init : (s : Song) → (song_header s 0x1000 no_options Mos6581).init ≡ 0x1000
+  pub play : (s : Song) → (song_header s 0x1000 no_options Mos6581).play ≡ 0x1003
+  pub songs : (song_header two_of_three 0x1000 no_options Mos6581).songs ≡ 2
+  pub first : (s : Song) → (song_header s 0x1000 no_options Mos6581).start_song ≡ 1
+  pub by_picture : (s : Song) → (song_header s 0x1000 no_options Mos6581).speed ≡ 0
+  pub by_timer : (s : Song) → (song_header s 0x1000 twice Mos6581).speed ≡ 0xFFFFFFFF
   pub raw : raw_file 0x1000 (1 ∷ 2 ∷ []) ≡ 0x00 ∷ 0x10 ∷ 1 ∷ 2 ∷ []
+
+-- the two bytes from $76 on of a PSID file of the silent song
+abbrev pub flag_bytes : Options → Chip → List ℕ
+flag_bytes options chip = take 2 (drop 0x76 (psid_file silence 0x1000 (0x60 ∷ []) options chip))
+
+-- they say the system and the SID, each of the four pairs, whatever the other options are
+pub record FlagsAreWorked : Type 0 where
+  pub pal_6581 : flag_bytes no_options Mos6581 ≡ 0x00 ∷ 0x14 ∷ []
+  pub pal_8580 : flag_bytes no_options Mos8580 ≡ 0x00 ∷ 0x24 ∷ []
+  pub ntsc_6581 : flag_bytes (record no_options { system = Ntsc }) Mos6581 ≡ 0x00 ∷ 0x18 ∷ []
+  pub ntsc_8580 : flag_bytes (record no_options { system = Ntsc }) Mos8580 ≡ 0x00 ∷ 0x28 ∷ []
+  pub all_four : flag_bytes (record { skip_effects = true; skip_pulse = true; skip_first = true; speed = 4; system = Ntsc })
+      Mos8580
+      ≡ 0x00 ∷ 0x28 ∷ []
 
 -- the raw file of an image that would pass $D000 is no packed file, whatever the image plays
 abbrev pub LargeImagesAreNotPacked : Type 0
 LargeImagesAreNotPacked =
-    (address zero_page : ℕ) (song : Song) (options : Options) (image : List ℕ) → 0xD000 < address + length image →
-    ¬ IsPackedFile false address zero_page song options (raw_file address image)
+    (address zero_page : ℕ) (song : Song) (options : Options) (chip : Chip) (image : List ℕ) →
+    0xD000 < address + length image →
+    ¬ IsPackedFile false address zero_page song options chip (raw_file address image)

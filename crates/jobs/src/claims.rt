@@ -2,7 +2,7 @@
 
 ghost use Rattle.jobs.specs.Laws.{OutcomesAreDue, OneStatusIsDue, OneTextIsPrinted, StagesPass, PlayableSongsPass, StatusesHaveCauses, OnlyLargeImagesAreRefused, SmallSongsArePacked, ImagesAreBounded, CostsAreTheImages, WrittenFilesArePacked, PackedFilesPlay, ListingsGoBack, ScriptsMakeSongsAgain, JoinedFilesHoldBoth};
 ghost use Rattle.jobs.specs.MetPremises.{StatusesAreOrdinary, FittingSongsArePacked, PackedFilesAreRun, ListingsAreAssembled, ScriptsAreDone, JoinableSongsAreJoined, SomeJobsHaveNoStage};
-ghost use Rattle.jobs.specs.WorkedLines.{LinesAreWorked, CostLinesAreWorked, FaultsAreWorked, ListingFaultsAreWorked, JoinFaultsAreWorked, RefusalsAreWorked, StatusesAreWorked, LimitsAreWorked, HeadersAreWorked, LargeImagesAreNotPacked};
+ghost use Rattle.jobs.specs.WorkedLines.{LinesAreWorked, CostLinesAreWorked, FaultsAreWorked, ListingFaultsAreWorked, JoinFaultsAreWorked, RefusalsAreWorked, StatusesAreWorked, LimitsAreWorked, HeadersAreWorked, FlagsAreWorked, LargeImagesAreNotPacked};
 
 /// A run has one outcome at most: one status and one name to write under, and, where nothing is written, one text.
 pub fn runs_have_one_outcome()
@@ -79,5 +79,6 @@ pub fn worked_lines()
     ensures statuses { StatusesAreWorked }
     ensures limits { LimitsAreWorked }
     ensures headers { HeadersAreWorked }
+    ensures flags { FlagsAreWorked }
     ensures room { LargeImagesAreNotPacked }
 {}

@@ -7,6 +7,7 @@ ghost use Rattle.song_model.specs.LookUp.{playable_subtunes};
 ghost use Rattle.play_model.specs.State.{no_options};
 ghost use Rattle.play_model.specs.Playable.{IsPlayable};
 ghost use Rattle.psid.specs.declared.header.Psid.{Psid as File};
+ghost use Rattle.command_line.specs.declared.chip.Chip.TheVariants.{Mos6581};
 ghost use Rattle.psid.specs.Reading.{psid_read};
 ghost use Rattle.sid_run.specs.State.{loaded};
 ghost use Rattle.command_line.specs.Last.{last_word, Says};
@@ -46,7 +47,7 @@ fn subtune_sum(song: &Song, subtune: u8) -> u64
     ensures sum { result ≡ calls_sum song.now subtune selftest_calls }
     ensures most { result ≤ 301 * 25 * 255 }
 {
-    let Ok(mut player) = start(song, subtune, Options::none()) else {
+    let Ok(mut player) = start(song, subtune, Options::default()) else {
         unreachable!()
     };
     let mut sum = 0;
@@ -125,7 +126,7 @@ fn read_packed(alloc: Global, file: &[u8]) -> Result<Psid, NoMemory>
 pub fn steps_of(alloc: Global, song: &Song, file: &[u8]) -> Result<u64, NoMemory>
     requires limits { KeepsLimits song.now }
     requires playable { IsPlayable song.now }
-    requires written { IsWrittenFile true 0x1000 0xFC song.now no_options file.now }
+    requires written { IsWrittenFile true 0x1000 0xFC song.now no_options Mos6581 file.now }
     ensures steps { IfOk result (FileTakes song.now file.now) }
     ensures most { IfOk result (λ steps. steps < 10 ^ 10) }
 {

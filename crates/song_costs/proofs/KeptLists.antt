@@ -168,5 +168,5 @@ pub kept_parts_add_up : KeptPartsAddUp
 kept_parts_add_up song features options costs small kept =
     parts_add_up features options small
     ∙ ap (λ (bytes : ℕ). part_length always + bytes)
-    (sym (told_bytes features options (range_with_len 0 27)) ∙ ap (sum_by part_length) (sym kept.parts)
+    (sym (told_bytes features options (range_with_len 0 28)) ∙ ap (sum_by part_length) (sym kept.parts)
     ∙ sym (bytes_are song features options costs kept.each))

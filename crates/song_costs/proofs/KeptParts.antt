@@ -11,7 +11,7 @@ use Rattle.song_model.specs.declared.features.Feature.TheVariants.{Transpose, Re
 use Rattle.song_model.specs.declared.songs.Song.{Song}
 use Rattle.song_model.specs.Feature.{bit_of}
 use Rattle.play_model.specs.declared.options.Options.{Options}
-use Rattle.player_parts.specs.declared.parts.TheConstants.{SKIP_EFFECTS_BIT, SKIP_PULSE_BIT, TIMER_BIT}
+use Rattle.player_parts.specs.declared.parts.TheConstants.{SKIP_EFFECTS_BIT, SKIP_PULSE_BIT, TIMER_BIT, SKIP_FIRST_BIT}
 use Rattle.code_lengths.specs.Lengths.{part_length}
 use Rattle.code_lengths.proofs.Laws.{sets_are_kept}
 use Rattle.song_costs.specs.declared.places.Place.{Place}
@@ -97,13 +97,18 @@ kept_bit features options part small few =
 
 -- ---- one cause
 
-not_skip : (bit part : ℕ) → bit < 24 → bit ≡ part → (part ≡ SKIP_EFFECTS_BIT) ⊎ (part ≡ SKIP_PULSE_BIT) → ⊥
-not_skip bit part few is (inl e) = omega arith
-not_skip bit part few is (inr e) = omega arith
+abbrev IsSkip : ℕ → Type 0
+IsSkip part = (part ≡ SKIP_EFFECTS_BIT) ⊎ (part ≡ SKIP_PULSE_BIT) ⊎ (part ≡ SKIP_FIRST_BIT)
 
-not_both : (part : ℕ) → (part ≡ SKIP_EFFECTS_BIT) ⊎ (part ≡ SKIP_PULSE_BIT) → part ≡ TIMER_BIT → ⊥
+not_skip : (bit part : ℕ) → bit < 24 → bit ≡ part → IsSkip part → ⊥
+not_skip bit part few is (inl e) = omega arith
+not_skip bit part few is (inr (inl e)) = omega arith
+not_skip bit part few is (inr (inr e)) = omega arith
+
+not_both : (part : ℕ) → IsSkip part → part ≡ TIMER_BIT → ⊥
 not_both part (inl e) timer = omega arith
-not_both part (inr e) timer = omega arith
+not_both part (inr (inl e)) timer = omega arith
+not_both part (inr (inr e)) timer = omega arith
 
 pub one_cause : (song : Song) (part : ℕ) (one other : Cause) → IsCause song part one → IsCause song part other →
     one ≡ other

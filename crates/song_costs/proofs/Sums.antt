@@ -3,7 +3,7 @@ use Rattle.std.proofs.Common.{◌≡◌, ℕ, zero, suc, ◌+◌, ◌<◌, nat_e
 use Rattle.std.specs.List.{sum_by, range_with_len}
 use Rattle.song_model.specs.declared.songs.Song.{Song}
 use Rattle.play_model.specs.declared.options.Options.{Options}
-use Rattle.player_parts.specs.declared.parts.TheConstants.{SKIP_EFFECTS_BIT, SKIP_PULSE_BIT, TIMER_BIT}
+use Rattle.player_parts.specs.declared.parts.TheConstants.{SKIP_EFFECTS_BIT, SKIP_PULSE_BIT, TIMER_BIT, SKIP_FIRST_BIT}
 use Rattle.lowering.specs.Lowered.{bit_kept}
 use Rattle.packing_rules.specs.UsedSets.{UsedSets}
 use Rattle.packing_rules.specs.SongSizes.{packed_size}
@@ -30,7 +30,7 @@ costs_add_up song used features options = (
 
 -- ---- parts
 
-sum_of_all : (number : ℕ → ℕ) → sum_by number (range_with_len 0 27) ≡ below number 27
+sum_of_all : (number : ℕ → ℕ) → sum_by number (range_with_len 0 28) ≡ below number 28
 sum_of_all number = omega arith
 
 below_same : (one other : ℕ → ℕ) (n : ℕ) → ((k : ℕ) → k < n → one k ≡ other k) → below one n ≡ below other n
@@ -40,9 +40,9 @@ below_same one other (suc n) same =
     let last = same n (omega arith) in
     omega (arith, rest, last)
 
--- the last three of 27
-last_three : (number : ℕ → ℕ) → below number 27 ≡ below number 24 + number 24 + number 25 + number 26
-last_three number = omega arith
+-- the last four of 28
+last_four : (number : ℕ → ℕ) → below number 28 ≡ below number 24 + number 24 + number 25 + number 26 + number 27
+last_four number = omega arith
 
 abbrev kept_length : ℕ → Options → ℕ → ℕ
 kept_length features options part = length_if (is_kept features options part) part
@@ -50,9 +50,9 @@ kept_length features options part = length_if (is_kept features options part) pa
 abbrev feature_length : ℕ → ℕ → ℕ
 feature_length features part = length_if (bit_kept features part) part
 
-in_all : (first sum same effects pulse timer a b c all : ℕ) → sum ≡ same → effects ≡ a → pulse ≡ b → timer ≡ c →
-    all ≡ sum + effects + pulse + timer → first + same + a + b + c ≡ first + all
-in_all first sum same effects pulse timer a b c all e f g h i = omega arith
+in_all : (always sum same effects pulse timer first a b c d all : ℕ) → sum ≡ same → effects ≡ a → pulse ≡ b → timer ≡ c →
+    first ≡ d → all ≡ sum + effects + pulse + timer + first → always + same + a + b + c + d ≡ always + all
+in_all always sum same effects pulse timer first a b c d all e f g h i j = omega arith
 
 pub parts_add_up : PartsAddUp
 parts_add_up features options small =
@@ -62,11 +62,13 @@ parts_add_up features options small =
     (λ part few. ap (λ (n : ℕ). length_if (nat_eq n 1) part) (kept.features_are part few)) in
     in_all (part_length always) (below (kept_length features options) 24)
     (sum_by (feature_length features) (range_with_len 0 24)) (kept_length features options 24)
-    (kept_length features options 25) (kept_length features options 26)
+    (kept_length features options 25) (kept_length features options 26) (kept_length features options 27)
     (length_if options.skip_effects SKIP_EFFECTS_BIT) (length_if options.skip_pulse SKIP_PULSE_BIT)
-    (length_if (nat_lt 1 options.speed) TIMER_BIT) (sum_by (kept_length features options) (range_with_len 0 27))
+    (length_if (nat_lt 1 options.speed) TIMER_BIT) (length_if options.skip_first SKIP_FIRST_BIT)
+    (sum_by (kept_length features options) (range_with_len 0 28))
     (features_are ∙ sym (features_sum (feature_length features)))
     (ap (λ (on : Bool). length_if on SKIP_EFFECTS_BIT) kept.effects)
     (ap (λ (on : Bool). length_if on SKIP_PULSE_BIT) kept.pulse)
     (ap (λ (on : Bool). length_if on TIMER_BIT) kept.timer)
-    (sum_of_all (kept_length features options) ∙ last_three (kept_length features options))
+    (ap (λ (on : Bool). length_if on SKIP_FIRST_BIT) kept.first)
+    (sum_of_all (kept_length features options) ∙ last_four (kept_length features options))

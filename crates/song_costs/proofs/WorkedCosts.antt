@@ -1,5 +1,5 @@
 -- Costs of small songs, worked out by hand.
-use Rattle.std.proofs.Common.{◌≡◌, ℕ, [], ◌∷◌, map, refl, subst, inl, arith}
+use Rattle.std.proofs.Common.{◌≡◌, ℕ, [], ◌∷◌, map, refl, subst, inl, inr, arith}
 use Rattle.std.proofs.lemmas.List.Elements.{All-cons, All-nil}
 use Rattle.base.proofs.Laws.{same_head}
 use Rattle.song_model.specs.declared.features.Feature.{Feature}
@@ -92,7 +92,9 @@ options_are_worked = record {
   no_code = λ bytes cause told. told.some told.bytes;
   not_kept = λ bytes cause told. (let e = told.kept in absurd (cc));
   skip = record { kept = refl; bytes = refl; some = λ e. absurd (omega arith); cause = inl refl };
+  first = record { kept = refl; bytes = refl; some = λ e. absurd (omega arith); cause = inr (inr refl) };
   timer = record { kept = refl; bytes = refl; some = λ e. absurd (omega arith); cause = refl };
+  not_first = λ told. (let e = told.kept in absurd (cc));
   not_skip = λ told. (let e = told.kept in absurd (cc));
   other_cause = λ told. (let e = told.cause in absurd (omega arith));
 }

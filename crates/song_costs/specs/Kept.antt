@@ -7,7 +7,7 @@ use Rattle.song_model.specs.declared.songs.Song.{Song}
 use Rattle.song_model.specs.Feature.{bit_of}
 use Rattle.play_model.specs.declared.options.Options.{Options}
 use Rattle.lowering.specs.Lowered.{bit_kept}
-use Rattle.player_parts.specs.declared.parts.TheConstants.{SKIP_EFFECTS_BIT, SKIP_PULSE_BIT, TIMER_BIT}
+use Rattle.player_parts.specs.declared.parts.TheConstants.{SKIP_EFFECTS_BIT, SKIP_PULSE_BIT, TIMER_BIT, SKIP_FIRST_BIT}
 use Rattle.code_lengths.specs.Lengths.{kept_set, part_length}
 use Rattle.song_costs.specs.declared.places.Place.{Place}
 use Rattle.song_costs.specs.declared.kept.TheConstants.{PARTS}
@@ -32,7 +32,7 @@ pub record IsPartPlace (song : Song) (part : ℕ) (place : Place) : Type 0 where
 -- a part is kept for this: one of a feature for a place of the song, the others for their options
 abbrev pub IsCause : Song → ℕ → Cause → Type 0
 IsCause song part (InSong place) = IsPartPlace song part place
-IsCause song part SkipOption = (part ≡ SKIP_EFFECTS_BIT) ⊎ (part ≡ SKIP_PULSE_BIT)
+IsCause song part SkipOption = (part ≡ SKIP_EFFECTS_BIT) ⊎ (part ≡ SKIP_PULSE_BIT) ⊎ (part ≡ SKIP_FIRST_BIT)
 IsCause song part SpeedOption = part ≡ TIMER_BIT
 
 -- what is told of such a part: its bytes and its cause

@@ -1,15 +1,16 @@
 -- Costs of small songs, worked out by hand.
-use Rattle.std.specs.Prelude.{◌≡◌, ◌≢◌, ℕ, ◌+◌, ◌^◌, Bool, List, [], ◌∷◌}
+use Rattle.std.specs.Prelude.{◌≡◌, ◌≢◌, ℕ, ◌+◌, ◌^◌, Bool, true, List, [], ◌∷◌}
 use Rattle.song_model.specs.declared.tables.TableName.{TableName}
 use Rattle.song_model.specs.declared.tables.TableName.TheVariants.{Wave, Pulse, Filter, Speed}
 use Rattle.song_model.specs.declared.songs.Song.{Song}
 use Rattle.song_model.specs.declared.features.Feature.TheVariants.{Transpose, PortaUp, InstrumentVibrato, PulseTable, FilterTable, WaveTable, WaveCommand}
 use Rattle.song_model.specs.Feature.{bit_of}
 use Rattle.play_model.specs.declared.options.Options.{Options}
+use Rattle.play_model.specs.WorkedRuns.{left_out}
 use Rattle.play_model.specs.WorkedSongs.{one_note, plucked, sides}
 use Rattle.packing_rules.specs.UsedSets.{UsedSets}
 use Rattle.packing_rules.specs.WorkedSizes.{among, note_sets, two_rests}
-use Rattle.code_lengths.specs.WorkedLengths.{plain, sparing}
+use Rattle.code_lengths.specs.WorkedLengths.{plain, sparing, sparing_first}
 use Rattle.song_costs.specs.declared.costs.Costs.{Costs}
 use Rattle.song_costs.specs.declared.places.Place.TheVariants.{InOrder, InPattern, InInstrument, InWaveTable}
 use Rattle.song_costs.specs.declared.kept.Cause.{Cause}
@@ -120,6 +121,8 @@ pub record OptionsAreWorked : Type 0 where
   pub no_code : (bytes : ℕ) (cause : Cause) → ¬ IsToldOf plain (part_cost 2 bytes cause)
   pub not_kept : (bytes : ℕ) (cause : Cause) → ¬ IsToldOf plain (part_cost 13 bytes cause)
   pub skip : IsToldOf sparing (part_cost 24 15 SkipOption)
+  pub first : IsToldOf sparing_first (part_cost 27 57 SkipOption)
   pub timer : IsToldOf sparing (part_cost 26 10 SpeedOption)
+  pub not_first : ¬ IsToldOf (left_out true true 4) (part_cost 27 57 SkipOption)
   pub not_skip : ¬ IsToldOf plain (part_cost 24 15 SkipOption)
   pub other_cause : ¬ IsToldOf sparing (part_cost 24 15 SpeedOption)

@@ -12,13 +12,13 @@ use crate::first_places::first_place;
 use crate::places::Place;
 use code_lengths::part_length;
 use play_model::Options;
-use player_parts::{SKIP_EFFECTS_BIT, SKIP_PULSE_BIT, TIMER_BIT};
+use player_parts::{SKIP_EFFECTS_BIT, SKIP_FIRST_BIT, SKIP_PULSE_BIT, TIMER_BIT};
 use song_model::{Feature, Song};
 use usage::UsedParts;
 
 /// How many parts there are beside the one that is always kept: those of the features, and behind them those of the
 /// options.
-pub const PARTS: u8 = 27;
+pub const PARTS: u8 = 28;
 
 /// The names of the parts, each at its bit, as musicians say them.
 pub const PART_NAMES: [&str; PARTS as usize] = [
@@ -49,6 +49,7 @@ pub const PART_NAMES: [&str; PARTS as usize] = [
     "skip effects",
     "skip pulse",
     "play by timer",
+    "skip between patterns",
 ];
 
 /// The features in the order of their bits.
@@ -93,7 +94,7 @@ pub enum Cause {
 /// What a part of the player costs.
 #[derive(Clone, Copy, Debug, PartialEq, Eq)]
 pub struct PartCost {
-    /// The part's bit, 0 to 26.
+    /// The part's bit, 0 to 27.
     pub part: u8,
     /// Its bytes, from 1 on.
     pub bytes: u16,
@@ -115,7 +116,7 @@ fn place_of(song: &Song, parts: &UsedParts, part: u8) -> Option<Cause>
 /// Why a part is kept, if it is.
 fn cause_of(song: &Song, parts: &UsedParts, options: Options, part: u8) -> Option<Cause>
     requires parts { AreUsedParts song.now parts.now }
-    requires part { part < 27 }
+    requires part { part < 28 }
     ensures cause { IfSome result (IsCause song.now part) }
     ensures kept { IsSome result ↔ (is_kept parts.now.features.0 options part ≡ true) }
 {
@@ -125,6 +126,7 @@ fn cause_of(song: &Song, parts: &UsedParts, options: Options, part: u8) -> Optio
     let is_on = match part {
         SKIP_EFFECTS_BIT => options.skip_effects,
         SKIP_PULSE_BIT => options.skip_pulse,
+        SKIP_FIRST_BIT => options.skip_first,
         _ => options.speed.calls() > 1,
     };
     if !is_on {
@@ -137,10 +139,10 @@ fn cause_of(song: &Song, parts: &UsedParts, options: Options, part: u8) -> Optio
 }
 
 /// What a part of the player costs for a song, with what it uses, and for options: its bytes and the reason why it is
-/// kept, exactly where it is kept and has code of its own. Parts are told by their bits, 0 to 26.
+/// kept, exactly where it is kept and has code of its own. Parts are told by their bits, 0 to 27.
 pub fn part_cost(song: &Song, parts: &UsedParts, options: Options, part: u8) -> Option<PartCost>
     requires parts { AreUsedParts song.now parts.now }
-    requires part { part < 27 }
+    requires part { part < 28 }
     ensures exact { (cost : AnyCost) → (result ≡ Some cost) ↔
         ((cost.part ≡ part) × IsPartCost song.now parts.now.features.0 options cost) }
     ensures told { IsSome result ↔

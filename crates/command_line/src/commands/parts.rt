@@ -6,7 +6,7 @@ ghost use Rattle.command_line.specs.Job.{job_of};
 ghost use Rattle.command_line.specs.Words.{texts, HasAllowedNumbers, ArePartsArguments};
 ghost use Rattle.command_line.specs.Forms.{command_of, AreArgumentsOf};
 
-use crate::arguments::options_of;
+use crate::arguments::said_options;
 use crate::words::{Job, WordsFault};
 
 /// The job that the words after `parts` name.
@@ -27,7 +27,7 @@ pub fn parts_job(arguments: &[String]) -> Result<Job<'_>, WordsFault>
     if input.is_empty() {
         return Err(WordsFault);
     }
-    let options = options_of(skip.as_str(), speed.as_str())?;
+    let options = said_options(skip.as_str(), speed.as_str())?;
     Ok(Job::Parts {
         input: input.as_str(),
         options,

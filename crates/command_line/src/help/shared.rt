@@ -9,7 +9,7 @@ pub const PARTS_FORM: &str = "goat parts IN SKIP SPEED\n";
 /// The form of `trace`.
 pub const TRACE_FORM: &str = "goat trace IN SUBTUNE FRAMES [SKIP SPEED]\n";
 /// The form of `pack`.
-pub const PACK_FORM: &str = "goat pack IN OUT psid|raw ADDRESS ZP [SKIP SPEED]\n";
+pub const PACK_FORM: &str = "goat pack IN OUT psid|raw ADDRESS ZP [SKIP SPEED [SYSTEM CHIP]]\n";
 /// The form of `run`.
 pub const RUN_FORM: &str = "goat run IN SUBTUNE FRAMES\n";
 /// The form of `show`.
@@ -42,11 +42,22 @@ pub const PSID: &str = "  IN        a PSID v2 file, at most 262,144 bytes\n";
 /// OUT.
 pub const OUT: &str = "  OUT       the file that is written\n";
 /// SKIP.
-pub const SKIP: &str = "  SKIP      what is left out of a frame: none, effects, pulse, both\n";
+pub const SKIP: &str =
+    "  SKIP      what is left out of a frame: none, effects, pulse, both, all;\n";
+/// Which SKIP fits a song.
+pub const SKIP_OF_A_SONG: &str =
+    "            all is for a song that was made with GoatTracker's default settings\n";
 /// SPEED.
 pub const SPEED: &str = "  SPEED     how often play is called in the time of a picture: 1 to 4\n";
 /// What no SKIP and SPEED mean.
 pub const UNSAID: &str = "            Without SKIP and SPEED: none 1.\n";
+/// SYSTEM.
+pub const SYSTEM: &str = "  SYSTEM    the system whose pictures SPEED counts: pal, ntsc\n";
+/// CHIP.
+pub const CHIP: &str =
+    "  CHIP      the SID that a PSID file says the song is made for: 6581, 8580\n";
+/// What no SYSTEM and CHIP mean.
+pub const NO_SYSTEM: &str = "            Without SYSTEM and CHIP: pal 6581.\n";
 /// FRAMES.
 pub const FRAMES: &str = "  FRAMES    how many frames: 0 to 100000\n";
 
@@ -69,15 +80,12 @@ pub const NOT_A_SONG: &str =
     "  5    not a song: bad magic, or truncated, over limit, bad order, bad row at N\n";
 /// Status 6.
 pub const UNPLAYABLE: &str =
-    "  6    unplayable: no subtune, missing pattern P in subtune S channel C place I,
-";
+    "  6    unplayable: no subtune, missing pattern P in subtune S channel C place I,\n";
 /// How its line goes on.
-pub const UNPLAYABLE_ORDER: &str = "       bad restart in subtune S channel C,
-";
+pub const UNPLAYABLE_ORDER: &str = "       bad restart in subtune S channel C,\n";
 /// And on.
 pub const UNPLAYABLE_TABLE: &str =
-    "       wave, pulse or filter table ends before row R, or pointer to jump row R
-";
+    "       wave, pulse or filter table ends before row R, or pointer to jump row R\n";
 /// Status 7, of a pattern.
 pub const LONG_PATTERN: &str = "  7    too large: pattern P packs to L bytes\n";
 /// Status 9.

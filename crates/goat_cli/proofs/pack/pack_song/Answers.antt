@@ -65,6 +65,6 @@ returns g c = λ sink.
     let file = c.deref.result.now in
     let is =
     image_written c.in_ok-packed.packed song c.args.options packs c.args.psid c.args.address c.args.zero_page
-    c.in_ok-image.image file image.built image.address image.zero_page
+    c.args.chip c.in_ok-image.image file image.built image.address image.zero_page
     (c.deref.ensures.value ∙ c.in_ok-file.ensures) in
     written sink at (file, (song, holds, is), record { lines_are = refl; write_is = refl }) c.write_file.ensures

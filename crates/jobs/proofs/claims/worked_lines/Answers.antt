@@ -1,5 +1,5 @@
 -- The worked lines.
-use Rattle.jobs.proofs.WorkedLines.{lines_are_worked, cost_lines_are_worked, faults_are_worked, listing_faults_are_worked, join_faults_are_worked, refusals_are_worked, statuses_are_worked, limits_are_worked, headers_are_worked, large_images_are_not_packed}
+use Rattle.jobs.proofs.WorkedLines.{lines_are_worked, cost_lines_are_worked, faults_are_worked, listing_faults_are_worked, join_faults_are_worked, refusals_are_worked, statuses_are_worked, limits_are_worked, headers_are_worked, flags_are_worked, large_images_are_not_packed}
 use Rattle.jobs.proofs.claims.worked_lines.Goals as goal
 
 pub returns : goal.returns
@@ -13,5 +13,6 @@ returns c = record {
   statuses = statuses_are_worked;
   limits = limits_are_worked;
   headers = headers_are_worked;
+  flags = flags_are_worked;
   room = large_images_are_not_packed;
 }

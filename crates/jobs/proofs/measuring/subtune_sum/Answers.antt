@@ -6,7 +6,7 @@ use Rattle.jobs.proofs.measuring.subtune_sum.Goals as goal
 pub loop-call-init : goal.loop-call-init
 loop-call-init c =
     none_summed c.args.song.now c.args.subtune c.in-Ok.player
-    (player_stands c.args.song.now c.args.subtune c.none.result c.in-Ok.player c.none.ensures c.in-Ok.ensures.plays
+    (player_stands c.args.song.now c.args.subtune c.default.result c.in-Ok.player c.default.ensures c.in-Ok.ensures.plays
     c.in-Ok.ensures.start)
 
 pub loop-call-preserved : goal.loop-call-preserved
