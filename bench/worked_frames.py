@@ -8,7 +8,7 @@ repository's. The recorded runs aren't kept beside this script. For each run FIL
     the song's file of the format GTS5, in hexadecimal
     the 25 registers after call 1, in hexadecimal, and so on for each call up to FRAMES
 
-Subtunes are counted from 1. SKIP is none, effects, pulse or both, SPEED is 1 to 4. A line that begins
+Subtunes are counted from 1. SKIP is none, effects, pulse, both or all, SPEED is 1 to 4. A line that begins
 with # is left out, and so are the song's texts and the names of its instruments.
 
 Each run of a song SONG becomes a field of a record in crates/play_model/specs/NAME.antt, which is
@@ -140,7 +140,8 @@ def runs_of(path):
     while lines:
         _, name, subtune, frames, skip, speed = lines[0].split()
         end = 2 + int(frames)
-        options = f"(left_out {str(skip in ('effects', 'both')).lower()} {str(skip in ('pulse', 'both')).lower()} {speed})"
+        effects, pulse = (str(skip in (word, "both")).lower() for word in ("effects", "pulse"))
+        options = f"(all_left_out {speed})" if skip == "all" else f"(left_out {effects} {pulse} {speed})"
         runs.append((name, int(subtune) - 1, f"{skip}_{speed}", options, bytes.fromhex(lines[1]), lines[2:end]))
         lines = lines[end:]
     return runs
@@ -159,11 +160,15 @@ def main():
     crate = os.path.join(os.path.dirname(os.path.dirname(os.path.abspath(__file__))), "crates/play_model")
     runs = [run for run in runs_of(path) if run[0] in wanted]
     songs = {run[0]: run[4] for run in runs}
-    specs = [SPEC_HEAD]
+    with_all = any(run[2].startswith("all") for run in runs)
+    head, proof_head = (
+        text.replace("left_out", "all_left_out, left_out") if with_all else text for text in (SPEC_HEAD, PROOF_HEAD)
+    )
+    specs = [head]
     for name, data in songs.items():
         specs += song_lines(plain_name(name), data)
     specs.append(f"pub record {module}Hold : Type 0 where")
-    proofs = [PROOF_HEAD + "use Rattle.play_model.proofs.Computed.{calls_from, plays}"]
+    proofs = [proof_head + "use Rattle.play_model.proofs.Computed.{calls_from, plays}"]
     names = ", ".join([plain_name(name) for name in songs] + [f"{module}Hold"])
     proofs += [f"use Rattle.play_model.specs.{module}.{{{names}}}", "", f"pub {lemma_name(module)} : {module}Hold", UNFOLDING]
     proofs.append(f"{lemma_name(module)} = record {{")
