@@ -1,0 +1,56 @@
+-- The worked blocks, computed by the checker.
+use Rattle.std.proofs.Common.{refl}
+use Rattle.scopes.specs.WorkedScopes.{ScopesAreWorked}
+
+pub scopes_are_worked : ScopesAreWorked
+scopes_are_worked = record {
+  loops = record {
+    left = refl;
+    left_in = refl;
+    once = refl;
+    twice = refl;
+    twice_in = refl;
+    three_times = refl;
+    ends = refl;
+    too_often = refl;
+  };
+  searches = record {
+    found = refl;
+    found_in = refl;
+    missed = refl;
+    missed_in = refl;
+    ends = refl;
+  };
+  scopes = record {
+    outer = refl;
+    outer_in = refl;
+    inner = refl;
+    inner_in = refl;
+    neither = refl;
+    innermost = refl;
+    not_come_to = refl;
+    bad_form = refl;
+  };
+  voices = record {
+    first = refl;
+    second = refl;
+    third = refl;
+    first_wave = refl;
+    second_wave = refl;
+    third_wave = refl;
+    last_x = refl;
+    all_in = refl;
+    ends = refl;
+  };
+  conditions = record {
+    holds = refl;
+    not = refl;
+    holds_in = refl;
+    not_in = refl;
+  };
+  reads = record {
+    sum = refl;
+    low = refl;
+    high = refl;
+  };
+}

@@ -1,0 +1,7 @@
+-- To believe: the desk, what instructions do on it, the tree of a block's lines, and what it means.
+pub mod Desk
+pub mod Steps
+pub mod Trees
+pub mod Meaning
+-- Worked by hand.
+pub mod WorkedScopes
