@@ -21,6 +21,13 @@ scopes_are_worked = record {
     missed_in = refl;
     ends = refl;
   };
+  turns = record {
+    sum = refl;
+    sum_in = refl;
+    ends = refl;
+    again_on = refl;
+    again_on_ends = refl;
+  };
   scopes = record {
     outer = refl;
     outer_in = refl;
@@ -28,8 +35,19 @@ scopes_are_worked = record {
     inner_in = refl;
     neither = refl;
     innermost = refl;
+    all = refl;
+    all_in = refl;
     not_come_to = refl;
-    bad_form = refl;
+  };
+  stuck = record {
+    decimal = refl;
+    not_closed = refl;
+    end_too_many = refl;
+    end_before_its_scope = refl;
+    voice_goes_on = refl;
+    voice_goes_on_in = refl;
+    voice_stuck = refl;
+    voice_stuck_in = refl;
   };
   voices = record {
     first = refl;
@@ -42,15 +60,39 @@ scopes_are_worked = record {
     all_in = refl;
     ends = refl;
   };
+  numbers = record {
+    once = refl;
+    first = refl;
+    second = refl;
+    third = refl;
+    all_in = refl;
+    ends = refl;
+  };
   conditions = record {
     holds = refl;
     not = refl;
     holds_in = refl;
     not_in = refl;
+    apart = refl;
+    apart_in = refl;
   };
   reads = record {
     sum = refl;
     low = refl;
     high = refl;
+  };
+  stores = record {
+    register = refl;
+    low = refl;
+    high = refl;
+    doubled = refl;
+    entry = refl;
+    pointed = refl;
+    all_in = refl;
+  };
+  prices = record {
+    halved = refl;
+    sought = refl;
+    risen = refl;
   };
 }

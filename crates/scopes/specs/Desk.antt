@@ -12,8 +12,8 @@ pub record Desk : Type 0 where
   pub cpu : Cpu
   pub at : ℕ → ℕ
 
--- what a block is laid out by: the address of each label, the place of the pointer's low byte in page 0, and which
--- conditions hold
+-- what a block is laid out by: the address of each label, the place of the pointer's low byte in page 0, 0 to 254, and
+-- which conditions hold
 pub record Layout : Type 0 where
   pub address : ℕ → ℕ
   pub pointer : ℕ
@@ -23,18 +23,18 @@ abbrev pub half_of : Half → ℕ
 half_of Low = 0
 half_of High = 1
 
--- the place of an operand in memory, for a voice that is counted from 0; the byte of a number has none
-abbrev pub operand_place : Layout → ℕ → Operand → Desk → ℕ
-operand_place layout voice (Number number) desk = 0
-operand_place layout voice (Var label) desk = layout.address label
-operand_place layout voice (Own label) desk = layout.address (label + 7 * voice)
-operand_place layout voice (Entry label) desk = (layout.address label + desk.cpu.y) % MEMORY_SIZE
-operand_place layout voice Pointed desk =
+-- the place of an operand in memory, mod 65,536 where it is by a register; a number has none
+abbrev pub operand_place : Layout → Operand → Desk → ℕ
+operand_place layout (Number number) desk = 0
+operand_place layout (Var label) desk = layout.address label
+operand_place layout (Own label) desk = (layout.address label + desk.cpu.x) % MEMORY_SIZE
+operand_place layout (Entry label) desk = (layout.address label + desk.cpu.y) % MEMORY_SIZE
+operand_place layout Pointed desk =
     (desk.at layout.pointer + 256 * desk.at (layout.pointer + 1) + desk.cpu.y) % MEMORY_SIZE
-operand_place layout voice (Pointer half) desk = layout.pointer + half_of half
-operand_place layout voice (Register register) desk = 0xD400 + register
-operand_place layout voice (OwnRegister register) desk = 0xD400 + register + 7 * voice
-operand_place layout voice (Timer half) desk = 0xDC04 + half_of half
+operand_place layout (Pointer half) desk = layout.pointer + half_of half
+operand_place layout (Register register) desk = 0xD400 + register
+operand_place layout (OwnRegister register) desk = (0xD400 + register + desk.cpu.x) % MEMORY_SIZE
+operand_place layout (Timer half) desk = 0xDC04 + half_of half
 
 -- what is read there
 abbrev pub operand_read : Operand → Desk → ℕ → ℕ

@@ -1,5 +1,5 @@
 -- What a block means on the desk, kind by kind, and what it costs. This is the project's own language of player code.
-use Rattle.std.specs.Prelude.{ℕ, zero, suc, ◌+◌, ◌*◌, Bool, not, nat_eq, if◌then◌else◌}
+use Rattle.std.specs.Prelude.{ℕ, zero, suc, ◌+◌, ◌*◌, Bool, not, Option, Some, None, nat_eq, if◌then◌else◌}
 use Rattle.cpu6502.specs.declared.mnemonic.Mnemonic.{Mnemonic}
 use Rattle.cpu6502.specs.Registers.{with_x}
 use Rattle.scopes.specs.declared.line.Operand.{Operand}
@@ -37,21 +37,28 @@ pub record Ran : Type 0 where
   pub desk : Desk
   pub cost : ℕ
 
--- what lines cost, instructions or cycles: by their instruction and the desk before it
+-- what lines cost, instructions or cycles: an instruction without or with its operand, by the desk before it; a leave or a
+-- next turn without a test; a leave whose test is met, and one whose test isn't; the same of a next turn; and what begins
+-- and ends each voice
 pub record Prices : Type 0 where
   pub alone : Mnemonic → Desk → ℕ
   pub operand : Mnemonic → Operand → Desk → ℕ
   pub jump : ℕ
+  pub left : ℕ
+  pub stayed : ℕ
   pub taken : ℕ
   pub passed : ℕ
   pub voice : ℕ
 
--- each instruction counts one; a voice is a load of X, a call and a return
+-- each instruction counts one, where a branch comes as far as each leave goes, and each of the voices is called: that is a
+-- load of X, a call and a return
 abbrev pub each_one : Prices
 each_one = record {
   alone = λ mnemonic desk. 1;
   operand = λ mnemonic operand desk. 1;
   jump = 1;
+  left = 1;
+  stayed = 1;
   taken = 1;
   passed = 1;
   voice = 3;
@@ -59,6 +66,11 @@ each_one = record {
 
 abbrev pub ended : Outcome → Desk → ℕ → Ran
 ended outcome desk cost = record { outcome = outcome; desk = desk; cost = cost }
+
+-- an instruction at which the processor stops is stuck
+abbrev pub stepped : Option Desk → Desk → ℕ → Ran
+stepped None desk cost = ended Stuck desk 0
+stepped (Some after) desk cost = ended Done after cost
 
 -- with what was paid before
 abbrev pub paid : ℕ → Ran → Ran
@@ -90,7 +102,8 @@ abbrev pub turns : ℕ → (Desk → Ran) → Desk → Ran
 turns zero body desk = ended Stuck desk 0
 turns (suc more) body desk = next_turn (body desk).outcome (body desk) (turns more body)
 
--- a voice ends at the end of its lines, and where they leave a scope; it can't go on with a loop around it
+-- a voice ends at the end of its lines, and where they leave a scope around the voices; it can't go on with a loop around
+-- them
 abbrev pub out_of_voice : Outcome → Outcome
 out_of_voice Done = Done
 out_of_voice (Left name) = Done
@@ -98,33 +111,32 @@ out_of_voice Again = Stuck
 out_of_voice Stuck = Stuck
 
 -- it begins with 7 times its number in X
-abbrev pub for_voice : Prices → (ℕ → Desk → Ran) → ℕ → Desk → Ran
+abbrev pub for_voice : Prices → (Desk → Ran) → ℕ → Desk → Ran
 for_voice prices body voice desk =
-    let done = body voice (record desk { cpu = with_x desk.cpu (7 * voice) }) in
+    let done = body (record desk { cpu = with_x desk.cpu (7 * voice) }) in
     paid prices.voice (record done { outcome = out_of_voice done.outcome })
 
 -- ---- trees
 
-abbrev pub ran : Prices → Layout → Tree → ℕ → Desk → Ran
-ran prices layout (DoTree mnemonic) voice desk = ended Done (done mnemonic desk) (prices.alone mnemonic desk)
-ran prices layout (WithTree mnemonic operand) voice desk =
-    ended Done (done_with layout voice mnemonic operand desk) (prices.operand mnemonic operand desk)
-ran prices layout NoneTree voice desk = ended Done desk 0
-ran prices layout (ThenTree first rest) voice desk =
-    and_then (ran prices layout first voice desk) (ran prices layout rest voice)
-ran prices layout (ScopeTree name body) voice desk = scoped name (ran prices layout body voice desk)
-ran prices layout (LeaveTree name) voice desk = ended (Left name) desk prices.jump
-ran prices layout (LeaveIfTree name test) voice desk =
-    if is_met test desk then ended (Left name) desk prices.taken else ended Done desk prices.passed
-ran prices layout (LoopTree count body) voice desk = turns count (ran prices layout body voice) desk
-ran prices layout AgainTree voice desk = ended Again desk prices.jump
-ran prices layout (AgainIfTree test) voice desk =
+abbrev pub ran : Prices → Layout → Tree → Desk → Ran
+ran prices layout (DoTree mnemonic) desk = stepped (done mnemonic desk) desk (prices.alone mnemonic desk)
+ran prices layout (WithTree mnemonic operand) desk =
+    stepped (done_with layout mnemonic operand desk) desk (prices.operand mnemonic operand desk)
+ran prices layout NoneTree desk = ended Done desk 0
+ran prices layout (ThenTree first rest) desk = and_then (ran prices layout first desk) (ran prices layout rest)
+ran prices layout (ScopeTree name body) desk = scoped name (ran prices layout body desk)
+ran prices layout (LeaveTree name) desk = ended (Left name) desk prices.jump
+ran prices layout (LeaveIfTree name test) desk =
+    if is_met test desk then ended (Left name) desk prices.left else ended Done desk prices.stayed
+ran prices layout (LoopTree count body) desk = turns count (ran prices layout body) desk
+ran prices layout AgainTree desk = ended Again desk prices.jump
+ran prices layout (AgainIfTree test) desk =
     if is_met test desk then ended Again desk prices.taken else ended Done desk prices.passed
-ran prices layout (WhenTree condition body) voice desk =
-    if layout.holds condition then ran prices layout body voice desk else ended Done desk 0
-ran prices layout (ChooseTree condition this other) voice desk =
-    if layout.holds condition then ran prices layout this voice desk else ran prices layout other voice desk
-ran prices layout NeverTree voice desk = ended Stuck desk 0
-ran prices layout (VoicesTree body) voice desk =
+ran prices layout (WhenTree condition body) desk =
+    if layout.holds condition then ran prices layout body desk else ended Done desk 0
+ran prices layout (ChooseTree condition this other) desk =
+    if layout.holds condition then ran prices layout this desk else ran prices layout other desk
+ran prices layout NeverTree desk = ended Stuck desk 0
+ran prices layout (VoicesTree body) desk =
     and_then (for_voice prices (ran prices layout body) 0 desk) (λ one.
     and_then (for_voice prices (ran prices layout body) 1 one) (for_voice prices (ran prices layout body) 2))

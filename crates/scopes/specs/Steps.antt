@@ -16,23 +16,23 @@ abbrev pub all_put : List Write → (ℕ → ℕ) → ℕ → ℕ
 all_put [] at = at
 all_put (write ∷ writes) at = all_put writes (put at write.place write.value)
 
--- the desk behind an effect; what has none or stops leaves it
-abbrev pub effected : Desk → Option Effect → Desk
-effected desk None = desk
-effected desk (Some effect) = record { cpu = effect.cpu; at = all_put effect.writes desk.at }
+-- the desk behind an effect; none where the instruction has none
+abbrev pub effected : Desk → Option Effect → Option Desk
+effected desk None = None
+effected desk (Some effect) = Some (record { cpu = effect.cpu; at = all_put effect.writes desk.at })
 
 abbrev pub unless_stopped : Result Effect Stop → Option Effect
 unless_stopped (Ok effect) = Some effect
 unless_stopped (Err stop) = None
 
--- an instruction with its operand
-abbrev pub done_with : Layout → ℕ → Mnemonic → Operand → Desk → Desk
-done_with layout voice mnemonic operand desk =
-    effected desk (unless_stopped (effect_of mnemonic 0 (operand_place layout voice operand desk)
+-- an instruction with its operand; none where the processor stops
+abbrev pub done_with : Layout → Mnemonic → Operand → Desk → Option Desk
+done_with layout mnemonic operand desk =
+    effected desk (unless_stopped (effect_of mnemonic 0 (operand_place layout operand desk)
     (operand_read operand desk) desk.cpu))
 
 -- one without: a shift of A, or what works on registers and flags
-abbrev pub done : Mnemonic → Desk → Desk
+abbrev pub done : Mnemonic → Desk → Option Desk
 done mnemonic desk =
     effected desk
     (or_effect (unless_stopped (accumulator_effect mnemonic 0 desk.cpu))

@@ -4,7 +4,7 @@
 //! A block is a flat list of lines, written once as a constant. The layer's one contract: what its lines mean, as a
 //! function of the desk, computes, and worked blocks mean what they say.
 //!
-//! It stands on `cpu6502`: what an instruction does on the desk is what it does on the machine. See `docs/blocks.md`.
+//! It stands on `cpu6502`: what an instruction does on the desk is what it does on the machine. See `docs/scopes.md`.
 #![tactic(auto)]
 
 pub mod claims;

@@ -18,18 +18,17 @@ pub enum Operand {
     Number(u8),
     /// The byte under a label.
     Var(u16),
-    /// The current voice's byte: under the label for the first voice, under the label plus 7 for the second, plus 14 for
-    /// the third.
+    /// The byte at the label's address plus X, mod 65,536: the current voice's, where X is 7 times its number.
     Own(u16),
     /// The byte at the label's address plus Y, mod 65,536.
     Entry(u16),
     /// The byte at the 16-bit address in the pointer, plus Y, mod 65,536.
     Pointed,
-    /// A byte of the pointer.
+    /// A byte of the pointer, two bytes in page 0.
     Pointer(Half),
     /// A SID register, 0 to 24, at `$D400` on.
     Register(u8),
-    /// A SID register of the current voice, 0 to 6.
+    /// A SID register of the current voice, 0 to 6: at `$D400` plus it plus X, mod 65,536.
     OwnRegister(u8),
     /// A byte of the first timer of CIA 1, at `$DC04` and `$DC05`.
     Timer(Half),
@@ -62,27 +61,28 @@ pub enum Line {
     Do(Mnemonic),
     /// An instruction with its operand.
     With(Mnemonic, Operand),
-    /// Opens a scope with this name.
+    /// Opens a scope with this name, 0 to 255.
     Scope(u8),
     /// Goes on behind the innermost scope around it that has this name.
     Leave(u8),
     /// The same where the test is met.
     LeaveIf(u8, Test),
-    /// Opens a loop, which has at most this many turns.
+    /// Opens a loop, which has at most this many turns, 0 to 255; one more is stuck.
     Loop(u8),
     /// Begins the next turn of the innermost loop.
     Again,
     /// The same where the test is met.
     AgainIf(Test),
-    /// Opens lines that are kept where a condition holds.
+    /// Opens lines that are kept where a condition, 0 to 255, holds.
     When(u8),
-    /// Opens lines that are kept where a condition holds, up to the `Or`, and the others behind it.
+    /// Opens lines that are kept where a condition, 0 to 255, holds, up to the `Or`, and the others behind it.
     Choose(u8),
     /// Parts the two sides of a `Choose`.
     Or,
     /// Is never come to.
     Never,
-    /// Opens lines that are done for each voice. Where they leave a scope around them, the voice ends.
+    /// Opens lines that are done for each voice, with 7 times its number in X. Where they leave a scope around them, the
+    /// voice ends.
     Voices,
     /// Closes what was opened last.
     End,

@@ -2,22 +2,24 @@
 
 use crate::{Line, text};
 
-/// The names of two scopes.
+/// The outer scope's name.
 pub const OUTER: u8 = 0;
-/// The inner one.
+/// The inner scope's name.
 pub const INNER: u8 = 1;
 
 /// A condition.
 pub const SHORT: u8 = 5;
+/// Another condition.
+pub const LONG: u8 = 6;
 
-/// The label of a counter, of a byte of each voice, and of a list.
+/// The label of a counter.
 pub const COUNTER: u16 = 3;
-/// The first voice's byte; those of the others are 7 and 14 bytes on.
+/// The label of the first voice's byte; those of the others stand 7 and 14 bytes on.
 pub const LEVEL: u16 = 8;
-/// The list.
+/// The label of a list.
 pub const LIST: u16 = 64;
 
-/// Halves A as often as the counter says, at most three times, and not at all where it is 0.
+/// Halves A as often as the counter says, 0 to 3 times; from 4 on it is stuck.
 pub const HALVED: &[Line] = text! {
     scope OUTER {
         Ldy Var COUNTER;
@@ -30,7 +32,8 @@ pub const HALVED: &[Line] = text! {
     }
 };
 
-/// From 16 on A becomes 1, from 8 on 2, else 3; behind both scopes 4 is added, behind the inner one 64 too.
+/// Where A is 16 or more it becomes 1, else where Y is 8 or more 2, else 3; behind both scopes 4 is added, behind the inner
+/// one 64 too.
 pub const LEFT_TWICE: &[Line] = text! {
     scope OUTER {
         scope INNER {
@@ -72,6 +75,37 @@ pub const SAME_NAME: &[Line] = text! {
     }
 };
 
+/// A name that no scope around it has.
+pub const LEFT_ALL: &[Line] = text! {
+    leave OUTER;
+};
+
+/// Adds one to A twice in each of two turns; the inner loop goes on from within a scope.
+pub const LOOP_IN_LOOP: &[Line] = text! {
+    Ldy Number 2;
+    turns 2 {
+        Ldx Number 2;
+        turns 2 {
+            scope INNER {
+                Clc;
+                Adc Number 1;
+                Dex;
+                again off Zero;
+            }
+        }
+        Dey;
+        again off Zero;
+    }
+};
+
+/// Halves A, and once more where a bit left it.
+pub const HALVED_AGAIN: &[Line] = text! {
+    turns 2 {
+        Lsr;
+        again on Carry;
+    }
+};
+
 /// Adds one to each voice's byte, but leaves a voice whose byte is 0, and writes what it has come to as its waveform.
 pub const EACH_RISEN: &[Line] = text! {
     scope OUTER {
@@ -82,6 +116,36 @@ pub const EACH_RISEN: &[Line] = text! {
             Lda Own LEVEL;
             Sta OwnRegister 4;
         }
+    }
+};
+
+/// Counts where X is 0, by a scope of the voice's own, and keeps X in each voice's byte.
+pub const VOICES_COUNTED: &[Line] = text! {
+    voices {
+        scope INNER {
+            leave INNER off Zero;
+            Inc Var COUNTER;
+        }
+        Txa;
+        Sta Own LEVEL;
+    }
+};
+
+/// A voice that would go on with the loop around it, once.
+pub const VOICE_GOES_ON: &[Line] = text! {
+    turns 2 {
+        voices {
+            Cmp Number 1;
+            Lda Number 1;
+            again off Carry;
+        }
+    }
+};
+
+/// A voice that is stuck.
+pub const VOICE_STUCK: &[Line] = text! {
+    voices {
+        never;
     }
 };
 
@@ -97,6 +161,18 @@ pub const CHOSEN: &[Line] = text! {
     }
 };
 
+/// Lines under two conditions.
+pub const CHOSEN_APART: &[Line] = text! {
+    choose SHORT {
+        Lda Number 1;
+    } or {
+        Lda Number 2;
+    }
+    when LONG {
+        Ora Number 128;
+    }
+};
+
 /// A byte of a list by Y, and the byte that the pointer and Y name.
 pub const READ: &[Line] = text! {
     Lda Number 0x20;
@@ -108,6 +184,23 @@ pub const READ: &[Line] = text! {
     Adc Pointed;
 };
 
+/// Stores by each kind of operand that no other block stores by, and over the end of memory.
+pub const STORED: &[Line] = text! {
+    Lda Number 7;
+    Sta Register 24;
+    Sta Timer Low;
+    Lda Number 9;
+    Sta Timer High;
+    Asl Var COUNTER;
+    Ldy Number 2;
+    Sta Entry 0xEFFF;
+    Lda Number 0xFF;
+    Sta Pointer Low;
+    Sta Pointer High;
+    Ldy Number 3;
+    Sta Pointed;
+};
+
 /// What is never come to, behind what is left in any case.
 pub const NOT_COME_TO: &[Line] = text! {
     scope OUTER {
@@ -116,5 +209,21 @@ pub const NOT_COME_TO: &[Line] = text! {
     }
 };
 
+/// A sum with the decimal flag, at which the processor of this project stops.
+pub const DECIMAL: &[Line] = text! {
+    Sed;
+    Adc Number 1;
+};
+
 /// Lines in bad form: a scope that nothing closes.
-pub const BAD_FORM: [Line; 2] = [Line::Scope(OUTER), Line::Do(cpu6502::Mnemonic::Dey)];
+pub const NOT_CLOSED: [Line; 2] = [Line::Scope(OUTER), Line::Do(cpu6502::Mnemonic::Dey)];
+
+/// Lines in bad form: an end too many.
+pub const END_TOO_MANY: [Line; 2] = [Line::Do(cpu6502::Mnemonic::Dey), Line::End];
+
+/// Lines in bad form: an end too many, in front of a scope that nothing closes.
+pub const END_BEFORE_ITS_SCOPE: [Line; 3] = [
+    Line::Do(cpu6502::Mnemonic::Dey),
+    Line::End,
+    Line::Scope(OUTER),
+];
