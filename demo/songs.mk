@@ -14,12 +14,14 @@ ADDRESS ?= 1000
 ZP      ?= FC
 SKIP    ?= none
 SPEED   ?= 1
+SYSTEM  ?= pal
+CHIP    ?= 6581
 
 .PHONY: songs
 songs: $(SONGS:.sng=.raw)
 
 %.raw: %.sng
-	$(GOAT) pack $< $@ raw $(ADDRESS) $(ZP) $(SKIP) $(SPEED)
+	$(GOAT) pack $< $@ raw $(ADDRESS) $(ZP) $(SKIP) $(SPEED) $(SYSTEM) $(CHIP)
 
 %.sid: %.sng
-	$(GOAT) pack $< $@ psid $(ADDRESS) $(ZP) $(SKIP) $(SPEED)
+	$(GOAT) pack $< $@ psid $(ADDRESS) $(ZP) $(SKIP) $(SPEED) $(SYSTEM) $(CHIP)
