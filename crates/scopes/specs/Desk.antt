@@ -12,16 +12,19 @@ pub record Desk : Type 0 where
   pub cpu : Cpu
   pub at : ℕ → ℕ
 
--- what a block is laid out by: the address of each label, the place of the pointer's low byte in page 0, 0 to 254, and
--- which conditions hold
+-- what a block is laid out by: the address of each label, the place of the pointer's low byte in page 0, 0 to 254,
+-- which conditions hold, and at which places it may read and write beside the pointer's own two
 pub record Layout : Type 0 where
   pub address : ℕ → ℕ
   pub pointer : ℕ
   pub holds : ℕ → Bool
+  pub may_read : ℕ → Bool
+  pub may_write : ℕ → Bool
 
-abbrev pub half_of : Half → ℕ
-half_of Low = 0
-half_of High = 1
+-- the place of one of two bytes, of which the low one stands first
+abbrev pub half_place : ℕ → Half → ℕ
+half_place place Low = place
+half_place place High = place + 1
 
 -- the place of an operand in memory, mod 65,536 where it is by a register; a number has none
 abbrev pub operand_place : Layout → Operand → Desk → ℕ
@@ -31,10 +34,10 @@ operand_place layout (Own label) desk = (layout.address label + desk.cpu.x) % ME
 operand_place layout (Entry label) desk = (layout.address label + desk.cpu.y) % MEMORY_SIZE
 operand_place layout Pointed desk =
     (desk.at layout.pointer + 256 * desk.at (layout.pointer + 1) + desk.cpu.y) % MEMORY_SIZE
-operand_place layout (Pointer half) desk = layout.pointer + half_of half
+operand_place layout (Pointer half) desk = half_place layout.pointer half
 operand_place layout (Register register) desk = 0xD400 + register
 operand_place layout (OwnRegister register) desk = (0xD400 + register + desk.cpu.x) % MEMORY_SIZE
-operand_place layout (Timer half) desk = 0xDC04 + half_of half
+operand_place layout (Timer half) desk = half_place 0xDC04 half
 
 -- what is read there
 abbrev pub operand_read : Operand → Desk → ℕ → ℕ

@@ -1,7 +1,6 @@
 -- What a block means on the desk, kind by kind, and what it costs. This is the project's own language of player code.
 use Rattle.std.specs.Prelude.{ℕ, zero, suc, ◌+◌, ◌*◌, Bool, not, Option, Some, None, nat_eq, if◌then◌else◌}
 use Rattle.cpu6502.specs.declared.mnemonic.Mnemonic.{Mnemonic}
-use Rattle.cpu6502.specs.Registers.{with_x}
 use Rattle.scopes.specs.declared.line.Operand.{Operand}
 use Rattle.scopes.specs.declared.line.Flag.{Flag}
 use Rattle.scopes.specs.declared.line.Flag.TheVariants.{Zero, Minus, Carry}
@@ -9,7 +8,7 @@ use Rattle.scopes.specs.declared.line.Test.{Test}
 use Rattle.scopes.specs.declared.line.Test.TheVariants.{On, Off}
 use Rattle.scopes.specs.Desk.{Desk, Layout}
 use Rattle.scopes.specs.Steps.{done, done_with}
-use Rattle.scopes.specs.Trees.{Tree, DoTree, WithTree, NoneTree, ThenTree, ScopeTree, LeaveTree, LeaveIfTree, LoopTree, AgainTree, AgainIfTree, WhenTree, ChooseTree, NeverTree, VoicesTree}
+use Rattle.scopes.specs.Trees.{Tree, DoTree, WithTree, NoneTree, ThenTree, ScopeTree, LeaveTree, LeaveIfTree, LoopTree, AgainTree, AgainIfTree, WhenTree, ChooseTree, NeverTree}
 
 -- ---- tests
 
@@ -24,8 +23,8 @@ is_met (Off flag) desk = not (flag_of flag desk)
 
 -- ---- outcomes
 
--- how a block ends: at its own end, at the end of a scope around it, in front of the next turn of the loop around it, or
--- where it mustn't come to
+-- how a block ends: at its own end, at the end of a scope around it, in front of the next turn of the loop around it,
+-- or where it mustn't come to
 pub data Outcome : Type 0 where
   Done : Outcome
   Left : (name : ℕ) → Outcome
@@ -37,9 +36,8 @@ pub record Ran : Type 0 where
   pub desk : Desk
   pub cost : ℕ
 
--- what lines cost, instructions or cycles: an instruction without or with its operand, by the desk before it; a leave or a
--- next turn without a test; a leave whose test is met, and one whose test isn't; the same of a next turn; and what begins
--- and ends each voice
+-- what lines cost, instructions or cycles: an instruction without or with its operand, by the desk before it; a leave
+-- or a next turn without a test; a leave whose test is met, and one whose test isn't; and the same of a next turn
 pub record Prices : Type 0 where
   pub alone : Mnemonic → Desk → ℕ
   pub operand : Mnemonic → Operand → Desk → ℕ
@@ -48,10 +46,8 @@ pub record Prices : Type 0 where
   pub stayed : ℕ
   pub taken : ℕ
   pub passed : ℕ
-  pub voice : ℕ
 
--- each instruction counts one, where a branch comes as far as each leave goes, and each of the voices is called: that is a
--- load of X, a call and a return
+-- each instruction counts one
 abbrev pub each_one : Prices
 each_one = record {
   alone = λ mnemonic desk. 1;
@@ -61,7 +57,6 @@ each_one = record {
   stayed = 1;
   taken = 1;
   passed = 1;
-  voice = 3;
 }
 
 abbrev pub ended : Outcome → Desk → ℕ → Ran
@@ -102,24 +97,10 @@ abbrev pub turns : ℕ → (Desk → Ran) → Desk → Ran
 turns zero body desk = ended Stuck desk 0
 turns (suc more) body desk = next_turn (body desk).outcome (body desk) (turns more body)
 
--- a voice ends at the end of its lines, and where they leave a scope around the voices; it can't go on with a loop around
--- them
-abbrev pub out_of_voice : Outcome → Outcome
-out_of_voice Done = Done
-out_of_voice (Left name) = Done
-out_of_voice Again = Stuck
-out_of_voice Stuck = Stuck
-
--- it begins with 7 times its number in X
-abbrev pub for_voice : Prices → (Desk → Ran) → ℕ → Desk → Ran
-for_voice prices body voice desk =
-    let done = body (record desk { cpu = with_x desk.cpu (7 * voice) }) in
-    paid prices.voice (record done { outcome = out_of_voice done.outcome })
-
 -- ---- trees
 
 abbrev pub ran : Prices → Layout → Tree → Desk → Ran
-ran prices layout (DoTree mnemonic) desk = stepped (done mnemonic desk) desk (prices.alone mnemonic desk)
+ran prices layout (DoTree mnemonic) desk = stepped (done layout mnemonic desk) desk (prices.alone mnemonic desk)
 ran prices layout (WithTree mnemonic operand) desk =
     stepped (done_with layout mnemonic operand desk) desk (prices.operand mnemonic operand desk)
 ran prices layout NoneTree desk = ended Done desk 0
@@ -137,6 +118,3 @@ ran prices layout (WhenTree condition body) desk =
 ran prices layout (ChooseTree condition this other) desk =
     if layout.holds condition then ran prices layout this desk else ran prices layout other desk
 ran prices layout NeverTree desk = ended Stuck desk 0
-ran prices layout (VoicesTree body) desk =
-    and_then (for_voice prices (ran prices layout body) 0 desk) (λ one.
-    and_then (for_voice prices (ran prices layout body) 1 one) (for_voice prices (ran prices layout body) 2))

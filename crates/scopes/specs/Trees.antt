@@ -5,7 +5,7 @@ use Rattle.cpu6502.specs.declared.mnemonic.Mnemonic.{Mnemonic}
 use Rattle.scopes.specs.declared.line.Operand.{Operand}
 use Rattle.scopes.specs.declared.line.Test.{Test}
 use Rattle.scopes.specs.declared.line.Line.{Line}
-use Rattle.scopes.specs.declared.line.Line.TheVariants.{Do, With, Scope, Leave, LeaveIf, Loop, Again, AgainIf, When, Choose, Or, Never, Voices, End}
+use Rattle.scopes.specs.declared.line.Line.TheVariants.{Do, With, Scope, Leave, LeaveIf, Loop, Again, AgainIf, When, Choose, Or, Never, End}
 
 pub data Tree : Type 0 where
   DoTree : (mnemonic : Mnemonic) → Tree
@@ -21,7 +21,6 @@ pub data Tree : Type 0 where
   WhenTree : (condition : ℕ) (body : Tree) → Tree
   ChooseTree : (condition : ℕ) (this other : Tree) → Tree
   NeverTree : Tree
-  VoicesTree : (body : Tree) → Tree
 
 -- what is open: the lines behind, as a tree; and the side of a choice behind its `Or`
 pub data Open : Type 0 where
@@ -46,7 +45,6 @@ led End (first ∷ others) = Lines NoneTree ∷ first ∷ others
 led (Scope name) (Lines body ∷ open_ones) = put_before (ScopeTree name body) open_ones
 led (Loop count) (Lines body ∷ open_ones) = put_before (LoopTree count body) open_ones
 led (When condition) (Lines body ∷ open_ones) = put_before (WhenTree condition body) open_ones
-led Voices (Lines body ∷ open_ones) = put_before (VoicesTree body) open_ones
 led Or (Lines other ∷ open_ones) = Lines NoneTree ∷ Other other ∷ open_ones
 led (Choose condition) (Lines this ∷ Other other ∷ open_ones) = put_before (ChooseTree condition this other) open_ones
 led line open_ones = []

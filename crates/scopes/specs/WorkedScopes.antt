@@ -1,18 +1,26 @@
 -- Blocks that are worked by hand: what they come to, and in how many instructions.
-use Rattle.std.specs.Prelude.{◌≡◌, ℕ, ◌+◌, ◌%◌, Bool, true, false, nat_eq, List}
+use Rattle.std.specs.Prelude.{◌≡◌, ℕ, ◌+◌, ◌%◌, Bool, true, false, not, nat_eq, List}
 use Rattle.code_runs.specs.Runs.{put}
 use Rattle.scopes.specs.declared.line.Line.{Line}
 use Rattle.scopes.specs.declared.worked.TheConstants.{HALVED, SOUGHT, LOOP_IN_LOOP, HALVED_AGAIN, LEFT_TWICE, SAME_NAME, LEFT_ALL}
-use Rattle.scopes.specs.declared.worked.TheConstants.{EACH_RISEN, VOICES_COUNTED, VOICE_GOES_ON, VOICE_STUCK, CHOSEN, CHOSEN_APART}
+use Rattle.scopes.specs.declared.worked.TheConstants.{RISEN, LEFT_FAR, LEFT_FAR_ON, CHOSEN, CHOSEN_APART}
 use Rattle.scopes.specs.declared.worked.TheConstants.{READ, STORED, NOT_COME_TO, DECIMAL, NOT_CLOSED, END_TOO_MANY, END_BEFORE_ITS_SCOPE}
 use Rattle.scopes.specs.declared.worked.TheConstants.{COUNTER, LEVEL, SHORT}
 use Rattle.scopes.specs.Desk.{Desk, Layout}
-use Rattle.scopes.specs.Trees.{tree_of}
-use Rattle.scopes.specs.Meaning.{Ran, Done, Left, Stuck, Prices, each_one, ran}
+use Rattle.scopes.specs.Trees.{Tree, WithTree, tree_of}
+use Rattle.scopes.specs.declared.line.Operand.TheVariants.{Register}
+use Rattle.cpu6502.specs.declared.mnemonic.Mnemonic.TheVariants.{Stx, Sty, Inc}
+use Rattle.scopes.specs.Meaning.{Outcome, Ran, Done, Left, Stuck, Prices, each_one, ran}
 
--- labels stand in their order from $1000 on; each condition holds, or none does
+-- labels stand in their order from $1000 on; each condition holds, or none does; all places may be read and written
 abbrev pub in_order : Bool → Layout
-in_order holds = record { address = λ label. 0x1000 + label; pointer = 0xFC; holds = λ condition. holds }
+in_order holds = record {
+  address = λ label. 0x1000 + label;
+  pointer = 0xFC;
+  holds = λ condition. holds;
+  may_read = λ place. true;
+  may_write = λ place. true;
+}
 
 -- A and Y have these bytes, and each place of memory the low byte of its number
 abbrev pub counting : ℕ → ℕ → Desk
@@ -94,37 +102,71 @@ pub record StuckAreWorked : Type 0 where
   pub not_closed : (runs NOT_CLOSED (counting 0 0)).outcome ≡ Stuck
   pub end_too_many : (runs END_TOO_MANY (counting 0 0)).outcome ≡ Stuck
   pub end_before_its_scope : (runs END_BEFORE_ITS_SCOPE (counting 0 0)).outcome ≡ Stuck
-  pub voice_goes_on : (runs VOICE_GOES_ON.now (counting 0 0)).outcome ≡ Stuck
-  pub voice_goes_on_in : (runs VOICE_GOES_ON.now (counting 0 0)).cost ≡ 6
-  pub voice_stuck : (runs VOICE_STUCK.now (counting 0 0)).outcome ≡ Stuck
-  pub voice_stuck_in : (runs VOICE_STUCK.now (counting 0 0)).cost ≡ 3
 
--- each voice has its own byte and register, and a voice that is left leaves the others
-abbrev pub risen : Ran
-risen = runs EACH_RISEN.now (with_label (LEVEL + 7) 0 (counting 0 0))
+-- nor does it read or write where it may not: a place may be read alone, or written alone
+abbrev pub but : ℕ → ℕ → Bool
+but other place = not (nat_eq place other)
+
+abbrev pub closed : ℕ → ℕ → Layout
+closed unread unwritten = record (in_order false) { may_read = but unread; may_write = but unwritten }
+
+abbrev pub kept_from : ℕ → ℕ → List Line → Outcome
+kept_from unread unwritten lines =
+    (ran each_one (closed unread unwritten) (tree_of lines) (counting 0 0)).outcome
+
+-- one instruction on the volume's register
+abbrev pub unread : Tree → Outcome
+unread tree = (ran each_one (closed 0xD418 0) tree (counting 0 0)).outcome
+
+pub record PlacesAreKept : Type 0 where
+  pub x_unread : unread (WithTree Stx (Register 24)) ≡ Done
+  pub y_unread : unread (WithTree Sty (Register 24)) ≡ Done
+  pub count_unread : unread (WithTree Inc (Register 24)) ≡ Stuck
+  -- the list's third byte is read, and $1022
+  pub entry_read : kept_from 0x1042 0 READ.now ≡ Stuck
+  pub pointed_read : kept_from 0x1022 0 READ.now ≡ Stuck
+  pub others_read : kept_from 0x1023 0 READ.now ≡ Done
+  -- the pointer's bytes may always be written there
+  pub pointer_read : kept_from 0xFC 0 READ.now ≡ Done
+  pub pointer_written : kept_from 0 0xFC READ.now ≡ Done
+  -- a counter is read and written, where it is shifted
+  pub shift_read : kept_from (0x1000 + COUNTER) 0 STORED.now ≡ Stuck
+  pub shift_written : kept_from 0 (0x1000 + COUNTER) STORED.now ≡ Stuck
+  pub register_written : kept_from 0 0xD418 STORED.now ≡ Stuck
+  pub register_unread : kept_from 0xD418 0 STORED.now ≡ Done
+  pub over_the_end : kept_from 0 1 STORED.now ≡ Stuck
+
+-- a voice's byte and its register are found by X
+abbrev pub risen : ℕ → ℕ → Ran
+risen x byte =
+    let desk = with_label (LEVEL + x) byte (counting 0 0) in
+    runs RISEN.now (record desk { cpu = record desk.cpu { x = x } })
 
 pub record VoicesAreWorked : Type 0 where
-  pub first : risen.desk.at (0x1000 + LEVEL) ≡ 9
-  pub second : risen.desk.at (0x1000 + LEVEL + 7) ≡ 0
-  pub third : risen.desk.at (0x1000 + LEVEL + 14) ≡ 23
-  pub first_wave : risen.desk.at 0xD404 ≡ 9
-  pub second_wave : risen.desk.at 0xD40B ≡ 0x0B
-  pub third_wave : risen.desk.at 0xD412 ≡ 23
-  pub last_x : risen.desk.cpu.x ≡ 14
-  pub all_in : risen.cost ≡ 21
-  pub ends : risen.outcome ≡ Done
+  pub first : (risen 0 8).desk.at (0x1000 + LEVEL) ≡ 9
+  pub second : (risen 7 8).desk.at (0x1000 + LEVEL + 7) ≡ 9
+  pub second_alone : (risen 7 8).desk.at (0x1000 + LEVEL) ≡ LEVEL
+  pub first_wave : (risen 0 8).desk.at 0xD404 ≡ 9
+  pub second_wave : (risen 7 8).desk.at 0xD40B ≡ 9
+  pub third_wave : (risen 14 8).desk.at 0xD412 ≡ 9
+  pub in_all : (risen 14 8).cost ≡ 5
+  pub left : (risen 14 0).desk.at 0xD412 ≡ 0x12
+  pub left_in : (risen 14 0).cost ≡ 2
 
--- each voice begins with its number in X, and may leave scopes of its own
-abbrev pub counted : Ran
-counted = runs VOICES_COUNTED.now (counting 0 0)
+-- a far leave goes where a near one does, and takes two instructions
+abbrev pub left_far : ℕ → Ran
+left_far y = runs LEFT_FAR.now (counting 0 y)
 
-pub record VoiceNumbersAreWorked : Type 0 where
-  pub once : counted.desk.at (0x1000 + COUNTER) ≡ 4
-  pub first : counted.desk.at (0x1000 + LEVEL) ≡ 0
-  pub second : counted.desk.at (0x1000 + LEVEL + 7) ≡ 7
-  pub third : counted.desk.at (0x1000 + LEVEL + 14) ≡ 14
-  pub all_in : counted.cost ≡ 19
-  pub ends : counted.outcome ≡ Done
+abbrev pub left_far_on : ℕ → Ran
+left_far_on y = runs LEFT_FAR_ON.now (counting 0 y)
+
+pub record FarLeavesAreWorked : Type 0 where
+  pub below : (left_far 7).desk.cpu.a ≡ 1
+  pub below_in : (left_far 7).cost ≡ 4
+  pub at : (left_far 8).desk.cpu.a ≡ 3
+  pub at_in : (left_far 8).cost ≡ 4
+  pub on_below : (left_far_on 7).desk.cpu.a ≡ 3
+  pub on_at : (left_far_on 8).desk.cpu.a ≡ 1
 
 -- what is kept depends on the conditions alone, each on its own
 abbrev pub chosen : Bool → Ran
@@ -171,16 +213,16 @@ apart = record {
   stayed = 10000;
   taken = 1000000;
   passed = 10000000;
-  voice = 100000;
 }
 
 abbrev pub priced : List Line → Desk → ℕ
 priced lines desk = (ran apart (in_order false) (tree_of lines) desk).cost
 
 pub record PricesAreWorked : Type 0 where
+  pub left : priced LEFT_ALL.now (counting 0 3) ≡ 100
   pub halved : priced HALVED.now (with_label COUNTER 2 (counting 0xFF 0)) ≡ 11010016
   pub sought : priced SOUGHT.now (counting 0x42 0) ≡ 21133
-  pub risen : priced EACH_RISEN.now (with_label (LEVEL + 7) 0 (counting 0 0)) ≡ 321090
+  pub risen : priced RISEN.now (counting 0 3) ≡ 10040
 
 pub record ScopesAreWorked : Type 0 where
   pub loops : LoopsAreWorked
@@ -188,8 +230,9 @@ pub record ScopesAreWorked : Type 0 where
   pub turns : TurnsAreWorked
   pub scopes : ScopesAreLeft
   pub stuck : StuckAreWorked
+  pub places : PlacesAreKept
   pub voices : VoicesAreWorked
-  pub numbers : VoiceNumbersAreWorked
+  pub far : FarLeavesAreWorked
   pub conditions : ConditionsAreWorked
   pub reads : ReadsAreWorked
   pub stores : StoresAreWorked

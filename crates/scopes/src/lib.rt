@@ -1,5 +1,5 @@
-//! The language of player code: the 6502's own instructions with operands by label, scopes that are left forwards, loops
-//! that are bounded, the three voices, and lines that are kept under conditions.
+//! The language of player code: the 6502's own instructions with operands by label, scopes that are left forwards,
+//! loops that are bounded, and lines that are kept under conditions.
 //!
 //! A block is a flat list of lines, written once as a constant. The layer's one contract: what its lines mean, as a
 //! function of the desk, computes, and worked blocks mean what they say.
@@ -13,4 +13,4 @@ mod text;
 mod worked;
 
 pub use cpu6502::Mnemonic;
-pub use line::{Flag, Half, Line, Operand, Test};
+pub use line::{Flag, Half, Line, OVER, Operand, Test};

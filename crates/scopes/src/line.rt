@@ -54,6 +54,9 @@ pub enum Test {
     Off(Flag),
 }
 
+/// The name of the scope over which a far leave jumps.
+pub const OVER: u8 = 255;
+
 /// A line of a block. Those that open something go on to the `End` that closes it.
 #[derive(Clone, Copy, Debug)]
 pub enum Line {
@@ -61,11 +64,11 @@ pub enum Line {
     Do(Mnemonic),
     /// An instruction with its operand.
     With(Mnemonic, Operand),
-    /// Opens a scope with this name, 0 to 255.
+    /// Opens a scope with this name, 0 to 254; 255 is that of the scope over which a far leave jumps.
     Scope(u8),
     /// Goes on behind the innermost scope around it that has this name.
     Leave(u8),
-    /// The same where the test is met.
+    /// The same where the test is met. It is a branch, which reaches at most 127 bytes.
     LeaveIf(u8, Test),
     /// Opens a loop, which has at most this many turns, 0 to 255; one more is stuck.
     Loop(u8),
@@ -73,17 +76,14 @@ pub enum Line {
     Again,
     /// The same where the test is met.
     AgainIf(Test),
-    /// Opens lines that are kept where a condition, 0 to 255, holds.
+    /// Opens lines that are kept where a condition holds.
     When(u8),
-    /// Opens lines that are kept where a condition, 0 to 255, holds, up to the `Or`, and the others behind it.
+    /// Opens lines that are kept where a condition holds, up to the `Or`, and the others behind it.
     Choose(u8),
     /// Parts the two sides of a `Choose`.
     Or,
     /// Is never come to.
     Never,
-    /// Opens lines that are done for each voice, with 7 times its number in X. Where they leave a scope around them, the
-    /// voice ends.
-    Voices,
     /// Closes what was opened last.
     End,
 }

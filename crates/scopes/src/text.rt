@@ -18,9 +18,6 @@ macro_rules! text {
     (@ [$($out:tt)*] choose $condition:ident { $($this:tt)* } or { $($other:tt)* } $($rest:tt)*) => {
         $crate::text!(@ [$($out)* $crate::Line::Choose($condition),] $($this)* @or { $($other)* @end { $($rest)* } })
     };
-    (@ [$($out:tt)*] voices { $($body:tt)* } $($rest:tt)*) => {
-        $crate::text!(@ [$($out)* $crate::Line::Voices,] $($body)* @end { $($rest)* })
-    };
     (@ [$($out:tt)*] leave $name:ident; $($rest:tt)*) => {
         $crate::text!(@ [$($out)* $crate::Line::Leave($name),] $($rest)*)
     };
@@ -29,6 +26,22 @@ macro_rules! text {
     };
     (@ [$($out:tt)*] leave $name:ident off $flag:ident; $($rest:tt)*) => {
         $crate::text!(@ [$($out)* $crate::Line::LeaveIf($name, $crate::Test::Off($crate::Flag::$flag)),] $($rest)*)
+    };
+    (@ [$($out:tt)*] jump $name:ident on $flag:ident; $($rest:tt)*) => {
+        $crate::text!(@ [$($out)*
+            $crate::Line::Scope($crate::OVER),
+            $crate::Line::LeaveIf($crate::OVER, $crate::Test::Off($crate::Flag::$flag)),
+            $crate::Line::Leave($name),
+            $crate::Line::End,
+        ] $($rest)*)
+    };
+    (@ [$($out:tt)*] jump $name:ident off $flag:ident; $($rest:tt)*) => {
+        $crate::text!(@ [$($out)*
+            $crate::Line::Scope($crate::OVER),
+            $crate::Line::LeaveIf($crate::OVER, $crate::Test::On($crate::Flag::$flag)),
+            $crate::Line::Leave($name),
+            $crate::Line::End,
+        ] $($rest)*)
     };
     (@ [$($out:tt)*] again; $($rest:tt)*) => { $crate::text!(@ [$($out)* $crate::Line::Again,] $($rest)*) };
     (@ [$($out:tt)*] again on $flag:ident; $($rest:tt)*) => {

@@ -32,8 +32,8 @@ pub const HALVED: &[Line] = text! {
     }
 };
 
-/// Where A is 16 or more it becomes 1, else where Y is 8 or more 2, else 3; behind both scopes 4 is added, behind the inner
-/// one 64 too.
+/// Where A is 16 or more it becomes 1, else where Y is 8 or more 2, else 3; behind both scopes 4 is added, behind the
+/// inner one 64 too.
 pub const LEFT_TWICE: &[Line] = text! {
     scope OUTER {
         scope INNER {
@@ -106,46 +106,35 @@ pub const HALVED_AGAIN: &[Line] = text! {
     }
 };
 
-/// Adds one to each voice's byte, but leaves a voice whose byte is 0, and writes what it has come to as its waveform.
-pub const EACH_RISEN: &[Line] = text! {
+/// Adds one to the byte of the voice that X tells, but leaves it where it is 0, and writes what it has come to as the
+/// voice's waveform.
+pub const RISEN: &[Line] = text! {
     scope OUTER {
-        voices {
-            Lda Own LEVEL;
-            leave OUTER on Zero;
-            Inc Own LEVEL;
-            Lda Own LEVEL;
-            Sta OwnRegister 4;
-        }
+        Lda Own LEVEL;
+        leave OUTER on Zero;
+        Inc Own LEVEL;
+        Lda Own LEVEL;
+        Sta OwnRegister 4;
     }
 };
 
-/// Counts where X is 0, by a scope of the voice's own, and keeps X in each voice's byte.
-pub const VOICES_COUNTED: &[Line] = text! {
-    voices {
-        scope INNER {
-            leave INNER off Zero;
-            Inc Var COUNTER;
-        }
-        Txa;
-        Sta Own LEVEL;
+/// Leaves by a jump under a test: where Y is below 8, A is 1 at the end, else 3.
+pub const LEFT_FAR: &[Line] = text! {
+    scope OUTER {
+        Lda Number 1;
+        Cpy Number 8;
+        jump OUTER off Carry;
+        Lda Number 3;
     }
 };
 
-/// A voice that would go on with the loop around it, once.
-pub const VOICE_GOES_ON: &[Line] = text! {
-    turns 2 {
-        voices {
-            Cmp Number 1;
-            Lda Number 1;
-            again off Carry;
-        }
-    }
-};
-
-/// A voice that is stuck.
-pub const VOICE_STUCK: &[Line] = text! {
-    voices {
-        never;
+/// The same where Y is 8 or more, and by the opposite test.
+pub const LEFT_FAR_ON: &[Line] = text! {
+    scope OUTER {
+        Lda Number 1;
+        Cpy Number 8;
+        jump OUTER on Carry;
+        Lda Number 3;
     }
 };
 
