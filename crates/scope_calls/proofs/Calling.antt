@@ -1,0 +1,182 @@
+-- The voices of an entrance, and all of its lines, where they stand.
+use Rattle.std.proofs.Common.{◌≡◌, ℕ, ◌+◌, ◌%◌, ◌<◌, ◌≤◌, true, Option, Some, None, refl, sym, ap, ◌∙◌, subst, arith}
+use Rattle.cpu6502.specs.declared.mnemonic.Mnemonic.TheVariants.{Jsr, Ldx, Rts, Sta}
+use Rattle.cpu6502.specs.declared.mnemonic.Mode.TheVariants.{Implied, Immediate, Absolute}
+use Rattle.cpu6502.specs.Registers.{stack_place}
+use Rattle.code_runs.specs.Runs.{Leads}
+use Rattle.code_runs.specs.Code.{Stands}
+use Rattle.code_runs.specs.Calls.{Pulls}
+use Rattle.code_runs.proofs.Laws.{stay, leads_on, ends_at, leads_stay}
+use Rattle.asm6502.specs.Standing.{LinesAt}
+use Rattle.asm6502.proofs.Laws.{fronts_stand, backs_stand}
+use Rattle.scopes.specs.Desk.{Desk, Layout}
+use Rattle.scopes.specs.Trees.{Tree}
+use Rattle.scopes.specs.Meaning.{Done, Ran, each_one, paid, and_then, ran}
+use Rattle.scope_lines.specs.Sizes.{size}
+use Rattle.scope_lines.specs.Lines.{block_lines}
+use Rattle.scope_lines.specs.Reach.{nothing_around, has_lines}
+use Rattle.scope_lines.specs.Lowered.{spot}
+use Rattle.scope_lines.proofs.Laws.{Ground, HasCode as HasLines}
+use Rattle.scope_calls.specs.Entrances.{Entrance, lead_lines, lead_size, voices_place, call_lines, voice_lines, voice_size, voice_has_lines}
+use Rattle.scope_calls.specs.Meaning.{cleared, led, lead_steps, returned, back, voice_called, voice_last, voices_ran, entrance_ran}
+use Rattle.scope_calls.proofs.Sizing.{Parts}
+use Rattle.scope_calls.proofs.Moving.{Inside, lines_stay, clear_leads, store_leads, return_leads}
+use Rattle.scope_calls.proofs.Walking.{Walks, then_done, then_walks, block_walks, Voice, OffStack, last_walks, call_walks}
+
+-- an entrance's code on its ground, in a call whose stack pointer is there at its first line
+pub record Call (e : Entrance) (g : Ground) (W : ℕ → Type 0) (sp : ℕ) : Type 0 where
+  pub inside : Inside g W
+  pub off : OffStack g
+  pub labelled : g.layout.address e.label ≡ g.start
+  pub pointed : e.pointer ≡ g.layout.pointer
+  pub held : e.holds ≡ g.layout.holds
+  pub has_first : has_lines nothing_around e.first ≡ true
+  pub has_voice : voice_has_lines e.voice ≡ true
+  pub low : g.low ≤ g.start
+  pub high : g.start + (voices_place e + voice_size e.holds e.voice + 1) ≤ g.high
+  pub parts : Parts e g.layout.address g.code g.start
+  pub may_store : (label : ℕ) → e.stored ≡ Some label → W (g.layout.address label)
+  pub may_call : (block : Tree) → e.voice ≡ Some block → W (stack_place sp) × W (stack_place (sp + 255))
+  pub few : sp < 256
+
+-- ---- the voices
+
+voices_walk : {W : ℕ → Type 0} (e : Entrance) (g : Ground) (sp : ℕ) (voice : Option Tree) (desk : Desk) →
+    e.voice ≡ voice →
+    Call e g W sp → voice_has_lines voice ≡ true →
+    g.start + (voices_place e + voice_size e.holds voice + 1) ≤ g.high →
+    LinesAt g.layout.address g.code (g.start + voices_place e) (voice_lines e (voices_place e) voice) →
+    Stands g.code (g.start + (voices_place e + voice_size e.holds voice)) Rts Implied 0 → HasLines g desk.at →
+    desk.cpu.sp ≡ sp → (voices_ran g.layout voice (g.start + voices_place e) desk).outcome ≡ Done →
+    Walks g W (voices_place e) (voices_place e + voice_size e.holds voice) desk
+    (voices_ran g.layout voice (g.start + voices_place e) desk)
+voices_walk e g sp None desk is c lines high s r has at_sp done =
+    let same : voices_place e ≡ voices_place e + 0 = omega arith in
+    record { leads = ends_at (ap (λ n. spot (g.start + n) desk) same) (stay _); sp = refl }
+voices_walk {W = W} e g sp (Some block) desk is c lines high s r has at_sp done =
+    let p = voices_place e in
+    let bytes = size e.holds block in
+    let own = block_lines e.label e.pointer e.holds (p + 12) block in
+    let low = c.low in
+    let calls = fronts_stand g.layout.address g.code (g.start + p) (call_lines e.label p) own s in
+    let behind = backs_stand g.layout.address g.code (g.start + p) (call_lines e.label p) own s in
+    let at_block : g.start + p + 12 ≡ g.start + (p + 12) = omega arith in
+    let v : Voice g e.label e.pointer (p + 12) e.holds block = record {
+      labelled = c.labelled;
+      pointed = c.pointed;
+      held = c.held;
+      has_lines = lines;
+      low = omega (arith, low);
+      high = omega (arith, high);
+      stands = subst (λ q. LinesAt g.layout.address g.code q own) at_block behind;
+      return = subst (λ q. Stands g.code q Rts Implied 0) (last_is g.start p bytes) r;
+    } in
+    let jsr = (g.layout.address e.label + (p + 12)) % 65536 in
+    let pushes = c.may_call block is in
+    let w1 : W (stack_place desk.cpu.sp) = subst (λ n. W (stack_place n)) (sym at_sp) pushes.0 in
+    let w2 : W (stack_place (desk.cpu.sp + 255)) = subst (λ n. W (stack_place (n + 255))) (sym at_sp) pushes.1 in
+    let few : desk.cpu.sp < 256 = rw at_sp c.few in
+    let at_2 : g.start + p + 2 ≡ g.start + (p + 2) = omega arith in
+    let at_5 : g.start + p + 2 + 3 ≡ g.start + (p + 5) = omega arith in
+    let at_7 : g.start + p + 2 + 3 + 2 ≡ g.start + (p + 5 + 2) = omega arith in
+    let at_10 : g.start + p + 2 + 3 + 2 + 3 ≡ g.start + (p + 10) = omega arith in
+    let again : p + 5 + 5 ≡ p + 10 = omega arith in
+    let next : Desk → Ran = voice_last g.layout block in
+    let second : Desk → Ran = λ one. and_then (voice_called g.layout block (g.start + p + 9) 1 one) next in
+    let way : Walks g W p (p + 12 + bytes) desk (voices_ran g.layout (Some block) (g.start + p) desk) =
+    then_walks {between = p + 5} (voice_called g.layout block (g.start + p + 4) 0 desk) second c.inside has done
+    (λ first.
+    call_walks g e.label e.pointer (p + 12) p (g.start + p + 4) 0 e.holds block desk v c.inside c.off has few w1 w2
+    (omega (arith, low)) (omega arith) refl calls.0 (subst (λ q. Stands g.code q Jsr Absolute jsr) at_2 calls.1.0)
+    first)
+    (λ has1 sp1 done1.
+    let one = (voice_called g.layout block (g.start + p + 4) 0 desk).desk in
+    then_walks {between = p + 10} (voice_called g.layout block (g.start + p + 9) 1 one) next c.inside has1 done1
+    (λ first.
+    subst (λ q. Walks g W (p + 5) q one (voice_called g.layout block (g.start + p + 9) 1 one)) again
+    (call_walks g e.label e.pointer (p + 12) (p + 5) (g.start + p + 9) 1 e.holds block one v c.inside c.off has1
+    (rw sp1 few) (subst (λ n. W (stack_place n)) (sym sp1) w1) (subst (λ n. W (stack_place (n + 255))) (sym sp1) w2)
+    (omega (arith, low)) (omega arith) (omega arith) (subst (λ q. Stands g.code q Ldx Immediate 7) at_5 calls.1.1.0)
+    (subst (λ q. Stands g.code q Jsr Absolute jsr) at_7 calls.1.1.1.0) first))
+    (λ has2 sp2 done2.
+    last_walks g e.label e.pointer (p + 12) (p + 10) e.holds block
+    (voice_called g.layout block (g.start + p + 9) 1 one).desk v c.inside has2 (omega (arith, low)) (omega arith)
+    (subst (λ q. Stands g.code q Ldx Immediate 14) at_10 calls.1.1.1.1.0) done2)) in
+    subst (λ q. Walks g W p q desk (voices_ran g.layout (Some block) (g.start + p) desk)) (end_is p bytes) way
+  where
+    last_is : (start p bytes : ℕ) → start + (p + (12 + bytes)) ≡ start + (p + 12 + bytes)
+    last_is start p bytes = omega arith
+
+    end_is : (p bytes : ℕ) → p + 12 + bytes ≡ p + (12 + bytes)
+    end_is p bytes = omega arith
+
+-- ---- all of it
+
+-- in front of the first block
+lead_leads : {W : ℕ → Type 0} (g : Ground) (stored : Option ℕ) (desk : Desk) → Inside g W → HasLines g desk.at →
+    g.low ≤ g.start → g.start + lead_size stored ≤ g.high →
+    LinesAt g.layout.address g.code g.start (lead_lines stored) →
+    ((label : ℕ) → stored ≡ Some label → W (g.layout.address label)) →
+    Leads W (lead_steps stored) (spot g.start desk) (spot (g.start + lead_size stored) (led g.layout stored desk))
+lead_leads g None desk inside has low high s may = clear_leads g g.start (g.start + 1) desk has low high refl s.0
+lead_leads {W = W} g (Some label) desk inside has low high s may =
+    let labels = g.laid.labels label in
+    let l1 : Leads W 1 (spot g.start desk) (spot (g.start + 1) (cleared desk)) =
+    clear_leads g g.start (g.start + 1) desk has low (omega (arith, high)) refl s.0 in
+    let operand : (g.layout.address label + 0) % 65536 ≡ g.layout.address label = omega (arith, labels) in
+    leads_on l1
+    (store_leads g (g.start + 1) (g.start + 4) (g.layout.address label) (cleared desk) has (omega (arith, low))
+    (omega (arith, high)) (omega arith) (subst (λ q. Stands g.code (g.start + 1) Sta Absolute q) operand s.1.0)
+    (may label refl))
+
+-- up to the return, and behind it
+pub record Ends (g : Ground) (W : ℕ → Type 0) (desk : Desk) (r : Ran) : Type 0 where
+  pub leads : Leads W r.cost (spot g.start desk) (spot 0 r.desk)
+  pub sp : r.desk.cpu.sp ≡ (desk.cpu.sp + 2) % 256
+
+led_sp : (layout : Layout) (stored : Option ℕ) (desk : Desk) → (led layout stored desk).cpu.sp ≡ desk.cpu.sp
+led_sp layout None desk = refl
+led_sp layout (Some label) desk = refl
+
+pub entrance_ends : {W : ℕ → Type 0} (e : Entrance) (g : Ground) (desk : Desk) → Call e g W desk.cpu.sp →
+    HasLines g desk.at → Pulls desk.at desk.cpu.sp 255 255 → (W (stack_place (desk.cpu.sp + 1)) → ⊥) →
+    (W (stack_place (desk.cpu.sp + 2)) → ⊥) → (entrance_ran g.layout e desk).outcome ≡ Done →
+    g.layout.address e.label ≡ g.start → Ends g W desk (entrance_ran g.layout e desk)
+entrance_ends {W = W} e g desk c has pulls low_kept high_kept done named =
+    let low = c.low in
+    let high = c.high in
+    let start = led g.layout e.stored desk in
+    let one = ran each_one g.layout e.first start in
+    let place = g.layout.address e.label + voices_place e in
+    let next : Desk → Ran = λ done. and_then (voices_ran g.layout e.voice place done) back in
+    let parts = then_done one next done in
+    let two = voices_ran g.layout e.voice place one.desk in
+    let more = then_done two back parts.rest in
+    let lead : Leads W (lead_steps e.stored) (spot g.start desk) (spot (g.start + lead_size e.stored) start) =
+    lead_leads g e.stored desk c.inside has low (omega (arith, high)) c.parts.lead c.may_store in
+    let has1 = lines_stay c.inside has lead in
+    let way1 : Walks g W (lead_size e.stored) (voices_place e) start one =
+    block_walks g e.label e.pointer (lead_size e.stored) e.holds e.first start c.inside c.labelled c.pointed c.held
+    c.has_first (omega (arith, low)) (omega (arith, high)) has1 c.parts.first parts.first in
+    let has2 = lines_stay c.inside has1 way1.leads in
+    let at_sp : one.desk.cpu.sp ≡ desk.cpu.sp = way1.sp ∙ led_sp g.layout e.stored desk in
+    let way2 : Walks g W (voices_place e) (voices_place e + voice_size e.holds e.voice) one.desk two =
+    subst (λ q. Walks g W (voices_place e) (voices_place e + voice_size e.holds e.voice) one.desk
+    (voices_ran g.layout e.voice (q + voices_place e) one.desk)) (sym named)
+    (voices_walk e g desk.cpu.sp e.voice one.desk refl c c.has_voice high c.parts.voices c.parts.last has2 at_sp
+    (subst (λ q. (voices_ran g.layout e.voice (q + voices_place e) one.desk).outcome ≡ Done) named more.first)) in
+    let there = leads_on lead (leads_on way1.leads way2.leads) in
+    let last_sp : two.desk.cpu.sp ≡ desk.cpu.sp = way2.sp ∙ at_sp in
+    let still : Pulls two.desk.at desk.cpu.sp 255 255 = record {
+      low_is = leads_stay there (stack_place (desk.cpu.sp + 1)) low_kept ∙ pulls.low_is;
+      high_is = leads_stay there (stack_place (desk.cpu.sp + 2)) high_kept ∙ pulls.high_is;
+    } in
+    let last : Leads W 1 (spot (g.start + (voices_place e + voice_size e.holds e.voice)) two.desk)
+    (spot 0 (returned two.desk)) =
+    return_leads g (g.start + (voices_place e + voice_size e.holds e.voice)) 255 255 0 two.desk
+    (lines_stay c.inside has there) (omega (arith, low)) (omega (arith, high)) c.parts.last
+    (subst (λ n. Pulls two.desk.at n 255 255) (sym last_sp) still) refl in
+    let all = leads_on lead (leads_on way1.leads (leads_on way2.leads last)) in
+    let is : entrance_ran g.layout e desk ≡ paid (lead_steps e.stored) (paid one.cost (paid two.cost (back two.desk))) =
+    ap (λ r. paid (lead_steps e.stored) r) (parts.is ∙ ap (λ r. paid one.cost r) more.is) in
+    subst (λ r. Ends g W desk r) (sym is) (record { leads = all; sp = ap (λ n. (n + 2) % 256) last_sp })

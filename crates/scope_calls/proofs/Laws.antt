@@ -1,0 +1,15 @@
+-- What upper crates may cite of the proofs of this crate.
+
+-- calls of entrances return
+pub use Rattle.scope_calls.proofs.Whole.{entrances_return}
+-- in at most so many steps, and with the same steps and bytes in machines that agree on what the blocks may read
+pub use Rattle.scope_calls.proofs.Weighing.{calls_are_short}
+pub use Rattle.scope_calls.proofs.Isolation.{entrances_are_isolated}
+-- and leave other bytes, and code that stands apart
+pub use Rattle.scope_calls.proofs.Staying.{others_stay, listings_stay, code_stays, code_is_shared}
+-- how many bytes the lines take, and that all of them are kept
+pub use Rattle.scope_calls.proofs.Sizing.{entrances_take_size, entrance_kept}
+-- and `assemble` refuses none of them
+pub use Rattle.scope_calls.proofs.Homes.{entrance_lines_are_at_home, entrance_lines_are_not_refused}
+-- what a tree means leaves the stack pointer, the decimal flag and the interrupt flag
+pub use Rattle.scope_calls.proofs.Keeping.{control, ran_keeps}
