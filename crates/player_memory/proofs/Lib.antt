@@ -1,0 +1,2 @@
+mod WorkedMemory
+mod WorkedPlays

@@ -1,0 +1,108 @@
+-- The variables one by one, a voice in its bytes, and a room in memory, worked by hand; and what is none.
+use Rattle.std.specs.Prelude.{◌≡◌, ℕ, ◌+◌, ◌-◌, ◌*◌, ◌<◌, ◌&&◌, ◌||◌, Bool, true, false, nat_eq, nat_le, nat_lt, if◌then◌else◌, List, [], ◌∷◌, ◌++◌}
+use Rattle.code_runs.specs.Runs.{put}
+use Rattle.play_model.specs.State.{Voice, start_voice}
+use Rattle.scopes.specs.Desk.{Layout}
+use Rattle.player_memory.specs.declared.conditions.TheConstants.{NOTE_DEPENDENT}
+use Rattle.player_memory.specs.declared.labels.TheConstants.{VARIABLES, TICK, INSTRUMENT, GATE, VIB_DELAY, TEMPO, FREQ_LOW, FREQ_HIGH}
+use Rattle.player_memory.specs.declared.labels.TheConstants.{NEW_COMMAND, NEW_PARAM, PULSE_LOW, PULSE_HIGH, LENT, KEPT_COMMAND, KEPT_PARAM}
+use Rattle.player_memory.specs.declared.labels.TheConstants.{SLIDES_LOW, SLIDES_HIGH}
+use Rattle.player_memory.specs.declared.variables.TheConstants.{VOICE_BYTES, COMMON_BYTES, SONG_BYTES}
+use Rattle.player_memory.specs.Labels.{is_own, is_shared}
+use Rattle.player_memory.specs.Variables.{VoiceBytesStand}
+use Rattle.player_memory.specs.Rooms.{IsRoom, IsElsewhere, MayUse}
+
+-- ---- each variable has one row
+
+abbrev pub times : ℕ → List ℕ → ℕ
+times label [] = 0
+times label (first ∷ others) = (if nat_eq first label then 1 else 0) + times label others
+
+abbrev pub labels_of : {X : Type 0} → List (ℕ × X) → List ℕ
+labels_of [] = []
+labels_of (row ∷ rows) = row.0 ∷ labels_of rows
+
+-- a voice's byte holds a part of its state, or says where it is in its song; one that no voice owns holds a part of the
+-- state that voices share, or is left by one part of the code for a later one
+abbrev pub own_rows : List ℕ
+own_rows = labels_of VOICE_BYTES ++ SONG_BYTES
+
+abbrev pub shared_rows : List ℕ
+shared_rows = labels_of COMMON_BYTES ++ (LENT ∷ KEPT_COMMAND ∷ KEPT_PARAM ∷ [])
+
+-- whether the byte at a place among the variables is that voice's
+abbrev pub is_of : ℕ → ℕ → Bool
+is_of voice place = nat_le (7 * voice) place && is_own (place - 7 * voice)
+
+abbrev pub counted : Bool → ℕ
+counted true = 1
+counted false = 0
+
+pub record VariablesHaveRows : Type 0 where
+  pub own : (label : ℕ) → label < VARIABLES → times label own_rows ≡ counted (is_own label)
+  pub shared : (label : ℕ) → label < VARIABLES → times label shared_rows ≡ counted (is_shared label)
+  -- each of the 113 has one owner
+  pub owners : (place : ℕ) → place < VARIABLES →
+      counted (is_of 0 place) + counted (is_of 1 place) + counted (is_of 2 place) + counted (is_shared place) ≡ 1
+
+-- ---- a voice's bytes
+
+-- a voice as it begins, but with a command, a frequency and a pulse width
+abbrev pub sounding : Voice
+sounding = record start_voice { new_command = 5; new_param = 0x4F; freq = 0x1234; pulse = 0xA5C; vib_delay = 3 }
+
+abbrev pub its_bytes : ℕ → ℕ
+its_bytes =
+    put (put (put (put (put (put (put (put (put (put (put (λ label. 0) TICK 1) INSTRUMENT 1) GATE 0xFE) NEW_COMMAND 5)
+    NEW_PARAM 0x4F) FREQ_LOW 0x34) FREQ_HIGH 0x12) PULSE_LOW 0x5C) PULSE_HIGH 0x0A) VIB_DELAY 2) TEMPO 5
+
+pub record VoicesAreWorked : Type 0 where
+  pub stands : VoiceBytesStand sounding 5 its_bytes
+  -- the upper four bits of the width's high byte may be any
+  pub high_bits : VoiceBytesStand sounding 5 (put its_bytes PULSE_HIGH 0xFA)
+  pub low_bits : ¬ VoiceBytesStand sounding 5 (put its_bytes PULSE_HIGH 0x0B)
+  -- a parameter counts where there is a command
+  pub param : ¬ VoiceBytesStand sounding 5 (put its_bytes NEW_PARAM 0x4E)
+  pub no_command : VoiceBytesStand (record sounding { new_command = 0 }) 5
+      (put (put its_bytes NEW_COMMAND 0) NEW_PARAM 0x4E)
+  -- a delay is kept less one, and none as 255
+  pub delay : ¬ VoiceBytesStand sounding 5 (put its_bytes VIB_DELAY 3)
+  pub no_delay : VoiceBytesStand (record sounding { vib_delay = 0 }) 5 (put its_bytes VIB_DELAY 255)
+  pub tempo : ¬ VoiceBytesStand sounding 6 its_bytes
+  pub frequency : ¬ VoiceBytesStand (record sounding { freq = 0x3412 }) 5 its_bytes
+
+-- ---- a room
+
+-- the variables at $1006, two lists of slides of 4 bytes behind them, and the pointer at $FC
+abbrev pub at_1000 : Layout
+at_1000 = record {
+  address = λ label. if nat_eq label SLIDES_LOW then 0x1100 else if nat_eq label SLIDES_HIGH then 0x1104 else 0x1006 +
+      label;
+  pointer = 0xFC;
+  holds = λ condition. nat_eq condition NOTE_DEPENDENT;
+  may_read = λ place. nat_le 0x1000 place && nat_lt place 0x1200;
+  may_write = λ place. nat_le 0x1006 place && nat_lt place 0x1108 || nat_le 0xD400 place && nat_le place 0xD418;
+}
+
+-- with a list elsewhere
+abbrev pub moved : ℕ → ℕ → Layout
+moved list place = record at_1000 { address = λ label. if nat_eq label list then place else at_1000.address label }
+
+pub record RoomsAreWorked : Type 0 where
+  pub room : IsRoom at_1000 4
+  pub uses : MayUse at_1000 4
+  pub before : IsElsewhere at_1000 4 0x1005
+  pub behind : IsElsewhere at_1000 4 0x1108
+  pub variable : ¬ IsElsewhere at_1000 4 0x1076
+  pub slide : ¬ IsElsewhere at_1000 4 0x1107
+  pub pointer : ¬ IsElsewhere at_1000 4 0xFD
+  pub register : ¬ IsElsewhere at_1000 4 0xD418
+  -- lists that overlap are no room, nor such as are below $0800, end over $D000 or stand on a variable
+  pub overlap : ¬ IsRoom at_1000 5
+  pub low : ¬ IsRoom (moved SLIDES_LOW 0x07FF) 4
+  pub high : ¬ IsRoom (moved SLIDES_HIGH 0xCFFD) 4
+  pub on_variable : ¬ IsRoom (moved SLIDES_HIGH 0x1076) 4
+  pub variable_apart : ¬ IsRoom (moved 112 0x1077) 4
+  pub port : ¬ IsRoom (record at_1000 { pointer = 1 }) 4
+  -- where a register may not be written the room may not be used
+  pub closed : ¬ MayUse (record at_1000 { may_write = λ place. nat_le 0x1006 place && nat_lt place 0x1108 }) 4

@@ -1,0 +1,76 @@
+//! The conditions under which lines of the player are kept.
+//!
+//! Those from 0 to 23 are the features of a song, by their bits: each holds where the song uses the feature. A command
+//! is one of a pattern's row or of the wave table; where a pattern is named, one of a row alone. Behind them stand the
+//! options, and then what several features have in common: lines that are kept where the song uses any of them.
+
+/// An orderlist transposes.
+pub const TRANSPOSES: u8 = 0;
+/// An orderlist repeats a pattern.
+pub const REPEATS: u8 = 1;
+/// Command 1 slides the frequency up.
+pub const PORTA_UP: u8 = 2;
+/// Command 2 slides the frequency down.
+pub const PORTA_DOWN: u8 = 3;
+/// Command 3 slides to the note, by a speed.
+pub const TONE_PORTA: u8 = 4;
+/// Command 3 has parameter 0: it is at the note at once.
+pub const TIE_NOTE: u8 = 5;
+/// Command 4 has the frequency swing.
+pub const VIBRATO: u8 = 6;
+/// An instrument has the frequency swing.
+pub const INSTRUMENT_VIBRATO: u8 = 7;
+/// A speed is calculated from the half tone above the last note.
+pub const NOTE_DEPENDENT: u8 = 8;
+/// Command 5 sets attack and decay.
+pub const SET_AD: u8 = 9;
+/// Command 6 sets sustain and release.
+pub const SET_SR: u8 = 10;
+/// Command 7 sets the waveform.
+pub const SET_WAVE: u8 = 11;
+/// Command 8 of a pattern sets the row of the wave program.
+pub const SET_WAVE_POINTER: u8 = 12;
+/// There is a pulse program.
+pub const PULSE_TABLE: u8 = 13;
+/// Command 9 sets the row of the pulse program.
+pub const SET_PULSE_POINTER: u8 = 14;
+/// There is a filter program.
+pub const FILTER_TABLE: u8 = 15;
+/// Command `$A` sets the row of the filter program.
+pub const SET_FILTER_POINTER: u8 = 16;
+/// Command `$B` sets the filter's resonance and voices.
+pub const SET_FILTER_CONTROL: u8 = 17;
+/// Command `$C` sets the filter's cutoff.
+pub const SET_CUTOFF: u8 = 18;
+/// Command `$D` sets the volume.
+pub const SET_VOLUME: u8 = 19;
+/// Command `$E` of a pattern, or `$F` with 0 or 1, has a voice take turns between two tempos.
+pub const FUNK_TEMPO: u8 = 20;
+/// Command `$F` of a pattern sets a tempo.
+pub const SET_TEMPO: u8 = 21;
+/// There is a wave program.
+pub const WAVE_TABLE: u8 = 22;
+/// A wave program has a command.
+pub const WAVE_COMMAND: u8 = 23;
+
+/// The effect step is left out at tick 0.
+pub const SKIP_EFFECTS: u8 = 24;
+/// The pulse step is left out where a row is fetched.
+pub const SKIP_PULSE: u8 = 25;
+/// There are several play calls in a picture, so a timer is set.
+pub const TIMED: u8 = 26;
+/// The pulse step is left out at tick 0 between two patterns.
+pub const SKIP_FIRST: u8 = 27;
+
+/// The frequency swings: a command or an instrument has a vibrato.
+pub const SWINGS: u8 = 28;
+/// The high byte of the frequency climbs: up, to the note, or by a calculated speed.
+pub const CLIMB: u8 = 29;
+/// The high byte of the frequency drops: down, to the note, or by a calculated speed.
+pub const DROP: u8 = 30;
+/// The low byte of the frequency rises: up, to the note, or by a vibrato.
+pub const RISE: u8 = 31;
+/// The low byte of the frequency sinks: down, to the note, or by a vibrato.
+pub const SINK: u8 = 32;
+/// The note is reached: by a slide, or at once.
+pub const FOUND_NOTE: u8 = 33;
