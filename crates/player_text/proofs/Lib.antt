@@ -1,0 +1,4 @@
+-- Computed by the checker.
+mod Facts
+-- The door: what upper crates may cite.
+pub mod Laws

@@ -1,0 +1,49 @@
+-- The lines of the player's blocks, and their trees. This is the project's own player.
+use Rattle.std.specs.Prelude.{ℕ, List, [], ◌∷◌, ◌++◌}
+use Rattle.std.specs.List.{flat_map}
+use Rattle.cpu6502.specs.declared.mnemonic.Mnemonic.TheVariants.{Lda}
+use Rattle.scopes.specs.declared.line.Line.{Line}
+use Rattle.scopes.specs.declared.line.Line.TheVariants.{With, When, Loop, End}
+use Rattle.scopes.specs.declared.line.Operand.TheVariants.{Number}
+use Rattle.scopes.specs.Trees.{Tree, tree_of}
+use Rattle.player_memory.specs.declared.conditions.TheConstants.{TIMED}
+use Rattle.player_text.specs.declared.filter.TheConstants.{FILTER}
+use Rattle.player_text.specs.declared.texts.Start.{Start}
+use Rattle.player_text.specs.declared.init.TheConstants.{SUBTUNE_TAKEN, TIMER_LOW_SET, TIMER_HIGH_SET, ALL_CLEARED}
+use Rattle.player_text.specs.declared.init.TheConstants.{FUNK_STARTED, VOICE_STARTED, TEMPO_STARTED}
+use Rattle.player_text.specs.declared.voice.TheConstants.{VOICE}
+
+-- ---- play: the filter, and each voice
+
+abbrev pub filter_lines : List Line
+filter_lines = flat_map (λ piece. piece.now) FILTER.now
+
+abbrev pub filter_tree : Tree
+filter_tree = tree_of filter_lines
+
+abbrev pub voice_lines : List Line
+voice_lines = flat_map (λ step. flat_map (λ piece. piece.now) step.now) VOICE.now
+
+abbrev pub voice_tree : Tree
+voice_tree = tree_of voice_lines
+
+-- ---- init, with the numbers with which a subtune begins
+
+abbrev load : ℕ → Line
+load number = With Lda (Number number)
+
+-- the timer, where there are several play calls in a picture; and the three voices
+abbrev timer_lines : Start → List Line
+timer_lines start =
+    When TIMED ∷ load start.timer_low ∷ (TIMER_LOW_SET.now ++ load start.timer_high ∷ (TIMER_HIGH_SET.now ++ End ∷ []))
+
+abbrev start_lines : Start → List Line
+start_lines start = Loop 3 ∷ (VOICE_STARTED.now ++ load start.tempo ∷ (TEMPO_STARTED.now ++ End ∷ []))
+
+abbrev pub init_lines : Start → List Line
+init_lines start =
+    SUBTUNE_TAKEN.now
+    ++ (timer_lines start ++ (ALL_CLEARED.now ++ load start.funk ∷ (FUNK_STARTED.now ++ start_lines start)))
+
+abbrev pub init_tree : Start → Tree
+init_tree start = tree_of (init_lines start)

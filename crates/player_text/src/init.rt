@@ -1,0 +1,76 @@
+//! The block that begins a subtune.
+
+use player_memory::labels::{
+    FIRST_VARIABLE, FUNK_ONE, FUNK_TWO, GATE, INSTRUMENT, ORDER_HIGH, ORDER_LOW, ORDERS_HIGH,
+    ORDERS_LOW, TEMPO, TICK, VIB_DELAY, VOLUME,
+};
+use scopes::{Line, text};
+
+/// A is the subtune's number, counted from 0. Behind it Y is where the subtune's orderlists stand in their lists.
+pub const SUBTUNE_TAKEN: &[Line] = text! {
+    Sta Pointer Low;
+    Asl;
+    Adc Pointer Low;
+    Tay;
+};
+
+/// The timer's low byte is A.
+pub const TIMER_LOW_SET: &[Line] = text! {
+    Sta Timer Low;
+};
+
+/// The timer's high byte is A.
+pub const TIMER_HIGH_SET: &[Line] = text! {
+    Sta Timer High;
+};
+
+/// All registers and variables are 0, and the volume is 15. It keeps Y.
+pub const ALL_CLEARED: &[Line] = text! {
+    Lda Number 0;
+    Ldx Number 24;
+    turns 25 {
+        Sta OwnRegister 0;
+        Dex;
+        again off Minus;
+    }
+    Ldx Number 112;
+    turns 113 {
+        Sta Own FIRST_VARIABLE;
+        Dex;
+        again off Minus;
+    }
+    Lda Number 15;
+    Sta Var VOLUME;
+};
+
+/// The first funk tempo is A, and the first voice is next. It keeps Y.
+pub const FUNK_STARTED: &[Line] = text! {
+    Sta Var FUNK_ONE;
+    Ldx Number 0;
+};
+
+/// What a voice begins with: its orderlist is that at Y. It keeps X and Y.
+pub const VOICE_STARTED: &[Line] = text! {
+    Lda Entry ORDERS_LOW;
+    Sta Own ORDER_LOW;
+    Lda Entry ORDERS_HIGH;
+    Sta Own ORDER_HIGH;
+    Inc Own TICK;
+    Inc Own INSTRUMENT;
+    Dec Own VIB_DELAY;
+    Lda Number 0xFE;
+    Sta Own GATE;
+};
+
+/// The voice's tempo is A, and so is the second funk tempo; X and Y go on to the next voice, if there is one.
+pub const TEMPO_STARTED: &[Line] = text! {
+    Sta Own TEMPO;
+    Sta Var FUNK_TWO;
+    Iny;
+    Txa;
+    Clc;
+    Adc Number 7;
+    Tax;
+    Cpx Number 21;
+    again off Zero;
+};

@@ -1,0 +1,45 @@
+//! The block of the frequency by a number, and the one that gives back what was lent.
+
+use player_memory::conditions::WAVE_COMMAND;
+use player_memory::labels::{
+    COMMAND, FREQ_HIGH, FREQ_LOW, FREQUENCY_HIGHS, FREQUENCY_LOWS, KEPT_COMMAND, KEPT_PARAM,
+    LAST_NOTE, LENT, PARAM, VIB_TIME,
+};
+use scopes::{Line, text};
+
+/// A is the number, at most 96.
+pub const LOW: u8 = 0;
+/// The command that runs is the voice's own.
+const OWN: u8 = 1;
+
+/// Behind `PITCHED`: A is the number for the frequency, below 128. It keeps no register.
+pub const PITCH: &[Line] = text! {
+    Sta Own LAST_NOTE;
+    scope LOW {
+        Cmp Number 96;
+        leave LOW off Carry;
+        Lda Number 96;
+    }
+    Tay;
+    Lda Number 0;
+    Sta Own VIB_TIME;
+    Lda Entry FREQUENCY_LOWS;
+    Sta Own FREQ_LOW;
+    Lda Entry FREQUENCY_HIGHS;
+    Sta Own FREQ_HIGH;
+};
+
+/// Behind `EFFECTED`: a command that was lent to the effect step makes way for the voice's own. It keeps no register.
+pub const GIVEN_BACK: &[Line] = text! {
+    when WAVE_COMMAND { // Idle where nothing is lent; keeps no register.
+        scope OWN {
+            Lda Var LENT;
+            leave OWN on Zero;
+            Lda Var KEPT_PARAM;
+            Sta Own PARAM;
+            Lda Var KEPT_COMMAND;
+            Sta Own COMMAND;
+            Dec Var LENT;
+        }
+    }
+};

@@ -1,0 +1,204 @@
+//! The blocks of the tick step.
+
+use crate::commands::{
+    AD_SET, CUTOFF_SET, FILTER_CONTROL_SET, FILTER_POINTER_SET, FUNK_CHOSEN, FUNK_SET,
+    PULSE_POINTER_SET, SR_SET, TEMPO_SET, VOLUME_SET, WAVE_POINTER_SET, WAVE_SET,
+};
+use crate::joints::{DONE, SOUNDS, TAKEN, TICKED};
+use crate::pieces::pieces;
+use player_memory::conditions::FUNK_TEMPO;
+use player_memory::labels::{
+    AD, ADS, COMMAND, DELAYS, FILTER_POINTER, FILTER_TIME, FILTERS, FIRST_WAVES, FUNK_ONE, GATE,
+    GATE_TIMER, GATE_TIMERS, INSTRUMENT, NEW_COMMAND, NEW_NOTE, NEW_PARAM, NOTE, PARAM,
+    PULSE_POINTER, PULSE_TIME, PULSES, SR, SRS, TEMPO, TICK, VIB_DELAY, VIB_TIME, VIBRATOS, WAVE,
+    WAVE_POINTER, WAVE_TIME, WAVES,
+};
+use scopes::{Line, text};
+
+/// The row is done.
+pub const AT_ROW: u8 = 0;
+/// The row goes on.
+pub const RUNS: u8 = 1;
+/// A is the frames of the next row, less one.
+pub const PLAIN: u8 = 2;
+/// The note begins; Y is the instrument.
+pub const STARTS: u8 = 3;
+/// The mask is settled; Y is the instrument.
+pub const MASKED: u8 = 4;
+/// A is the mask, Y the instrument.
+pub const MASK: u8 = 5;
+/// The pulse program is settled; Y is the instrument.
+pub const NO_PULSE: u8 = 6;
+/// The filter program is settled; Y is the instrument.
+pub const NO_FILTER: u8 = 7;
+/// The command is done once; A is it, 5 to 15.
+pub const ONCE: u8 = 8;
+/// A is the parameter of the command that runs.
+pub const SETTLED: u8 = 9;
+/// The row has no command: A is 0, Y the instrument.
+pub const BARE: u8 = 10;
+/// The command that runs is set.
+pub const TIMED: u8 = 11;
+
+/// Counts the frames of the row. Leaves `TICKED` where the row goes on; ends where it is done.
+pub const FRAME_COUNTED: &[Line] = text! {
+    scope AT_ROW {
+        scope RUNS {
+            Dec Own TICK;
+            leave AT_ROW on Zero;
+            leave RUNS off Minus;
+            Lda Own TEMPO;
+            when FUNK_TEMPO { // Idle where A, the tempo, is 2 or more; keeps A.
+                scope PLAIN {
+                    Cmp Number 2;
+                    leave PLAIN on Carry;
+                    Tay;
+                    Eor Number 1;
+                    Sta Own TEMPO;
+                    Lda Entry FUNK_ONE;
+                }
+            }
+            Sta Own TICK;
+        }
+        leave TICKED;
+    }
+};
+
+/// Sets the gateoff timer. Y is the instrument behind it.
+pub const GATE_TIMER_SET: &[Line] = text! {
+    Ldy Own INSTRUMENT;
+    Lda Entry GATE_TIMERS;
+    And Number 0x3F;
+    Sta Own GATE_TIMER;
+};
+
+/// Takes the note that waits. Leaves `TAKEN` where none does, and where a slide goes to it; ends where the note begins.
+/// Y is the instrument, and stays it.
+pub const NOTE_TAKEN: &[Line] = text! {
+    Lda Own NEW_NOTE;
+    leave TAKEN on Zero;
+    Sec;
+    Sbc Number 0x60;
+    Sta Own NOTE;
+    Lda Entry DELAYS;
+    Sta Own VIB_DELAY;
+    scope STARTS {
+        Lda Own NEW_COMMAND;
+        Eor Number 3;
+        leave STARTS off Zero;
+        // A note that slides begins nothing, and goes on to the wave step.
+        Sta Own NEW_NOTE;
+        leave TAKEN on Zero;
+        never;
+    }
+};
+
+/// The note begins: its vibrato, its first waveform and its mask. Y is the instrument, and stays it.
+pub const NOTE_BEGUN: &[Line] = text! {
+    Lda Number 0;
+    Sta Own COMMAND;
+    Sta Own WAVE_TIME;
+    Lda Entry VIBRATOS;
+    Sta Own PARAM;
+    scope MASKED {
+        scope MASK {
+            Lda Entry FIRST_WAVES;
+            leave MASKED on Zero;
+            Cmp Number 0xFE;
+            leave MASK on Carry;
+            Sta Own WAVE;
+            Lda Number 0xFF;
+        }
+        Sta Own GATE;
+    }
+};
+
+/// The note begins: its programs, and its envelope. Y is the instrument, and stays it.
+pub const PROGRAMS_BEGUN: &[Line] = text! {
+    scope NO_PULSE {
+        Lda Entry PULSES;
+        leave NO_PULSE on Zero;
+        Sta Own PULSE_POINTER;
+        Lda Number 0;
+        Sta Own PULSE_TIME;
+    }
+    scope NO_FILTER {
+        Lda Entry FILTERS;
+        leave NO_FILTER on Zero;
+        Sta Var FILTER_POINTER;
+        Lda Number 0;
+        Sta Var FILTER_TIME;
+    }
+    Lda Entry WAVES;
+    Sta Own WAVE_POINTER;
+    Lda Entry ADS;
+    Sta Own AD;
+    Lda Entry SRS;
+    Sta Own SR;
+};
+
+/// The row's command: one below 5 runs from here on. Leaves `DONE` behind it; ends with a command of 5 up in Y, and its
+/// parameter in A.
+pub const COMMAND_BEGUN: &[Line] = text! {
+    scope ONCE {
+        scope SETTLED {
+            scope BARE {
+                Lda Own NEW_COMMAND;
+                leave BARE on Zero;
+                Cmp Number 5;
+                leave ONCE on Carry;
+                Sta Own COMMAND;
+                scope TIMED {
+                    Cmp Number 3;
+                    leave TIMED on Carry;
+                    Lda Number 0;
+                    Sta Own VIB_TIME;
+                }
+                Lda Own NEW_PARAM;
+                leave SETTLED;
+            }
+            Sta Own COMMAND;
+            Lda Entry VIBRATOS;
+        }
+        Sta Own PARAM;
+        leave DONE;
+    }
+    Tay;
+    Lda Own NEW_PARAM;
+};
+
+/// The row is done, and its command: leaves `SOUNDS` where a note has started, else `TICKED`.
+pub const NOTE_TOLD: &[Line] = text! {
+    Lda Own NEW_NOTE;
+    leave TICKED on Zero;
+    Lda Number 0;
+    Sta Own NEW_NOTE;
+    leave SOUNDS;
+};
+
+/// The tick step. Leaves `SOUNDS` where a note has started; else ends at `TICKED`. It keeps no register.
+pub const TICK_STEP: &[&[Line]] = pieces! {
+    put FRAME_COUNTED;
+    put GATE_TIMER_SET;
+    scope TAKEN {
+        put NOTE_TAKEN;
+        put NOTE_BEGUN;
+        put PROGRAMS_BEGUN;
+    }
+    scope DONE {
+        put COMMAND_BEGUN;
+        put AD_SET;
+        put SR_SET;
+        put WAVE_SET;
+        put WAVE_POINTER_SET;
+        put PULSE_POINTER_SET;
+        put FILTER_POINTER_SET;
+        put FILTER_CONTROL_SET;
+        put CUTOFF_SET;
+        put VOLUME_SET;
+        put FUNK_SET;
+        put TEMPO_SET;
+        put FUNK_CHOSEN;
+    }
+    put NOTE_TOLD;
+};
