@@ -1,0 +1,296 @@
+-- The desk of a voice as it is read from memory; and what a block leaves there that leads to where a rule's code does.
+use Rattle.std.proofs.Common.{◌≡◌, ℕ, ◌+◌, ◌%◌, ◌<◌, true, inl, inr, refl, sym, ap, ◌∙◌, subst}
+use Rattle.std.proofs.lemmas.Bool.Decides.{eqb_tells}
+use Rattle.play_model.specs.State.{Voice, Common, Playing}
+use Rattle.play_model.specs.TickStep.{tempo_of}
+use Rattle.scopes.specs.Desk.{Desk, Layout}
+use Rattle.scopes.specs.Trees.{Tree}
+use Rattle.scopes.specs.Meaning.{Outcome, Ran, Done, Left, Again, Stuck, each_one, ran}
+use Rattle.player_memory.specs.declared.labels.TheConstants.{TICK, GATE_TIMER, INSTRUMENT, NOTE, NEW_NOTE}
+use Rattle.player_memory.specs.declared.labels.TheConstants.{NEW_COMMAND, NEW_PARAM, COMMAND, PARAM, AD, SR, VIB_TIME}
+use Rattle.player_memory.specs.declared.labels.TheConstants.{VIB_DELAY, WAVE, GATE, FREQ_LOW, FREQ_HIGH, LAST_NOTE}
+use Rattle.player_memory.specs.declared.labels.TheConstants.{WAVE_POINTER, WAVE_TIME, PULSE_POINTER, PULSE_TIME}
+use Rattle.player_memory.specs.declared.labels.TheConstants.{PULSE_LOW, PULSE_HIGH, TEMPO, FILTER_POINTER}
+use Rattle.player_memory.specs.declared.labels.TheConstants.{FILTER_TIME, FILTER_TYPE, FILTER_CONTROL, CUTOFF, VOLUME}
+use Rattle.player_memory.specs.declared.labels.TheConstants.{FUNK_ONE, FUNK_TWO, REST, OFFSET, PATTERN_LOW}
+use Rattle.player_memory.specs.declared.labels.TheConstants.{PATTERN_HIGH, ORDER_LOW, ORDER_HIGH, ORDER_PLACE}
+use Rattle.player_memory.specs.declared.labels.TheConstants.{TRANSPOSE, REPEAT, LENT, KEPT_COMMAND, KEPT_PARAM}
+use Rattle.player_memory.specs.declared.labels.TheConstants.{SLIDES_LOW, SLIDES_HIGH}
+use Rattle.player_memory.specs.declared.variables.TheConstants.{SONG_BYTES}
+use Rattle.player_memory.specs.Labels.{is_own, is_shared}
+use Rattle.player_memory.specs.Rooms.{IsRoom, IsElsewhere, MayUse}
+use Rattle.player_memory.specs.Playing.{own_at, shared_at, IsListed, IsPlaying, IsAtVoice, AreSame, Plays}
+use Rattle.player_desk.proofs.VoiceDesks.{VoiceDesk, Reader, Leads}
+use Rattle.player_desk.proofs.Spots.{Own, Shared as SharedSpot, Sid, Tempo, Others, Elsewhere, LowSpot, HighSpot, SlideLow, SlideHigh}
+use Rattle.player_desk.proofs.Spots.{Spot, IsSpot, spot_place, spot_byte}
+use Rattle.player_desk.proofs.Leading.{Shows, Ground, At, Led, led}
+use Rattle.player_desk.proofs.Places.{spot_at, IsSameAt, same_byte}
+use Rattle.player_desk.proofs.Joining.{ends}
+use Rattle.player_desk.proofs.Reading.{Reads, place_at}
+use Rattle.player_desk.proofs.Views.{Fields, Shared, Lent, SameSong, Done as IsDone}
+use Rattle.player_desk.proofs.Views.{fields_of, fields_stand, shared_of, shared_stand}
+
+-- ---- before a block
+
+-- what the code may read, and leaves
+pub record IsFound (layout : Layout) (rows place : ℕ) : Type 0 where
+  pub elsewhere : IsElsewhere layout rows place
+  pub reads : layout.may_read place ≡ true
+
+abbrev pub reader_of : Layout → ℕ → ℕ → Desk → Reader
+reader_of layout rows voice desk =
+    record { layout = layout; voice = voice; rows = rows; before = desk.at; IsFound = IsFound layout rows }
+
+abbrev pub voice_desk : Layout → ℕ → Desk → VoiceDesk
+voice_desk layout voice desk = record {
+  own = own_at layout desk.at voice;
+  shared = shared_at layout desk.at;
+  low = desk.at layout.pointer;
+  high = desk.at (layout.pointer + 1);
+  slide_low = λ row. desk.at (layout.address SLIDES_LOW + row);
+  slide_high = λ row. desk.at (layout.address SLIDES_HIGH + row);
+  sid = λ register. desk.at (0xD400 + register);
+  a = desk.cpu.a;
+  y = desk.cpu.y;
+  c = desk.cpu.c;
+  z = desk.cpu.z;
+  n = desk.cpu.n;
+}
+
+abbrev pub lent_of : Layout → Desk → Lent
+lent_of layout desk = record {
+  lent = shared_at layout desk.at LENT;
+  command = shared_at layout desk.at KEPT_COMMAND;
+  param = shared_at layout desk.at KEPT_PARAM;
+}
+
+pub ground_of : (layout : Layout) (rows voice : ℕ) (desk : Desk) → IsRoom layout rows → MayUse layout rows → voice < 3 →
+    Ground (reader_of layout rows voice desk)
+ground_of layout rows voice desk room uses three = record {
+  room = room;
+  uses = uses;
+  voice = three;
+  found = λ place is. is.elsewhere;
+  reads_found = λ place is. is.reads;
+}
+
+pub spots_are : (layout : Layout) (rows voice : ℕ) (desk : Desk) (s : Spot) → IsSpot
+    (reader_of layout rows voice desk) s →
+    desk.at (spot_place (reader_of layout rows voice desk) s)
+    ≡ spot_byte (reader_of layout rows voice desk) s (voice_desk layout voice desk)
+spots_are layout rows voice desk (Own label) is = refl
+spots_are layout rows voice desk (SharedSpot label) is = refl
+spots_are layout rows voice desk LowSpot is = refl
+spots_are layout rows voice desk HighSpot is = refl
+spots_are layout rows voice desk (Sid register) is = refl
+spots_are layout rows voice desk (SlideLow row) is = refl
+spots_are layout rows voice desk (SlideHigh row) is = refl
+spots_are layout rows voice desk (Tempo its) is = refl
+spots_are layout rows voice desk (Others label its) is = refl
+spots_are layout rows voice desk (Elsewhere place) is = refl
+
+pub shows_desk : (layout : Layout) (rows voice : ℕ) (desk : Desk) → IsAtVoice voice desk →
+    Shows true (reader_of layout rows voice desk) desk (voice_desk layout voice desk)
+shows_desk layout rows voice desk at = record {
+  memory = spots_are layout rows voice desk;
+  a = refl;
+  y = refl;
+  c = refl;
+  z = refl;
+  n = refl;
+  x = λ voiced. at.x;
+  decimal = at.decimal;
+}
+
+-- a byte of a list is found
+pub finds : (layout : Layout) (rows voice : ℕ) (desk : Desk) (label number byte : ℕ) →
+    IsListed layout rows desk.at label number byte →
+    Reads (reader_of layout rows voice desk) (place_at (reader_of layout rows voice desk) label number) byte
+finds layout rows voice desk label number byte listed =
+    record { found = record { elsewhere = listed.elsewhere; reads = listed.reads }; is = listed.is }
+
+-- the voice that is playing stands on its desk
+pub begins : (layout : Layout) (voice : ℕ) (desk : Desk) (s : Playing) → IsPlaying layout voice s desk.at →
+    IsDone voice s (lent_of layout desk) (voice_desk layout voice desk) (voice_desk layout voice desk)
+begins layout voice desk s plays = record {
+  fields = fields_of s.voice (tempo_of (voice + 1) s.common) (own_at layout desk.at voice) plays.own;
+  common = shared_of s.common (shared_at layout desk.at) plays.common;
+  tempos = λ its three other. plays.tempos its three;
+  lent = record { lent = refl; command = λ some. refl; param = λ some. refl };
+  song = record {
+    rest = refl;
+    offset = refl;
+    pattern_low = refl;
+    pattern_high = refl;
+    order_low = refl;
+    order_high = refl;
+    order_place = refl;
+    transpose = refl;
+    repeat = refl;
+  };
+  sid = refl;
+}
+
+-- ---- behind it
+
+-- the same bytes under another name
+fields_at : (v : Voice) (tempo : ℕ) (own other : ℕ → ℕ) →
+    ((label : ℕ) → is_own label ≡ true → other label ≡ own label) →
+    Fields v tempo own → Fields v tempo other
+fields_at v tempo own other same f = record {
+  tick = same TICK refl ∙ f.tick;
+  gate_timer = same GATE_TIMER refl ∙ f.gate_timer;
+  instrument = same INSTRUMENT refl ∙ f.instrument;
+  note = same NOTE refl ∙ f.note;
+  new_note = same NEW_NOTE refl ∙ f.new_note;
+  new_command = same NEW_COMMAND refl ∙ f.new_command;
+  new_param = λ some. same NEW_PARAM refl ∙ f.new_param some;
+  command = same COMMAND refl ∙ f.command;
+  param = same PARAM refl ∙ f.param;
+  ad = same AD refl ∙ f.ad;
+  sr = same SR refl ∙ f.sr;
+  vib_time = same VIB_TIME refl ∙ f.vib_time;
+  vib_delay = same VIB_DELAY refl ∙ f.vib_delay;
+  wave = same WAVE refl ∙ f.wave;
+  gate = same GATE refl ∙ f.gate;
+  freq_low = same FREQ_LOW refl ∙ f.freq_low;
+  freq_high = same FREQ_HIGH refl ∙ f.freq_high;
+  last_note = same LAST_NOTE refl ∙ f.last_note;
+  wave_ptr = same WAVE_POINTER refl ∙ f.wave_ptr;
+  wave_time = same WAVE_TIME refl ∙ f.wave_time;
+  pulse_ptr = same PULSE_POINTER refl ∙ f.pulse_ptr;
+  pulse_time = same PULSE_TIME refl ∙ f.pulse_time;
+  pulse_low = same PULSE_LOW refl ∙ f.pulse_low;
+  pulse_high = ap (λ byte. byte % 16) (same PULSE_HIGH refl) ∙ f.pulse_high;
+  tempo_is = same TEMPO refl ∙ f.tempo_is;
+}
+
+pub shared_here : (c : Common) (shared other : ℕ → ℕ) →
+    ((label : ℕ) → is_shared label ≡ true → other label ≡ shared label) → Shared c shared → Shared c other
+shared_here c shared other same f = record {
+  filter_ptr = same FILTER_POINTER refl ∙ f.filter_ptr;
+  filter_time = same FILTER_TIME refl ∙ f.filter_time;
+  filter_type = same FILTER_TYPE refl ∙ f.filter_type;
+  filter_control = same FILTER_CONTROL refl ∙ f.filter_control;
+  cutoff = same CUTOFF refl ∙ f.cutoff;
+  volume = same VOLUME refl ∙ f.volume;
+  funk_one = same FUNK_ONE refl ∙ f.funk_one;
+  funk_two = same FUNK_TWO refl ∙ f.funk_two;
+}
+
+song_at : (own other before : ℕ → ℕ) → ((label : ℕ) → is_own label ≡ true → other label ≡ own label) →
+    SameSong own before → AreSame SONG_BYTES other before
+song_at own other before same s =
+    let rest = same REST refl ∙ s.rest in
+    let offset = same OFFSET refl ∙ s.offset in
+    let pattern_low = same PATTERN_LOW refl ∙ s.pattern_low in
+    let pattern_high = same PATTERN_HIGH refl ∙ s.pattern_high in
+    let order_low = same ORDER_LOW refl ∙ s.order_low in
+    let order_high = same ORDER_HIGH refl ∙ s.order_high in
+    let order_place = same ORDER_PLACE refl ∙ s.order_place in
+    let transpose = same TRANSPOSE refl ∙ s.transpose in
+    let repeat = same REPEAT refl ∙ s.repeat in
+    assumption (rest, offset, pattern_low, pattern_high, order_low, order_high, order_place, transpose, repeat)
+
+-- what leads to an end alone has come there
+pub record AtEnd (Q : VoiceDesk → Type 0) (outcome : Outcome) (d : VoiceDesk) : Type 0 where
+  pub is : outcome ≡ Done
+  pub holds : Q d
+
+pub at_end : (Q : VoiceDesk → Type 0) (outcome : Outcome) (d : VoiceDesk) → At (ends Q) outcome d → AtEnd Q outcome d
+at_end Q Done d way = record { is = refl; holds = way }
+at_end Q (Left name) d never = elim never [ ]
+at_end Q Again d never = elim never [ ]
+at_end Q Stuck d never = elim never [ ]
+
+-- A block that leads from the desk of a voice to where a rule's code does leaves the state that the rule gives.
+pub plays : (layout : Layout) (rows voice : ℕ) (tree : Tree) (desk : Desk) (t : Playing) → IsRoom layout rows →
+    MayUse layout rows → voice < 3 → IsAtVoice voice desk →
+    Leads (reader_of layout rows voice desk) tree
+    (ends (IsDone voice t (lent_of layout desk) (voice_desk layout voice desk))) (voice_desk layout voice desk) →
+    Plays layout rows voice desk (ran each_one layout tree desk) t
+plays layout rows voice tree desk t room uses three at leads = record {
+  ends = end.is;
+  at_voice = record { x = behind.shows.x refl; decimal = behind.shows.decimal };
+  plays = record {
+    own = fields_stand t.voice (tempo_of (voice + 1) t.common) _ here;
+    common = shared_stand t.common _
+        (shared_here t.common m.shared _ (λ label is. behind.shows.memory (SharedSpot label) is) done.common);
+    tempos = λ its few. tempos its few;
+  };
+  song = song_at m.own _ _ own done.song;
+  lent = behind.shows.memory (SharedSpot LENT) refl ∙ done.lent.lent;
+  others = λ its label few other is not_tempo. behind.shows.memory (Others label its) (is, few, other, not_tempo);
+  registers = λ register few. behind.shows.memory (Sid register) few ∙ ap (λ sid. sid register) done.sid;
+  elsewhere = λ place away. behind.shows.memory (Elsewhere place) away;
+}
+  where
+    r : Reader
+    r = reader_of layout rows voice desk
+
+    Q : VoiceDesk → Type 0
+    Q = IsDone voice t (lent_of layout desk) (voice_desk layout voice desk)
+
+    behind : Led true r (ends Q) (ran each_one layout tree desk)
+    behind =
+        led (ground_of layout rows voice desk room uses three) tree (ends Q) desk (voice_desk layout voice desk)
+        (shows_desk layout rows voice desk at) leads
+
+    m : VoiceDesk
+    m = behind.after
+
+    end : AtEnd Q (ran each_one layout tree desk).outcome m
+    end = at_end Q (ran each_one layout tree desk).outcome m behind.way
+
+    done : IsDone voice t (lent_of layout desk) (voice_desk layout voice desk) m
+    done = end.holds
+
+    own : (label : ℕ) → is_own label ≡ true → own_at layout (ran each_one layout tree desk).desk.at voice label ≡
+        m.own label
+    own label is = behind.shows.memory (Own label) is
+
+    here : Fields t.voice (tempo_of (voice + 1) t.common) (own_at layout (ran each_one layout tree desk).desk.at voice)
+    here = fields_at t.voice (tempo_of (voice + 1) t.common) m.own _ own done.fields
+
+    tempos : (its : ℕ) → its < 3 → own_at layout (ran each_one layout tree desk).desk.at its TEMPO ≡ tempo_of
+        (its + 1) t.common
+    tempos its few =
+        elim (eqb_tells its voice) [
+          | inl same ↦ subst (λ n. own_at layout (ran each_one layout tree desk).desk.at n TEMPO ≡ tempo_of (n + 1)
+              t.common) (sym same.1) here.tempo_is
+          | inr other ↦ behind.shows.memory (Tempo its) (few, other.1) ∙ done.tempos its few other.1
+        ]
+
+-- ---- whatever a block is for
+
+-- A block has come to its end with a desk of which Q holds. What is as it was on the desk is as it was in memory.
+pub record Came (layout : Layout) (rows voice : ℕ) (desk : Desk) (Q : VoiceDesk → Type 0) (run : Ran) : Type 0 where
+  pub ends : run.outcome ≡ Done
+  pub at_voice : IsAtVoice voice run.desk
+  pub after : VoiceDesk
+  pub shows : Shows true (reader_of layout rows voice desk) run.desk after
+  pub holds : Q after
+  pub stays : (place : ℕ) → IsSameAt (reader_of layout rows voice desk) (voice_desk layout voice desk) after place →
+      run.desk.at place ≡ desk.at place
+
+pub comes : (layout : Layout) (rows voice : ℕ) (tree : Tree) (desk : Desk) (Q : VoiceDesk → Type 0) →
+    IsRoom layout rows → MayUse layout rows → voice < 3 → IsAtVoice voice desk →
+    Leads (reader_of layout rows voice desk) tree (ends Q) (voice_desk layout voice desk) →
+    Came layout rows voice desk Q (ran each_one layout tree desk)
+comes layout rows voice tree desk Q room uses three at leads =
+    let d = voice_desk layout voice desk in
+    let behind = led (ground_of layout rows voice desk room uses three) tree (ends Q) desk d
+    (shows_desk layout rows voice desk at) leads in
+    let end = at_end Q (ran each_one layout tree desk).outcome behind.after behind.way in record {
+      ends = end.is;
+      at_voice = record { x = behind.shows.x refl; decimal = behind.shows.decimal };
+      after = behind.after;
+      shows = behind.shows;
+      holds = end.holds;
+      stays = λ place same.
+          let p = spot_at (reader_of layout rows voice desk) room place in
+          ap (ran each_one layout tree desk).desk.at p.at
+          ∙ (behind.shows.memory p.spot p.is
+          ∙ (same_byte (reader_of layout rows voice desk) d behind.after place same p.spot p.at
+          ∙ sym (ap desk.at p.at ∙ spots_are layout rows voice desk p.spot p.is)));
+    }
