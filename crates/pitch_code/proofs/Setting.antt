@@ -1,0 +1,20 @@
+-- The code of a note's frequency in memory.
+use Rattle.std.proofs.Common.{ℕ}
+use Rattle.scopes.specs.Desk.{Desk, Layout}
+use Rattle.player_memory.specs.declared.labels.TheConstants.{FREQUENCY_LOWS, FREQUENCY_HIGHS}
+use Rattle.player_desk.proofs.Laws.{reader_of, voice_desk, lent_of, finds, begins, plays}
+use Rattle.pitch_code.specs.PitchBlock.{pitch_tree, HasFrequencies, PitchBlockSets}
+use Rattle.pitch_code.proofs.Frequencies.{FrequenciesAt, sounding, pitch_leads}
+
+pub frequencies_at : (layout : Layout) (rows voice : ℕ) (desk : Desk) → HasFrequencies layout rows desk.at →
+    FrequenciesAt (reader_of layout rows voice desk)
+frequencies_at layout rows voice desk has = record {
+  low = λ note few. finds layout rows voice desk FREQUENCY_LOWS note _ (has.low note few);
+  high = λ note few. finds layout rows voice desk FREQUENCY_HIGHS note _ (has.high note few);
+}
+
+pub pitch_block_sets : PitchBlockSets
+pitch_block_sets layout rows voice s desk room uses has three at playing =
+    plays layout rows voice pitch_tree desk (sounding desk.cpu.a s) room uses three at
+    (pitch_leads (reader_of layout rows voice desk) s (lent_of layout desk) (voice_desk layout voice desk)
+    (voice_desk layout voice desk) (frequencies_at layout rows voice desk has) (begins layout voice desk s playing))

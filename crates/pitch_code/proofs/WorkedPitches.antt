@@ -1,0 +1,133 @@
+-- The worked memories, computed by the checker.
+use Rattle.std.proofs.Common.{◌≡◌, ℕ, ◌+◌, ◌-◌, ◌/◌, ◌%◌, ◌<◌, ◌≤◌, Bool, true, false, nat_lt, inl, inr, refl, ap}
+use Rattle.std.proofs.Common.{arith}
+use Rattle.std.proofs.lemmas.Bool.{true≢false, lt-ltb, le-ltb}
+use Rattle.play_model.specs.Freq.{freq}
+use Rattle.scopes.specs.Meaning.{Outcome, Stuck}
+use Rattle.player_memory.specs.Rooms.{IsRoom, MayUse, AreSlides, IsElsewhere}
+use Rattle.player_memory.specs.Playing.{IsAtVoice, place_in}
+use Rattle.player_memory.specs.declared.labels.TheConstants.{FREQUENCY_LOWS, FREQUENCY_HIGHS}
+use Rattle.pitch_code.specs.PitchBlock.{HasFrequencies}
+use Rattle.pitch_code.specs.WorkedPitches.{from_1000, with_lists, lending, NotesAreWorked, ReturnsAreWorked}
+use Rattle.pitch_code.specs.WorkedPitches.{OthersAreDenied}
+use Rattle.pitch_code.proofs.Giving.{given_back_block_gives}
+
+elsewhere : (place : ℕ) → 0x2000 ≤ place → place < 0x2300 → IsElsewhere from_1000 0 place
+elsewhere place from to = record {
+  variables = inr (omega (arith, from));
+  slides_low = λ kept. inl (omega (arith, to));
+  slides_high = λ kept. inl (omega (arith, to));
+  low = λ same. omega (arith, same, from);
+  high = λ same. omega (arith, same, from);
+  registers = inl (omega (arith, to));
+}
+
+low_is : (note : ℕ) → note ≤ 96 → with_lists (place_in from_1000 FREQUENCY_LOWS note) ≡ freq note % 256
+low_is note few =
+    let place : (0x2000 + note) % 65536 ≡ 0x2000 + note = omega (arith, few) in
+    let from : nat_lt (0x2000 + note) 0x2000 ≡ false = le-ltb (0x2000 + note) 0x2000 (omega arith) in
+    let to : nat_lt (0x2000 + note) 0x2200 ≡ true = lt-ltb (0x2000 + note) 0x2200 (omega (arith, few)) in
+    let number : 0x2000 + note - 0x2000 ≡ note = omega arith in
+    rw (place, from, to, number) refl
+
+high_is : (note : ℕ) → note ≤ 96 → with_lists (place_in from_1000 FREQUENCY_HIGHS note) ≡ freq note / 256
+high_is note few =
+    let place : (0x2200 + note) % 65536 ≡ 0x2200 + note = omega (arith, few) in
+    let from : nat_lt (0x2200 + note) 0x2000 ≡ false = le-ltb (0x2200 + note) 0x2000 (omega arith) in
+    let to : nat_lt (0x2200 + note) 0x2200 ≡ false = le-ltb (0x2200 + note) 0x2200 (omega arith) in
+    let number : 0x2200 + note - 0x2200 ≡ note = omega arith in
+    rw (place, from, to, number) refl
+
+lists : HasFrequencies from_1000 0 with_lists
+lists = record {
+  low = λ note few. record {
+    elsewhere = elsewhere (place_in from_1000 FREQUENCY_LOWS note) (omega (arith, few)) (omega (arith, few));
+    reads = refl;
+    is = low_is note few;
+  };
+  high = λ note few. record {
+    elsewhere = elsewhere (place_in from_1000 FREQUENCY_HIGHS note) (omega (arith, few)) (omega (arith, few));
+    reads = refl;
+    is = high_is note few;
+  };
+}
+
+pub notes_are_worked : NotesAreWorked
+unfolding freq
+notes_are_worked = record {
+  lists = lists;
+  last_note = refl;
+  vib_time = refl;
+  low = refl;
+  high = refl;
+  cost = refl;
+  last_low = refl;
+  last_high = refl;
+  none_low = refl;
+  none_high = refl;
+  far_last_note = refl;
+  far_low = refl;
+  far_high = refl;
+  far_cost = refl;
+}
+
+slides : AreSlides from_1000 0
+slides = record {
+  low = record { from = omega arith; to = omega arith; outside = inr (omega arith) };
+  high = record { from = omega arith; to = omega arith; outside = inr (omega arith) };
+  apart = inl (omega arith);
+}
+
+room : IsRoom from_1000 0
+room = record {
+  begins = omega arith;
+  ends = omega arith;
+  variables = λ label few. (let e : nat_lt label 113 ≡ true = lt-ltb label 113 few in rw e refl);
+  slides = λ kept. slides;
+  pointer_low = omega arith;
+  pointer_high = omega arith;
+}
+
+uses : MayUse from_1000 0
+uses = record {
+  reads = λ label few. refl;
+  writes = λ label few. refl;
+  slides = λ kept row few. absurd (omega (arith, few));
+  registers = λ register few. refl;
+}
+
+at_voice : (lent : ℕ) → IsAtVoice 1 (lending lent)
+at_voice lent = record { x = refl; decimal = refl }
+
+pub returns_are_worked : ReturnsAreWorked
+returns_are_worked = record {
+  room = room;
+  uses = uses;
+  at_voice = at_voice 1;
+  back = (given_back_block_gives from_1000 0 1 (lending 1) room uses (omega arith) (at_voice 1)).lent refl refl;
+  command = refl;
+  param = refl;
+  cost = refl;
+  none = (given_back_block_gives from_1000 0 1 (lending 0) room uses (omega arith) (at_voice 0)).none refl;
+  none_cost = refl;
+}
+
+abbrev is_stuck : Outcome → Bool
+is_stuck Stuck = true
+is_stuck _ = false
+
+pub others_are_denied : OthersAreDenied
+others_are_denied = record {
+  stuck = λ g. true≢false (ap is_stuck g.ends);
+  no_voice = λ g. (let e : 7 ≡ 0 = g.at_voice.x in omega (arith, e));
+  command = λ g. (let e : 51 ≡ 109 = g.command in omega (arith, e));
+  param = λ g. (let e : 52 ≡ 110 = g.param in omega (arith, e));
+  lent = λ g. (let e : 1 ≡ 0 = g.lent in omega (arith, e));
+  another = λ g.
+      (let e : 0 ≡ 44 =
+      g.leaves 0x102C (λ same. omega (arith, same)) (λ same. omega (arith, same)) (λ same. omega (arith, same)) in
+      omega (arith, e));
+  stuck_with_none = λ g. true≢false (ap is_stuck g.ends);
+  no_voice_with_none = λ g. (let e : 7 ≡ 0 = g.at_voice.x in omega (arith, e));
+  something = λ g. (let e : 109 ≡ 51 = g.leaves 0x1033 in omega (arith, e));
+}

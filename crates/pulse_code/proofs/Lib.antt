@@ -1,0 +1,6 @@
+mod PulseRows
+mod Widths
+mod Pulses
+-- The code in memory.
+mod Stepping
+mod WorkedPulse
