@@ -1,0 +1,142 @@
+-- What the code does at a row.
+use Rattle.std.proofs.Common.{◌≡◌, ◌≢◌, ℕ, ◌+◌, ◌%◌, ◌<◌, true, not, nat_eq, bit_and}
+use Rattle.std.proofs.Common.{refl, sym, ap, ◌∙◌}
+use Rattle.std.proofs.lemmas.Bool.{not-true, not-false, eqb-true}
+use Rattle.code_runs.specs.Runs.{put}
+use Rattle.song_model.specs.declared.instruments.Instrument.{Instrument}
+use Rattle.play_model.specs.LookUps.{LookUps}
+use Rattle.play_model.specs.State.{Playing}
+use Rattle.play_model.specs.TickStep.{Ticked, note_started, gate_timer_set, row_command, note_ended, at_row}
+use Rattle.scopes.specs.Trees.{Tree}
+use Rattle.player_memory.specs.declared.labels.TheConstants.{INSTRUMENT, GATE_TIMER, GATE_TIMERS, NEW_NOTE}
+use Rattle.player_desk.proofs.Laws.{VoiceDesk, Reader, Ways, Leads, done_as, in_scope, body_of, rest_of, joined}
+use Rattle.player_desk.proofs.Laws.{goes_on, loaded, indexed, Lent, Done, own_done, done_over, done_by, listed}
+use Rattle.player_text.specs.declared.joints.TheConstants.{TICKED, TAKEN, DONE}
+use Rattle.player_text.specs.declared.tick.TheConstants.{AT_ROW}
+use Rattle.tick_code.specs.TickBlock.{tick_tree, KeepsCommand}
+use Rattle.tick_code.proofs.Pieces.{first_of, behind}
+use Rattle.tick_code.proofs.TickDesks.{Ticking, cleared, low_six}
+use Rattle.tick_code.proofs.TickGrounds.{InstrumentAt, SpeedAt, ways_of}
+use Rattle.tick_code.proofs.NoteRules.{note_row, command_row, starts, starts_same, cleared_same}
+use Rattle.tick_code.proofs.OnceChain.{Ended}
+use Rattle.tick_code.proofs.RowCommands.{command_leads}
+use Rattle.tick_code.proofs.NoteStarts.{AtCommand, note_leads}
+
+-- ---- whether a note has started
+
+-- from a state whose row has been done, where the note that waits tells whether it has started
+end_leads : (r : Reader) (x : Playing) (t : Ticked) (handed : Lent) (d m : VoiceDesk) →
+    nat_eq x.voice.new_note 0 ≡ not t.started → cleared x ≡ t.playing → Done r.voice x handed d m →
+    Leads r (rest_of DONE tick_tree) (in_scope TICKED (ways_of r.voice t handed d)) m
+end_leads r x t handed d m note is done = (
+  λ zero. record {
+    is = not-true t.started (sym shown ∙ zero);
+    done =
+        done_by r.voice x t.playing handed d _
+        (sym is ∙ cleared_same x (sym done.fields.new_note ∙ eqb-true (m.own NEW_NOTE) 0 zero))
+        (done_over r.voice x handed d m _ refl refl refl done);
+  },
+  λ not_zero. record {
+    is = not-false t.started (sym shown ∙ not_zero);
+    done =
+        done_by r.voice (cleared x) t.playing handed d _ (sym is)
+        (own_done r.voice x (cleared x) handed d m _ refl refl refl (assumption done.fields) (assumption done.song)
+        done);
+  },
+)
+  where
+    shown : nat_eq (m.own NEW_NOTE) 0 ≡ not t.started
+    shown = ap (λ n. nat_eq n 0) done.fields.new_note ∙ note
+
+-- ---- the row
+
+-- A is the gateoff timer
+record AtTimer (number voice timer : ℕ) (s : Playing) (handed : Lent) (d m : VoiceDesk) : Type 0 where
+  at : Ticking number voice s handed d m
+  a : m.a ≡ timer
+
+abbrev timer_tree : Tree
+timer_tree = behind (rest_of AT_ROW tick_tree)
+
+timer_leads : (r : Reader) (look : LookUps) (number : ℕ) (s : Playing) (handed : Lent) (d : VoiceDesk)
+    (ways : Ways) (m : VoiceDesk) → InstrumentAt r look number → Ticking number r.voice s handed d m →
+    Leads r (first_of timer_tree)
+    (done_as (AtTimer number r.voice (look.instrument number).gate_timer s handed d) ways) m
+timer_leads r look number s handed d ways m ground at =
+    listed GATE_TIMERS number (look.instrument number).gate_timer ground.gate_timer at.y_is
+    (λ b e. record {
+      at = record { done = done_over r.voice s handed d m _ refl refl refl at.done; y_is = at.y_is };
+      a = e;
+    })
+
+pub row_leads : (r : Reader) (look : LookUps) (s : Playing) (handed : Lent) (d m : VoiceDesk) → r.voice < 3 →
+    s.voice.new_command < 256 → s.voice.new_param < 256 → InstrumentAt r look s.voice.instrument →
+    KeepsCommand r.layout s.voice.new_command s.voice.new_param →
+    (s.voice.new_command ≡ 0xE → s.voice.new_param ≢ 0 → SpeedAt r look s.voice.new_param) →
+    Done r.voice s handed d m →
+    Leads r (rest_of AT_ROW tick_tree)
+    (in_scope TICKED
+    (ways_of r.voice (at_row (r.voice + 1) look (look.instrument s.voice.instrument) s) handed d)) m
+unfolding at_row
+row_leads r look s handed d m voice few small ground keeps sides done =
+    goes_on true r (first_of timer_tree) (behind timer_tree) (AtTimer number r.voice i.gate_timer s handed d) goal
+    (indexed (m.own INSTRUMENT) m)
+    (timer_leads r look number s handed d goal (indexed (m.own INSTRUMENT) m) ground (record {
+      done = done_over r.voice s handed d m _ refl refl refl done;
+      y_is = done.fields.instrument;
+    }))
+    (λ n timer.
+    let six : bit_and n.a 0x3F ≡ i.gate_timer % 64 =
+    ap (λ k. bit_and k 0x3F) timer.a ∙ low_six i.gate_timer ground.gate_timer_byte in
+    let stands = timer.at.done in
+    let set : VoiceDesk =
+    record (loaded (bit_and n.a 0x3F) n) { own = put n.own GATE_TIMER (bit_and n.a 0x3F) } in
+    joined true r TAKEN (body_of TAKEN tick_tree) (rest_of TAKEN tick_tree) (AtCommand r look number timed handed d)
+    goal set
+    (note_leads r look number timed handed d goal set ground few (record {
+      done =
+          own_done r.voice s timed handed d n set refl refl refl (assumption (six, stands.fields))
+          (assumption stands.song) stands;
+      y_is = timer.at.y_is;
+    }))
+    (λ k at.
+    joined true r DONE (body_of DONE tick_tree) (rest_of DONE tick_tree) (Ended r look i c p at.u handed d) goal k
+    (command_leads r look number c p at.u handed d goal k voice few small ground keeps sides at.command_is at.param_is
+    at.here)
+    (λ l done.
+    end_leads r (row_command (r.voice + 1) look i c p at.u) after handed d l
+    (note_of at.u at.note)
+    at.is done)))
+  where
+    number : ℕ
+    number = s.voice.instrument
+
+    i : Instrument
+    i = look.instrument number
+
+    c : ℕ
+    c = s.voice.new_command
+
+    p : ℕ
+    p = s.voice.new_param
+
+    timed : Playing
+    timed = gate_timer_set i s
+
+    after : Ticked
+    after = note_ended (row_command (r.voice + 1) look i c p (note_started i timed))
+
+    goal : Ways
+    goal = in_scope TICKED (ways_of r.voice after handed d)
+
+    same : starts (row_command (r.voice + 1) look i c p (note_started i timed)) ≡ starts timed
+    same =
+        starts_same (note_started i timed) (row_command (r.voice + 1) look i c p (note_started i timed))
+        (command_row (r.voice + 1) look i c p (note_started i timed))
+        ∙ starts_same timed (note_started i timed) (note_row i timed)
+
+    note_of : (u : Playing) → nat_eq u.voice.new_note 0 ≡ not (starts timed) →
+        nat_eq (row_command (r.voice + 1) look i c p u).voice.new_note 0
+        ≡ not (starts (row_command (r.voice + 1) look i c p (note_started i timed)))
+    note_of u e =
+        ap (λ n. nat_eq n 0) (command_row (r.voice + 1) look i c p u).new_note ∙ (e ∙ ap not (sym same))

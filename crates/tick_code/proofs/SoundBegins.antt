@@ -1,0 +1,269 @@
+-- The sound of a note begins: the first frame's waveform, the instrument's programs and its envelope.
+use Rattle.std.proofs.Common.{◌≡◌, ℕ, ◌+◌, true, false, nat_eq, nat_le}
+use Rattle.std.proofs.Common.{if◌then◌else◌, refl, sym, ap, ◌∙◌}
+use Rattle.std.proofs.lemmas.Bool.{eqb-true, eqb-false}
+use Rattle.code_runs.specs.Runs.{put}
+use Rattle.song_model.specs.declared.instruments.Instrument.{Instrument}
+use Rattle.play_model.specs.LookUps.{LookUps}
+use Rattle.play_model.specs.State.{Voice, Common, Playing}
+use Rattle.play_model.specs.TickStep.{tempo_of, note_taken, first_wave_set, sound_begun}
+use Rattle.player_memory.specs.declared.labels.TheConstants.{FILTER_POINTER, FILTER_TIME, WAVES, ADS, SRS, COMMAND}
+use Rattle.player_memory.specs.declared.labels.TheConstants.{WAVE_TIME, PARAM, VIBRATOS, FIRST_WAVES, PULSES, FILTERS}
+use Rattle.player_desk.proofs.Laws.{VoiceDesk, Reader, Ways, Leads, done_as, in_scope, body_of, rest_of, joined}
+use Rattle.player_desk.proofs.Laws.{goes_on, loaded, Lent, Done, own_done, done_over, listed}
+use Rattle.player_text.specs.declared.joints.TheConstants.{TAKEN}
+use Rattle.player_text.specs.declared.tick.TheConstants.{STARTS, MASKED, NO_PULSE, NO_FILTER}
+use Rattle.scopes.specs.Trees.{Tree}
+use Rattle.tick_code.specs.TickBlock.{tick_tree}
+use Rattle.tick_code.proofs.Pieces.{first_of, behind}
+use Rattle.tick_code.proofs.TickDesks.{Ticking, done_as_is, shared_done, tempos_kept, if_so, if_not}
+use Rattle.tick_code.proofs.TickGrounds.{InstrumentAt}
+use Rattle.tick_code.proofs.NoteRules.{noted, wave_same, wave_mask, wave_plain}
+
+-- ---- the first frame's waveform
+
+-- a delay of the wave program begins anew
+abbrev waved : Voice → Playing → Playing
+waved v s = record s { voice = record v { wave_time = 0 } }
+
+masked_leads : (r : Reader) (look : LookUps) (number : ℕ) (s : Playing) (v : Voice) (handed : Lent) (d : VoiceDesk)
+    (ways : Ways) (m : VoiceDesk) → InstrumentAt r look number → Ticking number r.voice (waved v s) handed d m →
+    Leads r (body_of MASKED tick_tree)
+    (in_scope MASKED (done_as
+    (Ticking number r.voice (waved (first_wave_set (look.instrument number).first_wave v) s) handed d) ways)) m
+masked_leads r look number s v handed d ways m ground at =
+    let done : Done r.voice (waved v s) handed d m = at.done in
+    listed FIRST_WAVES number wave ground.first_wave at.y_is
+    (λ b e. (
+      λ zero. record {
+        done =
+            done_as_is r.voice _ _ handed d _ (ap (λ x. waved x s) (wave_same wave v (sym e ∙ eqb-true b 0 zero)))
+            (done_over r.voice (waved v s) handed d m _ refl refl refl done);
+        y_is = at.y_is;
+      },
+      λ some. (
+        λ mask. record {
+          done =
+              done_as_is r.voice _ _ handed d _
+              (ap (λ x. waved x s) (wave_mask wave v (ap (λ n. nat_le 0xFE n) (sym e) ∙ mask)))
+              (own_done r.voice (waved v s) (waved (record v { gate = wave }) s) handed d m _ refl refl refl
+              (assumption (e, done.fields)) (assumption done.song) done);
+          y_is = at.y_is;
+        },
+        λ low. record {
+          done =
+              done_as_is r.voice _ _ handed d _
+              (ap (λ x. waved x s)
+              (wave_plain wave v (λ none. eqb-false b 0 some (e ∙ none)) (ap (λ n. nat_le 0xFE n) (sym e) ∙ low)))
+              (own_done r.voice (waved v s) (waved (record v { wave = wave; gate = 0xFF }) s) handed d m _ refl refl
+              refl
+              (assumption (e, done.fields)) (assumption done.song) done);
+          y_is = at.y_is;
+        },
+      ),
+    ))
+  where
+    wave : ℕ
+    wave = (look.instrument number).first_wave
+
+-- ---- the programs
+
+abbrev pulse_begun : Instrument → Playing → Playing
+pulse_begun i s = record s {
+  voice = record s.voice {
+    pulse_ptr = if nat_eq i.pulse 0 then s.voice.pulse_ptr else i.pulse;
+    pulse_time = if nat_eq i.pulse 0 then s.voice.pulse_time else 0;
+  };
+}
+
+abbrev filter_begun : Instrument → Common → Common
+filter_begun i c = record c {
+  filter_ptr = if nat_eq i.filter 0 then c.filter_ptr else i.filter;
+  filter_time = if nat_eq i.filter 0 then c.filter_time else 0;
+}
+
+abbrev wave_begun : Instrument → Playing → Playing
+wave_begun i s = record s { voice = record s.voice { wave_ptr = i.wave; ad = i.ad; sr = i.sr } }
+
+pulse_leads : (r : Reader) (look : LookUps) (number : ℕ) (s : Playing) (handed : Lent) (d : VoiceDesk)
+    (ways : Ways) (m : VoiceDesk) → InstrumentAt r look number → Ticking number r.voice s handed d m →
+    Leads r (body_of NO_PULSE tick_tree)
+    (in_scope NO_PULSE (done_as (Ticking number r.voice (pulse_begun (look.instrument number) s) handed d) ways)) m
+pulse_leads r look number s handed d ways m ground at =
+    let done : Done r.voice s handed d m = at.done in
+    let pulse = (look.instrument number).pulse in
+    listed PULSES number pulse ground.pulse at.y_is
+    (λ b e. (
+      λ zero.
+          let test : nat_eq pulse 0 ≡ true = ap (λ n. nat_eq n 0) (sym e) ∙ zero in
+          let ptr = if_so (nat_eq pulse 0) s.voice.pulse_ptr pulse _ test done.fields.pulse_ptr in
+          let time = if_so (nat_eq pulse 0) s.voice.pulse_time 0 _ test done.fields.pulse_time in record {
+            done =
+                own_done r.voice s (pulse_begun (look.instrument number) s) handed d m _ refl refl refl
+                (assumption (ptr, time, done.fields)) (assumption done.song) done;
+            y_is = at.y_is;
+          },
+      λ some.
+          let test : nat_eq pulse 0 ≡ false = ap (λ n. nat_eq n 0) (sym e) ∙ some in
+          let ptr = if_not (nat_eq pulse 0) s.voice.pulse_ptr pulse b test e in
+          let time = if_not (nat_eq pulse 0) s.voice.pulse_time 0 0 test refl in record {
+            done =
+                own_done r.voice s (pulse_begun (look.instrument number) s) handed d m _ refl refl refl
+                (assumption (ptr, time, done.fields)) (assumption done.song) done;
+            y_is = at.y_is;
+          },
+    ))
+
+filter_leads : (r : Reader) (look : LookUps) (number : ℕ) (s : Playing) (handed : Lent) (d : VoiceDesk)
+    (ways : Ways) (m : VoiceDesk) → InstrumentAt r look number → Ticking number r.voice s handed d m →
+    Leads r (body_of NO_FILTER tick_tree)
+    (in_scope NO_FILTER (done_as
+    (Ticking number r.voice (record s { common = filter_begun (look.instrument number) s.common }) handed d) ways)) m
+filter_leads r look number s handed d ways m ground at =
+    let done : Done r.voice s handed d m = at.done in
+    let filter = (look.instrument number).filter in
+    let common = filter_begun (look.instrument number) s.common in
+    let tempo = λ (its : ℕ). tempo_of (its + 1) s.common in
+    listed FILTERS number filter ground.filter at.y_is
+    (λ b e. (
+      λ zero.
+          let test : nat_eq filter 0 ≡ true = ap (λ n. nat_eq n 0) (sym e) ∙ zero in
+          let ptr = if_so (nat_eq filter 0) s.common.filter_ptr filter _ test done.common.filter_ptr in
+          let time = if_so (nat_eq filter 0) s.common.filter_time 0 _ test done.common.filter_time in record {
+            done =
+                shared_done r.voice s common handed d m _ refl refl refl done.tempos
+                (assumption (ptr, time, done.common))
+                done.lent done;
+            y_is = at.y_is;
+          },
+      λ some.
+          let test : nat_eq filter 0 ≡ false = ap (λ n. nat_eq n 0) (sym e) ∙ some in
+          let ptr = if_not (nat_eq filter 0) s.common.filter_ptr filter b test e in
+          let time = if_not (nat_eq filter 0) s.common.filter_time 0 0 test refl in record {
+            done =
+                shared_done r.voice s common handed d m _ refl refl refl
+                (tempos_kept r.voice FILTER_TIME 0 (put m.shared FILTER_POINTER b) tempo refl refl refl
+                (tempos_kept r.voice FILTER_POINTER b m.shared tempo refl refl refl done.tempos))
+                (assumption (ptr, time, done.common)) (assumption done.lent) done;
+            y_is = at.y_is;
+          },
+    ))
+
+-- the wave program and the envelope
+wave_leads : (r : Reader) (look : LookUps) (number : ℕ) (s : Playing) (handed : Lent) (d : VoiceDesk)
+    (ways : Ways) (Q : VoiceDesk → Type 0) (m : VoiceDesk) →
+    ((n : VoiceDesk) → Ticking number r.voice (wave_begun (look.instrument number) s) handed d n → Q n) →
+    InstrumentAt r look number → Ticking number r.voice s handed d m →
+    Leads r (rest_of NO_FILTER tick_tree) (in_scope TAKEN (done_as Q ways)) m
+wave_leads r look number s handed d ways Q m into ground at =
+    let done : Done r.voice s handed d m = at.done in
+    listed WAVES number (look.instrument number).wave ground.wave at.y_is
+    (λ a wave.
+    listed ADS number (look.instrument number).ad ground.ad at.y_is
+    (λ b ad.
+    listed SRS number (look.instrument number).sr ground.sr at.y_is
+    (λ c sr.
+    into _ (record {
+      done =
+          own_done r.voice s (wave_begun (look.instrument number) s) handed d m _ refl refl refl
+          (assumption (wave, ad, sr, done.fields)) (assumption done.song) done;
+      y_is = at.y_is;
+    }))))
+
+-- ---- the whole
+
+-- A is the instrument's vibrato; the delay of its wave program begins anew
+record AtVibrato (number voice vibrato : ℕ) (s : Playing) (handed : Lent) (d m : VoiceDesk) : Type 0 where
+  at : Ticking number voice s handed d m
+  a : m.a ≡ vibrato
+
+abbrev vibrato_tree : Tree
+vibrato_tree = behind (behind (behind (rest_of STARTS tick_tree)))
+
+abbrev cut_off : Voice → Voice
+cut_off v = record v { command = 0; wave_time = 0 }
+
+vibrato_leads : (r : Reader) (look : LookUps) (number : ℕ) (s : Playing) (handed : Lent) (d : VoiceDesk)
+    (ways : Ways) (m : VoiceDesk) → InstrumentAt r look number → Ticking number r.voice s handed d m →
+    Leads r (first_of vibrato_tree)
+    (done_as (AtVibrato number r.voice (look.instrument number).vibrato s handed d) ways) m
+vibrato_leads r look number s handed d ways m ground at =
+    listed VIBRATOS number (look.instrument number).vibrato ground.vibrato at.y_is
+    (λ b e. record {
+      at = record { done = done_over r.voice s handed d m _ refl refl refl at.done; y_is = at.y_is };
+      a = e;
+    })
+
+-- the sound of the note
+abbrev pub sounding : Instrument → Playing → Playing
+sounding i s = sound_begun i (record s { voice = note_taken i s.voice })
+
+-- from the first frame's waveform on
+begun_leads : (r : Reader) (look : LookUps) (number : ℕ) (s : Playing) (handed : Lent) (d : VoiceDesk)
+    (ways : Ways) (Q : VoiceDesk → Type 0) (m : VoiceDesk) →
+    ((n : VoiceDesk) → Ticking number r.voice (sounding (look.instrument number) s) handed d n → Q n) →
+    InstrumentAt r look number → Ticking number r.voice (waved (note_taken (look.instrument number) s.voice) s) handed
+    d m →
+    Leads r (behind (behind vibrato_tree)) (in_scope TAKEN (done_as Q ways)) m
+begun_leads r look number s handed d ways Q m into ground at =
+    joined true r MASKED (body_of MASKED tick_tree) (rest_of MASKED tick_tree) (Ticking number r.voice first handed d)
+    goal
+    m (masked_leads r look number s (note_taken i s.voice) handed d goal m ground at)
+    (λ n behind.
+    joined true r NO_PULSE (body_of NO_PULSE tick_tree) (rest_of NO_PULSE tick_tree)
+    (Ticking number r.voice (pulse_begun i first) handed d) goal n
+    (pulse_leads r look number first handed d goal n ground behind)
+    (λ k pulsed.
+    joined true r NO_FILTER (body_of NO_FILTER tick_tree) (rest_of NO_FILTER tick_tree)
+    (Ticking number r.voice second handed d) goal k
+    (filter_leads r look number (pulse_begun i first) handed d goal k ground pulsed)
+    (λ l filtered. wave_leads r look number second handed d ways Q l into ground filtered)))
+  where
+    i : Instrument
+    i = look.instrument number
+
+    first : Playing
+    first = waved (first_wave_set i.first_wave (note_taken i s.voice)) s
+
+    second : Playing
+    second = record (pulse_begun i first) { common = filter_begun i s.common }
+
+    goal : Ways
+    goal = in_scope TAKEN (done_as Q ways)
+
+pub sound_leads : (r : Reader) (look : LookUps) (number : ℕ) (s : Playing) (handed : Lent) (d : VoiceDesk)
+    (ways : Ways) (Q : VoiceDesk → Type 0) (m : VoiceDesk) →
+    ((n : VoiceDesk) → Ticking number r.voice (sounding (look.instrument number) s) handed d n → Q n) →
+    InstrumentAt r look number → Ticking number r.voice (noted (look.instrument number) s) handed d m →
+    Leads r (rest_of STARTS tick_tree) (in_scope TAKEN (done_as Q ways)) m
+sound_leads r look number s handed d ways Q m into ground at =
+    goes_on true r (first_of vibrato_tree) (behind vibrato_tree) (AtVibrato number r.voice i.vibrato cut handed d)
+    goal quiet
+    (vibrato_leads r look number cut handed d goal quiet ground (record {
+      done =
+          own_done r.voice (noted i s) cut handed d m quiet refl refl refl (assumption at.done.fields)
+          (assumption at.done.song) at.done;
+      y_is = at.y_is;
+    }))
+    (λ n vibrato.
+    let a : n.a ≡ i.vibrato = vibrato.a in
+    let done : Done r.voice cut handed d n = vibrato.at.done in
+    begun_leads r look number s handed d ways Q (record n { own = put n.own PARAM n.a }) into ground (record {
+      done =
+          own_done r.voice cut (waved (note_taken i s.voice) s) handed d n _ refl refl refl
+          (assumption (a, done.fields))
+          (assumption done.song) done;
+      y_is = vibrato.at.y_is;
+    }))
+  where
+    i : Instrument
+    i = look.instrument number
+
+    cut : Playing
+    cut = record s { voice = cut_off (noted i s).voice }
+
+    quiet : VoiceDesk
+    quiet = record (loaded 0 m) { own = put (put m.own COMMAND 0) WAVE_TIME 0 }
+
+    goal : Ways
+    goal = in_scope TAKEN (done_as Q ways)

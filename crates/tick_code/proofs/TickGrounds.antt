@@ -1,0 +1,57 @@
+-- What the code of the tick step stands on, and where its ways lead.
+use Rattle.std.proofs.Common.{◌≡◌, ◌≢◌, ℕ, ◌+◌, ◌%◌, ◌<◌, Bool, true, false, nat_eq}
+use Rattle.song_model.specs.declared.tables.TableName.TheVariants.{Speed}
+use Rattle.play_model.specs.LookUps.{LookUps}
+use Rattle.play_model.specs.State.{Playing}
+use Rattle.play_model.specs.TickStep.{Ticked, tick_step}
+use Rattle.player_memory.specs.declared.labels.TheConstants.{ADS, SRS, WAVES, PULSES, FILTERS, VIBRATOS, DELAYS}
+use Rattle.player_memory.specs.declared.labels.TheConstants.{GATE_TIMERS, FIRST_WAVES, SPEED_LEFTS, SPEED_RIGHTS}
+use Rattle.player_desk.proofs.Laws.{VoiceDesk, Reader, Ways, Lent, Done, Reads, place_at}
+use Rattle.player_desk.proofs.VoiceDesks.{Either}
+use Rattle.player_text.specs.declared.joints.TheConstants.{SOUNDS}
+use Rattle.tick_code.specs.TickBlock.{IsRow}
+
+-- ---- what the code stands on
+
+-- the bytes of an instrument; of its vibrato's delay one less stands there
+pub record InstrumentAt (r : Reader) (look : LookUps) (number : ℕ) : Type 0 where
+  pub ad : Reads r (place_at r ADS number) (look.instrument number).ad
+  pub sr : Reads r (place_at r SRS number) (look.instrument number).sr
+  pub wave : Reads r (place_at r WAVES number) (look.instrument number).wave
+  pub pulse : Reads r (place_at r PULSES number) (look.instrument number).pulse
+  pub filter : Reads r (place_at r FILTERS number) (look.instrument number).filter
+  pub vibrato : Reads r (place_at r VIBRATOS number) (look.instrument number).vibrato
+  pub delay : Reads r (place_at r DELAYS number) (((look.instrument number).vibrato_delay + 255) % 256)
+  pub gate_timer : Reads r (place_at r GATE_TIMERS number) (look.instrument number).gate_timer
+  pub first_wave : Reads r (place_at r FIRST_WAVES number) (look.instrument number).first_wave
+  pub gate_timer_byte : (look.instrument number).gate_timer < 256
+
+-- a row of the speed table
+pub record SpeedAt (r : Reader) (look : LookUps) (p : ℕ) : Type 0 where
+  pub left : Reads r (place_at r SPEED_LEFTS p) (look.row Speed p).left
+  pub right : Reads r (place_at r SPEED_RIGHTS p) (look.row Speed p).right
+
+-- what is read at a row: the voice's instrument, and for command $E the row of the speed table that its parameter names
+pub record TickGround (r : Reader) (look : LookUps) (s : Playing) : Type 0 where
+  pub instrument : IsRow s → InstrumentAt r look s.voice.instrument
+  pub speed : IsRow s → s.voice.new_command ≡ 0xE → s.voice.new_param ≢ 0 → SpeedAt r look s.voice.new_param
+  pub command_byte : s.voice.new_command < 256
+  pub param_byte : s.voice.new_param < 256
+
+-- ---- where its ways lead
+
+-- the desk tells what the tick step leaves, and whether a note has started
+pub record TickDone (voice : ℕ) (ticked : Ticked) (started : Bool) (handed : Lent) (d m : VoiceDesk) : Type 0 where
+  pub is : ticked.started ≡ started
+  pub done : Done voice ticked.playing handed d m
+
+-- the block's end is come to where no note has started, and the voice's step is left where one has
+abbrev pub ways_of : ℕ → Ticked → Lent → VoiceDesk → Ways
+ways_of voice ticked handed d = record {
+  Done = TickDone voice ticked false handed d;
+  Left = λ name m. Either (nat_eq name SOUNDS) (TickDone voice ticked true handed d m) ⊥;
+  Again = λ m. ⊥;
+}
+
+abbrev pub tick_ways : Reader → LookUps → Playing → Lent → VoiceDesk → Ways
+tick_ways r look s handed d = ways_of r.voice (tick_step (r.voice + 1) look s) handed d

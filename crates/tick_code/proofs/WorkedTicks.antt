@@ -1,0 +1,177 @@
+-- The row that is worked by hand.
+use Rattle.std.proofs.Common.{◌≡◌, ℕ, zero, suc, ◌+◌, ◌<◌, ◌≤◌, true, nat_lt, inl, inr, refl, sym, subst, arith}
+use Rattle.std.proofs.lemmas.Bool.{lt-ltb, true≢false}
+use Rattle.play_model.specs.TickStep.{tempo_of}
+use Rattle.player_memory.specs.declared.labels.TheConstants.{TEMPO, ADS, SRS, WAVES, PULSES, FILTERS, VIBRATOS, DELAYS}
+use Rattle.player_memory.specs.declared.labels.TheConstants.{GATE_TIMERS, FIRST_WAVES}
+use Rattle.player_memory.specs.Rooms.{IsRoom, IsElsewhere, MayUse}
+use Rattle.player_memory.specs.Playing.{own_at, shared_at, place_in, IsListed, IsPlaying}
+use Rattle.player_desk.proofs.Laws.{fields_stand, shared_stand}
+use Rattle.tick_code.specs.TickBlock.{HasInstrument, HasTickLists, IsInLists, KeepsTick}
+use Rattle.tick_code.specs.WorkedTick.{laid, look, waiting, memory, TickIsWorked}
+
+-- a place between the variables and the registers
+elsewhere : (place : ℕ) → 0x2000 ≤ place → place < 0xD000 → IsElsewhere laid 1 place
+elsewhere place from to = record {
+  variables = inr (omega (arith, from));
+  slides_low = λ kept. absurd (true≢false (sym kept));
+  slides_high = λ kept. absurd (true≢false (sym kept));
+  low = λ e. absurd (omega (arith, from, e));
+  high = λ e. absurd (omega (arith, from, e));
+  registers = inl (omega (arith, to));
+}
+
+room : IsRoom laid 1
+room = record {
+  begins = omega arith;
+  ends = omega arith;
+  variables = λ label few. in_one_piece label few;
+  slides = λ kept. absurd (true≢false (sym kept));
+  pointer_low = omega arith;
+  pointer_high = omega arith;
+}
+  where
+    in_one_piece : (label : ℕ) → label < 113 → laid.address label ≡ laid.address 0 + label
+    in_one_piece label few =
+        let z : nat_lt label 113 ≡ true = lt-ltb label 113 few in
+        rw z refl
+
+uses : MayUse laid 1
+uses = record {
+  reads = λ label few. refl;
+  writes = λ label few. refl;
+  slides = λ kept. absurd (true≢false (sym kept));
+  registers = λ register few. refl;
+}
+
+-- the one instrument
+listed_at : (label byte : ℕ) → 0x2000 ≤ place_in laid label 1 → place_in laid label 1 < 0xD000 →
+    memory (place_in laid label 1) ≡ byte → IsListed laid 1 memory label 1 byte
+listed_at label byte from to is =
+    record { elsewhere = elsewhere (place_in laid label 1) from to; reads = refl; is = is }
+
+first : HasInstrument laid 1 memory look 1
+first = record {
+  ad = listed_at ADS 0x12 (omega arith) (omega arith) refl;
+  sr = listed_at SRS 0x34 (omega arith) (omega arith) refl;
+  wave = listed_at WAVES 1 (omega arith) (omega arith) refl;
+  pulse = listed_at PULSES 0 (omega arith) (omega arith) refl;
+  filter = listed_at FILTERS 2 (omega arith) (omega arith) refl;
+  vibrato = listed_at VIBRATOS 0 (omega arith) (omega arith) refl;
+  delay = listed_at DELAYS 2 (omega arith) (omega arith) refl;
+  gate_timer = listed_at GATE_TIMERS 0x42 (omega arith) (omega arith) refl;
+  first_wave = listed_at FIRST_WAVES 9 (omega arith) (omega arith) refl;
+  gate_timer_byte = omega arith;
+}
+
+lists : HasTickLists laid 1 memory look 1 0
+lists = record {
+  instrument = λ number from to. subst (HasInstrument laid 1 memory look) (omega (arith, from, to)) first;
+  speed = record {
+    few = omega arith;
+    each = λ number from to. absurd (omega (arith, from, to));
+  };
+}
+
+tempos : (its : ℕ) → its < 3 → own_at laid memory its TEMPO ≡ tempo_of (its + 1) waiting.common
+tempos zero few = refl
+tempos (suc zero) few = refl
+tempos (suc (suc zero)) few = refl
+tempos (suc (suc (suc its))) few = absurd (omega (arith, few))
+
+playing : IsPlaying laid 1 waiting memory
+playing = record {
+  own = fields_stand waiting.voice 5 (own_at laid memory 1) (record {
+    tick = refl;
+    gate_timer = refl;
+    instrument = refl;
+    note = refl;
+    new_note = refl;
+    new_command = refl;
+    new_param = λ some. refl;
+    command = refl;
+    param = refl;
+    ad = refl;
+    sr = refl;
+    vib_time = refl;
+    vib_delay = refl;
+    wave = refl;
+    gate = refl;
+    freq_low = refl;
+    freq_high = refl;
+    last_note = refl;
+    wave_ptr = refl;
+    wave_time = refl;
+    pulse_ptr = refl;
+    pulse_time = refl;
+    pulse_low = refl;
+    pulse_high = refl;
+    tempo_is = refl;
+  });
+  common = shared_stand waiting.common (shared_at laid memory) (record {
+    filter_ptr = refl;
+    filter_time = refl;
+    filter_type = refl;
+    filter_control = refl;
+    cutoff = refl;
+    volume = refl;
+    funk_one = refl;
+    funk_two = refl;
+  });
+  tempos = tempos;
+}
+
+at_row : IsInLists 1 0 waiting.voice
+at_row = record {
+  from = omega arith;
+  to = omega arith;
+  command = omega arith;
+  param = omega arith;
+  speed = λ e. absurd (omega (arith, e));
+}
+
+keeps : KeepsTick laid 2 waiting
+keeps = record {
+  command = λ now. record {
+    ad = λ e. absurd (omega (arith, e));
+    sr = λ e. absurd (omega (arith, e));
+    wave = λ e. absurd (omega (arith, e));
+    wave_pointer = λ e. absurd (omega (arith, e));
+    pulse_pointer = λ e. absurd (omega (arith, e));
+    filter_pointer = λ e. absurd (omega (arith, e));
+    filter_control = λ e. absurd (omega (arith, e));
+    cutoff = λ e. absurd (omega (arith, e));
+    volume = λ e. absurd (omega (arith, e));
+    funk = λ e. absurd (omega (arith, e));
+    funk_chosen = λ e short. absurd (omega (arith, short));
+    length = λ e long. refl;
+  };
+  length = λ past short. absurd (omega (arith, past));
+}
+
+pub tick_is_worked : TickIsWorked
+tick_is_worked = (
+  record {
+    room = room;
+    uses = uses;
+    lists = lists;
+    at_voice = record { x = refl; decimal = refl };
+    playing = playing;
+    at_row = at_row;
+    keeps = keeps;
+  },
+  record {
+    way = refl;
+    tick = refl;
+    note = refl;
+    new_note = refl;
+    gate_timer = refl;
+    delay = refl;
+    wave = refl;
+    gate = refl;
+    ad = refl;
+    filter = refl;
+    tempo = refl;
+    another_tempo = refl;
+  },
+)

@@ -1,0 +1,3 @@
+-- To believe: the code of the tick step.
+pub mod TickBlock
+pub mod WorkedTick

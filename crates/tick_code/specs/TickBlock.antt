@@ -1,0 +1,119 @@
+-- The code of the tick step, and what it does. This is the project's own player.
+use Rattle.std.specs.Prelude.{◌≡◌, ℕ, ◌+◌, ◌%◌, ◌<◌, ◌≤◌, Bool, true, false}
+use Rattle.song_model.specs.declared.tables.TableName.TheVariants.{Speed}
+use Rattle.play_model.specs.LookUps.{LookUps}
+use Rattle.play_model.specs.Wrap.{byte_minus}
+use Rattle.play_model.specs.State.{Voice, Playing}
+use Rattle.play_model.specs.TickStep.{Ticked, tempo_of, tick_step}
+use Rattle.scopes.specs.Desk.{Desk, Layout}
+use Rattle.scopes.specs.Trees.{Tree, NoneTree, ThenTree, ScopeTree}
+use Rattle.scopes.specs.Meaning.{Outcome, Done, Left, Ran, each_one, ran}
+use Rattle.scope_lines.specs.Reach.{nothing_around, has_lines}
+use Rattle.scope_lines.specs.Sizes.{size}
+use Rattle.player_memory.specs.declared.conditions.TheConstants.{SET_AD, SET_SR, SET_WAVE, SET_WAVE_POINTER}
+use Rattle.player_memory.specs.declared.conditions.TheConstants.{SET_PULSE_POINTER, SET_FILTER_POINTER}
+use Rattle.player_memory.specs.declared.conditions.TheConstants.{SET_FILTER_CONTROL, SET_CUTOFF, SET_VOLUME, FUNK_TEMPO}
+use Rattle.player_memory.specs.declared.conditions.TheConstants.{SET_TEMPO}
+use Rattle.player_memory.specs.declared.labels.TheConstants.{ADS, SRS, WAVES, PULSES, FILTERS, VIBRATOS, DELAYS}
+use Rattle.player_memory.specs.declared.labels.TheConstants.{GATE_TIMERS, FIRST_WAVES, SPEED_LEFTS, SPEED_RIGHTS}
+use Rattle.player_memory.specs.Rooms.{IsRoom, MayUse}
+use Rattle.player_text.specs.declared.joints.TheConstants.{SOUNDS, TICKED}
+use Rattle.player_text.specs.Steps.{tick_tree as step_tree}
+use Rattle.player_memory.specs.Playing.{IsListed, IsTable, IsPlaying, IsAtVoice, Plays}
+
+-- ---- its lines
+
+-- the block, whose end is where no note has started
+abbrev pub tick_tree : Tree
+tick_tree = ThenTree (ScopeTree TICKED step_tree) NoneTree
+
+-- In a scope that it leaves where a note has started it has lines; they take 379 bytes where all are kept, and 187
+-- where none are that stand under a condition.
+pub record TickBlockHasLines : Type 0 where
+  pub has : has_lines nothing_around (ScopeTree SOUNDS tick_tree) ≡ true
+  pub all : size (λ condition. true) tick_tree ≡ 379
+  pub least : size (λ condition. false) tick_tree ≡ 187
+
+-- ---- what is kept
+
+-- the tick falls to 0
+abbrev pub IsRow : Playing → Type 0
+IsRow s = byte_minus s.voice.tick 1 ≡ 0
+
+-- Which lines are kept for a row's command: its own. Of command $F those that set a length where the last seven bits
+-- are 3 or more, and those that choose a funk tempo for 0 and 1.
+pub record KeepsCommand (layout : Layout) (command param : ℕ) : Type 0 where
+  pub ad : command ≡ 5 → layout.holds SET_AD ≡ true
+  pub sr : command ≡ 6 → layout.holds SET_SR ≡ true
+  pub wave : command ≡ 7 → layout.holds SET_WAVE ≡ true
+  pub wave_pointer : command ≡ 8 → layout.holds SET_WAVE_POINTER ≡ true
+  pub pulse_pointer : command ≡ 9 → layout.holds SET_PULSE_POINTER ≡ true
+  pub filter_pointer : command ≡ 0xA → layout.holds SET_FILTER_POINTER ≡ true
+  pub filter_control : command ≡ 0xB → layout.holds SET_FILTER_CONTROL ≡ true
+  pub cutoff : command ≡ 0xC → layout.holds SET_CUTOFF ≡ true
+  pub volume : command ≡ 0xD → layout.holds SET_VOLUME ≡ true
+  pub funk : command ≡ 0xE → layout.holds FUNK_TEMPO ≡ true
+  pub funk_chosen : command ≡ 0xF → param ≤ 1 → layout.holds FUNK_TEMPO ≡ true
+  pub length : command ≡ 0xF → 3 ≤ param % 128 → layout.holds SET_TEMPO ≡ true
+
+-- At a row the lines of its command are kept; and where the tick falls below 0 those of the funk tempos, if the tempo
+-- is 0 or 1.
+pub record KeepsTick (layout : Layout) (channel : ℕ) (s : Playing) : Type 0 where
+  pub command : IsRow s → KeepsCommand layout s.voice.new_command s.voice.new_param
+  pub length : 0x80 ≤ byte_minus s.voice.tick 1 → tempo_of channel s.common < 2 → layout.holds FUNK_TEMPO ≡ true
+
+-- ---- what is read
+
+-- An instrument's bytes stand in nine lists. Its vibrato's delay stands there less one, 255 for none, and its gateoff
+-- timer with all bits.
+pub record HasInstrument (layout : Layout) (rows : ℕ) (at : ℕ → ℕ) (look : LookUps) (number : ℕ) : Type 0 where
+  pub ad : IsListed layout rows at ADS number (look.instrument number).ad
+  pub sr : IsListed layout rows at SRS number (look.instrument number).sr
+  pub wave : IsListed layout rows at WAVES number (look.instrument number).wave
+  pub pulse : IsListed layout rows at PULSES number (look.instrument number).pulse
+  pub filter : IsListed layout rows at FILTERS number (look.instrument number).filter
+  pub vibrato : IsListed layout rows at VIBRATOS number (look.instrument number).vibrato
+  pub delay : IsListed layout rows at DELAYS number (((look.instrument number).vibrato_delay + 255) % 256)
+  pub gate_timer : IsListed layout rows at GATE_TIMERS number (look.instrument number).gate_timer
+  pub first_wave : IsListed layout rows at FIRST_WAVES number (look.instrument number).first_wave
+  pub gate_timer_byte : (look.instrument number).gate_timer < 256
+
+-- the first instruments, and the rows of the speed table
+pub record HasTickLists (layout : Layout) (rows : ℕ) (at : ℕ → ℕ) (look : LookUps) (instruments speeds : ℕ)
+    : Type 0 where
+  pub instrument : (number : ℕ) → 1 ≤ number → number ≤ instruments → HasInstrument layout rows at look number
+  pub speed : IsTable layout rows at SPEED_LEFTS SPEED_RIGHTS speeds (look.row Speed)
+
+-- the voice has one of the instruments; its row's command and parameter are bytes, and that of command $E is 0 or names
+-- a row of the speed table
+pub record IsInLists (instruments speeds : ℕ) (v : Voice) : Type 0 where
+  pub from : 1 ≤ v.instrument
+  pub to : v.instrument ≤ instruments
+  pub command : v.new_command < 256
+  pub param : v.new_param < 256
+  pub speed : v.new_command ≡ 0xE → v.new_param ≤ speeds
+
+-- ---- what it does
+
+-- the way that the block takes: out of the voice's step where a note has started, else to its own end
+abbrev pub way_of : Bool → Outcome
+way_of true = Left SOUNDS
+way_of false = Done
+
+-- where a run has come to, as a block's end
+abbrev pub there : Ran → Ran
+there run = record run { outcome = Done }
+
+-- it takes that way, and holds there what the tick step leaves
+pub record Ticks (layout : Layout) (rows voice : ℕ) (before : Desk) (run : Ran) (ticked : Ticked) : Type 0 where
+  pub way : run.outcome ≡ way_of ticked.started
+  pub plays : Plays layout rows voice before (there run) ticked.playing
+
+-- In any memory that holds a voice that is playing, the code does the tick step.
+abbrev pub TickBlockSteps : Type 0
+TickBlockSteps =
+    (layout : Layout) (rows voice instruments speeds : ℕ) (look : LookUps) (s : Playing) (desk : Desk) →
+    IsRoom layout rows → MayUse layout rows → HasTickLists layout rows desk.at look instruments speeds → voice < 3 →
+    IsAtVoice voice desk → IsPlaying layout voice s desk.at → IsInLists instruments speeds s.voice →
+    KeepsTick layout (voice + 1) s →
+    Ticks layout rows voice desk (ran each_one layout tick_tree desk) (tick_step (voice + 1) look s)

@@ -1,0 +1,121 @@
+-- To believe: a row is done as it is worked by hand, in a memory that meets what the clause asks for.
+use Rattle.std.specs.Prelude.{◌≡◌, ℕ, ◌+◌, ◌*◌, List, [], ◌∷◌, ◌==◌, nat_lt, nat_eq, if◌then◌else◌, true, false}
+use Rattle.song_model.specs.declared.instruments.Instrument.{Instrument}
+use Rattle.play_model.specs.LookUps.{LookUps}
+use Rattle.play_model.specs.State.{Playing, start_voice, start_common}
+use Rattle.scopes.specs.Desk.{Desk, Layout}
+use Rattle.scopes.specs.Meaning.{Left, Ran, each_one, ran}
+use Rattle.player_memory.specs.declared.conditions.TheConstants.{SET_TEMPO}
+use Rattle.player_memory.specs.declared.labels.TheConstants.{VARIABLES, TICK, GATE_TIMER, INSTRUMENT, NOTE, NEW_NOTE}
+use Rattle.player_memory.specs.declared.labels.TheConstants.{NEW_COMMAND, NEW_PARAM, AD, VIB_DELAY, WAVE, GATE, TEMPO}
+use Rattle.player_memory.specs.declared.labels.TheConstants.{FILTER_POINTER, VOLUME, FUNK_ONE, FUNK_TWO, ADS, SRS}
+use Rattle.player_memory.specs.declared.labels.TheConstants.{WAVES, FILTERS, DELAYS, GATE_TIMERS, FIRST_WAVES}
+use Rattle.player_memory.specs.Rooms.{IsRoom, MayUse}
+use Rattle.player_memory.specs.Playing.{own_at, shared_at, IsPlaying, IsAtVoice}
+use Rattle.player_text.specs.declared.joints.TheConstants.{SOUNDS}
+use Rattle.tick_code.specs.TickBlock.{tick_tree, HasTickLists, IsInLists, KeepsTick}
+
+-- ---- the memory
+
+-- the variables from $1000 on, and the lists far behind them; of the features tempos alone are kept
+abbrev pub laid : Layout
+laid = record {
+  address = λ label. if nat_lt label VARIABLES then 0x1000 + label else 0x2000 + 16 * label;
+  pointer = 0xFC;
+  holds = λ condition. condition == SET_TEMPO;
+  may_read = λ place. true;
+  may_write = λ place. true;
+}
+
+abbrev pub sound : Instrument
+sound = record {
+  ad = 0x12;
+  sr = 0x34;
+  wave = 1;
+  pulse = 0;
+  filter = 2;
+  vibrato = 0;
+  vibrato_delay = 3;
+  gate_timer = 0x42;
+  first_wave = 9;
+  name = [];
+}
+
+abbrev pub look : LookUps
+look = record {
+  instrument = λ number. sound;
+  row = λ name number. record { left = 0; right = 0 };
+  rows = λ number. [];
+}
+
+-- the second voice, a frame before its row is done, with note $70 waiting and a command $F for this voice alone
+abbrev pub waiting : Playing
+waiting = record {
+  voice = record start_voice { new_note = 0x70; new_command = 0xF; new_param = 0x84 };
+  common = start_common 1;
+}
+
+abbrev pub stored : List (ℕ × ℕ) → ℕ → ℕ
+stored [] place = 0
+stored (row ∷ rows) place = if nat_eq place row.0 then row.1 else stored rows place
+
+-- the bytes that aren't 0: of the voice, of all voices, and of the instrument
+abbrev pub memory : ℕ → ℕ
+memory = stored ((laid.address (TICK + 7), 1) ∷ (laid.address (INSTRUMENT + 7), 1) ∷ (laid.address (NEW_NOTE + 7), 0x70)
+    ∷ (laid.address (NEW_COMMAND + 7), 0xF) ∷ (laid.address (NEW_PARAM + 7), 0x84)
+    ∷ (laid.address (VIB_DELAY + 7), 255) ∷ (laid.address (GATE + 7), 0xFE) ∷ (laid.address TEMPO, 5)
+    ∷ (laid.address (TEMPO + 7), 5) ∷ (laid.address (TEMPO + 14), 5) ∷ (laid.address VOLUME, 15)
+    ∷ (laid.address FUNK_ONE, 8) ∷ (laid.address FUNK_TWO, 5) ∷ (laid.address ADS + 1, 0x12)
+    ∷ (laid.address SRS + 1, 0x34) ∷ (laid.address WAVES + 1, 1) ∷ (laid.address FILTERS + 1, 2)
+    ∷ (laid.address DELAYS + 1, 2) ∷ (laid.address GATE_TIMERS + 1, 0x42) ∷ (laid.address FIRST_WAVES + 1, 9) ∷ [])
+
+abbrev pub desk : Desk
+desk = record {
+  cpu = record {
+    a = 0;
+    x = 7;
+    y = 0;
+    sp = 0;
+    pc = 0;
+    n = false;
+    v = false;
+    d = false;
+    i = false;
+    z = false;
+    c = false;
+  };
+  at = memory;
+}
+
+-- ---- what is worked
+
+-- it is all that the clause asks for
+pub record IsMet : Type 0 where
+  pub room : IsRoom laid 1
+  pub uses : MayUse laid 1
+  pub lists : HasTickLists laid 1 memory look 1 0
+  pub at_voice : IsAtVoice 1 desk
+  pub playing : IsPlaying laid 1 waiting memory
+  pub at_row : IsInLists 1 0 waiting.voice
+  pub keeps : KeepsTick laid 2 waiting
+
+abbrev pub done : Ran
+done = ran each_one laid tick_tree desk
+
+-- a note has started: it is note $10, and the sound is the instrument's; this voice's tempo alone is set
+pub record IsWorked : Type 0 where
+  pub way : done.outcome ≡ Left SOUNDS
+  pub tick : own_at laid done.desk.at 1 TICK ≡ 0
+  pub note : own_at laid done.desk.at 1 NOTE ≡ 0x10
+  pub new_note : own_at laid done.desk.at 1 NEW_NOTE ≡ 0
+  pub gate_timer : own_at laid done.desk.at 1 GATE_TIMER ≡ 2
+  pub delay : own_at laid done.desk.at 1 VIB_DELAY ≡ 2
+  pub wave : own_at laid done.desk.at 1 WAVE ≡ 9
+  pub gate : own_at laid done.desk.at 1 GATE ≡ 0xFF
+  pub ad : own_at laid done.desk.at 1 AD ≡ 0x12
+  pub filter : shared_at laid done.desk.at FILTER_POINTER ≡ 2
+  pub tempo : own_at laid done.desk.at 1 TEMPO ≡ 3
+  pub another_tempo : own_at laid done.desk.at 2 TEMPO ≡ 5
+
+abbrev pub TickIsWorked : Type 0
+TickIsWorked = IsMet × IsWorked
