@@ -208,7 +208,9 @@ runs_are_refused = record {
   stuck = λ p. (let e = p.ends in absurd (cc));
   decimal = λ p. (let e = p.decimal in absurd (cc));
   common = λ p. (let e = p.common.1.1.1.1.0 in omega (arith, e));
-  last = λ p. (let e = p.last 1 (omega arith) in omega (arith, e));
+  cutoff = λ p. (let e = p.last 1 (omega arith) in omega (arith, e));
+  first = λ p. (let e = p.last 0 (omega arith) in omega (arith, e));
+  last = λ p. (let e = p.last 3 (omega arith) in omega (arith, e));
   lent = λ p. (let e = p.lent.0 in omega (arith, e));
   command = λ p. (let e = p.lent.1.0 in omega (arith, e));
   param = λ p. (let e = p.lent.1.1.0 in omega (arith, e));

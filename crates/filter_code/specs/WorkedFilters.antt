@@ -135,9 +135,11 @@ pub record RunsAreRefused : Type 0 where
   pub accepted : Accepts Done (behind_with false right)
   pub stuck : Accepts Stuck (behind_with false right) → ⊥
   pub decimal : Accepts Done (behind_with true right) → ⊥
-  -- the cutoff, and its register
+  -- the cutoff, its register, and the first and the last of the four
   pub common : Refuses 0x106A
-  pub last : Refuses 0xD416
+  pub cutoff : Refuses 0xD416
+  pub first : Refuses 0xD415
+  pub last : Refuses 0xD418
   -- whether a command is lent, and which
   pub lent : Refuses 0x106C
   pub command : Refuses 0x106D

@@ -26,7 +26,7 @@ low_is : (note : ℕ) → note ≤ 96 → with_lists (place_in from_1000 FREQUEN
 low_is note few =
     let place : (0x2000 + note) % 65536 ≡ 0x2000 + note = omega (arith, few) in
     let from : nat_lt (0x2000 + note) 0x2000 ≡ false = le-ltb (0x2000 + note) 0x2000 (omega arith) in
-    let to : nat_lt (0x2000 + note) 0x2200 ≡ true = lt-ltb (0x2000 + note) 0x2200 (omega (arith, few)) in
+    let to : nat_lt (0x2000 + note) 0x2061 ≡ true = lt-ltb (0x2000 + note) 0x2061 (omega (arith, few)) in
     let number : 0x2000 + note - 0x2000 ≡ note = omega arith in
     rw (place, from, to, number) refl
 
@@ -34,9 +34,11 @@ high_is : (note : ℕ) → note ≤ 96 → with_lists (place_in from_1000 FREQUE
 high_is note few =
     let place : (0x2200 + note) % 65536 ≡ 0x2200 + note = omega (arith, few) in
     let from : nat_lt (0x2200 + note) 0x2000 ≡ false = le-ltb (0x2200 + note) 0x2000 (omega arith) in
-    let to : nat_lt (0x2200 + note) 0x2200 ≡ false = le-ltb (0x2200 + note) 0x2200 (omega arith) in
+    let behind : nat_lt (0x2200 + note) 0x2061 ≡ false = le-ltb (0x2200 + note) 0x2061 (omega arith) in
+    let there : nat_lt (0x2200 + note) 0x2200 ≡ false = le-ltb (0x2200 + note) 0x2200 (omega arith) in
+    let to : nat_lt (0x2200 + note) 0x2261 ≡ true = lt-ltb (0x2200 + note) 0x2261 (omega (arith, few)) in
     let number : 0x2200 + note - 0x2200 ≡ note = omega arith in
-    rw (place, from, to, number) refl
+    rw (place, from, behind, there, to, number) refl
 
 lists : HasFrequencies from_1000 0 with_lists
 lists = record {

@@ -42,12 +42,14 @@ second_voice a at = record {
 
 -- ---- notes
 
--- before the lists each place has the low byte of its number
+-- before the lists each place has the low byte of its number, and behind each list of 97 bytes stands 1
 abbrev pub with_lists : ℕ → ℕ
 with_lists place =
     if nat_lt place 0x2000 then place % 256
-    else if nat_lt place 0x2200 then freq (place - 0x2000) % 256
-    else freq (place - 0x2200) / 256
+    else if nat_lt place 0x2061 then freq (place - 0x2000) % 256
+    else if nat_lt place 0x2200 then 1
+    else if nat_lt place 0x2261 then freq (place - 0x2200) / 256
+    else 1
 
 abbrev pub sounded : ℕ → Ran
 sounded note = ran each_one from_1000 pitch_tree (second_voice note with_lists)

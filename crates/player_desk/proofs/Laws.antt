@@ -22,3 +22,4 @@ pub use Rattle.player_desk.proofs.SharedMemory.{SameLent, CommonDone, SharedDone
 pub use Rattle.player_desk.proofs.Places.{IsSameAt}
 pub use Rattle.player_desk.proofs.Memory.{Came, comes}
 pub use Rattle.player_desk.proofs.Spots.{Own as OwnSpot, Shared as SharedSpot, Sid as SidSpot}
+pub use Rattle.player_desk.proofs.Spots.{SlideLow as SlideLowSpot, SlideHigh as SlideHighSpot}

@@ -220,6 +220,10 @@ plays layout rows voice tree desk t room uses three at leads = record {
   };
   song = song_at m.own _ _ own done.song;
   lent = behind.shows.memory (SharedSpot LENT) refl ∙ done.lent.lent;
+  kept = λ some. (
+    behind.shows.memory (SharedSpot KEPT_COMMAND) refl ∙ done.lent.command some,
+    (behind.shows.memory (SharedSpot KEPT_PARAM) refl ∙ done.lent.param some, tt),
+  );
   others = λ its label few other is not_tempo. behind.shows.memory (Others label its) (is, few, other, not_tempo);
   registers = λ register few. behind.shows.memory (Sid register) few ∙ ap (λ sid. sid register) done.sid;
   elsewhere = λ place away. behind.shows.memory (Elsewhere place) away;

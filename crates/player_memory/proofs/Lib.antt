@@ -1,2 +1,3 @@
 mod WorkedMemory
 mod WorkedPlays
+mod WorkedFetching

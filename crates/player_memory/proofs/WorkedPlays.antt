@@ -11,7 +11,8 @@ use Rattle.player_memory.specs.Rooms.{IsElsewhere}
 use Rattle.player_memory.specs.Playing.{own_at, place_in, IsListed, IsRow}
 use Rattle.player_memory.specs.WorkedMemory.{at_1000}
 use Rattle.player_memory.proofs.WorkedMemory.{neither}
-use Rattle.player_memory.specs.WorkedPlays.{beginning, its_memory, PlaysAreWorked, with_lists, its_lists, its_rows, ListsAreWorked}
+use Rattle.player_memory.specs.WorkedPlays.{beginning, its_memory, PlaysAreWorked, with_lists, far_lists}
+use Rattle.player_memory.specs.WorkedPlays.{its_lists, its_rows, ListsAreWorked}
 
 -- ---- a voice
 
@@ -110,6 +111,7 @@ plays_are_worked = record {
     };
     song = (refl, (refl, (refl, (refl, (refl, (refl, (refl, (refl, (refl, tt)))))))));
     lent = refl;
+    kept = λ some. (refl, (refl, tt));
     others = λ its label few other is tempo. refl;
     registers = λ register few. refl;
     elsewhere = λ place away. refl;
@@ -177,6 +179,7 @@ plays_are_worked = record {
     };
     song = (refl, (refl, (refl, (refl, (refl, (refl, (refl, (refl, (refl, tt)))))))));
     lent = refl;
+    kept = λ some. (refl, (refl, tt));
     others = λ its label few other is tempo. put_other its_memory 0xFC 1 _
         (own_apart 0xFC label its pointer_free few is);
     registers = λ register few. put_other its_memory 0xFC 1 _ (register_apart 0xFC register (inl (omega arith)) few);
@@ -245,6 +248,7 @@ plays_are_worked = record {
     };
     song = (refl, (refl, (refl, (refl, (refl, (refl, (refl, (refl, (refl, tt)))))))));
     lent = refl;
+    kept = λ some. (refl, (refl, tt));
     others = λ its label few other is tempo. put_other its_memory 0x1103 1 _
         (own_apart 0x1103 label its slide_free few is);
     registers = λ register few. put_other its_memory 0x1103 1 _
@@ -259,10 +263,17 @@ plays_are_worked = record {
   common = λ plays. (let byte = plays.plays.common.1.1.1.1.1.0 in omega (arith, byte));
   tempo = λ plays. (let byte = plays.plays.tempos 2 (omega arith) in omega (arith, byte));
   song = λ plays. (let byte = plays.song.0 in omega (arith, byte));
+  last_common = λ plays. (let byte = plays.plays.common.1.1.1.1.1.1.1.0 in omega (arith, byte));
+  last_song = λ plays. (let byte = plays.song.1.1.1.1.1.1.1.1.0 in omega (arith, byte));
   lent = λ plays. (let byte = plays.lent in omega (arith, byte));
-  others = λ plays. (let byte = plays.others 0 23 (omega arith) (λ e. omega (arith, e)) refl (λ e. omega (arith, e))
-      in omega (arith, byte));
-  register = λ plays. (let byte = plays.registers 4 (omega arith) in omega (arith, byte));
+  kept_command = λ plays. (let byte = (plays.kept (λ e. omega (arith, e))).0 in omega (arith, byte));
+  kept_param = λ plays. (let byte = (plays.kept (λ e. omega (arith, e))).1.0 in omega (arith, byte));
+  first_voice = λ plays. (let byte = plays.others 0 23 (omega arith) (λ e. omega (arith, e)) refl
+      (λ e. omega (arith, e)) in omega (arith, byte));
+  third_voice = λ plays. (let byte = plays.others 2 23 (omega arith) (λ e. omega (arith, e)) refl
+      (λ e. omega (arith, e)) in omega (arith, byte));
+  first_register = λ plays. (let byte = plays.registers 0 (omega arith) in omega (arith, byte));
+  last_register = λ plays. (let byte = plays.registers 24 (omega arith) in omega (arith, byte));
   elsewhere = λ plays. (let byte = plays.elsewhere 0x2000 far in omega (arith, byte));
 }
   where
@@ -323,9 +334,37 @@ its_row (suc (suc zero)) from to = record {
 }
 its_row (suc (suc (suc more))) from to = absurd (omega (arith, to))
 
+full_listed : (label base number : ℕ) → far_lists.address label ≡ base → 0x2000 ≤ base → base ≤ 0x2100 → number ≤ 255 →
+    IsListed far_lists 4 (λ place. 0) label number 0
+full_listed label base number is from below to = record {
+  elsewhere = rw (is, place) (record {
+    variables = inr (omega (arith, from));
+    slides_low = λ kept. inr (omega (arith, from));
+    slides_high = λ kept. inr (omega (arith, from));
+    low = λ e. omega (arith, from, e);
+    high = λ e. omega (arith, from, e);
+    registers = inl (omega (arith, to, below));
+  });
+  reads = refl;
+  is = refl;
+}
+  where
+    place : (base + number) % 65536 ≡ base + number
+    place = omega (arith, to, below)
+
 pub lists_are_worked : ListsAreWorked
 lists_are_worked = record {
   table = record { few = omega arith; each = its_row };
+  full = record {
+    few = omega arith;
+    each = λ number from to. record {
+      left = full_listed PULSE_LEFTS 0x2000 number refl (omega arith) (omega arith) to;
+      right = full_listed PULSE_RIGHTS 0x2100 number refl (omega arith) (omega arith) to;
+      left_byte = omega arith;
+      right_byte = omega arith;
+    };
+  };
+  too_many = λ table. (let few = table.few in omega (arith, few));
   third = λ table. (let byte = (table.each 3 (omega arith) (omega arith)).left.is in omega (arith, byte));
   first_left = λ table. (let byte = (table.each 1 (omega arith) (omega arith)).left.is in omega (arith, byte));
   last_right = λ table. (let byte = (table.each 2 (omega arith) (omega arith)).right.is in omega (arith, byte));

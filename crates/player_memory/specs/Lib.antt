@@ -4,6 +4,8 @@ pub mod Labels
 pub mod Variables
 pub mod Rooms
 pub mod Playing
+pub mod Fetching
 -- Claimed: worked by hand.
 pub mod WorkedMemory
 pub mod WorkedPlays
+pub mod WorkedFetching

@@ -2,19 +2,17 @@
 use Rattle.std.specs.Prelude.{◌≡◌, ◌≢◌, ℕ, ◌+◌, ◌*◌, ◌%◌, ◌<◌, ◌≤◌, true, false, List, [], ◌∷◌, slice_index}
 use Rattle.cpu6502.specs.declared.memory.TheConstants.{MEMORY_SIZE}
 use Rattle.song_model.specs.declared.tables.TableRow.{TableRow}
-use Rattle.play_model.specs.State.{Playing}
+use Rattle.play_model.specs.State.{Voice, Playing, Common}
 use Rattle.play_model.specs.TickStep.{tempo_of}
 use Rattle.scopes.specs.Desk.{Desk, Layout}
 use Rattle.scopes.specs.Meaning.{Ran, Done}
-use Rattle.player_memory.specs.declared.labels.TheConstants.{TEMPO, LENT}
+use Rattle.player_memory.specs.declared.conditions.TheConstants.{NOTE_DEPENDENT}
+use Rattle.player_memory.specs.declared.labels.TheConstants.{TEMPO, LENT, KEPT_COMMAND, KEPT_PARAM}
+use Rattle.player_memory.specs.declared.labels.TheConstants.{SLIDES_LOW, SLIDES_HIGH}
 use Rattle.player_memory.specs.declared.variables.TheConstants.{SONG_BYTES}
 use Rattle.player_memory.specs.Labels.{is_own}
 use Rattle.player_memory.specs.Rooms.{IsElsewhere}
 use Rattle.player_memory.specs.Variables.{VoiceBytesStand, CommonBytesStand}
-use Rattle.std.specs.Prelude.{slice_index}
-use Rattle.play_model.specs.State.{Common}
-use Rattle.player_memory.specs.declared.conditions.TheConstants.{NOTE_DEPENDENT}
-use Rattle.player_memory.specs.declared.labels.TheConstants.{KEPT_COMMAND, KEPT_PARAM, SLIDES_LOW, SLIDES_HIGH}
 
 -- ---- bytes
 
@@ -57,6 +55,10 @@ pub record IsPlaying (layout : Layout) (voice : ℕ) (s : Playing) (at : ℕ →
   pub common : CommonBytesStand s.common (shared_at layout at)
   pub tempos : (its : ℕ) → its < 3 → own_at layout at its TEMPO ≡ tempo_of (its + 1) s.common
 
+-- with this voice
+abbrev pub with_voice : Voice → Playing → Playing
+with_voice v s = record s { voice = v }
+
 -- the desk at a block of a voice: the decimal flag is clear, and X is 7 times the voice's number
 pub record IsAtVoice (voice : ℕ) (desk : Desk) : Type 0 where
   pub x : desk.cpu.x ≡ 7 * voice
@@ -69,14 +71,20 @@ abbrev pub AreSame : List ℕ → (ℕ → ℕ) → (ℕ → ℕ) → Type 0
 AreSame [] one two = Unit {0}
 AreSame (label ∷ labels) one two = (one label ≡ two label) × AreSame labels one two
 
+-- where a run has come to, as a block's end
+abbrev pub there : Ran → Ran
+there run = record run { outcome = Done }
+
 -- A block has come to its end with a voice in this state. It has left where the voice is in its song, whether a command
--- is lent, the other voices, the registers, and what is elsewhere.
+-- is lent, the voice's own one meanwhile, the other voices, the registers, and what is elsewhere.
 pub record Plays (layout : Layout) (rows voice : ℕ) (before : Desk) (run : Ran) (s : Playing) : Type 0 where
   pub ends : run.outcome ≡ Done
   pub at_voice : IsAtVoice voice run.desk
   pub plays : IsPlaying layout voice s run.desk.at
   pub song : AreSame SONG_BYTES (own_at layout run.desk.at voice) (own_at layout before.at voice)
   pub lent : shared_at layout run.desk.at LENT ≡ shared_at layout before.at LENT
+  pub kept : shared_at layout before.at LENT ≢ 0 →
+      AreSame (KEPT_COMMAND ∷ KEPT_PARAM ∷ []) (shared_at layout run.desk.at) (shared_at layout before.at)
   pub others : (its label : ℕ) → its < 3 → its ≢ voice → is_own label ≡ true → label ≢ TEMPO →
       own_at layout run.desk.at its label ≡ own_at layout before.at its label
   pub registers : (register : ℕ) → register ≤ 24 → run.desk.at (0xD400 + register) ≡ before.at (0xD400 + register)

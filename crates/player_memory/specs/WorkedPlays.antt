@@ -6,7 +6,8 @@ use Rattle.play_model.specs.State.{Playing, start_voice, start_common}
 use Rattle.scopes.specs.Desk.{Desk, Layout}
 use Rattle.scopes.specs.Meaning.{Outcome, Done, Again, ended}
 use Rattle.player_memory.specs.declared.labels.TheConstants.{TICK, INSTRUMENT, GATE, VIB_DELAY, TEMPO, VOLUME, FUNK_ONE, FUNK_TWO}
-use Rattle.player_memory.specs.declared.labels.TheConstants.{REST, LENT, PULSE_LEFTS, PULSE_RIGHTS}
+use Rattle.player_memory.specs.declared.labels.TheConstants.{REST, REPEAT, LENT, KEPT_COMMAND, KEPT_PARAM, PULSE_LEFTS}
+use Rattle.player_memory.specs.declared.labels.TheConstants.{PULSE_RIGHTS}
 use Rattle.player_memory.specs.Playing.{IsListed, IsTable, Plays}
 use Rattle.player_memory.specs.WorkedMemory.{at_1000}
 
@@ -52,6 +53,14 @@ PlaysIn x decimal outcome at =
 abbrev pub PlaysWith : (ℕ → ℕ) → Type 0
 PlaysWith at = PlaysIn 7 false Done at
 
+-- the same, where a command is lent
+abbrev pub lending : ℕ → ℕ
+lending = with_variable LENT 1 its_memory
+
+abbrev pub PlaysLent : (ℕ → ℕ) → Type 0
+PlaysLent at =
+    Plays at_1000 4 1 (its_desk 7 false lending) (ended Done (its_desk 7 false at) 0) beginning
+
 pub record PlaysAreWorked : Type 0 where
   pub same : PlaysWith its_memory
   -- the slides and the pointer may be others
@@ -62,11 +71,18 @@ pub record PlaysAreWorked : Type 0 where
   pub decimal : ¬ PlaysIn 7 true Done its_memory
   pub own : ¬ PlaysWith (with_variable (TICK + 7) 2 its_memory)
   pub common : ¬ PlaysWith (with_variable VOLUME 14 its_memory)
+  pub last_common : ¬ PlaysWith (with_variable FUNK_TWO 6 its_memory)
   pub tempo : ¬ PlaysWith (with_variable (TEMPO + 14) 6 its_memory)
   pub song : ¬ PlaysWith (with_variable (REST + 7) 1 its_memory)
+  pub last_song : ¬ PlaysWith (with_variable (REPEAT + 7) 1 its_memory)
   pub lent : ¬ PlaysWith (with_variable LENT 1 its_memory)
-  pub others : ¬ PlaysWith (with_variable TICK 1 its_memory)
-  pub register : ¬ PlaysWith (put its_memory 0xD404 1)
+  -- what the voice gets back, where a command is lent
+  pub kept_command : ¬ PlaysLent (with_variable KEPT_COMMAND 1 lending)
+  pub kept_param : ¬ PlaysLent (with_variable KEPT_PARAM 1 lending)
+  pub first_voice : ¬ PlaysWith (with_variable TICK 1 its_memory)
+  pub third_voice : ¬ PlaysWith (with_variable (TICK + 14) 1 its_memory)
+  pub first_register : ¬ PlaysWith (put its_memory 0xD400 1)
+  pub last_register : ¬ PlaysWith (put its_memory 0xD418 1)
   pub elsewhere : ¬ PlaysWith (put its_memory 0x2000 1)
 
 -- ---- lists
@@ -87,8 +103,23 @@ its_lists = put (put (put (put (λ place. 0) 0x1120 0x88) 0x1121 0x7F) 0x1130 0x
 abbrev pub IsTwoRows : ℕ → (ℕ → ℕ) → Type 0
 IsTwoRows count at = IsTable with_lists 4 at PULSE_LEFTS PULSE_RIGHTS count its_rows
 
+-- the lists of a table with 255 rows of zeros
+abbrev pub far_lists : Layout
+far_lists = record at_1000 {
+  address = λ label. if nat_eq label PULSE_LEFTS then 0x2000 else if nat_eq label PULSE_RIGHTS then 0x2100 else
+      at_1000.address label;
+  may_read = λ place. true;
+}
+
+abbrev pub IsFull : ℕ → Type 0
+IsFull count =
+    IsTable far_lists 4 (λ place. 0) PULSE_LEFTS PULSE_RIGHTS count (λ number. record { left = 0; right = 0 })
+
 pub record ListsAreWorked : Type 0 where
   pub table : IsTwoRows 2 its_lists
+  -- a table has up to 255 rows
+  pub full : IsFull 255
+  pub too_many : ¬ IsFull 256
   pub third : ¬ IsTwoRows 3 its_lists
   pub first_left : ¬ IsTwoRows 2 (put its_lists 0x1120 0x87)
   pub last_right : ¬ IsTwoRows 2 (put its_lists 0x1131 3)

@@ -123,13 +123,14 @@ pub const SPEED_LEFTS: u16 = 133;
 pub const SLIDES_LOW: u16 = 160;
 /// The high bytes of the slides: a left side, or a calculated speed.
 pub const SLIDES_HIGH: u16 = 161;
-/// The periods of a vibrato, by the row of the speed table.
+/// The periods of a vibrato, by the row of the speed table: a left side without bit 7.
 pub const PERIODS: u16 = 134;
-/// The byte before the left sides of the wave table.
+/// The byte before the left sides of the wave table. A delay stands there as `$E0` and its frames, a waveform below
+/// `$10` as itself, and each other left side as it is.
 pub const WAVE_LEFTS: u16 = 135;
 /// The first of them.
 pub const NEXT_WAVE_LEFTS: u16 = 136;
-/// The byte before the right sides of the wave table.
+/// The byte before the right sides of the wave table, which stand there with bit 7 turned, but for commands and jumps.
 pub const WAVE_RIGHTS: u16 = 137;
 /// The first of them.
 pub const NEXT_WAVE_RIGHTS: u16 = 138;

@@ -11,25 +11,25 @@ use player_memory::labels::{
 use scopes::{Line, text};
 
 /// The row is due.
-const DUE: u8 = 0;
+pub const DUE: u8 = 0;
 /// No rests are left, so an entry is next.
-const ENTRY: u8 = 1;
+pub const ENTRY: u8 = 1;
 /// The command of the packed pattern is known; Y is the offset.
-const RUNNING_ON: u8 = 2;
+pub const RUNNING_ON: u8 = 2;
 /// The entry has no instrument; A is its byte, Y the offset.
-const OLD: u8 = 3;
+pub const OLD: u8 = 3;
 /// Y is the offset of the entry's last byte, and the carry is off exactly where it is a note.
-const READ: u8 = 4;
+pub const READ: u8 = 4;
 /// It is a note; A is it, Y the offset, and the carry is off.
-const NOTES: u8 = 5;
+pub const NOTES: u8 = 5;
 /// The entry has no command; A is its byte, Y the offset.
-const UNNAMED: u8 = 6;
+pub const UNNAMED: u8 = 6;
 /// It is a run of rests; A is its byte, Y the offset, and the carry is on.
-const RESTS: u8 = 7;
+pub const RESTS: u8 = 7;
 /// A is the offset of the next entry, 0 at the end of the pattern.
-const END: u8 = 8;
+pub const END: u8 = 8;
 /// The gate is set.
-const HELD: u8 = 9;
+pub const HELD: u8 = 9;
 
 /// Leaves `FETCHES` where a row is due that has an entry of its own, with the entry's offset in Y. Leaves `PULSED`
 /// where no row is due, and with a rest, or `SOUNDS` with one where an option says so. Leaves `LATE` before the

@@ -14,23 +14,23 @@ use player_memory::labels::{
 use scopes::{Line, text};
 
 /// The row's speed isn't calculated, or has been; Y is the row, and the carry as before.
-const STORED: u8 = 0;
+pub const STORED: u8 = 0;
 /// Y is the number of the note for a frequency, at most 96.
-const LOW: u8 = 1;
+pub const LOW: u8 = 1;
 /// A is how often the half tone is halved, at most 16.
-const FEW: u8 = 2;
+pub const FEW: u8 = 2;
 /// The half tone has been halved.
-const WHOLE: u8 = 3;
+pub const WHOLE: u8 = 3;
 /// A is the command, and Y the row.
-const NAMED: u8 = 4;
+pub const NAMED: u8 = 4;
 /// A is another command; Y is the row.
-const SLIDES: u8 = 5;
+pub const SLIDES: u8 = 5;
 /// The time goes on; A is it less 2, and the carry is off. Y is the row.
-const ADDED: u8 = 6;
+pub const ADDED: u8 = 6;
 /// The time goes on, with the carry off; A is it less 2, Y the row.
-const CLEARED: u8 = 7;
+pub const CLEARED: u8 = 7;
 /// The frequency is above that of the note, or is it; A is the low byte of the distance, Y the row.
-const ABOVE: u8 = 8;
+pub const ABOVE: u8 = 8;
 
 /// Behind `RUNNING`: A is the command, 1 up, 2 down, 3 to the note, 4 for a vibrato. A is it behind this block too, and
 /// Y the row of the speed table, whose slide stands in the lists of slides.

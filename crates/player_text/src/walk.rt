@@ -9,13 +9,13 @@ use player_memory::labels::{
 use scopes::{Line, text};
 
 /// No plays are left of the pattern.
-const NEW: u8 = 0;
+pub const NEW: u8 = 0;
 /// The pattern is found; A is its number, Y the place behind it.
-const PATTERN: u8 = 1;
+pub const PATTERN: u8 = 1;
 /// It is no repeat; A is the byte, Y the place behind it, and the carry is on.
-const ABOVE: u8 = 2;
+pub const ABOVE: u8 = 2;
 /// It is the endmark; Y is the place behind it, and the carry is on.
-const ENDMARK: u8 = 3;
+pub const ENDMARK: u8 = 3;
 
 /// Leaves `BEGINS` where the pattern before is played once more. It keeps no register.
 pub const PLAY_REPEATED: &[Line] = text! {

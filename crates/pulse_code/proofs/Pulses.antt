@@ -18,7 +18,8 @@ use Rattle.player_memory.specs.declared.conditions.TheConstants.{PULSE_TABLE}
 use Rattle.player_desk.proofs.Laws.{VoiceDesk, Reader, Ways, Leads, done_as, in_scope, body_of, rest_of, joined, indexed, ends}
 use Rattle.player_desk.proofs.Laws.{Fields, SameSong, Lent, Done, own_done, done_over, done_by, Reads, listed, place_at}
 use Rattle.player_text.specs.declared.pulse.TheConstants.{NEXT, MOVES, MOVED}
-use Rattle.pulse_code.specs.PulseBlock.{pulse_tree, with_voice}
+use Rattle.pulse_code.specs.PulseBlock.{pulse_tree}
+use Rattle.player_memory.specs.Playing.{with_voice}
 use Rattle.pulse_code.proofs.Widths.{IsWidth, risen, risen_over, fallen, fallen_under}
 use Rattle.pulse_code.proofs.PulseRows.{step_none, step_some, row_sets, row_stops, row_begins, row_runs, slid, slide_ends, slide_stays}
 

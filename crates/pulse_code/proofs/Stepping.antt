@@ -7,7 +7,8 @@ use Rattle.scopes.specs.Desk.{Desk, Layout}
 use Rattle.player_memory.specs.declared.labels.TheConstants.{PULSE_LEFTS, NEXT_PULSE_LEFTS, PULSE_RIGHTS}
 use Rattle.player_memory.specs.Playing.{place_in}
 use Rattle.player_desk.proofs.Laws.{Reads, reader_of, voice_desk, lent_of, finds, begins, plays}
-use Rattle.pulse_code.specs.PulseBlock.{pulse_tree, with_voice, HasPulseTable, PulseBlockSteps}
+use Rattle.pulse_code.specs.PulseBlock.{pulse_tree, HasPulseTable, PulseBlockSteps}
+use Rattle.player_memory.specs.Playing.{with_voice}
 use Rattle.pulse_code.proofs.Pulses.{RowAt, NextAt, PulseGround, pulse_leads}
 
 row_at : (layout : Layout) (rows voice count : ℕ) (look : LookUps) (desk : Desk) (p : ℕ) →

@@ -10,7 +10,7 @@ use Rattle.scopes.specs.Meaning.{each_one, ran}
 use Rattle.player_memory.specs.declared.conditions.TheConstants.{PULSE_TABLE}
 use Rattle.player_memory.specs.declared.labels.TheConstants.{PULSE_LEFTS, NEXT_PULSE_LEFTS, PULSE_RIGHTS}
 use Rattle.player_memory.specs.Rooms.{IsRoom, MayUse}
-use Rattle.player_memory.specs.Playing.{IsTable, IsPlaying, IsAtVoice, Plays}
+use Rattle.player_memory.specs.Playing.{IsTable, IsPlaying, IsAtVoice, Plays, with_voice}
 use Rattle.player_text.specs.declared.pulse.TheConstants.{PULSE}
 
 abbrev pub pulse_tree : Tree
@@ -30,10 +30,6 @@ pub record IsOnRow (look : LookUps) (count : ℕ) (v : Voice) : Type 0 where
 pub record HasPulseTable (layout : Layout) (rows : ℕ) (at : ℕ → ℕ) (look : LookUps) (count : ℕ) : Type 0 where
   pub table : IsTable layout rows at PULSE_LEFTS PULSE_RIGHTS count (look.row Pulse)
   pub next : layout.address NEXT_PULSE_LEFTS ≡ layout.address PULSE_LEFTS + 1
-
--- with this voice
-abbrev pub with_voice : Voice → Playing → Playing
-with_voice v s = record s { voice = v }
 
 -- In any memory that holds a voice that is playing, the code does the pulse step.
 abbrev pub PulseBlockSteps : Type 0

@@ -6,7 +6,7 @@ use Rattle.player_memory.specs.declared.conditions.TheConstants.{SET_AD, SET_SR,
 use Rattle.player_memory.specs.declared.conditions.TheConstants.{SET_PULSE_POINTER, SET_FILTER_POINTER}
 use Rattle.player_memory.specs.declared.conditions.TheConstants.{SET_FILTER_CONTROL, SET_CUTOFF, SET_VOLUME}
 use Rattle.player_memory.specs.declared.conditions.TheConstants.{FUNK_TEMPO, SET_TEMPO}
-use Rattle.tick_code.specs.TickBlock.{IsRow, KeepsTick}
+use Rattle.tick_code.specs.TickBlock.{IsRowDone, KeepsTick}
 
 -- what a turn uses is kept, feature by feature
 pub record KeepsUsed (layout : Layout) (turn : Turn) : Type 0 where
@@ -44,5 +44,5 @@ tick_kept layout turn uses = record {
     d : ℕ
     d = turn.start.voice.new_param
 
-    does : (command : ℕ) → IsRow turn.start → turn.start.voice.new_command ≡ command → DoesRow turn command d
+    does : (command : ℕ) → IsRowDone turn.start → turn.start.voice.new_command ≡ command → DoesRow turn command d
     does command now e = record { now = now; command_is = e; param_is = refl }

@@ -15,7 +15,8 @@ use Rattle.player_desk.proofs.Laws.{VoiceDesk, Reader, Ways, Leads, done_as, in_
 use Rattle.player_desk.proofs.Laws.{reader_of, voice_desk, lent_of, finds, begins, plays}
 use Rattle.player_desk.proofs.VoiceDesks.{Either}
 use Rattle.player_text.specs.declared.joints.TheConstants.{SOUNDS}
-use Rattle.tick_code.specs.TickBlock.{tick_tree, HasInstrument, HasTickLists, there, way_of, Ticks, TickBlockSteps}
+use Rattle.tick_code.specs.TickBlock.{tick_tree, HasInstrument, HasTickLists, way_of, Ticks, TickBlockSteps}
+use Rattle.player_memory.specs.Playing.{there}
 use Rattle.tick_code.proofs.TickGrounds.{InstrumentAt, SpeedAt, TickGround, TickDone, ways_of}
 use Rattle.tick_code.proofs.Ticks.{tick_leads}
 
@@ -30,6 +31,7 @@ come_there layout rows voice before run other s e p = record {
   plays = rw e p.plays;
   song = rw e p.song;
   lent = rw e p.lent;
+  kept = rw e p.kept;
   others = rw e p.others;
   registers = rw e p.registers;
   elsewhere = rw e p.elsewhere;

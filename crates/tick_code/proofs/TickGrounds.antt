@@ -9,7 +9,7 @@ use Rattle.player_memory.specs.declared.labels.TheConstants.{GATE_TIMERS, FIRST_
 use Rattle.player_desk.proofs.Laws.{VoiceDesk, Reader, Ways, Lent, Done, Reads, place_at}
 use Rattle.player_desk.proofs.VoiceDesks.{Either}
 use Rattle.player_text.specs.declared.joints.TheConstants.{SOUNDS}
-use Rattle.tick_code.specs.TickBlock.{IsRow}
+use Rattle.tick_code.specs.TickBlock.{IsRowDone}
 
 -- ---- what the code stands on
 
@@ -33,8 +33,8 @@ pub record SpeedAt (r : Reader) (look : LookUps) (p : ℕ) : Type 0 where
 
 -- what is read at a row: the voice's instrument, and for command $E the row of the speed table that its parameter names
 pub record TickGround (r : Reader) (look : LookUps) (s : Playing) : Type 0 where
-  pub instrument : IsRow s → InstrumentAt r look s.voice.instrument
-  pub speed : IsRow s → s.voice.new_command ≡ 0xE → s.voice.new_param ≢ 0 → SpeedAt r look s.voice.new_param
+  pub instrument : IsRowDone s → InstrumentAt r look s.voice.instrument
+  pub speed : IsRowDone s → s.voice.new_command ≡ 0xE → s.voice.new_param ≢ 0 → SpeedAt r look s.voice.new_param
   pub command_byte : s.voice.new_command < 256
   pub param_byte : s.voice.new_param < 256
 

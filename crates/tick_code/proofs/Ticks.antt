@@ -13,7 +13,7 @@ use Rattle.player_desk.proofs.Laws.{VoiceDesk, Reader, Ways, Leads, done_as, in_
 use Rattle.player_desk.proofs.Laws.{Lent, Done, own_done, done_over, done_by}
 use Rattle.player_text.specs.declared.joints.TheConstants.{TICKED}
 use Rattle.player_text.specs.declared.tick.TheConstants.{AT_ROW, RUNS}
-use Rattle.tick_code.specs.TickBlock.{tick_tree, KeepsTick, IsRow}
+use Rattle.tick_code.specs.TickBlock.{tick_tree, KeepsTick, IsRowDone}
 use Rattle.tick_code.proofs.TickGrounds.{TickGround, ways_of, tick_ways}
 use Rattle.tick_code.proofs.AtRows.{row_leads}
 use Rattle.tick_code.proofs.Between.{past_is, counts_is, reload_leads}
@@ -101,7 +101,7 @@ tick_leads r look s handed d m few room ground keeps done =
       done = done_by r.voice _ _ handed d n (ap (λ (t : Ticked). t.playing) (sym is)) runs.done;
     }))
     (λ n row.
-    let now : IsRow s = eqb-true (byte_minus s.voice.tick 1) 0 row.now in
+    let now : IsRowDone s = eqb-true (byte_minus s.voice.tick 1) 0 row.now in
     subst (λ t. Leads r (rest_of AT_ROW tick_tree) (in_scope TICKED (ways_of r.voice t handed d)) n)
     (row_is (r.voice + 1) look s row.now)
     (row_leads r look (less s) handed d n few ground.command_byte ground.param_byte (ground.instrument now)

@@ -1,14 +1,25 @@
 -- The row that is worked by hand.
-use Rattle.std.proofs.Common.{◌≡◌, ℕ, zero, suc, ◌+◌, ◌<◌, ◌≤◌, true, nat_lt, inl, inr, refl, sym, subst, arith}
-use Rattle.std.proofs.lemmas.Bool.{lt-ltb, true≢false}
-use Rattle.play_model.specs.TickStep.{tempo_of}
+use Rattle.std.proofs.Common.{◌≡◌, ℕ, zero, suc, ◌+◌, ◌<◌, ◌≤◌, Bool, true, false, nat_eq, nat_lt, inl, inr, refl, sym}
+use Rattle.std.proofs.Common.{ap, subst, arith}
+use Rattle.std.proofs.lemmas.Bool.{lt-ltb, true≢false, both_ways}
+use Rattle.play_model.specs.TickStep.{tempo_of, tick_step, at_row as done_at_row, note_started, row_command}
+use Rattle.scopes.specs.Meaning.{Outcome, Left}
+use Rattle.player_memory.specs.declared.conditions.TheConstants.{SET_AD, SET_SR, SET_WAVE, SET_WAVE_POINTER}
+use Rattle.player_memory.specs.declared.conditions.TheConstants.{SET_PULSE_POINTER, SET_FILTER_POINTER}
+use Rattle.player_memory.specs.declared.conditions.TheConstants.{SET_FILTER_CONTROL, SET_CUTOFF, SET_VOLUME, FUNK_TEMPO}
+use Rattle.player_memory.specs.declared.conditions.TheConstants.{SET_TEMPO}
 use Rattle.player_memory.specs.declared.labels.TheConstants.{TEMPO, ADS, SRS, WAVES, PULSES, FILTERS, VIBRATOS, DELAYS}
 use Rattle.player_memory.specs.declared.labels.TheConstants.{GATE_TIMERS, FIRST_WAVES}
 use Rattle.player_memory.specs.Rooms.{IsRoom, IsElsewhere, MayUse}
 use Rattle.player_memory.specs.Playing.{own_at, shared_at, place_in, IsListed, IsPlaying}
+use Rattle.player_text.specs.declared.joints.TheConstants.{SOUNDS, TICKED}
 use Rattle.player_desk.proofs.Laws.{fields_stand, shared_stand}
-use Rattle.tick_code.specs.TickBlock.{HasInstrument, HasTickLists, IsInLists, KeepsTick}
-use Rattle.tick_code.specs.WorkedTick.{laid, look, waiting, memory, TickIsWorked}
+use Rattle.tick_code.specs.TickBlock.{HasInstrument, HasTickLists, IsInLists, KeepsCommand, KeepsTick}
+use Rattle.tick_code.specs.WorkedTick.{laid, bare, with_one, look, waiting, memory, TickIsWorked}
+
+abbrev is_left : ℕ → Outcome → Bool
+is_left name (Left other) = nat_eq other name
+is_left name _ = false
 
 -- a place between the variables and the registers
 elsewhere : (place : ℕ) → 0x2000 ≤ place → place < 0xD000 → IsElsewhere laid 1 place
@@ -149,9 +160,266 @@ keeps = record {
   length = λ past short. absurd (omega (arith, past));
 }
 
+runs : (command param : ℕ) → command ≤ 4 → KeepsCommand bare command param
+runs command param few = record {
+  ad = λ e. absurd (omega (arith, e, few));
+  sr = λ e. absurd (omega (arith, e, few));
+  wave = λ e. absurd (omega (arith, e, few));
+  wave_pointer = λ e. absurd (omega (arith, e, few));
+  pulse_pointer = λ e. absurd (omega (arith, e, few));
+  filter_pointer = λ e. absurd (omega (arith, e, few));
+  filter_control = λ e. absurd (omega (arith, e, few));
+  cutoff = λ e. absurd (omega (arith, e, few));
+  volume = λ e. absurd (omega (arith, e, few));
+  funk = λ e. absurd (omega (arith, e, few));
+  funk_chosen = λ e short. absurd (omega (arith, e, few));
+  length = λ e long. absurd (omega (arith, e, few));
+}
+
+idle : KeepsCommand bare 0xF 2
+idle = record {
+  ad = λ e. absurd (omega (arith, e));
+  sr = λ e. absurd (omega (arith, e));
+  wave = λ e. absurd (omega (arith, e));
+  wave_pointer = λ e. absurd (omega (arith, e));
+  pulse_pointer = λ e. absurd (omega (arith, e));
+  filter_pointer = λ e. absurd (omega (arith, e));
+  filter_control = λ e. absurd (omega (arith, e));
+  cutoff = λ e. absurd (omega (arith, e));
+  volume = λ e. absurd (omega (arith, e));
+  funk = λ e. absurd (omega (arith, e));
+  funk_chosen = λ e short. absurd (omega (arith, short));
+  length = λ e long. absurd (omega (arith, long));
+}
+
+idle_up : KeepsCommand bare 0xF 0x80
+idle_up = record {
+  ad = λ e. absurd (omega (arith, e));
+  sr = λ e. absurd (omega (arith, e));
+  wave = λ e. absurd (omega (arith, e));
+  wave_pointer = λ e. absurd (omega (arith, e));
+  pulse_pointer = λ e. absurd (omega (arith, e));
+  filter_pointer = λ e. absurd (omega (arith, e));
+  filter_control = λ e. absurd (omega (arith, e));
+  cutoff = λ e. absurd (omega (arith, e));
+  volume = λ e. absurd (omega (arith, e));
+  funk = λ e. absurd (omega (arith, e));
+  funk_chosen = λ e short. absurd (omega (arith, short));
+  length = λ e long. absurd (omega (arith, long));
+}
+
+idle_last : KeepsCommand bare 0xF 0x82
+idle_last = record {
+  ad = λ e. absurd (omega (arith, e));
+  sr = λ e. absurd (omega (arith, e));
+  wave = λ e. absurd (omega (arith, e));
+  wave_pointer = λ e. absurd (omega (arith, e));
+  pulse_pointer = λ e. absurd (omega (arith, e));
+  filter_pointer = λ e. absurd (omega (arith, e));
+  filter_control = λ e. absurd (omega (arith, e));
+  cutoff = λ e. absurd (omega (arith, e));
+  volume = λ e. absurd (omega (arith, e));
+  funk = λ e. absurd (omega (arith, e));
+  funk_chosen = λ e short. absurd (omega (arith, short));
+  length = λ e long. absurd (omega (arith, long));
+}
+
+ad_kept : KeepsCommand (with_one SET_AD) 5 0
+ad_kept = record {
+  ad = λ e. refl;
+  sr = λ e. absurd (omega (arith, e));
+  wave = λ e. absurd (omega (arith, e));
+  wave_pointer = λ e. absurd (omega (arith, e));
+  pulse_pointer = λ e. absurd (omega (arith, e));
+  filter_pointer = λ e. absurd (omega (arith, e));
+  filter_control = λ e. absurd (omega (arith, e));
+  cutoff = λ e. absurd (omega (arith, e));
+  volume = λ e. absurd (omega (arith, e));
+  funk = λ e. absurd (omega (arith, e));
+  funk_chosen = λ e short. absurd (omega (arith, e));
+  length = λ e long. absurd (omega (arith, e));
+}
+
+sr_kept : KeepsCommand (with_one SET_SR) 6 0
+sr_kept = record {
+  ad = λ e. absurd (omega (arith, e));
+  sr = λ e. refl;
+  wave = λ e. absurd (omega (arith, e));
+  wave_pointer = λ e. absurd (omega (arith, e));
+  pulse_pointer = λ e. absurd (omega (arith, e));
+  filter_pointer = λ e. absurd (omega (arith, e));
+  filter_control = λ e. absurd (omega (arith, e));
+  cutoff = λ e. absurd (omega (arith, e));
+  volume = λ e. absurd (omega (arith, e));
+  funk = λ e. absurd (omega (arith, e));
+  funk_chosen = λ e short. absurd (omega (arith, e));
+  length = λ e long. absurd (omega (arith, e));
+}
+
+wave_kept : KeepsCommand (with_one SET_WAVE) 7 0
+wave_kept = record {
+  ad = λ e. absurd (omega (arith, e));
+  sr = λ e. absurd (omega (arith, e));
+  wave = λ e. refl;
+  wave_pointer = λ e. absurd (omega (arith, e));
+  pulse_pointer = λ e. absurd (omega (arith, e));
+  filter_pointer = λ e. absurd (omega (arith, e));
+  filter_control = λ e. absurd (omega (arith, e));
+  cutoff = λ e. absurd (omega (arith, e));
+  volume = λ e. absurd (omega (arith, e));
+  funk = λ e. absurd (omega (arith, e));
+  funk_chosen = λ e short. absurd (omega (arith, e));
+  length = λ e long. absurd (omega (arith, e));
+}
+
+wave_pointer_kept : KeepsCommand (with_one SET_WAVE_POINTER) 8 0
+wave_pointer_kept = record {
+  ad = λ e. absurd (omega (arith, e));
+  sr = λ e. absurd (omega (arith, e));
+  wave = λ e. absurd (omega (arith, e));
+  wave_pointer = λ e. refl;
+  pulse_pointer = λ e. absurd (omega (arith, e));
+  filter_pointer = λ e. absurd (omega (arith, e));
+  filter_control = λ e. absurd (omega (arith, e));
+  cutoff = λ e. absurd (omega (arith, e));
+  volume = λ e. absurd (omega (arith, e));
+  funk = λ e. absurd (omega (arith, e));
+  funk_chosen = λ e short. absurd (omega (arith, e));
+  length = λ e long. absurd (omega (arith, e));
+}
+
+pulse_pointer_kept : KeepsCommand (with_one SET_PULSE_POINTER) 9 0
+pulse_pointer_kept = record {
+  ad = λ e. absurd (omega (arith, e));
+  sr = λ e. absurd (omega (arith, e));
+  wave = λ e. absurd (omega (arith, e));
+  wave_pointer = λ e. absurd (omega (arith, e));
+  pulse_pointer = λ e. refl;
+  filter_pointer = λ e. absurd (omega (arith, e));
+  filter_control = λ e. absurd (omega (arith, e));
+  cutoff = λ e. absurd (omega (arith, e));
+  volume = λ e. absurd (omega (arith, e));
+  funk = λ e. absurd (omega (arith, e));
+  funk_chosen = λ e short. absurd (omega (arith, e));
+  length = λ e long. absurd (omega (arith, e));
+}
+
+filter_pointer_kept : KeepsCommand (with_one SET_FILTER_POINTER) 0xA 0
+filter_pointer_kept = record {
+  ad = λ e. absurd (omega (arith, e));
+  sr = λ e. absurd (omega (arith, e));
+  wave = λ e. absurd (omega (arith, e));
+  wave_pointer = λ e. absurd (omega (arith, e));
+  pulse_pointer = λ e. absurd (omega (arith, e));
+  filter_pointer = λ e. refl;
+  filter_control = λ e. absurd (omega (arith, e));
+  cutoff = λ e. absurd (omega (arith, e));
+  volume = λ e. absurd (omega (arith, e));
+  funk = λ e. absurd (omega (arith, e));
+  funk_chosen = λ e short. absurd (omega (arith, e));
+  length = λ e long. absurd (omega (arith, e));
+}
+
+filter_control_kept : KeepsCommand (with_one SET_FILTER_CONTROL) 0xB 0
+filter_control_kept = record {
+  ad = λ e. absurd (omega (arith, e));
+  sr = λ e. absurd (omega (arith, e));
+  wave = λ e. absurd (omega (arith, e));
+  wave_pointer = λ e. absurd (omega (arith, e));
+  pulse_pointer = λ e. absurd (omega (arith, e));
+  filter_pointer = λ e. absurd (omega (arith, e));
+  filter_control = λ e. refl;
+  cutoff = λ e. absurd (omega (arith, e));
+  volume = λ e. absurd (omega (arith, e));
+  funk = λ e. absurd (omega (arith, e));
+  funk_chosen = λ e short. absurd (omega (arith, e));
+  length = λ e long. absurd (omega (arith, e));
+}
+
+cutoff_kept : KeepsCommand (with_one SET_CUTOFF) 0xC 0
+cutoff_kept = record {
+  ad = λ e. absurd (omega (arith, e));
+  sr = λ e. absurd (omega (arith, e));
+  wave = λ e. absurd (omega (arith, e));
+  wave_pointer = λ e. absurd (omega (arith, e));
+  pulse_pointer = λ e. absurd (omega (arith, e));
+  filter_pointer = λ e. absurd (omega (arith, e));
+  filter_control = λ e. absurd (omega (arith, e));
+  cutoff = λ e. refl;
+  volume = λ e. absurd (omega (arith, e));
+  funk = λ e. absurd (omega (arith, e));
+  funk_chosen = λ e short. absurd (omega (arith, e));
+  length = λ e long. absurd (omega (arith, e));
+}
+
+volume_kept : KeepsCommand (with_one SET_VOLUME) 0xD 0
+volume_kept = record {
+  ad = λ e. absurd (omega (arith, e));
+  sr = λ e. absurd (omega (arith, e));
+  wave = λ e. absurd (omega (arith, e));
+  wave_pointer = λ e. absurd (omega (arith, e));
+  pulse_pointer = λ e. absurd (omega (arith, e));
+  filter_pointer = λ e. absurd (omega (arith, e));
+  filter_control = λ e. absurd (omega (arith, e));
+  cutoff = λ e. absurd (omega (arith, e));
+  volume = λ e. refl;
+  funk = λ e. absurd (omega (arith, e));
+  funk_chosen = λ e short. absurd (omega (arith, e));
+  length = λ e long. absurd (omega (arith, e));
+}
+
+funk_kept : KeepsCommand (with_one FUNK_TEMPO) 0xE 0
+funk_kept = record {
+  ad = λ e. absurd (omega (arith, e));
+  sr = λ e. absurd (omega (arith, e));
+  wave = λ e. absurd (omega (arith, e));
+  wave_pointer = λ e. absurd (omega (arith, e));
+  pulse_pointer = λ e. absurd (omega (arith, e));
+  filter_pointer = λ e. absurd (omega (arith, e));
+  filter_control = λ e. absurd (omega (arith, e));
+  cutoff = λ e. absurd (omega (arith, e));
+  volume = λ e. absurd (omega (arith, e));
+  funk = λ e. refl;
+  funk_chosen = λ e short. absurd (omega (arith, e));
+  length = λ e long. absurd (omega (arith, e));
+}
+
+funk_chosen_kept : KeepsCommand (with_one FUNK_TEMPO) 0xF 1
+funk_chosen_kept = record {
+  ad = λ e. absurd (omega (arith, e));
+  sr = λ e. absurd (omega (arith, e));
+  wave = λ e. absurd (omega (arith, e));
+  wave_pointer = λ e. absurd (omega (arith, e));
+  pulse_pointer = λ e. absurd (omega (arith, e));
+  filter_pointer = λ e. absurd (omega (arith, e));
+  filter_control = λ e. absurd (omega (arith, e));
+  cutoff = λ e. absurd (omega (arith, e));
+  volume = λ e. absurd (omega (arith, e));
+  funk = λ e. absurd (omega (arith, e));
+  funk_chosen = λ e short. refl;
+  length = λ e long. absurd (omega (arith, long));
+}
+
+length_kept : KeepsCommand (with_one SET_TEMPO) 0xF 3
+length_kept = record {
+  ad = λ e. absurd (omega (arith, e));
+  sr = λ e. absurd (omega (arith, e));
+  wave = λ e. absurd (omega (arith, e));
+  wave_pointer = λ e. absurd (omega (arith, e));
+  pulse_pointer = λ e. absurd (omega (arith, e));
+  filter_pointer = λ e. absurd (omega (arith, e));
+  filter_control = λ e. absurd (omega (arith, e));
+  cutoff = λ e. absurd (omega (arith, e));
+  volume = λ e. absurd (omega (arith, e));
+  funk = λ e. absurd (omega (arith, e));
+  funk_chosen = λ e short. absurd (omega (arith, short));
+  length = λ e long. refl;
+}
+
 pub tick_is_worked : TickIsWorked
-tick_is_worked = (
-  record {
+unfolding tick_step done_at_row note_started row_command
+tick_is_worked = record {
+  met = record {
     room = room;
     uses = uses;
     lists = lists;
@@ -159,8 +427,8 @@ tick_is_worked = (
     playing = playing;
     at_row = at_row;
     keeps = keeps;
-  },
-  record {
+  };
+  worked = record {
     way = refl;
     tick = refl;
     note = refl;
@@ -173,5 +441,61 @@ tick_is_worked = (
     filter = refl;
     tempo = refl;
     another_tempo = refl;
-  },
-)
+  };
+  commands = record {
+    runs = runs;
+    idle = idle;
+    idle_up = idle_up;
+    idle_last = idle_last;
+    ad = ad_kept;
+    sr = sr_kept;
+    wave = wave_kept;
+    wave_pointer = wave_pointer_kept;
+    pulse_pointer = pulse_pointer_kept;
+    filter_pointer = filter_pointer_kept;
+    filter_control = filter_control_kept;
+    cutoff = cutoff_kept;
+    volume = volume_kept;
+    funk = funk_kept;
+    funk_chosen = funk_chosen_kept;
+    length = length_kept;
+  };
+  lengths = record {
+    goes_on = record {
+      command = λ now. absurd (omega (arith, now));
+      length = λ past short. absurd (omega (arith, past));
+    };
+    two = record { command = λ now. absurd (omega (arith, now)); length = λ past short. absurd (omega (arith, short)) };
+    one = record { command = λ now. absurd (omega (arith, now)); length = λ past short. refl };
+  };
+  lists = record {
+    last = record {
+      from = omega arith;
+      to = omega arith;
+      command = omega arith;
+      param = omega arith;
+      speed = λ e. absurd (omega (arith, e));
+    };
+    last_row = record {
+      from = omega arith;
+      to = omega arith;
+      command = omega arith;
+      param = omega arith;
+      speed = λ e. omega arith;
+    };
+    no_row = record {
+      from = omega arith;
+      to = omega arith;
+      command = omega arith;
+      param = omega arith;
+      speed = λ e. omega arith;
+    };
+  };
+  others = record {
+    goes_on = λ ticks. (let e = ticks.way in absurd (cc));
+    elsewhere = λ ticks. (let e = ticks.way in both_ways (is_left SOUNDS (Left TICKED)) refl (ap (is_left SOUNDS) e));
+    gate = λ ticks. (let byte = ticks.plays.plays.own.1.1.1.1.1.1.1.1.1.1.1.1.1.1.0 in omega (arith, byte));
+    place = λ ticks. (let byte = ticks.plays.elsewhere 0x3000 (elsewhere 0x3000 (omega arith) (omega arith)) in
+        omega (arith, byte));
+  };
+}

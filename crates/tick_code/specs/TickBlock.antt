@@ -19,7 +19,7 @@ use Rattle.player_memory.specs.declared.labels.TheConstants.{GATE_TIMERS, FIRST_
 use Rattle.player_memory.specs.Rooms.{IsRoom, MayUse}
 use Rattle.player_text.specs.declared.joints.TheConstants.{SOUNDS, TICKED}
 use Rattle.player_text.specs.Steps.{tick_tree as step_tree}
-use Rattle.player_memory.specs.Playing.{IsListed, IsTable, IsPlaying, IsAtVoice, Plays}
+use Rattle.player_memory.specs.Playing.{IsListed, IsTable, IsPlaying, IsAtVoice, Plays, there}
 
 -- ---- its lines
 
@@ -36,9 +36,9 @@ pub record TickBlockHasLines : Type 0 where
 
 -- ---- what is kept
 
--- the tick falls to 0
-abbrev pub IsRow : Playing → Type 0
-IsRow s = byte_minus s.voice.tick 1 ≡ 0
+-- the row is done: the tick falls to 0
+abbrev pub IsRowDone : Playing → Type 0
+IsRowDone s = byte_minus s.voice.tick 1 ≡ 0
 
 -- Which lines are kept for a row's command: its own. Of command $F those that set a length where the last seven bits
 -- are 3 or more, and those that choose a funk tempo for 0 and 1.
@@ -56,10 +56,10 @@ pub record KeepsCommand (layout : Layout) (command param : ℕ) : Type 0 where
   pub funk_chosen : command ≡ 0xF → param ≤ 1 → layout.holds FUNK_TEMPO ≡ true
   pub length : command ≡ 0xF → 3 ≤ param % 128 → layout.holds SET_TEMPO ≡ true
 
--- At a row the lines of its command are kept; and where the tick falls below 0 those of the funk tempos, if the tempo
--- is 0 or 1.
+-- Where the row is done the lines of its command are kept; and where the tick falls below 0 those of the funk tempos,
+-- if the tempo is 0 or 1.
 pub record KeepsTick (layout : Layout) (channel : ℕ) (s : Playing) : Type 0 where
-  pub command : IsRow s → KeepsCommand layout s.voice.new_command s.voice.new_param
+  pub command : IsRowDone s → KeepsCommand layout s.voice.new_command s.voice.new_param
   pub length : 0x80 ≤ byte_minus s.voice.tick 1 → tempo_of channel s.common < 2 → layout.holds FUNK_TEMPO ≡ true
 
 -- ---- what is read
@@ -99,10 +99,6 @@ pub record IsInLists (instruments speeds : ℕ) (v : Voice) : Type 0 where
 abbrev pub way_of : Bool → Outcome
 way_of true = Left SOUNDS
 way_of false = Done
-
--- where a run has come to, as a block's end
-abbrev pub there : Ran → Ran
-there run = record run { outcome = Done }
 
 -- it takes that way, and holds there what the tick step leaves
 pub record Ticks (layout : Layout) (rows voice : ℕ) (before : Desk) (run : Ran) (ticked : Ticked) : Type 0 where

@@ -1,10 +1,16 @@
--- To believe: a row is done as it is worked by hand, in a memory that meets what the clause asks for.
-use Rattle.std.specs.Prelude.{◌≡◌, ℕ, ◌+◌, ◌*◌, List, [], ◌∷◌, ◌==◌, nat_lt, nat_eq, if◌then◌else◌, true, false}
+-- A row is done as it is worked by hand, in a memory that meets what the clause asks for; at what that ends; and what
+-- doing the row isn't.
+use Rattle.std.specs.Prelude.{◌≡◌, ℕ, ◌+◌, ◌*◌, ◌≤◌, List, [], ◌∷◌, ◌==◌, nat_lt, nat_eq, if◌then◌else◌, true, false}
 use Rattle.song_model.specs.declared.instruments.Instrument.{Instrument}
+use Rattle.code_runs.specs.Runs.{put}
 use Rattle.play_model.specs.LookUps.{LookUps}
-use Rattle.play_model.specs.State.{Playing, start_voice, start_common}
+use Rattle.play_model.specs.State.{Voice, Playing, start_voice, start_common}
+use Rattle.play_model.specs.TickStep.{tick_step}
 use Rattle.scopes.specs.Desk.{Desk, Layout}
-use Rattle.scopes.specs.Meaning.{Left, Ran, each_one, ran}
+use Rattle.scopes.specs.Meaning.{Outcome, Done, Left, Ran, each_one, ran}
+use Rattle.player_memory.specs.declared.conditions.TheConstants.{SET_AD, SET_SR, SET_WAVE, SET_WAVE_POINTER}
+use Rattle.player_memory.specs.declared.conditions.TheConstants.{SET_PULSE_POINTER, SET_FILTER_POINTER}
+use Rattle.player_memory.specs.declared.conditions.TheConstants.{SET_FILTER_CONTROL, SET_CUTOFF, SET_VOLUME, FUNK_TEMPO}
 use Rattle.player_memory.specs.declared.conditions.TheConstants.{SET_TEMPO}
 use Rattle.player_memory.specs.declared.labels.TheConstants.{VARIABLES, TICK, GATE_TIMER, INSTRUMENT, NOTE, NEW_NOTE}
 use Rattle.player_memory.specs.declared.labels.TheConstants.{NEW_COMMAND, NEW_PARAM, AD, VIB_DELAY, WAVE, GATE, TEMPO}
@@ -12,8 +18,8 @@ use Rattle.player_memory.specs.declared.labels.TheConstants.{FILTER_POINTER, VOL
 use Rattle.player_memory.specs.declared.labels.TheConstants.{WAVES, FILTERS, DELAYS, GATE_TIMERS, FIRST_WAVES}
 use Rattle.player_memory.specs.Rooms.{IsRoom, MayUse}
 use Rattle.player_memory.specs.Playing.{own_at, shared_at, IsPlaying, IsAtVoice}
-use Rattle.player_text.specs.declared.joints.TheConstants.{SOUNDS}
-use Rattle.tick_code.specs.TickBlock.{tick_tree, HasTickLists, IsInLists, KeepsTick}
+use Rattle.player_text.specs.declared.joints.TheConstants.{SOUNDS, TICKED}
+use Rattle.tick_code.specs.TickBlock.{tick_tree, HasTickLists, IsInLists, KeepsCommand, KeepsTick, Ticks}
 
 -- ---- the memory
 
@@ -117,5 +123,77 @@ pub record IsWorked : Type 0 where
   pub tempo : own_at laid done.desk.at 1 TEMPO ≡ 3
   pub another_tempo : own_at laid done.desk.at 2 TEMPO ≡ 5
 
-abbrev pub TickIsWorked : Type 0
-TickIsWorked = IsMet × IsWorked
+-- ---- where what is asked for ends
+
+-- a layout that keeps no line under a condition
+abbrev pub bare : Layout
+bare = record laid { holds = λ condition. false }
+
+-- that one, and one line
+abbrev pub with_one : ℕ → Layout
+with_one kept = record laid { holds = λ condition. condition == kept }
+
+-- a voice at a row with this command
+abbrev pub with_command : ℕ → ℕ → Voice
+with_command command param = record start_voice { new_command = command; new_param = param }
+
+-- no line is kept for a command that runs, nor for a command $F that sets nothing; for each other its own alone
+pub record CommandsAreKept : Type 0 where
+  pub runs : (command param : ℕ) → command ≤ 4 → KeepsCommand bare command param
+  pub idle : KeepsCommand bare 0xF 2
+  pub idle_up : KeepsCommand bare 0xF 0x80
+  pub idle_last : KeepsCommand bare 0xF 0x82
+  pub ad : KeepsCommand (with_one SET_AD) 5 0
+  pub sr : KeepsCommand (with_one SET_SR) 6 0
+  pub wave : KeepsCommand (with_one SET_WAVE) 7 0
+  pub wave_pointer : KeepsCommand (with_one SET_WAVE_POINTER) 8 0
+  pub pulse_pointer : KeepsCommand (with_one SET_PULSE_POINTER) 9 0
+  pub filter_pointer : KeepsCommand (with_one SET_FILTER_POINTER) 0xA 0
+  pub filter_control : KeepsCommand (with_one SET_FILTER_CONTROL) 0xB 0
+  pub cutoff : KeepsCommand (with_one SET_CUTOFF) 0xC 0
+  pub volume : KeepsCommand (with_one SET_VOLUME) 0xD 0
+  pub funk : KeepsCommand (with_one FUNK_TEMPO) 0xE 0
+  pub funk_chosen : KeepsCommand (with_one FUNK_TEMPO) 0xF 1
+  pub length : KeepsCommand (with_one SET_TEMPO) 0xF 3
+
+-- Between rows no line is kept, but for the tempos 0 and 1 where a length is loaded: the tick is 0 there, and falls
+-- below.
+abbrev pub loading : ℕ → Playing
+loading tempo = record {
+  voice = record (with_command 5 0) { tick = 0 };
+  common = record (start_common 1) { tempo_two = tempo };
+}
+
+pub record LengthsAreKept : Type 0 where
+  pub goes_on : KeepsTick bare 2 (record (loading 0) { voice = record (with_command 5 0) { tick = 2 } })
+  pub two : KeepsTick bare 2 (loading 2)
+  pub one : KeepsTick (with_one FUNK_TEMPO) 2 (loading 1)
+
+-- the last of 63 instruments; and command $E with the last of 255 rows, or with none where there is no row
+pub record ListsAreMet : Type 0 where
+  pub last : IsInLists 63 0 (record (with_command 5 255) { instrument = 63 })
+  pub last_row : IsInLists 1 255 (with_command 0xE 255)
+  pub no_row : IsInLists 1 0 (with_command 0xE 0)
+
+-- ---- what it isn't
+
+-- the block's run from there, with another way or another memory
+abbrev pub Accepts : Outcome → (ℕ → ℕ) → Type 0
+Accepts way at =
+    Ticks laid 1 1 desk (record done { outcome = way; desk = record done.desk { at = at } })
+    (tick_step 2 look waiting)
+
+-- a note that has started leaves the voice's step, by no other way, and each byte as the rule has it
+pub record OthersAreDenied : Type 0 where
+  pub goes_on : ¬ Accepts Done done.desk.at
+  pub elsewhere : ¬ Accepts (Left TICKED) done.desk.at
+  pub gate : ¬ Accepts (Left SOUNDS) (put done.desk.at (laid.address (GATE + 7)) 0xFE)
+  pub place : ¬ Accepts (Left SOUNDS) (put done.desk.at 0x3000 1)
+
+pub record TickIsWorked : Type 0 where
+  pub met : IsMet
+  pub worked : IsWorked
+  pub commands : CommandsAreKept
+  pub lengths : LengthsAreKept
+  pub lists : ListsAreMet
+  pub others : OthersAreDenied

@@ -16,7 +16,8 @@ pub fn tick_block_has_lines()
     ensures { TickBlockHasLines }
 {}
 
-/// A row as it is worked by hand: a note starts, and a command sets the voice's own tempo.
+/// A row as it is worked by hand: a note starts, and a command sets the voice's own tempo. Where what the clause asks
+/// for ends, and what doing the row isn't.
 pub fn worked_tick()
     ensures { TickIsWorked }
 {}
