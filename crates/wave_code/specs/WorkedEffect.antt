@@ -1,0 +1,100 @@
+-- The code that tells which effect runs, and that of a command of the wave table, run by hand.
+use Rattle.std.specs.Prelude.{◌≡◌, ℕ, ◌+◌, Bool, true, false, nat_eq, not}
+use Rattle.play_model.specs.State.{Voice, start_voice}
+use Rattle.scopes.specs.Desk.{Layout}
+use Rattle.scopes.specs.Meaning.{Outcome, Left, Ran, each_one, ran}
+use Rattle.player_memory.specs.declared.conditions.TheConstants.{SKIP_EFFECTS}
+use Rattle.player_memory.specs.declared.labels.TheConstants.{TICK, COMMAND, PARAM, VIB_DELAY, AD, LENT, KEPT_COMMAND}
+use Rattle.player_memory.specs.declared.labels.TheConstants.{KEPT_PARAM}
+use Rattle.player_memory.specs.WorkedMemory.{at_1000}
+use Rattle.player_memory.specs.WorkedPlays.{its_desk, with_variable}
+use Rattle.player_text.specs.declared.joints.TheConstants.{RUNNING, EFFECTED}
+use Rattle.wave_code.specs.EffectBlock.{effect_begun_tree, left_out, running, HasEffect, KeepsEffect}
+use Rattle.wave_code.specs.CommandBlock.{command_row_tree, IsOnce, KeepsOnce}
+use Rattle.wave_code.specs.WorkedWave.{worked_layout, worked_rows}
+
+-- ---- which effect runs
+
+-- all code is kept, but where effects aren't left out that for it isn't
+abbrev pub effect_layout : Bool → Layout
+effect_layout true = record at_1000 { holds = λ condition. true }
+effect_layout false = record at_1000 { holds = λ condition. not (nat_eq condition SKIP_EFFECTS) }
+
+-- the third voice with this tick, command, parameter, and vibrato's delay, which stands there less one
+abbrev pub effected : Bool → ℕ → ℕ → ℕ → ℕ → Ran
+effected skips tick command param delay =
+    ran each_one (effect_layout skips) effect_begun_tree
+    (its_desk 14 false
+    (with_variable (TICK + 14) tick (with_variable (COMMAND + 14) command (with_variable (PARAM + 14) param
+    (with_variable (VIB_DELAY + 14) delay (λ place. 0))))))
+
+-- where it goes, with what in A, the delay that is left, and in how many instructions
+pub record IsEffected (run : Ran) (way : Outcome) (a delay cost : ℕ) : Type 0 where
+  pub way_is : run.outcome ≡ way
+  pub a_is : run.desk.cpu.a ≡ a
+  pub delay_is : run.desk.at (0x1006 + (VIB_DELAY + 14)) ≡ delay
+  pub cost_is : run.cost ≡ cost
+
+pub record EffectsAreWorked : Type 0 where
+  pub own : IsEffected (effected false 0 3 7 1) (Left RUNNING) 3 1 3
+  pub skipped : IsEffected (effected true 0 3 7 1) (Left EFFECTED) 3 1 5
+  pub later : IsEffected (effected true 2 3 7 1) (Left RUNNING) 3 1 5
+  -- an instrument's vibrato begins, waits, never begins, and there is none
+  pub begins : IsEffected (effected false 0 0 7 0) (Left RUNNING) 4 0 9
+  pub waits : IsEffected (effected false 0 0 7 2) (Left EFFECTED) 7 1 10
+  pub never : IsEffected (effected false 0 0 7 255) (Left EFFECTED) 7 255 9
+  pub none : IsEffected (effected false 0 0 0 0) (Left EFFECTED) 0 0 5
+  -- nor does it wait where effects are left out
+  pub rests : IsEffected (effected true 0 0 7 2) (Left EFFECTED) 0 2 7
+
+-- a voice with this command, parameter and delay
+abbrev pub voiced : ℕ → ℕ → ℕ → Voice
+voiced command param delay = record start_voice { tick = 0; command = command; param = param; vib_delay = delay }
+
+pub record RunningIsWorked : Type 0 where
+  pub own : running (voiced 3 7 0) ≡ 3
+  pub vibrato : running (voiced 0 7 1) ≡ 4
+  pub waits : running (voiced 0 7 2) ≡ 0
+  pub never : running (voiced 0 7 0) ≡ 0
+  pub none : running (voiced 0 0 1) ≡ 0
+  pub out : left_out true (voiced 3 7 0) ≡ true
+  pub later : left_out true (record (voiced 3 7 0) { tick = 2 }) ≡ false
+  pub without : left_out false (voiced 3 7 0) ≡ false
+  pub has : HasEffect (voiced 4 7 255)
+  pub command : ¬ HasEffect (voiced 5 7 0)
+  pub delay : ¬ HasEffect (voiced 0 7 256)
+  pub keeps : KeepsEffect (effect_layout false) (voiced 0 7 2)
+  pub not_kept : ¬ KeepsEffect (record at_1000 { holds = λ condition. false }) (voiced 0 7 2)
+
+-- ---- a command of the wave table
+
+-- the third voice with command 2 and parameter 9, and a command in A, whose row of the wave table is the fourth
+abbrev pub commanded : Bool → ℕ → Ran
+commanded kept a =
+    let desk = its_desk 14 false (with_variable (COMMAND + 14) 2 (with_variable (PARAM + 14) 9 worked_rows)) in
+    ran each_one (worked_layout kept) command_row_tree (record desk { cpu = record desk.cpu { a = a; y = 4 } })
+
+abbrev pub shared_left : Ran → ℕ → ℕ
+shared_left run label = run.desk.at (0x1006 + label)
+
+pub record IsCommanded (run : Ran) (way : Outcome) (command param ad lent cost : ℕ) : Type 0 where
+  pub way_is : run.outcome ≡ way
+  pub command_is : shared_left run (COMMAND + 14) ≡ command
+  pub param_is : shared_left run (PARAM + 14) ≡ param
+  pub ad_is : shared_left run (AD + 14) ≡ ad
+  pub lent_is : shared_left run LENT ≡ lent
+  pub cost_is : run.cost ≡ cost
+
+pub record CommandsAreWorked : Type 0 where
+  pub sets : IsCommanded (commanded true 0xF5) (Left EFFECTED) 2 9 0xA7 0 25
+  pub lends : IsCommanded (commanded true 0xF1) (Left RUNNING) 1 0xA7 0 1 15
+  pub kept_command : shared_left (commanded true 0xF1) KEPT_COMMAND ≡ 2
+  pub kept_param : shared_left (commanded true 0xF1) KEPT_PARAM ≡ 9
+  pub working : (commanded true 0xF1).desk.cpu.a ≡ 1
+  -- commands 0, 8 and $E do nothing
+  pub zero : IsCommanded (commanded true 0xF0) (Left EFFECTED) 2 9 0 0 3
+  pub eight : IsCommanded (commanded true 0xF8) (Left EFFECTED) 2 9 0 0 24
+  pub last : IsCommanded (commanded true 0xFE) (Left EFFECTED) 2 9 0 0 24
+  pub lent_one : ¬ IsOnce 4
+  pub kept : KeepsOnce (worked_layout true) 5
+  pub not_kept : ¬ KeepsOnce (worked_layout false) 0
