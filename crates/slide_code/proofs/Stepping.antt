@@ -1,0 +1,272 @@
+-- The code of the effect step in memory.
+use Rattle.std.proofs.Common.{◌≡◌, ℕ, ◌+◌, ◌/◌, ◌%◌, ◌<◌, ◌≤◌, Bool, true, false, nat_eq, refl, sym, ap, ◌∙◌, subst}
+use Rattle.std.proofs.Common.{arith}
+use Rattle.std.proofs.lemmas.Bool.{both_ways, eqb-true}
+use Rattle.song_model.specs.declared.tables.TableName.TheVariants.{Speed}
+use Rattle.play_model.specs.LookUps.{LookUps}
+use Rattle.play_model.specs.Freq.{freq}
+use Rattle.play_model.specs.State.{Playing}
+use Rattle.play_model.specs.WaveStep.{with_note}
+use Rattle.scopes.specs.Desk.{Desk, Layout}
+use Rattle.scopes.specs.Trees.{Tree, ThenTree, ScopeTree, NeverTree}
+use Rattle.scopes.specs.Meaning.{Outcome, Done, Left, Again, Stuck, Ran, each_one, ran, scoped, and_then, out_of_scope}
+use Rattle.player_memory.specs.declared.conditions.TheConstants.{NOTE_DEPENDENT}
+use Rattle.player_memory.specs.declared.labels.TheConstants.{FREQUENCY_LOWS, FREQUENCY_HIGHS, NEXT_FREQUENCY_LOWS}
+use Rattle.player_memory.specs.declared.labels.TheConstants.{NEXT_FREQUENCY_HIGHS, SPEED_LEFTS, SPEED_RIGHTS, PERIODS}
+use Rattle.player_memory.specs.declared.labels.TheConstants.{SLIDES_LOW, SLIDES_HIGH}
+use Rattle.player_memory.specs.Rooms.{IsRoom, MayUse}
+use Rattle.player_memory.specs.Playing.{place_in, IsAtVoice, Plays, SlidesStay}
+use Rattle.player_desk.proofs.Laws.{VoiceDesk, Leads, Shows, SlideLowSpot, SlideHighSpot}
+use Rattle.player_desk.proofs.Laws.{done_as, in_scope, ends, leads_on, Done as IsDone, Reads}
+use Rattle.player_desk.proofs.Laws.{reader_of, voice_desk, lent_of, finds, begins, plays, comes}
+use Rattle.player_desk.proofs.VoiceDesks.{Either}
+use Rattle.player_text.specs.declared.joints.TheConstants.{EFFECTED}
+use Rattle.slide_code.specs.SlideBlock.{slide_tree, moved_by, arrives, HasHalfTones, HasSpeeds, way_of}
+use Rattle.player_memory.specs.Playing.{with_voice}
+use Rattle.slide_code.specs.SlideBlock.{left_by}
+use Rattle.player_memory.specs.Playing.{there}
+use Rattle.slide_code.specs.SlideBlock.{Slides, SlideBlockSteps}
+use Rattle.slide_code.proofs.SlideGrounds.{NotesAt, SpeedAt, Stands, Running, SlidesLeft, Pitched, Effected, slide_ways}
+use Rattle.slide_code.proofs.Slides.{slide_leads}
+
+-- ---- the lists
+
+next_place : (layout : Layout) (label next number : ℕ) → layout.address next ≡ layout.address label + 1 →
+    place_in layout label (number + 1) ≡ place_in layout next number
+next_place layout label next number e = rw e (ap (λ n. n % 65536) (omega arith))
+
+pub notes_at : (layout : Layout) (rows voice : ℕ) (desk : Desk) → HasHalfTones layout rows desk.at →
+    NotesAt (reader_of layout rows voice desk)
+notes_at layout rows voice desk has = record {
+  low = λ note few. finds layout rows voice desk FREQUENCY_LOWS note _ (has.low note (omega (arith, few)));
+  high = λ note few. finds layout rows voice desk FREQUENCY_HIGHS note _ (has.high note (omega (arith, few)));
+  next_low = λ note few.
+      subst (λ place. Reads (reader_of layout rows voice desk) place (freq (note + 1) % 256))
+      (next_place layout FREQUENCY_LOWS NEXT_FREQUENCY_LOWS note has.next_low)
+      (finds layout rows voice desk FREQUENCY_LOWS (note + 1) _ (has.low (note + 1) (omega (arith, few))));
+  next_high = λ note few.
+      subst (λ place. Reads (reader_of layout rows voice desk) place (freq (note + 1) / 256))
+      (next_place layout FREQUENCY_HIGHS NEXT_FREQUENCY_HIGHS note has.next_high)
+      (finds layout rows voice desk FREQUENCY_HIGHS (note + 1) _ (has.high (note + 1) (omega (arith, few))));
+}
+
+-- a slide stands below the end of memory
+inside : (address rows p : ℕ) → address + rows ≤ 0xD000 → p < rows → (address + p) % 65536 ≡ address + p
+inside address rows p most few = omega (arith, most, few)
+
+pub speed_at : (layout : Layout) (rows voice count : ℕ) (look : LookUps) (desk : Desk) (p : ℕ) → IsRoom layout rows →
+    HasSpeeds layout rows desk.at look count → p ≤ count →
+    SpeedAt (reader_of layout rows voice desk) look p (voice_desk layout voice desk)
+speed_at layout rows voice count look desk p room has few =
+    let each = has.each p few in record {
+      left = finds layout rows voice desk SPEED_LEFTS p _ each.sides.left;
+      right = finds layout rows voice desk SPEED_RIGHTS p _ each.sides.right;
+      period = λ kept. finds layout rows voice desk PERIODS p _ (each.period kept);
+      left_byte = each.sides.left_byte;
+      right_byte = each.sides.right_byte;
+      places = record {
+        row = row;
+        low = λ kept. inside (layout.address SLIDES_LOW) rows p (room.slides kept).low.to (row kept);
+        high = λ kept. inside (layout.address SLIDES_HIGH) rows p (room.slides kept).high.to (row kept);
+      };
+      low = λ plain. record {
+        own = λ kept. each.low kept plain;
+        in_list = λ none. finds layout rows voice desk SLIDES_LOW p _ (each.low_listed none);
+      };
+      high = λ plain. record {
+        own = λ kept. each.high kept plain;
+        in_list = λ none. finds layout rows voice desk SLIDES_HIGH p _ (each.high_listed none);
+      };
+    }
+  where
+    row : layout.holds NOTE_DEPENDENT ≡ true → p < rows
+    row kept = (let most = has.slides kept in omega (arith, most, few))
+
+-- ---- a block that leaves a scope
+
+-- the same memory at the block's end
+come_there : (layout : Layout) (rows voice : ℕ) (before : Desk) (run other : Ran) (s : Playing) →
+    run.desk ≡ other.desk → Plays layout rows voice before other s → Plays layout rows voice before (there run) s
+come_there layout rows voice before run other s e p = record {
+  ends = refl;
+  at_voice = rw e p.at_voice;
+  plays = rw e p.plays;
+  song = rw e p.song;
+  lent = rw e p.lent;
+  kept = rw e p.kept;
+  others = rw e p.others;
+  registers = rw e p.registers;
+  elsewhere = rw e p.elsewhere;
+}
+
+-- behind the block nothing is come to
+abbrev outside : Layout → Ran → Ran
+outside layout run = scoped EFFECTED (and_then run (ran each_one layout NeverTree))
+
+-- another way than to the end
+abbrev IsOther : Outcome → Type 0
+IsOther Done = ⊥
+IsOther outcome = Unit {0}
+
+left_by_name : (name : ℕ) (z : Bool) → nat_eq name EFFECTED ≡ z → out_of_scope EFFECTED (Left name) ≡ Done →
+    Left name ≡ Left EFFECTED
+left_by_name name true z e = ap Left (eqb-true name EFFECTED z)
+left_by_name name false z e = absurd (subst IsOther (sym same ∙ e) tt)
+  where
+    same : out_of_scope EFFECTED (Left name) ≡ Left name
+    same = rw z refl
+
+-- what has come to the scope's end has left it
+left_it : (layout : Layout) (run : Ran) (o : Outcome) → run.outcome ≡ o → (outside layout run).outcome ≡ Done →
+    run.outcome ≡ Left EFFECTED
+left_it layout run Done e come = absurd (subst IsOther (sym same ∙ come) tt)
+  where
+    same : (outside layout run).outcome ≡ Stuck
+    same = rw e refl
+left_it layout run (Left name) e come = e ∙ left_by_name name (nat_eq name EFFECTED) refl (sym same ∙ come)
+  where
+    same : (outside layout run).outcome ≡ out_of_scope EFFECTED (Left name)
+    same = rw e refl
+left_it layout run Again e come = absurd (subst IsOther (sym same ∙ come) tt)
+  where
+    same : (outside layout run).outcome ≡ Again
+    same = rw e refl
+left_it layout run Stuck e come = absurd (subst IsOther (sym same ∙ come) tt)
+  where
+    same : (outside layout run).outcome ≡ Stuck
+    same = rw e refl
+
+same_desk : (layout : Layout) (run : Ran) → run.outcome ≡ Left EFFECTED → run.desk ≡ (outside layout run).desk
+same_desk layout run e = rw e refl
+
+-- ---- both ways
+
+abbrev running : Layout → ℕ → ℕ → ℕ → LookUps → Playing → Desk → Running
+running layout rows voice command look s desk = record {
+  r = reader_of layout rows voice desk;
+  look = look;
+  s = s;
+  handed = lent_of layout desk;
+  d = voice_desk layout voice desk;
+  before = voice_desk layout voice desk;
+  command = command;
+}
+
+-- slides that are as before on the desk are so in memory
+slides_stay : (layout : Layout) (rows voice : ℕ) (look : LookUps) (desk after : Desk) (m : VoiceDesk) →
+    Shows true (reader_of layout rows voice desk) after m → SlidesLeft look (voice_desk layout voice desk) m →
+    layout.holds NOTE_DEPENDENT ≡ true → (row : ℕ) → row < rows → (look.row Speed row).left < 128 →
+    SlidesStay layout row after.at desk.at
+slides_stay layout rows voice look desk after m shows left kept row few plain = record {
+  low = shows.memory (SlideLowSpot row) (kept, few) ∙ left.low row plain;
+  high = shows.memory (SlideHighSpot row) (kept, few) ∙ left.high row plain;
+}
+
+slides : (layout : Layout) (rows voice command : ℕ) (look : LookUps) (s : Playing) (desk : Desk) → IsRoom layout rows →
+    MayUse layout rows → voice < 3 → IsAtVoice voice desk →
+    Leads (reader_of layout rows voice desk) slide_tree (slide_ways (running layout rows voice command look s desk))
+    (voice_desk layout voice desk) → (b : Bool) → arrives command look s.voice ≡ b →
+    Slides layout rows voice desk (ran each_one layout slide_tree desk) command look s
+slides layout rows voice command look s desk room uses few at leads true e =
+    let p = plays layout rows voice slide_tree desk s room uses few at
+    (leads_on true g.r slide_tree (slide_ways g) (ends (IsDone voice s g.handed g.d)) g.d
+    (record { done = λ m done. done.tells.done; left = λ name m q. absurd (never name m q); again = λ m q. q }) leads)
+    in
+    let came = comes layout rows voice slide_tree desk (Pitched g) room uses few at
+    (leads_on true g.r slide_tree (slide_ways g) (ends (Pitched g)) g.d
+    (record { done = λ m done. done; left = λ name m q. absurd (never name m q); again = λ m q. q }) leads) in
+    record {
+      way = p.ends ∙ ap way_of (sym e);
+      plays =
+          subst (λ v. Plays layout rows voice desk (there run) (with_voice v s)) (sym stays)
+          (come_there layout rows voice desk run run s refl p);
+      note = λ yes. record {
+        number = came.shows.a ∙ came.holds.number;
+        is = subst (λ a. moved_by command look s.voice ≡ with_note a s.voice) (sym came.shows.a) came.holds.is;
+      };
+      slides = slides_stay layout rows voice look desk run.desk came.after came.shows came.holds.tells.slides;
+    }
+  where
+    g : Running
+    g = running layout rows voice command look s desk
+
+    run : Ran
+    run = ran each_one layout slide_tree desk
+
+    stays : left_by command look s.voice ≡ s.voice
+    stays = rw e refl
+
+    never : (name : ℕ) (m : VoiceDesk) → (slide_ways g).Left name m → ⊥
+    never name m q = by_name (nat_eq name EFFECTED) q
+      where
+        by_name : (z : Bool) → Either z (Effected g m) ⊥ → ⊥
+        by_name true effected = both_ways _ effected.passes e
+        by_name false none = none
+slides layout rows voice command look s desk room uses few at leads false e =
+    let p = plays layout rows voice tree desk (with_voice (moved_by command look s.voice) s) room uses few at
+    (leads_on true g.r slide_tree (slide_ways g)
+    (done_as (λ m. ⊥) (in_scope EFFECTED
+    (ends (IsDone voice (with_voice (moved_by command look s.voice) s) g.handed g.d))))
+    g.d
+    (record {
+      done = λ m done. absurd (both_ways _ e done.arrives);
+      left = λ name m q. one_way (nat_eq name EFFECTED) m q;
+      again = λ m q. q;
+    }) leads) in
+    let came = comes layout rows voice tree desk (Effected g) room uses few at
+    (leads_on true g.r slide_tree (slide_ways g) (done_as (λ m. ⊥) (in_scope EFFECTED (ends (Effected g)))) g.d
+    (record {
+      done = λ m done. absurd (both_ways _ e done.arrives);
+      left = λ name m q. q;
+      again = λ m q. q;
+    }) leads) in
+    let way = left_it layout run run.outcome refl p.ends in record {
+      way = way ∙ ap way_of (sym e);
+      plays =
+          subst (λ v. Plays layout rows voice desk (there run) (with_voice v s)) (sym moves)
+          (come_there layout rows voice desk run (outside layout run) (with_voice (moved_by command look s.voice) s)
+          (same_desk layout run way) p);
+      note = λ yes. absurd (both_ways _ e yes);
+      slides = λ kept row small plain.
+          let same = slides_stay layout rows voice look desk (outside layout run).desk came.after came.shows
+          came.holds.tells.slides kept row small plain in
+          subst (λ after. SlidesStay layout row after.at desk.at) (sym (same_desk layout run way)) same;
+    }
+  where
+    g : Running
+    g = running layout rows voice command look s desk
+
+    run : Ran
+    run = ran each_one layout slide_tree desk
+
+    tree : Tree
+    tree = ScopeTree EFFECTED (ThenTree slide_tree NeverTree)
+
+    moves : left_by command look s.voice ≡ moved_by command look s.voice
+    moves = rw e refl
+
+    one_way : (z : Bool) (m : VoiceDesk) → Either z (Effected g m) ⊥ →
+        Either z (IsDone voice (with_voice (moved_by command look s.voice) s) g.handed g.d m) ⊥
+    one_way true m effected = effected.tells.done
+    one_way false m none = none
+
+-- ---- the clause
+
+pub slide_block_steps : SlideBlockSteps
+slide_block_steps layout rows voice count command look s desk room uses notes has few at playing on keeps common =
+    slides layout rows voice command look s desk room uses few at
+    (slide_leads (running layout rows voice command look s desk) stands on.note on.its on.a
+    (begins layout voice desk s playing))
+    (arrives command look s.voice) refl
+  where
+    stands : Stands (running layout rows voice command look s desk)
+    stands = record {
+      notes = notes_at layout rows voice desk notes;
+      row = speed_at layout rows voice count look desk s.voice.param room has on.param;
+      keeps = keeps;
+      common = common;
+      small = on.frequency;
+      param = (let p = on.param in let f = has.few in omega (arith, p, f));
+      least = on.least;
+      most = on.most;
+    }
