@@ -1,0 +1,2 @@
+-- To believe: the code that fetches a row.
+pub mod FetchBlock
