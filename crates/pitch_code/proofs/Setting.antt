@@ -1,5 +1,5 @@
 -- The code of a note's frequency in memory.
-use Rattle.std.proofs.Common.{ℕ}
+use Rattle.std.proofs.Common.{ℕ, refl}
 use Rattle.scopes.specs.Desk.{Desk, Layout}
 use Rattle.player_memory.specs.declared.labels.TheConstants.{FREQUENCY_LOWS, FREQUENCY_HIGHS}
 use Rattle.player_desk.proofs.Laws.{reader_of, voice_desk, lent_of, finds, begins, plays}
@@ -15,6 +15,6 @@ frequencies_at layout rows voice desk has = record {
 
 pub pitch_block_sets : PitchBlockSets
 pitch_block_sets layout rows voice s desk room uses has three at playing =
-    plays layout rows voice pitch_tree desk (sounding desk.cpu.a s) room uses three at
+    plays layout rows voice pitch_tree desk (sounding desk.cpu.a s) refl room uses three at
     (pitch_leads (reader_of layout rows voice desk) s (lent_of layout desk) (voice_desk layout voice desk)
     (voice_desk layout voice desk) (frequencies_at layout rows voice desk has) (begins layout voice desk s playing))

@@ -20,11 +20,11 @@ pub record Follows (one two : Ways) : Type 0 where
   pub left : (name : ℕ) (d : VoiceDesk) → one.Left name d → two.Left name d
   pub again : (d : VoiceDesk) → one.Again d → two.Again d
 
-fits_on : (b : Bool) (P Q : Type 0) → (P → Q) → Fits b P → Fits b Q
+pub fits_on : (b : Bool) (P Q : Type 0) → (P → Q) → Fits b P → Fits b Q
 fits_on true P Q follows p = follows p
 fits_on false P Q follows never = elim never [ ]
 
-seen_on : (voiced : Bool) (r : Reader) (operand : Operand) (P Q : ℕ → Type 0) (d : VoiceDesk) →
+pub seen_on : (voiced : Bool) (r : Reader) (operand : Operand) (P Q : ℕ → Type 0) (d : VoiceDesk) →
     ((n : ℕ) → P n → Q n) → SeenLeads voiced r operand P d → SeenLeads voiced r operand Q d
 seen_on voiced r (Number number) P Q d follows p = follows number p
 seen_on voiced r (Var label) P Q d follows p = fits_on (is_shared label) _ _ (follows _) p
@@ -98,7 +98,7 @@ either_on : (z : Bool) (P Q R S : Type 0) → (P → R) → (Q → S) → Either
 either_on true P Q R S one two p = one p
 either_on false P Q R S one two p = two p
 
-turns_on : (Body : Ways → VoiceDesk → Type 0) →
+pub turns_on : (Body : Ways → VoiceDesk → Type 0) →
     ((one two : Ways) (d : VoiceDesk) → Follows one two → Body one d → Body two d) → (count : ℕ) (one two : Ways)
     (d : VoiceDesk) → Follows one two → TurnsLead count Body one d → TurnsLead count Body two d
 turns_on Body body zero one two d follows never = elim never [ ]

@@ -16,7 +16,8 @@ pub use Rattle.player_desk.proofs.Views.{Lent, LentStands, SameSong, Done, own_d
 -- bytes that are found where the code reads them
 pub use Rattle.player_desk.proofs.Reading.{Reads, listed, place_at, compared_is, over_is}
 -- a voice in memory, and what a block leaves there
-pub use Rattle.player_desk.proofs.Memory.{IsFound, reader_of, voice_desk, lent_of, finds, begins, plays}
+pub use Rattle.player_desk.proofs.Memory.{IsFound, reader_of, voice_desk, lent_of, finds, begins, plays_but_slides, plays, but_slides_there, come_there}
+pub use Rattle.player_desk.proofs.SlidesStay.{leaves_slides}
 pub use Rattle.player_desk.proofs.SharedMemory.{SameLent, CommonDone, SharedDone, begins_shared, plays_shared}
 -- whatever a block is for: it leaves in memory what it leaves on the desk
 pub use Rattle.player_desk.proofs.Places.{IsSameAt}

@@ -7,6 +7,7 @@ mod Effects
 -- What leads there does so in memory.
 mod Leading
 mod Following
+mod SlidesStay
 mod Joining
 mod Reading
 -- The rows of the table of variables.

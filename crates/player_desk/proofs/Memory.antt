@@ -19,13 +19,16 @@ use Rattle.player_memory.specs.declared.labels.TheConstants.{SLIDES_LOW, SLIDES_
 use Rattle.player_memory.specs.declared.variables.TheConstants.{SONG_BYTES}
 use Rattle.player_memory.specs.Labels.{is_own, is_shared}
 use Rattle.player_memory.specs.Rooms.{IsRoom, IsElsewhere, MayUse}
-use Rattle.player_memory.specs.Playing.{own_at, shared_at, IsListed, IsPlaying, IsAtVoice, AreSame, Plays}
+use Rattle.player_memory.specs.Playing.{own_at, shared_at, IsListed, IsPlaying, IsAtVoice, AreSame, Plays, PlaysButSlides, SlidesStay, there}
 use Rattle.player_desk.proofs.VoiceDesks.{VoiceDesk, Reader, Leads}
 use Rattle.player_desk.proofs.Spots.{Own, Shared as SharedSpot, Sid, Tempo, Others, Elsewhere, LowSpot, HighSpot, SlideLow, SlideHigh}
 use Rattle.player_desk.proofs.Spots.{Spot, IsSpot, spot_place, spot_byte}
 use Rattle.player_desk.proofs.Leading.{Shows, Ground, At, Led, led}
 use Rattle.player_desk.proofs.Places.{spot_at, IsSameAt, same_byte}
+use Rattle.player_memory.specs.declared.conditions.TheConstants.{NOTE_DEPENDENT}
 use Rattle.player_desk.proofs.Joining.{ends}
+use Rattle.player_desk.proofs.Following.{leads_on}
+use Rattle.player_desk.proofs.SlidesStay.{leaves_slides, SameSlides, with_slides, slides_stay}
 use Rattle.player_desk.proofs.Reading.{Reads, place_at}
 use Rattle.player_desk.proofs.Views.{Fields, Shared, Lent, SameSong, Done as IsDone}
 use Rattle.player_desk.proofs.Views.{fields_of, fields_stand, shared_of, shared_stand}
@@ -204,12 +207,13 @@ at_end Q Again d never = elim never [ ]
 at_end Q Stuck d never = elim never [ ]
 
 -- A block that leads from the desk of a voice to where a rule's code does leaves the state that the rule gives.
-pub plays : (layout : Layout) (rows voice : ℕ) (tree : Tree) (desk : Desk) (t : Playing) → IsRoom layout rows →
+pub plays_but_slides : (layout : Layout) (rows voice : ℕ) (tree : Tree) (desk : Desk) (t : Playing) → IsRoom layout
+    rows →
     MayUse layout rows → voice < 3 → IsAtVoice voice desk →
     Leads (reader_of layout rows voice desk) tree
     (ends (IsDone voice t (lent_of layout desk) (voice_desk layout voice desk))) (voice_desk layout voice desk) →
-    Plays layout rows voice desk (ran each_one layout tree desk) t
-plays layout rows voice tree desk t room uses three at leads = record {
+    PlaysButSlides layout rows voice desk (ran each_one layout tree desk) t
+plays_but_slides layout rows voice tree desk t room uses three at leads = record {
   ends = end.is;
   at_voice = record { x = behind.shows.x refl; decimal = behind.shows.decimal };
   plays = record {
@@ -264,6 +268,70 @@ plays layout rows voice tree desk t room uses three at leads = record {
               t.common) (sym same.1) here.tempo_is
           | inr other ↦ behind.shows.memory (Tempo its) (few, other.1) ∙ done.tempos its few other.1
         ]
+
+-- one that stores no slide leaves the slides, too
+slides_left : (layout : Layout) (rows voice : ℕ) (tree : Tree) (desk : Desk) (Q : VoiceDesk → Type 0) →
+    IsRoom layout rows → MayUse layout rows → voice < 3 → IsAtVoice voice desk → leaves_slides tree ≡ true →
+    Leads (reader_of layout rows voice desk) tree (ends Q) (voice_desk layout voice desk) →
+    layout.holds NOTE_DEPENDENT ≡ true → (row : ℕ) → row < rows →
+    SlidesStay layout row (ran each_one layout tree desk).desk.at desk.at
+slides_left layout rows voice tree desk Q room uses three at leaves leads kept row few = record {
+  low = behind.shows.memory (SlideLow row) (kept, few) ∙ ap (λ slides. slides row) end.holds.low;
+  high = behind.shows.memory (SlideHigh row) (kept, few) ∙ ap (λ slides. slides row) end.holds.high;
+}
+  where
+    r : Reader
+    r = reader_of layout rows voice desk
+
+    d : VoiceDesk
+    d = voice_desk layout voice desk
+
+    staying : Leads r tree (ends (SameSlides d)) d
+    staying =
+        leads_on true r tree (with_slides d (ends Q)) (ends (SameSlides d)) d
+        (record { done = λ m q. q.0; left = λ name m q. q.1; again = λ m q. q.1 })
+        (slides_stay true r tree (ends Q) d leaves leads)
+
+    behind : Led true r (ends (SameSlides d)) (ran each_one layout tree desk)
+    behind =
+        led (ground_of layout rows voice desk room uses three) tree (ends (SameSlides d)) desk d
+        (shows_desk layout rows voice desk at) staying
+
+    end : AtEnd (SameSlides d) (ran each_one layout tree desk).outcome behind.after
+    end = at_end (SameSlides d) (ran each_one layout tree desk).outcome behind.after behind.way
+
+pub plays : (layout : Layout) (rows voice : ℕ) (tree : Tree) (desk : Desk) (t : Playing) →
+    leaves_slides tree ≡ true → IsRoom layout rows → MayUse layout rows → voice < 3 → IsAtVoice voice desk →
+    Leads (reader_of layout rows voice desk) tree
+    (ends (IsDone voice t (lent_of layout desk) (voice_desk layout voice desk))) (voice_desk layout voice desk) →
+    Plays layout rows voice desk (ran each_one layout tree desk) t
+plays layout rows voice tree desk t leaves room uses three at leads = record {
+  but_slides = plays_but_slides layout rows voice tree desk t room uses three at leads;
+  slides = slides_left layout rows voice tree desk _ room uses three at leaves leads;
+}
+
+-- the same memory, where another run has come to its end
+pub but_slides_there : (layout : Layout) (rows voice : ℕ) (before : Desk) (run other : Ran) (s : Playing) →
+    run.desk ≡ other.desk → PlaysButSlides layout rows voice before other s →
+    PlaysButSlides layout rows voice before (there run) s
+but_slides_there layout rows voice before run other s e p = record {
+  ends = refl;
+  at_voice = rw e p.at_voice;
+  plays = rw e p.plays;
+  song = rw e p.song;
+  lent = rw e p.lent;
+  kept = rw e p.kept;
+  others = rw e p.others;
+  registers = rw e p.registers;
+  elsewhere = rw e p.elsewhere;
+}
+
+pub come_there : (layout : Layout) (rows voice : ℕ) (before : Desk) (run other : Ran) (s : Playing) →
+    run.desk ≡ other.desk → Plays layout rows voice before other s → Plays layout rows voice before (there run) s
+come_there layout rows voice before run other s e p = record {
+  but_slides = but_slides_there layout rows voice before run other s e p.but_slides;
+  slides = rw e p.slides;
+}
 
 -- ---- whatever a block is for
 

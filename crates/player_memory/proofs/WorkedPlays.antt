@@ -11,8 +11,8 @@ use Rattle.player_memory.specs.Rooms.{IsElsewhere}
 use Rattle.player_memory.specs.Playing.{own_at, place_in, IsListed, IsRow}
 use Rattle.player_memory.specs.WorkedMemory.{at_1000}
 use Rattle.player_memory.proofs.WorkedMemory.{neither}
-use Rattle.player_memory.specs.WorkedPlays.{beginning, its_memory, PlaysAreWorked, with_lists, far_lists}
-use Rattle.player_memory.specs.WorkedPlays.{its_lists, its_rows, ListsAreWorked}
+use Rattle.player_memory.specs.WorkedPlays.{PlaysWith, beginning, its_memory, PlaysAreWorked, with_lists, far_lists}
+use Rattle.player_memory.specs.WorkedPlays.{PlaysWith, its_lists, its_rows, ListsAreWorked}
 
 -- ---- a voice
 
@@ -48,74 +48,11 @@ register_apart place register (inr high) few e = omega (arith, high, few, e)
 
 pub plays_are_worked : PlaysAreWorked
 plays_are_worked = record {
-  same = record {
-    ends = refl;
-    at_voice = record { x = refl; decimal = refl };
-    plays = record {
-      own = (
-        refl,
-        (
-          refl,
-          (
-            refl,
-            (
-              refl,
-              (
-                refl,
-                (
-                  refl,
-                  (
-                    λ some. absurd (some refl),
-                    (
-                      refl,
-                      (
-                        refl,
-                        (
-                          refl,
-                          (
-                            refl,
-                            (
-                              refl,
-                              (
-                                refl,
-                                (
-                                  refl,
-                                  (
-                                    refl,
-                                    (
-                                      refl,
-                                      (
-                                        refl,
-                                        (refl, (refl, (refl, (refl, (refl, (refl, (refl, (refl, tt)))))))),
-                                      ),
-                                    ),
-                                  ),
-                                ),
-                              ),
-                            ),
-                          ),
-                        ),
-                      ),
-                    ),
-                  ),
-                ),
-              ),
-            ),
-          ),
-        ),
-      );
-      common =
-          (refl, (refl, (refl, (refl, (refl, (refl, (refl, (refl, tt))))))));
-      tempos = its_tempos
-          its_memory refl refl refl;
-    };
-    song = (refl, (refl, (refl, (refl, (refl, (refl, (refl, (refl, (refl, tt)))))))));
-    lent = refl;
-    kept = λ some. (refl, (refl, tt));
-    others = λ its label few other is tempo. refl;
-    registers = λ register few. refl;
-    elsewhere = λ place away. refl;
-  };
+  fully = record { but_slides = same; slides = λ kept row few. record { low = refl; high = refl } };
+  low_slide = λ plays. (let byte = (plays.slides refl 3 (omega arith)).low in omega (arith, byte));
+  high_slide = λ plays. (let byte = (plays.slides refl 3 (omega arith)).high in omega (arith, byte));
+  not_fully = λ plays. (let byte = plays.but_slides.plays.common.1.1.1.1.1.0 in omega (arith, byte));
+  same = same;
   pointer = record {
     ends = refl;
     at_voice = record { x = refl; decimal = refl };
@@ -277,6 +214,76 @@ plays_are_worked = record {
   elsewhere = λ plays. (let byte = plays.elsewhere 0x2000 far in omega (arith, byte));
 }
   where
+    same : PlaysWith its_memory
+    same = record {
+      ends = refl;
+      at_voice = record { x = refl; decimal = refl };
+      plays = record {
+        own = (
+          refl,
+          (
+            refl,
+            (
+              refl,
+              (
+                refl,
+                (
+                  refl,
+                  (
+                    refl,
+                    (
+                      λ some. absurd (some refl),
+                      (
+                        refl,
+                        (
+                          refl,
+                          (
+                            refl,
+                            (
+                              refl,
+                              (
+                                refl,
+                                (
+                                  refl,
+                                  (
+                                    refl,
+                                    (
+                                      refl,
+                                      (
+                                        refl,
+                                        (
+                                          refl,
+                                          (refl, (refl, (refl, (refl, (refl, (refl, (refl, (refl, tt)))))))),
+                                        ),
+                                      ),
+                                    ),
+                                  ),
+                                ),
+                              ),
+                            ),
+                          ),
+                        ),
+                      ),
+                    ),
+                  ),
+                ),
+              ),
+            ),
+          ),
+        );
+        common =
+            (refl, (refl, (refl, (refl, (refl, (refl, (refl, (refl, tt))))))));
+        tempos = its_tempos
+            its_memory refl refl refl;
+      };
+      song = (refl, (refl, (refl, (refl, (refl, (refl, (refl, (refl, (refl, tt)))))))));
+      lent = refl;
+      kept = λ some. (refl, (refl, tt));
+      others = λ its label few other is tempo. refl;
+      registers = λ register few. refl;
+      elsewhere = λ place away. refl;
+    }
+
     far : IsElsewhere at_1000 4 0x2000
     far = record {
       variables = inr (omega arith);

@@ -75,9 +75,14 @@ AreSame (label ∷ labels) one two = (one label ≡ two label) × AreSame labels
 abbrev pub there : Ran → Ran
 there run = record run { outcome = Done }
 
+-- these bytes of the slides are as before
+pub record SlidesStay (layout : Layout) (row : ℕ) (one two : ℕ → ℕ) : Type 0 where
+  pub low : one (layout.address SLIDES_LOW + row) ≡ two (layout.address SLIDES_LOW + row)
+  pub high : one (layout.address SLIDES_HIGH + row) ≡ two (layout.address SLIDES_HIGH + row)
+
 -- A block has come to its end with a voice in this state. It has left where the voice is in its song, whether a command
 -- is lent, the voice's own one meanwhile, the other voices, the registers, and what is elsewhere.
-pub record Plays (layout : Layout) (rows voice : ℕ) (before : Desk) (run : Ran) (s : Playing) : Type 0 where
+pub record PlaysButSlides (layout : Layout) (rows voice : ℕ) (before : Desk) (run : Ran) (s : Playing) : Type 0 where
   pub ends : run.outcome ≡ Done
   pub at_voice : IsAtVoice voice run.desk
   pub plays : IsPlaying layout voice s run.desk.at
@@ -90,10 +95,11 @@ pub record Plays (layout : Layout) (rows voice : ℕ) (before : Desk) (run : Ran
   pub registers : (register : ℕ) → register ≤ 24 → run.desk.at (0xD400 + register) ≡ before.at (0xD400 + register)
   pub elsewhere : (place : ℕ) → IsElsewhere layout rows place → run.desk.at place ≡ before.at place
 
--- these bytes of the slides are as before
-pub record SlidesStay (layout : Layout) (row : ℕ) (one two : ℕ → ℕ) : Type 0 where
-  pub low : one (layout.address SLIDES_LOW + row) ≡ two (layout.address SLIDES_LOW + row)
-  pub high : one (layout.address SLIDES_HIGH + row) ≡ two (layout.address SLIDES_HIGH + row)
+-- and it has left the slides
+pub record Plays (layout : Layout) (rows voice : ℕ) (before : Desk) (run : Ran) (s : Playing) : Type 0 where
+  pub but_slides : PlaysButSlides layout rows voice before run s
+  pub slides : layout.holds NOTE_DEPENDENT ≡ true → (row : ℕ) → row < rows →
+      SlidesStay layout row run.desk.at before.at
 
 -- A block that no voice owns has come to its end with what the voices share in this state, and with these four bytes in
 -- the registers from 21 on. It has left each voice's bytes, what is lent, the other registers, the slides, and what is

@@ -8,7 +8,7 @@ use Rattle.scopes.specs.Meaning.{Outcome, Done, Again, ended}
 use Rattle.player_memory.specs.declared.labels.TheConstants.{TICK, INSTRUMENT, GATE, VIB_DELAY, TEMPO, VOLUME, FUNK_ONE, FUNK_TWO}
 use Rattle.player_memory.specs.declared.labels.TheConstants.{REST, REPEAT, LENT, KEPT_COMMAND, KEPT_PARAM, PULSE_LEFTS}
 use Rattle.player_memory.specs.declared.labels.TheConstants.{PULSE_RIGHTS}
-use Rattle.player_memory.specs.Playing.{IsListed, IsTable, Plays}
+use Rattle.player_memory.specs.Playing.{IsListed, IsTable, Plays, PlaysButSlides}
 use Rattle.player_memory.specs.WorkedMemory.{at_1000}
 
 -- ---- a voice
@@ -48,7 +48,7 @@ its_desk x decimal at = record {
 -- a block of the second voice that has left this memory
 abbrev pub PlaysIn : ℕ → Bool → Outcome → (ℕ → ℕ) → Type 0
 PlaysIn x decimal outcome at =
-    Plays at_1000 4 1 (its_desk 7 false its_memory) (ended outcome (its_desk x decimal at) 0) beginning
+    PlaysButSlides at_1000 4 1 (its_desk 7 false its_memory) (ended outcome (its_desk x decimal at) 0) beginning
 
 abbrev pub PlaysWith : (ℕ → ℕ) → Type 0
 PlaysWith at = PlaysIn 7 false Done at
@@ -59,9 +59,19 @@ lending = with_variable LENT 1 its_memory
 
 abbrev pub PlaysLent : (ℕ → ℕ) → Type 0
 PlaysLent at =
-    Plays at_1000 4 1 (its_desk 7 false lending) (ended Done (its_desk 7 false at) 0) beginning
+    PlaysButSlides at_1000 4 1 (its_desk 7 false lending) (ended Done (its_desk 7 false at) 0) beginning
+
+-- a block that has left the slides, too
+abbrev pub PlaysFully : (ℕ → ℕ) → Type 0
+PlaysFully at =
+    Plays at_1000 4 1 (its_desk 7 false its_memory) (ended Done (its_desk 7 false at) 0) beginning
 
 pub record PlaysAreWorked : Type 0 where
+  pub fully : PlaysFully its_memory
+  -- the last slides of each list, which another block may change
+  pub low_slide : ¬ PlaysFully (put its_memory 0x1103 1)
+  pub high_slide : ¬ PlaysFully (put its_memory 0x1107 1)
+  pub not_fully : ¬ PlaysFully (with_variable VOLUME 14 its_memory)
   pub same : PlaysWith its_memory
   -- the slides and the pointer may be others
   pub pointer : PlaysWith (put its_memory 0xFC 1)

@@ -1,5 +1,5 @@
 -- The code of the pulse step in memory.
-use Rattle.std.proofs.Common.{◌≡◌, ◌≢◌, ℕ, ◌+◌, ◌%◌, ◌<◌, ◌≤◌, ap, subst, arith}
+use Rattle.std.proofs.Common.{◌≡◌, ◌≢◌, ℕ, ◌+◌, ◌%◌, ◌<◌, ◌≤◌, ap, subst, arith, refl}
 use Rattle.song_model.specs.declared.tables.TableName.TheVariants.{Pulse}
 use Rattle.play_model.specs.LookUps.{LookUps}
 use Rattle.play_model.specs.PulseStep.{pulse_step}
@@ -39,7 +39,7 @@ next_at layout rows voice count look desk p has few =
 
 pub pulse_block_steps : PulseBlockSteps
 pulse_block_steps layout rows voice count look s desk room uses has three at playing on kept =
-    plays layout rows voice pulse_tree desk (with_voice (pulse_step look s.voice) s) room uses three at
+    plays layout rows voice pulse_tree desk (with_voice (pulse_step look s.voice) s) refl room uses three at
     (pulse_leads (reader_of layout rows voice desk) look s (lent_of layout desk) (voice_desk layout voice desk)
     (voice_desk layout voice desk) ground on.width on.time kept (begins layout voice desk s playing))
   where

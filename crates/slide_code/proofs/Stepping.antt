@@ -15,10 +15,10 @@ use Rattle.player_memory.specs.declared.labels.TheConstants.{FREQUENCY_LOWS, FRE
 use Rattle.player_memory.specs.declared.labels.TheConstants.{NEXT_FREQUENCY_HIGHS, SPEED_LEFTS, SPEED_RIGHTS, PERIODS}
 use Rattle.player_memory.specs.declared.labels.TheConstants.{SLIDES_LOW, SLIDES_HIGH}
 use Rattle.player_memory.specs.Rooms.{IsRoom, MayUse}
-use Rattle.player_memory.specs.Playing.{place_in, IsAtVoice, Plays, SlidesStay}
+use Rattle.player_memory.specs.Playing.{place_in, IsAtVoice, PlaysButSlides, SlidesStay}
 use Rattle.player_desk.proofs.Laws.{VoiceDesk, Leads, Shows, SlideLowSpot, SlideHighSpot}
 use Rattle.player_desk.proofs.Laws.{done_as, in_scope, ends, leads_on, Done as IsDone, Reads}
-use Rattle.player_desk.proofs.Laws.{reader_of, voice_desk, lent_of, finds, begins, plays, comes}
+use Rattle.player_desk.proofs.Laws.{reader_of, voice_desk, lent_of, finds, begins, plays_but_slides, but_slides_there, comes}
 use Rattle.player_desk.proofs.VoiceDesks.{Either}
 use Rattle.player_text.specs.declared.joints.TheConstants.{EFFECTED}
 use Rattle.slide_code.specs.SlideBlock.{slide_tree, moved_by, arrives, HasHalfTones, HasSpeeds, way_of}
@@ -83,21 +83,6 @@ speed_at layout rows voice count look desk p room has few =
     row kept = (let most = has.slides kept in omega (arith, most, few))
 
 -- ---- a block that leaves a scope
-
--- the same memory at the block's end
-come_there : (layout : Layout) (rows voice : ℕ) (before : Desk) (run other : Ran) (s : Playing) →
-    run.desk ≡ other.desk → Plays layout rows voice before other s → Plays layout rows voice before (there run) s
-come_there layout rows voice before run other s e p = record {
-  ends = refl;
-  at_voice = rw e p.at_voice;
-  plays = rw e p.plays;
-  song = rw e p.song;
-  lent = rw e p.lent;
-  kept = rw e p.kept;
-  others = rw e p.others;
-  registers = rw e p.registers;
-  elsewhere = rw e p.elsewhere;
-}
 
 -- behind the block nothing is come to
 abbrev outside : Layout → Ran → Ran
@@ -168,7 +153,7 @@ slides : (layout : Layout) (rows voice command : ℕ) (look : LookUps) (s : Play
     (voice_desk layout voice desk) → (b : Bool) → arrives command look s.voice ≡ b →
     Slides layout rows voice desk (ran each_one layout slide_tree desk) command look s
 slides layout rows voice command look s desk room uses few at leads true e =
-    let p = plays layout rows voice slide_tree desk s room uses few at
+    let p = plays_but_slides layout rows voice slide_tree desk s room uses few at
     (leads_on true g.r slide_tree (slide_ways g) (ends (IsDone voice s g.handed g.d)) g.d
     (record { done = λ m done. done.tells.done; left = λ name m q. absurd (never name m q); again = λ m q. q }) leads)
     in
@@ -178,8 +163,8 @@ slides layout rows voice command look s desk room uses few at leads true e =
     record {
       way = p.ends ∙ ap way_of (sym e);
       plays =
-          subst (λ v. Plays layout rows voice desk (there run) (with_voice v s)) (sym stays)
-          (come_there layout rows voice desk run run s refl p);
+          subst (λ v. PlaysButSlides layout rows voice desk (there run) (with_voice v s)) (sym stays)
+          (but_slides_there layout rows voice desk run run s refl p);
       note = λ yes. record {
         number = came.shows.a ∙ came.holds.number;
         is = subst (λ a. moved_by command look s.voice ≡ with_note a s.voice) (sym came.shows.a) came.holds.is;
@@ -203,7 +188,7 @@ slides layout rows voice command look s desk room uses few at leads true e =
         by_name true effected = both_ways _ effected.passes e
         by_name false none = none
 slides layout rows voice command look s desk room uses few at leads false e =
-    let p = plays layout rows voice tree desk (with_voice (moved_by command look s.voice) s) room uses few at
+    let p = plays_but_slides layout rows voice tree desk (with_voice (moved_by command look s.voice) s) room uses few at
     (leads_on true g.r slide_tree (slide_ways g)
     (done_as (λ m. ⊥) (in_scope EFFECTED
     (ends (IsDone voice (with_voice (moved_by command look s.voice) s) g.handed g.d))))
@@ -223,8 +208,9 @@ slides layout rows voice command look s desk room uses few at leads false e =
     let way = left_it layout run run.outcome refl p.ends in record {
       way = way ∙ ap way_of (sym e);
       plays =
-          subst (λ v. Plays layout rows voice desk (there run) (with_voice v s)) (sym moves)
-          (come_there layout rows voice desk run (outside layout run) (with_voice (moved_by command look s.voice) s)
+          subst (λ v. PlaysButSlides layout rows voice desk (there run) (with_voice v s)) (sym moves)
+          (but_slides_there layout rows voice desk run (outside layout run)
+          (with_voice (moved_by command look s.voice) s)
           (same_desk layout run way) p);
       note = λ yes. absurd (both_ways _ e yes);
       slides = λ kept row small plain.

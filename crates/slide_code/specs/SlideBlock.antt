@@ -23,7 +23,7 @@ use Rattle.player_memory.specs.declared.labels.TheConstants.{FREQUENCY_LOWS, FRE
 use Rattle.player_memory.specs.declared.labels.TheConstants.{NEXT_FREQUENCY_HIGHS, SPEED_LEFTS, SPEED_RIGHTS, PERIODS}
 use Rattle.player_memory.specs.declared.labels.TheConstants.{SLIDES_LOW, SLIDES_HIGH}
 use Rattle.player_memory.specs.Rooms.{IsRoom, MayUse}
-use Rattle.player_memory.specs.Playing.{IsListed, IsRow, IsPlaying, IsAtVoice, Plays, SlidesStay, with_voice, there}
+use Rattle.player_memory.specs.Playing.{IsListed, IsRow, IsPlaying, IsAtVoice, PlaysButSlides, SlidesStay, with_voice, there}
 use Rattle.player_text.specs.declared.joints.TheConstants.{EFFECTED}
 use Rattle.player_text.specs.Steps.{effect_tree}
 
@@ -166,7 +166,7 @@ pub record SetsNote (command : ℕ) (look : LookUps) (v : Voice) (a : ℕ) : Typ
 pub record Slides (layout : Layout) (rows voice : ℕ) (before : Desk) (run : Ran) (command : ℕ) (look : LookUps)
     (s : Playing) : Type 0 where
   pub way : run.outcome ≡ way_of (arrives command look s.voice)
-  pub plays : Plays layout rows voice before (there run) (with_voice (left_by command look s.voice) s)
+  pub plays : PlaysButSlides layout rows voice before (there run) (with_voice (left_by command look s.voice) s)
   pub note : arrives command look s.voice ≡ true → SetsNote command look s.voice run.desk.cpu.a
   -- slides are as before, but those that are calculated
   pub slides : layout.holds NOTE_DEPENDENT ≡ true → (row : ℕ) → row < rows → (look.row Speed row).left < 128 →

@@ -2,7 +2,6 @@
 use Rattle.std.proofs.Common.{◌≡◌, ◌≢◌, ℕ, ◌+◌, ◌<◌, ◌≤◌, Bool, true, false, nat_eq, refl, sym, ap, ◌∙◌, subst, arith}
 use Rattle.std.proofs.lemmas.Bool.{both_ways, eqb-true}
 use Rattle.play_model.specs.LookUps.{LookUps}
-use Rattle.play_model.specs.State.{Playing}
 use Rattle.play_model.specs.TickStep.{Ticked, tick_step}
 use Rattle.scopes.specs.Desk.{Desk, Layout}
 use Rattle.scopes.specs.Trees.{Tree, ThenTree, ScopeTree, NeverTree}
@@ -10,32 +9,16 @@ use Rattle.scopes.specs.Meaning.{Outcome, Done, Left, Again, Stuck, Ran, each_on
 use Rattle.player_memory.specs.declared.labels.TheConstants.{ADS, SRS, WAVES, PULSES, FILTERS, VIBRATOS, DELAYS}
 use Rattle.player_memory.specs.declared.labels.TheConstants.{GATE_TIMERS, FIRST_WAVES, SPEED_LEFTS, SPEED_RIGHTS}
 use Rattle.player_memory.specs.Rooms.{IsRoom, MayUse}
-use Rattle.player_memory.specs.Playing.{IsAtVoice, Plays}
+use Rattle.player_memory.specs.Playing.{IsAtVoice}
 use Rattle.player_desk.proofs.Laws.{VoiceDesk, Reader, Ways, Leads, done_as, in_scope, ends, leads_on, Done as IsDone}
-use Rattle.player_desk.proofs.Laws.{reader_of, voice_desk, lent_of, finds, begins, plays}
+use Rattle.player_desk.proofs.Laws.{reader_of, voice_desk, lent_of, finds, begins, plays, come_there, leaves_slides}
 use Rattle.player_desk.proofs.VoiceDesks.{Either}
 use Rattle.player_text.specs.declared.joints.TheConstants.{SOUNDS}
 use Rattle.tick_code.specs.TickBlock.{tick_tree, HasInstrument, HasTickLists, way_of, Ticks, TickBlockSteps}
-use Rattle.player_memory.specs.Playing.{there}
 use Rattle.tick_code.proofs.TickGrounds.{InstrumentAt, SpeedAt, TickGround, TickDone, ways_of}
 use Rattle.tick_code.proofs.Ticks.{tick_leads}
 
 -- ---- a block that leaves a scope
-
--- the same memory at the block's end
-come_there : (layout : Layout) (rows voice : ℕ) (before : Desk) (run other : Ran) (s : Playing) →
-    run.desk ≡ other.desk → Plays layout rows voice before other s → Plays layout rows voice before (there run) s
-come_there layout rows voice before run other s e p = record {
-  ends = refl;
-  at_voice = rw e p.at_voice;
-  plays = rw e p.plays;
-  song = rw e p.song;
-  lent = rw e p.lent;
-  kept = rw e p.kept;
-  others = rw e p.others;
-  registers = rw e p.registers;
-  elsewhere = rw e p.elsewhere;
-}
 
 -- behind the block nothing is come to
 abbrev outside : Layout → Ran → Ran
@@ -79,13 +62,14 @@ same_desk layout run e = rw e refl
 
 -- ---- both ways
 
-ticks : (layout : Layout) (rows voice : ℕ) (tree : Tree) (desk : Desk) (t : Ticked) → IsRoom layout rows →
+ticks : (layout : Layout) (rows voice : ℕ) (tree : Tree) (desk : Desk) (t : Ticked) →
+    leaves_slides tree ≡ true → IsRoom layout rows →
     MayUse layout rows → voice < 3 → IsAtVoice voice desk →
     Leads (reader_of layout rows voice desk) tree (ways_of voice t (lent_of layout desk) (voice_desk layout voice desk))
     (voice_desk layout voice desk) → (b : Bool) → t.started ≡ b →
     Ticks layout rows voice desk (ran each_one layout tree desk) t
-ticks layout rows voice tree desk t room uses few at leads false e =
-    let p = plays layout rows voice tree desk t.playing room uses few at
+ticks layout rows voice tree desk t leaves room uses few at leads false e =
+    let p = plays layout rows voice tree desk t.playing leaves room uses few at
     (leads_on true r tree ways (ends Q) d
     (record {
       done = λ m done. done.done;
@@ -93,7 +77,7 @@ ticks layout rows voice tree desk t room uses few at leads false e =
       again = λ m q. q;
     }) leads) in
     record {
-      way = p.ends ∙ ap way_of (sym e);
+      way = p.but_slides.ends ∙ ap way_of (sym e);
       plays = come_there layout rows voice desk run run t.playing refl p;
     }
   where
@@ -118,15 +102,16 @@ ticks layout rows voice tree desk t room uses few at leads false e =
         by_name : (z : Bool) → Either z (TickDone voice t true (lent_of layout desk) d m) ⊥ → ⊥
         by_name true done = both_ways t.started e done.is
         by_name false none = none
-ticks layout rows voice tree desk t room uses few at leads true e =
-    let p = plays layout rows voice (ScopeTree SOUNDS (ThenTree tree NeverTree)) desk t.playing room uses few at
+ticks layout rows voice tree desk t leaves room uses few at leads true e =
+    let p = plays layout rows voice (ScopeTree SOUNDS (ThenTree tree NeverTree)) desk t.playing (rw leaves refl) room
+    uses few at
     (leads_on true r tree ways (done_as (λ m. ⊥) (in_scope SOUNDS (ends Q))) d
     (record {
       done = λ m done. absurd (both_ways t.started done.is e);
       left = λ name m q. by_name (nat_eq name SOUNDS) m q;
       again = λ m q. q;
     }) leads) in
-    let way = left_it layout run run.outcome refl p.ends in record {
+    let way = left_it layout run run.outcome refl p.but_slides.ends in record {
       way = way ∙ ap way_of (sym e);
       plays = come_there layout rows voice desk run (outside layout run) t.playing (same_desk layout run way) p;
     }
@@ -180,7 +165,7 @@ speed_at layout rows voice instruments speeds look desk p has some few = record 
 
 pub tick_block_steps : TickBlockSteps
 tick_block_steps layout rows voice instruments speeds look s desk room uses has few at playing on keeps =
-    ticks layout rows voice tick_tree desk (tick_step (voice + 1) look s) room uses few at
+    ticks layout rows voice tick_tree desk (tick_step (voice + 1) look s) refl room uses few at
     (tick_leads (reader_of layout rows voice desk) look s (lent_of layout desk) (voice_desk layout voice desk)
     (voice_desk layout voice desk) few room ground keeps (begins layout voice desk s playing))
     (tick_step (voice + 1) look s).started refl

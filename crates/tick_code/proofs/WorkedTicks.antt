@@ -494,8 +494,9 @@ tick_is_worked = record {
   others = record {
     goes_on = λ ticks. (let e = ticks.way in absurd (cc));
     elsewhere = λ ticks. (let e = ticks.way in both_ways (is_left SOUNDS (Left TICKED)) refl (ap (is_left SOUNDS) e));
-    gate = λ ticks. (let byte = ticks.plays.plays.own.1.1.1.1.1.1.1.1.1.1.1.1.1.1.0 in omega (arith, byte));
-    place = λ ticks. (let byte = ticks.plays.elsewhere 0x3000 (elsewhere 0x3000 (omega arith) (omega arith)) in
+    gate = λ ticks. (let byte = ticks.plays.but_slides.plays.own.1.1.1.1.1.1.1.1.1.1.1.1.1.1.0 in omega (arith, byte));
+    place = λ ticks. (let byte = ticks.plays.but_slides.elsewhere 0x3000
+        (elsewhere 0x3000 (omega arith) (omega arith)) in
         omega (arith, byte));
   };
 }

@@ -30,7 +30,7 @@ begins_running : (layout : Layout) (rows voice : ℕ) (look : LookUps) (s : Play
     Begins layout rows voice desk (ran each_one layout effect_begun_tree desk) look s
 begins_running layout rows voice look s desk room uses few at leads way =
     let went = leaves_so RUNNING layout rows voice effect_begun_tree desk (state_of (layout.holds SKIP_EFFECTS) look s)
-    room uses few at (AtRunning r look s handed d)
+    refl room uses few at (AtRunning r look s handed d)
     (λ P f.
     leads_on true r effect_begun_tree (effect_ways r look s handed d) (done_as (λ m. ⊥) (in_scope RUNNING (ends P))) d
     (record {
@@ -64,7 +64,7 @@ begins_effected : (layout : Layout) (rows voice : ℕ) (look : LookUps) (s : Pla
     Begins layout rows voice desk (ran each_one layout effect_begun_tree desk) look s
 begins_effected layout rows voice look s desk room uses few at leads way =
     let went = leaves_so EFFECTED layout rows voice effect_begun_tree desk (state_of (layout.holds SKIP_EFFECTS) look s)
-    room uses few at (AtEffected r look s handed d)
+    refl room uses few at (AtEffected r look s handed d)
     (λ P f.
     leads_on true r effect_begun_tree (effect_ways r look s handed d) (done_as (λ m. ⊥) (in_scope EFFECTED (ends P))) d
     (record {

@@ -77,7 +77,8 @@ commands_leave_the_program look c x p s which =
 
 pub command_block_does : CommandBlockDoes
 command_block_does layout rows voice number command param look s desk room uses few at playing here which keeps =
-    let went = leaves_so EFFECTED layout rows voice command_row_tree desk (wave_command look command param s) room uses
+    let went = leaves_so EFFECTED layout rows voice command_row_tree desk (wave_command look command param s) refl
+    room uses
     few at (AtOnce r look command param s handed d)
     (λ P f.
     leads_on true r command_row_tree (command_ways r look command param s handed d)

@@ -8,23 +8,8 @@ use Rattle.scopes.specs.Meaning.{Outcome, Done, Left, Again, Stuck, Ran, each_on
 use Rattle.player_memory.specs.Rooms.{IsRoom, MayUse}
 use Rattle.player_memory.specs.Playing.{IsAtVoice, Plays}
 use Rattle.player_desk.proofs.Laws.{VoiceDesk, Leads, ends, reader_of, voice_desk, lent_of}
-use Rattle.player_desk.proofs.Laws.{Done as IsDone, plays, comes}
+use Rattle.player_desk.proofs.Laws.{Done as IsDone, plays, comes, come_there, leaves_slides}
 use Rattle.player_memory.specs.Playing.{there}
-
--- the same memory at the block's end
-come_there : (layout : Layout) (rows voice : ℕ) (before : Desk) (run other : Ran) (s : Playing) →
-    run.desk ≡ other.desk → Plays layout rows voice before other s → Plays layout rows voice before (there run) s
-come_there layout rows voice before run other s e p = record {
-  ends = refl;
-  at_voice = rw e p.at_voice;
-  plays = rw e p.plays;
-  song = rw e p.song;
-  lent = rw e p.lent;
-  kept = rw e p.kept;
-  others = rw e p.others;
-  registers = rw e p.registers;
-  elsewhere = rw e p.elsewhere;
-}
 
 -- in a scope behind which nothing is come to
 abbrev outside : ℕ → Layout → Ran → Ran
@@ -80,16 +65,17 @@ pub record Went (layout : Layout) (rows voice : ℕ) (desk : Desk) (Q : VoiceDes
   pub holds : Q after
 
 -- to the end
-pub ends_so : (layout : Layout) (rows voice : ℕ) (tree : Tree) (desk : Desk) (t : Playing) → IsRoom layout rows →
+pub ends_so : (layout : Layout) (rows voice : ℕ) (tree : Tree) (desk : Desk) (t : Playing) →
+    leaves_slides tree ≡ true → IsRoom layout rows →
     MayUse layout rows → voice < 3 → IsAtVoice voice desk → (Q : VoiceDesk → Type 0) →
     ((P : VoiceDesk → Type 0) → ((m : VoiceDesk) → Q m → P m) →
     Leads (reader_of layout rows voice desk) tree (ends P) (voice_desk layout voice desk)) →
     ((m : VoiceDesk) → Q m → IsDone voice t (lent_of layout desk) (voice_desk layout voice desk) m) →
     Went layout rows voice desk Q (ran each_one layout tree desk) t Done
-ends_so layout rows voice tree desk t room uses few at Q leads done =
-    let p = plays layout rows voice tree desk t room uses few at (leads _ done) in
+ends_so layout rows voice tree desk t leaves room uses few at Q leads done =
+    let p = plays layout rows voice tree desk t leaves room uses few at (leads _ done) in
     let c = comes layout rows voice tree desk Q room uses few at (leads Q (λ m q. q)) in record {
-      way = p.ends;
+      way = p.but_slides.ends;
       plays = come_there layout rows voice desk (ran each_one layout tree desk) (ran each_one layout tree desk) t refl
           p;
       after = c.after;
@@ -100,19 +86,20 @@ ends_so layout rows voice tree desk t room uses few at Q leads done =
 
 -- out of a scope
 pub leaves_so : (scope : ℕ) (layout : Layout) (rows voice : ℕ) (tree : Tree) (desk : Desk) (t : Playing) →
-    IsRoom layout rows → MayUse layout rows → voice < 3 → IsAtVoice voice desk → (Q : VoiceDesk → Type 0) →
-    ((P : VoiceDesk → Type 0) → ((m : VoiceDesk) → Q m → P m) →
+    leaves_slides tree ≡ true → IsRoom layout rows → MayUse layout rows → voice < 3 → IsAtVoice voice desk →
+    (Q : VoiceDesk → Type 0) → ((P : VoiceDesk → Type 0) → ((m : VoiceDesk) → Q m → P m) →
     Leads (reader_of layout rows voice desk) (ScopeTree scope (ThenTree tree NeverTree)) (ends P)
     (voice_desk layout voice desk)) →
     ((m : VoiceDesk) → Q m → IsDone voice t (lent_of layout desk) (voice_desk layout voice desk) m) →
     Went layout rows voice desk Q (ran each_one layout tree desk) t (Left scope)
-leaves_so scope layout rows voice tree desk t room uses few at Q leads done =
+leaves_so scope layout rows voice tree desk t leaves room uses few at Q leads done =
     let run = ran each_one layout tree desk in
-    let p = plays layout rows voice (ScopeTree scope (ThenTree tree NeverTree)) desk t room uses few at (leads _ done)
+    let p = plays layout rows voice (ScopeTree scope (ThenTree tree NeverTree)) desk t (rw leaves refl) room uses few
+    at (leads _ done)
     in
     let c = comes layout rows voice (ScopeTree scope (ThenTree tree NeverTree)) desk Q room uses few at
     (leads Q (λ m q. q)) in
-    let way = left_it scope layout run run.outcome refl p.ends in
+    let way = left_it scope layout run run.outcome refl p.but_slides.ends in
     let same = same_desk scope layout run way in record {
       way = way;
       plays = come_there layout rows voice desk run (outside scope layout run) t same p;

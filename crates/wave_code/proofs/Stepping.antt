@@ -53,7 +53,7 @@ ways_end : (layout : Layout) (rows voice : ℕ) (look : LookUps) (s : Playing) (
     (wave_ways voice look s (lent_of layout desk) (voice_desk layout voice desk)) (voice_desk layout voice desk) →
     (wave_step look s).effect ≡ true → Waves layout rows voice desk (ran each_one layout wave_tree desk) look s
 ways_end layout rows voice look s desk room uses few at leads runs =
-    let went = ends_so layout rows voice wave_tree desk (wave_step look s).playing room uses few at
+    let went = ends_so layout rows voice wave_tree desk (wave_step look s).playing refl room uses few at
     (AtEnd voice look s handed d)
     (λ P f.
     leads_on true r wave_tree (wave_ways voice look s handed d) (ends P) d
@@ -92,7 +92,7 @@ ways_pitch : (layout : Layout) (rows voice : ℕ) (look : LookUps) (s : Playing)
     (wave_step look s).effect ≡ false → is_wave_command (its_row look s.voice) ≡ false →
     Waves layout rows voice desk (ran each_one layout wave_tree desk) look s
 ways_pitch layout rows voice look s desk room uses few at leads rests note_row =
-    let went = leaves_so PITCHED layout rows voice wave_tree desk (begun look s) room uses few at
+    let went = leaves_so PITCHED layout rows voice wave_tree desk (begun look s) refl room uses few at
     (AtPitch voice look s handed d)
     (λ P f.
     leads_on true r wave_tree (wave_ways voice look s handed d) (done_as (λ m. ⊥) (in_scope PITCHED (ends P))) d
@@ -132,7 +132,7 @@ ways_command : (layout : Layout) (rows voice : ℕ) (look : LookUps) (s : Playin
     (wave_step look s).effect ≡ false → is_wave_command (its_row look s.voice) ≡ true →
     Waves layout rows voice desk (ran each_one layout wave_tree desk) look s
 ways_command layout rows voice look s desk room uses few at leads rests is =
-    let went = leaves_so COMMANDED layout rows voice wave_tree desk (begun look s) room uses few at
+    let went = leaves_so COMMANDED layout rows voice wave_tree desk (begun look s) refl room uses few at
     (AtCommand voice look s handed d)
     (λ P f.
     leads_on true r wave_tree (wave_ways voice look s handed d) (done_as (λ m. ⊥) (in_scope COMMANDED (ends P))) d
