@@ -4,8 +4,11 @@ ghost use Rattle.scope_calls.specs.EntranceLaws.{EntrancesReturn, CallsAreShort,
 ghost use Rattle.scope_calls.specs.EntranceLaws.{OthersStay, ListingsStay, CodeStays, CodeIsShared, FlagsAreClear};
 ghost use Rattle.scope_calls.specs.Entrances.{EntrancesTakeSize};
 ghost use Rattle.scope_calls.specs.Homes.{EntranceLinesAreAtHome, EntranceLinesAreNotRefused};
-ghost use Rattle.scope_calls.specs.WorkedEntrances.{VolumeIsCalled, VoicesAreCalled, VolumeStoresThere, VoicesStoreThere, VolumeIsApart, NumberIsNotApart, NoCallInBlocks, NothingIsAround, ListingsAgree, VoicesAreBlocks};
-ghost use Rattle.scope_calls.specs.WorkedEntrances.{AIsNotKnown, YIsNotKnown, LabelsAreUsed, StoredIsUsed, FirstMustEnd, VoicesMustEnd};
+ghost use Rattle.scope_calls.specs.WorkedEntrances.{VolumeIsCalled, VoicesAreCalled, VolumeStoresThere};
+ghost use Rattle.scope_calls.specs.WorkedEntrances.{VoicesStoreThere, VolumeIsApart, NumberIsNotApart, NoCallInBlocks};
+ghost use Rattle.scope_calls.specs.WorkedEntrances.{NothingIsAround, ListingsAgree, VoicesAreBlocks};
+ghost use Rattle.scope_calls.specs.WorkedEntrances.{AIsNotKnown, YIsNotKnown, LabelsAreUsed, StoredIsUsed};
+ghost use Rattle.scope_calls.specs.WorkedEntrances.{FirstMustEnd, VoicesMustEnd};
 
 /// A machine of 65,536 bytes that holds the code of a well entered entrance, and is called at it with any number in A,
 /// returns in the machine whose memory is what the entrance means, where its blocks come to their ends. The steps are
@@ -76,7 +79,6 @@ pub fn worked_entrances()
 
 /// Where the two write, that the code of the first is apart from that, and when two machines have the same listing; and
 /// which lines may be done for each voice.
-#[tactic(auto, using(crate::proofs::WorkedEntrances::volume_stores_there, crate::proofs::WorkedEntrances::voices_store_there, crate::proofs::WorkedEntrances::volume_is_apart, crate::proofs::WorkedEntrances::number_is_not_apart, crate::proofs::WorkedEntrances::listings_agree, crate::proofs::WorkedEntrances::voices_are_blocks))]
 pub fn worked_places()
     ensures volume { VolumeStoresThere }
     ensures voices { VoicesStoreThere }

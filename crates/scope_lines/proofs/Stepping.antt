@@ -1,5 +1,6 @@
 -- One instruction, where it stands, does what it does on the desk.
-use Rattle.std.proofs.Common.{◌≡◌, ℕ, ◌+◌, ◌*◌, ◌%◌, ◌<◌, ◌≤◌, ◌||◌, Bool, true, false, List, [], ◌∷◌, Option, Some, None}
+use Rattle.std.proofs.Common.{◌≡◌, ℕ, ◌+◌, ◌*◌, ◌%◌, ◌<◌, ◌≤◌, ◌||◌, Bool, true}
+use Rattle.std.proofs.Common.{false, List, [], ◌∷◌, Option, Some, None}
 use Rattle.std.proofs.Common.{Result, Ok, Err, refl, ap, ◌∙◌, subst, arith, if◌then◌else◌}
 use Rattle.std.proofs.lemmas.Bool.{false≢true, and_parts}
 use Rattle.std.specs.Option.{is_some, option_map}
@@ -18,10 +19,11 @@ use Rattle.code_runs.specs.Code.{place_of, Stands}
 use Rattle.code_runs.specs.Runs.{put_all, Allowed, Leads}
 use Rattle.code_runs.specs.Calls.{In}
 use Rattle.code_runs.proofs.Laws.{stay, does}
-use Rattle.code_runs.proofs.Modes.{standing_has_effect}
+use Rattle.code_runs.proofs.Laws.{standing_has_effect}
 use Rattle.asm6502.specs.Operands.{number_of}
 use Rattle.scopes.specs.declared.line.Operand.{Operand}
-use Rattle.scopes.specs.declared.line.Operand.TheVariants.{Number, Var, Own, Entry, Pointed, Pointer, Register, OwnRegister, Timer}
+use Rattle.scopes.specs.declared.line.Operand.TheVariants.{Number, Var, Own, Entry, Pointed, Pointer, Register}
+use Rattle.scopes.specs.declared.line.Operand.TheVariants.{OwnRegister, Timer}
 use Rattle.scopes.specs.Desk.{Desk, Layout, operand_place, operand_read}
 use Rattle.scopes.specs.Steps.{all_may, effected, unless_stopped, is_store, may_see, may_change, done, done_with}
 use Rattle.scope_lines.specs.Instructions.{mode_of, argument_of, alone_mode, is_plain, is_spelled}

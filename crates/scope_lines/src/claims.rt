@@ -39,7 +39,6 @@ pub fn lowered_lines_are_not_refused()
 
 /// Two blocks at `$1000`, worked by hand: their bytes, a site that is well placed, states that enter it, and where
 /// these come to. So what the theorems on lowered blocks ask is met there.
-#[tactic(auto, using(crate::proofs::WorkedSites::sought_is_lowered, crate::proofs::WorkedSites::summed_is_lowered, crate::proofs::WorkedSites::others_are_not_isolated))]
 pub fn worked_sites()
     ensures sought { SoughtIsLowered }
     ensures summed { SummedIsLowered }
