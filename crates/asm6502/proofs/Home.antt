@@ -1,5 +1,7 @@
 -- Lines that are at home in a stretch pass every test in any listing around it.
-use Rattle.std.proofs.Common.{◌≡◌, ℕ, ◌+◌, ◌%◌, ◌≤◌, Bool, true, false, ◌&&◌, not, List, [], ◌∷◌, ◌++◌, length, Option, Some, None, if◌then◌else◌, refl, ap, sym, ◌∙◌, subst, arith, append_assoc, inl, inr, ◌⊎◌}
+use Rattle.std.proofs.Common.{◌≡◌, ℕ, ◌+◌, ◌%◌, ◌≤◌, Bool, true, false, ◌&&◌, not, List, []}
+use Rattle.std.proofs.Common.{◌∷◌, ◌++◌, length, Option, Some, None, if◌then◌else◌, refl, ap, sym}
+use Rattle.std.proofs.Common.{◌∙◌, subst, arith, append_assoc, inl, inr, ◌⊎◌}
 use Rattle.std.specs.Prelude.{IsTrue}
 use Rattle.std.specs.Option.{option_or, option_map, is_some}
 use Rattle.std.proofs.lemmas.Bool.{eqb-true, eq-eqb}
@@ -13,9 +15,11 @@ use Rattle.asm6502.specs.declared.lines.Item.TheVariants.{Label as Named, Code, 
 use Rattle.asm6502.specs.declared.lines.Line.{Line}
 use Rattle.asm6502.specs.declared.faults.AsmFault.TheVariants.{BadLine, DoubleLabel, BranchTooFar}
 use Rattle.asm6502.specs.Branches.{branch_byte}
-use Rattle.asm6502.specs.Lines.{is_part_kept, is_kept, kept, item_size, size_of, names, place_of, address_in, label_used, label_named, is_no_part, is_sound}
+use Rattle.asm6502.specs.Lines.{is_part_kept, is_kept, kept, item_size, size_of, names, place_of, address_in}
+use Rattle.asm6502.specs.Lines.{label_used, label_named, is_no_part, is_sound}
 use Rattle.asm6502.specs.Faults.{bad_line, double_in, double_label, unknown_in, unknown_label, is_far_item, far_branch, fault_of}
-use Rattle.asm6502.specs.Stretches.{NamesNoLabelTwice, NamesAppend, NamesSplit, NamesFor, IsNamedIn, branch_of, IsReachedAfter, IsReachedBefore, IsAtHome, AtHome, NamesOthers, Passes}
+use Rattle.asm6502.specs.Stretches.{NamesNoLabelTwice, NamesAppend, NamesSplit, NamesFor, IsNamedIn, branch_of}
+use Rattle.asm6502.specs.Stretches.{IsReachedAfter, IsReachedBefore, IsAtHome, AtHome, NamesOthers, Passes}
 use Rattle.asm6502.proofs.Naming.{size_of-append, place_of-append}
 use Rattle.asm6502.proofs.Found.{all_passed}
 use Rattle.asm6502.proofs.Reaches.{branches_reach_after, branches_reach_before}

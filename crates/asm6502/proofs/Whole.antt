@@ -1,5 +1,7 @@
 -- What a listing with which nothing is wrong is assembled to, here and at another origin.
-use Rattle.std.proofs.Common.{◌≡◌, ℕ, ◌+◌, ◌≤◌, Bool, true, false, ◌&&◌, not, List, [], ◌∷◌, ◌++◌, length, Option, Some, None, unwrap_or, nat_lt, if◌then◌else◌, refl, ap, sym, ◌∙◌, subst, inl, inr, arith, append_assoc, ◌⊎◌}
+use Rattle.std.proofs.Common.{◌≡◌, ℕ, ◌+◌, ◌≤◌, Bool, true, false, ◌&&◌, not, List, [], ◌∷◌}
+use Rattle.std.proofs.Common.{◌++◌, length, Option, Some, None, unwrap_or, nat_lt, if◌then◌else◌, refl, ap}
+use Rattle.std.proofs.Common.{sym, ◌∙◌, subst, inl, inr, arith, append_assoc, ◌⊎◌}
 use mathlib.Core.Path.{fun_ext}
 use Rattle.std.specs.Option.{option_or, is_some}
 use Rattle.std.proofs.lemmas.Bool.{le-ltb, ltb-false}
@@ -18,7 +20,8 @@ use Rattle.asm6502.specs.declared.faults.AsmFault.TheVariants.{PastEnd, BranchTo
 use Rattle.asm6502.specs.Operands.{is_relative}
 use Rattle.asm6502.specs.Lines.{is_kept, kept, size_of, address_in}
 use Rattle.asm6502.specs.Assembly.{bytes_of, fixes_of, assembled_bytes, assembled_fixes}
-use Rattle.asm6502.specs.Faults.{first_fault, bad_line, double_label, unknown_label, past_end, is_far_item, far_by, far_branch, fault_of}
+use Rattle.asm6502.specs.Faults.{first_fault, bad_line, double_label, unknown_label, past_end, is_far_item, far_by}
+use Rattle.asm6502.specs.Faults.{far_branch, fault_of}
 use Rattle.asm6502.specs.Fixes.{InOrder, NumbersStand, with_numbers}
 use Rattle.asm6502.specs.Places.{HasPlaces, address_by, IsWritten}
 use Rattle.asm6502.specs.Moving.{IsMoved, IsAssembly}

@@ -1,5 +1,6 @@
 -- How far a branch reaches. Source: the MOS 6502 programming manual.
-use Rattle.std.specs.Prelude.{◌≡◌, ◌≢◌, ℕ, ◌+◌, ◌-◌, ◌*◌, ◌%◌, ◌<◌, ◌≤◌, Option, Some, None, nat_lt, if◌then◌else◌}
+use Rattle.std.specs.Prelude.{◌≡◌, ◌≢◌, ℕ, ◌+◌, ◌-◌, ◌*◌, ◌%◌, ◌<◌, ◌≤◌, Option}
+use Rattle.std.specs.Prelude.{Some, None, nat_lt, if◌then◌else◌}
 use Rattle.cpu6502.specs.declared.memory.TheConstants.{MEMORY_SIZE}
 use Rattle.cpu6502.specs.Effects.{displacement}
 
@@ -18,7 +19,8 @@ branch_byte pc target =
 -- the displacement byte is one that leads to the target
 abbrev pub BranchesReach : Type 0
 BranchesReach =
-    (pc target byte : ℕ) → pc ≤ MEMORY_SIZE → target < MEMORY_SIZE → branch_byte pc target ≡ Some byte → (byte < 256)
+    (pc target byte : ℕ) → pc ≤ MEMORY_SIZE → target < MEMORY_SIZE → branch_byte pc target ≡ Some byte →
+    (byte < 256)
     × ((pc + 2 + displacement byte) % MEMORY_SIZE ≡ target)
 
 -- and where there is none, no displacement leads there
@@ -30,7 +32,8 @@ FarIsOutOfReach =
 -- a branch depends on distances alone: as far apart at another place, it has the same byte, or none
 abbrev pub BranchesKeepDistance : Type 0
 BranchesKeepDistance =
-    (pc target pc' target' : ℕ) → pc ≤ MEMORY_SIZE → pc' ≤ MEMORY_SIZE → target < MEMORY_SIZE → target' < MEMORY_SIZE →
+    (pc target pc' target' : ℕ) → pc ≤ MEMORY_SIZE → pc' ≤ MEMORY_SIZE → target < MEMORY_SIZE →
+    target' < MEMORY_SIZE →
     (target + pc') % MEMORY_SIZE ≡ (target' + pc) % MEMORY_SIZE → branch_byte pc target ≡ branch_byte pc' target'
 
 -- a branch over n bytes to what stands after them
@@ -40,4 +43,5 @@ BranchesReachAfter = (pc n : ℕ) → pc ≤ MEMORY_SIZE → n ≤ 127 → branc
 -- a branch back over n bytes to what stands before them
 abbrev pub BranchesReachBefore : Type 0
 BranchesReachBefore =
-    (start n : ℕ) → start + n ≤ MEMORY_SIZE → n ≤ 126 → branch_byte (start + n) (start % MEMORY_SIZE) ≡ Some (254 - n)
+    (start n : ℕ) → start + n ≤ MEMORY_SIZE → n ≤ 126 →
+    branch_byte (start + n) (start % MEMORY_SIZE) ≡ Some (254 - n)

@@ -1,6 +1,7 @@
 -- What is wrong with a listing: the first of five refusals, in their order, each at its first place in the listing.
 -- This is the assembler's own profile.
-use Rattle.std.specs.Prelude.{◌≡◌, ℕ, ◌+◌, ◌&&◌, ◌||◌, Bool, false, List, [], ◌∷◌, ◌++◌, length, Option, Some, None, nat_lt, not, if◌then◌else◌}
+use Rattle.std.specs.Prelude.{◌≡◌, ℕ, ◌+◌, ◌&&◌, ◌||◌, Bool, false, List, [], ◌∷◌, ◌++◌}
+use Rattle.std.specs.Prelude.{length, Option, Some, None, nat_lt, not, if◌then◌else◌}
 use Rattle.std.specs.Option.{option_or, option_and_then, is_some}
 use Rattle.cpu6502.specs.declared.memory.TheConstants.{MEMORY_SIZE}
 use Rattle.asm6502.specs.declared.lines.Item.{Item}

@@ -1,5 +1,6 @@
 -- The bytes of one instruction, by the machine's decode table. Source: the MOS 6502 programming manual.
-use Rattle.std.specs.Prelude.{◌≡◌, ℕ, ◌+◌, ◌*◌, ◌/◌, ◌%◌, ◌<◌, List, [], ◌∷◌, ◌++◌, length, take, Option, Some, None, nat_eq, nat_lt, if◌then◌else◌, All}
+use Rattle.std.specs.Prelude.{◌≡◌, ℕ, ◌+◌, ◌*◌, ◌/◌, ◌%◌, ◌<◌, List, [], ◌∷◌}
+use Rattle.std.specs.Prelude.{◌++◌, length, take, Option, Some, None, nat_eq, nat_lt, if◌then◌else◌, All}
 use Rattle.std.specs.Option.{option_map, option_and_then}
 use Rattle.cpu6502.specs.declared.mnemonic.Mode.{Mode}
 use Rattle.cpu6502.specs.Opcodes.{Meaning, meaning_of, opcode_of, length_of}

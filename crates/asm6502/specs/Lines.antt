@@ -1,6 +1,7 @@
 -- The lines of a listing: which are kept, how many bytes they take, and where labels are named. This is the
 -- assembler's own profile.
-use Rattle.std.specs.Prelude.{ℕ, ◌+◌, ◌&&◌, ◌||◌, Bool, true, false, List, [], ◌∷◌, length, filter, Option, Some, None, unwrap_or, nat_eq, nat_lt, if◌then◌else◌}
+use Rattle.std.specs.Prelude.{ℕ, ◌+◌, ◌&&◌, ◌||◌, Bool, true, false, List, [], ◌∷◌, length, filter}
+use Rattle.std.specs.Prelude.{Option, Some, None, unwrap_or, nat_eq, nat_lt, if◌then◌else◌}
 use Rattle.std.specs.Int.{bit_at}
 use Rattle.std.specs.Option.{option_map, is_some}
 use Rattle.cpu6502.specs.Opcodes.{opcode_of, length_of}

@@ -1,6 +1,7 @@
 -- The operands of a listing: which modes they suit, and the numbers that they name where labels have addresses. This
 -- is the assembler's own profile.
-use Rattle.std.specs.Prelude.{ℕ, ◌+◌, ◌/◌, ◌%◌, ◌&&◌, ◌||◌, Bool, true, false, Option, Some, None, unwrap_or, nat_eq, nat_lt, not, if◌then◌else◌}
+use Rattle.std.specs.Prelude.{ℕ, ◌+◌, ◌/◌, ◌%◌, ◌&&◌, ◌||◌, Bool, true, false, Option, Some, None}
+use Rattle.std.specs.Prelude.{unwrap_or, nat_eq, nat_lt, not, if◌then◌else◌}
 use Rattle.std.specs.Option.{is_some}
 use Rattle.cpu6502.specs.declared.memory.TheConstants.{MEMORY_SIZE}
 use Rattle.cpu6502.specs.declared.mnemonic.Mode.{Mode}

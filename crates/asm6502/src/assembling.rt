@@ -1,6 +1,7 @@
 //! From a listing to its bytes.
 
-ghost use Rattle.std.specs.Prelude.{◌≡◌, ◌≤◌, ◌+◌, ◌⊎◌, length, nat_lt, if◌then◌else◌, MatchResult, IfOk, None, Some};
+ghost use Rattle.std.specs.Prelude.{◌≡◌, ◌≤◌, ◌+◌, ◌⊎◌, length, nat_lt, if◌then◌else◌};
+ghost use Rattle.std.specs.Prelude.{MatchResult, IfOk, None, Some};
 ghost use Rattle.asm6502.specs.Lines.{kept, size_of, data_size};
 ghost use Rattle.asm6502.specs.Faults.{fault_of};
 ghost use Rattle.asm6502.specs.Moving.{IsAssembly, MovesAsAssembled};

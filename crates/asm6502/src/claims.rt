@@ -2,11 +2,15 @@
 
 ghost use Rattle.asm6502.specs.Instructions.{WhatIsEncodedDecodes, NothingElseDecodes};
 ghost use Rattle.asm6502.specs.Faults.{FirstIsFirst, NoneIsFound, AllPassed};
-ghost use Rattle.asm6502.specs.Branches.{BranchesReach, FarIsOutOfReach, BranchesKeepDistance, BranchesReachAfter, BranchesReachBefore};
+ghost use Rattle.asm6502.specs.Branches.{BranchesReach, FarIsOutOfReach, BranchesKeepDistance, BranchesReachAfter};
+ghost use Rattle.asm6502.specs.Branches.{BranchesReachBefore};
 ghost use Rattle.asm6502.specs.Parts.{PartsAddUp, PartSizesAdd, PartsStandTogether};
-ghost use Rattle.asm6502.specs.Standing.{AssembledLinesStand, HeldBytesStand, SizesAdd, KeptAppend, FrontsStand, BacksStand, BothStand, LinesStay};
-ghost use Rattle.asm6502.specs.Stretches.{StretchesStand, PlacesAdd, NamesAppend, NamesSplit, LabelsStandWhereNamed, HomesAppend, HomesGrow, StretchesPass, PassedListingsAssemble};
-ghost use Rattle.asm6502.specs.WorkedListings.{ConstantsAre, TonePlays, ToneWithPart, LabelsHaveAddresses, FarBranchIsRefused, OrderOfRefusals};
+ghost use Rattle.asm6502.specs.Standing.{AssembledLinesStand, HeldBytesStand, SizesAdd, KeptAppend, FrontsStand};
+ghost use Rattle.asm6502.specs.Standing.{BacksStand, BothStand, LinesStay};
+ghost use Rattle.asm6502.specs.Stretches.{StretchesStand, PlacesAdd, NamesAppend, NamesSplit, LabelsStandWhereNamed};
+ghost use Rattle.asm6502.specs.Stretches.{HomesAppend, HomesGrow, StretchesPass, PassedListingsAssemble};
+ghost use Rattle.asm6502.specs.WorkedListings.{ConstantsAre, TonePlays, ToneWithPart, LabelsHaveAddresses};
+ghost use Rattle.asm6502.specs.WorkedListings.{FarBranchIsRefused, OrderOfRefusals};
 
 /// `encode` and `decode` are each other's inverse.
 pub fn decode_is_inverse_of_encode()

@@ -1,5 +1,7 @@
 -- Digits are read as the numbers that they spell.
-use Rattle.std.proofs.Common.{◌≡◌, ℕ, zero, suc, ◌+◌, ◌*◌, ◌/◌, ◌%◌, ◌<◌, Bool, true, false, not, List, nat_eq, nat_lt, if◌then◌else◌, slice_index, refl, ap, ◌∙◌, arith, inl, inr}
+use Rattle.std.proofs.Common.{◌≡◌, ℕ, zero, suc, ◌+◌, ◌*◌, ◌/◌, ◌%◌, ◌<◌, Bool, true, false}
+use Rattle.std.proofs.Common.{not, List, nat_eq, nat_lt, if◌then◌else◌, slice_index, refl, ap, ◌∙◌, arith}
+use Rattle.std.proofs.Common.{inl, inr}
 use Rattle.std.proofs.lemmas.Bool.{eqb-true, false≢true, cases_lt, not-true}
 use Rattle.asm_text.specs.Numbers.{digit}
 use Rattle.asm_text.specs.Reading.{digit_value, byte_value, word_value}

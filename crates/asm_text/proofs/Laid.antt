@@ -1,11 +1,15 @@
 -- The listing that statements name: its sizes, its labels, and that each of its lines can stand in a listing.
-use Rattle.std.proofs.Common.{◌≡◌, ℕ, zero, suc, ◌+◌, ◌-◌, ◌*◌, ◌<◌, ◌≤◌, Bool, true, false, ◌||◌, List, [], ◌∷◌, ◌++◌, length, take, get_or, nat_lt, if◌then◌else◌, Option, Some, None, unwrap_or, refl, sym, ap, ◌∙◌, add-zero, arith}
+use Rattle.std.proofs.Common.{◌≡◌, ℕ, zero, suc, ◌+◌, ◌-◌, ◌*◌, ◌<◌, ◌≤◌, Bool, true}
+use Rattle.std.proofs.Common.{false, ◌||◌, List, [], ◌∷◌, ◌++◌, length, take, get_or, nat_lt}
+use Rattle.std.proofs.Common.{if◌then◌else◌, Option, Some, None, unwrap_or, refl, sym, ap, ◌∙◌, add-zero}
+use Rattle.std.proofs.Common.{arith}
 use Rattle.std.specs.Option.{option_map, option_or, is_some}
 use Rattle.std.proofs.lemmas.Bool.{and_parts, ltb-true, lt-ltb, and_from}
 use Rattle.std.proofs.lemmas.List.{take_more, get_or_default}
 use Rattle.cpu6502.specs.declared.memory.TheConstants.{MEMORY_SIZE}
 use Rattle.cpu6502.specs.declared.mnemonic.Mode.{Mode}
-use Rattle.cpu6502.specs.declared.mnemonic.Mode.TheVariants.{Implied, Accumulator, Absolute, AbsoluteX, AbsoluteY, Indirect, Relative}
+use Rattle.cpu6502.specs.declared.mnemonic.Mode.TheVariants.{Implied, Accumulator, Absolute, AbsoluteX, AbsoluteY}
+use Rattle.cpu6502.specs.declared.mnemonic.Mode.TheVariants.{Indirect, Relative}
 use Rattle.cpu6502.specs.Opcodes.{opcode_of, length_of}
 use Rattle.asm6502.specs.declared.lines.Line.{Line}
 use Rattle.asm6502.specs.Branches.{way_from, branch_byte}

@@ -1,5 +1,6 @@
 -- Each instruction is named by its letters, and by them alone.
-use Rattle.std.proofs.Common.{◌≡◌, ℕ, true, false, ◌&&◌, [], ◌∷◌, nat_eq, slice_index, position, Option, Some, None, refl}
+use Rattle.std.proofs.Common.{◌≡◌, ℕ, true, false, ◌&&◌, [], ◌∷◌, nat_eq, slice_index, position}
+use Rattle.std.proofs.Common.{Option, Some, None, refl}
 use Rattle.std.specs.Option.{is_some}
 use Rattle.std.proofs.lemmas.Bool.{false≢true}
 use Rattle.cpu6502.specs.declared.mnemonic.Mnemonic.{Mnemonic}

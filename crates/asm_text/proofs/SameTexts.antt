@@ -2,7 +2,8 @@
 use Rattle.std.proofs.Common.{◌≡◌, ℕ, List, [], ◌∷◌, refl, sym, ◌∙◌, subst, inl, inr, arith}
 use Rattle.base.proofs.Laws.{same_head, same_tail}
 use Rattle.asm_text.specs.declared.statements.Written.{Written}
-use Rattle.asm_text.specs.Lines.{IsOriginLine, Say, over, nothing, something, IsListing, IsFirstBad, unended, here, later, IsBadAt, no_line, no_origin, behind}
+use Rattle.asm_text.specs.Lines.{IsOriginLine, Say, over, nothing, something, IsListing, IsFirstBad, unended, here}
+use Rattle.asm_text.specs.Lines.{later, IsBadAt, no_line, no_origin, behind}
 use Rattle.asm_text.proofs.WordLaws.{spells_one, origin_again}
 use Rattle.asm_text.proofs.TextLaws.{nothing_spells}
 

@@ -1,6 +1,8 @@
 -- The lines of a text: the first one, the steps of the loop over lines, and that a text is one listing or has one first
 -- bad line.
-use Rattle.std.proofs.Common.{◌≡◌, ℕ, ◌+◌, ◌*◌, ◌<◌, ◌≤◌, Bool, true, false, eqb, ltb, nat_eq, List, [], ◌∷◌, ◌++◌, length, take, drop, get_or, Some, None, position, refl, sym, ap, ◌∙◌, subst, ◌↔◌, ◌⊎◌, inl, inr, arith}
+use Rattle.std.proofs.Common.{◌≡◌, ℕ, ◌+◌, ◌*◌, ◌<◌, ◌≤◌, Bool, true, false, eqb, ltb, nat_eq}
+use Rattle.std.proofs.Common.{List, [], ◌∷◌, ◌++◌, length, take, drop, get_or, Some, None, position, refl}
+use Rattle.std.proofs.Common.{sym, ap, ◌∙◌, subst, ◌↔◌, ◌⊎◌, inl, inr, arith}
 use Rattle.std.proofs.lemmas.Bool.{cases_lt, lt-ltb, le-ltb, eqb-true, eqb-false, eq-eqb, false≢true}
 use Rattle.std.proofs.lemmas.List.{append-nil, append_assoc, length-append, nil_from_length}
 use Rattle.std.proofs.lemmas.List.Elements.{All-nil, All-cons}
@@ -17,7 +19,8 @@ use Rattle.asm_text.specs.declared.faults.TextFault.{TextFault}
 use Rattle.asm_text.specs.declared.faults.TextKind.TheVariants.{BadLine, NoMemory}
 use Rattle.asm_text.specs.Searching.{AreRight}
 use Rattle.asm_text.specs.Statements.{spelling, is_right}
-use Rattle.asm_text.specs.Lines.{SaysNothing, empty, comment, Spells, IsOriginLine, IsLine, parts, Say, over, nothing, something, IsFirstBad, unended, here, later, IsBadAt, behind}
+use Rattle.asm_text.specs.Lines.{SaysNothing, empty, comment, Spells, IsOriginLine, IsLine, parts, Say, over, nothing}
+use Rattle.asm_text.specs.Lines.{something, IsFirstBad, unended, here, later, IsBadAt, behind}
 use Rattle.asm_text.specs.Steps as step
 use Rattle.asm_text.specs.Steps.{Adds}
 use Rattle.asm_text.proofs.NameLaws.{no_semicolon}

@@ -1,5 +1,7 @@
 -- The fault of a text is told for the fault of the listing that its statements name.
-use Rattle.std.proofs.Common.{◌≡◌, ℕ, ◌+◌, ◌<◌, ◌≤◌, Bool, true, false, not, List, [], ◌∷◌, ◌++◌, length, take, slice_get, nat_eq, nat_lt, if◌then◌else◌, Option, Some, None, refl, sym, ap, ◌∙◌, subst, arith}
+use Rattle.std.proofs.Common.{◌≡◌, ℕ, ◌+◌, ◌<◌, ◌≤◌, Bool, true, false, not, List, [], ◌∷◌}
+use Rattle.std.proofs.Common.{◌++◌, length, take, slice_get, nat_eq, nat_lt, if◌then◌else◌, Option, Some}
+use Rattle.std.proofs.Common.{None, refl, sym, ap, ◌∙◌, subst, arith}
 use Rattle.std.specs.Option.{option_map, option_or, is_some}
 use Rattle.std.proofs.lemmas.Bool.{and_parts, eqb-true, eq-eqb, ltb-true, ltb-false, false≢true, and_from, not-true}
 use Rattle.std.proofs.lemmas.List.{length-append}
@@ -17,11 +19,13 @@ use Rattle.asm_text.specs.declared.faults.TextFault.{TextFault}
 use Rattle.asm_text.specs.declared.faults.TextKind.{TextKind}
 use Rattle.asm_text.specs.declared.faults.TextKind.TheVariants.{DoubleLabel, UnknownLabel, PastEnd, BranchTooFar}
 use Rattle.asm_text.specs.Laying.{listing_at, size_of}
-use Rattle.asm_text.specs.Faults.{is_named, is_double, is_unknown, is_past_end, is_far, first_found, fault_at, first_fault, fault_in}
+use Rattle.asm_text.specs.Faults.{is_named, is_double, is_unknown, is_past_end, is_far, first_found, fault_at}
+use Rattle.asm_text.specs.Faults.{first_fault, fault_in}
 use Rattle.asm_text.specs.Searching.{finds, line_found, first_far, AreRight}
 use Rattle.asm_text.proofs.Laid.{none_bad}
 use Rattle.asm_text.proofs.Pairs.{Pair, first_pair, found_is, is_pair, narrow_found, either_none, either_some, like_all}
-use Rattle.asm_text.proofs.Tests.{label_in, double_fault, unknown_fault, far_fault, far_label, double_like, unknown_like, far_like, end_fault, end_is, end_found, end_none, far_either}
+use Rattle.asm_text.proofs.Tests.{label_in, double_fault, unknown_fault, far_fault, far_label, double_like}
+use Rattle.asm_text.proofs.Tests.{unknown_like, far_like, end_fault, end_is, end_found, end_none, far_either}
 
 -- ---- what is wrong with a listing, by pairs
 

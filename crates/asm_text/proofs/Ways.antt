@@ -1,5 +1,6 @@
 -- A text is read in one way, and what is printed is read back.
-use Rattle.std.proofs.Common.{◌≡◌, ℕ, List, Option, Some, None, Result, Ok, Err, OnOk, IfOk, IfErr, MatchResult, ◌⊎◌, inl, inr, sym, ap, ◌∙◌, subst}
+use Rattle.std.proofs.Common.{◌≡◌, ℕ, List, Option, Some, None, Result, Ok, Err, OnOk, IfOk, IfErr, MatchResult}
+use Rattle.std.proofs.Common.{◌⊎◌, inl, inr, sym, ap, ◌∙◌, subst}
 use Rattle.base.proofs.Laws.{same_some}
 use Rattle.asm6502.specs.declared.assembled.Assembled.{Assembled}
 use Rattle.asm6502.specs.Moving.{IsAssembly}

@@ -1,5 +1,7 @@
 -- What refuses a line, and what reads a text, by computing.
-use Rattle.std.proofs.Common.{◌≡◌, ℕ, ◌+◌, ◌<◌, Bool, true, false, ◌&&◌, not, List, [], ◌∷◌, get_or, nat_eq, if◌then◌else◌, Option, Some, None, refl, sym, ap, ◌∙◌, subst, inl, inr}
+use Rattle.std.proofs.Common.{◌≡◌, ℕ, ◌+◌, ◌<◌, Bool, true, false, ◌&&◌, not, List, [], ◌∷◌}
+use Rattle.std.proofs.Common.{get_or, nat_eq, if◌then◌else◌, Option, Some, None, refl, sym, ap, ◌∙◌, subst}
+use Rattle.std.proofs.Common.{inl, inr}
 use Rattle.std.specs.List.{All}
 use Rattle.std.specs.Str.{bytes_eq}
 use Rattle.std.proofs.lemmas.Bool.{and_parts, eqb-true, false≢true, not-true}
@@ -16,7 +18,8 @@ use Rattle.asm_text.specs.Faults.{fault_in, bad_line, in_script}
 use Rattle.asm_text.specs.WorkedTexts.{Gives, Fails}
 use Rattle.asm_text.specs.Statements.{spelling, origin_text, is_right}
 use Rattle.asm_text.specs.Reading.{word_value, shown}
-use Rattle.asm_text.specs.Lines.{SaysNothing, empty, comment, Spells, IsOriginLine, IsLine, parts, Say, over, nothing, something, IsListing, IsFirstBad, no_line, no_origin, behind}
+use Rattle.asm_text.specs.Lines.{SaysNothing, empty, comment, Spells, IsOriginLine, IsLine, parts, Say, over, nothing}
+use Rattle.asm_text.specs.Lines.{something, IsListing, IsFirstBad, no_line, no_origin, behind}
 use Rattle.asm_text.proofs.SameBytes.{same_bytes, same_itself}
 use Rattle.asm_text.proofs.WordLaws.{spells_shown, shown_range, origin_again}
 

@@ -1,5 +1,6 @@
 -- What a line says, apart from how it is read, and what a text is: a listing, or one with a first bad line.
-use Rattle.std.specs.Prelude.{◌≡◌, ◌==◌, ◌⊎◌, ℕ, ◌+◌, ◌<◌, true, List, [], ◌∷◌, ◌++◌, codes, length}
+use Rattle.std.specs.Prelude.{◌≡◌, ◌==◌, ◌⊎◌, ℕ, ◌+◌, ◌<◌, true, List, [], ◌∷◌}
+use Rattle.std.specs.Prelude.{◌++◌, codes, length}
 use Rattle.std.specs.List.{slice_split}
 use Rattle.base.specs.Bytes.{IsWord}
 use Rattle.asm_text.specs.declared.statements.Statement.{Statement}

@@ -1,5 +1,6 @@
 -- How the line of a fault is looked for: the first statement of one of four kinds.
-use Rattle.std.specs.Prelude.{◌≡◌, ℕ, ◌+◌, ◌&&◌, Bool, true, false, List, [], Option, nat_eq, nat_lt, take, slice_get, All}
+use Rattle.std.specs.Prelude.{◌≡◌, ℕ, ◌+◌, ◌&&◌, Bool, true, false, List, [], Option, nat_eq, nat_lt}
+use Rattle.std.specs.Prelude.{take, slice_get, All}
 use Rattle.std.specs.Option.{option_map, option_or}
 use Rattle.cpu6502.specs.declared.memory.TheConstants.{MEMORY_SIZE}
 use Rattle.asm6502.specs.Operands.{is_relative}

@@ -1,7 +1,12 @@
 -- The names of instructions and the digits of numbers, all of them, by hand from the MOS 6502 programming manual.
 use Rattle.std.specs.Prelude.{◌≡◌, ℕ, List, [], ◌∷◌, codes, map}
 use Rattle.cpu6502.specs.declared.mnemonic.Mnemonic.{Mnemonic}
-use Rattle.cpu6502.specs.declared.mnemonic.Mnemonic.TheVariants.{Adc, And, Asl, Bcc, Bcs, Beq, Bit, Bmi, Bne, Bpl, Brk, Bvc, Bvs, Clc, Cld, Cli, Clv, Cmp, Cpx, Cpy, Dec, Dex, Dey, Eor, Inc, Inx, Iny, Jmp, Jsr, Lda, Ldx, Ldy, Lsr, Nop, Ora, Pha, Php, Pla, Plp, Rol, Ror, Rti, Rts, Sbc, Sec, Sed, Sei, Sta, Stx, Sty, Tax, Tay, Tsx, Txa, Txs, Tya}
+use Rattle.cpu6502.specs.declared.mnemonic.Mnemonic.TheVariants.{Adc, And, Asl, Bcc, Bcs, Beq, Bit, Bmi, Bne, Bpl, Brk}
+use Rattle.cpu6502.specs.declared.mnemonic.Mnemonic.TheVariants.{Bvc, Bvs, Clc, Cld, Cli, Clv, Cmp, Cpx, Cpy, Dec, Dex}
+use Rattle.cpu6502.specs.declared.mnemonic.Mnemonic.TheVariants.{Dey, Eor, Inc, Inx, Iny, Jmp, Jsr, Lda, Ldx, Ldy, Lsr}
+use Rattle.cpu6502.specs.declared.mnemonic.Mnemonic.TheVariants.{Nop, Ora, Pha, Php, Pla, Plp, Rol, Ror, Rti, Rts, Sbc}
+use Rattle.cpu6502.specs.declared.mnemonic.Mnemonic.TheVariants.{Sec, Sed, Sei, Sta, Stx, Sty, Tax, Tay, Tsx, Txa, Txs}
+use Rattle.cpu6502.specs.declared.mnemonic.Mnemonic.TheVariants.{Tya}
 use Rattle.asm_text.specs.Names.{letters_of}
 use Rattle.asm_text.specs.Numbers.{byte_digits, word_digits}
 
@@ -29,8 +34,10 @@ NamesAreWritten = map (λ row. letters_of row.0) names_by_hand ≡ map (λ row. 
 abbrev pub DigitsAreWritten : Type 0
 DigitsAreWritten =
     (map byte_digits (0x01 ∷ 0x23 ∷ 0x45 ∷ 0x67 ∷ 0x89 ∷ 0xAB ∷ 0xCD ∷ 0xEF ∷ [])
-    ≡ codes "01" ∷ codes "23" ∷ codes "45" ∷ codes "67" ∷ codes "89" ∷ codes "AB" ∷ codes "CD" ∷ codes "EF" ∷ [])
+    ≡ codes "01" ∷ codes "23" ∷ codes "45" ∷ codes "67" ∷ codes "89" ∷ codes "AB" ∷ codes "CD"
+    ∷ codes "EF" ∷ [])
     × (map byte_digits (0x10 ∷ 0x32 ∷ 0x54 ∷ 0x76 ∷ 0x98 ∷ 0xBA ∷ 0xDC ∷ 0xFE ∷ [])
-    ≡ codes "10" ∷ codes "32" ∷ codes "54" ∷ codes "76" ∷ codes "98" ∷ codes "BA" ∷ codes "DC" ∷ codes "FE" ∷ [])
+    ≡ codes "10" ∷ codes "32" ∷ codes "54" ∷ codes "76" ∷ codes "98" ∷ codes "BA" ∷ codes "DC"
+    ∷ codes "FE" ∷ [])
     × (map word_digits (0x1234 ∷ 0x000F ∷ 0x0000 ∷ 0xF000 ∷ [])
     ≡ codes "1234" ∷ codes "000F" ∷ codes "0000" ∷ codes "F000" ∷ [])

@@ -1,9 +1,12 @@
 //! Facts about the definitions of this crate, each the contract of a function that does nothing.
 
-ghost use Rattle.asm_text.specs.Laws.{ConstantIs, LinesSayOneThing, TextsReadInOneWay, ListingsReadBack, WhatIsPrintedIsRead, WhatIsPrintedHasNoFault};
+ghost use Rattle.asm_text.specs.Laws.{ConstantIs, LinesSayOneThing, TextsReadInOneWay, ListingsReadBack};
+ghost use Rattle.asm_text.specs.Laws.{WhatIsPrintedIsRead, WhatIsPrintedHasNoFault};
 ghost use Rattle.asm_text.specs.Printing.{ListingsAreShort};
 ghost use Rattle.asm_text.specs.WorkedNames.{NamesAreWritten, DigitsAreWritten};
-ghost use Rattle.asm_text.specs.WorkedTexts.{NumbersAreSpelled, LabelsAreSpelled, NothingIsSaid, NoLinesAreSpelled, NoLineSpells, ImagesAreListed, TextsAreRead, BranchesReachSoFar, BranchesReachLabels, FaultsAreTold, ResultsAreToldApart};
+ghost use Rattle.asm_text.specs.WorkedTexts.{NumbersAreSpelled, LabelsAreSpelled, NothingIsSaid, NoLinesAreSpelled};
+ghost use Rattle.asm_text.specs.WorkedTexts.{NoLineSpells, ImagesAreListed, TextsAreRead, BranchesReachSoFar};
+ghost use Rattle.asm_text.specs.WorkedTexts.{BranchesReachLabels, FaultsAreTold, ResultsAreToldApart};
 
 /// A line says nothing or spells one statement.
 pub fn lines_say_one_thing()

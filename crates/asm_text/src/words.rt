@@ -1,7 +1,8 @@
 //! What a line says.
 
 ghost use Rattle.std.specs.Prelude.{◌≡◌, ◌<◌, ◌+◌, ◌↔◌, ℕ, ◌^◌, IsTrue, MatchOption};
-ghost use Rattle.asm_text.specs.Reading.{mode_of_nine, mode_in_brackets, mode_of_eleven, mode_shown, is_absolute, mode_for, operand_at, operand_shown, shown};
+ghost use Rattle.asm_text.specs.Reading.{mode_of_nine, mode_in_brackets, mode_of_eleven, mode_shown, is_absolute};
+ghost use Rattle.asm_text.specs.Reading.{mode_for, operand_at, operand_shown, shown};
 ghost use Rattle.asm_text.specs.Lines.{SaysNothing, Spells, IsOriginLine};
 
 use crate::names::named;

@@ -1,8 +1,11 @@
 -- Lists: their parts, their ends, and what stands in them.
-use Rattle.std.proofs.Common.{◌≡◌, ℕ, zero, suc, ◌+◌, ◌-◌, ◌*◌, ◌<◌, ◌≤◌, List, [], ◌∷◌, ◌++◌, length, get_or, set, drop, replicate, All, ◌⊎◌, refl, sym, ap, ◌∙◌, inl, inr, arith, append_assoc, length-append}
+use Rattle.std.proofs.Common.{◌≡◌, ℕ, zero, suc, ◌+◌, ◌-◌, ◌*◌, ◌<◌, ◌≤◌, List, []}
+use Rattle.std.proofs.Common.{◌∷◌, ◌++◌, length, get_or, set, drop, replicate, All, ◌⊎◌, refl, sym, ap}
+use Rattle.std.proofs.Common.{◌∙◌, inl, inr, arith, append_assoc, length-append}
 use Rattle.std.specs.List.{flat_map}
 use Rattle.std.proofs.lemmas.Bool.{cases_lt}
-use Rattle.std.proofs.lemmas.List.{get_or_past, get_or_append_left, drop_all, drop_at, drop-drop, drop-replicate, set-append_right}
+use Rattle.std.proofs.lemmas.List.{get_or_past, get_or_append_left, drop_all, drop_at, drop-drop, drop-replicate}
+use Rattle.std.proofs.lemmas.List.{set-append_right}
 use Rattle.std.proofs.lemmas.List.Elements.{All-head, All-tail, All-get_or}
 
 -- ---- parts

@@ -1,5 +1,6 @@
 -- From the place that the jump leads to, to the block's first line; and from the jump.
-use Rattle.std.proofs.Common.{◌≡◌, ◌≢◌, ℕ, ◌+◌, suc, ◌-◌, ◌%◌, ◌<◌, ◌≤◌, false, Option, None, Some, refl, sym, ap, arith}
+use Rattle.std.proofs.Common.{◌≡◌, ◌≢◌, ℕ, ◌+◌, suc, ◌-◌, ◌%◌, ◌<◌, ◌≤◌, false}
+use Rattle.std.proofs.Common.{Option, None, Some, refl, sym, ap, arith}
 use Rattle.cpu6502.specs.declared.cpu.Cpu.{Cpu}
 use Rattle.cpu6502.specs.declared.mnemonic.Mnemonic.TheVariants.{Cld, Jmp, Sta}
 use Rattle.cpu6502.specs.declared.mnemonic.Mode.TheVariants.{Implied, Absolute}

@@ -1,5 +1,6 @@
 -- From the block's first line to the return.
-use Rattle.std.proofs.Common.{◌≡◌, ◌≢◌, ℕ, ◌+◌, ◌%◌, ◌<◌, ◌≤◌, ◌⊎◌, Some, inl, inr, refl, ap, ◌∙◌, arith, false}
+use Rattle.std.proofs.Common.{◌≡◌, ◌≢◌, ℕ, ◌+◌, ◌%◌, ◌<◌, ◌≤◌, ◌⊎◌, Some, inl}
+use Rattle.std.proofs.Common.{inr, refl, ap, ◌∙◌, arith, false}
 use Rattle.cpu6502.specs.declared.cpu.Cpu.{Cpu}
 use Rattle.cpu6502.specs.declared.mnemonic.Mnemonic.TheVariants.{Rts}
 use Rattle.cpu6502.specs.declared.mnemonic.Mode.TheVariants.{Implied}

@@ -1,5 +1,6 @@
 -- Entrances that are worked by hand are well placed, their code stands, and what the law says of them.
-use Rattle.std.proofs.Common.{◌≡◌, ◌≢◌, ◌∙◌, ℕ, ◌+◌, ◌<◌, ◌≤◌, ◌⊎◌, Bool, true, false, List, Some, nat_eq, inr, refl, ap, arith}
+use Rattle.std.proofs.Common.{◌≡◌, ◌≢◌, ◌∙◌, ℕ, ◌+◌, ◌<◌, ◌≤◌, ◌⊎◌, Bool, true}
+use Rattle.std.proofs.Common.{false, List, Some, nat_eq, inr, refl, ap, arith}
 use Rattle.std.specs.Prelude.{slice_index}
 use Rattle.std.proofs.lemmas.Bool.{eqb-true, false≢true}
 use Rattle.cpu6502.specs.declared.machine.Machine.{Machine}
@@ -15,7 +16,8 @@ use Rattle.lowering.specs.Lowered.{listing_at, layout_at, IsWellPlaced}
 use Rattle.lowering.specs.WorkedSites.{names_of}
 use Rattle.block_calls.specs.Entrances.{Entrance, around, HasCode, IsWellEntered, entrance_desk}
 use Rattle.block_calls.specs.EntranceLaws.{Returns}
-use Rattle.block_calls.specs.WorkedEntrances.{SetsVolume, IsCalledSo, loud_entrance, loud_code, LoudIsCalled, volume_entrance, volume_code, VolumeIsCalled}
+use Rattle.block_calls.specs.WorkedEntrances.{SetsVolume, IsCalledSo, loud_entrance, loud_code, LoudIsCalled}
+use Rattle.block_calls.specs.WorkedEntrances.{volume_entrance, volume_code, VolumeIsCalled}
 use Rattle.block_calls.proofs.Whole.{entrances_return}
 
 -- where no counter, no voice's byte and no fill is named, the labels of the block's own are in their places alone

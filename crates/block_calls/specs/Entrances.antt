@@ -1,7 +1,8 @@
 -- Entrances to lowered blocks: a jump to a place where the decimal flag is cleared, and perhaps A stored, in front of the
 -- block's lines, and a return behind them. This is the project's own form of player code; its instructions are those of
 -- the MOS 6502 programming manual.
-use Rattle.std.specs.Prelude.{◌≡◌, ◌≢◌, ℕ, ◌+◌, ◌-◌, ◌<◌, ◌≤◌, ◌⊎◌, true, Option, Some, None, slice_index}
+use Rattle.std.specs.Prelude.{◌≡◌, ◌≢◌, ℕ, ◌+◌, ◌-◌, ◌<◌, ◌≤◌, ◌⊎◌, true, Option}
+use Rattle.std.specs.Prelude.{Some, None, slice_index}
 use Rattle.cpu6502.specs.declared.machine.Machine.{Machine}
 use Rattle.cpu6502.specs.declared.mnemonic.Mnemonic.TheVariants.{Cld, Jmp, Rts, Sta}
 use Rattle.cpu6502.specs.declared.mnemonic.Mode.TheVariants.{Implied, Absolute}

@@ -1,7 +1,8 @@
 -- Entrances that are worked by hand at $1000: one to a block that sets the volume to 15, and one to a block that sets it
 -- to the number of the call, which is stored. Their code can stand, so what the law on entrances asks can be met. Source:
 -- the MOS 6502 programming manual.
-use Rattle.std.specs.Prelude.{◌≡◌, ℕ, ◌+◌, ◌<◌, Bool, false, nat_eq, List, [], ◌∷◌, Some, None, length, slice_index}
+use Rattle.std.specs.Prelude.{◌≡◌, ℕ, ◌+◌, ◌<◌, Bool, false, nat_eq, List, [], ◌∷◌, Some, None}
+use Rattle.std.specs.Prelude.{length, slice_index}
 use Rattle.cpu6502.specs.declared.machine.Machine.{Machine}
 use Rattle.cpu6502.specs.declared.memory.TheConstants.{MEMORY_SIZE}
 use Rattle.cpu6502.specs.declared.mnemonic.Mnemonic.TheVariants.{Cld, Jmp, Rts, Sta}
@@ -76,7 +77,8 @@ volume_entrance = record {
 -- JMP $1003, CLD, STA $100E, LDA $100E, STA $D418, RTS, and the byte
 abbrev pub volume_code : List ℕ
 volume_code =
-    0x4C ∷ 0x03 ∷ 0x10 ∷ 0xD8 ∷ 0x8D ∷ 0x0E ∷ 0x10 ∷ 0xAD ∷ 0x0E ∷ 0x10 ∷ 0x8D ∷ 0x18 ∷ 0xD4 ∷ 0x60 ∷ 0x00 ∷ []
+    0x4C ∷ 0x03 ∷ 0x10 ∷ 0xD8 ∷ 0x8D ∷ 0x0E ∷ 0x10 ∷ 0xAD ∷ 0x0E ∷ 0x10 ∷ 0x8D ∷ 0x18 ∷ 0xD4
+    ∷ 0x60 ∷ 0x00 ∷ []
 
 -- six steps, and the volume is the number
 abbrev pub VolumeIsCalled : Type 0

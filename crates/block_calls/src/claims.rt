@@ -1,6 +1,7 @@
 //! Facts about calls of entrances, each the contract of a function that does nothing.
 
-ghost use Rattle.block_calls.specs.EntranceLaws.{EntrancesReturn, CallsAreShort, EntrancesAreIsolated, OthersStay, ListingsStay, CodeStays, CodeIsShared};
+ghost use Rattle.block_calls.specs.EntranceLaws.{EntrancesReturn, CallsAreShort, EntrancesAreIsolated, OthersStay};
+ghost use Rattle.block_calls.specs.EntranceLaws.{ListingsStay, CodeStays, CodeIsShared};
 ghost use Rattle.block_calls.specs.WorkedEntrances.{LoudIsCalled, VolumeIsCalled, VolumeTakesMost};
 
 /// A machine of 65,536 bytes that holds the code of a well placed entrance, and is called at it with any number in A,

@@ -1,5 +1,6 @@
 -- The tree of a vector of blocks is that of its list, which a loop over it takes block by block.
-use Rattle.std.proofs.Common.{◌≡◌, ◌∙◌, ℕ, ◌+◌, ◌<◌, ◌&&◌, Bool, true, false, List, ◌∷◌, length, drop, get_or, refl, ap}
+use Rattle.std.proofs.Common.{◌≡◌, ◌∙◌, ℕ, ◌+◌, ◌<◌, ◌&&◌, Bool, true, false, List, ◌∷◌}
+use Rattle.std.proofs.Common.{length, drop, get_or, refl, ap}
 use Rattle.std.proofs.Common.{sym, rules, arith, Vec, Global, min}
 use Rattle.std.proofs.lemmas.List.{at_drop_more}
 use mathlib.Core.Former.{Count}

@@ -1,6 +1,7 @@
 -- The second rule of a sound tree: in an Until nothing but the loop itself writes the counter. This is the project's
 -- own language of player code.
-use Rattle.std.specs.Prelude.{ℕ, ◌+◌, ◌&&◌, ◌||◌, Bool, true, false, not, List, [], ◌∷◌, nat_eq, nat_lt, nat_le}
+use Rattle.std.specs.Prelude.{ℕ, ◌+◌, ◌&&◌, ◌||◌, Bool, true, false, not, List, [], ◌∷◌, nat_eq}
+use Rattle.std.specs.Prelude.{nat_lt, nat_le}
 use Rattle.blocks.specs.Words.{Cell, Var, VoiceVar, Place, HeldPlace, Register, VoiceRegister, Timer, Pointer, IntoY}
 use Rattle.blocks.specs.Words.{Counted, HeldCounted, CountedY}
 use Rattle.blocks.specs.Words.{Step, Load, Store, Index, And, Or, Xor, Add, Sub, AddOn, SubOn, Double, Inc, Dec}

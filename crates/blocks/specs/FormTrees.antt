@@ -57,7 +57,8 @@ fetch_tree to table index = ChainTree (Index index ∷ Load (Direct (Entry table
 -- the pointer is set, and the byte there, as many places on as the index says, is moved
 abbrev pub far_tree : Place → Operand → Operand → Operand → Tree
 far_tree to low high index =
-    ChainTree (load low ∷ Store (Pointer Low) ∷ load high ∷ Store (Pointer High) ∷ Index index ∷ Load Byte ∷ Store to ∷ [])
+    ChainTree (load low ∷ Store (Pointer Low) ∷ load high ∷ Store (Pointer High) ∷ Index index ∷ Load Byte
+    ∷ Store to ∷ [])
 
 -- the steps and the test behind them that ask a question of two bytes
 abbrev pub asking_steps : ByteTest → List Step

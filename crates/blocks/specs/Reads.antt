@@ -46,7 +46,8 @@ StepsRead Where layout voice (step ∷ steps) desk =
     StepReads Where layout step desk × StepsRead Where layout voice steps (stepped layout voice step desk)
 
 -- in the turns of a loop: what comes first, and the body where the test isn't met
-abbrev pub TurnsRead : ℕ → Test → (Desk → Desk) → (Desk → Desk) → (Desk → Type 0) → (Desk → Type 0) → Desk → Type 0
+abbrev pub TurnsRead : ℕ → Test → (Desk → Desk) → (Desk → Desk) → (Desk → Type 0) → (Desk →
+    Type 0) → Desk → Type 0
 TurnsRead zero test first turn HeadReads BodyReads desk = Unit {0}
 TurnsRead (suc n) test first turn HeadReads BodyReads desk =
     HeadReads desk × (is_met test (first desk) ≡ false → BodyReads (first desk)

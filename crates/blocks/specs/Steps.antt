@@ -1,6 +1,7 @@
 -- What each step and each test does on the desk, in the terms of the 6502's own instructions. Source: the MOS 6502
 -- programming manual.
-use Rattle.std.specs.Prelude.{ℕ, ◌+◌, ◌-◌, ◌*◌, ◌/◌, ◌%◌, Bool, not, List, [], ◌∷◌, nat_eq, nat_le, bit_and, bit_or}
+use Rattle.std.specs.Prelude.{ℕ, ◌+◌, ◌-◌, ◌*◌, ◌/◌, ◌%◌, Bool, not, List, [], ◌∷◌, nat_eq}
+use Rattle.std.specs.Prelude.{nat_le, bit_and, bit_or}
 use Rattle.std.specs.Prelude.{bit_xor}
 use Rattle.cpu6502.specs.declared.memory.TheConstants.{MEMORY_SIZE}
 use Rattle.cpu6502.specs.Registers.{one_if}

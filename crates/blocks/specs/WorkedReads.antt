@@ -52,7 +52,8 @@ abbrev pub RowsReadOn : Type 0
 RowsReadOn =
     Reads (λ place. place ≡ 0x1005) laid (ThenTree (ChainTree (Index (Const 2) ∷ []))
     (ChainTree (Load (Direct (Entry 3)) ∷ []))) 0 (desk 7 9 true)
-    × (Reads (λ place. place ≡ 0x1005) laid (ThenTree third (ChainTree (Index (Const 0) ∷ Load (Direct (Entry 3)) ∷ []))) 0
+    × (Reads (λ place. place ≡ 0x1005) laid (ThenTree third (ChainTree (Index (Const 0)
+    ∷ Load (Direct (Entry 3)) ∷ []))) 0
     (desk 7 9 true) → ⊥)
     × (Reads (λ place. ⊥) laid (ThenTree third NoneTree) 0 (desk 7 9 true) → ⊥)
 

@@ -5,7 +5,8 @@ use Rattle.cpu6502.specs.declared.mnemonic.Mnemonic.TheVariants.{Dex, Jmp, Lda, 
 use Rattle.cpu6502.specs.Registers.{with_a, with_x}
 use Rattle.code_runs.specs.Runs.{State, Goes, Puts}
 use Rattle.code_runs.specs.Calls.{Pulls}
-use Rattle.code_runs.specs.Steps.{jumped, Works, Reads, LoadSteps, TransferSteps, LogicSteps, SumSteps, CompareSteps, ShiftSteps, CountSteps, FlagSteps, JumpSteps, StackSteps}
+use Rattle.code_runs.specs.Steps.{jumped, Works, Reads, LoadSteps, TransferSteps, LogicSteps, SumSteps, CompareSteps}
+use Rattle.code_runs.specs.Steps.{ShiftSteps, CountSteps, FlagSteps, JumpSteps, StackSteps}
 
 pub load_steps : LoadSteps
 load_steps = record {

@@ -30,7 +30,8 @@ StandAlone =
 -- one of two bytes that is no branch, where its opcode does and the operand's byte after it
 abbrev pub StandByByte : Type 0
 StandByByte =
-    (at : ℕ → ℕ) (pc opcode p1 byte : ℕ) (mnemonic : Mnemonic) (mode : Mode) → length_of mode ≡ 2 → mode ≢ Relative →
+    (at : ℕ → ℕ) (pc opcode p1 byte : ℕ) (mnemonic : Mnemonic) (mode : Mode) → length_of mode ≡ 2 →
+    mode ≢ Relative →
     at pc ≡ opcode → meaning_of opcode ≡ Some (mnemonic, mode) → (pc + 1) % MEMORY_SIZE ≡ p1 → at p1 ≡ byte →
     Stands at pc mnemonic mode byte
 
@@ -39,7 +40,8 @@ abbrev pub StandByWord : Type 0
 StandByWord =
     (at : ℕ → ℕ) (pc opcode p1 p2 low high word : ℕ) (mnemonic : Mnemonic) (mode : Mode) → length_of mode ≡ 3 →
     at pc ≡ opcode → meaning_of opcode ≡ Some (mnemonic, mode) → (pc + 1) % MEMORY_SIZE ≡ p1 →
-    (p1 + 1) % MEMORY_SIZE ≡ p2 → at p1 ≡ low → at p2 ≡ high → low + 256 * high ≡ word → Stands at pc mnemonic mode word
+    (p1 + 1) % MEMORY_SIZE ≡ p2 → at p1 ≡ low → at p2 ≡ high → low + 256 * high ≡ word →
+    Stands at pc mnemonic mode word
 
 -- a branch, where its opcode does and the byte after it that leads to its target
 abbrev pub BranchesStand : Type 0

@@ -1,6 +1,7 @@
 -- Runs of machine code on a memory that is a function from places to bytes: the form in which code is reasoned about.
 -- Their steps are the effects of the MOS 6502 programming manual's instructions.
-use Rattle.std.specs.Prelude.{◌≡◌, ℕ, zero, suc, ◌<◌, List, [], ◌∷◌, Ok, nat_eq, slice_index, if◌then◌else◌}
+use Rattle.std.specs.Prelude.{◌≡◌, ℕ, zero, suc, ◌<◌, List, [], ◌∷◌, Ok, nat_eq, slice_index}
+use Rattle.std.specs.Prelude.{if◌then◌else◌}
 use Rattle.cpu6502.specs.declared.cpu.Cpu.{Cpu}
 use Rattle.cpu6502.specs.declared.effect.Write.{Write}
 use Rattle.cpu6502.specs.declared.effect.Effect.{Effect}

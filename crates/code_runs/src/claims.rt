@@ -1,7 +1,8 @@
 //! Facts about runs of machine code, each the contract of a function that does nothing.
 
 ghost use Rattle.code_runs.specs.Calls.{CallsBeginSo, MachinesFollowRuns, RunsAreCalls, RunsStayInside};
-ghost use Rattle.code_runs.specs.Steps.{BranchSteps, CompareSteps, CountSteps, FlagSteps, JumpSteps, LoadSteps, LogicSteps, ShiftSteps, StackSteps, SumSteps, TransferSteps};
+ghost use Rattle.code_runs.specs.Steps.{BranchSteps, CompareSteps, CountSteps, FlagSteps, JumpSteps, LoadSteps};
+ghost use Rattle.code_runs.specs.Steps.{LogicSteps, ShiftSteps, StackSteps, SumSteps, TransferSteps};
 ghost use Rattle.code_runs.specs.Decoded.{BranchesStand, CodeStays, StandAlone, StandByByte, StandByWord, StandingHasEffect};
 
 /// A run from the entry of a call to address 0, with the stack pointer back, is that call, in the run's number of

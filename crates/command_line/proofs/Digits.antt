@@ -1,5 +1,6 @@
 -- Hexadecimal digits in upper case.
-use Rattle.std.proofs.Common.{◌≡◌, ℕ, ◌<◌, ◌/◌, ◌%◌, Bool, true, List, [], ◌∷◌, map, nat_eq, slice_index, get_or, refl, ap, ◌∙◌, arith}
+use Rattle.std.proofs.Common.{◌≡◌, ℕ, ◌<◌, ◌/◌, ◌%◌, Bool, true, List, [], ◌∷◌, map, nat_eq}
+use Rattle.std.proofs.Common.{slice_index, get_or, refl, ap, ◌∙◌, arith}
 use Rattle.std.proofs.lemmas.Bool.{agree_below_at, eqb-true}
 use Rattle.std.specs.Char.{to_ascii_uppercase}
 use Rattle.hex.specs.Hex.{lower_digits, upper_digits, encode_with, encode_lower, encode_upper}

@@ -1,5 +1,7 @@
 -- The words of the command line, and the job that they name.
-use Rattle.std.proofs.Common.{◌≡◌, ℕ, ◌≤◌, ◌<◌, ◌+◌, ◌-◌, ◌*◌, ◌^◌, Bool, true, false, if◌then◌else◌, codes, List, [], ◌∷◌, length, get_or, drop, Option, Some, None, subst, Result, Ok, Err, IfOk, OnErr, refl, sym, ap, ◌∙◌, String, arith}
+use Rattle.std.proofs.Common.{◌≡◌, ℕ, ◌≤◌, ◌<◌, ◌+◌, ◌-◌, ◌*◌, ◌^◌, Bool, true, false}
+use Rattle.std.proofs.Common.{if◌then◌else◌, codes, List, [], ◌∷◌, length, get_or, drop, Option, Some, None}
+use Rattle.std.proofs.Common.{subst, Result, Ok, Err, IfOk, OnErr, refl, sym, ap, ◌∙◌, String, arith}
 use Rattle.std.proofs.lemmas.Fmt.{decimal_injective, decimal_digit}
 use Rattle.std.specs.Global.{Global}
 use Rattle.std.specs.String.{string_bytes}
@@ -14,10 +16,13 @@ use Rattle.play_model.specs.State.{no_options}
 use Rattle.command_line.specs.declared.chip.Chip.{Chip}
 use Rattle.command_line.specs.declared.chip.Chip.TheVariants.{Mos6581, Mos8580}
 use Rattle.command_line.specs.declared.topics.Topic.{Topic}
-use Rattle.command_line.specs.declared.topics.Topic.TheVariants.{All, Check, Parts, Trace, Pack, Run, Show, Edit, Copy, Join, Disasm, Asm, Selftest, Help, Version}
+use Rattle.command_line.specs.declared.topics.Topic.TheVariants.{All, Check, Parts, Trace, Pack, Run, Show, Edit, Copy}
+use Rattle.command_line.specs.declared.topics.Topic.TheVariants.{Join, Disasm, Asm, Selftest, Help, Version}
 use Rattle.command_line.specs.Topics.{form_word}
 use Rattle.command_line.specs.Words as asked
-use Rattle.command_line.specs.Words.{Job, texts, format_word, skip_word, system_word, chip_word, IsAddressWord, IsZeroPageWord, IsNumberWord, IsSpeedWord, AreOptionWords, unsaid, said, ArePackOptionWords, untold, told, ArePackArguments}
+use Rattle.command_line.specs.Words.{Job, texts, format_word, skip_word, system_word, chip_word, IsAddressWord}
+use Rattle.command_line.specs.Words.{IsZeroPageWord, IsNumberWord, IsSpeedWord, AreOptionWords, unsaid, said}
+use Rattle.command_line.specs.Words.{ArePackOptionWords, untold, told, ArePackArguments}
 use Rattle.command_line.specs.Forms.{WordsOf, command_of, command_named}
 
 module _ {T E : Type 0} where

@@ -4,7 +4,8 @@ use Rattle.std.specs.Option.{option_to_list}
 use Rattle.std.specs.Str.{bytes_eq}
 use Rattle.command_line.specs.Topics.{form_word}
 use Rattle.command_line.specs.Words as asked
-use Rattle.command_line.specs.Words.{Job, ArePackArguments, AreTraceArguments, AreRunArguments, AreSelftestArguments, ArePartsArguments}
+use Rattle.command_line.specs.Words.{Job, ArePackArguments, AreTraceArguments, AreRunArguments, AreSelftestArguments}
+use Rattle.command_line.specs.Words.{ArePartsArguments}
 
 -- a command, and the words after it
 pub record Form : Type 1 where

@@ -1,7 +1,8 @@
 -- What `help` is asked for, and what it and `version` print, line by line, each with its line feed.
 use Rattle.std.specs.Prelude.{ℕ, List, map, codes, Option, Some, None}
 use Rattle.command_line.specs.declared.topics.Topic.{Topic}
-use Rattle.command_line.specs.declared.topics.Topic.TheVariants.{All, Check, Parts, Trace, Pack, Run, Show, Edit, Copy, Join, Disasm, Asm, Selftest, Help, Version}
+use Rattle.command_line.specs.declared.topics.Topic.TheVariants.{All, Check, Parts, Trace, Pack, Run, Show, Edit, Copy}
+use Rattle.command_line.specs.declared.topics.Topic.TheVariants.{Join, Disasm, Asm, Selftest, Help, Version}
 use Rattle.command_line.specs.declared.help.songs.TheConstants as songs
 use Rattle.command_line.specs.declared.help.files.TheConstants as files
 use Rattle.command_line.specs.declared.help.others.TheConstants as others

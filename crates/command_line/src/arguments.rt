@@ -6,7 +6,8 @@ ghost use Rattle.play_model.specs.declared.options.Options.{Options as Chosen};
 ghost use Rattle.play_model.specs.declared.options.System.{System as Timing};
 ghost use Rattle.command_line.specs.declared.chip.Chip.{Chip as Sid};
 ghost use Rattle.command_line.specs.Forms.{AreTwoNames, AreThreeNames};
-ghost use Rattle.command_line.specs.Words.{texts, format_word, IsAddressWord, IsZeroPageWord, IsNumberWord, IsSpeedWord, system_word, chip_word, AreOptionWords, ArePackOptionWords};
+ghost use Rattle.command_line.specs.Words.{texts, format_word, IsAddressWord, IsZeroPageWord, IsNumberWord};
+ghost use Rattle.command_line.specs.Words.{IsSpeedWord, system_word, chip_word, AreOptionWords, ArePackOptionWords};
 
 use crate::chip::Chip;
 use crate::words::WordsFault;

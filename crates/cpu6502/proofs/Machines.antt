@@ -1,15 +1,23 @@
 -- Machines stay machines: the effect of each instruction is within the ranges, and what is written leaves memory a
 -- memory.
-use Rattle.std.proofs.Common.{◌≡◌, ℕ, zero, suc, ◌+◌, ◌%◌, ◌<◌, Bool, true, false, not, List, [], ◌∷◌, Option, Some, None, Result, Ok, Err, length, slice_index, slice_set, if◌then◌else◌, All, refl, ◌∙◌, subst, arith, length-set, inl, inr}
+use Rattle.std.proofs.Common.{◌≡◌, ℕ, zero, suc, ◌+◌, ◌%◌, ◌<◌, Bool, true, false, not, List, []}
+use Rattle.std.proofs.Common.{◌∷◌, Option, Some, None, Result, Ok, Err, length, slice_index, slice_set}
+use Rattle.std.proofs.Common.{if◌then◌else◌, All, refl, ◌∙◌, subst, arith, length-set, inl, inr}
 use Rattle.std.proofs.lemmas.Bool.{cases_lt}
 use Rattle.std.proofs.lemmas.List.{get_or_past}
 use Rattle.std.proofs.lemmas.List.Elements.{All-set}
 use Rattle.std.proofs.lemmas.Nat.{or_of_8, xor_of_8}
 use Rattle.base.proofs.Laws.{and_small, one_if_small, word_small}
 use Rattle.cpu6502.specs.declared.mnemonic.Mnemonic.{Mnemonic}
-use Rattle.cpu6502.specs.declared.mnemonic.Mnemonic.TheVariants.{Adc, And, Asl, Bcc, Bcs, Beq, Bit, Bmi, Bne, Bpl, Bvc, Bvs, Clc, Cld, Cli, Clv, Cmp, Cpx, Cpy, Dec, Dex, Dey, Eor, Inc, Inx, Iny, Jmp, Jsr, Lda, Ldx, Ldy, Lsr, Nop, Ora, Pha, Php, Pla, Plp, Rol, Ror, Rti, Rts, Sbc, Sec, Sed, Sei, Sta, Stx, Sty, Tax, Tay, Tsx, Txa, Txs, Tya}
+use Rattle.cpu6502.specs.declared.mnemonic.Mnemonic.TheVariants.{Adc, And, Asl, Bcc, Bcs, Beq, Bit, Bmi, Bne, Bpl, Bvc}
+use Rattle.cpu6502.specs.declared.mnemonic.Mnemonic.TheVariants.{Bvs, Clc, Cld, Cli, Clv, Cmp, Cpx, Cpy, Dec, Dex, Dey}
+use Rattle.cpu6502.specs.declared.mnemonic.Mnemonic.TheVariants.{Eor, Inc, Inx, Iny, Jmp, Jsr, Lda, Ldx, Ldy, Lsr, Nop}
+use Rattle.cpu6502.specs.declared.mnemonic.Mnemonic.TheVariants.{Ora, Pha, Php, Pla, Plp, Rol, Ror, Rti, Rts, Sbc, Sec}
+use Rattle.cpu6502.specs.declared.mnemonic.Mnemonic.TheVariants.{Sed, Sei, Sta, Stx, Sty, Tax, Tay, Tsx, Txa, Txs, Tya}
 use Rattle.cpu6502.specs.declared.mnemonic.Mode.{Mode}
-use Rattle.cpu6502.specs.declared.mnemonic.Mode.TheVariants.{Implied, Accumulator, Immediate, ZeroPage, ZeroPageX, ZeroPageY, Absolute, AbsoluteX, AbsoluteY, IndirectX, IndirectY, Indirect, Relative}
+use Rattle.cpu6502.specs.declared.mnemonic.Mode.TheVariants.{Implied, Accumulator, Immediate, ZeroPage, ZeroPageX}
+use Rattle.cpu6502.specs.declared.mnemonic.Mode.TheVariants.{ZeroPageY, Absolute, AbsoluteX, AbsoluteY, IndirectX}
+use Rattle.cpu6502.specs.declared.mnemonic.Mode.TheVariants.{IndirectY, Indirect, Relative}
 use Rattle.cpu6502.specs.declared.cpu.Cpu.{Cpu}
 use Rattle.cpu6502.specs.declared.effect.Write.{Write}
 use Rattle.cpu6502.specs.declared.effect.Effect.{Effect}
@@ -29,7 +37,8 @@ use Rattle.cpu6502.specs.Stack.{status_of, stack_effect}
 use Rattle.cpu6502.specs.Jumps.{jump_effect}
 use Rattle.cpu6502.specs.Flags.{flag_effect}
 use Rattle.cpu6502.specs.Transfers.{transfer_effect}
-use Rattle.cpu6502.specs.Effects.{address_of, or_effect, data_effect, other_effect, stop_of, unless_stopped, effect_of, moved, done_by}
+use Rattle.cpu6502.specs.Effects.{address_of, or_effect, data_effect, other_effect, stop_of, unless_stopped, effect_of}
+use Rattle.cpu6502.specs.Effects.{moved, done_by}
 use Rattle.cpu6502.specs.Step.{written, stepped, next_effect, step}
 use Rattle.cpu6502.specs.Call.{after_step, run, return_address, entered}
 use Rattle.cpu6502.specs.Code.{IsMachine}

@@ -1,7 +1,8 @@
 -- A call of machine code: how a machine enters it, what it is to return, and how a call that does not return ends.
 -- JSR and RTS are those of the MOS 6502 programming manual; the return address $FFFF, which RTS makes 0, is this
 -- project's own.
-use Rattle.std.specs.Prelude.{◌≡◌, ℕ, zero, suc, ◌+◌, ◌%◌, ◌<◌, List, [], ◌∷◌, ◌++◌, Result, Ok, Err}
+use Rattle.std.specs.Prelude.{◌≡◌, ℕ, zero, suc, ◌+◌, ◌%◌, ◌<◌, List, [], ◌∷◌, ◌++◌}
+use Rattle.std.specs.Prelude.{Result, Ok, Err}
 use Rattle.cpu6502.specs.declared.effect.Write.{Write}
 use Rattle.cpu6502.specs.declared.effect.Effect.{Effect}
 use Rattle.cpu6502.specs.declared.machine.Machine.{Machine}

@@ -1,6 +1,7 @@
 -- The log of what a call writes to the SID, whose 25 writable registers stand at $D400 to $D418. Source: the SID's
 -- place in the Commodore 64's memory map.
-use Rattle.std.specs.Prelude.{◌-◌, min, ◌&&◌, List, take, length, filter_map, Option, Some, None, nat_le, if◌then◌else◌}
+use Rattle.std.specs.Prelude.{◌-◌, min, ◌&&◌, List, take, length, filter_map, Option, Some, None, nat_le}
+use Rattle.std.specs.Prelude.{if◌then◌else◌}
 use Rattle.cpu6502.specs.declared.effect.Write.{Write}
 use Rattle.cpu6502.specs.declared.log.SidWrite.{SidWrite}
 use Rattle.cpu6502.specs.declared.log.WriteLog.{WriteLog}

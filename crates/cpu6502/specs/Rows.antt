@@ -1,11 +1,15 @@
 -- What the decode table says: how many rows it has, in all and of each number of cycles, that no two are alike, and
 -- rows as they are printed. Source: the MOS 6502 programming manual, which documents 151 opcodes.
-use Rattle.std.specs.Prelude.{◌≡◌, ℕ, zero, suc, ◌+◌, ◌<◌, Bool, false, Option, None, Some, nat_eq, count_by, if◌then◌else◌}
+use Rattle.std.specs.Prelude.{◌≡◌, ℕ, zero, suc, ◌+◌, ◌<◌, Bool, false, Option, None, Some, nat_eq}
+use Rattle.std.specs.Prelude.{count_by, if◌then◌else◌}
 use Rattle.std.specs.Option.{is_some}
 use Rattle.cpu6502.specs.declared.mnemonic.Mnemonic.{Mnemonic}
-use Rattle.cpu6502.specs.declared.mnemonic.Mnemonic.TheVariants.{Adc, Asl, Bit, Bne, Brk, Inc, Jmp, Jsr, Lda, Ldx, Nop, Pha, Pla, Ror, Rti, Rts, Sta, Stx}
+use Rattle.cpu6502.specs.declared.mnemonic.Mnemonic.TheVariants.{Adc, Asl, Bit, Bne, Brk, Inc, Jmp, Jsr, Lda, Ldx, Nop}
+use Rattle.cpu6502.specs.declared.mnemonic.Mnemonic.TheVariants.{Pha, Pla, Ror, Rti, Rts, Sta, Stx}
 use Rattle.cpu6502.specs.declared.mnemonic.Mode.{Mode}
-use Rattle.cpu6502.specs.declared.mnemonic.Mode.TheVariants.{Implied, Accumulator, Immediate, ZeroPage, ZeroPageX, ZeroPageY, Absolute, AbsoluteX, AbsoluteY, IndirectX, IndirectY, Indirect, Relative}
+use Rattle.cpu6502.specs.declared.mnemonic.Mode.TheVariants.{Implied, Accumulator, Immediate, ZeroPage, ZeroPageX}
+use Rattle.cpu6502.specs.declared.mnemonic.Mode.TheVariants.{ZeroPageY, Absolute, AbsoluteX, AbsoluteY, IndirectX}
+use Rattle.cpu6502.specs.declared.mnemonic.Mode.TheVariants.{IndirectY, Indirect, Relative}
 use Rattle.cpu6502.specs.declared.table.Row.{Row}
 use Rattle.cpu6502.specs.declared.table.TheConstants.{TABLE}
 use Rattle.cpu6502.specs.Opcodes.{Meaning, row_of, meaning_of, opcode_of}

@@ -1,13 +1,16 @@
 //! Facts about the definitions of this crate, each the contract of a function that does nothing.
 
 ghost use Rattle.cpu6502.specs.Opcodes.{OpcodesHaveRows, RowsHaveOpcodes};
-ghost use Rattle.cpu6502.specs.Rows.{TableHas151Rows, RowsDiffer, CyclesAreCounted, ReadsHaveRows, StoresHaveRows, ChangesHaveRows, OthersHaveRows, UndocumentedBytesHaveNone, MissingModesHaveNone};
+ghost use Rattle.cpu6502.specs.Rows.{TableHas151Rows, RowsDiffer, CyclesAreCounted, ReadsHaveRows, StoresHaveRows};
+ghost use Rattle.cpu6502.specs.Rows.{ChangesHaveRows, OthersHaveRows, UndocumentedBytesHaveNone, MissingModesHaveNone};
 ghost use Rattle.cpu6502.specs.Stops.{StopsHaveCauses};
 ghost use Rattle.cpu6502.specs.Machines.{CallsKeepMachines, StepsKeepMachines};
 ghost use Rattle.cpu6502.specs.Sums.{DifferencesAreOfNumbers, SumsAreOfNumbers};
 ghost use Rattle.cpu6502.specs.WorkedCalls.{CallersPush, LogsHaveRoom, MemoryIsFull, SidStandsThere};
-ghost use Rattle.cpu6502.specs.WorkedModes.{ComparesInModes, CountsInModes, LoadsInModes, LogicInModes, ShiftsInModes, StoresInModes, SumsInModes};
-ghost use Rattle.cpu6502.specs.WorkedSteps.{Branches, Differences, JumpsAndReturns, LoadsAndStores, ShiftsAndCounts, Stack, Stops, Sums, TransfersAndFlags};
+ghost use Rattle.cpu6502.specs.WorkedModes.{ComparesInModes, CountsInModes, LoadsInModes, LogicInModes, ShiftsInModes};
+ghost use Rattle.cpu6502.specs.WorkedModes.{StoresInModes, SumsInModes};
+ghost use Rattle.cpu6502.specs.WorkedSteps.{Branches, Differences, JumpsAndReturns, LoadsAndStores, ShiftsAndCounts};
+ghost use Rattle.cpu6502.specs.WorkedSteps.{Stack, Stops, Sums, TransfersAndFlags};
 
 /// The decode table has 151 rows, no two of them alike, and `opcode` and `meaning` are each other's inverse over them.
 pub fn opcode_is_inverse_of_meaning()

@@ -1,6 +1,7 @@
 //! A processor and its memory: one step, and a call.
 
-ghost use Rattle.std.specs.Prelude.{◌≡◌, ℕ, ◌≤◌, Ok, Err, OnOk, OnErr, IfOk, IfErr, ◌++◌, [], List, ◌↔◌, IsTrue};
+ghost use Rattle.std.specs.Prelude.{◌≡◌, ℕ, ◌≤◌, Ok, Err, OnOk, OnErr, IfOk, IfErr, ◌++◌, [], List};
+ghost use Rattle.std.specs.Prelude.{◌↔◌, IsTrue};
 ghost use Rattle.cpu6502.specs.Step.{step, changed};
 ghost use Rattle.cpu6502.specs.Call.{entered, HasReturned, Called, FailsBy, writes_in};
 ghost use Rattle.cpu6502.specs.declared.log.SidWrite.{SidWrite};

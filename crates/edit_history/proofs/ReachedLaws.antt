@@ -1,5 +1,6 @@
 -- Histories that steps lead to: each edit of them can be done, and memory is never why one can't be.
-use Rattle.std.proofs.Common.{◌≡◌, Bool, true, false, List, [], ◌∷◌, ◌++◌, reverse, Result, Ok, Err, Some, if◌then◌else◌, refl, sym, ap, subst, ◌∙◌}
+use Rattle.std.proofs.Common.{◌≡◌, Bool, true, false, List, [], ◌∷◌, ◌++◌, reverse, Result, Ok, Err}
+use Rattle.std.proofs.Common.{Some, if◌then◌else◌, refl, sym, ap, subst, ◌∙◌}
 use Rattle.std.proofs.lemmas.List.{append-nil, append_assoc, reverse-append}
 use Rattle.song_model.specs.declared.songs.Song.{Song}
 use Rattle.edit_ops.specs.declared.edits.Edit.{Edit}

@@ -1,6 +1,7 @@
 -- A history of edits with undo and redo: the song that it began with, the edits that stand, in order, and those that
 -- were undone, of which the one undone last comes last.
-use Rattle.std.specs.Prelude.{◌-◌, List, [], ◌∷◌, ◌++◌, length, take, drop, Result, Ok, Err, Option, Some, None, if◌then◌else◌, ◌==◌}
+use Rattle.std.specs.Prelude.{◌-◌, List, [], ◌∷◌, ◌++◌, length, take, drop, Result, Ok, Err, Option, Some}
+use Rattle.std.specs.Prelude.{None, if◌then◌else◌, ◌==◌}
 use Rattle.song_model.specs.declared.songs.Song.{Song}
 use Rattle.edit_ops.specs.declared.edits.Edit.{Edit}
 use Rattle.edit_ops.specs.declared.edits.EditFault.{EditFault}

@@ -1,6 +1,7 @@
 //! A song, the edits that stand in it, and those that can be redone.
 
-ghost use Rattle.std.specs.Prelude.{◌≡◌, ◌+◌, ◌≤◌, ◌↔◌, [], vec_len, vec_capacity, Ok, Err, Some, IsErr, IsErrOf, IfOk, OnOk, OnErr};
+ghost use Rattle.std.specs.Prelude.{◌≡◌, ◌+◌, ◌≤◌, ◌↔◌, [], vec_len, vec_capacity, Ok, Err, Some};
+ghost use Rattle.std.specs.Prelude.{IsErr, IsErrOf, IfOk, OnOk, OnErr};
 ghost use Rattle.edit_ops.specs.Edits.{edited};
 ghost use Rattle.edit_ops.specs.Back.{back};
 ghost use Rattle.edit_history.specs.History.{begun, song_of, after_edit, after_undo, after_redo};

@@ -1,10 +1,13 @@
 -- Patterns with their numbers, exchanged one after the other, and the way back.
-use Rattle.std.proofs.Common.{◌≡◌, ℕ, zero, suc, ◌+◌, ◌<◌, Bool, true, ◌&&◌, List, [], ◌∷◌, ◌++◌, length, take, drop, map, reverse, set, get_or, refl, sym, ap, ◌∙◌, append_assoc, arith, nat_lt}
+use Rattle.std.proofs.Common.{◌≡◌, ℕ, zero, suc, ◌+◌, ◌<◌, Bool, true, ◌&&◌, List, [], ◌∷◌}
+use Rattle.std.proofs.Common.{◌++◌, length, take, drop, map, reverse, set, get_or, refl, sym, ap, ◌∙◌}
+use Rattle.std.proofs.Common.{append_assoc, arith, nat_lt}
 use Rattle.std.proofs.Math.ListN.{length-set}
 use Rattle.std.proofs.Math.Seq.{take-suc, drop-cons, get_or-append_seam, set-append_seam}
 use Rattle.std.proofs.lemmas.Bool.Decides.{nat_tests}
 use Rattle.std.proofs.lemmas.Bool.{and_parts}
-use Rattle.std.proofs.lemmas.List.{set-set, set-get_or, reverse-append, length-take-le, length-map, map-append, take_all, drop_all, append-nil, get_or_default}
+use Rattle.std.proofs.lemmas.List.{set-set, set-get_or, reverse-append, length-take-le, length-map, map-append}
+use Rattle.std.proofs.lemmas.List.{take_all, drop_all, append-nil, get_or_default}
 use Rattle.std.proofs.lemmas.List.Folds.{list_all-append}
 use Rattle.song_model.specs.declared.rows.Row.{Row}
 use Rattle.edit_ops.specs.declared.numbered.NumberedPattern.{NumberedPattern}

@@ -1,5 +1,6 @@
 -- Patterns that edits make are within their limits.
-use Rattle.std.proofs.Common.{◌≡◌, ℕ, ◌<◌, ◌≤◌, true, false, get_or, nat_le, nat_lt, nat_eq, eq-eqb, ◌≢◌, List, length, map, set, arith, ap, refl, inl, inr}
+use Rattle.std.proofs.Common.{◌≡◌, ℕ, ◌<◌, ◌≤◌, true, false, get_or, nat_le, nat_lt, nat_eq, eq-eqb}
+use Rattle.std.proofs.Common.{◌≢◌, List, length, map, set, arith, ap, refl, inl, inr}
 use Rattle.std.specs.List.{insert, remove, list_any}
 use Rattle.std.proofs.Math.ListN.{length-set}
 use Rattle.std.proofs.lemmas.List.{length-map}
@@ -13,7 +14,8 @@ use Rattle.song_model.specs.LookUp.{pattern_at}
 use Rattle.song_model.specs.PatternLimits.{IsRow, IsPatternLength, IsPattern}
 use Rattle.song_model.specs.Silence.{rest_row}
 use Rattle.edit_ops.specs.Lists.{resized}
-use Rattle.edit_ops.specs.Patterns.{lacks_pattern, lacks_row, lacks_row_gap, has_rows, is_row, is_note, leaves_range, raised_by, transposed}
+use Rattle.edit_ops.specs.Patterns.{lacks_pattern, lacks_row, lacks_row_gap, has_rows, is_row, is_note, leaves_range}
+use Rattle.edit_ops.specs.Patterns.{raised_by, transposed}
 use Rattle.edit_ops.proofs.ListLaws.{All-insert, All-remove, All-resized, length-resized, none_passes}
 
 pub row_in_range : (row : Row) → row.param < 256 → is_row row ≡ true → IsRow row

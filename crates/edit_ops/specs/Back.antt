@@ -8,7 +8,8 @@ use Rattle.song_model.specs.declared.tables.TableName.{TableName}
 use Rattle.song_model.specs.declared.tables.TableName.TheVariants.{Wave, Pulse, Filter, Speed}
 use Rattle.song_model.specs.LookUp.{with_table}
 use Rattle.edit_ops.specs.declared.inverses.Inverse.{Inverse}
-use Rattle.edit_ops.specs.declared.inverses.Inverse.TheVariants.{Text, OnePattern, OneOrder, OneInstrument, Instruments, OneTable, Subtunes, Patterns, Pointers}
+use Rattle.edit_ops.specs.declared.inverses.Inverse.TheVariants.{Text, OnePattern, OneOrder, OneInstrument, Instruments}
+use Rattle.edit_ops.specs.declared.inverses.Inverse.TheVariants.{OneTable, Subtunes, Patterns, Pointers}
 use Rattle.edit_ops.specs.declared.inverses.PointerParts.{PointerParts}
 use Rattle.edit_ops.specs.Patterns.{lacks_pattern, with_pattern}
 use Rattle.edit_ops.specs.Orders.{lacks_order, with_order}

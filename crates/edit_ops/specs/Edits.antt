@@ -1,19 +1,27 @@
 -- The nineteen edits of a song: what each is refused for, and what it does. This project's own table of them, a
 -- column after the other.
-use Rattle.std.specs.Prelude.{◌-◌, Bool, false, not, ◌||◌, [], ◌∷◌, ◌++◌, map, slice_set, Result, Ok, Err, if◌then◌else◌}
+use Rattle.std.specs.Prelude.{◌-◌, Bool, false, not, ◌||◌, [], ◌∷◌, ◌++◌, map, slice_set, Result, Ok}
+use Rattle.std.specs.Prelude.{Err, if◌then◌else◌}
 use Rattle.std.specs.List.{insert, remove}
 use Rattle.song_model.specs.declared.songs.Song.{Song}
 use Rattle.song_model.specs.LookUp.{pattern_at, instrument_at, void_subtune}
 use Rattle.song_model.specs.Silence.{rest_row}
 use Rattle.edit_ops.specs.declared.edits.Edit.{Edit}
-use Rattle.edit_ops.specs.declared.edits.Edit.TheVariants.{SetRow, InsertRow, DeleteRow, SetLength, CopyPattern, TransposePattern, SetOrder, InsertOrder, DeleteOrder, SetRestart, SetInstrument, SetInstrumentName, SetTable, InsertTable, DeleteTable, SetText, AddSubtune, RemoveSubtune, SetPatternCount}
+use Rattle.edit_ops.specs.declared.edits.Edit.TheVariants.{SetRow, InsertRow, DeleteRow, SetLength, CopyPattern}
+use Rattle.edit_ops.specs.declared.edits.Edit.TheVariants.{TransposePattern, SetOrder, InsertOrder, DeleteOrder}
+use Rattle.edit_ops.specs.declared.edits.Edit.TheVariants.{SetRestart, SetInstrument, SetInstrumentName, SetTable}
+use Rattle.edit_ops.specs.declared.edits.Edit.TheVariants.{InsertTable, DeleteTable, SetText, AddSubtune, RemoveSubtune}
+use Rattle.edit_ops.specs.declared.edits.Edit.TheVariants.{SetPatternCount}
 use Rattle.edit_ops.specs.declared.edits.EditFault.{EditFault}
 use Rattle.edit_ops.specs.declared.edits.EditFault.TheVariants.{NoSuchPlace, OutOfLimit, BadValue}
 use Rattle.edit_ops.specs.Lists.{resized}
-use Rattle.edit_ops.specs.Patterns.{lacks_pattern, lacks_row, lacks_row_gap, has_rows, is_no_length, is_row, some_leaves_range, transposed, with_pattern}
-use Rattle.edit_ops.specs.Orders.{lacks_subtune, lacks_order, lacks_entry, lacks_entry_gap, has_entries, is_endmark, order_at, with_entries, with_restart}
+use Rattle.edit_ops.specs.Patterns.{lacks_pattern, lacks_row, lacks_row_gap, has_rows, is_no_length, is_row}
+use Rattle.edit_ops.specs.Patterns.{some_leaves_range, transposed, with_pattern}
+use Rattle.edit_ops.specs.Orders.{lacks_subtune, lacks_order, lacks_entry, lacks_entry_gap, has_entries, is_endmark}
+use Rattle.edit_ops.specs.Orders.{order_at, with_entries, with_restart}
 use Rattle.edit_ops.specs.Instruments.{is_no_instrument, is_no_field, with_field, with_instrument}
-use Rattle.edit_ops.specs.Tables.{table_named, lacks_table_row, lacks_table_gap, has_table_rows, with_table_row, with_row_inserted, with_row_deleted}
+use Rattle.edit_ops.specs.Tables.{table_named, lacks_table_row, lacks_table_gap, has_table_rows, with_table_row}
+use Rattle.edit_ops.specs.Tables.{with_row_inserted, with_row_deleted}
 use Rattle.edit_ops.specs.Others.{lacks_text, with_text, has_subtunes, is_no_count, rest_pattern}
 
 -- what the edit speaks of isn't there

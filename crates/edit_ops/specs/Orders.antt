@@ -1,6 +1,7 @@
 -- Edits of orderlists. Subtunes are counted as the file has them, from 1, channels from 1 to 3, and the places of
 -- an orderlist from 0.
-use Rattle.std.specs.Prelude.{ℕ, ◌-◌, Bool, ◌||◌, ◌==◌, nat_le, nat_lt, List, length, slice_set, if◌then◌else◌}
+use Rattle.std.specs.Prelude.{ℕ, ◌-◌, Bool, ◌||◌, ◌==◌, nat_le, nat_lt, List, length, slice_set}
+use Rattle.std.specs.Prelude.{if◌then◌else◌}
 use Rattle.song_model.specs.declared.orders.Order.{Order}
 use Rattle.song_model.specs.declared.orders.Subtune.{Subtune}
 use Rattle.song_model.specs.declared.songs.Song.{Song}

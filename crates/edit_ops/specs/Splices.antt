@@ -1,5 +1,6 @@
 -- Items of a list replaced by others.
-use Rattle.std.specs.Prelude.{ℕ, ◌+◌, Bool, ◌&&◌, nat_le, List, ◌++◌, length, take, drop, Option, Some, None, vec_capacity, if◌then◌else◌}
+use Rattle.std.specs.Prelude.{ℕ, ◌+◌, Bool, ◌&&◌, nat_le, List, ◌++◌, length, take, drop, Option, Some}
+use Rattle.std.specs.Prelude.{None, vec_capacity, if◌then◌else◌}
 use Rattle.edit_ops.specs.declared.splices.Splice.{Splice}
 
 -- the list with these items in place of `count` ones from place `at` on

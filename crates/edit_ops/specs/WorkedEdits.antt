@@ -5,8 +5,13 @@ use Rattle.song_model.specs.declared.orders.Subtune.{Subtune}
 use Rattle.song_model.specs.declared.songs.Song.{Song}
 use Rattle.song_model.specs.LookUp.{zero_instrument, void_subtune}
 use Rattle.song_model.specs.Silence.{empty_song, rest_row}
-use Rattle.edit_ops.specs.declared.edits.Edit.TheVariants.{SetRow, InsertRow, DeleteRow, SetLength, CopyPattern, TransposePattern, SetOrder, InsertOrder, DeleteOrder, SetRestart, SetInstrument, SetInstrumentName, SetTable, InsertTable, DeleteTable, SetText, AddSubtune, RemoveSubtune, SetPatternCount}
-use Rattle.edit_ops.specs.WorkedSongs.{Make, sides, note_row, row_of, order_with, pattern_song, notes_song, order_song, instruments_song, tables_song, small_song}
+use Rattle.edit_ops.specs.declared.edits.Edit.TheVariants.{SetRow, InsertRow, DeleteRow, SetLength, CopyPattern}
+use Rattle.edit_ops.specs.declared.edits.Edit.TheVariants.{TransposePattern, SetOrder, InsertOrder, DeleteOrder}
+use Rattle.edit_ops.specs.declared.edits.Edit.TheVariants.{SetRestart, SetInstrument, SetInstrumentName, SetTable}
+use Rattle.edit_ops.specs.declared.edits.Edit.TheVariants.{InsertTable, DeleteTable, SetText, AddSubtune, RemoveSubtune}
+use Rattle.edit_ops.specs.declared.edits.Edit.TheVariants.{SetPatternCount}
+use Rattle.edit_ops.specs.WorkedSongs.{Make, sides, note_row, row_of, order_with, pattern_song, notes_song, order_song}
+use Rattle.edit_ops.specs.WorkedSongs.{instruments_song, tables_song, small_song}
 
 -- ---- patterns
 
@@ -27,7 +32,11 @@ InsertsRows = Make (notes_song (0x61 ∷ 0x62 ∷ [])) (
     (InsertRow 0 0 (note_row 0x70), notes_song (0x70 ∷ 0x61 ∷ 0x62 ∷ []))
     ∷ (InsertRow 0 1 (note_row 0x70), notes_song (0x61 ∷ 0x70 ∷ 0x62 ∷ []))
     ∷ (InsertRow 0 2 (note_row 0x70), notes_song (0x61 ∷ 0x62 ∷ 0x70 ∷ []))
-    ∷ (InsertRow 0 2 (row_of 0xBF 0x3F 0x0F 0xFF), pattern_song (note_row 0x61 ∷ note_row 0x62 ∷ row_of 0xBF 0x3F 0x0F 0xFF ∷ []))
+    ∷ (
+      InsertRow 0 2 (row_of 0xBF 0x3F 0x0F 0xFF),
+      pattern_song (note_row 0x61 ∷ note_row 0x62
+          ∷ row_of 0xBF 0x3F 0x0F 0xFF ∷ []),
+    )
     ∷ []
     )
 
@@ -249,7 +258,8 @@ StoresInstruments = Make (instruments_song (full_instrument ∷ full_instrument 
     ∷ (
       SetInstrumentName 4 (replicate 16 0x42),
       instruments_song
-          (full_instrument ∷ full_instrument ∷ zero_instrument ∷ record zero_instrument { name = replicate 16 0x42 } ∷ []),
+          (full_instrument ∷ full_instrument ∷ zero_instrument
+          ∷ record zero_instrument { name = replicate 16 0x42 } ∷ []),
     )
     ∷ []
     )
@@ -320,7 +330,8 @@ CountsPatterns = Make small_song (
       SetPatternCount 4,
       record small_song {
         patterns =
-            (note_row 0x60 ∷ rest_row ∷ []) ∷ (note_row 0xBC ∷ []) ∷ replicate 64 rest_row ∷ replicate 64 rest_row ∷ [];
+            (note_row 0x60 ∷ rest_row ∷ []) ∷ (note_row 0xBC ∷ []) ∷ replicate 64 rest_row
+            ∷ replicate 64 rest_row ∷ [];
       },
     )
     ∷ []

@@ -28,7 +28,8 @@ InsertsAWaveRow =
     edited pointer_song (InsertTable 0 2 (sides 0xFF 2)) ≡ Ok (record pointer_song {
       instruments = pointing 3 1 1 2 ∷ pointing 1 2 2 1 ∷ [];
       wave = sides 0x41 3 ∷ sides 0xFF 2 ∷ sides 0xF9 2 ∷ sides 0xFA 2 ∷ sides 0xF4 2 ∷ sides 0xFF 3 ∷ [];
-      patterns = (rest_with 8 3 ∷ rest_with 9 2 ∷ rest_with 0xA 2 ∷ rest_with 1 2 ∷ rest_with 0xE 2 ∷ rest_with 0 2 ∷ []) ∷ [];
+      patterns = (rest_with 8 3 ∷ rest_with 9 2 ∷ rest_with 0xA 2 ∷ rest_with 1 2 ∷ rest_with 0xE 2
+          ∷ rest_with 0 2 ∷ []) ∷ [];
     })
 
 -- wave row 1 goes: pointers to 2 become 1, and the pointer of instrument 2 to row 1 itself stays
@@ -37,7 +38,8 @@ DeletesAWaveRow =
     edited pointer_song (DeleteTable 0 1) ≡ Ok (record pointer_song {
       instruments = pointing 1 1 1 2 ∷ pointing 1 2 2 1 ∷ [];
       wave = sides 0xF9 2 ∷ sides 0xFA 2 ∷ sides 0xF4 2 ∷ sides 0xFF 1 ∷ [];
-      patterns = (rest_with 8 1 ∷ rest_with 9 2 ∷ rest_with 0xA 2 ∷ rest_with 1 2 ∷ rest_with 0xE 2 ∷ rest_with 0 2 ∷ []) ∷ [];
+      patterns = (rest_with 8 1 ∷ rest_with 9 2 ∷ rest_with 0xA 2 ∷ rest_with 1 2 ∷ rest_with 0xE 2
+          ∷ rest_with 0 2 ∷ []) ∷ [];
     })
 
 -- a pulse row before row 2: the pointers of instrument 2, of command 9, of the wave row F9 and of the jump row
@@ -47,7 +49,8 @@ InsertsAPulseRow =
       instruments = pointing 2 1 1 2 ∷ pointing 1 3 2 1 ∷ [];
       wave = sides 0x41 3 ∷ sides 0xF9 3 ∷ sides 0xFA 2 ∷ sides 0xF4 2 ∷ sides 0xFF 2 ∷ [];
       pulse = sides 0x88 2 ∷ sides 0x20 1 ∷ sides 0xFF 3 ∷ [];
-      patterns = (rest_with 8 2 ∷ rest_with 9 3 ∷ rest_with 0xA 2 ∷ rest_with 1 2 ∷ rest_with 0xE 2 ∷ rest_with 0 2 ∷ []) ∷ [];
+      patterns = (rest_with 8 2 ∷ rest_with 9 3 ∷ rest_with 0xA 2 ∷ rest_with 1 2 ∷ rest_with 0xE 2
+          ∷ rest_with 0 2 ∷ []) ∷ [];
     })
 
 -- filter row 1 goes
@@ -57,7 +60,8 @@ DeletesAFilterRow =
       instruments = pointing 2 1 1 2 ∷ pointing 1 2 1 1 ∷ [];
       wave = sides 0x41 3 ∷ sides 0xF9 2 ∷ sides 0xFA 1 ∷ sides 0xF4 2 ∷ sides 0xFF 2 ∷ [];
       filter = sides 0xFF 1 ∷ [];
-      patterns = (rest_with 8 2 ∷ rest_with 9 2 ∷ rest_with 0xA 1 ∷ rest_with 1 2 ∷ rest_with 0xE 2 ∷ rest_with 0 2 ∷ []) ∷ [];
+      patterns = (rest_with 8 2 ∷ rest_with 9 2 ∷ rest_with 0xA 1 ∷ rest_with 1 2 ∷ rest_with 0xE 2
+          ∷ rest_with 0 2 ∷ []) ∷ [];
     })
 
 -- a speed row before row 2: vibratos, the commands 1 and $E, and the wave row F4; the speed table has no jump row
@@ -67,7 +71,8 @@ InsertsASpeedRow =
       instruments = pointing 2 1 1 3 ∷ pointing 1 2 2 1 ∷ [];
       wave = sides 0x41 3 ∷ sides 0xF9 2 ∷ sides 0xFA 2 ∷ sides 0xF4 3 ∷ sides 0xFF 2 ∷ [];
       speed = sides 0xFF 2 ∷ sides 1 1 ∷ sides 3 2 ∷ [];
-      patterns = (rest_with 8 2 ∷ rest_with 9 2 ∷ rest_with 0xA 2 ∷ rest_with 1 3 ∷ rest_with 0xE 3 ∷ rest_with 0 2 ∷ []) ∷ [];
+      patterns = (rest_with 8 2 ∷ rest_with 9 2 ∷ rest_with 0xA 2 ∷ rest_with 1 3 ∷ rest_with 0xE 3
+          ∷ rest_with 0 2 ∷ []) ∷ [];
     })
 
 -- ---- each command, and each row of the wave table that is one
@@ -140,7 +145,8 @@ MovesIntoWave = Make all_at_2 ((
   record (commands_song
       (2 ∷ 2 ∷ 2 ∷ 2 ∷ 2 ∷ 2 ∷ 2 ∷ 2 ∷ 3 ∷ 2 ∷ 2 ∷ 2 ∷ 2 ∷ 2 ∷ 2 ∷ 2 ∷ []) []) {
         wave = sides 0x0F 2 ∷ sides 2 2 ∷ sides 0xEF 2
-            ∷ rows_from 0xF0 (2 ∷ 2 ∷ 2 ∷ 2 ∷ 2 ∷ 2 ∷ 2 ∷ 2 ∷ 2 ∷ 2 ∷ 2 ∷ 2 ∷ 2 ∷ 2 ∷ 2 ∷ 3 ∷ []);
+            ∷ rows_from 0xF0 (2 ∷ 2 ∷ 2 ∷ 2 ∷ 2 ∷ 2 ∷ 2 ∷ 2 ∷ 2 ∷ 2 ∷ 2 ∷ 2 ∷ 2 ∷ 2 ∷ 2
+            ∷ 3 ∷ []);
       },
 )
     ∷ (
@@ -148,7 +154,8 @@ MovesIntoWave = Make all_at_2 ((
       record (commands_song
           (2 ∷ 2 ∷ 2 ∷ 2 ∷ 2 ∷ 2 ∷ 2 ∷ 2 ∷ 1 ∷ 2 ∷ 2 ∷ 2 ∷ 2 ∷ 2 ∷ 2 ∷ 2 ∷ []) []) {
             wave = sides 0xEF 2
-                ∷ rows_from 0xF0 (2 ∷ 2 ∷ 2 ∷ 2 ∷ 2 ∷ 2 ∷ 2 ∷ 2 ∷ 2 ∷ 2 ∷ 2 ∷ 2 ∷ 2 ∷ 2 ∷ 2 ∷ 1 ∷ []);
+                ∷ rows_from 0xF0 (2 ∷ 2 ∷ 2 ∷ 2 ∷ 2 ∷ 2 ∷ 2 ∷ 2 ∷ 2 ∷ 2 ∷ 2 ∷ 2 ∷ 2 ∷ 2
+                ∷ 2 ∷ 1 ∷ []);
           },
     )
     ∷ []

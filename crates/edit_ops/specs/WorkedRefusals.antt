@@ -4,8 +4,13 @@ use Rattle.song_model.specs.declared.rows.Row.{Row}
 use Rattle.song_model.specs.LookUp.{void_subtune}
 use Rattle.song_model.specs.Silence.{empty_song, rest_row}
 use Rattle.edit_ops.specs.declared.edits.EditFault.TheVariants.{NoSuchPlace, OutOfLimit, BadValue}
-use Rattle.edit_ops.specs.declared.edits.Edit.TheVariants.{SetRow, InsertRow, DeleteRow, SetLength, CopyPattern, TransposePattern, SetOrder, InsertOrder, DeleteOrder, SetRestart, SetInstrument, SetInstrumentName, SetTable, InsertTable, DeleteTable, SetText, AddSubtune, RemoveSubtune, SetPatternCount}
-use Rattle.edit_ops.specs.WorkedSongs.{AreRefused, sides, rest_with, row_of, order_with, pattern_song, order_song, tables_song, small_song}
+use Rattle.edit_ops.specs.declared.edits.Edit.TheVariants.{SetRow, InsertRow, DeleteRow, SetLength, CopyPattern}
+use Rattle.edit_ops.specs.declared.edits.Edit.TheVariants.{TransposePattern, SetOrder, InsertOrder, DeleteOrder}
+use Rattle.edit_ops.specs.declared.edits.Edit.TheVariants.{SetRestart, SetInstrument, SetInstrumentName, SetTable}
+use Rattle.edit_ops.specs.declared.edits.Edit.TheVariants.{InsertTable, DeleteTable, SetText, AddSubtune, RemoveSubtune}
+use Rattle.edit_ops.specs.declared.edits.Edit.TheVariants.{SetPatternCount}
+use Rattle.edit_ops.specs.WorkedSongs.{AreRefused, sides, rest_with, row_of, order_with, pattern_song, order_song}
+use Rattle.edit_ops.specs.WorkedSongs.{tables_song, small_song}
 
 -- ---- no such place
 
@@ -127,7 +132,8 @@ OrderOfEntries =
     InsertOrder 2 2 255 5 ∷ InsertOrder 3 2 0 0xFF ∷ InsertOrder 2 4 0 0xFF ∷ SetOrder 2 2 254 0xFF
     ∷ InsertOrder 2 2 255 0xFF ∷ []
     )
-    × AreRefused OutOfLimit (order_song (order_with (replicate 254 7) 0)) (InsertOrder 2 2 0 0xFF ∷ InsertOrder 2 2 254 0xFF ∷ [])
+    × AreRefused OutOfLimit (order_song (order_with (replicate 254 7) 0)) (InsertOrder 2 2 0 0xFF
+    ∷ InsertOrder 2 2 254 0xFF ∷ [])
 
 -- full tables: place and limit; an instrument that no song has: place and value
 abbrev pub OrderOfTables : Type 0

@@ -56,7 +56,8 @@ pointer_song = record empty_song {
   pulse = sides 0x88 2 ∷ sides 0xFF 2 ∷ [];
   filter = sides 0x90 2 ∷ sides 0xFF 2 ∷ [];
   speed = sides 0xFF 2 ∷ sides 3 2 ∷ [];
-  patterns = (rest_with 8 2 ∷ rest_with 9 2 ∷ rest_with 0xA 2 ∷ rest_with 1 2 ∷ rest_with 0xE 2 ∷ rest_with 0 2 ∷ []) ∷ [];
+  patterns = (rest_with 8 2 ∷ rest_with 9 2 ∷ rest_with 0xA 2 ∷ rest_with 1 2 ∷ rest_with 0xE 2
+      ∷ rest_with 0 2 ∷ []) ∷ [];
 }
 
 -- a song whose only pattern has these rows

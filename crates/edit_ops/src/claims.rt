@@ -1,9 +1,20 @@
 //! Facts about the definitions of this crate, each the contract of a function that does nothing.
 
 ghost use Rattle.edit_ops.specs.SameRows.{NamesItAfterAnInsert, NamesItAfterADelete, PointsAtNothingStill};
-ghost use Rattle.edit_ops.specs.WorkedPointers.{RaisesFromTheRow, LowersAboveTheRow, InsertsAWaveRow, DeletesAWaveRow, InsertsAPulseRow, DeletesAFilterRow, InsertsASpeedRow, MovesIntoPulse, MovesIntoFilter, MovesIntoSpeed, MovesIntoWave, MovesToTheEnd, MovesRoundARow};
-ghost use Rattle.edit_ops.specs.WorkedRefusals.{LacksPatterns, LacksOrders, LacksTableRows, LacksInstruments, LimitsRows, LimitsOrders, LimitsTables, RangesOfRows, RangesOfValues, RangesOfNotes, OrderOfRows, OrderOfLengths, OrderOfEntries, OrderOfTables};
-ghost use Rattle.edit_ops.specs.WorkedEdits.{SetsRows, InsertsRows, FillsPatterns, DeletesRows, SetsLengths, EditsOnePattern, TransposesToTheEnds, TransposesNotesAlone, EditsOrders, EmptiesOrders, FillsOrders, EditsOneChannel, AddsSubtunes, RemovesSubtunes, SetsFields, StoresInstruments, StoresTheLast, SetsTableRows, InsertsTableRows, FillsTables, SetsTexts, CountsPatterns, FillsSongs};
+ghost use Rattle.edit_ops.specs.WorkedPointers.{RaisesFromTheRow, LowersAboveTheRow, InsertsAWaveRow, DeletesAWaveRow};
+ghost use Rattle.edit_ops.specs.WorkedPointers.{InsertsAPulseRow, DeletesAFilterRow, InsertsASpeedRow, MovesIntoPulse};
+ghost use Rattle.edit_ops.specs.WorkedPointers.{MovesIntoFilter, MovesIntoSpeed, MovesIntoWave, MovesToTheEnd};
+ghost use Rattle.edit_ops.specs.WorkedPointers.{MovesRoundARow};
+ghost use Rattle.edit_ops.specs.WorkedRefusals.{LacksPatterns, LacksOrders, LacksTableRows, LacksInstruments};
+ghost use Rattle.edit_ops.specs.WorkedRefusals.{LimitsRows, LimitsOrders, LimitsTables, RangesOfRows, RangesOfValues};
+ghost use Rattle.edit_ops.specs.WorkedRefusals.{RangesOfNotes, OrderOfRows, OrderOfLengths, OrderOfEntries};
+ghost use Rattle.edit_ops.specs.WorkedRefusals.{OrderOfTables};
+ghost use Rattle.edit_ops.specs.WorkedEdits.{SetsRows, InsertsRows, FillsPatterns, DeletesRows, SetsLengths};
+ghost use Rattle.edit_ops.specs.WorkedEdits.{EditsOnePattern, TransposesToTheEnds, TransposesNotesAlone, EditsOrders};
+ghost use Rattle.edit_ops.specs.WorkedEdits.{EmptiesOrders, FillsOrders, EditsOneChannel, AddsSubtunes};
+ghost use Rattle.edit_ops.specs.WorkedEdits.{RemovesSubtunes, SetsFields, StoresInstruments, StoresTheLast};
+ghost use Rattle.edit_ops.specs.WorkedEdits.{SetsTableRows, InsertsTableRows, FillsTables, SetsTexts, CountsPatterns};
+ghost use Rattle.edit_ops.specs.WorkedEdits.{FillsSongs};
 
 /// A pointer to a stored row names the same row after an insert, and after the delete of another row; one at nothing
 /// stays one.

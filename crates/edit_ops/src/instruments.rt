@@ -2,7 +2,8 @@
 
 ghost use Rattle.std.specs.Prelude.{◌≡◌, true, false, ◌-◌, ◌≤◌, length, slice_set, Some, IfOk};
 ghost use Rattle.song_model.specs.LookUp.{zero_instrument, instrument_at};
-ghost use Rattle.edit_ops.specs.Instruments.{is_no_instrument, lacks_instrument, is_no_field, with_field, stored_up_to, with_instrument};
+ghost use Rattle.edit_ops.specs.Instruments.{is_no_instrument, lacks_instrument, is_no_field, with_field, stored_up_to};
+ghost use Rattle.edit_ops.specs.Instruments.{with_instrument};
 ghost use Rattle.edit_ops.specs.Back.{back};
 ghost use Rattle.edit_ops.specs.Does.{Does};
 

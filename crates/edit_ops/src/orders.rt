@@ -4,7 +4,9 @@ ghost use Rattle.std.specs.Prelude.{◌≡◌, true, false, ◌-◌, ◌<◌, �
 ghost use Rattle.std.specs.List.{insert, remove};
 ghost use Rattle.song_model.specs.OrderLimits.{AreEntries};
 ghost use Rattle.song_model.specs.LookUp.{order_of};
-ghost use Rattle.edit_ops.specs.Orders.{lacks_subtune, lacks_order, lacks_entry, lacks_entry_gap, has_entries, is_endmark, subtune_at, order_at, with_channel, with_order, with_entries, with_restart};
+ghost use Rattle.edit_ops.specs.Orders.{lacks_subtune, lacks_order, lacks_entry, lacks_entry_gap, has_entries};
+ghost use Rattle.edit_ops.specs.Orders.{is_endmark, subtune_at, order_at, with_channel, with_order, with_entries};
+ghost use Rattle.edit_ops.specs.Orders.{with_restart};
 ghost use Rattle.edit_ops.specs.Back.{back};
 ghost use Rattle.edit_ops.specs.Does.{Does};
 

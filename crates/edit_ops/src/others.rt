@@ -1,6 +1,7 @@
 //! Edits of texts, and of how many subtunes and patterns a song has.
 
-ghost use Rattle.std.specs.Prelude.{◌≡◌, true, false, ◌+◌, ◌-◌, ◌≤◌, ◌∷◌, ◌++◌, [], Some, length, replicate, vec_capacity, IfOk, OnOk};
+ghost use Rattle.std.specs.Prelude.{◌≡◌, true, false, ◌+◌, ◌-◌, ◌≤◌, ◌∷◌, ◌++◌, [], Some};
+ghost use Rattle.std.specs.Prelude.{length, replicate, vec_capacity, IfOk, OnOk};
 ghost use Rattle.std.specs.List.{remove};
 ghost use Rattle.song_model.specs.LookUp.{void_order, void_subtune};
 ghost use Rattle.edit_ops.specs.Lists.{resized};

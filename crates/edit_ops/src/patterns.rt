@@ -6,7 +6,9 @@ ghost use Rattle.song_model.specs.PatternLimits.{IsPattern};
 ghost use Rattle.song_model.specs.LookUp.{pattern_at};
 ghost use Rattle.song_model.specs.Silence.{rest_row};
 ghost use Rattle.edit_ops.specs.Lists.{resized};
-ghost use Rattle.edit_ops.specs.Patterns.{lacks_pattern, lacks_row, lacks_row_gap, has_rows, is_no_length, is_row, is_note, raised_by, leaves_range, some_leaves_range, transposed, with_pattern};
+ghost use Rattle.edit_ops.specs.Patterns.{lacks_pattern, lacks_row, lacks_row_gap, has_rows, is_no_length, is_row};
+ghost use Rattle.edit_ops.specs.Patterns.{is_note, raised_by, leaves_range, some_leaves_range, transposed};
+ghost use Rattle.edit_ops.specs.Patterns.{with_pattern};
 ghost use Rattle.edit_ops.specs.Back.{back};
 ghost use Rattle.edit_ops.specs.Does.{Does};
 

@@ -2,7 +2,8 @@
 
 ghost use Rattle.std.specs.Prelude.{◌≡◌, true, length, map, IfOk};
 ghost use Rattle.std.specs.List.{list_any};
-ghost use Rattle.edit_ops.specs.Pointers.{shifted, is_into, right_table, moved_instrument, is_moved, moved_row, moved_table_row, moved_table, moved_song};
+ghost use Rattle.edit_ops.specs.Pointers.{shifted, is_into, right_table, moved_instrument, is_moved, moved_row};
+ghost use Rattle.edit_ops.specs.Pointers.{moved_table_row, moved_table, moved_song};
 ghost use Rattle.edit_ops.specs.Numbered.{are_stored, with_all};
 ghost use Rattle.edit_ops.specs.Back.{with_parts, are_parts};
 

@@ -1,6 +1,7 @@
 //! Items of a list replaced by others, without memory.
 
-ghost use Rattle.std.specs.Prelude.{◌≡◌, ◌+◌, ◌-◌, ◌≤◌, ◌++◌, Some, IsSome, take, drop, reverse, vec_len, vec_capacity};
+ghost use Rattle.std.specs.Prelude.{◌≡◌, ◌+◌, ◌-◌, ◌≤◌, ◌++◌, Some, IsSome, take, drop};
+ghost use Rattle.std.specs.Prelude.{reverse, vec_len, vec_capacity};
 ghost use Rattle.edit_ops.specs.Splices.{spliced, replaced};
 
 use song_model::Bounded;

@@ -5,7 +5,8 @@ ghost use Rattle.std.specs.List.{insert, remove};
 ghost use Rattle.song_model.specs.LookUp.{table_of, with_table};
 ghost use Rattle.edit_ops.specs.Pointers.{shifted, moved_song};
 ghost use Rattle.edit_ops.specs.Back.{back, with_parts, are_parts, table_in, with_table_in};
-ghost use Rattle.edit_ops.specs.Tables.{table_named, lacks_table_row, lacks_table_gap, has_table_rows, with_table_row, with_row_inserted, with_row_deleted};
+ghost use Rattle.edit_ops.specs.Tables.{table_named, lacks_table_row, lacks_table_gap, has_table_rows, with_table_row};
+ghost use Rattle.edit_ops.specs.Tables.{with_row_inserted, with_row_deleted};
 ghost use Rattle.edit_ops.specs.Does.{Does};
 
 use crate::inverses::{exchange_parts, exchange_table};

@@ -1,5 +1,7 @@
 -- The fold over commands, one command on; and what a text makes of a song in one way.
-use Rattle.std.proofs.Common.{◌≡◌, ℕ, ◌+◌, ◌<◌, List, [], ◌∷◌, ◌++◌, length, take, drop, get_or, Result, Ok, Err, Option, Some, None, refl, sym, ap, ◌∙◌, ◌⊎◌, ◌↔◌, inl, inr, subst, arith}
+use Rattle.std.proofs.Common.{◌≡◌, ℕ, ◌+◌, ◌<◌, List, [], ◌∷◌, ◌++◌, length, take, drop}
+use Rattle.std.proofs.Common.{get_or, Result, Ok, Err, Option, Some, None, refl, sym, ap, ◌∙◌, ◌⊎◌}
+use Rattle.std.proofs.Common.{◌↔◌, inl, inr, subst, arith}
 use Rattle.std.specs.List.{Contains}
 use Rattle.std.proofs.lemmas.List.{take-append-drop, take_more, drop_more}
 use Rattle.song_model.specs.declared.songs.Song.{Song}
@@ -7,12 +9,14 @@ use Rattle.edit_ops.specs.declared.edits.Edit.{Edit}
 use Rattle.edit_ops.specs.declared.edits.EditFault.{EditFault}
 use Rattle.edit_ops.specs.declared.edits.EditFault.TheVariants as by_edit
 use Rattle.edit_history.specs.History.{History, begun, song_after, song_of, after_edit, after_undo, after_redo}
-use Rattle.edit_history.proofs.Laws.{edit_never, unrefused_is_done, IsReached, begun_reached, reached_has_song, edit_reached, undo_reached, redo_reached}
+use Rattle.edit_history.proofs.Laws.{edit_never, unrefused_is_done, IsReached, begun_reached, reached_has_song}
+use Rattle.edit_history.proofs.Laws.{edit_reached, undo_reached, redo_reached}
 use Rattle.edit_script.specs.declared.commands.Action.{Action}
 use Rattle.edit_script.specs.declared.commands.Action.TheVariants as action
 use Rattle.edit_script.specs.declared.commands.Command.{Command}
 use Rattle.edit_script.specs.declared.kinds.RunKind.{RunKind}
-use Rattle.edit_script.specs.declared.kinds.RunKind.TheVariants.{NoSuchPlace, OutOfLimit, BadValue, NothingToUndo, NothingToRedo, NoMemory}
+use Rattle.edit_script.specs.declared.kinds.RunKind.TheVariants.{NoSuchPlace, OutOfLimit, BadValue, NothingToUndo}
+use Rattle.edit_script.specs.declared.kinds.RunKind.TheVariants.{NothingToRedo, NoMemory}
 use Rattle.edit_script.specs.Scripts.{IsScript}
 use Rattle.edit_script.specs.Runs.{Stop, kind_of, edit_done, step_done, after_action, fold_of, fold_on}
 use Rattle.edit_script.specs.Edited.{IsEditedBy, FailsAt, no_script, not_done, kind_words, bad_line_words, failure_words}

@@ -4,7 +4,8 @@ use Rattle.song_model.specs.declared.songs.Song.{Song}
 use Rattle.edit_history.specs.History.{History, begun, song_of}
 use Rattle.edit_script.specs.declared.commands.Command.{Command}
 use Rattle.edit_script.specs.declared.kinds.RunKind.{RunKind}
-use Rattle.edit_script.specs.declared.kinds.RunKind.TheVariants.{NoSuchPlace, OutOfLimit, BadValue, NothingToUndo, NothingToRedo, NoMemory}
+use Rattle.edit_script.specs.declared.kinds.RunKind.TheVariants.{NoSuchPlace, OutOfLimit, BadValue, NothingToUndo}
+use Rattle.edit_script.specs.declared.kinds.RunKind.TheVariants.{NothingToRedo, NoMemory}
 use Rattle.edit_script.specs.Scripts.{IsScript, IsFirstBadLine}
 use Rattle.edit_script.specs.Runs.{Stop, fold_of}
 

@@ -1,16 +1,25 @@
 -- How a line is read: its word, its arguments by their sizes, and what the two make.
-use Rattle.std.specs.Prelude.{ℕ, ◌*◌, ◌==◌, ◌&&◌, nat_le, if◌then◌else◌, List, [], ◌∷◌, ◌++◌, length, map, take, drop, slice_index, Option, Some, None}
+use Rattle.std.specs.Prelude.{ℕ, ◌*◌, ◌==◌, ◌&&◌, nat_le, if◌then◌else◌, List, [], ◌∷◌}
+use Rattle.std.specs.Prelude.{◌++◌, length, map, take, drop, slice_index, Option, Some, None}
 use Rattle.std.specs.Result.{result_ok}
 use Rattle.std.specs.List.{position_or_len, find}
 use Rattle.std.specs.Str.{bytes_eq}
 use Rattle.hex.specs.Hex.{decode_sized}
 use Rattle.song_model.specs.declared.rows.Row.{Row}
 use Rattle.song_model.specs.declared.tables.TableRow.{TableRow}
-use Rattle.edit_ops.specs.declared.edits.Edit.TheVariants.{SetRow, InsertRow, DeleteRow, SetLength, CopyPattern, TransposePattern, SetOrder, InsertOrder, DeleteOrder, SetRestart, SetInstrument, SetInstrumentName, SetTable, InsertTable, DeleteTable, SetText, AddSubtune, RemoveSubtune, SetPatternCount}
+use Rattle.edit_ops.specs.declared.edits.Edit.TheVariants.{SetRow, InsertRow, DeleteRow, SetLength, CopyPattern}
+use Rattle.edit_ops.specs.declared.edits.Edit.TheVariants.{TransposePattern, SetOrder, InsertOrder, DeleteOrder}
+use Rattle.edit_ops.specs.declared.edits.Edit.TheVariants.{SetRestart, SetInstrument, SetInstrumentName, SetTable}
+use Rattle.edit_ops.specs.declared.edits.Edit.TheVariants.{InsertTable, DeleteTable, SetText, AddSubtune, RemoveSubtune}
+use Rattle.edit_ops.specs.declared.edits.Edit.TheVariants.{SetPatternCount}
 use Rattle.edit_script.specs.declared.commands.Action.{Action}
 use Rattle.edit_script.specs.declared.commands.Action.TheVariants as action
 use Rattle.edit_script.specs.declared.forms.Keyword.{Keyword}
-use Rattle.edit_script.specs.declared.forms.Keyword.TheVariants.{Row as KRow, RowInsert, RowDelete, PatternLength, PatternCopy, PatternTranspose, Order, OrderInsert, OrderDelete, OrderRestart, Instrument, InstrumentName, Table, TableInsert, TableDelete, Text, SubtuneAdd, SubtuneRemove, PatternCount, Undo, Redo}
+use Rattle.edit_script.specs.declared.forms.Keyword.TheVariants.{Row as KRow, RowInsert, RowDelete, PatternLength}
+use Rattle.edit_script.specs.declared.forms.Keyword.TheVariants.{PatternCopy, PatternTranspose, Order, OrderInsert}
+use Rattle.edit_script.specs.declared.forms.Keyword.TheVariants.{OrderDelete, OrderRestart, Instrument, InstrumentName}
+use Rattle.edit_script.specs.declared.forms.Keyword.TheVariants.{Table, TableInsert, TableDelete, Text, SubtuneAdd}
+use Rattle.edit_script.specs.declared.forms.Keyword.TheVariants.{SubtuneRemove, PatternCount, Undo, Redo}
 use Rattle.edit_script.specs.Forms.{Argument, form_of}
 
 -- the next part is read where this one was

@@ -7,7 +7,8 @@ use Rattle.edit_script.specs.declared.commands.Action.{Action}
 use Rattle.edit_script.specs.declared.commands.Action.TheVariants as action
 use Rattle.edit_script.specs.declared.commands.Command.{Command}
 use Rattle.edit_script.specs.declared.kinds.RunKind.{RunKind}
-use Rattle.edit_script.specs.declared.kinds.RunKind.TheVariants.{NoSuchPlace, OutOfLimit, BadValue, NothingToUndo, NothingToRedo, NoMemory}
+use Rattle.edit_script.specs.declared.kinds.RunKind.TheVariants.{NoSuchPlace, OutOfLimit, BadValue, NothingToUndo}
+use Rattle.edit_script.specs.declared.kinds.RunKind.TheVariants.{NothingToRedo, NoMemory}
 
 -- why an edit can't be done
 abbrev pub kind_of : EditFault → RunKind

@@ -1,7 +1,11 @@
 -- Lines and scripts that were worked out by hand.
 use Rattle.std.specs.Prelude.{ℕ, List, [], ◌∷◌, ◌++◌, codes, replicate}
 use Rattle.edit_ops.specs.declared.edits.Edit.{Edit}
-use Rattle.edit_ops.specs.declared.edits.Edit.TheVariants.{SetRow, InsertRow, DeleteRow, SetLength, CopyPattern, TransposePattern, SetOrder, InsertOrder, DeleteOrder, SetRestart, SetInstrument, SetInstrumentName, SetTable, InsertTable, DeleteTable, SetText, AddSubtune, RemoveSubtune, SetPatternCount}
+use Rattle.edit_ops.specs.declared.edits.Edit.TheVariants.{SetRow, InsertRow, DeleteRow, SetLength, CopyPattern}
+use Rattle.edit_ops.specs.declared.edits.Edit.TheVariants.{TransposePattern, SetOrder, InsertOrder, DeleteOrder}
+use Rattle.edit_ops.specs.declared.edits.Edit.TheVariants.{SetRestart, SetInstrument, SetInstrumentName, SetTable}
+use Rattle.edit_ops.specs.declared.edits.Edit.TheVariants.{InsertTable, DeleteTable, SetText, AddSubtune, RemoveSubtune}
+use Rattle.edit_ops.specs.declared.edits.Edit.TheVariants.{SetPatternCount}
 use Rattle.edit_script.specs.declared.commands.Action.TheVariants as action
 use Rattle.edit_script.specs.Spells.{Spells, IsLine}
 use Rattle.edit_script.specs.Scripts.{IsScript, IsFirstBadLine}

@@ -2,7 +2,9 @@
 
 ghost use Rattle.edit_script.specs.ScriptLaws.{ConstantIs, OneScriptOrOneBadLine};
 ghost use Rattle.edit_script.specs.EditLaws.{EditsInOneWay, LeavesWhatItUndoes};
-ghost use Rattle.edit_script.specs.WorkedScripts.{RowIsRead, EditsAreRead, NamesAreRead, WordsAreRead, OneBlankIsWanted, DigitsAreCounted, FormsAreKept, BytesAreKept, LinesAreCounted, NothingIsAScript, ReturnsAreKept, FirstIsNamed};
+ghost use Rattle.edit_script.specs.WorkedScripts.{RowIsRead, EditsAreRead, NamesAreRead, WordsAreRead};
+ghost use Rattle.edit_script.specs.WorkedScripts.{OneBlankIsWanted, DigitsAreCounted, FormsAreKept, BytesAreKept};
+ghost use Rattle.edit_script.specs.WorkedScripts.{LinesAreCounted, NothingIsAScript, ReturnsAreKept, FirstIsNamed};
 ghost use Rattle.edit_script.specs.WorkedRuns.{RowsComeAndGo, NothingIsTold, ReasonsAreTold};
 
 /// Each text is a script of exactly one list of commands, or has exactly one first bad line and is no script.

@@ -1,6 +1,8 @@
 -- Small images that play the silent song from their first init on: init may also store in the two jumps before the
 -- routines, and leaves the one to play.
-use Rattle.std.proofs.Common.{◌≡◌, ℕ, zero, suc, ◌+◌, ◌%◌, ◌<◌, ◌≤◌, inl, inr, Bool, true, ◌&&◌, ◌||◌, nat_lt, nat_le, List, [], ◌∷◌, ◌++◌, length, replicate, slice_index, refl, sym, ap, ◌∙◌, arith}
+use Rattle.std.proofs.Common.{◌≡◌, ℕ, zero, suc, ◌+◌, ◌%◌, ◌<◌, ◌≤◌, inl, inr, Bool, true}
+use Rattle.std.proofs.Common.{◌&&◌, ◌||◌, nat_lt, nat_le, List, [], ◌∷◌, ◌++◌, length, replicate}
+use Rattle.std.proofs.Common.{slice_index, refl, sym, ap, ◌∙◌, arith}
 use Rattle.song_model.specs.Silence.{silence}
 use Rattle.play_model.specs.State.{no_options}
 use Rattle.play_model.specs.Frame.{trace_with}
@@ -16,8 +18,10 @@ use Rattle.faithful.specs.Faithful.{Leaves, AgreesOn, LeavesAndGoesOn, PlaysOn, 
 use Rattle.faithful.specs.Timers.{SetsTimer}
 use Rattle.faithful.specs.Routines.{Op, routine, image_with}
 use Rattle.faithful.proofs.LoadedCalls.{and_true}
-use Rattle.faithful.proofs.Routines.{all_done, step_count, EachStore, IsSafe, begun, ended, call_steps, others_stay, HasRoutine, routine_is_called}
-use Rattle.faithful.proofs.RightImages.{is_port, or_true, le_is, lt_is, high_off, port_high, port_own, port_safe, own_below, LeavesSo}
+use Rattle.faithful.proofs.Routines.{all_done, step_count, EachStore, IsSafe, begun, ended, call_steps, others_stay}
+use Rattle.faithful.proofs.Routines.{HasRoutine, routine_is_called}
+use Rattle.faithful.proofs.RightImages.{is_port, or_true, le_is, lt_is, high_off, port_high, port_own, port_safe}
+use Rattle.faithful.proofs.RightImages.{own_below, LeavesSo}
 use Rattle.faithful.proofs.SilentFrames.{silent_trace}
 use Rattle.faithful.proofs.SmallImages.{stores_pass, each_store, bytes_from, play_part, init_routine, play_routine}
 

@@ -1,5 +1,7 @@
 -- Routines of small images, run wherever they stand, from any registers and in any memory.
-use Rattle.std.proofs.Common.{◌≡◌, ◌≢◌, ℕ, suc, ◌+◌, ◌/◌, ◌%◌, ◌<◌, ◌≤◌, ◌⊎◌, inl, inr, Bool, true, false, if◌then◌else◌, List, [], ◌∷◌, length, Some, refl, sym, ap, ◌∙◌, subst, arith}
+use Rattle.std.proofs.Common.{◌≡◌, ◌≢◌, ℕ, suc, ◌+◌, ◌/◌, ◌%◌, ◌<◌, ◌≤◌, ◌⊎◌}
+use Rattle.std.proofs.Common.{inl, inr, Bool, true, false, if◌then◌else◌, List, [], ◌∷◌, length, Some, refl}
+use Rattle.std.proofs.Common.{sym, ap, ◌∙◌, subst, arith}
 use Rattle.cpu6502.specs.declared.machine.Machine.{Machine}
 use Rattle.cpu6502.specs.declared.memory.TheConstants.{MEMORY_SIZE}
 use Rattle.cpu6502.specs.declared.mnemonic.Mnemonic.{Mnemonic}
@@ -11,7 +13,10 @@ use Rattle.cpu6502.specs.Call.{entered}
 use Rattle.code_runs.specs.Runs.{State, view, put, Goes, Puts, Leads}
 use Rattle.code_runs.specs.Code.{Stands}
 use Rattle.code_runs.specs.Calls.{IsBelow, CallsTo, Pulls}
-use Rattle.code_runs.proofs.Laws.{jumped, stay, goes, puts, goes_once, leads_on, put_other, stands_implied, stands_immediate, stands_absolute, stands_relative, works, reads, reads_immediate, load_steps, flag_steps, lda, ldx, sta, jmp, rts, beq_taken, beq_passed, call_returns, entry_pulls}
+use Rattle.code_runs.proofs.Laws.{jumped, stay, goes, puts, goes_once, leads_on, put_other, stands_implied}
+use Rattle.code_runs.proofs.Laws.{stands_immediate, stands_absolute, stands_relative, works, reads, reads_immediate}
+use Rattle.code_runs.proofs.Laws.{load_steps, flag_steps, lda, ldx, sta, jmp, rts, beq_taken, beq_passed, call_returns}
+use Rattle.code_runs.proofs.Laws.{entry_pulls}
 use Rattle.faithful.specs.Routines.{Op, LoadA, LoadX, FetchA, StoreA, StoreX, SkipNop, Wait, routine}
 use Rattle.faithful.proofs.Waiting.{LoopStands, wait_steps, loop_leads}
 

@@ -1,7 +1,9 @@
 -- The trace of the silent song: after init zeros, and in each frame 24 zeros and the volume, at the speeds 1 and 2; and
 -- so of each subtune of the same song twice.
 use Rattle.std.specs.Prelude.{nat_lt, slice_index_or}
-use Rattle.std.proofs.Common.{◌≡◌, ℕ, zero, suc, ◌+◌, ◌-◌, ◌*◌, ◌%◌, ◌<◌, ◌≤◌, ◌⊎◌, inl, inr, Bool, true, false, if◌then◌else◌, List, [], ◌∷◌, ◌++◌, replicate, refl, ap, ◌∙◌, arith}
+use Rattle.std.proofs.Common.{◌≡◌, ℕ, zero, suc, ◌+◌, ◌-◌, ◌*◌, ◌%◌, ◌<◌, ◌≤◌}
+use Rattle.std.proofs.Common.{◌⊎◌, inl, inr, Bool, true, false, if◌then◌else◌, List, [], ◌∷◌}
+use Rattle.std.proofs.Common.{◌++◌, replicate, refl, ap, ◌∙◌, arith}
 use Rattle.std.proofs.lemmas.Bool.Decides.{nat_tests}
 use Rattle.song_model.specs.LookUp.{playable_subtune, instrument_at, table_row, pattern_at}
 use Rattle.song_model.specs.Silence.{silence, order_of_zero}
@@ -17,7 +19,8 @@ use Rattle.play_model.specs.WaveStep.{wave_step}
 use Rattle.play_model.specs.EffectStep.{effect_step}
 use Rattle.play_model.specs.PulseStep.{pulse_step}
 use Rattle.play_model.specs.FetchRow.{fetched, fetch_row}
-use Rattle.play_model.specs.Frame.{voice_step, voice_done, voice_registers, filter_registers, Framed, framed, frame_of, subtune_at, frame_with, state_after_with, trace_with}
+use Rattle.play_model.specs.Frame.{voice_step, voice_done, voice_registers, filter_registers, Framed, framed, frame_of}
+use Rattle.play_model.specs.Frame.{subtune_at, frame_with, state_after_with, trace_with}
 use Rattle.faithful.specs.WorkedImages.{two_silences}
 
 -- ---- the states

@@ -7,7 +7,8 @@ use Rattle.cpu6502.specs.declared.mnemonic.Mnemonic.TheVariants.{Bne, Dex, Dey, 
 use Rattle.cpu6502.specs.Effects.{displacement}
 use Rattle.cpu6502.specs.Registers.{with_x, with_y}
 use Rattle.code_runs.specs.Runs.{State, Goes, Leads}
-use Rattle.code_runs.proofs.Laws.{jumped, Works, goes, goes_once, leads_on, in_steps, stands_implied, stands_relative, works, flag_steps, count_steps, dex, bne_taken, bne_passed}
+use Rattle.code_runs.proofs.Laws.{jumped, Works, goes, goes_once, leads_on, in_steps, stands_implied, stands_relative}
+use Rattle.code_runs.proofs.Laws.{works, flag_steps, count_steps, dex, bne_taken, bne_passed}
 
 -- two NOPs, DEX and BNE to the first of them; DEY and BNE to it
 pub record LoopStands (at : ℕ → ℕ) (a : ℕ) : Type 0 where

@@ -1,12 +1,14 @@
 -- Machines that the words of an image's calls hold of, and machines beside them.
-use Rattle.std.proofs.Common.{◌≡◌, ◌≢◌, ℕ, ◌+◌, ◌<◌, false, List, slice_index, slice_set, lit<, inr, refl, sym, ap, subst, arith}
+use Rattle.std.proofs.Common.{◌≡◌, ◌≢◌, ℕ, ◌+◌, ◌<◌, false, List, slice_index, slice_set, lit<}
+use Rattle.std.proofs.Common.{inr, refl, sym, ap, subst, arith}
 use Rattle.std.proofs.lemmas.List.{get_or-set_other}
 use Rattle.play_model.specs.declared.options.Options.{Options}
 use Rattle.play_model.specs.State.{no_options}
 use Rattle.sid_run.specs.State.{loaded_memory, sid_registers}
 use Rattle.faithful.specs.Confined.{IsOwnPlace, memory_at_entry}
 use Rattle.faithful.specs.WorkedPlaces.{IsOwn, twice}
-use Rattle.faithful.specs.WorkedMachines.{machine_with, with_byte, caller, MayChange, sixteen, Agrees, EndsAlike, TimersAreTold, ChangesAreTold, PairsAreTold}
+use Rattle.faithful.specs.WorkedMachines.{machine_with, with_byte, caller, MayChange, sixteen, Agrees, EndsAlike}
+use Rattle.faithful.specs.WorkedMachines.{TimersAreTold, ChangesAreTold, PairsAreTold}
 use Rattle.faithful.proofs.WorkedPlaces.{is_own, not_own}
 
 pub timers_are_told : TimersAreTold

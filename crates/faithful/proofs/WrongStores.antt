@@ -1,5 +1,6 @@
 -- Small images that don't play the silent song: they store at places that aren't their own.
-use Rattle.std.proofs.Common.{◌≡◌, ℕ, List, [], ◌∷◌, ◌++◌, length, Contains, lit<, refl, sym, ap, ◌∙◌, subst, arith}
+use Rattle.std.proofs.Common.{◌≡◌, ℕ, List, [], ◌∷◌, ◌++◌, length, Contains, lit<, refl, sym, ap}
+use Rattle.std.proofs.Common.{◌∙◌, subst, arith}
 use Rattle.song_model.specs.Silence.{silence}
 use Rattle.play_model.specs.State.{no_options}
 use Rattle.cpu6502.specs.declared.effect.Write.{Write}

@@ -1,9 +1,11 @@
 //! Facts about the definitions, each the contract of a function that does nothing.
 
-ghost use Rattle.faithful.specs.Laws.{AlwaysIsFaithful, OwnPlacesAreFew, CallsStoreAtHome, FirstPlaysAreFree, InitsEndAlike, PlaysEndAlike};
+ghost use Rattle.faithful.specs.Laws.{AlwaysIsFaithful, OwnPlacesAreFew, CallsStoreAtHome, FirstPlaysAreFree};
+ghost use Rattle.faithful.specs.Laws.{InitsEndAlike, PlaysEndAlike};
 ghost use Rattle.faithful.specs.WorkedPlaces.{PlacesAreWorked, CallsAreCounted};
 ghost use Rattle.faithful.specs.WorkedMachines.{TimersAreTold, ChangesAreTold, PairsAreTold};
-ghost use Rattle.faithful.specs.WorkedImages.{RightImagesPlay, OrderIsTold, RegistersAreTold, StepsAreTold, StoresAreTold, TimerBytesAreTold, DependencesAreTold};
+ghost use Rattle.faithful.specs.WorkedImages.{RightImagesPlay, OrderIsTold, RegistersAreTold, StepsAreTold};
+ghost use Rattle.faithful.specs.WorkedImages.{StoresAreTold, TimerBytesAreTold, DependencesAreTold};
 
 /// An image that plays a song after any calls plays it after init and any number of plays.
 pub fn what_plays_always_is_faithful()

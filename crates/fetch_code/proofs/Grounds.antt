@@ -1,5 +1,6 @@
 -- What the step stands on, from orderlists and packed patterns that stand in memory.
-use Rattle.std.proofs.Common.{◌≡◌, ℕ, ◌+◌, ◌/◌, ◌%◌, ◌<◌, List, [], ◌∷◌, ◌++◌, length, length-append}
+use Rattle.std.proofs.Common.{◌≡◌, ℕ, ◌+◌, ◌/◌, ◌%◌, ◌<◌, List, [], ◌∷◌, ◌++◌, length}
+use Rattle.std.proofs.Common.{length-append}
 use Rattle.std.proofs.Common.{get_or, refl, subst, arith}
 use Rattle.song_model.specs.declared.orders.Order.{Order}
 use Rattle.play_model.specs.LookUps.{LookUps}

@@ -1,5 +1,6 @@
 -- The stages of `edit`: the song and the script were read, and the script makes another song of it, or fails.
-use Rattle.std.proofs.Common.{◌≡◌, ◌≢◌, ◌⊎◌, ℕ, ◌≤◌, List, [], ◌∷◌, Err, inl, inr, refl, subst, arith}
+use Rattle.std.proofs.Common.{◌≡◌, ◌≢◌, ◌⊎◌, ℕ, ◌≤◌, List, [], ◌∷◌, Err, inl, inr, refl}
+use Rattle.std.proofs.Common.{subst, arith}
 use Rattle.song_model.specs.declared.songs.Song.{Song}
 use Rattle.edit_history.specs.History.{History, begun}
 use Rattle.edit_script.specs.declared.commands.Command.{Command}
@@ -8,7 +9,8 @@ use Rattle.edit_script.specs.declared.faults.ScriptFault.TheVariants as fault
 use Rattle.edit_script.specs.declared.faults.ScriptFault.TheVariants.{BadLine}
 use Rattle.edit_script.specs.declared.kinds.RunFault.{RunFault}
 use Rattle.edit_script.specs.declared.kinds.RunKind.{RunKind}
-use Rattle.edit_script.specs.declared.kinds.RunKind.TheVariants.{NoSuchPlace, OutOfLimit, BadValue, NothingToUndo, NothingToRedo, NoMemory}
+use Rattle.edit_script.specs.declared.kinds.RunKind.TheVariants.{NoSuchPlace, OutOfLimit, BadValue, NothingToUndo}
+use Rattle.edit_script.specs.declared.kinds.RunKind.TheVariants.{NothingToRedo, NoMemory}
 use Rattle.edit_script.specs.Scripts.{IsScript, IsFirstBadLine}
 use Rattle.edit_script.specs.Runs.{fold_of}
 use Rattle.edit_script.specs.Edited.{IsEditedBy, no_script, not_done, kind_words, bad_line_words}

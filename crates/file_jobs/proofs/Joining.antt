@@ -1,5 +1,6 @@
 -- Two songs in one: how a run of `join` goes through its stages.
-use Rattle.std.proofs.Common.{◌≡◌, ◌≢◌, ◌⊎◌, ◌≤◌, ℕ, List, [], ◌∷◌, length, inl, inr, refl, ap, arith}
+use Rattle.std.proofs.Common.{◌≡◌, ◌≢◌, ◌⊎◌, ◌≤◌, ℕ, List, [], ◌∷◌, length, inl, inr}
+use Rattle.std.proofs.Common.{refl, ap, arith}
 use Rattle.goat_io.specs.Files.{Files}
 use Rattle.song_model.specs.declared.songs.Song.{Song}
 use Rattle.gts5.specs.Spells.{Spells}

@@ -3,7 +3,8 @@ use Rattle.std.proofs.Common.{◌≡◌, ◌≢◌, ◌⊎◌, ℕ, List, Some, 
 use Rattle.goat_io.specs.Files.{Files, file_of}
 use Rattle.asm_text.specs.declared.faults.TextFault.{TextFault}
 use Rattle.asm_text.specs.declared.faults.TextKind.{TextKind}
-use Rattle.asm_text.specs.declared.faults.TextKind.TheVariants.{BadLine, DoubleLabel, UnknownLabel, PastEnd, BranchTooFar, NoMemory}
+use Rattle.asm_text.specs.declared.faults.TextKind.TheVariants.{BadLine, DoubleLabel, UnknownLabel, PastEnd}
+use Rattle.asm_text.specs.declared.faults.TextKind.TheVariants.{BranchTooFar, NoMemory}
 use Rattle.asm_text.specs.Faults.{IsFaultOf}
 use Rattle.command_line.specs.Last.{Last, Says, Wants}
 use Rattle.jobs.specs.Lines.{listing_line}

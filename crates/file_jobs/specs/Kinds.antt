@@ -3,7 +3,8 @@ use Rattle.std.specs.Prelude.{ℕ, List, codes}
 use Rattle.song_costs.specs.declared.costs.Costs.{Costs}
 use Rattle.song_costs.specs.Kinds.{all_bytes}
 use Rattle.file_jobs.specs.declared.cost_lines.Kind.{Kind}
-use Rattle.file_jobs.specs.declared.cost_lines.Kind.TheVariants.{Player, Orders, Patterns, Instruments, Wave, Pulse, Filter, Speed, Image}
+use Rattle.file_jobs.specs.declared.cost_lines.Kind.TheVariants.{Player, Orders, Patterns, Instruments, Wave, Pulse}
+use Rattle.file_jobs.specs.declared.cost_lines.Kind.TheVariants.{Filter, Speed, Image}
 
 abbrev pub kind_name : Kind → List ℕ
 kind_name Player = codes "player"

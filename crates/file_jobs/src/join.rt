@@ -1,7 +1,8 @@
 //! `join IN SECOND OUT`: the songs in IN and SECOND are written into OUT, as one song.
 #![tactic(auto, using(crate::proofs::Room::pieces_fit))]
 
-ghost use Rattle.std.specs.Prelude.{◌≡◌, ◌≢◌, ◌≤◌, ℕ, List, [], ◌∷◌, codes, decimal, length, IfOk, IfErr, OnOk};
+ghost use Rattle.std.specs.Prelude.{◌≡◌, ◌≢◌, ◌≤◌, ℕ, List, [], ◌∷◌, codes, decimal, length};
+ghost use Rattle.std.specs.Prelude.{IfOk, IfErr, OnOk};
 ghost use Rattle.goat_io.specs.Files.{Files};
 ghost use Rattle.play_model.specs.Playable.{IsPlayable};
 ghost use Rattle.song_join.specs.Joined.{joined};

@@ -1,6 +1,7 @@
 -- The filter step worked by hand, in a room at $1000 with a table of four rows: what the clause on the code asks is met
 -- there, and what it promises refuses a run that differs in one thing alone.
-use Rattle.std.specs.Prelude.{ℕ, ◌+◌, ◌-◌, ◌&&◌, ◌||◌, ◌==◌, Bool, true, false, nat_lt, List, [], ◌∷◌, slice_index}
+use Rattle.std.specs.Prelude.{ℕ, ◌+◌, ◌-◌, ◌&&◌, ◌||◌, ◌==◌, Bool, true, false, nat_lt, List, []}
+use Rattle.std.specs.Prelude.{◌∷◌, slice_index}
 use Rattle.std.specs.Prelude.{if◌then◌else◌}
 use Rattle.code_runs.specs.Runs.{put}
 use Rattle.song_model.specs.declared.tables.TableRow.{TableRow}

@@ -1,6 +1,7 @@
 //! A folder in memory, for tests.
 
-ghost use Rattle.std.specs.Prelude.{◌≡◌, ◌≤◌, false, ◌/◌, ◌==◌, [], Some, None, Ok, Err, IfOk, OnOk, OnErr, IfSome, IsErrOf, IsErr, IsTrue, take, length, vec_len};
+ghost use Rattle.std.specs.Prelude.{◌≡◌, ◌≤◌, false, ◌/◌, ◌==◌, [], Some, None, Ok, Err, IfOk};
+ghost use Rattle.std.specs.Prelude.{OnOk, OnErr, IfSome, IsErrOf, IsErr, IsTrue, take, length, vec_len};
 ghost use Rattle.std.specs.Option.{option_copied};
 ghost use Rattle.std.specs.FinMap.{empty};
 ghost use Rattle.goat_io.specs.Count.{next_count};

@@ -1,6 +1,7 @@
 //! A sink in memory, for tests.
 
-ghost use Rattle.std.specs.Prelude.{◌≡◌, ◌/◌, ◌++◌, [], Some, Ok, Err, OnOk, IsErrOf, IsErr, IsTrue, ◌==◌, take, length};
+ghost use Rattle.std.specs.Prelude.{◌≡◌, ◌/◌, ◌++◌, [], Some, Ok, Err, OnOk, IsErrOf, IsErr, IsTrue};
+ghost use Rattle.std.specs.Prelude.{◌==◌, take, length};
 ghost use Rattle.goat_io.specs.Count.{Counts, next_count};
 ghost use Rattle.goat_io.specs.Fault.{is_sink_failure};
 ghost use Rattle.goat_io.specs.Written.{told_with_piece, IsTakenInPart};

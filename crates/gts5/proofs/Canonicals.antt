@@ -1,5 +1,6 @@
 -- The laws of the format: one song or one fault, and what the canonical spelling spells.
-use Rattle.std.proofs.Common.{◌≡◌, ℕ, ◌≤◌, List, [], ◌∷◌, ◌++◌, length, map, codes, None, Result, Ok, Err, refl, sym, ap, ◌∙◌, append_assoc, arith}
+use Rattle.std.proofs.Common.{◌≡◌, ℕ, ◌≤◌, List, [], ◌∷◌, ◌++◌, length, map, codes, None}
+use Rattle.std.proofs.Common.{Result, Ok, Err, refl, sym, ap, ◌∙◌, append_assoc, arith}
 use Rattle.std.specs.Prelude.{MatchOption}
 use Rattle.std.specs.List.{All, flat_map}
 use Rattle.std.proofs.lemmas.List.{append-nil, length-append, length-map}
@@ -13,12 +14,15 @@ use Rattle.song_model.specs.declared.songs.Song.{Song}
 use Rattle.song_model.specs.Basics.{IsByte}
 use Rattle.song_model.specs.Limits.{KeepsLimits, IsOrder, IsSubtune, IsInstrument, IsTable}
 use Rattle.song_model.specs.PatternLimits.{IsPattern}
-use Rattle.song_model.specs.Canonical.{canonical, order_text, subtune_text, subtunes_text, instrument_text, instruments_text, table_text, tables_text, row_text, end_row_text, pattern_text, patterns_text, texts_text}
+use Rattle.song_model.specs.Canonical.{canonical, order_text, subtune_text, subtunes_text, instrument_text}
+use Rattle.song_model.specs.Canonical.{instruments_text, table_text, tables_text, row_text, end_row_text, pattern_text}
+use Rattle.song_model.specs.Canonical.{patterns_text, texts_text}
 use Rattle.gts5.specs.declared.faults.SongFault.{SongFault}
 use Rattle.gts5.specs.Faults.{fault_in, fault_of}
 use Rattle.gts5.specs.Reading.{song_of}
 use Rattle.gts5.specs.Spells.{SpellsOrder, SpellsSubtune, SpellsPattern, Spells}
-use Rattle.gts5.specs.FormatLaws.{SpellsOnly, SpellsNone, OneSongOrOneFault, CanonicalIsSpelled, CanonicalHasNoFault, CanonicalIsShort}
+use Rattle.gts5.specs.FormatLaws.{SpellsOnly, SpellsNone, OneSongOrOneFault, CanonicalIsSpelled, CanonicalHasNoFault}
+use Rattle.gts5.specs.FormatLaws.{CanonicalIsShort}
 use Rattle.gts5.proofs.Takes.{ok_is, text_each}
 use Rattle.gts5.proofs.SameFaults.{same_fault}
 use Rattle.gts5.proofs.Whole.{song_takes, song_again}

@@ -1,5 +1,7 @@
 -- The reader's walk stops at the fault that the rules of the format name.
-use Rattle.std.proofs.Common.{◌≡◌, ℕ, zero, suc, ◌+◌, ◌*◌, ◌<◌, ◌≤◌, Bool, true, false, cond, eqb, ltb, List, [], ◌∷◌, length, get_or, take, drop, Result, Ok, Err, refl, sym, ap, ◌∙◌, arith, add-one, inl, inr}
+use Rattle.std.proofs.Common.{◌≡◌, ℕ, zero, suc, ◌+◌, ◌*◌, ◌<◌, ◌≤◌, Bool, true, false, cond}
+use Rattle.std.proofs.Common.{eqb, ltb, List, [], ◌∷◌, length, get_or, take, drop, Result, Ok, Err, refl, sym, ap}
+use Rattle.std.proofs.Common.{◌∙◌, arith, add-one, inl, inr}
 use Rattle.std.specs.List.{list_any}
 use Rattle.std.proofs.lemmas.Bool.{cases_lt, cases_eq, lt-ltb, le-ltb, eq-eqb, ne_eqb, ltb-false}
 use Rattle.std.proofs.lemmas.List.{length-drop, drop-drop}
@@ -8,8 +10,12 @@ use Rattle.song_model.specs.declared.orders.Order.{Order}
 use Rattle.song_model.specs.declared.songs.Song.{Song}
 use Rattle.gts5.specs.declared.faults.SongFault.{SongFault}
 use Rattle.gts5.specs.declared.faults.SongFault.TheVariants.{Truncated, OutOfLimit, BadOrder, BadRow}
-use Rattle.gts5.specs.Faults.{◌>>=◌, offset_of, after_magic, after_bytes, after_each, after_counted, after_order, after_table, row_of, has_ranges, after_rows, after_pattern, after_song, fault_in, fault_of}
-use Rattle.gts5.specs.Reading.{bytes_at, byte_at, count_at, each_at, texts_at, endmark_of, order_at, subtune_at, subtunes_at, instrument_at, instruments_at, table_rows, table_at, tables_at, rows_of, ends_at, cut_at, pattern_at, patterns_at, song_of}
+use Rattle.gts5.specs.Faults.{◌>>=◌, offset_of, after_magic, after_bytes, after_each, after_counted, after_order}
+use Rattle.gts5.specs.Faults.{after_table, row_of, has_ranges, after_rows, after_pattern, after_song, fault_in}
+use Rattle.gts5.specs.Faults.{fault_of}
+use Rattle.gts5.specs.Reading.{bytes_at, byte_at, count_at, each_at, texts_at, endmark_of, order_at, subtune_at}
+use Rattle.gts5.specs.Reading.{subtunes_at, instrument_at, instruments_at, table_rows, table_at, tables_at, rows_of}
+use Rattle.gts5.specs.Reading.{ends_at, cut_at, pattern_at, patterns_at, song_of}
 
 -- what follows a piece, without what it gives
 abbrev follows : {X : Type 0} → Result (X × List ℕ) SongFault → Result (List ℕ) SongFault

@@ -1,5 +1,7 @@
 -- A song that is read is the one that is spelled, and one that is spelled is read.
-use Rattle.std.proofs.Common.{◌≡◌, ◌≢◌, ◌⊎◌, ℕ, ◌≤◌, Bool, true, false, cond, List, ◌∷◌, ◌++◌, length, take, drop, codes, Some, Result, Ok, Err, refl, sym, ap, subst, ◌∙◌, append_assoc, arith, inl, inr, take-append-drop}
+use Rattle.std.proofs.Common.{◌≡◌, ◌≢◌, ◌⊎◌, ℕ, ◌≤◌, Bool, true, false, cond, List, ◌∷◌}
+use Rattle.std.proofs.Common.{◌++◌, length, take, drop, codes, Some, Result, Ok, Err, refl, sym, ap, subst}
+use Rattle.std.proofs.Common.{◌∙◌, append_assoc, arith, inl, inr, take-append-drop}
 use Rattle.std.specs.Prelude.{IfOk, IfErr}
 use Rattle.std.specs.List.{All, flat_map}
 use Rattle.std.specs.Str.{bytes_eq}
@@ -19,13 +21,16 @@ use Rattle.gts5.specs.declared.faults.SongFault.TheVariants.{NotGts5, Truncated,
 use Rattle.gts5.specs.declared.tables.Tables.{Tables}
 use Rattle.gts5.specs.declared.texts.Texts.{Texts}
 use Rattle.gts5.specs.Faults.{after_magic, fault_in, fault_of}
-use Rattle.gts5.specs.Reading.{texts_at, each_at, count_at, subtune_at, subtunes_at, instrument_at, instruments_at, tables_at, pattern_at, patterns_at, song_of}
+use Rattle.gts5.specs.Reading.{texts_at, each_at, count_at, subtune_at, subtunes_at, instrument_at, instruments_at}
+use Rattle.gts5.specs.Reading.{tables_at, pattern_at, patterns_at, song_of}
 use Rattle.gts5.specs.Spells.{SpellsEach, SpellsSubtune, SpellsPattern, Spells}
 use Rattle.gts5.specs.Gives.{Gives, IsAnswer}
-use Rattle.gts5.proofs.Takes.{bind_ok, ok_is, Takes, TakesCount, AreMany, count_takes, count_again, each_takes, each_again, each_text, text_each}
+use Rattle.gts5.proofs.Takes.{bind_ok, ok_is, Takes, TakesCount, AreMany, count_takes, count_again, each_takes}
+use Rattle.gts5.proofs.Takes.{each_again, each_text, text_each}
 use Rattle.gts5.proofs.SameFaults.{same_fault}
 use Rattle.gts5.proofs.OrderPieces.{subtune_takes, subtune_again}
-use Rattle.gts5.proofs.FieldPieces.{texts_take, texts_again, IsInstrumentText, instrument_takes, instrument_again, tables_take, tables_again}
+use Rattle.gts5.proofs.FieldPieces.{texts_take, texts_again, IsInstrumentText, instrument_takes, instrument_again}
+use Rattle.gts5.proofs.FieldPieces.{tables_take, tables_again}
 use Rattle.gts5.proofs.PatternPieces.{pattern_takes, pattern_again}
 
 -- ---- the magic

@@ -1,6 +1,8 @@
 -- The faults of a text of the format GTS5, as the GoatTracker 2 readme has it. The text is read piece by piece in
 -- file order: each definition gives the bytes that follow its piece, or the fault that stops the reading.
-use Rattle.std.specs.Prelude.{ℕ, zero, suc, ◌+◌, ◌-◌, ◌*◌, Bool, ◌&&◌, nat_lt, nat_le, ◌==◌, if◌then◌else◌, List, [], ◌∷◌, length, take, drop, slice_index, codes, Option, Some, None, Result, Ok, Err}
+use Rattle.std.specs.Prelude.{ℕ, zero, suc, ◌+◌, ◌-◌, ◌*◌, Bool, ◌&&◌, nat_lt, nat_le, ◌==◌}
+use Rattle.std.specs.Prelude.{if◌then◌else◌, List, [], ◌∷◌, length, take, drop, slice_index, codes, Option}
+use Rattle.std.specs.Prelude.{Some, None, Result, Ok, Err}
 use Rattle.std.specs.List.{list_any}
 use Rattle.std.specs.Str.{bytes_eq}
 use Rattle.song_model.specs.declared.rows.Row.{Row}
@@ -33,7 +35,8 @@ after_each after_piece (suc n) bytes = do
   after_each after_piece n rest
 
 -- a count byte n with a limit, and what follows n pieces; above the limit the count byte is the fault's place
-unfoldable pub after_counted : ℕ → ℕ → (ℕ → List ℕ → Result (List ℕ) SongFault) → List ℕ → Result (List ℕ) SongFault
+unfoldable pub after_counted : ℕ → ℕ → (ℕ → List ℕ → Result (List ℕ) SongFault) → List ℕ →
+    Result (List ℕ) SongFault
 after_counted total limit after_pieces [] = Err (Truncated total)
 after_counted total limit after_pieces (n ∷ rest) =
     if nat_lt limit n then Err (OutOfLimit (offset_of total (n ∷ rest))) else after_pieces n rest

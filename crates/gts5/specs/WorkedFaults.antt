@@ -76,4 +76,5 @@ PatternsEnd = HasFault (changed 119 0) (BadRow 119) × HasFault (changed 124 0xB
 -- bytes after a restart position, in and after an end row, after the last pattern
 abbrev pub LooseTextsHaveNoFault : Type 0
 LooseTextsHaveNoFault = HasNoFault (with_order (4 ∷ 0 ∷ 0xFF ∷ 0 ∷ 0x55 ∷ 0xFF ∷ []))
-    × HasNoFault (with_pattern (3 ∷ (rests 1 ++ 0xFF ∷ 1 ∷ 2 ∷ 7 ∷ 0 ∷ 0x40 ∷ 0x10 ∷ 0 ∷ [])) ++ 1 ∷ 2 ∷ 3 ∷ [])
+    × HasNoFault (with_pattern (3 ∷ (rests 1 ++ 0xFF ∷ 1 ∷ 2 ∷ 7 ∷ 0 ∷ 0x40 ∷ 0x10 ∷ 0 ∷ [])) ++ 1
+    ∷ 2 ∷ 3 ∷ [])

@@ -1,7 +1,8 @@
 //! Facts about the format, each the contract of a function that does nothing.
 
 ghost use Rattle.gts5.specs.FormatLaws.{ConstantIs, OneSongOrOneFault, CanonicalIsSpelled, CanonicalHasNoFault, CanonicalIsShort};
-ghost use Rattle.gts5.specs.WorkedFaults.{MagicIsWanted, CutsAreTruncated, CountsAreLimited, OrdersHaveEndmarks, RowsAreInRange, PatternsEnd, LooseTextsHaveNoFault};
+ghost use Rattle.gts5.specs.WorkedFaults.{MagicIsWanted, CutsAreTruncated, CountsAreLimited, OrdersHaveEndmarks};
+ghost use Rattle.gts5.specs.WorkedFaults.{RowsAreInRange, PatternsEnd, LooseTextsHaveNoFault};
 
 /// Each list of bytes spells exactly one song, or has exactly one fault and spells none.
 pub fn one_song_or_one_fault()

@@ -2,7 +2,9 @@
 
 ghost use Rattle.std.specs.Prelude.{◌≡◌, ◌∷◌, ◌++◌, [], length, map, OnOk, IfOk};
 ghost use Rattle.std.specs.List.{flat_map};
-ghost use Rattle.song_model.specs.Canonical.{canonical, order_text, subtune_text, subtunes_text, instrument_text, instruments_text, table_text, row_text, end_row_text, pattern_text, patterns_text};
+ghost use Rattle.song_model.specs.Canonical.{canonical, order_text, subtune_text, subtunes_text, instrument_text};
+ghost use Rattle.song_model.specs.Canonical.{instruments_text, table_text, row_text, end_row_text, pattern_text};
+ghost use Rattle.song_model.specs.Canonical.{patterns_text};
 
 use song_model::{
     Instrument, InstrumentList, NoMemory, Order, Pattern, PatternList, Row, Song, Subtune,

@@ -1,5 +1,6 @@
 -- What an image does depends on its bytes alone: a memory with the same bytes goes on as well.
-use Rattle.std.proofs.Common.{◌≡◌, ℕ, ◌+◌, ◌-◌, ◌<◌, ◌≤◌, List, length, refl, sym, ap, ◌∙◌, arith, subst}
+use Rattle.std.proofs.Common.{◌≡◌, ℕ, ◌+◌, ◌-◌, ◌<◌, ◌≤◌, List, length, refl, sym, ap}
+use Rattle.std.proofs.Common.{◌∙◌, arith, subst}
 use Rattle.std.specs.Prelude.{slice_index}
 use Rattle.song_model.specs.declared.songs.Song.{Song}
 use Rattle.play_model.specs.declared.options.Options.{Options}
@@ -18,7 +19,8 @@ use Rattle.player_parts.specs.Holds.{nothing_on}
 use Rattle.image_lists.proofs.Laws.{data_takes_size, lists_stand_inside}
 use Rattle.image_code.specs.Plans.{Plan, plan_size, play_site, init_site}
 use Rattle.image_build.specs.ImageLines.{lists_start, plan_of}
-use Rattle.image_build.proofs.Layouts.{layout_of, play_end, init_end, size_splits, plan_size_is, start_is, lists_size, is_data_layout}
+use Rattle.image_build.proofs.Layouts.{layout_of, play_end, init_end, size_splits, plan_size_is, start_is, lists_size}
+use Rattle.image_build.proofs.Layouts.{is_data_layout}
 use Rattle.code_lengths.specs.Lengths.{kept_set}
 use Rattle.image_build.proofs.Bytes.{Assembled}
 use Rattle.image_build.proofs.Entered.{play_entrance, init_entrance, play_well, init_well}

@@ -1,5 +1,6 @@
 -- Where an image's bytes stand: its instructions and its lists.
-use Rattle.std.proofs.Common.{◌≡◌, ℕ, ◌+◌, ◌<◌, ◌≤◌, List, length, refl, sym, ap, ◌∙◌, arith, subst, None}
+use Rattle.std.proofs.Common.{◌≡◌, ℕ, ◌+◌, ◌<◌, ◌≤◌, List, length, refl, sym, ap, ◌∙◌}
+use Rattle.std.proofs.Common.{arith, subst, None}
 use Rattle.play_model.specs.declared.options.Options.{Options}
 use Rattle.packed_form.specs.declared.packed_songs.PackedSong.{PackedSong}
 use Rattle.cpu6502.specs.declared.memory.TheConstants.{MEMORY_SIZE}
@@ -22,7 +23,8 @@ use Rattle.image_code.specs.CodeLaws.{CodeStands}
 use Rattle.image_code.proofs.Laws.{code_assembles, kept_code_stands, labels_stand_in_place, sites_are_in_one_listing}
 use Rattle.image_build.specs.ImageLines.{lists_start, plan_of}
 use Rattle.image_build.specs.Lengths.{image_length}
-use Rattle.image_build.proofs.Layouts.{layout_of, Made, size_splits, plan_size_is, plan_ends, start_is, is_data_layout, BlocksStand, blocks_stand}
+use Rattle.image_build.proofs.Layouts.{layout_of, Made, size_splits, plan_size_is, plan_ends, start_is, is_data_layout}
+use Rattle.image_build.proofs.Layouts.{BlocksStand, blocks_stand}
 
 -- ---- an image
 

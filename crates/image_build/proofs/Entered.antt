@@ -1,5 +1,6 @@
 -- The two entrances of an image: its bytes are their code.
-use Rattle.std.proofs.Common.{◌≡◌, ◌≢◌, ℕ, ◌+◌, ◌-◌, ◌<◌, ◌≤◌, List, true, nat_lt, Option, None, Some, sym, ap, ◌∙◌, arith, inl, subst}
+use Rattle.std.proofs.Common.{◌≡◌, ◌≢◌, ℕ, ◌+◌, ◌-◌, ◌<◌, ◌≤◌, List, true, nat_lt}
+use Rattle.std.proofs.Common.{Option, None, Some, sym, ap, ◌∙◌, arith, inl, subst}
 use Rattle.std.proofs.lemmas.Bool.{ltb-true}
 use Rattle.play_model.specs.declared.options.Options.{Options}
 use Rattle.packed_form.specs.declared.packed_songs.PackedSong.{PackedSong}
@@ -18,7 +19,8 @@ use Rattle.image_code.specs.Plans.{Plan, plan_address, play_site, init_site}
 use Rattle.image_code.specs.CodeLaws.{AreInPlace}
 use Rattle.image_code.proofs.Laws.{labels_stand_in_place, code_is_well_placed}
 use Rattle.image_build.specs.ImageLines.{plan_of}
-use Rattle.image_build.proofs.Layouts.{layout_of, play_layout, init_layout, play_end, init_end, Made, size_splits, plan_ends, blocks_stand, code_is_there}
+use Rattle.image_build.proofs.Layouts.{layout_of, play_layout, init_layout, play_end, init_end, Made, size_splits}
+use Rattle.image_build.proofs.Layouts.{plan_ends, blocks_stand, code_is_there}
 use Rattle.image_build.proofs.Bytes.{Assembled, code_stands, play_stands, init_stands}
 
 abbrev pub play_entrance : Plan → Entrance

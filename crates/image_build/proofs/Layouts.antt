@@ -1,5 +1,6 @@
 -- Where an image's labels are.
-use Rattle.std.proofs.Common.{◌≡◌, ℕ, ◌+◌, ◌-◌, ◌^◌, ◌<◌, ◌≤◌, List, length, sym, ap, ◌∙◌, arith, inr, subst}
+use Rattle.std.proofs.Common.{◌≡◌, ℕ, ◌+◌, ◌-◌, ◌^◌, ◌<◌, ◌≤◌, List, length, sym, ap}
+use Rattle.std.proofs.Common.{◌∙◌, arith, inr, subst}
 use Rattle.image_lists.specs.ListLaws.{KeepsCounts}
 use Rattle.play_model.specs.declared.options.Options.{Options}
 use Rattle.packed_form.specs.declared.packed_songs.PackedSong.{PackedSong}
@@ -13,7 +14,8 @@ use Rattle.player_parts.specs.declared.labels.TheConstants.{VARIABLES}
 use Rattle.player_parts.specs.declared.place.Place.{Place}
 use Rattle.player_parts.specs.PlayerLayouts.{IsPlayerLayout}
 use Rattle.image_lists.specs.DataLists.{HasLines, IsDataLayout}
-use Rattle.image_lists.proofs.Laws.{data_takes_size, lines_take_size, lines_are_kept, labels_have_places, lists_stand_inside, next_bytes_are_next}
+use Rattle.image_lists.proofs.Laws.{data_takes_size, lines_take_size, lines_are_kept, labels_have_places}
+use Rattle.image_lists.proofs.Laws.{lists_stand_inside, next_bytes_are_next}
 use Rattle.code_lengths.specs.Lengths.{kept_set, frequency_bytes, code_length}
 use Rattle.image_code.specs.Plans.{Plan, IsPlan, plan_code, plan_lines, code_size, plan_size, plan_address, play_site, init_site}
 use Rattle.image_code.specs.CodeLaws.{AreInPlace}

@@ -1,5 +1,6 @@
 -- What an image is made from is a plan, and how long its listing is.
-use Rattle.std.proofs.Common.{◌≡◌, ℕ, ◌<◌, ◌≤◌, List, min, get_or, refl, arith, inl, inr, drop, take, suc, Some, true}
+use Rattle.std.proofs.Common.{◌≡◌, ℕ, ◌<◌, ◌≤◌, List, min, get_or, refl, arith, inl, inr, drop, take}
+use Rattle.std.proofs.Common.{suc, Some, true}
 use Rattle.std.specs.List.{range_with_len}
 use Rattle.std.proofs.Math.Seq.{split_at}
 use Rattle.std.proofs.lemmas.List.{length-map}

@@ -1,6 +1,8 @@
 -- The frames that an image plays: their states are safe and in range, their parts are kept, and the walks are within the
 -- count.
-use Rattle.std.proofs.Common.{◌≡◌, ℕ, ◌^◌, ◌<◌, ◌≤◌, ◌==◌, Bool, true, false, List, length, map, min, nat_lt, sym, ap, ◌∙◌, arith, subst, Contains, IsBitSet, if◌then◌else◌}
+use Rattle.std.proofs.Common.{◌≡◌, ℕ, ◌^◌, ◌<◌, ◌≤◌, ◌==◌, Bool, true, false, List, length}
+use Rattle.std.proofs.Common.{map, min, nat_lt, sym, ap, ◌∙◌, arith, subst, Contains, IsBitSet}
+use Rattle.std.proofs.Common.{if◌then◌else◌}
 use Rattle.std.specs.Int.{bit_at}
 use Rattle.std.proofs.lemmas.Bool.{eq-eqb}
 use Rattle.std.proofs.lemmas.List.{length-map}
@@ -9,8 +11,12 @@ use Rattle.std.proofs.lemmas.Nat.{bit_set_by_shift}
 use Rattle.std.proofs.lemmas.Nat.Bits.{shr_and_one}
 use Rattle.base.proofs.Laws.{contains_map}
 use Rattle.song_model.specs.declared.features.Feature.{Feature}
-use Rattle.song_model.specs.declared.features.Feature.TheVariants.{Transpose, Repeat, PortaUp, PortaDown, TonePorta, TieNote, Vibrato, InstrumentVibrato, NoteDependent, SetAd, SetSr, SetWave}
-use Rattle.song_model.specs.declared.features.Feature.TheVariants.{SetWavePointer, PulseTable, SetPulsePointer, FilterTable, SetFilterPointer, FilterControl, Cutoff, Volume, FunkTempo, SetTempo, WaveTable, WaveCommand}
+use Rattle.song_model.specs.declared.features.Feature.TheVariants.{Transpose, Repeat, PortaUp, PortaDown, TonePorta}
+use Rattle.song_model.specs.declared.features.Feature.TheVariants.{TieNote, Vibrato, InstrumentVibrato, NoteDependent}
+use Rattle.song_model.specs.declared.features.Feature.TheVariants.{SetAd, SetSr, SetWave}
+use Rattle.song_model.specs.declared.features.Feature.TheVariants.{SetWavePointer, PulseTable, SetPulsePointer}
+use Rattle.song_model.specs.declared.features.Feature.TheVariants.{FilterTable, SetFilterPointer, FilterControl, Cutoff}
+use Rattle.song_model.specs.declared.features.Feature.TheVariants.{Volume, FunkTempo, SetTempo, WaveTable, WaveCommand}
 use Rattle.song_model.specs.declared.orders.Order.{Order}
 use Rattle.song_model.specs.declared.orders.Subtune.{Subtune}
 use Rattle.song_model.specs.declared.songs.Song.{Song}

@@ -1,5 +1,6 @@
 -- The spans of an image name the parts of its bytes.
-use Rattle.std.proofs.Common.{◌≡◌, ℕ, ◌+◌, ◌-◌, ◌*◌, ◌<◌, ◌≤◌, ◌⊎◌, Bool, true, false, nat_eq, nat_lt, if◌then◌else◌, List, [], ◌∷◌}
+use Rattle.std.proofs.Common.{◌≡◌, ℕ, ◌+◌, ◌-◌, ◌*◌, ◌<◌, ◌≤◌, ◌⊎◌, Bool, true}
+use Rattle.std.proofs.Common.{false, nat_eq, nat_lt, if◌then◌else◌, List, [], ◌∷◌}
 use Rattle.std.proofs.Common.{◌++◌, All, length, replicate, refl, sym, ap, ◌∙◌, arith, inl, inr, subst}
 use Rattle.std.specs.Prelude.{slice_index}
 use Rattle.std.proofs.lemmas.Bool.{cases_lt, cases_eq, lt-ltb, le-ltb, eqb-true, ne_eqb, true≢false}
@@ -27,7 +28,8 @@ use Rattle.image_build.specs.Joined.{Follow, frequency_span, AreSpansOf}
 use Rattle.image_build.proofs.Layouts.{Made, code_size_is, blocks_stand}
 use Rattle.image_build.proofs.Parted.{spans_split, parts_sized}
 use Rattle.image_build.proofs.Joining.{follows_size, follows_named}
-use Rattle.image_build.proofs.Naming.{named_left, named_right, named_as_left, code_named, none_packed, follow_inside, front_named, lows_named, highs_named}
+use Rattle.image_build.proofs.Naming.{named_left, named_right, named_as_left, code_named, none_packed, follow_inside}
+use Rattle.image_build.proofs.Naming.{front_named, lows_named, highs_named}
 
 -- ---- parts
 

@@ -1,5 +1,6 @@
 -- Where the places of an image's calls are: its variables, its code, the lists, and where a call may write.
-use Rattle.std.proofs.Common.{◌≡◌, ◌≢◌, ℕ, ◌+◌, ◌-◌, ◌<◌, ◌≤◌, ◌⊎◌, List, true, nat_lt, length, sym, arith, inl, inr, subst}
+use Rattle.std.proofs.Common.{◌≡◌, ◌≢◌, ℕ, ◌+◌, ◌-◌, ◌<◌, ◌≤◌, ◌⊎◌, List, true}
+use Rattle.std.proofs.Common.{nat_lt, length, sym, arith, inl, inr, subst}
 use Rattle.std.proofs.lemmas.Bool.{ltb-true}
 use Rattle.play_model.specs.declared.options.Options.{Options}
 use Rattle.packed_form.specs.declared.packed_songs.PackedSong.{PackedSong}
@@ -15,7 +16,8 @@ use Rattle.player_parts.specs.PlayerLayouts.{IsVariablePlace}
 use Rattle.image_code.specs.Plans.{Plan, plan_address, code_size, play_site, init_site}
 use Rattle.image_code.proofs.Laws.{labels_stand_in_place}
 use Rattle.image_build.specs.ImageLines.{plan_of}
-use Rattle.image_build.proofs.Layouts.{layout_of, play_layout, init_layout, Made, size_splits, plan_size_is, blocks_stand, BlocksStand, code_is_there}
+use Rattle.image_build.proofs.Layouts.{layout_of, play_layout, init_layout, Made, size_splits, plan_size_is}
+use Rattle.image_build.proofs.Layouts.{blocks_stand, BlocksStand, code_is_there}
 use Rattle.image_build.proofs.Bytes.{Assembled}
 use Rattle.image_build.proofs.Entered.{play_entrance, init_entrance, none_some, some_same, subtune_few}
 

@@ -1,5 +1,7 @@
 -- Which bytes of an image belong to which part of the player. This is the project's own player.
-use Rattle.std.specs.Prelude.{◌≡◌, ℕ, ◌+◌, ◌-◌, ◌<◌, ◌≤◌, ◌⊎◌, ◌↔◌, List, [], ◌∷◌, ◌++◌, All, Contains, flat_map, replicate, slice_index, sum_by, length, nat_eq, if◌then◌else◌}
+use Rattle.std.specs.Prelude.{◌≡◌, ℕ, ◌+◌, ◌-◌, ◌<◌, ◌≤◌, ◌⊎◌, ◌↔◌, List, []}
+use Rattle.std.specs.Prelude.{◌∷◌, ◌++◌, All, Contains, flat_map, replicate, slice_index, sum_by, length}
+use Rattle.std.specs.Prelude.{nat_eq, if◌then◌else◌}
 use Rattle.play_model.specs.declared.options.Options.{Options}
 use Rattle.packed_form.specs.declared.packed_songs.PackedSong.{PackedSong}
 use Rattle.packed_form.specs.Sizes.{packed_song_size}

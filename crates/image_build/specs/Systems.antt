@@ -1,4 +1,5 @@
--- A packed song has one image, and what the system changes in it: the two numbers that the timer is set to. This is the project's own player.
+-- A packed song has one image, and what the system changes in it: the two numbers that the timer is set to. This is
+-- the project's own player.
 use Rattle.std.specs.Prelude.{◌≡◌, ℕ, ◌/◌, ◌%◌, ◌<◌, ◌≤◌, ◌^◌, List, [], ◌∷◌, ◌++◌}
 use Rattle.play_model.specs.declared.options.Options.{Options}
 use Rattle.play_model.specs.declared.options.System.{System}

@@ -1,6 +1,7 @@
 //! From a packed song to its image.
 
-ghost use Rattle.std.specs.Prelude.{◌≡◌, ◌≢◌, ◌+◌, ◌-◌, ◌^◌, ◌<◌, ◌≤◌, ◌↔◌, None, length, IfOk, IsErrOf};
+ghost use Rattle.std.specs.Prelude.{◌≡◌, ◌≢◌, ◌+◌, ◌-◌, ◌^◌, ◌<◌, ◌≤◌, ◌↔◌};
+ghost use Rattle.std.specs.Prelude.{None, length, IfOk, IsErrOf};
 ghost use Rattle.base.specs.Bytes.{AreBytes};
 ghost use Rattle.packed_form.specs.Sizes.{packed_song_size};
 ghost use Rattle.asm6502.specs.Lines.{kept, size_of, data_size};

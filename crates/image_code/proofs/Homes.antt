@@ -1,5 +1,6 @@
 -- Lines at home by themselves, and put together: a listing of them assembles.
-use Rattle.std.proofs.Common.{◌≡◌, ℕ, ◌+◌, ◌≤◌, Bool, true, false, List, [], ◌∷◌, ◌++◌, Some, None, IsTrue, sym, subst, inl}
+use Rattle.std.proofs.Common.{◌≡◌, ℕ, ◌+◌, ◌≤◌, Bool, true, false, List, [], ◌∷◌, ◌++◌}
+use Rattle.std.proofs.Common.{Some, None, IsTrue, sym, subst, inl}
 use Rattle.std.proofs.lemmas.List.{append-nil}
 use Rattle.cpu6502.specs.declared.memory.TheConstants.{MEMORY_SIZE}
 use Rattle.asm6502.specs.declared.lines.Line.{Line}

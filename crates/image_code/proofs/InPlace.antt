@@ -1,5 +1,6 @@
 -- The labels of a block are in their places, and a block of the listing is well placed.
-use Rattle.std.proofs.Common.{◌≡◌, ℕ, ◌+◌, ◌*◌, ◌<◌, ◌≤◌, Bool, true, nat_lt, List, ◌++◌, None, sym, ap, ◌∙◌, arith, subst, inl}
+use Rattle.std.proofs.Common.{◌≡◌, ℕ, ◌+◌, ◌*◌, ◌<◌, ◌≤◌, Bool, true, nat_lt, List, ◌++◌}
+use Rattle.std.proofs.Common.{None, sym, ap, ◌∙◌, arith, subst, inl}
 use Rattle.std.proofs.lemmas.Bool.{eqb-true, ltb-true, leb-true, lt-ltb}
 use Rattle.asm6502.specs.declared.lines.Line.{Line}
 use Rattle.asm6502.specs.Lines.{kept, size_of, address_in}

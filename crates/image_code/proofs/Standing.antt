@@ -1,5 +1,6 @@
 -- The code's own instructions stand in any memory in which its kept lines stand, for any two blocks.
-use Rattle.std.proofs.Common.{◌≡◌, ℕ, ◌+◌, ◌%◌, ◌<◌, List, [], ◌∷◌, ◌++◌, length, refl, ap, ◌∙◌, arith, subst}
+use Rattle.std.proofs.Common.{◌≡◌, ℕ, ◌+◌, ◌%◌, ◌<◌, List, [], ◌∷◌, ◌++◌, length, refl}
+use Rattle.std.proofs.Common.{ap, ◌∙◌, arith, subst}
 use Rattle.cpu6502.specs.declared.memory.TheConstants.{MEMORY_SIZE}
 use Rattle.cpu6502.specs.declared.mnemonic.Mnemonic.{Mnemonic}
 use Rattle.cpu6502.specs.declared.mnemonic.Mnemonic.TheVariants.{Cld, Jmp, Rts, Sta}
@@ -18,7 +19,8 @@ use Rattle.lowering.specs.Lines.{all_lines}
 use Rattle.player_parts.specs.declared.labels.TheConstants.{SUBTUNE, VARIABLES}
 use Rattle.code_lengths.specs.Lengths.{always}
 use Rattle.image_code.specs.CodeLines.{INIT_CODE, PLAY_CODE, INIT_LABELS, PLAY_LABELS, entry_lines}
-use Rattle.image_code.specs.CodeLines.{variable_lines, play_head, init_head, return_lines, front_lines, middle_lines, lines_around}
+use Rattle.image_code.specs.CodeLines.{variable_lines, play_head, init_head, return_lines, front_lines, middle_lines}
+use Rattle.image_code.specs.CodeLines.{lines_around}
 use Rattle.image_code.proofs.Splits.{LineAt, first_line, next_line, in_front, in_back, kept_size, line_stands_at}
 use Rattle.image_code.proofs.CodeHome.{middle_in_code}
 use Rattle.image_code.proofs.Placed.{head_size, middle_size}

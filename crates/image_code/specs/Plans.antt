@@ -1,5 +1,6 @@
 -- What the listing of an image is made from, and where its two blocks stand in it. This is the project's own player.
-use Rattle.std.specs.Prelude.{◌≡◌, ℕ, ◌+◌, ◌<◌, ◌≤◌, ◌&&◌, ◌||◌, Bool, true, false, ◌==◌, nat_lt, nat_le, List, ◌++◌, length}
+use Rattle.std.specs.Prelude.{◌≡◌, ℕ, ◌+◌, ◌<◌, ◌≤◌, ◌&&◌, ◌||◌, Bool, true, false}
+use Rattle.std.specs.Prelude.{◌==◌, nat_lt, nat_le, List, ◌++◌, length}
 use Rattle.asm6502.specs.declared.lines.Line.{Line}
 use Rattle.asm6502.specs.Lines.{kept, size_of, address_in}
 use Rattle.play_model.specs.declared.options.Options.{Options}

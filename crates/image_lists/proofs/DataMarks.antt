@@ -1,5 +1,7 @@
 -- The labels of a packed song's lists: how many they are, each once, and none behind the last byte.
-use Rattle.std.proofs.Common.{◌≡◌, ℕ, zero, suc, ◌+◌, ◌<◌, ◌≤◌, inl, inr, Bool, true, false, List, [], ◌∷◌, ◌++◌, length, get_or, map, All, nat_eq, refl, sym, ap, ◌∙◌, subst, arith, length-append}
+use Rattle.std.proofs.Common.{◌≡◌, ℕ, zero, suc, ◌+◌, ◌<◌, ◌≤◌, inl, inr, Bool, true, false, List}
+use Rattle.std.proofs.Common.{[], ◌∷◌, ◌++◌, length, get_or, map, All, nat_eq, refl, sym, ap, ◌∙◌}
+use Rattle.std.proofs.Common.{subst, arith, length-append}
 use Rattle.std.specs.Prelude.{IsPermutation}
 use Rattle.std.specs.List.{AllByRecursion, concat, range_with_len}
 use Rattle.std.proofs.lemmas.Bool.{cases_lt, eqb-true, ne_eqb}
@@ -14,7 +16,8 @@ use Rattle.player_parts.specs.declared.labels.TheConstants.{ORDERS, PATTERNS}
 use Rattle.player_parts.specs.PlayerLists.{Instruments}
 use Rattle.image_lists.specs.declared.marks.Mark.{Mark}
 use Rattle.image_lists.specs.DataLists.{all_orders, orders_place, patterns_place, places_from, order_places, pattern_places}
-use Rattle.image_lists.specs.DataLists.{data_bytes, own_mark, marks_from, table_marks, instrument_marks, address_marks, list_marks, data_marks}
+use Rattle.image_lists.specs.DataLists.{data_bytes, own_mark, marks_from, table_marks, instrument_marks, address_marks}
+use Rattle.image_lists.specs.DataLists.{list_marks, data_marks}
 use Rattle.image_lists.specs.ListLaws.{KeepsCounts, IsDataLabel}
 use Rattle.image_lists.proofs.Pieces.{places_count, size_within, place_at}
 use Rattle.image_lists.proofs.Lists.{order_places_count, whole_length, texts_end}

@@ -6,7 +6,8 @@ pub use Rattle.image_lists.proofs.DataLines.{lines_take_size}
 -- the lines are labels and bytes that are always kept, at home in any listing, and few
 pub use Rattle.image_lists.proofs.DataLines.{lines_are_plain, lines_are_kept, lines_are_at_home, lines_are_few}
 -- their labels: each once, no other than these, those that the player reads by, and where each is
-pub use Rattle.image_lists.proofs.DataLines.{no_label_is_named_twice, own_labels_are_named, list_labels_are_named, labels_have_places}
+pub use Rattle.image_lists.proofs.DataLines.{no_label_is_named_twice, own_labels_are_named, list_labels_are_named}
+pub use Rattle.image_lists.proofs.DataLines.{labels_have_places}
 -- the lists in memory, among these bytes
 pub use Rattle.image_lists.proofs.Standing.{data_stands, lists_stand_inside, next_bytes_are_next, order_at_label}
 -- bytes with labels among them stand where their lines do

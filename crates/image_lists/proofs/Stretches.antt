@@ -1,5 +1,6 @@
 -- Where each list of a packed song stands in the bytes of all.
-use Rattle.std.proofs.Common.{◌≡◌, ℕ, zero, suc, ◌+◌, ◌*◌, ◌<◌, List, [], ◌∷◌, length, get_or, refl, sym, ap, ◌∙◌, inl, inr, subst, arith}
+use Rattle.std.proofs.Common.{◌≡◌, ℕ, zero, suc, ◌+◌, ◌*◌, ◌<◌, List, [], ◌∷◌, length, get_or}
+use Rattle.std.proofs.Common.{refl, sym, ap, ◌∙◌, inl, inr, subst, arith}
 use Rattle.std.specs.List.{concat}
 use Rattle.std.proofs.lemmas.Bool.{cases_lt}
 use Rattle.std.proofs.lemmas.List.{get_or_past}
@@ -12,9 +13,11 @@ use Rattle.packed_form.specs.Unpacked.{unpacked_song}
 use Rattle.player_parts.specs.PlayerLists.{PlayerList, FrequencyLows, FrequencyHighs, Lefts, Rights, Instruments}
 use Rattle.player_parts.specs.PlayerLists.{OrderLows, OrderHighs, PatternLows, PatternHighs, OrderBytes, PatternBytes}
 use Rattle.player_parts.specs.PlayerLists.{IsList, list_length, first_row, order_bytes, pattern_bytes, channel_bytes, no_subtune}
-use Rattle.image_lists.specs.DataLists.{frequency_lows, frequency_highs, lefts, rights, instrument_bytes, all_orders, orders_of, lows, highs}
+use Rattle.image_lists.specs.DataLists.{frequency_lows, frequency_highs, lefts, rights, instrument_bytes, all_orders}
+use Rattle.image_lists.specs.DataLists.{orders_of, lows, highs}
 use Rattle.image_lists.specs.DataLists.{orders_place, patterns_place, order_places, pattern_places, data_bytes, label_place}
-use Rattle.image_lists.proofs.Pieces.{StandsIn, size_before, piece_stands, stands_before, stands_after, place_at, order_at, orders_count}
+use Rattle.image_lists.proofs.Pieces.{StandsIn, size_before, piece_stands, stands_before, stands_after, place_at}
+use Rattle.image_lists.proofs.Pieces.{order_at, orders_count}
 use Rattle.image_lists.proofs.Lists.{fixed_lists, own_lists, lengths, fixed_size}
 
 -- ---- the bytes of a list as they are read: the speed table from its row 0 on

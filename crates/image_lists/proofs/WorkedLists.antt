@@ -1,5 +1,6 @@
 -- The lists of a small song, computed.
-use Rattle.std.proofs.Common.{◌≡◌, ℕ, zero, suc, ◌<◌, ◌≤◌, ◌&&◌, Bool, true, List, [], ◌∷◌, length, get_or, nat_le, nat_lt, refl, sym, subst, arith}
+use Rattle.std.proofs.Common.{◌≡◌, ℕ, zero, suc, ◌<◌, ◌≤◌, ◌&&◌, Bool, true, List, [], ◌∷◌}
+use Rattle.std.proofs.Common.{length, get_or, nat_le, nat_lt, refl, sym, subst, arith}
 use Rattle.std.specs.Prelude.{IsPermutation}
 use Rattle.std.specs.List.Sorted.{IsNonDecreasingBy, SwapsInRange}
 use Rattle.std.proofs.lemmas.Bool.{leb-true, ltb-true, and_parts}

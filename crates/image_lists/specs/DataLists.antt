@@ -1,6 +1,7 @@
 -- The bytes behind the player's code, and the labels in them: the frequencies of notes and the lists of a packed song,
 -- one behind the other. This is the project's own player.
-use Rattle.std.specs.Prelude.{◌≡◌, ℕ, ◌+◌, ◌*◌, ◌/◌, ◌%◌, List, [], ◌∷◌, ◌++◌, length, map, Contains, IsPermutation, slice_index}
+use Rattle.std.specs.Prelude.{◌≡◌, ℕ, ◌+◌, ◌*◌, ◌/◌, ◌%◌, List, [], ◌∷◌, ◌++◌, length}
+use Rattle.std.specs.Prelude.{map, Contains, IsPermutation, slice_index}
 use Rattle.std.specs.List.{concat, flat_map, range_with_len}
 use Rattle.std.specs.List.Sorted.{IsNonDecreasingBy}
 use Rattle.song_model.specs.declared.tables.TableRow.{TableRow}
@@ -11,7 +12,8 @@ use Rattle.packed_form.specs.declared.packed_songs.PackedSubtune.{PackedSubtune}
 use Rattle.packed_form.specs.declared.packed_songs.PackedSong.{PackedSong}
 use Rattle.asm6502.specs.declared.lines.Line.{Line}
 use Rattle.blocks.specs.Desk.{Layout}
-use Rattle.player_parts.specs.declared.labels.TheConstants.{FREQUENCY_LOWS, NEXT_FREQUENCY_LOWS, FREQUENCY_HIGHS, NEXT_FREQUENCY_HIGHS}
+use Rattle.player_parts.specs.declared.labels.TheConstants.{FREQUENCY_LOWS, NEXT_FREQUENCY_LOWS, FREQUENCY_HIGHS}
+use Rattle.player_parts.specs.declared.labels.TheConstants.{NEXT_FREQUENCY_HIGHS}
 use Rattle.player_parts.specs.declared.labels.TheConstants.{INSTRUMENTS, ORDER_LOWS, ORDER_HIGHS}
 use Rattle.player_parts.specs.declared.labels.TheConstants.{PATTERN_LOWS, PATTERN_HIGHS, ORDERS, PATTERNS}
 use Rattle.player_parts.specs.Labels.{lefts_label, rights_label, next_lefts_label, next_rights_label}

@@ -4,10 +4,14 @@ use Rattle.packed_form.specs.declared.packed_songs.PackedSubtune.{PackedSubtune}
 use Rattle.packed_form.specs.declared.packed_songs.PackedInstrument.{PackedInstrument}
 use Rattle.packed_form.specs.declared.packed_songs.PackedSong.{PackedSong}
 use Rattle.asm6502.specs.declared.lines.Line.{Line}
-use Rattle.player_parts.specs.declared.labels.TheConstants.{FREQUENCY_LOWS, NEXT_FREQUENCY_LOWS, FREQUENCY_HIGHS, NEXT_FREQUENCY_HIGHS, SPEED_RIGHTS, SPEED_LEFTS}
-use Rattle.player_parts.specs.declared.labels.TheConstants.{WAVE_LEFTS, NEXT_WAVE_LEFTS, WAVE_RIGHTS, NEXT_WAVE_RIGHTS, PULSE_LEFTS, NEXT_PULSE_LEFTS}
-use Rattle.player_parts.specs.declared.labels.TheConstants.{PULSE_RIGHTS, NEXT_PULSE_RIGHTS, FILTER_LEFTS, NEXT_FILTER_LEFTS, FILTER_RIGHTS, NEXT_FILTER_RIGHTS}
-use Rattle.player_parts.specs.declared.labels.TheConstants.{INSTRUMENTS, ORDER_LOWS, ORDER_HIGHS, PATTERN_LOWS, PATTERN_HIGHS, ORDERS, PATTERNS}
+use Rattle.player_parts.specs.declared.labels.TheConstants.{FREQUENCY_LOWS, NEXT_FREQUENCY_LOWS, FREQUENCY_HIGHS}
+use Rattle.player_parts.specs.declared.labels.TheConstants.{NEXT_FREQUENCY_HIGHS, SPEED_RIGHTS, SPEED_LEFTS}
+use Rattle.player_parts.specs.declared.labels.TheConstants.{WAVE_LEFTS, NEXT_WAVE_LEFTS, WAVE_RIGHTS, NEXT_WAVE_RIGHTS}
+use Rattle.player_parts.specs.declared.labels.TheConstants.{PULSE_LEFTS, NEXT_PULSE_LEFTS}
+use Rattle.player_parts.specs.declared.labels.TheConstants.{PULSE_RIGHTS, NEXT_PULSE_RIGHTS, FILTER_LEFTS}
+use Rattle.player_parts.specs.declared.labels.TheConstants.{NEXT_FILTER_LEFTS, FILTER_RIGHTS, NEXT_FILTER_RIGHTS}
+use Rattle.player_parts.specs.declared.labels.TheConstants.{INSTRUMENTS, ORDER_LOWS, ORDER_HIGHS, PATTERN_LOWS}
+use Rattle.player_parts.specs.declared.labels.TheConstants.{PATTERN_HIGHS, ORDERS, PATTERNS}
 use Rattle.image_lists.specs.Marks.{label_line, bytes_line}
 use Rattle.image_lists.specs.DataLists.{frequency_lows, frequency_highs, data_bytes, HasLines}
 

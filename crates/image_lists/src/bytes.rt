@@ -3,7 +3,8 @@
 ghost use Rattle.std.specs.Prelude.{◌≡◌, ◌<◌, ◌≤◌, ◌+◌, ◌++◌, map, All, IfOk, OnOk, slice_index};
 ghost use Rattle.std.specs.List.{concat, flat_map};
 ghost use Rattle.image_lists.specs.DataLists.{frequency_lows, frequency_highs, lefts, rights, lows, highs, orders_of};
-ghost use Rattle.image_lists.specs.DataLists.{frequency_lists, table_lists, instrument_lists, address_lists, order_places, pattern_places, data_bytes};
+ghost use Rattle.image_lists.specs.DataLists.{frequency_lists, table_lists, instrument_lists, address_lists};
+ghost use Rattle.image_lists.specs.DataLists.{order_places, pattern_places, data_bytes};
 
 use base::{ByteList, NoMemory};
 use packed_form::{PackedInstrument, PackedPattern, PackedSong, PackedSubtune};

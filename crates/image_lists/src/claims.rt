@@ -1,7 +1,9 @@
 //! Facts about the definitions, each the contract of a function that does nothing.
 
 ghost use Rattle.image_lists.specs.WorkedLists.{FrequenciesAreWorked, SmallListsAre};
-ghost use Rattle.image_lists.specs.ListLaws.{DataTakesSize, LinesTakeSize, LinesArePlain, LinesAreKept, LinesAreAtHome, LinesAreFew, NoLabelIsNamedTwice, OwnLabelsAreNamed, ListLabelsAreNamed, LabelsHavePlaces, DataStands, ListsStandInside, NextBytesAreNext};
+ghost use Rattle.image_lists.specs.ListLaws.{DataTakesSize, LinesTakeSize, LinesArePlain, LinesAreKept, LinesAreAtHome};
+ghost use Rattle.image_lists.specs.ListLaws.{LinesAreFew, NoLabelIsNamedTwice, OwnLabelsAreNamed, ListLabelsAreNamed};
+ghost use Rattle.image_lists.specs.ListLaws.{LabelsHavePlaces, DataStands, ListsStandInside, NextBytesAreNext};
 
 /// There are 196 bytes of frequencies, and as many as the packed song has. The lines take these, each byte as it is.
 pub fn data_takes_size()

@@ -3,7 +3,8 @@
 ghost use Rattle.std.specs.Prelude.{◌≡◌, ◌≤◌, ◌+◌, [], ◌∷◌, ◌++◌, length, IfOk, OnOk};
 ghost use Rattle.player_parts.specs.declared.labels.TheConstants.{ORDERS, PATTERNS};
 ghost use Rattle.image_lists.specs.Marks.{mark_at};
-ghost use Rattle.image_lists.specs.DataLists.{frequency_marks, instrument_marks, address_marks, list_marks, marks_from, data_marks, order_places, pattern_places};
+ghost use Rattle.image_lists.specs.DataLists.{frequency_marks, instrument_marks, address_marks, list_marks, marks_from};
+ghost use Rattle.image_lists.specs.DataLists.{data_marks, order_places, pattern_places};
 
 use crate::marks::{Mark, MarkList};
 use crate::places::{

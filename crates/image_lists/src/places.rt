@@ -3,7 +3,9 @@
 ghost use Rattle.std.specs.Prelude.{◌≡◌, ◌+◌, ◌≤◌, length, IfOk};
 ghost use Rattle.std.specs.List.{concat, flat_map};
 ghost use Rattle.packed_form.specs.Sizes.{packed_song_size};
-ghost use Rattle.image_lists.specs.DataLists.{wave_place, pulse_place, filter_place, instruments_place, addresses_place, orders_place, orders_of, places_from, order_places, pattern_places};
+ghost use Rattle.image_lists.specs.DataLists.{wave_place, pulse_place, filter_place, instruments_place};
+ghost use Rattle.image_lists.specs.DataLists.{addresses_place, orders_place, orders_of, places_from, order_places};
+ghost use Rattle.image_lists.specs.DataLists.{pattern_places};
 
 use base::{Items, NoMemory};
 use packed_form::{PackedOrder, PackedPattern, PackedSong, PackedSubtune};

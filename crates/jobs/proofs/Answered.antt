@@ -1,5 +1,7 @@
 -- From what stands after a run to what its answer says.
-use Rattle.std.proofs.Common.{◌≡◌, ◌≢◌, ℕ, ◌+◌, ◌-◌, ◌==◌, ◌||◌, ◌⊎◌, inl, inr, List, [], ◌∷◌, Option, Some, None, IfSome, true, false, refl, sym, ap, ◌∙◌, subst, arith}
+use Rattle.std.proofs.Common.{◌≡◌, ◌≢◌, ℕ, ◌+◌, ◌-◌, ◌==◌, ◌||◌, ◌⊎◌, inl, inr}
+use Rattle.std.proofs.Common.{List, [], ◌∷◌, Option, Some, None, IfSome, true, false, refl, sym, ap, ◌∙◌}
+use Rattle.std.proofs.Common.{subst, arith}
 use Rattle.std.specs.List.{concat}
 use Rattle.goat_io.specs.Files.{Files}
 use Rattle.goat_io.specs.Written.{told_with_piece}
@@ -15,7 +17,8 @@ use Rattle.jobs.specs.Due as due
 use Rattle.jobs.specs.Due.{IsDue, IsOneOf, instead}
 use Rattle.jobs.specs.Stands as stands
 use Rattle.jobs.specs.Stands.{FolderState, SinkState, AreFiles, Counted, Appends, Account, TellsWant, Stands, RunStands}
-use Rattle.jobs.specs.Answers.{IsOrdinary, IsPrinted, IsBeforeWriting, HoldsDone, ComesAbout, ComesWhere, SinkCounted, RunsPacked, AssemblesListing, AsksToMake, AsksToJoin, HoldsJoined}
+use Rattle.jobs.specs.Answers.{IsOrdinary, IsPrinted, IsBeforeWriting, HoldsDone, ComesAbout, ComesWhere, SinkCounted}
+use Rattle.jobs.specs.Answers.{RunsPacked, AssemblesListing, AsksToMake, AsksToJoin, HoldsJoined}
 use Rattle.jobs.specs.Packed.{raw_file}
 use Rattle.jobs.specs.Traces.{first_traces}
 use Rattle.play_model.specs.declared.options.Options.{Options}

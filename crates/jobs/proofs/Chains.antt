@@ -1,5 +1,6 @@
 -- How a run goes through the stages of its job: each one is met, or ends it; and how the commands end after the last.
-use Rattle.std.proofs.Common.{◌≡◌, ℕ, ◌+◌, ◌-◌, ◌≤◌, List, [], ◌∷◌, ◌++◌, Option, Some, None, Ok, true, length, refl, sym, ap, ◌∙◌, subst}
+use Rattle.std.proofs.Common.{◌≡◌, ℕ, ◌+◌, ◌-◌, ◌≤◌, List, [], ◌∷◌, ◌++◌, Option, Some}
+use Rattle.std.proofs.Common.{None, Ok, true, length, refl, sym, ap, ◌∙◌, subst}
 use Rattle.std.proofs.lemmas.List.{append-nil, append_assoc}
 use Rattle.goat_io.specs.Files.{Files, IsWrittenInPart}
 use Rattle.song_model.specs.declared.songs.Song.{Song}
@@ -17,7 +18,8 @@ use Rattle.jobs.specs.Calls.{FirstCalls, StopsIn}
 use Rattle.command_line.specs.RegisterText.{register_lines}
 use Rattle.jobs.specs.Lines.{stop_line, wrote_line}
 use Rattle.command_line.specs.Last.{Last, Says}
-use Rattle.jobs.specs.Stages.{Stage, IsThere, Fits, SpellsSong, CallsReturn, HoldsSong, HoldsPsid, HoldsListing, status_of, IsMet, Passes, AllPass, FirstEnds, input_limit}
+use Rattle.jobs.specs.Stages.{Stage, IsThere, Fits, SpellsSong, CallsReturn, HoldsSong, HoldsPsid, HoldsListing}
+use Rattle.jobs.specs.Stages.{status_of, IsMet, Passes, AllPass, FirstEnds, input_limit}
 use Rattle.command_line.specs.Forms.{WordsOf}
 use Rattle.jobs.specs.Jobs.{stages, Shows, Done}
 use Rattle.jobs.specs.Outcome as outcome

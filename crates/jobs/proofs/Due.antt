@@ -1,5 +1,7 @@
 -- One status is due, and one text: each cause by itself.
-use Rattle.std.proofs.Common.{◌≡◌, ◌≢◌, ℕ, ◌+◌, ◌-◌, ◌↔◌, ◌==◌, ◌||◌, Bool, true, false, inl, inr, List, [], ◌∷◌, ◌++◌, Option, None, option_map, length, refl, sym, ap, ◌∙◌, subst, arith}
+use Rattle.std.proofs.Common.{◌≡◌, ◌≢◌, ℕ, ◌+◌, ◌-◌, ◌↔◌, ◌==◌, ◌||◌, Bool, true}
+use Rattle.std.proofs.Common.{false, inl, inr, List, [], ◌∷◌, ◌++◌, Option, None, option_map, length, refl}
+use Rattle.std.proofs.Common.{sym, ap, ◌∙◌, subst, arith}
 use Rattle.std.proofs.lemmas.List.{append_assoc}
 use Rattle.goat_io.specs.Files.{Files}
 use Rattle.sid_run.specs.State.{loaded}

@@ -1,7 +1,8 @@
 -- The lemmas that upper crates may cite.
 
 -- the clauses of the top call, of what stands after a run; and what stands, of how the run ended and what was printed last
-pub use Rattle.jobs.proofs.Answered.{headline, outcome_comes, due_comes, usage_comes, packed_plays, listing_goes_back, script_makes_song, joined_plays, fileless_comes}
+pub use Rattle.jobs.proofs.Answered.{headline, outcome_comes, due_comes, usage_comes, packed_plays, listing_goes_back}
+pub use Rattle.jobs.proofs.Answered.{script_makes_song, joined_plays, fileless_comes}
 pub use Rattle.jobs.proofs.Answered.{counts, sink_counts, files_stay}
 pub use Rattle.jobs.proofs.Printed.{run_stands, no_room}
 -- a run that has come so far in the stages of its job, and how it goes on
@@ -11,7 +12,8 @@ pub use Rattle.jobs.proofs.Passes.{met_passes}
 pub use Rattle.jobs.proofs.Chains.{song_fails, refused, done_says, written, lines_over, fileless_over}
 pub use Rattle.jobs.proofs.Ends.{usage_ends, wants_first, read_ends, says_ends, has_last}
 -- lines that are known before they are printed, and those of two lists
-pub use Rattle.jobs.proofs.PrintedLines.{PrintedSoFar, none_printed, printed_on, printing_cut, all_printed, lines_then, lines_failed}
+pub use Rattle.jobs.proofs.PrintedLines.{PrintedSoFar, none_printed, printed_on, printing_cut, all_printed, lines_then}
+pub use Rattle.jobs.proofs.PrintedLines.{lines_failed}
 -- what a folder and its counts are after one step and another
 pub use Rattle.jobs.proofs.Told.{as_before, still, stays_itself, stays_on, counted_on}
 -- a song has one set of features

@@ -1,5 +1,6 @@
 -- A song has one set of features.
-use Rattle.std.proofs.Common.{◌≡◌, ℕ, ◌<◌, List, [], ◌∷◌, get_or, map, zero-add, refl, sym, ◌∙◌, ap, inl, inr, arith}
+use Rattle.std.proofs.Common.{◌≡◌, ℕ, ◌<◌, List, [], ◌∷◌, get_or, map, zero-add, refl, sym, ◌∙◌}
+use Rattle.std.proofs.Common.{ap, inl, inr, arith}
 use Rattle.std.specs.Prelude.{IsBitSet}
 use Rattle.std.specs.Int.{bit_at}
 use Rattle.std.specs.List.{range_with_len}
@@ -9,7 +10,12 @@ use Rattle.std.proofs.lemmas.List.FromFn.{get_or-range_with_len}
 use Rattle.std.proofs.lemmas.Nat.{bit_set_by_shift}
 use Rattle.std.proofs.lemmas.Nat.Bits.{shr_and_one, bit_at-lt, bit_at_above, same_from_bits}
 use Rattle.song_model.specs.declared.features.Feature.{Feature}
-use Rattle.song_model.specs.declared.features.Feature.TheVariants.{Transpose, Repeat, PortaUp, PortaDown, TonePorta, TieNote, Vibrato, InstrumentVibrato, NoteDependent, SetAd, SetSr, SetWave, SetWavePointer, PulseTable, SetPulsePointer, FilterTable, SetFilterPointer, FilterControl, Cutoff, Volume, FunkTempo, SetTempo, WaveTable, WaveCommand}
+use Rattle.song_model.specs.declared.features.Feature.TheVariants.{Transpose, Repeat, PortaUp, PortaDown, TonePorta}
+use Rattle.song_model.specs.declared.features.Feature.TheVariants.{TieNote, Vibrato, InstrumentVibrato, NoteDependent}
+use Rattle.song_model.specs.declared.features.Feature.TheVariants.{SetAd, SetSr, SetWave, SetWavePointer, PulseTable}
+use Rattle.song_model.specs.declared.features.Feature.TheVariants.{SetPulsePointer, FilterTable, SetFilterPointer}
+use Rattle.song_model.specs.declared.features.Feature.TheVariants.{FilterControl, Cutoff, Volume, FunkTempo, SetTempo}
+use Rattle.song_model.specs.declared.features.Feature.TheVariants.{WaveTable, WaveCommand}
 use Rattle.song_model.specs.declared.songs.Song.{Song}
 use Rattle.song_model.specs.Feature.{bit_of}
 use Rattle.play_model.specs.Features.{AreFeatures}

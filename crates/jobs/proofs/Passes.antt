@@ -1,5 +1,6 @@
 -- Each stage passes where what it asks for is there, and ends a run with one text.
-use Rattle.std.proofs.Common.{◌≡◌, ℕ, ◌+◌, ◌-◌, ◌<◌, ◌≤◌, List, [], ◌∷◌, ◌++◌, Some, None, Ok, Err, length, refl, sym, ap, ◌∙◌, subst, inl, inr, arith}
+use Rattle.std.proofs.Common.{◌≡◌, ℕ, ◌+◌, ◌-◌, ◌<◌, ◌≤◌, List, [], ◌∷◌, ◌++◌, Some}
+use Rattle.std.proofs.Common.{None, Ok, Err, length, refl, sym, ap, ◌∙◌, subst, inl, inr, arith}
 use Rattle.std.proofs.lemmas.Bool.{cases_lt}
 use Rattle.goat_io.specs.Files.{Files, file_of}
 use Rattle.song_model.specs.declared.songs.Song.{Song}
@@ -14,8 +15,11 @@ use Rattle.psid.specs.Reading.{psid_read}
 use Rattle.sid_run.specs.State.{loaded}
 use Rattle.jobs.specs.Calls.{HasSubtune, FirstCalls, MeetsStopAt, StopsIn}
 use Rattle.command_line.specs.RegisterText.{register_lines}
-use Rattle.jobs.specs.Lines.{song_fault_line, unplayable_line, too_large_line, image_too_large_line, psid_fault_line, no_subtune_line, script_line, stop_line, listing_line, join_line, script_too_large_line}
-use Rattle.jobs.specs.Stages.{Stage, IsThere, Fits, SpellsSong, CanBePlayed, HasShortPatterns, HasRoomForImage, HasPlayableSubtune, CanBeEdited, IsPsid, OffersSubtune, CallsReturn, CanBeAssembled, GoTogether, HoldsSong, HoldsPsid, IsMet, Ends, Passes, HasShortScript, script_limit}
+use Rattle.jobs.specs.Lines.{song_fault_line, unplayable_line, too_large_line, image_too_large_line, psid_fault_line}
+use Rattle.jobs.specs.Lines.{no_subtune_line, script_line, stop_line, listing_line, join_line, script_too_large_line}
+use Rattle.jobs.specs.Stages.{Stage, IsThere, Fits, SpellsSong, CanBePlayed, HasShortPatterns, HasRoomForImage}
+use Rattle.jobs.specs.Stages.{HasPlayableSubtune, CanBeEdited, IsPsid, OffersSubtune, CallsReturn, CanBeAssembled}
+use Rattle.jobs.specs.Stages.{GoTogether, HoldsSong, HoldsPsid, IsMet, Ends, Passes, HasShortScript, script_limit}
 use Rattle.play_model.specs.declared.options.Options.{Options}
 use Rattle.play_model.specs.Playable.{IsPlayable, IsRefusedFor}
 use Rattle.play_model.proofs.Laws.{refused_or_playable_lem}

@@ -1,5 +1,7 @@
 -- A packed file that is run plays its song.
-use Rattle.std.proofs.Common.{◌≡◌, ℕ, zero, suc, ◌+◌, ◌-◌, ◌%◌, ◌≤◌, ◌<◌, ◌^◌, Bool, true, false, if◌then◌else◌, nat_eq, List, [], None, Ok, length, refl, sym, ap, ◌∙◌, subst, arith, lit≤, lit<}
+use Rattle.std.proofs.Common.{◌≡◌, ℕ, zero, suc, ◌+◌, ◌-◌, ◌%◌, ◌≤◌, ◌<◌, ◌^◌, Bool}
+use Rattle.std.proofs.Common.{true, false, if◌then◌else◌, nat_eq, List, [], None, Ok, length, refl, sym, ap}
+use Rattle.std.proofs.Common.{◌∙◌, subst, arith, lit≤, lit<}
 use Rattle.song_model.specs.declared.songs.Song.{Song}
 use Rattle.song_model.specs.Limits.{KeepsLimits}
 use Rattle.base.specs.Bytes.{AreBytes}

@@ -1,5 +1,6 @@
 -- What comes of a song's script, done on the empty song.
-use Rattle.std.proofs.Common.{◌≡◌, ◌≤◌, ℕ, List, [], ◌∷◌, Option, Some, length, inl, inr, refl, ap, ◌∙◌, subst, arith}
+use Rattle.std.proofs.Common.{◌≡◌, ◌≤◌, ℕ, List, [], ◌∷◌, Option, Some, length, inl, inr, refl, ap}
+use Rattle.std.proofs.Common.{◌∙◌, subst, arith}
 use Rattle.std.proofs.lemmas.Bool.{cases_lt}
 use Rattle.goat_io.specs.Files.{Files, file_of}
 use Rattle.goat_io.proofs.Laws.{file_put}
@@ -13,7 +14,8 @@ use Rattle.song_script.proofs.Laws.{scripts_make_the_song}
 use Rattle.command_line.specs.Words.{Edit}
 use Rattle.command_line.proofs.Laws.{one_job}
 use Rattle.jobs.specs.Lines.{script_too_large_line}
-use Rattle.jobs.specs.Stages.{IsThere, Fits, SpellsSong, HasShortScript, CanBeEdited, HoldsSong, IsEditedIn, Passes, AllPass, input_limit, script_limit}
+use Rattle.jobs.specs.Stages.{IsThere, Fits, SpellsSong, HasShortScript, CanBeEdited, HoldsSong, IsEditedIn, Passes}
+use Rattle.jobs.specs.Stages.{AllPass, input_limit, script_limit}
 use Rattle.jobs.specs.Jobs.{stages, Done}
 use Rattle.jobs.specs.Outcome as outcome
 use Rattle.jobs.specs.Outcome.{Outcome, files_after}

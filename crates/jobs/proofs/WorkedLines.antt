@@ -3,7 +3,9 @@ use Rattle.std.proofs.Common.{◌≡◌, ℕ, ◌+◌, ◌<◌, ◌≤◌, lengt
 use Rattle.std.specs.Fmt.{digits}
 use Rattle.hex.specs.Hex.{encode_with}
 use Rattle.psid.specs.Format.{header_fields}
-use Rattle.jobs.specs.WorkedLines.{LinesAreWorked, CostLinesAreWorked, FaultsAreWorked, ListingFaultsAreWorked, JoinFaultsAreWorked, RefusalsAreWorked, StatusesAreWorked, LimitsAreWorked, HeadersAreWorked, FlagsAreWorked, LargeImagesAreNotPacked}
+use Rattle.jobs.specs.WorkedLines.{LinesAreWorked, CostLinesAreWorked, FaultsAreWorked, ListingFaultsAreWorked}
+use Rattle.jobs.specs.WorkedLines.{JoinFaultsAreWorked, RefusalsAreWorked, StatusesAreWorked, LimitsAreWorked}
+use Rattle.jobs.specs.WorkedLines.{HeadersAreWorked, FlagsAreWorked, LargeImagesAreNotPacked}
 
 pub lines_are_worked : LinesAreWorked
 unfolding digits encode_with

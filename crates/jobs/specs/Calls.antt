@@ -32,7 +32,8 @@ pub record ReturnsTo (machine : Machine) (entry number : ℕ) (registers : List 
 
 -- the first calls of a loaded file tell something each, this many of them: what they tell, in order, and the machine
 -- after the last
-abbrev pub CallsTell : {A : Type 0} → (Machine → ℕ → ℕ → A → Machine → Type 0) → RunnerState → ℕ → ℕ → List A →
+abbrev pub CallsTell : {A : Type 0} → (Machine → ℕ → ℕ → A → Machine → Type 0) → RunnerState →
+    ℕ → ℕ → List A →
     Machine → Type 0
 CallsTell Tells file subtune zero told machine = (told ≡ []) × (machine ≡ file.machine)
 CallsTell {A} Tells file subtune (suc call) told machine =

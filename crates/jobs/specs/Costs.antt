@@ -33,7 +33,8 @@ kind_lines costs = kind_line (codes "player") costs.player ∷ kind_line (codes 
 -- subtunes and channels in decimal, and as the editor counts it the rest in hexadecimal
 abbrev pub place_words : Place → List (List ℕ)
 place_words (InOrder subtune channel place) =
-    codes "subtune " ∷ decimal subtune ∷ codes " channel " ∷ decimal channel ∷ codes " place " ∷ byte_digits place ∷ []
+    codes "subtune " ∷ decimal subtune ∷ codes " channel " ∷ decimal channel ∷ codes " place "
+    ∷ byte_digits place ∷ []
 place_words (InPattern pattern row) = codes "pattern " ∷ byte_digits pattern ∷ codes " row " ∷ byte_digits row ∷ []
 place_words (InInstrument instrument) = codes "instrument " ∷ byte_digits instrument ∷ []
 place_words (InWaveTable row) = codes "wave row " ∷ byte_digits row ∷ []

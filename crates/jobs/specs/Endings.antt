@@ -20,13 +20,15 @@ use Rattle.command_line.specs.Last.{Last, Says, SaysNothing, SinkFailed, Wants}
 use Rattle.command_line.specs.Words.{Job}
 use Rattle.jobs.specs.Stages.{Stage, SpellsSong, Ends, status_of, input_limit}
 use Rattle.command_line.specs.Forms.{WordsOf}
-use Rattle.jobs.specs.Stands.{FolderState, SinkState, AreFiles, Counted, FolderStays, Appends, FailsAfter, Account, Printing, TellsWant}
+use Rattle.jobs.specs.Stands.{FolderState, SinkState, AreFiles, Counted, FolderStays, Appends, FailsAfter, Account}
+use Rattle.jobs.specs.Stands.{Printing, TellsWant}
 
 -- ---- a stage
 
 -- the stage ends the run with this line, or the run is out of memory
 pub data Refuses (files : Files) (stage : Stage) (last : Last) : Type 0 where
-  ends : (line : List ℕ) → Ends files stage (line ∷ []) → last ≡ Says (status_of stage) line → Refuses files stage last
+  ends : (line : List ℕ) → Ends files stage (line ∷ []) → last ≡ Says (status_of stage) line →
+      Refuses files stage last
   wanting : last ≡ Wants → Refuses files stage last
 
 -- a file was read: the folder's, if it tells its files, and else some file

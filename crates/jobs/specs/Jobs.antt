@@ -16,7 +16,10 @@ use Rattle.asm_text.specs.Printing.{listing_of}
 use Rattle.sid_run.specs.State.{loaded}
 use Rattle.command_line.specs.Words as asked
 use Rattle.command_line.specs.Words.{Job}
-use Rattle.jobs.specs.Stages.{Stage, IsThere, Fits, SpellsSong, CanBePlayed, HasShortPatterns, HasShortScript, HasRoomForImage, HasPlayableSubtune, CanBeEdited, IsPsid, OffersSubtune, CallsReturn, CanBeAssembled, GoTogether, HoldsSong, HoldsPsid, HoldsListing, IsEditedIn, input_limit, script_limit, listing_limit}
+use Rattle.jobs.specs.Stages.{Stage, IsThere, Fits, SpellsSong, CanBePlayed, HasShortPatterns, HasShortScript}
+use Rattle.jobs.specs.Stages.{HasRoomForImage, HasPlayableSubtune, CanBeEdited, IsPsid, OffersSubtune, CallsReturn}
+use Rattle.jobs.specs.Stages.{CanBeAssembled, GoTogether, HoldsSong, HoldsPsid, HoldsListing, IsEditedIn, input_limit}
+use Rattle.jobs.specs.Stages.{script_limit, listing_limit}
 use Rattle.jobs.specs.Packed.{IsWrittenFile, raw_file}
 use Rattle.jobs.specs.Calls.{FirstCalls}
 use Rattle.command_line.specs.RegisterText.{register_lines}

@@ -1,6 +1,7 @@
 -- What follows from the definitions: a run has one outcome, each status comes exactly where its
 -- cause is, which songs are packed, and a packed file that is run prints its song.
-use Rattle.std.specs.Prelude.{◌≡◌, ◌≢◌, ℕ, ◌+◌, ◌-◌, ◌<◌, ◌≤◌, ◌↔◌, Bool, true, List, Option, Some, None, Ok, length}
+use Rattle.std.specs.Prelude.{◌≡◌, ◌≢◌, ℕ, ◌+◌, ◌-◌, ◌<◌, ◌≤◌, ◌↔◌, Bool, true}
+use Rattle.std.specs.Prelude.{List, Option, Some, None, Ok, length}
 use Rattle.std.specs.Option.{option_and_then}
 use Rattle.base.specs.Bytes.{AreBytes, IsWord}
 use Rattle.goat_io.specs.Files.{Files, file_of}
@@ -26,7 +27,8 @@ use Rattle.psid.specs.Reading.{psid_read}
 use Rattle.command_line.specs.declared.chip.Chip.{Chip}
 use Rattle.command_line.specs.Words.{Job, Pack, Selftest, Disasm, Asm, Show, Edit}
 use Rattle.jobs.specs.Calls.{HasSubtune, FirstCalls}
-use Rattle.jobs.specs.Stages.{Stage, CanBePlayed, HasRoomForImage, HoldsSong, HoldsPsid, status_of, Ends, IsMet, Passes, AllPass, input_limit}
+use Rattle.jobs.specs.Stages.{Stage, CanBePlayed, HasRoomForImage, HoldsSong, HoldsPsid, status_of, Ends, IsMet, Passes}
+use Rattle.jobs.specs.Stages.{AllPass, input_limit}
 use Rattle.command_line.specs.Forms.{WordsOf, IsNoForm}
 use Rattle.jobs.specs.Jobs.{stages, Done}
 use Rattle.jobs.specs.Outcome.{Outcome, files_after}

@@ -4,7 +4,8 @@ use Rattle.command_line.specs.Lines.{line, no_memory_line, address_digits, featu
 use Rattle.song_model.specs.declared.tables.TableName.{TableName}
 use Rattle.song_model.specs.declared.tables.TableName.TheVariants.{Wave, Pulse, Filter, Speed}
 use Rattle.play_model.specs.declared.unplayable.Unplayable.{Unplayable}
-use Rattle.play_model.specs.declared.unplayable.Unplayable.TheVariants.{NoSubtune, MissingPattern, BadRestart, TableOverflow, PointerToJump}
+use Rattle.play_model.specs.declared.unplayable.Unplayable.TheVariants.{NoSubtune, MissingPattern, BadRestart}
+use Rattle.play_model.specs.declared.unplayable.Unplayable.TheVariants.{TableOverflow, PointerToJump}
 use Rattle.usage.specs.declared.parts.UsedParts.{UsedParts}
 use Rattle.usage.specs.Marks.{count_of}
 use Rattle.gts5.specs.declared.faults.SongFault.{SongFault}
@@ -16,7 +17,8 @@ use Rattle.song_join.specs.declared.faults.JoinPart.TheVariants as parts
 use Rattle.song_join.specs.declared.faults.JoinPart.TheVariants.{Subtunes, Instruments, Patterns}
 use Rattle.song_join.specs.declared.faults.JoinFault.{JoinFault}
 use Rattle.song_join.specs.declared.faults.JoinFault.TheVariants as faults
-use Rattle.song_join.specs.declared.faults.JoinFault.TheVariants.{OverLimit, LooseInstrument, LooseSpeed, GateTimer, NoteBeforeInstrument}
+use Rattle.song_join.specs.declared.faults.JoinFault.TheVariants.{OverLimit, LooseInstrument, LooseSpeed, GateTimer}
+use Rattle.song_join.specs.declared.faults.JoinFault.TheVariants.{NoteBeforeInstrument}
 use Rattle.asm_text.specs.declared.faults.TextFault.{TextFault}
 use Rattle.asm_text.specs.declared.faults.TextKind.{TextKind}
 use Rattle.asm_text.specs.declared.faults.TextKind.TheVariants as text
@@ -143,7 +145,8 @@ part_words Patterns = codes " patterns"
 abbrev pub join_line : JoinFault → List ℕ
 join_line (OverLimit part sum) = line (codes "cannot join: " ∷ decimal sum ∷ part_words part ∷ [])
 join_line (LooseInstrument song instrument) =
-    line (codes "cannot join: " ∷ codes "loose instrument " ∷ decimal instrument ∷ codes " in song " ∷ decimal song ∷ [])
+    line (codes "cannot join: " ∷ codes "loose instrument " ∷ decimal instrument ∷ codes " in song "
+    ∷ decimal song ∷ [])
 join_line (LooseSpeed song row) =
     line (codes "cannot join: " ∷ codes "loose speed row " ∷ decimal row ∷ codes " in song " ∷ decimal song ∷ [])
 join_line (GateTimer first second) =

@@ -24,7 +24,8 @@ use Rattle.command_line.specs.Words.{Pack, Run, Asm, Join, Edit, Selftest, Help,
 use Rattle.command_line.specs.Forms.{WordsOf}
 use Rattle.jobs.specs.Stages.{HoldsSong, AllPass, input_limit, script_limit}
 use Rattle.jobs.specs.Jobs.{stages}
-use Rattle.jobs.specs.Answers.{IsOrdinary, IsPrinted, IsBeforeWriting, IsPackedPsid, RunsPacked, AssemblesListing, AsksToMake, AsksToJoin}
+use Rattle.jobs.specs.Answers.{IsOrdinary, IsPrinted, IsBeforeWriting, IsPackedPsid, RunsPacked, AssemblesListing}
+use Rattle.jobs.specs.Answers.{AsksToMake, AsksToJoin}
 
 -- 0 and each other status but 4, 9, 10 and 14 is ordinary, all lines are printed with each but 10 and 14, and nothing is
 -- written with each but 0, 9, 10 and 14
@@ -33,7 +34,8 @@ pub record StatusesAreOrdinary : Type 0 where
   pub done_printed : IsPrinted 0
   pub ordinary : (status : ℕ) → status ≢ 4 → status ≢ 9 → status ≢ 10 → status ≢ 14 → IsOrdinary status
   pub printed : (status : ℕ) → status ≢ 10 → status ≢ 14 → IsPrinted status
-  pub before_writing : (status : ℕ) → status ≢ 0 → status ≢ 9 → status ≢ 10 → status ≢ 14 → IsBeforeWriting status
+  pub before_writing : (status : ℕ) → status ≢ 0 → status ≢ 9 → status ≢ 10 → status ≢ 14 →
+      IsBeforeWriting status
   pub read_fault : ¬ IsOrdinary 4
   pub write_fault : ¬ IsOrdinary 9
   pub unprinted : ¬ IsOrdinary 10
@@ -46,7 +48,8 @@ pub record StatusesAreOrdinary : Type 0 where
 abbrev pub FittingSongsArePacked : Type 0
 FittingSongsArePacked =
     (files : Files) (input output : List ℕ) (psid : Bool) (address zero_page : ℕ) (options : Options) (chip : Chip)
-    (song : Song) (used : UsedSets) (features : ℕ) → (holds : HoldsSong files input song) → length holds.bytes ≤ input_limit →
+    (song : Song) (used : UsedSets) (features : ℕ) → (holds : HoldsSong files input song) →
+    length holds.bytes ≤ input_limit →
     IsPlayable song → AreUsedSets song used → AreFeatures song features → AreShort song used →
     address + data_size song used + code_bound features options ≤ 0xD000 →
     AllPass files (stages (Pack input output psid address zero_page options chip))

@@ -12,7 +12,8 @@ use Rattle.command_line.specs.Lines.{usage_line}
 -- done
 pub data Outcome (words : List (List ℕ)) (files : Files) (status : ℕ) (lines : List (List ℕ))
     (write : Option (List ℕ × List ℕ)) : Type 0 where
-  usage : IsNoForm words → status ≡ 1 → lines ≡ usage_line ∷ [] → write ≡ None → Outcome words files status lines write
+  usage : IsNoForm words → status ≡ 1 → lines ≡ usage_line ∷ [] → write ≡ None →
+      Outcome words files status lines write
   ended : (job : Job) → WordsOf words job → FirstEnds files (stages job) status lines → write ≡ None →
       Outcome words files status lines write
   done : (job : Job) → WordsOf words job → AllPass files (stages job) → Done job files lines write → status ≡ 0 →

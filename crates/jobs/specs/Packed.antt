@@ -1,5 +1,6 @@
 -- The files that `pack` may write: a raw file, or a PSID v2 file, of an image that plays the song.
-use Rattle.std.specs.Prelude.{◌≡◌, ℕ, ◌+◌, ◌*◌, ◌/◌, ◌%◌, ◌≤◌, List, ◌∷◌, Bool, true, false, if◌then◌else◌, nat_eq, length}
+use Rattle.std.specs.Prelude.{◌≡◌, ℕ, ◌+◌, ◌*◌, ◌/◌, ◌%◌, ◌≤◌, List, ◌∷◌, Bool}
+use Rattle.std.specs.Prelude.{true, false, if◌then◌else◌, nat_eq, length}
 use Rattle.base.specs.Bytes.{AreBytes}
 use Rattle.song_model.specs.declared.songs.Song.{Song}
 use Rattle.song_model.specs.LookUp.{playable_subtunes}

@@ -1,7 +1,8 @@
 -- What a run goes through, one stage after the other, and what ends it there. Each stage is a condition of the files
 -- as they are before the run; the first one that doesn't pass ends the run, with the stage's status and lines. The
 -- order of a job's stages is the order of its refusals.
-use Rattle.std.specs.Prelude.{◌≡◌, ℕ, ◌+◌, ◌-◌, ◌<◌, ◌≤◌, List, [], ◌∷◌, ◌++◌, ◌⊎◌, Some, None, Ok, Err, length}
+use Rattle.std.specs.Prelude.{◌≡◌, ℕ, ◌+◌, ◌-◌, ◌<◌, ◌≤◌, List, [], ◌∷◌, ◌++◌}
+use Rattle.std.specs.Prelude.{◌⊎◌, Some, None, Ok, Err, length}
 use Rattle.goat_io.specs.Files.{Files, file_of, IsAbsent, IsAbove}
 use Rattle.song_model.specs.declared.songs.Song.{Song}
 use Rattle.song_model.specs.LookUp.{IsNumbered, playable_subtunes}
@@ -31,7 +32,9 @@ use Rattle.asm_text.specs.Faults.{fault_in, IsFaultOf}
 use Rattle.jobs.specs.Calls.{HasSubtune, FirstCalls, StopsIn}
 use Rattle.jobs.specs.Packed.{IsImageLength}
 use Rattle.command_line.specs.RegisterText.{register_lines}
-use Rattle.jobs.specs.Lines.{missing_line, too_long_line, song_fault_line, unplayable_line, too_large_line, image_too_large_line, script_too_large_line, script_line, psid_fault_line, no_subtune_line, stop_line, listing_line, join_line}
+use Rattle.jobs.specs.Lines.{missing_line, too_long_line, song_fault_line, unplayable_line, too_large_line}
+use Rattle.jobs.specs.Lines.{image_too_large_line, script_too_large_line, script_line, psid_fault_line, no_subtune_line}
+use Rattle.jobs.specs.Lines.{stop_line, listing_line, join_line}
 
 -- the most bytes of a song or a PSID file
 abbrev pub input_limit : ℕ

@@ -80,7 +80,8 @@ pub data Account (words : List (List ℕ)) (files : Files) (status : ℕ) (lines
     (before after : Option Files) : Type 0 where
   outcome : (write : Option (List ℕ × List ℕ)) → Outcome words files status lines write →
       after ≡ told_after before write → Account words files status lines before after
-  read_fault : (name : List ℕ) → ComesTo words files (IsThere name) → status ≡ 4 → lines ≡ read_fault_line name ∷ [] →
+  read_fault : (name : List ℕ) → ComesTo words files (IsThere name) → status ≡ 4 →
+      lines ≡ read_fault_line name ∷ [] →
       after ≡ before → Account words files status lines before after
   write_fault : (text : List (List ℕ)) (output file : List ℕ) → Outcome words files 0 text (Some (output, file)) →
       status ≡ 9 → lines ≡ write_fault_line output ∷ [] → IsWrittenInPart before after output file →

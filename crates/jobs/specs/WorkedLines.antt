@@ -1,5 +1,6 @@
 -- Lines, statuses, limits and headers that are worked by hand.
-use Rattle.std.specs.Prelude.{◌≡◌, ℕ, ◌+◌, ◌-◌, ◌<◌, List, [], ◌∷◌, ◌++◌, Bool, true, false, codes, length, map, replicate, take, drop}
+use Rattle.std.specs.Prelude.{◌≡◌, ℕ, ◌+◌, ◌-◌, ◌<◌, List, [], ◌∷◌, ◌++◌, Bool, true}
+use Rattle.std.specs.Prelude.{false, codes, length, map, replicate, take, drop}
 use Rattle.std.specs.List.{range_with_len}
 use Rattle.song_model.specs.declared.songs.Song.{Song}
 use Rattle.song_model.specs.declared.tables.TableName.TheVariants.{Wave, Pulse, Filter}
@@ -8,12 +9,14 @@ use Rattle.play_model.specs.declared.options.Options.{Options}
 use Rattle.play_model.specs.declared.options.System.TheVariants.{Ntsc}
 use Rattle.play_model.specs.State.{no_options}
 use Rattle.play_model.specs.WorkedSongs.{subtune as orders}
-use Rattle.play_model.specs.declared.unplayable.Unplayable.TheVariants.{NoSubtune, MissingPattern, BadRestart, TableOverflow, PointerToJump}
+use Rattle.play_model.specs.declared.unplayable.Unplayable.TheVariants.{NoSubtune, MissingPattern, BadRestart}
+use Rattle.play_model.specs.declared.unplayable.Unplayable.TheVariants.{TableOverflow, PointerToJump}
 use Rattle.gts5.specs.declared.faults.SongFault.TheVariants as song
 use Rattle.psid.specs.declared.faults.PsidFault.TheVariants as psid
 use Rattle.song_join.specs.declared.faults.JoinPart.TheVariants as parts
 use Rattle.song_join.specs.declared.faults.JoinPart.TheVariants.{Subtunes, Instruments, Patterns}
-use Rattle.song_join.specs.declared.faults.JoinFault.TheVariants.{OverLimit, LooseInstrument, LooseSpeed, GateTimer, NoteBeforeInstrument}
+use Rattle.song_join.specs.declared.faults.JoinFault.TheVariants.{OverLimit, LooseInstrument, LooseSpeed, GateTimer}
+use Rattle.song_join.specs.declared.faults.JoinFault.TheVariants.{NoteBeforeInstrument}
 use Rattle.asm_text.specs.declared.faults.TextKind.TheVariants as text
 use Rattle.cpu6502.specs.declared.stop.Stop.TheVariants.{Illegal, Break, Decimal}
 use Rattle.cpu6502.specs.declared.stop.CallStop.TheVariants.{Stopped, Budget}
@@ -25,7 +28,8 @@ use Rattle.usage.specs.declared.parts.UsedParts.{UsedParts}
 use Rattle.faithful.specs.WorkedPlaces.{twice}
 use Rattle.jobs.specs.Lines.{missing_line, too_long_line, read_fault_line, write_fault_line, wrote_line, song_fault_line}
 use Rattle.jobs.specs.Lines.{psid_fault_line, no_subtune_line, stop_line, unplayable_line, too_large_line}
-use Rattle.jobs.specs.Lines.{image_too_large_line, script_too_large_line, check_line, script_line, listing_line, join_line, selftest_line}
+use Rattle.jobs.specs.Lines.{image_too_large_line, script_too_large_line, check_line, script_line, listing_line}
+use Rattle.jobs.specs.Lines.{join_line, selftest_line}
 use Rattle.song_costs.specs.declared.costs.Costs.{Costs}
 use Rattle.song_costs.specs.declared.places.Place.TheVariants.{InOrder, InPattern, InInstrument, InWaveTable}
 use Rattle.song_costs.specs.declared.kept.Cause.{Cause}
@@ -34,8 +38,10 @@ use Rattle.song_costs.specs.declared.kept.PartCost.{PartCost}
 use Rattle.jobs.specs.Costs.{kind_lines, part_line, part_name}
 use Rattle.jobs.specs.Packed.{raw_file, song_header, psid_file, IsPackedFile}
 use Rattle.jobs.specs.Selftest.{selftest_calls}
-use Rattle.jobs.specs.Stages.{IsThere, Fits, SpellsSong, CanBePlayed, HasShortPatterns, HasShortScript, HasRoomForImage, HasPlayableSubtune}
-use Rattle.jobs.specs.Stages.{CanBeEdited, IsPsid, OffersSubtune, CallsReturn, CanBeAssembled, GoTogether, status_of, input_limit, script_limit, listing_limit}
+use Rattle.jobs.specs.Stages.{IsThere, Fits, SpellsSong, CanBePlayed, HasShortPatterns, HasShortScript, HasRoomForImage}
+use Rattle.jobs.specs.Stages.{HasPlayableSubtune}
+use Rattle.jobs.specs.Stages.{CanBeEdited, IsPsid, OffersSubtune, CallsReturn, CanBeAssembled, GoTogether, status_of}
+use Rattle.jobs.specs.Stages.{input_limit, script_limit, listing_limit}
 
 -- the first n numbers are marked, of so many
 abbrev pub first_marked : ℕ → ℕ → List Bool
@@ -218,7 +224,8 @@ pub record LimitsAreWorked : Type 0 where
 -- the silent song twice, and between the two a subtune that can't be played
 abbrev pub two_of_three : Song
 two_of_three = record silence {
-  subtunes = orders (0 ∷ []) (0 ∷ []) (0 ∷ []) ∷ orders (0 ∷ []) [] (0 ∷ []) ∷ orders (0 ∷ []) (0 ∷ []) (0 ∷ []) ∷ [];
+  subtunes = orders (0 ∷ []) (0 ∷ []) (0 ∷ []) ∷ orders (0 ∷ []) [] (0 ∷ []) ∷ orders (0 ∷ []) (0
+      ∷ []) (0 ∷ []) ∷ [];
 }
 
 -- of each song: its texts in their places, play three bytes after init, and by the timer where it is played twice; and

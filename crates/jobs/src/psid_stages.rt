@@ -1,6 +1,7 @@
 //! The stages of a run that ask for a PSID file.
 
-ghost use Rattle.std.specs.Prelude.{◌≡◌, ◌≢◌, ◌+◌, ◌-◌, ◌≤◌, ℕ, List, Some, IfOk, IfErr, OnOk, Ok, length};
+ghost use Rattle.std.specs.Prelude.{◌≡◌, ◌≢◌, ◌+◌, ◌-◌, ◌≤◌, ℕ, List, Some, IfOk, IfErr};
+ghost use Rattle.std.specs.Prelude.{OnOk, Ok, length};
 ghost use Rattle.goat_io.specs.Files.{Files, file_of};
 ghost use Rattle.psid.specs.declared.reading.TheConstants.{ADDRESSES};
 ghost use Rattle.psid.specs.Reading.{psid_read};

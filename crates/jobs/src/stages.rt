@@ -1,7 +1,8 @@
 //! The stages of a run: each passes, or ends the run. Those of PSID files are in `psid_stages.rt`.
 #![tactic(auto, using(crate::proofs::Room::pieces_fit))]
 
-ghost use Rattle.std.specs.Prelude.{◌≡◌, ◌≢◌, ◌-◌, ◌≤◌, ℕ, List, [], ◌∷◌, codes, Some, IfOk, IfErr, OnOk, decimal, length};
+ghost use Rattle.std.specs.Prelude.{◌≡◌, ◌≢◌, ◌-◌, ◌≤◌, ℕ, List, [], ◌∷◌, codes, Some};
+ghost use Rattle.std.specs.Prelude.{IfOk, IfErr, OnOk, decimal, length};
 ghost use Rattle.goat_io.specs.Files.{Files, file_of};
 ghost use Rattle.song_model.specs.LookUp.{IsNumbered, playable_subtunes};
 ghost use Rattle.gts5.specs.Spells.{Spells};

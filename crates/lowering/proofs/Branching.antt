@@ -1,5 +1,6 @@
 -- What the lines of branches do: they go to their label exactly where the test is met.
-use Rattle.std.proofs.Common.{◌≡◌, ℕ, ◌+◌, ◌%◌, ◌<◌, ◌≤◌, Bool, true, false, not, Some, refl, ap, ◌∙◌, arith}
+use Rattle.std.proofs.Common.{◌≡◌, ℕ, ◌+◌, ◌%◌, ◌<◌, ◌≤◌, Bool, true, false, not, Some, refl}
+use Rattle.std.proofs.Common.{ap, ◌∙◌, arith}
 use Rattle.code_runs.specs.Steps.{takes}
 use Rattle.code_runs.proofs.Laws.{goes_once, works, branch_steps, jump_steps}
 use Rattle.asm6502.specs.Lines.{size_of}

@@ -1,5 +1,6 @@
 -- What the lines of steps and of tests do wherever they stand.
-use Rattle.std.proofs.Common.{◌≡◌, ℕ, ◌+◌, ◌-◌, ◌≤◌, Bool, false, true, List, [], ◌∷◌, refl, sym, ap, arith, add-zero}
+use Rattle.std.proofs.Common.{◌≡◌, ℕ, ◌+◌, ◌-◌, ◌≤◌, Bool, false, true, List, [], ◌∷◌, refl}
+use Rattle.std.proofs.Common.{sym, ap, arith, add-zero}
 use Rattle.cpu6502.specs.declared.mnemonic.Mnemonic.{Mnemonic}
 use Rattle.cpu6502.specs.declared.mnemonic.Mnemonic.TheVariants.{Adc, And as AndA, Clc, Cmp, Dec as DecByte, Dey, Eor}
 use Rattle.cpu6502.specs.declared.mnemonic.Mnemonic.TheVariants.{Inc as IncByte, Iny, Lda, Ldy, Lsr, Ora, Ror, Sbc, Sec}

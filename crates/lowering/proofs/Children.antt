@@ -1,5 +1,6 @@
 -- The lines of each kind, where the branches are as far as its children's bytes say.
-use Rattle.std.proofs.Common.{IfOk, Result, Ok, Err, ◌≡◌, ℕ, ◌+◌, ◌<◌, Bool, if◌then◌else◌, List, min, nat_lt, refl, ap}
+use Rattle.std.proofs.Common.{IfOk, Result, Ok, Err, ◌≡◌, ℕ, ◌+◌, ◌<◌, Bool, if◌then◌else◌, List}
+use Rattle.std.proofs.Common.{min, nat_lt, refl, ap}
 use Rattle.std.proofs.Common.{◌∙◌, inl, inr, arith}
 use Rattle.std.proofs.lemmas.Bool.{cases_lt, lt-ltb, le-ltb}
 use Rattle.asm6502.specs.declared.lines.Line.{Line}

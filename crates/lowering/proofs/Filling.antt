@@ -1,5 +1,6 @@
 -- What the lines of a Fill do.
-use Rattle.std.proofs.Common.{◌≡◌, ℕ, zero, suc, ◌+◌, ◌*◌, ◌%◌, ◌<◌, ◌≤◌, Bool, true, false, not, nat_eq, nat_le, List}
+use Rattle.std.proofs.Common.{◌≡◌, ℕ, zero, suc, ◌+◌, ◌*◌, ◌%◌, ◌<◌, ◌≤◌, Bool, true}
+use Rattle.std.proofs.Common.{false, not, nat_eq, nat_le, List}
 use Rattle.std.proofs.Common.{[], ◌∷◌, refl, ap, subst, ◌∙◌, arith}
 use Rattle.cpu6502.specs.declared.mnemonic.Mnemonic.TheVariants.{Dey, Sta}
 use Rattle.cpu6502.specs.declared.mnemonic.Mode.TheVariants.{AbsoluteY}

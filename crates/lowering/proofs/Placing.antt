@@ -1,5 +1,6 @@
 -- A sound tree whose labels are in their places finds its bytes there.
-use Rattle.std.proofs.Common.{◌≡◌, ℕ, zero, suc, ◌+◌, ◌*◌, ◌<◌, ◌≤◌, ◌&&◌, ◌⊎◌, Bool, true, false, not, nat_le}
+use Rattle.std.proofs.Common.{◌≡◌, ℕ, zero, suc, ◌+◌, ◌*◌, ◌<◌, ◌≤◌, ◌&&◌, ◌⊎◌}
+use Rattle.std.proofs.Common.{Bool, true, false, not, nat_le}
 use Rattle.std.proofs.Common.{nat_lt, List, []}
 use Rattle.std.proofs.Common.{◌∷◌, refl, ap, ◌∙◌, inl, inr, arith}
 use Rattle.std.proofs.lemmas.Bool.{and_parts, cases_lt, leb-true, ltb-true}

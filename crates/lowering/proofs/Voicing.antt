@@ -1,5 +1,6 @@
 -- What the lines of an EachVoice do.
-use Rattle.std.proofs.Common.{◌≡◌, ℕ, ◌+◌, ◌*◌, ◌<◌, ◌≤◌, Bool, true, false, List, [], ◌∷◌, ◌++◌, refl, ap, subst}
+use Rattle.std.proofs.Common.{◌≡◌, ℕ, ◌+◌, ◌*◌, ◌<◌, ◌≤◌, Bool, true, false, List, []}
+use Rattle.std.proofs.Common.{◌∷◌, ◌++◌, refl, ap, subst}
 use Rattle.std.proofs.Common.{arith}
 use Rattle.cpu6502.specs.declared.mnemonic.Mnemonic.TheVariants.{Adc, Clc, Cmp, Lda, Tax, Txa}
 use Rattle.cpu6502.specs.declared.mnemonic.Mode.TheVariants.{Immediate}

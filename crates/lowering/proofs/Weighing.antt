@@ -1,5 +1,6 @@
 -- At most so many instructions are run as a tree weighs.
-use Rattle.std.proofs.Common.{◌≡◌, ℕ, zero, suc, ◌+◌, ◌*◌, ◌≤◌, Bool, true, false, not, nat_eq, max, if◌then◌else◌}
+use Rattle.std.proofs.Common.{◌≡◌, ℕ, zero, suc, ◌+◌, ◌*◌, ◌≤◌, Bool, true, false, not, nat_eq}
+use Rattle.std.proofs.Common.{max, if◌then◌else◌}
 use Rattle.std.proofs.Common.{arith, refl}
 use Rattle.lowering.specs.Words.{Test, Counter, CounterVar, CounterY}
 use Rattle.blocks.specs.Trees.{Tree, ChainTree, NoneTree, ThenTree, IfTree, UntilTree, EachVoiceTree, WhenTree}

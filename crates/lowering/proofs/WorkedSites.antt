@@ -1,5 +1,6 @@
 -- Sites that are worked by hand are well placed and entered, and what the theorem says of them.
-use Rattle.std.proofs.Common.{◌≡◌, ◌∙◌, ℕ, ◌+◌, ◌-◌, ◌<◌, ◌≤◌, ◌||◌, ◌⊎◌, Bool, true, nat_eq, slice_index, inl, inr, refl, sym}
+use Rattle.std.proofs.Common.{◌≡◌, ◌∙◌, ℕ, ◌+◌, ◌-◌, ◌<◌, ◌≤◌, ◌||◌, ◌⊎◌}
+use Rattle.std.proofs.Common.{Bool, true, nat_eq, slice_index, inl, inr, refl, sym}
 use Rattle.std.proofs.Common.{ap, arith, false, zero, suc}
 use Rattle.std.proofs.lemmas.Bool.{eqb-true, false≢true}
 use Rattle.std.proofs.lemmas.Bool.Decides.{eqb_tells}

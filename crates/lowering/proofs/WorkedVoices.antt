@@ -1,5 +1,6 @@
 -- A site with voices, a fill, a table and a kept part is well placed and entered, and what the theorem says of it.
-use Rattle.std.proofs.Common.{◌≡◌, ◌∙◌, ℕ, ◌+◌, ◌*◌, ◌<◌, ◌≤◌, ◌||◌, ◌&&◌, ◌⊎◌, Bool, true, nat_eq, slice_index}
+use Rattle.std.proofs.Common.{◌≡◌, ◌∙◌, ℕ, ◌+◌, ◌*◌, ◌<◌, ◌≤◌, ◌||◌, ◌&&◌}
+use Rattle.std.proofs.Common.{◌⊎◌, Bool, true, nat_eq, slice_index}
 use Rattle.std.proofs.Common.{inl, inr, refl, sym, ap, arith, zero, suc}
 use Rattle.std.proofs.lemmas.Bool.{and_parts, eqb-true, false≢true}
 use Rattle.std.proofs.lemmas.Bool.Decides.{eqb_tells}

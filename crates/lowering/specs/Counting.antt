@@ -19,7 +19,8 @@ abbrev pub run_by_test : Test → (Desk → ℕ) → (Desk → ℕ) → Desk →
 run_by_test test met unmet desk = if is_met test desk then met desk else unmet desk
 
 -- what the turns of a loop run, each with what comes first, the turn, and what it costs by how many are left
-abbrev pub turns_run : ℕ → Test → (Desk → Desk) → (Desk → Desk) → (Desk → ℕ) → ℕ → ℕ → (ℕ → ℕ) → Desk → ℕ
+abbrev pub turns_run : ℕ → Test → (Desk → Desk) → (Desk → Desk) → (Desk → ℕ) → ℕ → ℕ →
+    (ℕ → ℕ) → Desk → ℕ
 turns_run zero test first turn run ending going back desk = 0
 turns_run (suc n) test first turn run ending going back desk =
     run_by_test test (λ done. ending)

@@ -1,9 +1,11 @@
 -- Cycles of lines: the greatest number that each instruction takes, by the cycles of the decode table. Source: the MOS 6502
 -- programming manual.
-use Rattle.std.specs.Prelude.{◌≡◌, ℕ, ◌+◌, Bool, true, false, Option, Some, None, List, [], ◌∷◌, if◌then◌else◌}
+use Rattle.std.specs.Prelude.{◌≡◌, ℕ, ◌+◌, Bool, true, false, Option, Some, None, List, [], ◌∷◌}
+use Rattle.std.specs.Prelude.{if◌then◌else◌}
 use Rattle.std.specs.Option.{option_and_then}
 use Rattle.cpu6502.specs.declared.mnemonic.Mnemonic.{Mnemonic}
-use Rattle.cpu6502.specs.declared.mnemonic.Mnemonic.TheVariants.{Adc, Asl, Bne, Cmp, Dec, Inc, Jmp, Lda, Lsr, Nop, Rol, Ror, Rts, Sta}
+use Rattle.cpu6502.specs.declared.mnemonic.Mnemonic.TheVariants.{Adc, Asl, Bne, Cmp, Dec, Inc, Jmp, Lda, Lsr, Nop, Rol}
+use Rattle.cpu6502.specs.declared.mnemonic.Mnemonic.TheVariants.{Ror, Rts, Sta}
 use Rattle.cpu6502.specs.declared.mnemonic.Mode.{Mode}
 use Rattle.cpu6502.specs.declared.mnemonic.Mode.TheVariants.{Implied, Immediate, ZeroPage, Absolute, AbsoluteX, AbsoluteY}
 use Rattle.cpu6502.specs.declared.mnemonic.Mode.TheVariants.{IndirectY, Relative}

@@ -21,7 +21,8 @@ pub record IsNotRefused (set origin : ℕ) (lines before : List Line) (line : Li
 abbrev pub LoweredLinesAreNotRefused : Type 0
 LoweredLinesAreNotRefused =
     (others : ℕ → Bool) (set origin pointer first : ℕ) (tree : Tree) (front back before : List Line) (line : Line)
-    (after : List Line) → is_sound tree ≡ true → names_tree (any_of others) tree ≡ true → 2 ≤ pointer → pointer ≤ 254 →
+    (after : List Line) → is_sound tree ≡ true → names_tree (any_of others) tree ≡ true → 2 ≤ pointer →
+    pointer ≤ 254 →
     NamesNoLabelTwice (front ++ (all_lines pointer first tree ++ back)) →
     NamesOthers others (front ++ (all_lines pointer first tree ++ back)) →
     all_lines pointer first tree ≡ before ++ line ∷ after →

@@ -1,7 +1,8 @@
 -- Lowered blocks that are worked by hand at $1000: one that sets the volume, and a loop that counts down. Their sites
 -- are well placed, and a state enters each, so what the theorem on lowered blocks asks can be met. Source: the MOS 6502
 -- programming manual.
-use Rattle.std.specs.Prelude.{◌≡◌, ℕ, ◌-◌, ◌||◌, ◌⊎◌, Bool, true, false, nat_eq, List, [], ◌∷◌, ◌++◌, slice_index}
+use Rattle.std.specs.Prelude.{◌≡◌, ℕ, ◌-◌, ◌||◌, ◌⊎◌, Bool, true, false, nat_eq, List, []}
+use Rattle.std.specs.Prelude.{◌∷◌, ◌++◌, slice_index}
 use Rattle.code_runs.specs.Runs.{State, Leads}
 use Rattle.asm6502.specs.declared.lines.Item.TheVariants.{Bytes}
 use Rattle.asm6502.specs.declared.lines.Line.{Line}

@@ -1,5 +1,6 @@
 -- The greatest number that an item of a list has.
-use Rattle.std.proofs.Common.{◌≡◌, ℕ, zero, suc, ◌<◌, ◌≤◌, max, List, [], ◌∷◌, length, get_or, subst, arith}
+use Rattle.std.proofs.Common.{◌≡◌, ℕ, zero, suc, ◌<◌, ◌≤◌, max, List, [], ◌∷◌, length, get_or}
+use Rattle.std.proofs.Common.{subst, arith}
 use Rattle.std.specs.List.{fold, All, Contains}
 use Rattle.std.proofs.lemmas.List.Elements.{All-head, All-tail}
 use Rattle.packed_form.specs.WalkCount.{greatest}

@@ -1,5 +1,7 @@
 -- The way from a place of an orderlist to a pattern.
-use Rattle.std.proofs.Common.{◌≡◌, ℕ, suc, ◌+◌, ◌-◌, ◌*◌, ◌<◌, ◌≤◌, max, true, false, cond, eqb, leb, List, ◌∷◌, ◌++◌, length, get_or, drop, refl, sym, ap, subst, ◌∙◌, inl, inr, zero-add, arith}
+use Rattle.std.proofs.Common.{◌≡◌, ℕ, suc, ◌+◌, ◌-◌, ◌*◌, ◌<◌, ◌≤◌, max, true, false}
+use Rattle.std.proofs.Common.{cond, eqb, leb, List, ◌∷◌, ◌++◌, length, get_or, drop, refl, sym, ap, subst}
+use Rattle.std.proofs.Common.{◌∙◌, inl, inr, zero-add, arith}
 use Rattle.std.specs.List.{prefix_len, range_with_len, Any}
 use Rattle.std.proofs.lemmas.Bool.{cases_lt, eq-eqb, ne_eqb, le-leb, lt-leb, leb-true, leb-false}
 use Rattle.std.proofs.lemmas.List.{drop_more, drop_all, length-drop, length-append, get_or-drop}

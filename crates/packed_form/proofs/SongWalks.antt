@@ -1,5 +1,6 @@
 -- The count of the walks of a packed song.
-use Rattle.std.proofs.Common.{◌≡◌, ℕ, ◌+◌, ◌<◌, ◌≤◌, false, cond, eqb, leb, List, [], ◌∷◌, length, get_or, drop, refl, inl, inr, arith}
+use Rattle.std.proofs.Common.{◌≡◌, ℕ, ◌+◌, ◌<◌, ◌≤◌, false, cond, eqb, leb, List, [], ◌∷◌}
+use Rattle.std.proofs.Common.{length, get_or, drop, refl, inl, inr, arith}
 use Rattle.std.specs.List.{prefix_len, All}
 use Rattle.std.proofs.lemmas.Bool.{cases_lt, cond_both, lt-leb}
 use Rattle.std.proofs.lemmas.List.Elements.{All-head, All-drop, Contains-get_or}

@@ -1,7 +1,8 @@
 -- The ways and counts that were worked out by hand, computed.
 use Rattle.std.proofs.Common.{refl}
 use Rattle.packed_form.specs.WalkCount.{looks_from, most_looks, walk_count}
-use Rattle.packed_form.specs.WorkedWalks.{PatternsAlone, TransposesArePassed, RepeatsArePassed, RunsArePassed, SubtunesAreCompared, EndsAreCounted}
+use Rattle.packed_form.specs.WorkedWalks.{PatternsAlone, TransposesArePassed, RepeatsArePassed, RunsArePassed}
+use Rattle.packed_form.specs.WorkedWalks.{SubtunesAreCompared, EndsAreCounted}
 
 pub patterns_alone : PatternsAlone
 unfolding looks_from most_looks walk_count

@@ -1,5 +1,6 @@
 -- The entries of a packed pattern, from this project's own packed form: how each is spelled, and which rows it is.
-use Rattle.std.specs.Prelude.{◌≡◌, ℕ, ◌+◌, ◌≤◌, ◌==◌, if◌then◌else◌, List, [], ◌∷◌, ◌++◌, replicate}
+use Rattle.std.specs.Prelude.{◌≡◌, ℕ, ◌+◌, ◌≤◌, ◌==◌, if◌then◌else◌, List, [], ◌∷◌}
+use Rattle.std.specs.Prelude.{◌++◌, replicate}
 use Rattle.song_model.specs.declared.rows.Row.{Row}
 use Rattle.song_model.specs.Basics.{IsByte}
 use Rattle.packed_form.specs.declared.entries.Command.{Command}

@@ -1,6 +1,7 @@
 -- The first fault of bytes that are no packed pattern, from this project's own packed form: they are taken byte by byte,
 -- from the left.
-use Rattle.std.specs.Prelude.{ℕ, ◌+◌, ◌-◌, Bool, ◌&&◌, ◌||◌, not, nat_lt, nat_le, ◌==◌, if◌then◌else◌, List, [], ◌∷◌, length, Option, Some, None, Result, Ok, Err}
+use Rattle.std.specs.Prelude.{ℕ, ◌+◌, ◌-◌, Bool, ◌&&◌, ◌||◌, not, nat_lt, nat_le, ◌==◌}
+use Rattle.std.specs.Prelude.{if◌then◌else◌, List, [], ◌∷◌, length, Option, Some, None, Result, Ok, Err}
 use Rattle.song_model.specs.declared.rows.Row.{Row}
 use Rattle.song_model.specs.declared.patterns.TheConstants.{MOST_ROWS}
 use Rattle.packed_form.specs.declared.entries.EntryKind.TheVariants.{NamedNote, NamedRest, Note, Rests}
@@ -45,7 +46,8 @@ with_entry entry (Err fault) = Err fault
 
 -- what was done with the byte at this offset, these bytes follow it, and this is what they give from a place on;
 -- a byte behind the end is a bad one
-abbrev pub goes_on : Option Taken → ℕ → List ℕ → (Place → Result (List Entry) PackedFault) → Result (List Entry) PackedFault
+abbrev pub goes_on : Option Taken → ℕ → List ℕ → (Place → Result (List Entry) PackedFault) →
+    Result (List Entry) PackedFault
 goes_on None offset others from_place = Err (BadByte offset)
 goes_on (Some (On place)) offset others from_place = from_place place
 goes_on (Some (Made entry)) offset others from_place = with_entry entry (from_place (AtEntry 0))

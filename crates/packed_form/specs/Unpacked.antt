@@ -1,6 +1,7 @@
 -- A packed song read as a song, from this project's own packed form: its orderlists, its patterns and its instruments
 -- unpacked, under the packed song's numbers. The frames of a packed song are those of this song.
-use Rattle.std.specs.Prelude.{◌≡◌, ℕ, ◌+◌, ◌==◌, List, [], ◌∷◌, ◌++◌, map, take, replicate, Contains, Result, Ok, Err, slice_index}
+use Rattle.std.specs.Prelude.{◌≡◌, ℕ, ◌+◌, ◌==◌, List, [], ◌∷◌, ◌++◌, map, take, replicate}
+use Rattle.std.specs.Prelude.{Contains, Result, Ok, Err, slice_index}
 use Rattle.std.specs.List.{position_or_len}
 use Rattle.song_model.specs.declared.rows.Row.{Row}
 use Rattle.song_model.specs.declared.orders.Order.{Order}

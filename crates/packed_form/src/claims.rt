@@ -4,7 +4,8 @@ ghost use Rattle.packed_form.specs.WalkLaws.{WalksEnd, WalkCountsAreBytes, Endma
 ghost use Rattle.packed_form.specs.WorkedBounds.{CodeBoundsAre, MostSizeIs};
 ghost use Rattle.packed_form.specs.WorkedPlaces.{EdgesAreWorked};
 ghost use Rattle.packed_form.specs.WorkedUnpacked.{OrdersAreUnpacked, PatternsAreUnpacked, PackedNotesAreUnpacked};
-ghost use Rattle.packed_form.specs.WorkedWalks.{PatternsAlone, TransposesArePassed, RepeatsArePassed, RunsArePassed, SubtunesAreCompared, EndsAreCounted};
+ghost use Rattle.packed_form.specs.WorkedWalks.{PatternsAlone, TransposesArePassed, RepeatsArePassed, RunsArePassed};
+ghost use Rattle.packed_form.specs.WorkedWalks.{SubtunesAreCompared, EndsAreCounted};
 
 /// Bounds of the player's code, and the bound of a packed song's size.
 pub fn worked_bounds()

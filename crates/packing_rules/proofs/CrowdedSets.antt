@@ -1,5 +1,7 @@
 -- The sets of the song whose new numbers were worked out by hand are what it uses.
-use Rattle.std.proofs.Common.{◌≡◌, ◌≢◌, ℕ, ◌<◌, length, slice_index_or, Bool, true, false, ◌&&◌, ◌||◌, ◌==◌, List, [], ◌∷◌, Option, Some, None, refl, sym, subst, inl, inr, arith}
+use Rattle.std.proofs.Common.{◌≡◌, ◌≢◌, ℕ, ◌<◌, length, slice_index_or, Bool, true, false, ◌&&◌}
+use Rattle.std.proofs.Common.{◌||◌, ◌==◌, List, [], ◌∷◌, Option, Some, None, refl, sym, subst, inl, inr}
+use Rattle.std.proofs.Common.{arith}
 use Rattle.std.specs.List.{All, Contains, list_all}
 use Rattle.std.proofs.lemmas.Bool.{and_parts, or_cases, eqb-true}
 use Rattle.std.proofs.lemmas.List.Elements.{All-nil, All-cons, All-contains}
@@ -11,7 +13,8 @@ use Rattle.song_model.specs.declared.tables.TableName.TheVariants.{Wave, Pulse, 
 use Rattle.song_model.specs.LookUp.{table_of, table_row, instrument_at, pattern_at, order_of, playable_subtunes}
 use Rattle.song_model.specs.Pointers.{instrument_pointer, command_table, wave_row_table}
 use Rattle.play_model.specs.Used.{IsChannel, IsPlayedOrder, IsUsedPattern, IsUsedRow, IsUsedInstrument}
-use Rattle.play_model.specs.Reached.{led_to, IsPlayedPointer, of_instrument, of_row, IsWaveRowPointer, IsReached, played, pointed, led, IsPointer, of_played, of_wave_row}
+use Rattle.play_model.specs.Reached.{led_to, IsPlayedPointer, of_instrument, of_row, IsWaveRowPointer, IsReached}
+use Rattle.play_model.specs.Reached.{played, pointed, led, IsPointer, of_played, of_wave_row}
 use Rattle.play_model.specs.WorkedSongs.{row, order, subtune}
 use Rattle.packing_rules.specs.Segments.{numbers}
 use Rattle.packing_rules.specs.WorkedSizes.{among}

@@ -1,5 +1,7 @@
 -- The song whose new numbers were worked out by hand can be played.
-use Rattle.std.proofs.Common.{◌≡◌, ℕ, zero, suc, ◌-◌, ◌<◌, Bool, true, false, not, ◌||◌, ◌==◌, nat_lt, nat_le, List, [], ◌∷◌, length, Some, refl, sym, ◌∙◌, ap, subst, inl, inr, arith}
+use Rattle.std.proofs.Common.{◌≡◌, ℕ, zero, suc, ◌-◌, ◌<◌, Bool, true, false, not, ◌||◌, ◌==◌}
+use Rattle.std.proofs.Common.{nat_lt, nat_le, List, [], ◌∷◌, length, Some, refl, sym, ◌∙◌, ap, subst, inl}
+use Rattle.std.proofs.Common.{inr, arith}
 use Rattle.std.specs.Prelude.{slice_get}
 use Rattle.std.specs.List.{list_all}
 use Rattle.std.proofs.lemmas.Bool.{and_parts, ltb-true, leb-true}
@@ -9,9 +11,11 @@ use Rattle.song_model.specs.declared.tables.TableName.{TableName}
 use Rattle.song_model.specs.declared.tables.TableName.TheVariants.{Wave, Pulse, Filter, Speed}
 use Rattle.song_model.specs.Endless.{IsEndless}
 use Rattle.song_model.specs.LookUp.{table_of, table_row, order_of, is_playable_subtune}
-use Rattle.play_model.specs.declared.unplayable.Unplayable.TheVariants.{NoSubtune, MissingPattern, BadRestart, TableOverflow, PointerToJump}
+use Rattle.play_model.specs.declared.unplayable.Unplayable.TheVariants.{NoSubtune, MissingPattern, BadRestart}
+use Rattle.play_model.specs.declared.unplayable.Unplayable.TheVariants.{TableOverflow, PointerToJump}
 use Rattle.play_model.specs.Reached.{is_jump}
-use Rattle.play_model.specs.Playable.{HasOrder, MissesPattern, StopsAtRestart, HasPrograms, RunsOff, IsJumpTarget, PointsAtJump, IsPlayable}
+use Rattle.play_model.specs.Playable.{HasOrder, MissesPattern, StopsAtRestart, HasPrograms, RunsOff, IsJumpTarget}
+use Rattle.play_model.specs.Playable.{PointsAtJump, IsPlayable}
 use Rattle.play_model.specs.WorkedSongs.{order}
 use Rattle.packing_rules.specs.Segments.{numbers}
 use Rattle.packing_rules.specs.WorkedNumbers.{crowded_song, crowded_rows, crowded_pointers}

@@ -1,8 +1,10 @@
 -- Equal segments: equality goes from one to another, and the first one is equal to each.
-use Rattle.std.proofs.Common.{◌≡◌, ◌≢◌, ℕ, ◌+◌, ◌<◌, ◌≤◌, ◌⊎◌, Bool, true, false, not, ◌&&◌, ◌==◌, if◌then◌else◌, length, refl, sym, ◌∙◌, inl, inr, arith}
+use Rattle.std.proofs.Common.{◌≡◌, ◌≢◌, ℕ, ◌+◌, ◌<◌, ◌≤◌, ◌⊎◌, Bool, true, false, not}
+use Rattle.std.proofs.Common.{◌&&◌, ◌==◌, if◌then◌else◌, length, refl, sym, ◌∙◌, inl, inr, arith}
 use Rattle.std.proofs.lemmas.Bool.{and_parts, and_from, cases_Bool, eqb-true, eqb-false, eq-eqb, ne_eqb, not-true}
 use Rattle.song_model.specs.declared.tables.TableRow.{TableRow}
-use Rattle.packing_rules.specs.Segments.{ProgramTable, row_of, is_jump_row, begins, is_in, is_closed, is_as_far, are_alike, is_equal_at, are_equal, first_equal}
+use Rattle.packing_rules.specs.Segments.{ProgramTable, row_of, is_jump_row, begins, is_in, is_closed, is_as_far}
+use Rattle.packing_rules.specs.Segments.{are_alike, is_equal_at, are_equal, first_equal}
 use Rattle.packing_rules.proofs.Numbers.{all_at, all_from, least_found}
 
 -- ---- rows

@@ -8,13 +8,17 @@ pub use Rattle.packing_rules.proofs.NewPointers.{new_pointers_are_read}
 pub use Rattle.packing_rules.proofs.Numbers.{all_at, all_from, range_more}
 -- the rows of a segment, and where two segments are equal
 pub use Rattle.packing_rules.proofs.Segments.{segment_of, row_of_segment, is_in_from, not_behind}
-pub use Rattle.packing_rules.proofs.EqualSegments.{alike_parts, alike_from, SameAt, AreEqual, equal_parts, equal_from, equal_back, equal_on, such_from, open_stays, first_is, first_of_first}
+pub use Rattle.packing_rules.proofs.EqualSegments.{alike_parts, alike_from, SameAt, AreEqual, equal_parts, equal_from}
+pub use Rattle.packing_rules.proofs.EqualSegments.{equal_back, equal_on, such_from, open_stays, first_is}
+pub use Rattle.packing_rules.proofs.EqualSegments.{first_of_first}
 -- what stands for a row
-pub use Rattle.packing_rules.proofs.StandIns.{stands_at, stands_for, stands_for_none, kept_parts, stand_in_stays, kept_stands, next_stays, numbered_map, numbered_length, stand_ins_keep}
+pub use Rattle.packing_rules.proofs.StandIns.{stands_at, stands_for, stands_for_none, kept_parts, stand_in_stays}
+pub use Rattle.packing_rules.proofs.StandIns.{kept_stands, next_stays, numbered_map, numbered_length, stand_ins_keep}
 -- items with no equal one before them, one item more at a time
 pub use Rattle.packing_rules.proofs.FirstSeen.{with_new, first_seen_push, same_row_is}
 -- where an item stands among others, and among those with no equal one before them
-pub use Rattle.packing_rules.proofs.FirstPlaces.{place_there, place_of_map, any_of_map, new_place, old_place, with_new_length, first_seen_has, first_seen_length, first_seen_all}
+pub use Rattle.packing_rules.proofs.FirstPlaces.{place_there, place_of_map, any_of_map, new_place, old_place}
+pub use Rattle.packing_rules.proofs.FirstPlaces.{with_new_length, first_seen_has, first_seen_length, first_seen_all}
 -- a song has one size of each kind, and storing things once makes nothing longer
 pub use Rattle.packing_rules.proofs.SizesOfSongs.{same_sets, sizes_are_the_songs, packed_size_is_within}
 -- the tables of a song that can be played are whole

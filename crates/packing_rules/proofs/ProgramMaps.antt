@@ -1,9 +1,11 @@
 -- Maps that keep programs.
-use Rattle.std.proofs.Common.{◌≡◌, ◌≢◌, ◌⊎◌, ℕ, zero, suc, ◌+◌, Bool, true, false, ◌==◌, List, [], ◌∷◌, map, refl, sym, ◌∙◌, ap, inl, inr, arith}
+use Rattle.std.proofs.Common.{◌≡◌, ◌≢◌, ◌⊎◌, ℕ, zero, suc, ◌+◌, Bool, true, false, ◌==◌}
+use Rattle.std.proofs.Common.{List, [], ◌∷◌, map, refl, sym, ◌∙◌, ap, inl, inr, arith}
 use Rattle.std.proofs.lemmas.Bool.{cases_Bool, eqb-true, eqb-false, ne_eqb}
 use Rattle.song_model.specs.declared.tables.TableRow.{TableRow}
 use Rattle.packing_rules.specs.Segments.{is_jump_row, is_end}
-use Rattle.packing_rules.specs.ProgramMaps.{retargeted, row_at, KeepsPrograms, MapsCompose, next_place, rows_read, ProgramsReadTheSame}
+use Rattle.packing_rules.specs.ProgramMaps.{retargeted, row_at, KeepsPrograms, MapsCompose, next_place, rows_read}
+use Rattle.packing_rules.specs.ProgramMaps.{ProgramsReadTheSame}
 
 -- a jump stays one
 retargeted_left : (to : ℕ → ℕ) (row : TableRow) → (retargeted to row).left ≡ row.left

@@ -1,10 +1,13 @@
 -- The rows that stay stand for all rows, and the map to them keeps programs.
-use Rattle.std.proofs.Common.{◌≡◌, ◌≢◌, ℕ, ◌+◌, ◌-◌, ◌<◌, ◌≤◌, Bool, true, false, not, ◌&&◌, ◌||◌, ◌==◌, List, length, map, refl, sym, ◌∙◌, ap, subst, inl, inr, arith}
+use Rattle.std.proofs.Common.{◌≡◌, ◌≢◌, ℕ, ◌+◌, ◌-◌, ◌<◌, ◌≤◌, Bool, true, false, not}
+use Rattle.std.proofs.Common.{◌&&◌, ◌||◌, ◌==◌, List, length, map, refl, sym, ◌∙◌, ap, subst, inl}
+use Rattle.std.proofs.Common.{inr, arith}
 use Rattle.std.proofs.lemmas.Bool.{and_parts, and_from, cases_Bool, eqb-true, eqb-false, eq-eqb, ne_eqb}
 use Rattle.std.proofs.lemmas.List.{length-map, get_or-map}
 use Rattle.song_model.specs.declared.tables.TableRow.{TableRow}
 use Rattle.song_model.specs.LookUp.{IsNumbered, zero_table_row}
-use Rattle.packing_rules.specs.Segments.{ProgramTable, IsWhole, row_of, is_jump_row, is_end, begins, first_row, is_in, jumps, is_closed_at, is_closed, first_equal, keeps, stand_in}
+use Rattle.packing_rules.specs.Segments.{ProgramTable, IsWhole, row_of, is_jump_row, is_end, begins, first_row, is_in}
+use Rattle.packing_rules.specs.Segments.{jumps, is_closed_at, is_closed, first_equal, keeps, stand_in}
 use Rattle.packing_rules.specs.ProgramMaps.{retargeted, row_at, KeepsPrograms}
 use Rattle.packing_rules.proofs.Numbers.{all_at}
 use Rattle.packing_rules.proofs.Segments.{same_segment, InSegment, segment_of, IsRowOf, row_of_segment, is_in_from, goes_on_here}

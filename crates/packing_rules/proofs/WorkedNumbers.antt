@@ -3,9 +3,12 @@ use Rattle.std.proofs.Common.{refl}
 use Rattle.song_model.specs.LookUp.{table_row, pattern_at}
 use Rattle.packed_form.specs.PackedText.{packed_text}
 use Rattle.packing_rules.specs.Segments.{first_row, is_closed, are_equal, first_equal, keeps, stand_in}
-use Rattle.packing_rules.specs.Renumbering.{speed_rows, speed_number, program_rows, table_number, instrument_number, pattern_text, pattern_texts, pattern_number}
+use Rattle.packing_rules.specs.Renumbering.{speed_rows, speed_number, program_rows, table_number, instrument_number}
+use Rattle.packing_rules.specs.Renumbering.{pattern_text, pattern_texts, pattern_number}
 use Rattle.packing_rules.specs.SongSizes.{data_size, packed_size}
-use Rattle.packing_rules.specs.WorkedNumbers.{SpeedsAreSharedOnce, PulsesAreStoredOnce, FiltersMoveUp, WavesAreStoredOnce, InstrumentsMoveUp, CrowdedTexts, PatternsAreStoredOnce, CrowdedSizes}
+use Rattle.packing_rules.specs.WorkedNumbers.{SpeedsAreSharedOnce, PulsesAreStoredOnce, FiltersMoveUp}
+use Rattle.packing_rules.specs.WorkedNumbers.{WavesAreStoredOnce, InstrumentsMoveUp, CrowdedTexts}
+use Rattle.packing_rules.specs.WorkedNumbers.{PatternsAreStoredOnce, CrowdedSizes}
 
 pub speeds : SpeedsAreSharedOnce
 unfolding packed_text first_row is_closed are_equal first_equal keeps stand_in speed_rows speed_number program_rows

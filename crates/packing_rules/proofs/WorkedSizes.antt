@@ -3,10 +3,13 @@ use Rattle.std.proofs.Common.{refl}
 use Rattle.song_model.specs.LookUp.{table_row, pattern_at}
 use Rattle.packed_form.specs.PackedText.{packed_text}
 use Rattle.packing_rules.specs.Segments.{first_row, is_closed, are_equal, first_equal, keeps, stand_in}
-use Rattle.packing_rules.specs.Renumbering.{speed_rows, speed_number, table_number, instrument_number, pattern_text, pattern_texts}
+use Rattle.packing_rules.specs.Renumbering.{speed_rows, speed_number, table_number, instrument_number, pattern_text}
+use Rattle.packing_rules.specs.Renumbering.{pattern_texts}
 use Rattle.packing_rules.specs.SongSizes.{data_size, packed_size}
 use Rattle.packing_rules.specs.WorkedSizes.{NoteHas42Bytes, EqualPatternsAreStoredOnce}
-use Rattle.packing_rules.specs.WorkedPrograms.{EqualProgramsAreStoredOnce, FirstOfThreeStays, PulseProgramsStop, JumpsOutAreKept, MiddleEntriesAreKept, FirstOpenOneIsKept, OthersAreKept, JumpsIntoDroppedPrograms, JumpsIntoTheMiddleAreKept, LoopsAreAsFar}
+use Rattle.packing_rules.specs.WorkedPrograms.{EqualProgramsAreStoredOnce, FirstOfThreeStays, PulseProgramsStop}
+use Rattle.packing_rules.specs.WorkedPrograms.{JumpsOutAreKept, MiddleEntriesAreKept, FirstOpenOneIsKept, OthersAreKept}
+use Rattle.packing_rules.specs.WorkedPrograms.{JumpsIntoDroppedPrograms, JumpsIntoTheMiddleAreKept, LoopsAreAsFar}
 
 pub programs_once : EqualProgramsAreStoredOnce × FirstOfThreeStays × LoopsAreAsFar
 unfolding first_row is_closed are_equal first_equal keeps stand_in

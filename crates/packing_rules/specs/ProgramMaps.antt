@@ -1,6 +1,7 @@
 -- When the rows of a table may get new numbers: what is read in the programs of the new table is what is read in those
 -- of the old one.
-use Rattle.std.specs.Prelude.{◌≡◌, ◌≢◌, ◌⊎◌, ℕ, zero, suc, ◌+◌, Bool, true, false, ◌==◌, if◌then◌else◌, List, [], ◌∷◌, map}
+use Rattle.std.specs.Prelude.{◌≡◌, ◌≢◌, ◌⊎◌, ℕ, zero, suc, ◌+◌, Bool, true, false, ◌==◌}
+use Rattle.std.specs.Prelude.{if◌then◌else◌, List, [], ◌∷◌, map}
 use Rattle.song_model.specs.declared.tables.TableRow.{TableRow}
 use Rattle.song_model.specs.LookUp.{IsNumbered, numbered, zero_table_row}
 use Rattle.packing_rules.specs.Segments.{is_jump_row, is_end}

@@ -1,7 +1,8 @@
 -- The numbers that the used parts of a song get in its packed song, from this project's own packed form. Tables come in
 -- the order speed, filter, pulse, wave, then patterns. 0, which names nothing, stays 0. The number of what isn't used
 -- means nothing.
-use Rattle.std.specs.Prelude.{ℕ, ◌+◌, Bool, not, ◌&&◌, ◌==◌, true, false, if◌then◌else◌, List, [], ◌∷◌, length, map, filter, count_by, Option, Some, None}
+use Rattle.std.specs.Prelude.{ℕ, ◌+◌, Bool, not, ◌&&◌, ◌==◌, true, false, if◌then◌else◌, List, []}
+use Rattle.std.specs.Prelude.{◌∷◌, length, map, filter, count_by, Option, Some, None}
 use Rattle.std.specs.List.{position_or_len, range_with_len}
 use Rattle.std.specs.Str.{bytes_eq}
 use Rattle.song_model.specs.declared.rows.Row.{Row}

@@ -1,6 +1,7 @@
 -- Which programs of a table are stored once, from this project's own packed form. The rows that programs come to fall
 -- into segments; of closed segments that are equal the first one stays, and its rows stand for those of the others.
-use Rattle.std.specs.Prelude.{◌≡◌, ◌≢◌, ℕ, zero, suc, ◌+◌, ◌-◌, Bool, true, false, not, ◌&&◌, ◌||◌, ◌==◌, if◌then◌else◌, List, length}
+use Rattle.std.specs.Prelude.{◌≡◌, ◌≢◌, ℕ, zero, suc, ◌+◌, ◌-◌, Bool, true, false, not, ◌&&◌}
+use Rattle.std.specs.Prelude.{◌||◌, ◌==◌, if◌then◌else◌, List, length}
 use Rattle.std.specs.List.{list_all, find, range_with_len}
 use Rattle.std.specs.Option.{unwrap_or}
 use Rattle.song_model.specs.declared.tables.TableRow.{TableRow}
@@ -36,8 +37,10 @@ is_end pulse row = is_jump_row row || (pulse && (row.left == 0))
 pub record IsWhole (table : ProgramTable) : Type 0 where
   pub stored : (p : ℕ) → table.reached p ≡ true → IsNumbered table.rows p
   pub entry : (p : ℕ) → table.entries p ≡ true → table.reached p ≡ true
-  pub next : (p : ℕ) → table.reached p ≡ true → is_end table.pulse (row_of table p) ≡ false → table.reached (p + 1) ≡ true
-  pub target : (p : ℕ) → table.reached p ≡ true → is_jump_row (row_of table p) ≡ true → (row_of table p).right ≢ 0 →
+  pub next : (p : ℕ) → table.reached p ≡ true → is_end table.pulse (row_of table p) ≡ false →
+      table.reached (p + 1) ≡ true
+  pub target : (p : ℕ) → table.reached p ≡ true → is_jump_row (row_of table p) ≡ true →
+      (row_of table p).right ≢ 0 →
       table.reached (row_of table p).right ≡ true
 
 -- ---- segments

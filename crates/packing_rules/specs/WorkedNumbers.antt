@@ -9,7 +9,8 @@ use Rattle.play_model.specs.WorkedSongs.{subtune, row, sides, plucked}
 use Rattle.play_model.specs.Playable.{IsPlayable}
 use Rattle.packing_rules.specs.Segments.{numbers}
 use Rattle.packing_rules.specs.UsedSets.{UsedSets, AreUsedSets}
-use Rattle.packing_rules.specs.Renumbering.{speed_rows, wave_programs, pulse_programs, filter_programs, program_rows, table_number, instrument_number, pattern_texts, pattern_number}
+use Rattle.packing_rules.specs.Renumbering.{speed_rows, wave_programs, pulse_programs, filter_programs, program_rows}
+use Rattle.packing_rules.specs.Renumbering.{table_number, instrument_number, pattern_texts, pattern_number}
 use Rattle.packing_rules.specs.SongSizes.{data_size, packed_size}
 use Rattle.packing_rules.specs.WorkedSizes.{among}
 
@@ -81,7 +82,8 @@ SpeedsAreSharedOnce =
 -- the second pulse program is the first one, row 3 is left out, and the third program's jump goes to its new first row
 abbrev pub PulsesAreStoredOnce : Type 0
 PulsesAreStoredOnce =
-    (new_numbers Pulse (0 ∷ 1 ∷ 2 ∷ 3 ∷ 4 ∷ 5 ∷ 6 ∷ 7 ∷ []) ≡ 0 ∷ 1 ∷ 2 ∷ 0 ∷ 1 ∷ 2 ∷ 3 ∷ 4 ∷ [])
+    (new_numbers Pulse (0 ∷ 1 ∷ 2 ∷ 3 ∷ 4 ∷ 5 ∷ 6 ∷ 7 ∷ []) ≡ 0 ∷ 1 ∷ 2 ∷ 0 ∷ 1 ∷ 2 ∷ 3
+    ∷ 4 ∷ [])
     × (program_rows (pulse_programs crowded_song crowded_sets)
     ≡ sides 0x88 0 ∷ sides 0xFF 0 ∷ sides 0x20 0x10 ∷ sides 0xFF 3 ∷ [])
 
@@ -94,7 +96,8 @@ FiltersMoveUp = (new_numbers Filter (0 ∷ 1 ∷ 2 ∷ 3 ∷ 4 ∷ []) ≡ 0 ∷
 -- new number
 abbrev pub WavesAreStoredOnce : Type 0
 WavesAreStoredOnce =
-    (new_numbers Wave (0 ∷ 1 ∷ 2 ∷ 3 ∷ 4 ∷ 5 ∷ 6 ∷ 7 ∷ 8 ∷ []) ≡ 0 ∷ 1 ∷ 2 ∷ 3 ∷ 1 ∷ 2 ∷ 3 ∷ 4 ∷ 5 ∷ [])
+    (new_numbers Wave (0 ∷ 1 ∷ 2 ∷ 3 ∷ 4 ∷ 5 ∷ 6 ∷ 7 ∷ 8 ∷ []) ≡ 0 ∷ 1 ∷ 2 ∷ 3 ∷ 1 ∷ 2
+    ∷ 3 ∷ 4 ∷ 5 ∷ [])
     × (program_rows (wave_programs crowded_song crowded_sets)
     ≡ sides 0x41 0 ∷ sides 0xF9 1 ∷ sides 0xFF 0 ∷ sides 0xF1 1 ∷ sides 0xFF 4 ∷ [])
 

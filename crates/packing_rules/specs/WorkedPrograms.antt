@@ -62,7 +62,8 @@ JumpsIntoTheMiddleAreKept =
 abbrev pub LoopsAreAsFar : Type 0
 LoopsAreAsFar = Gives
     (programs false
-    (sides 0x41 0 ∷ sides 0x41 1 ∷ sides 0xFF 1 ∷ sides 0x41 0 ∷ sides 0x41 1 ∷ sides 0xFF 5 ∷ sides 0x41 0 ∷ sides 0x41 1
+    (sides 0x41 0 ∷ sides 0x41 1 ∷ sides 0xFF 1 ∷ sides 0x41 0 ∷ sides 0x41 1 ∷ sides 0xFF 5
+    ∷ sides 0x41 0 ∷ sides 0x41 1
     ∷ sides 0xFF 8 ∷ []) (numbers 9) (1 ∷ 4 ∷ 7 ∷ []))
     (true ∷ true ∷ true ∷ true ∷ true ∷ true ∷ false ∷ false ∷ false ∷ [])
     (1 ∷ 2 ∷ 3 ∷ 4 ∷ 5 ∷ 6 ∷ 4 ∷ 5 ∷ 6 ∷ [])
@@ -77,7 +78,8 @@ FirstOfThreeStays = Gives
 -- programs of other lengths aren't equal, nor is a loop to 0 equal to one to the first row
 abbrev pub OthersAreKept : Type 0
 OthersAreKept = Gives (programs false (sides 0x41 0 ∷ sides 0xFF 0 ∷ sides 0x41 0 ∷ sides 0x41 0 ∷ sides 0xFF 0 ∷ [])
-    (1 ∷ 2 ∷ 3 ∷ 4 ∷ 5 ∷ []) (1 ∷ 3 ∷ [])) (true ∷ true ∷ true ∷ true ∷ true ∷ []) (1 ∷ 2 ∷ 3 ∷ 4 ∷ 5 ∷ [])
+    (1 ∷ 2 ∷ 3 ∷ 4 ∷ 5 ∷ []) (1 ∷ 3 ∷ [])) (true ∷ true ∷ true ∷ true ∷ true ∷ []) (1 ∷ 2
+    ∷ 3 ∷ 4 ∷ 5 ∷ [])
     × Gives (programs false (sides 0x41 0 ∷ sides 0xFF 0 ∷ sides 0x41 0 ∷ sides 0xFF 3 ∷ []) four (1 ∷ 3 ∷ []))
     (true ∷ true ∷ true ∷ true ∷ []) four
 

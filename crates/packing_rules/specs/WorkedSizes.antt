@@ -36,7 +36,8 @@ note_sets patterns = record {
 
 -- three orderlists of one entry, the patterns 01 90 BE 00 and C0 00, one instrument, two rows in each of two tables
 abbrev pub NoteHas42Bytes : Type 0
-NoteHas42Bytes = (data_size one_note (note_sets (0 ∷ 1 ∷ [])) ≡ 42) × (packed_size one_note (note_sets (0 ∷ 1 ∷ [])) ≡ 42)
+NoteHas42Bytes = (data_size one_note (note_sets (0 ∷ 1 ∷ [])) ≡ 42) × (packed_size one_note (note_sets (0 ∷ 1
+    ∷ [])) ≡ 42)
 
 -- the same song where channel 3 plays another pattern with one rest
 abbrev pub two_rests : Song

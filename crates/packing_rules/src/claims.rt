@@ -2,10 +2,17 @@
 
 ghost use Rattle.packing_rules.specs.SizeLaws.{SizesAreTheSongs, PackedSizeIsWithin};
 ghost use Rattle.packing_rules.specs.ProgramMaps.{MapsCompose, ProgramsReadTheSame};
-ghost use Rattle.packing_rules.specs.ProgramLaws.{StandInsKeepPrograms, StandInsStay, KeptStandForThemselves, NewPointersAreRead, PlayableProgramsAreWhole};
+ghost use Rattle.packing_rules.specs.ProgramLaws.{StandInsKeepPrograms, StandInsStay, KeptStandForThemselves};
+ghost use Rattle.packing_rules.specs.ProgramLaws.{NewPointersAreRead, PlayableProgramsAreWhole};
 ghost use Rattle.packing_rules.specs.WorkedSizes.{NoteHas42Bytes, EqualPatternsAreStoredOnce};
-ghost use Rattle.packing_rules.specs.WorkedPrograms.{EqualProgramsAreStoredOnce, FirstOfThreeStays, PulseProgramsStop, JumpsOutAreKept, MiddleEntriesAreKept, FirstOpenOneIsKept, OthersAreKept, JumpsIntoDroppedPrograms, JumpsIntoTheMiddleAreKept, LoopsAreAsFar};
-ghost use Rattle.packing_rules.specs.WorkedNumbers.{CrowdedSongCanBePlayed, CrowdedSetsAreUsed, SpeedsAreSharedOnce, PulsesAreStoredOnce, FiltersMoveUp, WavesAreStoredOnce, InstrumentsMoveUp, CrowdedTexts, PatternsAreStoredOnce, CrowdedSizes};
+ghost use Rattle.packing_rules.specs.WorkedPrograms.{EqualProgramsAreStoredOnce, FirstOfThreeStays, PulseProgramsStop};
+ghost use Rattle.packing_rules.specs.WorkedPrograms.{JumpsOutAreKept, MiddleEntriesAreKept, FirstOpenOneIsKept};
+ghost use Rattle.packing_rules.specs.WorkedPrograms.{OthersAreKept, JumpsIntoDroppedPrograms};
+ghost use Rattle.packing_rules.specs.WorkedPrograms.{JumpsIntoTheMiddleAreKept, LoopsAreAsFar};
+ghost use Rattle.packing_rules.specs.WorkedNumbers.{CrowdedSongCanBePlayed, CrowdedSetsAreUsed, SpeedsAreSharedOnce};
+ghost use Rattle.packing_rules.specs.WorkedNumbers.{PulsesAreStoredOnce, FiltersMoveUp, WavesAreStoredOnce};
+ghost use Rattle.packing_rules.specs.WorkedNumbers.{InstrumentsMoveUp, CrowdedTexts, PatternsAreStoredOnce};
+ghost use Rattle.packing_rules.specs.WorkedNumbers.{CrowdedSizes};
 
 /// Which programs are stored once, and which aren't.
 pub fn worked_programs()

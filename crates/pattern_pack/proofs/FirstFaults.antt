@@ -1,5 +1,7 @@
 -- The faults of bytes are those of the grammar: the first byte with which nothing is begun, and a missing end.
-use Rattle.std.proofs.Common.{◌≡◌, ◌≢◌, ◌⊎◌, ℕ, suc, ◌+◌, ◌<◌, ◌≤◌, Bool, true, false, cond, leb, ◌&&◌, List, [], ◌∷◌, ◌++◌, length, take, drop, Option, Some, None, Result, Ok, Err, refl, ap, sym, subst, ◌∙◌, append_assoc, inl, inr, arith}
+use Rattle.std.proofs.Common.{◌≡◌, ◌≢◌, ◌⊎◌, ℕ, suc, ◌+◌, ◌<◌, ◌≤◌, Bool, true, false}
+use Rattle.std.proofs.Common.{cond, leb, ◌&&◌, List, [], ◌∷◌, ◌++◌, length, take, drop, Option, Some}
+use Rattle.std.proofs.Common.{None, Result, Ok, Err, refl, ap, sym, subst, ◌∙◌, append_assoc, inl, inr, arith}
 use Rattle.std.specs.List.{All}
 use Rattle.std.proofs.lemmas.Bool.{and_parts, and_from, leb-true, le-leb}
 use Rattle.std.proofs.lemmas.List.{take-append-drop, take-take, append-nil}
@@ -17,7 +19,8 @@ use Rattle.packed_form.specs.declared.places.Taken.{Taken}
 use Rattle.packed_form.specs.declared.places.Taken.TheVariants.{On, Made, End}
 use Rattle.packed_form.specs.Entries.{IsCommand, IsNote, IsEntry, instrument_bytes, entry_bytes, no_command, rows_from}
 use Rattle.packed_form.specs.PackedSpells.{text_of}
-use Rattle.packed_form.specs.Faults.{taken, with_entry, goes_on, entries_at, within_length, rows_within, fault_in, packed_fault_of}
+use Rattle.packed_form.specs.Faults.{taken, with_entry, goes_on, entries_at, within_length, rows_within, fault_in}
+use Rattle.packed_form.specs.Faults.{packed_fault_of}
 use Rattle.pattern_pack.specs.FaultLaws.{IsTextOf, IsBegun, BadBytesAreFirst, EndsAreMissing, LengthsAreBad}
 use Rattle.pattern_pack.proofs.Readings.{IsPlace, front, TakenIs, taken_is, text_of-cons, sound}
 use Rattle.pattern_pack.proofs.Spellings.{complete}

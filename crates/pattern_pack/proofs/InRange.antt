@@ -1,5 +1,6 @@
 -- The rows of entries in their ranges are in theirs.
-use Rattle.std.proofs.Common.{◌≡◌, ℕ, ◌≤◌, List, [], ◌∷◌, ◌++◌, replicate, refl, ap, sym, ◌∙◌, append_assoc, arith}
+use Rattle.std.proofs.Common.{◌≡◌, ℕ, ◌≤◌, List, [], ◌∷◌, ◌++◌, replicate, refl, ap, sym}
+use Rattle.std.proofs.Common.{◌∙◌, append_assoc, arith}
 use Rattle.std.specs.List.{All}
 use Rattle.std.proofs.lemmas.List.Elements.{All-nil, All-cons, All-head, All-tail, All-append, All-replicate}
 use Rattle.song_model.specs.declared.rows.Row.{Row}
@@ -8,7 +9,8 @@ use Rattle.packed_form.specs.declared.entries.Command.{Command}
 use Rattle.packed_form.specs.declared.entries.EntryKind.{EntryKind}
 use Rattle.packed_form.specs.declared.entries.EntryKind.TheVariants.{NamedNote, NamedRest, Note, Rests}
 use Rattle.packed_form.specs.declared.entries.Entry.{Entry}
-use Rattle.packed_form.specs.Entries.{IsCommand, IsNote, IsKind, IsEntry, no_command, command_behind, entry_note, more_rests, row_with, entry_rows, rows_from}
+use Rattle.packed_form.specs.Entries.{IsCommand, IsNote, IsKind, IsEntry, no_command, command_behind, entry_note}
+use Rattle.packed_form.specs.Entries.{more_rests, row_with, entry_rows, rows_from}
 use Rattle.pattern_pack.specs.Answers.{command_after}
 
 pub no_command_is : IsCommand no_command

@@ -1,5 +1,7 @@
 -- What is packed is the normal rows, in entries that are in their ranges.
-use Rattle.std.proofs.Common.{◌≡◌, ℕ, zero, suc, ◌≤◌, min, Bool, true, false, cond, eqb, ◌&&◌, List, [], ◌∷◌, ◌++◌, length, drop, replicate, refl, ap, sym, subst, ◌∙◌, append_assoc, arith, length-append}
+use Rattle.std.proofs.Common.{◌≡◌, ℕ, zero, suc, ◌≤◌, min, Bool, true, false, cond, eqb, ◌&&◌, List}
+use Rattle.std.proofs.Common.{[], ◌∷◌, ◌++◌, length, drop, replicate, refl, ap, sym, subst, ◌∙◌}
+use Rattle.std.proofs.Common.{append_assoc, arith, length-append}
 use Rattle.std.specs.List.{All, flat_map}
 use Rattle.std.proofs.Math.Nat.{min-le_left, min-le_right}
 use Rattle.std.proofs.lemmas.Bool.{eqb-true, eqb-false, and_parts}
@@ -10,7 +12,8 @@ use Rattle.packed_form.specs.declared.entries.Command.{Command}
 use Rattle.packed_form.specs.declared.entries.EntryKind.{EntryKind}
 use Rattle.packed_form.specs.declared.entries.EntryKind.TheVariants.{NamedNote, NamedRest, Note, Rests}
 use Rattle.packed_form.specs.declared.entries.Entry.{Entry}
-use Rattle.packed_form.specs.Entries.{IsCommand, IsKind, IsEntry, instrument_bytes, kind_bytes, entry_bytes, command_behind, entry_note, more_rests, row_with, rows_from, command_of}
+use Rattle.packed_form.specs.Entries.{IsCommand, IsKind, IsEntry, instrument_bytes, kind_bytes, entry_bytes}
+use Rattle.packed_form.specs.Entries.{command_behind, entry_note, more_rests, row_with, rows_from, command_of}
 use Rattle.packed_form.specs.Normal.{last_instrument, normal_row, normal_from}
 use Rattle.packed_form.specs.PackedText.{keeps, is_bare_rest, rests_in_front, first_kind, first_entry, entries_from}
 

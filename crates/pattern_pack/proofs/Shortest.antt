@@ -1,5 +1,7 @@
 -- No entries with the same rows have fewer bytes than those of the packer's rule.
-use Rattle.std.proofs.Common.{◌≡◌, ◌⊎◌, ℕ, zero, suc, ◌+◌, ◌≤◌, min, Bool, true, false, cond, eqb, ltb, List, [], ◌∷◌, ◌++◌, length, drop, replicate, refl, ap, sym, ◌∙◌, inl, inr, arith, length-append}
+use Rattle.std.proofs.Common.{◌≡◌, ◌⊎◌, ℕ, zero, suc, ◌+◌, ◌≤◌, min, Bool, true, false, cond}
+use Rattle.std.proofs.Common.{eqb, ltb, List, [], ◌∷◌, ◌++◌, length, drop, replicate, refl, ap, sym}
+use Rattle.std.proofs.Common.{◌∙◌, inl, inr, arith, length-append}
 use Rattle.std.specs.List.{All, flat_map}
 use Rattle.std.proofs.Math.Nat.{min-le_left, min-le_right}
 use Rattle.std.proofs.lemmas.Bool.{eq-eqb, and_from, ltb-true, ltb-false}
@@ -9,7 +11,8 @@ use Rattle.packed_form.specs.declared.entries.Command.{Command}
 use Rattle.packed_form.specs.declared.entries.EntryKind.{EntryKind}
 use Rattle.packed_form.specs.declared.entries.EntryKind.TheVariants.{NamedNote, NamedRest, Note, Rests}
 use Rattle.packed_form.specs.declared.entries.Entry.{Entry}
-use Rattle.packed_form.specs.Entries.{IsKind, IsEntry, instrument_bytes, kind_bytes, entry_bytes, command_behind, entry_note, more_rests, row_with, rows_from, command_of}
+use Rattle.packed_form.specs.Entries.{IsKind, IsEntry, instrument_bytes, kind_bytes, entry_bytes, command_behind}
+use Rattle.packed_form.specs.Entries.{entry_note, more_rests, row_with, rows_from, command_of}
 use Rattle.packed_form.specs.PackedText.{keeps, is_bare_rest, rests_in_front, first_kind, first_entry, entries_from}
 use Rattle.pattern_pack.proofs.Packings.{keeps_command, bare_is, gathered_rows}
 

@@ -1,5 +1,7 @@
 -- What is unpacked is what the bytes spell, and the clauses that say so.
-use Rattle.std.proofs.Common.{◌≡◌, ◌≢◌, ◌⊎◌, ℕ, Bool, true, false, cond, leb, ◌&&◌, List, length, get_or, Fits, w8, Some, Result, Ok, Err, IfOk, IfErr, refl, ap, sym, subst, ◌∙◌, inl, inr, arith}
+use Rattle.std.proofs.Common.{◌≡◌, ◌≢◌, ◌⊎◌, ℕ, Bool, true, false, cond, leb, ◌&&◌, List}
+use Rattle.std.proofs.Common.{length, get_or, Fits, w8, Some, Result, Ok, Err, IfOk, IfErr, refl, ap, sym, subst}
+use Rattle.std.proofs.Common.{◌∙◌, inl, inr, arith}
 use Rattle.std.specs.List.{All}
 use Rattle.std.proofs.lemmas.Bool.{and_parts, and_from, leb-true, le-leb}
 use Rattle.std.proofs.lemmas.List.Elements.{All-from_get_or}

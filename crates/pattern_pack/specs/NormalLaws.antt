@@ -1,5 +1,6 @@
 -- Fetching a normal row of a pattern does what fetching the row does, but for the parameter of command 0.
-use Rattle.std.specs.Prelude.{◌≡◌, ◌≢◌, ℕ, suc, ◌<◌, ℤ, ◌==◌, if◌then◌else◌, List, [], ◌∷◌, length, take}
+use Rattle.std.specs.Prelude.{◌≡◌, ◌≢◌, ℕ, suc, ◌<◌, ℤ, ◌==◌, if◌then◌else◌, List, []}
+use Rattle.std.specs.Prelude.{◌∷◌, length, take}
 use Rattle.song_model.specs.declared.rows.Row.{Row}
 use Rattle.play_model.specs.LookUps.{LookUps}
 use Rattle.play_model.specs.State.{Voice}

@@ -29,7 +29,8 @@ PackedTextIsShort = (rows : List Row) → length (packed_text rows) ≤ 4 * leng
 
 -- bytes spell at most one list of rows
 abbrev pub SpelledOnce : Type 0
-SpelledOnce = (bytes : List ℕ) (rows others : List Row) → PackedSpells bytes rows → PackedSpells bytes others → rows ≡ others
+SpelledOnce = (bytes : List ℕ) (rows others : List Row) → PackedSpells bytes rows →
+    PackedSpells bytes others → rows ≡ others
 
 -- rows that are spelled are those of a pattern
 abbrev pub SpelledArePatterns : Type 0

@@ -1,5 +1,6 @@
 -- Packed patterns that were worked out by hand.
-use Rattle.std.specs.Prelude.{◌≡◌, ℕ, zero, suc, ◌+◌, ◌%◌, List, [], ◌∷◌, ◌++◌, length, map, replicate, Some, Ok}
+use Rattle.std.specs.Prelude.{◌≡◌, ℕ, zero, suc, ◌+◌, ◌%◌, List, [], ◌∷◌, ◌++◌, length, map}
+use Rattle.std.specs.Prelude.{replicate, Some, Ok}
 use Rattle.std.specs.List.{range_with_len}
 use Rattle.song_model.specs.declared.rows.Row.{Row}
 use Rattle.packed_form.specs.declared.faults.PackedFault.{PackedFault}
@@ -36,7 +37,8 @@ times (suc n) xs = xs ++ times n xs
 -- 64 rows with a note and the same instrument on every eighth: the instrument is named once
 abbrev pub EighthsArePacked : Type 0
 EighthsArePacked =
-    Packs (times 8 (bare 0x90 1 ∷ replicate 7 rest)) (0x01 ∷ 0x90 ∷ 0xC6 ∷ (times 7 (0x90 ∷ 0xC6 ∷ []) ++ 0x00 ∷ []))
+    Packs (times 8 (bare 0x90 1 ∷ replicate 7 rest)) (0x01 ∷ 0x90 ∷ 0xC6 ∷ (times 7 (0x90 ∷ 0xC6 ∷ [])
+    ++ 0x00 ∷ []))
 
 -- a note and a keyoff
 abbrev pub KeyoffIsUnpacked : Type 0
@@ -53,7 +55,8 @@ RestsAreGathered = Packs (replicate 64 rest) (0xFF ∷ 0x00 ∷ []) × Packs (re
 -- parameters names nothing
 abbrev pub CommandsAreNamedOnce : Type 0
 CommandsAreNamedOnce =
-    Packs (with_command 0xBD 3 7 ∷ with_command 0xBD 3 7 ∷ with_command 0x90 3 7 ∷ with_command 0x91 3 8 ∷ rest ∷ rest ∷ [])
+    Packs (with_command 0xBD 3 7 ∷ with_command 0xBD 3 7 ∷ with_command 0x90 3 7 ∷ with_command 0x91 3 8
+    ∷ rest ∷ rest ∷ [])
     (0x53 ∷ 0x07 ∷ 0xC0 ∷ 0x90 ∷ 0x43 ∷ 0x08 ∷ 0x91 ∷ 0x50 ∷ 0x00 ∷ 0xC0 ∷ 0x00 ∷ [])
     × Packs (with_command 0xBD 0 5 ∷ with_command 0xBD 0 6 ∷ []) (0xC1 ∷ 0x00 ∷ [])
 

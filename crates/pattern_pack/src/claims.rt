@@ -1,9 +1,13 @@
 //! Facts about packed patterns, each the contract of a function that does nothing.
 
-ghost use Rattle.pattern_pack.specs.PackedLaws.{ConstantsAre, PackedTextIsSpelled, PackedTextIsShort, PackedTextHasNoFault, SpelledOnce, SpelledArePatterns, RowsOrFault, NoneIsShorter};
+ghost use Rattle.pattern_pack.specs.PackedLaws.{ConstantsAre, PackedTextIsSpelled, PackedTextIsShort};
+ghost use Rattle.pattern_pack.specs.PackedLaws.{PackedTextHasNoFault, SpelledOnce, SpelledArePatterns, RowsOrFault};
+ghost use Rattle.pattern_pack.specs.PackedLaws.{NoneIsShorter};
 ghost use Rattle.pattern_pack.specs.FaultLaws.{BadBytesAreFirst, EndsAreMissing, LengthsAreBad};
 ghost use Rattle.pattern_pack.specs.NormalLaws.{NormalRowsAreFetched};
-ghost use Rattle.pattern_pack.specs.WorkedPatterns.{EighthsArePacked, KeyoffIsUnpacked, RestsAreGathered, CommandsAreNamedOnce, LongTextsAre, OtherSpellingsAreUnpacked, BadBytesAreFound, EndsAreWanted, LengthsAreLimited};
+ghost use Rattle.pattern_pack.specs.WorkedPatterns.{EighthsArePacked, KeyoffIsUnpacked, RestsAreGathered};
+ghost use Rattle.pattern_pack.specs.WorkedPatterns.{CommandsAreNamedOnce, LongTextsAre, OtherSpellingsAreUnpacked};
+ghost use Rattle.pattern_pack.specs.WorkedPatterns.{BadBytesAreFound, EndsAreWanted, LengthsAreLimited};
 
 /// What is packed is unpacked as the normal rows: the packer's text spells these, has no fault, and bytes spell one
 /// list of rows.

@@ -1,6 +1,7 @@
 //! Packing a pattern.
 
-ghost use Rattle.std.specs.Prelude.{◌≡◌, ◌+◌, ◌<◌, ◌≤◌, ◌↔◌, ◌++◌, ℕ, List, IfOk, IfErr, IsErrOf, MatchResult, length, drop, min};
+ghost use Rattle.std.specs.Prelude.{◌≡◌, ◌+◌, ◌<◌, ◌≤◌, ◌↔◌, ◌++◌, ℕ, List, IfOk};
+ghost use Rattle.std.specs.Prelude.{IfErr, IsErrOf, MatchResult, length, drop, min};
 ghost use Rattle.song_model.specs.PatternLimits.{IsPattern};
 ghost use Rattle.packed_form.specs.Entries.{IsEntry, IsKind, entry_bytes, kind_bytes, no_command, command_of};
 ghost use Rattle.packed_form.specs.PackedSpells.{PackedSpells};

@@ -1,6 +1,7 @@
 //! The rows of entries.
 
-ghost use Rattle.std.specs.Prelude.{◌≡◌, ◌+◌, ◌≤◌, ◌∷◌, ◌++◌, [], List, All, OnOk, IfOk, IfErr, replicate};
+ghost use Rattle.std.specs.Prelude.{◌≡◌, ◌+◌, ◌≤◌, ◌∷◌, ◌++◌, [], List, All, OnOk, IfOk};
+ghost use Rattle.std.specs.Prelude.{IfErr, replicate};
 ghost use Rattle.song_model.specs.declared.rows.Row.{Row as OneRow};
 ghost use Rattle.song_model.specs.PatternLimits.{IsRow};
 ghost use Rattle.packed_form.specs.declared.entries.Entry.{Entry};

@@ -20,7 +20,8 @@ pub record GivesBack (layout : Layout) (voice : ℕ) (before : Desk) (run : Ran)
   pub command : own_at layout run.desk.at voice COMMAND ≡ shared_at layout before.at KEPT_COMMAND
   pub param : own_at layout run.desk.at voice PARAM ≡ shared_at layout before.at KEPT_PARAM
   pub lent : shared_at layout run.desk.at LENT ≡ 0
-  pub leaves : (place : ℕ) → place ≢ layout.address (COMMAND + 7 * voice) → place ≢ layout.address (PARAM + 7 * voice) →
+  pub leaves : (place : ℕ) → place ≢ layout.address (COMMAND + 7 * voice) →
+      place ≢ layout.address (PARAM + 7 * voice) →
       place ≢ layout.address LENT → run.desk.at place ≡ before.at place
 
 -- it has come to its end, and left every place of memory

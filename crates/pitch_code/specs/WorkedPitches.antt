@@ -1,5 +1,6 @@
 -- Memories in which the second voice sets notes and gets back its own command, and what giving it back isn't.
-use Rattle.std.specs.Prelude.{◌≡◌, ℕ, ◌+◌, ◌-◌, ◌*◌, ◌/◌, ◌%◌, true, false, nat_lt, if◌then◌else◌}
+use Rattle.std.specs.Prelude.{◌≡◌, ℕ, ◌+◌, ◌-◌, ◌*◌, ◌/◌, ◌%◌, true, false, nat_lt}
+use Rattle.std.specs.Prelude.{if◌then◌else◌}
 use Rattle.code_runs.specs.Runs.{put}
 use Rattle.play_model.specs.Freq.{freq}
 use Rattle.scopes.specs.Desk.{Desk, Layout}

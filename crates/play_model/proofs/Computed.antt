@@ -1,5 +1,6 @@
 -- The frames of the small songs, computed by the checker.
-use Rattle.std.proofs.Common.{◌≡◌, ℕ, zero, suc, List, [], ◌∷◌, length, map, replicate, refl, ap, ◌∙◌, add-one}
+use Rattle.std.proofs.Common.{◌≡◌, ℕ, zero, suc, List, [], ◌∷◌, length, map, replicate, refl, ap}
+use Rattle.std.proofs.Common.{◌∙◌, add-one}
 use Rattle.song_model.specs.Walk.{prefix_of, cycle_of, played}
 use Rattle.song_model.specs.LookUp.{playable_subtune, instrument_at, table_row, pattern_at}
 use Rattle.play_model.specs.Freq.{freq, half_tone, slide}
@@ -10,13 +11,16 @@ use Rattle.play_model.specs.WaveStep.{wave_command, wave_step}
 use Rattle.play_model.specs.EffectStep.{effect_step}
 use Rattle.play_model.specs.PulseStep.{pulse_step}
 use Rattle.play_model.specs.FetchRow.{fetch_row}
-use Rattle.play_model.specs.Frame.{voice_step, voice_registers, filter_registers, frame_of, frame_with, state_after_with, trace_with, trace}
+use Rattle.play_model.specs.Frame.{voice_step, voice_registers, filter_registers, frame_of, frame_with}
+use Rattle.play_model.specs.Frame.{state_after_with, trace_with, trace}
 use Rattle.song_model.specs.declared.songs.Song.{Song}
 use Rattle.play_model.specs.declared.options.Options.{Options}
 use Rattle.play_model.specs.State.{FrameState, no_options, start_state}
 use Rattle.play_model.specs.WorkedSongs.{one_note, with_gate_timer}
 use Rattle.play_model.specs.WorkedRuns.{silent_registers, from_call, digits, Plays}
-use Rattle.play_model.specs.WorkedFrames.{OneNoteSounds, LowNoteIsMute, VibratoWraps, SlideStops, FunkTempoWraps, LongFunkTempoIsCut, GateTimerBits, LongTimerIsNeverMet, WaveProgramWaits, VibratoChangesAlone, FilterFollows, OptionsAreAsWorked, FirstSkipsAreAsWorked}
+use Rattle.play_model.specs.WorkedFrames.{OneNoteSounds, LowNoteIsMute, VibratoWraps, SlideStops, FunkTempoWraps}
+use Rattle.play_model.specs.WorkedFrames.{LongFunkTempoIsCut, GateTimerBits, LongTimerIsNeverMet, WaveProgramWaits}
+use Rattle.play_model.specs.WorkedFrames.{VibratoChangesAlone, FilterFollows, OptionsAreAsWorked, FirstSkipsAreAsWorked}
 
 pub one_note_sounds_lem : OneNoteSounds
 unfolding prefix_of cycle_of played playable_subtune instrument_at table_row pattern_at freq half_tone slide next_row porta_up porta_down tone vibrato do_command filter_step between_rows note_started row_command at_row tick_step wave_command wave_step effect_step pulse_step fetch_row voice_step voice_registers filter_registers frame_of state_after_with trace

@@ -1,6 +1,7 @@
 -- Where a rule fails, some refusal is the first: ranks are lists of at most four numbers, and no such lists go
 -- down without end.
-use Rattle.std.proofs.Common.{◌≡◌, ℕ, ◌<◌, ◌≤◌, ◌⊎◌, zero, suc, false, List, [], ◌∷◌, length, refl, inl, inr, arith}
+use Rattle.std.proofs.Common.{◌≡◌, ℕ, ◌<◌, ◌≤◌, ◌⊎◌, zero, suc, false, List, [], ◌∷◌}
+use Rattle.std.proofs.Common.{length, refl, inl, inr, arith}
 use Rattle.std.specs.Ordering.{nat_cmp, is_le}
 use Rattle.std.specs.Cmp.Lexicographic.{slice_cmp}
 use Rattle.std.proofs.lemmas.Bool.{cases_Bool, cases_order}

@@ -10,7 +10,8 @@ pub use Rattle.play_model.proofs.FirstRefusals.{refused_or_playable_lem}
 -- each silent song can be played
 pub use Rattle.play_model.proofs.SilentSongs.{silent_songs_can_be_played_lem}
 -- what a song comes to is closed, and what a playable song comes to is there
-pub use Rattle.play_model.proofs.ReachedRows.{stored_if, jump_left, jump_is_stored, jumps_are_programs, no_wave_pointer, led_by, no_speed_led, closed_lem}
+pub use Rattle.play_model.proofs.ReachedRows.{stored_if, jump_left, jump_is_stored, jumps_are_programs, no_wave_pointer}
+pub use Rattle.play_model.proofs.ReachedRows.{led_by, no_speed_led, closed_lem}
 pub use Rattle.play_model.proofs.PlayableSongs.{whole_lem, reached_byte_lem, stays_lem}
 -- a song is refused for one thing
 pub use Rattle.play_model.proofs.OneRefusal.{one_order, same_table, one_refusal, refused_lem}

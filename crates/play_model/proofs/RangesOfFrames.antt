@@ -1,6 +1,7 @@
 -- The states within a frame, its registers, and all that a song is played with keep the ranges.
 use Rattle.std.specs.Prelude.{bit_and, bit_or, unsigned_abs}
-use Rattle.std.proofs.Common.{◌≡◌, ℕ, zero, suc, pos, negsuc, ◌+◌, ◌-◌, ◌*◌, ◌/◌, ◌%◌, ◌+ℤ◌, ◌<◌, List, [], ◌∷◌, length, All, lit<, inl, inr, refl, ap, arith}
+use Rattle.std.proofs.Common.{◌≡◌, ℕ, zero, suc, pos, negsuc, ◌+◌, ◌-◌, ◌*◌, ◌/◌, ◌%◌}
+use Rattle.std.proofs.Common.{◌+ℤ◌, ◌<◌, List, [], ◌∷◌, length, All, lit<, inl, inr, refl, ap, arith}
 use Rattle.std.proofs.lemmas.Int.{int_rem_euclid_is, ints}
 use Rattle.std.proofs.lemmas.Bool.{cases_lt}
 use Rattle.std.proofs.lemmas.List.{get_or_past}
@@ -21,7 +22,8 @@ use Rattle.play_model.specs.LookUps.{LookUps, look_ups_of}
 use Rattle.play_model.specs.State.{Voice, Common, FrameState, Playing, start_voice, start_common, playing_of, with_playing}
 use Rattle.play_model.specs.Ranges.{IsBytesRow, AreLookUps, IsVoice, IsCommon, IsPlaying, IsFrameState}
 use Rattle.play_model.specs.FilterStep.{filter_step}
-use Rattle.play_model.specs.Frame.{voice_step, voice_registers, filter_registers, filter_done, voice_done, voices_done, framed, frame_of, subtune_at, state_after_with, trace_with}
+use Rattle.play_model.specs.Frame.{voice_step, voice_registers, filter_registers, filter_done, voice_done, voices_done}
+use Rattle.play_model.specs.Frame.{framed, frame_of, subtune_at, state_after_with, trace_with}
 use Rattle.play_model.specs.RangeLaws.{RangesAreKept, FrameRangesAreKept, StartIsInRange, SongRangesAreKept, TransposesWrap}
 use Rattle.play_model.proofs.Choices.{by_channel}
 use Rattle.play_model.proofs.RangesOfSteps.{filter_keeps, effect_keeps, pulse_keeps, fetch_keeps}

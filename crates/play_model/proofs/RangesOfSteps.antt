@@ -18,9 +18,11 @@ use Rattle.play_model.specs.Helpers.{next_row, vibrato}
 use Rattle.play_model.specs.FilterStep.{filter_set, filter_cutoff, filter_slide, filter_row, filter_step}
 use Rattle.play_model.specs.EffectStep.{instrument_vibrato, effect_step}
 use Rattle.play_model.specs.PulseStep.{pulse_set, pulse_moved, pulse_row, pulse_step}
-use Rattle.play_model.specs.FetchRow.{row_taken, gate_keyed, is_note, transposed, gate_shut, note_waits, row_moved, row_done, fetch_row}
+use Rattle.play_model.specs.FetchRow.{row_taken, gate_keyed, is_note, transposed, gate_shut, note_waits, row_moved}
+use Rattle.play_model.specs.FetchRow.{row_done, fetch_row}
 use Rattle.play_model.proofs.Choices.{chosen}
-use Rattle.play_model.proofs.RangesOfRules.{zero_small, wraps, smaller, transposed_small, next_small, up_keeps, down_keeps, tone_keeps, vibrato_keeps}
+use Rattle.play_model.proofs.RangesOfRules.{zero_small, wraps, smaller, transposed_small, next_small, up_keeps}
+use Rattle.play_model.proofs.RangesOfRules.{down_keeps, tone_keeps, vibrato_keeps}
 
 gate_off_small : IsByte 0xFE
 gate_off_small = lit< tt

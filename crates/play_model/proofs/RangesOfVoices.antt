@@ -13,14 +13,18 @@ use Rattle.play_model.specs.State.{Voice, Common, Playing}
 use Rattle.play_model.specs.Ranges.{AreLookUps, IsVoice, IsCommon, IsPlaying}
 use Rattle.play_model.specs.Wrap.{byte_plus, byte_minus}
 use Rattle.play_model.specs.Helpers.{do_command}
-use Rattle.play_model.specs.TickStep.{Ticked, tempo_of, with_tempo, with_all_tempos, reloaded, between_rows, note_taken, first_wave_set, programs_begun, taken, note_started, funk_set, funk_tempo, tempo_set, row_command, note_ended, gate_timer_set, at_row, tick_step}
-use Rattle.play_model.specs.WaveStep.{Waved, wave_command, is_wave_command, left_done, program_moved, wave_note, with_note, right_done, wave_row, wave_step}
+use Rattle.play_model.specs.TickStep.{Ticked, tempo_of, with_tempo, with_all_tempos, reloaded, between_rows, note_taken}
+use Rattle.play_model.specs.TickStep.{first_wave_set, programs_begun, taken, note_started, funk_set, funk_tempo}
+use Rattle.play_model.specs.TickStep.{tempo_set, row_command, note_ended, gate_timer_set, at_row, tick_step}
+use Rattle.play_model.specs.WaveStep.{Waved, wave_command, is_wave_command, left_done, program_moved, wave_note}
+use Rattle.play_model.specs.WaveStep.{with_note, right_done, wave_row, wave_step}
 use Rattle.play_model.specs.EffectStep.{effect_step}
 use Rattle.play_model.specs.PulseStep.{pulse_step}
 use Rattle.play_model.specs.FetchRow.{fetch_row}
 use Rattle.play_model.specs.Frame.{effect_done, pulse_done, row_fetched, after_tick, voice_step}
 use Rattle.play_model.proofs.Choices.{chosen, by_channel}
-use Rattle.play_model.proofs.RangesOfRules.{zero_small, wraps, smaller, freq_small, next_small, up_keeps, down_keeps, tone_keeps, vibrato_keeps, command_keeps}
+use Rattle.play_model.proofs.RangesOfRules.{zero_small, wraps, smaller, freq_small, next_small, up_keeps, down_keeps}
+use Rattle.play_model.proofs.RangesOfRules.{tone_keeps, vibrato_keeps, command_keeps}
 use Rattle.play_model.proofs.RangesOfSteps.{effect_keeps, pulse_keeps, fetch_keeps}
 
 on_small : IsByte 0xFF

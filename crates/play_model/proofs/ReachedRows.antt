@@ -1,6 +1,7 @@
 -- Rows of tables that a song comes to: those that aren't stored are zero, and so are no jumps; the reached rows are
 -- closed under what they lead to.
-use Rattle.std.proofs.Common.{◌≡◌, ◌≢◌, ℕ, ◌-◌, ◌≤◌, true, List, length, Some, refl, sym, ◌∙◌, ap, inl, inr, arith}
+use Rattle.std.proofs.Common.{◌≡◌, ◌≢◌, ℕ, ◌-◌, ◌≤◌, true, List, length, Some, refl, sym}
+use Rattle.std.proofs.Common.{◌∙◌, ap, inl, inr, arith}
 use Rattle.std.proofs.lemmas.Bool.{cases_lt}
 use Rattle.std.proofs.lemmas.Bool.Decides.{nat_tests}
 use Rattle.std.proofs.lemmas.List.{get_or_past}
@@ -10,7 +11,8 @@ use Rattle.song_model.specs.declared.tables.TableName.TheVariants.{Wave, Pulse, 
 use Rattle.song_model.specs.declared.songs.Song.{Song}
 use Rattle.song_model.specs.LookUp.{IsNumbered, zero_table_row, table_of, table_row}
 use Rattle.song_model.specs.Pointers.{wave_row_table}
-use Rattle.play_model.specs.Reached.{is_jump, row_led_to, is_stored, led_to, IsPlayedPointer, of_instrument, of_row, IsReached, played, pointed, led, IsPointer, of_played, of_wave_row}
+use Rattle.play_model.specs.Reached.{is_jump, row_led_to, is_stored, led_to, IsPlayedPointer, of_instrument, of_row}
+use Rattle.play_model.specs.Reached.{IsReached, played, pointed, led, IsPointer, of_played, of_wave_row}
 use Rattle.play_model.specs.Playable.{HasPrograms, IsJumpTarget}
 use Rattle.play_model.specs.UseLaws.{RowsAreClosed}
 

@@ -1,6 +1,8 @@
 -- Songs that play rests: each entry is the number of a stored pattern, and nothing points at a row but instrument 1.
 -- Silent songs can be played: they have no instrument, so no row of a table is reached.
-use Rattle.std.proofs.Common.{◌≡◌, ◌≢◌, ℕ, ◌-◌, ◌<◌, List, [], ◌∷◌, length, get_or, drop, filter, All, Any, Contains, None, Some, slice_get, ◌⊎◌, inl, inr, refl, sym, ◌∙◌, subst, arith}
+use Rattle.std.proofs.Common.{◌≡◌, ◌≢◌, ℕ, ◌-◌, ◌<◌, List, [], ◌∷◌, length, get_or, drop}
+use Rattle.std.proofs.Common.{filter, All, Any, Contains, None, Some, slice_get, ◌⊎◌, inl, inr, refl, sym}
+use Rattle.std.proofs.Common.{◌∙◌, subst, arith}
 use Rattle.std.proofs.lemmas.List.{length-drop}
 use Rattle.std.proofs.lemmas.List.Elements.{All-head, All-drop, All-contains, All-filter}
 use Rattle.std.proofs.lemmas.Option.{get_or_from_slice_get, slice_get_within, slice_get-get_or}
@@ -16,9 +18,11 @@ use Rattle.song_model.specs.LookUp.{zero_instrument, instrument_at, pattern_at, 
 use Rattle.song_model.specs.Pointers.{instrument_pointer, command_table}
 use Rattle.song_model.proofs.Laws.{silent_is_playable}
 use Rattle.play_model.specs.declared.unplayable.Unplayable.{Unplayable}
-use Rattle.play_model.specs.declared.unplayable.Unplayable.TheVariants.{NoSubtune, MissingPattern, BadRestart, TableOverflow, PointerToJump}
+use Rattle.play_model.specs.declared.unplayable.Unplayable.TheVariants.{NoSubtune, MissingPattern, BadRestart}
+use Rattle.play_model.specs.declared.unplayable.Unplayable.TheVariants.{TableOverflow, PointerToJump}
 use Rattle.play_model.specs.Used.{IsPlayedOrder, IsUsedRow}
-use Rattle.play_model.specs.Reached.{IsPlayedPointer, of_instrument, of_row, IsReached, played, pointed, led, IsPointer, of_played, of_wave_row}
+use Rattle.play_model.specs.Reached.{IsPlayedPointer, of_instrument, of_row, IsReached, played, pointed, led, IsPointer}
+use Rattle.play_model.specs.Reached.{of_played, of_wave_row}
 use Rattle.play_model.specs.Playable.{HasOrder, MissesPattern, RunsOff, PointsAtJump, Fails}
 use Rattle.play_model.specs.SilentLaws.{SilentSongsCanBePlayed}
 use Rattle.play_model.proofs.Choices.{chosen, by_channel}

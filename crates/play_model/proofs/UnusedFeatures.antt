@@ -1,7 +1,12 @@
 -- What a song doesn't use doesn't count for its features.
 use Rattle.std.proofs.Common.{◌≡◌, ◌≢◌, ℕ, ◌≤◌, sym, ◌∙◌, ap, subst, inl, inr}
 use Rattle.song_model.specs.declared.features.Feature.{Feature}
-use Rattle.song_model.specs.declared.features.Feature.TheVariants.{Transpose, Repeat, PortaUp, PortaDown, TonePorta, TieNote, Vibrato, InstrumentVibrato, NoteDependent, SetAd, SetSr, SetWave, SetWavePointer, PulseTable, SetPulsePointer, FilterTable, SetFilterPointer, FilterControl, Cutoff, Volume, FunkTempo, SetTempo, WaveTable, WaveCommand}
+use Rattle.song_model.specs.declared.features.Feature.TheVariants.{Transpose, Repeat, PortaUp, PortaDown, TonePorta}
+use Rattle.song_model.specs.declared.features.Feature.TheVariants.{TieNote, Vibrato, InstrumentVibrato, NoteDependent}
+use Rattle.song_model.specs.declared.features.Feature.TheVariants.{SetAd, SetSr, SetWave, SetWavePointer, PulseTable}
+use Rattle.song_model.specs.declared.features.Feature.TheVariants.{SetPulsePointer, FilterTable, SetFilterPointer}
+use Rattle.song_model.specs.declared.features.Feature.TheVariants.{FilterControl, Cutoff, Volume, FunkTempo, SetTempo}
+use Rattle.song_model.specs.declared.features.Feature.TheVariants.{WaveTable, WaveCommand}
 use Rattle.song_model.specs.declared.instruments.Instrument.{Instrument}
 use Rattle.song_model.specs.declared.tables.TableRow.{TableRow}
 use Rattle.song_model.specs.declared.tables.TableName.{TableName}
@@ -9,9 +14,11 @@ use Rattle.song_model.specs.declared.tables.TableName.TheVariants.{Wave, Pulse, 
 use Rattle.song_model.specs.declared.songs.Song.{Song}
 use Rattle.song_model.specs.LookUp.{instrument_at}
 use Rattle.play_model.specs.Playable.{IsPlayable}
-use Rattle.play_model.specs.Features.{HasByte, HasRow, HasWaveRow, UsesCommand, IsAny, HasInstrument, HasPointer, HasNoteSpeed, HasWaveCommand, HasFeature}
+use Rattle.play_model.specs.Features.{HasByte, HasRow, HasWaveRow, UsesCommand, IsAny, HasInstrument, HasPointer}
+use Rattle.play_model.specs.Features.{HasNoteSpeed, HasWaveCommand, HasFeature}
 use Rattle.play_model.specs.UseLaws.{AgreesOnUsed, UsesTheSame}
-use Rattle.play_model.proofs.UnusedParts.{AgreesOnRows, byte_to, pattern_to, row_to, instrument_to, wave_row_same, reached_to, pointer_to, turned, agrees_on_rows}
+use Rattle.play_model.proofs.UnusedParts.{AgreesOnRows, byte_to, pattern_to, row_to, instrument_to, wave_row_same}
+use Rattle.play_model.proofs.UnusedParts.{reached_to, pointer_to, turned, agrees_on_rows}
 
 has_byte_to : (song other : Song) → AgreesOnRows song other → (low high : ℕ) → HasByte song low high →
     HasByte other low high

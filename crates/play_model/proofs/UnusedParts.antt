@@ -13,7 +13,8 @@ use Rattle.song_model.specs.declared.songs.Song.{Song}
 use Rattle.song_model.specs.LookUp.{IsNumbered, table_of, table_row, speed_row, pattern_at, instrument_at, playable_subtunes}
 use Rattle.song_model.specs.Pointers.{instrument_pointer, wave_row_table}
 use Rattle.play_model.specs.Used.{IsPlayedOrder, IsPlayedByte, IsUsedPattern, IsUsedRow, IsUsedInstrument}
-use Rattle.play_model.specs.Reached.{row_led_to, led_to, IsPlayedPointer, of_instrument, of_row, IsWaveRowPointer, IsReached, played, pointed, led, IsPointer, of_played, of_wave_row}
+use Rattle.play_model.specs.Reached.{row_led_to, led_to, IsPlayedPointer, of_instrument, of_row, IsWaveRowPointer}
+use Rattle.play_model.specs.Reached.{IsReached, played, pointed, led, IsPointer, of_played, of_wave_row}
 use Rattle.play_model.specs.Playable.{HasPrograms, IsPlayable}
 use Rattle.play_model.specs.UseLaws.{AgreesOnUsed}
 use Rattle.play_model.proofs.ReachedRows.{led_by, no_speed_led}

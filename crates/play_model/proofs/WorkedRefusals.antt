@@ -1,7 +1,8 @@
 -- Why small songs can't be played, worked out by hand.
 use Rattle.std.specs.Ordering.{nat_cmp, is_le}
 use Rattle.std.specs.Cmp.Lexicographic.{slice_cmp}
-use Rattle.std.proofs.Common.{◌≡◌, ℕ, zero, suc, ◌<◌, ◌≤◌, true, [], ◌∷◌, Contains, Some, None, slice_get, lit<, lit≤, inl, inr, refl, sym, ◌∙◌, ap, arith}
+use Rattle.std.proofs.Common.{◌≡◌, ℕ, zero, suc, ◌<◌, ◌≤◌, true, [], ◌∷◌, Contains, Some, None}
+use Rattle.std.proofs.Common.{slice_get, lit<, lit≤, inl, inr, refl, sym, ◌∙◌, ap, arith}
 use Rattle.base.proofs.Laws.{same_some}
 use Rattle.song_model.specs.declared.orders.Order.{Order}
 use Rattle.song_model.specs.declared.orders.Subtune.{Subtune}
@@ -9,7 +10,8 @@ use Rattle.song_model.specs.declared.tables.TableName.{TableName}
 use Rattle.song_model.specs.declared.tables.TableName.TheVariants.{Wave, Pulse, Filter, Speed}
 use Rattle.song_model.specs.LookUp.{instrument_at, table_of, order_of}
 use Rattle.play_model.specs.declared.unplayable.Unplayable.{Unplayable}
-use Rattle.play_model.specs.declared.unplayable.Unplayable.TheVariants.{NoSubtune, MissingPattern, BadRestart, TableOverflow, PointerToJump}
+use Rattle.play_model.specs.declared.unplayable.Unplayable.TheVariants.{NoSubtune, MissingPattern, BadRestart}
+use Rattle.play_model.specs.declared.unplayable.Unplayable.TheVariants.{TableOverflow, PointerToJump}
 use Rattle.play_model.specs.Used.{IsChannel}
 use Rattle.play_model.specs.Reached.{led_to, IsPlayedPointer, of_instrument, IsReached, played, pointed, led}
 use Rattle.play_model.specs.Playable.{HasOrder, MissesPattern, RunsOff, Fails, IsNotAfter}

@@ -1,5 +1,7 @@
 -- What a small song uses, and which songs can be played, worked out by hand.
-use Rattle.std.proofs.Common.{◌≡◌, ◌≢◌, ℕ, zero, suc, ◌<◌, true, false, List, [], ◌∷◌, length, All, Contains, Some, None, slice_get, lit<, lit≤, inl, inr, refl, sym, ◌∙◌, subst, arith}
+use Rattle.std.proofs.Common.{◌≡◌, ◌≢◌, ℕ, zero, suc, ◌<◌, true, false, List, [], ◌∷◌, length}
+use Rattle.std.proofs.Common.{All, Contains, Some, None, slice_get, lit<, lit≤, inl, inr, refl, sym, ◌∙◌, subst}
+use Rattle.std.proofs.Common.{arith}
 use Rattle.std.proofs.lemmas.List.Elements.{All-cons, All-nil}
 use Rattle.base.proofs.Laws.{same_some}
 use Rattle.song_model.specs.declared.rows.Row.{Row}
@@ -11,7 +13,8 @@ use Rattle.song_model.specs.declared.tables.TableRow.{TableRow}
 use Rattle.song_model.specs.LookUp.{instrument_at, table_row, table_of}
 use Rattle.song_model.specs.Silence.{silence, rest_row, order_of_zero}
 use Rattle.song_model.specs.Silent.{IsSilentRow, IsSilentOrder, IsSilentSubtune}
-use Rattle.play_model.specs.Reached.{is_jump, led_to, IsPlayedPointer, of_instrument, IsWaveRowPointer, IsReached, played, pointed, led, IsPointer, of_played, of_wave_row}
+use Rattle.play_model.specs.Reached.{is_jump, led_to, IsPlayedPointer, of_instrument, IsWaveRowPointer, IsReached}
+use Rattle.play_model.specs.Reached.{played, pointed, led, IsPointer, of_played, of_wave_row}
 use Rattle.play_model.specs.Playable.{RunsOff, IsJumpTarget, PointsAtJump, IsPlayable}
 use Rattle.play_model.specs.Features.{HasRow, HasFeature}
 use Rattle.play_model.specs.WorkedUses.{with_programs, looping_song, UsesAreAsWorked}

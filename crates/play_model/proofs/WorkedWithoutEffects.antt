@@ -14,7 +14,8 @@ use Rattle.play_model.specs.FetchRow.{fetch_row}
 use Rattle.play_model.specs.Frame.{voice_step, voice_registers, filter_registers, frame_of}
 use Rattle.play_model.specs.WorkedRuns.{left_out}
 use Rattle.play_model.proofs.Computed.{calls_from, plays}
-use Rattle.play_model.specs.WorkedWithoutEffects.{small_4, small_40, small_43, small_13, rich_5sub_1, rich_46sub_1, WorkedWithoutEffectsHold}
+use Rattle.play_model.specs.WorkedWithoutEffects.{small_4, small_40, small_43, small_13, rich_5sub_1, rich_46sub_1}
+use Rattle.play_model.specs.WorkedWithoutEffects.{WorkedWithoutEffectsHold}
 
 pub worked_without_effects_lem : WorkedWithoutEffectsHold
 unfolding prefix_of cycle_of played playable_subtune instrument_at table_row pattern_at

@@ -1,5 +1,6 @@
 -- Fetching a row: what it says waits for tick 0, but keyoff, keyon and a note's gate are seen at once.
-use Rattle.std.specs.Prelude.{ℕ, ◌+◌, ℤ, pos, ◌+ℤ◌, unsigned_abs, Bool, not, ◌&&◌, ◌||◌, ◌==◌, List, length, if◌then◌else◌, nat_le, bit_and}
+use Rattle.std.specs.Prelude.{ℕ, ◌+◌, ℤ, pos, ◌+ℤ◌, unsigned_abs, Bool, not, ◌&&◌, ◌||◌, ◌==◌}
+use Rattle.std.specs.Prelude.{List, length, if◌then◌else◌, nat_le, bit_and}
 use Rattle.std.specs.Int.{int_rem_euclid}
 use Rattle.song_model.specs.declared.rows.Row.{Row}
 use Rattle.song_model.specs.declared.orders.Order.{Order}

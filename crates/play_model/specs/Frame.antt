@@ -1,6 +1,7 @@
 -- A frame: the filter, its registers, and the three voices in turn. This is this project's profile of
 -- the playroutine, and the meaning of a song.
-use Rattle.std.specs.Prelude.{ℕ, zero, suc, ◌/◌, ◌%◌, not, ◌&&◌, ◌||◌, ◌==◌, Bool, List, [], ◌∷◌, ◌++◌, replicate, if◌then◌else◌, bit_and, bit_or}
+use Rattle.std.specs.Prelude.{ℕ, zero, suc, ◌/◌, ◌%◌, not, ◌&&◌, ◌||◌, ◌==◌, Bool, List, []}
+use Rattle.std.specs.Prelude.{◌∷◌, ◌++◌, replicate, if◌then◌else◌, bit_and, bit_or}
 use Rattle.std.specs.Option.{unwrap_or}
 use Rattle.song_model.specs.declared.orders.Order.{Order}
 use Rattle.song_model.specs.declared.orders.Subtune.{Subtune}

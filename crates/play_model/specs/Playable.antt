@@ -1,6 +1,7 @@
 -- Which songs can be played, and why another can't. The rules are tried in their order, and each names its
 -- least place. This is this project's profile of the GoatTracker 2 readme.
-use Rattle.std.specs.Prelude.{◌≡◌, ◌≢◌, ℕ, ◌-◌, ◌<◌, ◌≤◌, ◌⊎◌, true, List, [], ◌∷◌, length, Some, slice_get}
+use Rattle.std.specs.Prelude.{◌≡◌, ◌≢◌, ℕ, ◌-◌, ◌<◌, ◌≤◌, ◌⊎◌, true, List, []}
+use Rattle.std.specs.Prelude.{◌∷◌, length, Some, slice_get}
 use Rattle.std.specs.Ordering.{nat_cmp, is_le}
 use Rattle.std.specs.Cmp.Lexicographic.{slice_cmp}
 use Rattle.song_model.specs.declared.orders.Order.{Order}
@@ -11,7 +12,8 @@ use Rattle.song_model.specs.declared.songs.Song.{Song}
 use Rattle.song_model.specs.Endless.{IsPatternByte, IsEndless}
 use Rattle.song_model.specs.LookUp.{IsNumbered, table_of, table_row, order_of, is_playable_subtune, playable_subtunes}
 use Rattle.play_model.specs.declared.unplayable.Unplayable.{Unplayable}
-use Rattle.play_model.specs.declared.unplayable.Unplayable.TheVariants.{NoSubtune, MissingPattern, BadRestart, TableOverflow, PointerToJump}
+use Rattle.play_model.specs.declared.unplayable.Unplayable.TheVariants.{NoSubtune, MissingPattern, BadRestart}
+use Rattle.play_model.specs.declared.unplayable.Unplayable.TheVariants.{TableOverflow, PointerToJump}
 use Rattle.play_model.specs.Used.{IsChannel}
 use Rattle.play_model.specs.Reached.{is_jump, IsReached, IsPointer}
 

@@ -1,9 +1,15 @@
 -- What a frame makes use of: the cases that its rules take, over any look-ups. A feature is used where the case
 -- that it names comes. This is this project's profile of the playroutine.
-use Rattle.std.specs.Prelude.{◌≡◌, ◌≢◌, ℕ, ◌+◌, ◌%◌, ◌<◌, ◌≤◌, ◌⊎◌, true, false, ◌&&◌, ◌==◌, if◌then◌else◌, Contains}
+use Rattle.std.specs.Prelude.{◌≡◌, ◌≢◌, ℕ, ◌+◌, ◌%◌, ◌<◌, ◌≤◌, ◌⊎◌, true, false}
+use Rattle.std.specs.Prelude.{◌&&◌, ◌==◌, if◌then◌else◌, Contains}
 use Rattle.song_model.specs.declared.orders.Subtune.{Subtune}
 use Rattle.song_model.specs.declared.features.Feature.{Feature}
-use Rattle.song_model.specs.declared.features.Feature.TheVariants.{Transpose, Repeat, PortaUp, PortaDown, TonePorta, TieNote, Vibrato, InstrumentVibrato, NoteDependent, SetAd, SetSr, SetWave, SetWavePointer, PulseTable, SetPulsePointer, FilterTable, SetFilterPointer, FilterControl, Cutoff, Volume, FunkTempo, SetTempo, WaveTable, WaveCommand}
+use Rattle.song_model.specs.declared.features.Feature.TheVariants.{Transpose, Repeat, PortaUp, PortaDown, TonePorta}
+use Rattle.song_model.specs.declared.features.Feature.TheVariants.{TieNote, Vibrato, InstrumentVibrato, NoteDependent}
+use Rattle.song_model.specs.declared.features.Feature.TheVariants.{SetAd, SetSr, SetWave, SetWavePointer, PulseTable}
+use Rattle.song_model.specs.declared.features.Feature.TheVariants.{SetPulsePointer, FilterTable, SetFilterPointer}
+use Rattle.song_model.specs.declared.features.Feature.TheVariants.{FilterControl, Cutoff, Volume, FunkTempo, SetTempo}
+use Rattle.song_model.specs.declared.features.Feature.TheVariants.{WaveTable, WaveCommand}
 use Rattle.song_model.specs.declared.songs.Song.{Song}
 use Rattle.song_model.specs.declared.tables.TableRow.{TableRow}
 use Rattle.song_model.specs.declared.tables.TableName.TheVariants.{Wave, Speed}

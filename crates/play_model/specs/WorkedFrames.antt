@@ -1,10 +1,14 @@
 -- Frames of the small songs, worked out by hand.
-use Rattle.std.specs.Prelude.{true, false, ◌≡◌, ℕ, ◌+◌, ◌*◌, List, [], ◌∷◌, ◌++◌, take, drop, replicate, slice_index}
+use Rattle.std.specs.Prelude.{true, false, ◌≡◌, ℕ, ◌+◌, ◌*◌, List, [], ◌∷◌, ◌++◌, take, drop}
+use Rattle.std.specs.Prelude.{replicate, slice_index}
 use Rattle.song_model.specs.declared.songs.Song.{Song}
 use Rattle.play_model.specs.declared.options.Options.{Options}
 use Rattle.play_model.specs.Frame.{trace, trace_with, state_after}
 use Rattle.play_model.specs.WorkedRuns.{silent_registers, from_call, left_out, first_left_out, all_left_out}
-use Rattle.play_model.specs.WorkedSongs.{with_rows, one_note, low_note, wrapping_note, sliding_note, tied_note, funk_song, long_funk_song, rising_note, rising_pulse, three_rows, late_note, in_turn, never_fetched, quick_turns, at_once_tempo, short_pulse, set_pulse, long_note, with_gate_timer, waiting_wave, other_vibrato, small_song}
+use Rattle.play_model.specs.WorkedSongs.{with_rows, one_note, low_note, wrapping_note, sliding_note, tied_note}
+use Rattle.play_model.specs.WorkedSongs.{funk_song, long_funk_song, rising_note, rising_pulse, three_rows, late_note}
+use Rattle.play_model.specs.WorkedSongs.{in_turn, never_fetched, quick_turns, at_once_tempo, short_pulse, set_pulse}
+use Rattle.play_model.specs.WorkedSongs.{long_note, with_gate_timer, waiting_wave, other_vibrato, small_song}
 
 -- the seven registers of voice 1 after a call
 abbrev pub first_voice_at : Song → ℕ → List ℕ

@@ -1,6 +1,7 @@
 -- What a small song uses, and which songs can be played, worked out by hand.
 use Rattle.std.specs.Prelude.{ℕ, List, [], ◌∷◌, Contains, ◌↔◌}
-use Rattle.song_model.specs.declared.features.Feature.TheVariants.{PortaUp, PortaDown, PulseTable, FilterTable, SetTempo, WaveTable, WaveCommand}
+use Rattle.song_model.specs.declared.features.Feature.TheVariants.{PortaUp, PortaDown, PulseTable, FilterTable}
+use Rattle.song_model.specs.declared.features.Feature.TheVariants.{SetTempo, WaveTable, WaveCommand}
 use Rattle.song_model.specs.declared.instruments.Instrument.{Instrument}
 use Rattle.song_model.specs.declared.tables.TableName.TheVariants.{Wave, Pulse, Speed}
 use Rattle.song_model.specs.declared.tables.TableRow.{TableRow}

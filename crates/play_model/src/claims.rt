@@ -3,8 +3,11 @@
 ghost use Rattle.play_model.specs.TraceLaws.{TracesHaveAllRegisters, SystemsPlayAlike};
 ghost use Rattle.play_model.specs.RefusalLaws.{RefusedOrPlayable};
 ghost use Rattle.play_model.specs.SilentLaws.{SilentSongsCanBePlayed};
-ghost use Rattle.play_model.specs.RangeLaws.{RangesAreKept, FrameRangesAreKept, StartIsInRange, SongRangesAreKept, TransposesWrap};
-ghost use Rattle.play_model.specs.UseLaws.{PlayableSongsAreWhole, ReachedRowsAreBytes, ProgramsStayInTheirTables, ReachedRowsAreClosed, SongsAreRefusedForOneThing, RefusedSongsAreNotPlayable, UnusedPartsDoNotCount};
+ghost use Rattle.play_model.specs.RangeLaws.{RangesAreKept, FrameRangesAreKept, StartIsInRange, SongRangesAreKept};
+ghost use Rattle.play_model.specs.RangeLaws.{TransposesWrap};
+ghost use Rattle.play_model.specs.UseLaws.{PlayableSongsAreWhole, ReachedRowsAreBytes, ProgramsStayInTheirTables};
+ghost use Rattle.play_model.specs.UseLaws.{ReachedRowsAreClosed, SongsAreRefusedForOneThing};
+ghost use Rattle.play_model.specs.UseLaws.{RefusedSongsAreNotPlayable, UnusedPartsDoNotCount};
 ghost use Rattle.play_model.specs.WorkedUses.{UsesAreAsWorked};
 ghost use Rattle.play_model.specs.WorkedRefusals.{RefusalsAreAsWorked};
 ghost use Rattle.play_model.specs.WorkedCorners.{WorkedCornersHold};
@@ -20,7 +23,10 @@ ghost use Rattle.play_model.specs.WorkedWithoutBoth.{WorkedWithoutBothHold};
 ghost use Rattle.play_model.specs.WorkedBareVoices.{WorkedBareVoicesHold};
 ghost use Rattle.play_model.specs.WorkedFrequencies.{FrequenciesAreAsWorked};
 ghost use Rattle.play_model.specs.WorkedTimers.{TimersAreWorked};
-ghost use Rattle.play_model.specs.WorkedFrames.{OneNoteSounds, LowNoteIsMute, VibratoWraps, SlideStops, FunkTempoWraps, LongFunkTempoIsCut, GateTimerBits, LongTimerIsNeverMet, WaveProgramWaits, VibratoChangesAlone, FilterFollows, OptionsAreAsWorked, FirstSkipsAreAsWorked};
+ghost use Rattle.play_model.specs.WorkedFrames.{OneNoteSounds, LowNoteIsMute, VibratoWraps, SlideStops, FunkTempoWraps};
+ghost use Rattle.play_model.specs.WorkedFrames.{LongFunkTempoIsCut, GateTimerBits, LongTimerIsNeverMet};
+ghost use Rattle.play_model.specs.WorkedFrames.{WaveProgramWaits, VibratoChangesAlone, FilterFollows};
+ghost use Rattle.play_model.specs.WorkedFrames.{OptionsAreAsWorked, FirstSkipsAreAsWorked};
 
 /// Each call leaves 25 registers.
 pub fn traces_have_all_registers()

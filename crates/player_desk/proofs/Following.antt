@@ -1,16 +1,20 @@
 -- What leads to a desk of which one thing holds leads to one of which all that follows from it holds.
-use Rattle.std.proofs.Common.{ℕ, zero, suc, Bool, true, false, List, [], ◌∷◌, Option, Some, None, nat_eq, nat_le, ◌&&◌}
+use Rattle.std.proofs.Common.{ℕ, zero, suc, Bool, true, false, List, [], ◌∷◌, Option, Some, None, nat_eq}
+use Rattle.std.proofs.Common.{nat_le, ◌&&◌}
 use Rattle.cpu6502.specs.declared.effect.Write.{Write}
 use Rattle.cpu6502.specs.declared.effect.Effect.{Effect}
 use Rattle.cpu6502.specs.declared.mnemonic.Mnemonic.{Mnemonic}
 use Rattle.scopes.specs.declared.line.Operand.{Operand}
-use Rattle.scopes.specs.declared.line.Operand.TheVariants.{Number, Var, Own, Entry, Pointed, Pointer, Register, OwnRegister, Timer}
+use Rattle.scopes.specs.declared.line.Operand.TheVariants.{Number, Var, Own, Entry, Pointed, Pointer, Register}
+use Rattle.scopes.specs.declared.line.Operand.TheVariants.{OwnRegister, Timer}
 use Rattle.scopes.specs.declared.line.Half.TheVariants.{Low, High}
 use Rattle.scopes.specs.Steps.{is_store}
-use Rattle.scopes.specs.Trees.{Tree, DoTree, WithTree, NoneTree, ThenTree, ScopeTree, LeaveTree, LeaveIfTree, LoopTree, AgainTree, AgainIfTree, WhenTree, ChooseTree, NeverTree}
+use Rattle.scopes.specs.Trees.{Tree, DoTree, WithTree, NoneTree, ThenTree, ScopeTree, LeaveTree, LeaveIfTree, LoopTree}
+use Rattle.scopes.specs.Trees.{AgainTree, AgainIfTree, WhenTree, ChooseTree, NeverTree}
 use Rattle.player_memory.specs.declared.labels.TheConstants.{SLIDES_LOW, SLIDES_HIGH}
 use Rattle.player_memory.specs.Labels.{is_own, is_shared, is_tempo}
-use Rattle.player_desk.proofs.VoiceDesks.{VoiceDesk, Reader, leaves_x, Fits, Either, Listed, OfAll, LowSlide, HighSlide, SeenLeads, SlideLeads}
+use Rattle.player_desk.proofs.VoiceDesks.{VoiceDesk, Reader, leaves_x, Fits, Either, Listed, OfAll, LowSlide, HighSlide}
+use Rattle.player_desk.proofs.VoiceDesks.{SeenLeads, SlideLeads}
 use Rattle.player_desk.proofs.VoiceDesks.{VarLeads, PutLeads, WritesLead, EffectLeads, ByteLeads, OperandLeads}
 use Rattle.player_desk.proofs.VoiceDesks.{QuietLeads, alone_done, is_alone, Ways, done_as, in_scope, again_as, TurnsLead, Leading}
 

@@ -1,7 +1,8 @@
 -- The lemmas that upper crates may cite, and the words that they are said in.
 
 -- the desk as the code of a voice sees it, and where a tree leads from it
-pub use Rattle.player_desk.proofs.VoiceDesks.{VoiceDesk, Reader, Ways, pointed, with_tempo, loaded, indexed, Leading, Leads, LeadsAlone}
+pub use Rattle.player_desk.proofs.VoiceDesks.{VoiceDesk, Reader, Ways, pointed, with_tempo, loaded, indexed, Leading}
+pub use Rattle.player_desk.proofs.VoiceDesks.{Leads, LeadsAlone}
 pub use Rattle.player_desk.proofs.VoiceDesks.{EntryLeads, Listed, OfAll, LowSlide, HighSlide}
 -- what leads somewhere leads to all that follows
 pub use Rattle.player_desk.proofs.Following.{Follows, leads_on}
@@ -16,7 +17,8 @@ pub use Rattle.player_desk.proofs.Views.{Lent, LentStands, SameSong, Done, own_d
 -- bytes that are found where the code reads them
 pub use Rattle.player_desk.proofs.Reading.{Reads, listed, place_at, compared_is, over_is}
 -- a voice in memory, and what a block leaves there
-pub use Rattle.player_desk.proofs.Memory.{IsFound, reader_of, voice_desk, lent_of, finds, begins, plays_but_slides, plays, but_slides_there, come_there}
+pub use Rattle.player_desk.proofs.Memory.{IsFound, reader_of, voice_desk, lent_of, finds, begins, plays_but_slides}
+pub use Rattle.player_desk.proofs.Memory.{plays, but_slides_there, come_there}
 pub use Rattle.player_desk.proofs.SlidesStay.{leaves_slides}
 pub use Rattle.player_desk.proofs.SharedMemory.{SameLent, CommonDone, SharedDone, begins_shared, plays_shared}
 -- whatever a block is for: it leaves in memory what it leaves on the desk

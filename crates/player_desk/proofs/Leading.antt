@@ -1,5 +1,6 @@
 -- What leads to a desk of which something holds does so in memory: it isn't stuck, and comes there.
-use Rattle.std.proofs.Common.{◌≡◌, ◌≢◌, ℕ, zero, suc, ◌+◌, ◌*◌, ◌%◌, ◌<◌, ◌≤◌, ◌&&◌, ◌||◌, Bool, true, false, not}
+use Rattle.std.proofs.Common.{◌≡◌, ◌≢◌, ℕ, zero, suc, ◌+◌, ◌*◌, ◌%◌, ◌<◌, ◌≤◌}
+use Rattle.std.proofs.Common.{◌&&◌, ◌||◌, Bool, true, false, not}
 use Rattle.std.proofs.Common.{Option, Some, None, nat_eq, nat_le, nat_lt, inl, inr, refl, sym, ap, ◌∙◌, subst, arith}
 use Rattle.std.proofs.Common.{if◌then◌else◌}
 use Rattle.std.proofs.lemmas.Bool.{leb-true, eqb-true, eqb-false, eq-eqb, ltb-true, or_cases, or_left, or_right, and_parts}
@@ -10,25 +11,32 @@ use Rattle.cpu6502.specs.Shifts.{accumulator_effect}
 use Rattle.cpu6502.specs.Effects.{effect_of, or_effect}
 use Rattle.code_runs.specs.Runs.{put}
 use Rattle.scopes.specs.declared.line.Operand.{Operand}
-use Rattle.scopes.specs.declared.line.Operand.TheVariants.{Number, Var, Own, Entry, Pointed, Pointer, Register, OwnRegister, Timer}
+use Rattle.scopes.specs.declared.line.Operand.TheVariants.{Number, Var, Own, Entry, Pointed, Pointer, Register}
+use Rattle.scopes.specs.declared.line.Operand.TheVariants.{OwnRegister, Timer}
 use Rattle.scopes.specs.declared.line.Half.TheVariants.{Low, High}
 use Rattle.scopes.specs.declared.line.Flag.TheVariants.{Zero, Minus, Carry}
 use Rattle.scopes.specs.declared.line.Test.{Test}
 use Rattle.scopes.specs.declared.line.Test.TheVariants.{On, Off}
 use Rattle.scopes.specs.Desk.{Desk, Layout, operand_place, operand_read}
 use Rattle.scopes.specs.Steps.{unless_stopped, is_store, effected, may_see, may_change, done, done_with}
-use Rattle.scopes.specs.Trees.{Tree, DoTree, WithTree, NoneTree, ThenTree, ScopeTree, LeaveTree, LeaveIfTree, LoopTree, AgainTree, AgainIfTree, WhenTree, ChooseTree, NeverTree}
-use Rattle.scopes.specs.Meaning.{Outcome, Done, Left, Again, Stuck, Ran, each_one, ended, stepped, behind, and_then, out_of_scope, scoped, next_turn, turns, ran}
+use Rattle.scopes.specs.Trees.{Tree, DoTree, WithTree, NoneTree, ThenTree, ScopeTree, LeaveTree, LeaveIfTree, LoopTree}
+use Rattle.scopes.specs.Trees.{AgainTree, AgainIfTree, WhenTree, ChooseTree, NeverTree}
+use Rattle.scopes.specs.Meaning.{Outcome, Done, Left, Again, Stuck, Ran, each_one, ended, stepped, behind, and_then}
+use Rattle.scopes.specs.Meaning.{out_of_scope, scoped, next_turn, turns, ran}
 use Rattle.scopes.specs.Meaning.{is_met as meant_is_met}
 use Rattle.player_memory.specs.declared.labels.TheConstants.{TEMPO, SLIDES_LOW, SLIDES_HIGH}
 use Rattle.player_memory.specs.Labels.{is_own, is_shared, is_tempo}
-use Rattle.player_desk.proofs.VoiceDesks.{VoiceDesk, Reader, cpu_of, with_cpu, leaves_x, Fits, Either, pointed, EntryLeads, Listed, OfAll, LowSlide, HighSlide, SeenLeads, SlideLeads}
+use Rattle.player_desk.proofs.VoiceDesks.{VoiceDesk, Reader, cpu_of, with_cpu, leaves_x, Fits, Either, pointed}
+use Rattle.player_desk.proofs.VoiceDesks.{EntryLeads, Listed, OfAll, LowSlide, HighSlide, SeenLeads, SlideLeads}
 use Rattle.player_desk.proofs.VoiceDesks.{with_tempo, VarLeads, PutLeads, EffectLeads, ByteLeads, OperandLeads, WithLeads}
-use Rattle.player_desk.proofs.VoiceDesks.{QuietLeads, alone_done, is_alone, AloneLeads, is_met, Ways, done_as, in_scope, again_as, TurnsLead, Leading}
+use Rattle.player_desk.proofs.VoiceDesks.{QuietLeads, alone_done, is_alone, AloneLeads, is_met, Ways, done_as, in_scope}
+use Rattle.player_desk.proofs.VoiceDesks.{again_as, TurnsLead, Leading}
 use Rattle.player_memory.specs.Rooms.{IsRoom, IsElsewhere, MayUse}
 use Rattle.player_desk.proofs.Spots.{Spot, spot_place, IsSpot, spot_byte, spot_set, IsWritten, put_at, own_below, shared_below}
-use Rattle.player_desk.proofs.Spots.{Own as OwnSpot, Shared, LowSpot, HighSpot, Sid, SlideLow, SlideHigh, Tempo, Others, Elsewhere}
-use Rattle.player_desk.proofs.Effects.{cpu_with, AgreeOn, SameEffect, Quiet, Stores, SameQuiet, BothQuiet, same_effect, same_alone}
+use Rattle.player_desk.proofs.Spots.{Own as OwnSpot, Shared, LowSpot, HighSpot, Sid, SlideLow, SlideHigh, Tempo, Others}
+use Rattle.player_desk.proofs.Spots.{Elsewhere}
+use Rattle.player_desk.proofs.Effects.{cpu_with, AgreeOn, SameEffect, Quiet, Stores, SameQuiet, BothQuiet, same_effect}
+use Rattle.player_desk.proofs.Effects.{same_alone}
 
 -- ---- desks
 

@@ -19,9 +19,11 @@ use Rattle.player_memory.specs.declared.labels.TheConstants.{SLIDES_LOW, SLIDES_
 use Rattle.player_memory.specs.declared.variables.TheConstants.{SONG_BYTES}
 use Rattle.player_memory.specs.Labels.{is_own, is_shared}
 use Rattle.player_memory.specs.Rooms.{IsRoom, IsElsewhere, MayUse}
-use Rattle.player_memory.specs.Playing.{own_at, shared_at, IsListed, IsPlaying, IsAtVoice, AreSame, Plays, PlaysButSlides, SlidesStay, there}
+use Rattle.player_memory.specs.Playing.{own_at, shared_at, IsListed, IsPlaying, IsAtVoice, AreSame, Plays}
+use Rattle.player_memory.specs.Playing.{PlaysButSlides, SlidesStay, there}
 use Rattle.player_desk.proofs.VoiceDesks.{VoiceDesk, Reader, Leads}
-use Rattle.player_desk.proofs.Spots.{Own, Shared as SharedSpot, Sid, Tempo, Others, Elsewhere, LowSpot, HighSpot, SlideLow, SlideHigh}
+use Rattle.player_desk.proofs.Spots.{Own, Shared as SharedSpot, Sid, Tempo, Others, Elsewhere, LowSpot, HighSpot}
+use Rattle.player_desk.proofs.Spots.{SlideLow, SlideHigh}
 use Rattle.player_desk.proofs.Spots.{Spot, IsSpot, spot_place, spot_byte}
 use Rattle.player_desk.proofs.Leading.{Shows, Ground, At, Led, led}
 use Rattle.player_desk.proofs.Places.{spot_at, IsSameAt, same_byte}

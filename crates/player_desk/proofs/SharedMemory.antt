@@ -1,5 +1,6 @@
 -- The desk as code that no voice owns sees it, read from memory; and what a block of it leaves there.
-use Rattle.std.proofs.Common.{◌≡◌, ℕ, ◌+◌, ◌<◌, true, inl, inr, refl, sym, ap, ◌∙◌, subst, ◌≢◌, zero, suc, ◌*◌, false, List, slice_index, arith}
+use Rattle.std.proofs.Common.{◌≡◌, ℕ, ◌+◌, ◌<◌, true, inl, inr, refl, sym, ap, ◌∙◌, subst}
+use Rattle.std.proofs.Common.{◌≢◌, zero, suc, ◌*◌, false, List, slice_index, arith}
 use Rattle.std.proofs.lemmas.Bool.Decides.{eqb_tells}
 use Rattle.play_model.specs.State.{Common}
 use Rattle.scopes.specs.Desk.{Desk, Layout}

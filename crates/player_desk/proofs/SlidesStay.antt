@@ -1,15 +1,18 @@
 -- Code that stores no entry of the slides leaves them.
-use Rattle.std.proofs.Common.{◌≡◌, ℕ, zero, suc, Bool, true, false, not, ◌&&◌, ◌||◌, [], ◌∷◌, List, Option, Some, None, nat_eq, nat_le, inl, inr, refl, sym, ◌∙◌}
+use Rattle.std.proofs.Common.{◌≡◌, ℕ, zero, suc, Bool, true, false, not, ◌&&◌, ◌||◌, [], ◌∷◌}
+use Rattle.std.proofs.Common.{List, Option, Some, None, nat_eq, nat_le, inl, inr, refl, sym, ◌∙◌}
 use Rattle.std.proofs.lemmas.Bool.{and_parts, or_cases, true≢false}
 use Rattle.cpu6502.specs.declared.effect.Write.{Write}
 use Rattle.cpu6502.specs.declared.effect.Effect.{Effect}
 use Rattle.cpu6502.specs.declared.mnemonic.Mnemonic.{Mnemonic}
 use Rattle.cpu6502.specs.declared.mnemonic.Mnemonic.TheVariants.{Adc, And, Cmp, Cpy, Eor, Lda, Ldy, Ora, Sbc}
 use Rattle.scopes.specs.declared.line.Operand.{Operand}
-use Rattle.scopes.specs.declared.line.Operand.TheVariants.{Number, Var, Own, Entry, Pointed, Pointer, Register, OwnRegister, Timer}
+use Rattle.scopes.specs.declared.line.Operand.TheVariants.{Number, Var, Own, Entry, Pointed, Pointer, Register}
+use Rattle.scopes.specs.declared.line.Operand.TheVariants.{OwnRegister, Timer}
 use Rattle.scopes.specs.declared.line.Half.TheVariants.{Low, High}
 use Rattle.scopes.specs.Steps.{is_store}
-use Rattle.scopes.specs.Trees.{Tree, DoTree, WithTree, NoneTree, ThenTree, ScopeTree, LeaveTree, LeaveIfTree, LoopTree, AgainTree, AgainIfTree, WhenTree, ChooseTree, NeverTree}
+use Rattle.scopes.specs.Trees.{Tree, DoTree, WithTree, NoneTree, ThenTree, ScopeTree, LeaveTree, LeaveIfTree, LoopTree}
+use Rattle.scopes.specs.Trees.{AgainTree, AgainIfTree, WhenTree, ChooseTree, NeverTree}
 use Rattle.player_memory.specs.declared.labels.TheConstants.{SLIDES_LOW, SLIDES_HIGH}
 use Rattle.player_memory.specs.Labels.{is_own, is_shared, is_tempo}
 use Rattle.player_desk.proofs.VoiceDesks.{VoiceDesk, Reader, with_cpu, leaves_x, Fits, Either, SlideLeads}

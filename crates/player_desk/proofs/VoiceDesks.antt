@@ -1,7 +1,8 @@
 -- The desk as the code of a voice sees it: the voice's own bytes and those that no voice owns, each by its label, the
 -- pointer, the slides by the rows of the speed table, the SID registers by their numbers, A, Y and the flags. What
 -- lines do to it is computed where labels are numerals. The tempos of the other voices are among the shared bytes.
-use Rattle.std.specs.Prelude.{◌≡◌, ℕ, zero, suc, ◌+◌, ◌*◌, ◌%◌, ◌<◌, ◌&&◌, Bool, true, false, not, if◌then◌else◌, List, [], ◌∷◌}
+use Rattle.std.specs.Prelude.{◌≡◌, ℕ, zero, suc, ◌+◌, ◌*◌, ◌%◌, ◌<◌, ◌&&◌, Bool, true}
+use Rattle.std.specs.Prelude.{false, not, if◌then◌else◌, List, [], ◌∷◌}
 use Rattle.std.specs.Prelude.{Option, Some, None, nat_eq, nat_le}
 use Rattle.cpu6502.specs.declared.cpu.Cpu.{Cpu}
 use Rattle.cpu6502.specs.declared.effect.Write.{Write}
@@ -14,7 +15,8 @@ use Rattle.cpu6502.specs.Shifts.{accumulator_effect}
 use Rattle.cpu6502.specs.Effects.{effect_of, or_effect}
 use Rattle.code_runs.specs.Runs.{put}
 use Rattle.scopes.specs.declared.line.Operand.{Operand}
-use Rattle.scopes.specs.declared.line.Operand.TheVariants.{Number, Var, Own, Entry, Pointed, Pointer, Register, OwnRegister, Timer}
+use Rattle.scopes.specs.declared.line.Operand.TheVariants.{Number, Var, Own, Entry, Pointed, Pointer, Register}
+use Rattle.scopes.specs.declared.line.Operand.TheVariants.{OwnRegister, Timer}
 use Rattle.scopes.specs.declared.line.Half.TheVariants.{Low, High}
 use Rattle.scopes.specs.declared.line.Flag.{Flag}
 use Rattle.scopes.specs.declared.line.Flag.TheVariants.{Zero, Minus, Carry}
@@ -22,7 +24,8 @@ use Rattle.scopes.specs.declared.line.Test.{Test}
 use Rattle.scopes.specs.declared.line.Test.TheVariants.{On, Off}
 use Rattle.scopes.specs.Desk.{Layout}
 use Rattle.scopes.specs.Steps.{unless_stopped, is_store}
-use Rattle.scopes.specs.Trees.{Tree, DoTree, WithTree, NoneTree, ThenTree, ScopeTree, LeaveTree, LeaveIfTree, LoopTree, AgainTree, AgainIfTree, WhenTree, ChooseTree, NeverTree}
+use Rattle.scopes.specs.Trees.{Tree, DoTree, WithTree, NoneTree, ThenTree, ScopeTree, LeaveTree, LeaveIfTree, LoopTree}
+use Rattle.scopes.specs.Trees.{AgainTree, AgainIfTree, WhenTree, ChooseTree, NeverTree}
 use Rattle.scope_lines.specs.Instructions.{is_plain}
 use Rattle.player_memory.specs.declared.conditions.TheConstants.{NOTE_DEPENDENT}
 use Rattle.player_memory.specs.declared.labels.TheConstants.{TEMPO, SLIDES_LOW, SLIDES_HIGH}

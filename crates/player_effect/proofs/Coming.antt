@@ -1,11 +1,13 @@
 -- A frame comes to each part of the effect step.
-use Rattle.std.proofs.Common.{◌≡◌, ◌≢◌, ℕ, ◌+◌, ◌%◌, ◌<◌, ◌≤◌, length, inl, inr, ◌⊎◌, refl, sym, ap, ◌∙◌, subst, arith}
+use Rattle.std.proofs.Common.{◌≡◌, ◌≢◌, ℕ, ◌+◌, ◌%◌, ◌<◌, ◌≤◌, length, inl, inr}
+use Rattle.std.proofs.Common.{◌⊎◌, refl, sym, ap, ◌∙◌, subst, arith}
 use Rattle.std.proofs.lemmas.Bool.{cases_eq}
 use Rattle.cpu6502.specs.declared.memory.TheConstants.{MEMORY_SIZE}
 use Rattle.song_model.specs.declared.tables.TableName.TheVariants.{Speed}
 use Rattle.song_model.specs.LookUp.{table_row}
 use Rattle.play_model.specs.State.{Voice, FrameState, voice_of}
-use Rattle.play_model.specs.Uses.{Turn, DoesEffect, DoesWave, DoesRunning, MeetsVibrato, Slides, AsksSpeed, for_slide, for_vibrato}
+use Rattle.play_model.specs.Uses.{Turn, DoesEffect, DoesWave, DoesRunning, MeetsVibrato, Slides, AsksSpeed, for_slide}
+use Rattle.play_model.specs.Uses.{for_vibrato}
 use Rattle.packed_form.specs.Unpacked.{unpacked_song}
 use Rattle.blocks.specs.Desk.{Desk}
 use Rattle.player_parts.specs.declared.labels.TheConstants.{VIB_DELAY, SPEED_LEFTS}

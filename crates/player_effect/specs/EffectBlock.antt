@@ -4,9 +4,12 @@ use Rattle.std.specs.Prelude.{[], ◌∷◌}
 use Rattle.player_parts.specs.Words.{Var, Const, Plain, Entry, And, Xor, Add, Sub, AddOn, SubOn, HalveAt, HalveOn}
 use Rattle.player_parts.specs.Words.{Zero, Minus, Carry, Equal, Less, Is, Not, CounterY}
 use Rattle.blocks.specs.Trees.{Tree, ChainTree, NoneTree, ThenTree, IfTree, UntilTree, WhenTree}
-use Rattle.player_parts.specs.declared.labels.TheConstants.{TICK, NOTE, COMMAND, PARAM, VIB_TIME, VIB_DELAY, FREQ_LOW, FREQ_HIGH, LAST_NOTE}
-use Rattle.player_parts.specs.declared.labels.TheConstants.{WORK_COMMAND, LENT_PARAM, LENT_COMMAND, LENT, COUNTER, SPEED_LOW, SPEED_HIGH}
-use Rattle.player_parts.specs.declared.labels.TheConstants.{WORK_LOW, WORK_HIGH, FREQUENCY_LOWS, NEXT_FREQUENCY_LOWS, FREQUENCY_HIGHS}
+use Rattle.player_parts.specs.declared.labels.TheConstants.{TICK, NOTE, COMMAND, PARAM, VIB_TIME, VIB_DELAY, FREQ_LOW}
+use Rattle.player_parts.specs.declared.labels.TheConstants.{FREQ_HIGH, LAST_NOTE}
+use Rattle.player_parts.specs.declared.labels.TheConstants.{WORK_COMMAND, LENT_PARAM, LENT_COMMAND, LENT, COUNTER}
+use Rattle.player_parts.specs.declared.labels.TheConstants.{SPEED_LOW, SPEED_HIGH}
+use Rattle.player_parts.specs.declared.labels.TheConstants.{WORK_LOW, WORK_HIGH, FREQUENCY_LOWS, NEXT_FREQUENCY_LOWS}
+use Rattle.player_parts.specs.declared.labels.TheConstants.{FREQUENCY_HIGHS}
 use Rattle.player_parts.specs.declared.labels.TheConstants.{NEXT_FREQUENCY_HIGHS, SPEED_LEFTS, SPEED_RIGHTS}
 use Rattle.player_parts.specs.declared.parts.TheConstants.{SKIP_EFFECTS_BIT}
 use Rattle.player_parts.specs.Codes.{own_byte, shared_byte, load_number, load_own, load_shared, load_entry, load_y}

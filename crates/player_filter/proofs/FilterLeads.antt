@@ -1,5 +1,6 @@
 -- Where the block of the filter leads: to the filter step done, and the registers 21 to 24.
-use Rattle.std.proofs.Common.{◌≡◌, ◌≢◌, ℕ, ◌+◌, ◌%◌, Bool, true, false, nat_eq, bit_or, refl, sym, ap, ◌∙◌}
+use Rattle.std.proofs.Common.{◌≡◌, ◌≢◌, ℕ, ◌+◌, ◌%◌, Bool, true, false, nat_eq, bit_or, refl, sym}
+use Rattle.std.proofs.Common.{ap, ◌∙◌}
 use Rattle.std.proofs.Common.{arith}
 use Rattle.std.proofs.lemmas.Bool.{eqb-false, eq-eqb, not-true, not-false, true≢false}
 use Rattle.code_runs.specs.Runs.{put}

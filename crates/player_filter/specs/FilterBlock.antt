@@ -4,7 +4,8 @@ use Rattle.std.specs.Prelude.{[], ◌∷◌}
 use Rattle.song_model.specs.declared.tables.TableName.TheVariants.{Filter}
 use Rattle.player_parts.specs.Words.{Var, Const, Entry, And, Or, Add, Zero, Minus, Is, Not}
 use Rattle.blocks.specs.Trees.{Tree, ChainTree, NoneTree, ThenTree, IfTree, WhenTree}
-use Rattle.player_parts.specs.declared.labels.TheConstants.{FILTER_POINTER, FILTER_TIME, FILTER_TYPE, FILTER_CONTROL, CUTOFF, VOLUME}
+use Rattle.player_parts.specs.declared.labels.TheConstants.{FILTER_POINTER, FILTER_TIME, FILTER_TYPE, FILTER_CONTROL}
+use Rattle.player_parts.specs.declared.labels.TheConstants.{CUTOFF, VOLUME}
 use Rattle.player_parts.specs.declared.labels.TheConstants.{FILTER_LEFTS, NEXT_FILTER_LEFTS, FILTER_RIGHTS, NEXT_FILTER_RIGHTS}
 use Rattle.player_parts.specs.Codes.{shared_byte, load_number, load_shared, load_entry, store_shared, index_shared}
 use Rattle.player_parts.specs.Codes.{next_y, less_shared, more_shared, store_register}
@@ -21,7 +22,8 @@ pair_tree =
 abbrev pub set_tree : Tree
 set_tree =
     ThenTree
-    (ChainTree (And (Const 0x70) ∷ store_shared FILTER_TYPE ∷ load_entry FILTER_RIGHTS ∷ store_shared FILTER_CONTROL ∷ []))
+    (ChainTree (And (Const 0x70) ∷ store_shared FILTER_TYPE ∷ load_entry FILTER_RIGHTS
+    ∷ store_shared FILTER_CONTROL ∷ []))
     (ThenTree pair_tree (ThenTree (ChainTree (load_number 0 ∷ [])) NoneTree))
 
 -- A is the left side, below $80: 0 sets the cutoff, and A is 0 then; another is a slide's time

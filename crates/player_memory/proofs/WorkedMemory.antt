@@ -3,7 +3,8 @@ use Rattle.std.proofs.Common.{◌≡◌, ◌⊎◌, false, ℕ, ◌+◌, ◌<◌
 use Rattle.std.proofs.lemmas.Bool.{eqb-true, agree_below_at, both_ways}
 use Rattle.player_memory.specs.declared.labels.TheConstants.{VARIABLES}
 use Rattle.player_memory.specs.Labels.{is_own, is_shared}
-use Rattle.player_memory.specs.WorkedMemory.{times, own_rows, shared_rows, is_of, counted, VariablesHaveRows, VoicesAreWorked, at_1000, RoomsAreWorked}
+use Rattle.player_memory.specs.WorkedMemory.{times, own_rows, shared_rows, is_of, counted, VariablesHaveRows}
+use Rattle.player_memory.specs.WorkedMemory.{VoicesAreWorked, at_1000, RoomsAreWorked}
 use Rattle.player_memory.specs.Rooms.{IsRoom, MayUse}
 
 pub variables_have_rows : VariablesHaveRows

@@ -1,6 +1,9 @@
 -- Memory that holds a voice that is playing, and lists in it, worked.
-use Rattle.std.proofs.Common.{◌≡◌, ◌≢◌, ◌⊎◌, ℕ, zero, suc, ◌+◌, ◌*◌, ◌%◌, ◌<◌, ◌≤◌, Bool, true, false, not, nat_eq, nat_le, nat_lt, refl, subst, sym, ap, inl, inr, arith}
-use Rattle.std.proofs.lemmas.Bool.{eqb-false, ltb-true, le-leb, lt-ltb, not-true, and_parts, agree_below, agree_below_at, both_ways}
+use Rattle.std.proofs.Common.{◌≡◌, ◌≢◌, ◌⊎◌, ℕ, zero, suc, ◌+◌, ◌*◌, ◌%◌, ◌<◌}
+use Rattle.std.proofs.Common.{◌≤◌, Bool, true, false, not, nat_eq, nat_le, nat_lt, refl, subst, sym, ap, inl, inr}
+use Rattle.std.proofs.Common.{arith}
+use Rattle.std.proofs.lemmas.Bool.{eqb-false, ltb-true, le-leb, lt-ltb, not-true, and_parts, agree_below}
+use Rattle.std.proofs.lemmas.Bool.{agree_below_at, both_ways}
 use Rattle.code_runs.specs.Runs.{put}
 use Rattle.code_runs.proofs.Laws.{put_other}
 use Rattle.play_model.specs.TickStep.{tempo_of}

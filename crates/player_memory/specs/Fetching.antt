@@ -1,6 +1,7 @@
 -- What the bytes of a voice say of where it is in its song: in its orderlist, and in the packed pattern that it plays;
 -- and when orderlists and packed patterns stand in memory. This is the project's own player.
-use Rattle.std.specs.Prelude.{◌≡◌, ◌≢◌, ◌↔◌, ℕ, ◌+◌, ◌-◌, ◌/◌, ◌%◌, ◌<◌, ◌≤◌, ℤ, pos, unsigned_abs, ◌==◌, if◌then◌else◌}
+use Rattle.std.specs.Prelude.{◌≡◌, ◌≢◌, ◌↔◌, ℕ, ◌+◌, ◌-◌, ◌/◌, ◌%◌, ◌<◌}
+use Rattle.std.specs.Prelude.{◌≤◌, ℤ, pos, unsigned_abs, ◌==◌, if◌then◌else◌}
 use Rattle.std.specs.Prelude.{true, List, [], ◌∷◌, ◌++◌, length, drop, replicate, All, slice_index}
 use Rattle.std.specs.Int.{int_rem_euclid}
 use Rattle.cpu6502.specs.declared.memory.TheConstants.{MEMORY_SIZE}

@@ -1,5 +1,6 @@
 -- What the bytes of the player's memory say of a voice that is playing, and what a block of its code leaves.
-use Rattle.std.specs.Prelude.{◌≡◌, ◌≢◌, ℕ, ◌+◌, ◌*◌, ◌%◌, ◌<◌, ◌≤◌, true, false, List, [], ◌∷◌, slice_index}
+use Rattle.std.specs.Prelude.{◌≡◌, ◌≢◌, ℕ, ◌+◌, ◌*◌, ◌%◌, ◌<◌, ◌≤◌, true, false}
+use Rattle.std.specs.Prelude.{List, [], ◌∷◌, slice_index}
 use Rattle.cpu6502.specs.declared.memory.TheConstants.{MEMORY_SIZE}
 use Rattle.song_model.specs.declared.tables.TableRow.{TableRow}
 use Rattle.play_model.specs.State.{Voice, Playing, Common}

@@ -1,11 +1,14 @@
 -- The variables one by one, a voice in its bytes, and a room in memory, worked by hand; and what is none.
-use Rattle.std.specs.Prelude.{◌≡◌, ℕ, ◌+◌, ◌-◌, ◌*◌, ◌<◌, ◌&&◌, ◌||◌, Bool, true, false, nat_eq, nat_le, nat_lt, if◌then◌else◌, List, [], ◌∷◌, ◌++◌}
+use Rattle.std.specs.Prelude.{◌≡◌, ℕ, ◌+◌, ◌-◌, ◌*◌, ◌<◌, ◌&&◌, ◌||◌, Bool, true, false}
+use Rattle.std.specs.Prelude.{nat_eq, nat_le, nat_lt, if◌then◌else◌, List, [], ◌∷◌, ◌++◌}
 use Rattle.code_runs.specs.Runs.{put}
 use Rattle.play_model.specs.State.{Voice, start_voice}
 use Rattle.scopes.specs.Desk.{Layout}
 use Rattle.player_memory.specs.declared.conditions.TheConstants.{NOTE_DEPENDENT}
-use Rattle.player_memory.specs.declared.labels.TheConstants.{VARIABLES, TICK, INSTRUMENT, GATE, VIB_DELAY, TEMPO, FREQ_LOW, FREQ_HIGH}
-use Rattle.player_memory.specs.declared.labels.TheConstants.{NEW_COMMAND, NEW_PARAM, PULSE_LOW, PULSE_HIGH, LENT, KEPT_COMMAND, KEPT_PARAM}
+use Rattle.player_memory.specs.declared.labels.TheConstants.{VARIABLES, TICK, INSTRUMENT, GATE, VIB_DELAY, TEMPO}
+use Rattle.player_memory.specs.declared.labels.TheConstants.{FREQ_LOW, FREQ_HIGH}
+use Rattle.player_memory.specs.declared.labels.TheConstants.{NEW_COMMAND, NEW_PARAM, PULSE_LOW, PULSE_HIGH, LENT}
+use Rattle.player_memory.specs.declared.labels.TheConstants.{KEPT_COMMAND, KEPT_PARAM}
 use Rattle.player_memory.specs.declared.labels.TheConstants.{SLIDES_LOW, SLIDES_HIGH}
 use Rattle.player_memory.specs.declared.variables.TheConstants.{VOICE_BYTES, COMMON_BYTES, SONG_BYTES}
 use Rattle.player_memory.specs.Labels.{is_own, is_shared}

@@ -2,7 +2,8 @@
 
 -- the desk as the code of a voice sees it, and where a tree leads from it
 pub use Rattle.player_parts.proofs.VoiceDesks.{VoiceDesk, Reader, StepsLead, TestLeads, EitherLeads, TurnsLead, Leads}
-pub use Rattle.player_parts.proofs.VoiceDesks.{pointed, with_cell, with_tempo, loaded, indexed, summed, counted, compared, counter_down}
+pub use Rattle.player_parts.proofs.VoiceDesks.{pointed, with_cell, with_tempo, loaded, indexed, summed, counted}
+pub use Rattle.player_parts.proofs.VoiceDesks.{compared, counter_down}
 -- what leads somewhere leads to all that follows
 pub use Rattle.player_parts.proofs.Following.{steps_on, leads_on}
 -- and it does so in memory

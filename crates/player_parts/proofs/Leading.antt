@@ -1,5 +1,6 @@
 -- What leads to a desk of which something holds does so in memory, and reads by Y where it may.
-use Rattle.std.proofs.Common.{◌≡◌, ◌≢◌, ◌||◌, ℕ, zero, suc, ◌+◌, ◌-◌, ◌*◌, ◌/◌, ◌%◌, ◌<◌, ◌⊎◌, Bool, true, false, not, List}
+use Rattle.std.proofs.Common.{◌≡◌, ◌≢◌, ◌||◌, ℕ, zero, suc, ◌+◌, ◌-◌, ◌*◌, ◌/◌}
+use Rattle.std.proofs.Common.{◌%◌, ◌<◌, ◌⊎◌, Bool, true, false, not, List}
 use Rattle.std.proofs.Common.{[], ◌∷◌, nat_eq, nat_le, nat_lt, bit_and, bit_or, bit_xor, inl, inr, refl, sym, ap, ◌∙◌}
 use Rattle.std.proofs.Common.{if◌then◌else◌, subst, arith}
 use Rattle.std.proofs.lemmas.Bool.{leb-true, ltb-true, eqb-true, eqb-false, true≢false, and_parts, or_cases}
@@ -27,7 +28,8 @@ use Rattle.player_parts.specs.Labels.{TEMPO, VARIABLES, is_own, is_shared, is_te
 use Rattle.player_parts.specs.PlayerLayouts.{IsVariablePlace}
 use Rattle.player_parts.proofs.VoiceDesks.{VoiceDesk, Reader, cell_byte, with_cell, showing, loaded}
 use Rattle.player_parts.proofs.VoiceDesks.{indexed, summed, counted, halved, fits, Fits, OperandLeads, EntryLeads}
-use Rattle.player_parts.proofs.VoiceDesks.{SummandLeads, SourceLeads, with_tempo, VarLeads, PlaceLeads, CountedLeads, StepLeads, StepsLead}
+use Rattle.player_parts.proofs.VoiceDesks.{SummandLeads, SourceLeads, with_tempo, VarLeads, PlaceLeads, CountedLeads}
+use Rattle.player_parts.proofs.VoiceDesks.{StepLeads, StepsLead}
 use Rattle.player_parts.proofs.VoiceDesks.{compared, CompareLeads, ConditionLeads, holds, is_met, TestLeads, SetLeads}
 use Rattle.player_parts.proofs.VoiceDesks.{counter_down, EitherLeads, TurnsLead, Leads}
 use Rattle.player_parts.proofs.Spots.{IsRoom, IsElsewhere, Spot, Own, Shared, LowSpot, HighSpot, Sid, Tempo, Others, Elsewhere}

@@ -1,7 +1,9 @@
 -- Where the blocks lead that several blocks have in common.
-use Rattle.std.proofs.Common.{◌≡◌, ◌≢◌, ℕ, ◌+◌, ◌-◌, ◌/◌, ◌%◌, ◌<◌, ◌≤◌, Bool, true, false, nat_eq, nat_le, nat_lt}
+use Rattle.std.proofs.Common.{◌≡◌, ◌≢◌, ℕ, ◌+◌, ◌-◌, ◌/◌, ◌%◌, ◌<◌, ◌≤◌, Bool}
+use Rattle.std.proofs.Common.{true, false, nat_eq, nat_le, nat_lt}
 use Rattle.std.proofs.Common.{bit_and, [], ◌∷◌, refl, sym, ap, ◌∙◌, subst, arith}
-use Rattle.std.proofs.lemmas.Bool.{agree_below_at, true≢false, eqb-true, eqb-false, ne_eqb, leb-true, leb-false, le-ltb, not-true, not-false}
+use Rattle.std.proofs.lemmas.Bool.{agree_below_at, true≢false, eqb-true, eqb-false, ne_eqb, leb-true, leb-false}
+use Rattle.std.proofs.lemmas.Bool.{le-ltb, not-true, not-false}
 use Rattle.code_runs.specs.Runs.{put}
 use Rattle.song_model.specs.declared.tables.TableName.{TableName}
 use Rattle.song_model.specs.declared.tables.TableName.TheVariants.{Wave, Pulse, Filter, Speed}

@@ -1,7 +1,8 @@
 -- The desk as the code of a voice sees it: the voice's own bytes and those that no voice owns, each by its label, the
 -- pointer, the SID registers by their numbers, A, Y and the flags. What steps do to it is computed where labels are
 -- numerals. The tempos of the other voices are among the shared bytes.
-use Rattle.std.specs.Prelude.{◌≡◌, ℕ, zero, suc, ◌+◌, ◌-◌, ◌*◌, ◌/◌, ◌%◌, ◌<◌, Bool, true, false, not, if◌then◌else◌}
+use Rattle.std.specs.Prelude.{◌≡◌, ℕ, zero, suc, ◌+◌, ◌-◌, ◌*◌, ◌/◌, ◌%◌, ◌<◌, Bool}
+use Rattle.std.specs.Prelude.{true, false, not, if◌then◌else◌}
 use Rattle.std.specs.Prelude.{List, [], ◌∷◌, nat_eq, nat_le, nat_lt, bit_and, bit_or, bit_xor}
 use Rattle.cpu6502.specs.declared.memory.TheConstants.{MEMORY_SIZE}
 use Rattle.cpu6502.specs.Registers.{one_if}

@@ -1,7 +1,8 @@
 -- Steps of player code in short: loads and stores of bytes by their labels.
 use Rattle.std.specs.Prelude.{ℕ}
 use Rattle.player_parts.specs.Words.{Var, VoiceVar, Operand, Const, HeldOperand, Plain, Entry, Direct, Byte, FromY, Half}
-use Rattle.player_parts.specs.Words.{HeldPlace, Register, VoiceRegister, Pointer, IntoY, HeldCounted, CountedY, Step, Load, Store, Index, Inc, Dec}
+use Rattle.player_parts.specs.Words.{HeldPlace, Register, VoiceRegister, Pointer, IntoY, HeldCounted, CountedY, Step}
+use Rattle.player_parts.specs.Words.{Load, Store, Index, Inc, Dec}
 
 -- a byte of the current voice, and one that no voice owns, as operands
 abbrev pub own_byte : ℕ → Operand

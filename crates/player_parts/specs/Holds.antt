@@ -1,6 +1,7 @@
 -- When a memory holds a state of the playroutine: which field stands under which of the player's labels. This is the
 -- project's own player.
-use Rattle.std.specs.Prelude.{◌≡◌, ◌≢◌, ◌↔◌, ◌≤◌, ℕ, ◌+◌, ◌*◌, ◌/◌, ◌%◌, ℤ, pos, unsigned_abs, ◌==◌, if◌then◌else◌, List, ◌∷◌, drop}
+use Rattle.std.specs.Prelude.{◌≡◌, ◌≢◌, ◌↔◌, ◌≤◌, ℕ, ◌+◌, ◌*◌, ◌/◌, ◌%◌, ℤ}
+use Rattle.std.specs.Prelude.{pos, unsigned_abs, ◌==◌, if◌then◌else◌, List, ◌∷◌, drop}
 use Rattle.std.specs.Prelude.{All, slice_index}
 use Rattle.std.specs.Int.{int_rem_euclid}
 use Rattle.song_model.specs.declared.rows.Row.{Row}

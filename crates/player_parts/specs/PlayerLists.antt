@@ -1,6 +1,7 @@
 -- The lists that stand in the player's memory, from this project's own packed form: what each of them has, and where it
 -- stands.
-use Rattle.std.specs.Prelude.{◌≡◌, ℕ, ◌+◌, ◌*◌, ◌/◌, ◌%◌, ◌<◌, ◌==◌, if◌then◌else◌, List, [], length, slice_index}
+use Rattle.std.specs.Prelude.{◌≡◌, ℕ, ◌+◌, ◌*◌, ◌/◌, ◌%◌, ◌<◌, ◌==◌}
+use Rattle.std.specs.Prelude.{if◌then◌else◌, List, [], length, slice_index}
 use Rattle.std.specs.Prelude.{slice_index_or}
 use Rattle.song_model.specs.declared.instruments.Instrument.{Instrument}
 use Rattle.song_model.specs.declared.tables.TableName.{TableName}

@@ -1,5 +1,6 @@
 -- A frame comes to the part of the pulse step that does a program.
-use Rattle.std.proofs.Common.{◌≡◌, ◌≢◌, ℕ, ◌&&◌, ◌||◌, Bool, true, false, nat_eq, if◌then◌else◌, refl, sym, ◌∙◌}
+use Rattle.std.proofs.Common.{◌≡◌, ◌≢◌, ℕ, ◌&&◌, ◌||◌, Bool, true, false, nat_eq}
+use Rattle.std.proofs.Common.{if◌then◌else◌, refl, sym, ◌∙◌}
 use Rattle.std.proofs.lemmas.Bool.{false≢true}
 use Rattle.player_parts.specs.declared.labels.TheConstants.{PULSE_POINTER}
 use Rattle.player_parts.specs.Holds.{own_bytes}

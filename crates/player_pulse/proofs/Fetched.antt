@@ -1,5 +1,6 @@
 -- The code of the pulse step, with the option that leaves the step out where the row is fetched.
-use Rattle.std.proofs.Common.{◌≡◌, ◌≢◌, ◌<◌, ◌&&◌, Bool, true, false, nat_eq, if◌then◌else◌, inl, inr, refl, sym, ap, ◌∙◌, arith}
+use Rattle.std.proofs.Common.{◌≡◌, ◌≢◌, ◌<◌, ◌&&◌, Bool, true, false, nat_eq, if◌then◌else◌}
+use Rattle.std.proofs.Common.{inl, inr, refl, sym, ap, ◌∙◌, arith}
 use Rattle.std.proofs.lemmas.Bool.{not-true, eqb-true, eqb-false, both_ways}
 use Rattle.std.proofs.lemmas.Bool.Decides.{eqb_tells}
 use Rattle.code_runs.specs.Runs.{put}
@@ -13,7 +14,8 @@ use Rattle.blocks.specs.Trees.{Tree, NoneTree, ThenTree, WhenTree}
 use Rattle.player_parts.specs.declared.labels.TheConstants.{PULSE_POINTER, PULSE_TIME, TICK, GATE_TIMER, COUNTER}
 use Rattle.player_parts.specs.Holds.{HandedOn}
 use Rattle.player_parts.specs.PlayerLayouts.{KeepsOptions}
-use Rattle.player_parts.proofs.Laws.{VoiceDesk, Reader, Leads, leads_on, Done, Rest, voice_in, playing_in, handed_in, HasLowBytes, done_in}
+use Rattle.player_parts.proofs.Laws.{VoiceDesk, Reader, Leads, leads_on, Done, Rest, voice_in, playing_in, handed_in}
+use Rattle.player_parts.proofs.Laws.{HasLowBytes, done_in}
 use Rattle.player_parts.proofs.Laws.{compared, loaded, indexed}
 use Rattle.player_pulse.specs.PulseBlock.{show_tree, unless_fetched_tree, pulse_program_tree}
 use Rattle.player_pulse.proofs.PulseDesks.{PulseGround}

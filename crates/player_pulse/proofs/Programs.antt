@@ -16,7 +16,8 @@ use Rattle.player_parts.specs.declared.labels.TheConstants.{PULSE_RIGHTS}
 use Rattle.player_parts.specs.Codes.{load_own}
 use Rattle.player_parts.specs.SharedBlocks.{next_tree}
 use Rattle.player_parts.specs.Holds.{HandedOn, AreHalves}
-use Rattle.player_parts.proofs.Laws.{VoiceDesk, Reader, Leads, leads_on, Done, Reads, RowsAt, NextAt, side_place, next_leads, loaded, indexed}
+use Rattle.player_parts.proofs.Laws.{VoiceDesk, Reader, Leads, leads_on, Done, Reads, RowsAt, NextAt, side_place}
+use Rattle.player_parts.proofs.Laws.{next_leads, loaded, indexed}
 use Rattle.player_pulse.specs.PulseBlock.{begin_tree, slide_tree, pulse_program_tree}
 use Rattle.player_pulse.proofs.PulseDesks.{PulseGround}
 use Rattle.player_parts.proofs.Laws.{own_done, done_over, done_as}

@@ -1,5 +1,6 @@
 -- The cases of the pulse step, each by what the row's sides and the time are.
-use Rattle.std.proofs.Common.{◌≡◌, ◌≢◌, ℕ, ◌<◌, ◌≤◌, ◌&&◌, true, false, nat_eq, nat_le, if◌then◌else◌}
+use Rattle.std.proofs.Common.{◌≡◌, ◌≢◌, ℕ, ◌<◌, ◌≤◌, ◌&&◌, true, false, nat_eq, nat_le}
+use Rattle.std.proofs.Common.{if◌then◌else◌}
 use Rattle.std.proofs.Common.{refl, eq-eqb}
 use Rattle.std.proofs.lemmas.Bool.{le-leb, lt-leb, ne_eqb, cond_both}
 use Rattle.song_model.specs.declared.tables.TableRow.{TableRow}

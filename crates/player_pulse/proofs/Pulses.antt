@@ -1,6 +1,7 @@
 -- The whole code of the pulse step, with the options that leave the step out where the row is fetched and between two
 -- patterns.
-use Rattle.std.proofs.Common.{◌≡◌, ◌≢◌, ℕ, ◌+◌, ◌-◌, ◌%◌, ◌<◌, ◌≤◌, ◌&&◌, Bool, true, false, nat_eq, nat_le}
+use Rattle.std.proofs.Common.{◌≡◌, ◌≢◌, ℕ, ◌+◌, ◌-◌, ◌%◌, ◌<◌, ◌≤◌, ◌&&◌, Bool}
+use Rattle.std.proofs.Common.{true, false, nat_eq, nat_le}
 use Rattle.std.proofs.Common.{inl, inr, refl, sym, ap, ◌∙◌, subst, arith}
 use Rattle.std.proofs.lemmas.Bool.{not-true, not-false, eqb-true, eqb-false, eq-eqb, ne_eqb, both_ways}
 use Rattle.std.proofs.lemmas.Bool.Decides.{eqb_tells}
@@ -14,7 +15,8 @@ use Rattle.blocks.specs.Trees.{Tree, NoneTree, ThenTree, WhenTree}
 use Rattle.player_parts.specs.declared.labels.TheConstants.{ENTRY, OFFSET, PATTERN_LOW, PATTERN_HIGH}
 use Rattle.player_parts.specs.declared.labels.TheConstants.{PULSE_POINTER, PULSE_TIME, TICK, GATE_TIMER, STARTED}
 use Rattle.player_parts.specs.PlayerLayouts.{KeepsOptions}
-use Rattle.player_parts.proofs.Laws.{VoiceDesk, Reader, Leads, leads_on, Done, Rest, voice_in, playing_in, handed_in, HasLowBytes, done_in}
+use Rattle.player_parts.proofs.Laws.{VoiceDesk, Reader, Leads, leads_on, Done, Rest, voice_in, playing_in, handed_in}
+use Rattle.player_parts.proofs.Laws.{HasLowBytes, done_in}
 use Rattle.player_parts.proofs.Laws.{loaded, done_over, done_as, done_on, tempos_stay}
 use Rattle.player_pulse.specs.PulseBlock.{first_tree, keep_first_tree, show_first_tree, unless_fetched_tree, pulse_tree}
 use Rattle.player_pulse.proofs.PulseDesks.{PulseGround, PulseKeeps, FirstGround, first_place}

@@ -7,7 +7,8 @@ use Rattle.player_parts.specs.declared.parts.TheConstants.{SKIP_PULSE_BIT, SKIP_
 use Rattle.player_parts.specs.declared.labels.TheConstants.{ENTRY, OFFSET, PATTERN_LOW, PATTERN_HIGH}
 use Rattle.player_parts.specs.declared.labels.TheConstants.{TICK, GATE_TIMER, STARTED, PULSE_POINTER, PULSE_TIME, PULSE_LOW}
 use Rattle.player_parts.specs.declared.labels.TheConstants.{PULSE_HIGH, COUNTER, PULSE_LEFTS, PULSE_RIGHTS}
-use Rattle.player_parts.specs.Codes.{own_byte, load_number, load_own, load_shared, load_entry, load_byte, store_own, store_shared, store_pointer}
+use Rattle.player_parts.specs.Codes.{own_byte, load_number, load_own, load_shared, load_entry, load_byte, store_own}
+use Rattle.player_parts.specs.Codes.{store_shared, store_pointer}
 use Rattle.player_parts.specs.Codes.{index_own, less_own, more_own, less_y}
 use Rattle.player_parts.specs.SharedBlocks.{next_tree}
 

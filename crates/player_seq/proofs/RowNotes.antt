@@ -1,5 +1,6 @@
 -- A note is taken with the transpose added, and the gate goes off before it.
-use Rattle.std.proofs.Common.{◌≡◌, ℕ, ℤ, pos, negsuc, unsigned_abs, ◌+◌, ◌-◌, ◌*◌, ◌/◌, ◌%◌, ◌<◌, ◌≤◌, ◌+ℤ◌, true}
+use Rattle.std.proofs.Common.{◌≡◌, ℕ, ℤ, pos, negsuc, unsigned_abs, ◌+◌, ◌-◌, ◌*◌, ◌/◌}
+use Rattle.std.proofs.Common.{◌%◌, ◌<◌, ◌≤◌, ◌+ℤ◌, true}
 use Rattle.std.proofs.Common.{false, Bool, not, nat_eq, nat_le, bit_and, List, [], ◌∷◌, refl, sym, ap, ◌∙◌, arith}
 use Rattle.std.proofs.lemmas.Bool.{agree_below_at, not-true, not-false}
 use Rattle.std.proofs.lemmas.Int.{ints, int_rem_euclid_is}

@@ -1,5 +1,6 @@
 -- Rests, keyoff and keyon are taken, and the next entry stands.
-use Rattle.std.proofs.Common.{◌≡◌, ◌≢◌, ℕ, zero, suc, ◌+◌, ◌%◌, ◌<◌, ◌≤◌, true, nat_eq, bit_or, inl, inr, List, []}
+use Rattle.std.proofs.Common.{◌≡◌, ◌≢◌, ℕ, zero, suc, ◌+◌, ◌%◌, ◌<◌, ◌≤◌, true, nat_eq}
+use Rattle.std.proofs.Common.{bit_or, inl, inr, List, []}
 use Rattle.std.proofs.Common.{◌∷◌, drop, refl, sym, ap, ◌∙◌, subst, arith}
 use Rattle.std.proofs.lemmas.Bool.{leb-true, leb-false, not-true, not-false, eqb-true, eqb-false, cases_eq}
 use Rattle.cpu6502.specs.Registers.{one_if}

@@ -1,6 +1,8 @@
 -- The row of a voice is fetched from its packed pattern.
-use Rattle.std.proofs.Common.{◌≡◌, ◌≢◌, ℕ, ℤ, ◌+◌, ◌%◌, ◌<◌, ◌≤◌, ◌||◌, Bool, true, false, not, nat_eq, nat_le}
-use Rattle.std.proofs.Common.{bit_and, if◌then◌else◌, List, [], ◌∷◌, ◌++◌, length, drop, refl, sym, ap, ◌∙◌, subst}
+use Rattle.std.proofs.Common.{◌≡◌, ◌≢◌, ℕ, ℤ, ◌+◌, ◌%◌, ◌<◌, ◌≤◌, ◌||◌, Bool}
+use Rattle.std.proofs.Common.{true, false, not, nat_eq, nat_le}
+use Rattle.std.proofs.Common.{bit_and, if◌then◌else◌, List, [], ◌∷◌, ◌++◌, length, drop, refl, sym, ap}
+use Rattle.std.proofs.Common.{◌∙◌, subst}
 use Rattle.std.proofs.Common.{arith, slice_index}
 use Rattle.std.proofs.lemmas.Bool.{leb-true, leb-false, not-true, not-false, eq-eqb, ne_eqb, le-leb, lt-leb, and_right}
 use Rattle.std.proofs.lemmas.Bool.{and_from}

@@ -2,7 +2,8 @@
 use Rattle.std.proofs.Common.{ℕ, ◌+◌, ◌-◌, ◌*◌, refl, arith}
 use Rattle.play_model.specs.Frame.{subtune_at}
 use Rattle.packed_form.specs.Unpacked.{unpacked_song}
-use Rattle.player_parts.specs.declared.labels.TheConstants.{FILTER_POINTER, FILTER_TIME, FILTER_TYPE, FILTER_CONTROL, CUTOFF, STARTED, LENT}
+use Rattle.player_parts.specs.declared.labels.TheConstants.{FILTER_POINTER, FILTER_TIME, FILTER_TYPE, FILTER_CONTROL}
+use Rattle.player_parts.specs.declared.labels.TheConstants.{CUTOFF, STARTED, LENT}
 use Rattle.player_parts.specs.declared.labels.TheConstants.{VOLUME, FUNK_ONE, FUNK_TWO, SUBTUNE, ORDERS}
 use Rattle.player_seq.specs.StartVariables.{start_variable, StartVariablesHold}
 use Rattle.player_seq.proofs.StartStates.{voice_stands}

@@ -1,5 +1,6 @@
 -- The whole walk: from the place of a play to its pattern, and the place behind it.
-use Rattle.std.proofs.Common.{◌≡◌, ℕ, ℤ, zero, suc, ◌+◌, ◌*◌, ◌/◌, ◌%◌, ◌<◌, ◌≤◌, ◌||◌, Bool, false}
+use Rattle.std.proofs.Common.{◌≡◌, ℕ, ℤ, zero, suc, ◌+◌, ◌*◌, ◌/◌, ◌%◌, ◌<◌, ◌≤◌}
+use Rattle.std.proofs.Common.{◌||◌, Bool, false}
 use Rattle.std.proofs.Common.{nat_eq, List, length, get_or, refl, sym, ap, ◌∙◌, arith}
 use Rattle.std.proofs.lemmas.Bool.{not-true, not-false, eqb-true, eqb-false}
 use Rattle.code_runs.specs.Runs.{put}
@@ -9,8 +10,10 @@ use Rattle.song_model.specs.declared.orders.Step.{Step}
 use Rattle.blocks.specs.Trees.{ThenTree, NoneTree, WhenTree}
 use Rattle.blocks.specs.Steps.{one_more, one_less}
 use Rattle.player_parts.specs.Words.{Var, VoiceVar, CountedY}
-use Rattle.player_parts.specs.declared.labels.TheConstants.{ENTRY, OFFSET, PATTERN_LOW, PATTERN_HIGH, ORDER_LOW, ORDER_HIGH, ORDER_PLACE}
-use Rattle.player_parts.specs.declared.labels.TheConstants.{TRANSPOSE, REPEAT, COUNTER, WORK_LOW, PATTERN_LOWS, PATTERN_HIGHS, PATTERNS}
+use Rattle.player_parts.specs.declared.labels.TheConstants.{ENTRY, OFFSET, PATTERN_LOW, PATTERN_HIGH, ORDER_LOW}
+use Rattle.player_parts.specs.declared.labels.TheConstants.{ORDER_HIGH, ORDER_PLACE}
+use Rattle.player_parts.specs.declared.labels.TheConstants.{TRANSPOSE, REPEAT, COUNTER, WORK_LOW, PATTERN_LOWS}
+use Rattle.player_parts.specs.declared.labels.TheConstants.{PATTERN_HIGHS, PATTERNS}
 use Rattle.player_parts.specs.Holds.{AreHalves, transpose_byte}
 use Rattle.player_parts.proofs.Laws.{VoiceDesk, Reader, Leads, leads_on, with_cell, loaded, indexed, counted}
 use Rattle.player_parts.proofs.Laws.{StandsAt, Reads, halves_add, by_entry}

@@ -4,9 +4,12 @@ use Rattle.std.specs.Prelude.{ℕ, [], ◌∷◌}
 use Rattle.player_parts.specs.Words.{Const, Plain, Low, High, And, Or, Add, AddOn, SubOn, Double}
 use Rattle.player_parts.specs.Words.{Zero, Minus, Carry, Equal, Less, Is, Not, CounterVar}
 use Rattle.blocks.specs.Trees.{Tree, ChainTree, NoneTree, ThenTree, IfTree, UntilTree, WhenTree}
-use Rattle.player_parts.specs.declared.labels.TheConstants.{ENTRY, OFFSET, PATTERN_LOW, PATTERN_HIGH, ORDER_LOW, ORDER_HIGH, ORDER_PLACE}
-use Rattle.player_parts.specs.declared.labels.TheConstants.{TRANSPOSE, REPEAT, TICK, GATE_TIMER, INSTRUMENT, NEW_NOTE, NEW_COMMAND, NEW_PARAM}
-use Rattle.player_parts.specs.declared.labels.TheConstants.{AD, SR, GATE, COUNTER, WORK_LOW, GATE_TIMERS, PATTERN_LOWS, PATTERN_HIGHS}
+use Rattle.player_parts.specs.declared.labels.TheConstants.{ENTRY, OFFSET, PATTERN_LOW, PATTERN_HIGH, ORDER_LOW}
+use Rattle.player_parts.specs.declared.labels.TheConstants.{ORDER_HIGH, ORDER_PLACE}
+use Rattle.player_parts.specs.declared.labels.TheConstants.{TRANSPOSE, REPEAT, TICK, GATE_TIMER, INSTRUMENT, NEW_NOTE}
+use Rattle.player_parts.specs.declared.labels.TheConstants.{NEW_COMMAND, NEW_PARAM}
+use Rattle.player_parts.specs.declared.labels.TheConstants.{AD, SR, GATE, COUNTER, WORK_LOW, GATE_TIMERS, PATTERN_LOWS}
+use Rattle.player_parts.specs.declared.labels.TheConstants.{PATTERN_HIGHS}
 use Rattle.player_parts.specs.Codes.{own_byte, load_number, load_own, load_shared, load_entry, load_byte, load_y}
 use Rattle.player_parts.specs.Codes.{store_own, store_shared, store_pointer, store_y, index_own, index_shared}
 use Rattle.player_parts.specs.Codes.{index_number, next_y, less_own}

@@ -4,7 +4,8 @@ use Rattle.std.specs.Prelude.{ℕ, ◌-◌, ◌*◌, ◌/◌, ◌%◌, [], ◌�
 use Rattle.player_parts.specs.Words.{Plain, Low, High, Store, Add, Timer, StartVar, StartRegister}
 use Rattle.blocks.specs.Trees.{Tree, ChainTree, NoneTree, ThenTree, EachVoiceTree, WhenTree, FillTree}
 use Rattle.play_model.specs.declared.options.Options.{Options}
-use Rattle.player_parts.specs.declared.labels.TheConstants.{ENTRY, ORDER_LOW, ORDER_HIGH, TICK, INSTRUMENT, GATE, TEMPO, CLEARED, VOLUME}
+use Rattle.player_parts.specs.declared.labels.TheConstants.{ENTRY, ORDER_LOW, ORDER_HIGH, TICK, INSTRUMENT, GATE, TEMPO}
+use Rattle.player_parts.specs.declared.labels.TheConstants.{CLEARED, VOLUME}
 use Rattle.player_parts.specs.declared.labels.TheConstants.{FUNK_ONE, FUNK_TWO, SUBTUNE, ORDER_LOWS, ORDER_HIGHS}
 use Rattle.play_model.specs.declared.options.System.{System}
 use Rattle.play_model.specs.Speeds.{timer_value}

@@ -1,13 +1,15 @@
 -- What the variables begin with: the bytes that stand under their labels in the start state of the first subtune. This is
 -- the project's own player.
-use Rattle.std.specs.Prelude.{◌≡◌, ℕ, ◌+◌, ◌-◌, ◌*◌, ◌/◌, ◌%◌, ◌<◌, ◌==◌, if◌then◌else◌, length}
+use Rattle.std.specs.Prelude.{◌≡◌, ℕ, ◌+◌, ◌-◌, ◌*◌, ◌/◌, ◌%◌, ◌<◌, ◌==◌}
+use Rattle.std.specs.Prelude.{if◌then◌else◌, length}
 use Rattle.song_model.specs.declared.songs.Song.{Song}
 use Rattle.play_model.specs.declared.options.Options.{Options}
 use Rattle.play_model.specs.State.{start_state}
 use Rattle.packed_form.specs.declared.packed_songs.PackedSong.{PackedSong}
 use Rattle.packed_form.specs.StandsFor.{StandsFor}
 use Rattle.blocks.specs.Desk.{Layout}
-use Rattle.player_parts.specs.declared.labels.TheConstants.{ORDER_LOW, ORDER_HIGH, TICK, INSTRUMENT, GATE, TEMPO, VOLUME, FUNK_ONE, FUNK_TWO}
+use Rattle.player_parts.specs.declared.labels.TheConstants.{ORDER_LOW, ORDER_HIGH, TICK, INSTRUMENT, GATE, TEMPO}
+use Rattle.player_parts.specs.declared.labels.TheConstants.{VOLUME, FUNK_ONE, FUNK_TWO}
 use Rattle.player_parts.specs.declared.labels.TheConstants.{VARIABLES, ORDERS}
 use Rattle.player_parts.specs.Labels.{is_shared}
 use Rattle.player_parts.specs.PlayerLists.{HasLists}

@@ -1,6 +1,7 @@
 -- What is so of the player's blocks: they have lines, rest on few registers, and name the player's labels alone; and
 -- how long and how heavy they are. This is the project's own player.
-use Rattle.std.specs.Prelude.{◌≡◌, ℕ, ◌<◌, ◌&&◌, ◌||◌, ◌==◌, Bool, true, false, List, length, nat_le, nat_lt}
+use Rattle.std.specs.Prelude.{◌≡◌, ℕ, ◌<◌, ◌&&◌, ◌||◌, ◌==◌, Bool, true, false, List, length}
+use Rattle.std.specs.Prelude.{nat_le, nat_lt}
 use Rattle.scopes.specs.declared.line.Line.{Line}
 use Rattle.scopes.specs.Trees.{tree_of}
 use Rattle.scope_lines.specs.Sizes.{size, most}

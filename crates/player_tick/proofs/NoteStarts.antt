@@ -1,5 +1,6 @@
 -- At a row the gateoff timer is taken, and the note that waits starts.
-use Rattle.std.proofs.Common.{◌≡◌, ℕ, ◌+◌, ◌-◌, ◌%◌, ◌<◌, ◌&&◌, Bool, true, false, not, nat_eq, nat_le, bit_and}
+use Rattle.std.proofs.Common.{◌≡◌, ℕ, ◌+◌, ◌-◌, ◌%◌, ◌<◌, ◌&&◌, Bool, true, false, not}
+use Rattle.std.proofs.Common.{nat_eq, nat_le, bit_and}
 use Rattle.std.proofs.Common.{refl, sym, ap, ◌∙◌, subst, arith}
 use Rattle.std.proofs.lemmas.Bool.{not-true, not-false, eqb-true}
 use Rattle.song_model.specs.declared.instruments.Instrument.{Instrument}

@@ -1,5 +1,6 @@
 -- A row's command is done: it runs from now on, or one of the parts does it once.
-use Rattle.std.proofs.Common.{◌≡◌, ◌≢◌, ℕ, zero, suc, ◌+◌, ◌%◌, ◌<◌, ◌≤◌, true, false, nat_eq, nat_le}
+use Rattle.std.proofs.Common.{◌≡◌, ◌≢◌, ℕ, zero, suc, ◌+◌, ◌%◌, ◌<◌, ◌≤◌, true, false}
+use Rattle.std.proofs.Common.{nat_eq, nat_le}
 use Rattle.std.proofs.Common.{inl, inr, refl, sym, ap, ◌∙◌, subst, arith}
 use Rattle.std.proofs.lemmas.Bool.{not-true, not-false, leb-true, leb-false, lt-leb, ne_eqb, cases_lt}
 use Rattle.song_model.specs.declared.instruments.Instrument.{Instrument}

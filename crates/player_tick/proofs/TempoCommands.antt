@@ -1,5 +1,6 @@
 -- Commands $E and $F of a row set tempos, for this voice or for all.
-use Rattle.std.proofs.Common.{◌≡◌, ◌≢◌, ℕ, ◌+◌, ◌-◌, ◌%◌, ◌<◌, ◌≤◌, ◌&&◌, Bool, true, false, nat_eq, nat_le, bit_and}
+use Rattle.std.proofs.Common.{◌≡◌, ◌≢◌, ℕ, ◌+◌, ◌-◌, ◌%◌, ◌<◌, ◌≤◌, ◌&&◌, Bool}
+use Rattle.std.proofs.Common.{true, false, nat_eq, nat_le, bit_and}
 use Rattle.std.proofs.Common.{if◌then◌else◌, [], ◌∷◌, inl, inr, refl, sym, ap, ◌∙◌, subst, arith}
 use Rattle.std.proofs.lemmas.Bool.{not-true, not-false, leb-true, leb-false, le-leb, lt-leb, eqb-false, cases_lt}
 use Rattle.code_runs.specs.Runs.{put}

@@ -1,6 +1,7 @@
 -- Each part of the tick step changes nothing where the voice's turn keeps clear of it: the test in it fails. The turns of
 -- a frame that doesn't use its feature do.
-use Rattle.std.proofs.Common.{◌≡◌, ◌≢◌, ℕ, ◌+◌, ◌-◌, ◌%◌, ◌<◌, ◌≤◌, ◌⊎◌, Bool, true, false, nat_eq, nat_le}
+use Rattle.std.proofs.Common.{◌≡◌, ◌≢◌, ℕ, ◌+◌, ◌-◌, ◌%◌, ◌<◌, ◌≤◌, ◌⊎◌, Bool}
+use Rattle.std.proofs.Common.{true, false, nat_eq, nat_le}
 use Rattle.std.proofs.Common.{refl}
 use Rattle.std.proofs.Common.{inl, inr, arith, ◌∙◌, if◌then◌else◌}
 use Rattle.std.proofs.lemmas.Bool.{lt-leb, le-leb, ne_eqb, cases_lt}
@@ -84,7 +85,8 @@ other_way : (z : Bool) (this other : Desk) (at : ℕ → ℕ) → z ≡ false �
 other_way z this other at e same = rw e same
 
 -- whether Y is the command
-asked_apart : (y command : ℕ) → y < 256 → command < 256 → y ≢ command → nat_eq ((y + (256 - command)) % 256) 0 ≡ false
+asked_apart : (y command : ℕ) → y < 256 → command < 256 → y ≢ command →
+    nat_eq ((y + (256 - command)) % 256) 0 ≡ false
 asked_apart y command few small other = shows_equal y command few small ∙ ne_eqb y command other
 
 asked_same : (y command : ℕ) → y < 256 → command < 256 → nat_eq y command ≡ true →

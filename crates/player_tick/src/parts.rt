@@ -1,7 +1,8 @@
 //! The parts of the tick step that do a row's command once.
 
 ghost use Rattle.blocks.specs.Trees.{Tree};
-ghost use Rattle.player_tick.specs.RowCommands.{ad_tree, sr_tree, wave_tree, wave_pointer_tree, pulse_pointer_tree, filter_pointer_tree};
+ghost use Rattle.player_tick.specs.RowCommands.{ad_tree, sr_tree, wave_tree, wave_pointer_tree, pulse_pointer_tree};
+ghost use Rattle.player_tick.specs.RowCommands.{filter_pointer_tree};
 ghost use Rattle.player_tick.specs.RowCommands.{filter_control_tree, cutoff_tree, volume_tree};
 ghost use Rattle.player_tick.specs.Parts.{NoRowCommand, ComesToCommand};
 ghost use Rattle.player_tick.specs.PartLaws.{ad_covers, sr_covers, wave_covers, wave_pointer_covers, pulse_pointer_covers};
@@ -10,7 +11,9 @@ ghost use Rattle.player_tick.specs.PartLaws.{ad_leaves, sr_leaves, wave_leaves, 
 ghost use Rattle.player_tick.specs.PartLaws.{pulse_pointer_leaves, filter_pointer_leaves, filter_control_leaves, cutoff_leaves};
 ghost use Rattle.player_tick.specs.PartLaws.{volume_leaves};
 ghost use Rattle.song_model.specs.declared.features.Feature.{Feature};
-ghost use Rattle.song_model.specs.declared.features.Feature.TheVariants.{SetAd, SetSr, SetWave, SetWavePointer, SetPulsePointer, SetFilterPointer, FilterControl};
+ghost use Rattle.song_model.specs.declared.features.Feature.TheVariants.{SetAd, SetSr, SetWave, SetWavePointer};
+ghost use Rattle.song_model.specs.declared.features.Feature.TheVariants.{SetPulsePointer, SetFilterPointer};
+ghost use Rattle.song_model.specs.declared.features.Feature.TheVariants.{FilterControl};
 ghost use Rattle.song_model.specs.declared.features.Feature.TheVariants.{Cutoff, Volume};
 
 use crate::commands::{

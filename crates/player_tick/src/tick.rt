@@ -3,7 +3,8 @@
 ghost use Rattle.std.specs.Prelude.{◌≡◌, IfOk};
 ghost use Rattle.blocks.specs.Trees.{tree_of};
 ghost use Rattle.player_tick.specs.TickBlock.{funk_turn_tree, reload_tree, between_tree, gate_timer_tree};
-ghost use Rattle.player_tick.specs.TickBlock.{note_taken_tree, vibrato_taken_tree, first_wave_tree, filter_begun_tree, pulse_begun_tree};
+ghost use Rattle.player_tick.specs.TickBlock.{note_taken_tree, vibrato_taken_tree, first_wave_tree, filter_begun_tree};
+ghost use Rattle.player_tick.specs.TickBlock.{pulse_begun_tree};
 ghost use Rattle.player_tick.specs.TickBlock.{wave_begun_tree, sound_tree, sound_or_slide_tree, note_tree};
 ghost use Rattle.player_tick.specs.TickBlock.{started_tree, row_tree, tick_tree};
 

@@ -1,5 +1,6 @@
 -- A slide of the wave table, which is lent to the effect step, and that comes back behind it.
-use Rattle.std.proofs.Common.{◌≡◌, ◌≢◌, ℕ, ◌+◌, ◌<◌, ◌≤◌, ◌&&◌, Bool, true, false, not, nat_eq, nat_le, inl, refl, sym, ap}
+use Rattle.std.proofs.Common.{◌≡◌, ◌≢◌, ℕ, ◌+◌, ◌<◌, ◌≤◌, ◌&&◌, Bool, true, false, not}
+use Rattle.std.proofs.Common.{nat_eq, nat_le, inl, refl, sym, ap}
 use Rattle.std.proofs.Common.{◌∙◌, ◌%◌, subst, if◌then◌else◌, arith}
 use Rattle.std.proofs.lemmas.Bool.{le-leb, eqb-false}
 use Rattle.song_model.specs.declared.songs.Song.{Song}

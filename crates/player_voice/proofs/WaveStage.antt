@@ -12,7 +12,8 @@ use Rattle.packed_form.specs.declared.packed_songs.PackedSong.{PackedSong}
 use Rattle.blocks.specs.Desk.{Layout}
 use Rattle.player_parts.specs.PlayerLists.{HasLists}
 use Rattle.player_parts.specs.Holds.{nothing_on}
-use Rattle.player_parts.proofs.Laws.{VoiceDesk, Reader, Leads, leads_on, reader, Done, done_low, done_on, rest_of, playing_in, handed_in}
+use Rattle.player_parts.proofs.Laws.{VoiceDesk, Reader, Leads, leads_on, reader, Done, done_low, done_on, rest_of}
+use Rattle.player_parts.proofs.Laws.{playing_in, handed_in}
 use Rattle.player_parts.proofs.Laws.{notes_at}
 use Rattle.player_wave.specs.WaveBlock.{wave_tree}
 use Rattle.player_wave.proofs.Laws.{WaveGround, WaveKeeps, lent_out, lent_handed, given_back, IsSlide, Waves, Plain, Lent}

@@ -1,5 +1,6 @@
 -- One of several commands: the body of one is done, and the others are passed.
-use Rattle.std.proofs.Common.{◌≡◌, ℕ, ◌<◌, ◌&&◌, Bool, true, not, nat_eq, nat_lt, List, [], ◌∷◌, ◌++◌, sym, ◌∙◌, arith}
+use Rattle.std.proofs.Common.{◌≡◌, ℕ, ◌<◌, ◌&&◌, Bool, true, not, nat_eq, nat_lt, List, [], ◌∷◌}
+use Rattle.std.proofs.Common.{◌++◌, sym, ◌∙◌, arith}
 use Rattle.std.proofs.lemmas.Bool.{and_parts, ltb-true, not-true, eqb-true, eqb-false}
 use Rattle.blocks.specs.Trees.{Tree, NoneTree, ThenTree}
 use Rattle.player_parts.proofs.Laws.{VoiceDesk, Reader, Leads, leads_on, compared}

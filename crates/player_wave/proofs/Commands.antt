@@ -14,7 +14,8 @@ use Rattle.player_parts.specs.Words.{Const, And, Less, Is}
 use Rattle.player_parts.specs.declared.labels.TheConstants.{COMMAND, PARAM, WORK_COMMAND, LENT, LENT_COMMAND, LENT_PARAM}
 use Rattle.player_parts.specs.declared.labels.TheConstants.{WAVE_LEFTS, WAVE_RIGHTS}
 use Rattle.player_parts.specs.Codes.{load_entry, store_shared}
-use Rattle.player_parts.proofs.Laws.{VoiceDesk, Reader, Leads, leads_on, Done, Reads, NextAt, side_place, handed_in, compared, loaded}
+use Rattle.player_parts.proofs.Laws.{VoiceDesk, Reader, Leads, leads_on, Done, Reads, NextAt, side_place, handed_in}
+use Rattle.player_parts.proofs.Laws.{compared, loaded}
 use Rattle.player_wave.specs.WaveBlock.{lend_tree, once_tree, command_tree, moved_tree}
 use Rattle.player_wave.proofs.WaveDesks.{lent_out, lent_handed}
 use Rattle.player_parts.proofs.Laws.{done_over, done_as, tempos_stay}

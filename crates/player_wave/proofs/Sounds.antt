@@ -1,5 +1,6 @@
 -- A row of the wave program that is no command: its delay or its waveform, and its note.
-use Rattle.std.proofs.Common.{◌≡◌, ◌≢◌, ℕ, ◌+◌, ◌-◌, ◌/◌, ◌%◌, ◌<◌, ◌≤◌, true, false, nat_eq, nat_le}
+use Rattle.std.proofs.Common.{◌≡◌, ◌≢◌, ℕ, ◌+◌, ◌-◌, ◌/◌, ◌%◌, ◌<◌, ◌≤◌, true}
+use Rattle.std.proofs.Common.{false, nat_eq, nat_le}
 use Rattle.std.proofs.Common.{bit_and, [], ◌∷◌, refl, sym, ap, ◌∙◌, subst, arith}
 use Rattle.std.proofs.lemmas.Bool.{agree_below_at, leb-true, leb-false, not-true, not-false, eqb-true, eqb-false, ne_eqb}
 use Rattle.cpu6502.specs.Registers.{one_if}
@@ -20,7 +21,8 @@ use Rattle.player_parts.specs.Codes.{next_y}
 use Rattle.player_parts.specs.Holds.{HandedOn, AreHalves}
 use Rattle.player_parts.specs.SharedBlocks.{note_tree}
 use Rattle.player_parts.proofs.Laws.{low_seven}
-use Rattle.player_parts.proofs.Laws.{VoiceDesk, Reader, Leads, leads_on, Done, Reads, NextAt, NotesAt, side_place, next_leads, note_leads}
+use Rattle.player_parts.proofs.Laws.{VoiceDesk, Reader, Leads, leads_on, Done, Reads, NextAt, NotesAt, side_place}
+use Rattle.player_parts.proofs.Laws.{next_leads, note_leads}
 use Rattle.player_parts.proofs.Laws.{compared, loaded, summed}
 use Rattle.player_wave.specs.WaveBlock.{moved_tree, delay_tree, waveform_tree, sounds_tree, right_tree, over_tree}
 use Rattle.player_wave.proofs.WaveDesks.{Stepped, stepped_as}

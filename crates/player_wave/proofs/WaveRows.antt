@@ -1,5 +1,6 @@
 -- The cases of the wave step, each by what the row's sides are.
-use Rattle.std.proofs.Common.{◌≡◌, ◌≢◌, ℕ, zero, suc, ◌+◌, ◌-◌, ◌%◌, ◌<◌, ◌≤◌, ◌||◌, Bool, true, false, nat_eq, nat_le, nat_lt}
+use Rattle.std.proofs.Common.{◌≡◌, ◌≢◌, ℕ, zero, suc, ◌+◌, ◌-◌, ◌%◌, ◌<◌, ◌≤◌}
+use Rattle.std.proofs.Common.{◌||◌, Bool, true, false, nat_eq, nat_le, nat_lt}
 use Rattle.std.proofs.Common.{refl, arith, eq-eqb}
 use Rattle.std.proofs.lemmas.Bool.{le-leb, lt-leb, lt-ltb, le-ltb, ne_eqb}
 use Rattle.song_model.specs.declared.tables.TableRow.{TableRow}

@@ -12,9 +12,11 @@ use Rattle.blocks.specs.Trees.{Tree, ChainTree, NoneTree, ThenTree, IfTree}
 use Rattle.player_parts.specs.Words.{Const, Xor, Less, Is}
 use Rattle.player_parts.specs.declared.labels.TheConstants.{WAVE_POINTER, WAVE_LEFTS, LENT}
 use Rattle.player_parts.specs.Codes.{load_shared}
-use Rattle.player_parts.proofs.Laws.{VoiceDesk, Reader, Leads, leads_on, Done, RowsAt, side_place, handed_in, compared, loaded, indexed}
+use Rattle.player_parts.proofs.Laws.{VoiceDesk, Reader, Leads, leads_on, Done, RowsAt, side_place, handed_in, compared}
+use Rattle.player_parts.proofs.Laws.{loaded, indexed}
 use Rattle.player_parts.proofs.Laws.{Rest, voice_in, playing_in, HasLowBytes, done_in}
-use Rattle.player_wave.specs.WaveBlock.{command_tree, command_way_tree, delay_tree, waveform_tree, over_tree, sound_way_tree, wave_tree}
+use Rattle.player_wave.specs.WaveBlock.{command_tree, command_way_tree, delay_tree, waveform_tree, over_tree}
+use Rattle.player_wave.specs.WaveBlock.{sound_way_tree, wave_tree}
 use Rattle.player_wave.specs.PartLaws.{is_command}
 use Rattle.player_wave.proofs.WaveDesks.{WaveGround, WaveKeeps, Stepped, Waves, Plain, Lent, stepped_as}
 use Rattle.player_parts.proofs.Laws.{done_over}

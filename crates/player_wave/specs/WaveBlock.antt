@@ -27,7 +27,8 @@ abbrev pub lend_tree : Tree
 lend_tree =
     IfTree [] (Not (Less (Const 1)))
     (ChainTree (load_own PARAM ∷ store_shared LENT_PARAM ∷ load_own COMMAND ∷ store_shared LENT_COMMAND
-    ∷ load_shared WORK_COMMAND ∷ store_own COMMAND ∷ load_entry WAVE_RIGHTS ∷ store_own PARAM ∷ more_shared LENT ∷ []))
+    ∷ load_shared WORK_COMMAND ∷ store_own COMMAND ∷ load_entry WAVE_RIGHTS ∷ store_own PARAM
+    ∷ more_shared LENT ∷ []))
     NoneTree
 
 -- Y is the command: where it is this one

@@ -8,7 +8,8 @@ ghost use Rattle.song_model.specs.Places.{place_of};
 ghost use Rattle.play_model.specs.LookUps.{look_ups_of};
 ghost use Rattle.play_model.specs.State.{Voice};
 ghost use Rattle.play_model.specs.StandsFor.{voice_after, VoiceStandsFor};
-ghost use Rattle.play_model.specs.FetchRow.{row_taken, gate_keyed, transposed, gate_shut, note_waits, row_done, row_moved, fetch_row};
+ghost use Rattle.play_model.specs.FetchRow.{row_taken, gate_keyed, transposed, gate_shut, note_waits, row_done};
+ghost use Rattle.play_model.specs.FetchRow.{row_moved, fetch_row};
 
 use play_model::VoiceState;
 use song_model::{Order, OrderPlace, Row, Song};

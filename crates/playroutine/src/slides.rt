@@ -4,7 +4,8 @@ ghost use Rattle.std.specs.Prelude.{◌≡◌, ℕ, ◌==◌, ◌||◌, nat_le};
 ghost use Rattle.play_model.specs.Wrap.{distance};
 ghost use Rattle.play_model.specs.LookUps.{look_ups_of};
 ghost use Rattle.play_model.specs.StandsFor.{voice_after};
-ghost use Rattle.play_model.specs.Helpers.{porta_up, porta_down, at_target, towards, tone_by, tone, turned, swung, depth_of, vibrato};
+ghost use Rattle.play_model.specs.Helpers.{porta_up, porta_down, at_target, towards, tone_by, tone, turned, swung};
+ghost use Rattle.play_model.specs.Helpers.{depth_of, vibrato};
 
 use play_model::{LastNote, VoiceState, freq, slide};
 use song_model::{Song, TableRow};

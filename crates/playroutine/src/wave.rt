@@ -3,7 +3,8 @@
 ghost use Rattle.std.specs.Prelude.{◌≡◌, ℕ, ◌<◌, not, ◌&&◌, ◌==◌, nat_lt};
 ghost use Rattle.play_model.specs.LookUps.{look_ups_of};
 ghost use Rattle.play_model.specs.StandsFor.{voice_after};
-ghost use Rattle.play_model.specs.WaveStep.{wave_command, is_wave_command, left_done, program_moved, wave_note, with_note, right_done, wave_row, wave_step};
+ghost use Rattle.play_model.specs.WaveStep.{wave_command, is_wave_command, left_done, program_moved, wave_note};
+ghost use Rattle.play_model.specs.WaveStep.{with_note, right_done, wave_row, wave_step};
 ghost use Rattle.playroutine.specs.PlayingAfter.{playing_after, waved_after};
 
 use crate::commands::do_command;

@@ -1,5 +1,7 @@
 -- What the rules let through may be written.
-use Rattle.std.proofs.Common.{◌≡◌, ℕ, ◌+◌, ◌%◌, ◌≤◌, ◌<◌, List, length, take, Bool, true, false, ◌&&◌, not, nat_eq, nat_lt, nat_le, if◌then◌else◌, Result, Ok, Err, refl, subst}
+use Rattle.std.proofs.Common.{◌≡◌, ℕ, ◌+◌, ◌%◌, ◌≤◌, ◌<◌, List, length, take, Bool, true}
+use Rattle.std.proofs.Common.{false, ◌&&◌, not, nat_eq, nat_lt, nat_le, if◌then◌else◌, Result, Ok, Err, refl}
+use Rattle.std.proofs.Common.{subst}
 use Rattle.std.specs.Prelude.{codes}
 use Rattle.std.specs.Str.{bytes_eq}
 use Rattle.std.proofs.lemmas.Bool.{and_parts, eqb-true, leb-true, ltb-false, not-false}

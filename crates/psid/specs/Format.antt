@@ -1,5 +1,6 @@
 -- The PSID v2 file of a header, an address and an image, as the table of the PSID v2 description has it.
-use Rattle.std.specs.Prelude.{◌≡◌, ℕ, ◌+◌, ◌%◌, ◌<◌, ◌≤◌, ◌^◌, List, [], ◌∷◌, ◌++◌, length, codes}
+use Rattle.std.specs.Prelude.{◌≡◌, ℕ, ◌+◌, ◌%◌, ◌<◌, ◌≤◌, ◌^◌, List, [], ◌∷◌}
+use Rattle.std.specs.Prelude.{◌++◌, length, codes}
 use Rattle.std.specs.List.{flat_map}
 use Rattle.psid.specs.declared.header.Header.{Header}
 use Rattle.psid.specs.declared.reading.TheConstants.{ADDRESSES}

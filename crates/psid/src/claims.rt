@@ -1,7 +1,8 @@
 //! Facts about the format, each the contract of a function that does nothing.
 
 ghost use Rattle.psid.specs.FormatLaws.{AddressesAre, FieldsStand, WrittenIsRead, WrittenIsReadAsIs, ReadIsWritable};
-ghost use Rattle.psid.specs.WorkedFile.{HeaderIsSpelled, EndIsSpelled, FileIsRead, HeaderIsWanted, KindsAreUnsupported, FieldsAreInRange, ImageIsPlaced};
+ghost use Rattle.psid.specs.WorkedFile.{HeaderIsSpelled, EndIsSpelled, FileIsRead, HeaderIsWanted, KindsAreUnsupported};
+ghost use Rattle.psid.specs.WorkedFile.{FieldsAreInRange, ImageIsPlaced};
 
 /// Each field of the header stands at the offset that the table gives it.
 pub fn fields_stand_at_their_offsets()

@@ -1,5 +1,6 @@
 -- What the code of the pulse step leaves.
-use Rattle.std.proofs.Common.{◌≡◌, ◌≢◌, ℕ, ◌+◌, ◌*◌, ◌/◌, ◌%◌, ◌<◌, ◌≤◌, true, false, nat_eq, inl, inr}
+use Rattle.std.proofs.Common.{◌≡◌, ◌≢◌, ℕ, ◌+◌, ◌*◌, ◌/◌, ◌%◌, ◌<◌, ◌≤◌, true}
+use Rattle.std.proofs.Common.{false, nat_eq, inl, inr}
 use Rattle.std.proofs.Common.{refl, sym, ap, ◌∙◌, subst, arith}
 use Rattle.std.proofs.lemmas.Bool.{leb-true, leb-false, not-true, not-false, eqb-true, eqb-false, both_ways, eq-eqb, ne_eqb}
 use Rattle.std.proofs.lemmas.Bool.Decides.{eqb_tells}
@@ -21,7 +22,8 @@ use Rattle.player_text.specs.declared.pulse.TheConstants.{NEXT, MOVES, MOVED}
 use Rattle.pulse_code.specs.PulseBlock.{pulse_tree}
 use Rattle.player_memory.specs.Playing.{with_voice}
 use Rattle.pulse_code.proofs.Widths.{IsWidth, risen, risen_over, fallen, fallen_under}
-use Rattle.pulse_code.proofs.PulseRows.{step_none, step_some, row_sets, row_stops, row_begins, row_runs, slid, slide_ends, slide_stays}
+use Rattle.pulse_code.proofs.PulseRows.{step_none, step_some, row_sets, row_stops, row_begins, row_runs, slid}
+use Rattle.pulse_code.proofs.PulseRows.{slide_ends, slide_stays}
 
 -- ---- what the code stands on
 

@@ -1,5 +1,6 @@
 -- The code of a voice's registers in memory.
-use Rattle.std.proofs.Common.{◌≡◌, ◌⊎◌, ℕ, ◌+◌, ◌*◌, ◌<◌, ◌≤◌, List, length, slice_index, inl, inr, refl, ap, ◌∙◌}
+use Rattle.std.proofs.Common.{◌≡◌, ◌⊎◌, ℕ, ◌+◌, ◌*◌, ◌<◌, ◌≤◌, List, length}
+use Rattle.std.proofs.Common.{slice_index, inl, inr, refl, ap, ◌∙◌}
 use Rattle.std.proofs.Common.{arith}
 use Rattle.play_model.specs.TickStep.{tempo_of}
 use Rattle.play_model.specs.Frame.{voice_registers}

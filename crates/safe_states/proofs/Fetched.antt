@@ -10,13 +10,15 @@ use Rattle.song_model.specs.declared.orders.Order.{Order}
 use Rattle.song_model.specs.declared.songs.Song.{Song}
 use Rattle.song_model.specs.PatternLimits.{IsPatternLength, IsPattern}
 use Rattle.song_model.specs.Limits.{KeepsLimits}
-use Rattle.song_model.specs.LookUp.{zero_row, pattern_row, pattern_at, order_of, playable_subtune, playable_subtunes, void_subtune}
+use Rattle.song_model.specs.LookUp.{zero_row, pattern_row, pattern_at, order_of, playable_subtune, playable_subtunes}
+use Rattle.song_model.specs.LookUp.{void_subtune}
 use Rattle.song_model.specs.Walk.{played}
 use Rattle.song_model.proofs.Laws.{plays_are_patterns_lem}
 use Rattle.play_model.specs.LookUps.{LookUps, look_ups_of}
 use Rattle.play_model.specs.Wrap.{byte_plus}
 use Rattle.play_model.specs.State.{Voice}
-use Rattle.play_model.specs.FetchRow.{row_taken, gate_keyed, is_note, transposed, gate_shut, note_waits, row_moved, row_done, fetch_row}
+use Rattle.play_model.specs.FetchRow.{row_taken, gate_keyed, is_note, transposed, gate_shut, note_waits, row_moved}
+use Rattle.play_model.specs.FetchRow.{row_done, fetch_row}
 use Rattle.play_model.specs.Frame.{subtune_at}
 use Rattle.play_model.specs.Used.{IsChannel, IsPlayedOrder, IsUsedPattern, IsUsedRow, IsUsedInstrument}
 use Rattle.play_model.specs.Safe.{IsSafeVoice, of_row}

@@ -3,7 +3,12 @@ use Rattle.std.specs.Prelude.{◌==◌}
 use Rattle.std.proofs.Common.{◌≡◌, ◌≢◌, ℕ, ◌%◌, ◌<◌, ◌≤◌, length, lit≤, refl}
 use Rattle.std.proofs.lemmas.Bool.{cond_both}
 use Rattle.song_model.specs.declared.features.Feature.{Feature}
-use Rattle.song_model.specs.declared.features.Feature.TheVariants.{Transpose, Repeat, PortaUp, PortaDown, TonePorta, TieNote, Vibrato, InstrumentVibrato, NoteDependent, SetAd, SetSr, SetWave, SetWavePointer, PulseTable, SetPulsePointer, FilterTable, SetFilterPointer, FilterControl, Cutoff, Volume, FunkTempo, SetTempo, WaveTable, WaveCommand}
+use Rattle.song_model.specs.declared.features.Feature.TheVariants.{Transpose, Repeat, PortaUp, PortaDown, TonePorta}
+use Rattle.song_model.specs.declared.features.Feature.TheVariants.{TieNote, Vibrato, InstrumentVibrato, NoteDependent}
+use Rattle.song_model.specs.declared.features.Feature.TheVariants.{SetAd, SetSr, SetWave, SetWavePointer, PulseTable}
+use Rattle.song_model.specs.declared.features.Feature.TheVariants.{SetPulsePointer, FilterTable, SetFilterPointer}
+use Rattle.song_model.specs.declared.features.Feature.TheVariants.{FilterControl, Cutoff, Volume, FunkTempo, SetTempo}
+use Rattle.song_model.specs.declared.features.Feature.TheVariants.{WaveTable, WaveCommand}
 use Rattle.song_model.specs.declared.tables.TableName.TheVariants.{Filter}
 use Rattle.song_model.specs.declared.songs.Song.{Song}
 use Rattle.song_model.specs.LookUp.{order_of, playable_subtunes}
@@ -17,8 +22,10 @@ use Rattle.play_model.specs.Safe.{IsSafe}
 use Rattle.safe_states.specs.SafeLaws.{IsSafePlaying, PlayableSongsPlaySafely, StatesAreSafe, NoUnusedCase}
 use Rattle.safe_states.proofs.Pointers.{CanBePlayed, is_step, has_pointer}
 use Rattle.safe_states.proofs.Fetched.{is_played}
-use Rattle.safe_states.proofs.Steps.{playing_safe, filter_done_keeps, one_done_keeps, two_done_keeps, frame_keeps, start_safe, state_safe}
-use Rattle.safe_states.proofs.Turns.{does_row, has_wave, meets_command, has_vibrato, slides, once, has_note_speed, has_pulse, has_funk}
+use Rattle.safe_states.proofs.Steps.{playing_safe, filter_done_keeps, one_done_keeps, two_done_keeps, frame_keeps}
+use Rattle.safe_states.proofs.Steps.{start_safe, state_safe}
+use Rattle.safe_states.proofs.Turns.{does_row, has_wave, meets_command, has_vibrato, slides, once, has_note_speed}
+use Rattle.safe_states.proofs.Turns.{has_pulse, has_funk}
 
 -- ---- the turns of a frame
 

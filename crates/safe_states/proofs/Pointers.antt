@@ -11,7 +11,8 @@ use Rattle.song_model.specs.Pointers.{instrument_pointer, command_table, wave_ro
 use Rattle.play_model.specs.LookUps.{look_ups_of}
 use Rattle.play_model.specs.Helpers.{next_row}
 use Rattle.play_model.specs.Used.{IsUsedInstrument}
-use Rattle.play_model.specs.Reached.{is_jump, is_last, row_led_to, of_instrument, of_row, IsReached, played, pointed, led, IsPointer, of_played, of_wave_row, IsStep}
+use Rattle.play_model.specs.Reached.{is_jump, is_last, row_led_to, of_instrument, of_row, IsReached, played, pointed}
+use Rattle.play_model.specs.Reached.{led, IsPointer, of_played, of_wave_row, IsStep}
 use Rattle.play_model.specs.Playable.{HasPrograms, IsPlayable}
 use Rattle.play_model.specs.Features.{HasPointer}
 use Rattle.play_model.specs.Safe.{IsSafePointer, IsSafeTime, HasCommand}

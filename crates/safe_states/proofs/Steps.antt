@@ -1,6 +1,7 @@
 -- The steps of voices, and so a frame, keep states safe.
 use Rattle.std.specs.Prelude.{not, ◌==◌, ◌&&◌}
-use Rattle.std.proofs.Common.{ℕ, zero, suc, ◌*◌, ◌-◌, ◌<◌, Bool, true, false, cond, length, lit≤, refl, inl, arith}
+use Rattle.std.proofs.Common.{ℕ, zero, suc, ◌*◌, ◌-◌, ◌<◌, Bool, true, false, cond, length, lit≤, refl}
+use Rattle.std.proofs.Common.{inl, arith}
 use Rattle.std.proofs.lemmas.Bool.{cond_both}
 use Rattle.song_model.specs.declared.orders.Order.{Order}
 use Rattle.song_model.specs.declared.orders.Subtune.{Subtune}
@@ -16,7 +17,8 @@ use Rattle.play_model.specs.WaveStep.{Waved, wave_step}
 use Rattle.play_model.specs.EffectStep.{effect_step}
 use Rattle.play_model.specs.PulseStep.{pulse_step}
 use Rattle.play_model.specs.FetchRow.{fetch_row}
-use Rattle.play_model.specs.Frame.{effect_done, pulse_left_out, pulse_done, row_fetched, after_tick, voice_step, filter_done, voice_done, frame_of, frame_with, subtune_at, state_after_with}
+use Rattle.play_model.specs.Frame.{effect_done, pulse_left_out, pulse_done, row_fetched, after_tick, voice_step}
+use Rattle.play_model.specs.Frame.{filter_done, voice_done, frame_of, frame_with, subtune_at, state_after_with}
 use Rattle.play_model.specs.Used.{IsChannel, IsPlayedOrder}
 use Rattle.play_model.specs.Safe.{none, IsSafeVoice, IsSafeTempo, IsSafeCommon, IsSafe}
 use Rattle.safe_states.specs.SafeLaws.{IsSafePlaying, VoiceRulesKeepSafe, SafeWithin}

@@ -13,10 +13,13 @@ use Rattle.song_model.specs.Pointers.{instrument_pointer, command_table}
 use Rattle.play_model.specs.LookUps.{LookUps, look_ups_of}
 use Rattle.play_model.specs.Wrap.{byte_minus}
 use Rattle.play_model.specs.State.{Voice, Common, Playing}
-use Rattle.play_model.specs.TickStep.{Ticked, tempo_of, with_tempo, with_all_tempos, reloaded, between_rows, note_taken, first_wave_set, programs_begun, taken, note_started, funk_set, funk_tempo, tempo_set, row_command, note_ended, gate_timer_set, at_row, tick_step}
+use Rattle.play_model.specs.TickStep.{Ticked, tempo_of, with_tempo, with_all_tempos, reloaded, between_rows, note_taken}
+use Rattle.play_model.specs.TickStep.{first_wave_set, programs_begun, taken, note_started, funk_set, funk_tempo}
+use Rattle.play_model.specs.TickStep.{tempo_set, row_command, note_ended, gate_timer_set, at_row, tick_step}
 use Rattle.play_model.specs.Used.{IsUsedInstrument}
 use Rattle.play_model.specs.Features.{IsAny, HasRow, HasInstrument, HasFeature}
-use Rattle.play_model.specs.Safe.{IsSafePointer, HasCommand, IsSafeWaiting, none, of_row, IsSafeRunning, of_instrument, IsSafeVoice, IsSafeTempo, IsSafeCommon}
+use Rattle.play_model.specs.Safe.{IsSafePointer, HasCommand, IsSafeWaiting, none, of_row, IsSafeRunning, of_instrument}
+use Rattle.play_model.specs.Safe.{IsSafeVoice, IsSafeTempo, IsSafeCommon}
 use Rattle.safe_states.specs.SafeLaws.{IsSafePlaying}
 use Rattle.safe_states.proofs.Pointers.{CanBePlayed, from_instrument, from_row, no_time}
 use Rattle.safe_states.proofs.Programs.{Stays}

@@ -14,9 +14,12 @@ use Rattle.play_model.specs.LookUps.{look_ups_of}
 use Rattle.play_model.specs.State.{Voice, Playing}
 use Rattle.play_model.specs.WaveStep.{wave_step}
 use Rattle.play_model.specs.Reached.{of_instrument, IsPointer, of_played, IsStep}
-use Rattle.play_model.specs.Features.{HasRow, HasWaveRow, UsesCommand, IsAny, HasInstrument, HasPointer, HasNoteSpeed, HasWaveCommand, HasFeature}
+use Rattle.play_model.specs.Features.{HasRow, HasWaveRow, UsesCommand, IsAny, HasInstrument, HasPointer, HasNoteSpeed}
+use Rattle.play_model.specs.Features.{HasWaveCommand, HasFeature}
 use Rattle.play_model.specs.Safe.{HasCommand, IsSafeWaiting, IsSafeVoice}
-use Rattle.play_model.specs.Uses.{Turn, DoesRow, GoesOn, HasWaveProgram, MeetsWaveCommand, DoesWave, DoesEffect, DoesRunning, MeetsVibrato, HasPulseProgram, Slides, DoesOnce, AsksSpeed, for_slide, for_vibrato, AsksFunkTempo, by_values, by_tempo, by_length}
+use Rattle.play_model.specs.Uses.{Turn, DoesRow, GoesOn, HasWaveProgram, MeetsWaveCommand, DoesWave, DoesEffect}
+use Rattle.play_model.specs.Uses.{DoesRunning, MeetsVibrato, HasPulseProgram, Slides, DoesOnce, AsksSpeed, for_slide}
+use Rattle.play_model.specs.Uses.{for_vibrato, AsksFunkTempo, by_values, by_tempo, by_length}
 use Rattle.safe_states.specs.SafeLaws.{IsSafePlaying}
 use Rattle.safe_states.proofs.Pointers.{CanBePlayed, row_pointer, wave_pointer, is_step, has_pointer}
 use Rattle.safe_states.proofs.Ticks.{waiting_command, has_row, tempo_safe, tick_keeps}

@@ -13,7 +13,8 @@ use Rattle.play_model.specs.Wrap.{byte_plus}
 use Rattle.play_model.specs.Freq.{freq, slide}
 use Rattle.play_model.specs.State.{Voice, Playing}
 use Rattle.play_model.specs.Helpers.{porta_up, porta_down, at_target, towards, tone, vibrato}
-use Rattle.play_model.specs.WaveStep.{Waved, wave_command, is_wave_command, left_done, program_moved, wave_note, with_note, right_done, wave_row, wave_step}
+use Rattle.play_model.specs.WaveStep.{Waved, wave_command, is_wave_command, left_done, program_moved, wave_note}
+use Rattle.play_model.specs.WaveStep.{with_note, right_done, wave_row, wave_step}
 use Rattle.play_model.specs.EffectStep.{instrument_vibrato, effect_step}
 use Rattle.play_model.specs.Reached.{IsReached, IsStep}
 use Rattle.play_model.specs.Playable.{HasPrograms}

@@ -1,5 +1,6 @@
 -- What frames of small songs use, and what they don't.
-use Rattle.std.proofs.Common.{◌≡◌, ◌≢◌, ℕ, zero, suc, ◌<◌, ◌≤◌, [], ◌∷◌, Contains, replicate, lit<, lit≤, inl, inr, refl, sym, subst, arith}
+use Rattle.std.proofs.Common.{◌≡◌, ◌≢◌, ℕ, zero, suc, ◌<◌, ◌≤◌, [], ◌∷◌, Contains}
+use Rattle.std.proofs.Common.{replicate, lit<, lit≤, inl, inr, refl, sym, subst, arith}
 use Rattle.std.proofs.lemmas.List.Elements.{All-cons, All-replicate, All-contains}
 use Rattle.song_model.specs.declared.orders.Subtune.{Subtune}
 use Rattle.song_model.specs.declared.tables.TableName.TheVariants.{Speed}
@@ -17,14 +18,17 @@ use Rattle.play_model.specs.PulseStep.{pulse_step}
 use Rattle.play_model.specs.FetchRow.{fetch_row}
 use Rattle.play_model.specs.Frame.{subtune_at, voice_step, voice_registers, filter_registers, frame_of, state_after_with}
 use Rattle.play_model.specs.Used.{IsChannel}
-use Rattle.play_model.specs.Uses.{Turn, turn_of, InATurn, DoesRow, DoesOnce, HasOrderByte, for_slide, for_vibrato, by_values, by_tempo, by_length}
+use Rattle.play_model.specs.Uses.{Turn, turn_of, InATurn, DoesRow, DoesOnce, HasOrderByte, for_slide, for_vibrato}
+use Rattle.play_model.specs.Uses.{by_values, by_tempo, by_length}
 use Rattle.play_model.specs.WorkedSongs.{sides}
-use Rattle.safe_states.specs.WorkedCases.{command_song, late_subtune, ProgramsAreUsed, SlidesAreUsed, PulseProgramsAreLeftOut, VibratosAreUsed}
+use Rattle.safe_states.specs.WorkedCases.{command_song, late_subtune, ProgramsAreUsed, SlidesAreUsed}
+use Rattle.safe_states.specs.WorkedCases.{PulseProgramsAreLeftOut, VibratosAreUsed}
 use Rattle.safe_states.specs.WorkedCases.{CommandsAreUsed, FiltersAreUsed, SpeedsAreUsed, TemposAreUsed, WaveCommandsAreUsed}
 use Rattle.safe_states.specs.WorkedCases.{VoicesAreUsed, OrdersAreUsed, CasesAreAsWorked}
 use Rattle.safe_states.proofs.WorkedTurns.{Same, first, second, third, in_first, in_no_turn, has_wave, meets_command, does_wave}
 use Rattle.safe_states.proofs.WorkedTurns.{does_effect, does_running, meets_vibrato, delay_is, note_ends_it, no_wave, no_pulse}
-use Rattle.safe_states.proofs.WorkedTurns.{left_out_there, pulse_out, no_slide, no_param, no_row, Quiet, no_wave_command, no_once, no_speed}
+use Rattle.safe_states.proofs.WorkedTurns.{left_out_there, pulse_out, no_slide, no_param, no_row, Quiet}
+use Rattle.safe_states.proofs.WorkedTurns.{no_wave_command, no_once, no_speed}
 use Rattle.safe_states.proofs.WorkedTurns.{asked_is, between, no_command, other_tempo, loads_another}
 
 -- ---- the frames

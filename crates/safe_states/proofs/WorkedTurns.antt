@@ -1,5 +1,6 @@
 -- What a turn of a voice does and what it does not, from what is computed of it.
-use Rattle.std.proofs.Common.{◌≡◌, ◌≢◌, ℕ, zero, suc, ◌+◌, ◌<◌, true, false, lit≤, inl, inr, refl, sym, ap, ◌∙◌, arith}
+use Rattle.std.proofs.Common.{◌≡◌, ◌≢◌, ℕ, zero, suc, ◌+◌, ◌<◌, true, false, lit≤, inl, inr}
+use Rattle.std.proofs.Common.{refl, sym, ap, ◌∙◌, arith}
 use Rattle.std.specs.Prelude.{◌&&◌, ◌==◌}
 use Rattle.song_model.specs.declared.orders.Subtune.{Subtune}
 use Rattle.song_model.specs.declared.tables.TableRow.{TableRow}

@@ -1,7 +1,12 @@
 -- What frames of small songs use, and what they don't, worked out by hand.
 use Rattle.std.specs.Prelude.{ℕ, List, [], ◌∷◌, ◌++◌, true, false, replicate}
 use Rattle.song_model.specs.declared.features.Feature.{Feature}
-use Rattle.song_model.specs.declared.features.Feature.TheVariants.{Transpose, Repeat, PortaUp, PortaDown, TonePorta, TieNote, Vibrato, InstrumentVibrato, NoteDependent, SetAd, SetSr, SetWave, SetWavePointer, PulseTable, SetPulsePointer, FilterTable, SetFilterPointer, FilterControl, Cutoff, Volume, FunkTempo, SetTempo, WaveTable, WaveCommand}
+use Rattle.song_model.specs.declared.features.Feature.TheVariants.{Transpose, Repeat, PortaUp, PortaDown, TonePorta}
+use Rattle.song_model.specs.declared.features.Feature.TheVariants.{TieNote, Vibrato, InstrumentVibrato, NoteDependent}
+use Rattle.song_model.specs.declared.features.Feature.TheVariants.{SetAd, SetSr, SetWave, SetWavePointer, PulseTable}
+use Rattle.song_model.specs.declared.features.Feature.TheVariants.{SetPulsePointer, FilterTable, SetFilterPointer}
+use Rattle.song_model.specs.declared.features.Feature.TheVariants.{FilterControl, Cutoff, Volume, FunkTempo, SetTempo}
+use Rattle.song_model.specs.declared.features.Feature.TheVariants.{WaveTable, WaveCommand}
 use Rattle.song_model.specs.declared.orders.Subtune.{Subtune}
 use Rattle.song_model.specs.declared.songs.Song.{Song}
 use Rattle.play_model.specs.declared.options.Options.{Options}
@@ -9,7 +14,8 @@ use Rattle.play_model.specs.State.{no_options}
 use Rattle.play_model.specs.Frame.{state_after_with}
 use Rattle.play_model.specs.Uses.{UsesFeature}
 use Rattle.play_model.specs.WorkedRuns.{left_out, first_left_out}
-use Rattle.play_model.specs.WorkedSongs.{order, subtune, row, sides, plucked, rests, with_rows, with_instrument, one_note, wrapping_note, rising_note, rising_pulse, other_vibrato}
+use Rattle.play_model.specs.WorkedSongs.{order, subtune, row, sides, plucked, rests, with_rows, with_instrument}
+use Rattle.play_model.specs.WorkedSongs.{one_note, wrapping_note, rising_note, rising_pulse, other_vibrato}
 
 -- the frame of playable subtune 0 after n frames uses the feature
 abbrev pub UsesWith : Options → Song → ℕ → Feature → Type 0

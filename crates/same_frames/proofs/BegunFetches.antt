@@ -1,7 +1,8 @@
 -- Fetching a row keeps two voices alike that may differ in the instrument with which they began: until a row names one
 -- none has a note.
 use Rattle.std.specs.Prelude.{ℤ, bit_and, not, ◌==◌, ◌||◌, if◌then◌else◌}
-use Rattle.std.proofs.Common.{◌≡◌, ℕ, zero, suc, ◌+◌, ◌<◌, ◌≤◌, Bool, true, false, List, [], ◌∷◌, length, get_or, refl, sym, ap, ◌∙◌, subst, inl, inr, arith}
+use Rattle.std.proofs.Common.{◌≡◌, ℕ, zero, suc, ◌+◌, ◌<◌, ◌≤◌, Bool, true, false, List, []}
+use Rattle.std.proofs.Common.{◌∷◌, length, get_or, refl, sym, ap, ◌∙◌, subst, inl, inr, arith}
 use Rattle.std.specs.Prelude.{Some, None}
 use Rattle.std.specs.List.{find}
 use Rattle.std.proofs.lemmas.Bool.{cases_eq, cases_lt, cases_Bool, ne_eqb, eq-eqb}
@@ -13,7 +14,8 @@ use Rattle.song_model.specs.LookUp.{zero_row, pattern_row}
 use Rattle.play_model.specs.LookUps.{LookUps}
 use Rattle.play_model.specs.Wrap.{byte_plus}
 use Rattle.play_model.specs.State.{Voice}
-use Rattle.play_model.specs.FetchRow.{row_taken, gate_keyed, is_note, transposed, gate_shut, note_waits, row_moved, row_done, fetch_row}
+use Rattle.play_model.specs.FetchRow.{row_taken, gate_keyed, is_note, transposed, gate_shut, note_waits, row_moved}
+use Rattle.play_model.specs.FetchRow.{row_done, fetch_row}
 use Rattle.same_frames.specs.Maps.{same_numbers}
 use Rattle.same_frames.specs.Begins.{is_opening, rows_of_play, opening_of_play, BeginsUnnamed}
 use Rattle.same_frames.proofs.Choices.{same_choice}

@@ -9,7 +9,8 @@ use Rattle.play_model.specs.State.{Voice, Common, FrameState, Playing, start_voi
 use Rattle.play_model.specs.FilterStep.{filter_step}
 use Rattle.play_model.specs.TickStep.{Ticked, tick_step}
 use Rattle.play_model.specs.WaveStep.{Waved, wave_step}
-use Rattle.play_model.specs.Frame.{Framed, effect_done, pulse_left_out, pulse_done, row_fetched, after_tick, voice_step, voice_registers, filter_registers, filter_done, voice_done, framed, frame_of}
+use Rattle.play_model.specs.Frame.{Framed, effect_done, pulse_left_out, pulse_done, row_fetched, after_tick, voice_step}
+use Rattle.play_model.specs.Frame.{voice_registers, filter_registers, filter_done, voice_done, framed, frame_of}
 use Rattle.play_model.specs.Used.{IsChannel}
 use Rattle.same_frames.specs.FrameLaws.{start_with, state_from, trace_from}
 use Rattle.same_frames.specs.Begins.{MayBeginWith, FirstInstrumentsDoNotShow}

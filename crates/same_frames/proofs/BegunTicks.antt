@@ -9,7 +9,9 @@ use Rattle.play_model.specs.LookUps.{LookUps}
 use Rattle.play_model.specs.Wrap.{byte_minus}
 use Rattle.play_model.specs.State.{Voice, Playing}
 use Rattle.play_model.specs.Helpers.{do_command}
-use Rattle.play_model.specs.TickStep.{Ticked, tempo_of, reloaded, between_rows, note_taken, first_wave_set, sound_begun, taken, note_started, funk_tempo, tempo_set, row_command, note_ended, gate_timer_set, at_row, tick_step}
+use Rattle.play_model.specs.TickStep.{Ticked, tempo_of, reloaded, between_rows, note_taken, first_wave_set, sound_begun}
+use Rattle.play_model.specs.TickStep.{taken, note_started, funk_tempo, tempo_set, row_command, note_ended}
+use Rattle.play_model.specs.TickStep.{gate_timer_set, at_row, tick_step}
 use Rattle.same_frames.specs.Maps.{same_numbers}
 use Rattle.same_frames.specs.Begins.{timer_of}
 use Rattle.same_frames.proofs.Choices.{choice_related, both}

@@ -7,7 +7,8 @@ use Rattle.song_model.specs.LookUp.{pattern_row}
 use Rattle.play_model.specs.LookUps.{LookUps}
 use Rattle.play_model.specs.Wrap.{byte_plus}
 use Rattle.play_model.specs.State.{Voice}
-use Rattle.play_model.specs.FetchRow.{row_taken, gate_keyed, is_note, transposed, gate_shut, note_waits, row_moved, row_done, fetched_from}
+use Rattle.play_model.specs.FetchRow.{row_taken, gate_keyed, is_note, transposed, gate_shut, note_waits, row_moved}
+use Rattle.play_model.specs.FetchRow.{row_done, fetched_from}
 use Rattle.same_frames.specs.Maps.{Maps, same_numbers, named_after, IsRowFor}
 use Rattle.same_frames.specs.Alike.{moved_voice}
 use Rattle.same_frames.proofs.Choices.{choice_moved, same_choice}

@@ -1,6 +1,7 @@
 -- Frames of states that are alike leave states that are alike, and the same registers.
 use Rattle.std.specs.Prelude.{◌==◌}
-use Rattle.std.proofs.Common.{◌≡◌, ℕ, zero, suc, ◌<◌, Bool, true, false, cond, length, lit≤, refl, sym, ap, ◌∙◌, subst}
+use Rattle.std.proofs.Common.{◌≡◌, ℕ, zero, suc, ◌<◌, Bool, true, false, cond, length, lit≤, refl, sym}
+use Rattle.std.proofs.Common.{ap, ◌∙◌, subst}
 use Rattle.song_model.specs.declared.orders.Order.{Order}
 use Rattle.song_model.specs.declared.orders.Subtune.{Subtune}
 use Rattle.song_model.specs.declared.tables.TableName.TheVariants.{Wave, Pulse, Filter, Speed}
@@ -11,7 +12,8 @@ use Rattle.play_model.specs.declared.options.Options.{Options}
 use Rattle.play_model.specs.Speeds.{IsSpeed}
 use Rattle.play_model.specs.LookUps.{LookUps, look_ups_of}
 use Rattle.play_model.specs.State.{Voice, Common, FrameState, Playing, start_voice, start_state, playing_of, with_playing}
-use Rattle.play_model.specs.Frame.{voice_step, voice_registers, filter_registers, filter_done, voice_done, framed, frame_of, frame_with, state_after_with, trace_with, subtune_at}
+use Rattle.play_model.specs.Frame.{voice_step, voice_registers, filter_registers, filter_done, voice_done, framed}
+use Rattle.play_model.specs.Frame.{frame_of, frame_with, state_after_with, trace_with, subtune_at}
 use Rattle.play_model.specs.Used.{IsChannel}
 use Rattle.play_model.specs.Playable.{IsPlayable}
 use Rattle.play_model.specs.Safe.{IsSafe, IsSafeVoice}
@@ -19,7 +21,8 @@ use Rattle.safe_states.proofs.Laws.{CanBePlayed, plays_safely_lem, safe_within_l
 use Rattle.same_frames.specs.Maps.{Maps}
 use Rattle.same_frames.specs.Agreement.{Agrees, SubtunePlaysFor}
 use Rattle.same_frames.specs.Alike.{VoicesAreAlike, CommonsAreAlike, PlayingsAreAlike, StatesAreAlike}
-use Rattle.same_frames.specs.FrameLaws.{state_after_of, trace_of, start_with, state_from, trace_from, TracesOfSongs, RulesAreSame, FramesAreAlike, FramesAreSame}
+use Rattle.same_frames.specs.FrameLaws.{state_after_of, trace_of, start_with, state_from, trace_from, TracesOfSongs}
+use Rattle.same_frames.specs.FrameLaws.{RulesAreSame, FramesAreAlike, FramesAreSame}
 use Rattle.same_frames.proofs.Rules.{tick_alike, wave_step_alike, effect_alike, pulse_step_alike, filter_step_alike}
 use Rattle.same_frames.proofs.Fetches.{fetch_alike}
 use Rattle.same_frames.proofs.Steps.{voice_step_alike}

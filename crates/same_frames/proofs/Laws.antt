@@ -25,4 +25,7 @@ pub use Rattle.same_frames.proofs.Waves.{effect_moved, IsWaveFor, wave_moved}
 pub use Rattle.same_frames.proofs.Ticks.{BeginsFor, IsRowParam, IsTickFor, tick_moved}
 pub use Rattle.same_frames.proofs.Fetched.{IsFetchFor, fetch_moved}
 -- a song whose rows another song has under new numbers: what the other song comes to from them
-pub use Rattle.same_frames.proofs.Images.{IsUnder, StandsForOne, IsImage, image_of, endless_moved, channel_moved, low_byte, high_byte, is_there, stored_is_played, old_some, row_under, wave_pointer_from, same_jump, jump_right, led_from, target_from, step_from, no_jump_there, row_there}
+pub use Rattle.same_frames.proofs.Images.{IsUnder, StandsForOne, IsImage, image_of, endless_moved, channel_moved}
+pub use Rattle.same_frames.proofs.Images.{low_byte, high_byte, is_there, stored_is_played, old_some, row_under}
+pub use Rattle.same_frames.proofs.Images.{wave_pointer_from, same_jump, jump_right, led_from, target_from, step_from}
+pub use Rattle.same_frames.proofs.Images.{no_jump_there, row_there}

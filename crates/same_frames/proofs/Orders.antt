@@ -1,6 +1,8 @@
 -- An orderlist with new numbers for its patterns plays these patterns.
 use Rattle.std.specs.Prelude.{◌==◌, if◌then◌else◌}
-use Rattle.std.proofs.Common.{◌≡◌, ℕ, ℤ, zero, suc, pos, ◌+◌, ◌-◌, ◌%◌, ◌<◌, true, false, ◌≤◌, ltb, List, [], ◌∷◌, map, length, get_or, drop, replicate, All, Contains, inl, inr, refl, sym, ap, ◌∙◌, arith}
+use Rattle.std.proofs.Common.{◌≡◌, ℕ, ℤ, zero, suc, pos, ◌+◌, ◌-◌, ◌%◌, ◌<◌, true, false}
+use Rattle.std.proofs.Common.{◌≤◌, ltb, List, [], ◌∷◌, map, length, get_or, drop, replicate, All, Contains}
+use Rattle.std.proofs.Common.{inl, inr, refl, sym, ap, ◌∙◌, arith}
 use Rattle.std.proofs.lemmas.Bool.{cases_lt, lt-ltb, ltb-true}
 use Rattle.std.proofs.lemmas.Bool.Decides.{nat_tests}
 use Rattle.std.proofs.lemmas.List.{map-append, length-map, get_or-map, drop-map}
@@ -10,10 +12,12 @@ use Rattle.song_model.specs.declared.orders.Step.{Step}
 use Rattle.song_model.specs.declared.orders.Subtune.{Subtune}
 use Rattle.song_model.specs.LookUp.{order_of}
 use Rattle.song_model.specs.Endless.{IsPatternByte}
-use Rattle.song_model.specs.Walk.{transpose_after, repeat_after, plays_of, walk_plays, end_transpose, end_repeat, prefix_of, cycle_of, no_step, unrolled, played}
+use Rattle.song_model.specs.Walk.{transpose_after, repeat_after, plays_of, walk_plays, end_transpose, end_repeat}
+use Rattle.song_model.specs.Walk.{prefix_of, cycle_of, no_step, unrolled, played}
 use Rattle.song_model.proofs.Laws.{endless_cycle}
 use Rattle.same_frames.specs.Maps.{Maps, moved_step}
-use Rattle.same_frames.specs.OrderLaws.{moved_byte, moved_order, KeepsPatternBytes, MovedOrdersPlayFor, moved_subtune, MovedSubtunesPlayFor}
+use Rattle.same_frames.specs.OrderLaws.{moved_byte, moved_order, KeepsPatternBytes, MovedOrdersPlayFor, moved_subtune}
+use Rattle.same_frames.specs.OrderLaws.{MovedSubtunesPlayFor}
 use Rattle.same_frames.proofs.Choices.{same_choice}
 
 map_replicate : {X Y : Type 0} (f : X → Y) (n : ℕ) (x : X) → map f (replicate n x) ≡ replicate n (f x)

@@ -17,9 +17,11 @@ use Rattle.safe_states.specs.SafeLaws.{IsSafePlaying, VoiceRulesKeepSafe}
 use Rattle.safe_states.proofs.Laws.{CanBePlayed, is_step, safe_within_lem}
 use Rattle.same_frames.specs.Maps.{Maps, same_numbers}
 use Rattle.same_frames.specs.Agreement.{Agrees}
-use Rattle.same_frames.specs.Alike.{moved_voice, moved_common, WaitsFor, IsNamedLast, VoicesAreAlike, CommonsAreAlike, PlayingsAreAlike}
+use Rattle.same_frames.specs.Alike.{moved_voice, moved_common, WaitsFor, IsNamedLast, VoicesAreAlike, CommonsAreAlike}
+use Rattle.same_frames.specs.Alike.{PlayingsAreAlike}
 use Rattle.same_frames.specs.FrameLaws.{TicksAreAlike, WavesAreAlike}
-use Rattle.same_frames.proofs.Moved.{Held, held_of, put, put_playing, put_ticked, put_waved, same_pointer, moved_held, moved_again}
+use Rattle.same_frames.proofs.Moved.{Held, held_of, put, put_playing, put_ticked, put_waved, same_pointer, moved_held}
+use Rattle.same_frames.proofs.Moved.{moved_again}
 use Rattle.same_frames.proofs.Slides.{IsSpeedFor, same_speed}
 use Rattle.same_frames.proofs.Programs.{pulse_moved_lem, filter_moved}
 use Rattle.same_frames.proofs.Waves.{effect_moved, wave_moved}

@@ -8,7 +8,8 @@ use Rattle.play_model.specs.LookUps.{LookUps}
 use Rattle.play_model.specs.Freq.{freq}
 use Rattle.play_model.specs.State.{Voice, Playing}
 use Rattle.play_model.specs.Helpers.{porta_up, porta_down, at_target, towards, tone, vibrato, do_command}
-use Rattle.play_model.specs.WaveStep.{Waved, wave_command, is_wave_command, left_done, program_moved, right_done, wave_row, wave_step}
+use Rattle.play_model.specs.WaveStep.{Waved, wave_command, is_wave_command, left_done, program_moved, right_done}
+use Rattle.play_model.specs.WaveStep.{wave_row, wave_step}
 use Rattle.play_model.specs.EffectStep.{instrument_vibrato, effect_step}
 use Rattle.play_model.specs.PulseStep.{pulse_row, pulse_step}
 

@@ -9,7 +9,9 @@ use Rattle.song_model.specs.Pointers.{command_table}
 use Rattle.play_model.specs.LookUps.{LookUps}
 use Rattle.play_model.specs.Wrap.{byte_minus}
 use Rattle.play_model.specs.State.{Voice, Common, Playing}
-use Rattle.play_model.specs.TickStep.{tempo_of, with_tempo, with_all_tempos, reloaded, between_rows, note_taken, first_wave_set, programs_begun, sound_begun, taken, note_started, funk_set, funk_tempo, tempo_set, row_command, note_ended, gate_timer_set, at_row, tick_step}
+use Rattle.play_model.specs.TickStep.{tempo_of, with_tempo, with_all_tempos, reloaded, between_rows, note_taken}
+use Rattle.play_model.specs.TickStep.{first_wave_set, programs_begun, sound_begun, taken, note_started, funk_set}
+use Rattle.play_model.specs.TickStep.{funk_tempo, tempo_set, row_command, note_ended, gate_timer_set, at_row, tick_step}
 use Rattle.same_frames.specs.Maps.{Maps, same_numbers, moved_pointer, moved_instrument, IsInstrumentFor}
 use Rattle.same_frames.specs.Alike.{moved_common}
 use Rattle.same_frames.proofs.Choices.{choice_moved, same_choice, both}

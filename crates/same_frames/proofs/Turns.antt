@@ -1,5 +1,6 @@
 -- What a voice does in its turn over the other look-ups, the song's voice does in its turn.
-use Rattle.std.proofs.Common.{◌≡◌, ◌≢◌, ℕ, ◌+◌, ◌%◌, ◌≤◌, refl, sym, ap, ◌∙◌, inl, inr, subst, arith}
+use Rattle.std.proofs.Common.{◌≡◌, ◌≢◌, ℕ, ◌+◌, ◌%◌, ◌≤◌, refl, sym, ap, ◌∙◌, inl}
+use Rattle.std.proofs.Common.{inr, subst, arith}
 use Rattle.std.proofs.lemmas.Bool.{eq-eqb, eqb-true}
 use Rattle.song_model.specs.declared.orders.Order.{Order}
 use Rattle.song_model.specs.declared.tables.TableRow.{TableRow}
@@ -14,7 +15,9 @@ use Rattle.play_model.specs.TickStep.{tempo_of, tick_step}
 use Rattle.play_model.specs.WaveStep.{wave_step}
 use Rattle.play_model.specs.Frame.{effect_done}
 use Rattle.play_model.specs.Safe.{IsSafePointer}
-use Rattle.play_model.specs.Uses.{Turn, DoesRow, LoadsTempo, GoesOn, HasWaveProgram, MeetsWaveCommand, DoesWave, DoesEffect, DoesRunning, MeetsVibrato, HasPulseProgram, Slides, DoesOnce, AsksSpeed, for_slide, for_vibrato, AsksFunkTempo, by_values, by_tempo, by_length}
+use Rattle.play_model.specs.Uses.{Turn, DoesRow, LoadsTempo, GoesOn, HasWaveProgram, MeetsWaveCommand, DoesWave}
+use Rattle.play_model.specs.Uses.{DoesEffect, DoesRunning, MeetsVibrato, HasPulseProgram, Slides, DoesOnce, AsksSpeed}
+use Rattle.play_model.specs.Uses.{for_slide, for_vibrato, AsksFunkTempo, by_values, by_tempo, by_length}
 use Rattle.safe_states.specs.SafeLaws.{VoiceRulesKeepSafe}
 use Rattle.safe_states.proofs.Laws.{CanBePlayed, is_step}
 use Rattle.same_frames.specs.Maps.{Maps, moved_pointer}

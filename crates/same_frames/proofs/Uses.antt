@@ -4,7 +4,12 @@ use Rattle.std.proofs.Common.{◌≢◌, ℕ, ◌%◌, ◌<◌, ◌≤◌, lengt
 use Rattle.song_model.specs.declared.orders.Order.{Order}
 use Rattle.song_model.specs.declared.orders.Subtune.{Subtune}
 use Rattle.song_model.specs.declared.features.Feature.{Feature}
-use Rattle.song_model.specs.declared.features.Feature.TheVariants.{Transpose, Repeat, PortaUp, PortaDown, TonePorta, TieNote, Vibrato, InstrumentVibrato, NoteDependent, SetAd, SetSr, SetWave, SetWavePointer, PulseTable, SetPulsePointer, FilterTable, SetFilterPointer, FilterControl, Cutoff, Volume, FunkTempo, SetTempo, WaveTable, WaveCommand}
+use Rattle.song_model.specs.declared.features.Feature.TheVariants.{Transpose, Repeat, PortaUp, PortaDown, TonePorta}
+use Rattle.song_model.specs.declared.features.Feature.TheVariants.{TieNote, Vibrato, InstrumentVibrato, NoteDependent}
+use Rattle.song_model.specs.declared.features.Feature.TheVariants.{SetAd, SetSr, SetWave, SetWavePointer, PulseTable}
+use Rattle.song_model.specs.declared.features.Feature.TheVariants.{SetPulsePointer, FilterTable, SetFilterPointer}
+use Rattle.song_model.specs.declared.features.Feature.TheVariants.{FilterControl, Cutoff, Volume, FunkTempo, SetTempo}
+use Rattle.song_model.specs.declared.features.Feature.TheVariants.{WaveTable, WaveCommand}
 use Rattle.song_model.specs.declared.tables.TableRow.{TableRow}
 use Rattle.song_model.specs.declared.tables.TableName.TheVariants.{Filter, Speed}
 use Rattle.song_model.specs.declared.songs.Song.{Song}
@@ -13,7 +18,9 @@ use Rattle.play_model.specs.declared.options.Options.{Options}
 use Rattle.play_model.specs.LookUps.{LookUps, look_ups_of}
 use Rattle.play_model.specs.State.{Common, FrameState, Playing, playing_of}
 use Rattle.play_model.specs.Frame.{filter_done, voice_done, subtune_at, state_after_with}
-use Rattle.play_model.specs.Uses.{Turn, before_voice, DoesRow, HasWaveProgram, MeetsWaveCommand, MeetsVibrato, HasPulseProgram, Slides, DoesOnce, AsksSpeed, AsksFunkTempo, HasOrderByte, InATurn, Uses}
+use Rattle.play_model.specs.Uses.{Turn, before_voice, DoesRow, HasWaveProgram, MeetsWaveCommand, MeetsVibrato}
+use Rattle.play_model.specs.Uses.{HasPulseProgram, Slides, DoesOnce, AsksSpeed, AsksFunkTempo, HasOrderByte, InATurn}
+use Rattle.play_model.specs.Uses.{Uses}
 use Rattle.safe_states.specs.SafeLaws.{VoiceRulesKeepSafe}
 use Rattle.safe_states.proofs.Laws.{CanBePlayed, safe_within_lem, is_played, no_unused_case_lem}
 use Rattle.same_frames.specs.Maps.{Maps}
@@ -23,7 +30,9 @@ use Rattle.same_frames.specs.FrameLaws.{state_after_of}
 use Rattle.same_frames.specs.UseLaws.{UsesAreSame, NoOtherCase}
 use Rattle.same_frames.proofs.Choices.{choice_related}
 use Rattle.same_frames.proofs.Frames.{is_first, is_second, filter_done_alike, voice_done_alike, playing_alike, states_alike_lem}
-use Rattle.same_frames.proofs.Turns.{turn_at, some_before, speed_some, speed_none, row_alike, wave_program_alike, meets_alike, vibrato_alike, pulse_program_alike, slides_alike, once_alike, asks_alike, funk_alike, tempo_alike}
+use Rattle.same_frames.proofs.Turns.{turn_at, some_before, speed_some, speed_none, row_alike, wave_program_alike}
+use Rattle.same_frames.proofs.Turns.{meets_alike, vibrato_alike, pulse_program_alike, slides_alike, once_alike}
+use Rattle.same_frames.proofs.Turns.{asks_alike, funk_alike, tempo_alike}
 
 -- one more byte of a range from $D0 on
 order_byte : (subtune other : Subtune) (from to : ℕ) → 0xD0 ≤ from → AddsNoOrderByte subtune other →

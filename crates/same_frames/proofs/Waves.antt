@@ -1,6 +1,7 @@
 -- The effect step and the wave step with other numbers for the rows of tables, over any two look-ups.
 use Rattle.std.specs.Prelude.{nat_le, nat_lt, not, ◌==◌, ◌&&◌, ◌||◌}
-use Rattle.std.proofs.Common.{◌≡◌, ◌≢◌, ℕ, ◌-◌, ◌≤◌, true, false, None, refl, ap, ◌∙◌, lit≤, arith}
+use Rattle.std.proofs.Common.{◌≡◌, ◌≢◌, ℕ, ◌-◌, ◌≤◌, true, false, None, refl, ap, ◌∙◌}
+use Rattle.std.proofs.Common.{lit≤, arith}
 use Rattle.std.proofs.lemmas.Bool.{eqb-true, eqb-false, leb-true, and_parts}
 use Rattle.std.proofs.lemmas.Bool.Decides.{nat_tests}
 use Rattle.song_model.specs.declared.tables.TableRow.{TableRow}
@@ -9,7 +10,8 @@ use Rattle.song_model.specs.Pointers.{command_table, wave_row_table}
 use Rattle.play_model.specs.LookUps.{LookUps}
 use Rattle.play_model.specs.State.{Voice, Playing}
 use Rattle.play_model.specs.Helpers.{vibrato}
-use Rattle.play_model.specs.WaveStep.{Waved, wave_command, is_wave_command, left_done, program_moved, right_done, wave_row, wave_step}
+use Rattle.play_model.specs.WaveStep.{Waved, wave_command, is_wave_command, left_done, program_moved, right_done}
+use Rattle.play_model.specs.WaveStep.{wave_row, wave_step}
 use Rattle.play_model.specs.EffectStep.{instrument_vibrato, effect_step}
 use Rattle.same_frames.specs.Maps.{Maps, moved_pointer}
 use Rattle.same_frames.specs.Alike.{moved_common}

@@ -1,5 +1,6 @@
 -- The worked beginnings, computed.
-use Rattle.std.proofs.Common.{◌≡◌, ◌≢◌, ℕ, zero, suc, ◌<◌, ◌≤◌, List, length, [], ◌∷◌, Contains, get_or, refl, sym, ap, ◌∙◌, arith, lit<, lit≤}
+use Rattle.std.proofs.Common.{◌≡◌, ◌≢◌, ℕ, zero, suc, ◌<◌, ◌≤◌, List, length, [], ◌∷◌}
+use Rattle.std.proofs.Common.{Contains, get_or, refl, sym, ap, ◌∙◌, arith, lit<, lit≤}
 use Rattle.std.specs.Prelude.{Some, None}
 use Rattle.song_model.specs.declared.rows.Row.{Row}
 use Rattle.song_model.specs.declared.orders.Order.{Order}
@@ -21,7 +22,8 @@ use Rattle.play_model.specs.Frame.{voice_step, voice_registers, filter_registers
 use Rattle.play_model.specs.WorkedSongs.{order, subtune, row}
 use Rattle.same_frames.specs.Begins.{opening_of_play, rows_of_play, BeginsUnnamed}
 use Rattle.same_frames.specs.WorkedMaps.{frames_from}
-use Rattle.same_frames.specs.WorkedBegins.{two_instruments, named_rows, unnamed_rows, BeginningsAreUnnamed, EitherBegins, BeginningsShow, BeginningsAreAsWorked}
+use Rattle.same_frames.specs.WorkedBegins.{two_instruments, named_rows, unnamed_rows, BeginningsAreUnnamed}
+use Rattle.same_frames.specs.WorkedBegins.{EitherBegins, BeginningsShow, BeginningsAreAsWorked}
 
 same_row : (a b : Row) → Some a ≡ Some b → a ≡ b
 same_row a b e = cc

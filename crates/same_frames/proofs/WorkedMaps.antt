@@ -11,7 +11,8 @@ use Rattle.play_model.specs.EffectStep.{effect_step}
 use Rattle.play_model.specs.PulseStep.{pulse_step}
 use Rattle.play_model.specs.FetchRow.{fetch_row}
 use Rattle.play_model.specs.Frame.{voice_step, voice_registers, filter_registers, frame_of, state_after_with}
-use Rattle.same_frames.specs.WorkedMaps.{frames_from, RowsAreMoved, RowsAreFound, InstrumentsAreMoved, OrdersAreMoved, PatternsStandFor, FramesAreAsWorked, NumbersAreAsWorked}
+use Rattle.same_frames.specs.WorkedMaps.{frames_from, RowsAreMoved, RowsAreFound, InstrumentsAreMoved, OrdersAreMoved}
+use Rattle.same_frames.specs.WorkedMaps.{PatternsStandFor, FramesAreAsWorked, NumbersAreAsWorked}
 
 rows_moved : RowsAreMoved
 rows_moved = record { wave = refl; pulse = refl; filter = refl; speed = refl }

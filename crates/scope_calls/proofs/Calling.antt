@@ -1,5 +1,6 @@
 -- The voices of an entrance, and all of its lines, where they stand.
-use Rattle.std.proofs.Common.{◌≡◌, ℕ, ◌+◌, ◌%◌, ◌<◌, ◌≤◌, true, Option, Some, None, refl, sym, ap, ◌∙◌, subst, arith}
+use Rattle.std.proofs.Common.{◌≡◌, ℕ, ◌+◌, ◌%◌, ◌<◌, ◌≤◌, true, Option, Some, None, refl, sym}
+use Rattle.std.proofs.Common.{ap, ◌∙◌, subst, arith}
 use Rattle.cpu6502.specs.declared.mnemonic.Mnemonic.TheVariants.{Jsr, Ldx, Rts, Sta}
 use Rattle.cpu6502.specs.declared.mnemonic.Mode.TheVariants.{Implied, Immediate, Absolute}
 use Rattle.cpu6502.specs.Registers.{stack_place}
@@ -17,8 +18,10 @@ use Rattle.scope_lines.specs.Lines.{block_lines}
 use Rattle.scope_lines.specs.Reach.{nothing_around, has_lines}
 use Rattle.scope_lines.specs.Lowered.{spot}
 use Rattle.scope_lines.proofs.Laws.{Ground, HasCode as HasLines}
-use Rattle.scope_calls.specs.Entrances.{Entrance, lead_lines, lead_size, voices_place, call_lines, voice_lines, voice_size, voice_has_lines}
-use Rattle.scope_calls.specs.Meaning.{cleared, led, lead_steps, returned, back, voice_called, voice_last, voices_ran, entrance_ran}
+use Rattle.scope_calls.specs.Entrances.{Entrance, lead_lines, lead_size, voices_place, call_lines, voice_lines}
+use Rattle.scope_calls.specs.Entrances.{voice_size, voice_has_lines}
+use Rattle.scope_calls.specs.Meaning.{cleared, led, lead_steps, returned, back, voice_called, voice_last, voices_ran}
+use Rattle.scope_calls.specs.Meaning.{entrance_ran}
 use Rattle.scope_calls.proofs.Sizing.{Parts}
 use Rattle.scope_calls.proofs.Moving.{Inside, lines_stay, clear_leads, store_leads, return_leads}
 use Rattle.scope_calls.proofs.Walking.{Walks, then_done, then_walks, block_walks, Voice, OffStack, last_walks, call_walks}

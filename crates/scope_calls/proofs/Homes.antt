@@ -1,5 +1,6 @@
 -- No line of an entrance is refused.
-use Rattle.std.proofs.Common.{◌≡◌, ℕ, ◌+◌, ◌≤◌, ◌&&◌, Bool, true, false, List, [], ◌++◌, Option, Some, None, IsTrue, append-nil, inl, refl, sym, ◌∙◌, subst}
+use Rattle.std.proofs.Common.{◌≡◌, ℕ, ◌+◌, ◌≤◌, ◌&&◌, Bool, true, false, List, [], ◌++◌}
+use Rattle.std.proofs.Common.{Option, Some, None, IsTrue, append-nil, inl, refl, sym, ◌∙◌, subst}
 use Rattle.std.proofs.lemmas.Bool.{and_parts}
 use Rattle.cpu6502.specs.declared.mnemonic.Mnemonic.{Mnemonic}
 use Rattle.cpu6502.specs.declared.mnemonic.Mnemonic.TheVariants.{Cld, Jsr, Ldx, Rts, Sta}
@@ -16,7 +17,8 @@ use Rattle.scope_lines.specs.Lines.{block_lines}
 use Rattle.scope_lines.specs.Homes.{uses_only}
 use Rattle.scope_lines.specs.Reach.{nothing_around, has_lines}
 use Rattle.scope_lines.proofs.Laws.{lowered_lines_are_at_home}
-use Rattle.scope_calls.specs.Entrances.{Entrance, lead_lines, lead_size, voices_place, call_lines, voice_lines, entrance_lines, voice_has_lines}
+use Rattle.scope_calls.specs.Entrances.{Entrance, lead_lines, lead_size, voices_place, call_lines, voice_lines}
+use Rattle.scope_calls.specs.Entrances.{entrance_lines, voice_has_lines}
 use Rattle.scope_calls.specs.Homes.{stored_uses, voice_uses, EntranceLinesAreAtHome, EntranceLinesAreNotRefused}
 use Rattle.scope_calls.proofs.Sizing.{first_lines, last_lines}
 

@@ -1,5 +1,7 @@
 -- Calls of entrances depend on the bytes that their blocks may read alone.
-use Rattle.std.proofs.Common.{◌≡◌, ◌≢◌, ℕ, ◌+◌, ◌/◌, ◌%◌, ◌<◌, ◌≤◌, ◌⊎◌, Bool, true, false, nat_eq, Option, Some, None, inl, inr, refl, sym, ap, ◌∙◌, subst, arith, if◌then◌else◌}
+use Rattle.std.proofs.Common.{◌≡◌, ◌≢◌, ℕ, ◌+◌, ◌/◌, ◌%◌, ◌<◌, ◌≤◌, ◌⊎◌, Bool}
+use Rattle.std.proofs.Common.{true, false, nat_eq, Option, Some, None, inl, inr, refl, sym, ap, ◌∙◌, subst, arith}
+use Rattle.std.proofs.Common.{if◌then◌else◌}
 use Rattle.std.specs.Prelude.{slice_index}
 use Rattle.std.proofs.lemmas.Bool.{and_parts}
 use Rattle.cpu6502.specs.declared.machine.Machine.{Machine}
@@ -15,7 +17,8 @@ use Rattle.scope_lines.specs.Known.{Known, the_x, shown, either, known}
 use Rattle.scope_lines.specs.Isolation.{Alike}
 use Rattle.scope_lines.proofs.Laws.{trees_are_isolated}
 use Rattle.scope_calls.specs.Entrances.{Entrance, voices_place, voice_has_lines}
-use Rattle.scope_calls.specs.Meaning.{at_voice, called_from, led, lead_steps, back, voice_called, voice_last, voices_ran, entrance_ran}
+use Rattle.scope_calls.specs.Meaning.{at_voice, called_from, led, lead_steps, back, voice_called, voice_last}
+use Rattle.scope_calls.specs.Meaning.{voices_ran, entrance_ran}
 use Rattle.scope_calls.specs.Listed.{Listed, layout_at, entrance_desk}
 use Rattle.scope_calls.specs.EntranceLaws.{known_first, voice_is_known, EntrancesAreIsolated}
 use Rattle.scope_calls.proofs.Walking.{then_done}

@@ -1,5 +1,6 @@
 -- What a tree means leaves the stack pointer, the decimal flag and the interrupt flag as they are.
-use Rattle.std.proofs.Common.{◌≡◌, ℕ, zero, suc, Bool, true, false, Option, Some, None, refl, ◌∙◌, if◌then◌else◌, ◌||◌}
+use Rattle.std.proofs.Common.{◌≡◌, ℕ, zero, suc, Bool, true, false, Option, Some, None, refl, ◌∙◌}
+use Rattle.std.proofs.Common.{if◌then◌else◌, ◌||◌}
 use Rattle.std.proofs.lemmas.Bool.{and_parts, false≢true}
 use Rattle.std.specs.Option.{is_some}
 use Rattle.cpu6502.specs.declared.cpu.Cpu.{Cpu}
@@ -14,8 +15,10 @@ use Rattle.cpu6502.specs.Effects.{effect_of, or_effect}
 use Rattle.scopes.specs.declared.line.Operand.{Operand}
 use Rattle.scopes.specs.Desk.{Desk, Layout, operand_place, operand_read}
 use Rattle.scopes.specs.Steps.{all_may, effected, unless_stopped, is_store, may_see, may_change, done_with}
-use Rattle.scopes.specs.Trees.{Tree, DoTree, WithTree, NoneTree, ThenTree, ScopeTree, LeaveTree, LeaveIfTree, LoopTree, AgainTree, AgainIfTree, WhenTree, ChooseTree, NeverTree}
-use Rattle.scopes.specs.Meaning.{Outcome, Done, Left, Again, Stuck, Ran, Prices, is_met, ended, stepped, behind, and_then, next_turn, turns, ran}
+use Rattle.scopes.specs.Trees.{Tree, DoTree, WithTree, NoneTree, ThenTree, ScopeTree, LeaveTree, LeaveIfTree, LoopTree}
+use Rattle.scopes.specs.Trees.{AgainTree, AgainIfTree, WhenTree, ChooseTree, NeverTree}
+use Rattle.scopes.specs.Meaning.{Outcome, Done, Left, Again, Stuck, Ran, Prices, is_met, ended, stepped, behind}
+use Rattle.scopes.specs.Meaning.{and_then, next_turn, turns, ran}
 use Rattle.scope_lines.specs.Instructions.{mode_of, alone_mode, is_plain, is_spelled}
 use Rattle.scope_lines.specs.Sizes.{most}
 use Rattle.scope_lines.specs.Reach.{Reach, before_bytes, behind_bytes, in_scope, in_loop, is_operand, has_lines}

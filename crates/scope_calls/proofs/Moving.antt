@@ -1,5 +1,6 @@
 -- The instructions of an entrance around its blocks, each where it stands.
-use Rattle.std.proofs.Common.{◌≡◌, ℕ, ◌+◌, ◌*◌, ◌/◌, ◌%◌, ◌<◌, ◌≤◌, ◌⊎◌, true, inl, inr, refl, ap, ◌∙◌, arith}
+use Rattle.std.proofs.Common.{◌≡◌, ℕ, ◌+◌, ◌*◌, ◌/◌, ◌%◌, ◌<◌, ◌≤◌, ◌⊎◌, true}
+use Rattle.std.proofs.Common.{inl, inr, refl, ap, ◌∙◌, arith}
 use Rattle.cpu6502.specs.declared.mnemonic.Mnemonic.{Mnemonic}
 use Rattle.cpu6502.specs.declared.mnemonic.Mnemonic.TheVariants.{Cld, Jsr, Ldx, Rts, Sta}
 use Rattle.cpu6502.specs.declared.mnemonic.Mode.{Mode}
@@ -9,7 +10,8 @@ use Rattle.cpu6502.specs.Opcodes.{length_of}
 use Rattle.code_runs.specs.Runs.{State, put, Leads}
 use Rattle.code_runs.specs.Code.{Stands}
 use Rattle.code_runs.specs.Calls.{Pulls}
-use Rattle.code_runs.proofs.Laws.{stay, does, goes_once, puts_once, leads_stay, put_same, put_other, works, reads_immediate, flag_steps, load_steps, jump_steps, stands_stay}
+use Rattle.code_runs.proofs.Laws.{stay, does, goes_once, puts_once, leads_stay, put_same, put_other, works}
+use Rattle.code_runs.proofs.Laws.{reads_immediate, flag_steps, load_steps, jump_steps, stands_stay}
 use Rattle.scopes.specs.Desk.{Desk}
 use Rattle.scope_lines.specs.Lowered.{writes_at, spot}
 use Rattle.scope_lines.proofs.Laws.{Ground, HasCode as HasLines}

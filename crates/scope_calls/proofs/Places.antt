@@ -1,5 +1,6 @@
 -- Where an entrance's code stands, and that a call writes apart from it and from its return address.
-use Rattle.std.proofs.Common.{◌≡◌, ℕ, ◌+◌, ◌<◌, ◌≤◌, ◌⊎◌, true, ◌++◌, inl, inr, sym, ap, ◌∙◌, subst, arith}
+use Rattle.std.proofs.Common.{◌≡◌, ℕ, ◌+◌, ◌<◌, ◌≤◌, ◌⊎◌, true, ◌++◌, inl, inr, sym, ap}
+use Rattle.std.proofs.Common.{◌∙◌, subst, arith}
 use Rattle.cpu6502.specs.declared.memory.TheConstants.{MEMORY_SIZE}
 use Rattle.cpu6502.specs.Registers.{stack_place}
 use Rattle.cpu6502.proofs.Laws.{opcodes_have_rows}
@@ -11,7 +12,8 @@ use Rattle.asm6502.proofs.Laws.{kept-append, size_of-append, stretches_stand}
 use Rattle.scope_lines.specs.Lowered.{writes_at}
 use Rattle.scope_lines.proofs.Laws.{Ground}
 use Rattle.scope_calls.specs.Entrances.{entrance_lines}
-use Rattle.scope_calls.specs.Listed.{Listed, listing_at, end_at, low_at, high_at, layout_at, HasCode, IsWellEntered, MayStore, AsBlock, AsNumber, AsCall}
+use Rattle.scope_calls.specs.Listed.{Listed, listing_at, end_at, low_at, high_at, layout_at, HasCode, IsWellEntered}
+use Rattle.scope_calls.specs.Listed.{MayStore, AsBlock, AsNumber, AsCall}
 use Rattle.scope_calls.proofs.Sizing.{entrances_take_size, entrance_kept, place_within}
 
 -- the listing ends behind the entrance's lines

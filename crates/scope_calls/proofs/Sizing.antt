@@ -1,5 +1,6 @@
 -- How many bytes an entrance's lines take, that all of them are kept, and where the parts stand.
-use Rattle.std.proofs.Common.{◌≡◌, ℕ, ◌+◌, ◌≤◌, Bool, true, false, List, [], ◌∷◌, ◌++◌, Option, Some, None, unwrap_or, if◌then◌else◌, refl, ap, ◌∙◌, subst, arith}
+use Rattle.std.proofs.Common.{◌≡◌, ℕ, ◌+◌, ◌≤◌, Bool, true, false, List, [], ◌∷◌, ◌++◌}
+use Rattle.std.proofs.Common.{Option, Some, None, unwrap_or, if◌then◌else◌, refl, ap, ◌∙◌, subst, arith}
 use Rattle.std.specs.Option.{option_map}
 use Rattle.cpu6502.specs.declared.mnemonic.Mnemonic.TheVariants.{Rts}
 use Rattle.cpu6502.specs.declared.mnemonic.Mode.TheVariants.{Implied}
@@ -14,7 +15,8 @@ use Rattle.scope_lines.specs.Instructions.{code}
 use Rattle.scope_lines.specs.Sizes.{size}
 use Rattle.scope_lines.specs.Lines.{block_around, block_lines}
 use Rattle.scope_lines.proofs.Laws.{lines_size, lines_kept}
-use Rattle.scope_calls.specs.Entrances.{Entrance, lead_lines, lead_size, voices_place, call_lines, voice_lines, voice_size, entrance_lines, EntrancesTakeSize}
+use Rattle.scope_calls.specs.Entrances.{Entrance, lead_lines, lead_size, voices_place, call_lines, voice_lines}
+use Rattle.scope_calls.specs.Entrances.{voice_size, entrance_lines, EntrancesTakeSize}
 
 -- the parts of an entrance
 abbrev pub first_lines : Entrance → List Line

@@ -1,5 +1,6 @@
 -- Calls of entrances return.
-use Rattle.std.proofs.Common.{◌≡◌, ℕ, ◌+◌, ◌%◌, ◌<◌, ◌≤◌, length, inl, inr, refl, sym, ap, ◌∙◌, subst, arith}
+use Rattle.std.proofs.Common.{◌≡◌, ℕ, ◌+◌, ◌%◌, ◌<◌, ◌≤◌, length, inl, inr, refl, sym, ap}
+use Rattle.std.proofs.Common.{◌∙◌, subst, arith}
 use Rattle.std.proofs.lemmas.Bool.{and_parts}
 use Rattle.std.specs.Prelude.{slice_index}
 use Rattle.cpu6502.specs.declared.machine.Machine.{Machine}
@@ -10,7 +11,8 @@ use Rattle.cpu6502.specs.Registers.{stack_place}
 use Rattle.cpu6502.specs.Call.{entered}
 use Rattle.code_runs.specs.Runs.{view, Leads}
 use Rattle.code_runs.specs.Code.{Stands}
-use Rattle.code_runs.proofs.Laws.{goes_once, leads_on, in_steps, call_returns, entry_pulls, entry_kept, works, jump_steps, stands_stay}
+use Rattle.code_runs.proofs.Laws.{goes_once, leads_on, in_steps, call_returns, entry_pulls, entry_kept, works}
+use Rattle.code_runs.proofs.Laws.{jump_steps, stands_stay}
 use Rattle.asm6502.specs.Lines.{kept, size_of}
 use Rattle.asm6502.specs.Standing.{LinesAt}
 use Rattle.scopes.specs.Desk.{Desk}
@@ -18,10 +20,12 @@ use Rattle.scopes.specs.Meaning.{Done}
 use Rattle.scope_lines.specs.Reach.{nothing_around, has_lines}
 use Rattle.scope_lines.specs.Lowered.{spot}
 use Rattle.scope_calls.specs.Entrances.{entrance_lines, voice_has_lines}
-use Rattle.scope_calls.specs.Listed.{Listed, low_at, layout_at, HasCode, IsCode, IsWellEntered, entrance_desk, meant, MayStore, AsBlock, AsNumber, AsCall}
+use Rattle.scope_calls.specs.Listed.{Listed, low_at, layout_at, HasCode, IsCode, IsWellEntered, entrance_desk, meant}
+use Rattle.scope_calls.specs.Listed.{MayStore, AsBlock, AsNumber, AsCall}
 use Rattle.scope_calls.specs.EntranceLaws.{EntrancesReturn}
 use Rattle.scope_calls.proofs.Sizing.{parts_stand}
-use Rattle.scope_calls.proofs.Places.{bounds_of, ground_of, code_stands, store_below, store_outside, block_off_stack, return_unwritten}
+use Rattle.scope_calls.proofs.Places.{bounds_of, ground_of, code_stands, store_below, store_outside, block_off_stack}
+use Rattle.scope_calls.proofs.Places.{return_unwritten}
 use Rattle.scope_calls.proofs.Calling.{Call, Ends, entrance_ends}
 
 -- ---- the code in memories that have the same bytes of it

@@ -1,5 +1,7 @@
 -- Entrances that are worked by hand are well entered, their code stands, and what the law says of them.
-use Rattle.std.proofs.Common.{◌≡◌, ◌∙◌, ℕ, ◌+◌, ◌<◌, ◌≤◌, ◌⊎◌, ◌&&◌, ◌||◌, Bool, true, List, [], ◌∷◌, Some, nat_eq, nat_le, inl, inr, refl, sym, ap, subst, arith}
+use Rattle.std.proofs.Common.{◌≡◌, ◌∙◌, ℕ, ◌+◌, ◌<◌, ◌≤◌, ◌⊎◌, ◌&&◌, ◌||◌}
+use Rattle.std.proofs.Common.{Bool, true, List, [], ◌∷◌, Some, nat_eq, nat_le, inl, inr, refl, sym, ap, subst}
+use Rattle.std.proofs.Common.{arith}
 use Rattle.std.specs.Prelude.{slice_index}
 use Rattle.std.proofs.lemmas.Bool.{eqb-true, leb-true, and_parts, or_cases}
 use Rattle.cpu6502.specs.declared.cpu.Cpu.{Cpu}
@@ -8,9 +10,13 @@ use Rattle.cpu6502.specs.Code.{Holds}
 use Rattle.code_runs.proofs.Laws.{stands_absolute}
 use Rattle.asm6502.specs.Assembly.{assembled_bytes}
 use Rattle.scopes.specs.Meaning.{Done}
-use Rattle.scope_calls.specs.Listed.{Listed, listing_at, layout_at, HasCode, IsCode, IsWellEntered, meant, MayStore, AsBlock, AsNumber, AsCall}
+use Rattle.scope_calls.specs.Listed.{Listed, listing_at, layout_at, HasCode, IsCode, IsWellEntered, meant, MayStore}
+use Rattle.scope_calls.specs.Listed.{AsBlock, AsNumber, AsCall}
 use Rattle.scope_calls.specs.EntranceLaws.{Returns, IsApart, entrance_weight, are_known}
-use Rattle.scope_calls.specs.WorkedEntrances.{VoicesAreBlocks, ListingsAgree, IsBlocks, AtSid, AtPointer, VolumeStoresThere, VoicesStoreThere, VolumeIsApart, NumberIsNotApart, AreAt, machine_of, Leaves, IsCalledSo, volume_entrance, volume_code, VolumeIsCalled, voices_entrance, voices_code, VoicesAreCalled}
+use Rattle.scope_calls.specs.WorkedEntrances.{VoicesAreBlocks, ListingsAgree, IsBlocks, AtSid, AtPointer}
+use Rattle.scope_calls.specs.WorkedEntrances.{VolumeStoresThere, VoicesStoreThere, VolumeIsApart, NumberIsNotApart}
+use Rattle.scope_calls.specs.WorkedEntrances.{AreAt, machine_of, Leaves, IsCalledSo, volume_entrance, volume_code}
+use Rattle.scope_calls.specs.WorkedEntrances.{VolumeIsCalled, voices_entrance, voices_code, VoicesAreCalled}
 use Rattle.scope_calls.proofs.Whole.{entrances_return}
 
 abbrev Written : ℕ → Type 0

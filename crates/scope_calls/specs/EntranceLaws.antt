@@ -1,6 +1,7 @@
 -- What calls of entrances do: they return in the machine whose memory is what the entrance means, depend on the bytes
 -- that they may read alone, and leave the code that stands apart. This is the project's own form of player code.
-use Rattle.std.specs.Prelude.{◌≡◌, ◌≢◌, ℕ, ◌+◌, ◌*◌, ◌<◌, ◌≤◌, ◌⊎◌, ◌&&◌, Bool, true, false, Option, Some, None, length, slice_index, All}
+use Rattle.std.specs.Prelude.{◌≡◌, ◌≢◌, ℕ, ◌+◌, ◌*◌, ◌<◌, ◌≤◌, ◌⊎◌, ◌&&◌}
+use Rattle.std.specs.Prelude.{Bool, true, false, Option, Some, None, length, slice_index, All}
 use Rattle.cpu6502.specs.declared.effect.Write.{Write}
 use Rattle.cpu6502.specs.declared.machine.Machine.{Machine}
 use Rattle.cpu6502.specs.declared.memory.TheConstants.{MEMORY_SIZE}

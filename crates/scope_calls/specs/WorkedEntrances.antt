@@ -1,7 +1,8 @@
 -- Entrances that are worked by hand at $1000: one that sets the volume to the number of the call, which is stored, and
 -- one whose three voices each write X into a register of their own. Both are well entered, so what the law on entrances
 -- asks can be met. Source: the MOS 6502 programming manual.
-use Rattle.std.specs.Prelude.{◌≡◌, ◌≢◌, ℕ, ◌⊎◌, ◌≤◌, ◌&&◌, true, false, nat_eq, nat_le, List, [], ◌∷◌, Some, None, length, slice_index}
+use Rattle.std.specs.Prelude.{◌≡◌, ◌≢◌, ℕ, ◌⊎◌, ◌≤◌, ◌&&◌, true, false, nat_eq, nat_le}
+use Rattle.std.specs.Prelude.{List, [], ◌∷◌, Some, None, length, slice_index}
 use Rattle.cpu6502.specs.declared.cpu.Cpu.{Cpu}
 use Rattle.cpu6502.specs.declared.machine.Machine.{Machine}
 use Rattle.cpu6502.specs.declared.memory.TheConstants.{MEMORY_SIZE}
@@ -93,7 +94,8 @@ volume_entrance =
 -- JMP $1003, CLD, STA $100E, LDA $100E, STA $D418, RTS, and the byte
 abbrev pub volume_code : List ℕ
 volume_code =
-    0x4C ∷ 0x03 ∷ 0x10 ∷ 0xD8 ∷ 0x8D ∷ 0x0E ∷ 0x10 ∷ 0xAD ∷ 0x0E ∷ 0x10 ∷ 0x8D ∷ 0x18 ∷ 0xD4 ∷ 0x60 ∷ 0x00 ∷ []
+    0x4C ∷ 0x03 ∷ 0x10 ∷ 0xD8 ∷ 0x8D ∷ 0x0E ∷ 0x10 ∷ 0xAD ∷ 0x0E ∷ 0x10 ∷ 0x8D ∷ 0x18 ∷ 0xD4
+    ∷ 0x60 ∷ 0x00 ∷ []
 
 -- six steps
 abbrev pub VolumeIsCalled : Type 0
@@ -113,7 +115,8 @@ voices_entrance =
 -- RTS
 abbrev pub voices_code : List ℕ
 voices_code =
-    0x4C ∷ 0x03 ∷ 0x10 ∷ 0xD8 ∷ 0xA9 ∷ 0x0F ∷ 0x8D ∷ 0x18 ∷ 0xD4 ∷ 0xA2 ∷ 0x00 ∷ 0x20 ∷ 0x15 ∷ 0x10 ∷ 0xA2 ∷ 0x07 ∷ 0x20
+    0x4C ∷ 0x03 ∷ 0x10 ∷ 0xD8 ∷ 0xA9 ∷ 0x0F ∷ 0x8D ∷ 0x18 ∷ 0xD4 ∷ 0xA2 ∷ 0x00 ∷ 0x20 ∷ 0x15
+    ∷ 0x10 ∷ 0xA2 ∷ 0x07 ∷ 0x20
     ∷ 0x15 ∷ 0x10 ∷ 0xA2 ∷ 0x0E ∷ 0x8A ∷ 0x9D ∷ 0x04 ∷ 0xD4 ∷ 0x60 ∷ []
 
 -- 18 steps; below the call's own return address, at $01FF and $01FE, stands that of the second voice, the place of its

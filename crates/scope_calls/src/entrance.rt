@@ -1,6 +1,7 @@
 //! The lines of an entrance.
 
-ghost use Rattle.std.specs.Prelude.{◌≡◌, ◌+◌, ◌≤◌, ◌++◌, [], ◌∷◌, true, length, Option, OnOk, OnErr, IfOk};
+ghost use Rattle.std.specs.Prelude.{◌≡◌, ◌+◌, ◌≤◌, ◌++◌, [], ◌∷◌, true, length, Option, OnOk};
+ghost use Rattle.std.specs.Prelude.{OnErr, IfOk};
 ghost use Rattle.std.specs.Option.{option_copied};
 ghost use Rattle.cpu6502.specs.declared.mnemonic.Mnemonic.TheVariants.{Rts};
 ghost use Rattle.cpu6502.specs.declared.mnemonic.Mode.TheVariants.{Implied};

@@ -1,10 +1,13 @@
 -- The lines that are lowered so far, and those that are left, are those of all lines.
-use Rattle.std.proofs.Common.{◌≡◌, ℕ, ◌+◌, ◌≤◌, Bool, true, false, List, ◌∷◌, ◌++◌, refl, sym, ap, subst, ◌∙◌, arith, if◌then◌else◌}
+use Rattle.std.proofs.Common.{◌≡◌, ℕ, ◌+◌, ◌≤◌, Bool, true, false, List, ◌∷◌, ◌++◌, refl}
+use Rattle.std.proofs.Common.{sym, ap, subst, ◌∙◌, arith, if◌then◌else◌}
 use Rattle.std.proofs.lemmas.List.{append_assoc}
 use Rattle.asm6502.specs.declared.lines.Line.{Line}
 use Rattle.scopes.specs.declared.line.Line.{Line as Written}
-use Rattle.scopes.specs.declared.line.Operand.TheVariants.{Number, Var, Own, Entry, Pointed, Pointer, Register, OwnRegister, Timer}
-use Rattle.scopes.specs.declared.line.Line.TheVariants.{Do, With, Scope, Leave, LeaveIf, Loop, Again, AgainIf, When, Choose, Or, Never, End}
+use Rattle.scopes.specs.declared.line.Operand.TheVariants.{Number, Var, Own, Entry, Pointed, Pointer, Register}
+use Rattle.scopes.specs.declared.line.Operand.TheVariants.{OwnRegister, Timer}
+use Rattle.scopes.specs.declared.line.Line.TheVariants.{Do, With, Scope, Leave, LeaveIf, Loop, Again, AgainIf, When}
+use Rattle.scopes.specs.declared.line.Line.TheVariants.{Choose, Or, Never, End}
 use Rattle.scopes.specs.Trees.{Tree, ThenTree, ScopeTree, ChooseTree, Open, opened}
 use Rattle.scope_lines.specs.Sizes.{size, own_size}
 use Rattle.scope_lines.specs.Lines.{Around, in_scope, lines}

@@ -1,7 +1,8 @@
 -- On no way does anything become unknown.
 use Rattle.std.proofs.Common.{ℕ, Bool, true, false, nat_eq, refl, if◌then◌else◌}
 use Rattle.std.proofs.lemmas.Bool.{and_from}
-use Rattle.scopes.specs.Trees.{Tree, DoTree, WithTree, NoneTree, ThenTree, ScopeTree, LeaveTree, LeaveIfTree, LoopTree, AgainTree, AgainIfTree, WhenTree, ChooseTree, NeverTree}
+use Rattle.scopes.specs.Trees.{Tree, DoTree, WithTree, NoneTree, ThenTree, ScopeTree, LeaveTree, LeaveIfTree, LoopTree}
+use Rattle.scopes.specs.Trees.{AgainTree, AgainIfTree, WhenTree, ChooseTree, NeverTree}
 use Rattle.scope_lines.specs.Known.{Known, Ways, everything, both, alone_sets, with_sets, known}
 use Rattle.scope_lines.specs.Known.{goes_on, leaves, turns_again, one_of, joined}
 use Rattle.scope_lines.proofs.Knowing.{IsWithin, within_itself, within_more, either_right}

@@ -1,12 +1,14 @@
 -- The lines of a tree are at home in any listing.
-use Rattle.std.proofs.Common.{◌≡◌, ℕ, ◌+◌, ◌<◌, ◌≤◌, Bool, IsTrue, true, false, List, [], ◌∷◌, ◌++◌}
+use Rattle.std.proofs.Common.{◌≡◌, ℕ, ◌+◌, ◌<◌, ◌≤◌, Bool, IsTrue, true, false, List, []}
+use Rattle.std.proofs.Common.{◌∷◌, ◌++◌}
 use Rattle.std.proofs.Common.{Some, None, refl, sym, ap, subst, ◌∙◌, inl, arith, if◌then◌else◌}
 use Rattle.std.specs.Option.{is_some}
 use Rattle.std.proofs.lemmas.Bool.{and_parts, and_from, lt-ltb}
 use Rattle.cpu6502.specs.declared.mnemonic.Mnemonic.{Mnemonic}
 use Rattle.cpu6502.specs.declared.mnemonic.Mnemonic.TheVariants.{Asl, Lsr, Rol, Ror, Jmp}
 use Rattle.cpu6502.specs.declared.mnemonic.Mode.{Mode}
-use Rattle.cpu6502.specs.declared.mnemonic.Mode.TheVariants.{Implied, Immediate, Absolute, AbsoluteX, AbsoluteY, IndirectY, ZeroPage, Relative}
+use Rattle.cpu6502.specs.declared.mnemonic.Mode.TheVariants.{Implied, Immediate, Absolute, AbsoluteX, AbsoluteY}
+use Rattle.cpu6502.specs.declared.mnemonic.Mode.TheVariants.{IndirectY, ZeroPage, Relative}
 use Rattle.cpu6502.specs.Opcodes.{opcode_of}
 use Rattle.asm6502.specs.declared.lines.Operand.TheVariants.{Nothing, Number as Numeral, Label}
 use Rattle.asm6502.specs.declared.lines.Line.{Line}
@@ -16,11 +18,13 @@ use Rattle.asm6502.specs.Stretches.{branch_of, AtHome}
 use Rattle.asm6502.proofs.Laws.{stretches_pass}
 use Rattle.scopes.specs.declared.line.Half.TheVariants.{Low, High}
 use Rattle.scopes.specs.declared.line.Operand.{Operand}
-use Rattle.scopes.specs.declared.line.Operand.TheVariants.{Number, Var, Own, Entry, Pointed, Pointer, Register, OwnRegister, Timer}
+use Rattle.scopes.specs.declared.line.Operand.TheVariants.{Number, Var, Own, Entry, Pointed, Pointer, Register}
+use Rattle.scopes.specs.declared.line.Operand.TheVariants.{OwnRegister, Timer}
 use Rattle.scopes.specs.declared.line.Flag.TheVariants.{Zero, Minus, Carry}
 use Rattle.scopes.specs.declared.line.Test.{Test}
 use Rattle.scopes.specs.declared.line.Test.TheVariants.{On, Off}
-use Rattle.scopes.specs.Trees.{Tree, DoTree, WithTree, NoneTree, ThenTree, ScopeTree, LeaveTree, LeaveIfTree, LoopTree, AgainTree, AgainIfTree, WhenTree, ChooseTree, NeverTree}
+use Rattle.scopes.specs.Trees.{Tree, DoTree, WithTree, NoneTree, ThenTree, ScopeTree, LeaveTree, LeaveIfTree, LoopTree}
+use Rattle.scopes.specs.Trees.{AgainTree, AgainIfTree, WhenTree, ChooseTree, NeverTree}
 use Rattle.scope_lines.specs.Instructions.{code, mode_of, argument_of, alone_mode, branch, jump, is_plain, is_spelled}
 use Rattle.scope_lines.specs.Instructions.{branch_of as test_branch}
 use Rattle.scope_lines.specs.Sizes.{size, most}

@@ -4,8 +4,10 @@ use Rattle.std.proofs.Common.{Option, Some, None, refl, sym, ap, ◌∙◌, subs
 use Rattle.std.proofs.lemmas.Bool.{and_parts, false≢true, eq-eqb, eqb-true}
 use Rattle.scopes.specs.Desk.{Desk, Layout}
 use Rattle.scopes.specs.Steps.{done, done_with}
-use Rattle.scopes.specs.Trees.{DoTree, WithTree, NoneTree, ThenTree, ScopeTree, LeaveTree, LeaveIfTree, LoopTree, AgainTree, AgainIfTree, WhenTree, ChooseTree, NeverTree}
-use Rattle.scopes.specs.Meaning.{Outcome, Done, Left, Again, Stuck, Ran, each_one, is_met, ended, stepped, paid, behind, and_then, out_of_scope, scoped, next_turn, turns, ran}
+use Rattle.scopes.specs.Trees.{DoTree, WithTree, NoneTree, ThenTree, ScopeTree, LeaveTree, LeaveIfTree, LoopTree}
+use Rattle.scopes.specs.Trees.{AgainTree, AgainIfTree, WhenTree, ChooseTree, NeverTree}
+use Rattle.scopes.specs.Meaning.{Outcome, Done, Left, Again, Stuck, Ran, each_one, is_met, ended, stepped, paid, behind}
+use Rattle.scopes.specs.Meaning.{and_then, out_of_scope, scoped, next_turn, turns, ran}
 use Rattle.scope_lines.specs.Instructions.{mode_of, is_spelled}
 use Rattle.scope_lines.specs.Reach.{nothing_around, before_bytes, behind_bytes, is_operand, has_lines, in_scope, in_loop}
 use Rattle.scope_lines.specs.Sizes.{most}

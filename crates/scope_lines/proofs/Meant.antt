@@ -16,8 +16,10 @@ use Rattle.asm6502.specs.Standing.{LinesAt}
 use Rattle.asm6502.proofs.Laws.{fronts_stand, backs_stand}
 use Rattle.scopes.specs.Desk.{Desk}
 use Rattle.scopes.specs.Steps.{done, done_with}
-use Rattle.scopes.specs.Trees.{Tree, DoTree, WithTree, NoneTree, ThenTree, ScopeTree, LeaveTree, LeaveIfTree, LoopTree, AgainTree, AgainIfTree, WhenTree, ChooseTree, NeverTree}
-use Rattle.scopes.specs.Meaning.{Outcome, Done, Left, Again, Stuck, Ran, each_one, is_met, ended, behind, and_then, out_of_scope, scoped, next_turn, turns, ran}
+use Rattle.scopes.specs.Trees.{Tree, DoTree, WithTree, NoneTree, ThenTree, ScopeTree, LeaveTree, LeaveIfTree, LoopTree}
+use Rattle.scopes.specs.Trees.{AgainTree, AgainIfTree, WhenTree, ChooseTree, NeverTree}
+use Rattle.scopes.specs.Meaning.{Outcome, Done, Left, Again, Stuck, Ran, each_one, is_met, ended, behind, and_then}
+use Rattle.scopes.specs.Meaning.{out_of_scope, scoped, next_turn, turns, ran}
 use Rattle.scope_lines.specs.Instructions.{mode_of, argument_of, alone_mode, is_spelled}
 use Rattle.scope_lines.specs.Sizes.{size, most}
 use Rattle.scope_lines.specs.Lines.{Around, in_scope, in_loop, forwards, backwards, lines}
@@ -28,7 +30,8 @@ use Rattle.scope_lines.proofs.Plain.{alone_one}
 use Rattle.scope_lines.proofs.Stepping.{with_does, alone_does}
 use Rattle.scope_lines.proofs.Sizing.{sizes_are_bounded, lines_size}
 use Rattle.scope_lines.proofs.Nearing.{IsNear, some_of, within, near_first, near_rest, near_scope, near_loop}
-use Rattle.scope_lines.proofs.Ways.{Ground, HasCode, IsAround, target, Comes, kept, stands_here, step_comes, jumps, branches, passes, forwards_goes, backwards_goes, own_writes, change_writes}
+use Rattle.scope_lines.proofs.Ways.{Ground, HasCode, IsAround, target, Comes, kept, stands_here, step_comes, jumps}
+use Rattle.scope_lines.proofs.Ways.{branches, passes, forwards_goes, backwards_goes, own_writes, change_writes}
 
 -- ---- kinds
 

@@ -1,8 +1,10 @@
 -- How lines are read from the first one on.
 use Rattle.std.proofs.Common.{◌≡◌, ℕ, ◌⊎◌, inl, inr, true, List, [], ◌∷◌, refl, sym, ap, subst, ◌∙◌}
 use Rattle.scopes.specs.declared.line.Line.{Line}
-use Rattle.scopes.specs.declared.line.Line.TheVariants.{Do, With, Scope, Leave, LeaveIf, Loop, Again, AgainIf, When, Choose, Or, Never, End}
-use Rattle.scopes.specs.Trees.{Tree, DoTree, WithTree, ThenTree, ScopeTree, LeaveTree, LeaveIfTree, AgainTree, AgainIfTree, ChooseTree, NeverTree}
+use Rattle.scopes.specs.declared.line.Line.TheVariants.{Do, With, Scope, Leave, LeaveIf, Loop, Again, AgainIf, When}
+use Rattle.scopes.specs.declared.line.Line.TheVariants.{Choose, Or, Never, End}
+use Rattle.scopes.specs.Trees.{Tree, DoTree, WithTree, ThenTree, ScopeTree, LeaveTree, LeaveIfTree, AgainTree}
+use Rattle.scopes.specs.Trees.{AgainIfTree, ChooseTree, NeverTree}
 use Rattle.scopes.specs.Trees.{Open, Lines, Other, put_before, led, opened}
 use Rattle.scope_lines.specs.Readings.{first_of, behind_of, are_open, simple, is_simple}
 

@@ -1,5 +1,6 @@
 -- Where the code of lines stands, what is around them, and what single lines do.
-use Rattle.std.proofs.Common.{◌≡◌, ◌≢◌, ℕ, ◌+◌, ◌-◌, ◌%◌, ◌<◌, ◌≤◌, ◌⊎◌, true, false, nat_eq, nat_lt}
+use Rattle.std.proofs.Common.{◌≡◌, ◌≢◌, ℕ, ◌+◌, ◌-◌, ◌%◌, ◌<◌, ◌≤◌, ◌⊎◌, true}
+use Rattle.std.proofs.Common.{false, nat_eq, nat_lt}
 use Rattle.std.proofs.Common.{Option, Some, None, inl, inr, refl, ap, ◌∙◌, subst, arith, ◌||◌}
 use Rattle.std.proofs.lemmas.Bool.{lt-ltb, le-ltb, or_left, or_right}
 use Rattle.cpu6502.specs.declared.mnemonic.Mnemonic.{Mnemonic}
@@ -18,7 +19,8 @@ use Rattle.scopes.specs.declared.line.Test.TheVariants.{On, Off}
 use Rattle.scopes.specs.declared.line.Flag.TheVariants.{Zero, Minus, Carry}
 use Rattle.scopes.specs.Desk.{Desk, Layout}
 use Rattle.scopes.specs.declared.line.Operand.{Operand}
-use Rattle.scopes.specs.declared.line.Operand.TheVariants.{Number, Var, Own, Entry, Pointed, Pointer, Register, OwnRegister, Timer}
+use Rattle.scopes.specs.declared.line.Operand.TheVariants.{Number, Var, Own, Entry, Pointed, Pointer, Register}
+use Rattle.scopes.specs.declared.line.Operand.TheVariants.{OwnRegister, Timer}
 use Rattle.scopes.specs.declared.line.Half.TheVariants.{Low, High}
 use Rattle.scopes.specs.Steps.{may_change}
 use Rattle.scopes.specs.Meaning.{Outcome, Done, Left, Again, Stuck, Ran, is_met, stepped, behind}

@@ -1,5 +1,6 @@
 -- The sites that are worked by hand are well placed and entered.
-use Rattle.std.proofs.Common.{◌≡◌, ℕ, suc, ◌+◌, ◌-◌, ◌<◌, ◌≤◌, ◌⊎◌, inl, inr, ◌||◌, Bool, true, false, nat_eq, nat_lt, List, [], ◌∷◌, ◌++◌}
+use Rattle.std.proofs.Common.{◌≡◌, ℕ, suc, ◌+◌, ◌-◌, ◌<◌, ◌≤◌, ◌⊎◌, inl, inr, ◌||◌}
+use Rattle.std.proofs.Common.{Bool, true, false, nat_eq, nat_lt, List, [], ◌∷◌, ◌++◌}
 use Rattle.std.proofs.Common.{slice_index, unwrap_or, Option, Some, None, refl, sym, ap, ◌∙◌, arith, if◌then◌else◌}
 use Rattle.std.specs.Option.{option_map}
 use Rattle.std.proofs.lemmas.Bool.{eqb-true, le-ltb, or_cases, false≢true}
@@ -9,7 +10,8 @@ use Rattle.scopes.specs.Desk.{Layout}
 use Rattle.scope_lines.specs.Lowered.{listing_at, layout_at, writes_at, IsWellPlaced, Enters}
 use Rattle.scope_lines.specs.Isolation.{AgreeOnBytes, IsIsolated}
 use Rattle.scope_lines.specs.WorkedSites.{state_with, sought_site, sought_bytes, seeks, SoughtIsLowered}
-use Rattle.scope_lines.specs.WorkedSites.{summed_site, pointing_bytes, adding_bytes, summed_bytes, sums, SummedIsLowered, OthersAreNotIsolated}
+use Rattle.scope_lines.specs.WorkedSites.{summed_site, pointing_bytes, adding_bytes, summed_bytes, sums}
+use Rattle.scope_lines.specs.WorkedSites.{SummedIsLowered, OthersAreNotIsolated}
 
 -- a label is in the listing, or at its origin
 label_within : (lines : List Line) (label : ℕ) → unwrap_or (place_of lines label) 0 ≤ size_of lines

@@ -3,8 +3,10 @@
 use Rattle.std.specs.Prelude.{ℕ, ◌+◌, ◌&&◌, Bool, true, false}
 use Rattle.std.specs.Option.{is_some}
 use Rattle.cpu6502.specs.declared.mnemonic.Mnemonic.{Mnemonic}
-use Rattle.cpu6502.specs.declared.mnemonic.Mnemonic.TheVariants.{Adc, And, Asl, Bcc, Bcs, Beq, Bit, Bmi, Bne, Bpl, Clc, Clv, Cmp, Cpx, Cpy}
-use Rattle.cpu6502.specs.declared.mnemonic.Mnemonic.TheVariants.{Dec, Dex, Dey, Eor, Inc, Inx, Iny, Jmp, Lda, Ldx, Ldy, Lsr, Nop, Ora}
+use Rattle.cpu6502.specs.declared.mnemonic.Mnemonic.TheVariants.{Adc, And, Asl, Bcc, Bcs, Beq, Bit, Bmi, Bne, Bpl, Clc}
+use Rattle.cpu6502.specs.declared.mnemonic.Mnemonic.TheVariants.{Clv, Cmp, Cpx, Cpy}
+use Rattle.cpu6502.specs.declared.mnemonic.Mnemonic.TheVariants.{Dec, Dex, Dey, Eor, Inc, Inx, Iny, Jmp, Lda, Ldx, Ldy}
+use Rattle.cpu6502.specs.declared.mnemonic.Mnemonic.TheVariants.{Lsr, Nop, Ora}
 use Rattle.cpu6502.specs.declared.mnemonic.Mnemonic.TheVariants.{Rol, Ror, Sbc, Sec, Sta, Stx, Sty, Tax, Tay, Txa, Tya}
 use Rattle.cpu6502.specs.declared.mnemonic.Mode.{Mode}
 use Rattle.cpu6502.specs.declared.mnemonic.Mode.TheVariants.{Implied, Accumulator, Immediate, ZeroPage, Absolute}
@@ -15,7 +17,8 @@ use Rattle.asm6502.specs.declared.lines.Operand.TheVariants.{Number as Numeral, 
 use Rattle.asm6502.specs.declared.lines.Item.TheVariants.{Code}
 use Rattle.asm6502.specs.declared.lines.Line.{Line}
 use Rattle.scopes.specs.declared.line.Operand.{Operand}
-use Rattle.scopes.specs.declared.line.Operand.TheVariants.{Number, Var, Own, Entry, Pointed, Pointer, Register, OwnRegister, Timer}
+use Rattle.scopes.specs.declared.line.Operand.TheVariants.{Number, Var, Own, Entry, Pointed, Pointer, Register}
+use Rattle.scopes.specs.declared.line.Operand.TheVariants.{OwnRegister, Timer}
 use Rattle.scopes.specs.declared.line.Flag.TheVariants.{Zero, Minus, Carry}
 use Rattle.scopes.specs.declared.line.Test.{Test}
 use Rattle.scopes.specs.declared.line.Test.TheVariants.{On, Off}

@@ -14,7 +14,8 @@ use Rattle.scopes.specs.declared.line.Flag.TheVariants.{Zero, Minus, Carry}
 use Rattle.scopes.specs.declared.line.Test.{Test}
 use Rattle.scopes.specs.declared.line.Test.TheVariants.{On, Off}
 use Rattle.scopes.specs.Steps.{is_store}
-use Rattle.scopes.specs.Trees.{Tree, DoTree, WithTree, NoneTree, ThenTree, ScopeTree, LeaveTree, LeaveIfTree, LoopTree, AgainTree, AgainIfTree, WhenTree, ChooseTree, NeverTree}
+use Rattle.scopes.specs.Trees.{Tree, DoTree, WithTree, NoneTree, ThenTree, ScopeTree, LeaveTree, LeaveIfTree, LoopTree}
+use Rattle.scopes.specs.Trees.{AgainTree, AgainIfTree, WhenTree, ChooseTree, NeverTree}
 use Rattle.scope_lines.specs.Instructions.{alone_mode}
 
 -- a set of registers: A, X, Y, the flags that a branch looks at, and the two bytes of the pointer

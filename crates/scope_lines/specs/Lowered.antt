@@ -1,6 +1,7 @@
 -- What lowered blocks do: the lines of a tree in an assembled listing, entered in any machine that holds the block's
 -- own bytes, do what the tree means. This is the project's own language of player code.
-use Rattle.std.specs.Prelude.{◌≡◌, ℕ, ◌+◌, ◌<◌, ◌≤◌, ◌⊎◌, ◌||◌, Bool, true, nat_eq, List, ◌++◌, None}
+use Rattle.std.specs.Prelude.{◌≡◌, ℕ, ◌+◌, ◌<◌, ◌≤◌, ◌⊎◌, ◌||◌, Bool, true, nat_eq}
+use Rattle.std.specs.Prelude.{List, ◌++◌, None}
 use Rattle.cpu6502.specs.declared.memory.TheConstants.{MEMORY_SIZE}
 use Rattle.code_runs.specs.Runs.{State, Leads}
 use Rattle.code_runs.specs.Calls.{In}

@@ -3,7 +3,8 @@
 use Rattle.std.specs.Prelude.{ℕ, ◌&&◌, Bool, true, false, List, [], ◌∷◌, nat_eq, nat_lt}
 use Rattle.std.specs.Int.{bit_at}
 use Rattle.scopes.specs.declared.line.Line.{Line}
-use Rattle.scopes.specs.declared.line.Line.TheVariants.{Do, With, Scope, Leave, LeaveIf, Loop, Again, AgainIf, When, Choose, Or, End}
+use Rattle.scopes.specs.declared.line.Line.TheVariants.{Do, With, Scope, Leave, LeaveIf, Loop, Again, AgainIf, When}
+use Rattle.scopes.specs.declared.line.Line.TheVariants.{Choose, Or, End}
 use Rattle.scopes.specs.Trees.{DoTree, WithTree, LeaveTree, LeaveIfTree, AgainTree, AgainIfTree, NeverTree}
 use Rattle.scopes.specs.Trees.{Tree, NoneTree, Open, Lines, Other, opened}
 use Rattle.scope_lines.specs.Reach.{nothing_around, has_lines}

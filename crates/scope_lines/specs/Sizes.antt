@@ -4,7 +4,8 @@ use Rattle.std.specs.Prelude.{ℕ, ◌+◌, ◌≤◌, max, Bool, if◌then◌el
 use Rattle.cpu6502.specs.Opcodes.{length_of}
 use Rattle.scopes.specs.declared.line.Line.{Line}
 use Rattle.scopes.specs.declared.line.Line.TheVariants.{Do, With, Leave, LeaveIf, Again, AgainIf}
-use Rattle.scopes.specs.Trees.{Tree, DoTree, WithTree, NoneTree, ThenTree, ScopeTree, LeaveTree, LeaveIfTree, LoopTree, AgainTree, AgainIfTree, WhenTree, ChooseTree, NeverTree}
+use Rattle.scopes.specs.Trees.{Tree, DoTree, WithTree, NoneTree, ThenTree, ScopeTree, LeaveTree, LeaveIfTree, LoopTree}
+use Rattle.scopes.specs.Trees.{AgainTree, AgainIfTree, WhenTree, ChooseTree, NeverTree}
 use Rattle.scope_lines.specs.Instructions.{mode_of}
 
 -- a branch has two bytes, and a jump three

@@ -1,15 +1,21 @@
 -- Trees that are worked by hand: which of them have lines, how much these weigh, and what is known in them.
 use Rattle.std.specs.Prelude.{◌≡◌, ℕ, zero, suc, ◌^◌, ◌||◌, Bool, true, false, nat_eq, List, [], ◌∷◌}
-use Rattle.cpu6502.specs.declared.mnemonic.Mnemonic.TheVariants.{Adc, And, Asl, Beq, Bit, Brk, Clc, Cld, Cli, Clv, Cmp, Cpx, Cpy, Dec, Dex, Dey}
-use Rattle.cpu6502.specs.declared.mnemonic.Mnemonic.TheVariants.{Eor, Inc, Inx, Iny, Jmp, Jsr, Lda, Ldx, Ldy, Lsr, Nop, Ora, Pha, Php, Pla, Plp}
-use Rattle.cpu6502.specs.declared.mnemonic.Mnemonic.TheVariants.{Rol, Ror, Rti, Rts, Sbc, Sec, Sed, Sei, Sta, Stx, Sty, Tax, Tay, Tsx, Txa, Txs, Tya}
+use Rattle.cpu6502.specs.declared.mnemonic.Mnemonic.TheVariants.{Adc, And, Asl, Beq, Bit, Brk, Clc, Cld, Cli, Clv, Cmp}
+use Rattle.cpu6502.specs.declared.mnemonic.Mnemonic.TheVariants.{Cpx, Cpy, Dec, Dex, Dey}
+use Rattle.cpu6502.specs.declared.mnemonic.Mnemonic.TheVariants.{Eor, Inc, Inx, Iny, Jmp, Jsr, Lda, Ldx, Ldy, Lsr, Nop}
+use Rattle.cpu6502.specs.declared.mnemonic.Mnemonic.TheVariants.{Ora, Pha, Php, Pla, Plp}
+use Rattle.cpu6502.specs.declared.mnemonic.Mnemonic.TheVariants.{Rol, Ror, Rti, Rts, Sbc, Sec, Sed, Sei, Sta, Stx, Sty}
+use Rattle.cpu6502.specs.declared.mnemonic.Mnemonic.TheVariants.{Tax, Tay, Tsx, Txa, Txs, Tya}
 use Rattle.cpu6502.specs.declared.mnemonic.Mnemonic.{Mnemonic}
 use Rattle.scopes.specs.declared.line.Half.TheVariants.{Low, High}
-use Rattle.scopes.specs.declared.line.Operand.TheVariants.{Number, Var, Own, Entry, Pointed, Pointer, Register, OwnRegister, Timer}
+use Rattle.scopes.specs.declared.line.Operand.TheVariants.{Number, Var, Own, Entry, Pointed, Pointer, Register}
+use Rattle.scopes.specs.declared.line.Operand.TheVariants.{OwnRegister, Timer}
 use Rattle.scopes.specs.declared.line.Flag.TheVariants.{Zero, Minus, Carry}
 use Rattle.scopes.specs.declared.line.Test.TheVariants.{On, Off}
-use Rattle.scopes.specs.Trees.{Tree, DoTree, WithTree, NoneTree, ThenTree, ScopeTree, LeaveTree, LeaveIfTree, LoopTree, AgainTree, AgainIfTree, WhenTree, ChooseTree, NeverTree, tree_of}
-use Rattle.scope_lines.specs.declared.worked.TheConstants.{CAPPED, COUNTER, LIST, SOUGHT, SUMMED, NOT_CLOSED, ONE_SIDE, OTHER_SIDE, LEFT}
+use Rattle.scopes.specs.Trees.{Tree, DoTree, WithTree, NoneTree, ThenTree, ScopeTree, LeaveTree, LeaveIfTree, LoopTree}
+use Rattle.scopes.specs.Trees.{AgainTree, AgainIfTree, WhenTree, ChooseTree, NeverTree, tree_of}
+use Rattle.scope_lines.specs.declared.worked.TheConstants.{CAPPED, COUNTER, LIST, SOUGHT, SUMMED, NOT_CLOSED, ONE_SIDE}
+use Rattle.scope_lines.specs.declared.worked.TheConstants.{OTHER_SIDE, LEFT}
 use Rattle.scope_lines.specs.Sizes.{size, most}
 use Rattle.scope_lines.specs.Reach.{nothing_around, has_lines}
 use Rattle.scope_lines.specs.Known.{the_a, known, is_known}
@@ -90,11 +96,13 @@ some_alone [] = false
 some_alone (mnemonic ∷ more) = stands (DoTree mnemonic) || some_alone more
 
 abbrev pub alone_ones : List Mnemonic
-alone_ones = Asl ∷ Clc ∷ Clv ∷ Dex ∷ Dey ∷ Inx ∷ Iny ∷ Lsr ∷ Nop ∷ Rol ∷ Ror ∷ Sec ∷ Tax ∷ Tay ∷ Txa ∷ Tya ∷ []
+alone_ones = Asl ∷ Clc ∷ Clv ∷ Dex ∷ Dey ∷ Inx ∷ Iny ∷ Lsr ∷ Nop ∷ Rol ∷ Ror ∷ Sec ∷ Tax
+    ∷ Tay ∷ Txa ∷ Tya ∷ []
 
 abbrev pub byte_ones : List Mnemonic
 byte_ones =
-    Adc ∷ And ∷ Asl ∷ Bit ∷ Cmp ∷ Cpx ∷ Cpy ∷ Dec ∷ Eor ∷ Inc ∷ Lda ∷ Ldx ∷ Ldy ∷ Lsr ∷ Ora ∷ Rol ∷ Ror ∷ Sbc ∷ Sta ∷
+    Adc ∷ And ∷ Asl ∷ Bit ∷ Cmp ∷ Cpx ∷ Cpy ∷ Dec ∷ Eor ∷ Inc ∷ Lda ∷ Ldx ∷ Ldy ∷ Lsr
+    ∷ Ora ∷ Rol ∷ Ror ∷ Sbc ∷ Sta ∷
     Stx ∷ Sty ∷ []
 
 abbrev pub other_ones : List Mnemonic

@@ -1,7 +1,8 @@
 -- Blocks that are worked by hand at $1000: one that looks for a byte in a list, and one that adds a byte by the
 -- pointer. Each stands at a site that is well placed, and states enter it, so what the theorems on lowered blocks ask
 -- is met. Source: the MOS 6502 programming manual.
-use Rattle.std.specs.Prelude.{◌≡◌, ℕ, ◌-◌, ◌&&◌, ◌||◌, true, false, nat_eq, nat_le, nat_lt, List, [], ◌∷◌, ◌++◌, slice_index, if◌then◌else◌}
+use Rattle.std.specs.Prelude.{◌≡◌, ℕ, ◌-◌, ◌&&◌, ◌||◌, true, false, nat_eq, nat_le, nat_lt, List}
+use Rattle.std.specs.Prelude.{[], ◌∷◌, ◌++◌, slice_index, if◌then◌else◌}
 use Rattle.code_runs.specs.Runs.{State}
 use Rattle.asm6502.specs.declared.lines.Item.TheVariants.{Label, Bytes}
 use Rattle.asm6502.specs.declared.lines.Line.{Line}
@@ -57,7 +58,8 @@ sought_site = record {
 -- LDY #3; at $1002 CMP $100D,Y; BEQ $100D; DEY; BMI $100D; JMP $1002; and at $100D the list
 abbrev pub sought_bytes : List ℕ
 sought_bytes =
-    0xA0 ∷ 0x03 ∷ 0xD9 ∷ 0x0D ∷ 0x10 ∷ 0xF0 ∷ 0x06 ∷ 0x88 ∷ 0x30 ∷ 0x03 ∷ 0x4C ∷ 0x02 ∷ 0x10 ∷ 0x11 ∷ 0x22 ∷ 0x33 ∷ 0x44
+    0xA0 ∷ 0x03 ∷ 0xD9 ∷ 0x0D ∷ 0x10 ∷ 0xF0 ∷ 0x06 ∷ 0x88 ∷ 0x30 ∷ 0x03 ∷ 0x4C ∷ 0x02 ∷ 0x10
+    ∷ 0x11 ∷ 0x22 ∷ 0x33 ∷ 0x44
     ∷ []
 
 abbrev pub seeks : ℕ → State
@@ -96,7 +98,8 @@ pointing_bytes = 0xA9 ∷ 0x1B ∷ 0x85 ∷ 0xFC ∷ 0xA9 ∷ 0x10 ∷ 0x85 ∷ 
 -- CLC, LDA ($FC),Y, ADC $1000, CMP #16, BCC $1018, JMP $101B; at $1018 STA $1000
 abbrev pub adding_bytes : List ℕ
 adding_bytes =
-    0x18 ∷ 0xB1 ∷ 0xFC ∷ 0x6D ∷ 0x00 ∷ 0x10 ∷ 0xC9 ∷ 0x10 ∷ 0x90 ∷ 0x03 ∷ 0x4C ∷ 0x1B ∷ 0x10 ∷ 0x8D ∷ 0x00 ∷ 0x10 ∷ []
+    0x18 ∷ 0xB1 ∷ 0xFC ∷ 0x6D ∷ 0x00 ∷ 0x10 ∷ 0xC9 ∷ 0x10 ∷ 0x90 ∷ 0x03 ∷ 0x4C ∷ 0x1B ∷ 0x10
+    ∷ 0x8D ∷ 0x00 ∷ 0x10 ∷ []
 
 -- the counter stands before them, and the list behind them
 abbrev pub summed_bytes : ℕ → List ℕ

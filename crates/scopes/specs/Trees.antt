@@ -5,7 +5,8 @@ use Rattle.cpu6502.specs.declared.mnemonic.Mnemonic.{Mnemonic}
 use Rattle.scopes.specs.declared.line.Operand.{Operand}
 use Rattle.scopes.specs.declared.line.Test.{Test}
 use Rattle.scopes.specs.declared.line.Line.{Line}
-use Rattle.scopes.specs.declared.line.Line.TheVariants.{Do, With, Scope, Leave, LeaveIf, Loop, Again, AgainIf, When, Choose, Or, Never, End}
+use Rattle.scopes.specs.declared.line.Line.TheVariants.{Do, With, Scope, Leave, LeaveIf, Loop, Again, AgainIf, When}
+use Rattle.scopes.specs.declared.line.Line.TheVariants.{Choose, Or, Never, End}
 
 pub data Tree : Type 0 where
   DoTree : (mnemonic : Mnemonic) → Tree

@@ -4,7 +4,8 @@ use Rattle.code_runs.specs.Runs.{put}
 use Rattle.scopes.specs.declared.line.Line.{Line}
 use Rattle.scopes.specs.declared.worked.TheConstants.{HALVED, SOUGHT, LOOP_IN_LOOP, HALVED_AGAIN, LEFT_TWICE, SAME_NAME, LEFT_ALL}
 use Rattle.scopes.specs.declared.worked.TheConstants.{RISEN, LEFT_FAR, LEFT_FAR_ON, CHOSEN, CHOSEN_APART}
-use Rattle.scopes.specs.declared.worked.TheConstants.{READ, STORED, NOT_COME_TO, DECIMAL, NOT_CLOSED, END_TOO_MANY, END_BEFORE_ITS_SCOPE}
+use Rattle.scopes.specs.declared.worked.TheConstants.{READ, STORED, NOT_COME_TO, DECIMAL, NOT_CLOSED, END_TOO_MANY}
+use Rattle.scopes.specs.declared.worked.TheConstants.{END_BEFORE_ITS_SCOPE}
 use Rattle.scopes.specs.declared.worked.TheConstants.{COUNTER, LEVEL, SHORT}
 use Rattle.scopes.specs.Desk.{Desk, Layout}
 use Rattle.scopes.specs.Trees.{Tree, WithTree, tree_of}

@@ -1,6 +1,9 @@
 -- An image in memory that holds 0, put in byte by byte; and what stands where in it.
-use Rattle.std.proofs.Common.{◌≡◌, ℕ, suc, ◌+◌, ◌-◌, ◌≤◌, ◌<◌, List, [], ◌∷◌, ◌++◌, length, take, replicate, get_or, slice_set, sym, ap, ◌∙◌, arith, append_assoc, length-append, inl, inr}
-use Rattle.std.proofs.lemmas.List.{set_at, take_more, take_all, length-replicate, length-take-le, get_or-append-add, get_or-append_right, get_or_append_left, get_or-replicate}
+use Rattle.std.proofs.Common.{◌≡◌, ℕ, suc, ◌+◌, ◌-◌, ◌≤◌, ◌<◌, List, [], ◌∷◌, ◌++◌}
+use Rattle.std.proofs.Common.{length, take, replicate, get_or, slice_set, sym, ap, ◌∙◌, arith, append_assoc}
+use Rattle.std.proofs.Common.{length-append, inl, inr}
+use Rattle.std.proofs.lemmas.List.{set_at, take_more, take_all, length-replicate, length-take-le, get_or-append-add}
+use Rattle.std.proofs.lemmas.List.{get_or-append_right, get_or_append_left, get_or-replicate}
 use Rattle.std.proofs.lemmas.List.Elements.{All-append, All-replicate}
 use Rattle.base.proofs.Laws.{get_or-replicate_any}
 use Rattle.cpu6502.specs.declared.memory.TheConstants.{MEMORY_SIZE}

@@ -1,5 +1,6 @@
 -- What a reader may rely on: the constants, and the machine that a file is loaded into.
-use Rattle.std.specs.Prelude.{◌≡◌, ◌⊎◌, ℕ, ◌+◌, ◌<◌, ◌≤◌, [], ◌∷◌, length, take, slice_index, All}
+use Rattle.std.specs.Prelude.{◌≡◌, ◌⊎◌, ℕ, ◌+◌, ◌<◌, ◌≤◌, [], ◌∷◌, length, take}
+use Rattle.std.specs.Prelude.{slice_index, All}
 use Rattle.psid.specs.declared.header.Psid.{Psid}
 use Rattle.psid.specs.declared.reading.TheConstants.{ADDRESSES}
 use Rattle.cpu6502.specs.declared.log.TheConstants.{SID_BASE}

@@ -1,5 +1,6 @@
 -- What the code of the slides to the note leaves, and of the tests on the command before it.
-use Rattle.std.proofs.Common.{◌≡◌, ◌≢◌, ℕ, ◌+◌, ◌-◌, ◌/◌, ◌%◌, ◌<◌, ◌≤◌, Bool, true, false, ◌||◌}
+use Rattle.std.proofs.Common.{◌≡◌, ◌≢◌, ℕ, ◌+◌, ◌-◌, ◌/◌, ◌%◌, ◌<◌, ◌≤◌, Bool}
+use Rattle.std.proofs.Common.{true, false, ◌||◌}
 use Rattle.std.proofs.Common.{refl, sym, ap, ◌∙◌, arith, nat_eq, nat_le, nat_lt, min}
 use Rattle.std.proofs.lemmas.Bool.{leb-true, leb-false, le-leb, not-true, not-false, both_ways, eqb-true, eqb-false}
 use Rattle.std.proofs.lemmas.Bool.{le-ltb}

@@ -1,5 +1,6 @@
 -- The code of the effect step, and what it does. This is the project's own player.
-use Rattle.std.specs.Prelude.{◌≡◌, ◌≢◌, ℕ, ◌+◌, ◌/◌, ◌%◌, ◌<◌, ◌≤◌, ◌⊎◌, Bool, true, false, ◌&&◌, ◌||◌, ◌==◌}
+use Rattle.std.specs.Prelude.{◌≡◌, ◌≢◌, ℕ, ◌+◌, ◌/◌, ◌%◌, ◌<◌, ◌≤◌, ◌⊎◌, Bool}
+use Rattle.std.specs.Prelude.{true, false, ◌&&◌, ◌||◌, ◌==◌}
 use Rattle.std.specs.Prelude.{if◌then◌else◌}
 use Rattle.std.specs.Prelude.{nat_le}
 use Rattle.song_model.specs.declared.tables.TableRow.{TableRow}
@@ -52,7 +53,8 @@ moved_by command look v =
 -- table, which is lent with its parameter
 pub record CommandsMove (look : LookUps) : Type 0 where
   pub running : (v : Voice) → 1 ≤ v.command → v.command ≤ 4 → effect_step look v ≡ moved_by v.command look v
-  pub begins : (v : Voice) → v.command ≡ 0 → v.param ≢ 0 → v.vib_delay ≡ 1 → effect_step look v ≡ moved_by 4 look v
+  pub begins : (v : Voice) → v.command ≡ 0 → v.param ≢ 0 → v.vib_delay ≡ 1 →
+      effect_step look v ≡ moved_by 4 look v
   pub lent : (command param : ℕ) (s : Playing) → 1 ≤ command → command ≤ 4 →
       wave_command look command param s
       ≡ record s {

@@ -1,5 +1,6 @@
 -- The kinds of a packed song have the bytes that its song says.
-use Rattle.std.proofs.Common.{◌≡◌, ℕ, ◌+◌, ◌-◌, ◌*◌, List, [], ◌∷◌, map, length, refl, ◌∙◌, ap, arith}
+use Rattle.std.proofs.Common.{◌≡◌, ℕ, ◌+◌, ◌-◌, ◌*◌, List, [], ◌∷◌, map, length, refl}
+use Rattle.std.proofs.Common.{◌∙◌, ap, arith}
 use Rattle.std.specs.List.{filter, sum_by, count_by}
 use Rattle.std.proofs.lemmas.List.{length-map, length-append}
 use Rattle.std.proofs.lemmas.List.Sums.{sum_by-cons, length-filter}
@@ -15,7 +16,8 @@ use Rattle.packed_form.specs.Sizes.{list_size, subtune_size, packed_song_size}
 use Rattle.packing_rules.specs.Segments.{ProgramTable, numbers, row_of, keeps}
 use Rattle.packing_rules.specs.ProgramMaps.{retargeted}
 use Rattle.packing_rules.specs.UsedSets.{UsedSets}
-use Rattle.packing_rules.specs.Renumbering.{program_rows, program_number, table_number, pattern_number, wave_programs, pulse_programs, filter_programs}
+use Rattle.packing_rules.specs.Renumbering.{program_rows, program_number, table_number, pattern_number, wave_programs}
+use Rattle.packing_rules.specs.Renumbering.{pulse_programs, filter_programs}
 use Rattle.packing_rules.specs.SongSizes.{order_size, orders_size, rows_size}
 use Rattle.code_lengths.specs.Lengths.{code_length}
 use Rattle.song_pack.specs.Packed.{order_byte, order_bytes, packed_subtune, passing_numbers, packed_instrument, IsPacked}

@@ -8,7 +8,8 @@ use Rattle.song_model.specs.Feature.{bit_of}
 use Rattle.song_model.specs.LookUp.{table_row, pattern_at}
 use Rattle.packed_form.specs.PackedText.{packed_text}
 use Rattle.packing_rules.specs.Segments.{first_row, is_closed, are_equal, first_equal, keeps, stand_in}
-use Rattle.packing_rules.specs.Renumbering.{speed_rows, speed_number, table_number, instrument_number, pattern_text, pattern_texts}
+use Rattle.packing_rules.specs.Renumbering.{speed_rows, speed_number, table_number, instrument_number, pattern_text}
+use Rattle.packing_rules.specs.Renumbering.{pattern_texts}
 use Rattle.song_costs.specs.declared.places.Place.{Place}
 use Rattle.song_costs.specs.declared.places.Place.TheVariants.{InOrder, InPattern, InInstrument, InWaveTable}
 use Rattle.code_lengths.specs.WorkedLengths.{plain}
@@ -17,7 +18,8 @@ use Rattle.song_costs.specs.declared.kept.PartCost.{PartCost}
 use Rattle.song_costs.specs.Places.{IsFirstPlace}
 use Rattle.song_costs.specs.Kept.{IsPartPlace}
 use Rattle.song_costs.specs.WorkedPlaces.{crossing}
-use Rattle.song_costs.specs.WorkedCosts.{NoteIsWorked, TablesAreCounted, part_cost, IsToldOf, PartsAreWorked, ListIsWorked, OptionsAreWorked}
+use Rattle.song_costs.specs.WorkedCosts.{NoteIsWorked, TablesAreCounted, part_cost, IsToldOf, PartsAreWorked}
+use Rattle.song_costs.specs.WorkedCosts.{ListIsWorked, OptionsAreWorked}
 use Rattle.song_costs.proofs.KeptParts.{one_feature}
 use Rattle.song_costs.proofs.WorkedPlaces.{transposes_are_worked, tables_are_worked}
 

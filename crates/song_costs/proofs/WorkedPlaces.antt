@@ -1,5 +1,6 @@
 -- First places of small songs, worked out by hand, and the order of places.
-use Rattle.std.proofs.Common.{◌≡◌, ℕ, zero, suc, ◌<◌, ◌≤◌, ◌⊎◌, [], ◌∷◌, Contains, Some, None, slice_get, lit<, lit≤, refl, sym, ◌∙◌, ap, subst, inl, inr, arith}
+use Rattle.std.proofs.Common.{◌≡◌, ℕ, zero, suc, ◌<◌, ◌≤◌, ◌⊎◌, [], ◌∷◌, Contains, Some}
+use Rattle.std.proofs.Common.{None, slice_get, lit<, lit≤, refl, sym, ◌∙◌, ap, subst, inl, inr, arith}
 use Rattle.std.proofs.lemmas.Bool.{cases_lt}
 use Rattle.std.proofs.lemmas.Option.{slice_get-get_or}
 use Rattle.base.proofs.Laws.{same_some}
@@ -7,7 +8,8 @@ use Rattle.song_model.specs.declared.rows.Row.{Row}
 use Rattle.song_model.specs.declared.orders.Order.{Order}
 use Rattle.song_model.specs.declared.orders.Subtune.{Subtune}
 use Rattle.song_model.specs.declared.songs.Song.{Song}
-use Rattle.song_model.specs.declared.features.Feature.TheVariants.{Transpose, PortaUp, InstrumentVibrato, FilterTable, WaveCommand}
+use Rattle.song_model.specs.declared.features.Feature.TheVariants.{Transpose, PortaUp, InstrumentVibrato, FilterTable}
+use Rattle.song_model.specs.declared.features.Feature.TheVariants.{WaveCommand}
 use Rattle.song_model.specs.declared.tables.TableName.TheVariants.{Wave, Filter}
 use Rattle.song_model.specs.LookUp.{order_of, pattern_at, instrument_at, table_row}
 use Rattle.song_model.specs.Silence.{rest_row}
@@ -19,7 +21,8 @@ use Rattle.song_costs.specs.declared.places.Place.TheVariants.{InOrder, InPatter
 use Rattle.song_costs.specs.Needs.{Need, need_of}
 use Rattle.song_costs.specs.Places.{HasByteAt, IsNeededAt, NeedsAt}
 use Rattle.song_costs.specs.Search.{IsNowhereUnder}
-use Rattle.song_costs.specs.WorkedPlaces.{crossing, TransposesAreWorked, PortamentosAreWorked, TablesAreWorked, VibratosAreWorked, PlacesInOrder}
+use Rattle.song_costs.specs.WorkedPlaces.{crossing, TransposesAreWorked, PortamentosAreWorked, TablesAreWorked}
+use Rattle.song_costs.specs.WorkedPlaces.{VibratosAreWorked, PlacesInOrder}
 use Rattle.song_costs.proofs.Search.{first_on, none_on, alone}
 use Rattle.song_costs.proofs.Leaves.{inner_kind, inner_subtune, inner_order, inner_pattern, order_place}
 use Rattle.song_costs.proofs.OrderPlaces.{byte_at, no_channel, no_subtune}

@@ -7,7 +7,12 @@ use Rattle.song_model.specs.declared.tables.TableRow.{TableRow}
 use Rattle.song_model.specs.declared.tables.TableName.{TableName}
 use Rattle.song_model.specs.declared.tables.TableName.TheVariants.{Wave, Pulse, Filter, Speed}
 use Rattle.song_model.specs.declared.features.Feature.{Feature}
-use Rattle.song_model.specs.declared.features.Feature.TheVariants.{Transpose, Repeat, PortaUp, PortaDown, TonePorta, TieNote, Vibrato, InstrumentVibrato, NoteDependent, SetAd, SetSr, SetWave, SetWavePointer, PulseTable, SetPulsePointer, FilterTable, SetFilterPointer, FilterControl, Cutoff, Volume, FunkTempo, SetTempo, WaveTable, WaveCommand}
+use Rattle.song_model.specs.declared.features.Feature.TheVariants.{Transpose, Repeat, PortaUp, PortaDown, TonePorta}
+use Rattle.song_model.specs.declared.features.Feature.TheVariants.{TieNote, Vibrato, InstrumentVibrato, NoteDependent}
+use Rattle.song_model.specs.declared.features.Feature.TheVariants.{SetAd, SetSr, SetWave, SetWavePointer, PulseTable}
+use Rattle.song_model.specs.declared.features.Feature.TheVariants.{SetPulsePointer, FilterTable, SetFilterPointer}
+use Rattle.song_model.specs.declared.features.Feature.TheVariants.{FilterControl, Cutoff, Volume, FunkTempo, SetTempo}
+use Rattle.song_model.specs.declared.features.Feature.TheVariants.{WaveTable, WaveCommand}
 use Rattle.song_model.specs.declared.songs.Song.{Song}
 use Rattle.song_model.specs.LookUp.{speed_row, instrument_at}
 use Rattle.song_model.specs.Pointers.{instrument_pointer, command_table, wave_row_table}

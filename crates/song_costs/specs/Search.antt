@@ -7,7 +7,8 @@ use Rattle.play_model.specs.Features.{IsAny}
 use Rattle.song_costs.specs.declared.needs.Parameter.{Parameter}
 use Rattle.song_costs.specs.declared.needs.Parameter.TheVariants.{Any, Zero, Other}
 use Rattle.song_costs.specs.declared.needs.Wanted.{Wanted}
-use Rattle.song_costs.specs.declared.needs.Wanted.TheVariants.{Bytes, Command, WavePointer, FunkTempo, Tempo, Pointers, NoteSpeeds, Vibrato, WaveCommands}
+use Rattle.song_costs.specs.declared.needs.Wanted.TheVariants.{Bytes, Command, WavePointer, FunkTempo, Tempo, Pointers}
+use Rattle.song_costs.specs.declared.needs.Wanted.TheVariants.{NoteSpeeds, Vibrato, WaveCommands}
 use Rattle.song_costs.specs.declared.places.Place.{Place}
 use Rattle.song_costs.specs.Needs.{Need, nothing, of_bytes, of_command, of_rows, of_pointers, of_left_sides}
 use Rattle.song_costs.specs.Places.{rank_of, IsNeededAt, IsFirst}

@@ -3,7 +3,8 @@ use Rattle.std.specs.Prelude.{◌≡◌, ◌≢◌, ℕ, ◌+◌, ◌^◌, Bool,
 use Rattle.song_model.specs.declared.tables.TableName.{TableName}
 use Rattle.song_model.specs.declared.tables.TableName.TheVariants.{Wave, Pulse, Filter, Speed}
 use Rattle.song_model.specs.declared.songs.Song.{Song}
-use Rattle.song_model.specs.declared.features.Feature.TheVariants.{Transpose, PortaUp, InstrumentVibrato, PulseTable, FilterTable, WaveTable, WaveCommand}
+use Rattle.song_model.specs.declared.features.Feature.TheVariants.{Transpose, PortaUp, InstrumentVibrato, PulseTable}
+use Rattle.song_model.specs.declared.features.Feature.TheVariants.{FilterTable, WaveTable, WaveCommand}
 use Rattle.song_model.specs.Feature.{bit_of}
 use Rattle.play_model.specs.declared.options.Options.{Options}
 use Rattle.play_model.specs.WorkedRuns.{left_out}

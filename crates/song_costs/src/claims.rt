@@ -4,7 +4,8 @@ ghost use Rattle.song_costs.specs.PlaceLaws.{FeaturesAreNeeded, FirstPlacesAreOn
 ghost use Rattle.song_costs.specs.CostLaws.{CostsAddUp, PartsAddUp, KeptPartsAddUp, KeptPartsAreOne};
 ghost use Rattle.song_costs.specs.Names.{NamesAreShort};
 ghost use Rattle.song_costs.specs.WorkedCosts.{NoteIsWorked, TablesAreCounted, PartsAreWorked, ListIsWorked, OptionsAreWorked};
-ghost use Rattle.song_costs.specs.WorkedPlaces.{TransposesAreWorked, PortamentosAreWorked, TablesAreWorked, VibratosAreWorked, PlacesInOrder};
+ghost use Rattle.song_costs.specs.WorkedPlaces.{TransposesAreWorked, PortamentosAreWorked, TablesAreWorked};
+ghost use Rattle.song_costs.specs.WorkedPlaces.{VibratosAreWorked, PlacesInOrder};
 
 /// A song uses a feature exactly where some place needs it, and at most one place is the first.
 pub fn features_have_first_places()

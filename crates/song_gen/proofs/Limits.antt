@@ -1,5 +1,7 @@
 -- The limits of rows, patterns, orderlists and instruments that are drawn.
-use Rattle.std.proofs.Common.{◌≡◌, ℕ, ◌+◌, ◌*◌, ◌%◌, ◌<◌, ◌≤◌, ◌==◌, ◌&&◌, nat_lt, Bool, true, false, if◌then◌else◌, List, [], ◌∷◌, length, map, replicate, All, refl, ◌∙◌, arith}
+use Rattle.std.proofs.Common.{◌≡◌, ℕ, ◌+◌, ◌*◌, ◌%◌, ◌<◌, ◌≤◌, ◌==◌, ◌&&◌, nat_lt}
+use Rattle.std.proofs.Common.{Bool, true, false, if◌then◌else◌, List, [], ◌∷◌, length, map, replicate, All}
+use Rattle.std.proofs.Common.{refl, ◌∙◌, arith}
 use Rattle.std.specs.List.{range_with_len, list_all}
 use Rattle.std.proofs.Math.Nat.{mod-lt}
 use Rattle.std.proofs.lemmas.Bool.{and_parts, ltb-true}
@@ -14,7 +16,10 @@ use Rattle.song_model.specs.Limits.{IsText, IsOrder, IsSubtune, IsInstrument, Is
 use Rattle.song_model.specs.PatternLimits.{IsRow, IsPattern}
 use Rattle.song_model.specs.OrderLimits.{AreEntries}
 use Rattle.song_gen.specs.Draws.{after, draw}
-use Rattle.song_gen.specs.GeneratedSong.{wave_rows, pulse_rows, filter_rows, speed_rows, instrument_from, instruments_from, keyoff_row, row_from, behind_rows, pattern_from, patterns_from, order_from, subtune_from, subtunes_from, behind_instruments, behind_patterns, generated_song}
+use Rattle.song_gen.specs.GeneratedSong.{wave_rows, pulse_rows, filter_rows, speed_rows, instrument_from}
+use Rattle.song_gen.specs.GeneratedSong.{instruments_from, keyoff_row, row_from, behind_rows, pattern_from}
+use Rattle.song_gen.specs.GeneratedSong.{patterns_from, order_from, subtune_from, subtunes_from, behind_instruments}
+use Rattle.song_gen.specs.GeneratedSong.{behind_patterns, generated_song}
 use Rattle.song_gen.specs.GeneratedLaws.{GeneratedSongsKeepLimits}
 
 -- ---- draws

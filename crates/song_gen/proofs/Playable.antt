@@ -1,6 +1,9 @@
 -- Generated songs can be played: their orderlists name stored patterns and go on for ever, and their programs stay in the
 -- tables.
-use Rattle.std.proofs.Common.{◌≡◌, ◌≢◌, ℕ, zero, suc, ◌+◌, ◌-◌, ◌==◌, ◌*◌, ◌<◌, ◌≤◌, ◌⊎◌, Bool, true, false, not, nat_le, ◌&&◌, if◌then◌else◌, List, [], length, drop, get_or, All, Option, Some, None, slice_get, inl, inr, refl, sym, ap, ◌∙◌, subst, arith}
+use Rattle.std.proofs.Common.{◌≡◌, ◌≢◌, ℕ, zero, suc, ◌+◌, ◌-◌, ◌==◌, ◌*◌, ◌<◌}
+use Rattle.std.proofs.Common.{◌≤◌, ◌⊎◌, Bool, true, false, not, nat_le, ◌&&◌, if◌then◌else◌, List}
+use Rattle.std.proofs.Common.{[], length, drop, get_or, All, Option, Some, None, slice_get, inl, inr, refl, sym, ap}
+use Rattle.std.proofs.Common.{◌∙◌, subst, arith}
 use Rattle.std.specs.List.{range_with_len, list_all}
 use Rattle.std.proofs.lemmas.Bool.{and_parts, leb-true}
 use Rattle.std.proofs.lemmas.List.{length-drop, get_or-drop, length-map}
@@ -16,17 +19,23 @@ use Rattle.song_model.specs.declared.tables.TableName.{TableName}
 use Rattle.song_model.specs.declared.tables.TableName.TheVariants.{Wave, Pulse, Filter, Speed}
 use Rattle.song_model.specs.declared.songs.Song.{Song}
 use Rattle.song_model.specs.Endless.{IsEndless}
-use Rattle.song_model.specs.LookUp.{numbered, zero_table_row, instrument_at, table_of, table_row, pattern_at, order_of, is_playable_subtune, playable_subtunes}
+use Rattle.song_model.specs.LookUp.{numbered, zero_table_row, instrument_at, table_of, table_row, pattern_at, order_of}
+use Rattle.song_model.specs.LookUp.{is_playable_subtune, playable_subtunes}
 use Rattle.song_model.specs.Pointers.{instrument_pointer, command_table, wave_row_table}
-use Rattle.play_model.specs.declared.unplayable.Unplayable.TheVariants.{NoSubtune, MissingPattern, BadRestart, TableOverflow, PointerToJump}
+use Rattle.play_model.specs.declared.unplayable.Unplayable.TheVariants.{NoSubtune, MissingPattern, BadRestart}
+use Rattle.play_model.specs.declared.unplayable.Unplayable.TheVariants.{TableOverflow, PointerToJump}
 use Rattle.play_model.specs.Used.{IsPlayedOrder, IsUsedRow, IsUsedInstrument}
-use Rattle.play_model.specs.Reached.{is_jump, led_to, IsPlayedPointer, of_instrument, of_row, IsReached, played, pointed, led, IsPointer, of_played, of_wave_row}
+use Rattle.play_model.specs.Reached.{is_jump, led_to, IsPlayedPointer, of_instrument, of_row, IsReached, played}
+use Rattle.play_model.specs.Reached.{pointed, led, IsPointer, of_played, of_wave_row}
 use Rattle.play_model.specs.Playable.{HasOrder, MissesPattern, StopsAtRestart, IsJumpTarget, PointsAtJump}
 use Rattle.packing_rules.proofs.Laws.{all_at}
 use Rattle.song_gen.specs.Draws.{after, draw}
-use Rattle.song_gen.specs.GeneratedSong.{wave_rows, pulse_rows, filter_rows, speed_rows, instruments_from, behind_instruments, behind_patterns, behind_rows, pattern_from, patterns_from, order_from, subtune_from, subtunes_from, generated_song}
+use Rattle.song_gen.specs.GeneratedSong.{wave_rows, pulse_rows, filter_rows, speed_rows, instruments_from}
+use Rattle.song_gen.specs.GeneratedSong.{behind_instruments, behind_patterns, behind_rows, pattern_from, patterns_from}
+use Rattle.song_gen.specs.GeneratedSong.{order_from, subtune_from, subtunes_from, generated_song}
 use Rattle.song_gen.specs.GeneratedLaws.{GeneratedSongsArePlayable, GeneratedSongsHaveEightSubtunes}
-use Rattle.song_gen.proofs.Limits.{IsDrawnRow, rows_are_drawn, pattern_rows, IsDrawnEntry, transpose, pattern, order_length, entries_are_drawn, restart_below, draw_small}
+use Rattle.song_gen.proofs.Limits.{IsDrawnRow, rows_are_drawn, pattern_rows, IsDrawnEntry, transpose, pattern}
+use Rattle.song_gen.proofs.Limits.{order_length, entries_are_drawn, restart_below, draw_small}
 
 -- ---- orderlists
 

@@ -18,12 +18,14 @@ use Rattle.play_model.specs.State.{no_options}
 use Rattle.packing_rules.specs.UsedSets.{UsedSets}
 use Rattle.packing_rules.specs.Segments.{ProgramTable, numbers}
 use Rattle.packed_form.specs.Sizes.{list_size}
-use Rattle.packing_rules.specs.Renumbering.{same_row, renumbered_row, pattern_text, pattern_texts, speed_rows as packed_speeds, wave_programs, pulse_programs, filter_programs}
+use Rattle.packing_rules.specs.Renumbering.{same_row, renumbered_row, pattern_text, pattern_texts}
+use Rattle.packing_rules.specs.Renumbering.{speed_rows as packed_speeds, wave_programs, pulse_programs, filter_programs}
 use Rattle.packed_form.specs.CodeBounds.{kept_parts, code_bound}
 use Rattle.packing_rules.specs.SongSizes.{orders_size, programs_size, data_size}
 use Rattle.packing_rules.proofs.Laws.{first_seen_length}
 use Rattle.pattern_pack.proofs.Laws.{text_is_short}
-use Rattle.song_gen.specs.GeneratedSong.{behind_rows, behind_instruments, pattern_from, patterns_from, subtunes_from, order_from, generated_song}
+use Rattle.song_gen.specs.GeneratedSong.{behind_rows, behind_instruments, pattern_from, patterns_from, subtunes_from}
+use Rattle.song_gen.specs.GeneratedSong.{order_from, generated_song}
 use Rattle.song_gen.specs.GeneratedLaws.{GeneratedPatternsAreShort, GeneratedSongsAreSmall}
 use Rattle.song_gen.proofs.Limits.{pattern_length}
 

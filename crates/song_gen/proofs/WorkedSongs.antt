@@ -1,7 +1,8 @@
 -- What each song has, and the first and the last draws of worked ones.
 use Rattle.std.proofs.Common.{refl}
 use Rattle.song_gen.specs.Draws.{next, after, draw}
-use Rattle.song_gen.specs.GeneratedSong.{generated_song, instruments_from, row_from, behind_row, behind_rows, pattern_from, order_from}
+use Rattle.song_gen.specs.GeneratedSong.{generated_song, instruments_from, row_from, behind_row, behind_rows}
+use Rattle.song_gen.specs.GeneratedSong.{pattern_from, order_from}
 use Rattle.song_gen.specs.WorkedSongs.{EachHasTables, FirstDrawsAre, LastDrawsAre}
 
 pub each_has_tables : EachHasTables

@@ -5,7 +5,8 @@ use Rattle.song_model.specs.declared.instruments.Instrument.{Instrument}
 use Rattle.song_model.specs.declared.orders.Order.{Order}
 use Rattle.song_model.specs.declared.tables.TableRow.{TableRow}
 use Rattle.song_gen.specs.Draws.{after}
-use Rattle.song_gen.specs.GeneratedSong.{generated_song, instruments_from, pattern_from, order_from, behind_instruments, behind_patterns}
+use Rattle.song_gen.specs.GeneratedSong.{generated_song, instruments_from, pattern_from, order_from, behind_instruments}
+use Rattle.song_gen.specs.GeneratedSong.{behind_patterns}
 
 -- both sides of a row, as a number of four hexadecimal digits
 abbrev pub row_number : TableRow → ℕ
@@ -44,12 +45,14 @@ first_rows x = take 6 (map row_bytes (pattern_from (behind_instruments x)))
 -- of the song of 0, and of the song of the greatest number of 64 bits
 pub record FirstDrawsAre : Type 0 where
   pub instruments_of_0 : map drawn_bytes (instruments_from 0)
-      ≡ (191 ∷ 8 ∷ 1 ∷ []) ∷ (116 ∷ 109 ∷ 11 ∷ []) ∷ (184 ∷ 199 ∷ 0 ∷ []) ∷ (155 ∷ 79 ∷ 2 ∷ []) ∷ []
+      ≡ (191 ∷ 8 ∷ 1 ∷ []) ∷ (116 ∷ 109 ∷ 11 ∷ []) ∷ (184 ∷ 199 ∷ 0 ∷ []) ∷ (155 ∷ 79
+      ∷ 2 ∷ []) ∷ []
   pub rows_of_0 : first_rows 0
       ≡ (0xBD ∷ 0 ∷ 2 ∷ 1 ∷ []) ∷ (0xBD ∷ 0 ∷ 2 ∷ 1 ∷ []) ∷ (0xBE ∷ 0 ∷ 0 ∷ 0 ∷ [])
       ∷ (0xBE ∷ 0 ∷ 0 ∷ 0 ∷ []) ∷ (0xBD ∷ 0 ∷ 2 ∷ 2 ∷ []) ∷ (0xBD ∷ 0 ∷ 2 ∷ 1 ∷ []) ∷ []
   pub instruments_of_most : map drawn_bytes (instruments_from (2 ^ 64 - 1))
-      ≡ (168 ∷ 183 ∷ 5 ∷ []) ∷ (2 ∷ 128 ∷ 3 ∷ []) ∷ (213 ∷ 151 ∷ 8 ∷ []) ∷ (124 ∷ 163 ∷ 2 ∷ []) ∷ []
+      ≡ (168 ∷ 183 ∷ 5 ∷ []) ∷ (2 ∷ 128 ∷ 3 ∷ []) ∷ (213 ∷ 151 ∷ 8 ∷ []) ∷ (124 ∷ 163
+      ∷ 2 ∷ []) ∷ []
   pub rows_of_most : first_rows (2 ^ 64 - 1)
       ≡ (0xBD ∷ 0 ∷ 0 ∷ 0 ∷ []) ∷ (0xBD ∷ 0 ∷ 3 ∷ 2 ∷ []) ∷ (0x7C ∷ 3 ∷ 0 ∷ 0 ∷ [])
       ∷ (0xBD ∷ 0 ∷ 2 ∷ 3 ∷ []) ∷ (0x8B ∷ 2 ∷ 0 ∷ 0 ∷ []) ∷ (0x95 ∷ 2 ∷ 0 ∷ 0 ∷ []) ∷ []

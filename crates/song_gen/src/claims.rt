@@ -1,6 +1,8 @@
 //! Facts about the definitions, each the contract of a function that does nothing.
 
-ghost use Rattle.song_gen.specs.GeneratedLaws.{GeneratedSongsKeepLimits, GeneratedSongsArePlayable, GeneratedSongsHaveEightSubtunes, GeneratedPatternsAreShort, GeneratedSongsAreSmall};
+ghost use Rattle.song_gen.specs.GeneratedLaws.{GeneratedSongsKeepLimits, GeneratedSongsArePlayable};
+ghost use Rattle.song_gen.specs.GeneratedLaws.{GeneratedSongsHaveEightSubtunes, GeneratedPatternsAreShort};
+ghost use Rattle.song_gen.specs.GeneratedLaws.{GeneratedSongsAreSmall};
 ghost use Rattle.song_gen.specs.WorkedSongs.{EachHasTables, FirstDrawsAre, LastDrawsAre};
 
 /// Each generated song keeps the limits of the format, can be played, has eight playable subtunes, and is small enough to

@@ -1,6 +1,8 @@
 -- The opening row of an orderlist's plays is that of its first pattern that has one.
 use Rattle.std.specs.Prelude.{◌==◌}
-use Rattle.std.proofs.Common.{◌≡◌, ℕ, ℤ, Bool, suc, pos, ◌+◌, ◌<◌, ◌≤◌, true, false, ltb, List, [], ◌∷◌, ◌++◌, length, get_or, take, drop, replicate, All, refl, sym, ap, ◌∙◌, subst, inl, inr, arith, add-one, append_assoc, length-append}
+use Rattle.std.proofs.Common.{◌≡◌, ℕ, ℤ, Bool, suc, pos, ◌+◌, ◌<◌, ◌≤◌, true, false, ltb, List}
+use Rattle.std.proofs.Common.{[], ◌∷◌, ◌++◌, length, get_or, take, drop, replicate, All, refl, sym, ap}
+use Rattle.std.proofs.Common.{◌∙◌, subst, inl, inr, arith, add-one, append_assoc, length-append}
 use Rattle.std.specs.Prelude.{Option, Some, None}
 use Rattle.std.proofs.lemmas.Bool.{cases_lt, cond_both, eqb-true, eq-eqb}
 use Rattle.std.proofs.lemmas.Bool.Decides.{nat_tests}
@@ -13,7 +15,8 @@ use Rattle.song_model.specs.declared.orders.Step.{Step}
 use Rattle.song_model.specs.declared.songs.Song.{Song}
 use Rattle.song_model.specs.Endless.{IsPatternByte, IsEndless}
 use Rattle.song_model.specs.LookUp.{pattern_at}
-use Rattle.song_model.specs.Walk.{transpose_after, repeat_after, plays_of, walk_plays, end_transpose, end_repeat, prefix_of, played, no_step}
+use Rattle.song_model.specs.Walk.{transpose_after, repeat_after, plays_of, walk_plays, end_transpose, end_repeat}
+use Rattle.song_model.specs.Walk.{prefix_of, played, no_step}
 use Rattle.song_model.proofs.Laws.{plays_are_patterns_lem}
 use Rattle.same_frames.proofs.Laws.{find_first, find_none}
 use Rattle.song_join.specs.Openings.{is_opening, opening, BeginsUnnamed}

@@ -1,6 +1,7 @@
 -- What the joined song has under a number: what the first song has, or what the second one has under its old number.
 use Rattle.std.specs.Prelude.{◌&&◌}
-use Rattle.std.proofs.Common.{◌≡◌, ◌≢◌, ℕ, ◌+◌, ◌-◌, ◌<◌, ◌≤◌, true, List, [], ◌++◌, map, length, get_or, nat_le, refl, sym, ap, ◌∙◌, arith}
+use Rattle.std.proofs.Common.{◌≡◌, ◌≢◌, ℕ, ◌+◌, ◌-◌, ◌<◌, ◌≤◌, true, List, [], ◌++◌}
+use Rattle.std.proofs.Common.{map, length, get_or, nat_le, refl, sym, ap, ◌∙◌, arith}
 use Rattle.std.proofs.lemmas.Bool.{ne_eqb}
 use Rattle.std.proofs.lemmas.Bool.Decides.{nat_tests}
 use Rattle.std.proofs.lemmas.List.{get_or_append_left, get_or-append-add, get_or-map}
@@ -8,7 +9,8 @@ use Rattle.song_model.specs.declared.tables.TableRow.{TableRow}
 use Rattle.song_model.specs.declared.tables.TableName.{TableName}
 use Rattle.song_model.specs.declared.tables.TableName.TheVariants.{Wave, Pulse, Filter, Speed}
 use Rattle.song_model.specs.declared.songs.Song.{Song}
-use Rattle.song_model.specs.LookUp.{numbered, IsNumbered, zero_instrument, zero_table_row, table_of, table_row, instrument_at, pattern_at}
+use Rattle.song_model.specs.LookUp.{numbered, IsNumbered, zero_instrument, zero_table_row, table_of, table_row}
+use Rattle.song_model.specs.LookUp.{instrument_at, pattern_at}
 use Rattle.same_frames.specs.Maps.{moved_row, moved_instrument}
 use Rattle.song_join.specs.Numbers.{raised, new_numbers}
 use Rattle.song_join.specs.Joined.{moved_pattern_row, joined_rows, joined}

@@ -1,5 +1,7 @@
 -- The joined song can be played: what it comes to is of the first song or of the second one, under its new number.
-use Rattle.std.proofs.Common.{◌≡◌, ℕ, ◌+◌, ◌-◌, ◌<◌, ◌⊎◌, true, false, List, [], ◌∷◌, ◌++◌, map, length, Contains, refl, sym, ◌∙◌, ap, subst, inl, inr, arith, length-append}
+use Rattle.std.proofs.Common.{◌≡◌, ℕ, ◌+◌, ◌-◌, ◌<◌, ◌⊎◌, true, false, List, [], ◌∷◌}
+use Rattle.std.proofs.Common.{◌++◌, map, length, Contains, refl, sym, ◌∙◌, ap, subst, inl, inr, arith}
+use Rattle.std.proofs.Common.{length-append}
 use Rattle.std.specs.Prelude.{Option, Some, None}
 use Rattle.std.proofs.lemmas.Bool.{cases_lt}
 use Rattle.std.proofs.lemmas.List.{length-map, get_or_append_left}
@@ -13,14 +15,18 @@ use Rattle.song_model.specs.declared.songs.Song.{Song}
 use Rattle.song_model.specs.Endless.{IsPatternByte, IsEndless}
 use Rattle.song_model.specs.LookUp.{IsNumbered, table_of, table_row, pattern_at, order_of, playable_subtunes}
 use Rattle.song_model.specs.Pointers.{command_table}
-use Rattle.play_model.specs.declared.unplayable.Unplayable.TheVariants.{NoSubtune, MissingPattern, BadRestart, TableOverflow, PointerToJump}
+use Rattle.play_model.specs.declared.unplayable.Unplayable.TheVariants.{NoSubtune, MissingPattern, BadRestart}
+use Rattle.play_model.specs.declared.unplayable.Unplayable.TheVariants.{TableOverflow, PointerToJump}
 use Rattle.play_model.specs.Used.{IsPlayedOrder, IsUsedPattern, IsUsedRow, IsUsedInstrument}
-use Rattle.play_model.specs.Reached.{is_jump, IsPlayedPointer, of_instrument, of_row, IsReached, played, pointed, led, IsPointer, of_played, of_wave_row, IsStep}
+use Rattle.play_model.specs.Reached.{is_jump, IsPlayedPointer, of_instrument, of_row, IsReached, played, pointed, led}
+use Rattle.play_model.specs.Reached.{IsPointer, of_played, of_wave_row, IsStep}
 use Rattle.play_model.specs.Playable.{IsJumpTarget, IsPlayable}
 use Rattle.play_model.proofs.Laws.{whole_lem}
 use Rattle.same_frames.specs.Maps.{Maps, same_numbers, moved_pointer}
 use Rattle.same_frames.specs.OrderLaws.{moved_byte, moved_order, moved_subtune}
-use Rattle.same_frames.proofs.Laws.{StandsForOne, image_of, endless_moved, channel_moved, low_byte, high_byte, is_there, stored_is_played, wave_pointer_from, led_from, target_from, step_from, no_jump_there, row_there}
+use Rattle.same_frames.proofs.Laws.{StandsForOne, image_of, endless_moved, channel_moved, low_byte, high_byte, is_there}
+use Rattle.same_frames.proofs.Laws.{stored_is_played, wave_pointer_from, led_from, target_from, step_from}
+use Rattle.same_frames.proofs.Laws.{no_jump_there, row_there}
 use Rattle.song_join.specs.declared.faults.JoinPart.TheVariants.{Patterns}
 use Rattle.song_join.specs.Numbers.{new_numbers}
 use Rattle.song_join.specs.Joined.{moved_pattern_row, joined}

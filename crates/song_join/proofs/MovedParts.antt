@@ -1,5 +1,6 @@
 -- A song whose patterns and instruments another song has under new numbers, and what these name and point at.
-use Rattle.std.proofs.Common.{◌≡◌, ◌≢◌, ℕ, ◌<◌, List, map, length, Contains, refl, sym, ◌∙◌, ap, subst, inr}
+use Rattle.std.proofs.Common.{◌≡◌, ◌≢◌, ℕ, ◌<◌, List, map, length, Contains, refl, sym, ◌∙◌, ap}
+use Rattle.std.proofs.Common.{subst, inr}
 use Rattle.std.specs.Prelude.{Some}
 use Rattle.song_model.specs.declared.rows.Row.{Row}
 use Rattle.song_model.specs.declared.instruments.Instrument.{Instrument}

@@ -4,7 +4,8 @@ use Rattle.std.proofs.lemmas.Bool.{cases_lt}
 use Rattle.song_model.specs.declared.songs.Song.{Song}
 use Rattle.song_join.specs.declared.faults.JoinPart.{JoinPart}
 use Rattle.song_join.specs.declared.faults.JoinFault.{JoinFault}
-use Rattle.song_join.specs.declared.faults.JoinFault.TheVariants.{OverLimit, LooseInstrument, LooseSpeed, GateTimer, NoteBeforeInstrument, NoMemory}
+use Rattle.song_join.specs.declared.faults.JoinFault.TheVariants.{OverLimit, LooseInstrument, LooseSpeed, GateTimer}
+use Rattle.song_join.specs.declared.faults.JoinFault.TheVariants.{NoteBeforeInstrument, NoMemory}
 use Rattle.song_join.specs.Limits.{sum_of, part_number, IsFirstOver, AreWithin}
 use Rattle.song_join.specs.Loose.{IsLooseInstrument, IsLooseSpeed, IsFirstPlace, IsLooseIn, NothingIsLoose}
 use Rattle.song_join.specs.Openings.{IsUnnamedAt, NamesFirst}

@@ -1,5 +1,6 @@
 -- The joined song plays what both songs play.
-use Rattle.std.proofs.Common.{◌≡◌, ℕ, ◌+◌, ◌<◌, true, List, [], ◌∷◌, ◌++◌, map, length, get_or, All, refl, sym, ap, ◌∙◌, subst, arith}
+use Rattle.std.proofs.Common.{◌≡◌, ℕ, ◌+◌, ◌<◌, true, List, [], ◌∷◌, ◌++◌, map, length}
+use Rattle.std.proofs.Common.{get_or, All, refl, sym, ap, ◌∙◌, subst, arith}
 use Rattle.std.specs.List.{filter}
 use Rattle.std.proofs.lemmas.List.{length-map, get_or_append_left, get_or-append-add, get_or-map}
 use Rattle.std.proofs.lemmas.List.Elements.{All-head, All-tail, filter-append, filter_passes}
@@ -18,7 +19,8 @@ use Rattle.same_frames.specs.Maps.{Maps, same_numbers}
 use Rattle.same_frames.specs.Agreement.{SubtunePlaysFor}
 use Rattle.same_frames.specs.FrameLaws.{trace_of}
 use Rattle.same_frames.specs.OrderLaws.{moved_byte, moved_subtune, CanBeMoved}
-use Rattle.same_frames.proofs.Laws.{frames_same_lem, traces_of_songs_lem, trace_from_start, moved_subtunes_lem, first_instruments_lem}
+use Rattle.same_frames.proofs.Laws.{frames_same_lem, traces_of_songs_lem, trace_from_start, moved_subtunes_lem}
+use Rattle.same_frames.proofs.Laws.{first_instruments_lem}
 use Rattle.song_join.specs.declared.faults.JoinPart.TheVariants.{Patterns}
 use Rattle.song_join.specs.Numbers.{new_numbers}
 use Rattle.song_join.specs.Joined.{joined}

@@ -1,5 +1,6 @@
 -- What is moved stays in its range, and the lists of the joined song keep their limits.
-use Rattle.std.proofs.Common.{◌≡◌, ℕ, ◌+◌, ◌<◌, ◌≤◌, ◌&&◌, true, List, length, map, inl, inr, arith, nat_le, nat_lt}
+use Rattle.std.proofs.Common.{◌≡◌, ℕ, ◌+◌, ◌<◌, ◌≤◌, ◌&&◌, true, List, length, map, inl, inr}
+use Rattle.std.proofs.Common.{arith, nat_le, nat_lt}
 use Rattle.std.specs.Prelude.{Option, Some, None}
 use Rattle.std.proofs.lemmas.Bool.{cases_Bool}
 use Rattle.std.proofs.lemmas.Bool.Decides.{nat_tests}
@@ -16,7 +17,8 @@ use Rattle.song_model.specs.LookUp.{table_of}
 use Rattle.song_model.specs.Pointers.{command_table}
 use Rattle.same_frames.specs.Maps.{moved_pointer}
 use Rattle.same_frames.specs.OrderLaws.{moved_byte}
-use Rattle.song_join.specs.declared.faults.JoinPart.TheVariants.{Instruments, Wave as WaveRows, Pulse as PulseRows, Filter as FilterRows, Speed as SpeedRows, Patterns}
+use Rattle.song_join.specs.declared.faults.JoinPart.TheVariants.{Instruments, Wave as WaveRows, Pulse as PulseRows}
+use Rattle.song_join.specs.declared.faults.JoinPart.TheVariants.{Filter as FilterRows, Speed as SpeedRows, Patterns}
 use Rattle.song_join.specs.Numbers.{raised, new_numbers}
 use Rattle.song_join.specs.Joined.{moved_pattern_row}
 use Rattle.song_join.specs.Limits.{AreWithin}

@@ -1,6 +1,7 @@
 -- The second song's subtunes name instruments first in the joined song too, and begin with the same timer.
 use Rattle.std.specs.Prelude.{not, ◌==◌, ◌||◌, ◌%◌}
-use Rattle.std.proofs.Common.{◌≡◌, ◌≢◌, ℕ, suc, ◌+◌, ◌-◌, ◌<◌, Bool, List, [], ◌∷◌, map, length, Contains, refl, sym, ap, ◌∙◌, subst, inl, inr, arith}
+use Rattle.std.proofs.Common.{◌≡◌, ◌≢◌, ℕ, suc, ◌+◌, ◌-◌, ◌<◌, Bool, List, [], ◌∷◌, map}
+use Rattle.std.proofs.Common.{length, Contains, refl, sym, ap, ◌∙◌, subst, inl, inr, arith}
 use Rattle.std.specs.Prelude.{Option, Some, None}
 use Rattle.std.specs.Option.{option_map}
 use Rattle.std.specs.List.{find}
@@ -23,7 +24,8 @@ use Rattle.play_model.proofs.Laws.{whole_lem}
 use Rattle.safe_states.proofs.Laws.{is_played, play_length}
 use Rattle.same_frames.specs.Agreement.{PlaysFor, SubtunePlaysFor}
 use Rattle.same_frames.specs.OrderLaws.{moved_subtune}
-use Rattle.same_frames.specs.Begins.{is_opening, opening, opening_of_play, BeginsUnnamed as BeginsUnnamedIn, timer_of, MayBeginWith}
+use Rattle.same_frames.specs.Begins.{is_opening, opening, opening_of_play, BeginsUnnamed as BeginsUnnamedIn, timer_of}
+use Rattle.same_frames.specs.Begins.{MayBeginWith}
 use Rattle.song_join.specs.Joined.{moved_pattern_row}
 use Rattle.song_join.specs.JoinLaws.{AreJoinable}
 use Rattle.song_join.proofs.FoundParts.{first_instrument}

@@ -1,5 +1,6 @@
 -- The worked songs that can be joined, and those that can't.
-use Rattle.std.proofs.Common.{◌≡◌, ℕ, zero, suc, ◌-◌, ◌<◌, ◌≤◌, List, [], ◌∷◌, All, refl, sym, ap, ◌∙◌, inl, inr, arith, lit<, lit≤}
+use Rattle.std.proofs.Common.{◌≡◌, ℕ, zero, suc, ◌-◌, ◌<◌, ◌≤◌, List, [], ◌∷◌, All, refl}
+use Rattle.std.proofs.Common.{sym, ap, ◌∙◌, inl, inr, arith, lit<, lit≤}
 use Rattle.std.specs.Prelude.{Some, None}
 use Rattle.std.proofs.lemmas.List.Elements.{All-contains}
 use Rattle.std.proofs.lemmas.List.{get_or_past}
@@ -14,11 +15,13 @@ use Rattle.play_model.specs.Used.{IsUsedInstrument, IsUsedRow}
 use Rattle.play_model.specs.Reached.{IsPointer, IsPlayedPointer, of_instrument, of_row, of_played, of_wave_row}
 use Rattle.play_model.specs.WorkedSongs.{row, rests}
 use Rattle.song_join.specs.declared.faults.JoinPart.{JoinPart}
-use Rattle.song_join.specs.declared.faults.JoinPart.TheVariants.{Subtunes, Instruments, Wave as WaveRows, Pulse, Filter, Speed, Patterns}
+use Rattle.song_join.specs.declared.faults.JoinPart.TheVariants.{Subtunes, Instruments, Wave as WaveRows, Pulse, Filter}
+use Rattle.song_join.specs.declared.faults.JoinPart.TheVariants.{Speed, Patterns}
 use Rattle.song_join.specs.Limits.{part_number, IsWithin}
 use Rattle.song_join.specs.Loose.{IsLooseInstrument, IsLooseSpeed, NothingIsLoose}
 use Rattle.song_join.specs.Openings.{opening, IsUnnamedAt, NamesFirst}
-use Rattle.song_join.specs.WorkedJoinable.{still, still_song, vibrating_song, noted_rows, unnamed_song, crowded_song, JoinableSongs, SongsAreRefused}
+use Rattle.song_join.specs.WorkedJoinable.{still, still_song, vibrating_song, noted_rows, unnamed_song, crowded_song}
+use Rattle.song_join.specs.WorkedJoinable.{JoinableSongs, SongsAreRefused}
 use Rattle.song_join.proofs.FoundParts.{some_number}
 use Rattle.song_join.proofs.NotStored.{first_song_loose, second_song_loose}
 

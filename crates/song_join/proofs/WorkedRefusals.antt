@@ -1,5 +1,6 @@
 -- The worked refusals.
-use Rattle.std.proofs.Common.{◌≡◌, ◌≢◌, ℕ, zero, suc, ◌<◌, ◌≤◌, List, [], ◌∷◌, All, refl, sym, ap, ◌∙◌, inl, inr, arith, lit<, lit≤}
+use Rattle.std.proofs.Common.{◌≡◌, ◌≢◌, ℕ, zero, suc, ◌<◌, ◌≤◌, List, [], ◌∷◌, All, refl}
+use Rattle.std.proofs.Common.{sym, ap, ◌∙◌, inl, inr, arith, lit<, lit≤}
 use Rattle.std.specs.Prelude.{Some, None}
 use Rattle.std.proofs.lemmas.List.Elements.{All-contains}
 use Rattle.song_model.specs.declared.rows.Row.{Row}
@@ -14,7 +15,10 @@ use Rattle.song_join.specs.declared.faults.JoinPart.{JoinPart}
 use Rattle.song_join.specs.declared.faults.JoinPart.TheVariants.{Subtunes, Instruments, Wave, Pulse, Filter, Speed, Patterns}
 use Rattle.song_join.specs.Limits.{part_number, IsWithin}
 use Rattle.song_join.specs.Openings.{opening, BeginsUnnamed}
-use Rattle.song_join.specs.WorkedRefusals.{sized, PartsAreLimited, OversAreFirst, VoidSubtunesCount, InstrumentsAreLoose, SpeedsAreLoose, IsListed, three, seven, two, PlacesAreFirst, TimersAreCompared, unnamed_note, two_patterns, NotesAreUnnamed, UnnamedPlaces}
+use Rattle.song_join.specs.WorkedRefusals.{sized, PartsAreLimited, OversAreFirst, VoidSubtunesCount}
+use Rattle.song_join.specs.WorkedRefusals.{InstrumentsAreLoose, SpeedsAreLoose, IsListed, three, seven, two}
+use Rattle.song_join.specs.WorkedRefusals.{PlacesAreFirst, TimersAreCompared, unnamed_note, two_patterns}
+use Rattle.song_join.specs.WorkedRefusals.{NotesAreUnnamed, UnnamedPlaces}
 
 -- ---- limits
 

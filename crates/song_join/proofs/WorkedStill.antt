@@ -1,5 +1,6 @@
 -- The still song keeps the limits and can be played, so two of it are joined as they should.
-use Rattle.std.proofs.Common.{◌≡◌, ℕ, zero, suc, ◌-◌, ◌<◌, [], ◌∷◌, All, Some, None, replicate, slice_get, ◌≤◌, ◌⊎◌, refl, sym, ap, ◌∙◌, inl, inr, arith, lit<, lit≤}
+use Rattle.std.proofs.Common.{◌≡◌, ℕ, zero, suc, ◌-◌, ◌<◌, [], ◌∷◌, All, Some, None, replicate}
+use Rattle.std.proofs.Common.{slice_get, ◌≤◌, ◌⊎◌, refl, sym, ap, ◌∙◌, inl, inr, arith, lit<, lit≤}
 use Rattle.std.proofs.lemmas.List.{get_or_past}
 use Rattle.std.proofs.lemmas.List.Elements.{All-nil, All-cons, All-contains, All-replicate}
 use Rattle.std.proofs.lemmas.Option.{get_or_from_slice_get, slice_get_within}
@@ -15,9 +16,11 @@ use Rattle.song_model.specs.PatternLimits.{IsRow, IsPattern}
 use Rattle.song_model.specs.LookUp.{zero_instrument, instrument_at, pattern_at, order_of}
 use Rattle.song_model.specs.Pointers.{instrument_pointer, command_table}
 use Rattle.song_model.specs.Silence.{rest_row, order_of_zero}
-use Rattle.play_model.specs.declared.unplayable.Unplayable.TheVariants.{NoSubtune, MissingPattern, BadRestart, TableOverflow, PointerToJump}
+use Rattle.play_model.specs.declared.unplayable.Unplayable.TheVariants.{NoSubtune, MissingPattern, BadRestart}
+use Rattle.play_model.specs.declared.unplayable.Unplayable.TheVariants.{TableOverflow, PointerToJump}
 use Rattle.play_model.specs.Used.{IsChannel, IsUsedRow}
-use Rattle.play_model.specs.Reached.{of_instrument, of_row, of_played, of_wave_row, IsPlayedPointer, IsPointer, IsReached, played, pointed, led}
+use Rattle.play_model.specs.Reached.{of_instrument, of_row, of_played, of_wave_row, IsPlayedPointer, IsPointer}
+use Rattle.play_model.specs.Reached.{IsReached, played, pointed, led}
 use Rattle.play_model.specs.Playable.{HasOrder, IsJumpTarget, IsPlayable}
 use Rattle.song_join.specs.JoinLaws.{AreJoinable}
 use Rattle.song_join.specs.WorkedJoinable.{still_song}

@@ -4,7 +4,8 @@ use Rattle.song_model.specs.declared.tables.TableRow.{TableRow}
 use Rattle.song_model.specs.declared.tables.TableName.{TableName}
 use Rattle.song_model.specs.declared.tables.TableName.TheVariants.{Wave, Pulse, Filter, Speed}
 use Rattle.song_model.specs.Walk.{prefix_of, cycle_of, played}
-use Rattle.song_model.specs.LookUp.{zero_instrument, zero_table_row, table_of, playable_subtune, instrument_at, table_row, pattern_at}
+use Rattle.song_model.specs.LookUp.{zero_instrument, zero_table_row, table_of, playable_subtune, instrument_at}
+use Rattle.song_model.specs.LookUp.{table_row, pattern_at}
 use Rattle.play_model.specs.Freq.{freq, half_tone, slide}
 use Rattle.play_model.specs.Helpers.{next_row, porta_up, porta_down, tone, vibrato, do_command}
 use Rattle.play_model.specs.FilterStep.{filter_step}

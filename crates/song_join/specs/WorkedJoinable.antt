@@ -6,7 +6,8 @@ use Rattle.song_model.specs.LookUp.{zero_instrument}
 use Rattle.song_model.specs.Silence.{silence}
 use Rattle.play_model.specs.WorkedSongs.{row, rests}
 use Rattle.song_join.specs.declared.faults.JoinPart.TheVariants.{Instruments}
-use Rattle.song_join.specs.declared.faults.JoinFault.TheVariants.{OverLimit, LooseInstrument, LooseSpeed, GateTimer, NoteBeforeInstrument, NoMemory}
+use Rattle.song_join.specs.declared.faults.JoinFault.TheVariants.{OverLimit, LooseInstrument, LooseSpeed, GateTimer}
+use Rattle.song_join.specs.declared.faults.JoinFault.TheVariants.{NoteBeforeInstrument, NoMemory}
 use Rattle.song_join.specs.Refusals.{CanBeJoined, IsRefusedFor}
 
 -- the silent song with other rows, and with an instrument that has this vibrato and this gateoff timer

@@ -3,7 +3,8 @@ use Rattle.std.specs.Prelude.{◌≡◌, ℕ, List, [], ◌∷◌, map, replicat
 use Rattle.song_model.specs.declared.rows.Row.{Row}
 use Rattle.song_model.specs.declared.songs.Song.{Song}
 use Rattle.song_model.specs.Silence.{empty_song, silence}
-use Rattle.play_model.specs.WorkedSongs.{order, subtune, row, sides, plucked, rests, one_note, with_rows, with_instrument, with_gate_timer}
+use Rattle.play_model.specs.WorkedSongs.{order, subtune, row, sides, plucked, rests, one_note, with_rows}
+use Rattle.play_model.specs.WorkedSongs.{with_instrument, with_gate_timer}
 use Rattle.song_join.specs.declared.faults.JoinPart.TheVariants.{Subtunes, Instruments, Wave, Pulse, Filter, Speed, Patterns}
 use Rattle.song_join.specs.Limits.{sum_of, limit_of, part_number, IsFirstOver}
 use Rattle.song_join.specs.Loose.{IsLooseInstrument, IsLooseSpeed, IsFirstPlace}

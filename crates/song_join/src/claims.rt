@@ -4,7 +4,9 @@ ghost use Rattle.song_join.specs.JoinLaws.{JoinedSongsAreWhole, SumsAdd};
 ghost use Rattle.song_join.specs.WorkedJoins.{NumbersRise, SongsAreJoined};
 ghost use Rattle.song_join.specs.WorkedJoinable.{JoinableSongs, SongsAreRefused};
 ghost use Rattle.song_join.specs.WorkedWhole.{BeginningsAreKept, BothArePlayed, JoinsAreWhole, SongsAreJoinable};
-ghost use Rattle.song_join.specs.WorkedRefusals.{PartsAreLimited, OversAreFirst, VoidSubtunesCount, InstrumentsAreLoose, SpeedsAreLoose, PlacesAreFirst, TimersAreCompared, NotesAreUnnamed, UnnamedPlaces};
+ghost use Rattle.song_join.specs.WorkedRefusals.{PartsAreLimited, OversAreFirst, VoidSubtunesCount};
+ghost use Rattle.song_join.specs.WorkedRefusals.{InstrumentsAreLoose, SpeedsAreLoose, PlacesAreFirst};
+ghost use Rattle.song_join.specs.WorkedRefusals.{TimersAreCompared, NotesAreUnnamed, UnnamedPlaces};
 
 /// The joined song begins with the first one, keeps the limits of the format, can be played, and plays what both songs
 /// play, with any options: the first song's subtunes, and then the second's.

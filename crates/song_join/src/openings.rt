@@ -5,7 +5,8 @@ ghost use Rattle.std.specs.Option.{option_copied};
 ghost use Rattle.song_model.specs.Endless.{IsEndless};
 ghost use Rattle.play_model.specs.Playable.{IsPlayable};
 ghost use Rattle.song_join.specs.Openings.{is_opening, opening, BeginsUnnamed, IsUnnamedAt, NamesFirst};
-ghost use Rattle.song_join.specs.Parts.{AreOpenings, IsChannelOf, IsPlayableSubtune, IsUnnamedFault, IsFirstUnnamedIn, NoneUnnamedIn, IsFirstUnnamed};
+ghost use Rattle.song_join.specs.Parts.{AreOpenings, IsChannelOf, IsPlayableSubtune, IsUnnamedFault, IsFirstUnnamedIn};
+ghost use Rattle.song_join.specs.Parts.{NoneUnnamedIn, IsFirstUnnamed};
 
 use crate::JoinFault;
 use song_model::{MOST_PATTERNS, Order, Row, Song, Subtune};

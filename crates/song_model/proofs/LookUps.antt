@@ -16,7 +16,8 @@ use Rattle.song_model.specs.Basics.{IsByte}
 use Rattle.song_model.specs.PatternLimits.{IsRow, IsPattern}
 use Rattle.song_model.specs.Limits.{IsInstrument, IsTableRow, KeepsLimits}
 use Rattle.song_model.specs.Silent.{IsSilentSubtune}
-use Rattle.song_model.specs.LookUp.{numbered, zero_instrument, instrument_at, zero_table_row, table_of, table_row, pattern_at, has_entries, is_playable_subtune}
+use Rattle.song_model.specs.LookUp.{numbered, zero_instrument, instrument_at, zero_table_row, table_of, table_row}
+use Rattle.song_model.specs.LookUp.{pattern_at, has_entries, is_playable_subtune}
 
 zero_instrument_in_range : IsInstrument zero_instrument
 zero_instrument_in_range = record {

@@ -1,6 +1,8 @@
 -- The places of an orderlist's plays are where its walk stands: from each of them on the walk plays
 -- what is left, and then the cycle.
-use Rattle.std.proofs.Common.{◌≡◌, ℕ, ℤ, zero, suc, pos, subst, ◌+◌, ◌-◌, ◌%◌, ◌<◌, ◌≤◌, Bool, true, false, cond, ltb, eqb, inl, inr, List, [], ◌∷◌, ◌++◌, length, get_or, drop, replicate, refl, sym, ap, ◌∙◌, arith, add-one, length-append}
+use Rattle.std.proofs.Common.{◌≡◌, ℕ, ℤ, zero, suc, pos, subst, ◌+◌, ◌-◌, ◌%◌, ◌<◌, ◌≤◌}
+use Rattle.std.proofs.Common.{Bool, true, false, cond, ltb, eqb, inl, inr, List, [], ◌∷◌, ◌++◌, length}
+use Rattle.std.proofs.Common.{get_or, drop, replicate, refl, sym, ap, ◌∙◌, arith, add-one, length-append}
 use Rattle.std.proofs.lemmas.Bool.{cases_lt}
 use Rattle.std.proofs.lemmas.Bool.Decides.{nat_tests}
 use Rattle.std.proofs.lemmas.List.{length-replicate}
@@ -9,12 +11,15 @@ use Rattle.base.proofs.Laws.{mod_goes_on, mod_goes_round, first_of_rest, first_a
 use Rattle.song_model.specs.declared.orders.Order.{Order}
 use Rattle.song_model.specs.declared.orders.OrderPlace.{OrderPlace}
 use Rattle.song_model.specs.declared.orders.Step.{Step}
-use Rattle.song_model.specs.Walk.{transpose_after, repeat_after, plays_of, walk_plays, end_transpose, end_repeat, prefix_of, cycle_of, played, no_step, unrolled}
+use Rattle.song_model.specs.Walk.{transpose_after, repeat_after, plays_of, walk_plays, end_transpose, end_repeat}
+use Rattle.song_model.specs.Walk.{prefix_of, cycle_of, played, no_step, unrolled}
 use Rattle.song_model.specs.Endless.{IsEndless}
-use Rattle.song_model.specs.Places.{first_place, places_of, places_of_pattern, walk_places, prefix_places, cycle_places, restarted, place_after, place_of}
+use Rattle.song_model.specs.Places.{first_place, places_of, places_of_pattern, walk_places, prefix_places, cycle_places}
+use Rattle.song_model.specs.Places.{restarted, place_after, place_of}
 use Rattle.song_model.specs.WalkRest.{plays_from, places_from, IsOnWalk, coming_plays, coming_places}
 use Rattle.song_model.proofs.Walks.{one_cycle_is_enough_lem}
-use Rattle.song_model.proofs.Rests.{place_at, play_of, pattern_plays, pattern_places, pattern_transpose, pattern_repeat, at_end, endless_cycle}
+use Rattle.song_model.proofs.Rests.{place_at, play_of, pattern_plays, pattern_places, pattern_transpose, pattern_repeat}
+use Rattle.song_model.proofs.Rests.{at_end, endless_cycle}
 
 -- from this place these plays are left, with these places after them, and the walk ends with this transpose and this
 -- repeat

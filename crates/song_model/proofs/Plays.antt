@@ -1,5 +1,6 @@
 -- What an orderlist plays: patterns that it names, with transposes that a byte of it can set.
-use Rattle.std.proofs.Common.{◌≡◌, ℕ, ℤ, pos, ◌+◌, ◌-ℤ◌, ◌<◌, ◌≤◌, true, false, ltb, List, [], ◌∷◌, drop, replicate, All, arith}
+use Rattle.std.proofs.Common.{◌≡◌, ℕ, ℤ, pos, ◌+◌, ◌-ℤ◌, ◌<◌, ◌≤◌, true, false, ltb, List}
+use Rattle.std.proofs.Common.{[], ◌∷◌, drop, replicate, All, arith}
 use Rattle.std.proofs.lemmas.Int.{ints}
 use Rattle.std.proofs.lemmas.Bool.{cond_both}
 use Rattle.std.proofs.lemmas.Bool.Decides.{nat_tests}
@@ -8,7 +9,8 @@ use Rattle.song_model.specs.declared.orders.Order.{Order}
 use Rattle.song_model.specs.declared.orders.Step.{Step}
 use Rattle.song_model.specs.OrderLimits.{IsEntry}
 use Rattle.song_model.specs.Endless.{IsPatternByte}
-use Rattle.song_model.specs.Walk.{transpose_after, repeat_after, plays_of, walk_plays, end_transpose, end_repeat, prefix_of, cycle_of}
+use Rattle.song_model.specs.Walk.{transpose_after, repeat_after, plays_of, walk_plays, end_transpose, end_repeat}
+use Rattle.song_model.specs.Walk.{prefix_of, cycle_of}
 use Rattle.song_model.specs.WalkLaws.{PlaysArePatterns, IsTranspose, TransposesAreInRange}
 use Rattle.song_model.proofs.Walks.{each_play, any_play, plays_are_entries_lem}
 use Rattle.song_model.proofs.Rests.{endless_cycle}

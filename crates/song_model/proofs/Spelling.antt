@@ -1,5 +1,6 @@
 -- The canonical spelling tells songs apart: each piece of it says where it ends.
-use Rattle.std.proofs.Common.{◌≡◌, ℕ, ◌+◌, List, [], ◌∷◌, ◌++◌, length, map, All, refl, sym, ap, ◌∙◌, append_assoc, arith}
+use Rattle.std.proofs.Common.{◌≡◌, ℕ, ◌+◌, List, [], ◌∷◌, ◌++◌, length, map, All, refl, sym, ap}
+use Rattle.std.proofs.Common.{◌∙◌, append_assoc, arith}
 use Rattle.std.specs.List.{flat_map}
 use Rattle.std.specs.Prelude.{codes}
 use Rattle.std.proofs.lemmas.List.{length-map}
@@ -9,7 +10,9 @@ use Rattle.song_model.specs.declared.tables.TableRow.{TableRow}
 use Rattle.song_model.specs.Basics.{KeepsLimit}
 use Rattle.song_model.specs.PatternLimits.{IsRow, IsPattern}
 use Rattle.song_model.specs.Limits.{IsText, IsOrder, IsSubtune, IsInstrument, IsTable, KeepsLimits}
-use Rattle.song_model.specs.Canonical.{order_text, subtune_text, subtunes_text, instrument_text, instruments_text, table_text, row_text, end_row_text, pattern_text, patterns_text, texts_text, tables_text, canonical}
+use Rattle.song_model.specs.Canonical.{order_text, subtune_text, subtunes_text, instrument_text, instruments_text}
+use Rattle.song_model.specs.Canonical.{table_text, row_text, end_row_text, pattern_text, patterns_text, texts_text}
+use Rattle.song_model.specs.Canonical.{tables_text, canonical}
 use Rattle.song_model.specs.CanonicalLaws.{SpellingsDiffer}
 
 -- A text tells a part of what it spells, and where it ends, whatever follows it.

@@ -1,14 +1,18 @@
 -- What an orderlist plays are its entries, and one cycle is like the next.
-use Rattle.std.proofs.Common.{◌≡◌, ℕ, ℤ, suc, pos, subst, ◌+◌, ◌-◌, ◌-ℤ◌, ◌%◌, ◌<◌, ◌⊎◌, Bool, true, false, cond, ltb, List, [], ◌∷◌, ◌++◌, length, get_or, take, drop, replicate, All, Contains, inl, inr, refl, ap, ◌∙◌, arith}
+use Rattle.std.proofs.Common.{◌≡◌, ℕ, ℤ, suc, pos, subst, ◌+◌, ◌-◌, ◌-ℤ◌, ◌%◌, ◌<◌}
+use Rattle.std.proofs.Common.{◌⊎◌, Bool, true, false, cond, ltb, List, [], ◌∷◌, ◌++◌, length, get_or}
+use Rattle.std.proofs.Common.{take, drop, replicate, All, Contains, inl, inr, refl, ap, ◌∙◌, arith}
 use Rattle.std.proofs.lemmas.Bool.{cond_both}
 use Rattle.std.proofs.lemmas.Bool.Decides.{nat_tests}
 use Rattle.std.proofs.lemmas.List.{length-replicate, take-append-drop}
 use Rattle.std.proofs.Math.Seq.{drop-cons}
-use Rattle.std.proofs.lemmas.List.Elements.{All-nil, All-head, All-tail, All-append, All-replicate, All-drop, All-get_or, All-contains_itself}
+use Rattle.std.proofs.lemmas.List.Elements.{All-nil, All-head, All-tail, All-append, All-replicate, All-drop}
+use Rattle.std.proofs.lemmas.List.Elements.{All-get_or, All-contains_itself}
 use Rattle.base.proofs.Laws.{some_append_left, All-get_or_any}
 use Rattle.song_model.specs.declared.orders.Order.{Order}
 use Rattle.song_model.specs.declared.orders.Step.{Step}
-use Rattle.song_model.specs.Walk.{transpose_after, repeat_after, plays_of, walk_plays, end_transpose, end_repeat, prefix_of, cycle_of, played, no_step}
+use Rattle.song_model.specs.Walk.{transpose_after, repeat_after, plays_of, walk_plays, end_transpose, end_repeat}
+use Rattle.song_model.specs.Walk.{prefix_of, cycle_of, played, no_step}
 use Rattle.song_model.specs.WalkLaws.{PlaysAreEntries, OneCycleIsEnough}
 
 -- a play that names an entry of this list

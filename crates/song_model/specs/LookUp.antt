@@ -1,5 +1,6 @@
 -- What stands at a number, with zeros where nothing is stored.
-use Rattle.std.specs.Prelude.{ℕ, ◌-◌, ◌≤◌, Bool, not, ◌&&◌, ◌==◌, List, [], length, replicate, filter, Option, if◌then◌else◌, slice_get, slice_index_or}
+use Rattle.std.specs.Prelude.{ℕ, ◌-◌, ◌≤◌, Bool, not, ◌&&◌, ◌==◌, List, [], length, replicate}
+use Rattle.std.specs.Prelude.{filter, Option, if◌then◌else◌, slice_get, slice_index_or}
 use Rattle.song_model.specs.declared.rows.Row.{Row}
 use Rattle.song_model.specs.declared.orders.Order.{Order}
 use Rattle.song_model.specs.declared.orders.Subtune.{Subtune}

@@ -1,6 +1,7 @@
 -- Where a walk along an orderlist stands between its plays. A play's place is the walk's place,
 -- transpose and repeat after the play before it.
-use Rattle.std.specs.Prelude.{ℕ, ◌+◌, zero, suc, ℤ, pos, List, [], ◌∷◌, ◌++◌, length, drop, if◌then◌else◌, nat_lt, ◌==◌}
+use Rattle.std.specs.Prelude.{ℕ, ◌+◌, zero, suc, ℤ, pos, List, [], ◌∷◌, ◌++◌, length, drop}
+use Rattle.std.specs.Prelude.{if◌then◌else◌, nat_lt, ◌==◌}
 use Rattle.song_model.specs.declared.orders.Order.{Order}
 use Rattle.song_model.specs.declared.orders.OrderPlace.{OrderPlace}
 use Rattle.song_model.specs.Walk.{transpose_after, repeat_after, end_transpose, end_repeat, unrolled}

@@ -1,6 +1,7 @@
 -- What an orderlist plays. A walk goes along its entries with a transpose and a repeat; the text is
 -- that of the GoatTracker 2 readme, the exact walk is this project's profile.
-use Rattle.std.specs.Prelude.{ℕ, ◌+◌, ◌-◌, ◌%◌, ℤ, pos, ◌-ℤ◌, List, [], ◌∷◌, ◌++◌, length, drop, replicate, if◌then◌else◌, nat_lt, slice_index_or}
+use Rattle.std.specs.Prelude.{ℕ, ◌+◌, ◌-◌, ◌%◌, ℤ, pos, ◌-ℤ◌, List, [], ◌∷◌, ◌++◌}
+use Rattle.std.specs.Prelude.{length, drop, replicate, if◌then◌else◌, nat_lt, slice_index_or}
 use Rattle.song_model.specs.declared.orders.Order.{Order}
 use Rattle.song_model.specs.declared.orders.Step.{Step}
 

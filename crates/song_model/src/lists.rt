@@ -1,6 +1,8 @@
 //! Lists that grow up to a limit.
 
-ghost use Rattle.std.specs.Prelude.{◌≡◌, ◌<◌, ◌≤◌, ◌↔◌, ◌⊎◌, [], ◌∷◌, ◌++◌, length, slice_set, slice_index_or, vec_capacity, IsNone, IfSome, IfOk, IfErr, IsErrOf, OnOk, OnErr};
+ghost use Rattle.std.specs.Prelude.{◌≡◌, ◌<◌, ◌≤◌, ◌↔◌, ◌⊎◌, [], ◌∷◌, ◌++◌};
+ghost use Rattle.std.specs.Prelude.{length, slice_set, slice_index_or, vec_capacity, IsNone, IfSome, IfOk, IfErr};
+ghost use Rattle.std.specs.Prelude.{IsErrOf, OnOk, OnErr};
 ghost use Rattle.song_model.specs.LookUp.{IsNumbered, numbered};
 
 use crate::{LimitFault, PushFault};

@@ -2,7 +2,8 @@
 
 ghost use Rattle.std.specs.Prelude.{◌≡◌, ◌↔◌, ◌<◌, ◌≤◌, length, IsNone, IfSome};
 ghost use Rattle.std.specs.Option.{option_copied};
-ghost use Rattle.song_model.specs.LookUp.{IsNumbered, zero_instrument, instrument_at, table_of, table_row, speed_row, pattern_at, playable_subtunes, playable_subtune};
+ghost use Rattle.song_model.specs.LookUp.{IsNumbered, zero_instrument, instrument_at, table_of, table_row, speed_row};
+ghost use Rattle.song_model.specs.LookUp.{pattern_at, playable_subtunes, playable_subtune};
 
 use crate::{Instrument, Pattern, Song, Subtune, Table, TableName, TableRow};
 

@@ -1,6 +1,7 @@
 //! The song.
 
-ghost use Rattle.std.specs.Prelude.{◌≡◌, ◌↔◌, [], ◌∷◌, ◌++◌, ◌⊎◌, length, IsErrOf, IfOk, IfErr, OnOk, OnErr};
+ghost use Rattle.std.specs.Prelude.{◌≡◌, ◌↔◌, [], ◌∷◌, ◌++◌, ◌⊎◌, length, IsErrOf, IfOk};
+ghost use Rattle.std.specs.Prelude.{IfErr, OnOk, OnErr};
 ghost use Rattle.song_model.specs.Silence.{empty_song};
 ghost use Rattle.song_model.specs.LookUp.{with_table};
 

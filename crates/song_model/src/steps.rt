@@ -1,6 +1,7 @@
 //! The walk along an orderlist, a play at a time.
 
-ghost use Rattle.std.specs.Prelude.{◌≡◌, ℕ, ◌+◌, ◌<◌, ◌≤◌, ◌↔◌, length, slice_index, slice_index_or, IsTrue};
+ghost use Rattle.std.specs.Prelude.{◌≡◌, ℕ, ◌+◌, ◌<◌, ◌≤◌, ◌↔◌, length, slice_index};
+ghost use Rattle.std.specs.Prelude.{slice_index_or, IsTrue};
 ghost use Rattle.song_model.specs.Walk.{transpose_after, repeat_after, no_step, played};
 ghost use Rattle.song_model.specs.Endless.{IsEndless, IsPatternByte};
 ghost use Rattle.song_model.specs.Places.{first_place, restarted, place_of};

@@ -1,11 +1,13 @@
 -- A song under new numbers is complete: it can be played, and it stores all that it names.
-use Rattle.std.proofs.Common.{◌≡◌, ℕ, ◌<◌, ◌⊎◌, true, false, List, [], ◌∷◌, map, length, refl, sym, ◌∙◌, subst, inl, inr, arith}
+use Rattle.std.proofs.Common.{◌≡◌, ℕ, ◌<◌, ◌⊎◌, true, false, List, [], ◌∷◌, map, length, refl}
+use Rattle.std.proofs.Common.{sym, ◌∙◌, subst, inl, inr, arith}
 use Rattle.song_model.specs.declared.tables.TableName.{TableName}
 use Rattle.song_model.specs.declared.tables.TableName.TheVariants.{Speed}
 use Rattle.song_model.specs.declared.songs.Song.{Song}
 use Rattle.song_model.specs.Endless.{IsEndless}
 use Rattle.song_model.specs.LookUp.{IsNumbered, table_of, playable_subtunes}
-use Rattle.play_model.specs.declared.unplayable.Unplayable.TheVariants.{NoSubtune, MissingPattern, BadRestart, TableOverflow, PointerToJump}
+use Rattle.play_model.specs.declared.unplayable.Unplayable.TheVariants.{NoSubtune, MissingPattern, BadRestart}
+use Rattle.play_model.specs.declared.unplayable.Unplayable.TheVariants.{TableOverflow, PointerToJump}
 use Rattle.play_model.specs.Used.{IsUsedPattern}
 use Rattle.play_model.specs.Reached.{IsPointer, IsStep}
 use Rattle.play_model.specs.Playable.{IsJumpTarget, IsPlayable}
@@ -13,7 +15,8 @@ use Rattle.play_model.proofs.Laws.{closed_lem, whole_lem}
 use Rattle.same_frames.specs.Maps.{Maps}
 use Rattle.same_frames.specs.OrderLaws.{moved_subtune}
 use Rattle.packed_form.specs.StandsFor.{IsComplete}
-use Rattle.same_frames.proofs.Laws.{StandsForOne, endless_moved, is_there, stored_is_played, target_from, step_from, no_jump_there}
+use Rattle.same_frames.proofs.Laws.{StandsForOne, endless_moved, is_there, stored_is_played, target_from, step_from}
+use Rattle.same_frames.proofs.Laws.{no_jump_there}
 use Rattle.song_pack.proofs.UsedParts.{IsMoved, under, order_from, pattern_from, instrument_from, reached_from, pointer_from}
 
 -- ---- what is pointed at

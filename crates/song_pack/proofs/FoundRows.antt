@@ -13,9 +13,11 @@ use Rattle.song_model.proofs.Laws.{plays_are_patterns_lem}
 use Rattle.play_model.specs.State.{Voice}
 use Rattle.play_model.specs.Frame.{subtune_at}
 use Rattle.play_model.specs.Used.{IsPlayedOrder}
-use Rattle.play_model.specs.Reached.{IsReached, of_instrument as pointer_of_instrument, of_row as pointer_of_row, played as by_playing, pointed}
+use Rattle.play_model.specs.Reached.{IsReached, of_instrument as pointer_of_instrument, of_row as pointer_of_row}
+use Rattle.play_model.specs.Reached.{played as by_playing, pointed}
 use Rattle.play_model.specs.Playable.{HasPrograms}
-use Rattle.play_model.specs.Safe.{IsSafePointer, IsSafeVoice, HasCommand, IsSafeWaiting, none, of_instrument, of_row, IsSafeRunning}
+use Rattle.play_model.specs.Safe.{IsSafePointer, IsSafeVoice, HasCommand, IsSafeWaiting, none, of_instrument, of_row}
+use Rattle.play_model.specs.Safe.{IsSafeRunning}
 use Rattle.play_model.proofs.Laws.{closed_lem, whole_lem}
 use Rattle.safe_states.proofs.Laws.{is_step, is_played}
 use Rattle.same_frames.proofs.Laws.{after_reached}

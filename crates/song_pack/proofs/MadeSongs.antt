@@ -1,5 +1,6 @@
 -- What is made of a song, part by part, is its packed song.
-use Rattle.std.proofs.Common.{◌≡◌, ℕ, ◌<◌, ◌≤◌, List, [], ◌∷◌, ◌++◌, map, length, slice_index, Contains, refl, sym, ◌∙◌, ap, subst, inl, inr, arith}
+use Rattle.std.proofs.Common.{◌≡◌, ℕ, ◌<◌, ◌≤◌, List, [], ◌∷◌, ◌++◌, map, length}
+use Rattle.std.proofs.Common.{slice_index, Contains, refl, sym, ◌∙◌, ap, subst, inl, inr, arith}
 use Rattle.std.specs.List.{filter, range_with_len, position_or_len}
 use Rattle.std.specs.Str.{bytes_eq}
 use Rattle.std.proofs.lemmas.Bool.{cases_lt, lt-ltb, le-ltb}
@@ -26,11 +27,13 @@ use Rattle.packed_form.specs.declared.packed_songs.PackedSubtune.{PackedSubtune}
 use Rattle.packed_form.specs.declared.packed_songs.PackedSong.{PackedSong}
 use Rattle.packed_form.specs.declared.packed_patterns.TheConstants.{MOST_PACKED_BYTES}
 use Rattle.packed_form.specs.PackedText.{packed_text}
-use Rattle.packing_rules.specs.Renumbering.{rank, first_seen, pointer_number, table_number, instrument_number, renumbered_row, pattern_text, pattern_texts, pattern_number}
+use Rattle.packing_rules.specs.Renumbering.{rank, first_seen, pointer_number, table_number, instrument_number}
+use Rattle.packing_rules.specs.Renumbering.{renumbered_row, pattern_text, pattern_texts, pattern_number}
 use Rattle.table_pack.specs.Marks.{is_marked}
 use Rattle.song_pack.specs.declared.tables.PackedTables.{PackedTables}
 use Rattle.song_pack.specs.Numbers.{sets_of, row_of, numbered_row}
-use Rattle.song_pack.specs.Packed.{passing_numbers, order_byte, order_bytes, packed_subtune, packed_instrument, AreSpeeds, IsPacked}
+use Rattle.song_pack.specs.Packed.{passing_numbers, order_byte, order_bytes, packed_subtune, packed_instrument}
+use Rattle.song_pack.specs.Packed.{AreSpeeds, IsPacked}
 use Rattle.song_pack.specs.Tables.{AreTables}
 use Rattle.song_pack.specs.declared.faults.PackFault.{PackFault}
 use Rattle.song_pack.specs.declared.faults.PackFault.TheVariants.{PatternTooLong, NoMemory}

@@ -1,5 +1,7 @@
 -- All numbers of a packed song are within their ranges.
-use Rattle.std.proofs.Common.{◌≡◌, ◌≢◌, ℕ, zero, suc, ◌+◌, ◌-◌, ◌<◌, ◌≤◌, Bool, true, false, List, map, length, get_or, replicate, All, Contains, Option, Some, None, refl, sym, ◌∙◌, ap, subst, inl, inr, arith}
+use Rattle.std.proofs.Common.{◌≡◌, ◌≢◌, ℕ, zero, suc, ◌+◌, ◌-◌, ◌<◌, ◌≤◌, Bool, true}
+use Rattle.std.proofs.Common.{false, List, map, length, get_or, replicate, All, Contains, Option, Some, None, refl, sym}
+use Rattle.std.proofs.Common.{◌∙◌, ap, subst, inl, inr, arith}
 use Rattle.std.specs.List.{filter}
 use Rattle.std.proofs.lemmas.Bool.{cases_lt, cases_eq, ne_eqb}
 use Rattle.std.proofs.lemmas.List.{length-map, length-replicate}
@@ -18,7 +20,8 @@ use Rattle.song_model.specs.declared.songs.Song.{Song}
 use Rattle.song_model.specs.Basics.{IsByte, KeepsLimit}
 use Rattle.song_model.specs.PatternLimits.{IsPattern}
 use Rattle.song_model.specs.Limits.{IsText, IsOrder, IsSubtune, IsTableRow, IsTable, IsInstrument, KeepsLimits}
-use Rattle.song_model.specs.LookUp.{zero_table_row, speed_row, table_of, table_row, instrument_at, is_playable_subtune, playable_subtunes}
+use Rattle.song_model.specs.LookUp.{zero_table_row, speed_row, table_of, table_row, instrument_at, is_playable_subtune}
+use Rattle.song_model.specs.LookUp.{playable_subtunes}
 use Rattle.song_model.specs.Pointers.{instrument_pointer}
 use Rattle.song_model.proofs.Laws.{instrument_in_range, table_row_in_range}
 use Rattle.play_model.specs.Used.{IsPlayedOrder, IsUsedInstrument}
@@ -31,7 +34,8 @@ use Rattle.packed_form.specs.declared.packed_songs.PackedInstrument.{PackedInstr
 use Rattle.packed_form.specs.declared.packed_songs.PackedSong.{PackedSong}
 use Rattle.packing_rules.specs.Segments.{ProgramTable, IsWhole, numbers, keeps}
 use Rattle.packing_rules.specs.UsedSets.{UsedSets, AreUsedSets}
-use Rattle.packing_rules.specs.Renumbering.{rank, same_row, speed_rows, wave_row, filter_programs, pulse_programs, wave_programs, table_number, program_number, program_rows}
+use Rattle.packing_rules.specs.Renumbering.{rank, same_row, speed_rows, wave_row, filter_programs, pulse_programs}
+use Rattle.packing_rules.specs.Renumbering.{wave_programs, table_number, program_number, program_rows}
 use Rattle.packed_form.specs.Unpacked.{unpacked_instrument, unpacked_pattern, unpacked_song}
 use Rattle.packing_rules.proofs.Laws.{kept_parts, kept_stands, playable_programs_are_whole, first_seen_all}
 use Rattle.pattern_pack.proofs.Laws.{spelled_are_patterns}

@@ -1,6 +1,7 @@
 -- The tables of a packed song agree with those of its song.
 use Rattle.std.specs.Prelude.{◌==◌}
-use Rattle.std.proofs.Common.{◌≡◌, ℕ, ◌+◌, ◌≤◌, Bool, true, false, List, length, Option, Some, None, refl, sym, ◌∙◌, ap, subst, inl, inr, arith}
+use Rattle.std.proofs.Common.{◌≡◌, ℕ, ◌+◌, ◌≤◌, Bool, true, false, List, length, Option, Some, None}
+use Rattle.std.proofs.Common.{refl, sym, ◌∙◌, ap, subst, inl, inr, arith}
 use Rattle.std.proofs.lemmas.Bool.{cases_Bool, eqb-true}
 use Rattle.std.specs.List.{filter}
 use Rattle.std.proofs.lemmas.List.{length-map}
@@ -22,7 +23,9 @@ use Rattle.packed_form.specs.declared.packed_songs.PackedSong.{PackedSong}
 use Rattle.packing_rules.specs.Segments.{ProgramTable, IsWhole, numbers, row_of, is_jump_row, is_end, keeps}
 use Rattle.packing_rules.specs.ProgramMaps.{retargeted, row_at, KeepsPrograms}
 use Rattle.packing_rules.specs.UsedSets.{UsedSets, AreUsedSets}
-use Rattle.packing_rules.specs.Renumbering.{rank, pointer_number, foreign_number, program_number, program_rows, wave_row, wave_programs, pulse_programs, filter_programs, table_number, speed_number}
+use Rattle.packing_rules.specs.Renumbering.{rank, pointer_number, foreign_number, program_number, program_rows}
+use Rattle.packing_rules.specs.Renumbering.{wave_row, wave_programs, pulse_programs, filter_programs, table_number}
+use Rattle.packing_rules.specs.Renumbering.{speed_number}
 use Rattle.packing_rules.proofs.Laws.{numbered_map, playable_programs_are_whole}
 use Rattle.packed_form.specs.Unpacked.{unpacked_song}
 use Rattle.table_pack.proofs.Laws.{packed_tables_keep, rank_most}

@@ -1,6 +1,7 @@
 -- What a song under new numbers uses are the parts of the song that it was made of, under these numbers.
 use Rattle.std.specs.Prelude.{◌==◌}
-use Rattle.std.proofs.Common.{◌≡◌, ◌≢◌, ℕ, zero, suc, ◌<◌, false, List, [], ◌∷◌, map, length, Contains, Some, refl, sym, ◌∙◌, ap, subst, inl, inr, arith}
+use Rattle.std.proofs.Common.{◌≡◌, ◌≢◌, ℕ, zero, suc, ◌<◌, false, List, [], ◌∷◌, map, length}
+use Rattle.std.proofs.Common.{Contains, Some, refl, sym, ◌∙◌, ap, subst, inl, inr, arith}
 use Rattle.std.proofs.lemmas.Bool.{cases_lt, cases_Bool, ne_eqb}
 use Rattle.song_model.specs.declared.rows.Row.{Row}
 use Rattle.song_model.specs.declared.orders.Order.{Order}
@@ -14,12 +15,14 @@ use Rattle.song_model.specs.LookUp.{IsNumbered, table_of, pattern_at, instrument
 use Rattle.song_model.specs.Pointers.{instrument_pointer, command_table}
 use Rattle.play_model.specs.LookUps.{look_ups_of}
 use Rattle.play_model.specs.Used.{IsChannel, IsPlayedOrder, IsUsedPattern, IsUsedRow, IsUsedInstrument}
-use Rattle.play_model.specs.Reached.{IsPlayedPointer, of_instrument, of_row, IsReached, played, pointed, led, IsPointer, of_played, of_wave_row}
+use Rattle.play_model.specs.Reached.{IsPlayedPointer, of_instrument, of_row, IsReached, played, pointed, led, IsPointer}
+use Rattle.play_model.specs.Reached.{of_played, of_wave_row}
 use Rattle.play_model.specs.Playable.{IsPlayable}
 use Rattle.same_frames.specs.Maps.{Maps, moved_pointer, named_after, IsRowFor, AreRowsFor, IsInstrumentFor}
 use Rattle.same_frames.specs.Agreement.{Agrees}
 use Rattle.same_frames.specs.OrderLaws.{moved_byte, moved_order, moved_subtune}
-use Rattle.same_frames.proofs.Laws.{IsUnder, StandsForOne, image_of, channel_moved, low_byte, high_byte, old_some, wave_pointer_from, led_from}
+use Rattle.same_frames.proofs.Laws.{IsUnder, StandsForOne, image_of, channel_moved, low_byte, high_byte, old_some}
+use Rattle.same_frames.proofs.Laws.{wave_pointer_from, led_from}
 
 -- ---- the other song
 

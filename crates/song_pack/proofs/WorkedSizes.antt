@@ -7,7 +7,8 @@ use Rattle.packed_form.specs.PackedText.{packed_text}
 use Rattle.packed_form.specs.Sizes.{packed_song_size}
 use Rattle.packed_form.specs.WorkedUnpacked.{IsPackedNote}
 use Rattle.packing_rules.specs.Segments.{first_row, is_closed, are_equal, first_equal, keeps, stand_in}
-use Rattle.packing_rules.specs.Renumbering.{speed_rows, speed_number, table_number, instrument_number, pattern_text, pattern_texts}
+use Rattle.packing_rules.specs.Renumbering.{speed_rows, speed_number, table_number, instrument_number, pattern_text}
+use Rattle.packing_rules.specs.Renumbering.{pattern_texts}
 use Rattle.packing_rules.specs.SongSizes.{data_size, packed_size}
 use Rattle.packing_rules.specs.WorkedSizes.{note_sets}
 use Rattle.song_pack.specs.SizeLaws.{third_pattern, PackedSizesAreWithin, NotesHaveTheirSize}

@@ -18,7 +18,9 @@ use Rattle.packed_form.specs.declared.packed_songs.PackedSong.{PackedSong}
 use Rattle.packing_rules.specs.Segments.{numbers}
 use Rattle.packing_rules.specs.ProgramMaps.{row_at}
 use Rattle.packing_rules.specs.UsedSets.{UsedSets}
-use Rattle.packing_rules.specs.Renumbering.{first_seen, speed_rows, speed_number, program_rows, wave_programs, pulse_programs, filter_programs, table_number, instrument_number, pattern_number, pattern_texts}
+use Rattle.packing_rules.specs.Renumbering.{first_seen, speed_rows, speed_number, program_rows, wave_programs}
+use Rattle.packing_rules.specs.Renumbering.{pulse_programs, filter_programs, table_number, instrument_number}
+use Rattle.packing_rules.specs.Renumbering.{pattern_number, pattern_texts}
 
 -- the new numbers of a song's parts
 abbrev pub new_numbers : Song → UsedSets → Maps

@@ -1,5 +1,6 @@
 -- The texts of a song's used patterns, each once.
-use Rattle.std.specs.Prelude.{◌≡◌, ℕ, ◌<◌, ◌≤◌, Bool, true, List, [], ◌∷◌, ◌++◌, if◌then◌else◌, length, map, filter, slice_index}
+use Rattle.std.specs.Prelude.{◌≡◌, ℕ, ◌<◌, ◌≤◌, Bool, true, List, [], ◌∷◌, ◌++◌}
+use Rattle.std.specs.Prelude.{if◌then◌else◌, length, map, filter, slice_index}
 use Rattle.std.specs.List.{list_any, position_or_len, range_with_len}
 use Rattle.std.specs.Str.{bytes_eq}
 use Rattle.song_model.specs.declared.patterns.TheConstants.{MOST_PATTERNS}
@@ -29,7 +30,8 @@ with_text texts text = if list_any (bytes_eq text) texts then texts else texts +
 -- each text once, and the number of each used pattern
 pub record ArePatterns (text : ℕ → List ℕ) (used : ℕ → Bool) (list : List (List ℕ)) (to : List ℕ) : Type 0 where
   pub list_are : list ≡ first_seen bytes_eq (texts_below text used MOST_PATTERNS)
-  pub number : (p : ℕ) → used p ≡ true → p < MOST_PATTERNS → slice_index to p ≡ position_or_len (bytes_eq (text p)) list
+  pub number : (p : ℕ) → used p ≡ true → p < MOST_PATTERNS →
+      slice_index to p ≡ position_or_len (bytes_eq (text p)) list
   pub short : (p : ℕ) → used p ≡ true → p < MOST_PATTERNS → length (text p) ≤ MOST_PACKED_BYTES
 
 -- the first used pattern whose text is too long

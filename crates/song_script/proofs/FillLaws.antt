@@ -1,5 +1,7 @@
 -- Texts, instruments and tables are filled.
-use Rattle.std.proofs.Common.{◌≡◌, ℕ, ◌+◌, ◌-◌, ◌≤◌, true, false, eqb, ltb, ◌&&◌, codes, set, List, [], ◌∷◌, ◌++◌, length, replicate, Ok, refl, sym, ap, ◌∙◌, subst, arith}
+use Rattle.std.proofs.Common.{◌≡◌, ℕ, ◌+◌, ◌-◌, ◌≤◌, true, false, eqb, ltb, ◌&&◌, codes, set}
+use Rattle.std.proofs.Common.{List, [], ◌∷◌, ◌++◌, length, replicate, Ok, refl, sym, ap, ◌∙◌, subst}
+use Rattle.std.proofs.Common.{arith}
 use Rattle.std.proofs.lemmas.Bool.{eqb-true, and_parts}
 use Rattle.std.proofs.lemmas.List.{append_assoc, append-nil}
 use Rattle.base.specs.Limits.{KeepsLimit}
@@ -16,7 +18,8 @@ use Rattle.edit_ops.specs.Tables.{table_named, rows_of}
 use Rattle.edit_ops.specs.Others.{with_text}
 use Rattle.song_script.specs.Statements.{each_from}
 use Rattle.song_script.specs.Words.{is_zero_text, readable_text}
-use Rattle.song_script.specs.Parts.{text_said, field_said, name_said, fields_of, instrument_said, instrument_words, table_row_said, table_said}
+use Rattle.song_script.specs.Parts.{text_said, field_said, name_said, fields_of, instrument_said, instrument_words}
+use Rattle.song_script.specs.Parts.{table_row_said, table_said}
 use Rattle.song_script.proofs.AfterLaws.{Makes, none_makes, both_make, comment_makes, unless_makes, unless_said_makes, all_make}
 use Rattle.song_script.proofs.ListLaws.{numbered_seam, set_numbered, seam_long, item_holds, front_short, all_zero}
 use Rattle.song_script.proofs.KindLaws.{text_set, field_set, name_set, table_set}

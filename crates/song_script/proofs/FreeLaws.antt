@@ -1,5 +1,7 @@
 -- The lines of a script have no line feed and no carriage return in them.
-use Rattle.std.proofs.Common.{◌≡◌, ℕ, zero, suc, ◌+◌, ◌*◌, ◌-◌, ◌/◌, ◌%◌, ◌≤◌, Bool, true, false, eqb, leb, not, ◌&&◌, if◌then◌else◌, get_or, slice_index, map, codes, List, [], ◌∷◌, ◌++◌, All, refl, arith}
+use Rattle.std.proofs.Common.{◌≡◌, ℕ, zero, suc, ◌+◌, ◌*◌, ◌-◌, ◌/◌, ◌%◌, ◌≤◌, Bool}
+use Rattle.std.proofs.Common.{true, false, eqb, leb, not, ◌&&◌, if◌then◌else◌, get_or, slice_index, map}
+use Rattle.std.proofs.Common.{codes, List, [], ◌∷◌, ◌++◌, All, refl, arith}
 use Rattle.std.specs.List.{list_all, flat_map}
 use Rattle.std.proofs.lemmas.Bool.{and_parts, and_from, ne_eqb, leb-true, not-true}
 use Rattle.std.proofs.lemmas.List.Elements.{All-nil, All-cons}
@@ -9,7 +11,8 @@ use Rattle.edit_ops.specs.declared.edits.Edit.{Edit}
 use Rattle.edit_ops.specs.declared.edits.Edit.TheVariants.{AddSubtune}
 use Rattle.edit_script.specs.Forms.{Argument, edit_form}
 use Rattle.song_script.specs.Statements.{argument_text, edit_text}
-use Rattle.song_script.specs.Words.{two_digits, readable, before_zero, readable_text, tone_letters, tone_words, note_words, row_words}
+use Rattle.song_script.specs.Words.{two_digits, readable, before_zero, readable_text, tone_letters, tone_words}
+use Rattle.song_script.specs.Words.{note_words, row_words}
 
 abbrev pub is_free : ℕ → Bool
 is_free byte = not (eqb byte 10) && not (eqb byte 13)

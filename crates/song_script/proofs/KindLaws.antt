@@ -1,5 +1,6 @@
 -- What each kind of edit that a script has makes of a song that has the place.
-use Rattle.std.proofs.Common.{◌≡◌, ℕ, ◌+◌, ◌<◌, ◌≤◌, true, false, eqb, ltb, leb, List, [], ◌∷◌, ◌++◌, length, set, insert, Ok, refl, ap, arith}
+use Rattle.std.proofs.Common.{◌≡◌, ℕ, ◌+◌, ◌<◌, ◌≤◌, true, false, eqb, ltb, leb, List, []}
+use Rattle.std.proofs.Common.{◌∷◌, ◌++◌, length, set, insert, Ok, refl, ap, arith}
 use Rattle.std.proofs.lemmas.Bool.{ne_eqb, le-leb, lt-leb, le-ltb}
 use Rattle.song_model.specs.declared.rows.Row.{Row}
 use Rattle.song_model.specs.declared.orders.Subtune.{Subtune}
@@ -8,7 +9,9 @@ use Rattle.song_model.specs.declared.songs.Song.{Song}
 use Rattle.song_model.specs.PatternLimits.{IsRow}
 use Rattle.song_model.specs.LookUp.{pattern_at, instrument_at, void_subtune, numbered, order_of}
 use Rattle.song_model.specs.Silence.{rest_row}
-use Rattle.edit_ops.specs.declared.edits.Edit.TheVariants.{SetRow, SetLength, InsertOrder, SetRestart, SetInstrument, SetInstrumentName, SetTable, InsertTable, SetText, AddSubtune, SetPatternCount}
+use Rattle.edit_ops.specs.declared.edits.Edit.TheVariants.{SetRow, SetLength, InsertOrder, SetRestart, SetInstrument}
+use Rattle.edit_ops.specs.declared.edits.Edit.TheVariants.{SetInstrumentName, SetTable, InsertTable, SetText}
+use Rattle.edit_ops.specs.declared.edits.Edit.TheVariants.{AddSubtune, SetPatternCount}
 use Rattle.edit_ops.specs.Lists.{resized}
 use Rattle.edit_ops.specs.Patterns.{is_row}
 use Rattle.edit_ops.specs.Orders.{with_channel}

@@ -1,5 +1,6 @@
 -- The parts of a song are made, with nothing in them.
-use Rattle.std.proofs.Common.{◌≡◌, ℕ, zero, suc, ◌+◌, ◌<◌, ◌≤◌, false, eqb, List, ◌∷◌, length, replicate, set, ◌-◌, ltb, Ok, refl, sym, ap, ◌∙◌, subst, arith}
+use Rattle.std.proofs.Common.{◌≡◌, ℕ, zero, suc, ◌+◌, ◌<◌, ◌≤◌, false, eqb, List, ◌∷◌}
+use Rattle.std.proofs.Common.{length, replicate, set, ◌-◌, ltb, Ok, refl, sym, ap, ◌∙◌, subst, arith}
 use Rattle.std.proofs.lemmas.Bool.{eqb-true, ne_eqb}
 use Rattle.std.proofs.lemmas.List.{length-replicate}
 use Rattle.song_model.specs.declared.rows.Row.{Row}

@@ -1,5 +1,6 @@
 -- The text of statements is a script of their edits, each with the number of its line.
-use Rattle.std.proofs.Common.{◌≡◌, ℕ, zero, suc, ◌+◌, ◌*◌, ◌-◌, ◌<◌, true, eqb, codes, List, [], ◌∷◌, ◌++◌, length, replicate, All, Ok, refl, sym, ap, ◌∙◌, subst, arith}
+use Rattle.std.proofs.Common.{◌≡◌, ℕ, zero, suc, ◌+◌, ◌*◌, ◌-◌, ◌<◌, true, eqb, codes, List, []}
+use Rattle.std.proofs.Common.{◌∷◌, ◌++◌, length, replicate, All, Ok, refl, sym, ap, ◌∙◌, subst, arith}
 use Rattle.std.specs.List.{flat_map, slice_split}
 use Rattle.std.specs.Str.Lines.{lines, lines_of_parts, strip_carriage_return}
 use Rattle.std.proofs.lemmas.List.{append_assoc}

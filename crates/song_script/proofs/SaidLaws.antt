@@ -1,5 +1,6 @@
 -- What is said of a song within its limits is read as it is.
-use Rattle.std.proofs.Common.{◌≡◌, ℕ, ◌+◌, ◌<◌, ◌≤◌, Bool, true, false, eqb, ◌&&◌, if◌then◌else◌, codes, List, [], ◌∷◌, ◌++◌, length, refl, arith}
+use Rattle.std.proofs.Common.{◌≡◌, ℕ, ◌+◌, ◌<◌, ◌≤◌, Bool, true, false, eqb, ◌&&◌}
+use Rattle.std.proofs.Common.{if◌then◌else◌, codes, List, [], ◌∷◌, ◌++◌, length, refl, arith}
 use Rattle.base.specs.Limits.{KeepsLimit}
 use Rattle.song_model.specs.declared.rows.Row.{Row}
 use Rattle.song_model.specs.declared.orders.Order.{Order}
@@ -12,15 +13,20 @@ use Rattle.song_model.specs.PatternLimits.{IsRow, IsPattern}
 use Rattle.song_model.specs.OrderLimits.{IsEntry}
 use Rattle.song_model.specs.Limits.{IsText, IsOrder, IsSubtune, IsInstrument, IsTableRow, IsTable, KeepsLimits}
 use Rattle.edit_ops.specs.declared.edits.Edit.{Edit}
-use Rattle.edit_ops.specs.declared.edits.Edit.TheVariants.{SetRow, SetLength, SetRestart, SetInstrument, SetInstrumentName, SetTable, InsertTable, SetText, AddSubtune, SetPatternCount}
+use Rattle.edit_ops.specs.declared.edits.Edit.TheVariants.{SetRow, SetLength, SetRestart, SetInstrument}
+use Rattle.edit_ops.specs.declared.edits.Edit.TheVariants.{SetInstrumentName, SetTable, InsertTable, SetText}
+use Rattle.edit_ops.specs.declared.edits.Edit.TheVariants.{AddSubtune, SetPatternCount}
 use Rattle.edit_script.specs.Forms.{edit_form}
 use Rattle.song_script.specs.Statements.{Statement, Comment, Do, each_from}
 use Rattle.song_script.specs.Words.{two_digits, is_zero_text, readable_text, row_words}
-use Rattle.song_script.specs.Parts.{table_made, parts_made, text_said, texts_said, entry_said, order_said, subtune_said, fields_of, field_said, name_words, instrument_said, table_row_said, table_said, tables_said, is_rest, row_said, pattern_said}
+use Rattle.song_script.specs.Parts.{table_made, parts_made, text_said, texts_said, entry_said, order_said, subtune_said}
+use Rattle.song_script.specs.Parts.{fields_of, field_said, name_words, instrument_said, table_row_said, table_said}
+use Rattle.song_script.specs.Parts.{tables_said, is_rest, row_said, pattern_said}
 use Rattle.song_script.specs.Shown.{statements_of}
 use Rattle.song_script.proofs.ListLaws.{item_holds, front_short}
 use Rattle.song_script.proofs.FreeLaws.{are_free, free_append, digits_free, text_free, row_free}
-use Rattle.song_script.proofs.ReadLaws.{AreSmall, done, next, AreArguments, numbers_are, AreRead, none_read, one_read, next_read, both_read, again_read, all_read}
+use Rattle.song_script.proofs.ReadLaws.{AreSmall, done, next, AreArguments, numbers_are, AreRead, none_read, one_read}
+use Rattle.song_script.proofs.ReadLaws.{next_read, both_read, again_read, all_read}
 
 -- what is left out reads as it is
 unless_read : (test : Bool) (statements : List Statement) → AreRead statements →

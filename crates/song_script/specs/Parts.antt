@@ -1,6 +1,7 @@
 -- What is said of each part of a song. First there is as much of each as the song has, with nothing in it; then each is
 -- filled once. What is zero or a rest stands already, and isn't said.
-use Rattle.std.specs.Prelude.{ℕ, ◌==◌, ◌&&◌, Bool, if◌then◌else◌, List, [], ◌∷◌, ◌++◌, length, replicate, codes}
+use Rattle.std.specs.Prelude.{ℕ, ◌==◌, ◌&&◌, Bool, if◌then◌else◌, List, [], ◌∷◌, ◌++◌, length}
+use Rattle.std.specs.Prelude.{replicate, codes}
 use Rattle.song_model.specs.declared.rows.Row.{Row}
 use Rattle.song_model.specs.declared.orders.Order.{Order}
 use Rattle.song_model.specs.declared.orders.Subtune.{Subtune}
@@ -8,7 +9,9 @@ use Rattle.song_model.specs.declared.instruments.Instrument.{Instrument}
 use Rattle.song_model.specs.declared.tables.TableRow.{TableRow}
 use Rattle.song_model.specs.declared.songs.Song.{Song}
 use Rattle.song_model.specs.LookUp.{zero_table_row}
-use Rattle.edit_ops.specs.declared.edits.Edit.TheVariants.{SetRow, SetLength, InsertOrder, SetRestart, SetInstrument, SetInstrumentName, SetTable, InsertTable, SetText, AddSubtune, SetPatternCount}
+use Rattle.edit_ops.specs.declared.edits.Edit.TheVariants.{SetRow, SetLength, InsertOrder, SetRestart, SetInstrument}
+use Rattle.edit_ops.specs.declared.edits.Edit.TheVariants.{SetInstrumentName, SetTable, InsertTable, SetText}
+use Rattle.edit_ops.specs.declared.edits.Edit.TheVariants.{AddSubtune, SetPatternCount}
 use Rattle.song_script.specs.Statements.{Statement, Comment, Do, each_from}
 use Rattle.song_script.specs.Words.{two_digits, is_zero_text, readable_text, row_words}
 

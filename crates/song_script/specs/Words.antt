@@ -1,5 +1,6 @@
 -- The words of a script's comments: what a musician calls the parts of a song.
-use Rattle.std.specs.Prelude.{ℕ, ◌+◌, ◌-◌, ◌*◌, ◌/◌, ◌%◌, ◌==◌, ◌&&◌, Bool, nat_le, if◌then◌else◌, List, [], ◌∷◌, ◌++◌, map, take, codes, slice_index}
+use Rattle.std.specs.Prelude.{ℕ, ◌+◌, ◌-◌, ◌*◌, ◌/◌, ◌%◌, ◌==◌, ◌&&◌, Bool, nat_le}
+use Rattle.std.specs.Prelude.{if◌then◌else◌, List, [], ◌∷◌, ◌++◌, map, take, codes, slice_index}
 use Rattle.std.specs.List.{list_all, position_or_len}
 use Rattle.hex.specs.Hex.{encode_upper, upper_digits}
 use Rattle.song_model.specs.declared.rows.Row.{Row}

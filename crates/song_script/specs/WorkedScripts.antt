@@ -142,7 +142,8 @@ OrdersAreCounted =
 
 -- what is read of a text ends before its first zero, and has no line feed, no return and nothing past $7E
 abbrev pub TextsAreReadable : Type 0
-TextsAreReadable = (readable_text (0x20 ∷ 0x7E ∷ 0x1F ∷ 0x7F ∷ 10 ∷ 13 ∷ 0xFF ∷ 0 ∷ 0x41 ∷ []) ≡ codes " ~?????")
+TextsAreReadable = (readable_text (0x20 ∷ 0x7E ∷ 0x1F ∷ 0x7F ∷ 10 ∷ 13 ∷ 0xFF ∷ 0 ∷ 0x41
+    ∷ []) ≡ codes " ~?????")
     × (readable_text (0 ∷ 0x41 ∷ []) ≡ []) × (readable_text (0x41 ∷ []) ≡ codes "A")
     × (text_of (text_said 1 (codes "author") (replicate 32 0)) ≡ [])
     × (text_of (text_said 1 (codes "author") (replicate 31 0 ++ 1 ∷ []))

@@ -1,7 +1,9 @@
 //! Facts about the definitions, each the contract of a function that does nothing.
 
 ghost use Rattle.song_script.specs.ScriptLaws.{EditsMakeTheSong, ScriptsMakeTheSong};
-ghost use Rattle.song_script.specs.WorkedScripts.{NothingIsShown, SmallSongIsShown, RestsAreLeftOut, NotesAreNamed, LengthsAreTold, ZeroRowsAreLeftOut, FieldsAreNumbered, OrdersAreCounted, TextsAreReadable};
+ghost use Rattle.song_script.specs.WorkedScripts.{NothingIsShown, SmallSongIsShown, RestsAreLeftOut, NotesAreNamed};
+ghost use Rattle.song_script.specs.WorkedScripts.{LengthsAreTold, ZeroRowsAreLeftOut, FieldsAreNumbered};
+ghost use Rattle.song_script.specs.WorkedScripts.{OrdersAreCounted, TextsAreReadable};
 
 /// The edits of a song's script make exactly this song of the empty one.
 pub fn edits_make_the_song()

@@ -1,12 +1,15 @@
 -- Which segments are closed, row by row.
-use Rattle.std.proofs.Common.{◌≡◌, ◌≢◌, ℕ, suc, ◌+◌, ◌<◌, Bool, true, false, not, ◌&&◌, ◌||◌, ◌==◌, List, ◌∷◌, [], length, get_or, replicate, refl, sym, ◌∙◌, ap, subst, inl, inr, arith}
+use Rattle.std.proofs.Common.{◌≡◌, ◌≢◌, ℕ, suc, ◌+◌, ◌<◌, Bool, true, false, not, ◌&&◌}
+use Rattle.std.proofs.Common.{◌||◌, ◌==◌, List, ◌∷◌, [], length, get_or, replicate, refl, sym, ◌∙◌}
+use Rattle.std.proofs.Common.{ap, subst, inl, inr, arith}
 use Rattle.std.proofs.Math.ListN.{set}
 use Rattle.std.specs.List.{list_all}
 use Rattle.std.proofs.lemmas.List.{get_or-set_same, get_or-set_other, get_or-replicate}
 use Rattle.std.proofs.lemmas.List.Folds.{list_all-append}
 use Rattle.std.proofs.lemmas.Bool.{cases_Bool, cases_eq, eq-eqb, ne_eqb, or_right}
 use Rattle.song_model.specs.declared.tables.TableRow.{TableRow}
-use Rattle.packing_rules.specs.Segments.{ProgramTable, IsWhole, numbers, row_of, is_jump_row, first_row, is_in, enters, jumps, is_closed_at, is_closed}
+use Rattle.packing_rules.specs.Segments.{ProgramTable, IsWhole, numbers, row_of, is_jump_row, first_row, is_in, enters}
+use Rattle.packing_rules.specs.Segments.{jumps, is_closed_at, is_closed}
 use Rattle.packing_rules.proofs.Laws.{range_more, row_of_segment, is_in_from}
 use Rattle.table_pack.specs.Marks.{is_marked}
 use Rattle.table_pack.specs.Programs.{AreFirsts, Narrows}

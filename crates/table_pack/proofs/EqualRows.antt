@@ -1,5 +1,7 @@
 -- Equal segments, distance by distance, and the first one among those that are different.
-use Rattle.std.proofs.Common.{◌≡◌, ◌≢◌, ℕ, zero, suc, ◌+◌, ◌-◌, ◌<◌, ◌≤◌, ◌⊎◌, Bool, true, false, not, List, [], ◌∷◌, ◌++◌, length, get_or, Contains, refl, sym, ◌∙◌, ap, subst, inl, inr, arith}
+use Rattle.std.proofs.Common.{◌≡◌, ◌≢◌, ℕ, zero, suc, ◌+◌, ◌-◌, ◌<◌, ◌≤◌, ◌⊎◌}
+use Rattle.std.proofs.Common.{Bool, true, false, not, List, [], ◌∷◌, ◌++◌, length, get_or, Contains, refl}
+use Rattle.std.proofs.Common.{sym, ◌∙◌, ap, subst, inl, inr, arith}
 use Rattle.std.proofs.Math.ListN.{set}
 use mathlib.Core.Bool.{beq}
 use Rattle.std.proofs.lemmas.List.{get_or-set_same, get_or-set_other, length-set}
@@ -7,9 +9,12 @@ use Rattle.std.proofs.lemmas.List.Elements.{All-contains, Contains-append_left, 
 use Rattle.std.specs.List.{All}
 use Rattle.std.proofs.lemmas.Bool.{cases_Bool, cases_eq, and_parts}
 use Rattle.song_model.specs.declared.tables.TableRow.{TableRow}
-use Rattle.packing_rules.specs.Segments.{ProgramTable, IsWhole, row_of, begins, first_row, is_in, is_closed, are_alike, are_equal, first_equal}
+use Rattle.packing_rules.specs.Segments.{ProgramTable, IsWhole, row_of, begins, first_row, is_in, is_closed, are_alike}
+use Rattle.packing_rules.specs.Segments.{are_equal, first_equal}
 use Rattle.packing_rules.specs.ProgramMaps.{row_at}
-use Rattle.packing_rules.proofs.Laws.{segment_of, row_of_segment, is_in_from, not_behind, alike_parts, alike_from, SameAt, AreEqual, equal_parts, equal_from, equal_back, equal_on, such_from, open_stays, first_is, first_of_first}
+use Rattle.packing_rules.proofs.Laws.{segment_of, row_of_segment, is_in_from, not_behind, alike_parts, alike_from}
+use Rattle.packing_rules.proofs.Laws.{SameAt, AreEqual, equal_parts, equal_from, equal_back, equal_on, such_from}
+use Rattle.packing_rules.proofs.Laws.{open_stays, first_is, first_of_first}
 use Rattle.table_pack.specs.Programs.{IsDifferent, AreDifferent, IsAsked}
 
 -- ---- two segments

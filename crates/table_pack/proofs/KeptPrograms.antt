@@ -1,12 +1,14 @@
 -- New numbers keep programs.
-use Rattle.std.proofs.Common.{◌≡◌, ℕ, zero, suc, ◌+◌, Bool, true, false, List, length, map, refl, sym, ◌∙◌, ap, subst, arith}
+use Rattle.std.proofs.Common.{◌≡◌, ℕ, zero, suc, ◌+◌, Bool, true, false, List, length, map, refl, sym}
+use Rattle.std.proofs.Common.{◌∙◌, ap, subst, arith}
 use mathlib.Core.Path.{fun_ext}
 use Rattle.song_model.specs.declared.tables.TableRow.{TableRow}
 use Rattle.song_model.specs.LookUp.{IsNumbered}
 use Rattle.packing_rules.specs.Segments.{ProgramTable, IsWhole, row_of, is_end, keeps, stand_in}
 use Rattle.packing_rules.specs.ProgramMaps.{retargeted, row_at, KeepsPrograms}
 use Rattle.packing_rules.specs.Renumbering.{rank}
-use Rattle.packing_rules.proofs.Laws.{retargeted_twice, end_stays, kept_parts, stand_in_stays, next_stays, numbered_map, numbered_length, stand_ins_keep}
+use Rattle.packing_rules.proofs.Laws.{retargeted_twice, end_stays, kept_parts, stand_in_stays, next_stays, numbered_map}
+use Rattle.packing_rules.proofs.Laws.{numbered_length, stand_ins_keep}
 use Rattle.table_pack.specs.TableMaps.{IsRenumbering}
 use Rattle.table_pack.specs.TableLaws.{RenumberingsKeepPrograms, RenumberingsKeepOrder, StoredOnceKeepsPrograms}
 use Rattle.table_pack.proofs.Ranks.{rank_kept, rank_rises, rank_positive}

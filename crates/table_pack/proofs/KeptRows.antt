@@ -1,5 +1,7 @@
 -- The rows of a renumbering are those that are kept, in order.
-use Rattle.std.proofs.Common.{◌≡◌, ℕ, zero, suc, ◌+◌, ◌<◌, ◌≤◌, ◌⊎◌, Bool, true, false, if◌then◌else◌, List, [], ◌∷◌, ◌++◌, length, map, refl, sym, ◌∙◌, ap, subst, inl, inr, arith, length-append, append-nil}
+use Rattle.std.proofs.Common.{◌≡◌, ℕ, zero, suc, ◌+◌, ◌<◌, ◌≤◌, ◌⊎◌, Bool, true, false}
+use Rattle.std.proofs.Common.{if◌then◌else◌, List, [], ◌∷◌, ◌++◌, length, map, refl, sym, ◌∙◌, ap}
+use Rattle.std.proofs.Common.{subst, inl, inr, arith, length-append, append-nil}
 use mathlib.Core.Path.{fun_ext}
 use Rattle.std.specs.List.{range_with_len, filter}
 use Rattle.std.proofs.lemmas.Bool.{cases_Bool}
@@ -10,7 +12,8 @@ use Rattle.song_model.specs.declared.tables.TableRow.{TableRow}
 use Rattle.song_model.specs.LookUp.{IsNumbered, zero_table_row}
 use Rattle.packing_rules.specs.Segments.{ProgramTable, IsWhole, keeps, stand_in}
 use Rattle.packing_rules.specs.ProgramMaps.{retargeted, row_at, KeepsPrograms}
-use Rattle.packing_rules.specs.Renumbering.{rank, program_number, program_rows, wave_programs, pulse_programs, filter_programs, table_number}
+use Rattle.packing_rules.specs.Renumbering.{rank, program_number, program_rows, wave_programs, pulse_programs}
+use Rattle.packing_rules.specs.Renumbering.{filter_programs, table_number}
 use Rattle.packing_rules.proofs.Laws.{range_more, stand_in_stays, stands_for_none, programs_read_the_same, new_pointers_are_read}
 use Rattle.table_pack.specs.TableMaps.{IsRenumbering}
 use Rattle.table_pack.specs.TableLaws.{RenumberedRowsAreKept, StoredOnceIsPacked, PackedTablesKeepPrograms, PackedProgramsAreRead}

@@ -7,7 +7,8 @@ use Rattle.song_model.specs.LookUp.{IsNumbered}
 use Rattle.packing_rules.specs.Segments.{ProgramTable, IsWhole, numbers, is_jump_row, is_end, keeps, stand_in}
 use Rattle.packing_rules.specs.ProgramMaps.{retargeted, row_at, KeepsPrograms, rows_read}
 use Rattle.packing_rules.specs.UsedSets.{UsedSets}
-use Rattle.packing_rules.specs.Renumbering.{program_number, program_rows, wave_row, wave_programs, pulse_programs, filter_programs, table_number}
+use Rattle.packing_rules.specs.Renumbering.{program_number, program_rows, wave_row, wave_programs, pulse_programs}
+use Rattle.packing_rules.specs.Renumbering.{filter_programs, table_number}
 use Rattle.table_pack.specs.TableMaps.{IsRenumbering}
 
 -- new numbers keep the programs of the rows that are kept, where a program goes on to a kept row and jumps to one, or
@@ -25,14 +26,16 @@ RenumberingsKeepPrograms =
 abbrev pub StoredOnceKeepsPrograms : Type 0
 StoredOnceKeepsPrograms =
     (table : ProgramTable) (keep : ℕ → Bool) (stand to : ℕ → ℕ) (new : List TableRow) → IsWhole table →
-    ((p : ℕ) → keep p ≡ keeps table p) → ((p : ℕ) → stand p ≡ stand_in table p) → IsRenumbering keep table.rows new to →
+    ((p : ℕ) → keep p ≡ keeps table p) → ((p : ℕ) → stand p ≡ stand_in table p) →
+    IsRenumbering keep table.rows new to →
     KeepsPrograms table.pulse table.reached table.rows (map (retargeted (λ p. to (stand p))) new) (λ p. to (stand p))
 
 -- an earlier row has a smaller number, and each number is that of a kept row
 abbrev pub RenumberingsKeepOrder : Type 0
 RenumberingsKeepOrder =
     (keep : ℕ → Bool) (old new : List TableRow) (to : ℕ → ℕ) (p q : ℕ) → IsRenumbering keep old new to →
-    ((p : ℕ) → keep p ≡ true → IsNumbered old p) → keep p ≡ true → keep q ≡ true → p + 1 ≤ q → to p + 1 ≤ to q
+    ((p : ℕ) → keep p ≡ true → IsNumbered old p) → keep p ≡ true → keep q ≡ true → p + 1 ≤ q →
+    to p + 1 ≤ to q
 
 -- the rows of a renumbering are those that are kept, in order
 abbrev pub RenumberedRowsAreKept : Type 0
@@ -44,7 +47,8 @@ RenumberedRowsAreKept =
 abbrev pub StoredOnceIsPacked : Type 0
 StoredOnceIsPacked =
     (table : ProgramTable) (keep : ℕ → Bool) (stand to : ℕ → ℕ) (new : List TableRow) → IsWhole table →
-    ((p : ℕ) → keep p ≡ keeps table p) → ((p : ℕ) → stand p ≡ stand_in table p) → IsRenumbering keep table.rows new to →
+    ((p : ℕ) → keep p ≡ keeps table p) → ((p : ℕ) → stand p ≡ stand_in table p) →
+    IsRenumbering keep table.rows new to →
     (map (retargeted (λ p. to (stand p))) new ≡ program_rows table) × ((p : ℕ) → to (stand p) ≡ program_number table p)
 
 -- and these keep all programs of the table

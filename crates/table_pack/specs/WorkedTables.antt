@@ -17,7 +17,8 @@ six_rows = with_sides 0x41 0 ∷ with_sides 0xFF 0 ∷ with_sides 0x21 0 ∷ wit
 
 -- the last four are kept, with their right sides: the jump still names row 3
 abbrev pub LastFourAreKept : Type 0
-LastFourAreKept = (rows : List TableRow) (to : ℕ → ℕ) → IsRenumbering (among (3 ∷ 4 ∷ 5 ∷ 6 ∷ [])) six_rows rows to →
+LastFourAreKept = (rows : List TableRow) (to : ℕ → ℕ) → IsRenumbering (among (3 ∷ 4 ∷ 5 ∷ 6
+    ∷ [])) six_rows rows to →
     (length rows ≡ 4) × (to 2 ≡ 0) × (to 3 ≡ 1) × (to 6 ≡ 4) × (row_at rows 1 ≡ with_sides 0x21 0)
     × (row_at rows 4 ≡ with_sides 0xFF 3)
 

@@ -1,6 +1,8 @@
 //! Facts about new numbers of tables, each the contract of a function that does nothing.
 
-ghost use Rattle.table_pack.specs.TableLaws.{RenumberingsKeepPrograms, RenumberingsKeepOrder, StoredOnceKeepsPrograms, RenumberedRowsAreKept, StoredOnceIsPacked, PackedTablesKeepPrograms, PackedProgramsAreRead};
+ghost use Rattle.table_pack.specs.TableLaws.{RenumberingsKeepPrograms, RenumberingsKeepOrder, StoredOnceKeepsPrograms};
+ghost use Rattle.table_pack.specs.TableLaws.{RenumberedRowsAreKept, StoredOnceIsPacked, PackedTablesKeepPrograms};
+ghost use Rattle.table_pack.specs.TableLaws.{PackedProgramsAreRead};
 ghost use Rattle.table_pack.specs.WorkedTables.{LastFourAreKept, ZeroSpeedsAreOne};
 
 /// New numbers keep programs, also where the rows of equal programs stand for each other.

@@ -1,6 +1,7 @@
 //! Equal segments.
 
-ghost use Rattle.std.specs.Prelude.{◌≡◌, ℕ, ◌+◌, ◌≤◌, ◌<◌, true, false, length, slice_index, All, IfSome, IfNone, Contains};
+ghost use Rattle.std.specs.Prelude.{◌≡◌, ℕ, ◌+◌, ◌≤◌, ◌<◌, true, false, length, slice_index, All};
+ghost use Rattle.std.specs.Prelude.{IfSome, IfNone, Contains};
 ghost use Rattle.packing_rules.specs.Segments.{ProgramTable, is_as_far, are_alike, are_equal, begins, is_closed, first_equal};
 ghost use Rattle.table_pack.specs.Marks.{is_marked};
 ghost use Rattle.table_pack.specs.Programs.{AreSegments, AreDifferent, IsAsked};

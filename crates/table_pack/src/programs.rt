@@ -1,6 +1,7 @@
 //! Which rows stand for those of equal programs.
 
-ghost use Rattle.std.specs.Prelude.{◌≡◌, ℕ, ◌≤◌, ◌+◌, ◌-◌, ◌&&◌, ◌==◌, true, if◌then◌else◌, length, slice_index};
+ghost use Rattle.std.specs.Prelude.{◌≡◌, ℕ, ◌≤◌, ◌+◌, ◌-◌, ◌&&◌, ◌==◌, true};
+ghost use Rattle.std.specs.Prelude.{if◌then◌else◌, length, slice_index};
 ghost use Rattle.packing_rules.specs.Segments.{ProgramTable, IsWhole, keeps, stand_in};
 ghost use Rattle.table_pack.specs.Marks.{is_marked};
 ghost use Rattle.table_pack.specs.Programs.{programs_of, AreSegments, AreEquals, AreStaying, IsMapOf};

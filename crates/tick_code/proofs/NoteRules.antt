@@ -1,5 +1,6 @@
 -- The cases of the rules at a row: what they leave of the row that waits, and how a note starts.
-use Rattle.std.proofs.Common.{◌≡◌, ◌≢◌, ℕ, ◌+◌, ◌-◌, ◌%◌, ◌<◌, ◌&&◌, Bool, true, false, not, nat_eq, nat_le, bit_xor}
+use Rattle.std.proofs.Common.{◌≡◌, ◌≢◌, ℕ, ◌+◌, ◌-◌, ◌%◌, ◌<◌, ◌&&◌, Bool, true}
+use Rattle.std.proofs.Common.{false, not, nat_eq, nat_le, bit_xor}
 use Rattle.std.proofs.Common.{if◌then◌else◌, refl, sym, ap, arith}
 use Rattle.std.proofs.lemmas.Bool.{agree_below_at, ne_eqb, eq-eqb}
 use Rattle.song_model.specs.declared.instruments.Instrument.{Instrument}

@@ -1,5 +1,6 @@
 -- At a row the note that waits starts.
-use Rattle.std.proofs.Common.{◌≡◌, ◌≢◌, ℕ, ◌+◌, ◌-◌, ◌%◌, ◌<◌, true, false, not, nat_eq, nat_le, bit_xor}
+use Rattle.std.proofs.Common.{◌≡◌, ◌≢◌, ℕ, ◌+◌, ◌-◌, ◌%◌, ◌<◌, true, false, not, nat_eq}
+use Rattle.std.proofs.Common.{nat_le, bit_xor}
 use Rattle.std.proofs.Common.{refl, sym, ap, ◌∙◌}
 use Rattle.std.proofs.lemmas.Bool.{not-true, not-false, eqb-true, eqb-false, eq-eqb, ne_eqb, both_ways}
 use Rattle.code_runs.specs.Runs.{put}

@@ -1,6 +1,7 @@
 -- A row is done as it is worked by hand, in a memory that meets what the clause asks for; at what that ends; and what
 -- doing the row isn't.
-use Rattle.std.specs.Prelude.{◌≡◌, ℕ, ◌+◌, ◌*◌, ◌≤◌, List, [], ◌∷◌, ◌==◌, nat_lt, nat_eq, if◌then◌else◌, true, false}
+use Rattle.std.specs.Prelude.{◌≡◌, ℕ, ◌+◌, ◌*◌, ◌≤◌, List, [], ◌∷◌, ◌==◌, nat_lt}
+use Rattle.std.specs.Prelude.{nat_eq, if◌then◌else◌, true, false}
 use Rattle.song_model.specs.declared.instruments.Instrument.{Instrument}
 use Rattle.code_runs.specs.Runs.{put}
 use Rattle.play_model.specs.LookUps.{LookUps}

@@ -1,5 +1,6 @@
 -- What is found of a song's pointers and programs, and the first place where one of them breaks a rule.
-use Rattle.std.proofs.Common.{◌≡◌, ℕ, ◌+◌, ◌-◌, ◌<◌, ◌≤◌, ◌⊎◌, Bool, List, [], ◌∷◌, Some, Result, Ok, Err, OnOk, refl, subst, inl, inr, arith}
+use Rattle.std.proofs.Common.{◌≡◌, ℕ, ◌+◌, ◌-◌, ◌<◌, ◌≤◌, ◌⊎◌, Bool, List, []}
+use Rattle.std.proofs.Common.{◌∷◌, Some, Result, Ok, Err, OnOk, refl, subst, inl, inr, arith}
 use Rattle.std.proofs.lemmas.Bool.{cases_lt}
 use Rattle.std.proofs.lemmas.Bool.Decides.{nat_tests}
 use Rattle.song_model.specs.declared.tables.TableRow.{TableRow}
@@ -9,7 +10,8 @@ use Rattle.song_model.specs.declared.songs.Song.{Song}
 use Rattle.song_model.specs.LookUp.{table_of, table_row}
 use Rattle.song_model.specs.Pointers.{wave_row_table}
 use Rattle.play_model.specs.declared.unplayable.Unplayable.{Unplayable}
-use Rattle.play_model.specs.declared.unplayable.Unplayable.TheVariants.{NoSubtune, MissingPattern, BadRestart, TableOverflow, PointerToJump}
+use Rattle.play_model.specs.declared.unplayable.Unplayable.TheVariants.{NoSubtune, MissingPattern, BadRestart}
+use Rattle.play_model.specs.declared.unplayable.Unplayable.TheVariants.{TableOverflow, PointerToJump}
 use Rattle.play_model.specs.Reached.{IsPlayedPointer, IsReached, played, pointed, led, IsPointer, of_played, of_wave_row}
 use Rattle.play_model.specs.Playable.{table_number, HasPrograms, RunsOff, PointsAtJump, IsNotAfter, IsFirst}
 use Rattle.play_model.proofs.Laws.{jumps_are_programs, no_wave_pointer, same_table}

@@ -1,5 +1,6 @@
 -- The bytes of playable subtunes, marked one subtune after the other.
-use Rattle.std.proofs.Common.{◌≡◌, ℕ, ◌≤◌, ◌⊎◌, Bool, false, List, length, take, replicate, refl, subst, inl, inr, lit≤, arith}
+use Rattle.std.proofs.Common.{◌≡◌, ℕ, ◌≤◌, ◌⊎◌, Bool, false, List, length, take, replicate, refl}
+use Rattle.std.proofs.Common.{subst, inl, inr, lit≤, arith}
 use Rattle.std.specs.List.{Contains}
 use Rattle.std.proofs.lemmas.Bool.{cases_lt}
 use Rattle.song_model.specs.declared.orders.Order.{Order}

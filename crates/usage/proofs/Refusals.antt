@@ -1,11 +1,13 @@
 -- The first rule that a song breaks: the rules on orderlists come before those on programs, and one refusal is the
 -- first.
-use Rattle.std.proofs.Common.{◌≡◌, ℕ, ◌<◌, ◌⊎◌, ◌↔◌, List, [], ◌∷◌, length, Result, Ok, Err, OnOk, IfErr, refl, ap, subst, inl, inr, arith}
+use Rattle.std.proofs.Common.{◌≡◌, ℕ, ◌<◌, ◌⊎◌, ◌↔◌, List, [], ◌∷◌, length, Result, Ok}
+use Rattle.std.proofs.Common.{Err, OnOk, IfErr, refl, ap, subst, inl, inr, arith}
 use Rattle.std.specs.Prelude.{IsErrOf}
 use Rattle.song_model.specs.declared.songs.Song.{Song}
 use Rattle.song_model.specs.LookUp.{playable_subtunes}
 use Rattle.play_model.specs.declared.unplayable.Unplayable.{Unplayable}
-use Rattle.play_model.specs.declared.unplayable.Unplayable.TheVariants.{NoSubtune, MissingPattern, BadRestart, TableOverflow, PointerToJump}
+use Rattle.play_model.specs.declared.unplayable.Unplayable.TheVariants.{NoSubtune, MissingPattern, BadRestart}
+use Rattle.play_model.specs.declared.unplayable.Unplayable.TheVariants.{TableOverflow, PointerToJump}
 use Rattle.play_model.specs.Playable.{rank_of, table_number, Fails, IsNotAfter, IsFirst, IsPlayable, IsRefusedFor}
 use Rattle.play_model.proofs.Laws.{one_refusal}
 use Rattle.usage.specs.declared.orders.OrderRule.TheVariants.{NamesStored, NeverEnds}

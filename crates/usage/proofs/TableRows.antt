@@ -1,12 +1,14 @@
 -- Rows of tables: the rows that jumps name, and the commands of the wave table. Those that aren't stored are neither.
-use Rattle.std.proofs.Common.{◌≡◌, ℕ, ◌<◌, ◌≤◌, ◌⊎◌, Bool, true, false, List, length, replicate, refl, inl, inr, arith}
+use Rattle.std.proofs.Common.{◌≡◌, ℕ, ◌<◌, ◌≤◌, ◌⊎◌, Bool, true, false, List, length, replicate}
+use Rattle.std.proofs.Common.{refl, inl, inr, arith}
 use Rattle.std.proofs.lemmas.Bool.{cases_lt}
 use Rattle.song_model.specs.declared.tables.TableName.{TableName}
 use Rattle.song_model.specs.declared.tables.TableName.TheVariants.{Wave}
 use Rattle.song_model.specs.declared.songs.Song.{Song}
 use Rattle.song_model.specs.LookUp.{table_of, table_row}
 use Rattle.play_model.specs.declared.unplayable.Unplayable.{Unplayable}
-use Rattle.play_model.specs.declared.unplayable.Unplayable.TheVariants.{NoSubtune, MissingPattern, BadRestart, TableOverflow, PointerToJump}
+use Rattle.play_model.specs.declared.unplayable.Unplayable.TheVariants.{NoSubtune, MissingPattern, BadRestart}
+use Rattle.play_model.specs.declared.unplayable.Unplayable.TheVariants.{TableOverflow, PointerToJump}
 use Rattle.play_model.specs.Reached.{is_jump, IsPointer}
 use Rattle.play_model.specs.Playable.{table_number, IsNotAfter, IsFirst}
 use Rattle.play_model.proofs.Laws.{stored_if, jump_is_stored}

@@ -32,6 +32,7 @@ options_of effects pulse first speed system = record {
 abbrev pub EachSpeedIsNamed : Type 0
 EachSpeedIsNamed =
     (song : Song) (bits : ℕ) → NameEachCase song bits → KeepsLimits song → (effects pulse first : Bool) (speed : ℕ)
-    (system : System) (k i : ℕ) → 1 ≤ speed → speed ≤ 4 → k < length (playable_subtunes song) → (feature : Feature) →
+    (system : System) (k i : ℕ) → 1 ≤ speed → speed ≤ 4 → k < length (playable_subtunes song) →
+    (feature : Feature) →
     UsesFeature (options_of effects pulse first speed system) song k
     (state_after_with (options_of effects pulse first speed system) song k i) feature → IsBitSet bits (bit_of feature)

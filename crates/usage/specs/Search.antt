@@ -6,7 +6,8 @@ use Rattle.song_model.specs.declared.songs.Song.{Song}
 use Rattle.song_model.specs.Endless.{IsPatternByte}
 use Rattle.song_model.specs.LookUp.{IsNumbered, playable_subtunes}
 use Rattle.play_model.specs.declared.unplayable.Unplayable.{Unplayable}
-use Rattle.play_model.specs.declared.unplayable.Unplayable.TheVariants.{NoSubtune, MissingPattern, BadRestart, TableOverflow, PointerToJump}
+use Rattle.play_model.specs.declared.unplayable.Unplayable.TheVariants.{NoSubtune, MissingPattern, BadRestart}
+use Rattle.play_model.specs.declared.unplayable.Unplayable.TheVariants.{TableOverflow, PointerToJump}
 use Rattle.play_model.specs.Playable.{MissesPattern, StopsAtRestart, RunsOff, PointsAtJump}
 use Rattle.usage.specs.declared.orders.OrderRule.{OrderRule}
 use Rattle.usage.specs.declared.orders.OrderRule.TheVariants.{NamesStored, NeverEnds}

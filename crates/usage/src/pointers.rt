@@ -6,7 +6,8 @@ ghost use Rattle.play_model.specs.Reached.{IsPlayedPointer};
 ghost use Rattle.usage.specs.Marks.{AreMarks};
 ghost use Rattle.usage.specs.Building.{AreWhole, Adds};
 ghost use Rattle.usage.specs.Rows.{AreRowsOf};
-ghost use Rattle.usage.specs.Pointers.{table_at, PointsAt, IsInstrumentPointer, IsParameterAt, IsParameter, CommandPoints, IsCommandPointer};
+ghost use Rattle.usage.specs.Pointers.{table_at, PointsAt, IsInstrumentPointer, IsParameterAt, IsParameter};
+ghost use Rattle.usage.specs.Pointers.{CommandPoints, IsCommandPointer};
 
 use crate::marks::{ByteMarks, CommandMarks, mark};
 use crate::rows::RowMarks;

@@ -1,11 +1,13 @@
 //! What of a song tells its features: the marks in a range, and the commands that are used.
 
-ghost use Rattle.std.specs.Prelude.{◌≡◌, ◌≢◌, ◌↔◌, ◌⊎◌, ◌%◌, ◌-◌, ◌≤◌, ◌<◌, IsTrue, length};
+ghost use Rattle.std.specs.Prelude.{◌≡◌, ◌≢◌, ◌↔◌, ◌⊎◌, ◌%◌, ◌-◌, ◌≤◌, ◌<◌};
+ghost use Rattle.std.specs.Prelude.{IsTrue, length};
 ghost use Rattle.song_model.specs.declared.tables.TableName.TheVariants.{Speed};
 ghost use Rattle.song_model.specs.LookUp.{instrument_at};
 ghost use Rattle.play_model.specs.Used.{IsUsedInstrument};
 ghost use Rattle.play_model.specs.Reached.{IsPointer};
-ghost use Rattle.play_model.specs.Features.{HasByte, HasRow, HasInstrument, HasNoteSpeed, HasPointer, HasWaveCommand, HasFeature, UsesCommand, IsAny};
+ghost use Rattle.play_model.specs.Features.{HasByte, HasRow, HasInstrument, HasNoteSpeed, HasPointer, HasWaveCommand};
+ghost use Rattle.play_model.specs.Features.{HasFeature, UsesCommand, IsAny};
 ghost use Rattle.usage.specs.Found.{IsFoundOf};
 ghost use Rattle.song_model.specs.declared.features.Feature.TheVariants.{InstrumentVibrato};
 ghost use Rattle.usage.specs.Marks.{AreMarks};

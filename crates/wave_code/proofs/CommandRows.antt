@@ -1,5 +1,6 @@
 -- What the code of a command of the wave table leaves.
-use Rattle.std.proofs.Common.{◌≡◌, ◌≢◌, ℕ, ◌+◌, ◌%◌, ◌<◌, ◌≤◌, ◌⊎◌, true, false, nat_eq, bit_and}
+use Rattle.std.proofs.Common.{◌≡◌, ◌≢◌, ℕ, ◌+◌, ◌%◌, ◌<◌, ◌≤◌, ◌⊎◌, true, false}
+use Rattle.std.proofs.Common.{nat_eq, bit_and}
 use Rattle.std.proofs.Common.{inl, inr, refl, sym, ◌∙◌, arith}
 use Rattle.std.proofs.lemmas.Bool.{eqb-true, eqb-false, leb-true, leb-false, both_ways, ne_eqb}
 use Rattle.std.proofs.lemmas.Bool.Decides.{eqb_tells}

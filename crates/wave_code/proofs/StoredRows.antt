@@ -1,5 +1,6 @@
 -- The rows of the wave table as they stand in the lists, kind by kind.
-use Rattle.std.proofs.Common.{◌≡◌, ◌≢◌, ℕ, ◌+◌, ◌-◌, ◌%◌, ◌<◌, ◌≤◌, true, false, nat_eq, nat_le, nat_lt}
+use Rattle.std.proofs.Common.{◌≡◌, ◌≢◌, ℕ, ◌+◌, ◌-◌, ◌%◌, ◌<◌, ◌≤◌, true, false}
+use Rattle.std.proofs.Common.{nat_eq, nat_le, nat_lt}
 use Rattle.std.proofs.Common.{inl, inr, refl, sym, ap, ◌∙◌, bit_and, arith}
 use Rattle.std.proofs.lemmas.Bool.{le-leb, lt-leb, lt-ltb, le-ltb, cases_lt, agree_below_at, eqb-true, eqb-false}
 use Rattle.song_model.specs.declared.tables.TableRow.{TableRow}

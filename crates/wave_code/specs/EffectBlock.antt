@@ -1,5 +1,6 @@
 -- The code that tells which effect runs, and what it does. This is the project's own player.
-use Rattle.std.specs.Prelude.{◌≡◌, ◌≢◌, ℕ, ◌<◌, ◌≤◌, ◌&&◌, ◌||◌, not, ◌==◌, Bool, true, false, if◌then◌else◌}
+use Rattle.std.specs.Prelude.{◌≡◌, ◌≢◌, ℕ, ◌<◌, ◌≤◌, ◌&&◌, ◌||◌, not, ◌==◌, Bool}
+use Rattle.std.specs.Prelude.{true, false, if◌then◌else◌}
 use Rattle.play_model.specs.LookUps.{LookUps}
 use Rattle.play_model.specs.State.{Voice, Playing}
 use Rattle.play_model.specs.EffectStep.{effect_step}

@@ -1,4 +1,5 @@
-use Rattle.asm6502.proofs.Reaches.{branches_reach, far_is_out_of_reach, branches_keep_distance, branches_reach_after, branches_reach_before}
+use Rattle.asm6502.proofs.Reaches.{branches_reach, far_is_out_of_reach, branches_keep_distance, branches_reach_after}
+use Rattle.asm6502.proofs.Reaches.{branches_reach_before}
 use Rattle.asm6502.proofs.claims.branch_bytes_lead_to_targets.Goals as goal
 
 pub returns-clause-reach : goal.returns-clause-reach

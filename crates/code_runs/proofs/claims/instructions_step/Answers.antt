@@ -1,4 +1,5 @@
-use Rattle.code_runs.proofs.Steps.{load_steps, transfer_steps, logic_steps, sum_steps, compare_steps, shift_steps, count_steps, flag_steps, jump_steps, stack_steps}
+use Rattle.code_runs.proofs.Steps.{load_steps, transfer_steps, logic_steps, sum_steps, compare_steps, shift_steps}
+use Rattle.code_runs.proofs.Steps.{count_steps, flag_steps, jump_steps, stack_steps}
 use Rattle.code_runs.proofs.Branches.{branch_steps}
 use Rattle.code_runs.proofs.claims.instructions_step.Goals as goal
 

@@ -1,7 +1,8 @@
 use Rattle.std.proofs.Common.{rules, ◌≡◌, ◌∙◌, ap, arith, decimal}
 use Rattle.std.proofs.lemmas.Fmt.{parse-decimal}
 use Rattle.command_line.proofs.arguments.decimal_of.Goals as goal
-use Rattle.command_line.proofs.arguments.decimal_of.Goals.{else-number-limit-via-then-number-limit+else-eq, else-number-limit-via-else-number-limit}
+use Rattle.command_line.proofs.arguments.decimal_of.Goals.{else-number-limit-via-then-number-limit+else-eq}
+use Rattle.command_line.proofs.arguments.decimal_of.Goals.{else-number-limit-via-else-number-limit}
 
 pub returns-in_default : goal.returns-in_default
 returns-in_default c =

@@ -1,4 +1,5 @@
-use Rattle.std.proofs.Common.{◌≡◌, ◌+◌, ◌-◌, ◌∷◌, [], ◌++◌, reverse, drop, vec_len, sym, ap, ◌∙◌, append_assoc, arith, List}
+use Rattle.std.proofs.Common.{◌≡◌, ◌+◌, ◌-◌, ◌∷◌, [], ◌++◌, reverse, drop, vec_len, sym, ap}
+use Rattle.std.proofs.Common.{◌∙◌, append_assoc, arith, List}
 use Rattle.std.proofs.lemmas.List.{reverse-append}
 use Rattle.edit_ops.proofs.SpliceLaws.{last_out}
 use Rattle.edit_ops.proofs.splices.move_last.Goals as goal

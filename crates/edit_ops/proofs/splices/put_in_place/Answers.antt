@@ -1,4 +1,5 @@
-use Rattle.std.proofs.Common.{◌≡◌, ◌+◌, ◌-◌, ◌++◌, take, drop, reverse, vec_len, ap, ◌∙◌, arith, List, length, ℕ, ◌≤◌}
+use Rattle.std.proofs.Common.{◌≡◌, ◌+◌, ◌-◌, ◌++◌, take, drop, reverse, vec_len, ap, ◌∙◌, arith}
+use Rattle.std.proofs.Common.{List, length, ℕ, ◌≤◌}
 use Rattle.edit_ops.proofs.SpliceLaws.{goes, comes, whole_made}
 use Rattle.edit_ops.proofs.splices.put_in_place.Goals as goal
 

@@ -1,5 +1,9 @@
 use Rattle.std.proofs.Common.{◌≡◌}
-use Rattle.edit_script.specs.declared.forms.Keyword.TheVariants.{Row, RowInsert, RowDelete, PatternLength, PatternCopy, PatternTranspose, Order, OrderInsert, OrderDelete, OrderRestart, Instrument, InstrumentName, Table, TableInsert, TableDelete, Text, SubtuneAdd, SubtuneRemove, PatternCount, Undo, Redo}
+use Rattle.edit_script.specs.declared.forms.Keyword.TheVariants.{Row, RowInsert, RowDelete, PatternLength, PatternCopy}
+use Rattle.edit_script.specs.declared.forms.Keyword.TheVariants.{PatternTranspose, Order, OrderInsert, OrderDelete}
+use Rattle.edit_script.specs.declared.forms.Keyword.TheVariants.{OrderRestart, Instrument, InstrumentName, Table}
+use Rattle.edit_script.specs.declared.forms.Keyword.TheVariants.{TableInsert, TableDelete, Text, SubtuneAdd}
+use Rattle.edit_script.specs.declared.forms.Keyword.TheVariants.{SubtuneRemove, PatternCount, Undo, Redo}
 use Rattle.edit_script.specs.Reading.{made, word_of}
 use Rattle.edit_script.proofs.forms.form_of_text.Goals as goal
 

@@ -1,7 +1,8 @@
 use Rattle.std.proofs.Common.{◌≡◌, sym, arith}
 use Rattle.std.proofs.lemmas.Bool.{eqb-true}
 use Rattle.std.proofs.lemmas.Result.{err_from_is_err_and}
-use Rattle.edit_script.proofs.TextLaws.{nothing_read, one_more, all_read, fault_found, fault_is, fault_only, fault_exact, script_only, script_exact}
+use Rattle.edit_script.proofs.TextLaws.{nothing_read, one_more, all_read, fault_found, fault_is, fault_only}
+use Rattle.edit_script.proofs.TextLaws.{fault_exact, script_only, script_exact}
 use Rattle.edit_script.proofs.parsing.parse.Goals as goal
 
 pub loop-left-init : goal.loop-left-init

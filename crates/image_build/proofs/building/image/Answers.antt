@@ -1,5 +1,6 @@
 -- The image is built.
-use Rattle.std.proofs.Common.{◌≡◌, ℕ, ◌+◌, ◌^◌, ◌<◌, ◌≤◌, List, [], ◌++◌, None, length, sym, ap, ◌∙◌, subst}
+use Rattle.std.proofs.Common.{◌≡◌, ℕ, ◌+◌, ◌^◌, ◌<◌, ◌≤◌, List, [], ◌++◌, None, length}
+use Rattle.std.proofs.Common.{sym, ap, ◌∙◌, subst}
 use Rattle.base.specs.Bytes.{AreBytes}
 use Rattle.play_model.specs.declared.options.Options.{Options}
 use Rattle.play_model.specs.Speeds.{IsSpeed}

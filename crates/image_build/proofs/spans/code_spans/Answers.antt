@@ -1,5 +1,6 @@
 -- One line more.
-use Rattle.std.proofs.Common.{◌≡◌, ℕ, suc, ◌+◌, ◌<◌, ◌≤◌, List, [], ◌∷◌, ◌++◌, length, take, drop, get_or, refl, sym, ap, ◌∙◌, arith, subst}
+use Rattle.std.proofs.Common.{◌≡◌, ℕ, suc, ◌+◌, ◌<◌, ◌≤◌, List, [], ◌∷◌, ◌++◌, length}
+use Rattle.std.proofs.Common.{take, drop, get_or, refl, sym, ap, ◌∙◌, arith, subst}
 use Rattle.std.proofs.Math.Seq.{split_at}
 use Rattle.std.proofs.lemmas.List.{take_more}
 use Rattle.asm6502.specs.declared.lines.Line.{Line}
@@ -7,7 +8,8 @@ use Rattle.asm6502.specs.Lines.{kept, size_of}
 use Rattle.image_build.specs.declared.image.PartSpan.{PartSpan}
 use Rattle.image_build.specs.Joined.{kept_size}
 use Rattle.image_build.proofs.Joining.{Joins, size_within, joins_longer, joins_more, joins_same}
-use Rattle.image_build.proofs.spans.code_spans.Goals.{then-line-open, else-line-open+then-size-gt0+in_ok-push, else-line-open+else-size-gt0}
+use Rattle.image_build.proofs.spans.code_spans.Goals.{then-line-open, else-line-open+then-size-gt0+in_ok-push}
+use Rattle.image_build.proofs.spans.code_spans.Goals.{else-line-open+else-size-gt0}
 use Rattle.image_build.proofs.spans.code_spans.Goals as goal
 
 -- the lines so far with this one take no more than all

@@ -2,7 +2,8 @@
 use Rattle.std.proofs.Common.{◌++◌, ℕ, List, ap, ◌∙◌}
 use Rattle.std.specs.List.{concat, flat_map}
 use Rattle.packed_form.specs.declared.packed_songs.PackedSubtune.{PackedSubtune}
-use Rattle.image_lists.specs.DataLists.{frequency_lists, table_lists, instrument_lists, address_lists, all_orders, orders_of, order_places, pattern_places, lows, highs}
+use Rattle.image_lists.specs.DataLists.{frequency_lists, table_lists, instrument_lists, address_lists, all_orders}
+use Rattle.image_lists.specs.DataLists.{orders_of, order_places, pattern_places, lows, highs}
 use Rattle.image_lists.proofs.ByteSteps.{all_lists, four_address_lists}
 use Rattle.image_lists.proofs.bytes.data_bytes.Goals as goal
 

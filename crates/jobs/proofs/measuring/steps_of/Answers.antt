@@ -3,7 +3,8 @@ use Rattle.sid_run.specs.State.{loaded}
 use Rattle.jobs.specs.Selftest.{SubtunesTake}
 use Rattle.jobs.proofs.SmallSongs.{has_subtune}
 use Rattle.jobs.proofs.PlayedFiles.{count_small}
-use Rattle.jobs.proofs.Measured.{file_is_read, file_returns, no_subtune_taken, subtune_taken, all_subtunes_taken, few_subtunes_taken}
+use Rattle.jobs.proofs.Measured.{file_is_read, file_returns, no_subtune_taken, subtune_taken, all_subtunes_taken}
+use Rattle.jobs.proofs.Measured.{few_subtunes_taken}
 use Rattle.jobs.proofs.measuring.steps_of.Goals as goal
 
 pub read_packed-requires : goal.read_packed-requires

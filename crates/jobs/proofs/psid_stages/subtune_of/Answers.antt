@@ -2,7 +2,8 @@ use Rattle.std.proofs.Common.{refl, arith}
 use Rattle.jobs.specs.Lines.{no_subtune_line}
 use Rattle.jobs.specs.Endings as ends
 use Rattle.jobs.proofs.psid_stages.subtune_of.Goals as goal
-use Rattle.jobs.proofs.psid_stages.subtune_of.Goals.{then-subtune-eq0-via-then-subtune-eq0, then-subtune-eq0-via-else-subtune-eq0+then-from-songs}
+use Rattle.jobs.proofs.psid_stages.subtune_of.Goals.{then-subtune-eq0-via-then-subtune-eq0}
+use Rattle.jobs.proofs.psid_stages.subtune_of.Goals.{then-subtune-eq0-via-else-subtune-eq0+then-from-songs}
 
 pub returns-then-subtune-eq0-clause-refused : goal.returns-then-subtune-eq0-clause-refused
 returns-then-subtune-eq0-clause-refused c = λ files name holds.

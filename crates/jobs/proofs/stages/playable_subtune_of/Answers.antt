@@ -3,7 +3,8 @@ use Rattle.song_model.specs.LookUp.{playable_subtunes}
 use Rattle.jobs.specs.Lines.{no_subtune_line}
 use Rattle.jobs.specs.Endings as ends
 use Rattle.jobs.proofs.stages.playable_subtune_of.Goals as goal
-use Rattle.jobs.proofs.stages.playable_subtune_of.Goals.{then-subtune-eq0-via-then-subtune-eq0, then-subtune-eq0-via-else-subtune-eq0+then-subtune-count}
+use Rattle.jobs.proofs.stages.playable_subtune_of.Goals.{then-subtune-eq0-via-then-subtune-eq0}
+use Rattle.jobs.proofs.stages.playable_subtune_of.Goals.{then-subtune-eq0-via-else-subtune-eq0+then-subtune-count}
 
 pub returns-then-subtune-eq0-clause-refused : goal.returns-then-subtune-eq0-clause-refused
 returns-then-subtune-eq0-clause-refused c = λ files name holds.

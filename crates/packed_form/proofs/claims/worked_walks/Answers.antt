@@ -1,4 +1,5 @@
-use Rattle.packed_form.proofs.WorkedWalks.{patterns_alone, transposes_are_passed, repeats_are_passed, runs_are_passed, subtunes_are_compared, ends_are_counted}
+use Rattle.packed_form.proofs.WorkedWalks.{patterns_alone, transposes_are_passed, repeats_are_passed, runs_are_passed}
+use Rattle.packed_form.proofs.WorkedWalks.{subtunes_are_compared, ends_are_counted}
 use Rattle.packed_form.proofs.claims.worked_walks.Goals as goal
 
 pub returns-clause-patterns : goal.returns-clause-patterns

@@ -1,9 +1,11 @@
 use Rattle.std.proofs.Common.{◌≡◌, ◌+◌, ◌-◌, ap, sym, ◌∙◌, max, arith}
 use Rattle.song_model.specs.declared.orders.Order.{Order}
 use Rattle.packed_form.specs.WalkCount.{looks_from}
-use Rattle.packed_form.proofs.OrderWalks.{looks_short, looks_pattern, looks_left, most_from, most_from_end, most_from_start, most_left}
+use Rattle.packed_form.proofs.OrderWalks.{looks_short, looks_pattern, looks_left, most_from, most_from_end}
+use Rattle.packed_form.proofs.OrderWalks.{most_from_start, most_left}
 use Rattle.packed_form.proofs.walk_counts.most_looks.Goals as goal
-use Rattle.packed_form.proofs.walk_counts.most_looks.Goals.{then-entries-place-lt-FIRST_REPEAT, else-entries-place-lt-FIRST_REPEAT}
+use Rattle.packed_form.proofs.walk_counts.most_looks.Goals.{then-entries-place-lt-FIRST_REPEAT}
+use Rattle.packed_form.proofs.walk_counts.most_looks.Goals.{else-entries-place-lt-FIRST_REPEAT}
 
 pub loop-place-init : goal.loop-place-init
 loop-place-init c =

@@ -7,7 +7,8 @@ use Rattle.song_model.specs.declared.songs.Song.{Song}
 use Rattle.song_model.specs.Silence.{empty_song}
 use Rattle.play_model.specs.Playable.{IsPlayable}
 use Rattle.song_gen.specs.Draws.{after}
-use Rattle.song_gen.specs.GeneratedSong.{wave_rows, pulse_rows, filter_rows, speed_rows, instruments_from, patterns_from, subtunes_from, behind_rows, behind_patterns, generated_song}
+use Rattle.song_gen.specs.GeneratedSong.{wave_rows, pulse_rows, filter_rows, speed_rows, instruments_from}
+use Rattle.song_gen.specs.GeneratedSong.{patterns_from, subtunes_from, behind_rows, behind_patterns, generated_song}
 use Rattle.song_gen.specs.GeneratedLaws.{PatternsAreShort, IsSmall}
 use Rattle.song_gen.proofs.Playable.{generated_songs_are_playable}
 use Rattle.song_gen.proofs.Small.{generated_patterns_are_short, generated_songs_are_small}

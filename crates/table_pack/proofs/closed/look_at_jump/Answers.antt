@@ -1,7 +1,9 @@
 use Rattle.std.proofs.Common.{◌∙◌, sym}
 use Rattle.table_pack.proofs.ClosedRows.{jump_not_reached, jump_no_jump, jump_none, jump_taken}
 use Rattle.table_pack.proofs.closed.look_at_jump.Goals as goal
-use Rattle.table_pack.proofs.closed.look_at_jump.Goals.{then-not-marks-p-via-then-not-marks-p, then-not-marks-p-via-else-not-marks-p+then-not-is_jump_row, then-not-marks-p-via-else-not-marks-p+else-not-is_jump_row+then-row-eq0}
+use Rattle.table_pack.proofs.closed.look_at_jump.Goals.{then-not-marks-p-via-then-not-marks-p}
+use Rattle.table_pack.proofs.closed.look_at_jump.Goals.{then-not-marks-p-via-else-not-marks-p+then-not-is_jump_row}
+use Rattle.table_pack.proofs.closed.look_at_jump.Goals.{then-not-marks-p-via-else-not-marks-p+else-not-is_jump_row+then-row-eq0}
 
 pub returns-then-not-marks-p : goal.returns-then-not-marks-p
 returns-then-not-marks-p c = λ table are reached row. elim c.then-not-marks-p.branch [

@@ -4,7 +4,8 @@ use Rattle.packing_rules.specs.Segments.{are_equal}
 use Rattle.table_pack.specs.Programs.{AreDifferent}
 use Rattle.table_pack.proofs.EqualRows.{asked_open, asked_found, asked_none}
 use Rattle.table_pack.proofs.equal.first_equal.Goals as goal
-use Rattle.table_pack.proofs.equal.first_equal.Goals.{then-not-begun-via-then-not-begun, then-not-begun-via-else-not-begun+then-not-closed}
+use Rattle.table_pack.proofs.equal.first_equal.Goals.{then-not-begun-via-then-not-begun}
+use Rattle.table_pack.proofs.equal.first_equal.Goals.{then-not-begun-via-else-not-begun+then-not-closed}
 
 pub returns-then-not-begun-clause-equal : goal.returns-then-not-begun-clause-equal
 returns-then-not-begun-clause-equal c = λ table asked. elim c.then-not-begun.branch [
