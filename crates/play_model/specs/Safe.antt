@@ -46,9 +46,28 @@ pub data IsSafeRunning (song : Song) : ℕ → ℕ → Type 0 where
   of_row : {command param : ℕ} → 1 ≤ command → command ≤ 4 → HasCommand song command param →
       IsSafeRunning song command param
 
+-- a note that sounds: 0 to 106, or one of the 16 half tones below, which are bytes from 240 on
+abbrev pub IsSafeNote : ℕ → Type 0
+IsSafeNote note = (note ≤ 106) ⊎ ((240 ≤ note) × (note ≤ 255))
+
+-- a note that waits: that of a row with a transpose, $50 to $CA, or 0 for none
+abbrev pub IsSafeNewNote : ℕ → Type 0
+IsSafeNewNote note = (note ≡ 0) ⊎ ((0x50 ≤ note) × (note ≤ 0xCA))
+
+-- a delay of the wave program has waited for at most as many frames as it says, and another row for none
+pub record HasWaited (left time : ℕ) : Type 0 where
+  pub delay : left < 0x10 → time ≤ left
+  pub other : 0x10 ≤ left → time ≡ 0
+
+abbrev pub IsSafeWait : Song → ℕ → ℕ → Type 0
+IsSafeWait song p time = p ≢ 0 → HasWaited (table_row song Wave p).left time
+
 pub record IsSafeVoice (song : Song) (order : Order) (v : Voice) : Type 0 where
   pub instrument : IsUsedInstrument song v.instrument
+  pub note : IsSafeNote v.note
+  pub new_note : IsSafeNewNote v.new_note
   pub wave : IsSafePointer song Wave v.wave_ptr
+  pub wave_time : IsSafeWait song v.wave_ptr v.wave_time
   pub pulse : IsSafePointer song Pulse v.pulse_ptr
   pub pulse_time : IsSafeTime song Pulse v.pulse_ptr v.pulse_time
   pub waiting : IsSafeWaiting song v.new_command v.new_param

@@ -1,13 +1,14 @@
 -- The commands that rows and the wave table share keep a voice and what the voices share safe.
 use Rattle.std.specs.Prelude.{◌==◌, if◌then◌else◌}
-use Rattle.std.proofs.Common.{◌≡◌, ℕ, refl}
+use Rattle.std.proofs.Common.{◌≡◌, ℕ, ◌≤◌, refl, arith}
 use Rattle.std.proofs.lemmas.Bool.{cond_both, eqb-true}
 use Rattle.song_model.specs.declared.orders.Order.{Order}
 use Rattle.song_model.specs.declared.tables.TableName.TheVariants.{Wave, Pulse, Filter}
 use Rattle.song_model.specs.declared.songs.Song.{Song}
+use Rattle.song_model.specs.LookUp.{table_row}
 use Rattle.play_model.specs.State.{Voice, Common, Playing}
 use Rattle.play_model.specs.Helpers.{do_command}
-use Rattle.play_model.specs.Safe.{IsSafePointer, IsSafeTime, IsSafeVoice, IsSafeCommon}
+use Rattle.play_model.specs.Safe.{IsSafePointer, IsSafeTime, IsSafeWait, IsSafeVoice, IsSafeCommon}
 use Rattle.safe_states.specs.SafeLaws.{IsSafePlaying}
 use Rattle.safe_states.proofs.Pointers.{stopped, no_time}
 
@@ -35,9 +36,16 @@ pub pulse_begun : (song : Song) (order : Order) (v : Voice) (p : ℕ) → IsSafe
     IsSafeVoice song order v → IsSafeVoice song order (record v { pulse_ptr = p; pulse_time = 0 })
 pulse_begun song order v p h q = let t = no_time song Pulse p in assumption (h, t, q)
 
-pub wave_begun : (song : Song) (order : Order) (v : Voice) (p time : ℕ) → IsSafePointer song Wave p →
-    IsSafeVoice song order v → IsSafeVoice song order (record v { wave_ptr = p; wave_time = time })
-wave_begun song order v p time h q = assumption (h, q)
+-- a row that has just been come to hasn't waited
+pub no_wait : (song : Song) (p : ℕ) → IsSafeWait song p 0
+no_wait song p some = record { delay = λ short. least (table_row song Wave p).left; other = λ long. refl }
+  where
+    least : (n : ℕ) → 0 ≤ n
+    least n = omega arith
+
+pub wave_begun : (song : Song) (order : Order) (v : Voice) (p : ℕ) → IsSafePointer song Wave p →
+    IsSafeVoice song order v → IsSafeVoice song order (record v { wave_ptr = p; wave_time = 0 })
+wave_begun song order v p h q = let t = no_wait song p in assumption (h, t, q)
 
 pub filter_begun : (song : Song) (c : Common) (p : ℕ) → IsSafePointer song Filter p → IsSafeCommon song c →
     IsSafeCommon song (record c { filter_ptr = p; filter_time = 0 })

@@ -1,19 +1,22 @@
 -- Fetching a row keeps a voice safe: the row is one of a used pattern, and the next one is there.
-use Rattle.std.specs.Prelude.{ℤ, bit_and, not, ◌==◌, ◌||◌}
-use Rattle.std.proofs.Common.{◌≡◌, ◌≢◌, ℕ, ◌+◌, ◌<◌, ◌≤◌, [], length, refl, ap, inr, arith}
+use Rattle.std.specs.Prelude.{ℤ, pos, negsuc, ◌+ℤ◌, ◌*◌, unsigned_abs, bit_and, not, ◌==◌, ◌||◌}
+use Rattle.std.proofs.Common.{◌≡◌, ◌≢◌, ℕ, suc, ◌+◌, ◌-◌, ◌%◌, ◌<◌, ◌≤◌, Bool, true, false, cond, [], length}
+use Rattle.std.proofs.Common.{refl, ap, inr, arith}
 use Rattle.std.specs.List.{Contains}
-use Rattle.std.proofs.lemmas.Bool.{cond_both, eqb-false}
+use Rattle.std.proofs.lemmas.Bool.{cond_both, eqb-false, leb-true, and_parts}
+use Rattle.std.proofs.lemmas.Int.{ints, int_rem_euclid_is}
 use Rattle.std.proofs.lemmas.Option.{unwrap_or-slice_get}
-use Rattle.std.proofs.lemmas.List.Elements.{All-get_or, Contains-get_or}
+use Rattle.std.proofs.lemmas.List.Elements.{All-get_or, Contains-get_or, All-contains, All-filter}
 use Rattle.song_model.specs.declared.rows.Row.{Row}
 use Rattle.song_model.specs.declared.orders.Order.{Order}
 use Rattle.song_model.specs.declared.songs.Song.{Song}
 use Rattle.song_model.specs.PatternLimits.{IsPatternLength, IsPattern}
-use Rattle.song_model.specs.Limits.{KeepsLimits}
+use Rattle.song_model.specs.Limits.{IsOrder, IsSubtune, KeepsLimits}
 use Rattle.song_model.specs.LookUp.{zero_row, pattern_row, pattern_at, order_of, playable_subtune, playable_subtunes}
-use Rattle.song_model.specs.LookUp.{void_subtune}
+use Rattle.song_model.specs.LookUp.{void_subtune, is_playable_subtune}
 use Rattle.song_model.specs.Walk.{played}
-use Rattle.song_model.proofs.Laws.{plays_are_patterns_lem}
+use Rattle.song_model.specs.WalkLaws.{IsTranspose}
+use Rattle.song_model.proofs.Laws.{plays_are_patterns_lem, transposes_in_range_lem}
 use Rattle.play_model.specs.LookUps.{LookUps, look_ups_of}
 use Rattle.play_model.specs.Wrap.{byte_plus}
 use Rattle.play_model.specs.State.{Voice}
@@ -21,7 +24,7 @@ use Rattle.play_model.specs.FetchRow.{row_taken, gate_keyed, is_note, transposed
 use Rattle.play_model.specs.FetchRow.{row_done, fetch_row}
 use Rattle.play_model.specs.Frame.{subtune_at}
 use Rattle.play_model.specs.Used.{IsChannel, IsPlayedOrder, IsUsedPattern, IsUsedRow, IsUsedInstrument}
-use Rattle.play_model.specs.Safe.{IsSafeVoice, of_row}
+use Rattle.play_model.specs.Safe.{IsSafeNewNote, IsSafeVoice, of_row}
 use Rattle.play_model.proofs.Laws.{whole_lem}
 use Rattle.safe_states.proofs.Pointers.{CanBePlayed}
 
@@ -63,6 +66,24 @@ play_length song order i play o =
     stored_length song (played order i).pattern play.limits
     ((whole_lem song play.playable).pattern (played order i).pattern (play_used song order i play o))
 
+-- the entries of an orderlist that is played are entries
+played_limits : (song : Song) (order : Order) → KeepsLimits song → IsPlayedOrder song order → IsOrder order
+played_limits song order limits o =
+    let subtune = All-contains IsSubtune (playable_subtunes song) o.subtune
+    (All-filter is_playable_subtune IsSubtune song.subtunes limits.subtunes.each) o.playable in
+    rw o.order_is (by_channel (o.channel == 1) (o.channel == 2) subtune)
+  where
+    by_channel : (first second : Bool) → IsSubtune o.subtune →
+        IsOrder (cond first o.subtune.one (cond second o.subtune.two o.subtune.three))
+    by_channel true second limits = limits.one
+    by_channel false true limits = limits.two
+    by_channel false false limits = limits.three
+
+play_transpose : (song : Song) (order : Order) (i : ℕ) → CanBePlayed song → IsPlayedOrder song order →
+    IsTranspose (played order i).transpose
+play_transpose song order i play o =
+    transposes_in_range_lem order i (played_limits song order play.limits o).entries.each
+
 play_row : (song : Song) (order : Order) (v : Voice) → CanBePlayed song → IsPlayedOrder song order →
     v.row < length (pattern_at song (played order v.plays).pattern) →
     IsUsedRow song (pattern_row (pattern_at song (played order v.plays).pattern) v.row)
@@ -85,7 +106,10 @@ taken_keeps song order row v used q = record {
   instrument =
       cond_both (row.instrument == 0) v.instrument row.instrument (IsUsedInstrument song) (λ h. q.instrument)
       (λ h. inr (record { row = row; used = used; names = refl; some = eqb-false row.instrument 0 h }));
+  note = q.note;
+  new_note = q.new_note;
   wave = q.wave;
+  wave_time = q.wave_time;
   pulse = q.pulse;
   pulse_time = q.pulse_time;
   waiting = of_row (record { row = row; used = used; command_is = refl; param_is = refl });
@@ -94,40 +118,62 @@ taken_keeps song order row v used q = record {
   row = q.row;
 }
 
-envelope_keeps : (song : Song) (order : Order) (plays : ℕ) (v : Voice) (note gate ad sr : ℕ) →
-    InPlay song order plays v →
-    InPlay song order plays (record v { new_note = note; gate = gate; ad = ad; sr = sr })
-envelope_keeps song order plays v note gate ad sr p = assumption p
+envelope_keeps : (song : Song) (order : Order) (plays : ℕ) (v : Voice) (gate ad sr : ℕ) →
+    InPlay song order plays v → InPlay song order plays (record v { gate = gate; ad = ad; sr = sr })
+envelope_keeps song order plays v gate ad sr p = assumption p
+
+note_waits_safe : (song : Song) (order : Order) (plays : ℕ) (v : Voice) (note : ℕ) → IsSafeNewNote note →
+    InPlay song order plays v → InPlay song order plays (record v { new_note = note })
+note_waits_safe song order plays v note h p = assumption (h, p)
+
+-- a row's note, with a transpose
+note_within : (note : ℕ) (transpose : ℤ) → is_note note ≡ true → IsTranspose transpose →
+    IsSafeNewNote (transposed note transpose)
+note_within note (pos up) is range =
+    let least = leb-true 0x60 note (and_parts _ _ is).0 in
+    let most = leb-true note 0xBC (and_parts _ _ is).1 in
+    let few : up ≤ 14 = (let h = range.most in omega (arith, ints, h)) in
+    inr (omega (arith, least, most, few), omega (arith, least, most, few))
+note_within note (negsuc down) is range =
+    let least = leb-true 0x60 note (and_parts _ _ is).0 in
+    let most = leb-true note 0xBC (and_parts _ _ is).1 in
+    let few : down ≤ 15 = (let h = range.least in omega (arith, ints, h)) in
+    let sum : (pos note +ℤ negsuc down) +ℤ pos (1 * 256) ≡ pos (note + (256 - suc down)) = omega (arith, ints) in
+    let same : transposed note (negsuc down) ≡ (note + (256 - suc down)) % 256 =
+    ap unsigned_abs
+    (int_rem_euclid_is (pos note +ℤ negsuc down) (pos 256) 256 1 (note + (256 - suc down)) (omega arith) refl sum) in
+    rw same (inr (omega (arith, least, most, few), omega (arith, least, most, few)))
 
 keyed_keeps : (song : Song) (order : Order) (plays note : ℕ) (v : Voice) → InPlay song order plays v →
     InPlay song order plays (gate_keyed note v)
 keyed_keeps song order plays note v p =
     cond_both (note == 0xBE) _ _ (InPlay song order plays)
-    (λ h. envelope_keeps song order plays v v.new_note 0xFE v.ad v.sr p)
+    (λ h. envelope_keeps song order plays v 0xFE v.ad v.sr p)
     (λ h. cond_both (note == 0xBF) _ v (InPlay song order plays)
-    (λ h. envelope_keeps song order plays v v.new_note 0xFF v.ad v.sr p) (λ h. p))
+    (λ h. envelope_keeps song order plays v 0xFF v.ad v.sr p) (λ h. p))
 
 shut_keeps : (song : Song) (order : Order) (plays timer : ℕ) (v : Voice) → InPlay song order plays v →
     InPlay song order plays (gate_shut timer v)
 shut_keeps song order plays timer v p =
     cond_both ((v.new_command == 3) || not (bit_and timer 0x40 == 0)) v _ (InPlay song order plays) (λ h. p)
     (λ h. cond_both (bit_and timer 0x80 == 0) _ _ (InPlay song order plays)
-    (λ h. envelope_keeps song order plays v v.new_note 0xFE 0x0F 0 p)
-    (λ h. envelope_keeps song order plays v v.new_note 0xFE v.ad v.sr p))
+    (λ h. envelope_keeps song order plays v 0xFE 0x0F 0 p)
+    (λ h. envelope_keeps song order plays v 0xFE v.ad v.sr p))
 
 waits_keeps : (song : Song) (order : Order) (plays : ℕ) (look : LookUps) (note : ℕ) (transpose : ℤ) (v : Voice) →
-    InPlay song order plays v → InPlay song order plays (note_waits look note transpose v)
-waits_keeps song order plays look note transpose v p =
+    IsTranspose transpose → InPlay song order plays v → InPlay song order plays (note_waits look note transpose v)
+waits_keeps song order plays look note transpose v range p =
     cond_both (is_note note) _ v (InPlay song order plays)
     (λ h. shut_keeps song order plays (look.instrument v.instrument).gate_timer
     (record v { new_note = transposed note transpose })
-    (envelope_keeps song order plays v (transposed note transpose) v.gate v.ad v.sr p))
+    (note_waits_safe song order plays v (transposed note transpose) (note_within note transpose h range) p))
     (λ h. p)
 
 row_done_keeps : (song : Song) (order : Order) (look : LookUps) (row : Row) (transpose : ℤ) (v : Voice) →
-    IsUsedRow song row → IsSafeVoice song order v → InPlay song order v.plays (row_done look row transpose v)
-row_done_keeps song order look row transpose v used q =
-    waits_keeps song order v.plays look row.note transpose (gate_keyed row.note (row_taken row v))
+    IsUsedRow song row → IsTranspose transpose → IsSafeVoice song order v →
+    InPlay song order v.plays (row_done look row transpose v)
+row_done_keeps song order look row transpose v used range q =
+    waits_keeps song order v.plays look row.note transpose (gate_keyed row.note (row_taken row v)) range
     (keyed_keeps song order v.plays row.note (row_taken row v)
     (record { safe = taken_keeps song order row v used q; same = refl }))
 
@@ -158,7 +204,7 @@ fetch_keeps song order v play o q =
     let rows = pattern_at song (played order v.plays).pattern in
     let done =
     row_done_keeps song order (look_ups_of song) (pattern_row rows v.row) (played order v.plays).transpose v
-    (play_row song order v play o q.row) q in
+    (play_row song order v play o q.row) (play_transpose song order v.plays play o) q in
     moved_keeps song order (length rows)
     (row_done (look_ups_of song) (pattern_row rows v.row) (played order v.plays).transpose v) play o
     (ap (λ (plays : ℕ). length (pattern_at song (played order plays).pattern)) done.same) done.safe

@@ -16,3 +16,4 @@ pub mod Frames
 -- What frames of small songs use, and what they don't.
 pub mod WorkedTurns
 pub mod WorkedCases
+pub mod WorkedStates

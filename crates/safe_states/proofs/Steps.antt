@@ -189,7 +189,10 @@ voice_starts : (song : Song) (k channel : ℕ) → CanBePlayed song → k < leng
     IsChannel channel → IsSafeVoice song (order_of channel (subtune_at song k)) start_voice
 voice_starts song k channel play h is = record {
   instrument = inl refl;
+  note = inl (omega arith);
+  new_note = inl refl;
   wave = stopped song Wave;
+  wave_time = λ some. absurd (some refl);
   pulse = stopped song Pulse;
   pulse_time = no_time song Pulse 0;
   waiting = none;

@@ -1,7 +1,7 @@
 -- The tick step keeps a voice and what the voices share safe.
-use Rattle.std.specs.Prelude.{nat_le, ◌==◌, ◌&&◌}
+use Rattle.std.specs.Prelude.{nat_le, nat_lt, ◌==◌, ◌&&◌}
 use Rattle.std.proofs.Common.{◌≡◌, ◌≢◌, ℕ, ◌-◌, ◌≤◌, Bool, true, false, cond, Some, refl, inl, inr, arith}
-use Rattle.std.proofs.lemmas.Bool.{cond_both, and_parts, eqb-true, eqb-false, leb-true, leb-false}
+use Rattle.std.proofs.lemmas.Bool.{cond_both, and_parts, eqb-true, eqb-false, leb-true, leb-false, ltb-true, ltb-false}
 use Rattle.song_model.specs.declared.orders.Order.{Order}
 use Rattle.song_model.specs.declared.features.Feature.TheVariants.{FunkTempo}
 use Rattle.song_model.specs.declared.instruments.Instrument.{Instrument}
@@ -19,11 +19,11 @@ use Rattle.play_model.specs.TickStep.{tempo_set, row_command, note_ended, gate_t
 use Rattle.play_model.specs.Used.{IsUsedInstrument}
 use Rattle.play_model.specs.Features.{IsAny, HasRow, HasInstrument, HasFeature}
 use Rattle.play_model.specs.Safe.{IsSafePointer, HasCommand, IsSafeWaiting, none, of_row, IsSafeRunning, of_instrument}
-use Rattle.play_model.specs.Safe.{IsSafeVoice, IsSafeTempo, IsSafeCommon}
+use Rattle.play_model.specs.Safe.{IsSafeNote, IsSafeNewNote, IsSafeVoice, IsSafeTempo, IsSafeCommon}
 use Rattle.safe_states.specs.SafeLaws.{IsSafePlaying}
 use Rattle.safe_states.proofs.Pointers.{CanBePlayed, from_instrument, from_row, no_time}
 use Rattle.safe_states.proofs.Programs.{Stays}
-use Rattle.safe_states.proofs.Commands.{with_voice, with_common, envelope_keeps, wave_begun, command_keeps}
+use Rattle.safe_states.proofs.Commands.{with_voice, with_common, envelope_keeps, wave_begun, no_wait, command_keeps}
 
 -- ---- what waits
 
@@ -131,10 +131,28 @@ delay_is : (song : Song) (i : Instrument) → IsUsed song i → i.vibrato_delay 
     HasInstrument song (λ n. (instrument_at song n).vibrato_delay)
 delay_is song i u some = record { instrument = u.number; used = u.used; some = rw u.is some }
 
-note_taken_keeps : (song : Song) (order : Order) (i : Instrument) (v : Voice) → IsUsed song i →
+-- the note that waits, as it sounds
+note_sounds : (note : ℕ) → note ≢ 0 → IsSafeNewNote note → IsSafeNote (byte_minus note 0x60)
+note_sounds note some (inl silent) = absurd (some silent)
+note_sounds note some (inr within) = by_side (nat_lt note 0x60) refl
+  where
+    by_side : (low : Bool) → nat_lt note 0x60 ≡ low → IsSafeNote (byte_minus note 0x60)
+    by_side true e =
+        let below = ltb-true note 0x60 e in
+        let least = within.0 in
+        inr (omega (arith, below, least), omega (arith, below))
+    by_side false e =
+        let from = ltb-false note 0x60 e in
+        let most = within.1 in
+        inl (omega (arith, from, most))
+
+note_taken_keeps : (song : Song) (order : Order) (i : Instrument) (v : Voice) → IsUsed song i → v.new_note ≢ 0 →
     IsSafeVoice song order v → IsSafeVoice song order (note_taken i v)
-note_taken_keeps song order i v u q =
-    let running = vibrato_runs song i u in let delay = delay_is song i u in assumption (running, delay, q)
+note_taken_keeps song order i v u some q =
+    let running = vibrato_runs song i u in
+    let delay = delay_is song i u in
+    let note = note_sounds v.new_note some q.new_note in
+    assumption (running, delay, note, q)
 
 first_wave_keeps : (song : Song) (order : Order) (wave : ℕ) (v : Voice) → IsSafeVoice song order v →
     IsSafeVoice song order (first_wave_set wave v)
@@ -154,7 +172,8 @@ begun_voice : (song : Song) (order : Order) (v : Voice) (wave ptr time ad sr : �
     Stays song Pulse ptr time → IsSafeVoice song order v →
     IsSafeVoice song order
     (record v { wave_ptr = wave; wave_time = 0; pulse_ptr = ptr; pulse_time = time; ad = ad; sr = sr })
-begun_voice song order v wave ptr time ad sr h s q = assumption (h, s.ptr, s.passes, q)
+begun_voice song order v wave ptr time ad sr h s q =
+    let wait = no_wait song wave in assumption (h, wait, s.ptr, s.passes, q)
 
 begun_common : (song : Song) (c : Common) (ptr time : ℕ) → Stays song Filter ptr time → IsSafeCommon song c →
     IsSafeCommon song (record c { filter_ptr = ptr; filter_time = time })
@@ -180,9 +199,9 @@ programs_keep song order i s play u q = record {
 }
 
 taken_keeps : (song : Song) (order : Order) (i : Instrument) (s : Playing) → CanBePlayed song → IsUsed song i →
-    IsSafePlaying song order s → IsSafePlaying song order (taken i s)
-taken_keeps song order i s play u q =
-    let note = note_taken_keeps song order i s.voice u q.voice in
+    s.voice.new_note ≢ 0 → IsSafePlaying song order s → IsSafePlaying song order (taken i s)
+taken_keeps song order i s play u some q =
+    let note = note_taken_keeps song order i s.voice u some q.voice in
     cond_both (s.voice.new_command == 3) _ _ (IsSafePlaying song order)
     (λ h. with_voice song order s (note_taken i s.voice) q note)
     (λ h. programs_keep song order i (record s { voice = first_wave_set i.first_wave (note_taken i s.voice) }) play u
@@ -193,7 +212,7 @@ started_keeps : (song : Song) (order : Order) (i : Instrument) (s : Playing) →
 unfolding note_started
 started_keeps song order i s play u q =
     cond_both (s.voice.new_note == 0) s (taken i s) (IsSafePlaying song order) (λ h. q)
-    (λ h. taken_keeps song order i s play u q)
+    (λ h. taken_keeps song order i s play u (eqb-false s.voice.new_note 0 h) q)
 
 -- ---- the row's command
 
@@ -226,7 +245,7 @@ row_command_keeps song order channel i c d s play u w q =
     (λ h. voice _ (runs_keeps song order s.voice c d s.voice.vib_time
     (row_runs song c d w some (leb-true c 4 h)) q.voice))
     (λ h. cond_both (c == 8) _ _ safe
-    (λ h. voice _ (wave_begun song order s.voice d 0 (to_table Wave 8 (eqb-true c 8 h) refl has) q.voice))
+    (λ h. voice _ (wave_begun song order s.voice d (to_table Wave 8 (eqb-true c 8 h) refl has) q.voice))
     (λ h. cond_both (c == 0xE) _ _ safe
     (λ h. common _ (funk_tempo_keeps song (look_ups_of song) d s.common (funk_set_by (eqb-true c 0xE h) has) q.common))
     (λ h. cond_both (c == 0xF) _ _ safe
@@ -261,7 +280,7 @@ timer_keeps song order i s q = assumption q
 
 ended_keeps : (song : Song) (order : Order) (s : Playing) → IsSafePlaying song order s →
     IsSafePlaying song order (note_ended s).playing
-ended_keeps song order s q = assumption q
+ended_keeps song order s q = let none : IsSafeNewNote 0 = inl refl in assumption (none, q)
 
 at_row_keeps : (song : Song) (order : Order) (channel : ℕ) (i : Instrument) (s : Playing) → CanBePlayed song →
     IsUsed song i → IsSafePlaying song order s →

@@ -1,7 +1,7 @@
 -- The wave step and the effect step keep a voice and what the voices share safe.
 use Rattle.std.specs.Prelude.{nat_lt, nat_le, not, ◌==◌, ◌&&◌}
 use Rattle.std.proofs.Common.{◌≡◌, ◌≢◌, ℕ, ◌+◌, ◌-◌, ◌%◌, ◌≤◌, true, false, Some, refl, arith}
-use Rattle.std.proofs.lemmas.Bool.{cond_both, and_parts, eqb-false, leb-true}
+use Rattle.std.proofs.lemmas.Bool.{cond_both, and_parts, eqb-false, leb-true, ltb-true, not-true}
 use Rattle.song_model.specs.declared.orders.Order.{Order}
 use Rattle.song_model.specs.declared.tables.TableRow.{TableRow}
 use Rattle.song_model.specs.declared.tables.TableName.TheVariants.{Wave, Pulse, Filter}
@@ -12,17 +12,17 @@ use Rattle.play_model.specs.LookUps.{LookUps, look_ups_of}
 use Rattle.play_model.specs.Wrap.{byte_plus}
 use Rattle.play_model.specs.Freq.{freq, slide}
 use Rattle.play_model.specs.State.{Voice, Playing}
-use Rattle.play_model.specs.Helpers.{porta_up, porta_down, at_target, towards, tone, vibrato}
+use Rattle.play_model.specs.Helpers.{next_row, porta_up, porta_down, at_target, towards, tone, vibrato}
 use Rattle.play_model.specs.WaveStep.{Waved, wave_command, is_wave_command, left_done, program_moved, wave_note}
 use Rattle.play_model.specs.WaveStep.{with_note, right_done, wave_row, wave_step}
 use Rattle.play_model.specs.EffectStep.{instrument_vibrato, effect_step}
 use Rattle.play_model.specs.Reached.{IsReached, IsStep}
 use Rattle.play_model.specs.Playable.{HasPrograms}
 use Rattle.play_model.specs.Features.{HasInstrument}
-use Rattle.play_model.specs.Safe.{IsSafePointer, IsSafeVoice}
+use Rattle.play_model.specs.Safe.{IsSafePointer, HasWaited, IsSafeWait, IsSafeVoice}
 use Rattle.safe_states.specs.SafeLaws.{IsSafePlaying}
 use Rattle.safe_states.proofs.Pointers.{CanBePlayed, from_wave_row, goes_on, is_step}
-use Rattle.safe_states.proofs.Commands.{with_voice, envelope_keeps, pitch_keeps, command_keeps}
+use Rattle.safe_states.proofs.Commands.{with_voice, envelope_keeps, pitch_keeps, no_wait, command_keeps}
 
 -- ---- slides and vibratos change the pitch alone
 
@@ -144,7 +144,8 @@ is_wave e = cc
 wave_moved_keeps : (song : Song) (order : Order) (p : ℕ) (s : Playing) → CanBePlayed song → IsStep song Wave p →
     IsSafePlaying song order s → IsSafePlaying song order (program_moved (look_ups_of song) p s)
 wave_moved_keeps song order p s play step q =
-    let n = goes_on song Wave p play is_wave step refl in assumption (n, q)
+    let n = goes_on song Wave p play is_wave step refl in
+    let t = no_wait song (next_row (look_ups_of song) Wave p) in assumption (n, t, q)
 
 right_keeps : (song : Song) (order : Order) (row : TableRow) (s : Playing) → IsSafePlaying song order s →
     IsSafePlaying song order (right_done row s).playing
@@ -160,9 +161,18 @@ right_keeps song order row s q =
     safe : Waved → Type 0
     safe w = IsSafePlaying song order w.playing
 
-wave_time_keeps : (song : Song) (order : Order) (s : Playing) (n : ℕ) → IsSafePlaying song order s →
-    IsSafePlaying song order (record s { voice = record s.voice { wave_time = n } })
-wave_time_keeps song order s n q = assumption q
+wave_time_keeps : (song : Song) (order : Order) (s : Playing) (n : ℕ) → IsSafeWait song s.voice.wave_ptr n →
+    IsSafePlaying song order s → IsSafePlaying song order (record s { voice = record s.voice { wave_time = n } })
+wave_time_keeps song order s n h q = assumption (h, q)
+
+-- a delay that isn't over waits for one frame more
+waits_longer : (left time : ℕ) → nat_lt left 0x10 && not (time == left) ≡ true → HasWaited left time →
+    HasWaited left (byte_plus time 1)
+waits_longer left time waits has =
+    let short = ltb-true left 0x10 (and_parts _ _ waits).0 in
+    let within = has.delay short in
+    let other : time ≢ left = eqb-false time left (not-true _ (and_parts _ _ waits).1) in
+    record { delay = λ low. omega (arith, within, other, short); other = λ long. absurd (omega (arith, long, short)) }
 
 wave_row_keeps : (song : Song) (order : Order) (s : Playing) → CanBePlayed song → IsStep song Wave s.voice.wave_ptr →
     IsSafePlaying song order s →
@@ -175,7 +185,8 @@ wave_row_keeps song order s play step q =
     })
     (right_done row (program_moved (look_ups_of song) s.voice.wave_ptr (left_done (look_ups_of song) row s)))
     (λ (w : Waved). IsSafePlaying song order w.playing)
-    (λ h. wave_time_keeps song order s (byte_plus s.voice.wave_time 1) q)
+    (λ h. wave_time_keeps song order s (byte_plus s.voice.wave_time 1)
+    (λ some. waits_longer row.left s.voice.wave_time h (q.voice.wave_time some)) q)
     (λ h. right_keeps song order row
     (program_moved (look_ups_of song) s.voice.wave_ptr (left_done (look_ups_of song) row s))
     (wave_moved_keeps song order s.voice.wave_ptr (left_done (look_ups_of song) row s) play step

@@ -2,3 +2,5 @@
 pub mod SafeLaws
 -- Claimed: what frames of small songs use, worked out by hand.
 pub mod WorkedCases
+-- Claimed: what a voice keeps, at the edges of its ranges.
+pub mod WorkedStates

@@ -2,6 +2,7 @@
 
 ghost use Rattle.safe_states.specs.SafeLaws.{PlayableSongsPlaySafely, StatesAreSafe, NoUnusedCase, SafeWithin};
 ghost use Rattle.safe_states.specs.WorkedCases.{CasesAreAsWorked};
+ghost use Rattle.safe_states.specs.WorkedStates.{StatesAreWorked};
 
 /// Each start of a playable song is safe, each frame keeps it so, and what a frame uses is a feature of the song.
 pub fn playable_songs_play_safely()
@@ -29,4 +30,11 @@ pub fn safe_within()
 #[tactic(auto, using(crate::proofs::WorkedCases::cases_are_as_worked_lem))]
 pub fn worked_cases()
     ensures { CasesAreAsWorked }
+{}
+
+/// Notes that sound and that wait, and frames that a row of the wave program has waited for, at the edges of what a
+/// safe voice may have; and what it may not.
+#[tactic(auto, using(crate::proofs::WorkedStates::states_are_worked))]
+pub fn worked_states()
+    ensures { StatesAreWorked }
 {}
