@@ -29,15 +29,16 @@ homes_between others before lines after home =
     subst (λ front. AtHome others front lines after) (append-nil before)
     (homes_grow others before [] lines [] after home)
 
-homes_join : (others : ℕ → Bool) (front back : List Line) → AtHome others [] front [] → AtHome others [] back [] →
+pub homes_join : (others : ℕ → Bool) (front back : List Line) → AtHome others [] front [] → AtHome others [] back [] →
     AtHome others [] (front ++ back) []
 homes_join others front back one two =
     homes_append others [] front back [] (homes_between others [] front (back ++ []) one)
     (homes_between others front back [] two)
 
 -- an instruction that branches to no label, and uses one of these or none
-code_home : (others : ℕ → Bool) (before : List Line) (line : Line) (after : List Line) → is_no_part line.part ≡ false →
-    is_sound line.item ≡ true → ((label : ℕ) → label_used line.item ≡ Some label → IsTrue (others label)) →
+pub code_home : (others : ℕ → Bool) (before : List Line) (line : Line) (after : List Line) →
+    is_no_part line.part ≡ false → is_sound line.item ≡ true →
+    ((label : ℕ) → label_used line.item ≡ Some label → IsTrue (others label)) →
     branch_of line.item ≡ None → IsAtHome others before line after
 code_home others before line after part sound used straight = record {
   part = part;
@@ -73,7 +74,8 @@ lead_home others None uses = (alone_home others [] Cld _ refl, tt)
 lead_home others (Some label) uses =
     (alone_home others [] Cld _ refl, (label_home others _ Sta label 0 _ refl uses, tt))
 
-calls_home : (others : ℕ → Bool) (label place : ℕ) → others label ≡ true → AtHome others [] (call_lines label place) []
+calls_home : (others : ℕ → Bool) (label place : ℕ) → others label ≡ true →
+    AtHome others [] (call_lines label place) []
 calls_home others label place uses = (
   load_home others _ 0 _ refl,
   (

@@ -1,4 +1,4 @@
--- How many bytes an entrance's lines take, that all of them are kept, and where the parts stand.
+-- How many bytes an entrance's lines take, that all of them are kept and name no label, and where the parts stand.
 use Rattle.std.proofs.Common.{◌≡◌, ℕ, ◌+◌, ◌≤◌, Bool, true, false, List, [], ◌∷◌, ◌++◌}
 use Rattle.std.proofs.Common.{Option, Some, None, unwrap_or, if◌then◌else◌, refl, ap, ◌∙◌, subst, arith}
 use Rattle.std.specs.Option.{option_map}
@@ -14,7 +14,7 @@ use Rattle.scopes.specs.Trees.{Tree}
 use Rattle.scope_lines.specs.Instructions.{code}
 use Rattle.scope_lines.specs.Sizes.{size}
 use Rattle.scope_lines.specs.Lines.{block_around, block_lines}
-use Rattle.scope_lines.proofs.Laws.{lines_size, lines_kept}
+use Rattle.scope_lines.proofs.Laws.{lines_size, lines_kept, both_unnamed, lines_name_none}
 use Rattle.scope_calls.specs.Entrances.{Entrance, lead_lines, lead_size, voices_place, call_lines, voice_lines}
 use Rattle.scope_calls.specs.Entrances.{voice_size, entrance_lines, EntrancesTakeSize}
 
@@ -81,6 +81,31 @@ entrance_kept set e =
     both_kept set (lead_lines e.stored) (first_lines e ++ (voices ++ last_lines)) (lead_kept set e.stored)
     (both_kept set (first_lines e) (voices ++ last_lines) (block_kept set e (lead_size e.stored) e.first)
     (both_kept set voices last_lines (voices_kept set e (voices_place e) e.voice) refl))
+
+-- ---- none names a label
+
+lead_names_none : (label : ℕ) (stored : Option ℕ) → place_of (lead_lines stored) label ≡ None
+lead_names_none label None = refl
+lead_names_none label (Some number) = refl
+
+block_names_none : (label : ℕ) (e : Entrance) (place : ℕ) (tree : Tree) →
+    place_of (block_lines e.label e.pointer e.holds place tree) label ≡ None
+block_names_none label e place tree =
+    lines_name_none label (block_around e.label e.pointer e.holds) place tree
+
+voices_name_none : (label : ℕ) (e : Entrance) (place : ℕ) (voice : Option Tree) →
+    place_of (voice_lines e place voice) label ≡ None
+voices_name_none label e place None = refl
+voices_name_none label e place (Some voice) =
+    both_unnamed label (call_lines e.label place) (block_lines e.label e.pointer e.holds (place + 12) voice) refl
+    (block_names_none label e (place + 12) voice)
+
+pub entrance_names_none : (label : ℕ) (e : Entrance) → place_of (entrance_lines e) label ≡ None
+entrance_names_none label e =
+    let voices = voice_lines e (voices_place e) e.voice in
+    both_unnamed label (lead_lines e.stored) (first_lines e ++ (voices ++ last_lines)) (lead_names_none label e.stored)
+    (both_unnamed label (first_lines e) (voices ++ last_lines) (block_names_none label e (lead_size e.stored) e.first)
+    (both_unnamed label voices last_lines (voices_name_none label e (voices_place e) e.voice) refl))
 
 -- ---- where the parts stand
 

@@ -39,8 +39,8 @@ written_stays W memory (write ∷ writes) q all out =
     (λ e. out (subst W (sym e) (All-head (λ (write : Write). W write.place) write writes all)))
 
 -- so does a step, and what comes after it
-first_then : (W : ℕ → Type 0) (n : ℕ) (m after : Machine) (q : ℕ) (done : Result Effect Stop) → next_effect m ≡ done →
-    run (suc n) m ≡ Ok after → All (λ (write : Write). W write.place) (writes_in (suc n) m) → (W q → ⊥) →
+first_then : (W : ℕ → Type 0) (n : ℕ) (m after : Machine) (q : ℕ) (done : Result Effect Stop) →
+    next_effect m ≡ done → run (suc n) m ≡ Ok after → All (λ (write : Write). W write.place) (writes_in (suc n) m) → (W q → ⊥) →
     ((next : Machine) → run n next ≡ Ok after → All (λ (write : Write). W write.place) (writes_in n next) →
     slice_index after.memory q ≡ slice_index next.memory q) → slice_index after.memory q ≡ slice_index m.memory q
 first_then W n m after q (Ok done) e r all out rest =
@@ -55,7 +55,7 @@ first_then W n m after q (Err stop) e r all out rest =
     absurd (cc)
 
 -- so do steps
-run_stays : (W : ℕ → Type 0) (n : ℕ) (m after : Machine) (q : ℕ) → run n m ≡ Ok after →
+pub run_stays : (W : ℕ → Type 0) (n : ℕ) (m after : Machine) (q : ℕ) → run n m ≡ Ok after →
     All (λ (write : Write). W write.place) (writes_in n m) → (W q → ⊥) →
     slice_index after.memory q ≡ slice_index m.memory q
 run_stays W zero m after q r all out =

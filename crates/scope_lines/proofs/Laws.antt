@@ -10,7 +10,7 @@ pub use Rattle.scope_lines.proofs.Weighing.{costs_are_bounded}
 -- and do the same from states and desks that have the same in what is known
 pub use Rattle.scope_lines.proofs.Isolating.{trees_are_isolated, only_bytes, sites_are_isolated, lowered_blocks_are_isolated}
 pub use Rattle.scope_lines.proofs.Knowing.{IsWithin, within, fewer}
--- their bytes, and that all of them are kept
-pub use Rattle.scope_lines.proofs.Sizing.{sizes_are_bounded, lines_size, lines_kept}
+-- their bytes, that all of them are kept, and that they name no label
+pub use Rattle.scope_lines.proofs.Sizing.{sizes_are_bounded, lines_size, lines_kept, both_unnamed, lines_name_none}
 -- they are at home in any listing, and none of them is refused there
 pub use Rattle.scope_lines.proofs.Homes.{lowered_lines_are_at_home, lowered_lines_are_not_refused}

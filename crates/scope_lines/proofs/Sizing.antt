@@ -1,10 +1,12 @@
--- How many bytes lines take.
-use Rattle.std.proofs.Common.{◌≡◌, ℕ, ◌+◌, ◌≤◌, max, Bool, true, false, List, [], ◌++◌, refl, ap}
+-- How many bytes lines take, that all of them are kept, and that none of them names a label.
+use Rattle.std.proofs.Common.{◌≡◌, ℕ, ◌+◌, ◌≤◌, max, Bool, true, false, List, [], ◌++◌, Option}
+use Rattle.std.proofs.Common.{None, refl, ap}
 use Rattle.std.proofs.Common.{◌∙◌, arith, if◌then◌else◌}
 use Rattle.std.proofs.Math.Nat.{le-max_left, le-max_right}
 use Rattle.asm6502.specs.declared.lines.Line.{Line}
-use Rattle.asm6502.specs.Lines.{kept, size_of}
-use Rattle.asm6502.proofs.Laws.{size_of-append, kept-append}
+use Rattle.std.specs.Option.{option_or, option_map}
+use Rattle.asm6502.specs.Lines.{kept, size_of, place_of}
+use Rattle.asm6502.proofs.Laws.{size_of-append, kept-append, place_of-append}
 use Rattle.scopes.specs.Trees.{Tree, DoTree, WithTree, NoneTree, ThenTree, ScopeTree, LeaveTree, LeaveIfTree, LoopTree}
 use Rattle.scopes.specs.Trees.{AgainTree, AgainIfTree, WhenTree, ChooseTree, NeverTree}
 use Rattle.scope_lines.specs.Sizes.{size, most, SizesAreBounded}
@@ -100,3 +102,40 @@ lines_kept set around place (ChooseTree condition this other) =
     one_kept set (around.holds condition) (lines around place this) (lines around place other)
     (lines_kept set around place this) (lines_kept set around place other)
 lines_kept set around place NeverTree = refl
+
+one_named : (label : ℕ) (z : Bool) (this other : List Line) → place_of this label ≡ None →
+    place_of other label ≡ None → place_of (if z then this else other) label ≡ None
+one_named label true this other e f = e
+one_named label false this other e f = f
+
+pub both_unnamed : (label : ℕ) (front back : List Line) → place_of front label ≡ None → place_of back label ≡ None →
+    place_of (front ++ back) label ≡ None
+both_unnamed label front back e f =
+    place_of-append front back label
+    ∙ (ap (λ o. option_or o (option_map (λ place. size_of front + place) (place_of back label))) e
+    ∙ ap (λ o. option_map (λ place. size_of front + place) o) f)
+
+-- and none of them names a label
+pub lines_name_none : (label : ℕ) (around : Around) (place : ℕ) (tree : Tree) →
+    place_of (lines around place tree) label ≡ None
+lines_name_none label around place (DoTree mnemonic) = refl
+lines_name_none label around place (WithTree mnemonic operand) = refl
+lines_name_none label around place NoneTree = refl
+lines_name_none label around place (ThenTree first rest) =
+    both_unnamed label (lines around place first) (lines around (place + size around.holds first) rest)
+    (lines_name_none label around place first)
+    (lines_name_none label around (place + size around.holds first) rest)
+lines_name_none label around place (ScopeTree name body) =
+    lines_name_none label (in_scope name (place + size around.holds body) around) place body
+lines_name_none label around place (LeaveTree name) = refl
+lines_name_none label around place (LeaveIfTree name test) = refl
+lines_name_none label around place (LoopTree count body) = lines_name_none label (in_loop place around) place body
+lines_name_none label around place AgainTree = refl
+lines_name_none label around place (AgainIfTree test) = refl
+lines_name_none label around place (WhenTree condition body) =
+    one_named label (around.holds condition) (lines around place body) []
+    (lines_name_none label around place body) refl
+lines_name_none label around place (ChooseTree condition this other) =
+    one_named label (around.holds condition) (lines around place this) (lines around place other)
+    (lines_name_none label around place this) (lines_name_none label around place other)
+lines_name_none label around place NeverTree = refl
