@@ -33,7 +33,8 @@ pub fn worked_cases()
 {}
 
 /// Notes that sound and that wait, and frames that a row of the wave program has waited for, at the edges of what a
-/// safe voice may have; and what it may not.
+/// safe voice may have; and what it may not. A voice of a small song that is safe, and others that aren't, each for one
+/// thing alone.
 #[tactic(auto, using(crate::proofs::WorkedStates::states_are_worked))]
 pub fn worked_states()
     ensures { StatesAreWorked }
