@@ -1,3 +1,17 @@
+-- What upper crates may cite.
+pub mod Laws
+-- The bytes of a voice's state one by one.
+mod Standing
+-- What the variables begin with.
+mod Starting
+-- Worked by hand.
+mod WorkedRooms
 mod WorkedMemory
 mod WorkedPlays
 mod WorkedFetching
+mod WorkedCommands
+mod WorkedStarting
+mod WorkedLists
+-- Lists in a memory.
+mod SetLists
+mod WorkedHolds

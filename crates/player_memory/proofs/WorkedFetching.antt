@@ -21,10 +21,11 @@ two_rests = record { instrument = omega arith; kind = omega arith }
 note : IsEntry (record { instrument = 0; kind = Note 0x60 })
 note = record { instrument = omega arith; kind = record { from = omega arith; to = omega arith } }
 
-note_is : All IsEntry (record { instrument = 0; kind = Note 0x60 } ∷ [])
+-- the entries of its pattern
+pub note_is : All IsEntry (record { instrument = 0; kind = Note 0x60 } ∷ [])
 note_is = All-cons IsEntry (record { instrument = 0; kind = Note 0x60 }) [] note (All-nil IsEntry)
 
-each_is : All IsEntry (record { instrument = 0; kind = Rests 1 } ∷ record { instrument = 0; kind = Note 0x60 } ∷ [])
+pub each_is : All IsEntry (record { instrument = 0; kind = Rests 1 } ∷ record { instrument = 0; kind = Note 0x60 } ∷ [])
 each_is =
     All-cons IsEntry (record { instrument = 0; kind = Rests 1 }) (record { instrument = 0; kind = Note 0x60 } ∷ [])
     two_rests note_is

@@ -1,11 +1,13 @@
 -- The variables, a voice in its bytes and a room, worked.
-use Rattle.std.proofs.Common.{◌≡◌, ◌⊎◌, false, ℕ, ◌+◌, ◌<◌, true, nat_eq, refl, arith, inl, inr}
+use Rattle.std.proofs.Common.{◌⊎◌, false, ◌+◌, true, nat_eq, refl, arith, inl, inr}
 use Rattle.std.proofs.lemmas.Bool.{eqb-true, agree_below_at, both_ways}
-use Rattle.player_memory.specs.declared.labels.TheConstants.{VARIABLES}
+use Rattle.player_memory.specs.declared.labels.TheConstants.{NEW_COMMAND, NEW_PARAM, PULSE_HIGH, VIB_DELAY}
+use Rattle.code_runs.specs.Runs.{put}
 use Rattle.player_memory.specs.Labels.{is_own, is_shared}
 use Rattle.player_memory.specs.WorkedMemory.{times, own_rows, shared_rows, is_of, counted, VariablesHaveRows}
-use Rattle.player_memory.specs.WorkedMemory.{VoicesAreWorked, at_1000, RoomsAreWorked}
-use Rattle.player_memory.specs.Rooms.{IsRoom, MayUse}
+use Rattle.player_memory.specs.WorkedMemory.{sounding, its_bytes, VoicesAreWorked, at_1000, RoomsAreWorked}
+use Rattle.player_memory.proofs.Standing.{bytes_stand}
+use Rattle.player_memory.proofs.WorkedRooms.{IsLaid, IsOpen, room_in, uses_in, behind_slides}
 
 pub variables_have_rows : VariablesHaveRows
 variables_have_rows = record {
@@ -21,256 +23,23 @@ variables_have_rows = record {
 
 pub voices_are_worked : VoicesAreWorked
 voices_are_worked = record {
-  stands = (
-    refl,
-    (
-      refl,
-      (
-        refl,
-        (
-          refl,
-          (
-            refl,
-            (
-              refl,
-              (
-                λ some. refl,
-                (
-                  refl,
-                  (
-                    refl,
-                    (
-                      refl,
-                      (
-                        refl,
-                        (
-                          refl,
-                          (
-                            refl,
-                            (
-                              refl,
-                              (
-                                refl,
-                                (
-                                  refl,
-                                  (
-                                    refl,
-                                    (
-                                      refl,
-                                      (refl, (refl, (refl, (refl, (refl, (refl, (refl, tt))))))),
-                                    ),
-                                  ),
-                                ),
-                              ),
-                            ),
-                          ),
-                        ),
-                      ),
-                    ),
-                  ),
-                ),
-              ),
-            ),
-          ),
-        ),
-      ),
-    ),
-  );
-  high_bits = (
-    refl,
-    (
-      refl,
-      (
-        refl,
-        (
-          refl,
-          (
-            refl,
-            (
-              refl,
-              (
-                λ some. refl,
-                (
-                  refl,
-                  (
-                    refl,
-                    (
-                      refl,
-                      (
-                        refl,
-                        (
-                          refl,
-                          (
-                            refl,
-                            (
-                              refl,
-                              (
-                                refl,
-                                (
-                                  refl,
-                                  (
-                                    refl,
-                                    (refl, (refl, (refl, (refl, (refl, (refl, (refl, (refl, tt)))))))),
-                                  ),
-                                ),
-                              ),
-                            ),
-                          ),
-                        ),
-                      ),
-                    ),
-                  ),
-                ),
-              ),
-            ),
-          ),
-        ),
-      ),
-    ),
-  );
+  stands = bytes_stand sounding 5 its_bytes refl;
+  high_bits = bytes_stand sounding 5 (put its_bytes PULSE_HIGH 0xFA) refl;
   low_bits = λ s. let e = s.1.1.1.1.1.1.1.1.1.1.1.1.1.1.1.1.1.1.1.1.1.1.1.0 in omega (arith, e);
   param = λ s. let e = s.1.1.1.1.1.1.0 (λ z. omega (arith, z)) in omega (arith, e);
-  no_command = (
-    refl,
-    (
-      refl,
-      (
-        refl,
-        (
-          refl,
-          (
-            refl,
-            (
-              refl,
-              (
-                λ some. absurd (some refl),
-                (
-                  refl,
-                  (
-                    refl,
-                    (
-                      refl,
-                      (
-                        refl,
-                        (
-                          refl,
-                          (
-                            refl,
-                            (
-                              refl,
-                              (
-                                refl,
-                                (
-                                  refl,
-                                  (
-                                    refl,
-                                    (refl, (refl, (refl, (refl, (refl, (refl, (refl, (refl, tt)))))))),
-                                  ),
-                                ),
-                              ),
-                            ),
-                          ),
-                        ),
-                      ),
-                    ),
-                  ),
-                ),
-              ),
-            ),
-          ),
-        ),
-      ),
-    ),
-  );
+  no_command = bytes_stand
+      (record sounding { new_command = 0 }) 5 (put (put its_bytes NEW_COMMAND 0) NEW_PARAM 0x4E) refl;
   delay = λ s. let e = s.1.1.1.1.1.1.1.1.1.1.1.1.0 in omega (arith, e);
-  no_delay = (
-    refl,
-    (
-      refl,
-      (
-        refl,
-        (
-          refl,
-          (
-            refl,
-            (
-              refl,
-              (
-                λ some. refl,
-                (
-                  refl,
-                  (
-                    refl,
-                    (
-                      refl,
-                      (
-                        refl,
-                        (
-                          refl,
-                          (
-                            refl,
-                            (
-                              refl,
-                              (
-                                refl,
-                                (
-                                  refl,
-                                  (
-                                    refl,
-                                    (refl, (refl, (refl, (refl, (refl, (refl, (refl, (refl, tt)))))))),
-                                  ),
-                                ),
-                              ),
-                            ),
-                          ),
-                        ),
-                      ),
-                    ),
-                  ),
-                ),
-              ),
-            ),
-          ),
-        ),
-      ),
-    ),
-  );
+  no_delay = bytes_stand (record sounding { vib_delay = 0 }) 5 (put its_bytes VIB_DELAY 255) refl;
   tempo = λ s. let e = s.1.1.1.1.1.1.1.1.1.1.1.1.1.1.1.1.1.1.1.1.1.1.1.1.0 in omega (arith, e);
   frequency = λ s. let e = s.1.1.1.1.1.1.1.1.1.1.1.1.1.1.1.0 in omega (arith, e);
 }
 
--- labels below the lists' are those of the variables, one behind the other
-is_variable : (label : ℕ) → label < VARIABLES → nat_eq (at_1000.address label) (0x1006 + label) ≡ true
-is_variable label few =
-    agree_below_at (λ l. nat_eq (at_1000.address l) (0x1006 + l)) (λ _. true) 113 label refl few
+pub is_laid : IsLaid at_1000
+is_laid = record { variables = refl; low = refl; high = refl; pointer = refl }
 
-room_is : IsRoom at_1000 4
-room_is = record {
-  begins = omega arith;
-  ends = omega arith;
-  variables = λ label few. eqb-true (at_1000.address label) (0x1006 + label) (is_variable label few);
-  slides = λ kept. record {
-    low = record { from = omega arith; to = omega arith; outside = inr (omega arith) };
-    high = record { from = omega arith; to = omega arith; outside = inr (omega arith) };
-    apart = inl (omega arith);
-  };
-  pointer_low = omega arith;
-  pointer_high = omega arith;
-}
-
-uses_are : MayUse at_1000 4
-uses_are = record {
-  reads = λ label few. agree_below_at (λ l. at_1000.may_read (at_1000.address l)) (λ _. true) 113 label refl few;
-  writes = λ label few. agree_below_at (λ l. at_1000.may_write (at_1000.address l)) (λ _. true) 113 label refl few;
-  slides = λ kept row few. record {
-    reads_low = agree_below_at (λ n. at_1000.may_read (0x1100 + n)) (λ _. true) 4 row refl few;
-    reads_high = agree_below_at (λ n. at_1000.may_read (0x1104 + n)) (λ _. true) 4 row refl few;
-    writes_low = agree_below_at (λ n. at_1000.may_write (0x1100 + n)) (λ _. true) 4 row refl few;
-    writes_high = agree_below_at (λ n. at_1000.may_write (0x1104 + n)) (λ _. true) 4 row refl few;
-  };
-  registers = λ register few. agree_below_at (λ n. at_1000.may_write (0xD400 + n)) (λ _. true) 25 register refl
-      (omega (arith, few));
-}
+is_open : IsOpen at_1000
+is_open = record { reads = refl; writes = refl; reads_slides = refl; writes_slides = refl; registers = refl }
 
 -- one of two that are both wrong
 pub neither : {P Q : Type 0} → ¬ P → ¬ Q → ¬ (P ⊎ Q)
@@ -279,8 +48,8 @@ neither p q (inr second) = q second
 
 pub rooms_are_worked : RoomsAreWorked
 rooms_are_worked = record {
-  room = room_is;
-  uses = uses_are;
+  room = room_in at_1000 is_laid;
+  uses = uses_in at_1000 is_laid is_open;
   before = record {
     variables = inl (omega arith);
     slides_low = λ kept. inl (omega arith);
@@ -289,14 +58,7 @@ rooms_are_worked = record {
     high = λ e. omega (arith, e);
     registers = inl (omega arith);
   };
-  behind = record {
-    variables = inr (omega arith);
-    slides_low = λ kept. inr (omega arith);
-    slides_high = λ kept. inr (omega arith);
-    low = λ e. omega (arith, e);
-    high = λ e. omega (arith, e);
-    registers = inl (omega arith);
-  };
+  behind = behind_slides at_1000 is_laid 0x1108 (omega arith) (omega arith);
   variable = λ away. neither (λ l. omega (arith, l)) (λ l. omega (arith, l)) away.variables;
   slide = λ away. neither (λ l. omega (arith, l)) (λ l. omega (arith, l)) (away.slides_high refl);
   pointer = λ away. away.high refl;

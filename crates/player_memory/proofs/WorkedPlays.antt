@@ -6,25 +6,21 @@ use Rattle.std.proofs.lemmas.Bool.{eqb-false, ltb-true, le-leb, lt-ltb, not-true
 use Rattle.std.proofs.lemmas.Bool.{agree_below_at, both_ways}
 use Rattle.code_runs.specs.Runs.{put}
 use Rattle.code_runs.proofs.Laws.{put_other}
-use Rattle.play_model.specs.TickStep.{tempo_of}
 use Rattle.scopes.specs.Meaning.{Outcome, Done, Again}
-use Rattle.player_memory.specs.declared.labels.TheConstants.{TEMPO, PULSE_LEFTS, PULSE_RIGHTS}
+use Rattle.player_memory.specs.declared.labels.TheConstants.{LENT, KEPT_COMMAND, KEPT_PARAM}
+use Rattle.player_memory.specs.declared.labels.TheConstants.{PULSE_LEFTS, PULSE_RIGHTS}
+use Rattle.player_memory.specs.declared.variables.TheConstants.{VOICE_BYTES, COMMON_BYTES, SONG_BYTES}
 use Rattle.player_memory.specs.Labels.{is_own}
 use Rattle.player_memory.specs.Rooms.{IsElsewhere}
-use Rattle.player_memory.specs.Playing.{own_at, place_in, IsListed, IsRow}
+use Rattle.player_memory.specs.Playing.{own_at, shared_at, place_in, IsListed, IsRow, OthersStay}
 use Rattle.player_memory.specs.WorkedMemory.{at_1000}
-use Rattle.player_memory.proofs.WorkedMemory.{neither}
+use Rattle.player_memory.proofs.Standing.{are_held, are_shared, are_tempos, playing_in, have_same, are_same}
+use Rattle.player_memory.proofs.WorkedMemory.{neither, is_laid}
+use Rattle.player_memory.proofs.WorkedRooms.{behind_slides}
 use Rattle.player_memory.specs.WorkedPlays.{PlaysWith, beginning, its_memory, PlaysAreWorked, with_lists, far_lists}
 use Rattle.player_memory.specs.WorkedPlays.{PlaysWith, its_lists, its_rows, ListsAreWorked}
 
 -- ---- a voice
-
-its_tempos : (at : ℕ → ℕ) → at 0x105F ≡ 5 → at 0x1066 ≡ 5 → at 0x106D ≡ 5 → (its : ℕ) → its < 3 →
-    own_at at_1000 at its TEMPO ≡ tempo_of (its + 1) beginning.common
-its_tempos at one two three zero few = one
-its_tempos at one two three (suc zero) few = two
-its_tempos at one two three (suc (suc zero)) few = three
-its_tempos at one two three (suc (suc (suc more))) few = absurd (omega (arith, few))
 
 abbrev is_again : Outcome → Bool
 is_again Again = true
@@ -45,9 +41,27 @@ own_apart place label its free three own =
     (omega (arith, below, three)) in
     eqb-false (at_1000.address (label + 7 * its)) place (not-true _ no)
 
-register_apart : (place register : ℕ) → (place < 0xD400) ⊎ (0xD419 ≤ place) → register ≤ 24 → 0xD400 + register ≢ place
+register_apart : (place register : ℕ) → (place < 0xD400) ⊎ (0xD419 ≤ place) → register ≤ 24 →
+    0xD400 + register ≢ place
 register_apart place register (inl low) few e = omega (arith, low, e)
 register_apart place register (inr high) few e = omega (arith, high, few, e)
+
+-- memory with the same bytes in it
+still : (at : ℕ → ℕ) → are_held VOICE_BYTES beginning.voice 5 (own_at at_1000 at 1) ≡ true →
+    are_shared COMMON_BYTES beginning.common (shared_at at_1000 at) ≡ true →
+    are_tempos at_1000 at beginning.common ≡ true →
+    have_same SONG_BYTES (own_at at_1000 at 1) (own_at at_1000 its_memory 1) ≡ true →
+    shared_at at_1000 at LENT ≡ 0 → shared_at at_1000 at KEPT_COMMAND ≡ 0 → shared_at at_1000 at KEPT_PARAM ≡ 0 →
+    OthersStay at_1000 4 1 its_memory at → PlaysWith at
+still at own common tempos song lent command param stays = record {
+  ends = refl;
+  at_voice = record { x = refl; decimal = refl };
+  plays = playing_in at_1000 1 beginning at own common tempos;
+  song = are_same SONG_BYTES (own_at at_1000 at 1) (own_at at_1000 its_memory 1) song;
+  lent = lent;
+  kept = λ some. (command, (param, tt));
+  stays = stays;
+}
 
 pub plays_are_worked : PlaysAreWorked
 plays_are_worked = record {
@@ -56,146 +70,23 @@ plays_are_worked = record {
   high_slide = λ plays. (let byte = (plays.slides refl 3 (omega arith)).high in omega (arith, byte));
   not_fully = λ plays. (let byte = plays.but_slides.plays.common.1.1.1.1.1.0 in omega (arith, byte));
   same = same;
-  pointer = record {
-    ends = refl;
-    at_voice = record { x = refl; decimal = refl };
-    plays = record {
-      own = (
-        refl,
-        (
-          refl,
-          (
-            refl,
-            (
-              refl,
-              (
-                refl,
-                (
-                  refl,
-                  (
-                    λ some. absurd (some refl),
-                    (
-                      refl,
-                      (
-                        refl,
-                        (
-                          refl,
-                          (
-                            refl,
-                            (
-                              refl,
-                              (
-                                refl,
-                                (
-                                  refl,
-                                  (
-                                    refl,
-                                    (
-                                      refl,
-                                      (
-                                        refl,
-                                        (refl, (refl, (refl, (refl, (refl, (refl, (refl, (refl, tt)))))))),
-                                      ),
-                                    ),
-                                  ),
-                                ),
-                              ),
-                            ),
-                          ),
-                        ),
-                      ),
-                    ),
-                  ),
-                ),
-              ),
-            ),
-          ),
-        ),
-      );
-      common =
-          (refl, (refl, (refl, (refl, (refl, (refl, (refl, (refl, tt))))))));
-      tempos = its_tempos
-          (put its_memory 0xFC 1) refl refl refl;
-    };
-    song = (refl, (refl, (refl, (refl, (refl, (refl, (refl, (refl, (refl, tt)))))))));
-    lent = refl;
-    kept = λ some. (refl, (refl, tt));
-    others = λ its label few other is tempo. put_other its_memory 0xFC 1 _
-        (own_apart 0xFC label its pointer_free few is);
-    registers = λ register few. put_other its_memory 0xFC 1 _ (register_apart 0xFC register (inl (omega arith)) few);
-    elsewhere = λ place away. put_other its_memory 0xFC 1 place (λ e. away.low e);
-  };
-  slide = record {
-    ends = refl;
-    at_voice = record { x = refl; decimal = refl };
-    plays = record {
-      own = (
-        refl,
-        (
-          refl,
-          (
-            refl,
-            (
-              refl,
-              (
-                refl,
-                (
-                  refl,
-                  (
-                    λ some. absurd (some refl),
-                    (
-                      refl,
-                      (
-                        refl,
-                        (
-                          refl,
-                          (
-                            refl,
-                            (
-                              refl,
-                              (
-                                refl,
-                                (
-                                  refl,
-                                  (
-                                    refl,
-                                    (
-                                      refl,
-                                      (
-                                        refl,
-                                        (refl, (refl, (refl, (refl, (refl, (refl, (refl, (refl, tt)))))))),
-                                      ),
-                                    ),
-                                  ),
-                                ),
-                              ),
-                            ),
-                          ),
-                        ),
-                      ),
-                    ),
-                  ),
-                ),
-              ),
-            ),
-          ),
-        ),
-      );
-      common =
-          (refl, (refl, (refl, (refl, (refl, (refl, (refl, (refl, tt))))))));
-      tempos = its_tempos
-          (put its_memory 0x1103 1) refl refl refl;
-    };
-    song = (refl, (refl, (refl, (refl, (refl, (refl, (refl, (refl, (refl, tt)))))))));
-    lent = refl;
-    kept = λ some. (refl, (refl, tt));
-    others = λ its label few other is tempo. put_other its_memory 0x1103 1 _
-        (own_apart 0x1103 label its slide_free few is);
-    registers = λ register few. put_other its_memory 0x1103 1 _
-        (register_apart 0x1103 register (inl (omega arith)) few);
-    elsewhere = λ place away. put_other its_memory 0x1103 1 place
-        (λ e. slide_free.not_elsewhere (subst (IsElsewhere at_1000 4) e away));
-  };
+  pointer = still (put its_memory 0xFC 1) refl refl refl refl refl
+      refl refl (record {
+        others = λ its label few other is tempo. put_other its_memory 0xFC 1 _
+            (own_apart 0xFC label its pointer_free few is);
+        registers = λ register few. put_other its_memory 0xFC 1 _
+            (register_apart 0xFC register (inl (omega arith)) few);
+        elsewhere = λ place away. put_other its_memory 0xFC 1 place (λ e. away.low e);
+      });
+  slide = still (put its_memory 0x1103 1) refl refl refl refl refl
+      refl refl (record {
+        others = λ its label few other is tempo. put_other its_memory 0x1103 1 _
+            (own_apart 0x1103 label its slide_free few is);
+        registers = λ register few. put_other its_memory 0x1103 1 _
+            (register_apart 0x1103 register (inl (omega arith)) few);
+        elsewhere = λ place away. put_other its_memory 0x1103 1 place
+            (λ e. slide_free.not_elsewhere (subst (IsElsewhere at_1000 4) e away));
+      });
   not_ended = λ plays. both_ways (is_again Done) refl (ap is_again (sym plays.ends));
   other_x = λ plays. (let x = plays.at_voice.x in omega (arith, x));
   decimal = λ plays. both_ways true plays.at_voice.decimal refl;
@@ -208,94 +99,25 @@ plays_are_worked = record {
   lent = λ plays. (let byte = plays.lent in omega (arith, byte));
   kept_command = λ plays. (let byte = (plays.kept (λ e. omega (arith, e))).0 in omega (arith, byte));
   kept_param = λ plays. (let byte = (plays.kept (λ e. omega (arith, e))).1.0 in omega (arith, byte));
-  first_voice = λ plays. (let byte = plays.others 0 23 (omega arith) (λ e. omega (arith, e)) refl
+  first_voice = λ plays. (let byte = plays.stays.others 0 23 (omega arith) (λ e. omega (arith, e)) refl
       (λ e. omega (arith, e)) in omega (arith, byte));
-  third_voice = λ plays. (let byte = plays.others 2 23 (omega arith) (λ e. omega (arith, e)) refl
+  third_voice = λ plays. (let byte = plays.stays.others 2 23 (omega arith) (λ e. omega (arith, e)) refl
       (λ e. omega (arith, e)) in omega (arith, byte));
-  first_register = λ plays. (let byte = plays.registers 0 (omega arith) in omega (arith, byte));
-  last_register = λ plays. (let byte = plays.registers 24 (omega arith) in omega (arith, byte));
-  elsewhere = λ plays. (let byte = plays.elsewhere 0x2000 far in omega (arith, byte));
+  first_register = λ plays. (let byte = plays.stays.registers 0 (omega arith) in omega (arith, byte));
+  last_register = λ plays. (let byte = plays.stays.registers 24 (omega arith) in omega (arith, byte));
+  elsewhere = λ plays. (let byte = plays.stays.elsewhere 0x2000 far in omega (arith, byte));
 }
   where
     same : PlaysWith its_memory
-    same = record {
-      ends = refl;
-      at_voice = record { x = refl; decimal = refl };
-      plays = record {
-        own = (
-          refl,
-          (
-            refl,
-            (
-              refl,
-              (
-                refl,
-                (
-                  refl,
-                  (
-                    refl,
-                    (
-                      λ some. absurd (some refl),
-                      (
-                        refl,
-                        (
-                          refl,
-                          (
-                            refl,
-                            (
-                              refl,
-                              (
-                                refl,
-                                (
-                                  refl,
-                                  (
-                                    refl,
-                                    (
-                                      refl,
-                                      (
-                                        refl,
-                                        (
-                                          refl,
-                                          (refl, (refl, (refl, (refl, (refl, (refl, (refl, (refl, tt)))))))),
-                                        ),
-                                      ),
-                                    ),
-                                  ),
-                                ),
-                              ),
-                            ),
-                          ),
-                        ),
-                      ),
-                    ),
-                  ),
-                ),
-              ),
-            ),
-          ),
-        );
-        common =
-            (refl, (refl, (refl, (refl, (refl, (refl, (refl, (refl, tt))))))));
-        tempos = its_tempos
-            its_memory refl refl refl;
-      };
-      song = (refl, (refl, (refl, (refl, (refl, (refl, (refl, (refl, (refl, tt)))))))));
-      lent = refl;
-      kept = λ some. (refl, (refl, tt));
-      others = λ its label few other is tempo. refl;
-      registers = λ register few. refl;
-      elsewhere = λ place away. refl;
-    }
+    same = still its_memory refl refl refl refl refl refl refl
+        (record {
+          others = λ its label few other is tempo. refl;
+          registers = λ register few. refl;
+          elsewhere = λ place away. refl;
+        })
 
     far : IsElsewhere at_1000 4 0x2000
-    far = record {
-      variables = inr (omega arith);
-      slides_low = λ kept. inr (omega arith);
-      slides_high = λ kept. inr (omega arith);
-      low = λ e. omega (arith, e);
-      high = λ e. omega (arith, e);
-      registers = inl (omega arith);
-    }
+    far = behind_slides at_1000 is_laid 0x2000 (omega arith) (omega arith)
 
     pointer_free : IsFree 0xFC
     pointer_free = record { variables = refl; registers = inl (omega arith); not_elsewhere = λ away. away.low refl }
@@ -344,8 +166,8 @@ its_row (suc (suc zero)) from to = record {
 }
 its_row (suc (suc (suc more))) from to = absurd (omega (arith, to))
 
-full_listed : (label base number : ℕ) → far_lists.address label ≡ base → 0x2000 ≤ base → base ≤ 0x2100 → number ≤ 255 →
-    IsListed far_lists 4 (λ place. 0) label number 0
+full_listed : (label base number : ℕ) → far_lists.address label ≡ base → 0x2000 ≤ base → base ≤ 0x2100 →
+    number ≤ 255 → IsListed far_lists 4 (λ place. 0) label number 0
 full_listed label base number is from below to = record {
   elsewhere = rw (is, place) (record {
     variables = inr (omega (arith, from));

@@ -146,3 +146,9 @@ pub data SongStands (layout : Layout) (look : LookUps) (packed : ℕ → List �
   InLastRun : own REST ≢ 0 → AreRests (look.rows (played order v.plays).pattern) v (own REST) →
       v.row + own REST ≡ length (look.rows (played order v.plays).pattern) →
       EntryIsNext layout look packed order v (v.plays + 1) 0 own → SongStands layout look packed order v own
+
+-- the voice has the orderlist under this label, and is in its song
+pub record IsInSong (layout : Layout) (label : ℕ) (look : LookUps) (packed : ℕ → List ℕ) (order : Order) (v : Voice)
+    (own : ℕ → ℕ) : Type 0 where
+  pub has : HasOrder layout label own
+  pub stands : SongStands layout look packed order v own

@@ -81,6 +81,18 @@ pub record SlidesStay (layout : Layout) (row : ℕ) (one two : ℕ → ℕ) : Ty
   pub low : one (layout.address SLIDES_LOW + row) ≡ two (layout.address SLIDES_LOW + row)
   pub high : one (layout.address SLIDES_HIGH + row) ≡ two (layout.address SLIDES_HIGH + row)
 
+-- all of the slides are, where the code for calculated speeds is kept
+abbrev pub AllSlidesStay : Layout → ℕ → (ℕ → ℕ) → (ℕ → ℕ) → Type 0
+AllSlidesStay layout rows one two =
+    layout.holds NOTE_DEPENDENT ≡ true → (row : ℕ) → row < rows → SlidesStay layout row one two
+
+-- the other voices, but for their tempos, the registers, and what is elsewhere are as before
+pub record OthersStay (layout : Layout) (rows voice : ℕ) (before after : ℕ → ℕ) : Type 0 where
+  pub others : (its label : ℕ) → its < 3 → its ≢ voice → is_own label ≡ true → label ≢ TEMPO →
+      own_at layout after its label ≡ own_at layout before its label
+  pub registers : (register : ℕ) → register ≤ 24 → after (0xD400 + register) ≡ before (0xD400 + register)
+  pub elsewhere : (place : ℕ) → IsElsewhere layout rows place → after place ≡ before place
+
 -- A block has come to its end with a voice in this state. It has left where the voice is in its song, whether a command
 -- is lent, the voice's own one meanwhile, the other voices, the registers, and what is elsewhere.
 pub record PlaysButSlides (layout : Layout) (rows voice : ℕ) (before : Desk) (run : Ran) (s : Playing) : Type 0 where
@@ -91,16 +103,12 @@ pub record PlaysButSlides (layout : Layout) (rows voice : ℕ) (before : Desk) (
   pub lent : shared_at layout run.desk.at LENT ≡ shared_at layout before.at LENT
   pub kept : shared_at layout before.at LENT ≢ 0 →
       AreSame (KEPT_COMMAND ∷ KEPT_PARAM ∷ []) (shared_at layout run.desk.at) (shared_at layout before.at)
-  pub others : (its label : ℕ) → its < 3 → its ≢ voice → is_own label ≡ true → label ≢ TEMPO →
-      own_at layout run.desk.at its label ≡ own_at layout before.at its label
-  pub registers : (register : ℕ) → register ≤ 24 → run.desk.at (0xD400 + register) ≡ before.at (0xD400 + register)
-  pub elsewhere : (place : ℕ) → IsElsewhere layout rows place → run.desk.at place ≡ before.at place
+  pub stays : OthersStay layout rows voice before.at run.desk.at
 
 -- and it has left the slides
 pub record Plays (layout : Layout) (rows voice : ℕ) (before : Desk) (run : Ran) (s : Playing) : Type 0 where
   pub but_slides : PlaysButSlides layout rows voice before run s
-  pub slides : layout.holds NOTE_DEPENDENT ≡ true → (row : ℕ) → row < rows →
-      SlidesStay layout row run.desk.at before.at
+  pub slides : AllSlidesStay layout rows run.desk.at before.at
 
 -- A block that no voice owns has come to its end with what the voices share in this state, and with these four bytes in
 -- the registers from 21 on. It has left each voice's bytes, what is lent, the other registers, the slides, and what is
@@ -115,6 +123,5 @@ pub record PlaysShared (layout : Layout) (rows : ℕ) (before : Desk) (run : Ran
   pub voices : (voice label : ℕ) → voice < 3 → is_own label ≡ true →
       own_at layout run.desk.at voice label ≡ own_at layout before.at voice label
   pub registers : (register : ℕ) → register < 21 → run.desk.at (0xD400 + register) ≡ before.at (0xD400 + register)
-  pub slides : layout.holds NOTE_DEPENDENT ≡ true → (row : ℕ) → row < rows →
-      SlidesStay layout row run.desk.at before.at
+  pub slides : AllSlidesStay layout rows run.desk.at before.at
   pub elsewhere : (place : ℕ) → IsElsewhere layout rows place → run.desk.at place ≡ before.at place

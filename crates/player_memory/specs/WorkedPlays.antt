@@ -5,7 +5,8 @@ use Rattle.song_model.specs.declared.tables.TableRow.{TableRow}
 use Rattle.play_model.specs.State.{Playing, start_voice, start_common}
 use Rattle.scopes.specs.Desk.{Desk, Layout}
 use Rattle.scopes.specs.Meaning.{Outcome, Done, Again, ended}
-use Rattle.player_memory.specs.declared.labels.TheConstants.{TICK, INSTRUMENT, GATE, VIB_DELAY, TEMPO, VOLUME, FUNK_ONE, FUNK_TWO}
+use Rattle.player_memory.specs.declared.labels.TheConstants.{TICK, INSTRUMENT, GATE, VIB_DELAY, TEMPO, VOLUME}
+use Rattle.player_memory.specs.declared.labels.TheConstants.{FUNK_ONE, FUNK_TWO}
 use Rattle.player_memory.specs.declared.labels.TheConstants.{REST, REPEAT, LENT, KEPT_COMMAND, KEPT_PARAM, PULSE_LEFTS}
 use Rattle.player_memory.specs.declared.labels.TheConstants.{PULSE_RIGHTS}
 use Rattle.player_memory.specs.Playing.{IsListed, IsTable, Plays, PlaysButSlides}

@@ -1,11 +1,11 @@
 //! The player's memory: what its bytes are, and what of a song and of its state they hold.
 //!
 //! The variables are a table (`variables`), whose rows say what each byte holds; the definitions read it. Its one
-//! contract: each variable has one row and one owner, and what holds a voice's state, or is left as it was, is worked
-//! by hand.
+//! contract: each variable has one row and one owner, where they begin as a subtune does each voice plays from the
+//! start, and what holds a voice's state or the lists of a song, or is left as it was, is worked by hand.
 //!
-//! It stands on `play_model` for the state, and on `scopes` for the memory and the layout of blocks. See
-//! `docs/player-blocks.md`.
+//! It stands on `play_model` for the state, on `song_model` and `packed_form` for a song's lists, and on `scopes` for
+//! the memory and the layout of blocks. See `docs/player-blocks.md`.
 #![tactic(auto)]
 
 pub mod claims;

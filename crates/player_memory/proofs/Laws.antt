@@ -1,0 +1,14 @@
+-- The lemmas that upper crates may cite: how a memory that is worked by hand is what a law asks for, by tests that are
+-- computed.
+
+-- a voice is playing in it
+pub use Rattle.player_memory.proofs.Standing.{are_held, bytes_stand, are_shared, shared_bytes_stand, are_tempos}
+pub use Rattle.player_memory.proofs.Standing.{playing_in}
+-- bytes are as before
+pub use Rattle.player_memory.proofs.Standing.{have_same, are_same}
+-- variables that begin as a subtune does hold each voice at the start
+pub use Rattle.player_memory.proofs.Starting.{beginnings_play}
+-- a layout like the one that is worked has a room, and places outside of it
+pub use Rattle.player_memory.proofs.WorkedRooms.{IsLaid, IsOpen, room_in, uses_in, behind_slides}
+-- the entries of a pattern that is worked
+pub use Rattle.player_memory.proofs.WorkedFetching.{note_is, each_is}

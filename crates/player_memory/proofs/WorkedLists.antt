@@ -1,0 +1,38 @@
+-- The lists of a small packed song, computed.
+use Rattle.std.proofs.Common.{arith}
+use Rattle.std.proofs.lemmas.Bool.{ltb-true}
+use Rattle.song_model.specs.LookUp.{table_row, instrument_at}
+use Rattle.play_model.specs.Freq.{freq}
+use Rattle.player_memory.specs.WorkedLists.{table_pieces, instrument_pieces, order_pieces, list_layout, worked_song}
+use Rattle.player_memory.specs.WorkedLists.{AreAsWorked, SongListsAreWorked}
+
+tables : AreAsWorked list_layout worked_song table_pieces
+unfolding freq table_row
+tables = assumption
+
+instruments : AreAsWorked list_layout worked_song instrument_pieces
+unfolding instrument_at
+instruments = search ltb-true
+
+orders : AreAsWorked list_layout worked_song order_pieces
+orders = search ltb-true
+
+pub song_lists_are_worked : SongListsAreWorked
+song_lists_are_worked = record {
+  tables = tables;
+  instruments = instruments;
+  orders = orders;
+  no_field = λ few. omega (arith, few);
+  no_subtune = λ is. (let few = is.0 in omega (arith, few));
+  no_channel = λ is. (let few = is.1 in omega (arith, few));
+  no_pattern = λ few. omega (arith, few);
+  no_periods = λ e. absurd (cc);
+  speed_row_none = record { from = omega arith; to = omega arith };
+  speed_row = record { from = omega arith; to = omega arith };
+  wave_row = record { from = omega arith; to = omega arith };
+  no_speed_row = λ has. (let to = has.to in omega (arith, to));
+  no_row_none = λ has. (let from = has.from in omega (arith, from));
+  no_wave_row = λ has. (let to = has.to in omega (arith, to));
+  no_instrument = λ has. (let to = has.to in omega (arith, to));
+  no_frequency = λ has. (let to = has.to in omega (arith, to));
+}

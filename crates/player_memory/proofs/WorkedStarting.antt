@@ -1,0 +1,67 @@
+-- Variables as a subtune begins, worked.
+use Rattle.std.proofs.Common.{ℕ, zero, suc, ◌+◌, ◌<◌, refl, arith}
+use Rattle.player_memory.specs.Playing.{own_at}
+use Rattle.player_memory.specs.Starting.{VoiceBegins}
+use Rattle.player_memory.specs.Fetching.{SongStands, AtEntry, InRun, InLastRun}
+use Rattle.player_memory.specs.WorkedPlays.{with_variable}
+use Rattle.player_memory.proofs.Starting.{tempo_byte, beginnings_play}
+use Rattle.player_memory.specs.WorkedStarting.{BeginningsAreWorked, FirstPlaysAreWorked, BeginsSo, begun, its_orders}
+use Rattle.player_memory.specs.WorkedStarting.{with_orders}
+use Rattle.player_memory.specs.WorkedFetching.{its_order, its_packed}
+use Rattle.player_memory.specs.declared.labels.TheConstants.{REST, ORDERS}
+use Rattle.play_model.specs.LookUps.{LookUps}
+use Rattle.play_model.specs.State.{at_speed, start_voice}
+
+each : (voice : ℕ) → voice < 3 → VoiceBegins 5 (its_orders voice) (own_at with_orders begun voice)
+each zero few = assumption
+each (suc zero) few = assumption
+each (suc (suc zero)) few = assumption
+each (suc (suc (suc more))) few = absurd (omega (arith, few))
+
+begins : BeginsSo begun
+begins = record { voices = each; common = assumption; handed = assumption }
+
+pub beginnings_are_worked : BeginningsAreWorked
+beginnings_are_worked = record {
+  begins = begins;
+  tick = λ b. (let byte = (b.voices 0 (omega arith)).state.0 in omega (arith, byte));
+  instrument = λ b. (let byte = (b.voices 1 (omega arith)).state.1.1.0 in omega (arith, byte));
+  gate = λ b. (let byte = (b.voices 2 (omega arith)).state.1.1.1.1.1.1.1.1.1.1.1.1.1.1.0 in omega (arith, byte));
+  delay = λ b. (let byte = (b.voices 2 (omega arith)).state.1.1.1.1.1.1.1.1.1.1.1.1.0 in omega (arith, byte));
+  high_bits = λ b.
+      (let byte = (b.voices 1 (omega arith)).state.1.1.1.1.1.1.1.1.1.1.1.1.1.1.1.1.1.1.1.1.1.1.1.0 in
+      omega (arith, byte));
+  param = λ b. (let byte = (b.voices 0 (omega arith)).state.1.1.1.1.1.1.0 in omega (arith, byte));
+  tempo = λ b. (let byte = tempo_byte _ _ _ (b.voices 2 (omega arith)) in omega (arith, byte));
+  low = λ b. (let byte = (b.voices 0 (omega arith)).song.1.1.1.1.0 in omega (arith, byte));
+  high = λ b. (let byte = (b.voices 2 (omega arith)).song.1.1.1.1.1.0 in omega (arith, byte));
+  rest = λ b. (let byte = (b.voices 0 (omega arith)).song.0 in omega (arith, byte));
+  offset = λ b. (let byte = (b.voices 1 (omega arith)).song.1.0 in omega (arith, byte));
+  place = λ b. (let byte = (b.voices 2 (omega arith)).song.1.1.1.1.1.1.0 in omega (arith, byte));
+  transpose = λ b. (let byte = (b.voices 0 (omega arith)).song.1.1.1.1.1.1.1.0 in omega (arith, byte));
+  repeat = λ b. (let byte = (b.voices 1 (omega arith)).song.1.1.1.1.1.1.1.1.0 in omega (arith, byte));
+  filter = λ b. (let byte = b.common.0 in omega (arith, byte));
+  volume = λ b. (let byte = b.common.1.1.1.1.1.0 in omega (arith, byte));
+  funk_one = λ b. (let byte = b.common.1.1.1.1.1.1.0 in omega (arith, byte));
+  funk_two = λ b. (let byte = b.common.1.1.1.1.1.1.1.0 in omega (arith, byte));
+  lent = λ b. (let byte = b.handed.0 in omega (arith, byte));
+  kept_command = λ b. (let byte = b.handed.1.0 in omega (arith, byte));
+  kept_param = λ b. (let byte = b.handed.1.1.0 in omega (arith, byte));
+}
+
+in_rests : (look : LookUps) →
+    ¬ SongStands with_orders look its_packed its_order start_voice
+    (own_at with_orders (with_variable (REST + 7) 1 begun) 1)
+in_rests look (AtEntry none next) = omega (arith, none)
+in_rests look (InRun some rests inside next) = (let row = rests.begun in omega (arith, row))
+in_rests look (InLastRun some rests last next) = (let row = rests.begun in omega (arith, row))
+
+pub first_plays_are_worked : (look : LookUps) → FirstPlaysAreWorked look
+first_plays_are_worked look = record {
+  plays =
+      beginnings_play with_orders (at_speed 1) look its_packed its_order its_orders (ORDERS + 1) 1 begun begins
+      (omega arith) refl (omega arith);
+  other_speed = λ is. (let tempo = is.plays.tempos 1 (omega arith) in omega (arith, tempo));
+  other_order = λ is. (let low = is.has_order.low_is in omega (arith, low));
+  in_rests = λ is. in_rests look is.song;
+}

@@ -1,0 +1,42 @@
+-- Which condition keeps the lines of each feature: the one with the number of the feature's bit.
+use Rattle.std.specs.Prelude.{◌≡◌}
+use Rattle.song_model.specs.declared.features.Feature.TheVariants.{Transpose, Repeat, PortaUp, PortaDown, TonePorta}
+use Rattle.song_model.specs.declared.features.Feature.TheVariants.{TieNote, Vibrato, InstrumentVibrato, NoteDependent}
+use Rattle.song_model.specs.declared.features.Feature.TheVariants.{SetAd, SetSr, SetWave, SetWavePointer, PulseTable}
+use Rattle.song_model.specs.declared.features.Feature.TheVariants.{SetPulsePointer, FilterTable, SetFilterPointer}
+use Rattle.song_model.specs.declared.features.Feature.TheVariants.{FilterControl, Cutoff, Volume, FunkTempo, SetTempo}
+use Rattle.song_model.specs.declared.features.Feature.TheVariants.{WaveTable, WaveCommand}
+use Rattle.song_model.specs.Feature.{bit_of}
+use Rattle.player_memory.specs.declared.conditions.TheConstants.{TRANSPOSES, REPEATS, PORTA_UP, PORTA_DOWN}
+use Rattle.player_memory.specs.declared.conditions.TheConstants.{TONE_PORTA, TIE_NOTE, VIBRATO, INSTRUMENT_VIBRATO}
+use Rattle.player_memory.specs.declared.conditions.TheConstants.{NOTE_DEPENDENT, SET_AD, SET_SR, SET_WAVE}
+use Rattle.player_memory.specs.declared.conditions.TheConstants.{SET_WAVE_POINTER, PULSE_TABLE, SET_PULSE_POINTER}
+use Rattle.player_memory.specs.declared.conditions.TheConstants.{FILTER_TABLE, SET_FILTER_POINTER, SET_FILTER_CONTROL}
+use Rattle.player_memory.specs.declared.conditions.TheConstants.{SET_CUTOFF, SET_VOLUME, FUNK_TEMPO, SET_TEMPO}
+use Rattle.player_memory.specs.declared.conditions.TheConstants.{WAVE_TABLE, WAVE_COMMAND}
+
+pub record ConditionsAreFeatures : Type 0 where
+  pub transposes : bit_of Transpose ≡ TRANSPOSES
+  pub repeats : bit_of Repeat ≡ REPEATS
+  pub porta_up : bit_of PortaUp ≡ PORTA_UP
+  pub porta_down : bit_of PortaDown ≡ PORTA_DOWN
+  pub tone_porta : bit_of TonePorta ≡ TONE_PORTA
+  pub tie_note : bit_of TieNote ≡ TIE_NOTE
+  pub vibrato : bit_of Vibrato ≡ VIBRATO
+  pub instrument_vibrato : bit_of InstrumentVibrato ≡ INSTRUMENT_VIBRATO
+  pub note_dependent : bit_of NoteDependent ≡ NOTE_DEPENDENT
+  pub set_ad : bit_of SetAd ≡ SET_AD
+  pub set_sr : bit_of SetSr ≡ SET_SR
+  pub set_wave : bit_of SetWave ≡ SET_WAVE
+  pub set_wave_pointer : bit_of SetWavePointer ≡ SET_WAVE_POINTER
+  pub pulse_table : bit_of PulseTable ≡ PULSE_TABLE
+  pub set_pulse_pointer : bit_of SetPulsePointer ≡ SET_PULSE_POINTER
+  pub filter_table : bit_of FilterTable ≡ FILTER_TABLE
+  pub set_filter_pointer : bit_of SetFilterPointer ≡ SET_FILTER_POINTER
+  pub set_filter_control : bit_of FilterControl ≡ SET_FILTER_CONTROL
+  pub set_cutoff : bit_of Cutoff ≡ SET_CUTOFF
+  pub set_volume : bit_of Volume ≡ SET_VOLUME
+  pub funk_tempo : bit_of FunkTempo ≡ FUNK_TEMPO
+  pub set_tempo : bit_of SetTempo ≡ SET_TEMPO
+  pub wave_table : bit_of WaveTable ≡ WAVE_TABLE
+  pub wave_command : bit_of WaveCommand ≡ WAVE_COMMAND
