@@ -16,7 +16,8 @@ use Rattle.player_memory.specs.Labels.{is_own, is_shared, is_tempo}
 use Rattle.player_desk.proofs.VoiceDesks.{VoiceDesk, Reader, leaves_x, Fits, Either, Listed, OfAll, LowSlide, HighSlide}
 use Rattle.player_desk.proofs.VoiceDesks.{SeenLeads, SlideLeads}
 use Rattle.player_desk.proofs.VoiceDesks.{VarLeads, PutLeads, WritesLead, EffectLeads, ByteLeads, OperandLeads}
-use Rattle.player_desk.proofs.VoiceDesks.{QuietLeads, alone_done, is_alone, Ways, done_as, in_scope, again_as, TurnsLead, Leading}
+use Rattle.player_desk.proofs.VoiceDesks.{QuietLeads, alone_done, is_alone, Ways, done_as, in_scope, again_as}
+use Rattle.player_desk.proofs.VoiceDesks.{TurnsLead, Leading}
 
 -- what follows
 pub record Follows (one two : Ways) : Type 0 where

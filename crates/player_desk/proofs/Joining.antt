@@ -72,3 +72,7 @@ goes_on voiced r first rest P ways d leads on =
 -- nowhere but to the end
 abbrev pub ends : (VoiceDesk → Type 0) → Ways
 ends Q = record { Done = Q; Left = λ name d. ⊥; Again = λ d. ⊥ }
+
+-- nowhere but out of this scope
+abbrev pub leaves : ℕ → (VoiceDesk → Type 0) → Ways
+leaves scope Q = record { Done = λ d. ⊥; Left = λ name d. Either (nat_eq name scope) (Q d) ⊥; Again = λ d. ⊥ }

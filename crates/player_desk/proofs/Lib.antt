@@ -2,9 +2,16 @@
 pub mod Laws
 -- The desk as the code of a voice sees it.
 pub mod VoiceDesks
+-- What stands where in memory.
+mod Owners
 mod Spots
-mod Effects
+mod Apart
+mod Puts
 -- What leads there does so in memory.
+mod Effects
+mod Showing
+mod Writing
+mod Stepping
 mod Leading
 mod Following
 mod SlidesStay
@@ -14,5 +21,7 @@ mod Reading
 mod Views
 -- A voice in memory.
 mod Memory
+mod Leaving
 mod Places
 mod SharedMemory
+mod Variables

@@ -1,5 +1,6 @@
 -- The desk of a voice as it is read from memory; and what a block leaves there that leads to where a rule's code does.
-use Rattle.std.proofs.Common.{◌≡◌, ℕ, ◌+◌, ◌%◌, ◌<◌, true, inl, inr, refl, sym, ap, ◌∙◌, subst}
+use Rattle.std.proofs.Common.{◌≡◌, ◌≢◌, ℕ, ◌+◌, ◌*◌, ◌%◌, ◌<◌, true, inl, inr, refl, sym, ap}
+use Rattle.std.proofs.Common.{◌∙◌, subst}
 use Rattle.std.proofs.lemmas.Bool.Decides.{eqb_tells}
 use Rattle.play_model.specs.State.{Voice, Common, Playing}
 use Rattle.play_model.specs.TickStep.{tempo_of}
@@ -20,14 +21,15 @@ use Rattle.player_memory.specs.declared.variables.TheConstants.{SONG_BYTES}
 use Rattle.player_memory.specs.Labels.{is_own, is_shared}
 use Rattle.player_memory.specs.Rooms.{IsRoom, IsElsewhere, MayUse}
 use Rattle.player_memory.specs.Playing.{own_at, shared_at, IsListed, IsPlaying, IsAtVoice, AreSame, Plays}
-use Rattle.player_memory.specs.Playing.{PlaysButSlides, SlidesStay, there}
+use Rattle.player_memory.specs.Playing.{PlaysButSlides, AllSlidesStay, OthersStay}
 use Rattle.player_desk.proofs.VoiceDesks.{VoiceDesk, Reader, Leads}
 use Rattle.player_desk.proofs.Spots.{Own, Shared as SharedSpot, Sid, Tempo, Others, Elsewhere, LowSpot, HighSpot}
-use Rattle.player_desk.proofs.Spots.{SlideLow, SlideHigh}
+use Rattle.player_desk.proofs.Spots.{Slide}
+use Rattle.scopes.specs.declared.line.Half.TheVariants.{Low, High}
 use Rattle.player_desk.proofs.Spots.{Spot, IsSpot, spot_place, spot_byte}
-use Rattle.player_desk.proofs.Leading.{Shows, Ground, At, Led, led}
+use Rattle.player_desk.proofs.Showing.{Shows, Ground}
+use Rattle.player_desk.proofs.Leading.{At, led}
 use Rattle.player_desk.proofs.Places.{spot_at, IsSameAt, same_byte}
-use Rattle.player_memory.specs.declared.conditions.TheConstants.{NOTE_DEPENDENT}
 use Rattle.player_desk.proofs.Joining.{ends}
 use Rattle.player_desk.proofs.Following.{leads_on}
 use Rattle.player_desk.proofs.SlidesStay.{leaves_slides, SameSlides, with_slides, slides_stay}
@@ -88,8 +90,8 @@ spots_are layout rows voice desk (SharedSpot label) is = refl
 spots_are layout rows voice desk LowSpot is = refl
 spots_are layout rows voice desk HighSpot is = refl
 spots_are layout rows voice desk (Sid register) is = refl
-spots_are layout rows voice desk (SlideLow row) is = refl
-spots_are layout rows voice desk (SlideHigh row) is = refl
+spots_are layout rows voice desk (Slide Low row) is = refl
+spots_are layout rows voice desk (Slide High row) is = refl
 spots_are layout rows voice desk (Tempo its) is = refl
 spots_are layout rows voice desk (Others label its) is = refl
 spots_are layout rows voice desk (Elsewhere place) is = refl
@@ -139,7 +141,7 @@ begins layout voice desk s plays = record {
 -- ---- behind it
 
 -- the same bytes under another name
-fields_at : (v : Voice) (tempo : ℕ) (own other : ℕ → ℕ) →
+pub fields_at : (v : Voice) (tempo : ℕ) (own other : ℕ → ℕ) →
     ((label : ℕ) → is_own label ≡ true → other label ≡ own label) →
     Fields v tempo own → Fields v tempo other
 fields_at v tempo own other same f = record {
@@ -197,142 +199,54 @@ song_at own other before same s =
     let repeat = same REPEAT refl ∙ s.repeat in
     assumption (rest, offset, pattern_low, pattern_high, order_low, order_high, order_place, transpose, repeat)
 
--- what leads to an end alone has come there
-pub record AtEnd (Q : VoiceDesk → Type 0) (outcome : Outcome) (d : VoiceDesk) : Type 0 where
-  pub is : outcome ≡ Done
-  pub holds : Q d
-
-pub at_end : (Q : VoiceDesk → Type 0) (outcome : Outcome) (d : VoiceDesk) → At (ends Q) outcome d → AtEnd Q outcome d
-at_end Q Done d way = record { is = refl; holds = way }
-at_end Q (Left name) d never = elim never [ ]
-at_end Q Again d never = elim never [ ]
-at_end Q Stuck d never = elim never [ ]
-
--- A block that leads from the desk of a voice to where a rule's code does leaves the state that the rule gives.
-pub plays_but_slides : (layout : Layout) (rows voice : ℕ) (tree : Tree) (desk : Desk) (t : Playing) → IsRoom layout
-    rows →
-    MayUse layout rows → voice < 3 → IsAtVoice voice desk →
-    Leads (reader_of layout rows voice desk) tree
-    (ends (IsDone voice t (lent_of layout desk) (voice_desk layout voice desk))) (voice_desk layout voice desk) →
-    PlaysButSlides layout rows voice desk (ran each_one layout tree desk) t
-plays_but_slides layout rows voice tree desk t room uses three at leads = record {
-  ends = end.is;
-  at_voice = record { x = behind.shows.x refl; decimal = behind.shows.decimal };
-  plays = record {
-    own = fields_stand t.voice (tempo_of (voice + 1) t.common) _ here;
-    common = shared_stand t.common _
-        (shared_here t.common m.shared _ (λ label is. behind.shows.memory (SharedSpot label) is) done.common);
-    tempos = λ its few. tempos its few;
-  };
-  song = song_at m.own _ _ own done.song;
-  lent = behind.shows.memory (SharedSpot LENT) refl ∙ done.lent.lent;
-  kept = λ some. (
-    behind.shows.memory (SharedSpot KEPT_COMMAND) refl ∙ done.lent.command some,
-    (behind.shows.memory (SharedSpot KEPT_PARAM) refl ∙ done.lent.param some, tt),
-  );
-  others = λ its label few other is not_tempo. behind.shows.memory (Others label its) (is, few, other, not_tempo);
-  registers = λ register few. behind.shows.memory (Sid register) few ∙ ap (λ sid. sid register) done.sid;
-  elsewhere = λ place away. behind.shows.memory (Elsewhere place) away;
+-- what the desk tells of a state stands in the memory that shows it
+pub is_playing : (layout : Layout) (rows voice : ℕ) (before : Desk) (t : Playing) (after : Desk) (m : VoiceDesk) →
+    Shows true (reader_of layout rows voice before) after m → Fields t.voice (tempo_of (voice + 1) t.common) m.own →
+    Shared t.common m.shared →
+    ((its : ℕ) → its < 3 → its ≢ voice → m.shared (TEMPO + 7 * its) ≡ tempo_of (its + 1) t.common) →
+    IsPlaying layout voice t after.at
+is_playing layout rows voice before t after m shows fields common others = record {
+  own = fields_stand t.voice (tempo_of (voice + 1) t.common) _ here;
+  common = shared_stand t.common _ (shared_here t.common m.shared _ (λ label is. shows.memory (SharedSpot label) is)
+      common);
+  tempos = tempos;
 }
   where
-    r : Reader
-    r = reader_of layout rows voice desk
+    here : Fields t.voice (tempo_of (voice + 1) t.common) (own_at layout after.at voice)
+    here = fields_at t.voice (tempo_of (voice + 1) t.common) m.own _ (λ label is. shows.memory (Own label) is) fields
 
-    Q : VoiceDesk → Type 0
-    Q = IsDone voice t (lent_of layout desk) (voice_desk layout voice desk)
-
-    behind : Led true r (ends Q) (ran each_one layout tree desk)
-    behind =
-        led (ground_of layout rows voice desk room uses three) tree (ends Q) desk (voice_desk layout voice desk)
-        (shows_desk layout rows voice desk at) leads
-
-    m : VoiceDesk
-    m = behind.after
-
-    end : AtEnd Q (ran each_one layout tree desk).outcome m
-    end = at_end Q (ran each_one layout tree desk).outcome m behind.way
-
-    done : IsDone voice t (lent_of layout desk) (voice_desk layout voice desk) m
-    done = end.holds
-
-    own : (label : ℕ) → is_own label ≡ true → own_at layout (ran each_one layout tree desk).desk.at voice label ≡
-        m.own label
-    own label is = behind.shows.memory (Own label) is
-
-    here : Fields t.voice (tempo_of (voice + 1) t.common) (own_at layout (ran each_one layout tree desk).desk.at voice)
-    here = fields_at t.voice (tempo_of (voice + 1) t.common) m.own _ own done.fields
-
-    tempos : (its : ℕ) → its < 3 → own_at layout (ran each_one layout tree desk).desk.at its TEMPO ≡ tempo_of
-        (its + 1) t.common
+    tempos : (its : ℕ) → its < 3 → own_at layout after.at its TEMPO ≡ tempo_of (its + 1) t.common
     tempos its few =
         elim (eqb_tells its voice) [
-          | inl same ↦ subst (λ n. own_at layout (ran each_one layout tree desk).desk.at n TEMPO ≡ tempo_of (n + 1)
-              t.common) (sym same.1) here.tempo_is
-          | inr other ↦ behind.shows.memory (Tempo its) (few, other.1) ∙ done.tempos its few other.1
+          | inl same ↦
+              subst (λ n. own_at layout after.at n TEMPO ≡ tempo_of (n + 1) t.common) (sym same.1) here.tempo_is
+          | inr other ↦ shows.memory (Tempo its) (few, other.1) ∙ others its few other.1
         ]
 
--- one that stores no slide leaves the slides, too
-slides_left : (layout : Layout) (rows voice : ℕ) (tree : Tree) (desk : Desk) (Q : VoiceDesk → Type 0) →
-    IsRoom layout rows → MayUse layout rows → voice < 3 → IsAtVoice voice desk → leaves_slides tree ≡ true →
-    Leads (reader_of layout rows voice desk) tree (ends Q) (voice_desk layout voice desk) →
-    layout.holds NOTE_DEPENDENT ≡ true → (row : ℕ) → row < rows →
-    SlidesStay layout row (ran each_one layout tree desk).desk.at desk.at
-slides_left layout rows voice tree desk Q room uses three at leaves leads kept row few = record {
-  low = behind.shows.memory (SlideLow row) (kept, few) ∙ ap (λ slides. slides row) end.holds.low;
-  high = behind.shows.memory (SlideHigh row) (kept, few) ∙ ap (λ slides. slides row) end.holds.high;
-}
-  where
-    r : Reader
-    r = reader_of layout rows voice desk
+-- so does where the voice is in its song
+pub song_stays : (layout : Layout) (rows voice : ℕ) (before after : Desk) (m : VoiceDesk) →
+    Shows true (reader_of layout rows voice before) after m → SameSong m.own (own_at layout before.at voice) →
+    AreSame SONG_BYTES (own_at layout after.at voice) (own_at layout before.at voice)
+song_stays layout rows voice before after m shows same =
+    song_at m.own _ _ (λ label is. shows.memory (Own label) is) same
 
-    d : VoiceDesk
-    d = voice_desk layout voice desk
-
-    staying : Leads r tree (ends (SameSlides d)) d
-    staying =
-        leads_on true r tree (with_slides d (ends Q)) (ends (SameSlides d)) d
-        (record { done = λ m q. q.0; left = λ name m q. q.1; again = λ m q. q.1 })
-        (slides_stay true r tree (ends Q) d leaves leads)
-
-    behind : Led true r (ends (SameSlides d)) (ran each_one layout tree desk)
-    behind =
-        led (ground_of layout rows voice desk room uses three) tree (ends (SameSlides d)) desk d
-        (shows_desk layout rows voice desk at) staying
-
-    end : AtEnd (SameSlides d) (ran each_one layout tree desk).outcome behind.after
-    end = at_end (SameSlides d) (ran each_one layout tree desk).outcome behind.after behind.way
-
-pub plays : (layout : Layout) (rows voice : ℕ) (tree : Tree) (desk : Desk) (t : Playing) →
-    leaves_slides tree ≡ true → IsRoom layout rows → MayUse layout rows → voice < 3 → IsAtVoice voice desk →
-    Leads (reader_of layout rows voice desk) tree
-    (ends (IsDone voice t (lent_of layout desk) (voice_desk layout voice desk))) (voice_desk layout voice desk) →
-    Plays layout rows voice desk (ran each_one layout tree desk) t
-plays layout rows voice tree desk t leaves room uses three at leads = record {
-  but_slides = plays_but_slides layout rows voice tree desk t room uses three at leads;
-  slides = slides_left layout rows voice tree desk _ room uses three at leaves leads;
+-- what a voice's code leaves whatever it does, but for the registers
+pub others_stay : (layout : Layout) (rows voice : ℕ) (before after : Desk) (m : VoiceDesk) →
+    Shows true (reader_of layout rows voice before) after m → m.sid ≡ (voice_desk layout voice before).sid →
+    OthersStay layout rows voice before.at after.at
+others_stay layout rows voice before after m shows sid = record {
+  others = λ its label few other is not_tempo. shows.memory (Others label its) (is, few, other, not_tempo);
+  registers = λ register few. shows.memory (Sid register) few ∙ ap (λ bytes. bytes register) sid;
+  elsewhere = λ place away. shows.memory (Elsewhere place) away;
 }
 
--- the same memory, where another run has come to its end
-pub but_slides_there : (layout : Layout) (rows voice : ℕ) (before : Desk) (run other : Ran) (s : Playing) →
-    run.desk ≡ other.desk → PlaysButSlides layout rows voice before other s →
-    PlaysButSlides layout rows voice before (there run) s
-but_slides_there layout rows voice before run other s e p = record {
-  ends = refl;
-  at_voice = rw e p.at_voice;
-  plays = rw e p.plays;
-  song = rw e p.song;
-  lent = rw e p.lent;
-  kept = rw e p.kept;
-  others = rw e p.others;
-  registers = rw e p.registers;
-  elsewhere = rw e p.elsewhere;
-}
-
-pub come_there : (layout : Layout) (rows voice : ℕ) (before : Desk) (run other : Ran) (s : Playing) →
-    run.desk ≡ other.desk → Plays layout rows voice before other s → Plays layout rows voice before (there run) s
-come_there layout rows voice before run other s e p = record {
-  but_slides = but_slides_there layout rows voice before run other s e p.but_slides;
-  slides = rw e p.slides;
+-- and the slides, where they are as before on the desk
+pub all_slides_stay : (layout : Layout) (rows voice : ℕ) (before after : Desk) (m : VoiceDesk) →
+    Shows true (reader_of layout rows voice before) after m → SameSlides (voice_desk layout voice before) m →
+    AllSlidesStay layout rows after.at before.at
+all_slides_stay layout rows voice before after m shows same kept row few = record {
+  low = shows.memory (Slide Low row) (kept, few) ∙ ap (λ slides. slides row) same.low;
+  high = shows.memory (Slide High row) (kept, few) ∙ ap (λ slides. slides row) same.high;
 }
 
 -- ---- whatever a block is for
@@ -347,24 +261,96 @@ pub record Came (layout : Layout) (rows voice : ℕ) (desk : Desk) (Q : VoiceDes
   pub stays : (place : ℕ) → IsSameAt (reader_of layout rows voice desk) (voice_desk layout voice desk) after place →
       run.desk.at place ≡ desk.at place
 
+pub came : (layout : Layout) (rows voice : ℕ) (desk : Desk) (Q : VoiceDesk → Type 0) (run : Ran) (after : VoiceDesk) →
+    IsRoom layout rows → run.outcome ≡ Done → Shows true (reader_of layout rows voice desk) run.desk after → Q after →
+    Came layout rows voice desk Q run
+came layout rows voice desk Q run after room is shows holds = record {
+  ends = is;
+  at_voice = record { x = shows.x refl; decimal = shows.decimal };
+  after = after;
+  shows = shows;
+  holds = holds;
+  stays = λ place same.
+      let p = spot_at (reader_of layout rows voice desk) room place in
+      ap run.desk.at p.at
+      ∙ (shows.memory p.spot p.is
+      ∙ (same_byte (reader_of layout rows voice desk) (voice_desk layout voice desk) after place same p.spot p.at
+      ∙ sym (ap desk.at p.at ∙ spots_are layout rows voice desk p.spot p.is)));
+}
+
+-- what leads to an end alone has come there
+pub record AtEnd (Q : VoiceDesk → Type 0) (outcome : Outcome) (d : VoiceDesk) : Type 0 where
+  pub is : outcome ≡ Done
+  pub holds : Q d
+
+pub at_end : (Q : VoiceDesk → Type 0) (outcome : Outcome) (d : VoiceDesk) → At (ends Q) outcome d → AtEnd Q outcome d
+at_end Q Done d way = record { is = refl; holds = way }
+at_end Q (Left name) d never = elim never [ ]
+at_end Q Again d never = elim never [ ]
+at_end Q Stuck d never = elim never [ ]
+
 pub comes : (layout : Layout) (rows voice : ℕ) (tree : Tree) (desk : Desk) (Q : VoiceDesk → Type 0) →
     IsRoom layout rows → MayUse layout rows → voice < 3 → IsAtVoice voice desk →
     Leads (reader_of layout rows voice desk) tree (ends Q) (voice_desk layout voice desk) →
     Came layout rows voice desk Q (ran each_one layout tree desk)
 comes layout rows voice tree desk Q room uses three at leads =
-    let d = voice_desk layout voice desk in
-    let behind = led (ground_of layout rows voice desk room uses three) tree (ends Q) desk d
-    (shows_desk layout rows voice desk at) leads in
-    let end = at_end Q (ran each_one layout tree desk).outcome behind.after behind.way in record {
-      ends = end.is;
-      at_voice = record { x = behind.shows.x refl; decimal = behind.shows.decimal };
-      after = behind.after;
-      shows = behind.shows;
-      holds = end.holds;
-      stays = λ place same.
-          let p = spot_at (reader_of layout rows voice desk) room place in
-          ap (ran each_one layout tree desk).desk.at p.at
-          ∙ (behind.shows.memory p.spot p.is
-          ∙ (same_byte (reader_of layout rows voice desk) d behind.after place same p.spot p.at
-          ∙ sym (ap desk.at p.at ∙ spots_are layout rows voice desk p.spot p.is)));
+    let behind = led (ground_of layout rows voice desk room uses three) tree (ends Q) desk
+    (voice_desk layout voice desk) (shows_desk layout rows voice desk at) leads in
+    let end = at_end Q (ran each_one layout tree desk).outcome behind.after behind.way in
+    came layout rows voice desk Q (ran each_one layout tree desk) behind.after room end.is behind.shows end.holds
+
+-- ---- a rule's code
+
+-- A block that has come to where a rule's code does leaves the state that the rule gives.
+pub but_slides_so : (layout : Layout) (rows voice : ℕ) (desk : Desk) (Q : VoiceDesk → Type 0) (run : Ran)
+    (t : Playing) → Came layout rows voice desk Q run →
+    ((m : VoiceDesk) → Q m → IsDone voice t (lent_of layout desk) (voice_desk layout voice desk) m) →
+    PlaysButSlides layout rows voice desk run t
+but_slides_so layout rows voice desk Q run t came does =
+    let shows = came.shows in
+    let done = does came.after came.holds in record {
+      ends = came.ends;
+      at_voice = came.at_voice;
+      plays = is_playing layout rows voice desk t run.desk came.after shows done.fields done.common done.tempos;
+      song = song_stays layout rows voice desk run.desk came.after shows done.song;
+      lent = shows.memory (SharedSpot LENT) refl ∙ done.lent.lent;
+      kept = λ some. (
+        shows.memory (SharedSpot KEPT_COMMAND) refl ∙ done.lent.command some,
+        (shows.memory (SharedSpot KEPT_PARAM) refl ∙ done.lent.param some, tt),
+      );
+      stays = others_stay layout rows voice desk run.desk came.after shows done.sid;
     }
+
+-- one that stores no slide leaves the slides, too
+abbrev pub Still : VoiceDesk → (VoiceDesk → Type 0) → VoiceDesk → Type 0
+Still d Q m = SameSlides d m × Q m
+
+pub still_ends : (r : Reader) (tree : Tree) (Q : VoiceDesk → Type 0) (d : VoiceDesk) → leaves_slides tree ≡ true →
+    Leads r tree (ends Q) d → Leads r tree (ends (Still d Q)) d
+still_ends r tree Q d leaves leads =
+    leads_on true r tree (with_slides d (ends Q)) (ends (Still d Q)) d
+    (record { done = λ m q. q; left = λ name m q. q.1; again = λ m q. q.1 })
+    (slides_stay true r tree (ends Q) d leaves leads)
+
+pub plays_so : (layout : Layout) (rows voice : ℕ) (desk : Desk) (Q : VoiceDesk → Type 0) (run : Ran) (t : Playing) →
+    Came layout rows voice desk (Still (voice_desk layout voice desk) Q) run →
+    ((m : VoiceDesk) → Q m → IsDone voice t (lent_of layout desk) (voice_desk layout voice desk) m) →
+    Plays layout rows voice desk run t
+plays_so layout rows voice desk Q run t came does = record {
+  but_slides = but_slides_so layout rows voice desk (Still (voice_desk layout voice desk) Q) run t came
+      (λ m q. does m q.1);
+  slides = all_slides_stay layout rows voice desk run.desk came.after came.shows came.holds.0;
+}
+
+pub plays : (layout : Layout) (rows voice : ℕ) (tree : Tree) (desk : Desk) (t : Playing) →
+    leaves_slides tree ≡ true → IsRoom layout rows → MayUse layout rows → voice < 3 → IsAtVoice voice desk →
+    Leads (reader_of layout rows voice desk) tree
+    (ends (IsDone voice t (lent_of layout desk) (voice_desk layout voice desk))) (voice_desk layout voice desk) →
+    Plays layout rows voice desk (ran each_one layout tree desk) t
+plays layout rows voice tree desk t leaves room uses three at leads =
+    plays_so layout rows voice desk Q (ran each_one layout tree desk) t
+    (comes layout rows voice tree desk (Still (voice_desk layout voice desk) Q) room uses three at
+    (still_ends (reader_of layout rows voice desk) tree Q (voice_desk layout voice desk) leaves leads)) (λ m q. q)
+  where
+    Q : VoiceDesk → Type 0
+    Q = IsDone voice t (lent_of layout desk) (voice_desk layout voice desk)

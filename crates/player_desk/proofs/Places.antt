@@ -8,8 +8,9 @@ use Rattle.player_memory.specs.declared.labels.TheConstants.{TEMPO, VARIABLES, S
 use Rattle.player_memory.specs.declared.conditions.TheConstants.{NOTE_DEPENDENT}
 use Rattle.player_memory.specs.Labels.{is_own, is_shared}
 use Rattle.player_memory.specs.Rooms.{IsRoom}
+use Rattle.scopes.specs.declared.line.Half.TheVariants.{Low, High}
 use Rattle.player_desk.proofs.VoiceDesks.{VoiceDesk, Reader}
-use Rattle.player_desk.proofs.Spots.{Spot, Own, Shared, LowSpot, HighSpot, Sid, SlideLow, SlideHigh, Tempo, Others}
+use Rattle.player_desk.proofs.Spots.{Spot, Own, Shared, LowSpot, HighSpot, Sid, Slide, Tempo, Others}
 use Rattle.player_desk.proofs.Spots.{Elsewhere, spot_place, IsSpot, spot_byte}
 
 pub record AtSpot (r : Reader) (place : ℕ) : Type 0 where
@@ -106,10 +107,10 @@ slide_spot r place low high registers variables = by_condition (r.layout.holds N
     }
     by_condition true kept =
         elim (among place (r.layout.address SLIDES_LOW) r.rows) [
-          | In row few at ↦ record { spot = SlideLow row; is = (kept, few); at = at }
+          | In row few at ↦ record { spot = Slide Low row; is = (kept, few); at = at }
           | Out lows ↦
               elim (among place (r.layout.address SLIDES_HIGH) r.rows) [
-                | In row few at ↦ record { spot = SlideHigh row; is = (kept, few); at = at }
+                | In row few at ↦ record { spot = Slide High row; is = (kept, few); at = at }
                 | Out highs ↦ record {
                   spot = Elsewhere place;
                   is = record {
@@ -166,8 +167,8 @@ same_byte r d m place same (Shared label) at = same.shared label at
 same_byte r d m place same LowSpot at = same.low at
 same_byte r d m place same HighSpot at = same.high at
 same_byte r d m place same (Sid register) at = same.sid register at
-same_byte r d m place same (SlideLow row) at = same.slide_low row at
-same_byte r d m place same (SlideHigh row) at = same.slide_high row at
+same_byte r d m place same (Slide Low row) at = same.slide_low row at
+same_byte r d m place same (Slide High row) at = same.slide_high row at
 same_byte r d m place same (Tempo its) at = same.shared (TEMPO + 7 * its) at
 same_byte r d m place same (Others label its) at = refl
 same_byte r d m place same (Elsewhere other) at = refl

@@ -13,15 +13,12 @@ use Rattle.player_memory.specs.Rooms.{IsRoom, MayUse}
 use Rattle.player_memory.specs.Playing.{own_at, shared_at, PlaysShared}
 use Rattle.player_desk.proofs.VoiceDesks.{VoiceDesk, Reader, LeadsAlone}
 use Rattle.player_memory.specs.Variables.{CommonBytesStand}
-use Rattle.player_desk.proofs.Spots.{Own, Shared as SharedSpot, Sid, Tempo, Others, Elsewhere, SlideLow, SlideHigh}
+use Rattle.player_desk.proofs.Spots.{Own, Shared as SharedSpot, Sid, Tempo, Others, Elsewhere, Slide}
+use Rattle.scopes.specs.declared.line.Half.TheVariants.{Low, High}
 use Rattle.player_desk.proofs.Leading.{Led, led}
 use Rattle.player_desk.proofs.Joining.{ends}
 use Rattle.player_desk.proofs.Views.{Shared}
 use Rattle.player_desk.proofs.Views.{shared_of, shared_stand}
-use Rattle.std.proofs.Common.{zero, suc, false, List, slice_index, arith}
-use Rattle.player_memory.specs.Variables.{CommonBytesStand}
-use Rattle.player_memory.specs.Playing.{PlaysShared}
-use Rattle.player_desk.proofs.VoiceDesks.{LeadsAlone}
 use Rattle.player_desk.proofs.Memory.{reader_of, voice_desk, ground_of, spots_are, shared_here, AtEnd, at_end}
 
 -- what such code leaves of the bytes that aren't the common state's: what is lent, and the tempos that aren't the first
@@ -81,8 +78,8 @@ plays_shared layout rows tree desk c bytes room uses decimal leads = record {
   registers = λ register few.
       behind.shows.memory (Sid register) (omega (arith, few)) ∙ end.holds.registers register few;
   slides = λ kept row few. record {
-    low = behind.shows.memory (SlideLow row) (kept, few) ∙ ap (λ slide. slide row) end.holds.done.slide_low;
-    high = behind.shows.memory (SlideHigh row) (kept, few) ∙ ap (λ slide. slide row) end.holds.done.slide_high;
+    low = behind.shows.memory (Slide Low row) (kept, few) ∙ ap (λ slide. slide row) end.holds.done.slide_low;
+    high = behind.shows.memory (Slide High row) (kept, few) ∙ ap (λ slide. slide row) end.holds.done.slide_high;
   };
   elsewhere = λ place away. behind.shows.memory (Elsewhere place) away;
 }

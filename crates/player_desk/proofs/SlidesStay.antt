@@ -16,8 +16,10 @@ use Rattle.scopes.specs.Trees.{AgainTree, AgainIfTree, WhenTree, ChooseTree, Nev
 use Rattle.player_memory.specs.declared.labels.TheConstants.{SLIDES_LOW, SLIDES_HIGH}
 use Rattle.player_memory.specs.Labels.{is_own, is_shared, is_tempo}
 use Rattle.player_desk.proofs.VoiceDesks.{VoiceDesk, Reader, with_cpu, leaves_x, Fits, Either, SlideLeads}
-use Rattle.player_desk.proofs.VoiceDesks.{VarLeads, PutLeads, WritesLead, EffectLeads, ByteLeads, OperandLeads, WithLeads}
-use Rattle.player_desk.proofs.VoiceDesks.{QuietLeads, alone_done, is_alone, Ways, done_as, in_scope, again_as, TurnsLead, Leading}
+use Rattle.player_desk.proofs.VoiceDesks.{VarLeads, PutLeads, WritesLead, EffectLeads, ByteLeads, OperandLeads}
+use Rattle.player_desk.proofs.VoiceDesks.{WithLeads}
+use Rattle.player_desk.proofs.VoiceDesks.{QuietLeads, alone_done, is_alone, Ways, done_as, in_scope, again_as}
+use Rattle.player_desk.proofs.VoiceDesks.{TurnsLead, Leading}
 use Rattle.player_desk.proofs.Following.{Follows, fits_on, seen_on, turns_on, leads_on}
 
 -- ---- which code does

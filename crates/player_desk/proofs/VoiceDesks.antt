@@ -8,7 +8,8 @@ use Rattle.cpu6502.specs.declared.cpu.Cpu.{Cpu}
 use Rattle.cpu6502.specs.declared.effect.Write.{Write}
 use Rattle.cpu6502.specs.declared.effect.Effect.{Effect}
 use Rattle.cpu6502.specs.declared.mnemonic.Mnemonic.{Mnemonic}
-use Rattle.cpu6502.specs.declared.mnemonic.Mnemonic.TheVariants.{Asl, Clc, Clv, Cpx, Dex, Dey, Inx, Iny, Ldx, Lsr, Nop, Rol, Ror}
+use Rattle.cpu6502.specs.declared.mnemonic.Mnemonic.TheVariants.{Asl, Clc, Clv, Cpx, Dex, Dey, Inx, Iny, Ldx, Lsr}
+use Rattle.cpu6502.specs.declared.mnemonic.Mnemonic.TheVariants.{Nop, Rol, Ror}
 use Rattle.cpu6502.specs.declared.mnemonic.Mnemonic.TheVariants.{Sec, Stx, Tax, Tay, Txa, Tya}
 use Rattle.cpu6502.specs.declared.memory.TheConstants.{MEMORY_SIZE}
 use Rattle.cpu6502.specs.Shifts.{accumulator_effect}

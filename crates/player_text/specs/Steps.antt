@@ -39,11 +39,11 @@ all_of [] = NoneTree
 all_of (tree ∷ trees) = then_lines tree (all_of trees)
 
 -- a scope
-abbrev in_scope : ℕ → List Tree → Tree
+abbrev pub in_scope : ℕ → List Tree → Tree
 in_scope name trees = ScopeTree name (all_of trees)
 
 -- the tree of a block
-abbrev text : record { now : List Line } → Tree
+abbrev pub text : record { now : List Line } → Tree
 text block = tree_of block.now
 
 -- ---- the steps of a voice
@@ -63,57 +63,57 @@ fetch_tree = tree_of (flat_map (λ piece. piece.now) FETCH_STEP.now)
 -- ---- how they are made
 
 -- commands 5 up: those of a row, and those of a wave program
-abbrev row_commands : List Tree
+abbrev pub row_commands : List Tree
 row_commands =
     text AD_SET ∷ text SR_SET ∷ text WAVE_SET ∷ text WAVE_POINTER_SET ∷ text PULSE_POINTER_SET
     ∷ text FILTER_POINTER_SET ∷ text FILTER_CONTROL_SET ∷ text CUTOFF_SET ∷ text VOLUME_SET ∷ text FUNK_SET
     ∷ text TEMPO_SET ∷ text FUNK_CHOSEN ∷ []
 
-abbrev wave_commands : List Tree
+abbrev pub wave_commands : List Tree
 wave_commands =
     text AD_SET ∷ text SR_SET ∷ text WAVE_SET ∷ text PULSE_POINTER_SET ∷ text FILTER_POINTER_SET
     ∷ text FILTER_CONTROL_SET ∷ text CUTOFF_SET ∷ text VOLUME_SET ∷ []
 
-abbrev tick_pieces : List Tree
+abbrev pub tick_pieces : List Tree
 tick_pieces =
     text FRAME_COUNTED ∷ text GATE_TIMER_SET
     ∷ in_scope TAKEN (text NOTE_TAKEN ∷ text NOTE_BEGUN ∷ text PROGRAMS_BEGUN ∷ [])
     ∷ in_scope DONE (text COMMAND_BEGUN ∷ row_commands) ∷ text NOTE_TOLD ∷ []
 
-abbrev command_pieces : List Tree
+abbrev pub command_pieces : List Tree
 command_pieces = in_scope NOTHING (text COMMAND_LENT ∷ wave_commands) ∷ LeaveTree EFFECTED ∷ []
 
 -- up by both bytes of the slide, or by its low one; down the same; and at the note
-abbrev upwards : List Tree
+abbrev pub upwards : List Tree
 upwards =
     in_scope RISES (in_scope UP (text SPEED_STEP ∷ text SWING_STEP ∷ text PORTA_STEP ∷ text TONE_STEP ∷ [])
     ∷ text CLIMB_STEP ∷ []) ∷ text RISE_STEP ∷ []
 
-abbrev downwards : List Tree
+abbrev pub downwards : List Tree
 downwards = in_scope FALLS (in_scope DOWN upwards ∷ text DROP_STEP ∷ []) ∷ text SINK_STEP ∷ []
 
-abbrev effect_pieces : List Tree
+abbrev pub effect_pieces : List Tree
 effect_pieces = in_scope FOUND downwards ∷ text FOUND_STEP ∷ []
 
 -- the orderlist's walk, where a pattern is through
-abbrev walk_pieces : List Tree
+abbrev pub walk_pieces : List Tree
 walk_pieces =
     in_scope WALKS (text ROW_AWAITED ∷ [])
     ∷ in_scope BEGINS (text PLAY_REPEATED ∷ text ORDER_WALKED ∷ text PATTERN_FOUND ∷ []) ∷ text PATTERN_BEGUN ∷ []
 
-abbrev fetch_pieces : List Tree
+abbrev pub fetch_pieces : List Tree
 fetch_pieces =
     in_scope FETCHES (in_scope FIRST (in_scope LATE walk_pieces ∷ text ROW_REACHED ∷ []) ∷ text FIRST_REACHED ∷ [])
     ∷ text ENTRY_BEGUN ∷ text ENTRY_READ ∷ text ENTRY_ENDED ∷ text GATE_CLOSED ∷ text PULSE_LEFT_OUT ∷ []
 
 -- a voice: where a command of its wave program is lent, the effect step does that
-abbrev running_pieces : List Tree
+abbrev pub running_pieces : List Tree
 running_pieces = in_scope COMMANDED (text WAVE_STEP ∷ text EFFECT_BEGUN ∷ []) ∷ command_tree ∷ []
 
-abbrev effected_pieces : List Tree
+abbrev pub effected_pieces : List Tree
 effected_pieces = in_scope PITCHED (in_scope RUNNING running_pieces ∷ effect_tree ∷ []) ∷ text PITCH ∷ []
 
-abbrev sounding_pieces : List Tree
+abbrev pub sounding_pieces : List Tree
 sounding_pieces =
     in_scope TICKED (tick_tree ∷ []) ∷ in_scope EFFECTED effected_pieces ∷ text GIVEN_BACK
     ∷ in_scope PULSED (fetch_tree ∷ []) ∷ text PULSE ∷ []
