@@ -14,8 +14,8 @@ use Rattle.player_desk.proofs.Laws.{VoiceDesk, Reader, Ways, Leads, done_as, bod
 use Rattle.player_desk.proofs.Laws.{own_done, done_over, done_by}
 use Rattle.player_text.specs.declared.tick.TheConstants.{RUNS}
 use Rattle.tick_code.specs.TickBlock.{tick_tree}
+use Rattle.command_code.proofs.Laws.{own_tempo_set}
 use Rattle.tick_code.proofs.Pieces.{first_of, behind}
-use Rattle.tick_code.proofs.TickDesks.{own_tempo_set}
 
 -- ---- the rule
 

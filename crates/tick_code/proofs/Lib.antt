@@ -7,9 +7,6 @@ mod TickDesks
 mod TickGrounds
 -- A row's command.
 mod Commands
-mod OnceParts
-mod OnceCommands
-mod TempoCommands
 mod OnceChain
 mod RowCommands
 -- A note starts.

@@ -113,7 +113,8 @@ command_leads r look number c p u handed d ways m voice few small ground keeps s
     (assumption (a, settled.done.fields)) (assumption settled.done.song) settled.done)))
     (λ n once.
     let from : 5 ≤ c = once.from in
-    once_leads r look i c p u handed d goal (loaded (n.own NEW_PARAM) (indexed n.a n)) voice few small keeps sides
+    once_leads r look i c p u handed d goal (loaded (n.own NEW_PARAM) (indexed n.a n)) voice from few small keeps
+    sides
     (record {
       y = once.a;
       was = λ was. absurd (omega (arith, was, from));

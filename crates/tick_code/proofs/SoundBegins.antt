@@ -15,8 +15,9 @@ use Rattle.player_text.specs.declared.joints.TheConstants.{TAKEN}
 use Rattle.player_text.specs.declared.tick.TheConstants.{STARTS, MASKED, NO_PULSE, NO_FILTER}
 use Rattle.scopes.specs.Trees.{Tree}
 use Rattle.tick_code.specs.TickBlock.{tick_tree}
+use Rattle.command_code.proofs.Laws.{shared_done, tempos_kept}
 use Rattle.tick_code.proofs.Pieces.{first_of, behind}
-use Rattle.tick_code.proofs.TickDesks.{Ticking, done_as_is, shared_done, tempos_kept, if_so, if_not}
+use Rattle.tick_code.proofs.TickDesks.{Ticking, done_as_is, if_so, if_not}
 use Rattle.tick_code.proofs.TickGrounds.{InstrumentAt}
 use Rattle.tick_code.proofs.NoteRules.{noted, wave_same, wave_mask, wave_plain}
 

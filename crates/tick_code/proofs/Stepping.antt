@@ -1,65 +1,24 @@
 -- The code of the tick step in memory.
 use Rattle.std.proofs.Common.{◌≡◌, ◌≢◌, ℕ, ◌+◌, ◌<◌, ◌≤◌, Bool, true, false, nat_eq, refl}
-use Rattle.std.proofs.Common.{sym, ap, ◌∙◌, subst, arith}
-use Rattle.std.proofs.lemmas.Bool.{both_ways, eqb-true}
+use Rattle.std.proofs.Common.{sym, ap, ◌∙◌, arith}
+use Rattle.std.proofs.lemmas.Bool.{both_ways}
 use Rattle.play_model.specs.LookUps.{LookUps}
 use Rattle.play_model.specs.TickStep.{Ticked, tick_step}
 use Rattle.scopes.specs.Desk.{Desk, Layout}
-use Rattle.scopes.specs.Trees.{Tree, ThenTree, ScopeTree, NeverTree}
-use Rattle.scopes.specs.Meaning.{Outcome, Done, Left, Again, Stuck, Ran, each_one, ran, scoped, and_then, out_of_scope}
+use Rattle.scopes.specs.Trees.{Tree}
+use Rattle.scopes.specs.Meaning.{Ran, each_one, ran}
 use Rattle.player_memory.specs.declared.labels.TheConstants.{ADS, SRS, WAVES, PULSES, FILTERS, VIBRATOS, DELAYS}
 use Rattle.player_memory.specs.declared.labels.TheConstants.{GATE_TIMERS, FIRST_WAVES, SPEED_LEFTS, SPEED_RIGHTS}
 use Rattle.player_memory.specs.Rooms.{IsRoom, MayUse}
-use Rattle.player_memory.specs.Playing.{IsAtVoice}
-use Rattle.player_desk.proofs.Laws.{VoiceDesk, Reader, Ways, Leads, done_as, in_scope, ends, leads_on, Done as IsDone}
-use Rattle.player_desk.proofs.Laws.{reader_of, voice_desk, lent_of, finds, begins, plays, come_there, leaves_slides}
+use Rattle.player_memory.specs.Playing.{IsAtVoice, there}
+use Rattle.player_desk.proofs.Laws.{VoiceDesk, Reader, Ways, Leads, ends, leaves, leads_on, Done as IsDone}
+use Rattle.player_desk.proofs.Laws.{reader_of, voice_desk, lent_of, finds, begins, leaves_slides, plays_so}
+use Rattle.player_desk.proofs.Laws.{ends_still, leaves_still}
 use Rattle.player_desk.proofs.VoiceDesks.{Either}
 use Rattle.player_text.specs.declared.joints.TheConstants.{SOUNDS}
 use Rattle.tick_code.specs.TickBlock.{tick_tree, HasInstrument, HasTickLists, way_of, Ticks, TickBlockSteps}
 use Rattle.tick_code.proofs.TickGrounds.{InstrumentAt, SpeedAt, TickGround, TickDone, ways_of}
 use Rattle.tick_code.proofs.Ticks.{tick_leads}
-
--- ---- a block that leaves a scope
-
--- behind the block nothing is come to
-abbrev outside : Layout → Ran → Ran
-outside layout run = scoped SOUNDS (and_then run (ran each_one layout NeverTree))
-
--- another way than to the end
-abbrev IsOther : Outcome → Type 0
-IsOther Done = ⊥
-IsOther outcome = Unit {0}
-
-left_by : (name : ℕ) (z : Bool) → nat_eq name SOUNDS ≡ z → out_of_scope SOUNDS (Left name) ≡ Done →
-    Left name ≡ Left SOUNDS
-left_by name true z e = ap Left (eqb-true name SOUNDS z)
-left_by name false z e = absurd (subst IsOther (sym same ∙ e) tt)
-  where
-    same : out_of_scope SOUNDS (Left name) ≡ Left name
-    same = rw z refl
-
--- what has come to the scope's end has left it
-left_it : (layout : Layout) (run : Ran) (o : Outcome) → run.outcome ≡ o → (outside layout run).outcome ≡ Done →
-    run.outcome ≡ Left SOUNDS
-left_it layout run Done e come = absurd (subst IsOther (sym same ∙ come) tt)
-  where
-    same : (outside layout run).outcome ≡ Stuck
-    same = rw e refl
-left_it layout run (Left name) e come = e ∙ left_by name (nat_eq name SOUNDS) refl (sym same ∙ come)
-  where
-    same : (outside layout run).outcome ≡ out_of_scope SOUNDS (Left name)
-    same = rw e refl
-left_it layout run Again e come = absurd (subst IsOther (sym same ∙ come) tt)
-  where
-    same : (outside layout run).outcome ≡ Again
-    same = rw e refl
-left_it layout run Stuck e come = absurd (subst IsOther (sym same ∙ come) tt)
-  where
-    same : (outside layout run).outcome ≡ Stuck
-    same = rw e refl
-
-same_desk : (layout : Layout) (run : Ran) → run.outcome ≡ Left SOUNDS → run.desk ≡ (outside layout run).desk
-same_desk layout run e = rw e refl
 
 -- ---- both ways
 
@@ -69,18 +28,7 @@ ticks : (layout : Layout) (rows voice : ℕ) (tree : Tree) (desk : Desk) (t : Ti
     Leads (reader_of layout rows voice desk) tree (ways_of voice t (lent_of layout desk) (voice_desk layout voice desk))
     (voice_desk layout voice desk) → (b : Bool) → t.started ≡ b →
     Ticks layout rows voice desk (ran each_one layout tree desk) t
-ticks layout rows voice tree desk t leaves room uses few at leads false e =
-    let p = plays layout rows voice tree desk t.playing leaves room uses few at
-    (leads_on true r tree ways (ends Q) d
-    (record {
-      done = λ m done. done.done;
-      left = λ name m q. absurd (never name m q);
-      again = λ m q. q;
-    }) leads) in
-    record {
-      way = p.but_slides.ends ∙ ap way_of (sym e);
-      plays = come_there layout rows voice desk run run t.playing refl p;
-    }
+ticks layout rows voice tree desk t stores room uses few at leads b e = by_way b e
   where
     r : Reader
     r = reader_of layout rows voice desk
@@ -97,45 +45,40 @@ ticks layout rows voice tree desk t leaves room uses few at leads false e =
     Q : VoiceDesk → Type 0
     Q = IsDone voice t.playing (lent_of layout desk) d
 
-    never : (name : ℕ) (m : VoiceDesk) → ways.Left name m → ⊥
-    never name m q = by_name (nat_eq name SOUNDS) q
-      where
-        by_name : (z : Bool) → Either z (TickDone voice t true (lent_of layout desk) d m) ⊥ → ⊥
-        by_name true done = both_ways t.started e done.is
-        by_name false none = none
-ticks layout rows voice tree desk t leaves room uses few at leads true e =
-    let p = plays layout rows voice (ScopeTree SOUNDS (ThenTree tree NeverTree)) desk t.playing (rw leaves refl) room
-    uses few at
-    (leads_on true r tree ways (done_as (λ m. ⊥) (in_scope SOUNDS (ends Q))) d
-    (record {
-      done = λ m done. absurd (both_ways t.started done.is e);
-      left = λ name m q. by_name (nat_eq name SOUNDS) m q;
-      again = λ m q. q;
-    }) leads) in
-    let way = left_it layout run run.outcome refl p.but_slides.ends in record {
-      way = way ∙ ap way_of (sym e);
-      plays = come_there layout rows voice desk run (outside layout run) t.playing (same_desk layout run way) p;
-    }
-  where
-    r : Reader
-    r = reader_of layout rows voice desk
+    ended : t.started ≡ false → (z : Bool) (m : VoiceDesk) →
+        Either z (TickDone voice t true (lent_of layout desk) d m) ⊥ → ⊥
+    ended e true m done = both_ways t.started e done.is
+    ended e false m none = none
 
-    d : VoiceDesk
-    d = voice_desk layout voice desk
+    left : (z : Bool) (m : VoiceDesk) → Either z (TickDone voice t true (lent_of layout desk) d m) ⊥ → Either z (Q m) ⊥
+    left true m done = done.done
+    left false m none = none
 
-    run : Ran
-    run = ran each_one layout tree desk
-
-    ways : Ways
-    ways = ways_of voice t (lent_of layout desk) d
-
-    Q : VoiceDesk → Type 0
-    Q = IsDone voice t.playing (lent_of layout desk) d
-
-    by_name : (z : Bool) (m : VoiceDesk) → Either z (TickDone voice t true (lent_of layout desk) d m) ⊥ →
-        Either z (Q m) ⊥
-    by_name true m done = done.done
-    by_name false m none = none
+    by_way : (b : Bool) → t.started ≡ b → Ticks layout rows voice desk run t
+    by_way false e =
+        let went = ends_still layout rows voice tree desk Q stores room uses few at
+        (leads_on true r tree ways (ends Q) d
+        (record {
+          done = λ m done. done.done;
+          left = λ name m q. ended e (nat_eq name SOUNDS) m q;
+          again = λ m q. q;
+        }) leads) in
+        record {
+          way = went.way ∙ ap way_of (sym e);
+          plays = plays_so layout rows voice desk Q (there run) t.playing went.came (λ m q. q);
+        }
+    by_way true e =
+        let went = leaves_still SOUNDS layout rows voice tree desk Q stores room uses few at
+        (leads_on true r tree ways (leaves SOUNDS Q) d
+        (record {
+          done = λ m done. absurd (both_ways t.started done.is e);
+          left = λ name m q. left (nat_eq name SOUNDS) m q;
+          again = λ m q. q;
+        }) leads) in
+        record {
+          way = went.way ∙ ap way_of (sym e);
+          plays = plays_so layout rows voice desk Q (there run) t.playing went.came (λ m q. q);
+        }
 
 -- ---- the lists
 

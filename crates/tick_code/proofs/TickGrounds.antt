@@ -1,11 +1,11 @@
 -- What the code of the tick step stands on, and where its ways lead.
+pub use Rattle.command_code.proofs.Laws.{SpeedAt}
 use Rattle.std.proofs.Common.{◌≡◌, ◌≢◌, ℕ, ◌+◌, ◌%◌, ◌<◌, Bool, true, false, nat_eq}
-use Rattle.song_model.specs.declared.tables.TableName.TheVariants.{Speed}
 use Rattle.play_model.specs.LookUps.{LookUps}
 use Rattle.play_model.specs.State.{Playing}
 use Rattle.play_model.specs.TickStep.{Ticked, tick_step}
 use Rattle.player_memory.specs.declared.labels.TheConstants.{ADS, SRS, WAVES, PULSES, FILTERS, VIBRATOS, DELAYS}
-use Rattle.player_memory.specs.declared.labels.TheConstants.{GATE_TIMERS, FIRST_WAVES, SPEED_LEFTS, SPEED_RIGHTS}
+use Rattle.player_memory.specs.declared.labels.TheConstants.{GATE_TIMERS, FIRST_WAVES}
 use Rattle.player_desk.proofs.Laws.{VoiceDesk, Reader, Ways, Lent, Done, Reads, place_at}
 use Rattle.player_desk.proofs.VoiceDesks.{Either}
 use Rattle.player_text.specs.declared.joints.TheConstants.{SOUNDS}
@@ -25,11 +25,6 @@ pub record InstrumentAt (r : Reader) (look : LookUps) (number : ℕ) : Type 0 wh
   pub gate_timer : Reads r (place_at r GATE_TIMERS number) (look.instrument number).gate_timer
   pub first_wave : Reads r (place_at r FIRST_WAVES number) (look.instrument number).first_wave
   pub gate_timer_byte : (look.instrument number).gate_timer < 256
-
--- a row of the speed table
-pub record SpeedAt (r : Reader) (look : LookUps) (p : ℕ) : Type 0 where
-  pub left : Reads r (place_at r SPEED_LEFTS p) (look.row Speed p).left
-  pub right : Reads r (place_at r SPEED_RIGHTS p) (look.row Speed p).right
 
 -- what is read at a row: the voice's instrument, and for command $E the row of the speed table that its parameter names
 pub record TickGround (r : Reader) (look : LookUps) (s : Playing) : Type 0 where

@@ -5,10 +5,6 @@ use Rattle.std.proofs.Common.{ap, subst, arith}
 use Rattle.std.proofs.lemmas.Bool.{lt-ltb, true≢false, both_ways}
 use Rattle.play_model.specs.TickStep.{tempo_of, tick_step, at_row as done_at_row, note_started, row_command}
 use Rattle.scopes.specs.Meaning.{Outcome, Left}
-use Rattle.player_memory.specs.declared.conditions.TheConstants.{SET_AD, SET_SR, SET_WAVE, SET_WAVE_POINTER}
-use Rattle.player_memory.specs.declared.conditions.TheConstants.{SET_PULSE_POINTER, SET_FILTER_POINTER}
-use Rattle.player_memory.specs.declared.conditions.TheConstants.{SET_FILTER_CONTROL, SET_CUTOFF, SET_VOLUME, FUNK_TEMPO}
-use Rattle.player_memory.specs.declared.conditions.TheConstants.{SET_TEMPO}
 use Rattle.player_memory.specs.declared.labels.TheConstants.{TEMPO, ADS, SRS, WAVES, PULSES, FILTERS, VIBRATOS, DELAYS}
 use Rattle.player_memory.specs.declared.labels.TheConstants.{GATE_TIMERS, FIRST_WAVES}
 use Rattle.player_memory.specs.Rooms.{IsRoom, IsElsewhere, MayUse}
@@ -16,7 +12,7 @@ use Rattle.player_memory.specs.Playing.{own_at, shared_at, place_in, IsListed, I
 use Rattle.player_text.specs.declared.joints.TheConstants.{SOUNDS, TICKED}
 use Rattle.player_desk.proofs.Laws.{fields_stand, shared_stand}
 use Rattle.tick_code.specs.TickBlock.{HasInstrument, HasTickLists, IsInLists, KeepsCommand, KeepsTick}
-use Rattle.tick_code.specs.WorkedTick.{laid, bare, with_one, look, waiting, memory, TickIsWorked}
+use Rattle.tick_code.specs.WorkedTick.{laid, bare, look, waiting, memory, TickIsWorked}
 
 abbrev is_left : ℕ → Outcome → Bool
 is_left name (Left other) = nat_eq other name
@@ -143,279 +139,15 @@ at_row = record {
 }
 
 keeps : KeepsTick laid 2 waiting
-keeps = record {
-  command = λ now. record {
-    ad = λ e. absurd (omega (arith, e));
-    sr = λ e. absurd (omega (arith, e));
-    wave = λ e. absurd (omega (arith, e));
-    wave_pointer = λ e. absurd (omega (arith, e));
-    pulse_pointer = λ e. absurd (omega (arith, e));
-    filter_pointer = λ e. absurd (omega (arith, e));
-    filter_control = λ e. absurd (omega (arith, e));
-    cutoff = λ e. absurd (omega (arith, e));
-    volume = λ e. absurd (omega (arith, e));
-    funk = λ e. absurd (omega (arith, e));
-    funk_chosen = λ e short. absurd (omega (arith, short));
-    length = λ e long. refl;
-  };
-  length = λ past short. absurd (omega (arith, past));
-}
+keeps = record { command = λ now. refl; length = λ past short. absurd (omega (arith, past)) }
 
 runs : (command param : ℕ) → command ≤ 4 → KeepsCommand bare command param
-runs command param few = record {
-  ad = λ e. absurd (omega (arith, e, few));
-  sr = λ e. absurd (omega (arith, e, few));
-  wave = λ e. absurd (omega (arith, e, few));
-  wave_pointer = λ e. absurd (omega (arith, e, few));
-  pulse_pointer = λ e. absurd (omega (arith, e, few));
-  filter_pointer = λ e. absurd (omega (arith, e, few));
-  filter_control = λ e. absurd (omega (arith, e, few));
-  cutoff = λ e. absurd (omega (arith, e, few));
-  volume = λ e. absurd (omega (arith, e, few));
-  funk = λ e. absurd (omega (arith, e, few));
-  funk_chosen = λ e short. absurd (omega (arith, e, few));
-  length = λ e long. absurd (omega (arith, e, few));
-}
-
-idle : KeepsCommand bare 0xF 2
-idle = record {
-  ad = λ e. absurd (omega (arith, e));
-  sr = λ e. absurd (omega (arith, e));
-  wave = λ e. absurd (omega (arith, e));
-  wave_pointer = λ e. absurd (omega (arith, e));
-  pulse_pointer = λ e. absurd (omega (arith, e));
-  filter_pointer = λ e. absurd (omega (arith, e));
-  filter_control = λ e. absurd (omega (arith, e));
-  cutoff = λ e. absurd (omega (arith, e));
-  volume = λ e. absurd (omega (arith, e));
-  funk = λ e. absurd (omega (arith, e));
-  funk_chosen = λ e short. absurd (omega (arith, short));
-  length = λ e long. absurd (omega (arith, long));
-}
-
-idle_up : KeepsCommand bare 0xF 0x80
-idle_up = record {
-  ad = λ e. absurd (omega (arith, e));
-  sr = λ e. absurd (omega (arith, e));
-  wave = λ e. absurd (omega (arith, e));
-  wave_pointer = λ e. absurd (omega (arith, e));
-  pulse_pointer = λ e. absurd (omega (arith, e));
-  filter_pointer = λ e. absurd (omega (arith, e));
-  filter_control = λ e. absurd (omega (arith, e));
-  cutoff = λ e. absurd (omega (arith, e));
-  volume = λ e. absurd (omega (arith, e));
-  funk = λ e. absurd (omega (arith, e));
-  funk_chosen = λ e short. absurd (omega (arith, short));
-  length = λ e long. absurd (omega (arith, long));
-}
-
-idle_last : KeepsCommand bare 0xF 0x82
-idle_last = record {
-  ad = λ e. absurd (omega (arith, e));
-  sr = λ e. absurd (omega (arith, e));
-  wave = λ e. absurd (omega (arith, e));
-  wave_pointer = λ e. absurd (omega (arith, e));
-  pulse_pointer = λ e. absurd (omega (arith, e));
-  filter_pointer = λ e. absurd (omega (arith, e));
-  filter_control = λ e. absurd (omega (arith, e));
-  cutoff = λ e. absurd (omega (arith, e));
-  volume = λ e. absurd (omega (arith, e));
-  funk = λ e. absurd (omega (arith, e));
-  funk_chosen = λ e short. absurd (omega (arith, short));
-  length = λ e long. absurd (omega (arith, long));
-}
-
-ad_kept : KeepsCommand (with_one SET_AD) 5 0
-ad_kept = record {
-  ad = λ e. refl;
-  sr = λ e. absurd (omega (arith, e));
-  wave = λ e. absurd (omega (arith, e));
-  wave_pointer = λ e. absurd (omega (arith, e));
-  pulse_pointer = λ e. absurd (omega (arith, e));
-  filter_pointer = λ e. absurd (omega (arith, e));
-  filter_control = λ e. absurd (omega (arith, e));
-  cutoff = λ e. absurd (omega (arith, e));
-  volume = λ e. absurd (omega (arith, e));
-  funk = λ e. absurd (omega (arith, e));
-  funk_chosen = λ e short. absurd (omega (arith, e));
-  length = λ e long. absurd (omega (arith, e));
-}
-
-sr_kept : KeepsCommand (with_one SET_SR) 6 0
-sr_kept = record {
-  ad = λ e. absurd (omega (arith, e));
-  sr = λ e. refl;
-  wave = λ e. absurd (omega (arith, e));
-  wave_pointer = λ e. absurd (omega (arith, e));
-  pulse_pointer = λ e. absurd (omega (arith, e));
-  filter_pointer = λ e. absurd (omega (arith, e));
-  filter_control = λ e. absurd (omega (arith, e));
-  cutoff = λ e. absurd (omega (arith, e));
-  volume = λ e. absurd (omega (arith, e));
-  funk = λ e. absurd (omega (arith, e));
-  funk_chosen = λ e short. absurd (omega (arith, e));
-  length = λ e long. absurd (omega (arith, e));
-}
-
-wave_kept : KeepsCommand (with_one SET_WAVE) 7 0
-wave_kept = record {
-  ad = λ e. absurd (omega (arith, e));
-  sr = λ e. absurd (omega (arith, e));
-  wave = λ e. refl;
-  wave_pointer = λ e. absurd (omega (arith, e));
-  pulse_pointer = λ e. absurd (omega (arith, e));
-  filter_pointer = λ e. absurd (omega (arith, e));
-  filter_control = λ e. absurd (omega (arith, e));
-  cutoff = λ e. absurd (omega (arith, e));
-  volume = λ e. absurd (omega (arith, e));
-  funk = λ e. absurd (omega (arith, e));
-  funk_chosen = λ e short. absurd (omega (arith, e));
-  length = λ e long. absurd (omega (arith, e));
-}
-
-wave_pointer_kept : KeepsCommand (with_one SET_WAVE_POINTER) 8 0
-wave_pointer_kept = record {
-  ad = λ e. absurd (omega (arith, e));
-  sr = λ e. absurd (omega (arith, e));
-  wave = λ e. absurd (omega (arith, e));
-  wave_pointer = λ e. refl;
-  pulse_pointer = λ e. absurd (omega (arith, e));
-  filter_pointer = λ e. absurd (omega (arith, e));
-  filter_control = λ e. absurd (omega (arith, e));
-  cutoff = λ e. absurd (omega (arith, e));
-  volume = λ e. absurd (omega (arith, e));
-  funk = λ e. absurd (omega (arith, e));
-  funk_chosen = λ e short. absurd (omega (arith, e));
-  length = λ e long. absurd (omega (arith, e));
-}
-
-pulse_pointer_kept : KeepsCommand (with_one SET_PULSE_POINTER) 9 0
-pulse_pointer_kept = record {
-  ad = λ e. absurd (omega (arith, e));
-  sr = λ e. absurd (omega (arith, e));
-  wave = λ e. absurd (omega (arith, e));
-  wave_pointer = λ e. absurd (omega (arith, e));
-  pulse_pointer = λ e. refl;
-  filter_pointer = λ e. absurd (omega (arith, e));
-  filter_control = λ e. absurd (omega (arith, e));
-  cutoff = λ e. absurd (omega (arith, e));
-  volume = λ e. absurd (omega (arith, e));
-  funk = λ e. absurd (omega (arith, e));
-  funk_chosen = λ e short. absurd (omega (arith, e));
-  length = λ e long. absurd (omega (arith, e));
-}
-
-filter_pointer_kept : KeepsCommand (with_one SET_FILTER_POINTER) 0xA 0
-filter_pointer_kept = record {
-  ad = λ e. absurd (omega (arith, e));
-  sr = λ e. absurd (omega (arith, e));
-  wave = λ e. absurd (omega (arith, e));
-  wave_pointer = λ e. absurd (omega (arith, e));
-  pulse_pointer = λ e. absurd (omega (arith, e));
-  filter_pointer = λ e. refl;
-  filter_control = λ e. absurd (omega (arith, e));
-  cutoff = λ e. absurd (omega (arith, e));
-  volume = λ e. absurd (omega (arith, e));
-  funk = λ e. absurd (omega (arith, e));
-  funk_chosen = λ e short. absurd (omega (arith, e));
-  length = λ e long. absurd (omega (arith, e));
-}
-
-filter_control_kept : KeepsCommand (with_one SET_FILTER_CONTROL) 0xB 0
-filter_control_kept = record {
-  ad = λ e. absurd (omega (arith, e));
-  sr = λ e. absurd (omega (arith, e));
-  wave = λ e. absurd (omega (arith, e));
-  wave_pointer = λ e. absurd (omega (arith, e));
-  pulse_pointer = λ e. absurd (omega (arith, e));
-  filter_pointer = λ e. absurd (omega (arith, e));
-  filter_control = λ e. refl;
-  cutoff = λ e. absurd (omega (arith, e));
-  volume = λ e. absurd (omega (arith, e));
-  funk = λ e. absurd (omega (arith, e));
-  funk_chosen = λ e short. absurd (omega (arith, e));
-  length = λ e long. absurd (omega (arith, e));
-}
-
-cutoff_kept : KeepsCommand (with_one SET_CUTOFF) 0xC 0
-cutoff_kept = record {
-  ad = λ e. absurd (omega (arith, e));
-  sr = λ e. absurd (omega (arith, e));
-  wave = λ e. absurd (omega (arith, e));
-  wave_pointer = λ e. absurd (omega (arith, e));
-  pulse_pointer = λ e. absurd (omega (arith, e));
-  filter_pointer = λ e. absurd (omega (arith, e));
-  filter_control = λ e. absurd (omega (arith, e));
-  cutoff = λ e. refl;
-  volume = λ e. absurd (omega (arith, e));
-  funk = λ e. absurd (omega (arith, e));
-  funk_chosen = λ e short. absurd (omega (arith, e));
-  length = λ e long. absurd (omega (arith, e));
-}
-
-volume_kept : KeepsCommand (with_one SET_VOLUME) 0xD 0
-volume_kept = record {
-  ad = λ e. absurd (omega (arith, e));
-  sr = λ e. absurd (omega (arith, e));
-  wave = λ e. absurd (omega (arith, e));
-  wave_pointer = λ e. absurd (omega (arith, e));
-  pulse_pointer = λ e. absurd (omega (arith, e));
-  filter_pointer = λ e. absurd (omega (arith, e));
-  filter_control = λ e. absurd (omega (arith, e));
-  cutoff = λ e. absurd (omega (arith, e));
-  volume = λ e. refl;
-  funk = λ e. absurd (omega (arith, e));
-  funk_chosen = λ e short. absurd (omega (arith, e));
-  length = λ e long. absurd (omega (arith, e));
-}
-
-funk_kept : KeepsCommand (with_one FUNK_TEMPO) 0xE 0
-funk_kept = record {
-  ad = λ e. absurd (omega (arith, e));
-  sr = λ e. absurd (omega (arith, e));
-  wave = λ e. absurd (omega (arith, e));
-  wave_pointer = λ e. absurd (omega (arith, e));
-  pulse_pointer = λ e. absurd (omega (arith, e));
-  filter_pointer = λ e. absurd (omega (arith, e));
-  filter_control = λ e. absurd (omega (arith, e));
-  cutoff = λ e. absurd (omega (arith, e));
-  volume = λ e. absurd (omega (arith, e));
-  funk = λ e. refl;
-  funk_chosen = λ e short. absurd (omega (arith, e));
-  length = λ e long. absurd (omega (arith, e));
-}
-
-funk_chosen_kept : KeepsCommand (with_one FUNK_TEMPO) 0xF 1
-funk_chosen_kept = record {
-  ad = λ e. absurd (omega (arith, e));
-  sr = λ e. absurd (omega (arith, e));
-  wave = λ e. absurd (omega (arith, e));
-  wave_pointer = λ e. absurd (omega (arith, e));
-  pulse_pointer = λ e. absurd (omega (arith, e));
-  filter_pointer = λ e. absurd (omega (arith, e));
-  filter_control = λ e. absurd (omega (arith, e));
-  cutoff = λ e. absurd (omega (arith, e));
-  volume = λ e. absurd (omega (arith, e));
-  funk = λ e. absurd (omega (arith, e));
-  funk_chosen = λ e short. refl;
-  length = λ e long. absurd (omega (arith, long));
-}
-
-length_kept : KeepsCommand (with_one SET_TEMPO) 0xF 3
-length_kept = record {
-  ad = λ e. absurd (omega (arith, e));
-  sr = λ e. absurd (omega (arith, e));
-  wave = λ e. absurd (omega (arith, e));
-  wave_pointer = λ e. absurd (omega (arith, e));
-  pulse_pointer = λ e. absurd (omega (arith, e));
-  filter_pointer = λ e. absurd (omega (arith, e));
-  filter_control = λ e. absurd (omega (arith, e));
-  cutoff = λ e. absurd (omega (arith, e));
-  volume = λ e. absurd (omega (arith, e));
-  funk = λ e. absurd (omega (arith, e));
-  funk_chosen = λ e short. absurd (omega (arith, short));
-  length = λ e long. refl;
-}
+runs zero param few = tt
+runs (suc zero) param few = tt
+runs (suc (suc zero)) param few = tt
+runs (suc (suc (suc zero))) param few = tt
+runs (suc (suc (suc (suc zero)))) param few = tt
+runs (suc (suc (suc (suc (suc command))))) param few = absurd (omega (arith, few))
 
 pub tick_is_worked : TickIsWorked
 unfolding tick_step done_at_row note_started row_command
@@ -445,21 +177,21 @@ tick_is_worked = record {
   };
   commands = record {
     runs = runs;
-    idle = idle;
-    idle_up = idle_up;
-    idle_last = idle_last;
-    ad = ad_kept;
-    sr = sr_kept;
-    wave = wave_kept;
-    wave_pointer = wave_pointer_kept;
-    pulse_pointer = pulse_pointer_kept;
-    filter_pointer = filter_pointer_kept;
-    filter_control = filter_control_kept;
-    cutoff = cutoff_kept;
-    volume = volume_kept;
-    funk = funk_kept;
-    funk_chosen = funk_chosen_kept;
-    length = length_kept;
+    idle = tt;
+    idle_up = tt;
+    idle_last = tt;
+    ad = refl;
+    sr = refl;
+    wave = refl;
+    wave_pointer = refl;
+    pulse_pointer = refl;
+    filter_pointer = refl;
+    filter_control = refl;
+    cutoff = refl;
+    volume = refl;
+    funk = refl;
+    funk_chosen = refl;
+    length = refl;
   };
   lengths = record {
     goes_on = record {
@@ -496,7 +228,7 @@ tick_is_worked = record {
     goes_on = λ ticks. (let e = ticks.way in absurd (cc));
     elsewhere = λ ticks. (let e = ticks.way in both_ways (is_left SOUNDS (Left TICKED)) refl (ap (is_left SOUNDS) e));
     gate = λ ticks. (let byte = ticks.plays.but_slides.plays.own.1.1.1.1.1.1.1.1.1.1.1.1.1.1.0 in omega (arith, byte));
-    place = λ ticks. (let byte = ticks.plays.but_slides.elsewhere 0x3000
+    place = λ ticks. (let byte = ticks.plays.but_slides.stays.elsewhere 0x3000
         (elsewhere 0x3000 (omega arith) (omega arith)) in
         omega (arith, byte));
   };

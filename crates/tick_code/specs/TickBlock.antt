@@ -10,12 +10,10 @@ use Rattle.scopes.specs.Trees.{Tree, NoneTree, ThenTree, ScopeTree}
 use Rattle.scopes.specs.Meaning.{Outcome, Done, Left, Ran, each_one, ran}
 use Rattle.scope_lines.specs.Reach.{nothing_around, has_lines}
 use Rattle.scope_lines.specs.Sizes.{size}
-use Rattle.player_memory.specs.declared.conditions.TheConstants.{SET_AD, SET_SR, SET_WAVE, SET_WAVE_POINTER}
-use Rattle.player_memory.specs.declared.conditions.TheConstants.{SET_PULSE_POINTER, SET_FILTER_POINTER}
-use Rattle.player_memory.specs.declared.conditions.TheConstants.{SET_FILTER_CONTROL, SET_CUTOFF, SET_VOLUME, FUNK_TEMPO}
-use Rattle.player_memory.specs.declared.conditions.TheConstants.{SET_TEMPO}
+use Rattle.player_memory.specs.declared.conditions.TheConstants.{FUNK_TEMPO}
 use Rattle.player_memory.specs.declared.labels.TheConstants.{ADS, SRS, WAVES, PULSES, FILTERS, VIBRATOS, DELAYS}
 use Rattle.player_memory.specs.declared.labels.TheConstants.{GATE_TIMERS, FIRST_WAVES, SPEED_LEFTS, SPEED_RIGHTS}
+use Rattle.player_memory.specs.Commands.{condition_of, AreKept}
 use Rattle.player_memory.specs.Rooms.{IsRoom, MayUse}
 use Rattle.player_text.specs.declared.joints.TheConstants.{SOUNDS, TICKED}
 use Rattle.player_text.specs.Steps.{tick_tree as step_tree}
@@ -40,21 +38,9 @@ pub record TickBlockHasLines : Type 0 where
 abbrev pub IsRowDone : Playing → Type 0
 IsRowDone s = byte_minus s.voice.tick 1 ≡ 0
 
--- Which lines are kept for a row's command: its own. Of command $F those that set a length where the last seven bits
--- are 3 or more, and those that choose a funk tempo for 0 and 1.
-pub record KeepsCommand (layout : Layout) (command param : ℕ) : Type 0 where
-  pub ad : command ≡ 5 → layout.holds SET_AD ≡ true
-  pub sr : command ≡ 6 → layout.holds SET_SR ≡ true
-  pub wave : command ≡ 7 → layout.holds SET_WAVE ≡ true
-  pub wave_pointer : command ≡ 8 → layout.holds SET_WAVE_POINTER ≡ true
-  pub pulse_pointer : command ≡ 9 → layout.holds SET_PULSE_POINTER ≡ true
-  pub filter_pointer : command ≡ 0xA → layout.holds SET_FILTER_POINTER ≡ true
-  pub filter_control : command ≡ 0xB → layout.holds SET_FILTER_CONTROL ≡ true
-  pub cutoff : command ≡ 0xC → layout.holds SET_CUTOFF ≡ true
-  pub volume : command ≡ 0xD → layout.holds SET_VOLUME ≡ true
-  pub funk : command ≡ 0xE → layout.holds FUNK_TEMPO ≡ true
-  pub funk_chosen : command ≡ 0xF → param ≤ 1 → layout.holds FUNK_TEMPO ≡ true
-  pub length : command ≡ 0xF → 3 ≤ param % 128 → layout.holds SET_TEMPO ≡ true
+-- the lines of a row's command are kept
+abbrev pub KeepsCommand : Layout → ℕ → ℕ → Type 0
+KeepsCommand layout command param = AreKept layout (condition_of command param)
 
 -- Where the row is done the lines of its command are kept; and where the tick falls below 0 those of the funk tempos,
 -- if the tempo is 0 or 1.

@@ -8,15 +8,14 @@ use Rattle.scopes.specs.Desk.{Desk, Layout}
 use Rattle.scopes.specs.Meaning.{Outcome, Left, each_one, ran}
 use Rattle.player_memory.specs.declared.conditions.TheConstants.{SKIP_EFFECTS}
 use Rattle.player_memory.specs.Rooms.{IsRoom, MayUse}
-use Rattle.player_memory.specs.Playing.{IsAtVoice}
+use Rattle.player_memory.specs.Playing.{IsAtVoice, there}
 use Rattle.player_text.specs.declared.joints.TheConstants.{RUNNING, EFFECTED}
-use Rattle.player_desk.proofs.Laws.{VoiceDesk, Reader, Lent, Leads, ends, in_scope, done_as, leads_on}
-use Rattle.player_desk.proofs.Laws.{reader_of, voice_desk, lent_of, begins}
+use Rattle.player_desk.proofs.Laws.{VoiceDesk, Reader, Lent, Leads, leaves, leads_on}
+use Rattle.player_desk.proofs.Laws.{leaves_still, plays_so, reader_of, voice_desk, lent_of, begins}
 use Rattle.player_desk.proofs.VoiceDesks.{Either}
 use Rattle.wave_code.specs.EffectBlock.{effect_begun_tree, left_out, running, way_of, state_of, Begins}
 use Rattle.wave_code.specs.EffectBlock.{EffectBlockBegins}
 use Rattle.wave_code.proofs.Effects.{AtEffected, AtRunning, effect_ways, effect_leads}
-use Rattle.wave_code.proofs.Leaving.{leaves_so}
 
 -- outcomes by numbers
 abbrev number_of : Outcome → ℕ
@@ -30,16 +29,17 @@ begins_running : (layout : Layout) (rows voice : ℕ) (look : LookUps) (s : Play
     (voice_desk layout voice desk) → way_of (layout.holds SKIP_EFFECTS) s.voice ≡ Left RUNNING →
     Begins layout rows voice desk (ran each_one layout effect_begun_tree desk) look s
 begins_running layout rows voice look s desk room uses few at leads way =
-    let went = leaves_so RUNNING layout rows voice effect_begun_tree desk (state_of (layout.holds SKIP_EFFECTS) look s)
-    refl room uses few at (AtRunning r look s handed d)
-    (λ P f.
-    leads_on true r effect_begun_tree (effect_ways r look s handed d) (done_as (λ m. ⊥) (in_scope RUNNING (ends P))) d
+    let Q = AtRunning r look s handed d in
+    let went = leaves_still RUNNING layout rows voice effect_begun_tree desk Q refl room uses few at
+    (leads_on true r effect_begun_tree (effect_ways r look s handed d) (leaves RUNNING Q) d
     (record {
       done = λ m q. q;
-      left = λ name m q. on (nat_eq name RUNNING) (nat_eq name EFFECTED) P m f q;
+      left = λ name m q. on (nat_eq name RUNNING) (nat_eq name EFFECTED) m q;
       again = λ m q. q;
-    }) leads) (λ m q. q.done) in
-    record { way = went.way ∙ sym way; plays = went.plays; a = λ e. went.a ∙ went.holds.a }
+    }) leads) in
+    let plays = plays_so layout rows voice desk Q (there (ran each_one layout effect_begun_tree desk))
+    (state_of (layout.holds SKIP_EFFECTS) look s) went.came (λ m q. q.done) in
+    record { way = went.way ∙ sym way; plays = plays; a = λ e. went.came.shows.a ∙ went.came.holds.1.a }
   where
     r : Reader
     r = reader_of layout rows voice desk
@@ -50,12 +50,12 @@ begins_running layout rows voice look s desk room uses few at leads way =
     handed : Lent
     handed = lent_of layout desk
 
-    on : (x y : Bool) (P : VoiceDesk → Type 0) (m : VoiceDesk) →
-        ((k : VoiceDesk) → AtRunning r look s handed d k → P k) →
-        Either x (AtRunning r look s handed d m) (Either y (AtEffected r look s handed d m) ⊥) → Either x (P m) ⊥
-    on true y P m f q = f m q
-    on false true P m f q = (let n = ap number_of (sym way ∙ q.way) in omega (arith, n))
-    on false false P m f q = q
+    on : (x y : Bool) (m : VoiceDesk) →
+        Either x (AtRunning r look s handed d m) (Either y (AtEffected r look s handed d m) ⊥) →
+        Either x (AtRunning r look s handed d m) ⊥
+    on true y m q = q
+    on false true m q = (let n = ap number_of (sym way ∙ q.way) in omega (arith, n))
+    on false false m q = q
 
 begins_effected : (layout : Layout) (rows voice : ℕ) (look : LookUps) (s : Playing) (desk : Desk) →
     IsRoom layout rows → MayUse layout rows → voice < 3 → IsAtVoice voice desk →
@@ -64,18 +64,19 @@ begins_effected : (layout : Layout) (rows voice : ℕ) (look : LookUps) (s : Pla
     (voice_desk layout voice desk) → way_of (layout.holds SKIP_EFFECTS) s.voice ≡ Left EFFECTED →
     Begins layout rows voice desk (ran each_one layout effect_begun_tree desk) look s
 begins_effected layout rows voice look s desk room uses few at leads way =
-    let went = leaves_so EFFECTED layout rows voice effect_begun_tree desk (state_of (layout.holds SKIP_EFFECTS) look s)
-    refl room uses few at (AtEffected r look s handed d)
-    (λ P f.
-    leads_on true r effect_begun_tree (effect_ways r look s handed d) (done_as (λ m. ⊥) (in_scope EFFECTED (ends P))) d
+    let Q = AtEffected r look s handed d in
+    let went = leaves_still EFFECTED layout rows voice effect_begun_tree desk Q refl room uses few at
+    (leads_on true r effect_begun_tree (effect_ways r look s handed d) (leaves EFFECTED Q) d
     (record {
       done = λ m q. q;
-      left = λ name m q. on (nat_eq name RUNNING) (nat_eq name EFFECTED) P m f q;
+      left = λ name m q. on (nat_eq name RUNNING) (nat_eq name EFFECTED) m q;
       again = λ m q. q;
-    }) leads) (λ m q. q.done) in
+    }) leads) in
+    let plays = plays_so layout rows voice desk Q (there (ran each_one layout effect_begun_tree desk))
+    (state_of (layout.holds SKIP_EFFECTS) look s) went.came (λ m q. q.done) in
     record {
       way = went.way ∙ sym way;
-      plays = went.plays;
+      plays = plays;
       a = λ e. (let n = ap number_of (sym way ∙ e) in absurd (omega (arith, n)));
     }
   where
@@ -88,12 +89,12 @@ begins_effected layout rows voice look s desk room uses few at leads way =
     handed : Lent
     handed = lent_of layout desk
 
-    on : (x y : Bool) (P : VoiceDesk → Type 0) (m : VoiceDesk) →
-        ((k : VoiceDesk) → AtEffected r look s handed d k → P k) →
-        Either x (AtRunning r look s handed d m) (Either y (AtEffected r look s handed d m) ⊥) → Either y (P m) ⊥
-    on true y P m f q = (let n = ap number_of (sym way ∙ q.way) in absurd (omega (arith, n)))
-    on false true P m f q = f m q
-    on false false P m f q = q
+    on : (x y : Bool) (m : VoiceDesk) →
+        Either x (AtRunning r look s handed d m) (Either y (AtEffected r look s handed d m) ⊥) →
+        Either y (AtEffected r look s handed d m) ⊥
+    on true y m q = (let n = ap number_of (sym way ∙ q.way) in absurd (omega (arith, n)))
+    on false true m q = q
+    on false false m q = q
 
 -- the way is one of the two
 way_out : (skips : Bool) (s : Playing) → left_out skips s.voice ≡ true → way_of skips s.voice ≡ Left EFFECTED

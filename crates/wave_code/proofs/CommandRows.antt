@@ -21,8 +21,8 @@ use Rattle.player_desk.proofs.VoiceDesks.{Either}
 use Rattle.wave_code.specs.CommandBlock.{command_row_tree, KeepsOnce, lent_out}
 use Rattle.wave_code.proofs.StoredRows.{low_four}
 use Rattle.wave_code.proofs.Pieces.{ONCE, read_tree, from_index, from_ad}
-use Rattle.wave_code.proofs.OnceParts.{tempos_kept}
-use Rattle.wave_code.proofs.Once.{OnceDone, once_leads, do_eight, do_last}
+use Rattle.command_code.proofs.Laws.{tempos_kept, do_eight, do_over}
+use Rattle.wave_code.proofs.Once.{OnceDone, once_leads}
 
 -- ---- the rule
 
@@ -38,7 +38,7 @@ wave_once look c x s from =
       | inl eight ↦ (let same = eight.1 in sym (do_eight c x s same) ∙ rw same refl)
       | inr other ↦
           elim (eqb_tells c 14) [
-            | inl last ↦ (let same = last.1 in sym (do_last c x s same) ∙ rw same refl)
+            | inl last ↦ (let same = last.1 in sym (do_over c x s (omega (arith, same))) ∙ rw same refl)
             | inr apart ↦
                 let a : nat_eq c 0 ≡ false = ne_eqb c 0 (λ e. omega (arith, e, from)) in
                 let b : nat_eq c 1 ≡ false = ne_eqb c 1 (λ e. omega (arith, e, from)) in

@@ -1,19 +1,26 @@
 -- The code of a command of the wave table, in memory.
-use Rattle.std.proofs.Common.{◌≡◌, ℕ, ◌≤◌, Bool, true, false, nat_eq, inl, inr, refl, sym, ap, ◌∙◌, arith}
+use Rattle.std.proofs.Common.{◌≡◌, ℕ, zero, suc, ◌≤◌, Bool, true, false, nat_eq, inl, inr, refl, sym, ap}
+use Rattle.std.proofs.Common.{◌∙◌, arith}
 use Rattle.std.proofs.lemmas.Bool.{ne_eqb}
 use Rattle.std.proofs.lemmas.Bool.Decides.{eqb_tells}
-use Rattle.play_model.specs.LookUps.{LookUps}
+use Rattle.song_model.specs.Silence.{empty_song}
+use Rattle.scopes.specs.Desk.{Layout}
+use Rattle.play_model.specs.LookUps.{LookUps, look_ups_of}
 use Rattle.play_model.specs.State.{Playing}
 use Rattle.play_model.specs.Helpers.{do_command}
 use Rattle.play_model.specs.WaveStep.{program_moved, wave_command}
-use Rattle.player_memory.specs.declared.labels.TheConstants.{WAVE_RIGHTS}
+use Rattle.player_memory.specs.declared.conditions.TheConstants.{WAVE_COMMAND}
+use Rattle.player_memory.specs.declared.labels.TheConstants.{WAVE_RIGHTS, LENT, KEPT_COMMAND, KEPT_PARAM}
+use Rattle.scopes.specs.Meaning.{each_one, ran}
+use Rattle.player_memory.specs.Playing.{there}
 use Rattle.player_text.specs.declared.joints.TheConstants.{RUNNING, EFFECTED}
-use Rattle.player_desk.proofs.Laws.{VoiceDesk, Reader, Lent, Leads, ends, in_scope, done_as, leads_on}
-use Rattle.player_desk.proofs.Laws.{reader_of, voice_desk, lent_of, begins, finds}
+use Rattle.player_desk.proofs.Laws.{VoiceDesk, Reader, Ways, Lent, Leads, leaves, leads_on, SharedSpot}
+use Rattle.player_desk.proofs.Laws.{is_playing, song_stays, others_stay, all_slides_stay}
+use Rattle.player_desk.proofs.Laws.{leaves_still, plays_so, reader_of, voice_desk, lent_of, begins, finds}
 use Rattle.player_desk.proofs.VoiceDesks.{Either}
-use Rattle.wave_code.specs.CommandBlock.{command_row_tree, CommandBlockDoes, CommandsLeaveTheProgram}
+use Rattle.wave_code.specs.CommandBlock.{command_row_tree, CommandBlockDoes, CommandsLeaveTheProgram, KeepsOnce}
+use Rattle.wave_code.specs.CommandBlock.{lent_out, CommandBlockLends}
 use Rattle.wave_code.proofs.CommandRows.{AtOnce, AtLent, command_ways, command_row_leads, wave_once, wave_none}
-use Rattle.wave_code.proofs.Leaving.{leaves_so}
 
 -- ---- the program
 
@@ -73,22 +80,23 @@ commands_leave_the_program look c x p s which =
           ∙ (moves_once look c x p s ∙ wave_once look c x (program_moved look p s) from)
     ]
 
--- ---- the clause
+-- ---- the clauses
 
 pub command_block_does : CommandBlockDoes
 command_block_does layout rows voice number command param look s desk room uses few at playing here which keeps =
-    let went = leaves_so EFFECTED layout rows voice command_row_tree desk (wave_command look command param s) refl
-    room uses
-    few at (AtOnce r look command param s handed d)
-    (λ P f.
-    leads_on true r command_row_tree (command_ways r look command param s handed d)
-    (done_as (λ m. ⊥) (in_scope EFFECTED (ends P))) d
+    let Q = AtOnce r look command param s handed d in
+    let went = leaves_still EFFECTED layout rows voice command_row_tree desk Q refl room uses few at
+    (leads_on true r command_row_tree (command_ways r look command param s handed d) (leaves EFFECTED Q) d
     (record {
       done = λ m q. q;
-      left = λ name m q. on (nat_eq name RUNNING) (nat_eq name EFFECTED) P m f q;
+      left = λ name m q. on (nat_eq name RUNNING) (nat_eq name EFFECTED) m q;
       again = λ m q. q;
-    }) leads) (λ m q. q.done) in
-    record { way = went.way; plays = went.plays }
+    }) leads) in
+    record {
+      way = went.way;
+      plays = plays_so layout rows voice desk Q (there (ran each_one layout command_row_tree desk))
+          (wave_command look command param s) went.came (λ m q. q.done);
+    }
   where
     r : Reader
     r = reader_of layout rows voice desk
@@ -112,10 +120,77 @@ command_block_does layout rows voice number command param look s desk room uses 
           | inr from ↦ (let l = from in omega (arith, l, most))
         ]
 
-    on : (x y : Bool) (P : VoiceDesk → Type 0) (m : VoiceDesk) →
-        ((k : VoiceDesk) → AtOnce r look command param s handed d k → P k) →
+    on : (x y : Bool) (m : VoiceDesk) →
         Either x (AtLent r command param s d m) (Either y (AtOnce r look command param s handed d m) ⊥) →
-        Either y (P m) ⊥
-    on true y P m f q = absurd (apart q.least q.most)
-    on false true P m f q = f m q
-    on false false P m f q = q
+        Either y (AtOnce r look command param s handed d m) ⊥
+    on true y m q = absurd (apart q.least q.most)
+    on false true m q = q
+    on false false m q = q
+
+-- of a command that is lent no code is kept but that of the wave table's commands
+keeps_lent : (layout : Layout) (command : ℕ) → command ≤ 4 → layout.holds WAVE_COMMAND ≡ true →
+    KeepsOnce layout command
+keeps_lent layout zero most kept = record { commands = kept; lines = tt }
+keeps_lent layout (suc zero) most kept = record { commands = kept; lines = tt }
+keeps_lent layout (suc (suc zero)) most kept = record { commands = kept; lines = tt }
+keeps_lent layout (suc (suc (suc zero))) most kept = record { commands = kept; lines = tt }
+keeps_lent layout (suc (suc (suc (suc zero)))) most kept = record { commands = kept; lines = tt }
+keeps_lent layout (suc (suc (suc (suc (suc command))))) most kept = absurd (omega (arith, most))
+
+-- it looks nothing up
+any_look : LookUps
+any_look = look_ups_of empty_song
+
+pub command_block_lends : CommandBlockLends
+command_block_lends layout rows voice number command param s desk room uses few at playing here least most kept =
+    let Q = AtLent r command param s d in
+    let went = leaves_still RUNNING layout rows voice command_row_tree desk Q refl room uses few at
+    (leads_on true r command_row_tree ways (leaves RUNNING Q) d
+    (record {
+      done = λ m q. q;
+      left = λ name m q. on (nat_eq name RUNNING) (nat_eq name EFFECTED) m q;
+      again = λ m q. q;
+    }) leads) in
+    let m = went.came.after in
+    let shows = went.came.shows in
+    let done = went.came.holds.1.done in
+    let behind = (ran each_one layout command_row_tree desk).desk in record {
+      way = went.way;
+      a = shows.a ∙ went.came.holds.1.a;
+      at_voice = went.came.at_voice;
+      plays = is_playing layout rows voice desk (lent_out command param s) behind m shows done.fields done.common
+          done.tempos;
+      song = song_stays layout rows voice desk behind m shows done.song;
+      lent = shows.memory (SharedSpot LENT) refl ∙ done.lent.lent;
+      kept_command = shows.memory (SharedSpot KEPT_COMMAND) refl ∙ done.lent.command (λ e. omega (arith, e));
+      kept_param = shows.memory (SharedSpot KEPT_PARAM) refl ∙ done.lent.param (λ e. omega (arith, e));
+      stays = others_stay layout rows voice desk behind m shows done.sid;
+      slides = all_slides_stay layout rows voice desk behind m shows went.came.holds.0;
+    }
+  where
+    r : Reader
+    r = reader_of layout rows voice desk
+
+    d : VoiceDesk
+    d = voice_desk layout voice desk
+
+    ways : Ways
+    ways = command_ways r any_look command param s (lent_of layout desk) d
+
+    leads : Leads r command_row_tree ways d
+    leads =
+        command_row_leads r any_look command param number s (lent_of layout desk) d d here.few here.byte
+        (finds layout rows voice desk WAVE_RIGHTS number _ here.listed) here.lent
+        (keeps_lent layout command most kept) here.a here.y (begins layout voice desk s playing)
+
+    on : (x y : Bool) (m : VoiceDesk) →
+        Either x (AtLent r command param s d m)
+        (Either y (AtOnce r any_look command param s (lent_of layout desk) d m) ⊥) →
+        Either x (AtLent r command param s d m) ⊥
+    on true y m q = q
+    on false true m q =
+        elim q.which [
+          | inl none ↦ (let e = none in omega (arith, e, least))
+          | inr from ↦ (let l = from in omega (arith, l, most))
+        ]
+    on false false m q = q

@@ -8,7 +8,6 @@ mod WaveGrounds
 -- The code on the desk of a voice.
 mod Waves
 -- The code in memory.
-mod Leaving
 mod Stepping
 -- Worked by hand.
 mod WorkedWave
@@ -18,7 +17,6 @@ mod Effects
 mod Beginning
 -- A command of the wave table.
 mod Pieces
-mod OnceParts
 mod Once
 mod CommandRows
 mod Commanding

@@ -13,15 +13,16 @@ use Rattle.player_memory.specs.declared.labels.TheConstants.{WAVE_LEFTS, NEXT_WA
 use Rattle.player_memory.specs.Rooms.{IsRoom, MayUse}
 use Rattle.player_memory.specs.Playing.{place_in, IsAtVoice, Plays}
 use Rattle.player_text.specs.declared.joints.TheConstants.{PITCHED, COMMANDED}
-use Rattle.player_desk.proofs.Laws.{VoiceDesk, Reader, Lent, Leads, ends, in_scope, done_as, leads_on, Reads}
-use Rattle.player_desk.proofs.Laws.{reader_of, voice_desk, lent_of, finds, begins}
+use Rattle.player_desk.proofs.Laws.{VoiceDesk, Reader, Lent, Leads, leaves, leads_on, Reads}
+use Rattle.player_desk.proofs.Laws.{ends, ends_still}
+use Rattle.player_desk.proofs.Laws.{leaves_still, plays_so, reader_of, voice_desk, lent_of, finds, begins}
 use Rattle.player_desk.proofs.VoiceDesks.{Either}
-use Rattle.wave_code.specs.WaveBlock.{wave_tree, stored_left, stored_right, its_row, begun, way_of, state_of}
+use Rattle.wave_code.specs.WaveBlock.{wave_tree, its_row, begun, way_of, state_of}
+use Rattle.player_memory.specs.Forms.{stored_left, stored_right}
 use Rattle.wave_code.specs.WaveBlock.{HasWaveTable, HasNote, Waves, WaveBlockSteps}
 use Rattle.player_memory.specs.Playing.{there}
 use Rattle.wave_code.proofs.WaveGrounds.{RowAt, NextAt, WaveGround, AtEnd, AtPitch, AtCommand, wave_ways}
 use Rattle.wave_code.proofs.Waves.{wave_leads}
-use Rattle.wave_code.proofs.Leaving.{ends_so, leaves_so}
 
 -- ---- the three ways
 
@@ -54,19 +55,20 @@ ways_end : (layout : Layout) (rows voice : ℕ) (look : LookUps) (s : Playing) (
     (wave_ways voice look s (lent_of layout desk) (voice_desk layout voice desk)) (voice_desk layout voice desk) →
     (wave_step look s).effect ≡ true → Waves layout rows voice desk (ran each_one layout wave_tree desk) look s
 ways_end layout rows voice look s desk room uses few at leads runs =
-    let went = ends_so layout rows voice wave_tree desk (wave_step look s).playing refl room uses few at
-    (AtEnd voice look s handed d)
-    (λ P f.
-    leads_on true r wave_tree (wave_ways voice look s handed d) (ends P) d
+    let Q = AtEnd voice look s handed d in
+    let went = ends_still layout rows voice wave_tree desk Q refl room uses few at
+    (leads_on true r wave_tree (wave_ways voice look s handed d) (ends Q) d
     (record {
-      done = f;
-      left = λ name m q. none (nat_eq name PITCHED) (nat_eq name COMMANDED) P name m q;
+      done = λ m q. q;
+      left = λ name m q. none (nat_eq name PITCHED) (nat_eq name COMMANDED) m q;
       again = λ m q. q;
-    }) leads) (λ m q. q.done) in
+    }) leads) in
+    let plays = plays_so layout rows voice desk Q (there (ran each_one layout wave_tree desk))
+    (wave_step look s).playing went.came (λ m q. q.done) in
     record {
       way = went.way ∙ sym (way_end look s runs);
       plays = subst (Plays layout rows voice desk (there (ran each_one layout wave_tree desk)))
-          (sym (state_end look s runs)) went.plays;
+          (sym (state_end look s runs)) plays;
       note = λ e. (let n = ap number_of (sym (way_end look s runs) ∙ e) in absurd (omega (arith, n)));
       command = λ e. (let n = ap number_of (sym (way_end look s runs) ∙ e) in absurd (omega (arith, n)));
     }
@@ -80,11 +82,11 @@ ways_end layout rows voice look s desk room uses few at leads runs =
     handed : Lent
     handed = lent_of layout desk
 
-    none : (x y : Bool) (P : VoiceDesk → Type 0) (name : ℕ) (m : VoiceDesk) →
+    none : (x y : Bool) (m : VoiceDesk) →
         Either x (AtPitch voice look s handed d m) (Either y (AtCommand voice look s handed d m) ⊥) → ⊥
-    none true y P name m q = both_ways (wave_step look s).effect q.rests runs
-    none false true P name m q = both_ways (wave_step look s).effect q.rests runs
-    none false false P name m q = q
+    none true y m q = both_ways (wave_step look s).effect q.rests runs
+    none false true m q = both_ways (wave_step look s).effect q.rests runs
+    none false false m q = q
 
 ways_pitch : (layout : Layout) (rows voice : ℕ) (look : LookUps) (s : Playing) (desk : Desk) → IsRoom layout rows →
     MayUse layout rows → voice < 3 → IsAtVoice voice desk →
@@ -93,20 +95,21 @@ ways_pitch : (layout : Layout) (rows voice : ℕ) (look : LookUps) (s : Playing)
     (wave_step look s).effect ≡ false → is_wave_command (its_row look s.voice) ≡ false →
     Waves layout rows voice desk (ran each_one layout wave_tree desk) look s
 ways_pitch layout rows voice look s desk room uses few at leads rests note_row =
-    let went = leaves_so PITCHED layout rows voice wave_tree desk (begun look s) refl room uses few at
-    (AtPitch voice look s handed d)
-    (λ P f.
-    leads_on true r wave_tree (wave_ways voice look s handed d) (done_as (λ m. ⊥) (in_scope PITCHED (ends P))) d
+    let Q = AtPitch voice look s handed d in
+    let went = leaves_still PITCHED layout rows voice wave_tree desk Q refl room uses few at
+    (leads_on true r wave_tree (wave_ways voice look s handed d) (leaves PITCHED Q) d
     (record {
       done = λ m q. both_ways (wave_step look s).effect rests q.runs;
-      left = λ name m q. on (nat_eq name PITCHED) (nat_eq name COMMANDED) P m f q;
+      left = λ name m q. on (nat_eq name PITCHED) (nat_eq name COMMANDED) m q;
       again = λ m q. q;
-    }) leads) (λ m q. q.done) in
+    }) leads) in
+    let plays = plays_so layout rows voice desk Q (there (ran each_one layout wave_tree desk))
+    (begun look s) went.came (λ m q. q.done) in
     record {
       way = went.way ∙ sym (way_pitch look s rests note_row);
       plays = subst (Plays layout rows voice desk (there (ran each_one layout wave_tree desk)))
-          (sym (state_begun look s rests)) went.plays;
-      note = λ e. subst (HasNote look s) (sym went.a) went.holds.note;
+          (sym (state_begun look s rests)) plays;
+      note = λ e. subst (HasNote look s) (sym went.came.shows.a) went.came.holds.1.note;
       command = λ e. (let n = ap number_of (sym (way_pitch look s rests note_row) ∙ e) in absurd (omega (arith, n)));
     }
   where
@@ -119,12 +122,12 @@ ways_pitch layout rows voice look s desk room uses few at leads rests note_row =
     handed : Lent
     handed = lent_of layout desk
 
-    on : (x y : Bool) (P : VoiceDesk → Type 0) (m : VoiceDesk) →
-        ((k : VoiceDesk) → AtPitch voice look s handed d k → P k) →
-        Either x (AtPitch voice look s handed d m) (Either y (AtCommand voice look s handed d m) ⊥) → Either x (P m) ⊥
-    on true y P m f q = f m q
-    on false true P m f q = both_ways (is_wave_command (its_row look s.voice)) note_row q.is
-    on false false P m f q = q
+    on : (x y : Bool) (m : VoiceDesk) →
+        Either x (AtPitch voice look s handed d m) (Either y (AtCommand voice look s handed d m) ⊥) →
+        Either x (AtPitch voice look s handed d m) ⊥
+    on true y m q = q
+    on false true m q = both_ways (is_wave_command (its_row look s.voice)) note_row q.is
+    on false false m q = q
 
 ways_command : (layout : Layout) (rows voice : ℕ) (look : LookUps) (s : Playing) (desk : Desk) → IsRoom layout rows →
     MayUse layout rows → voice < 3 → IsAtVoice voice desk →
@@ -133,23 +136,24 @@ ways_command : (layout : Layout) (rows voice : ℕ) (look : LookUps) (s : Playin
     (wave_step look s).effect ≡ false → is_wave_command (its_row look s.voice) ≡ true →
     Waves layout rows voice desk (ran each_one layout wave_tree desk) look s
 ways_command layout rows voice look s desk room uses few at leads rests is =
-    let went = leaves_so COMMANDED layout rows voice wave_tree desk (begun look s) refl room uses few at
-    (AtCommand voice look s handed d)
-    (λ P f.
-    leads_on true r wave_tree (wave_ways voice look s handed d) (done_as (λ m. ⊥) (in_scope COMMANDED (ends P))) d
+    let Q = AtCommand voice look s handed d in
+    let went = leaves_still COMMANDED layout rows voice wave_tree desk Q refl room uses few at
+    (leads_on true r wave_tree (wave_ways voice look s handed d) (leaves COMMANDED Q) d
     (record {
       done = λ m q. both_ways (wave_step look s).effect rests q.runs;
-      left = λ name m q. on (nat_eq name PITCHED) (nat_eq name COMMANDED) P m f q;
+      left = λ name m q. on (nat_eq name PITCHED) (nat_eq name COMMANDED) m q;
       again = λ m q. q;
-    }) leads) (λ m q. q.done) in
+    }) leads) in
+    let plays = plays_so layout rows voice desk Q (there (ran each_one layout wave_tree desk))
+    (begun look s) went.came (λ m q. q.done) in
     record {
       way = went.way ∙ sym (way_command look s rests is);
       plays = subst (Plays layout rows voice desk (there (ran each_one layout wave_tree desk)))
-          (sym (state_begun look s rests)) went.plays;
+          (sym (state_begun look s rests)) plays;
       note = λ e. (let n = ap number_of (sym (way_command look s rests is) ∙ e) in absurd (omega (arith, n)));
       command = λ e. record {
-        left = went.a ∙ went.holds.command.left;
-        row = went.y ∙ went.holds.command.row;
+        left = went.came.shows.a ∙ went.came.holds.1.command.left;
+        row = went.came.shows.y ∙ went.came.holds.1.command.row;
       };
     }
   where
@@ -162,12 +166,12 @@ ways_command layout rows voice look s desk room uses few at leads rests is =
     handed : Lent
     handed = lent_of layout desk
 
-    on : (x y : Bool) (P : VoiceDesk → Type 0) (m : VoiceDesk) →
-        ((k : VoiceDesk) → AtCommand voice look s handed d k → P k) →
-        Either x (AtPitch voice look s handed d m) (Either y (AtCommand voice look s handed d m) ⊥) → Either y (P m) ⊥
-    on true y P m f q = absurd (both_ways (is_wave_command (its_row look s.voice)) q.none is)
-    on false true P m f q = f m q
-    on false false P m f q = q
+    on : (x y : Bool) (m : VoiceDesk) →
+        Either x (AtPitch voice look s handed d m) (Either y (AtCommand voice look s handed d m) ⊥) →
+        Either y (AtCommand voice look s handed d m) ⊥
+    on true y m q = absurd (both_ways (is_wave_command (its_row look s.voice)) q.none is)
+    on false true m q = q
+    on false false m q = q
 
 -- ---- the lists
 

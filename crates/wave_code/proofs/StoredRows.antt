@@ -4,7 +4,7 @@ use Rattle.std.proofs.Common.{nat_eq, nat_le, nat_lt}
 use Rattle.std.proofs.Common.{inl, inr, refl, sym, ap, ◌∙◌, bit_and, arith}
 use Rattle.std.proofs.lemmas.Bool.{le-leb, lt-leb, lt-ltb, le-ltb, cases_lt, agree_below_at, eqb-true, eqb-false}
 use Rattle.song_model.specs.declared.tables.TableRow.{TableRow}
-use Rattle.wave_code.specs.WaveBlock.{stored_left, stored_right}
+use Rattle.player_memory.specs.Forms.{stored_left, stored_right}
 
 -- ---- left sides
 

@@ -8,7 +8,10 @@ use Rattle.player_memory.specs.declared.labels.TheConstants.{WAVE_LEFTS, NEXT_WA
 use Rattle.player_text.specs.declared.joints.TheConstants.{PITCHED, COMMANDED}
 use Rattle.player_desk.proofs.Laws.{VoiceDesk, Reader, Ways, Lent, Done, Reads, place_at}
 use Rattle.player_desk.proofs.VoiceDesks.{Either}
-use Rattle.wave_code.specs.WaveBlock.{stored_left, stored_right, begun, its_row, HasNote, HasCommand}
+use Rattle.wave_code.specs.WaveBlock.{begun, its_row, HasNote, HasCommand}
+use Rattle.player_memory.specs.Forms.{stored_left, stored_right}
+use Rattle.play_model.specs.WaveStep.{right_done}
+use Rattle.wave_code.proofs.WaveRows.{held, moved}
 
 -- ---- what the code stands on
 
@@ -62,3 +65,20 @@ wave_ways voice look s handed d = record {
       (Either (nat_eq name COMMANDED) (AtCommand voice look s handed d m) ⊥);
   Again = λ m. ⊥;
 }
+
+-- ---- what holds on the way
+
+-- the row's left side is done, but for a command
+pub record AtNext (r : Reader) (look : LookUps) (s : Playing) (handed : Lent) (d m : VoiceDesk) : Type 0 where
+  pub wave : ℕ
+  pub done : Done r.voice (held wave s) handed d m
+  pub y : m.y ≡ s.voice.wave_ptr
+  pub is : begun look s ≡ moved look wave s
+  pub row : (its_row look s.voice).left < 0xF0 → wave_step look s ≡ right_done (its_row look s.voice) (begun look s)
+
+-- and the program has gone on
+pub record AtMoved (r : Reader) (look : LookUps) (s : Playing) (handed : Lent) (d m : VoiceDesk) : Type 0 where
+  pub done : Done r.voice (begun look s) handed d m
+  pub y : m.y ≡ s.voice.wave_ptr
+  pub carry : m.c ≡ false
+  pub row : (its_row look s.voice).left < 0xF0 → wave_step look s ≡ right_done (its_row look s.voice) (begun look s)

@@ -20,7 +20,8 @@ use Rattle.player_memory.specs.declared.labels.TheConstants.{NOTE, WAVE_POINTER,
 use Rattle.player_memory.specs.declared.labels.TheConstants.{WAVE_LEFTS, NEXT_WAVE_LEFTS, WAVE_RIGHTS, NEXT_WAVE_RIGHTS}
 use Rattle.player_desk.proofs.Laws.{VoiceDesk, Reader, Ways, Leads, done_as, in_scope, body_of, rest_of, joined, loaded}
 use Rattle.player_desk.proofs.Laws.{indexed, Fields, SameSong, Lent, Done, own_done, done_over, done_by, listed}
-use Rattle.wave_code.specs.WaveBlock.{wave_tree, stored_left, stored_right, its_row, begun, KeepsWave}
+use Rattle.wave_code.specs.WaveBlock.{wave_tree, its_row, begun, KeepsWave}
+use Rattle.player_memory.specs.Forms.{stored_left, stored_right}
 use Rattle.wave_code.proofs.WaveRows.{step_none, step_some, row_waits, row_over, row_wave, row_low, row_command}
 use Rattle.wave_code.proofs.WaveRows.{right_kept, right_note, note_relative, note_own, note_small, is_no_command}
 use Rattle.wave_code.proofs.WaveRows.{is_a_command}
@@ -29,7 +30,7 @@ use Rattle.wave_code.proofs.WaveRows.{begun_command}
 use Rattle.wave_code.proofs.StoredRows.{Kind, Delay, Sound, LowSound, Command, kind_of, is_jump_byte, is_jump_stored}
 use Rattle.wave_code.proofs.StoredRows.{high_left, low_left, below_last, below, stored_command, stored_note}
 use Rattle.wave_code.proofs.StoredRows.{stored_as_is, low_four, low_seven}
-use Rattle.wave_code.proofs.WaveGrounds.{RowAt, NextAt, WaveGround, AtEnd, AtPitch, wave_ways}
+use Rattle.wave_code.proofs.WaveGrounds.{RowAt, NextAt, WaveGround, AtEnd, AtPitch, wave_ways, AtNext, AtMoved}
 
 -- ---- the scopes, by their names
 
@@ -50,23 +51,6 @@ MOVED = 4
 
 abbrev FIXED : ℕ
 FIXED = 6
-
--- ---- what holds on the way
-
--- the row's left side is done, but for a command
-record AtNext (r : Reader) (look : LookUps) (s : Playing) (handed : Lent) (d m : VoiceDesk) : Type 0 where
-  wave : ℕ
-  done : Done r.voice (held wave s) handed d m
-  y : m.y ≡ s.voice.wave_ptr
-  is : begun look s ≡ moved look wave s
-  row : (its_row look s.voice).left < 0xF0 → wave_step look s ≡ right_done (its_row look s.voice) (begun look s)
-
--- and the program has gone on
-record AtMoved (r : Reader) (look : LookUps) (s : Playing) (handed : Lent) (d m : VoiceDesk) : Type 0 where
-  done : Done r.voice (begun look s) handed d m
-  y : m.y ≡ s.voice.wave_ptr
-  carry : m.c ≡ false
-  row : (its_row look s.voice).left < 0xF0 → wave_step look s ≡ right_done (its_row look s.voice) (begun look s)
 
 abbrev its_ways : Reader → LookUps → Playing → Lent → VoiceDesk → Ways
 its_ways r look s handed d = in_scope IDLE (wave_ways r.voice look s handed d)

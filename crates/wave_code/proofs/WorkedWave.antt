@@ -6,7 +6,7 @@ use Rattle.play_model.specs.LookUps.{LookUps}
 use Rattle.player_memory.specs.declared.labels.TheConstants.{WAVE_LEFTS, WAVE_RIGHTS}
 use Rattle.player_memory.specs.Playing.{place_in, IsListed, IsRow}
 use Rattle.wave_code.specs.WorkedWave.{its_rows, worked_layout, worked_rows, WavesAreWorked, RowsAreWorked}
-use Rattle.wave_code.specs.WaveBlock.{stored}
+use Rattle.player_memory.specs.Forms.{stored}
 
 pub waves_are_worked : WavesAreWorked
 waves_are_worked = record {

@@ -7,30 +7,24 @@ use Rattle.play_model.specs.WaveStep.{program_moved, wave_command}
 use Rattle.scopes.specs.Desk.{Desk, Layout}
 use Rattle.scopes.specs.Trees.{Tree, tree_of}
 use Rattle.scopes.specs.Meaning.{Left, Ran, each_one, ran}
-use Rattle.player_memory.specs.declared.conditions.TheConstants.{WAVE_COMMAND, SET_AD, SET_SR, SET_WAVE}
-use Rattle.player_memory.specs.declared.conditions.TheConstants.{SET_PULSE_POINTER, SET_FILTER_POINTER}
-use Rattle.player_memory.specs.declared.conditions.TheConstants.{SET_FILTER_CONTROL, SET_CUTOFF, SET_VOLUME}
-use Rattle.player_memory.specs.declared.labels.TheConstants.{WAVE_RIGHTS, LENT}
+use Rattle.player_memory.specs.declared.conditions.TheConstants.{WAVE_COMMAND}
+use Rattle.player_memory.specs.declared.labels.TheConstants.{WAVE_RIGHTS, LENT, KEPT_COMMAND, KEPT_PARAM}
+use Rattle.player_memory.specs.declared.variables.TheConstants.{SONG_BYTES}
+use Rattle.player_memory.specs.Commands.{condition_of_both, AreKept}
 use Rattle.player_memory.specs.Rooms.{IsRoom, MayUse}
-use Rattle.player_memory.specs.Playing.{IsListed, IsPlaying, IsAtVoice, Plays, shared_at}
-use Rattle.player_text.specs.declared.joints.TheConstants.{EFFECTED}
+use Rattle.player_memory.specs.Playing.{IsListed, IsPlaying, IsAtVoice, Plays, own_at, shared_at, AreSame}
+use Rattle.player_memory.specs.Playing.{OthersStay, AllSlidesStay}
+use Rattle.player_text.specs.declared.joints.TheConstants.{RUNNING, EFFECTED}
 use Rattle.player_text.specs.declared.effect.TheConstants.{COMMAND_ROW}
 use Rattle.player_memory.specs.Playing.{there}
 
 abbrev pub command_row_tree : Tree
 command_row_tree = tree_of (flat_map (λ piece. piece.now) COMMAND_ROW.now)
 
--- the code of commands of the wave table is kept, and of the commands that are done once that of this one
+-- the code of commands of the wave table is kept, and of a command that is done once its lines
 pub record KeepsOnce (layout : Layout) (command : ℕ) : Type 0 where
   pub commands : layout.holds WAVE_COMMAND ≡ true
-  pub ad : command ≡ 5 → layout.holds SET_AD ≡ true
-  pub sr : command ≡ 6 → layout.holds SET_SR ≡ true
-  pub wave : command ≡ 7 → layout.holds SET_WAVE ≡ true
-  pub pulse_pointer : command ≡ 9 → layout.holds SET_PULSE_POINTER ≡ true
-  pub filter_pointer : command ≡ 0xA → layout.holds SET_FILTER_POINTER ≡ true
-  pub filter_control : command ≡ 0xB → layout.holds SET_FILTER_CONTROL ≡ true
-  pub cutoff : command ≡ 0xC → layout.holds SET_CUTOFF ≡ true
-  pub volume : command ≡ 0xD → layout.holds SET_VOLUME ≡ true
+  pub lines : AreKept layout (condition_of_both command)
 
 -- a command is lent, with its parameter, in the place of the voice's own
 abbrev pub lent_out : ℕ → ℕ → Playing → Playing
@@ -68,3 +62,28 @@ CommandBlockDoes =
     IsRoom layout rows → MayUse layout rows → voice < 3 → IsAtVoice voice desk → IsPlaying layout voice s desk.at →
     IsAtCommand layout rows desk number command param → IsOnce command → KeepsOnce layout command →
     Commands layout rows voice desk (ran each_one layout command_row_tree desk) (wave_command look command param s)
+
+-- The block has left to where the command runs, with it in A: the voice has it, with its parameter, and its own ones
+-- are kept meanwhile. Where the voice is in its song, the other voices, the registers, the slides and what is elsewhere
+-- it has left.
+pub record Lends (layout : Layout) (rows voice : ℕ) (before : Desk) (run : Ran) (command param : ℕ) (s : Playing)
+    : Type 0 where
+  pub way : run.outcome ≡ Left RUNNING
+  pub a : run.desk.cpu.a ≡ command
+  pub at_voice : IsAtVoice voice run.desk
+  pub plays : IsPlaying layout voice (lent_out command param s) run.desk.at
+  pub song : AreSame SONG_BYTES (own_at layout run.desk.at voice) (own_at layout before.at voice)
+  pub lent : shared_at layout run.desk.at LENT ≡ 1
+  pub kept_command : shared_at layout run.desk.at KEPT_COMMAND ≡ s.voice.command
+  pub kept_param : shared_at layout run.desk.at KEPT_PARAM ≡ s.voice.param
+  pub stays : OthersStay layout rows voice before.at run.desk.at
+  pub slides : AllSlidesStay layout rows run.desk.at before.at
+
+-- In any memory that holds a voice that is playing, the code lends one of the commands 1 to 4 to the effect step.
+abbrev pub CommandBlockLends : Type 0
+CommandBlockLends =
+    (layout : Layout) (rows voice number command param : ℕ) (s : Playing) (desk : Desk) →
+    IsRoom layout rows → MayUse layout rows → voice < 3 → IsAtVoice voice desk → IsPlaying layout voice s desk.at →
+    IsAtCommand layout rows desk number command param → 1 ≤ command → command ≤ 4 →
+    layout.holds WAVE_COMMAND ≡ true →
+    Lends layout rows voice desk (ran each_one layout command_row_tree desk) command param s

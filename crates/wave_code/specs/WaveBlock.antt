@@ -1,6 +1,5 @@
 -- The code of the wave step, and what it does. This is the project's own player.
-use Rattle.std.specs.Prelude.{◌≡◌, ◌≢◌, ℕ, ◌+◌, ◌-◌, ◌%◌, ◌<◌, ◌≤◌, ◌&&◌, true}
-use Rattle.std.specs.Prelude.{nat_lt, nat_le}
+use Rattle.std.specs.Prelude.{◌≡◌, ◌≢◌, ℕ, ◌+◌, ◌<◌, ◌≤◌, true}
 use Rattle.std.specs.Prelude.{if◌then◌else◌}
 use Rattle.song_model.specs.declared.tables.TableRow.{TableRow}
 use Rattle.song_model.specs.declared.tables.TableName.TheVariants.{Wave}
@@ -13,6 +12,7 @@ use Rattle.scopes.specs.Meaning.{Outcome, Done, Left, Ran, each_one, ran}
 use Rattle.player_memory.specs.declared.conditions.TheConstants.{WAVE_TABLE, WAVE_COMMAND}
 use Rattle.player_memory.specs.declared.labels.TheConstants.{WAVE_LEFTS, NEXT_WAVE_LEFTS, WAVE_RIGHTS, NEXT_WAVE_RIGHTS}
 use Rattle.player_memory.specs.Rooms.{IsRoom, MayUse}
+use Rattle.player_memory.specs.Forms.{stored}
 use Rattle.player_memory.specs.Playing.{IsTable, IsPlaying, IsAtVoice, Plays, there}
 use Rattle.player_text.specs.declared.joints.TheConstants.{PITCHED, COMMANDED}
 use Rattle.player_text.specs.declared.wave.TheConstants.{WAVE_STEP}
@@ -22,22 +22,8 @@ wave_tree = tree_of WAVE_STEP.now
 
 -- ---- the wave table in the lists
 
--- A delay stands there as $E0 to $EF, and a waveform below $10 as itself. All other left sides stand as they are.
-abbrev pub stored_left : ℕ → ℕ
-stored_left left =
-    if nat_lt left 0x10 then 0xE0 + left
-    else if nat_le 0xE0 left && nat_le left 0xEF then left - 0xE0
-    else left
-
--- Of a command and of a jump the right side stands as it is. Of each other row its bit 7 is turned.
-abbrev pub stored_right : TableRow → ℕ
-stored_right row = if nat_le 0xF0 row.left then row.right else (row.right + 0x80) % 256
-
-abbrev pub stored : TableRow → TableRow
-stored row = record { left = stored_left row.left; right = stored_right row }
-
--- The wave table stands in the lists in this form, also under the labels of the bytes behind those before the first
--- row; its right sides are bytes.
+-- The wave table stands in the lists in the form in which it is stored, also under the labels of the bytes behind
+-- those before the first row; its right sides are bytes.
 pub record HasWaveTable (layout : Layout) (rows : ℕ) (at : ℕ → ℕ) (look : LookUps) (count : ℕ) : Type 0 where
   pub table : IsTable layout rows at WAVE_LEFTS WAVE_RIGHTS count (λ number. stored (look.row Wave number))
   pub bytes : (number : ℕ) → 1 ≤ number → number ≤ count → (look.row Wave number).right < 256

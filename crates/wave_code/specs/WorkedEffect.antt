@@ -1,16 +1,19 @@
 -- The code that tells which effect runs, and that of a command of the wave table, run by hand.
 use Rattle.std.specs.Prelude.{◌≡◌, ℕ, ◌+◌, Bool, true, false, nat_eq, not}
-use Rattle.play_model.specs.State.{Voice, start_voice}
-use Rattle.scopes.specs.Desk.{Layout}
+use Rattle.code_runs.specs.Runs.{put}
+use Rattle.play_model.specs.State.{Voice, Playing, start_voice, start_common}
+use Rattle.scopes.specs.Desk.{Desk, Layout}
 use Rattle.scopes.specs.Meaning.{Outcome, Left, Ran, each_one, ran}
-use Rattle.player_memory.specs.declared.conditions.TheConstants.{SKIP_EFFECTS}
+use Rattle.player_memory.specs.declared.conditions.TheConstants.{SKIP_EFFECTS, WAVE_COMMAND}
 use Rattle.player_memory.specs.declared.labels.TheConstants.{TICK, COMMAND, PARAM, VIB_DELAY, AD, LENT, KEPT_COMMAND}
-use Rattle.player_memory.specs.declared.labels.TheConstants.{KEPT_PARAM}
+use Rattle.player_memory.specs.declared.labels.TheConstants.{KEPT_PARAM, REST}
+use Rattle.player_memory.specs.Rooms.{IsRoom, MayUse}
+use Rattle.player_memory.specs.Playing.{IsPlaying, IsAtVoice}
 use Rattle.player_memory.specs.WorkedMemory.{at_1000}
 use Rattle.player_memory.specs.WorkedPlays.{its_desk, with_variable}
 use Rattle.player_text.specs.declared.joints.TheConstants.{RUNNING, EFFECTED}
 use Rattle.wave_code.specs.EffectBlock.{effect_begun_tree, left_out, running, HasEffect, KeepsEffect}
-use Rattle.wave_code.specs.CommandBlock.{command_row_tree, IsOnce, KeepsOnce}
+use Rattle.wave_code.specs.CommandBlock.{command_row_tree, IsOnce, KeepsOnce, IsAtCommand, Lends}
 use Rattle.wave_code.specs.WorkedWave.{worked_layout, worked_rows}
 
 -- ---- which effect runs
@@ -69,10 +72,13 @@ pub record RunningIsWorked : Type 0 where
 -- ---- a command of the wave table
 
 -- the third voice with command 2 and parameter 9, and a command in A, whose row of the wave table is the fourth
-abbrev pub commanded : Bool → ℕ → Ran
-commanded kept a =
+abbrev pub at_row : ℕ → Desk
+at_row a =
     let desk = its_desk 14 false (with_variable (COMMAND + 14) 2 (with_variable (PARAM + 14) 9 worked_rows)) in
-    ran each_one (worked_layout kept) command_row_tree (record desk { cpu = record desk.cpu { a = a; y = 4 } })
+    record desk { cpu = record desk.cpu { a = a; y = 4 } }
+
+abbrev pub commanded : Bool → ℕ → Ran
+commanded kept a = ran each_one (worked_layout kept) command_row_tree (at_row a)
 
 abbrev pub shared_left : Ran → ℕ → ℕ
 shared_left run label = run.desk.at (0x1006 + label)
@@ -97,4 +103,57 @@ pub record CommandsAreWorked : Type 0 where
   pub last : IsCommanded (commanded true 0xFE) (Left EFFECTED) 2 9 0 0 24
   pub lent_one : ¬ IsOnce 4
   pub kept : KeepsOnce (worked_layout true) 5
+  pub kept_alone : KeepsOnce (record at_1000 { holds = λ condition. nat_eq condition WAVE_COMMAND }) 8
   pub not_kept : ¬ KeepsOnce (worked_layout false) 0
+  pub lines_not_kept : ¬ KeepsOnce (record at_1000 { holds = λ condition. nat_eq condition WAVE_COMMAND }) 5
+
+-- ---- what the law on a lent command asks is met there
+
+-- the state in which all bytes are 0 but the command and the parameter; a vibrato's delay of 1 stands as 0
+abbrev pub all_rests : Playing
+all_rests = record {
+  voice = record start_voice { tick = 0; instrument = 0; gate = 0; command = 2; param = 9; vib_delay = 1 };
+  common = record (start_common 0) { volume = 0 };
+}
+
+-- command 1 is lent, with the row's parameter, and this is left
+abbrev pub LendsTo : Ran → Type 0
+LendsTo run = Lends (worked_layout true) 4 2 (at_row 0xF1) run 1 0xA7 all_rests
+
+abbrev pub lent_run : Ran
+lent_run = commanded true 0xF1
+
+-- with another byte of a variable, or elsewhere
+abbrev pub with_byte : ℕ → ℕ → Ran
+with_byte place byte = record lent_run { desk = record lent_run.desk { at = put lent_run.desk.at place byte } }
+
+abbrev pub with_other : ℕ → ℕ → Ran
+with_other label byte = with_byte (0x1006 + label) byte
+
+pub record LendingIsWorked : Type 0 where
+  pub room : IsRoom (worked_layout true) 4
+  pub uses : MayUse (worked_layout true) 4
+  pub at_voice : IsAtVoice 2 (at_row 0xF1)
+  pub playing : IsPlaying (worked_layout true) 2 all_rests (at_row 0xF1).at
+  pub at_command : IsAtCommand (worked_layout true) 4 (at_row 0xF1) 4 1 0xA7
+  pub lends : LendsTo lent_run
+  -- it doesn't stand in another row, nor has it another number, nor is one lent already
+  pub row : ¬ IsAtCommand (worked_layout true) 4 (at_row 0xF1) 3 1 0xA7
+  pub number : ¬ IsAtCommand (worked_layout true) 4 (at_row 0xF2) 4 1 0xA7
+  pub already : ¬ IsAtCommand (worked_layout true) 4 lent_run.desk 4 1 0xA7
+  -- it isn't done by going on elsewhere, nor with another number in A, or another voice's number in X
+  pub effected : ¬ LendsTo (record lent_run { outcome = Left EFFECTED })
+  pub other_a : ¬ LendsTo (record lent_run { desk = record lent_run.desk { cpu = record lent_run.desk.cpu { a = 2 } } })
+  pub other_x : ¬ LendsTo (record lent_run { desk = record lent_run.desk { cpu = record lent_run.desk.cpu { x = 7 } } })
+  -- the voice has the command, and not its own, which is kept
+  pub own : ¬ LendsTo (with_other (COMMAND + 14) 2)
+  pub param : ¬ LendsTo (with_other (PARAM + 14) 9)
+  pub not_lent : ¬ LendsTo (with_other LENT 0)
+  pub kept_command : ¬ LendsTo (with_other KEPT_COMMAND 1)
+  pub kept_param : ¬ LendsTo (with_other KEPT_PARAM 0xA7)
+  -- all else is left
+  pub song : ¬ LendsTo (with_other (REST + 14) 1)
+  pub other : ¬ LendsTo (with_other TICK 1)
+  pub register : ¬ LendsTo (with_byte 0xD404 1)
+  pub elsewhere : ¬ LendsTo (with_byte 0x2000 1)
+  pub slide : ¬ LendsTo (with_byte 0x1107 1)

@@ -2,8 +2,8 @@
 //! which effect runs; and of a command of the wave table.
 //!
 //! Its contracts: in any memory that holds a voice that is playing, the code leaves the voice's bytes as the rule
-//! leaves its state, and all else, and goes on to where the rule does. Of a command that is lent to the effect step the
-//! clause is one of proofs, on the desk of a voice.
+//! leaves its state, and all else, and goes on to where the rule does. A command that is lent to the effect step goes on
+//! to where a frame of it is done, and the voice's own one is kept.
 //!
 //! It stands on `player_text` for the code, on `scopes` for what code means, on `player_memory` for what memory holds
 //! of a voice, and on `player_desk` for the tools of proof.
