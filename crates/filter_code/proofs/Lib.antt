@@ -1,3 +1,5 @@
+-- What upper crates may cite.
+pub mod Laws
 mod FilterRows
 mod Filters
 -- The code in memory.

@@ -7,3 +7,4 @@ mod Setting
 mod Giving
 -- Worked by hand.
 mod WorkedPitches
+mod WorkedVoices

@@ -1,16 +1,17 @@
 -- The code of a note's frequency in memory.
-use Rattle.std.proofs.Common.{ℕ, refl}
+use Rattle.std.proofs.Common.{ℕ, refl, arith}
 use Rattle.scopes.specs.Desk.{Desk, Layout}
 use Rattle.player_memory.specs.declared.labels.TheConstants.{FREQUENCY_LOWS, FREQUENCY_HIGHS}
 use Rattle.player_desk.proofs.Laws.{reader_of, voice_desk, lent_of, finds, begins, plays}
-use Rattle.pitch_code.specs.PitchBlock.{pitch_tree, HasFrequencies, PitchBlockSets}
+use Rattle.pitch_code.specs.PitchBlock.{pitch_tree, PitchBlockSets}
+use Rattle.player_memory.specs.Frequencies.{HasFrequencies}
 use Rattle.pitch_code.proofs.Frequencies.{FrequenciesAt, sounding, pitch_leads}
 
-pub frequencies_at : (layout : Layout) (rows voice : ℕ) (desk : Desk) → HasFrequencies layout rows desk.at →
+pub frequencies_at : (layout : Layout) (rows voice : ℕ) (desk : Desk) → HasFrequencies layout rows desk.at 97 →
     FrequenciesAt (reader_of layout rows voice desk)
 frequencies_at layout rows voice desk has = record {
-  low = λ note few. finds layout rows voice desk FREQUENCY_LOWS note _ (has.low note few);
-  high = λ note few. finds layout rows voice desk FREQUENCY_HIGHS note _ (has.high note few);
+  low = λ note few. finds layout rows voice desk FREQUENCY_LOWS note _ (has.low note (omega (arith, few)));
+  high = λ note few. finds layout rows voice desk FREQUENCY_HIGHS note _ (has.high note (omega (arith, few)));
 }
 
 pub pitch_block_sets : PitchBlockSets

@@ -8,7 +8,7 @@ use Rattle.scopes.specs.Meaning.{Outcome, Stuck}
 use Rattle.player_memory.specs.Rooms.{IsRoom, MayUse, AreSlides, IsElsewhere}
 use Rattle.player_memory.specs.Playing.{IsAtVoice, place_in}
 use Rattle.player_memory.specs.declared.labels.TheConstants.{FREQUENCY_LOWS, FREQUENCY_HIGHS}
-use Rattle.pitch_code.specs.PitchBlock.{HasFrequencies}
+use Rattle.player_memory.specs.Frequencies.{HasFrequencies}
 use Rattle.pitch_code.specs.WorkedPitches.{from_1000, with_lists, lending, NotesAreWorked, ReturnsAreWorked}
 use Rattle.pitch_code.specs.WorkedPitches.{OthersAreDenied}
 use Rattle.pitch_code.proofs.Giving.{given_back_block_gives}
@@ -23,7 +23,7 @@ elsewhere place from to = record {
   registers = inl (omega (arith, to));
 }
 
-low_is : (note : ℕ) → note ≤ 96 → with_lists (place_in from_1000 FREQUENCY_LOWS note) ≡ freq note % 256
+low_is : (note : ℕ) → note < 97 → with_lists (place_in from_1000 FREQUENCY_LOWS note) ≡ freq note % 256
 low_is note few =
     let place : (0x2000 + note) % 65536 ≡ 0x2000 + note = omega (arith, few) in
     let from : nat_lt (0x2000 + note) 0x2000 ≡ false = le-ltb (0x2000 + note) 0x2000 (omega arith) in
@@ -31,7 +31,7 @@ low_is note few =
     let number : 0x2000 + note - 0x2000 ≡ note = omega arith in
     rw (place, from, to, number) refl
 
-high_is : (note : ℕ) → note ≤ 96 → with_lists (place_in from_1000 FREQUENCY_HIGHS note) ≡ freq note / 256
+high_is : (note : ℕ) → note < 97 → with_lists (place_in from_1000 FREQUENCY_HIGHS note) ≡ freq note / 256
 high_is note few =
     let place : (0x2200 + note) % 65536 ≡ 0x2200 + note = omega (arith, few) in
     let from : nat_lt (0x2200 + note) 0x2000 ≡ false = le-ltb (0x2200 + note) 0x2000 (omega arith) in
@@ -41,7 +41,7 @@ high_is note few =
     let number : 0x2200 + note - 0x2200 ≡ note = omega arith in
     rw (place, from, behind, there, to, number) refl
 
-lists : HasFrequencies from_1000 0 with_lists
+lists : HasFrequencies from_1000 0 with_lists 97
 lists = record {
   low = λ note few. record {
     elsewhere = elsewhere (place_in from_1000 FREQUENCY_LOWS note) (omega (arith, few)) (omega (arith, few));
@@ -59,6 +59,9 @@ pub notes_are_worked : NotesAreWorked
 unfolding freq
 notes_are_worked = record {
   lists = lists;
+  more = λ has. (let byte = (has.low 97 (omega arith)).is in omega (arith, byte));
+  low_byte = λ has. (let byte = (has.low 96 (omega arith)).is in omega (arith, byte));
+  high_byte = λ has. (let byte = (has.high 96 (omega arith)).is in omega (arith, byte));
   last_note = refl;
   vib_time = refl;
   low = refl;
@@ -115,7 +118,7 @@ returns_are_worked = record {
   none_cost = refl;
 }
 
-abbrev is_stuck : Outcome → Bool
+abbrev pub is_stuck : Outcome → Bool
 is_stuck Stuck = true
 is_stuck _ = false
 

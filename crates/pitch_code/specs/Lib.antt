@@ -3,3 +3,4 @@ pub mod PitchBlock
 pub mod GivenBackBlock
 -- Claimed: memories in which a note is set and a command given back.
 pub mod WorkedPitches
+pub mod WorkedVoices

@@ -9,7 +9,8 @@ use Rattle.player_memory.specs.declared.labels.TheConstants.{LAST_NOTE, VIB_TIME
 use Rattle.player_memory.specs.declared.labels.TheConstants.{COMMAND, PARAM, LENT, FREQUENCY_LOWS, VARIABLES}
 use Rattle.player_memory.specs.Rooms.{IsRoom, MayUse}
 use Rattle.player_memory.specs.Playing.{own_at, IsAtVoice}
-use Rattle.pitch_code.specs.PitchBlock.{pitch_tree, HasFrequencies}
+use Rattle.player_memory.specs.Frequencies.{HasFrequencies}
+use Rattle.pitch_code.specs.PitchBlock.{pitch_tree}
 use Rattle.pitch_code.specs.GivenBackBlock.{given_back_tree, GivesBack, GivesNothing}
 
 -- the variables stand from $1000 on, the low bytes of the frequencies from $2000, and the high ones from $2200
@@ -61,7 +62,11 @@ byte_behind run label = own_at from_1000 run.desk.at 1 label
 
 -- A-4, B-7, which is the last note, the one behind it, and the last number
 pub record NotesAreWorked : Type 0 where
-  pub lists : HasFrequencies from_1000 0 with_lists
+  pub lists : HasFrequencies from_1000 0 with_lists 97
+  -- there are no more of them, nor with another byte in their place, of either list
+  pub more : ¬ HasFrequencies from_1000 0 with_lists 98
+  pub low_byte : ¬ HasFrequencies from_1000 0 (put with_lists 0x2060 1) 97
+  pub high_byte : ¬ HasFrequencies from_1000 0 (put with_lists 0x2260 1) 97
   pub last_note : byte_behind (sounded 57) LAST_NOTE ≡ 57
   pub vib_time : byte_behind (sounded 57) VIB_TIME ≡ 0
   pub low : byte_behind (sounded 57) FREQ_LOW ≡ 0x46

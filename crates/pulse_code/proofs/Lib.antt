@@ -1,3 +1,5 @@
+-- What upper crates may cite.
+pub mod Laws
 mod PulseRows
 mod Widths
 mod Pulses

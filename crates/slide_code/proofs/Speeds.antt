@@ -187,7 +187,8 @@ halving_ways g = done_as (Leads g.r NoneTree (whole_ways g)) (whole_ways g)
 once : (word : ℕ) → word / 2 ≡ word / 2 ^ 1
 once word = omega arith
 
-turns_lead : (g : Running) (turns left word : ℕ) (m : VoiceDesk) → m.y ≡ suc left → suc left ≤ turns → turns ≤ 16 →
+turns_lead : (g : Running) (turns left word : ℕ) (m : VoiceDesk) → m.y ≡ suc left → suc left ≤ turns →
+    turns ≤ 16 →
     Tells g g.s.voice m → IsWord m.low m.high word → word / 2 ^ suc left ≡ speed_of g.look g.s.voice →
     TurnsLead turns (Leads g.r halving) (halving_ways g) m
 turns_lead g zero left word m y few most tells halves is = absurd (omega (arith, few))

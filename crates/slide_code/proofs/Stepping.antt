@@ -2,24 +2,24 @@
 use Rattle.std.proofs.Common.{◌≡◌, ℕ, ◌+◌, ◌/◌, ◌%◌, ◌<◌, ◌≤◌, Bool, true, false, nat_eq}
 use Rattle.std.proofs.Common.{refl, sym, ap, ◌∙◌, subst}
 use Rattle.std.proofs.Common.{arith}
-use Rattle.std.proofs.lemmas.Bool.{both_ways, eqb-true}
+use Rattle.std.proofs.lemmas.Bool.{both_ways}
 use Rattle.song_model.specs.declared.tables.TableName.TheVariants.{Speed}
 use Rattle.play_model.specs.LookUps.{LookUps}
 use Rattle.play_model.specs.Freq.{freq}
 use Rattle.play_model.specs.State.{Playing}
 use Rattle.play_model.specs.WaveStep.{with_note}
 use Rattle.scopes.specs.Desk.{Desk, Layout}
-use Rattle.scopes.specs.Trees.{Tree, ThenTree, ScopeTree, NeverTree}
-use Rattle.scopes.specs.Meaning.{Outcome, Done, Left, Again, Stuck, Ran, each_one, ran, scoped, and_then, out_of_scope}
+use Rattle.scopes.specs.Meaning.{Ran, each_one, ran}
 use Rattle.player_memory.specs.declared.conditions.TheConstants.{NOTE_DEPENDENT}
 use Rattle.player_memory.specs.declared.labels.TheConstants.{FREQUENCY_LOWS, FREQUENCY_HIGHS, NEXT_FREQUENCY_LOWS}
 use Rattle.player_memory.specs.declared.labels.TheConstants.{NEXT_FREQUENCY_HIGHS, SPEED_LEFTS, SPEED_RIGHTS, PERIODS}
 use Rattle.player_memory.specs.declared.labels.TheConstants.{SLIDES_LOW, SLIDES_HIGH}
 use Rattle.player_memory.specs.Rooms.{IsRoom, MayUse}
 use Rattle.player_memory.specs.Playing.{place_in, IsAtVoice, PlaysButSlides, SlidesStay}
-use Rattle.player_desk.proofs.Laws.{VoiceDesk, Leads, Shows, SlideLowSpot, SlideHighSpot}
-use Rattle.player_desk.proofs.Laws.{done_as, in_scope, ends, leads_on, Done as IsDone, Reads}
-use Rattle.player_desk.proofs.Laws.{reader_of, voice_desk, lent_of, finds, begins, plays_but_slides, but_slides_there, comes}
+use Rattle.scopes.specs.declared.line.Half.TheVariants.{Low, High}
+use Rattle.player_desk.proofs.Laws.{VoiceDesk, Leads, Shows, SlideSpot}
+use Rattle.player_desk.proofs.Laws.{ends, leaves, leads_on, Reads}
+use Rattle.player_desk.proofs.Laws.{reader_of, voice_desk, lent_of, finds, begins, but_slides_so, ends_so, leaves_so}
 use Rattle.player_desk.proofs.VoiceDesks.{Either}
 use Rattle.player_text.specs.declared.joints.TheConstants.{EFFECTED}
 use Rattle.slide_code.specs.SlideBlock.{slide_tree, moved_by, arrives, HasHalfTones, HasSpeeds, way_of}
@@ -39,16 +39,18 @@ next_place layout label next number e = rw e (ap (λ n. n % 65536) (omega arith)
 pub notes_at : (layout : Layout) (rows voice : ℕ) (desk : Desk) → HasHalfTones layout rows desk.at →
     NotesAt (reader_of layout rows voice desk)
 notes_at layout rows voice desk has = record {
-  low = λ note few. finds layout rows voice desk FREQUENCY_LOWS note _ (has.low note (omega (arith, few)));
-  high = λ note few. finds layout rows voice desk FREQUENCY_HIGHS note _ (has.high note (omega (arith, few)));
+  low = λ note few. finds layout rows voice desk FREQUENCY_LOWS note _ (has.frequencies.low note (omega (arith, few)));
+  high = λ note few.
+      finds layout rows voice desk FREQUENCY_HIGHS note _ (has.frequencies.high note (omega (arith, few)));
   next_low = λ note few.
       subst (λ place. Reads (reader_of layout rows voice desk) place (freq (note + 1) % 256))
       (next_place layout FREQUENCY_LOWS NEXT_FREQUENCY_LOWS note has.next_low)
-      (finds layout rows voice desk FREQUENCY_LOWS (note + 1) _ (has.low (note + 1) (omega (arith, few))));
+      (finds layout rows voice desk FREQUENCY_LOWS (note + 1) _ (has.frequencies.low (note + 1) (omega (arith, few))));
   next_high = λ note few.
       subst (λ place. Reads (reader_of layout rows voice desk) place (freq (note + 1) / 256))
       (next_place layout FREQUENCY_HIGHS NEXT_FREQUENCY_HIGHS note has.next_high)
-      (finds layout rows voice desk FREQUENCY_HIGHS (note + 1) _ (has.high (note + 1) (omega (arith, few))));
+      (finds layout rows voice desk FREQUENCY_HIGHS (note + 1) _
+      (has.frequencies.high (note + 1) (omega (arith, few))));
 }
 
 -- a slide stands below the end of memory
@@ -83,48 +85,6 @@ speed_at layout rows voice count look desk p room has few =
     row : layout.holds NOTE_DEPENDENT ≡ true → p < rows
     row kept = (let most = has.slides kept in omega (arith, most, few))
 
--- ---- a block that leaves a scope
-
--- behind the block nothing is come to
-abbrev outside : Layout → Ran → Ran
-outside layout run = scoped EFFECTED (and_then run (ran each_one layout NeverTree))
-
--- another way than to the end
-abbrev IsOther : Outcome → Type 0
-IsOther Done = ⊥
-IsOther outcome = Unit {0}
-
-left_by_name : (name : ℕ) (z : Bool) → nat_eq name EFFECTED ≡ z → out_of_scope EFFECTED (Left name) ≡ Done →
-    Left name ≡ Left EFFECTED
-left_by_name name true z e = ap Left (eqb-true name EFFECTED z)
-left_by_name name false z e = absurd (subst IsOther (sym same ∙ e) tt)
-  where
-    same : out_of_scope EFFECTED (Left name) ≡ Left name
-    same = rw z refl
-
--- what has come to the scope's end has left it
-left_it : (layout : Layout) (run : Ran) (o : Outcome) → run.outcome ≡ o → (outside layout run).outcome ≡ Done →
-    run.outcome ≡ Left EFFECTED
-left_it layout run Done e come = absurd (subst IsOther (sym same ∙ come) tt)
-  where
-    same : (outside layout run).outcome ≡ Stuck
-    same = rw e refl
-left_it layout run (Left name) e come = e ∙ left_by_name name (nat_eq name EFFECTED) refl (sym same ∙ come)
-  where
-    same : (outside layout run).outcome ≡ out_of_scope EFFECTED (Left name)
-    same = rw e refl
-left_it layout run Again e come = absurd (subst IsOther (sym same ∙ come) tt)
-  where
-    same : (outside layout run).outcome ≡ Again
-    same = rw e refl
-left_it layout run Stuck e come = absurd (subst IsOther (sym same ∙ come) tt)
-  where
-    same : (outside layout run).outcome ≡ Stuck
-    same = rw e refl
-
-same_desk : (layout : Layout) (run : Ran) → run.outcome ≡ Left EFFECTED → run.desk ≡ (outside layout run).desk
-same_desk layout run e = rw e refl
-
 -- ---- both ways
 
 abbrev running : Layout → ℕ → ℕ → ℕ → LookUps → Playing → Desk → Running
@@ -144,8 +104,8 @@ slides_stay : (layout : Layout) (rows voice : ℕ) (look : LookUps) (desk after 
     layout.holds NOTE_DEPENDENT ≡ true → (row : ℕ) → row < rows → (look.row Speed row).left < 128 →
     SlidesStay layout row after.at desk.at
 slides_stay layout rows voice look desk after m shows left kept row few plain = record {
-  low = shows.memory (SlideLowSpot row) (kept, few) ∙ left.low row plain;
-  high = shows.memory (SlideHighSpot row) (kept, few) ∙ left.high row plain;
+  low = shows.memory (SlideSpot Low row) (kept, few) ∙ left.low row plain;
+  high = shows.memory (SlideSpot High row) (kept, few) ∙ left.high row plain;
 }
 
 slides : (layout : Layout) (rows voice command : ℕ) (look : LookUps) (s : Playing) (desk : Desk) → IsRoom layout rows →
@@ -154,18 +114,15 @@ slides : (layout : Layout) (rows voice command : ℕ) (look : LookUps) (s : Play
     (voice_desk layout voice desk) → (b : Bool) → arrives command look s.voice ≡ b →
     Slides layout rows voice desk (ran each_one layout slide_tree desk) command look s
 slides layout rows voice command look s desk room uses few at leads true e =
-    let p = plays_but_slides layout rows voice slide_tree desk s room uses few at
-    (leads_on true g.r slide_tree (slide_ways g) (ends (IsDone voice s g.handed g.d)) g.d
-    (record { done = λ m done. done.tells.done; left = λ name m q. absurd (never name m q); again = λ m q. q }) leads)
-    in
-    let came = comes layout rows voice slide_tree desk (Pitched g) room uses few at
+    let went = ends_so layout rows voice slide_tree desk (Pitched g) room uses few at
     (leads_on true g.r slide_tree (slide_ways g) (ends (Pitched g)) g.d
     (record { done = λ m done. done; left = λ name m q. absurd (never name m q); again = λ m q. q }) leads) in
+    let came = went.came in
     record {
-      way = p.ends ∙ ap way_of (sym e);
+      way = went.way ∙ ap way_of (sym e);
       plays =
           subst (λ v. PlaysButSlides layout rows voice desk (there run) (with_voice v s)) (sym stays)
-          (but_slides_there layout rows voice desk run run s refl p);
+          (but_slides_so layout rows voice desk (Pitched g) (there run) s came (λ m q. q.tells.done));
       note = λ yes. record {
         number = came.shows.a ∙ came.holds.number;
         is = subst (λ a. moved_by command look s.voice ≡ with_note a s.voice) (sym came.shows.a) came.holds.is;
@@ -189,35 +146,22 @@ slides layout rows voice command look s desk room uses few at leads true e =
         by_name true effected = both_ways _ effected.passes e
         by_name false none = none
 slides layout rows voice command look s desk room uses few at leads false e =
-    let p = plays_but_slides layout rows voice tree desk (with_voice (moved_by command look s.voice) s) room uses few at
-    (leads_on true g.r slide_tree (slide_ways g)
-    (done_as (λ m. ⊥) (in_scope EFFECTED
-    (ends (IsDone voice (with_voice (moved_by command look s.voice) s) g.handed g.d))))
-    g.d
-    (record {
-      done = λ m done. absurd (both_ways _ e done.arrives);
-      left = λ name m q. one_way (nat_eq name EFFECTED) m q;
-      again = λ m q. q;
-    }) leads) in
-    let came = comes layout rows voice tree desk (Effected g) room uses few at
-    (leads_on true g.r slide_tree (slide_ways g) (done_as (λ m. ⊥) (in_scope EFFECTED (ends (Effected g)))) g.d
+    let went = leaves_so EFFECTED layout rows voice slide_tree desk (Effected g) room uses few at
+    (leads_on true g.r slide_tree (slide_ways g) (leaves EFFECTED (Effected g)) g.d
     (record {
       done = λ m done. absurd (both_ways _ e done.arrives);
       left = λ name m q. q;
       again = λ m q. q;
     }) leads) in
-    let way = left_it layout run run.outcome refl p.ends in record {
-      way = way ∙ ap way_of (sym e);
+    let came = went.came in
+    record {
+      way = went.way ∙ ap way_of (sym e);
       plays =
           subst (λ v. PlaysButSlides layout rows voice desk (there run) (with_voice v s)) (sym moves)
-          (but_slides_there layout rows voice desk run (outside layout run)
-          (with_voice (moved_by command look s.voice) s)
-          (same_desk layout run way) p);
+          (but_slides_so layout rows voice desk (Effected g) (there run) (with_voice (moved_by command look s.voice) s)
+          came (λ m q. q.tells.done));
       note = λ yes. absurd (both_ways _ e yes);
-      slides = λ kept row small plain.
-          let same = slides_stay layout rows voice look desk (outside layout run).desk came.after came.shows
-          came.holds.tells.slides kept row small plain in
-          subst (λ after. SlidesStay layout row after.at desk.at) (sym (same_desk layout run way)) same;
+      slides = slides_stay layout rows voice look desk run.desk came.after came.shows came.holds.tells.slides;
     }
   where
     g : Running
@@ -226,16 +170,8 @@ slides layout rows voice command look s desk room uses few at leads false e =
     run : Ran
     run = ran each_one layout slide_tree desk
 
-    tree : Tree
-    tree = ScopeTree EFFECTED (ThenTree slide_tree NeverTree)
-
     moves : left_by command look s.voice ≡ moved_by command look s.voice
     moves = rw e refl
-
-    one_way : (z : Bool) (m : VoiceDesk) → Either z (Effected g m) ⊥ →
-        Either z (IsDone voice (with_voice (moved_by command look s.voice) s) g.handed g.d m) ⊥
-    one_way true m effected = effected.tells.done
-    one_way false m none = none
 
 -- ---- the clause
 

@@ -94,7 +94,8 @@ cleared_leads g m on is at = (
     time : m.own VIB_TIME ≡ g.s.voice.vib_time
     time = at.tells.done.fields.vib_time
 
-    at_time : (n : VoiceDesk) → n.own ≡ m.own → n.shared ≡ m.shared → n.sid ≡ m.sid → n.slide_low ≡ m.slide_low →
+    at_time : (n : VoiceDesk) → n.own ≡ m.own → n.shared ≡ m.shared → n.sid ≡ m.sid →
+        n.slide_low ≡ m.slide_low →
         n.slide_high ≡ m.slide_high → n.y ≡ m.y → n.a ≡ turned (period_of g.look g.s.voice) g.s.voice.vib_time →
         AtCleared g n
     at_time n own shared sid low high y a =

@@ -251,7 +251,8 @@ distance_leads g m on is some kept at =
     off : (z : Bool) → z ≡ false → one_if z ≡ 0
     off z e = rw e refl
 
-    arrives : (n : VoiceDesk) → n.own ≡ m.own → n.shared ≡ m.shared → n.sid ≡ m.sid → n.slide_low ≡ m.slide_low →
+    arrives : (n : VoiceDesk) → n.own ≡ m.own → n.shared ≡ m.shared → n.sid ≡ m.sid →
+        n.slide_low ≡ m.slide_low →
         n.slide_high ≡ m.slide_high → distance word target ≤ speed → AtFound g n
     arrives n own shared sid low high near = record {
       tells = tells_over g g.s.voice m n own shared sid low high at.tells;

@@ -18,7 +18,8 @@ risen low high word byte b k small e few none below is =
       high_is = omega (arith, l, h, e, none, below, small);
     }
 
-pub risen_over : (low high word byte b k : ℕ) → word < 65536 → b ≡ byte → byte < 256 → k ≡ 0 → 256 ≤ low + b + k →
+pub risen_over : (low high word byte b k : ℕ) → word < 65536 → b ≡ byte → byte < 256 → k ≡ 0 →
+    256 ≤ low + b + k →
     IsWord low high word → IsWord ((low + b + k) % 256) ((high + 1) % 256) (freq_plus word byte)
 risen_over low high word byte b k small e few none over is =
     let l = is.low_is in
@@ -51,14 +52,16 @@ fallen_under low high word byte b k small e few one under is =
     }
 
 -- a byte is added to the high one, or taken away
-pub climbed : (low high word byte b k : ℕ) → word < 65536 → b ≡ byte → byte < 256 → k ≡ 0 → IsWord low high word →
+pub climbed : (low high word byte b k : ℕ) → word < 65536 → b ≡ byte → byte < 256 → k ≡ 0 →
+    IsWord low high word →
     IsWord low ((high + b + k) % 256) (freq_plus word (256 * byte))
 climbed low high word byte b k small e few none is =
     let l = is.low_is in
     let h = is.high_is in
     record { low_is = omega (arith, l); high_is = omega (arith, l, h, e, none, small, few) }
 
-pub dropped : (low high word byte b k : ℕ) → word < 65536 → b ≡ byte → byte < 256 → k ≡ 1 → IsWord low high word →
+pub dropped : (low high word byte b k : ℕ) → word < 65536 → b ≡ byte → byte < 256 → k ≡ 1 →
+    IsWord low high word →
     IsWord low ((high + (255 - b) + k) % 256) (freq_minus word (256 * byte))
 dropped low high word byte b k small e few one is =
     let l = is.low_is in

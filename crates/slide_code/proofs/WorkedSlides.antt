@@ -72,12 +72,13 @@ elsewhere place from to = record {
   registers = inl (omega (arith, to));
 }
 
-listed : (label number place byte : ℕ) → place_in laid label number ≡ place → lists place ≡ byte → 0x2000 ≤ place →
+listed : (label number place byte : ℕ) → place_in laid label number ≡ place → lists place ≡ byte →
+    0x2000 ≤ place →
     place < 0x2300 → IsListed laid 4 lists label number byte
 listed label number place byte is holds from to =
     record { elsewhere = rw is (elsewhere place from to); reads = refl; is = rw is holds }
 
-low_is : (note : ℕ) → note ≤ 97 → lists (0x2000 + note) ≡ freq note % 256
+low_is : (note : ℕ) → note < 98 → lists (0x2000 + note) ≡ freq note % 256
 low_is note few =
     let a : nat_lt (0x2000 + note) 0x1100 ≡ false = le-ltb (0x2000 + note) 0x1100 (omega arith) in
     let b : nat_lt (0x2000 + note) 0x1104 ≡ false = le-ltb (0x2000 + note) 0x1104 (omega arith) in
@@ -86,7 +87,7 @@ low_is note few =
     let number : 0x2000 + note - 0x2000 ≡ note = omega arith in
     rw (a, b, c, d, number) refl
 
-high_is : (note : ℕ) → note ≤ 97 → lists (0x2100 + note) ≡ freq note / 256
+high_is : (note : ℕ) → note < 98 → lists (0x2100 + note) ≡ freq note / 256
 high_is note few =
     let a : nat_lt (0x2100 + note) 0x1100 ≡ false = le-ltb (0x2100 + note) 0x1100 (omega arith) in
     let b : nat_lt (0x2100 + note) 0x1104 ≡ false = le-ltb (0x2100 + note) 0x1104 (omega arith) in
@@ -98,13 +99,15 @@ high_is note few =
 
 half_tones : HasHalfTones laid 4 lists
 half_tones = record {
-  low = λ note few.
-      listed FREQUENCY_LOWS note (0x2000 + note) (freq note % 256) (omega (arith, few)) (low_is note few) (omega arith)
-      (omega (arith, few));
-  high = λ note few.
-      listed FREQUENCY_HIGHS note (0x2100 + note) (freq note / 256) (omega (arith, few)) (high_is note few)
-      (omega arith)
-      (omega (arith, few));
+  frequencies = record {
+    low = λ note few.
+        listed FREQUENCY_LOWS note (0x2000 + note) (freq note % 256) (omega (arith, few)) (low_is note few)
+        (omega arith) (omega (arith, few));
+    high = λ note few.
+        listed FREQUENCY_HIGHS note (0x2100 + note) (freq note / 256) (omega (arith, few)) (high_is note few)
+        (omega arith)
+        (omega (arith, few));
+  };
   next_low = refl;
   next_high = refl;
 }
@@ -265,7 +268,7 @@ not_a_note (inr e) = omega (arith, e)
 pub others_are_denied : (look : LookUps) → OthersAreDenied look
 unfolding freq
 others_are_denied look = record {
-  last_note = λ has. (let is = (has.low 97 (omega arith)).is in omega (arith, is));
+  last_note = λ has. (let is = (has.frequencies.low 97 (omega arith)).is in omega (arith, is));
   label = λ has. (let next = has.next_high in omega (arith, next));
   side = λ has. (let is = (has.each 1 (omega arith)).sides.right.is in omega (arith, is));
   row_0 = λ has. (let is = (has.each 0 (omega arith)).sides.left.is in omega (arith, is));

@@ -1,5 +1,5 @@
 -- The code of the effect step, and what it does. This is the project's own player.
-use Rattle.std.specs.Prelude.{◌≡◌, ◌≢◌, ℕ, ◌+◌, ◌/◌, ◌%◌, ◌<◌, ◌≤◌, ◌⊎◌, Bool}
+use Rattle.std.specs.Prelude.{◌≡◌, ◌≢◌, ℕ, ◌+◌, ◌%◌, ◌<◌, ◌≤◌, ◌⊎◌, Bool}
 use Rattle.std.specs.Prelude.{true, false, ◌&&◌, ◌||◌, ◌==◌}
 use Rattle.std.specs.Prelude.{if◌then◌else◌}
 use Rattle.std.specs.Prelude.{nat_le}
@@ -24,7 +24,9 @@ use Rattle.player_memory.specs.declared.labels.TheConstants.{FREQUENCY_LOWS, FRE
 use Rattle.player_memory.specs.declared.labels.TheConstants.{NEXT_FREQUENCY_HIGHS, SPEED_LEFTS, SPEED_RIGHTS, PERIODS}
 use Rattle.player_memory.specs.declared.labels.TheConstants.{SLIDES_LOW, SLIDES_HIGH}
 use Rattle.player_memory.specs.Rooms.{IsRoom, MayUse}
-use Rattle.player_memory.specs.Playing.{IsListed, IsRow, IsPlaying, IsAtVoice, PlaysButSlides, SlidesStay, with_voice, there}
+use Rattle.player_memory.specs.Playing.{IsListed, IsRow, IsPlaying, IsAtVoice, PlaysButSlides, SlidesStay, with_voice}
+use Rattle.player_memory.specs.Playing.{there}
+use Rattle.player_memory.specs.Frequencies.{HasFrequencies}
 use Rattle.player_text.specs.declared.joints.TheConstants.{EFFECTED}
 use Rattle.player_text.specs.Steps.{effect_tree}
 
@@ -122,11 +124,10 @@ pub record KeepsCommon (layout : Layout) : Type 0 where
 
 -- ---- what is read
 
--- the frequencies of notes stand in two lists, one of low bytes and one of high ones, up to the second note that has
--- none, and also under the label of the second byte
+-- the frequencies of notes stand in their lists, up to the second note that has none, and each list also under the
+-- label of its second byte
 pub record HasHalfTones (layout : Layout) (rows : ℕ) (at : ℕ → ℕ) : Type 0 where
-  pub low : (note : ℕ) → note ≤ 97 → IsListed layout rows at FREQUENCY_LOWS note (freq note % 256)
-  pub high : (note : ℕ) → note ≤ 97 → IsListed layout rows at FREQUENCY_HIGHS note (freq note / 256)
+  pub frequencies : HasFrequencies layout rows at 98
   pub next_low : layout.address NEXT_FREQUENCY_LOWS ≡ layout.address FREQUENCY_LOWS + 1
   pub next_high : layout.address NEXT_FREQUENCY_HIGHS ≡ layout.address FREQUENCY_HIGHS + 1
 
