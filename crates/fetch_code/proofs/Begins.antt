@@ -25,7 +25,7 @@ use Rattle.player_desk.proofs.Laws.{rest_of, joined, loaded, compared_is, over_i
 use Rattle.player_text.specs.declared.fetch.TheConstants.{RUNNING_ON, OLD}
 use Rattle.fetch_code.proofs.Texts.{stands_there, kind_first, kind_others, kind_from, text_with, text_without}
 use Rattle.fetch_code.proofs.Texts.{text_begins, Begun, first_same, rest_same}
-use Rattle.fetch_code.proofs.Takes.{take_tree, PatternAt, Around, SamePlay, Taking, IsBefore, IsByte, takes}
+use Rattle.fetch_code.proofs.Takes.{around_on, take_tree, PatternAt, Around, SamePlay, Taking, IsBefore, IsByte, takes}
 use Rattle.fetch_code.proofs.Takes.{next_byte, at_pointer}
 use Rattle.fetch_code.proofs.Readings.{taken}
 
@@ -63,7 +63,8 @@ pub record AtKind (r : Reader) (s : Playing) (d : VoiceDesk) (place : ℕ) (byte
 -- another byte is stored
 tempos_kept : (voice label byte : ℕ) (shared tempo : ℕ → ℕ) → nat_eq TEMPO label ≡ false →
     nat_eq (TEMPO + 7) label ≡ false → nat_eq (TEMPO + 14) label ≡ false →
-    ((its : ℕ) → its < 3 → its ≢ voice → shared (TEMPO + 7 * its) ≡ tempo its) → (its : ℕ) → its < 3 → its ≢ voice →
+    ((its : ℕ) → its < 3 → its ≢ voice → shared (TEMPO + 7 * its) ≡ tempo its) → (its : ℕ) → its < 3 →
+    its ≢ voice →
     put shared label byte (TEMPO + 7 * its) ≡ tempo its
 tempos_kept voice label byte shared tempo one two three kept zero l other = rw one (kept 0 l other)
 tempos_kept voice label byte shared tempo one two three kept (suc zero) l other = rw two (kept 1 l other)
@@ -116,12 +117,7 @@ running_on_leads r s place bytes rows ways d m at few own around y marked = (
         fields = rw (running, own) fields;
         rest_is = ap (λ f. f REST) own ∙ at.rest_is;
         play = same own;
-        around = record {
-          common = around.common;
-          tempos = around.tempos;
-          none_lent = around.none_lent;
-          sid = around.sid;
-        };
+        around = around_on refl refl around;
         marked = λ held.
             let some = at.some in
             ne_eqb (m.shared KEPT_PARAM) 0 (λ e. (let is = marked held in omega (arith, is, e, some)))
@@ -150,12 +146,7 @@ running_on_leads r s place bytes rows ways d m at few own around y marked = (
           fields = rw running fields;
           rest_is = ap (λ f. f REST) own ∙ at.rest_is;
           play = play;
-          around = record {
-            common = around.common;
-            tempos = around.tempos;
-            none_lent = around.none_lent;
-            sid = around.sid;
-          };
+          around = around_on refl refl around;
           marked = λ held. absurd (both_ways (r.layout.holds SKIP_FIRST) out held);
           y = y;
         },
@@ -335,12 +326,7 @@ begin_leads r s place bytes rows ways d ground at goes = (
                 fields = on.fields;
                 rest_is = on.rest_is;
                 play = on.play;
-                around = record {
-                  common = on.around.common;
-                  tempos = on.around.tempos;
-                  none_lent = on.around.none_lent;
-                  sid = on.around.sid;
-                };
+                around = around_on refl refl on.around;
                 marked = on.marked;
                 pointer = halves;
               })

@@ -24,11 +24,13 @@ use Rattle.player_desk.proofs.Laws.{VoiceDesk, Reader, Ways, Leads, listed, done
 use Rattle.player_desk.proofs.Laws.{joined, indexed, loaded}
 use Rattle.player_text.specs.declared.joints.TheConstants.{BEGINS}
 use Rattle.player_text.specs.declared.walk.TheConstants.{PATTERN}
+use Rattle.fetch_code.proofs.Takes.{around_on}
 use Rattle.fetch_code.proofs.Moves.{InPlay}
 use Rattle.fetch_code.proofs.Fetches.{AtBegun, next_play, LateWays, WalkLeads}
 use Rattle.fetch_code.proofs.Ways.{Arrives, arrives, begun, Begun}
 use Rattle.fetch_code.proofs.Repeats.{OfByte, repeat_fine}
-use Rattle.fetch_code.proofs.Walks.{WalkGround, Walking, Fine, IsThere, begin_tree, behind, loop_leads}
+use Rattle.fetch_code.proofs.WalkGrounds.{WalkGround, Walking, Fine, IsThere, begin_tree, behind}
+use Rattle.fetch_code.proofs.Walks.{loop_leads}
 
 -- ---- where the walk stands behind a play
 
@@ -39,9 +41,11 @@ same_place order at inside =
     ne_eqb at.place (length order.entries) (λ e. omega (arith, e, inside)) in
     rw test refl
 
-stands_at : (layout : Layout) (order : Order) (n p : ℕ) (t : ℤ) (after : OrderPlace) (own : ℕ → ℕ) → IsEndless order →
+stands_at : (layout : Layout) (order : Order) (n p : ℕ) (t : ℤ) (after : OrderPlace) (own : ℕ → ℕ) →
+    IsEndless order →
     p < length order.entries → get_or order.entries p 0 < 0xD0 → restarted order after ≡ place_of order (n + 1) →
-    HasPattern layout (played order n) own → own ORDER_PLACE ≡ p + 1 → own TRANSPOSE ≡ transpose_byte t → (rep : ℕ) →
+    HasPattern layout (played order n) own → own ORDER_PLACE ≡ p + 1 → own TRANSPOSE ≡ transpose_byte t →
+    (rep : ℕ) →
     Arrives order (played order n) after p t rep → own REPEAT ≡ rep →
     (rep ≢ 0 → layout.holds REPEATS ≡ true) → InPlay layout order n own
 stands_at layout order n p t after own endless inside low next pattern place transpose zero comes repeat kept = record {
@@ -94,12 +98,7 @@ found_leads r look packed order s place looks d b after ways m ground next at =
     number
     (λ l f. record {
       fields = assumption at.walking.fields;
-      around = record {
-        common = at.walking.around.common;
-        tempos = at.walking.around.tempos;
-        none_lent = at.walking.around.none_lent;
-        sid = at.walking.around.sid;
-      };
+      around = around_on refl refl at.walking.around;
       order_low = at.walking.order_low;
       order_high = at.walking.order_high;
       rest_is = at.walking.rest_is;
@@ -131,12 +130,7 @@ order_leads r look packed order s place looks d b ways k at ground walking halve
       walks = record {
         walking = record {
           fields = walking.fields;
-          around = record {
-            common = walking.around.common;
-            tempos = walking.around.tempos;
-            none_lent = walking.around.none_lent;
-            sid = walking.around.sid;
-          };
+          around = around_on refl refl walking.around;
           order_low = walking.order_low;
           order_high = walking.order_high;
           rest_is = walking.rest_is;
@@ -191,7 +185,8 @@ walk_of r look packed order s b through (InLastRun some rests last (NotWalked no
     subst (λ n. WalkStands r.layout order n b.own) (sym is) walk
 
 -- a repeat at a play's place is at most 15
-repeat_small : (r : Reader) (order : Order) (place : ℕ) (looks : ℕ → ℕ) → WalkGround r order place looks → (n : ℕ) →
+repeat_small : (r : Reader) (order : Order) (place : ℕ) (looks : ℕ → ℕ) → WalkGround r order place looks →
+    (n : ℕ) →
     (place_of order n).repeat < 16
 repeat_small r order place looks ground n =
     repeat_fine (λ rep. rep < 16) (record { none = omega arith; less = λ rep few. omega (arith, few) }) order
@@ -209,12 +204,7 @@ begins_leads r look packed order s place looks d b ways ground walking halves
             order_leads r look packed order s place looks d b ways (loaded (b.own REPEAT) b) at ground
             (record {
               fields = walking.fields;
-              around = record {
-                common = walking.around.common;
-                tempos = walking.around.tempos;
-                none_lent = walking.around.none_lent;
-                sid = walking.around.sid;
-              };
+              around = around_on refl refl walking.around;
               order_low = walking.order_low;
               order_high = walking.order_high;
               rest_is = walking.rest_is;
@@ -232,12 +222,7 @@ begins_leads r look packed order s place looks d b ways ground walking halves
         λ some. (
           λ plus. record {
             fields = assumption walking.fields;
-            around = record {
-              common = walking.around.common;
-              tempos = walking.around.tempos;
-              none_lent = walking.around.none_lent;
-              sid = walking.around.sid;
-            };
+            around = around_on refl refl walking.around;
             order_low = walking.order_low;
             order_high = walking.order_high;
             rest_is = walking.rest_is;

@@ -19,7 +19,7 @@ use Rattle.player_desk.proofs.Laws.{in_scope, body_of, indexed, compared_is, ove
 use Rattle.player_text.specs.declared.fetch.TheConstants.{END, HELD}
 use Rattle.fetch_code.proofs.Texts.{stands_there, text_begins, text_goes_on}
 use Rattle.fetch_code.proofs.Takes.{take_tree, PatternAt, SamePlay, Taking, IsBefore, takes, next_byte, at_pointer}
-use Rattle.fetch_code.proofs.Readings.{noted}
+use Rattle.fetch_code.proofs.LastBytes.{noted}
 use Rattle.fetch_code.proofs.Begins.{two_bytes}
 
 -- ---- the offset of the next entry
@@ -145,7 +145,8 @@ bit_seven t l = agree_below_at (λ n. nat_eq (bit_and n 0x80) 0) (λ n. not (nat
 shut_kept : (t : ℕ) (w : Voice) → nat_eq w.new_command 3 ≡ true → gate_shut t w ≡ w
 shut_kept t w tie = rw tie refl
 
-shut_held : (t : ℕ) (w : Voice) → nat_eq w.new_command 3 ≡ false → nat_eq (bit_and t 0x40) 0 ≡ false → gate_shut t w ≡ w
+shut_held : (t : ℕ) (w : Voice) → nat_eq w.new_command 3 ≡ false → nat_eq (bit_and t 0x40) 0 ≡ false →
+    gate_shut t w ≡ w
 shut_held t w tie six = rw (tie, six) refl
 
 shut_whole : (t : ℕ) (w : Voice) → nat_eq w.new_command 3 ≡ false → nat_eq (bit_and t 0x40) 0 ≡ true →

@@ -22,11 +22,12 @@ use Rattle.player_desk.proofs.Laws.{VoiceDesk, Reader, Ways, Fields, Leads, lead
 use Rattle.player_desk.proofs.Laws.{rest_of, joined, compared_is, over_is}
 use Rattle.player_desk.proofs.VoiceDesks.{Either}
 use Rattle.player_text.specs.declared.joints.TheConstants.{FETCHES, FIRST, LATE, WALKS, BEGINS, SOUNDS, PULSED}
-use Rattle.fetch_code.specs.FetchBlock.{fetch_tree}
-use Rattle.fetch_code.proofs.Takes.{take_tree, Around, SamePlay}
+use Rattle.player_text.specs.Steps.{fetch_tree}
+use Rattle.fetch_code.proofs.Takes.{around_on, take_tree, Around, SamePlay}
 use Rattle.fetch_code.proofs.Moves.{InPlay, same_pattern, same_walk}
 use Rattle.fetch_code.proofs.Taken.{take_leads}
-use Rattle.fetch_code.proofs.Outcomes.{Fetched, left_out, fetch_ways}
+use Rattle.fetch_code.specs.FetchBlock.{left_out}
+use Rattle.fetch_code.proofs.Outcomes.{Fetched, fetch_ways}
 use Rattle.fetch_code.proofs.Reaching.{fetched_voice, AtWalk, AtLate, AtFirst, AtFetches, FetchGround, waits_on}
 use Rattle.fetch_code.proofs.Reaching.{at_fetch, not_at_fetch, later, within, between, no_and, stays, rests_within}
 use Rattle.fetch_code.proofs.Reaching.{pulsed, fetches}
@@ -274,12 +275,7 @@ begun_leads r look packed order s d b m ground walk at = record {
   waiting = record {
     stands = record {
       fields = assumption at.fields;
-      around = record {
-        common = at.around.common;
-        tempos = at.around.tempos;
-        none_lent = at.around.none_lent;
-        sid = at.around.sid;
-      };
+      around = around_on refl refl at.around;
       order_low = at.order_low;
       order_high = at.order_high;
       song = by_song walk.waiting.stands.song;

@@ -9,7 +9,7 @@ use Rattle.player_memory.specs.declared.labels.TheConstants.{PATTERNS, PATTERNS_
 use Rattle.player_memory.specs.Fetching.{AreListed, IsOrderlist, IsPattern, place_before}
 use Rattle.player_desk.proofs.Laws.{Reads, reader_of, finds, place_at}
 use Rattle.fetch_code.proofs.Takes.{PatternAt}
-use Rattle.fetch_code.proofs.Walks.{order_byte}
+use Rattle.fetch_code.proofs.WalkGrounds.{order_byte}
 
 -- a byte of what stands under a label
 byte_at : (layout : Layout) (rows voice : ℕ) (desk : Desk) (label place : ℕ) (bytes : List ℕ) →

@@ -6,11 +6,11 @@ use Rattle.play_model.specs.State.{Playing}
 use Rattle.player_memory.specs.declared.labels.TheConstants.{ORDER_LOW, ORDER_HIGH}
 use Rattle.player_memory.specs.Fetching.{AreHalves}
 use Rattle.player_desk.proofs.Laws.{VoiceDesk, Reader, Leads}
-use Rattle.fetch_code.specs.FetchBlock.{fetch_tree}
+use Rattle.player_text.specs.Steps.{fetch_tree}
 use Rattle.fetch_code.proofs.Outcomes.{Fetched, fetch_ways}
 use Rattle.fetch_code.proofs.Reaching.{fetched_voice, FetchGround}
 use Rattle.fetch_code.proofs.Fetches.{fetch_leads}
-use Rattle.fetch_code.proofs.Walks.{WalkGround}
+use Rattle.fetch_code.proofs.WalkGrounds.{WalkGround}
 use Rattle.fetch_code.proofs.Begun.{walk_leads}
 
 -- On the desk of a voice that stands in its song, the code comes to its end, or leaves PULSED or SOUNDS, with the voice

@@ -1,18 +1,17 @@
 -- What the code that fetches a row leaves, and where: at its end, or where an option leaves the pulse step out.
-use Rattle.std.proofs.Common.{◌≡◌, ℕ, ◌+◌, ◌&&◌, ◌||◌, Bool, true, false, nat_eq}
+use Rattle.std.proofs.Common.{◌≡◌, ℕ, ◌+◌, true, false, nat_eq}
 use Rattle.std.proofs.Common.{List}
 use Rattle.song_model.specs.declared.orders.Order.{Order}
 use Rattle.play_model.specs.LookUps.{LookUps}
 use Rattle.play_model.specs.State.{Voice, Playing}
 use Rattle.play_model.specs.TickStep.{tempo_of}
-use Rattle.play_model.specs.Frame.{is_at_fetch, is_between_patterns}
 use Rattle.scopes.specs.Desk.{Layout}
-use Rattle.player_memory.specs.declared.conditions.TheConstants.{SKIP_PULSE, SKIP_FIRST}
 use Rattle.player_memory.specs.declared.labels.TheConstants.{ORDER_LOW, ORDER_HIGH}
 use Rattle.player_memory.specs.Fetching.{SongStands}
 use Rattle.player_desk.proofs.VoiceDesks.{Either}
 use Rattle.player_desk.proofs.Laws.{VoiceDesk, Reader, Ways, Fields}
 use Rattle.player_text.specs.declared.joints.TheConstants.{SOUNDS, PULSED}
+use Rattle.fetch_code.specs.FetchBlock.{left_out}
 use Rattle.fetch_code.proofs.Takes.{Around}
 
 -- this voice stands, with its place in its song; it has the orderlist that it had
@@ -23,11 +22,6 @@ pub record Fetched (r : Reader) (look : LookUps) (packed : ℕ → List ℕ) (or
   pub order_low : m.own ORDER_LOW ≡ d.own ORDER_LOW
   pub order_high : m.own ORDER_HIGH ≡ d.own ORDER_HIGH
   pub song : SongStands r.layout look packed order v m.own
-
--- whether an option that is kept leaves the pulse step out
-abbrev pub left_out : Layout → Voice → Bool
-left_out layout v =
-    layout.holds SKIP_PULSE && is_at_fetch v || layout.holds SKIP_FIRST && is_between_patterns v
 
 -- at the end, and at PULSED, the pulse step goes on; SOUNDS is left where it is left out
 abbrev pub fetch_ways : Layout → Voice → (VoiceDesk → Type 0) → Ways

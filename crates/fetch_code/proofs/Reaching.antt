@@ -24,14 +24,15 @@ use Rattle.player_desk.proofs.Laws.{VoiceDesk, Reader, Ways, Fields, Leads, done
 use Rattle.player_desk.proofs.Laws.{joined, compared_is, over_is}
 use Rattle.player_text.specs.declared.joints.TheConstants.{FETCHES, FIRST, LATE, WALKS}
 use Rattle.player_text.specs.declared.fetch.TheConstants.{DUE, ENTRY}
-use Rattle.fetch_code.specs.FetchBlock.{fetch_tree}
+use Rattle.player_text.specs.Steps.{fetch_tree}
 use Rattle.fetch_code.proofs.Texts.{stands_there, text_begins}
-use Rattle.fetch_code.proofs.Takes.{PatternAt, SamePlay}
+use Rattle.fetch_code.proofs.Takes.{around_on, PatternAt, SamePlay}
 use Rattle.fetch_code.proofs.Begins.{two_bytes}
 use Rattle.fetch_code.proofs.Ends.{TimerAt}
 use Rattle.fetch_code.proofs.Moves.{fields_moved}
 use Rattle.fetch_code.proofs.Rests.{stands_behind_rest, rest_moves}
-use Rattle.fetch_code.proofs.Outcomes.{Fetched, left_out, fetch_ways}
+use Rattle.fetch_code.specs.FetchBlock.{left_out}
+use Rattle.fetch_code.proofs.Outcomes.{Fetched, fetch_ways}
 
 -- the voice behind the step: its row is fetched where that is due
 abbrev pub fetched_voice : LookUps → Order → Voice → Voice
@@ -89,12 +90,7 @@ pub stands_on : (r : Reader) (look : LookUps) (packed : ℕ → List ℕ) (order
     Fetched r look packed order s v d m → Fetched r look packed order s v d n
 stands_on r look packed order s v d m n own shared sid at = record {
   fields = rw own at.fields;
-  around = record {
-    common = rw shared at.around.common;
-    tempos = rw shared at.around.tempos;
-    none_lent = rw shared at.around.none_lent;
-    sid = sid ∙ at.around.sid;
-  };
+  around = around_on shared sid at.around;
   order_low = ap (λ f. f ORDER_LOW) own ∙ at.order_low;
   order_high = ap (λ f. f ORDER_HIGH) own ∙ at.order_high;
   song = rw own at.song;
@@ -383,12 +379,7 @@ awaited_leads r look packed order s d m ground at =
         (fields_moved (length rows) s.voice (tempo_of (r.voice + 1) s.common)
         (put n.own REST ((n.own REST + 255) % 256)) fields) in record {
           fields = rw own moved;
-          around = record {
-            common = rw shared at.around.common;
-            tempos = rw shared at.around.tempos;
-            none_lent = rw shared at.around.none_lent;
-            sid = sid ∙ at.around.sid;
-          };
+          around = around_on shared sid at.around;
           order_low = ap (λ f. f ORDER_LOW) own ∙ at.order_low;
           order_high = ap (λ f. f ORDER_HIGH) own ∙ at.order_high;
           song = rw own song;

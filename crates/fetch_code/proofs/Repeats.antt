@@ -34,12 +34,14 @@ pattern_places P fine p t zero h = All-cons (AtPlace P) _ [] fine.none (All-nil 
 pattern_places P fine p t (suc r) h =
     All-cons (AtPlace P) _ _ (fine.less r h) (pattern_places P fine p t r (fine.less r h))
 
-byte_places : (P : ℕ → Type 0) → IsFine P → (byte p : ℕ) (t : ℤ) (r : ℕ) → P r → All (AtPlace P) (places_of byte p t r)
+byte_places : (P : ℕ → Type 0) → IsFine P → (byte p : ℕ) (t : ℤ) (r : ℕ) → P r → All (AtPlace P)
+    (places_of byte p t r)
 byte_places P fine byte p t r h =
     cond_both (nat_lt byte 0xD0) (places_of_pattern p t r) [] (All (AtPlace P)) (λ z. pattern_places P fine p t r h)
     (λ z. All-nil (AtPlace P))
 
-places_fine : (P : ℕ → Type 0) → IsFine P → (bytes : List ℕ) → All (OfByte P) bytes → (p : ℕ) (t : ℤ) (r : ℕ) → P r →
+places_fine : (P : ℕ → Type 0) → IsFine P → (bytes : List ℕ) → All (OfByte P) bytes → (p : ℕ) (t : ℤ)
+    (r : ℕ) → P r →
     All (AtPlace P) (walk_places bytes p t r)
 places_fine P fine [] of p t r h = All-nil (AtPlace P)
 places_fine P fine (byte ∷ bytes) of p t r h =

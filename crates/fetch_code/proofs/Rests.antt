@@ -123,7 +123,8 @@ stands_behind_rest layout look packed order v one two few same offset some less 
         (same_next layout look packed order v on (v.plays + 1) 0 one two same offset refl refl next))
 
 -- behind it the voice is only moved
-pub rest_moves : (layout : Layout) (look : LookUps) (packed : ℕ → List ℕ) (order : Order) (v : Voice) (own : ℕ → ℕ) →
+pub rest_moves : (layout : Layout) (look : LookUps) (packed : ℕ → List ℕ) (order : Order) (v : Voice)
+    (own : ℕ → ℕ) →
     own REST ≢ 0 → SongStands layout look packed order v own →
     fetch_row look order v ≡ row_moved (length (look.rows (played order v.plays).pattern)) v
 rest_moves layout look packed order v own some (AtEntry none next) = absurd (some none)

@@ -25,8 +25,9 @@ use Rattle.player_memory.specs.Fetching.{transpose_byte, place_before, running_c
 use Rattle.player_desk.proofs.Laws.{VoiceDesk, Reader, Fields, Ways, Leads, body_of, rest_of, joined, indexed}
 use Rattle.player_text.specs.declared.fetch.TheConstants.{READ, END, HELD}
 use Rattle.fetch_code.proofs.Texts.{Stands, stands_there, text_begins, Begun}
-use Rattle.fetch_code.proofs.Takes.{take_tree, PatternAt, takes}
-use Rattle.fetch_code.proofs.Readings.{taken, noted, Read, read_leads}
+use Rattle.fetch_code.proofs.Takes.{around_on, take_tree, PatternAt, takes}
+use Rattle.fetch_code.proofs.LastBytes.{noted}
+use Rattle.fetch_code.proofs.Readings.{taken, Read, read_leads}
 use Rattle.fetch_code.proofs.Begins.{AtFetch, begin_leads}
 use Rattle.fetch_code.proofs.Ends.{TimerAt, AtHeld, AtOffset, end_leads, held_leads}
 use Rattle.fetch_code.proofs.Moves.{InPlay, same_pattern, same_walk, row_kept, plays_kept, command_taken, stands_next}
@@ -161,12 +162,7 @@ take_leads r look packed order s d ground at play few timer idle small due =
         fields_moved (length rows) w (tempo_of (r.voice + 1) s.common) h.own held.taking.fields in
         subst (λ u. Fetched r look packed order s u d n) (sym fetched_is) (record {
           fields = rw own fields;
-          around = record {
-            common = rw shared held.taking.around.common;
-            tempos = rw shared held.taking.around.tempos;
-            none_lent = rw shared held.taking.around.none_lent;
-            sid = sid ∙ held.taking.around.sid;
-          };
+          around = around_on shared sid held.taking.around;
           order_low = ap (λ f. f ORDER_LOW) own ∙ same.order_low;
           order_high = ap (λ f. f ORDER_HIGH) own ∙ same.order_high;
           song = rw own song;

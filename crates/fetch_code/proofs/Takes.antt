@@ -13,7 +13,7 @@ use Rattle.player_memory.specs.declared.labels.TheConstants.{KEPT_PARAM, TEMPO}
 use Rattle.player_memory.specs.Fetching.{AreHalves}
 use Rattle.player_desk.proofs.Laws.{VoiceDesk, Reader, Fields, Shared, Reads, rest_of}
 use Rattle.player_text.specs.declared.joints.TheConstants.{FETCHES}
-use Rattle.fetch_code.specs.FetchBlock.{fetch_tree}
+use Rattle.player_text.specs.Steps.{fetch_tree}
 use Rattle.fetch_code.proofs.Texts.{stands_there}
 
 -- behind the scope, the entry is taken
@@ -37,6 +37,16 @@ pub record Around (r : Reader) (s : Playing) (d m : VoiceDesk) : Type 0 where
   pub tempos : (its : ℕ) → its < 3 → its ≢ r.voice → m.shared (TEMPO + 7 * its) ≡ tempo_of (its + 1) s.common
   pub none_lent : m.shared LENT ≡ 0
   pub sid : m.sid ≡ d.sid
+
+-- the same on a desk with the same bytes that no voice owns, and the same registers
+pub around_on : {r : Reader} {s : Playing} {d m n : VoiceDesk} → n.shared ≡ m.shared → n.sid ≡ m.sid →
+    Around r s d m → Around r s d n
+around_on shared sid at = record {
+  common = rw shared at.common;
+  tempos = rw shared at.tempos;
+  none_lent = rw shared at.none_lent;
+  sid = sid ∙ at.sid;
+}
 
 -- the voice is where it was in its orderlist, with its pattern
 pub record SamePlay (one two : ℕ → ℕ) : Type 0 where
@@ -79,12 +89,7 @@ takes r s d place v w rest after m n shared sid low high fields rest_is play at 
   fields = fields;
   rest_is = rest_is;
   play = play;
-  around = record {
-    common = rw shared at.around.common;
-    tempos = rw shared at.around.tempos;
-    none_lent = rw shared at.around.none_lent;
-    sid = sid ∙ at.around.sid;
-  };
+  around = around_on shared sid at.around;
   marked = rw shared at.marked;
   pointer = record { low_is = low ∙ at.pointer.low_is; high_is = high ∙ at.pointer.high_is };
 }

@@ -178,7 +178,8 @@ pub record Begun (order : Order) (n : ℕ) (at : OrderPlace) : Type 0 where
   pub next : NextPlace order n after
   pub way : Way order (played order n) after at.place at.transpose at.repeat
 
-moved_way : (order : Order) (step : Step) (after : OrderPlace) (p q : ℕ) (t u : ℤ) (r s : ℕ) → p ≡ q → t ≡ u → r ≡ s →
+moved_way : (order : Order) (step : Step) (after : OrderPlace) (p q : ℕ) (t u : ℤ) (r s : ℕ) → p ≡ q → t ≡ u →
+    r ≡ s →
     OnWay order step after q u s → OnWay order step after p t r
 moved_way order step after p q t u r s ep et er on = rw (ep, et, er) on
 

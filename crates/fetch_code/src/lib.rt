@@ -1,9 +1,12 @@
 //! The code that fetches a row: where the gateoff timer says so, a voice reads the next entry of its packed pattern,
 //! and walks its orderlist where the pattern is through.
 //!
-//! Its law is one of proofs: on the desk of a voice that is in its song, the code leaves the voice as the rule of the
-//! fetch leaves its state, and its place in the song, at each way out. What it does in memory isn't claimed yet.
+//! Its one contract is that of `claims::fetch_block_fetches`: in any memory that holds a voice that is playing and is
+//! in its song, the code leaves what the rule says, and the voice in its song, and leaves out the pulse step where an
+//! option that is kept does.
 //!
-//! It stands on `player_text` for the code, on `player_memory` for where a voice is in its song, and on `player_desk`
-//! for the tools of proof.
+//! It stands on `player_text` for the code, on `scopes` for what code means, on `packed_form` for what packed patterns
+//! spell, on `player_memory` for where a voice is in its song, and on `player_desk` for the tools of proof.
 #![tactic(auto)]
+
+pub mod claims;

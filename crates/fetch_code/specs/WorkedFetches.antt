@@ -1,0 +1,127 @@
+-- The code that fetches a row, run by hand: a walk, rests, a note, a play that is repeated, and a row that isn't due.
+use Rattle.std.specs.Prelude.{◌≡◌, ℕ, ◌+◌, ◌||◌, Bool, true, false, not, nat_eq, if◌then◌else◌, []}
+use Rattle.std.specs.Prelude.{◌∷◌}
+use Rattle.code_runs.specs.Runs.{put}
+use Rattle.song_model.specs.declared.orders.Order.{Order}
+use Rattle.scopes.specs.Desk.{Layout}
+use Rattle.scopes.specs.Meaning.{Outcome, Done, Left, Ran, each_one, ran}
+use Rattle.player_memory.specs.declared.conditions.TheConstants.{SKIP_PULSE, SKIP_FIRST}
+use Rattle.player_memory.specs.declared.labels.TheConstants.{TICK, GATE_TIMER, NEW_NOTE, REST, OFFSET, PATTERN_LOW}
+use Rattle.player_memory.specs.declared.labels.TheConstants.{PATTERN_HIGH, ORDER_LOW, ORDER_HIGH, ORDER_PLACE}
+use Rattle.player_memory.specs.declared.labels.TheConstants.{TRANSPOSE, REPEAT, GATE_TIMERS, PATTERNS_LOW}
+use Rattle.player_memory.specs.declared.labels.TheConstants.{PATTERNS_HIGH, ORDERS, PATTERNS}
+use Rattle.player_memory.specs.WorkedMemory.{at_1000}
+use Rattle.player_memory.specs.WorkedPlays.{with_variable, its_memory, its_desk}
+use Rattle.player_text.specs.declared.joints.TheConstants.{SOUNDS}
+use Rattle.fetch_code.specs.FetchBlock.{fetch_tree}
+
+-- ---- memory
+
+-- an orderlist stands at $1130, pattern 0 at $1140, with the place before it at $1110 and $1118, and the gateoff timers
+-- from $1120 on; all code is kept, but that of the two options only where it is asked for
+abbrev pub laid : Bool → Layout
+laid options = record at_1000 {
+  address = λ label. if nat_eq label ORDERS then 0x1130
+      else if nat_eq label PATTERNS then 0x1140
+      else if nat_eq label PATTERNS_LOW then 0x1110
+      else if nat_eq label PATTERNS_HIGH then 0x1118
+      else if nat_eq label GATE_TIMERS then 0x1120
+      else at_1000.address label;
+  holds = λ condition. options || not (nat_eq condition SKIP_PULSE || nat_eq condition SKIP_FIRST);
+}
+
+-- two half tones up, pattern 0 is played twice, again and again
+abbrev pub its_order : Order
+its_order = record { entries = 0xF2 ∷ 0xD1 ∷ 0 ∷ []; restart = 0 }
+
+-- the pattern has two rests and a note, in two entries; instrument 1 has a gateoff timer of 2
+abbrev pub its_lists : ℕ → ℕ
+its_lists =
+    put (put (put (put (put (put (put (put (put (put (put its_memory 0x1130 0xF2) 0x1131 0xD1) 0x1132 0) 0x1133 0xFF)
+    0x1134 0) 0x1140 0xC1) 0x1141 0x60) 0x1142 0) 0x1110 0x3F) 0x1118 0x11) 0x1121 2
+
+-- a byte of the second voice
+abbrev pub with_own : ℕ → ℕ → (ℕ → ℕ) → ℕ → ℕ
+with_own label byte at = with_variable (label + 7) byte at
+
+-- the second voice at this tick, whose row is due at tick 2: before the first walk
+abbrev pub at_start : ℕ → ℕ → ℕ
+at_start tick =
+    with_own TICK tick (with_own GATE_TIMER 2 (with_own ORDER_LOW 0x30 (with_own ORDER_HIGH 0x11 its_lists)))
+
+-- with the orderlist walked to the pattern: its first entry is next, and a play of it is left
+abbrev pub at_first : ℕ → ℕ → ℕ
+at_first tick =
+    with_own OFFSET 1 (with_own PATTERN_LOW 0x3F (with_own PATTERN_HIGH 0x11 (with_own ORDER_PLACE 3
+    (with_own TRANSPOSE 2 (with_own REPEAT 1 (at_start tick))))))
+
+-- in the run of rests, with one left; at the note; and behind it
+abbrev pub in_run : ℕ → ℕ → ℕ
+in_run tick = with_own REST 1 (with_own OFFSET 2 (at_first tick))
+
+abbrev pub at_note : ℕ → ℕ → ℕ
+at_note tick = with_own OFFSET 2 (at_first tick)
+
+abbrev pub at_end : ℕ → ℕ → ℕ
+at_end tick = with_own OFFSET 0 (at_first tick)
+
+-- ---- runs
+
+abbrev pub fetched : Bool → (ℕ → ℕ) → Ran
+fetched options at = ran each_one (laid options) fetch_tree (its_desk 7 false at)
+
+-- the way that a run takes, bytes that it leaves, and in how many instructions
+pub record Told : Type 0 where
+  pub way : Outcome
+  pub rest : ℕ
+  pub offset : ℕ
+  pub place : ℕ
+  pub repeat : ℕ
+  pub note : ℕ
+  pub cost : ℕ
+
+abbrev pub left_at : Ran → ℕ → ℕ
+left_at run label = run.desk.at (0x1006 + (label + 7))
+
+abbrev pub told : Ran → Told
+told run = record {
+  way = run.outcome;
+  rest = left_at run REST;
+  offset = left_at run OFFSET;
+  place = left_at run ORDER_PLACE;
+  repeat = left_at run REPEAT;
+  note = left_at run NEW_NOTE;
+  cost = run.cost;
+}
+
+abbrev pub IsFetched : Ran → Outcome → ℕ → ℕ → ℕ → ℕ → ℕ → ℕ → Type 0
+IsFetched run way rest offset place repeat note cost =
+    told run
+    ≡ record {
+      way = way;
+      rest = rest;
+      offset = offset;
+      place = place;
+      repeat = repeat;
+      note = note;
+      cost = cost;
+    }
+
+pub record FetchesAreWorked : Type 0 where
+  -- a frame before the row is due, the orderlist is walked past a transpose and a repeat; a play that is left isn't
+  -- walked to
+  pub walks : IsFetched (fetched false (at_start 1)) Done 0 1 3 1 0 52
+  pub repeats : IsFetched (fetched false (at_end 1)) Done 0 1 3 0 0 17
+  -- the first of two rests, the second, and the note, two half tones up, with which the pattern is through
+  pub rest : IsFetched (fetched false (at_first 2)) Done 1 2 3 1 0 34
+  pub second : IsFetched (fetched false (in_run 2)) Done 0 2 3 1 0 7
+  pub note : IsFetched (fetched false (at_note 2)) Done 0 0 3 1 0x62 42
+  -- a walk and a row in one frame
+  pub both : IsFetched (fetched false (at_start 2)) Done 1 2 3 1 0 79
+  -- a row isn't due, or isn't any longer
+  pub later : IsFetched (fetched false (at_first 3)) Done 0 1 3 1 0 5
+  pub over : IsFetched (fetched false (at_note 1)) Done 0 2 3 1 0 7
+  -- the options leave out the pulse step where a row is fetched, and at tick 0 between two patterns
+  pub skips : IsFetched (fetched true (at_first 2)) (Left SOUNDS) 1 2 3 1 0 38
+  pub between : IsFetched (fetched true (at_first 0)) (Left SOUNDS) 0 1 3 1 0 15
+  pub within : IsFetched (fetched true (in_run 0)) Done 1 2 3 1 0 9
