@@ -1,0 +1,141 @@
+-- The whole block, in memory.
+use Rattle.std.proofs.Common.{◌≡◌, ◌⊎◌, ℕ, zero, suc, ◌+◌, ◌*◌, ◌<◌, ◌≤◌}
+use Rattle.std.proofs.Common.{◌&&◌, Bool, true, nat_lt, List, [], ◌∷◌}
+use Rattle.std.proofs.Common.{inl, inr, refl, ◌∙◌, arith}
+use Rattle.std.proofs.lemmas.Bool.{and_parts, ltb-true}
+use Rattle.scopes.specs.Desk.{Desk, Layout}
+use Rattle.scopes.specs.Meaning.{Done, each_one, ran}
+use Rattle.player_memory.specs.declared.labels.TheConstants.{VARIABLES, SLIDES_LOW, SLIDES_HIGH}
+use Rattle.player_memory.specs.declared.variables.VoiceByte.{VoiceByte}
+use Rattle.player_memory.specs.declared.variables.TheConstants.{VOICE_BYTES, SONG_BYTES}
+use Rattle.player_memory.specs.Rooms.{IsRoom, IsList}
+use Rattle.player_memory.specs.Playing.{own_at}
+use Rattle.player_memory.specs.Starting.{VoiceRowsBegin, SongRowsBegin, VoiceBegins, Begins}
+use Rattle.player_text.specs.declared.texts.Start.{Start}
+use Rattle.player_text.specs.Texts.{init_tree}
+use Rattle.init_code.specs.InitBlock.{Starts, InitBlockStarts}
+use Rattle.init_code.proofs.Going.{Goes}
+use Rattle.init_code.proofs.Clearing.{IsOutOf}
+use Rattle.init_code.proofs.Beginning.{IsBegun, last_variables, block_begins}
+
+-- ---- a voice's bytes, from the variables
+
+abbrev voice_below : List (ℕ × VoiceByte) → Bool
+voice_below [] = true
+voice_below (row ∷ rows) = nat_lt row.0 99 && voice_below rows
+
+abbrev song_below : List ℕ → Bool
+song_below [] = true
+song_below (label ∷ labels) = nat_lt label 99 && song_below labels
+
+rows_begin : (rows : List (ℕ × VoiceByte)) (tempo : ℕ) (own vars : ℕ → ℕ) →
+    ((label : ℕ) → label < 99 → own label ≡ vars label) → voice_below rows ≡ true →
+    VoiceRowsBegin rows tempo vars → VoiceRowsBegin rows tempo own
+rows_begin [] tempo own vars same few begins = tt
+rows_begin (row ∷ rows) tempo own vars same few begins =
+    let parts = and_parts (nat_lt row.0 99) (voice_below rows) few in (
+      same row.0 (ltb-true row.0 99 parts.0) ∙ begins.0,
+      rows_begin rows tempo own vars same parts.1 begins.1,
+    )
+
+song_begins : (labels : List ℕ) (address : ℕ) (own vars : ℕ → ℕ) →
+    ((label : ℕ) → label < 99 → own label ≡ vars label) → song_below labels ≡ true →
+    SongRowsBegin labels address vars → SongRowsBegin labels address own
+song_begins [] address own vars same few begins = tt
+song_begins (label ∷ labels) address own vars same few begins =
+    let parts = and_parts (nat_lt label 99) (song_below labels) few in (
+      same label (ltb-true label 99 parts.0) ∙ begins.0,
+      song_begins labels address own vars same parts.1 begins.1,
+    )
+
+voice_begins : (tempo address : ℕ) (own vars : ℕ → ℕ) → ((label : ℕ) → label < 99 → own label ≡ vars label) →
+    VoiceBegins tempo address vars → VoiceBegins tempo address own
+voice_begins tempo address own vars same begins = record {
+  state = rows_begin VOICE_BYTES tempo own vars same refl begins.state;
+  song = song_begins SONG_BYTES address own vars same refl begins.song;
+}
+
+each_voice : (start : Start) (address : ℕ → ℕ) (voice : ℕ) → voice < 3 →
+    VoiceBegins start.tempo (address voice) (λ label. last_variables start address (label + 7 * voice))
+each_voice start address zero few = record { state = assumption; song = assumption }
+each_voice start address (suc zero) few = record { state = assumption; song = assumption }
+each_voice start address (suc (suc zero)) few = record { state = assumption; song = assumption }
+each_voice start address (suc (suc (suc more))) never = absurd (omega (arith, never))
+
+begins : (layout : Layout) (start : Start) (address at : ℕ → ℕ) →
+    ((label : ℕ) → label < VARIABLES → at (layout.address label) ≡ last_variables start address label) →
+    Begins layout start.tempo start.funk address at
+begins layout start address at each = record {
+  voices = λ voice few.
+      voice_begins start.tempo (address voice) (own_at layout at voice)
+      (λ label. last_variables start address (label + 7 * voice))
+      (λ label below. each (label + 7 * voice) (omega (arith, few, below))) (each_voice start address voice few);
+  common = (
+    each 90 (omega arith),
+    (
+      each 97 (omega arith),
+      (
+        each 104 (omega arith),
+        (
+          each 105 (omega arith),
+          (
+            each 106 (omega arith),
+            (each 107 (omega arith), (each 111 (omega arith), (each 112 (omega arith), tt))),
+          ),
+        ),
+      ),
+    ),
+  );
+  handed = (each 108 (omega arith), (each 109 (omega arith), (each 110 (omega arith), tt)));
+}
+
+-- ---- the block
+
+-- a place of the slides is none of the variables
+slide_out : (layout : Layout) (label rows row : ℕ) → IsList layout label rows → row < rows →
+    IsOutOf (layout.address 0) VARIABLES (layout.address label + row)
+slide_out layout label rows row is few = of is.outside
+  where
+    of : (layout.address label + rows ≤ layout.address 0) ⊎ (layout.address 0 + VARIABLES ≤ layout.address label) →
+        IsOutOf (layout.address 0) VARIABLES (layout.address label + row)
+    of (inl before) = inl (omega (arith, before, few))
+    of (inr behind) = inr (omega (arith, behind))
+
+module _ (layout : Layout) (rows : ℕ) (room : IsRoom layout rows) where
+  high_out : (place : ℕ) → 0xD000 ≤ place → IsOutOf (layout.address 0) VARIABLES place
+  high_out place high = inr (let ends = room.ends in omega (arith, ends, high))
+
+  slide_stays : (start : Start) (address : ℕ → ℕ) (before after : Desk) (label row : ℕ) → IsList layout label rows →
+      row < rows → IsBegun layout start address before after →
+      after.at (layout.address label + row) ≡ before.at (layout.address label + row)
+  slide_stays start address before after label row is few begun =
+      begun.here.others (layout.address label + row) (slide_out layout label rows row is few)
+      ∙ begun.is_past.others (layout.address label + row)
+      (λ e. (let low = room.pointer_high in let from = is.from in omega (arith, e, low, from)))
+      (inl (let to = is.to in omega (arith, to, few))) (λ timed. inl (let to = is.to in omega (arith, to, few)))
+
+  starts : (start : Start) (address : ℕ → ℕ) (before : Desk) →
+      Goes layout (init_tree start) Done (IsBegun layout start address before) before →
+      Starts layout rows start address before (ran each_one layout (init_tree start) before)
+  starts start address before goes = record {
+    ends = goes.ends;
+    decimal = goes.to.here.decimal;
+    begins = begins layout start address _ goes.to.here.variables;
+    registers = λ register few.
+        goes.to.here.others (0xD400 + register) (high_out (0xD400 + register) (omega arith))
+        ∙ goes.to.is_past.registers register (omega (arith, few));
+    timer_low = goes.to.here.others 0xDC04 (high_out 0xDC04 (omega arith)) ∙ goes.to.is_past.timer_low;
+    timer_high = goes.to.here.others 0xDC05 (high_out 0xDC05 (omega arith)) ∙ goes.to.is_past.timer_high;
+    slides = λ kept row few. record {
+      low = slide_stays start address before _ SLIDES_LOW row (room.slides kept).low few goes.to;
+      high = slide_stays start address before _ SLIDES_HIGH row (room.slides kept).high few goes.to;
+    };
+    others = λ place is.
+        goes.to.here.others place is.elsewhere.variables
+        ∙ goes.to.is_past.others place is.elsewhere.low is.elsewhere.registers is.timer;
+  }
+
+pub init_block_starts : InitBlockStarts
+init_block_starts layout rows subtune start address desk room may timer orders is =
+    starts layout rows room start address desk
+    (block_begins layout rows room may subtune start address desk timer orders is)

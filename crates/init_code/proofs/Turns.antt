@@ -1,0 +1,110 @@
+-- What the three turns of the voices leave in the variables.
+use Rattle.std.proofs.Common.{◌≡◌, ℕ, ◌+◌, ◌/◌, ◌%◌, ◌<◌, ◌≤◌, nat_eq, refl, subst, arith}
+use Rattle.cpu6502.specs.declared.mnemonic.Mnemonic.TheVariants.{Lda, Sta, Inc, Dec, Iny}
+use Rattle.code_runs.specs.Runs.{put}
+use Rattle.scopes.specs.declared.line.Flag.TheVariants.{Zero}
+use Rattle.scopes.specs.declared.line.Operand.TheVariants.{Number, Var, Own, Entry}
+use Rattle.scopes.specs.declared.line.Test.TheVariants.{Off}
+use Rattle.scopes.specs.Desk.{Desk, Layout}
+use Rattle.scopes.specs.Meaning.{Outcome, Done, Again}
+use Rattle.scopes.specs.Trees.{Tree, DoTree, WithTree, NoneTree, ThenTree, LoopTree, AgainIfTree}
+use Rattle.player_memory.specs.declared.labels.TheConstants.{ORDERS_LOW, ORDERS_HIGH, ORDER_LOW, ORDER_HIGH, TICK}
+use Rattle.player_memory.specs.declared.labels.TheConstants.{INSTRUMENT, VIB_DELAY, GATE, TEMPO, FUNK_TWO}
+use Rattle.player_memory.specs.Rooms.{IsRoom, MayUse}
+use Rattle.init_code.proofs.Going.{Goes, turn_more, turn_last, again, no_turn}
+use Rattle.init_code.proofs.Variables.{IsHere, IsEntry, lda_number, iny, sta_var, sta_own, inc_own, dec_own, lda_entry}
+use Rattle.init_code.proofs.Variables.{next_tree, next_voice}
+
+-- ---- one turn
+
+-- a byte that is counted up, and down
+abbrev risen : ℕ → (ℕ → ℕ) → ℕ → ℕ
+risen label vars = put vars label ((vars label + 1) % 256)
+
+abbrev fallen : ℕ → (ℕ → ℕ) → ℕ → ℕ
+fallen label vars = put vars label ((vars label + 255) % 256)
+
+-- the voice at X has the orderlist at this address, and begins
+abbrev pub turned : ℕ → ℕ → ℕ → (ℕ → ℕ) → ℕ → ℕ
+turned x address tempo vars =
+    put (put (put (fallen (VIB_DELAY + x) (risen (INSTRUMENT + x) (risen (TICK + x)
+    (put (put vars (ORDER_LOW + x) (address % 256)) (ORDER_HIGH + x) (address / 256))))) (GATE + x) 0xFE)
+    (TEMPO + x) tempo) FUNK_TWO tempo
+
+abbrev last_tree : Tree
+last_tree = ThenTree (AgainIfTree (Off Zero)) NoneTree
+
+abbrev begun_tree : ℕ → Tree
+begun_tree tempo =
+    ThenTree (WithTree Inc (Own TICK)) (ThenTree (WithTree Inc (Own INSTRUMENT))
+    (ThenTree (WithTree Dec (Own VIB_DELAY)) (ThenTree (WithTree Lda (Number 0xFE)) (ThenTree (WithTree Sta (Own GATE))
+    (ThenTree (WithTree Lda (Number tempo)) (ThenTree (WithTree Sta (Own TEMPO)) (ThenTree (WithTree Sta (Var FUNK_TWO))
+    (ThenTree (DoTree Iny) (next_tree last_tree)))))))))
+
+abbrev pub turn_tree : ℕ → Tree
+turn_tree tempo =
+    ThenTree (WithTree Lda (Entry ORDERS_LOW)) (ThenTree (WithTree Sta (Own ORDER_LOW))
+    (ThenTree (WithTree Lda (Entry ORDERS_HIGH)) (ThenTree (WithTree Sta (Own ORDER_HIGH)) (begun_tree tempo))))
+
+-- the two bytes of an address stand in the lists
+pub record HasAddress (layout : Layout) (past : ℕ → ℕ) (number address : ℕ) : Type 0 where
+  pub low : IsEntry layout past ORDERS_LOW number (address % 256)
+  pub high : IsEntry layout past ORDERS_HIGH number (address / 256)
+
+pub has_address : (layout : Layout) (past : ℕ → ℕ) (one two address : ℕ) → one ≡ two →
+    HasAddress layout past one address → HasAddress layout past two address
+has_address layout past one two address e has = subst (λ n. HasAddress layout past n address) e has
+
+module _ (layout : Layout) (rows : ℕ) (room : IsRoom layout rows) (may : MayUse layout rows) where
+  begun : (past vars : ℕ → ℕ) (a x y tempo : ℕ) (end : Outcome) (P : Desk → Type 0) (d : Desk) → x ≤ 14 →
+      y + 1 < 256 → IsHere layout past vars a x y d →
+      ((m : Desk) → m.cpu.z ≡ nat_eq ((x + 7 + 235) % 256) 0 →
+      IsHere layout past (put (put (put (fallen (VIB_DELAY + x) (risen (INSTRUMENT + x) (risen (TICK + x) vars)))
+      (GATE + x) 0xFE) (TEMPO + x) tempo) FUNK_TWO tempo) (x + 7) (x + 7) (y + 1) m →
+      Goes layout last_tree end P m) → Goes layout (begun_tree tempo) end P d
+  begun past vars a x y tempo end P d few byte here follows =
+      inc_own layout rows room may (omega (arith, few)) here
+      (λ one tick. inc_own layout rows room may (omega (arith, few)) tick
+      (λ two instrument. dec_own layout rows room may (omega (arith, few)) instrument
+      (λ three delay. lda_number delay
+      (λ four mask. sta_own layout rows room may (omega (arith, few)) mask
+      (λ five gate. lda_number gate
+      (λ six number. sta_own layout rows room may (omega (arith, few)) number
+      (λ seven own. sta_var layout rows room may (omega arith) own
+      (λ eight funk. iny byte funk
+      (λ nine here_then. next_voice layout past _ _ x (y + 1) last_tree end P nine (omega (arith, few)) here_then
+      follows)))))))))
+
+  turn : (past vars : ℕ → ℕ) (a x y address tempo : ℕ) (end : Outcome) (P : Desk → Type 0) (d : Desk) → x ≤ 14 →
+      y + 1 < 256 → HasAddress layout past y address → IsHere layout past vars a x y d →
+      ((m : Desk) → m.cpu.z ≡ nat_eq ((x + 7 + 235) % 256) 0 →
+      IsHere layout past (turned x address tempo vars) (x + 7) (x + 7) (y + 1) m → Goes layout last_tree end P m) →
+      Goes layout (turn_tree tempo) end P d
+  turn past vars a x y address tempo end P d few byte has here follows =
+      lda_entry has.low here
+      (λ one low. sta_own layout rows room may (omega (arith, few)) low
+      (λ two order_low. lda_entry has.high order_low
+      (λ three high. sta_own layout rows room may (omega (arith, few)) high
+      (λ four order_high. begun past _ _ x y tempo end P four few byte order_high follows))))
+
+  -- ---- the three
+
+  pub voices : (past vars : ℕ → ℕ) (a y tempo : ℕ) (address : ℕ → ℕ) (P : Desk → Type 0) (d : Desk) →
+      y + 3 < 256 → ((voice : ℕ) → voice < 3 → HasAddress layout past (y + voice) (address voice)) →
+      IsHere layout past vars a 0 y d →
+      ((m : Desk) → IsHere layout past
+      (turned 14 (address 2) tempo (turned 7 (address 1) tempo (turned 0 (address 0) tempo vars))) 21 21
+      (y + 1 + 1 + 1) m → P m) → Goes layout (LoopTree 3 (turn_tree tempo)) Done P d
+  voices past vars a y tempo address P d few has here follows =
+      turn_more layout 2 (turn_tree tempo) P d
+      (turn past vars a 0 y (address 0) tempo Again _ d (omega arith) (omega (arith, few))
+      (has_address layout past (y + 0) y (address 0) (omega arith) (has 0 (omega arith))) here
+      (λ one z_one first. again layout (Off Zero) NoneTree _ one (rw z_one refl)
+      (turn_more layout 1 (turn_tree tempo) P one
+      (turn past _ _ 7 (y + 1) (address 1) tempo Again _ one (omega arith) (omega (arith, few))
+      (has 1 (omega arith)) first
+      (λ two z_two second. again layout (Off Zero) NoneTree _ two (rw z_two refl)
+      (turn_last layout 0 (turn_tree tempo) P two
+      (turn past _ _ 14 (y + 1 + 1) (address 2) tempo Done P two (omega arith) (omega (arith, few))
+      (has_address layout past (y + 2) (y + 1 + 1) (address 2) (omega arith) (has 2 (omega arith))) second
+      (λ three z_three third. no_turn layout (Off Zero) P three (rw z_three refl) (follows three third)))))))))

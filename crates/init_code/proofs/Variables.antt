@@ -1,0 +1,232 @@
+-- The variables and the registers on the way, once all are cleared; instruction by instruction.
+use Rattle.std.proofs.Common.{◌≡◌, ◌≢◌, ℕ, ◌+◌, ◌%◌, ◌<◌, Bool, true, false, nat_eq, inl, inr}
+use Rattle.std.proofs.Common.{refl, sym, ap, ◌∙◌, arith}
+use Rattle.std.proofs.lemmas.Bool.{eqb-true, eqb-false}
+use Rattle.cpu6502.specs.declared.memory.TheConstants.{MEMORY_SIZE}
+use Rattle.cpu6502.specs.declared.mnemonic.Mnemonic.TheVariants.{Lda, Ldx, Sta, Inc, Dec, Iny, Txa, Clc, Adc, Tax, Cpx}
+use Rattle.cpu6502.specs.declared.cpu.Cpu.{Cpu}
+use Rattle.cpu6502.specs.Registers.{with_a, with_sign_and_zero, with_x, with_y}
+use Rattle.cpu6502.specs.Arithmetic.{added}
+use Rattle.cpu6502.specs.Compares.{compared}
+use Rattle.code_runs.specs.Runs.{put}
+use Rattle.code_runs.proofs.Laws.{put_same, put_other}
+use Rattle.scopes.specs.declared.line.Operand.TheVariants.{Number, Var, Own, Entry}
+use Rattle.scopes.specs.Desk.{Desk, Layout}
+use Rattle.scopes.specs.Meaning.{Outcome}
+use Rattle.scopes.specs.Trees.{Tree, DoTree, WithTree, ThenTree}
+use Rattle.player_memory.specs.declared.labels.TheConstants.{VARIABLES}
+use Rattle.player_memory.specs.Rooms.{IsRoom, MayUse}
+use Rattle.player_memory.specs.Playing.{place_in}
+use Rattle.init_code.proofs.Going.{Goes, loaded, stored, step, step_alone}
+use Rattle.init_code.proofs.Clearing.{IsOutOf}
+
+-- the registers, the variables by their labels, and what stands elsewhere
+pub record IsHere (layout : Layout) (past vars : ℕ → ℕ) (a x y : ℕ) (d : Desk) : Type 0 where
+  pub a_is : d.cpu.a ≡ a
+  pub x_is : d.cpu.x ≡ x
+  pub y_is : d.cpu.y ≡ y
+  pub decimal : d.cpu.d ≡ false
+  pub variables : (label : ℕ) → label < VARIABLES → d.at (layout.address label) ≡ vars label
+  pub others : (place : ℕ) → IsOutOf (layout.address 0) VARIABLES place → d.at place ≡ past place
+
+-- what follows goes on wherever they are so
+abbrev pub Onward : (layout : Layout) (past vars : ℕ → ℕ) (a x y : ℕ) → Tree → Outcome → (Desk → Type 0) →
+    Type 0
+Onward layout past vars a x y rest end P = (m : Desk) → IsHere layout past vars a x y m → Goes layout rest end P m
+
+-- ---- registers
+
+-- other registers
+moved : {layout : Layout} {past vars : ℕ → ℕ} {a x y a_then x_then y_then : ℕ} {d : Desk} (cpu : Cpu) →
+    IsHere layout past vars a x y d → cpu.a ≡ a_then → cpu.x ≡ x_then → cpu.y ≡ y_then → cpu.d ≡ false →
+    IsHere layout past vars a_then x_then y_then (record d { cpu = cpu })
+moved cpu here a_is x_is y_is decimal = record {
+  a_is = a_is;
+  x_is = x_is;
+  y_is = y_is;
+  decimal = decimal;
+  variables = here.variables;
+  others = here.others;
+}
+
+pub lda_number : {layout : Layout} {past vars : ℕ → ℕ} {a x y number : ℕ} {rest : Tree} {end : Outcome}
+    {P : Desk → Type 0} {d : Desk} → IsHere layout past vars a x y d →
+    Onward layout past vars number x y rest end P → Goes layout (ThenTree (WithTree Lda (Number number)) rest) end P d
+lda_number {layout = layout} {number = number} {rest = rest} {end = end} {P = P} {d = d} here follows =
+    step layout Lda (Number number) rest end P d (loaded number d) refl
+    (follows _ (moved (with_a d.cpu number) here refl here.x_is here.y_is here.decimal))
+
+pub ldx_number : {layout : Layout} {past vars : ℕ → ℕ} {a x y number : ℕ} {rest : Tree} {end : Outcome}
+    {P : Desk → Type 0} {d : Desk} → IsHere layout past vars a x y d →
+    Onward layout past vars a number y rest end P → Goes layout (ThenTree (WithTree Ldx (Number number)) rest) end P d
+ldx_number {layout = layout} {number = number} {rest = rest} {end = end} {P = P} {d = d} here follows =
+    step layout Ldx (Number number) rest end P d (record d { cpu = with_x d.cpu number }) refl
+    (follows _ (moved (with_x d.cpu number) here here.a_is refl here.y_is here.decimal))
+
+pub iny : {layout : Layout} {past vars : ℕ → ℕ} {a x y : ℕ} {rest : Tree} {end : Outcome} {P : Desk → Type 0}
+    {d : Desk} → y + 1 < 256 → IsHere layout past vars a x y d → Onward layout past vars a x (y + 1) rest end P →
+    Goes layout (ThenTree (DoTree Iny) rest) end P d
+iny {layout = layout} {y = y} {rest = rest} {end = end} {P = P} {d = d} few here follows =
+    step_alone layout Iny rest end P d (record d { cpu = with_y d.cpu ((d.cpu.y + 1) % 256) }) refl
+    (follows _ (moved (with_y d.cpu ((d.cpu.y + 1) % 256)) here here.a_is here.x_is
+    (let is = here.y_is in omega (arith, is, few)) here.decimal))
+
+-- ---- variables
+
+-- behind a byte that is counted
+abbrev counted : ℕ → ℕ → Desk → Desk
+counted place byte d = record { cpu = with_sign_and_zero d.cpu byte; at = put d.at place byte }
+
+module _ (layout : Layout) (rows : ℕ) (room : IsRoom layout rows) (may : MayUse layout rows) where
+  apart : (one two : ℕ) → one < VARIABLES → two < VARIABLES → one ≢ two → layout.address one ≢ layout.address two
+  apart one two few less other e =
+      let a = room.variables one few in
+      let b = room.variables two less in other (omega (arith, a, b, e))
+
+  out_of : (label place : ℕ) → label < VARIABLES → IsOutOf (layout.address 0) VARIABLES place →
+      place ≢ layout.address label
+  out_of label place few (inl low) e = let a = room.variables label few in omega (arith, low, e, a)
+  out_of label place few (inr high) e = let a = room.variables label few in omega (arith, high, e, a, few)
+
+  -- a byte is put under a label
+  put_variables : (at vars : ℕ → ℕ) (label byte its : ℕ) → label < VARIABLES → byte ≡ its →
+      ((other : ℕ) → other < VARIABLES → at (layout.address other) ≡ vars other) → (other : ℕ) →
+      other < VARIABLES → put at (layout.address label) byte (layout.address other) ≡ put vars label its other
+  put_variables at vars label byte its few is each other less = by_case (nat_eq other label) refl
+    where
+      by_case : (z : Bool) → nat_eq other label ≡ z →
+          put at (layout.address label) byte (layout.address other) ≡ put vars label its other
+      by_case true e =
+          let same = eqb-true other label e in
+          rw same (put_same at (layout.address label) byte ∙ is ∙ sym (put_same vars label its))
+      by_case false e =
+          let away = eqb-false other label e in
+          put_other at (layout.address label) byte (layout.address other) (apart other label less few away)
+          ∙ each other less ∙ sym (put_other vars label its other away)
+
+  -- registers that are so, but for flags, with a byte under a label
+  written : {past vars : ℕ → ℕ} {a x y : ℕ} {d : Desk} (cpu : Cpu) (label byte its : ℕ) → label < VARIABLES →
+      byte ≡ its → IsHere layout past vars a x y d → IsHere layout past vars a x y (record d { cpu = cpu }) →
+      IsHere layout past (put vars label its) a x y (record { cpu = cpu; at = put d.at (layout.address label) byte })
+  written {vars = vars} {d = d} cpu label byte its few is here then = record {
+    a_is = then.a_is;
+    x_is = then.x_is;
+    y_is = then.y_is;
+    decimal = then.decimal;
+    variables = put_variables d.at vars label byte its few is here.variables;
+    others = λ place out.
+        put_other d.at (layout.address label) byte place (out_of label place few out) ∙ here.others place out;
+  }
+
+  -- the place of a voice's byte
+  own_place : {past vars : ℕ → ℕ} {a x y : ℕ} {d : Desk} (label : ℕ) → label + x < VARIABLES →
+      IsHere layout past vars a x y d → (layout.address label + d.cpu.x) % MEMORY_SIZE ≡ layout.address (label + x)
+  own_place {x = x} label few here =
+      let a = room.variables label (omega (arith, few)) in
+      let b = room.variables (label + x) few in
+      let c = room.ends in
+      let e = here.x_is in omega (arith, a, b, c, e, few)
+
+  pub sta_var : {past vars : ℕ → ℕ} {a x y label : ℕ} {rest : Tree} {end : Outcome} {P : Desk → Type 0} {d : Desk} →
+      label < VARIABLES → IsHere layout past vars a x y d →
+      Onward layout past (put vars label a) a x y rest end P →
+      Goes layout (ThenTree (WithTree Sta (Var label)) rest) end P d
+  sta_var {label = label} {rest = rest} {end = end} {P = P} {d = d} few here follows =
+      step layout Sta (Var label) rest end P d (stored (layout.address label) d) (rw (may.writes label few) refl)
+      (follows _ (written d.cpu label d.cpu.a _ few here.a_is here here))
+
+  pub sta_own : {past vars : ℕ → ℕ} {a x y label : ℕ} {rest : Tree} {end : Outcome} {P : Desk → Type 0} {d : Desk} →
+      label + x < VARIABLES → IsHere layout past vars a x y d →
+      Onward layout past (put vars (label + x) a) a x y rest end P →
+      Goes layout (ThenTree (WithTree Sta (Own label)) rest) end P d
+  sta_own {x = x} {label = label} {rest = rest} {end = end} {P = P} {d = d} few here follows =
+      step layout Sta (Own label) rest end P d (stored (layout.address (label + x)) d)
+      (rw (own_place label few here, may.writes (label + x) few) refl)
+      (follows _ (written d.cpu (label + x) d.cpu.a _ few here.a_is here here))
+
+  -- a byte is counted up or down
+  pub inc_own : {past vars : ℕ → ℕ} {a x y label : ℕ} {rest : Tree} {end : Outcome} {P : Desk → Type 0} {d : Desk} →
+      label + x < VARIABLES → IsHere layout past vars a x y d →
+      Onward layout past (put vars (label + x) ((vars (label + x) + 1) % 256)) a x y rest end P →
+      Goes layout (ThenTree (WithTree Inc (Own label)) rest) end P d
+  inc_own {x = x} {label = label} {rest = rest} {end = end} {P = P} {d = d} few here follows =
+      step layout Inc (Own label) rest end P d (counted (layout.address (label + x)) byte d)
+      (rw (own_place label few here, may.reads (label + x) few, may.writes (label + x) few) refl)
+      (follows _ (written (with_sign_and_zero d.cpu byte) (label + x) byte _ few
+      (ap (λ n. (n + 1) % 256) (here.variables (label + x) few)) here
+      (moved _ here here.a_is here.x_is here.y_is here.decimal)))
+    where
+      byte : ℕ
+      byte = (d.at (layout.address (label + x)) + 1) % 256
+
+  pub dec_own : {past vars : ℕ → ℕ} {a x y label : ℕ} {rest : Tree} {end : Outcome} {P : Desk → Type 0} {d : Desk} →
+      label + x < VARIABLES → IsHere layout past vars a x y d →
+      Onward layout past (put vars (label + x) ((vars (label + x) + 255) % 256)) a x y rest end P →
+      Goes layout (ThenTree (WithTree Dec (Own label)) rest) end P d
+  dec_own {x = x} {label = label} {rest = rest} {end = end} {P = P} {d = d} few here follows =
+      step layout Dec (Own label) rest end P d (counted (layout.address (label + x)) byte d)
+      (rw (own_place label few here, may.reads (label + x) few, may.writes (label + x) few) refl)
+      (follows _ (written (with_sign_and_zero d.cpu byte) (label + x) byte _ few
+      (ap (λ n. (n + 255) % 256) (here.variables (label + x) few)) here
+      (moved _ here here.a_is here.x_is here.y_is here.decimal)))
+    where
+      byte : ℕ
+      byte = (d.at (layout.address (label + x)) + 255) % 256
+
+-- ---- lists
+
+-- a list has this byte, outside of the variables
+pub record IsEntry (layout : Layout) (past : ℕ → ℕ) (label number byte : ℕ) : Type 0 where
+  pub reads : layout.may_read (place_in layout label number) ≡ true
+  pub out : IsOutOf (layout.address 0) VARIABLES (place_in layout label number)
+  pub is : past (place_in layout label number) ≡ byte
+
+pub lda_entry : {layout : Layout} {past vars : ℕ → ℕ} {a x y label byte : ℕ} {rest : Tree} {end : Outcome}
+    {P : Desk → Type 0} {d : Desk} → IsEntry layout past label y byte → IsHere layout past vars a x y d →
+    Onward layout past vars byte x y rest end P → Goes layout (ThenTree (WithTree Lda (Entry label)) rest) end P d
+lda_entry {layout = layout} {y = y} {label = label} {rest = rest} {end = end} {P = P} {d = d} entry here follows =
+    step layout Lda (Entry label) rest end P d (loaded (d.at (place_in layout label y)) d)
+    (rw (place, entry.reads) refl)
+    (follows _ (moved _ here (here.others (place_in layout label y) entry.out ∙ entry.is) here.x_is here.y_is
+    here.decimal))
+  where
+    place : (layout.address label + d.cpu.y) % MEMORY_SIZE ≡ place_in layout label y
+    place = ap (λ n. (layout.address label + n) % MEMORY_SIZE) here.y_is
+
+-- ---- the next voice
+
+abbrev pub next_tree : Tree → Tree
+next_tree rest =
+    ThenTree (DoTree Txa) (ThenTree (DoTree Clc) (ThenTree (WithTree Adc (Number 7)) (ThenTree (DoTree Tax)
+    (ThenTree (WithTree Cpx (Number 21)) rest))))
+
+abbrev x_in_a : Desk → Desk
+x_in_a d = loaded d.cpu.x d
+
+abbrev no_carry : Desk → Desk
+no_carry d = record d { cpu = record (d.cpu) { c = false } }
+
+abbrev seven_more : Desk → Desk
+seven_more d = record d { cpu = added d.cpu 7 }
+
+abbrev a_in_x : Desk → Desk
+a_in_x d = record d { cpu = with_x d.cpu d.cpu.a }
+
+abbrev x_compared : Desk → Desk
+x_compared d = record d { cpu = compared d.cpu d.cpu.x 21 }
+
+-- X is 7 more, and zero says whether that is 21
+pub next_voice : (layout : Layout) (past vars : ℕ → ℕ) (a x y : ℕ) (rest : Tree) (end : Outcome) (P : Desk → Type 0)
+    (d : Desk) → x + 7 < 256 → IsHere layout past vars a x y d →
+    ((m : Desk) → m.cpu.z ≡ nat_eq ((x + 7 + 235) % 256) 0 → IsHere layout past vars (x + 7) (x + 7) y m →
+    Goes layout rest end P m) → Goes layout (next_tree rest) end P d
+next_voice layout past vars a x y rest end P d few here follows =
+    step_alone layout Txa _ end P d (x_in_a d) refl
+    (step_alone layout Clc _ end P _ (no_carry (x_in_a d)) refl
+    (step layout Adc (Number 7) _ end P _ (seven_more (no_carry (x_in_a d))) (rw here.decimal refl)
+    (step_alone layout Tax _ end P _ (a_in_x (seven_more (no_carry (x_in_a d)))) refl
+    (step layout Cpx (Number 21) rest end P _ (x_compared (a_in_x (seven_more (no_carry (x_in_a d))))) refl
+    (follows _ (rw sum refl) (moved _ here sum sum here.y_is here.decimal))))))
+  where
+    sum : (d.cpu.x + 7 + 0) % 256 ≡ x + 7
+    sum = let is = here.x_is in omega (arith, is, few)

@@ -1,0 +1,226 @@
+-- The code that begins a subtune, run; what the law on it asks; and what it refuses.
+use Rattle.std.proofs.Common.{◌≡◌, ℕ, ◌+◌, ◌*◌, ◌/◌, ◌<◌, ◌≤◌}
+use Rattle.std.proofs.Common.{◌∙◌, ◌&&◌, Bool, true, false, nat_eq, nat_le, nat_lt}
+use Rattle.std.proofs.Common.{◌⊎◌, refl, ap, inl, inr, arith}
+use Rattle.std.proofs.lemmas.Bool.{le-leb, lt-ltb, leb-true, ltb-true, eqb-true, and_parts, agree_below, agree_below_at}
+use Rattle.std.proofs.lemmas.Bool.{both_ways}
+use Rattle.scopes.specs.Meaning.{Outcome, Again}
+use Rattle.player_memory.specs.declared.labels.TheConstants.{ORDERS_LOW, ORDERS_HIGH}
+use Rattle.player_memory.specs.Rooms.{IsRoom, MayUse, IsElsewhere}
+use Rattle.player_memory.specs.Playing.{place_in}
+use Rattle.init_code.specs.InitBlock.{IsOrderByte, HasOrders, IsUntouched}
+use Rattle.init_code.specs.WorkedInit.{RunsAreWorked, SiteIsWorked, StartsAreWorked, site, its_address, its_memory}
+use Rattle.init_code.specs.WorkedInit.{called, numbers, at_timer, StartsSo, began}
+use Rattle.init_code.proofs.Starting.{init_block_starts}
+
+pub runs_are_worked : RunsAreWorked
+runs_are_worked = record {
+  first = record { ends = refl; variables = refl; registers = refl; timer_is = refl; slides = refl; cost_is = refl };
+  second = record { ends = refl; variables = refl; registers = refl; timer_is = refl; slides = refl; cost_is = refl };
+  first_timed = record {
+    ends = refl;
+    variables = refl;
+    registers = refl;
+    timer_is = refl;
+    slides = refl;
+    cost_is = refl;
+  };
+  second_timed = record {
+    ends = refl;
+    variables = refl;
+    registers = refl;
+    timer_is = refl;
+    slides = refl;
+    cost_is = refl;
+  };
+  decimal = refl;
+  no_timer = refl;
+  no_lists = refl;
+}
+
+-- ---- what the law asks
+
+room_is : (timed : Bool) → IsRoom (site timed) 4
+room_is timed = record {
+  begins = omega arith;
+  ends = omega arith;
+  variables = λ label few. eqb-true ((site timed).address label) (0x1006 + label)
+      (agree_below_at (λ l. nat_eq ((site timed).address l) (0x1006 + l)) (λ _. true) 113 label refl few);
+  slides = λ kept. record {
+    low = record { from = omega arith; to = omega arith; outside = inr (omega arith) };
+    high = record { from = omega arith; to = omega arith; outside = inr (omega arith) };
+    apart = inl (omega arith);
+  };
+  pointer_low = omega arith;
+  pointer_high = omega arith;
+}
+
+uses_are : (timed : Bool) → MayUse (site timed) 4
+uses_are timed = record {
+  reads = λ label few.
+      agree_below_at (λ l. (site timed).may_read ((site timed).address l)) (λ _. true) 113 label refl few;
+  writes = λ label few.
+      agree_below_at (λ l. (site timed).may_write ((site timed).address l)) (λ _. true) 113 label refl few;
+  slides = λ kept its few. record {
+    reads_low = agree_below_at (λ n. (site timed).may_read (0x1100 + n)) (λ _. true) 4 its refl few;
+    reads_high = agree_below_at (λ n. (site timed).may_read (0x1104 + n)) (λ _. true) 4 its refl few;
+    writes_low = agree_below_at (λ n. (site timed).may_write (0x1100 + n)) (λ _. true) 4 its refl few;
+    writes_high = agree_below_at (λ n. (site timed).may_write (0x1104 + n)) (λ _. true) 4 its refl few;
+  };
+  registers = λ register few.
+      agree_below_at (λ n. (site timed).may_write (0xD400 + n)) (λ _. true) 25 register refl (omega (arith, few));
+}
+
+elsewhere : (timed : Bool) (place : ℕ) → 0x1108 ≤ place → (place < 0xD400) ⊎ (0xD419 ≤ place) →
+    IsElsewhere (site timed) 4 place
+elsewhere timed place from registers = record {
+  variables = inr (omega (arith, from));
+  slides_low = λ kept. inr (omega (arith, from));
+  slides_high = λ kept. inr (omega (arith, from));
+  low = λ e. omega (arith, from, e);
+  high = λ e. omega (arith, from, e);
+  registers = registers;
+}
+
+-- the byte of a list by its number, and where it stands
+abbrev stands : ℕ → (ℕ → ℕ) → ℕ → Bool
+stands label byte number =
+    nat_eq (its_memory (place_in (site true) label number)) (byte number)
+    && (nat_le 0x1180 (place_in (site true) label number) && nat_lt (place_in (site true) label number) 0x1200)
+
+found : (timed : Bool) (label : ℕ) (byte : ℕ → ℕ) → agree_below (stands label byte) (λ _. true) 6 ≡ true →
+    (number its : ℕ) → number < 6 → byte number ≡ its → IsOrderByte (site timed) 4 its_memory label number its
+found timed label byte all number its few is = record {
+  listed = record {
+    elsewhere = away;
+    reads = reads (le-leb 0x1000 place (omega (arith, from))) (lt-ltb place 0x1200 to);
+    is = eqb-true (its_memory place) (byte number) parts.0 ∙ is;
+  };
+  untouched = record { elsewhere = away; timer = λ set. inl (omega (arith, to)) };
+}
+  where
+    place : ℕ
+    place = place_in (site timed) label number
+
+    parts : (nat_eq (its_memory place) (byte number) ≡ true)
+        × ((nat_le 0x1180 place && nat_lt place 0x1200) ≡ true)
+    parts = and_parts (nat_eq (its_memory place) (byte number)) (nat_le 0x1180 place && nat_lt place 0x1200)
+        (agree_below_at (stands label byte) (λ _. true) 6 number all few)
+
+    from : 0x1180 ≤ place
+    from = leb-true 0x1180 place (and_parts (nat_le 0x1180 place) (nat_lt place 0x1200) parts.1).0
+
+    to : place < 0x1200
+    to = ltb-true place 0x1200 (and_parts (nat_le 0x1180 place) (nat_lt place 0x1200) parts.1).1
+
+    away : IsElsewhere (site timed) 4 place
+    away = elsewhere timed place (omega (arith, from)) (inl (omega (arith, to)))
+
+    reads : nat_le 0x1000 place ≡ true → nat_lt place 0x1200 ≡ true → (site timed).may_read place ≡ true
+    reads low high = rw (low, high) refl
+
+orders_are : (timed : Bool) (subtune : ℕ) → subtune < 2 →
+    HasOrders (site timed) 4 its_memory subtune (its_address subtune)
+orders_are timed subtune few = record {
+  low = λ voice less.
+      found timed ORDERS_LOW (λ number. 0x11 * number) refl (3 * subtune + voice) _ (omega (arith, few, less))
+      (omega (arith, few, less));
+  high = λ voice less.
+      found timed ORDERS_HIGH (λ number. 0x13 + number / 3) refl (3 * subtune + voice) _ (omega (arith, few, less))
+      (omega (arith, few, less));
+}
+
+-- neither is below or above
+between : {place low high : ℕ} → low ≤ place → place < high → ¬ ((place < low) ⊎ (high ≤ place))
+between from to (inl below) = omega (arith, from, below)
+between from to (inr above) = omega (arith, to, above)
+
+timer_apart : (place : ℕ) → 0xD419 ≤ place → (place < 0xDC04) ⊎ (0xDC06 ≤ place) → IsUntouched (site true) 4 place
+timer_apart place from out = record {
+  elsewhere = elsewhere true place (omega (arith, from)) (inr from);
+  timer = λ set. out;
+}
+
+timer_elsewhere : IsElsewhere (at_timer false) 4 0xDC05
+timer_elsewhere = record {
+  variables = inr (omega arith);
+  slides_low = λ kept. inr (omega arith);
+  slides_high = λ kept. inr (omega arith);
+  low = λ e. omega (arith, e);
+  high = λ e. omega (arith, e);
+  registers = inr (omega arith);
+}
+
+pub site_is_worked : SiteIsWorked
+site_is_worked = record {
+  room = room_is;
+  uses = uses_are;
+  timer = λ timed. record { low = λ set. refl; high = λ set. refl };
+  orders = orders_are;
+  at_subtune = record { a = refl; byte = omega arith; decimal = refl };
+  low_alone = λ may. both_ways false refl (may.high refl);
+  high_alone = λ may. both_ways false refl (may.low refl);
+  no_timer = record { low = λ set. absurd (both_ways false refl set); high = λ set. absurd (both_ways false refl set) };
+  third = λ has. (let byte = (has.low 0 (omega arith)).listed.is in omega (arith, byte));
+  other_low = λ has. (let byte = (has.low 2 (omega arith)).listed.is in omega (arith, byte));
+  other_high = λ has. (let byte = (has.high 0 (omega arith)).listed.is in omega (arith, byte));
+  unread = λ has. both_ways false refl (has.high 0 (omega arith)).listed.reads;
+  on_timer = λ byte. between (omega arith) (omega arith) (byte.untouched.timer refl);
+  on_no_timer = record {
+    listed = record { elsewhere = timer_elsewhere; reads = refl; is = refl };
+    untouched = record { elsewhere = timer_elsewhere; timer = λ set. absurd (both_ways false refl set) };
+  };
+  before_timer = timer_apart 0xDC03 (omega arith) (inl (omega arith));
+  timer_low = λ is. between (omega arith) (omega arith) (is.timer refl);
+  timer_high = λ is. between (omega arith) (omega arith) (is.timer refl);
+  behind_timer = timer_apart 0xDC06 (omega arith) (inr (omega arith));
+  variable = λ is. between (omega arith) (omega arith) is.elsewhere.variables;
+  other_a = λ is. (let a = is.a in omega (arith, a));
+  last = record { a = refl; byte = omega arith; decimal = refl };
+  over = λ is. (let byte = is.byte in omega (arith, byte));
+  decimal = λ is. both_ways true is.decimal refl;
+}
+
+-- ---- what it may not leave
+
+abbrev is_again : Outcome → Bool
+is_again Again = true
+is_again _ = false
+
+started : (timed : Bool) → StartsSo timed (began timed 1)
+started timed =
+    init_block_starts (site timed) 4 1 numbers (its_address 1) (called 1 false) (room_is timed) (uses_are timed)
+    (record { low = λ set. refl; high = λ set. refl }) (orders_are timed 1 (omega arith))
+    (record { a = refl; byte = omega arith; decimal = refl })
+
+pub starts_are_worked : StartsAreWorked
+starts_are_worked = record {
+  timed = started true;
+  untimed = started false;
+  not_ended = λ starts. both_ways true (ap is_again starts.ends) refl;
+  decimal = λ starts. both_ways true starts.decimal refl;
+  own = λ starts. (let byte = (starts.begins.voices 2 (omega arith)).state.0 in omega (arith, byte));
+  common = λ starts. (let byte = starts.begins.common.1.1.1.1.1.0 in omega (arith, byte));
+  other_subtune = λ starts. (let byte = (starts.begins.voices 0 (omega arith)).song.1.1.1.1.0 in omega (arith, byte));
+  other_tempo = λ starts. (let byte = starts.begins.common.1.1.1.1.1.1.1.0 in omega (arith, byte));
+  other_funk = λ starts. (let byte = starts.begins.common.1.1.1.1.1.1.0 in omega (arith, byte));
+  first_register = λ starts. (let byte = starts.registers 0 (omega arith) in omega (arith, byte));
+  last_register = λ starts. (let byte = starts.registers 24 (omega arith) in omega (arith, byte));
+  timer_low = λ starts. (let byte = starts.timer_low in omega (arith, byte));
+  timer_high = λ starts. (let byte = starts.timer_high in omega (arith, byte));
+  no_timer_low = λ starts. (let byte = starts.timer_low in omega (arith, byte));
+  no_timer_high = λ starts. (let byte = starts.timer_high in omega (arith, byte));
+  low_slide = λ starts. (let byte = (starts.slides refl 3 (omega arith)).low in omega (arith, byte));
+  high_slide = λ starts. (let byte = (starts.slides refl 3 (omega arith)).high in omega (arith, byte));
+  elsewhere = λ starts. (let byte = starts.others 0x1005 (record {
+    elsewhere = record {
+      variables = inl (omega arith);
+      slides_low = λ kept. inl (omega arith);
+      slides_high = λ kept. inl (omega arith);
+      low = λ e. omega (arith, e);
+      high = λ e. omega (arith, e);
+      registers = inl (omega arith);
+    };
+    timer = λ set. inl (omega arith);
+  }) in omega (arith, byte));
+}

@@ -1,0 +1,180 @@
+-- The code that begins a subtune, run by hand: the first subtune and the second, with the timer and without it; what
+-- the law on it asks, met there; and what it refuses.
+use Rattle.std.specs.Prelude.{◌≡◌, ℕ, zero, suc, ◌+◌, ◌-◌, ◌*◌, ◌/◌, ◌<◌, ◌&&◌}
+use Rattle.std.specs.Prelude.{◌||◌, Bool, true, false, nat_eq}
+use Rattle.std.specs.Prelude.{nat_le, nat_lt, if◌then◌else◌, List, [], ◌∷◌, ◌++◌, replicate}
+use Rattle.code_runs.specs.Runs.{put}
+use Rattle.scopes.specs.Desk.{Desk, Layout}
+use Rattle.scopes.specs.Meaning.{Outcome, Ran, Done, Again, Stuck, each_one, ran}
+use Rattle.player_memory.specs.declared.conditions.TheConstants.{TIMED}
+use Rattle.player_memory.specs.declared.labels.TheConstants.{ORDERS_LOW, ORDERS_HIGH, TICK, VOLUME}
+use Rattle.player_memory.specs.Rooms.{IsRoom, MayUse}
+use Rattle.player_memory.specs.WorkedMemory.{at_1000}
+use Rattle.player_memory.specs.WorkedPlays.{its_desk}
+use Rattle.player_text.specs.declared.texts.Start.{Start}
+use Rattle.player_text.specs.Texts.{init_tree}
+use Rattle.init_code.specs.InitBlock.{MaySetTimer, IsUntouched, IsOrderByte, HasOrders, IsAtSubtune, Starts}
+
+-- ---- the site
+
+-- the variables are at $1006, and the lists of two subtunes' orderlists at $1180 and $1190; the timer is set, or isn't
+abbrev pub site : Bool → Layout
+site timed = record at_1000 {
+  address = λ label. if nat_eq label ORDERS_LOW then 0x1180
+      else if nat_eq label ORDERS_HIGH then 0x1190
+      else at_1000.address label;
+  holds = λ condition. at_1000.holds condition || timed && nat_eq condition TIMED;
+  may_write = λ place. at_1000.may_write place || nat_eq place 0xDC04 || nat_eq place 0xDC05;
+}
+
+-- those of the first subtune are at $1300, $1311 and $1322, those of the second at $1433, $1444 and $1455
+abbrev pub its_address : ℕ → ℕ → ℕ
+its_address subtune voice = 0x1300 + 0x100 * subtune + 0x11 * (3 * subtune + voice)
+
+-- all other places have $77
+abbrev pub its_memory : ℕ → ℕ
+its_memory place =
+    if nat_le 0x1180 place && nat_lt place 0x1186 then 0x11 * (place - 0x1180)
+    else if nat_le 0x1190 place && nat_lt place 0x1196 then 0x13 + (place - 0x1190) / 3
+    else 0x77
+
+abbrev pub called : ℕ → Bool → Desk
+called subtune decimal = record {
+  cpu = record (its_desk 99 decimal its_memory).cpu { a = subtune };
+  at = its_memory;
+}
+
+abbrev pub numbers : Start
+numbers = record { tempo = 5; funk = 8; timer_low = 0x25; timer_high = 0x40 }
+
+abbrev pub began : Bool → ℕ → Ran
+began timed subtune = ran each_one (site timed) (init_tree numbers) (called subtune false)
+
+-- ---- what it leaves
+
+abbrev pub bytes : (ℕ → ℕ) → ℕ → ℕ → List ℕ
+bytes at place zero = []
+bytes at place (suc more) = at place ∷ bytes at (place + 1) more
+
+-- the seven bytes of a voice in each of the five groups, and what stands behind them
+abbrev pub song : ℕ → ℕ → List ℕ
+song low high = 0 ∷ 0 ∷ 0 ∷ 0 ∷ low ∷ high ∷ 0 ∷ []
+
+abbrev pub row : List ℕ
+row = 0 ∷ 0 ∷ 1 ∷ 0 ∷ 1 ∷ 0 ∷ 0 ∷ []
+
+abbrev pub sound : List ℕ
+sound = 255 ∷ 0 ∷ 0xFE ∷ 0 ∷ 0 ∷ 0 ∷ 0 ∷ []
+
+abbrev pub tempo : List ℕ
+tempo = 0 ∷ 0 ∷ 0 ∷ 0 ∷ 0 ∷ 5 ∷ 0 ∷ []
+
+abbrev pub all_variables : List ℕ → List ℕ
+all_variables songs =
+    songs ++ (row ++ (row ++ (row ++ (replicate 21 0 ++ (sound ++ (sound ++ (sound ++ (tempo ++ (tempo ++ (tempo
+    ++ (0 ∷ 0 ∷ 15 ∷ 0 ∷ 0 ∷ 0 ∷ 8 ∷ 5 ∷ [])))))))))))
+
+pub record IsBegun (run : Ran) (songs timer : List ℕ) (cost : ℕ) : Type 0 where
+  pub ends : run.outcome ≡ Done
+  pub variables : bytes run.desk.at 0x1006 113 ≡ all_variables songs
+  pub registers : bytes run.desk.at 0xD400 25 ≡ replicate 25 0
+  pub timer_is : bytes run.desk.at 0xDC03 4 ≡ 0x77 ∷ (timer ++ (0x77 ∷ []))
+  pub slides : bytes run.desk.at 0x1100 8 ≡ replicate 8 0x77
+  pub cost_is : run.cost ≡ cost
+
+abbrev pub first_songs : List ℕ
+first_songs = song 0x00 0x13 ++ (song 0x11 0x13 ++ song 0x22 0x13)
+
+abbrev pub second_songs : List ℕ
+second_songs = song 0x33 0x14 ++ (song 0x44 0x14 ++ song 0x55 0x14)
+
+-- where the code may not do what it does
+abbrev pub outcome_at : Layout → ℕ → Bool → Outcome
+outcome_at layout subtune decimal = (ran each_one layout (init_tree numbers) (called subtune decimal)).outcome
+
+pub record RunsAreWorked : Type 0 where
+  pub first : IsBegun (began false 0) first_songs (0x77 ∷ 0x77 ∷ []) 483
+  pub second : IsBegun (began false 1) second_songs (0x77 ∷ 0x77 ∷ []) 483
+  pub first_timed : IsBegun (began true 0) first_songs (0x25 ∷ 0x40 ∷ []) 487
+  pub second_timed : IsBegun (began true 1) second_songs (0x25 ∷ 0x40 ∷ []) 487
+  pub decimal : outcome_at (site false) 0 true ≡ Stuck
+  pub no_timer : outcome_at (record (site true) { may_write = at_1000.may_write }) 0 false ≡ Stuck
+  pub no_lists : outcome_at (record (site false) { may_read = λ place. nat_lt place 0x1180 }) 0 false ≡ Stuck
+
+-- ---- what the law asks is met there
+
+-- the lists of the low bytes stand at the timer
+abbrev pub at_timer : Bool → Layout
+at_timer timed = record (site timed) {
+  address = λ label. if nat_eq label ORDERS_LOW then 0xDC05 else (site timed).address label;
+  may_read = λ place. true;
+}
+
+abbrev pub timer_from : ℕ → Layout
+timer_from place = record (site true) { may_write = λ its. nat_eq its place }
+
+pub record SiteIsWorked : Type 0 where
+  pub room : (timed : Bool) → IsRoom (site timed) 4
+  pub uses : (timed : Bool) → MayUse (site timed) 4
+  pub timer : (timed : Bool) → MaySetTimer (site timed)
+  pub orders : (timed : Bool) (subtune : ℕ) → subtune < 2 →
+      HasOrders (site timed) 4 its_memory subtune (its_address subtune)
+  pub at_subtune : IsAtSubtune 1 (called 1 false)
+  -- one byte of the timer isn't enough; where it isn't set neither is needed
+  pub low_alone : ¬ MaySetTimer (timer_from 0xDC04)
+  pub high_alone : ¬ MaySetTimer (timer_from 0xDC05)
+  pub no_timer : MaySetTimer at_1000
+  -- a subtune that isn't in the lists; another address; a byte that may not be read
+  pub third : ¬ HasOrders (site false) 4 its_memory 2 (its_address 2)
+  pub other_low : ¬ HasOrders (site false) 4 (put its_memory 0x1185 0x54) 1 (its_address 1)
+  pub other_high : ¬ HasOrders (site false) 4 (put its_memory 0x1193 0x13) 1 (its_address 1)
+  pub unread : ¬ HasOrders (record (site false) { may_read = λ place. nat_lt place 0x1190 }) 4 its_memory 0
+      (its_address 0)
+  -- a list at the timer, where that is set, and where it isn't
+  pub on_timer : ¬ IsOrderByte (at_timer true) 4 its_memory ORDERS_LOW 0 0x77
+  pub on_no_timer : IsOrderByte (at_timer false) 4 its_memory ORDERS_LOW 0 0x77
+  pub before_timer : IsUntouched (site true) 4 0xDC03
+  pub timer_low : ¬ IsUntouched (site true) 4 0xDC04
+  pub timer_high : ¬ IsUntouched (site true) 4 0xDC05
+  pub behind_timer : IsUntouched (site true) 4 0xDC06
+  pub variable : ¬ IsUntouched (site false) 4 0x1006
+  -- the number's byte, and the decimal flag
+  pub other_a : ¬ IsAtSubtune 1 (called 0 false)
+  pub last : IsAtSubtune 84 (called 84 false)
+  pub over : ¬ IsAtSubtune 85 (called 85 false)
+  pub decimal : ¬ IsAtSubtune 1 (called 1 true)
+
+-- ---- what it may not leave
+
+abbrev pub StartsSo : Bool → Ran → Type 0
+StartsSo timed run = Starts (site timed) 4 numbers (its_address 1) (called 1 false) run
+
+-- with another byte at a place
+abbrev pub leaving : Bool → ℕ → ℕ → Ran
+leaving timed place byte =
+    record (began timed 1) { desk = record (began timed 1).desk { at = put (began timed 1).desk.at place byte } }
+
+abbrev pub in_decimal : Ran → Ran
+in_decimal run = record run { desk = record run.desk { cpu = record run.desk.cpu { d = true } } }
+
+pub record StartsAreWorked : Type 0 where
+  pub timed : StartsSo true (began true 1)
+  pub untimed : StartsSo false (began false 1)
+  pub not_ended : ¬ StartsSo true (record (began true 1) { outcome = Again })
+  pub decimal : ¬ StartsSo true (in_decimal (began true 1))
+  pub own : ¬ StartsSo true (leaving true (0x1006 + TICK + 14) 2)
+  pub common : ¬ StartsSo true (leaving true (0x1006 + VOLUME) 14)
+  pub other_subtune : ¬ StartsSo true (began true 0)
+  pub other_tempo : ¬ Starts (site true) 4 (record numbers { tempo = 6 }) (its_address 1) (called 1 false)
+      (began true 1)
+  pub other_funk : ¬ Starts (site true) 4 (record numbers { funk = 7 }) (its_address 1) (called 1 false) (began true 1)
+  pub first_register : ¬ StartsSo true (leaving true 0xD400 1)
+  pub last_register : ¬ StartsSo true (leaving true 0xD418 15)
+  -- the timer, where it is set, and where it isn't
+  pub timer_low : ¬ StartsSo true (leaving true 0xDC04 0x77)
+  pub timer_high : ¬ StartsSo true (leaving true 0xDC05 0x77)
+  pub no_timer_low : ¬ StartsSo false (leaving false 0xDC04 0x25)
+  pub no_timer_high : ¬ StartsSo false (leaving false 0xDC05 0x40)
+  pub low_slide : ¬ StartsSo true (leaving true 0x1103 0)
+  pub high_slide : ¬ StartsSo true (leaving true 0x1107 0)
+  pub elsewhere : ¬ StartsSo true (leaving true 0x1005 0)
