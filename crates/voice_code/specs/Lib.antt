@@ -1,0 +1,3 @@
+-- To believe: the code of a voice in a frame.
+pub mod VoiceBlock
+pub mod WorkedVoice

@@ -1,0 +1,77 @@
+-- The code of a voice in a frame, run by hand: a voice that waits, and one whose note slides; and what a voice in a frame
+-- isn't.
+use Rattle.std.specs.Prelude.{◌≡◌, ℕ, ◌+◌, false, List}
+use Rattle.code_runs.specs.Runs.{put}
+use Rattle.song_model.specs.declared.orders.Order.{Order}
+use Rattle.play_model.specs.LookUps.{LookUps}
+use Rattle.play_model.specs.State.{Playing, start_voice, start_common}
+use Rattle.scopes.specs.Desk.{Layout}
+use Rattle.scopes.specs.Meaning.{Outcome, Done, Left, Ran, each_one, ended, ran}
+use Rattle.player_memory.specs.declared.labels.TheConstants.{TICK, WAVE, AD, SR, FREQ_LOW, FREQ_HIGH, PULSE_LOW}
+use Rattle.player_memory.specs.declared.labels.TheConstants.{PULSE_HIGH, GATE_TIMER, OFFSET, REST, LENT}
+use Rattle.player_memory.specs.WorkedMemory.{at_1000}
+use Rattle.player_memory.specs.WorkedPlays.{its_memory, its_desk, with_variable}
+use Rattle.player_text.specs.declared.joints.TheConstants.{SOUNDS}
+use Rattle.player_text.specs.Texts.{voice_tree}
+use Rattle.voice_code.specs.VoiceBlock.{VoicePlays}
+
+-- no condition holds
+abbrev pub bare : Layout
+bare = record at_1000 { holds = λ condition. false }
+
+-- the second voice, in the middle of a row, with bytes for its registers
+abbrev pub waiting : ℕ → ℕ
+waiting =
+    with_variable (TICK + 7) 3 (with_variable (GATE_TIMER + 7) 1 (with_variable (OFFSET + 7) 5
+    (with_variable (WAVE + 7) 0x41 (with_variable (AD + 7) 0x09 (with_variable (SR + 7) 0xA0
+    (with_variable (FREQ_LOW + 7) 0x12 (with_variable (FREQ_HIGH + 7) 0x34
+    (with_variable (PULSE_LOW + 7) 0x56 (with_variable (PULSE_HIGH + 7) 0x18 its_memory)))))))))
+
+abbrev pub voiced : (ℕ → ℕ) → Ran
+voiced at = ran each_one bare voice_tree (its_desk 7 false at)
+
+-- the registers of the second voice
+pub record HasSounds (run : Ran) (low high pulse_low pulse_high wave ad sr : ℕ) : Type 0 where
+  pub low_is : run.desk.at 0xD407 ≡ low
+  pub high_is : run.desk.at 0xD408 ≡ high
+  pub pulse_low_is : run.desk.at 0xD409 ≡ pulse_low
+  pub pulse_high_is : run.desk.at 0xD40A ≡ pulse_high
+  pub wave_is : run.desk.at 0xD40B ≡ wave
+  pub ad_is : run.desk.at 0xD40C ≡ ad
+  pub sr_is : run.desk.at 0xD40D ≡ sr
+
+pub record IsVoiced (run : Ran) (tick rest cost : ℕ) : Type 0 where
+  pub ends : run.outcome ≡ Done
+  pub tick_is : run.desk.at (0x1006 + TICK + 7) ≡ tick
+  pub rest_is : run.desk.at (0x1006 + REST + 7) ≡ rest
+  pub cost_is : run.cost ≡ cost
+
+-- a voice that waits, and one whose rest is due
+pub record VoicesAreWorked : Type 0 where
+  pub waits : IsVoiced (voiced waiting) 2 0 28
+  pub sounds : HasSounds (voiced waiting) 0x12 0x34 0x56 0x08 0x40 0x09 0xA0
+  pub rests : IsVoiced (voiced (with_variable (TICK + 7) 2 (with_variable (REST + 7) 4 waiting))) 1 3 30
+  pub first : (voiced waiting).desk.at 0xD400 ≡ 0
+
+-- ---- what isn't left so
+
+-- a voice with this frequency, and other fields as they begin
+abbrev pub sounding : Playing
+sounding = record { voice = record start_voice { freq = 0x3412 }; common = start_common 1 }
+
+-- a run that has left this memory, with this in X, in this way
+abbrev pub LeftAs : LookUps → (ℕ → List ℕ) → Order → Outcome → ℕ → (ℕ → ℕ) → Type 0
+LeftAs look packed order way x at =
+    VoicePlays bare 4 1 256 look packed order (its_desk 7 false waiting) (ended way (its_desk x false at) 0) sounding
+
+pub record OthersAreDenied (look : LookUps) (packed : ℕ → List ℕ) (order : Order) : Type 0 where
+  pub way : ¬ LeftAs look packed order (Left SOUNDS) 7 (voiced waiting).desk.at
+  pub other_x : ¬ LeftAs look packed order Done 14 (voiced waiting).desk.at
+  pub lent : ¬ LeftAs look packed order Done 7 (with_variable LENT 1 (voiced waiting).desk.at)
+  -- a register of the voice, of another voice, and the volume's
+  pub own_register : ¬ LeftAs look packed order Done 7 (put (voiced waiting).desk.at 0xD407 0x13)
+  pub other_register : ¬ LeftAs look packed order Done 7 (put (voiced waiting).desk.at 0xD40E 1)
+  pub volume : ¬ LeftAs look packed order Done 7 (put (voiced waiting).desk.at 0xD418 1)
+  -- a byte of another voice, and one elsewhere
+  pub other_voice : ¬ LeftAs look packed order Done 7 (with_variable TICK 9 (voiced waiting).desk.at)
+  pub elsewhere : ¬ LeftAs look packed order Done 7 (put (voiced waiting).desk.at 0x2000 1)
