@@ -1,0 +1,75 @@
+-- The code that begins a subtune, as a call, and what it does. This is the project's own player.
+use Rattle.std.specs.Prelude.{◌≡◌, ℕ, ◌+◌, ◌-◌, ◌*◌, ◌/◌, ◌%◌, ◌<◌, ◌≤◌}
+use Rattle.std.specs.Prelude.{◌⊎◌, Some, None, true, length}
+use Rattle.std.specs.Prelude.{if◌then◌else◌}
+use Rattle.song_model.specs.LookUp.{is_playable_subtune}
+use Rattle.play_model.specs.declared.options.Options.{Options}
+use Rattle.play_model.specs.Speeds.{timer_value}
+use Rattle.play_model.specs.State.{start_state}
+use Rattle.play_model.specs.Frame.{subtune_at}
+use Rattle.packed_form.specs.declared.packed_songs.PackedSong.{PackedSong}
+use Rattle.packed_form.specs.Unpacked.{unpacked_song}
+use Rattle.scopes.specs.Desk.{Desk, Layout}
+use Rattle.scopes.specs.Meaning.{Done, Ran}
+use Rattle.scope_calls.specs.Entrances.{Entrance}
+use Rattle.scope_calls.specs.Meaning.{entrance_ran}
+use Rattle.player_memory.specs.declared.conditions.TheConstants.{TIMED}
+use Rattle.player_memory.specs.declared.labels.TheConstants.{LENT}
+use Rattle.player_memory.specs.SongLists.{HasSongLists, slide_rows}
+use Rattle.player_memory.specs.Holds.{Holds, IsPlayerLayout}
+use Rattle.player_text.specs.declared.texts.Start.{Start}
+use Rattle.player_text.specs.Texts.{init_tree}
+use Rattle.init_code.specs.InitBlock.{IsUntouched, MaySetTimer}
+
+-- ---- the entrance
+
+-- a beginning: no voice is called, and the number of the subtune is stored where a command is said to be lent, which
+-- the block clears
+pub record BeginsSubtunes (e : Entrance) (start : Start) : Type 0 where
+  pub first : e.first ≡ init_tree start
+  pub voice : e.voice ≡ None
+  pub stored : e.stored ≡ Some LENT
+
+-- the numbers with which a subtune begins: the tempos of the start state, and the timer's value, the low byte first
+abbrev pub start_of : Options → Start
+start_of o = record {
+  tempo = 6 * o.speed - 1;
+  funk = 9 * o.speed - 1;
+  timer_low = timer_value o.system o.speed % 256;
+  timer_high = timer_value o.system o.speed / 256;
+}
+
+-- ---- what it stands on
+
+-- where the timer is set the blocks read neither of its places, so none of the lists stands there
+abbrev pub ReadsOffTimer : Layout → Type 0
+ReadsOffTimer layout =
+    layout.holds TIMED ≡ true → (place : ℕ) → layout.may_read place ≡ true → (place < 0xDC04) ⊎ (0xDC06 ≤ place)
+
+-- the call's number is that of a subtune, whose third orderlist's number is a byte; none of its orderlists is empty
+pub record IsCalledWith (packed : PackedSong) (k : ℕ) (desk : Desk) : Type 0 where
+  pub a : desk.cpu.a ≡ k
+  pub stored : k < length packed.subtunes
+  pub byte : 3 * k + 2 < 256
+  pub playable : is_playable_subtune (subtune_at (unpacked_song packed) k) ≡ true
+
+-- ---- what it does
+
+-- The call has come to its end: memory holds the start state, and the 25 registers are 0. The timer has its value where
+-- it is set, and what it had where it isn't. What is elsewhere is as before.
+pub record BeginsSubtune (layout : Layout) (packed : PackedSong) (o : Options) (k : ℕ) (before : Desk) (run : Ran)
+    : Type 0 where
+  pub ends : run.outcome ≡ Done
+  pub holds : Holds layout packed k (start_state o) run.desk.at
+  pub registers : (register : ℕ) → register < 25 → run.desk.at (0xD400 + register) ≡ 0
+  pub timer_low : run.desk.at 0xDC04 ≡ (if layout.holds TIMED then (start_of o).timer_low else before.at 0xDC04)
+  pub timer_high : run.desk.at 0xDC05 ≡ (if layout.holds TIMED then (start_of o).timer_high else before.at 0xDC05)
+  pub elsewhere : (place : ℕ) → IsUntouched layout (slide_rows packed) place → run.desk.at place ≡ before.at place
+
+-- In any memory that has the song's lists, the call begins the subtune.
+abbrev pub BeginningsStart : Type 0
+BeginningsStart =
+    (layout : Layout) (packed : PackedSong) (o : Options) (k : ℕ) (e : Entrance) (desk : Desk) →
+    BeginsSubtunes e (start_of o) → IsPlayerLayout layout packed → MaySetTimer layout → ReadsOffTimer layout →
+    IsCalledWith packed k desk → HasSongLists layout packed desk.at →
+    BeginsSubtune layout packed o k desk (entrance_ran layout e desk)
