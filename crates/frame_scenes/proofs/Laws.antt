@@ -1,0 +1,5 @@
+-- The lemmas that upper crates may cite.
+
+-- a frame is ready, and each of a packed subtune from its start on
+pub use Rattle.frame_scenes.proofs.Frames.{frames_are_ready}
+pub use Rattle.frame_scenes.proofs.Reached.{packed_scene, packed_frames_are_ready}

@@ -1,0 +1,21 @@
+-- What upper crates may cite.
+pub mod Laws
+-- The lists as the steps read them.
+mod Lists
+mod Speeds
+-- A voice at its turn: its state, and the rows that it is on.
+mod Turns
+mod Programs
+mod Orders
+mod Patterns
+-- The steps are ready.
+mod Ticks
+mod Moves
+mod Waves
+mod Effects
+mod Pulses
+-- All of them.
+mod Frames
+mod Reached
+-- What is no scene.
+mod WorkedScenes

@@ -1,0 +1,134 @@
+-- The lists of a packed song, as the steps read them: instruments, the tables of programs and the frequencies of notes.
+use Rattle.std.proofs.Common.{◌≡◌, ℕ, ◌+◌, ◌%◌, ◌<◌, ◌≤◌, Bool, true, false, length, nat_le}
+use Rattle.std.proofs.Common.{if◌then◌else◌, refl, arith}
+use Rattle.std.proofs.lemmas.Bool.Decides.{nat_tests}
+use Rattle.song_model.specs.declared.tables.TableName.TheVariants.{Wave, Pulse, Filter}
+use Rattle.song_model.specs.declared.tables.TableRow.{TableRow}
+use Rattle.song_model.specs.Limits.{KeepsLimits}
+use Rattle.song_model.specs.LookUp.{IsNumbered}
+use Rattle.play_model.specs.Ranges.{AreLookUps}
+use Rattle.play_model.proofs.Laws.{song_look_ups}
+use Rattle.packed_form.specs.declared.packed_songs.PackedSong.{PackedSong}
+use Rattle.packed_form.specs.Unpacked.{unpacked_song}
+use Rattle.scopes.specs.Desk.{Layout}
+use Rattle.player_memory.specs.Forms.{stored_left, stored_right}
+use Rattle.player_memory.specs.SongLists.{SongList, FrequencyLows, FrequencyHighs, Lefts, Rights, Instruments}
+use Rattle.player_memory.specs.SongLists.{first_number, list_length, HasNumber, slide_rows, HasSongLists}
+use Rattle.player_memory.specs.Holds.{IsPlayerLayout, look_of}
+use Rattle.pulse_code.specs.PulseBlock.{HasPulseTable}
+use Rattle.filter_code.specs.FilterBlock.{HasFilterTable}
+use Rattle.tick_code.specs.TickBlock.{HasInstrument}
+use Rattle.wave_code.specs.WaveBlock.{HasWaveTable}
+use Rattle.slide_code.specs.SlideBlock.{HasHalfTones}
+
+-- a number of a list whose first one is 1, or 0
+pub from_one : (packed : PackedSong) (list : SongList) (number : ℕ) → first_number list ≡ 1 → 1 ≤ number →
+    number ≤ list_length packed list → HasNumber packed list number
+from_one packed list number first least most =
+    record { from = omega (arith, first, least); to = omega (arith, first, most) }
+
+pub from_none : (packed : PackedSong) (list : SongList) (number : ℕ) → first_number list ≡ 0 →
+    number < list_length packed list → HasNumber packed list number
+from_none packed list number first below = record { from = omega (arith, first); to = omega (arith, first, below) }
+
+-- what is looked up are bytes
+pub looks : (packed : PackedSong) → KeepsLimits (unpacked_song packed) → AreLookUps (look_of packed)
+looks packed limits = song_look_ups (unpacked_song packed) limits
+
+-- ---- tables of programs
+
+pub pulses_stand : (layout : Layout) (packed : PackedSong) (at : ℕ → ℕ) → IsPlayerLayout layout packed →
+    HasSongLists layout packed at → KeepsLimits (unpacked_song packed) →
+    HasPulseTable layout (slide_rows packed) at (look_of packed) (length packed.pulse)
+pulses_stand layout packed at laid has limits = record {
+  table = record {
+    few = let most = limits.pulse.count in omega (arith, most);
+    each = λ number least most.
+        let bytes = (looks packed limits).row Pulse number in record {
+          left = has.lists (Lefts Pulse) number tt (from_one packed (Lefts Pulse) number refl least most);
+          right = has.lists (Rights Pulse) number tt (from_one packed (Rights Pulse) number refl least most);
+          left_byte = bytes.left;
+          right_byte = bytes.right;
+        };
+  };
+  next = laid.next.pulse_lefts;
+}
+
+pub filters_stand : (layout : Layout) (packed : PackedSong) (at : ℕ → ℕ) → IsPlayerLayout layout packed →
+    HasSongLists layout packed at → KeepsLimits (unpacked_song packed) →
+    HasFilterTable layout (slide_rows packed) at (look_of packed) (length packed.filter)
+filters_stand layout packed at laid has limits = record {
+  table = record {
+    few = let most = limits.filter.count in omega (arith, most);
+    each = λ number least most.
+        let bytes = (looks packed limits).row Filter number in record {
+          left = has.lists (Lefts Filter) number tt (from_one packed (Lefts Filter) number refl least most);
+          right = has.lists (Rights Filter) number tt (from_one packed (Rights Filter) number refl least most);
+          left_byte = bytes.left;
+          right_byte = bytes.right;
+        };
+  };
+  next = laid.next.filter_lefts;
+}
+
+-- the form in which a row of the wave table is stored is in bytes too
+left_small : (left : ℕ) → left < 256 → stored_left left < 256
+left_small left small = grind (arith, nat_tests)
+
+right_small : (row : TableRow) → row.right < 256 → stored_right row < 256
+right_small row small = by_test (nat_le 0xF0 row.left)
+  where
+    by_test : (z : Bool) → (if z then row.right else (row.right + 0x80) % 256) < 256
+    by_test true = small
+    by_test false = omega arith
+
+pub waves_stand : (layout : Layout) (packed : PackedSong) (at : ℕ → ℕ) → IsPlayerLayout layout packed →
+    HasSongLists layout packed at → KeepsLimits (unpacked_song packed) →
+    HasWaveTable layout (slide_rows packed) at (look_of packed) (length packed.wave)
+waves_stand layout packed at laid has limits = record {
+  table = record {
+    few = let most = limits.wave.count in omega (arith, most);
+    each = λ number least most.
+        let bytes = (looks packed limits).row Wave number in record {
+          left = has.lists (Lefts Wave) number tt (from_one packed (Lefts Wave) number refl least most);
+          right = has.lists (Rights Wave) number tt (from_one packed (Rights Wave) number refl least most);
+          left_byte = left_small _ bytes.left;
+          right_byte = right_small ((look_of packed).row Wave number) bytes.right;
+        };
+  };
+  bytes = λ number least most. ((looks packed limits).row Wave number).right;
+  next_left = laid.next.wave_lefts;
+  next_right = laid.next.wave_rights;
+}
+
+-- ---- notes and instruments
+
+pub tones_stand : (layout : Layout) (packed : PackedSong) (at : ℕ → ℕ) → IsPlayerLayout layout packed →
+    HasSongLists layout packed at → HasHalfTones layout (slide_rows packed) at
+tones_stand layout packed at laid has = record {
+  frequencies = record {
+    low = λ note few. has.lists FrequencyLows note tt (from_none packed FrequencyLows note refl few);
+    high = λ note few. has.lists FrequencyHighs note tt (from_none packed FrequencyHighs note refl few);
+  };
+  next_low = laid.next.frequency_lows;
+  next_high = laid.next.frequency_highs;
+}
+
+pub instrument_stands : (layout : Layout) (packed : PackedSong) (at : ℕ → ℕ) → HasSongLists layout packed at →
+    KeepsLimits (unpacked_song packed) → (number : ℕ) → IsNumbered packed.instruments number →
+    HasInstrument layout (slide_rows packed) at (look_of packed) number
+instrument_stands layout packed at has limits number is = record {
+  ad = has.lists (Instruments 0) number (omega arith) (numbered 0);
+  sr = has.lists (Instruments 1) number (omega arith) (numbered 1);
+  wave = has.lists (Instruments 2) number (omega arith) (numbered 2);
+  pulse = has.lists (Instruments 3) number (omega arith) (numbered 3);
+  filter = has.lists (Instruments 4) number (omega arith) (numbered 4);
+  vibrato = has.lists (Instruments 5) number (omega arith) (numbered 5);
+  delay = has.lists (Instruments 6) number (omega arith) (numbered 6);
+  gate_timer = has.lists (Instruments 7) number (omega arith) (numbered 7);
+  first_wave = has.lists (Instruments 8) number (omega arith) (numbered 8);
+  gate_timer_byte = ((looks packed limits).instrument number).gate_timer;
+}
+  where
+    numbered : (field : ℕ) → HasNumber packed (Instruments field) number
+    numbered field = from_one packed (Instruments field) number refl is.first is.last

@@ -1,0 +1,170 @@
+-- The wave step is ready.
+use Rattle.std.proofs.Common.{◌≡◌, ◌≢◌, ℕ, ◌+◌, ◌<◌, ◌≤◌, Bool, true, false, length}
+use Rattle.std.proofs.Common.{if◌then◌else◌, inl, inr, refl, sym, subst, arith}
+use Rattle.std.proofs.lemmas.Bool.{and_parts, eqb-false, leb-true}
+use Rattle.song_model.specs.declared.features.Feature.TheVariants.{WaveTable, WaveCommand}
+use Rattle.song_model.specs.declared.songs.Song.{Song}
+use Rattle.song_model.specs.declared.tables.TableName.TheVariants.{Wave}
+use Rattle.play_model.specs.declared.options.Options.{Options}
+use Rattle.play_model.specs.LookUps.{LookUps}
+use Rattle.play_model.specs.State.{FrameState, Playing}
+use Rattle.play_model.specs.Reached.{IsStep}
+use Rattle.play_model.specs.WaveStep.{wave_step, is_wave_command}
+use Rattle.play_model.specs.Uses.{GoesOn, HasWaveProgram, MeetsWaveCommand, DoesWave}
+use Rattle.safe_states.proofs.Laws.{is_step}
+use Rattle.packed_form.specs.declared.packed_songs.PackedSong.{PackedSong}
+use Rattle.packed_form.specs.Unpacked.{unpacked_song}
+use Rattle.scopes.specs.Desk.{Layout}
+use Rattle.scopes.specs.Meaning.{Done, Left}
+use Rattle.player_memory.specs.Holds.{look_of}
+use Rattle.player_text.specs.declared.joints.TheConstants.{COMMANDED, PITCHED}
+use Rattle.wave_code.specs.WaveBlock.{IsOnWave, KeepsWave, its_row, begun}
+use Rattle.wave_code.specs.CommandBlock.{lent_out}
+use Rattle.slide_code.specs.SlideBlock.{IsNote}
+use Rattle.voice_code.specs.VoiceBlock.{IsMoved, MeetsCommand, WaveIsReady, its_command, its_param}
+use Rattle.frame_code.specs.FrameBlock.{counts_of}
+use Rattle.frame_scenes.proofs.Turns.{AtTurn, IsFine, its_turn, in_turn}
+use Rattle.frame_scenes.proofs.Programs.{next_stored, speed_stored, wave_points}
+use Rattle.frame_scenes.proofs.Ticks.{once_kept}
+use Rattle.frame_scenes.proofs.Moves.{note_sounds, slides_kept}
+
+-- ---- the program
+
+pub on_wave : (layout : Layout) (packed : PackedSong) (song : Song) (o : Options) (k voice : ℕ) (x : FrameState)
+    (at : ℕ → ℕ) (s : Playing) → AtTurn layout packed song o k voice x at → IsFine packed k voice s →
+    IsOnWave (look_of packed) (length packed.wave) s.voice
+on_wave layout packed song o k voice x at s turn fine = record {
+  next = λ some.
+      next_stored (unpacked_song packed) Wave s.voice.wave_ptr turn.scene.stands.complete.playable (λ e. (cc))
+      (step some) refl;
+  no_jump = λ some. eqb-false _ 0xFF (step some).no_jump;
+  delay = λ some. (fine.safe.voice.wave_time some).delay;
+  time = λ some. (fine.safe.voice.wave_time some).other;
+}
+  where
+    step : s.voice.wave_ptr ≢ 0 → IsStep (unpacked_song packed) Wave s.voice.wave_ptr
+    step some = is_step (unpacked_song packed) Wave s.voice.wave_ptr fine.safe.voice.wave some
+
+has_program : (packed : PackedSong) (o : Options) (k voice : ℕ) (x : FrameState) (s : Playing) →
+    GoesOn (its_turn packed o k voice x) s → s.voice.wave_ptr ≢ 0 →
+    HasWaveProgram (its_turn packed o k voice x) s.voice.wave_ptr
+has_program packed o k voice x s goes some = record { s = s; goes_on = goes; ptr = refl; some = some }
+
+meets_row : (packed : PackedSong) (o : Options) (k voice : ℕ) (x : FrameState) (s : Playing) →
+    GoesOn (its_turn packed o k voice x) s → s.voice.wave_ptr ≢ 0 →
+    is_wave_command (its_row (look_of packed) s.voice) ≡ true →
+    MeetsWaveCommand (its_turn packed o k voice x) (its_row (look_of packed) s.voice)
+meets_row packed o k voice x s goes some command = record {
+  p = s.voice.wave_ptr;
+  program = has_program packed o k voice x s goes some;
+  row_is = refl;
+  is_command = command;
+}
+
+wave_kept : (layout : Layout) (packed : PackedSong) (song : Song) (o : Options) (k voice : ℕ) (x : FrameState)
+    (at : ℕ → ℕ) (s : Playing) → AtTurn layout packed song o k voice x at →
+    GoesOn (its_turn packed o k voice x) s → KeepsWave layout (look_of packed) s.voice
+wave_kept layout packed song o k voice x at s turn goes = record {
+  table = λ some.
+      turn.scene.used WaveTable
+      (in_turn packed o k voice x _ turn.few (s.voice.wave_ptr, has_program packed o k voice x s goes some));
+  command = λ some command.
+      turn.scene.used WaveCommand
+      (in_turn packed o k voice x _ turn.few
+      (its_row (look_of packed) s.voice, meets_row packed o k voice x s goes some command));
+}
+
+-- ---- a row that is a command
+
+-- the program is on a row, which is one
+pub record IsMet (look : LookUps) (s : Playing) : Type 0 where
+  pub some : s.voice.wave_ptr ≢ 0
+  pub command : is_wave_command (its_row look s.voice) ≡ true
+
+chosen : (effect command : Bool) →
+    (if effect then Done else if command then Left COMMANDED else Left PITCHED) ≡ Left COMMANDED → command ≡ true
+chosen true command e = absurd (cc)
+chosen false true e = refl
+chosen false false e = let same : PITCHED ≡ COMMANDED = cc in absurd (omega (arith, same))
+
+met : (look : LookUps) (s : Playing) → MeetsCommand look s → IsMet look s
+unfolding wave_step
+met look s meets = record {
+  some = λ at_zero. absurd (stopped at_zero);
+  command = chosen (wave_step look s).effect (is_wave_command (its_row look s.voice)) meets;
+}
+  where
+    stopped : s.voice.wave_ptr ≡ 0 → ⊥
+    stopped e = let way = rw e at meets in absurd (cc)
+
+-- its command
+record IsCommand (look : LookUps) (s : Playing) : Type 0 where
+  is : (its_row look s.voice).left ≡ 0xF0 + its_command look s.voice
+
+command_is : (look : LookUps) (s : Playing) → IsMet look s → IsCommand look s
+command_is look s is =
+    let from = leb-true 0xF0 (its_row look s.voice).left (and_parts _ _ is.command).0 in
+    record { is = omega (arith, from) }
+
+does_wave : (packed : PackedSong) (o : Options) (k voice : ℕ) (x : FrameState) (s : Playing) →
+    GoesOn (its_turn packed o k voice x) s → IsMet (look_of packed) s →
+    DoesWave (its_turn packed o k voice x) (its_command (look_of packed) s.voice) (its_param (look_of packed) s.voice)
+does_wave packed o k voice x s goes is = record {
+  row = its_row (look_of packed) s.voice;
+  meets = meets_row packed o k voice x s goes is.some is.command;
+  command_is = (command_is (look_of packed) s is).is;
+  param_is = refl;
+}
+
+-- the program goes on in front of it, and nothing else
+begun_frequency : (look : LookUps) (s : Playing) → IsMet look s →
+    ((begun look s).voice.freq ≡ s.voice.freq) × ((begun look s).voice.note ≡ s.voice.note)
+begun_frequency look s is = let e = is.command in (rw e refl, rw e refl)
+
+lent_moves : (layout : Layout) (packed : PackedSong) (song : Song) (o : Options) (k voice : ℕ) (x : FrameState)
+    (at : ℕ → ℕ) (s : Playing) → AtTurn layout packed song o k voice x at →
+    GoesOn (its_turn packed o k voice x) s → IsFine packed k voice s → IsMet (look_of packed) s →
+    1 ≤ its_command (look_of packed) s.voice → its_command (look_of packed) s.voice ≤ 4 →
+    IsMoved layout (look_of packed) (counts_of packed) (its_command (look_of packed) s.voice)
+    (lent_out (its_command (look_of packed) s.voice) (its_param (look_of packed) s.voice)
+    (begun (look_of packed) s)).voice
+lent_moves layout packed song o k voice x at s turn goes fine is least most =
+    let same = begun_frequency (look_of packed) s is in record {
+      param =
+          speed_stored packed song (its_param (look_of packed) s.voice) turn.scene.stands
+          (wave_points (unpacked_song packed) s.voice.wave_ptr command
+          (is_step (unpacked_song packed) Wave s.voice.wave_ptr fine.safe.voice.wave is.some).reached
+          (command_is (look_of packed) s is).is least most);
+      frequency = subst (λ n. n < 65536) (sym same.0) fine.range.voice.freq;
+      note = subst (λ n. IsNote n) (sym same.1) (note_sounds s.voice.note fine.safe.voice.note);
+      keeps =
+          slides_kept layout packed song o k voice x at command
+          (lent_out command (its_param (look_of packed) s.voice) (begun (look_of packed) s)).voice turn least most
+          (inl (does_wave packed o k voice x s goes is));
+    }
+  where
+    command : ℕ
+    command = its_command (look_of packed) s.voice
+
+-- ---- the step
+
+pub wave_ready : (layout : Layout) (packed : PackedSong) (song : Song) (o : Options) (k voice : ℕ) (x : FrameState)
+    (at : ℕ → ℕ) (s : Playing) → AtTurn layout packed song o k voice x at →
+    GoesOn (its_turn packed o k voice x) s → IsFine packed k voice s →
+    WaveIsReady layout (look_of packed) (counts_of packed) s
+wave_ready layout packed song o k voice x at s turn goes fine = record {
+  on = on_wave layout packed song o k voice x at s turn fine;
+  keeps = keeps;
+  once = λ meets once.
+      let is = met (look_of packed) s meets in record {
+        commands = keeps.command is.some is.command;
+        lines =
+            once_kept layout packed song o k voice x at turn (its_command (look_of packed) s.voice)
+            (its_param (look_of packed) s.voice) (inr (does_wave packed o k voice x s goes is));
+      };
+  lent = λ meets least most.
+      lent_moves layout packed song o k voice x at s turn goes fine (met (look_of packed) s meets) least most;
+}
+  where
+    keeps : KeepsWave layout (look_of packed) s.voice
+    keeps = wave_kept layout packed song o k voice x at s turn goes
