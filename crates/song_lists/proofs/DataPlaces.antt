@@ -1,0 +1,164 @@
+-- The places of a packed song's lists: none behind the last byte.
+use Rattle.std.proofs.Common.{ℕ, ◌+◌, ◌<◌, ◌≤◌, Bool, true, false, List, ◌++◌, length, get_or, map}
+use Rattle.std.proofs.Common.{All, arith}
+use Rattle.std.specs.List.{AllByRecursion, concat, range_with_len}
+use Rattle.std.proofs.lemmas.List.{get_or_default}
+use Rattle.std.proofs.lemmas.List.Elements.{All-weaker, All-from_recursion}
+use Rattle.packed_form.specs.declared.packed_songs.PackedSong.{PackedSong}
+use Rattle.player_memory.specs.declared.labels.TheConstants.{ORDERS, PATTERNS}
+use Rattle.player_memory.specs.SongLists.{Instruments}
+use Rattle.song_lists.specs.declared.marks.Mark.{Mark}
+use Rattle.song_lists.specs.DataLists.{all_orders, slides_low_place, slides_high_place, periods_place, orders_place}
+use Rattle.song_lists.specs.DataLists.{patterns_place, places_from, order_places, pattern_places, data_bytes, own_mark}
+use Rattle.song_lists.specs.DataLists.{wave_marks, pulse_marks, filter_marks, instrument_marks}
+use Rattle.song_lists.specs.DataLists.{address_marks, slide_marks, list_marks, data_marks}
+use Rattle.song_lists.specs.ListLaws.{lists_size}
+use Rattle.song_lists.proofs.Pieces.{places_count, size_within, place_at}
+use Rattle.song_lists.proofs.Lists.{whole_length, texts_end}
+use Rattle.song_lists.proofs.DataMarks.{marks_between, all_of_three}
+
+abbrev IsUpTo : ℕ → Mark → Type 0
+IsUpTo end mark = mark.place ≤ end
+
+abbrev Each : Bool → PackedSong → List Mark → Type 0
+Each dependent packed marks = AllByRecursion (IsUpTo (orders_place dependent packed)) marks
+
+abbrev field_mark : Bool → PackedSong → ℕ → Mark
+field_mark dependent packed field = own_mark dependent packed (Instruments field)
+
+-- those that depend on what is kept
+low_within : (dependent : Bool) (packed : PackedSong) →
+    slides_low_place dependent packed ≤ orders_place dependent packed
+low_within true packed = omega arith
+low_within false packed = omega arith
+
+high_within : (dependent : Bool) (packed : PackedSong) →
+    slides_high_place dependent packed ≤ orders_place dependent packed
+high_within true packed = omega arith
+high_within false packed = omega arith
+
+periods_within : (dependent : Bool) (packed : PackedSong) →
+    periods_place dependent packed ≤ orders_place dependent packed
+periods_within true packed = omega arith
+periods_within false packed = omega arith
+
+-- the last ones, from the addresses and from the instruments on
+abbrev behind_instruments : Bool → PackedSong → List Mark
+behind_instruments dependent packed = address_marks dependent packed ++ slide_marks dependent packed
+
+abbrev behind_tables : Bool → PackedSong → List Mark
+behind_tables dependent packed = instrument_marks dependent packed ++ behind_instruments dependent packed
+
+lists_within : (dependent : Bool) (packed : PackedSong) →
+    All (IsUpTo (orders_place dependent packed)) (list_marks dependent packed)
+lists_within dependent packed =
+    let addresses : Each dependent packed (behind_instruments dependent packed) = (
+      omega arith,
+      (
+        omega arith,
+        (
+          omega arith,
+          (
+            omega arith,
+            (
+              low_within dependent packed,
+              (high_within dependent packed, tt),
+            ),
+          ),
+        ),
+      ),
+    ) in
+    let fields : Each dependent packed (map (field_mark dependent packed) (range_with_len 4 5)
+    ++ behind_instruments dependent packed) =
+    (omega arith, (omega arith, (omega arith, (omega arith, (omega arith, addresses))))) in
+    let instruments : Each dependent packed (behind_tables dependent packed) =
+    (omega arith, (omega arith, (omega arith, (omega arith, fields)))) in
+    let filter : Each dependent packed (filter_marks dependent packed ++ behind_tables dependent packed) =
+    (omega arith, (omega arith, (omega arith, instruments))) in
+    let pulse : Each dependent packed (pulse_marks dependent packed ++ (filter_marks dependent packed
+    ++ behind_tables dependent packed)) = (omega arith, (omega arith, (omega arith, filter))) in
+    let wave : Each dependent packed (wave_marks dependent packed ++ (pulse_marks dependent packed
+    ++ (filter_marks dependent packed ++ behind_tables dependent packed))) =
+    (omega arith, (omega arith, (omega arith, (omega arith, pulse)))) in
+    All-from_recursion (IsUpTo (orders_place dependent packed)) (list_marks dependent packed) (
+      omega arith,
+      (
+        omega arith,
+        (
+          omega arith,
+          (
+            omega arith,
+            (
+              omega arith,
+              (
+                omega arith,
+                (periods_within dependent packed, wave),
+              ),
+            ),
+          ),
+        ),
+      ),
+    )
+
+-- lists one behind the other stand up to the last one's end
+places_up_to : (from : ℕ) (lists : List (List ℕ)) (k : ℕ) → k < length (places_from from lists) →
+    get_or (places_from from lists) k 0 ≤ from + length (concat lists)
+places_up_to from lists k inside =
+    let there : k < length lists = omega (arith, places_count from lists) in
+    omega (arith, place_at from lists k there, size_within lists k)
+
+pub places_within : (dependent : Bool) (packed : PackedSong) (start : ℕ) →
+    All (λ (mark : Mark). mark.place ≤ length (data_bytes dependent packed start)) (data_marks dependent packed)
+places_within dependent packed start =
+    let whole = whole_length dependent packed start in
+    all_of_three (IsUpTo (length (data_bytes dependent packed start))) dependent packed
+    (All-weaker (IsUpTo (orders_place dependent packed)) (IsUpTo (length (data_bytes dependent packed start)))
+    (λ mark up_to. omega arith)
+    (list_marks dependent packed) (lists_within dependent packed))
+    (marks_between (IsUpTo (length (data_bytes dependent packed start))) ORDERS (order_places dependent packed)
+    (λ k inside. omega (arith, places_up_to (orders_place dependent packed) (all_orders packed) k inside)))
+    (marks_between (IsUpTo (length (data_bytes dependent packed start))) PATTERNS (pattern_places dependent packed)
+    (λ k inside. omega (arith, places_up_to (patterns_place dependent packed) packed.patterns k inside)))
+
+-- so they have addresses of 16 bits
+addresses_fit : (start from most : ℕ) (lists : List (List ℕ)) → from + length (concat lists) ≤ most →
+    start + most ≤ 65535 → All (λ place. start + place ≤ 65535) (places_from from lists)
+addresses_fit start from most lists within fits k d inside =
+    let here = places_up_to from lists k inside in
+    let same = get_or_default (places_from from lists) k d 0 inside in
+    omega arith
+
+pub order_addresses_fit : (dependent : Bool) (packed : PackedSong) (start : ℕ) →
+    start + lists_size dependent packed ≤ 0xD000 →
+    All (λ place. start + place ≤ 65535) (order_places dependent packed)
+order_addresses_fit dependent packed start most =
+    let end = texts_end dependent packed in
+    addresses_fit start (orders_place dependent packed) (lists_size dependent packed) (all_orders packed) (omega arith)
+    (omega arith)
+
+pub pattern_addresses_fit : (dependent : Bool) (packed : PackedSong) (start : ℕ) →
+    start + lists_size dependent packed ≤ 0xD000 →
+    All (λ place. start + place ≤ 65535) (pattern_places dependent packed)
+pattern_addresses_fit dependent packed start most =
+    let end = texts_end dependent packed in
+    addresses_fit start (patterns_place dependent packed) (lists_size dependent packed) packed.patterns (omega arith)
+    (omega arith)
+
+-- and a byte before them
+places_behind : (least from : ℕ) (lists : List (List ℕ)) → least ≤ from →
+    All (λ place. least ≤ place) (places_from from lists)
+places_behind least from lists behind k d inside =
+    let there : k < length lists = omega (arith, places_count from lists) in
+    let place = place_at from lists k there in
+    let same = get_or_default (places_from from lists) k d 0 inside in
+    omega arith
+
+pub order_places_begin : (dependent : Bool) (packed : PackedSong) →
+    All (λ place. 0 ≤ place) (order_places dependent packed)
+order_places_begin dependent packed =
+    places_behind 0 (orders_place dependent packed) (all_orders packed) (omega arith)
+
+pub pattern_places_begin : (dependent : Bool) (packed : PackedSong) →
+    All (λ place. 1 ≤ place) (pattern_places dependent packed)
+pattern_places_begin dependent packed =
+    places_behind 1 (patterns_place dependent packed) packed.patterns (omega arith)

@@ -1,0 +1,275 @@
+-- Where each list of a packed song stands in the bytes of all.
+use Rattle.std.proofs.Common.{◌≡◌, ℕ, zero, suc, ◌+◌, ◌*◌, ◌<◌, Bool, true, false, List, [], ◌∷◌}
+use Rattle.std.proofs.Common.{length}
+use Rattle.std.proofs.Common.{get_or, refl, sym, ap, ◌∙◌, subst, arith}
+use Rattle.std.specs.List.{concat}
+use Rattle.song_model.specs.declared.tables.TableName.TheVariants.{Wave, Pulse, Filter, Speed}
+use Rattle.play_model.specs.Freq.{freq}
+use Rattle.packed_form.specs.declared.packed_songs.PackedSubtune.{PackedSubtune}
+use Rattle.packed_form.specs.declared.packed_songs.PackedSong.{PackedSong}
+use Rattle.player_memory.specs.SongLists.{SongList, FrequencyLows, FrequencyHighs, Lefts, Rights, Periods, Instruments}
+use Rattle.player_memory.specs.SongLists.{OrderLows, OrderHighs, PatternLows, PatternHighs, OrderBytes, PatternBytes}
+use Rattle.player_memory.specs.SongLists.{first_number, order_bytes, pattern_bytes, channel_bytes, no_subtune}
+use Rattle.player_memory.specs.SongLists.{slide_rows}
+use Rattle.song_lists.specs.DataLists.{frequency_lows, frequency_highs, lefts, rights, stored_rows, periods}
+use Rattle.song_lists.specs.DataLists.{instrument_bytes, all_orders, orders_of, lows, highs, periods_place}
+use Rattle.song_lists.specs.DataLists.{orders_place, patterns_place, order_places, pattern_places, data_bytes}
+use Rattle.song_lists.specs.DataLists.{label_place}
+use Rattle.song_lists.proofs.Pieces.{StandsIn, size_before, piece_stands, stands_before, stands_after, place_at}
+use Rattle.song_lists.proofs.Pieces.{order_at, orders_count}
+use Rattle.song_lists.proofs.Lists.{fixed_lists, own_lists, lengths, fixed_size}
+
+-- ---- the bytes of a list as they are read: the speed table from its row 0 on
+
+abbrev pub written : Bool → PackedSong → ℕ → SongList → List ℕ
+written dependent packed start FrequencyLows = frequency_lows
+written dependent packed start FrequencyHighs = frequency_highs
+written dependent packed start (Lefts Speed) = 0 ∷ lefts packed.speed
+written dependent packed start (Lefts Wave) = lefts (stored_rows packed.wave)
+written dependent packed start (Lefts Pulse) = lefts packed.pulse
+written dependent packed start (Lefts Filter) = lefts packed.filter
+written dependent packed start (Rights Speed) = 0 ∷ rights packed.speed
+written dependent packed start (Rights Wave) = rights (stored_rows packed.wave)
+written dependent packed start (Rights Pulse) = rights packed.pulse
+written dependent packed start (Rights Filter) = rights packed.filter
+written dependent packed start Periods = 0 ∷ periods packed.speed
+written dependent packed start (Instruments field) = instrument_bytes packed field
+written dependent packed start OrderLows = lows start 0 (order_places dependent packed)
+written dependent packed start OrderHighs = highs start 0 (order_places dependent packed)
+written dependent packed start PatternLows = lows start 1 (pattern_places dependent packed)
+written dependent packed start PatternHighs = highs start 1 (pattern_places dependent packed)
+written dependent packed start (OrderBytes subtune channel) = order_bytes packed subtune channel
+written dependent packed start (PatternBytes pattern) = pattern_bytes packed pattern
+
+-- a list of the song's, as the flag says
+abbrev pub IsWritten : Bool → PackedSong → SongList → Type 0
+IsWritten dependent packed Periods = dependent ≡ true
+IsWritten dependent packed (Instruments field) = field < 9
+IsWritten dependent packed (OrderBytes subtune channel) = (subtune < length packed.subtunes) × (channel < 3)
+IsWritten dependent packed (PatternBytes pattern) = pattern < length packed.patterns
+IsWritten dependent packed list = Unit {0}
+
+-- ---- the lists that each song has
+
+fixed_stands : (dependent : Bool) (packed : PackedSong) (start k place : ℕ) →
+    k < length (fixed_lists dependent packed start) →
+    size_before k (fixed_lists dependent packed start) ≡ place →
+    StandsIn (data_bytes dependent packed start) place (get_or (fixed_lists dependent packed start) k [])
+fixed_stands dependent packed start k place inside e =
+    subst
+    (λ (p : ℕ). StandsIn (data_bytes dependent packed start) p (get_or (fixed_lists dependent packed start) k [])) e
+    (stands_before (fixed_lists dependent packed start) (own_lists packed)
+    (size_before k (fixed_lists dependent packed start))
+    (get_or (fixed_lists dependent packed start) k []) (piece_stands (fixed_lists dependent packed start) k inside))
+
+-- row 0 of the speed table is the last frequency
+zero_in_front : (whole : List ℕ) (p q : ℕ) (frequencies side : List ℕ) → StandsIn whole p frequencies →
+    StandsIn whole q side → q ≡ p + 98 → length frequencies ≡ 98 → get_or frequencies 97 0 ≡ 0 →
+    StandsIn whole (p + 97) (0 ∷ side)
+zero_in_front whole p q frequencies side there here next count zero_last = record {
+  inside = omega (arith, here.inside);
+  byte = byte;
+}
+  where
+    byte : (i : ℕ) → i < suc (length side) → get_or whole (p + 97 + i) 0 ≡ get_or (0 ∷ side) i 0
+    byte zero inside =
+        let e : p + 97 + 0 ≡ p + 97 = omega arith in
+        ap (λ (n : ℕ). get_or whole n 0) e ∙ there.byte 97 (omega arith) ∙ zero_last
+    byte (suc i) inside =
+        let e : p + 97 + suc i ≡ q + i = omega arith in
+        ap (λ (n : ℕ). get_or whole n 0) e ∙ here.byte i (omega arith)
+
+last_low : get_or frequency_lows 97 0 ≡ 0
+unfolding frequency_lows freq
+last_low = refl
+
+last_high : get_or frequency_highs 97 0 ≡ 0
+unfolding frequency_highs freq
+last_high = refl
+
+pub below_9 : (P : ℕ → Type 0) → P 0 → P 1 → P 2 → P 3 → P 4 → P 5 → P 6 → P 7 → P 8 → (n : ℕ) →
+    n < 9 → P n
+below_9 P a b c d e f g h i zero inside = a
+below_9 P a b c d e f g h i (suc zero) inside = b
+below_9 P a b c d e f g h i (suc (suc zero)) inside = c
+below_9 P a b c d e f g h i (suc (suc (suc zero))) inside = d
+below_9 P a b c d e f g h i (suc (suc (suc (suc zero)))) inside = e
+below_9 P a b c d e f g h i (suc (suc (suc (suc (suc zero))))) inside = f
+below_9 P a b c d e f g h i (suc (suc (suc (suc (suc (suc zero)))))) inside = g
+below_9 P a b c d e f g h i (suc (suc (suc (suc (suc (suc (suc zero))))))) inside = h
+below_9 P a b c d e f g h i (suc (suc (suc (suc (suc (suc (suc (suc zero)))))))) inside = i
+below_9 P a b c d e f g h i (suc (suc (suc (suc (suc (suc (suc (suc (suc n))))))))) inside = absurd (omega arith)
+
+instruments_stand : (dependent : Bool) (packed : PackedSong) (start field : ℕ) → field < 9 →
+    StandsIn (data_bytes dependent packed start) (label_place dependent packed (Instruments field) + 1)
+    (instrument_bytes packed field)
+instruments_stand dependent packed start =
+    let each = lengths dependent packed start in
+    below_9
+    (λ field. StandsIn (data_bytes dependent packed start) (label_place dependent packed (Instruments field) + 1)
+    (instrument_bytes packed field))
+    (fixed_stands dependent packed start 13 _ (omega arith) (omega arith))
+    (fixed_stands dependent packed start 14 _ (omega arith) (omega arith))
+    (fixed_stands dependent packed start 15 _ (omega arith) (omega arith))
+    (fixed_stands dependent packed start 16 _ (omega arith) (omega arith))
+    (fixed_stands dependent packed start 17 _ (omega arith) (omega arith))
+    (fixed_stands dependent packed start 18 _ (omega arith) (omega arith))
+    (fixed_stands dependent packed start 19 _ (omega arith) (omega arith))
+    (fixed_stands dependent packed start 20 _ (omega arith) (omega arith))
+    (fixed_stands dependent packed start 21 _ (omega arith) (omega arith))
+
+-- ---- orderlists and patterns
+
+moved : (whole : List ℕ) (p q : ℕ) (one other : List ℕ) → p ≡ q → one ≡ other → StandsIn whole p one →
+    StandsIn whole q other
+moved whole p q one other place piece there =
+    subst (λ (list : List ℕ). StandsIn whole q list) piece (subst (λ (n : ℕ). StandsIn whole n one) place there)
+
+own_stands : (dependent : Bool) (packed : PackedSong) (start place : ℕ) (piece : List ℕ) →
+    StandsIn (concat (own_lists packed)) place piece →
+    StandsIn (data_bytes dependent packed start) (orders_place dependent packed + place) piece
+own_stands dependent packed start place piece there =
+    subst (λ (p : ℕ). StandsIn (data_bytes dependent packed start) (p + place) piece)
+    (fixed_size dependent packed start)
+    (stands_after (fixed_lists dependent packed start) (own_lists packed) place piece there)
+
+three_orders : (channel : ℕ) (subtune : PackedSubtune) → channel < 3 →
+    get_or (orders_of subtune) channel [] ≡ channel_bytes channel subtune
+three_orders zero subtune below = refl
+three_orders (suc zero) subtune below = refl
+three_orders (suc (suc zero)) subtune below = refl
+three_orders (suc (suc (suc channel))) subtune below = absurd (omega arith)
+
+orders_stand : (dependent : Bool) (packed : PackedSong) (start subtune channel : ℕ) →
+    subtune < length packed.subtunes → channel < 3 →
+    StandsIn (data_bytes dependent packed start) (label_place dependent packed (OrderBytes subtune channel))
+    (order_bytes packed subtune channel)
+orders_stand dependent packed start subtune channel inside below =
+    let count = orders_count packed.subtunes in
+    let there : 3 * subtune + channel < length (all_orders packed) = omega arith in
+    let place : get_or (order_places dependent packed) (3 * subtune + channel) 0
+    ≡ orders_place dependent packed + size_before (3 * subtune + channel) (all_orders packed) =
+    place_at (orders_place dependent packed) (all_orders packed) (3 * subtune + channel) there in
+    let piece : get_or (all_orders packed) (3 * subtune + channel) [] ≡ order_bytes packed subtune channel =
+    order_at packed.subtunes subtune channel no_subtune inside below
+    ∙ three_orders channel (get_or packed.subtunes subtune no_subtune) below in
+    moved (data_bytes dependent packed start)
+    (orders_place dependent packed + size_before (3 * subtune + channel) (all_orders packed))
+    (get_or (order_places dependent packed) (3 * subtune + channel) 0)
+    (get_or (all_orders packed) (3 * subtune + channel) [])
+    (order_bytes packed subtune channel) (sym place) piece
+    (own_stands dependent packed start (size_before (3 * subtune + channel) (all_orders packed))
+    (get_or (all_orders packed) (3 * subtune + channel) [])
+    (stands_before (all_orders packed) packed.patterns (size_before (3 * subtune + channel) (all_orders packed))
+    (get_or (all_orders packed) (3 * subtune + channel) [])
+    (piece_stands (all_orders packed) (3 * subtune + channel) there)))
+
+patterns_stand : (dependent : Bool) (packed : PackedSong) (start pattern : ℕ) → pattern < length packed.patterns →
+    StandsIn (data_bytes dependent packed start) (label_place dependent packed (PatternBytes pattern))
+    (pattern_bytes packed pattern)
+patterns_stand dependent packed start pattern inside =
+    let place : orders_place dependent packed
+    + (length (concat (all_orders packed)) + size_before pattern packed.patterns)
+    ≡ get_or (pattern_places dependent packed) pattern 0 =
+    let there = place_at (patterns_place dependent packed) packed.patterns pattern inside in omega arith in
+    moved (data_bytes dependent packed start)
+    (orders_place dependent packed + (length (concat (all_orders packed)) + size_before pattern packed.patterns))
+    (get_or (pattern_places dependent packed) pattern 0) (pattern_bytes packed pattern)
+    (pattern_bytes packed pattern) place refl
+    (own_stands dependent packed start (length (concat (all_orders packed)) + size_before pattern packed.patterns)
+    (pattern_bytes packed pattern)
+    (stands_after (all_orders packed) packed.patterns (size_before pattern packed.patterns)
+    (pattern_bytes packed pattern) (piece_stands packed.patterns pattern inside)))
+
+-- ---- all of them
+
+-- the lists of calculated speeds, each with row 0 as its first byte
+pub record KeptStand (packed : PackedSong) (whole : List ℕ) : Type 0 where
+  pub low : StandsIn whole (196 + 2 * length packed.speed) (0 ∷ rights packed.speed)
+  pub high : StandsIn whole (196 + 2 * length packed.speed + slide_rows packed) (0 ∷ lefts packed.speed)
+  pub periods : StandsIn whole (196 + 2 * length packed.speed + 2 * slide_rows packed) (0 ∷ periods packed.speed)
+
+slides_begin : (packed : PackedSong) (start : ℕ) →
+    size_before 4 (fixed_lists true packed start) ≡ 196 + 2 * length packed.speed
+slides_begin packed start = let each = lengths true packed start in omega arith
+
+pub slides_stand : (packed : PackedSong) (start : ℕ) → KeptStand packed (data_bytes true packed start)
+slides_stand packed start =
+    let each = lengths true packed start in record {
+      low = fixed_stands true packed start 4 _ (omega arith) (slides_begin packed start);
+      high = fixed_stands true packed start 5 _ (omega arith) (omega arith);
+      periods = fixed_stands true packed start 6 _ (omega arith) (omega arith);
+    }
+
+periods_stand : (dependent : Bool) (packed : PackedSong) (start : ℕ) → dependent ≡ true →
+    StandsIn (data_bytes dependent packed start) (periods_place dependent packed + 0) (0 ∷ periods packed.speed)
+periods_stand true packed start is =
+    let place : 196 + 2 * length packed.speed + 2 * slide_rows packed
+    ≡ 196 + 2 * length packed.speed + 2 * slide_rows packed + 0 = omega arith in
+    subst (λ (p : ℕ). StandsIn (data_bytes true packed start) p (0 ∷ periods packed.speed)) place
+    (slides_stand packed start).periods
+periods_stand false packed start is = absurd (cc)
+
+pub list_stands : (dependent : Bool) (packed : PackedSong) (start : ℕ) (list : SongList) →
+    IsWritten dependent packed list →
+    StandsIn (data_bytes dependent packed start) (label_place dependent packed list + first_number list)
+    (written dependent packed start list)
+list_stands dependent packed start FrequencyLows is = fixed_stands dependent packed start 0 _ (omega arith) refl
+list_stands dependent packed start FrequencyHighs is =
+    let each = lengths dependent packed start in
+    fixed_stands dependent packed start 2 _ (omega arith) (omega arith)
+list_stands dependent packed start (Lefts Wave) is =
+    let each = lengths dependent packed start in
+    fixed_stands dependent packed start 7 _ (omega arith) (omega arith)
+list_stands dependent packed start (Rights Wave) is =
+    let each = lengths dependent packed start in
+    fixed_stands dependent packed start 8 _ (omega arith) (omega arith)
+list_stands dependent packed start (Lefts Pulse) is =
+    let each = lengths dependent packed start in
+    fixed_stands dependent packed start 9 _ (omega arith) (omega arith)
+list_stands dependent packed start (Rights Pulse) is =
+    let each = lengths dependent packed start in
+    fixed_stands dependent packed start 10 _ (omega arith) (omega arith)
+list_stands dependent packed start (Lefts Filter) is =
+    let each = lengths dependent packed start in
+    fixed_stands dependent packed start 11 _ (omega arith) (omega arith)
+list_stands dependent packed start (Rights Filter) is =
+    let each = lengths dependent packed start in
+    fixed_stands dependent packed start 12 _ (omega arith) (omega arith)
+list_stands dependent packed start (Lefts Speed) is =
+    let each = lengths dependent packed start in
+    let place : 98 + length packed.speed + 97 ≡ 195 + length packed.speed + 0 = omega arith in
+    subst (λ (p : ℕ). StandsIn (data_bytes dependent packed start) p (0 ∷ lefts packed.speed)) place
+    (zero_in_front (data_bytes dependent packed start) (98 + length packed.speed) (98 + length packed.speed + 98)
+    frequency_highs (lefts packed.speed) (fixed_stands dependent packed start 2 _ (omega arith) (omega arith))
+    (fixed_stands dependent packed start 3 _ (omega arith) (omega arith)) refl each.frequency_highs last_high)
+list_stands dependent packed start (Rights Speed) is =
+    let each = lengths dependent packed start in
+    zero_in_front (data_bytes dependent packed start) 0 98 frequency_lows (rights packed.speed)
+    (fixed_stands dependent packed start 0 _ (omega arith) (omega arith))
+    (fixed_stands dependent packed start 1 _ (omega arith) (omega arith)) refl each.frequency_lows last_low
+list_stands dependent packed start Periods is = periods_stand dependent packed start is
+list_stands dependent packed start (Instruments field) is = instruments_stand dependent packed start field is
+list_stands dependent packed start OrderLows is =
+    let each = lengths dependent packed start in
+    fixed_stands dependent packed start 22 _ (omega arith) (omega arith)
+list_stands dependent packed start OrderHighs is =
+    let each = lengths dependent packed start in
+    fixed_stands dependent packed start 23 _ (omega arith) (omega arith)
+list_stands dependent packed start PatternLows is =
+    let each = lengths dependent packed start in
+    fixed_stands dependent packed start 24 _ (omega arith) (omega arith)
+list_stands dependent packed start PatternHighs is =
+    let each = lengths dependent packed start in
+    fixed_stands dependent packed start 25 _ (omega arith) (omega arith)
+list_stands dependent packed start (OrderBytes subtune channel) is =
+    let place : label_place dependent packed (OrderBytes subtune channel)
+    ≡ label_place dependent packed (OrderBytes subtune channel) + 0 = omega arith in
+    subst (λ (p : ℕ). StandsIn (data_bytes dependent packed start) p (order_bytes packed subtune channel)) place
+    (orders_stand dependent packed start subtune channel is.0 is.1)
+list_stands dependent packed start (PatternBytes pattern) is =
+    let place : label_place dependent packed (PatternBytes pattern)
+    ≡ label_place dependent packed (PatternBytes pattern) + 0 =
+    omega arith in
+    subst (λ (p : ℕ). StandsIn (data_bytes dependent packed start) p (pattern_bytes packed pattern)) place
+    (patterns_stand dependent packed start pattern is)

@@ -1,0 +1,10 @@
+use Rattle.std.proofs.Common.{◌≡◌, ◌++◌, map}
+use Rattle.std.specs.List.{range_with_len}
+use Rattle.player_memory.specs.SongLists.{Instruments}
+use Rattle.song_lists.specs.DataLists.{own_mark}
+use Rattle.song_lists.proofs.labels.push_instrument_marks.Given as goal
+
+abbrev pub invariant-loop-field : goal.invariant-loop-field
+invariant-loop-field l =
+    l.marks ≡ l.initial.marks
+    ++ map (λ field. own_mark l.dependent l.packed (Instruments field)) (range_with_len 0 l.field)

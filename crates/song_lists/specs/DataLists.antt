@@ -1,0 +1,267 @@
+-- The bytes behind the player's code, and the labels in them: the frequencies of notes and the lists of a packed song,
+-- one behind the other. Where the player keeps calculated speeds (`dependent`), there are three lists more. This is the
+-- project's own player.
+use Rattle.std.specs.Prelude.{◌≡◌, ℕ, ◌+◌, ◌-◌, ◌*◌, ◌/◌, ◌%◌, Bool, if◌then◌else◌, List, []}
+use Rattle.std.specs.Prelude.{◌∷◌, ◌++◌}
+use Rattle.std.specs.Prelude.{length, map, Contains, IsPermutation, slice_index}
+use Rattle.std.specs.List.{concat, flat_map, range_with_len}
+use Rattle.std.specs.List.Sorted.{IsNonDecreasingBy}
+use Rattle.song_model.specs.declared.tables.TableRow.{TableRow}
+use Rattle.song_model.specs.declared.tables.TableName.TheVariants.{Wave, Pulse, Filter, Speed}
+use Rattle.play_model.specs.Freq.{freq}
+use Rattle.packed_form.specs.declared.packed_songs.PackedSubtune.{PackedSubtune}
+use Rattle.packed_form.specs.declared.packed_songs.PackedSong.{PackedSong}
+use Rattle.packed_form.specs.Unpacked.{unpacked_instrument}
+use Rattle.asm6502.specs.declared.lines.Line.{Line}
+use Rattle.scopes.specs.Desk.{Layout}
+use Rattle.player_memory.specs.declared.labels.TheConstants.{NEXT_FREQUENCY_LOWS, NEXT_FREQUENCY_HIGHS}
+use Rattle.player_memory.specs.declared.labels.TheConstants.{NEXT_WAVE_LEFTS, NEXT_WAVE_RIGHTS, NEXT_PULSE_LEFTS}
+use Rattle.player_memory.specs.declared.labels.TheConstants.{NEXT_FILTER_LEFTS, SLIDES_LOW, SLIDES_HIGH}
+use Rattle.player_memory.specs.declared.labels.TheConstants.{ORDERS, PATTERNS}
+use Rattle.player_memory.specs.Forms.{stored}
+use Rattle.player_memory.specs.SongLists.{SongList, FrequencyLows, FrequencyHighs, Lefts, Rights, Periods, Instruments}
+use Rattle.player_memory.specs.SongLists.{OrderLows, OrderHighs, PatternLows, PatternHighs, OrderBytes, PatternBytes}
+use Rattle.player_memory.specs.SongLists.{frequencies, slide_rows, instrument_byte, list_label}
+use Rattle.song_lists.specs.declared.marks.Mark.{Mark}
+use Rattle.song_lists.specs.Marks.{mark_at, marked}
+
+-- ---- lists of bytes
+
+-- the low bytes and the high bytes of the frequencies of the notes 0 to 97
+unfoldable pub frequency_lows : List ℕ
+frequency_lows = map (λ note. freq note % 256) (range_with_len 0 frequencies)
+
+unfoldable pub frequency_highs : List ℕ
+frequency_highs = map (λ note. freq note / 256) (range_with_len 0 frequencies)
+
+-- the sides of a table's rows; the rows of the wave table are stored in a form of their own
+abbrev pub lefts : List TableRow → List ℕ
+lefts rows = map (λ row. row.left) rows
+
+abbrev pub rights : List TableRow → List ℕ
+rights rows = map (λ row. row.right) rows
+
+abbrev pub stored_rows : List TableRow → List TableRow
+stored_rows rows = map stored rows
+
+-- the periods of vibratos: left sides without bit 7
+abbrev pub periods : List TableRow → List ℕ
+periods rows = map (λ row. row.left % 128) rows
+
+-- a list that is there where calculated speeds are kept, with a 0 for row 0 in front
+abbrev pub kept_list : Bool → List ℕ → List ℕ
+kept_list dependent side = if dependent then 0 ∷ side else []
+
+-- how many bytes such a list has
+abbrev pub kept_rows : Bool → PackedSong → ℕ
+kept_rows dependent packed = if dependent then slide_rows packed else 0
+
+-- the byte with this number of each instrument, as the player reads it
+abbrev pub instrument_bytes : PackedSong → ℕ → List ℕ
+instrument_bytes packed field =
+    map (λ instrument. instrument_byte field (unpacked_instrument instrument)) packed.instruments
+
+-- the orderlists, three of each subtune
+abbrev pub orders_of : PackedSubtune → List (List ℕ)
+orders_of subtune = subtune.one ∷ subtune.two ∷ subtune.three ∷ []
+
+abbrev pub all_orders : PackedSong → List (List ℕ)
+all_orders packed = flat_map orders_of packed.subtunes
+
+-- the low bytes and the high bytes of the addresses of places, counted from the first byte on, each less so many bytes
+abbrev pub lows : ℕ → ℕ → List ℕ → List ℕ
+lows start back places = map (λ place. (start + place - back) % 256) places
+
+abbrev pub highs : ℕ → ℕ → List ℕ → List ℕ
+highs start back places = map (λ place. (start + place - back) / 256) places
+
+-- ---- places, counted from the first byte on
+
+-- Row 0 of a side of the speed table is the byte before it, the last one of a list of frequencies, which is a 0.
+abbrev pub speed_rights_place : PackedSong → ℕ
+speed_rights_place packed = 97
+
+abbrev pub speed_lefts_place : PackedSong → ℕ
+speed_lefts_place packed = 195 + length packed.speed
+
+-- The lists for calculated speeds stand behind the speed table where they are there. Where they aren't, their
+-- labels are those of its sides.
+abbrev pub slides_low_place : Bool → PackedSong → ℕ
+slides_low_place dependent packed = if dependent then 196 + 2 * length packed.speed else speed_rights_place packed
+
+abbrev pub slides_high_place : Bool → PackedSong → ℕ
+slides_high_place dependent packed =
+    if dependent then 196 + 2 * length packed.speed + slide_rows packed else speed_lefts_place packed
+
+abbrev pub periods_place : Bool → PackedSong → ℕ
+periods_place dependent packed =
+    if dependent then 196 + 2 * length packed.speed + 2 * slide_rows packed else speed_lefts_place packed
+
+-- the sides of the wave, the pulse and the filter table stand behind these, the left ones before the right ones; their
+-- labels name the byte before
+abbrev pub wave_place : Bool → PackedSong → ℕ
+wave_place dependent packed = 195 + 2 * length packed.speed + 3 * kept_rows dependent packed
+
+abbrev pub pulse_place : Bool → PackedSong → ℕ
+pulse_place dependent packed = wave_place dependent packed + 2 * length packed.wave
+
+abbrev pub filter_place : Bool → PackedSong → ℕ
+filter_place dependent packed = pulse_place dependent packed + 2 * length packed.pulse
+
+-- so do those of the nine lists over the instruments
+abbrev pub instruments_place : Bool → PackedSong → ℕ
+instruments_place dependent packed = filter_place dependent packed + 2 * length packed.filter
+
+-- the addresses of the orderlists and of the patterns stand behind these, and then they themselves
+abbrev pub addresses_place : Bool → PackedSong → ℕ
+addresses_place dependent packed = instruments_place dependent packed + 9 * length packed.instruments + 1
+
+abbrev pub orders_place : Bool → PackedSong → ℕ
+orders_place dependent packed =
+    addresses_place dependent packed + 6 * length packed.subtunes + 2 * length packed.patterns
+
+abbrev pub patterns_place : Bool → PackedSong → ℕ
+patterns_place dependent packed = orders_place dependent packed + length (concat (all_orders packed))
+
+-- where lists stand, one behind the other
+abbrev pub places_from : ℕ → List (List ℕ) → List ℕ
+places_from place [] = []
+places_from place (bytes ∷ rest) = place ∷ places_from (place + length bytes) rest
+
+abbrev pub order_places : Bool → PackedSong → List ℕ
+order_places dependent packed = places_from (orders_place dependent packed) (all_orders packed)
+
+abbrev pub pattern_places : Bool → PackedSong → List ℕ
+pattern_places dependent packed = places_from (patterns_place dependent packed) packed.patterns
+
+-- ---- the bytes, where the first one is to stand at `start`
+
+-- the frequencies, with the sides of the speed table behind the zeros at their ends
+abbrev pub frequency_lists : PackedSong → List (List ℕ)
+frequency_lists packed = frequency_lows ∷ rights packed.speed ∷ frequency_highs ∷ lefts packed.speed ∷ []
+
+-- the slides begin as the sides of the speed table
+abbrev pub kept_lists : Bool → PackedSong → List (List ℕ)
+kept_lists dependent packed =
+    kept_list dependent (rights packed.speed) ∷ kept_list dependent (lefts packed.speed)
+    ∷ kept_list dependent (periods packed.speed) ∷ []
+
+abbrev pub table_lists : PackedSong → List (List ℕ)
+table_lists packed =
+    lefts (stored_rows packed.wave) ∷ rights (stored_rows packed.wave) ∷ lefts packed.pulse ∷ rights packed.pulse
+    ∷ lefts packed.filter ∷ rights packed.filter ∷ []
+
+abbrev pub instrument_lists : PackedSong → List (List ℕ)
+instrument_lists packed = map (instrument_bytes packed) (range_with_len 0 9)
+
+-- the addresses of the orderlists, and the places before the patterns
+abbrev pub address_lists : Bool → PackedSong → ℕ → List (List ℕ)
+address_lists dependent packed start =
+    lows start 0 (order_places dependent packed) ∷ highs start 0 (order_places dependent packed)
+    ∷ lows start 1 (pattern_places dependent packed) ∷ highs start 1 (pattern_places dependent packed) ∷ []
+
+abbrev pub data_bytes : Bool → PackedSong → ℕ → List ℕ
+data_bytes dependent packed start = concat
+    (frequency_lists packed ++ (kept_lists dependent packed ++ (table_lists packed ++ (instrument_lists packed
+    ++ (address_lists dependent packed start ++ (all_orders packed ++ packed.patterns))))))
+
+-- ---- the labels
+
+-- where a list's label is: in front of the byte with number 0
+abbrev pub label_place : Bool → PackedSong → SongList → ℕ
+label_place dependent packed FrequencyLows = 0
+label_place dependent packed (Rights Speed) = speed_rights_place packed
+label_place dependent packed FrequencyHighs = 98 + length packed.speed
+label_place dependent packed (Lefts Speed) = speed_lefts_place packed
+label_place dependent packed Periods = periods_place dependent packed
+label_place dependent packed (Lefts Wave) = wave_place dependent packed
+label_place dependent packed (Rights Wave) = wave_place dependent packed + length packed.wave
+label_place dependent packed (Lefts Pulse) = pulse_place dependent packed
+label_place dependent packed (Rights Pulse) = pulse_place dependent packed + length packed.pulse
+label_place dependent packed (Lefts Filter) = filter_place dependent packed
+label_place dependent packed (Rights Filter) = filter_place dependent packed + length packed.filter
+label_place dependent packed (Instruments field) =
+    instruments_place dependent packed + field * length packed.instruments
+label_place dependent packed OrderLows = addresses_place dependent packed
+label_place dependent packed OrderHighs = addresses_place dependent packed + 3 * length packed.subtunes
+label_place dependent packed PatternLows = addresses_place dependent packed + 6 * length packed.subtunes
+label_place dependent packed PatternHighs =
+    addresses_place dependent packed + 6 * length packed.subtunes + length packed.patterns
+label_place dependent packed (OrderBytes subtune channel) =
+    slice_index (order_places dependent packed) (3 * subtune + channel)
+label_place dependent packed (PatternBytes pattern) = slice_index (pattern_places dependent packed) pattern
+
+-- the label of a list, and a label that names the byte behind it
+abbrev pub own_mark : Bool → PackedSong → SongList → Mark
+own_mark dependent packed list = mark_at (list_label list) (label_place dependent packed list)
+
+abbrev pub next_mark : Bool → PackedSong → ℕ → SongList → Mark
+next_mark dependent packed next list = mark_at next (label_place dependent packed list + 1)
+
+-- labels one after the other, at these places
+abbrev pub marks_from : ℕ → List ℕ → List Mark
+marks_from label [] = []
+marks_from label (place ∷ places) = mark_at label place ∷ marks_from (label + 1) places
+
+-- the labels that each song's lists have, by their numbers
+abbrev pub frequency_marks : Bool → PackedSong → List Mark
+frequency_marks dependent packed =
+    own_mark dependent packed FrequencyLows ∷ next_mark dependent packed NEXT_FREQUENCY_LOWS FrequencyLows
+    ∷ own_mark dependent packed FrequencyHighs ∷ next_mark dependent packed NEXT_FREQUENCY_HIGHS FrequencyHighs
+    ∷ own_mark dependent packed (Rights Speed) ∷ own_mark dependent packed (Lefts Speed)
+    ∷ own_mark dependent packed Periods ∷ []
+
+abbrev pub wave_marks : Bool → PackedSong → List Mark
+wave_marks dependent packed =
+    own_mark dependent packed (Lefts Wave) ∷ next_mark dependent packed NEXT_WAVE_LEFTS (Lefts Wave)
+    ∷ own_mark dependent packed (Rights Wave) ∷ next_mark dependent packed NEXT_WAVE_RIGHTS (Rights Wave) ∷ []
+
+abbrev pub pulse_marks : Bool → PackedSong → List Mark
+pulse_marks dependent packed =
+    own_mark dependent packed (Lefts Pulse) ∷ next_mark dependent packed NEXT_PULSE_LEFTS (Lefts Pulse)
+    ∷ own_mark dependent packed (Rights Pulse) ∷ []
+
+abbrev pub filter_marks : Bool → PackedSong → List Mark
+filter_marks dependent packed =
+    own_mark dependent packed (Lefts Filter) ∷ next_mark dependent packed NEXT_FILTER_LEFTS (Lefts Filter)
+    ∷ own_mark dependent packed (Rights Filter) ∷ []
+
+abbrev pub instrument_marks : Bool → PackedSong → List Mark
+instrument_marks dependent packed =
+    map (λ field. own_mark dependent packed (Instruments field)) (range_with_len 0 9)
+
+abbrev pub address_marks : Bool → PackedSong → List Mark
+address_marks dependent packed =
+    own_mark dependent packed OrderLows ∷ own_mark dependent packed OrderHighs
+    ∷ own_mark dependent packed PatternLows ∷ own_mark dependent packed PatternHighs ∷ []
+
+abbrev pub slide_marks : Bool → PackedSong → List Mark
+slide_marks dependent packed =
+    mark_at SLIDES_LOW (slides_low_place dependent packed)
+    ∷ mark_at SLIDES_HIGH (slides_high_place dependent packed) ∷ []
+
+abbrev pub list_marks : Bool → PackedSong → List Mark
+list_marks dependent packed =
+    frequency_marks dependent packed ++ (wave_marks dependent packed ++ (pulse_marks dependent packed
+    ++ (filter_marks dependent packed ++ (instrument_marks dependent packed
+    ++ (address_marks dependent packed ++ slide_marks dependent packed)))))
+
+-- and with those of its orderlists and patterns
+abbrev pub data_marks : Bool → PackedSong → List Mark
+data_marks dependent packed =
+    list_marks dependent packed
+    ++ (marks_from ORDERS (order_places dependent packed) ++ marks_from PATTERNS (pattern_places dependent packed))
+
+-- ---- the lines, and where they stand
+
+-- the bytes with their labels in front of them, by their places: in any order where they are in one place
+pub record HasLines (dependent : Bool) (packed : PackedSong) (start : ℕ) (lines : List Line) : Type 0 where
+  pub marks : List Mark
+  pub same : IsPermutation (data_marks dependent packed) marks
+  pub rise : IsNonDecreasingBy (λ mark. mark.place) marks
+  pub are : lines ≡ marked 0 marks (data_bytes dependent packed start)
+
+-- each of the labels has the address of its byte
+pub record IsDataLayout (layout : Layout) (dependent : Bool) (packed : PackedSong) (start : ℕ) : Type 0 where
+  pub stands :
+      (mark : Mark) → Contains (data_marks dependent packed) mark → layout.address mark.label ≡ start + mark.place

@@ -1,0 +1,303 @@
+//! The bytes of the lists.
+
+ghost use Rattle.std.specs.Prelude.{◌≡◌, ◌<◌, ◌≤◌, ◌+◌, ◌++◌, map, true, All, IfOk, OnOk};
+ghost use Rattle.std.specs.List.{concat, flat_map};
+ghost use Rattle.packed_form.specs.Unpacked.{unpacked_instrument};
+ghost use Rattle.player_memory.specs.Forms.{stored_left, stored_right};
+ghost use Rattle.player_memory.specs.SongLists.{instrument_byte};
+ghost use Rattle.song_lists.specs.DataLists.{frequency_lows, frequency_highs, lefts, rights, stored_rows, periods};
+ghost use Rattle.song_lists.specs.DataLists.{kept_list, lows, highs, orders_of, instrument_bytes};
+ghost use Rattle.song_lists.specs.DataLists.{frequency_lists, kept_lists, table_lists, instrument_lists};
+ghost use Rattle.song_lists.specs.DataLists.{order_places, pattern_places, data_bytes};
+
+use base::{ByteList, NoMemory};
+use packed_form::{PackedInstrument, PackedPattern, PackedSong, PackedSubtune};
+use play_model::freq;
+use song_model::TableRow;
+use std::alloc::Global;
+
+/// How many notes have a frequency in the lists: two more than there are, whose frequency is 0.
+const FREQUENCIES: u8 = 98;
+
+/// The number of the byte of an instrument that is its vibrato's delay.
+const VIBRATO_DELAY: usize = 6;
+
+/// The low bytes of the frequencies, appended.
+#[tactic(auto, unfolding(crate::specs::DataLists::frequency_lows))]
+fn push_frequency_lows(bytes: &mut ByteList) -> Result<(), NoMemory>
+    ensures { OnOk result (bytes.new ≡ bytes.old ++ frequency_lows) }
+{
+    for note in 0..FREQUENCIES {
+        bytes.push((freq(note) % 256) as u8)?;
+    }
+    Ok(())
+}
+
+/// Their high bytes.
+#[tactic(auto, unfolding(crate::specs::DataLists::frequency_highs))]
+fn push_frequency_highs(bytes: &mut ByteList) -> Result<(), NoMemory>
+    ensures { OnOk result (bytes.new ≡ bytes.old ++ frequency_highs) }
+{
+    for note in 0..FREQUENCIES {
+        bytes.push((freq(note) / 256) as u8)?;
+    }
+    Ok(())
+}
+
+/// The left sides of a table's rows.
+fn push_lefts(bytes: &mut ByteList, rows: &[TableRow]) -> Result<(), NoMemory>
+    ensures { OnOk result (bytes.new ≡ bytes.old ++ lefts rows.now) }
+{
+    for row in rows {
+        bytes.push(row.left)?;
+    }
+    Ok(())
+}
+
+/// The right sides.
+fn push_rights(bytes: &mut ByteList, rows: &[TableRow]) -> Result<(), NoMemory>
+    ensures { OnOk result (bytes.new ≡ bytes.old ++ rights rows.now) }
+{
+    for row in rows {
+        bytes.push(row.right)?;
+    }
+    Ok(())
+}
+
+/// A left side of the wave table in the form in which it is stored.
+fn stored_left(left: u8) -> u8
+    ensures { result ≡ stored_left left }
+{
+    if left < 0x10 {
+        left + 0xE0
+    } else if (0xE0..=0xEF).contains(&left) {
+        left - 0xE0
+    } else {
+        left
+    }
+}
+
+/// The right side of a row of the wave table in this form.
+fn stored_right(row: TableRow) -> u8
+    ensures { result ≡ stored_right row }
+{
+    if row.left >= 0xF0 {
+        row.right
+    } else if row.right < 0x80 {
+        row.right + 0x80
+    } else {
+        row.right - 0x80
+    }
+}
+
+/// The left sides of the wave table's rows.
+fn push_stored_lefts(bytes: &mut ByteList, rows: &[TableRow]) -> Result<(), NoMemory>
+    ensures { OnOk result (bytes.new ≡ bytes.old ++ lefts (stored_rows rows.now)) }
+{
+    for row in rows {
+        bytes.push(stored_left(row.left))?;
+    }
+    Ok(())
+}
+
+/// The right sides.
+fn push_stored_rights(bytes: &mut ByteList, rows: &[TableRow]) -> Result<(), NoMemory>
+    ensures { OnOk result (bytes.new ≡ bytes.old ++ rights (stored_rows rows.now)) }
+{
+    for row in rows {
+        bytes.push(stored_right(*row))?;
+    }
+    Ok(())
+}
+
+/// The periods of the speed table's rows.
+fn push_periods(bytes: &mut ByteList, rows: &[TableRow]) -> Result<(), NoMemory>
+    ensures { OnOk result (bytes.new ≡ bytes.old ++ periods rows.now) }
+{
+    for row in rows {
+        bytes.push(row.left % 128)?;
+    }
+    Ok(())
+}
+
+/// The frequencies, with the sides of the speed table.
+fn push_frequency_lists(bytes: &mut ByteList, packed: &PackedSong) -> Result<(), NoMemory>
+    ensures { OnOk result (bytes.new ≡ bytes.old ++ concat (frequency_lists packed.now)) }
+{
+    push_frequency_lows(bytes)?;
+    push_rights(bytes, packed.speed.as_slice())?;
+    push_frequency_highs(bytes)?;
+    push_lefts(bytes, packed.speed.as_slice())
+}
+
+/// The slides as they begin, and the periods, each with a byte for row 0.
+fn push_calculated_lists(bytes: &mut ByteList, packed: &PackedSong) -> Result<(), NoMemory>
+    ensures { OnOk result (bytes.new ≡ bytes.old ++ concat (kept_lists true packed.now)) }
+{
+    bytes.push(0)?;
+    push_rights(bytes, packed.speed.as_slice())?;
+    bytes.push(0)?;
+    push_lefts(bytes, packed.speed.as_slice())?;
+    bytes.push(0)?;
+    push_periods(bytes, packed.speed.as_slice())
+}
+
+/// These lists, where calculated speeds are kept.
+fn push_kept_lists(
+    bytes: &mut ByteList,
+    packed: &PackedSong,
+    dependent: bool,
+) -> Result<(), NoMemory>
+    ensures { OnOk result (bytes.new ≡ bytes.old ++ concat (kept_lists dependent packed.now)) }
+{
+    if dependent {
+        push_calculated_lists(bytes, packed)
+    } else {
+        Ok(())
+    }
+}
+
+/// The sides of the other tables.
+fn push_table_lists(bytes: &mut ByteList, packed: &PackedSong) -> Result<(), NoMemory>
+    ensures { OnOk result (bytes.new ≡ bytes.old ++ concat (table_lists packed.now)) }
+{
+    push_stored_lefts(bytes, packed.wave.as_slice())?;
+    push_stored_rights(bytes, packed.wave.as_slice())?;
+    push_lefts(bytes, packed.pulse.as_slice())?;
+    push_rights(bytes, packed.pulse.as_slice())?;
+    push_lefts(bytes, packed.filter.as_slice())?;
+    push_rights(bytes, packed.filter.as_slice())
+}
+
+/// The byte with this number of an instrument, as the player reads it: the vibrato's delay is less one, 255 for none.
+fn field_byte(instrument: &PackedInstrument, field: usize) -> u8
+    requires { field < 9 }
+    ensures { result ≡ instrument_byte field (unpacked_instrument instrument.now) }
+{
+    let byte = instrument.bytes[field];
+    if field == VIBRATO_DELAY {
+        byte.wrapping_sub(1)
+    } else {
+        byte
+    }
+}
+
+/// This byte of each instrument.
+fn push_field(
+    bytes: &mut ByteList,
+    instruments: &[PackedInstrument],
+    field: usize,
+) -> Result<(), NoMemory>
+    requires { field < 9 }
+    ensures { OnOk result (bytes.new ≡ bytes.old
+        ++ map (λ instrument. instrument_byte field (unpacked_instrument instrument)) instruments.now) }
+{
+    for instrument in instruments {
+        bytes.push(field_byte(instrument, field))?;
+    }
+    Ok(())
+}
+
+/// The nine lists over the instruments.
+fn push_instrument_lists(bytes: &mut ByteList, packed: &PackedSong) -> Result<(), NoMemory>
+    ensures { OnOk result (bytes.new ≡ bytes.old ++ concat (instrument_lists packed.now)) }
+{
+    for field in 0..9 {
+        push_field(bytes, packed.instruments.as_slice(), field)?;
+    }
+    Ok(())
+}
+
+/// The low bytes of the addresses of places, each less so many bytes.
+fn push_lows(bytes: &mut ByteList, start: u16, back: u16, places: &[u16]) -> Result<(), NoMemory>
+    requires from { All (λ place. back ≤ place) places.now }
+    requires to { All (λ place. start + place ≤ 65535) places.now }
+    ensures { OnOk result (bytes.new ≡ bytes.old ++ lows start back places.now) }
+{
+    for place in places {
+        bytes.push(((start + *place - back) % 256) as u8)?;
+    }
+    Ok(())
+}
+
+/// The high bytes.
+fn push_highs(bytes: &mut ByteList, start: u16, back: u16, places: &[u16]) -> Result<(), NoMemory>
+    requires from { All (λ place. back ≤ place) places.now }
+    requires to { All (λ place. start + place ≤ 65535) places.now }
+    ensures { OnOk result (bytes.new ≡ bytes.old ++ highs start back places.now) }
+{
+    for place in places {
+        bytes.push(((start + *place - back) / 256) as u8)?;
+    }
+    Ok(())
+}
+
+/// The orderlists, three of each subtune.
+fn push_orders(bytes: &mut ByteList, subtunes: &[PackedSubtune]) -> Result<(), NoMemory>
+    ensures { OnOk result (bytes.new
+        ≡ bytes.old ++ concat (flat_map orders_of subtunes.now)) }
+{
+    for subtune in subtunes {
+        bytes.extend(subtune.one.as_slice())?;
+        bytes.extend(subtune.two.as_slice())?;
+        bytes.extend(subtune.three.as_slice())?;
+    }
+    Ok(())
+}
+
+/// The patterns.
+fn push_patterns(bytes: &mut ByteList, patterns: &[PackedPattern]) -> Result<(), NoMemory>
+    ensures { OnOk result (bytes.new ≡ bytes.old ++ concat patterns.now) }
+{
+    for pattern in patterns {
+        bytes.extend(pattern.as_slice())?;
+    }
+    Ok(())
+}
+
+/// The addresses of the orderlists and the places before the patterns, which stand at these places.
+fn push_address_lists(
+    bytes: &mut ByteList,
+    start: u16,
+    orders: &[u16],
+    patterns: &[u16],
+) -> Result<(), NoMemory>
+    requires orders { All (λ place. 0 ≤ place) orders.now }
+    requires patterns { All (λ place. 1 ≤ place) patterns.now }
+    requires order_addresses { All (λ place. start + place ≤ 65535) orders.now }
+    requires pattern_addresses { All (λ place. start + place ≤ 65535) patterns.now }
+    ensures { OnOk result (bytes.new ≡ bytes.old ++ (lows start 0 orders.now
+        ++ (highs start 0 orders.now ++ (lows start 1 patterns.now ++ highs start 1 patterns.now)))) }
+{
+    push_lows(bytes, start, 0, orders)?;
+    push_highs(bytes, start, 0, orders)?;
+    push_lows(bytes, start, 1, patterns)?;
+    push_highs(bytes, start, 1, patterns)
+}
+
+/// The bytes of a packed song's lists, the first of which is to stand at `start`.
+pub(crate) fn data_bytes(
+    alloc: Global,
+    packed: &PackedSong,
+    start: u16,
+    dependent: bool,
+    places: (&[u16], &[u16]),
+) -> Result<ByteList, NoMemory>
+    requires orders { places.0.now ≡ order_places dependent packed.now }
+    requires patterns { places.1.now ≡ pattern_places dependent packed.now }
+    requires order_places { All (λ place. 0 ≤ place) places.0.now }
+    requires pattern_places { All (λ place. 1 ≤ place) places.1.now }
+    requires order_addresses { All (λ place. start + place ≤ 65535) places.0.now }
+    requires pattern_addresses { All (λ place. start + place ≤ 65535) places.1.now }
+    ensures { IfOk result (λ bytes. bytes ≡ data_bytes dependent packed.now start) }
+{
+    let mut bytes = ByteList::new(alloc);
+    push_frequency_lists(&mut bytes, packed)?;
+    push_kept_lists(&mut bytes, packed, dependent)?;
+    push_table_lists(&mut bytes, packed)?;
+    push_instrument_lists(&mut bytes, packed)?;
+    push_address_lists(&mut bytes, start, places.0, places.1)?;
+    push_orders(&mut bytes, packed.subtunes.as_slice())?;
+    push_patterns(&mut bytes, packed.patterns.as_slice())?;
+    Ok(bytes)
+}

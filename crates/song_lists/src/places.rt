@@ -1,0 +1,221 @@
+//! Where the lists of a packed song stand, counted from the first byte on.
+
+ghost use Rattle.std.specs.Prelude.{◌≡◌, ◌+◌, ◌≤◌, length, IfOk};
+ghost use Rattle.std.specs.List.{concat, flat_map};
+ghost use Rattle.song_lists.specs.DataLists.{kept_rows, speed_lefts_place, slides_low_place, slides_high_place};
+ghost use Rattle.song_lists.specs.DataLists.{periods_place, wave_place, pulse_place, filter_place, instruments_place};
+ghost use Rattle.song_lists.specs.DataLists.{addresses_place, orders_place, orders_of, places_from, order_places};
+ghost use Rattle.song_lists.specs.DataLists.{pattern_places};
+ghost use Rattle.song_lists.specs.ListLaws.{lists_size};
+
+use base::{Items, NoMemory};
+use packed_form::{PackedOrder, PackedPattern, PackedSong, PackedSubtune};
+use song_model::Table;
+use std::alloc::Global;
+
+/// A list of places.
+pub(crate) type PlaceList = Items<u16>;
+
+/// How many rows a table has.
+pub(crate) fn rows(table: &Table) -> u16
+    ensures count { result ≡ length table.now }
+    ensures most { result ≤ 255 }
+{
+    table.as_slice().len() as u16
+}
+
+/// How many subtunes there are.
+pub(crate) fn subtunes(packed: &PackedSong) -> u16
+    ensures count { result ≡ length packed.now.subtunes }
+    ensures most { result ≤ 32 }
+{
+    packed.subtunes.as_slice().len() as u16
+}
+
+/// How many patterns there are.
+pub(crate) fn patterns(packed: &PackedSong) -> u16
+    ensures count { result ≡ length packed.now.patterns }
+    ensures most { result ≤ 208 }
+{
+    packed.patterns.as_slice().len() as u16
+}
+
+/// How many instruments there are.
+pub(crate) fn instruments(packed: &PackedSong) -> u16
+    ensures count { result ≡ length packed.now.instruments }
+    ensures most { result ≤ 63 }
+{
+    packed.instruments.as_slice().len() as u16
+}
+
+/// How many bytes a list of calculated speeds has: one for each row of the speed table and row 0, or none.
+fn kept_rows(packed: &PackedSong, dependent: bool) -> u16
+    ensures count { result ≡ kept_rows dependent packed.now }
+    ensures most { result ≤ 256 }
+{
+    if dependent {
+        rows(&packed.speed) + 1
+    } else {
+        0
+    }
+}
+
+/// Where the label of the speed table's left sides is.
+pub(crate) fn speed_lefts_place(packed: &PackedSong) -> u16
+    ensures place { result ≡ speed_lefts_place packed.now }
+    ensures most { result ≤ 450 }
+{
+    195 + rows(&packed.speed)
+}
+
+/// Where that of the slides' low bytes is.
+pub(crate) fn slides_low_place(packed: &PackedSong, dependent: bool) -> u16
+    ensures { result ≡ slides_low_place dependent packed.now }
+{
+    if dependent {
+        196 + 2 * rows(&packed.speed)
+    } else {
+        97
+    }
+}
+
+/// Where that of the slides' high bytes is.
+pub(crate) fn slides_high_place(packed: &PackedSong, dependent: bool) -> u16
+    ensures { result ≡ slides_high_place dependent packed.now }
+{
+    if dependent {
+        197 + 3 * rows(&packed.speed)
+    } else {
+        speed_lefts_place(packed)
+    }
+}
+
+/// Where that of the periods is.
+pub(crate) fn periods_place(packed: &PackedSong, dependent: bool) -> u16
+    ensures { result ≡ periods_place dependent packed.now }
+{
+    if dependent {
+        198 + 4 * rows(&packed.speed)
+    } else {
+        speed_lefts_place(packed)
+    }
+}
+
+/// Where those of the wave table's left sides are.
+pub(crate) fn wave_place(packed: &PackedSong, dependent: bool) -> u16
+    ensures place { result ≡ wave_place dependent packed.now }
+    ensures most { result ≤ 1473 }
+{
+    195 + 2 * rows(&packed.speed) + 3 * kept_rows(packed, dependent)
+}
+
+/// Where those of the pulse table's are.
+pub(crate) fn pulse_place(packed: &PackedSong, dependent: bool) -> u16
+    ensures place { result ≡ pulse_place dependent packed.now }
+    ensures most { result ≤ 1983 }
+{
+    wave_place(packed, dependent) + 2 * rows(&packed.wave)
+}
+
+/// Where those of the filter table's are.
+pub(crate) fn filter_place(packed: &PackedSong, dependent: bool) -> u16
+    ensures place { result ≡ filter_place dependent packed.now }
+    ensures most { result ≤ 2493 }
+{
+    pulse_place(packed, dependent) + 2 * rows(&packed.pulse)
+}
+
+/// Where the label of the instruments' first bytes is.
+pub(crate) fn instruments_place(packed: &PackedSong, dependent: bool) -> u16
+    ensures place { result ≡ instruments_place dependent packed.now }
+    ensures most { result ≤ 3003 }
+{
+    filter_place(packed, dependent) + 2 * rows(&packed.filter)
+}
+
+/// Where the addresses begin.
+pub(crate) fn addresses_place(packed: &PackedSong, dependent: bool) -> u16
+    ensures place { result ≡ addresses_place dependent packed.now }
+    ensures most { result ≤ 3571 }
+{
+    instruments_place(packed, dependent) + 9 * instruments(packed) + 1
+}
+
+/// Where the orderlists begin.
+fn orders_place(packed: &PackedSong, dependent: bool) -> u16
+    ensures place { result ≡ orders_place dependent packed.now }
+    ensures most { result ≤ 4179 }
+{
+    addresses_place(packed, dependent) + 6 * subtunes(packed) + 2 * patterns(packed)
+}
+
+/// How many bytes an orderlist has.
+fn order_length(order: &PackedOrder) -> u16
+    ensures { result ≡ length order.now }
+{
+    order.as_slice().len() as u16
+}
+
+/// How many bytes a pattern has.
+fn pattern_length(pattern: &PackedPattern) -> u16
+    ensures { result ≡ length pattern.now }
+{
+    pattern.as_slice().len() as u16
+}
+
+/// The places of orderlists, the first of which stands at `from`, and the place behind the last one.
+fn places_of_orders(
+    alloc: Global,
+    subtunes: &[PackedSubtune],
+    from: u16,
+) -> Result<(PlaceList, u16), NoMemory>
+    requires { from + length (concat (flat_map orders_of subtunes.now)) ≤ 65535 }
+    ensures places { IfOk result (λ found. found.0 ≡ places_from from (flat_map orders_of subtunes.now)) }
+    ensures end { IfOk result (λ found. found.1
+        ≡ from + length (concat (flat_map orders_of subtunes.now))) }
+{
+    let mut places = PlaceList::new(alloc);
+    let mut place = from;
+    for subtune in subtunes {
+        let second = place + order_length(&subtune.one);
+        let third = second + order_length(&subtune.two);
+        places.extend(&[place, second, third])?;
+        place = third + order_length(&subtune.three);
+    }
+    Ok((places, place))
+}
+
+/// The places of patterns, the first of which stands at `from`.
+fn places_of_patterns(
+    alloc: Global,
+    patterns: &[PackedPattern],
+    from: u16,
+) -> Result<PlaceList, NoMemory>
+    requires { from + length (concat patterns.now) ≤ 65535 }
+    ensures { IfOk result (λ places. places ≡ places_from from patterns.now) }
+{
+    let mut places = PlaceList::new(alloc);
+    let mut place = from;
+    for pattern in patterns {
+        places.push(place)?;
+        place += pattern_length(pattern);
+    }
+    Ok(places)
+}
+
+/// The places of the orderlists and of the patterns of a packed song.
+pub(crate) fn text_places(
+    alloc: Global,
+    packed: &PackedSong,
+    dependent: bool,
+) -> Result<(PlaceList, PlaceList), NoMemory>
+    requires { lists_size dependent packed.now ≤ 65535 }
+    ensures orders { IfOk result (λ places. places.0 ≡ order_places dependent packed.now) }
+    ensures patterns { IfOk result (λ places. places.1 ≡ pattern_places dependent packed.now) }
+    ensures few { IfOk result (λ places. (length places.0 ≤ 96) × (length places.1 ≤ 208)) }
+{
+    let from = orders_place(packed, dependent);
+    let (orders, end) = places_of_orders(alloc, packed.subtunes.as_slice(), from)?;
+    let patterns = places_of_patterns(alloc, packed.patterns.as_slice(), end)?;
+    Ok((orders, patterns))
+}
