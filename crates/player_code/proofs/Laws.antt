@@ -1,0 +1,13 @@
+-- What upper crates may cite of the proofs of this crate.
+
+-- the listing of an image assembles, its labels are in place, and its entrances are well entered
+pub use Rattle.player_code.proofs.Whole.{code_assembles, entrances_are_in_one_listing, labels_stand_in_place}
+pub use Rattle.player_code.proofs.Whole.{code_is_well_entered, size_is, listed_ends}
+-- all lines of the code, and of the variables, are kept
+pub use Rattle.player_code.proofs.Whole.{code_kept}
+pub use Rattle.player_code.proofs.Sizes.{variables_kept}
+pub use Rattle.player_code.proofs.Places.{variables_size}
+-- the code of both stands in a memory with its bytes
+pub use Rattle.player_code.proofs.Stands.{assembled_code_stands}
+-- how many bytes the code takes
+pub use Rattle.player_code.proofs.WorkedCode.{code_is_measured}

@@ -1,0 +1,17 @@
+-- What upper crates may cite.
+pub mod Laws
+-- The entrances, as the code has them.
+mod Entrances
+-- Labels: which are named, and where they are.
+mod Naming
+mod CodeNames
+mod Places
+mod Addresses
+-- Lines: what they use, that they are kept, and how many bytes they take.
+mod Homes
+mod Fits
+mod Sizes
+-- An image.
+mod Whole
+mod Stands
+mod WorkedCode

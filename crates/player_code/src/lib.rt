@@ -1,0 +1,18 @@
+//! The lines of an image in front of its lists: two jumps, the variables, and the code of the two entrances.
+//!
+//! The layer's one contract: with any lists behind them the lines assemble, at each origin at which they fit; both
+//! entrances are well entered there; the variables stand behind the jumps, one behind the other, and the lists behind
+//! the code.
+//!
+//! It stands on `player_text` for the blocks, on `scope_calls` for what an entrance is, and on `asm6502` for listings.
+#![tactic(auto)]
+
+pub mod claims;
+pub mod labels;
+mod listing;
+
+pub use asm6502::Listing;
+pub use base::NoMemory;
+pub use listing::code_listing;
+pub use player_text::texts::Start;
+pub use scope_lines::Conditions;
