@@ -1,0 +1,11 @@
+-- What upper crates may cite.
+pub mod Laws
+-- The lists behind the code, and the room of all.
+mod Lists
+mod Laying
+-- What stands in memory.
+mod Standing
+mod Beginning
+-- An image.
+mod Whole
+mod WorkedImages

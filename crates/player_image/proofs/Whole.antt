@@ -1,0 +1,113 @@
+-- Each image is a player, and so plays its song.
+use Rattle.std.proofs.Common.{ℕ, ◌+◌, ◌<◌, List, slice_index, refl}
+use Rattle.std.proofs.Common.{arith}
+use Rattle.song_model.specs.declared.songs.Song.{Song}
+use Rattle.play_model.specs.declared.options.Options.{Options}
+use Rattle.play_model.specs.declared.options.System.{System}
+use Rattle.play_model.specs.declared.options.System.TheVariants.{Pal, Ntsc}
+use Rattle.play_model.specs.Speeds.{IsSpeed, timer_value}
+use Rattle.packed_form.specs.declared.packed_songs.PackedSong.{PackedSong}
+use Rattle.packed_form.specs.StandsFor.{StandsFor}
+use Rattle.player_memory.specs.Holds.{order_label}
+use Rattle.player_memory.specs.Starting.{Begins}
+use Rattle.player_text.specs.Facts.{HasBytes}
+use Rattle.player_memory.specs.declared.conditions.TheConstants.{NOTE_DEPENDENT}
+use Rattle.frame_code.specs.InitBlock.{start_of}
+use Rattle.kept_lines.proofs.Laws.{sets_keep_their_lines}
+use Rattle.player_code.specs.Plans.{IsPlan, plan_layout}
+use Rattle.player_calls.specs.Players.{IsPlayer, HasImage}
+use Rattle.player_calls.proofs.Laws.{players_play, players_are_isolated}
+use Rattle.player_image.specs.Images.{image_holds, code_bytes, plan_of, numbered, IsImageOf}
+use Rattle.player_image.specs.ImageLaws.{Stands, ImagesArePlayers, ImagesPlay}
+use Rattle.player_image.proofs.Lists.{lists_are_data}
+use Rattle.player_image.proofs.Laying.{Laid, reads, reads_variables, reads_lists, writes, sets_timer, player_layout}
+use Rattle.player_image.proofs.Standing.{lists_stand, variables_stand}
+use Rattle.player_image.proofs.Beginning.{begins_moved}
+
+-- the numbers with which a subtune begins are bytes
+timer_small : (system : System) (speed : ℕ) → timer_value system speed < 65536
+timer_small Pal speed = omega arith
+timer_small Ntsc speed = omega arith
+
+start_bytes : (o : Options) → IsSpeed o.speed → HasBytes (start_of o)
+start_bytes o speed =
+    let most = speed.most in
+    let timer = timer_small o.system o.speed in
+    record {
+      tempo = omega (arith, most);
+      funk = omega (arith, most);
+      timer_low = omega arith;
+      timer_high = omega (arith, timer);
+    }
+
+module _ (packed : PackedSong) (song : Song) (o : Options) (origin pointer : ℕ) (bytes : List ℕ)
+    (image : IsImageOf packed o origin pointer bytes) (s : Stands packed o origin pointer bytes image)
+    (stands : StandsFor packed song) where
+  its_plan : IsPlan (plan_of packed o origin pointer image.variables image.lists)
+  its_plan = record {
+    variables = image.all;
+    pointer_low = s.pointer_low;
+    pointer_high = s.pointer_high;
+    start = start_bytes o s.speed;
+    lists = lists_are_data (image_holds packed o NOTE_DEPENDENT) packed
+        (origin + code_bytes packed o pointer image.variables) image.lists s.counts image.has_lines;
+  }
+
+  laid : Laid packed o origin pointer image.variables image.lists
+  laid =
+      let size = s.size in
+      let ends = s.ends in
+      record { is = its_plan; counts = s.counts; has = image.has_lines; begins = s.begins; ends = omega (arith, size, ends) }
+
+  first : (at : ℕ → ℕ) → HasImage (plan_of packed o origin pointer image.variables image.lists) at →
+      Begins (plan_layout (plan_of packed o origin pointer image.variables image.lists)) (start_of o).tempo
+      (start_of o).funk
+      (λ voice. (plan_layout (plan_of packed o origin pointer image.variables image.lists)).address (order_label 0 voice))
+      at
+  first at has =
+      begins_moved numbered (plan_layout (plan_of packed o origin pointer image.variables image.lists))
+      (start_of o).tempo (start_of o).funk _ (slice_index image.variables) at
+      (λ label below. variables_stand packed o origin pointer image.variables image.lists laid at has label below)
+      image.first
+
+  is_player : IsPlayer (plan_of packed o origin pointer image.variables image.lists) packed song o bytes
+  is_player =
+      let kept = sets_keep_their_lines (plan_layout (plan_of packed o origin pointer image.variables image.lists))
+      packed.features.0 o (λ condition. refl) in
+      let few = s.counts.subtunes in
+      record {
+        is = its_plan;
+        are = image.are;
+        size = s.size;
+        begins = s.begins;
+        ends = laid.ends;
+        stands = stands;
+        short = s.short;
+        subtunes = omega (arith, few);
+        speed = s.speed;
+        start = refl;
+        features = kept.features_are;
+        common = kept.common;
+        options = kept.options_are;
+        timed = kept.timer;
+        laid = player_layout packed o origin pointer image.variables image.lists laid;
+        timer = sets_timer packed o origin pointer image.variables image.lists;
+        reads_variables = reads_variables packed o origin pointer image.variables image.lists;
+        reads_lists = reads_lists packed o origin pointer image.variables image.lists;
+        reads = reads packed o origin pointer image.variables image.lists;
+        writes = writes packed o origin pointer image.variables image.lists;
+        lists = λ at has. lists_stand packed o origin pointer image.variables image.lists laid at has;
+        variables = first;
+      }
+
+pub images_are_players : ImagesArePlayers
+images_are_players packed song o origin pointer bytes image s stands =
+    is_player packed song o origin pointer bytes image s stands
+
+pub images_play : ImagesPlay
+images_play packed song o origin pointer bytes image s stands =
+    let player = is_player packed song o origin pointer bytes image s stands in record {
+      always = players_play (plan_of packed o origin pointer image.variables image.lists) packed song o bytes player;
+      isolated =
+          players_are_isolated (plan_of packed o origin pointer image.variables image.lists) packed song o bytes player;
+    }

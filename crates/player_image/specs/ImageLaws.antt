@@ -1,0 +1,45 @@
+-- What holds of images: each is a player, and so plays its song. This is the project's own player.
+use Rattle.std.specs.Prelude.{◌≡◌, ℕ, ◌+◌, ◌≤◌, List, length}
+use Rattle.song_model.specs.declared.songs.Song.{Song}
+use Rattle.play_model.specs.declared.options.Options.{Options}
+use Rattle.play_model.specs.Speeds.{IsSpeed}
+use Rattle.packed_form.specs.declared.packed_songs.PackedSong.{PackedSong}
+use Rattle.packed_form.specs.StandsFor.{StandsFor}
+use Rattle.faithful.specs.Histories.{PlaysAlways}
+use Rattle.faithful.specs.Isolation.{IsIsolated}
+use Rattle.frame_scenes.specs.FrameScenes.{KeepsPatternLimits}
+use Rattle.song_lists.specs.ListLaws.{KeepsCounts}
+use Rattle.player_code.specs.Plans.{plan_size}
+use Rattle.player_calls.specs.Players.{IsPlayer}
+use Rattle.player_image.specs.Images.{IsImageOf, plan_of}
+
+-- The packed song is within its limits, the pointer is behind the processor's port in page 0, and the image stands from
+-- $0800 up to $D000.
+pub record Stands (packed : PackedSong) (o : Options) (origin pointer : ℕ) (bytes : List ℕ)
+    (image : IsImageOf packed o origin pointer bytes) : Type 0 where
+  pub counts : KeepsCounts packed
+  pub short : KeepsPatternLimits packed
+  pub speed : IsSpeed o.speed
+  pub pointer_low : 2 ≤ pointer
+  pub pointer_high : pointer ≤ 254
+  pub size : length bytes ≡ plan_size (plan_of packed o origin pointer image.variables image.lists)
+  pub begins : 0x0800 ≤ origin
+  pub ends : origin + length bytes ≤ 0xD000
+
+abbrev pub ImagesArePlayers : Type 0
+ImagesArePlayers =
+    (packed : PackedSong) (song : Song) (o : Options) (origin pointer : ℕ) (bytes : List ℕ)
+    (image : IsImageOf packed o origin pointer bytes) → Stands packed o origin pointer bytes image →
+    StandsFor packed song →
+    IsPlayer (plan_of packed o origin pointer image.variables image.lists) packed song o bytes
+
+-- so it plays each song that the packed song stands for
+pub record ImagePlays (song : Song) (o : Options) (origin pointer : ℕ) (bytes : List ℕ) : Type 0 where
+  pub always : PlaysAlways bytes origin pointer song o
+  pub isolated : IsIsolated bytes origin song
+
+abbrev pub ImagesPlay : Type 0
+ImagesPlay =
+    (packed : PackedSong) (song : Song) (o : Options) (origin pointer : ℕ) (bytes : List ℕ)
+    (image : IsImageOf packed o origin pointer bytes) → Stands packed o origin pointer bytes image →
+    StandsFor packed song → ImagePlays song o origin pointer bytes

@@ -1,0 +1,78 @@
+-- What an image of a packed song is made of: the code of the lines that are kept for its features and the options, with
+-- the variables as the first subtune begins, and the song's lists behind it. This is the project's own player.
+use Rattle.std.specs.Prelude.{◌≡◌, ℕ, ◌+◌, ◌&&◌, ◌||◌, nat_le, nat_lt, Bool, false, List, length, slice_index}
+use Rattle.play_model.specs.declared.options.Options.{Options}
+use Rattle.packed_form.specs.declared.packed_songs.PackedSong.{PackedSong}
+use Rattle.asm6502.specs.declared.lines.Line.{Line}
+use Rattle.asm6502.specs.Lines.{size_of}
+use Rattle.asm6502.specs.Assembly.{assembled_bytes}
+use Rattle.scopes.specs.Desk.{Layout}
+use Rattle.scope_lines.specs.Readings.{holds_in}
+use Rattle.player_memory.specs.declared.conditions.TheConstants.{NOTE_DEPENDENT, TIMED}
+use Rattle.player_memory.specs.declared.labels.TheConstants.{VARIABLES}
+use Rattle.player_memory.specs.Holds.{order_label}
+use Rattle.player_memory.specs.Starting.{Begins}
+use Rattle.frame_code.specs.InitBlock.{start_of}
+use Rattle.kept_lines.specs.KeptLines.{kept_set}
+use Rattle.song_lists.specs.DataLists.{HasLines}
+use Rattle.player_code.specs.CodeLines.{code_lines}
+use Rattle.player_code.specs.Plans.{Plan, plan_lines, plan_layout}
+
+-- which conditions hold
+abbrev pub image_holds : PackedSong → Options → ℕ → Bool
+image_holds packed o = holds_in (kept_set packed.features.0 o)
+
+-- how many bytes the code takes
+abbrev pub code_bytes : PackedSong → Options → ℕ → List ℕ → ℕ
+code_bytes packed o pointer variables = size_of (code_lines variables pointer (image_holds packed o) (start_of o))
+
+-- a place from one up to another
+abbrev pub is_within : ℕ → ℕ → ℕ → Bool
+is_within from to place = nat_le from place && nat_lt place to
+
+-- The blocks may read the variables, and the lists behind the code; and may write these, the registers, and the timer
+-- where it is set.
+abbrev pub is_read : ℕ → ℕ → ℕ → ℕ → Bool
+is_read origin code all place =
+    is_within (origin + 6) (origin + (6 + VARIABLES)) place || is_within (origin + code) (origin + all) place
+
+abbrev pub is_written : Bool → ℕ → ℕ → ℕ → ℕ → Bool
+is_written timed origin code all place =
+    is_read origin code all place || (is_within 0xD400 0xD419 place || (timed && is_within 0xDC04 0xDC06 place))
+
+-- what the image with these variables and these lines of lists is made from, at an address, with a pointer in page 0
+abbrev pub plan_of : PackedSong → Options → ℕ → ℕ → List ℕ → List Line → Plan
+plan_of packed o origin pointer variables lists = record {
+  variables = variables;
+  pointer = pointer;
+  holds = image_holds packed o;
+  start = start_of o;
+  lists = lists;
+  origin = origin;
+  may_read = is_read origin (code_bytes packed o pointer variables)
+      (code_bytes packed o pointer variables + size_of lists);
+  may_write = is_written (image_holds packed o TIMED) origin (code_bytes packed o pointer variables)
+      (code_bytes packed o pointer variables + size_of lists);
+}
+
+-- in a layout in which each label is its own place
+abbrev pub numbered : Layout
+numbered = record {
+  address = λ label. label;
+  pointer = 0;
+  holds = λ condition. false;
+  may_read = λ place. false;
+  may_write = λ place. false;
+}
+
+-- The lists stand behind the code, the variables begin as the first subtune does, and the bytes are the listing's.
+pub record IsImageOf (packed : PackedSong) (o : Options) (origin pointer : ℕ) (bytes : List ℕ) : Type 0 where
+  pub variables : List ℕ
+  pub lists : List Line
+  pub all : length variables ≡ VARIABLES
+  pub has_lines : HasLines (image_holds packed o NOTE_DEPENDENT) packed
+      (origin + code_bytes packed o pointer variables) lists
+  pub first : Begins numbered (start_of o).tempo (start_of o).funk
+      (λ voice. (plan_layout (plan_of packed o origin pointer variables lists)).address (order_label 0 voice))
+      (slice_index variables)
+  pub are : bytes ≡ assembled_bytes 0 origin (plan_lines (plan_of packed o origin pointer variables lists))
