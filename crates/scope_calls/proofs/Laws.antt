@@ -11,6 +11,8 @@ pub use Rattle.scope_calls.proofs.Staying.{others_stay, listings_stay, code_stay
 pub use Rattle.scope_calls.proofs.Staying.{run_stays}
 -- how many bytes the lines take, that all of them are kept, and that they name no label
 pub use Rattle.scope_calls.proofs.Sizing.{entrances_take_size, entrance_kept, entrance_names_none}
+-- there are at most as many as bytes, and none has bytes as they are
+pub use Rattle.scope_calls.proofs.Sizing.{entrance_is_code}
 -- and `assemble` refuses none of them
 pub use Rattle.scope_calls.proofs.Homes.{entrance_lines_are_at_home, entrance_lines_are_not_refused}
 -- a line that branches to no label is at home, and so are two lists of lines that are

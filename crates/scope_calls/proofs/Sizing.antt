@@ -15,6 +15,7 @@ use Rattle.scope_lines.specs.Instructions.{code}
 use Rattle.scope_lines.specs.Sizes.{size}
 use Rattle.scope_lines.specs.Lines.{block_around, block_lines}
 use Rattle.scope_lines.proofs.Laws.{lines_size, lines_kept, both_unnamed, lines_name_none}
+use Rattle.scope_lines.proofs.Laws.{AreCode, both_code, lines_are_code}
 use Rattle.scope_calls.specs.Entrances.{Entrance, lead_lines, lead_size, voices_place, call_lines, voice_lines}
 use Rattle.scope_calls.specs.Entrances.{voice_size, entrance_lines, EntrancesTakeSize}
 
@@ -106,6 +107,28 @@ entrance_names_none label e =
     both_unnamed label (lead_lines e.stored) (first_lines e ++ (voices ++ last_lines)) (lead_names_none label e.stored)
     (both_unnamed label (first_lines e) (voices ++ last_lines) (block_names_none label e (lead_size e.stored) e.first)
     (both_unnamed label voices last_lines (voices_name_none label e (voices_place e) e.voice) refl))
+
+-- ---- how many there are
+
+lead_is_code : (stored : Option ℕ) → AreCode (lead_lines stored)
+lead_is_code None = record { few = omega arith; bytes = refl }
+lead_is_code (Some label) = record { few = omega arith; bytes = refl }
+
+voices_are_code : (e : Entrance) (place : ℕ) (voice : Option Tree) → AreCode (voice_lines e place voice)
+voices_are_code e place None = record { few = omega arith; bytes = refl }
+voices_are_code e place (Some voice) =
+    both_code (call_lines e.label place) (block_lines e.label e.pointer e.holds (place + 12) voice)
+    (record { few = omega arith; bytes = refl })
+    (lines_are_code (block_around e.label e.pointer e.holds) (place + 12) voice)
+
+pub entrance_is_code : (e : Entrance) → AreCode (entrance_lines e)
+entrance_is_code e =
+    let voices = voice_lines e (voices_place e) e.voice in
+    both_code (lead_lines e.stored) (first_lines e ++ (voices ++ last_lines)) (lead_is_code e.stored)
+    (both_code (first_lines e) (voices ++ last_lines)
+    (lines_are_code (block_around e.label e.pointer e.holds) (lead_size e.stored) e.first)
+    (both_code voices last_lines (voices_are_code e (voices_place e) e.voice)
+    (record { few = omega arith; bytes = refl })))
 
 -- ---- where the parts stand
 

@@ -12,5 +12,7 @@ pub use Rattle.scope_lines.proofs.Isolating.{trees_are_isolated, only_bytes, sit
 pub use Rattle.scope_lines.proofs.Knowing.{IsWithin, within, fewer}
 -- their bytes, that all of them are kept, and that they name no label
 pub use Rattle.scope_lines.proofs.Sizing.{sizes_are_bounded, lines_size, lines_kept, both_unnamed, lines_name_none}
+-- there are at most as many lines as bytes, and none has bytes as they are
+pub use Rattle.scope_lines.proofs.Counting.{AreCode, both_code, lines_are_code}
 -- they are at home in any listing, and none of them is refused there
 pub use Rattle.scope_lines.proofs.Homes.{lowered_lines_are_at_home, lowered_lines_are_not_refused}

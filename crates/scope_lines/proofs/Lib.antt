@@ -3,6 +3,7 @@ mod Plain
 mod Stepping
 -- Lines and trees.
 mod Sizing
+mod Counting
 mod Nearing
 mod Ways
 mod Meant
