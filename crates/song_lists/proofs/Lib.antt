@@ -28,5 +28,6 @@ pub mod PlaceSteps
 pub mod ByteSteps
 -- Worked by hand.
 pub mod WorkedLists
+mod WorkedOrders
 mod WorkedDenials
 mod WorkedLayouts

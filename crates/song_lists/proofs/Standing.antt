@@ -1,7 +1,7 @@
 -- The lists of a packed song in memory: each at its label, byte for byte.
 use Rattle.std.proofs.Common.{◌≡◌, ℕ, zero, suc, ◌+◌, ◌-◌, ◌*◌, ◌/◌, ◌%◌, ◌<◌, Bool}
 use Rattle.std.proofs.Common.{List, [], ◌∷◌, ◌++◌, length, get_or, map, replicate, refl, sym, ap, ◌∙◌, arith}
-use Rattle.std.proofs.Common.{Contains}
+use Rattle.std.proofs.Common.{Contains, slice_index}
 use Rattle.std.proofs.lemmas.Bool.{ne_eqb}
 use Rattle.std.proofs.lemmas.List.{length-map, get_or-map}
 use Rattle.std.proofs.lemmas.List.Elements.{Contains-get_or, Contains-append_left, Contains-append_right}
@@ -23,9 +23,10 @@ use Rattle.player_memory.specs.SongLists.{OrderLows, OrderHighs, PatternLows, Pa
 use Rattle.player_memory.specs.SongLists.{list_label, list_length, list_byte, first_number, instrument_byte}
 use Rattle.player_memory.specs.SongLists.{order_bytes, pattern_bytes}
 use Rattle.song_lists.specs.declared.marks.Mark.{Mark}
+use Rattle.song_lists.specs.Marks.{mark_at}
 use Rattle.song_lists.specs.DataLists.{frequency_lows, frequency_highs, lefts, rights, stored_rows}
 use Rattle.song_lists.specs.DataLists.{instrument_bytes, order_places, pattern_places, patterns_place}
-use Rattle.song_lists.specs.DataLists.{label_place, marks_from, list_marks, IsDataLayout}
+use Rattle.song_lists.specs.DataLists.{label_place, marks_from, list_marks, data_marks, IsDataLayout}
 use Rattle.song_lists.proofs.Pieces.{places_count}
 use Rattle.song_lists.proofs.Lists.{lengths, order_places_count}
 use Rattle.song_lists.proofs.Stretches.{written, IsWritten, below_9}
@@ -66,18 +67,32 @@ fixed_at layout dependent packed start k d laid inside =
     (marks_from ORDERS (order_places dependent packed) ++ marks_from PATTERNS (pattern_places dependent packed))
     (get_or (list_marks dependent packed) k d) (Contains-get_or (list_marks dependent packed) k d inside))
 
+-- the label of each orderlist is among the labels, at its place
+order_is_marked : (dependent : Bool) (packed : PackedSong) (k : ℕ) → k < 3 * length packed.subtunes →
+    Contains (data_marks dependent packed) (mark_at (ORDERS + k) (get_or (order_places dependent packed) k 0))
+order_is_marked dependent packed k inside =
+    let mark : Mark = mark_at (ORDERS + k) (get_or (order_places dependent packed) k 0) in
+    let there : k < length (order_places dependent packed) = omega (arith, order_places_count dependent packed) in
+    Contains-append_right (list_marks dependent packed)
+    (marks_from ORDERS (order_places dependent packed) ++ marks_from PATTERNS (pattern_places dependent packed)) mark
+    (Contains-append_left (marks_from ORDERS (order_places dependent packed))
+    (marks_from PATTERNS (pattern_places dependent packed)) mark
+    (marks_have ORDERS (order_places dependent packed) k there))
+
+-- so are those of the first subtune's three
+pub first_orders_are_marked : (dependent : Bool) (packed : PackedSong) (voice : ℕ) → voice < 3 →
+    0 < length packed.subtunes →
+    Contains (data_marks dependent packed)
+    (mark_at (ORDERS + voice) (slice_index (order_places dependent packed) voice))
+first_orders_are_marked dependent packed voice below some =
+    order_is_marked dependent packed voice (omega arith)
+
 pub order_at_label : (layout : Layout) (dependent : Bool) (packed : PackedSong) (start k : ℕ) →
     IsDataLayout layout dependent packed start →
     k < 3 * length packed.subtunes → layout.address (ORDERS + k) ≡ start + get_or (order_places dependent packed) k 0
 order_at_label layout dependent packed start k laid inside =
-    let mark : Mark = record { label = ORDERS + k; place = get_or (order_places dependent packed) k 0 } in
-    let there : k < length (order_places dependent packed) = omega (arith, order_places_count dependent packed) in
-    laid.stands mark
-    (Contains-append_right (list_marks dependent packed)
-    (marks_from ORDERS (order_places dependent packed) ++ marks_from PATTERNS (pattern_places dependent packed)) mark
-    (Contains-append_left (marks_from ORDERS (order_places dependent packed))
-    (marks_from PATTERNS (pattern_places dependent packed)) mark
-    (marks_have ORDERS (order_places dependent packed) k there)))
+    laid.stands (mark_at (ORDERS + k) (get_or (order_places dependent packed) k 0))
+    (order_is_marked dependent packed k inside)
 
 pub pattern_at_label : (layout : Layout) (dependent : Bool) (packed : PackedSong) (start k : ℕ) →
     IsDataLayout layout dependent packed start →

@@ -1,8 +1,8 @@
 -- The bytes behind the player's code, and the labels in them: the frequencies of notes and the lists of a packed song,
 -- one behind the other. Where the player keeps calculated speeds (`dependent`), there are three lists more. This is the
 -- project's own player.
-use Rattle.std.specs.Prelude.{◌≡◌, ℕ, ◌+◌, ◌-◌, ◌*◌, ◌/◌, ◌%◌, Bool, if◌then◌else◌, List, []}
-use Rattle.std.specs.Prelude.{◌∷◌, ◌++◌}
+use Rattle.std.specs.Prelude.{◌≡◌, ℕ, ◌+◌, ◌-◌, ◌*◌, ◌/◌, ◌%◌, ◌<◌, Bool, List, []}
+use Rattle.std.specs.Prelude.{if◌then◌else◌, ◌∷◌, ◌++◌}
 use Rattle.std.specs.Prelude.{length, map, Contains, IsPermutation, slice_index}
 use Rattle.std.specs.List.{concat, flat_map, range_with_len}
 use Rattle.std.specs.List.Sorted.{IsNonDecreasingBy}
@@ -133,6 +133,11 @@ order_places dependent packed = places_from (orders_place dependent packed) (all
 
 abbrev pub pattern_places : Bool → PackedSong → List ℕ
 pattern_places dependent packed = places_from (patterns_place dependent packed) packed.patterns
+
+-- the addresses of the first subtune's orderlists, where the first byte is to stand at `start`
+abbrev pub AreFirstOrders : Bool → PackedSong → ℕ → List ℕ → Type 0
+AreFirstOrders dependent packed start orders =
+    (voice : ℕ) → voice < 3 → slice_index orders voice ≡ start + slice_index (order_places dependent packed) voice
 
 -- ---- the bytes, where the first one is to stand at `start`
 

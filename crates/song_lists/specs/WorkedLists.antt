@@ -16,7 +16,7 @@ use Rattle.player_memory.specs.declared.labels.TheConstants.{FILTERS, VIBRATOS, 
 use Rattle.player_memory.specs.declared.labels.TheConstants.{ORDERS_LOW, ORDERS_HIGH, PATTERNS_LOW, PATTERNS_HIGH}
 use Rattle.player_memory.specs.declared.labels.TheConstants.{ORDERS, PATTERNS}
 use Rattle.song_lists.specs.Marks.{label_line, bytes_line}
-use Rattle.song_lists.specs.DataLists.{frequency_lows, frequency_highs, data_bytes, HasLines}
+use Rattle.song_lists.specs.DataLists.{frequency_lows, frequency_highs, data_bytes, AreFirstOrders, HasLines}
 
 -- A-4 is 0x1D46; above B-7 there are two zeros
 pub record FrequenciesAreWorked : Type 0 where
@@ -174,6 +174,23 @@ pub record SmallListsAreWorked (packed : PackedSong) : Type 0 where
 
 abbrev pub SmallListsAre : Type 0
 SmallListsAre = (packed : PackedSong) → IsSmallSong packed → SmallListsAreWorked packed
+
+-- ---- where its orderlists are
+
+pub record FirstOrdersAreWorked (packed : PackedSong) : Type 0 where
+  -- without calculated speeds and with them
+  pub plain : AreFirstOrders false packed 0x1F0B (0x1FF5 ∷ 0x1FF8 ∷ 0x1FFC ∷ [])
+  pub kept : AreFirstOrders true packed 0x1F05 (0x1FF5 ∷ 0x1FF8 ∷ 0x1FFC ∷ [])
+  -- one byte further on, each alone
+  pub one : ¬ AreFirstOrders false packed 0x1F0B (0x1FF6 ∷ 0x1FF8 ∷ 0x1FFC ∷ [])
+  pub two : ¬ AreFirstOrders false packed 0x1F0B (0x1FF5 ∷ 0x1FF9 ∷ 0x1FFC ∷ [])
+  pub three : ¬ AreFirstOrders false packed 0x1F0B (0x1FF5 ∷ 0x1FF8 ∷ 0x1FFD ∷ [])
+  -- those of lists that are to stand elsewhere, and of the other flag
+  pub elsewhere : ¬ AreFirstOrders false packed 0x1F0C (0x1FF5 ∷ 0x1FF8 ∷ 0x1FFC ∷ [])
+  pub flag : ¬ AreFirstOrders true packed 0x1F0B (0x1FF5 ∷ 0x1FF8 ∷ 0x1FFC ∷ [])
+
+abbrev pub FirstOrdersAre : Type 0
+FirstOrdersAre = (packed : PackedSong) → IsSmallSong packed → FirstOrdersAreWorked packed
 
 -- ---- listings that aren't of this song
 

@@ -5,7 +5,7 @@ ghost use Rattle.song_lists.specs.ListLaws.{LinesAreFew, NoLabelIsNamedTwice, Ow
 ghost use Rattle.song_lists.specs.ListLaws.{LabelsHavePlaces, DataStands, ListsStandInside, OrdersStandInside};
 ghost use Rattle.song_lists.specs.ListLaws.{PatternsStandInside, SlidesAreInside, NextBytesAreNext};
 ghost use Rattle.song_lists.specs.ListLaws.{SongListsStand, ListsAreLaid};
-ghost use Rattle.song_lists.specs.WorkedLists.{FrequenciesAreWorked, SmallListsAre, OtherListingsAre};
+ghost use Rattle.song_lists.specs.WorkedLists.{FrequenciesAreWorked, SmallListsAre, FirstOrdersAre, OtherListingsAre};
 ghost use Rattle.song_lists.specs.WorkedLayouts.{SmallLayoutsAre, OtherLayoutsAre, SmallPlacesAre, LabelsAreWorked};
 
 /// There are 196 bytes of frequencies, as many as the packed song has, and those of three lists where calculated speeds
@@ -52,10 +52,12 @@ pub fn lists_stand_inside()
 {}
 
 /// The frequencies of some notes, and the lists of a small song, without calculated speeds from `$1F0B` on and with
-/// them from `$1F05` on, worked by hand; and listings that aren't of it.
+/// them from `$1F05` on, worked by hand; the addresses of its orderlists, and such as aren't theirs; and listings that
+/// aren't of it.
 pub fn worked_lists()
     ensures frequencies { FrequenciesAreWorked }
     ensures small { SmallListsAre }
+    ensures orders { FirstOrdersAre }
     ensures others { OtherListingsAre }
 {}
 

@@ -14,10 +14,12 @@ pub mod claims;
 mod labels;
 mod listing;
 mod marks;
+mod orders;
 mod places;
 
 pub use asm6502::Listing;
 pub use base::NoMemory;
 pub use listing::data_listing;
 pub use marks::Mark;
+pub use orders::first_orders;
 pub use packed_form::PackedSong;

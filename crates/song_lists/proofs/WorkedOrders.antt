@@ -1,0 +1,50 @@
+-- The addresses of the small song's orderlists, computed, and such as aren't theirs.
+use Rattle.std.proofs.Common.{◌≡◌, ℕ, zero, suc, ◌+◌, ◌<◌, Bool, true, false, List, [], ◌∷◌}
+use Rattle.std.proofs.Common.{slice_index, nat_eq, refl, sym, ap, ◌∙◌, arith}
+use Rattle.std.proofs.lemmas.Bool.{eqb-false}
+use Rattle.packed_form.specs.declared.packed_songs.PackedSong.{PackedSong}
+use Rattle.song_lists.specs.DataLists.{order_places, AreFirstOrders}
+use Rattle.song_lists.specs.WorkedLists.{IsSmallSong, FirstOrdersAreWorked}
+
+plain_places_are : (packed : PackedSong) → IsSmallSong packed → order_places false packed ≡ 234 ∷ 237 ∷ 241 ∷ []
+plain_places_are packed is =
+    rw (is.subtunes, is.patterns, is.instruments, is.wave, is.pulse, is.filter, is.speed) refl
+
+kept_places_are : (packed : PackedSong) → IsSmallSong packed → order_places true packed ≡ 240 ∷ 243 ∷ 247 ∷ []
+kept_places_are packed is =
+    rw (is.subtunes, is.patterns, is.instruments, is.wave, is.pulse, is.filter, is.speed) refl
+
+are_orders : (dependent : Bool) (packed : PackedSong) (start one two three : ℕ) →
+    order_places dependent packed ≡ one ∷ two ∷ three ∷ [] →
+    AreFirstOrders dependent packed start ((start + one) ∷ (start + two) ∷ (start + three) ∷ [])
+are_orders dependent packed start one two three are zero below =
+    ap (λ (places : List ℕ). start + slice_index places 0) (sym are)
+are_orders dependent packed start one two three are (suc zero) below =
+    ap (λ (places : List ℕ). start + slice_index places 1) (sym are)
+are_orders dependent packed start one two three are (suc (suc zero)) below =
+    ap (λ (places : List ℕ). start + slice_index places 2) (sym are)
+are_orders dependent packed start one two three are (suc (suc (suc voice))) below = absurd (omega arith)
+
+-- an address that isn't this voice's
+other_order : (dependent : Bool) (packed : PackedSong) (start voice : ℕ) (orders places : List ℕ) →
+    order_places dependent packed ≡ places → voice < 3 →
+    nat_eq (slice_index orders voice) (start + slice_index places voice) ≡ false →
+    ¬ AreFirstOrders dependent packed start orders
+other_order dependent packed start voice orders places are below other have =
+    eqb-false (slice_index orders voice) (start + slice_index places voice) other
+    (have voice below ∙ ap (λ (ps : List ℕ). start + slice_index ps voice) are)
+
+pub first_orders_are_worked : (packed : PackedSong) → IsSmallSong packed → FirstOrdersAreWorked packed
+first_orders_are_worked packed is =
+    let plain = plain_places_are packed is in
+    let kept = kept_places_are packed is in
+    let places : List ℕ = 234 ∷ 237 ∷ 241 ∷ [] in
+    let others : List ℕ = 240 ∷ 243 ∷ 247 ∷ [] in record {
+      plain = are_orders false packed 0x1F0B 234 237 241 plain;
+      kept = are_orders true packed 0x1F05 240 243 247 kept;
+      one = other_order false packed 0x1F0B 0 (0x1FF6 ∷ 0x1FF8 ∷ 0x1FFC ∷ []) places plain (omega arith) refl;
+      two = other_order false packed 0x1F0B 1 (0x1FF5 ∷ 0x1FF9 ∷ 0x1FFC ∷ []) places plain (omega arith) refl;
+      three = other_order false packed 0x1F0B 2 (0x1FF5 ∷ 0x1FF8 ∷ 0x1FFD ∷ []) places plain (omega arith) refl;
+      elsewhere = other_order false packed 0x1F0C 0 (0x1FF5 ∷ 0x1FF8 ∷ 0x1FFC ∷ []) places plain (omega arith) refl;
+      flag = other_order true packed 0x1F0B 0 (0x1FF5 ∷ 0x1FF8 ∷ 0x1FFC ∷ []) others kept (omega arith) refl;
+    }
