@@ -11,6 +11,8 @@ mod Addresses
 mod Homes
 mod Fits
 mod Sizes
+mod CodeSizes
+mod CodeCounts
 -- An image.
 mod Whole
 mod Stands

@@ -47,6 +47,16 @@ front_size variables =
     let bytes = variables_size 0 variables in
     omega (arith, all, bytes)
 
+pub around_size : (variables : List ℕ) (play init : Entrance) → length variables ≡ VARIABLES →
+    size_of (lines_around variables play init) ≡ 6 + VARIABLES + entrance_size play + entrance_size init
+around_size variables play init all =
+    let one = size_of-append (front_lines variables) (entrance_lines play ++ (middle_lines ++ entrance_lines init)) in
+    let two = size_of-append (entrance_lines play) (middle_lines ++ entrance_lines init) in
+    let front = front_size variables in
+    let taken = entrances_take_size play in
+    let last = entrances_take_size init in
+    omega (arith, one, two, front, taken, last, all)
+
 module _ (variables : List ℕ) (play init : Entrance) (lists : List Line) (all : length variables ≡ VARIABLES)
     (is : IsData lists) where
   pub begun_kept : (set : ℕ) →
@@ -80,10 +90,4 @@ module _ (variables : List ℕ) (play init : Entrance) (lists : List Line) (all 
 
   pub code_size_is :
       size_of (lines_around variables play init) ≡ 6 + VARIABLES + entrance_size play + entrance_size init
-  code_size_is =
-      let one = size_of-append (front_lines variables) (entrance_lines play ++ (middle_lines ++ entrance_lines init)) in
-      let two = size_of-append (entrance_lines play) (middle_lines ++ entrance_lines init) in
-      let front = front_size variables in
-      let taken = entrances_take_size play in
-      let last = entrances_take_size init in
-      omega (arith, one, two, front, taken, last, all)
+  code_size_is = around_size variables play init all

@@ -1,5 +1,5 @@
 -- The worked plan.
-use Rattle.std.proofs.Common.{◌≡◌, ℕ, ◌+◌, ◌<◌, ◌≤◌, ◌&&◌, ◌||◌, Bool, true, false, List}
+use Rattle.std.proofs.Common.{◌≡◌, ℕ, ◌+◌, ◌<◌, ◌≤◌, ◌&&◌, ◌||◌, true, false, List}
 use Rattle.std.proofs.Common.{[], ◌∷◌}
 use Rattle.std.proofs.Common.{length, replicate, All, ◌==◌, ◌-◌, nat_le, refl, ap, subst, arith, inl, inr}
 use Rattle.std.proofs.lemmas.Bool.{and_parts, leb-true, eqb-true}
@@ -11,10 +11,7 @@ use Rattle.asm6502.specs.declared.lines.Item.TheVariants.{Label}
 use Rattle.asm6502.specs.declared.lines.Line.{Line}
 use Rattle.asm6502.specs.Stretches.{IsNamedAlways}
 use Rattle.scope_lines.specs.Instructions.{code}
-use Rattle.scope_lines.specs.Sizes.{size}
 use Rattle.scope_lines.proofs.Laws.{sizes_are_bounded}
-use Rattle.scope_calls.specs.Entrances.{entrance_size}
-use Rattle.player_text.specs.declared.texts.Start.{Start}
 use Rattle.player_text.specs.Texts.{filter_tree, voice_tree, init_tree}
 use Rattle.player_text.specs.Facts.{is_list, is_filter_list, is_order_list}
 use Rattle.player_text.proofs.Laws.{are_measured}
@@ -22,13 +19,14 @@ use Rattle.player_memory.specs.declared.labels.TheConstants.{VARIABLES, LENT, FR
 use Rattle.player_memory.specs.declared.labels.TheConstants.{SLIDES_HIGH, FILTER_LEFTS, NEXT_FILTER_LEFTS}
 use Rattle.player_memory.specs.declared.labels.TheConstants.{FILTER_RIGHTS, ORDERS_LOW, ORDERS_HIGH}
 use Rattle.player_code.specs.declared.labels.TheConstants.{INIT_CODE}
-use Rattle.player_code.specs.CodeLines.{name, byte_line, variable_lines, play_entrance, init_entrance}
+use Rattle.player_code.specs.CodeLines.{name, byte_line, variable_lines}
 use Rattle.player_code.specs.Plans.{IsListLine, IsData, Plan, IsPlan, is_read, code_size}
 use Rattle.player_code.specs.WorkedCode.{worked_lists, worked_plan, PlansAreMet, CodeIsMeasured, ListsAreRefused}
 use Rattle.player_code.proofs.CodeNames.{variables_name}
 use Rattle.player_code.proofs.Places.{variable_named}
 use Rattle.player_code.proofs.Addresses.{or_cases}
-use Rattle.player_code.proofs.Whole.{labels_stand_in_place}
+use Rattle.player_code.specs.CodeLaws.{code_takes}
+use Rattle.player_code.proofs.CodeSizes.{code_takes_its_blocks}
 
 lines_are : (first : ℕ) (bytes : List ℕ) → VARIABLES ≤ first → first + length bytes ≤ INIT_CODE →
     All IsListLine (variable_lines first bytes)
@@ -113,23 +111,8 @@ plans_are_met holds = record {
 
 -- ---- how many bytes the code takes
 
-play_size : (pointer : ℕ) (holds : ℕ → Bool) →
-    entrance_size (play_entrance pointer holds) ≡ 14 + size holds filter_tree + size holds voice_tree
-unfolding play_entrance
-play_size pointer holds = omega arith
-
-init_size : (pointer : ℕ) (holds : ℕ → Bool) (start : Start) →
-    entrance_size (init_entrance pointer holds start) ≡ 5 + size holds (init_tree start)
-unfolding init_entrance
-init_size pointer holds start = omega arith
-
-takes : (plan : Plan) → IsPlan plan → code_size plan
-    ≡ 138 + size plan.holds filter_tree + size plan.holds voice_tree + size plan.holds (init_tree plan.start)
-takes plan is =
-    let all = (labels_stand_in_place plan is).size in
-    let play = play_size plan.pointer plan.holds in
-    let init = init_size plan.pointer plan.holds plan.start in
-    omega (arith, all, play, init)
+takes : (plan : Plan) → IsPlan plan → code_size plan ≡ code_takes plan.holds plan.start
+takes plan is = code_takes_its_blocks plan.variables plan.pointer plan.holds plan.start is.variables
 
 sums : (all filter voice init f v i : ℕ) → all ≡ 138 + f + v + i → f ≡ filter → v ≡ voice → i ≡ init →
     all ≡ 138 + filter + voice + init

@@ -1,15 +1,19 @@
 -- What holds of an image's listing: it assembles, its labels are in place, and its entrances are well entered. This is
 -- the project's own player.
-use Rattle.std.specs.Prelude.{◌≡◌, ℕ, ◌+◌, ◌<◌, ◌≤◌, ◌⊎◌, true, Some, None}
+use Rattle.std.specs.Prelude.{◌≡◌, ℕ, ◌+◌, ◌<◌, ◌≤◌, ◌⊎◌, Bool, true, List, length, Some, None}
 use Rattle.cpu6502.specs.declared.memory.TheConstants.{MEMORY_SIZE}
-use Rattle.asm6502.specs.Lines.{place_of}
+use Rattle.asm6502.specs.Lines.{size_of, place_of}
 use Rattle.asm6502.specs.Faults.{fault_of}
 use Rattle.asm6502.specs.Assembly.{assembled_bytes}
 use Rattle.asm6502.specs.Stretches.{HasBytes}
+use Rattle.scope_lines.specs.Sizes.{size}
 use Rattle.scope_lines.specs.Lowered.{writes_at}
 use Rattle.scope_calls.specs.Entrances.{entrance_size}
 use Rattle.scope_calls.specs.Listed.{listing_at, layout_at, low_at, high_at, HasCode, IsWellEntered}
 use Rattle.player_memory.specs.declared.labels.TheConstants.{VARIABLES}
+use Rattle.player_text.specs.declared.texts.Start.{Start}
+use Rattle.player_text.specs.Texts.{filter_tree, voice_tree, init_tree}
+use Rattle.player_code.specs.CodeLines.{code_lines}
 use Rattle.player_code.specs.declared.labels.TheConstants.{INIT_CODE, PLAY_CODE}
 use Rattle.player_code.specs.Plans.{Plan, IsPlan, plan_lines, plan_size, code_size, plan_layout, its_play, its_init}
 use Rattle.player_code.specs.Plans.{play_listed, init_listed}
@@ -46,8 +50,18 @@ pub record AreInPlace (plan : Plan) : Type 0 where
 abbrev pub LabelsStandInPlace : Type 0
 LabelsStandInPlace = (plan : Plan) → IsPlan plan → AreInPlace plan
 
--- From $0800 up to $D000 both are well entered, where the blocks write in memory, but nowhere in the code or on the
--- stack.
+-- The code takes 138 bytes around its blocks: the jumps 6, the variables 113, and the entrances 14 and 5. So its size is
+-- the same for any bytes of the variables and any place of the pointer.
+abbrev pub code_takes : (ℕ → Bool) → Start → ℕ
+code_takes holds start = 138 + size holds filter_tree + size holds voice_tree + size holds (init_tree start)
+
+abbrev pub CodeTakesItsBlocks : Type 0
+CodeTakesItsBlocks =
+    (variables : List ℕ) (pointer : ℕ) (holds : ℕ → Bool) (start : Start) → length variables ≡ VARIABLES →
+    size_of (code_lines variables pointer holds start) ≡ code_takes holds start
+
+-- From $0800 up to $D000 both are well entered, where the blocks write in memory, but nowhere in the entrances' lines or
+-- on the stack.
 pub record WritesApart (plan : Plan) : Type 0 where
   pub below : (place : ℕ) → writes_at (plan_layout plan) place ≡ true → place < MEMORY_SIZE
   pub outside : (place : ℕ) → writes_at (plan_layout plan) place ≡ true →

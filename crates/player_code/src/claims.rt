@@ -1,7 +1,7 @@
 //! Facts about the code, each the contract of a function that does nothing.
 
 ghost use Rattle.player_code.specs.CodeLaws.{CodeAssembles, EntrancesAreInOneListing, LabelsStandInPlace};
-ghost use Rattle.player_code.specs.CodeLaws.{CodeIsWellEntered, AssembledCodeStands};
+ghost use Rattle.player_code.specs.CodeLaws.{CodeTakesItsBlocks, CodeIsWellEntered, AssembledCodeStands};
 ghost use Rattle.player_code.specs.WorkedCode.{PlansAreMet, CodeIsMeasured, ListsAreRefused};
 
 /// With any lists behind it the code assembles, at each origin at which all of it fits.
@@ -16,8 +16,13 @@ pub fn labels_stand_in_place()
     ensures place { LabelsStandInPlace }
 {}
 
-/// From `$0800` up to `$D000` both entrances are well entered, where the blocks write nowhere in the code and nowhere
-/// on the stack.
+/// The code takes the bytes of its blocks, and 138 around them, whatever its variables and its pointer are.
+pub fn code_takes_its_blocks()
+    ensures { CodeTakesItsBlocks }
+{}
+
+/// From `$0800` up to `$D000` both entrances are well entered, where the blocks write nowhere in the entrances'
+/// lines and nowhere on the stack.
 pub fn code_is_well_entered()
     ensures { CodeIsWellEntered }
 {}
