@@ -8,4 +8,6 @@ mod Standing
 mod Beginning
 -- An image.
 mod Whole
+mod Made
+mod Assembled
 mod WorkedImages

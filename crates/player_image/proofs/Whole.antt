@@ -1,5 +1,5 @@
 -- Each image is a player, and so plays its song.
-use Rattle.std.proofs.Common.{ℕ, ◌+◌, ◌<◌, List, slice_index, refl}
+use Rattle.std.proofs.Common.{◌≡◌, ℕ, ◌+◌, ◌<◌, List, length, slice_index, refl, ap, ◌∙◌, subst}
 use Rattle.std.proofs.Common.{arith}
 use Rattle.song_model.specs.declared.songs.Song.{Song}
 use Rattle.play_model.specs.declared.options.Options.{Options}
@@ -8,15 +8,17 @@ use Rattle.play_model.specs.declared.options.System.TheVariants.{Pal, Ntsc}
 use Rattle.play_model.specs.Speeds.{IsSpeed, timer_value}
 use Rattle.packed_form.specs.declared.packed_songs.PackedSong.{PackedSong}
 use Rattle.packed_form.specs.StandsFor.{StandsFor}
+use Rattle.asm6502.specs.Assembly.{assembled_bytes}
+use Rattle.asm6502.specs.Standing.{BytesStand}
 use Rattle.player_memory.specs.Holds.{order_label}
 use Rattle.player_memory.specs.Starting.{Begins}
 use Rattle.player_text.specs.Facts.{HasBytes}
 use Rattle.player_memory.specs.declared.conditions.TheConstants.{NOTE_DEPENDENT}
 use Rattle.frame_code.specs.InitBlock.{start_of}
 use Rattle.kept_lines.proofs.Laws.{sets_keep_their_lines}
-use Rattle.player_code.specs.Plans.{IsPlan, plan_layout}
+use Rattle.player_code.specs.Plans.{Plan, IsPlan, plan_lines, plan_size, plan_layout}
 use Rattle.player_calls.specs.Players.{IsPlayer, HasImage}
-use Rattle.player_calls.proofs.Laws.{players_play, players_are_isolated}
+use Rattle.player_calls.proofs.Laws.{players_play, players_are_isolated, players_hold_the_start}
 use Rattle.player_image.specs.Images.{image_holds, code_bytes, plan_of, numbered, IsImageOf}
 use Rattle.player_image.specs.ImageLaws.{Stands, ImagesArePlayers, ImagesPlay}
 use Rattle.player_image.proofs.Lists.{lists_are_data}
@@ -29,7 +31,7 @@ timer_small : (system : System) (speed : ℕ) → timer_value system speed < 655
 timer_small Pal speed = omega arith
 timer_small Ntsc speed = omega arith
 
-start_bytes : (o : Options) → IsSpeed o.speed → HasBytes (start_of o)
+pub start_bytes : (o : Options) → IsSpeed o.speed → HasBytes (start_of o)
 start_bytes o speed =
     let most = speed.most in
     let timer = timer_small o.system o.speed in
@@ -100,6 +102,15 @@ module _ (packed : PackedSong) (song : Song) (o : Options) (origin pointer : ℕ
         variables = first;
       }
 
+-- a memory in which the bytes stand has the image
+has_image : (plan : Plan) (bytes : List ℕ) (at : ℕ → ℕ) → bytes ≡ assembled_bytes 0 plan.origin (plan_lines plan) →
+    length bytes ≡ plan_size plan → BytesStand at plan.origin bytes → HasImage plan at
+has_image plan bytes at are size stand = record {
+  byte = λ k below.
+      subst (λ q. at (plan.origin + q) ≡ slice_index (assembled_bytes 0 plan.origin (plan_lines plan)) q) (omega arith)
+      (stand.byte k (omega (arith, below, size)) ∙ ap (λ bs. slice_index bs k) are);
+}
+
 pub images_are_players : ImagesArePlayers
 images_are_players packed song o origin pointer bytes image s stands =
     is_player packed song o origin pointer bytes image s stands
@@ -110,4 +121,7 @@ images_play packed song o origin pointer bytes image s stands =
       always = players_play (plan_of packed o origin pointer image.variables image.lists) packed song o bytes player;
       isolated =
           players_are_isolated (plan_of packed o origin pointer image.variables image.lists) packed song o bytes player;
+      start = λ at stand.
+          players_hold_the_start (plan_of packed o origin pointer image.variables image.lists) packed song o bytes at player
+          (has_image (plan_of packed o origin pointer image.variables image.lists) bytes at player.are player.size stand);
     }

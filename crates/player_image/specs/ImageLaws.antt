@@ -3,13 +3,16 @@ use Rattle.std.specs.Prelude.{◌≡◌, ℕ, ◌+◌, ◌≤◌, List, length}
 use Rattle.song_model.specs.declared.songs.Song.{Song}
 use Rattle.play_model.specs.declared.options.Options.{Options}
 use Rattle.play_model.specs.Speeds.{IsSpeed}
+use Rattle.play_model.specs.State.{start_state}
 use Rattle.packed_form.specs.declared.packed_songs.PackedSong.{PackedSong}
 use Rattle.packed_form.specs.StandsFor.{StandsFor}
+use Rattle.asm6502.specs.Standing.{BytesStand}
 use Rattle.faithful.specs.Histories.{PlaysAlways}
 use Rattle.faithful.specs.Isolation.{IsIsolated}
+use Rattle.player_memory.specs.Holds.{Holds}
 use Rattle.frame_scenes.specs.FrameScenes.{KeepsPatternLimits}
 use Rattle.song_lists.specs.ListLaws.{KeepsCounts}
-use Rattle.player_code.specs.Plans.{plan_size}
+use Rattle.player_code.specs.Plans.{plan_size, plan_layout}
 use Rattle.player_calls.specs.Players.{IsPlayer}
 use Rattle.player_image.specs.Images.{IsImageOf, plan_of}
 
@@ -33,13 +36,17 @@ ImagesArePlayers =
     StandsFor packed song →
     IsPlayer (plan_of packed o origin pointer image.variables image.lists) packed song o bytes
 
--- so it plays each song that the packed song stands for
-pub record ImagePlays (song : Song) (o : Options) (origin pointer : ℕ) (bytes : List ℕ) : Type 0 where
+-- so it plays each song that the packed song stands for, and in any memory with its bytes the start of the first subtune
+-- stands at the addresses of its labels
+pub record ImagePlays (packed : PackedSong) (song : Song) (o : Options) (origin pointer : ℕ) (bytes : List ℕ)
+    (image : IsImageOf packed o origin pointer bytes) : Type 0 where
   pub always : PlaysAlways bytes origin pointer song o
   pub isolated : IsIsolated bytes origin song
+  pub start : (at : ℕ → ℕ) → BytesStand at origin bytes →
+      Holds (plan_layout (plan_of packed o origin pointer image.variables image.lists)) packed 0 (start_state o) at
 
 abbrev pub ImagesPlay : Type 0
 ImagesPlay =
     (packed : PackedSong) (song : Song) (o : Options) (origin pointer : ℕ) (bytes : List ℕ)
     (image : IsImageOf packed o origin pointer bytes) → Stands packed o origin pointer bytes image →
-    StandsFor packed song → ImagePlays song o origin pointer bytes
+    StandsFor packed song → ImagePlays packed song o origin pointer bytes image

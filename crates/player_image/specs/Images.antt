@@ -15,7 +15,9 @@ use Rattle.player_memory.specs.Starting.{Begins}
 use Rattle.frame_code.specs.InitBlock.{start_of}
 use Rattle.kept_lines.specs.KeptLines.{kept_set}
 use Rattle.song_lists.specs.DataLists.{HasLines}
+use Rattle.song_lists.specs.ListLaws.{lists_size}
 use Rattle.player_code.specs.CodeLines.{code_lines}
+use Rattle.player_code.specs.CodeLaws.{code_takes}
 use Rattle.player_code.specs.Plans.{Plan, plan_lines, plan_layout}
 
 -- which conditions hold
@@ -76,3 +78,22 @@ pub record IsImageOf (packed : PackedSong) (o : Options) (origin pointer : ℕ) 
       (λ voice. (plan_layout (plan_of packed o origin pointer variables lists)).address (order_label 0 voice))
       (slice_index variables)
   pub are : bytes ≡ assembled_bytes 0 origin (plan_lines (plan_of packed o origin pointer variables lists))
+
+-- ---- how an image is made
+
+-- its listing, before it is assembled
+pub record IsListingOf (packed : PackedSong) (o : Options) (origin pointer : ℕ) (listing : List Line) : Type 0 where
+  pub variables : List ℕ
+  pub lists : List Line
+  pub all : length variables ≡ VARIABLES
+  pub has_lines : HasLines (image_holds packed o NOTE_DEPENDENT) packed
+      (origin + code_bytes packed o pointer variables) lists
+  pub first : Begins numbered (start_of o).tempo (start_of o).funk
+      (λ voice. (plan_layout (plan_of packed o origin pointer variables lists)).address (order_label 0 voice))
+      (slice_index variables)
+  pub are : listing ≡ plan_lines (plan_of packed o origin pointer variables lists)
+
+-- its bytes: those of the code and those of the lists
+abbrev pub image_size : PackedSong → Options → ℕ
+image_size packed o =
+    code_takes (image_holds packed o) (start_of o) + lists_size (image_holds packed o NOTE_DEPENDENT) packed

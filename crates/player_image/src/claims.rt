@@ -4,7 +4,8 @@ ghost use Rattle.player_image.specs.ImageLaws.{ImagesArePlayers, ImagesPlay};
 ghost use Rattle.player_image.specs.WorkedImages.{PlacesAreWorked};
 
 /// An image of a packed song that stands for a song is a player, where it stands from `$0800` up to `$D000` and its
-/// pointer is in page 0: so any calls of it in any order play the song, by its bytes alone.
+/// pointer is from 2 to 254, with any options at any legal speed, and at most 32 subtunes and 208 patterns: so any calls
+/// of it in any order play the song, by its bytes alone, and as it is built it holds the start of the first subtune.
 pub fn images_play()
     ensures players { ImagesArePlayers }
     ensures play { ImagesPlay }
