@@ -1,8 +1,8 @@
 -- Where the calls of a player may write, and that their code stands apart from it.
 use Rattle.std.proofs.Common.{◌≡◌, ◌≢◌, ℕ, ◌+◌, ◌%◌, ◌<◌, ◌≤◌, ◌⊎◌, ◌||◌}
-use Rattle.std.proofs.Common.{Bool, true, false, nat_eq}
-use Rattle.std.proofs.Common.{List, length, inl, inr, refl, sym, ap, ◌∙◌, subst, arith}
-use Rattle.std.proofs.lemmas.Bool.{eqb-true, ltb-true}
+use Rattle.std.proofs.Common.{true, nat_eq}
+use Rattle.std.proofs.Common.{List, length, inl, inr, sym, ap, ◌∙◌, subst, arith}
+use Rattle.std.proofs.lemmas.Bool.{or_cases, eqb-true, ltb-true}
 use Rattle.song_model.specs.declared.songs.Song.{Song}
 use Rattle.play_model.specs.declared.options.Options.{Options}
 use Rattle.packed_form.specs.declared.packed_songs.PackedSong.{PackedSong}
@@ -27,10 +27,6 @@ data Written (plan : Plan) (place : ℕ) : Type 0 where
   ByBlock : MayBeWritten plan place → Written plan place
   Low : place ≡ plan.pointer → Written plan place
   High : place ≡ plan.pointer + 1 → Written plan place
-
-or_cases : (a b : Bool) → (a || b) ≡ true → (a ≡ true) ⊎ (b ≡ true)
-or_cases true b e = inl refl
-or_cases false b e = inr e
 
 written : {packed : PackedSong} {song : Song} {o : Options} {bytes : List ℕ} (plan : Plan) →
     IsPlayer plan packed song o bytes → (place : ℕ) → writes_at (plan_layout plan) place ≡ true → Written plan place

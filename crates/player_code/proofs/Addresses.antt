@@ -1,9 +1,9 @@
 -- Where the labels of an image are, and that those which its lines use are always named.
-use Rattle.std.proofs.Common.{◌≡◌, ℕ, ◌+◌, ◌<◌, ◌⊎◌, ◌||◌, Bool, true, false, nat_lt, nat_eq}
+use Rattle.std.proofs.Common.{◌≡◌, ℕ, ◌+◌, ◌<◌, ◌||◌, true, nat_lt, nat_eq}
 use Rattle.std.proofs.Common.{List, [], ◌∷◌}
 use Rattle.std.proofs.Common.{◌++◌, length, Some, unwrap_or, refl, sym, ap, ◌∙◌}
 use Rattle.std.proofs.Common.{subst, arith, inl, inr, add_assoc}
-use Rattle.std.proofs.lemmas.Bool.{ltb-true, eqb-true, cases_lt}
+use Rattle.std.proofs.lemmas.Bool.{or_cases, ltb-true, eqb-true, cases_lt}
 use Rattle.asm6502.specs.declared.lines.Line.{Line}
 use Rattle.asm6502.specs.Lines.{size_of, place_of, address_in}
 use Rattle.asm6502.specs.Stretches.{IsNamedAlways, NamesOthers}
@@ -53,10 +53,6 @@ of_lists lists label place is e =
                 absurd (placed_named lists label place (lists_name lists is) e (λ within. omega (arith, behind, within)))
           ]
     ]
-
-pub or_cases : (a b : Bool) → (a || b) ≡ true → (a ≡ true) ⊎ (b ≡ true)
-or_cases true b e = inl refl
-or_cases false b e = inr e
 
 module _ (variables : List ℕ) (play init : Entrance) (lists : List Line) (all : length variables ≡ VARIABLES)
     (is : IsData lists) where

@@ -15,7 +15,7 @@ use Rattle.player_code.specs.CodeLaws.{code_takes}
 use Rattle.player_code.proofs.Sizes.{around_size}
 use Rattle.player_code.proofs.CodeSizes.{code_takes_its_blocks}
 
-data_append : (front back : List Line) → data_size (front ++ back) ≡ data_size front + data_size back
+pub data_append : (front back : List Line) → data_size (front ++ back) ≡ data_size front + data_size back
 data_append [] back = omega arith
 data_append (line ∷ front) back = (let rest = data_append front back in omega (arith, rest))
 

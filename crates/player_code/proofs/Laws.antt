@@ -9,9 +9,9 @@ pub use Rattle.player_code.proofs.Sizes.{variables_kept}
 pub use Rattle.player_code.proofs.Places.{variables_size}
 -- all lines of an image are kept; those of the code are few
 pub use Rattle.player_code.proofs.Whole.{kept_is}
-pub use Rattle.player_code.proofs.CodeCounts.{code_is_few}
+pub use Rattle.player_code.proofs.CodeCounts.{code_is_few, data_append}
 -- the code of both stands in a memory with its bytes
-pub use Rattle.player_code.proofs.Stands.{assembled_code_stands}
+pub use Rattle.player_code.proofs.Stands.{assembled_code_stands, fewer}
 -- how many bytes the code takes
 pub use Rattle.player_code.proofs.CodeSizes.{code_takes_its_blocks}
 pub use Rattle.player_code.proofs.WorkedCode.{code_is_measured}

@@ -24,7 +24,7 @@ use Rattle.player_code.specs.CodeLaws.{AssembledCodeStands}
 use Rattle.player_code.proofs.Whole.{kept_is, size_is, code_assembles, entrances_are_in_one_listing, labels_stand_in_place}
 
 -- fewer of the places
-fewer : (at : ℕ → ℕ) (origin all place size : ℕ) (bytes : List ℕ) → place + size ≤ all →
+pub fewer : (at : ℕ → ℕ) (origin all place size : ℕ) (bytes : List ℕ) → place + size ≤ all →
     HasBytes at origin 0 all bytes → HasBytes at origin place size bytes
 fewer at origin all place size bytes within has = record {
   byte = λ k below.

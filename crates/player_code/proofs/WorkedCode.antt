@@ -2,7 +2,7 @@
 use Rattle.std.proofs.Common.{◌≡◌, ℕ, ◌+◌, ◌<◌, ◌≤◌, ◌&&◌, ◌||◌, true, false, List}
 use Rattle.std.proofs.Common.{[], ◌∷◌}
 use Rattle.std.proofs.Common.{length, replicate, All, ◌==◌, ◌-◌, nat_le, refl, ap, subst, arith, inl, inr}
-use Rattle.std.proofs.lemmas.Bool.{and_parts, leb-true, eqb-true}
+use Rattle.std.proofs.lemmas.Bool.{or_cases, and_parts, leb-true, eqb-true}
 use Rattle.std.proofs.lemmas.List.Elements.{All-nil, All-cons, All-head}
 use Rattle.cpu6502.specs.declared.mnemonic.Mnemonic.TheVariants.{Rts}
 use Rattle.cpu6502.specs.declared.mnemonic.Mode.TheVariants.{Implied}
@@ -24,7 +24,6 @@ use Rattle.player_code.specs.Plans.{IsListLine, IsData, Plan, IsPlan, is_read, c
 use Rattle.player_code.specs.WorkedCode.{worked_lists, worked_plan, PlansAreMet, CodeIsMeasured, ListsAreRefused}
 use Rattle.player_code.proofs.CodeNames.{variables_name}
 use Rattle.player_code.proofs.Places.{variable_named}
-use Rattle.player_code.proofs.Addresses.{or_cases}
 use Rattle.player_code.specs.CodeLaws.{code_takes}
 use Rattle.player_code.proofs.CodeSizes.{code_takes_its_blocks}
 
