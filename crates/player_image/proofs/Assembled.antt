@@ -1,6 +1,6 @@
 -- What is made of an image's listing: nothing is wrong with it, it is within the assembler's limits, and it takes the
 -- bytes of an image.
-use Rattle.std.proofs.Common.{◌≡◌, ℕ, ◌+◌, ◌<◌, ◌≤◌, List, [], ◌∷◌, ◌++◌, length, None}
+use Rattle.std.proofs.Common.{◌≡◌, ℕ, ◌+◌, ◌<◌, ◌≤◌, List, length, None}
 use Rattle.std.proofs.Common.{sym, ap, ◌∙◌, subst, arith}
 use Rattle.std.proofs.Common.{length-append}
 use Rattle.play_model.specs.declared.options.Options.{Options}
@@ -15,13 +15,9 @@ use Rattle.frame_code.specs.InitBlock.{start_of}
 use Rattle.song_lists.specs.ListLaws.{KeepsCounts}
 use Rattle.song_lists.proofs.Laws.{lines_take_size, lines_are_few}
 use Rattle.player_code.specs.Plans.{IsPlan, plan_code, plan_lines, plan_size}
-use Rattle.player_code.proofs.Laws.{code_assembles, size_is, kept_is, code_is_few, code_takes_its_blocks}
+use Rattle.player_code.proofs.Laws.{code_assembles, size_is, kept_is, code_is_few, code_takes_its_blocks, data_append}
 use Rattle.player_image.specs.Images.{image_holds, code_bytes, plan_of, IsListingOf, IsImageOf, image_size}
 use Rattle.player_image.proofs.Made.{plan_is}
-
-data_append : (front back : List Line) → data_size (front ++ back) ≡ data_size front + data_size back
-data_append [] back = omega arith
-data_append (line ∷ front) back = (let rest = data_append front back in omega (arith, rest))
 
 module _ (packed : PackedSong) (o : Options) (origin pointer : ℕ) (speed : IsSpeed o.speed) (counts : KeepsCounts packed)
     (some : 0 < length packed.subtunes) (low : 2 ≤ pointer) (high : pointer ≤ 254)
@@ -69,14 +65,7 @@ module _ (packed : PackedSong) (o : Options) (origin pointer : ℕ) (speed : IsS
   few_bytes = subst (λ ls. data_size ls ≤ 1000000) (sym is.are) bytes_fit
 
   pub image_is : (bytes : List ℕ) → bytes ≡ assembled_bytes 0 origin listing → IsImageOf packed o origin pointer bytes
-  image_is bytes are = record {
-    variables = is.variables;
-    lists = is.lists;
-    all = is.all;
-    has_lines = is.has_lines;
-    first = is.first;
-    are = are ∙ ap (assembled_bytes 0 origin) is.are;
-  }
+  image_is bytes are = record { listing = listing; its = is; are = are }
 
   pub size_here : (bytes : List ℕ) → length bytes ≡ size_of (kept 0 listing) → length bytes ≡ image_size packed o
   size_here bytes size =

@@ -1,8 +1,8 @@
 -- The lists of an image: their lines are what the code asks for behind it, and they stand where the blocks read them.
-use Rattle.std.proofs.Common.{◌≡◌, ℕ, ◌<◌, ◌≤◌, ◌⊎◌, ◌&&◌, ◌||◌, ◌==◌, nat_le, Bool}
-use Rattle.std.proofs.Common.{true, false, List, []}
+use Rattle.std.proofs.Common.{◌≡◌, ℕ, ◌<◌, ◌≤◌, ◌&&◌, ◌||◌, ◌==◌, nat_le, Bool}
+use Rattle.std.proofs.Common.{true, List, []}
 use Rattle.std.proofs.Common.{◌∷◌, ◌++◌, All, Some, refl, ap, subst, arith, inl, inr}
-use Rattle.std.proofs.lemmas.Bool.{and_parts, leb-true, eqb-true}
+use Rattle.std.proofs.lemmas.Bool.{or_cases, and_parts, leb-true, eqb-true}
 use Rattle.std.proofs.lemmas.List.Elements.{All-nil, All-cons, All-head}
 use Rattle.base.proofs.Laws.{All-append_right}
 use Rattle.asm6502.specs.declared.lines.Item.{Item}
@@ -41,10 +41,6 @@ item_is (Code mnemonic mode operand) plain own = absurd (cc)
 item_is (Bytes bytes) plain own = tt
 
 -- ---- labels
-
-or_cases : (a b : Bool) → (a || b) ≡ true → (a ≡ true) ⊎ (b ≡ true)
-or_cases true b e = inl refl
-or_cases false b e = inr e
 
 low_label : (label other : ℕ) → FREQUENCY_LOWS ≤ other → other ≤ PATTERNS_HIGH → (label == other) ≡ true →
     IsListLabel label

@@ -24,18 +24,10 @@ use Rattle.player_code.specs.CodeLines.{variable_lines, jump_lines, name, middle
 use Rattle.player_code.specs.declared.labels.TheConstants.{PLAY_CODE}
 use Rattle.player_code.specs.Plans.{Plan, plan_code, plan_lines, plan_size, plan_layout, its_play, its_init}
 use Rattle.player_code.proofs.Laws.{code_assembles, labels_stand_in_place, size_is, code_kept, variables_kept}
-use Rattle.player_code.proofs.Laws.{variables_size}
+use Rattle.player_code.proofs.Laws.{fewer, variables_size}
 use Rattle.player_calls.specs.Players.{HasImage}
 use Rattle.player_image.specs.Images.{image_holds, code_bytes, plan_of}
 use Rattle.player_image.proofs.Laying.{Laid, list_room}
-
--- fewer of the places
-fewer : (at : ℕ → ℕ) (origin all place size : ℕ) (bytes : List ℕ) → place + size ≤ all →
-    HasBytes at origin 0 all bytes → HasBytes at origin place size bytes
-fewer at origin all place size bytes within has = record {
-  byte = λ k below.
-      subst (λ p. at (origin + p) ≡ slice_index bytes p) (omega arith) (has.byte (place + k) (omega (arith, within, below)));
-}
 
 -- a stretch of the listing stands where its bytes do
 stretch_stands : (plan : Plan) (at : ℕ → ℕ) (lines front stretch back : List Line) →

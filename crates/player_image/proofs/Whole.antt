@@ -45,41 +45,42 @@ start_bytes o speed =
 module _ (packed : PackedSong) (song : Song) (o : Options) (origin pointer : ℕ) (bytes : List ℕ)
     (image : IsImageOf packed o origin pointer bytes) (s : Stands packed o origin pointer bytes image)
     (stands : StandsFor packed song) where
-  its_plan : IsPlan (plan_of packed o origin pointer image.variables image.lists)
+  its_plan : IsPlan (plan_of packed o origin pointer image.its.variables image.its.lists)
   its_plan = record {
-    variables = image.all;
+    variables = image.its.all;
     pointer_low = s.pointer_low;
     pointer_high = s.pointer_high;
     start = start_bytes o s.speed;
     lists = lists_are_data (image_holds packed o NOTE_DEPENDENT) packed
-        (origin + code_bytes packed o pointer image.variables) image.lists s.counts image.has_lines;
+        (origin + code_bytes packed o pointer image.its.variables) image.its.lists s.counts image.its.has_lines;
   }
 
-  laid : Laid packed o origin pointer image.variables image.lists
+  laid : Laid packed o origin pointer image.its.variables image.its.lists
   laid =
       let size = s.size in
       let ends = s.ends in
-      record { is = its_plan; counts = s.counts; has = image.has_lines; begins = s.begins; ends = omega (arith, size, ends) }
+      record { is = its_plan; counts = s.counts; has = image.its.has_lines; begins = s.begins; ends = omega (arith, size, ends) }
 
-  first : (at : ℕ → ℕ) → HasImage (plan_of packed o origin pointer image.variables image.lists) at →
-      Begins (plan_layout (plan_of packed o origin pointer image.variables image.lists)) (start_of o).tempo
+  first : (at : ℕ → ℕ) → HasImage (plan_of packed o origin pointer image.its.variables image.its.lists) at →
+      Begins (plan_layout (plan_of packed o origin pointer image.its.variables image.its.lists)) (start_of o).tempo
       (start_of o).funk
-      (λ voice. (plan_layout (plan_of packed o origin pointer image.variables image.lists)).address (order_label 0 voice))
+      (λ voice.
+      (plan_layout (plan_of packed o origin pointer image.its.variables image.its.lists)).address (order_label 0 voice))
       at
   first at has =
-      begins_moved numbered (plan_layout (plan_of packed o origin pointer image.variables image.lists))
-      (start_of o).tempo (start_of o).funk _ (slice_index image.variables) at
-      (λ label below. variables_stand packed o origin pointer image.variables image.lists laid at has label below)
-      image.first
+      begins_moved numbered (plan_layout (plan_of packed o origin pointer image.its.variables image.its.lists))
+      (start_of o).tempo (start_of o).funk _ (slice_index image.its.variables) at
+      (λ label below. variables_stand packed o origin pointer image.its.variables image.its.lists laid at has label below)
+      image.its.first
 
-  is_player : IsPlayer (plan_of packed o origin pointer image.variables image.lists) packed song o bytes
+  is_player : IsPlayer (plan_of packed o origin pointer image.its.variables image.its.lists) packed song o bytes
   is_player =
-      let kept = sets_keep_their_lines (plan_layout (plan_of packed o origin pointer image.variables image.lists))
+      let kept = sets_keep_their_lines (plan_layout (plan_of packed o origin pointer image.its.variables image.its.lists))
       packed.features.0 o (λ condition. refl) in
       let few = s.counts.subtunes in
       record {
         is = its_plan;
-        are = image.are;
+        are = image.are ∙ ap (assembled_bytes 0 origin) image.its.are;
         size = s.size;
         begins = s.begins;
         ends = laid.ends;
@@ -92,13 +93,13 @@ module _ (packed : PackedSong) (song : Song) (o : Options) (origin pointer : ℕ
         common = kept.common;
         options = kept.options_are;
         timed = kept.timer;
-        laid = player_layout packed o origin pointer image.variables image.lists laid;
-        timer = sets_timer packed o origin pointer image.variables image.lists;
-        reads_variables = reads_variables packed o origin pointer image.variables image.lists;
-        reads_lists = reads_lists packed o origin pointer image.variables image.lists;
-        reads = reads packed o origin pointer image.variables image.lists;
-        writes = writes packed o origin pointer image.variables image.lists;
-        lists = λ at has. lists_stand packed o origin pointer image.variables image.lists laid at has;
+        laid = player_layout packed o origin pointer image.its.variables image.its.lists laid;
+        timer = sets_timer packed o origin pointer image.its.variables image.its.lists;
+        reads_variables = reads_variables packed o origin pointer image.its.variables image.its.lists;
+        reads_lists = reads_lists packed o origin pointer image.its.variables image.its.lists;
+        reads = reads packed o origin pointer image.its.variables image.its.lists;
+        writes = writes packed o origin pointer image.its.variables image.its.lists;
+        lists = λ at has. lists_stand packed o origin pointer image.its.variables image.its.lists laid at has;
         variables = first;
       }
 
@@ -118,10 +119,11 @@ images_are_players packed song o origin pointer bytes image s stands =
 pub images_play : ImagesPlay
 images_play packed song o origin pointer bytes image s stands =
     let player = is_player packed song o origin pointer bytes image s stands in record {
-      always = players_play (plan_of packed o origin pointer image.variables image.lists) packed song o bytes player;
+      always = players_play (plan_of packed o origin pointer image.its.variables image.its.lists) packed song o bytes player;
       isolated =
-          players_are_isolated (plan_of packed o origin pointer image.variables image.lists) packed song o bytes player;
+          players_are_isolated (plan_of packed o origin pointer image.its.variables image.its.lists) packed song o bytes player;
       start = λ at stand.
-          players_hold_the_start (plan_of packed o origin pointer image.variables image.lists) packed song o bytes at player
-          (has_image (plan_of packed o origin pointer image.variables image.lists) bytes at player.are player.size stand);
+          players_hold_the_start (plan_of packed o origin pointer image.its.variables image.its.lists) packed song o bytes
+          at player
+          (has_image (plan_of packed o origin pointer image.its.variables image.its.lists) bytes at player.are player.size stand);
     }

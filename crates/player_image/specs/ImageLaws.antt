@@ -25,7 +25,7 @@ pub record Stands (packed : PackedSong) (o : Options) (origin pointer : ℕ) (by
   pub speed : IsSpeed o.speed
   pub pointer_low : 2 ≤ pointer
   pub pointer_high : pointer ≤ 254
-  pub size : length bytes ≡ plan_size (plan_of packed o origin pointer image.variables image.lists)
+  pub size : length bytes ≡ plan_size (plan_of packed o origin pointer image.its.variables image.its.lists)
   pub begins : 0x0800 ≤ origin
   pub ends : origin + length bytes ≤ 0xD000
 
@@ -34,7 +34,7 @@ ImagesArePlayers =
     (packed : PackedSong) (song : Song) (o : Options) (origin pointer : ℕ) (bytes : List ℕ)
     (image : IsImageOf packed o origin pointer bytes) → Stands packed o origin pointer bytes image →
     StandsFor packed song →
-    IsPlayer (plan_of packed o origin pointer image.variables image.lists) packed song o bytes
+    IsPlayer (plan_of packed o origin pointer image.its.variables image.its.lists) packed song o bytes
 
 -- so it plays each song that the packed song stands for, and in any memory with its bytes the start of the first subtune
 -- stands at the addresses of its labels
@@ -43,7 +43,7 @@ pub record ImagePlays (packed : PackedSong) (song : Song) (o : Options) (origin 
   pub always : PlaysAlways bytes origin pointer song o
   pub isolated : IsIsolated bytes origin song
   pub start : (at : ℕ → ℕ) → BytesStand at origin bytes →
-      Holds (plan_layout (plan_of packed o origin pointer image.variables image.lists)) packed 0 (start_state o) at
+      Holds (plan_layout (plan_of packed o origin pointer image.its.variables image.its.lists)) packed 0 (start_state o) at
 
 abbrev pub ImagesPlay : Type 0
 ImagesPlay =

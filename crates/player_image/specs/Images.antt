@@ -67,21 +67,7 @@ numbered = record {
   may_write = λ place. false;
 }
 
--- The lists stand behind the code, the variables begin as the first subtune does, and the bytes are the listing's.
-pub record IsImageOf (packed : PackedSong) (o : Options) (origin pointer : ℕ) (bytes : List ℕ) : Type 0 where
-  pub variables : List ℕ
-  pub lists : List Line
-  pub all : length variables ≡ VARIABLES
-  pub has_lines : HasLines (image_holds packed o NOTE_DEPENDENT) packed
-      (origin + code_bytes packed o pointer variables) lists
-  pub first : Begins numbered (start_of o).tempo (start_of o).funk
-      (λ voice. (plan_layout (plan_of packed o origin pointer variables lists)).address (order_label 0 voice))
-      (slice_index variables)
-  pub are : bytes ≡ assembled_bytes 0 origin (plan_lines (plan_of packed o origin pointer variables lists))
-
--- ---- how an image is made
-
--- its listing, before it is assembled
+-- A listing of an image: the lists stand behind the code, and the variables begin as the first subtune does.
 pub record IsListingOf (packed : PackedSong) (o : Options) (origin pointer : ℕ) (listing : List Line) : Type 0 where
   pub variables : List ℕ
   pub lists : List Line
@@ -92,6 +78,12 @@ pub record IsListingOf (packed : PackedSong) (o : Options) (origin pointer : ℕ
       (λ voice. (plan_layout (plan_of packed o origin pointer variables lists)).address (order_label 0 voice))
       (slice_index variables)
   pub are : listing ≡ plan_lines (plan_of packed o origin pointer variables lists)
+
+-- an image: the bytes of its listing
+pub record IsImageOf (packed : PackedSong) (o : Options) (origin pointer : ℕ) (bytes : List ℕ) : Type 0 where
+  pub listing : List Line
+  pub its : IsListingOf packed o origin pointer listing
+  pub are : bytes ≡ assembled_bytes 0 origin listing
 
 -- its bytes: those of the code and those of the lists
 abbrev pub image_size : PackedSong → Options → ℕ

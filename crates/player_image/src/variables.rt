@@ -26,8 +26,8 @@ pub fn start_of(options: &Options) -> Start
     }
 }
 
-/// Sets the bytes of a voice that don't begin with 0. They stand so far behind those of the first voice, and its
-/// orderlist has this address.
+/// Sets the bytes of a voice that don't begin with 0. They stand `behind` bytes behind those of the first voice, and the
+/// voice's orderlist has this address.
 fn begin_voice(variables: &mut [u8; 113], behind: usize, order: u16, tempo: u8)
     requires { behind ≤ 14 }
     ensures { variables.new ≡
