@@ -1,15 +1,15 @@
 #!/usr/bin/env python3
 """Writes cases of random blocks: bench/block_cases.py SEED [BLOCKS] > crates/block_cases/data/random
 
-Makes sound blocks from the seed, BLOCKS of them (200 unless they are given), each at two origins, with random bytes,
-registers, flags and pointers, and about half of the parts kept. What stands behind a block is said by a second reading
-of docs/blocks.md, in this file: what each kind, step and test means on a desk (`Desk`), how many bytes a block's lines
-take (`Sizes`), and when a block is sound (`Sound`), by which each block is looked at. It knows no instruction of the
-6502 beyond the number of their bytes; the program block_cases runs the lines, and finds what differs.
+Makes blocks of the language of scopes from the seed, BLOCKS of them (200 unless they are given), each at two origins,
+with random bytes, registers, flags and pointers, and about half of the conditions. What stands behind a block is said
+by a second reading of docs/scopes.md, in this file: what an instruction does on a desk (`Desk`), where lines go on
+(`Meaning`), how many bytes they take, and which lines are a block (`Shape`). It knows the instructions by the MOS 6502
+manual's names, and no code of theirs; the program block_cases runs the lines, and finds what differs.
 
-A block is a tuple: its kind and what it is made of, in the order of docs/block-cases.md; so are steps, tests and
-operands. A case that reads a byte of the block's own lines, which this file doesn't know, is left out. To standard
-error goes how often each word stands in the cases.
+A block is a list of nodes, each a tuple: its word and what it takes, as in docs/block-cases.md; what it opens stands in
+it as a list. A case that is stuck, or reads or writes in the block's own lines, is left out. To standard error goes how
+often each word stands in the cases, and how often each way on was taken.
 """
 import collections
 import random
@@ -19,7 +19,28 @@ import sys
 ORIGINS = [0x0800, 0x5A5A]
 LABELS = 64
 DEPTH = 4
-SID, TIMER = 0xD400, {"Low": 0xDC04, "High": 0xDC05}
+MOST_STEPS = 2000
+SID, TIMER = 0xD400, 0xDC04
+MEMORY = bytes((place & 0xFF) * 7 & 0xFF ^ place >> 8 for place in range(0x10000))
+
+
+# ---- The instructions: which operands each may have, by the manual's table of addressing modes.
+
+PLAIN = "Clc Clv Dex Dey Inx Iny Nop Sec Tax Tay Txa Tya".split()
+SHIFTS = "Asl Lsr Rol Ror".split()
+SUMS = "Adc And Cmp Eor Lda Ora Sbc".split()
+BY_KIND = {
+    "Number": SUMS + "Cpx Cpy Ldx Ldy".split(),
+    "Own": SUMS + SHIFTS + "Dec Inc Ldy Sta".split(),
+    "Entry": SUMS + "Ldx Sta".split(),
+    "Pointed": SUMS + ["Sta"],
+    "Var": SUMS + SHIFTS + "Bit Cpx Cpy Dec Inc Ldx Ldy Sta Stx Sty".split(),
+}
+BY_KIND.update({"OwnRegister": BY_KIND["Own"], "Pointer": BY_KIND["Var"], "Register": BY_KIND["Var"],
+                "Timer": BY_KIND["Var"]})
+BYTES = {"Number": 2, "Pointer": 2, "Pointed": 2}
+LEAVES, FLAGS = ("leave", "jump"), ("Zero", "Minus", "Carry")
+OPENING = {"scope": (2,), "turns": (2,), "when": (2,), "choose": (2, 3)}
 
 
 # ---- How blocks are written.
@@ -28,589 +49,359 @@ def number(value):
     return f"{value:02x}"
 
 
-def written(node):
-    """A node of a block, as it is written."""
-    if isinstance(node, int):
-        return number(node)
-    if isinstance(node, str):
-        return node
-    if isinstance(node, list):
-        return "[" + ", ".join(written(item) for item in node) + "]"
-    return " ".join(written(item) for item in node)
+def words(node):
+    return " ".join(number(item) if isinstance(item, int) else item for item in node if not isinstance(item, list))
 
 
-# ---- How many bytes lines take.
-
-def operand_size(operand):
-    return {"Const": 2, "Byte": 2, "Y": 1}.get(operand[0], 3)
-
-
-def step_size(step):
-    name, *rest = step
-    if name == "Double":
-        return 1
-    if name == "Store":
-        return {"Pointer": 2, "Y": 1}.get(rest[0][0], 3)
-    return operand_size(rest[0]) + (name in ("Add", "Sub"))
+def lines_of(nodes):
+    """The lines of nodes, as they are written."""
+    lines = []
+    for node in nodes:
+        lines.append(words(node))
+        if node[0] in OPENING:
+            lines += lines_of(node[2])
+            lines += ["or"] + lines_of(node[3]) if node[0] == "choose" else []
+            lines.append("end")
+    return lines
 
 
-def condition_of(test):
-    return test[1]
+# ---- How many bytes lines take, and which lines are a block.
+
+class Shape:
+    """The bytes of nodes where some conditions hold, or at most."""
+
+    def __init__(self, holds=None):
+        self.holds = holds
+
+    def size(self, nodes):
+        return sum(map(self.of, nodes))
+
+    def of(self, node):
+        word = node[0]
+        if word in ("scope", "turns"):
+            return self.size(node[2])
+        if word == "when":
+            return self.size(node[2]) if self.holds is None or node[1] in self.holds else 0
+        if word == "choose":
+            if self.holds is None:
+                return max(self.size(node[2]), self.size(node[3]))
+            return self.size(node[2] if node[1] in self.holds else node[3])
+        if word == "leave":
+            return 3 if len(node) == 2 else 2
+        if word == "again":
+            return 3 if len(node) == 1 else 2
+        if word == "jump":
+            return 5
+        return 0 if word == "never" else 1 if len(node) == 1 else BYTES.get(node[1], 3)
+
+    def reaches(self, nodes, ends, head):
+        """Whether branches reach, by the bytes from these nodes' end to those of scopes, and from the loop's head."""
+        left = self.size(nodes)
+        for node in nodes:
+            size = self.of(node)
+            left -= size
+            if not self.node_reaches(node, {name: far + left for name, far in ends.items()}, head):
+                return False
+            head = None if head is None else head + size
+        return True
+
+    def node_reaches(self, node, ends, head):
+        word = node[0]
+        if word == "scope":
+            return self.reaches(node[2], {**ends, node[1]: 0}, head)
+        if word == "turns":
+            return self.reaches(node[2], ends, 0)
+        if word in ("when", "choose"):
+            return all(self.reaches(side, ends, head) for side in node[2:])
+        if word in LEAVES:
+            return node[1] in ends and (word == "jump" or len(node) == 2 or ends[node[1]] <= 127)
+        return word != "again" or head is not None and (len(node) == 1 or head <= 126)
 
 
-def test_size(test):
-    name, *rest = condition_of(test)
-    return {"Equal": 1, "Less": 1}.get(name, 0) and operand_size(rest[0]) or (2 if name == "YEqual" else 0)
+def is_block(nodes):
+    return Shape().reaches(nodes, {}, None)
 
 
-def has_no_lines(block):
-    kind, *rest = block
-    if kind in ("Chain", "Seq"):
-        return all(kind == "Seq" and has_no_lines(child) for child in rest[0])
-    return kind == "When" and has_no_lines(rest[1])
+# ---- What an instruction does.
 
-
-def is_far_on(size):
-    return size > 127
-
-
-def is_far_back(size):
-    return size > 126
-
-
-class Sizes:
-    """The bytes of a block's lines with all parts, and of those that are kept; and which branches are far."""
-
-    def __init__(self, kept):
-        self.kept = kept
-        self.far = {}
-
-    def head(self, steps, test):
-        return sum(map(step_size, steps)) + test_size(test)
-
-    def of(self, block, is_kept=True):
-        kind, *rest = block
-        full, kept = getattr(self, kind)(block, is_kept, *rest)
-        return full, kept
-
-    def own(self, size, is_kept, *children):
-        return size + sum(full for full, _ in children), size * is_kept + sum(kept for _, kept in children)
-
-    def Chain(self, _, is_kept, steps):
-        return self.own(sum(map(step_size, steps)), is_kept)
-
-    def Seq(self, _, is_kept, blocks):
-        return self.own(0, is_kept, *(self.of(child, is_kept) for child in blocks))
-
-    def If(self, block, is_kept, steps, test, this, other):
-        one, two = self.of(this, is_kept), self.of(other, is_kept)
-        over = 0 if has_no_lines(other) else 3
-        far = is_far_on(one[0] + over)
-        self.far[id(block)] = far
-        return self.own(self.head(steps, test) + (5 if far else 2) + over, is_kept, one, two)
-
-    def Until(self, block, is_kept, counter, count, steps, test, body):
-        inner = self.of(body, is_kept)
-        set_size, down = (2, 1) if counter[0] == "Y" else (5, 3)
-        head = self.head(steps, test)
-        back = is_far_back(inner[0] + head + down + 5)
-        leave = is_far_on(inner[0] + down + (5 if back else 2))
-        self.far[id(block)] = leave, back
-        return self.own(set_size + head + (5 if leave else 2) + down + (5 if back else 2), is_kept, inner)
-
-    def EachVoice(self, block, is_kept, body):
-        inner = self.of(body, is_kept)
-        far = is_far_back(inner[0] + 7)
-        self.far[id(block)] = far
-        return self.own(15 if far else 12, is_kept, inner)
-
-    def When(self, _, is_kept, bit, body):
-        return self.of(body, bool(self.kept >> bit & 1))
-
-    def Fill(self, _, is_kept, start, count):
-        return self.own(10, is_kept)
-
-
-# ---- What blocks mean.
-
-class ReadsItself(Exception):
-    """A byte of the block's own lines is read."""
+class Stuck(Exception):
+    """The block doesn't come to its end; or it reads or writes its own lines, or takes too long."""
 
 
 class Desk:
-    """The memory, the registers and flags that steps speak of, and how many instructions were run."""
+    """The memory, the registers and the flags."""
 
-    def __init__(self, begin, block):
-        self.sizes = Sizes(begin["kept"])
-        self.size = self.sizes.of(block)[1]
-        self.origin, self.kept, self.pointer = begin["origin"], begin["kept"], begin["pointer"]
-        self.base = self.origin + self.size
-        self.memory = bytearray((place & 0xFF) * 7 & 0xFF ^ place >> 8 for place in range(0x10000))
+    def __init__(self, begin, size):
+        self.origin, self.pointer = begin["origin"], begin["pointer"]
+        self.base = self.origin + size
+        self.memory = bytearray(MEMORY)
         self.memory[self.base:self.base + LABELS] = begin["bytes"]
-        self.a, self.y = begin["a"], begin["y"]
-        self.carry, self.zero, self.minus = (letter in begin["flags"] for letter in "czn")
-        self.runs = self.parts = 0
+        self.a, self.x, self.y = begin["a"], begin["x"], begin["y"]
+        self.n, self.v, self.d, self.i, self.z, self.c = (letter in begin["flags"] for letter in "nvdizc")
 
-    def read(self, place):
-        place &= 0xFFFF
-        if self.origin <= place < self.base:
-            raise ReadsItself
-        return self.memory[place]
+    def flags(self):
+        return "".join(letter for letter in "nvdizc" if getattr(self, letter)) or "-"
+
+    def place(self, operand):
+        kind, *rest = operand
+        if kind == "Pointed":
+            place = self.memory[self.pointer] + 256 * self.memory[self.pointer + 1] + self.y
+        elif kind in ("Pointer", "Timer"):
+            place = (self.pointer if kind == "Pointer" else TIMER) + (rest[0] == "High")
+        else:
+            place = (SID if kind in ("Register", "OwnRegister") else self.base) + rest[0]
+            place += {"Own": self.x, "OwnRegister": self.x, "Entry": self.y}.get(kind, 0)
+        if self.origin <= place % 0x10000 < self.base:
+            raise Stuck
+        return place % 0x10000
 
     def show(self, byte):
-        self.zero, self.minus = byte == 0, byte >= 128
+        self.z, self.n = byte == 0, byte >= 128
         return byte
 
-    def set_a(self, byte):
-        self.a = self.show(byte & 0xFF)
+    def add(self, byte):
+        if self.d:
+            raise Stuck
+        total = self.a + byte + self.c
+        self.v = (self.a ^ total) & (byte ^ total) & 128 != 0
+        self.c = total > 255
+        self.a = self.show(total & 255)
 
-    def set_y(self, byte):
-        self.y = self.show(byte & 0xFF)
-
-    def place(self, voice, place):
-        name, *rest = place
-        if name == "Var":
-            return self.base + rest[0]
-        if name == "VoiceVar":
-            return self.base + rest[0] + 7 * voice
-        if name == "Register":
-            return SID + rest[0]
-        if name == "VoiceRegister":
-            return SID + rest[0] + 7 * voice
-        return TIMER[rest[0]] if name == "Timer" else self.pointer + (rest[0] == "High")
-
-    def operand(self, voice, operand):
-        name, *rest = operand
-        if name == "Const":
-            return rest[0]
-        if name == "Y":
-            return self.y
-        if name == "Entry":
-            return self.read(self.base + rest[0] + self.y)
-        if name == "Byte":
-            return self.read(self.memory[self.pointer] + 256 * self.memory[self.pointer + 1] + self.y)
-        return self.read(self.place(voice, operand))
-
-    def add(self, byte, more):
-        total = self.a + byte + more
-        self.carry = total > 255
-        self.set_a(total)
-
-    def count(self, voice, what, more):
-        if what[0] == "Y":
-            self.set_y(self.y + more)
-        else:
-            place = self.place(voice, what)
-            self.memory[place] = self.show(self.memory[place] + more & 0xFF)
-
-    def halve(self, voice, cell, more):
-        place = self.place(voice, cell)
-        byte = self.memory[place]
-        self.carry = byte & 1 == 1
-        self.memory[place] = self.show(byte // 2 + 128 * more)
-
-    def step(self, voice, step):
-        name, *rest = step
-        self.runs += 2 if name in ("Add", "Sub") else 1
-        if name == "Store":
-            if rest[0][0] == "Y":
-                self.set_y(self.a)
-            else:
-                self.memory[self.place(voice, rest[0])] = self.a
-        elif name in ("Inc", "Dec"):
-            self.count(voice, rest[0], 1 if name == "Inc" else 255)
-        elif name in ("HalveAt", "HalveOn"):
-            self.halve(voice, rest[0], self.carry and name == "HalveOn")
-        elif name == "Double":
-            self.carry = self.a >= 128
-            self.set_a(2 * self.a)
-        else:
-            self.on_operand(name, self.operand(voice, rest[0]))
-
-    def on_operand(self, name, byte):
-        if name == "Load":
-            self.set_a(byte)
-        elif name == "Index":
-            self.set_y(byte)
-        elif name == "And":
-            self.set_a(self.a & byte)
-        elif name == "Or":
-            self.set_a(self.a | byte)
-        elif name == "Xor":
-            self.set_a(self.a ^ byte)
-        elif name in ("Add", "AddOn"):
-            self.add(byte, self.carry and name == "AddOn")
-        else:
-            self.add(255 - byte, self.carry or name == "Sub")
+    def shift(self, name, byte):
+        """A byte shifted by one, with 0 or the carry coming in."""
+        into = self.c and name in ("Rol", "Ror")
+        if name in ("Asl", "Rol"):
+            self.c = byte >= 128
+            return self.show(2 * byte + into & 255)
+        self.c = byte & 1 == 1
+        return self.show(byte // 2 + 128 * into)
 
     def compare(self, register, byte):
-        self.runs += 1
-        self.carry = register >= byte
-        self.show(register - byte & 0xFF)
+        self.c = register >= byte
+        self.show(register - byte & 255)
 
-    def asks(self, voice, steps, test):
-        for step in steps:
-            self.step(voice, step)
-        opposite, (name, *rest) = test[0] == "Not", condition_of(test)
-        if name == "YEqual":
-            self.compare(self.y, rest[0])
-        elif rest:
-            self.compare(self.a, self.operand(voice, rest[0]))
-        holds = {"Zero": self.zero, "Minus": self.minus, "Carry": self.carry, "Less": not self.carry}
-        return holds.get(name, self.zero) != opposite
+    def alone(self, name):
+        """An instruction without an operand."""
+        if name in SHIFTS:
+            self.a = self.shift(name, self.a)
+        elif name in ("Inx", "Iny", "Dex", "Dey"):
+            register = name[2].lower()
+            setattr(self, register, self.show(getattr(self, register) + (1 if name[0] == "I" else 255) & 255))
+        elif name[0] == "T":
+            setattr(self, name[2], self.show(getattr(self, name[1])))
+        elif name in ("Clc", "Sec"):
+            self.c = name == "Sec"
+        elif name == "Clv":
+            self.v = False
 
-    def branch(self, is_far, goes):
-        self.runs += 2 if is_far and goes else 1
-
-    def mean(self, block, voice=0):
-        kind, *rest = block
-        getattr(self, kind)(block, voice, *rest)
-
-    def Chain(self, _, voice, steps):
-        for step in steps:
-            self.step(voice, step)
-
-    def Seq(self, _, voice, blocks):
-        for block in blocks:
-            self.mean(block, voice)
-
-    def If(self, block, voice, steps, test, this, other):
-        holds = self.asks(voice, steps, test)
-        self.branch(self.sizes.far[id(block)], not holds)
-        self.mean(this if holds else other, voice)
-        self.runs += holds and not has_no_lines(other)
-
-    def Until(self, block, voice, counter, count, steps, test, body):
-        leave, back = self.sizes.far[id(block)]
-        if counter[0] == "Y":
-            self.set_y(count)
-            self.runs += 1
+    def with_operand(self, name, operand):
+        if operand[0] == "Number":
+            return self.on_byte(name, operand[1])
+        place = self.place(operand)
+        if name in ("Sta", "Stx", "Sty"):
+            self.memory[place] = getattr(self, name[2])
+        elif name in ("Inc", "Dec"):
+            self.memory[place] = self.show(self.memory[place] + (1 if name == "Inc" else 255) & 255)
+        elif name in SHIFTS:
+            self.memory[place] = self.shift(name, self.memory[place])
         else:
-            self.set_a(count)
-            self.memory[self.place(0, counter)] = count
-            self.runs += 2
+            self.on_byte(name, self.memory[place])
+
+    def on_byte(self, name, byte):
+        if name in ("Lda", "Ldx", "Ldy"):
+            setattr(self, name[2], self.show(byte))
+        elif name in ("Cpx", "Cpy", "Cmp"):
+            self.compare({"Cpx": self.x, "Cpy": self.y, "Cmp": self.a}[name], byte)
+        elif name in ("Adc", "Sbc"):
+            self.add(byte if name == "Adc" else 255 - byte)
+        elif name == "Bit":
+            self.z, self.n, self.v = self.a & byte == 0, byte & 128 != 0, byte & 64 != 0
+        else:
+            self.a = self.show({"And": self.a & byte, "Ora": self.a | byte, "Eor": self.a ^ byte}[name])
+
+
+# ---- Where lines go on.
+
+class Meaning:
+    """A block as it is run: how many instructions so far, and how often each way on was taken."""
+
+    def __init__(self, desk, holds):
+        self.desk, self.holds = desk, holds
+        self.runs, self.ways = 0, collections.Counter()
+
+    def met(self, side, flag):
+        return getattr(self.desk, {"Zero": "z", "Minus": "n", "Carry": "c"}[flag]) == (side == "on")
+
+    def all(self, nodes):
+        """What nodes come to: nothing where they come to their end, else a name that is left, or `again`."""
+        for node in nodes:
+            if self.runs > MOST_STEPS:
+                raise Stuck
+            outcome = self.one(node)
+            if outcome is not None:
+                return outcome
+        return None
+
+    def one(self, node):
+        word, *rest = node
+        if word == "scope":
+            outcome = self.all(rest[1])
+            return None if outcome == rest[0] else outcome
+        if word == "turns":
+            return self.turns(*rest)
+        if word in LEAVES + ("again",):
+            return self.goes(word, rest)
+        if word in ("when", "choose"):
+            self.ways[f"{word} {rest[0] in self.holds}"] += 1
+            sides = rest[1:] + [[]]
+            return self.all(sides[0] if rest[0] in self.holds else sides[1])
+        if word == "never":
+            raise Stuck
+        self.runs += 1
+        if rest:
+            self.desk.with_operand(word, rest)
+        else:
+            self.desk.alone(word)
+        return None
+
+    def turns(self, count, body):
         for turn in range(count):
-            holds = self.asks(voice, steps, test)
-            self.branch(leave, holds)
-            if holds:
-                break
-            self.mean(body, voice)
-            self.count(0, counter, 255)
-            self.runs += 1
-            self.branch(back, turn + 1 < count)
+            outcome = self.all(body)
+            if outcome != "again":
+                self.ways["more turns" if turn else "one turn"] += 1
+                return outcome
+        raise Stuck
 
-    def EachVoice(self, block, _, body):
-        self.runs += 2
-        for voice in range(3):
-            self.set_a(7 * voice)
-            self.carry = False
-            self.runs += 1
-            self.mean(body, voice)
-            self.runs += 4
-            self.branch(self.sizes.far[id(block)], voice < 2)
-        self.a, self.carry, self.zero, self.minus = 21, True, True, False
-
-    def When(self, _, voice, bit, body):
-        if self.kept >> bit & 1:
-            self.parts += 1
-            self.mean(body, voice)
-
-    def Fill(self, _, voice, start, count):
-        place = self.place(0, start)
-        self.memory[place:place + count] = bytes(count)
-        self.runs += 2 + 3 * count
-        self.set_y(0)
-        self.set_a(0)
-
-
-# ---- When blocks are sound.
-
-class Sound:
-    """The three rules: places and ranges, counters, and registers that are read where they are known."""
-
-    SHOWS = {"A", "shown"}
-    BY_STEP = {
-        "Load": (set(), SHOWS), "Index": (set(), {"Y", "shown"}), "Double": ({"A"}, SHOWS | {"carry"}),
-        "And": ({"A"}, SHOWS), "Or": ({"A"}, SHOWS), "Xor": ({"A"}, SHOWS),
-        "Add": ({"A"}, SHOWS | {"carry"}), "Sub": ({"A"}, SHOWS | {"carry"}),
-        "AddOn": ({"A", "carry"}, SHOWS | {"carry"}), "SubOn": ({"A", "carry"}, SHOWS | {"carry"}),
-        "HalveAt": (set(), {"carry", "shown"}), "HalveOn": ({"carry"}, {"carry", "shown"}),
-        "Inc": (set(), {"shown"}), "Dec": (set(), {"shown"}), "Store": ({"A"}, set()),
-    }
-    BY_OPERAND = {"Entry": {"Y"}, "Y": {"Y"}, "Byte": {"Y", "Low", "High"}}
-    BY_CONDITION = {
-        "Zero": ({"shown"}, set()), "Minus": ({"shown"}, set()), "Carry": ({"carry"}, set()),
-        "Equal": ({"A"}, {"carry", "shown"}), "Less": ({"A"}, {"carry", "shown"}),
-        "YEqual": ({"Y"}, {"carry", "shown"}),
-    }
-
-    def step(self, step):
-        """What a step reads, and what it sets."""
-        name, *rest = step
-        reads, sets = self.BY_STEP[name]
-        where = rest[0] if rest else ("",)
-        if name == "Store":
-            return reads, {"Y": {"Y", "shown"}, "Pointer": {where[-1]}}.get(where[0], set())
-        if name in ("Inc", "Dec"):
-            return (reads | {"Y"}, sets | {"Y"}) if where[0] == "Y" else (reads, sets)
-        return reads | self.BY_OPERAND.get(where[0], set()), sets
-
-    def asking(self, steps, test):
-        return [self.step(step) for step in steps] + [self.BY_CONDITION[condition_of(test)[0]]]
-
-    def counter(self, counter):
-        """What setting a counter sets, and what counting it down does."""
-        return ({"Y", "shown"}, {"Y", "shown"}) if counter[0] == "Y" else (self.SHOWS, {"shown"})
-
-    def children(self, block):
-        kind, *rest = block
-        if kind == "Seq":
-            return rest[0]
-        return {"If": rest[2:], "Until": rest[4:], "EachVoice": rest, "When": rest[1:]}.get(kind, [])
-
-    def written(self, block):
-        """The registers that a block may write."""
-        kind, *rest = block
-        sets = {"EachVoice": {"A", "carry", "shown"}, "Fill": {"A", "Y", "shown"}}.get(kind, set())
-        if kind == "Chain":
-            sets = sets.union(*(self.step(step)[1] for step in rest[0]))
-        if kind == "If":
-            sets = sets.union(*(each for _, each in self.asking(rest[0], rest[1])))
-        if kind == "Until":
-            sets = sets.union(*self.counter(rest[0]), *(each for _, each in self.asking(rest[2], rest[3])))
-        return sets.union(*map(self.written, self.children(block)))
-
-    def written_by_parts(self, block):
-        if block[0] == "When":
-            return self.written(block[2])
-        return set().union(*map(self.written_by_parts, self.children(block)))
-
-    def behind(self, touched, known):
-        for reads, sets in touched:
-            assert reads <= known, "a register is read that isn't known"
-            known = known | sets
-        return known
-
-    def known(self, block, before):
-        """What is known behind a block."""
-        kind, *rest = block
-        if kind == "Chain":
-            return self.behind([self.step(step) for step in rest[0]], before)
-        if kind == "Seq":
-            for child in rest[0]:
-                before = self.known(child, before)
-            return before
-        if kind == "If":
-            asked = self.behind(self.asking(rest[0], rest[1]), before)
-            return self.known(rest[2], asked) & self.known(rest[3], asked)
-        if kind == "Until":
-            sets, down = self.counter(rest[0])
-            asked = self.behind(self.asking(rest[2], rest[3]), (before | sets) - self.written_by_parts(rest[4]))
-            return asked & (self.known(rest[4], asked) | down)
-        if kind == "EachVoice":
-            voices = {"A", "carry", "shown"}
-            return self.known(rest[0], before - self.written_by_parts(rest[0]) | voices) | voices
-        if kind == "When":
-            self.known(rest[1], before)
-            return before - self.written(rest[1])
-        return before | {"A", "Y", "shown"}
-
-    def counts(self, step):
-        """The labels, and Y, that a step writes."""
-        name, *rest = step
-        if name == "Index":
-            return {"Y"}
-        if name not in ("Store", "Inc", "Dec", "HalveAt", "HalveOn"):
-            return set()
-        where, *label = rest[0]
-        apart = {"Var": (0,), "VoiceVar": (0, 7, 14)}.get(where, ())
-        return {"Y"} if where == "Y" else {label[0] + more for more in apart}
-
-    def counters(self, block):
-        """The labels, and Y, that a block writes, where no loop's body writes its counter."""
-        kind, *rest = block
-        inner = set().union(*map(self.counters, self.children(block)))
-        steps = {"Chain": rest[:1], "If": rest[:1], "Until": rest[2:3]}.get(kind, [[]])[0]
-        inner = inner.union(*map(self.counts, steps))
-        if kind == "Fill":
-            start, count = rest
-            return {"Y"} | (set(range(start[1], start[1] + count)) if start[0] == "Var" else set())
-        if kind == "Until":
-            counter = rest[0][-1]
-            assert counter not in inner, "a counter is written"
-            return inner | {counter}
-        return inner
-
-    def places(self, node, in_voices=False, in_when=False):
-        """Sees that each part is in its place and range."""
-        if isinstance(node, list):
-            for item in node:
-                self.places(item, in_voices, in_when)
-        if not isinstance(node, tuple):
-            return
-        kind, *rest = node
-        assert in_voices or kind not in ("VoiceVar", "VoiceRegister"), "a voice's byte outside"
-        assert not (in_voices and kind == "EachVoice") and not (in_when and kind == "When"), "nested"
-        limits = {"Register": 25, "VoiceRegister": 7, "When": 32}
-        assert kind not in limits or rest[0] < limits[kind], "out of range"
-        assert kind not in ("Until", "Fill") or rest[1] > 0, "no turn"
-        assert kind != "Fill" or rest[0][0] == "Var" or rest[0][1] + rest[1] <= 25, "a register too far"
-        for item in rest:
-            self.places(item, in_voices or kind == "EachVoice", in_when or kind == "When")
-
-    def check(self, block):
-        self.places(block)
-        self.counters(block)
-        self.known(block, set())
+    def goes(self, word, rest):
+        where = rest.pop(0) if word in LEAVES else word
+        is_met = not rest or self.met(*rest)
+        self.runs += 2 if word == "jump" and is_met else 1
+        self.ways[f"{word}{' under a test' if rest else ''} {is_met}"] += 1
+        return where if is_met else None
 
 
 # ---- Random blocks.
 
-Room = collections.namedtuple("Room", "depth in_voices in_when keeps_y")
+Room = collections.namedtuple("Room", "depth names in_loop")
 
 
 class Maker:
-    """Makes blocks, and knows whether each register is set at the place where it is."""
+    """Makes blocks, with a loop's turns counted in a register more often than not."""
 
     def __init__(self, seed):
         self.random = random.Random(seed)
-        self.is_known = False
 
     def below(self, limit):
         return self.random.randrange(limit)
 
+    def one_of(self, *items):
+        return self.random.choice(items)
+
     def byte(self):
-        return self.random.choice((0, 1, 127, 128, 255)) if self.below(8) == 0 else self.below(256)
+        return self.one_of(0, 1, 127, 128, 255) if self.below(8) == 0 else self.below(256)
+
+    def condition(self):
+        return self.one_of(0, 63, 64, 127, 128, 255) if self.below(3) == 0 else self.below(128)
+
+    def operand(self):
+        kind = self.one_of("Number", "Number", "Var", "Var", "Own", "Entry", "Pointed", "Pointer", "Register",
+                           "OwnRegister", "Timer")
+        if kind == "Pointed":
+            return (kind,)
+        if kind in ("Pointer", "Timer"):
+            return kind, self.one_of("Low", "High")
+        limit = {"Register": 25, "OwnRegister": 7}.get(kind, LABELS)
+        return kind, self.byte() if kind == "Number" else self.below(limit)
+
+    def instruction(self):
+        if self.below(3) == 0:
+            return (self.one_of(*PLAIN, *SHIFTS),)
+        operand = self.operand()
+        return (self.random.choice(BY_KIND[operand[0]]), *operand)
+
+    def test(self):
+        return self.one_of("on", "off"), self.one_of(*FLAGS)
+
+    def goes(self, room):
+        """A leave or a next turn, mostly under a test."""
+        test = self.test() if self.below(8) else ()
+        if room.in_loop and (not room.names or self.below(3) == 0):
+            return ("again", *test)
+        if not room.names:
+            return self.instruction()
+        return (self.one_of("leave", "leave", "jump") if test else "leave", self.random.choice(room.names), *test)
+
+    def scope(self, room):
+        name = self.one_of(0, 1, 2, 254)
+        return "scope", name, self.block(room._replace(names=room.names + (name,)))
+
+    def counted(self, room):
+        """A loop whose turns a register counts down."""
+        register, count = self.one_of("x", "y"), self.below(5) + 1
+        body = self.block(room._replace(in_loop=True))
+        body += [(f"De{register}",), self.one_of(("again", "off", "Zero"), ("again", "off", "Minus"))]
+        return [(f"Ld{register}", "Number", count), ("turns", self.one_of(count + 1, 255), body)]
+
+    def looped(self, room):
+        """A loop that a test ends, or that is left."""
+        if self.is_heads():
+            return ("turns", self.below(20) + 1, self.block(room._replace(in_loop=True)) + [("again", *self.test())])
+        inner = room._replace(names=room.names + (7,), in_loop=True)
+        body = self.block(inner) + [("leave", 7, *self.test())] + self.block(inner._replace(depth=0)) + [("again",)]
+        return "scope", 7, [("turns", self.below(20) + 1, body), ("never",)]
 
     def is_heads(self):
         return self.below(2) == 0
 
-    def cell(self, room):
-        return ("VoiceVar", self.below(10)) if room.in_voices and self.is_heads() else ("Var", self.below(24))
-
-    def operand(self, room):
-        return ("Const", self.byte()) if self.is_heads() else self.cell(room)
-
-    def summand(self, room):
-        return ("Entry", self.below(64)) if self.below(3) == 0 else self.operand(room)
-
-    def source(self, room):
-        return [("Byte",), ("Y",), self.summand(room), self.summand(room)][self.below(4)]
-
-    def half(self):
-        return "Low" if self.is_heads() else "High"
-
-    def place(self, room):
-        kind = self.below(6)
-        if kind == 0:
-            return "Register", self.below(25)
-        if kind == 1 and room.in_voices:
-            return "VoiceRegister", self.below(7)
-        if kind in (2, 3):
-            return ("Timer", "Pointer")[kind - 2], self.half()
-        return ("Y",) if kind == 4 and not room.keeps_y else self.cell(room)
-
-    def counted(self, room):
-        return ("Y",) if not room.keeps_y and self.is_heads() else self.cell(room)
-
-    def step(self, room):
-        name = self.random.choice("And Or Xor Add Sub AddOn SubOn Double Inc Dec HalveAt HalveOn Index Store Store "
-                                  "Load".split())
-        if name == "Double":
-            return (name,)
-        if name == "Index" and room.keeps_y:
-            name = "Load"
-        made = {"Load": self.source, "Store": self.place, "Inc": self.counted, "Dec": self.counted,
-                "HalveAt": self.cell, "HalveOn": self.cell, "Add": self.summand, "Sub": self.summand,
-                "AddOn": self.summand, "SubOn": self.summand}.get(name, self.operand)
-        return name, made(room)
-
-    def steps(self, room):
-        """Steps, with all registers set first where one may not be."""
-        steps = []
-        if not self.is_known:
-            steps += [("Load", ("Const", self.byte())), ("Store", ("Pointer", "Low")), ("Store", ("Pointer", "High"))]
-            steps += [] if room.keeps_y else [("Store", ("Y",))]
-            steps += [("Add", ("Const", self.byte()))]
-            self.is_known = True
-        return steps + [self.step(room) for _ in range(self.below(5))]
-
-    def test(self, room):
-        name = self.random.choice("Zero Minus Carry Equal Less YEqual".split())
-        rest = {"Equal": (self.operand(room),), "Less": (self.operand(room),), "YEqual": (self.byte(),)}.get(name, ())
-        return ("Is" if self.is_heads() else "Not"), (name, *rest)
-
-    def list(self, room, least):
-        return "Seq", [self.block(room) for _ in range(least + self.below(4))]
-
-    def choice(self, room):
-        steps, test = self.steps(room), self.test(room)
-        this = self.block(room)
-        behind, self.is_known = self.is_known, True
-        other = self.block(room)
-        self.is_known = self.is_known and behind
-        return "If", steps, test, this, other
-
-    def turns(self, room):
-        """A loop that counts in Y, or in a byte that no step writes."""
-        count = self.below(3) + 1
-        counter = ("Var", room.depth + 40)
-        if self.is_heads() and not room.keeps_y:
-            counter, room = ("Y",), room._replace(keeps_y=True)
-        self.is_known = False
-        steps, test = self.steps(room), self.test(room)
-        body = self.block(room)
-        self.is_known = False
-        return "Until", counter, count, steps, test, body
-
-    def voices(self, room):
-        self.is_known = False
-        body = self.block(room._replace(in_voices=True))
-        self.is_known = False
-        return "EachVoice", body
-
-    def part(self, room):
-        bit = self.below(32)
-        body = self.block(room._replace(in_when=True))
-        self.is_known = False
-        return "When", bit, body
-
-    def zeros(self):
-        if self.is_heads():
-            return "Fill", ("Var", self.below(12)), self.below(12) + 1
-        return "Fill", ("Register", self.below(12)), self.below(13) + 1
+    def opened(self, room):
+        kind = self.below(8)
+        if kind < 4:
+            return [self.scope(room)]
+        if kind == 4:
+            return self.counted(room)
+        if kind == 5:
+            return [self.looped(room)]
+        if kind == 6:
+            return [("when", self.condition(), self.block(room))]
+        return [("choose", self.condition(), self.block(room), self.block(room))]
 
     def block(self, room):
-        if room.depth == 0:
-            return "Chain", self.steps(room)
-        inner = room._replace(depth=room.depth - 1)
-        kind = self.below(8)
-        if kind in (0, 1):
-            return self.list(inner, 0)
-        if kind in (2, 3):
-            return self.choice(inner)
-        if kind == 4:
-            return self.turns(inner)
-        if kind == 5 and not room.in_voices:
-            return self.voices(inner)
-        if kind == 6 and not room.in_when:
-            return self.part(inner)
-        if kind == 7 and not room.keeps_y:
-            return self.zeros()
-        return "Chain", self.steps(inner)
+        """Some nodes. Those behind a leave in any case are never come to."""
+        nodes, inner = [], room._replace(depth=room.depth - 1)
+        for _ in range(self.below(5) + 2 * (room.depth == DEPTH)):
+            kind = self.below(8)
+            if kind < 3 and room.depth > 0:
+                nodes += self.opened(inner)
+            elif kind in (3, 4):
+                nodes.append(self.goes(room))
+            else:
+                nodes += [self.instruction() for _ in range(self.below(3) + 1)]
+        return nodes
 
-    def begin(self, origin):
-        flags = "".join(letter for letter in "nvzc" if self.is_heads())
-        return {"origin": origin, "kept": self.random.getrandbits(32), "pointer": self.below(253) + 2,
-                "a": self.byte(), "x": self.byte(), "y": self.byte(), "flags": flags + "i",
-                "bytes": bytes(self.byte() for _ in range(LABELS))}
+    def begin(self, origin, conditions):
+        flags = "".join(letter for letter in "nvizc" if self.is_heads()) + ("d" if self.below(8) == 0 else "")
+        others = {self.below(128) for _ in range(self.below(3))}
+        return {"origin": origin, "pointer": self.below(255), "a": self.byte(), "x": self.byte(), "y": self.byte(),
+                "flags": flags, "bytes": bytes(self.byte() for _ in range(LABELS)),
+                "holds": {number for number in conditions if number < 128 and self.is_heads()} | others}
+
+
+def conditions_in(nodes):
+    found = set()
+    for node in nodes:
+        if node[0] in OPENING:
+            found.update(*(conditions_in(side) for side in node[2:]))
+        if node[0] in ("when", "choose"):
+            found.add(node[1])
+    return found
 
 
 # ---- Cases.
 
 def changes(desk, before):
     """The lines of the bytes that changed: those under a label, and the others."""
-    places = [place for place in range(0x10000) if desk.memory[place] != before[place]]
+    pages = [page for page in range(0, 0x10000, 256) if desk.memory[page:page + 256] != before[page:page + 256]]
+    places = [place for page in pages for place in range(page, page + 256) if desk.memory[place] != before[place]]
     lines, at = [], 0
     while at < len(places):
         end = at + 1
@@ -625,10 +416,10 @@ def changes(desk, before):
     return lines
 
 
-def broken(words, width=120):
+def broken(text, width=120):
     """A long line as lines of which the others begin with blanks."""
     lines, line = [], ""
-    for word in words.split(" "):
+    for word in text.split(" "):
         if len(line) + len(word) + 1 > width:
             lines.append(line)
             line = "   "
@@ -636,52 +427,67 @@ def broken(words, width=120):
     return lines + [line]
 
 
-def case(name, block, begin):
-    """The lines of a case."""
-    desk = Desk(begin, block)
+def case(name, block, begin, size):
+    """The lines of a case, and what was run."""
+    desk = Desk(begin, size)
     before = bytes(desk.memory)
-    desk.mean(block)
-    flags = "".join(letter for letter, is_set in zip("nzc", (desk.minus, desk.zero, desk.carry)) if is_set)
-    lines = [f"case {name}", f"origin {begin['origin']:04x}", f"pointer {number(begin['pointer'])}",
-             f"kept {begin['kept']:08x}"]
-    lines += [f"begin {begin['a']:02x} {begin['x']:02x} {begin['y']:02x} {begin['flags']}"]
-    lines += broken(f"bytes 00 {begin['bytes'].hex()[:LABELS]} {begin['bytes'].hex()[LABELS:]}")
-    lines += [f"after {desk.a:02x} {desk.y:02x} {flags or '-'}"] + changes(desk, before)
-    return lines + [f"size {desk.size:x}", f"steps {desk.runs:x}"], desk
+    meaning = Meaning(desk, begin["holds"])
+    meaning.all(block)
+    data = begin["bytes"].hex()
+    lines = [f"case {name}", f"origin {begin['origin']:04x}", f"pointer {number(begin['pointer'])}"]
+    lines += broken(" ".join(["holds", *map(number, sorted(begin["holds"]))]))
+    lines += [f"begin {begin['a']:02x} {begin['x']:02x} {begin['y']:02x} {begin['flags'] or '-'}"]
+    lines += broken(f"bytes 00 {data[:LABELS]} {data[LABELS:]}")
+    lines += [f"after {desk.a:02x} {desk.x:02x} {desk.y:02x} {desk.flags()}"] + changes(desk, before)
+    return lines + [f"size {size:x}", f"steps {meaning.runs:x}"], meaning
+
+
+def case_at(maker, name, block, origin):
+    """A case at an origin; none where each of some beginnings is stuck."""
+    conditions = conditions_in(block)
+    for _ in range(20):
+        begin = maker.begin(origin, conditions)
+        try:
+            return case(f"{name} at {origin:04x}", block, begin, Shape(begin["holds"]).size(block))
+        except Stuck:
+            continue
+    return None
 
 
 def cases_of(seed):
-    """The lines of the cases of one block, and how many bodies of parts they do."""
+    """The lines of the cases of one block, and the ways on that were taken; none where it isn't one or is stuck."""
     maker = Maker(seed)
-    block = maker.list(Room(DEPTH, False, False, False), 1)
-    Sound().check(block)
-    lines, parts = [], 0
-    for origin in ORIGINS:
-        for _ in range(20):
-            try:
-                text, desk = case(f"{seed} at {origin:04x}", block, maker.begin(origin))
-            except ReadsItself:
-                continue
-            if not lines:
-                text[1:1] = broken("block " + written(block))
-            lines += text + [""]
-            parts += desk.parts
-            break
-    return lines, parts
+    block = maker.block(Room(DEPTH, (), False))
+    if not block or not is_block(block):
+        return None
+    made = [case_at(maker, seed, block, origin) for origin in ORIGINS]
+    if None in made:
+        return None
+    lines = []
+    for text, _ in made:
+        if not lines:
+            text[1:1] = broken("block " + ", ".join(lines_of(block)))
+        lines += text + [""]
+    return lines, sum((meaning.ways for _, meaning in made), collections.Counter())
 
 
 def main():
     seed = int(sys.argv[1])
     count = int(sys.argv[2]) if len(sys.argv) > 2 else 200
     print(f"# Random blocks: written by bench/block_cases.py {seed} {count}.\n")
-    words, parts = collections.Counter(), 0
-    for place in range(count):
-        lines, more = cases_of(f"{seed}-{place}")
-        parts += more
-        words.update(re.findall(r"[A-Z][A-Za-z]+|\bY\b", "\n".join(lines)))
-        print("\n".join(lines))
-    told = ", ".join(f"{word} {times}" for word, times in words.most_common())
-    print(f"{parts} bodies of parts; {told}", file=sys.stderr)
+    told, ways, place, made = collections.Counter(), collections.Counter(), 0, 0
+    while made < count:
+        found = cases_of(f"{seed}-{place}")
+        place += 1
+        if found is None:
+            continue
+        made += 1
+        ways += found[1]
+        told.update(re.findall(r"[A-Z][A-Za-z]+|\b(?:scope|leave|jump|turns|again|when|choose|never)\b",
+                               "\n".join(found[0])))
+        print("\n".join(found[0]))
+    for counts in (told, ways):
+        print("; ".join(f"{word} {times}" for word, times in counts.most_common()), file=sys.stderr)
 
 
 if __name__ == "__main__":

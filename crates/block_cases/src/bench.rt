@@ -192,30 +192,26 @@ fn same_flag(name: &'static str, found: bool, wanted: bool) -> Result<(), Differ
     same_byte(name, u8::from(found), u8::from(wanted))
 }
 
-/// Sees that all flags but the overflow are those that are wanted.
+/// Sees that all flags are those that are wanted.
 fn same_flags(found: Cpu, wanted: Cpu) -> Result<(), Difference> {
     same_flag("the flag n", found.n, wanted.n)?;
+    same_flag("the flag v", found.v, wanted.v)?;
     same_flag("the flag d", found.d, wanted.d)?;
     same_flag("the flag i", found.i, wanted.i)?;
     same_flag("the flag z", found.z, wanted.z)?;
     same_flag("the flag c", found.c, wanted.c)
 }
 
-/// Sees that A, Y, the stack pointer and all flags but the overflow are those that are wanted.
+/// Sees that all registers and flags are those that are wanted.
 pub fn same_registers(found: Cpu, wanted: Cpu) -> Result<(), Difference> {
     same_byte("A", found.a, wanted.a)?;
+    same_byte("X", found.x, wanted.x)?;
     same_byte("Y", found.y, wanted.y)?;
     same_byte("the stack pointer", found.sp, wanted.sp)?;
-    same_flags(found, wanted)
-}
-
-/// Sees that X, the program counter and the overflow are those that are wanted.
-pub fn same_others(found: Cpu, wanted: Cpu) -> Result<(), Difference> {
-    same_byte("X", found.x, wanted.x)?;
     same(
         "the program counter",
         u32::from(found.pc),
         u32::from(wanted.pc),
     )?;
-    same_flag("the flag v", found.v, wanted.v)
+    same_flags(found, wanted)
 }

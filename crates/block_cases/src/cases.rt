@@ -3,11 +3,13 @@
 ghost use Rattle.std.specs.Prelude.{◌≡◌, ◌+◌, min, IsOk, IsErr};
 
 use crate::bench::Bench;
-use crate::block_cases::{Setup, Wants, read_line};
 use crate::difference::Difference;
 use crate::instructions::check_instruction;
 use crate::listings::ListingCase;
 use crate::machines::MachineCase;
+use crate::runs::run_all;
+use crate::setup::{Entrance, Setup, read_line};
+use crate::wants::Wants;
 use crate::words::Reader;
 use case_text::{Tally, look_up};
 use std::alloc::Global;
@@ -17,6 +19,7 @@ use std::io;
 #[derive(Clone, Copy)]
 enum Kind {
     Block,
+    Entrance,
     Listing,
     Machine,
     Memory,
@@ -24,8 +27,9 @@ enum Kind {
 }
 
 /// What a case is of, by its first word.
-const KINDS: [(&[u8], Kind); 5] = [
+const KINDS: [(&[u8], Kind); 6] = [
     (b"case", Kind::Block),
+    (b"entrance", Kind::Entrance),
     (b"listing", Kind::Listing),
     (b"machine", Kind::Machine),
     (b"memory", Kind::Memory),
@@ -99,7 +103,29 @@ fn block_case(
         reader.end()?;
     }
     reader.line = line;
-    setup.run(alloc, bench, &wants)
+    run_all(alloc, bench, setup, None, &wants)
+}
+
+/// Reads a case of an entrance, and calls it.
+fn entrance_case(
+    alloc: Global,
+    bench: &mut Bench,
+    setup: &mut Setup,
+    reader: &mut Reader<'_>,
+) -> Result<(), Difference> {
+    let line = reader.line;
+    let mut wants = Wants::new(alloc);
+    let mut entrance = Entrance::new();
+    reader.pass_name()?;
+    for _ in 0..reader.left() {
+        let Some(head) = next_line(reader) else {
+            break;
+        };
+        entrance.read_line(alloc, head, setup, &mut wants, reader)?;
+        reader.end()?;
+    }
+    reader.line = line;
+    run_all(alloc, bench, setup, Some(&entrance), &wants)
 }
 
 /// Reads a case of a listing, and assembles it.
@@ -155,6 +181,7 @@ fn do_kind(
 ) -> Result<(), Difference> {
     let done = match look_up(&KINDS, word) {
         Some(Kind::Block) => block_case(alloc, bench, setup, reader),
+        Some(Kind::Entrance) => entrance_case(alloc, bench, setup, reader),
         Some(Kind::Listing) => listing_case(alloc, reader),
         Some(Kind::Machine) => machine_case(alloc, bench, reader),
         Some(Kind::Memory) => memory_case(bench, reader),

@@ -15,6 +15,8 @@ pub enum Difference {
     Unread,
     /// The case wants nothing.
     WantsNothing,
+    /// The lines are no block.
+    NoBlock,
     /// The lines aren't assembled.
     Refused(AsmFault),
     /// They are, or are moved, and that isn't wanted.
@@ -43,6 +45,7 @@ impl Difference {
         match self {
             Difference::Unread => "the line isn't of the notation",
             Difference::WantsNothing => "the case wants nothing",
+            Difference::NoBlock => "the lines are no block",
             Difference::Done => "not refused",
             Difference::Endless => "no end",
             Difference::NoInstruction => "no such instruction",

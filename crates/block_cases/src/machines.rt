@@ -1,6 +1,6 @@
 //! Cases of machines: bytes and registers, and what steps and calls make of them.
 
-use crate::bench::{Bench, IDLE, same_others, same_registers};
+use crate::bench::{Bench, IDLE, same_registers};
 use crate::difference::{Difference, same, same_byte};
 use crate::words::Reader;
 use case_text::look_up;
@@ -214,8 +214,7 @@ impl MachineCase {
         reader.end()?;
         self.wants = true;
         self.is_open = false;
-        same_registers(bench.machine.cpu, wanted)?;
-        same_others(bench.machine.cpu, wanted)
+        same_registers(bench.machine.cpu, wanted)
     }
 
     /// Reads a line of the case, and does it.

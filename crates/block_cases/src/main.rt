@@ -1,25 +1,31 @@
-//! Cases of blocks, of listings and of machines, which stand in files.
+//! Cases of blocks, of entrances, of listings and of machines, which stand in files.
 //!
-//! A case of a block is lowered, assembled and run on the machine, and what stands behind its last line is compared
-//! with what the case says: A, Y and flags, and memory. A case of a listing is assembled, or refused; a case of a
-//! machine is stepped and called. What the cases want was worked by hand, or by a second reading of what blocks mean
-//! (`bench/block_cases.py`). Each case that differs is told by its file and line; one that can't be read differs too.
-//! A denial is a case that has to differ. The notation is in `docs/block-cases.md`.
+//! A block of the language of scopes is lowered, assembled and run on the machine, and what stands behind its last line
+//! is compared with what its case says: registers and flags, and memory; an entrance is called through its label. A
+//! case of a listing is assembled, or refused; a case of a machine is stepped and called. What the cases want was
+//! worked by hand, or by a second reading of what blocks mean (`bench/block_cases.py`). Each case that differs is told
+//! by its file and line; one that can't be read differs too. A denial is a case that has to differ. The notation is
+//! in `docs/block-cases.md`.
 //!
-//! It has no contract above it but that a case that differs isn't counted as one that agrees. It stands on `lowering`
-//! for lines, on `asm6502` for their bytes, on `cpu6502` for the machine, and on `case_text` for the count.
+//! Its one contract is that a case that differs isn't counted as one that agrees; and whether lines are a block is told
+//! exactly. It stands on `scope_lines` and `scope_calls` for lines, on `asm6502` for their bytes, on `cpu6502` for the
+//! machine, and on `case_text` for the count.
 #![tactic(auto)]
 
 mod bench;
-mod block_cases;
 mod cases;
 mod difference;
+mod form;
 mod instructions;
 mod listings;
 mod machines;
-mod notation;
 mod numbers;
-mod steps;
+mod reach;
+mod runs;
+mod setup;
+mod sizes;
+mod text;
+mod wants;
 mod words;
 
 use bench::Bench;

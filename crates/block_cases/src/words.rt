@@ -4,7 +4,7 @@ use crate::difference::Difference;
 use case_text::look_up;
 use std::alloc::{AllocError, Global};
 
-/// A word, or one of the marks `[`, `]`, `,` and `*`.
+/// A word, or one of the marks `,` and `*`.
 #[derive(Clone, Copy)]
 pub struct Word<'a> {
     /// Its bytes.
@@ -17,7 +17,7 @@ pub struct Word<'a> {
 
 /// Whether a byte is a mark.
 fn is_mark(byte: u8) -> bool {
-    matches!(byte, b'[' | b']' | b',' | b'*')
+    matches!(byte, b',' | b'*')
 }
 
 /// Adds a word, if it has bytes.
@@ -187,7 +187,8 @@ impl<'a> Reader<'a> {
         }
     }
 
-    /// Reads the next word, and answers what stands for it in a table; where nothing does, which is noted, another value.
+    /// Reads the next word, and answers what stands for it in a table; where nothing does, which is noted, another
+    /// value.
     pub fn one_of<T: Copy>(&mut self, table: &[(&[u8], T)], otherwise: T) -> T {
         let value = look_up(table, self.word());
         self.known(value, otherwise)

@@ -24,7 +24,7 @@ use Rattle.kept_lines.proofs.Sums.{bits_are, none_above}
 -- ---- sets
 
 -- behind the last condition none holds
-no_more : (features : ℕ) (options : Options) (condition : ℕ) → 34 ≤ condition →
+pub no_more : (features : ℕ) (options : Options) (condition : ℕ) → 34 ≤ condition →
     keeps features options condition ≡ false
 no_more features options condition behind =
     rw (

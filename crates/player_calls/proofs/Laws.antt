@@ -1,6 +1,7 @@
 -- What upper crates may cite of the proofs of this crate.
 
--- players play, by their image's bytes alone, and hold the start as they are built
+-- players play, by their image's bytes alone, and hold the start as they are built; a packed song that stands for a song
+-- has a subtune
 pub use Rattle.player_calls.proofs.Served.{players_play}
 pub use Rattle.player_calls.proofs.Isolated.{players_are_isolated}
-pub use Rattle.player_calls.proofs.Loaded.{players_hold_the_start}
+pub use Rattle.player_calls.proofs.Loaded.{players_hold_the_start, songs_have_subtunes}

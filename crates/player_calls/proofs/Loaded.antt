@@ -40,12 +40,15 @@ pub plays_at : {packed : PackedSong} {song : Song} {o : Options} {bytes : List �
 plays_at {packed = packed} {song = song} plan p k below =
     subst (λ n. k < n) (sym (all_play packed song p.stands)) below
 
+pub songs_have_subtunes : (packed : PackedSong) (song : Song) → StandsFor packed song → 0 < length packed.subtunes
+songs_have_subtunes packed song stands =
+    subst (λ n. 0 < n) (all_play packed song stands)
+    (some_items (playable_subtunes (unpacked_song packed))
+    (whole_lem (unpacked_song packed) stands.complete.playable).subtune)
+
 pub some_subtunes : {packed : PackedSong} {song : Song} {o : Options} {bytes : List ℕ} (plan : Plan) →
     IsPlayer plan packed song o bytes → 0 < length packed.subtunes
-some_subtunes {packed = packed} {song = song} plan p =
-    subst (λ n. 0 < n) (all_play packed song p.stands)
-    (some_items (playable_subtunes (unpacked_song packed))
-    (whole_lem (unpacked_song packed) p.stands.complete.playable).subtune)
+some_subtunes {packed = packed} {song = song} plan p = songs_have_subtunes packed song p.stands
 
 -- ---- the image
 

@@ -1,6 +1,6 @@
 -- What is made of an image's listing: nothing is wrong with it, it is within the assembler's limits, and it takes the
 -- bytes of an image.
-use Rattle.std.proofs.Common.{◌≡◌, ℕ, ◌+◌, ◌<◌, ◌≤◌, List, length, None}
+use Rattle.std.proofs.Common.{◌≡◌, ℕ, ◌+◌, ◌≤◌, List, length, None}
 use Rattle.std.proofs.Common.{sym, ap, ◌∙◌, subst, arith}
 use Rattle.std.proofs.Common.{length-append}
 use Rattle.play_model.specs.declared.options.Options.{Options}
@@ -20,11 +20,11 @@ use Rattle.player_image.specs.Images.{image_holds, code_bytes, plan_of, IsListin
 use Rattle.player_image.proofs.Made.{plan_is}
 
 module _ (packed : PackedSong) (o : Options) (origin pointer : ℕ) (speed : IsSpeed o.speed) (counts : KeepsCounts packed)
-    (some : 0 < length packed.subtunes) (low : 2 ≤ pointer) (high : pointer ≤ 254)
+    (low : 2 ≤ pointer) (high : pointer ≤ 254)
     (fits : origin + image_size packed o ≤ 0xD000) (listing : List Line)
     (is : IsListingOf packed o origin pointer listing) where
   plan_here : IsPlan (plan_of packed o origin pointer is.variables is.lists)
-  plan_here = plan_is packed o origin pointer speed counts some low high is.variables is.lists is.all is.has_lines
+  plan_here = plan_is packed o origin pointer speed counts low high is.variables is.lists is.all is.has_lines
 
   pub its_size : plan_size (plan_of packed o origin pointer is.variables is.lists) ≡ image_size packed o
   its_size =

@@ -11,3 +11,9 @@ mod Whole
 mod Made
 mod Assembled
 mod WorkedImages
+-- There is one, and what the system changes in it.
+mod Begun
+mod Places
+mod Alone
+mod Timer
+mod Systems

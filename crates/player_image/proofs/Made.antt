@@ -1,49 +1,29 @@
 -- The listing that is made is an image's, and nothing is wrong with it.
 use Rattle.std.proofs.Common.{◌≡◌, ℕ, ◌+◌, ◌<◌, ◌≤◌, Bool, List, ◌++◌, length, slice_index, sym}
-use Rattle.std.proofs.Common.{ap, ◌∙◌, subst, arith}
+use Rattle.std.proofs.Common.{ap, ◌∙◌, subst}
 use Rattle.play_model.specs.declared.options.Options.{Options}
 use Rattle.play_model.specs.Speeds.{IsSpeed}
 use Rattle.packed_form.specs.declared.packed_songs.PackedSong.{PackedSong}
 use Rattle.asm6502.specs.declared.lines.Line.{Line}
-use Rattle.scopes.specs.Desk.{Layout}
 use Rattle.scope_lines.specs.Readings.{holds_in}
 use Rattle.player_memory.specs.declared.conditions.TheConstants.{NOTE_DEPENDENT}
-use Rattle.player_memory.specs.declared.labels.TheConstants.{VARIABLES, ORDERS}
-use Rattle.player_memory.specs.Holds.{order_label}
-use Rattle.player_memory.specs.declared.variables.TheConstants.{SONG_BYTES}
-use Rattle.player_memory.specs.Playing.{own_at}
-use Rattle.player_memory.specs.Starting.{SongRowsBegin, Begins}
+use Rattle.player_memory.specs.declared.labels.TheConstants.{VARIABLES}
+use Rattle.player_memory.specs.Starting.{Begins}
 use Rattle.player_text.specs.declared.texts.Start.{Start}
 use Rattle.frame_code.specs.InitBlock.{start_of}
 use Rattle.kept_lines.specs.KeptLines.{kept_set}
 use Rattle.song_lists.specs.DataLists.{HasLines, AreFirstOrders, order_places}
-use Rattle.song_lists.specs.Marks.{mark_at}
 use Rattle.song_lists.specs.ListLaws.{KeepsCounts}
-use Rattle.song_lists.proofs.Laws.{labels_have_places, first_orders_are_marked}
 use Rattle.player_code.specs.CodeLines.{code_lines}
 use Rattle.player_code.specs.CodeLaws.{code_takes}
-use Rattle.player_code.specs.Plans.{IsPlan, plan_layout}
-use Rattle.player_code.proofs.Laws.{labels_stand_in_place, code_takes_its_blocks}
-use Rattle.player_image.specs.Images.{image_holds, code_bytes, plan_of, numbered, IsListingOf}
+use Rattle.player_code.specs.Plans.{IsPlan}
+use Rattle.player_code.proofs.Laws.{code_takes_its_blocks}
+use Rattle.player_image.specs.Images.{image_holds, code_bytes, plan_of, numbered, first_order, IsListingOf}
 use Rattle.player_image.proofs.Lists.{lists_are_data}
-use Rattle.player_image.proofs.Whole.{start_bytes}
-
--- the addresses that count are those of the three voices
-addressed : (layout : Layout) (tempo funk : ℕ) (one two : ℕ → ℕ) (at : ℕ → ℕ) →
-    ((voice : ℕ) → voice < 3 → one voice ≡ two voice) →
-    Begins layout tempo funk one at → Begins layout tempo funk two at
-addressed layout tempo funk one two at same begins = record {
-  voices = λ voice few.
-      let mine = begins.voices voice few in record {
-        state = mine.state;
-        song = subst (λ address. SongRowsBegin SONG_BYTES address (own_at layout at voice)) (same voice few) mine.song;
-      };
-  common = begins.common;
-  handed = begins.handed;
-}
+use Rattle.player_image.proofs.Whole.{start_bytes, addressed}
 
 module _ (packed : PackedSong) (o : Options) (origin pointer : ℕ) (speed : IsSpeed o.speed) (counts : KeepsCounts packed)
-    (some : 0 < length packed.subtunes) (low : 2 ≤ pointer) (high : pointer ≤ 254) where
+    (low : 2 ≤ pointer) (high : pointer ≤ 254) where
   pub plan_is : (variables : List ℕ) (lists : List Line) → length variables ≡ VARIABLES →
       HasLines (image_holds packed o NOTE_DEPENDENT) packed (origin + code_bytes packed o pointer variables) lists →
       IsPlan (plan_of packed o origin pointer variables lists)
@@ -55,20 +35,6 @@ module _ (packed : PackedSong) (o : Options) (origin pointer : ℕ) (speed : IsS
     lists = lists_are_data (image_holds packed o NOTE_DEPENDENT) packed (origin + code_bytes packed o pointer variables)
         lists counts has;
   }
-
-  order_address : (variables : List ℕ) (lists : List Line) → length variables ≡ VARIABLES →
-      HasLines (image_holds packed o NOTE_DEPENDENT) packed (origin + code_bytes packed o pointer variables) lists →
-      (voice : ℕ) → voice < 3 →
-      (plan_layout (plan_of packed o origin pointer variables lists)).address (order_label 0 voice)
-      ≡ origin + code_bytes packed o pointer variables
-      + slice_index (order_places (image_holds packed o NOTE_DEPENDENT) packed) voice
-  order_address variables lists all has voice few =
-      ap (plan_layout (plan_of packed o origin pointer variables lists)).address (omega arith)
-      ∙ (labels_stand_in_place (plan_of packed o origin pointer variables lists) (plan_is variables lists all has)).lists
-      (ORDERS + voice) _
-      (labels_have_places (image_holds packed o NOTE_DEPENDENT) packed (origin + code_bytes packed o pointer variables)
-      lists (mark_at (ORDERS + voice) (slice_index (order_places (image_holds packed o NOTE_DEPENDENT) packed) voice))
-      counts has (first_orders_are_marked (image_holds packed o NOTE_DEPENDENT) packed voice few some))
 
   -- the lines that come of the numbers as they are made
   pub listing_is : (variables orders : List ℕ) (set first : ℕ) (start : Start) (dependent : Bool)
@@ -85,9 +51,8 @@ module _ (packed : PackedSong) (o : Options) (origin pointer : ℕ) (speed : IsS
         lists = lists;
         all = all;
         has_lines = lines;
-        first = addressed numbered (start_of o).tempo (start_of o).funk (λ voice. slice_index orders voice) _
-            (slice_index variables)
-            (λ voice few. place voice few ∙ sym (order_address variables lists all lines voice few)) start_is;
+        first = addressed numbered (start_of o).tempo (start_of o).funk (λ voice. slice_index orders voice)
+            (first_order packed o origin pointer variables) (slice_index variables) place start_is;
         are = is ∙ ap (λ ls. ls ++ lists) code_is;
       }
     where

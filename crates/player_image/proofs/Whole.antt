@@ -1,5 +1,5 @@
 -- Each image is a player, and so plays its song.
-use Rattle.std.proofs.Common.{◌≡◌, ℕ, ◌+◌, ◌<◌, List, length, slice_index, refl, ap, ◌∙◌, subst}
+use Rattle.std.proofs.Common.{◌≡◌, ℕ, ◌+◌, ◌<◌, List, length, slice_index, refl, sym, ap, ◌∙◌, subst}
 use Rattle.std.proofs.Common.{arith}
 use Rattle.song_model.specs.declared.songs.Song.{Song}
 use Rattle.play_model.specs.declared.options.Options.{Options}
@@ -11,15 +11,23 @@ use Rattle.packed_form.specs.StandsFor.{StandsFor}
 use Rattle.asm6502.specs.Assembly.{assembled_bytes}
 use Rattle.asm6502.specs.Standing.{BytesStand}
 use Rattle.player_memory.specs.Holds.{order_label}
-use Rattle.player_memory.specs.Starting.{Begins}
+use Rattle.player_memory.specs.declared.labels.TheConstants.{ORDERS}
+use Rattle.player_memory.specs.declared.variables.TheConstants.{SONG_BYTES}
+use Rattle.player_memory.specs.Playing.{own_at}
+use Rattle.player_memory.specs.Starting.{SongRowsBegin, Begins}
+use Rattle.scopes.specs.Desk.{Layout}
+use Rattle.song_lists.specs.DataLists.{order_places}
+use Rattle.song_lists.specs.Marks.{mark_at}
+use Rattle.song_lists.proofs.Laws.{labels_have_places, first_orders_are_marked}
 use Rattle.player_text.specs.Facts.{HasBytes}
 use Rattle.player_memory.specs.declared.conditions.TheConstants.{NOTE_DEPENDENT}
 use Rattle.frame_code.specs.InitBlock.{start_of}
 use Rattle.kept_lines.proofs.Laws.{sets_keep_their_lines}
 use Rattle.player_code.specs.Plans.{Plan, IsPlan, plan_lines, plan_size, plan_layout}
 use Rattle.player_calls.specs.Players.{IsPlayer, HasImage}
-use Rattle.player_calls.proofs.Laws.{players_play, players_are_isolated, players_hold_the_start}
-use Rattle.player_image.specs.Images.{image_holds, code_bytes, plan_of, numbered, IsImageOf}
+use Rattle.player_code.proofs.Laws.{labels_stand_in_place}
+use Rattle.player_calls.proofs.Laws.{players_play, players_are_isolated, players_hold_the_start, songs_have_subtunes}
+use Rattle.player_image.specs.Images.{image_holds, code_bytes, plan_of, numbered, first_order, IsImageOf}
 use Rattle.player_image.specs.ImageLaws.{Stands, ImagesArePlayers, ImagesPlay}
 use Rattle.player_image.proofs.Lists.{lists_are_data}
 use Rattle.player_image.proofs.Laying.{Laid, reads, reads_variables, reads_lists, writes, sets_timer, player_layout}
@@ -42,6 +50,20 @@ start_bytes o speed =
       timer_high = omega (arith, timer);
     }
 
+-- the addresses that count are those of the three voices
+pub addressed : (layout : Layout) (tempo funk : ℕ) (one two : ℕ → ℕ) (at : ℕ → ℕ) →
+    ((voice : ℕ) → voice < 3 → one voice ≡ two voice) →
+    Begins layout tempo funk one at → Begins layout tempo funk two at
+addressed layout tempo funk one two at same begins = record {
+  voices = λ voice few.
+      let mine = begins.voices voice few in record {
+        state = mine.state;
+        song = subst (λ address. SongRowsBegin SONG_BYTES address (own_at layout at voice)) (same voice few) mine.song;
+      };
+  common = begins.common;
+  handed = begins.handed;
+}
+
 module _ (packed : PackedSong) (song : Song) (o : Options) (origin pointer : ℕ) (bytes : List ℕ)
     (image : IsImageOf packed o origin pointer bytes) (s : Stands packed o origin pointer bytes image)
     (stands : StandsFor packed song) where
@@ -61,6 +83,20 @@ module _ (packed : PackedSong) (song : Song) (o : Options) (origin pointer : ℕ
       let ends = s.ends in
       record { is = its_plan; counts = s.counts; has = image.its.has_lines; begins = s.begins; ends = omega (arith, size, ends) }
 
+  -- where the first subtune's orderlists stand
+  order_address : (voice : ℕ) → voice < 3 →
+      (plan_layout (plan_of packed o origin pointer image.its.variables image.its.lists)).address (order_label 0 voice)
+      ≡ first_order packed o origin pointer image.its.variables voice
+  order_address voice few =
+      ap (plan_layout (plan_of packed o origin pointer image.its.variables image.its.lists)).address (omega arith)
+      ∙ (labels_stand_in_place (plan_of packed o origin pointer image.its.variables image.its.lists) its_plan).lists
+      (ORDERS + voice) _
+      (labels_have_places (image_holds packed o NOTE_DEPENDENT) packed
+      (origin + code_bytes packed o pointer image.its.variables) image.its.lists
+      (mark_at (ORDERS + voice) (slice_index (order_places (image_holds packed o NOTE_DEPENDENT) packed) voice))
+      s.counts image.its.has_lines
+      (first_orders_are_marked (image_holds packed o NOTE_DEPENDENT) packed voice few (songs_have_subtunes packed song stands)))
+
   first : (at : ℕ → ℕ) → HasImage (plan_of packed o origin pointer image.its.variables image.its.lists) at →
       Begins (plan_layout (plan_of packed o origin pointer image.its.variables image.its.lists)) (start_of o).tempo
       (start_of o).funk
@@ -68,10 +104,13 @@ module _ (packed : PackedSong) (song : Song) (o : Options) (origin pointer : ℕ
       (plan_layout (plan_of packed o origin pointer image.its.variables image.its.lists)).address (order_label 0 voice))
       at
   first at has =
-      begins_moved numbered (plan_layout (plan_of packed o origin pointer image.its.variables image.its.lists))
+      addressed (plan_layout (plan_of packed o origin pointer image.its.variables image.its.lists)) (start_of o).tempo
+      (start_of o).funk (first_order packed o origin pointer image.its.variables) _ at
+      (λ voice few. sym (order_address voice few))
+      (begins_moved numbered (plan_layout (plan_of packed o origin pointer image.its.variables image.its.lists))
       (start_of o).tempo (start_of o).funk _ (slice_index image.its.variables) at
       (λ label below. variables_stand packed o origin pointer image.its.variables image.its.lists laid at has label below)
-      image.its.first
+      image.its.first)
 
   is_player : IsPlayer (plan_of packed o origin pointer image.its.variables image.its.lists) packed song o bytes
   is_player =

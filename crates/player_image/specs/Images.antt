@@ -10,15 +10,14 @@ use Rattle.scopes.specs.Desk.{Layout}
 use Rattle.scope_lines.specs.Readings.{holds_in}
 use Rattle.player_memory.specs.declared.conditions.TheConstants.{NOTE_DEPENDENT, TIMED}
 use Rattle.player_memory.specs.declared.labels.TheConstants.{VARIABLES}
-use Rattle.player_memory.specs.Holds.{order_label}
 use Rattle.player_memory.specs.Starting.{Begins}
 use Rattle.frame_code.specs.InitBlock.{start_of}
 use Rattle.kept_lines.specs.KeptLines.{kept_set}
-use Rattle.song_lists.specs.DataLists.{HasLines}
+use Rattle.song_lists.specs.DataLists.{HasLines, order_places}
 use Rattle.song_lists.specs.ListLaws.{lists_size}
 use Rattle.player_code.specs.CodeLines.{code_lines}
 use Rattle.player_code.specs.CodeLaws.{code_takes}
-use Rattle.player_code.specs.Plans.{Plan, plan_lines, plan_layout}
+use Rattle.player_code.specs.Plans.{Plan, plan_lines}
 
 -- which conditions hold
 abbrev pub image_holds : PackedSong → Options → ℕ → Bool
@@ -67,6 +66,12 @@ numbered = record {
   may_write = λ place. false;
 }
 
+-- the address of a voice's orderlist in the first subtune: the lists stand behind the code
+abbrev pub first_order : PackedSong → Options → ℕ → ℕ → List ℕ → ℕ → ℕ
+first_order packed o origin pointer variables voice =
+    origin + code_bytes packed o pointer variables
+    + slice_index (order_places (image_holds packed o NOTE_DEPENDENT) packed) voice
+
 -- A listing of an image: the lists stand behind the code, and the variables begin as the first subtune does.
 pub record IsListingOf (packed : PackedSong) (o : Options) (origin pointer : ℕ) (listing : List Line) : Type 0 where
   pub variables : List ℕ
@@ -75,8 +80,7 @@ pub record IsListingOf (packed : PackedSong) (o : Options) (origin pointer : ℕ
   pub has_lines : HasLines (image_holds packed o NOTE_DEPENDENT) packed
       (origin + code_bytes packed o pointer variables) lists
   pub first : Begins numbered (start_of o).tempo (start_of o).funk
-      (λ voice. (plan_layout (plan_of packed o origin pointer variables lists)).address (order_label 0 voice))
-      (slice_index variables)
+      (first_order packed o origin pointer variables) (slice_index variables)
   pub are : listing ≡ plan_lines (plan_of packed o origin pointer variables lists)
 
 -- an image: the bytes of its listing

@@ -1,6 +1,7 @@
 //! Facts about images, each the contract of a function that does nothing.
 
 ghost use Rattle.player_image.specs.ImageLaws.{ImagesArePlayers, ImagesPlay};
+ghost use Rattle.player_image.specs.Systems.{ImagesAreOne, SystemsShareImages, TimerCodesAreWorked};
 ghost use Rattle.player_image.specs.WorkedImages.{PlacesAreWorked};
 
 /// An image of a packed song that stands for a song is a player, where it stands from `$0800` up to `$D000` and its
@@ -9,6 +10,18 @@ ghost use Rattle.player_image.specs.WorkedImages.{PlacesAreWorked};
 pub fn images_play()
     ensures players { ImagesArePlayers }
     ensures play { ImagesPlay }
+{}
+
+/// A packed song has one image for a place, a pointer and options.
+pub fn images_are_one()
+    ensures { ImagesAreOne }
+{}
+
+/// Images for two systems are the same bytes where the play call comes once a picture, and else all but the two numbers
+/// that the timer is set to.
+pub fn systems_share_images()
+    ensures alike { SystemsShareImages }
+    ensures worked { TimerCodesAreWorked }
 {}
 
 /// Where the blocks of an image at `$1000` may read and write, and where they may not.

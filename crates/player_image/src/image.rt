@@ -1,6 +1,6 @@
 //! From a packed song to its image.
 
-ghost use Rattle.std.specs.Prelude.{◌≡◌, ◌+◌, ◌<◌, ◌≤◌, None, length, IfOk};
+ghost use Rattle.std.specs.Prelude.{◌≡◌, ◌+◌, ◌≤◌, None, length, IfOk};
 ghost use Rattle.base.specs.Bytes.{AreBytes};
 ghost use Rattle.play_model.specs.Speeds.{IsSpeed};
 ghost use Rattle.asm6502.specs.Lines.{kept, size_of, data_size};
@@ -9,9 +9,10 @@ ghost use Rattle.asm6502.specs.Faults.{fault_of};
 ghost use Rattle.song_lists.specs.ListLaws.{KeepsCounts};
 ghost use Rattle.player_image.specs.Images.{IsListingOf, IsImageOf, image_size};
 
-use crate::variables::{start_of, start_variables};
+use crate::variables::start_variables;
 use asm6502::{AsmFault, Listing, MOST_BYTES, MOST_LINES, PartSet, assemble};
 use base::{ByteList, NoMemory};
+use image_parts::start_of;
 use kept_lines::conditions;
 use packed_form::PackedSong;
 use play_model::Options;
@@ -38,7 +39,6 @@ fn image_listing(
     zero_page: u8,
     options: &Options,
 ) -> Result<Listing, NoMemory>
-    requires some { 0 < length packed.now.subtunes }
     requires low { 2 ≤ zero_page }
     requires high { zero_page ≤ 254 }
     requires fits { origin + image_size packed.now options.now ≤ 0xD000 }
@@ -81,7 +81,7 @@ fn assembled(alloc: Global, listing: &Listing, origin: u16) -> Result<ByteList, 
     }
 }
 
-/// The image of a packed song that has a subtune, to stand at an address, from which it ends at or below `$D000`. Its
+/// The image of a packed song, to stand at an address, from which it ends at or below `$D000`. Its
 /// pointer is at two bytes of page 0, from 2 to 254.
 ///
 /// # Errors
@@ -94,7 +94,6 @@ pub fn image_of(
     zero_page: u8,
     options: &Options,
 ) -> Result<ByteList, NoMemory>
-    requires some { 0 < length packed.now.subtunes }
     requires low { 2 ≤ zero_page }
     requires high { zero_page ≤ 254 }
     requires fits { origin + image_size packed.now options.now ≤ 0xD000 }

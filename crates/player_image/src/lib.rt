@@ -17,4 +17,4 @@ pub use base::{ByteList, NoMemory};
 pub use image::image_of;
 pub use packed_form::PackedSong;
 pub use play_model::Options;
-pub use variables::{start_of, start_variables};
+pub use variables::start_variables;

@@ -1,4 +1,4 @@
-//! What an image begins with: the numbers with which a subtune begins, and the bytes of the variables.
+//! The bytes with which an image's variables begin.
 
 ghost use Rattle.std.specs.Prelude.{◌≡◌, ◌+◌, ◌/◌, ◌%◌, ◌≤◌, length, slice_index, slice_set};
 ghost use Rattle.player_memory.specs.declared.labels.TheConstants.{VARIABLES};
@@ -6,25 +6,11 @@ ghost use Rattle.player_memory.specs.Starting.{Begins};
 ghost use Rattle.frame_code.specs.InitBlock.{start_of};
 ghost use Rattle.player_image.specs.Images.{numbered};
 
+use image_parts::start_of;
 use play_model::Options;
 use player_memory::labels::{
     FUNK_ONE, FUNK_TWO, GATE, INSTRUMENT, ORDER_HIGH, ORDER_LOW, TEMPO, TICK, VIB_DELAY, VOLUME,
 };
-use player_text::texts::Start;
-
-/// The numbers with which a subtune begins: the tempos, and the timer's value.
-pub fn start_of(options: &Options) -> Start
-    ensures { result ≡ start_of options.now }
-{
-    let speed = options.speed.calls();
-    let timer = options.timer_value();
-    Start {
-        tempo: 6 * speed - 1,
-        funk: 9 * speed - 1,
-        timer_low: (timer % 256) as u8,
-        timer_high: (timer / 256) as u8,
-    }
-}
 
 /// Sets the bytes of a voice that don't begin with 0. They stand `behind` bytes behind those of the first voice, and the
 /// voice's orderlist has this address.

@@ -26,7 +26,7 @@ pub(crate) fn mode_of(operand: Operand) -> Mode
 }
 
 /// The bytes of a line that opens nothing.
-pub(crate) fn own_size(line: &Line) -> u16
+pub fn own_size(line: &Line) -> u16
     ensures { result ≡ own_size line.now }
 {
     match line {

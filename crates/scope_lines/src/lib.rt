@@ -17,5 +17,6 @@ mod worked;
 
 pub use asm6502::Listing;
 pub use base::NoMemory;
-pub use lowered::{Conditions, Place, lower, size_of};
+pub use instructions::own_size;
+pub use lowered::{Conditions, Place, lower, measure, size_of};
 pub use scopes::Line;

@@ -30,8 +30,9 @@ impl Conditions {
     }
 }
 
-/// The bytes of the lines up to the end of what is open, and the lines behind it.
-fn measure<'a>(lines: &'a [Line], conditions: Conditions) -> (u16, &'a [Line])
+/// The bytes of the lines up to the end of what is open, of which those are kept whose conditions hold, and the lines
+/// behind it.
+pub fn measure<'a>(lines: &'a [Line], conditions: Conditions) -> (u16, &'a [Line])
     requires is_open { are_open (opened lines.now) ≡ true }
     requires room { length lines.now ≤ 21800 }
     ensures size { result.0 ≡ size (holds_in conditions.0) (first_of (opened lines.now)) }

@@ -6,7 +6,7 @@ use Rattle.player_image.proofs.image.image_listing.Goals as goal
 pub returns : goal.returns
 returns c =
     listing_is c.args.packed.now c.args.options.now c.args.origin c.args.zero_page c.keep_limits.ensures.speed
-    c.keep_limits.ensures.counts c.requires.some c.requires.low c.requires.high c.start_variables-variables.result
+    c.keep_limits.ensures.counts c.requires.low c.requires.high c.start_variables-variables.result
     c.in_ok-orders.orders c.conditions-conditions.result.0 (c.args.origin + c.in_ok-first.field-0)
     c.start_of-start.result c.hold-dependent.result c.in_ok-listing.listing c.in_ok-lists.lists c.append.new.self
     c.start_variables-variables.ensures.size

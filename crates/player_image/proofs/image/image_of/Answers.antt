@@ -13,19 +13,19 @@ if_ok (Err e) more holds = tt
 pub assembled-requires-clause-lines : goal.assembled-requires-clause-lines
 assembled-requires-clause-lines c =
     few_lines c.args.packed.now c.args.options.now c.args.origin c.args.zero_page c.keep_limits.ensures.speed
-    c.keep_limits.ensures.counts c.requires.some c.requires.low c.requires.high c.requires.fits c.in_ok-listing.listing
+    c.keep_limits.ensures.counts c.requires.low c.requires.high c.requires.fits c.in_ok-listing.listing
     c.in_ok-listing.ensures
 
 pub assembled-requires-clause-bytes : goal.assembled-requires-clause-bytes
 assembled-requires-clause-bytes c =
     few_bytes c.args.packed.now c.args.options.now c.args.origin c.args.zero_page c.keep_limits.ensures.speed
-    c.keep_limits.ensures.counts c.requires.some c.requires.low c.requires.high c.requires.fits c.in_ok-listing.listing
+    c.keep_limits.ensures.counts c.requires.low c.requires.high c.requires.fits c.in_ok-listing.listing
     c.in_ok-listing.ensures
 
 pub assembled-requires-clause-right : goal.assembled-requires-clause-right
 assembled-requires-clause-right c =
     nothing_wrong c.args.packed.now c.args.options.now c.args.origin c.args.zero_page c.keep_limits.ensures.speed
-    c.keep_limits.ensures.counts c.requires.some c.requires.low c.requires.high c.requires.fits c.in_ok-listing.listing
+    c.keep_limits.ensures.counts c.requires.low c.requires.high c.requires.fits c.in_ok-listing.listing
     c.in_ok-listing.ensures
 
 pub returns-clause-image : goal.returns-clause-image
@@ -33,7 +33,7 @@ returns-clause-image c =
     if_ok c.assembled.result
     (λ bytes are.
     image_is c.args.packed.now c.args.options.now c.args.origin c.args.zero_page c.keep_limits.ensures.speed
-    c.keep_limits.ensures.counts c.requires.some c.requires.low c.requires.high c.requires.fits c.in_ok-listing.listing
+    c.keep_limits.ensures.counts c.requires.low c.requires.high c.requires.fits c.in_ok-listing.listing
     c.in_ok-listing.ensures bytes are)
     c.assembled.ensures.bytes
 
@@ -42,6 +42,6 @@ returns-clause-size c =
     if_ok c.assembled.result
     (λ bytes size.
     size_here c.args.packed.now c.args.options.now c.args.origin c.args.zero_page c.keep_limits.ensures.speed
-    c.keep_limits.ensures.counts c.requires.some c.requires.low c.requires.high c.requires.fits c.in_ok-listing.listing
+    c.keep_limits.ensures.counts c.requires.low c.requires.high c.requires.fits c.in_ok-listing.listing
     c.in_ok-listing.ensures bytes size)
     c.assembled.ensures.size

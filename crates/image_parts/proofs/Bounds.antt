@@ -1,0 +1,129 @@
+-- Bounds of the parts and of an image.
+use Rattle.std.proofs.Common.{◌≡◌, ℕ, ◌+◌, ◌*◌, ◌<◌, ◌≤◌, nat_le, Bool, true}
+use Rattle.std.proofs.Common.{List, ◌++◌, replicate, refl, arith, inl, inr}
+use Rattle.std.proofs.lemmas.Bool.{cases_lt, cases_Bool, agree_below_at, leb-true, ne_eqb}
+use Rattle.std.proofs.lemmas.List.Folds.{sum_by-replicate}
+use Rattle.std.proofs.lemmas.List.Sums.{sum_by-append}
+use Rattle.play_model.specs.declared.options.Options.{Options}
+use Rattle.packed_form.specs.CodeBounds.{kept_parts}
+use Rattle.scopes.specs.Trees.{Tree}
+use Rattle.scope_lines.specs.Readings.{holds_in}
+use Rattle.scope_lines.proofs.Laws.{sizes_are_bounded}
+use Rattle.scope_parts.specs.Parts.{parts, bytes_of}
+use Rattle.scope_parts.specs.PartLaws.{most_of}
+use Rattle.scope_parts.proofs.Laws.{parts_are_bounded}
+use Rattle.player_memory.specs.declared.conditions.TheConstants.{NOTE_DEPENDENT}
+use Rattle.player_text.specs.Texts.{filter_tree, voice_tree, init_tree}
+use Rattle.player_text.specs.declared.texts.Start.{Start}
+use Rattle.player_text.proofs.Laws.{are_measured}
+use Rattle.frame_code.specs.InitBlock.{start_of}
+use Rattle.kept_lines.specs.KeptLines.{uses, kept_set}
+use Rattle.kept_lines.proofs.Laws.{no_more}
+use Rattle.image_parts.specs.CodeParts.{always, code_parts, code_length}
+use Rattle.image_parts.specs.Lengths.{slide_bytes}
+use Rattle.image_parts.specs.PartLaws.{PartsAreShort, CodeIsBounded, ImagesAreBounded}
+use Rattle.image_parts.proofs.Counts.{one_if}
+use Rattle.image_parts.proofs.Sums.{around, code_takes_its_parts, unkept_parts_have_none}
+
+-- ---- parts
+
+both : (part : ℕ) (one other : List ℕ) → bytes_of part (one ++ other) ≡ bytes_of part one + bytes_of part other
+both part one other = sum_by-append (one_if part) one other
+
+plain_is : (part n : ℕ) → bytes_of part (replicate n always) ≡ n * one_if part always
+plain_is part n = sum_by-replicate (one_if part) n always
+
+-- the most that stands in three blocks and around them
+abbrev most_around : ℕ → Tree → Tree → Tree → ℕ
+most_around part filter voice init =
+    138 * one_if part always + most_of part always filter + most_of part always voice + most_of part always init
+
+around_most : (holds : ℕ → Bool) (part : ℕ) (filter voice init : Tree) →
+    bytes_of part (around holds filter voice init) ≤ most_around part filter voice init
+around_most holds part filter voice init =
+    let last = replicate 1 always in
+    let after_voice = replicate 5 always ++ (parts holds always init ++ last) in
+    let after_calls = parts holds always voice ++ after_voice in
+    let after_filter = replicate 12 always ++ after_calls in
+    let a = both part (replicate 120 always) (parts holds always filter ++ after_filter) in
+    let b = both part (parts holds always filter) after_filter in
+    let c = both part (replicate 12 always) after_calls in
+    let d = both part (parts holds always voice) after_voice in
+    let e = both part (replicate 5 always) (parts holds always init ++ last) in
+    let f = both part (parts holds always init) last in
+    let n = plain_is part 120 in
+    let m = plain_is part 12 in
+    let l = plain_is part 5 in
+    let k = plain_is part 1 in
+    let x = parts_are_bounded holds part always filter in
+    let y = parts_are_bounded holds part always voice in
+    let z = parts_are_bounded holds part always init in
+    omega (arith, a, b, c, d, e, f, n, m, l, k, x, y, z)
+
+-- the numbers, computed
+few_of : (start : Start) (part : ℕ) → part < 34 →
+    most_around part filter_tree voice_tree (init_tree start) ≤ 320
+few_of start part low =
+    leb-true _ 320
+    (agree_below_at (λ n. nat_le (most_around n filter_tree voice_tree (init_tree start)) 320) (λ n. true) 34 part refl low)
+
+rest_of : (start : Start) → most_around always filter_tree voice_tree (init_tree start) ≤ 2876
+rest_of start = leb-true _ 2876 refl
+
+code_most : (features : ℕ) (o : Options) (part : ℕ) →
+    bytes_of part (code_parts features o) ≤ most_around part filter_tree voice_tree (init_tree (start_of o))
+code_most features o part =
+    around_most (holds_in (kept_set features o)) part filter_tree voice_tree (init_tree (start_of o))
+
+no_more_than : (n m : ℕ) → n ≤ m → m ≤ 320 → n + 0 ≤ 320
+no_more_than n m a b = omega (arith, a, b)
+
+pub parts_are_short : PartsAreShort
+parts_are_short features o = record {
+  parts = λ part other. elim (cases_lt part 34) [
+    | inl low ↦
+        rw (ne_eqb part always other) (no_more_than _ _ (code_most features o part) (few_of (start_of o) part low))
+    | inr high ↦ few _ (unkept_parts_have_none features o part other (no_more features o part high))
+  ];
+  rest = with_frequencies _ _ (code_most features o always) (rest_of (start_of o));
+} where
+  few : (n : ℕ) → n ≡ 0 → n ≤ 320
+  few n e = omega (arith, e)
+
+  with_frequencies : (n m : ℕ) → n ≤ m → m ≤ 2876 → n + 196 ≤ 3072
+  with_frequencies n m a b = omega (arith, a, b)
+
+-- ---- the code, with the slides
+
+slides_most : (features rows : ℕ) → rows ≤ 255 → slide_bytes features rows ≤ 768
+slides_most features rows few = elim (cases_Bool (uses features NOTE_DEPENDENT)) [
+  | inl on ↦ rw on (omega (arith, few))
+  | inr off ↦ rw off (omega arith)
+]
+
+pub code_is_few : (features : ℕ) (o : Options) → code_length features o ≤ 1876
+code_is_few features o =
+    let holds = holds_in (kept_set features o) in
+    let start = start_of o in
+    let measured = are_measured in
+    bounds _ _ _ _ _ _ _ (code_takes_its_parts features o) (sizes_are_bounded holds filter_tree)
+    (sizes_are_bounded holds voice_tree) (sizes_are_bounded holds (init_tree start)) measured.filter.takes_most
+    measured.voice.takes_most (measured.init start).takes_most
+  where
+    bounds : (all f v i mf mv mi : ℕ) → all ≡ 138 + f + v + i → f ≤ mf → v ≤ mv → i ≤ mi → mf ≡ 102 →
+        mv ≡ 1350 → mi ≡ 90 → all + 196 ≤ 1876
+    bounds all f v i mf mv mi e one two three four five six = omega (arith, e, one, two, three, four, five, six)
+
+pub code_is_bounded : CodeIsBounded
+code_is_bounded features rows o few =
+    within _ _ (kept_parts features o) (slides_most features rows few) (code_is_few features o)
+  where
+    within : (slides code kept : ℕ) → slides ≤ 768 → code ≤ 1876 → slides + code ≤ 3072 + 320 * kept
+    within slides code kept a b = omega (arith, a, b)
+
+pub images_are_bounded : ImagesAreBounded
+images_are_bounded packed o few =
+    all _ _ _ _ (code_is_bounded packed.features.0 _ o few)
+  where
+    all : (packed slides code bound : ℕ) → slides + code ≤ bound → packed + slides + code ≤ packed + bound
+    all packed slides code bound h = omega (arith, h)

@@ -1,0 +1,8 @@
+-- The lemmas that upper crates may cite.
+
+-- there are as many parts as bytes, and they add up to the code
+pub use Rattle.image_parts.proofs.Sums.{code_takes_its_parts, parts_add_up, all_are_parts, unkept_parts_have_none}
+-- two small songs, worked by hand
+pub use Rattle.image_parts.proofs.WorkedLengths.{notes_are_measured}
+-- the code, and an image, are within their bounds
+pub use Rattle.image_parts.proofs.Bounds.{code_is_few, code_is_bounded, images_are_bounded}

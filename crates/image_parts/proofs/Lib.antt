@@ -1,0 +1,7 @@
+-- What upper crates may cite.
+pub mod Laws
+-- Sums over the parts, and the bytes of the code's blocks.
+mod Counts
+mod Sums
+mod Bounds
+mod WorkedLengths

@@ -1,0 +1,138 @@
+-- The parts of the code add up to it, and those that aren't kept have no bytes.
+use Rattle.std.proofs.Common.{◌≡◌, ◌≢◌, ℕ, ◌+◌, ◌<◌, ◌⊎◌, ◌==◌, Bool, true, if◌then◌else◌}
+use Rattle.std.proofs.Common.{List, ◌++◌, length, replicate, All, refl, sym, ap, ◌∙◌, arith, inl, inr}
+use Rattle.std.specs.List.{sum_by, range_with_len}
+use Rattle.std.proofs.lemmas.Bool.{cases_lt, ne_eqb, true≢false}
+use Rattle.std.proofs.lemmas.List.{length-append, length-replicate}
+use Rattle.std.proofs.lemmas.List.Elements.{All-append, All-replicate, All-weaker}
+use Rattle.play_model.specs.declared.options.Options.{Options}
+use Rattle.scopes.specs.Trees.{Tree}
+use Rattle.scope_lines.specs.Sizes.{size}
+use Rattle.scope_lines.specs.Readings.{holds_in}
+use Rattle.scope_parts.specs.Parts.{parts, bytes_of}
+use Rattle.scope_parts.proofs.Laws.{parts_take_size, parts_are_kept}
+use Rattle.player_text.specs.Texts.{filter_tree, voice_tree, init_tree}
+use Rattle.frame_code.specs.InitBlock.{start_of}
+use Rattle.kept_lines.specs.KeptLines.{kept_set}
+use Rattle.kept_lines.proofs.Laws.{sets_are_exact, no_more}
+use Rattle.image_parts.specs.CodeParts.{always, code_parts, part_length}
+use Rattle.image_parts.specs.PartLaws.{CodeTakesItsParts, PartsAddUp, UnkeptPartsHaveNone}
+use Rattle.image_parts.proofs.Counts.{below, below_same, IsPart, counted, none_of}
+
+-- the parts of three blocks with what stands around them
+abbrev pub around : (ℕ → Bool) → Tree → Tree → Tree → List ℕ
+around holds filter voice init =
+    replicate 120 always ++ (parts holds always filter
+    ++ (replicate 12 always ++ (parts holds always voice
+    ++ (replicate 5 always ++ (parts holds always init ++ replicate 1 always)))))
+
+-- ---- as many as bytes
+
+more : (n : ℕ) (rest : List ℕ) → length (replicate n always ++ rest) ≡ n + length rest
+more n rest = length-append (replicate n always) rest ∙ ap (λ k. k + length rest) (length-replicate n always)
+
+block : (holds : ℕ → Bool) (tree : Tree) (rest : List ℕ) →
+    length (parts holds always tree ++ rest) ≡ size holds tree + length rest
+block holds tree rest =
+    length-append (parts holds always tree) rest ∙ ap (λ k. k + length rest) (parts_take_size holds always tree)
+
+around_long : (holds : ℕ → Bool) (filter voice init : Tree) →
+    length (around holds filter voice init) ≡ 138 + size holds filter + size holds voice + size holds init
+around_long holds filter voice init =
+    let last = replicate 1 always in
+    let after_voice = replicate 5 always ++ (parts holds always init ++ last) in
+    let after_calls = parts holds always voice ++ after_voice in
+    let after_filter = replicate 12 always ++ after_calls in
+    let a = more 120 (parts holds always filter ++ after_filter) in
+    let b = block holds filter after_filter in
+    let c = more 12 after_calls in
+    let d = block holds voice after_voice in
+    let e = more 5 (parts holds always init ++ last) in
+    let f = block holds init last in
+    let g = length-replicate 1 always in
+    omega (arith, a, b, c, d, e, f, g)
+
+pub code_takes_its_parts : CodeTakesItsParts
+code_takes_its_parts features o =
+    around_long (holds_in (kept_set features o)) filter_tree voice_tree (init_tree (start_of o))
+
+-- ---- which
+
+abbrev IsKept : (ℕ → Bool) → ℕ → Type 0
+IsKept holds part = (part ≡ always) ⊎ (holds part ≡ true)
+
+all_around : (holds : ℕ → Bool) (filter voice init : Tree) → All (IsKept holds) (around holds filter voice init)
+all_around holds filter voice init =
+    let few : (n : ℕ) → All (IsKept holds) (replicate n always) =
+    (λ n. All-replicate (IsKept holds) n always (inl refl)) in
+    let last = replicate 1 always in
+    let after_voice = replicate 5 always ++ (parts holds always init ++ last) in
+    let after_calls = parts holds always voice ++ after_voice in
+    let after_filter = replicate 12 always ++ after_calls in
+    All-append (IsKept holds) (replicate 120 always) (parts holds always filter ++ after_filter) (few 120)
+    (All-append (IsKept holds) (parts holds always filter) after_filter (parts_are_kept holds always filter)
+    (All-append (IsKept holds) (replicate 12 always) after_calls (few 12)
+    (All-append (IsKept holds) (parts holds always voice) after_voice (parts_are_kept holds always voice)
+    (All-append (IsKept holds) (replicate 5 always) (parts holds always init ++ last) (few 5)
+    (All-append (IsKept holds) (parts holds always init) last (parts_are_kept holds always init) (few 1))))))
+
+kept_is : (features : ℕ) (o : Options) → All (IsKept (holds_in (kept_set features o))) (code_parts features o)
+kept_is features o = all_around (holds_in (kept_set features o)) filter_tree voice_tree (init_tree (start_of o))
+
+-- a condition that holds is one of 34
+few_hold : (features : ℕ) (o : Options) (part : ℕ) → holds_in (kept_set features o) part ≡ true → part < 34
+few_hold features o part holds = elim (cases_lt part 34) [
+  | inl low ↦ low
+  | inr high ↦
+      absurd (true≢false (sym holds ∙ sets_are_exact features o part ∙ no_more features o part high))
+]
+
+pub all_are_parts : (features : ℕ) (o : Options) → All (IsPart always 34) (code_parts features o)
+all_are_parts features o =
+    All-weaker (IsKept (holds_in (kept_set features o))) (IsPart always 34) weaker (code_parts features o)
+    (kept_is features o)
+  where
+    weaker : (part : ℕ) → IsKept (holds_in (kept_set features o)) part → IsPart always 34 part
+    weaker part (inl is) = inl is
+    weaker part (inr holds) = inr (few_hold features o part holds)
+
+-- ---- sums
+
+sum_of_all : (number : ℕ → ℕ) → sum_by number (range_with_len 0 34) ≡ below number 34
+sum_of_all number = omega arith
+
+-- a part below the last one is counted without the frequencies
+own_bytes : (code : List ℕ) (part : ℕ) → part < 34 → bytes_of part code ≡ bytes_of part code + (if part == always then 196 else 0)
+own_bytes code part few =
+    rw (ne_eqb part always (λ is. omega (arith, few, is))) (plain (bytes_of part code))
+  where
+    plain : (n : ℕ) → n ≡ n + 0
+    plain n = omega arith
+
+pub parts_add_up : PartsAddUp
+parts_add_up features o =
+    let code = code_parts features o in
+    let all = counted always 34 (omega arith) code (all_are_parts features o) in
+    let same = below_same (λ part. bytes_of part code) (part_length features o) 34 (own_bytes code) in
+    let sum = sum_of_all (part_length features o) in
+    add (length code) (bytes_of always code) _ _ _ all same sum
+  where
+    add : (all rest own full sum : ℕ) → all ≡ rest + own → own ≡ full → sum ≡ full → all + 196 ≡ rest + 196 + sum
+    add all rest own full sum a b c = omega (arith, a, b, c)
+
+-- ---- parts that aren't kept
+
+pub unkept_parts_have_none : UnkeptPartsHaveNone
+unkept_parts_have_none features o part other not =
+    let code = code_parts features o in
+    let none = none_of part code
+    (All-weaker (IsKept (holds_in (kept_set features o))) (λ own. own ≢ part) differs code (kept_is features o)) in
+    rw (ne_eqb part always other) (plain (bytes_of part code) none)
+  where
+    plain : (n : ℕ) → n ≡ 0 → n + 0 ≡ 0
+    plain n e = omega (arith, e)
+
+    differs : (own : ℕ) → IsKept (holds_in (kept_set features o)) own → own ≢ part
+    differs own (inl is) same = other (sym same ∙ is)
+    differs own (inr holds) same =
+        true≢false (sym holds ∙ ap (holds_in (kept_set features o)) same ∙ sets_are_exact features o part ∙ not)

@@ -1,0 +1,16 @@
+-- The parts are bounded.
+use Rattle.image_parts.proofs.Sums.{unkept_parts_have_none}
+use Rattle.image_parts.proofs.Bounds.{parts_are_short, code_is_bounded, images_are_bounded}
+use Rattle.image_parts.proofs.claims.parts_are_bounded.Goals as goal
+
+pub returns-clause-none : goal.returns-clause-none
+returns-clause-none c = unkept_parts_have_none
+
+pub returns-clause-short : goal.returns-clause-short
+returns-clause-short c = parts_are_short
+
+pub returns-clause-code : goal.returns-clause-code
+returns-clause-code c = code_is_bounded
+
+pub returns-clause-image : goal.returns-clause-image
+returns-clause-image c = images_are_bounded

@@ -1,0 +1,46 @@
+-- Whose each byte of an image's code is: what each image has, a condition's, or an option's. This is the project's own
+-- player.
+use Rattle.std.specs.Prelude.{ℕ, ◌+◌, ◌==◌, Bool, if◌then◌else◌, List, ◌++◌, length, replicate}
+use Rattle.play_model.specs.declared.options.Options.{Options}
+use Rattle.scopes.specs.Trees.{Tree}
+use Rattle.scope_lines.specs.Readings.{holds_in}
+use Rattle.scope_parts.specs.Parts.{parts, bytes_of}
+use Rattle.player_text.specs.Texts.{filter_tree, voice_tree, init_tree}
+use Rattle.frame_code.specs.InitBlock.{start_of}
+use Rattle.kept_lines.specs.KeptLines.{kept_set}
+
+-- the part that each image has
+abbrev pub always : ℕ
+always = 255
+
+-- In front of the filter's block stand two jumps of 3 bytes, 113 variables and `CLD`; behind it the calls of the voices,
+-- 12 bytes; behind the voices' block `RTS`, and `CLD` and `STA` of the beginning of a subtune, 5 bytes; and behind its
+-- block `RTS`.
+abbrev pub parts_around : (ℕ → Bool) → Tree → List ℕ
+parts_around holds init =
+    replicate 120 always ++ (parts holds always filter_tree
+    ++ (replicate 12 always ++ (parts holds always voice_tree
+    ++ (replicate 5 always ++ (parts holds always init ++ replicate 1 always)))))
+
+-- the part of each byte of the code, for features and options
+abbrev pub code_parts : ℕ → Options → List ℕ
+code_parts features o = parts_around (holds_in (kept_set features o)) (init_tree (start_of o))
+
+-- the bytes of the frequencies of notes, which each image has among its lists
+abbrev pub frequency_bytes : ℕ
+frequency_bytes = 196
+
+-- how many bytes a code with these parts takes, and how many of them a part; the frequencies are counted with the code,
+-- and with the part that each image has
+abbrev pub length_of : List ℕ → ℕ
+length_of code = length code + frequency_bytes
+
+abbrev pub length_of_part : List ℕ → ℕ → ℕ
+length_of_part code part = bytes_of part code + (if part == always then frequency_bytes else 0)
+
+-- for features and options
+abbrev pub code_length : ℕ → Options → ℕ
+code_length features o = length_of (code_parts features o)
+
+abbrev pub part_length : ℕ → Options → ℕ → ℕ
+part_length features o part = length_of_part (code_parts features o) part

@@ -1,0 +1,51 @@
+-- What holds of the parts of an image. This is the project's own player.
+use Rattle.std.specs.Prelude.{◌≡◌, ◌≢◌, ℕ, ◌+◌, ◌≤◌, false, length, sum_by}
+use Rattle.std.specs.List.{range_with_len}
+use Rattle.play_model.specs.declared.options.Options.{Options}
+use Rattle.packed_form.specs.declared.packed_songs.PackedSong.{PackedSong}
+use Rattle.packed_form.specs.Sizes.{packed_song_size}
+use Rattle.packed_form.specs.CodeBounds.{code_bound}
+use Rattle.scope_lines.specs.Readings.{holds_in}
+use Rattle.frame_code.specs.InitBlock.{start_of}
+use Rattle.kept_lines.specs.KeptLines.{keeps, kept_set}
+use Rattle.player_code.specs.CodeLaws.{code_takes}
+use Rattle.image_parts.specs.CodeParts.{always, code_parts, part_length, code_length}
+use Rattle.image_parts.specs.Lengths.{slide_bytes, image_length}
+
+-- there are as many as the code has bytes
+abbrev pub CodeTakesItsParts : Type 0
+CodeTakesItsParts =
+    (features : ℕ) (o : Options) →
+    length (code_parts features o) ≡ code_takes (holds_in (kept_set features o)) (start_of o)
+
+-- the code is the part that each image has and the 34 others
+abbrev pub PartsAddUp : Type 0
+PartsAddUp =
+    (features : ℕ) (o : Options) →
+    code_length features o ≡ part_length features o always + sum_by (part_length features o) (range_with_len 0 34)
+
+-- a part whose condition doesn't hold has no bytes
+abbrev pub UnkeptPartsHaveNone : Type 0
+UnkeptPartsHaveNone =
+    (features : ℕ) (o : Options) (part : ℕ) → part ≢ always → keeps features o part ≡ false →
+    part_length features o part ≡ 0
+
+-- no part is longer than this
+pub record AreShort (features : ℕ) (o : Options) : Type 0 where
+  pub parts : (part : ℕ) → part ≢ always → part_length features o part ≤ 320
+  pub rest : part_length features o always ≤ 3072
+
+abbrev pub PartsAreShort : Type 0
+PartsAreShort = (features : ℕ) (o : Options) → AreShort features o
+
+-- an image is within the bound of a packed song and its player: the code with the slides, of 255 rows at most, is within
+-- the player's
+abbrev pub CodeIsBounded : Type 0
+CodeIsBounded =
+    (features rows : ℕ) (o : Options) → rows ≤ 255 →
+    slide_bytes features rows + code_length features o ≤ code_bound features o
+
+abbrev pub ImagesAreBounded : Type 0
+ImagesAreBounded =
+    (packed : PackedSong) (o : Options) → length packed.speed ≤ 255 →
+    image_length packed o ≤ packed_song_size packed + code_bound packed.features.0 o

@@ -1,0 +1,74 @@
+//! How many bytes an image, its code and the parts of its code take.
+
+ghost use Rattle.std.specs.Prelude.{◌≡◌, ◌≤◌, length};
+ghost use Rattle.scope_parts.specs.Parts.{bytes_of};
+ghost use Rattle.image_parts.specs.CodeParts.{length_of, length_of_part};
+ghost use Rattle.image_parts.specs.Lengths.{slide_bytes, bytes_of_image};
+
+use crate::parts::ALWAYS;
+use packed_form::PackedSong;
+use player_memory::conditions::NOTE_DEPENDENT;
+use song_model::FeatureBits;
+
+/// The bytes of the frequencies of notes, which every image has among its lists.
+const FREQUENCY_BYTES: u32 = 196;
+
+/// The bytes of the code whose bytes have these parts, and of the frequencies.
+pub fn code_length(code: &[u8]) -> u32
+    requires { length code.now ≤ 65535 }
+    ensures { result ≡ length_of code.now }
+{
+    code.len() as u32 + FREQUENCY_BYTES
+}
+
+/// How many bytes of a list are of a part.
+fn bytes_of(part: u8, code: &[u8]) -> u32
+    requires { length code.now ≤ 65535 }
+    ensures bytes { result ≡ bytes_of part code.now }
+    ensures most { result ≤ 65535 }
+{
+    let mut count = 0;
+    for own in code {
+        if *own == part {
+            count += 1;
+        }
+    }
+    count
+}
+
+/// The bytes of a part of the code whose bytes have these parts; the one that every image has is counted with the
+/// frequencies.
+pub fn part_length(code: &[u8], part: u8) -> u32
+    requires { length code.now ≤ 65535 }
+    ensures { result ≡ length_of_part code.now part }
+{
+    let own = bytes_of(part, code);
+    if part == ALWAYS {
+        own + FREQUENCY_BYTES
+    } else {
+        own
+    }
+}
+
+/// The bytes of the lists of slides and of periods: where a song has calculated speeds, three for each row of the speed
+/// table and for row 0.
+pub fn slide_bytes(features: FeatureBits, rows: u32) -> u32
+    requires { rows ≤ 255 }
+    ensures { result ≡ slide_bytes features.0 rows }
+{
+    if (features.0 >> u32::from(NOTE_DEPENDENT)) & 1 == 1 {
+        3 * (rows + 1)
+    } else {
+        0
+    }
+}
+
+/// The bytes of the image of a packed song whose code has these parts: those of the packed song, those of its slides,
+/// and those of the code and the frequencies.
+pub fn image_length(packed: &PackedSong, code: &[u8]) -> u32
+    requires { length code.now ≤ 65535 }
+    ensures { result ≡ bytes_of_image packed.now code.now }
+{
+    let rows = packed.speed.as_slice().len() as u32;
+    packed.size() + slide_bytes(packed.features, rows) + code_length(code)
+}

@@ -1,0 +1,23 @@
+//! How long an image is, and whose each byte of its code is.
+//!
+//! A part of the player is a condition: 0 to 23 are the features of a song, 24 to 27 the options, and behind them stands
+//! what several features have in common. Part 255 is what every image has: the jumps, the variables, the code under no
+//! condition, and the frequencies of notes among the lists.
+//!
+//! The layer's one contract: the parts that are made for features and options are those of the code's blocks, byte for
+//! byte; they add up to the code; a part that isn't kept has none, each other one has at most 320 bytes and part 255 at
+//! most 3,072; and an image is no longer than its packed song and the bound of a player.
+//!
+//! It makes no code. It stands on `player_text` for the blocks, on `scope_parts` for the parts of a block, and on
+//! `kept_lines` for which conditions hold. See `docs/player.md`.
+#![tactic(auto)]
+
+pub mod claims;
+mod lengths;
+mod parts;
+mod starts;
+
+pub use base::{ByteList, NoMemory};
+pub use lengths::{code_length, image_length, part_length, slide_bytes};
+pub use parts::{ALWAYS, code_parts};
+pub use starts::start_of;

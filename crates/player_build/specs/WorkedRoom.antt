@@ -1,0 +1,16 @@
+-- From which addresses the image of a small packed song is too long, worked by hand.
+use Rattle.play_model.specs.State.{no_options}
+use Rattle.packed_form.specs.declared.packed_songs.PackedSong.{PackedSong}
+use Rattle.image_parts.specs.WorkedLengths.{IsPlayedNote}
+use Rattle.player_build.specs.Room.{IsTooLarge}
+
+-- $CB95 and 1,131 bytes are $D000; the last page from which the image has room is $CB00; and its length is told
+pub record NoteHasRoom (packed : PackedSong) : Type 0 where
+  pub just : IsTooLarge packed no_options 0xCB95 1131 → ⊥
+  pub past : IsTooLarge packed no_options 0xCB96 1131
+  pub last_page : IsTooLarge packed no_options 0xCB00 1131 → ⊥
+  pub next_page : IsTooLarge packed no_options 0xCC00 1131
+  pub other_length : IsTooLarge packed no_options 0xCC00 1132 → ⊥
+
+abbrev pub NotesHaveRoom : Type 0
+NotesHaveRoom = (packed : PackedSong) → IsPlayedNote packed → NoteHasRoom packed

@@ -1,0 +1,6 @@
+-- So many bytes have been appended.
+use Rattle.std.proofs.Common.{◌≡◌, ◌++◌, replicate}
+use Rattle.scope_parts.proofs.parts.push_bytes.Given as goal
+
+abbrev pub invariant-loop : goal.invariant-loop
+invariant-loop l = record { so_far : l.list ≡ l.initial.list ++ replicate l.counter l.part }
