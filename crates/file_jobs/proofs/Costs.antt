@@ -7,9 +7,8 @@ use Rattle.std.proofs.lemmas.List.{append-nil}
 use Rattle.std.proofs.lemmas.List.Elements.{All-nil, All-cons, All-append, All-weaker}
 use Rattle.song_model.specs.declared.songs.Song.{Song}
 use Rattle.play_model.specs.declared.options.Options.{Options}
-use Rattle.code_lengths.specs.Lengths.{part_length}
 use Rattle.song_costs.specs.declared.kept.PartCost.{PartCost}
-use Rattle.song_costs.specs.Kept.{is_kept, IsPartCost, AreKeptBelow}
+use Rattle.song_costs.specs.Kept.{is_told, IsPartCost, AreKeptBelow}
 use Rattle.song_costs.proofs.Laws.{kept_told, kept_passed}
 use Rattle.jobs.specs.Costs.{part_name}
 
@@ -18,11 +17,11 @@ use Rattle.jobs.specs.Costs.{part_name}
 module _ (song : Song) (features : ℕ) (o : Options) (n : ℕ) (costs : List PartCost) where
   pub kept_next : (result : Option PartCost) → AreKeptBelow song features o n costs →
       ((cost : PartCost) → (result ≡ Some cost) ↔ ((cost.part ≡ n) × IsPartCost song features o cost)) →
-      (IsSome result ↔ ((is_kept features o n ≡ true) × (part_length n ≢ 0))) →
+      (IsSome result ↔ (is_told features o n ≡ true)) →
       AreKeptBelow song features o (n + 1) (costs ++ option_to_list result)
   kept_next None kept exact told =
       subst (AreKeptBelow song features o (n + 1)) (sym (append-nil costs))
-      (kept_passed song features o n costs kept (λ both. let never = told.1 both in absurd (cc (never))))
+      (kept_passed song features o n costs kept (λ so. let never = told.1 so in absurd (cc (never))))
   kept_next (Some cost) kept exact told =
       let is = (exact cost).0 refl in kept_told song features o n costs cost kept is.0 is.1
 
@@ -43,7 +42,7 @@ module _ (song : Song) (features : ℕ) (o : Options) (n : ℕ) (costs : List Pa
 
 -- ---- names
 
-pub names_short : (part : ℕ) → part < 28 → length (part_name part) ≤ 24
+pub names_short : (part : ℕ) → part < 34 → length (part_name part) ≤ 24
 names_short part below =
     leb-true (length (part_name part)) 24
-    (agree_below_at (λ n. nat_le (length (part_name n)) 24) (λ n. true) 28 part refl below)
+    (agree_below_at (λ n. nat_le (length (part_name n)) 24) (λ n. true) 34 part refl below)

@@ -6,8 +6,8 @@
 //!
 //! It stands on `jobs` for what a job is and for the stages that several have, on `command_line` for lines, on `goat_io`
 //! for folders, on `gts5` and `song_model` for songs, on `usage` for what one uses, on `song_costs` for what it costs, on
-//! `edit_history` and `edit_script` for editing it, on `song_script` for its script, on `song_join` for joining two, and
-//! on `asm_text` and `asm6502` for listings.
+//! `image_parts` for whose each byte of a player is, on `edit_history` and `edit_script` for editing it, on
+//! `song_script` for its script, on `song_join` for joining two, and on `asm_text` and `asm6502` for listings.
 #![tactic(auto)]
 
 /// `asm IN OUT`.

@@ -3,6 +3,7 @@
 ghost use Rattle.std.specs.Prelude.{◌≡◌, ◌++◌, ◌<◌, All, IfOk, OnOk};
 ghost use Rattle.std.specs.Option.{option_to_list};
 ghost use Rattle.usage.specs.Parts.{AreUsedParts};
+ghost use Rattle.image_parts.specs.CodeParts.{code_parts};
 ghost use Rattle.song_costs.specs.Kept.{AreKeptParts};
 
 use play_model::Options;
@@ -11,7 +12,8 @@ use song_model::{NoMemory, Song};
 use std::alloc::Global;
 use usage::UsedParts;
 
-/// What the parts cost that are kept of a player of a song, in the order of their bits.
+/// What the parts cost that are kept of a player of a song, in their order. The bytes of the player's code have these
+/// parts.
 ///
 /// # Errors
 ///
@@ -21,15 +23,17 @@ pub fn part_costs(
     song: &Song,
     parts: &UsedParts,
     options: &Options,
+    code: &[u8],
 ) -> Result<Vec<PartCost>, NoMemory>
-    requires { AreUsedParts song.now parts.now }
+    requires parts { AreUsedParts song.now parts.now }
+    requires code { code.now ≡ code_parts parts.now.features.0 options.now }
     ensures kept { IfOk result (λ told.
         AreKeptParts song.now parts.now.features.0 options.now told.items) }
     ensures named { IfOk result (λ told. All (λ cost. cost.part < PARTS) told.items) }
 {
     let mut told = Vec::new(alloc);
     for part in 0..PARTS {
-        add_cost(&mut told, part_cost(song, parts, *options, part))?;
+        add_cost(&mut told, part_cost(song, parts, options, code, part))?;
     }
     Ok(told)
 }

@@ -5,11 +5,13 @@ use Rattle.song_model.specs.declared.songs.Song.{Song}
 use Rattle.play_model.specs.declared.options.Options.{Options}
 use Rattle.play_model.specs.State.{no_options}
 use Rattle.packed_form.specs.declared.packed_songs.PackedSong.{PackedSong}
-use Rattle.code_lengths.specs.Lengths.{code_length}
+use Rattle.packing_rules.specs.SongSizes.{packed_size}
+use Rattle.image_parts.specs.CodeParts.{code_length}
+use Rattle.image_parts.specs.Lengths.{slide_bytes, image_length}
 use Rattle.faithful.proofs.Laws.{always_is_faithful}
-use Rattle.image_build.specs.declared.image.Image.{Image}
-use Rattle.image_build.specs.Lengths.{image_length, IsTooLarge}
-use Rattle.image_build.specs.Built.{IsBuild}
+use Rattle.player_build.specs.declared.image.Image.{Image}
+use Rattle.player_build.specs.Room.{IsTooLarge}
+use Rattle.player_build.specs.Built.{IsBuild}
 use Rattle.jobs.specs.Packed.{IsImageLength, IsWrittenFile, packed_file}
 use Rattle.jobs.specs.Lines.{image_too_large_line}
 use Rattle.command_line.specs.declared.chip.Chip.{Chip}
@@ -27,7 +29,11 @@ module _ (packed : PackedSong) (song : Song) (o : Options) (packs : PacksSong pa
     features = packed.features.0;
     are_used = packs.are_used;
     are_features = packs.stands.features;
-    count_is = is ∙ ap (λ size. size + code_length packed.features.0 o) packs.size;
+    count_is = is
+        ∙ ap (λ size. size + slide_bytes packed.features.0 (length packed.speed) + code_length packed.features.0 o)
+        packs.size
+        ∙ ap (λ rows. packed_size song packs.used + slide_bytes packed.features.0 rows
+        + code_length packed.features.0 o) packs.speeds;
   }
 
   module _ (files : Files) (name : List ℕ) (address : ℕ) (holds : HoldsSong files name song) where

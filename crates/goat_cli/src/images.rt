@@ -9,7 +9,7 @@ ghost use Rattle.play_model.specs.State.{no_options};
 ghost use Rattle.play_model.specs.Playable.{IsPlayable};
 ghost use Rattle.packed_form.specs.ImagePlaces.{IsAddress, IsZeroPage};
 ghost use Rattle.song_gen.specs.GeneratedLaws.{PatternsAreShort, IsSmall};
-ghost use Rattle.image_build.specs.Built.{IsBuild};
+ghost use Rattle.player_build.specs.Built.{IsBuild};
 ghost use Rattle.command_line.specs.declared.chip.Chip.TheVariants.{Mos6581};
 ghost use Rattle.command_line.specs.Last.{last_of};
 ghost use Rattle.jobs.specs.Packed.{packed_file, IsWrittenFile};
@@ -17,11 +17,11 @@ ghost use Rattle.jobs.specs.Stages.{HasRoomForImage, HoldsSong, IsMet};
 ghost use Rattle.jobs.specs.Endings.{Refuses, PacksSong};
 
 use command_line::{Chip, Refusal};
-use image_build::{BuildFault, Image, build};
+use image_parts::code_parts;
 use jobs::{packed_file, short_song, too_large_image};
 use packed_form::PackedSong;
 use play_model::Options;
-use player_parts::Place;
+use player_build::{BuildFault, Image, Place, build};
 use song_model::{NoMemory, Song};
 use std::alloc::Global;
 
@@ -69,7 +69,9 @@ pub fn image_of(
         PacksSong packed.now song → HoldsSong files name song →
         Refuses files (HasRoomForImage name address options.now) (last_of refusal)) }
 {
-    match build(alloc, packed, place_of(address, zero_page), *options) {
+    let code = code_parts(alloc, packed.features, options)?;
+    let place = place_of(address, zero_page);
+    match build(alloc, packed, code.as_slice(), place, options) {
         Ok(image) => Ok(image),
         Err(BuildFault::NoMemory) => Err(Refusal::NoMemory),
         Err(BuildFault::TooLarge { length }) => Err(too_large_image(length)),
@@ -118,8 +120,10 @@ fn small_image(alloc: Global, song: &Song, packed: &PackedSong) -> Result<Image,
     ensures address { IfOk result (λ image. image.place.address ≡ 0x1000) }
     ensures zero_page { IfOk result (λ image. image.place.zero_page ≡ 0xFC) }
 {
+    let options = Options::default();
+    let code = code_parts(alloc, packed.features, &options)?;
     let place = place_of(ADDRESS, ZERO_PAGE);
-    match build(alloc, packed, place, Options::default()) {
+    match build(alloc, packed, code.as_slice(), place, &options) {
         Ok(image) => Ok(image),
         Err(BuildFault::NoMemory) => Err(NoMemory),
         Err(BuildFault::TooLarge { .. }) => unreachable!(),

@@ -9,7 +9,7 @@
 //! program tells of itself.
 //!
 //! It stands on `jobs` and `file_jobs`, on `command_line` for words and lines, on `goat_io` for folders and sinks, on
-//! `image_build` for the image of a packed song, and on `song_gen` for songs that are made from numbers.
+//! `player_build` for the image of a packed song, and on `song_gen` for songs that are made from numbers.
 #![tactic(auto)]
 
 mod commands;

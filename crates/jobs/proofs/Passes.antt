@@ -26,10 +26,10 @@ use Rattle.play_model.proofs.Laws.{refused_or_playable_lem}
 use Rattle.usage.proofs.Laws.{one_refusal}
 use Rattle.packing_rules.specs.UsedSets.{UsedSets, AreUsedSets}
 use Rattle.packing_rules.specs.Renumbering.{pattern_text}
-use Rattle.packing_rules.specs.SongSizes.{packed_size}
 use Rattle.packing_rules.proofs.Laws.{same_sets}
 use Rattle.song_pack.specs.Answers.{AreShort, IsTooLong}
-use Rattle.code_lengths.specs.Lengths.{code_length}
+use Rattle.image_parts.specs.CodeParts.{code_length}
+use Rattle.song_costs.specs.CostLaws.{song_size}
 use Rattle.jobs.specs.Packed.{IsImageLength}
 use Rattle.jobs.specs.Laws.{PlayableSongsPass}
 use Rattle.gts5.proofs.Laws.{spells_once, spells_has_no_fault}
@@ -107,8 +107,8 @@ pub one_length : (song : Song) (o : Options) (m n : ℕ) → IsImageLength song 
 one_length song o m n p q =
     let used = same_sets song p.used q.used p.are_used q.are_used in
     let features = one_features song p.features q.features p.are_features q.are_features in
-    p.count_is ∙ ap (λ u. packed_size song u + code_length p.features o) used
-    ∙ ap (λ f. packed_size song q.used + code_length f o) features ∙ sym q.count_is
+    p.count_is ∙ ap (λ u. song_size song u p.features + code_length p.features o) used
+    ∙ ap (λ f. song_size song q.used f + code_length f o) features ∙ sym q.count_is
 
 too_large_or_not : (end address m n : ℕ) → m ≡ n → address + m ≤ end → end < address + n → ⊥
 too_large_or_not end address m n same fits passes = omega arith

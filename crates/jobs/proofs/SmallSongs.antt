@@ -1,17 +1,26 @@
 -- Which songs are packed, and that no other image is refused than a large one.
-use Rattle.std.proofs.Common.{◌≡◌, ℕ, ◌+◌, ◌≤◌, ◌<◌, List, [], ◌∷◌, length, refl, subst, arith}
+use Rattle.std.proofs.Common.{◌≡◌, ℕ, ◌+◌, ◌≤◌, ◌<◌, Bool, List, [], ◌∷◌, length, map, refl, subst, arith}
+use Rattle.std.specs.List.{filter}
+use Rattle.std.proofs.lemmas.List.{length-map}
+use Rattle.std.proofs.lemmas.List.FromFn.{length-range_with_len}
+use Rattle.std.proofs.lemmas.List.Sums.{length-filter, count_by-le-length}
+use Rattle.song_model.specs.declared.tables.TheConstants.{MOST_TABLE_ROWS}
+use Rattle.song_model.specs.declared.tables.TableName.TheVariants.{Speed}
 use Rattle.song_model.specs.declared.songs.Song.{Song}
-use Rattle.song_model.specs.LookUp.{playable_subtunes}
+use Rattle.song_model.specs.LookUp.{playable_subtunes, speed_row}
 use Rattle.play_model.specs.declared.options.Options.{Options}
 use Rattle.play_model.specs.declared.unplayable.Unplayable.TheVariants.{NoSubtune}
 use Rattle.play_model.specs.Playable.{IsPlayable}
 use Rattle.play_model.specs.Features.{AreFeatures}
 use Rattle.packing_rules.specs.UsedSets.{UsedSets, AreUsedSets}
 use Rattle.packed_form.specs.CodeBounds.{code_bound}
+use Rattle.packing_rules.specs.Segments.{numbers}
+use Rattle.packing_rules.specs.Renumbering.{same_row, speed_rows}
 use Rattle.packing_rules.specs.SongSizes.{data_size, packed_size}
-use Rattle.packing_rules.proofs.Laws.{packed_size_is_within}
-use Rattle.code_lengths.specs.Lengths.{code_length}
-use Rattle.code_lengths.proofs.Laws.{code_is_bounded}
+use Rattle.packing_rules.proofs.Laws.{packed_size_is_within, first_seen_length}
+use Rattle.image_parts.specs.CodeParts.{code_length}
+use Rattle.image_parts.specs.Lengths.{slide_bytes}
+use Rattle.image_parts.proofs.Laws.{code_is_bounded}
 use Rattle.jobs.specs.Packed.{IsImageLength}
 use Rattle.jobs.specs.Stages.{IsThere, Fits, SpellsSong, CanBePlayed, HasShortPatterns, HasRoomForImage, input_limit}
 use Rattle.jobs.specs.Laws.{ImagesAreBounded, OnlyLargeImagesAreRefused, SmallSongsArePacked}
@@ -27,49 +36,83 @@ has_subtune song playable = no_list (playable_subtunes song) (playable NoSubtune
 
 -- ---- how long an image is
 
-abbrev length_of : Song → UsedSets → ℕ → Options → ℕ
-length_of song used features o = packed_size song used + code_length features o
+-- those of the slides
+slides_of : Song → UsedSets → ℕ → ℕ
+slides_of song used features = slide_bytes features (length (speed_rows song (used.pointers Speed)))
+
+length_of : Song → UsedSets → ℕ → Options → ℕ
+length_of song used features o = packed_size song used + slides_of song used features + code_length features o
 
 length_is : (song : Song) (o : Options) (used : UsedSets) (features : ℕ) → AreUsedSets song used →
     AreFeatures song features → IsImageLength song o (length_of song used features o)
+unfolding slides_of length_of
 length_is song o used features are_used are_features =
     record
     { used = used; features = features; are_used = are_used; are_features = are_features; count_is = refl }
 
--- with these bounds of its two parts
-within : (address most bound size code count : ℕ) → size ≤ most → code ≤ bound → count ≡ size + code →
-    0xD000 < address + count → 0xD000 < address + most + bound
-within address most bound size code count p q is passes = omega arith
+-- a song has at most 255 speeds
+few_speeds : (song : Song) (used : ℕ → Bool) → length (speed_rows song used) ≤ 255
+unfolding speed_rows
+few_speeds song used =
+    let kept = filter used (numbers MOST_TABLE_ROWS) in
+    let seen = first_seen_length same_row (map (speed_row song) kept) in
+    let rows = length-map kept (speed_row song) in
+    let counted = length-filter used (numbers MOST_TABLE_ROWS) in
+    let most = count_by-le-length used (numbers MOST_TABLE_ROWS) in
+    let all = length-range_with_len 1 MOST_TABLE_ROWS in
+    omega (arith, seen, rows, counted, most, all)
 
-fits_too : (address most bound size code : ℕ) → size ≤ most → code ≤ bound → address + most + bound ≤ 0xD000 →
-    address + (size + code) ≤ 0xD000
-fits_too address most bound size code p q room = omega arith
+player_is_bounded : (song : Song) (used : UsedSets) (features : ℕ) (o : Options) →
+    slides_of song used features + code_length features o ≤ code_bound features o
+unfolding slides_of
+player_is_bounded song used features o =
+    code_is_bounded features (length (speed_rows song (used.pointers Speed))) o (few_speeds song (used.pointers Speed))
 
-adds : (most bound size code count : ℕ) → size ≤ most → code ≤ bound → count ≡ size + code → count ≤ most + bound
-adds most bound size code count p q is = omega (arith, p, q, is)
+-- with these bounds of its parts
+within : (address most bound size slides code count : ℕ) → size ≤ most → slides + code ≤ bound →
+    count ≡ size + slides + code → 0xD000 < address + count → 0xD000 < address + most + bound
+within address most bound size slides code count p q is passes = omega (arith, p, q, is, passes)
+
+fits_too : (address most bound size slides code : ℕ) → size ≤ most → slides + code ≤ bound →
+    address + most + bound ≤ 0xD000 → address + (size + slides + code) ≤ 0xD000
+fits_too address most bound size slides code p q room = omega (arith, p, q, room)
+
+adds : (most bound size slides code count : ℕ) → size ≤ most → slides + code ≤ bound → count ≡ size + slides + code →
+    count ≤ most + bound
+adds most bound size slides code count p q is = omega (arith, p, q, is)
+
+-- the image of a song has this length
+its_length : (song : Song) (o : Options) (used : UsedSets) (features count : ℕ) → IsImageLength song o count →
+    AreUsedSets song used → AreFeatures song features →
+    count ≡ packed_size song used + slides_of song used features + code_length features o
+unfolding length_of
+its_length song o used features count is are_used are_features =
+    one_length song o count _ is (length_is song o used features are_used are_features)
 
 pub images_are_bounded : ImagesAreBounded
 images_are_bounded song o used features count is are_used are_features =
-    adds (data_size song used) (code_bound features o) (packed_size song used) (code_length features o) count
-    (packed_size_is_within song used) (code_is_bounded features o)
-    (one_length song o count _ is (length_is song o used features are_used are_features))
+    adds (data_size song used) (code_bound features o) (packed_size song used) (slides_of song used features)
+    (code_length features o) count (packed_size_is_within song used) (player_is_bounded song used features o)
+    (its_length song o used features count is are_used are_features)
 
 pub only_large_images : OnlyLargeImagesAreRefused
 only_large_images files name address o lines song used features ends holds are_used are_features =
     let same = one_song_held files name ends.0 song ends.2 holds in
     let is = subst (λ s. IsImageLength s o ends.1) same ends.3 in
-    let count = one_length song o ends.1 _ is (length_is song o used features are_used are_features) in
-    within address (data_size song used) (code_bound features o) (packed_size song used) (code_length features o) ends.1
-    (packed_size_is_within song used) (code_is_bounded features o) count ends.4
+    within address (data_size song used) (code_bound features o) (packed_size song used) (slides_of song used features)
+    (code_length features o) ends.1 (packed_size_is_within song used) (player_is_bounded song used features o)
+    (its_length song o used features ends.1 is are_used are_features) ends.4
 
 pub small_songs : SmallSongsArePacked
+unfolding length_of
 small_songs files input output psid address zero_page o chip small =
     let song = small.song in
     let used = small.used in
     let holds = small.holds in
     let room =
     fits_too address (data_size song used) (code_bound small.features o) (packed_size song used)
-    (code_length small.features o) (packed_size_is_within song used) (code_is_bounded small.features o) small.room in (
+    (slides_of song used small.features) (code_length small.features o) (packed_size_is_within song used)
+    (player_is_bounded song used small.features o) small.room in (
       met_passes files (IsThere input) (holds.bytes, holds.found),
       (
         met_passes files (Fits input input_limit) (holds.bytes, holds.found, small.fits),

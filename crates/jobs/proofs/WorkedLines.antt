@@ -31,6 +31,7 @@ cost_lines_are_worked = record {
   in_pattern = refl;
   in_instrument = refl;
   in_wave_table = refl;
+  in_common = refl;
   by_skip = refl;
   by_first = refl;
   by_speed = refl;

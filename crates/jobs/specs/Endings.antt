@@ -2,10 +2,12 @@
 use Rattle.std.specs.Prelude.{◌≡◌, ◌≢◌, ℕ, ◌+◌, ◌≤◌, List, [], ◌∷◌, ◌++◌, Some, length, take}
 use Rattle.std.specs.List.{concat}
 use Rattle.goat_io.specs.Files.{Files, file_of, told_with_file, IsAbsent, IsAbove, IsWrittenInPart}
+use Rattle.song_model.specs.declared.tables.TableName.TheVariants.{Speed}
 use Rattle.song_model.specs.declared.songs.Song.{Song}
 use Rattle.packed_form.specs.declared.packed_songs.PackedSong.{PackedSong}
 use Rattle.packed_form.specs.Sizes.{packed_song_size}
 use Rattle.packing_rules.specs.UsedSets.{UsedSets, AreUsedSets}
+use Rattle.packing_rules.specs.Renumbering.{speed_rows}
 use Rattle.packing_rules.specs.SongSizes.{packed_size}
 use Rattle.packed_form.specs.StandsFor.{StandsFor}
 use Rattle.gts5.specs.Spells.{Spells}
@@ -87,12 +89,13 @@ pub data EditFails (text : List ℕ) (song : Song) (last : Last) : Type 0 where
       EditFails text song last
   wanting : last ≡ Wants → EditFails text song last
 
--- a packed song stands for a song, and has the bytes of the song's packed data
+-- a packed song stands for a song, and has the bytes of the song's packed data and as many rows of the speed table
 pub record PacksSong (packed : PackedSong) (song : Song) : Type 0 where
   pub stands : StandsFor packed song
   pub used : UsedSets
   pub are_used : AreUsedSets song used
   pub size : packed_song_size packed ≡ packed_size song used
+  pub speeds : length packed.speed ≡ length (speed_rows song (used.pointers Speed))
 
 -- a file was written, or not
 pub data WriteEnds (name bytes : List ℕ) (before after : FolderState) (last : Last) : Type 0 where

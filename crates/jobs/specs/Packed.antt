@@ -2,6 +2,7 @@
 use Rattle.std.specs.Prelude.{◌≡◌, ℕ, ◌+◌, ◌*◌, ◌/◌, ◌%◌, ◌≤◌, List, ◌∷◌, Bool}
 use Rattle.std.specs.Prelude.{true, false, if◌then◌else◌, nat_eq, length}
 use Rattle.base.specs.Bytes.{AreBytes}
+use Rattle.song_model.specs.declared.tables.TableName.TheVariants.{Speed}
 use Rattle.song_model.specs.declared.songs.Song.{Song}
 use Rattle.song_model.specs.LookUp.{playable_subtunes}
 use Rattle.play_model.specs.declared.options.Options.{Options}
@@ -9,8 +10,10 @@ use Rattle.play_model.specs.declared.options.System.{System}
 use Rattle.play_model.specs.declared.options.System.TheVariants.{Pal, Ntsc}
 use Rattle.play_model.specs.Features.{AreFeatures}
 use Rattle.packing_rules.specs.UsedSets.{UsedSets, AreUsedSets}
+use Rattle.packing_rules.specs.Renumbering.{speed_rows}
 use Rattle.packing_rules.specs.SongSizes.{packed_size}
-use Rattle.code_lengths.specs.Lengths.{code_length}
+use Rattle.image_parts.specs.CodeParts.{code_length}
+use Rattle.image_parts.specs.Lengths.{slide_bytes}
 use Rattle.command_line.specs.declared.chip.Chip.{Chip}
 use Rattle.command_line.specs.declared.chip.Chip.TheVariants.{Mos6581, Mos8580}
 use Rattle.psid.specs.declared.header.Header.{Header}
@@ -74,14 +77,16 @@ pub record IsPackedFile (psid : Bool) (address zero_page : ℕ) (song : Song) (o
   pub below : address + length image ≤ 0xD000
   pub faithful : IsFaithful image address zero_page song options
 
--- how many bytes the image of a song has: those of its packed data, and those of the player's parts that its features
--- and the options want
+-- how many bytes the image of a song has: those of its packed data, those of the slides and periods of calculated
+-- speeds, and those of the player's parts that its features and the options want
 pub record IsImageLength (song : Song) (options : Options) (count : ℕ) : Type 0 where
   pub used : UsedSets
   pub features : ℕ
   pub are_used : AreUsedSets song used
   pub are_features : AreFeatures song features
-  pub count_is : count ≡ packed_size song used + code_length features options
+  pub count_is : count
+      ≡ packed_size song used + slide_bytes features (length (speed_rows song (used.pointers Speed)))
+      + code_length features options
 
 -- a file that `pack` writes: a packed file, of an image that is as long as that, and that plays the song after any calls,
 -- from the first init on each by the image's bytes alone

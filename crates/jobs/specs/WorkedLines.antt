@@ -91,7 +91,7 @@ some_costs = record {
   speed = 8;
 }
 
--- a part at its bit, so many bytes, and what they are for
+-- a part, so many bytes, and what they are for
 abbrev pub costly : ℕ → ℕ → Cause → PartCost
 costly part bytes cause = record { part = part; bytes = bytes; cause = cause }
 
@@ -101,18 +101,20 @@ pub record CostLinesAreWorked : Type 0 where
       ≡ codes "player 1575 bytes\n" ∷ codes "orderlists 48 bytes\n" ∷ codes "patterns 327 bytes\n"
       ∷ codes "instruments 63 bytes\n" ∷ codes "wave table 42 bytes\n" ∷ codes "pulse table 12 bytes\n"
       ∷ codes "filter table 6 bytes\n" ∷ codes "speed table 8 bytes\n" ∷ codes "image 2081 bytes\n" ∷ []
-  pub in_order : part_line (costly 0 10 (InSong (InOrder 12 3 0x1F)))
-      ≡ codes "transpose 10 bytes, subtune 12 channel 3 place 1F\n"
-  pub in_pattern : part_line (costly 4 82 (InSong (InPattern 0x1A 3)))
-      ≡ codes "tone portamento 82 bytes, pattern 1A row 03\n"
-  pub in_instrument : part_line (costly 7 30 (InSong (InInstrument 16)))
-      ≡ codes "instrument vibrato 30 bytes, instrument 10\n"
-  pub in_wave_table : part_line (costly 23 173 (InSong (InWaveTable 12)))
-      ≡ codes "wave commands 173 bytes, wave row 0C\n"
-  pub by_skip : part_line (costly 25 33 SkipOption) ≡ codes "skip pulse 33 bytes, SKIP\n"
-  pub by_first : part_line (costly 27 57 SkipOption) ≡ codes "skip between patterns 57 bytes, SKIP\n"
+  pub in_order : part_line (costly 0 16 (InSong (InOrder 12 3 0x1F)))
+      ≡ codes "transpose 16 bytes, subtune 12 channel 3 place 1F\n"
+  pub in_pattern : part_line (costly 4 58 (InSong (InPattern 0x1A 3)))
+      ≡ codes "tone portamento 58 bytes, pattern 1A row 03\n"
+  pub in_instrument : part_line (costly 7 20 (InSong (InInstrument 16)))
+      ≡ codes "instrument vibrato 20 bytes, instrument 10\n"
+  pub in_wave_table : part_line (costly 23 80 (InSong (InWaveTable 12)))
+      ≡ codes "wave commands 80 bytes, wave row 0C\n"
+  pub in_common : part_line (costly 28 29 (InSong (InInstrument 16)))
+      ≡ codes "vibrato swing 29 bytes, instrument 10\n"
+  pub by_skip : part_line (costly 25 6 SkipOption) ≡ codes "skip pulse 6 bytes, SKIP\n"
+  pub by_first : part_line (costly 27 36 SkipOption) ≡ codes "skip between patterns 36 bytes, SKIP\n"
   pub by_speed : part_line (costly 26 10 SpeedOption) ≡ codes "play by timer 10 bytes, SPEED\n"
-  pub names : map part_name (range_with_len 0 28)
+  pub names : map part_name (range_with_len 0 34)
       ≡ codes "transpose"
       ∷ codes "repeat"
       ∷ codes "portamento up"
@@ -140,7 +142,13 @@ pub record CostLinesAreWorked : Type 0 where
       ∷ codes "skip effects"
       ∷ codes "skip pulse"
       ∷ codes "play by timer"
-      ∷ codes "skip between patterns" ∷ []
+      ∷ codes "skip between patterns"
+      ∷ codes "vibrato swing"
+      ∷ codes "slide high byte up"
+      ∷ codes "slide high byte down"
+      ∷ codes "slide low byte up"
+      ∷ codes "slide low byte down"
+      ∷ codes "note reached" ∷ []
 
 -- one for each way in which a file is no song, or no PSID file
 pub record FaultsAreWorked : Type 0 where

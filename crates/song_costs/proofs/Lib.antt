@@ -11,11 +11,17 @@ mod SongPlaces
 -- Features and places.
 mod FeaturePlaces
 mod OnePlace
+-- Parts and their places.
+mod PlaceOrder
+mod PartFeatures
+mod FeatureSteps
 -- Bytes.
 mod ByteKinds
+mod ToldSums
 mod Sums
 mod KeptParts
 mod KeptLists
 -- Worked by hand.
 mod WorkedPlaces
+mod CommonPlaces
 mod WorkedCosts

@@ -7,7 +7,7 @@ use Rattle.play_model.specs.Features.{HasFeature}
 use Rattle.song_costs.specs.declared.places.Place.{Place}
 use Rattle.song_costs.specs.declared.places.Place.TheVariants.{InOrder, InPattern, InInstrument, InWaveTable}
 use Rattle.song_costs.specs.Needs.{Need}
-use Rattle.song_costs.specs.Places.{rank_of, IsNeededAt, NeedsAt, IsFirstPlace}
+use Rattle.song_costs.specs.Places.{rank_of, IsNeededAt, NeedsAt, IsFirst, IsFirstPlace}
 use Rattle.song_costs.specs.PlaceLaws.{FirstPlacesAreOne}
 use Rattle.song_costs.specs.Search.{IsUnder, IsFirstUnder, IsNowhereUnder}
 use Rattle.song_costs.proofs.Ranks.{same_ranks}
@@ -25,9 +25,12 @@ one_rank (InPattern p r) other e = pattern_place p r other (under_own (InPattern
 one_rank (InInstrument n) other e = instrument_place n other (under_own (InInstrument n) other e)
 one_rank (InWaveTable p) other e = wave_place p other (under_own (InWaveTable p) other e)
 
-pub first_places_are_one : FirstPlacesAreOne
-first_places_are_one song feature one other a b =
+pub one_first : (IsSuch : Place → Type 0) (one other : Place) → IsFirst IsSuch one → IsFirst IsSuch other → one ≡ other
+one_first IsSuch one other a b =
     one_rank other one (same_ranks (rank_of one) (rank_of other) (a.first other b.is_such) (b.first one a.is_such))
+
+pub first_places_are_one : FirstPlacesAreOne
+first_places_are_one song feature = one_first (NeedsAt song feature)
 
 -- ---- what the search answers
 

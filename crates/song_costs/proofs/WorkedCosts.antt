@@ -1,27 +1,30 @@
 -- Costs of small songs, worked out by hand.
-use Rattle.std.proofs.Common.{◌≡◌, ℕ, [], ◌∷◌, map, refl, subst, inl, inr, arith}
+use Rattle.std.proofs.Common.{◌≡◌, ℕ, true, List, [], ◌∷◌, map, All, refl, inl, inr, arith}
 use Rattle.std.proofs.lemmas.List.Elements.{All-cons, All-nil}
 use Rattle.base.proofs.Laws.{same_head}
 use Rattle.song_model.specs.declared.features.Feature.{Feature}
-use Rattle.song_model.specs.declared.features.Feature.TheVariants.{Transpose, FilterTable, WaveCommand}
+use Rattle.song_model.specs.declared.features.Feature.TheVariants.{Transpose, PortaUp, FilterTable, WaveTable}
+use Rattle.song_model.specs.declared.features.Feature.TheVariants.{WaveCommand}
 use Rattle.song_model.specs.Feature.{bit_of}
 use Rattle.song_model.specs.LookUp.{table_row, pattern_at}
+use Rattle.play_model.specs.State.{no_options}
 use Rattle.packed_form.specs.PackedText.{packed_text}
 use Rattle.packing_rules.specs.Segments.{first_row, is_closed, are_equal, first_equal, keeps, stand_in}
 use Rattle.packing_rules.specs.Renumbering.{speed_rows, speed_number, table_number, instrument_number, pattern_text}
 use Rattle.packing_rules.specs.Renumbering.{pattern_texts}
+use Rattle.player_memory.specs.declared.conditions.TheConstants.{CLIMB, RISE}
 use Rattle.song_costs.specs.declared.places.Place.{Place}
 use Rattle.song_costs.specs.declared.places.Place.TheVariants.{InOrder, InPattern, InInstrument, InWaveTable}
-use Rattle.code_lengths.specs.WorkedLengths.{plain}
 use Rattle.song_costs.specs.declared.kept.Cause.TheVariants.{InSong}
 use Rattle.song_costs.specs.declared.kept.PartCost.{PartCost}
 use Rattle.song_costs.specs.Places.{IsFirstPlace}
-use Rattle.song_costs.specs.Kept.{IsPartPlace}
+use Rattle.song_costs.specs.Kept.{keeps_part, NeedsFor, IsPartPlace}
 use Rattle.song_costs.specs.WorkedPlaces.{crossing}
 use Rattle.song_costs.specs.WorkedCosts.{NoteIsWorked, TablesAreCounted, part_cost, IsToldOf, PartsAreWorked}
 use Rattle.song_costs.specs.WorkedCosts.{ListIsWorked, OptionsAreWorked}
-use Rattle.song_costs.proofs.KeptParts.{one_feature}
-use Rattle.song_costs.proofs.WorkedPlaces.{transposes_are_worked, tables_are_worked}
+use Rattle.song_costs.proofs.PartFeatures.{own_places_are_first}
+use Rattle.song_costs.proofs.WorkedPlaces.{transposes_are_worked, portamentos_are_worked, tables_are_worked, risen}
+use Rattle.song_costs.proofs.CommonPlaces.{crossing_first}
 
 pub note_is_worked : NoteIsWorked
 unfolding packed_text first_row is_closed are_equal first_equal keeps stand_in speed_rows speed_number table_number
@@ -31,67 +34,125 @@ note_is_worked = record { each = refl; bytes = refl; all = refl; few = λ e. ome
 pub tables_are_counted : TablesAreCounted
 unfolding packed_text first_row is_closed are_equal first_equal keeps stand_in speed_rows speed_number table_number
     instrument_number pattern_text pattern_texts table_row pattern_at
-tables_are_counted = record { wave = refl; pulse = refl; filter = refl; speed = refl; bytes = refl }
-
--- the place of a part is one of its feature
-of_feature : (feature : Feature) (part : ℕ) (place : Place) → bit_of feature ≡ part →
-    IsPartPlace crossing part place → IsFirstPlace crossing feature place
-of_feature feature part place is h =
-    subst (λ (f : Feature). IsFirstPlace crossing f place) (one_feature h.feature feature part h.bit_is is) h.first
-
-filter_is_first : IsFirstPlace crossing FilterTable (InInstrument 3)
-filter_is_first = tables_are_worked.first
-
-pub parts_are_worked : PartsAreWorked
-parts_are_worked = record {
-  transposes = record {
-    kept = refl;
-    bytes = refl;
-    some = λ e. absurd (omega arith);
-    cause = record { feature = Transpose; bit_is = refl; first = transposes_are_worked.first };
-  };
-  later = λ told. transposes_are_worked.not_first (of_feature Transpose 0 (InOrder 2 3 0) refl told.cause);
-  longer = λ told. (let e = told.bytes in omega arith);
-  filters = record {
-    kept = refl;
-    bytes = refl;
-    some = λ e. absurd (omega arith);
-    cause = record { feature = FilterTable; bit_is = refl; first = filter_is_first };
-  };
-  unused = λ told. tables_are_worked.unused (of_feature FilterTable 15 (InInstrument 2) refl told.cause).is_such;
-  other_kind = λ told. not_in_pattern (of_feature FilterTable 15 (InPattern 1 1) refl told.cause);
+tables_are_counted = record {
+  wave = refl;
+  pulse = refl;
+  filter = refl;
+  speed = refl;
+  bytes = refl;
+  calculated = refl;
+  with_slides = refl;
 }
-  where
-    not_in_pattern : ¬ IsFirstPlace crossing FilterTable (InPattern 1 1)
-    not_in_pattern first = tables_are_worked.no_row first.is_such
 
-wave_command : IsToldOf plain (part_cost 23 173 (InSong (InWaveTable 2)))
-wave_command = record {
+-- ---- parts
+
+-- the first place of a feature is that of its own part, and no other place is
+own_first : (feature : Feature) (place : Place) → IsFirstPlace crossing feature place →
+    IsPartPlace crossing (bit_of feature) place
+own_first feature place first = (own_places_are_first crossing feature place).1 first
+
+first_own : (feature : Feature) (place : Place) → IsPartPlace crossing (bit_of feature) place →
+    IsFirstPlace crossing feature place
+first_own feature place first = (own_places_are_first crossing feature place).0 first
+
+-- a portamento up keeps what several features have in common
+slides : (part : ℕ) → keeps_part PortaUp part ≡ true → NeedsFor crossing part (InPattern 1 1)
+slides part kept = record { feature = PortaUp; is_kept = kept; needs = risen }
+
+transposes : IsToldOf no_options (part_cost 0 16 (InSong (InOrder 2 2 1)))
+transposes = record {
   kept = refl;
   bytes = refl;
   some = λ e. absurd (omega arith);
-  cause = record { feature = WaveCommand; bit_is = refl; first = tables_are_worked.command };
+  cause = own_first Transpose (InOrder 2 2 1) transposes_are_worked.first;
 }
+
+portamentos : IsToldOf no_options (part_cost 2 4 (InSong (InPattern 1 1)))
+portamentos = record {
+  kept = refl;
+  bytes = refl;
+  some = λ e. absurd (omega arith);
+  cause = own_first PortaUp (InPattern 1 1) portamentos_are_worked.first;
+}
+
+filters : IsToldOf no_options (part_cost 15 76 (InSong (InInstrument 3)))
+filters = record {
+  kept = refl;
+  bytes = refl;
+  some = λ e. absurd (omega arith);
+  cause = own_first FilterTable (InInstrument 3) tables_are_worked.first;
+}
+
+waves : IsToldOf no_options (part_cost 22 68 (InSong (InInstrument 1)))
+waves = record {
+  kept = refl;
+  bytes = refl;
+  some = λ e. absurd (omega arith);
+  cause = own_first WaveTable (InInstrument 1) tables_are_worked.wave;
+}
+
+wave_commands : IsToldOf no_options (part_cost 23 80 (InSong (InWaveTable 2)))
+wave_commands = record {
+  kept = refl;
+  bytes = refl;
+  some = λ e. absurd (omega arith);
+  cause = own_first WaveCommand (InWaveTable 2) tables_are_worked.command;
+}
+
+climb : IsToldOf no_options (part_cost CLIMB 10 (InSong (InPattern 1 1)))
+climb = record {
+  kept = refl;
+  bytes = refl;
+  some = λ e. absurd (omega arith);
+  cause = crossing_first CLIMB refl refl (slides CLIMB refl);
+}
+
+rise : IsToldOf no_options (part_cost RISE 17 (InSong (InPattern 1 1)))
+rise = record {
+  kept = refl;
+  bytes = refl;
+  some = λ e. absurd (omega arith);
+  cause = crossing_first RISE refl refl (slides RISE refl);
+}
+
+pub parts_are_worked : PartsAreWorked
+parts_are_worked = record {
+  transposes = transposes;
+  later = λ told. transposes_are_worked.not_first (first_own Transpose (InOrder 2 3 0) told.cause);
+  longer = λ told. (let e = told.bytes in omega arith);
+  filters = filters;
+  unused = λ told. tables_are_worked.unused (first_own FilterTable (InInstrument 2) told.cause).is_such;
+  other_kind = λ told. tables_are_worked.no_row (first_own FilterTable (InPattern 1 1) told.cause).is_such;
+  climb = climb;
+  later_climb = λ told. (let e = told.cause.first (InPattern 1 1) (slides CLIMB refl) in absurd (cc));
+  no_drop = λ bytes cause told. (let e = told.kept in absurd (cc));
+}
+
+-- all of these are told
+record AreTold (costs : List PartCost) : Type 0 where
+  each : All (IsToldOf no_options) costs
+
+nothing : AreTold []
+nothing = record { each = All-nil (IsToldOf no_options) }
+
+more : {cost : PartCost} {costs : List PartCost} → IsToldOf no_options cost → AreTold costs → AreTold (cost ∷ costs)
+more {cost} {costs} told rest = record { each = All-cons (IsToldOf no_options) cost costs told rest.each }
 
 pub list_is_worked : ListIsWorked
 list_is_worked = record {
   all = record {
     parts = refl;
-    each = All-cons (IsToldOf plain) (part_cost 0 10 (InSong (InOrder 2 2 1)))
-        (part_cost 15 98 (InSong (InInstrument 3)) ∷ part_cost 23 173 (InSong (InWaveTable 2)) ∷ [])
-        parts_are_worked.transposes
-        (All-cons (IsToldOf plain) (part_cost 15 98 (InSong (InInstrument 3)))
-        (part_cost 23 173 (InSong (InWaveTable 2)) ∷ []) parts_are_worked.filters
-        (All-cons (IsToldOf plain) (part_cost 23 173 (InSong (InWaveTable 2))) [] wave_command
-        (All-nil (IsToldOf plain))));
+    each = (more transposes
+        (more portamentos (more filters (more waves (more wave_commands (more climb (more rise nothing))))))).each;
   };
   other_order = λ rest kept. absurd
-      (let e = same_head 15 0 (map (λ (cost : PartCost). cost.part) rest) (15 ∷ 23 ∷ []) kept.parts in omega arith);
+      (let e = same_head 15 0 (map (λ (cost : PartCost). cost.part) rest) (2 ∷ 15 ∷ 22 ∷ 23 ∷ CLIMB ∷ RISE ∷ [])
+      kept.parts in omega arith);
 }
 
 pub options_are_worked : OptionsAreWorked
 options_are_worked = record {
-  no_code = λ bytes cause told. told.some told.bytes;
+  no_bytes = λ song bytes cause told. told.some told.bytes;
   not_kept = λ bytes cause told. (let e = told.kept in absurd (cc));
   skip = record { kept = refl; bytes = refl; some = λ e. absurd (omega arith); cause = inl refl };
   first = record { kept = refl; bytes = refl; some = λ e. absurd (omega arith); cause = inr (inr refl) };

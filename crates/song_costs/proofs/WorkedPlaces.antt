@@ -9,7 +9,7 @@ use Rattle.song_model.specs.declared.orders.Order.{Order}
 use Rattle.song_model.specs.declared.orders.Subtune.{Subtune}
 use Rattle.song_model.specs.declared.songs.Song.{Song}
 use Rattle.song_model.specs.declared.features.Feature.TheVariants.{Transpose, PortaUp, InstrumentVibrato, FilterTable}
-use Rattle.song_model.specs.declared.features.Feature.TheVariants.{WaveCommand}
+use Rattle.song_model.specs.declared.features.Feature.TheVariants.{WaveTable, WaveCommand}
 use Rattle.song_model.specs.declared.tables.TableName.TheVariants.{Wave, Filter}
 use Rattle.song_model.specs.LookUp.{order_of, pattern_at, instrument_at, table_row}
 use Rattle.song_model.specs.Silence.{rest_row}
@@ -81,7 +81,7 @@ used_byte b h =
     byte_in h.played.channel b (channels h.played.channel h.played.is_channel)
     (subst (λ (o : Order). Contains o.entries b) order h.entry)
 
-used_pattern : (p : ℕ) → IsUsedPattern crossing p → (1 ≡ p) ⊎ (2 ≡ p)
+pub used_pattern : (p : ℕ) → IsUsedPattern crossing p → (1 ≡ p) ⊎ (2 ≡ p)
 used_pattern p used = (let w = used_byte p used.byte in let small = used.is_pattern in elim w [
   | one e ↦ inl e
   | two e ↦ inr e
@@ -149,7 +149,7 @@ played_two = record {
   is_pattern = lit< tt;
 }
 
-played_one : IsUsedPattern crossing 1
+pub played_one : IsUsedPattern crossing 1
 unfolding second
 played_one = record {
   byte = record {
@@ -282,7 +282,7 @@ before_row zero few place such =
     not_both at.row.command (ap (λ (r : Row). r.command) (sym same)) at.is_meant.0
 before_row (suc k) few place such = absurd (omega arith)
 
-risen : NeedsAt crossing PortaUp (InPattern 1 1)
+pub risen : NeedsAt crossing PortaUp (InPattern 1 1)
 unfolding pattern_at
 risen = record { used = played_one; row = row 0xBD 0 1 0; there = refl; is_meant = (refl, tt) }
 
@@ -340,6 +340,25 @@ filtered : NeedsAt crossing FilterTable (InInstrument 3)
 unfolding instrument_at
 filtered = record { used = used_three; is_meant = (refl, λ e. absurd (omega arith), tt) }
 
+waves : Need
+waves = need_of crossing WaveTable
+
+no_wave_row : (r : Row) → Fields r → ¬ waves.row r
+unfolding waves
+no_wave_row r (fields commands instruments) meant = (let table = meant.0 in elim commands [
+  | inl e ↦ (let no : None ≡ Some Wave = rw e at table in cc)
+  | inr e ↦ (let no = rw e at table in cc)
+])
+
+before_first : (k : ℕ) → k < 1 → IsNowhereUnder crossing waves (3 ∷ k ∷ [])
+unfolding waves instrument_at
+before_first zero few place such = (instrument_of crossing waves 0 place such).is_meant.1 refl
+before_first (suc k) few place such = absurd (omega arith)
+
+waved : NeedsAt crossing WaveTable (InInstrument 1)
+unfolding instrument_at
+waved = record { used = inl refl; is_meant = (refl, λ e. absurd (omega arith), tt) }
+
 commands : Need
 commands = need_of crossing WaveCommand
 
@@ -356,7 +375,7 @@ unfolding table_row
 commanded = record { reached = reached_two; is_meant = (lit≤ tt, lit≤ tt) }
 
 pub tables_are_worked : TablesAreWorked
-unfolding filters commands table_row
+unfolding filters waves commands table_row
 tables_are_worked = record {
   first = first_as crossing FilterTable filters (InInstrument 3) (λ place. (λ h. h, λ h. h))
       (first_in_instruments crossing filters (InInstrument 3) (no_bytes crossing filters (λ b h. h))
@@ -365,6 +384,11 @@ tables_are_worked = record {
       (alone crossing filters (InInstrument 3) filtered)));
   unused = λ at. not_two at.used;
   no_row = λ at. no_filter_row at.row (used_row 1 1 at.row at.used at.there) at.is_meant;
+  wave = first_as crossing WaveTable waves (InInstrument 1) (λ place. (λ h. h, λ h. h))
+      (first_in_instruments crossing waves (InInstrument 1) (no_bytes crossing waves (λ b h. h))
+      (no_rows waves no_wave_row)
+      (first_on crossing waves (3 ∷ []) 1 (InInstrument 1) (inner_kind 3) before_first
+      (alone crossing waves (InInstrument 1) waved)));
   command = first_as crossing WaveCommand commands (InWaveTable 2) (λ place. (λ h. h, λ h. h))
       (first_in_waves crossing commands (InWaveTable 2) (no_bytes crossing commands (λ b h. h))
       (no_rows commands (λ r f h. h)) (no_instruments commands (λ n h. h))

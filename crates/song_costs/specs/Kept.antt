@@ -1,48 +1,59 @@
--- The parts of the player that a song and its options keep, each with its bytes and the reason for it. This is the
--- project's own player.
-use Rattle.std.specs.Prelude.{◌≡◌, ◌≢◌, ℕ, Bool, true, not, ◌&&◌, ◌==◌, ◌⊎◌, List, map, filter, All}
+-- The parts of the player that a song and its options keep, each with its bytes and the reason for it. A part is a
+-- condition: 0 to 23 are the features of a song, 24 to 27 the options, and 28 to 33 what several features have in
+-- common. This is the project's own player.
+use Rattle.std.specs.Prelude.{◌≡◌, ◌≢◌, ℕ, ◌^◌, Bool, true, not, ◌&&◌, ◌==◌, ◌⊎◌, List, map, filter, All}
 use Rattle.std.specs.List.{range_with_len}
 use Rattle.song_model.specs.declared.features.Feature.{Feature}
 use Rattle.song_model.specs.declared.songs.Song.{Song}
 use Rattle.song_model.specs.Feature.{bit_of}
 use Rattle.play_model.specs.declared.options.Options.{Options}
-use Rattle.lowering.specs.Lowered.{bit_kept}
-use Rattle.player_parts.specs.declared.parts.TheConstants.{SKIP_EFFECTS_BIT, SKIP_PULSE_BIT, TIMER_BIT, SKIP_FIRST_BIT}
-use Rattle.code_lengths.specs.Lengths.{kept_set, part_length}
+use Rattle.play_model.specs.State.{no_options}
+use Rattle.player_memory.specs.declared.conditions.TheConstants.{SKIP_EFFECTS, SKIP_PULSE, TIMED, SKIP_FIRST}
+use Rattle.kept_lines.specs.KeptLines.{keeps}
+use Rattle.image_parts.specs.CodeParts.{part_length}
 use Rattle.song_costs.specs.declared.places.Place.{Place}
 use Rattle.song_costs.specs.declared.kept.TheConstants.{PARTS}
 use Rattle.song_costs.specs.declared.kept.Cause.{Cause}
 use Rattle.song_costs.specs.declared.kept.Cause.TheVariants.{InSong, SkipOption, SpeedOption}
 use Rattle.song_costs.specs.declared.kept.PartCost.{PartCost}
-use Rattle.song_costs.specs.Places.{IsFirstPlace}
+use Rattle.song_costs.specs.Places.{NeedsAt, IsFirst}
 
-abbrev pub is_kept : ℕ → Options → ℕ → Bool
-is_kept features options part = bit_kept (kept_set features options) part
+-- ---- why
 
--- a part is told where it is kept and has code
-abbrev pub is_told : ℕ → Options → ℕ → Bool
-is_told features options part = is_kept features options part && not (part_length part == 0)
+-- a feature keeps a part where a song that uses it alone does
+abbrev pub keeps_part : Feature → ℕ → Bool
+keeps_part feature part = keeps (2 ^ bit_of feature) no_options part
 
--- the first place that needs the feature with this bit
-pub record IsPartPlace (song : Song) (part : ℕ) (place : Place) : Type 0 where
+-- what stands at the place needs a feature that keeps the part
+pub record NeedsFor (song : Song) (part : ℕ) (place : Place) : Type 0 where
   pub feature : Feature
-  pub bit_is : bit_of feature ≡ part
-  pub first : IsFirstPlace song feature place
+  pub is_kept : keeps_part feature part ≡ true
+  pub needs : NeedsAt song feature place
 
--- a part is kept for this: one of a feature for a place of the song, the others for their options
+-- the first such place
+abbrev pub IsPartPlace : Song → ℕ → Place → Type 0
+IsPartPlace song part = IsFirst (NeedsFor song part)
+
+-- a part is kept for this: one of features for a place of the song, the others for their options
 abbrev pub IsCause : Song → ℕ → Cause → Type 0
 IsCause song part (InSong place) = IsPartPlace song part place
-IsCause song part SkipOption = (part ≡ SKIP_EFFECTS_BIT) ⊎ (part ≡ SKIP_PULSE_BIT) ⊎ (part ≡ SKIP_FIRST_BIT)
-IsCause song part SpeedOption = part ≡ TIMER_BIT
+IsCause song part SkipOption = (part ≡ SKIP_EFFECTS) ⊎ (part ≡ SKIP_PULSE) ⊎ (part ≡ SKIP_FIRST)
+IsCause song part SpeedOption = part ≡ TIMED
+
+-- ---- what is told
+
+-- a part is told where it is kept and has bytes
+abbrev pub is_told : ℕ → Options → ℕ → Bool
+is_told features options part = keeps features options part && not (part_length features options part == 0)
 
 -- what is told of such a part: its bytes and its cause
 pub record IsPartCost (song : Song) (features : ℕ) (options : Options) (cost : PartCost) : Type 0 where
-  pub kept : is_kept features options cost.part ≡ true
-  pub bytes : cost.bytes ≡ part_length cost.part
+  pub kept : keeps features options cost.part ≡ true
+  pub bytes : cost.bytes ≡ part_length features options cost.part
   pub some : cost.bytes ≢ 0
   pub cause : IsCause song cost.part cost.cause
 
--- what is told of the parts below n, in the order of their bits
+-- what is told of the parts below n, in their order
 pub record AreKeptBelow (song : Song) (features : ℕ) (options : Options) (n : ℕ) (costs : List PartCost) : Type 0 where
   pub parts : map (λ cost. cost.part) costs ≡ filter (is_told features options) (range_with_len 0 n)
   pub each : All (IsPartCost song features options) costs

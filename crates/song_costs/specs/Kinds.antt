@@ -1,5 +1,6 @@
 -- How many bytes a song takes in a packed file, kind by kind, by this project's own packed form. Orderlists and
--- patterns are counted with two bytes each for their addresses, and the player with the frequencies of notes.
+-- patterns are counted with two bytes each for their addresses, the player with the frequencies of notes, and the speed
+-- table with the lists of slides and periods that a song with calculated speeds has.
 use Rattle.std.specs.Prelude.{ℕ, ◌+◌, ◌*◌, length, sum_by, count_by}
 use Rattle.std.specs.Str.{bytes_eq}
 use Rattle.song_model.specs.declared.instruments.TheConstants.{MOST_INSTRUMENTS}
@@ -12,8 +13,13 @@ use Rattle.packing_rules.specs.Segments.{numbers, keeps}
 use Rattle.packing_rules.specs.UsedSets.{UsedSets}
 use Rattle.packing_rules.specs.Renumbering.{first_seen, speed_rows, filter_programs, pulse_programs, wave_programs, pattern_texts}
 use Rattle.packing_rules.specs.SongSizes.{orders_size, rows_size}
-use Rattle.code_lengths.specs.Lengths.{code_length}
+use Rattle.image_parts.specs.CodeParts.{code_length}
+use Rattle.image_parts.specs.Lengths.{slide_bytes}
 use Rattle.song_costs.specs.declared.costs.Costs.{Costs}
+
+-- two bytes for each row of the speed table, and the slides
+abbrev pub speed_bytes : ℕ → ℕ → ℕ
+speed_bytes features rows = 2 * rows + slide_bytes features rows
 
 -- patterns with the same text are counted once, and so are programs that are equal
 abbrev pub costs_of : Song → UsedSets → ℕ → Options → Costs
@@ -25,7 +31,7 @@ costs_of song used features options = record {
   wave = rows_size keeps (wave_programs song used);
   pulse = rows_size keeps (pulse_programs song used);
   filter = rows_size keeps (filter_programs song used);
-  speed = 2 * length (speed_rows song (used.pointers Speed));
+  speed = speed_bytes features (length (speed_rows song (used.pointers Speed)));
 }
 
 -- those of the song's data

@@ -1,5 +1,5 @@
--- How the first place is looked for, one part of the song after the other.
-use Rattle.std.specs.Prelude.{◌≡◌, ◌≢◌, ℕ, ◌%◌, ◌≤◌, ◌⊎◌, List, ◌++◌}
+-- How the first place is looked for, one stretch of the song after the other, and one feature after the other.
+use Rattle.std.specs.Prelude.{◌≡◌, ◌≢◌, ℕ, ◌%◌, ◌≤◌, ◌⊎◌, List, ◌++◌, Option, Some}
 use Rattle.song_model.specs.declared.tables.TableName.TheVariants.{Speed}
 use Rattle.song_model.specs.declared.songs.Song.{Song}
 use Rattle.song_model.specs.LookUp.{speed_row}
@@ -46,3 +46,7 @@ IsFirstUnder song need front = IsFirst (IsNeededUnder song need front)
 
 abbrev pub IsNowhereUnder : Song → Need → List ℕ → Type 0
 IsNowhereUnder song need front = (place : Place) → ¬ IsNeededUnder song need front place
+
+-- the place is one of those that are there
+abbrev pub IsOneOf : Option Place → Option Place → Place → Type 0
+IsOneOf one other place = (one ≡ Some place) ⊎ (other ≡ Some place)

@@ -3,15 +3,17 @@ use Rattle.std.specs.Prelude.{◌≡◌, ◌≢◌, ℕ, ◌+◌, ◌^◌, Bool,
 use Rattle.song_model.specs.declared.tables.TableName.{TableName}
 use Rattle.song_model.specs.declared.tables.TableName.TheVariants.{Wave, Pulse, Filter, Speed}
 use Rattle.song_model.specs.declared.songs.Song.{Song}
-use Rattle.song_model.specs.declared.features.Feature.TheVariants.{Transpose, PortaUp, InstrumentVibrato, PulseTable}
-use Rattle.song_model.specs.declared.features.Feature.TheVariants.{FilterTable, WaveTable, WaveCommand}
+use Rattle.song_model.specs.declared.features.Feature.TheVariants.{Transpose, PortaUp, Vibrato, InstrumentVibrato}
+use Rattle.song_model.specs.declared.features.Feature.TheVariants.{NoteDependent, PulseTable, FilterTable, WaveTable}
+use Rattle.song_model.specs.declared.features.Feature.TheVariants.{WaveCommand}
 use Rattle.song_model.specs.Feature.{bit_of}
 use Rattle.play_model.specs.declared.options.Options.{Options}
-use Rattle.play_model.specs.WorkedRuns.{left_out}
+use Rattle.play_model.specs.State.{no_options}
+use Rattle.play_model.specs.WorkedRuns.{left_out, first_left_out, all_left_out}
 use Rattle.play_model.specs.WorkedSongs.{one_note, plucked, sides}
 use Rattle.packing_rules.specs.UsedSets.{UsedSets}
 use Rattle.packing_rules.specs.WorkedSizes.{among, note_sets, two_rests}
-use Rattle.code_lengths.specs.WorkedLengths.{plain, sparing, sparing_first}
+use Rattle.player_memory.specs.declared.conditions.TheConstants.{CLIMB, DROP, RISE}
 use Rattle.song_costs.specs.declared.costs.Costs.{Costs}
 use Rattle.song_costs.specs.declared.places.Place.TheVariants.{InOrder, InPattern, InInstrument, InWaveTable}
 use Rattle.song_costs.specs.declared.kept.Cause.{Cause}
@@ -28,13 +30,13 @@ abbrev pub note_features : ℕ
 note_features = 2 ^ bit_of PulseTable + 2 ^ bit_of WaveTable
 
 abbrev pub note_costs : Costs
-note_costs = costs_of one_note (note_sets (0 ∷ 1 ∷ [])) note_features plain
+note_costs = costs_of one_note (note_sets (0 ∷ 1 ∷ [])) note_features no_options
 
 -- three orderlists of one entry, the patterns 01 90 BE 00 and C0 00, one instrument, two rows in each of two tables;
--- 1,255 bytes of the player that each song has, the frequencies among them, and 99 of the pulse step
+-- 939 bytes of the player that each image has, the frequencies among them, and 82 and 68 for a pulse and a wave program
 pub record NoteIsWorked : Type 0 where
   pub each : note_costs ≡ record {
-    player = 1354;
+    player = 1089;
     orders = 15;
     patterns = 10;
     instruments = 9;
@@ -44,11 +46,11 @@ pub record NoteIsWorked : Type 0 where
     speed = 0;
   }
   pub bytes : data_bytes note_costs ≡ 42
-  pub all : all_bytes note_costs ≡ 1396
+  pub all : all_bytes note_costs ≡ 1131
   -- without the frequencies
-  pub few : note_costs.player ≢ 1158
+  pub few : note_costs.player ≢ 893
   -- an equal pattern is stored once, and a note for each of three orderlists isn't
-  pub once : (costs_of two_rests (note_sets (0 ∷ 1 ∷ 2 ∷ [])) note_features plain).patterns ≡ 10
+  pub once : (costs_of two_rests (note_sets (0 ∷ 1 ∷ 2 ∷ [])) note_features no_options).patterns ≡ 10
 
 -- a note of an instrument with two wave rows, three pulse rows, four filter rows and a vibrato
 abbrev pub rich_note : Song
@@ -74,15 +76,24 @@ abbrev pub rich_features : ℕ
 rich_features = note_features + 2 ^ bit_of FilterTable + 2 ^ bit_of InstrumentVibrato
 
 abbrev pub rich_costs : Costs
-rich_costs = costs_of rich_note rich_sets rich_features plain
+rich_costs = costs_of rich_note rich_sets rich_features no_options
 
--- two bytes for each row, in the kind of its own table
+-- the same where the vibrato's speed is calculated from the note
+abbrev pub calculated_costs : Costs
+calculated_costs =
+    costs_of (record rich_note { speed = sides 0x84 2 ∷ [] }) rich_sets (rich_features + 2 ^ bit_of NoteDependent)
+    no_options
+
+-- two bytes for each row, in the kind of its own table; and where speeds are calculated three more for the row of the
+-- speed table and for row 0, among those of the table and not in the player
 pub record TablesAreCounted : Type 0 where
   pub wave : rich_costs.wave ≡ 4
   pub pulse : rich_costs.pulse ≡ 6
   pub filter : rich_costs.filter ≡ 8
   pub speed : rich_costs.speed ≡ 2
   pub bytes : data_bytes rich_costs ≡ 54
+  pub calculated : calculated_costs.speed ≡ 8
+  pub with_slides : data_bytes calculated_costs ≡ 60
 
 -- ---- parts
 
@@ -98,32 +109,38 @@ crossing_features =
 abbrev pub IsToldOf : Options → PartCost → Type 0
 IsToldOf options = IsPartCost crossing crossing_features options
 
--- a part is told with its first place; a later one, one of an instrument that isn't used, one of another kind and
--- another number of bytes are not
+-- a part is told with its first place, and so is one that several features have in common; a later one, one of an
+-- instrument that isn't used, one of another kind and another number of bytes are not
 pub record PartsAreWorked : Type 0 where
-  pub transposes : IsToldOf plain (part_cost 0 10 (InSong (InOrder 2 2 1)))
-  pub later : ¬ IsToldOf plain (part_cost 0 10 (InSong (InOrder 2 3 0)))
-  pub longer : ¬ IsToldOf plain (part_cost 0 11 (InSong (InOrder 2 2 1)))
-  pub filters : IsToldOf plain (part_cost 15 98 (InSong (InInstrument 3)))
-  pub unused : ¬ IsToldOf plain (part_cost 15 98 (InSong (InInstrument 2)))
-  pub other_kind : ¬ IsToldOf plain (part_cost 15 98 (InSong (InPattern 1 1)))
+  pub transposes : IsToldOf no_options (part_cost 0 16 (InSong (InOrder 2 2 1)))
+  pub later : ¬ IsToldOf no_options (part_cost 0 16 (InSong (InOrder 2 3 0)))
+  pub longer : ¬ IsToldOf no_options (part_cost 0 17 (InSong (InOrder 2 2 1)))
+  pub filters : IsToldOf no_options (part_cost 15 76 (InSong (InInstrument 3)))
+  pub unused : ¬ IsToldOf no_options (part_cost 15 76 (InSong (InInstrument 2)))
+  pub other_kind : ¬ IsToldOf no_options (part_cost 15 76 (InSong (InPattern 1 1)))
+  pub climb : IsToldOf no_options (part_cost CLIMB 10 (InSong (InPattern 1 1)))
+  pub later_climb : ¬ IsToldOf no_options (part_cost CLIMB 10 (InSong (InPattern 2 0)))
+  pub no_drop : (bytes : ℕ) (cause : Cause) → ¬ IsToldOf no_options (part_cost DROP bytes cause)
 
--- what is told of the song, in this order and no other: portamentos and the wave table are kept without code of their
--- own
+-- what is told of the song, in this order and no other
 pub record ListIsWorked : Type 0 where
-  pub all : AreKeptParts crossing crossing_features plain
-      (part_cost 0 10 (InSong (InOrder 2 2 1)) ∷ part_cost 15 98 (InSong (InInstrument 3))
-      ∷ part_cost 23 173 (InSong (InWaveTable 2)) ∷ [])
-  pub other_order : (rest : List PartCost) → ¬ AreKeptParts crossing crossing_features plain
-      (part_cost 15 98 (InSong (InInstrument 3)) ∷ rest)
+  pub all : AreKeptParts crossing crossing_features no_options
+      (part_cost 0 16 (InSong (InOrder 2 2 1)) ∷ part_cost 2 4 (InSong (InPattern 1 1))
+      ∷ part_cost 15 76 (InSong (InInstrument 3)) ∷ part_cost 22 68 (InSong (InInstrument 1))
+      ∷ part_cost 23 80 (InSong (InWaveTable 2)) ∷ part_cost CLIMB 10 (InSong (InPattern 1 1))
+      ∷ part_cost RISE 17 (InSong (InPattern 1 1)) ∷ [])
+  pub other_order : (rest : List PartCost) → ¬ AreKeptParts crossing crossing_features no_options
+      (part_cost 15 76 (InSong (InInstrument 3)) ∷ rest)
 
--- a part without code isn't told, nor one that isn't kept, whatever the cause; and an option's only where it is on
+-- a part without bytes isn't told, as that of a vibrato, which has all its lines in common with others; nor is one that
+-- isn't kept, whatever the cause; and an option's is told only where it is on
 pub record OptionsAreWorked : Type 0 where
-  pub no_code : (bytes : ℕ) (cause : Cause) → ¬ IsToldOf plain (part_cost 2 bytes cause)
-  pub not_kept : (bytes : ℕ) (cause : Cause) → ¬ IsToldOf plain (part_cost 13 bytes cause)
-  pub skip : IsToldOf sparing (part_cost 24 15 SkipOption)
-  pub first : IsToldOf sparing_first (part_cost 27 57 SkipOption)
-  pub timer : IsToldOf sparing (part_cost 26 10 SpeedOption)
-  pub not_first : ¬ IsToldOf (left_out true true 4) (part_cost 27 57 SkipOption)
-  pub not_skip : ¬ IsToldOf plain (part_cost 24 15 SkipOption)
-  pub other_cause : ¬ IsToldOf sparing (part_cost 24 15 SpeedOption)
+  pub no_bytes : (song : Song) (bytes : ℕ) (cause : Cause) →
+      ¬ IsPartCost song (2 ^ bit_of Vibrato) no_options (part_cost 6 bytes cause)
+  pub not_kept : (bytes : ℕ) (cause : Cause) → ¬ IsToldOf no_options (part_cost 13 bytes cause)
+  pub skip : IsToldOf (all_left_out 4) (part_cost 24 8 SkipOption)
+  pub first : IsToldOf (first_left_out 1) (part_cost 27 36 SkipOption)
+  pub timer : IsToldOf (all_left_out 4) (part_cost 26 10 SpeedOption)
+  pub not_first : ¬ IsToldOf (left_out true true 4) (part_cost 27 36 SkipOption)
+  pub not_skip : ¬ IsToldOf no_options (part_cost 24 8 SkipOption)
+  pub other_cause : ¬ IsToldOf (all_left_out 4) (part_cost 24 8 SpeedOption)

@@ -1,20 +1,23 @@
 //! Facts about the definitions, each the contract of a function that does nothing.
 
-ghost use Rattle.song_costs.specs.PlaceLaws.{FeaturesAreNeeded, FirstPlacesAreOne};
+ghost use Rattle.song_costs.specs.PlaceLaws.{FeaturesAreNeeded, PartsAreNeeded, OwnPlacesAreFirst, FirstPlacesAreOne};
 ghost use Rattle.song_costs.specs.CostLaws.{CostsAddUp, PartsAddUp, KeptPartsAddUp, KeptPartsAreOne};
 ghost use Rattle.song_costs.specs.Names.{NamesAreShort};
 ghost use Rattle.song_costs.specs.WorkedCosts.{NoteIsWorked, TablesAreCounted, PartsAreWorked, ListIsWorked, OptionsAreWorked};
 ghost use Rattle.song_costs.specs.WorkedPlaces.{TransposesAreWorked, PortamentosAreWorked, TablesAreWorked};
-ghost use Rattle.song_costs.specs.WorkedPlaces.{VibratosAreWorked, PlacesInOrder};
+ghost use Rattle.song_costs.specs.WorkedPlaces.{VibratosAreWorked, CommonPlacesAreWorked, PlacesInOrder};
 
-/// A song uses a feature exactly where some place needs it, and at most one place is the first.
+/// A song uses a feature exactly where some place needs it, and keeps a part of features exactly where some place needs
+/// it; a part of one feature has the feature's first place; and at most one place is the first.
 pub fn features_have_first_places()
     ensures needed { FeaturesAreNeeded }
+    ensures parts { PartsAreNeeded }
+    ensures own { OwnPlacesAreFirst }
     ensures one { FirstPlacesAreOne }
 {}
 
-/// The kinds of data add up to the packed size, and with the player to the length of an image; and the parts that are
-/// kept to the player, as do those that are told.
+/// The kinds of data add up to the packed size and the slides, and with the player to the length of an image; and the
+/// parts that are kept to the player, as do those that are told.
 pub fn costs_add_up()
     ensures costs { CostsAddUp }
     ensures parts { PartsAddUp }
@@ -32,13 +35,15 @@ pub fn part_names_are_short()
 {}
 
 /// First places of small songs: in an orderlist, in a pattern, an instrument and in the wave table, with others beside
-/// them that are later, or that aren't used; and the place of a vibrato, which is that of its parameter.
-#[tactic(auto, using(crate::proofs::WorkedPlaces::transposes_are_worked, crate::proofs::WorkedPlaces::portamentos_are_worked, crate::proofs::WorkedPlaces::tables_are_worked, crate::proofs::WorkedPlaces::vibratos_are_worked))]
+/// them that are later, or that aren't used; the place of a vibrato, which is that of its parameter; and the places of
+/// parts that several features have in common.
+#[tactic(auto, using(crate::proofs::WorkedPlaces::transposes_are_worked, crate::proofs::WorkedPlaces::portamentos_are_worked, crate::proofs::WorkedPlaces::tables_are_worked, crate::proofs::WorkedPlaces::vibratos_are_worked, crate::proofs::CommonPlaces::common_places_are_worked))]
 pub fn worked_places()
     ensures orders { TransposesAreWorked }
     ensures patterns { PortamentosAreWorked }
     ensures tables { TablesAreWorked }
     ensures vibrato { VibratosAreWorked }
+    ensures common { CommonPlacesAreWorked }
 {}
 
 /// Which of two places comes first.

@@ -1,16 +1,17 @@
 //! Bytes by kind.
 
-ghost use Rattle.std.specs.Prelude.{◌≡◌, ◌≤◌, ◌+◌, ◌*◌, sum_by, length};
+ghost use Rattle.std.specs.Prelude.{◌≡◌, ◌≤◌, ◌*◌, sum_by, length};
 ghost use Rattle.song_model.specs.declared.songs.Song.{Song as AnySong};
-ghost use Rattle.packed_form.specs.Sizes.{list_size, packed_song_size};
+ghost use Rattle.play_model.specs.declared.options.Options.{Options};
+ghost use Rattle.packed_form.specs.Sizes.{list_size};
 ghost use Rattle.packing_rules.specs.UsedSets.{UsedSets};
-ghost use Rattle.code_lengths.specs.Lengths.{code_length};
+ghost use Rattle.image_parts.specs.CodeParts.{code_parts};
+ghost use Rattle.image_parts.specs.Lengths.{bytes_of_image};
 ghost use Rattle.song_pack.specs.Packed.{IsPacked};
 ghost use Rattle.song_costs.specs.Kinds.{costs_of, all_bytes};
 
-use code_lengths::code_length;
+use image_parts::{code_length, slide_bytes};
 use packed_form::{PackedPatternList, PackedSong};
-use play_model::Options;
 use song_model::Table;
 
 /// How many bytes a song takes in a packed file, kind by kind.
@@ -30,7 +31,7 @@ pub struct Costs {
     pub pulse: u32,
     /// Those of the filter table.
     pub filter: u32,
-    /// Those of the speed table.
+    /// Those of the speed table, and of the slides and periods of a song with calculated speeds.
     pub speed: u32,
 }
 
@@ -70,14 +71,16 @@ fn rows_bytes(table: &Table) -> u32
     2 * table.as_slice().len() as u32
 }
 
-/// How many bytes each kind takes of a song that is packed so, with a player for these options.
-pub fn costs_by_kind(packed: &PackedSong, options: Options) -> Costs
+/// How many bytes each kind takes of a song that is packed so, with a player whose code's bytes have these parts
+/// (`image_parts::code_parts`).
+pub fn costs_by_kind(packed: &PackedSong, code: &[u8]) -> Costs
+    requires { length code.now ≤ 65535 }
     // Each number is the one that the packed form's definitions name.
-    ensures exact { (song : AnySong) (used : UsedSets) → IsPacked song used packed.now →
+    ensures exact { (song : AnySong) (used : UsedSets) (options : Options) → IsPacked song used packed.now →
+        code.now ≡ code_parts packed.now.features.0 options →
         result ≡ costs_of song used packed.now.features.0 options }
     // They add up to the image's length.
-    ensures length { all_bytes result ≡
-        packed_song_size packed.now + code_length packed.now.features.0 options }
+    ensures length { all_bytes result ≡ bytes_of_image packed.now code.now }
 {
     let patterns = patterns_bytes(&packed.patterns);
     let instruments = 9 * packed.instruments.as_slice().len() as u32;
@@ -85,14 +88,15 @@ pub fn costs_by_kind(packed: &PackedSong, options: Options) -> Costs
     let pulse = rows_bytes(&packed.pulse);
     let filter = rows_bytes(&packed.filter);
     let speed = rows_bytes(&packed.speed);
+    let slides = slide_bytes(packed.features, packed.speed.as_slice().len() as u32);
     Costs {
-        player: code_length(packed.features, options),
+        player: code_length(code),
         orders: packed.size() - patterns - instruments - wave - pulse - filter - speed,
         patterns,
         instruments,
         wave,
         pulse,
         filter,
-        speed,
+        speed: speed + slides,
     }
 }

@@ -2,12 +2,12 @@
 //! wants it.
 //!
 //! The layer's one contract: the numbers of `costs_by_kind` are those of the packed form's definitions and add up to
-//! the image's length, and `part_cost` tells a part exactly where it is kept and has code, with the first place of the
-//! song that needs its feature, which is that of `first_place`.
+//! the image's length, and `part_cost` tells a part exactly where it is kept and has bytes, with the first place of the
+//! song that needs a feature which keeps it.
 //!
 //! It stands on `usage` for what a song uses, on `play_model` for what a feature is, on `packed_form`, `packing_rules`
-//! and `song_pack` for what is packed and how many bytes that has, and on `code_lengths` for the bytes of the player's
-//! parts. The command that tells costs stands on it.
+//! and `song_pack` for what is packed and how many bytes that has, on `player_memory` and `kept_lines` for which parts
+//! of the player are kept, and on `image_parts` for their bytes. The command that tells costs stands on it.
 #![tactic(auto)]
 
 /// Facts about the definitions.
@@ -18,6 +18,7 @@ mod instruments;
 mod kept;
 mod needs;
 mod orders;
+mod part_places;
 mod patterns;
 mod places;
 mod wave_rows;

@@ -1,7 +1,7 @@
 //! Places of a song.
 
 /// A place of a song, as messages about songs count them.
-#[derive(Clone, Copy, Debug, PartialEq, Eq)]
+#[derive(Clone, Copy, Debug, PartialEq, Eq, PartialOrd, Ord)]
 pub enum Place {
     /// A byte of an orderlist of a playable subtune.
     InOrder {

@@ -7,5 +7,5 @@ returns-clause-name c = c.name_in.ensures
 
 pub returns-clause-short : goal.returns-clause-short
 returns-clause-short c =
-    let named : c.args.part < 28 = c.requires in
+    let named : c.args.part < 34 = c.requires in
     subst (λ name. length name ≤ 24) (sym c.name_in.ensures) (names_short c.args.part named)

@@ -1,5 +1,6 @@
-use Rattle.std.proofs.Common.{◌<◌}
+use Rattle.std.proofs.Common.{◌<◌, subst, arith}
 use Rattle.std.proofs.lemmas.List.Elements.{All-nil}
+use Rattle.song_costs.specs.Kept.{AreKeptBelow}
 use Rattle.song_costs.proofs.Laws.{kept_none}
 use Rattle.file_jobs.proofs.Costs.{kept_next, below_next}
 use Rattle.file_jobs.proofs.part_costs.part_costs.Goals as goal
@@ -19,3 +20,10 @@ loop-part-preserved c =
       kept = kept_next c.args.song.now c.args.parts.now.features.0 c.args.options.now _ _ _ so_far.kept e.exact e.told;
       named = below_next c.args.song.now c.args.parts.now.features.0 c.args.options.now _ _ _ so_far.named e.exact;
     })
+
+pub returns-clause-kept : goal.returns-clause-kept
+returns-clause-kept c =
+    let least = c.loop-part-test.false in
+    let most = c.loop-part.auto.part-end in
+    subst (λ n. AreKeptBelow c.args.song.now c.args.parts.now.features.0 c.args.options.now n c.loop-part.told.items)
+    (omega (arith, least, most)) c.loop-part.invariant.kept

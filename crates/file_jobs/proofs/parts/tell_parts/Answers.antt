@@ -1,8 +1,10 @@
-use Rattle.std.proofs.Common.{refl, ap, ◌∙◌, ◌++◌, map}
+use Rattle.std.proofs.Common.{refl, sym, ap, ◌∙◌, ◌++◌, map}
 use Rattle.std.proofs.lemmas.Result.{err_from_is_err_and}
 use Rattle.song_pack.specs.Numbers.{sets_of}
 use Rattle.song_pack.proofs.Laws.{used_sets}
+use Rattle.image_parts.specs.CodeParts.{code_parts}
 use Rattle.song_costs.specs.Kinds.{costs_of}
+use Rattle.song_costs.proofs.Laws.{few_bytes}
 use Rattle.jobs.specs.Costs.{TellCosts, kind_lines, part_line}
 use Rattle.jobs.proofs.Laws.{song_begun, song_fails, song_held, met_next, refused, wants_first, lines_over, one_features}
 use Rattle.file_jobs.proofs.parts.tell_parts.Goals as goal
@@ -28,6 +30,19 @@ returns-in_err-packed g c =
     rw (p.1, p.2)
     (refused _ (met_next (song_begun refl read) (c.in_ok-song.song, holds, c.in_ok-parts.ensures.playable)) refl refuses)
 
+pub returns-in_err-code : goal.returns-in_err-code
+returns-in_err-code g c =
+    let p = err_from_is_err_and c.from_residual-in_err-code.result c.from_residual-in_err-code.ensures.1 in
+    rw (p.1, p.2) (wants_first _ c.in_ok-song.ensures.read.was.stays)
+
+pub costs_by_kind-costs-requires : goal.costs_by_kind-costs-requires
+costs_by_kind-costs-requires g c =
+    few_bytes c.in_ok-parts.parts.features.0 c.args.options c.as_slice.result.now
+    (c.as_slice.ensures ∙ c.in_ok-code.ensures)
+
+pub part_costs-requires-clause-code : goal.part_costs-requires-clause-code
+part_costs-requires-clause-code g c = c.as_slice-2.ensures ∙ c.in_ok-code.ensures
+
 pub returns-in_err-told : goal.returns-in_err-told
 returns-in_err-told g c =
     let p = err_from_is_err_and c.from_residual-in_err-told.result c.from_residual-in_err-told.ensures.1 in
@@ -43,7 +58,9 @@ returns g c =
     let packed = c.in_ok-packed.ensures.exact (sets_of parts) used holds.spells.limits in
     let features = c.in_ok-parts.ensures.parts.features in
     let same = one_features song _ _ packed.features features in
-    let costs = c.costs_by_kind-costs.ensures.exact song (sets_of parts) packed
+    let code = c.as_slice.ensures ∙ c.in_ok-code.ensures
+    ∙ ap (λ f. code_parts f c.args.options) (sym same) in
+    let costs = c.costs_by_kind-costs.ensures.exact song (sets_of parts) c.args.options packed code
     ∙ ap (λ f. costs_of song (sets_of parts) f c.args.options) same in
     let told : TellCosts song c.args.options (kind_lines c.costs_by_kind-costs.result ++ map part_line c.in_ok-told.told.items) =
     record {
@@ -57,4 +74,4 @@ returns g c =
     } in
     let short = c.in_ok-packed.ensures.short read.was.files c.args.input.now holds in
     lines_over (met_next (met_next (song_begun refl read) (song, holds, c.in_ok-parts.ensures.playable)) short)
-    ((song, holds, told), refl) (rw c.as_slice.ensures.value at c.show_costs.ensures)
+    ((song, holds, told), refl) (rw c.as_slice-3.ensures.value at c.show_costs.ensures)

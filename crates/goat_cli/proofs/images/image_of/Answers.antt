@@ -1,7 +1,7 @@
 use Rattle.std.proofs.Common.{Err, subst, sym, ap, ◌∙◌}
-use Rattle.player_parts.specs.declared.place.Place.{Place}
-use Rattle.image_build.specs.Lengths.{IsTooLarge}
-use Rattle.image_build.specs.Built.{IsBuild}
+use Rattle.player_build.specs.declared.place.Place.{Place}
+use Rattle.player_build.specs.Room.{IsTooLarge}
+use Rattle.player_build.specs.Built.{IsBuild}
 use Rattle.goat_cli.proofs.Places.{has_room, has_no_room}
 use Rattle.goat_cli.proofs.images.image_of.Goals as goal
 

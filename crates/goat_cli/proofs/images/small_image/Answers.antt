@@ -1,9 +1,9 @@
 use Rattle.std.proofs.Common.{Err, sym, ap, ◌∙◌, subst}
 use Rattle.play_model.specs.declared.options.Options.{Options}
 use Rattle.play_model.specs.State.{no_options}
-use Rattle.player_parts.specs.declared.place.Place.{Place}
-use Rattle.image_build.specs.Lengths.{IsTooLarge}
-use Rattle.image_build.specs.Built.{IsBuild}
+use Rattle.player_build.specs.declared.place.Place.{Place}
+use Rattle.player_build.specs.Room.{IsTooLarge}
+use Rattle.player_build.specs.Built.{IsBuild}
 use Rattle.goat_cli.proofs.Places.{small_has_room}
 use Rattle.goat_cli.proofs.images.small_image.Goals as goal
 

@@ -1,4 +1,4 @@
-use Rattle.std.proofs.Common.{refl, subst}
+use Rattle.std.proofs.Common.{refl, subst, ap, length}
 use Rattle.song_pack.specs.Answers.{IsCause}
 use Rattle.song_pack.specs.Numbers.{sets_of}
 use Rattle.song_pack.proofs.Laws.{used_sets}
@@ -14,6 +14,7 @@ returns-in-Ok-clause-packs c = λ keeps.
       used = sets_of c.args.parts.now;
       are_used = used;
       size = (c.in-Ok.ensures.size (sets_of c.args.parts.now) used keeps).is;
+      speeds = ap length (c.in-Ok.ensures.exact (sets_of c.args.parts.now) used keeps).speed.rows_are;
     }
 
 pub returns-in-Ok-clause-short : goal.returns-in-Ok-clause-short

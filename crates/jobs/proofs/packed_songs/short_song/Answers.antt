@@ -1,4 +1,4 @@
-use Rattle.std.proofs.Common.{subst}
+use Rattle.std.proofs.Common.{subst, ap, length}
 use Rattle.song_pack.specs.Answers.{IsCause}
 use Rattle.song_pack.specs.Numbers.{sets_of}
 use Rattle.song_pack.proofs.Laws.{used_sets}
@@ -23,4 +23,5 @@ returns-in-Ok-pack_song c =
       used = sets_of parts;
       are_used = used;
       size = (c.in-Ok-pack_song.ensures.size (sets_of parts) used c.requires.limits).is;
+      speeds = ap length (c.in-Ok-pack_song.ensures.exact (sets_of parts) used c.requires.limits).speed.rows_are;
     }

@@ -1,9 +1,13 @@
-use Rattle.std.proofs.Common.{ap, length}
+use Rattle.std.proofs.Common.{ap, length, ◌∙◌}
+use Rattle.image_parts.specs.CodeParts.{length_of}
+use Rattle.image_parts.specs.Lengths.{slide_bytes}
 use Rattle.song_costs.proofs.ByteKinds.{costs_are}
 use Rattle.song_costs.proofs.costs.costs_by_kind.Goals as goal
 
 pub returns-clause-exact : goal.returns-clause-exact
-returns-clause-exact c = λ song used is.
-    costs_are song used c.args.packed.now c.args.options is c.code_length.ensures.size
+returns-clause-exact c = λ song used options is code_is.
+    costs_are song used c.args.packed.now options is (c.code_length.ensures ∙ ap length_of code_is)
     c.patterns_bytes-patterns.ensures.size (ap length c.as_slice.ensures.items) c.rows_bytes-wave.ensures.size
-    c.rows_bytes-pulse.ensures.size c.rows_bytes-filter.ensures.size c.rows_bytes-speed.ensures.size c.size.ensures.size
+    c.rows_bytes-pulse.ensures.size c.rows_bytes-filter.ensures.size c.rows_bytes-speed.ensures.size
+    (c.slide_bytes-slides.ensures
+    ∙ ap (λ rows. slide_bytes c.args.packed.now.features.0 (length rows)) c.as_slice-2.ensures.items) c.size.ensures.size

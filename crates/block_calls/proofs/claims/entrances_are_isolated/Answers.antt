@@ -1,6 +1,0 @@
--- Calls of entrances are isolated.
-use Rattle.block_calls.proofs.claims.entrances_are_isolated.Goals as goal
-use Rattle.block_calls.proofs.Isolation.{entrances_are_isolated}
-
-pub returns : goal.returns
-returns c = entrances_are_isolated

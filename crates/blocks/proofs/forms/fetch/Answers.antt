@@ -1,7 +1,0 @@
--- What the form does.
-use Rattle.std.proofs.Common.{rules}
-use Rattle.blocks.proofs.forms.fetch.Goals as goal
-use Rattle.blocks.proofs.FormLaws.{fetches}
-
-pub returns-clause-fetches : goal.returns-clause-fetches
-returns-clause-fetches c = search (rules, fetches)

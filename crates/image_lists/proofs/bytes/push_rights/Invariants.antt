@@ -1,6 +1,0 @@
-use Rattle.std.proofs.Common.{◌≡◌, ◌++◌, take}
-use Rattle.image_lists.specs.DataLists.{rights}
-use Rattle.image_lists.proofs.bytes.push_rights.Given as goal
-
-abbrev pub invariant-loop-row : goal.invariant-loop-row
-invariant-loop-row l = l.bytes ≡ l.initial.bytes ++ rights (take l.row-index l.rows)

@@ -1,9 +1,0 @@
--- The lists of a small song.
-use Rattle.image_lists.proofs.WorkedLists.{frequencies_are_worked, small_lists_are_worked}
-use Rattle.image_lists.proofs.claims.worked_lists.Goals as goal
-
-pub returns-clause-frequencies : goal.returns-clause-frequencies
-returns-clause-frequencies c = frequencies_are_worked
-
-pub returns-clause-small : goal.returns-clause-small
-returns-clause-small c = small_lists_are_worked

@@ -1,9 +1,0 @@
-use Rattle.std.proofs.Common.{◌≡◌, ◌++◌, map}
-use Rattle.std.specs.List.{range_with_len}
-use Rattle.player_parts.specs.PlayerLists.{Instruments}
-use Rattle.image_lists.specs.DataLists.{own_mark}
-use Rattle.image_lists.proofs.labels.push_instrument_marks.Given as goal
-
-abbrev pub invariant-loop-field : goal.invariant-loop-field
-invariant-loop-field l =
-    l.marks ≡ l.initial.marks ++ map (λ field. own_mark l.packed (Instruments field)) (range_with_len 0 l.field)
