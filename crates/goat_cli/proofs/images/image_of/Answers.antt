@@ -12,22 +12,22 @@ returns-in-Ok-clause-built c =
 
 pub returns-in-Ok-clause-address : goal.returns-in-Ok-clause-address
 returns-in-Ok-clause-address c =
-    ap (λ (place : Place). place.address) c.in-Ok.ensures.built.place_is ∙ c.place_of.ensures.address
+    ap (λ (place : Place). place.address) c.in-Ok.ensures.built.place_is ∙ c.place_of-place.ensures.address
 
 pub returns-in-Ok-clause-zero_page : goal.returns-in-Ok-clause-zero_page
 returns-in-Ok-clause-zero_page c =
-    ap (λ (place : Place). place.zero_page) c.in-Ok.ensures.built.place_is ∙ c.place_of.ensures.zero_page
+    ap (λ (place : Place). place.zero_page) c.in-Ok.ensures.built.place_is ∙ c.place_of-place.ensures.zero_page
 
 pub returns-in-Ok-clause-room : goal.returns-in-Ok-clause-room
 returns-in-Ok-clause-room c = λ song files name packs holds.
     let is = c.in-Ok.ensures.built in
     let built = subst (λ place. IsBuild c.args.packed.now place c.args.options.now c.in-Ok.image) (sym is.place_is) is in
     has_room c.args.packed.now song c.args.options.now packs files name c.args.address holds c.in-Ok.image built
-    (ap (λ (place : Place). place.address) is.place_is ∙ c.place_of.ensures.address)
+    (ap (λ (place : Place). place.address) is.place_is ∙ c.place_of-place.ensures.address)
 
-pub returns-in-Err-TooLarge-clause-refused : goal.returns-in-Err-TooLarge-clause-refused
-returns-in-Err-TooLarge-clause-refused c = λ song files name packs holds.
+pub returns-clause-refused : goal.returns-clause-refused
+returns-clause-refused c = λ song files name packs holds.
     let large = (c.in-Err-TooLarge.ensures.too_large c.in-Err-TooLarge.length).0 (ap Err c.in-Err-TooLarge.field-0-is) in
     has_no_room c.args.packed.now song c.args.options.now packs files name c.args.address holds c.in-Err-TooLarge.length
     (subst (λ address. IsTooLarge c.args.packed.now c.args.options.now address c.in-Err-TooLarge.length)
-    c.place_of.ensures.address large) c.too_large_image.ensures
+    c.place_of-place.ensures.address large) c.too_large_image.ensures

@@ -11,14 +11,14 @@ pub unreachable-requires : goal.unreachable-requires
 unreachable-requires c =
     let large = (c.in-Err-TooLarge.ensures.too_large c.in-Err-TooLarge.field-0-0).0 (ap Err c.in-Err-TooLarge.field-0-is) in
     let plain = subst (λ (o : Options). IsTooLarge c.args.packed.now o c.place_of-place.result.address
-    c.in-Err-TooLarge.field-0-0) c.default.ensures large in
+    c.in-Err-TooLarge.field-0-0) c.default-options.ensures large in
     small_has_room c.args.packed.now c.args.song.now c.in-Err-TooLarge.field-0-0 c.requires.packs c.requires.small
     (subst (λ address. IsTooLarge c.args.packed.now no_options address c.in-Err-TooLarge.field-0-0)
     c.place_of-place.ensures.address plain)
 
 pub returns-in-Ok-clause-built : goal.returns-in-Ok-clause-built
 returns-in-Ok-clause-built c =
-    let is = subst (λ (o : Options). IsBuild c.args.packed.now c.place_of-place.result o c.in-Ok.image) c.default.ensures
+    let is = subst (λ (o : Options). IsBuild c.args.packed.now c.place_of-place.result o c.in-Ok.image) c.default-options.ensures
     c.in-Ok.ensures.built in
     subst (λ place. IsBuild c.args.packed.now place no_options c.in-Ok.image) (sym is.place_is) is
 
