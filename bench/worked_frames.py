@@ -1,5 +1,5 @@
 #!/usr/bin/env python3
-"""Makes worked frames of play_model: bench/worked_frames.py FILE NAME SONG..
+"""Makes worked frames: bench/worked_frames.py FILE NAME SONG..
 
 FILE tells what small songs leave in the SID's registers, by another reading of the rules than this
 repository's. The recorded runs aren't kept beside this script. For each run FILE has these lines:
@@ -11,8 +11,8 @@ repository's. The recorded runs aren't kept beside this script. For each run FIL
 Subtunes are counted from 1. SKIP is none, effects, pulse, both or all, SPEED is 1 to 4. A line that begins
 with # is left out, and so are the song's texts and the names of its instruments.
 
-Each run of a song SONG becomes a field of a record in crates/play_model/specs/NAME.antt, which is
-computed in crates/play_model/proofs/NAME.antt. A contract must name the record, NAME with Hold after
+Each run of a song SONG becomes a field of a record in crates/worked_frames/specs/NAME.antt, which is
+computed in crates/worked_frames/proofs/NAME.antt. A contract must name the record, NAME with Hold after
 it, and the Lib.antt files the two modules.
 """
 import os
@@ -157,7 +157,7 @@ def lemma_name(module):
 
 def main():
     path, module, *wanted = sys.argv[1:]
-    crate = os.path.join(os.path.dirname(os.path.dirname(os.path.abspath(__file__))), "crates/play_model")
+    crate = os.path.join(os.path.dirname(os.path.dirname(os.path.abspath(__file__))), "crates/worked_frames")
     runs = [run for run in runs_of(path) if run[0] in wanted]
     songs = {run[0]: run[4] for run in runs}
     with_all = any(run[2].startswith("all") for run in runs)
@@ -168,9 +168,9 @@ def main():
     for name, data in songs.items():
         specs += song_lines(plain_name(name), data)
     specs.append(f"pub record {module}Hold : Type 0 where")
-    proofs = [proof_head + "use Rattle.play_model.proofs.Computed.{calls_from, plays}"]
+    proofs = [proof_head + "use Rattle.play_model.proofs.Laws.{calls_from, plays}"]
     names = ", ".join([plain_name(name) for name in songs] + [f"{module}Hold"])
-    proofs += [f"use Rattle.play_model.specs.{module}.{{{names}}}", "", f"pub {lemma_name(module)} : {module}Hold", UNFOLDING]
+    proofs += [f"use Rattle.worked_frames.specs.{module}.{{{names}}}", "", f"pub {lemma_name(module)} : {module}Hold", UNFOLDING]
     proofs.append(f"{lemma_name(module)} = record {{")
     for name, subtune, suffix, options, _, lines in runs:
         run = f"{plain_name(name)}_{suffix}"

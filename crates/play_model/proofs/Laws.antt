@@ -17,3 +17,6 @@ pub use Rattle.play_model.proofs.PlayableSongs.{whole_lem, reached_byte_lem, sta
 pub use Rattle.play_model.proofs.OneRefusal.{one_order, same_table, one_refusal, refused_lem}
 -- what isn't used doesn't count
 pub use Rattle.play_model.proofs.UnusedFeatures.{unused_lem}
+-- the registers of n calls in one go, that a trace has them, and so what a run leaves
+unfoldable pub use Rattle.play_model.proofs.Computed.{calls_from}
+pub use Rattle.play_model.proofs.Computed.{calls_are_traced, plays}

@@ -20,16 +20,5 @@ pub mod UnusedFeatures
 -- What a small song uses, and why others can't be played, worked out by hand.
 pub mod WorkedUses
 pub mod WorkedRefusals
--- Worked frames, computed: those by hand, and those that bench/worked_frames.py has written.
+-- Worked frames, computed.
 pub mod Computed
-pub mod WorkedCorners
-pub mod WorkedEdges
-pub mod WorkedTunes
-pub mod WorkedSubtunes
-pub mod WorkedSlides
-pub mod WorkedWithoutEffects
-pub mod WorkedWithoutPulse
-pub mod WorkedLongPulses
-pub mod WorkedWithoutBoth
-pub mod WorkedBareVoices
-pub mod WorkedPeriods

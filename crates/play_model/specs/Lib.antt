@@ -36,16 +36,3 @@ pub mod WorkedTimers
 pub mod WorkedSongs
 pub mod WorkedRuns
 pub mod WorkedFrames
--- Claimed: frames of small songs by another reading of the rules; bench/worked_frames.py writes these files.
-pub mod WorkedCorners
-pub mod WorkedEdges
-pub mod WorkedTunes
-pub mod WorkedSubtunes
-pub mod WorkedSlides
-pub mod WorkedWithoutEffects
-pub mod WorkedWithoutPulse
-pub mod WorkedLongPulses
-pub mod WorkedWithoutBoth
-pub mod WorkedBareVoices
--- Claimed: that another period is worked out with one of these.
-pub mod WorkedPeriods

@@ -13,20 +13,21 @@ use Rattle.play_model.specs.PulseStep.{pulse_step}
 use Rattle.play_model.specs.FetchRow.{fetch_row}
 use Rattle.play_model.specs.Frame.{voice_step, voice_registers, filter_registers, frame_of}
 use Rattle.play_model.specs.WorkedRuns.{left_out}
-use Rattle.play_model.proofs.Computed.{calls_from, plays}
-use Rattle.play_model.specs.WorkedLongPulses.{edge_68, rich_39sub_1, rich_19sub_4, period_127, WorkedLongPulsesHold}
+use Rattle.play_model.proofs.Laws.{calls_from, plays}
+use Rattle.worked_frames.specs.WorkedBareVoices.{rich_22sub_2, rich_40sub_2, rich_60sub_2, rich_3sub_2, WorkedBareVoicesHold}
 
-pub worked_long_pulses_lem : WorkedLongPulsesHold
+pub worked_bare_voices_lem : WorkedBareVoicesHold
 unfolding prefix_of cycle_of played playable_subtune instrument_at table_row pattern_at
     freq half_tone slide next_row porta_up porta_down tone vibrato do_command filter_step
     between_rows note_started row_command at_row tick_step wave_command wave_step effect_step
     pulse_step fetch_row voice_step voice_registers filter_registers frame_of calls_from
-worked_long_pulses_lem = record {
-  edge_68_none_1 = plays (left_out false false 1) edge_68 0 _ refl;
-  edge_68_pulse_2 = plays (left_out false true 2) edge_68 0 _ refl;
-  rich_39sub_1_none_1 = plays (left_out false false 1) rich_39sub_1 0 _ refl;
-  rich_39sub_1_pulse_3 = plays (left_out false true 3) rich_39sub_1 0 _ refl;
-  rich_19sub_4_none_1 = plays (left_out false false 1) rich_19sub_4 3 _ refl;
-  rich_19sub_4_pulse_4 = plays (left_out false true 4) rich_19sub_4 3 _ refl;
-  period_127_none_1 = plays (left_out false false 1) period_127 0 _ refl;
+worked_bare_voices_lem = record {
+  rich_22sub_2_none_1 = plays (left_out false false 1) rich_22sub_2 1 _ refl;
+  rich_22sub_2_both_2 = plays (left_out true true 2) rich_22sub_2 1 _ refl;
+  rich_40sub_2_none_1 = plays (left_out false false 1) rich_40sub_2 1 _ refl;
+  rich_40sub_2_both_1 = plays (left_out true true 1) rich_40sub_2 1 _ refl;
+  rich_60sub_2_none_1 = plays (left_out false false 1) rich_60sub_2 1 _ refl;
+  rich_60sub_2_both_2 = plays (left_out true true 2) rich_60sub_2 1 _ refl;
+  rich_3sub_2_none_1 = plays (left_out false false 1) rich_3sub_2 1 _ refl;
+  rich_3sub_2_both_2 = plays (left_out true true 2) rich_3sub_2 1 _ refl;
 }

@@ -4,7 +4,7 @@ use Rattle.song_model.specs.declared.songs.Song.{Song}
 use Rattle.play_model.specs.Frame.{trace_with}
 use Rattle.play_model.specs.WorkedSongs.{sides}
 use Rattle.play_model.specs.WorkedRuns.{left_out, from_call}
-use Rattle.play_model.specs.WorkedLongPulses.{period_127}
+use Rattle.worked_frames.specs.WorkedLongPulses.{period_127}
 
 abbrev pub period_126 : Song
 period_126 = record period_127 { speed = sides 0x7E 0x10 ∷ sides 0xFE 1 ∷ [] }

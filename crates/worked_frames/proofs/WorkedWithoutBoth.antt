@@ -13,17 +13,21 @@ use Rattle.play_model.specs.PulseStep.{pulse_step}
 use Rattle.play_model.specs.FetchRow.{fetch_row}
 use Rattle.play_model.specs.Frame.{voice_step, voice_registers, filter_registers, frame_of}
 use Rattle.play_model.specs.WorkedRuns.{left_out}
-use Rattle.play_model.proofs.Computed.{calls_from, plays}
-use Rattle.play_model.specs.WorkedCorners.{corner_1, corner_2, WorkedCornersHold}
+use Rattle.play_model.proofs.Laws.{calls_from, plays}
+use Rattle.worked_frames.specs.WorkedWithoutBoth.{small_0, small_12, small_1, small_5, WorkedWithoutBothHold}
 
-pub worked_corners_lem : WorkedCornersHold
+pub worked_without_both_lem : WorkedWithoutBothHold
 unfolding prefix_of cycle_of played playable_subtune instrument_at table_row pattern_at
     freq half_tone slide next_row porta_up porta_down tone vibrato do_command filter_step
     between_rows note_started row_command at_row tick_step wave_command wave_step effect_step
     pulse_step fetch_row voice_step voice_registers filter_registers frame_of calls_from
-worked_corners_lem = record {
-  corner_1_none_1 = plays (left_out false false 1) corner_1 0 _ refl;
-  corner_1_pulse_2 = plays (left_out false true 2) corner_1 0 _ refl;
-  corner_2_none_1 = plays (left_out false false 1) corner_2 0 _ refl;
-  corner_2_effects_4 = plays (left_out true false 4) corner_2 0 _ refl;
+worked_without_both_lem = record {
+  small_0_none_1 = plays (left_out false false 1) small_0 0 _ refl;
+  small_0_both_3 = plays (left_out true true 3) small_0 0 _ refl;
+  small_12_none_1 = plays (left_out false false 1) small_12 0 _ refl;
+  small_12_both_4 = plays (left_out true true 4) small_12 0 _ refl;
+  small_1_none_1 = plays (left_out false false 1) small_1 0 _ refl;
+  small_1_both_1 = plays (left_out true true 1) small_1 0 _ refl;
+  small_5_none_1 = plays (left_out false false 1) small_5 0 _ refl;
+  small_5_both_4 = plays (left_out true true 4) small_5 0 _ refl;
 }

@@ -13,25 +13,20 @@ use Rattle.play_model.specs.PulseStep.{pulse_step}
 use Rattle.play_model.specs.FetchRow.{fetch_row}
 use Rattle.play_model.specs.Frame.{voice_step, voice_registers, filter_registers, frame_of}
 use Rattle.play_model.specs.WorkedRuns.{left_out}
-use Rattle.play_model.proofs.Computed.{calls_from, plays}
-use Rattle.play_model.specs.WorkedWithoutPulse.{small_14, small_41, small_34, small_24, small_32, small_6, WorkedWithoutPulseHold}
+use Rattle.play_model.proofs.Laws.{calls_from, plays}
+use Rattle.worked_frames.specs.WorkedLongPulses.{edge_68, rich_39sub_1, rich_19sub_4, period_127, WorkedLongPulsesHold}
 
-pub worked_without_pulse_lem : WorkedWithoutPulseHold
+pub worked_long_pulses_lem : WorkedLongPulsesHold
 unfolding prefix_of cycle_of played playable_subtune instrument_at table_row pattern_at
     freq half_tone slide next_row porta_up porta_down tone vibrato do_command filter_step
     between_rows note_started row_command at_row tick_step wave_command wave_step effect_step
     pulse_step fetch_row voice_step voice_registers filter_registers frame_of calls_from
-worked_without_pulse_lem = record {
-  small_14_none_1 = plays (left_out false false 1) small_14 0 _ refl;
-  small_14_pulse_4 = plays (left_out false true 4) small_14 0 _ refl;
-  small_41_none_1 = plays (left_out false false 1) small_41 0 _ refl;
-  small_41_pulse_3 = plays (left_out false true 3) small_41 0 _ refl;
-  small_34_none_1 = plays (left_out false false 1) small_34 0 _ refl;
-  small_34_pulse_1 = plays (left_out false true 1) small_34 0 _ refl;
-  small_24_none_1 = plays (left_out false false 1) small_24 0 _ refl;
-  small_24_pulse_2 = plays (left_out false true 2) small_24 0 _ refl;
-  small_32_none_1 = plays (left_out false false 1) small_32 0 _ refl;
-  small_32_pulse_1 = plays (left_out false true 1) small_32 0 _ refl;
-  small_6_none_1 = plays (left_out false false 1) small_6 0 _ refl;
-  small_6_pulse_4 = plays (left_out false true 4) small_6 0 _ refl;
+worked_long_pulses_lem = record {
+  edge_68_none_1 = plays (left_out false false 1) edge_68 0 _ refl;
+  edge_68_pulse_2 = plays (left_out false true 2) edge_68 0 _ refl;
+  rich_39sub_1_none_1 = plays (left_out false false 1) rich_39sub_1 0 _ refl;
+  rich_39sub_1_pulse_3 = plays (left_out false true 3) rich_39sub_1 0 _ refl;
+  rich_19sub_4_none_1 = plays (left_out false false 1) rich_19sub_4 3 _ refl;
+  rich_19sub_4_pulse_4 = plays (left_out false true 4) rich_19sub_4 3 _ refl;
+  period_127_none_1 = plays (left_out false false 1) period_127 0 _ refl;
 }

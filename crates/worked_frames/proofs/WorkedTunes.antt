@@ -13,19 +13,21 @@ use Rattle.play_model.specs.PulseStep.{pulse_step}
 use Rattle.play_model.specs.FetchRow.{fetch_row}
 use Rattle.play_model.specs.Frame.{voice_step, voice_registers, filter_registers, frame_of}
 use Rattle.play_model.specs.WorkedRuns.{left_out}
-use Rattle.play_model.proofs.Computed.{calls_from, plays}
-use Rattle.play_model.specs.WorkedSlides.{small_23, edge_126, edge_19, WorkedSlidesHold}
+use Rattle.play_model.proofs.Laws.{calls_from, plays}
+use Rattle.worked_frames.specs.WorkedTunes.{small_42, small_37, small_21, exactslide, WorkedTunesHold}
 
-pub worked_slides_lem : WorkedSlidesHold
+pub worked_tunes_lem : WorkedTunesHold
 unfolding prefix_of cycle_of played playable_subtune instrument_at table_row pattern_at
     freq half_tone slide next_row porta_up porta_down tone vibrato do_command filter_step
     between_rows note_started row_command at_row tick_step wave_command wave_step effect_step
     pulse_step fetch_row voice_step voice_registers filter_registers frame_of calls_from
-worked_slides_lem = record {
-  small_23_none_1 = plays (left_out false false 1) small_23 0 _ refl;
-  small_23_effects_1 = plays (left_out true false 1) small_23 0 _ refl;
-  edge_126_none_1 = plays (left_out false false 1) edge_126 0 _ refl;
-  edge_126_effects_2 = plays (left_out true false 2) edge_126 0 _ refl;
-  edge_19_none_1 = plays (left_out false false 1) edge_19 0 _ refl;
-  edge_19_effects_4 = plays (left_out true false 4) edge_19 0 _ refl;
+worked_tunes_lem = record {
+  small_42_none_1 = plays (left_out false false 1) small_42 0 _ refl;
+  small_42_effects_3 = plays (left_out true false 3) small_42 0 _ refl;
+  small_37_none_1 = plays (left_out false false 1) small_37 0 _ refl;
+  small_37_effects_4 = plays (left_out true false 4) small_37 0 _ refl;
+  small_21_none_1 = plays (left_out false false 1) small_21 0 _ refl;
+  small_21_both_2 = plays (left_out true true 2) small_21 0 _ refl;
+  exactslide_none_1 = plays (left_out false false 1) exactslide 0 _ refl;
+  exactslide_both_4 = plays (left_out true true 4) exactslide 0 _ refl;
 }

@@ -1,5 +1,6 @@
--- A vibrato whose period is one less than the longest, computed by the checker.
-use Rattle.std.proofs.Common.{◌≡◌, false, refl, sym, ◌∙◌}
+-- What small songs leave in the registers, computed by the checker.
+-- Written by bench/worked_frames.py.
+use Rattle.std.proofs.Common.{true, false, refl}
 use Rattle.song_model.specs.Walk.{prefix_of, cycle_of, played}
 use Rattle.song_model.specs.LookUp.{playable_subtune, instrument_at, table_row, pattern_at}
 use Rattle.play_model.specs.Freq.{freq, half_tone, slide}
@@ -10,26 +11,19 @@ use Rattle.play_model.specs.WaveStep.{wave_command, wave_step}
 use Rattle.play_model.specs.EffectStep.{effect_step}
 use Rattle.play_model.specs.PulseStep.{pulse_step}
 use Rattle.play_model.specs.FetchRow.{fetch_row}
-use Rattle.play_model.specs.Frame.{voice_step, voice_registers, filter_registers, frame_of, state_after_with}
-use Rattle.play_model.specs.State.{start_state}
+use Rattle.play_model.specs.Frame.{voice_step, voice_registers, filter_registers, frame_of}
 use Rattle.play_model.specs.WorkedRuns.{left_out}
-use Rattle.play_model.specs.WorkedLongPulses.{period_127}
-use Rattle.play_model.specs.WorkedPeriods.{period_126, WorkedPeriodsHold}
-use Rattle.play_model.proofs.Computed.{calls_from, calls_are_traced}
+use Rattle.play_model.proofs.Laws.{calls_from, plays}
+use Rattle.worked_frames.specs.WorkedCorners.{corner_1, corner_2, WorkedCornersHold}
 
-same_calls : calls_from (left_out false false 1) period_126 0 180 (start_state (left_out false false 1))
-    ≡ calls_from (left_out false false 1) period_127 0 180 (start_state (left_out false false 1))
+pub worked_corners_lem : WorkedCornersHold
 unfolding prefix_of cycle_of played playable_subtune instrument_at table_row pattern_at
     freq half_tone slide next_row porta_up porta_down tone vibrato do_command filter_step
     between_rows note_started row_command at_row tick_step wave_command wave_step effect_step
     pulse_step fetch_row voice_step voice_registers filter_registers frame_of calls_from
-same_calls = refl
-
-pub worked_periods_lem : WorkedPeriodsHold
-unfolding state_after_with
-worked_periods_lem = record {
-  alike =
-      calls_are_traced (left_out false false 1) period_126 0 0 180
-      ∙ same_calls
-      ∙ sym (calls_are_traced (left_out false false 1) period_127 0 0 180);
+worked_corners_lem = record {
+  corner_1_none_1 = plays (left_out false false 1) corner_1 0 _ refl;
+  corner_1_pulse_2 = plays (left_out false true 2) corner_1 0 _ refl;
+  corner_2_none_1 = plays (left_out false false 1) corner_2 0 _ refl;
+  corner_2_effects_4 = plays (left_out true false 4) corner_2 0 _ refl;
 }

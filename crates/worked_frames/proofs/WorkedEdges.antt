@@ -13,8 +13,8 @@ use Rattle.play_model.specs.PulseStep.{pulse_step}
 use Rattle.play_model.specs.FetchRow.{fetch_row}
 use Rattle.play_model.specs.Frame.{voice_step, voice_registers, filter_registers, frame_of}
 use Rattle.play_model.specs.WorkedRuns.{left_out}
-use Rattle.play_model.proofs.Computed.{calls_from, plays}
-use Rattle.play_model.specs.WorkedEdges.{edge_134, edge_112, edge_76, edge_90, WorkedEdgesHold}
+use Rattle.play_model.proofs.Laws.{calls_from, plays}
+use Rattle.worked_frames.specs.WorkedEdges.{edge_134, edge_112, edge_76, edge_90, WorkedEdgesHold}
 
 pub worked_edges_lem : WorkedEdgesHold
 unfolding prefix_of cycle_of played playable_subtune instrument_at table_row pattern_at

@@ -13,26 +13,19 @@ use Rattle.play_model.specs.PulseStep.{pulse_step}
 use Rattle.play_model.specs.FetchRow.{fetch_row}
 use Rattle.play_model.specs.Frame.{voice_step, voice_registers, filter_registers, frame_of}
 use Rattle.play_model.specs.WorkedRuns.{left_out}
-use Rattle.play_model.proofs.Computed.{calls_from, plays}
-use Rattle.play_model.specs.WorkedWithoutEffects.{small_4, small_40, small_43, small_13, rich_5sub_1, rich_46sub_1}
-use Rattle.play_model.specs.WorkedWithoutEffects.{WorkedWithoutEffectsHold}
+use Rattle.play_model.proofs.Laws.{calls_from, plays}
+use Rattle.worked_frames.specs.WorkedSlides.{small_23, edge_126, edge_19, WorkedSlidesHold}
 
-pub worked_without_effects_lem : WorkedWithoutEffectsHold
+pub worked_slides_lem : WorkedSlidesHold
 unfolding prefix_of cycle_of played playable_subtune instrument_at table_row pattern_at
     freq half_tone slide next_row porta_up porta_down tone vibrato do_command filter_step
     between_rows note_started row_command at_row tick_step wave_command wave_step effect_step
     pulse_step fetch_row voice_step voice_registers filter_registers frame_of calls_from
-worked_without_effects_lem = record {
-  small_4_none_1 = plays (left_out false false 1) small_4 0 _ refl;
-  small_4_effects_2 = plays (left_out true false 2) small_4 0 _ refl;
-  small_40_none_1 = plays (left_out false false 1) small_40 0 _ refl;
-  small_40_effects_4 = plays (left_out true false 4) small_40 0 _ refl;
-  small_43_none_1 = plays (left_out false false 1) small_43 0 _ refl;
-  small_43_effects_3 = plays (left_out true false 3) small_43 0 _ refl;
-  small_13_none_1 = plays (left_out false false 1) small_13 0 _ refl;
-  small_13_effects_2 = plays (left_out true false 2) small_13 0 _ refl;
-  rich_5sub_1_none_1 = plays (left_out false false 1) rich_5sub_1 0 _ refl;
-  rich_5sub_1_effects_2 = plays (left_out true false 2) rich_5sub_1 0 _ refl;
-  rich_46sub_1_none_1 = plays (left_out false false 1) rich_46sub_1 0 _ refl;
-  rich_46sub_1_effects_2 = plays (left_out true false 2) rich_46sub_1 0 _ refl;
+worked_slides_lem = record {
+  small_23_none_1 = plays (left_out false false 1) small_23 0 _ refl;
+  small_23_effects_1 = plays (left_out true false 1) small_23 0 _ refl;
+  edge_126_none_1 = plays (left_out false false 1) edge_126 0 _ refl;
+  edge_126_effects_2 = plays (left_out true false 2) edge_126 0 _ refl;
+  edge_19_none_1 = plays (left_out false false 1) edge_19 0 _ refl;
+  edge_19_effects_4 = plays (left_out true false 4) edge_19 0 _ refl;
 }
