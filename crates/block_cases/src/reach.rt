@@ -3,7 +3,8 @@
 ghost use Rattle.std.specs.Prelude.{◌≡◌, ◌+◌, ◌^◌, ◌<◌, ◌≤◌, ◌∷◌, true, false, length, IfSome};
 ghost use Rattle.std.specs.Option.{option_map};
 ghost use Rattle.scopes.specs.Trees.{opened};
-ghost use Rattle.scope_lines.specs.Instructions.{alone_mode, is_plain, is_spelled};
+ghost use Rattle.scopes.specs.Plain.{is_plain};
+ghost use Rattle.scope_lines.specs.Instructions.{alone_mode, is_spelled};
 ghost use Rattle.scope_lines.specs.Reach.{has_lines, is_operand, is_within};
 ghost use Rattle.scope_lines.specs.Sizes.{most};
 ghost use Rattle.scope_lines.specs.Readings.{first_of, behind_of, are_open, is_block, simple};

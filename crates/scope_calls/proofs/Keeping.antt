@@ -19,7 +19,8 @@ use Rattle.scopes.specs.Trees.{Tree, DoTree, WithTree, NoneTree, ThenTree, Scope
 use Rattle.scopes.specs.Trees.{AgainTree, AgainIfTree, WhenTree, ChooseTree, NeverTree}
 use Rattle.scopes.specs.Meaning.{Outcome, Done, Left, Again, Stuck, Ran, Prices, is_met, ended, stepped, behind}
 use Rattle.scopes.specs.Meaning.{and_then, next_turn, turns, ran}
-use Rattle.scope_lines.specs.Instructions.{mode_of, alone_mode, is_plain, is_spelled}
+use Rattle.scopes.specs.Plain.{is_plain}
+use Rattle.scope_lines.specs.Instructions.{mode_of, alone_mode, is_spelled}
 use Rattle.scope_lines.specs.Sizes.{most}
 use Rattle.scope_lines.specs.Reach.{Reach, before_bytes, behind_bytes, in_scope, in_loop, is_operand, has_lines}
 

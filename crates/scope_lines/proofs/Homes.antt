@@ -25,7 +25,8 @@ use Rattle.scopes.specs.declared.line.Test.{Test}
 use Rattle.scopes.specs.declared.line.Test.TheVariants.{On, Off}
 use Rattle.scopes.specs.Trees.{Tree, DoTree, WithTree, NoneTree, ThenTree, ScopeTree, LeaveTree, LeaveIfTree, LoopTree}
 use Rattle.scopes.specs.Trees.{AgainTree, AgainIfTree, WhenTree, ChooseTree, NeverTree}
-use Rattle.scope_lines.specs.Instructions.{code, mode_of, argument_of, alone_mode, branch, jump, is_plain, is_spelled}
+use Rattle.scopes.specs.Plain.{is_plain}
+use Rattle.scope_lines.specs.Instructions.{code, mode_of, argument_of, alone_mode, branch, jump, is_spelled}
 use Rattle.scope_lines.specs.Instructions.{branch_of as test_branch}
 use Rattle.scope_lines.specs.Sizes.{size, most}
 use Rattle.scope_lines.specs.Lines.{Around, in_scope, in_loop, forwards, backwards, lines, block_around, block_lines}

@@ -16,7 +16,8 @@ use Rattle.code_runs.specs.Code.{place_of}
 use Rattle.cpu6502.specs.Shifts.{accumulator_effect}
 use Rattle.cpu6502.specs.Effects.{effect_of, or_effect}
 use Rattle.scopes.specs.Steps.{unless_stopped}
-use Rattle.scope_lines.specs.Instructions.{is_plain, alone_mode}
+use Rattle.scopes.specs.Plain.{is_plain}
+use Rattle.scope_lines.specs.Instructions.{alone_mode}
 
 -- an effect with the program counter somewhere
 abbrev pub at_pc : ℕ → Effect → Effect

@@ -20,7 +20,8 @@ use Rattle.cpu6502.specs.Opcodes.{is_accumulator}
 use Rattle.cpu6502.specs.Effects.{unless_stopped as stopped_or}
 use Rattle.cpu6502.specs.declared.stop.Stop.TheVariants.{Decimal}
 use Rattle.scopes.specs.Steps.{unless_stopped}
-use Rattle.scope_lines.specs.Instructions.{is_plain, is_spelled, alone_mode}
+use Rattle.scopes.specs.Plain.{is_plain}
+use Rattle.scope_lines.specs.Instructions.{is_spelled, alone_mode}
 use Rattle.scope_lines.specs.Known.{Known, the_a, the_x, the_y, the_carry, shown, either, reads, sets, alone_reads, alone_sets}
 use Rattle.scope_lines.specs.Isolation.{SameRegisters}
 use Rattle.scope_lines.proofs.Knowing.{IsWithin}

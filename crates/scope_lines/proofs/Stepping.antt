@@ -26,7 +26,8 @@ use Rattle.scopes.specs.declared.line.Operand.TheVariants.{Number, Var, Own, Ent
 use Rattle.scopes.specs.declared.line.Operand.TheVariants.{OwnRegister, Timer}
 use Rattle.scopes.specs.Desk.{Desk, Layout, operand_place, operand_read}
 use Rattle.scopes.specs.Steps.{all_may, effected, unless_stopped, is_store, may_see, may_change, done, done_with}
-use Rattle.scope_lines.specs.Instructions.{mode_of, argument_of, alone_mode, is_plain, is_spelled}
+use Rattle.scopes.specs.Plain.{is_plain}
+use Rattle.scope_lines.specs.Instructions.{mode_of, argument_of, alone_mode, is_spelled}
 use Rattle.scope_lines.specs.Lowered.{spot}
 use Rattle.scope_lines.proofs.Plain.{at_pc, writes_byte, plain_effect, alone_is, shift_is, alone_one, alone_nowhere}
 

@@ -1,13 +1,10 @@
 -- The instructions that stand for lines: the addressing mode of each operand, the branch of each test, and which
 -- instructions a block may have. Source: the MOS 6502 programming manual.
-use Rattle.std.specs.Prelude.{ℕ, ◌+◌, ◌&&◌, Bool, true, false}
+use Rattle.std.specs.Prelude.{ℕ, ◌+◌, ◌&&◌, Bool}
 use Rattle.std.specs.Option.{is_some}
 use Rattle.cpu6502.specs.declared.mnemonic.Mnemonic.{Mnemonic}
-use Rattle.cpu6502.specs.declared.mnemonic.Mnemonic.TheVariants.{Adc, And, Asl, Bcc, Bcs, Beq, Bit, Bmi, Bne, Bpl, Clc}
-use Rattle.cpu6502.specs.declared.mnemonic.Mnemonic.TheVariants.{Clv, Cmp, Cpx, Cpy}
-use Rattle.cpu6502.specs.declared.mnemonic.Mnemonic.TheVariants.{Dec, Dex, Dey, Eor, Inc, Inx, Iny, Jmp, Lda, Ldx, Ldy}
-use Rattle.cpu6502.specs.declared.mnemonic.Mnemonic.TheVariants.{Lsr, Nop, Ora}
-use Rattle.cpu6502.specs.declared.mnemonic.Mnemonic.TheVariants.{Rol, Ror, Sbc, Sec, Sta, Stx, Sty, Tax, Tay, Txa, Tya}
+use Rattle.cpu6502.specs.declared.mnemonic.Mnemonic.TheVariants.{Asl, Bcc, Bcs, Beq, Bmi, Bne, Bpl, Jmp, Lsr, Rol}
+use Rattle.cpu6502.specs.declared.mnemonic.Mnemonic.TheVariants.{Ror}
 use Rattle.cpu6502.specs.declared.mnemonic.Mode.{Mode}
 use Rattle.cpu6502.specs.declared.mnemonic.Mode.TheVariants.{Implied, Accumulator, Immediate, ZeroPage, Absolute}
 use Rattle.cpu6502.specs.declared.mnemonic.Mode.TheVariants.{AbsoluteX, AbsoluteY, IndirectY, Relative}
@@ -23,6 +20,7 @@ use Rattle.scopes.specs.declared.line.Flag.TheVariants.{Zero, Minus, Carry}
 use Rattle.scopes.specs.declared.line.Test.{Test}
 use Rattle.scopes.specs.declared.line.Test.TheVariants.{On, Off}
 use Rattle.scopes.specs.Desk.{half_place}
+use Rattle.scopes.specs.Plain.{is_plain}
 
 -- a line of the assembler, in the part that is always kept
 abbrev pub code : Mnemonic → Mode → Argument → Line
@@ -80,44 +78,6 @@ abbrev pub jump : ℕ → ℕ → Line
 jump label offset = code Jmp Absolute (Label label offset)
 
 -- ---- which instructions a block may have
-
--- an instruction that works on bytes, A, X, Y and the flags alone, and goes on to the next one: no branch, jump, call
--- or return, none on the stack, and none that sets or clears the decimal flag or the interrupt flag
-abbrev pub is_plain : Mnemonic → Bool
-is_plain Adc = true
-is_plain And = true
-is_plain Asl = true
-is_plain Bit = true
-is_plain Clc = true
-is_plain Clv = true
-is_plain Cmp = true
-is_plain Cpx = true
-is_plain Cpy = true
-is_plain Dec = true
-is_plain Dex = true
-is_plain Dey = true
-is_plain Eor = true
-is_plain Inc = true
-is_plain Inx = true
-is_plain Iny = true
-is_plain Lda = true
-is_plain Ldx = true
-is_plain Ldy = true
-is_plain Lsr = true
-is_plain Nop = true
-is_plain Ora = true
-is_plain Rol = true
-is_plain Ror = true
-is_plain Sbc = true
-is_plain Sec = true
-is_plain Sta = true
-is_plain Stx = true
-is_plain Sty = true
-is_plain Tax = true
-is_plain Tay = true
-is_plain Txa = true
-is_plain Tya = true
-is_plain _ = false
 
 -- one that the processor has, in that mode
 abbrev pub is_spelled : Mnemonic → Mode → Bool
