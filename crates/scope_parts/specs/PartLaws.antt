@@ -1,5 +1,6 @@
 -- What holds of the parts of a block. This is the project's own language of player code.
-use Rattle.std.specs.Prelude.{◌≡◌, ℕ, ◌+◌, ◌≤◌, ◌⊎◌, ◌==◌, max, Bool, true, if◌then◌else◌, length, All}
+use Rattle.std.specs.Prelude.{◌≡◌, ℕ, ◌+◌, ◌≤◌, ◌⊎◌, ◌&&◌, ◌==◌, max, Bool, true, false, if◌then◌else◌}
+use Rattle.std.specs.Prelude.{length, All}
 use Rattle.scopes.specs.Trees.{Tree, ThenTree, ScopeTree, LoopTree}
 use Rattle.scopes.specs.Trees.{WhenTree, ChooseTree}
 use Rattle.scope_lines.specs.Sizes.{size, most}
@@ -29,3 +30,18 @@ abbrev pub PartsAreBounded : Type 0
 PartsAreBounded =
     (holds : ℕ → Bool) (part around : ℕ) (tree : Tree) →
     bytes_of part (parts holds around tree) ≤ most_of part around tree
+
+-- no line of a tree that stands under a condition is of the part in which the tree stands, and there is no choice
+abbrev pub stays_whole : ℕ → Tree → Bool
+stays_whole part (ThenTree first rest) = stays_whole part first && stays_whole part rest
+stays_whole part (ScopeTree name body) = stays_whole part body
+stays_whole part (LoopTree count body) = stays_whole part body
+stays_whole part (WhenTree condition body) = most_of part condition body == 0
+stays_whole part (ChooseTree condition this other) = false
+stays_whole part tree = true
+
+-- then as many bytes are of that part whichever conditions hold
+abbrev pub PartsStayWhole : Type 0
+PartsStayWhole =
+    (holds : ℕ → Bool) (part : ℕ) (tree : Tree) → stays_whole part tree ≡ true →
+    bytes_of part (parts holds part tree) ≡ most_of part part tree

@@ -5,10 +5,11 @@ use Rattle.scopes.specs.declared.line.Flag.TheVariants.{Zero}
 use Rattle.scopes.specs.declared.line.Test.TheVariants.{On}
 use Rattle.scopes.specs.declared.line.Operand.TheVariants.{Number, Var}
 use Rattle.scopes.specs.declared.line.Line.{Line}
-use Rattle.scopes.specs.declared.line.Line.TheVariants.{Do, With, Scope, Leave, LeaveIf, When, Choose, Or, End}
+use Rattle.scopes.specs.declared.line.Line.TheVariants.{Do, With, Scope, Leave, LeaveIf, Loop, Again, AgainIf}
+use Rattle.scopes.specs.declared.line.Line.TheVariants.{When, Choose, Or, End}
 use Rattle.scopes.specs.Trees.{tree_of}
 use Rattle.scope_parts.specs.Parts.{parts, bytes_of}
-use Rattle.scope_parts.specs.PartLaws.{most_of}
+use Rattle.scope_parts.specs.PartLaws.{most_of, stays_whole}
 
 -- two bytes under no condition; three under 3, and behind them, under 3 and then 5, two; a branch and a jump under
 -- none; and one byte under 7, or two where it doesn't hold
@@ -16,6 +17,10 @@ abbrev pub lines : List Line
 lines =
     With Lda (Number 1) ∷ Scope 0 ∷ When 3 ∷ With Sta (Var 4) ∷ When 5 ∷ LeaveIf 0 (On Zero) ∷ End ∷ End
     ∷ LeaveIf 0 (On Zero) ∷ Leave 0 ∷ End ∷ Choose 7 ∷ Do Tax ∷ Or ∷ With Lda (Number 2) ∷ End ∷ []
+
+-- a byte in a loop, one and a branch under 5, and a jump
+abbrev pub turning : List Line
+turning = Loop 2 ∷ Do Tax ∷ When 5 ∷ Do Tax ∷ AgainIf (On Zero) ∷ End ∷ Again ∷ End ∷ []
 
 abbrev pub of_set : List ℕ → (ℕ → Bool) → Type 0
 of_set wanted holds = parts holds 255 (tree_of lines) ≡ wanted
@@ -47,8 +52,14 @@ pub record PartsAreWorked : Type 0 where
       ≢ 255 ∷ 255 ∷ 3 ∷ 3 ∷ 3 ∷ 3 ∷ 3 ∷ 255 ∷ 255 ∷ 255 ∷ 255 ∷ 255 ∷ 7 ∷ []
   -- in another part the bytes under no condition are that one's
   pub elsewhere : parts none_holds 9 (tree_of lines) ≡ 9 ∷ 9 ∷ 9 ∷ 9 ∷ 9 ∷ 9 ∷ 9 ∷ 9 ∷ 9 ∷ []
+  pub turns : parts none_holds 255 (tree_of turning) ≡ 255 ∷ 255 ∷ 255 ∷ 255 ∷ []
+  pub turns_under : parts five_holds 255 (tree_of turning) ≡ 255 ∷ 5 ∷ 5 ∷ 5 ∷ 255 ∷ 255 ∷ 255 ∷ []
   pub three : bytes_of 3 (parts all_hold 255 (tree_of lines)) ≡ 3
   pub most_three : most_of 3 255 (tree_of lines) ≡ 3
   pub most_rest : most_of 255 255 (tree_of lines) ≡ 9
   pub most_seven : most_of 7 255 (tree_of lines) ≡ 1
   pub most_other : most_of 4 255 (tree_of lines) ≡ 0
+  -- the loop's bytes under none are always there; not where it stands in the part of its condition, and not of a choice
+  pub stays : stays_whole 255 (tree_of turning) ≡ true
+  pub goes : stays_whole 5 (tree_of turning) ≡ false
+  pub other_side : stays_whole 255 (tree_of lines) ≡ false
