@@ -1,6 +1,8 @@
--- To believe: which lines are kept.
+-- To believe: which lines are kept, and with which numbers a subtune begins.
 pub mod KeptLines
+pub mod Starts
 -- Claimed.
 pub mod KeptLaws
 -- Worked by hand.
 pub mod WorkedKept
+pub mod WorkedStarts

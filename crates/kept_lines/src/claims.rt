@@ -1,23 +1,16 @@
 //! Facts about the definitions, each the contract of a function that does nothing.
 
-ghost use Rattle.play_model.specs.declared.options.Options.{Options};
-ghost use Rattle.scopes.specs.Desk.{Layout};
-ghost use Rattle.kept_lines.specs.KeptLaws.{SetsAreExact, SetsKeepTheirLines};
-ghost use Rattle.kept_lines.specs.WorkedKept.{SetsAreWorked, LayoutsAreWorked};
+ghost use Rattle.kept_lines.specs.KeptLaws.{SetsAreExact};
+ghost use Rattle.kept_lines.specs.WorkedKept.{SetsAreWorked};
+ghost use Rattle.kept_lines.specs.WorkedStarts.{StartsAreWorked};
 
 /// In the set for a song and for options are exactly the conditions that hold for them.
 pub fn sets_are_exact()
     ensures { SetsAreExact }
 {}
 
-/// A layout with this set keeps the lines of each feature of the song, of each option as it is, and of what features
-/// have in common, and sets the timer where there are several play calls in a picture.
-pub fn sets_keep_their_lines()
-    ensures { SetsKeepTheirLines }
-{}
-
-/// Sets that are worked by hand; and which layouts keep a song's lines, and which don't, for each of these alone.
+/// Sets and starts that are worked by hand.
 pub fn worked_sets()
     ensures sets { SetsAreWorked }
-    ensures layouts { (layout : Layout) → (options : Options) → LayoutsAreWorked layout options }
+    ensures starts { StartsAreWorked }
 {}

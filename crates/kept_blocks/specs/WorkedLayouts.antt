@@ -1,0 +1,27 @@
+-- Which layouts keep a song's lines, and which don't, for each of these alone, worked by hand.
+use Rattle.std.specs.Prelude.{◌≡◌, ℕ, ◌^◌, true, false}
+use Rattle.play_model.specs.declared.options.Options.{Options}
+use Rattle.play_model.specs.State.{no_options, at_speed}
+use Rattle.scopes.specs.Desk.{Layout}
+use Rattle.scope_lines.specs.Readings.{holds_in}
+use Rattle.player_memory.specs.declared.conditions.TheConstants.{TRANSPOSES, PORTA_UP, TONE_PORTA, VIBRATO}
+use Rattle.player_memory.specs.declared.conditions.TheConstants.{SKIP_EFFECTS, SKIP_PULSE, TIMED, SKIP_FIRST, RISE}
+use Rattle.kept_lines.specs.KeptLines.{kept_set}
+use Rattle.kept_blocks.specs.KeptBlocks.{KeepsLines}
+
+-- a layout in which the conditions of a set hold
+abbrev pub with_set : Layout → ℕ → Layout
+with_set layout set = record layout { holds = holds_in set }
+
+-- A layout keeps the lines of a song where it has the song's set, and not where it has that of another song. One of a
+-- song's features, of what features have in common, of the options, or the timer, can't be the other way.
+pub record LayoutsAreWorked (layout : Layout) (options : Options) : Type 0 where
+  pub its : KeepsLines (with_set layout (kept_set (2 ^ VIBRATO) (at_speed 2))) (2 ^ VIBRATO) (at_speed 2)
+  pub another : ¬ KeepsLines (with_set layout (kept_set (2 ^ VIBRATO) no_options)) (2 ^ TONE_PORTA) no_options
+  pub feature : layout.holds TRANSPOSES ≡ false → ¬ KeepsLines layout (2 ^ TRANSPOSES) options
+  pub common : layout.holds RISE ≡ false → ¬ KeepsLines layout (2 ^ PORTA_UP) options
+  pub effects : layout.holds SKIP_EFFECTS ≡ true → ¬ KeepsLines layout 0 no_options
+  pub pulse : layout.holds SKIP_PULSE ≡ true → ¬ KeepsLines layout 0 no_options
+  pub first : layout.holds SKIP_FIRST ≡ true → ¬ KeepsLines layout 0 no_options
+  pub once : layout.holds TIMED ≡ true → ¬ KeepsLines layout 0 no_options
+  pub twice : layout.holds TIMED ≡ false → ¬ KeepsLines layout 0 (at_speed 2)
