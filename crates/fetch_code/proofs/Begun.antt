@@ -24,13 +24,13 @@ use Rattle.player_desk.proofs.Laws.{VoiceDesk, Reader, Ways, Leads, listed, done
 use Rattle.player_desk.proofs.Laws.{joined, indexed, loaded}
 use Rattle.player_text.specs.declared.joints.TheConstants.{BEGINS}
 use Rattle.player_text.specs.declared.walk.TheConstants.{PATTERN}
-use Rattle.fetch_code.proofs.Takes.{around_on}
-use Rattle.fetch_code.proofs.Moves.{InPlay}
+use Rattle.player_desk.proofs.Laws.{around_on}
+use Rattle.entry_code.proofs.Laws.{InPlay}
 use Rattle.fetch_code.proofs.Fetches.{AtBegun, next_play, LateWays, WalkLeads}
-use Rattle.fetch_code.proofs.Ways.{Arrives, arrives, begun, Begun}
-use Rattle.fetch_code.proofs.Repeats.{OfByte, repeat_fine}
-use Rattle.fetch_code.proofs.WalkGrounds.{WalkGround, Walking, Fine, IsThere, begin_tree, behind}
-use Rattle.fetch_code.proofs.Walks.{loop_leads}
+use Rattle.walk_code.proofs.Laws.{Arrives, arrives, begun, Begun}
+use Rattle.walk_code.proofs.Laws.{OfByte, repeat_fine}
+use Rattle.walk_code.proofs.Laws.{WalkGround, Walking, Fine, IsThere, begin_tree, behind}
+use Rattle.walk_code.proofs.Laws.{loop_leads}
 
 -- ---- where the walk stands behind a play
 

@@ -23,8 +23,9 @@ use Rattle.player_desk.proofs.Laws.{rest_of, joined, compared_is, over_is}
 use Rattle.player_desk.proofs.VoiceDesks.{Either}
 use Rattle.player_text.specs.declared.joints.TheConstants.{FETCHES, FIRST, LATE, WALKS, BEGINS, SOUNDS, PULSED}
 use Rattle.player_text.specs.Steps.{fetch_tree}
-use Rattle.fetch_code.proofs.Takes.{around_on, take_tree, Around, SamePlay}
-use Rattle.fetch_code.proofs.Moves.{InPlay, same_pattern, same_walk}
+use Rattle.player_desk.proofs.Laws.{around_on, Around}
+use Rattle.entry_code.proofs.Laws.{take_tree, SamePlay}
+use Rattle.entry_code.proofs.Laws.{InPlay, same_pattern, same_walk}
 use Rattle.fetch_code.proofs.Taken.{take_leads}
 use Rattle.fetch_code.specs.FetchBlock.{left_out}
 use Rattle.fetch_code.proofs.Outcomes.{Fetched, fetch_ways}

@@ -8,8 +8,8 @@ use Rattle.scopes.specs.Desk.{Desk, Layout}
 use Rattle.player_memory.specs.declared.labels.TheConstants.{PATTERNS, PATTERNS_LOW, PATTERNS_HIGH}
 use Rattle.player_memory.specs.Fetching.{AreListed, IsOrderlist, IsPattern, place_before}
 use Rattle.player_desk.proofs.Laws.{Reads, reader_of, finds, place_at}
-use Rattle.fetch_code.proofs.Takes.{PatternAt}
-use Rattle.fetch_code.proofs.WalkGrounds.{order_byte}
+use Rattle.entry_code.proofs.Laws.{PatternAt}
+use Rattle.walk_code.proofs.Laws.{order_byte}
 
 -- a byte of what stands under a label
 byte_at : (layout : Layout) (rows voice : ℕ) (desk : Desk) (label place : ℕ) (bytes : List ℕ) →

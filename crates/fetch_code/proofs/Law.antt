@@ -10,7 +10,7 @@ use Rattle.player_text.specs.Steps.{fetch_tree}
 use Rattle.fetch_code.proofs.Outcomes.{Fetched, fetch_ways}
 use Rattle.fetch_code.proofs.Reaching.{fetched_voice, FetchGround}
 use Rattle.fetch_code.proofs.Fetches.{fetch_leads}
-use Rattle.fetch_code.proofs.WalkGrounds.{WalkGround}
+use Rattle.walk_code.proofs.Laws.{WalkGround}
 use Rattle.fetch_code.proofs.Begun.{walk_leads}
 
 -- On the desk of a voice that stands in its song, the code comes to its end, or leaves PULSED or SOUNDS, with the voice

@@ -12,7 +12,7 @@ use Rattle.player_desk.proofs.VoiceDesks.{Either}
 use Rattle.player_desk.proofs.Laws.{VoiceDesk, Reader, Ways, Fields}
 use Rattle.player_text.specs.declared.joints.TheConstants.{SOUNDS, PULSED}
 use Rattle.fetch_code.specs.FetchBlock.{left_out}
-use Rattle.fetch_code.proofs.Takes.{Around}
+use Rattle.player_desk.proofs.Laws.{Around}
 
 -- this voice stands, with its place in its song; it has the orderlist that it had
 pub record Fetched (r : Reader) (look : LookUps) (packed : ℕ → List ℕ) (order : Order) (s : Playing) (v : Voice)

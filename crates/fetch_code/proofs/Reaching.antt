@@ -25,11 +25,12 @@ use Rattle.player_desk.proofs.Laws.{joined, compared_is, over_is}
 use Rattle.player_text.specs.declared.joints.TheConstants.{FETCHES, FIRST, LATE, WALKS}
 use Rattle.player_text.specs.declared.fetch.TheConstants.{DUE, ENTRY}
 use Rattle.player_text.specs.Steps.{fetch_tree}
-use Rattle.fetch_code.proofs.Texts.{stands_there, text_begins}
-use Rattle.fetch_code.proofs.Takes.{around_on, PatternAt, SamePlay}
-use Rattle.fetch_code.proofs.Begins.{two_bytes}
-use Rattle.fetch_code.proofs.Ends.{TimerAt}
-use Rattle.fetch_code.proofs.Moves.{fields_moved}
+use Rattle.entry_code.proofs.Laws.{stands_there, text_begins}
+use Rattle.player_desk.proofs.Laws.{around_on}
+use Rattle.entry_code.proofs.Laws.{PatternAt, SamePlay}
+use Rattle.entry_code.proofs.Laws.{two_bytes}
+use Rattle.entry_code.proofs.Laws.{TimerAt}
+use Rattle.entry_code.proofs.Laws.{fields_moved}
 use Rattle.fetch_code.proofs.Rests.{stands_behind_rest, rest_moves}
 use Rattle.fetch_code.specs.FetchBlock.{left_out}
 use Rattle.fetch_code.proofs.Outcomes.{Fetched, fetch_ways}

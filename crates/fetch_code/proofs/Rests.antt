@@ -13,9 +13,9 @@ use Rattle.scopes.specs.Desk.{Layout}
 use Rattle.player_memory.specs.declared.labels.TheConstants.{REST, OFFSET}
 use Rattle.player_memory.specs.Fetching.{EntryIsNext, Walked, NotWalked, last_command, AreRests, SongStands, AtEntry}
 use Rattle.player_memory.specs.Fetching.{InRun, InLastRun}
-use Rattle.fetch_code.proofs.Texts.{stands_there}
-use Rattle.fetch_code.proofs.Takes.{SamePlay}
-use Rattle.fetch_code.proofs.Moves.{same_pattern, same_walk, moved_on, moved_out}
+use Rattle.entry_code.proofs.Laws.{stands_there}
+use Rattle.entry_code.proofs.Laws.{SamePlay}
+use Rattle.entry_code.proofs.Laws.{same_pattern, same_walk, moved_on, moved_out}
 use Rattle.fetch_code.proofs.Taken.{fetch_is}
 
 -- the next entry stays, where the bytes say the same and the command that runs on is the same

@@ -13,7 +13,7 @@ use Rattle.player_memory.specs.declared.labels.TheConstants.{REST}
 use Rattle.player_memory.specs.declared.variables.TheConstants.{SONG_BYTES}
 use Rattle.player_memory.specs.Playing.{AreSame}
 use Rattle.player_memory.specs.Fetching.{EntryIsNext, AreRests, SongStands, AtEntry, InRun, InLastRun}
-use Rattle.fetch_code.proofs.Takes.{SamePlay}
+use Rattle.entry_code.proofs.Laws.{SamePlay}
 use Rattle.fetch_code.proofs.Rests.{same_next}
 
 -- the same play, row and last command

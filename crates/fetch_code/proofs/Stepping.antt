@@ -27,12 +27,12 @@ use Rattle.player_text.specs.Steps.{fetch_tree as step_tree}
 use Rattle.player_text.specs.declared.joints.TheConstants.{SOUNDS, PULSED}
 use Rattle.fetch_code.specs.FetchBlock.{fetch_tree, left_out, way_of, IsKept, HasOrderlist, HasRows, Fetches}
 use Rattle.fetch_code.specs.FetchBlock.{FetchBlockFetches}
-use Rattle.fetch_code.proofs.Takes.{SamePlay}
+use Rattle.entry_code.proofs.Laws.{SamePlay}
 use Rattle.fetch_code.proofs.Rests.{same_next}
 use Rattle.fetch_code.proofs.Outcomes.{Fetched, fetch_ways}
 use Rattle.fetch_code.proofs.Reaching.{fetched_voice, FetchGround}
-use Rattle.fetch_code.proofs.WalkGrounds.{WalkGround}
-use Rattle.fetch_code.proofs.Transposes.{IsNone, none_played}
+use Rattle.walk_code.proofs.Laws.{WalkGround}
+use Rattle.walk_code.proofs.Laws.{IsNone, none_played}
 use Rattle.fetch_code.proofs.Grounds.{pattern_at, low_at, high_at, order_at}
 use Rattle.fetch_code.proofs.Law.{fetch_step_leads}
 

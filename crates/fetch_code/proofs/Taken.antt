@@ -24,14 +24,15 @@ use Rattle.player_memory.specs.declared.labels.TheConstants.{OFFSET, ORDER_LOW, 
 use Rattle.player_memory.specs.Fetching.{transpose_byte, place_before, running_command, last_command, SongStands}
 use Rattle.player_desk.proofs.Laws.{VoiceDesk, Reader, Fields, Ways, Leads, body_of, rest_of, joined, indexed}
 use Rattle.player_text.specs.declared.fetch.TheConstants.{READ, END, HELD}
-use Rattle.fetch_code.proofs.Texts.{Stands, stands_there, text_begins, Begun}
-use Rattle.fetch_code.proofs.Takes.{around_on, take_tree, PatternAt, takes}
-use Rattle.fetch_code.proofs.LastBytes.{noted}
-use Rattle.fetch_code.proofs.Readings.{taken, Read, read_leads}
-use Rattle.fetch_code.proofs.Begins.{AtFetch, begin_leads}
-use Rattle.fetch_code.proofs.Ends.{TimerAt, AtHeld, AtOffset, end_leads, held_leads}
-use Rattle.fetch_code.proofs.Moves.{InPlay, same_pattern, same_walk, row_kept, plays_kept, command_taken, stands_next}
-use Rattle.fetch_code.proofs.Moves.{fields_moved}
+use Rattle.entry_code.proofs.Laws.{Stands, stands_there, text_begins, Begun}
+use Rattle.player_desk.proofs.Laws.{around_on}
+use Rattle.entry_code.proofs.Laws.{take_tree, PatternAt, takes}
+use Rattle.entry_code.proofs.Laws.{noted}
+use Rattle.entry_code.proofs.Laws.{taken, Read, read_leads}
+use Rattle.entry_code.proofs.Laws.{AtFetch, begin_leads}
+use Rattle.entry_code.proofs.Laws.{TimerAt, AtHeld, AtOffset, end_leads, held_leads}
+use Rattle.entry_code.proofs.Laws.{InPlay, same_pattern, same_walk, row_kept, plays_kept, command_taken, stands_next}
+use Rattle.entry_code.proofs.Laws.{fields_moved}
 use Rattle.fetch_code.proofs.Outcomes.{Fetched, fetch_ways}
 
 pub fetch_is : (look : LookUps) (order : Order) (v : Voice) (row : Row) →

@@ -6,7 +6,10 @@
 //! option that is kept does.
 //!
 //! It stands on `player_text` for the code, on `scopes` for what code means, on `packed_form` for what packed patterns
-//! spell, on `player_memory` for where a voice is in its song, and on `player_desk` for the tools of proof.
+//! spell, on `player_memory` for where a voice is in its song, and on `player_desk`, `entry_code` and `walk_code` for
+//! the tools of proof: a voice's desk, an entry that is read there, and the walk along an orderlist.
+//!
+//! `worked_blocks` has what its definitions take and refuse.
 #![tactic(auto)]
 
 pub mod claims;

@@ -31,7 +31,8 @@ use Rattle.player_text.specs.Texts.{init_tree}
 use Rattle.init_code.specs.InitBlock.{IsUntouched, MaySetTimer, IsOrderByte, HasOrders, IsAtSubtune, Starts}
 use Rattle.init_code.proofs.Laws.{init_block_starts}
 use Rattle.voice_code.proofs.Laws.{ListsStay}
-use Rattle.frame_code.specs.InitBlock.{start_of, ReadsOffTimer, IsCalledWith, BeginsSubtune}
+use Rattle.frame_code.specs.InitBlock.{ReadsOffTimer, IsCalledWith, BeginsSubtune}
+use Rattle.kept_lines.specs.Starts.{start_of}
 use Rattle.frame_code.specs.InitBlock.{BeginningsStart}
 use Rattle.frame_code.proofs.Leaving.{song_lists_stay}
 use Rattle.frame_code.proofs.Calls.{ComesTo, comes_here, beginning_comes}

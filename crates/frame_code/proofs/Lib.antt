@@ -12,6 +12,3 @@ mod Sounding
 mod Frames
 -- A beginning.
 mod Beginning
--- What the definitions take and refuse.
-mod WorkedFrames
-mod WorkedNote

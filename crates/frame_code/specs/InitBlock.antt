@@ -1,10 +1,9 @@
 -- The code that begins a subtune, as a call, and what it does. This is the project's own player.
-use Rattle.std.specs.Prelude.{◌≡◌, ℕ, ◌+◌, ◌-◌, ◌*◌, ◌/◌, ◌%◌, ◌<◌, ◌≤◌}
+use Rattle.std.specs.Prelude.{◌≡◌, ℕ, ◌+◌, ◌*◌, ◌<◌, ◌≤◌}
 use Rattle.std.specs.Prelude.{◌⊎◌, Some, None, true, length}
 use Rattle.std.specs.Prelude.{if◌then◌else◌}
 use Rattle.song_model.specs.LookUp.{is_playable_subtune}
 use Rattle.play_model.specs.declared.options.Options.{Options}
-use Rattle.play_model.specs.Speeds.{timer_value}
 use Rattle.play_model.specs.State.{start_state}
 use Rattle.play_model.specs.Frame.{subtune_at}
 use Rattle.packed_form.specs.declared.packed_songs.PackedSong.{PackedSong}
@@ -20,6 +19,7 @@ use Rattle.player_memory.specs.Holds.{Holds, IsPlayerLayout}
 use Rattle.player_text.specs.declared.texts.Start.{Start}
 use Rattle.player_text.specs.Texts.{init_tree}
 use Rattle.init_code.specs.InitBlock.{IsUntouched, MaySetTimer}
+use Rattle.kept_lines.specs.Starts.{start_of}
 
 -- ---- the entrance
 
@@ -29,15 +29,6 @@ pub record BeginsSubtunes (e : Entrance) (start : Start) : Type 0 where
   pub first : e.first ≡ init_tree start
   pub voice : e.voice ≡ None
   pub stored : e.stored ≡ Some LENT
-
--- the numbers with which a subtune begins: the tempos of the start state, and the timer's value, the low byte first
-abbrev pub start_of : Options → Start
-start_of o = record {
-  tempo = 6 * o.speed - 1;
-  funk = 9 * o.speed - 1;
-  timer_low = timer_value o.system o.speed % 256;
-  timer_high = timer_value o.system o.speed / 256;
-}
 
 -- ---- what it stands on
 

@@ -4,8 +4,10 @@
 //! code of a frame leaves the state behind the frame and its 25 registers; and in any memory with the song's lists the
 //! code of a beginning leaves the start state of its subtune.
 //!
-//! It stands on `filter_code`, `voice_code` and `init_code` for what the blocks do, and on `scope_calls` for what calls
-//! mean.
+//! It stands on `filter_code`, `voice_code` and `init_code` for what the blocks do, on `scope_calls` for what calls mean,
+//! and on `kept_lines` for the numbers with which a subtune begins.
+//!
+//! `worked_blocks` has what its definitions take and refuse.
 #![tactic(auto)]
 
 pub mod claims;

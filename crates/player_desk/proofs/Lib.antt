@@ -17,8 +17,9 @@ mod Following
 mod SlidesStay
 mod Joining
 mod Reading
--- The rows of the table of variables.
+-- The rows of the table of variables, and what stands around a voice's own bytes.
 mod Views
+mod Arounds
 -- A voice in memory.
 mod Memory
 mod Leaving

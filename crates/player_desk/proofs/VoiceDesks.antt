@@ -27,7 +27,7 @@ use Rattle.scopes.specs.Desk.{Layout}
 use Rattle.scopes.specs.Steps.{unless_stopped, is_store}
 use Rattle.scopes.specs.Trees.{Tree, DoTree, WithTree, NoneTree, ThenTree, ScopeTree, LeaveTree, LeaveIfTree, LoopTree}
 use Rattle.scopes.specs.Trees.{AgainTree, AgainIfTree, WhenTree, ChooseTree, NeverTree}
-use Rattle.scope_lines.specs.Instructions.{is_plain}
+use Rattle.scopes.specs.Plain.{is_plain}
 use Rattle.player_memory.specs.declared.conditions.TheConstants.{NOTE_DEPENDENT}
 use Rattle.player_memory.specs.declared.labels.TheConstants.{TEMPO, SLIDES_LOW, SLIDES_HIGH}
 use Rattle.player_memory.specs.Labels.{is_own, is_shared, is_tempo}

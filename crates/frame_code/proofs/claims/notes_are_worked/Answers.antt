@@ -1,6 +1,0 @@
--- A packed song of one note in memory.
-use Rattle.frame_code.proofs.claims.notes_are_worked.Goals as goal
-use Rattle.frame_code.proofs.WorkedNote.{notes_are_worked}
-
-pub returns : goal.returns
-returns c = notes_are_worked

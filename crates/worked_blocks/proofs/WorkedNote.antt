@@ -1,0 +1,317 @@
+-- A packed song of one note in memory, worked by hand.
+use Rattle.std.proofs.Common.{◌≡◌, ℕ, zero, suc, ◌+◌, ◌-◌, ◌<◌, ◌≤◌, ◌&&◌, Bool}
+use Rattle.std.proofs.Common.{true, nat_eq, nat_le, nat_lt, inl, inr, refl, sym, ap, ◌∙◌, arith}
+use Rattle.std.proofs.lemmas.Bool.Decides.{nat_tests}
+use Rattle.std.proofs.lemmas.Bool.{and_parts, leb-true, ltb-true, eqb-true, agree_below, agree_below_at}
+use Rattle.song_model.specs.LookUp.{table_row, instrument_at, playable_subtune}
+use Rattle.song_model.specs.declared.tables.TableName.TheVariants.{Wave, Pulse, Filter, Speed}
+use Rattle.play_model.specs.Freq.{freq}
+use Rattle.play_model.specs.FilterStep.{filter_step}
+use Rattle.packed_form.specs.declared.packed_songs.PackedSong.{PackedSong}
+use Rattle.play_model.specs.declared.options.Options.{Options}
+use Rattle.code_runs.specs.Runs.{put}
+use Rattle.scopes.specs.Desk.{Desk}
+use Rattle.packed_form.specs.Unpacked.{unpacked_song}
+use Rattle.cpu6502.specs.declared.memory.TheConstants.{MEMORY_SIZE}
+use Rattle.player_memory.specs.declared.labels.TheConstants.{SLIDES_LOW, SLIDES_HIGH, ORDERS}
+use Rattle.player_memory.specs.Holds.{IsPlayerLayout, PatternStands}
+use Rattle.player_memory.specs.Rooms.{IsRoom, IsElsewhere, MayUse, MayUseSlide}
+use Rattle.player_memory.specs.Playing.{place_in, IsListed}
+use Rattle.player_memory.specs.SongLists.{SongList, FrequencyLows, FrequencyHighs, Lefts, Rights, Periods, Instruments}
+use Rattle.player_memory.specs.SongLists.{OrderLows, OrderHighs, PatternLows, PatternHighs, OrderBytes, PatternBytes}
+use Rattle.player_memory.specs.SongLists.{HasNumber, HasSongLists, list_label, list_byte, ListsStand}
+use Rattle.frame_code.specs.InitBlock.{IsCalledWith}
+use Rattle.worked_blocks.specs.WorkedNote.{note_packed, note_layout, note_memory, note_desk, NoteIsLaid, NoteBegins}
+use Rattle.worked_blocks.specs.WorkedNote.{NoteTurns, NotesAreWorked}
+use Rattle.frame_code.proofs.Laws.{beginnings_start}
+
+-- ---- places
+
+-- from $2000 on and below the registers no place is one of the room's
+elsewhere_at : (place : ℕ) → 0x2000 ≤ place → place < 0xD400 → IsElsewhere note_layout 1 place
+elsewhere_at place from to = record {
+  variables = inr (omega (arith, from));
+  slides_low = λ kept. inr (omega (arith, from));
+  slides_high = λ kept. inr (omega (arith, from));
+  low = λ e. omega (arith, from, e);
+  high = λ e. omega (arith, from, e);
+  registers = inl to;
+}
+
+-- ---- the lists
+
+-- a byte of a list stands where a test says so
+abbrev stands : (ℕ → ℕ) → PackedSong → SongList → ℕ → Bool
+stands at any list number =
+    nat_eq (at (place_in note_layout (list_label list) number))
+    (list_byte note_layout (note_packed any) list number)
+    && (nat_le 0x2000 (place_in note_layout (list_label list) number)
+    && nat_lt (place_in note_layout (list_label list) number) 0xD000)
+
+-- what may be read stands from $1000 up to $D000
+from_read : (place : ℕ) → note_layout.may_read place ≡ true → 0x0800 ≤ place
+from_read place reads =
+    let low = leb-true 0x1000 place (and_parts (nat_le 0x1000 place) (nat_lt place 0xD000) reads).0 in
+    omega (arith, low)
+
+to_read : (place : ℕ) → note_layout.may_read place ≡ true → place < 0xD000
+to_read place reads = ltb-true place 0xD000 (and_parts (nat_le 0x1000 place) (nat_lt place 0xD000) reads).1
+
+reads_at : (place : ℕ) → 0x2000 ≤ place → place < 0xD000 → note_layout.may_read place ≡ true
+reads_at place from to = grind (arith, nat_tests)
+
+listed : (at : ℕ → ℕ) (any : PackedSong) (list : SongList) (first count : ℕ) →
+    agree_below (λ n. stands at any list (first + n)) (λ _. true) count ≡ true → (number : ℕ) → first ≤ number →
+    number < first + count →
+    IsListed note_layout 1 at (list_label list) number (list_byte note_layout (note_packed any) list number)
+listed at any list first count test number from to =
+    let few : number - first < count = omega (arith, from, to) in
+    let back : first + (number - first) ≡ number = omega (arith, from) in
+    let all = agree_below_at (λ n. stands at any list (first + n)) (λ _. true) count (number - first) test few in
+    let here : stands at any list number ≡ true = ap (λ n. stands at any list n) (sym back) ∙ all in
+    let parts = and_parts _ _ here in
+    let room = and_parts _ _ parts.1 in
+    let low = leb-true 0x2000 (place_in note_layout (list_label list) number) room.0 in
+    let high = ltb-true (place_in note_layout (list_label list) number) 0xD000 room.1 in record {
+      elsewhere = elsewhere_at _ low (omega (arith, high));
+      reads = reads_at _ low high;
+      is = eqb-true _ _ parts.0;
+    }
+
+-- whether each number of a list does
+abbrev all_stand : PackedSong → SongList → ℕ → ℕ → Bool
+all_stand any list first count = agree_below (λ n. stands note_memory any list (first + n)) (λ _. true) count
+
+here : (any : PackedSong) (list : SongList) (first count : ℕ) → all_stand any list first count ≡ true → (number : ℕ) →
+    first ≤ number → number < first + count →
+    IsListed note_layout 1 note_memory (list_label list) number (list_byte note_layout (note_packed any) list number)
+here any list first count test number from to = listed note_memory any list first count test number from to
+
+lows_stand : (any : PackedSong) → all_stand any FrequencyLows 0 98 ≡ true
+unfolding freq
+lows_stand any = refl
+
+highs_stand : (any : PackedSong) → all_stand any FrequencyHighs 0 98 ≡ true
+unfolding freq
+highs_stand any = refl
+
+instruments_stand : (any : PackedSong) (field : ℕ) → field < 9 → all_stand any (Instruments field) 1 1 ≡ true
+unfolding instrument_at
+instruments_stand any zero few = refl
+instruments_stand any (suc zero) few = refl
+instruments_stand any (suc (suc zero)) few = refl
+instruments_stand any (suc (suc (suc zero))) few = refl
+instruments_stand any (suc (suc (suc (suc zero)))) few = refl
+instruments_stand any (suc (suc (suc (suc (suc zero))))) few = refl
+instruments_stand any (suc (suc (suc (suc (suc (suc zero)))))) few = refl
+instruments_stand any (suc (suc (suc (suc (suc (suc (suc zero))))))) few = refl
+instruments_stand any (suc (suc (suc (suc (suc (suc (suc (suc zero)))))))) few = refl
+instruments_stand any (suc (suc (suc (suc (suc (suc (suc (suc (suc more))))))))) few = absurd (omega (arith, few))
+
+orders_stand : (any : PackedSong) (subtune channel : ℕ) → subtune < 1 → channel < 3 →
+    all_stand any (OrderBytes subtune channel) 0 3 ≡ true
+orders_stand any zero zero one few = refl
+orders_stand any zero (suc zero) one few = refl
+orders_stand any zero (suc (suc zero)) one few = refl
+orders_stand any zero (suc (suc (suc more))) one few = absurd (omega (arith, few))
+orders_stand any (suc more) channel one few = absurd (omega (arith, one))
+
+-- each orderlist has three bytes
+order_few : (any : PackedSong) (subtune channel number : ℕ) → subtune < 1 → channel < 3 →
+    HasNumber (note_packed any) (OrderBytes subtune channel) number → number < 3
+order_few any zero zero number one few has = has.to
+order_few any zero (suc zero) number one few has = has.to
+order_few any zero (suc (suc zero)) number one few has = has.to
+order_few any zero (suc (suc (suc more))) number one few has = absurd (omega (arith, few))
+order_few any (suc more) channel number one few has = absurd (omega (arith, one))
+
+lists_stand : (any : PackedSong) → ListsStand note_layout (note_packed any) note_memory
+unfolding table_row
+lists_stand any FrequencyLows number is has = here any FrequencyLows 0 98 (lows_stand any) number has.from has.to
+lists_stand any FrequencyHighs number is has = here any FrequencyHighs 0 98 (highs_stand any) number has.from has.to
+lists_stand any (Lefts Wave) number is has = here any (Lefts Wave) 1 2 refl number has.from has.to
+lists_stand any (Lefts Pulse) number is has = here any (Lefts Pulse) 1 2 refl number has.from has.to
+lists_stand any (Lefts Filter) number is has = here any (Lefts Filter) 1 0 refl number has.from has.to
+lists_stand any (Lefts Speed) number is has = here any (Lefts Speed) 0 1 refl number has.from has.to
+lists_stand any (Rights Wave) number is has = here any (Rights Wave) 1 2 refl number has.from has.to
+lists_stand any (Rights Pulse) number is has = here any (Rights Pulse) 1 2 refl number has.from has.to
+lists_stand any (Rights Filter) number is has = here any (Rights Filter) 1 0 refl number has.from has.to
+lists_stand any (Rights Speed) number is has = here any (Rights Speed) 0 1 refl number has.from has.to
+lists_stand any Periods number is has = here any Periods 0 1 refl number has.from has.to
+lists_stand any (Instruments field) number is has =
+    here any (Instruments field) 1 1 (instruments_stand any field is) number has.from has.to
+lists_stand any OrderLows number is has = here any OrderLows 0 3 refl number has.from has.to
+lists_stand any OrderHighs number is has = here any OrderHighs 0 3 refl number has.from has.to
+lists_stand any PatternLows number is has = here any PatternLows 0 2 refl number has.from has.to
+lists_stand any PatternHighs number is has = here any PatternHighs 0 2 refl number has.from has.to
+lists_stand any (OrderBytes subtune channel) number is has =
+    here any (OrderBytes subtune channel) 0 3 (orders_stand any subtune channel is.0 is.1) number has.from
+    (order_few any subtune channel number is.0 is.1 has)
+lists_stand any (PatternBytes zero) number is has = here any (PatternBytes 0) 0 4 refl number has.from has.to
+lists_stand any (PatternBytes (suc zero)) number is has = here any (PatternBytes 1) 0 2 refl number has.from has.to
+lists_stand any (PatternBytes (suc (suc more))) number is has = absurd (omega (arith, is))
+
+slide_low : (any : PackedSong) (number : ℕ) → number < 1 → note_memory (note_layout.address SLIDES_LOW + number)
+    ≡ (table_row (unpacked_song (note_packed any)) Speed number).right
+unfolding table_row
+slide_low any zero few = refl
+slide_low any (suc more) few = absurd (omega (arith, few))
+
+slide_high : (any : PackedSong) (number : ℕ) → number < 1 → note_memory (note_layout.address SLIDES_HIGH + number)
+    ≡ (table_row (unpacked_song (note_packed any)) Speed number).left
+unfolding table_row
+slide_high any zero few = refl
+slide_high any (suc more) few = absurd (omega (arith, few))
+
+song_lists : (any : PackedSong) → HasSongLists note_layout (note_packed any) note_memory
+song_lists any = record {
+  lists = lists_stand any;
+  slides = record {
+    low = λ kept number few plain. slide_low any number few;
+    high = λ kept number few plain. slide_high any number few;
+    low_is = λ out. absurd (cc out);
+    high_is = λ out. absurd (cc out);
+    periods = λ out. absurd (cc out);
+  };
+}
+
+-- ---- the layout
+
+variable_at : (label : ℕ) → label < 113 → note_layout.address label ≡ 0x1000 + label
+variable_at label few = eqb-true _ _
+    (agree_below_at (λ l. nat_eq (note_layout.address l) (0x1000 + l)) (λ _. true) 113 label refl few)
+
+room : IsRoom note_layout 1
+room = record {
+  begins = omega arith;
+  ends = omega arith;
+  variables = λ label few. variable_at label few;
+  slides = λ kept. record {
+    low = record { from = omega arith; to = omega arith; outside = inr (omega arith) };
+    high = record { from = omega arith; to = omega arith; outside = inr (omega arith) };
+    apart = inl (omega arith);
+  };
+  pointer_low = omega arith;
+  pointer_high = omega arith;
+}
+
+uses : MayUse note_layout 1
+uses = record {
+  reads = λ label few.
+      agree_below_at (λ l. note_layout.may_read (note_layout.address l)) (λ _. true) 113 label refl few;
+  writes = λ label few.
+      agree_below_at (λ l. note_layout.may_write (note_layout.address l)) (λ _. true) 113 label refl few;
+  slides = λ kept row few. slide row few;
+  registers = λ register few.
+      agree_below_at (λ n. note_layout.may_write (0xD400 + n)) (λ _. true) 25 register refl (omega (arith, few));
+}
+  where
+    slide : (row : ℕ) → row < 1 → MayUseSlide note_layout row
+    slide zero few = record { reads_low = refl; reads_high = refl; writes_low = refl; writes_high = refl }
+    slide (suc more) few = absurd (omega (arith, few))
+
+player_layout : (any : PackedSong) → IsPlayerLayout note_layout (note_packed any)
+player_layout any = record {
+  room = room;
+  uses = uses;
+  next = record {
+    frequency_lows = refl;
+    frequency_highs = refl;
+    wave_lefts = refl;
+    wave_rights = refl;
+    pulse_lefts = refl;
+    filter_lefts = refl;
+  };
+  lists = λ list number is has. from_listed (lists_stand any list number is has);
+  orders = orders;
+  patterns = patterns;
+}
+  where
+    from_listed : {label number byte : ℕ} → IsListed note_layout 1 note_memory label number byte →
+        0x0800 ≤ place_in note_layout label number
+    from_listed {label} {number} is = from_read (place_in note_layout label number) is.reads
+
+    orders : (number : ℕ) → number < 3 → note_layout.address (ORDERS + number) < MEMORY_SIZE
+    orders zero few = omega arith
+    orders (suc zero) few = omega arith
+    orders (suc (suc zero)) few = omega arith
+    orders (suc (suc (suc more))) few = absurd (omega (arith, few))
+
+    patterns : (number : ℕ) → number < 2 → PatternStands note_layout (note_packed any) number
+    patterns zero few = record {
+      from = omega arith;
+      to = omega arith;
+      before = elsewhere_at 0x4FFF (omega arith) (omega arith);
+      reads_before = refl;
+    }
+    patterns (suc zero) few = record {
+      from = omega arith;
+      to = omega arith;
+      before = elsewhere_at 0x50FF (omega arith) (omega arith);
+      reads_before = refl;
+    }
+    patterns (suc (suc more)) few = absurd (omega (arith, few))
+
+-- ---- what it is
+
+no_wave : (any : PackedSong) → ¬ HasSongLists note_layout (note_packed any) (put note_memory 0x2701 0x11)
+unfolding table_row
+no_wave any has =
+    let is : 0x11 ≡ 0x41 = (has.lists (Lefts Wave) 1 tt (record { from = omega arith; to = omega arith })).is in
+    omega (arith, is)
+
+no_frequency : (any : PackedSong) → ¬ HasSongLists note_layout (note_packed any) (put note_memory 0x2061 1)
+unfolding freq
+no_frequency any has =
+    let is : 1 ≡ 0 = (has.lists FrequencyLows 97 tt (record { from = omega arith; to = omega arith })).is in
+    omega (arith, is)
+
+no_order : (any : PackedSong) → ¬ HasSongLists note_layout (note_packed any) (put note_memory 0x4002 1)
+no_order any has =
+    let bytes =
+    has.lists (OrderBytes 0 0) 2 (omega arith, omega arith) (record { from = omega arith; to = omega arith }) in
+    let is : 1 ≡ 0 = bytes.is in omega (arith, is)
+
+no_pattern : (any : PackedSong) → ¬ HasSongLists note_layout (note_packed any) (put note_memory 0x5101 1)
+no_pattern any has =
+    let bytes = has.lists (PatternBytes 1) 1 (omega arith) (record { from = omega arith; to = omega arith }) in
+    let is : 1 ≡ 0 = bytes.is in omega (arith, is)
+
+no_slide : (any : PackedSong) → ¬ HasSongLists note_layout (note_packed any) (put note_memory 0x1100 1)
+unfolding table_row
+no_slide any has = let is : 1 ≡ 0 = has.slides.low refl 0 (omega arith) (omega arith) in omega (arith, is)
+
+laid : (any : PackedSong) → NoteIsLaid (note_packed any)
+laid any = record {
+  is_layout = player_layout any;
+  off_stack = λ place reads. inr (let from = from_read place reads in omega (arith, from));
+  timer = record { low = λ timed. refl; high = λ timed. refl };
+  off_timer = λ timed place reads. inl (let to = to_read place reads in omega (arith, to));
+  lists = song_lists any;
+  wave = no_wave any;
+  frequency = no_frequency any;
+  order = no_order any;
+  pattern = no_pattern any;
+  slide = no_slide any;
+}
+
+called : (any : PackedSong) (desk : Desk) → IsCalledWith (note_packed any) 0 (note_desk desk 0)
+unfolding playable_subtune
+called any desk = record { a = refl; stored = omega arith; byte = omega arith; playable = refl }
+
+begins : (any : PackedSong) (desk : Desk) (o : Options) → NoteBegins (note_packed any) desk o
+begins any desk o = record {
+  called = called any desk;
+  second = λ two. (let few : 1 < 1 = two.stored in omega (arith, few));
+  begins = λ e is.
+      let laid = laid any in
+      beginnings_start note_layout (note_packed any) o 0 e (note_desk desk 0) is laid.is_layout laid.timer
+      laid.off_timer (called any desk) laid.lists;
+}
+
+turns : (any : PackedSong) (o : Options) → NoteTurns (note_packed any) o
+unfolding filter_step playable_subtune
+turns any o = record { counts = refl; first = refl; order = refl }
+
+pub notes_are_worked : NotesAreWorked
+notes_are_worked = record { turns = turns; laid = laid; begins = begins }

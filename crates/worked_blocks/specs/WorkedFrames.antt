@@ -1,0 +1,157 @@
+-- What the definitions of the two entrances take, and what they refuse.
+use Rattle.std.specs.Prelude.{◌≡◌, ◌≢◌, ℕ, ◌+◌, ◌%◌, ◌<◌, ◌≤◌, ◌||◌, true, false, nat_eq}
+use Rattle.std.specs.Prelude.{nat_le, Some, None, length, slice_index}
+use Rattle.code_runs.specs.Runs.{put}
+use Rattle.play_model.specs.declared.options.Options.{Options}
+use Rattle.play_model.specs.State.{FrameState}
+use Rattle.play_model.specs.Frame.{frame_with}
+use Rattle.packed_form.specs.declared.packed_songs.PackedSong.{PackedSong}
+use Rattle.packed_form.specs.Unpacked.{unpacked_song}
+use Rattle.scopes.specs.Desk.{Desk, Layout}
+use Rattle.scopes.specs.Meaning.{Outcome, Done, Ran}
+use Rattle.scope_calls.specs.Entrances.{Entrance}
+use Rattle.player_memory.specs.declared.conditions.TheConstants.{FILTER_TABLE, TIMED}
+use Rattle.player_memory.specs.declared.labels.TheConstants.{TICK, PULSE_POINTER, VOLUME, ORDER_LOW, LENT, KEPT_COMMAND}
+use Rattle.player_memory.specs.Rooms.{IsElsewhere}
+use Rattle.player_memory.specs.Playing.{place_in}
+use Rattle.player_memory.specs.SongLists.{SongList, IsSongList, HasNumber, list_label, list_byte, slide_rows}
+use Rattle.player_memory.specs.Holds.{Holds, order_label}
+use Rattle.player_text.specs.declared.texts.Start.{Start}
+use Rattle.player_text.specs.Texts.{filter_tree, voice_tree, init_tree}
+use Rattle.init_code.specs.InitBlock.{IsUntouched}
+use Rattle.frame_code.specs.FrameBlock.{PlaysFrames, FrameIsReady, Frames, IsOffStack, ReadsOffStack}
+use Rattle.kept_lines.specs.Starts.{start_of}
+use Rattle.frame_code.specs.InitBlock.{BeginsSubtunes, BeginsSubtune, ReadsOffTimer, IsCalledWith}
+
+-- ---- entrances
+
+-- the two of a player, in any place
+abbrev pub frames_at : ℕ → ℕ → Entrance
+frames_at label pointer = record {
+  label = label;
+  stored = None;
+  first = filter_tree;
+  voice = Some voice_tree;
+  pointer = pointer;
+  holds = λ condition. false;
+}
+
+abbrev pub beginnings_at : ℕ → ℕ → Start → Entrance
+beginnings_at label pointer start = record {
+  label = label;
+  stored = Some LENT;
+  first = init_tree start;
+  voice = None;
+  pointer = pointer;
+  holds = λ condition. false;
+}
+
+pub record EntrancesAreTold (label pointer : ℕ) (start : Start) : Type 0 where
+  pub frames : PlaysFrames (frames_at label pointer)
+  -- it stores its number, or calls no voice
+  pub storing : ¬ PlaysFrames (record (frames_at label pointer) { stored = Some LENT })
+  pub alone : ¬ PlaysFrames (record (frames_at label pointer) { voice = None })
+  pub beginnings : BeginsSubtunes (beginnings_at label pointer start) start
+  -- it stores its number elsewhere, or not at all, or calls the voices
+  pub elsewhere : ¬ BeginsSubtunes (record (beginnings_at label pointer start) { stored = Some KEPT_COMMAND }) start
+  pub nowhere : ¬ BeginsSubtunes (record (beginnings_at label pointer start) { stored = None }) start
+  pub voices : ¬ BeginsSubtunes (record (beginnings_at label pointer start) { voice = Some voice_tree }) start
+
+-- ---- places
+
+-- a layout whose code may read from a place on, and another place
+abbrev pub reading : Layout → ℕ → ℕ → Layout
+reading layout from other = record layout { may_read = λ place. nat_le from place || nat_eq place other }
+
+-- and one that keeps the timer's lines, or doesn't, and may read everywhere but at a place and behind it
+abbrev pub timed_reading : Layout → ℕ → Layout
+timed_reading layout but = record layout {
+  holds = λ condition. nat_eq condition TIMED;
+  may_read = λ place. nat_le (but + 2) place || nat_le (place + 1) but;
+}
+
+pub record PlacesAreTold (layout : Layout) : Type 0 where
+  pub page : ReadsOffStack (reading layout 0x0200 0x00FF)
+  pub last : ¬ ReadsOffStack (reading layout 0x01FF 0)
+  pub first : ¬ ReadsOffStack (reading layout 0x0800 0x0100)
+  pub timer : ReadsOffTimer (timed_reading layout 0xDC04)
+  pub low : ¬ ReadsOffTimer (timed_reading layout 0xDC05)
+  pub high : ¬ ReadsOffTimer (timed_reading layout 0xDC03)
+  -- where the timer isn't set the code may read there
+  pub untimed : ReadsOffTimer (record (timed_reading layout 0) { holds = λ condition. false })
+
+-- ---- states in memory
+
+-- No memory holds a state with another byte of a voice, of what the voices share or of an orderlist's address, with a
+-- command lent, or with another byte of a list.
+pub record HoldsExactly (layout : Layout) (packed : PackedSong) (k : ℕ) (x : FrameState) (at : ℕ → ℕ) : Type 0 where
+  pub tick : ¬ Holds layout packed k x (put at (layout.address TICK) (x.one.tick + 1))
+  pub third : ¬ Holds layout packed k x (put at (layout.address (PULSE_POINTER + 14)) (x.three.pulse_ptr + 1))
+  pub volume : ¬ Holds layout packed k x (put at (layout.address VOLUME) (x.common.volume + 1))
+  pub order : ¬ Holds layout packed k x
+      (put at (layout.address (ORDER_LOW + 7)) (layout.address (order_label k 1) % 256 + 1))
+  pub lent : ¬ Holds layout packed k x (put at (layout.address LENT) 1)
+  pub listed : (list : SongList) (number : ℕ) → IsSongList layout packed list → HasNumber packed list number →
+      ¬ Holds layout packed k x
+      (put at (place_in layout (list_label list) number) (list_byte layout packed list number + 1))
+
+-- ---- calls
+
+-- a run with another outcome, and one with another byte at a place
+abbrev pub ending : Ran → Outcome → Ran
+ending run outcome = record run { outcome = outcome }
+
+abbrev pub leaving : Ran → ℕ → ℕ → Ran
+leaving run place byte = record run { desk = record run.desk { at = put run.desk.at place byte } }
+
+-- no call plays a frame that hasn't ended, that holds another state, or that leaves another byte in a register or
+-- elsewhere
+pub record FramesExactly (layout : Layout) (packed : PackedSong) (o : Options) (k : ℕ) (x : FrameState) (before : Desk)
+    (run : Ran) : Type 0 where
+  pub ends : (outcome : Outcome) → outcome ≢ Done → ¬ Frames layout packed o k x before (ending run outcome)
+  pub holds : ¬ Holds layout packed k (frame_with o (unpacked_song packed) k x).state run.desk.at →
+      ¬ Frames layout packed o k x before run
+  pub register : (register : ℕ) → register < 25 →
+      ¬ Frames layout packed o k x before
+      (leaving run (0xD400 + register)
+      (slice_index (frame_with o (unpacked_song packed) k x).registers register + 1))
+  pub elsewhere : (place : ℕ) → IsElsewhere layout (slide_rows packed) place → IsOffStack place →
+      ¬ Frames layout packed o k x before (leaving run place (before.at place + 1))
+
+-- nor begins one a subtune so; nor does one that leaves the timer with another number
+pub record BeginsExactly (layout : Layout) (packed : PackedSong) (o : Options) (k : ℕ) (before : Desk) (run : Ran)
+    : Type 0 where
+  pub ends : (outcome : Outcome) → outcome ≢ Done → ¬ BeginsSubtune layout packed o k before (ending run outcome)
+  pub register : (register : ℕ) → register < 25 →
+      ¬ BeginsSubtune layout packed o k before (leaving run (0xD400 + register) 1)
+  pub timer_low : layout.holds TIMED ≡ true →
+      ¬ BeginsSubtune layout packed o k before (leaving run 0xDC04 ((start_of o).timer_low + 1))
+  pub timer_high : layout.holds TIMED ≡ true →
+      ¬ BeginsSubtune layout packed o k before (leaving run 0xDC05 ((start_of o).timer_high + 1))
+  pub no_timer : layout.holds TIMED ≡ false →
+      ¬ BeginsSubtune layout packed o k before (leaving run 0xDC04 (before.at 0xDC04 + 1))
+  pub elsewhere : (place : ℕ) → IsUntouched layout (slide_rows packed) place →
+      ¬ BeginsSubtune layout packed o k before (leaving run place (before.at place + 1))
+
+-- no frame is ready whose filter's program has no lines; and no call has the number of a subtune with another number in
+-- A, with one that isn't stored, or with one whose third orderlist's number is no byte
+pub record ReadyExactly (layout : Layout) (packed : PackedSong) (o : Options) (k : ℕ) (x : FrameState) (at : ℕ → ℕ)
+    (desk : Desk) : Type 0 where
+  pub filter : x.common.filter_ptr ≢ 0 → layout.holds FILTER_TABLE ≡ false → ¬ FrameIsReady layout packed o k x at
+  pub a : ¬ IsCalledWith packed k (record desk { cpu = record desk.cpu { a = k + 1 } })
+  pub stored : ¬ IsCalledWith packed (length packed.subtunes) desk
+  pub byte : 85 ≤ k → ¬ IsCalledWith packed k desk
+
+-- ---- all of it
+
+pub record EntrancesAreExact : Type 0 where
+  pub entrances : (label pointer : ℕ) (start : Start) → EntrancesAreTold label pointer start
+  pub places : (layout : Layout) → PlacesAreTold layout
+  pub states : (layout : Layout) (packed : PackedSong) (k : ℕ) (x : FrameState) (at : ℕ → ℕ) →
+      HoldsExactly layout packed k x at
+  pub frames : (layout : Layout) (packed : PackedSong) (o : Options) (k : ℕ) (x : FrameState) (before : Desk)
+      (run : Ran) → FramesExactly layout packed o k x before run
+  pub beginnings : (layout : Layout) (packed : PackedSong) (o : Options) (k : ℕ) (before : Desk) (run : Ran) →
+      BeginsExactly layout packed o k before run
+  pub ready : (layout : Layout) (packed : PackedSong) (o : Options) (k : ℕ) (x : FrameState) (at : ℕ → ℕ)
+      (desk : Desk) → ReadyExactly layout packed o k x at desk
