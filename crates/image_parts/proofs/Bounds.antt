@@ -10,18 +10,18 @@ use Rattle.scopes.specs.Trees.{Tree}
 use Rattle.scope_lines.specs.Readings.{holds_in}
 use Rattle.scope_lines.proofs.Laws.{sizes_are_bounded}
 use Rattle.scope_parts.specs.Parts.{parts, bytes_of}
-use Rattle.scope_parts.specs.PartLaws.{most_of}
-use Rattle.scope_parts.proofs.Laws.{parts_are_bounded}
+use Rattle.scope_parts.specs.PartLaws.{most_of, stays_whole}
+use Rattle.scope_parts.proofs.Laws.{parts_are_bounded, parts_stay_whole}
 use Rattle.player_memory.specs.declared.conditions.TheConstants.{NOTE_DEPENDENT}
 use Rattle.player_text.specs.Texts.{filter_tree, voice_tree, init_tree}
 use Rattle.player_text.specs.declared.texts.Start.{Start}
 use Rattle.player_text.proofs.Laws.{are_measured}
-use Rattle.frame_code.specs.InitBlock.{start_of}
+use Rattle.kept_lines.specs.Starts.{start_of}
 use Rattle.kept_lines.specs.KeptLines.{uses, kept_set}
 use Rattle.kept_lines.proofs.Laws.{no_more}
-use Rattle.image_parts.specs.CodeParts.{always, code_parts, code_length}
+use Rattle.image_parts.specs.CodeParts.{always, code_parts}
 use Rattle.image_parts.specs.Lengths.{slide_bytes}
-use Rattle.image_parts.specs.PartLaws.{PartsAreShort, CodeIsBounded, ImagesAreBounded}
+use Rattle.image_parts.specs.PartLaws.{RestIsSame, CodeIsShort, PartsAreShort, CodeIsBounded, ImagesAreBounded}
 use Rattle.image_parts.proofs.Counts.{one_if}
 use Rattle.image_parts.proofs.Sums.{around, code_takes_its_parts, unkept_parts_have_none}
 
@@ -60,6 +60,29 @@ around_most holds part filter voice init =
     let z = parts_are_bounded holds part always init in
     omega (arith, a, b, c, d, e, f, n, m, l, k, x, y, z)
 
+around_whole : (holds : ℕ → Bool) (filter voice init : Tree) → stays_whole always filter ≡ true →
+    stays_whole always voice ≡ true → stays_whole always init ≡ true →
+    bytes_of always (around holds filter voice init) ≡ most_around always filter voice init
+around_whole holds filter voice init one two three =
+    let last = replicate 1 always in
+    let after_voice = replicate 5 always ++ (parts holds always init ++ last) in
+    let after_calls = parts holds always voice ++ after_voice in
+    let after_filter = replicate 12 always ++ after_calls in
+    let a = both always (replicate 120 always) (parts holds always filter ++ after_filter) in
+    let b = both always (parts holds always filter) after_filter in
+    let c = both always (replicate 12 always) after_calls in
+    let d = both always (parts holds always voice) after_voice in
+    let e = both always (replicate 5 always) (parts holds always init ++ last) in
+    let f = both always (parts holds always init) last in
+    let n = plain_is always 120 in
+    let m = plain_is always 12 in
+    let l = plain_is always 5 in
+    let k = plain_is always 1 in
+    let x = parts_stay_whole holds always filter one in
+    let y = parts_stay_whole holds always voice two in
+    let z = parts_stay_whole holds always init three in
+    omega (arith, a, b, c, d, e, f, n, m, l, k, x, y, z)
+
 -- the numbers, computed
 few_of : (start : Start) (part : ℕ) → part < 34 →
     most_around part filter_tree voice_tree (init_tree start) ≤ 320
@@ -93,6 +116,19 @@ parts_are_short features o = record {
   with_frequencies : (n m : ℕ) → n ≤ m → m ≤ 2876 → n + 196 ≤ 3072
   with_frequencies n m a b = omega (arith, a, b)
 
+-- the blocks stay whole, and the most that they have of this part is 743 with what stands around them
+pub rest_is_same : RestIsSame
+rest_is_same features o =
+    with_frequencies _ _
+    (around_whole (holds_in (kept_set features o)) filter_tree voice_tree (init_tree (start_of o)) refl refl refl)
+    (most_is (start_of o))
+  where
+    with_frequencies : (n m : ℕ) → n ≡ m → m ≡ 743 → n + 196 ≡ 939
+    with_frequencies n m a b = omega (arith, a, b)
+
+    most_is : (start : Start) → most_around always filter_tree voice_tree (init_tree start) ≡ 743
+    most_is start = refl
+
 -- ---- the code, with the slides
 
 slides_most : (features rows : ℕ) → rows ≤ 255 → slide_bytes features rows ≤ 768
@@ -101,8 +137,8 @@ slides_most features rows few = elim (cases_Bool (uses features NOTE_DEPENDENT))
   | inr off ↦ rw off (omega arith)
 ]
 
-pub code_is_few : (features : ℕ) (o : Options) → code_length features o ≤ 1876
-code_is_few features o =
+pub code_is_short : CodeIsShort
+code_is_short features o =
     let holds = holds_in (kept_set features o) in
     let start = start_of o in
     let measured = are_measured in
@@ -116,7 +152,7 @@ code_is_few features o =
 
 pub code_is_bounded : CodeIsBounded
 code_is_bounded features rows o few =
-    within _ _ (kept_parts features o) (slides_most features rows few) (code_is_few features o)
+    within _ _ (kept_parts features o) (slides_most features rows few) (code_is_short features o)
   where
     within : (slides code kept : ℕ) → slides ≤ 768 → code ≤ 1876 → slides + code ≤ 3072 + 320 * kept
     within slides code kept a b = omega (arith, a, b)

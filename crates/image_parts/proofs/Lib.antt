@@ -3,5 +3,6 @@ pub mod Laws
 -- Sums over the parts, and the bytes of the code's blocks.
 mod Counts
 mod Sums
+mod Around
 mod Bounds
 mod WorkedLengths

@@ -12,7 +12,7 @@ use Rattle.scope_lines.specs.Readings.{holds_in}
 use Rattle.scope_parts.specs.Parts.{parts, bytes_of}
 use Rattle.scope_parts.proofs.Laws.{parts_take_size, parts_are_kept}
 use Rattle.player_text.specs.Texts.{filter_tree, voice_tree, init_tree}
-use Rattle.frame_code.specs.InitBlock.{start_of}
+use Rattle.kept_lines.specs.Starts.{start_of}
 use Rattle.kept_lines.specs.KeptLines.{kept_set}
 use Rattle.kept_lines.proofs.Laws.{sets_are_exact, no_more}
 use Rattle.image_parts.specs.CodeParts.{always, code_parts, part_length}

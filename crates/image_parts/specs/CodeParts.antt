@@ -6,21 +6,34 @@ use Rattle.scopes.specs.Trees.{Tree}
 use Rattle.scope_lines.specs.Readings.{holds_in}
 use Rattle.scope_parts.specs.Parts.{parts, bytes_of}
 use Rattle.player_text.specs.Texts.{filter_tree, voice_tree, init_tree}
-use Rattle.frame_code.specs.InitBlock.{start_of}
+use Rattle.kept_lines.specs.Starts.{start_of}
 use Rattle.kept_lines.specs.KeptLines.{kept_set}
 
 -- the part that each image has
 abbrev pub always : ℕ
 always = 255
 
--- In front of the filter's block stand two jumps of 3 bytes, 113 variables and `CLD`; behind it the calls of the voices,
--- 12 bytes; behind the voices' block `RTS`, and `CLD` and `STA` of the beginning of a subtune, 5 bytes; and behind its
--- block `RTS`.
+-- The bytes in front of the filter's block: two jumps of 3 bytes, 113 variables and `CLD`; behind it those of the calls of
+-- the voices; behind the voices' block `RTS`, and `CLD` and `STA` of the beginning of a subtune; and behind its block
+-- `RTS`. `CodeLines` has these lines.
+abbrev pub front_bytes : ℕ
+front_bytes = 120
+
+abbrev pub call_bytes : ℕ
+call_bytes = 12
+
+abbrev pub between_bytes : ℕ
+between_bytes = 5
+
+abbrev pub back_bytes : ℕ
+back_bytes = 1
+
+-- the parts of three blocks and of what stands around them
 abbrev pub parts_around : (ℕ → Bool) → Tree → List ℕ
 parts_around holds init =
-    replicate 120 always ++ (parts holds always filter_tree
-    ++ (replicate 12 always ++ (parts holds always voice_tree
-    ++ (replicate 5 always ++ (parts holds always init ++ replicate 1 always)))))
+    replicate front_bytes always ++ (parts holds always filter_tree
+    ++ (replicate call_bytes always ++ (parts holds always voice_tree
+    ++ (replicate between_bytes always ++ (parts holds always init ++ replicate back_bytes always)))))
 
 -- the part of each byte of the code, for features and options
 abbrev pub code_parts : ℕ → Options → List ℕ

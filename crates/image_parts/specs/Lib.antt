@@ -2,6 +2,7 @@
 pub mod CodeParts
 pub mod Lengths
 -- Claimed.
+pub mod CodeLines
 pub mod PartLaws
 -- Worked by hand.
 pub mod WorkedLengths

@@ -6,7 +6,7 @@ use Rattle.packed_form.specs.declared.packed_songs.PackedSong.{PackedSong}
 use Rattle.packed_form.specs.Sizes.{packed_song_size}
 use Rattle.packed_form.specs.CodeBounds.{code_bound}
 use Rattle.scope_lines.specs.Readings.{holds_in}
-use Rattle.frame_code.specs.InitBlock.{start_of}
+use Rattle.kept_lines.specs.Starts.{start_of}
 use Rattle.kept_lines.specs.KeptLines.{keeps, kept_set}
 use Rattle.player_code.specs.CodeLaws.{code_takes}
 use Rattle.image_parts.specs.CodeParts.{always, code_parts, part_length, code_length}
@@ -37,6 +37,14 @@ pub record AreShort (features : ℕ) (o : Options) : Type 0 where
 
 abbrev pub PartsAreShort : Type 0
 PartsAreShort = (features : ℕ) (o : Options) → AreShort features o
+
+-- the part that each image has is as long in each
+abbrev pub RestIsSame : Type 0
+RestIsSame = (features : ℕ) (o : Options) → part_length features o always ≡ 939
+
+-- the code with the frequencies takes at most what it does where all parts are kept
+abbrev pub CodeIsShort : Type 0
+CodeIsShort = (features : ℕ) (o : Options) → code_length features o ≤ 1876
 
 -- an image is within the bound of a packed song and its player: the code with the slides, of 255 rows at most, is within
 -- the player's

@@ -7,13 +7,17 @@ use Rattle.play_model.specs.WorkedRuns.{all_left_out}
 use Rattle.packed_form.specs.declared.packed_songs.PackedSubtune.{PackedSubtune}
 use Rattle.packed_form.specs.declared.packed_songs.PackedSong.{PackedSong}
 use Rattle.packed_form.specs.WorkedUnpacked.{IsPackedNote}
-use Rattle.player_memory.specs.declared.conditions.TheConstants.{VIBRATO, SET_AD, SKIP_EFFECTS, SWINGS}
+use Rattle.player_memory.specs.declared.conditions.TheConstants.{VIBRATO, SKIP_EFFECTS, SWINGS}
 use Rattle.image_parts.specs.CodeParts.{always, part_length, code_length}
 use Rattle.image_parts.specs.Lengths.{slide_bytes, image_length}
 
--- of a song that uses all features, with all options
+-- how many bytes a part takes in a song that uses all features, with all options
 abbrev pub all_parts : ℕ → ℕ
 all_parts = part_length (2 ^ 24 - 1) (all_left_out 4)
+
+-- how many bytes the part of a feature takes in a song that uses it alone
+abbrev pub alone_part : ℕ → ℕ
+alone_part feature = part_length (2 ^ feature) no_options feature
 
 -- Where all are kept the features come first, then the options, then what features have in common. A command of the
 -- wave table has lines of its own. A vibrato has none but those that it has in common with others.
@@ -31,9 +35,10 @@ pub record PartsAreMeasured : Type 0 where
   pub bare_rest : part_length 0 no_options always ≡ 939
   pub ntsc : code_length 0 (record no_options { system = Ntsc }) ≡ 939
   -- one is kept alone
-  pub row_command : part_length (2 ^ SET_AD) no_options SET_AD ≡ 7
+  pub alone : map alone_part (range_with_len 0 24)
+      ≡ 16 ∷ 21 ∷ 4 ∷ 4 ∷ 58 ∷ 4 ∷ 0 ∷ 20 ∷ 73 ∷ 7 ∷ 7 ∷ 7 ∷ 12 ∷ 82 ∷ 12 ∷ 76 ∷ 12 ∷ 14 ∷ 7 ∷ 11 ∷ 66 ∷ 37 ∷ 68 ∷ 69
+      ∷ []
   pub swings : part_length (2 ^ VIBRATO) no_options SWINGS ≡ 29
-  pub vibrato : part_length (2 ^ VIBRATO) no_options VIBRATO ≡ 0
   pub effects : part_length 0 (record no_options { skip_effects = true }) SKIP_EFFECTS ≡ 8
   -- where no speed is calculated there are no slides, and else three lists with row 0
   pub no_slides : slide_bytes (2 ^ 24 - 1 - 2 ^ 8) 5 ≡ 0

@@ -1,20 +1,25 @@
 //! Facts about the definitions, each the contract of a function that does nothing.
 
+ghost use Rattle.image_parts.specs.CodeLines.{LinesStandAround};
 ghost use Rattle.image_parts.specs.PartLaws.{CodeTakesItsParts, PartsAddUp, PartsAreShort, UnkeptPartsHaveNone};
-ghost use Rattle.image_parts.specs.PartLaws.{CodeIsBounded, ImagesAreBounded};
+ghost use Rattle.image_parts.specs.PartLaws.{RestIsSame, CodeIsShort, CodeIsBounded, ImagesAreBounded};
 ghost use Rattle.image_parts.specs.WorkedLengths.{PartsAreMeasured, SilencesAreMeasured, NotesAreMeasured};
 
-/// There are as many parts as the code has bytes, and they add up to it.
+/// There are as many parts as the code has bytes, and they add up to it; and the lines of the code are those of its
+/// blocks, with the bytes around them that are counted.
 pub fn parts_add_up()
     ensures size { CodeTakesItsParts }
+    ensures lines { LinesStandAround }
     ensures sum { PartsAddUp }
 {}
 
 /// A part that isn't kept has no bytes, no other one has more than 320, and the one that every image has no more than
-/// 3,072; and an image is within the bound of its packed song and a player.
+/// 3,072: it has 939, whichever others are kept. The code has at most 1,876 with the frequencies; and an image is within the bound of its packed song and a player.
 pub fn parts_are_bounded()
     ensures none { UnkeptPartsHaveNone }
     ensures short { PartsAreShort }
+    ensures rest { RestIsSame }
+    ensures whole { CodeIsShort }
     ensures code { CodeIsBounded }
     ensures image { ImagesAreBounded }
 {}

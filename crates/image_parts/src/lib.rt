@@ -5,19 +5,18 @@
 //! condition, and the frequencies of notes among the lists.
 //!
 //! The layer's one contract: the parts that are made for features and options are those of the code's blocks, byte for
-//! byte; they add up to the code; a part that isn't kept has none, each other one has at most 320 bytes and part 255 at
-//! most 3,072; and an image is no longer than its packed song and the bound of a player.
+//! byte, with what stands around the blocks; they add up to the code; a part that isn't kept has none, each other one has
+//! at most 320 bytes and part 255 always 939; the code has at most 1,876; and an image is no longer than its packed song
+//! and the bound of a player.
 //!
-//! It makes no code. It stands on `player_text` for the blocks, on `scope_parts` for the parts of a block, and on
-//! `kept_lines` for which conditions hold. See `docs/player.md`.
+//! It makes no code. It stands on `player_text` for the blocks, on `player_code` for the lines around them, on
+//! `scope_parts` for the parts of a block, and on `kept_lines` for which conditions hold. See `docs/player.md`.
 #![tactic(auto)]
 
 pub mod claims;
 mod lengths;
 mod parts;
-mod starts;
 
 pub use base::{ByteList, NoMemory};
 pub use lengths::{code_length, image_length, part_length, slide_bytes};
 pub use parts::{ALWAYS, code_parts};
-pub use starts::start_of;

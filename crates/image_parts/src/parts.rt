@@ -6,9 +6,8 @@ ghost use Rattle.scope_lines.specs.Readings.{holds_in, is_block};
 ghost use Rattle.player_text.specs.Texts.{filter_lines, voice_lines};
 ghost use Rattle.image_parts.specs.CodeParts.{always, parts_around, code_parts};
 
-use crate::starts::start_of;
 use base::{ByteList, NoMemory};
-use kept_lines::conditions;
+use kept_lines::{conditions, start_of};
 use play_model::Options;
 use player_text::texts;
 use scope_lines::{Conditions, Line};

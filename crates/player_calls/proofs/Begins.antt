@@ -28,7 +28,8 @@ use Rattle.scope_calls.proofs.Laws.{entrances_return, code_stays}
 use Rattle.player_memory.specs.declared.conditions.TheConstants.{TIMED}
 use Rattle.player_memory.specs.SongLists.{HasSongLists}
 use Rattle.player_memory.specs.Holds.{Holds}
-use Rattle.frame_code.specs.InitBlock.{BeginsSubtunes, start_of, ReadsOffTimer, BeginsSubtune}
+use Rattle.frame_code.specs.InitBlock.{BeginsSubtunes, ReadsOffTimer, BeginsSubtune}
+use Rattle.kept_lines.specs.Starts.{start_of}
 use Rattle.frame_code.proofs.Laws.{beginnings_start, lists_where_read}
 use Rattle.player_code.specs.CodeLines.{init_entrance}
 use Rattle.player_code.specs.Plans.{Plan, plan_layout, its_init, play_listed, init_listed}

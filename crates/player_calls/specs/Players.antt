@@ -17,7 +17,7 @@ use Rattle.player_memory.specs.Starting.{Begins}
 use Rattle.slide_code.specs.SlideBlock.{KeepsCommon}
 use Rattle.voice_code.specs.VoiceBlock.{KeepsOptions}
 use Rattle.init_code.specs.InitBlock.{MaySetTimer}
-use Rattle.frame_code.specs.InitBlock.{start_of}
+use Rattle.kept_lines.specs.Starts.{start_of}
 use Rattle.frame_scenes.specs.FrameScenes.{KeepsPatternLimits}
 use Rattle.player_code.specs.Plans.{Plan, IsPlan, plan_lines, plan_size, code_size, plan_layout}
 

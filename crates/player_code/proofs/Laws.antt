@@ -5,7 +5,7 @@ pub use Rattle.player_code.proofs.Whole.{code_assembles, entrances_are_in_one_li
 pub use Rattle.player_code.proofs.Whole.{code_is_well_entered, size_is, listed_ends}
 -- all lines of the code, and of the variables, are kept
 pub use Rattle.player_code.proofs.Whole.{code_kept}
-pub use Rattle.player_code.proofs.Sizes.{variables_kept}
+pub use Rattle.player_code.proofs.Sizes.{variables_kept, front_size}
 pub use Rattle.player_code.proofs.Places.{variables_size}
 -- all lines of an image are kept; those of the code are few
 pub use Rattle.player_code.proofs.Whole.{kept_is}

@@ -14,7 +14,7 @@ use Rattle.asm6502.specs.Assembly.{item_bytes, bytes_of, assembled_bytes}
 use Rattle.asm6502.proofs.Laws.{kept-append}
 use Rattle.player_memory.specs.declared.conditions.TheConstants.{NOTE_DEPENDENT}
 use Rattle.player_memory.specs.Starting.{Begins}
-use Rattle.frame_code.specs.InitBlock.{start_of}
+use Rattle.kept_lines.specs.Starts.{start_of}
 use Rattle.song_lists.specs.declared.marks.Mark.{Mark}
 use Rattle.song_lists.specs.Marks.{marked}
 use Rattle.song_lists.specs.DataLists.{data_bytes, data_marks, order_places, HasLines}

@@ -11,7 +11,7 @@ use Rattle.asm6502.specs.Lines.{kept, size_of, data_size}
 use Rattle.asm6502.specs.Assembly.{assembled_bytes}
 use Rattle.asm6502.specs.Faults.{fault_of}
 use Rattle.player_memory.specs.declared.conditions.TheConstants.{NOTE_DEPENDENT}
-use Rattle.frame_code.specs.InitBlock.{start_of}
+use Rattle.kept_lines.specs.Starts.{start_of}
 use Rattle.song_lists.specs.ListLaws.{KeepsCounts}
 use Rattle.song_lists.proofs.Laws.{lines_take_size, lines_are_few}
 use Rattle.player_code.specs.Plans.{IsPlan, plan_code, plan_lines, plan_size}

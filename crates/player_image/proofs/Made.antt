@@ -10,7 +10,7 @@ use Rattle.player_memory.specs.declared.conditions.TheConstants.{NOTE_DEPENDENT}
 use Rattle.player_memory.specs.declared.labels.TheConstants.{VARIABLES}
 use Rattle.player_memory.specs.Starting.{Begins}
 use Rattle.player_text.specs.declared.texts.Start.{Start}
-use Rattle.frame_code.specs.InitBlock.{start_of}
+use Rattle.kept_lines.specs.Starts.{start_of}
 use Rattle.kept_lines.specs.KeptLines.{kept_set}
 use Rattle.song_lists.specs.DataLists.{HasLines, AreFirstOrders, order_places}
 use Rattle.song_lists.specs.ListLaws.{KeepsCounts}

@@ -13,7 +13,7 @@ use Rattle.play_model.specs.Speeds.{IsSpeed, timer_value}
 use Rattle.packed_form.specs.declared.packed_songs.PackedSong.{PackedSong}
 use Rattle.player_memory.specs.declared.conditions.TheConstants.{NOTE_DEPENDENT, TIMED}
 use Rattle.player_memory.specs.Starting.{Begins}
-use Rattle.frame_code.specs.InitBlock.{start_of}
+use Rattle.kept_lines.specs.Starts.{start_of}
 use Rattle.kept_lines.proofs.Laws.{sets_are_exact}
 use Rattle.song_lists.specs.DataLists.{order_places, HasLines}
 use Rattle.player_code.specs.CodeLines.{code_lines, play_entrance, init_entrance}

@@ -21,8 +21,8 @@ use Rattle.song_lists.specs.Marks.{mark_at}
 use Rattle.song_lists.proofs.Laws.{labels_have_places, first_orders_are_marked}
 use Rattle.player_text.specs.Facts.{HasBytes}
 use Rattle.player_memory.specs.declared.conditions.TheConstants.{NOTE_DEPENDENT}
-use Rattle.frame_code.specs.InitBlock.{start_of}
-use Rattle.kept_lines.proofs.Laws.{sets_keep_their_lines}
+use Rattle.kept_lines.specs.Starts.{start_of}
+use Rattle.kept_blocks.proofs.Laws.{sets_keep_their_lines}
 use Rattle.player_code.specs.Plans.{Plan, IsPlan, plan_lines, plan_size, plan_layout}
 use Rattle.player_calls.specs.Players.{IsPlayer, HasImage}
 use Rattle.player_code.proofs.Laws.{labels_stand_in_place}

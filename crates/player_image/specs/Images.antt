@@ -11,7 +11,7 @@ use Rattle.scope_lines.specs.Readings.{holds_in}
 use Rattle.player_memory.specs.declared.conditions.TheConstants.{NOTE_DEPENDENT, TIMED}
 use Rattle.player_memory.specs.declared.labels.TheConstants.{VARIABLES}
 use Rattle.player_memory.specs.Starting.{Begins}
-use Rattle.frame_code.specs.InitBlock.{start_of}
+use Rattle.kept_lines.specs.Starts.{start_of}
 use Rattle.kept_lines.specs.KeptLines.{kept_set}
 use Rattle.song_lists.specs.DataLists.{HasLines, order_places}
 use Rattle.song_lists.specs.ListLaws.{lists_size}

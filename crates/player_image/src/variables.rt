@@ -3,10 +3,10 @@
 ghost use Rattle.std.specs.Prelude.{◌≡◌, ◌+◌, ◌/◌, ◌%◌, ◌≤◌, length, slice_index, slice_set};
 ghost use Rattle.player_memory.specs.declared.labels.TheConstants.{VARIABLES};
 ghost use Rattle.player_memory.specs.Starting.{Begins};
-ghost use Rattle.frame_code.specs.InitBlock.{start_of};
+ghost use Rattle.kept_lines.specs.Starts.{start_of};
 ghost use Rattle.player_image.specs.Images.{numbered};
 
-use image_parts::start_of;
+use kept_lines::start_of;
 use play_model::Options;
 use player_memory::labels::{
     FUNK_ONE, FUNK_TWO, GATE, INSTRUMENT, ORDER_HIGH, ORDER_LOW, TEMPO, TICK, VIB_DELAY, VOLUME,
