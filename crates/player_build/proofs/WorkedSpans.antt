@@ -1,9 +1,13 @@
 -- The parts of the bytes in spans that are worked by hand.
-use Rattle.std.proofs.Common.{◌≡◌, ℕ, zero, suc, ◌+◌, ◌<◌, ◌≤◌, [], ◌∷◌, refl, arith}
-use Rattle.std.proofs.lemmas.List.Elements.{All-nil, All-cons, All-contains}
+use Rattle.std.proofs.Common.{◌≡◌, ◌⊎◌, ℕ, zero, suc, ◌+◌, ◌<◌, ◌≤◌, [], ◌∷◌, length, inl, inr, refl, arith}
+use Rattle.std.proofs.lemmas.List.Elements.{All-nil, All-cons, All-contains, All-head}
+use Rattle.play_model.specs.State.{no_options}
+use Rattle.packed_form.specs.declared.packed_songs.PackedSong.{PackedSong}
+use Rattle.image_parts.specs.CodeParts.{code_length}
 use Rattle.player_build.specs.declared.image.PartSpan.{PartSpan}
-use Rattle.player_build.specs.Spans.{IsNamed, IsNamedAs, NamesEach}
+use Rattle.player_build.specs.Spans.{IsNamed, IsNamedAs, NamesEach, IsOfLists}
 use Rattle.player_build.specs.WorkedSpans.{three_parts, part_spans, other_spans, SpansAreWorked}
+use Rattle.player_build.specs.WorkedSpans.{HasTwoSpeeds, TwoSpeedsAreWorked}
 
 abbrev span_of : ℕ → ℕ → ℕ → PartSpan
 span_of part start length = record { part = part; start = start; length = length }
@@ -60,6 +64,9 @@ all_named (suc (suc (suc byte))) few = absurd (omega (arith, few))
 
 pub spans_are_worked : SpansAreWorked
 spans_are_worked = record {
+  in_order = (omega arith, (omega arith, tt));
+  from_later = λ order. (let first = order.0 in omega (arith, first));
+  crossing = λ order. (let second = order.1.0 in omega (arith, second));
   of_spans = refl;
   all = refl;
   part_3 = refl;
@@ -81,3 +88,54 @@ spans_are_worked = record {
       in_none (span_of 3 0 2) (span_of 255 2 1) 3 (λ from below. omega arith) (λ from below. omega arith)
       (names 3 (omega arith)).named;
 }
+
+-- ---- the lists of an image
+
+-- the numbers between which the lists stand
+record Ends (packed : PackedSong) : Type 0 where
+  code : code_length packed.features.0 no_options ≡ 1089
+  speeds : length packed.speed ≡ 2
+
+ends_of : (packed : PackedSong) → HasTwoSpeeds packed → Ends packed
+ends_of packed is = record { code = rw is.features refl; speeds = is.speed }
+
+not_listed : (packed : PackedSong) → Ends packed → (byte : ℕ) → (byte < 991) ⊎ (993 ≤ byte) → byte < 1091 →
+    ¬ IsOfLists packed no_options byte
+not_listed packed ends byte outside below (inl speeds) =
+    let code = ends.code in
+    let rows = ends.speeds in
+    let from = speeds.0 in
+    let to = speeds.1 in elim outside [
+      | inl low ↦ omega (arith, code, rows, from, to, low)
+      | inr high ↦ omega (arith, code, rows, from, to, high)
+    ]
+not_listed packed ends byte outside below (inr behind) =
+    let code = ends.code in
+    let rows = ends.speeds in
+    omega (arith, code, rows, behind, below)
+
+speed_listed : (packed : PackedSong) → Ends packed → (byte : ℕ) → 991 ≤ byte → byte < 993 →
+    IsOfLists packed no_options byte
+speed_listed packed ends byte from to =
+    let code = ends.code in
+    let rows = ends.speeds in
+    inl (omega (arith, code, from), omega (arith, code, rows, to))
+
+pub two_speeds_are_worked : TwoSpeedsAreWorked
+two_speeds_are_worked packed is =
+    let ends = ends_of packed is in record {
+      last_low = not_listed packed ends 990 (inl (omega arith)) (omega arith);
+      first_speed = speed_listed packed ends 991 (omega arith) (omega arith);
+      last_speed = speed_listed packed ends 992 (omega arith) (omega arith);
+      first_high = not_listed packed ends 993 (inr (omega arith)) (omega arith);
+      last_high = not_listed packed ends 1090 (inr (omega arith)) (omega arith);
+      behind = (let code = ends.code in let rows = ends.speeds in inr (omega (arith, code, rows)));
+      no_spans = λ size some names.
+          none_there ((names.named 0 some).1 (not_listed packed ends 0 (inl (omega arith)) (omega arith)));
+      too_long = λ size span rest past names.
+          (let ends_in = All-head (λ (each : PartSpan). each.start + each.length ≤ size) span rest names.inside in
+          omega (arith, past, ends_in));
+    }
+  where
+    none_there : IsNamed [] 0 → ⊥
+    none_there named = (let there = named.is_there.1 in omega (arith, there))

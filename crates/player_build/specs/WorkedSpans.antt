@@ -1,7 +1,10 @@
--- The parts of the bytes in spans, worked by hand.
-use Rattle.std.specs.Prelude.{◌≡◌, ℕ, ◌<◌, List, [], ◌∷◌}
+-- The parts of the bytes in spans, their order, and which bytes of an image are its lists, worked by hand.
+use Rattle.std.specs.Prelude.{◌≡◌, ℕ, ◌+◌, ◌<◌, List, [], ◌∷◌, length}
+use Rattle.play_model.specs.State.{no_options}
+use Rattle.packed_form.specs.declared.packed_songs.PackedSong.{PackedSong}
 use Rattle.player_build.specs.declared.image.PartSpan.{PartSpan}
-use Rattle.player_build.specs.Spans.{spans_size, part_size, parts_of_spans, IsNamed, IsNamedAs, NamesEach}
+use Rattle.player_build.specs.Spans.{spans_size, part_size, parts_of_spans, IsNamed, IsNamedAs, NamesEach, StandInOrder}
+use Rattle.player_build.specs.Spans.{IsOfLists, NamesParts}
 
 -- the bytes 6 and 7, of part 3, and byte 10, of the part that is always kept
 abbrev pub two_spans : List PartSpan
@@ -18,7 +21,14 @@ part_spans = record { part = 3; start = 0; length = 2 } ∷ record { part = 255;
 abbrev pub other_spans : List PartSpan
 other_spans = record { part = 3; start = 0; length = 2 } ∷ record { part = 4; start = 2; length = 1 } ∷ []
 
+-- the second of these begins in the first one
+abbrev pub crossing_spans : List PartSpan
+crossing_spans = record { part = 3; start = 6; length = 5 } ∷ record { part = 255; start = 10; length = 1 } ∷ []
+
 pub record SpansAreWorked : Type 0 where
+  pub in_order : StandInOrder 6 two_spans
+  pub from_later : ¬ StandInOrder 7 two_spans
+  pub crossing : ¬ StandInOrder 0 crossing_spans
   pub of_spans : parts_of_spans two_spans ≡ 3 ∷ 3 ∷ 255 ∷ []
   pub all : spans_size two_spans ≡ 3
   pub part_3 : part_size 3 two_spans ≡ 2
@@ -36,3 +46,26 @@ pub record SpansAreWorked : Type 0 where
   pub all_named : (byte : ℕ) → byte < 3 → IsNamed other_spans byte
   pub other_part : ¬ NamesEach other_spans (three_parts) 3
   pub no_fourth : ¬ NamesEach part_spans (three_parts) 4
+
+-- ---- the lists of an image
+
+-- wave and pulse programs, and two rows in the speed table: the code takes 1,089 bytes with the frequencies
+pub record HasTwoSpeeds (packed : PackedSong) : Type 0 where
+  pub features : packed.features.0 ≡ 0x402000
+  pub speed : length packed.speed ≡ 2
+
+-- behind the low bytes of the frequencies two bytes are of the lists, the 98 high bytes aren't, and all behind them are
+pub record ListsAreWorked (packed : PackedSong) : Type 0 where
+  pub last_low : ¬ IsOfLists packed no_options 990
+  pub first_speed : IsOfLists packed no_options 991
+  pub last_speed : IsOfLists packed no_options 992
+  pub first_high : ¬ IsOfLists packed no_options 993
+  pub last_high : ¬ IsOfLists packed no_options 1090
+  pub behind : IsOfLists packed no_options 1091
+  -- no spans name the parts of an image, and none that reach behind it
+  pub no_spans : (size : ℕ) → 0 < size → ¬ NamesParts packed no_options size []
+  pub too_long : (size : ℕ) (span : PartSpan) (rest : List PartSpan) → size < span.start + span.length →
+      ¬ NamesParts packed no_options size (span ∷ rest)
+
+abbrev pub TwoSpeedsAreWorked : Type 0
+TwoSpeedsAreWorked = (packed : PackedSong) → HasTwoSpeeds packed → ListsAreWorked packed
