@@ -2,7 +2,7 @@
 #![tactic(auto, using(crate::proofs::Room::pieces_fit))]
 
 ghost use Rattle.std.specs.Prelude.{◌≡◌, ◌<◌, ◌≤◌, ◌++◌, [], ◌∷◌, length, map, get_or, All};
-ghost use Rattle.song_costs.specs.declared.places.Place.TheVariants.{InOrder, InPattern};
+ghost use Rattle.song_places.specs.declared.places.Place.TheVariants.{InOrder, InPattern};
 ghost use Rattle.command_line.specs.Last.{last_word};
 ghost use Rattle.command_line.specs.Lines.{byte_digits};
 ghost use Rattle.command_line.specs.Message.{line_of};

@@ -5,8 +5,8 @@ use Rattle.play_model.specs.declared.options.Options.{Options}
 use Rattle.play_model.specs.Features.{AreFeatures}
 use Rattle.packing_rules.specs.UsedSets.{UsedSets, AreUsedSets}
 use Rattle.song_costs.specs.declared.costs.Costs.{Costs}
-use Rattle.song_costs.specs.declared.places.Place.{Place}
-use Rattle.song_costs.specs.declared.places.Place.TheVariants.{InOrder, InPattern, InInstrument, InWaveTable}
+use Rattle.song_places.specs.declared.places.Place.{Place}
+use Rattle.song_places.specs.declared.places.Place.TheVariants.{InOrder, InPattern, InInstrument, InWaveTable}
 use Rattle.song_costs.specs.declared.kept.TheConstants.{PART_NAMES}
 use Rattle.song_costs.specs.declared.kept.Cause.{Cause}
 use Rattle.song_costs.specs.declared.kept.Cause.TheVariants.{InSong, SkipOption, SpeedOption}

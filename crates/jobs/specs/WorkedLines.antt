@@ -31,7 +31,7 @@ use Rattle.jobs.specs.Lines.{psid_fault_line, no_subtune_line, stop_line, unplay
 use Rattle.jobs.specs.Lines.{image_too_large_line, script_too_large_line, check_line, script_line, listing_line}
 use Rattle.jobs.specs.Lines.{join_line, selftest_line}
 use Rattle.song_costs.specs.declared.costs.Costs.{Costs}
-use Rattle.song_costs.specs.declared.places.Place.TheVariants.{InOrder, InPattern, InInstrument, InWaveTable}
+use Rattle.song_places.specs.declared.places.Place.TheVariants.{InOrder, InPattern, InInstrument, InWaveTable}
 use Rattle.song_costs.specs.declared.kept.Cause.{Cause}
 use Rattle.song_costs.specs.declared.kept.Cause.TheVariants.{InSong, SkipOption, SpeedOption}
 use Rattle.song_costs.specs.declared.kept.PartCost.{PartCost}

@@ -7,12 +7,13 @@ use Rattle.play_model.specs.declared.options.Options.{Options}
 use Rattle.player_memory.specs.declared.conditions.TheConstants.{SKIP_EFFECTS, SKIP_PULSE, TIMED, SKIP_FIRST}
 use Rattle.kept_lines.specs.KeptLines.{keeps}
 use Rattle.image_parts.specs.CodeParts.{part_length}
-use Rattle.song_costs.specs.declared.places.Place.{Place}
+use Rattle.song_places.specs.declared.places.Place.{Place}
 use Rattle.song_costs.specs.declared.kept.Cause.{Cause}
 use Rattle.song_costs.specs.declared.kept.Cause.TheVariants.{InSong, SkipOption, SpeedOption}
 use Rattle.song_costs.specs.declared.kept.PartCost.{PartCost}
-use Rattle.song_costs.specs.Kept.{keeps_part, NeedsFor, IsCause, IsPartCost}
-use Rattle.song_costs.proofs.OnePlace.{one_first}
+use Rattle.song_places.specs.PartPlaces.{keeps_part, NeedsFor}
+use Rattle.song_costs.specs.Kept.{IsCause, IsPartCost}
+use Rattle.song_places.proofs.Laws.{one_first}
 
 -- ---- one cause
 

@@ -1,9 +1,5 @@
 -- The lemmas that upper crates may cite.
 
--- a song uses a feature, and keeps a part, exactly where some place needs it; and at most one place is the first
-pub use Rattle.song_costs.proofs.FeaturePlaces.{features_are_needed}
-pub use Rattle.song_costs.proofs.PartFeatures.{parts_are_needed, own_places_are_first}
-pub use Rattle.song_costs.proofs.OnePlace.{first_places_are_one}
 -- the kinds add up to the image, and the parts to the player
 pub use Rattle.song_costs.proofs.Sums.{costs_add_up, parts_add_up}
 -- the code of a player is short

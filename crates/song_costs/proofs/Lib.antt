@@ -1,20 +1,5 @@
 -- The door: what upper crates may cite.
 pub mod Laws
--- The order of places, and the search part after part.
-mod Ranks
-mod Search
-mod Leaves
-mod OrderPlaces
-mod PatternPlaces
-mod MarkedPlaces
-mod SongPlaces
--- Features and places.
-mod FeaturePlaces
-mod OnePlace
--- Parts and their places.
-mod PlaceOrder
-mod PartFeatures
-mod FeatureSteps
 -- Bytes.
 mod ByteKinds
 mod ToldSums
@@ -22,6 +7,4 @@ mod Sums
 mod KeptParts
 mod KeptLists
 -- Worked by hand.
-mod WorkedPlaces
-mod CommonPlaces
 mod WorkedCosts

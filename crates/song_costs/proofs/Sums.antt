@@ -57,7 +57,7 @@ pub few_bytes : (features : ℕ) (options : Options) (code : List ℕ) → code 
     length code ≤ 65535
 few_bytes features options code is =
     subst (λ (c : List ℕ). length c ≤ 65535) (sym is)
-    (without (length (code_parts features options)) (image_parts.code_is_few features options))
+    (without (length (code_parts features options)) (image_parts.code_is_short features options))
   where
     without : (n : ℕ) → n + 196 ≤ 1876 → n ≤ 65535
     without n few = omega (arith, few)

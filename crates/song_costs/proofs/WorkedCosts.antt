@@ -13,18 +13,18 @@ use Rattle.packing_rules.specs.Segments.{first_row, is_closed, are_equal, first_
 use Rattle.packing_rules.specs.Renumbering.{speed_rows, speed_number, table_number, instrument_number, pattern_text}
 use Rattle.packing_rules.specs.Renumbering.{pattern_texts}
 use Rattle.player_memory.specs.declared.conditions.TheConstants.{CLIMB, RISE}
-use Rattle.song_costs.specs.declared.places.Place.{Place}
-use Rattle.song_costs.specs.declared.places.Place.TheVariants.{InOrder, InPattern, InInstrument, InWaveTable}
+use Rattle.song_places.specs.declared.places.Place.{Place}
+use Rattle.song_places.specs.declared.places.Place.TheVariants.{InOrder, InPattern, InInstrument, InWaveTable}
 use Rattle.song_costs.specs.declared.kept.Cause.TheVariants.{InSong}
 use Rattle.song_costs.specs.declared.kept.PartCost.{PartCost}
-use Rattle.song_costs.specs.Places.{IsFirstPlace}
-use Rattle.song_costs.specs.Kept.{keeps_part, NeedsFor, IsPartPlace}
-use Rattle.song_costs.specs.WorkedPlaces.{crossing}
+use Rattle.song_places.specs.Places.{IsFirstPlace}
+use Rattle.song_places.specs.PartPlaces.{keeps_part, NeedsFor, IsPartPlace}
+use Rattle.song_places.specs.WorkedPlaces.{crossing}
 use Rattle.song_costs.specs.WorkedCosts.{NoteIsWorked, TablesAreCounted, part_cost, IsToldOf, PartsAreWorked}
 use Rattle.song_costs.specs.WorkedCosts.{ListIsWorked, OptionsAreWorked}
-use Rattle.song_costs.proofs.PartFeatures.{own_places_are_first}
-use Rattle.song_costs.proofs.WorkedPlaces.{transposes_are_worked, portamentos_are_worked, tables_are_worked, risen}
-use Rattle.song_costs.proofs.CommonPlaces.{crossing_first}
+use Rattle.song_places.proofs.Laws.{own_places_are_first}
+use Rattle.song_places.proofs.Laws.{transposes_are_worked, portamentos_are_worked, tables_are_worked, risen}
+use Rattle.song_places.proofs.Laws.{crossing_first}
 
 pub note_is_worked : NoteIsWorked
 unfolding packed_text first_row is_closed are_equal first_equal keeps stand_in speed_rows speed_number table_number

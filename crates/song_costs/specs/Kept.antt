@@ -1,38 +1,20 @@
 -- The parts of the player that a song and its options keep, each with its bytes and the reason for it. A part is a
 -- condition: 0 to 23 are the features of a song, 24 to 27 the options, and 28 to 33 what several features have in
 -- common. This is the project's own player.
-use Rattle.std.specs.Prelude.{◌≡◌, ◌≢◌, ℕ, ◌^◌, Bool, true, not, ◌&&◌, ◌==◌, ◌⊎◌, List, map, filter, All}
+use Rattle.std.specs.Prelude.{◌≡◌, ◌≢◌, ℕ, Bool, true, not, ◌&&◌, ◌==◌, ◌⊎◌, List, map, filter, All}
 use Rattle.std.specs.List.{range_with_len}
-use Rattle.song_model.specs.declared.features.Feature.{Feature}
 use Rattle.song_model.specs.declared.songs.Song.{Song}
-use Rattle.song_model.specs.Feature.{bit_of}
 use Rattle.play_model.specs.declared.options.Options.{Options}
-use Rattle.play_model.specs.State.{no_options}
 use Rattle.player_memory.specs.declared.conditions.TheConstants.{SKIP_EFFECTS, SKIP_PULSE, TIMED, SKIP_FIRST}
 use Rattle.kept_lines.specs.KeptLines.{keeps}
 use Rattle.image_parts.specs.CodeParts.{part_length}
-use Rattle.song_costs.specs.declared.places.Place.{Place}
 use Rattle.song_costs.specs.declared.kept.TheConstants.{PARTS}
 use Rattle.song_costs.specs.declared.kept.Cause.{Cause}
 use Rattle.song_costs.specs.declared.kept.Cause.TheVariants.{InSong, SkipOption, SpeedOption}
 use Rattle.song_costs.specs.declared.kept.PartCost.{PartCost}
-use Rattle.song_costs.specs.Places.{NeedsAt, IsFirst}
+use Rattle.song_places.specs.PartPlaces.{IsPartPlace}
 
 -- ---- why
-
--- a feature keeps a part where a song that uses it alone does
-abbrev pub keeps_part : Feature → ℕ → Bool
-keeps_part feature part = keeps (2 ^ bit_of feature) no_options part
-
--- what stands at the place needs a feature that keeps the part
-pub record NeedsFor (song : Song) (part : ℕ) (place : Place) : Type 0 where
-  pub feature : Feature
-  pub is_kept : keeps_part feature part ≡ true
-  pub needs : NeedsAt song feature place
-
--- the first such place
-abbrev pub IsPartPlace : Song → ℕ → Place → Type 0
-IsPartPlace song part = IsFirst (NeedsFor song part)
 
 -- a part is kept for this: one of features for a place of the song, the others for their options
 abbrev pub IsCause : Song → ℕ → Cause → Type 0

@@ -15,13 +15,13 @@ use Rattle.packing_rules.specs.UsedSets.{UsedSets}
 use Rattle.packing_rules.specs.WorkedSizes.{among, note_sets, two_rests}
 use Rattle.player_memory.specs.declared.conditions.TheConstants.{CLIMB, DROP, RISE}
 use Rattle.song_costs.specs.declared.costs.Costs.{Costs}
-use Rattle.song_costs.specs.declared.places.Place.TheVariants.{InOrder, InPattern, InInstrument, InWaveTable}
+use Rattle.song_places.specs.declared.places.Place.TheVariants.{InOrder, InPattern, InInstrument, InWaveTable}
 use Rattle.song_costs.specs.declared.kept.Cause.{Cause}
 use Rattle.song_costs.specs.declared.kept.Cause.TheVariants.{InSong, SkipOption, SpeedOption}
 use Rattle.song_costs.specs.declared.kept.PartCost.{PartCost}
 use Rattle.song_costs.specs.Kinds.{costs_of, data_bytes, all_bytes}
 use Rattle.song_costs.specs.Kept.{IsPartCost, AreKeptParts}
-use Rattle.song_costs.specs.WorkedPlaces.{crossing}
+use Rattle.song_places.specs.WorkedPlaces.{crossing}
 
 -- ---- kinds
 

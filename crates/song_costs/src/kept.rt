@@ -7,12 +7,11 @@ ghost use Rattle.image_parts.specs.CodeParts.{code_parts};
 ghost use Rattle.song_costs.specs.declared.kept.PartCost.{PartCost as AnyCost};
 ghost use Rattle.song_costs.specs.Kept.{IsCause, is_told, IsPartCost};
 
-use crate::part_places::part_place;
-use crate::places::Place;
 use image_parts::part_length;
 use play_model::Options;
 use player_memory::conditions::{SKIP_EFFECTS, SKIP_FIRST, SKIP_PULSE, TIMED};
 use song_model::Song;
+use song_places::{Place, part_place};
 use usage::UsedParts;
 
 /// How many parts there are beside the one that every image has: those of the features, behind them those of the

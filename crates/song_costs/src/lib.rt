@@ -5,25 +5,16 @@
 //! the image's length, and `part_cost` tells a part exactly where it is kept and has bytes, with the first place of the
 //! song that needs a feature which keeps it.
 //!
-//! It stands on `usage` for what a song uses, on `play_model` for what a feature is, on `packed_form`, `packing_rules`
-//! and `song_pack` for what is packed and how many bytes that has, on `player_memory` and `kept_lines` for which parts
-//! of the player are kept, and on `image_parts` for their bytes. The command that tells costs stands on it.
+//! It stands on `packed_form`, `packing_rules` and `song_pack` for what is packed and how many bytes that has, on
+//! `kept_lines` for which parts of the player are kept, on `image_parts` for their bytes, and on `song_places` for the
+//! place of the song that keeps each. The command that tells costs stands on it.
 #![tactic(auto)]
 
 /// Facts about the definitions.
 pub mod claims;
 mod costs;
-mod first_places;
-mod instruments;
 mod kept;
-mod needs;
-mod orders;
-mod part_places;
-mod patterns;
-mod places;
-mod wave_rows;
 
 pub use costs::{Costs, costs_by_kind};
-pub use first_places::first_place;
 pub use kept::{Cause, PART_NAMES, PARTS, PartCost, part_cost};
-pub use places::Place;
+pub use song_places::Place;

@@ -1,6 +1,6 @@
 use Rattle.std.proofs.Common.{◌≡◌, Option, Some, None, IsSome, refl, arith}
-use Rattle.song_costs.specs.PlaceLaws.{IsOfOptions}
-use Rattle.song_costs.proofs.PartFeatures.{kept_for, kept_for_none}
+use Rattle.song_places.specs.PlaceLaws.{IsOfOptions}
+use Rattle.song_places.proofs.Laws.{kept_for, kept_for_none}
 use Rattle.song_costs.proofs.kept.cause_of.Goals as goal
 
 no_some : {X : Type 0} (o : Option X) → o ≡ None → IsSome o → ⊥

@@ -1,8 +1,0 @@
-use Rattle.song_costs.proofs.FeaturePlaces.{features_are_needed}
-use Rattle.song_costs.proofs.OnePlace.{first_places_are_one}
-use Rattle.song_costs.proofs.PartFeatures.{parts_are_needed, own_places_are_first}
-use Rattle.song_costs.proofs.claims.features_have_first_places.Goals as goal
-
-pub returns : goal.returns
-returns c =
-    record { needed = features_are_needed; parts = parts_are_needed; own = own_places_are_first; one = first_places_are_one }

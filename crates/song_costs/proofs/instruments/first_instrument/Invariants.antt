@@ -1,7 +1,0 @@
-use Rattle.std.proofs.Common.{ℕ, ◌<◌, [], ◌∷◌}
-use Rattle.song_costs.specs.Search.{meant, IsNowhereUnder}
-use Rattle.song_costs.proofs.instruments.first_instrument.Given as goal
-
-abbrev pub invariant-loop-instrument : goal.invariant-loop-instrument
-invariant-loop-instrument l = (k : ℕ) → k < l.instrument →
-    IsNowhereUnder l.song (meant l.song l.wanted) (3 ∷ k ∷ [])

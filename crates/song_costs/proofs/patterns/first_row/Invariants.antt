@@ -1,6 +1,0 @@
-use Rattle.std.proofs.Common.{ℕ, ◌<◌, [], ◌∷◌}
-use Rattle.song_costs.specs.Search.{meant, IsNowhereUnder}
-use Rattle.song_costs.proofs.patterns.first_row.Given as goal
-
-abbrev pub invariant-loop-i : goal.invariant-loop-i
-invariant-loop-i l = (k : ℕ) → k < l.i → IsNowhereUnder l.song (meant l.song l.wanted) (2 ∷ l.number ∷ k ∷ [])

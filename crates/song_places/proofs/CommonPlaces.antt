@@ -1,0 +1,288 @@
+-- First places of parts that several features have in common, worked out by hand.
+use Rattle.std.proofs.Common.{◌≡◌, ℕ, zero, suc, ◌≤◌, [], ◌∷◌, true, false, Some, slice_get, lit<, lit≤}
+use Rattle.std.proofs.Common.{refl, sym, ◌∙◌, ap, subst, inl, inr, arith}
+use Rattle.std.proofs.lemmas.Bool.{cases_order, true≢false}
+use Rattle.base.proofs.Laws.{same_some}
+use Rattle.song_model.specs.declared.rows.Row.{Row}
+use Rattle.song_model.specs.declared.orders.Subtune.{Subtune}
+use Rattle.song_model.specs.declared.songs.Song.{Song}
+use Rattle.song_model.specs.declared.features.Feature.{Feature}
+use Rattle.song_model.specs.declared.features.Feature.TheVariants.{Transpose, Repeat, PortaUp, PortaDown, TonePorta}
+use Rattle.song_model.specs.declared.features.Feature.TheVariants.{TieNote, Vibrato, InstrumentVibrato, NoteDependent}
+use Rattle.song_model.specs.declared.features.Feature.TheVariants.{SetAd, SetSr, SetWave, SetWavePointer, PulseTable}
+use Rattle.song_model.specs.declared.features.Feature.TheVariants.{SetPulsePointer, FilterTable, SetFilterPointer}
+use Rattle.song_model.specs.declared.features.Feature.TheVariants.{FilterControl, Cutoff, Volume, FunkTempo, SetTempo}
+use Rattle.song_model.specs.declared.features.Feature.TheVariants.{WaveTable, WaveCommand}
+use Rattle.song_model.specs.LookUp.{order_of, pattern_at}
+use Rattle.song_model.specs.Silence.{rest_row}
+use Rattle.play_model.specs.Used.{IsUsedPattern}
+use Rattle.play_model.specs.WorkedSongs.{subtune, row}
+use Rattle.player_memory.specs.declared.conditions.TheConstants.{CLIMB, FOUND_NOTE}
+use Rattle.song_places.specs.declared.places.Place.{Place}
+use Rattle.song_places.specs.declared.places.Place.TheVariants.{InOrder, InPattern, InInstrument, InWaveTable}
+use Rattle.song_places.specs.Needs.{need_of}
+use Rattle.song_places.specs.Places.{NeedsAt, IsNotAfter}
+use Rattle.song_places.specs.PartPlaces.{keeps_part, NeedsFor, IsPartPlace}
+use Rattle.song_places.specs.WorkedPlaces.{crossing, sliding, CommonPlacesAreWorked}
+use Rattle.song_places.proofs.Ranks.{lower, begun}
+use Rattle.song_places.proofs.PartFeatures.{own_part}
+use Rattle.song_places.proofs.WorkedPlaces.{used_pattern}
+
+-- ---- what features need
+
+-- no feature but two needs bytes of orderlists
+no_byte : (song : Song) (part : ℕ) (feature : Feature) → keeps_part Transpose part ≡ false →
+    keeps_part Repeat part ≡ false → keeps_part feature part ≡ true → (b : ℕ) → ¬ (need_of song feature).byte b
+no_byte song part Transpose transposed repeated kept b meant = true≢false (sym kept ∙ transposed)
+no_byte song part Repeat transposed repeated kept b meant = true≢false (sym kept ∙ repeated)
+no_byte song part PortaUp transposed repeated kept b meant = meant
+no_byte song part PortaDown transposed repeated kept b meant = meant
+no_byte song part TonePorta transposed repeated kept b meant = meant
+no_byte song part TieNote transposed repeated kept b meant = meant
+no_byte song part Vibrato transposed repeated kept b meant = meant
+no_byte song part InstrumentVibrato transposed repeated kept b meant = meant
+no_byte song part NoteDependent transposed repeated kept b meant = meant
+no_byte song part SetAd transposed repeated kept b meant = meant
+no_byte song part SetSr transposed repeated kept b meant = meant
+no_byte song part SetWave transposed repeated kept b meant = meant
+no_byte song part SetWavePointer transposed repeated kept b meant = meant
+no_byte song part PulseTable transposed repeated kept b meant = meant
+no_byte song part SetPulsePointer transposed repeated kept b meant = meant
+no_byte song part FilterTable transposed repeated kept b meant = meant
+no_byte song part SetFilterPointer transposed repeated kept b meant = meant
+no_byte song part FilterControl transposed repeated kept b meant = meant
+no_byte song part Cutoff transposed repeated kept b meant = meant
+no_byte song part Volume transposed repeated kept b meant = meant
+no_byte song part FunkTempo transposed repeated kept b meant = meant
+no_byte song part SetTempo transposed repeated kept b meant = meant
+no_byte song part WaveTable transposed repeated kept b meant = meant
+no_byte song part WaveCommand transposed repeated kept b meant = meant
+
+-- and none a row that rests
+no_rest : (song : Song) (feature : Feature) → ¬ (need_of song feature).row rest_row
+no_rest song Transpose meant = meant
+no_rest song Repeat meant = meant
+no_rest song PortaUp meant = (let e = meant.0 in omega arith)
+no_rest song PortaDown meant = (let e = meant.0 in omega arith)
+no_rest song TonePorta meant = (let e = meant.0 in omega arith)
+no_rest song TieNote meant = (let e = meant.0 in omega arith)
+no_rest song Vibrato meant = (let e = meant.0 in omega arith)
+no_rest song InstrumentVibrato meant = meant
+no_rest song NoteDependent meant = meant.1 refl
+no_rest song SetAd meant = (let e = meant.0 in omega arith)
+no_rest song SetSr meant = (let e = meant.0 in omega arith)
+no_rest song SetWave meant = (let e = meant.0 in omega arith)
+no_rest song SetWavePointer meant = omega arith
+no_rest song PulseTable meant = meant.1 refl
+no_rest song SetPulsePointer meant = (let e = meant.0 in omega arith)
+no_rest song FilterTable meant = meant.1 refl
+no_rest song SetFilterPointer meant = (let e = meant.0 in omega arith)
+no_rest song FilterControl meant = (let e = meant.0 in omega arith)
+no_rest song Cutoff meant = (let e = meant.0 in omega arith)
+no_rest song Volume meant = (let e = meant.0 in omega arith)
+no_rest song FunkTempo (inl e) = omega arith
+no_rest song FunkTempo (inr both) = (let e = both.0 in omega arith)
+no_rest song SetTempo meant = (let e = meant.0 in omega arith)
+no_rest song WaveTable meant = meant.1 refl
+no_rest song WaveCommand meant = meant
+
+-- what needs the part of notes that are reached is command 3
+is_reached : (song : Song) (feature : Feature) → keeps_part feature FOUND_NOTE ≡ true → (r : Row) →
+    (need_of song feature).row r → r.command ≡ 3
+is_reached song Transpose kept r meant = absurd meant
+is_reached song Repeat kept r meant = absurd meant
+is_reached song PortaUp kept r meant = absurd (true≢false (sym kept))
+is_reached song PortaDown kept r meant = absurd (true≢false (sym kept))
+is_reached song TonePorta kept r meant = meant.0
+is_reached song TieNote kept r meant = meant.0
+is_reached song Vibrato kept r meant = absurd (true≢false (sym kept))
+is_reached song InstrumentVibrato kept r meant = absurd meant
+is_reached song NoteDependent kept r meant = absurd (true≢false (sym kept))
+is_reached song SetAd kept r meant = absurd (true≢false (sym kept))
+is_reached song SetSr kept r meant = absurd (true≢false (sym kept))
+is_reached song SetWave kept r meant = absurd (true≢false (sym kept))
+is_reached song SetWavePointer kept r meant = absurd (true≢false (sym kept))
+is_reached song PulseTable kept r meant = absurd (true≢false (sym kept))
+is_reached song SetPulsePointer kept r meant = absurd (true≢false (sym kept))
+is_reached song FilterTable kept r meant = absurd (true≢false (sym kept))
+is_reached song SetFilterPointer kept r meant = absurd (true≢false (sym kept))
+is_reached song FilterControl kept r meant = absurd (true≢false (sym kept))
+is_reached song Cutoff kept r meant = absurd (true≢false (sym kept))
+is_reached song Volume kept r meant = absurd (true≢false (sym kept))
+is_reached song FunkTempo kept r meant = absurd (true≢false (sym kept))
+is_reached song SetTempo kept r meant = absurd (true≢false (sym kept))
+is_reached song WaveTable kept r meant = absurd (true≢false (sym kept))
+is_reached song WaveCommand kept r meant = absurd meant
+
+-- ---- behind a rest
+
+-- where the first used pattern begins with a rest, nothing that a part may need comes before its second row
+second_row : (song : Song) (part p : ℕ) → keeps_part Transpose part ≡ false → keeps_part Repeat part ≡ false →
+    ((q : ℕ) → IsUsedPattern song q → p ≤ q) → slice_get (pattern_at song p) 0 ≡ Some rest_row →
+    (other : Place) → NeedsFor song part other → IsNotAfter (InPattern p 1) other
+second_row song part p transposed repeated first_used rests (InOrder s c i) h =
+    (let at = h.needs in absurd (no_byte song part h.feature transposed repeated h.is_kept at.byte at.is_meant))
+second_row song part p transposed repeated first_used rests (InPattern q i) h =
+    (let at = h.needs in
+    elim (cases_order p q) [
+      | inl same ↦
+          in_first i (subst (λ (n : ℕ). IsNotAfter (InPattern p 1) (InPattern n i)) same)
+          (λ zero_is. no_rest song h.feature (subst (need_of song h.feature).row
+          (same_some at.row rest_row
+          (sym at.there ∙ ap (λ (n : ℕ). slice_get (pattern_at song q) n) zero_is
+          ∙ ap (λ (n : ℕ). slice_get (pattern_at song n) 0) (sym same) ∙ rests)) at.is_meant))
+      | inr differ ↦ elim differ [
+        | inl before ↦ (lower (2 ∷ []) p q (1 ∷ []) (i ∷ []) before).is
+        | inr behind ↦ absurd (let high = first_used q at.used in omega (arith, high, behind))
+      ]
+    ])
+  where
+    in_first : {X : Type 0} (i : ℕ) → (IsNotAfter (InPattern p 1) (InPattern p i) → X) → (i ≡ 0 → ⊥) → X
+    in_first zero from other = absurd (other refl)
+    in_first (suc zero) from other = from (begun (2 ∷ p ∷ 1 ∷ []) []).is
+    in_first (suc (suc i)) from other = from (lower (2 ∷ p ∷ []) 1 (suc (suc i)) [] [] (omega arith)).is
+second_row song part p transposed repeated first_used rests (InInstrument n) h = refl
+second_row song part p transposed repeated first_used rests (InWaveTable n) h = refl
+
+-- of the song whose first used pattern is 1
+pub crossing_first : (part : ℕ) → keeps_part Transpose part ≡ false → keeps_part Repeat part ≡ false →
+    NeedsFor crossing part (InPattern 1 1) → IsPartPlace crossing part (InPattern 1 1)
+unfolding pattern_at
+crossing_first part transposed repeated needs =
+    record { is_such = needs; first = second_row crossing part 1 transposed repeated from_one refl }
+  where
+    from_one : (q : ℕ) → IsUsedPattern crossing q → 1 ≤ q
+    from_one q used = elim (used_pattern q used) [ inl e ↦ omega (arith, e) | inr e ↦ omega (arith, e) ]
+
+-- ---- slides
+
+abbrev only_subtune : Subtune
+only_subtune = subtune (0 ∷ []) (1 ∷ []) (1 ∷ [])
+
+played_zero : (one two : ℕ) → IsUsedPattern (sliding one two) 0
+played_zero one two = record {
+  byte = record {
+    order = order_of 1 only_subtune;
+    played = record {
+      subtune = only_subtune;
+      playable = (0, lit< tt, refl);
+      channel = 1;
+      is_channel = record { first = lit≤ tt; last = lit≤ tt };
+      order_is = refl;
+    };
+    entry = (0, lit< tt, refl);
+  };
+  is_pattern = lit< tt;
+}
+
+played_next : (one two : ℕ) → IsUsedPattern (sliding one two) 1
+played_next one two = record {
+  byte = record {
+    order = order_of 2 only_subtune;
+    played = record {
+      subtune = only_subtune;
+      playable = (0, lit< tt, refl);
+      channel = 2;
+      is_channel = record { first = lit≤ tt; last = lit≤ tt };
+      order_is = refl;
+    };
+    entry = (0, lit< tt, refl);
+  };
+  is_pattern = lit< tt;
+}
+
+-- a portamento up or a tone portamento in the one pattern or the other
+tone_in_zero : NeedsAt (sliding 3 1) TonePorta (InPattern 0 1)
+unfolding pattern_at
+tone_in_zero = record {
+  used = played_zero 3 1;
+  row = row 0xBD 0 3 1;
+  there = refl;
+  is_meant = (refl, λ e. absurd (omega arith));
+}
+
+up_in_next : NeedsAt (sliding 3 1) PortaUp (InPattern 1 0)
+unfolding pattern_at
+up_in_next = record { used = played_next 3 1; row = row 0xBD 0 1 1; there = refl; is_meant = (refl, tt) }
+
+up_in_zero : NeedsAt (sliding 1 3) PortaUp (InPattern 0 1)
+unfolding pattern_at
+up_in_zero = record { used = played_zero 1 3; row = row 0xBD 0 1 1; there = refl; is_meant = (refl, tt) }
+
+tone_in_next : NeedsAt (sliding 1 3) TonePorta (InPattern 1 0)
+unfolding pattern_at
+tone_in_next = record {
+  used = played_next 1 3;
+  row = row 0xBD 0 3 1;
+  there = refl;
+  is_meant = (refl, λ e. absurd (omega arith));
+}
+
+-- the row in pattern 0 is no command 3, nor has it another row
+no_note_in_zero : (feature : Feature) (i : ℕ) → keeps_part feature FOUND_NOTE ≡ true →
+    ¬ NeedsAt (sliding 1 3) feature (InPattern 0 i)
+unfolding pattern_at
+no_note_in_zero feature zero kept at =
+    no_rest (sliding 1 3) feature
+    (subst (need_of (sliding 1 3) feature).row (sym (same_some rest_row at.row at.there)) at.is_meant)
+no_note_in_zero feature (suc zero) kept at =
+    (let same = same_some (row 0xBD 0 1 1) at.row at.there in
+    let three = is_reached (sliding 1 3) feature kept at.row at.is_meant in
+    not_both at.row.command (ap (λ (r : Row). r.command) (sym same)) three)
+  where
+    not_both : (n : ℕ) → n ≡ 1 → n ≡ 3 → ⊥
+    not_both n a b = omega (arith, a, b)
+no_note_in_zero feature (suc (suc i)) kept at = absurd (let e = at.there in cc)
+
+note_first : (other : Place) → NeedsFor (sliding 1 3) FOUND_NOTE other → IsNotAfter (InPattern 1 0) other
+note_first (InOrder s c i) h =
+    (let at = h.needs in
+    absurd (no_byte (sliding 1 3) FOUND_NOTE h.feature refl refl h.is_kept at.byte at.is_meant))
+note_first (InPattern zero i) h = absurd (no_note_in_zero h.feature i h.is_kept h.needs)
+note_first (InPattern (suc zero) zero) h = refl
+note_first (InPattern (suc zero) (suc i)) h = (lower (2 ∷ 1 ∷ []) 0 (suc i) [] [] (omega arith)).is
+note_first (InPattern (suc (suc q)) i) h = (lower (2 ∷ []) 1 (suc (suc q)) (0 ∷ []) (i ∷ []) (omega arith)).is
+note_first (InInstrument n) h = refl
+note_first (InWaveTable n) h = refl
+
+-- a tone portamento is no portamento up
+no_up_in_zero : ¬ NeedsAt (sliding 3 1) PortaUp (InPattern 0 1)
+unfolding pattern_at
+no_up_in_zero at =
+    not_both at.row.command (ap (λ (r : Row). r.command) (sym (same_some (row 0xBD 0 3 1) at.row at.there)))
+    at.is_meant.0
+  where
+    not_both : (n : ℕ) → n ≡ 3 → n ≡ 1 → ⊥
+    not_both n a b = omega (arith, a, b)
+
+climb : (one two : ℕ) → NeedsFor (sliding one two) CLIMB (InPattern 0 1) →
+    IsPartPlace (sliding one two) CLIMB (InPattern 0 1)
+unfolding pattern_at
+climb one two needs = record {
+  is_such = needs;
+  first = second_row (sliding one two) CLIMB 0 refl refl (λ q used. omega arith) refl;
+}
+
+tone_needs : NeedsFor (sliding 3 1) CLIMB (InPattern 0 1)
+tone_needs = record { feature = TonePorta; is_kept = refl; needs = tone_in_zero }
+
+up_needs : NeedsFor (sliding 1 3) CLIMB (InPattern 0 1)
+up_needs = record { feature = PortaUp; is_kept = refl; needs = up_in_zero }
+
+pub common_places_are_worked : CommonPlacesAreWorked
+common_places_are_worked = record {
+  tone_first = climb 3 1 tone_needs;
+  up_later = record { feature = PortaUp; is_kept = refl; needs = up_in_next };
+  not_up = λ first. (let e = first.first (InPattern 0 1) tone_needs in cc);
+  up_first = climb 1 3 up_needs;
+  tone_later = record { feature = TonePorta; is_kept = refl; needs = tone_in_next };
+  not_tone = λ first. (let e = first.first (InPattern 0 1) up_needs in cc);
+  note = record {
+    is_such = record { feature = TonePorta; is_kept = refl; needs = tone_in_next };
+    first = note_first;
+  };
+  no_note = λ h. no_note_in_zero h.feature 1 h.is_kept h.needs;
+  not_own = λ h. no_up_in_zero
+      (subst (λ (f : Feature). NeedsAt (sliding 3 1) f (InPattern 0 1)) (own_part h.feature PortaUp h.is_kept) h.needs);
+  no_option = λ place h. true≢false (sym h.is_kept);
+}

@@ -1,0 +1,20 @@
+-- The door: what upper crates may cite.
+pub mod Laws
+-- The order of places, and the search part after part.
+mod Ranks
+mod Search
+mod Leaves
+mod OrderPlaces
+mod PatternPlaces
+mod MarkedPlaces
+mod SongPlaces
+-- Features and places.
+mod FeaturePlaces
+mod OnePlace
+-- Parts and their places.
+mod PlaceOrder
+mod PartFeatures
+mod FeatureSteps
+-- Worked by hand.
+mod WorkedPlaces
+mod CommonPlaces

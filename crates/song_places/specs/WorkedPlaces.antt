@@ -1,0 +1,104 @@
+-- First places of small songs, worked out by hand, each with places beside it that aren't the first; those of parts
+-- that several features have in common; and the order of places.
+use Rattle.std.specs.Prelude.{ℕ, [], ◌∷◌}
+use Rattle.song_model.specs.declared.features.Feature.TheVariants.{Transpose, PortaUp, InstrumentVibrato, FilterTable}
+use Rattle.song_model.specs.declared.features.Feature.TheVariants.{WaveTable, WaveCommand}
+use Rattle.song_model.specs.declared.songs.Song.{Song}
+use Rattle.song_model.specs.LookUp.{zero_instrument}
+use Rattle.song_model.specs.Silence.{empty_song, rest_row}
+use Rattle.play_model.specs.WorkedSongs.{subtune, row, sides, other_vibrato}
+use Rattle.player_memory.specs.declared.conditions.TheConstants.{PORTA_UP, SKIP_EFFECTS, CLIMB, FOUND_NOTE}
+use Rattle.song_places.specs.declared.places.Place.{Place}
+use Rattle.song_places.specs.declared.places.Place.TheVariants.{InOrder, InPattern, InInstrument, InWaveTable}
+use Rattle.song_places.specs.Places.{NeedsAt, IsNotAfter, IsFirstPlace}
+use Rattle.song_places.specs.PartPlaces.{NeedsFor, IsPartPlace}
+
+-- the first subtune has an empty orderlist, so it isn't played, nor are pattern 0 and instrument 2 used; in the second
+-- one channels 2 and 3 have a transpose each, and pattern 2 names instrument 3
+abbrev pub crossing : Song
+crossing = record empty_song {
+  subtunes = subtune (0xE1 ∷ 0 ∷ []) [] (0 ∷ [])
+      ∷ subtune (1 ∷ []) (1 ∷ 0xF0 ∷ 1 ∷ []) (0xE2 ∷ 2 ∷ []) ∷ [];
+  patterns = (row 0x90 2 1 0 ∷ []) ∷ (rest_row ∷ row 0xBD 0 1 0 ∷ row 0xBD 0 1 0 ∷ [])
+      ∷ (row 0x90 3 1 0 ∷ []) ∷ [];
+  instruments = (record zero_instrument { wave = 1 }) ∷ (record zero_instrument { filter = 1 })
+      ∷ (record zero_instrument { filter = 1 }) ∷ [];
+  wave = sides 0x41 0 ∷ sides 0xF1 0 ∷ sides 0xFF 0 ∷ [];
+  filter = sides 0x90 0 ∷ sides 0xFF 0 ∷ [];
+}
+
+-- a transpose in an orderlist that isn't played is none, and one in channel 3 is later
+pub record TransposesAreWorked : Type 0 where
+  pub first : IsFirstPlace crossing Transpose (InOrder 2 2 1)
+  pub unplayed : ¬ NeedsAt crossing Transpose (InOrder 1 1 0)
+  pub later : NeedsAt crossing Transpose (InOrder 2 3 0)
+  pub not_first : ¬ IsFirstPlace crossing Transpose (InOrder 2 3 0)
+
+-- the command in a pattern that isn't used is none; the next row, the next pattern and the wave table are later
+pub record PortamentosAreWorked : Type 0 where
+  pub first : IsFirstPlace crossing PortaUp (InPattern 1 1)
+  pub unused : ¬ NeedsAt crossing PortaUp (InPattern 0 0)
+  pub next_row : ¬ IsFirstPlace crossing PortaUp (InPattern 1 2)
+  pub next_pattern : ¬ IsFirstPlace crossing PortaUp (InPattern 2 0)
+  pub in_wave_table : NeedsAt crossing PortaUp (InWaveTable 2)
+  pub wave_table : ¬ IsFirstPlace crossing PortaUp (InWaveTable 2)
+
+-- the pointer of an instrument that isn't used is no filter's place, nor is a portamento; instrument 1 is used by each
+-- song, so its wave program is the first; and the jump behind a command of the wave table isn't the command's
+pub record TablesAreWorked : Type 0 where
+  pub first : IsFirstPlace crossing FilterTable (InInstrument 3)
+  pub unused : ¬ NeedsAt crossing FilterTable (InInstrument 2)
+  pub no_row : ¬ NeedsAt crossing FilterTable (InPattern 1 1)
+  pub wave : IsFirstPlace crossing WaveTable (InInstrument 1)
+  pub command : IsFirstPlace crossing WaveCommand (InWaveTable 2)
+  pub jump : ¬ NeedsAt crossing WaveCommand (InWaveTable 3)
+
+-- instrument 1 has a vibrato delay and no parameter, instrument 2 a parameter and no delay, and both are used: the
+-- place is that of the parameter
+pub record VibratosAreWorked : Type 0 where
+  pub first : IsFirstPlace (other_vibrato 5) InstrumentVibrato (InInstrument 2)
+  pub delay : ¬ NeedsAt (other_vibrato 5) InstrumentVibrato (InInstrument 1)
+
+-- ---- what features have in common
+
+-- pattern 0 has a command in its second row, and pattern 1 another in its first, each with row 1 of the speed table
+abbrev pub sliding : ℕ → ℕ → Song
+sliding one two = record empty_song {
+  subtunes = subtune (0 ∷ []) (1 ∷ []) (1 ∷ []) ∷ [];
+  patterns = (rest_row ∷ row 0xBD 0 one 1 ∷ []) ∷ (row 0xBD 0 two 1 ∷ []) ∷ [];
+  speed = sides 0 0x20 ∷ [];
+}
+
+-- The high byte climbs for a tone portamento and for a portamento up, so the first place of either is that of the part,
+-- and a later one isn't, whichever stands first. A tone portamento comes to its note, and a portamento up to none; what
+-- a portamento up has alone no tone portamento needs; and nothing in a song needs what an option keeps.
+pub record CommonPlacesAreWorked : Type 0 where
+  pub tone_first : IsPartPlace (sliding 3 1) CLIMB (InPattern 0 1)
+  pub up_later : NeedsFor (sliding 3 1) CLIMB (InPattern 1 0)
+  pub not_up : ¬ IsPartPlace (sliding 3 1) CLIMB (InPattern 1 0)
+  pub up_first : IsPartPlace (sliding 1 3) CLIMB (InPattern 0 1)
+  pub tone_later : NeedsFor (sliding 1 3) CLIMB (InPattern 1 0)
+  pub not_tone : ¬ IsPartPlace (sliding 1 3) CLIMB (InPattern 1 0)
+  pub note : IsPartPlace (sliding 1 3) FOUND_NOTE (InPattern 1 0)
+  pub no_note : ¬ NeedsFor (sliding 1 3) FOUND_NOTE (InPattern 0 1)
+  pub not_own : ¬ NeedsFor (sliding 3 1) PORTA_UP (InPattern 0 1)
+  pub no_option : (place : Place) → ¬ NeedsFor (sliding 1 3) SKIP_EFFECTS place
+
+-- ---- the order
+
+abbrev pub ComesBefore : Place → Place → Type 0
+ComesBefore place other = IsNotAfter place other × ¬ IsNotAfter other place
+
+-- orderlists come before patterns, these before instruments, and the wave table last; subtunes come before channels and
+-- these before entries, patterns before rows, and numbers ascend
+pub record PlacesInOrder : Type 0 where
+  pub orderlists : ComesBefore (InOrder 9 3 9) (InPattern 0 0)
+  pub before_instruments : ComesBefore (InPattern 9 9) (InInstrument 1)
+  pub before_tables : ComesBefore (InInstrument 63) (InWaveTable 1)
+  pub subtunes : ComesBefore (InOrder 1 3 0) (InOrder 2 1 0)
+  pub channels : ComesBefore (InOrder 1 1 4) (InOrder 1 2 3)
+  pub entries : ComesBefore (InOrder 1 1 3) (InOrder 1 1 4)
+  pub patterns : ComesBefore (InPattern 1 4) (InPattern 2 3)
+  pub rows : ComesBefore (InPattern 1 3) (InPattern 1 4)
+  pub instruments : ComesBefore (InInstrument 1) (InInstrument 2)
+  pub wave_rows : ComesBefore (InWaveTable 3) (InWaveTable 4)

@@ -1,0 +1,170 @@
+//! What of a song needs a feature.
+
+ghost use Rattle.std.specs.Prelude.{◌≡◌, ◌≢◌, ℕ, ◌+◌, ◌%◌, ◌≤◌, ◌⊎◌, ◌↔◌, IsTrue, Some};
+ghost use Rattle.song_model.specs.declared.songs.Song.{Song as AnySong};
+ghost use Rattle.song_model.specs.declared.tables.TableName.TheVariants.{Speed};
+ghost use Rattle.song_model.specs.LookUp.{speed_row};
+ghost use Rattle.play_model.specs.Features.{IsAny, HasFeature};
+ghost use Rattle.song_places.specs.declared.places.Place.{Place};
+ghost use Rattle.song_places.specs.Needs.{Points};
+ghost use Rattle.song_places.specs.Places.{IsNeededAt, NeedsAt};
+ghost use Rattle.song_places.specs.Search.{IsParameter, meant};
+
+use song_model::{
+    Feature, Instrument, Row, Song, TableName, TableRow, command_table, wave_row_table,
+};
+
+/// Which parameters of a command are meant.
+#[derive(Clone, Copy)]
+pub(crate) enum Parameter {
+    /// Each.
+    Any,
+    /// 0.
+    Zero,
+    /// Another than 0.
+    Other,
+}
+
+impl Parameter {
+    /// Whether this parameter is meant.
+    fn holds(self, parameter: u8) -> bool
+        ensures { IsTrue result ↔ IsParameter self parameter }
+    {
+        match self {
+            Parameter::Any => true,
+            Parameter::Zero => parameter == 0,
+            Parameter::Other => parameter != 0,
+        }
+    }
+}
+
+/// What is looked for.
+#[derive(Clone, Copy)]
+pub(crate) enum Wanted {
+    /// Bytes of orderlists from the first number to the second.
+    Bytes(u8, u8),
+    /// A command of rows of patterns and of the wave table.
+    Command(u8, Parameter),
+    /// Command 8 of rows of patterns.
+    WavePointer,
+    /// Commands `$E`, and `$F` with 0 or 1, of rows of patterns.
+    FunkTempo,
+    /// Command `$F` of rows of patterns with `$03`-`$7F` or `$83`-`$FF`.
+    Tempo,
+    /// Pointers into a table.
+    Pointers(TableName),
+    /// Pointers to speeds that are taken from the half tone at the last note.
+    NoteSpeeds,
+    /// Vibrato parameters of instruments.
+    Vibrato,
+    /// Commands of the wave table.
+    WaveCommands,
+}
+
+/// Whether a number points into a table.
+fn points(table: Option<TableName>, name: TableName, pointer: u8) -> bool
+    ensures { IsTrue result ↔ Points name IsAny table pointer }
+{
+    table == Some(name) && pointer != 0
+}
+
+/// Whether a number points to a speed that is taken from the half tone at the last note.
+fn points_at_note_speed(song: &Song, table: Option<TableName>, pointer: u8) -> bool
+    ensures { IsTrue result ↔
+        Points Speed (λ p. 0x80 ≤ (speed_row song.now p).left) table pointer }
+{
+    points(table, TableName::Speed, pointer) && song.speed(pointer).left >= 0x80
+}
+
+impl Wanted {
+    /// What a feature needs, in a song that uses it.
+    pub(crate) fn of(feature: Feature) -> Wanted
+        ensures { (song : AnySong) → HasFeature song feature → (place : Place) →
+            IsNeededAt song (meant song result) place ↔ NeedsAt song feature place }
+    {
+        match feature {
+            Feature::Transpose => Wanted::Bytes(0xe0, 0xfe),
+            Feature::Repeat => Wanted::Bytes(0xd0, 0xdf),
+            Feature::PortaUp => Wanted::Command(1, Parameter::Any),
+            Feature::PortaDown => Wanted::Command(2, Parameter::Any),
+            Feature::TonePorta => Wanted::Command(3, Parameter::Other),
+            Feature::TieNote => Wanted::Command(3, Parameter::Zero),
+            Feature::Vibrato => Wanted::Command(4, Parameter::Any),
+            Feature::InstrumentVibrato => Wanted::Vibrato,
+            Feature::NoteDependent => Wanted::NoteSpeeds,
+            Feature::SetAd => Wanted::Command(5, Parameter::Any),
+            Feature::SetSr => Wanted::Command(6, Parameter::Any),
+            Feature::SetWave => Wanted::Command(7, Parameter::Any),
+            Feature::SetWavePointer => Wanted::WavePointer,
+            Feature::PulseTable => Wanted::Pointers(TableName::Pulse),
+            Feature::SetPulsePointer => Wanted::Command(9, Parameter::Any),
+            Feature::FilterTable => Wanted::Pointers(TableName::Filter),
+            Feature::SetFilterPointer => Wanted::Command(0xa, Parameter::Any),
+            Feature::FilterControl => Wanted::Command(0xb, Parameter::Any),
+            Feature::Cutoff => Wanted::Command(0xc, Parameter::Any),
+            Feature::Volume => Wanted::Command(0xd, Parameter::Any),
+            Feature::FunkTempo => Wanted::FunkTempo,
+            Feature::SetTempo => Wanted::Tempo,
+            Feature::WaveTable => Wanted::Pointers(TableName::Wave),
+            Feature::WaveCommand => Wanted::WaveCommands,
+        }
+    }
+
+    /// Whether a byte of an orderlist is wanted.
+    pub(crate) fn is_byte(self, byte: u8) -> bool
+        ensures { (song : AnySong) → IsTrue result ↔ (meant song self).byte byte }
+    {
+        match self {
+            Wanted::Bytes(from, to) => from <= byte && byte <= to,
+            _ => false,
+        }
+    }
+
+    /// Whether a row of a pattern is wanted.
+    pub(crate) fn is_row(self, song: &Song, row: Row) -> bool
+        ensures { IsTrue result ↔ (meant song.now self).row row }
+    {
+        match self {
+            Wanted::Command(command, parameter) => {
+                row.command == command && parameter.holds(row.param)
+            }
+            Wanted::WavePointer => row.command == 8,
+            Wanted::FunkTempo => row.command == 0xe || (row.command == 0xf && row.param <= 1),
+            Wanted::Tempo => row.command == 0xf && row.param % 128 >= 3,
+            Wanted::Pointers(name) => points(command_table(row.command), name, row.param),
+            Wanted::NoteSpeeds => points_at_note_speed(song, command_table(row.command), row.param),
+            _ => false,
+        }
+    }
+
+    /// Whether an instrument is wanted.
+    pub(crate) fn is_instrument(self, song: &Song, instrument: &Instrument) -> bool
+        ensures { IsTrue result ↔ (meant song.now self).instrument instrument.now }
+    {
+        match self {
+            Wanted::Pointers(name) => points(Some(name), name, instrument.pointer(name)),
+            Wanted::NoteSpeeds => {
+                points_at_note_speed(song, Some(TableName::Speed), instrument.vibrato)
+            }
+            Wanted::Vibrato => instrument.vibrato != 0,
+            _ => false,
+        }
+    }
+
+    /// Whether a row of the wave table is wanted.
+    pub(crate) fn is_wave_row(self, song: &Song, row: TableRow) -> bool
+        ensures { IsTrue result ↔ (meant song.now self).wave_row row }
+    {
+        match self {
+            Wanted::Command(command, parameter) => {
+                row.left >= 0xf0 && row.left - 0xf0 == command && parameter.holds(row.right)
+            }
+            Wanted::Pointers(name) => points(wave_row_table(row.left), name, row.right),
+            Wanted::NoteSpeeds => {
+                points_at_note_speed(song, wave_row_table(row.left), row.right)
+            }
+            Wanted::WaveCommands => row.left >= 0xf0 && row.left <= 0xfe,
+            _ => false,
+        }
+    }
+}
