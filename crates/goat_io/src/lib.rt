@@ -32,6 +32,3 @@ pub use mem_folder::MemFolder;
 pub use mem_sink::MemSink;
 pub use sink::Sink;
 pub use std_sink::StdSink;
-
-#[cfg(test)]
-mod tests;
