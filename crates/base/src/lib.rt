@@ -13,6 +13,3 @@ mod no_memory;
 
 pub use items::{ByteList, Items};
 pub use no_memory::NoMemory;
-
-#[cfg(test)]
-mod tests;

@@ -12,7 +12,7 @@ use song_model::ENDMARK;
 const FIRST_REPEAT: u8 = 0xd0;
 
 impl PackedSong {
-    /// The count of the loop that walks its orderlists, in looks at a byte: one more than the most bytes `$D0-$FF` that
+    /// The count of the walks of its orderlists, in looks at a byte: one more than the most bytes `$D0-$FF` that
     /// stand one behind the other on the way to a pattern's number, from any place of any orderlist. Behind the
     /// endmark, which is one of them, the way goes on at the restart position. It is 255 where that is more.
     #[tactic(auto, unfolding(crate::specs::WalkCount::walk_count))]

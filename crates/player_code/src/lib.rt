@@ -6,6 +6,7 @@
 //! entrances' lines and nowhere on the stack.
 //!
 //! It stands on `player_text` for the blocks, on `scope_calls` for what an entrance is, and on `asm6502` for listings.
+//! See `docs/player-blocks.md`.
 #![tactic(auto)]
 
 pub mod claims;

@@ -3,14 +3,15 @@
 //! Each block stands once, as a constant: what it does, what it finds in the registers and what it leaves in them is
 //! said above it. The blocks of a song's features and of options stand under conditions. A comment behind such a
 //! condition says where the block is idle: there it changes no byte, comes to its own end, and keeps the registers that
-//! are named, so that it can be left out; or that it isn't come to. Scopes that are left from within blocks of their
-//! own are in `joints`.
+//! are named, so that it can be left out; or that it isn't come to. `idle_parts` claims it. Scopes that are left from
+//! within blocks of their own are in `joints`.
 //!
 //! The layer's one contract: the blocks are joined as the lists of their pieces say (`texts`), and the whole has lines
 //! whichever conditions hold, rests on the registers that it is given alone, and is as long and as heavy as is said
 //! here.
 //!
-//! It stands on `player_memory` for labels and conditions, and on `scopes` for the language. See `docs/scopes.md`.
+//! It stands on `player_memory` for labels and conditions, and on `scopes` for the language. See
+//! `docs/player-blocks.md`.
 #![tactic(auto)]
 
 pub mod claims;

@@ -23,7 +23,7 @@ const ROW: u8 = 6;
 
 /// One row of the voice's pulse program, or one frame of it. It keeps no register.
 pub const PULSE: &[Line] = text! {
-    when PULSE_TABLE {
+    when PULSE_TABLE { // Idle where PULSE_POINTER is 0; keeps no register.
         scope STAYS {
             Ldy Own PULSE_POINTER;
             leave STAYS on Zero;

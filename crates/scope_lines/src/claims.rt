@@ -15,8 +15,8 @@ pub fn lowered_blocks_do()
     ensures { LoweredBlocksDo }
 {}
 
-/// A block that reads the registers that are known alone does the same whatever was in the others and in the places
-/// that it may not read.
+/// A tree that reads the registers that are known alone does the same whatever was in the others and in the places that
+/// it may not read, where neither run is stuck; so does a block, where both come to their end.
 pub fn lowered_blocks_are_isolated()
     ensures trees { TreesAreIsolated }
     ensures blocks { LoweredBlocksAreIsolated }

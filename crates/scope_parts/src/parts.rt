@@ -69,7 +69,7 @@ fn push_open<'a>(
 ///
 /// # Errors
 ///
-/// Out of memory.
+/// Out of memory; the list may have a beginning of them then.
 pub fn push_parts(
     list: &mut ByteList,
     lines: &[Line],
