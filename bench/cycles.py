@@ -4,8 +4,8 @@
 Packs each song at $1000 and $FC, and plays each of its subtunes on a machine of this folder's own, with one init and N
 plays (3000 unless given). Prints how long the image is, and for each subtune the cycles of init, the greatest and the
 mean number of a play, the first call that takes the greatest, and how much of a picture that is: a PAL picture has 312
-raster lines of 63 cycles. A call's cycles are those from its first instruction to its RTS; the JSR before it takes 6
-more.
+raster lines of 63 cycles. Of several subtunes it prints the greatest and the mean of them all, too. A call's cycles are
+those from its first instruction to its RTS; the JSR before it takes 6 more.
 
 After each call the SID's registers must be those of `goat trace`, and nothing may have been written but the image, the
 two bytes of page 0, the stack, the registers, and with a SPEED above 1 the timer; else the status is 1. SONG is a
@@ -87,6 +87,7 @@ def main():
     for song in songs:
         image, subtunes = packed(program, song, words.options)
         print("%s: image of %d bytes" % (os.path.basename(song), len(image)))
+        greatest, means = [], []
         for subtune in range(subtunes):
             wanted = traced(program, song, subtune, words.calls, words.options)
             first, plays, wrong = measured(image, subtune, wanted, int(words.options[1]))
@@ -94,9 +95,13 @@ def main():
             mean = sum(plays) / max(1, len(plays))
             print("  subtune %d: init %d cycles; play %d at most (call %d; %.1f raster lines, %.1f %% of a picture), %d in the mean"
                   % (subtune + 1, first, most, plays.index(most) + 1 if plays else 0, most / LINE, 100 * most / PICTURE, mean))
+            greatest.append(most)
+            means.append(mean)
             if wrong:
                 right = False
                 print("  " + wrong)
+        if subtunes > 1:
+            print("  all subtunes: play %d at most, %d in the mean" % (max(greatest), sum(means) / subtunes))
     sys.exit(0 if right else 1)
 
 
