@@ -1,6 +1,6 @@
 -- Where the parts of the effect step, of the fetch, of the walk and of the filter do nothing.
 use Rattle.std.proofs.Common.{◌≡◌, ◌≢◌, ℕ, ◌+◌, ◌%◌, ◌<◌, ◌⊎◌, [], Bool, true, false, nat_eq}
-use Rattle.std.proofs.Common.{nat_le, refl, ◌∙◌, sym, ap, inl, inr, lit<, arith}
+use Rattle.std.proofs.Common.{nat_le, refl, ◌∙◌, sym, subst, inl, inr, lit<, arith}
 use Rattle.std.proofs.lemmas.Bool.{le-leb, lt-leb, ne_eqb, eq-eqb}
 use Rattle.std.proofs.lemmas.Bool.Decides.{eqb_tells}
 use Rattle.play_model.specs.State.{Playing}
@@ -74,50 +74,66 @@ fetches_idle {layout} {rows} {voice} {s} {desk} h = record {
       });
 }
 
--- what the code reads there, where there is a parameter and the delay is 255
-record ReadsDelay (layout : Layout) (desk : Desk) (param tick : ℕ) : Type 0 where
+-- what the code reads there, where there is a parameter
+record ReadsDelay (layout : Layout) (desk : Desk) (param tick delay : ℕ) : Type 0 where
   sees_param : layout.may_read ((layout.address PARAM + desk.cpu.x) % 65536) ≡ true
   is_param : desk.at ((layout.address PARAM + desk.cpu.x) % 65536) ≡ param
   some : nat_eq param 0 ≡ false
   sees_tick : layout.may_read ((layout.address TICK + desk.cpu.x) % 65536) ≡ true
   is_tick : desk.at ((layout.address TICK + desk.cpu.x) % 65536) ≡ tick
   sees_delay : layout.may_read ((layout.address VIB_DELAY + desk.cpu.x) % 65536) ≡ true
-  is_delay : desk.at ((layout.address VIB_DELAY + desk.cpu.x) % 65536) ≡ 255
+  is_delay : desk.at ((layout.address VIB_DELAY + desk.cpu.x) % 65536) ≡ (delay + 255) % 256
 
--- whether the step is left out or not
-delay_idles : (layout : Layout) (desk : Desk) (param tick : ℕ) (k z : Bool) → ReadsDelay layout desk param tick →
-    layout.holds SKIP_EFFECTS ≡ k → nat_eq tick 0 ≡ z → Idles layout (part INSTRUMENT_VIBRATO 0 EFFECT_BEGUN.now) desk []
-delay_idles layout desk param tick false z c holds zero = record {
-  ends = rw (c.sees_param, c.is_param, c.some, holds, c.sees_delay, c.is_delay) refl;
-  stays = λ place. rw (c.sees_param, c.is_param, c.some, holds, c.sees_delay, c.is_delay) refl;
-  x = rw (c.sees_param, c.is_param, c.some, holds, c.sees_delay, c.is_delay) refl;
-  decimal = rw (c.sees_param, c.is_param, c.some, holds, c.sees_delay, c.is_delay) refl;
-  kept_are = tt;
-}
-delay_idles layout desk param tick true true c holds zero = record {
-  ends = rw (c.sees_param, c.is_param, c.some, holds, c.sees_tick, c.is_tick, zero) refl;
-  stays = λ place. rw (c.sees_param, c.is_param, c.some, holds, c.sees_tick, c.is_tick, zero) refl;
-  x = rw (c.sees_param, c.is_param, c.some, holds, c.sees_tick, c.is_tick, zero) refl;
-  decimal = rw (c.sees_param, c.is_param, c.some, holds, c.sees_tick, c.is_tick, zero) refl;
-  kept_are = tt;
-}
-delay_idles layout desk param tick true false c holds zero = record {
-  ends = rw (c.sees_param, c.is_param, c.some, holds, c.sees_tick, c.is_tick, zero, c.sees_delay, c.is_delay) refl;
-  stays = λ place. rw (c.sees_param, c.is_param, c.some, holds, c.sees_tick, c.is_tick, zero, c.sees_delay, c.is_delay) refl;
-  x = rw (c.sees_param, c.is_param, c.some, holds, c.sees_tick, c.is_tick, zero, c.sees_delay, c.is_delay) refl;
-  decimal = rw (c.sees_param, c.is_param, c.some, holds, c.sees_tick, c.is_tick, zero, c.sees_delay, c.is_delay) refl;
-  kept_are = tt;
-}
-
-is_over : (param delay : ℕ) → (param ≡ 0) ⊎ (delay ≡ 0) → param ≢ 0 → delay ≡ 0
-is_over param delay (inl bare) some = absurd (some bare)
-is_over param delay (inr over) some = over
-
--- the vibrato's parameter is 0, or its delay 255
-vibrato_idles : {layout : Layout} {rows voice : ℕ} {s : Playing} {desk : Desk} → HoldsVoice layout rows voice s desk →
-    (s.voice.param ≡ 0) ⊎ (s.voice.vib_delay ≡ 0) →
+-- the step is left out
+skip_idles : (layout : Layout) (desk : Desk) (param tick delay : ℕ) → ReadsDelay layout desk param tick delay →
+    layout.holds SKIP_EFFECTS ≡ true → nat_eq tick 0 ≡ true →
     Idles layout (part INSTRUMENT_VIBRATO 0 EFFECT_BEGUN.now) desk []
-vibrato_idles {layout} {rows} {voice} {s} {desk} h none =
+skip_idles layout desk param tick delay c holds zero =
+    record {
+      ends = rw (c.sees_param, c.is_param, c.some, holds, c.sees_tick, c.is_tick, zero) refl;
+      stays = λ place. rw (c.sees_param, c.is_param, c.some, holds, c.sees_tick, c.is_tick, zero) refl;
+      x = rw (c.sees_param, c.is_param, c.some, holds, c.sees_tick, c.is_tick, zero) refl;
+      decimal = rw (c.sees_param, c.is_param, c.some, holds, c.sees_tick, c.is_tick, zero) refl;
+      kept_are = tt;
+    }
+
+-- the delay is 255, whether the step is left out or not
+delay_idles : (layout : Layout) (desk : Desk) (param tick : ℕ) (k z : Bool) → ReadsDelay layout desk param tick 0 →
+    layout.holds SKIP_EFFECTS ≡ k → nat_eq tick 0 ≡ z →
+    Idles layout (part INSTRUMENT_VIBRATO 0 EFFECT_BEGUN.now) desk []
+delay_idles layout desk param tick true true c holds zero = skip_idles layout desk param tick 0 c holds zero
+delay_idles layout desk param tick false z c holds zero =
+    record {
+      ends = rw (c.sees_param, c.is_param, c.some, holds, c.sees_delay, c.is_delay) refl;
+      stays = λ place. rw (c.sees_param, c.is_param, c.some, holds, c.sees_delay, c.is_delay) refl;
+      x = rw (c.sees_param, c.is_param, c.some, holds, c.sees_delay, c.is_delay) refl;
+      decimal = rw (c.sees_param, c.is_param, c.some, holds, c.sees_delay, c.is_delay) refl;
+      kept_are = tt;
+    }
+delay_idles layout desk param tick true false c holds zero =
+    record {
+      ends = rw (c.sees_param, c.is_param, c.some, holds, c.sees_tick, c.is_tick, zero, c.sees_delay, c.is_delay) refl;
+      stays = λ place. rw (c.sees_param, c.is_param, c.some, holds, c.sees_tick, c.is_tick, zero, c.sees_delay, c.is_delay) refl;
+      x = rw (c.sees_param, c.is_param, c.some, holds, c.sees_tick, c.is_tick, zero, c.sees_delay, c.is_delay) refl;
+      decimal = rw (c.sees_param, c.is_param, c.some, holds, c.sees_tick, c.is_tick, zero, c.sees_delay, c.is_delay) refl;
+      kept_are = tt;
+    }
+
+-- the cases of a voice with a parameter
+some_idles : (layout : Layout) (desk : Desk) (param tick delay : ℕ) → ReadsDelay layout desk param tick delay →
+    param ≢ 0 → (param ≡ 0) ⊎ (delay ≡ 0) ⊎ ((layout.holds SKIP_EFFECTS ≡ true) × (tick ≡ 0)) →
+    Idles layout (part INSTRUMENT_VIBRATO 0 EFFECT_BEGUN.now) desk []
+some_idles layout desk param tick delay c some (inl bare) = absurd (some bare)
+some_idles layout desk param tick delay c some (inr (inl over)) =
+    delay_idles layout desk param tick _ _ (subst (ReadsDelay layout desk param tick) over c) refl refl
+some_idles layout desk param tick delay c some (inr (inr out)) =
+    skip_idles layout desk param tick delay c out.0 (eq-eqb tick 0 out.1)
+
+-- the vibrato's parameter is 0, its delay 255, or the step is left out
+vibrato_idles : {layout : Layout} {rows voice : ℕ} {s : Playing} {desk : Desk} → HoldsVoice layout rows voice s desk →
+    (s.voice.param ≡ 0) ⊎ (s.voice.vib_delay ≡ 0) ⊎ ((layout.holds SKIP_EFFECTS ≡ true) × (s.voice.tick ≡ 0)) →
+    Idles layout (part INSTRUMENT_VIBRATO 0 EFFECT_BEGUN.now) desk []
+vibrato_idles {layout} {rows} {voice} {s} {desk} h clear =
     let sees = own_sees h PARAM (lit< tt) in
     let is = own_is h PARAM s.voice.param (lit< tt) (own_bytes h).param in
     elim (eqb_tells s.voice.param 0) [
@@ -130,17 +146,15 @@ vibrato_idles {layout} {rows} {voice} {s} {desk} h none =
             decimal = rw (sees, is, z) refl;
             kept_are = tt;
           })
-      | inr some ↦ delay_idles layout desk s.voice.param s.voice.tick _ _ (record {
+      | inr some ↦ some_idles layout desk s.voice.param s.voice.tick s.voice.vib_delay (record {
         sees_param = sees;
         is_param = is;
         some = some.0;
         sees_tick = own_sees h TICK (lit< tt);
         is_tick = own_is h TICK s.voice.tick (lit< tt) (own_bytes h).tick;
         sees_delay = own_sees h VIB_DELAY (lit< tt);
-        is_delay = own_is h VIB_DELAY 255 (lit< tt)
-            ((own_bytes h).vib_delay
-            ∙ ap (λ (d : ℕ). (d + 255) % 256) (is_over s.voice.param s.voice.vib_delay none some.1));
-      }) refl refl
+        is_delay = own_is h VIB_DELAY ((s.voice.vib_delay + 255) % 256) (lit< tt) (own_bytes h).vib_delay;
+      }) some.1 clear
     ]
 
 pub effects_idle : {layout : Layout} {rows voice : ℕ} {s : Playing} {desk : Desk} →

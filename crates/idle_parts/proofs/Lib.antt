@@ -3,7 +3,10 @@ mod Reading
 -- Where parts do nothing: those of the tick step, of the wave and the pulse step; and the others.
 mod StepParts
 mod LaterParts
--- Where they stand, that they can be left out, and where they do something.
+-- Which there are, what leads to them, and that they can be left out.
+mod PartList
+mod Fronts
 mod PartPlaces
 mod LeftOut
+-- Where they do something.
 mod WorkedParts

@@ -1,5 +1,5 @@
 -- Where parts don't do nothing.
-use Rattle.std.proofs.Common.{◌≡◌, ◌≢◌, ℕ, ◌+◌, ◌%◌, Bool, true, false, nat_eq, eq-eqb, refl, sym, ◌∙◌, lit<, []}
+use Rattle.std.proofs.Common.{◌≡◌, ◌≢◌, ℕ, ◌+◌, ◌%◌, Bool, true, false, nat_eq, eq-eqb, refl, sym, ◌∙◌, lit<, arith, []}
 use Rattle.scopes.specs.Desk.{Desk, Layout}
 use Rattle.player_memory.specs.declared.conditions.TheConstants.{SET_AD}
 use Rattle.player_text.specs.declared.commands.TheConstants.{AD_SET}
@@ -27,5 +27,18 @@ parts_are_worked = record {
       let is = own_is h PULSE_POINTER 0 (lit< tt) ((own_bytes h).pulse_pointer ∙ none) in
       let y = rw (sees, is) at i.kept_are.0 in
       some (sym y));
+  carry = λ layout desk one off i. (
+      let c = rw (one, off) at i.kept_are.0 in absurd (cc));
+  bit = λ layout desk fifteen short i. (
+      let a = rw (fifteen, short) at i.kept_are.0 in absurd (omega (arith, a)));
+  x = λ layout desk one i. (
+      let down = rw one at i.x in absurd (omega (arith, down)));
+  stuck = λ layout desk found. let bad = found.ends in absurd (cc);
+  between = λ layout rows voice s desk eight h. (
+      let x = h.at_voice.x in absurd (omega (arith, x, eight)));
+  told = refl;
+  body = refl;
+  no_body = refl;
+  in_front = refl;
   none = λ layout desk i. let bad = i.ends in absurd (cc);
 }

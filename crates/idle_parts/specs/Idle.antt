@@ -18,7 +18,8 @@ bodies condition (ThenTree first rest) = bodies condition first ++ bodies condit
 bodies condition (ScopeTree name body) = bodies condition body
 bodies condition (LoopTree count body) = bodies condition body
 bodies condition (WhenTree own body) = (if own == condition then body ∷ [] else []) ++ bodies condition body
-bodies condition (ChooseTree own this other) = bodies condition this ++ bodies condition other
+bodies condition (ChooseTree own this other) =
+    (if own == condition then this ∷ other ∷ [] else []) ++ bodies condition this ++ bodies condition other
 bodies condition tree = []
 
 -- the one with a number, counted from 0, in a block; where there is none nothing comes to its end
@@ -30,11 +31,13 @@ has_body condition (ThenTree first rest) = has_body condition first || has_body 
 has_body condition (ScopeTree name body) = has_body condition body
 has_body condition (LoopTree count body) = has_body condition body
 has_body condition (WhenTree own body) = own == condition || has_body condition body
-has_body condition (ChooseTree own this other) = has_body condition this || has_body condition other
+has_body condition (ChooseTree own this other) =
+    own == condition || has_body condition this || has_body condition other
 has_body condition tree = false
 
--- The lines that stand in front of the first one: the scopes in which it stands are left out, so that what leaves one of
--- them doesn't come to the end.
+-- The lines that stand in front of the first one, up to where it is come to for the first time. The scopes in which it
+-- stands are left out, so that what leaves one of them doesn't come to the end, and so are the conditions, which are taken
+-- to hold.
 abbrev pub front : ℕ → Tree → Tree
 front condition (ThenTree first rest) =
     if has_body condition first then front condition first else ThenTree first (front condition rest)
@@ -42,7 +45,9 @@ front condition (ScopeTree name body) = front condition body
 front condition (LoopTree count body) = front condition body
 front condition (WhenTree own body) = if own == condition then NoneTree else front condition body
 front condition (ChooseTree own this other) =
-    if has_body condition this then front condition this else front condition other
+    if own == condition then NoneTree
+    else if has_body condition this then front condition this
+    else front condition other
 front condition tree = NoneTree
 
 -- where a run from a desk at the block's beginning is then
@@ -74,7 +79,7 @@ pub record Idles (layout : Layout) (body : Tree) (desk : Desk) (kept : List Kept
   pub decimal : (ran each_one layout body desk).desk.cpu.d ≡ desk.cpu.d
   pub kept_are : AreKept kept desk.cpu (ran each_one layout body desk).desk.cpu
 
--- they do, wherever the block comes to them from this desk
+-- they do, where the block comes to them from this desk for the first time
 abbrev pub IdlesWhereMet : Layout → ℕ → List Line → Desk → List Kept → Type 0
 IdlesWhereMet layout condition block desk kept =
     (met layout condition block desk).outcome ≡ Done →

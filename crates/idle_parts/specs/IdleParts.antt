@@ -12,6 +12,7 @@ use Rattle.player_memory.specs.declared.conditions.TheConstants.{SET_PULSE_POINT
 use Rattle.player_memory.specs.declared.conditions.TheConstants.{SET_FILTER_CONTROL, SET_CUTOFF, SET_VOLUME, SET_TEMPO}
 use Rattle.player_memory.specs.declared.conditions.TheConstants.{WAVE_TABLE, WAVE_COMMAND, PULSE_TABLE, FILTER_TABLE}
 use Rattle.player_memory.specs.declared.conditions.TheConstants.{INSTRUMENT_VIBRATO, NOTE_DEPENDENT, SWINGS, PORTA_UP}
+use Rattle.player_memory.specs.declared.conditions.TheConstants.{SKIP_EFFECTS}
 use Rattle.player_memory.specs.declared.conditions.TheConstants.{PORTA_DOWN, TONE_PORTA, TIE_NOTE, TRANSPOSES, REPEATS}
 use Rattle.player_memory.specs.declared.labels.TheConstants.{WAVE_LEFTS, SPEED_LEFTS, LENT, TRANSPOSE, REPEAT}
 use Rattle.player_memory.specs.Rooms.{IsRoom, MayUse}
@@ -79,8 +80,9 @@ pub record ProgramsIdle (layout : Layout) (rows voice : ℕ) (s : Playing) (desk
 -- ---- the effect step
 
 pub record EffectsIdle (layout : Layout) (rows voice : ℕ) (s : Playing) (desk : Desk) : Type 0 where
-  -- the instrument's vibrato, where no command runs: it has no parameter, or no delay is left that would end
-  pub vibrato : (s.voice.param ≡ 0) ⊎ (s.voice.vib_delay ≡ 0) →
+  -- the instrument's vibrato, where no command runs: it has no parameter, or a delay of 0, which never ends, or the step
+  -- is left out
+  pub vibrato : (s.voice.param ≡ 0) ⊎ (s.voice.vib_delay ≡ 0) ⊎ ((layout.holds SKIP_EFFECTS ≡ true) × (s.voice.tick ≡ 0)) →
       IdlesWhereMet layout INSTRUMENT_VIBRATO EFFECT_BEGUN.now desk []
   -- the left side of the row of the speed table is below $80; A is the command that runs, 4 for the instrument's vibrato
   pub speed : (command left : ℕ) → IsListed layout rows desk.at SPEED_LEFTS s.voice.param left → left < 0x80 →

@@ -1,6 +1,8 @@
--- To believe: when lines do nothing, and where the parts stand.
+-- To believe: when lines do nothing, which parts there are, and what leads to them.
 pub mod Idle
 pub mod IdleParts
+pub mod PartList
+pub mod Fronts
 pub mod Places
 pub mod LeftOut
 -- Worked by hand.

@@ -1,13 +1,24 @@
 -- Where parts don't do nothing, worked by hand.
-use Rattle.std.specs.Prelude.{◌≡◌, ◌≢◌, ℕ, ◌+◌, ◌%◌, [], ◌∷◌}
+use Rattle.std.specs.Prelude.{◌≡◌, ◌≢◌, ℕ, ◌+◌, ◌%◌, false, [], ◌∷◌}
+use Rattle.cpu6502.specs.declared.mnemonic.Mnemonic.TheVariants.{Dex}
 use Rattle.play_model.specs.State.{Playing}
 use Rattle.scopes.specs.Desk.{Desk, Layout}
-use Rattle.player_memory.specs.declared.conditions.TheConstants.{SET_AD, PULSE_TABLE, PORTA_UP}
+use Rattle.scopes.specs.Trees.{Tree, DoTree, NoneTree, ThenTree, ScopeTree, LeaveTree, WhenTree, NeverTree}
+use Rattle.scopes.specs.Meaning.{each_one, ran}
+use Rattle.player_memory.specs.declared.conditions.TheConstants.{SET_AD, SET_TEMPO, PULSE_TABLE, PORTA_UP, TIE_NOTE}
 use Rattle.player_memory.specs.declared.labels.TheConstants.{AD}
-use Rattle.player_text.specs.declared.commands.TheConstants.{AD_SET}
-use Rattle.player_text.specs.declared.slide.TheConstants.{PORTA_STEP}
+use Rattle.player_text.specs.declared.commands.TheConstants.{AD_SET, TEMPO_SET}
+use Rattle.player_text.specs.declared.slide.TheConstants.{PORTA_STEP, TONE_STEP}
 use Rattle.player_text.specs.declared.pulse.TheConstants.{PULSE}
-use Rattle.idle_parts.specs.Idle.{Y, Idles, HoldsVoice, part}
+use Rattle.idle_parts.specs.Idle.{A, Y, Carry, Idles, HoldsVoice, bodies, front, part}
+use Rattle.idle_parts.specs.Fronts.{Finds}
+use Rattle.idle_parts.specs.Places.{leaves}
+
+-- an instruction, a leave under condition 5, and another one
+abbrev pub small : Tree
+small =
+    ScopeTree 1
+    (ThenTree (DoTree Dex) (ThenTree (WhenTree 5 (ThenTree (LeaveTree 1) NoneTree)) (ThenTree (LeaveTree 1) NoneTree)))
 
 pub record PartsAreWorked : Type 0 where
   -- a command that is done changes a byte, and command 1 leaves the block
@@ -19,5 +30,22 @@ pub record PartsAreWorked : Type 0 where
   pub register : (layout : Layout) (rows voice : ℕ) (s : Playing) (desk : Desk) →
       HoldsVoice layout rows voice s desk → s.voice.pulse_ptr ≡ 0 → desk.cpu.y ≢ 0 →
       ¬ Idles layout (part PULSE_TABLE 0 PULSE.now) desk (Y ∷ [])
+  -- the tie of a parameter sets the carry, and a short tempo of one voice loses its bit 7
+  pub carry : (layout : Layout) (desk : Desk) → desk.cpu.y ≡ 1 → desk.cpu.c ≡ false →
+      ¬ Idles layout (part TIE_NOTE 0 TONE_STEP.now) desk (Carry ∷ [])
+  pub bit : (layout : Layout) (desk : Desk) → desk.cpu.y ≡ 0xF → desk.cpu.a ≡ 0x81 →
+      ¬ Idles layout (part SET_TEMPO 0 TEMPO_SET.now) desk (A ∷ [])
+  -- an instruction that counts X down isn't idle, and lines that aren't come to find nothing
+  pub x : (layout : Layout) (desk : Desk) → desk.cpu.x ≡ 1 → ¬ Idles layout (DoTree Dex) desk []
+  pub stuck : (layout : Layout) (desk : Desk) →
+      ¬ Finds desk.cpu.a desk.cpu.y (ran each_one layout NeverTree desk) desk
+  -- a desk with 8 in X is at no voice
+  pub between : (layout : Layout) (rows voice : ℕ) (s : Playing) (desk : Desk) → desk.cpu.x ≡ 8 →
+      ¬ HoldsVoice layout rows voice s desk
+  -- of two lines that leave a scope each tells its own conditions, and a body is told where its condition is meant
+  pub told : leaves 1 small ≡ (5 ∷ []) ∷ [] ∷ []
+  pub body : bodies 5 small ≡ ThenTree (LeaveTree 1) NoneTree ∷ []
+  pub no_body : bodies 6 small ≡ []
+  pub in_front : front 5 small ≡ ThenTree (DoTree Dex) NoneTree
   -- a part that isn't there does nothing of its own, and isn't one that idles
   pub none : (layout : Layout) (desk : Desk) → ¬ Idles layout (part PORTA_UP 1 PORTA_STEP.now) desk []

@@ -7,7 +7,10 @@ ghost use Rattle.idle_parts.specs.Idle.{HoldsVoice};
 ghost use Rattle.idle_parts.specs.IdleParts.{TemposIdle, CommandsIdle, ProgramsIdle, EffectsIdle};
 ghost use Rattle.idle_parts.specs.IdleParts.{FetchesIdle, FiltersIdle};
 ghost use Rattle.idle_parts.specs.LeftOut.{PartsCanBeLeftOut};
-ghost use Rattle.idle_parts.specs.Places.{PartsAreComeTo, PartsAreCounted, CommandsAreFound, PlaysAreFound};
+ghost use Rattle.idle_parts.specs.Fronts.{FrontsEnd, StoredIsLow, CommandsAreFound, EffectsAreFound};
+ghost use Rattle.idle_parts.specs.Fronts.{NotesAreFound, LentAreFound, PlaysAreFound};
+ghost use Rattle.idle_parts.specs.PartList.{PartsAreThese};
+ghost use Rattle.idle_parts.specs.Places.{PartsAreComeTo, SlidesLeave};
 ghost use Rattle.idle_parts.specs.WorkedParts.{PartsAreWorked};
 
 /// Where a memory holds a state that keeps clear of a part, the part's lines come to their own end, and leave each
@@ -25,13 +28,25 @@ pub fn parts_are_idle()
     ensures filters { FiltersIdle }
 {}
 
-/// How many parts there are under each condition, which lines lead to those that no clear state comes to, that the
-/// commands of a row find the row's command and its parameter, and what the walk of an orderlist finds.
-#[tactic(auto, using(crate::proofs::PartPlaces::parts_are_counted, crate::proofs::PartPlaces::parts_are_come_to, crate::proofs::PartPlaces::commands_are_found, crate::proofs::PartPlaces::plays_are_found))]
+/// Which parts there are, and which lines lead to those that no clear state comes to.
+#[tactic(auto, using(crate::proofs::PartList::parts_are_these, crate::proofs::PartPlaces::parts_are_come_to, crate::proofs::PartPlaces::slides_leave))]
 pub fn parts_have_places()
-    ensures counts { PartsAreCounted }
+    ensures parts { PartsAreThese }
     ensures leaves { PartsAreComeTo }
+    ensures slides { (layout : Layout) (desk : Desk) → SlidesLeave layout desk }
+{}
+
+/// What the lines in front of the parts find, from memories that hold a state: that they come to their end there, and
+/// what is in A, Y and the carry then.
+#[tactic(auto, using(crate::proofs::Fronts::fronts_end, crate::proofs::Fronts::stored_is_low, crate::proofs::Fronts::commands_are_found, crate::proofs::Fronts::effects_are_found, crate::proofs::Fronts::notes_are_found, crate::proofs::Fronts::lent_are_found, crate::proofs::Fronts::plays_are_found))]
+pub fn parts_are_met()
+    ensures fronts { (layout : Layout) (rows voice : ℕ) (s : Playing) (desk : Desk) →
+        HoldsVoice layout rows voice s desk → FrontsEnd layout rows voice s desk }
+    ensures stored { StoredIsLow }
     ensures commands { CommandsAreFound }
+    ensures effects { EffectsAreFound }
+    ensures notes { NotesAreFound }
+    ensures lent { LentAreFound }
     ensures plays { PlaysAreFound }
 {}
 

@@ -1,0 +1,67 @@
+-- Which parts the player has: under each condition of a song's features, and of what they have in common, those of its
+-- blocks that have a law. This is the project's own player.
+use Rattle.std.specs.Prelude.{◌≡◌, [], ◌∷◌, ◌++◌}
+use Rattle.player_memory.specs.declared.conditions.TheConstants.{TRANSPOSES, REPEATS, PORTA_UP, PORTA_DOWN, TONE_PORTA}
+use Rattle.player_memory.specs.declared.conditions.TheConstants.{TIE_NOTE, VIBRATO, INSTRUMENT_VIBRATO, NOTE_DEPENDENT, SET_AD}
+use Rattle.player_memory.specs.declared.conditions.TheConstants.{SET_SR, SET_WAVE, SET_WAVE_POINTER, PULSE_TABLE, SET_PULSE_POINTER}
+use Rattle.player_memory.specs.declared.conditions.TheConstants.{FILTER_TABLE, SET_FILTER_POINTER, SET_FILTER_CONTROL, SET_CUTOFF, SET_VOLUME}
+use Rattle.player_memory.specs.declared.conditions.TheConstants.{FUNK_TEMPO, SET_TEMPO, WAVE_TABLE, WAVE_COMMAND, SWINGS}
+use Rattle.player_memory.specs.declared.conditions.TheConstants.{CLIMB, DROP, RISE, SINK, FOUND_NOTE}
+use Rattle.player_text.specs.declared.commands.TheConstants.{AD_SET, CUTOFF_SET, FILTER_CONTROL_SET, FILTER_POINTER_SET, FUNK_CHOSEN}
+use Rattle.player_text.specs.declared.commands.TheConstants.{FUNK_SET, PULSE_POINTER_SET, SR_SET, TEMPO_SET, VOLUME_SET}
+use Rattle.player_text.specs.declared.commands.TheConstants.{WAVE_POINTER_SET, WAVE_SET}
+use Rattle.player_text.specs.declared.effect.TheConstants.{EFFECT_BEGUN}
+use Rattle.player_text.specs.declared.fetch.TheConstants.{ENTRY_READ}
+use Rattle.player_text.specs.declared.filter.TheConstants.{FILTER_STEP}
+use Rattle.player_text.specs.declared.pitch.TheConstants.{GIVEN_BACK}
+use Rattle.player_text.specs.declared.pulse.TheConstants.{PULSE}
+use Rattle.player_text.specs.declared.slide.TheConstants.{CLIMB_STEP, DROP_STEP, FOUND_STEP, PORTA_STEP, RISE_STEP}
+use Rattle.player_text.specs.declared.slide.TheConstants.{SINK_STEP, SPEED_STEP, SWING_STEP, TONE_STEP}
+use Rattle.player_text.specs.declared.tick.TheConstants.{FRAME_COUNTED}
+use Rattle.player_text.specs.declared.walk.TheConstants.{ORDER_WALKED, PLAY_REPEATED}
+use Rattle.player_text.specs.declared.wave.TheConstants.{WAVE_STEP}
+use Rattle.player_text.specs.Texts.{voice_tree, filter_tree}
+use Rattle.player_text.specs.Steps.{command_tree}
+use Rattle.idle_parts.specs.Idle.{bodies, part}
+
+-- commands 5 up but 8, $E and $F stand in a row's lines and in the wave table's
+pub record PartsAreThese : Type 0 where
+  pub transposes : bodies TRANSPOSES voice_tree
+      ≡ part TRANSPOSES 0 ORDER_WALKED.now ∷ part TRANSPOSES 0 ENTRY_READ.now ∷ []
+  pub repeats : bodies REPEATS voice_tree ≡ part REPEATS 0 PLAY_REPEATED.now ∷ part REPEATS 0 ORDER_WALKED.now ∷ []
+  pub up : bodies PORTA_UP voice_tree ≡ part PORTA_UP 0 PORTA_STEP.now ∷ []
+  pub down : bodies PORTA_DOWN voice_tree ≡ part PORTA_DOWN 0 PORTA_STEP.now ∷ []
+  pub tone : bodies TONE_PORTA voice_tree ≡ part TONE_PORTA 0 TONE_STEP.now ∷ []
+  pub tie : bodies TIE_NOTE voice_tree ≡ part TIE_NOTE 0 TONE_STEP.now ∷ []
+  pub vibrato : bodies VIBRATO voice_tree ≡ []
+  pub instrument : bodies INSTRUMENT_VIBRATO voice_tree ≡ part INSTRUMENT_VIBRATO 0 EFFECT_BEGUN.now ∷ []
+  pub speeds : bodies NOTE_DEPENDENT voice_tree
+      ≡ part NOTE_DEPENDENT 0 SPEED_STEP.now ∷ part NOTE_DEPENDENT 0 SWING_STEP.now ∷ []
+  pub ad : bodies SET_AD voice_tree ≡ part SET_AD 0 AD_SET.now ∷ part SET_AD 0 AD_SET.now ∷ []
+  pub sr : bodies SET_SR voice_tree ≡ part SET_SR 0 SR_SET.now ∷ part SET_SR 0 SR_SET.now ∷ []
+  pub wave : bodies SET_WAVE voice_tree ≡ part SET_WAVE 0 WAVE_SET.now ∷ part SET_WAVE 0 WAVE_SET.now ∷ []
+  pub wave_pointer : bodies SET_WAVE_POINTER voice_tree ≡ part SET_WAVE_POINTER 0 WAVE_POINTER_SET.now ∷ []
+  pub pulses : bodies PULSE_TABLE voice_tree ≡ part PULSE_TABLE 0 PULSE.now ∷ []
+  pub pulse_pointer : bodies SET_PULSE_POINTER voice_tree
+      ≡ part SET_PULSE_POINTER 0 PULSE_POINTER_SET.now ∷ part SET_PULSE_POINTER 0 PULSE_POINTER_SET.now ∷ []
+  pub filters : bodies FILTER_TABLE voice_tree ≡ []
+  pub the_filter : bodies FILTER_TABLE filter_tree ≡ part FILTER_TABLE 0 FILTER_STEP.now ∷ []
+  pub filter_pointer : bodies SET_FILTER_POINTER voice_tree
+      ≡ part SET_FILTER_POINTER 0 FILTER_POINTER_SET.now ∷ part SET_FILTER_POINTER 0 FILTER_POINTER_SET.now ∷ []
+  pub filter_control : bodies SET_FILTER_CONTROL voice_tree
+      ≡ part SET_FILTER_CONTROL 0 FILTER_CONTROL_SET.now ∷ part SET_FILTER_CONTROL 0 FILTER_CONTROL_SET.now ∷ []
+  pub cutoff : bodies SET_CUTOFF voice_tree ≡ part SET_CUTOFF 0 CUTOFF_SET.now ∷ part SET_CUTOFF 0 CUTOFF_SET.now ∷ []
+  pub volume : bodies SET_VOLUME voice_tree ≡ part SET_VOLUME 0 VOLUME_SET.now ∷ part SET_VOLUME 0 VOLUME_SET.now ∷ []
+  pub funk : bodies FUNK_TEMPO voice_tree
+      ≡ part FUNK_TEMPO 0 FRAME_COUNTED.now ∷ part FUNK_TEMPO 0 FUNK_SET.now ∷ part FUNK_TEMPO 0 FUNK_CHOSEN.now ∷ []
+  pub tempo : bodies SET_TEMPO voice_tree ≡ part SET_TEMPO 0 TEMPO_SET.now ∷ []
+  pub waves : bodies WAVE_TABLE voice_tree ≡ part WAVE_TABLE 0 WAVE_STEP.now ∷ []
+  pub commands : bodies WAVE_COMMAND voice_tree
+      ≡ part WAVE_COMMAND 0 WAVE_STEP.now ∷ part WAVE_COMMAND 1 WAVE_STEP.now
+      ∷ (bodies WAVE_COMMAND command_tree ++ part WAVE_COMMAND 0 GIVEN_BACK.now ∷ [])
+  pub swings : bodies SWINGS voice_tree ≡ part SWINGS 0 SWING_STEP.now ∷ []
+  pub climbs : bodies CLIMB voice_tree ≡ part CLIMB 0 CLIMB_STEP.now ∷ []
+  pub drops : bodies DROP voice_tree ≡ part DROP 0 DROP_STEP.now ∷ []
+  pub rises : bodies RISE voice_tree ≡ part RISE 0 RISE_STEP.now ∷ []
+  pub sinks : bodies SINK voice_tree ≡ part SINK 0 SINK_STEP.now ∷ []
+  pub found : bodies FOUND_NOTE voice_tree ≡ part FOUND_NOTE 0 FOUND_STEP.now ∷ []
