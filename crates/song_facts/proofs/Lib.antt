@@ -1,0 +1,2 @@
+-- Facts that are worked by hand.
+mod WorkedFacts

@@ -1,0 +1,201 @@
+-- Facts that are worked by hand.
+use Rattle.std.proofs.Common.{◌≡◌, ℕ, ◌↔◌, true, List, [], ◌∷◌, Contains}
+use Rattle.std.proofs.Common.{lit<, lit≤, inl, inr, refl, sym, ◌∙◌, ap, subst, arith}
+use Rattle.song_model.specs.declared.rows.Row.{Row}
+use Rattle.song_model.specs.declared.orders.Order.{Order}
+use Rattle.song_model.specs.declared.orders.Subtune.{Subtune}
+use Rattle.song_model.specs.declared.instruments.Instrument.{Instrument}
+use Rattle.song_model.specs.declared.tables.TableRow.{TableRow}
+use Rattle.song_model.specs.declared.tables.TableName.TheVariants.{Wave}
+use Rattle.song_model.specs.declared.songs.Song.{Song}
+use Rattle.song_model.specs.LookUp.{playable_subtunes, instrument_at, table_row, pattern_at}
+use Rattle.song_model.specs.Silence.{empty_song}
+use Rattle.play_model.specs.Used.{IsPlayedOrder, IsPlayedByte, IsUsedPattern, IsUsedRow, IsUsedInstrument}
+use Rattle.play_model.specs.Reached.{IsReached, IsPlayedPointer, of_instrument, of_row, played, pointed, led}
+use Rattle.play_model.specs.WorkedSongs.{row, sides, plucked, one_note, with_rows, with_instrument}
+use Rattle.song_facts.specs.declared.facts.Fact.{Fact}
+use Rattle.song_facts.specs.declared.facts.Fact.TheVariants.{RowTone, RowSlide, RowOnce, FirstMask, Legato, SoftRestart}
+use Rattle.song_facts.specs.declared.facts.Fact.TheVariants.{WaveDelay, GateNote}
+use Rattle.song_facts.specs.Facts.{IsMask, is_among, no_facts, HasSuchRow, HasSuchInstrument, HasSuchWaveRow, HasFact}
+use Rattle.song_facts.specs.WorkedFacts.{RowsAreTold, InstrumentsAreTold, SongsAreTold, SetsAreTold, song_of, wave_of}
+
+pub rows_are_told : RowsAreTold
+rows_are_told = record {
+  tone = refl;
+  no_tone = λ e. omega (arith, e);
+  slide = (omega arith, omega arith);
+  last_slide = (omega arith, omega arith);
+  no_command = λ e. (let low = e.0 in omega arith);
+  no_slide = λ e. (let high = e.1 in omega arith);
+  once = omega arith;
+  not_once = λ e. omega (arith, e);
+  key_off = inl refl;
+  key_on = inr refl;
+  rest = λ e. elim e [ inl off ↦ omega (arith, off) | inr on ↦ omega (arith, on) ];
+  delay = omega arith;
+  no_delay = λ e. omega (arith, e);
+}
+
+pub instruments_are_told : InstrumentsAreTold
+instruments_are_told = record {
+  nothing = inl refl;
+  mask = inr (omega arith);
+  waveform = λ e. elim e [ inl none ↦ omega (arith, none) | inr high ↦ omega (arith, high) ];
+  legato = λ e. omega (arith, e);
+  both = λ e. omega (arith, e);
+  no_legato = λ e. e refl;
+  soft = (refl, λ e. omega (arith, e));
+  not_soft = λ e. (let off = e.0 in omega arith);
+  hard = λ e. e.1 refl;
+}
+
+-- ---- songs that have a fact
+
+-- the first row of pattern 0 is used in the song of one note with these rows
+first_used : (r : Row) → IsUsedRow (with_rows (r ∷ []) one_note) r
+unfolding pattern_at
+first_used r = record {
+  pattern = 0;
+  used = record {
+    byte = record {
+      order = _;
+      played = record {
+        subtune = _;
+        playable = (0, omega arith, refl);
+        channel = 1;
+        is_channel = record { first = omega arith; last = omega arith };
+        order_is = refl;
+      };
+      entry = (0, omega arith, refl);
+    };
+    is_pattern = omega arith;
+  };
+  has = (0, omega arith, refl);
+}
+
+key_off_used : IsUsedRow one_note (row 0xBE 0 0 0)
+unfolding pattern_at
+key_off_used = record {
+  pattern = 0;
+  used = record {
+    byte = record {
+      order = _;
+      played = record {
+        subtune = _;
+        playable = (0, omega arith, refl);
+        channel = 1;
+        is_channel = record { first = omega arith; last = omega arith };
+        order_is = refl;
+      };
+      entry = (0, omega arith, refl);
+    };
+    is_pattern = omega arith;
+  };
+  has = (1, omega arith, refl);
+}
+
+wave_reached : (left : ℕ) → IsReached (wave_of left) Wave 1
+unfolding instrument_at
+wave_reached left = played (of_instrument 1 (inl refl) refl (λ e. omega (arith, e)))
+
+-- ---- songs that haven't it
+
+none_played : (song : Song) → playable_subtunes song ≡ [] → (order : Order) → ¬ IsPlayedOrder song order
+none_played song none order is =
+    nowhere is.subtune (subst (λ (all : List Subtune). Contains all is.subtune) none is.playable)
+  where
+    nowhere : (subtune : Subtune) → ¬ Contains [] subtune
+    nowhere subtune (k, inside, at) = omega (arith, inside)
+
+no_row : (song : Song) → playable_subtunes song ≡ [] → (r : Row) → ¬ IsUsedRow song r
+no_row song none r used = none_played song none used.used.byte.order used.used.byte.played
+
+no_such_row : (song : Song) → playable_subtunes song ≡ [] → (IsSuch : Row → Type 0) → ¬ HasSuchRow song IsSuch
+no_such_row song none IsSuch has = no_row song none has.row has.used
+
+first_alone : (song : Song) → playable_subtunes song ≡ [] → (i : ℕ) → IsUsedInstrument song i → i ≡ 1
+first_alone song none i (inl first) = first
+first_alone song none i (inr named) = absurd (no_row song none named.row named.used)
+
+such_first : (song : Song) → playable_subtunes song ≡ [] → (IsSuch : Instrument → Type 0) →
+    HasSuchInstrument song IsSuch → IsSuch (instrument_at song 1)
+such_first song none IsSuch has =
+    subst (λ (i : ℕ). IsSuch (instrument_at song i)) (first_alone song none has.instrument has.used) has.is_such
+
+no_pointer : (song : Song) → playable_subtunes song ≡ [] → (instrument_at song 1).wave ≡ 0 → (p : ℕ) →
+    ¬ IsPlayedPointer song Wave p
+no_pointer song none zero_is p (of_instrument i used is some) =
+    some (sym is ∙ ap (λ (n : ℕ). (instrument_at song n).wave) (first_alone song none i used) ∙ zero_is)
+no_pointer song none zero_is p (of_row r used command is some) = no_row song none r used
+
+none_reached : (song : Song) → playable_subtunes song ≡ [] → (instrument_at song 1).wave ≡ 0 → (p : ℕ) →
+    ¬ IsReached song Wave p
+none_reached song none zero_is p (played pointer) = no_pointer song none zero_is p pointer
+none_reached song none zero_is p (pointed r reached pointer) = none_reached song none zero_is r reached
+none_reached song none zero_is p (led q reached goes) = none_reached song none zero_is q reached
+
+pub songs_are_told : SongsAreTold
+unfolding instrument_at table_row
+songs_are_told = record {
+  tone = record { row = row 0x90 1 3 0; used = first_used (row 0x90 1 3 0); is_such = refl };
+  slide = record { row = row 0x90 1 4 0; used = first_used (row 0x90 1 4 0); is_such = (omega arith, omega arith) };
+  once = record { row = row 0x90 1 0xF 0; used = first_used (row 0x90 1 0xF 0); is_such = omega arith };
+  gate = record { row = row 0xBE 0 0 0; used = key_off_used; is_such = inl refl };
+  mask = record { instrument = 1; used = inl refl; is_such = inr (omega arith) };
+  legato = record { instrument = 1; used = inl refl; is_such = λ e. omega (arith, e) };
+  soft = record { instrument = 1; used = inl refl; is_such = (refl, λ e. omega (arith, e)) };
+  delay = record {
+    p = 1;
+    reached = wave_reached 0x0F;
+    is_such = omega arith;
+  };
+  not_played = λ has. no_such_row _ refl _ has;
+  not_named = λ has. plain (such_first _ refl IsMask has);
+  not_reached = λ has. none_reached _ refl refl has.p has.reached;
+}
+  where
+    plain : ¬ IsMask plucked
+    plain (inl none) = omega (arith, none)
+    plain (inr high) = omega (arith, high)
+
+-- ---- sets
+
+fact_of_empty : (fact : Fact) → HasFact empty_song fact → fact ≡ FirstMask
+unfolding instrument_at
+fact_of_empty RowTone has = absurd (no_such_row empty_song refl _ has)
+fact_of_empty RowSlide has = absurd (no_such_row empty_song refl _ has)
+fact_of_empty RowOnce has = absurd (no_such_row empty_song refl _ has)
+fact_of_empty FirstMask has = refl
+fact_of_empty Legato has = absurd (such_first empty_song refl _ has refl)
+fact_of_empty SoftRestart has = absurd ((such_first empty_song refl _ has).1 refl)
+fact_of_empty WaveDelay has = absurd (none_reached empty_song refl refl has.p has.reached)
+fact_of_empty GateNote has = absurd (no_such_row empty_song refl _ has)
+
+other : (fact : Fact) → ¬ (fact ≡ FirstMask) → ¬ HasFact empty_song fact
+other fact not has = not (fact_of_empty fact has)
+
+first_mask : HasFact empty_song FirstMask
+unfolding instrument_at
+first_mask = record { instrument = 1; used = inl refl; is_such = inl refl }
+
+empty_has : (fact : Fact) → (is_among (record no_facts { first_mask = true }) fact ≡ true) ↔ HasFact empty_song fact
+empty_has RowTone = (λ on. absurd cc, λ has. absurd (other RowTone (λ e. cc) has))
+empty_has RowSlide = (λ on. absurd cc, λ has. absurd (other RowSlide (λ e. cc) has))
+empty_has RowOnce = (λ on. absurd cc, λ has. absurd (other RowOnce (λ e. cc) has))
+empty_has FirstMask = (λ on. first_mask, λ has. refl)
+empty_has Legato = (λ on. absurd cc, λ has. absurd (other Legato (λ e. cc) has))
+empty_has SoftRestart = (λ on. absurd cc, λ has. absurd (other SoftRestart (λ e. cc) has))
+empty_has WaveDelay = (λ on. absurd cc, λ has. absurd (other WaveDelay (λ e. cc) has))
+empty_has GateNote = (λ on. absurd cc, λ has. absurd (other GateNote (λ e. cc) has))
+
+pub sets_are_told : SetsAreTold
+sets_are_told = record {
+  empty = record { each = empty_has };
+  none = λ are. (let on = (are.each FirstMask).1 first_mask in absurd cc);
+  another = λ are. (let on = (are.each FirstMask).1 first_mask in absurd cc);
+  more = λ are. no_such_row empty_song refl _ ((are.each GateNote).0 refl);
+  itself = λ fact has. has;
+  adds = λ adds.
+      no_such_row empty_song refl _
+      (adds GateNote (record { row = row 0xBE 0 0 0; used = key_off_used; is_such = inl refl }));
+}

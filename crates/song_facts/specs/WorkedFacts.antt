@@ -1,0 +1,70 @@
+-- Facts that are worked by hand, with what each refuses.
+use Rattle.std.specs.Prelude.{ℕ, true, [], ◌∷◌}
+use Rattle.song_model.specs.declared.songs.Song.{Song}
+use Rattle.song_model.specs.Silence.{empty_song}
+use Rattle.play_model.specs.WorkedSongs.{row, sides, plucked, one_note, with_rows, with_instrument}
+use Rattle.song_facts.specs.declared.facts.Fact.TheVariants.{RowTone, RowSlide, RowOnce, FirstMask, Legato, SoftRestart}
+use Rattle.song_facts.specs.declared.facts.Fact.TheVariants.{WaveDelay, GateNote}
+use Rattle.song_facts.specs.Facts.{IsTone, IsSlide, IsOnce, IsGateNote, IsMask, IsLegato, IsSoft, IsDelay}
+use Rattle.song_facts.specs.Facts.{HasFact, AreFacts, AddsNoFact, no_facts}
+
+-- each kind of row at its edges
+pub record RowsAreTold : Type 0 where
+  pub tone : IsTone (row 0x90 1 3 0)
+  pub no_tone : ¬ IsTone (row 0x90 1 4 0)
+  pub slide : IsSlide (row 0x90 1 1 0)
+  pub last_slide : IsSlide (row 0x90 1 4 0)
+  pub no_command : ¬ IsSlide (row 0x90 1 0 5)
+  pub no_slide : ¬ IsSlide (row 0x90 1 5 0)
+  pub once : IsOnce (row 0x90 1 5 0)
+  pub not_once : ¬ IsOnce (row 0x90 1 4 0)
+  pub key_off : IsGateNote (row 0xBE 0 0 0)
+  pub key_on : IsGateNote (row 0xBF 0 0 0)
+  pub rest : ¬ IsGateNote (row 0xBD 0 0 0)
+  pub delay : IsDelay (sides 0x0F 0)
+  pub no_delay : ¬ IsDelay (sides 0x10 0)
+
+-- and of instrument
+pub record InstrumentsAreTold : Type 0 where
+  pub nothing : IsMask (record plucked { first_wave = 0 })
+  pub mask : IsMask (record plucked { first_wave = 0xFE })
+  pub waveform : ¬ IsMask (record plucked { first_wave = 0xFD })
+  pub legato : IsLegato (record plucked { gate_timer = 0x42 })
+  pub both : IsLegato (record plucked { gate_timer = 0xC2 })
+  pub no_legato : ¬ IsLegato (record plucked { gate_timer = 0xBF })
+  pub soft : IsSoft (record plucked { gate_timer = 0x82 })
+  pub not_soft : ¬ IsSoft (record plucked { gate_timer = 0xC2 })
+  pub hard : ¬ IsSoft (record plucked { gate_timer = 0x3F })
+
+-- the song whose first pattern is a row with this note and command
+abbrev pub song_of : ℕ → ℕ → Song
+song_of note command = with_rows (row note 1 command 0 ∷ []) one_note
+
+-- the song of one note with another first row of its wave table
+abbrev pub wave_of : ℕ → Song
+wave_of left = record one_note { wave = sides left 0 ∷ sides 0xFF 0 ∷ [] }
+
+-- A song has a fact where something that it uses is such. A pattern that no orderlist names, an instrument that no row
+-- names and a row of the wave table that no program comes to give it none.
+pub record SongsAreTold : Type 0 where
+  pub tone : HasFact (song_of 0x90 3) RowTone
+  pub slide : HasFact (song_of 0x90 4) RowSlide
+  pub once : HasFact (song_of 0x90 0xF) RowOnce
+  pub gate : HasFact one_note GateNote
+  pub mask : HasFact (with_instrument (record plucked { first_wave = 0xFF }) one_note) FirstMask
+  pub legato : HasFact (with_instrument (record plucked { gate_timer = 0x42 }) one_note) Legato
+  pub soft : HasFact (with_instrument (record plucked { gate_timer = 0x82 }) one_note) SoftRestart
+  pub delay : HasFact (wave_of 0x0F) WaveDelay
+  pub not_played : ¬ HasFact (record empty_song { patterns = (row 0xBE 0 3 0 ∷ []) ∷ [] }) GateNote
+  pub not_named : ¬ HasFact (record empty_song { instruments = plucked ∷ record plucked { first_wave = 0 } ∷ [] }) FirstMask
+  pub not_reached : ¬ HasFact (record empty_song { wave = sides 0x0F 0 ∷ [] }) WaveDelay
+
+-- A song that uses nothing begins with an instrument that isn't stored, whose first waveform is 0: that one fact is its
+-- own, and it has neither none, nor another, nor one more. A song adds a fact to another where that hasn't it.
+pub record SetsAreTold : Type 0 where
+  pub empty : AreFacts empty_song (record no_facts { first_mask = true })
+  pub none : ¬ AreFacts empty_song no_facts
+  pub another : ¬ AreFacts empty_song (record no_facts { legato = true })
+  pub more : ¬ AreFacts empty_song (record no_facts { first_mask = true; gate_note = true })
+  pub itself : AddsNoFact empty_song empty_song
+  pub adds : ¬ AddsNoFact empty_song one_note

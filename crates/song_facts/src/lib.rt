@@ -1,0 +1,14 @@
+//! Facts of a song beside its features: what its rows, instruments and wave programs have, so that a player may leave
+//! out what no song like it needs.
+//!
+//! The layer's one contract: it says of each fact which songs have it (`HasFact`), and which set of facts is a song's
+//! (`AreFacts`). It has no code but the numbers of facts; `usage` answers the set.
+//!
+//! It stands on `song_model` for the song, and on `play_model` for what of a song is used.
+#![tactic(auto)]
+
+/// Facts about the definitions.
+pub mod claims;
+mod facts;
+
+pub use facts::{Fact, Facts};
