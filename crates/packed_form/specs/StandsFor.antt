@@ -13,6 +13,7 @@ use Rattle.play_model.specs.Reached.{IsPointer}
 use Rattle.play_model.specs.Playable.{IsPlayable}
 use Rattle.play_model.specs.Features.{HasFeature, AreFeatures}
 use Rattle.play_model.specs.Uses.{UsesFeature}
+use Rattle.song_facts.specs.Facts.{AreFacts, AddsNoFact}
 use Rattle.packed_form.specs.declared.packed_songs.PackedSubtune.{PackedSubtune}
 use Rattle.packed_form.specs.declared.packed_songs.PackedSong.{PackedSong}
 use Rattle.packed_form.specs.PackedSpells.{PackedSpells}
@@ -52,4 +53,7 @@ pub record StandsFor (packed : PackedSong) (song : Song) : Type 0 where
   -- it has the subtunes of the song that can be played, and its features
   pub subtunes : length packed.subtunes ≡ length (playable_subtunes song)
   pub features : AreFeatures song packed.features.0
+  pub facts : AreFacts song packed.facts
+  -- the packed song, read as a song, has no other facts
+  pub covers : AddsNoFact song (unpacked_song packed)
   pub plays : (o : Options) (k : ℕ) → IsSpeed o.speed → k < length (playable_subtunes song) → PlaysAlike o packed song k

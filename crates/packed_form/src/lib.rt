@@ -11,8 +11,8 @@
 //! The layer's one contract: `PackedSong::size` is how many bytes that is, and `PackedSong::walk_count` how many bytes
 //! of an orderlist are looked at, at most, to come to a pattern, which is a byte where each orderlist goes on for ever.
 //!
-//! It stands on `song_model` for tables and lists with limits, on `play_model` for what a song sounds like, and on
-//! `arrayvec` for patterns that take no memory. See `docs/packed-form.md`.
+//! It stands on `song_model` for tables and lists with limits, on `play_model` for what a song sounds like, on
+//! `song_facts` for a song's facts, and on `arrayvec` for patterns that take no memory. See `docs/packed-form.md`.
 #![tactic(auto)]
 
 /// Facts about the definitions.

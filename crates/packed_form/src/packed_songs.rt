@@ -3,6 +3,7 @@
 ghost use Rattle.std.specs.Prelude.{◌<◌, ◌^◌};
 
 use crate::PackedPattern;
+use song_facts::Facts;
 use song_model::{Bounded, FeatureBits, MOST_INSTRUMENTS, MOST_PATTERNS, MOST_SUBTUNES, Table};
 
 /// The most bytes of a packed orderlist: 254 entries, the endmark and the restart position.
@@ -59,6 +60,8 @@ pub struct PackedSong {
     pub speed: Table,
     /// What its player has to be able to do.
     pub features: FeatureBits,
+    /// What its rows, instruments and wave programs have: the player leaves out what no song like it needs.
+    pub facts: Facts,
     /// No bit stands for nothing.
     pub ghost features_within: { features.0 < 2 ^ 24 },
 }

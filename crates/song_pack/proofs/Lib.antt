@@ -1,8 +1,9 @@
 -- The door: what upper crates may cite.
 pub mod Laws
--- Inner: what a song under new numbers uses, and that it is complete.
+-- Inner: what a song under new numbers uses, that it is complete, and that it has no other facts.
 mod UsedParts
 mod Complete
+mod CoveredFacts
 -- Inner: each part of a packed song agrees with its song.
 mod StoredTables
 mod StoredInstruments

@@ -56,5 +56,6 @@ pub fn pack_song(alloc: Global, song: &Song, usage: &UsedParts) -> Result<Packed
         filter: tables.filter,
         speed: tables.speed,
         features: usage.features,
+        facts: usage.facts,
     })
 }

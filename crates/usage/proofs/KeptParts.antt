@@ -11,6 +11,7 @@ use Rattle.play_model.specs.declared.unplayable.Unplayable.TheVariants.{TableOve
 use Rattle.play_model.specs.Reached.{IsReached}
 use Rattle.play_model.specs.Playable.{HasPrograms}
 use Rattle.play_model.specs.Features.{AreFeatures}
+use Rattle.song_facts.specs.Facts.{AreFacts}
 use Rattle.usage.specs.Marks.{IsMarked, AreMarks}
 use Rattle.usage.specs.Search.{IsNowhere}
 use Rattle.usage.specs.Found.{IsFoundOf, ProgramFails}
@@ -50,7 +51,7 @@ row_small song name p programs few none reached = elim (cases_lt (length (table_
   | inr stored ↦ omega arith
 ]
 
-rows_kept : (song : Song) (name : TableName) {marks kept : List Bool} → HasPrograms name →
+pub rows_kept : (song : Song) (name : TableName) {marks kept : List Bool} → HasPrograms name →
     length (table_of song name) ≤ 255 → IsNowhere (ProgramFails song) →
     kept ≡ take 256 marks → AreMarks (IsReached song name) marks → AreMarks (IsReached song name) kept
 rows_kept song name programs few none is m =
@@ -64,17 +65,19 @@ pub kept_parts : (song : Song) (found : Found) (parts : UsedParts) → IsFoundOf
     parts.speed ≡ found.speed →
     parts.wave_pointers ≡ found.wave.pointers → parts.pulse_pointers ≡ found.pulse.pointers →
     parts.filter_pointers ≡ found.filter.pointers →
-    AreFeatures song parts.features.0 → AreUsedParts song parts
-kept_parts song found parts f none patterns instruments wave pulse filter speed waves pulses filters features = record {
-  patterns = front 208 patterns f.bytes (λ k low byte. record { byte = byte; is_pattern = low })
-      (λ k used. (used.is_pattern, used.byte));
-  instruments = rw instruments f.rows.instruments;
-  wave = rows_kept song Wave (λ e. cc) f.wave_rows none wave f.wave.reached;
-  pulse = rows_kept song Pulse (λ e. cc) f.pulse_rows none pulse f.pulse.reached;
-  filter = rows_kept song Filter (λ e. cc) f.filter_rows none filter f.filter.reached;
-  speed = rw speed f.speed;
-  wave_pointers = rw waves f.wave.pointers;
-  pulse_pointers = rw pulses f.pulse.pointers;
-  filter_pointers = rw filters f.filter.pointers;
-  features = features;
-}
+    AreFeatures song parts.features.0 → AreFacts song parts.facts → AreUsedParts song parts
+kept_parts song found parts f none patterns instruments wave pulse filter speed waves pulses filters features facts =
+    record {
+      patterns = front 208 patterns f.bytes (λ k low byte. record { byte = byte; is_pattern = low })
+          (λ k used. (used.is_pattern, used.byte));
+      instruments = rw instruments f.rows.instruments;
+      wave = rows_kept song Wave (λ e. cc) f.wave_rows none wave f.wave.reached;
+      pulse = rows_kept song Pulse (λ e. cc) f.pulse_rows none pulse f.pulse.reached;
+      filter = rows_kept song Filter (λ e. cc) f.filter_rows none filter f.filter.reached;
+      speed = rw speed f.speed;
+      wave_pointers = rw waves f.wave.pointers;
+      pulse_pointers = rw pulses f.pulse.pointers;
+      filter_pointers = rw filters f.filter.pointers;
+      features = features;
+      facts = facts;
+    }

@@ -14,8 +14,9 @@ mod KeptParts
 -- The first rule that is broken.
 mod OrderRules
 mod Refusals
--- Features.
+-- Features and facts.
 mod FeatureMarks
+mod FactMarks
 mod SetBits
 -- Features name each case of a frame.
 mod Cases

@@ -1,4 +1,4 @@
--- A song has one count of each kind of used parts, and one set of features.
+-- A song has one count of each kind of used parts, one set of features and one of facts.
 use Rattle.std.proofs.Common.{◌≡◌, ℕ, suc, ◌<◌, ◌↔◌, Bool, true, false, List, [], ◌∷◌, length}
 use Rattle.std.proofs.Common.{get_or, refl, sym, ◌∙◌, ap, inl, inr, arith}
 use Rattle.std.specs.Prelude.{IsBitSet}
@@ -12,6 +12,11 @@ use Rattle.song_model.specs.declared.features.Feature.TheVariants.{Transpose}
 use Rattle.song_model.specs.declared.songs.Song.{Song}
 use Rattle.song_model.specs.Feature.{bit_of}
 use Rattle.play_model.specs.Features.{AreFeatures}
+use Rattle.song_facts.specs.declared.facts.Fact.{Fact}
+use Rattle.song_facts.specs.declared.facts.Facts.{Facts}
+use Rattle.song_facts.specs.declared.facts.Fact.TheVariants.{RowTone, RowSlide, RowOnce, FirstMask, Legato, SoftRestart}
+use Rattle.song_facts.specs.declared.facts.Fact.TheVariants.{WaveDelay, GateNote}
+use Rattle.song_facts.specs.Facts.{is_among, AreFacts}
 use Rattle.usage.specs.declared.features.TheConstants.{FEATURES}
 use Rattle.usage.specs.Marks.{IsMarked, count_of, AreMarks}
 use Rattle.usage.specs.PartLaws.{PartsAreTheSongs}
@@ -86,6 +91,51 @@ same_bit song a b i f g = elim (cases_lt i 24) [
 pub one_features : (song : Song) (a b : ℕ) → AreFeatures song a → AreFeatures song b → a ≡ b
 one_features song a b f g = same_from_bits a b (λ i. same_bit song a b i f g)
 
+-- ---- facts
+
+-- two answers that are yes in the same cases
+same_answer : (x y : Bool) → (x ≡ true → y ≡ true) → (y ≡ true → x ≡ true) → x ≡ y
+same_answer true y to from = sym (to refl)
+same_answer false true to from = from refl
+same_answer false false to from = refl
+
+-- the facts with these answers
+facts_with : (tone slide once mask legato soft delay gate : Bool) → Facts
+facts_with tone slide once mask legato soft delay gate = record {
+  row_tone = tone;
+  row_slide = slide;
+  row_once = once;
+  first_mask = mask;
+  legato = legato;
+  soft_restart = soft;
+  wave_delay = delay;
+  gate_note = gate;
+}
+
+-- each is had in both or in neither
+same_fact : (song : Song) (a b : Facts) → AreFacts song a → AreFacts song b → (fact : Fact) →
+    is_among a fact ≡ is_among b fact
+same_fact song a b f g fact =
+    same_answer (is_among a fact) (is_among b fact) (λ e. (g.each fact).1 ((f.each fact).0 e))
+    (λ e. (f.each fact).1 ((g.each fact).0 e))
+
+-- facts are their answers
+facts_of : (f : Facts) (tone slide once mask legato soft delay gate : Bool) → tone ≡ f.row_tone → slide ≡ f.row_slide →
+    once ≡ f.row_once → mask ≡ f.first_mask → legato ≡ f.legato → soft ≡ f.soft_restart → delay ≡ f.wave_delay →
+    gate ≡ f.gate_note → facts_with tone slide once mask legato soft delay gate ≡ f
+unfolding facts_with
+facts_of f tone slide once mask legato soft delay gate a b c d e g h i = rw (a, b, c, d, e, g, h, i) refl
+
+pub one_facts : (song : Song) (a b : Facts) → AreFacts song a → AreFacts song b → a ≡ b
+unfolding facts_with
+one_facts song a b f g =
+    facts_of b a.row_tone a.row_slide a.row_once a.first_mask a.legato a.soft_restart a.wave_delay a.gate_note
+    (same RowTone) (same RowSlide) (same RowOnce) (same FirstMask) (same Legato) (same SoftRestart) (same WaveDelay)
+    (same GateNote)
+  where
+    same : (fact : Fact) → is_among a fact ≡ is_among b fact
+    same fact = same_fact song a b f g fact
+
 pub parts_are_the_songs_lem : PartsAreTheSongs
 parts_are_the_songs_lem song a b p q = record {
   patterns = alike p.patterns q.patterns;
@@ -95,4 +145,5 @@ parts_are_the_songs_lem song a b p q = record {
   filter = alike p.filter q.filter;
   speed = alike p.speed q.speed;
   features = one_features song a.features.0 b.features.0 p.features q.features;
+  facts = one_facts song a.facts b.facts p.facts q.facts;
 }

@@ -11,7 +11,8 @@ use Rattle.song_model.specs.LookUp.{pattern_at}
 use Rattle.play_model.specs.Used.{IsPlayedByte, IsUsedPattern, IsUsedRow, IsNamedInstrument, IsUsedInstrument}
 use Rattle.usage.specs.Marks.{IsMarked, AreMarks}
 use Rattle.usage.specs.Building.{Adds, SomeOf, SomeBelow, SomeBelowAt, AddsAt, SomeAt}
-use Rattle.usage.specs.Rows.{NamesInstrument, HasCommand, IsUsedRowOf, PatternNames, PatternHas, IsUsedCommand, AreRowsOf}
+use Rattle.usage.specs.Rows.{NamesInstrument, HasCommand, HasNote, IsUsedRowOf, PatternNames, PatternHas, PatternSounds}
+use Rattle.usage.specs.Rows.{IsUsedCommand, IsUsedNote, AreRowsOf}
 use Rattle.usage.specs.declared.rows.RowMarks.{RowMarks}
 use Rattle.usage.proofs.AddedMarks.{adds_same, adds_both, adds_at_same, marks_from_none, marks_at_from_none}
 
@@ -62,6 +63,21 @@ commands_of_pattern song n bytes pattern marks m e few a =
     })
     (λ c d p. (let has = rw is at p.used.has in (has.0, p.row, has.1, has.2, p.has))) a
 
+pub notes_of_pattern : (song : Song) (n : ℕ) (bytes : List Bool) (pattern : List Row) {old new : List Bool} →
+    AreMarks (IsPlayedByte song) bytes → IsMarked bytes n →
+    slice_get song.patterns n ≡ Some pattern → length song.patterns ≤ 208 →
+    Adds (SomeOf HasNote pattern) old new → Adds (PatternSounds song n) old new
+notes_of_pattern song n bytes pattern marks m e few a =
+    let is = pattern_stored song n pattern e in
+    adds_same (PatternSounds song n)
+    (λ i some. record {
+      row = some.1;
+      used = record
+          { used = used_if song n bytes pattern marks m e few; has = rw is (some.0, some.2, some.3) };
+      has = some.4;
+    })
+    (λ i p. (let has = rw is at p.used.has in (has.0, p.row, has.1, has.2, p.has))) a
+
 -- ---- all patterns
 
 used_row : (song : Song) (n : ℕ) (row : Row) → IsUsedRowOf song n row → IsUsedRow song row
@@ -111,11 +127,25 @@ commands_of_all song i end a =
       stands = record { row = h.row; used = record { used = h.used.used; has = h.used.has }; has = h.has };
     }) a
 
+pub notes_of_all : (song : Song) (i : ℕ) {old new : List Bool} → length song.patterns ≤ i →
+    Adds (SomeBelow (PatternSounds song) i) old new →
+    Adds (IsUsedNote song) old new
+notes_of_all song i end a =
+    adds_same (IsUsedNote song)
+    (λ n s. record { row = s.stands.row; used = used_row song s.k s.stands.row s.stands.used; has = s.stands.has })
+    (λ n h. record {
+      k = h.used.pattern;
+      below = inside_of song h.used.pattern i h.row end h.used.has;
+      stands = record { row = h.row; used = record { used = h.used.used; has = h.used.has }; has = h.has };
+    }) a
+
 -- instrument 1, and what all patterns have, begun with no mark
 pub rows_of : (song : Song) (marks : RowMarks) {mid : List Bool} → Adds (λ k. k ≡ 1) (replicate 64 false) mid →
     Adds (IsNamedInstrument song) mid marks.instruments →
-    AddsAt (IsUsedCommand song) (replicate 16 (replicate 256 false)) marks.commands → AreRowsOf song marks
-rows_of song marks first named commands = record {
+    AddsAt (IsUsedCommand song) (replicate 16 (replicate 256 false)) marks.commands →
+    Adds (IsUsedNote song) (replicate 256 false) marks.notes → AreRowsOf song marks
+rows_of song marks first named commands notes = record {
   instruments = marks_from_none 64 (adds_same (IsUsedInstrument song) (λ n u. u) (λ n u. u) (adds_both first named));
   commands = marks_at_from_none 16 256 commands;
+  notes = marks_from_none 256 notes;
 }

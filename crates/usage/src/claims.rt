@@ -3,7 +3,7 @@
 ghost use Rattle.usage.specs.Cases.{EachSpeedIsNamed};
 ghost use Rattle.usage.specs.PartLaws.{PartsAreTheSongs};
 
-/// Each song has one count of each kind of used parts, and one set of features.
+/// Each song has one count of each kind of used parts, one set of features and one of facts.
 #[tactic(auto, using(crate::proofs::OneParts::parts_are_the_songs_lem))]
 pub fn parts_are_the_songs()
     ensures { PartsAreTheSongs }

@@ -13,6 +13,7 @@ use crate::marks::ByteMarks;
 use crate::orders::{OrderRule, check_orders};
 use crate::programs::RowNumbers;
 use play_model::Unplayable;
+use song_facts::Facts;
 use song_model::{FeatureBits, Song};
 
 /// The marks of rows up to 255.
@@ -48,6 +49,8 @@ pub struct UsedParts {
     pub filter_pointers: [bool; 256],
     /// What a player of the song has to be able to do.
     pub features: FeatureBits,
+    /// What its rows, instruments and wave programs have.
+    pub facts: Facts,
 }
 
 /// Looks whether the orderlists keep their rules.
@@ -75,10 +78,12 @@ fn parts_of(song: &Song, found: &Found) -> UsedParts
 {
     let mut patterns = [false; 208];
     patterns.copy_from_slice(&found.bytes[..208]);
+    let wave = row_marks(&found.wave.reached);
+    let facts = found.facts(song, &wave);
     UsedParts {
         patterns,
         instruments: found.rows.instruments,
-        wave: row_marks(&found.wave.reached),
+        wave,
         pulse: row_marks(&found.pulse.reached),
         filter: row_marks(&found.filter.reached),
         speed: found.speed,
@@ -86,6 +91,7 @@ fn parts_of(song: &Song, found: &Found) -> UsedParts
         pulse_pointers: found.pulse.pointers,
         filter_pointers: found.filter.pointers,
         features: found.features(song),
+        facts,
     }
 }
 
@@ -102,9 +108,9 @@ fn looked_at(song: &Song) -> Result<UsedParts, Unplayable>
     Ok(parts_of(song, &found))
 }
 
-/// What a song uses, where it can be played by the rules of [`Unplayable`]. The features name each case that a frame of
-/// a playable subtune takes, with any options, so that a player may leave out the others. It takes no memory, and its
-/// work is linear in the song.
+/// What a song uses, where it can be played by the rules of [`Unplayable`], with its features and facts. The features
+/// name each case that a frame of a playable subtune takes, with any options, so that a player may leave out the
+/// others. It takes no memory, and its work is linear in the song.
 ///
 /// # Errors
 ///

@@ -32,6 +32,7 @@ returns-clause-stands c =
       patterns = c.in_ok-patterns.ensures.patterns;
       subtunes = c.in_ok-subtunes.ensures;
       features = refl;
+      facts = refl;
     })
 
 pub returns-clause-exact : goal.returns-clause-exact
@@ -47,6 +48,7 @@ returns-clause-exact c =
       patterns = c.in_ok-patterns.ensures.patterns;
       subtunes = c.in_ok-subtunes.ensures;
       features = refl;
+      facts = refl;
     })
 
 pub returns-clause-size : goal.returns-clause-size
@@ -62,6 +64,7 @@ returns-clause-size c =
       patterns = c.in_ok-patterns.ensures.patterns;
       subtunes = c.in_ok-subtunes.ensures;
       features = refl;
+      facts = refl;
     })
 
 pub returns-clause-short : goal.returns-clause-short

@@ -3,4 +3,4 @@ use Rattle.usage.proofs.rows.played_rows.Goals as goal
 
 pub returns : goal.returns
 returns c = rows_of c.args.song.now c.mark_patterns.new.marks c.mark.ensures c.mark_patterns.ensures.instruments
-    c.mark_patterns.ensures.commands
+    c.mark_patterns.ensures.commands c.mark_patterns.ensures.notes

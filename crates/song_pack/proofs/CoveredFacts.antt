@@ -1,0 +1,97 @@
+-- A song under new numbers has no fact that the song that it was made of hasn't.
+use Rattle.std.proofs.Common.{◌≡◌, ◌≢◌, ℕ, ◌<◌, ◌≤◌, ◌⊎◌, sym, ◌∙◌, ap, subst}
+use Rattle.std.specs.Prelude.{bit_and}
+use Rattle.song_model.specs.declared.rows.Row.{Row}
+use Rattle.song_model.specs.declared.instruments.Instrument.{Instrument}
+use Rattle.song_model.specs.declared.tables.TableRow.{TableRow}
+use Rattle.song_model.specs.declared.tables.TableName.TheVariants.{Wave}
+use Rattle.song_model.specs.declared.songs.Song.{Song}
+use Rattle.song_model.specs.LookUp.{table_row, instrument_at}
+use Rattle.same_frames.specs.Maps.{Maps, moved_row, IsRowFor, IsInstrumentFor}
+use Rattle.song_facts.specs.declared.facts.Fact.TheVariants.{RowTone, RowSlide, RowOnce, FirstMask, Legato, SoftRestart}
+use Rattle.song_facts.specs.declared.facts.Fact.TheVariants.{WaveDelay, GateNote}
+use Rattle.song_facts.specs.Facts.{IsTone, IsSlide, IsOnce, IsGateNote, IsMask, IsLegato, IsSoft}
+use Rattle.song_facts.specs.Facts.{HasSuchRow, HasSuchInstrument, HasSuchWaveRow, AddsNoFact}
+use Rattle.song_pack.proofs.UsedParts.{IsMoved, used_row_from, instrument_from, reached_from}
+
+module _ (maps : Maps) where
+  -- ---- what a part's stand-in tells of the part
+
+  -- where the other row is such, so is the row that it stands for
+  RowsKeep : (Row → Type 0) → Type 0
+  RowsKeep IsSuch = (last : ℕ) (row other : Row) → IsRowFor maps last row other → IsSuch other → IsSuch row
+
+  -- the same of what a command is
+  command_keeps : (IsSuch : ℕ → Type 0) → RowsKeep (λ row. IsSuch row.command)
+  unfolding RowsKeep
+  command_keeps IsSuch last row other is such = subst IsSuch is.command such
+
+  note_keeps : (IsSuch : ℕ → Type 0) → RowsKeep (λ row. IsSuch row.note)
+  unfolding RowsKeep
+  note_keeps IsSuch last row other is such = subst IsSuch is.note such
+
+  -- where the other instrument is such, so is the one that it stands for
+  InstrumentsKeep : (Instrument → Type 0) → Type 0
+  InstrumentsKeep IsSuch = (i other : Instrument) → IsInstrumentFor maps i other → IsSuch other → IsSuch i
+
+  first_wave_keeps : (IsSuch : ℕ → Type 0) → InstrumentsKeep (λ i. IsSuch i.first_wave)
+  unfolding InstrumentsKeep
+  first_wave_keeps IsSuch i other is such = subst IsSuch (ap (λ (x : Instrument). x.first_wave) is.moved) such
+
+  gate_timer_keeps : (IsSuch : ℕ → Type 0) → InstrumentsKeep (λ i. IsSuch i.gate_timer)
+  unfolding InstrumentsKeep
+  gate_timer_keeps IsSuch i other is such = subst IsSuch (ap (λ (x : Instrument). x.gate_timer) is.moved) such
+
+  module _ (song other : Song) (m : IsMoved maps song other) where
+    -- ---- what the other song has
+
+    -- a used row of the other song is such, so one of the song is
+    row_covered : (IsSuch : Row → Type 0) → RowsKeep IsSuch → HasSuchRow other IsSuch → HasSuchRow song IsSuch
+    unfolding RowsKeep
+    row_covered IsSuch keeps has =
+        let from = used_row_from maps song other m has.row has.used in
+        record {
+          row = from.from;
+          used = from.used;
+          is_such = keeps from.last from.from has.row from.is_for has.is_such;
+        }
+
+    -- a used instrument
+    instrument_covered : (IsSuch : Instrument → Type 0) → InstrumentsKeep IsSuch → HasSuchInstrument other IsSuch →
+        HasSuchInstrument song IsSuch
+    unfolding InstrumentsKeep
+    instrument_covered IsSuch keeps has =
+        let from = instrument_from maps song other m has.instrument has.used in
+        record {
+          instrument = from.old;
+          used = from.is_such;
+          is_such = keeps (instrument_at song from.old) (instrument_at other has.instrument)
+              (subst (λ (n : ℕ). IsInstrumentFor maps (instrument_at song from.old) (instrument_at other n)) from.new
+              (m.agrees.instruments.stands_for from.old from.is_such)) has.is_such;
+        }
+
+    -- a reached row of the wave table, which keeps its left side
+    wave_row_covered : (IsSuch : ℕ → Type 0) → HasSuchWaveRow other (λ row. IsSuch row.left) →
+        HasSuchWaveRow song (λ row. IsSuch row.left)
+    wave_row_covered IsSuch has =
+        let from = reached_from maps song other m Wave has.p has.reached in
+        let is : table_row other Wave has.p ≡ moved_row maps Wave (table_row song Wave from.old) =
+        ap (table_row other Wave) (sym from.new) ∙ (m.agrees.rows Wave).row from.old from.is_such in
+        record {
+          p = from.old;
+          reached = from.is_such;
+          is_such = subst (λ (row : TableRow). IsSuch row.left) is has.is_such;
+        }
+
+    -- ---- facts
+
+    pub covered : AddsNoFact song other
+    covered RowTone has = row_covered IsTone (command_keeps (λ c. c ≡ 3)) has
+    covered RowSlide has = row_covered IsSlide (command_keeps (λ c. (1 ≤ c) × (c ≤ 4))) has
+    covered RowOnce has = row_covered IsOnce (command_keeps (λ c. 5 ≤ c)) has
+    covered FirstMask has = instrument_covered IsMask (first_wave_keeps (λ w. (w ≡ 0) ⊎ (0xFE ≤ w))) has
+    covered Legato has = instrument_covered IsLegato (gate_timer_keeps (λ t. bit_and t 0x40 ≢ 0)) has
+    covered SoftRestart has =
+        instrument_covered IsSoft (gate_timer_keeps (λ t. (bit_and t 0x40 ≡ 0) × (bit_and t 0x80 ≢ 0))) has
+    covered WaveDelay has = wave_row_covered (λ left. left < 0x10) has
+    covered GateNote has = row_covered IsGateNote (note_keeps (λ n. (n ≡ 0xBE) ⊎ (n ≡ 0xBF))) has
