@@ -1,18 +1,22 @@
--- In a set are exactly the conditions that hold.
+-- In a set are exactly the conditions that hold, and in what a song asks for its features and facts.
 use Rattle.std.proofs.Common.{◌≡◌, ℕ, ◌≤◌, Bool, true, false, ◌&&◌, nat_lt, nat_eq, if◌then◌else◌, refl, arith}
-use Rattle.std.proofs.Common.{inl, inr}
-use Rattle.std.proofs.lemmas.Bool.{cases_lt, ne_eqb, lt-ltb, le-ltb}
+use Rattle.std.proofs.Common.{inl, inr, ap, ◌∙◌}
+use Rattle.std.proofs.lemmas.Bool.{cases_lt, ne_eqb, lt-ltb, le-ltb, le-leb}
+use Rattle.song_facts.specs.declared.facts.Facts.{Facts}
 use Rattle.play_model.specs.declared.options.Options.{Options}
-use Rattle.kept_lines.specs.KeptLines.{keeps}
-use Rattle.kept_lines.specs.KeptLaws.{SetsAreExact}
+use Rattle.kept_lines.specs.Asked.{asks, asked}
+use Rattle.kept_lines.specs.KeptLines.{keeps, kept_set}
+use Rattle.kept_lines.specs.KeptLaws.{SetsAreExact, AskedIsExact}
 use Rattle.kept_lines.proofs.Sums.{bits_are, none_above}
 
 -- behind the last condition none holds
-pub no_more : (features : ℕ) (options : Options) (condition : ℕ) → 34 ≤ condition →
-    keeps features options condition ≡ false
-no_more features options condition behind =
+pub no_more : (set : ℕ) (options : Options) (condition : ℕ) → 45 ≤ condition →
+    keeps set options condition ≡ false
+no_more set options condition behind =
     rw (
       le-ltb condition 24 (omega (arith, behind)),
+      le-ltb condition 42 (omega (arith, behind)),
+      le-leb 34 condition (omega (arith, behind)),
       ne_eqb condition 24 (λ e. omega (arith, behind, e)),
       ne_eqb condition 25 (λ e. omega (arith, behind, e)),
       ne_eqb condition 26 (λ e. omega (arith, behind, e)),
@@ -23,6 +27,9 @@ no_more features options condition behind =
       ne_eqb condition 31 (λ e. omega (arith, behind, e)),
       ne_eqb condition 32 (λ e. omega (arith, behind, e)),
       ne_eqb condition 33 (λ e. omega (arith, behind, e)),
+      ne_eqb condition 42 (λ e. omega (arith, behind, e)),
+      ne_eqb condition 43 (λ e. omega (arith, behind, e)),
+      ne_eqb condition 44 (λ e. omega (arith, behind, e)),
     ) refl
 
 told : (z : Bool) → nat_eq (if z then 1 else 0) 1 ≡ z
@@ -34,11 +41,17 @@ no_bit true = refl
 no_bit false = refl
 
 pub sets_are_exact : SetsAreExact
-sets_are_exact features options condition = elim (cases_lt condition 34) [
+unfolding kept_set
+sets_are_exact set options condition = elim (cases_lt condition 45) [
   | inl low ↦
-      rw (lt-ltb condition 128 (omega (arith, low)), bits_are (keeps features options) 34 condition low)
-      (told (keeps features options condition))
+      rw (lt-ltb condition 128 (omega (arith, low)), bits_are (keeps set options) 45 condition low)
+      (told (keeps set options condition))
   | inr high ↦
-      rw (none_above (keeps features options) 34 condition high, no_more features options condition high)
+      rw (none_above (keeps set options) 45 condition high, no_more set options condition high)
       (no_bit (nat_lt condition 128))
 ]
+
+pub asked_is_exact : AskedIsExact
+unfolding asked
+asked_is_exact features facts condition low =
+    ap (λ bit. nat_eq bit 1) (bits_are (asks features facts) 42 condition low) ∙ told (asks features facts condition)

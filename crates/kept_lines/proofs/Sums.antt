@@ -1,15 +1,15 @@
 -- The bits of a sum over the numbers below one, of each the power of two where a test says so.
-use Rattle.std.proofs.Common.{◌≡◌, ℕ, zero, suc, ◌+◌, ◌*◌, ◌-◌, ◌^◌, ◌<◌, ◌≤◌}
+use Rattle.std.proofs.Common.{◌≡◌, ℕ, zero, suc, ◌+◌, ◌*◌, ◌-◌, ◌%◌, ◌^◌, ◌<◌, ◌≤◌, nat_eq}
 use Rattle.std.proofs.Common.{Bool, true, false, if◌then◌else◌, map, List, [], ◌∷◌, ◌++◌}
 use Rattle.std.proofs.Common.{refl, sym, ◌∙◌, ap, subst, inl, inr, arith}
 use Rattle.std.specs.List.{range_with_len, sum_by}
 use Rattle.std.specs.Int.{bit_at}
 use Rattle.std.proofs.Math.Nat.{pow-suc}
-use Rattle.std.proofs.lemmas.Bool.{cases_lt}
+use Rattle.std.proofs.lemmas.Bool.{cases_lt, agree_below_at, eqb-true}
 use Rattle.std.proofs.lemmas.List.FromFn.{map-range_with_len_more}
 use Rattle.std.proofs.lemmas.List.Sums.{sum_by-append}
 use Rattle.std.proofs.lemmas.Nat.Bits.{bit_at_cat_low, bit_at_cat_high, bit_at_above}
-use Rattle.kept_lines.specs.KeptLines.{bit_if}
+use Rattle.kept_lines.specs.Asked.{bit_if}
 
 -- the bits below n
 abbrev pub bits_below : (ℕ → Bool) → ℕ → ℕ
@@ -57,6 +57,12 @@ bits_without test set n is off =
   where
     same : (m : ℕ) → m ≡ m + 0
     same m = omega arith
+
+-- the bit of a condition fits in a set
+pub fits : (bit : ℕ) → bit < 45 → 1 * 2 ^ bit % 2 ^ 128 ≡ 2 ^ bit
+fits bit few =
+    eqb-true (1 * 2 ^ bit % 2 ^ 128) (2 ^ bit)
+    (agree_below_at (λ n. nat_eq (1 * 2 ^ n % 2 ^ 128) (2 ^ n)) (λ n. true) 45 bit refl few)
 
 -- ---- they are few
 

@@ -1,9 +1,12 @@
 -- Sets that are worked, and the numbers with which a subtune begins.
 use Rattle.std.proofs.Common.{refl}
-use Rattle.kept_lines.specs.WorkedKept.{SetsAreWorked}
+use Rattle.kept_lines.specs.WorkedKept.{SetsAreWorked, AskedIsWorked}
+use Rattle.kept_lines.specs.Asked.{asked}
+use Rattle.kept_lines.specs.KeptLines.{kept_set}
 use Rattle.kept_lines.specs.WorkedStarts.{StartsAreWorked}
 
 pub sets_are_worked : SetsAreWorked
+unfolding kept_set
 sets_are_worked = record {
   none = refl;
   transposes = refl;
@@ -14,12 +17,32 @@ sets_are_worked = record {
   vibrato = refl;
   instrument = refl;
   calculated = refl;
-  last = refl;
+  commands = refl;
+  row_tone = refl;
+  row_slide = refl;
+  row_once = refl;
+  first_mask = refl;
+  legato = refl;
+  soft_restart = refl;
+  wave_delay = refl;
+  gate_note = refl;
   effects = refl;
   pulse = refl;
   twice = refl;
   first = refl;
   ntsc = refl;
+  features = refl;
+  all = refl;
+  no_others = refl;
+}
+
+pub asked_is_worked : AskedIsWorked
+unfolding asked
+asked_is_worked = record {
+  none = refl;
+  feature = refl;
+  fact = refl;
+  both = refl;
   all = refl;
   no_features = refl;
 }

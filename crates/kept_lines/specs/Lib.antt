@@ -1,4 +1,5 @@
--- To believe: which lines are kept, and with which numbers a subtune begins.
+-- To believe: what a song asks for, which lines are kept, and with which numbers a subtune begins.
+pub mod Asked
 pub mod KeptLines
 pub mod Starts
 -- Claimed.

@@ -1,59 +1,55 @@
-//! The conditions that hold for a song and for options.
+//! The conditions that hold for what a song asks for and for options.
 
 ghost use Rattle.std.specs.Prelude.{◌≡◌, ◌<◌};
-ghost use Rattle.kept_lines.specs.KeptLines.{uses, has_in_common, keeps, kept_set};
+ghost use Rattle.kept_lines.specs.Asked.{is_in};
+ghost use Rattle.kept_lines.specs.KeptLines.{has_in_common, keeps, kept_set};
 
 use play_model::Options;
 use player_memory::conditions::{
-    CLIMB, DROP, FOUND_NOTE, INSTRUMENT_VIBRATO, NOTE_DEPENDENT, PORTA_DOWN, PORTA_UP, RISE, SINK,
-    SKIP_EFFECTS, SKIP_FIRST, SKIP_PULSE, SWINGS, TIE_NOTE, TIMED, TONE_PORTA, VIBRATO,
+    CLIMB, CONDITIONS, DROP, FOUND_NOTE, HELD_NOTE, INSTRUMENT_VIBRATO, LEGATO, NOTE_DEPENDENT,
+    PORTA_DOWN, PORTA_UP, RISE, ROW_COMMAND, ROW_ONCE, ROW_SLIDE, ROW_TONE, SINK, SKIP_EFFECTS,
+    SKIP_FIRST, SKIP_PULSE, SOFT_RESTART, SPECIAL_ROW, SWINGS, TIE_NOTE, TIMED, TONE_PORTA,
+    VIBRATO, WAVE_COMMAND, WAVE_DELAY,
 };
 use scope_lines::Conditions;
-use song_model::FeatureBits;
 
-/// How many conditions there are.
-const COUNT: u8 = 34;
-
-/// Whether a song uses a feature.
-fn uses(features: FeatureBits, feature: u8) -> bool
-    requires { feature < 24 }
-    ensures { result ≡ uses features.0 feature }
+/// Whether a condition is in a set.
+fn is_in(set: Conditions, condition: u8) -> bool
+    requires { condition < 128 }
+    ensures { result ≡ is_in set.0 condition }
 {
-    (features.0 >> u32::from(feature)) & 1 == 1
+    (set.0 >> u32::from(condition)) & 1 == 1
 }
 
-/// Whether a song uses any of the features that have these lines in common.
-fn has_in_common(features: FeatureBits, condition: u8) -> bool
-    ensures { result ≡ has_in_common features.0 condition }
+/// Whether any of the features and facts is asked for that have these lines in common.
+fn has_in_common(asked: Conditions, condition: u8) -> bool
+    ensures { result ≡ has_in_common asked.0 condition }
 {
-    let up = uses(features, PORTA_UP);
-    let down = uses(features, PORTA_DOWN);
-    let tone = uses(features, TONE_PORTA);
-    let vibrato = uses(features, VIBRATO) || uses(features, INSTRUMENT_VIBRATO);
-    let calculated = uses(features, NOTE_DEPENDENT);
-    if condition == SWINGS {
-        vibrato
-    } else if condition == CLIMB {
-        up || tone || calculated
-    } else if condition == DROP {
-        down || tone || calculated
-    } else if condition == RISE {
-        up || tone || vibrato
-    } else if condition == SINK {
-        down || tone || vibrato
-    } else if condition == FOUND_NOTE {
-        tone || uses(features, TIE_NOTE)
-    } else {
-        false
+    let up = is_in(asked, PORTA_UP);
+    let down = is_in(asked, PORTA_DOWN);
+    let tone = is_in(asked, TONE_PORTA);
+    let vibrato = is_in(asked, VIBRATO) || is_in(asked, INSTRUMENT_VIBRATO);
+    let calculated = is_in(asked, NOTE_DEPENDENT);
+    match condition {
+        SWINGS => vibrato,
+        CLIMB => up || tone || calculated,
+        DROP => down || tone || calculated,
+        RISE => up || tone || vibrato,
+        SINK => down || tone || vibrato,
+        FOUND_NOTE => tone || is_in(asked, TIE_NOTE),
+        ROW_COMMAND => is_in(asked, ROW_SLIDE) || is_in(asked, ROW_ONCE),
+        SPECIAL_ROW => is_in(asked, WAVE_DELAY) || is_in(asked, WAVE_COMMAND),
+        HELD_NOTE => is_in(asked, LEGATO) || is_in(asked, SOFT_RESTART),
+        _ => false,
     }
 }
 
 /// Whether a condition holds.
-fn keeps(features: FeatureBits, options: &Options, condition: u8) -> bool
-    ensures { result ≡ keeps features.0 options.now condition }
+fn keeps(asked: Conditions, options: &Options, condition: u8) -> bool
+    ensures { result ≡ keeps asked.0 options.now condition }
 {
-    if condition < 24 {
-        uses(features, condition)
+    if condition < 24 || (ROW_TONE <= condition && condition < ROW_COMMAND) {
+        is_in(asked, condition)
     } else if condition == SKIP_EFFECTS {
         options.skip_effects
     } else if condition == SKIP_PULSE {
@@ -63,17 +59,18 @@ fn keeps(features: FeatureBits, options: &Options, condition: u8) -> bool
     } else if condition == SKIP_FIRST {
         options.skip_first
     } else {
-        has_in_common(features, condition)
+        has_in_common(asked, condition)
     }
 }
 
-/// The conditions that hold for the features of a song and for options.
-pub fn conditions(features: FeatureBits, options: Options) -> Conditions
-    ensures { result.0 ≡ kept_set features.0 options }
+/// The conditions that hold for what a song asks for (`asked`) and for options.
+#[tactic(auto, unfolding(crate::specs::KeptLines::kept_set))]
+pub fn conditions(asked: Conditions, options: Options) -> Conditions
+    ensures { result.0 ≡ kept_set asked.0 options }
 {
     let mut set: u128 = 0;
-    for condition in 0..COUNT {
-        if keeps(features, &options, condition) {
+    for condition in 0..CONDITIONS {
+        if keeps(asked, &options, condition) {
             set += 1 << u32::from(condition);
         }
     }

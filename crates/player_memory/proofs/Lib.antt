@@ -10,6 +10,7 @@ mod WorkedMemory
 mod WorkedPlays
 mod WorkedFetching
 mod WorkedCommands
+mod WorkedConditions
 mod WorkedStarting
 mod WorkedLists
 -- Lists in a memory.

@@ -1,5 +1,7 @@
--- Which condition keeps the lines of each feature: the one with the number of the feature's bit.
-use Rattle.std.specs.Prelude.{◌≡◌}
+-- Which condition keeps the lines of each feature: the one with the number of the feature's bit; and of each fact: the one
+-- with the fact's number, from 34 on.
+use Rattle.std.specs.Prelude.{◌≡◌, ℕ, ◌+◌, true, List, [], ◌∷◌, nat_eq}
+use Rattle.std.specs.List.{list_any}
 use Rattle.song_model.specs.declared.features.Feature.TheVariants.{Transpose, Repeat, PortaUp, PortaDown, TonePorta}
 use Rattle.song_model.specs.declared.features.Feature.TheVariants.{TieNote, Vibrato, InstrumentVibrato, NoteDependent}
 use Rattle.song_model.specs.declared.features.Feature.TheVariants.{SetAd, SetSr, SetWave, SetWavePointer, PulseTable}
@@ -7,13 +9,19 @@ use Rattle.song_model.specs.declared.features.Feature.TheVariants.{SetPulsePoint
 use Rattle.song_model.specs.declared.features.Feature.TheVariants.{FilterControl, Cutoff, Volume, FunkTempo, SetTempo}
 use Rattle.song_model.specs.declared.features.Feature.TheVariants.{WaveTable, WaveCommand}
 use Rattle.song_model.specs.Feature.{bit_of}
+use Rattle.song_facts.specs.declared.facts.Fact.{Fact}
+use Rattle.song_facts.specs.Facts.{number_of, no_facts}
+use Rattle.play_model.specs.WorkedSongs.{one_note}
+use Rattle.scopes.specs.Desk.{Layout}
 use Rattle.player_memory.specs.declared.conditions.TheConstants.{TRANSPOSES, REPEATS, PORTA_UP, PORTA_DOWN}
 use Rattle.player_memory.specs.declared.conditions.TheConstants.{TONE_PORTA, TIE_NOTE, VIBRATO, INSTRUMENT_VIBRATO}
 use Rattle.player_memory.specs.declared.conditions.TheConstants.{NOTE_DEPENDENT, SET_AD, SET_SR, SET_WAVE}
 use Rattle.player_memory.specs.declared.conditions.TheConstants.{SET_WAVE_POINTER, PULSE_TABLE, SET_PULSE_POINTER}
 use Rattle.player_memory.specs.declared.conditions.TheConstants.{FILTER_TABLE, SET_FILTER_POINTER, SET_FILTER_CONTROL}
 use Rattle.player_memory.specs.declared.conditions.TheConstants.{SET_CUTOFF, SET_VOLUME, FUNK_TEMPO, SET_TEMPO}
-use Rattle.player_memory.specs.declared.conditions.TheConstants.{WAVE_TABLE, WAVE_COMMAND}
+use Rattle.player_memory.specs.declared.conditions.TheConstants.{WAVE_TABLE, WAVE_COMMAND, ROW_SLIDE, ROW_ONCE}
+use Rattle.player_memory.specs.declared.conditions.TheConstants.{ROW_COMMAND, LEGATO, SOFT_RESTART, WAVE_DELAY, GATE_NOTE}
+use Rattle.player_memory.specs.FactLines.{fact_condition, KeepsMarked, KeepsFacts, KeepsShared}
 
 pub record ConditionsAreFeatures : Type 0 where
   pub transposes : bit_of Transpose ≡ TRANSPOSES
@@ -40,3 +48,26 @@ pub record ConditionsAreFeatures : Type 0 where
   pub set_tempo : bit_of SetTempo ≡ SET_TEMPO
   pub wave_table : bit_of WaveTable ≡ WAVE_TABLE
   pub wave_command : bit_of WaveCommand ≡ WAVE_COMMAND
+
+abbrev pub ConditionsAreFacts : Type 0
+ConditionsAreFacts = (fact : Fact) → fact_condition fact ≡ 34 + number_of fact
+
+-- where these conditions hold, and no others
+abbrev pub with_holding : Layout → List ℕ → Layout
+with_holding layout conditions = record layout { holds = λ condition. list_any (nat_eq condition) conditions }
+
+-- A layout without a condition keeps the lines of no song with its fact, and one with it does. Lines that facts or
+-- features have in common are kept with each of them.
+pub record FactLinesAreWorked (layout : Layout) : Type 0 where
+  pub none : KeepsMarked (with_holding layout []) no_facts
+  pub gate : KeepsMarked (with_holding layout (GATE_NOTE ∷ [])) (record no_facts { gate_note = true })
+  pub other : ¬ KeepsMarked (with_holding layout (WAVE_DELAY ∷ [])) (record no_facts { gate_note = true })
+  pub song : ¬ KeepsFacts (with_holding layout []) one_note
+  pub free : KeepsShared (with_holding layout [])
+  pub slide : ¬ KeepsShared (with_holding layout (ROW_SLIDE ∷ []))
+  pub once : ¬ KeepsShared (with_holding layout (ROW_ONCE ∷ []))
+  pub rows : KeepsShared (with_holding layout (ROW_SLIDE ∷ ROW_COMMAND ∷ []))
+  pub delay : ¬ KeepsShared (with_holding layout (WAVE_DELAY ∷ []))
+  pub command : ¬ KeepsShared (with_holding layout (WAVE_COMMAND ∷ []))
+  pub legato : ¬ KeepsShared (with_holding layout (LEGATO ∷ []))
+  pub soft : ¬ KeepsShared (with_holding layout (SOFT_RESTART ∷ []))

@@ -1,5 +1,5 @@
 -- The lists of a small packed song, worked by hand: under which label each stands, its first number, and its bytes.
-use Rattle.std.specs.Prelude.{◌≡◌, ℕ, ◌+◌, ◌&&◌, false, nat_eq, nat_le, nat_lt, if◌then◌else◌}
+use Rattle.std.specs.Prelude.{◌≡◌, ℕ, ◌+◌, ◌&&◌, true, false, nat_eq, nat_le, nat_lt, if◌then◌else◌}
 use Rattle.std.specs.Prelude.{List, [], ◌∷◌, ◌++◌, map}
 use Rattle.std.specs.List.{range_with_len}
 use Rattle.std.proofs.Common.{arith}
@@ -8,6 +8,7 @@ use Rattle.song_model.specs.declared.tables.TableName.TheVariants.{Wave, Pulse, 
 use Rattle.packed_form.specs.declared.packed_songs.PackedSubtune.{PackedSubtune}
 use Rattle.packed_form.specs.declared.packed_songs.PackedInstrument.{PackedInstrument}
 use Rattle.packed_form.specs.declared.packed_songs.PackedSong.{PackedSong}
+use Rattle.song_facts.specs.Facts.{no_facts}
 use Rattle.scopes.specs.Desk.{Layout}
 use Rattle.player_memory.specs.declared.labels.TheConstants.{FREQUENCY_LOWS, FREQUENCY_HIGHS, SPEED_LEFTS, SPEED_RIGHTS}
 use Rattle.player_memory.specs.declared.labels.TheConstants.{WAVE_LEFTS, WAVE_RIGHTS, PULSE_LEFTS, PULSE_RIGHTS}
@@ -59,6 +60,7 @@ song_with speeds = record {
   speed = speeds;
   features = record { 0 = 0x40A183 };
   features_within = omega arith;
+  facts = record no_facts { soft_restart = true; wave_delay = true; gate_note = true };
 }
 
 -- with a speed that is calculated, and with none

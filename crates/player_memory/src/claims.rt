@@ -2,7 +2,8 @@
 
 ghost use Rattle.play_model.specs.LookUps.{LookUps};
 ghost use Rattle.player_memory.specs.WorkedCommands.{CommandsAreWorked};
-ghost use Rattle.player_memory.specs.WorkedConditions.{ConditionsAreFeatures};
+ghost use Rattle.player_memory.specs.WorkedConditions.{ConditionsAreFeatures, ConditionsAreFacts, FactLinesAreWorked};
+ghost use Rattle.scopes.specs.Desk.{Layout};
 ghost use Rattle.player_memory.specs.Starting.{BeginningsPlay};
 ghost use Rattle.player_memory.specs.WorkedFetching.{SongsAreWorked};
 ghost use Rattle.player_memory.specs.WorkedForms.{FormsAreWorked};
@@ -33,9 +34,17 @@ pub fn worked_songs()
     ensures { (look : LookUps) → SongsAreWorked look }
 {}
 
-/// The condition under which the lines of each of the 24 features are kept is the one with the number of its bit.
+/// The condition under which the lines of each of the 24 features are kept is the one with the number of its bit, and
+/// that of each fact the one with the fact's number, from 34 on.
+#[tactic(auto, using(crate::proofs::WorkedConditions::conditions_are_features, crate::proofs::WorkedConditions::conditions_are_facts))]
 pub fn conditions_are_features()
-    ensures { ConditionsAreFeatures }
+    ensures features { ConditionsAreFeatures }
+    ensures facts { ConditionsAreFacts }
+{}
+
+/// Layouts that keep the lines of a song's facts, or don't, worked by hand.
+pub fn worked_fact_lines()
+    ensures { (layout : Layout) → FactLinesAreWorked layout }
 {}
 
 /// The condition that keeps the lines of each command, in a row and in the wave table, and layouts that keep them or

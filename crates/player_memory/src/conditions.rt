@@ -2,7 +2,8 @@
 //!
 //! Those from 0 to 23 are the features of a song, by their bits: each holds where the song uses the feature. A command
 //! is one of a pattern's row or of the wave table; where a pattern is named, one of a row alone. Behind them stand the
-//! options, and then what several features have in common: lines that are kept where the song uses any of them.
+//! options, and then what several features have in common: lines that are kept where the song uses any of them. Those
+//! from 34 to 41 are the song's facts, by their numbers, and the last ones what several facts or features have in common.
 
 /// An orderlist transposes.
 pub const TRANSPOSES: u8 = 0;
@@ -74,3 +75,30 @@ pub const RISE: u8 = 31;
 pub const SINK: u8 = 32;
 /// The note is reached: by a slide, or at once.
 pub const FOUND_NOTE: u8 = 33;
+
+/// A row of a pattern has command 3.
+pub const ROW_TONE: u8 = 34;
+/// A row has one of the commands 1 to 4.
+pub const ROW_SLIDE: u8 = 35;
+/// A row has one of the commands 5 up.
+pub const ROW_ONCE: u8 = 36;
+/// An instrument's first waveform is 0, `$FE` or `$FF`.
+pub const FIRST_MASK: u8 = 37;
+/// An instrument leaves the gate as it is before a note.
+pub const LEGATO: u8 = 38;
+/// An instrument closes the gate before a note and leaves the envelope.
+pub const SOFT_RESTART: u8 = 39;
+/// A row of the wave table is a delay.
+pub const WAVE_DELAY: u8 = 40;
+/// A row of a pattern has keyoff or keyon.
+pub const GATE_NOTE: u8 = 41;
+
+/// A row of a pattern has a command: one that runs, or one that is done once.
+pub const ROW_COMMAND: u8 = 42;
+/// A row of the wave table is a delay or a command.
+pub const SPECIAL_ROW: u8 = 43;
+/// An instrument leaves something as it is before a note: the gate, or the envelope alone.
+pub const HELD_NOTE: u8 = 44;
+
+/// How many conditions there are.
+pub const CONDITIONS: u8 = 45;

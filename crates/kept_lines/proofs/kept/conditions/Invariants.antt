@@ -6,6 +6,6 @@ use Rattle.kept_lines.proofs.kept.conditions.Given as goal
 
 abbrev pub invariant-loop-condition : goal.invariant-loop-condition
 invariant-loop-condition l = record {
-  set : l.set ≡ bits_below (keeps l.features.0 l.options) l.condition;
+  set : l.set ≡ bits_below (keeps l.asked.0 l.options) l.condition;
   most : l.set < 2 ^ l.condition;
 }

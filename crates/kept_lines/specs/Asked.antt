@@ -1,0 +1,54 @@
+-- What a song asks of its player, as one number: the set of the conditions that are its features and its facts. This is
+-- the project's own player.
+use Rattle.std.specs.Prelude.{◌≡◌, ℕ, ◌^◌, Bool, false, ◌==◌, if◌then◌else◌, nat_lt, sum_by}
+use Rattle.std.specs.List.{range_with_len}
+use Rattle.std.specs.Int.{bit_at}
+use Rattle.song_model.specs.declared.songs.Song.{Song}
+use Rattle.play_model.specs.Features.{AreFeatures}
+use Rattle.song_facts.specs.declared.facts.Facts.{Facts}
+use Rattle.song_facts.specs.Facts.{AreFacts}
+use Rattle.packed_form.specs.declared.packed_songs.PackedSong.{PackedSong}
+use Rattle.player_memory.specs.declared.conditions.TheConstants.{ROW_TONE, ROW_SLIDE, ROW_ONCE, FIRST_MASK, LEGATO}
+use Rattle.player_memory.specs.declared.conditions.TheConstants.{SOFT_RESTART, WAVE_DELAY, GATE_NOTE, ROW_COMMAND}
+
+-- whether the bit of a condition is set
+abbrev pub is_in : ℕ → ℕ → Bool
+is_in set condition = bit_at set condition == 1
+
+-- a bit that is set, or isn't
+abbrev pub bit_if : Bool → ℕ → ℕ
+bit_if is_set bit = if is_set then 2 ^ bit else 0
+
+-- the conditions of facts
+abbrev pub asks_fact : Facts → ℕ → Bool
+asks_fact facts condition =
+    if condition == ROW_TONE then facts.row_tone
+    else if condition == ROW_SLIDE then facts.row_slide
+    else if condition == ROW_ONCE then facts.row_once
+    else if condition == FIRST_MASK then facts.first_mask
+    else if condition == LEGATO then facts.legato
+    else if condition == SOFT_RESTART then facts.soft_restart
+    else if condition == WAVE_DELAY then facts.wave_delay
+    else if condition == GATE_NOTE then facts.gate_note
+    else false
+
+-- those below 24 are the features, by their bits
+abbrev pub asks : ℕ → Facts → ℕ → Bool
+asks features facts condition = if nat_lt condition 24 then is_in features condition else asks_fact facts condition
+
+-- the set of the conditions that are asked for, as the number that has their bits; behind the facts there is none
+unfoldable pub asked : ℕ → Facts → ℕ
+asked features facts =
+    sum_by (λ condition. bit_if (asks features facts condition) condition) (range_with_len 0 ROW_COMMAND)
+
+-- that of a packed song
+abbrev pub asked_by : PackedSong → ℕ
+asked_by packed = asked packed.features.0 packed.facts
+
+-- what a song asks for is this set
+pub record Asks (song : Song) (set : ℕ) : Type 0 where
+  pub features : ℕ
+  pub facts : Facts
+  pub are_features : AreFeatures song features
+  pub are_facts : AreFacts song facts
+  pub is : set ≡ asked features facts

@@ -1,0 +1,70 @@
+//! What a song asks of its player, as a set of conditions.
+
+ghost use Rattle.std.specs.Prelude.{◌≡◌, ◌<◌};
+ghost use Rattle.kept_lines.specs.Asked.{is_in, asks_fact, asks, asked, asked_by};
+
+use packed_form::PackedSong;
+use player_memory::conditions::{
+    FIRST_MASK, GATE_NOTE, LEGATO, ROW_COMMAND, ROW_ONCE, ROW_SLIDE, ROW_TONE, SOFT_RESTART,
+    WAVE_DELAY,
+};
+use scope_lines::Conditions;
+use song_facts::Facts;
+use song_model::FeatureBits;
+
+/// Whether a song uses a feature.
+fn uses(features: FeatureBits, feature: u8) -> bool
+    requires { feature < 24 }
+    ensures { result ≡ is_in features.0 feature }
+{
+    (features.0 >> u32::from(feature)) & 1 == 1
+}
+
+/// Whether a condition is that of a fact which a song has.
+fn asks_fact(facts: &Facts, condition: u8) -> bool
+    ensures { result ≡ asks_fact facts.now condition }
+{
+    match condition {
+        ROW_TONE => facts.row_tone,
+        ROW_SLIDE => facts.row_slide,
+        ROW_ONCE => facts.row_once,
+        FIRST_MASK => facts.first_mask,
+        LEGATO => facts.legato,
+        SOFT_RESTART => facts.soft_restart,
+        WAVE_DELAY => facts.wave_delay,
+        GATE_NOTE => facts.gate_note,
+        _ => false,
+    }
+}
+
+/// Whether a condition is asked for.
+fn asks(features: FeatureBits, facts: &Facts, condition: u8) -> bool
+    ensures { result ≡ asks features.0 facts.now condition }
+{
+    if condition < 24 {
+        uses(features, condition)
+    } else {
+        asks_fact(facts, condition)
+    }
+}
+
+/// What a song with these features and facts asks of its player.
+#[tactic(auto, unfolding(crate::specs::Asked::asked))]
+pub fn asked(features: FeatureBits, facts: &Facts) -> Conditions
+    ensures { result.0 ≡ asked features.0 facts.now }
+{
+    let mut set: u128 = 0;
+    for condition in 0..ROW_COMMAND {
+        if asks(features, facts, condition) {
+            set += 1 << u32::from(condition);
+        }
+    }
+    Conditions(set)
+}
+
+/// What a packed song asks of its player.
+pub fn asked_by(packed: &PackedSong) -> Conditions
+    ensures { result.0 ≡ asked_by packed.now }
+{
+    asked(packed.features, &packed.facts)
+}

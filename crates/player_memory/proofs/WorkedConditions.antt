@@ -1,0 +1,126 @@
+-- Conditions of features and of facts, and layouts that keep the lines of facts or don't.
+use Rattle.std.proofs.Common.{◌≡◌, true, [], ◌∷◌, inl, refl, arith}
+use Rattle.song_model.specs.LookUp.{pattern_at}
+use Rattle.play_model.specs.WorkedSongs.{row, one_note}
+use Rattle.scopes.specs.Desk.{Layout}
+use Rattle.song_facts.specs.declared.facts.Fact.{Fact}
+use Rattle.song_facts.specs.declared.facts.Fact.TheVariants.{RowTone, RowSlide, RowOnce, FirstMask, Legato, SoftRestart}
+use Rattle.song_facts.specs.declared.facts.Fact.TheVariants.{WaveDelay, GateNote}
+use Rattle.song_facts.specs.Facts.{HasFact, is_among, no_facts}
+use Rattle.player_memory.specs.declared.conditions.TheConstants.{GATE_NOTE}
+use Rattle.player_memory.specs.FactLines.{KeepsMarked}
+use Rattle.player_memory.specs.WorkedConditions.{ConditionsAreFeatures, ConditionsAreFacts, FactLinesAreWorked, with_holding}
+
+pub conditions_are_features : ConditionsAreFeatures
+conditions_are_features = record {
+  transposes = refl;
+  repeats = refl;
+  porta_up = refl;
+  porta_down = refl;
+  tone_porta = refl;
+  tie_note = refl;
+  vibrato = refl;
+  instrument_vibrato = refl;
+  note_dependent = refl;
+  set_ad = refl;
+  set_sr = refl;
+  set_wave = refl;
+  set_wave_pointer = refl;
+  pulse_table = refl;
+  set_pulse_pointer = refl;
+  filter_table = refl;
+  set_filter_pointer = refl;
+  set_filter_control = refl;
+  set_cutoff = refl;
+  set_volume = refl;
+  funk_tempo = refl;
+  set_tempo = refl;
+  wave_table = refl;
+  wave_command = refl;
+}
+
+pub conditions_are_facts : ConditionsAreFacts
+conditions_are_facts RowTone = refl
+conditions_are_facts RowSlide = refl
+conditions_are_facts RowOnce = refl
+conditions_are_facts FirstMask = refl
+conditions_are_facts Legato = refl
+conditions_are_facts SoftRestart = refl
+conditions_are_facts WaveDelay = refl
+conditions_are_facts GateNote = refl
+
+none_kept : (layout : Layout) → KeepsMarked layout no_facts
+none_kept layout RowTone on = absurd cc
+none_kept layout RowSlide on = absurd cc
+none_kept layout RowOnce on = absurd cc
+none_kept layout FirstMask on = absurd cc
+none_kept layout Legato on = absurd cc
+none_kept layout SoftRestart on = absurd cc
+none_kept layout WaveDelay on = absurd cc
+none_kept layout GateNote on = absurd cc
+
+gate_kept : (layout : Layout) → layout.holds GATE_NOTE ≡ true → KeepsMarked layout (record no_facts { gate_note = true })
+gate_kept layout holds RowTone on = absurd cc
+gate_kept layout holds RowSlide on = absurd cc
+gate_kept layout holds RowOnce on = absurd cc
+gate_kept layout holds FirstMask on = absurd cc
+gate_kept layout holds Legato on = absurd cc
+gate_kept layout holds SoftRestart on = absurd cc
+gate_kept layout holds WaveDelay on = absurd cc
+gate_kept layout holds GateNote on = holds
+
+-- the song of one note has a keyoff
+key_off : HasFact one_note GateNote
+unfolding pattern_at
+key_off = record {
+  row = row 0xBE 0 0 0;
+  used = record {
+    pattern = 0;
+    used = record {
+      byte = record {
+        order = _;
+        played = record {
+          subtune = _;
+          playable = (0, omega arith, refl);
+          channel = 1;
+          is_channel = record { first = omega arith; last = omega arith };
+          order_is = refl;
+        };
+        entry = (0, omega arith, refl);
+      };
+      is_pattern = omega arith;
+    };
+    has = (1, omega arith, refl);
+  };
+  is_such = inl refl;
+}
+
+pub fact_lines_are_worked : (layout : Layout) → FactLinesAreWorked layout
+fact_lines_are_worked layout = record {
+  none = none_kept (with_holding layout []);
+  gate = gate_kept (with_holding layout (GATE_NOTE ∷ [])) refl;
+  other = λ keeps. (let on = keeps GateNote refl in absurd cc);
+  song = λ keeps. (let on = keeps GateNote key_off in absurd cc);
+  free = record {
+    slide = λ on. absurd cc;
+    once = λ on. absurd cc;
+    delay = λ on. absurd cc;
+    command = λ on. absurd cc;
+    legato = λ on. absurd cc;
+    soft = λ on. absurd cc;
+  };
+  slide = λ keeps. (let on = keeps.slide refl in absurd cc);
+  once = λ keeps. (let on = keeps.once refl in absurd cc);
+  rows = record {
+    slide = λ on. refl;
+    once = λ on. absurd cc;
+    delay = λ on. absurd cc;
+    command = λ on. absurd cc;
+    legato = λ on. absurd cc;
+    soft = λ on. absurd cc;
+  };
+  delay = λ keeps. (let on = keeps.delay refl in absurd cc);
+  command = λ keeps. (let on = keeps.command refl in absurd cc);
+  legato = λ keeps. (let on = keeps.legato refl in absurd cc);
+  soft = λ keeps. (let on = keeps.soft refl in absurd cc);
+}

@@ -1,0 +1,42 @@
+-- Which condition keeps the lines of each fact of a song, and when a layout keeps those of a song's facts. This is the
+-- project's own player.
+use Rattle.std.specs.Prelude.{◌≡◌, ℕ, true}
+use Rattle.song_model.specs.declared.songs.Song.{Song}
+use Rattle.song_facts.specs.declared.facts.Fact.{Fact}
+use Rattle.song_facts.specs.declared.facts.Fact.TheVariants.{RowTone, RowSlide, RowOnce, FirstMask, Legato, SoftRestart}
+use Rattle.song_facts.specs.declared.facts.Fact.TheVariants.{WaveDelay, GateNote}
+use Rattle.song_facts.specs.declared.facts.Facts.{Facts}
+use Rattle.song_facts.specs.Facts.{HasFact, is_among}
+use Rattle.scopes.specs.Desk.{Layout}
+use Rattle.player_memory.specs.declared.conditions.TheConstants.{ROW_TONE, ROW_SLIDE, ROW_ONCE, FIRST_MASK, LEGATO}
+use Rattle.player_memory.specs.declared.conditions.TheConstants.{SOFT_RESTART, WAVE_DELAY, GATE_NOTE, ROW_COMMAND}
+use Rattle.player_memory.specs.declared.conditions.TheConstants.{SPECIAL_ROW, HELD_NOTE, WAVE_COMMAND}
+
+-- the condition of a fact
+abbrev pub fact_condition : Fact → ℕ
+fact_condition RowTone = ROW_TONE
+fact_condition RowSlide = ROW_SLIDE
+fact_condition RowOnce = ROW_ONCE
+fact_condition FirstMask = FIRST_MASK
+fact_condition Legato = LEGATO
+fact_condition SoftRestart = SOFT_RESTART
+fact_condition WaveDelay = WAVE_DELAY
+fact_condition GateNote = GATE_NOTE
+
+-- a layout keeps the lines of each of these facts
+abbrev pub KeepsMarked : Layout → Facts → Type 0
+KeepsMarked layout facts = (fact : Fact) → is_among facts fact ≡ true → layout.holds (fact_condition fact) ≡ true
+
+-- of each fact that a song has
+abbrev pub KeepsFacts : Layout → Song → Type 0
+KeepsFacts layout song = (fact : Fact) → HasFact song fact → layout.holds (fact_condition fact) ≡ true
+
+-- and the lines that facts or features have in common: of rows with a command, of delays and commands of the wave
+-- table, and of instruments that leave something as it is before a note
+pub record KeepsShared (layout : Layout) : Type 0 where
+  pub slide : layout.holds ROW_SLIDE ≡ true → layout.holds ROW_COMMAND ≡ true
+  pub once : layout.holds ROW_ONCE ≡ true → layout.holds ROW_COMMAND ≡ true
+  pub delay : layout.holds WAVE_DELAY ≡ true → layout.holds SPECIAL_ROW ≡ true
+  pub command : layout.holds WAVE_COMMAND ≡ true → layout.holds SPECIAL_ROW ≡ true
+  pub legato : layout.holds LEGATO ≡ true → layout.holds HELD_NOTE ≡ true
+  pub soft : layout.holds SOFT_RESTART ≡ true → layout.holds HELD_NOTE ≡ true
