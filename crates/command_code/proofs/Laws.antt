@@ -1,7 +1,7 @@
 -- The lemmas that upper crates may cite, and the words that they are said in.
 
 -- lines of a tree, and those of a command
-pub use Rattle.command_code.proofs.Lines.{first_of, behind, past, body_for}
+pub use Rattle.command_code.proofs.Lines.{first_of, behind, past, under, body_for}
 -- bytes that voices share are stored, and tempos
 pub use Rattle.command_code.proofs.Bytes.{shared_done, tempos_kept, own_tempo_set}
 -- the desk between the lines of one command and those of the next

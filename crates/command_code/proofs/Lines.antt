@@ -22,6 +22,11 @@ abbrev pub past : ℕ → Tree → Tree
 past zero tree = tree
 past (suc count) tree = past count (behind tree)
 
+-- those under a condition
+abbrev pub under : Tree → Tree
+under (WhenTree condition body) = body
+under tree = NeverTree
+
 -- the lines for a command, which Y is to be, under a condition
 abbrev pub lines_for : ℕ → ℕ → Tree → Tree
 lines_for condition command body =

@@ -1,17 +1,18 @@
 -- The last byte of an entry is read: its note, mask or rests.
 use Rattle.std.proofs.Common.{◌≡◌, ℕ, ℤ, pos, negsuc, unsigned_abs, ◌+◌, ◌-◌, ◌*◌}
-use Rattle.std.proofs.Common.{◌/◌, ◌%◌, ◌<◌, ◌≤◌, ◌+ℤ◌}
+use Rattle.std.proofs.Common.{◌/◌, ◌%◌, ◌<◌, ◌≤◌, ◌+ℤ◌, ◌⊎◌}
 use Rattle.std.proofs.Common.{true, false, not, nat_eq, nat_le, bit_or, if◌then◌else◌, List}
 use Rattle.std.proofs.Common.{inl, inr, refl, sym, ap, ◌∙◌, subst, arith}
 use Rattle.std.proofs.lemmas.Bool.{leb-true, leb-false, not-true, not-false, le-leb, lt-leb, ne_eqb, cases_lt}
-use Rattle.std.proofs.lemmas.Bool.{true≢false}
+use Rattle.std.proofs.lemmas.Bool.{both_ways, true≢false}
 use Rattle.std.proofs.lemmas.Int.{ints, int_rem_euclid_is}
 use Rattle.cpu6502.specs.Registers.{one_if}
 use Rattle.code_runs.specs.Runs.{put}
 use Rattle.play_model.specs.State.{Voice, Playing}
 use Rattle.play_model.specs.TickStep.{tempo_of}
 use Rattle.play_model.specs.FetchRow.{gate_keyed, is_note, transposed}
-use Rattle.player_memory.specs.declared.conditions.TheConstants.{TRANSPOSES}
+use Rattle.scopes.specs.Trees.{Tree, ThenTree, NeverTree}
+use Rattle.player_memory.specs.declared.conditions.TheConstants.{TRANSPOSES, GATE_NOTE}
 use Rattle.player_memory.specs.declared.labels.TheConstants.{REST, TRANSPOSE, NEW_NOTE}
 use Rattle.player_memory.specs.Fetching.{transpose_byte}
 use Rattle.player_desk.proofs.Laws.{VoiceDesk, Reader, Fields, Ways, Leads, done_as, in_scope, rest_of}
@@ -55,6 +56,18 @@ transposed_sum note (negsuc t) =
     omega (arith, ints) in
     ap unsigned_abs (int_rem_euclid_is (pos note +ℤ negsuc t) (pos 256) 256 (t / 256 + 1) (note + (255 - t % 256))
     (omega arith) refl sum)
+
+-- keyoff and keyon are what is left between a rest and runs of rests
+mask_is : (note : ℕ) → 0xBE ≤ note → note ≤ 0xBF → (note ≡ 0xBE) ⊎ (note ≡ 0xBF)
+mask_is note from to =
+    elim (cases_lt note 0xBF) [
+      | inl below ↦ (let l = below in inl (omega (arith, l, from)))
+      | inr past ↦ (let h = past in inr (omega (arith, h, to)))
+    ]
+
+-- the lines for keyoff and keyon are kept where the note is one of them
+abbrev pub KeepsNote : Reader → ℕ → Type 0
+KeepsNote r note = (note ≡ 0xBE) ⊎ (note ≡ 0xBF) → r.layout.holds GATE_NOTE ≡ true
 
 -- ---- what holds on the way
 
@@ -133,12 +146,12 @@ note_leads r s d place bytes left transpose v note ways m t idle at = (
 
 -- the carry is on behind it where no note waits
 pub last_note_leads : (r : Reader) (s : Playing) (d : VoiceDesk) (place : ℕ) (bytes left : List ℕ) (transpose : ℤ)
-    (v : Voice) (note : ℕ) (ways : Ways) (m : VoiceDesk) → 0x60 ≤ note → note ≤ 0xBF →
+    (v : Voice) (note : ℕ) (ways : Ways) (m : VoiceDesk) → 0x60 ≤ note → note ≤ 0xBF → KeepsNote r note →
     AtLast r s d place bytes left v note m →
     Leads r (rest_of UNNAMED take_tree)
     (in_scope NOTES (done_as (AtNote r s d place bytes left v note)
     (in_scope READ (done_as (AtRead r s d place bytes left transpose v note 0) ways)))) m
-last_note_leads r s d place bytes left transpose v note ways m from to at =
+last_note_leads r s d place bytes left transpose v note ways m from to gate at =
     let acc = at.is.a in (
       λ off.
           let low = leb-false 0xBD m.a (not-true _ off) in record {
@@ -156,28 +169,30 @@ last_note_leads r s d place bytes left transpose v note ways m from to at =
                 done v _ refl refl refl refl refl refl (not-false _ on) (omega (arith, acc, above))
                 (sym (not_keyed note v (omega (arith, acc, is)))) at.taking.fields at.taking.rest_is at.taking.play,
             λ other.
-                let isnt = over_is m.a 0xBD (omega arith) other in (
-                  λ rests. (let far = leb-true 0xC0 m.a rests in absurd (omega (arith, far, acc, to))),
-                  λ mask. (
-                    λ still.
-                        elim (cases_lt note 0xBF) [
-                          | inl below ↦
-                              let l = below in
-                              let is : note ≡ 0xBE = omega (arith, l, acc, above, isnt) in
-                              let masked : bit_or m.a 0xF0 ≡ 0xFE = ap (λ a. bit_or a 0xF0) (acc ∙ is) in
-                              done (record v { gate = 0xFE }) _ refl refl refl refl refl refl refl
-                              (omega (arith, acc, above)) (sym (ap (λ n. gate_keyed n v) is))
-                              (assumption (masked, at.taking.fields)) at.taking.rest_is (assumption at.taking.play)
-                          | inr past ↦
-                              let h = past in
-                              let is : note ≡ 0xBF = omega (arith, h, to) in
-                              let masked : bit_or m.a 0xF0 ≡ 0xFF = ap (λ a. bit_or a 0xF0) (acc ∙ is) in
-                              done (record v { gate = 0xFF }) _ refl refl refl refl refl refl refl
-                              (omega (arith, acc, above)) (sym (ap (λ n. gate_keyed n v) is))
-                              (assumption (masked, at.taking.fields)) at.taking.rest_is (assumption at.taking.play)
-                        ],
-                    λ lost. true≢false lost,
+                let isnt = over_is m.a 0xBD (omega arith) other in
+                let key = mask_is note (omega (arith, acc, above, isnt)) to in (
+                  λ kept. (
+                    λ rests. (let far = leb-true 0xC0 m.a rests in absurd (omega (arith, far, acc, to))),
+                    λ mask. (
+                      λ still.
+                          elim key [
+                            | inl keyoff ↦
+                                let is = keyoff in
+                                let masked : bit_or m.a 0xF0 ≡ 0xFE = ap (λ a. bit_or a 0xF0) (acc ∙ is) in
+                                done (record v { gate = 0xFE }) _ refl refl refl refl refl refl refl
+                                (omega (arith, acc, above)) (sym (ap (λ n. gate_keyed n v) is))
+                                (assumption (masked, at.taking.fields)) at.taking.rest_is (assumption at.taking.play)
+                            | inr keyon ↦
+                                let is = keyon in
+                                let masked : bit_or m.a 0xF0 ≡ 0xFF = ap (λ a. bit_or a 0xF0) (acc ∙ is) in
+                                done (record v { gate = 0xFF }) _ refl refl refl refl refl refl refl
+                                (omega (arith, acc, above)) (sym (ap (λ n. gate_keyed n v) is))
+                                (assumption (masked, at.taking.fields)) at.taking.rest_is (assumption at.taking.play)
+                          ],
+                      λ lost. true≢false lost,
+                    ),
                   ),
+                  λ out. absurd (both_ways (r.layout.holds GATE_NOTE) out (gate key)),
                 ),
           ),
     )
@@ -195,6 +210,36 @@ last_note_leads r s d place bytes left transpose v note ways m from to at =
           carry = c ∙ sym (ap not (keys note key));
         }
 
+-- the lines behind the first of some
+abbrev pub behind : Tree → Tree
+behind (ThenTree first rest) = rest
+behind tree = NeverTree
+
+-- A is a run of rests, and the carry is on
+abbrev rests_tree : Tree
+rests_tree = behind (behind (behind (behind (rest_of UNNAMED take_tree))))
+
+rests_leads : (r : Reader) (s : Playing) (d : VoiceDesk) (place : ℕ) (bytes left : List ℕ) (transpose : ℤ)
+    (v : Voice) (more : ℕ) (goes : VoiceDesk → Type 0) (ways : Ways) (m : VoiceDesk) → more ≤ 63 → m.c ≡ true →
+    AtLast r s d place bytes left v (0xC0 + more) m →
+    Leads r rests_tree
+    (in_scope NOTES (done_as goes
+    (in_scope READ (done_as (AtRead r s d place bytes left transpose v 0xBD more) ways)))) m
+rests_leads r s d place bytes left transpose v more goes ways m few carry at =
+    let acc = at.is.a in
+    let one = ap one_if carry in (
+      λ over.
+          let left_is : (m.a + 63 + one_if m.c) % 256 ≡ more = omega (arith, acc, one, few) in record {
+            taking = takes r s d place v v 0 more m _ refl refl refl refl (assumption at.taking.fields) left_is
+                (assumption at.taking.play) at.taking;
+            before = at.is.before;
+            carry = over;
+          },
+      λ under.
+          let below = leb-false 256 (m.a + 63 + one_if m.c) under in
+          absurd (omega (arith, acc, one, below)),
+    )
+
 -- rests
 pub last_rests_leads : (r : Reader) (s : Playing) (d : VoiceDesk) (place : ℕ) (bytes left : List ℕ) (transpose : ℤ)
     (v : Voice) (more : ℕ) (goes : VoiceDesk → Type 0) (ways : Ways) (m : VoiceDesk) → more ≤ 63 →
@@ -210,20 +255,23 @@ last_rests_leads r s d place bytes left transpose v more goes ways m few at =
             let is = compared_is m.a 0xBD (omega (arith, acc, few)) (omega arith) zero in
             absurd (omega (arith, acc, is)),
         λ other. (
-          λ rests. (
-            λ over.
-                let left_is : (m.a + 63 + one_if (nat_le 0xC0 m.a)) % 256 ≡ more =
-                (let one = ap one_if rests in omega (arith, acc, one, few)) in record {
-                  taking = takes r s d place v v 0 more m _ refl refl refl refl (assumption at.taking.fields) left_is
-                      (assumption at.taking.play) at.taking;
-                  before = at.is.before;
-                  carry = over;
-                },
-            λ under.
-                let below = leb-false 256 (m.a + 63 + one_if (nat_le 0xC0 m.a)) under in
-                (let one = ap one_if rests in absurd (omega (arith, acc, one, below))),
+          λ kept. (
+            λ rests. run (record m { c = nat_le 0xC0 m.a }) refl refl refl refl refl refl refl rests,
+            λ mask. (let low = leb-false 0xC0 m.a mask in absurd (omega (arith, low, acc))),
           ),
-          λ mask. (let low = leb-false 0xC0 m.a mask in absurd (omega (arith, low, acc))),
+          λ out. run (record m { c = nat_le 0xBD m.a }) refl refl refl refl refl refl refl (not-false _ on),
         ),
       ),
     )
+  where
+    run : (n : VoiceDesk) → n.own ≡ m.own → n.shared ≡ m.shared → n.sid ≡ m.sid → n.low ≡ m.low →
+        n.high ≡ m.high → n.y ≡ m.y → n.a ≡ m.a → n.c ≡ true →
+        Leads r rests_tree
+        (in_scope NOTES (done_as goes
+        (in_scope READ (done_as (AtRead r s d place bytes left transpose v 0xBD more) ways)))) n
+    run n own shared sid low high y a carry =
+        rests_leads r s d place bytes left transpose v more goes ways n few carry (record {
+          taking = takes r s d place v v 0 0 m n shared sid low high (rw own at.taking.fields)
+              (rw own at.taking.rest_is) (rw own at.taking.play) at.taking;
+          is = record { a = a ∙ at.is.a; before = rw y at.is.before };
+        })

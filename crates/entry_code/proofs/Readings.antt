@@ -19,7 +19,8 @@ use Rattle.player_text.specs.declared.fetch.TheConstants.{READ, NOTES, UNNAMED}
 use Rattle.entry_code.proofs.Texts.{kind_first, kind_others}
 use Rattle.entry_code.proofs.Takes.{take_tree, PatternAt, Taking, IsBefore, IsByte, takes, next_byte}
 use Rattle.player_desk.proofs.Laws.{at_pointer}
-use Rattle.entry_code.proofs.LastBytes.{AtRead, AtNote, AtLast, note_leads, last_note_leads, last_rests_leads}
+use Rattle.entry_code.proofs.LastBytes.{AtRead, AtNote, AtLast, KeepsNote, note_leads, last_note_leads}
+use Rattle.entry_code.proofs.LastBytes.{last_rests_leads}
 
 -- ---- the command
 
@@ -150,18 +151,20 @@ unnamed_leads r s d place bytes left transpose instrument running (Rests more) b
 -- behind its command
 last_leads : (r : Reader) (s : Playing) (d : VoiceDesk) (place : ℕ) (bytes left : List ℕ) (transpose : ℤ)
     (instrument : ℕ) (running : Command) (kind : EntryKind) (ways : Ways) (m : VoiceDesk) → IsKind kind →
+    KeepsNote r (entry_note kind) →
     LastIs r s d place bytes left (taken instrument (command_behind running kind) s.voice) kind m →
     Leads r (rest_of UNNAMED take_tree)
     (in_scope NOTES (done_as (AtNote r s d place bytes left (taken instrument (command_behind running kind) s.voice)
     (entry_note kind))
     (in_scope READ (done_as (Read r s d place bytes left transpose instrument running kind) ways)))) m
-last_leads r s d place bytes left transpose instrument running (NamedNote command note) ways m kind at =
+last_leads r s d place bytes left transpose instrument running (NamedNote command note) ways m kind gate at =
     last_note_leads r s d place bytes left transpose (taken instrument command s.voice) note ways m kind.1.from
-    kind.1.to at
-last_leads r s d place bytes left transpose instrument running (NamedRest command) ways m kind none = absurd none
-last_leads r s d place bytes left transpose instrument running (Note note) ways m kind at =
-    last_note_leads r s d place bytes left transpose (taken instrument running s.voice) note ways m kind.from kind.to at
-last_leads r s d place bytes left transpose instrument running (Rests more) ways m kind at =
+    kind.1.to gate at
+last_leads r s d place bytes left transpose instrument running (NamedRest command) ways m kind gate none = absurd none
+last_leads r s d place bytes left transpose instrument running (Note note) ways m kind gate at =
+    last_note_leads r s d place bytes left transpose (taken instrument running s.voice) note ways m kind.from kind.to
+    gate at
+last_leads r s d place bytes left transpose instrument running (Rests more) ways m kind gate at =
     last_rests_leads r s d place bytes left transpose (taken instrument running s.voice) more
     (AtNote r s d place bytes left (taken instrument running s.voice) 0xBD) ways m kind at
 
@@ -186,13 +189,13 @@ sounding_leads r s d place bytes left transpose instrument running (Rests more) 
 pub read_leads : (r : Reader) (s : Playing) (d : VoiceDesk) (place : ℕ) (bytes left : List ℕ) (transpose : ℤ)
     (instrument : ℕ) (running : Command) (kind : EntryKind) (byte : ℕ) (others : List ℕ) (ways : Ways) (m : VoiceDesk) →
     PatternAt r place bytes → left ≡ byte ∷ others → IsKind kind → d.own TRANSPOSE ≡ transpose_byte transpose →
-    (r.layout.holds TRANSPOSES ≡ false → transpose_byte transpose ≡ 0) →
+    (r.layout.holds TRANSPOSES ≡ false → transpose_byte transpose ≡ 0) → KeepsNote r (entry_note kind) →
     Taking r s d place (taken instrument running s.voice) 0 m →
     IsByte bytes (kind_first kind) (kind_others kind ++ left) m →
     Leads r (body_of READ take_tree)
     (in_scope READ (done_as (Read r s d place bytes left transpose instrument running kind) ways)) m
-read_leads r s d place bytes left transpose instrument running kind byte others ways m ground begun is_kind t idle at
-    is =
+read_leads r s d place bytes left transpose instrument running kind byte others ways m ground begun is_kind t idle
+    gate at is =
     joined true r NOTES (body_of NOTES take_tree) (rest_of NOTES take_tree) IsSounding goal m
     (joined true r UNNAMED (body_of UNNAMED take_tree) (rest_of UNNAMED take_tree)
     (LastIs r s d place bytes left (taken instrument (command_behind running kind) s.voice) kind)
@@ -200,7 +203,7 @@ read_leads r s d place bytes left transpose instrument running kind byte others 
     (unnamed_leads r s d place bytes left transpose instrument running kind byte others IsSounding ways m ground begun
     is_kind
     at is)
-    (λ n last. last_leads r s d place bytes left transpose instrument running kind ways n is_kind last))
+    (λ n last. last_leads r s d place bytes left transpose instrument running kind ways n is_kind gate last))
     (λ n note. sounding_leads r s d place bytes left transpose instrument running kind ways n t idle note)
   where
     IsSounding : VoiceDesk → Type 0

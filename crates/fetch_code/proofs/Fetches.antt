@@ -238,7 +238,7 @@ taking_leads r look packed order s d m ground at = by_song at.waiting.stands.son
           entries = entries;
         })
         (record { pattern = pattern; transpose = transpose; walk = walk }) (ground.spells s.voice.plays).count.most
-        ground.timer (λ out. ground.idle out s.voice.plays) ground.new_command (at_fetch s.voice at.now))
+        ground.timer ground.keeps (λ out. ground.idle out s.voice.plays) ground.new_command (at_fetch s.voice at.now))
 
 -- ---- the pattern begins
 

@@ -6,12 +6,11 @@ use Rattle.std.proofs.lemmas.Bool.{leb-true, leb-false, not-true, not-false, eq-
 use Rattle.std.proofs.lemmas.List.Elements.{All-tail}
 use Rattle.code_runs.specs.Runs.{put}
 use Rattle.song_model.specs.declared.orders.Order.{Order}
-use Rattle.song_model.specs.LookUp.{pattern_row}
 use Rattle.song_model.specs.Walk.{played}
 use Rattle.play_model.specs.LookUps.{LookUps}
 use Rattle.play_model.specs.State.{Voice, Playing}
 use Rattle.play_model.specs.TickStep.{tempo_of}
-use Rattle.play_model.specs.FetchRow.{row_taken, fetch_row}
+use Rattle.play_model.specs.FetchRow.{fetch_row}
 use Rattle.play_model.specs.Frame.{is_at_fetch, is_between_patterns}
 use Rattle.packed_form.specs.Entries.{IsEntry}
 use Rattle.packed_form.specs.PackedSpells.{PackedSpells}
@@ -32,7 +31,7 @@ use Rattle.entry_code.proofs.Laws.{two_bytes}
 use Rattle.entry_code.proofs.Laws.{TimerAt}
 use Rattle.entry_code.proofs.Laws.{fields_moved}
 use Rattle.fetch_code.proofs.Rests.{stands_behind_rest, rest_moves}
-use Rattle.fetch_code.specs.FetchBlock.{left_out}
+use Rattle.fetch_code.specs.FetchBlock.{left_out, next_instrument, KeepsNext}
 use Rattle.fetch_code.proofs.Outcomes.{Fetched, fetch_ways}
 
 -- the voice behind the step: its row is fetched where that is due
@@ -165,12 +164,14 @@ entry_within r look packed order v own some more (InLastRun left rests last next
 -- ---- what the step stands on
 
 -- the patterns that the orderlist plays are found, and spell their rows; where transposes aren't kept, none is played;
--- and the gateoff timer of the instrument that the voice has behind its row is found
+-- the gateoff timer of the instrument that the voice has behind its row is found; and the lines are kept that the row
+-- asks for
 pub record FetchGround (r : Reader) (look : LookUps) (packed : ℕ → List ℕ) (order : Order) (v : Voice) : Type 0 where
   pub pattern : (n : ℕ) → PatternAt r (place_before r.layout (played order n).pattern) (packed (played order n).pattern)
   pub spells : (n : ℕ) → PackedSpells (packed (played order n).pattern) (look.rows (played order n).pattern)
   pub idle : r.layout.holds TRANSPOSES ≡ false → (n : ℕ) → transpose_byte (played order n).transpose ≡ 0
-  pub timer : TimerAt r look (row_taken (pattern_row (look.rows (played order v.plays).pattern) v.row) v).instrument
+  pub timer : TimerAt r look (next_instrument look order v)
+  pub keeps : KeepsNext r.layout look order v
   pub tick : v.tick < 256
   pub gate_timer : v.gate_timer < 256
   pub new_command : v.new_command < 256

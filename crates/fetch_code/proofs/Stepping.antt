@@ -56,6 +56,7 @@ fetch_ground layout rows voice desk label look packed order v has at = record {
   tick = at.tick;
   gate_timer = at.gate_timer;
   new_command = at.command;
+  keeps = at.keeps;
 }
 
 walk_ground : (layout : Layout) (rows voice : ℕ) (desk : Desk) (label : ℕ) (look : LookUps) (packed : ℕ → List ℕ)

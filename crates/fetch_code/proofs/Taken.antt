@@ -13,6 +13,7 @@ use Rattle.play_model.specs.State.{Voice, Playing}
 use Rattle.play_model.specs.FetchRow.{gate_keyed, row_taken, row_done, row_moved, fetch_row}
 use Rattle.play_model.specs.TickStep.{tempo_of}
 use Rattle.play_model.specs.Frame.{is_at_fetch}
+use Rattle.song_facts.specs.Facts.{IsGateNote, IsTone, IsLegato, IsSoft}
 use Rattle.packed_form.specs.declared.entries.Command.{Command}
 use Rattle.packed_form.specs.declared.entries.EntryKind.{EntryKind}
 use Rattle.packed_form.specs.declared.entries.EntryKind.TheVariants.{NamedNote, NamedRest, Note, Rests}
@@ -27,12 +28,13 @@ use Rattle.player_text.specs.declared.fetch.TheConstants.{READ, END, HELD}
 use Rattle.entry_code.proofs.Laws.{Stands, stands_there, text_begins, Begun}
 use Rattle.player_desk.proofs.Laws.{around_on}
 use Rattle.entry_code.proofs.Laws.{take_tree, PatternAt, takes}
-use Rattle.entry_code.proofs.Laws.{noted}
+use Rattle.entry_code.proofs.Laws.{noted, KeepsNote}
 use Rattle.entry_code.proofs.Laws.{taken, Read, read_leads}
 use Rattle.entry_code.proofs.Laws.{AtFetch, begin_leads}
-use Rattle.entry_code.proofs.Laws.{TimerAt, AtHeld, AtOffset, end_leads, held_leads}
+use Rattle.entry_code.proofs.Laws.{TimerAt, KeepsGate, AtHeld, AtOffset, end_leads, held_leads}
 use Rattle.entry_code.proofs.Laws.{InPlay, same_pattern, same_walk, row_kept, plays_kept, command_taken, stands_next}
 use Rattle.entry_code.proofs.Laws.{fields_moved}
+use Rattle.fetch_code.specs.FetchBlock.{next_instrument, KeepsNext}
 use Rattle.fetch_code.proofs.Outcomes.{Fetched, fetch_ways}
 
 pub fetch_is : (look : LookUps) (order : Order) (v : Voice) (row : Row) →
@@ -62,19 +64,18 @@ pub take_leads : (r : Reader) (look : LookUps) (packed : ℕ → List ℕ) (orde
     AtFetch r s (place_before r.layout (played order s.voice.plays).pattern)
     (packed (played order s.voice.plays).pattern) (look.rows (played order s.voice.plays).pattern) d →
     InPlay r.layout order s.voice.plays d.own → length (look.rows (played order s.voice.plays).pattern) ≤ 128 →
-    TimerAt r look
-    (row_taken (pattern_row (look.rows (played order s.voice.plays).pattern) s.voice.row) s.voice).instrument →
+    TimerAt r look (next_instrument look order s.voice) → KeepsNext r.layout look order s.voice →
     (r.layout.holds TRANSPOSES ≡ false → transpose_byte (played order s.voice.plays).transpose ≡ 0) →
     s.voice.new_command < 256 → is_at_fetch s.voice ≡ true →
     Leads r take_tree
     (fetch_ways r.layout s.voice (Fetched r look packed order s (fetch_row look order s.voice) d)) d
-take_leads r look packed order s d ground at play few timer idle small due =
+take_leads r look packed order s d ground at play few timer keeps idle small due =
     begin_leads r s place bytes rows ways d ground at
     (λ m kind.
     joined true r READ (body_of READ take_tree) (rest_of READ take_tree)
     (Read r s d place bytes (text_of entries) step.transpose entry.instrument running entry.kind) ways m
     (read_leads r s d place bytes (text_of entries) step.transpose entry.instrument running entry.kind begun.byte
-    begun.others ways m ground begun.is is_entry.kind play.transpose idle kind.taking kind.is)
+    begun.others ways m ground begun.is is_entry.kind play.transpose idle keeps_note kind.taking kind.is)
     (λ n read.
     joined true r END (body_of END take_tree) (rest_of END take_tree)
     (AtOffset r s d place bytes entries (noted note step.transpose (gate_keyed note v)) note rest) ways
@@ -138,6 +139,20 @@ take_leads r look packed order s d ground at play few timer idle small due =
     here = stands_there rows s.voice.row row zero_row
         (replicate rest (row_with 0xBD 0 command) ++ rows_from command entries) at.entries.left
 
+    -- the lines that the row asks for
+    keeps_note : KeepsNote r note
+    keeps_note key = keeps.gate (subst IsGateNote (sym here.is) key)
+
+    keeps_gate : KeepsGate r look v
+    keeps_gate = record {
+      tone = λ tone. keeps.tone (subst IsTone (sym here.is) tone);
+      legato = λ legato.
+          keeps.legato (subst (λ x. IsLegato (look.instrument (row_taken x s.voice).instrument)) (sym here.is) legato);
+      soft = λ soft.
+          keeps.soft (subst (λ x. IsSoft (look.instrument (row_taken x s.voice).instrument)) (sym here.is) soft);
+      shared = keeps.shared;
+    }
+
     fetched_is : fetch_row look order s.voice ≡ row_moved (length rows) w
     fetched_is = fetch_is look order s.voice row here.is
 
@@ -178,7 +193,7 @@ take_leads r look packed order s d ground at play few timer idle small due =
         (record k { own = put k.own OFFSET k.a })
         (held_leads r look s d place bytes entries step.transpose v note rest ways
         (record k { own = put k.own OFFSET k.a })
-        (subst (λ x. TimerAt r look (row_taken x s.voice).instrument) here.is timer)
+        (subst (λ x. TimerAt r look (row_taken x s.voice).instrument) here.is timer) keeps_gate
         (command_small running entry.kind (running_small s.voice (d.own OFFSET) small (nat_eq (d.own OFFSET) 1) refl)
         is_entry.kind)
         (record {

@@ -2,6 +2,7 @@
 use Rattle.std.specs.Prelude.{◌≡◌, ℕ, ◌<◌, ◌≤◌, ◌⊎◌, ◌&&◌, ◌||◌, Bool, true, false, List}
 use Rattle.std.specs.Prelude.{length, All}
 use Rattle.cpu6502.specs.declared.memory.TheConstants.{MEMORY_SIZE}
+use Rattle.song_model.specs.declared.rows.Row.{Row}
 use Rattle.song_model.specs.declared.orders.Order.{Order}
 use Rattle.song_model.specs.declared.orders.TheConstants.{MOST_ENTRIES}
 use Rattle.song_model.specs.LookUp.{pattern_row}
@@ -11,12 +12,15 @@ use Rattle.play_model.specs.LookUps.{LookUps}
 use Rattle.play_model.specs.State.{Voice, Playing}
 use Rattle.play_model.specs.FetchRow.{row_taken}
 use Rattle.play_model.specs.Frame.{is_at_fetch, is_between_patterns, row_fetched}
+use Rattle.song_facts.specs.Facts.{IsGateNote, IsTone, IsLegato, IsSoft}
 use Rattle.packed_form.specs.WalkLaws.{WalkEnds}
 use Rattle.scopes.specs.Desk.{Desk, Layout}
 use Rattle.scopes.specs.Trees.{Tree, NoneTree, ThenTree, ScopeTree}
 use Rattle.scopes.specs.Meaning.{Outcome, Done, Left, Ran, each_one, ran}
 use Rattle.player_memory.specs.declared.conditions.TheConstants.{TRANSPOSES, REPEATS, SKIP_PULSE, SKIP_FIRST}
+use Rattle.player_memory.specs.declared.conditions.TheConstants.{GATE_NOTE, ROW_TONE, LEGATO, SOFT_RESTART}
 use Rattle.player_memory.specs.declared.labels.TheConstants.{LENT, GATE_TIMERS}
+use Rattle.player_memory.specs.FactLines.{KeepsShared}
 use Rattle.player_memory.specs.Rooms.{IsRoom, MayUse}
 use Rattle.player_memory.specs.Playing.{own_at, shared_at, IsListed, IsPlaying, IsAtVoice, OthersStay, AllSlidesStay}
 use Rattle.player_memory.specs.Fetching.{IsOrderlist, IsPattern, IsInSong}
@@ -45,13 +49,25 @@ pub record HasOrderlist (layout : Layout) (rows : ℕ) (at : ℕ → ℕ) (label
   pub each : All (IsKept layout) order.entries
   pub walks : WalkEnds 255 order
 
--- the instrument that a voice has behind its next row
-abbrev pub next_instrument : LookUps → Order → Voice → ℕ
-next_instrument look order v =
-    (row_taken (pattern_row (look.rows (played order v.plays).pattern) v.row) v).instrument
+-- the row that comes next
+abbrev pub next_row : LookUps → Order → Voice → Row
+next_row look order v = pattern_row (look.rows (played order v.plays).pattern) v.row
 
--- each pattern that the orderlist plays stands there, too, and the gateoff timer of that instrument; and what the code
--- reads of the voice are bytes
+-- the instrument that a voice has behind it
+abbrev pub next_instrument : LookUps → Order → Voice → ℕ
+next_instrument look order v = (row_taken (next_row look order v) v).instrument
+
+-- the lines are kept that the row asks for: for keyoff and keyon, for a slide to its note, and for an instrument that
+-- leaves the gate or the envelope as it is
+pub record KeepsNext (layout : Layout) (look : LookUps) (order : Order) (v : Voice) : Type 0 where
+  pub gate : IsGateNote (next_row look order v) → layout.holds GATE_NOTE ≡ true
+  pub tone : IsTone (next_row look order v) → layout.holds ROW_TONE ≡ true
+  pub legato : IsLegato (look.instrument (next_instrument look order v)) → layout.holds LEGATO ≡ true
+  pub soft : IsSoft (look.instrument (next_instrument look order v)) → layout.holds SOFT_RESTART ≡ true
+  pub shared : KeepsShared layout
+
+-- each pattern that the orderlist plays stands there, too, and the gateoff timer of that instrument; what the code
+-- reads of the voice are bytes; and the lines are kept that the next row asks for
 pub record HasRows (layout : Layout) (rows : ℕ) (at : ℕ → ℕ) (look : LookUps) (packed : ℕ → List ℕ) (order : Order)
     (v : Voice) : Type 0 where
   pub pattern : (n : ℕ) →
@@ -62,6 +78,7 @@ pub record HasRows (layout : Layout) (rows : ℕ) (at : ℕ → ℕ) (look : Loo
   pub tick : v.tick < 256
   pub gate_timer : v.gate_timer < 256
   pub command : v.new_command < 256
+  pub keeps : KeepsNext layout look order v
 
 -- ---- what it does
 

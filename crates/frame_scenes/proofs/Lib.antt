@@ -8,6 +8,8 @@ mod Turns
 mod Programs
 mod Orders
 mod Patterns
+-- The lines of facts are kept.
+mod FactsKept
 -- The steps are ready.
 mod Ticks
 mod Moves

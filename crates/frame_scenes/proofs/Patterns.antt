@@ -8,13 +8,14 @@ use Rattle.song_model.specs.declared.rows.Row.{Row}
 use Rattle.song_model.specs.declared.orders.Order.{Order}
 use Rattle.song_model.specs.declared.songs.Song.{Song}
 use Rattle.song_model.specs.Endless.{IsEndless}
-use Rattle.song_model.specs.LookUp.{pattern_at, pattern_row, zero_row, IsNumbered}
+use Rattle.song_model.specs.LookUp.{pattern_at, zero_row, IsNumbered}
 use Rattle.song_model.specs.Walk.{played}
 use Rattle.song_model.proofs.Laws.{plays_are_patterns_lem}
+use Rattle.song_facts.specs.declared.facts.Fact.TheVariants.{RowTone, Legato, SoftRestart, GateNote}
 use Rattle.play_model.specs.declared.options.Options.{Options}
 use Rattle.play_model.specs.State.{Voice, FrameState, Playing}
 use Rattle.play_model.specs.FetchRow.{row_taken}
-use Rattle.play_model.specs.Used.{IsPlayedOrder, IsUsedPattern, IsUsedInstrument}
+use Rattle.play_model.specs.Used.{IsPlayedOrder, IsUsedPattern, IsUsedRow, IsUsedInstrument}
 use Rattle.play_model.proofs.Laws.{whole_lem}
 use Rattle.packed_form.specs.declared.packed_songs.PackedSong.{PackedSong}
 use Rattle.packed_form.specs.PackedSpells.{PackedSpells}
@@ -23,9 +24,10 @@ use Rattle.packed_form.specs.StandsFor.{StandsFor}
 use Rattle.scopes.specs.Desk.{Layout}
 use Rattle.player_memory.specs.SongLists.{PatternLows, PatternHighs, PatternBytes, Instruments, pattern_bytes}
 use Rattle.player_memory.specs.SongLists.{slide_rows}
+use Rattle.player_memory.specs.FactLines.{KeepsFacts, KeepsShared}
 use Rattle.player_memory.specs.Fetching.{IsPattern}
 use Rattle.player_memory.specs.Holds.{look_of, order_in, PatternStands}
-use Rattle.fetch_code.specs.FetchBlock.{HasRows, next_instrument}
+use Rattle.fetch_code.specs.FetchBlock.{HasRows, KeepsNext, next_instrument, next_row}
 use Rattle.frame_scenes.specs.FrameScenes.{Scene}
 use Rattle.frame_scenes.proofs.Lists.{from_one, from_none, looks}
 use Rattle.frame_scenes.proofs.Turns.{AtTurn, IsFine}
@@ -90,15 +92,24 @@ instrument_stored packed song number stands used =
     let last = stored.last in
     record { first = stored.first; last = omega (arith, count, last) }
 
--- that which a voice has behind its row is used
-row_instrument : (packed : PackedSong) (order : Order) (v : Voice) → IsPlayedOrder (unpacked_song packed) order →
-    IsEndless order → IsUsedInstrument (unpacked_song packed) v.instrument →
-    v.row < length (pattern_at (unpacked_song packed) (played order v.plays).pattern) →
+-- the row that comes next is used
+next_used : (packed : PackedSong) (order : Order) (v : Voice) → IsPlayedOrder (unpacked_song packed) order →
+    IsEndless order → v.row < length (pattern_at (unpacked_song packed) (played order v.plays).pattern) →
+    IsUsedRow (unpacked_song packed) (next_row (look_of packed) order v)
+next_used packed order v is_played endless inside = record {
+  pattern = (played order v.plays).pattern;
+  used = play_used packed order v.plays is_played endless;
+  has = Contains-get_or (pattern_at (unpacked_song packed) (played order v.plays).pattern) v.row zero_row inside;
+}
+
+-- the instrument that a voice has behind it is used
+row_instrument : (packed : PackedSong) (order : Order) (v : Voice) → IsUsedInstrument (unpacked_song packed) v.instrument →
+    IsUsedRow (unpacked_song packed) (next_row (look_of packed) order v) →
     IsUsedInstrument (unpacked_song packed) (next_instrument (look_of packed) order v)
-row_instrument packed order v is_played endless used inside = by_row (row.instrument == 0) refl
+row_instrument packed order v used next = by_row (row.instrument == 0) refl
   where
     row : Row
-    row = pattern_row (pattern_at (unpacked_song packed) (played order v.plays).pattern) v.row
+    row = next_row (look_of packed) order v
 
     by_row : (z : Bool) → (row.instrument == 0) ≡ z →
         IsUsedInstrument (unpacked_song packed) (row_taken row v).instrument
@@ -106,16 +117,28 @@ row_instrument packed order v is_played endless used inside = by_row (row.instru
     by_row false z =
         rw z (inr (record {
           row = row;
-          used = record {
-            pattern = (played order v.plays).pattern;
-            used = play_used packed order v.plays is_played endless;
-            has =
-                Contains-get_or (pattern_at (unpacked_song packed) (played order v.plays).pattern) v.row zero_row
-                inside;
-          };
+          used = next;
           names = refl;
           some = eqb-false row.instrument 0 z;
         }))
+
+-- what the row asks for is kept
+next_kept : (layout : Layout) (packed : PackedSong) (order : Order) (v : Voice) →
+    KeepsFacts layout (unpacked_song packed) → KeepsShared layout →
+    IsUsedRow (unpacked_song packed) (next_row (look_of packed) order v) →
+    IsUsedInstrument (unpacked_song packed) (next_instrument (look_of packed) order v) →
+    KeepsNext layout (look_of packed) order v
+next_kept layout packed order v facts shared row instrument = record {
+  gate = λ is. facts GateNote (record { row = next_row (look_of packed) order v; used = row; is_such = is });
+  tone = λ is. facts RowTone (record { row = next_row (look_of packed) order v; used = row; is_such = is });
+  legato = λ is.
+      facts Legato
+      (record { instrument = next_instrument (look_of packed) order v; used = instrument; is_such = is });
+  soft = λ is.
+      facts SoftRestart
+      (record { instrument = next_instrument (look_of packed) order v; used = instrument; is_such = is });
+  shared = shared;
+}
 
 -- ---- rows
 
@@ -133,6 +156,7 @@ rows_stand layout packed song o k voice x at s turn fine = record {
   tick = fine.range.voice.tick;
   gate_timer = fine.range.voice.gate_timer;
   command = fine.range.voice.new_command;
+  keeps = next_kept layout packed order s.voice scene.facts scene.shared row instrument;
 }
   where
     scene : Scene layout packed song o k x at
@@ -144,7 +168,11 @@ rows_stand layout packed song o k voice x at s turn fine = record {
     is : IsPlayedAndShort packed (order_in packed k voice)
     is = order_played packed song k voice scene.stands scene.below turn.few
 
+    row : IsUsedRow (unpacked_song packed) (next_row (look_of packed) order s.voice)
+    row = next_used packed order s.voice is.played is.endless fine.safe.voice.row
+
+    instrument : IsUsedInstrument (unpacked_song packed) (next_instrument (look_of packed) order s.voice)
+    instrument = row_instrument packed order s.voice fine.safe.voice.instrument row
+
     numbered : IsNumbered packed.instruments (next_instrument (look_of packed) order s.voice)
-    numbered =
-        instrument_stored packed song _ scene.stands
-        (row_instrument packed order s.voice is.played is.endless fine.safe.voice.instrument fine.safe.voice.row)
+    numbered = instrument_stored packed song _ scene.stands instrument

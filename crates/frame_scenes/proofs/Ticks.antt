@@ -27,6 +27,7 @@ use Rattle.frame_scenes.proofs.Speeds.{speeds_stand}
 use Rattle.frame_scenes.proofs.Turns.{AtTurn, IsFine, its_turn, in_turn, begins}
 use Rattle.frame_scenes.proofs.Programs.{speed_stored, waiting_points}
 use Rattle.frame_scenes.proofs.Patterns.{instrument_stored}
+use Rattle.frame_scenes.proofs.FactsKept.{row_kept, mask_kept}
 
 -- ---- what is read
 
@@ -94,11 +95,16 @@ once_kept layout packed song o k voice x at turn command d does =
 
 pub tick_keeps : (layout : Layout) (packed : PackedSong) (song : Song) (o : Options) (k voice : ℕ) (x : FrameState)
     (at : ℕ → ℕ) → AtTurn layout packed song o k voice x at →
-    KeepsTick layout (voice + 1) (turn_in packed o k voice x)
+    KeepsTick layout (voice + 1) (look_of packed) (turn_in packed o k voice x)
 tick_keeps layout packed song o k voice x at turn =
-    tick_kept layout (its_turn packed o k voice x) (record {
+    let fine : IsFine packed k voice (turn_in packed o k voice x) =
+    begins layout packed song o k voice x at turn in
+    tick_kept layout (look_of packed) (its_turn packed o k voice x) (record {
       once = once_kept layout packed song o k voice x at turn;
       wave_pointer = λ d does. turn.scene.used SetWavePointer (in_turn packed o k voice x _ turn.few (d, does));
       funk = λ asks. turn.scene.used FunkTempo (in_turn packed o k voice x _ turn.few asks);
       length = λ d does long. turn.scene.used SetTempo (in_turn packed o k voice x _ turn.few (d, does, long));
     })
+    (λ now. row_kept layout (unpacked_song packed) _ _ turn.scene.facts fine.safe.voice.waiting)
+    (λ now. mask_kept layout (unpacked_song packed) _ turn.scene.facts fine.safe.voice.instrument)
+    turn.scene.shared

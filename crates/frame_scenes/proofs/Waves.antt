@@ -5,6 +5,7 @@ use Rattle.std.proofs.lemmas.Bool.{and_parts, eqb-false, leb-true}
 use Rattle.song_model.specs.declared.features.Feature.TheVariants.{WaveTable, WaveCommand}
 use Rattle.song_model.specs.declared.songs.Song.{Song}
 use Rattle.song_model.specs.declared.tables.TableName.TheVariants.{Wave}
+use Rattle.song_facts.specs.declared.facts.Fact.TheVariants.{WaveDelay}
 use Rattle.play_model.specs.declared.options.Options.{Options}
 use Rattle.play_model.specs.LookUps.{LookUps}
 use Rattle.play_model.specs.State.{FrameState, Playing}
@@ -63,8 +64,8 @@ meets_row packed o k voice x s goes some command = record {
 
 wave_kept : (layout : Layout) (packed : PackedSong) (song : Song) (o : Options) (k voice : ℕ) (x : FrameState)
     (at : ℕ → ℕ) (s : Playing) → AtTurn layout packed song o k voice x at →
-    GoesOn (its_turn packed o k voice x) s → KeepsWave layout (look_of packed) s.voice
-wave_kept layout packed song o k voice x at s turn goes = record {
+    GoesOn (its_turn packed o k voice x) s → IsFine packed k voice s → KeepsWave layout (look_of packed) s.voice
+wave_kept layout packed song o k voice x at s turn goes fine = record {
   table = λ some.
       turn.scene.used WaveTable
       (in_turn packed o k voice x _ turn.few (s.voice.wave_ptr, has_program packed o k voice x s goes some));
@@ -72,6 +73,13 @@ wave_kept layout packed song o k voice x at s turn goes = record {
       turn.scene.used WaveCommand
       (in_turn packed o k voice x _ turn.few
       (its_row (look_of packed) s.voice, meets_row packed o k voice x s goes some command));
+  delay = λ some low.
+      turn.scene.facts WaveDelay (record {
+        p = s.voice.wave_ptr;
+        reached = (is_step (unpacked_song packed) Wave s.voice.wave_ptr fine.safe.voice.wave some).reached;
+        is_such = low;
+      });
+  shared = turn.scene.shared;
 }
 
 -- ---- a row that is a command
@@ -167,4 +175,4 @@ wave_ready layout packed song o k voice x at s turn goes fine = record {
 }
   where
     keeps : KeepsWave layout (look_of packed) s.voice
-    keeps = wave_kept layout packed song o k voice x at s turn goes
+    keeps = wave_kept layout packed song o k voice x at s turn goes fine

@@ -4,6 +4,7 @@ use Rattle.std.proofs.Common.{replicate, Contains, inl, inr, refl, sym, ap, ◌�
 use Rattle.std.proofs.lemmas.Bool.{true≢false}
 use Rattle.std.proofs.lemmas.List.{length-replicate}
 use Rattle.song_model.specs.declared.features.Feature.TheVariants.{FilterTable}
+use Rattle.song_facts.specs.declared.facts.Fact.TheVariants.{GateNote}
 use Rattle.play_model.specs.Safe.{IsSafeNote}
 use Rattle.packed_form.specs.declared.packed_songs.PackedSong.{PackedSong}
 use Rattle.player_memory.specs.SongLists.{FrequencyLows}
@@ -44,6 +45,8 @@ none_are_scenes layout packed song o k x at = record {
       let first = scene.has.lists FrequencyLows 0 tt (from_none packed FrequencyLows 0 refl (omega arith)) in
       other first.is;
   used = λ some out scene. true≢false (sym (scene.used FilterTable some) ∙ out);
+  facts = λ has out scene. true≢false (sym (scene.facts GateNote has) ∙ out);
+  shared = λ on out scene. true≢false (sym (scene.shared.once on) ∙ out);
   options = λ on out scene. true≢false (sym on ∙ (sym scene.options.pulse ∙ out));
   common = λ on out scene. true≢false (sym (scene.common.rise (rw on refl)) ∙ out);
   below = λ past scene. let below = scene.below in omega (arith, past, below);

@@ -13,6 +13,7 @@ use Rattle.packed_form.specs.declared.packed_songs.PackedSong.{PackedSong}
 use Rattle.packed_form.specs.Unpacked.{unpacked_song, packed_state}
 use Rattle.packed_form.specs.StandsFor.{StandsFor}
 use Rattle.scopes.specs.Desk.{Layout}
+use Rattle.player_memory.specs.FactLines.{KeepsMarked, KeepsFacts, KeepsShared}
 use Rattle.player_memory.specs.SongLists.{HasSongLists}
 use Rattle.player_memory.specs.Holds.{IsPlayerLayout, KeepsUsed}
 use Rattle.slide_code.specs.SlideBlock.{KeepsCommon}
@@ -24,8 +25,8 @@ abbrev pub KeepsPatternLimits : PackedSong → Type 0
 KeepsPatternLimits packed = (pattern : List ℕ) → Contains packed.patterns pattern → length pattern ≤ MOST_PACKED_BYTES
 
 -- The packed song stands for a song, and its lists stand in memory. The state is one that a song may come to in this
--- subtune. The lines are kept of each feature that the frame uses, of what features have in common, and of each option
--- that is on.
+-- subtune. The lines are kept of each feature that the frame uses, of each fact of the packed song, of what features and
+-- facts have in common, and of each option that is on.
 pub record Scene (layout : Layout) (packed : PackedSong) (song : Song) (o : Options) (k : ℕ) (x : FrameState)
     (at : ℕ → ℕ) : Type 0 where
   pub stands : StandsFor packed song
@@ -33,6 +34,8 @@ pub record Scene (layout : Layout) (packed : PackedSong) (song : Song) (o : Opti
   pub laid : IsPlayerLayout layout packed
   pub has : HasSongLists layout packed at
   pub used : KeepsUsed layout packed o k x
+  pub facts : KeepsFacts layout (unpacked_song packed)
+  pub shared : KeepsShared layout
   pub options : KeepsOptions layout o
   pub common : KeepsCommon layout
   pub below : k < length packed.subtunes
@@ -45,12 +48,12 @@ FramesAreReady =
     (layout : Layout) (packed : PackedSong) (song : Song) (o : Options) (k : ℕ) (x : FrameState) (at : ℕ → ℕ) →
     Scene layout packed song o k x at → FrameIsReady layout packed o k x at
 
--- So is each frame of a packed subtune from its start on: where the lines of all of the packed song's features are
--- kept, those of the features that the frame uses are among them.
+-- So is each frame of a packed subtune from its start on: where the lines of all of the packed song's features and
+-- facts are kept, those of what the frame uses are among them.
 abbrev pub PackedFramesAreReady : Type 0
 PackedFramesAreReady =
     (layout : Layout) (packed : PackedSong) (song : Song) (o : Options) (k i : ℕ) (at : ℕ → ℕ) →
     StandsFor packed song → KeepsPatternLimits packed → IsPlayerLayout layout packed → HasSongLists layout packed at →
     ((feature : Feature) → IsBitSet packed.features.0 (bit_of feature) → layout.holds (bit_of feature) ≡ true) →
-    KeepsOptions layout o → KeepsCommon layout → k < length packed.subtunes → IsSpeed o.speed →
+    KeepsMarked layout packed.facts → KeepsShared layout → KeepsOptions layout o → KeepsCommon layout → k < length packed.subtunes → IsSpeed o.speed →
     FrameIsReady layout packed o k (packed_state packed k o i) at

@@ -7,8 +7,12 @@ use Rattle.play_model.specs.declared.options.Options.{Options}
 use Rattle.play_model.specs.Freq.{freq}
 use Rattle.play_model.specs.State.{FrameState}
 use Rattle.packed_form.specs.declared.packed_songs.PackedSong.{PackedSong}
+use Rattle.packed_form.specs.Unpacked.{unpacked_song}
+use Rattle.song_facts.specs.declared.facts.Fact.TheVariants.{GateNote}
+use Rattle.song_facts.specs.Facts.{HasFact}
 use Rattle.scopes.specs.Desk.{Layout}
 use Rattle.player_memory.specs.declared.conditions.TheConstants.{FILTER_TABLE, PORTA_UP, RISE, SKIP_PULSE}
+use Rattle.player_memory.specs.declared.conditions.TheConstants.{ROW_ONCE, GATE_NOTE, ROW_COMMAND}
 use Rattle.player_memory.specs.declared.labels.TheConstants.{FREQUENCY_LOWS}
 use Rattle.player_memory.specs.Playing.{place_in}
 use Rattle.frame_scenes.specs.FrameScenes.{KeepsPatternLimits, Scene}
@@ -20,8 +24,8 @@ pub record PatternLimitsAreWorked (packed : PackedSong) : Type 0 where
 
 -- It is no scene where the song plays more subtunes than the packed song has, or fewer; where a packed pattern has 257
 -- bytes; where the pointer stands at the processor's port; where the first frequency isn't in its list; where the
--- filter has a program, or the pulse step is to be left out, or a frequency is slid up, and the lines for that aren't
--- kept; behind the last subtune; where a note sounds that no song comes to; and where a frequency is no word.
+-- filter has a program, or the pulse step is to be left out, or a frequency is slid up, or an orderlist's pattern has a
+-- keyoff, or rows have a command, and the lines for that aren't kept; behind the last subtune; where a note sounds that no song comes to; and where a frequency is no word.
 pub record NoScenesAreWorked (layout : Layout) (packed : PackedSong) (song : Song) (o : Options) (k : ℕ)
     (x : FrameState) (at : ℕ → ℕ) : Type 0 where
   pub stands : length packed.subtunes ≢ length (playable_subtunes song) → ¬ Scene layout packed song o k x at
@@ -29,6 +33,9 @@ pub record NoScenesAreWorked (layout : Layout) (packed : PackedSong) (song : Son
   pub laid : layout.pointer ≡ 1 → ¬ Scene layout packed song o k x at
   pub has : at (place_in layout FREQUENCY_LOWS 0) ≢ freq 0 % 256 → ¬ Scene layout packed song o k x at
   pub used : x.common.filter_ptr ≢ 0 → layout.holds FILTER_TABLE ≡ false → ¬ Scene layout packed song o k x at
+  pub facts : HasFact (unpacked_song packed) GateNote → layout.holds GATE_NOTE ≡ false →
+      ¬ Scene layout packed song o k x at
+  pub shared : layout.holds ROW_ONCE ≡ true → layout.holds ROW_COMMAND ≡ false → ¬ Scene layout packed song o k x at
   pub options : o.skip_pulse ≡ true → layout.holds SKIP_PULSE ≡ false → ¬ Scene layout packed song o k x at
   pub common : layout.holds PORTA_UP ≡ true → layout.holds RISE ≡ false → ¬ Scene layout packed song o k x at
   pub below : length packed.subtunes ≤ k → ¬ Scene layout packed song o k x at

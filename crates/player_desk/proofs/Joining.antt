@@ -1,6 +1,7 @@
 -- Scopes one after the other: what leads through a scope to a desk of which something holds, and on from each such
 -- desk.
-use Rattle.std.proofs.Common.{ℕ, nat_eq, Bool, true, false, Option, Some, None, if◌then◌else◌}
+use Rattle.std.proofs.Common.{◌≡◌, ℕ, nat_eq, Bool, true, false, Option, Some, None, if◌then◌else◌}
+use Rattle.std.proofs.lemmas.Bool.{both_ways}
 use Rattle.std.specs.Option.{option_or}
 use Rattle.scopes.specs.Trees.{Tree, ThenTree, ScopeTree, LoopTree, WhenTree, ChooseTree, NeverTree}
 use Rattle.player_desk.proofs.VoiceDesks.{VoiceDesk, Reader, Either, Ways, done_as, in_scope, Leading}
@@ -68,6 +69,19 @@ pub goes_on : (voiced : Bool) (r : Reader) (first rest : Tree) (P : VoiceDesk �
 goes_on voiced r first rest P ways d leads on =
     leads_on voiced r first (done_as P ways) (done_as (Leading voiced r rest ways) ways) d
     (record { done = on; left = λ other m q. q; again = λ m q. q }) leads
+
+-- lines under a condition that holds, and under one that doesn't
+pub kept_lead : (voiced : Bool) (r : Reader) (condition : ℕ) (body rest : Tree) (ways : Ways) (d : VoiceDesk) →
+    r.layout.holds condition ≡ true → Leading voiced r body (done_as (Leading voiced r rest ways) ways) d →
+    Leading voiced r (ThenTree (WhenTree condition body) rest) ways d
+kept_lead voiced r condition body rest ways d on leads =
+    (λ kept. leads, λ out. absurd (both_ways (r.layout.holds condition) out on))
+
+pub unkept_lead : (voiced : Bool) (r : Reader) (condition : ℕ) (body rest : Tree) (ways : Ways) (d : VoiceDesk) →
+    r.layout.holds condition ≡ false → Leading voiced r rest ways d →
+    Leading voiced r (ThenTree (WhenTree condition body) rest) ways d
+unkept_lead voiced r condition body rest ways d off leads =
+    (λ kept. absurd (both_ways (r.layout.holds condition) off kept), λ out. leads)
 
 -- nowhere but to the end
 abbrev pub ends : (VoiceDesk → Type 0) → Ways

@@ -8,6 +8,7 @@ pub use Rattle.player_desk.proofs.VoiceDesks.{EntryLeads, Listed, OfAll, LowSlid
 pub use Rattle.player_desk.proofs.Following.{Follows, leads_on}
 pub use Rattle.player_desk.proofs.VoiceDesks.{done_as, in_scope, again_as, TurnsLead}
 pub use Rattle.player_desk.proofs.Joining.{body_of, rest_of, joined, goes_on, ends, leaves}
+pub use Rattle.player_desk.proofs.Joining.{kept_lead, unkept_lead}
 -- and it does so in memory
 pub use Rattle.player_desk.proofs.Spots.{Spot, spot_place, IsSpot, spot_byte}
 pub use Rattle.player_desk.proofs.Showing.{Shows, Ground}

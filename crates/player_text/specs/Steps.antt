@@ -3,12 +3,13 @@ use Rattle.std.specs.Prelude.{◌≡◌, ℕ, List, [], ◌∷◌}
 use Rattle.std.specs.List.{flat_map}
 use Rattle.scopes.specs.declared.line.Line.{Line}
 use Rattle.scopes.specs.Trees.{Tree, NoneTree, ThenTree, ScopeTree, LeaveTree, WhenTree, tree_of}
-use Rattle.player_memory.specs.declared.conditions.TheConstants.{WAVE_COMMAND}
+use Rattle.player_memory.specs.declared.conditions.TheConstants.{WAVE_COMMAND, ROW_ONCE}
 use Rattle.player_text.specs.declared.joints.TheConstants.{SOUNDS, TICKED, TAKEN, DONE, EFFECTED, PITCHED, RUNNING}
 use Rattle.player_text.specs.declared.joints.TheConstants.{COMMANDED, NOTHING, FOUND, FALLS, DOWN, RISES, UP, PULSED}
 use Rattle.player_text.specs.declared.joints.TheConstants.{FETCHES, FIRST, LATE, WALKS, BEGINS}
 use Rattle.player_text.specs.declared.tick.TheConstants.{TICK_STEP, FRAME_COUNTED, GATE_TIMER_SET, NOTE_TAKEN}
-use Rattle.player_text.specs.declared.tick.TheConstants.{NOTE_BEGUN, PROGRAMS_BEGUN, COMMAND_BEGUN, NOTE_TOLD}
+use Rattle.player_text.specs.declared.tick.TheConstants.{NOTE_BEGUN, PROGRAMS_BEGUN, COMMAND_BEGUN, COMMAND_TAKEN}
+use Rattle.player_text.specs.declared.tick.TheConstants.{NOTE_TOLD}
 use Rattle.player_text.specs.declared.commands.TheConstants.{AD_SET, SR_SET, WAVE_SET, WAVE_POINTER_SET}
 use Rattle.player_text.specs.declared.commands.TheConstants.{PULSE_POINTER_SET, FILTER_POINTER_SET}
 use Rattle.player_text.specs.declared.commands.TheConstants.{FILTER_CONTROL_SET, CUTOFF_SET, VOLUME_SET, FUNK_SET}
@@ -41,6 +42,10 @@ all_of (tree ∷ trees) = then_lines tree (all_of trees)
 -- a scope
 abbrev pub in_scope : ℕ → List Tree → Tree
 in_scope name trees = ScopeTree name (all_of trees)
+
+-- lines that are kept where a condition holds
+abbrev pub in_when : ℕ → List Tree → Tree
+in_when condition trees = WhenTree condition (all_of trees)
 
 -- the tree of a block
 abbrev pub text : record { now : List Line } → Tree
@@ -78,7 +83,7 @@ abbrev pub tick_pieces : List Tree
 tick_pieces =
     text FRAME_COUNTED ∷ text GATE_TIMER_SET
     ∷ in_scope TAKEN (text NOTE_TAKEN ∷ text NOTE_BEGUN ∷ text PROGRAMS_BEGUN ∷ [])
-    ∷ in_scope DONE (text COMMAND_BEGUN ∷ row_commands) ∷ text NOTE_TOLD ∷ []
+    ∷ in_scope DONE (text COMMAND_BEGUN ∷ in_when ROW_ONCE (text COMMAND_TAKEN ∷ row_commands) ∷ []) ∷ text NOTE_TOLD ∷ []
 
 abbrev pub command_pieces : List Tree
 command_pieces = in_scope NOTHING (text COMMAND_LENT ∷ wave_commands) ∷ LeaveTree EFFECTED ∷ []

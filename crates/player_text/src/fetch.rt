@@ -3,7 +3,9 @@
 use crate::joints::{BEGINS, FETCHES, FIRST, LATE, PULSED, SOUNDS, WALKS};
 use crate::pieces::pieces;
 use crate::walk::{ORDER_WALKED, PATTERN_BEGUN, PATTERN_FOUND, PLAY_REPEATED};
-use player_memory::conditions::{SKIP_FIRST, SKIP_PULSE, TRANSPOSES};
+use player_memory::conditions::{
+    GATE_NOTE, HELD_NOTE, LEGATO, ROW_TONE, SKIP_FIRST, SKIP_PULSE, SOFT_RESTART, TRANSPOSES,
+};
 use player_memory::labels::{
     AD, GATE, GATE_TIMER, GATE_TIMERS, INSTRUMENT, KEPT_PARAM, NEW_COMMAND, NEW_NOTE, NEW_PARAM,
     OFFSET, PATTERN_HIGH, PATTERN_LOW, REST, SR, TICK, TRANSPOSE,
@@ -124,14 +126,16 @@ pub const ENTRY_READ: &[Line] = text! {
             Cmp Number 0xBD;
             leave NOTES off Carry;
             leave READ on Zero;
-            scope RESTS {
-                Cmp Number 0xC0;
-                leave RESTS on Carry;
-                Ora Number 0xF0;
-                Sta Own GATE;
-                Sec;
-                leave READ on Carry;
-                never;
+            when GATE_NOTE { // Idle where A is $C0 up; keeps A, Y and the carry, which is on.
+                scope RESTS {
+                    Cmp Number 0xC0;
+                    leave RESTS on Carry;
+                    Ora Number 0xF0;
+                    Sta Own GATE;
+                    Sec;
+                    leave READ on Carry;
+                    never;
+                }
             }
             Sbc Number 0xC0;
             Sta Own REST;
@@ -161,16 +165,20 @@ pub const ENTRY_ENDED: &[Line] = text! {
 pub const GATE_CLOSED: &[Line] = text! {
     scope HELD {
         leave HELD on Carry;
-        Lda Own NEW_COMMAND;
-        Cmp Number 3;
-        leave HELD on Zero;
-        Ldy Own INSTRUMENT;
-        Lda Entry GATE_TIMERS;
-        Asl;
-        leave HELD on Minus;
+        when ROW_TONE { // Idle where NEW_COMMAND isn't 3; keeps no register.
+            Lda Own NEW_COMMAND;
+            Cmp Number 3;
+            leave HELD on Zero;
+        }
+        when HELD_NOTE { // Idle where bit $40 of the gateoff timer is off; the carry is its bit $80.
+            Ldy Own INSTRUMENT;
+            Lda Entry GATE_TIMERS;
+            Asl;
+            when LEGATO { leave HELD on Minus; } // Idle where the minus is off; keeps the carry.
+        }
         Lda Number 0xFE;
         Sta Own GATE;
-        leave HELD on Carry;
+        when SOFT_RESTART { leave HELD on Carry; } // Idle where the carry is off.
         Lda Number 0x0F;
         Sta Own AD;
         Lda Number 0;

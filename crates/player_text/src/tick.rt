@@ -6,7 +6,9 @@ use crate::commands::{
 };
 use crate::joints::{DONE, SOUNDS, TAKEN, TICKED};
 use crate::pieces::pieces;
-use player_memory::conditions::FUNK_TEMPO;
+use player_memory::conditions::{
+    FIRST_MASK, FUNK_TEMPO, ROW_COMMAND, ROW_ONCE, ROW_SLIDE, ROW_TONE,
+};
 use player_memory::labels::{
     AD, ADS, COMMAND, DELAYS, FILTER_POINTER, FILTER_TIME, FILTERS, FIRST_WAVES, FUNK_ONE, GATE,
     GATE_TIMER, GATE_TIMERS, INSTRUMENT, NEW_COMMAND, NEW_NOTE, NEW_PARAM, NOTE, PARAM,
@@ -82,14 +84,16 @@ pub const NOTE_TAKEN: &[Line] = text! {
     Sta Own NOTE;
     Lda Entry DELAYS;
     Sta Own VIB_DELAY;
-    scope STARTS {
-        Lda Own NEW_COMMAND;
-        Eor Number 3;
-        leave STARTS off Zero;
-        // A note that slides begins nothing, and goes on to the wave step.
-        Sta Own NEW_NOTE;
-        leave TAKEN on Zero;
-        never;
+    when ROW_TONE { // Idle where NEW_COMMAND isn't 3; keeps Y.
+        scope STARTS {
+            Lda Own NEW_COMMAND;
+            Eor Number 3;
+            leave STARTS off Zero;
+            // A note that slides begins nothing, and goes on to the wave step.
+            Sta Own NEW_NOTE;
+            leave TAKEN on Zero;
+            never;
+        }
     }
 };
 
@@ -103,9 +107,11 @@ pub const NOTE_BEGUN: &[Line] = text! {
     scope MASKED {
         scope MASK {
             Lda Entry FIRST_WAVES;
-            leave MASKED on Zero;
-            Cmp Number 0xFE;
-            leave MASK on Carry;
+            when FIRST_MASK { // Idle where A isn't 0 and is below $FE; keeps A and Y.
+                leave MASKED on Zero;
+                Cmp Number 0xFE;
+                leave MASK on Carry;
+            }
             Sta Own WAVE;
             Lda Number 0xFF;
         }
@@ -137,32 +143,39 @@ pub const PROGRAMS_BEGUN: &[Line] = text! {
     Sta Own SR;
 };
 
-/// The row's command: one below 5 runs from here on. Leaves `DONE` behind it; ends with a command of 5 up in Y, and its
-/// parameter in A.
+/// The row's command: one below 5 runs from here on. Y is the instrument. Leaves `DONE` behind it where there are others;
+/// else ends there. With one of 5 up, in A, it ends.
 pub const COMMAND_BEGUN: &[Line] = text! {
     scope ONCE {
         scope SETTLED {
             scope BARE {
                 Lda Own NEW_COMMAND;
-                leave BARE on Zero;
-                Cmp Number 5;
-                leave ONCE on Carry;
-                Sta Own COMMAND;
-                scope TIMED {
-                    Cmp Number 3;
-                    leave TIMED on Carry;
-                    Lda Number 0;
-                    Sta Own VIB_TIME;
+                when ROW_COMMAND { // Idle where A is 0; keeps A and Y.
+                    leave BARE on Zero;
+                    when ROW_ONCE { Cmp Number 5; leave ONCE on Carry; } // Idle where A is below 5; keeps A and Y.
+                    when ROW_SLIDE { // Not come to in a song without it.
+                        Sta Own COMMAND;
+                        scope TIMED {
+                            Cmp Number 3;
+                            leave TIMED on Carry;
+                            Lda Number 0;
+                            Sta Own VIB_TIME;
+                        }
+                        Lda Own NEW_PARAM;
+                        leave SETTLED;
+                    }
                 }
-                Lda Own NEW_PARAM;
-                leave SETTLED;
             }
             Sta Own COMMAND;
             Lda Entry VIBRATOS;
         }
         Sta Own PARAM;
-        leave DONE;
+        when ROW_ONCE { leave DONE; } // What follows is left out with it.
     }
+};
+
+/// The command is done once: A is it, 5 up. Behind it Y is the command, and A its parameter.
+pub const COMMAND_TAKEN: &[Line] = text! {
     Tay;
     Lda Own NEW_PARAM;
 };
@@ -187,18 +200,21 @@ pub const TICK_STEP: &[&[Line]] = pieces! {
     }
     scope DONE {
         put COMMAND_BEGUN;
-        put AD_SET;
-        put SR_SET;
-        put WAVE_SET;
-        put WAVE_POINTER_SET;
-        put PULSE_POINTER_SET;
-        put FILTER_POINTER_SET;
-        put FILTER_CONTROL_SET;
-        put CUTOFF_SET;
-        put VOLUME_SET;
-        put FUNK_SET;
-        put TEMPO_SET;
-        put FUNK_CHOSEN;
+        when ROW_ONCE { // Not come to in a song without it.
+            put COMMAND_TAKEN;
+            put AD_SET;
+            put SR_SET;
+            put WAVE_SET;
+            put WAVE_POINTER_SET;
+            put PULSE_POINTER_SET;
+            put FILTER_POINTER_SET;
+            put FILTER_CONTROL_SET;
+            put CUTOFF_SET;
+            put VOLUME_SET;
+            put FUNK_SET;
+            put TEMPO_SET;
+            put FUNK_CHOSEN;
+        }
     }
     put NOTE_TOLD;
 };

@@ -1,7 +1,7 @@
 //! The block of the wave step.
 
 use crate::joints::{COMMANDED, PITCHED};
-use player_memory::conditions::{WAVE_COMMAND, WAVE_TABLE};
+use player_memory::conditions::{SPECIAL_ROW, WAVE_COMMAND, WAVE_DELAY, WAVE_TABLE};
 use player_memory::labels::{
     NEXT_WAVE_LEFTS, NEXT_WAVE_RIGHTS, NOTE, WAVE, WAVE_LEFTS, WAVE_POINTER, WAVE_RIGHTS, WAVE_TIME,
 };
@@ -32,25 +32,29 @@ pub const WAVE_STEP: &[Line] = text! {
             leave IDLE on Zero;
             Lda Entry WAVE_LEFTS;
             scope NEXT {
-                scope SOUNDING {
-                    Cmp Number 0xE0;
-                    leave SOUNDING off Carry;
-                    when WAVE_COMMAND { // Idle where A is below $F0; keeps A and Y.
-                        Cmp Number 0xF0;
-                        leave NEXT on Carry;
+                when SPECIAL_ROW { // Idle where A is below $E0; keeps A and Y.
+                    scope SOUNDING {
+                        Cmp Number 0xE0;
+                        leave SOUNDING off Carry;
+                        when WAVE_COMMAND { // Idle where A is below $F0; keeps A and Y.
+                            Cmp Number 0xF0;
+                            leave NEXT on Carry;
+                        }
+                        when WAVE_DELAY { // Not come to in a song without it.
+                            scope OVER {
+                                And Number 0x0F;
+                                Cmp Own WAVE_TIME;
+                                leave OVER on Zero;
+                                Inc Own WAVE_TIME;
+                                leave IDLE off Zero;
+                                never;
+                            }
+                            Lda Number 0;
+                            Sta Own WAVE_TIME;
+                            leave NEXT on Zero;
+                            never;
+                        }
                     }
-                    scope OVER {
-                        And Number 0x0F;
-                        Cmp Own WAVE_TIME;
-                        leave OVER on Zero;
-                        Inc Own WAVE_TIME;
-                        leave IDLE off Zero;
-                        never;
-                    }
-                    Lda Number 0;
-                    Sta Own WAVE_TIME;
-                    leave NEXT on Zero;
-                    never;
                 }
                 Sta Own WAVE;
             }

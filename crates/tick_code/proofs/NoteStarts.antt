@@ -9,18 +9,19 @@ use Rattle.play_model.specs.LookUps.{LookUps}
 use Rattle.play_model.specs.State.{Playing}
 use Rattle.play_model.specs.TickStep.{note_started, row_command}
 use Rattle.scopes.specs.Trees.{Tree}
+use Rattle.player_memory.specs.declared.conditions.TheConstants.{ROW_TONE}
 use Rattle.player_memory.specs.declared.labels.TheConstants.{NOTE, NEW_NOTE, NEW_COMMAND, VIB_DELAY, DELAYS}
 use Rattle.player_desk.proofs.Laws.{VoiceDesk, Reader, Ways, Leads, done_as, in_scope, body_of, rest_of, joined}
 use Rattle.player_desk.proofs.Laws.{goes_on, Lent, Done, own_done, done_over, listed}
 use Rattle.player_text.specs.declared.joints.TheConstants.{TAKEN}
 use Rattle.player_text.specs.declared.tick.TheConstants.{STARTS}
-use Rattle.tick_code.specs.TickBlock.{tick_tree}
-use Rattle.tick_code.proofs.Pieces.{first_of, behind}
+use Rattle.tick_code.specs.TickBlock.{tick_tree, KeepsRow}
+use Rattle.tick_code.proofs.Pieces.{first_of, behind, sound_tree}
 use Rattle.tick_code.proofs.TickDesks.{Ticking, cleared, ticking_as}
 use Rattle.tick_code.proofs.TickGrounds.{InstrumentAt}
 use Rattle.tick_code.proofs.NoteRules.{note_row, starts, starts_none, starts_slide, starts_sound, none_started}
 use Rattle.tick_code.proofs.NoteRules.{slide_started, sound_started, noted, slide_same, is_slide, note_is}
-use Rattle.tick_code.proofs.SoundBegins.{sounding, sound_leads}
+use Rattle.tick_code.proofs.SoundBegins.{KeepsMask, sounding, sound_leads}
 
 -- Y is the instrument. From this state the row's command leaves what it leaves behind the start of the note, but that
 -- the note that waits isn't used up where it has started.
@@ -157,27 +158,31 @@ delay_leads r look number s handed d ways m ground at =
 
 -- A is the note that waits
 taken_leads : (r : Reader) (look : LookUps) (number : ℕ) (s : Playing) (handed : Lent) (d : VoiceDesk)
-    (ways : Ways) (m : VoiceDesk) → InstrumentAt r look number → s.voice.new_note ≢ 0 → s.voice.new_command < 256 →
+    (ways : Ways) (m : VoiceDesk) → InstrumentAt r look number → KeepsMask r look number →
+    KeepsRow r.layout s.voice.new_command → s.voice.new_note ≢ 0 → s.voice.new_command < 256 →
     Ticking number r.voice (taken s) handed d m →
     Leads r delay_tree (in_scope TAKEN (done_as (AtCommand r look number s handed d) ways)) m
-taken_leads r look number s handed d ways m ground some small at =
+taken_leads r look number s handed d ways m ground keeps row some small at =
     goes_on true r (first_of delay_tree) (behind delay_tree)
     (AtDelay number r.voice i.vibrato_delay (taken s) handed d) goal m
     (delay_leads r look number (taken s) handed d goal m ground at)
     (λ n delay.
     let a : n.a ≡ (i.vibrato_delay + 255) % 256 = delay.a in
     let done : Done r.voice (taken s) handed d n = delay.at.done in
-    joined true r STARTS (body_of STARTS tick_tree) (rest_of STARTS tick_tree) (AtBegins r look number s handed d) goal
-    (record n { own = put n.own VIB_DELAY n.a })
-    (begins_leads r look number s handed d ways (record n { own = put n.own VIB_DELAY n.a }) some small (record {
+    let set : VoiceDesk = record n { own = put n.own VIB_DELAY n.a } in
+    let at_set : Ticking number r.voice (noted i s) handed d set = record {
       done =
-          own_done r.voice (taken s) (noted i s) handed d n _ refl refl refl (assumption (a, done.fields))
+          own_done r.voice (taken s) (noted i s) handed d n set refl refl refl (assumption (a, done.fields))
           (assumption done.song) done;
       y_is = delay.at.y_is;
-    }))
-    (λ k begins.
-    sound_leads r look number s handed d ways (AtCommand r look number s handed d) k
-    (λ l sounds. at_sound r look number s handed d l some begins.sounds sounds) ground begins.at))
+    } in (
+      λ kept.
+          joined true r STARTS (body_of STARTS tick_tree) (rest_of STARTS tick_tree)
+          (AtBegins r look number s handed d) (done_as (Leads r sound_tree goal) goal) set
+          (begins_leads r look number s handed d ways set some small at_set)
+          (λ k begins. sounds k begins.sounds begins.at),
+      λ out. sounds set (λ slides. both_ways (r.layout.holds ROW_TONE) out (row.tone slides)) at_set,
+    ))
   where
     i : Instrument
     i = look.instrument number
@@ -185,11 +190,17 @@ taken_leads r look number s handed d ways m ground some small at =
     goal : Ways
     goal = in_scope TAKEN (done_as (AtCommand r look number s handed d) ways)
 
+    sounds : (k : VoiceDesk) → s.voice.new_command ≢ 3 → Ticking number r.voice (noted i s) handed d k →
+        Leads r sound_tree goal k
+    sounds k apart at =
+        sound_leads r look number s handed d ways (AtCommand r look number s handed d) k
+        (λ l sounds. at_sound r look number s handed d l some apart sounds) ground keeps at
+
 pub note_leads : (r : Reader) (look : LookUps) (number : ℕ) (s : Playing) (handed : Lent) (d : VoiceDesk)
-    (ways : Ways) (m : VoiceDesk) → InstrumentAt r look number → s.voice.new_command < 256 →
-    Ticking number r.voice s handed d m →
+    (ways : Ways) (m : VoiceDesk) → InstrumentAt r look number → KeepsMask r look number →
+    KeepsRow r.layout s.voice.new_command → s.voice.new_command < 256 → Ticking number r.voice s handed d m →
     Leads r (body_of TAKEN tick_tree) (in_scope TAKEN (done_as (AtCommand r look number s handed d) ways)) m
-note_leads r look number s handed d ways m ground small at = (
+note_leads r look number s handed d ways m ground keeps row small at = (
   λ zero.
       at_none r look number s handed d _ (sym note ∙ eqb-true (m.own NEW_NOTE) 0 zero) (record {
         done = done_over r.voice s handed d m _ refl refl refl at.done;
@@ -197,7 +208,7 @@ note_leads r look number s handed d ways m ground small at = (
       }),
   λ not_zero.
       let note_taken_is = note_is (m.own NEW_NOTE) s.voice.new_note note in
-      taken_leads r look number s handed d ways quiet ground (λ e. eqb-false (m.own NEW_NOTE) 0 not_zero (note ∙ e))
+      taken_leads r look number s handed d ways quiet ground keeps row (λ e. eqb-false (m.own NEW_NOTE) 0 not_zero (note ∙ e))
       small
       (record {
         done =

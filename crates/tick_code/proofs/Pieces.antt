@@ -1,14 +1,26 @@
 -- Pieces of the block's tree.
-pub use Rattle.command_code.proofs.Laws.{first_of, behind, body_for}
+pub use Rattle.command_code.proofs.Laws.{first_of, behind, under, body_for}
 use Rattle.scopes.specs.Trees.{Tree}
-use Rattle.player_desk.proofs.Laws.{rest_of}
+use Rattle.player_desk.proofs.Laws.{body_of, rest_of}
 use Rattle.command_code.proofs.Laws.{past}
-use Rattle.player_text.specs.declared.tick.TheConstants.{ONCE}
+use Rattle.player_text.specs.declared.joints.TheConstants.{TAKEN}
+use Rattle.player_text.specs.declared.tick.TheConstants.{ONCE, BARE}
 use Rattle.tick_code.specs.TickBlock.{tick_tree}
+
+-- behind the test for a slide the sound of the note begins
+abbrev pub sound_tree : Tree
+sound_tree = past 8 (body_of TAKEN tick_tree)
+
+-- a row's command, and one that runs
+abbrev pub row_tree : Tree
+row_tree = under (first_of (behind (body_of BARE tick_tree)))
+
+abbrev pub running_tree : Tree
+running_tree = past 2 row_tree
 
 -- the commands that are done once: all of them, and from some of them on
 abbrev pub once_tree : Tree
-once_tree = rest_of ONCE tick_tree
+once_tree = under (first_of (rest_of ONCE tick_tree))
 
 abbrev pub from_ad : Tree
 from_ad = past 2 once_tree

@@ -1,17 +1,22 @@
 -- The row's command is done: one from 0 to 4 runs from now on, another one is done once.
-use Rattle.std.proofs.Common.{◌≡◌, ◌≢◌, ℕ, ◌+◌, ◌<◌, ◌≤◌, true}
-use Rattle.std.proofs.Common.{refl, sym, ◌∙◌, arith}
-use Rattle.std.proofs.lemmas.Bool.{leb-true, leb-false, eqb-true, eqb-false}
+use Rattle.std.proofs.Common.{◌≡◌, ◌≢◌, ℕ, ◌+◌, ◌<◌, ◌≤◌, ◌⊎◌, true, false, nat_eq}
+use Rattle.std.proofs.Common.{inl, inr, refl, sym, ◌∙◌, arith}
+use Rattle.std.proofs.lemmas.Bool.{leb-true, leb-false, eqb-true, eqb-false, both_ways, cases_lt}
+use Rattle.std.proofs.lemmas.Bool.Decides.{eqb_tells}
+use Rattle.code_runs.specs.Runs.{put}
 use Rattle.song_model.specs.declared.instruments.Instrument.{Instrument}
 use Rattle.play_model.specs.LookUps.{LookUps}
 use Rattle.play_model.specs.State.{Voice, Playing}
 use Rattle.play_model.specs.TickStep.{row_command}
-use Rattle.player_memory.specs.declared.labels.TheConstants.{NEW_COMMAND, NEW_PARAM, VIBRATOS}
+use Rattle.player_memory.specs.declared.conditions.TheConstants.{ROW_COMMAND, ROW_SLIDE, ROW_ONCE}
+use Rattle.player_memory.specs.declared.labels.TheConstants.{NEW_COMMAND, NEW_PARAM, PARAM, VIBRATOS}
+use Rattle.player_memory.specs.FactLines.{KeepsShared}
 use Rattle.player_desk.proofs.Laws.{VoiceDesk, Reader, Ways, Leads, done_as, in_scope, body_of, rest_of, joined, loaded}
-use Rattle.player_desk.proofs.Laws.{indexed, Lent, Done, own_done, done_over, done_by, listed}
+use Rattle.player_desk.proofs.Laws.{indexed, Lent, Done, own_done, done_over, done_by, listed, kept_lead, unkept_lead}
 use Rattle.player_text.specs.declared.joints.TheConstants.{DONE}
-use Rattle.player_text.specs.declared.tick.TheConstants.{ONCE, SETTLED}
-use Rattle.tick_code.specs.TickBlock.{tick_tree, KeepsCommand}
+use Rattle.player_text.specs.declared.tick.TheConstants.{ONCE, SETTLED, BARE}
+use Rattle.tick_code.specs.TickBlock.{tick_tree, KeepsCommand, KeepsRow}
+use Rattle.tick_code.proofs.Pieces.{first_of, behind, under, running_tree, once_tree}
 use Rattle.tick_code.proofs.TickDesks.{Ticking}
 use Rattle.tick_code.proofs.TickGrounds.{InstrumentAt, SpeedAt}
 use Rattle.tick_code.proofs.Commands.{row_vibrato, row_porta, row_runs}
@@ -23,6 +28,12 @@ record AtOnce (r : Reader) (c : ℕ) (u : Playing) (handed : Lent) (d m : VoiceD
   a : m.a ≡ c
   from : 5 ≤ c
 
+-- the command is one that is done once; or it has been done, where there is none such
+data AtTaken (r : Reader) (look : LookUps) (i : Instrument) (c p : ℕ) (u : Playing) (handed : Lent) (d m : VoiceDesk)
+    : Type 0 where
+  Once : AtOnce r c u handed d m → AtTaken r look i c p u handed d m
+  Over : r.layout.holds ROW_ONCE ≡ false → Ended r look i c p u handed d m → AtTaken r look i c p u handed d m
+
 -- A is the parameter of the command that runs, and with it this voice is what the rule leaves
 record AtSettled (r : Reader) (look : LookUps) (i : Instrument) (c p : ℕ) (u : Playing) (handed : Lent)
     (d m : VoiceDesk) : Type 0 where
@@ -32,96 +43,149 @@ record AtSettled (r : Reader) (look : LookUps) (i : Instrument) (c p : ℕ) (u :
   a : m.a ≡ param
   is : record u { voice = record v { param = param } } ≡ row_command (r.voice + 1) look i c p u
 
-settled_leads : (r : Reader) (look : LookUps) (number c p : ℕ) (u : Playing) (handed : Lent) (d : VoiceDesk)
-    (ways : Ways) (m : VoiceDesk) → InstrumentAt r look number → u.voice.new_command ≡ c → u.voice.new_param ≡ p →
+-- where the row's command is settled
+abbrev settled_ways : Reader → LookUps → Instrument → ℕ → ℕ → Playing → Lent → VoiceDesk → Ways → Ways
+settled_ways r look i c p u handed d ways =
+    in_scope SETTLED (done_as (AtSettled r look i c p u handed d) (in_scope ONCE (done_as (AtTaken r look i c p u handed d) ways)))
+
+-- A is 0, and so is the command
+bare_leads : (r : Reader) (look : LookUps) (number c p : ℕ) (u : Playing) (handed : Lent) (d : VoiceDesk)
+    (ways : Ways) (m : VoiceDesk) → InstrumentAt r look number → c ≡ 0 → m.a ≡ 0 →
     Ticking number r.voice u handed d m →
-    Leads r (body_of SETTLED tick_tree)
-    (in_scope SETTLED (done_as (AtSettled r look (look.instrument number) c p u handed d)
-    (in_scope ONCE (done_as (AtOnce r c u handed d) ways)))) m
-settled_leads r look number c p u handed d ways m ground command_is param_is at =
+    Leads r (rest_of BARE tick_tree) (settled_ways r look (look.instrument number) c p u handed d ways) m
+bare_leads r look number c p u handed d ways m ground none a at =
     let done : Done r.voice u handed d m = at.done in
-    let command : m.own NEW_COMMAND ≡ c = done.fields.new_command ∙ command_is in (
-      λ zero.
-          let none : m.own NEW_COMMAND ≡ 0 = eqb-true (m.own NEW_COMMAND) 0 zero in
-          listed VIBRATOS number i.vibrato ground.vibrato at.y_is
-          (λ b e. record {
-            v = record u.voice { command = 0 };
-            param = i.vibrato;
-            done =
-                own_done r.voice u (record u { voice = record u.voice { command = 0 } }) handed d m _ refl refl refl
-                (assumption (none, done.fields)) (assumption done.song) done;
-            a = e;
-            is = row_vibrato (r.voice + 1) look i c p u (sym command ∙ none);
-          }),
-      λ not_zero.
-          let some : c ≢ 0 = λ none. eqb-false (m.own NEW_COMMAND) 0 not_zero (command ∙ none) in
-          let param : m.own NEW_PARAM ≡ p =
-          done.fields.new_param (λ none. some (sym command_is ∙ none)) ∙ param_is in (
-            λ many. record {
-              done = done_over r.voice u handed d m _ refl refl refl done;
-              a = command;
-              from = (let z = leb-true 5 (m.own NEW_COMMAND) many in omega (arith, z, command));
-            },
-            λ few.
-                let below : c < 5 = (let z = leb-false 5 (m.own NEW_COMMAND) few in omega (arith, z, command)) in (
-                  λ over. record {
-                    v = record u.voice { command = c };
-                    param = p;
-                    done =
-                        own_done r.voice u (record u { voice = record u.voice { command = c } }) handed d m _ refl refl
-                        refl (assumption (command, done.fields)) (assumption done.song) done;
-                    a = param;
-                    is =
-                        row_runs (r.voice + 1) look i c p u
-                        (let z = leb-true 3 (m.own NEW_COMMAND) over in omega (arith, z, command)) below;
-                  },
-                  λ under. record {
-                    v = record u.voice { vib_time = 0; command = c };
-                    param = p;
-                    done =
-                        own_done r.voice u (record u { voice = record u.voice { vib_time = 0; command = c } }) handed
-                        d m
-                        _ refl refl refl (assumption (command, done.fields)) (assumption done.song) done;
-                    a = param;
-                    is =
-                        row_porta (r.voice + 1) look i c p u some
-                        (let z = leb-false 3 (m.own NEW_COMMAND) under in omega (arith, z, command));
-                  },
-                ),
-          ),
+    listed VIBRATOS number (look.instrument number).vibrato ground.vibrato at.y_is
+    (λ b e. record {
+      v = record u.voice { command = 0 };
+      param = (look.instrument number).vibrato;
+      done =
+          own_done r.voice u (record u { voice = record u.voice { command = 0 } }) handed d m _ refl refl refl
+          (assumption (a, done.fields)) (assumption done.song) done;
+      a = e;
+      is = row_vibrato (r.voice + 1) look (look.instrument number) c p u none;
+    })
+
+-- A is the command, which runs
+running_leads : (r : Reader) (look : LookUps) (number c p : ℕ) (u : Playing) (handed : Lent) (d : VoiceDesk)
+    (ways : Ways) (m : VoiceDesk) → KeepsRow r.layout c → c ≢ 0 → c < 5 → u.voice.new_command ≡ c →
+    u.voice.new_param ≡ p → m.a ≡ c → Done r.voice u handed d m →
+    Leads r running_tree (in_scope BARE (done_as
+    (Leads r (rest_of BARE tick_tree) (settled_ways r look (look.instrument number) c p u handed d ways))
+    (settled_ways r look (look.instrument number) c p u handed d ways))) m
+running_leads r look number c p u handed d ways m keeps some below command_is param_is a done =
+    kept_lead true r ROW_SLIDE (under (first_of running_tree)) (behind running_tree)
+    (in_scope BARE (done_as
+    (Leads r (rest_of BARE tick_tree) (settled_ways r look i c p u handed d ways))
+    (settled_ways r look i c p u handed d ways))) m
+    (keeps.slide (omega (arith, some)) (omega (arith, below))) (
+      λ over. record {
+        v = record u.voice { command = c };
+        param = p;
+        done =
+            own_done r.voice u (record u { voice = record u.voice { command = c } }) handed d m _ refl refl
+            refl (assumption (a, done.fields)) (assumption done.song) done;
+        a = param;
+        is =
+            row_runs (r.voice + 1) look i c p u
+            (let z = leb-true 3 m.a over in omega (arith, z, a)) below;
+      },
+      λ few. record {
+        v = record u.voice { vib_time = 0; command = c };
+        param = p;
+        done =
+            own_done r.voice u (record u { voice = record u.voice { vib_time = 0; command = c } }) handed
+            d m
+            _ refl refl refl (assumption (a, done.fields)) (assumption done.song) done;
+        a = param;
+        is =
+            row_porta (r.voice + 1) look i c p u some
+            (let z = leb-false 3 m.a few in omega (arith, z, a));
+      },
     )
   where
     i : Instrument
     i = look.instrument number
 
+    param : m.own NEW_PARAM ≡ p
+    param = done.fields.new_param (λ none. some (sym command_is ∙ none)) ∙ param_is
+
+settled_leads : (r : Reader) (look : LookUps) (number c p : ℕ) (u : Playing) (handed : Lent) (d : VoiceDesk)
+    (ways : Ways) (m : VoiceDesk) → InstrumentAt r look number → KeepsRow r.layout c → KeepsShared r.layout →
+    u.voice.new_command ≡ c → u.voice.new_param ≡ p → Ticking number r.voice u handed d m →
+    Leads r (body_of SETTLED tick_tree) (settled_ways r look (look.instrument number) c p u handed d ways) m
+settled_leads r look number c p u handed d ways m ground keeps shared command_is param_is at =
+    let done : Done r.voice u handed d m = at.done in
+    let command : m.own NEW_COMMAND ≡ c = done.fields.new_command ∙ command_is in (
+      λ kept. (
+        λ zero.
+            let none : m.own NEW_COMMAND ≡ 0 = eqb-true (m.own NEW_COMMAND) 0 zero in
+            bare (loaded (m.own NEW_COMMAND) m) (sym command ∙ none) none refl refl refl refl,
+        λ not_zero.
+            let some : c ≢ 0 = λ none. eqb-false (m.own NEW_COMMAND) 0 not_zero (command ∙ none) in (
+              λ kept_once. (
+                λ many. Once (record {
+                  done = done_over r.voice u handed d m _ refl refl refl done;
+                  a = command;
+                  from = (let z = leb-true 5 (m.own NEW_COMMAND) many in omega (arith, z, command));
+                }),
+                λ few.
+                    running_leads r look number c p u handed d ways _ keeps some
+                    (let z = leb-false 5 (m.own NEW_COMMAND) few in omega (arith, z, command)) command_is param_is
+                    command (done_over r.voice u handed d m _ refl refl refl done),
+              ),
+              λ out_once.
+                  running_leads r look number c p u handed d ways (loaded (m.own NEW_COMMAND) m) keeps some
+                  (below out_once (cases_lt c 5)) command_is param_is command
+                  (done_over r.voice u handed d m _ refl refl refl done),
+            ),
+      ),
+      λ out.
+          let none : c ≡ 0 = no_command out in
+          bare (loaded (m.own NEW_COMMAND) m) none (command ∙ none) refl refl refl refl,
+    )
+  where
+    i : Instrument
+    i = look.instrument number
+
+    bare : (n : VoiceDesk) → c ≡ 0 → n.a ≡ 0 → n.own ≡ m.own → n.shared ≡ m.shared → n.sid ≡ m.sid → n.y ≡ m.y →
+        Leads r (rest_of BARE tick_tree) (settled_ways r look i c p u handed d ways) n
+    bare n none a own shared sid y =
+        bare_leads r look number c p u handed d ways n ground none a
+        (record { done = done_over r.voice u handed d m n own shared sid at.done; y_is = y ∙ at.y_is })
+
+    below : r.layout.holds ROW_ONCE ≡ false → (c < 5) ⊎ (5 ≤ c) → c < 5
+    below out (inl low) = low
+    below out (inr high) = absurd (both_ways (r.layout.holds ROW_ONCE) out (keeps.once high))
+
+    no_row : r.layout.holds ROW_COMMAND ≡ false → (c < 5) ⊎ (5 ≤ c) → c ≢ 0 → ⊥
+    no_row out (inl low) some =
+        both_ways (r.layout.holds ROW_COMMAND) out
+        (shared.slide (keeps.slide (omega (arith, some)) (omega (arith, low))))
+    no_row out (inr high) some = both_ways (r.layout.holds ROW_COMMAND) out (shared.once (keeps.once high))
+
+    no_command : r.layout.holds ROW_COMMAND ≡ false → c ≡ 0
+    no_command out =
+        elim (eqb_tells c 0) [
+          | inl none ↦ none.1
+          | inr some ↦ absurd (no_row out (cases_lt c 5) some.1)
+        ]
+
 -- Y is the instrument
 pub command_leads : (r : Reader) (look : LookUps) (number c p : ℕ) (u : Playing) (handed : Lent) (d : VoiceDesk)
     (ways : Ways) (m : VoiceDesk) → r.voice < 3 → c < 256 → p < 256 → InstrumentAt r look number →
-    KeepsCommand r.layout c p → (c ≡ 0xE → p ≢ 0 → SpeedAt r look p) → u.voice.new_command ≡ c →
-    u.voice.new_param ≡ p → Ticking number r.voice u handed d m →
+    KeepsCommand r.layout c p → KeepsRow r.layout c → KeepsShared r.layout → (c ≡ 0xE → p ≢ 0 → SpeedAt r look p) →
+    u.voice.new_command ≡ c → u.voice.new_param ≡ p → Ticking number r.voice u handed d m →
     Leads r (body_of DONE tick_tree)
     (in_scope DONE (done_as (Ended r look (look.instrument number) c p u handed d) ways)) m
-command_leads r look number c p u handed d ways m voice few small ground keeps sides command_is param_is at =
-    joined true r ONCE (body_of ONCE tick_tree) (rest_of ONCE tick_tree) (AtOnce r c u handed d) goal m
+command_leads r look number c p u handed d ways m voice few small ground keeps row shared sides command_is param_is at
+    =
+    joined true r ONCE (body_of ONCE tick_tree) (rest_of ONCE tick_tree) (AtTaken r look i c p u handed d) goal m
     (joined true r SETTLED (body_of SETTLED tick_tree) (rest_of SETTLED tick_tree)
     (AtSettled r look i c p u handed d) runs m
-    (settled_leads r look number c p u handed d goal m ground command_is param_is at)
-    (λ n settled.
-    let a : n.a ≡ settled.param = settled.a in
-    done_by r.voice _ _ handed d _ (sym settled.is)
-    (own_done r.voice _ (record u { voice = record settled.v { param = settled.param } }) handed d n _ refl refl refl
-    (assumption (a, settled.done.fields)) (assumption settled.done.song) settled.done)))
-    (λ n once.
-    let from : 5 ≤ c = once.from in
-    once_leads r look i c p u handed d goal (loaded (n.own NEW_PARAM) (indexed n.a n)) voice from few small keeps
-    sides
-    (record {
-      y = once.a;
-      was = λ was. absurd (omega (arith, was, from));
-      waits = λ waits. done_over r.voice u handed d n _ refl refl refl once.done;
-      a = λ keeps.
-          once.done.fields.new_param (λ none. absurd (omega (arith, from, none, command_is))) ∙ param_is;
-    }))
+    (settled_leads r look number c p u handed d goal m ground row shared command_is param_is at)
+    (λ n settled. (λ kept. settles _ n settled refl refl refl, λ out. Over out (settles _ n settled refl refl refl))))
+    (λ n taken. taken_leads n taken)
   where
     i : Instrument
     i = look.instrument number
@@ -130,4 +194,28 @@ command_leads r look number c p u handed d ways m voice few small ground keeps s
     goal = in_scope DONE (done_as (Ended r look i c p u handed d) ways)
 
     runs : Ways
-    runs = in_scope ONCE (done_as (AtOnce r c u handed d) goal)
+    runs = in_scope ONCE (done_as (AtTaken r look i c p u handed d) goal)
+
+    settles : (k n : VoiceDesk) → AtSettled r look i c p u handed d n → k.own ≡ put n.own PARAM n.a →
+        k.shared ≡ n.shared → k.sid ≡ n.sid → Ended r look i c p u handed d k
+    settles k n settled own shared sid =
+        let a : n.a ≡ settled.param = settled.a in
+        done_by r.voice _ _ handed d k (sym settled.is)
+        (own_done r.voice _ (record u { voice = record settled.v { param = settled.param } }) handed d n k shared sid
+        refl (rw own (assumption (a, settled.done.fields))) (rw own (assumption settled.done.song)) settled.done)
+
+    taken_leads : (n : VoiceDesk) → AtTaken r look i c p u handed d n → Leads r (rest_of ONCE tick_tree) goal n
+    taken_leads n (Over out done) =
+        unkept_lead true r ROW_ONCE once_tree (behind (rest_of ONCE tick_tree)) goal n out done
+    taken_leads n (Once once) =
+        let from : 5 ≤ c = once.from in
+        kept_lead true r ROW_ONCE once_tree (behind (rest_of ONCE tick_tree)) goal n (row.once from)
+        (once_leads r look i c p u handed d goal (loaded (n.own NEW_PARAM) (indexed n.a n)) voice from few small keeps
+        sides
+        (record {
+          y = once.a;
+          was = λ was. absurd (omega (arith, was, from));
+          waits = λ waits. done_over r.voice u handed d n _ refl refl refl once.done;
+          a = λ keeps.
+              once.done.fields.new_param (λ none. absurd (omega (arith, from, none, command_is))) ∙ param_is;
+        }))

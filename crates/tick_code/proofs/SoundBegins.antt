@@ -1,71 +1,95 @@
 -- The sound of a note begins: the first frame's waveform, the instrument's programs and its envelope.
-use Rattle.std.proofs.Common.{◌≡◌, ℕ, ◌+◌, true, false, nat_eq, nat_le}
+use Rattle.std.proofs.Common.{◌≡◌, ◌≢◌, ℕ, ◌+◌, ◌<◌, ◌≤◌, ◌⊎◌, true, false, nat_eq, nat_le, inl, inr}
 use Rattle.std.proofs.Common.{if◌then◌else◌, refl, sym, ap, ◌∙◌}
-use Rattle.std.proofs.lemmas.Bool.{eqb-true, eqb-false}
+use Rattle.std.proofs.lemmas.Bool.{eqb-true, eqb-false, both_ways, cases_lt, lt-leb}
 use Rattle.code_runs.specs.Runs.{put}
 use Rattle.song_model.specs.declared.instruments.Instrument.{Instrument}
+use Rattle.song_facts.specs.Facts.{IsMask}
 use Rattle.play_model.specs.LookUps.{LookUps}
 use Rattle.play_model.specs.State.{Voice, Common, Playing}
 use Rattle.play_model.specs.TickStep.{tempo_of, note_taken, first_wave_set, sound_begun}
-use Rattle.player_memory.specs.declared.labels.TheConstants.{FILTER_POINTER, FILTER_TIME, WAVES, ADS, SRS, COMMAND}
+use Rattle.player_memory.specs.declared.conditions.TheConstants.{FIRST_MASK}
+use Rattle.player_memory.specs.declared.labels.TheConstants.{WAVE, GATE, FILTER_POINTER, FILTER_TIME, WAVES, ADS, SRS, COMMAND}
 use Rattle.player_memory.specs.declared.labels.TheConstants.{WAVE_TIME, PARAM, VIBRATOS, FIRST_WAVES, PULSES, FILTERS}
 use Rattle.player_desk.proofs.Laws.{VoiceDesk, Reader, Ways, Leads, done_as, in_scope, body_of, rest_of, joined}
 use Rattle.player_desk.proofs.Laws.{goes_on, loaded, Lent, Done, own_done, done_over, listed}
 use Rattle.player_text.specs.declared.joints.TheConstants.{TAKEN}
-use Rattle.player_text.specs.declared.tick.TheConstants.{STARTS, MASKED, NO_PULSE, NO_FILTER}
+use Rattle.player_text.specs.declared.tick.TheConstants.{MASKED, NO_PULSE, NO_FILTER}
 use Rattle.scopes.specs.Trees.{Tree}
 use Rattle.tick_code.specs.TickBlock.{tick_tree}
 use Rattle.command_code.proofs.Laws.{shared_done, tempos_kept}
-use Rattle.tick_code.proofs.Pieces.{first_of, behind}
+use Rattle.tick_code.proofs.Pieces.{first_of, behind, sound_tree}
 use Rattle.tick_code.proofs.TickDesks.{Ticking, done_as_is, if_so, if_not}
 use Rattle.tick_code.proofs.TickGrounds.{InstrumentAt}
 use Rattle.tick_code.proofs.NoteRules.{noted, wave_same, wave_mask, wave_plain}
 
 -- ---- the first frame's waveform
 
+-- the lines for a first waveform that is a mask are kept where the instrument's is one
+abbrev pub KeepsMask : Reader → LookUps → ℕ → Type 0
+KeepsMask r look number = IsMask (look.instrument number) → r.layout.holds FIRST_MASK ≡ true
+
 -- a delay of the wave program begins anew
 abbrev waved : Voice → Playing → Playing
 waved v s = record s { voice = record v { wave_time = 0 } }
 
 masked_leads : (r : Reader) (look : LookUps) (number : ℕ) (s : Playing) (v : Voice) (handed : Lent) (d : VoiceDesk)
-    (ways : Ways) (m : VoiceDesk) → InstrumentAt r look number → Ticking number r.voice (waved v s) handed d m →
+    (ways : Ways) (m : VoiceDesk) → InstrumentAt r look number → KeepsMask r look number →
+    Ticking number r.voice (waved v s) handed d m →
     Leads r (body_of MASKED tick_tree)
     (in_scope MASKED (done_as
     (Ticking number r.voice (waved (first_wave_set (look.instrument number).first_wave v) s) handed d) ways)) m
-masked_leads r look number s v handed d ways m ground at =
+masked_leads r look number s v handed d ways m ground keeps at =
     let done : Done r.voice (waved v s) handed d m = at.done in
     listed FIRST_WAVES number wave ground.first_wave at.y_is
     (λ b e. (
-      λ zero. record {
+      λ kept. (
+        λ zero. record {
+          done =
+              done_as_is r.voice _ _ handed d _ (ap (λ x. waved x s) (wave_same wave v (sym e ∙ eqb-true b 0 zero)))
+              (done_over r.voice (waved v s) handed d m _ refl refl refl done);
+          y_is = at.y_is;
+        },
+        λ some. (
+          λ mask. record {
+            done =
+                done_as_is r.voice _ _ handed d _
+                (ap (λ x. waved x s) (wave_mask wave v (ap (λ n. nat_le 0xFE n) (sym e) ∙ mask)))
+                (own_done r.voice (waved v s) (waved (record v { gate = wave }) s) handed d m _ refl refl refl
+                (assumption (e, done.fields)) (assumption done.song) done);
+            y_is = at.y_is;
+          },
+          λ low. record {
+            done =
+                plain _ b e refl refl refl (λ none. eqb-false b 0 some (e ∙ none))
+                (ap (λ n. nat_le 0xFE n) (sym e) ∙ low);
+            y_is = at.y_is;
+          },
+        ),
+      ),
+      λ out. record {
         done =
-            done_as_is r.voice _ _ handed d _ (ap (λ x. waved x s) (wave_same wave v (sym e ∙ eqb-true b 0 zero)))
-            (done_over r.voice (waved v s) handed d m _ refl refl refl done);
+            plain _ b e refl refl refl (λ none. both_ways (r.layout.holds FIRST_MASK) out (keeps (inl none)))
+            (below out (cases_lt wave 0xFE));
         y_is = at.y_is;
       },
-      λ some. (
-        λ mask. record {
-          done =
-              done_as_is r.voice _ _ handed d _
-              (ap (λ x. waved x s) (wave_mask wave v (ap (λ n. nat_le 0xFE n) (sym e) ∙ mask)))
-              (own_done r.voice (waved v s) (waved (record v { gate = wave }) s) handed d m _ refl refl refl
-              (assumption (e, done.fields)) (assumption done.song) done);
-          y_is = at.y_is;
-        },
-        λ low. record {
-          done =
-              done_as_is r.voice _ _ handed d _
-              (ap (λ x. waved x s)
-              (wave_plain wave v (λ none. eqb-false b 0 some (e ∙ none)) (ap (λ n. nat_le 0xFE n) (sym e) ∙ low)))
-              (own_done r.voice (waved v s) (waved (record v { wave = wave; gate = 0xFF }) s) handed d m _ refl refl
-              refl
-              (assumption (e, done.fields)) (assumption done.song) done);
-          y_is = at.y_is;
-        },
-      ),
     ))
   where
     wave : ℕ
     wave = (look.instrument number).first_wave
+
+    plain : (n : VoiceDesk) (b : ℕ) → b ≡ wave → n.own ≡ put (put m.own WAVE b) GATE 0xFF → n.shared ≡ m.shared →
+        n.sid ≡ m.sid → wave ≢ 0 → nat_le 0xFE wave ≡ false →
+        Done r.voice (waved (first_wave_set wave v) s) handed d n
+    plain n b e own shared sid some low =
+        let done : Done r.voice (waved v s) handed d m = at.done in
+        done_as_is r.voice _ _ handed d n (ap (λ x. waved x s) (wave_plain wave v some low))
+        (own_done r.voice (waved v s) (waved (record v { wave = wave; gate = 0xFF }) s) handed d m n shared sid refl
+        (rw own (assumption (e, done.fields))) (rw own (assumption done.song)) done)
+
+    below : r.layout.holds FIRST_MASK ≡ false → (wave < 0xFE) ⊎ (0xFE ≤ wave) → nat_le 0xFE wave ≡ false
+    below out (inl low) = lt-leb 0xFE wave low
+    below out (inr high) = absurd (both_ways (r.layout.holds FIRST_MASK) out (keeps (inr high)))
 
 -- ---- the programs
 
@@ -179,7 +203,7 @@ record AtVibrato (number voice vibrato : ℕ) (s : Playing) (handed : Lent) (d m
   a : m.a ≡ vibrato
 
 abbrev vibrato_tree : Tree
-vibrato_tree = behind (behind (behind (rest_of STARTS tick_tree)))
+vibrato_tree = behind (behind (behind sound_tree))
 
 abbrev cut_off : Voice → Voice
 cut_off v = record v { command = 0; wave_time = 0 }
@@ -203,13 +227,13 @@ sounding i s = sound_begun i (record s { voice = note_taken i s.voice })
 begun_leads : (r : Reader) (look : LookUps) (number : ℕ) (s : Playing) (handed : Lent) (d : VoiceDesk)
     (ways : Ways) (Q : VoiceDesk → Type 0) (m : VoiceDesk) →
     ((n : VoiceDesk) → Ticking number r.voice (sounding (look.instrument number) s) handed d n → Q n) →
-    InstrumentAt r look number → Ticking number r.voice (waved (note_taken (look.instrument number) s.voice) s) handed
-    d m →
+    InstrumentAt r look number → KeepsMask r look number →
+    Ticking number r.voice (waved (note_taken (look.instrument number) s.voice) s) handed d m →
     Leads r (behind (behind vibrato_tree)) (in_scope TAKEN (done_as Q ways)) m
-begun_leads r look number s handed d ways Q m into ground at =
+begun_leads r look number s handed d ways Q m into ground keeps at =
     joined true r MASKED (body_of MASKED tick_tree) (rest_of MASKED tick_tree) (Ticking number r.voice first handed d)
     goal
-    m (masked_leads r look number s (note_taken i s.voice) handed d goal m ground at)
+    m (masked_leads r look number s (note_taken i s.voice) handed d goal m ground keeps at)
     (λ n behind.
     joined true r NO_PULSE (body_of NO_PULSE tick_tree) (rest_of NO_PULSE tick_tree)
     (Ticking number r.voice (pulse_begun i first) handed d) goal n
@@ -235,9 +259,10 @@ begun_leads r look number s handed d ways Q m into ground at =
 pub sound_leads : (r : Reader) (look : LookUps) (number : ℕ) (s : Playing) (handed : Lent) (d : VoiceDesk)
     (ways : Ways) (Q : VoiceDesk → Type 0) (m : VoiceDesk) →
     ((n : VoiceDesk) → Ticking number r.voice (sounding (look.instrument number) s) handed d n → Q n) →
-    InstrumentAt r look number → Ticking number r.voice (noted (look.instrument number) s) handed d m →
-    Leads r (rest_of STARTS tick_tree) (in_scope TAKEN (done_as Q ways)) m
-sound_leads r look number s handed d ways Q m into ground at =
+    InstrumentAt r look number → KeepsMask r look number →
+    Ticking number r.voice (noted (look.instrument number) s) handed d m →
+    Leads r sound_tree (in_scope TAKEN (done_as Q ways)) m
+sound_leads r look number s handed d ways Q m into ground keeps at =
     goes_on true r (first_of vibrato_tree) (behind vibrato_tree) (AtVibrato number r.voice i.vibrato cut handed d)
     goal quiet
     (vibrato_leads r look number cut handed d goal quiet ground (record {
@@ -249,7 +274,7 @@ sound_leads r look number s handed d ways Q m into ground at =
     (λ n vibrato.
     let a : n.a ≡ i.vibrato = vibrato.a in
     let done : Done r.voice cut handed d n = vibrato.at.done in
-    begun_leads r look number s handed d ways Q (record n { own = put n.own PARAM n.a }) into ground (record {
+    begun_leads r look number s handed d ways Q (record n { own = put n.own PARAM n.a }) into ground keeps (record {
       done =
           own_done r.voice cut (waved (note_taken i s.voice) s) handed d n _ refl refl refl
           (assumption (a, done.fields))

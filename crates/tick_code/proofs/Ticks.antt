@@ -42,11 +42,11 @@ record AtRuns (r : Reader) (s : Playing) (handed : Lent) (d m : VoiceDesk) : Typ
   apart : nat_eq (byte_minus s.voice.tick 1) 0 ≡ false
   done : Done r.voice (between_rows (r.voice + 1) (less s)) handed d m
 
-runs_lead : (r : Reader) (s : Playing) (handed : Lent) (d : VoiceDesk) (ways : Ways) (m : VoiceDesk) →
-    r.voice < 3 → IsRoom r.layout r.rows → KeepsTick r.layout (r.voice + 1) s → Done r.voice s handed d m →
+runs_lead : (r : Reader) (look : LookUps) (s : Playing) (handed : Lent) (d : VoiceDesk) (ways : Ways) (m : VoiceDesk) →
+    r.voice < 3 → IsRoom r.layout r.rows → KeepsTick r.layout (r.voice + 1) look s → Done r.voice s handed d m →
     Leads r (body_of RUNS tick_tree)
     (in_scope RUNS (done_as (AtRuns r s handed d) (in_scope AT_ROW (done_as (AtRow r s handed d) ways)))) m
-runs_lead r s handed d ways m few room keeps done = (
+runs_lead r look s handed d ways m few room keeps done = (
   λ zero. record { now = ap (λ n. nat_eq n 0) (sym tick) ∙ zero; done = counted _ refl refl refl },
   λ not_zero. (
     λ plus. record {
@@ -89,12 +89,12 @@ runs_lead r s handed d ways m few room keeps done = (
 -- From the desk of a voice that is playing, the code leads to where the tick step leaves the voice and what the voices
 -- share: to the block's end where no note has started, and out of the voice's step where one has.
 pub tick_leads : (r : Reader) (look : LookUps) (s : Playing) (handed : Lent) (d m : VoiceDesk) → r.voice < 3 →
-    IsRoom r.layout r.rows → TickGround r look s → KeepsTick r.layout (r.voice + 1) s → Done r.voice s handed d m →
+    IsRoom r.layout r.rows → TickGround r look s → KeepsTick r.layout (r.voice + 1) look s → Done r.voice s handed d m →
     Leads r tick_tree (tick_ways r look s handed d) m
 tick_leads r look s handed d m few room ground keeps done =
     joined true r AT_ROW (body_of AT_ROW tick_tree) (rest_of AT_ROW tick_tree) (AtRow r s handed d) goal m
     (joined true r RUNS (body_of RUNS tick_tree) (rest_of RUNS tick_tree) (AtRuns r s handed d)
-    (in_scope AT_ROW (done_as (AtRow r s handed d) goal)) m (runs_lead r s handed d goal m few room keeps done)
+    (in_scope AT_ROW (done_as (AtRow r s handed d) goal)) m (runs_lead r look s handed d goal m few room keeps done)
     (λ n runs.
     let is = between_is (r.voice + 1) look s runs.apart in record {
       is = ap (λ (t : Ticked). t.started) (sym is);
@@ -105,7 +105,7 @@ tick_leads r look s handed d m few room ground keeps done =
     subst (λ t. Leads r (rest_of AT_ROW tick_tree) (in_scope TICKED (ways_of r.voice t handed d)) n)
     (row_is (r.voice + 1) look s row.now)
     (row_leads r look (less s) handed d n few ground.command_byte ground.param_byte (ground.instrument now)
-    (keeps.command now) (ground.speed now) row.done))
+    (keeps.command now) (keeps.row now) (keeps.mask now) keeps.shared (ground.speed now) row.done))
   where
     goal : Ways
     goal = in_scope TICKED (tick_ways r look s handed d)

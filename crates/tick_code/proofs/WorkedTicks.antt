@@ -1,8 +1,8 @@
 -- The row that is worked by hand.
-use Rattle.std.proofs.Common.{◌≡◌, ℕ, zero, suc, ◌+◌, ◌<◌, ◌≤◌, Bool, true, false, nat_eq, nat_lt}
+use Rattle.std.proofs.Common.{◌≡◌, ◌≢◌, ℕ, zero, suc, ◌+◌, ◌<◌, ◌≤◌, Bool, true, false, nat_eq, nat_lt}
 use Rattle.std.proofs.Common.{inl, inr, refl, sym}
 use Rattle.std.proofs.Common.{ap, subst, arith}
-use Rattle.std.proofs.lemmas.Bool.{lt-ltb, true≢false, both_ways}
+use Rattle.std.proofs.lemmas.Bool.{lt-ltb, true≢false, both_ways, eqb-true}
 use Rattle.play_model.specs.TickStep.{tempo_of, tick_step, at_row as done_at_row, note_started, row_command}
 use Rattle.scopes.specs.Meaning.{Outcome, Left}
 use Rattle.player_memory.specs.declared.labels.TheConstants.{TEMPO, ADS, SRS, WAVES, PULSES, FILTERS, VIBRATOS, DELAYS}
@@ -12,7 +12,10 @@ use Rattle.player_memory.specs.Playing.{own_at, shared_at, place_in, IsListed, I
 use Rattle.player_text.specs.declared.joints.TheConstants.{SOUNDS, TICKED}
 use Rattle.player_desk.proofs.Laws.{fields_stand, shared_stand}
 use Rattle.tick_code.specs.TickBlock.{HasInstrument, HasTickLists, IsInLists, KeepsCommand, KeepsTick}
-use Rattle.tick_code.specs.WorkedTick.{laid, bare, look, waiting, memory, TickIsWorked}
+use Rattle.player_memory.specs.FactLines.{KeepsShared}
+use Rattle.player_memory.specs.declared.conditions.TheConstants.{FUNK_TEMPO, ROW_SLIDE, ROW_ONCE, WAVE_DELAY, LEGATO}
+use Rattle.player_memory.specs.declared.conditions.TheConstants.{SOFT_RESTART}
+use Rattle.tick_code.specs.WorkedTick.{laid, bare, with_one, look, waiting, memory, TickIsWorked}
 
 abbrev is_left : ℕ → Outcome → Bool
 is_left name (Left other) = nat_eq other name
@@ -138,8 +141,49 @@ at_row = record {
   speed = λ e. absurd (omega (arith, e));
 }
 
-keeps : KeepsTick laid 2 waiting
-keeps = record { command = λ now. refl; length = λ past short. absurd (omega (arith, past)) }
+keeps : KeepsTick laid 2 look waiting
+keeps = record {
+  command = λ now. refl;
+  row = λ now. record {
+    tone = λ e. absurd (omega (arith, e));
+    slide = λ from to. absurd (omega (arith, to));
+    once = λ from. refl;
+  };
+  mask = λ now is. elim is [ inl none ↦ absurd (omega (arith, none)) | inr high ↦ absurd (omega (arith, high)) ];
+  length = λ past short. absurd (omega (arith, past));
+  shared = record {
+    slide = λ on. refl;
+    once = λ on. refl;
+    delay = λ on. absurd cc;
+    command = λ on. absurd cc;
+    legato = λ on. absurd cc;
+    soft = λ on. absurd cc;
+  };
+}
+
+-- where none of the facts' lines is kept
+none_shared : (kept : ℕ) → kept < 24 → kept ≢ 23 → KeepsShared (with_one kept)
+none_shared kept few other = record {
+  slide = λ on. absurd (is_other ROW_SLIDE (omega arith) on);
+  once = λ on. absurd (is_other ROW_ONCE (omega arith) on);
+  delay = λ on. absurd (is_other WAVE_DELAY (omega arith) on);
+  command = λ on. absurd (other (sym (eqb-true 23 kept on)));
+  legato = λ on. absurd (is_other LEGATO (omega arith) on);
+  soft = λ on. absurd (is_other SOFT_RESTART (omega arith) on);
+}
+  where
+    is_other : (condition : ℕ) → 24 ≤ condition → ¬ (nat_eq condition kept ≡ true)
+    is_other condition high on = (let same = eqb-true condition kept on in omega (arith, same, few, high))
+
+bare_shared : KeepsShared bare
+bare_shared = record {
+  slide = λ on. absurd cc;
+  once = λ on. absurd cc;
+  delay = λ on. absurd cc;
+  command = λ on. absurd cc;
+  legato = λ on. absurd cc;
+  soft = λ on. absurd cc;
+}
 
 runs : (command param : ℕ) → command ≤ 4 → KeepsCommand bare command param
 runs zero param few = tt
@@ -196,10 +240,50 @@ tick_is_worked = record {
   lengths = record {
     goes_on = record {
       command = λ now. absurd (omega (arith, now));
+      row = λ now. absurd (omega (arith, now));
+      mask = λ now. absurd (omega (arith, now));
       length = λ past short. absurd (omega (arith, past));
+      shared = bare_shared;
     };
-    two = record { command = λ now. absurd (omega (arith, now)); length = λ past short. absurd (omega (arith, short)) };
-    one = record { command = λ now. absurd (omega (arith, now)); length = λ past short. refl };
+    two = record {
+      command = λ now. absurd (omega (arith, now));
+      row = λ now. absurd (omega (arith, now));
+      mask = λ now. absurd (omega (arith, now));
+      length = λ past short. absurd (omega (arith, short));
+      shared = bare_shared;
+    };
+    one = record {
+      command = λ now. absurd (omega (arith, now));
+      row = λ now. absurd (omega (arith, now));
+      mask = λ now. absurd (omega (arith, now));
+      length = λ past short. refl;
+      shared = none_shared FUNK_TEMPO (omega arith) (λ e. omega (arith, e));
+    };
+  };
+  rows = record {
+    none = record {
+      tone = λ e. absurd (omega (arith, e));
+      slide = λ from to. absurd (omega (arith, from));
+      once = λ from. absurd (omega (arith, from));
+    };
+    tone = λ keeps. (let on = keeps.tone refl in absurd cc);
+    slide = λ keeps. (let on = keeps.slide (omega arith) (omega arith) in absurd cc);
+    last_slide = λ keeps. (let on = keeps.slide (omega arith) (omega arith) in absurd cc);
+    once = λ keeps. (let on = keeps.once (omega arith) in absurd cc);
+    waveform = record {
+      command = λ now. tt;
+      row = λ now. record {
+        tone = λ e. absurd (omega (arith, e));
+        slide = λ from to. absurd (omega (arith, from));
+        once = λ from. absurd (omega (arith, from));
+      };
+      mask = λ now is. elim is [ inl none ↦ absurd (omega (arith, none)) | inr high ↦ absurd (omega (arith, high)) ];
+      length = λ past short. absurd (omega (arith, past));
+      shared = bare_shared;
+    };
+    mask = λ keeps. (let on = keeps.mask refl (inr (omega arith)) in absurd cc);
+    nothing = λ keeps. (let on = keeps.mask refl (inl refl) in absurd cc);
+    shared = λ keeps. (let on = keeps.shared.once refl in absurd cc);
   };
   lists = record {
     last = record {

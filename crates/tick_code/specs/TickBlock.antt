@@ -1,6 +1,7 @@
 -- The code of the tick step, and what it does. This is the project's own player.
 use Rattle.std.specs.Prelude.{◌≡◌, ℕ, ◌+◌, ◌%◌, ◌<◌, ◌≤◌, Bool, true, false}
 use Rattle.song_model.specs.declared.tables.TableName.TheVariants.{Speed}
+use Rattle.song_facts.specs.Facts.{IsMask}
 use Rattle.play_model.specs.LookUps.{LookUps}
 use Rattle.play_model.specs.Wrap.{byte_minus}
 use Rattle.play_model.specs.State.{Voice, Playing}
@@ -10,10 +11,12 @@ use Rattle.scopes.specs.Trees.{Tree, NoneTree, ThenTree, ScopeTree}
 use Rattle.scopes.specs.Meaning.{Outcome, Done, Left, Ran, each_one, ran}
 use Rattle.scope_lines.specs.Reach.{nothing_around, has_lines}
 use Rattle.scope_lines.specs.Sizes.{size}
-use Rattle.player_memory.specs.declared.conditions.TheConstants.{FUNK_TEMPO}
+use Rattle.player_memory.specs.declared.conditions.TheConstants.{FUNK_TEMPO, ROW_TONE, ROW_SLIDE, ROW_ONCE}
+use Rattle.player_memory.specs.declared.conditions.TheConstants.{FIRST_MASK}
 use Rattle.player_memory.specs.declared.labels.TheConstants.{ADS, SRS, WAVES, PULSES, FILTERS, VIBRATOS, DELAYS}
 use Rattle.player_memory.specs.declared.labels.TheConstants.{GATE_TIMERS, FIRST_WAVES, SPEED_LEFTS, SPEED_RIGHTS}
 use Rattle.player_memory.specs.Commands.{condition_of, AreKept}
+use Rattle.player_memory.specs.FactLines.{KeepsShared}
 use Rattle.player_memory.specs.Rooms.{IsRoom, MayUse}
 use Rattle.player_text.specs.declared.joints.TheConstants.{SOUNDS, TICKED}
 use Rattle.player_text.specs.Steps.{tick_tree as step_tree}
@@ -25,12 +28,12 @@ use Rattle.player_memory.specs.Playing.{IsListed, IsTable, IsPlaying, IsAtVoice,
 abbrev pub tick_tree : Tree
 tick_tree = ThenTree (ScopeTree TICKED step_tree) NoneTree
 
--- In a scope that it leaves where a note has started it has lines; they take 379 bytes where all are kept, and 187
+-- In a scope that it leaves where a note has started it has lines; they take 379 bytes where all are kept, and 138
 -- where none are that stand under a condition.
 pub record TickBlockHasLines : Type 0 where
   pub has : has_lines nothing_around (ScopeTree SOUNDS tick_tree) ≡ true
   pub all : size (λ condition. true) tick_tree ≡ 379
-  pub least : size (λ condition. false) tick_tree ≡ 187
+  pub least : size (λ condition. false) tick_tree ≡ 138
 
 -- ---- what is kept
 
@@ -42,11 +45,21 @@ IsRowDone s = byte_minus s.voice.tick 1 ≡ 0
 abbrev pub KeepsCommand : Layout → ℕ → ℕ → Type 0
 KeepsCommand layout command param = AreKept layout (condition_of command param)
 
--- Where the row is done the lines of its command are kept; and where the tick falls below 0 those of the funk tempos,
--- if the tempo is 0 or 1.
-pub record KeepsTick (layout : Layout) (channel : ℕ) (s : Playing) : Type 0 where
+-- and so are those that tell whether it slides to its note, runs or is done once
+pub record KeepsRow (layout : Layout) (command : ℕ) : Type 0 where
+  pub tone : command ≡ 3 → layout.holds ROW_TONE ≡ true
+  pub slide : 1 ≤ command → command ≤ 4 → layout.holds ROW_SLIDE ≡ true
+  pub once : 5 ≤ command → layout.holds ROW_ONCE ≡ true
+
+-- Where the row is done the lines of its command are kept, and those of a first waveform that is a mask, if the
+-- instrument has one; and where the tick falls below 0 those of the funk tempos, if the tempo is 0 or 1. What commands
+-- have in common is kept with each.
+pub record KeepsTick (layout : Layout) (channel : ℕ) (look : LookUps) (s : Playing) : Type 0 where
   pub command : IsRowDone s → KeepsCommand layout s.voice.new_command s.voice.new_param
+  pub row : IsRowDone s → KeepsRow layout s.voice.new_command
+  pub mask : IsRowDone s → IsMask (look.instrument s.voice.instrument) → layout.holds FIRST_MASK ≡ true
   pub length : 0x80 ≤ byte_minus s.voice.tick 1 → tempo_of channel s.common < 2 → layout.holds FUNK_TEMPO ≡ true
+  pub shared : KeepsShared layout
 
 -- ---- what is read
 
@@ -97,5 +110,5 @@ TickBlockSteps =
     (layout : Layout) (rows voice instruments speeds : ℕ) (look : LookUps) (s : Playing) (desk : Desk) →
     IsRoom layout rows → MayUse layout rows → HasTickLists layout rows desk.at look instruments speeds → voice < 3 →
     IsAtVoice voice desk → IsPlaying layout voice s desk.at → IsInLists instruments speeds s.voice →
-    KeepsTick layout (voice + 1) s →
+    KeepsTick layout (voice + 1) look s →
     Ticks layout rows voice desk (ran each_one layout tick_tree desk) (tick_step (voice + 1) look s)

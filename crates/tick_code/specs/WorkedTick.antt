@@ -1,6 +1,6 @@
 -- A row is done as it is worked by hand, in a memory that meets what the clause asks for; at what that ends; and what
 -- doing the row isn't.
-use Rattle.std.specs.Prelude.{◌≡◌, ℕ, ◌+◌, ◌*◌, ◌≤◌, List, [], ◌∷◌, ◌==◌, nat_lt}
+use Rattle.std.specs.Prelude.{◌≡◌, ℕ, ◌+◌, ◌*◌, ◌≤◌, List, [], ◌∷◌, ◌==◌, ◌||◌, nat_lt}
 use Rattle.std.specs.Prelude.{nat_eq, if◌then◌else◌, true, false}
 use Rattle.song_model.specs.declared.instruments.Instrument.{Instrument}
 use Rattle.code_runs.specs.Runs.{put}
@@ -12,7 +12,7 @@ use Rattle.scopes.specs.Meaning.{Outcome, Done, Left, Ran, each_one, ran}
 use Rattle.player_memory.specs.declared.conditions.TheConstants.{SET_AD, SET_SR, SET_WAVE, SET_WAVE_POINTER}
 use Rattle.player_memory.specs.declared.conditions.TheConstants.{SET_PULSE_POINTER, SET_FILTER_POINTER}
 use Rattle.player_memory.specs.declared.conditions.TheConstants.{SET_FILTER_CONTROL, SET_CUTOFF, SET_VOLUME, FUNK_TEMPO}
-use Rattle.player_memory.specs.declared.conditions.TheConstants.{SET_TEMPO}
+use Rattle.player_memory.specs.declared.conditions.TheConstants.{SET_TEMPO, ROW_SLIDE, ROW_ONCE, ROW_COMMAND}
 use Rattle.player_memory.specs.declared.labels.TheConstants.{VARIABLES, TICK, GATE_TIMER, INSTRUMENT, NOTE, NEW_NOTE}
 use Rattle.player_memory.specs.declared.labels.TheConstants.{NEW_COMMAND, NEW_PARAM, AD, VIB_DELAY, WAVE, GATE, TEMPO}
 use Rattle.player_memory.specs.declared.labels.TheConstants.{FILTER_POINTER, VOLUME, FUNK_ONE, FUNK_TWO, ADS, SRS}
@@ -20,16 +20,18 @@ use Rattle.player_memory.specs.declared.labels.TheConstants.{WAVES, FILTERS, DEL
 use Rattle.player_memory.specs.Rooms.{IsRoom, MayUse}
 use Rattle.player_memory.specs.Playing.{own_at, shared_at, IsPlaying, IsAtVoice}
 use Rattle.player_text.specs.declared.joints.TheConstants.{SOUNDS, TICKED}
-use Rattle.tick_code.specs.TickBlock.{tick_tree, HasTickLists, IsInLists, KeepsCommand, KeepsTick, Ticks}
+use Rattle.tick_code.specs.TickBlock.{tick_tree, HasTickLists, IsInLists, KeepsCommand, KeepsRow}
+use Rattle.tick_code.specs.TickBlock.{KeepsTick, Ticks}
 
 -- ---- the memory
 
--- the variables from $1000 on, and the lists far behind them; of the features tempos alone are kept
+-- the variables from $1000 on, and the lists far behind them; of what a song may ask for, commands that set tempos
+-- alone are kept
 abbrev pub laid : Layout
 laid = record {
   address = λ label. if nat_lt label VARIABLES then 0x1000 + label else 0x2000 + 16 * label;
   pointer = 0xFC;
-  holds = λ condition. condition == SET_TEMPO;
+  holds = λ condition. condition == SET_TEMPO || condition == ROW_ONCE || condition == ROW_COMMAND;
   may_read = λ place. true;
   may_write = λ place. true;
 }
@@ -104,7 +106,7 @@ pub record IsMet : Type 0 where
   pub at_voice : IsAtVoice 1 desk
   pub playing : IsPlaying laid 1 waiting memory
   pub at_row : IsInLists 1 0 waiting.voice
-  pub keeps : KeepsTick laid 2 waiting
+  pub keeps : KeepsTick laid 2 look waiting
 
 abbrev pub done : Ran
 done = ran each_one laid tick_tree desk
@@ -166,9 +168,30 @@ loading tempo = record {
 }
 
 pub record LengthsAreKept : Type 0 where
-  pub goes_on : KeepsTick bare 2 (record (loading 0) { voice = record (with_command 5 0) { tick = 2 } })
-  pub two : KeepsTick bare 2 (loading 2)
-  pub one : KeepsTick (with_one FUNK_TEMPO) 2 (loading 1)
+  pub goes_on : KeepsTick bare 2 look (record (loading 0) { voice = record (with_command 5 0) { tick = 2 } })
+  pub two : KeepsTick bare 2 look (loading 2)
+  pub one : KeepsTick (with_one FUNK_TEMPO) 2 look (loading 1)
+
+-- a voice whose row is done, without a command
+abbrev pub at_end : Playing
+at_end = record { voice = record (with_command 0 0) { tick = 1 }; common = start_common 1 }
+
+-- with an instrument that has this first waveform
+abbrev pub with_first : ℕ → LookUps
+with_first wave = record look { instrument = λ number. record sound { first_wave = wave } }
+
+-- Of a row without a command no line is kept; a slide to the note, a command that runs and one that is done once ask
+-- for theirs, and so does a first waveform that is a mask, where the row is done.
+pub record RowsAreKept : Type 0 where
+  pub none : KeepsRow bare 0
+  pub tone : ¬ KeepsRow (with_one ROW_SLIDE) 3
+  pub slide : ¬ KeepsRow (with_one ROW_ONCE) 1
+  pub last_slide : ¬ KeepsRow (with_one ROW_ONCE) 4
+  pub once : ¬ KeepsRow (with_one ROW_SLIDE) 5
+  pub waveform : KeepsTick bare 2 (with_first 0xFD) at_end
+  pub mask : ¬ KeepsTick bare 2 (with_first 0xFE) at_end
+  pub nothing : ¬ KeepsTick bare 2 (with_first 0) at_end
+  pub shared : ¬ KeepsTick (with_one ROW_ONCE) 2 (with_first 0xFD) at_end
 
 -- the last of 63 instruments; and command $E with the last of 255 rows, or with none where there is no row
 pub record ListsAreMet : Type 0 where
@@ -196,5 +219,6 @@ pub record TickIsWorked : Type 0 where
   pub worked : IsWorked
   pub commands : CommandsAreKept
   pub lengths : LengthsAreKept
+  pub rows : RowsAreKept
   pub lists : ListsAreMet
   pub others : OthersAreDenied

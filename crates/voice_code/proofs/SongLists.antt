@@ -57,6 +57,7 @@ rows_stay layout rows look one two packed order v stay has = record {
   tick = has.tick;
   gate_timer = has.gate_timer;
   command = has.command;
+  keeps = has.keeps;
 }
 
 -- the voice is where it was, with the same bytes

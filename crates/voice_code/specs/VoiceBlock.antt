@@ -106,7 +106,7 @@ pub record KeepsOptions (layout : Layout) (o : Options) : Type 0 where
 pub record VoiceIsReady (layout : Layout) (rows : ℕ) (at : ℕ → ℕ) (channel : ℕ) (o : Options) (look : LookUps)
     (packed : ℕ → List ℕ) (order : Order) (counts : Counts) (s : Playing) : Type 0 where
   pub lists : IsInLists counts.instruments counts.speeds s.voice
-  pub keeps : KeepsTick layout channel s
+  pub keeps : KeepsTick layout channel look s
   pub wave : (tick_step channel look s).started ≡ false →
       WaveIsReady layout look counts (tick_step channel look s).playing
   pub effect : (tick_step channel look s).started ≡ false → (waved channel look s).effect ≡ true →

@@ -8,18 +8,19 @@ use Rattle.cpu6502.specs.Registers.{one_if}
 use Rattle.code_runs.specs.Runs.{put}
 use Rattle.song_model.specs.declared.tables.TableRow.{TableRow}
 use Rattle.song_model.specs.declared.tables.TableName.TheVariants.{Wave}
-use Rattle.scopes.specs.Trees.{ThenTree, ScopeTree}
+use Rattle.scopes.specs.Trees.{Tree, ThenTree, ScopeTree}
 use Rattle.play_model.specs.LookUps.{LookUps}
 use Rattle.play_model.specs.Wrap.{byte_plus}
 use Rattle.play_model.specs.State.{Playing}
 use Rattle.play_model.specs.TickStep.{tempo_of}
 use Rattle.play_model.specs.Helpers.{next_row}
 use Rattle.play_model.specs.WaveStep.{Waved, wave_step, right_done, wave_note, with_note, is_wave_command}
-use Rattle.player_memory.specs.declared.conditions.TheConstants.{WAVE_TABLE, WAVE_COMMAND}
-use Rattle.player_memory.specs.declared.labels.TheConstants.{NOTE, WAVE_POINTER, WAVE_TIME}
+use Rattle.player_memory.specs.declared.conditions.TheConstants.{WAVE_TABLE, WAVE_COMMAND, WAVE_DELAY, SPECIAL_ROW}
+use Rattle.player_memory.specs.declared.labels.TheConstants.{NOTE, WAVE, WAVE_POINTER, WAVE_TIME}
 use Rattle.player_memory.specs.declared.labels.TheConstants.{WAVE_LEFTS, NEXT_WAVE_LEFTS, WAVE_RIGHTS, NEXT_WAVE_RIGHTS}
 use Rattle.player_desk.proofs.Laws.{VoiceDesk, Reader, Ways, Leads, done_as, in_scope, body_of, rest_of, joined, loaded}
 use Rattle.player_desk.proofs.Laws.{indexed, Fields, SameSong, Lent, Done, own_done, done_over, done_by, listed}
+use Rattle.command_code.proofs.Laws.{behind}
 use Rattle.wave_code.specs.WaveBlock.{wave_tree, its_row, begun, KeepsWave}
 use Rattle.player_memory.specs.Forms.{stored_left, stored_right}
 use Rattle.wave_code.proofs.WaveRows.{step_none, step_some, row_waits, row_over, row_wave, row_low, row_command}
@@ -51,6 +52,10 @@ MOVED = 4
 
 abbrev FIXED : ℕ
 FIXED = 6
+
+-- the lines that set the waveform, behind those for special rows
+abbrev set_tree : Tree
+set_tree = behind (body_of NEXT wave_tree)
 
 abbrev its_ways : Reader → LookUps → Playing → Lent → VoiceDesk → Ways
 its_ways r look s handed d = in_scope IDLE (wave_ways r.voice look s handed d)
@@ -239,7 +244,7 @@ over_leads : (r : Reader) (look : LookUps) (s : Playing) (handed : Lent) (d m : 
     m.a ≡ 0xE0 + (its_row look s.voice).left → m.y ≡ s.voice.wave_ptr → Done r.voice s handed d m →
     Leads r (ThenTree (ScopeTree OVER (body_of OVER wave_tree)) (rest_of OVER wave_tree))
     (in_scope SOUNDING
-    (done_as (Leads r (rest_of SOUNDING wave_tree) (next_ways r look s handed d)) (next_ways r look s handed d))) m
+    (done_as (Leads r set_tree (next_ways r look s handed d)) (next_ways r look s handed d))) m
 over_leads r look s handed d m some low passed a y done = (
   λ same.
       let z = eqb-true ((bit_and m.a 0x0F + (256 - m.own WAVE_TIME)) % 256) 0 same in
@@ -285,54 +290,80 @@ next_leads : (r : Reader) (look : LookUps) (s : Playing) (handed : Lent) (d m : 
     Kind (its_row look s.voice).left m.a → m.y ≡ s.voice.wave_ptr → Done r.voice s handed d m →
     Leads r (body_of NEXT wave_tree) (next_ways r look s handed d) m
 next_leads r look s handed d m some ground keeps (Delay low is) y done = (
-  λ under. (let l = leb-false 224 m.a (not-true _ under) in absurd (omega (arith, l, is))),
-  λ above. (
-    λ kept. (
-      λ high. (let l = leb-true 240 m.a high in absurd (omega (arith, l, is, low))),
-      λ not_high.
-          over_leads r look s handed d m some low (ground.delay some low) is y done,
+  λ special. (
+    λ under. (let l = leb-false 224 m.a (not-true _ under) in absurd (omega (arith, l, is))),
+    λ above. (
+      λ kept. (
+        λ high. (let l = leb-true 240 m.a high in absurd (omega (arith, l, is, low))),
+        λ not_high. (
+          λ kept_delay.
+              over_leads r look s handed d m some low (ground.delay some low) is y done,
+          λ out. absurd (both_ways (r.layout.holds WAVE_DELAY) out (keeps.delay some low)),
+        ),
+      ),
+      λ none. (
+        λ kept_delay.
+            over_leads r look s handed d m some low (ground.delay some low) is y done,
+        λ out. absurd (both_ways (r.layout.holds WAVE_DELAY) out (keeps.delay some low)),
+      ),
     ),
-    λ out.
-        over_leads r look s handed d m some low (ground.delay some low) is y done,
   ),
+  λ out. absurd (both_ways (r.layout.holds SPECIAL_ROW) out (keeps.shared.delay (keeps.delay some low))),
 )
 next_leads r look s handed d m some ground keeps (Sound from to is) y done = (
-  λ under.
-      let none = done.fields.wave_time ∙ ground.fresh some from in
-      at_next r look s handed d m _ row.left done y refl refl refl (assumption (is, none, done.fields))
-      (assumption done.song) (begun_wave look s from to)
-      (λ few.
-      step_some look s some ∙ (row_wave look row s from to ∙ ap (right_done row) (sym (begun_wave look s from to)))),
-  λ above. (let l = leb-true 224 m.a (not-false _ above) in absurd (omega (arith, l, is, to))),
-)
-  where
-    row : TableRow
-    row = its_row look s.voice
-next_leads r look s handed d m some ground keeps (LowSound from to is) y done = (
-  λ under.
-      let none = done.fields.wave_time ∙ ground.fresh some (omega (arith, from)) in
-      at_next r look s handed d m _ (row.left - 0xE0) done y refl refl refl (assumption (is, none, done.fields))
-      (assumption done.song) (begun_low look s from to)
-      (λ few.
-      step_some look s some ∙ (row_low look row s from to ∙ ap (right_done row) (sym (begun_low look s from to)))),
-  λ above. (let l = leb-true 224 m.a (not-false _ above) in absurd (omega (arith, l, is, to, from))),
-)
-  where
-    row : TableRow
-    row = its_row look s.voice
-next_leads r look s handed d m some ground keeps (Command from is) y done = (
-  λ under. (let l = leb-false 224 m.a (not-true _ under) in absurd (omega (arith, l, is, from))),
-  λ above. (
-    λ kept. (
-      λ high.
-          let none = done.fields.wave_time ∙ ground.fresh some (omega (arith, from)) in
-          at_next r look s handed d m _ s.voice.wave done y refl refl refl (assumption (none, done.fields))
-          (assumption done.song) (begun_command look s command)
-          (λ few. absurd (omega (arith, few, from))),
-      λ not_high. (let l = leb-false 240 m.a not_high in absurd (omega (arith, l, is, from))),
-    ),
-    λ out. absurd (both_ways (r.layout.holds WAVE_COMMAND) out (keeps.command some command)),
+  λ special. (
+    λ under. sounds _ refl refl refl refl refl,
+    λ above. (let l = leb-true 224 m.a (not-false _ above) in absurd (omega (arith, l, is, to))),
   ),
+  λ out. sounds _ refl refl refl refl refl,
+)
+  where
+    row : TableRow
+    row = its_row look s.voice
+
+    sounds : (n : VoiceDesk) → n.own ≡ put m.own WAVE m.a → n.shared ≡ m.shared → n.sid ≡ m.sid → n.y ≡ m.y →
+        n.a ≡ m.a → AtNext r look s handed d n
+    sounds n own shared sid same a =
+        let none = done.fields.wave_time ∙ ground.fresh some from in
+        at_next r look s handed d m n row.left done y shared sid same (rw own (assumption (is, none, done.fields)))
+        (rw own (assumption done.song)) (begun_wave look s from to)
+        (λ few.
+        step_some look s some ∙ (row_wave look row s from to ∙ ap (right_done row) (sym (begun_wave look s from to))))
+next_leads r look s handed d m some ground keeps (LowSound from to is) y done = (
+  λ special. (
+    λ under. sounds _ refl refl refl refl refl,
+    λ above. (let l = leb-true 224 m.a (not-false _ above) in absurd (omega (arith, l, is, to, from))),
+  ),
+  λ out. sounds _ refl refl refl refl refl,
+)
+  where
+    row : TableRow
+    row = its_row look s.voice
+
+    sounds : (n : VoiceDesk) → n.own ≡ put m.own WAVE m.a → n.shared ≡ m.shared → n.sid ≡ m.sid → n.y ≡ m.y →
+        n.a ≡ m.a → AtNext r look s handed d n
+    sounds n own shared sid same a =
+        let none = done.fields.wave_time ∙ ground.fresh some (omega (arith, from)) in
+        at_next r look s handed d m n (row.left - 0xE0) done y shared sid same
+        (rw own (assumption (is, none, done.fields))) (rw own (assumption done.song)) (begun_low look s from to)
+        (λ few.
+        step_some look s some ∙ (row_low look row s from to ∙ ap (right_done row) (sym (begun_low look s from to))))
+next_leads r look s handed d m some ground keeps (Command from is) y done = (
+  λ special. (
+    λ under. (let l = leb-false 224 m.a (not-true _ under) in absurd (omega (arith, l, is, from))),
+    λ above. (
+      λ kept. (
+        λ high.
+            let none = done.fields.wave_time ∙ ground.fresh some (omega (arith, from)) in
+            at_next r look s handed d m _ s.voice.wave done y refl refl refl (assumption (none, done.fields))
+            (assumption done.song) (begun_command look s command)
+            (λ few. absurd (omega (arith, few, from))),
+        λ not_high. (let l = leb-false 240 m.a not_high in absurd (omega (arith, l, is, from))),
+      ),
+      λ out. absurd (both_ways (r.layout.holds WAVE_COMMAND) out (keeps.command some command)),
+    ),
+  ),
+  λ out. absurd (both_ways (r.layout.holds SPECIAL_ROW) out (keeps.shared.command (keeps.command some command))),
 )
   where
     row : TableRow

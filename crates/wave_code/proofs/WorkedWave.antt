@@ -176,13 +176,27 @@ rows_are_worked look = record {
     delay = λ some. absurd (some refl);
     time = λ some. absurd (some refl);
   };
-  kept = record { table = λ some. refl; command = λ some is. refl };
+  kept = record {
+    table = λ some. refl;
+    command = λ some is. refl;
+    delay = λ some low. refl;
+    shared = record {
+      slide = λ on. refl;
+      once = λ on. refl;
+      delay = λ on. refl;
+      command = λ on. refl;
+      legato = λ on. refl;
+      soft = λ on. refl;
+    };
+  };
   jump = λ on. on.no_jump (λ e. omega (arith, e)) refl;
   none_behind = λ on. (let next = on.next (λ e. omega (arith, e)) in omega (arith, next));
   long = λ on. (let time = on.delay (λ e. omega (arith, e)) (omega arith) in omega (arith, time));
   no_delay = λ on. (let time = on.time (λ e. omega (arith, e)) (omega arith) in omega (arith, time));
   not_kept = λ keeps. both_ways true (sym (keeps.table (λ e. omega (arith, e)))) refl;
   commands_not_kept = λ keeps. both_ways true (sym (keeps.command (λ e. omega (arith, e)) refl)) refl;
+  delays_not_kept = λ keeps. both_ways true (sym (keeps.delay (λ e. omega (arith, e)) (omega arith))) refl;
+  special_not_kept = λ keeps. both_ways true (sym (keeps.shared.delay refl)) refl;
   delay = λ has. (let byte = (has.table.each 2 (omega arith) (omega arith)).left.is in omega (arith, byte));
   low = λ has. (let byte = (has.table.each 3 (omega arith) (omega arith)).left.is in omega (arith, byte));
   note = λ has. (let byte = (has.table.each 1 (omega arith) (omega arith)).right.is in omega (arith, byte));

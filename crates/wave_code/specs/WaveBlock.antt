@@ -9,8 +9,9 @@ use Rattle.play_model.specs.WaveStep.{wave_step, left_done, program_moved, is_wa
 use Rattle.scopes.specs.Desk.{Desk, Layout}
 use Rattle.scopes.specs.Trees.{Tree, tree_of}
 use Rattle.scopes.specs.Meaning.{Outcome, Done, Left, Ran, each_one, ran}
-use Rattle.player_memory.specs.declared.conditions.TheConstants.{WAVE_TABLE, WAVE_COMMAND}
+use Rattle.player_memory.specs.declared.conditions.TheConstants.{WAVE_TABLE, WAVE_COMMAND, WAVE_DELAY}
 use Rattle.player_memory.specs.declared.labels.TheConstants.{WAVE_LEFTS, NEXT_WAVE_LEFTS, WAVE_RIGHTS, NEXT_WAVE_RIGHTS}
+use Rattle.player_memory.specs.FactLines.{KeepsShared}
 use Rattle.player_memory.specs.Rooms.{IsRoom, MayUse}
 use Rattle.player_memory.specs.Forms.{stored}
 use Rattle.player_memory.specs.Playing.{IsTable, IsPlaying, IsAtVoice, Plays, there}
@@ -44,10 +45,13 @@ pub record IsOnWave (look : LookUps) (count : ℕ) (v : Voice) : Type 0 where
   pub delay : v.wave_ptr ≢ 0 → (its_row look v).left < 0x10 → v.wave_time ≤ (its_row look v).left
   pub time : v.wave_ptr ≢ 0 → 0x10 ≤ (its_row look v).left → v.wave_time ≡ 0
 
--- the code is kept where the voice has a program, and that of commands where its row is one
+-- the code is kept where the voice has a program, that of commands and that of delays where its row is one, and with
+-- each of these what both have in common
 pub record KeepsWave (layout : Layout) (look : LookUps) (v : Voice) : Type 0 where
   pub table : v.wave_ptr ≢ 0 → layout.holds WAVE_TABLE ≡ true
   pub command : v.wave_ptr ≢ 0 → is_wave_command (its_row look v) ≡ true → layout.holds WAVE_COMMAND ≡ true
+  pub delay : v.wave_ptr ≢ 0 → (its_row look v).left < 0x10 → layout.holds WAVE_DELAY ≡ true
+  pub shared : KeepsShared layout
 
 -- ---- what it does
 

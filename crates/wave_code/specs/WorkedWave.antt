@@ -1,12 +1,13 @@
 -- The code of the wave step, run by hand: each kind of row, and a program that jumps; and what the law on it asks, met
 -- there.
-use Rattle.std.specs.Prelude.{◌≡◌, ℕ, ◌+◌, Bool, true, false, nat_eq, if◌then◌else◌}
+use Rattle.std.specs.Prelude.{◌≡◌, ℕ, ◌+◌, Bool, true, false, nat_eq, nat_le, if◌then◌else◌}
 use Rattle.code_runs.specs.Runs.{put}
 use Rattle.song_model.specs.declared.tables.TableRow.{TableRow}
 use Rattle.play_model.specs.LookUps.{LookUps}
 use Rattle.play_model.specs.State.{Voice, start_voice}
 use Rattle.scopes.specs.Desk.{Layout}
 use Rattle.scopes.specs.Meaning.{Outcome, Done, Left, Ran, each_one, ran}
+use Rattle.player_memory.specs.declared.conditions.TheConstants.{WAVE_DELAY}
 use Rattle.player_memory.specs.declared.labels.TheConstants.{NOTE, WAVE, WAVE_POINTER, WAVE_TIME}
 use Rattle.player_memory.specs.declared.labels.TheConstants.{WAVE_LEFTS, NEXT_WAVE_LEFTS, WAVE_RIGHTS, NEXT_WAVE_RIGHTS}
 use Rattle.player_memory.specs.WorkedMemory.{at_1000}
@@ -101,6 +102,10 @@ pub record RowsAreWorked (look : LookUps) : Type 0 where
   pub not_kept : ¬ KeepsWave (worked_layout false) (looked_up look) (on 1 0)
   pub commands_not_kept :
       ¬ KeepsWave (record at_1000 { holds = λ condition. nat_eq condition 22 }) (looked_up look) (on 4 0)
+  pub delays_not_kept :
+      ¬ KeepsWave (record at_1000 { holds = λ condition. nat_eq condition 22 }) (looked_up look) (on 2 0)
+  pub special_not_kept :
+      ¬ KeepsWave (record at_1000 { holds = λ condition. nat_le condition WAVE_DELAY }) (looked_up look) (on 2 0)
   -- a delay that stands as it is isn't in the image's form, nor a note that does, nor a command's parameter that
   -- doesn't
   pub delay : ¬ HasRows look (put worked_rows 0x1121 3)

@@ -244,6 +244,20 @@ rows look = record {
   tick = omega arith;
   gate_timer = omega arith;
   command = omega arith;
+  keeps = record {
+    gate = λ is. refl;
+    tone = λ is. refl;
+    legato = λ is. refl;
+    soft = λ is. refl;
+    shared = record {
+      slide = λ on. refl;
+      once = λ on. refl;
+      delay = λ on. refl;
+      command = λ on. refl;
+      legato = λ on. refl;
+      soft = λ on. refl;
+    };
+  };
 }
 
 pub grounds_are_worked : (look : LookUps) → GroundsAreWorked look

@@ -60,6 +60,26 @@ others_are_denied look = record {
   spells = λ has. (let least = (has.pattern 0).spells.count.least in omega (arith, least));
   timer = λ has. (let byte = has.timer.is in omega (arith, byte));
   timer_byte = λ has. (let byte = has.timer_byte in omega (arith, byte));
+  plain = record {
+    gate = λ is. elim is [ inl off ↦ absurd (omega (arith, off)) | inr on ↦ absurd (omega (arith, on)) ];
+    tone = λ is. absurd (omega (arith, is));
+    legato = λ is. absurd (is refl);
+    soft = λ is. absurd (is.1 refl);
+    shared = record {
+      slide = λ on. absurd cc;
+      once = λ on. absurd cc;
+      delay = λ on. absurd cc;
+      command = λ on. absurd cc;
+      legato = λ on. absurd cc;
+      soft = λ on. absurd cc;
+    };
+  };
+  key_off = λ keeps. (let on = keeps.gate (inl refl) in absurd cc);
+  key_on = λ keeps. (let on = keeps.gate (inr refl) in absurd cc);
+  tone = λ keeps. (let on = keeps.tone refl in absurd cc);
+  legato = λ keeps. (let on = keeps.legato (λ e. omega (arith, e)) in absurd cc);
+  soft = λ keeps. (let on = keeps.soft (refl, λ e. omega (arith, e)) in absurd cc);
+  shared = λ keeps. (let on = keeps.shared.legato refl in absurd cc);
   tick = λ has. (let byte = has.tick in omega (arith, byte));
   gate_timer = λ has. (let byte = has.gate_timer in omega (arith, byte));
   command = λ has. (let byte = has.command in omega (arith, byte));

@@ -1,12 +1,13 @@
 -- Memory in which a voice is in its song, so that the law on the code that fetches a row speaks of it, and what it
 -- leaves there; and what is no such memory, or isn't left.
-use Rattle.std.specs.Prelude.{[], ◌≡◌, ℕ, ◌+◌, true, false}
+use Rattle.std.specs.Prelude.{[], ◌∷◌, ◌≡◌, ℕ, ◌+◌, true, false, nat_eq}
 use Rattle.code_runs.specs.Runs.{put}
 use Rattle.song_model.specs.declared.orders.Order.{Order}
 use Rattle.play_model.specs.LookUps.{LookUps}
 use Rattle.play_model.specs.State.{Voice, Playing, start_voice, start_common}
 use Rattle.scopes.specs.Desk.{Layout}
 use Rattle.scopes.specs.Meaning.{Done, Left, Ran}
+use Rattle.player_memory.specs.declared.conditions.TheConstants.{LEGATO}
 use Rattle.player_memory.specs.declared.labels.TheConstants.{TICK, NEW_NOTE, OFFSET, ORDER_LOW, ORDER_HIGH, LENT}
 use Rattle.player_memory.specs.declared.labels.TheConstants.{ORDERS}
 use Rattle.player_memory.specs.Rooms.{IsRoom, MayUse}
@@ -14,7 +15,7 @@ use Rattle.player_memory.specs.Playing.{own_at, shared_at, IsPlaying, IsAtVoice}
 use Rattle.player_memory.specs.WorkedFetching.{its_rows, its_packed}
 use Rattle.player_memory.specs.WorkedPlays.{its_desk}
 use Rattle.player_text.specs.declared.joints.TheConstants.{SOUNDS}
-use Rattle.fetch_code.specs.FetchBlock.{IsKept, HasOrderlist, HasRows, left_out, Fetches}
+use Rattle.fetch_code.specs.FetchBlock.{IsKept, HasOrderlist, HasRows, KeepsNext, left_out, Fetches}
 use Rattle.player_memory.specs.Fetching.{IsInSong}
 use Rattle.worked_blocks.specs.WorkedFetches.{laid, its_order, at_start, at_first, in_run, at_note, with_own, fetched}
 
@@ -47,6 +48,17 @@ HasRowsIn at look v = HasRows (laid false) 4 at look its_packed its_order v
 -- nothing is kept that stands under a condition
 abbrev pub bare : Layout
 bare = record (laid false) { holds = λ condition. false }
+
+-- a next row with this note and command, of an instrument with this gateoff timer; and whether what it asks for is kept
+abbrev pub with_next : ℕ → ℕ → ℕ → LookUps → LookUps
+with_next note command timer look = record look {
+  instrument = λ number. record (look.instrument number) { gate_timer = timer };
+  rows = λ number. (record { note = note; instrument = 1; command = command; param = 0 }) ∷ [];
+}
+
+abbrev pub KeepsRowIn : Layout → LookUps → ℕ → ℕ → ℕ → Type 0
+KeepsRowIn layout look note command timer =
+    KeepsNext layout (with_next note command timer look) its_order (on_row 0)
 
 -- a layout in which the orderlist stands behind the end of memory
 abbrev pub far : Layout
@@ -89,6 +101,15 @@ pub record OthersAreDenied (look : LookUps) : Type 0 where
   pub timer_byte : ¬ HasRowsIn (put (at_note 2) 0x1121 256) (record (looked_up look) {
     instrument = λ number. record (look.instrument number) { gate_timer = 256 };
   }) (on_row 2)
+  -- a plain note of a plain instrument asks for nothing; keyoff, keyon, a slide to the note, and an instrument that
+  -- leaves the gate or the envelope as it is ask for their lines
+  pub plain : KeepsRowIn bare look 0x90 0 0x3F
+  pub key_off : ¬ KeepsRowIn bare look 0xBE 0 0x3F
+  pub key_on : ¬ KeepsRowIn bare look 0xBF 0 0x3F
+  pub tone : ¬ KeepsRowIn bare look 0x90 3 0x3F
+  pub legato : ¬ KeepsRowIn bare look 0x90 0 0x42
+  pub soft : ¬ KeepsRowIn bare look 0x90 0 0x82
+  pub shared : ¬ KeepsRowIn (record bare { holds = λ condition. nat_eq condition LEGATO }) look 0x90 0 0x42
   -- what is read of the voice are bytes
   pub tick : ¬ HasRowsIn (at_note 2) (looked_up look) (record (on_row 2) { tick = 256 })
   pub gate_timer : ¬ HasRowsIn (at_note 2) (looked_up look) (record (on_row 2) { gate_timer = 256 })

@@ -1,0 +1,44 @@
+-- The lines of the facts that a voice meets are kept.
+use Rattle.std.proofs.Common.{◌≡◌, ℕ, true, refl, ◌∙◌, arith}
+use Rattle.song_model.specs.declared.songs.Song.{Song}
+use Rattle.song_model.specs.LookUp.{instrument_at}
+use Rattle.song_facts.specs.declared.facts.Fact.TheVariants.{RowTone, RowSlide, RowOnce, FirstMask}
+use Rattle.song_facts.specs.Facts.{IsMask}
+use Rattle.play_model.specs.Used.{IsUsedInstrument}
+use Rattle.play_model.specs.Safe.{IsSafeWaiting, none, of_row}
+use Rattle.packed_form.specs.declared.packed_songs.PackedSong.{PackedSong}
+use Rattle.packed_form.specs.Unpacked.{unpacked_song}
+use Rattle.packed_form.specs.StandsFor.{StandsFor}
+use Rattle.scopes.specs.Desk.{Layout}
+use Rattle.player_memory.specs.declared.conditions.TheConstants.{FIRST_MASK}
+use Rattle.player_memory.specs.FactLines.{KeepsMarked, KeepsFacts}
+use Rattle.tick_code.specs.TickBlock.{KeepsRow}
+
+-- where those of all facts of the song that the packed song stands for are kept, those of the packed song's are
+pub facts_kept : (layout : Layout) (packed : PackedSong) (song : Song) → StandsFor packed song →
+    KeepsMarked layout packed.facts → KeepsFacts layout (unpacked_song packed)
+facts_kept layout packed song stands marked fact has = marked fact ((stands.facts.each fact).1 (stands.covers fact has))
+
+-- of a command that waits
+pub row_kept : (layout : Layout) (song : Song) (command param : ℕ) → KeepsFacts layout song →
+    IsSafeWaiting song command param → KeepsRow layout command
+row_kept layout song command param facts none = record {
+  tone = λ e. absurd (omega (arith, e));
+  slide = λ from to. absurd (omega (arith, from));
+  once = λ from. absurd (omega (arith, from));
+}
+row_kept layout song command param facts (of_row has) = record {
+  tone = λ e. facts RowTone (record { row = has.row; used = has.used; is_such = has.command_is ∙ e });
+  slide = λ from to.
+      let is = has.command_is in
+      facts RowSlide
+      (record { row = has.row; used = has.used; is_such = (omega (arith, is, from), omega (arith, is, to)) });
+  once = λ from.
+      let is = has.command_is in
+      facts RowOnce (record { row = has.row; used = has.used; is_such = omega (arith, is, from) });
+}
+
+-- of an instrument's first waveform
+pub mask_kept : (layout : Layout) (song : Song) (number : ℕ) → KeepsFacts layout song → IsUsedInstrument song number →
+    IsMask (instrument_at song number) → layout.holds FIRST_MASK ≡ true
+mask_kept layout song number facts used is = facts FirstMask (record { instrument = number; used = used; is_such = is })
