@@ -50,7 +50,7 @@ stored_is_low left low = elim (cases_lt left 0x10) [
 ]
 
 pub commands_are_found : CommandsAreFound
-commands_are_found layout rows voice s desk h high =
+commands_are_found layout rows voice s desk h row kept high =
     let some : s.voice.new_command ≢ 0 = λ e. absurd (omega (arith, high, e)) in
     let sees = own_sees h NEW_COMMAND (lit< tt) in
     let is = own_is h NEW_COMMAND s.voice.new_command (lit< tt) (own_bytes h).new_command in
@@ -59,12 +59,12 @@ commands_are_found layout rows voice s desk h high =
     let z = ne_eqb s.voice.new_command 0 some in
     let c : nat_le 5 s.voice.new_command ≡ true = le-leb 5 s.voice.new_command high in
     record {
-      ends = rw (sees, is, z, c, sees_param) refl;
-      a_is = rw (sees, is, z, c, sees_param, is_param) refl;
-      y_is = rw (sees, is, z, c, sees_param) refl;
-      stays = λ place. rw (sees, is, z, c, sees_param) refl;
-      x = rw (sees, is, z, c, sees_param) refl;
-      decimal = rw (sees, is, z, c, sees_param) refl;
+      ends = rw (sees, is, row, z, kept, c, sees_param) refl;
+      a_is = rw (sees, is, row, z, kept, c, sees_param, is_param) refl;
+      y_is = rw (sees, is, row, z, kept, c, sees_param) refl;
+      stays = λ place. rw (sees, is, row, z, kept, c, sees_param) refl;
+      x = rw (sees, is, row, z, kept, c, sees_param) refl;
+      decimal = rw (sees, is, row, z, kept, c, sees_param) refl;
     }
 
 pub effects_are_found : EffectsAreFound

@@ -3,6 +3,7 @@ mod Reading
 -- Where parts do nothing: those of the tick step, of the wave and the pulse step; and the others.
 mod StepParts
 mod LaterParts
+mod FactParts
 -- Which there are, what leads to them, and that they can be left out.
 mod PartList
 mod Fronts

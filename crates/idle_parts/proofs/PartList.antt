@@ -35,4 +35,15 @@ parts_are_these = record {
   rises = refl;
   sinks = refl;
   found = refl;
+  row_tone = refl;
+  row_slide = refl;
+  row_once = refl;
+  row_command = refl;
+  first_mask = refl;
+  held_note = refl;
+  legato = refl;
+  soft_restart = refl;
+  special_row = refl;
+  wave_delay = refl;
+  gate_note = refl;
 }

@@ -6,7 +6,7 @@ use Rattle.scopes.specs.Meaning.{Left, each_one, ran}
 use Rattle.player_text.specs.declared.joints.TheConstants.{DOWN}
 use Rattle.player_text.specs.declared.slide.TheConstants.{PORTA_STEP}
 use Rattle.player_memory.specs.declared.conditions.TheConstants.{PORTA_UP, PORTA_DOWN}
-use Rattle.idle_parts.specs.Places.{PartsAreComeTo, SlidesLeave}
+use Rattle.idle_parts.specs.Places.{PartsAreComeTo, OnceIsComeTo, SlidesLeave}
 
 pub parts_are_come_to : PartsAreComeTo
 parts_are_come_to = record {
@@ -19,6 +19,9 @@ parts_are_come_to = record {
   up_ends = refl;
   commanded_ends = refl;
 }
+
+pub once_is_come_to : OnceIsComeTo
+once_is_come_to = record { once = refl; done = refl }
 
 goes_down : (layout : Layout) (desk : Desk) (k : Bool) → layout.holds PORTA_UP ≡ k → layout.holds PORTA_DOWN ≡ true →
     desk.cpu.a ≡ 2 → (ran each_one layout (tree_of PORTA_STEP.now) desk).outcome ≡ Left DOWN

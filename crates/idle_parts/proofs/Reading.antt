@@ -2,7 +2,7 @@
 use Rattle.std.proofs.Common.{◌≡◌, ◌≢◌, ℕ, ◌+◌, ◌*◌, ◌%◌, ◌<◌, true, ◌∙◌, ap, arith}
 use Rattle.play_model.specs.State.{Voice, Playing}
 use Rattle.scopes.specs.Desk.{Desk, Layout}
-use Rattle.player_memory.specs.declared.labels.TheConstants.{TICK, NEW_COMMAND, NEW_PARAM, COMMAND, PARAM, VIB_DELAY}
+use Rattle.player_memory.specs.declared.labels.TheConstants.{TICK, INSTRUMENT, NEW_COMMAND, NEW_PARAM, COMMAND, PARAM, VIB_DELAY}
 use Rattle.player_memory.specs.declared.labels.TheConstants.{WAVE_POINTER, PULSE_POINTER}
 use Rattle.player_memory.specs.Playing.{own_at}
 use Rattle.idle_parts.specs.Idle.{HoldsVoice}
@@ -39,6 +39,7 @@ own_is {layout} {desk = desk} h label byte few is = ap desk.at (own_place h labe
 
 pub record OwnBytes (v : Voice) (own : ℕ → ℕ) : Type 0 where
   pub tick : own TICK ≡ v.tick
+  pub instrument : own INSTRUMENT ≡ v.instrument
   pub new_command : own NEW_COMMAND ≡ v.new_command
   pub new_param : v.new_command ≢ 0 → own NEW_PARAM ≡ v.new_param
   pub command : own COMMAND ≡ v.command
@@ -51,6 +52,7 @@ pub own_bytes : {layout : Layout} {rows voice : ℕ} {s : Playing} {desk : Desk}
     OwnBytes s.voice (own_at layout desk.at voice)
 own_bytes h = record {
   tick = h.plays.own.0;
+  instrument = h.plays.own.1.1.0;
   new_command = h.plays.own.1.1.1.1.1.0;
   new_param = h.plays.own.1.1.1.1.1.1.0;
   command = h.plays.own.1.1.1.1.1.1.1.0;

@@ -1,18 +1,19 @@
 -- What the lines in front of the parts find, in a memory that holds a state. This is the project's own player.
-use Rattle.std.specs.Prelude.{◌≡◌, ◌≢◌, ℕ, ◌+◌, ◌<◌, ◌≤◌, ◌⊎◌, true, false}
+use Rattle.std.specs.Prelude.{◌≡◌, ◌≢◌, ℕ, ◌+◌, ◌<◌, ◌≤◌, ◌⊎◌, true, false, ◌++◌}
 use Rattle.song_model.specs.declared.orders.Order.{Order}
 use Rattle.play_model.specs.State.{Playing}
 use Rattle.scopes.specs.Desk.{Desk, Layout}
 use Rattle.scopes.specs.Trees.{tree_of}
 use Rattle.scopes.specs.Meaning.{Ran, Done, each_one, ran}
 use Rattle.player_memory.specs.declared.conditions.TheConstants.{FUNK_TEMPO, WAVE_COMMAND, INSTRUMENT_VIBRATO}
-use Rattle.player_memory.specs.declared.conditions.TheConstants.{NOTE_DEPENDENT, TRANSPOSES, REPEATS}
+use Rattle.player_memory.specs.declared.conditions.TheConstants.{NOTE_DEPENDENT, TRANSPOSES, REPEATS, ROW_COMMAND}
+use Rattle.player_memory.specs.declared.conditions.TheConstants.{ROW_ONCE}
 use Rattle.player_memory.specs.declared.labels.TheConstants.{WAVE_LEFTS, WAVE_RIGHTS}
 use Rattle.player_memory.specs.declared.labels.TheConstants.{REPEAT}
 use Rattle.player_memory.specs.Forms.{stored_left}
 use Rattle.player_memory.specs.Fetching.{WalkStands}
 use Rattle.player_memory.specs.Playing.{IsListed}
-use Rattle.player_text.specs.declared.tick.TheConstants.{FRAME_COUNTED, COMMAND_BEGUN}
+use Rattle.player_text.specs.declared.tick.TheConstants.{FRAME_COUNTED, COMMAND_BEGUN, COMMAND_TAKEN}
 use Rattle.player_text.specs.declared.wave.TheConstants.{WAVE_STEP}
 use Rattle.player_text.specs.declared.effect.TheConstants.{EFFECT_BEGUN, COMMAND_LENT}
 use Rattle.player_text.specs.declared.slide.TheConstants.{SPEED_STEP}
@@ -44,13 +45,14 @@ pub record Finds (a y : ℕ) (run : Ran) (before : Desk) : Type 0 where
   pub x : run.desk.cpu.x ≡ before.cpu.x
   pub decimal : run.desk.cpu.d ≡ before.cpu.d
 
--- The commands of a row find the row's command, 5 up, in Y, and its parameter in A. Each of them keeps both where it is
--- another one.
+-- The commands of a row find the row's command, 5 up, in Y, and its parameter in A, where the lines are kept that come
+-- to them. Each of them keeps both where it is another one.
 abbrev pub CommandsAreFound : Type 0
 CommandsAreFound =
     (layout : Layout) (rows voice : ℕ) (s : Playing) (desk : Desk) → HoldsVoice layout rows voice s desk →
-    5 ≤ s.voice.new_command →
-    Finds s.voice.new_param s.voice.new_command (ran each_one layout (tree_of COMMAND_BEGUN.now) desk) desk
+    layout.holds ROW_COMMAND ≡ true → layout.holds ROW_ONCE ≡ true → 5 ≤ s.voice.new_command →
+    Finds s.voice.new_param s.voice.new_command
+    (ran each_one layout (tree_of (COMMAND_BEGUN.now ++ COMMAND_TAKEN.now)) desk) desk
 
 -- the slides find the command that runs in A, as it was, and the voice's parameter in Y
 abbrev pub EffectsAreFound : Type 0

@@ -5,20 +5,22 @@ use Rattle.play_model.specs.State.{Playing, Common}
 use Rattle.play_model.specs.TickStep.{tempo_of}
 use Rattle.scopes.specs.declared.line.Line.{Line}
 use Rattle.scopes.specs.Desk.{Desk, Layout}
-use Rattle.scopes.specs.Meaning.{Left}
+use Rattle.scopes.specs.Meaning.{Left, each_one, ran}
 use Rattle.player_text.specs.declared.joints.TheConstants.{FOUND}
 use Rattle.player_memory.specs.declared.conditions.TheConstants.{FUNK_TEMPO, SET_AD, SET_SR, SET_WAVE, SET_WAVE_POINTER}
 use Rattle.player_memory.specs.declared.conditions.TheConstants.{SET_PULSE_POINTER, SET_FILTER_POINTER}
 use Rattle.player_memory.specs.declared.conditions.TheConstants.{SET_FILTER_CONTROL, SET_CUTOFF, SET_VOLUME, SET_TEMPO}
 use Rattle.player_memory.specs.declared.conditions.TheConstants.{WAVE_TABLE, WAVE_COMMAND, PULSE_TABLE, FILTER_TABLE}
 use Rattle.player_memory.specs.declared.conditions.TheConstants.{INSTRUMENT_VIBRATO, NOTE_DEPENDENT, SWINGS, PORTA_UP}
-use Rattle.player_memory.specs.declared.conditions.TheConstants.{SKIP_EFFECTS}
+use Rattle.player_memory.specs.declared.conditions.TheConstants.{SKIP_EFFECTS, ROW_TONE, ROW_ONCE, FIRST_MASK, LEGATO}
+use Rattle.player_memory.specs.declared.conditions.TheConstants.{SOFT_RESTART, GATE_NOTE, SPECIAL_ROW, HELD_NOTE}
 use Rattle.player_memory.specs.declared.conditions.TheConstants.{PORTA_DOWN, TONE_PORTA, TIE_NOTE, TRANSPOSES, REPEATS}
-use Rattle.player_memory.specs.declared.labels.TheConstants.{WAVE_LEFTS, SPEED_LEFTS, LENT, TRANSPOSE, REPEAT}
+use Rattle.player_memory.specs.declared.labels.TheConstants.{WAVE_LEFTS, SPEED_LEFTS, GATE_TIMERS, LENT}
+use Rattle.player_memory.specs.declared.labels.TheConstants.{TRANSPOSE, REPEAT}
 use Rattle.player_memory.specs.Rooms.{IsRoom, MayUse}
 use Rattle.player_memory.specs.Variables.{CommonBytesStand}
 use Rattle.player_memory.specs.Playing.{IsListed, own_at, shared_at}
-use Rattle.player_text.specs.declared.tick.TheConstants.{FRAME_COUNTED}
+use Rattle.player_text.specs.declared.tick.TheConstants.{FRAME_COUNTED, NOTE_TAKEN, NOTE_BEGUN, COMMAND_BEGUN}
 use Rattle.player_text.specs.declared.commands.TheConstants.{AD_SET, SR_SET, WAVE_SET, WAVE_POINTER_SET}
 use Rattle.player_text.specs.declared.commands.TheConstants.{PULSE_POINTER_SET, FILTER_POINTER_SET}
 use Rattle.player_text.specs.declared.commands.TheConstants.{FILTER_CONTROL_SET, CUTOFF_SET, VOLUME_SET, FUNK_SET}
@@ -27,7 +29,7 @@ use Rattle.player_text.specs.declared.wave.TheConstants.{WAVE_STEP}
 use Rattle.player_text.specs.declared.effect.TheConstants.{EFFECT_BEGUN}
 use Rattle.player_text.specs.declared.slide.TheConstants.{SPEED_STEP, SWING_STEP, PORTA_STEP, TONE_STEP}
 use Rattle.player_text.specs.declared.pitch.TheConstants.{GIVEN_BACK}
-use Rattle.player_text.specs.declared.fetch.TheConstants.{ENTRY_READ}
+use Rattle.player_text.specs.declared.fetch.TheConstants.{ENTRY_READ, GATE_CLOSED}
 use Rattle.player_text.specs.declared.walk.TheConstants.{PLAY_REPEATED, ORDER_WALKED}
 use Rattle.player_text.specs.declared.pulse.TheConstants.{PULSE}
 use Rattle.player_text.specs.declared.filter.TheConstants.{FILTER_STEP}
@@ -113,6 +115,32 @@ pub record FetchesIdle (layout : Layout) (voice : ℕ) (desk : Desk) : Type 0 wh
       Idles layout (part REPEATS 0 ORDER_WALKED.now) desk (A ∷ Y ∷ Carry ∷ [])
   pub transpose : desk.cpu.a ≡ 0xFF → desk.cpu.c ≡ true →
       Idles layout (part TRANSPOSES 0 ORDER_WALKED.now) desk (A ∷ Y ∷ Carry ∷ [])
+
+-- ---- what the facts of a song keep
+
+pub record FactsIdle (layout : Layout) (rows voice : ℕ) (s : Playing) (desk : Desk) : Type 0 where
+  -- the row's command isn't 3: where a note is taken, and where the gate is closed before one
+  pub tone : s.voice.new_command < 256 → s.voice.new_command ≢ 3 →
+      Idles layout (part ROW_TONE 0 NOTE_TAKEN.now) desk (Y ∷ [])
+  pub tone_next : s.voice.new_command < 256 → s.voice.new_command ≢ 3 →
+      Idles layout (part ROW_TONE 0 GATE_CLOSED.now) desk (Y ∷ [])
+  -- A is the row's command; one below 5 isn't done once
+  pub once : desk.cpu.a < 5 → Idles layout (part ROW_ONCE 0 COMMAND_BEGUN.now) desk (A ∷ Y ∷ [])
+  -- A is an instrument's first waveform, as the flag shows
+  pub mask : desk.cpu.z ≡ false → desk.cpu.a < 0xFE → Idles layout (part FIRST_MASK 0 NOTE_BEGUN.now) desk (A ∷ Y ∷ [])
+  -- the instrument's gateoff timer has neither bit $40 nor bit $80, and behind the lines the carry says so
+  pub held : (timer : ℕ) → IsListed layout rows desk.at GATE_TIMERS s.voice.instrument timer → timer < 0x40 →
+      Idles layout (part HELD_NOTE 0 GATE_CLOSED.now) desk []
+  pub held_carry : (timer : ℕ) → IsListed layout rows desk.at GATE_TIMERS s.voice.instrument timer → timer < 0x40 →
+      (ran each_one layout (part HELD_NOTE 0 GATE_CLOSED.now) desk).desk.cpu.c ≡ false
+  -- the flags show the two bits
+  pub legato : desk.cpu.n ≡ false → Idles layout (part LEGATO 0 GATE_CLOSED.now) desk (A ∷ Y ∷ Carry ∷ [])
+  pub soft : desk.cpu.c ≡ false → Idles layout (part SOFT_RESTART 0 GATE_CLOSED.now) desk (A ∷ Y ∷ Carry ∷ [])
+  -- A is a left side of the wave table, as it is stored
+  pub special : desk.cpu.a < 0xE0 → Idles layout (part SPECIAL_ROW 0 WAVE_STEP.now) desk (A ∷ Y ∷ [])
+  -- A is the byte of a run of rests, and the carry is on
+  pub gate : 0xC0 ≤ desk.cpu.a → desk.cpu.c ≡ true →
+      Idles layout (part GATE_NOTE 0 ENTRY_READ.now) desk (A ∷ Y ∷ Carry ∷ [])
 
 -- ---- the filter
 

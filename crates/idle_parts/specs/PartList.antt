@@ -1,5 +1,5 @@
--- Which parts the player has: under each condition of a song's features, and of what they have in common, those of its
--- blocks that have a law. This is the project's own player.
+-- Which parts the player has: under each condition of a song's features and facts, and of what they have in common,
+-- those of its blocks that have a law. This is the project's own player.
 use Rattle.std.specs.Prelude.{◌≡◌, [], ◌∷◌, ◌++◌}
 use Rattle.player_memory.specs.declared.conditions.TheConstants.{TRANSPOSES, REPEATS, PORTA_UP, PORTA_DOWN, TONE_PORTA}
 use Rattle.player_memory.specs.declared.conditions.TheConstants.{TIE_NOTE, VIBRATO, INSTRUMENT_VIBRATO, NOTE_DEPENDENT, SET_AD}
@@ -7,21 +7,24 @@ use Rattle.player_memory.specs.declared.conditions.TheConstants.{SET_SR, SET_WAV
 use Rattle.player_memory.specs.declared.conditions.TheConstants.{FILTER_TABLE, SET_FILTER_POINTER, SET_FILTER_CONTROL, SET_CUTOFF, SET_VOLUME}
 use Rattle.player_memory.specs.declared.conditions.TheConstants.{FUNK_TEMPO, SET_TEMPO, WAVE_TABLE, WAVE_COMMAND, SWINGS}
 use Rattle.player_memory.specs.declared.conditions.TheConstants.{CLIMB, DROP, RISE, SINK, FOUND_NOTE}
+use Rattle.player_memory.specs.declared.conditions.TheConstants.{ROW_TONE, ROW_SLIDE, ROW_ONCE, ROW_COMMAND, FIRST_MASK}
+use Rattle.player_memory.specs.declared.conditions.TheConstants.{HELD_NOTE, LEGATO, SOFT_RESTART, SPECIAL_ROW, WAVE_DELAY}
+use Rattle.player_memory.specs.declared.conditions.TheConstants.{GATE_NOTE}
 use Rattle.player_text.specs.declared.commands.TheConstants.{AD_SET, CUTOFF_SET, FILTER_CONTROL_SET, FILTER_POINTER_SET, FUNK_CHOSEN}
 use Rattle.player_text.specs.declared.commands.TheConstants.{FUNK_SET, PULSE_POINTER_SET, SR_SET, TEMPO_SET, VOLUME_SET}
 use Rattle.player_text.specs.declared.commands.TheConstants.{WAVE_POINTER_SET, WAVE_SET}
 use Rattle.player_text.specs.declared.effect.TheConstants.{EFFECT_BEGUN}
-use Rattle.player_text.specs.declared.fetch.TheConstants.{ENTRY_READ}
+use Rattle.player_text.specs.declared.fetch.TheConstants.{ENTRY_READ, GATE_CLOSED}
 use Rattle.player_text.specs.declared.filter.TheConstants.{FILTER_STEP}
 use Rattle.player_text.specs.declared.pitch.TheConstants.{GIVEN_BACK}
 use Rattle.player_text.specs.declared.pulse.TheConstants.{PULSE}
 use Rattle.player_text.specs.declared.slide.TheConstants.{CLIMB_STEP, DROP_STEP, FOUND_STEP, PORTA_STEP, RISE_STEP}
 use Rattle.player_text.specs.declared.slide.TheConstants.{SINK_STEP, SPEED_STEP, SWING_STEP, TONE_STEP}
-use Rattle.player_text.specs.declared.tick.TheConstants.{FRAME_COUNTED}
+use Rattle.player_text.specs.declared.tick.TheConstants.{FRAME_COUNTED, NOTE_TAKEN, NOTE_BEGUN, COMMAND_BEGUN, COMMAND_TAKEN}
 use Rattle.player_text.specs.declared.walk.TheConstants.{ORDER_WALKED, PLAY_REPEATED}
 use Rattle.player_text.specs.declared.wave.TheConstants.{WAVE_STEP}
 use Rattle.player_text.specs.Texts.{voice_tree, filter_tree}
-use Rattle.player_text.specs.Steps.{command_tree}
+use Rattle.player_text.specs.Steps.{command_tree, row_commands, all_of, text}
 use Rattle.idle_parts.specs.Idle.{bodies, part}
 
 -- commands 5 up but 8, $E and $F stand in a row's lines and in the wave table's
@@ -65,3 +68,16 @@ pub record PartsAreThese : Type 0 where
   pub rises : bodies RISE voice_tree ≡ part RISE 0 RISE_STEP.now ∷ []
   pub sinks : bodies SINK voice_tree ≡ part SINK 0 SINK_STEP.now ∷ []
   pub found : bodies FOUND_NOTE voice_tree ≡ part FOUND_NOTE 0 FOUND_STEP.now ∷ []
+  pub row_tone : bodies ROW_TONE voice_tree ≡ part ROW_TONE 0 NOTE_TAKEN.now ∷ part ROW_TONE 0 GATE_CLOSED.now ∷ []
+  pub row_slide : bodies ROW_SLIDE voice_tree ≡ part ROW_SLIDE 0 COMMAND_BEGUN.now ∷ []
+  pub row_once : bodies ROW_ONCE voice_tree
+      ≡ part ROW_ONCE 0 COMMAND_BEGUN.now ∷ part ROW_ONCE 1 COMMAND_BEGUN.now
+      ∷ all_of (text COMMAND_TAKEN ∷ row_commands) ∷ []
+  pub row_command : bodies ROW_COMMAND voice_tree ≡ part ROW_COMMAND 0 COMMAND_BEGUN.now ∷ []
+  pub first_mask : bodies FIRST_MASK voice_tree ≡ part FIRST_MASK 0 NOTE_BEGUN.now ∷ []
+  pub held_note : bodies HELD_NOTE voice_tree ≡ part HELD_NOTE 0 GATE_CLOSED.now ∷ []
+  pub legato : bodies LEGATO voice_tree ≡ part LEGATO 0 GATE_CLOSED.now ∷ []
+  pub soft_restart : bodies SOFT_RESTART voice_tree ≡ part SOFT_RESTART 0 GATE_CLOSED.now ∷ []
+  pub special_row : bodies SPECIAL_ROW voice_tree ≡ part SPECIAL_ROW 0 WAVE_STEP.now ∷ []
+  pub wave_delay : bodies WAVE_DELAY voice_tree ≡ part WAVE_DELAY 0 WAVE_STEP.now ∷ []
+  pub gate_note : bodies GATE_NOTE voice_tree ≡ part GATE_NOTE 0 ENTRY_READ.now ∷ []

@@ -1,5 +1,5 @@
 -- How the parts that no clear state comes to are come to. This is the project's own player.
-use Rattle.std.specs.Prelude.{◌≡◌, ℕ, ◌==◌, if◌then◌else◌, Bool, true, false, ◌&&◌, List, [], ◌∷◌, ◌++◌, map}
+use Rattle.std.specs.Prelude.{◌≡◌, ◌≢◌, ℕ, ◌<◌, ◌≤◌, ◌==◌, if◌then◌else◌, Bool, true, false, ◌&&◌, List, [], ◌∷◌, ◌++◌, map}
 use Rattle.scopes.specs.Desk.{Desk, Layout}
 use Rattle.scopes.specs.Trees.{Tree, ThenTree, ScopeTree, LeaveTree, LeaveIfTree, LoopTree, AgainTree, WhenTree}
 use Rattle.scopes.specs.Trees.{ChooseTree, NeverTree, tree_of}
@@ -9,7 +9,15 @@ use Rattle.player_memory.specs.declared.conditions.TheConstants.{NOTE_DEPENDENT,
 use Rattle.player_text.specs.declared.joints.TheConstants.{UP, DOWN, RISES, FALLS, FOUND, COMMANDED}
 use Rattle.player_text.specs.declared.slide.TheConstants.{PORTA_STEP}
 use Rattle.player_text.specs.Texts.{voice_tree}
-use Rattle.player_text.specs.Steps.{effect_tree}
+use Rattle.player_text.specs.Steps.{effect_tree, tick_tree}
+use Rattle.play_model.specs.State.{Playing}
+use Rattle.player_memory.specs.declared.conditions.TheConstants.{ROW_SLIDE, ROW_ONCE, ROW_COMMAND, WAVE_DELAY}
+use Rattle.player_memory.specs.declared.labels.TheConstants.{WAVE_LEFTS}
+use Rattle.player_memory.specs.Playing.{IsListed}
+use Rattle.player_text.specs.declared.joints.TheConstants.{DONE}
+use Rattle.player_text.specs.declared.tick.TheConstants.{COMMAND_BEGUN, ONCE, BARE}
+use Rattle.player_text.specs.declared.wave.TheConstants.{WAVE_STEP}
+use Rattle.idle_parts.specs.Idle.{met, part}
 
 -- ---- which lines come to them
 
@@ -59,6 +67,25 @@ pub record PartsAreComeTo : Type 0 where
   pub commanded : leaves COMMANDED voice_tree ≡ (WAVE_TABLE ∷ WAVE_COMMAND ∷ []) ∷ []
   pub up_ends : map may_end (scopes_named UP effect_tree) ≡ false ∷ []
   pub commanded_ends : map may_end (scopes_named COMMANDED voice_tree) ≡ false ∷ []
+
+-- The commands of a row that are done once are left to from the lines that tell them alone, and passed from theirs.
+pub record OnceIsComeTo : Type 0 where
+  pub once : leaves ONCE tick_tree ≡ (ROW_COMMAND ∷ ROW_ONCE ∷ []) ∷ []
+  pub done : leaves DONE tick_tree ≡ (ROW_ONCE ∷ []) ∷ []
+
+-- the scope of a stored waveform in the wave step
+abbrev pub SOUNDING : ℕ
+SOUNDING = 2
+
+-- A row without a command leaves in front of those that run, and so does one that is done once, where the lines for it
+-- are kept; and a waveform in front of a delay.
+pub record RowsLeave (layout : Layout) (rows voice : ℕ) (s : Playing) (desk : Desk) : Type 0 where
+  pub bare : desk.cpu.z ≡ true → (ran each_one layout (part ROW_COMMAND 0 COMMAND_BEGUN.now) desk).outcome ≡ Left BARE
+  pub none : s.voice.new_command ≡ 0 → (met layout ROW_SLIDE COMMAND_BEGUN.now desk).outcome ≡ Left BARE
+  pub once : layout.holds ROW_ONCE ≡ true → 5 ≤ s.voice.new_command →
+      (met layout ROW_SLIDE COMMAND_BEGUN.now desk).outcome ≡ Left ONCE
+  pub waveform : (left : ℕ) → s.voice.wave_ptr ≢ 0 → IsListed layout rows desk.at WAVE_LEFTS s.voice.wave_ptr left →
+      left < 0xE0 → (met layout WAVE_DELAY WAVE_STEP.now desk).outcome ≡ Left SOUNDING
 
 -- Commands 1 and 2 leave before the lines of tone portamento, where theirs are kept.
 pub record SlidesLeave (layout : Layout) (desk : Desk) : Type 0 where

@@ -1,15 +1,18 @@
 -- Where parts don't do nothing, worked by hand.
-use Rattle.std.specs.Prelude.{◌≡◌, ◌≢◌, ℕ, ◌+◌, ◌%◌, false, [], ◌∷◌}
+use Rattle.std.specs.Prelude.{◌≡◌, ◌≢◌, ℕ, ◌+◌, ◌%◌, true, false, [], ◌∷◌}
 use Rattle.cpu6502.specs.declared.mnemonic.Mnemonic.TheVariants.{Dex}
 use Rattle.play_model.specs.State.{Playing}
 use Rattle.scopes.specs.Desk.{Desk, Layout}
 use Rattle.scopes.specs.Trees.{Tree, DoTree, NoneTree, ThenTree, ScopeTree, LeaveTree, WhenTree, NeverTree}
 use Rattle.scopes.specs.Meaning.{each_one, ran}
 use Rattle.player_memory.specs.declared.conditions.TheConstants.{SET_AD, SET_TEMPO, PULSE_TABLE, PORTA_UP, TIE_NOTE}
+use Rattle.player_memory.specs.declared.conditions.TheConstants.{FIRST_MASK, GATE_NOTE, LEGATO, SOFT_RESTART, ROW_ONCE}
 use Rattle.player_memory.specs.declared.labels.TheConstants.{AD}
 use Rattle.player_text.specs.declared.commands.TheConstants.{AD_SET, TEMPO_SET}
 use Rattle.player_text.specs.declared.slide.TheConstants.{PORTA_STEP, TONE_STEP}
 use Rattle.player_text.specs.declared.pulse.TheConstants.{PULSE}
+use Rattle.player_text.specs.declared.tick.TheConstants.{NOTE_BEGUN, COMMAND_BEGUN}
+use Rattle.player_text.specs.declared.fetch.TheConstants.{ENTRY_READ, GATE_CLOSED}
 use Rattle.idle_parts.specs.Idle.{A, Y, Carry, Idles, HoldsVoice, bodies, front, part}
 use Rattle.idle_parts.specs.Fronts.{Finds}
 use Rattle.idle_parts.specs.Places.{leaves}
@@ -47,5 +50,12 @@ pub record PartsAreWorked : Type 0 where
   pub body : bodies 5 small ≡ ThenTree (LeaveTree 1) NoneTree ∷ []
   pub no_body : bodies 6 small ≡ []
   pub in_front : front 5 small ≡ ThenTree (DoTree Dex) NoneTree
+  -- a first waveform of 0 leaves the mask as it is, a keyoff sets it, and a held gate leaves the block
+  pub mask : (layout : Layout) (desk : Desk) → desk.cpu.z ≡ true → ¬ Idles layout (part FIRST_MASK 0 NOTE_BEGUN.now) desk []
+  pub gate : (layout : Layout) (desk : Desk) → desk.cpu.a ≡ 0xBE → ¬ Idles layout (part GATE_NOTE 0 ENTRY_READ.now) desk []
+  pub legato : (layout : Layout) (desk : Desk) → desk.cpu.n ≡ true → ¬ Idles layout (part LEGATO 0 GATE_CLOSED.now) desk []
+  pub soft : (layout : Layout) (desk : Desk) → desk.cpu.c ≡ true →
+      ¬ Idles layout (part SOFT_RESTART 0 GATE_CLOSED.now) desk []
+  pub once : (layout : Layout) (desk : Desk) → desk.cpu.a ≡ 5 → ¬ Idles layout (part ROW_ONCE 0 COMMAND_BEGUN.now) desk []
   -- a part that isn't there does nothing of its own, and isn't one that idles
   pub none : (layout : Layout) (desk : Desk) → ¬ Idles layout (part PORTA_UP 1 PORTA_STEP.now) desk []

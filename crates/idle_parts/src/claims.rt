@@ -5,17 +5,17 @@ ghost use Rattle.play_model.specs.State.{Playing};
 ghost use Rattle.scopes.specs.Desk.{Desk, Layout};
 ghost use Rattle.idle_parts.specs.Idle.{HoldsVoice};
 ghost use Rattle.idle_parts.specs.IdleParts.{TemposIdle, CommandsIdle, ProgramsIdle, EffectsIdle};
-ghost use Rattle.idle_parts.specs.IdleParts.{FetchesIdle, FiltersIdle};
+ghost use Rattle.idle_parts.specs.IdleParts.{FetchesIdle, FactsIdle, FiltersIdle};
 ghost use Rattle.idle_parts.specs.LeftOut.{PartsCanBeLeftOut};
 ghost use Rattle.idle_parts.specs.Fronts.{FrontsEnd, StoredIsLow, CommandsAreFound, EffectsAreFound};
 ghost use Rattle.idle_parts.specs.Fronts.{NotesAreFound, LentAreFound, PlaysAreFound};
 ghost use Rattle.idle_parts.specs.PartList.{PartsAreThese};
-ghost use Rattle.idle_parts.specs.Places.{PartsAreComeTo, SlidesLeave};
+ghost use Rattle.idle_parts.specs.Places.{PartsAreComeTo, OnceIsComeTo, RowsLeave, SlidesLeave};
 ghost use Rattle.idle_parts.specs.WorkedParts.{PartsAreWorked};
 
 /// Where a memory holds a state that keeps clear of a part, the part's lines come to their own end, and leave each
 /// byte, X, and the registers that are named.
-#[tactic(auto, using(crate::proofs::StepParts::tempos_idle, crate::proofs::StepParts::commands_idle, crate::proofs::StepParts::programs_idle, crate::proofs::LaterParts::effects_idle, crate::proofs::LaterParts::fetches_idle, crate::proofs::LaterParts::filters_idle))]
+#[tactic(auto, using(crate::proofs::StepParts::tempos_idle, crate::proofs::StepParts::commands_idle, crate::proofs::StepParts::programs_idle, crate::proofs::LaterParts::effects_idle, crate::proofs::LaterParts::fetches_idle, crate::proofs::FactParts::facts_idle, crate::proofs::LaterParts::filters_idle))]
 pub fn parts_are_idle()
     ensures tempos { TemposIdle }
     ensures commands { CommandsIdle }
@@ -25,15 +25,20 @@ pub fn parts_are_idle()
         HoldsVoice layout rows voice s desk → EffectsIdle layout rows voice s desk }
     ensures fetches { (layout : Layout) (rows voice : ℕ) (s : Playing) (desk : Desk) →
         HoldsVoice layout rows voice s desk → FetchesIdle layout voice desk }
+    ensures facts { (layout : Layout) (rows voice : ℕ) (s : Playing) (desk : Desk) →
+        HoldsVoice layout rows voice s desk → FactsIdle layout rows voice s desk }
     ensures filters { FiltersIdle }
 {}
 
 /// Which parts there are, and which lines lead to those that no clear state comes to.
-#[tactic(auto, using(crate::proofs::PartList::parts_are_these, crate::proofs::PartPlaces::parts_are_come_to, crate::proofs::PartPlaces::slides_leave))]
+#[tactic(auto, using(crate::proofs::PartList::parts_are_these, crate::proofs::PartPlaces::parts_are_come_to, crate::proofs::PartPlaces::once_is_come_to, crate::proofs::PartPlaces::slides_leave, crate::proofs::FactParts::rows_leave))]
 pub fn parts_have_places()
     ensures parts { PartsAreThese }
     ensures leaves { PartsAreComeTo }
+    ensures once { OnceIsComeTo }
     ensures slides { (layout : Layout) (desk : Desk) → SlidesLeave layout desk }
+    ensures rows { (layout : Layout) (rows voice : ℕ) (s : Playing) (desk : Desk) →
+        HoldsVoice layout rows voice s desk → RowsLeave layout rows voice s desk }
 {}
 
 /// What the lines in front of the parts find, from memories that hold a state: that they come to their end there, and

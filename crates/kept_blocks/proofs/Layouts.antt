@@ -1,5 +1,5 @@
 -- A layout with the set of a song and of options keeps their lines.
-use Rattle.std.proofs.Common.{◌≡◌, ℕ, ◌<◌, Bool, true, ◌||◌, refl, sym, ◌∙◌, arith, IsBitSet}
+use Rattle.std.proofs.Common.{◌≡◌, ℕ, ◌<◌, Bool, true, false, ◌||◌, nat_lt, refl, sym, ◌∙◌, arith, IsBitSet}
 use Rattle.std.specs.Int.{bit_at}
 use Rattle.std.proofs.Math.Bool.{or_assoc}
 use Rattle.std.proofs.lemmas.Bool.{eq-eqb, lt-ltb}
@@ -13,11 +13,21 @@ use Rattle.song_model.specs.declared.features.Feature.TheVariants.{SetWavePointe
 use Rattle.song_model.specs.declared.features.Feature.TheVariants.{FilterTable, SetFilterPointer, FilterControl, Cutoff}
 use Rattle.song_model.specs.declared.features.Feature.TheVariants.{Volume, FunkTempo, SetTempo, WaveTable, WaveCommand}
 use Rattle.song_model.specs.Feature.{bit_of}
+use Rattle.song_facts.specs.declared.facts.Fact.{Fact}
+use Rattle.song_facts.specs.declared.facts.Fact.TheVariants.{RowTone, RowSlide, RowOnce, FirstMask, Legato, SoftRestart}
+use Rattle.song_facts.specs.declared.facts.Fact.TheVariants.{WaveDelay, GateNote}
+use Rattle.song_facts.specs.declared.facts.Facts.{Facts}
+use Rattle.song_facts.specs.Facts.{is_among}
 use Rattle.play_model.specs.declared.options.Options.{Options}
 use Rattle.scopes.specs.Desk.{Layout}
 use Rattle.slide_code.specs.SlideBlock.{KeepsCommon}
+use Rattle.player_memory.specs.FactLines.{fact_condition, KeepsShared}
+use Rattle.player_memory.specs.declared.conditions.TheConstants.{ROW_TONE, ROW_SLIDE, ROW_ONCE, FIRST_MASK, LEGATO}
+use Rattle.player_memory.specs.declared.conditions.TheConstants.{SOFT_RESTART, WAVE_DELAY, GATE_NOTE, ROW_COMMAND}
+use Rattle.player_memory.specs.declared.conditions.TheConstants.{SPECIAL_ROW, HELD_NOTE, WAVE_COMMAND}
+use Rattle.kept_lines.specs.Asked.{is_in, asked}
 use Rattle.kept_lines.specs.KeptLines.{keeps}
-use Rattle.kept_lines.proofs.Laws.{sets_are_exact}
+use Rattle.kept_lines.proofs.Laws.{sets_are_exact, asked_is_exact}
 use Rattle.kept_blocks.specs.KeptBlocks.{SetsKeepTheirLines}
 
 bit_in : (features bit : ℕ) → IsBitSet features bit → bit_at features bit ≡ 1
@@ -50,15 +60,49 @@ bit_few WaveTable = omega arith
 bit_few WaveCommand = omega arith
 
 -- the condition of a feature that is used holds
-used : (features : ℕ) (options : Options) (feature : Feature) → IsBitSet features (bit_of feature) →
-    keeps features options (bit_of feature) ≡ true
-used features options feature set =
-    rw (lt-ltb (bit_of feature) 24 (bit_few feature))
+used : (features : ℕ) (facts : Facts) (options : Options) (feature : Feature) → IsBitSet features (bit_of feature) →
+    keeps (asked features facts) options (bit_of feature) ≡ true
+used features facts options feature set =
+    let few = bit_few feature in
+    let below : nat_lt (bit_of feature) 24 ≡ true = lt-ltb (bit_of feature) 24 few in
+    rw (below, asked_is_exact features facts (bit_of feature) (omega (arith, few)), below)
     (eq-eqb (bit_at features (bit_of feature)) 1 (bit_in features (bit_of feature) set))
 
-common_of : (features : ℕ) (options : Options) (layout : Layout) →
-    ((condition : ℕ) → layout.holds condition ≡ keeps features options condition) → KeepsCommon layout
-common_of features options layout is = record {
+-- and that of a fact
+had : (features : ℕ) (facts : Facts) (options : Options) (fact : Fact) → is_among facts fact ≡ true →
+    keeps (asked features facts) options (fact_condition fact) ≡ true
+had features facts options RowTone is = asked_is_exact features facts ROW_TONE (omega arith) ∙ is
+had features facts options RowSlide is = asked_is_exact features facts ROW_SLIDE (omega arith) ∙ is
+had features facts options RowOnce is = asked_is_exact features facts ROW_ONCE (omega arith) ∙ is
+had features facts options FirstMask is = asked_is_exact features facts FIRST_MASK (omega arith) ∙ is
+had features facts options Legato is = asked_is_exact features facts LEGATO (omega arith) ∙ is
+had features facts options SoftRestart is = asked_is_exact features facts SOFT_RESTART (omega arith) ∙ is
+had features facts options WaveDelay is = asked_is_exact features facts WAVE_DELAY (omega arith) ∙ is
+had features facts options GateNote is = asked_is_exact features facts GATE_NOTE (omega arith) ∙ is
+
+-- either of two
+or_first : (z y : Bool) → z ≡ true → (z || y) ≡ true
+or_first z y e = rw e refl
+
+or_second : (z y : Bool) → y ≡ true → (z || y) ≡ true
+or_second true y e = refl
+or_second false y e = e
+
+shared_of : (set : ℕ) (options : Options) (layout : Layout) →
+    ((condition : ℕ) → layout.holds condition ≡ keeps set options condition) → KeepsShared layout
+shared_of set options layout is = record {
+  slide = λ on. is ROW_COMMAND ∙ or_first (is_in set ROW_SLIDE) (is_in set ROW_ONCE) (sym (is ROW_SLIDE) ∙ on);
+  once = λ on. is ROW_COMMAND ∙ or_second (is_in set ROW_SLIDE) (is_in set ROW_ONCE) (sym (is ROW_ONCE) ∙ on);
+  delay = λ on. is SPECIAL_ROW ∙ or_first (is_in set WAVE_DELAY) (is_in set WAVE_COMMAND) (sym (is WAVE_DELAY) ∙ on);
+  command = λ on.
+      is SPECIAL_ROW ∙ or_second (is_in set WAVE_DELAY) (is_in set WAVE_COMMAND) (sym (is WAVE_COMMAND) ∙ on);
+  legato = λ on. is HELD_NOTE ∙ or_first (is_in set LEGATO) (is_in set SOFT_RESTART) (sym (is LEGATO) ∙ on);
+  soft = λ on. is HELD_NOTE ∙ or_second (is_in set LEGATO) (is_in set SOFT_RESTART) (sym (is SOFT_RESTART) ∙ on);
+}
+
+common_of : (set : ℕ) (options : Options) (layout : Layout) →
+    ((condition : ℕ) → layout.holds condition ≡ keeps set options condition) → KeepsCommon layout
+common_of set options layout is = record {
   swings = λ any. is 28 ∙ (sym (two (is 6) (is 7)) ∙ any);
   climb = λ any. is 29 ∙ (sym (three (is 2) (is 4) (is 8)) ∙ any);
   drop = λ any. is 30 ∙ (sym (three (is 3) (is 4) (is 8)) ∙ any);
@@ -78,12 +122,14 @@ common_of features options layout is = record {
     four {x = x} {y = y} {z = z} {u = u} e f g h = rw (e, f, g, h) (or_assoc (x || y) z u)
 
 pub sets_keep_their_lines : SetsKeepTheirLines
-sets_keep_their_lines layout features options holds = record {
-  features_are = λ feature set. is (bit_of feature) ∙ used features options feature set;
+sets_keep_their_lines layout features facts options holds = record {
+  features_are = λ feature set. is (bit_of feature) ∙ used features facts options feature set;
+  facts_are = λ fact has. is (fact_condition fact) ∙ had features facts options fact has;
   options_are = record { effects = is 24; pulse = is 25; first = is 27 };
-  common = common_of features options layout is;
+  common = common_of (asked features facts) options layout is;
+  shared = shared_of (asked features facts) options layout is;
   timer = is 26;
 }
   where
-    is : (condition : ℕ) → layout.holds condition ≡ keeps features options condition
-    is condition = holds condition ∙ sets_are_exact features options condition
+    is : (condition : ℕ) → layout.holds condition ≡ keeps (asked features facts) options condition
+    is condition = holds condition ∙ sets_are_exact (asked features facts) options condition
