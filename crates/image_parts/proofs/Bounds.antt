@@ -17,7 +17,8 @@ use Rattle.player_text.specs.Texts.{filter_tree, voice_tree, init_tree}
 use Rattle.player_text.specs.declared.texts.Start.{Start}
 use Rattle.player_text.proofs.Laws.{are_measured}
 use Rattle.kept_lines.specs.Starts.{start_of}
-use Rattle.kept_lines.specs.KeptLines.{uses, kept_set}
+use Rattle.kept_lines.specs.Asked.{is_in, asked_by}
+use Rattle.kept_lines.specs.KeptLines.{kept_set}
 use Rattle.kept_lines.proofs.Laws.{no_more}
 use Rattle.image_parts.specs.CodeParts.{always, code_parts}
 use Rattle.image_parts.specs.Lengths.{slide_bytes}
@@ -84,31 +85,31 @@ around_whole holds filter voice init one two three =
     omega (arith, a, b, c, d, e, f, n, m, l, k, x, y, z)
 
 -- the numbers, computed
-few_of : (start : Start) (part : ℕ) → part < 34 →
+few_of : (start : Start) (part : ℕ) → part < 45 →
     most_around part filter_tree voice_tree (init_tree start) ≤ 320
 few_of start part low =
     leb-true _ 320
-    (agree_below_at (λ n. nat_le (most_around n filter_tree voice_tree (init_tree start)) 320) (λ n. true) 34 part refl low)
+    (agree_below_at (λ n. nat_le (most_around n filter_tree voice_tree (init_tree start)) 320) (λ n. true) 45 part refl low)
 
 rest_of : (start : Start) → most_around always filter_tree voice_tree (init_tree start) ≤ 2876
 rest_of start = leb-true _ 2876 refl
 
-code_most : (features : ℕ) (o : Options) (part : ℕ) →
-    bytes_of part (code_parts features o) ≤ most_around part filter_tree voice_tree (init_tree (start_of o))
-code_most features o part =
-    around_most (holds_in (kept_set features o)) part filter_tree voice_tree (init_tree (start_of o))
+code_most : (asked : ℕ) (o : Options) (part : ℕ) →
+    bytes_of part (code_parts asked o) ≤ most_around part filter_tree voice_tree (init_tree (start_of o))
+code_most asked o part =
+    around_most (holds_in (kept_set asked o)) part filter_tree voice_tree (init_tree (start_of o))
 
 no_more_than : (n m : ℕ) → n ≤ m → m ≤ 320 → n + 0 ≤ 320
 no_more_than n m a b = omega (arith, a, b)
 
 pub parts_are_short : PartsAreShort
-parts_are_short features o = record {
-  parts = λ part other. elim (cases_lt part 34) [
+parts_are_short asked o = record {
+  parts = λ part other. elim (cases_lt part 45) [
     | inl low ↦
-        rw (ne_eqb part always other) (no_more_than _ _ (code_most features o part) (few_of (start_of o) part low))
-    | inr high ↦ few _ (unkept_parts_have_none features o part other (no_more features o part high))
+        rw (ne_eqb part always other) (no_more_than _ _ (code_most asked o part) (few_of (start_of o) part low))
+    | inr high ↦ few _ (unkept_parts_have_none asked o part other (no_more asked o part high))
   ];
-  rest = with_frequencies _ _ (code_most features o always) (rest_of (start_of o));
+  rest = with_frequencies _ _ (code_most asked o always) (rest_of (start_of o));
 } where
   few : (n : ℕ) → n ≡ 0 → n ≤ 320
   few n e = omega (arith, e)
@@ -116,33 +117,33 @@ parts_are_short features o = record {
   with_frequencies : (n m : ℕ) → n ≤ m → m ≤ 2876 → n + 196 ≤ 3072
   with_frequencies n m a b = omega (arith, a, b)
 
--- the blocks stay whole, and the most that they have of this part is 743 with what stands around them
+-- the blocks stay whole, and the most that they have of this part is 664 with what stands around them
 pub rest_is_same : RestIsSame
-rest_is_same features o =
+rest_is_same asked o =
     with_frequencies _ _
-    (around_whole (holds_in (kept_set features o)) filter_tree voice_tree (init_tree (start_of o)) refl refl refl)
+    (around_whole (holds_in (kept_set asked o)) filter_tree voice_tree (init_tree (start_of o)) refl refl refl)
     (most_is (start_of o))
   where
-    with_frequencies : (n m : ℕ) → n ≡ m → m ≡ 743 → n + 196 ≡ 939
+    with_frequencies : (n m : ℕ) → n ≡ m → m ≡ 664 → n + 196 ≡ 860
     with_frequencies n m a b = omega (arith, a, b)
 
-    most_is : (start : Start) → most_around always filter_tree voice_tree (init_tree start) ≡ 743
+    most_is : (start : Start) → most_around always filter_tree voice_tree (init_tree start) ≡ 664
     most_is start = refl
 
 -- ---- the code, with the slides
 
-slides_most : (features rows : ℕ) → rows ≤ 255 → slide_bytes features rows ≤ 768
-slides_most features rows few = elim (cases_Bool (uses features NOTE_DEPENDENT)) [
+slides_most : (asked rows : ℕ) → rows ≤ 255 → slide_bytes asked rows ≤ 768
+slides_most asked rows few = elim (cases_Bool (is_in asked NOTE_DEPENDENT)) [
   | inl on ↦ rw on (omega (arith, few))
   | inr off ↦ rw off (omega arith)
 ]
 
 pub code_is_short : CodeIsShort
-code_is_short features o =
-    let holds = holds_in (kept_set features o) in
+code_is_short asked o =
+    let holds = holds_in (kept_set asked o) in
     let start = start_of o in
     let measured = are_measured in
-    bounds _ _ _ _ _ _ _ (code_takes_its_parts features o) (sizes_are_bounded holds filter_tree)
+    bounds _ _ _ _ _ _ _ (code_takes_its_parts asked o) (sizes_are_bounded holds filter_tree)
     (sizes_are_bounded holds voice_tree) (sizes_are_bounded holds (init_tree start)) measured.filter.takes_most
     measured.voice.takes_most (measured.init start).takes_most
   where
@@ -151,15 +152,15 @@ code_is_short features o =
     bounds all f v i mf mv mi e one two three four five six = omega (arith, e, one, two, three, four, five, six)
 
 pub code_is_bounded : CodeIsBounded
-code_is_bounded features rows o few =
-    within _ _ (kept_parts features o) (slides_most features rows few) (code_is_short features o)
+code_is_bounded asked features rows o few =
+    within _ _ (kept_parts features o) (slides_most asked rows few) (code_is_short asked o)
   where
     within : (slides code kept : ℕ) → slides ≤ 768 → code ≤ 1876 → slides + code ≤ 3072 + 320 * kept
     within slides code kept a b = omega (arith, a, b)
 
 pub images_are_bounded : ImagesAreBounded
 images_are_bounded packed o few =
-    all _ _ _ _ (code_is_bounded packed.features.0 _ o few)
+    all _ _ _ _ (code_is_bounded (asked_by packed) packed.features.0 _ o few)
   where
     all : (packed slides code bound : ℕ) → slides + code ≤ bound → packed + slides + code ≤ packed + bound
     all packed slides code bound h = omega (arith, h)

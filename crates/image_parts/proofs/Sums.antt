@@ -53,8 +53,8 @@ around_long holds filter voice init =
     omega (arith, a, b, c, d, e, f, g)
 
 pub code_takes_its_parts : CodeTakesItsParts
-code_takes_its_parts features o =
-    around_long (holds_in (kept_set features o)) filter_tree voice_tree (init_tree (start_of o))
+code_takes_its_parts asked o =
+    around_long (holds_in (kept_set asked o)) filter_tree voice_tree (init_tree (start_of o))
 
 -- ---- which
 
@@ -76,33 +76,33 @@ all_around holds filter voice init =
     (All-append (IsKept holds) (replicate 5 always) (parts holds always init ++ last) (few 5)
     (All-append (IsKept holds) (parts holds always init) last (parts_are_kept holds always init) (few 1))))))
 
-kept_is : (features : ℕ) (o : Options) → All (IsKept (holds_in (kept_set features o))) (code_parts features o)
-kept_is features o = all_around (holds_in (kept_set features o)) filter_tree voice_tree (init_tree (start_of o))
+kept_is : (asked : ℕ) (o : Options) → All (IsKept (holds_in (kept_set asked o))) (code_parts asked o)
+kept_is asked o = all_around (holds_in (kept_set asked o)) filter_tree voice_tree (init_tree (start_of o))
 
--- a condition that holds is one of 34
-few_hold : (features : ℕ) (o : Options) (part : ℕ) → holds_in (kept_set features o) part ≡ true → part < 34
-few_hold features o part holds = elim (cases_lt part 34) [
+-- a condition that holds is one of 45
+few_hold : (asked : ℕ) (o : Options) (part : ℕ) → holds_in (kept_set asked o) part ≡ true → part < 45
+few_hold asked o part holds = elim (cases_lt part 45) [
   | inl low ↦ low
   | inr high ↦
-      absurd (true≢false (sym holds ∙ sets_are_exact features o part ∙ no_more features o part high))
+      absurd (true≢false (sym holds ∙ sets_are_exact asked o part ∙ no_more asked o part high))
 ]
 
-pub all_are_parts : (features : ℕ) (o : Options) → All (IsPart always 34) (code_parts features o)
-all_are_parts features o =
-    All-weaker (IsKept (holds_in (kept_set features o))) (IsPart always 34) weaker (code_parts features o)
-    (kept_is features o)
+pub all_are_parts : (asked : ℕ) (o : Options) → All (IsPart always 45) (code_parts asked o)
+all_are_parts asked o =
+    All-weaker (IsKept (holds_in (kept_set asked o))) (IsPart always 45) weaker (code_parts asked o)
+    (kept_is asked o)
   where
-    weaker : (part : ℕ) → IsKept (holds_in (kept_set features o)) part → IsPart always 34 part
+    weaker : (part : ℕ) → IsKept (holds_in (kept_set asked o)) part → IsPart always 45 part
     weaker part (inl is) = inl is
-    weaker part (inr holds) = inr (few_hold features o part holds)
+    weaker part (inr holds) = inr (few_hold asked o part holds)
 
 -- ---- sums
 
-sum_of_all : (number : ℕ → ℕ) → sum_by number (range_with_len 0 34) ≡ below number 34
+sum_of_all : (number : ℕ → ℕ) → sum_by number (range_with_len 0 45) ≡ below number 45
 sum_of_all number = omega arith
 
 -- a part below the last one is counted without the frequencies
-own_bytes : (code : List ℕ) (part : ℕ) → part < 34 → bytes_of part code ≡ bytes_of part code + (if part == always then 196 else 0)
+own_bytes : (code : List ℕ) (part : ℕ) → part < 45 → bytes_of part code ≡ bytes_of part code + (if part == always then 196 else 0)
 own_bytes code part few =
     rw (ne_eqb part always (λ is. omega (arith, few, is))) (plain (bytes_of part code))
   where
@@ -110,11 +110,11 @@ own_bytes code part few =
     plain n = omega arith
 
 pub parts_add_up : PartsAddUp
-parts_add_up features o =
-    let code = code_parts features o in
-    let all = counted always 34 (omega arith) code (all_are_parts features o) in
-    let same = below_same (λ part. bytes_of part code) (part_length features o) 34 (own_bytes code) in
-    let sum = sum_of_all (part_length features o) in
+parts_add_up asked o =
+    let code = code_parts asked o in
+    let all = counted always 45 (omega arith) code (all_are_parts asked o) in
+    let same = below_same (λ part. bytes_of part code) (part_length asked o) 45 (own_bytes code) in
+    let sum = sum_of_all (part_length asked o) in
     add (length code) (bytes_of always code) _ _ _ all same sum
   where
     add : (all rest own full sum : ℕ) → all ≡ rest + own → own ≡ full → sum ≡ full → all + 196 ≡ rest + 196 + sum
@@ -123,16 +123,16 @@ parts_add_up features o =
 -- ---- parts that aren't kept
 
 pub unkept_parts_have_none : UnkeptPartsHaveNone
-unkept_parts_have_none features o part other not =
-    let code = code_parts features o in
+unkept_parts_have_none asked o part other not =
+    let code = code_parts asked o in
     let none = none_of part code
-    (All-weaker (IsKept (holds_in (kept_set features o))) (λ own. own ≢ part) differs code (kept_is features o)) in
+    (All-weaker (IsKept (holds_in (kept_set asked o))) (λ own. own ≢ part) differs code (kept_is asked o)) in
     rw (ne_eqb part always other) (plain (bytes_of part code) none)
   where
     plain : (n : ℕ) → n ≡ 0 → n + 0 ≡ 0
     plain n e = omega (arith, e)
 
-    differs : (own : ℕ) → IsKept (holds_in (kept_set features o)) own → own ≢ part
+    differs : (own : ℕ) → IsKept (holds_in (kept_set asked o)) own → own ≢ part
     differs own (inl is) same = other (sym same ∙ is)
     differs own (inr holds) same =
-        true≢false (sym holds ∙ ap (holds_in (kept_set features o)) same ∙ sets_are_exact features o part ∙ not)
+        true≢false (sym holds ∙ ap (holds_in (kept_set asked o)) same ∙ sets_are_exact asked o part ∙ not)

@@ -1,20 +1,120 @@
--- The images of two small songs.
-use Rattle.std.proofs.Common.{refl}
-use Rattle.image_parts.specs.WorkedLengths.{SilencesAreMeasured, NotesAreMeasured}
+-- The parts of the code, and the images of two small songs.
+use Rattle.std.proofs.Common.{◌≡◌, ℕ, ◌+◌, ◌^◌, length, true, refl, ◌∙◌}
+use Rattle.play_model.specs.declared.options.Options.{Options}
+use Rattle.play_model.specs.State.{no_options}
+use Rattle.play_model.specs.WorkedRuns.{all_left_out}
+use Rattle.song_facts.specs.declared.facts.Facts.{Facts}
+use Rattle.song_facts.specs.Facts.{no_facts}
+use Rattle.packed_form.specs.declared.packed_songs.PackedSong.{PackedSong}
+use Rattle.packed_form.specs.Sizes.{packed_song_size}
+use Rattle.kept_lines.specs.Asked.{asked, asked_by}
+use Rattle.kept_lines.specs.KeptLines.{kept_set}
+use Rattle.image_parts.specs.CodeParts.{code_length}
+use Rattle.image_parts.specs.Lengths.{slide_bytes, image_length}
+use Rattle.image_parts.specs.WorkedLengths.{IsPackedSilence, IsPlayedNote}
+use Rattle.image_parts.specs.WorkedLengths.{PartsAreMeasured, SilencesAreMeasured, NotesAreMeasured}
+
+pub parts_are_measured : PartsAreMeasured
+unfolding kept_set
+parts_are_measured = record {
+  features = refl;
+  options = refl;
+  common = refl;
+  facts = refl;
+  common_facts = refl;
+  no_more = refl;
+  rest = refl;
+  whole = refl;
+  no_fact = refl;
+  no_feature = refl;
+  bare = refl;
+  bare_rest = refl;
+  ntsc = refl;
+  no_others = refl;
+  alone = refl;
+  alone_facts = refl;
+  swings = refl;
+  slide_common = refl;
+  once_common = refl;
+  legato_common = refl;
+  soft_common = refl;
+  effects = refl;
+  at_rows = refl;
+  delay = refl;
+  delay_common = refl;
+  no_slides = refl;
+  slides = refl;
+}
+
+-- ---- images
+
+-- what songs ask for
+asked_same : (packed : PackedSong) (features : ℕ) (facts : Facts) → packed.features.0 ≡ features →
+    packed.facts ≡ facts → asked_by packed ≡ asked features facts
+asked_same packed features facts e f = rw (e, f) refl
+
+silence_asked : asked 0 (record no_facts { first_mask = true }) ≡ 2 ^ 37
+unfolding asked
+silence_asked = refl
+
+note_asked : asked 0x402000 (record no_facts { gate_note = true }) ≡ 0x402000 + 2 ^ 41
+unfolding asked
+note_asked = refl
+
+silence_asks : (packed : PackedSong) → IsPackedSilence packed → asked_by packed ≡ 2 ^ 37
+silence_asks packed is =
+    asked_same packed 0 (record no_facts { first_mask = true }) is.features is.facts ∙ silence_asked
+
+note_asks : (packed : PackedSong) → IsPlayedNote packed → asked_by packed ≡ 0x402000 + 2 ^ 41
+note_asks packed is =
+    asked_same packed 0x402000 (record no_facts { gate_note = true }) is.features is.facts ∙ note_asked
+
+-- how long their code is
+silence_with_none : code_length (2 ^ 37) no_options ≡ 866
+unfolding kept_set
+silence_with_none = refl
+
+silence_with_all : code_length (2 ^ 37) (all_left_out 4) ≡ 926
+unfolding kept_set
+silence_with_all = refl
+
+note_with_none : code_length (0x402000 + 2 ^ 41) no_options ≡ 999
+unfolding kept_set
+note_with_none = refl
+
+note_with_all : code_length (0x402000 + 2 ^ 41) (all_left_out 4) ≡ 1059
+unfolding kept_set
+note_with_all = refl
+
+-- an image has these bytes, those of the packed song, and those of its slides
+all_of : (packed : PackedSong) (o : Options) (set own slides code : ℕ) → asked_by packed ≡ set →
+    packed_song_size packed ≡ own → slide_bytes set (length packed.speed) ≡ slides → code_length set o ≡ code →
+    image_length packed o ≡ own + slides + code
+all_of packed o set own slides code asks owns slide is = rw (asks, owns, slide, is) refl
+
+silence_size : (packed : PackedSong) → IsPackedSilence packed → packed_song_size packed ≡ 28
+silence_size packed is = rw (is.subtunes, is.patterns, is.instruments, is.wave, is.pulse, is.filter, is.speed) refl
+
+note_size : (packed : PackedSong) → IsPlayedNote packed → packed_song_size packed ≡ 42
+note_size packed is =
+    let l = is.lists in rw (l.subtunes, l.patterns, l.instruments, l.wave, l.pulse, l.filter, l.speed) refl
 
 pub silences_are_measured : SilencesAreMeasured
 silences_are_measured packed is = record {
   with_none =
-      rw (is.subtunes, is.patterns, is.instruments, is.wave, is.pulse, is.filter, is.speed, is.features) refl;
+      all_of packed no_options (2 ^ 37) 28 0 866 (silence_asks packed is) (silence_size packed is) refl
+      silence_with_none;
   with_all =
-      rw (is.subtunes, is.patterns, is.instruments, is.wave, is.pulse, is.filter, is.speed, is.features) refl;
+      all_of packed (all_left_out 4) (2 ^ 37) 28 0 926 (silence_asks packed is) (silence_size packed is) refl
+      silence_with_all;
 }
 
 pub notes_are_measured : NotesAreMeasured
-notes_are_measured packed is = (
-    let l = is.lists in
-    record {
-      with_none = rw (l.subtunes, l.patterns, l.instruments, l.wave, l.pulse, l.filter, l.speed, is.features) refl;
-      with_all = rw (l.subtunes, l.patterns, l.instruments, l.wave, l.pulse, l.filter, l.speed, is.features) refl;
-    }
-    )
+notes_are_measured packed is = record {
+  with_none =
+      all_of packed no_options (0x402000 + 2 ^ 41) 42 0 999 (note_asks packed is) (note_size packed is) refl
+      note_with_none;
+  with_all =
+      all_of packed (all_left_out 4) (0x402000 + 2 ^ 41) 42 0 1059 (note_asks packed is) (note_size packed is) refl
+      note_with_all;
+}

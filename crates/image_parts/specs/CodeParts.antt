@@ -35,9 +35,9 @@ parts_around holds init =
     ++ (replicate call_bytes always ++ (parts holds always voice_tree
     ++ (replicate between_bytes always ++ (parts holds always init ++ replicate back_bytes always)))))
 
--- the part of each byte of the code, for features and options
+-- the part of each byte of the code, for what a song asks for and options
 abbrev pub code_parts : ℕ → Options → List ℕ
-code_parts features o = parts_around (holds_in (kept_set features o)) (init_tree (start_of o))
+code_parts asked o = parts_around (holds_in (kept_set asked o)) (init_tree (start_of o))
 
 -- the bytes of the frequencies of notes, which each image has among its lists
 abbrev pub frequency_bytes : ℕ
@@ -51,9 +51,9 @@ length_of code = length code + frequency_bytes
 abbrev pub length_of_part : List ℕ → ℕ → ℕ
 length_of_part code part = bytes_of part code + (if part == always then frequency_bytes else 0)
 
--- for features and options
+-- for what a song asks for and options
 abbrev pub code_length : ℕ → Options → ℕ
-code_length features o = length_of (code_parts features o)
+code_length asked o = length_of (code_parts asked o)
 
 abbrev pub part_length : ℕ → Options → ℕ → ℕ
-part_length features o part = length_of_part (code_parts features o) part
+part_length asked o part = length_of_part (code_parts asked o) part

@@ -4,19 +4,19 @@ use Rattle.play_model.specs.declared.options.Options.{Options}
 use Rattle.packed_form.specs.declared.packed_songs.PackedSong.{PackedSong}
 use Rattle.packed_form.specs.Sizes.{packed_song_size}
 use Rattle.player_memory.specs.declared.conditions.TheConstants.{NOTE_DEPENDENT}
-use Rattle.kept_lines.specs.KeptLines.{uses}
+use Rattle.kept_lines.specs.Asked.{is_in, asked_by}
 use Rattle.image_parts.specs.CodeParts.{length_of, code_parts}
 
 -- where a song has calculated speeds its slides and periods stand in three lists, each with a byte for each row of the
 -- speed table and for row 0
 abbrev pub slide_bytes : ℕ → ℕ → ℕ
-slide_bytes features rows = if uses features NOTE_DEPENDENT then 3 * (rows + 1) else 0
+slide_bytes asked rows = if is_in asked NOTE_DEPENDENT then 3 * (rows + 1) else 0
 
 -- the bytes of the packed song, of its slides, and of the code with the frequencies, whose parts are these
 abbrev pub bytes_of_image : PackedSong → List ℕ → ℕ
 bytes_of_image packed code =
-    packed_song_size packed + slide_bytes packed.features.0 (length packed.speed) + length_of code
+    packed_song_size packed + slide_bytes (asked_by packed) (length packed.speed) + length_of code
 
 -- those of the image of a packed song, for options
 abbrev pub image_length : PackedSong → Options → ℕ
-image_length packed o = bytes_of_image packed (code_parts packed.features.0 o)
+image_length packed o = bytes_of_image packed (code_parts (asked_by packed) o)

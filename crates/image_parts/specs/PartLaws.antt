@@ -15,43 +15,43 @@ use Rattle.image_parts.specs.Lengths.{slide_bytes, image_length}
 -- there are as many as the code has bytes
 abbrev pub CodeTakesItsParts : Type 0
 CodeTakesItsParts =
-    (features : ℕ) (o : Options) →
-    length (code_parts features o) ≡ code_takes (holds_in (kept_set features o)) (start_of o)
+    (asked : ℕ) (o : Options) →
+    length (code_parts asked o) ≡ code_takes (holds_in (kept_set asked o)) (start_of o)
 
--- the code is the part that each image has and the 34 others
+-- the code is the part that each image has and the 45 others
 abbrev pub PartsAddUp : Type 0
 PartsAddUp =
-    (features : ℕ) (o : Options) →
-    code_length features o ≡ part_length features o always + sum_by (part_length features o) (range_with_len 0 34)
+    (asked : ℕ) (o : Options) →
+    code_length asked o ≡ part_length asked o always + sum_by (part_length asked o) (range_with_len 0 45)
 
 -- a part whose condition doesn't hold has no bytes
 abbrev pub UnkeptPartsHaveNone : Type 0
 UnkeptPartsHaveNone =
-    (features : ℕ) (o : Options) (part : ℕ) → part ≢ always → keeps features o part ≡ false →
-    part_length features o part ≡ 0
+    (asked : ℕ) (o : Options) (part : ℕ) → part ≢ always → keeps asked o part ≡ false →
+    part_length asked o part ≡ 0
 
 -- no part is longer than this
-pub record AreShort (features : ℕ) (o : Options) : Type 0 where
-  pub parts : (part : ℕ) → part ≢ always → part_length features o part ≤ 320
-  pub rest : part_length features o always ≤ 3072
+pub record AreShort (asked : ℕ) (o : Options) : Type 0 where
+  pub parts : (part : ℕ) → part ≢ always → part_length asked o part ≤ 320
+  pub rest : part_length asked o always ≤ 3072
 
 abbrev pub PartsAreShort : Type 0
-PartsAreShort = (features : ℕ) (o : Options) → AreShort features o
+PartsAreShort = (asked : ℕ) (o : Options) → AreShort asked o
 
 -- the part that each image has is as long in each
 abbrev pub RestIsSame : Type 0
-RestIsSame = (features : ℕ) (o : Options) → part_length features o always ≡ 939
+RestIsSame = (asked : ℕ) (o : Options) → part_length asked o always ≡ 860
 
 -- the code with the frequencies takes at most what it does where all parts are kept
 abbrev pub CodeIsShort : Type 0
-CodeIsShort = (features : ℕ) (o : Options) → code_length features o ≤ 1876
+CodeIsShort = (asked : ℕ) (o : Options) → code_length asked o ≤ 1876
 
 -- an image is within the bound of a packed song and its player: the code with the slides, of 255 rows at most, is within
--- the player's
+-- the player's, whichever features that is for
 abbrev pub CodeIsBounded : Type 0
 CodeIsBounded =
-    (features rows : ℕ) (o : Options) → rows ≤ 255 →
-    slide_bytes features rows + code_length features o ≤ code_bound features o
+    (asked features rows : ℕ) (o : Options) → rows ≤ 255 →
+    slide_bytes asked rows + code_length asked o ≤ code_bound features o
 
 abbrev pub ImagesAreBounded : Type 0
 ImagesAreBounded =

@@ -1,52 +1,86 @@
 -- How many bytes the parts of the code take, and the images of two small packed songs, worked by hand.
-use Rattle.std.specs.Prelude.{◌≡◌, ℕ, ◌-◌, ◌^◌, true, [], ◌∷◌, length, map}
+use Rattle.std.specs.Prelude.{◌≡◌, ℕ, ◌+◌, ◌-◌, ◌^◌, true, [], ◌∷◌, length, map}
 use Rattle.std.specs.List.{range_with_len}
 use Rattle.play_model.specs.declared.options.System.TheVariants.{Ntsc}
 use Rattle.play_model.specs.State.{no_options}
 use Rattle.play_model.specs.WorkedRuns.{all_left_out}
+use Rattle.song_facts.specs.Facts.{no_facts}
 use Rattle.packed_form.specs.declared.packed_songs.PackedSubtune.{PackedSubtune}
 use Rattle.packed_form.specs.declared.packed_songs.PackedSong.{PackedSong}
 use Rattle.packed_form.specs.WorkedUnpacked.{IsPackedNote}
-use Rattle.player_memory.specs.declared.conditions.TheConstants.{VIBRATO, SKIP_EFFECTS, SWINGS}
+use Rattle.player_memory.specs.declared.conditions.TheConstants.{VIBRATO, WAVE_TABLE, SKIP_EFFECTS, SWINGS}
+use Rattle.player_memory.specs.declared.conditions.TheConstants.{ROW_SLIDE, ROW_ONCE, LEGATO, SOFT_RESTART, WAVE_DELAY}
+use Rattle.player_memory.specs.declared.conditions.TheConstants.{ROW_COMMAND, SPECIAL_ROW, HELD_NOTE}
 use Rattle.image_parts.specs.CodeParts.{always, part_length, code_length}
 use Rattle.image_parts.specs.Lengths.{slide_bytes, image_length}
 
--- how many bytes a part takes in a song that uses all features, with all options
+-- all features, and all facts
+abbrev pub every_feature : ℕ
+every_feature = 2 ^ 24 - 1
+
+abbrev pub every_fact : ℕ
+every_fact = 2 ^ 42 - 2 ^ 34
+
+-- how many bytes a part takes in a song that asks for all of them, with all options
 abbrev pub all_parts : ℕ → ℕ
-all_parts = part_length (2 ^ 24 - 1) (all_left_out 4)
+all_parts = part_length (every_feature + every_fact) (all_left_out 4)
 
--- how many bytes the part of a feature takes in a song that uses it alone
+-- how many bytes a part takes in a song that asks for one feature or fact alone, and where that is the part's own
+abbrev pub part_of : ℕ → ℕ → ℕ
+part_of condition = part_length (2 ^ condition) no_options
+
 abbrev pub alone_part : ℕ → ℕ
-alone_part feature = part_length (2 ^ feature) no_options feature
+alone_part condition = part_of condition condition
 
--- Where all are kept the features come first, then the options, then what features have in common. A command of the
--- wave table has lines of its own. A vibrato has none but those that it has in common with others.
+-- and in a song that asks for two things
+abbrev pub part_of_both : ℕ → ℕ → ℕ → ℕ
+part_of_both one other = part_length (2 ^ one + 2 ^ other) no_options
+
+-- Where all are kept the features come first, then the options, what features have in common, the facts, and what facts
+-- or features have in common. A command of the wave table has lines of its own. A vibrato has none but those that it has in common
+-- with others.
 pub record PartsAreMeasured : Type 0 where
   pub features : map all_parts (range_with_len 0 24)
-      ≡ 16 ∷ 21 ∷ 4 ∷ 4 ∷ 58 ∷ 4 ∷ 0 ∷ 20 ∷ 82 ∷ 14 ∷ 14 ∷ 14 ∷ 12 ∷ 82 ∷ 24 ∷ 76 ∷ 24 ∷ 28 ∷ 14 ∷ 22 ∷ 66 ∷ 37 ∷ 68
+      ≡ 16 ∷ 21 ∷ 4 ∷ 4 ∷ 58 ∷ 4 ∷ 0 ∷ 20 ∷ 82 ∷ 14 ∷ 14 ∷ 14 ∷ 12 ∷ 82 ∷ 24 ∷ 76 ∷ 24 ∷ 28 ∷ 14 ∷ 22 ∷ 66 ∷ 37 ∷ 45
       ∷ 80 ∷ []
   pub options : map all_parts (range_with_len 24 4) ≡ 13 ∷ 6 ∷ 10 ∷ 36 ∷ []
   pub common : map all_parts (range_with_len 28 6) ≡ 29 ∷ 10 ∷ 10 ∷ 17 ∷ 17 ∷ 5 ∷ []
-  pub no_more : all_parts 34 ≡ 0
-  pub rest : all_parts always ≡ 939
-  pub whole : code_length (2 ^ 24 - 1) (all_left_out 4) ≡ 1876
-  -- none is kept
-  pub bare : code_length 0 no_options ≡ 939
-  pub bare_rest : part_length 0 no_options always ≡ 939
-  pub ntsc : code_length 0 (record no_options { system = Ntsc }) ≡ 939
-  -- one is kept alone
+  pub facts : map all_parts (range_with_len 34 8) ≡ 19 ∷ 18 ∷ 11 ∷ 6 ∷ 2 ∷ 2 ∷ 19 ∷ 12 ∷ []
+  pub common_facts : map all_parts (range_with_len 42 3) ≡ 2 ∷ 4 ∷ 7 ∷ []
+  pub no_more : all_parts 45 ≡ 0
+  pub rest : all_parts always ≡ 860
+  pub whole : code_length (every_feature + every_fact) (all_left_out 4) ≡ 1876
+  -- the features without the facts, and these without the features
+  pub no_fact : code_length every_feature (all_left_out 4) ≡ 1599
+  pub no_feature : code_length every_fact no_options ≡ 939
+  -- none is kept, and nothing else can be asked for
+  pub bare : code_length 0 no_options ≡ 860
+  pub bare_rest : part_length 0 no_options always ≡ 860
+  pub ntsc : code_length 0 (record no_options { system = Ntsc }) ≡ 860
+  pub no_others : code_length (2 ^ 24 + 2 ^ 28 + 2 ^ 33 + 2 ^ 42 + 2 ^ 45) no_options ≡ 860
+  -- one is kept alone; commands that are done once take nothing where no row has one, nor delays without a wave program
   pub alone : map alone_part (range_with_len 0 24)
-      ≡ 16 ∷ 21 ∷ 4 ∷ 4 ∷ 58 ∷ 4 ∷ 0 ∷ 20 ∷ 73 ∷ 7 ∷ 7 ∷ 7 ∷ 12 ∷ 82 ∷ 12 ∷ 76 ∷ 12 ∷ 14 ∷ 7 ∷ 11 ∷ 66 ∷ 37 ∷ 68 ∷ 69
-      ∷ []
-  pub swings : part_length (2 ^ VIBRATO) no_options SWINGS ≡ 29
+      ≡ 16 ∷ 21 ∷ 4 ∷ 4 ∷ 58 ∷ 4 ∷ 0 ∷ 20 ∷ 73 ∷ 0 ∷ 0 ∷ 0 ∷ 0 ∷ 82 ∷ 0 ∷ 76 ∷ 0 ∷ 0 ∷ 0 ∷ 0 ∷ 13 ∷ 0 ∷ 45 ∷ 69 ∷ []
+  pub alone_facts : map alone_part (range_with_len 34 8) ≡ 19 ∷ 18 ∷ 11 ∷ 6 ∷ 2 ∷ 2 ∷ 0 ∷ 12 ∷ []
+  pub swings : part_of VIBRATO SWINGS ≡ 29
+  pub slide_common : part_of ROW_SLIDE ROW_COMMAND ≡ 2
+  pub once_common : part_of ROW_ONCE ROW_COMMAND ≡ 2
+  pub legato_common : part_of LEGATO HELD_NOTE ≡ 7
+  pub soft_common : part_of SOFT_RESTART HELD_NOTE ≡ 7
   pub effects : part_length 0 (record no_options { skip_effects = true }) SKIP_EFFECTS ≡ 8
+  -- with rows whose commands are done once, and with a wave program
+  pub at_rows : map (λ feature. part_of_both ROW_ONCE feature feature) (range_with_len 9 13)
+      ≡ 7 ∷ 7 ∷ 7 ∷ 12 ∷ 82 ∷ 12 ∷ 76 ∷ 12 ∷ 14 ∷ 7 ∷ 11 ∷ 66 ∷ 37 ∷ []
+  pub delay : part_of_both WAVE_TABLE WAVE_DELAY WAVE_DELAY ≡ 19
+  pub delay_common : part_of_both WAVE_TABLE WAVE_DELAY SPECIAL_ROW ≡ 4
   -- where no speed is calculated there are no slides, and else three lists with row 0
-  pub no_slides : slide_bytes (2 ^ 24 - 1 - 2 ^ 8) 5 ≡ 0
+  pub no_slides : slide_bytes (every_feature - 2 ^ 8 + every_fact) 5 ≡ 0
   pub slides : slide_bytes (2 ^ 8) 5 ≡ 18
 
 -- ---- a silence
 
--- pattern 0 again and again in each channel, which is one rest, and instrument 1, which every song uses; no feature
+-- pattern 0 again and again in each channel, which is one rest, and instrument 1, which every song uses: it isn't
+-- stored, so its first waveform is 0. No feature, and that one fact.
 abbrev pub silent_subtune : PackedSubtune
 silent_subtune = record { one = 0 ∷ 0xFF ∷ 0 ∷ []; two = 0 ∷ 0xFF ∷ 0 ∷ []; three = 0 ∷ 0xFF ∷ 0 ∷ [] }
 
@@ -59,25 +93,28 @@ pub record IsPackedSilence (packed : PackedSong) : Type 0 where
   pub filter : packed.filter ≡ []
   pub speed : packed.speed ≡ []
   pub features : packed.features.0 ≡ 0
+  pub facts : packed.facts ≡ record no_facts { first_mask = true }
 
--- 28 bytes of the packed song and 939 of each player; 8, 6, 10 and 36 more where all four options are on
+-- 28 bytes of the packed song, 860 of each player, and 6 for the first waveform; 8, 6, 10 and 36 more where all four options are on
 pub record SilenceIsMeasured (packed : PackedSong) : Type 0 where
-  pub with_none : image_length packed no_options ≡ 967
-  pub with_all : image_length packed (all_left_out 4) ≡ 1027
+  pub with_none : image_length packed no_options ≡ 894
+  pub with_all : image_length packed (all_left_out 4) ≡ 954
 
 abbrev pub SilencesAreMeasured : Type 0
 SilencesAreMeasured = (packed : PackedSong) → IsPackedSilence packed → SilenceIsMeasured packed
 
 -- ---- a note
 
--- a song of one note, which has a wave and a pulse program: 42 bytes, the 939, and 68 and 82 of the parts for these
+-- a song of one note, which has a wave and a pulse program, and of a keyoff: 42 bytes, the 860, and 45, 82 and 12 of
+-- the parts for these
 pub record IsPlayedNote (packed : PackedSong) : Type 0 where
   pub lists : IsPackedNote packed
   pub features : packed.features.0 ≡ 0x402000
+  pub facts : packed.facts ≡ record no_facts { gate_note = true }
 
 pub record NoteIsMeasured (packed : PackedSong) : Type 0 where
-  pub with_none : image_length packed no_options ≡ 1131
-  pub with_all : image_length packed (all_left_out 4) ≡ 1191
+  pub with_none : image_length packed no_options ≡ 1041
+  pub with_all : image_length packed (all_left_out 4) ≡ 1101
 
 abbrev pub NotesAreMeasured : Type 0
 NotesAreMeasured = (packed : PackedSong) → IsPlayedNote packed → NoteIsMeasured packed

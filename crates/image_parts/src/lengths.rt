@@ -6,9 +6,9 @@ ghost use Rattle.image_parts.specs.CodeParts.{length_of, length_of_part};
 ghost use Rattle.image_parts.specs.Lengths.{slide_bytes, bytes_of_image};
 
 use crate::parts::ALWAYS;
+use kept_lines::{Conditions, asked_by};
 use packed_form::PackedSong;
 use player_memory::conditions::NOTE_DEPENDENT;
-use song_model::FeatureBits;
 
 /// The bytes of the frequencies of notes, which every image has among its lists.
 const FREQUENCY_BYTES: u32 = 196;
@@ -52,11 +52,11 @@ pub fn part_length(code: &[u8], part: u8) -> u32
 
 /// The bytes of the lists of slides and of periods: where a song has calculated speeds, three for each row of the speed
 /// table and for row 0.
-pub fn slide_bytes(features: FeatureBits, rows: u32) -> u32
+pub fn slide_bytes(asked: Conditions, rows: u32) -> u32
     requires { rows ≤ 255 }
-    ensures { result ≡ slide_bytes features.0 rows }
+    ensures { result ≡ slide_bytes asked.0 rows }
 {
-    if (features.0 >> u32::from(NOTE_DEPENDENT)) & 1 == 1 {
+    if asked.hold(NOTE_DEPENDENT) {
         3 * (rows + 1)
     } else {
         0
@@ -70,5 +70,5 @@ pub fn image_length(packed: &PackedSong, code: &[u8]) -> u32
     ensures { result ≡ bytes_of_image packed.now code.now }
 {
     let rows = packed.speed.as_slice().len() as u32;
-    packed.size() + slide_bytes(packed.features, rows) + code_length(code)
+    packed.size() + slide_bytes(asked_by(packed), rows) + code_length(code)
 }

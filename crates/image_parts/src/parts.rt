@@ -12,7 +12,6 @@ use play_model::Options;
 use player_text::texts;
 use scope_lines::{Conditions, Line};
 use scope_parts::push_parts;
-use song_model::FeatureBits;
 use std::alloc::Global;
 
 /// The part that every image has.
@@ -65,25 +64,21 @@ fn parts_around(
     Ok(list)
 }
 
-/// The part of each byte of an image's code, in order, for the features of a song and for options: a condition, 0 to 33,
+/// The part of each byte of an image's code, in order, for what a song asks for and for options: a condition, 0 to 44,
 /// or 255.
 ///
 /// # Errors
 ///
 /// Out of memory.
-pub fn code_parts(
-    alloc: Global,
-    features: FeatureBits,
-    options: &Options,
-) -> Result<ByteList, NoMemory>
-    ensures { IfOk result (λ list. list ≡ code_parts features.0 options.now) }
+pub fn code_parts(alloc: Global, asked: Conditions, options: &Options) -> Result<ByteList, NoMemory>
+    ensures { IfOk result (λ list. list ≡ code_parts asked.0 options.now) }
 {
     let filter = texts::filter(alloc)?;
     let voice = texts::voice(alloc)?;
     let init = texts::init(alloc, start_of(options))?;
     parts_around(
         alloc,
-        conditions(features, *options),
+        conditions(asked, *options),
         filter.as_slice(),
         voice.as_slice(),
         init.as_slice(),

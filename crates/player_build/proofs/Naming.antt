@@ -255,9 +255,9 @@ begins_with spans to n byte part rest follow parts few =
     plain n = omega arith
 
 -- 120 bytes of the part that is always kept stand in front of the blocks
-pub front_named : (spans : List PartSpan) (features : ℕ) (o : Options) (to : ℕ) → Follow 0 spans to →
-    parts_of_spans spans ≡ code_parts features o → (byte : ℕ) → byte < 119 → IsNamedAs spans byte always
-front_named spans features o to follow parts byte few = begins_with spans to 120 byte always _ follow parts (less byte few)
+pub front_named : (spans : List PartSpan) (asked : ℕ) (o : Options) (to : ℕ) → Follow 0 spans to →
+    parts_of_spans spans ≡ code_parts asked o → (byte : ℕ) → byte < 119 → IsNamedAs spans byte always
+front_named spans asked o to follow parts byte few = begins_with spans to 120 byte always _ follow parts (less byte few)
   where
     less : (byte : ℕ) → byte < 119 → byte < 120
     less byte h = omega (arith, h)

@@ -4,7 +4,7 @@ use Rattle.play_model.specs.declared.options.Options.{Options}
 use Rattle.packed_form.specs.declared.packed_songs.PackedSong.{PackedSong}
 use Rattle.packed_form.specs.Sizes.{packed_song_size}
 use Rattle.player_memory.specs.declared.conditions.TheConstants.{NOTE_DEPENDENT}
-use Rattle.kept_lines.specs.KeptLines.{uses}
+use Rattle.kept_lines.specs.Asked.{is_in, asked_by}
 use Rattle.kept_lines.proofs.Laws.{sets_are_exact}
 use Rattle.image_parts.specs.Lengths.{image_length}
 use Rattle.image_parts.proofs.Laws.{code_takes_its_parts}
@@ -19,6 +19,6 @@ sum false true code parts packed rows e f = absurd (cc)
 
 pub size_is_length : (packed : PackedSong) (o : Options) → image_size packed o ≡ image_length packed o
 size_is_length packed o =
-    sum (image_holds packed o NOTE_DEPENDENT) (uses packed.features.0 NOTE_DEPENDENT) _ _ (packed_song_size packed)
-    (length packed.speed) (sets_are_exact packed.features.0 o NOTE_DEPENDENT)
-    (code_takes_its_parts packed.features.0 o)
+    sum (image_holds packed o NOTE_DEPENDENT) (is_in (asked_by packed) NOTE_DEPENDENT) _ _ (packed_song_size packed)
+    (length packed.speed) (sets_are_exact (asked_by packed) o NOTE_DEPENDENT)
+    (code_takes_its_parts (asked_by packed) o)

@@ -8,6 +8,7 @@ use Rattle.play_model.specs.declared.options.Options.{Options}
 use Rattle.packed_form.specs.declared.packed_songs.PackedSong.{PackedSong}
 use Rattle.packed_form.specs.Sizes.{packed_song_size}
 use Rattle.scope_parts.specs.Parts.{bytes_of}
+use Rattle.kept_lines.specs.Asked.{asked_by}
 use Rattle.image_parts.specs.CodeParts.{always, code_parts, code_length, frequency_bytes}
 use Rattle.image_parts.specs.Lengths.{slide_bytes, image_length}
 use Rattle.player_build.specs.declared.image.PartSpan.{PartSpan}
@@ -215,21 +216,21 @@ all_inside front code packed all size speeds rows follow a b c h =
     (highs_end code packed all size speeds rows a b c h) (All-nil (Ends size))))
 
 pub is_parts : (packed : PackedSong) (o : Options) (size speeds : ℕ) (code : List ℕ) (spans : List PartSpan) →
-    code ≡ code_parts packed.features.0 o → size ≡ image_length packed o → speeds ≡ length packed.speed →
+    code ≡ code_parts (asked_by packed) o → size ≡ image_length packed o → speeds ≡ length packed.speed →
     AreSpansOf code speeds spans → NamesParts packed o size spans
 is_parts packed o size speeds code spans code_is size_is speeds_are are =
     let long = length code in
-    let all : ℕ = code_length packed.features.0 o in
+    let all : ℕ = code_length (asked_by packed) o in
     let rows = length packed.speed in
     let whole : long + frequency_bytes ≡ all = ap (λ (c : List ℕ). length c + frequency_bytes) code_is in
-    let lists : ℕ = packed_song_size packed + slide_bytes packed.features.0 rows in
+    let lists : ℕ = packed_song_size packed + slide_bytes (asked_by packed) rows in
     let parts_are = are.parts ∙ code_is in
     let here : NamesParts packed o size
     (are.front ++ frequency_span long ∷ frequency_span (long + frequencies + speeds) ∷ []) =
     record {
       in_order = all_in_order are.front 0 long speeds are.follow;
       inside = all_inside are.front long lists all size speeds rows are.follow whole size_is speeds_are
-          (rows_within packed (slide_bytes packed.features.0 rows));
+          (rows_within packed (slide_bytes (asked_by packed) rows));
       named = λ byte below. (
         none_packed byte long speeds rows all whole speeds_are are.front are.follow,
         named_else byte long speeds rows all whole speeds_are are.front are.follow,
@@ -240,16 +241,16 @@ is_parts packed o size speeds code spans code_is size_is speeds_are are =
           ∙ ap (λ (ps : List ℕ). ps ++ replicate frequency_bytes always) parts_are;
       in_code = λ byte few.
           named_as_left are.front _ byte _
-          (code_named are.front (code_parts packed.features.0 o) byte
+          (code_named are.front (code_parts (asked_by packed) o) byte
           (subst (λ c. Follow 0 are.front (length c)) code_is are.follow) parts_are few);
       common = record {
         front = λ byte few.
             named_as_left are.front _ byte always
-            (front_named are.front packed.features.0 o long are.follow parts_are byte few);
+            (front_named are.front (asked_by packed) o long are.follow parts_are byte few);
         lows = λ note few. lows_named are.front long (long + frequencies + speeds) all note whole few;
         highs = λ note few. highs_named are.front long speeds rows all note whole speeds_are few;
       };
       parts = λ part.
-          part_is part are.front (code_parts packed.features.0 o) long (long + frequencies + speeds) parts_are;
+          part_is part are.front (code_parts (asked_by packed) o) long (long + frequencies + speeds) parts_are;
     } in
     subst (NamesParts packed o size) (sym are.are) here

@@ -1,8 +1,11 @@
 -- The parts of the bytes in spans that are worked by hand.
-use Rattle.std.proofs.Common.{◌≡◌, ◌⊎◌, ℕ, zero, suc, ◌+◌, ◌<◌, ◌≤◌, [], ◌∷◌, length, inl, inr, refl, arith}
+use Rattle.std.proofs.Common.{◌≡◌, ◌⊎◌, ℕ, zero, suc, ◌+◌, ◌<◌, ◌≤◌, [], ◌∷◌, length, inl, inr, refl, ap, ◌∙◌, arith}
 use Rattle.std.proofs.lemmas.List.Elements.{All-nil, All-cons, All-contains, All-head}
 use Rattle.play_model.specs.State.{no_options}
 use Rattle.packed_form.specs.declared.packed_songs.PackedSong.{PackedSong}
+use Rattle.song_facts.specs.Facts.{no_facts}
+use Rattle.kept_lines.specs.Asked.{asked, asked_by}
+use Rattle.kept_lines.specs.KeptLines.{kept_set}
 use Rattle.image_parts.specs.CodeParts.{code_length}
 use Rattle.player_build.specs.declared.image.PartSpan.{PartSpan}
 use Rattle.player_build.specs.Spans.{IsNamed, IsNamedAs, NamesEach, IsOfLists}
@@ -93,13 +96,28 @@ spans_are_worked = record {
 
 -- the numbers between which the lists stand
 record Ends (packed : PackedSong) : Type 0 where
-  code : code_length packed.features.0 no_options ≡ 1089
+  code : code_length (asked_by packed) no_options ≡ 987
   speeds : length packed.speed ≡ 2
 
-ends_of : (packed : PackedSong) → HasTwoSpeeds packed → Ends packed
-ends_of packed is = record { code = rw is.features refl; speeds = is.speed }
+-- what the song asks for, and how long its code is
+asks : (packed : PackedSong) → HasTwoSpeeds packed → asked_by packed ≡ asked 0x402000 no_facts
+asks packed is = rw (is.features, is.facts) refl
 
-not_listed : (packed : PackedSong) → Ends packed → (byte : ℕ) → (byte < 991) ⊎ (993 ≤ byte) → byte < 1091 →
+asked_alone : asked 0x402000 no_facts ≡ 0x402000
+unfolding asked
+asked_alone = refl
+
+code_is : code_length 0x402000 no_options ≡ 987
+unfolding kept_set
+code_is = refl
+
+ends_of : (packed : PackedSong) → HasTwoSpeeds packed → Ends packed
+ends_of packed is = record {
+  code = ap (λ set. code_length set no_options) (asks packed is ∙ asked_alone) ∙ code_is;
+  speeds = is.speed;
+}
+
+not_listed : (packed : PackedSong) → Ends packed → (byte : ℕ) → (byte < 889) ⊎ (891 ≤ byte) → byte < 989 →
     ¬ IsOfLists packed no_options byte
 not_listed packed ends byte outside below (inl speeds) =
     let code = ends.code in
@@ -114,7 +132,7 @@ not_listed packed ends byte outside below (inr behind) =
     let rows = ends.speeds in
     omega (arith, code, rows, behind, below)
 
-speed_listed : (packed : PackedSong) → Ends packed → (byte : ℕ) → 991 ≤ byte → byte < 993 →
+speed_listed : (packed : PackedSong) → Ends packed → (byte : ℕ) → 889 ≤ byte → byte < 891 →
     IsOfLists packed no_options byte
 speed_listed packed ends byte from to =
     let code = ends.code in
@@ -124,11 +142,11 @@ speed_listed packed ends byte from to =
 pub two_speeds_are_worked : TwoSpeedsAreWorked
 two_speeds_are_worked packed is =
     let ends = ends_of packed is in record {
-      last_low = not_listed packed ends 990 (inl (omega arith)) (omega arith);
-      first_speed = speed_listed packed ends 991 (omega arith) (omega arith);
-      last_speed = speed_listed packed ends 992 (omega arith) (omega arith);
-      first_high = not_listed packed ends 993 (inr (omega arith)) (omega arith);
-      last_high = not_listed packed ends 1090 (inr (omega arith)) (omega arith);
+      last_low = not_listed packed ends 888 (inl (omega arith)) (omega arith);
+      first_speed = speed_listed packed ends 889 (omega arith) (omega arith);
+      last_speed = speed_listed packed ends 890 (omega arith) (omega arith);
+      first_high = not_listed packed ends 891 (inr (omega arith)) (omega arith);
+      last_high = not_listed packed ends 988 (inr (omega arith)) (omega arith);
       behind = (let code = ends.code in let rows = ends.speeds in inr (omega (arith, code, rows)));
       no_spans = λ size some names.
           none_there ((names.named 0 some).1 (not_listed packed ends 0 (inl (omega arith)) (omega arith)));

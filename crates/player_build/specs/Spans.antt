@@ -6,6 +6,7 @@ use Rattle.play_model.specs.declared.options.Options.{Options}
 use Rattle.packed_form.specs.declared.packed_songs.PackedSong.{PackedSong}
 use Rattle.packed_form.specs.Sizes.{packed_song_size}
 use Rattle.player_memory.specs.declared.labels.TheConstants.{VARIABLES}
+use Rattle.kept_lines.specs.Asked.{asked_by}
 use Rattle.image_parts.specs.CodeParts.{always, code_parts, code_length, frequency_bytes, part_length}
 use Rattle.image_parts.specs.Lengths.{slide_bytes}
 use Rattle.player_build.specs.declared.image.PartSpan.{PartSpan}
@@ -50,18 +51,18 @@ frequencies = 98
 -- the high bytes all the rest
 abbrev pub IsOfLists : PackedSong → Options → ℕ → Type 0
 IsOfLists packed options byte =
-    ((code_length packed.features.0 options - frequencies ≤ byte)
-    × (byte < code_length packed.features.0 options - frequencies + length packed.speed))
-    ⊎ (code_length packed.features.0 options + length packed.speed ≤ byte)
+    ((code_length (asked_by packed) options - frequencies ≤ byte)
+    × (byte < code_length (asked_by packed) options - frequencies + length packed.speed))
+    ⊎ (code_length (asked_by packed) options + length packed.speed ≤ byte)
 
 -- the two entries of three bytes and the variables behind them, and the low and the high bytes of the frequencies, are of
 -- the part that is always kept
 pub record NamesCommon (packed : PackedSong) (options : Options) (spans : List PartSpan) : Type 0 where
   pub front : (byte : ℕ) → byte < 6 + VARIABLES → IsNamedAs spans byte always
   pub lows : (note : ℕ) → note < frequencies →
-      IsNamedAs spans (code_length packed.features.0 options - frequency_bytes + note) always
+      IsNamedAs spans (code_length (asked_by packed) options - frequency_bytes + note) always
   pub highs : (note : ℕ) → note < frequencies →
-      IsNamedAs spans (code_length packed.features.0 options - frequencies + length packed.speed + note) always
+      IsNamedAs spans (code_length (asked_by packed) options - frequencies + length packed.speed + note) always
 
 -- the spans are in order, don't overlap, and end within the image; a byte of the image is in one exactly where it isn't of
 -- the song's lists, which are the packed song's bytes and its slides; the parts of the bytes in them, in order, are those
@@ -71,8 +72,8 @@ pub record NamesParts (packed : PackedSong) (options : Options) (size : ℕ) (sp
   pub in_order : StandInOrder 0 spans
   pub inside : All (λ (span : PartSpan). span.start + span.length ≤ size) spans
   pub named : (byte : ℕ) → byte < size → IsNamed spans byte ↔ (IsOfLists packed options byte → ⊥)
-  pub add_up : spans_size spans + (packed_song_size packed + slide_bytes packed.features.0 (length packed.speed)) ≡ size
-  pub in_parts : parts_of_spans spans ≡ code_parts packed.features.0 options ++ replicate frequency_bytes always
-  pub in_code : NamesEach spans (code_parts packed.features.0 options) (length (code_parts packed.features.0 options))
+  pub add_up : spans_size spans + (packed_song_size packed + slide_bytes (asked_by packed) (length packed.speed)) ≡ size
+  pub in_parts : parts_of_spans spans ≡ code_parts (asked_by packed) options ++ replicate frequency_bytes always
+  pub in_code : NamesEach spans (code_parts (asked_by packed) options) (length (code_parts (asked_by packed) options))
   pub common : NamesCommon packed options spans
-  pub parts : (part : ℕ) → part_size part spans ≡ part_length packed.features.0 options part
+  pub parts : (part : ℕ) → part_size part spans ≡ part_length (asked_by packed) options part

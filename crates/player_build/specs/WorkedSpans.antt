@@ -1,6 +1,7 @@
 -- The parts of the bytes in spans, their order, and which bytes of an image are its lists, worked by hand.
 use Rattle.std.specs.Prelude.{◌≡◌, ℕ, ◌+◌, ◌<◌, List, [], ◌∷◌, length}
 use Rattle.play_model.specs.State.{no_options}
+use Rattle.song_facts.specs.Facts.{no_facts}
 use Rattle.packed_form.specs.declared.packed_songs.PackedSong.{PackedSong}
 use Rattle.player_build.specs.declared.image.PartSpan.{PartSpan}
 use Rattle.player_build.specs.Spans.{spans_size, part_size, parts_of_spans, IsNamed, IsNamedAs, NamesEach, StandInOrder}
@@ -49,19 +50,20 @@ pub record SpansAreWorked : Type 0 where
 
 -- ---- the lists of an image
 
--- wave and pulse programs, and two rows in the speed table: the code takes 1,089 bytes with the frequencies
+-- wave and pulse programs, two rows in the speed table, and no fact: the code takes 987 bytes with the frequencies
 pub record HasTwoSpeeds (packed : PackedSong) : Type 0 where
   pub features : packed.features.0 ≡ 0x402000
+  pub facts : packed.facts ≡ no_facts
   pub speed : length packed.speed ≡ 2
 
 -- behind the low bytes of the frequencies two bytes are of the lists, the 98 high bytes aren't, and all behind them are
 pub record ListsAreWorked (packed : PackedSong) : Type 0 where
-  pub last_low : ¬ IsOfLists packed no_options 990
-  pub first_speed : IsOfLists packed no_options 991
-  pub last_speed : IsOfLists packed no_options 992
-  pub first_high : ¬ IsOfLists packed no_options 993
-  pub last_high : ¬ IsOfLists packed no_options 1090
-  pub behind : IsOfLists packed no_options 1091
+  pub last_low : ¬ IsOfLists packed no_options 888
+  pub first_speed : IsOfLists packed no_options 889
+  pub last_speed : IsOfLists packed no_options 890
+  pub first_high : ¬ IsOfLists packed no_options 891
+  pub last_high : ¬ IsOfLists packed no_options 988
+  pub behind : IsOfLists packed no_options 989
   -- no spans name the parts of an image, and none that reach behind it
   pub no_spans : (size : ℕ) → 0 < size → ¬ NamesParts packed no_options size []
   pub too_long : (size : ℕ) (span : PartSpan) (rest : List PartSpan) → size < span.start + span.length →

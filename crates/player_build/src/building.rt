@@ -5,6 +5,7 @@ ghost use Rattle.play_model.specs.Speeds.{IsSpeed};
 ghost use Rattle.packed_form.specs.ImagePlaces.{IsAddress, IsZeroPage};
 ghost use Rattle.song_lists.specs.ListLaws.{KeepsCounts};
 ghost use Rattle.frame_scenes.specs.FrameScenes.{KeepsPatternLimits};
+ghost use Rattle.kept_lines.specs.Asked.{asked_by};
 ghost use Rattle.image_parts.specs.CodeParts.{code_parts};
 ghost use Rattle.image_parts.specs.Lengths.{image_length};
 ghost use Rattle.player_build.specs.Room.{IsTooLarge};
@@ -62,7 +63,7 @@ fn image(
     place: Place,
     options: &Options,
 ) -> Result<Image, NoMemory>
-    requires code { code.now ≡ code_parts packed.now.features.0 options.now }
+    requires code { code.now ≡ code_parts (asked_by packed.now) options.now }
     requires fits { place.address + image_length packed.now options.now ≤ 0xD000 }
     ensures { IfOk result (IsBuild packed.now place options.now) }
 {
@@ -77,8 +78,8 @@ fn image(
     })
 }
 
-/// Builds the image of a packed song for a place, with the parts of the song's features and of the options. The bytes of
-/// its code have these parts (`image_parts::code_parts`).
+/// Builds the image of a packed song for a place, with the parts of what the song asks for and of the options. The
+/// bytes of its code have these parts (`image_parts::code_parts`).
 ///
 /// # Errors
 ///
@@ -90,7 +91,7 @@ pub fn build(
     place: Place,
     options: &Options,
 ) -> Result<Image, BuildFault>
-    requires { code.now ≡ code_parts packed.now.features.0 options.now }
+    requires { code.now ≡ code_parts (asked_by packed.now) options.now }
     ensures built { IfOk result (IsBuild packed.now place options.now) }
     ensures too_large { (length : _) → IsErrOf result (BuildFault.TooLarge length)
         ↔ IsTooLarge packed.now options.now place.address length }

@@ -126,7 +126,7 @@ play_plays {packed = packed} {song = song} {o = o} plan p k i machine number is 
     frames_play (plan_layout plan) packed o k x (its_play plan) (play_desk plan machine number) (play_is plan) p.laid
     (off_stack plan p) held
     (packed_frames_are_ready (plan_layout plan) packed song o k i at p.stands p.short p.laid held.lists p.features
-    p.options p.common below p.speed)
+    p.facts p.shared p.options p.common below p.speed)
 
 pub play_meant : {packed : PackedSong} {song : Song} {o : Options} {bytes : List ℕ} (plan : Plan) →
     IsPlayer plan packed song o bytes → (machine : Machine) (number : ℕ) →

@@ -11,6 +11,7 @@ use Rattle.asm6502.specs.Assembly.{assembled_bytes}
 use Rattle.asm6502.specs.Stretches.{HasBytes}
 use Rattle.player_memory.specs.declared.conditions.TheConstants.{TIMED}
 use Rattle.player_memory.specs.declared.labels.TheConstants.{VARIABLES}
+use Rattle.player_memory.specs.FactLines.{KeepsMarked, KeepsShared}
 use Rattle.player_memory.specs.SongLists.{HasSongLists}
 use Rattle.player_memory.specs.Holds.{IsPlayerLayout, order_label}
 use Rattle.player_memory.specs.Starting.{Begins}
@@ -48,7 +49,7 @@ HasImage plan at = HasBytes at plan.origin 0 (plan_size plan) (assembled_bytes 0
 -- ---- a player
 
 -- The bytes are the plan's listing, which stands from $0800 up to $D000. The packed song stands for a song, and has at
--- most 85 subtunes. The lines are kept of its features, of what they have in common, and of the options. The blocks may
+-- most 85 subtunes. The lines are kept of its features and facts, of what they have in common, and of the options. The blocks may
 -- read the variables and the lists, and write where they must. In each memory with the listing's bytes the song's lists
 -- stand, and the variables begin as the first subtune does.
 pub record IsPlayer (plan : Plan) (packed : PackedSong) (song : Song) (o : Options) (bytes : List ℕ) : Type 0 where
@@ -63,6 +64,8 @@ pub record IsPlayer (plan : Plan) (packed : PackedSong) (song : Song) (o : Optio
   pub speed : IsSpeed o.speed
   pub start : plan.start ≡ start_of o
   pub features : (feature : Feature) → IsBitSet packed.features.0 (bit_of feature) → plan.holds (bit_of feature) ≡ true
+  pub facts : KeepsMarked (plan_layout plan) packed.facts
+  pub shared : KeepsShared (plan_layout plan)
   pub common : KeepsCommon (plan_layout plan)
   pub options : KeepsOptions (plan_layout plan) o
   pub timed : plan.holds TIMED ≡ nat_lt 1 o.speed

@@ -11,6 +11,7 @@ use Rattle.player_memory.specs.declared.labels.TheConstants.{VARIABLES}
 use Rattle.player_memory.specs.Starting.{Begins}
 use Rattle.player_text.specs.declared.texts.Start.{Start}
 use Rattle.kept_lines.specs.Starts.{start_of}
+use Rattle.kept_lines.specs.Asked.{asked_by}
 use Rattle.kept_lines.specs.KeptLines.{kept_set}
 use Rattle.song_lists.specs.DataLists.{HasLines, AreFirstOrders, order_places}
 use Rattle.song_lists.specs.ListLaws.{KeepsCounts}
@@ -38,7 +39,7 @@ module _ (packed : PackedSong) (o : Options) (origin pointer : ℕ) (speed : IsS
 
   -- the lines that come of the numbers as they are made
   pub listing_is : (variables orders : List ℕ) (set first : ℕ) (start : Start) (dependent : Bool)
-      (code lists listing : List Line) → length variables ≡ VARIABLES → set ≡ kept_set packed.features.0 o →
+      (code lists listing : List Line) → length variables ≡ VARIABLES → set ≡ kept_set (asked_by packed) o →
       start ≡ start_of o → dependent ≡ holds_in set NOTE_DEPENDENT →
       first ≡ origin + code_takes (holds_in set) start → AreFirstOrders dependent packed first orders →
       Begins numbered (start_of o).tempo (start_of o).funk (λ voice. slice_index orders voice) (slice_index variables) →

@@ -13,6 +13,8 @@ use Rattle.play_model.specs.Speeds.{IsSpeed, timer_value}
 use Rattle.packed_form.specs.declared.packed_songs.PackedSong.{PackedSong}
 use Rattle.player_memory.specs.declared.conditions.TheConstants.{NOTE_DEPENDENT, TIMED}
 use Rattle.player_memory.specs.Starting.{Begins}
+use Rattle.kept_lines.specs.Asked.{asked_by}
+use Rattle.kept_lines.specs.KeptLines.{kept_set}
 use Rattle.kept_lines.specs.Starts.{start_of}
 use Rattle.kept_lines.proofs.Laws.{sets_are_exact}
 use Rattle.song_lists.specs.DataLists.{order_places, HasLines}
@@ -98,6 +100,7 @@ module _ (packed : PackedSong) (o : Options) (other : System) (origin pointer : 
   -- with the same variables and lists there is a listing for the other system
   moved : IsListingOf packed (on_system other o) origin pointer
       (lines_on other here.variables pointer (image_holds packed o) o here.lists)
+  unfolding kept_set
   moved = record {
     variables = here.variables;
     lists = here.lists;
@@ -117,7 +120,7 @@ module _ (packed : PackedSong) (o : Options) (other : System) (origin pointer : 
 
 pub systems_share_images : SystemsShareImages
 systems_share_images packed o other origin pointer one two counts speed here there =
-    let timer : image_holds packed o TIMED ≡ nat_lt 1 o.speed = sets_are_exact packed.features.0 o TIMED in
+    let timer : image_holds packed o TIMED ≡ nat_lt 1 o.speed = sets_are_exact (asked_by packed) o TIMED in
     let mine : one ≡ assembled_bytes 0 origin
     (lines_on o.system here.its.variables pointer (image_holds packed o) o here.its.lists) =
     here.are ∙ ap (assembled_bytes 0 origin) here.its.are in

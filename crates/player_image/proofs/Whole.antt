@@ -115,7 +115,7 @@ module _ (packed : PackedSong) (song : Song) (o : Options) (origin pointer : ℕ
   is_player : IsPlayer (plan_of packed o origin pointer image.its.variables image.its.lists) packed song o bytes
   is_player =
       let kept = sets_keep_their_lines (plan_layout (plan_of packed o origin pointer image.its.variables image.its.lists))
-      packed.features.0 o (λ condition. refl) in
+      packed.features.0 packed.facts o (λ condition. refl) in
       let few = s.counts.subtunes in
       record {
         is = its_plan;
@@ -129,6 +129,8 @@ module _ (packed : PackedSong) (song : Song) (o : Options) (origin pointer : ℕ
         speed = s.speed;
         start = refl;
         features = kept.features_are;
+        facts = kept.facts_are;
+        shared = kept.shared;
         common = kept.common;
         options = kept.options_are;
         timed = kept.timer;

@@ -1,5 +1,5 @@
--- What an image of a packed song is made of: the code of the lines that are kept for its features and the options, with
--- the variables as the first subtune begins, and the song's lists behind it. This is the project's own player.
+-- What an image of a packed song is made of: the code of the lines that are kept for what it asks for and the options,
+-- with the variables as the first subtune begins, and the song's lists behind it. This is the project's own player.
 use Rattle.std.specs.Prelude.{◌≡◌, ℕ, ◌+◌, ◌&&◌, ◌||◌, nat_le, nat_lt, Bool, false, List, length, slice_index}
 use Rattle.play_model.specs.declared.options.Options.{Options}
 use Rattle.packed_form.specs.declared.packed_songs.PackedSong.{PackedSong}
@@ -11,6 +11,7 @@ use Rattle.scope_lines.specs.Readings.{holds_in}
 use Rattle.player_memory.specs.declared.conditions.TheConstants.{NOTE_DEPENDENT, TIMED}
 use Rattle.player_memory.specs.declared.labels.TheConstants.{VARIABLES}
 use Rattle.player_memory.specs.Starting.{Begins}
+use Rattle.kept_lines.specs.Asked.{asked_by}
 use Rattle.kept_lines.specs.Starts.{start_of}
 use Rattle.kept_lines.specs.KeptLines.{kept_set}
 use Rattle.song_lists.specs.DataLists.{HasLines, order_places}
@@ -21,7 +22,7 @@ use Rattle.player_code.specs.Plans.{Plan, plan_lines}
 
 -- which conditions hold
 abbrev pub image_holds : PackedSong → Options → ℕ → Bool
-image_holds packed o = holds_in (kept_set packed.features.0 o)
+image_holds packed o = holds_in (kept_set (asked_by packed) o)
 
 -- how many bytes the code takes
 abbrev pub code_bytes : PackedSong → Options → ℕ → List ℕ → ℕ

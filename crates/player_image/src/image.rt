@@ -12,7 +12,7 @@ ghost use Rattle.player_image.specs.Images.{IsListingOf, IsImageOf, image_size};
 use crate::variables::start_variables;
 use asm6502::{AsmFault, Listing, MOST_BYTES, MOST_LINES, PartSet, assemble};
 use base::{ByteList, NoMemory};
-use kept_lines::{conditions, start_of};
+use kept_lines::{asked_by, conditions, start_of};
 use packed_form::PackedSong;
 use play_model::Options;
 use player_code::{code_listing, code_size};
@@ -44,7 +44,7 @@ fn image_listing(
     ensures { IfOk result (IsListingOf packed.now options.now origin zero_page) }
 {
     keep_limits(packed, options);
-    let conditions = conditions(packed.features, *options);
+    let conditions = conditions(asked_by(packed), *options);
     let start = start_of(options);
     let dependent = conditions.hold(NOTE_DEPENDENT);
     let first = origin + code_size(alloc, conditions, start)?;

@@ -1,5 +1,5 @@
-//! The image of a packed song: the code of the lines that are kept for its features and the options, with the variables
-//! as the first subtune begins, and the song's lists behind it.
+//! The image of a packed song: the code of the lines that are kept for what it asks for and the options, with the
+//! variables as the first subtune begins, and the song's lists behind it.
 //!
 //! Its one contract: an image that stands from `$0800` up to `$D000`, with its pointer from 2 to 254, is a player, so any
 //! calls of it in any order play each song that its packed song stands for, by its bytes alone, and as it is built it

@@ -1,6 +1,9 @@
--- The images of two small songs.
-use Rattle.image_parts.proofs.WorkedLengths.{silences_are_measured, notes_are_measured}
+-- How many bytes the parts take, and the images of two small songs.
+use Rattle.image_parts.proofs.WorkedLengths.{parts_are_measured, silences_are_measured, notes_are_measured}
 use Rattle.image_parts.proofs.claims.worked_lengths.Goals as goal
+
+pub returns-clause-parts : goal.returns-clause-parts
+returns-clause-parts c = parts_are_measured
 
 pub returns-clause-silence : goal.returns-clause-silence
 returns-clause-silence c = silences_are_measured

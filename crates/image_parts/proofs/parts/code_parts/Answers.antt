@@ -1,4 +1,4 @@
--- The parts for features and options.
+-- The parts for what a song asks for and options.
 use Rattle.std.proofs.Common.{◌≡◌, ℕ, List, Result, Ok, Err, ap, ◌∙◌}
 use Rattle.std.specs.Prelude.{IfOk}
 use Rattle.scopes.specs.declared.line.Line.{Line}
@@ -17,7 +17,7 @@ if_ok (Err e) more holds = tt
 
 pub returns : goal.returns
 returns c =
-    let set : ℕ = kept_set c.args.features.0 c.args.options.now in
+    let set : ℕ = kept_set c.args.asked.0 c.args.options.now in
     let lines : c.as_slice-3.result.now ≡ init_lines c.start_of.result =
     c.as_slice-3.ensures ∙ c.in_ok-init.ensures in
     if_ok c.parts_around.result

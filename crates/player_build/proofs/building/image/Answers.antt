@@ -7,6 +7,7 @@ use Rattle.packed_form.specs.declared.packed_songs.PackedSong.{PackedSong}
 use Rattle.packed_form.specs.ImagePlaces.{IsAddress, IsZeroPage}
 use Rattle.frame_scenes.specs.FrameScenes.{KeepsPatternLimits}
 use Rattle.song_lists.specs.ListLaws.{KeepsCounts}
+use Rattle.kept_lines.specs.Asked.{asked_by}
 use Rattle.image_parts.specs.CodeParts.{code_parts}
 use Rattle.image_parts.specs.Lengths.{image_length}
 use Rattle.player_image.specs.Images.{IsImageOf, image_size}
@@ -43,7 +44,7 @@ module _ (packed : PackedSong) (place : Place) (o : Options) (counts : KeepsCoun
     ends = room place.address (length bytes) (image_size packed o) has_room size;
   }
 
-  built_so : (code : List ℕ) (speeds : ℕ) (bytes : List ℕ) (parts : List PartSpan) → code ≡ code_parts packed.features.0 o →
+  built_so : (code : List ℕ) (speeds : ℕ) (bytes : List ℕ) (parts : List PartSpan) → code ≡ code_parts (asked_by packed) o →
       speeds ≡ length packed.speed → IsImageOf packed o place.address place.zero_page bytes →
       length bytes ≡ image_size packed o → AreBytes bytes → AreSpansOf code speeds parts →
       IsBuild packed place o (record { place = place; bytes = bytes; parts = parts })

@@ -1,5 +1,6 @@
 -- The lines that come are an image's.
-use Rattle.std.proofs.Common.{◌+◌, ap}
+use Rattle.std.proofs.Common.{ℕ, ◌+◌, ap, ◌∙◌}
+use Rattle.kept_lines.specs.KeptLines.{kept_set}
 use Rattle.player_image.proofs.Made.{listing_is}
 use Rattle.player_image.proofs.image.image_listing.Goals as goal
 
@@ -10,6 +11,7 @@ returns c =
     c.in_ok-orders.orders c.conditions-conditions.result.0 (c.args.origin + c.in_ok-first.field-0)
     c.start_of-start.result c.hold-dependent.result c.in_ok-listing.listing c.in_ok-lists.lists c.append.new.self
     c.start_variables-variables.ensures.size
-    c.conditions-conditions.ensures c.start_of-start.ensures c.hold-dependent.ensures
+    (c.conditions-conditions.ensures ∙ ap (λ (set : ℕ). kept_set set c.args.options.now) c.asked_by.ensures)
+    c.start_of-start.ensures c.hold-dependent.ensures
     (ap (λ n. c.args.origin + n) c.in_ok-first.ensures) c.in_ok-orders.ensures c.start_variables-variables.ensures.begin
     c.in_ok-listing.ensures c.in_ok-lists.ensures c.in_ok-append.ensures.ok
