@@ -19,6 +19,7 @@ use Rattle.packing_rules.specs.UsedSets.{UsedSets}
 use Rattle.packing_rules.specs.Renumbering.{program_rows, program_number, table_number, pattern_number, wave_programs}
 use Rattle.packing_rules.specs.Renumbering.{pulse_programs, filter_programs}
 use Rattle.packing_rules.specs.SongSizes.{order_size, orders_size, rows_size}
+use Rattle.kept_lines.specs.Asked.{asked_by}
 use Rattle.image_parts.specs.CodeParts.{code_length}
 use Rattle.image_parts.specs.Lengths.{slide_bytes}
 use Rattle.song_pack.specs.Packed.{order_byte, order_bytes, packed_subtune, passing_numbers, packed_instrument, IsPacked}
@@ -87,10 +88,10 @@ same_costs a b c d e f g h = rw (a, b, c, d, e, f, g, h) refl
 
 -- numbers that were taken from the packed song
 pub costs_are : (song : Song) (used : UsedSets) (packed : PackedSong) (options : Options) → IsPacked song used packed →
-    {player patterns count wave pulse filters speed slides size : ℕ} → player ≡ code_length packed.features.0 options →
+    {player patterns count wave pulse filters speed slides size : ℕ} → player ≡ code_length (asked_by packed) options →
     patterns ≡ sum_by list_size packed.patterns → count ≡ length packed.instruments → wave ≡ 2 * length packed.wave →
     pulse ≡ 2 * length packed.pulse → filters ≡ 2 * length packed.filter → speed ≡ 2 * length packed.speed →
-    slides ≡ slide_bytes packed.features.0 (length packed.speed) → size ≡ packed_song_size packed →
+    slides ≡ slide_bytes (asked_by packed) (length packed.speed) → size ≡ packed_song_size packed →
     ◌≡◌ {A = Costs}
     (record {
       player = player;
@@ -102,7 +103,7 @@ pub costs_are : (song : Song) (used : UsedSets) (packed : PackedSong) (options :
       filter = filters;
       speed = speed + slides;
     })
-    (costs_of song used packed.features.0 options)
+    (costs_of song used (asked_by packed) options)
 costs_are song used packed options is {player} {patterns} {count} {wave} {pulse} {filters} {speed} {slides} {size}
     a b c d e f g s h =
     let orders : size - patterns - 9 * count - wave - pulse - filters - speed ≡ sum_by subtune_size packed.subtunes =
@@ -114,7 +115,7 @@ costs_are song used packed options is {player} {patterns} {count} {wave} {pulse}
     (d ∙ rows_are (wave_programs song used) packed.wave is.wave)
     (e ∙ rows_are (pulse_programs song used) packed.pulse is.pulse)
     (f ∙ rows_are (filter_programs song used) packed.filter is.filter)
-    (both g s ∙ ap (λ (rows : List TableRow). speed_bytes packed.features.0 (length rows)) is.speed.rows_are)
+    (both g s ∙ ap (λ (rows : List TableRow). speed_bytes (asked_by packed) (length rows)) is.speed.rows_are)
   where
     both : {a b c d : ℕ} → a ≡ c → b ≡ d → a + b ≡ c + d
     both x y = rw (x, y) refl

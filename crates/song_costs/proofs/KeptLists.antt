@@ -22,8 +22,8 @@ use Rattle.song_costs.proofs.Sums.{parts_add_up}
 abbrev part_of : PartCost → ℕ
 part_of cost = cost.part
 
-pub kept_none : (song : Song) (features : ℕ) (options : Options) → AreKeptBelow song features options 0 []
-kept_none song features options = record { parts = refl; each = All-nil (IsPartCost song features options) }
+pub kept_none : (song : Song) (asked : ℕ) (options : Options) → AreKeptBelow song asked options 0 []
+kept_none song asked options = record { parts = refl; each = All-nil (IsPartCost song asked options) }
 
 range_of : (n : ℕ) → range_with_len 0 (n + 1) ≡ range_with_len 0 n ++ n ∷ []
 range_of n =
@@ -56,81 +56,81 @@ one_fails test n fails =
     ∙ nothing_more (filter test (range_with_len 0 n))
 
 -- a part of which a cost is told
-passes_so : (song : Song) (features : ℕ) (options : Options) (cost : PartCost) →
-    IsPartCost song features options cost → is_told features options cost.part ≡ true
-passes_so song features options cost told =
-    told_so (keeps features options) (part_length features options) cost.part told.kept
+passes_so : (song : Song) (asked : ℕ) (options : Options) (cost : PartCost) →
+    IsPartCost song asked options cost → is_told asked options cost.part ≡ true
+passes_so song asked options cost told =
+    told_so (keeps asked options) (part_length asked options) cost.part told.kept
     (λ none. told.some (told.bytes ∙ none))
 
-pub kept_told : (song : Song) (features : ℕ) (options : Options) (n : ℕ) (costs : List PartCost) (cost : PartCost) →
-    AreKeptBelow song features options n costs → cost.part ≡ n → IsPartCost song features options cost →
-    AreKeptBelow song features options (n + 1) (costs ++ cost ∷ [])
-kept_told song features options n costs cost kept is told =
-    let passes = subst (λ (p : ℕ). is_told features options p ≡ true) is (passes_so song features options cost told) in
+pub kept_told : (song : Song) (asked : ℕ) (options : Options) (n : ℕ) (costs : List PartCost) (cost : PartCost) →
+    AreKeptBelow song asked options n costs → cost.part ≡ n → IsPartCost song asked options cost →
+    AreKeptBelow song asked options (n + 1) (costs ++ cost ∷ [])
+kept_told song asked options n costs cost kept is told =
+    let passes = subst (λ (p : ℕ). is_told asked options p ≡ true) is (passes_so song asked options cost told) in
     record {
       parts = map-append part_of costs (cost ∷ []) ∙ ap (λ (p : ℕ). map part_of costs ++ p ∷ []) is
-          ∙ ap (λ (ps : List ℕ). ps ++ n ∷ []) kept.parts ∙ sym (one_passes (is_told features options) n passes);
-      each = All-push (IsPartCost song features options) costs cost kept.each told;
+          ∙ ap (λ (ps : List ℕ). ps ++ n ∷ []) kept.parts ∙ sym (one_passes (is_told asked options) n passes);
+      each = All-push (IsPartCost song asked options) costs cost kept.each told;
     }
 
-pub kept_passed : (song : Song) (features : ℕ) (options : Options) (n : ℕ) (costs : List PartCost) →
-    AreKeptBelow song features options n costs → ¬ (is_told features options n ≡ true) →
-    AreKeptBelow song features options (n + 1) costs
-kept_passed song features options n costs kept not_so = elim (cases_Bool (is_told features options n)) [
+pub kept_passed : (song : Song) (asked : ℕ) (options : Options) (n : ℕ) (costs : List PartCost) →
+    AreKeptBelow song asked options n costs → ¬ (is_told asked options n ≡ true) →
+    AreKeptBelow song asked options (n + 1) costs
+kept_passed song asked options n costs kept not_so = elim (cases_Bool (is_told asked options n)) [
   | inl so ↦ absurd (not_so so)
   | inr fails ↦ record {
-    parts = kept.parts ∙ sym (one_fails (is_told features options) n fails);
+    parts = kept.parts ∙ sym (one_fails (is_told asked options) n fails);
     each = kept.each;
   }
 ]
 
 -- ---- one list
 
-one_cost : (song : Song) (features : ℕ) (options : Options) (one other : PartCost) → one.part ≡ other.part →
-    IsPartCost song features options one → IsPartCost song features options other → one ≡ other
-one_cost song features options one other same a b =
+one_cost : (song : Song) (asked : ℕ) (options : Options) (one other : PartCost) → one.part ≡ other.part →
+    IsPartCost song asked options one → IsPartCost song asked options other → one ≡ other
+one_cost song asked options one other same a b =
     same_cost other one.part one.bytes one.cause (sym same)
-    (b.bytes ∙ ap (part_length features options) (sym same) ∙ sym a.bytes)
+    (b.bytes ∙ ap (part_length asked options) (sym same) ∙ sym a.bytes)
     (one_cause song other.part other.cause one.cause b.cause (subst (λ (p : ℕ). IsCause song p one.cause) same a.cause))
 
-one_list : (song : Song) (features : ℕ) (options : Options) (one other : List PartCost) →
-    map part_of one ≡ map part_of other → All (IsPartCost song features options) one →
-    All (IsPartCost song features options) other → one ≡ other
-one_list song features options [] [] same a b = refl
-one_list song features options [] (y ∷ ys) same a b = absurd (cc)
-one_list song features options (x ∷ xs) [] same a b = absurd (cc)
-one_list song features options (x ∷ xs) (y ∷ ys) same a b =
-    let first : x ≡ y = one_cost song features options x y
+one_list : (song : Song) (asked : ℕ) (options : Options) (one other : List PartCost) →
+    map part_of one ≡ map part_of other → All (IsPartCost song asked options) one →
+    All (IsPartCost song asked options) other → one ≡ other
+one_list song asked options [] [] same a b = refl
+one_list song asked options [] (y ∷ ys) same a b = absurd (cc)
+one_list song asked options (x ∷ xs) [] same a b = absurd (cc)
+one_list song asked options (x ∷ xs) (y ∷ ys) same a b =
+    let first : x ≡ y = one_cost song asked options x y
     (same_head x.part y.part (map part_of xs) (map part_of ys) same)
-    (All-head (IsPartCost song features options) x xs a) (All-head (IsPartCost song features options) y ys b) in
-    let rest : xs ≡ ys = one_list song features options xs ys
+    (All-head (IsPartCost song asked options) x xs a) (All-head (IsPartCost song asked options) y ys b) in
+    let rest : xs ≡ ys = one_list song asked options xs ys
     (same_tail x.part y.part (map part_of xs) (map part_of ys) same)
-    (All-tail (IsPartCost song features options) x xs a) (All-tail (IsPartCost song features options) y ys b) in
+    (All-tail (IsPartCost song asked options) x xs a) (All-tail (IsPartCost song asked options) y ys b) in
     cc
 
 pub kept_parts_are_one : KeptPartsAreOne
-kept_parts_are_one song features options one other a b =
-    one_list song features options one other (a.parts ∙ sym b.parts) a.each b.each
+kept_parts_are_one song asked options one other a b =
+    one_list song asked options one other (a.parts ∙ sym b.parts) a.each b.each
 
 -- ---- their sum
 
-bytes_are : (song : Song) (features : ℕ) (options : Options) (costs : List PartCost) →
-    All (IsPartCost song features options) costs →
-    sum_by (λ (cost : PartCost). cost.bytes) costs ≡ sum_by (part_length features options) (map part_of costs)
-bytes_are song features options [] each = refl
-bytes_are song features options (cost ∷ costs) each =
+bytes_are : (song : Song) (asked : ℕ) (options : Options) (costs : List PartCost) →
+    All (IsPartCost song asked options) costs →
+    sum_by (λ (cost : PartCost). cost.bytes) costs ≡ sum_by (part_length asked options) (map part_of costs)
+bytes_are song asked options [] each = refl
+bytes_are song asked options (cost ∷ costs) each =
     sum_by-cons (λ (c : PartCost). c.bytes) cost costs
-    ∙ both (All-head (IsPartCost song features options) cost costs each).bytes
-    (bytes_are song features options costs (All-tail (IsPartCost song features options) cost costs each))
-    ∙ sym (sum_by-cons (part_length features options) cost.part (map part_of costs))
+    ∙ both (All-head (IsPartCost song asked options) cost costs each).bytes
+    (bytes_are song asked options costs (All-tail (IsPartCost song asked options) cost costs each))
+    ∙ sym (sum_by-cons (part_length asked options) cost.part (map part_of costs))
   where
     both : {a b c d : ℕ} → a ≡ c → b ≡ d → a + b ≡ c + d
     both e f = rw (e, f) refl
 
 pub kept_parts_add_up : KeptPartsAddUp
-kept_parts_add_up song features options costs kept =
-    parts_add_up features options
-    ∙ ap (λ (bytes : ℕ). part_length features options always + bytes)
-    (sym (told_sum (keeps features options) (part_length features options) (range_with_len 0 34))
-    ∙ ap (sum_by (part_length features options)) (sym kept.parts)
-    ∙ sym (bytes_are song features options costs kept.each))
+kept_parts_add_up song asked options costs kept =
+    parts_add_up asked options
+    ∙ ap (λ (bytes : ℕ). part_length asked options always + bytes)
+    (sym (told_sum (keeps asked options) (part_length asked options) (range_with_len 0 45))
+    ∙ ap (sum_by (part_length asked options)) (sym kept.parts)
+    ∙ sym (bytes_are song asked options costs kept.each))

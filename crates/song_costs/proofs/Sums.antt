@@ -23,41 +23,41 @@ sizes_add_up : (orders patterns instruments wave pulse filters rows slides size 
     orders + patterns + instruments + wave + pulse + filters + (2 * rows + slides) ≡ size + slides
 sizes_add_up orders patterns instruments wave pulse filters rows slides size is = omega (arith, is)
 
-data_adds_up : (song : Song) (used : UsedSets) (features : ℕ) (options : Options) →
-    data_bytes (costs_of song used features options) ≡ song_size song used features
+data_adds_up : (song : Song) (used : UsedSets) (asked : ℕ) (options : Options) →
+    data_bytes (costs_of song used asked options) ≡ song_size song used asked
 unfolding packed_size
-data_adds_up song used features options =
+data_adds_up song used asked options =
     sizes_add_up _ _ _ _ _ _ (length (speed_rows song (used.pointers Speed)))
-    (slide_bytes features (length (speed_rows song (used.pointers Speed)))) _ refl
+    (slide_bytes asked (length (speed_rows song (used.pointers Speed)))) _ refl
 
 plus_player : (player bytes size : ℕ) → bytes ≡ size → player + bytes ≡ size + player
 plus_player player bytes size e = omega (arith, e)
 
 pub costs_add_up : CostsAddUp
-costs_add_up song used features options = (
-  data_adds_up song used features options,
-  plus_player (code_length features options) (data_bytes (costs_of song used features options))
-      (song_size song used features) (data_adds_up song used features options),
+costs_add_up song used asked options = (
+  data_adds_up song used asked options,
+  plus_player (code_length asked options) (data_bytes (costs_of song used asked options))
+      (song_size song used asked) (data_adds_up song used asked options),
 )
 
 -- ---- parts
 
 pub parts_add_up : PartsAddUp
-parts_add_up features options =
-    image_parts.parts_add_up features options
-    ∙ ap (λ (bytes : ℕ). part_length features options always + bytes)
-    (sym (dropped_sum (keeps features options) (part_length features options) (range_with_len 0 34)
-    (all_below (DropsNone (keeps features options) (part_length features options)) 34
-    (λ part high out. image_parts.unkept_parts_have_none features options part
+parts_add_up asked options =
+    image_parts.parts_add_up asked options
+    ∙ ap (λ (bytes : ℕ). part_length asked options always + bytes)
+    (sym (dropped_sum (keeps asked options) (part_length asked options) (range_with_len 0 45)
+    (all_below (DropsNone (keeps asked options) (part_length asked options)) 45
+    (λ part high out. image_parts.unkept_parts_have_none asked options part
     (λ is. omega (arith, high, is)) out))))
 
 -- ---- the code
 
-pub few_bytes : (features : ℕ) (options : Options) (code : List ℕ) → code ≡ code_parts features options →
+pub few_bytes : (asked : ℕ) (options : Options) (code : List ℕ) → code ≡ code_parts asked options →
     length code ≤ 65535
-few_bytes features options code is =
+few_bytes asked options code is =
     subst (λ (c : List ℕ). length c ≤ 65535) (sym is)
-    (without (length (code_parts features options)) (image_parts.code_is_short features options))
+    (without (length (code_parts asked options)) (image_parts.code_is_short asked options))
   where
     without : (n : ℕ) → n + 196 ≤ 1876 → n ≤ 65535
     without n few = omega (arith, few)

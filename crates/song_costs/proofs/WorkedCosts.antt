@@ -12,28 +12,41 @@ use Rattle.packed_form.specs.PackedText.{packed_text}
 use Rattle.packing_rules.specs.Segments.{first_row, is_closed, are_equal, first_equal, keeps, stand_in}
 use Rattle.packing_rules.specs.Renumbering.{speed_rows, speed_number, table_number, instrument_number, pattern_text}
 use Rattle.packing_rules.specs.Renumbering.{pattern_texts}
-use Rattle.player_memory.specs.declared.conditions.TheConstants.{CLIMB, RISE}
+use Rattle.song_facts.specs.declared.facts.Fact.{Fact}
+use Rattle.song_facts.specs.declared.facts.Fact.TheVariants.{RowSlide, FirstMask, GateNote}
+use Rattle.player_memory.specs.declared.conditions.TheConstants.{CLIMB, RISE, ROW_SLIDE, FIRST_MASK, GATE_NOTE}
+use Rattle.player_memory.specs.declared.conditions.TheConstants.{ROW_COMMAND, SPECIAL_ROW}
+use Rattle.player_memory.specs.FactLines.{fact_condition}
+use Rattle.kept_lines.specs.Asked.{asked}
+use Rattle.kept_lines.specs.KeptLines.{kept_set}
 use Rattle.song_places.specs.declared.places.Place.{Place}
 use Rattle.song_places.specs.declared.places.Place.TheVariants.{InOrder, InPattern, InInstrument, InWaveTable}
 use Rattle.song_costs.specs.declared.kept.Cause.TheVariants.{InSong}
 use Rattle.song_costs.specs.declared.kept.PartCost.{PartCost}
-use Rattle.song_places.specs.Places.{IsFirstPlace}
+use Rattle.song_places.specs.Places.{IsFirstPlace, IsFirstFactPlace}
 use Rattle.song_places.specs.PartPlaces.{keeps_part, NeedsFor, IsPartPlace}
 use Rattle.song_places.specs.WorkedPlaces.{crossing}
 use Rattle.song_costs.specs.WorkedCosts.{NoteIsWorked, TablesAreCounted, part_cost, IsToldOf, PartsAreWorked}
-use Rattle.song_costs.specs.WorkedCosts.{ListIsWorked, OptionsAreWorked}
-use Rattle.song_places.proofs.Laws.{own_places_are_first}
+use Rattle.song_costs.specs.WorkedCosts.{FactPartsAreWorked, ListIsWorked, OptionsAreWorked}
+use Rattle.song_places.proofs.Laws.{own_places_are_first, fact_places_are_first}
 use Rattle.song_places.proofs.Laws.{transposes_are_worked, portamentos_are_worked, tables_are_worked, risen}
-use Rattle.song_places.proofs.Laws.{crossing_first}
+use Rattle.song_places.proofs.Laws.{gate_notes_are_worked, facts_are_worked, wave_places_are_worked, crossing_first}
 
 pub note_is_worked : NoteIsWorked
 unfolding packed_text first_row is_closed are_equal first_equal keeps stand_in speed_rows speed_number table_number
-    instrument_number pattern_text pattern_texts table_row pattern_at
-note_is_worked = record { each = refl; bytes = refl; all = refl; few = λ e. omega arith; once = refl }
+    instrument_number pattern_text pattern_texts table_row pattern_at asked kept_set
+note_is_worked = record {
+  each = refl;
+  bytes = refl;
+  all = refl;
+  few = λ e. omega arith;
+  no_keyoff = refl;
+  once = refl;
+}
 
 pub tables_are_counted : TablesAreCounted
 unfolding packed_text first_row is_closed are_equal first_equal keeps stand_in speed_rows speed_number table_number
-    instrument_number pattern_text pattern_texts table_row pattern_at
+    instrument_number pattern_text pattern_texts table_row pattern_at asked kept_set
 tables_are_counted = record {
   wave = refl;
   pulse = refl;
@@ -55,11 +68,20 @@ first_own : (feature : Feature) (place : Place) → IsPartPlace crossing (bit_of
     IsFirstPlace crossing feature place
 first_own feature place first = (own_places_are_first crossing feature place).0 first
 
+own_fact_first : (fact : Fact) (place : Place) → IsFirstFactPlace crossing fact place →
+    IsPartPlace crossing (fact_condition fact) place
+own_fact_first fact place first = (fact_places_are_first crossing fact place).1 first
+
+first_own_fact : (fact : Fact) (place : Place) → IsPartPlace crossing (fact_condition fact) place →
+    IsFirstFactPlace crossing fact place
+first_own_fact fact place first = (fact_places_are_first crossing fact place).0 first
+
 -- a portamento up keeps what several features have in common
-slides : (part : ℕ) → keeps_part PortaUp part ≡ true → NeedsFor crossing part (InPattern 1 1)
-slides part kept = record { feature = PortaUp; is_kept = kept; needs = risen }
+slides : (part : ℕ) → keeps_part (bit_of PortaUp) part ≡ true → NeedsFor crossing part (InPattern 1 1)
+slides part kept = inl (record { feature = PortaUp; is_kept = kept; needs = risen })
 
 transposes : IsToldOf no_options (part_cost 0 16 (InSong (InOrder 2 2 1)))
+unfolding asked kept_set
 transposes = record {
   kept = refl;
   bytes = refl;
@@ -68,6 +90,7 @@ transposes = record {
 }
 
 portamentos : IsToldOf no_options (part_cost 2 4 (InSong (InPattern 1 1)))
+unfolding asked kept_set
 portamentos = record {
   kept = refl;
   bytes = refl;
@@ -76,6 +99,7 @@ portamentos = record {
 }
 
 filters : IsToldOf no_options (part_cost 15 76 (InSong (InInstrument 3)))
+unfolding asked kept_set
 filters = record {
   kept = refl;
   bytes = refl;
@@ -83,7 +107,8 @@ filters = record {
   cause = own_first FilterTable (InInstrument 3) tables_are_worked.first;
 }
 
-waves : IsToldOf no_options (part_cost 22 68 (InSong (InInstrument 1)))
+waves : IsToldOf no_options (part_cost 22 45 (InSong (InInstrument 1)))
+unfolding asked kept_set
 waves = record {
   kept = refl;
   bytes = refl;
@@ -92,6 +117,7 @@ waves = record {
 }
 
 wave_commands : IsToldOf no_options (part_cost 23 80 (InSong (InWaveTable 2)))
+unfolding asked kept_set
 wave_commands = record {
   kept = refl;
   bytes = refl;
@@ -100,6 +126,7 @@ wave_commands = record {
 }
 
 climb : IsToldOf no_options (part_cost CLIMB 10 (InSong (InPattern 1 1)))
+unfolding asked kept_set
 climb = record {
   kept = refl;
   bytes = refl;
@@ -108,6 +135,7 @@ climb = record {
 }
 
 rise : IsToldOf no_options (part_cost RISE 17 (InSong (InPattern 1 1)))
+unfolding asked kept_set
 rise = record {
   kept = refl;
   bytes = refl;
@@ -115,7 +143,70 @@ rise = record {
   cause = crossing_first RISE refl refl (slides RISE refl);
 }
 
+row_slides : IsToldOf no_options (part_cost ROW_SLIDE 18 (InSong (InPattern 1 1)))
+unfolding asked kept_set
+row_slides = record {
+  kept = refl;
+  bytes = refl;
+  some = λ e. absurd (omega arith);
+  cause = own_fact_first RowSlide (InPattern 1 1) facts_are_worked.slide;
+}
+
+masks : IsToldOf no_options (part_cost FIRST_MASK 6 (InSong (InInstrument 1)))
+unfolding asked kept_set
+masks = record {
+  kept = refl;
+  bytes = refl;
+  some = λ e. absurd (omega arith);
+  cause = own_fact_first FirstMask (InInstrument 1) facts_are_worked.mask;
+}
+
+gate_notes : IsToldOf no_options (part_cost GATE_NOTE 12 (InSong (InPattern 2 1)))
+unfolding asked kept_set
+gate_notes = record {
+  kept = refl;
+  bytes = refl;
+  some = λ e. absurd (omega arith);
+  cause = own_fact_first GateNote (InPattern 2 1) gate_notes_are_worked.first;
+}
+
+row_commands : IsToldOf no_options (part_cost ROW_COMMAND 2 (InSong (InPattern 1 1)))
+unfolding asked kept_set
+row_commands = record {
+  kept = refl;
+  bytes = refl;
+  some = λ e. absurd (omega arith);
+  cause = crossing_first ROW_COMMAND refl refl
+      (inr (record { fact = RowSlide; is_kept = refl; needs = facts_are_worked.slide.is_such }));
+}
+
+special : IsToldOf no_options (part_cost SPECIAL_ROW 4 (InSong (InWaveTable 2)))
+unfolding asked kept_set
+special = record {
+  kept = refl;
+  bytes = refl;
+  some = λ e. absurd (omega arith);
+  cause = wave_places_are_worked.behind;
+}
+
+pub fact_parts_are_worked : FactPartsAreWorked
+unfolding asked
+fact_parts_are_worked = record {
+  slides = row_slides;
+  later_slide = λ told. facts_are_worked.next_row (first_own_fact RowSlide (InPattern 1 2) told.cause);
+  masks = masks;
+  later_mask = λ told. facts_are_worked.not_first (first_own_fact FirstMask (InInstrument 3) told.cause);
+  gate_notes = gate_notes;
+  unused = λ told. gate_notes_are_worked.unused (first_own_fact GateNote (InPattern 0 1) told.cause).is_such;
+  commands = row_commands;
+  special = special;
+  no_special = λ told. wave_places_are_worked.jump told.cause.is_such;
+  no_legato = λ bytes cause told. (let e = told.kept in absurd (cc));
+  no_held = λ bytes cause told. (let e = told.kept in absurd (cc));
+}
+
 pub parts_are_worked : PartsAreWorked
+unfolding asked kept_set
 parts_are_worked = record {
   transposes = transposes;
   later = λ told. transposes_are_worked.not_first (first_own Transpose (InOrder 2 3 0) told.cause);
@@ -139,18 +230,20 @@ more : {cost : PartCost} {costs : List PartCost} → IsToldOf no_options cost �
 more {cost} {costs} told rest = record { each = All-cons (IsToldOf no_options) cost costs told rest.each }
 
 pub list_is_worked : ListIsWorked
+unfolding asked kept_set
 list_is_worked = record {
   all = record {
     parts = refl;
-    each = (more transposes
-        (more portamentos (more filters (more waves (more wave_commands (more climb (more rise nothing))))))).each;
+    each = (more transposes (more portamentos (more filters (more waves (more wave_commands (more climb (more rise
+        (more row_slides (more masks (more gate_notes (more row_commands (more special nothing)))))))))))).each;
   };
   other_order = λ rest kept. absurd
-      (let e = same_head 15 0 (map (λ (cost : PartCost). cost.part) rest) (2 ∷ 15 ∷ 22 ∷ 23 ∷ CLIMB ∷ RISE ∷ [])
-      kept.parts in omega arith);
+      (let e = same_head 15 0 (map (λ (cost : PartCost). cost.part) rest) (2 ∷ 15 ∷ 22 ∷ 23 ∷ CLIMB ∷ RISE ∷ ROW_SLIDE
+      ∷ FIRST_MASK ∷ GATE_NOTE ∷ ROW_COMMAND ∷ SPECIAL_ROW ∷ []) kept.parts in omega arith);
 }
 
 pub options_are_worked : OptionsAreWorked
+unfolding asked kept_set
 options_are_worked = record {
   no_bytes = λ song bytes cause told. told.some told.bytes;
   not_kept = λ bytes cause told. (let e = told.kept in absurd (cc));

@@ -17,29 +17,29 @@ use Rattle.song_costs.specs.Kept.{AreKeptParts}
 
 -- the packed data of a song and its slides
 abbrev pub song_size : Song → UsedSets → ℕ → ℕ
-song_size song used features =
-    packed_size song used + slide_bytes features (length (speed_rows song (used.pointers Speed)))
+song_size song used asked =
+    packed_size song used + slide_bytes asked (length (speed_rows song (used.pointers Speed)))
 
 -- the seven kinds of data add up to these, and with the player to the length of an image
 abbrev pub CostsAddUp : Type 0
-CostsAddUp = (song : Song) (used : UsedSets) (features : ℕ) (options : Options) →
-    (data_bytes (costs_of song used features options) ≡ song_size song used features)
-    × (all_bytes (costs_of song used features options) ≡ song_size song used features + code_length features options)
+CostsAddUp = (song : Song) (used : UsedSets) (asked : ℕ) (options : Options) →
+    (data_bytes (costs_of song used asked options) ≡ song_size song used asked)
+    × (all_bytes (costs_of song used asked options) ≡ song_size song used asked + code_length asked options)
 
 -- the player is the part that each image has and the others that are kept
 abbrev pub PartsAddUp : Type 0
-PartsAddUp = (features : ℕ) (options : Options) →
-    code_length features options
-    ≡ part_length features options always
-    + sum_by (part_length features options) (filter (keeps features options) (range_with_len 0 PARTS))
+PartsAddUp = (asked : ℕ) (options : Options) →
+    code_length asked options
+    ≡ part_length asked options always
+    + sum_by (part_length asked options) (filter (keeps asked options) (range_with_len 0 PARTS))
 
 -- so it is the part that each image has and those that are told
 abbrev pub KeptPartsAddUp : Type 0
-KeptPartsAddUp = (song : Song) (features : ℕ) (options : Options) (costs : List PartCost) →
-    AreKeptParts song features options costs →
-    code_length features options ≡ part_length features options always + sum_by (λ cost. cost.bytes) costs
+KeptPartsAddUp = (song : Song) (asked : ℕ) (options : Options) (costs : List PartCost) →
+    AreKeptParts song asked options costs →
+    code_length asked options ≡ part_length asked options always + sum_by (λ cost. cost.bytes) costs
 
 -- which are told, and how, is the song's
 abbrev pub KeptPartsAreOne : Type 0
-KeptPartsAreOne = (song : Song) (features : ℕ) (options : Options) (one other : List PartCost) →
-    AreKeptParts song features options one → AreKeptParts song features options other → one ≡ other
+KeptPartsAreOne = (song : Song) (asked : ℕ) (options : Options) (one other : List PartCost) →
+    AreKeptParts song asked options one → AreKeptParts song asked options other → one ≡ other

@@ -19,19 +19,19 @@ use Rattle.song_costs.specs.declared.costs.Costs.{Costs}
 
 -- two bytes for each row of the speed table, and the slides
 abbrev pub speed_bytes : ℕ → ℕ → ℕ
-speed_bytes features rows = 2 * rows + slide_bytes features rows
+speed_bytes asked rows = 2 * rows + slide_bytes asked rows
 
 -- patterns with the same text are counted once, and so are programs that are equal
 abbrev pub costs_of : Song → UsedSets → ℕ → Options → Costs
-costs_of song used features options = record {
-  player = code_length features options;
+costs_of song used asked options = record {
+  player = code_length asked options;
   orders = sum_by orders_size (playable_subtunes song);
   patterns = sum_by list_size (first_seen bytes_eq (pattern_texts song used));
   instruments = 9 * count_by used.instruments (numbers MOST_INSTRUMENTS);
   wave = rows_size keeps (wave_programs song used);
   pulse = rows_size keeps (pulse_programs song used);
   filter = rows_size keeps (filter_programs song used);
-  speed = speed_bytes features (length (speed_rows song (used.pointers Speed)));
+  speed = speed_bytes asked (length (speed_rows song (used.pointers Speed)));
 }
 
 -- those of the song's data

@@ -13,7 +13,11 @@ use Rattle.play_model.specs.WorkedRuns.{left_out, first_left_out, all_left_out}
 use Rattle.play_model.specs.WorkedSongs.{one_note, plucked, sides}
 use Rattle.packing_rules.specs.UsedSets.{UsedSets}
 use Rattle.packing_rules.specs.WorkedSizes.{among, note_sets, two_rests}
-use Rattle.player_memory.specs.declared.conditions.TheConstants.{CLIMB, DROP, RISE}
+use Rattle.song_facts.specs.declared.facts.Facts.{Facts}
+use Rattle.song_facts.specs.Facts.{no_facts}
+use Rattle.player_memory.specs.declared.conditions.TheConstants.{CLIMB, DROP, RISE, ROW_SLIDE, FIRST_MASK, LEGATO}
+use Rattle.player_memory.specs.declared.conditions.TheConstants.{GATE_NOTE, ROW_COMMAND, SPECIAL_ROW, HELD_NOTE}
+use Rattle.kept_lines.specs.Asked.{asked}
 use Rattle.song_costs.specs.declared.costs.Costs.{Costs}
 use Rattle.song_places.specs.declared.places.Place.TheVariants.{InOrder, InPattern, InInstrument, InWaveTable}
 use Rattle.song_costs.specs.declared.kept.Cause.{Cause}
@@ -25,18 +29,22 @@ use Rattle.song_places.specs.WorkedPlaces.{crossing}
 
 -- ---- kinds
 
--- a song of one note has a wave and a pulse program
+-- a song of one note has a wave and a pulse program, and a keyoff
 abbrev pub note_features : ℕ
 note_features = 2 ^ bit_of PulseTable + 2 ^ bit_of WaveTable
 
+abbrev pub note_facts : Facts
+note_facts = record no_facts { gate_note = true }
+
 abbrev pub note_costs : Costs
-note_costs = costs_of one_note (note_sets (0 ∷ 1 ∷ [])) note_features no_options
+note_costs = costs_of one_note (note_sets (0 ∷ 1 ∷ [])) (asked note_features note_facts) no_options
 
 -- three orderlists of one entry, the patterns 01 90 BE 00 and C0 00, one instrument, two rows in each of two tables;
--- 939 bytes of the player that each image has, the frequencies among them, and 82 and 68 for a pulse and a wave program
+-- 860 bytes of the player that each image has, the frequencies among them, 82 and 45 for a pulse and a wave program,
+-- and 12 for a keyoff
 pub record NoteIsWorked : Type 0 where
   pub each : note_costs ≡ record {
-    player = 1089;
+    player = 999;
     orders = 15;
     patterns = 10;
     instruments = 9;
@@ -46,11 +54,13 @@ pub record NoteIsWorked : Type 0 where
     speed = 0;
   }
   pub bytes : data_bytes note_costs ≡ 42
-  pub all : all_bytes note_costs ≡ 1131
+  pub all : all_bytes note_costs ≡ 1041
   -- without the frequencies
-  pub few : note_costs.player ≢ 893
+  pub few : note_costs.player ≢ 803
+  -- without the keyoff
+  pub no_keyoff : (costs_of one_note (note_sets (0 ∷ 1 ∷ [])) note_features no_options).player ≡ 987
   -- an equal pattern is stored once, and a note for each of three orderlists isn't
-  pub once : (costs_of two_rests (note_sets (0 ∷ 1 ∷ 2 ∷ [])) note_features no_options).patterns ≡ 10
+  pub once : (costs_of two_rests (note_sets (0 ∷ 1 ∷ 2 ∷ [])) (asked note_features note_facts) no_options).patterns ≡ 10
 
 -- a note of an instrument with two wave rows, three pulse rows, four filter rows and a vibrato
 abbrev pub rich_note : Song
@@ -76,13 +86,13 @@ abbrev pub rich_features : ℕ
 rich_features = note_features + 2 ^ bit_of FilterTable + 2 ^ bit_of InstrumentVibrato
 
 abbrev pub rich_costs : Costs
-rich_costs = costs_of rich_note rich_sets rich_features no_options
+rich_costs = costs_of rich_note rich_sets (asked rich_features note_facts) no_options
 
 -- the same where the vibrato's speed is calculated from the note
 abbrev pub calculated_costs : Costs
 calculated_costs =
-    costs_of (record rich_note { speed = sides 0x84 2 ∷ [] }) rich_sets (rich_features + 2 ^ bit_of NoteDependent)
-    no_options
+    costs_of (record rich_note { speed = sides 0x84 2 ∷ [] }) rich_sets
+    (asked (rich_features + 2 ^ bit_of NoteDependent) note_facts) no_options
 
 -- two bytes for each row, in the kind of its own table; and where speeds are calculated three more for the row of the
 -- speed table and for row 0, among those of the table and not in the player
@@ -100,14 +110,21 @@ pub record TablesAreCounted : Type 0 where
 abbrev pub part_cost : ℕ → ℕ → Cause → PartCost
 part_cost part bytes cause = record { part = part; bytes = bytes; cause = cause }
 
--- the song has transposes, portamentos, and commands in its wave table, and a filter program
+-- the song has transposes, portamentos, and commands in its wave table, and a filter program; and rows with a command
+-- that runs, instruments whose first waveform is 0, a keyoff and a keyon
 abbrev pub crossing_features : ℕ
 crossing_features =
     2 ^ bit_of Transpose + 2 ^ bit_of PortaUp + 2 ^ bit_of FilterTable + 2 ^ bit_of WaveTable + 2 ^ bit_of WaveCommand
 
+abbrev pub crossing_facts : Facts
+crossing_facts = record no_facts { row_slide = true; first_mask = true; gate_note = true }
+
+abbrev pub crossing_asked : ℕ
+crossing_asked = asked crossing_features crossing_facts
+
 -- of this song with such options
 abbrev pub IsToldOf : Options → PartCost → Type 0
-IsToldOf options = IsPartCost crossing crossing_features options
+IsToldOf options = IsPartCost crossing crossing_asked options
 
 -- a part is told with its first place, and so is one that several features have in common; a later one, one of an
 -- instrument that isn't used, one of another kind and another number of bytes are not
@@ -122,14 +139,30 @@ pub record PartsAreWorked : Type 0 where
   pub later_climb : ¬ IsToldOf no_options (part_cost CLIMB 10 (InSong (InPattern 2 0)))
   pub no_drop : (bytes : ℕ) (cause : Cause) → ¬ IsToldOf no_options (part_cost DROP bytes cause)
 
+-- and so is one of a fact, and one that facts and features have in common
+pub record FactPartsAreWorked : Type 0 where
+  pub slides : IsToldOf no_options (part_cost ROW_SLIDE 18 (InSong (InPattern 1 1)))
+  pub later_slide : ¬ IsToldOf no_options (part_cost ROW_SLIDE 18 (InSong (InPattern 1 2)))
+  pub masks : IsToldOf no_options (part_cost FIRST_MASK 6 (InSong (InInstrument 1)))
+  pub later_mask : ¬ IsToldOf no_options (part_cost FIRST_MASK 6 (InSong (InInstrument 3)))
+  pub gate_notes : IsToldOf no_options (part_cost GATE_NOTE 12 (InSong (InPattern 2 1)))
+  pub unused : ¬ IsToldOf no_options (part_cost GATE_NOTE 12 (InSong (InPattern 0 1)))
+  pub commands : IsToldOf no_options (part_cost ROW_COMMAND 2 (InSong (InPattern 1 1)))
+  pub special : IsToldOf no_options (part_cost SPECIAL_ROW 4 (InSong (InWaveTable 2)))
+  pub no_special : ¬ IsToldOf no_options (part_cost SPECIAL_ROW 4 (InSong (InWaveTable 3)))
+  pub no_legato : (bytes : ℕ) (cause : Cause) → ¬ IsToldOf no_options (part_cost LEGATO bytes cause)
+  pub no_held : (bytes : ℕ) (cause : Cause) → ¬ IsToldOf no_options (part_cost HELD_NOTE bytes cause)
+
 -- what is told of the song, in this order and no other
 pub record ListIsWorked : Type 0 where
-  pub all : AreKeptParts crossing crossing_features no_options
+  pub all : AreKeptParts crossing crossing_asked no_options
       (part_cost 0 16 (InSong (InOrder 2 2 1)) ∷ part_cost 2 4 (InSong (InPattern 1 1))
-      ∷ part_cost 15 76 (InSong (InInstrument 3)) ∷ part_cost 22 68 (InSong (InInstrument 1))
+      ∷ part_cost 15 76 (InSong (InInstrument 3)) ∷ part_cost 22 45 (InSong (InInstrument 1))
       ∷ part_cost 23 80 (InSong (InWaveTable 2)) ∷ part_cost CLIMB 10 (InSong (InPattern 1 1))
-      ∷ part_cost RISE 17 (InSong (InPattern 1 1)) ∷ [])
-  pub other_order : (rest : List PartCost) → ¬ AreKeptParts crossing crossing_features no_options
+      ∷ part_cost RISE 17 (InSong (InPattern 1 1)) ∷ part_cost ROW_SLIDE 18 (InSong (InPattern 1 1))
+      ∷ part_cost FIRST_MASK 6 (InSong (InInstrument 1)) ∷ part_cost GATE_NOTE 12 (InSong (InPattern 2 1))
+      ∷ part_cost ROW_COMMAND 2 (InSong (InPattern 1 1)) ∷ part_cost SPECIAL_ROW 4 (InSong (InWaveTable 2)) ∷ [])
+  pub other_order : (rest : List PartCost) → ¬ AreKeptParts crossing crossing_asked no_options
       (part_cost 15 76 (InSong (InInstrument 3)) ∷ rest)
 
 -- a part without bytes isn't told, as that of a vibrato, which has all its lines in common with others; nor is one that

@@ -2,7 +2,8 @@
 
 ghost use Rattle.song_costs.specs.CostLaws.{CostsAddUp, PartsAddUp, KeptPartsAddUp, KeptPartsAreOne};
 ghost use Rattle.song_costs.specs.Names.{NamesAreShort};
-ghost use Rattle.song_costs.specs.WorkedCosts.{NoteIsWorked, TablesAreCounted, PartsAreWorked, ListIsWorked, OptionsAreWorked};
+ghost use Rattle.song_costs.specs.WorkedCosts.{NoteIsWorked, TablesAreCounted, PartsAreWorked, FactPartsAreWorked};
+ghost use Rattle.song_costs.specs.WorkedCosts.{ListIsWorked, OptionsAreWorked};
 
 /// The kinds of data add up to the packed size and the slides, and with the player to the length of an image; and the
 /// parts that are kept to the player, as do those that are told.
@@ -24,11 +25,12 @@ pub fn part_names_are_short()
 
 /// The bytes of a song of one note, kind by kind, and of one whose four tables have different numbers of rows; and
 /// parts that are told, with others beside them that aren't.
-#[tactic(auto, using(crate::proofs::WorkedCosts::note_is_worked, crate::proofs::WorkedCosts::tables_are_counted, crate::proofs::WorkedCosts::parts_are_worked, crate::proofs::WorkedCosts::list_is_worked, crate::proofs::WorkedCosts::options_are_worked))]
+#[tactic(auto, using(crate::proofs::WorkedCosts::note_is_worked, crate::proofs::WorkedCosts::tables_are_counted, crate::proofs::WorkedCosts::parts_are_worked, crate::proofs::WorkedCosts::fact_parts_are_worked, crate::proofs::WorkedCosts::list_is_worked, crate::proofs::WorkedCosts::options_are_worked))]
 pub fn worked_costs()
     ensures note { NoteIsWorked }
     ensures tables { TablesAreCounted }
     ensures parts { PartsAreWorked }
+    ensures facts { FactPartsAreWorked }
     ensures list { ListIsWorked }
     ensures options { OptionsAreWorked }
 {}

@@ -5,12 +5,14 @@ ghost use Rattle.song_model.specs.declared.songs.Song.{Song as AnySong};
 ghost use Rattle.play_model.specs.declared.options.Options.{Options};
 ghost use Rattle.packed_form.specs.Sizes.{list_size};
 ghost use Rattle.packing_rules.specs.UsedSets.{UsedSets};
+ghost use Rattle.kept_lines.specs.Asked.{asked_by};
 ghost use Rattle.image_parts.specs.CodeParts.{code_parts};
 ghost use Rattle.image_parts.specs.Lengths.{bytes_of_image};
 ghost use Rattle.song_pack.specs.Packed.{IsPacked};
 ghost use Rattle.song_costs.specs.Kinds.{costs_of, all_bytes};
 
 use image_parts::{code_length, slide_bytes};
+use kept_lines::asked_by;
 use packed_form::{PackedPatternList, PackedSong};
 use song_model::Table;
 
@@ -77,8 +79,8 @@ pub fn costs_by_kind(packed: &PackedSong, code: &[u8]) -> Costs
     requires { length code.now ≤ 65535 }
     // Each number is the one that the packed form's definitions name.
     ensures exact { (song : AnySong) (used : UsedSets) (options : Options) → IsPacked song used packed.now →
-        code.now ≡ code_parts packed.now.features.0 options →
-        result ≡ costs_of song used packed.now.features.0 options }
+        code.now ≡ code_parts (asked_by packed.now) options →
+        result ≡ costs_of song used (asked_by packed.now) options }
     // They add up to the image's length.
     ensures length { all_bytes result ≡ bytes_of_image packed.now code.now }
 {
@@ -88,7 +90,7 @@ pub fn costs_by_kind(packed: &PackedSong, code: &[u8]) -> Costs
     let pulse = rows_bytes(&packed.pulse);
     let filter = rows_bytes(&packed.filter);
     let speed = rows_bytes(&packed.speed);
-    let slides = slide_bytes(packed.features, packed.speed.as_slice().len() as u32);
+    let slides = slide_bytes(asked_by(packed), packed.speed.as_slice().len() as u32);
     Costs {
         player: code_length(code),
         orders: packed.size() - patterns - instruments - wave - pulse - filter - speed,

@@ -2,6 +2,7 @@
 
 ghost use Rattle.std.specs.Prelude.{◌≡◌, ◌<◌, ◌↔◌, Some, IsSome, IfSome, true};
 ghost use Rattle.usage.specs.Parts.{AreUsedParts};
+ghost use Rattle.kept_lines.specs.Asked.{asked};
 ghost use Rattle.kept_lines.specs.KeptLines.{keeps};
 ghost use Rattle.image_parts.specs.CodeParts.{code_parts};
 ghost use Rattle.song_costs.specs.declared.kept.PartCost.{PartCost as AnyCost};
@@ -15,8 +16,9 @@ use song_places::{Place, part_place};
 use usage::UsedParts;
 
 /// How many parts there are beside the one that every image has: those of the features, behind them those of the
-/// options, and then what several features have in common.
-pub const PARTS: u8 = 34;
+/// options and what several features have in common, then those of the song's facts, and what several facts or features
+/// have in common.
+pub const PARTS: u8 = 45;
 
 /// The names of the parts, each at its number, as musicians say them.
 pub const PART_NAMES: [&str; PARTS as usize] = [
@@ -54,12 +56,23 @@ pub const PART_NAMES: [&str; PARTS as usize] = [
     "slide low byte up",
     "slide low byte down",
     "note reached",
+    "tone portamento in rows",
+    "running row commands",
+    "one-off row commands",
+    "gate mask as first wave",
+    "legato instruments",
+    "soft restart",
+    "wave table delay",
+    "keyoff/keyon",
+    "row commands",
+    "special wave rows",
+    "held gate or envelope",
 ];
 
 /// Why a part of the player is kept.
 #[derive(Clone, Copy, Debug, PartialEq, Eq)]
 pub enum Cause {
-    /// The first place of the song that needs a feature which keeps the part.
+    /// The first place of the song that needs the part: for a feature that keeps it, or a fact.
     InSong(Place),
     /// The option that leaves steps of a frame out.
     SkipOption,
@@ -70,7 +83,7 @@ pub enum Cause {
 /// What a part of the player costs.
 #[derive(Clone, Copy, Debug, PartialEq, Eq)]
 pub struct PartCost {
-    /// The part, 0 to 33.
+    /// The part, 0 to 44.
     pub part: u8,
     /// Its bytes, from 1 on.
     pub bytes: u32,
@@ -83,7 +96,8 @@ fn cause_of(song: &Song, parts: &UsedParts, options: &Options, part: u8) -> Opti
     requires parts { AreUsedParts song.now parts.now }
     requires part { part < PARTS }
     ensures cause { IfSome result (IsCause song.now part) }
-    ensures kept { IsSome result ↔ (keeps parts.now.features.0 options.now part ≡ true) }
+    ensures kept { IsSome result ↔
+        (keeps (asked parts.now.features.0 parts.now.facts) options.now part ≡ true) }
 {
     let (is_on, cause) = match part {
         SKIP_EFFECTS => (options.skip_effects, Cause::SkipOption),
@@ -106,11 +120,13 @@ pub fn part_cost(
     part: u8,
 ) -> Option<PartCost>
     requires parts { AreUsedParts song.now parts.now }
-    requires code { code.now ≡ code_parts parts.now.features.0 options.now }
+    requires code { code.now ≡ code_parts (asked parts.now.features.0 parts.now.facts) options.now }
     requires part { part < PARTS }
     ensures exact { (cost : AnyCost) → (result ≡ Some cost) ↔
-        ((cost.part ≡ part) × IsPartCost song.now parts.now.features.0 options.now cost) }
-    ensures told { IsSome result ↔ (is_told parts.now.features.0 options.now part ≡ true) }
+        ((cost.part ≡ part)
+        × IsPartCost song.now (asked parts.now.features.0 parts.now.facts) options.now cost) }
+    ensures told { IsSome result ↔
+        (is_told (asked parts.now.features.0 parts.now.facts) options.now part ≡ true) }
 {
     let bytes = part_length(code, part);
     if bytes == 0 {

@@ -3,7 +3,7 @@
 //!
 //! The layer's one contract: the numbers of `costs_by_kind` are those of the packed form's definitions and add up to
 //! the image's length, and `part_cost` tells a part exactly where it is kept and has bytes, with the first place of the
-//! song that needs a feature which keeps it.
+//! song that needs it, for a feature or a fact that keeps it.
 //!
 //! It stands on `packed_form`, `packing_rules` and `song_pack` for what is packed and how many bytes that has, on
 //! `kept_lines` for which parts of the player are kept, on `image_parts` for their bytes, and on `song_places` for the

@@ -13,26 +13,32 @@ use Rattle.song_model.specs.declared.features.Feature.TheVariants.{SetAd, SetSr,
 use Rattle.song_model.specs.declared.features.Feature.TheVariants.{SetPulsePointer, FilterTable, SetFilterPointer}
 use Rattle.song_model.specs.declared.features.Feature.TheVariants.{FilterControl, Cutoff, Volume, FunkTempo, SetTempo}
 use Rattle.song_model.specs.declared.features.Feature.TheVariants.{WaveTable, WaveCommand}
+use Rattle.song_model.specs.Feature.{bit_of}
 use Rattle.song_model.specs.LookUp.{order_of, pattern_at}
 use Rattle.song_model.specs.Silence.{rest_row}
 use Rattle.play_model.specs.Used.{IsUsedPattern}
 use Rattle.play_model.specs.WorkedSongs.{subtune, row}
-use Rattle.player_memory.specs.declared.conditions.TheConstants.{CLIMB, FOUND_NOTE}
+use Rattle.song_facts.specs.declared.facts.Fact.{Fact}
+use Rattle.song_facts.specs.declared.facts.Fact.TheVariants.{RowTone, RowSlide, RowOnce, FirstMask, Legato, SoftRestart}
+use Rattle.song_facts.specs.declared.facts.Fact.TheVariants.{WaveDelay, GateNote}
+use Rattle.player_memory.specs.declared.conditions.TheConstants.{SKIP_EFFECTS, CLIMB, FOUND_NOTE}
+use Rattle.player_memory.specs.FactLines.{fact_condition}
 use Rattle.song_places.specs.declared.places.Place.{Place}
 use Rattle.song_places.specs.declared.places.Place.TheVariants.{InOrder, InPattern, InInstrument, InWaveTable}
-use Rattle.song_places.specs.Needs.{need_of}
+use Rattle.song_places.specs.Needs.{need_of, need_of_fact}
 use Rattle.song_places.specs.Places.{NeedsAt, IsNotAfter}
 use Rattle.song_places.specs.PartPlaces.{keeps_part, NeedsFor, IsPartPlace}
 use Rattle.song_places.specs.WorkedPlaces.{crossing, sliding, CommonPlacesAreWorked}
 use Rattle.song_places.proofs.Ranks.{lower, begun}
-use Rattle.song_places.proofs.PartFeatures.{own_part}
+use Rattle.song_places.proofs.KeptParts.{own_part}
 use Rattle.song_places.proofs.WorkedPlaces.{used_pattern}
 
 -- ---- what features need
 
 -- no feature but two needs bytes of orderlists
-no_byte : (song : Song) (part : ℕ) (feature : Feature) → keeps_part Transpose part ≡ false →
-    keeps_part Repeat part ≡ false → keeps_part feature part ≡ true → (b : ℕ) → ¬ (need_of song feature).byte b
+no_byte : (song : Song) (part : ℕ) (feature : Feature) → keeps_part (bit_of Transpose) part ≡ false →
+    keeps_part (bit_of Repeat) part ≡ false → keeps_part (bit_of feature) part ≡ true →
+    (b : ℕ) → ¬ (need_of song feature).byte b
 no_byte song part Transpose transposed repeated kept b meant = true≢false (sym kept ∙ transposed)
 no_byte song part Repeat transposed repeated kept b meant = true≢false (sym kept ∙ repeated)
 no_byte song part PortaUp transposed repeated kept b meant = meant
@@ -86,8 +92,53 @@ no_rest song SetTempo meant = (let e = meant.0 in omega arith)
 no_rest song WaveTable meant = meant.1 refl
 no_rest song WaveCommand meant = meant
 
+-- no fact needs bytes of orderlists, nor a row that rests
+no_fact_byte : (fact : Fact) (b : ℕ) → ¬ (need_of_fact fact).byte b
+no_fact_byte RowTone b meant = meant
+no_fact_byte RowSlide b meant = meant
+no_fact_byte RowOnce b meant = meant
+no_fact_byte FirstMask b meant = meant
+no_fact_byte Legato b meant = meant
+no_fact_byte SoftRestart b meant = meant
+no_fact_byte WaveDelay b meant = meant
+no_fact_byte GateNote b meant = meant
+
+no_fact_rest : (fact : Fact) → ¬ (need_of_fact fact).row rest_row
+no_fact_rest RowTone meant = omega (arith, meant)
+no_fact_rest RowSlide meant = (let low = meant.0 in omega (arith, low))
+no_fact_rest RowOnce meant = omega (arith, meant)
+no_fact_rest FirstMask meant = meant
+no_fact_rest Legato meant = meant
+no_fact_rest SoftRestart meant = meant
+no_fact_rest WaveDelay meant = meant
+no_fact_rest GateNote (inl off) = omega (arith, off)
+no_fact_rest GateNote (inr on) = omega (arith, on)
+
+-- what stands in an orderlist, or in a pattern, where a part is needed
+byte_needed : (song : Song) (part s c i : ℕ) → keeps_part (bit_of Transpose) part ≡ false →
+    keeps_part (bit_of Repeat) part ≡ false → ¬ NeedsFor song part (InOrder s c i)
+byte_needed song part s c i transposed repeated (inl h) =
+    (let at = h.needs in no_byte song part h.feature transposed repeated h.is_kept at.byte at.is_meant)
+byte_needed song part s c i transposed repeated (inr h) =
+    (let at = h.needs in no_fact_byte h.fact at.byte at.is_meant)
+
+pattern_used : (song : Song) (part p i : ℕ) → NeedsFor song part (InPattern p i) → IsUsedPattern song p
+pattern_used song part p i (inl h) = (let at = h.needs in at.used)
+pattern_used song part p i (inr h) = (let at = h.needs in at.used)
+
+no_rest_needed : (song : Song) (part p i : ℕ) → slice_get (pattern_at song p) i ≡ Some rest_row →
+    ¬ NeedsFor song part (InPattern p i)
+no_rest_needed song part p i rests (inl h) =
+    (let at = h.needs in
+    no_rest song h.feature
+    (subst (need_of song h.feature).row (same_some at.row rest_row (sym at.there ∙ rests)) at.is_meant))
+no_rest_needed song part p i rests (inr h) =
+    (let at = h.needs in
+    no_fact_rest h.fact
+    (subst (need_of_fact h.fact).row (same_some at.row rest_row (sym at.there ∙ rests)) at.is_meant))
+
 -- what needs the part of notes that are reached is command 3
-is_reached : (song : Song) (feature : Feature) → keeps_part feature FOUND_NOTE ≡ true → (r : Row) →
+is_reached : (song : Song) (feature : Feature) → keeps_part (bit_of feature) FOUND_NOTE ≡ true → (r : Row) →
     (need_of song feature).row r → r.command ≡ 3
 is_reached song Transpose kept r meant = absurd meant
 is_reached song Repeat kept r meant = absurd meant
@@ -117,25 +168,24 @@ is_reached song WaveCommand kept r meant = absurd meant
 -- ---- behind a rest
 
 -- where the first used pattern begins with a rest, nothing that a part may need comes before its second row
-second_row : (song : Song) (part p : ℕ) → keeps_part Transpose part ≡ false → keeps_part Repeat part ≡ false →
+pub second_row : (song : Song) (part p : ℕ) → keeps_part (bit_of Transpose) part ≡ false →
+    keeps_part (bit_of Repeat) part ≡ false →
     ((q : ℕ) → IsUsedPattern song q → p ≤ q) → slice_get (pattern_at song p) 0 ≡ Some rest_row →
     (other : Place) → NeedsFor song part other → IsNotAfter (InPattern p 1) other
 second_row song part p transposed repeated first_used rests (InOrder s c i) h =
-    (let at = h.needs in absurd (no_byte song part h.feature transposed repeated h.is_kept at.byte at.is_meant))
+    absurd (byte_needed song part s c i transposed repeated h)
 second_row song part p transposed repeated first_used rests (InPattern q i) h =
-    (let at = h.needs in
     elim (cases_order p q) [
       | inl same ↦
           in_first i (subst (λ (n : ℕ). IsNotAfter (InPattern p 1) (InPattern n i)) same)
-          (λ zero_is. no_rest song h.feature (subst (need_of song h.feature).row
-          (same_some at.row rest_row
-          (sym at.there ∙ ap (λ (n : ℕ). slice_get (pattern_at song q) n) zero_is
-          ∙ ap (λ (n : ℕ). slice_get (pattern_at song n) 0) (sym same) ∙ rests)) at.is_meant))
+          (λ zero_is. no_rest_needed song part q i
+          (ap (λ (n : ℕ). slice_get (pattern_at song q) n) zero_is
+          ∙ ap (λ (n : ℕ). slice_get (pattern_at song n) 0) (sym same) ∙ rests) h)
       | inr differ ↦ elim differ [
         | inl before ↦ (lower (2 ∷ []) p q (1 ∷ []) (i ∷ []) before).is
-        | inr behind ↦ absurd (let high = first_used q at.used in omega (arith, high, behind))
+        | inr behind ↦ absurd (let high = first_used q (pattern_used song part q i h) in omega (arith, high, behind))
       ]
-    ])
+    ]
   where
     in_first : {X : Type 0} (i : ℕ) → (IsNotAfter (InPattern p 1) (InPattern p i) → X) → (i ≡ 0 → ⊥) → X
     in_first zero from other = absurd (other refl)
@@ -145,7 +195,7 @@ second_row song part p transposed repeated first_used rests (InInstrument n) h =
 second_row song part p transposed repeated first_used rests (InWaveTable n) h = refl
 
 -- of the song whose first used pattern is 1
-pub crossing_first : (part : ℕ) → keeps_part Transpose part ≡ false → keeps_part Repeat part ≡ false →
+pub crossing_first : (part : ℕ) → keeps_part (bit_of Transpose) part ≡ false → keeps_part (bit_of Repeat) part ≡ false →
     NeedsFor crossing part (InPattern 1 1) → IsPartPlace crossing part (InPattern 1 1)
 unfolding pattern_at
 crossing_first part transposed repeated needs =
@@ -159,7 +209,7 @@ crossing_first part transposed repeated needs =
 abbrev only_subtune : Subtune
 only_subtune = subtune (0 ∷ []) (1 ∷ []) (1 ∷ [])
 
-played_zero : (one two : ℕ) → IsUsedPattern (sliding one two) 0
+pub played_zero : (one two : ℕ) → IsUsedPattern (sliding one two) 0
 played_zero one two = record {
   byte = record {
     order = order_of 1 only_subtune;
@@ -175,7 +225,7 @@ played_zero one two = record {
   is_pattern = lit< tt;
 }
 
-played_next : (one two : ℕ) → IsUsedPattern (sliding one two) 1
+pub played_next : (one two : ℕ) → IsUsedPattern (sliding one two) 1
 played_next one two = record {
   byte = record {
     order = order_of 2 only_subtune;
@@ -219,7 +269,7 @@ tone_in_next = record {
 }
 
 -- the row in pattern 0 is no command 3, nor has it another row
-no_note_in_zero : (feature : Feature) (i : ℕ) → keeps_part feature FOUND_NOTE ≡ true →
+no_note_in_zero : (feature : Feature) (i : ℕ) → keeps_part (bit_of feature) FOUND_NOTE ≡ true →
     ¬ NeedsAt (sliding 1 3) feature (InPattern 0 i)
 unfolding pattern_at
 no_note_in_zero feature zero kept at =
@@ -234,11 +284,24 @@ no_note_in_zero feature (suc zero) kept at =
     not_both n a b = omega (arith, a, b)
 no_note_in_zero feature (suc (suc i)) kept at = absurd (let e = at.there in cc)
 
+-- no fact keeps the part
+no_fact_reaches : (fact : Fact) → keeps_part (fact_condition fact) FOUND_NOTE ≡ false
+no_fact_reaches RowTone = refl
+no_fact_reaches RowSlide = refl
+no_fact_reaches RowOnce = refl
+no_fact_reaches FirstMask = refl
+no_fact_reaches Legato = refl
+no_fact_reaches SoftRestart = refl
+no_fact_reaches WaveDelay = refl
+no_fact_reaches GateNote = refl
+
+none_in_zero : (i : ℕ) → ¬ NeedsFor (sliding 1 3) FOUND_NOTE (InPattern 0 i)
+none_in_zero i (inl h) = no_note_in_zero h.feature i h.is_kept h.needs
+none_in_zero i (inr h) = true≢false (sym h.is_kept ∙ no_fact_reaches h.fact)
+
 note_first : (other : Place) → NeedsFor (sliding 1 3) FOUND_NOTE other → IsNotAfter (InPattern 1 0) other
-note_first (InOrder s c i) h =
-    (let at = h.needs in
-    absurd (no_byte (sliding 1 3) FOUND_NOTE h.feature refl refl h.is_kept at.byte at.is_meant))
-note_first (InPattern zero i) h = absurd (no_note_in_zero h.feature i h.is_kept h.needs)
+note_first (InOrder s c i) h = absurd (byte_needed (sliding 1 3) FOUND_NOTE s c i refl refl h)
+note_first (InPattern zero i) h = absurd (none_in_zero i h)
 note_first (InPattern (suc zero) zero) h = refl
 note_first (InPattern (suc zero) (suc i)) h = (lower (2 ∷ 1 ∷ []) 0 (suc i) [] [] (omega arith)).is
 note_first (InPattern (suc (suc q)) i) h = (lower (2 ∷ []) 1 (suc (suc q)) (0 ∷ []) (i ∷ []) (omega arith)).is
@@ -264,25 +327,31 @@ climb one two needs = record {
 }
 
 tone_needs : NeedsFor (sliding 3 1) CLIMB (InPattern 0 1)
-tone_needs = record { feature = TonePorta; is_kept = refl; needs = tone_in_zero }
+tone_needs = inl (record { feature = TonePorta; is_kept = refl; needs = tone_in_zero })
 
 up_needs : NeedsFor (sliding 1 3) CLIMB (InPattern 0 1)
-up_needs = record { feature = PortaUp; is_kept = refl; needs = up_in_zero }
+up_needs = inl (record { feature = PortaUp; is_kept = refl; needs = up_in_zero })
+
+-- nothing keeps the part of an option
+no_option_kept : (condition : ℕ) → keeps_part condition SKIP_EFFECTS ≡ true → ⊥
+no_option_kept condition kept = true≢false (sym kept)
 
 pub common_places_are_worked : CommonPlacesAreWorked
 common_places_are_worked = record {
   tone_first = climb 3 1 tone_needs;
-  up_later = record { feature = PortaUp; is_kept = refl; needs = up_in_next };
+  up_later = inl (record { feature = PortaUp; is_kept = refl; needs = up_in_next });
   not_up = λ first. (let e = first.first (InPattern 0 1) tone_needs in cc);
   up_first = climb 1 3 up_needs;
-  tone_later = record { feature = TonePorta; is_kept = refl; needs = tone_in_next };
+  tone_later = inl (record { feature = TonePorta; is_kept = refl; needs = tone_in_next });
   not_tone = λ first. (let e = first.first (InPattern 0 1) up_needs in cc);
   note = record {
-    is_such = record { feature = TonePorta; is_kept = refl; needs = tone_in_next };
+    is_such = inl (record { feature = TonePorta; is_kept = refl; needs = tone_in_next });
     first = note_first;
   };
-  no_note = λ h. no_note_in_zero h.feature 1 h.is_kept h.needs;
-  not_own = λ h. no_up_in_zero
-      (subst (λ (f : Feature). NeedsAt (sliding 3 1) f (InPattern 0 1)) (own_part h.feature PortaUp h.is_kept) h.needs);
-  no_option = λ place h. true≢false (sym h.is_kept);
+  no_note = none_in_zero 1;
+  not_own = λ h. no_up_in_zero (own_part (sliding 3 1) PortaUp (InPattern 0 1) h);
+  no_option = λ place h. elim h [
+    | inl of_feature ↦ no_option_kept (bit_of of_feature.feature) of_feature.is_kept
+    | inr of_fact ↦ no_option_kept (fact_condition of_fact.fact) of_fact.is_kept
+  ];
 }

@@ -100,13 +100,13 @@ byte_from song from to (InWaveTable p) at = absurd at.is_meant
 
 -- ---- rows of patterns
 
-row_to : (song : Song) (IsMeant : Row → Type 0) (row : Row) (used : IsUsedRow song row) → IsMeant row →
+pub row_to : (song : Song) (IsMeant : Row → Type 0) (row : Row) (used : IsUsedRow song row) → IsMeant row →
     (i : ℕ) × HasRowAt song used.pattern i IsMeant
 row_to song IsMeant row used meant =
     let at = item_at (pattern_at song used.pattern) row used.has in
     (at.0, record { used = used.used; row = row; there = at.2; is_meant = meant })
 
-row_from : (song : Song) (IsMeant : Row → Type 0) (p i : ℕ) (at : HasRowAt song p i IsMeant) → IsUsedRow song at.row
+pub row_from : (song : Song) (IsMeant : Row → Type 0) (p i : ℕ) (at : HasRowAt song p i IsMeant) → IsUsedRow song at.row
 row_from song IsMeant p i at =
     record { pattern = p; used = at.used; has = item_of (pattern_at song p) i at.row at.there }
 

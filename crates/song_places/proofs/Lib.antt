@@ -8,13 +8,18 @@ mod OrderPlaces
 mod PatternPlaces
 mod MarkedPlaces
 mod SongPlaces
--- Features and places.
+-- Features, facts and places.
 mod FeaturePlaces
+mod FactPlaces
 mod OnePlace
 -- Parts and their places.
 mod PlaceOrder
 mod PartFeatures
-mod FeatureSteps
+mod PartFacts
+mod KeptParts
+mod PartSteps
 -- Worked by hand.
 mod WorkedPlaces
 mod CommonPlaces
+mod WorkedFactPlaces
+mod SharedPlaces

@@ -1,19 +1,16 @@
 -- At most one place is the first; and what the search answers.
 use Rattle.std.proofs.Common.{◌≡◌, ◌↔◌, [], Option, Some, None, refl, sym, ◌∙◌, ap, subst}
 use Rattle.std.specs.Option.{IfSome, IfNone, IsSome}
-use Rattle.song_model.specs.declared.features.Feature.{Feature}
 use Rattle.song_model.specs.declared.songs.Song.{Song}
-use Rattle.play_model.specs.Features.{HasFeature}
 use Rattle.song_places.specs.declared.places.Place.{Place}
 use Rattle.song_places.specs.declared.places.Place.TheVariants.{InOrder, InPattern, InInstrument, InWaveTable}
 use Rattle.song_places.specs.Needs.{Need}
-use Rattle.song_places.specs.Places.{rank_of, IsNeededAt, NeedsAt, IsFirst, IsFirstPlace}
+use Rattle.song_places.specs.Places.{rank_of, IsNeededAt, NeedsAt, IsFirst}
 use Rattle.song_places.specs.PlaceLaws.{FirstPlacesAreOne}
 use Rattle.song_places.specs.Search.{IsUnder, IsFirstUnder, IsNowhereUnder}
 use Rattle.song_places.proofs.Ranks.{same_ranks}
 use Rattle.song_places.proofs.Search.{nothing_more}
 use Rattle.song_places.proofs.Leaves.{order_place, pattern_place, instrument_place, wave_place}
-use Rattle.song_places.proofs.FeaturePlaces.{has_place, has_feature}
 
 -- a place has its own numbers
 under_own : (one other : Place) → rank_of other ≡ rank_of one → IsUnder (rank_of one) other
@@ -34,51 +31,60 @@ first_places_are_one song feature = one_first (NeedsAt song feature)
 
 -- ---- what the search answers
 
--- what is wanted is what the feature needs
-abbrev pub IsMeantFor : Song → Feature → Need → Type 0
-IsMeantFor song feature need = (place : Place) → IsNeededAt song need place ↔ NeedsAt song feature place
+-- what is wanted is what is such
+abbrev pub IsMeantFor : Song → (Place → Type 0) → Need → Type 0
+IsMeantFor song IsSuch need = (place : Place) → IsNeededAt song need place ↔ IsSuch place
 
-pub first_as : (song : Song) (feature : Feature) (need : Need) (place : Place) → IsMeantFor song feature need →
-    IsFirstUnder song need [] place → IsFirstPlace song feature place
-first_as song feature need place same first = record {
+pub first_as : (song : Song) (IsSuch : Place → Type 0) (need : Need) (place : Place) → IsMeantFor song IsSuch need →
+    IsFirstUnder song need [] place → IsFirst IsSuch place
+first_as song IsSuch need place same first = record {
   is_such = (same place).0 first.is_such.needed;
-  first = λ other needs. first.first other (record {
-    needed = (same other).1 needs;
+  first = λ other such. first.first other (record {
+    needed = (same other).1 such;
     under = record { rest = rank_of other; is = refl };
   });
 }
 
-nowhere_as : (song : Song) (feature : Feature) (need : Need) → IsMeantFor song feature need →
-    IsNowhereUnder song need [] → (place : Place) → ¬ NeedsAt song feature place
-nowhere_as song feature need same none place needs = none place (record {
-  needed = (same place).1 needs;
+nowhere_as : (song : Song) (IsSuch : Place → Type 0) (need : Need) → IsMeantFor song IsSuch need →
+    IsNowhereUnder song need [] → (place : Place) → ¬ IsSuch place
+nowhere_as song IsSuch need same none place such = none place (record {
+  needed = (same place).1 such;
   under = record { rest = rank_of place; is = refl };
 })
 
 same_place : (a b : Place) → Some a ≡ Some b → a ≡ b
 same_place a b e = cc
 
-pub found_exactly : (song : Song) (feature : Feature) (need : Need) → IsMeantFor song feature need →
+pub found_exactly : (song : Song) (IsSuch : Place → Type 0) (need : Need) → IsMeantFor song IsSuch need →
     (found : Option Place) → IfSome found (IsFirstUnder song need []) → IfNone found (IsNowhereUnder song need []) →
-    (place : Place) → (found ≡ Some place) ↔ IsFirstPlace song feature place
-found_exactly song feature need same (Some x) first none place = (
-  λ e. subst (IsFirstPlace song feature) (same_place x place e) (first_as song feature need x same first),
+    (place : Place) → (found ≡ Some place) ↔ IsFirst IsSuch place
+found_exactly song IsSuch need same (Some x) first none place = (
+  λ e. subst (IsFirst IsSuch) (same_place x place e) (first_as song IsSuch need x same first),
   λ other. ap (λ (p : Place). Some p)
-      (first_places_are_one song feature x place (first_as song feature need x same first) other),
+      (one_first IsSuch x place (first_as song IsSuch need x same first) other),
 )
-found_exactly song feature need same None first none place = (
+found_exactly song IsSuch need same None first none place = (
   λ e. absurd (cc),
-  λ other. absurd (nowhere_as song feature need same none place other.is_such),
+  λ other. absurd (nowhere_as song IsSuch need same none place other.is_such),
 )
 
-pub found_if_used : (song : Song) (feature : Feature) (need : Need) → IsMeantFor song feature need →
-    (found : Option Place) → HasFeature song feature → IfNone found (IsNowhereUnder song need []) →
-    IsSome found ↔ HasFeature song feature
-found_if_used song feature need same (Some x) has none = (λ h. has, λ h. refl)
-found_if_used song feature need same None has none =
-    let at = has_place song feature has in absurd (nowhere_as song feature need same none at.place at.needs)
+pub found_if_had : (song : Song) (IsSuch : Place → Type 0) (need : Need) {Has : Type 0} →
+    IsMeantFor song IsSuch need → (found : Option Place) → Has → (place : Place) → IsSuch place →
+    IfNone found (IsNowhereUnder song need []) → IsSome found ↔ Has
+found_if_had song IsSuch need same (Some x) has place such none = (λ h. has, λ h. refl)
+found_if_had song IsSuch need same None has place such none = absurd (nowhere_as song IsSuch need same none place such)
 
-pub none_exactly : (song : Song) (feature : Feature) → ¬ HasFeature song feature →
-    (place : Place) → (None ≡ Some place) ↔ IsFirstPlace song feature place
-none_exactly song feature unused place =
-    (λ e. absurd (cc), λ first. absurd (unused (has_feature song feature place first.is_such)))
+pub none_exactly : (IsSuch : Place → Type 0) → ((place : Place) → ¬ IsSuch place) →
+    (place : Place) → (None ≡ Some place) ↔ IsFirst IsSuch place
+none_exactly IsSuch none place = (λ e. absurd (cc), λ first. absurd (none place first.is_such))
+
+-- what such an answer says: the first place where there is one, and none otherwise
+pub own_first : (IsSuch : Place → Type 0) (own : Option Place) →
+    ((place : Place) → (own ≡ Some place) ↔ IsFirst IsSuch place) → IfSome own (IsFirst IsSuch)
+own_first IsSuch (Some x) exact = (exact x).0 refl
+own_first IsSuch None exact = tt
+
+pub own_none : (IsSuch : Place → Type 0) (own : Option Place) {Has : Type 0} → (IsSome own ↔ Has) →
+    ((place : Place) → IsSuch place → Has) → IfNone own ((place : Place) → ¬ IsSuch place)
+own_none IsSuch (Some x) had has = tt
+own_none IsSuch None had has = λ place such. absurd (let some = had.1 (has place such) in cc)

@@ -144,3 +144,17 @@ first_of_both None None p no_p q no_q first h = absurd (neither h.is_such)
     neither : IsOneOf None None first → ⊥
     neither (inl e) = absurd (cc)
     neither (inr e) = absurd (cc)
+
+-- and so where there is one at all
+pub first_if_some : (P Q : Place → Type 0) (one other found : Option Place) → IfSome one (IsFirst P) →
+    IfNone one ((place : Place) → ¬ P place) → IfSome other (IsFirst Q) →
+    IfNone other ((place : Place) → ¬ Q place) → IfSome found (IsFirst (IsOneOf one other)) →
+    IfSome found (IsFirst (λ place. P place ⊎ Q place))
+first_if_some P Q one other (Some x) p no_p q no_q first = first_of_both one other p no_p q no_q x first
+first_if_some P Q one other None p no_p q no_q first = tt
+
+pub none_if_none : (P Q : Place → Type 0) (one other found : Option Place) →
+    IfNone one ((place : Place) → ¬ P place) → IfNone other ((place : Place) → ¬ Q place) →
+    IfNone found ((one ≡ None) × (other ≡ None)) → IfNone found ((place : Place) → ¬ (P place ⊎ Q place))
+none_if_none P Q one other (Some x) p q none = tt
+none_if_none P Q one other None p q none = none_of_both P Q one other p q none

@@ -89,7 +89,7 @@ used_pattern p used = (let w = used_byte p used.byte in let small = used.is_patt
 ])
 
 -- the rows of its used patterns
-data Fields (r : Row) : Type 0 where
+pub data Fields (r : Row) : Type 0 where
   fields : (r.command ≡ 0) ⊎ (r.command ≡ 1) → (r.instrument ≡ 0) ⊎ (r.instrument ≡ 3) → Fields r
 
 row_in_one : (i : ℕ) (r : Row) → slice_get (pattern_at crossing 1) i ≡ Some r → Fields r
@@ -102,7 +102,9 @@ row_in_one (suc (suc (suc k))) r e = absurd (cc)
 row_in_two : (i : ℕ) (r : Row) → slice_get (pattern_at crossing 2) i ≡ Some r → Fields r
 unfolding pattern_at
 row_in_two zero r e = (let same = same_some _ r e in subst Fields same (fields (inr refl) (inr refl)))
-row_in_two (suc k) r e = absurd (cc)
+row_in_two (suc zero) r e = (let same = same_some _ r e in subst Fields same (fields (inl refl) (inl refl)))
+row_in_two (suc (suc zero)) r e = (let same = same_some _ r e in subst Fields same (fields (inl refl) (inl refl)))
+row_in_two (suc (suc (suc k))) r e = absurd (cc)
 
 used_row : (p i : ℕ) (r : Row) → IsUsedPattern crossing p → slice_get (pattern_at crossing p) i ≡ Some r → Fields r
 used_row p i r used there = (let w = used_pattern p used in elim w [
@@ -132,7 +134,7 @@ is_second (suc zero) c order has =
 is_second (suc (suc zero)) c order has = refl
 is_second (suc (suc (suc k))) c order has = absurd (let high = has.stored.last in omega arith)
 
-played_two : IsUsedPattern crossing 2
+pub played_two : IsUsedPattern crossing 2
 unfolding second
 played_two = record {
   byte = record {
@@ -166,7 +168,7 @@ played_one = record {
   is_pattern = lit< tt;
 }
 
-used_three : IsUsedInstrument crossing 3
+pub used_three : IsUsedInstrument crossing 3
 unfolding pattern_at
 used_three = inr (record {
   row = row 0x90 3 1 0;
@@ -177,14 +179,14 @@ used_three = inr (record {
 
 -- ---- where nothing is needed
 
-no_bytes : (song : Song) (need : Need) → ((b : ℕ) → ¬ need.byte b) → IsNowhereUnder song need (1 ∷ [])
+pub no_bytes : (song : Song) (need : Need) → ((b : ℕ) → ¬ need.byte b) → IsNowhereUnder song need (1 ∷ [])
 no_bytes song need none =
     none_on song need (1 ∷ []) (inner_kind 1) (λ s. none_on song need (1 ∷ s ∷ []) (inner_subtune s)
     (λ c. none_on song need (1 ∷ s ∷ c ∷ []) (inner_order s c) (λ i place such.
     (let at : HasByteAt song s c i need.byte =
     subst (IsNeededAt song need) (order_place s c i place such.under) such.needed in none at.byte at.is_meant))))
 
-no_rows : (need : Need) → ((r : Row) → Fields r → ¬ need.row r) → IsNowhereUnder crossing need (2 ∷ [])
+pub no_rows : (need : Need) → ((r : Row) → Fields r → ¬ need.row r) → IsNowhereUnder crossing need (2 ∷ [])
 no_rows need none = none_on crossing need (2 ∷ []) (inner_kind 2) (λ p. no_pattern crossing need p (λ i at.
     none at.row (used_row p i at.row at.used at.there) at.is_meant))
 
@@ -238,7 +240,7 @@ transposed = record {
 pub transposes_are_worked : TransposesAreWorked
 unfolding second transposes
 transposes_are_worked = record {
-  first = first_as crossing Transpose transposes (InOrder 2 2 1) (λ place. (λ h. h, λ h. h))
+  first = first_as crossing (NeedsAt crossing Transpose) transposes (InOrder 2 2 1) (λ place. (λ h. h, λ h. h))
       (first_in_orders crossing transposes (InOrder 2 2 1)
       (first_on crossing transposes (1 ∷ []) 2 (InOrder 2 2 1) (inner_kind 1)
       (λ k few. no_subtune crossing transposes k (λ c order has. (let e = is_second k c order has in omega arith)))
@@ -286,14 +288,14 @@ pub risen : NeedsAt crossing PortaUp (InPattern 1 1)
 unfolding pattern_at
 risen = record { used = played_one; row = row 0xBD 0 1 0; there = refl; is_meant = (refl, tt) }
 
-reached_two : IsReached crossing Wave 2
+pub reached_two : IsReached crossing Wave 2
 unfolding instrument_at
 reached_two = led 1 (played (of_instrument 1 (inl refl) refl (λ e. absurd (omega arith)))) refl
 
 pub portamentos_are_worked : PortamentosAreWorked
 unfolding portamentos table_row
 portamentos_are_worked = record {
-  first = first_as crossing PortaUp portamentos (InPattern 1 1) (λ place. (λ h. h, λ h. h))
+  first = first_as crossing (NeedsAt crossing PortaUp) portamentos (InPattern 1 1) (λ place. (λ h. h, λ h. h))
       (first_in_patterns crossing portamentos (InPattern 1 1) (no_bytes crossing portamentos (λ b h. h))
       (first_on crossing portamentos (2 ∷ []) 1 (InPattern 1 1) (inner_kind 2) before_pattern
       (first_on crossing portamentos (2 ∷ 1 ∷ []) 1 (InPattern 1 1) (inner_pattern 1) before_row
@@ -317,7 +319,7 @@ no_filter_row r (fields commands instruments) meant = (let table = meant.0 in el
   | inr e ↦ (let no = rw e at table in cc)
 ])
 
-not_two : ¬ IsUsedInstrument crossing 2
+pub not_two : ¬ IsUsedInstrument crossing 2
 not_two (inl e) = omega arith
 not_two (inr h) =
     let there = h.used.has in
@@ -377,19 +379,19 @@ commanded = record { reached = reached_two; is_meant = (lit≤ tt, lit≤ tt) }
 pub tables_are_worked : TablesAreWorked
 unfolding filters waves commands table_row
 tables_are_worked = record {
-  first = first_as crossing FilterTable filters (InInstrument 3) (λ place. (λ h. h, λ h. h))
+  first = first_as crossing (NeedsAt crossing FilterTable) filters (InInstrument 3) (λ place. (λ h. h, λ h. h))
       (first_in_instruments crossing filters (InInstrument 3) (no_bytes crossing filters (λ b h. h))
       (no_rows filters no_filter_row)
       (first_on crossing filters (3 ∷ []) 3 (InInstrument 3) (inner_kind 3) before_instrument
       (alone crossing filters (InInstrument 3) filtered)));
   unused = λ at. not_two at.used;
   no_row = λ at. no_filter_row at.row (used_row 1 1 at.row at.used at.there) at.is_meant;
-  wave = first_as crossing WaveTable waves (InInstrument 1) (λ place. (λ h. h, λ h. h))
+  wave = first_as crossing (NeedsAt crossing WaveTable) waves (InInstrument 1) (λ place. (λ h. h, λ h. h))
       (first_in_instruments crossing waves (InInstrument 1) (no_bytes crossing waves (λ b h. h))
       (no_rows waves no_wave_row)
       (first_on crossing waves (3 ∷ []) 1 (InInstrument 1) (inner_kind 3) before_first
       (alone crossing waves (InInstrument 1) waved)));
-  command = first_as crossing WaveCommand commands (InWaveTable 2) (λ place. (λ h. h, λ h. h))
+  command = first_as crossing (NeedsAt crossing WaveCommand) commands (InWaveTable 2) (λ place. (λ h. h, λ h. h))
       (first_in_waves crossing commands (InWaveTable 2) (no_bytes crossing commands (λ b h. h))
       (no_rows commands (λ r f h. h)) (no_instruments commands (λ n h. h))
       (first_on crossing commands (4 ∷ []) 2 (InWaveTable 2) (inner_kind 4) before_wave_row
@@ -453,7 +455,7 @@ trembled = record {
 pub vibratos_are_worked : VibratosAreWorked
 unfolding trembling vibratos instrument_at
 vibratos_are_worked = record {
-  first = first_as trembling InstrumentVibrato vibratos (InInstrument 2) (λ place. (λ h. h, λ h. h))
+  first = first_as trembling (NeedsAt trembling InstrumentVibrato) vibratos (InInstrument 2) (λ place. (λ h. h, λ h. h))
       (first_in_instruments trembling vibratos (InInstrument 2) (no_bytes trembling vibratos (λ b h. h))
       (none_on trembling vibratos (2 ∷ []) (inner_kind 2) (λ p. no_pattern trembling vibratos p (λ i at. at.is_meant)))
       (first_on trembling vibratos (3 ∷ []) 2 (InInstrument 2) (inner_kind 3) before_vibrato

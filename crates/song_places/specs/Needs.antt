@@ -1,4 +1,5 @@
--- What of a song needs a feature: which bytes of orderlists, rows of patterns, instruments and rows of the wave table.
+-- What of a song needs a feature or gives it a fact: which bytes of orderlists, rows of patterns, instruments and rows
+-- of the wave table.
 -- This is this project's profile of the GoatTracker 2 readme's commands and tables.
 use Rattle.std.specs.Prelude.{◌≡◌, ◌≢◌, ℕ, ◌+◌, ◌%◌, ◌≤◌, ◌⊎◌, Option, Some}
 use Rattle.song_model.specs.declared.rows.Row.{Row}
@@ -17,6 +18,10 @@ use Rattle.song_model.specs.declared.songs.Song.{Song}
 use Rattle.song_model.specs.LookUp.{speed_row, instrument_at}
 use Rattle.song_model.specs.Pointers.{instrument_pointer, command_table, wave_row_table}
 use Rattle.play_model.specs.Features.{IsAny, HasInstrument}
+use Rattle.song_facts.specs.declared.facts.Fact.{Fact}
+use Rattle.song_facts.specs.declared.facts.Fact.TheVariants.{RowTone, RowSlide, RowOnce, FirstMask, Legato, SoftRestart}
+use Rattle.song_facts.specs.declared.facts.Fact.TheVariants.{WaveDelay, GateNote}
+use Rattle.song_facts.specs.Facts.{IsTone, IsSlide, IsOnce, IsGateNote, IsMask, IsLegato, IsSoft, IsDelay}
 
 pub record Need : Type 1 where
   pub byte : ℕ → Type 0
@@ -91,3 +96,14 @@ need_of song FunkTempo = of_rows (λ c d. (c ≡ 0xE) ⊎ ((c ≡ 0xF) × (d ≤
 need_of song SetTempo = of_rows (λ c d. (c ≡ 0xF) × (3 ≤ d % 128))
 need_of song WaveTable = of_pointers Wave IsAny
 need_of song WaveCommand = of_left_sides 0xF0 0xFE
+
+-- what gives a song the fact
+abbrev pub need_of_fact : Fact → Need
+need_of_fact RowTone = record nothing { row = IsTone }
+need_of_fact RowSlide = record nothing { row = IsSlide }
+need_of_fact RowOnce = record nothing { row = IsOnce }
+need_of_fact FirstMask = record nothing { instrument = IsMask }
+need_of_fact Legato = record nothing { instrument = IsLegato }
+need_of_fact SoftRestart = record nothing { instrument = IsSoft }
+need_of_fact WaveDelay = record nothing { wave_row = IsDelay }
+need_of_fact GateNote = record nothing { row = IsGateNote }

@@ -1,5 +1,5 @@
--- The places of a song that need a feature, in their order, and the first of them. Places are counted as messages about
--- songs count them. This is this project's own rule.
+-- The places of a song that need a feature or give it a fact, in their order, and the first of them. Places are counted
+-- as messages about songs count them. This is this project's own rule.
 use Rattle.std.specs.Prelude.{◌≡◌, ℕ, true, List, [], ◌∷◌, Some, slice_get}
 use Rattle.std.specs.Ordering.{nat_cmp, is_le}
 use Rattle.std.specs.Cmp.Lexicographic.{slice_cmp}
@@ -14,9 +14,10 @@ use Rattle.song_model.specs.LookUp.{pattern_at, instrument_at, table_row}
 use Rattle.play_model.specs.Used.{IsUsedPattern, IsUsedInstrument}
 use Rattle.play_model.specs.Reached.{IsReached}
 use Rattle.play_model.specs.Playable.{HasOrder}
+use Rattle.song_facts.specs.declared.facts.Fact.{Fact}
 use Rattle.song_places.specs.declared.places.Place.{Place}
 use Rattle.song_places.specs.declared.places.Place.TheVariants.{InOrder, InPattern, InInstrument, InWaveTable}
-use Rattle.song_places.specs.Needs.{Need, need_of}
+use Rattle.song_places.specs.Needs.{Need, need_of, need_of_fact}
 
 -- ---- what stands at a place
 
@@ -56,6 +57,10 @@ IsNeededAt song need (InWaveTable p) = HasWaveRowAt song p need.wave_row
 abbrev pub NeedsAt : Song → Feature → Place → Type 0
 NeedsAt song feature = IsNeededAt song (need_of song feature)
 
+-- what stands at the place gives the song the fact
+abbrev pub NeedsFactAt : Song → Fact → Place → Type 0
+NeedsFactAt song fact = IsNeededAt song (need_of_fact fact)
+
 -- ---- the order
 
 -- places come in the order of the first of these numbers in which two differ: the kind of the place, then its own
@@ -77,3 +82,7 @@ pub record IsFirst (IsSuch : Place → Type 0) (place : Place) : Type 0 where
 -- the first place that needs the feature
 abbrev pub IsFirstPlace : Song → Feature → Place → Type 0
 IsFirstPlace song feature = IsFirst (NeedsAt song feature)
+
+-- the first place that gives the song the fact
+abbrev pub IsFirstFactPlace : Song → Fact → Place → Type 0
+IsFirstFactPlace song fact = IsFirst (NeedsFactAt song fact)

@@ -1,4 +1,4 @@
--- How the first place is looked for, one stretch of the song after the other, and one feature after the other.
+-- How the first place is looked for, one stretch of the song after the other, and one feature or fact after another.
 use Rattle.std.specs.Prelude.{◌≡◌, ◌≢◌, ℕ, ◌%◌, ◌≤◌, ◌⊎◌, List, ◌++◌, Option, Some}
 use Rattle.song_model.specs.declared.tables.TableName.TheVariants.{Speed}
 use Rattle.song_model.specs.declared.songs.Song.{Song}
@@ -8,9 +8,10 @@ use Rattle.song_places.specs.declared.needs.Parameter.{Parameter}
 use Rattle.song_places.specs.declared.needs.Parameter.TheVariants.{Any, Zero, Other}
 use Rattle.song_places.specs.declared.needs.Wanted.{Wanted}
 use Rattle.song_places.specs.declared.needs.Wanted.TheVariants.{Bytes, Command, WavePointer, FunkTempo, Tempo, Pointers}
-use Rattle.song_places.specs.declared.needs.Wanted.TheVariants.{NoteSpeeds, Vibrato, WaveCommands}
+use Rattle.song_places.specs.declared.needs.Wanted.TheVariants.{NoteSpeeds, Vibrato, WaveCommands, OfFact}
 use Rattle.song_places.specs.declared.places.Place.{Place}
 use Rattle.song_places.specs.Needs.{Need, nothing, of_bytes, of_command, of_rows, of_pointers, of_left_sides}
+use Rattle.song_places.specs.Needs.{need_of_fact}
 use Rattle.song_places.specs.Places.{rank_of, IsNeededAt, IsFirst}
 
 -- the parameter is such a one
@@ -30,6 +31,7 @@ meant song (Pointers name) = of_pointers name IsAny
 meant song NoteSpeeds = of_pointers Speed (λ p. 0x80 ≤ (speed_row song p).left)
 meant song Vibrato = record nothing { instrument = λ i. i.vibrato ≢ 0 }
 meant song WaveCommands = of_left_sides 0xF0 0xFE
+meant song (OfFact fact) = need_of_fact fact
 
 -- the numbers of the place begin so
 pub record IsUnder (front : List ℕ) (place : Place) : Type 0 where

@@ -1,5 +1,5 @@
 -- First places of small songs, worked out by hand, each with places beside it that aren't the first; those of parts
--- that several features have in common; and the order of places.
+-- that several features or facts have in common; and the order of places.
 use Rattle.std.specs.Prelude.{ℕ, [], ◌∷◌}
 use Rattle.song_model.specs.declared.features.Feature.TheVariants.{Transpose, PortaUp, InstrumentVibrato, FilterTable}
 use Rattle.song_model.specs.declared.features.Feature.TheVariants.{WaveTable, WaveCommand}
@@ -7,20 +7,22 @@ use Rattle.song_model.specs.declared.songs.Song.{Song}
 use Rattle.song_model.specs.LookUp.{zero_instrument}
 use Rattle.song_model.specs.Silence.{empty_song, rest_row}
 use Rattle.play_model.specs.WorkedSongs.{subtune, row, sides, other_vibrato}
-use Rattle.player_memory.specs.declared.conditions.TheConstants.{PORTA_UP, SKIP_EFFECTS, CLIMB, FOUND_NOTE}
+use Rattle.song_facts.specs.declared.facts.Fact.TheVariants.{RowSlide, FirstMask, GateNote}
+use Rattle.player_memory.specs.declared.conditions.TheConstants.{PORTA_UP, SKIP_EFFECTS, CLIMB, FOUND_NOTE, ROW_SLIDE}
+use Rattle.player_memory.specs.declared.conditions.TheConstants.{ROW_COMMAND, SPECIAL_ROW}
 use Rattle.song_places.specs.declared.places.Place.{Place}
 use Rattle.song_places.specs.declared.places.Place.TheVariants.{InOrder, InPattern, InInstrument, InWaveTable}
-use Rattle.song_places.specs.Places.{NeedsAt, IsNotAfter, IsFirstPlace}
+use Rattle.song_places.specs.Places.{NeedsAt, NeedsFactAt, IsNotAfter, IsFirstPlace, IsFirstFactPlace}
 use Rattle.song_places.specs.PartPlaces.{NeedsFor, IsPartPlace}
 
 -- the first subtune has an empty orderlist, so it isn't played, nor are pattern 0 and instrument 2 used; in the second
--- one channels 2 and 3 have a transpose each, and pattern 2 names instrument 3
+-- one channels 2 and 3 have a transpose each, and pattern 2 names instrument 3 and has a keyoff and a keyon
 abbrev pub crossing : Song
 crossing = record empty_song {
   subtunes = subtune (0xE1 ∷ 0 ∷ []) [] (0 ∷ [])
       ∷ subtune (1 ∷ []) (1 ∷ 0xF0 ∷ 1 ∷ []) (0xE2 ∷ 2 ∷ []) ∷ [];
-  patterns = (row 0x90 2 1 0 ∷ []) ∷ (rest_row ∷ row 0xBD 0 1 0 ∷ row 0xBD 0 1 0 ∷ [])
-      ∷ (row 0x90 3 1 0 ∷ []) ∷ [];
+  patterns = (row 0x90 2 1 0 ∷ row 0xBE 0 0 0 ∷ []) ∷ (rest_row ∷ row 0xBD 0 1 0 ∷ row 0xBD 0 1 0 ∷ [])
+      ∷ (row 0x90 3 1 0 ∷ row 0xBE 0 0 0 ∷ row 0xBF 0 0 0 ∷ []) ∷ [];
   instruments = (record zero_instrument { wave = 1 }) ∷ (record zero_instrument { filter = 1 })
       ∷ (record zero_instrument { filter = 1 }) ∷ [];
   wave = sides 0x41 0 ∷ sides 0xF1 0 ∷ sides 0xFF 0 ∷ [];
@@ -59,6 +61,27 @@ pub record VibratosAreWorked : Type 0 where
   pub first : IsFirstPlace (other_vibrato 5) InstrumentVibrato (InInstrument 2)
   pub delay : ¬ NeedsAt (other_vibrato 5) InstrumentVibrato (InInstrument 1)
 
+-- ---- facts
+
+-- the keyoff in a pattern that isn't used is none, nor is a note, and a keyon in the next row is later
+pub record GateNotesAreWorked : Type 0 where
+  pub first : IsFirstFactPlace crossing GateNote (InPattern 2 1)
+  pub unused : ¬ NeedsFactAt crossing GateNote (InPattern 0 1)
+  pub note : ¬ NeedsFactAt crossing GateNote (InPattern 2 0)
+  pub later : NeedsFactAt crossing GateNote (InPattern 2 2)
+  pub not_first : ¬ IsFirstFactPlace crossing GateNote (InPattern 2 2)
+
+-- a command of the wave table is no row's; instrument 1 is used by each song, and its first waveform is 0, as is that
+-- of an instrument that isn't used, and of a later one
+pub record FactsAreWorked : Type 0 where
+  pub slide : IsFirstFactPlace crossing RowSlide (InPattern 1 1)
+  pub next_row : ¬ IsFirstFactPlace crossing RowSlide (InPattern 1 2)
+  pub in_wave_table : ¬ NeedsFactAt crossing RowSlide (InWaveTable 2)
+  pub mask : IsFirstFactPlace crossing FirstMask (InInstrument 1)
+  pub unused : ¬ NeedsFactAt crossing FirstMask (InInstrument 2)
+  pub later : NeedsFactAt crossing FirstMask (InInstrument 3)
+  pub not_first : ¬ IsFirstFactPlace crossing FirstMask (InInstrument 3)
+
 -- ---- what features have in common
 
 -- pattern 0 has a command in its second row, and pattern 1 another in its first, each with row 1 of the speed table
@@ -83,6 +106,39 @@ pub record CommonPlacesAreWorked : Type 0 where
   pub no_note : ¬ NeedsFor (sliding 1 3) FOUND_NOTE (InPattern 0 1)
   pub not_own : ¬ NeedsFor (sliding 3 1) PORTA_UP (InPattern 0 1)
   pub no_option : (place : Place) → ¬ NeedsFor (sliding 1 3) SKIP_EFFECTS place
+
+-- ---- what facts have in common
+
+-- instrument 1, which each song uses, has a wave program with these two left sides
+abbrev pub waving : ℕ → ℕ → Song
+waving one two = record empty_song {
+  instruments = record zero_instrument { wave = 1 } ∷ [];
+  wave = sides one 0 ∷ sides two 0 ∷ sides 0xFF 0 ∷ [];
+}
+
+-- A row has a command, one that is done once or one that runs, so the first place of either is that of the part,
+-- whichever stands first; what those that run have alone the other doesn't need.
+pub record RowPlacesAreWorked : Type 0 where
+  pub once_first : IsPartPlace (sliding 5 1) ROW_COMMAND (InPattern 0 1)
+  pub slide_later : NeedsFor (sliding 5 1) ROW_COMMAND (InPattern 1 0)
+  pub not_slide : ¬ IsPartPlace (sliding 5 1) ROW_COMMAND (InPattern 1 0)
+  pub slide_first : IsPartPlace (sliding 1 5) ROW_COMMAND (InPattern 0 1)
+  pub once_later : NeedsFor (sliding 1 5) ROW_COMMAND (InPattern 1 0)
+  pub not_once : ¬ IsPartPlace (sliding 1 5) ROW_COMMAND (InPattern 1 0)
+  pub not_own : ¬ NeedsFor (sliding 5 1) ROW_SLIDE (InPattern 0 1)
+
+-- And a row of the wave table is special for a delay, which is a fact, or a command, which is a feature; a waveform and
+-- a jump aren't.
+pub record WavePlacesAreWorked : Type 0 where
+  pub delay_first : IsPartPlace (waving 0x0F 0xF1) SPECIAL_ROW (InWaveTable 1)
+  pub command_later : NeedsFor (waving 0x0F 0xF1) SPECIAL_ROW (InWaveTable 2)
+  pub not_command : ¬ IsPartPlace (waving 0x0F 0xF1) SPECIAL_ROW (InWaveTable 2)
+  pub command_first : IsPartPlace (waving 0xF1 0x0F) SPECIAL_ROW (InWaveTable 1)
+  pub delay_later : NeedsFor (waving 0xF1 0x0F) SPECIAL_ROW (InWaveTable 2)
+  pub not_delay : ¬ IsPartPlace (waving 0xF1 0x0F) SPECIAL_ROW (InWaveTable 2)
+  pub waveform : ¬ NeedsFor crossing SPECIAL_ROW (InWaveTable 1)
+  pub behind : IsPartPlace crossing SPECIAL_ROW (InWaveTable 2)
+  pub jump : ¬ NeedsFor crossing SPECIAL_ROW (InWaveTable 3)
 
 -- ---- the order
 

@@ -1,11 +1,12 @@
-//! The first place that needs a feature.
+//! The first place that needs a feature or gives a fact.
 
 ghost use Rattle.std.specs.Prelude.{◌≡◌, ◌↔◌, IfSome, IfNone, IsSome, IsTrue, [], Some};
 ghost use Rattle.song_model.specs.Feature.{bit_of};
 ghost use Rattle.play_model.specs.Features.{HasFeature, AreFeatures};
+ghost use Rattle.song_facts.specs.Facts.{HasFact};
 ghost use Rattle.usage.specs.Parts.{AreUsedParts};
 ghost use Rattle.song_places.specs.declared.places.Place.{Place as AnyPlace};
-ghost use Rattle.song_places.specs.Places.{IsFirstPlace};
+ghost use Rattle.song_places.specs.Places.{IsFirstPlace, IsFirstFactPlace};
 ghost use Rattle.song_places.specs.Search.{meant, IsFirstUnder, IsNowhereUnder};
 
 use crate::instruments::first_instrument;
@@ -14,6 +15,7 @@ use crate::orders::first_in_orders;
 use crate::patterns::first_in_patterns;
 use crate::places::Place;
 use crate::wave_rows::first_wave_row;
+use song_facts::Fact;
 use song_model::{Feature, Song};
 use usage::UsedParts;
 
@@ -57,4 +59,36 @@ pub fn first_place(song: &Song, parts: &UsedParts, feature: Feature) -> Option<P
         return None;
     }
     first_wanted(song, parts, Wanted::of(feature))
+}
+
+/// Whether a song has a fact.
+fn is_had(song: &Song, parts: &UsedParts, fact: Fact) -> bool
+    requires { AreUsedParts song.now parts.now }
+    ensures { IsTrue result ↔ HasFact song.now fact }
+{
+    // Named in the contract alone.
+    let _song = song;
+    let facts = &parts.facts;
+    match fact {
+        Fact::RowTone => facts.row_tone,
+        Fact::RowSlide => facts.row_slide,
+        Fact::RowOnce => facts.row_once,
+        Fact::FirstMask => facts.first_mask,
+        Fact::Legato => facts.legato,
+        Fact::SoftRestart => facts.soft_restart,
+        Fact::WaveDelay => facts.wave_delay,
+        Fact::GateNote => facts.gate_note,
+    }
+}
+
+/// The first place of a song that gives it a fact, in the same order; none where the song hasn't the fact.
+pub fn first_fact_place(song: &Song, parts: &UsedParts, fact: Fact) -> Option<Place>
+    requires { AreUsedParts song.now parts.now }
+    ensures first { (place : AnyPlace) → (result ≡ Some place) ↔ IsFirstFactPlace song.now fact place }
+    ensures had { IsSome result ↔ HasFact song.now fact }
+{
+    if !is_had(song, parts, fact) {
+        return None;
+    }
+    first_wanted(song, parts, Wanted::OfFact(fact))
 }

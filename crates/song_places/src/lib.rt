@@ -1,10 +1,12 @@
-//! The places of a song that need a feature, and the first one that does, of a feature and of a part of the player.
+//! The places of a song that need a feature or give it a fact, and the first one that does, of a feature, of a fact and
+//! of a part of the player.
 //!
-//! The layer's one contract: `first_place` and `part_place` answer a place exactly where some place needs the feature,
-//! or a feature that keeps the part, and then the first one in the order of places.
+//! The layer's one contract: `first_place`, `first_fact_place` and `part_place` answer a place exactly where some place
+//! needs the feature, gives the fact, or does this with a feature or a fact that keeps the part, and then the first one
+//! in the order of places.
 //!
-//! It stands on `usage` for what a song uses, on `play_model` for what a feature is, and on `kept_lines` for which parts
-//! a feature keeps. `song_costs` stands on it for the reason of each part.
+//! It stands on `usage` for what a song uses, on `play_model` and `song_facts` for what a feature and a fact are, and
+//! on `kept_lines` for which parts they keep. `song_costs` stands on it for the reason of each part.
 #![tactic(auto)]
 
 /// Facts about the definitions.
@@ -18,6 +20,6 @@ mod patterns;
 mod places;
 mod wave_rows;
 
-pub use first_places::first_place;
+pub use first_places::{first_fact_place, first_place};
 pub use part_places::part_place;
 pub use places::Place;

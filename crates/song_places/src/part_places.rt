@@ -2,17 +2,22 @@
 
 ghost use Rattle.std.specs.Prelude.{◌≡◌, ◌^◌, IfSome, IfNone, None};
 ghost use Rattle.song_model.specs.Feature.{bit_of};
+ghost use Rattle.play_model.specs.State.{no_options};
+ghost use Rattle.player_memory.specs.FactLines.{fact_condition};
+ghost use Rattle.kept_lines.specs.KeptLines.{keeps};
 ghost use Rattle.usage.specs.Parts.{AreUsedParts};
 ghost use Rattle.song_places.specs.declared.places.Place.{Place as AnyPlace};
 ghost use Rattle.song_places.specs.Places.{IsFirst};
-ghost use Rattle.song_places.specs.PartPlaces.{keeps_part, NeedsFor, IsPartPlace};
+ghost use Rattle.song_places.specs.PartPlaces.{NeedsFeatureFor, NeedsFactFor, NeedsFor, IsPartPlace};
 ghost use Rattle.song_places.specs.Search.{IsOneOf};
 
-use crate::first_places::first_place;
+use crate::first_places::{first_fact_place, first_place};
 use crate::places::Place;
-use kept_lines::conditions;
+use kept_lines::{Conditions, conditions};
 use play_model::Options;
-use song_model::{Feature, FeatureBits, Song};
+use player_memory::conditions::ROW_TONE;
+use song_facts::Fact;
+use song_model::{Feature, Song};
 use usage::UsedParts;
 
 /// The features in the order of their bits.
@@ -43,18 +48,37 @@ const FEATURES: [Feature; 24] = [
     Feature::WaveCommand,
 ];
 
-/// The features of a song that uses this one alone.
-fn alone(feature: Feature) -> FeatureBits
+/// The facts in the order of their numbers.
+const FACTS: [Fact; 8] = [
+    Fact::RowTone,
+    Fact::RowSlide,
+    Fact::RowOnce,
+    Fact::FirstMask,
+    Fact::Legato,
+    Fact::SoftRestart,
+    Fact::WaveDelay,
+    Fact::GateNote,
+];
+
+/// What a song asks for that uses this feature alone.
+fn feature_alone(feature: Feature) -> Conditions
     ensures { result.0 ≡ 2 ^ bit_of feature }
 {
-    FeatureBits(1 << u32::from(feature.bit()))
+    Conditions(1 << u32::from(feature.bit()))
 }
 
-/// Whether a feature keeps a part: whether a song that uses it alone does.
-fn keeps_part(feature: Feature, part: u8) -> bool
-    ensures { result ≡ keeps_part feature part }
+/// What a song asks for that has this fact alone.
+fn fact_alone(fact: Fact) -> Conditions
+    ensures { result.0 ≡ 2 ^ fact_condition fact }
 {
-    conditions(alone(feature), Options::default()).hold(part)
+    Conditions(1 << u32::from(ROW_TONE + fact.number()))
+}
+
+/// Whether a song that asks for these keeps a part.
+fn keeps_part(asked: Conditions, part: u8) -> bool
+    ensures { result ≡ keeps asked.0 no_options part }
+{
+    conditions(asked, Options::default()).hold(part)
 }
 
 /// The earlier of two places, of those that are there.
@@ -69,18 +93,45 @@ fn earlier(one: Option<Place>, other: Option<Place>) -> Option<Place>
     }
 }
 
-/// The first place of a song that needs a part of the player, 0 to 33: the earliest of the first places of the features
-/// that keep it. None where no place does, as with the parts of the options, 24 to 27.
+/// The first place that needs a feature which keeps a part.
+fn feature_place(song: &Song, parts: &UsedParts, part: u8) -> Option<Place>
+    requires { AreUsedParts song.now parts.now }
+    ensures first { IfSome result (IsFirst (NeedsFeatureFor song.now part)) }
+    ensures none { IfNone result ((place : AnyPlace) → ¬ NeedsFeatureFor song.now part place) }
+{
+    let mut first = None;
+    for feature in &FEATURES {
+        if keeps_part(feature_alone(*feature), part) {
+            first = earlier(first, first_place(song, parts, *feature));
+        }
+    }
+    first
+}
+
+/// The first place that gives the song a fact which keeps a part.
+fn fact_place(song: &Song, parts: &UsedParts, part: u8) -> Option<Place>
+    requires { AreUsedParts song.now parts.now }
+    ensures first { IfSome result (IsFirst (NeedsFactFor song.now part)) }
+    ensures none { IfNone result ((place : AnyPlace) → ¬ NeedsFactFor song.now part place) }
+{
+    let mut first = None;
+    for fact in &FACTS {
+        if keeps_part(fact_alone(*fact), part) {
+            first = earlier(first, first_fact_place(song, parts, *fact));
+        }
+    }
+    first
+}
+
+/// The first place of a song that needs a part of the player, 0 to 44: the earliest of the first places of the features
+/// and facts that keep it. None where no place does, as with the parts of the options, 24 to 27.
 pub fn part_place(song: &Song, parts: &UsedParts, part: u8) -> Option<Place>
     requires { AreUsedParts song.now parts.now }
     ensures first { IfSome result (IsPartPlace song.now part) }
     ensures none { IfNone result ((place : AnyPlace) → ¬ NeedsFor song.now part place) }
 {
-    let mut first = None;
-    for feature in &FEATURES {
-        if keeps_part(*feature, part) {
-            first = earlier(first, first_place(song, parts, *feature));
-        }
-    }
-    first
+    earlier(
+        feature_place(song, parts, part),
+        fact_place(song, parts, part),
+    )
 }

@@ -1,4 +1,5 @@
 use Rattle.std.proofs.Common.{ap, length, ◌∙◌}
+use Rattle.kept_lines.specs.Asked.{asked_by}
 use Rattle.image_parts.specs.CodeParts.{length_of}
 use Rattle.image_parts.specs.Lengths.{slide_bytes}
 use Rattle.song_costs.proofs.ByteKinds.{costs_are}
@@ -10,4 +11,6 @@ returns-clause-exact c = λ song used options is code_is.
     c.patterns_bytes-patterns.ensures.size (ap length c.as_slice.ensures.items) c.rows_bytes-wave.ensures.size
     c.rows_bytes-pulse.ensures.size c.rows_bytes-filter.ensures.size c.rows_bytes-speed.ensures.size
     (c.slide_bytes-slides.ensures
-    ∙ ap (λ rows. slide_bytes c.args.packed.now.features.0 (length rows)) c.as_slice-2.ensures.items) c.size.ensures.size
+    ∙ ap (λ asked. slide_bytes asked (length c.as_slice-2.result.now)) c.asked_by.ensures
+    ∙ ap (λ rows. slide_bytes (asked_by c.args.packed.now) (length rows)) c.as_slice-2.ensures.items)
+    c.size.ensures.size

@@ -1,0 +1,81 @@
+-- A song has a fact exactly where some place gives it.
+use Rattle.song_model.specs.declared.rows.Row.{Row}
+use Rattle.song_model.specs.declared.instruments.Instrument.{Instrument}
+use Rattle.song_model.specs.declared.tables.TableRow.{TableRow}
+use Rattle.song_model.specs.declared.songs.Song.{Song}
+use Rattle.song_facts.specs.declared.facts.Fact.{Fact}
+use Rattle.song_facts.specs.declared.facts.Fact.TheVariants.{RowTone, RowSlide, RowOnce, FirstMask, Legato, SoftRestart}
+use Rattle.song_facts.specs.declared.facts.Fact.TheVariants.{WaveDelay, GateNote}
+use Rattle.song_facts.specs.Facts.{IsTone, IsSlide, IsOnce, IsGateNote, IsMask, IsLegato, IsSoft, IsDelay}
+use Rattle.song_facts.specs.Facts.{HasSuchRow, HasSuchInstrument, HasSuchWaveRow, HasFact}
+use Rattle.song_places.specs.declared.places.Place.{Place}
+use Rattle.song_places.specs.declared.places.Place.TheVariants.{InOrder, InPattern, InInstrument, InWaveTable}
+use Rattle.song_places.specs.Needs.{nothing, need_of_fact}
+use Rattle.song_places.specs.Places.{IsNeededAt, NeedsFactAt}
+use Rattle.song_places.specs.PlaceLaws.{IsFactNeeded, FactsAreNeeded}
+use Rattle.song_places.proofs.FeaturePlaces.{row_to, row_from}
+
+-- ---- from what is had to its place
+
+row_place : (song : Song) (fact : Fact) → HasSuchRow song (need_of_fact fact).row → IsFactNeeded song fact
+row_place song fact h =
+    let at = row_to song (need_of_fact fact).row h.row h.used h.is_such in
+    record { place = InPattern h.used.pattern at.0; needs = at.1 }
+
+instrument_place : (song : Song) (fact : Fact) → HasSuchInstrument song (need_of_fact fact).instrument →
+    IsFactNeeded song fact
+instrument_place song fact h =
+    record { place = InInstrument h.instrument; needs = record { used = h.used; is_meant = h.is_such } }
+
+wave_row_place : (song : Song) (fact : Fact) → HasSuchWaveRow song (need_of_fact fact).wave_row →
+    IsFactNeeded song fact
+wave_row_place song fact h =
+    record { place = InWaveTable h.p; needs = record { reached = h.reached; is_meant = h.is_such } }
+
+pub has_fact_place : (song : Song) (fact : Fact) → HasFact song fact → IsFactNeeded song fact
+has_fact_place song RowTone h = row_place song RowTone h
+has_fact_place song RowSlide h = row_place song RowSlide h
+has_fact_place song RowOnce h = row_place song RowOnce h
+has_fact_place song FirstMask h = instrument_place song FirstMask h
+has_fact_place song Legato h = instrument_place song Legato h
+has_fact_place song SoftRestart h = instrument_place song SoftRestart h
+has_fact_place song WaveDelay h = wave_row_place song WaveDelay h
+has_fact_place song GateNote h = row_place song GateNote h
+
+-- ---- and from a place to what is had
+
+row_had : (song : Song) (IsSuch : Row → Type 0) (place : Place) →
+    IsNeededAt song (record nothing { row = IsSuch }) place → HasSuchRow song IsSuch
+row_had song IsSuch (InOrder s c i) at = absurd at.is_meant
+row_had song IsSuch (InPattern p i) at =
+    record { row = at.row; used = row_from song IsSuch p i at; is_such = at.is_meant }
+row_had song IsSuch (InInstrument n) at = absurd at.is_meant
+row_had song IsSuch (InWaveTable p) at = absurd at.is_meant
+
+instrument_had : (song : Song) (IsSuch : Instrument → Type 0) (place : Place) →
+    IsNeededAt song (record nothing { instrument = IsSuch }) place → HasSuchInstrument song IsSuch
+instrument_had song IsSuch (InOrder s c i) at = absurd at.is_meant
+instrument_had song IsSuch (InPattern p i) at = absurd at.is_meant
+instrument_had song IsSuch (InInstrument n) at = record { instrument = n; used = at.used; is_such = at.is_meant }
+instrument_had song IsSuch (InWaveTable p) at = absurd at.is_meant
+
+wave_row_had : (song : Song) (IsSuch : TableRow → Type 0) (place : Place) →
+    IsNeededAt song (record nothing { wave_row = IsSuch }) place → HasSuchWaveRow song IsSuch
+wave_row_had song IsSuch (InOrder s c i) at = absurd at.is_meant
+wave_row_had song IsSuch (InPattern p i) at = absurd at.is_meant
+wave_row_had song IsSuch (InInstrument n) at = absurd at.is_meant
+wave_row_had song IsSuch (InWaveTable p) at = record { p = p; reached = at.reached; is_such = at.is_meant }
+
+pub has_fact : (song : Song) (fact : Fact) (place : Place) → NeedsFactAt song fact place → HasFact song fact
+has_fact song RowTone place at = row_had song IsTone place at
+has_fact song RowSlide place at = row_had song IsSlide place at
+has_fact song RowOnce place at = row_had song IsOnce place at
+has_fact song FirstMask place at = instrument_had song IsMask place at
+has_fact song Legato place at = instrument_had song IsLegato place at
+has_fact song SoftRestart place at = instrument_had song IsSoft place at
+has_fact song WaveDelay place at = wave_row_had song IsDelay place at
+has_fact song GateNote place at = row_had song IsGateNote place at
+
+pub facts_are_needed : FactsAreNeeded
+facts_are_needed song fact =
+    (λ h. has_fact_place song fact h, λ needed. has_fact song fact needed.place needed.needs)
