@@ -14,22 +14,22 @@ use Rattle.jobs.specs.Costs.{part_name}
 
 -- ---- costs
 
-module _ (song : Song) (features : ℕ) (o : Options) (n : ℕ) (costs : List PartCost) where
-  pub kept_next : (result : Option PartCost) → AreKeptBelow song features o n costs →
-      ((cost : PartCost) → (result ≡ Some cost) ↔ ((cost.part ≡ n) × IsPartCost song features o cost)) →
-      (IsSome result ↔ (is_told features o n ≡ true)) →
-      AreKeptBelow song features o (n + 1) (costs ++ option_to_list result)
+module _ (song : Song) (asked : ℕ) (o : Options) (n : ℕ) (costs : List PartCost) where
+  pub kept_next : (result : Option PartCost) → AreKeptBelow song asked o n costs →
+      ((cost : PartCost) → (result ≡ Some cost) ↔ ((cost.part ≡ n) × IsPartCost song asked o cost)) →
+      (IsSome result ↔ (is_told asked o n ≡ true)) →
+      AreKeptBelow song asked o (n + 1) (costs ++ option_to_list result)
   kept_next None kept exact told =
-      subst (AreKeptBelow song features o (n + 1)) (sym (append-nil costs))
-      (kept_passed song features o n costs kept (λ so. let never = told.1 so in absurd (cc (never))))
+      subst (AreKeptBelow song asked o (n + 1)) (sym (append-nil costs))
+      (kept_passed song asked o n costs kept (λ so. let never = told.1 so in absurd (cc (never))))
   kept_next (Some cost) kept exact told =
-      let is = (exact cost).0 refl in kept_told song features o n costs cost kept is.0 is.1
+      let is = (exact cost).0 refl in kept_told song asked o n costs cost kept is.0 is.1
 
   abbrev IsBelow : ℕ → PartCost → Type 0
   IsBelow m cost = cost.part < m
 
   pub below_next : (result : Option PartCost) → All (λ cost. cost.part < n) costs →
-      ((cost : PartCost) → (result ≡ Some cost) ↔ ((cost.part ≡ n) × IsPartCost song features o cost)) →
+      ((cost : PartCost) → (result ≡ Some cost) ↔ ((cost.part ≡ n) × IsPartCost song asked o cost)) →
       All (λ cost. cost.part < n + 1) (costs ++ option_to_list result)
   below_next None below exact =
       subst (All (λ cost. cost.part < n + 1)) (sym (append-nil costs))
@@ -42,7 +42,7 @@ module _ (song : Song) (features : ℕ) (o : Options) (n : ℕ) (costs : List Pa
 
 -- ---- names
 
-pub names_short : (part : ℕ) → part < 34 → length (part_name part) ≤ 24
+pub names_short : (part : ℕ) → part < 45 → length (part_name part) ≤ 24
 names_short part below =
     leb-true (length (part_name part)) 24
-    (agree_below_at (λ n. nat_le (length (part_name n)) 24) (λ n. true) 34 part refl below)
+    (agree_below_at (λ n. nat_le (length (part_name n)) 24) (λ n. true) 45 part refl below)

@@ -3,6 +3,7 @@
 ghost use Rattle.std.specs.Prelude.{◌≡◌, ◌++◌, ◌<◌, All, IfOk, OnOk};
 ghost use Rattle.std.specs.Option.{option_to_list};
 ghost use Rattle.usage.specs.Parts.{AreUsedParts};
+ghost use Rattle.kept_lines.specs.Asked.{asked};
 ghost use Rattle.image_parts.specs.CodeParts.{code_parts};
 ghost use Rattle.song_costs.specs.Kept.{AreKeptParts};
 
@@ -26,9 +27,10 @@ pub fn part_costs(
     code: &[u8],
 ) -> Result<Vec<PartCost>, NoMemory>
     requires parts { AreUsedParts song.now parts.now }
-    requires code { code.now ≡ code_parts parts.now.features.0 options.now }
+    requires code { code.now ≡ code_parts (asked parts.now.features.0 parts.now.facts)
+        options.now }
     ensures kept { IfOk result (λ told.
-        AreKeptParts song.now parts.now.features.0 options.now told.items) }
+        AreKeptParts song.now (asked parts.now.features.0 parts.now.facts) options.now told.items) }
     ensures named { IfOk result (λ told. All (λ cost. cost.part < PARTS) told.items) }
 {
     let mut told = Vec::new(alloc);

@@ -11,12 +11,13 @@ use command_line::{Line, Refusal, Report};
 use goat_io::{Folder, Sink};
 use image_parts::code_parts;
 use jobs::{packed_song, parts_of, read_song};
+use kept_lines::asked;
 use play_model::Options;
 use song_costs::costs_by_kind;
 use std::alloc::Global;
 
 /// Tells how many bytes of each kind the song in a file takes when it is packed, and for each part of its player that
-/// features or an option want how many, and the first place that needs it.
+/// features, facts or an option want how many, and the first place that needs it.
 ///
 /// # Errors
 ///
@@ -39,7 +40,7 @@ pub fn tell_parts<'a, F: Folder, K: Sink>(
     let song = read_song(alloc, input, folder)?;
     let parts = parts_of(&song)?;
     let packed = packed_song(alloc, &song, &parts)?;
-    let code = code_parts(alloc, parts.features, how)?;
+    let code = code_parts(alloc, asked(parts.features, &parts.facts), how)?;
     let costs = costs_by_kind(&packed, code.as_slice());
     let told = part_costs(alloc, &song, &parts, how, code.as_slice())?;
     show_costs(&costs, told.as_slice(), line, out)

@@ -6,6 +6,7 @@ use Rattle.play_model.specs.declared.options.Options.{Options}
 use Rattle.play_model.specs.State.{no_options}
 use Rattle.packed_form.specs.declared.packed_songs.PackedSong.{PackedSong}
 use Rattle.packing_rules.specs.SongSizes.{packed_size}
+use Rattle.kept_lines.specs.Asked.{asked_by}
 use Rattle.image_parts.specs.CodeParts.{code_length}
 use Rattle.image_parts.specs.Lengths.{slide_bytes, image_length}
 use Rattle.faithful.proofs.Laws.{always_is_faithful}
@@ -26,14 +27,20 @@ module _ (packed : PackedSong) (song : Song) (o : Options) (packs : PacksSong pa
   pub length_is : (count : ℕ) → count ≡ image_length packed o → IsImageLength song o count
   length_is count is = record {
     used = packs.used;
-    features = packed.features.0;
+    asked = asked_by packed;
     are_used = packs.are_used;
-    are_features = packs.stands.features;
+    asks = record {
+      features = packed.features.0;
+      facts = packed.facts;
+      are_features = packs.stands.features;
+      are_facts = packs.stands.facts;
+      is = refl;
+    };
     count_is = is
-        ∙ ap (λ size. size + slide_bytes packed.features.0 (length packed.speed) + code_length packed.features.0 o)
+        ∙ ap (λ size. size + slide_bytes (asked_by packed) (length packed.speed) + code_length (asked_by packed) o)
         packs.size
-        ∙ ap (λ rows. packed_size song packs.used + slide_bytes packed.features.0 rows
-        + code_length packed.features.0 o) packs.speeds;
+        ∙ ap (λ rows. packed_size song packs.used + slide_bytes (asked_by packed) rows
+        + code_length (asked_by packed) o) packs.speeds;
   }
 
   module _ (files : Files) (name : List ℕ) (address : ℕ) (holds : HoldsSong files name song) where

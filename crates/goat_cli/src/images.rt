@@ -19,6 +19,7 @@ ghost use Rattle.jobs.specs.Endings.{Refuses, PacksSong};
 use command_line::{Chip, Refusal};
 use image_parts::code_parts;
 use jobs::{packed_file, short_song, too_large_image};
+use kept_lines::asked_by;
 use packed_form::PackedSong;
 use play_model::Options;
 use player_build::{BuildFault, Image, Place, build};
@@ -45,7 +46,7 @@ fn place_of(address: u16, zero_page: u8) -> Place
 }
 
 /// The image of a packed song for an allowed address and two allowed bytes of page 0, with the parts of the player that
-/// its features and the options want.
+/// its features, its facts and the options want.
 ///
 /// # Errors
 ///
@@ -69,7 +70,7 @@ pub fn image_of(
         PacksSong packed.now song → HoldsSong files name song →
         Refuses files (HasRoomForImage name address options.now) (last_of refusal)) }
 {
-    let code = code_parts(alloc, packed.features, options)?;
+    let code = code_parts(alloc, asked_by(packed), options)?;
     let place = place_of(address, zero_page);
     match build(alloc, packed, code.as_slice(), place, options) {
         Ok(image) => Ok(image),
@@ -121,7 +122,7 @@ fn small_image(alloc: Global, song: &Song, packed: &PackedSong) -> Result<Image,
     ensures zero_page { IfOk result (λ image. image.place.zero_page ≡ 0xFC) }
 {
     let options = Options::default();
-    let code = code_parts(alloc, packed.features, &options)?;
+    let code = code_parts(alloc, asked_by(packed), &options)?;
     let place = place_of(ADDRESS, ZERO_PAGE);
     match build(alloc, packed, code.as_slice(), place, &options) {
         Ok(image) => Ok(image),

@@ -9,27 +9,27 @@ use Rattle.song_costs.proofs.Laws.{costs_add_up, kept_parts_are_one}
 use Rattle.jobs.specs.Costs.{TellCosts, kind_lines, part_line}
 use Rattle.jobs.specs.Packed.{IsImageLength}
 use Rattle.jobs.specs.Laws.{CostsAreTheImages}
-use Rattle.jobs.proofs.OneFeatures.{one_features}
+use Rattle.jobs.proofs.OneAsked.{one_asked}
 use Rattle.jobs.proofs.Passes.{one_length}
 
 pub one_cost_text : (song : Song) (o : Options) (lines others : List (List ℕ)) → TellCosts song o lines →
     TellCosts song o others → lines ≡ others
 one_cost_text song o lines others p q =
     let used = same_sets song p.used q.used p.are_used q.are_used in
-    let features = one_features song p.features q.features p.are_features q.are_features in
-    let mine = subst (λ f. AreKeptParts song f o p.parts) features p.are_parts in
-    let parts = kept_parts_are_one song q.features o p.parts q.parts mine q.are_parts in
-    p.lines_are ∙ ap (λ u. kind_lines (costs_of song u p.features o) ++ map part_line p.parts) used
-    ∙ ap (λ f. kind_lines (costs_of song q.used f o) ++ map part_line p.parts) features
-    ∙ ap (λ l. kind_lines (costs_of song q.used q.features o) ++ map part_line l) parts ∙ sym q.lines_are
+    let asked = one_asked song p.asked q.asked p.asks q.asks in
+    let mine = subst (λ set. AreKeptParts song set o p.parts) asked p.are_parts in
+    let parts = kept_parts_are_one song q.asked o p.parts q.parts mine q.are_parts in
+    p.lines_are ∙ ap (λ u. kind_lines (costs_of song u p.asked o) ++ map part_line p.parts) used
+    ∙ ap (λ set. kind_lines (costs_of song q.used set o) ++ map part_line p.parts) asked
+    ∙ ap (λ l. kind_lines (costs_of song q.used q.asked o) ++ map part_line l) parts ∙ sym q.lines_are
 
 pub costs_are_the_images : CostsAreTheImages
 costs_are_the_images song o lines psid address zero_page chip file told written =
-    let mine : IsImageLength song o (all_bytes (costs_of song told.used told.features o)) = record {
+    let mine : IsImageLength song o (all_bytes (costs_of song told.used told.asked o)) = record {
       used = told.used;
-      features = told.features;
+      asked = told.asked;
       are_used = told.are_used;
-      are_features = told.are_features;
-      count_is = (costs_add_up song told.used told.features o).1;
+      asks = told.asks;
+      count_is = (costs_add_up song told.used told.asked o).1;
     } in
     one_length song o _ _ written.size mine

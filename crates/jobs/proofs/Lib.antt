@@ -9,11 +9,12 @@ mod Costs
 mod Due
 mod Ends
 mod Fileless
+mod FoundFacts
 mod Joining
 mod Listed
 mod Measured
 mod MetPremises
-mod OneFeatures
+mod OneAsked
 mod Passes
 mod PlayedFiles
 mod Printed

@@ -35,8 +35,8 @@ statuses_are_ordinary = record {
 }
 
 pub fitting_songs_are_packed : FittingSongsArePacked
-fitting_songs_are_packed files input output psid address zero_page o chip song used features holds fits playable
-    are_used are_features short room =
+fitting_songs_are_packed files input output psid address zero_page o chip song used features holds fits
+    playable are_used are_features short room =
     small_songs files input output psid address zero_page o chip
     (record {
       song = song;

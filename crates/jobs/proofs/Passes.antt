@@ -39,7 +39,7 @@ use Rattle.asm_text.specs.Lines.{IsListing}
 use Rattle.asm_text.specs.Faults.{IsFaultOf}
 use Rattle.asm_text.proofs.Laws.{sound_listings_have_no_fault, texts_read_in_one_way}
 use Rattle.jobs.proofs.Calls.{returned_or_stopped, one_list, one_stop_at, one_reason}
-use Rattle.jobs.proofs.OneFeatures.{one_features}
+use Rattle.jobs.proofs.OneAsked.{one_asked}
 
 -- a name has one file, which spells one song and is one PSID file
 pub one_file : (files : Files) (name a b : List ℕ) → file_of files name ≡ Some a → file_of files name ≡ Some b → a ≡ b
@@ -106,9 +106,9 @@ one_too_long song used p q m n one other =
 pub one_length : (song : Song) (o : Options) (m n : ℕ) → IsImageLength song o m → IsImageLength song o n → m ≡ n
 one_length song o m n p q =
     let used = same_sets song p.used q.used p.are_used q.are_used in
-    let features = one_features song p.features q.features p.are_features q.are_features in
-    p.count_is ∙ ap (λ u. song_size song u p.features + code_length p.features o) used
-    ∙ ap (λ f. song_size song q.used f + code_length f o) features ∙ sym q.count_is
+    let asked = one_asked song p.asked q.asked p.asks q.asks in
+    p.count_is ∙ ap (λ u. song_size song u p.asked + code_length p.asked o) used
+    ∙ ap (λ set. song_size song q.used set + code_length set o) asked ∙ sym q.count_is
 
 too_large_or_not : (end address m n : ℕ) → m ≡ n → address + m ≤ end → end < address + n → ⊥
 too_large_or_not end address m n same fits passes = omega arith

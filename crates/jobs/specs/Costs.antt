@@ -2,8 +2,8 @@
 use Rattle.std.specs.Prelude.{◌≡◌, ℕ, List, [], ◌∷◌, ◌++◌, map, get_or, codes, decimal}
 use Rattle.song_model.specs.declared.songs.Song.{Song}
 use Rattle.play_model.specs.declared.options.Options.{Options}
-use Rattle.play_model.specs.Features.{AreFeatures}
 use Rattle.packing_rules.specs.UsedSets.{UsedSets, AreUsedSets}
+use Rattle.kept_lines.specs.Asked.{Asks}
 use Rattle.song_costs.specs.declared.costs.Costs.{Costs}
 use Rattle.song_places.specs.declared.places.Place.{Place}
 use Rattle.song_places.specs.declared.places.Place.TheVariants.{InOrder, InPattern, InInstrument, InWaveTable}
@@ -61,8 +61,8 @@ part_line cost = cost_line cost.part cost.bytes (cause_words cost.cause)
 pub record TellCosts (song : Song) (options : Options) (lines : List (List ℕ)) : Type 0 where
   pub used : UsedSets
   pub are_used : AreUsedSets song used
-  pub features : ℕ
-  pub are_features : AreFeatures song features
+  pub asked : ℕ
+  pub asks : Asks song asked
   pub parts : List PartCost
-  pub are_parts : AreKeptParts song features options parts
-  pub lines_are : lines ≡ kind_lines (costs_of song used features options) ++ map part_line parts
+  pub are_parts : AreKeptParts song asked options parts
+  pub lines_are : lines ≡ kind_lines (costs_of song used asked options) ++ map part_line parts

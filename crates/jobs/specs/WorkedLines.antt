@@ -42,6 +42,7 @@ use Rattle.jobs.specs.Stages.{IsThere, Fits, SpellsSong, CanBePlayed, HasShortPa
 use Rattle.jobs.specs.Stages.{HasPlayableSubtune}
 use Rattle.jobs.specs.Stages.{CanBeEdited, IsPsid, OffersSubtune, CallsReturn, CanBeAssembled, GoTogether, status_of}
 use Rattle.jobs.specs.Stages.{input_limit, script_limit, listing_limit}
+use Rattle.song_facts.specs.Facts.{no_facts}
 
 -- the first n numbers are marked, of so many
 abbrev pub first_marked : ℕ → ℕ → List Bool
@@ -60,6 +61,7 @@ used_parts = record {
   pulse_pointers = first_marked 2 256;
   filter_pointers = first_marked 5 256;
   features = record { 0 = 0x40200A };
+  facts = no_facts;
 }
 
 -- one line of each kind
@@ -114,7 +116,7 @@ pub record CostLinesAreWorked : Type 0 where
   pub by_skip : part_line (costly 25 6 SkipOption) ≡ codes "skip pulse 6 bytes, SKIP\n"
   pub by_first : part_line (costly 27 36 SkipOption) ≡ codes "skip between patterns 36 bytes, SKIP\n"
   pub by_speed : part_line (costly 26 10 SpeedOption) ≡ codes "play by timer 10 bytes, SPEED\n"
-  pub names : map part_name (range_with_len 0 34)
+  pub names : map part_name (range_with_len 0 45)
       ≡ codes "transpose"
       ∷ codes "repeat"
       ∷ codes "portamento up"
@@ -148,7 +150,18 @@ pub record CostLinesAreWorked : Type 0 where
       ∷ codes "slide high byte down"
       ∷ codes "slide low byte up"
       ∷ codes "slide low byte down"
-      ∷ codes "note reached" ∷ []
+      ∷ codes "note reached"
+      ∷ codes "tone portamento in rows"
+      ∷ codes "running row commands"
+      ∷ codes "one-off row commands"
+      ∷ codes "gate mask as first wave"
+      ∷ codes "legato instruments"
+      ∷ codes "soft restart"
+      ∷ codes "wave table delay"
+      ∷ codes "keyoff/keyon"
+      ∷ codes "row commands"
+      ∷ codes "special wave rows"
+      ∷ codes "held gate or envelope" ∷ []
 
 -- one for each way in which a file is no song, or no PSID file
 pub record FaultsAreWorked : Type 0 where

@@ -1,4 +1,4 @@
-use Rattle.std.proofs.Common.{◌<◌, ◌≤◌, length, sym, subst}
+use Rattle.std.proofs.Common.{◌≤◌, length, sym, subst}
 use Rattle.file_jobs.proofs.Costs.{names_short}
 use Rattle.file_jobs.proofs.cost_lines.part_name.Goals as goal
 
@@ -7,5 +7,4 @@ returns-clause-name c = c.name_in.ensures
 
 pub returns-clause-short : goal.returns-clause-short
 returns-clause-short c =
-    let named : c.args.part < 34 = c.requires in
-    subst (λ name. length name ≤ 24) (sym c.name_in.ensures) (names_short c.args.part named)
+    subst (λ name. length name ≤ 24) (sym c.name_in.ensures) (names_short c.args.part c.requires)

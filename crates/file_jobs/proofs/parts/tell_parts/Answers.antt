@@ -2,11 +2,12 @@ use Rattle.std.proofs.Common.{refl, sym, ap, ◌∙◌, ◌++◌, map}
 use Rattle.std.proofs.lemmas.Result.{err_from_is_err_and}
 use Rattle.song_pack.specs.Numbers.{sets_of}
 use Rattle.song_pack.proofs.Laws.{used_sets}
+use Rattle.kept_lines.specs.Asked.{asked, asked_by, Asks}
 use Rattle.image_parts.specs.CodeParts.{code_parts}
 use Rattle.song_costs.specs.Kinds.{costs_of}
 use Rattle.song_costs.proofs.Laws.{few_bytes}
 use Rattle.jobs.specs.Costs.{TellCosts, kind_lines, part_line}
-use Rattle.jobs.proofs.Laws.{song_begun, song_fails, song_held, met_next, refused, wants_first, lines_over, one_features}
+use Rattle.jobs.proofs.Laws.{song_begun, song_fails, song_held, met_next, refused, wants_first, lines_over, one_asked}
 use Rattle.file_jobs.proofs.parts.tell_parts.Goals as goal
 
 pub returns-in_err-song : goal.returns-in_err-song
@@ -37,11 +38,12 @@ returns-in_err-code g c =
 
 pub costs_by_kind-costs-requires : goal.costs_by_kind-costs-requires
 costs_by_kind-costs-requires g c =
-    few_bytes c.in_ok-parts.parts.features.0 c.args.options c.as_slice.result.now
+    few_bytes _ c.args.options c.as_slice.result.now
     (c.as_slice.ensures ∙ c.in_ok-code.ensures)
 
 pub part_costs-requires-clause-code : goal.part_costs-requires-clause-code
-part_costs-requires-clause-code g c = c.as_slice-2.ensures ∙ c.in_ok-code.ensures
+part_costs-requires-clause-code g c =
+    c.as_slice-2.ensures ∙ c.in_ok-code.ensures ∙ ap (λ set. code_parts set c.args.options) c.asked.ensures
 
 pub returns-in_err-told : goal.returns-in_err-told
 returns-in_err-told g c =
@@ -56,18 +58,31 @@ returns g c =
     let parts = c.in_ok-parts.parts in
     let used = used_sets song parts c.in_ok-parts.ensures.parts in
     let packed = c.in_ok-packed.ensures.exact (sets_of parts) used holds.spells.limits in
-    let features = c.in_ok-parts.ensures.parts.features in
-    let same = one_features song _ _ packed.features features in
+    let asks : Asks song (asked parts.features.0 parts.facts) = record {
+      features = parts.features.0;
+      facts = parts.facts;
+      are_features = c.in_ok-parts.ensures.parts.features;
+      are_facts = c.in_ok-parts.ensures.parts.facts;
+      is = refl;
+    } in
+    let as_packed : Asks song (asked_by c.in_ok-packed.packed) = record {
+      features = c.in_ok-packed.packed.features.0;
+      facts = c.in_ok-packed.packed.facts;
+      are_features = packed.features;
+      are_facts = packed.facts;
+      is = refl;
+    } in
+    let same = one_asked song _ _ as_packed asks in
     let code = c.as_slice.ensures ∙ c.in_ok-code.ensures
-    ∙ ap (λ f. code_parts f c.args.options) (sym same) in
+    ∙ ap (λ set. code_parts set c.args.options) (c.asked.ensures ∙ sym same) in
     let costs = c.costs_by_kind-costs.ensures.exact song (sets_of parts) c.args.options packed code
-    ∙ ap (λ f. costs_of song (sets_of parts) f c.args.options) same in
+    ∙ ap (λ set. costs_of song (sets_of parts) set c.args.options) same in
     let told : TellCosts song c.args.options (kind_lines c.costs_by_kind-costs.result ++ map part_line c.in_ok-told.told.items) =
     record {
       used = sets_of parts;
       are_used = used;
-      features = parts.features.0;
-      are_features = features;
+      asked = asked parts.features.0 parts.facts;
+      asks = asks;
       parts = c.in_ok-told.told.items;
       are_parts = c.in_ok-told.ensures.kept;
       lines_are = ap (λ k. kind_lines k ++ map part_line c.in_ok-told.told.items) costs;

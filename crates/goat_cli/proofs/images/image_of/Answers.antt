@@ -1,9 +1,15 @@
-use Rattle.std.proofs.Common.{Err, subst, sym, ap, ◌∙◌}
+use Rattle.std.proofs.Common.{ℕ, Err, subst, sym, ap, ◌∙◌}
+use Rattle.image_parts.specs.CodeParts.{code_parts}
 use Rattle.player_build.specs.declared.place.Place.{Place}
 use Rattle.player_build.specs.Room.{IsTooLarge}
 use Rattle.player_build.specs.Built.{IsBuild}
 use Rattle.goat_cli.proofs.Places.{has_room, has_no_room}
 use Rattle.goat_cli.proofs.images.image_of.Goals as goal
+
+pub build-requires : goal.build-requires
+build-requires c =
+    c.as_slice.ensures
+    ∙ (c.in_ok-code.ensures ∙ ap (λ (set : ℕ). code_parts set c.args.options.now) c.asked_by.ensures)
 
 pub returns-in-Ok-clause-built : goal.returns-in-Ok-clause-built
 returns-in-Ok-clause-built c =

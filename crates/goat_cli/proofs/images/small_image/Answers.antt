@@ -1,11 +1,17 @@
-use Rattle.std.proofs.Common.{Err, sym, ap, ◌∙◌, subst}
+use Rattle.std.proofs.Common.{ℕ, Err, sym, ap, ◌∙◌, subst}
 use Rattle.play_model.specs.declared.options.Options.{Options}
 use Rattle.play_model.specs.State.{no_options}
+use Rattle.image_parts.specs.CodeParts.{code_parts}
 use Rattle.player_build.specs.declared.place.Place.{Place}
 use Rattle.player_build.specs.Room.{IsTooLarge}
 use Rattle.player_build.specs.Built.{IsBuild}
 use Rattle.goat_cli.proofs.Places.{small_has_room}
 use Rattle.goat_cli.proofs.images.small_image.Goals as goal
+
+pub build-requires : goal.build-requires
+build-requires c =
+    c.as_slice.ensures
+    ∙ (c.in_ok-code.ensures ∙ ap (λ (set : ℕ). code_parts set c.default-options.result) c.asked_by.ensures)
 
 pub unreachable-requires : goal.unreachable-requires
 unreachable-requires c =
