@@ -1,18 +1,31 @@
 -- Where the parts that a song's facts keep do nothing.
 use Rattle.std.proofs.Common.{◌≡◌, ◌≢◌, ℕ, ◌+◌, ◌*◌, ◌%◌, ◌<◌, ◌≤◌, [], ◌∷◌, Bool, true, false, nat_eq, nat_le}
-use Rattle.std.proofs.Common.{bit_xor, refl, sym, ◌∙◌, lit<, arith}
-use Rattle.std.proofs.lemmas.Bool.{le-leb, lt-leb, ne_eqb, agree_below_at}
+use Rattle.std.proofs.Common.{bit_xor, refl, sym, ap, ◌∙◌, inl, inr, lit<, arith}
+use Rattle.std.proofs.lemmas.Bool.{le-leb, lt-leb, le-ltb, ne_eqb, agree_below_at}
+use Rattle.std.proofs.lemmas.Bool.Decides.{eqb_tells}
 use Rattle.play_model.specs.State.{Playing}
 use Rattle.scopes.specs.Desk.{Desk, Layout}
-use Rattle.scopes.specs.Meaning.{each_one, ran}
+use Rattle.scopes.specs.Trees.{Tree, NoneTree, ThenTree, WithTree, ScopeTree, LeaveTree, LeaveIfTree}
+use Rattle.scopes.specs.Trees.{WhenTree, NeverTree, tree_of}
+use Rattle.scopes.specs.declared.line.Operand.TheVariants.{Own, Number}
+use Rattle.scopes.specs.declared.line.Flag.TheVariants.{Zero, Carry as CarryFlag}
+use Rattle.scopes.specs.declared.line.Test.TheVariants.{On}
+use Rattle.cpu6502.specs.declared.mnemonic.Mnemonic.TheVariants.{Cmp, Lda, Sta}
+use Rattle.scopes.specs.Meaning.{Done, Left, each_one, ran}
 use Rattle.player_memory.specs.declared.conditions.TheConstants.{HELD_NOTE, LEGATO}
-use Rattle.player_memory.specs.declared.labels.TheConstants.{INSTRUMENT, NEW_COMMAND, WAVE_POINTER, GATE_TIMERS}
+use Rattle.player_memory.specs.declared.conditions.TheConstants.{ROW_ONCE, ROW_COMMAND, ROW_SLIDE}
+use Rattle.player_memory.specs.declared.labels.TheConstants.{INSTRUMENT, NEW_COMMAND, WAVE_POINTER}
+use Rattle.player_memory.specs.declared.labels.TheConstants.{GATE_TIMERS, VIBRATOS, COMMAND, PARAM}
+use Rattle.player_memory.specs.declared.labels.TheConstants.{VIB_TIME, NEW_PARAM}
+use Rattle.player_memory.specs.Forms.{stored_left}
 use Rattle.player_memory.specs.Playing.{IsListed}
 use Rattle.player_text.specs.declared.fetch.TheConstants.{GATE_CLOSED}
-use Rattle.idle_parts.specs.Idle.{HoldsVoice, Idles, part}
+use Rattle.player_text.specs.declared.tick.TheConstants.{COMMAND_BEGUN, ONCE, BARE, SETTLED}
+use Rattle.player_text.specs.declared.joints.TheConstants.{DONE}
+use Rattle.idle_parts.specs.Idle.{Y, Carry, HoldsVoice, Idles, part}
 use Rattle.idle_parts.specs.IdleParts.{FactsIdle}
-use Rattle.idle_parts.specs.Places.{RowsLeave}
-use Rattle.idle_parts.proofs.Reading.{own_sees, own_is, own_bytes}
+use Rattle.idle_parts.specs.Places.{RowsLeave, RowsEnd}
+use Rattle.idle_parts.proofs.Reading.{own_sees, own_writes, own_is, own_bytes}
 
 -- another command than 3
 other_turned : (c : ℕ) → c < 256 → c ≢ 3 → nat_eq (bit_xor c 3) 0 ≡ false
@@ -126,7 +139,7 @@ facts_idle {layout} {rows} {voice} {s} {desk} h = record {
     decimal = rw plus refl;
     kept_are = rw plus (refl, (refl, (refl, tt)));
   };
-  soft = λ off. record {
+  soft_restart = λ off. record {
     ends = rw off refl;
     stays = λ place. rw off refl;
     x = rw off refl;
@@ -153,6 +166,14 @@ facts_idle {layout} {rows} {voice} {s} {desk} h = record {
       });
 }
 
+-- a command of the wave table is stored as it is
+stored_command : (left : ℕ) → 0xF0 ≤ left → stored_left left ≡ left
+stored_command left high =
+    let many = le-ltb left 0x10 (omega (arith, high)) in
+    let special : nat_le 0xE0 left ≡ true = le-leb 0xE0 left (omega (arith, high)) in
+    let over : nat_le left 0xEF ≡ false = lt-leb left 0xEF high in
+    rw (many, special, over) refl
+
 pub rows_leave : {layout : Layout} {rows voice : ℕ} {s : Playing} {desk : Desk} →
     HoldsVoice layout rows voice s desk → RowsLeave layout rows voice s desk
 rows_leave {layout} {rows} {voice} {s} {desk} h = record {
@@ -175,4 +196,148 @@ rows_leave {layout} {rows} {voice} {s} {desk} h = record {
       let is_left = listed.is in
       let c : nat_le 0xE0 left ≡ false = lt-leb 0xE0 left low in
       rw (sees, is, z, sees_left, is_left, c) refl);
+  command = λ kept left some listed high. (
+      let sees = own_sees h WAVE_POINTER (lit< tt) in
+      let is = own_is h WAVE_POINTER s.voice.wave_ptr (lit< tt) (own_bytes h).wave_pointer in
+      let z = ne_eqb s.voice.wave_ptr 0 some in
+      let sees_left = listed.reads in
+      let is_left = listed.is ∙ stored_command left high in
+      let special : nat_le 0xE0 left ≡ true = le-leb 0xE0 left (omega (arith, high)) in
+      let c : nat_le 0xF0 left ≡ true = le-leb 0xF0 left high in
+      rw (sees, is, z, sees_left, is_left, special, kept, c) refl);
+}
+
+-- the lines of COMMAND_BEGUN, by those in front of the parameter, which settle it in A
+abbrev row_of : Tree → Tree
+row_of first =
+    ThenTree
+    (ScopeTree ONCE
+    (ThenTree first
+    (ThenTree (WithTree Sta (Own PARAM))
+    (ThenTree (WhenTree ROW_ONCE (ThenTree (LeaveTree DONE) NoneTree)) NoneTree))))
+    NoneTree
+
+abbrev first_of : Tree → Tree
+first_of (ThenTree (ScopeTree name (ThenTree first rest)) other) = first
+first_of tree = NeverTree
+
+abbrev settled : Tree
+settled = first_of (tree_of COMMAND_BEGUN.now)
+
+-- lines come to their own end, and leave X
+record Settles (layout : Layout) (first : Tree) (desk : Desk) : Type 0 where
+  ends : (ran each_one layout first desk).outcome ≡ Done
+  x : (ran each_one layout first desk).desk.cpu.x ≡ desk.cpu.x
+
+-- where they do, the block leaves behind them
+row_ends : (layout : Layout) (first : Tree) (desk : Desk) → Settles layout first desk → layout.holds ROW_ONCE ≡ true →
+    layout.may_write ((layout.address PARAM + desk.cpu.x) % 65536) ≡ true →
+    (ran each_one layout (row_of first) desk).outcome ≡ Left DONE
+row_ends layout first desk s once writes =
+    let ends = s.ends in
+    let x = s.x in
+    rw (ends, x, writes, once) refl
+
+-- a row without a command, whether the lines that tell one are kept
+bare_settles : {layout : Layout} {rows voice : ℕ} {s : Playing} {desk : Desk} → HoldsVoice layout rows voice s desk →
+    s.voice.new_command ≡ 0 → layout.may_read ((layout.address VIBRATOS + desk.cpu.y) % 65536) ≡ true → (k : Bool) →
+    layout.holds ROW_COMMAND ≡ k → Settles layout settled desk
+bare_settles h none vibrato true told =
+    let sees = own_sees h NEW_COMMAND (lit< tt) in
+    let is = own_is h NEW_COMMAND 0 (lit< tt) ((own_bytes h).new_command ∙ none) in
+    let command = own_writes h COMMAND (lit< tt) in
+    record { ends = rw (sees, is, told, command, vibrato) refl; x = rw (sees, is, told, command, vibrato) refl }
+bare_settles h none vibrato false told =
+    let sees = own_sees h NEW_COMMAND (lit< tt) in
+    let command = own_writes h COMMAND (lit< tt) in
+    record { ends = rw (sees, told, command, vibrato) refl; x = rw (sees, told, command, vibrato) refl }
+
+-- the lines in front of the parameter, by those of a command that runs, and those behind them
+abbrev settling : Tree → Tree → Tree
+settling slide rest =
+    ScopeTree SETTLED
+    (ThenTree
+    (ScopeTree BARE
+    (ThenTree (WithTree Lda (Own NEW_COMMAND))
+    (ThenTree
+    (WhenTree ROW_COMMAND
+    (ThenTree (LeaveIfTree BARE (On Zero))
+    (ThenTree
+    (WhenTree ROW_ONCE
+    (ThenTree (WithTree Cmp (Number 5)) (ThenTree (LeaveIfTree ONCE (On CarryFlag)) NoneTree)))
+    (ThenTree (WhenTree ROW_SLIDE slide) NoneTree))))
+    NoneTree)))
+    rest)
+
+-- the desk where they are come to
+abbrev row_told : Layout → Desk → Desk
+row_told layout desk =
+    (ran each_one layout
+    (ThenTree (WithTree Lda (Own NEW_COMMAND)) (ThenTree (WithTree Cmp (Number 5)) NoneTree)) desk).desk
+
+-- lines leave for the parameter, and leave X
+record Slides (layout : Layout) (slide : Tree) (desk : Desk) : Type 0 where
+  goes : (ran each_one layout slide desk).outcome ≡ Left SETTLED
+  x : (ran each_one layout slide desk).desk.cpu.x ≡ desk.cpu.x
+
+-- those of a command that runs do, from 3 up or not
+row_slides : (layout : Layout) (desk : Desk) →
+    layout.may_write ((layout.address COMMAND + desk.cpu.x) % 65536) ≡ true →
+    layout.may_write ((layout.address VIB_TIME + desk.cpu.x) % 65536) ≡ true →
+    layout.may_read ((layout.address NEW_PARAM + desk.cpu.x) % 65536) ≡ true → (k : Bool) →
+    nat_le 3 desk.cpu.a ≡ k → Slides layout (part ROW_SLIDE 0 COMMAND_BEGUN.now) desk
+row_slides layout desk command time param true three =
+    record { goes = rw (command, three, param) refl; x = rw (command, three, param) refl }
+row_slides layout desk command time param false three =
+    record { goes = rw (command, three, time, param) refl; x = rw (command, three, time, param) refl }
+
+-- what a command from 1 to 4 finds kept
+record RunningKept (layout : Layout) (command : ℕ) : Type 0 where
+  once : layout.holds ROW_ONCE ≡ true
+  told : layout.holds ROW_COMMAND ≡ true
+  slide : layout.holds ROW_SLIDE ≡ true
+  some : nat_eq command 0 ≡ false
+  low : nat_le 5 command ≡ false
+
+running_settles : {rest : Tree} (layout : Layout) (slide : Tree) (desk : Desk) (command : ℕ) →
+    layout.may_read ((layout.address NEW_COMMAND + desk.cpu.x) % 65536) ≡ true →
+    desk.at ((layout.address NEW_COMMAND + desk.cpu.x) % 65536) ≡ command → RunningKept layout command →
+    Slides layout slide (row_told layout desk) → Settles layout (settling slide rest) desk
+running_settles layout slide desk command sees is c s =
+    let some = c.some in
+    let low = c.low in
+    let goes = rw (row_told, sees, is, low) at s.goes in
+    let x = rw (row_told, sees, is, low) at s.x in
+    record {
+      ends = rw (sees, is, c.told, some, c.once, low, c.slide, goes) refl;
+      x = rw (sees, is, c.told, some, c.once, low, c.slide, goes) x;
+    }
+
+running_ends : {layout : Layout} {rows voice : ℕ} {s : Playing} {desk : Desk} → HoldsVoice layout rows voice s desk →
+    RunningKept layout s.voice.new_command → Settles layout settled desk
+running_ends {layout} {s = s} {desk} h c =
+    let sees = own_sees h NEW_COMMAND (lit< tt) in
+    let is = own_is h NEW_COMMAND s.voice.new_command (lit< tt) (own_bytes h).new_command in
+    let told = row_told layout desk in
+    let command : layout.may_write ((layout.address COMMAND + told.cpu.x) % 65536) ≡ true =
+    rw (row_told, sees) (own_writes h COMMAND (lit< tt)) in
+    let time : layout.may_write ((layout.address VIB_TIME + told.cpu.x) % 65536) ≡ true =
+    rw (row_told, sees) (own_writes h VIB_TIME (lit< tt)) in
+    let param : layout.may_read ((layout.address NEW_PARAM + told.cpu.x) % 65536) ≡ true =
+    rw (row_told, sees) (own_sees h NEW_PARAM (lit< tt)) in
+    running_settles layout (part ROW_SLIDE 0 COMMAND_BEGUN.now) desk s.voice.new_command sees is c
+    (row_slides layout (row_told layout desk) command time param _ refl)
+
+pub rows_end : {layout : Layout} {rows voice : ℕ} {s : Playing} {desk : Desk} →
+    HoldsVoice layout rows voice s desk → RowsEnd layout rows voice s desk
+rows_end {layout} {s = s} {desk} h = record {
+  bare = λ once none vibrato listed.
+      row_ends layout settled desk (bare_settles h none listed.reads _ refl) once (own_writes h PARAM (lit< tt));
+  running = λ once told slide some low. row_ends layout settled desk (running_ends h (record {
+    once = once;
+    told = told;
+    slide = slide;
+    some = ne_eqb s.voice.new_command 0 (λ e. absurd (omega (arith, some, e)));
+    low = lt-leb 5 s.voice.new_command low;
+  })) once (own_writes h PARAM (lit< tt));
 }

@@ -1,13 +1,20 @@
 -- Where parts don't do nothing.
-use Rattle.std.proofs.Common.{◌≡◌, ◌≢◌, ℕ, ◌+◌, ◌%◌, Bool, true, false, nat_eq, eq-eqb, refl, sym, ◌∙◌, lit<, arith, []}
+use Rattle.std.proofs.Common.{◌≡◌, ◌≢◌, ℕ, ◌+◌, ◌*◌, ◌%◌, Bool, true, false, nat_eq, nat_le, eq-eqb, refl, sym, ap}
+use Rattle.std.proofs.Common.{◌∙◌, lit<, arith, [], ◌∷◌}
+use Rattle.std.proofs.lemmas.Bool.{le-leb, ne_eqb}
+use Rattle.play_model.specs.State.{Playing}
 use Rattle.scopes.specs.Desk.{Desk, Layout}
-use Rattle.player_memory.specs.declared.conditions.TheConstants.{SET_AD, GATE_NOTE}
+use Rattle.player_memory.specs.declared.conditions.TheConstants.{SET_AD, GATE_NOTE, ROW_TONE}
+use Rattle.player_memory.specs.declared.conditions.TheConstants.{HELD_NOTE, LEGATO}
 use Rattle.player_text.specs.declared.commands.TheConstants.{AD_SET}
-use Rattle.player_text.specs.declared.fetch.TheConstants.{ENTRY_READ}
-use Rattle.idle_parts.specs.Idle.{Idles, part}
+use Rattle.player_text.specs.declared.fetch.TheConstants.{ENTRY_READ, GATE_CLOSED}
+use Rattle.player_text.specs.declared.tick.TheConstants.{NOTE_TAKEN}
+use Rattle.idle_parts.specs.Idle.{Carry, HoldsVoice, Idles, part}
 use Rattle.idle_parts.specs.WorkedParts.{PartsAreWorked}
-use Rattle.player_memory.specs.declared.labels.TheConstants.{AD, GATE, PULSE_POINTER}
-use Rattle.idle_parts.proofs.Reading.{own_sees, own_is, own_bytes}
+use Rattle.player_memory.specs.declared.labels.TheConstants.{AD, GATE, PULSE_POINTER, NEW_COMMAND}
+use Rattle.player_memory.specs.declared.labels.TheConstants.{NEW_NOTE, INSTRUMENT, GATE_TIMERS}
+use Rattle.player_memory.specs.Playing.{IsListed}
+use Rattle.idle_parts.proofs.Reading.{own_place, own_sees, own_writes, own_is, own_bytes}
 
 done_works : (layout : Layout) (desk : Desk) → desk.cpu.y ≡ 5 →
     desk.at ((layout.address AD + desk.cpu.x) % 65536) ≢ desk.cpu.a → (w : Bool) →
@@ -24,6 +31,40 @@ gate_works : (layout : Layout) (desk : Desk) → desk.cpu.a ≡ 0xBE → (w : Bo
     ¬ Idles layout (part GATE_NOTE 0 ENTRY_READ.now) desk []
 gate_works layout desk off true writes i = let bad = rw (off, writes) at i.ends in absurd (cc)
 gate_works layout desk off false writes i = let bad = rw (off, writes) at i.ends in absurd (cc)
+
+-- command 3, whatever may be read and written
+tone_works : (layout : Layout) (desk : Desk) → desk.at ((layout.address NEW_COMMAND + desk.cpu.x) % 65536) ≡ 3 →
+    (r w : Bool) → layout.may_read ((layout.address NEW_COMMAND + desk.cpu.x) % 65536) ≡ r →
+    layout.may_write ((layout.address NEW_NOTE + desk.cpu.x) % 65536) ≡ w →
+    ¬ Idles layout (part ROW_TONE 0 NOTE_TAKEN.now) desk []
+tone_works layout desk three false w reads writes i = let bad = rw reads at i.ends in absurd (cc)
+tone_works layout desk three true false reads writes i = let bad = rw (reads, three, writes) at i.ends in absurd (cc)
+tone_works layout desk three true true reads writes i = let bad = rw (reads, three, writes) at i.ends in absurd (cc)
+
+tone_works_next : (layout : Layout) (desk : Desk) → desk.at ((layout.address NEW_COMMAND + desk.cpu.x) % 65536) ≡ 3 →
+    (r : Bool) → layout.may_read ((layout.address NEW_COMMAND + desk.cpu.x) % 65536) ≡ r →
+    ¬ Idles layout (part ROW_TONE 0 GATE_CLOSED.now) desk []
+tone_works_next layout desk three false reads i = let bad = rw reads at i.ends in absurd (cc)
+tone_works_next layout desk three true reads i = let bad = rw (reads, three) at i.ends in absurd (cc)
+
+-- bit $80 of the timer, whether the lines of bit $40 are kept
+held_works : {layout : Layout} {rows voice : ℕ} {s : Playing} {desk : Desk} → HoldsVoice layout rows voice s desk →
+    desk.cpu.c ≡ false → IsListed layout rows desk.at GATE_TIMERS s.voice.instrument 0x80 → (k : Bool) →
+    layout.holds LEGATO ≡ k → ¬ Idles layout (part HELD_NOTE 0 GATE_CLOSED.now) desk (Carry ∷ [])
+held_works {s = s} h off listed true kept i =
+    let sees = own_sees h INSTRUMENT (lit< tt) in
+    let is = own_is h INSTRUMENT s.voice.instrument (lit< tt) (own_bytes h).instrument in
+    let sees_timer = listed.reads in
+    let is_timer = listed.is in
+    let c = rw (sees, is, sees_timer, is_timer, kept, off) at i.kept_are.0 in
+    absurd (cc)
+held_works {s = s} h off listed false kept i =
+    let sees = own_sees h INSTRUMENT (lit< tt) in
+    let is = own_is h INSTRUMENT s.voice.instrument (lit< tt) (own_bytes h).instrument in
+    let sees_timer = listed.reads in
+    let is_timer = listed.is in
+    let c = rw (sees, is, sees_timer, is_timer, kept, off) at i.kept_are.0 in
+    absurd (cc)
 
 pub parts_are_worked : PartsAreWorked
 parts_are_worked = record {
@@ -50,7 +91,20 @@ parts_are_worked = record {
   mask = λ layout desk zero i. let bad = rw zero at i.ends in absurd (cc);
   gate = λ layout desk off i. gate_works layout desk off _ refl i;
   legato = λ layout desk minus i. let bad = rw minus at i.ends in absurd (cc);
-  soft = λ layout desk on i. let bad = rw on at i.ends in absurd (cc);
+  soft_restart = λ layout desk on i. let bad = rw on at i.ends in absurd (cc);
   once = λ layout desk five i. let bad = rw five at i.ends in absurd (cc);
   none = λ layout desk i. let bad = i.ends in absurd (cc);
+  tone = λ layout desk three. tone_works layout desk three _ _ refl refl;
+  tone_next = λ layout desk three. tone_works_next layout desk three _ refl;
+  special = λ layout desk kept row i. let bad = rw (row, kept) at i.ends in absurd (cc);
+  held = λ layout rows voice s desk h kept listed i. (
+      let sees = own_sees h INSTRUMENT (lit< tt) in
+      let is = own_is h INSTRUMENT s.voice.instrument (lit< tt) (own_bytes h).instrument in
+      let sees_timer = listed.reads in
+      let is_timer = listed.is in
+      let bad = rw (sees, is, sees_timer, is_timer, kept) at i.ends in absurd (cc));
+  held_carry = λ layout rows voice s desk h off listed. held_works h off listed _ refl;
+  mask_alone = λ layout desk some high i. (
+      let c : nat_le 0xFE desk.cpu.a ≡ true = le-leb 0xFE desk.cpu.a high in
+      let bad = rw (some, c) at i.ends in absurd (cc));
 }

@@ -133,9 +133,10 @@ pub record FactsIdle (layout : Layout) (rows voice : ℕ) (s : Playing) (desk : 
       Idles layout (part HELD_NOTE 0 GATE_CLOSED.now) desk []
   pub held_carry : (timer : ℕ) → IsListed layout rows desk.at GATE_TIMERS s.voice.instrument timer → timer < 0x40 →
       (ran each_one layout (part HELD_NOTE 0 GATE_CLOSED.now) desk).desk.cpu.c ≡ false
-  -- the flags show the two bits
+  -- the flags show the two bits: N bit $40, and the carry bit $80
   pub legato : desk.cpu.n ≡ false → Idles layout (part LEGATO 0 GATE_CLOSED.now) desk (A ∷ Y ∷ Carry ∷ [])
-  pub soft : desk.cpu.c ≡ false → Idles layout (part SOFT_RESTART 0 GATE_CLOSED.now) desk (A ∷ Y ∷ Carry ∷ [])
+  pub soft_restart : desk.cpu.c ≡ false →
+      Idles layout (part SOFT_RESTART 0 GATE_CLOSED.now) desk (A ∷ Y ∷ Carry ∷ [])
   -- A is a left side of the wave table, as it is stored
   pub special : desk.cpu.a < 0xE0 → Idles layout (part SPECIAL_ROW 0 WAVE_STEP.now) desk (A ∷ Y ∷ [])
   -- A is the byte of a run of rests, and the carry is on

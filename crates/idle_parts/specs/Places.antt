@@ -12,7 +12,8 @@ use Rattle.player_text.specs.Texts.{voice_tree}
 use Rattle.player_text.specs.Steps.{effect_tree, tick_tree}
 use Rattle.play_model.specs.State.{Playing}
 use Rattle.player_memory.specs.declared.conditions.TheConstants.{ROW_SLIDE, ROW_ONCE, ROW_COMMAND, WAVE_DELAY}
-use Rattle.player_memory.specs.declared.labels.TheConstants.{WAVE_LEFTS}
+use Rattle.player_memory.specs.declared.labels.TheConstants.{WAVE_LEFTS, VIBRATOS}
+use Rattle.player_memory.specs.Forms.{stored_left}
 use Rattle.player_memory.specs.Playing.{IsListed}
 use Rattle.player_text.specs.declared.joints.TheConstants.{DONE}
 use Rattle.player_text.specs.declared.tick.TheConstants.{COMMAND_BEGUN, ONCE, BARE}
@@ -77,8 +78,13 @@ pub record OnceIsComeTo : Type 0 where
 abbrev pub SOUNDING : ℕ
 SOUNDING = 2
 
+-- the scope in the wave step behind which the row is done, and around the stored waveform's
+abbrev pub NEXT : ℕ
+NEXT = 1
+
 -- A row without a command leaves in front of those that run, and so does one that is done once, where the lines for it
--- are kept; and a waveform in front of a delay.
+-- are kept. In the wave step a waveform leaves in front of a delay, and so does a command, which stands in the song
+-- from $F0 up, where the lines that tell it are kept: neither comes to the delay's lines.
 pub record RowsLeave (layout : Layout) (rows voice : ℕ) (s : Playing) (desk : Desk) : Type 0 where
   pub bare : desk.cpu.z ≡ true → (ran each_one layout (part ROW_COMMAND 0 COMMAND_BEGUN.now) desk).outcome ≡ Left BARE
   pub none : s.voice.new_command ≡ 0 → (met layout ROW_SLIDE COMMAND_BEGUN.now desk).outcome ≡ Left BARE
@@ -86,6 +92,20 @@ pub record RowsLeave (layout : Layout) (rows voice : ℕ) (s : Playing) (desk : 
       (met layout ROW_SLIDE COMMAND_BEGUN.now desk).outcome ≡ Left ONCE
   pub waveform : (left : ℕ) → s.voice.wave_ptr ≢ 0 → IsListed layout rows desk.at WAVE_LEFTS s.voice.wave_ptr left →
       left < 0xE0 → (met layout WAVE_DELAY WAVE_STEP.now desk).outcome ≡ Left SOUNDING
+  pub command : layout.holds WAVE_COMMAND ≡ true → (left : ℕ) → s.voice.wave_ptr ≢ 0 →
+      IsListed layout rows desk.at WAVE_LEFTS s.voice.wave_ptr (stored_left left) → 0xF0 ≤ left →
+      (met layout WAVE_DELAY WAVE_STEP.now desk).outcome ≡ Left NEXT
+
+-- Where the lines of what is done once are kept, a row without a command leaves `DONE` behind its own lines, and so
+-- does one whose command runs, 1 to 4, where the lines for that are kept: neither comes to the commands that are done
+-- once. Y is the instrument, whose vibrato is read where there is no command.
+pub record RowsEnd (layout : Layout) (rows voice : ℕ) (s : Playing) (desk : Desk) : Type 0 where
+  pub bare : layout.holds ROW_ONCE ≡ true → s.voice.new_command ≡ 0 → (vibrato : ℕ) →
+      IsListed layout rows desk.at VIBRATOS desk.cpu.y vibrato →
+      (ran each_one layout (tree_of COMMAND_BEGUN.now) desk).outcome ≡ Left DONE
+  pub running : layout.holds ROW_ONCE ≡ true → layout.holds ROW_COMMAND ≡ true → layout.holds ROW_SLIDE ≡ true →
+      1 ≤ s.voice.new_command → s.voice.new_command < 5 →
+      (ran each_one layout (tree_of COMMAND_BEGUN.now) desk).outcome ≡ Left DONE
 
 -- Commands 1 and 2 leave before the lines of tone portamento, where theirs are kept.
 pub record SlidesLeave (layout : Layout) (desk : Desk) : Type 0 where

@@ -1,5 +1,5 @@
 -- Where parts don't do nothing, worked by hand.
-use Rattle.std.specs.Prelude.{◌≡◌, ◌≢◌, ℕ, ◌+◌, ◌%◌, true, false, [], ◌∷◌}
+use Rattle.std.specs.Prelude.{◌≡◌, ◌≢◌, ℕ, ◌+◌, ◌%◌, ◌≤◌, true, false, [], ◌∷◌}
 use Rattle.cpu6502.specs.declared.mnemonic.Mnemonic.TheVariants.{Dex}
 use Rattle.play_model.specs.State.{Playing}
 use Rattle.scopes.specs.Desk.{Desk, Layout}
@@ -7,11 +7,15 @@ use Rattle.scopes.specs.Trees.{Tree, DoTree, NoneTree, ThenTree, ScopeTree, Leav
 use Rattle.scopes.specs.Meaning.{each_one, ran}
 use Rattle.player_memory.specs.declared.conditions.TheConstants.{SET_AD, SET_TEMPO, PULSE_TABLE, PORTA_UP, TIE_NOTE}
 use Rattle.player_memory.specs.declared.conditions.TheConstants.{FIRST_MASK, GATE_NOTE, LEGATO, SOFT_RESTART, ROW_ONCE}
-use Rattle.player_memory.specs.declared.labels.TheConstants.{AD}
+use Rattle.player_memory.specs.declared.conditions.TheConstants.{ROW_TONE, SPECIAL_ROW, WAVE_COMMAND}
+use Rattle.player_memory.specs.declared.conditions.TheConstants.{HELD_NOTE}
+use Rattle.player_memory.specs.declared.labels.TheConstants.{AD, NEW_COMMAND, GATE_TIMERS}
+use Rattle.player_memory.specs.Playing.{IsListed}
 use Rattle.player_text.specs.declared.commands.TheConstants.{AD_SET, TEMPO_SET}
 use Rattle.player_text.specs.declared.slide.TheConstants.{PORTA_STEP, TONE_STEP}
 use Rattle.player_text.specs.declared.pulse.TheConstants.{PULSE}
-use Rattle.player_text.specs.declared.tick.TheConstants.{NOTE_BEGUN, COMMAND_BEGUN}
+use Rattle.player_text.specs.declared.tick.TheConstants.{NOTE_TAKEN, NOTE_BEGUN, COMMAND_BEGUN}
+use Rattle.player_text.specs.declared.wave.TheConstants.{WAVE_STEP}
 use Rattle.player_text.specs.declared.fetch.TheConstants.{ENTRY_READ, GATE_CLOSED}
 use Rattle.idle_parts.specs.Idle.{A, Y, Carry, Idles, HoldsVoice, bodies, front, part}
 use Rattle.idle_parts.specs.Fronts.{Finds}
@@ -54,8 +58,28 @@ pub record PartsAreWorked : Type 0 where
   pub mask : (layout : Layout) (desk : Desk) → desk.cpu.z ≡ true → ¬ Idles layout (part FIRST_MASK 0 NOTE_BEGUN.now) desk []
   pub gate : (layout : Layout) (desk : Desk) → desk.cpu.a ≡ 0xBE → ¬ Idles layout (part GATE_NOTE 0 ENTRY_READ.now) desk []
   pub legato : (layout : Layout) (desk : Desk) → desk.cpu.n ≡ true → ¬ Idles layout (part LEGATO 0 GATE_CLOSED.now) desk []
-  pub soft : (layout : Layout) (desk : Desk) → desk.cpu.c ≡ true →
+  pub soft_restart : (layout : Layout) (desk : Desk) → desk.cpu.c ≡ true →
       ¬ Idles layout (part SOFT_RESTART 0 GATE_CLOSED.now) desk []
   pub once : (layout : Layout) (desk : Desk) → desk.cpu.a ≡ 5 → ¬ Idles layout (part ROW_ONCE 0 COMMAND_BEGUN.now) desk []
   -- a part that isn't there does nothing of its own, and isn't one that idles
   pub none : (layout : Layout) (desk : Desk) → ¬ Idles layout (part PORTA_UP 1 PORTA_STEP.now) desk []
+  -- command 3 of a row leaves, where a note is taken and where the gate is closed before one
+  pub tone : (layout : Layout) (desk : Desk) → desk.at ((layout.address NEW_COMMAND + desk.cpu.x) % 65536) ≡ 3 →
+      ¬ Idles layout (part ROW_TONE 0 NOTE_TAKEN.now) desk []
+  pub tone_next : (layout : Layout) (desk : Desk) → desk.at ((layout.address NEW_COMMAND + desk.cpu.x) % 65536) ≡ 3 →
+      ¬ Idles layout (part ROW_TONE 0 GATE_CLOSED.now) desk []
+  -- a command of the wave table leaves in front of the waveform's line
+  pub special : (layout : Layout) (desk : Desk) → layout.holds WAVE_COMMAND ≡ true → desk.cpu.a ≡ 0xF0 →
+      ¬ Idles layout (part SPECIAL_ROW 0 WAVE_STEP.now) desk []
+  -- a gateoff timer of $40 leaves the gate, and one of $80 sets the carry
+  pub held : (layout : Layout) (rows voice : ℕ) (s : Playing) (desk : Desk) →
+      HoldsVoice layout rows voice s desk → layout.holds LEGATO ≡ true →
+      IsListed layout rows desk.at GATE_TIMERS s.voice.instrument 0x40 →
+      ¬ Idles layout (part HELD_NOTE 0 GATE_CLOSED.now) desk []
+  pub held_carry : (layout : Layout) (rows voice : ℕ) (s : Playing) (desk : Desk) →
+      HoldsVoice layout rows voice s desk → desk.cpu.c ≡ false →
+      IsListed layout rows desk.at GATE_TIMERS s.voice.instrument 0x80 →
+      ¬ Idles layout (part HELD_NOTE 0 GATE_CLOSED.now) desk (Carry ∷ [])
+  -- a first waveform from $FE on is a mask: it leaves the waveform as it is
+  pub mask_alone : (layout : Layout) (desk : Desk) → desk.cpu.z ≡ false → 0xFE ≤ desk.cpu.a →
+      ¬ Idles layout (part FIRST_MASK 0 NOTE_BEGUN.now) desk []

@@ -10,7 +10,7 @@ ghost use Rattle.idle_parts.specs.LeftOut.{PartsCanBeLeftOut};
 ghost use Rattle.idle_parts.specs.Fronts.{FrontsEnd, StoredIsLow, CommandsAreFound, EffectsAreFound};
 ghost use Rattle.idle_parts.specs.Fronts.{NotesAreFound, LentAreFound, PlaysAreFound};
 ghost use Rattle.idle_parts.specs.PartList.{PartsAreThese};
-ghost use Rattle.idle_parts.specs.Places.{PartsAreComeTo, OnceIsComeTo, RowsLeave, SlidesLeave};
+ghost use Rattle.idle_parts.specs.Places.{PartsAreComeTo, OnceIsComeTo, RowsLeave, SlidesLeave, RowsEnd};
 ghost use Rattle.idle_parts.specs.WorkedParts.{PartsAreWorked};
 
 /// Where a memory holds a state that keeps clear of a part, the part's lines come to their own end, and leave each
@@ -31,7 +31,7 @@ pub fn parts_are_idle()
 {}
 
 /// Which parts there are, and which lines lead to those that no clear state comes to.
-#[tactic(auto, using(crate::proofs::PartList::parts_are_these, crate::proofs::PartPlaces::parts_are_come_to, crate::proofs::PartPlaces::once_is_come_to, crate::proofs::PartPlaces::slides_leave, crate::proofs::FactParts::rows_leave))]
+#[tactic(auto, using(crate::proofs::PartList::parts_are_these, crate::proofs::PartPlaces::parts_are_come_to, crate::proofs::PartPlaces::once_is_come_to, crate::proofs::PartPlaces::slides_leave, crate::proofs::FactParts::rows_leave, crate::proofs::FactParts::rows_end))]
 pub fn parts_have_places()
     ensures parts { PartsAreThese }
     ensures leaves { PartsAreComeTo }
@@ -39,6 +39,8 @@ pub fn parts_have_places()
     ensures slides { (layout : Layout) (desk : Desk) → SlidesLeave layout desk }
     ensures rows { (layout : Layout) (rows voice : ℕ) (s : Playing) (desk : Desk) →
         HoldsVoice layout rows voice s desk → RowsLeave layout rows voice s desk }
+    ensures rows_end { (layout : Layout) (rows voice : ℕ) (s : Playing) (desk : Desk) →
+        HoldsVoice layout rows voice s desk → RowsEnd layout rows voice s desk }
 {}
 
 /// What the lines in front of the parts find, from memories that hold a state: that they come to their end there, and
