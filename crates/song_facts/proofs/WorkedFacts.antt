@@ -14,8 +14,8 @@ use Rattle.play_model.specs.Used.{IsPlayedOrder, IsPlayedByte, IsUsedPattern, Is
 use Rattle.play_model.specs.Reached.{IsReached, IsPlayedPointer, of_instrument, of_row, played, pointed, led}
 use Rattle.play_model.specs.WorkedSongs.{row, sides, plucked, one_note, with_rows, with_instrument}
 use Rattle.song_facts.specs.declared.facts.Fact.{Fact}
-use Rattle.song_facts.specs.declared.facts.Fact.TheVariants.{RowTone, RowSlide, RowOnce, FirstMask, Legato, SoftRestart}
-use Rattle.song_facts.specs.declared.facts.Fact.TheVariants.{WaveDelay, GateNote}
+use Rattle.song_facts.specs.declared.facts.Fact.TheVariants.{RowTone, RowSlide, RowOnce, FirstMask, Legato, NoHardRestart}
+use Rattle.song_facts.specs.declared.facts.Fact.TheVariants.{WaveDelay, GateNote, NoteVibrato, VibratoDelay, NotePulse, NoteFilter}
 use Rattle.song_facts.specs.Facts.{IsMask, is_among, no_facts, HasSuchRow, HasSuchInstrument, HasSuchWaveRow, HasFact}
 use Rattle.song_facts.specs.WorkedFacts.{RowsAreTold, InstrumentsAreTold, SongsAreTold, SetsAreTold, song_of, wave_of}
 
@@ -47,6 +47,14 @@ instruments_are_told = record {
   soft = (refl, λ e. omega (arith, e));
   not_soft = λ e. (let off = e.0 in omega arith);
   hard = λ e. e.1 refl;
+  vibrato = λ e. omega (arith, e);
+  no_vibrato = λ e. e refl;
+  delayed = λ e. omega (arith, e);
+  not_delayed = λ e. e refl;
+  pulse = λ e. omega (arith, e);
+  no_pulse = λ e. e refl;
+  filter = λ e. omega (arith, e);
+  no_filter = λ e. e refl;
 }
 
 -- ---- songs that have a fact
@@ -149,6 +157,10 @@ songs_are_told = record {
     reached = wave_reached 0x0F;
     is_such = omega arith;
   };
+  vibrato = record { instrument = 1; used = inl refl; is_such = λ e. omega (arith, e) };
+  late = record { instrument = 1; used = inl refl; is_such = λ e. omega (arith, e) };
+  pulse = record { instrument = 1; used = inl refl; is_such = λ e. omega (arith, e) };
+  filter = record { instrument = 1; used = inl refl; is_such = λ e. omega (arith, e) };
   not_played = λ has. no_such_row _ refl _ has;
   not_named = λ has. plain (such_first _ refl IsMask has);
   not_reached = λ has. none_reached _ refl refl has.p has.reached;
@@ -167,9 +179,13 @@ fact_of_empty RowSlide has = absurd (no_such_row empty_song refl _ has)
 fact_of_empty RowOnce has = absurd (no_such_row empty_song refl _ has)
 fact_of_empty FirstMask has = refl
 fact_of_empty Legato has = absurd (such_first empty_song refl _ has refl)
-fact_of_empty SoftRestart has = absurd ((such_first empty_song refl _ has).1 refl)
+fact_of_empty NoHardRestart has = absurd ((such_first empty_song refl _ has).1 refl)
 fact_of_empty WaveDelay has = absurd (none_reached empty_song refl refl has.p has.reached)
 fact_of_empty GateNote has = absurd (no_such_row empty_song refl _ has)
+fact_of_empty NoteVibrato has = absurd (such_first empty_song refl _ has refl)
+fact_of_empty VibratoDelay has = absurd (such_first empty_song refl _ has refl)
+fact_of_empty NotePulse has = absurd (such_first empty_song refl _ has refl)
+fact_of_empty NoteFilter has = absurd (such_first empty_song refl _ has refl)
 
 other : (fact : Fact) → ¬ (fact ≡ FirstMask) → ¬ HasFact empty_song fact
 other fact not has = not (fact_of_empty fact has)
@@ -184,9 +200,13 @@ empty_has RowSlide = (λ on. absurd cc, λ has. absurd (other RowSlide (λ e. cc
 empty_has RowOnce = (λ on. absurd cc, λ has. absurd (other RowOnce (λ e. cc) has))
 empty_has FirstMask = (λ on. first_mask, λ has. refl)
 empty_has Legato = (λ on. absurd cc, λ has. absurd (other Legato (λ e. cc) has))
-empty_has SoftRestart = (λ on. absurd cc, λ has. absurd (other SoftRestart (λ e. cc) has))
+empty_has NoHardRestart = (λ on. absurd cc, λ has. absurd (other NoHardRestart (λ e. cc) has))
 empty_has WaveDelay = (λ on. absurd cc, λ has. absurd (other WaveDelay (λ e. cc) has))
 empty_has GateNote = (λ on. absurd cc, λ has. absurd (other GateNote (λ e. cc) has))
+empty_has NoteVibrato = (λ on. absurd cc, λ has. absurd (other NoteVibrato (λ e. cc) has))
+empty_has VibratoDelay = (λ on. absurd cc, λ has. absurd (other VibratoDelay (λ e. cc) has))
+empty_has NotePulse = (λ on. absurd cc, λ has. absurd (other NotePulse (λ e. cc) has))
+empty_has NoteFilter = (λ on. absurd cc, λ has. absurd (other NoteFilter (λ e. cc) has))
 
 pub sets_are_told : SetsAreTold
 sets_are_told = record {

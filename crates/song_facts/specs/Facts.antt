@@ -11,8 +11,8 @@ use Rattle.play_model.specs.Used.{IsUsedRow, IsUsedInstrument}
 use Rattle.play_model.specs.Reached.{IsReached}
 use Rattle.song_facts.specs.declared.facts.Fact.{Fact}
 use Rattle.song_facts.specs.declared.facts.Facts.{Facts}
-use Rattle.song_facts.specs.declared.facts.Fact.TheVariants.{RowTone, RowSlide, RowOnce, FirstMask, Legato, SoftRestart}
-use Rattle.song_facts.specs.declared.facts.Fact.TheVariants.{WaveDelay, GateNote}
+use Rattle.song_facts.specs.declared.facts.Fact.TheVariants.{RowTone, RowSlide, RowOnce, FirstMask, Legato, NoHardRestart}
+use Rattle.song_facts.specs.declared.facts.Fact.TheVariants.{WaveDelay, GateNote, NoteVibrato, VibratoDelay, NotePulse, NoteFilter}
 
 -- the number of a fact
 abbrev pub number_of : Fact → ℕ
@@ -21,9 +21,13 @@ number_of RowSlide = 1
 number_of RowOnce = 2
 number_of FirstMask = 3
 number_of Legato = 4
-number_of SoftRestart = 5
+number_of NoHardRestart = 5
 number_of WaveDelay = 6
 number_of GateNote = 7
+number_of NoteVibrato = 8
+number_of VibratoDelay = 9
+number_of NotePulse = 10
+number_of NoteFilter = 11
 
 -- ---- rows of patterns
 
@@ -54,14 +58,75 @@ abbrev pub IsLegato : Instrument → Type 0
 IsLegato i = bit_and i.gate_timer 0x40 ≢ 0
 
 -- where the gate goes off, bit $80 keeps the envelope
-abbrev pub IsSoft : Instrument → Type 0
-IsSoft i = (bit_and i.gate_timer 0x40 ≡ 0) × (bit_and i.gate_timer 0x80 ≢ 0)
+abbrev pub KeepsEnvelope : Instrument → Type 0
+KeepsEnvelope i = (bit_and i.gate_timer 0x40 ≡ 0) × (bit_and i.gate_timer 0x80 ≢ 0)
+
+-- the vibrato that its notes begin, and the delay of it
+abbrev pub HasVibrato : Instrument → Type 0
+HasVibrato i = i.vibrato ≢ 0
+
+abbrev pub HasVibratoDelay : Instrument → Type 0
+HasVibratoDelay i = i.vibrato_delay ≢ 0
+
+-- the programs that its notes begin
+abbrev pub HasPulse : Instrument → Type 0
+HasPulse i = i.pulse ≢ 0
+
+abbrev pub HasFilter : Instrument → Type 0
+HasFilter i = i.filter ≢ 0
 
 -- ---- rows of the wave table
 
 -- a left side below $10 is a delay
 abbrev pub IsDelay : TableRow → Type 0
 IsDelay row = row.left < 0x10
+
+-- ---- what gives a song a fact
+
+-- a row of a pattern
+abbrev pub IsOfRow : Fact → Row → Type 0
+IsOfRow RowTone = IsTone
+IsOfRow RowSlide = IsSlide
+IsOfRow RowOnce = IsOnce
+IsOfRow FirstMask = λ row. ⊥
+IsOfRow Legato = λ row. ⊥
+IsOfRow NoHardRestart = λ row. ⊥
+IsOfRow WaveDelay = λ row. ⊥
+IsOfRow GateNote = IsGateNote
+IsOfRow NoteVibrato = λ row. ⊥
+IsOfRow VibratoDelay = λ row. ⊥
+IsOfRow NotePulse = λ row. ⊥
+IsOfRow NoteFilter = λ row. ⊥
+
+-- an instrument
+abbrev pub IsOfInstrument : Fact → Instrument → Type 0
+IsOfInstrument RowTone = λ i. ⊥
+IsOfInstrument RowSlide = λ i. ⊥
+IsOfInstrument RowOnce = λ i. ⊥
+IsOfInstrument FirstMask = IsMask
+IsOfInstrument Legato = IsLegato
+IsOfInstrument NoHardRestart = KeepsEnvelope
+IsOfInstrument WaveDelay = λ i. ⊥
+IsOfInstrument GateNote = λ i. ⊥
+IsOfInstrument NoteVibrato = HasVibrato
+IsOfInstrument VibratoDelay = HasVibratoDelay
+IsOfInstrument NotePulse = HasPulse
+IsOfInstrument NoteFilter = HasFilter
+
+-- a row of the wave table
+abbrev pub IsOfWaveRow : Fact → TableRow → Type 0
+IsOfWaveRow RowTone = λ row. ⊥
+IsOfWaveRow RowSlide = λ row. ⊥
+IsOfWaveRow RowOnce = λ row. ⊥
+IsOfWaveRow FirstMask = λ row. ⊥
+IsOfWaveRow Legato = λ row. ⊥
+IsOfWaveRow NoHardRestart = λ row. ⊥
+IsOfWaveRow WaveDelay = IsDelay
+IsOfWaveRow GateNote = λ row. ⊥
+IsOfWaveRow NoteVibrato = λ row. ⊥
+IsOfWaveRow VibratoDelay = λ row. ⊥
+IsOfWaveRow NotePulse = λ row. ⊥
+IsOfWaveRow NoteFilter = λ row. ⊥
 
 -- ---- songs
 
@@ -90,9 +155,13 @@ HasFact song RowSlide = HasSuchRow song IsSlide
 HasFact song RowOnce = HasSuchRow song IsOnce
 HasFact song FirstMask = HasSuchInstrument song IsMask
 HasFact song Legato = HasSuchInstrument song IsLegato
-HasFact song SoftRestart = HasSuchInstrument song IsSoft
+HasFact song NoHardRestart = HasSuchInstrument song KeepsEnvelope
 HasFact song WaveDelay = HasSuchWaveRow song IsDelay
 HasFact song GateNote = HasSuchRow song IsGateNote
+HasFact song NoteVibrato = HasSuchInstrument song HasVibrato
+HasFact song VibratoDelay = HasSuchInstrument song HasVibratoDelay
+HasFact song NotePulse = HasSuchInstrument song HasPulse
+HasFact song NoteFilter = HasSuchInstrument song HasFilter
 
 -- whether a fact is among these
 abbrev pub is_among : Facts → Fact → Bool
@@ -101,9 +170,13 @@ is_among facts RowSlide = facts.row_slide
 is_among facts RowOnce = facts.row_once
 is_among facts FirstMask = facts.first_mask
 is_among facts Legato = facts.legato
-is_among facts SoftRestart = facts.soft_restart
+is_among facts NoHardRestart = facts.no_hard_restart
 is_among facts WaveDelay = facts.wave_delay
 is_among facts GateNote = facts.gate_note
+is_among facts NoteVibrato = facts.note_vibrato
+is_among facts VibratoDelay = facts.vibrato_delay
+is_among facts NotePulse = facts.note_pulse
+is_among facts NoteFilter = facts.note_filter
 
 -- these are the song's facts: those that it has, and no others
 pub record AreFacts (song : Song) (facts : Facts) : Type 0 where
@@ -121,9 +194,13 @@ no_facts = record {
   row_once = false;
   first_mask = false;
   legato = false;
-  soft_restart = false;
+  no_hard_restart = false;
   wave_delay = false;
   gate_note = false;
+  note_vibrato = false;
+  vibrato_delay = false;
+  note_pulse = false;
+  note_filter = false;
 }
 
 -- of one that has all
@@ -134,7 +211,11 @@ all_facts = record {
   row_once = true;
   first_mask = true;
   legato = true;
-  soft_restart = true;
+  no_hard_restart = true;
   wave_delay = true;
   gate_note = true;
+  note_vibrato = true;
+  vibrato_delay = true;
+  note_pulse = true;
+  note_filter = true;
 }

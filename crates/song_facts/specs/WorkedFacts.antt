@@ -3,9 +3,10 @@ use Rattle.std.specs.Prelude.{ℕ, true, [], ◌∷◌}
 use Rattle.song_model.specs.declared.songs.Song.{Song}
 use Rattle.song_model.specs.Silence.{empty_song}
 use Rattle.play_model.specs.WorkedSongs.{row, sides, plucked, one_note, with_rows, with_instrument}
-use Rattle.song_facts.specs.declared.facts.Fact.TheVariants.{RowTone, RowSlide, RowOnce, FirstMask, Legato, SoftRestart}
-use Rattle.song_facts.specs.declared.facts.Fact.TheVariants.{WaveDelay, GateNote}
-use Rattle.song_facts.specs.Facts.{IsTone, IsSlide, IsOnce, IsGateNote, IsMask, IsLegato, IsSoft, IsDelay}
+use Rattle.song_facts.specs.declared.facts.Fact.TheVariants.{RowTone, RowSlide, RowOnce, FirstMask, Legato, NoHardRestart}
+use Rattle.song_facts.specs.declared.facts.Fact.TheVariants.{WaveDelay, GateNote, NoteVibrato, VibratoDelay, NotePulse, NoteFilter}
+use Rattle.song_facts.specs.Facts.{IsTone, IsSlide, IsOnce, IsGateNote, IsMask, IsLegato, KeepsEnvelope, IsDelay}
+use Rattle.song_facts.specs.Facts.{HasVibrato, HasVibratoDelay, HasPulse, HasFilter}
 use Rattle.song_facts.specs.Facts.{HasFact, AreFacts, AddsNoFact, no_facts}
 
 -- each kind of row at its edges
@@ -32,9 +33,17 @@ pub record InstrumentsAreTold : Type 0 where
   pub legato : IsLegato (record plucked { gate_timer = 0x42 })
   pub both : IsLegato (record plucked { gate_timer = 0xC2 })
   pub no_legato : ¬ IsLegato (record plucked { gate_timer = 0xBF })
-  pub soft : IsSoft (record plucked { gate_timer = 0x82 })
-  pub not_soft : ¬ IsSoft (record plucked { gate_timer = 0xC2 })
-  pub hard : ¬ IsSoft (record plucked { gate_timer = 0x3F })
+  pub soft : KeepsEnvelope (record plucked { gate_timer = 0x82 })
+  pub not_soft : ¬ KeepsEnvelope (record plucked { gate_timer = 0xC2 })
+  pub hard : ¬ KeepsEnvelope (record plucked { gate_timer = 0x3F })
+  pub vibrato : HasVibrato (record plucked { vibrato = 1 })
+  pub no_vibrato : ¬ HasVibrato (record plucked { vibrato = 0; vibrato_delay = 1 })
+  pub delayed : HasVibratoDelay (record plucked { vibrato_delay = 1 })
+  pub not_delayed : ¬ HasVibratoDelay (record plucked { vibrato = 1; vibrato_delay = 0 })
+  pub pulse : HasPulse (record plucked { pulse = 1; filter = 0 })
+  pub no_pulse : ¬ HasPulse (record plucked { pulse = 0; filter = 1 })
+  pub filter : HasFilter (record plucked { pulse = 0; filter = 1 })
+  pub no_filter : ¬ HasFilter (record plucked { pulse = 1; filter = 0 })
 
 -- the song whose first pattern is a row with this note and command
 abbrev pub song_of : ℕ → ℕ → Song
@@ -53,8 +62,12 @@ pub record SongsAreTold : Type 0 where
   pub gate : HasFact one_note GateNote
   pub mask : HasFact (with_instrument (record plucked { first_wave = 0xFF }) one_note) FirstMask
   pub legato : HasFact (with_instrument (record plucked { gate_timer = 0x42 }) one_note) Legato
-  pub soft : HasFact (with_instrument (record plucked { gate_timer = 0x82 }) one_note) SoftRestart
+  pub soft : HasFact (with_instrument (record plucked { gate_timer = 0x82 }) one_note) NoHardRestart
   pub delay : HasFact (wave_of 0x0F) WaveDelay
+  pub vibrato : HasFact (with_instrument (record plucked { vibrato = 1 }) one_note) NoteVibrato
+  pub late : HasFact (with_instrument (record plucked { vibrato_delay = 1 }) one_note) VibratoDelay
+  pub pulse : HasFact (with_instrument (record plucked { pulse = 1 }) one_note) NotePulse
+  pub filter : HasFact (with_instrument (record plucked { filter = 1 }) one_note) NoteFilter
   pub not_played : ¬ HasFact (record empty_song { patterns = (row 0xBE 0 3 0 ∷ []) ∷ [] }) GateNote
   pub not_named : ¬ HasFact (record empty_song { instruments = plucked ∷ record plucked { first_wave = 0 } ∷ [] }) FirstMask
   pub not_reached : ¬ HasFact (record empty_song { wave = sides 0x0F 0 ∷ [] }) WaveDelay

@@ -1,6 +1,8 @@
 //! Facts of a song.
 
-ghost use Rattle.std.specs.Prelude.{◌≡◌};
+ghost use Rattle.std.specs.Prelude.{◌≡◌, ◌↔◌, IsTrue};
+
+use song_model::{Instrument, Row, TableRow};
 
 /// What a song has beside its features, of all that it uses: rows of its patterns, its instruments and the rows of its
 /// wave table. The player leaves out what it does for a fact where a song hasn't it.
@@ -17,21 +19,66 @@ pub enum Fact {
     /// An instrument's gateoff timer has bit `$40`: the gate stays as it is before a note.
     Legato,
     /// An instrument's gateoff timer has bit `$80` and not `$40`: the envelope stays as it is before a note.
-    SoftRestart,
+    NoHardRestart,
     /// A row of the wave table has a left side below `$10`: a delay.
     WaveDelay,
     /// A row has keyoff or keyon in place of a note.
     GateNote,
+    /// An instrument has a vibrato, which each of its notes begins.
+    NoteVibrato,
+    /// An instrument has a delay of its vibrato.
+    VibratoDelay,
+    /// An instrument has a pulse program, which each of its notes begins.
+    NotePulse,
+    /// An instrument has a filter program, which each of its notes begins.
+    NoteFilter,
 }
 
 impl Fact {
-    ghost use Rattle.song_facts.specs.Facts.{number_of};
+    ghost use Rattle.song_facts.specs.Facts.{number_of, IsOfRow, IsOfInstrument, IsOfWaveRow};
 
-    /// The fact's number, 0 to 7.
+    /// The fact's number, 0 to 11.
     pub fn number(self) -> u8
         ensures { result ≡ number_of self }
     {
         self as u8
+    }
+
+    /// Whether a row of a pattern gives a song the fact.
+    pub fn is_of_row(self, row: Row) -> bool
+        ensures { IsTrue result ↔ IsOfRow self row }
+    {
+        match self {
+            Fact::RowTone => row.command == 3,
+            Fact::RowSlide => 1 <= row.command && row.command <= 4,
+            Fact::RowOnce => row.command >= 5,
+            Fact::GateNote => row.note == 0xbe || row.note == 0xbf,
+            _ => false,
+        }
+    }
+
+    /// Whether an instrument gives a song the fact.
+    pub fn is_of_instrument(self, instrument: &Instrument) -> bool
+        ensures { IsTrue result ↔ IsOfInstrument self instrument.now }
+    {
+        let timer = instrument.gate_timer;
+        match self {
+            Fact::FirstMask => instrument.first_wave == 0 || instrument.first_wave >= 0xfe,
+            Fact::Legato => timer & 0x40 != 0,
+            Fact::NoHardRestart => timer & 0x40 == 0 && timer & 0x80 != 0,
+            Fact::NoteVibrato => instrument.vibrato != 0,
+            Fact::VibratoDelay => instrument.vibrato_delay != 0,
+            Fact::NotePulse => instrument.pulse != 0,
+            Fact::NoteFilter => instrument.filter != 0,
+            _ => false,
+        }
+    }
+
+    /// Whether a row of the wave table gives a song the fact.
+    pub fn is_of_wave_row(self, row: TableRow) -> bool
+        ensures { IsTrue result ↔ IsOfWaveRow self row }
+    {
+        self == Fact::WaveDelay && row.left < 0x10
     }
 }
 
@@ -48,10 +95,42 @@ pub struct Facts {
     pub first_mask: bool,
     /// [`Fact::Legato`].
     pub legato: bool,
-    /// [`Fact::SoftRestart`].
-    pub soft_restart: bool,
+    /// [`Fact::NoHardRestart`].
+    pub no_hard_restart: bool,
     /// [`Fact::WaveDelay`].
     pub wave_delay: bool,
     /// [`Fact::GateNote`].
     pub gate_note: bool,
+    /// [`Fact::NoteVibrato`].
+    pub note_vibrato: bool,
+    /// [`Fact::VibratoDelay`].
+    pub vibrato_delay: bool,
+    /// [`Fact::NotePulse`].
+    pub note_pulse: bool,
+    /// [`Fact::NoteFilter`].
+    pub note_filter: bool,
+}
+
+impl Facts {
+    ghost use Rattle.song_facts.specs.Facts.{is_among};
+
+    /// Whether the fact is among these.
+    pub fn has(&self, fact: Fact) -> bool
+        ensures { result ≡ is_among self.now fact }
+    {
+        match fact {
+            Fact::RowTone => self.row_tone,
+            Fact::RowSlide => self.row_slide,
+            Fact::RowOnce => self.row_once,
+            Fact::FirstMask => self.first_mask,
+            Fact::Legato => self.legato,
+            Fact::NoHardRestart => self.no_hard_restart,
+            Fact::WaveDelay => self.wave_delay,
+            Fact::GateNote => self.gate_note,
+            Fact::NoteVibrato => self.note_vibrato,
+            Fact::VibratoDelay => self.vibrato_delay,
+            Fact::NotePulse => self.note_pulse,
+            Fact::NoteFilter => self.note_filter,
+        }
+    }
 }

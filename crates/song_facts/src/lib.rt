@@ -2,7 +2,7 @@
 //! out what no song like it needs.
 //!
 //! The layer's one contract: it says of each fact which songs have it (`HasFact`), and which set of facts is a song's
-//! (`AreFacts`). It has no code but the numbers of facts; `usage` answers the set.
+//! (`AreFacts`). Its code tells whether a row or an instrument gives a song a fact; `usage` answers the set.
 //!
 //! It stands on `song_model` for the song, and on `play_model` for what of a song is used.
 #![tactic(auto)]
