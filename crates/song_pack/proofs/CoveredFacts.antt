@@ -4,15 +4,19 @@ use Rattle.std.specs.Prelude.{bit_and}
 use Rattle.song_model.specs.declared.rows.Row.{Row}
 use Rattle.song_model.specs.declared.instruments.Instrument.{Instrument}
 use Rattle.song_model.specs.declared.tables.TableRow.{TableRow}
-use Rattle.song_model.specs.declared.tables.TableName.TheVariants.{Wave}
+use Rattle.song_model.specs.declared.tables.TableName.{TableName}
+use Rattle.song_model.specs.declared.tables.TableName.TheVariants.{Wave, Pulse, Filter, Speed}
 use Rattle.song_model.specs.declared.songs.Song.{Song}
 use Rattle.song_model.specs.LookUp.{table_row, instrument_at}
+use Rattle.song_model.specs.Pointers.{instrument_pointer}
 use Rattle.same_frames.specs.Maps.{Maps, moved_row, IsRowFor, IsInstrumentFor}
-use Rattle.song_facts.specs.declared.facts.Fact.TheVariants.{RowTone, RowSlide, RowOnce, FirstMask, Legato, SoftRestart}
-use Rattle.song_facts.specs.declared.facts.Fact.TheVariants.{WaveDelay, GateNote}
-use Rattle.song_facts.specs.Facts.{IsTone, IsSlide, IsOnce, IsGateNote, IsMask, IsLegato, IsSoft}
+use Rattle.song_facts.specs.declared.facts.Fact.TheVariants.{RowTone, RowSlide, RowOnce, FirstMask, Legato, NoHardRestart}
+use Rattle.song_facts.specs.declared.facts.Fact.TheVariants.{WaveDelay, GateNote, NoteVibrato, VibratoDelay, NotePulse, NoteFilter}
+use Rattle.song_facts.specs.Facts.{IsTone, IsSlide, IsOnce, IsGateNote, IsMask, IsLegato, KeepsEnvelope}
+use Rattle.song_facts.specs.Facts.{HasVibratoDelay}
 use Rattle.song_facts.specs.Facts.{HasSuchRow, HasSuchInstrument, HasSuchWaveRow, AddsNoFact}
-use Rattle.song_pack.proofs.UsedParts.{IsMoved, used_row_from, instrument_from, reached_from}
+use Rattle.same_frames.proofs.Laws.{old_some}
+use Rattle.song_pack.proofs.UsedParts.{IsMoved, under, used_row_from, instrument_from, pointer_moved, reached_from}
 
 module _ (maps : Maps) where
   -- ---- what a part's stand-in tells of the part
@@ -42,6 +46,10 @@ module _ (maps : Maps) where
   unfolding InstrumentsKeep
   gate_timer_keeps IsSuch i other is such = subst IsSuch (ap (λ (x : Instrument). x.gate_timer) is.moved) such
 
+  vibrato_delay_keeps : (IsSuch : ℕ → Type 0) → InstrumentsKeep (λ i. IsSuch i.vibrato_delay)
+  unfolding InstrumentsKeep
+  vibrato_delay_keeps IsSuch i other is such = subst IsSuch (ap (λ (x : Instrument). x.vibrato_delay) is.moved) such
+
   module _ (song other : Song) (m : IsMoved maps song other) where
     -- ---- what the other song has
 
@@ -70,6 +78,23 @@ module _ (maps : Maps) where
               (m.agrees.instruments.stands_for from.old from.is_such)) has.is_such;
         }
 
+    -- a used instrument points into a table
+    pointer_covered : (name : TableName) → HasSuchInstrument other (λ i. instrument_pointer name i ≢ 0) →
+        HasSuchInstrument song (λ i. instrument_pointer name i ≢ 0)
+    pointer_covered name has =
+        let from = instrument_from maps song other m has.instrument has.used in
+        let old : ℕ = instrument_pointer name (instrument_at song from.old) in
+        let new : maps.row name old ≡ instrument_pointer name (instrument_at other has.instrument) =
+        sym (pointer_moved maps name (instrument_at song from.old) (instrument_at other (maps.instrument from.old))
+        (m.agrees.instruments.stands_for from.old from.is_such))
+        ∙ ap (λ (n : ℕ). instrument_pointer name (instrument_at other n)) from.new in
+        record {
+          instrument = from.old;
+          used = from.is_such;
+          is_such = old_some maps song other name (under maps song other m) old
+              (instrument_pointer name (instrument_at other has.instrument)) new has.is_such;
+        }
+
     -- a reached row of the wave table, which keeps its left side
     wave_row_covered : (IsSuch : ℕ → Type 0) → HasSuchWaveRow other (λ row. IsSuch row.left) →
         HasSuchWaveRow song (λ row. IsSuch row.left)
@@ -91,7 +116,11 @@ module _ (maps : Maps) where
     covered RowOnce has = row_covered IsOnce (command_keeps (λ c. 5 ≤ c)) has
     covered FirstMask has = instrument_covered IsMask (first_wave_keeps (λ w. (w ≡ 0) ⊎ (0xFE ≤ w))) has
     covered Legato has = instrument_covered IsLegato (gate_timer_keeps (λ t. bit_and t 0x40 ≢ 0)) has
-    covered SoftRestart has =
-        instrument_covered IsSoft (gate_timer_keeps (λ t. (bit_and t 0x40 ≡ 0) × (bit_and t 0x80 ≢ 0))) has
+    covered NoHardRestart has =
+        instrument_covered KeepsEnvelope (gate_timer_keeps (λ t. (bit_and t 0x40 ≡ 0) × (bit_and t 0x80 ≢ 0))) has
     covered WaveDelay has = wave_row_covered (λ left. left < 0x10) has
     covered GateNote has = row_covered IsGateNote (note_keeps (λ n. (n ≡ 0xBE) ⊎ (n ≡ 0xBF))) has
+    covered NoteVibrato has = pointer_covered Speed has
+    covered VibratoDelay has = instrument_covered HasVibratoDelay (vibrato_delay_keeps (λ d. d ≢ 0)) has
+    covered NotePulse has = pointer_covered Pulse has
+    covered NoteFilter has = pointer_covered Filter has

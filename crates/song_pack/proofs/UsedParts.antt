@@ -206,7 +206,7 @@ instrument_from maps song other m i (inr named) =
 
 -- ---- pointers
 
-pointer_moved : (maps : Maps) (name : TableName) (i other : Instrument) → IsInstrumentFor maps i other →
+pub pointer_moved : (maps : Maps) (name : TableName) (i other : Instrument) → IsInstrumentFor maps i other →
     instrument_pointer name other ≡ maps.row name (instrument_pointer name i)
 pointer_moved maps Wave i other is = ap (λ (x : Instrument). x.wave) is.moved
 pointer_moved maps Pulse i other is = ap (λ (x : Instrument). x.pulse) is.moved

@@ -14,8 +14,8 @@ use Rattle.song_model.specs.Feature.{bit_of}
 use Rattle.play_model.specs.Features.{AreFeatures}
 use Rattle.song_facts.specs.declared.facts.Fact.{Fact}
 use Rattle.song_facts.specs.declared.facts.Facts.{Facts}
-use Rattle.song_facts.specs.declared.facts.Fact.TheVariants.{RowTone, RowSlide, RowOnce, FirstMask, Legato, SoftRestart}
-use Rattle.song_facts.specs.declared.facts.Fact.TheVariants.{WaveDelay, GateNote}
+use Rattle.song_facts.specs.declared.facts.Fact.TheVariants.{RowTone, RowSlide, RowOnce, FirstMask, Legato, NoHardRestart}
+use Rattle.song_facts.specs.declared.facts.Fact.TheVariants.{WaveDelay, GateNote, NoteVibrato, VibratoDelay, NotePulse, NoteFilter}
 use Rattle.song_facts.specs.Facts.{is_among, AreFacts}
 use Rattle.usage.specs.declared.features.TheConstants.{FEATURES}
 use Rattle.usage.specs.Marks.{IsMarked, count_of, AreMarks}
@@ -100,16 +100,20 @@ same_answer false true to from = from refl
 same_answer false false to from = refl
 
 -- the facts with these answers
-facts_with : (tone slide once mask legato soft delay gate : Bool) → Facts
-facts_with tone slide once mask legato soft delay gate = record {
-  row_tone = tone;
-  row_slide = slide;
-  row_once = once;
-  first_mask = mask;
-  legato = legato;
-  soft_restart = soft;
-  wave_delay = delay;
-  gate_note = gate;
+facts_with : (has : Fact → Bool) → Facts
+facts_with has = record {
+  row_tone = has RowTone;
+  row_slide = has RowSlide;
+  row_once = has RowOnce;
+  first_mask = has FirstMask;
+  legato = has Legato;
+  no_hard_restart = has NoHardRestart;
+  wave_delay = has WaveDelay;
+  gate_note = has GateNote;
+  note_vibrato = has NoteVibrato;
+  vibrato_delay = has VibratoDelay;
+  note_pulse = has NotePulse;
+  note_filter = has NoteFilter;
 }
 
 -- each is had in both or in neither
@@ -120,21 +124,27 @@ same_fact song a b f g fact =
     (λ e. (f.each fact).1 ((g.each fact).0 e))
 
 -- facts are their answers
-facts_of : (f : Facts) (tone slide once mask legato soft delay gate : Bool) → tone ≡ f.row_tone → slide ≡ f.row_slide →
-    once ≡ f.row_once → mask ≡ f.first_mask → legato ≡ f.legato → soft ≡ f.soft_restart → delay ≡ f.wave_delay →
-    gate ≡ f.gate_note → facts_with tone slide once mask legato soft delay gate ≡ f
+facts_of : (has : Fact → Bool) (f : Facts) → ((fact : Fact) → has fact ≡ is_among f fact) → facts_with has ≡ f
 unfolding facts_with
-facts_of f tone slide once mask legato soft delay gate a b c d e g h i = rw (a, b, c, d, e, g, h, i) refl
+facts_of has f same =
+    rw (
+      same RowTone,
+      same RowSlide,
+      same RowOnce,
+      same FirstMask,
+      same Legato,
+      same NoHardRestart,
+      same WaveDelay,
+      same GateNote,
+      same NoteVibrato,
+      same VibratoDelay,
+      same NotePulse,
+      same NoteFilter,
+    ) refl
 
 pub one_facts : (song : Song) (a b : Facts) → AreFacts song a → AreFacts song b → a ≡ b
 unfolding facts_with
-one_facts song a b f g =
-    facts_of b a.row_tone a.row_slide a.row_once a.first_mask a.legato a.soft_restart a.wave_delay a.gate_note
-    (same RowTone) (same RowSlide) (same RowOnce) (same FirstMask) (same Legato) (same SoftRestart) (same WaveDelay)
-    (same GateNote)
-  where
-    same : (fact : Fact) → is_among a fact ≡ is_among b fact
-    same fact = same_fact song a b f g fact
+one_facts song a b f g = facts_of (is_among a) b (same_fact song a b f g)
 
 pub parts_are_the_songs_lem : PartsAreTheSongs
 parts_are_the_songs_lem song a b p q = record {

@@ -4,7 +4,7 @@ ghost use Rattle.std.specs.Prelude.{◌≤◌, ◌<◌, ◌↔◌, IsTrue};
 ghost use Rattle.song_model.specs.declared.tables.TableName.TheVariants.{Wave};
 ghost use Rattle.play_model.specs.Used.{IsUsedInstrument};
 ghost use Rattle.play_model.specs.Reached.{IsReached};
-ghost use Rattle.song_facts.specs.Facts.{IsTone, IsSlide, IsOnce, IsGateNote, IsMask, IsLegato, IsSoft, IsDelay};
+ghost use Rattle.song_facts.specs.Facts.{IsTone, IsSlide, IsOnce, IsGateNote, IsDelay, IsOfInstrument};
 ghost use Rattle.song_facts.specs.Facts.{HasSuchRow, HasSuchInstrument, HasSuchWaveRow, AreFacts};
 ghost use Rattle.usage.specs.Marks.{AreMarks};
 ghost use Rattle.usage.specs.Found.{IsFoundOf};
@@ -12,63 +12,16 @@ ghost use Rattle.usage.specs.Found.{IsFoundOf};
 use crate::found::Found;
 use crate::marks::ByteMarks;
 use crate::uses::has_mark;
-use song_facts::Facts;
-use song_model::{Instrument, Song, TableName};
+use song_facts::{Fact, Facts};
+use song_model::{Song, TableName};
 
-/// Whether an instrument's first waveform is a mask, or 0.
-fn is_mask(instrument: &Instrument) -> bool
-    ensures { IsTrue result ↔ IsMask instrument.now }
-{
-    instrument.first_wave == 0 || instrument.first_wave >= 0xfe
-}
-
-/// Whether an instrument keeps the gate before a note.
-fn is_legato(instrument: &Instrument) -> bool
-    ensures { IsTrue result ↔ IsLegato instrument.now }
-{
-    instrument.gate_timer & 0x40 != 0
-}
-
-/// Whether an instrument's gate goes off before a note, and its envelope stays.
-fn is_soft(instrument: &Instrument) -> bool
-    ensures { IsTrue result ↔ IsSoft instrument.now }
-{
-    instrument.gate_timer & 0x40 == 0 && instrument.gate_timer & 0x80 != 0
-}
-
-/// Whether a used instrument sets the mask alone before its first frame, or nothing.
-fn has_mask(song: &Song, used: &[bool; 64]) -> bool
+/// Whether a used instrument gives the song the fact.
+fn has_instrument(song: &Song, used: &[bool; 64], fact: Fact) -> bool
     requires { AreMarks (IsUsedInstrument song.now) used.now }
-    ensures { IsTrue result ↔ HasSuchInstrument song.now IsMask }
+    ensures { IsTrue result ↔ HasSuchInstrument song.now (IsOfInstrument fact) }
 {
     for instrument in 0..64u8 {
-        if used[usize::from(instrument)] && is_mask(&song.instrument(instrument)) {
-            return true;
-        }
-    }
-    false
-}
-
-/// Whether a used instrument keeps the gate before a note.
-fn has_legato(song: &Song, used: &[bool; 64]) -> bool
-    requires { AreMarks (IsUsedInstrument song.now) used.now }
-    ensures { IsTrue result ↔ HasSuchInstrument song.now IsLegato }
-{
-    for instrument in 0..64u8 {
-        if used[usize::from(instrument)] && is_legato(&song.instrument(instrument)) {
-            return true;
-        }
-    }
-    false
-}
-
-/// Whether a used instrument keeps the envelope where its gate goes off before a note.
-fn has_soft(song: &Song, used: &[bool; 64]) -> bool
-    requires { AreMarks (IsUsedInstrument song.now) used.now }
-    ensures { IsTrue result ↔ HasSuchInstrument song.now IsSoft }
-{
-    for instrument in 0..64u8 {
-        if used[usize::from(instrument)] && is_soft(&song.instrument(instrument)) {
+        if used[usize::from(instrument)] && fact.is_of_instrument(&song.instrument(instrument)) {
             return true;
         }
     }
@@ -81,7 +34,9 @@ fn has_wave_delay(song: &Song, wave: &ByteMarks) -> bool
     ensures { IsTrue result ↔ HasSuchWaveRow song.now IsDelay }
 {
     for p in 0..256u16 {
-        if wave[usize::from(p)] && song.row_or_zero(TableName::Wave, p as u8).left < 0x10 {
+        if wave[usize::from(p)]
+            && Fact::WaveDelay.is_of_wave_row(song.row_or_zero(TableName::Wave, p as u8))
+        {
             return true;
         }
     }
@@ -147,15 +102,20 @@ impl Found {
         requires wave { AreMarks (IsReached song.now Wave) wave.now }
         ensures { AreFacts song.now result }
     {
+        let used = &self.rows.instruments;
         Facts {
             row_tone: self.has_tone(song),
             row_slide: self.has_slide(song),
             row_once: self.has_once(song),
-            first_mask: has_mask(song, &self.rows.instruments),
-            legato: has_legato(song, &self.rows.instruments),
-            soft_restart: has_soft(song, &self.rows.instruments),
+            first_mask: has_instrument(song, used, Fact::FirstMask),
+            legato: has_instrument(song, used, Fact::Legato),
+            no_hard_restart: has_instrument(song, used, Fact::NoHardRestart),
             wave_delay: has_wave_delay(song, wave),
             gate_note: self.has_gate_note(song),
+            note_vibrato: has_instrument(song, used, Fact::NoteVibrato),
+            vibrato_delay: has_instrument(song, used, Fact::VibratoDelay),
+            note_pulse: has_instrument(song, used, Fact::NotePulse),
+            note_filter: has_instrument(song, used, Fact::NoteFilter),
         }
     }
 }

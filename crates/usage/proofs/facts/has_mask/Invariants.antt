@@ -1,8 +1,0 @@
-use Rattle.std.proofs.Common.{ℕ, ◌<◌}
-use Rattle.song_model.specs.LookUp.{instrument_at}
-use Rattle.song_facts.specs.Facts.{IsMask}
-use Rattle.usage.specs.Marks.{IsMarked}
-use Rattle.usage.proofs.facts.has_mask.Given as goal
-
-abbrev pub invariant-loop-instrument : goal.invariant-loop-instrument
-invariant-loop-instrument l = (i : ℕ) → i < l.instrument → IsMarked l.used i → ¬ IsMask (instrument_at l.song i)
