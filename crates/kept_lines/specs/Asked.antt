@@ -9,7 +9,8 @@ use Rattle.song_facts.specs.declared.facts.Facts.{Facts}
 use Rattle.song_facts.specs.Facts.{AreFacts}
 use Rattle.packed_form.specs.declared.packed_songs.PackedSong.{PackedSong}
 use Rattle.player_memory.specs.declared.conditions.TheConstants.{ROW_TONE, ROW_SLIDE, ROW_ONCE, FIRST_MASK, LEGATO}
-use Rattle.player_memory.specs.declared.conditions.TheConstants.{SOFT_RESTART, WAVE_DELAY, GATE_NOTE, ROW_COMMAND}
+use Rattle.player_memory.specs.declared.conditions.TheConstants.{NO_HARD_RESTART, WAVE_DELAY, GATE_NOTE, ROW_COMMAND}
+use Rattle.player_memory.specs.declared.conditions.TheConstants.{NOTE_VIBRATO, VIBRATO_DELAY, NOTE_PULSE, NOTE_FILTER}
 
 -- whether the bit of a condition is set
 abbrev pub is_in : ℕ → ℕ → Bool
@@ -27,9 +28,13 @@ asks_fact facts condition =
     else if condition == ROW_ONCE then facts.row_once
     else if condition == FIRST_MASK then facts.first_mask
     else if condition == LEGATO then facts.legato
-    else if condition == SOFT_RESTART then facts.soft_restart
+    else if condition == NO_HARD_RESTART then facts.no_hard_restart
     else if condition == WAVE_DELAY then facts.wave_delay
     else if condition == GATE_NOTE then facts.gate_note
+    else if condition == NOTE_VIBRATO then facts.note_vibrato
+    else if condition == VIBRATO_DELAY then facts.vibrato_delay
+    else if condition == NOTE_PULSE then facts.note_pulse
+    else if condition == NOTE_FILTER then facts.note_filter
     else false
 
 -- those below 24 are the features, by their bits

@@ -7,7 +7,7 @@ use Rattle.player_memory.specs.declared.conditions.TheConstants.{PORTA_UP, PORTA
 use Rattle.player_memory.specs.declared.conditions.TheConstants.{INSTRUMENT_VIBRATO, NOTE_DEPENDENT, WAVE_COMMAND}
 use Rattle.player_memory.specs.declared.conditions.TheConstants.{SKIP_EFFECTS, SKIP_PULSE, TIMED, SKIP_FIRST}
 use Rattle.player_memory.specs.declared.conditions.TheConstants.{SWINGS, CLIMB, DROP, RISE, SINK, FOUND_NOTE}
-use Rattle.player_memory.specs.declared.conditions.TheConstants.{ROW_TONE, ROW_SLIDE, ROW_ONCE, LEGATO, SOFT_RESTART}
+use Rattle.player_memory.specs.declared.conditions.TheConstants.{ROW_TONE, ROW_SLIDE, ROW_ONCE, LEGATO, NO_HARD_RESTART}
 use Rattle.player_memory.specs.declared.conditions.TheConstants.{WAVE_DELAY, ROW_COMMAND, SPECIAL_ROW, HELD_NOTE}
 use Rattle.player_memory.specs.declared.conditions.TheConstants.{CONDITIONS}
 use Rattle.kept_lines.specs.Asked.{is_in, bit_if}
@@ -27,7 +27,7 @@ has_in_common asked condition =
     else if condition == FOUND_NOTE then is_in asked TONE_PORTA || is_in asked TIE_NOTE
     else if condition == ROW_COMMAND then is_in asked ROW_SLIDE || is_in asked ROW_ONCE
     else if condition == SPECIAL_ROW then is_in asked WAVE_DELAY || is_in asked WAVE_COMMAND
-    else if condition == HELD_NOTE then is_in asked LEGATO || is_in asked SOFT_RESTART
+    else if condition == HELD_NOTE then is_in asked LEGATO || is_in asked NO_HARD_RESTART
     else false
 
 -- the conditions of features and of facts

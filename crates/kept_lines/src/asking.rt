@@ -5,8 +5,8 @@ ghost use Rattle.kept_lines.specs.Asked.{is_in, asks_fact, asks, asked, asked_by
 
 use packed_form::PackedSong;
 use player_memory::conditions::{
-    FIRST_MASK, GATE_NOTE, LEGATO, ROW_COMMAND, ROW_ONCE, ROW_SLIDE, ROW_TONE, SOFT_RESTART,
-    WAVE_DELAY,
+    FIRST_MASK, GATE_NOTE, LEGATO, NO_HARD_RESTART, NOTE_FILTER, NOTE_PULSE, NOTE_VIBRATO,
+    ROW_COMMAND, ROW_ONCE, ROW_SLIDE, ROW_TONE, VIBRATO_DELAY, WAVE_DELAY,
 };
 use scope_lines::Conditions;
 use song_facts::Facts;
@@ -30,9 +30,13 @@ fn asks_fact(facts: &Facts, condition: u8) -> bool
         ROW_ONCE => facts.row_once,
         FIRST_MASK => facts.first_mask,
         LEGATO => facts.legato,
-        SOFT_RESTART => facts.soft_restart,
+        NO_HARD_RESTART => facts.no_hard_restart,
         WAVE_DELAY => facts.wave_delay,
         GATE_NOTE => facts.gate_note,
+        NOTE_VIBRATO => facts.note_vibrato,
+        VIBRATO_DELAY => facts.vibrato_delay,
+        NOTE_PULSE => facts.note_pulse,
+        NOTE_FILTER => facts.note_filter,
         _ => false,
     }
 }

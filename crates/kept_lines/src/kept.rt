@@ -6,9 +6,9 @@ ghost use Rattle.kept_lines.specs.KeptLines.{has_in_common, keeps, kept_set};
 
 use play_model::Options;
 use player_memory::conditions::{
-    CLIMB, CONDITIONS, DROP, FOUND_NOTE, HELD_NOTE, INSTRUMENT_VIBRATO, LEGATO, NOTE_DEPENDENT,
-    PORTA_DOWN, PORTA_UP, RISE, ROW_COMMAND, ROW_ONCE, ROW_SLIDE, ROW_TONE, SINK, SKIP_EFFECTS,
-    SKIP_FIRST, SKIP_PULSE, SOFT_RESTART, SPECIAL_ROW, SWINGS, TIE_NOTE, TIMED, TONE_PORTA,
+    CLIMB, CONDITIONS, DROP, FOUND_NOTE, HELD_NOTE, INSTRUMENT_VIBRATO, LEGATO, NO_HARD_RESTART,
+    NOTE_DEPENDENT, PORTA_DOWN, PORTA_UP, RISE, ROW_COMMAND, ROW_ONCE, ROW_SLIDE, ROW_TONE, SINK,
+    SKIP_EFFECTS, SKIP_FIRST, SKIP_PULSE, SPECIAL_ROW, SWINGS, TIE_NOTE, TIMED, TONE_PORTA,
     VIBRATO, WAVE_COMMAND, WAVE_DELAY,
 };
 use scope_lines::Conditions;
@@ -39,7 +39,7 @@ fn has_in_common(asked: Conditions, condition: u8) -> bool
         FOUND_NOTE => tone || is_in(asked, TIE_NOTE),
         ROW_COMMAND => is_in(asked, ROW_SLIDE) || is_in(asked, ROW_ONCE),
         SPECIAL_ROW => is_in(asked, WAVE_DELAY) || is_in(asked, WAVE_COMMAND),
-        HELD_NOTE => is_in(asked, LEGATO) || is_in(asked, SOFT_RESTART),
+        HELD_NOTE => is_in(asked, LEGATO) || is_in(asked, NO_HARD_RESTART),
         _ => false,
     }
 }

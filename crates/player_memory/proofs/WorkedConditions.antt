@@ -4,8 +4,8 @@ use Rattle.song_model.specs.LookUp.{pattern_at}
 use Rattle.play_model.specs.WorkedSongs.{row, one_note}
 use Rattle.scopes.specs.Desk.{Layout}
 use Rattle.song_facts.specs.declared.facts.Fact.{Fact}
-use Rattle.song_facts.specs.declared.facts.Fact.TheVariants.{RowTone, RowSlide, RowOnce, FirstMask, Legato, SoftRestart}
-use Rattle.song_facts.specs.declared.facts.Fact.TheVariants.{WaveDelay, GateNote}
+use Rattle.song_facts.specs.declared.facts.Fact.TheVariants.{RowTone, RowSlide, RowOnce, FirstMask, Legato, NoHardRestart}
+use Rattle.song_facts.specs.declared.facts.Fact.TheVariants.{WaveDelay, GateNote, NoteVibrato, VibratoDelay, NotePulse, NoteFilter}
 use Rattle.song_facts.specs.Facts.{HasFact, is_among, no_facts}
 use Rattle.player_memory.specs.declared.conditions.TheConstants.{GATE_NOTE}
 use Rattle.player_memory.specs.FactLines.{KeepsMarked}
@@ -45,9 +45,13 @@ conditions_are_facts RowSlide = refl
 conditions_are_facts RowOnce = refl
 conditions_are_facts FirstMask = refl
 conditions_are_facts Legato = refl
-conditions_are_facts SoftRestart = refl
+conditions_are_facts NoHardRestart = refl
 conditions_are_facts WaveDelay = refl
 conditions_are_facts GateNote = refl
+conditions_are_facts NoteVibrato = refl
+conditions_are_facts VibratoDelay = refl
+conditions_are_facts NotePulse = refl
+conditions_are_facts NoteFilter = refl
 
 none_kept : (layout : Layout) → KeepsMarked layout no_facts
 none_kept layout RowTone on = absurd cc
@@ -55,9 +59,13 @@ none_kept layout RowSlide on = absurd cc
 none_kept layout RowOnce on = absurd cc
 none_kept layout FirstMask on = absurd cc
 none_kept layout Legato on = absurd cc
-none_kept layout SoftRestart on = absurd cc
+none_kept layout NoHardRestart on = absurd cc
 none_kept layout WaveDelay on = absurd cc
 none_kept layout GateNote on = absurd cc
+none_kept layout NoteVibrato on = absurd cc
+none_kept layout VibratoDelay on = absurd cc
+none_kept layout NotePulse on = absurd cc
+none_kept layout NoteFilter on = absurd cc
 
 gate_kept : (layout : Layout) → layout.holds GATE_NOTE ≡ true → KeepsMarked layout (record no_facts { gate_note = true })
 gate_kept layout holds RowTone on = absurd cc
@@ -65,9 +73,13 @@ gate_kept layout holds RowSlide on = absurd cc
 gate_kept layout holds RowOnce on = absurd cc
 gate_kept layout holds FirstMask on = absurd cc
 gate_kept layout holds Legato on = absurd cc
-gate_kept layout holds SoftRestart on = absurd cc
+gate_kept layout holds NoHardRestart on = absurd cc
 gate_kept layout holds WaveDelay on = absurd cc
 gate_kept layout holds GateNote on = holds
+gate_kept layout holds NoteVibrato on = absurd cc
+gate_kept layout holds VibratoDelay on = absurd cc
+gate_kept layout holds NotePulse on = absurd cc
+gate_kept layout holds NoteFilter on = absurd cc
 
 -- the song of one note has a keyoff
 key_off : HasFact one_note GateNote

@@ -3,13 +3,14 @@
 use Rattle.std.specs.Prelude.{◌≡◌, ℕ, true}
 use Rattle.song_model.specs.declared.songs.Song.{Song}
 use Rattle.song_facts.specs.declared.facts.Fact.{Fact}
-use Rattle.song_facts.specs.declared.facts.Fact.TheVariants.{RowTone, RowSlide, RowOnce, FirstMask, Legato, SoftRestart}
-use Rattle.song_facts.specs.declared.facts.Fact.TheVariants.{WaveDelay, GateNote}
+use Rattle.song_facts.specs.declared.facts.Fact.TheVariants.{RowTone, RowSlide, RowOnce, FirstMask, Legato, NoHardRestart}
+use Rattle.song_facts.specs.declared.facts.Fact.TheVariants.{WaveDelay, GateNote, NoteVibrato, VibratoDelay, NotePulse, NoteFilter}
 use Rattle.song_facts.specs.declared.facts.Facts.{Facts}
 use Rattle.song_facts.specs.Facts.{HasFact, is_among}
 use Rattle.scopes.specs.Desk.{Layout}
 use Rattle.player_memory.specs.declared.conditions.TheConstants.{ROW_TONE, ROW_SLIDE, ROW_ONCE, FIRST_MASK, LEGATO}
-use Rattle.player_memory.specs.declared.conditions.TheConstants.{SOFT_RESTART, WAVE_DELAY, GATE_NOTE, ROW_COMMAND}
+use Rattle.player_memory.specs.declared.conditions.TheConstants.{NO_HARD_RESTART, WAVE_DELAY, GATE_NOTE, ROW_COMMAND}
+use Rattle.player_memory.specs.declared.conditions.TheConstants.{NOTE_VIBRATO, VIBRATO_DELAY, NOTE_PULSE, NOTE_FILTER}
 use Rattle.player_memory.specs.declared.conditions.TheConstants.{SPECIAL_ROW, HELD_NOTE, WAVE_COMMAND}
 
 -- the condition of a fact
@@ -19,9 +20,13 @@ fact_condition RowSlide = ROW_SLIDE
 fact_condition RowOnce = ROW_ONCE
 fact_condition FirstMask = FIRST_MASK
 fact_condition Legato = LEGATO
-fact_condition SoftRestart = SOFT_RESTART
+fact_condition NoHardRestart = NO_HARD_RESTART
 fact_condition WaveDelay = WAVE_DELAY
 fact_condition GateNote = GATE_NOTE
+fact_condition NoteVibrato = NOTE_VIBRATO
+fact_condition VibratoDelay = VIBRATO_DELAY
+fact_condition NotePulse = NOTE_PULSE
+fact_condition NoteFilter = NOTE_FILTER
 
 -- a layout keeps the lines of each of these facts
 abbrev pub KeepsMarked : Layout → Facts → Type 0
@@ -39,4 +44,4 @@ pub record KeepsShared (layout : Layout) : Type 0 where
   pub delay : layout.holds WAVE_DELAY ≡ true → layout.holds SPECIAL_ROW ≡ true
   pub command : layout.holds WAVE_COMMAND ≡ true → layout.holds SPECIAL_ROW ≡ true
   pub legato : layout.holds LEGATO ≡ true → layout.holds HELD_NOTE ≡ true
-  pub soft : layout.holds SOFT_RESTART ≡ true → layout.holds HELD_NOTE ≡ true
+  pub soft : layout.holds NO_HARD_RESTART ≡ true → layout.holds HELD_NOTE ≡ true

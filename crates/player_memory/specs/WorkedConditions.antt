@@ -20,7 +20,7 @@ use Rattle.player_memory.specs.declared.conditions.TheConstants.{SET_WAVE_POINTE
 use Rattle.player_memory.specs.declared.conditions.TheConstants.{FILTER_TABLE, SET_FILTER_POINTER, SET_FILTER_CONTROL}
 use Rattle.player_memory.specs.declared.conditions.TheConstants.{SET_CUTOFF, SET_VOLUME, FUNK_TEMPO, SET_TEMPO}
 use Rattle.player_memory.specs.declared.conditions.TheConstants.{WAVE_TABLE, WAVE_COMMAND, ROW_SLIDE, ROW_ONCE}
-use Rattle.player_memory.specs.declared.conditions.TheConstants.{ROW_COMMAND, LEGATO, SOFT_RESTART, WAVE_DELAY, GATE_NOTE}
+use Rattle.player_memory.specs.declared.conditions.TheConstants.{ROW_COMMAND, LEGATO, NO_HARD_RESTART, WAVE_DELAY, GATE_NOTE}
 use Rattle.player_memory.specs.FactLines.{fact_condition, KeepsMarked, KeepsFacts, KeepsShared}
 
 pub record ConditionsAreFeatures : Type 0 where
@@ -70,4 +70,4 @@ pub record FactLinesAreWorked (layout : Layout) : Type 0 where
   pub delay : ¬ KeepsShared (with_holding layout (WAVE_DELAY ∷ []))
   pub command : ¬ KeepsShared (with_holding layout (WAVE_COMMAND ∷ []))
   pub legato : ¬ KeepsShared (with_holding layout (LEGATO ∷ []))
-  pub soft : ¬ KeepsShared (with_holding layout (SOFT_RESTART ∷ []))
+  pub soft : ¬ KeepsShared (with_holding layout (NO_HARD_RESTART ∷ []))

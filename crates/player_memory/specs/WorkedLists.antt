@@ -60,7 +60,7 @@ song_with speeds = record {
   speed = speeds;
   features = record { 0 = 0x40A183 };
   features_within = omega arith;
-  facts = record no_facts { soft_restart = true; wave_delay = true; gate_note = true };
+  facts = record no_facts { no_hard_restart = true; wave_delay = true; gate_note = true };
 }
 
 -- with a speed that is calculated, and with none

@@ -87,18 +87,26 @@ pub const FIRST_MASK: u8 = 37;
 /// An instrument leaves the gate as it is before a note.
 pub const LEGATO: u8 = 38;
 /// An instrument closes the gate before a note and leaves the envelope.
-pub const SOFT_RESTART: u8 = 39;
+pub const NO_HARD_RESTART: u8 = 39;
 /// A row of the wave table is a delay.
 pub const WAVE_DELAY: u8 = 40;
 /// A row of a pattern has keyoff or keyon.
 pub const GATE_NOTE: u8 = 41;
+/// An instrument has a vibrato, which its notes begin.
+pub const NOTE_VIBRATO: u8 = 42;
+/// An instrument has a delay of its vibrato.
+pub const VIBRATO_DELAY: u8 = 43;
+/// An instrument has a pulse program, which its notes begin.
+pub const NOTE_PULSE: u8 = 44;
+/// An instrument has a filter program, which its notes begin.
+pub const NOTE_FILTER: u8 = 45;
 
 /// A row of a pattern has a command: one that runs, or one that is done once.
-pub const ROW_COMMAND: u8 = 42;
+pub const ROW_COMMAND: u8 = 46;
 /// A row of the wave table is a delay or a command.
-pub const SPECIAL_ROW: u8 = 43;
+pub const SPECIAL_ROW: u8 = 47;
 /// An instrument leaves something as it is before a note: the gate, or the envelope alone.
-pub const HELD_NOTE: u8 = 44;
+pub const HELD_NOTE: u8 = 48;
 
 /// How many conditions there are.
-pub const CONDITIONS: u8 = 45;
+pub const CONDITIONS: u8 = 49;

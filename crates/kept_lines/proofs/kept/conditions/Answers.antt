@@ -1,7 +1,7 @@
 -- A condition that holds is in the set behind its turn, and one that doesn't is not.
-use Rattle.std.proofs.Common.{◌≡◌, ◌<◌, ℕ, ◌+◌, ◌*◌, ◌%◌, ◌^◌, sym, ◌∙◌, subst, ap}
+use Rattle.std.proofs.Common.{◌≡◌, ◌<◌, ℕ, ◌+◌, ◌*◌, ◌%◌, ◌^◌, sym, ◌∙◌, subst, ap, arith}
 use Rattle.play_model.specs.declared.options.Options.{Options}
-use Rattle.kept_lines.specs.KeptLines.{keeps}
+use Rattle.kept_lines.specs.KeptLines.{keeps, kept_set}
 use Rattle.kept_lines.proofs.Sums.{bits_below, bits_few, bits_with, bits_without, fits}
 use Rattle.kept_lines.proofs.kept.conditions.Goals.{then-keeps, else-keeps}
 use Rattle.kept_lines.proofs.kept.conditions.Goals as goal
@@ -31,3 +31,12 @@ loop-condition-preserved c = record {
           w.set-is
           ∙ bits_without (keeps asked options) _ condition c.loop-condition.invariant.set (sym w.if-keeps.ensures)
     ]
+
+-- all have been looked at
+pub returns : goal.returns
+unfolding kept_set
+returns c =
+    let from = c.loop-condition-test.false in
+    let to = c.loop-condition.auto.condition-end in
+    let all : c.loop-condition.condition ≡ 49 = omega (arith, from, to) in
+    c.loop-condition.invariant.set ∙ ap (bits_below (keeps c.args.asked.0 c.args.options)) all
