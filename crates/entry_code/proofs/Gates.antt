@@ -3,14 +3,14 @@ use Rattle.std.proofs.Common.{◌≡◌, ◌≢◌, ℕ, ℤ, ◌+◌, ◌*◌, 
 use Rattle.std.proofs.Common.{bit_and, if◌then◌else◌, List, refl, sym, ap, ◌∙◌, subst, arith}
 use Rattle.std.proofs.lemmas.Bool.{both_ways, eq-eqb, ne_eqb, eqb-true, eqb-false, cond_both, agree_below_at}
 use Rattle.std.proofs.lemmas.Bool.{true≢false, true_from_ne_false, false_from_ne_true}
-use Rattle.song_facts.specs.Facts.{IsLegato, IsSoft}
+use Rattle.song_facts.specs.Facts.{IsLegato, KeepsEnvelope}
 use Rattle.play_model.specs.LookUps.{LookUps}
 use Rattle.play_model.specs.State.{Voice, Playing}
 use Rattle.play_model.specs.TickStep.{tempo_of}
 use Rattle.play_model.specs.FetchRow.{gate_keyed, gate_shut, is_note, note_waits, transposed}
 use Rattle.packed_form.specs.declared.entries.Entry.{Entry}
 use Rattle.scopes.specs.Trees.{Tree}
-use Rattle.player_memory.specs.declared.conditions.TheConstants.{ROW_TONE, LEGATO, SOFT_RESTART, HELD_NOTE}
+use Rattle.player_memory.specs.declared.conditions.TheConstants.{ROW_TONE, LEGATO, NO_HARD_RESTART, HELD_NOTE}
 use Rattle.player_memory.specs.declared.labels.TheConstants.{REST, OFFSET, INSTRUMENT, NEW_COMMAND, GATE_TIMERS}
 use Rattle.player_memory.specs.FactLines.{KeepsShared}
 use Rattle.player_desk.proofs.Laws.{VoiceDesk, Reader, Ways, Fields, Leads, Reads, place_at, listed, done_as}
@@ -31,7 +31,7 @@ pub record TimerAt (r : Reader) (look : LookUps) (instrument : ℕ) : Type 0 whe
 pub record KeepsGate (r : Reader) (look : LookUps) (v : Voice) : Type 0 where
   pub tone : v.new_command ≡ 3 → r.layout.holds ROW_TONE ≡ true
   pub legato : IsLegato (look.instrument v.instrument) → r.layout.holds LEGATO ≡ true
-  pub soft : IsSoft (look.instrument v.instrument) → r.layout.holds SOFT_RESTART ≡ true
+  pub soft : KeepsEnvelope (look.instrument v.instrument) → r.layout.holds NO_HARD_RESTART ≡ true
   pub shared : KeepsShared r.layout
 
 -- ---- bits
@@ -55,12 +55,12 @@ no_legato r look v keeps out =
     (λ some. both_ways (r.layout.holds LEGATO) out (keeps.legato some))
 
 no_soft : (r : Reader) (look : LookUps) (v : Voice) → KeepsGate r look v →
-    nat_eq (bit_and (look.instrument v.instrument).gate_timer 0x40) 0 ≡ true → r.layout.holds SOFT_RESTART ≡ false →
+    nat_eq (bit_and (look.instrument v.instrument).gate_timer 0x40) 0 ≡ true → r.layout.holds NO_HARD_RESTART ≡ false →
     nat_eq (bit_and (look.instrument v.instrument).gate_timer 0x80) 0 ≡ true
 no_soft r look v keeps six out =
     let goes : bit_and (look.instrument v.instrument).gate_timer 0x40 ≡ 0 = eqb-true _ 0 six in
     no_bit (bit_and (look.instrument v.instrument).gate_timer 0x80)
-    (λ some. both_ways (r.layout.holds SOFT_RESTART) out (keeps.soft (goes, some)))
+    (λ some. both_ways (r.layout.holds NO_HARD_RESTART) out (keeps.soft (goes, some)))
 
 -- the timer is read where one of the two is kept
 not_held : (r : Reader) (condition : ℕ) → (r.layout.holds condition ≡ true → r.layout.holds HELD_NOTE ≡ true) →
@@ -128,8 +128,8 @@ shut_tree = behind (behind (behind (body_of HELD take_tree)))
 shut_leads : (r : Reader) (s : Playing) (d : VoiceDesk) (place : ℕ) (bytes : List ℕ) (entries : List Entry)
     (t : ℕ) (w x : Voice) (rest : ℕ) (ways : Ways) (m : VoiceDesk) → x ≡ gate_shut t w →
     nat_eq w.new_command 3 ≡ false → nat_eq (bit_and t 0x40) 0 ≡ true →
-    (r.layout.holds SOFT_RESTART ≡ true → nat_eq (bit_and t 0x80) 0 ≡ not m.c) →
-    (r.layout.holds SOFT_RESTART ≡ false → nat_eq (bit_and t 0x80) 0 ≡ true) →
+    (r.layout.holds NO_HARD_RESTART ≡ true → nat_eq (bit_and t 0x80) 0 ≡ not m.c) →
+    (r.layout.holds NO_HARD_RESTART ≡ false → nat_eq (bit_and t 0x80) 0 ≡ true) →
     AtRow r s d place bytes entries w rest m →
     Leads r shut_tree (in_scope HELD (done_as (AtRow r s d place bytes entries x rest) ways)) m
 shut_leads r s d place bytes entries t w x rest ways m is tie six soft whole at =
@@ -189,7 +189,7 @@ timer_leads r look s d place bytes entries v w x rest ways m timer keeps is inst
 
     shuts : (n : VoiceDesk) → nat_eq (bit_and t 0x40) 0 ≡ true → n.own ≡ m.own → n.shared ≡ m.shared →
         n.sid ≡ m.sid → n.low ≡ m.low → n.high ≡ m.high →
-        (r.layout.holds SOFT_RESTART ≡ true → nat_eq (bit_and t 0x80) 0 ≡ not n.c) →
+        (r.layout.holds NO_HARD_RESTART ≡ true → nat_eq (bit_and t 0x80) 0 ≡ not n.c) →
         Leads r shut_tree (in_scope HELD (done_as (AtRow r s d place bytes entries x rest) ways)) n
     shuts n six own shared sid low high soft =
         shut_leads r s d place bytes entries t w x rest ways n is tie six soft (no_soft r look v keeps six)

@@ -13,7 +13,7 @@ use Rattle.play_model.specs.State.{Voice, Playing}
 use Rattle.play_model.specs.FetchRow.{gate_keyed, row_taken, row_done, row_moved, fetch_row}
 use Rattle.play_model.specs.TickStep.{tempo_of}
 use Rattle.play_model.specs.Frame.{is_at_fetch}
-use Rattle.song_facts.specs.Facts.{IsGateNote, IsTone, IsLegato, IsSoft}
+use Rattle.song_facts.specs.Facts.{IsGateNote, IsTone, IsLegato, KeepsEnvelope}
 use Rattle.packed_form.specs.declared.entries.Command.{Command}
 use Rattle.packed_form.specs.declared.entries.EntryKind.{EntryKind}
 use Rattle.packed_form.specs.declared.entries.EntryKind.TheVariants.{NamedNote, NamedRest, Note, Rests}
@@ -149,7 +149,7 @@ take_leads r look packed order s d ground at play few timer keeps idle small due
       legato = λ legato.
           keeps.legato (subst (λ x. IsLegato (look.instrument (row_taken x s.voice).instrument)) (sym here.is) legato);
       soft = λ soft.
-          keeps.soft (subst (λ x. IsSoft (look.instrument (row_taken x s.voice).instrument)) (sym here.is) soft);
+          keeps.soft (subst (λ x. KeepsEnvelope (look.instrument (row_taken x s.voice).instrument)) (sym here.is) soft);
       shared = keeps.shared;
     }
 

@@ -12,13 +12,13 @@ use Rattle.play_model.specs.LookUps.{LookUps}
 use Rattle.play_model.specs.State.{Voice, Playing}
 use Rattle.play_model.specs.FetchRow.{row_taken}
 use Rattle.play_model.specs.Frame.{is_at_fetch, is_between_patterns, row_fetched}
-use Rattle.song_facts.specs.Facts.{IsGateNote, IsTone, IsLegato, IsSoft}
+use Rattle.song_facts.specs.Facts.{IsGateNote, IsTone, IsLegato, KeepsEnvelope}
 use Rattle.packed_form.specs.WalkLaws.{WalkEnds}
 use Rattle.scopes.specs.Desk.{Desk, Layout}
 use Rattle.scopes.specs.Trees.{Tree, NoneTree, ThenTree, ScopeTree}
 use Rattle.scopes.specs.Meaning.{Outcome, Done, Left, Ran, each_one, ran}
 use Rattle.player_memory.specs.declared.conditions.TheConstants.{TRANSPOSES, REPEATS, SKIP_PULSE, SKIP_FIRST}
-use Rattle.player_memory.specs.declared.conditions.TheConstants.{GATE_NOTE, ROW_TONE, LEGATO, SOFT_RESTART}
+use Rattle.player_memory.specs.declared.conditions.TheConstants.{GATE_NOTE, ROW_TONE, LEGATO, NO_HARD_RESTART}
 use Rattle.player_memory.specs.declared.labels.TheConstants.{LENT, GATE_TIMERS}
 use Rattle.player_memory.specs.FactLines.{KeepsShared}
 use Rattle.player_memory.specs.Rooms.{IsRoom, MayUse}
@@ -63,7 +63,7 @@ pub record KeepsNext (layout : Layout) (look : LookUps) (order : Order) (v : Voi
   pub gate : IsGateNote (next_row look order v) → layout.holds GATE_NOTE ≡ true
   pub tone : IsTone (next_row look order v) → layout.holds ROW_TONE ≡ true
   pub legato : IsLegato (look.instrument (next_instrument look order v)) → layout.holds LEGATO ≡ true
-  pub soft : IsSoft (look.instrument (next_instrument look order v)) → layout.holds SOFT_RESTART ≡ true
+  pub soft : KeepsEnvelope (look.instrument (next_instrument look order v)) → layout.holds NO_HARD_RESTART ≡ true
   pub shared : KeepsShared layout
 
 -- each pattern that the orderlist plays stands there, too, and the gateoff timer of that instrument; what the code

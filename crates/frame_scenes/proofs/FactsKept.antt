@@ -1,18 +1,18 @@
 -- The lines of the facts that a voice meets are kept.
-use Rattle.std.proofs.Common.{◌≡◌, ℕ, true, refl, ◌∙◌, arith}
+use Rattle.std.proofs.Common.{◌≡◌, ◌≢◌, ℕ, true, ◌∙◌, arith}
 use Rattle.song_model.specs.declared.songs.Song.{Song}
 use Rattle.song_model.specs.LookUp.{instrument_at}
 use Rattle.song_facts.specs.declared.facts.Fact.TheVariants.{RowTone, RowSlide, RowOnce, FirstMask}
-use Rattle.song_facts.specs.Facts.{IsMask}
+use Rattle.song_facts.specs.declared.facts.Fact.TheVariants.{NoteVibrato, VibratoDelay, NotePulse, NoteFilter}
 use Rattle.play_model.specs.Used.{IsUsedInstrument}
+use Rattle.play_model.specs.Features.{HasInstrument}
 use Rattle.play_model.specs.Safe.{IsSafeWaiting, none, of_row}
 use Rattle.packed_form.specs.declared.packed_songs.PackedSong.{PackedSong}
 use Rattle.packed_form.specs.Unpacked.{unpacked_song}
 use Rattle.packed_form.specs.StandsFor.{StandsFor}
 use Rattle.scopes.specs.Desk.{Layout}
-use Rattle.player_memory.specs.declared.conditions.TheConstants.{FIRST_MASK}
 use Rattle.player_memory.specs.FactLines.{KeepsMarked, KeepsFacts}
-use Rattle.tick_code.specs.TickBlock.{KeepsRow}
+use Rattle.tick_code.specs.TickBlock.{KeepsRow, KeepsInstrument}
 
 -- where those of all facts of the song that the packed song stands for are kept, those of the packed song's are
 pub facts_kept : (layout : Layout) (packed : PackedSong) (song : Song) → StandsFor packed song →
@@ -38,7 +38,17 @@ row_kept layout song command param facts (of_row has) = record {
       facts RowOnce (record { row = has.row; used = has.used; is_such = omega (arith, is, from) });
 }
 
--- of an instrument's first waveform
-pub mask_kept : (layout : Layout) (song : Song) (number : ℕ) → KeepsFacts layout song → IsUsedInstrument song number →
-    IsMask (instrument_at song number) → layout.holds FIRST_MASK ≡ true
-mask_kept layout song number facts used is = facts FirstMask (record { instrument = number; used = used; is_such = is })
+-- of a used instrument, and of a delay that is left from one
+pub instrument_kept : (layout : Layout) (song : Song) (number waits : ℕ) → KeepsFacts layout song →
+    IsUsedInstrument song number → (waits ≢ 0 → HasInstrument song (λ i. (instrument_at song i).vibrato_delay)) →
+    KeepsInstrument layout (instrument_at song number) waits
+instrument_kept layout song number waits facts used left = record {
+  mask = λ is. facts FirstMask (record { instrument = number; used = used; is_such = is });
+  vibrato = λ is. facts NoteVibrato (record { instrument = number; used = used; is_such = is });
+  delay = λ is. facts VibratoDelay (record { instrument = number; used = used; is_such = is });
+  waits = λ some.
+      let has = left some in
+      facts VibratoDelay (record { instrument = has.instrument; used = has.used; is_such = has.some });
+  pulse = λ is. facts NotePulse (record { instrument = number; used = used; is_such = is });
+  filter = λ is. facts NoteFilter (record { instrument = number; used = used; is_such = is });
+}

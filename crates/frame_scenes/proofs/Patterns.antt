@@ -11,7 +11,7 @@ use Rattle.song_model.specs.Endless.{IsEndless}
 use Rattle.song_model.specs.LookUp.{pattern_at, zero_row, IsNumbered}
 use Rattle.song_model.specs.Walk.{played}
 use Rattle.song_model.proofs.Laws.{plays_are_patterns_lem}
-use Rattle.song_facts.specs.declared.facts.Fact.TheVariants.{RowTone, Legato, SoftRestart, GateNote}
+use Rattle.song_facts.specs.declared.facts.Fact.TheVariants.{RowTone, Legato, NoHardRestart, GateNote}
 use Rattle.play_model.specs.declared.options.Options.{Options}
 use Rattle.play_model.specs.State.{Voice, FrameState, Playing}
 use Rattle.play_model.specs.FetchRow.{row_taken}
@@ -135,7 +135,7 @@ next_kept layout packed order v facts shared row instrument = record {
       facts Legato
       (record { instrument = next_instrument (look_of packed) order v; used = instrument; is_such = is });
   soft = λ is.
-      facts SoftRestart
+      facts NoHardRestart
       (record { instrument = next_instrument (look_of packed) order v; used = instrument; is_such = is });
   shared = shared;
 }

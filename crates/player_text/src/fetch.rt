@@ -4,7 +4,7 @@ use crate::joints::{BEGINS, FETCHES, FIRST, LATE, PULSED, SOUNDS, WALKS};
 use crate::pieces::pieces;
 use crate::walk::{ORDER_WALKED, PATTERN_BEGUN, PATTERN_FOUND, PLAY_REPEATED};
 use player_memory::conditions::{
-    GATE_NOTE, HELD_NOTE, LEGATO, ROW_TONE, SKIP_FIRST, SKIP_PULSE, SOFT_RESTART, TRANSPOSES,
+    GATE_NOTE, HELD_NOTE, LEGATO, NO_HARD_RESTART, ROW_TONE, SKIP_FIRST, SKIP_PULSE, TRANSPOSES,
 };
 use player_memory::labels::{
     AD, GATE, GATE_TIMER, GATE_TIMERS, INSTRUMENT, KEPT_PARAM, NEW_COMMAND, NEW_NOTE, NEW_PARAM,
@@ -165,20 +165,20 @@ pub const ENTRY_ENDED: &[Line] = text! {
 pub const GATE_CLOSED: &[Line] = text! {
     scope HELD {
         leave HELD on Carry;
-        when ROW_TONE { // Idle where NEW_COMMAND isn't 3; keeps no register.
+        when ROW_TONE { // Idle where NEW_COMMAND isn't 3; keeps Y.
             Lda Own NEW_COMMAND;
             Cmp Number 3;
             leave HELD on Zero;
         }
-        when HELD_NOTE { // Idle where bit $40 of the gateoff timer is off; the carry is its bit $80.
+        when HELD_NOTE { // Idle where the gateoff timer is below $40; the carry is its bit $80.
             Ldy Own INSTRUMENT;
             Lda Entry GATE_TIMERS;
             Asl;
-            when LEGATO { leave HELD on Minus; } // Idle where the minus is off; keeps the carry.
+            when LEGATO { leave HELD on Minus; } // Idle where the minus is off; keeps A, Y and the carry.
         }
         Lda Number 0xFE;
         Sta Own GATE;
-        when SOFT_RESTART { leave HELD on Carry; } // Idle where the carry is off.
+        when NO_HARD_RESTART { leave HELD on Carry; } // Idle where the carry is off.
         Lda Number 0x0F;
         Sta Own AD;
         Lda Number 0;

@@ -7,7 +7,8 @@ use crate::commands::{
 use crate::joints::{DONE, SOUNDS, TAKEN, TICKED};
 use crate::pieces::pieces;
 use player_memory::conditions::{
-    FIRST_MASK, FUNK_TEMPO, ROW_COMMAND, ROW_ONCE, ROW_SLIDE, ROW_TONE,
+    FIRST_MASK, FUNK_TEMPO, NOTE_FILTER, NOTE_PULSE, NOTE_VIBRATO, ROW_COMMAND, ROW_ONCE,
+    ROW_SLIDE, ROW_TONE, VIBRATO_DELAY,
 };
 use player_memory::labels::{
     AD, ADS, COMMAND, DELAYS, FILTER_POINTER, FILTER_TIME, FILTERS, FIRST_WAVES, FUNK_ONE, GATE,
@@ -82,8 +83,10 @@ pub const NOTE_TAKEN: &[Line] = text! {
     Sec;
     Sbc Number 0x60;
     Sta Own NOTE;
-    Lda Entry DELAYS;
-    Sta Own VIB_DELAY;
+    when VIBRATO_DELAY { // Idle where the delay is stored as $FF, and VIB_DELAY is it; keeps Y.
+        Lda Entry DELAYS;
+        Sta Own VIB_DELAY;
+    }
     when ROW_TONE { // Idle where NEW_COMMAND isn't 3; keeps Y.
         scope STARTS {
             Lda Own NEW_COMMAND;
@@ -102,7 +105,7 @@ pub const NOTE_BEGUN: &[Line] = text! {
     Lda Number 0;
     Sta Own COMMAND;
     Sta Own WAVE_TIME;
-    Lda Entry VIBRATOS;
+    when NOTE_VIBRATO { Lda Entry VIBRATOS; } // Idle where the vibrato is 0, as A is; keeps A and Y.
     Sta Own PARAM;
     scope MASKED {
         scope MASK {
@@ -121,19 +124,23 @@ pub const NOTE_BEGUN: &[Line] = text! {
 
 /// The note begins: its programs, and its envelope. Y is the instrument, and stays it.
 pub const PROGRAMS_BEGUN: &[Line] = text! {
-    scope NO_PULSE {
-        Lda Entry PULSES;
-        leave NO_PULSE on Zero;
-        Sta Own PULSE_POINTER;
-        Lda Number 0;
-        Sta Own PULSE_TIME;
+    when NOTE_PULSE { // Idle where the instrument has no pulse program; keeps Y.
+        scope NO_PULSE {
+            Lda Entry PULSES;
+            leave NO_PULSE on Zero;
+            Sta Own PULSE_POINTER;
+            Lda Number 0;
+            Sta Own PULSE_TIME;
+        }
     }
-    scope NO_FILTER {
-        Lda Entry FILTERS;
-        leave NO_FILTER on Zero;
-        Sta Var FILTER_POINTER;
-        Lda Number 0;
-        Sta Var FILTER_TIME;
+    when NOTE_FILTER { // Idle where it has no filter program; keeps Y.
+        scope NO_FILTER {
+            Lda Entry FILTERS;
+            leave NO_FILTER on Zero;
+            Sta Var FILTER_POINTER;
+            Lda Number 0;
+            Sta Var FILTER_TIME;
+        }
     }
     Lda Entry WAVES;
     Sta Own WAVE_POINTER;
@@ -150,7 +157,7 @@ pub const COMMAND_BEGUN: &[Line] = text! {
         scope SETTLED {
             scope BARE {
                 Lda Own NEW_COMMAND;
-                when ROW_COMMAND { // Idle where A is 0; keeps A and Y.
+                when ROW_COMMAND { // Leaves BARE where A is 0; keeps A and Y.
                     leave BARE on Zero;
                     when ROW_ONCE { Cmp Number 5; leave ONCE on Carry; } // Idle where A is below 5; keeps A and Y.
                     when ROW_SLIDE { // Not come to in a song without it.
@@ -167,7 +174,7 @@ pub const COMMAND_BEGUN: &[Line] = text! {
                 }
             }
             Sta Own COMMAND;
-            Lda Entry VIBRATOS;
+            when NOTE_VIBRATO { Lda Entry VIBRATOS; } // Idle where the vibrato is 0, as A is; keeps A and Y.
         }
         Sta Own PARAM;
         when ROW_ONCE { leave DONE; } // What follows is left out with it.

@@ -14,8 +14,7 @@ use Rattle.player_desk.proofs.Laws.{goes_on, loaded, indexed, Lent, Done, own_do
 use Rattle.player_text.specs.declared.joints.TheConstants.{TICKED, TAKEN, DONE}
 use Rattle.player_text.specs.declared.tick.TheConstants.{AT_ROW}
 use Rattle.player_memory.specs.FactLines.{KeepsShared}
-use Rattle.tick_code.specs.TickBlock.{tick_tree, KeepsCommand, KeepsRow}
-use Rattle.tick_code.proofs.SoundBegins.{KeepsMask}
+use Rattle.tick_code.specs.TickBlock.{tick_tree, KeepsCommand, KeepsRow, KeepsInstrument}
 use Rattle.tick_code.proofs.Pieces.{first_of, behind}
 use Rattle.tick_code.proofs.TickDesks.{Ticking, cleared, low_six}
 use Rattle.tick_code.proofs.TickGrounds.{InstrumentAt, SpeedAt, ways_of}
@@ -74,13 +73,14 @@ timer_leads r look number s handed d ways m ground at =
 pub row_leads : (r : Reader) (look : LookUps) (s : Playing) (handed : Lent) (d m : VoiceDesk) → r.voice < 3 →
     s.voice.new_command < 256 → s.voice.new_param < 256 → InstrumentAt r look s.voice.instrument →
     KeepsCommand r.layout s.voice.new_command s.voice.new_param → KeepsRow r.layout s.voice.new_command →
-    KeepsMask r look s.voice.instrument → KeepsShared r.layout → (s.voice.new_command ≡ 0xE → s.voice.new_param ≢ 0 → SpeedAt r look s.voice.new_param) →
+    KeepsInstrument r.layout (look.instrument s.voice.instrument) s.voice.vib_delay → KeepsShared r.layout →
+    (s.voice.new_command ≡ 0xE → s.voice.new_param ≢ 0 → SpeedAt r look s.voice.new_param) →
     Done r.voice s handed d m →
     Leads r (rest_of AT_ROW tick_tree)
     (in_scope TICKED
     (ways_of r.voice (at_row (r.voice + 1) look (look.instrument s.voice.instrument) s) handed d)) m
 unfolding at_row
-row_leads r look s handed d m voice few small ground keeps row mask shared sides done =
+row_leads r look s handed d m voice few small ground keeps row instrument shared sides done =
     goes_on true r (first_of timer_tree) (behind timer_tree) (AtTimer number r.voice i.gate_timer s handed d) goal
     (indexed (m.own INSTRUMENT) m)
     (timer_leads r look number s handed d goal (indexed (m.own INSTRUMENT) m) ground (record {
@@ -95,7 +95,7 @@ row_leads r look s handed d m voice few small ground keeps row mask shared sides
     record (loaded (bit_and n.a 0x3F) n) { own = put n.own GATE_TIMER (bit_and n.a 0x3F) } in
     joined true r TAKEN (body_of TAKEN tick_tree) (rest_of TAKEN tick_tree) (AtCommand r look number timed handed d)
     goal set
-    (note_leads r look number timed handed d goal set ground mask row few (record {
+    (note_leads r look number timed handed d goal set ground instrument row few (record {
       done =
           own_done r.voice s timed handed d n set refl refl refl (assumption (six, stands.fields))
           (assumption stands.song) stands;
@@ -103,7 +103,8 @@ row_leads r look s handed d m voice few small ground keeps row mask shared sides
     }))
     (λ k at.
     joined true r DONE (body_of DONE tick_tree) (rest_of DONE tick_tree) (Ended r look i c p at.u handed d) goal k
-    (command_leads r look number c p at.u handed d goal k voice few small ground keeps row shared sides at.command_is
+    (command_leads r look number c p at.u handed d goal k voice few small ground keeps row instrument.vibrato shared
+    sides at.command_is
     at.param_is
     at.here)
     (λ l done.

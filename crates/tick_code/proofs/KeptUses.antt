@@ -2,14 +2,13 @@
 use Rattle.std.proofs.Common.{◌≡◌, ℕ, ◌%◌, ◌≤◌, Bool, true, false, nat_eq, nat_le, if◌then◌else◌}
 use Rattle.std.proofs.Common.{Option, Some, None, inl, refl}
 use Rattle.std.proofs.lemmas.Bool.{eqb-true, leb-true}
-use Rattle.song_facts.specs.Facts.{IsMask}
 use Rattle.play_model.specs.LookUps.{LookUps}
 use Rattle.play_model.specs.Uses.{Turn, DoesRow, DoesOnce, AsksFunkTempo, by_values, by_tempo, by_length}
 use Rattle.scopes.specs.Desk.{Layout}
-use Rattle.player_memory.specs.declared.conditions.TheConstants.{SET_WAVE_POINTER, FUNK_TEMPO, SET_TEMPO, FIRST_MASK}
+use Rattle.player_memory.specs.declared.conditions.TheConstants.{SET_WAVE_POINTER, FUNK_TEMPO, SET_TEMPO}
 use Rattle.player_memory.specs.FactLines.{KeepsShared}
 use Rattle.player_memory.specs.Commands.{condition_of_both, condition_of_tempo, AreKept}
-use Rattle.tick_code.specs.TickBlock.{IsRowDone, KeepsRow, KeepsTick}
+use Rattle.tick_code.specs.TickBlock.{IsRowDone, KeepsRow, KeepsInstrument, KeepsTick}
 
 -- what a turn uses is kept, feature by feature
 pub record KeepsUsed (layout : Layout) (turn : Turn) : Type 0 where
@@ -26,11 +25,12 @@ kept_if layout false one two this other = other
 
 pub tick_kept : (layout : Layout) (look : LookUps) (turn : Turn) → KeepsUsed layout turn →
     (IsRowDone turn.start → KeepsRow layout turn.start.voice.new_command) →
-    (IsRowDone turn.start → IsMask (look.instrument turn.start.voice.instrument) → layout.holds FIRST_MASK ≡ true) →
+    (IsRowDone turn.start →
+    KeepsInstrument layout (look.instrument turn.start.voice.instrument) turn.start.voice.vib_delay) →
     KeepsShared layout → KeepsTick layout turn.channel look turn.start
-tick_kept layout look turn uses row mask shared = record {
+tick_kept layout look turn uses row instrument shared = record {
   row = row;
-  mask = mask;
+  instrument = instrument;
   shared = shared;
   command = λ now.
       kept_if layout (nat_eq c 8) (Some SET_WAVE_POINTER) _

@@ -9,19 +9,19 @@ use Rattle.play_model.specs.LookUps.{LookUps}
 use Rattle.play_model.specs.State.{Playing}
 use Rattle.play_model.specs.TickStep.{note_started, row_command}
 use Rattle.scopes.specs.Trees.{Tree}
-use Rattle.player_memory.specs.declared.conditions.TheConstants.{ROW_TONE}
-use Rattle.player_memory.specs.declared.labels.TheConstants.{NOTE, NEW_NOTE, NEW_COMMAND, VIB_DELAY, DELAYS}
+use Rattle.player_memory.specs.declared.conditions.TheConstants.{ROW_TONE, VIBRATO_DELAY}
+use Rattle.player_memory.specs.declared.labels.TheConstants.{NOTE, NEW_NOTE, NEW_COMMAND, DELAYS}
 use Rattle.player_desk.proofs.Laws.{VoiceDesk, Reader, Ways, Leads, done_as, in_scope, body_of, rest_of, joined}
-use Rattle.player_desk.proofs.Laws.{goes_on, Lent, Done, own_done, done_over, listed}
+use Rattle.player_desk.proofs.Laws.{goes_on, Lent, own_done, done_over, listed}
 use Rattle.player_text.specs.declared.joints.TheConstants.{TAKEN}
 use Rattle.player_text.specs.declared.tick.TheConstants.{STARTS}
-use Rattle.tick_code.specs.TickBlock.{tick_tree, KeepsRow}
+use Rattle.tick_code.specs.TickBlock.{tick_tree, KeepsRow, KeepsInstrument}
 use Rattle.tick_code.proofs.Pieces.{first_of, behind, sound_tree}
-use Rattle.tick_code.proofs.TickDesks.{Ticking, cleared, ticking_as}
+use Rattle.tick_code.proofs.TickDesks.{Ticking, cleared, ticking_as, none_unkept}
 use Rattle.tick_code.proofs.TickGrounds.{InstrumentAt}
 use Rattle.tick_code.proofs.NoteRules.{note_row, starts, starts_none, starts_slide, starts_sound, none_started}
 use Rattle.tick_code.proofs.NoteRules.{slide_started, sound_started, noted, slide_same, is_slide, note_is}
-use Rattle.tick_code.proofs.SoundBegins.{KeepsMask, sounding, sound_leads}
+use Rattle.tick_code.proofs.SoundBegins.{sounding, sound_leads}
 
 -- Y is the instrument. From this state the row's command leaves what it leaves behind the start of the note, but that
 -- the note that waits isn't used up where it has started.
@@ -134,55 +134,51 @@ begins_leads r look number s handed d ways m some small at = (
 
 -- ---- the note
 
--- A is the vibrato's delay, less one
-record AtDelay (number voice delay : ℕ) (s : Playing) (handed : Lent) (d m : VoiceDesk) : Type 0 where
-  at : Ticking number voice s handed d m
-  a : m.a ≡ (delay + 255) % 256
-
 abbrev delay_tree : Tree
 delay_tree = behind (behind (behind (behind (behind (body_of TAKEN tick_tree)))))
 
 abbrev taken : Playing → Playing
 taken s = record s { voice = record s.voice { note = (s.voice.new_note + 256 - 0x60) % 256 } }
 
+-- where no delay is kept, neither the instrument nor the voice has one
 delay_leads : (r : Reader) (look : LookUps) (number : ℕ) (s : Playing) (handed : Lent) (d : VoiceDesk)
-    (ways : Ways) (m : VoiceDesk) → InstrumentAt r look number → Ticking number r.voice s handed d m →
-    Leads r (first_of delay_tree)
-    (done_as (AtDelay number r.voice (look.instrument number).vibrato_delay s handed d) ways) m
-delay_leads r look number s handed d ways m ground at =
-    listed DELAYS number (((look.instrument number).vibrato_delay + 255) % 256) ground.delay at.y_is
-    (λ b e. record {
-      at = record { done = done_over r.voice s handed d m _ refl refl refl at.done; y_is = at.y_is };
-      a = e;
-    })
+    (ways : Ways) (m : VoiceDesk) → InstrumentAt r look number →
+    KeepsInstrument r.layout (look.instrument number) s.voice.vib_delay →
+    Ticking number r.voice (taken s) handed d m →
+    Leads r (first_of delay_tree) (done_as (Ticking number r.voice (noted (look.instrument number) s) handed d) ways) m
+delay_leads r look number s handed d ways m ground keeps at = (
+  λ kept.
+      listed DELAYS number ((i.vibrato_delay + 255) % 256) ground.delay at.y_is
+      (λ b e. record {
+        done =
+            own_done r.voice (taken s) (noted i s) handed d m _ refl refl refl (assumption (e, at.done.fields))
+            (assumption at.done.song) at.done;
+        y_is = at.y_is;
+      }),
+  λ out. ticking_as number r.voice (taken s) (noted i s) handed d m (same_delay (none out)) at,
+)
+  where
+    i : Instrument
+    i = look.instrument number
+
+    none : r.layout.holds VIBRATO_DELAY ≡ false → s.voice.vib_delay ≡ i.vibrato_delay
+    none out =
+        none_unkept r.layout VIBRATO_DELAY s.voice.vib_delay keeps.waits out
+        ∙ sym (none_unkept r.layout VIBRATO_DELAY i.vibrato_delay keeps.delay out)
+
+    same_delay : s.voice.vib_delay ≡ i.vibrato_delay → taken s ≡ noted i s
+    same_delay e = ap (λ n. record (taken s) { voice = record (taken s).voice { vib_delay = n } }) e
 
 -- A is the note that waits
 taken_leads : (r : Reader) (look : LookUps) (number : ℕ) (s : Playing) (handed : Lent) (d : VoiceDesk)
-    (ways : Ways) (m : VoiceDesk) → InstrumentAt r look number → KeepsMask r look number →
+    (ways : Ways) (m : VoiceDesk) → InstrumentAt r look number →
+    KeepsInstrument r.layout (look.instrument number) s.voice.vib_delay →
     KeepsRow r.layout s.voice.new_command → s.voice.new_note ≢ 0 → s.voice.new_command < 256 →
     Ticking number r.voice (taken s) handed d m →
     Leads r delay_tree (in_scope TAKEN (done_as (AtCommand r look number s handed d) ways)) m
 taken_leads r look number s handed d ways m ground keeps row some small at =
-    goes_on true r (first_of delay_tree) (behind delay_tree)
-    (AtDelay number r.voice i.vibrato_delay (taken s) handed d) goal m
-    (delay_leads r look number (taken s) handed d goal m ground at)
-    (λ n delay.
-    let a : n.a ≡ (i.vibrato_delay + 255) % 256 = delay.a in
-    let done : Done r.voice (taken s) handed d n = delay.at.done in
-    let set : VoiceDesk = record n { own = put n.own VIB_DELAY n.a } in
-    let at_set : Ticking number r.voice (noted i s) handed d set = record {
-      done =
-          own_done r.voice (taken s) (noted i s) handed d n set refl refl refl (assumption (a, done.fields))
-          (assumption done.song) done;
-      y_is = delay.at.y_is;
-    } in (
-      λ kept.
-          joined true r STARTS (body_of STARTS tick_tree) (rest_of STARTS tick_tree)
-          (AtBegins r look number s handed d) (done_as (Leads r sound_tree goal) goal) set
-          (begins_leads r look number s handed d ways set some small at_set)
-          (λ k begins. sounds k begins.sounds begins.at),
-      λ out. sounds set (λ slides. both_ways (r.layout.holds ROW_TONE) out (row.tone slides)) at_set,
-    ))
+    goes_on true r (first_of delay_tree) (behind delay_tree) (Ticking number r.voice (noted i s) handed d) goal m
+    (delay_leads r look number s handed d goal m ground keeps at) on
   where
     i : Instrument
     i = look.instrument number
@@ -193,11 +189,22 @@ taken_leads r look number s handed d ways m ground keeps row some small at =
     sounds : (k : VoiceDesk) → s.voice.new_command ≢ 3 → Ticking number r.voice (noted i s) handed d k →
         Leads r sound_tree goal k
     sounds k apart at =
-        sound_leads r look number s handed d ways (AtCommand r look number s handed d) k
+        sound_leads r look number s.voice.vib_delay s handed d ways (AtCommand r look number s handed d) k
         (λ l sounds. at_sound r look number s handed d l some apart sounds) ground keeps at
 
+    -- from behind the delay on
+    on : (k : VoiceDesk) → Ticking number r.voice (noted i s) handed d k → Leads r (behind delay_tree) goal k
+    on k at = (
+      λ kept.
+          joined true r STARTS (body_of STARTS tick_tree) (rest_of STARTS tick_tree)
+          (AtBegins r look number s handed d) (done_as (Leads r sound_tree goal) goal) k
+          (begins_leads r look number s handed d ways k some small at) (λ l begins. sounds l begins.sounds begins.at),
+      λ out. sounds k (λ slides. both_ways (r.layout.holds ROW_TONE) out (row.tone slides)) at,
+    )
+
 pub note_leads : (r : Reader) (look : LookUps) (number : ℕ) (s : Playing) (handed : Lent) (d : VoiceDesk)
-    (ways : Ways) (m : VoiceDesk) → InstrumentAt r look number → KeepsMask r look number →
+    (ways : Ways) (m : VoiceDesk) → InstrumentAt r look number →
+    KeepsInstrument r.layout (look.instrument number) s.voice.vib_delay →
     KeepsRow r.layout s.voice.new_command → s.voice.new_command < 256 → Ticking number r.voice s handed d m →
     Leads r (body_of TAKEN tick_tree) (in_scope TAKEN (done_as (AtCommand r look number s handed d) ways)) m
 note_leads r look number s handed d ways m ground keeps row small at = (

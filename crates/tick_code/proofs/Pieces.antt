@@ -9,7 +9,7 @@ use Rattle.tick_code.specs.TickBlock.{tick_tree}
 
 -- behind the test for a slide the sound of the note begins
 abbrev pub sound_tree : Tree
-sound_tree = past 8 (body_of TAKEN tick_tree)
+sound_tree = past 7 (body_of TAKEN tick_tree)
 
 -- a row's command, and one that runs
 abbrev pub row_tree : Tree

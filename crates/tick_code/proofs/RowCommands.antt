@@ -5,11 +5,12 @@ use Rattle.std.proofs.lemmas.Bool.{leb-true, leb-false, eqb-true, eqb-false, bot
 use Rattle.std.proofs.lemmas.Bool.Decides.{eqb_tells}
 use Rattle.code_runs.specs.Runs.{put}
 use Rattle.song_model.specs.declared.instruments.Instrument.{Instrument}
+use Rattle.song_facts.specs.Facts.{HasVibrato}
 use Rattle.play_model.specs.LookUps.{LookUps}
 use Rattle.play_model.specs.State.{Voice, Playing}
 use Rattle.play_model.specs.TickStep.{row_command}
-use Rattle.player_memory.specs.declared.conditions.TheConstants.{ROW_COMMAND, ROW_SLIDE, ROW_ONCE}
-use Rattle.player_memory.specs.declared.labels.TheConstants.{NEW_COMMAND, NEW_PARAM, PARAM, VIBRATOS}
+use Rattle.player_memory.specs.declared.conditions.TheConstants.{ROW_COMMAND, ROW_SLIDE, ROW_ONCE, NOTE_VIBRATO}
+use Rattle.player_memory.specs.declared.labels.TheConstants.{NEW_COMMAND, NEW_PARAM, COMMAND, PARAM, VIBRATOS}
 use Rattle.player_memory.specs.FactLines.{KeepsShared}
 use Rattle.player_desk.proofs.Laws.{VoiceDesk, Reader, Ways, Leads, done_as, in_scope, body_of, rest_of, joined, loaded}
 use Rattle.player_desk.proofs.Laws.{indexed, Lent, Done, own_done, done_over, done_by, listed, kept_lead, unkept_lead}
@@ -17,7 +18,7 @@ use Rattle.player_text.specs.declared.joints.TheConstants.{DONE}
 use Rattle.player_text.specs.declared.tick.TheConstants.{ONCE, SETTLED, BARE}
 use Rattle.tick_code.specs.TickBlock.{tick_tree, KeepsCommand, KeepsRow}
 use Rattle.tick_code.proofs.Pieces.{first_of, behind, under, running_tree, once_tree}
-use Rattle.tick_code.proofs.TickDesks.{Ticking}
+use Rattle.tick_code.proofs.TickDesks.{Ticking, none_unkept}
 use Rattle.tick_code.proofs.TickGrounds.{InstrumentAt, SpeedAt}
 use Rattle.tick_code.proofs.Commands.{row_vibrato, row_porta, row_runs}
 use Rattle.tick_code.proofs.OnceChain.{Ended, once_leads}
@@ -48,23 +49,36 @@ abbrev settled_ways : Reader → LookUps → Instrument → ℕ → ℕ → Play
 settled_ways r look i c p u handed d ways =
     in_scope SETTLED (done_as (AtSettled r look i c p u handed d) (in_scope ONCE (done_as (AtTaken r look i c p u handed d) ways)))
 
+-- the lines that read an instrument's vibrato are kept where it has one
+abbrev pub KeepsVibrato : Reader → LookUps → ℕ → Type 0
+KeepsVibrato r look number = HasVibrato (look.instrument number) → r.layout.holds NOTE_VIBRATO ≡ true
+
 -- A is 0, and so is the command
 bare_leads : (r : Reader) (look : LookUps) (number c p : ℕ) (u : Playing) (handed : Lent) (d : VoiceDesk)
-    (ways : Ways) (m : VoiceDesk) → InstrumentAt r look number → c ≡ 0 → m.a ≡ 0 →
+    (ways : Ways) (m : VoiceDesk) → InstrumentAt r look number → KeepsVibrato r look number → c ≡ 0 → m.a ≡ 0 →
     Ticking number r.voice u handed d m →
     Leads r (rest_of BARE tick_tree) (settled_ways r look (look.instrument number) c p u handed d ways) m
-bare_leads r look number c p u handed d ways m ground none a at =
-    let done : Done r.voice u handed d m = at.done in
-    listed VIBRATOS number (look.instrument number).vibrato ground.vibrato at.y_is
-    (λ b e. record {
-      v = record u.voice { command = 0 };
-      param = (look.instrument number).vibrato;
-      done =
-          own_done r.voice u (record u { voice = record u.voice { command = 0 } }) handed d m _ refl refl refl
-          (assumption (a, done.fields)) (assumption done.song) done;
-      a = e;
-      is = row_vibrato (r.voice + 1) look (look.instrument number) c p u none;
-    })
+bare_leads r look number c p u handed d ways m ground keeps none a at = (
+  λ kept. listed VIBRATOS number vibrato ground.vibrato at.y_is (λ b e. settles _ refl refl refl e),
+  λ out. settles _ refl refl refl (a ∙ sym (none_unkept r.layout NOTE_VIBRATO vibrato keeps out)),
+)
+  where
+    vibrato : ℕ
+    vibrato = (look.instrument number).vibrato
+
+    settles : (n : VoiceDesk) → n.own ≡ put m.own COMMAND m.a → n.shared ≡ m.shared → n.sid ≡ m.sid → n.a ≡ vibrato →
+        AtSettled r look (look.instrument number) c p u handed d n
+    settles n own shared sid is =
+        let done : Done r.voice u handed d m = at.done in
+        record {
+          v = record u.voice { command = 0 };
+          param = vibrato;
+          done =
+              own_done r.voice u (record u { voice = record u.voice { command = 0 } }) handed d m n shared sid refl
+              (rw own (assumption (a, done.fields))) (rw own (assumption done.song)) done;
+          a = is;
+          is = row_vibrato (r.voice + 1) look (look.instrument number) c p u none;
+        }
 
 -- A is the command, which runs
 running_leads : (r : Reader) (look : LookUps) (number c p : ℕ) (u : Playing) (handed : Lent) (d : VoiceDesk)
@@ -111,10 +125,10 @@ running_leads r look number c p u handed d ways m keeps some below command_is pa
     param = done.fields.new_param (λ none. some (sym command_is ∙ none)) ∙ param_is
 
 settled_leads : (r : Reader) (look : LookUps) (number c p : ℕ) (u : Playing) (handed : Lent) (d : VoiceDesk)
-    (ways : Ways) (m : VoiceDesk) → InstrumentAt r look number → KeepsRow r.layout c → KeepsShared r.layout →
-    u.voice.new_command ≡ c → u.voice.new_param ≡ p → Ticking number r.voice u handed d m →
+    (ways : Ways) (m : VoiceDesk) → InstrumentAt r look number → KeepsRow r.layout c → KeepsVibrato r look number →
+    KeepsShared r.layout → u.voice.new_command ≡ c → u.voice.new_param ≡ p → Ticking number r.voice u handed d m →
     Leads r (body_of SETTLED tick_tree) (settled_ways r look (look.instrument number) c p u handed d ways) m
-settled_leads r look number c p u handed d ways m ground keeps shared command_is param_is at =
+settled_leads r look number c p u handed d ways m ground keeps vibrato shared command_is param_is at =
     let done : Done r.voice u handed d m = at.done in
     let command : m.own NEW_COMMAND ≡ c = done.fields.new_command ∙ command_is in (
       λ kept. (
@@ -151,7 +165,7 @@ settled_leads r look number c p u handed d ways m ground keeps shared command_is
     bare : (n : VoiceDesk) → c ≡ 0 → n.a ≡ 0 → n.own ≡ m.own → n.shared ≡ m.shared → n.sid ≡ m.sid → n.y ≡ m.y →
         Leads r (rest_of BARE tick_tree) (settled_ways r look i c p u handed d ways) n
     bare n none a own shared sid y =
-        bare_leads r look number c p u handed d ways n ground none a
+        bare_leads r look number c p u handed d ways n ground vibrato none a
         (record { done = done_over r.voice u handed d m n own shared sid at.done; y_is = y ∙ at.y_is })
 
     below : r.layout.holds ROW_ONCE ≡ false → (c < 5) ⊎ (5 ≤ c) → c < 5
@@ -174,16 +188,17 @@ settled_leads r look number c p u handed d ways m ground keeps shared command_is
 -- Y is the instrument
 pub command_leads : (r : Reader) (look : LookUps) (number c p : ℕ) (u : Playing) (handed : Lent) (d : VoiceDesk)
     (ways : Ways) (m : VoiceDesk) → r.voice < 3 → c < 256 → p < 256 → InstrumentAt r look number →
-    KeepsCommand r.layout c p → KeepsRow r.layout c → KeepsShared r.layout → (c ≡ 0xE → p ≢ 0 → SpeedAt r look p) →
+    KeepsCommand r.layout c p → KeepsRow r.layout c → KeepsVibrato r look number → KeepsShared r.layout →
+    (c ≡ 0xE → p ≢ 0 → SpeedAt r look p) →
     u.voice.new_command ≡ c → u.voice.new_param ≡ p → Ticking number r.voice u handed d m →
     Leads r (body_of DONE tick_tree)
     (in_scope DONE (done_as (Ended r look (look.instrument number) c p u handed d) ways)) m
-command_leads r look number c p u handed d ways m voice few small ground keeps row shared sides command_is param_is at
-    =
+command_leads r look number c p u handed d ways m voice few small ground keeps row vibrato shared sides command_is
+    param_is at =
     joined true r ONCE (body_of ONCE tick_tree) (rest_of ONCE tick_tree) (AtTaken r look i c p u handed d) goal m
     (joined true r SETTLED (body_of SETTLED tick_tree) (rest_of SETTLED tick_tree)
     (AtSettled r look i c p u handed d) runs m
-    (settled_leads r look number c p u handed d goal m ground row shared command_is param_is at)
+    (settled_leads r look number c p u handed d goal m ground row vibrato shared command_is param_is at)
     (λ n settled. (λ kept. settles _ n settled refl refl refl, λ out. Over out (settles _ n settled refl refl refl))))
     (λ n taken. taken_leads n taken)
   where

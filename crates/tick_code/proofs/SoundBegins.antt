@@ -8,7 +8,7 @@ use Rattle.song_facts.specs.Facts.{IsMask}
 use Rattle.play_model.specs.LookUps.{LookUps}
 use Rattle.play_model.specs.State.{Voice, Common, Playing}
 use Rattle.play_model.specs.TickStep.{tempo_of, note_taken, first_wave_set, sound_begun}
-use Rattle.player_memory.specs.declared.conditions.TheConstants.{FIRST_MASK}
+use Rattle.player_memory.specs.declared.conditions.TheConstants.{FIRST_MASK, NOTE_VIBRATO, NOTE_PULSE, NOTE_FILTER}
 use Rattle.player_memory.specs.declared.labels.TheConstants.{WAVE, GATE, FILTER_POINTER, FILTER_TIME, WAVES, ADS, SRS, COMMAND}
 use Rattle.player_memory.specs.declared.labels.TheConstants.{WAVE_TIME, PARAM, VIBRATOS, FIRST_WAVES, PULSES, FILTERS}
 use Rattle.player_desk.proofs.Laws.{VoiceDesk, Reader, Ways, Leads, done_as, in_scope, body_of, rest_of, joined}
@@ -16,17 +16,17 @@ use Rattle.player_desk.proofs.Laws.{goes_on, loaded, Lent, Done, own_done, done_
 use Rattle.player_text.specs.declared.joints.TheConstants.{TAKEN}
 use Rattle.player_text.specs.declared.tick.TheConstants.{MASKED, NO_PULSE, NO_FILTER}
 use Rattle.scopes.specs.Trees.{Tree}
-use Rattle.tick_code.specs.TickBlock.{tick_tree}
+use Rattle.tick_code.specs.TickBlock.{tick_tree, KeepsInstrument}
 use Rattle.command_code.proofs.Laws.{shared_done, tempos_kept}
 use Rattle.tick_code.proofs.Pieces.{first_of, behind, sound_tree}
-use Rattle.tick_code.proofs.TickDesks.{Ticking, done_as_is, if_so, if_not}
+use Rattle.tick_code.proofs.TickDesks.{Ticking, ticking_as, done_as_is, none_unkept, if_so, if_not}
 use Rattle.tick_code.proofs.TickGrounds.{InstrumentAt}
 use Rattle.tick_code.proofs.NoteRules.{noted, wave_same, wave_mask, wave_plain}
 
 -- ---- the first frame's waveform
 
 -- the lines for a first waveform that is a mask are kept where the instrument's is one
-abbrev pub KeepsMask : Reader → LookUps → ℕ → Type 0
+abbrev KeepsMask : Reader → LookUps → ℕ → Type 0
 KeepsMask r look number = IsMask (look.instrument number) → r.layout.holds FIRST_MASK ≡ true
 
 -- a delay of the wave program begins anew
@@ -174,12 +174,21 @@ filter_leads r look number s handed d ways m ground at =
           },
     ))
 
+abbrev vibrato_tree : Tree
+vibrato_tree = behind (behind (behind sound_tree))
+
+abbrev pulse_tree : Tree
+pulse_tree = rest_of MASKED tick_tree
+
+abbrev filter_tree : Tree
+filter_tree = behind pulse_tree
+
 -- the wave program and the envelope
 wave_leads : (r : Reader) (look : LookUps) (number : ℕ) (s : Playing) (handed : Lent) (d : VoiceDesk)
     (ways : Ways) (Q : VoiceDesk → Type 0) (m : VoiceDesk) →
     ((n : VoiceDesk) → Ticking number r.voice (wave_begun (look.instrument number) s) handed d n → Q n) →
     InstrumentAt r look number → Ticking number r.voice s handed d m →
-    Leads r (rest_of NO_FILTER tick_tree) (in_scope TAKEN (done_as Q ways)) m
+    Leads r (behind filter_tree) (in_scope TAKEN (done_as Q ways)) m
 wave_leads r look number s handed d ways Q m into ground at =
     let done : Done r.voice s handed d m = at.done in
     listed WAVES number (look.instrument number).wave ground.wave at.y_is
@@ -197,52 +206,27 @@ wave_leads r look number s handed d ways Q m into ground at =
 
 -- ---- the whole
 
--- A is the instrument's vibrato; the delay of its wave program begins anew
-record AtVibrato (number voice vibrato : ℕ) (s : Playing) (handed : Lent) (d m : VoiceDesk) : Type 0 where
-  at : Ticking number voice s handed d m
-  a : m.a ≡ vibrato
+-- where the instrument has no pulse program, or no filter program, none is begun
+no_pulse : (i : Instrument) (s : Playing) → i.pulse ≡ 0 → s ≡ pulse_begun i s
+no_pulse i s none = rw none refl
 
-abbrev vibrato_tree : Tree
-vibrato_tree = behind (behind (behind sound_tree))
-
-abbrev cut_off : Voice → Voice
-cut_off v = record v { command = 0; wave_time = 0 }
-
-vibrato_leads : (r : Reader) (look : LookUps) (number : ℕ) (s : Playing) (handed : Lent) (d : VoiceDesk)
-    (ways : Ways) (m : VoiceDesk) → InstrumentAt r look number → Ticking number r.voice s handed d m →
-    Leads r (first_of vibrato_tree)
-    (done_as (AtVibrato number r.voice (look.instrument number).vibrato s handed d) ways) m
-vibrato_leads r look number s handed d ways m ground at =
-    listed VIBRATOS number (look.instrument number).vibrato ground.vibrato at.y_is
-    (λ b e. record {
-      at = record { done = done_over r.voice s handed d m _ refl refl refl at.done; y_is = at.y_is };
-      a = e;
-    })
+no_filter : (i : Instrument) (s : Playing) → i.filter ≡ 0 → s ≡ record s { common = filter_begun i s.common }
+no_filter i s none = rw none refl
 
 -- the sound of the note
 abbrev pub sounding : Instrument → Playing → Playing
 sounding i s = sound_begun i (record s { voice = note_taken i s.voice })
 
 -- from the first frame's waveform on
-begun_leads : (r : Reader) (look : LookUps) (number : ℕ) (s : Playing) (handed : Lent) (d : VoiceDesk)
+begun_leads : (r : Reader) (look : LookUps) (number waits : ℕ) (s : Playing) (handed : Lent) (d : VoiceDesk)
     (ways : Ways) (Q : VoiceDesk → Type 0) (m : VoiceDesk) →
     ((n : VoiceDesk) → Ticking number r.voice (sounding (look.instrument number) s) handed d n → Q n) →
-    InstrumentAt r look number → KeepsMask r look number →
+    InstrumentAt r look number → KeepsInstrument r.layout (look.instrument number) waits →
     Ticking number r.voice (waved (note_taken (look.instrument number) s.voice) s) handed d m →
     Leads r (behind (behind vibrato_tree)) (in_scope TAKEN (done_as Q ways)) m
-begun_leads r look number s handed d ways Q m into ground keeps at =
-    joined true r MASKED (body_of MASKED tick_tree) (rest_of MASKED tick_tree) (Ticking number r.voice first handed d)
-    goal
-    m (masked_leads r look number s (note_taken i s.voice) handed d goal m ground keeps at)
-    (λ n behind.
-    joined true r NO_PULSE (body_of NO_PULSE tick_tree) (rest_of NO_PULSE tick_tree)
-    (Ticking number r.voice (pulse_begun i first) handed d) goal n
-    (pulse_leads r look number first handed d goal n ground behind)
-    (λ k pulsed.
-    joined true r NO_FILTER (body_of NO_FILTER tick_tree) (rest_of NO_FILTER tick_tree)
-    (Ticking number r.voice second handed d) goal k
-    (filter_leads r look number (pulse_begun i first) handed d goal k ground pulsed)
-    (λ l filtered. wave_leads r look number second handed d ways Q l into ground filtered)))
+begun_leads r look number waits s handed d ways Q m into ground keeps at =
+    joined true r MASKED (body_of MASKED tick_tree) pulse_tree (Ticking number r.voice first handed d) goal m
+    (masked_leads r look number s (note_taken i s.voice) handed d goal m ground keeps.mask at) pulses
   where
     i : Instrument
     i = look.instrument number
@@ -256,16 +240,67 @@ begun_leads r look number s handed d ways Q m into ground keeps at =
     goal : Ways
     goal = in_scope TAKEN (done_as Q ways)
 
-pub sound_leads : (r : Reader) (look : LookUps) (number : ℕ) (s : Playing) (handed : Lent) (d : VoiceDesk)
+    filters : (k : VoiceDesk) → Ticking number r.voice (pulse_begun i first) handed d k → Leads r filter_tree goal k
+    filters k at = (
+      λ kept.
+          joined true r NO_FILTER (body_of NO_FILTER tick_tree) (rest_of NO_FILTER tick_tree)
+          (Ticking number r.voice second handed d) (done_as (Leads r (behind filter_tree) goal) goal) k
+          (filter_leads r look number (pulse_begun i first) handed d (done_as (Leads r (behind filter_tree) goal) goal) k
+          ground at)
+          (λ l filtered. wave_leads r look number second handed d ways Q l into ground filtered),
+      λ out.
+          wave_leads r look number second handed d ways Q k into ground
+          (ticking_as number r.voice (pulse_begun i first) second handed d k
+          (no_filter i (pulse_begun i first) (none_unkept r.layout NOTE_FILTER i.filter keeps.filter out)) at),
+    )
+
+    pulses : (n : VoiceDesk) → Ticking number r.voice first handed d n → Leads r pulse_tree goal n
+    pulses n at = (
+      λ kept.
+          joined true r NO_PULSE (body_of NO_PULSE tick_tree) (rest_of NO_PULSE tick_tree)
+          (Ticking number r.voice (pulse_begun i first) handed d) (done_as (Leads r filter_tree goal) goal) n
+          (pulse_leads r look number first handed d (done_as (Leads r filter_tree goal) goal) n ground at) filters,
+      λ out.
+          filters n (ticking_as number r.voice first (pulse_begun i first) handed d n
+          (no_pulse i first (none_unkept r.layout NOTE_PULSE i.pulse keeps.pulse out)) at),
+    )
+
+-- A is the instrument's vibrato; the delay of its wave program begins anew
+record AtVibrato (number voice vibrato : ℕ) (s : Playing) (handed : Lent) (d m : VoiceDesk) : Type 0 where
+  at : Ticking number voice s handed d m
+  a : m.a ≡ vibrato
+
+abbrev cut_off : Voice → Voice
+cut_off v = record v { command = 0; wave_time = 0 }
+
+vibrato_leads : (r : Reader) (look : LookUps) (number waits : ℕ) (s : Playing) (handed : Lent) (d : VoiceDesk)
+    (ways : Ways) (m : VoiceDesk) → InstrumentAt r look number →
+    KeepsInstrument r.layout (look.instrument number) waits → m.a ≡ 0 → Ticking number r.voice s handed d m →
+    Leads r (first_of vibrato_tree)
+    (done_as (AtVibrato number r.voice (look.instrument number).vibrato s handed d) ways) m
+vibrato_leads r look number waits s handed d ways m ground keeps zero at = (
+  λ kept.
+      listed VIBRATOS number vibrato ground.vibrato at.y_is
+      (λ b e. record {
+        at = record { done = done_over r.voice s handed d m _ refl refl refl at.done; y_is = at.y_is };
+        a = e;
+      }),
+  λ out. record { at = at; a = zero ∙ sym (none_unkept r.layout NOTE_VIBRATO vibrato keeps.vibrato out) },
+)
+  where
+    vibrato : ℕ
+    vibrato = (look.instrument number).vibrato
+
+pub sound_leads : (r : Reader) (look : LookUps) (number waits : ℕ) (s : Playing) (handed : Lent) (d : VoiceDesk)
     (ways : Ways) (Q : VoiceDesk → Type 0) (m : VoiceDesk) →
     ((n : VoiceDesk) → Ticking number r.voice (sounding (look.instrument number) s) handed d n → Q n) →
-    InstrumentAt r look number → KeepsMask r look number →
+    InstrumentAt r look number → KeepsInstrument r.layout (look.instrument number) waits →
     Ticking number r.voice (noted (look.instrument number) s) handed d m →
     Leads r sound_tree (in_scope TAKEN (done_as Q ways)) m
-sound_leads r look number s handed d ways Q m into ground keeps at =
+sound_leads r look number waits s handed d ways Q m into ground keeps at =
     goes_on true r (first_of vibrato_tree) (behind vibrato_tree) (AtVibrato number r.voice i.vibrato cut handed d)
     goal quiet
-    (vibrato_leads r look number cut handed d goal quiet ground (record {
+    (vibrato_leads r look number waits cut handed d goal quiet ground keeps refl (record {
       done =
           own_done r.voice (noted i s) cut handed d m quiet refl refl refl (assumption at.done.fields)
           (assumption at.done.song) at.done;
@@ -274,7 +309,7 @@ sound_leads r look number s handed d ways Q m into ground keeps at =
     (λ n vibrato.
     let a : n.a ≡ i.vibrato = vibrato.a in
     let done : Done r.voice cut handed d n = vibrato.at.done in
-    begun_leads r look number s handed d ways Q (record n { own = put n.own PARAM n.a }) into ground keeps (record {
+    begun_leads r look number waits s handed d ways Q (record n { own = put n.own PARAM n.a }) into ground keeps (record {
       done =
           own_done r.voice cut (waved (note_taken i s.voice) s) handed d n _ refl refl refl
           (assumption (a, done.fields))

@@ -1,10 +1,12 @@
 -- The desk of a voice in its tick step, from one piece of the code to the next.
-use Rattle.std.proofs.Common.{◌≡◌, ℕ, ◌%◌, ◌<◌, Bool, true}
+use Rattle.std.proofs.Common.{◌≡◌, ◌≢◌, ℕ, ◌%◌, ◌<◌, Bool, true}
 use Rattle.std.proofs.Common.{false, nat_eq, bit_and}
 use Rattle.std.proofs.Common.{if◌then◌else◌}
-use Rattle.std.proofs.Common.{refl, subst}
-use Rattle.std.proofs.lemmas.Bool.{agree_below_at, eqb-true}
+use Rattle.std.proofs.Common.{inl, inr, refl, subst}
+use Rattle.std.proofs.lemmas.Bool.{agree_below_at, eqb-true, both_ways}
+use Rattle.std.proofs.lemmas.Bool.Decides.{eqb_tells}
 use Rattle.play_model.specs.State.{Playing}
+use Rattle.scopes.specs.Desk.{Layout}
 use Rattle.player_desk.proofs.Laws.{VoiceDesk, Lent, Done}
 
 -- a desk on which a voice and what the voices share stand, with a number in Y
@@ -30,6 +32,14 @@ done_as_is voice s u handed d m e at = subst (λ x. Done voice x handed d m) e a
 pub low_six : (n : ℕ) → n < 256 → bit_and n 0x3F ≡ n % 64
 low_six n l =
     eqb-true _ _ (agree_below_at (λ n. nat_eq (bit_and n 0x3F) (n % 64)) (λ _. true) 256 n refl l)
+
+-- what an instrument would keep lines for is 0 where they aren't kept
+pub none_unkept : (layout : Layout) (condition n : ℕ) → (n ≢ 0 → layout.holds condition ≡ true) →
+    layout.holds condition ≡ false → n ≡ 0
+none_unkept layout condition n keeps out = elim (eqb_tells n 0) [
+  | inl none ↦ none.1
+  | inr some ↦ absurd (both_ways (layout.holds condition) out (keeps some.1))
+]
 
 -- a number that depends on a test
 pub if_so : (b : Bool) (x y n : ℕ) → b ≡ true → n ≡ x → n ≡ (if b then x else y)

@@ -14,7 +14,7 @@ use Rattle.player_desk.proofs.Laws.{fields_stand, shared_stand}
 use Rattle.tick_code.specs.TickBlock.{HasInstrument, HasTickLists, IsInLists, KeepsCommand, KeepsTick}
 use Rattle.player_memory.specs.FactLines.{KeepsShared}
 use Rattle.player_memory.specs.declared.conditions.TheConstants.{FUNK_TEMPO, ROW_SLIDE, ROW_ONCE, WAVE_DELAY, LEGATO}
-use Rattle.player_memory.specs.declared.conditions.TheConstants.{SOFT_RESTART}
+use Rattle.player_memory.specs.declared.conditions.TheConstants.{NO_HARD_RESTART}
 use Rattle.tick_code.specs.WorkedTick.{laid, bare, with_one, look, waiting, memory, TickIsWorked}
 
 abbrev is_left : ℕ → Outcome → Bool
@@ -149,7 +149,14 @@ keeps = record {
     slide = λ from to. absurd (omega (arith, to));
     once = λ from. refl;
   };
-  mask = λ now is. elim is [ inl none ↦ absurd (omega (arith, none)) | inr high ↦ absurd (omega (arith, high)) ];
+  instrument = λ now. record {
+    mask = λ is. elim is [ inl none ↦ absurd (omega (arith, none)) | inr high ↦ absurd (omega (arith, high)) ];
+    vibrato = λ some. absurd (some refl);
+    delay = λ some. refl;
+    waits = λ some. refl;
+    pulse = λ some. absurd (some refl);
+    filter = λ some. refl;
+  };
   length = λ past short. absurd (omega (arith, past));
   shared = record {
     slide = λ on. refl;
@@ -169,7 +176,7 @@ none_shared kept few other = record {
   delay = λ on. absurd (is_other WAVE_DELAY (omega arith) on);
   command = λ on. absurd (other (sym (eqb-true 23 kept on)));
   legato = λ on. absurd (is_other LEGATO (omega arith) on);
-  soft = λ on. absurd (is_other SOFT_RESTART (omega arith) on);
+  soft = λ on. absurd (is_other NO_HARD_RESTART (omega arith) on);
 }
   where
     is_other : (condition : ℕ) → 24 ≤ condition → ¬ (nat_eq condition kept ≡ true)
@@ -241,21 +248,21 @@ tick_is_worked = record {
     goes_on = record {
       command = λ now. absurd (omega (arith, now));
       row = λ now. absurd (omega (arith, now));
-      mask = λ now. absurd (omega (arith, now));
+      instrument = λ now. absurd (omega (arith, now));
       length = λ past short. absurd (omega (arith, past));
       shared = bare_shared;
     };
     two = record {
       command = λ now. absurd (omega (arith, now));
       row = λ now. absurd (omega (arith, now));
-      mask = λ now. absurd (omega (arith, now));
+      instrument = λ now. absurd (omega (arith, now));
       length = λ past short. absurd (omega (arith, short));
       shared = bare_shared;
     };
     one = record {
       command = λ now. absurd (omega (arith, now));
       row = λ now. absurd (omega (arith, now));
-      mask = λ now. absurd (omega (arith, now));
+      instrument = λ now. absurd (omega (arith, now));
       length = λ past short. refl;
       shared = none_shared FUNK_TEMPO (omega arith) (λ e. omega (arith, e));
     };
@@ -277,12 +284,24 @@ tick_is_worked = record {
         slide = λ from to. absurd (omega (arith, from));
         once = λ from. absurd (omega (arith, from));
       };
-      mask = λ now is. elim is [ inl none ↦ absurd (omega (arith, none)) | inr high ↦ absurd (omega (arith, high)) ];
+      instrument = λ now. record {
+        mask = λ is. elim is [ inl none ↦ absurd (omega (arith, none)) | inr high ↦ absurd (omega (arith, high)) ];
+        vibrato = λ some. absurd (some refl);
+        delay = λ some. absurd (some refl);
+        waits = λ some. absurd (some refl);
+        pulse = λ some. absurd (some refl);
+        filter = λ some. absurd (some refl);
+      };
       length = λ past short. absurd (omega (arith, past));
       shared = bare_shared;
     };
-    mask = λ keeps. (let on = keeps.mask refl (inr (omega arith)) in absurd cc);
-    nothing = λ keeps. (let on = keeps.mask refl (inl refl) in absurd cc);
+    mask = λ keeps. (let on = (keeps.instrument refl).mask (inr (omega arith)) in absurd cc);
+    nothing = λ keeps. (let on = (keeps.instrument refl).mask (inl refl) in absurd cc);
+    vibrato = λ keeps. (let on = (keeps.instrument refl).vibrato (λ e. omega (arith, e)) in absurd cc);
+    delay = λ keeps. (let on = (keeps.instrument refl).delay (λ e. omega (arith, e)) in absurd cc);
+    waits = λ keeps. (let on = (keeps.instrument refl).waits (λ e. omega (arith, e)) in absurd cc);
+    pulse = λ keeps. (let on = (keeps.instrument refl).pulse (λ e. omega (arith, e)) in absurd cc);
+    filter = λ keeps. (let on = (keeps.instrument refl).filter (λ e. omega (arith, e)) in absurd cc);
     shared = λ keeps. (let on = keeps.shared.once refl in absurd cc);
   };
   lists = record {

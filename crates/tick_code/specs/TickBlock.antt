@@ -1,7 +1,8 @@
 -- The code of the tick step, and what it does. This is the project's own player.
-use Rattle.std.specs.Prelude.{◌≡◌, ℕ, ◌+◌, ◌%◌, ◌<◌, ◌≤◌, Bool, true, false}
+use Rattle.std.specs.Prelude.{◌≡◌, ◌≢◌, ℕ, ◌+◌, ◌%◌, ◌<◌, ◌≤◌, Bool, true, false}
+use Rattle.song_model.specs.declared.instruments.Instrument.{Instrument}
 use Rattle.song_model.specs.declared.tables.TableName.TheVariants.{Speed}
-use Rattle.song_facts.specs.Facts.{IsMask}
+use Rattle.song_facts.specs.Facts.{IsMask, HasVibrato, HasVibratoDelay, HasPulse, HasFilter}
 use Rattle.play_model.specs.LookUps.{LookUps}
 use Rattle.play_model.specs.Wrap.{byte_minus}
 use Rattle.play_model.specs.State.{Voice, Playing}
@@ -12,7 +13,8 @@ use Rattle.scopes.specs.Meaning.{Outcome, Done, Left, Ran, each_one, ran}
 use Rattle.scope_lines.specs.Reach.{nothing_around, has_lines}
 use Rattle.scope_lines.specs.Sizes.{size}
 use Rattle.player_memory.specs.declared.conditions.TheConstants.{FUNK_TEMPO, ROW_TONE, ROW_SLIDE, ROW_ONCE}
-use Rattle.player_memory.specs.declared.conditions.TheConstants.{FIRST_MASK}
+use Rattle.player_memory.specs.declared.conditions.TheConstants.{FIRST_MASK, NOTE_VIBRATO, VIBRATO_DELAY, NOTE_PULSE}
+use Rattle.player_memory.specs.declared.conditions.TheConstants.{NOTE_FILTER}
 use Rattle.player_memory.specs.declared.labels.TheConstants.{ADS, SRS, WAVES, PULSES, FILTERS, VIBRATOS, DELAYS}
 use Rattle.player_memory.specs.declared.labels.TheConstants.{GATE_TIMERS, FIRST_WAVES, SPEED_LEFTS, SPEED_RIGHTS}
 use Rattle.player_memory.specs.Commands.{condition_of, AreKept}
@@ -28,12 +30,12 @@ use Rattle.player_memory.specs.Playing.{IsListed, IsTable, IsPlaying, IsAtVoice,
 abbrev pub tick_tree : Tree
 tick_tree = ThenTree (ScopeTree TICKED step_tree) NoneTree
 
--- In a scope that it leaves where a note has started it has lines; they take 379 bytes where all are kept, and 138
+-- In a scope that it leaves where a note has started it has lines; they take 379 bytes where all are kept, and 100
 -- where none are that stand under a condition.
 pub record TickBlockHasLines : Type 0 where
   pub has : has_lines nothing_around (ScopeTree SOUNDS tick_tree) ≡ true
   pub all : size (λ condition. true) tick_tree ≡ 379
-  pub least : size (λ condition. false) tick_tree ≡ 138
+  pub least : size (λ condition. false) tick_tree ≡ 100
 
 -- ---- what is kept
 
@@ -51,13 +53,22 @@ pub record KeepsRow (layout : Layout) (command : ℕ) : Type 0 where
   pub slide : 1 ≤ command → command ≤ 4 → layout.holds ROW_SLIDE ≡ true
   pub once : 5 ≤ command → layout.holds ROW_ONCE ≡ true
 
--- Where the row is done the lines of its command are kept, and those of a first waveform that is a mask, if the
--- instrument has one; and where the tick falls below 0 those of the funk tempos, if the tempo is 0 or 1. What commands
--- have in common is kept with each.
+-- and those of what a note takes from its instrument: a first waveform that is a mask, a vibrato, its delay, of which
+-- some may be left from the note before, and programs
+pub record KeepsInstrument (layout : Layout) (i : Instrument) (left : ℕ) : Type 0 where
+  pub mask : IsMask i → layout.holds FIRST_MASK ≡ true
+  pub vibrato : HasVibrato i → layout.holds NOTE_VIBRATO ≡ true
+  pub delay : HasVibratoDelay i → layout.holds VIBRATO_DELAY ≡ true
+  pub waits : left ≢ 0 → layout.holds VIBRATO_DELAY ≡ true
+  pub pulse : HasPulse i → layout.holds NOTE_PULSE ≡ true
+  pub filter : HasFilter i → layout.holds NOTE_FILTER ≡ true
+
+-- Where the row is done the lines of its command are kept, and those of the instrument; and where the tick falls below
+-- 0 those of the funk tempos, if the tempo is 0 or 1. What commands have in common is kept with each.
 pub record KeepsTick (layout : Layout) (channel : ℕ) (look : LookUps) (s : Playing) : Type 0 where
   pub command : IsRowDone s → KeepsCommand layout s.voice.new_command s.voice.new_param
   pub row : IsRowDone s → KeepsRow layout s.voice.new_command
-  pub mask : IsRowDone s → IsMask (look.instrument s.voice.instrument) → layout.holds FIRST_MASK ≡ true
+  pub instrument : IsRowDone s → KeepsInstrument layout (look.instrument s.voice.instrument) s.voice.vib_delay
   pub length : 0x80 ≤ byte_minus s.voice.tick 1 → tempo_of channel s.common < 2 → layout.holds FUNK_TEMPO ≡ true
   pub shared : KeepsShared layout
 

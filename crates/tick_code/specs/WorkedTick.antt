@@ -12,7 +12,8 @@ use Rattle.scopes.specs.Meaning.{Outcome, Done, Left, Ran, each_one, ran}
 use Rattle.player_memory.specs.declared.conditions.TheConstants.{SET_AD, SET_SR, SET_WAVE, SET_WAVE_POINTER}
 use Rattle.player_memory.specs.declared.conditions.TheConstants.{SET_PULSE_POINTER, SET_FILTER_POINTER}
 use Rattle.player_memory.specs.declared.conditions.TheConstants.{SET_FILTER_CONTROL, SET_CUTOFF, SET_VOLUME, FUNK_TEMPO}
-use Rattle.player_memory.specs.declared.conditions.TheConstants.{SET_TEMPO, ROW_SLIDE, ROW_ONCE, ROW_COMMAND}
+use Rattle.player_memory.specs.declared.conditions.TheConstants.{SET_TEMPO, ROW_SLIDE, ROW_ONCE, ROW_COMMAND, VIBRATO_DELAY}
+use Rattle.player_memory.specs.declared.conditions.TheConstants.{NOTE_FILTER}
 use Rattle.player_memory.specs.declared.labels.TheConstants.{VARIABLES, TICK, GATE_TIMER, INSTRUMENT, NOTE, NEW_NOTE}
 use Rattle.player_memory.specs.declared.labels.TheConstants.{NEW_COMMAND, NEW_PARAM, AD, VIB_DELAY, WAVE, GATE, TEMPO}
 use Rattle.player_memory.specs.declared.labels.TheConstants.{FILTER_POINTER, VOLUME, FUNK_ONE, FUNK_TWO, ADS, SRS}
@@ -26,12 +27,13 @@ use Rattle.tick_code.specs.TickBlock.{KeepsTick, Ticks}
 -- ---- the memory
 
 -- the variables from $1000 on, and the lists far behind them; of what a song may ask for, commands that set tempos
--- alone are kept
+-- are kept, and an instrument's vibrato delay and filter program
 abbrev pub laid : Layout
 laid = record {
   address = λ label. if nat_lt label VARIABLES then 0x1000 + label else 0x2000 + 16 * label;
   pointer = 0xFC;
-  holds = λ condition. condition == SET_TEMPO || condition == ROW_ONCE || condition == ROW_COMMAND;
+  holds = λ condition. condition == SET_TEMPO || condition == ROW_ONCE || condition == ROW_COMMAND
+      || condition == VIBRATO_DELAY || condition == NOTE_FILTER;
   may_read = λ place. true;
   may_write = λ place. true;
 }
@@ -176,22 +178,31 @@ pub record LengthsAreKept : Type 0 where
 abbrev pub at_end : Playing
 at_end = record { voice = record (with_command 0 0) { tick = 1 }; common = start_common 1 }
 
--- with an instrument that has this first waveform
-abbrev pub with_first : ℕ → LookUps
-with_first wave = record look { instrument = λ number. record sound { first_wave = wave } }
+-- an instrument that asks for nothing, and a song of one instrument
+abbrev pub plain : Instrument
+plain = record sound { vibrato_delay = 0; filter = 0 }
+
+abbrev pub with_instrument : Instrument → LookUps
+with_instrument i = record look { instrument = λ number. i }
 
 -- Of a row without a command no line is kept; a slide to the note, a command that runs and one that is done once ask
--- for theirs, and so does a first waveform that is a mask, where the row is done.
+-- for theirs. So do, where the row is done, a first waveform that is a mask, a vibrato, its delay, also one that is left
+-- from the note before, and the programs.
 pub record RowsAreKept : Type 0 where
   pub none : KeepsRow bare 0
   pub tone : ¬ KeepsRow (with_one ROW_SLIDE) 3
   pub slide : ¬ KeepsRow (with_one ROW_ONCE) 1
   pub last_slide : ¬ KeepsRow (with_one ROW_ONCE) 4
   pub once : ¬ KeepsRow (with_one ROW_SLIDE) 5
-  pub waveform : KeepsTick bare 2 (with_first 0xFD) at_end
-  pub mask : ¬ KeepsTick bare 2 (with_first 0xFE) at_end
-  pub nothing : ¬ KeepsTick bare 2 (with_first 0) at_end
-  pub shared : ¬ KeepsTick (with_one ROW_ONCE) 2 (with_first 0xFD) at_end
+  pub waveform : KeepsTick bare 2 (with_instrument (record plain { first_wave = 0xFD })) at_end
+  pub mask : ¬ KeepsTick bare 2 (with_instrument (record plain { first_wave = 0xFE })) at_end
+  pub nothing : ¬ KeepsTick bare 2 (with_instrument (record plain { first_wave = 0 })) at_end
+  pub vibrato : ¬ KeepsTick bare 2 (with_instrument (record plain { vibrato = 1 })) at_end
+  pub delay : ¬ KeepsTick bare 2 (with_instrument (record plain { vibrato_delay = 1 })) at_end
+  pub waits : ¬ KeepsTick bare 2 (with_instrument plain) (record at_end { voice = record at_end.voice { vib_delay = 1 } })
+  pub pulse : ¬ KeepsTick bare 2 (with_instrument (record plain { pulse = 1 })) at_end
+  pub filter : ¬ KeepsTick bare 2 (with_instrument (record plain { filter = 1 })) at_end
+  pub shared : ¬ KeepsTick (with_one ROW_ONCE) 2 (with_instrument plain) at_end
 
 -- the last of 63 instruments; and command $E with the last of 255 rows, or with none where there is no row
 pub record ListsAreMet : Type 0 where
