@@ -1,5 +1,6 @@
 -- Where the parts that a song's facts keep do nothing.
 use Rattle.std.proofs.Common.{◌≡◌, ◌≢◌, ℕ, ◌+◌, ◌*◌, ◌%◌, ◌<◌, ◌≤◌, [], ◌∷◌, Bool, true, false, nat_eq, nat_le}
+use Rattle.std.proofs.Common.{if◌then◌else◌}
 use Rattle.std.proofs.Common.{bit_xor, refl, sym, ap, ◌∙◌, inl, inr, lit<, arith}
 use Rattle.std.proofs.lemmas.Bool.{le-leb, lt-leb, le-ltb, ne_eqb, agree_below_at}
 use Rattle.std.proofs.lemmas.Bool.Decides.{eqb_tells}
@@ -12,15 +13,15 @@ use Rattle.scopes.specs.declared.line.Flag.TheVariants.{Zero, Carry as CarryFlag
 use Rattle.scopes.specs.declared.line.Test.TheVariants.{On}
 use Rattle.cpu6502.specs.declared.mnemonic.Mnemonic.TheVariants.{Cmp, Lda, Sta}
 use Rattle.scopes.specs.Meaning.{Done, Left, each_one, ran}
-use Rattle.player_memory.specs.declared.conditions.TheConstants.{HELD_NOTE, LEGATO}
+use Rattle.player_memory.specs.declared.conditions.TheConstants.{HELD_NOTE, LEGATO, NOTE_VIBRATO, VIBRATO_DELAY}
 use Rattle.player_memory.specs.declared.conditions.TheConstants.{ROW_ONCE, ROW_COMMAND, ROW_SLIDE}
 use Rattle.player_memory.specs.declared.labels.TheConstants.{INSTRUMENT, NEW_COMMAND, WAVE_POINTER}
-use Rattle.player_memory.specs.declared.labels.TheConstants.{GATE_TIMERS, VIBRATOS, COMMAND, PARAM}
-use Rattle.player_memory.specs.declared.labels.TheConstants.{VIB_TIME, NEW_PARAM}
+use Rattle.player_memory.specs.declared.labels.TheConstants.{GATE_TIMERS, VIBRATOS, DELAYS, COMMAND, PARAM}
+use Rattle.player_memory.specs.declared.labels.TheConstants.{VIB_TIME, VIB_DELAY, NEW_PARAM}
 use Rattle.player_memory.specs.Forms.{stored_left}
 use Rattle.player_memory.specs.Playing.{IsListed}
 use Rattle.player_text.specs.declared.fetch.TheConstants.{GATE_CLOSED}
-use Rattle.player_text.specs.declared.tick.TheConstants.{COMMAND_BEGUN, ONCE, BARE, SETTLED}
+use Rattle.player_text.specs.declared.tick.TheConstants.{NOTE_TAKEN, COMMAND_BEGUN, ONCE, BARE, SETTLED}
 use Rattle.player_text.specs.declared.joints.TheConstants.{DONE}
 use Rattle.idle_parts.specs.Idle.{Y, Carry, HoldsVoice, Idles, part}
 use Rattle.idle_parts.specs.IdleParts.{FactsIdle}
@@ -87,6 +88,32 @@ held_plain {s = s} h timer listed low false kept =
     let c : nat_le 128 timer ≡ false = lt-leb 128 timer (omega (arith, low)) in
     rw (sees, is, sees_timer, is_timer, kept, c) refl
 
+-- a byte is written where it stands
+put_same : (at : ℕ → ℕ) (here byte place : ℕ) → at here ≡ byte →
+    (if nat_eq place here then byte else at place) ≡ at place
+put_same at here byte place is = elim (eqb_tells place here) [
+  | inl same ↦ rw (same.0, same.1) (sym is)
+  | inr other ↦ rw other.0 refl
+]
+
+-- a delay of none, where none is left
+delay_idles : {layout : Layout} {rows voice : ℕ} {s : Playing} {desk : Desk} → HoldsVoice layout rows voice s desk →
+    IsListed layout rows desk.at DELAYS desk.cpu.y 255 → s.voice.vib_delay ≡ 0 →
+    Idles layout (part VIBRATO_DELAY 0 NOTE_TAKEN.now) desk (Y ∷ [])
+delay_idles {layout} {s = s} {desk} h listed none =
+    let sees = listed.reads in
+    let is = listed.is in
+    let writes = own_writes h VIB_DELAY (lit< tt) in
+    let its = own_is h VIB_DELAY 255 (lit< tt) ((own_bytes h).vib_delay ∙ ap (λ n. (n + 255) % 256) none) in
+    let here : ℕ = (layout.address VIB_DELAY + desk.cpu.x) % 65536 in
+    record {
+      ends = rw (sees, is, writes) refl;
+      stays = λ place. rw (sees, is, writes) (put_same desk.at here 255 place its);
+      x = rw (sees, is, writes) refl;
+      decimal = rw (sees, is, writes) refl;
+      kept_are = rw (sees, is, writes) (refl, tt);
+    }
+
 pub facts_idle : {layout : Layout} {rows voice : ℕ} {s : Playing} {desk : Desk} →
     HoldsVoice layout rows voice s desk → FactsIdle layout rows voice s desk
 facts_idle {layout} {rows} {voice} {s} {desk} h = record {
@@ -130,6 +157,47 @@ facts_idle {layout} {rows} {voice} {s} {desk} h = record {
         decimal = rw (some, c) refl;
         kept_are = rw (some, c) (refl, (refl, tt));
       });
+  delay = delay_idles h;
+  vibrato = λ listed zero. (
+      let sees = listed.reads in
+      let is = listed.is in
+      record {
+        ends = rw sees refl;
+        stays = λ place. rw sees refl;
+        x = rw sees refl;
+        decimal = rw sees refl;
+        kept_are = rw (sees, is) (sym zero, (refl, tt));
+      });
+  row_vibrato = λ listed zero. (
+      let sees = listed.reads in
+      let is = listed.is in
+      record {
+        ends = rw sees refl;
+        stays = λ place. rw sees refl;
+        x = rw sees refl;
+        decimal = rw sees refl;
+        kept_are = rw (sees, is) (sym zero, (refl, tt));
+      });
+  pulse = λ listed. (
+      let sees = listed.reads in
+      let is = listed.is in
+      record {
+        ends = rw (sees, is) refl;
+        stays = λ place. rw (sees, is) refl;
+        x = rw (sees, is) refl;
+        decimal = rw (sees, is) refl;
+        kept_are = rw (sees, is) (refl, tt);
+      });
+  filter = λ listed. (
+      let sees = listed.reads in
+      let is = listed.is in
+      record {
+        ends = rw (sees, is) refl;
+        stays = λ place. rw (sees, is) refl;
+        x = rw (sees, is) refl;
+        decimal = rw (sees, is) refl;
+        kept_are = rw (sees, is) (refl, tt);
+      });
   held = λ timer listed low. held_idles h timer listed low (layout.holds LEGATO) refl;
   held_carry = λ timer listed low. held_plain h timer listed low (layout.holds LEGATO) refl;
   legato = λ plus. record {
@@ -139,7 +207,7 @@ facts_idle {layout} {rows} {voice} {s} {desk} h = record {
     decimal = rw plus refl;
     kept_are = rw plus (refl, (refl, (refl, tt)));
   };
-  soft_restart = λ off. record {
+  no_hard_restart = λ off. record {
     ends = rw off refl;
     stays = λ place. rw off refl;
     x = rw off refl;
@@ -238,19 +306,31 @@ row_ends layout first desk s once writes =
     let x = s.x in
     rw (ends, x, writes, once) refl
 
--- a row without a command, whether the lines that tell one are kept
+-- a row without a command, whether the lines that tell one are kept, and those that read a vibrato
 bare_settles : {layout : Layout} {rows voice : ℕ} {s : Playing} {desk : Desk} → HoldsVoice layout rows voice s desk →
     s.voice.new_command ≡ 0 → layout.may_read ((layout.address VIBRATOS + desk.cpu.y) % 65536) ≡ true → (k : Bool) →
-    layout.holds ROW_COMMAND ≡ k → Settles layout settled desk
-bare_settles h none vibrato true told =
+    layout.holds ROW_COMMAND ≡ k → (v : Bool) → layout.holds NOTE_VIBRATO ≡ v → Settles layout settled desk
+bare_settles h none vibrato true told true reads =
     let sees = own_sees h NEW_COMMAND (lit< tt) in
     let is = own_is h NEW_COMMAND 0 (lit< tt) ((own_bytes h).new_command ∙ none) in
     let command = own_writes h COMMAND (lit< tt) in
-    record { ends = rw (sees, is, told, command, vibrato) refl; x = rw (sees, is, told, command, vibrato) refl }
-bare_settles h none vibrato false told =
+    record {
+      ends = rw (sees, is, told, command, reads, vibrato) refl;
+      x = rw (sees, is, told, command, reads, vibrato) refl;
+    }
+bare_settles h none vibrato true told false reads =
+    let sees = own_sees h NEW_COMMAND (lit< tt) in
+    let is = own_is h NEW_COMMAND 0 (lit< tt) ((own_bytes h).new_command ∙ none) in
+    let command = own_writes h COMMAND (lit< tt) in
+    record { ends = rw (sees, is, told, command, reads) refl; x = rw (sees, is, told, command, reads) refl }
+bare_settles h none vibrato false told true reads =
     let sees = own_sees h NEW_COMMAND (lit< tt) in
     let command = own_writes h COMMAND (lit< tt) in
-    record { ends = rw (sees, told, command, vibrato) refl; x = rw (sees, told, command, vibrato) refl }
+    record { ends = rw (sees, told, command, reads, vibrato) refl; x = rw (sees, told, command, reads, vibrato) refl }
+bare_settles h none vibrato false told false reads =
+    let sees = own_sees h NEW_COMMAND (lit< tt) in
+    let command = own_writes h COMMAND (lit< tt) in
+    record { ends = rw (sees, told, command, reads) refl; x = rw (sees, told, command, reads) refl }
 
 -- the lines in front of the parameter, by those of a command that runs, and those behind them
 abbrev settling : Tree → Tree → Tree
@@ -332,7 +412,7 @@ pub rows_end : {layout : Layout} {rows voice : ℕ} {s : Playing} {desk : Desk} 
     HoldsVoice layout rows voice s desk → RowsEnd layout rows voice s desk
 rows_end {layout} {s = s} {desk} h = record {
   bare = λ once none vibrato listed.
-      row_ends layout settled desk (bare_settles h none listed.reads _ refl) once (own_writes h PARAM (lit< tt));
+      row_ends layout settled desk (bare_settles h none listed.reads _ refl _ refl) once (own_writes h PARAM (lit< tt));
   running = λ once told slide some low. row_ends layout settled desk (running_ends h (record {
     once = once;
     told = told;

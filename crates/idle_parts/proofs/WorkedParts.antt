@@ -11,7 +11,8 @@ use Rattle.player_text.specs.declared.fetch.TheConstants.{ENTRY_READ, GATE_CLOSE
 use Rattle.player_text.specs.declared.tick.TheConstants.{NOTE_TAKEN}
 use Rattle.idle_parts.specs.Idle.{Carry, HoldsVoice, Idles, part}
 use Rattle.idle_parts.specs.WorkedParts.{PartsAreWorked}
-use Rattle.player_memory.specs.declared.labels.TheConstants.{AD, GATE, PULSE_POINTER, NEW_COMMAND}
+use Rattle.player_memory.specs.declared.labels.TheConstants.{AD, GATE, PULSE_POINTER, PULSE_TIME, NEW_COMMAND, VIB_DELAY}
+use Rattle.player_memory.specs.declared.labels.TheConstants.{FILTER_POINTER, FILTER_TIME}
 use Rattle.player_memory.specs.declared.labels.TheConstants.{NEW_NOTE, INSTRUMENT, GATE_TIMERS}
 use Rattle.player_memory.specs.Playing.{IsListed}
 use Rattle.idle_parts.proofs.Reading.{own_place, own_sees, own_writes, own_is, own_bytes}
@@ -91,7 +92,7 @@ parts_are_worked = record {
   mask = λ layout desk zero i. let bad = rw zero at i.ends in absurd (cc);
   gate = λ layout desk off i. gate_works layout desk off _ refl i;
   legato = λ layout desk minus i. let bad = rw minus at i.ends in absurd (cc);
-  soft_restart = λ layout desk on i. let bad = rw on at i.ends in absurd (cc);
+  no_hard_restart = λ layout desk on i. let bad = rw on at i.ends in absurd (cc);
   once = λ layout desk five i. let bad = rw five at i.ends in absurd (cc);
   none = λ layout desk i. let bad = i.ends in absurd (cc);
   tone = λ layout desk three. tone_works layout desk three _ _ refl refl;
@@ -107,4 +108,45 @@ parts_are_worked = record {
   mask_alone = λ layout desk some high i. (
       let c : nat_le 0xFE desk.cpu.a ≡ true = le-leb 0xFE desk.cpu.a high in
       let bad = rw (some, c) at i.ends in absurd (cc));
+  delay = λ layout rows voice s desk h none listed i. (
+      let sees = listed.reads in
+      let is = listed.is in
+      let writes = own_writes h VIB_DELAY (lit< tt) in
+      let its = own_is h VIB_DELAY 255 (lit< tt) ((own_bytes h).vib_delay ∙ ap (λ n. (n + 255) % 256) none) in
+      let here : ℕ = (layout.address VIB_DELAY + desk.cpu.x) % 65536 in
+      let same : nat_eq here here ≡ true = eq-eqb here here refl in
+      let stays = i.stays here in
+      let e = rw (sees, is, writes, same) at stays in
+      absurd (omega (arith, e, its)));
+  vibrato = λ layout rows desk listed zero i. (
+      let sees = listed.reads in
+      let is = listed.is in
+      let a = rw (sees, is) at i.kept_are.0 in
+      absurd (omega (arith, a, zero)));
+  row_vibrato = λ layout rows desk listed zero i. (
+      let sees = listed.reads in
+      let is = listed.is in
+      let a = rw (sees, is) at i.kept_are.0 in
+      absurd (omega (arith, a, zero)));
+  pulse = λ layout rows voice s desk h listed time i. (
+      let sees = listed.reads in
+      let is = listed.is in
+      let pointer = own_writes h PULSE_POINTER (lit< tt) in
+      let writes = own_writes h PULSE_TIME (lit< tt) in
+      let its = own_is h PULSE_TIME 1 (lit< tt) time in
+      let here : ℕ = (layout.address PULSE_TIME + desk.cpu.x) % 65536 in
+      let same : nat_eq here here ≡ true = eq-eqb here here refl in
+      let stays = i.stays here in
+      let e = rw (sees, is, pointer, writes, same) at stays in
+      absurd (omega (arith, e, its)));
+  filter = λ layout rows voice s desk h listed time i. (
+      let sees = listed.reads in
+      let is = listed.is in
+      let pointer = h.may.writes FILTER_POINTER (lit< tt) in
+      let writes = h.may.writes FILTER_TIME (lit< tt) in
+      let here : ℕ = layout.address FILTER_TIME in
+      let same : nat_eq here here ≡ true = eq-eqb here here refl in
+      let stays = i.stays here in
+      let e = rw (sees, is, pointer, writes, same) at stays in
+      absurd (omega (arith, e, time)));
 }

@@ -13,14 +13,16 @@ use Rattle.player_memory.specs.declared.conditions.TheConstants.{SET_FILTER_CONT
 use Rattle.player_memory.specs.declared.conditions.TheConstants.{WAVE_TABLE, WAVE_COMMAND, PULSE_TABLE, FILTER_TABLE}
 use Rattle.player_memory.specs.declared.conditions.TheConstants.{INSTRUMENT_VIBRATO, NOTE_DEPENDENT, SWINGS, PORTA_UP}
 use Rattle.player_memory.specs.declared.conditions.TheConstants.{SKIP_EFFECTS, ROW_TONE, ROW_ONCE, FIRST_MASK, LEGATO}
-use Rattle.player_memory.specs.declared.conditions.TheConstants.{SOFT_RESTART, GATE_NOTE, SPECIAL_ROW, HELD_NOTE}
+use Rattle.player_memory.specs.declared.conditions.TheConstants.{NO_HARD_RESTART, GATE_NOTE, SPECIAL_ROW, HELD_NOTE}
+use Rattle.player_memory.specs.declared.conditions.TheConstants.{NOTE_VIBRATO, VIBRATO_DELAY, NOTE_PULSE, NOTE_FILTER}
 use Rattle.player_memory.specs.declared.conditions.TheConstants.{PORTA_DOWN, TONE_PORTA, TIE_NOTE, TRANSPOSES, REPEATS}
 use Rattle.player_memory.specs.declared.labels.TheConstants.{WAVE_LEFTS, SPEED_LEFTS, GATE_TIMERS, LENT}
-use Rattle.player_memory.specs.declared.labels.TheConstants.{TRANSPOSE, REPEAT}
+use Rattle.player_memory.specs.declared.labels.TheConstants.{TRANSPOSE, REPEAT, DELAYS, VIBRATOS, PULSES, FILTERS}
 use Rattle.player_memory.specs.Rooms.{IsRoom, MayUse}
 use Rattle.player_memory.specs.Variables.{CommonBytesStand}
 use Rattle.player_memory.specs.Playing.{IsListed, own_at, shared_at}
-use Rattle.player_text.specs.declared.tick.TheConstants.{FRAME_COUNTED, NOTE_TAKEN, NOTE_BEGUN, COMMAND_BEGUN}
+use Rattle.player_text.specs.declared.tick.TheConstants.{FRAME_COUNTED, NOTE_TAKEN, NOTE_BEGUN, PROGRAMS_BEGUN}
+use Rattle.player_text.specs.declared.tick.TheConstants.{COMMAND_BEGUN}
 use Rattle.player_text.specs.declared.commands.TheConstants.{AD_SET, SR_SET, WAVE_SET, WAVE_POINTER_SET}
 use Rattle.player_text.specs.declared.commands.TheConstants.{PULSE_POINTER_SET, FILTER_POINTER_SET}
 use Rattle.player_text.specs.declared.commands.TheConstants.{FILTER_CONTROL_SET, CUTOFF_SET, VOLUME_SET, FUNK_SET}
@@ -128,6 +130,18 @@ pub record FactsIdle (layout : Layout) (rows voice : ℕ) (s : Playing) (desk : 
   pub once : desk.cpu.a < 5 → Idles layout (part ROW_ONCE 0 COMMAND_BEGUN.now) desk (A ∷ Y ∷ [])
   -- A is an instrument's first waveform, as the flag shows
   pub mask : desk.cpu.z ≡ false → desk.cpu.a < 0xFE → Idles layout (part FIRST_MASK 0 NOTE_BEGUN.now) desk (A ∷ Y ∷ [])
+  -- Y is the instrument: its vibrato's delay is stored as 255, as is the voice's; its vibrato is 0, as is A, where a note
+  -- begins and where a row has no command; and it has no pulse program and no filter program
+  pub delay : IsListed layout rows desk.at DELAYS desk.cpu.y 255 → s.voice.vib_delay ≡ 0 →
+      Idles layout (part VIBRATO_DELAY 0 NOTE_TAKEN.now) desk (Y ∷ [])
+  pub vibrato : IsListed layout rows desk.at VIBRATOS desk.cpu.y 0 → desk.cpu.a ≡ 0 →
+      Idles layout (part NOTE_VIBRATO 0 NOTE_BEGUN.now) desk (A ∷ Y ∷ [])
+  pub row_vibrato : IsListed layout rows desk.at VIBRATOS desk.cpu.y 0 → desk.cpu.a ≡ 0 →
+      Idles layout (part NOTE_VIBRATO 0 COMMAND_BEGUN.now) desk (A ∷ Y ∷ [])
+  pub pulse : IsListed layout rows desk.at PULSES desk.cpu.y 0 →
+      Idles layout (part NOTE_PULSE 0 PROGRAMS_BEGUN.now) desk (Y ∷ [])
+  pub filter : IsListed layout rows desk.at FILTERS desk.cpu.y 0 →
+      Idles layout (part NOTE_FILTER 0 PROGRAMS_BEGUN.now) desk (Y ∷ [])
   -- the instrument's gateoff timer has neither bit $40 nor bit $80, and behind the lines the carry says so
   pub held : (timer : ℕ) → IsListed layout rows desk.at GATE_TIMERS s.voice.instrument timer → timer < 0x40 →
       Idles layout (part HELD_NOTE 0 GATE_CLOSED.now) desk []
@@ -135,8 +149,8 @@ pub record FactsIdle (layout : Layout) (rows voice : ℕ) (s : Playing) (desk : 
       (ran each_one layout (part HELD_NOTE 0 GATE_CLOSED.now) desk).desk.cpu.c ≡ false
   -- the flags show the two bits: N bit $40, and the carry bit $80
   pub legato : desk.cpu.n ≡ false → Idles layout (part LEGATO 0 GATE_CLOSED.now) desk (A ∷ Y ∷ Carry ∷ [])
-  pub soft_restart : desk.cpu.c ≡ false →
-      Idles layout (part SOFT_RESTART 0 GATE_CLOSED.now) desk (A ∷ Y ∷ Carry ∷ [])
+  pub no_hard_restart : desk.cpu.c ≡ false →
+      Idles layout (part NO_HARD_RESTART 0 GATE_CLOSED.now) desk (A ∷ Y ∷ Carry ∷ [])
   -- A is a left side of the wave table, as it is stored
   pub special : desk.cpu.a < 0xE0 → Idles layout (part SPECIAL_ROW 0 WAVE_STEP.now) desk (A ∷ Y ∷ [])
   -- A is the byte of a run of rests, and the carry is on

@@ -8,8 +8,8 @@ use Rattle.player_memory.specs.declared.conditions.TheConstants.{FILTER_TABLE, S
 use Rattle.player_memory.specs.declared.conditions.TheConstants.{FUNK_TEMPO, SET_TEMPO, WAVE_TABLE, WAVE_COMMAND, SWINGS}
 use Rattle.player_memory.specs.declared.conditions.TheConstants.{CLIMB, DROP, RISE, SINK, FOUND_NOTE}
 use Rattle.player_memory.specs.declared.conditions.TheConstants.{ROW_TONE, ROW_SLIDE, ROW_ONCE, ROW_COMMAND, FIRST_MASK}
-use Rattle.player_memory.specs.declared.conditions.TheConstants.{HELD_NOTE, LEGATO, SOFT_RESTART, SPECIAL_ROW, WAVE_DELAY}
-use Rattle.player_memory.specs.declared.conditions.TheConstants.{GATE_NOTE}
+use Rattle.player_memory.specs.declared.conditions.TheConstants.{HELD_NOTE, LEGATO, NO_HARD_RESTART, SPECIAL_ROW, WAVE_DELAY}
+use Rattle.player_memory.specs.declared.conditions.TheConstants.{GATE_NOTE, NOTE_VIBRATO, VIBRATO_DELAY, NOTE_PULSE, NOTE_FILTER}
 use Rattle.player_text.specs.declared.commands.TheConstants.{AD_SET, CUTOFF_SET, FILTER_CONTROL_SET, FILTER_POINTER_SET, FUNK_CHOSEN}
 use Rattle.player_text.specs.declared.commands.TheConstants.{FUNK_SET, PULSE_POINTER_SET, SR_SET, TEMPO_SET, VOLUME_SET}
 use Rattle.player_text.specs.declared.commands.TheConstants.{WAVE_POINTER_SET, WAVE_SET}
@@ -20,7 +20,8 @@ use Rattle.player_text.specs.declared.pitch.TheConstants.{GIVEN_BACK}
 use Rattle.player_text.specs.declared.pulse.TheConstants.{PULSE}
 use Rattle.player_text.specs.declared.slide.TheConstants.{CLIMB_STEP, DROP_STEP, FOUND_STEP, PORTA_STEP, RISE_STEP}
 use Rattle.player_text.specs.declared.slide.TheConstants.{SINK_STEP, SPEED_STEP, SWING_STEP, TONE_STEP}
-use Rattle.player_text.specs.declared.tick.TheConstants.{FRAME_COUNTED, NOTE_TAKEN, NOTE_BEGUN, COMMAND_BEGUN, COMMAND_TAKEN}
+use Rattle.player_text.specs.declared.tick.TheConstants.{FRAME_COUNTED, NOTE_TAKEN, NOTE_BEGUN, PROGRAMS_BEGUN}
+use Rattle.player_text.specs.declared.tick.TheConstants.{COMMAND_BEGUN, COMMAND_TAKEN}
 use Rattle.player_text.specs.declared.walk.TheConstants.{ORDER_WALKED, PLAY_REPEATED}
 use Rattle.player_text.specs.declared.wave.TheConstants.{WAVE_STEP}
 use Rattle.player_text.specs.Texts.{voice_tree, filter_tree}
@@ -75,9 +76,14 @@ pub record PartsAreThese : Type 0 where
       ∷ all_of (text COMMAND_TAKEN ∷ row_commands) ∷ []
   pub row_command : bodies ROW_COMMAND voice_tree ≡ part ROW_COMMAND 0 COMMAND_BEGUN.now ∷ []
   pub first_mask : bodies FIRST_MASK voice_tree ≡ part FIRST_MASK 0 NOTE_BEGUN.now ∷ []
+  pub delay : bodies VIBRATO_DELAY voice_tree ≡ part VIBRATO_DELAY 0 NOTE_TAKEN.now ∷ []
+  pub note_vibrato : bodies NOTE_VIBRATO voice_tree
+      ≡ part NOTE_VIBRATO 0 NOTE_BEGUN.now ∷ part NOTE_VIBRATO 0 COMMAND_BEGUN.now ∷ []
+  pub note_pulse : bodies NOTE_PULSE voice_tree ≡ part NOTE_PULSE 0 PROGRAMS_BEGUN.now ∷ []
+  pub note_filter : bodies NOTE_FILTER voice_tree ≡ part NOTE_FILTER 0 PROGRAMS_BEGUN.now ∷ []
   pub held_note : bodies HELD_NOTE voice_tree ≡ part HELD_NOTE 0 GATE_CLOSED.now ∷ []
   pub legato : bodies LEGATO voice_tree ≡ part LEGATO 0 GATE_CLOSED.now ∷ []
-  pub soft_restart : bodies SOFT_RESTART voice_tree ≡ part SOFT_RESTART 0 GATE_CLOSED.now ∷ []
+  pub no_hard_restart : bodies NO_HARD_RESTART voice_tree ≡ part NO_HARD_RESTART 0 GATE_CLOSED.now ∷ []
   pub special_row : bodies SPECIAL_ROW voice_tree ≡ part SPECIAL_ROW 0 WAVE_STEP.now ∷ []
   pub wave_delay : bodies WAVE_DELAY voice_tree ≡ part WAVE_DELAY 0 WAVE_STEP.now ∷ []
   pub gate_note : bodies GATE_NOTE voice_tree ≡ part GATE_NOTE 0 ENTRY_READ.now ∷ []

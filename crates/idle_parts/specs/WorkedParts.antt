@@ -6,15 +6,16 @@ use Rattle.scopes.specs.Desk.{Desk, Layout}
 use Rattle.scopes.specs.Trees.{Tree, DoTree, NoneTree, ThenTree, ScopeTree, LeaveTree, WhenTree, NeverTree}
 use Rattle.scopes.specs.Meaning.{each_one, ran}
 use Rattle.player_memory.specs.declared.conditions.TheConstants.{SET_AD, SET_TEMPO, PULSE_TABLE, PORTA_UP, TIE_NOTE}
-use Rattle.player_memory.specs.declared.conditions.TheConstants.{FIRST_MASK, GATE_NOTE, LEGATO, SOFT_RESTART, ROW_ONCE}
+use Rattle.player_memory.specs.declared.conditions.TheConstants.{FIRST_MASK, GATE_NOTE, LEGATO, NO_HARD_RESTART, ROW_ONCE}
 use Rattle.player_memory.specs.declared.conditions.TheConstants.{ROW_TONE, SPECIAL_ROW, WAVE_COMMAND}
-use Rattle.player_memory.specs.declared.conditions.TheConstants.{HELD_NOTE}
-use Rattle.player_memory.specs.declared.labels.TheConstants.{AD, NEW_COMMAND, GATE_TIMERS}
-use Rattle.player_memory.specs.Playing.{IsListed}
+use Rattle.player_memory.specs.declared.conditions.TheConstants.{HELD_NOTE, NOTE_VIBRATO, VIBRATO_DELAY, NOTE_PULSE, NOTE_FILTER}
+use Rattle.player_memory.specs.declared.labels.TheConstants.{AD, NEW_COMMAND, PULSE_TIME, FILTER_TIME, GATE_TIMERS}
+use Rattle.player_memory.specs.declared.labels.TheConstants.{DELAYS, VIBRATOS, PULSES, FILTERS}
+use Rattle.player_memory.specs.Playing.{IsListed, own_at, shared_at}
 use Rattle.player_text.specs.declared.commands.TheConstants.{AD_SET, TEMPO_SET}
 use Rattle.player_text.specs.declared.slide.TheConstants.{PORTA_STEP, TONE_STEP}
 use Rattle.player_text.specs.declared.pulse.TheConstants.{PULSE}
-use Rattle.player_text.specs.declared.tick.TheConstants.{NOTE_TAKEN, NOTE_BEGUN, COMMAND_BEGUN}
+use Rattle.player_text.specs.declared.tick.TheConstants.{NOTE_TAKEN, NOTE_BEGUN, PROGRAMS_BEGUN, COMMAND_BEGUN}
 use Rattle.player_text.specs.declared.wave.TheConstants.{WAVE_STEP}
 use Rattle.player_text.specs.declared.fetch.TheConstants.{ENTRY_READ, GATE_CLOSED}
 use Rattle.idle_parts.specs.Idle.{A, Y, Carry, Idles, HoldsVoice, bodies, front, part}
@@ -58,8 +59,8 @@ pub record PartsAreWorked : Type 0 where
   pub mask : (layout : Layout) (desk : Desk) → desk.cpu.z ≡ true → ¬ Idles layout (part FIRST_MASK 0 NOTE_BEGUN.now) desk []
   pub gate : (layout : Layout) (desk : Desk) → desk.cpu.a ≡ 0xBE → ¬ Idles layout (part GATE_NOTE 0 ENTRY_READ.now) desk []
   pub legato : (layout : Layout) (desk : Desk) → desk.cpu.n ≡ true → ¬ Idles layout (part LEGATO 0 GATE_CLOSED.now) desk []
-  pub soft_restart : (layout : Layout) (desk : Desk) → desk.cpu.c ≡ true →
-      ¬ Idles layout (part SOFT_RESTART 0 GATE_CLOSED.now) desk []
+  pub no_hard_restart : (layout : Layout) (desk : Desk) → desk.cpu.c ≡ true →
+      ¬ Idles layout (part NO_HARD_RESTART 0 GATE_CLOSED.now) desk []
   pub once : (layout : Layout) (desk : Desk) → desk.cpu.a ≡ 5 → ¬ Idles layout (part ROW_ONCE 0 COMMAND_BEGUN.now) desk []
   -- a part that isn't there does nothing of its own, and isn't one that idles
   pub none : (layout : Layout) (desk : Desk) → ¬ Idles layout (part PORTA_UP 1 PORTA_STEP.now) desk []
@@ -83,3 +84,18 @@ pub record PartsAreWorked : Type 0 where
   -- a first waveform from $FE on is a mask: it leaves the waveform as it is
   pub mask_alone : (layout : Layout) (desk : Desk) → desk.cpu.z ≡ false → 0xFE ≤ desk.cpu.a →
       ¬ Idles layout (part FIRST_MASK 0 NOTE_BEGUN.now) desk []
+  -- a delay of one is stored as 0, and another vibrato than 0 changes A, where a note begins and where a row has no command
+  pub delay : (layout : Layout) (rows voice : ℕ) (s : Playing) (desk : Desk) →
+      HoldsVoice layout rows voice s desk → s.voice.vib_delay ≡ 0 → IsListed layout rows desk.at DELAYS desk.cpu.y 0 →
+      ¬ Idles layout (part VIBRATO_DELAY 0 NOTE_TAKEN.now) desk []
+  pub vibrato : (layout : Layout) (rows : ℕ) (desk : Desk) → IsListed layout rows desk.at VIBRATOS desk.cpu.y 1 →
+      desk.cpu.a ≡ 0 → ¬ Idles layout (part NOTE_VIBRATO 0 NOTE_BEGUN.now) desk (A ∷ [])
+  pub row_vibrato : (layout : Layout) (rows : ℕ) (desk : Desk) → IsListed layout rows desk.at VIBRATOS desk.cpu.y 1 →
+      desk.cpu.a ≡ 0 → ¬ Idles layout (part NOTE_VIBRATO 0 COMMAND_BEGUN.now) desk (A ∷ [])
+  -- a pulse program begins its first row anew, and so does a filter program
+  pub pulse : (layout : Layout) (rows voice : ℕ) (s : Playing) (desk : Desk) →
+      HoldsVoice layout rows voice s desk → IsListed layout rows desk.at PULSES desk.cpu.y 1 →
+      own_at layout desk.at voice PULSE_TIME ≡ 1 → ¬ Idles layout (part NOTE_PULSE 0 PROGRAMS_BEGUN.now) desk []
+  pub filter : (layout : Layout) (rows voice : ℕ) (s : Playing) (desk : Desk) →
+      HoldsVoice layout rows voice s desk → IsListed layout rows desk.at FILTERS desk.cpu.y 1 →
+      shared_at layout desk.at FILTER_TIME ≡ 1 → ¬ Idles layout (part NOTE_FILTER 0 PROGRAMS_BEGUN.now) desk []

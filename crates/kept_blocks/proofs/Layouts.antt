@@ -14,8 +14,8 @@ use Rattle.song_model.specs.declared.features.Feature.TheVariants.{FilterTable, 
 use Rattle.song_model.specs.declared.features.Feature.TheVariants.{Volume, FunkTempo, SetTempo, WaveTable, WaveCommand}
 use Rattle.song_model.specs.Feature.{bit_of}
 use Rattle.song_facts.specs.declared.facts.Fact.{Fact}
-use Rattle.song_facts.specs.declared.facts.Fact.TheVariants.{RowTone, RowSlide, RowOnce, FirstMask, Legato, SoftRestart}
-use Rattle.song_facts.specs.declared.facts.Fact.TheVariants.{WaveDelay, GateNote}
+use Rattle.song_facts.specs.declared.facts.Fact.TheVariants.{RowTone, RowSlide, RowOnce, FirstMask, Legato, NoHardRestart}
+use Rattle.song_facts.specs.declared.facts.Fact.TheVariants.{WaveDelay, GateNote, NoteVibrato, VibratoDelay, NotePulse, NoteFilter}
 use Rattle.song_facts.specs.declared.facts.Facts.{Facts}
 use Rattle.song_facts.specs.Facts.{is_among}
 use Rattle.play_model.specs.declared.options.Options.{Options}
@@ -23,7 +23,8 @@ use Rattle.scopes.specs.Desk.{Layout}
 use Rattle.slide_code.specs.SlideBlock.{KeepsCommon}
 use Rattle.player_memory.specs.FactLines.{fact_condition, KeepsShared}
 use Rattle.player_memory.specs.declared.conditions.TheConstants.{ROW_TONE, ROW_SLIDE, ROW_ONCE, FIRST_MASK, LEGATO}
-use Rattle.player_memory.specs.declared.conditions.TheConstants.{SOFT_RESTART, WAVE_DELAY, GATE_NOTE, ROW_COMMAND}
+use Rattle.player_memory.specs.declared.conditions.TheConstants.{NO_HARD_RESTART, WAVE_DELAY, GATE_NOTE, ROW_COMMAND}
+use Rattle.player_memory.specs.declared.conditions.TheConstants.{NOTE_VIBRATO, VIBRATO_DELAY, NOTE_PULSE, NOTE_FILTER}
 use Rattle.player_memory.specs.declared.conditions.TheConstants.{SPECIAL_ROW, HELD_NOTE, WAVE_COMMAND}
 use Rattle.kept_lines.specs.Asked.{is_in, asked}
 use Rattle.kept_lines.specs.KeptLines.{keeps}
@@ -65,20 +66,24 @@ used : (features : ℕ) (facts : Facts) (options : Options) (feature : Feature) 
 used features facts options feature set =
     let few = bit_few feature in
     let below : nat_lt (bit_of feature) 24 ≡ true = lt-ltb (bit_of feature) 24 few in
-    rw (below, asked_is_exact features facts (bit_of feature) (omega (arith, few)), below)
+    rw (below, asked_is_exact features facts (bit_of feature), below)
     (eq-eqb (bit_at features (bit_of feature)) 1 (bit_in features (bit_of feature) set))
 
 -- and that of a fact
 had : (features : ℕ) (facts : Facts) (options : Options) (fact : Fact) → is_among facts fact ≡ true →
     keeps (asked features facts) options (fact_condition fact) ≡ true
-had features facts options RowTone is = asked_is_exact features facts ROW_TONE (omega arith) ∙ is
-had features facts options RowSlide is = asked_is_exact features facts ROW_SLIDE (omega arith) ∙ is
-had features facts options RowOnce is = asked_is_exact features facts ROW_ONCE (omega arith) ∙ is
-had features facts options FirstMask is = asked_is_exact features facts FIRST_MASK (omega arith) ∙ is
-had features facts options Legato is = asked_is_exact features facts LEGATO (omega arith) ∙ is
-had features facts options SoftRestart is = asked_is_exact features facts SOFT_RESTART (omega arith) ∙ is
-had features facts options WaveDelay is = asked_is_exact features facts WAVE_DELAY (omega arith) ∙ is
-had features facts options GateNote is = asked_is_exact features facts GATE_NOTE (omega arith) ∙ is
+had features facts options RowTone is = asked_is_exact features facts ROW_TONE ∙ is
+had features facts options RowSlide is = asked_is_exact features facts ROW_SLIDE ∙ is
+had features facts options RowOnce is = asked_is_exact features facts ROW_ONCE ∙ is
+had features facts options FirstMask is = asked_is_exact features facts FIRST_MASK ∙ is
+had features facts options Legato is = asked_is_exact features facts LEGATO ∙ is
+had features facts options NoHardRestart is = asked_is_exact features facts NO_HARD_RESTART ∙ is
+had features facts options WaveDelay is = asked_is_exact features facts WAVE_DELAY ∙ is
+had features facts options GateNote is = asked_is_exact features facts GATE_NOTE ∙ is
+had features facts options NoteVibrato is = asked_is_exact features facts NOTE_VIBRATO ∙ is
+had features facts options VibratoDelay is = asked_is_exact features facts VIBRATO_DELAY ∙ is
+had features facts options NotePulse is = asked_is_exact features facts NOTE_PULSE ∙ is
+had features facts options NoteFilter is = asked_is_exact features facts NOTE_FILTER ∙ is
 
 -- either of two
 or_first : (z y : Bool) → z ≡ true → (z || y) ≡ true
@@ -96,8 +101,8 @@ shared_of set options layout is = record {
   delay = λ on. is SPECIAL_ROW ∙ or_first (is_in set WAVE_DELAY) (is_in set WAVE_COMMAND) (sym (is WAVE_DELAY) ∙ on);
   command = λ on.
       is SPECIAL_ROW ∙ or_second (is_in set WAVE_DELAY) (is_in set WAVE_COMMAND) (sym (is WAVE_COMMAND) ∙ on);
-  legato = λ on. is HELD_NOTE ∙ or_first (is_in set LEGATO) (is_in set SOFT_RESTART) (sym (is LEGATO) ∙ on);
-  soft = λ on. is HELD_NOTE ∙ or_second (is_in set LEGATO) (is_in set SOFT_RESTART) (sym (is SOFT_RESTART) ∙ on);
+  legato = λ on. is HELD_NOTE ∙ or_first (is_in set LEGATO) (is_in set NO_HARD_RESTART) (sym (is LEGATO) ∙ on);
+  soft = λ on. is HELD_NOTE ∙ or_second (is_in set LEGATO) (is_in set NO_HARD_RESTART) (sym (is NO_HARD_RESTART) ∙ on);
 }
 
 common_of : (set : ℕ) (options : Options) (layout : Layout) →

@@ -23,7 +23,7 @@ layouts_are_worked layout options = record {
       true≢false
       (sym (keeps.features_are TonePorta (omega arith))
       ∙ (sets_are_exact (asked (2 ^ VIBRATO) no_facts) no_options TONE_PORTA
-      ∙ asked_is_exact (2 ^ VIBRATO) no_facts TONE_PORTA (omega arith)));
+      ∙ asked_is_exact (2 ^ VIBRATO) no_facts TONE_PORTA));
   feature = λ out keeps. true≢false (sym (keeps.features_are Transpose (omega arith)) ∙ out);
   fact = λ out keeps. true≢false (sym (keeps.facts_are GateNote refl) ∙ out);
   common = λ out keeps. true≢false (sym (keeps.common.rise (rw (keeps.features_are PortaUp (omega arith)) refl)) ∙ out);
