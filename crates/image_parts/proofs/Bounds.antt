@@ -85,11 +85,11 @@ around_whole holds filter voice init one two three =
     omega (arith, a, b, c, d, e, f, n, m, l, k, x, y, z)
 
 -- the numbers, computed
-few_of : (start : Start) (part : ℕ) → part < 45 →
+few_of : (start : Start) (part : ℕ) → part < 49 →
     most_around part filter_tree voice_tree (init_tree start) ≤ 320
 few_of start part low =
     leb-true _ 320
-    (agree_below_at (λ n. nat_le (most_around n filter_tree voice_tree (init_tree start)) 320) (λ n. true) 45 part refl low)
+    (agree_below_at (λ n. nat_le (most_around n filter_tree voice_tree (init_tree start)) 320) (λ n. true) 49 part refl low)
 
 rest_of : (start : Start) → most_around always filter_tree voice_tree (init_tree start) ≤ 2876
 rest_of start = leb-true _ 2876 refl
@@ -104,7 +104,7 @@ no_more_than n m a b = omega (arith, a, b)
 
 pub parts_are_short : PartsAreShort
 parts_are_short asked o = record {
-  parts = λ part other. elim (cases_lt part 45) [
+  parts = λ part other. elim (cases_lt part 49) [
     | inl low ↦
         rw (ne_eqb part always other) (no_more_than _ _ (code_most asked o part) (few_of (start_of o) part low))
     | inr high ↦ few _ (unkept_parts_have_none asked o part other (no_more asked o part high))
@@ -117,17 +117,17 @@ parts_are_short asked o = record {
   with_frequencies : (n m : ℕ) → n ≤ m → m ≤ 2876 → n + 196 ≤ 3072
   with_frequencies n m a b = omega (arith, a, b)
 
--- the blocks stay whole, and the most that they have of this part is 664 with what stands around them
+-- the blocks stay whole, and the most that they have of this part is 626 with what stands around them
 pub rest_is_same : RestIsSame
 rest_is_same asked o =
     with_frequencies _ _
     (around_whole (holds_in (kept_set asked o)) filter_tree voice_tree (init_tree (start_of o)) refl refl refl)
     (most_is (start_of o))
   where
-    with_frequencies : (n m : ℕ) → n ≡ m → m ≡ 664 → n + 196 ≡ 860
+    with_frequencies : (n m : ℕ) → n ≡ m → m ≡ 626 → n + 196 ≡ 822
     with_frequencies n m a b = omega (arith, a, b)
 
-    most_is : (start : Start) → most_around always filter_tree voice_tree (init_tree start) ≡ 664
+    most_is : (start : Start) → most_around always filter_tree voice_tree (init_tree start) ≡ 626
     most_is start = refl
 
 -- ---- the code, with the slides

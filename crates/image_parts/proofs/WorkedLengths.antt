@@ -57,7 +57,7 @@ silence_asked : asked 0 (record no_facts { first_mask = true }) ≡ 2 ^ 37
 unfolding asked
 silence_asked = refl
 
-note_asked : asked 0x402000 (record no_facts { gate_note = true }) ≡ 0x402000 + 2 ^ 41
+note_asked : asked 0x402000 (record no_facts { gate_note = true; note_pulse = true }) ≡ 0x402000 + 2 ^ 41 + 2 ^ 44
 unfolding asked
 note_asked = refl
 
@@ -65,24 +65,24 @@ silence_asks : (packed : PackedSong) → IsPackedSilence packed → asked_by pac
 silence_asks packed is =
     asked_same packed 0 (record no_facts { first_mask = true }) is.features is.facts ∙ silence_asked
 
-note_asks : (packed : PackedSong) → IsPlayedNote packed → asked_by packed ≡ 0x402000 + 2 ^ 41
+note_asks : (packed : PackedSong) → IsPlayedNote packed → asked_by packed ≡ 0x402000 + 2 ^ 41 + 2 ^ 44
 note_asks packed is =
-    asked_same packed 0x402000 (record no_facts { gate_note = true }) is.features is.facts ∙ note_asked
+    asked_same packed 0x402000 (record no_facts { gate_note = true; note_pulse = true }) is.features is.facts ∙ note_asked
 
 -- how long their code is
-silence_with_none : code_length (2 ^ 37) no_options ≡ 866
+silence_with_none : code_length (2 ^ 37) no_options ≡ 828
 unfolding kept_set
 silence_with_none = refl
 
-silence_with_all : code_length (2 ^ 37) (all_left_out 4) ≡ 926
+silence_with_all : code_length (2 ^ 37) (all_left_out 4) ≡ 888
 unfolding kept_set
 silence_with_all = refl
 
-note_with_none : code_length (0x402000 + 2 ^ 41) no_options ≡ 999
+note_with_none : code_length (0x402000 + 2 ^ 41 + 2 ^ 44) no_options ≡ 974
 unfolding kept_set
 note_with_none = refl
 
-note_with_all : code_length (0x402000 + 2 ^ 41) (all_left_out 4) ≡ 1059
+note_with_all : code_length (0x402000 + 2 ^ 41 + 2 ^ 44) (all_left_out 4) ≡ 1034
 unfolding kept_set
 note_with_all = refl
 
@@ -102,19 +102,19 @@ note_size packed is =
 pub silences_are_measured : SilencesAreMeasured
 silences_are_measured packed is = record {
   with_none =
-      all_of packed no_options (2 ^ 37) 28 0 866 (silence_asks packed is) (silence_size packed is) refl
+      all_of packed no_options (2 ^ 37) 28 0 828 (silence_asks packed is) (silence_size packed is) refl
       silence_with_none;
   with_all =
-      all_of packed (all_left_out 4) (2 ^ 37) 28 0 926 (silence_asks packed is) (silence_size packed is) refl
+      all_of packed (all_left_out 4) (2 ^ 37) 28 0 888 (silence_asks packed is) (silence_size packed is) refl
       silence_with_all;
 }
 
 pub notes_are_measured : NotesAreMeasured
 notes_are_measured packed is = record {
   with_none =
-      all_of packed no_options (0x402000 + 2 ^ 41) 42 0 999 (note_asks packed is) (note_size packed is) refl
+      all_of packed no_options (0x402000 + 2 ^ 41 + 2 ^ 44) 42 0 974 (note_asks packed is) (note_size packed is) refl
       note_with_none;
   with_all =
-      all_of packed (all_left_out 4) (0x402000 + 2 ^ 41) 42 0 1059 (note_asks packed is) (note_size packed is) refl
+      all_of packed (all_left_out 4) (0x402000 + 2 ^ 41 + 2 ^ 44) 42 0 1034 (note_asks packed is) (note_size packed is) refl
       note_with_all;
 }

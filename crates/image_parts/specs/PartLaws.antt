@@ -18,11 +18,11 @@ CodeTakesItsParts =
     (asked : ℕ) (o : Options) →
     length (code_parts asked o) ≡ code_takes (holds_in (kept_set asked o)) (start_of o)
 
--- the code is the part that each image has and the 45 others
+-- the code is the part that each image has and the 49 others
 abbrev pub PartsAddUp : Type 0
 PartsAddUp =
     (asked : ℕ) (o : Options) →
-    code_length asked o ≡ part_length asked o always + sum_by (part_length asked o) (range_with_len 0 45)
+    code_length asked o ≡ part_length asked o always + sum_by (part_length asked o) (range_with_len 0 49)
 
 -- a part whose condition doesn't hold has no bytes
 abbrev pub UnkeptPartsHaveNone : Type 0
@@ -40,7 +40,7 @@ PartsAreShort = (asked : ℕ) (o : Options) → AreShort asked o
 
 -- the part that each image has is as long in each
 abbrev pub RestIsSame : Type 0
-RestIsSame = (asked : ℕ) (o : Options) → part_length asked o always ≡ 860
+RestIsSame = (asked : ℕ) (o : Options) → part_length asked o always ≡ 822
 
 -- the code with the frequencies takes at most what it does where all parts are kept
 abbrev pub CodeIsShort : Type 0

@@ -9,7 +9,7 @@ use Rattle.packed_form.specs.declared.packed_songs.PackedSubtune.{PackedSubtune}
 use Rattle.packed_form.specs.declared.packed_songs.PackedSong.{PackedSong}
 use Rattle.packed_form.specs.WorkedUnpacked.{IsPackedNote}
 use Rattle.player_memory.specs.declared.conditions.TheConstants.{VIBRATO, WAVE_TABLE, SKIP_EFFECTS, SWINGS}
-use Rattle.player_memory.specs.declared.conditions.TheConstants.{ROW_SLIDE, ROW_ONCE, LEGATO, SOFT_RESTART, WAVE_DELAY}
+use Rattle.player_memory.specs.declared.conditions.TheConstants.{ROW_SLIDE, ROW_ONCE, LEGATO, NO_HARD_RESTART, WAVE_DELAY}
 use Rattle.player_memory.specs.declared.conditions.TheConstants.{ROW_COMMAND, SPECIAL_ROW, HELD_NOTE}
 use Rattle.image_parts.specs.CodeParts.{always, part_length, code_length}
 use Rattle.image_parts.specs.Lengths.{slide_bytes, image_length}
@@ -19,7 +19,7 @@ abbrev pub every_feature : ℕ
 every_feature = 2 ^ 24 - 1
 
 abbrev pub every_fact : ℕ
-every_fact = 2 ^ 42 - 2 ^ 34
+every_fact = 2 ^ 46 - 2 ^ 34
 
 -- how many bytes a part takes in a song that asks for all of them, with all options
 abbrev pub all_parts : ℕ → ℕ
@@ -45,28 +45,30 @@ pub record PartsAreMeasured : Type 0 where
       ∷ 80 ∷ []
   pub options : map all_parts (range_with_len 24 4) ≡ 13 ∷ 6 ∷ 10 ∷ 36 ∷ []
   pub common : map all_parts (range_with_len 28 6) ≡ 29 ∷ 10 ∷ 10 ∷ 17 ∷ 17 ∷ 5 ∷ []
-  pub facts : map all_parts (range_with_len 34 8) ≡ 19 ∷ 18 ∷ 11 ∷ 6 ∷ 2 ∷ 2 ∷ 19 ∷ 12 ∷ []
-  pub common_facts : map all_parts (range_with_len 42 3) ≡ 2 ∷ 4 ∷ 7 ∷ []
-  pub no_more : all_parts 45 ≡ 0
-  pub rest : all_parts always ≡ 860
+  pub facts : map all_parts (range_with_len 34 12)
+      ≡ 19 ∷ 18 ∷ 11 ∷ 6 ∷ 2 ∷ 2 ∷ 19 ∷ 12 ∷ 6 ∷ 6 ∷ 13 ∷ 13 ∷ []
+  pub common_facts : map all_parts (range_with_len 46 3) ≡ 2 ∷ 4 ∷ 7 ∷ []
+  pub no_more : all_parts 49 ≡ 0
+  pub rest : all_parts always ≡ 822
   pub whole : code_length (every_feature + every_fact) (all_left_out 4) ≡ 1876
   -- the features without the facts, and these without the features
-  pub no_fact : code_length every_feature (all_left_out 4) ≡ 1599
+  pub no_fact : code_length every_feature (all_left_out 4) ≡ 1561
   pub no_feature : code_length every_fact no_options ≡ 939
   -- none is kept, and nothing else can be asked for
-  pub bare : code_length 0 no_options ≡ 860
-  pub bare_rest : part_length 0 no_options always ≡ 860
-  pub ntsc : code_length 0 (record no_options { system = Ntsc }) ≡ 860
-  pub no_others : code_length (2 ^ 24 + 2 ^ 28 + 2 ^ 33 + 2 ^ 42 + 2 ^ 45) no_options ≡ 860
+  pub bare : code_length 0 no_options ≡ 822
+  pub bare_rest : part_length 0 no_options always ≡ 822
+  pub ntsc : code_length 0 (record no_options { system = Ntsc }) ≡ 822
+  pub no_others : code_length (2 ^ 24 + 2 ^ 28 + 2 ^ 33 + 2 ^ 46 + 2 ^ 49) no_options ≡ 822
   -- one is kept alone; commands that are done once take nothing where no row has one, nor delays without a wave program
   pub alone : map alone_part (range_with_len 0 24)
       ≡ 16 ∷ 21 ∷ 4 ∷ 4 ∷ 58 ∷ 4 ∷ 0 ∷ 20 ∷ 73 ∷ 0 ∷ 0 ∷ 0 ∷ 0 ∷ 82 ∷ 0 ∷ 76 ∷ 0 ∷ 0 ∷ 0 ∷ 0 ∷ 13 ∷ 0 ∷ 45 ∷ 69 ∷ []
-  pub alone_facts : map alone_part (range_with_len 34 8) ≡ 19 ∷ 18 ∷ 11 ∷ 6 ∷ 2 ∷ 2 ∷ 0 ∷ 12 ∷ []
+  pub alone_facts : map alone_part (range_with_len 34 12)
+      ≡ 19 ∷ 18 ∷ 11 ∷ 6 ∷ 2 ∷ 2 ∷ 0 ∷ 12 ∷ 6 ∷ 6 ∷ 13 ∷ 13 ∷ []
   pub swings : part_of VIBRATO SWINGS ≡ 29
   pub slide_common : part_of ROW_SLIDE ROW_COMMAND ≡ 2
   pub once_common : part_of ROW_ONCE ROW_COMMAND ≡ 2
   pub legato_common : part_of LEGATO HELD_NOTE ≡ 7
-  pub soft_common : part_of SOFT_RESTART HELD_NOTE ≡ 7
+  pub soft_common : part_of NO_HARD_RESTART HELD_NOTE ≡ 7
   pub effects : part_length 0 (record no_options { skip_effects = true }) SKIP_EFFECTS ≡ 8
   -- with rows whose commands are done once, and with a wave program
   pub at_rows : map (λ feature. part_of_both ROW_ONCE feature feature) (range_with_len 9 13)
@@ -95,26 +97,27 @@ pub record IsPackedSilence (packed : PackedSong) : Type 0 where
   pub features : packed.features.0 ≡ 0
   pub facts : packed.facts ≡ record no_facts { first_mask = true }
 
--- 28 bytes of the packed song, 860 of each player, and 6 for the first waveform; 8, 6, 10 and 36 more where all four options are on
+-- 28 bytes of the packed song, 822 of each player, and 6 for the first waveform; 8, 6, 10 and 36 more where all four
+-- options are on
 pub record SilenceIsMeasured (packed : PackedSong) : Type 0 where
-  pub with_none : image_length packed no_options ≡ 894
-  pub with_all : image_length packed (all_left_out 4) ≡ 954
+  pub with_none : image_length packed no_options ≡ 856
+  pub with_all : image_length packed (all_left_out 4) ≡ 916
 
 abbrev pub SilencesAreMeasured : Type 0
 SilencesAreMeasured = (packed : PackedSong) → IsPackedSilence packed → SilenceIsMeasured packed
 
 -- ---- a note
 
--- a song of one note, which has a wave and a pulse program, and of a keyoff: 42 bytes, the 860, and 45, 82 and 12 of
--- the parts for these
+-- a song of one note, which has a wave and a pulse program, and of a keyoff: 42 bytes, the 822, and 45, 82, 12 and 13
+-- of the parts for these and for the instrument's pulse program
 pub record IsPlayedNote (packed : PackedSong) : Type 0 where
   pub lists : IsPackedNote packed
   pub features : packed.features.0 ≡ 0x402000
-  pub facts : packed.facts ≡ record no_facts { gate_note = true }
+  pub facts : packed.facts ≡ record no_facts { gate_note = true; note_pulse = true }
 
 pub record NoteIsMeasured (packed : PackedSong) : Type 0 where
-  pub with_none : image_length packed no_options ≡ 1041
-  pub with_all : image_length packed (all_left_out 4) ≡ 1101
+  pub with_none : image_length packed no_options ≡ 1016
+  pub with_all : image_length packed (all_left_out 4) ≡ 1076
 
 abbrev pub NotesAreMeasured : Type 0
 NotesAreMeasured = (packed : PackedSong) → IsPlayedNote packed → NoteIsMeasured packed

@@ -14,7 +14,7 @@ pub fn parts_add_up()
 {}
 
 /// A part that isn't kept has no bytes, no other one has more than 320, and the one that every image has no more than
-/// 3,072: it has 860, whichever others are kept. The code has at most 1,876 with the frequencies; and an image is within
+/// 3,072: it has 822, whichever others are kept. The code has at most 1,876 with the frequencies; and an image is within
 /// the bound of its packed song and a player.
 pub fn parts_are_bounded()
     ensures none { UnkeptPartsHaveNone }

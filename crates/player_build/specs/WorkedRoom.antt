@@ -4,13 +4,13 @@ use Rattle.packed_form.specs.declared.packed_songs.PackedSong.{PackedSong}
 use Rattle.image_parts.specs.WorkedLengths.{IsPlayedNote}
 use Rattle.player_build.specs.Room.{IsTooLarge}
 
--- $CBEF and 1,041 bytes are $D000; the last page from which the image has room is $CB00; and its length is told
+-- $CC08 and 1,016 bytes are $D000; the last page from which the image has room is $CC00; and its length is told
 pub record NoteHasRoom (packed : PackedSong) : Type 0 where
-  pub just : IsTooLarge packed no_options 0xCBEF 1041 → ⊥
-  pub past : IsTooLarge packed no_options 0xCBF0 1041
-  pub last_page : IsTooLarge packed no_options 0xCB00 1041 → ⊥
-  pub next_page : IsTooLarge packed no_options 0xCC00 1041
-  pub other_length : IsTooLarge packed no_options 0xCC00 1042 → ⊥
+  pub just : IsTooLarge packed no_options 0xCC08 1016 → ⊥
+  pub past : IsTooLarge packed no_options 0xCC09 1016
+  pub last_page : IsTooLarge packed no_options 0xCC00 1016 → ⊥
+  pub next_page : IsTooLarge packed no_options 0xCD00 1016
+  pub other_length : IsTooLarge packed no_options 0xCD00 1017 → ⊥
 
 abbrev pub NotesHaveRoom : Type 0
 NotesHaveRoom = (packed : PackedSong) → IsPlayedNote packed → NoteHasRoom packed

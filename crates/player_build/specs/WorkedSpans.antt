@@ -50,7 +50,7 @@ pub record SpansAreWorked : Type 0 where
 
 -- ---- the lists of an image
 
--- wave and pulse programs, two rows in the speed table, and no fact: the code takes 987 bytes with the frequencies
+-- wave and pulse programs, two rows in the speed table, and no fact: the code takes 949 bytes with the frequencies
 pub record HasTwoSpeeds (packed : PackedSong) : Type 0 where
   pub features : packed.features.0 ≡ 0x402000
   pub facts : packed.facts ≡ no_facts
@@ -58,12 +58,12 @@ pub record HasTwoSpeeds (packed : PackedSong) : Type 0 where
 
 -- behind the low bytes of the frequencies two bytes are of the lists, the 98 high bytes aren't, and all behind them are
 pub record ListsAreWorked (packed : PackedSong) : Type 0 where
-  pub last_low : ¬ IsOfLists packed no_options 888
-  pub first_speed : IsOfLists packed no_options 889
-  pub last_speed : IsOfLists packed no_options 890
-  pub first_high : ¬ IsOfLists packed no_options 891
-  pub last_high : ¬ IsOfLists packed no_options 988
-  pub behind : IsOfLists packed no_options 989
+  pub last_low : ¬ IsOfLists packed no_options 850
+  pub first_speed : IsOfLists packed no_options 851
+  pub last_speed : IsOfLists packed no_options 852
+  pub first_high : ¬ IsOfLists packed no_options 853
+  pub last_high : ¬ IsOfLists packed no_options 950
+  pub behind : IsOfLists packed no_options 951
   -- no spans name the parts of an image, and none that reach behind it
   pub no_spans : (size : ℕ) → 0 < size → ¬ NamesParts packed no_options size []
   pub too_long : (size : ℕ) (span : PartSpan) (rest : List PartSpan) → size < span.start + span.length →
