@@ -16,10 +16,11 @@ use Rattle.play_model.specs.Playable.{IsPlayable}
 use Rattle.play_model.proofs.Laws.{whole_lem}
 use Rattle.packing_rules.specs.UsedSets.{UsedSets, AreUsedSets}
 use Rattle.song_facts.specs.declared.facts.Fact.{Fact}
-use Rattle.song_facts.specs.declared.facts.Fact.TheVariants.{RowTone, RowSlide, RowOnce, FirstMask, Legato, SoftRestart}
-use Rattle.song_facts.specs.declared.facts.Fact.TheVariants.{WaveDelay, GateNote}
+use Rattle.song_facts.specs.declared.facts.Fact.TheVariants.{RowTone, RowSlide, RowOnce, FirstMask, Legato, NoHardRestart}
+use Rattle.song_facts.specs.declared.facts.Fact.TheVariants.{WaveDelay, GateNote, NoteVibrato, VibratoDelay, NotePulse, NoteFilter}
 use Rattle.song_facts.specs.declared.facts.Facts.{Facts}
-use Rattle.song_facts.specs.Facts.{IsTone, IsSlide, IsOnce, IsGateNote, IsMask, IsLegato, IsSoft, IsDelay}
+use Rattle.song_facts.specs.Facts.{IsTone, IsSlide, IsOnce, IsGateNote, IsMask, IsLegato, KeepsEnvelope, IsDelay}
+use Rattle.song_facts.specs.Facts.{HasVibrato, HasVibratoDelay, HasPulse, HasFilter}
 use Rattle.song_facts.specs.Facts.{HasSuchRow, HasSuchInstrument, HasSuchWaveRow, HasFact, is_among, AreFacts}
 
 -- ---- what is found out
@@ -170,12 +171,17 @@ told_fact song used play are FirstMask =
     such_instrument song used are IsMask (λ i. one_of (equal i.first_wave 0) (dec_le 0xFE i.first_wave))
 told_fact song used play are Legato =
     such_instrument song used are IsLegato (λ i. other (equal (bit_and i.gate_timer 0x40) 0))
-told_fact song used play are SoftRestart =
-    such_instrument song used are IsSoft
+told_fact song used play are NoHardRestart =
+    such_instrument song used are KeepsEnvelope
     (λ i. both (equal (bit_and i.gate_timer 0x40) 0) (other (equal (bit_and i.gate_timer 0x80) 0)))
 told_fact song used play are WaveDelay = such_wave_row song used play are IsDelay (λ row. dec_lt row.left 0x10)
 told_fact song used play are GateNote =
     such_row song used are IsGateNote (λ row. one_of (equal row.note 0xBE) (equal row.note 0xBF))
+told_fact song used play are NoteVibrato = such_instrument song used are HasVibrato (λ i. other (equal i.vibrato 0))
+told_fact song used play are VibratoDelay =
+    such_instrument song used are HasVibratoDelay (λ i. other (equal i.vibrato_delay 0))
+told_fact song used play are NotePulse = such_instrument song used are HasPulse (λ i. other (equal i.pulse 0))
+told_fact song used play are NoteFilter = such_instrument song used are HasFilter (λ i. other (equal i.filter 0))
 
 flag : {P : Type 0} → Dec P → Bool
 flag (yes p) = true
@@ -193,9 +199,13 @@ facts_of has = record {
   row_once = has RowOnce;
   first_mask = has FirstMask;
   legato = has Legato;
-  soft_restart = has SoftRestart;
+  no_hard_restart = has NoHardRestart;
   wave_delay = has WaveDelay;
   gate_note = has GateNote;
+  note_vibrato = has NoteVibrato;
+  vibrato_delay = has VibratoDelay;
+  note_pulse = has NotePulse;
+  note_filter = has NoteFilter;
 }
 
 among : (has : (fact : Fact) → Bool) (fact : Fact) → is_among (facts_of has) fact ≡ has fact
@@ -205,9 +215,13 @@ among has RowSlide = refl
 among has RowOnce = refl
 among has FirstMask = refl
 among has Legato = refl
-among has SoftRestart = refl
+among has NoHardRestart = refl
 among has WaveDelay = refl
 among has GateNote = refl
+among has NoteVibrato = refl
+among has VibratoDelay = refl
+among has NotePulse = refl
+among has NoteFilter = refl
 
 pub found_facts : (song : Song) (used : UsedSets) → IsPlayable song → AreUsedSets song used →
     (facts : Facts) × AreFacts song facts

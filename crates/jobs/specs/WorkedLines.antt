@@ -116,7 +116,7 @@ pub record CostLinesAreWorked : Type 0 where
   pub by_skip : part_line (costly 25 6 SkipOption) ≡ codes "skip pulse 6 bytes, SKIP\n"
   pub by_first : part_line (costly 27 36 SkipOption) ≡ codes "skip between patterns 36 bytes, SKIP\n"
   pub by_speed : part_line (costly 26 10 SpeedOption) ≡ codes "play by timer 10 bytes, SPEED\n"
-  pub names : map part_name (range_with_len 0 45)
+  pub names : map part_name (range_with_len 0 49)
       ≡ codes "transpose"
       ∷ codes "repeat"
       ∷ codes "portamento up"
@@ -156,9 +156,13 @@ pub record CostLinesAreWorked : Type 0 where
       ∷ codes "one-off row commands"
       ∷ codes "gate mask as first wave"
       ∷ codes "legato instruments"
-      ∷ codes "soft restart"
+      ∷ codes "no hard restart"
       ∷ codes "wave table delay"
       ∷ codes "keyoff/keyon"
+      ∷ codes "vibrato of instruments"
+      ∷ codes "vibrato delay"
+      ∷ codes "pulse of instruments"
+      ∷ codes "filter of instruments"
       ∷ codes "row commands"
       ∷ codes "special wave rows"
       ∷ codes "held gate or envelope" ∷ []

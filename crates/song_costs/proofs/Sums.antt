@@ -46,8 +46,8 @@ pub parts_add_up : PartsAddUp
 parts_add_up asked options =
     image_parts.parts_add_up asked options
     ∙ ap (λ (bytes : ℕ). part_length asked options always + bytes)
-    (sym (dropped_sum (keeps asked options) (part_length asked options) (range_with_len 0 45)
-    (all_below (DropsNone (keeps asked options) (part_length asked options)) 45
+    (sym (dropped_sum (keeps asked options) (part_length asked options) (range_with_len 0 49)
+    (all_below (DropsNone (keeps asked options) (part_length asked options)) 49
     (λ part high out. image_parts.unkept_parts_have_none asked options part
     (λ is. omega (arith, high, is)) out))))
 

@@ -13,9 +13,9 @@ use Rattle.packing_rules.specs.Segments.{first_row, is_closed, are_equal, first_
 use Rattle.packing_rules.specs.Renumbering.{speed_rows, speed_number, table_number, instrument_number, pattern_text}
 use Rattle.packing_rules.specs.Renumbering.{pattern_texts}
 use Rattle.song_facts.specs.declared.facts.Fact.{Fact}
-use Rattle.song_facts.specs.declared.facts.Fact.TheVariants.{RowSlide, FirstMask, GateNote}
+use Rattle.song_facts.specs.declared.facts.Fact.TheVariants.{RowSlide, FirstMask, GateNote, NoteFilter}
 use Rattle.player_memory.specs.declared.conditions.TheConstants.{CLIMB, RISE, ROW_SLIDE, FIRST_MASK, GATE_NOTE}
-use Rattle.player_memory.specs.declared.conditions.TheConstants.{ROW_COMMAND, SPECIAL_ROW}
+use Rattle.player_memory.specs.declared.conditions.TheConstants.{NOTE_FILTER, ROW_COMMAND, SPECIAL_ROW}
 use Rattle.player_memory.specs.FactLines.{fact_condition}
 use Rattle.kept_lines.specs.Asked.{asked}
 use Rattle.kept_lines.specs.KeptLines.{kept_set}
@@ -40,7 +40,7 @@ note_is_worked = record {
   bytes = refl;
   all = refl;
   few = λ e. omega arith;
-  no_keyoff = refl;
+  bare = refl;
   once = refl;
 }
 
@@ -170,6 +170,15 @@ gate_notes = record {
   cause = own_fact_first GateNote (InPattern 2 1) gate_notes_are_worked.first;
 }
 
+note_filters : IsToldOf no_options (part_cost NOTE_FILTER 13 (InSong (InInstrument 3)))
+unfolding asked kept_set
+note_filters = record {
+  kept = refl;
+  bytes = refl;
+  some = λ e. absurd (omega arith);
+  cause = own_fact_first NoteFilter (InInstrument 3) facts_are_worked.filter;
+}
+
 row_commands : IsToldOf no_options (part_cost ROW_COMMAND 2 (InSong (InPattern 1 1)))
 unfolding asked kept_set
 row_commands = record {
@@ -198,6 +207,9 @@ fact_parts_are_worked = record {
   later_mask = λ told. facts_are_worked.not_first (first_own_fact FirstMask (InInstrument 3) told.cause);
   gate_notes = gate_notes;
   unused = λ told. gate_notes_are_worked.unused (first_own_fact GateNote (InPattern 0 1) told.cause).is_such;
+  filters = note_filters;
+  unused_filter = λ told. facts_are_worked.unused_filter (first_own_fact NoteFilter (InInstrument 2) told.cause).is_such;
+  no_pulse = λ bytes cause told. (let e = told.kept in absurd (cc));
   commands = row_commands;
   special = special;
   no_special = λ told. wave_places_are_worked.jump told.cause.is_such;
@@ -235,11 +247,12 @@ list_is_worked = record {
   all = record {
     parts = refl;
     each = (more transposes (more portamentos (more filters (more waves (more wave_commands (more climb (more rise
-        (more row_slides (more masks (more gate_notes (more row_commands (more special nothing)))))))))))).each;
+        (more row_slides (more masks (more gate_notes (more note_filters (more row_commands
+        (more special nothing))))))))))))).each;
   };
   other_order = λ rest kept. absurd
       (let e = same_head 15 0 (map (λ (cost : PartCost). cost.part) rest) (2 ∷ 15 ∷ 22 ∷ 23 ∷ CLIMB ∷ RISE ∷ ROW_SLIDE
-      ∷ FIRST_MASK ∷ GATE_NOTE ∷ ROW_COMMAND ∷ SPECIAL_ROW ∷ []) kept.parts in omega arith);
+      ∷ FIRST_MASK ∷ GATE_NOTE ∷ NOTE_FILTER ∷ ROW_COMMAND ∷ SPECIAL_ROW ∷ []) kept.parts in omega arith);
 }
 
 pub options_are_worked : OptionsAreWorked

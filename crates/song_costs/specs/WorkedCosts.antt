@@ -16,7 +16,7 @@ use Rattle.packing_rules.specs.WorkedSizes.{among, note_sets, two_rests}
 use Rattle.song_facts.specs.declared.facts.Facts.{Facts}
 use Rattle.song_facts.specs.Facts.{no_facts}
 use Rattle.player_memory.specs.declared.conditions.TheConstants.{CLIMB, DROP, RISE, ROW_SLIDE, FIRST_MASK, LEGATO}
-use Rattle.player_memory.specs.declared.conditions.TheConstants.{GATE_NOTE, ROW_COMMAND, SPECIAL_ROW, HELD_NOTE}
+use Rattle.player_memory.specs.declared.conditions.TheConstants.{GATE_NOTE, NOTE_PULSE, NOTE_FILTER, ROW_COMMAND, SPECIAL_ROW, HELD_NOTE}
 use Rattle.kept_lines.specs.Asked.{asked}
 use Rattle.song_costs.specs.declared.costs.Costs.{Costs}
 use Rattle.song_places.specs.declared.places.Place.TheVariants.{InOrder, InPattern, InInstrument, InWaveTable}
@@ -29,22 +29,22 @@ use Rattle.song_places.specs.WorkedPlaces.{crossing}
 
 -- ---- kinds
 
--- a song of one note has a wave and a pulse program, and a keyoff
+-- a song of one note has a wave and a pulse program, which its instrument begins, and a keyoff
 abbrev pub note_features : ℕ
 note_features = 2 ^ bit_of PulseTable + 2 ^ bit_of WaveTable
 
 abbrev pub note_facts : Facts
-note_facts = record no_facts { gate_note = true }
+note_facts = record no_facts { gate_note = true; note_pulse = true }
 
 abbrev pub note_costs : Costs
 note_costs = costs_of one_note (note_sets (0 ∷ 1 ∷ [])) (asked note_features note_facts) no_options
 
 -- three orderlists of one entry, the patterns 01 90 BE 00 and C0 00, one instrument, two rows in each of two tables;
--- 860 bytes of the player that each image has, the frequencies among them, 82 and 45 for a pulse and a wave program,
--- and 12 for a keyoff
+-- 822 bytes of the player that each image has, the frequencies among them, 82 and 45 for a pulse and a wave program,
+-- 12 for a keyoff, and 13 for an instrument that begins a pulse program
 pub record NoteIsWorked : Type 0 where
   pub each : note_costs ≡ record {
-    player = 999;
+    player = 974;
     orders = 15;
     patterns = 10;
     instruments = 9;
@@ -54,11 +54,11 @@ pub record NoteIsWorked : Type 0 where
     speed = 0;
   }
   pub bytes : data_bytes note_costs ≡ 42
-  pub all : all_bytes note_costs ≡ 1041
+  pub all : all_bytes note_costs ≡ 1016
   -- without the frequencies
-  pub few : note_costs.player ≢ 803
-  -- without the keyoff
-  pub no_keyoff : (costs_of one_note (note_sets (0 ∷ 1 ∷ [])) note_features no_options).player ≡ 987
+  pub few : note_costs.player ≢ 778
+  -- without the facts
+  pub bare : (costs_of one_note (note_sets (0 ∷ 1 ∷ [])) note_features no_options).player ≡ 949
   -- an equal pattern is stored once, and a note for each of three orderlists isn't
   pub once : (costs_of two_rests (note_sets (0 ∷ 1 ∷ 2 ∷ [])) (asked note_features note_facts) no_options).patterns ≡ 10
 
@@ -111,13 +111,13 @@ abbrev pub part_cost : ℕ → ℕ → Cause → PartCost
 part_cost part bytes cause = record { part = part; bytes = bytes; cause = cause }
 
 -- the song has transposes, portamentos, and commands in its wave table, and a filter program; and rows with a command
--- that runs, instruments whose first waveform is 0, a keyoff and a keyon
+-- that runs, instruments whose first waveform is 0 and one that begins the filter program, a keyoff and a keyon
 abbrev pub crossing_features : ℕ
 crossing_features =
     2 ^ bit_of Transpose + 2 ^ bit_of PortaUp + 2 ^ bit_of FilterTable + 2 ^ bit_of WaveTable + 2 ^ bit_of WaveCommand
 
 abbrev pub crossing_facts : Facts
-crossing_facts = record no_facts { row_slide = true; first_mask = true; gate_note = true }
+crossing_facts = record no_facts { row_slide = true; first_mask = true; gate_note = true; note_filter = true }
 
 abbrev pub crossing_asked : ℕ
 crossing_asked = asked crossing_features crossing_facts
@@ -147,6 +147,9 @@ pub record FactPartsAreWorked : Type 0 where
   pub later_mask : ¬ IsToldOf no_options (part_cost FIRST_MASK 6 (InSong (InInstrument 3)))
   pub gate_notes : IsToldOf no_options (part_cost GATE_NOTE 12 (InSong (InPattern 2 1)))
   pub unused : ¬ IsToldOf no_options (part_cost GATE_NOTE 12 (InSong (InPattern 0 1)))
+  pub filters : IsToldOf no_options (part_cost NOTE_FILTER 13 (InSong (InInstrument 3)))
+  pub unused_filter : ¬ IsToldOf no_options (part_cost NOTE_FILTER 13 (InSong (InInstrument 2)))
+  pub no_pulse : (bytes : ℕ) (cause : Cause) → ¬ IsToldOf no_options (part_cost NOTE_PULSE bytes cause)
   pub commands : IsToldOf no_options (part_cost ROW_COMMAND 2 (InSong (InPattern 1 1)))
   pub special : IsToldOf no_options (part_cost SPECIAL_ROW 4 (InSong (InWaveTable 2)))
   pub no_special : ¬ IsToldOf no_options (part_cost SPECIAL_ROW 4 (InSong (InWaveTable 3)))
@@ -161,6 +164,7 @@ pub record ListIsWorked : Type 0 where
       ∷ part_cost 23 80 (InSong (InWaveTable 2)) ∷ part_cost CLIMB 10 (InSong (InPattern 1 1))
       ∷ part_cost RISE 17 (InSong (InPattern 1 1)) ∷ part_cost ROW_SLIDE 18 (InSong (InPattern 1 1))
       ∷ part_cost FIRST_MASK 6 (InSong (InInstrument 1)) ∷ part_cost GATE_NOTE 12 (InSong (InPattern 2 1))
+      ∷ part_cost NOTE_FILTER 13 (InSong (InInstrument 3))
       ∷ part_cost ROW_COMMAND 2 (InSong (InPattern 1 1)) ∷ part_cost SPECIAL_ROW 4 (InSong (InWaveTable 2)) ∷ [])
   pub other_order : (rest : List PartCost) → ¬ AreKeptParts crossing crossing_asked no_options
       (part_cost 15 76 (InSong (InInstrument 3)) ∷ rest)

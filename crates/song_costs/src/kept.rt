@@ -18,7 +18,7 @@ use usage::UsedParts;
 /// How many parts there are beside the one that every image has: those of the features, behind them those of the
 /// options and what several features have in common, then those of the song's facts, and what several facts or features
 /// have in common.
-pub const PARTS: u8 = 45;
+pub const PARTS: u8 = 49;
 
 /// The names of the parts, each at its number, as musicians say them.
 pub const PART_NAMES: [&str; PARTS as usize] = [
@@ -61,9 +61,13 @@ pub const PART_NAMES: [&str; PARTS as usize] = [
     "one-off row commands",
     "gate mask as first wave",
     "legato instruments",
-    "soft restart",
+    "no hard restart",
     "wave table delay",
     "keyoff/keyon",
+    "vibrato of instruments",
+    "vibrato delay",
+    "pulse of instruments",
+    "filter of instruments",
     "row commands",
     "special wave rows",
     "held gate or envelope",
@@ -83,7 +87,7 @@ pub enum Cause {
 /// What a part of the player costs.
 #[derive(Clone, Copy, Debug, PartialEq, Eq)]
 pub struct PartCost {
-    /// The part, 0 to 44.
+    /// The part, 0 to 48.
     pub part: u8,
     /// Its bytes, from 1 on.
     pub bytes: u32,

@@ -19,8 +19,8 @@ use Rattle.song_model.specs.Silence.{rest_row}
 use Rattle.play_model.specs.Used.{IsUsedPattern}
 use Rattle.play_model.specs.WorkedSongs.{subtune, row}
 use Rattle.song_facts.specs.declared.facts.Fact.{Fact}
-use Rattle.song_facts.specs.declared.facts.Fact.TheVariants.{RowTone, RowSlide, RowOnce, FirstMask, Legato, SoftRestart}
-use Rattle.song_facts.specs.declared.facts.Fact.TheVariants.{WaveDelay, GateNote}
+use Rattle.song_facts.specs.declared.facts.Fact.TheVariants.{RowTone, RowSlide, RowOnce, FirstMask, Legato, NoHardRestart}
+use Rattle.song_facts.specs.declared.facts.Fact.TheVariants.{WaveDelay, GateNote, NoteVibrato, VibratoDelay, NotePulse, NoteFilter}
 use Rattle.player_memory.specs.declared.conditions.TheConstants.{SKIP_EFFECTS, CLIMB, FOUND_NOTE}
 use Rattle.player_memory.specs.FactLines.{fact_condition}
 use Rattle.song_places.specs.declared.places.Place.{Place}
@@ -94,14 +94,7 @@ no_rest song WaveCommand meant = meant
 
 -- no fact needs bytes of orderlists, nor a row that rests
 no_fact_byte : (fact : Fact) (b : ℕ) → ¬ (need_of_fact fact).byte b
-no_fact_byte RowTone b meant = meant
-no_fact_byte RowSlide b meant = meant
-no_fact_byte RowOnce b meant = meant
-no_fact_byte FirstMask b meant = meant
-no_fact_byte Legato b meant = meant
-no_fact_byte SoftRestart b meant = meant
-no_fact_byte WaveDelay b meant = meant
-no_fact_byte GateNote b meant = meant
+no_fact_byte fact b meant = meant
 
 no_fact_rest : (fact : Fact) → ¬ (need_of_fact fact).row rest_row
 no_fact_rest RowTone meant = omega (arith, meant)
@@ -109,8 +102,12 @@ no_fact_rest RowSlide meant = (let low = meant.0 in omega (arith, low))
 no_fact_rest RowOnce meant = omega (arith, meant)
 no_fact_rest FirstMask meant = meant
 no_fact_rest Legato meant = meant
-no_fact_rest SoftRestart meant = meant
+no_fact_rest NoHardRestart meant = meant
 no_fact_rest WaveDelay meant = meant
+no_fact_rest NoteVibrato meant = meant
+no_fact_rest VibratoDelay meant = meant
+no_fact_rest NotePulse meant = meant
+no_fact_rest NoteFilter meant = meant
 no_fact_rest GateNote (inl off) = omega (arith, off)
 no_fact_rest GateNote (inr on) = omega (arith, on)
 
@@ -291,9 +288,13 @@ no_fact_reaches RowSlide = refl
 no_fact_reaches RowOnce = refl
 no_fact_reaches FirstMask = refl
 no_fact_reaches Legato = refl
-no_fact_reaches SoftRestart = refl
+no_fact_reaches NoHardRestart = refl
 no_fact_reaches WaveDelay = refl
 no_fact_reaches GateNote = refl
+no_fact_reaches NoteVibrato = refl
+no_fact_reaches VibratoDelay = refl
+no_fact_reaches NotePulse = refl
+no_fact_reaches NoteFilter = refl
 
 none_in_zero : (i : ℕ) → ¬ NeedsFor (sliding 1 3) FOUND_NOTE (InPattern 0 i)
 none_in_zero i (inl h) = no_note_in_zero h.feature i h.is_kept h.needs

@@ -4,9 +4,10 @@ use Rattle.song_model.specs.declared.instruments.Instrument.{Instrument}
 use Rattle.song_model.specs.declared.tables.TableRow.{TableRow}
 use Rattle.song_model.specs.declared.songs.Song.{Song}
 use Rattle.song_facts.specs.declared.facts.Fact.{Fact}
-use Rattle.song_facts.specs.declared.facts.Fact.TheVariants.{RowTone, RowSlide, RowOnce, FirstMask, Legato, SoftRestart}
-use Rattle.song_facts.specs.declared.facts.Fact.TheVariants.{WaveDelay, GateNote}
-use Rattle.song_facts.specs.Facts.{IsTone, IsSlide, IsOnce, IsGateNote, IsMask, IsLegato, IsSoft, IsDelay}
+use Rattle.song_facts.specs.declared.facts.Fact.TheVariants.{RowTone, RowSlide, RowOnce, FirstMask, Legato, NoHardRestart}
+use Rattle.song_facts.specs.declared.facts.Fact.TheVariants.{WaveDelay, GateNote, NoteVibrato, VibratoDelay, NotePulse, NoteFilter}
+use Rattle.song_facts.specs.Facts.{IsTone, IsSlide, IsOnce, IsGateNote, IsMask, IsLegato, KeepsEnvelope, IsDelay}
+use Rattle.song_facts.specs.Facts.{HasVibrato, HasVibratoDelay, HasPulse, HasFilter}
 use Rattle.song_facts.specs.Facts.{HasSuchRow, HasSuchInstrument, HasSuchWaveRow, HasFact}
 use Rattle.song_places.specs.declared.places.Place.{Place}
 use Rattle.song_places.specs.declared.places.Place.TheVariants.{InOrder, InPattern, InInstrument, InWaveTable}
@@ -38,9 +39,13 @@ has_fact_place song RowSlide h = row_place song RowSlide h
 has_fact_place song RowOnce h = row_place song RowOnce h
 has_fact_place song FirstMask h = instrument_place song FirstMask h
 has_fact_place song Legato h = instrument_place song Legato h
-has_fact_place song SoftRestart h = instrument_place song SoftRestart h
+has_fact_place song NoHardRestart h = instrument_place song NoHardRestart h
 has_fact_place song WaveDelay h = wave_row_place song WaveDelay h
 has_fact_place song GateNote h = row_place song GateNote h
+has_fact_place song NoteVibrato h = instrument_place song NoteVibrato h
+has_fact_place song VibratoDelay h = instrument_place song VibratoDelay h
+has_fact_place song NotePulse h = instrument_place song NotePulse h
+has_fact_place song NoteFilter h = instrument_place song NoteFilter h
 
 -- ---- and from a place to what is had
 
@@ -72,9 +77,13 @@ has_fact song RowSlide place at = row_had song IsSlide place at
 has_fact song RowOnce place at = row_had song IsOnce place at
 has_fact song FirstMask place at = instrument_had song IsMask place at
 has_fact song Legato place at = instrument_had song IsLegato place at
-has_fact song SoftRestart place at = instrument_had song IsSoft place at
+has_fact song NoHardRestart place at = instrument_had song KeepsEnvelope place at
 has_fact song WaveDelay place at = wave_row_had song IsDelay place at
 has_fact song GateNote place at = row_had song IsGateNote place at
+has_fact song NoteVibrato place at = instrument_had song HasVibrato place at
+has_fact song VibratoDelay place at = instrument_had song HasVibratoDelay place at
+has_fact song NotePulse place at = instrument_had song HasPulse place at
+has_fact song NoteFilter place at = instrument_had song HasFilter place at
 
 pub facts_are_needed : FactsAreNeeded
 facts_are_needed song fact =

@@ -20,7 +20,7 @@ use Rattle.player_memory.specs.declared.conditions.TheConstants.{PORTA_UP, PORTA
 use Rattle.player_memory.specs.declared.conditions.TheConstants.{INSTRUMENT_VIBRATO, NOTE_DEPENDENT, WAVE_COMMAND}
 use Rattle.player_memory.specs.declared.conditions.TheConstants.{SKIP_EFFECTS, SKIP_PULSE, TIMED, SKIP_FIRST}
 use Rattle.player_memory.specs.declared.conditions.TheConstants.{SWINGS, CLIMB, DROP, RISE, SINK, FOUND_NOTE}
-use Rattle.player_memory.specs.declared.conditions.TheConstants.{ROW_SLIDE, ROW_ONCE, LEGATO, SOFT_RESTART, WAVE_DELAY}
+use Rattle.player_memory.specs.declared.conditions.TheConstants.{ROW_SLIDE, ROW_ONCE, LEGATO, NO_HARD_RESTART, WAVE_DELAY}
 use Rattle.player_memory.specs.declared.conditions.TheConstants.{ROW_COMMAND, SPECIAL_ROW, HELD_NOTE}
 use Rattle.player_memory.specs.FactLines.{fact_condition}
 use Rattle.kept_lines.specs.Asked.{is_in, asked, Asks}
@@ -53,7 +53,7 @@ feature_in : (song : Song) (set : ℕ) (feature : Feature) (h : Asks song set) �
 feature_in song set feature h =
     let small = (at_bit feature).small in
     let bit = bit_of feature in
-    rw (h.is, asked_is_exact h.features h.facts bit (omega (arith, small)), lt-ltb bit 24 small) refl
+    rw (h.is, asked_is_exact h.features h.facts bit, lt-ltb bit 24 small) refl
 
 asks_feature : (song : Song) (set : ℕ) (feature : Feature) → Asks song set → HasFeature song feature →
     is_in set (bit_of feature) ≡ true
@@ -71,7 +71,7 @@ fact_in : (song : Song) (set : ℕ) (fact : Fact) (h : Asks song set) →
 fact_in song set fact h =
     let small = (at_number fact).small in
     let is = (at_number fact).condition in
-    rw (h.is, asked_is_exact h.features h.facts (fact_condition fact) (omega (arith, small, is)))
+    rw (h.is, asked_is_exact h.features h.facts (fact_condition fact))
     ((at_number fact).asked h.features h.facts)
 
 asks_fact : (song : Song) (set : ℕ) (fact : Fact) → Asks song set → HasFact song fact →
@@ -108,7 +108,7 @@ fact_asked_for fact =
     rw (
       le-ltb (fact_condition fact) 24 (omega (arith, is)),
       le-leb 34 (fact_condition fact) (omega (arith, is)),
-      lt-ltb (fact_condition fact) 42 (omega (arith, is, small)),
+      lt-ltb (fact_condition fact) 46 (omega (arith, is, small)),
     ) refl
 
 own_keeps : (own : ℕ) → is_asked_for own ≡ true → keeps_part own own ≡ true
@@ -146,7 +146,7 @@ common_more one other part more =
     (if_more (part == FOUND_NOTE) (or_more (more TONE_PORTA) (more TIE_NOTE))
     (if_more (part == ROW_COMMAND) (or_more (more ROW_SLIDE) (more ROW_ONCE))
     (if_more (part == SPECIAL_ROW) (or_more (more WAVE_DELAY) (more WAVE_COMMAND))
-    (if_more (part == HELD_NOTE) (or_more (more LEGATO) (more SOFT_RESTART)) (λ never. never)))))))))
+    (if_more (part == HELD_NOTE) (or_more (more LEGATO) (more NO_HARD_RESTART)) (λ never. never)))))))))
   where
     swings : (is_in one VIBRATO || is_in one INSTRUMENT_VIBRATO) ≡ true →
         (is_in other VIBRATO || is_in other INSTRUMENT_VIBRATO) ≡ true
@@ -198,7 +198,7 @@ common_keeper set part =
     (at part ROW_COMMAND (either (given set ROW_COMMAND ROW_SLIDE refl refl) (given set ROW_COMMAND ROW_ONCE refl refl))
     (at part SPECIAL_ROW
     (either (given set SPECIAL_ROW WAVE_DELAY refl refl) (given set SPECIAL_ROW WAVE_COMMAND refl refl))
-    (at part HELD_NOTE (either (given set HELD_NOTE LEGATO refl refl) (given set HELD_NOTE SOFT_RESTART refl refl))
+    (at part HELD_NOTE (either (given set HELD_NOTE LEGATO refl refl) (given set HELD_NOTE NO_HARD_RESTART refl refl))
     (λ never. absurd (true≢false (sym never)))))))))))
   where
     -- where the part is this one, and where it isn't
@@ -233,12 +233,12 @@ keeper set options part other kept = elim (cases_Bool (is_asked_for part)) [
 -- ---- such a condition is a feature's or a fact's
 
 low_or_between : (condition : ℕ) → is_asked_for condition ≡ true →
-    (condition < 24) ⊎ ((34 ≤ condition) × (condition < 42))
+    (condition < 24) ⊎ ((34 ≤ condition) × (condition < 46))
 low_or_between condition asked = elim (or_cases (nat_lt condition 24) _ asked) [
   | inl low ↦ inl (ltb-true condition 24 low)
   | inr between ↦
-      (let both = and_parts _ (nat_lt condition 42) between in
-      inr (leb-true 34 condition both.0, ltb-true condition 42 both.1))
+      (let both = and_parts _ (nat_lt condition 46) between in
+      inr (leb-true 34 condition both.0, ltb-true condition 46 both.1))
 ]
 
 by_feature : (song : Song) (set part : ℕ) (feature : Feature) → Asks song set →

@@ -6,7 +6,7 @@ use Rattle.song_model.specs.LookUp.{pattern_at, instrument_at}
 use Rattle.song_model.specs.Silence.{rest_row}
 use Rattle.play_model.specs.Used.{IsUsedPattern, IsUsedInstrument}
 use Rattle.play_model.specs.WorkedSongs.{row}
-use Rattle.song_facts.specs.declared.facts.Fact.TheVariants.{RowSlide, FirstMask, GateNote}
+use Rattle.song_facts.specs.declared.facts.Fact.TheVariants.{RowSlide, FirstMask, GateNote, NotePulse, NoteFilter}
 use Rattle.song_facts.specs.Facts.{IsGateNote}
 use Rattle.player_memory.specs.declared.conditions.TheConstants.{ROW_SLIDE}
 use Rattle.song_places.specs.declared.places.Place.{Place}
@@ -104,6 +104,22 @@ mask_first (InInstrument (suc zero)) at = refl
 mask_first (InInstrument (suc (suc n))) at = (lower (3 ∷ []) 1 (suc (suc n)) [] [] (omega arith)).is
 mask_first (InWaveTable p) at = refl
 
+filtered : NeedsFactAt crossing NoteFilter (InInstrument 3)
+unfolding instrument_at
+filtered = record { used = used_three; is_meant = λ e. omega (arith, e) }
+
+filter_first : (other : Place) → NeedsFactAt crossing NoteFilter other → IsNotAfter (InInstrument 3) other
+unfolding instrument_at
+filter_first (InOrder s c i) at = absurd at.is_meant
+filter_first (InPattern p i) at = absurd at.is_meant
+filter_first (InInstrument zero) at = absurd (no_zero at.used)
+filter_first (InInstrument (suc zero)) at = absurd (at.is_meant refl)
+filter_first (InInstrument (suc (suc zero))) at = absurd (not_two at.used)
+filter_first (InInstrument (suc (suc (suc zero)))) at = refl
+filter_first (InInstrument (suc (suc (suc (suc n))))) at =
+    (lower (3 ∷ []) 3 (suc (suc (suc (suc n)))) [] [] (omega arith)).is
+filter_first (InWaveTable p) at = refl
+
 pub facts_are_worked : FactsAreWorked
 unfolding instrument_at
 facts_are_worked = record {
@@ -114,4 +130,7 @@ facts_are_worked = record {
   unused = λ at. not_two at.used;
   later = record { used = used_three; is_meant = inl refl };
   not_first = λ first. (let e = first.first (InInstrument 1) masked in cc);
+  filter = record { is_such = filtered; first = filter_first };
+  unused_filter = λ at. not_two at.used;
+  no_pulse = λ at. at.is_meant refl;
 }

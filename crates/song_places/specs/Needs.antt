@@ -19,9 +19,7 @@ use Rattle.song_model.specs.LookUp.{speed_row, instrument_at}
 use Rattle.song_model.specs.Pointers.{instrument_pointer, command_table, wave_row_table}
 use Rattle.play_model.specs.Features.{IsAny, HasInstrument}
 use Rattle.song_facts.specs.declared.facts.Fact.{Fact}
-use Rattle.song_facts.specs.declared.facts.Fact.TheVariants.{RowTone, RowSlide, RowOnce, FirstMask, Legato, SoftRestart}
-use Rattle.song_facts.specs.declared.facts.Fact.TheVariants.{WaveDelay, GateNote}
-use Rattle.song_facts.specs.Facts.{IsTone, IsSlide, IsOnce, IsGateNote, IsMask, IsLegato, IsSoft, IsDelay}
+use Rattle.song_facts.specs.Facts.{IsOfRow, IsOfInstrument, IsOfWaveRow}
 
 pub record Need : Type 1 where
   pub byte : ℕ → Type 0
@@ -99,11 +97,5 @@ need_of song WaveCommand = of_left_sides 0xF0 0xFE
 
 -- what gives a song the fact
 abbrev pub need_of_fact : Fact → Need
-need_of_fact RowTone = record nothing { row = IsTone }
-need_of_fact RowSlide = record nothing { row = IsSlide }
-need_of_fact RowOnce = record nothing { row = IsOnce }
-need_of_fact FirstMask = record nothing { instrument = IsMask }
-need_of_fact Legato = record nothing { instrument = IsLegato }
-need_of_fact SoftRestart = record nothing { instrument = IsSoft }
-need_of_fact WaveDelay = record nothing { wave_row = IsDelay }
-need_of_fact GateNote = record nothing { row = IsGateNote }
+need_of_fact fact =
+    record nothing { row = IsOfRow fact; instrument = IsOfInstrument fact; wave_row = IsOfWaveRow fact }

@@ -7,7 +7,7 @@ use Rattle.song_model.specs.declared.songs.Song.{Song}
 use Rattle.song_model.specs.LookUp.{zero_instrument}
 use Rattle.song_model.specs.Silence.{empty_song, rest_row}
 use Rattle.play_model.specs.WorkedSongs.{subtune, row, sides, other_vibrato}
-use Rattle.song_facts.specs.declared.facts.Fact.TheVariants.{RowSlide, FirstMask, GateNote}
+use Rattle.song_facts.specs.declared.facts.Fact.TheVariants.{RowSlide, FirstMask, GateNote, NotePulse, NoteFilter}
 use Rattle.player_memory.specs.declared.conditions.TheConstants.{PORTA_UP, SKIP_EFFECTS, CLIMB, FOUND_NOTE, ROW_SLIDE}
 use Rattle.player_memory.specs.declared.conditions.TheConstants.{ROW_COMMAND, SPECIAL_ROW}
 use Rattle.song_places.specs.declared.places.Place.{Place}
@@ -72,7 +72,7 @@ pub record GateNotesAreWorked : Type 0 where
   pub not_first : ¬ IsFirstFactPlace crossing GateNote (InPattern 2 2)
 
 -- a command of the wave table is no row's; instrument 1 is used by each song, and its first waveform is 0, as is that
--- of an instrument that isn't used, and of a later one
+-- of an instrument that isn't used, and of a later one, which begins the filter program and no pulse program
 pub record FactsAreWorked : Type 0 where
   pub slide : IsFirstFactPlace crossing RowSlide (InPattern 1 1)
   pub next_row : ¬ IsFirstFactPlace crossing RowSlide (InPattern 1 2)
@@ -81,6 +81,9 @@ pub record FactsAreWorked : Type 0 where
   pub unused : ¬ NeedsFactAt crossing FirstMask (InInstrument 2)
   pub later : NeedsFactAt crossing FirstMask (InInstrument 3)
   pub not_first : ¬ IsFirstFactPlace crossing FirstMask (InInstrument 3)
+  pub filter : IsFirstFactPlace crossing NoteFilter (InInstrument 3)
+  pub unused_filter : ¬ NeedsFactAt crossing NoteFilter (InInstrument 2)
+  pub no_pulse : ¬ NeedsFactAt crossing NotePulse (InInstrument 3)
 
 -- ---- what features have in common
 

@@ -68,17 +68,7 @@ fn is_had(song: &Song, parts: &UsedParts, fact: Fact) -> bool
 {
     // Named in the contract alone.
     let _song = song;
-    let facts = &parts.facts;
-    match fact {
-        Fact::RowTone => facts.row_tone,
-        Fact::RowSlide => facts.row_slide,
-        Fact::RowOnce => facts.row_once,
-        Fact::FirstMask => facts.first_mask,
-        Fact::Legato => facts.legato,
-        Fact::SoftRestart => facts.soft_restart,
-        Fact::WaveDelay => facts.wave_delay,
-        Fact::GateNote => facts.gate_note,
-    }
+    parts.facts.has(fact)
 }
 
 /// The first place of a song that gives it a fact, in the same order; none where the song hasn't the fact.

@@ -6,7 +6,7 @@ ghost use Rattle.song_model.specs.declared.tables.TableName.TheVariants.{Speed};
 ghost use Rattle.song_model.specs.LookUp.{speed_row};
 ghost use Rattle.play_model.specs.Features.{IsAny, HasFeature};
 ghost use Rattle.song_places.specs.declared.places.Place.{Place};
-ghost use Rattle.song_places.specs.Needs.{Points, need_of_fact};
+ghost use Rattle.song_places.specs.Needs.{Points};
 ghost use Rattle.song_places.specs.Places.{IsNeededAt, NeedsAt};
 ghost use Rattle.song_places.specs.Search.{IsParameter, meant};
 
@@ -79,39 +79,6 @@ fn points_at_note_speed(song: &Song, table: Option<TableName>, pointer: u8) -> b
     points(table, TableName::Speed, pointer) && song.speed(pointer).left >= 0x80
 }
 
-/// Whether a row of a pattern gives a song the fact.
-fn is_row_of(fact: Fact, row: Row) -> bool
-    ensures { IsTrue result ↔ (need_of_fact fact).row row }
-{
-    match fact {
-        Fact::RowTone => row.command == 3,
-        Fact::RowSlide => 1 <= row.command && row.command <= 4,
-        Fact::RowOnce => row.command >= 5,
-        Fact::GateNote => row.note == 0xbe || row.note == 0xbf,
-        _ => false,
-    }
-}
-
-/// Whether an instrument gives a song the fact.
-fn is_instrument_of(fact: Fact, instrument: &Instrument) -> bool
-    ensures { IsTrue result ↔ (need_of_fact fact).instrument instrument.now }
-{
-    let timer = instrument.gate_timer;
-    match fact {
-        Fact::FirstMask => instrument.first_wave == 0 || instrument.first_wave >= 0xfe,
-        Fact::Legato => timer & 0x40 != 0,
-        Fact::SoftRestart => timer & 0x40 == 0 && timer & 0x80 != 0,
-        _ => false,
-    }
-}
-
-/// Whether a row of the wave table gives a song the fact.
-fn is_wave_row_of(fact: Fact, row: TableRow) -> bool
-    ensures { IsTrue result ↔ (need_of_fact fact).wave_row row }
-{
-    fact == Fact::WaveDelay && row.left < 0x10
-}
-
 impl Wanted {
     /// What a feature needs, in a song that uses it.
     pub(crate) fn of(feature: Feature) -> Wanted
@@ -169,7 +136,7 @@ impl Wanted {
             Wanted::Tempo => row.command == 0xf && row.param % 128 >= 3,
             Wanted::Pointers(name) => points(command_table(row.command), name, row.param),
             Wanted::NoteSpeeds => points_at_note_speed(song, command_table(row.command), row.param),
-            Wanted::OfFact(fact) => is_row_of(fact, row),
+            Wanted::OfFact(fact) => fact.is_of_row(row),
             _ => false,
         }
     }
@@ -184,7 +151,7 @@ impl Wanted {
                 points_at_note_speed(song, Some(TableName::Speed), instrument.vibrato)
             }
             Wanted::Vibrato => instrument.vibrato != 0,
-            Wanted::OfFact(fact) => is_instrument_of(fact, instrument),
+            Wanted::OfFact(fact) => fact.is_of_instrument(instrument),
             _ => false,
         }
     }
@@ -202,7 +169,7 @@ impl Wanted {
                 points_at_note_speed(song, wave_row_table(row.left), row.right)
             }
             Wanted::WaveCommands => row.left >= 0xf0 && row.left <= 0xfe,
-            Wanted::OfFact(fact) => is_wave_row_of(fact, row),
+            Wanted::OfFact(fact) => fact.is_of_wave_row(row),
             _ => false,
         }
     }

@@ -49,15 +49,19 @@ const FEATURES: [Feature; 24] = [
 ];
 
 /// The facts in the order of their numbers.
-const FACTS: [Fact; 8] = [
+const FACTS: [Fact; 12] = [
     Fact::RowTone,
     Fact::RowSlide,
     Fact::RowOnce,
     Fact::FirstMask,
     Fact::Legato,
-    Fact::SoftRestart,
+    Fact::NoHardRestart,
     Fact::WaveDelay,
     Fact::GateNote,
+    Fact::NoteVibrato,
+    Fact::VibratoDelay,
+    Fact::NotePulse,
+    Fact::NoteFilter,
 ];
 
 /// What a song asks for that uses this feature alone.
@@ -123,7 +127,7 @@ fn fact_place(song: &Song, parts: &UsedParts, part: u8) -> Option<Place>
     first
 }
 
-/// The first place of a song that needs a part of the player, 0 to 44: the earliest of the first places of the features
+/// The first place of a song that needs a part of the player, 0 to 48: the earliest of the first places of the features
 /// and facts that keep it. None where no place does, as with the parts of the options, 24 to 27.
 pub fn part_place(song: &Song, parts: &UsedParts, part: u8) -> Option<Place>
     requires { AreUsedParts song.now parts.now }
