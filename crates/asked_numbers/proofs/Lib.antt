@@ -1,0 +1,20 @@
+-- The door: the lemmas that upper crates may cite.
+pub mod Laws
+-- The transpose of a play.
+pub mod Transposes
+-- What a voice keeps, and the rules: each keeps it.
+pub mod Keeping
+pub mod Ticks
+pub mod Waves
+pub mod Rows
+-- What is looked up.
+pub mod Asked
+-- Steps of voices, frames and starts.
+pub mod Frames
+-- The numbers of small songs.
+pub mod Made
+pub mod Tunes
+pub mod WorkedNotes
+pub mod WorkedWaves
+pub mod WorkedNumbers
+pub mod WorkedVoices

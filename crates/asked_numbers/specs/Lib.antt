@@ -1,0 +1,10 @@
+-- To believe: which numbers of the frequency table a song asks for.
+pub mod Numbers
+-- To believe: what a voice keeps of notes and numbers.
+pub mod Voices
+-- Claimed: each voice of a playable song keeps this, and looks up no other numbers.
+pub mod NumberLaws
+-- Claimed: the numbers of small songs, worked out by hand.
+pub mod WorkedNumbers
+-- Claimed: what a voice of a small song keeps and looks up, worked out by hand.
+pub mod WorkedVoices
