@@ -1,0 +1,13 @@
+-- The door: the lemmas that upper crates may cite.
+pub mod Laws
+-- Sets of numbers: their bits, and how they are made.
+pub mod Bits
+pub mod MadeSets
+-- Notes: of patterns, of orderlists, and of the song.
+pub mod NotesOfPatterns
+pub mod OrderNotes
+-- Numbers: of the notes as they sound.
+pub mod SoundedNumbers
+-- Ranges, and those of small songs.
+pub mod Ranges
+pub mod WorkedRanges

@@ -1,0 +1,7 @@
+use Rattle.std.proofs.Common.{take, Any}
+use Rattle.number_range.specs.Sets.{IsSetOf}
+use Rattle.number_range.specs.Notes.{TransposesBy}
+use Rattle.number_range.proofs.orders.transposes.Given as goal
+
+abbrev pub invariant-loop-byte : goal.invariant-loop-byte
+invariant-loop-byte l = IsSetOf (λ n. Any (λ byte. TransposesBy byte n) (take l.byte-index l.entries)) l.set
