@@ -1,23 +1,23 @@
 -- Facts that are worked by hand.
 use Rattle.std.proofs.Common.{◌≡◌, ℕ, ◌↔◌, true, List, [], ◌∷◌, Contains}
-use Rattle.std.proofs.Common.{lit<, lit≤, inl, inr, refl, sym, ◌∙◌, ap, subst, arith}
+use Rattle.std.proofs.Common.{inl, inr, refl, sym, ◌∙◌, ap, subst, arith}
 use Rattle.song_model.specs.declared.rows.Row.{Row}
 use Rattle.song_model.specs.declared.orders.Order.{Order}
 use Rattle.song_model.specs.declared.orders.Subtune.{Subtune}
 use Rattle.song_model.specs.declared.instruments.Instrument.{Instrument}
-use Rattle.song_model.specs.declared.tables.TableRow.{TableRow}
 use Rattle.song_model.specs.declared.tables.TableName.TheVariants.{Wave}
 use Rattle.song_model.specs.declared.songs.Song.{Song}
 use Rattle.song_model.specs.LookUp.{playable_subtunes, instrument_at, table_row, pattern_at}
 use Rattle.song_model.specs.Silence.{empty_song}
-use Rattle.play_model.specs.Used.{IsPlayedOrder, IsPlayedByte, IsUsedPattern, IsUsedRow, IsUsedInstrument}
+use Rattle.play_model.specs.Used.{IsPlayedOrder, IsUsedRow, IsUsedInstrument}
 use Rattle.play_model.specs.Reached.{IsReached, IsPlayedPointer, of_instrument, of_row, played, pointed, led}
-use Rattle.play_model.specs.WorkedSongs.{row, sides, plucked, one_note, with_rows, with_instrument}
+use Rattle.play_model.specs.WorkedSongs.{row, plucked, one_note, with_rows}
 use Rattle.song_facts.specs.declared.facts.Fact.{Fact}
 use Rattle.song_facts.specs.declared.facts.Fact.TheVariants.{RowTone, RowSlide, RowOnce, FirstMask, Legato, NoHardRestart}
 use Rattle.song_facts.specs.declared.facts.Fact.TheVariants.{WaveDelay, GateNote, NoteVibrato, VibratoDelay, NotePulse, NoteFilter}
-use Rattle.song_facts.specs.Facts.{IsMask, is_among, no_facts, HasSuchRow, HasSuchInstrument, HasSuchWaveRow, HasFact}
-use Rattle.song_facts.specs.WorkedFacts.{RowsAreTold, InstrumentsAreTold, SongsAreTold, SetsAreTold, song_of, wave_of}
+use Rattle.song_facts.specs.declared.facts.Fact.TheVariants.{VoiceTempo, CommonTempo, FunkTurns, FunkChoice}
+use Rattle.song_facts.specs.Facts.{IsMask, is_among, no_facts, HasSuchRow, HasSuchInstrument, HasFact}
+use Rattle.song_facts.specs.WorkedFacts.{RowsAreTold, InstrumentsAreTold, SongsAreTold, SetsAreTold, wave_of}
 
 pub rows_are_told : RowsAreTold
 rows_are_told = record {
@@ -32,6 +32,19 @@ rows_are_told = record {
   key_off = inl refl;
   key_on = inr refl;
   rest = λ e. elim e [ inl off ↦ omega (arith, off) | inr on ↦ omega (arith, on) ];
+  voice_tempo = (refl, omega arith);
+  no_voice_tempo = λ e. (let high = e.1 in omega arith);
+  other_voice_tempo = λ e. (let is = e.0 in omega arith);
+  common_tempo = (refl, (omega arith, omega arith));
+  last_common_tempo = (refl, (omega arith, omega arith));
+  no_common_tempo = λ e. (let high = e.1.0 in omega arith);
+  beyond_common_tempo = λ e. (let low = e.1.1 in omega arith);
+  other_common_tempo = λ e. (let is = e.0 in omega arith);
+  turns = (refl, omega arith);
+  no_turns = λ e. (let low = e.1 in omega arith);
+  other_turns = λ e. (let is = e.0 in omega arith);
+  choice = refl;
+  no_choice = λ e. omega (arith, e);
   delay = omega arith;
   no_delay = λ e. omega (arith, e);
 }
@@ -161,6 +174,18 @@ songs_are_told = record {
   late = record { instrument = 1; used = inl refl; is_such = λ e. omega (arith, e) };
   pulse = record { instrument = 1; used = inl refl; is_such = λ e. omega (arith, e) };
   filter = record { instrument = 1; used = inl refl; is_such = λ e. omega (arith, e) };
+  voice_tempo = record {
+    row = row 0x90 1 0xF 0x86;
+    used = first_used (row 0x90 1 0xF 0x86);
+    is_such = (refl, omega arith);
+  };
+  common_tempo = record {
+    row = row 0x90 1 0xF 6;
+    used = first_used (row 0x90 1 0xF 6);
+    is_such = (refl, (omega arith, omega arith));
+  };
+  turns = record { row = row 0x90 1 0xF 0; used = first_used (row 0x90 1 0xF 0); is_such = (refl, omega arith) };
+  choice = record { row = row 0x90 1 0xE 0; used = first_used (row 0x90 1 0xE 0); is_such = refl };
   not_played = λ has. no_such_row _ refl _ has;
   not_named = λ has. plain (such_first _ refl IsMask has);
   not_reached = λ has. none_reached _ refl refl has.p has.reached;
@@ -186,6 +211,10 @@ fact_of_empty NoteVibrato has = absurd (such_first empty_song refl _ has refl)
 fact_of_empty VibratoDelay has = absurd (such_first empty_song refl _ has refl)
 fact_of_empty NotePulse has = absurd (such_first empty_song refl _ has refl)
 fact_of_empty NoteFilter has = absurd (such_first empty_song refl _ has refl)
+fact_of_empty VoiceTempo has = absurd (no_such_row empty_song refl _ has)
+fact_of_empty CommonTempo has = absurd (no_such_row empty_song refl _ has)
+fact_of_empty FunkTurns has = absurd (no_such_row empty_song refl _ has)
+fact_of_empty FunkChoice has = absurd (no_such_row empty_song refl _ has)
 
 other : (fact : Fact) → ¬ (fact ≡ FirstMask) → ¬ HasFact empty_song fact
 other fact not has = not (fact_of_empty fact has)
@@ -207,6 +236,10 @@ empty_has NoteVibrato = (λ on. absurd cc, λ has. absurd (other NoteVibrato (λ
 empty_has VibratoDelay = (λ on. absurd cc, λ has. absurd (other VibratoDelay (λ e. cc) has))
 empty_has NotePulse = (λ on. absurd cc, λ has. absurd (other NotePulse (λ e. cc) has))
 empty_has NoteFilter = (λ on. absurd cc, λ has. absurd (other NoteFilter (λ e. cc) has))
+empty_has VoiceTempo = (λ on. absurd cc, λ has. absurd (other VoiceTempo (λ e. cc) has))
+empty_has CommonTempo = (λ on. absurd cc, λ has. absurd (other CommonTempo (λ e. cc) has))
+empty_has FunkTurns = (λ on. absurd cc, λ has. absurd (other FunkTurns (λ e. cc) has))
+empty_has FunkChoice = (λ on. absurd cc, λ has. absurd (other FunkChoice (λ e. cc) has))
 
 pub sets_are_told : SetsAreTold
 sets_are_told = record {

@@ -13,6 +13,7 @@ use Rattle.song_facts.specs.declared.facts.Fact.{Fact}
 use Rattle.song_facts.specs.declared.facts.Facts.{Facts}
 use Rattle.song_facts.specs.declared.facts.Fact.TheVariants.{RowTone, RowSlide, RowOnce, FirstMask, Legato, NoHardRestart}
 use Rattle.song_facts.specs.declared.facts.Fact.TheVariants.{WaveDelay, GateNote, NoteVibrato, VibratoDelay, NotePulse, NoteFilter}
+use Rattle.song_facts.specs.declared.facts.Fact.TheVariants.{VoiceTempo, CommonTempo, FunkTurns, FunkChoice}
 
 -- the number of a fact
 abbrev pub number_of : Fact → ℕ
@@ -28,6 +29,10 @@ number_of NoteVibrato = 8
 number_of VibratoDelay = 9
 number_of NotePulse = 10
 number_of NoteFilter = 11
+number_of VoiceTempo = 12
+number_of CommonTempo = 13
+number_of FunkTurns = 14
+number_of FunkChoice = 15
 
 -- ---- rows of patterns
 
@@ -42,6 +47,21 @@ IsSlide row = (1 ≤ row.command) × (row.command ≤ 4)
 -- those from 5 on are done once
 abbrev pub IsOnce : Row → Type 0
 IsOnce row = 5 ≤ row.command
+
+-- command $F sets the tempo of its own voice from $80 on, and with 3 to $7F that of all voices; with 0 and 1 these take
+-- turns between two tempos
+abbrev pub IsVoiceTempo : Row → Type 0
+IsVoiceTempo row = (row.command ≡ 0xF) × (0x80 ≤ row.param)
+
+abbrev pub IsCommonTempo : Row → Type 0
+IsCommonTempo row = (row.command ≡ 0xF) × ((3 ≤ row.param) × (row.param < 0x80))
+
+abbrev pub IsFunkTurns : Row → Type 0
+IsFunkTurns row = (row.command ≡ 0xF) × (row.param < 2)
+
+-- command $E has all voices take turns between two tempos, which a row of the speed table gives
+abbrev pub IsFunkChoice : Row → Type 0
+IsFunkChoice row = row.command ≡ 0xE
 
 -- $BE is keyoff, $BF keyon
 abbrev pub IsGateNote : Row → Type 0
@@ -97,6 +117,10 @@ IsOfRow NoteVibrato = λ row. ⊥
 IsOfRow VibratoDelay = λ row. ⊥
 IsOfRow NotePulse = λ row. ⊥
 IsOfRow NoteFilter = λ row. ⊥
+IsOfRow VoiceTempo = IsVoiceTempo
+IsOfRow CommonTempo = IsCommonTempo
+IsOfRow FunkTurns = IsFunkTurns
+IsOfRow FunkChoice = IsFunkChoice
 
 -- an instrument
 abbrev pub IsOfInstrument : Fact → Instrument → Type 0
@@ -112,6 +136,10 @@ IsOfInstrument NoteVibrato = HasVibrato
 IsOfInstrument VibratoDelay = HasVibratoDelay
 IsOfInstrument NotePulse = HasPulse
 IsOfInstrument NoteFilter = HasFilter
+IsOfInstrument VoiceTempo = λ i. ⊥
+IsOfInstrument CommonTempo = λ i. ⊥
+IsOfInstrument FunkTurns = λ i. ⊥
+IsOfInstrument FunkChoice = λ i. ⊥
 
 -- a row of the wave table
 abbrev pub IsOfWaveRow : Fact → TableRow → Type 0
@@ -127,6 +155,10 @@ IsOfWaveRow NoteVibrato = λ row. ⊥
 IsOfWaveRow VibratoDelay = λ row. ⊥
 IsOfWaveRow NotePulse = λ row. ⊥
 IsOfWaveRow NoteFilter = λ row. ⊥
+IsOfWaveRow VoiceTempo = λ row. ⊥
+IsOfWaveRow CommonTempo = λ row. ⊥
+IsOfWaveRow FunkTurns = λ row. ⊥
+IsOfWaveRow FunkChoice = λ row. ⊥
 
 -- ---- songs
 
@@ -162,6 +194,10 @@ HasFact song NoteVibrato = HasSuchInstrument song HasVibrato
 HasFact song VibratoDelay = HasSuchInstrument song HasVibratoDelay
 HasFact song NotePulse = HasSuchInstrument song HasPulse
 HasFact song NoteFilter = HasSuchInstrument song HasFilter
+HasFact song VoiceTempo = HasSuchRow song IsVoiceTempo
+HasFact song CommonTempo = HasSuchRow song IsCommonTempo
+HasFact song FunkTurns = HasSuchRow song IsFunkTurns
+HasFact song FunkChoice = HasSuchRow song IsFunkChoice
 
 -- whether a fact is among these
 abbrev pub is_among : Facts → Fact → Bool
@@ -177,6 +213,10 @@ is_among facts NoteVibrato = facts.note_vibrato
 is_among facts VibratoDelay = facts.vibrato_delay
 is_among facts NotePulse = facts.note_pulse
 is_among facts NoteFilter = facts.note_filter
+is_among facts VoiceTempo = facts.voice_tempo
+is_among facts CommonTempo = facts.common_tempo
+is_among facts FunkTurns = facts.funk_turns
+is_among facts FunkChoice = facts.funk_choice
 
 -- these are the song's facts: those that it has, and no others
 pub record AreFacts (song : Song) (facts : Facts) : Type 0 where
@@ -201,6 +241,10 @@ no_facts = record {
   vibrato_delay = false;
   note_pulse = false;
   note_filter = false;
+  voice_tempo = false;
+  common_tempo = false;
+  funk_turns = false;
+  funk_choice = false;
 }
 
 -- of one that has all
@@ -218,4 +262,8 @@ all_facts = record {
   vibrato_delay = true;
   note_pulse = true;
   note_filter = true;
+  voice_tempo = true;
+  common_tempo = true;
+  funk_turns = true;
+  funk_choice = true;
 }

@@ -5,8 +5,10 @@ use Rattle.song_model.specs.Silence.{empty_song}
 use Rattle.play_model.specs.WorkedSongs.{row, sides, plucked, one_note, with_rows, with_instrument}
 use Rattle.song_facts.specs.declared.facts.Fact.TheVariants.{RowTone, RowSlide, RowOnce, FirstMask, Legato, NoHardRestart}
 use Rattle.song_facts.specs.declared.facts.Fact.TheVariants.{WaveDelay, GateNote, NoteVibrato, VibratoDelay, NotePulse, NoteFilter}
+use Rattle.song_facts.specs.declared.facts.Fact.TheVariants.{VoiceTempo, CommonTempo, FunkTurns, FunkChoice}
 use Rattle.song_facts.specs.Facts.{IsTone, IsSlide, IsOnce, IsGateNote, IsMask, IsLegato, KeepsEnvelope, IsDelay}
 use Rattle.song_facts.specs.Facts.{HasVibrato, HasVibratoDelay, HasPulse, HasFilter}
+use Rattle.song_facts.specs.Facts.{IsVoiceTempo, IsCommonTempo, IsFunkTurns, IsFunkChoice}
 use Rattle.song_facts.specs.Facts.{HasFact, AreFacts, AddsNoFact, no_facts}
 
 -- each kind of row at its edges
@@ -22,6 +24,19 @@ pub record RowsAreTold : Type 0 where
   pub key_off : IsGateNote (row 0xBE 0 0 0)
   pub key_on : IsGateNote (row 0xBF 0 0 0)
   pub rest : ¬ IsGateNote (row 0xBD 0 0 0)
+  pub voice_tempo : IsVoiceTempo (row 0x90 1 0xF 0x80)
+  pub no_voice_tempo : ¬ IsVoiceTempo (row 0x90 1 0xF 0x7F)
+  pub other_voice_tempo : ¬ IsVoiceTempo (row 0x90 1 0xE 0x80)
+  pub common_tempo : IsCommonTempo (row 0x90 1 0xF 3)
+  pub last_common_tempo : IsCommonTempo (row 0x90 1 0xF 0x7F)
+  pub no_common_tempo : ¬ IsCommonTempo (row 0x90 1 0xF 2)
+  pub beyond_common_tempo : ¬ IsCommonTempo (row 0x90 1 0xF 0x80)
+  pub other_common_tempo : ¬ IsCommonTempo (row 0x90 1 0xE 3)
+  pub turns : IsFunkTurns (row 0x90 1 0xF 1)
+  pub no_turns : ¬ IsFunkTurns (row 0x90 1 0xF 2)
+  pub other_turns : ¬ IsFunkTurns (row 0x90 1 0xE 1)
+  pub choice : IsFunkChoice (row 0x90 1 0xE 1)
+  pub no_choice : ¬ IsFunkChoice (row 0x90 1 0xF 1)
   pub delay : IsDelay (sides 0x0F 0)
   pub no_delay : ¬ IsDelay (sides 0x10 0)
 
@@ -49,6 +64,10 @@ pub record InstrumentsAreTold : Type 0 where
 abbrev pub song_of : ℕ → ℕ → Song
 song_of note command = with_rows (row note 1 command 0 ∷ []) one_note
 
+-- and with command $F and this parameter
+abbrev pub tempo_of : ℕ → Song
+tempo_of param = with_rows (row 0x90 1 0xF param ∷ []) one_note
+
 -- the song of one note with another first row of its wave table
 abbrev pub wave_of : ℕ → Song
 wave_of left = record one_note { wave = sides left 0 ∷ sides 0xFF 0 ∷ [] }
@@ -68,6 +87,10 @@ pub record SongsAreTold : Type 0 where
   pub late : HasFact (with_instrument (record plucked { vibrato_delay = 1 }) one_note) VibratoDelay
   pub pulse : HasFact (with_instrument (record plucked { pulse = 1 }) one_note) NotePulse
   pub filter : HasFact (with_instrument (record plucked { filter = 1 }) one_note) NoteFilter
+  pub voice_tempo : HasFact (tempo_of 0x86) VoiceTempo
+  pub common_tempo : HasFact (tempo_of 6) CommonTempo
+  pub turns : HasFact (tempo_of 0) FunkTurns
+  pub choice : HasFact (song_of 0x90 0xE) FunkChoice
   pub not_played : ¬ HasFact (record empty_song { patterns = (row 0xBE 0 3 0 ∷ []) ∷ [] }) GateNote
   pub not_named : ¬ HasFact (record empty_song { instruments = plucked ∷ record plucked { first_wave = 0 } ∷ [] }) FirstMask
   pub not_reached : ¬ HasFact (record empty_song { wave = sides 0x0F 0 ∷ [] }) WaveDelay

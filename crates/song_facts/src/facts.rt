@@ -32,12 +32,20 @@ pub enum Fact {
     NotePulse,
     /// An instrument has a filter program, which each of its notes begins.
     NoteFilter,
+    /// A row has command `$F` with `$80` up, which sets the tempo of its voice; `$80` to `$82` set none.
+    VoiceTempo,
+    /// A row has command `$F` with 3 to `$7F`, which sets the tempo of all voices.
+    CommonTempo,
+    /// A row has command `$F` with 0 or 1, from which all voices take turns between two tempos.
+    FunkTurns,
+    /// A row has command `$E`, from which they do so, too, with two tempos of the speed table.
+    FunkChoice,
 }
 
 impl Fact {
     ghost use Rattle.song_facts.specs.Facts.{number_of, IsOfRow, IsOfInstrument, IsOfWaveRow};
 
-    /// The fact's number, 0 to 11.
+    /// The fact's number, 0 to 15.
     pub fn number(self) -> u8
         ensures { result ≡ number_of self }
     {
@@ -53,6 +61,10 @@ impl Fact {
             Fact::RowSlide => 1 <= row.command && row.command <= 4,
             Fact::RowOnce => row.command >= 5,
             Fact::GateNote => row.note == 0xbe || row.note == 0xbf,
+            Fact::VoiceTempo => row.command == 0xf && row.param >= 0x80,
+            Fact::CommonTempo => row.command == 0xf && row.param >= 3 && row.param < 0x80,
+            Fact::FunkTurns => row.command == 0xf && row.param < 2,
+            Fact::FunkChoice => row.command == 0xe,
             _ => false,
         }
     }
@@ -109,6 +121,14 @@ pub struct Facts {
     pub note_pulse: bool,
     /// [`Fact::NoteFilter`].
     pub note_filter: bool,
+    /// [`Fact::VoiceTempo`].
+    pub voice_tempo: bool,
+    /// [`Fact::CommonTempo`].
+    pub common_tempo: bool,
+    /// [`Fact::FunkTurns`].
+    pub funk_turns: bool,
+    /// [`Fact::FunkChoice`].
+    pub funk_choice: bool,
 }
 
 impl Facts {
@@ -131,6 +151,10 @@ impl Facts {
             Fact::VibratoDelay => self.vibrato_delay,
             Fact::NotePulse => self.note_pulse,
             Fact::NoteFilter => self.note_filter,
+            Fact::VoiceTempo => self.voice_tempo,
+            Fact::CommonTempo => self.common_tempo,
+            Fact::FunkTurns => self.funk_turns,
+            Fact::FunkChoice => self.funk_choice,
         }
     }
 }
