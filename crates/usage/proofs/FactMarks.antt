@@ -5,12 +5,13 @@ use Rattle.song_model.specs.declared.rows.Row.{Row}
 use Rattle.song_model.specs.declared.songs.Song.{Song}
 use Rattle.play_model.specs.Used.{IsUsedRow}
 use Rattle.play_model.specs.Features.{HasRow, IsAny}
-use Rattle.song_facts.specs.Facts.{IsTone, IsSlide, IsOnce, IsGateNote, HasSuchRow}
+use Rattle.song_facts.specs.Facts.{IsTone, IsSlide, IsOnce, IsGateNote, IsFunkChoice, HasSuchRow}
 use Rattle.usage.specs.Marks.{AreMarks}
-use Rattle.usage.specs.Building.{AreMarksAt}
+use Rattle.usage.specs.Building.{AreMarksAt, marks_of}
 use Rattle.usage.specs.Rows.{IsUsedCommand, IsUsedNote}
 use Rattle.usage.specs.FeatureParts.{HasMark}
 use Rattle.usage.proofs.AddedMarks.{command_inside}
+use Rattle.usage.proofs.FeatureMarks.{IsRange, row_marks}
 
 -- ---- commands of rows
 
@@ -54,6 +55,36 @@ pub once_rows : (song : Song) (commands : List (List Bool)) → AreMarksAt (IsUs
     length commands ≡ 16 → HasSuchRow song (IsBetween 5 16) ↔ HasSuchRow song IsOnce
 once_rows song commands m count =
     such_rows song (λ row used b. b.0) (λ row used low. (low, command_small song commands row m count used))
+
+-- ---- commands with parameters
+
+-- rows have the command with such a parameter where one in the range is marked
+pub such_marks : (song : Song) (commands : List (List Bool)) (c from to : ℕ) (IsMeant : ℕ → Type 0) →
+    AreMarksAt (IsUsedCommand song) commands → IsRange from to IsMeant →
+    HasMark (marks_of commands c) from to ↔ HasSuchRow song (λ row. (row.command ≡ c) × IsMeant row.param)
+such_marks song commands c from to IsMeant m range = (
+  λ (h : HasMark (marks_of commands c) from to).
+      (let r = (row_marks song commands c from to IsMeant m range).0 h in
+      record { row = r.row; used = r.used; is_such = (r.command_is, r.is_meant) }),
+  λ (h : HasSuchRow song (λ row. (row.command ≡ c) × IsMeant row.param)).
+      (row_marks song commands c from to IsMeant m range).1
+      (record { row = h.row; used = h.used; command_is = h.is_such.0; is_meant = h.is_such.1 }),
+)
+
+pub voice_range : IsRange 0x80 256 (λ d. 0x80 ≤ d)
+voice_range = record { meant = λ d low high. low; inside = λ d byte e. (e, byte) }
+
+pub common_range : IsRange 3 0x80 (λ d. (3 ≤ d) × (d < 0x80))
+common_range = record { meant = λ d low high. (low, high); inside = λ d byte e. e }
+
+pub turns_range : IsRange 0 2 (λ d. d < 2)
+turns_range = record { meant = λ d low high. high; inside = λ d byte e. (omega arith, e) }
+
+pub choice_rows : (song : Song) → HasRow song 0xE IsAny ↔ HasSuchRow song IsFunkChoice
+choice_rows song = (
+  λ (h : HasRow song 0xE IsAny). record { row = h.row; used = h.used; is_such = h.command_is },
+  λ (h : HasSuchRow song IsFunkChoice). record { row = h.row; used = h.used; command_is = h.is_such; is_meant = tt },
+)
 
 -- ---- notes of rows
 

@@ -16,6 +16,7 @@ use Rattle.song_facts.specs.declared.facts.Fact.{Fact}
 use Rattle.song_facts.specs.declared.facts.Facts.{Facts}
 use Rattle.song_facts.specs.declared.facts.Fact.TheVariants.{RowTone, RowSlide, RowOnce, FirstMask, Legato, NoHardRestart}
 use Rattle.song_facts.specs.declared.facts.Fact.TheVariants.{WaveDelay, GateNote, NoteVibrato, VibratoDelay, NotePulse, NoteFilter}
+use Rattle.song_facts.specs.declared.facts.Fact.TheVariants.{VoiceTempo, CommonTempo, FunkTurns, FunkChoice}
 use Rattle.song_facts.specs.Facts.{is_among, AreFacts}
 use Rattle.usage.specs.declared.features.TheConstants.{FEATURES}
 use Rattle.usage.specs.Marks.{IsMarked, count_of, AreMarks}
@@ -114,6 +115,10 @@ facts_with has = record {
   vibrato_delay = has VibratoDelay;
   note_pulse = has NotePulse;
   note_filter = has NoteFilter;
+  voice_tempo = has VoiceTempo;
+  common_tempo = has CommonTempo;
+  funk_turns = has FunkTurns;
+  funk_choice = has FunkChoice;
 }
 
 -- each is had in both or in neither
@@ -140,6 +145,10 @@ facts_of has f same =
       same VibratoDelay,
       same NotePulse,
       same NoteFilter,
+      same VoiceTempo,
+      same CommonTempo,
+      same FunkTurns,
+      same FunkChoice,
     ) refl
 
 pub one_facts : (song : Song) (a b : Facts) → AreFacts song a → AreFacts song b → a ≡ b

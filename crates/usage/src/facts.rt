@@ -5,6 +5,7 @@ ghost use Rattle.song_model.specs.declared.tables.TableName.TheVariants.{Wave};
 ghost use Rattle.play_model.specs.Used.{IsUsedInstrument};
 ghost use Rattle.play_model.specs.Reached.{IsReached};
 ghost use Rattle.song_facts.specs.Facts.{IsTone, IsSlide, IsOnce, IsGateNote, IsDelay, IsOfInstrument};
+ghost use Rattle.song_facts.specs.Facts.{IsVoiceTempo, IsCommonTempo, IsFunkTurns, IsFunkChoice};
 ghost use Rattle.song_facts.specs.Facts.{HasSuchRow, HasSuchInstrument, HasSuchWaveRow, AreFacts};
 ghost use Rattle.usage.specs.Marks.{AreMarks};
 ghost use Rattle.usage.specs.Found.{IsFoundOf};
@@ -96,6 +97,44 @@ impl Found {
         has_mark(&self.rows.notes, 0xbe, 0xc0)
     }
 
+    /// Whether a row of a used pattern sets the tempo of its voice: command `$F` with `$80` up.
+    fn has_voice_tempo(&self, song: &Song) -> bool
+        requires { IsFoundOf song.now self.now }
+        ensures { IsTrue result ↔ HasSuchRow song.now IsVoiceTempo }
+    {
+        // Named in the contract alone.
+        let _song = song;
+        has_mark(&self.rows.commands[0xf], 0x80, 0x100)
+    }
+
+    /// Whether a row of a used pattern sets the tempo of all voices: command `$F` with 3 to `$7F`.
+    fn has_common_tempo(&self, song: &Song) -> bool
+        requires { IsFoundOf song.now self.now }
+        ensures { IsTrue result ↔ HasSuchRow song.now IsCommonTempo }
+    {
+        // Named in the contract alone.
+        let _song = song;
+        has_mark(&self.rows.commands[0xf], 3, 0x80)
+    }
+
+    /// Whether a row of a used pattern has the voices take turns between two tempos: command `$F` with 0 or 1.
+    fn has_funk_turns(&self, song: &Song) -> bool
+        requires { IsFoundOf song.now self.now }
+        ensures { IsTrue result ↔ HasSuchRow song.now IsFunkTurns }
+    {
+        // Named in the contract alone.
+        let _song = song;
+        has_mark(&self.rows.commands[0xf], 0, 2)
+    }
+
+    /// Whether a row of a used pattern chooses these two tempos: command `$E`.
+    fn has_funk_choice(&self, song: &Song) -> bool
+        requires { IsFoundOf song.now self.now }
+        ensures { IsTrue result ↔ HasSuchRow song.now IsFunkChoice }
+    {
+        self.has_row(song, 0xe)
+    }
+
     /// The facts that the song has; `wave` has a mark for each row of the wave table that programs come to.
     pub(crate) fn facts(&self, song: &Song, wave: &ByteMarks) -> Facts
         requires found { IsFoundOf song.now self.now }
@@ -116,6 +155,10 @@ impl Found {
             vibrato_delay: has_instrument(song, used, Fact::VibratoDelay),
             note_pulse: has_instrument(song, used, Fact::NotePulse),
             note_filter: has_instrument(song, used, Fact::NoteFilter),
+            voice_tempo: self.has_voice_tempo(song),
+            common_tempo: self.has_common_tempo(song),
+            funk_turns: self.has_funk_turns(song),
+            funk_choice: self.has_funk_choice(song),
         }
     }
 }

@@ -1,0 +1,7 @@
+use Rattle.usage.proofs.FeatureMarks.{iff_then}
+use Rattle.usage.proofs.FactMarks.{such_marks, voice_range}
+use Rattle.usage.proofs.found.Found.has_voice_tempo.Goals as goal
+
+pub returns : goal.returns
+returns c = iff_then c.has_mark.ensures (such_marks c.args.song.now c.args.self.now.rows.commands 15 _ _ _
+    c.requires.rows.commands voice_range)
