@@ -1,13 +1,11 @@
 -- The lemmas that upper crates may cite.
 
--- a voice that is safe and keeps the song's notes looks up numbers that the song asks for alone
-pub use Rattle.asked_numbers.proofs.Asked.{voices_look_up_asked_lem}
--- each rule and each step of a frame keeps the song's notes, and each state of a playable song does
-pub use Rattle.asked_numbers.proofs.Frames.{notes_within_lem, plays_its_notes_lem, states_keep_notes_lem}
--- what each step of a voice begins with does
-pub use Rattle.asked_numbers.proofs.Frames.{playing_keeps, before_keeps}
--- each play's transpose is one of its orderlist's
-pub use Rattle.asked_numbers.proofs.Transposes.{play_transpose}
--- the numbers of small songs, and no others
-pub use Rattle.asked_numbers.proofs.WorkedNumbers.{numbers_are_worked}
-pub use Rattle.asked_numbers.proofs.WorkedWaves.{wave_row}
+-- no song asks for a number above 128
+pub use Rattle.asked_numbers.proofs.Ranges.{asked_small}
+-- a range by its ends; a song has one, and it lies in the table
+pub use Rattle.asked_numbers.proofs.Ranges.{AreEnds, range_is, songs_have_one_range, ranges_lie_in_the_table}
+-- without half tones a song asks for the numbers that sound
+pub use Rattle.asked_numbers.proofs.Made.{sounds_alone}
+-- the numbers of small songs, and no others; the note and the number of the song of one note
+pub use Rattle.asked_numbers.proofs.WorkedNumbers.{speed_depends, numbers_are_worked}
+pub use Rattle.asked_numbers.proofs.WorkedWaves.{its_note_sounds, its_note_alone, its_number_sounds, its_number_alone}

@@ -1,20 +1,11 @@
 -- The door: the lemmas that upper crates may cite.
 pub mod Laws
--- The transpose of a play.
-pub mod Transposes
--- What a voice keeps, and the rules: each keeps it.
-pub mod Keeping
-pub mod Ticks
-pub mod Waves
-pub mod Rows
--- What is looked up.
-pub mod Asked
--- Steps of voices, frames and starts.
-pub mod Frames
--- The numbers of small songs.
+-- Ranges, and that a song has one.
+pub mod Ranges
+-- The numbers of small songs, and their ranges.
 pub mod Made
 pub mod Tunes
 pub mod WorkedNotes
 pub mod WorkedWaves
 pub mod WorkedNumbers
-pub mod WorkedVoices
+pub mod WorkedRanges

@@ -1,5 +1,5 @@
 -- The numbers that small songs ask for, worked out by hand.
-use Rattle.std.proofs.Common.{◌≡◌, ℕ, ◌⊎◌, List, [], ◌∷◌, All, Contains, inl, inr, refl, sym, arith}
+use Rattle.std.proofs.Common.{◌≡◌, ℕ, ◌+◌, ◌⊎◌, List, [], ◌∷◌, All, Contains, inl, inr, refl, sym, arith}
 use Rattle.std.proofs.lemmas.List.Elements.{All-nil, All-cons}
 use Rattle.song_model.specs.declared.rows.Row.{Row}
 use Rattle.song_model.specs.declared.instruments.Instrument.{Instrument}
@@ -14,13 +14,14 @@ use Rattle.asked_numbers.specs.Numbers.{IsPlayedNote, IsSoundingNote, of_pattern
 use Rattle.asked_numbers.specs.Numbers.{IsSoundedNumber, IsAskedNumber, sounded, half_tone_from, half_tone_to}
 use Rattle.asked_numbers.specs.WorkedNumbers.{AsksFor, with_command, with_speed, StartsAreWorked, HalfTonesAreWorked}
 use Rattle.asked_numbers.specs.WorkedNumbers.{NumbersAreWorked}
+use Rattle.asked_numbers.specs.WorkedRange.{highest_tones}
 use Rattle.asked_numbers.proofs.Made.{IsPlainSpeed, no_note_speed, sounds_alone, IsTame, Heard, by_row, by_slide}
 use Rattle.asked_numbers.proofs.Made.{starts_is, heard}
 use Rattle.asked_numbers.proofs.Tunes.{tame, two_tame, NoNote, rest_has, NoShift, plays_one, quiet, first_is_played}
 use Rattle.asked_numbers.proofs.Tunes.{rests_one, tunes}
 use Rattle.asked_numbers.proofs.WorkedNotes.{exactly, its_short, its_sets, asks_nothing, notes}
 use Rattle.asked_numbers.proofs.WorkedWaves.{plays_no_other, SetsOne, sounds_number, sounds_no_other, asks_number}
-use Rattle.asked_numbers.proofs.WorkedWaves.{goes_on, wave_rows}
+use Rattle.asked_numbers.proofs.WorkedWaves.{with_programs, goes_on, wave_rows}
 
 -- ---- commands before a note
 
@@ -146,8 +147,8 @@ starts_are_worked = record {
 abbrev swung : Instrument
 swung = record plucked { vibrato = 1; vibrato_delay = 1 }
 
-swung_sets : (speed : List TableRow) → SetsOne swung 0x41 0 0 speed 48
-swung_sets speed = record {
+plain_sets : (speed : List TableRow) → SetsOne swung 0x41 0 0 speed 48
+plain_sets speed = record {
   begins = refl;
   short = record { begins = omega arith; goes = refl; near = omega arith };
   plain = refl;
@@ -156,48 +157,72 @@ swung_sets speed = record {
   is = refl;
 }
 
-pub speed_depends : HasNoteSpeed (with_speed 0x80)
+highest_sets : SetsOne swung 0x41 0xFF 0 (sides 0x80 0 ∷ []) 127
+highest_sets = record {
+  begins = refl;
+  short = record { begins = omega arith; goes = refl; near = omega arith };
+  plain = refl;
+  sets = λ e. omega (arith, e);
+  slides_not = λ e. omega (arith, e);
+  is = refl;
+}
+
+-- songs whose vibrato is of half tones, with this right side in the wave table
+abbrev swung_song : ℕ → Song
+swung_song right = with_programs swung 0x41 right 0 (sides 0x80 0 ∷ [])
+
+swung_depends : (right : ℕ) → HasNoteSpeed (swung_song right)
 unfolding instrument_at table_row
-speed_depends = record {
+swung_depends right = record {
   p = 1;
   pointer = of_played (of_instrument 1 (inl refl) refl (λ e. omega (arith, e)));
   from_note = omega arith;
 }
 
-from_note : AsksFor (with_speed 0x80) (0 ∷ 1 ∷ 48 ∷ 49 ∷ [])
-from_note =
-    exactly song (0 ∷ 1 ∷ 48 ∷ 49 ∷ [])
-    (All-cons (IsAskedNumber song) 0 (1 ∷ 48 ∷ 49 ∷ []) (half_tone_from speed_depends (inl refl))
-    (All-cons (IsAskedNumber song) 1 (48 ∷ 49 ∷ []) (half_tone_to 0 speed_depends (inl refl) refl)
-    (All-cons (IsAskedNumber song) 48 (49 ∷ []) (sounded its_number)
-    (All-cons (IsAskedNumber song) 49 [] (half_tone_to 48 speed_depends (inr its_number) refl)
+pub speed_depends : HasNoteSpeed (with_speed 0x80)
+speed_depends = swung_depends 0
+
+half_tones_of : (right number : ℕ) → SetsOne swung 0x41 right 0 (sides 0x80 0 ∷ []) number →
+    AsksFor (swung_song right) (0 ∷ 1 ∷ number ∷ (number + 1) ∷ [])
+half_tones_of right number sets =
+    exactly song (0 ∷ 1 ∷ number ∷ (number + 1) ∷ [])
+    (All-cons (IsAskedNumber song) 0 (1 ∷ number ∷ (number + 1) ∷ []) (half_tone_from depends (inl refl))
+    (All-cons (IsAskedNumber song) 1 (number ∷ (number + 1) ∷ []) (half_tone_to 0 depends (inl refl) refl)
+    (All-cons (IsAskedNumber song) number ((number + 1) ∷ []) (sounded its_number)
+    (All-cons (IsAskedNumber song) (number + 1) [] (half_tone_to number depends (inr its_number) refl)
     (All-nil (IsAskedNumber song))))))
     only
   where
     song : Song
-    song = with_speed 0x80
+    song = swung_song right
 
     speed : List TableRow
     speed = sides 0x80 0 ∷ []
 
-    its_number : IsSoundedNumber song 48
-    its_number = sounds_number swung 0x41 0 0 speed 48 (swung_sets speed)
+    depends : HasNoteSpeed song
+    depends = swung_depends right
 
-    its_alone : (n : ℕ) → IsSoundedNumber song n → n ≡ 48
-    its_alone = sounds_no_other swung 0x41 0 0 speed 48 (swung_sets speed)
+    its_number : IsSoundedNumber song number
+    its_number = sounds_number swung 0x41 right 0 speed number sets
 
-    only : (n : ℕ) → IsAskedNumber song n → Contains (0 ∷ 1 ∷ 48 ∷ 49 ∷ []) n
+    its_alone : (n : ℕ) → IsSoundedNumber song n → n ≡ number
+    its_alone = sounds_no_other swung 0x41 right 0 speed number sets
+
+    only : (n : ℕ) → IsAskedNumber song n → Contains (0 ∷ 1 ∷ number ∷ (number + 1) ∷ []) n
     only n (sounded h) = (2, omega arith, sym (its_alone n h))
     only n (half_tone_from on (inl none)) = (0, omega arith, sym none)
     only n (half_tone_from on (inr h)) = (2, omega arith, sym (its_alone n h))
     only n (half_tone_to last on (inl none) is) = rw (is, none) (1, omega arith, refl)
     only n (half_tone_to last on (inr h) is) = rw (is, its_alone last h) (3, omega arith, refl)
 
+pub highest_from_note : AsksFor highest_tones (0 ∷ 1 ∷ 127 ∷ 128 ∷ [])
+highest_from_note = half_tones_of 0xFF 127 highest_sets
+
 half_tones : HalfTonesAreWorked
 half_tones = record {
-  from_note = from_note;
+  from_note = half_tones_of 0 48 (plain_sets (sides 0x80 0 ∷ []));
   plain =
-      asks_number swung 0x41 0 0 (sides 0x7F 0 ∷ []) 48 (swung_sets (sides 0x7F 0 ∷ []))
+      asks_number swung 0x41 0 0 (sides 0x7F 0 ∷ []) 48 (plain_sets (sides 0x7F 0 ∷ []))
       (All-cons IsPlainSpeed (sides 0x7F 0) [] (omega arith) (All-nil IsPlainSpeed));
 }
 

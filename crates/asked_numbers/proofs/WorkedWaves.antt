@@ -19,7 +19,7 @@ use Rattle.asked_numbers.specs.WorkedNumbers.{AsksFor, with_wave, WaveRowsAreWor
 use Rattle.asked_numbers.proofs.Made.{IsPlainSpeed, no_note_speed, sounds_alone, made, IsShort, Heard, by_row, by_slide}
 use Rattle.asked_numbers.proofs.Made.{only_first, used_tame, starts_is, heard}
 use Rattle.asked_numbers.proofs.Tunes.{keyed_has, rest_has, plays_one, its_note, rests_one, tunes, note_alone, one_tame}
-use Rattle.asked_numbers.proofs.WorkedNotes.{exactly, its_sets}
+use Rattle.asked_numbers.proofs.WorkedNotes.{exactly, its_short, its_sets}
 
 -- the song of one note with this instrument, this first row of its wave table and this speed
 abbrev pub with_programs : Instrument → ℕ → ℕ → ℕ → List TableRow → Song
@@ -101,6 +101,33 @@ module _ (instrument : Instrument) (left right to : ℕ) (speed : List TableRow)
       by n (inr kept) (by_row note is plain sets e) = sets kept
       by n keeps (by_slide note is (inl slides) e) = absurd (omega (arith, slides))
       by n keeps (by_slide note is (inr slides) e) = slides_not slides
+
+-- ---- the song of one note
+
+one_sets : SetsOne plucked 0x41 0 0 [] 48
+one_sets = record {
+  begins = refl;
+  short = its_short;
+  plain = refl;
+  sets = λ e. omega (arith, e);
+  slides_not = λ e. omega (arith, e);
+  is = refl;
+}
+
+-- its note sounds alone, and so does its number
+pub its_note_sounds : IsSoundingNote one_note 48
+its_note_sounds = plays_one_note plucked 0x41 0 0 []
+
+pub its_note_alone : (note : ℕ) → IsSoundingNote one_note note → note ≡ 48
+its_note_alone note h = plays_no_other plucked 0x41 0 0 [] its_short note h
+
+pub its_number_sounds : IsSoundedNumber one_note 48
+its_number_sounds = sounds_number plucked 0x41 0 0 [] 48 one_sets
+
+pub its_number_alone : (n : ℕ) → IsSoundedNumber one_note n → n ≡ 48
+its_number_alone n h = sounds_no_other plucked 0x41 0 0 [] 48 one_sets n h
+
+-- ---- rows
 
 -- the first row goes on to the jump
 pub goes_on : (left right to : ℕ) → is_jump Wave (sides left right) ≡ false → to ≤ 1 → IsShort plucked left right to

@@ -1,10 +1,10 @@
 -- To believe: which numbers of the frequency table a song asks for.
 pub mod Numbers
--- To believe: what a voice keeps of notes and numbers.
-pub mod Voices
--- Claimed: each voice of a playable song keeps this, and looks up no other numbers.
-pub mod NumberLaws
+-- To believe: the range of them, and that a song asks for no others than another one.
+pub mod Range
+-- Claimed: a song has one range, and no number above 128 is in it.
+pub mod RangeLaws
 -- Claimed: the numbers of small songs, worked out by hand.
 pub mod WorkedNumbers
--- Claimed: what a voice of a small song keeps and looks up, worked out by hand.
-pub mod WorkedVoices
+-- Claimed: their ranges, worked out by hand.
+pub mod WorkedRange

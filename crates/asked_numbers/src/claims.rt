@@ -1,30 +1,8 @@
 //! Facts about the definitions, each the contract of a function that does nothing.
 
-ghost use Rattle.asked_numbers.specs.NumberLaws.{VoicesLookUpAsked, NotesWithin, PlayableSongsPlayTheirNotes};
-ghost use Rattle.asked_numbers.specs.NumberLaws.{StatesKeepNotes};
+ghost use Rattle.asked_numbers.specs.RangeLaws.{SongsHaveOneRange, RangesLieInTheTable};
 ghost use Rattle.asked_numbers.specs.WorkedNumbers.{NumbersAreWorked};
-ghost use Rattle.asked_numbers.specs.WorkedVoices.{VoicesAreWorked};
-
-/// What a voice that is safe and keeps the song's notes looks up within its step is a number that the song asks for.
-#[tactic(auto, using(crate::proofs::Asked::voices_look_up_asked_lem))]
-pub fn voices_look_up_asked()
-    ensures { VoicesLookUpAsked }
-{}
-
-/// Each rule of a frame keeps the song's notes, and so does each step of a frame.
-pub fn notes_within()
-    ensures { NotesWithin }
-{}
-
-/// Each start of a playable song keeps its notes, and each frame does.
-pub fn playable_songs_play_their_notes()
-    ensures { PlayableSongsPlayTheirNotes }
-{}
-
-/// The state after any number of frames keeps the song's notes.
-pub fn states_keep_notes()
-    ensures { StatesKeepNotes }
-{}
+ghost use Rattle.asked_numbers.specs.WorkedRange.{RangesAreWorked, RangesAreDenied, AddedNumbersAreWorked};
 
 /// The numbers that small songs ask for, and no others: of notes with and without transposes, of rows of the wave table,
 /// of commands before a note, and of half tones.
@@ -33,9 +11,27 @@ pub fn worked_numbers()
     ensures { NumbersAreWorked }
 {}
 
-/// Voices and states of small songs that keep their notes, and what they look up; and others beside them, each of which
-/// doesn't for one thing alone.
-#[tactic(auto, using(crate::proofs::WorkedVoices::voices_are_worked))]
-pub fn worked_voices()
-    ensures { VoicesAreWorked }
+/// Two ranges of one song are the same.
+#[tactic(auto, using(crate::proofs::Ranges::songs_have_one_range))]
+pub fn one_range()
+    ensures { SongsHaveOneRange }
+{}
+
+/// No song's range has a number above 128.
+#[tactic(auto, using(crate::proofs::Ranges::ranges_lie_in_the_table))]
+pub fn ranges_lie_in_the_table()
+    ensures { RangesLieInTheTable }
+{}
+
+/// The ranges of small songs, and others that aren't theirs.
+#[tactic(auto, using(crate::proofs::WorkedRanges::ranges_are_worked, crate::proofs::WorkedRanges::ranges_are_denied))]
+pub fn worked_ranges()
+    ensures worked { RangesAreWorked }
+    ensures denied { RangesAreDenied }
+{}
+
+/// Songs that ask for no number that another song doesn't ask for, and songs that do.
+#[tactic(auto, using(crate::proofs::WorkedRanges::added_numbers_are_worked))]
+pub fn worked_additions()
+    ensures { AddedNumbersAreWorked }
 {}

@@ -1,5 +1,3 @@
--- The door: the lemmas that upper crates may cite.
-pub mod Laws
 -- Sets of numbers: their bits, and how they are made.
 pub mod Bits
 pub mod MadeSets
@@ -8,6 +6,5 @@ pub mod NotesOfPatterns
 pub mod OrderNotes
 -- Numbers: of the notes as they sound.
 pub mod SoundedNumbers
--- Ranges, and those of small songs.
-pub mod Ranges
-pub mod WorkedRanges
+-- The least and the greatest of them.
+pub mod Ends

@@ -1,38 +1,29 @@
 //! The range of the frequency table that a song asks for.
 
-ghost use Rattle.std.specs.Prelude.{◌≤◌};
+ghost use Rattle.std.specs.Prelude.{◌≡◌, ◌+◌, ◌≤◌};
 ghost use Rattle.song_model.specs.declared.features.Feature.TheVariants.{NoteDependent};
 ghost use Rattle.play_model.specs.Features.{HasFeature};
 ghost use Rattle.asked_numbers.specs.Numbers.{IsSoundedNumber};
+ghost use Rattle.asked_numbers.specs.Range.{IsNumberRange};
 ghost use Rattle.usage.specs.Parts.{AreUsedParts};
-ghost use Rattle.number_range.specs.Range.{IsNumberRange};
 ghost use Rattle.number_range.specs.Sets.{IsSetOf};
-ghost use Rattle.number_range.specs.Ends.{IsBetween};
 
 use crate::numbers::{has_feature, sounded_numbers};
 use crate::sets::NumberSet;
+use asked_numbers::NumberRange;
 use song_model::{Feature, Song};
 use usage::UsedParts;
 
-/// Numbers of the frequency table that follow each other: 0 to 95 have a frequency, and 96 and 97 stand for none.
-#[derive(Clone, Copy, Debug, PartialEq, Eq)]
-pub struct NumberRange {
-    /// The first of them, 0 to 96; 0 where there is none.
-    pub first: u8,
-    /// How many there are, 0 to 98.
-    pub count: u8,
-}
-
-/// The range from one number to another, with those above 95 that each may be looked up at.
+/// The range from one number to another.
 fn range_between(least: u8, greatest: u8) -> NumberRange
     requires order { least ≤ greatest }
     requires small { greatest ≤ 128 }
-    ensures { IsBetween least greatest result }
+    ensures first { result.first ≡ least }
+    ensures end { result.first + result.count ≡ greatest + 1 }
 {
-    let first = least.min(96);
     NumberRange {
-        first,
-        count: greatest.min(97) + 1 - first,
+        first: least,
+        count: greatest + 1 - least,
     }
 }
 

@@ -1,6 +1,7 @@
 use Rattle.std.proofs.Common.{◌+◌, inl, refl}
 use Rattle.number_range.proofs.MadeSets.{set_both}
-use Rattle.number_range.proofs.Ranges.{range_is, half_tone_ends}
+use Rattle.asked_numbers.proofs.Laws.{range_is}
+use Rattle.number_range.proofs.Ends.{half_tone_ends}
 use Rattle.number_range.proofs.range.half_tone_range.Goals as goal
 
 pub greatest-last-requires : goal.greatest-last-requires
@@ -12,4 +13,4 @@ returns c =
     (half_tone_ends c.args.song.now c.greatest-last.result c.requires.depends
     (set_both c.only.ensures c.requires.numbers c.union.ensures) c.greatest-last.ensures.has
     c.greatest-last.ensures.greatest)
-    c.range_between.ensures
+    c.range_between.ensures.first c.range_between.ensures.end

@@ -11,7 +11,7 @@ use Rattle.play_model.specs.Helpers.{porta_up, porta_down, at_target, towards, t
 use Rattle.play_model.specs.Features.{HasRow, IsAny}
 use Rattle.play_model.specs.Safe.{IsSafeWaiting, none, of_row}
 use Rattle.asked_numbers.specs.Numbers.{IsPlayedNote, IsSoundingNote, SlidesToNote, of_slide, IsLastNumber}
-use Rattle.asked_numbers.specs.Voices.{IsKeptNote, sounding, silent, KeepsNotes}
+use Rattle.kept_notes.specs.Voices.{IsKeptNote, sounding, silent, KeepsNotes}
 
 -- ---- the note
 

@@ -20,12 +20,12 @@ use Rattle.play_model.specs.Uses.{before_voice}
 use Rattle.play_model.specs.Safe.{IsSafeVoice, IsSafe}
 use Rattle.safe_states.specs.SafeLaws.{IsSafePlaying, VoiceRulesKeepSafe, StepsKeepSafe, KeepsSafeWithin}
 use Rattle.safe_states.proofs.Laws.{CanBePlayed, playing_safe, safe_within_lem, states_are_safe_lem, is_played}
-use Rattle.asked_numbers.specs.Voices.{silent, KeepsNotes, KeepAllNotes}
-use Rattle.asked_numbers.specs.NumberLaws.{VoiceRulesKeepNotes, NotesWithin, PlayableSongsPlayTheirNotes}
-use Rattle.asked_numbers.specs.NumberLaws.{StatesKeepNotes}
-use Rattle.asked_numbers.proofs.Ticks.{tick_keeps}
-use Rattle.asked_numbers.proofs.Waves.{wave_keeps, effect_keeps}
-use Rattle.asked_numbers.proofs.Rows.{pulse_keeps, fetch_keeps}
+use Rattle.kept_notes.specs.Voices.{silent, KeepsNotes, KeepAllNotes}
+use Rattle.kept_notes.specs.NoteLaws.{VoiceRulesKeepNotes, NotesWithin, PlayableSongsPlayTheirNotes}
+use Rattle.kept_notes.specs.NoteLaws.{StatesKeepNotes}
+use Rattle.kept_notes.proofs.Ticks.{tick_keeps}
+use Rattle.kept_notes.proofs.Waves.{wave_keeps, effect_keeps}
+use Rattle.kept_notes.proofs.Rows.{pulse_keeps, fetch_keeps}
 
 safe_within : (song : Song) → CanBePlayed song → KeepsSafeWithin song
 safe_within song play = safe_within_lem song play.limits play.playable

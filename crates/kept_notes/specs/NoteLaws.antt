@@ -24,7 +24,7 @@ use Rattle.play_model.specs.Features.{HasFeature}
 use Rattle.play_model.specs.Safe.{IsSafeVoice, IsSafe}
 use Rattle.safe_states.specs.SafeLaws.{IsSafePlaying}
 use Rattle.asked_numbers.specs.Numbers.{IsAskedNumber}
-use Rattle.asked_numbers.specs.Voices.{KeepsNotes, KeepAllNotes}
+use Rattle.kept_notes.specs.Voices.{KeepsNotes, KeepAllNotes}
 
 -- ---- look-ups
 

@@ -14,8 +14,8 @@ use Rattle.play_model.specs.TickStep.{at_row, tick_step}
 use Rattle.play_model.specs.Features.{HasRow, IsAny}
 use Rattle.play_model.specs.Safe.{IsSafeWaiting}
 use Rattle.asked_numbers.specs.Numbers.{of_pattern, of_start, IsSoundingNote}
-use Rattle.asked_numbers.specs.Voices.{IsKeptNote, sounding, silent, KeepsNotes}
-use Rattle.asked_numbers.proofs.Keeping.{row_waits, Sounds, keeps, kept_of_notes, sounds_of_notes, command_keeps}
+use Rattle.kept_notes.specs.Voices.{IsKeptNote, sounding, silent, KeepsNotes}
+use Rattle.kept_notes.proofs.Keeping.{row_waits, Sounds, keeps, kept_of_notes, sounds_of_notes, command_keeps}
 
 -- ---- between rows
 

@@ -7,9 +7,9 @@ use Rattle.play_model.specs.Freq.{freq}
 use Rattle.play_model.specs.Safe.{IsSafeNote}
 use Rattle.safe_states.proofs.Laws.{is_step}
 use Rattle.asked_numbers.specs.Numbers.{of_wave_row, of_slide, sounded, half_tone_from, half_tone_to}
-use Rattle.asked_numbers.specs.NumberLaws.{VoicesLookUpAsked}
-use Rattle.asked_numbers.proofs.Keeping.{note_of_program, note_of_slide}
-use Rattle.asked_numbers.proofs.Waves.{slide_runs, wave_slides}
+use Rattle.kept_notes.specs.NoteLaws.{VoicesLookUpAsked}
+use Rattle.kept_notes.proofs.Keeping.{note_of_program, note_of_slide}
+use Rattle.kept_notes.proofs.Waves.{slide_runs, wave_slides}
 
 -- a note that sounds has the frequency of its number: below 128 it is its number, and both are none from 240 on
 none_beyond : (n : ℕ) → 96 ≤ n → freq n ≡ 0

@@ -21,9 +21,9 @@ use Rattle.play_model.specs.Used.{IsPlayedOrder}
 use Rattle.play_model.proofs.Laws.{whole_lem}
 use Rattle.safe_states.proofs.Laws.{CanBePlayed}
 use Rattle.asked_numbers.specs.Numbers.{IsPlayedNote}
-use Rattle.asked_numbers.specs.Voices.{KeepsNotes}
-use Rattle.asked_numbers.proofs.Transposes.{play_transpose}
-use Rattle.asked_numbers.proofs.Keeping.{kept_of_notes}
+use Rattle.kept_notes.specs.Voices.{KeepsNotes}
+use Rattle.kept_notes.proofs.Transposes.{play_transpose}
+use Rattle.kept_notes.proofs.Keeping.{kept_of_notes}
 
 -- ---- the pulse step
 

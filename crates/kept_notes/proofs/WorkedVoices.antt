@@ -4,31 +4,17 @@ use Rattle.std.proofs.lemmas.List.Elements.{All-nil, All-cons, All-contains}
 use Rattle.song_model.specs.declared.songs.Song.{Song}
 use Rattle.song_model.specs.LookUp.{instrument_at, table_row}
 use Rattle.play_model.specs.Freq.{freq}
-use Rattle.play_model.specs.WorkedSongs.{plucked, one_note}
-use Rattle.asked_numbers.specs.Numbers.{IsPlayedNote, of_pattern, of_start, IsSoundingNote, IsSoundedNumber}
+use Rattle.play_model.specs.WorkedSongs.{one_note}
+use Rattle.asked_numbers.specs.Numbers.{IsPlayedNote, of_pattern, of_start, IsSoundingNote}
 use Rattle.asked_numbers.specs.Numbers.{IsLastNumber, IsAskedNumber, sounded, half_tone_from, half_tone_to}
-use Rattle.asked_numbers.specs.Voices.{IsKeptNote, sounding, silent}
+use Rattle.kept_notes.specs.Voices.{IsKeptNote, sounding, silent}
 use Rattle.asked_numbers.specs.WorkedNumbers.{AsksFor, with_wave, with_speed}
-use Rattle.asked_numbers.specs.WorkedVoices.{KeptNotesAreWorked, KeptStatesAreWorked, LookUpsAreWorked, VoicesAreWorked}
-use Rattle.asked_numbers.proofs.Frames.{voice_starts}
-use Rattle.asked_numbers.proofs.WorkedNotes.{its_short}
-use Rattle.asked_numbers.proofs.WorkedWaves.{plays_one_note, plays_no_other, SetsOne, sounds_number, sounds_no_other}
-use Rattle.asked_numbers.proofs.WorkedNumbers.{speed_depends, numbers_are_worked}
+use Rattle.kept_notes.specs.WorkedVoices.{KeptNotesAreWorked, KeptStatesAreWorked, LookUpsAreWorked, VoicesAreWorked}
+use Rattle.kept_notes.proofs.Frames.{voice_starts}
+use Rattle.asked_numbers.proofs.Laws.{its_note_sounds, its_note_alone, its_number_sounds, its_number_alone}
+use Rattle.asked_numbers.proofs.Laws.{speed_depends, numbers_are_worked}
 
 -- ---- the song of one note
-
-one_sets : SetsOne plucked 0x41 0 0 [] 48
-one_sets = record {
-  begins = refl;
-  short = its_short;
-  plain = refl;
-  sets = λ e. omega (arith, e);
-  slides_not = λ e. omega (arith, e);
-  is = refl;
-}
-
-one_sounds : (note : ℕ) → IsSoundingNote one_note note → note ≡ 48
-one_sounds note h = plays_no_other plucked 0x41 0 0 [] its_short note h
 
 -- its note is played, since note 0 isn't
 of_its_pattern : (note : ℕ) → note ≢ 0 → IsSoundingNote one_note note → IsPlayedNote one_note note
@@ -37,28 +23,28 @@ of_its_pattern note some (of_start zero_is asks) = absurd (some zero_is)
 
 not_kept : (note wave_ptr command : ℕ) → note ≢ 48 → (note ≡ 0 → wave_ptr ≡ 0 → command ≡ 3) →
     ¬ IsKeptNote one_note note wave_ptr command
-not_kept note wave_ptr command differs asks (sounding h) = differs (one_sounds note h)
+not_kept note wave_ptr command differs asks (sounding h) = differs (its_note_alone note h)
 not_kept note wave_ptr command differs asks (silent zero_is stopped quiet) = quiet (asks zero_is stopped)
 
 kept : KeptNotesAreWorked
 kept = record {
   start = voice_starts one_note;
   sounding = record {
-    note = sounding (plays_one_note plucked 0x41 0 0 []);
-    new_note = λ some. of_its_pattern 48 (λ e. omega (arith, e)) (plays_one_note plucked 0x41 0 0 []);
-    last = inr (sounds_number plucked 0x41 0 0 [] 48 one_sets);
+    note = sounding its_note_sounds;
+    new_note = λ some. of_its_pattern 48 (λ e. omega (arith, e)) its_note_sounds;
+    last = inr its_number_sounds;
   };
   note = λ q. not_kept 49 0 0 (λ e. omega (arith, e)) (λ e stopped. absurd (omega (arith, e))) q.note;
   program = λ q. not_kept 0 1 0 (λ e. omega (arith, e)) (λ e stopped. absurd (omega (arith, stopped))) q.note;
   slide = λ q. not_kept 0 0 3 (λ e. omega (arith, e)) (λ e stopped. refl) q.note;
   new_note = λ q.
-      (let no = one_sounds 49 (of_pattern (q.new_note (λ e. omega (arith, e)))) in omega (arith, no));
+      (let no = its_note_alone 49 (of_pattern (q.new_note (λ e. omega (arith, e)))) in omega (arith, no));
   last = λ q. no_last q.last;
 }
   where
     no_last : ¬ IsLastNumber one_note 49
     no_last (inl none) = omega (arith, none)
-    no_last (inr h) = (let no = sounds_no_other plucked 0x41 0 0 [] 48 one_sets 49 h in omega (arith, no))
+    no_last (inr h) = (let no = its_number_alone 49 h in omega (arith, no))
 
 states : KeptStatesAreWorked
 states = record {
@@ -93,7 +79,7 @@ swung_asks n a b c d =
     (All-cons (λ m. m ≢ n) 48 (49 ∷ []) c (All-cons (λ m. m ≢ n) 49 [] d (All-nil (λ m. m ≢ n))))))
 
 one_asked : IsAskedNumber one_note 48
-one_asked = sounded (sounds_number plucked 0x41 0 0 [] 48 one_sets)
+one_asked = sounded its_number_sounds
 
 look_ups : LookUpsAreWorked
 unfolding freq instrument_at table_row
@@ -103,8 +89,8 @@ look_ups = record {
     wave_slide = λ some left. absurd (omega (arith, left));
     slide = λ e. absurd (omega (arith, e));
     target = refl;
-    half_tone_from = λ depends. half_tone_from depends (inr its_number);
-    half_tone_to = λ depends. half_tone_to 48 depends (inr its_number) refl;
+    half_tone_from = λ depends. half_tone_from depends (inr its_number_sounds);
+    half_tone_to = λ depends. half_tone_to 48 depends (inr its_number_sounds) refl;
   };
   row = λ q. one_asks 49 (λ e. omega (arith, e)) (q.row (λ e. omega (arith, e)) refl (λ e. omega (arith, e)));
   wave_slide = λ q. slide_asks (q.wave_slide (λ e. omega (arith, e)) refl);
@@ -117,9 +103,6 @@ look_ups = record {
       swung_asks 50 (λ e. omega (arith, e)) (λ e. omega (arith, e)) (λ e. omega (arith, e)) (λ e. omega (arith, e))
       (q.half_tone_to speed_depends);
 }
-  where
-    its_number : IsSoundedNumber one_note 48
-    its_number = sounds_number plucked 0x41 0 0 [] 48 one_sets
 
 pub voices_are_worked : VoicesAreWorked
 voices_are_worked = record { kept = kept; states = states; look_ups = look_ups }

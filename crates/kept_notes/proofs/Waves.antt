@@ -18,11 +18,11 @@ use Rattle.play_model.specs.Reached.{IsReached, IsStep}
 use Rattle.play_model.specs.Safe.{IsSafePointer, IsSafeRunning, none, of_instrument, of_row}
 use Rattle.safe_states.proofs.Laws.{is_step}
 use Rattle.asked_numbers.specs.Numbers.{SlidesToNote, IsLastNumber, of_wave_row}
-use Rattle.asked_numbers.specs.Voices.{KeepsNotes}
-use Rattle.asked_numbers.proofs.Keeping.{note_of_program, note_of_slide, Sounds, sounds, keeps, IsOfNotes}
-use Rattle.asked_numbers.proofs.Keeping.{kept_of_notes}
-use Rattle.asked_numbers.proofs.Keeping.{sounds_of_notes, up_keeps, down_keeps, vibrato_keeps, command_keeps}
-use Rattle.asked_numbers.proofs.Keeping.{tone_sounds}
+use Rattle.kept_notes.specs.Voices.{KeepsNotes}
+use Rattle.kept_notes.proofs.Keeping.{note_of_program, note_of_slide, Sounds, sounds, keeps, IsOfNotes}
+use Rattle.kept_notes.proofs.Keeping.{kept_of_notes}
+use Rattle.kept_notes.proofs.Keeping.{sounds_of_notes, up_keeps, down_keeps, vibrato_keeps, command_keeps}
+use Rattle.kept_notes.proofs.Keeping.{tone_sounds}
 
 -- ---- the running command
 

@@ -1,8 +1,8 @@
 -- What a voice of a small song keeps and looks up, worked out by hand, and what it may not, each for one thing alone.
 use Rattle.play_model.specs.State.{Voice, FrameState, no_options, start_voice, start_state}
 use Rattle.play_model.specs.WorkedSongs.{one_note}
-use Rattle.asked_numbers.specs.Voices.{KeepsNotes, KeepAllNotes}
-use Rattle.asked_numbers.specs.NumberLaws.{LooksUpAsked}
+use Rattle.kept_notes.specs.Voices.{KeepsNotes, KeepAllNotes}
+use Rattle.kept_notes.specs.NoteLaws.{LooksUpAsked}
 use Rattle.asked_numbers.specs.WorkedNumbers.{with_wave, with_speed}
 
 -- a voice in its only note, half tone 48, which waits to start anew

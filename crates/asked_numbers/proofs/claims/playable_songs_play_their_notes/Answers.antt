@@ -1,5 +1,0 @@
-use Rattle.asked_numbers.proofs.Frames.{plays_its_notes_lem}
-use Rattle.asked_numbers.proofs.claims.playable_songs_play_their_notes.Goals as goal
-
-pub returns : goal.returns
-returns c = plays_its_notes_lem

@@ -1,0 +1,15 @@
+-- The door: the lemmas that upper crates may cite.
+pub mod Laws
+-- The transpose of a play.
+pub mod Transposes
+-- What a voice keeps, and the rules: each keeps it.
+pub mod Keeping
+pub mod Ticks
+pub mod Waves
+pub mod Rows
+-- What is looked up.
+pub mod Asked
+-- Steps of voices, frames and starts.
+pub mod Frames
+-- Voices of small songs.
+pub mod WorkedVoices

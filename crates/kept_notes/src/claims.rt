@@ -1,0 +1,33 @@
+//! Facts about the definitions, each the contract of a function that does nothing.
+
+ghost use Rattle.kept_notes.specs.NoteLaws.{VoicesLookUpAsked, NotesWithin, PlayableSongsPlayTheirNotes};
+ghost use Rattle.kept_notes.specs.NoteLaws.{StatesKeepNotes};
+ghost use Rattle.kept_notes.specs.WorkedVoices.{VoicesAreWorked};
+
+/// What a voice that is safe and keeps the song's notes looks up within its step is a number that the song asks for.
+#[tactic(auto, using(crate::proofs::Asked::voices_look_up_asked_lem))]
+pub fn voices_look_up_asked()
+    ensures { VoicesLookUpAsked }
+{}
+
+/// Each rule of a frame keeps the song's notes, and so does each step of a frame.
+pub fn notes_within()
+    ensures { NotesWithin }
+{}
+
+/// Each start of a playable song keeps its notes, and each frame does.
+pub fn playable_songs_play_their_notes()
+    ensures { PlayableSongsPlayTheirNotes }
+{}
+
+/// The state after any number of frames keeps the song's notes.
+pub fn states_keep_notes()
+    ensures { StatesKeepNotes }
+{}
+
+/// Voices and states of small songs that keep their notes, and what they look up; and others beside them, each of which
+/// doesn't for one thing alone.
+#[tactic(auto, using(crate::proofs::WorkedVoices::voices_are_worked))]
+pub fn worked_voices()
+    ensures { VoicesAreWorked }
+{}
