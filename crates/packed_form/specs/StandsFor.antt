@@ -14,6 +14,7 @@ use Rattle.play_model.specs.Playable.{IsPlayable}
 use Rattle.play_model.specs.Features.{HasFeature, AreFeatures}
 use Rattle.play_model.specs.Uses.{UsesFeature}
 use Rattle.song_facts.specs.Facts.{AreFacts, AddsNoFact}
+use Rattle.asked_numbers.specs.Range.{IsNumberRange, AddsNoNumber}
 use Rattle.packed_form.specs.declared.packed_songs.PackedSubtune.{PackedSubtune}
 use Rattle.packed_form.specs.declared.packed_songs.PackedSong.{PackedSong}
 use Rattle.packed_form.specs.PackedSpells.{PackedSpells}
@@ -54,6 +55,8 @@ pub record StandsFor (packed : PackedSong) (song : Song) : Type 0 where
   pub subtunes : length packed.subtunes ≡ length (playable_subtunes song)
   pub features : AreFeatures song packed.features.0
   pub facts : AreFacts song packed.facts
-  -- the packed song, read as a song, has no other facts
+  pub numbers : IsNumberRange song packed.numbers
+  -- the packed song, read as a song, has no other facts, and asks for no other numbers
   pub covers : AddsNoFact song (unpacked_song packed)
+  pub asks : AddsNoNumber song (unpacked_song packed)
   pub plays : (o : Options) (k : ℕ) → IsSpeed o.speed → k < length (playable_subtunes song) → PlaysAlike o packed song k

@@ -12,7 +12,8 @@
 //! of an orderlist are looked at, at most, to come to a pattern, which is a byte where each orderlist goes on for ever.
 //!
 //! It stands on `song_model` for tables and lists with limits, on `play_model` for what a song sounds like, on
-//! `song_facts` for a song's facts, and on `arrayvec` for patterns that take no memory. See `docs/packed-form.md`.
+//! `song_facts` for a song's facts, on `asked_numbers` for the numbers that it asks for, and on `arrayvec` for patterns
+//! that take no memory. See `docs/packed-form.md`.
 #![tactic(auto)]
 
 /// Facts about the definitions.

@@ -1,8 +1,9 @@
 //! Packed songs.
 
-ghost use Rattle.std.specs.Prelude.{◌<◌, ◌^◌};
+ghost use Rattle.std.specs.Prelude.{◌≤◌, ◌<◌, ◌+◌, ◌^◌};
 
 use crate::PackedPattern;
+use asked_numbers::NumberRange;
 use song_facts::Facts;
 use song_model::{Bounded, FeatureBits, MOST_INSTRUMENTS, MOST_PATTERNS, MOST_SUBTUNES, Table};
 
@@ -62,6 +63,10 @@ pub struct PackedSong {
     pub features: FeatureBits,
     /// What its rows, instruments and wave programs have: the player leaves out what no song like it needs.
     pub facts: Facts,
+    /// The numbers of the frequency table that it asks for.
+    pub numbers: NumberRange,
     /// No bit stands for nothing.
     pub ghost features_within: { features.0 < 2 ^ 24 },
+    /// No number is above 128.
+    pub ghost numbers_within: { numbers.first + numbers.count ≤ 129 },
 }

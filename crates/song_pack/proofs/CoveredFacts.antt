@@ -8,12 +8,13 @@ use Rattle.song_model.specs.declared.tables.TableName.{TableName}
 use Rattle.song_model.specs.declared.tables.TableName.TheVariants.{Wave, Pulse, Filter, Speed}
 use Rattle.song_model.specs.declared.songs.Song.{Song}
 use Rattle.song_model.specs.LookUp.{table_row, instrument_at}
-use Rattle.song_model.specs.Pointers.{instrument_pointer}
-use Rattle.same_frames.specs.Maps.{Maps, moved_row, IsRowFor, IsInstrumentFor}
+use Rattle.song_model.specs.Pointers.{instrument_pointer, command_table}
+use Rattle.same_frames.specs.Maps.{Maps, moved_row, moved_pointer, IsRowFor, IsInstrumentFor}
 use Rattle.song_facts.specs.declared.facts.Fact.TheVariants.{RowTone, RowSlide, RowOnce, FirstMask, Legato, NoHardRestart}
 use Rattle.song_facts.specs.declared.facts.Fact.TheVariants.{WaveDelay, GateNote, NoteVibrato, VibratoDelay, NotePulse, NoteFilter}
+use Rattle.song_facts.specs.declared.facts.Fact.TheVariants.{VoiceTempo, CommonTempo, FunkTurns, FunkChoice}
 use Rattle.song_facts.specs.Facts.{IsTone, IsSlide, IsOnce, IsGateNote, IsMask, IsLegato, KeepsEnvelope}
-use Rattle.song_facts.specs.Facts.{HasVibratoDelay}
+use Rattle.song_facts.specs.Facts.{HasVibratoDelay, IsVoiceTempo, IsCommonTempo, IsFunkTurns, IsFunkChoice}
 use Rattle.song_facts.specs.Facts.{HasSuchRow, HasSuchInstrument, HasSuchWaveRow, AddsNoFact}
 use Rattle.same_frames.proofs.Laws.{old_some}
 use Rattle.song_pack.proofs.UsedParts.{IsMoved, under, used_row_from, instrument_from, pointer_moved, reached_from}
@@ -33,6 +34,16 @@ module _ (maps : Maps) where
   note_keeps : (IsSuch : ℕ → Type 0) → RowsKeep (λ row. IsSuch row.note)
   unfolding RowsKeep
   note_keeps IsSuch last row other is such = subst IsSuch is.note such
+
+  -- of a command $F, which has the row's parameter
+  tempo_keeps : (IsSuch : ℕ → Type 0) → RowsKeep (λ row. (row.command ≡ 0xF) × IsSuch row.param)
+  unfolding RowsKeep
+  tempo_keeps IsSuch last row other is such =
+      let command : row.command ≡ 0xF = sym is.command ∙ such.0 in
+      let param : other.param ≡ row.param =
+      is.param (λ none. let e : 0 ≡ 0xF = sym none ∙ command in cc)
+      ∙ ap (λ (c : ℕ). moved_pointer maps (command_table c) row.param) command in
+      (command, subst IsSuch param such.1)
 
   -- where the other instrument is such, so is the one that it stands for
   InstrumentsKeep : (Instrument → Type 0) → Type 0
@@ -124,3 +135,7 @@ module _ (maps : Maps) where
     covered VibratoDelay has = instrument_covered HasVibratoDelay (vibrato_delay_keeps (λ d. d ≢ 0)) has
     covered NotePulse has = pointer_covered Pulse has
     covered NoteFilter has = pointer_covered Filter has
+    covered VoiceTempo has = row_covered IsVoiceTempo (tempo_keeps (λ d. 0x80 ≤ d)) has
+    covered CommonTempo has = row_covered IsCommonTempo (tempo_keeps (λ d. (3 ≤ d) × (d < 0x80))) has
+    covered FunkTurns has = row_covered IsFunkTurns (tempo_keeps (λ d. d < 2)) has
+    covered FunkChoice has = row_covered IsFunkChoice (command_keeps (λ c. c ≡ 0xE)) has

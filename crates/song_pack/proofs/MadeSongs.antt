@@ -22,6 +22,7 @@ use Rattle.song_model.proofs.Laws.{pattern_rows_in_range}
 use Rattle.play_model.specs.Used.{IsPlayedOrder, IsUsedPattern}
 use Rattle.play_model.specs.Features.{AreFeatures}
 use Rattle.song_facts.specs.Facts.{AreFacts}
+use Rattle.asked_numbers.specs.Range.{IsNumberRange}
 use Rattle.usage.specs.declared.parts.UsedParts.{UsedParts}
 use Rattle.usage.specs.Parts.{AreUsedParts}
 use Rattle.packed_form.specs.declared.packed_songs.PackedSubtune.{PackedSubtune}
@@ -58,6 +59,7 @@ pub record IsMadeOf (song : Song) (parts : UsedParts) (tables : PackedTables) (n
   pub subtunes : packed.subtunes ≡ map (packed_subtune (slice_index to)) (playable_subtunes song)
   pub features : packed.features ≡ parts.features
   pub facts : packed.facts ≡ parts.facts
+  pub range : IsNumberRange song packed.numbers
 
 module _ (song : Song) (parts : UsedParts) (limits : KeepsLimits song) (are : AreUsedParts song parts) where
   -- ---- numbers of rows
@@ -187,6 +189,7 @@ module _ (song : Song) (parts : UsedParts) (limits : KeepsLimits song) (are : Ar
       speed = subst (AreSpeeds song (is_marked parts.speed)) (sym made.speed) tables_are.speed;
       features = subst (λ (f : FeatureBits). AreFeatures song f.0) (sym made.features) are.features;
       facts = subst (AreFacts song) (sym made.facts) are.facts;
+      numbers = made.range;
     }
 
     -- ---- patterns that are too long

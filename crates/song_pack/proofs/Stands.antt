@@ -29,6 +29,7 @@ use Rattle.song_pack.specs.Packed.{new_numbers, packed_subtune, IsPacked}
 use Rattle.song_pack.proofs.UsedParts.{IsMoved}
 use Rattle.song_pack.proofs.Complete.{complete_lem}
 use Rattle.song_pack.proofs.CoveredFacts.{covered}
+use Rattle.song_pack.proofs.CoveredNumbers.{numbers_covered}
 use Rattle.song_pack.proofs.StoredTables.{tables_agree, all_programs_agree}
 use Rattle.song_pack.proofs.StoredInstruments.{instruments_agree, first_is_first, instrument_stored}
 use Rattle.song_pack.proofs.StoredPatterns.{pattern_stored, pattern_small, pattern_agrees, pattern_spelled}
@@ -143,6 +144,8 @@ module _ (song : Song) (used : UsedSets) (packed : PackedSong) (limits : KeepsLi
     subtunes = ap length is.subtunes ∙ length-map (playable_subtunes song) (packed_subtune (pattern_number song used));
     features = is.features;
     facts = is.facts;
+    numbers = is.numbers;
     covers = covered (new_numbers song used) song (unpacked_song packed) moved;
+    asks = numbers_covered (new_numbers song used) song (unpacked_song packed) moved;
     plays = plays_alike;
   }

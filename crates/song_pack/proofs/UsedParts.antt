@@ -78,26 +78,45 @@ order_from maps song other m order is =
 
 -- ---- patterns
 
-pub pattern_from : (maps : Maps) (song other : Song) → IsMoved maps song other → (n : ℕ) → IsUsedPattern other n →
-    StandsForOne maps.pattern (IsUsedPattern song) n
-pattern_from maps song other m n used =
-    let order = order_from maps song other m used.byte.order used.byte.played in
-    let image = image_of (moved_byte maps) order.from.entries n
-    (subst (λ (o : Order). Contains o.entries n) (sym order.is) used.byte.entry) in
+-- an orderlist names the pattern
+abbrev pub NamesPattern : Order → ℕ → Type 0
+NamesPattern order n = Contains order.entries n × IsPatternByte n
+
+-- a pattern that an orderlist under new numbers names
+pub named_from : (maps : Maps) (order : Order) (n : ℕ) → Contains (moved_order maps order).entries n →
+    IsPatternByte n → StandsForOne maps.pattern (NamesPattern order) n
+named_from maps order n entry small =
+    let image = image_of (moved_byte maps) order.entries n entry in
     elim (cases_lt image.from 0xD0) [
       | inl low ↦ record {
         old = image.from;
-        is_such = record {
-          byte = record { order = order.from; played = order.played; entry = image.has };
-          is_pattern = low;
-        };
+        is_such = (image.has, low);
         new = sym (low_byte maps image.from low) ∙ image.is;
       }
       | inr high ↦ (
           let same : image.from ≡ n = sym (high_byte maps image.from high) ∙ image.is in
-          let small = used.is_pattern in
           absurd (omega arith))
     ]
+
+-- what it names of a song's orderlist is used
+pub named_used : (song : Song) (order : Order) (n : ℕ) → IsPlayedOrder song order → NamesPattern order n →
+    IsUsedPattern song n
+named_used song order n is_played named = record {
+  byte = record { order = order; played = is_played; entry = named.0 };
+  is_pattern = named.1;
+}
+
+pub pattern_from : (maps : Maps) (song other : Song) → IsMoved maps song other → (n : ℕ) → IsUsedPattern other n →
+    StandsForOne maps.pattern (IsUsedPattern song) n
+pattern_from maps song other m n used =
+    let order = order_from maps song other m used.byte.order used.byte.played in
+    let named = named_from maps order.from n
+    (subst (λ (o : Order). Contains o.entries n) (sym order.is) used.byte.entry) used.is_pattern in
+    record {
+      old = named.old;
+      is_such = named_used song order.from named.old order.played named.is_such;
+      new = named.new;
+    }
 
 -- ---- rows
 
@@ -164,19 +183,26 @@ rows_used : (song : Song) (n : ℕ) → IsUsedPattern song n → UsedRows song (
 unfolding UsedRows
 rows_used song n used row has = record { pattern = n; used = used; has = has }
 
+-- a row of a pattern that stands for a used one
+pub pattern_row_from : (maps : Maps) (song other : Song) → IsMoved maps song other → (n : ℕ) →
+    (pattern : StandsForOne maps.pattern (IsUsedPattern song) n) → (row : Row) → Contains (pattern_at other n) row →
+    IsMovedRow maps song (pattern_at song pattern.old) row
+unfolding UsedRows
+pattern_row_from maps song other m n pattern row has =
+    row_from maps song 0 (pattern_at song pattern.old) (pattern_at other n)
+    (rows_used song pattern.old pattern.is_such) (λ some. absurd (some refl))
+    (subst (λ (k : ℕ). AreRowsFor maps 0 (pattern_at song pattern.old) (pattern_at other k)) pattern.new
+    (m.agrees.patterns pattern.old pattern.is_such).each) row has
+
 pub used_row_from : (maps : Maps) (song other : Song) → IsMoved maps song other → (row : Row) → IsUsedRow other row →
     IsMovedUsedRow maps song row
 unfolding UsedRows
 used_row_from maps song other m row used =
     let pattern = pattern_from maps song other m used.pattern used.used in
-    let here = rows_used song pattern.old pattern.is_such in
-    let found = row_from maps song 0 (pattern_at song pattern.old) (pattern_at other used.pattern) here
-    (λ some. absurd (some refl))
-    (subst (λ (n : ℕ). AreRowsFor maps 0 (pattern_at song pattern.old) (pattern_at other n)) pattern.new
-    (m.agrees.patterns pattern.old pattern.is_such).each) row used.has in
+    let found = pattern_row_from maps song other m used.pattern pattern row used.has in
     record {
       from = found.from;
-      used = here found.from found.has;
+      used = rows_used song pattern.old pattern.is_such found.from found.has;
       last = found.last;
       named = found.named;
       is_for = found.is_for;

@@ -12,6 +12,7 @@ use Rattle.song_model.specs.declared.songs.Song.{Song}
 use Rattle.song_model.specs.LookUp.{IsNumbered, instrument_at, speed_row, playable_subtunes}
 use Rattle.play_model.specs.Features.{AreFeatures}
 use Rattle.song_facts.specs.Facts.{AreFacts}
+use Rattle.asked_numbers.specs.Range.{IsNumberRange}
 use Rattle.same_frames.specs.Maps.{Maps}
 use Rattle.packed_form.specs.declared.packed_songs.PackedSubtune.{PackedSubtune}
 use Rattle.packed_form.specs.declared.packed_songs.PackedInstrument.{PackedInstrument}
@@ -76,3 +77,4 @@ pub record IsPacked (song : Song) (used : UsedSets) (packed : PackedSong) : Type
   pub speed : AreSpeeds song (used.pointers Speed) packed.speed
   pub features : AreFeatures song packed.features.0
   pub facts : AreFacts song packed.facts
+  pub numbers : IsNumberRange song packed.numbers

@@ -6,9 +6,10 @@
 //! into the others; then instruments, and then patterns. Programs that are equal, and patterns with the same text, are
 //! stored once.
 //!
-//! It stands on `usage` for what a song uses, on `song_facts` for its facts, on `table_pack` and `pattern_pack` for new
-//! numbers and packed patterns, on `packed_form` and `packing_rules` for what is packed, on `same_frames` for the reason
-//! that a song under new numbers plays the same, and on `indexmap` to find equal texts. See `docs/packed-form.md`.
+//! It stands on `usage` for what a song uses, on `song_facts` for its facts, on `number_range` for the numbers that it
+//! asks for, on `table_pack` and `pattern_pack` for new numbers and packed patterns, on `packed_form` and `packing_rules`
+//! for what is packed, on `same_frames` for the reason that a song under new numbers plays the same, and on `indexmap`
+//! to find equal texts. See `docs/packed-form.md`.
 #![tactic(auto)]
 
 /// Facts about the definitions.

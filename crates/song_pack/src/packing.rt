@@ -15,6 +15,7 @@ use crate::numbers::instrument_numbers;
 use crate::orders::packed_subtunes;
 use crate::patterns::packed_patterns;
 use crate::tables::packed_tables;
+use number_range::number_range;
 use packed_form::PackedSong;
 use song_model::Song;
 use std::alloc::Global;
@@ -57,5 +58,6 @@ pub fn pack_song(alloc: Global, song: &Song, usage: &UsedParts) -> Result<Packed
         speed: tables.speed,
         features: usage.features,
         facts: usage.facts,
+        numbers: number_range(song, usage),
     })
 }

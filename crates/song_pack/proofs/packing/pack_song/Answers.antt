@@ -1,5 +1,6 @@
 use Rattle.std.proofs.Common.{refl}
 use Rattle.play_model.proofs.Laws.{whole_lem}
+use Rattle.asked_numbers.proofs.Laws.{ranges_lie_in_the_table}
 use Rattle.song_pack.specs.Answers.{IsCause}
 use Rattle.song_pack.proofs.HandedOn.{err_caused}
 use Rattle.song_pack.proofs.Answered.{stands, exact, size, short, cause}
@@ -18,6 +19,10 @@ returns-in_err-patterns-clause-fault c used are limits =
     c.requires.parts c.in_ok-tables.ensures c.instrument_numbers-numbers.ensures.numbers c.in_err-patterns.field-0.0
     c.in_err-patterns.ensures.fault used are limits)
 
+pub invariant_of-result-clause-numbers_within : goal.invariant_of-result-clause-numbers_within
+invariant_of-result-clause-numbers_within c =
+    ranges_lie_in_the_table c.args.song.now c.number_range.result c.number_range.ensures
+
 pub returns-clause-stands : goal.returns-clause-stands
 returns-clause-stands c =
     stands c.args.song.now c.args.usage.now c.in_ok-tables.tables c.instrument_numbers-numbers.result
@@ -33,6 +38,7 @@ returns-clause-stands c =
       subtunes = c.in_ok-subtunes.ensures;
       features = refl;
       facts = refl;
+      range = c.number_range.ensures;
     })
 
 pub returns-clause-exact : goal.returns-clause-exact
@@ -49,6 +55,7 @@ returns-clause-exact c =
       subtunes = c.in_ok-subtunes.ensures;
       features = refl;
       facts = refl;
+      range = c.number_range.ensures;
     })
 
 pub returns-clause-size : goal.returns-clause-size
@@ -65,6 +72,7 @@ returns-clause-size c =
       subtunes = c.in_ok-subtunes.ensures;
       features = refl;
       facts = refl;
+      range = c.number_range.ensures;
     })
 
 pub returns-clause-short : goal.returns-clause-short
