@@ -27,7 +27,8 @@ byte_is_set layout packed at list number =
 
 abbrev list_is_set : Layout → PackedSong → (ℕ → ℕ) → SongList → Bool
 list_is_set layout packed at list =
-    agree_below (λ k. byte_is_set layout packed at list (first_number list + k)) (λ k. true) (list_length packed list)
+    agree_below (λ k. byte_is_set layout packed at list (first_number packed list + k)) (λ k. true)
+    (list_length packed list)
 
 abbrev pub all_are_set : Layout → PackedSong → (ℕ → ℕ) → Bool
 all_are_set layout packed at =
@@ -85,10 +86,10 @@ module _ (layout : Layout) (speeds : List TableRow) (at : ℕ → ℕ)
   byte_at list number is has =
       let from = has.from in
       let to = has.to in
-      let same : first_number list + (number - first_number list) ≡ number = omega (arith, from) in
+      let same : first_number packed list + (number - first_number packed list) ≡ number = omega (arith, from) in
       subst (λ n. byte_is_set layout packed at list n ≡ true) same
-      (agree_below_at (λ k. byte_is_set layout packed at list (first_number list + k)) (λ k. true)
-      (list_length packed list) (number - first_number list) (found list is) (omega (arith, from, to)))
+      (agree_below_at (λ k. byte_is_set layout packed at list (first_number packed list + k)) (λ k. true)
+      (list_length packed list) (number - first_number packed list) (found list is) (omega (arith, from, to)))
 
   -- each place is behind the slides
   pub behind : (list : SongList) (number : ℕ) → IsSongList layout packed list → HasNumber packed list number →

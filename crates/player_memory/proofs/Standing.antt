@@ -35,7 +35,7 @@ held : (what : VoiceByte) (v : Voice) (tempo byte : ℕ) → is_held what v temp
 held Tick v tempo byte e = eqb-true byte v.tick e
 held GateTimer v tempo byte e = eqb-true byte v.gate_timer e
 held Instrument v tempo byte e = eqb-true byte v.instrument e
-held Note v tempo byte e = eqb-true byte v.note e
+held Note v tempo byte e = eqb-true byte (v.note % 128) e
 held NewNote v tempo byte e = eqb-true byte v.new_note e
 held NewCommand v tempo byte e = eqb-true byte v.new_command e
 held NewParam v tempo byte e = λ some.

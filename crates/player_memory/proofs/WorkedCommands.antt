@@ -60,6 +60,50 @@ commands_are_worked = record {
     another = λ e. absurd (cc);
     no_length = λ e. absurd (cc);
     no_own_length = λ e. absurd (cc);
+    no_turns = λ e. absurd (cc);
     no_choice = λ e. absurd (cc);
+  };
+  tempos = record {
+    other = record {
+      voice = λ is. absurd (omega (arith, is));
+      common = λ is. absurd (omega (arith, is));
+      turns = λ is. absurd (omega (arith, is));
+      choice = λ is. absurd (omega (arith, is));
+    };
+    idle = record {
+      voice = λ is from. absurd (omega (arith, from));
+      common = λ is from to. absurd (omega (arith, from));
+      turns = λ is low. absurd (omega (arith, low));
+      choice = λ is. absurd (omega (arith, is));
+    };
+    voice = record {
+      voice = λ is from. refl;
+      common = λ is from to. absurd (omega (arith, to));
+      turns = λ is low. absurd (omega (arith, low));
+      choice = λ is. absurd (omega (arith, is));
+    };
+    common = record {
+      voice = λ is from. absurd (omega (arith, from));
+      common = λ is from to. refl;
+      turns = λ is low. absurd (omega (arith, low));
+      choice = λ is. absurd (omega (arith, is));
+    };
+    turns = record {
+      voice = λ is from. absurd (omega (arith, from));
+      common = λ is from to. absurd (omega (arith, from));
+      turns = λ is low. refl;
+      choice = λ is. absurd (omega (arith, is));
+    };
+    choice = record {
+      voice = λ is from. absurd (omega (arith, is));
+      common = λ is from to. absurd (omega (arith, is));
+      turns = λ is low. absurd (omega (arith, is));
+      choice = λ is. refl;
+    };
+    no_voice = λ keeps. (let on = keeps.voice refl (omega arith) in absurd cc);
+    no_common = λ keeps. (let on = keeps.common refl (omega arith) (omega arith) in absurd cc);
+    no_first_common = λ keeps. (let on = keeps.common refl (omega arith) (omega arith) in absurd cc);
+    no_turns = λ keeps. (let on = keeps.turns refl (omega arith) in absurd cc);
+    no_choice = λ keeps. (let on = keeps.choice refl in absurd cc);
   };
 }

@@ -3,10 +3,10 @@ use Rattle.std.proofs.Common.{◌≡◌, true, [], ◌∷◌, inl, refl, arith}
 use Rattle.song_model.specs.LookUp.{pattern_at}
 use Rattle.play_model.specs.WorkedSongs.{row, one_note}
 use Rattle.scopes.specs.Desk.{Layout}
-use Rattle.song_facts.specs.declared.facts.Fact.{Fact}
 use Rattle.song_facts.specs.declared.facts.Fact.TheVariants.{RowTone, RowSlide, RowOnce, FirstMask, Legato, NoHardRestart}
 use Rattle.song_facts.specs.declared.facts.Fact.TheVariants.{WaveDelay, GateNote, NoteVibrato, VibratoDelay, NotePulse, NoteFilter}
-use Rattle.song_facts.specs.Facts.{HasFact, is_among, no_facts}
+use Rattle.song_facts.specs.declared.facts.Fact.TheVariants.{VoiceTempo, CommonTempo, FunkTurns, FunkChoice}
+use Rattle.song_facts.specs.Facts.{HasFact, no_facts}
 use Rattle.player_memory.specs.declared.conditions.TheConstants.{GATE_NOTE}
 use Rattle.player_memory.specs.FactLines.{KeepsMarked}
 use Rattle.player_memory.specs.WorkedConditions.{ConditionsAreFeatures, ConditionsAreFacts, FactLinesAreWorked, with_holding}
@@ -52,6 +52,10 @@ conditions_are_facts NoteVibrato = refl
 conditions_are_facts VibratoDelay = refl
 conditions_are_facts NotePulse = refl
 conditions_are_facts NoteFilter = refl
+conditions_are_facts VoiceTempo = refl
+conditions_are_facts CommonTempo = refl
+conditions_are_facts FunkTurns = refl
+conditions_are_facts FunkChoice = refl
 
 none_kept : (layout : Layout) → KeepsMarked layout no_facts
 none_kept layout RowTone on = absurd cc
@@ -66,6 +70,10 @@ none_kept layout NoteVibrato on = absurd cc
 none_kept layout VibratoDelay on = absurd cc
 none_kept layout NotePulse on = absurd cc
 none_kept layout NoteFilter on = absurd cc
+none_kept layout VoiceTempo on = absurd cc
+none_kept layout CommonTempo on = absurd cc
+none_kept layout FunkTurns on = absurd cc
+none_kept layout FunkChoice on = absurd cc
 
 gate_kept : (layout : Layout) → layout.holds GATE_NOTE ≡ true → KeepsMarked layout (record no_facts { gate_note = true })
 gate_kept layout holds RowTone on = absurd cc
@@ -80,6 +88,10 @@ gate_kept layout holds NoteVibrato on = absurd cc
 gate_kept layout holds VibratoDelay on = absurd cc
 gate_kept layout holds NotePulse on = absurd cc
 gate_kept layout holds NoteFilter on = absurd cc
+gate_kept layout holds VoiceTempo on = absurd cc
+gate_kept layout holds CommonTempo on = absurd cc
+gate_kept layout holds FunkTurns on = absurd cc
+gate_kept layout holds FunkChoice on = absurd cc
 
 -- the song of one note has a keyoff
 key_off : HasFact one_note GateNote

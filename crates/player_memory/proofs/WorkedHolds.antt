@@ -115,7 +115,8 @@ plain_stand = record {
 
 -- a byte of a list is another
 refuses : (at : ℕ → ℕ) (list : SongList) (number : ℕ) → IsSongList list_layout worked_song list →
-    nat_le (first_number list) number && nat_lt number (first_number list + list_length worked_song list) ≡ true →
+    nat_le (first_number worked_song list) number
+    && nat_lt number (first_number worked_song list + list_length worked_song list) ≡ true →
     nat_eq (at (place_in list_layout (list_label list) number)) (list_byte list_layout worked_song list number)
     ≡ false → ¬ HasLists at
 refuses at list number is inside differs has =
@@ -128,7 +129,7 @@ unfolding freq table_row instrument_at
 lists_are_in_memory = record {
   stand = stand;
   plain = plain_stand;
-  first_frequency = refuses (put song_memory 0x1210 0) FrequencyLows 0 tt refl refl;
+  first_frequency = refuses (put song_memory 0x1215 0) FrequencyLows 5 tt refl refl;
   last_frequency = refuses (put song_memory 0x1301 1) FrequencyHighs 97 tt refl refl;
   speed_row_none = refuses (put song_memory 0x1108 1) (Lefts Speed) 0 tt refl refl;
   last_speed = refuses (put song_memory 0x110F 0) (Rights Speed) 3 tt refl refl;

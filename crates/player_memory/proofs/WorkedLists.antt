@@ -1,5 +1,5 @@
 -- The lists of a small packed song, computed.
-use Rattle.std.proofs.Common.{arith}
+use Rattle.std.proofs.Common.{refl, arith}
 use Rattle.std.proofs.lemmas.Bool.{ltb-true}
 use Rattle.song_model.specs.LookUp.{table_row, instrument_at}
 use Rattle.play_model.specs.Freq.{freq}
@@ -19,6 +19,7 @@ orders = search ltb-true
 
 pub song_lists_are_worked : SongListsAreWorked
 song_lists_are_worked = record {
+  first = record { none = refl; last = refl; last_count = refl; beyond = refl; beyond_count = refl };
   tables = tables;
   instruments = instruments;
   orders = orders;
@@ -34,5 +35,6 @@ song_lists_are_worked = record {
   no_row_none = λ has. (let from = has.from in omega (arith, from));
   no_wave_row = λ has. (let to = has.to in omega (arith, to));
   no_instrument = λ has. (let to = has.to in omega (arith, to));
+  no_frequency_before = λ has. (let from = has.from in omega (arith, from));
   no_frequency = λ has. (let to = has.to in omega (arith, to));
 }

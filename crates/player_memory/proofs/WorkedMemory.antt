@@ -26,6 +26,7 @@ voices_are_worked = record {
   stands = bytes_stand sounding 5 its_bytes refl;
   high_bits = bytes_stand sounding 5 (put its_bytes PULSE_HIGH 0xFA) refl;
   low_bits = λ s. let e = s.1.1.1.1.1.1.1.1.1.1.1.1.1.1.1.1.1.1.1.1.1.1.1.0 in omega (arith, e);
+  note = λ s. let e = s.1.1.1.0 in omega (arith, e);
   param = λ s. let e = s.1.1.1.1.1.1.0 (λ z. omega (arith, z)) in omega (arith, e);
   no_command = bytes_stand
       (record sounding { new_command = 0 }) 5 (put (put its_bytes NEW_COMMAND 0) NEW_PARAM 0x4E) refl;

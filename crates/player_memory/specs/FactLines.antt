@@ -5,12 +5,14 @@ use Rattle.song_model.specs.declared.songs.Song.{Song}
 use Rattle.song_facts.specs.declared.facts.Fact.{Fact}
 use Rattle.song_facts.specs.declared.facts.Fact.TheVariants.{RowTone, RowSlide, RowOnce, FirstMask, Legato, NoHardRestart}
 use Rattle.song_facts.specs.declared.facts.Fact.TheVariants.{WaveDelay, GateNote, NoteVibrato, VibratoDelay, NotePulse, NoteFilter}
+use Rattle.song_facts.specs.declared.facts.Fact.TheVariants.{VoiceTempo, CommonTempo, FunkTurns, FunkChoice}
 use Rattle.song_facts.specs.declared.facts.Facts.{Facts}
 use Rattle.song_facts.specs.Facts.{HasFact, is_among}
 use Rattle.scopes.specs.Desk.{Layout}
 use Rattle.player_memory.specs.declared.conditions.TheConstants.{ROW_TONE, ROW_SLIDE, ROW_ONCE, FIRST_MASK, LEGATO}
 use Rattle.player_memory.specs.declared.conditions.TheConstants.{NO_HARD_RESTART, WAVE_DELAY, GATE_NOTE, ROW_COMMAND}
 use Rattle.player_memory.specs.declared.conditions.TheConstants.{NOTE_VIBRATO, VIBRATO_DELAY, NOTE_PULSE, NOTE_FILTER}
+use Rattle.player_memory.specs.declared.conditions.TheConstants.{VOICE_TEMPO, COMMON_TEMPO, FUNK_TURNS, FUNK_CHOICE}
 use Rattle.player_memory.specs.declared.conditions.TheConstants.{SPECIAL_ROW, HELD_NOTE, WAVE_COMMAND}
 
 -- the condition of a fact
@@ -27,6 +29,10 @@ fact_condition NoteVibrato = NOTE_VIBRATO
 fact_condition VibratoDelay = VIBRATO_DELAY
 fact_condition NotePulse = NOTE_PULSE
 fact_condition NoteFilter = NOTE_FILTER
+fact_condition VoiceTempo = VOICE_TEMPO
+fact_condition CommonTempo = COMMON_TEMPO
+fact_condition FunkTurns = FUNK_TURNS
+fact_condition FunkChoice = FUNK_CHOICE
 
 -- a layout keeps the lines of each of these facts
 abbrev pub KeepsMarked : Layout → Facts → Type 0

@@ -11,6 +11,7 @@ use Rattle.play_model.specs.Freq.{freq}
 use Rattle.packed_form.specs.declared.packed_songs.PackedSubtune.{PackedSubtune}
 use Rattle.packed_form.specs.declared.packed_songs.PackedSong.{PackedSong}
 use Rattle.packed_form.specs.Unpacked.{unpacked_song}
+use Rattle.packed_form.specs.Sizes.{packed_song_size}
 use Rattle.scopes.specs.Desk.{Layout}
 use Rattle.player_memory.specs.declared.conditions.TheConstants.{NOTE_DEPENDENT}
 use Rattle.player_memory.specs.declared.labels.TheConstants.{FREQUENCY_LOWS, FREQUENCY_HIGHS, SPEED_LEFTS, SPEED_RIGHTS}
@@ -19,6 +20,7 @@ use Rattle.player_memory.specs.declared.labels.TheConstants.{FILTER_LEFTS, FILTE
 use Rattle.player_memory.specs.declared.labels.TheConstants.{PERIODS, ADS, ORDERS_LOW, ORDERS_HIGH, PATTERNS_LOW}
 use Rattle.player_memory.specs.declared.labels.TheConstants.{PATTERNS_HIGH, ORDERS, PATTERNS}
 use Rattle.player_memory.specs.Forms.{stored}
+use Rattle.player_memory.specs.ListedNumbers.{first_in, count_in}
 use Rattle.player_memory.specs.Playing.{IsListed}
 
 -- subtunes, channels and instruments' fields are counted from 0 here
@@ -94,28 +96,36 @@ list_byte layout packed (PatternBytes pattern) number = slice_index (pattern_byt
 
 -- ---- which numbers they have
 
--- there are frequencies of the notes 0 to 97; those of 96 and 97 are 0
-abbrev pub frequencies : ℕ
-frequencies = 98
+-- of the frequencies, behind two zeros and the packed song
+abbrev pub bytes_in_front : PackedSong → ℕ
+bytes_in_front packed = 2 + packed_song_size packed
+
+abbrev pub first_listed : PackedSong → ℕ
+first_listed packed = first_in packed.numbers (bytes_in_front packed)
+
+abbrev pub frequencies_listed : PackedSong → ℕ
+frequencies_listed packed = count_in packed.numbers (bytes_in_front packed)
 
 -- the first number, and how many there are: of the speed table row 0, too, which is a zero row
-abbrev pub first_number : SongList → ℕ
-first_number (Lefts Wave) = 1
-first_number (Lefts Pulse) = 1
-first_number (Lefts Filter) = 1
-first_number (Rights Wave) = 1
-first_number (Rights Pulse) = 1
-first_number (Rights Filter) = 1
-first_number (Instruments field) = 1
-first_number list = 0
+abbrev pub first_number : PackedSong → SongList → ℕ
+first_number packed FrequencyLows = first_listed packed
+first_number packed FrequencyHighs = first_listed packed
+first_number packed (Lefts Wave) = 1
+first_number packed (Lefts Pulse) = 1
+first_number packed (Lefts Filter) = 1
+first_number packed (Rights Wave) = 1
+first_number packed (Rights Pulse) = 1
+first_number packed (Rights Filter) = 1
+first_number packed (Instruments field) = 1
+first_number packed list = 0
 
 abbrev pub rows_listed : PackedSong → TableName → ℕ
 rows_listed packed Speed = length packed.speed + 1
 rows_listed packed name = length (table_of (unpacked_song packed) name)
 
 abbrev pub list_length : PackedSong → SongList → ℕ
-list_length packed FrequencyLows = frequencies
-list_length packed FrequencyHighs = frequencies
+list_length packed FrequencyLows = frequencies_listed packed
+list_length packed FrequencyHighs = frequencies_listed packed
 list_length packed (Lefts name) = rows_listed packed name
 list_length packed (Rights name) = rows_listed packed name
 list_length packed Periods = rows_listed packed Speed
@@ -129,8 +139,8 @@ list_length packed (PatternBytes pattern) = length (pattern_bytes packed pattern
 
 -- a number of a list
 pub record HasNumber (packed : PackedSong) (list : SongList) (number : ℕ) : Type 0 where
-  pub from : first_number list ≤ number
-  pub to : number < first_number list + list_length packed list
+  pub from : first_number packed list ≤ number
+  pub to : number < first_number packed list + list_length packed list
 
 -- there are nine lists of instruments, and three orderlists of each subtune; periods are a list of their own where the
 -- code for calculated speeds is kept
@@ -143,7 +153,7 @@ IsSongList layout packed list = Unit {0}
 
 -- ---- where they stand
 
--- the label of the byte with number 0, which isn't the list's where its first number is 1
+-- the label of the byte with number 0, which isn't the list's where its first number is another
 abbrev pub list_label : SongList → ℕ
 list_label FrequencyLows = FREQUENCY_LOWS
 list_label FrequencyHighs = FREQUENCY_HIGHS

@@ -16,12 +16,13 @@ use Rattle.player_memory.specs.declared.variables.TheConstants.{VOICE_BYTES, COM
 
 -- ---- voices
 
--- the byte that stands for a part of a voice's state, with the voice's tempo
+-- The byte that stands for a part of a voice's state, with the voice's tempo. A note is held mod 128, which is its number
+-- in the table of frequencies.
 abbrev pub voice_byte : VoiceByte → Voice → ℕ → ℕ
 voice_byte Tick v tempo = v.tick
 voice_byte GateTimer v tempo = v.gate_timer
 voice_byte Instrument v tempo = v.instrument
-voice_byte Note v tempo = v.note
+voice_byte Note v tempo = v.note % 128
 voice_byte NewNote v tempo = v.new_note
 voice_byte NewCommand v tempo = v.new_command
 voice_byte NewParam v tempo = v.new_param

@@ -63,7 +63,7 @@ pub record ListsAreInMemory : Type 0 where
   -- the slides of a row with a speed that is calculated may be any
   pub stand : (low high : ℕ) → HasLists (memory_with low high)
   pub plain : HasPlainLists plain_layout
-  pub first_frequency : ¬ HasLists (put song_memory 0x1210 0)
+  pub first_frequency : ¬ HasLists (put song_memory 0x1215 0)
   pub last_frequency : ¬ HasLists (put song_memory 0x1301 1)
   pub speed_row_none : ¬ HasLists (put song_memory 0x1108 1)
   pub last_speed : ¬ HasLists (put song_memory 0x110F 0)

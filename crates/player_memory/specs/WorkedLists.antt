@@ -1,5 +1,5 @@
 -- The lists of a small packed song, worked by hand: under which label each stands, its first number, and its bytes.
-use Rattle.std.specs.Prelude.{◌≡◌, ℕ, ◌+◌, ◌&&◌, true, false, nat_eq, nat_le, nat_lt, if◌then◌else◌}
+use Rattle.std.specs.Prelude.{◌≡◌, ℕ, ◌+◌, ◌≤◌, ◌&&◌, true, false, nat_eq, nat_le, nat_lt, if◌then◌else◌}
 use Rattle.std.specs.Prelude.{List, [], ◌∷◌, ◌++◌, map}
 use Rattle.std.specs.List.{range_with_len}
 use Rattle.std.proofs.Common.{arith}
@@ -21,6 +21,7 @@ use Rattle.player_memory.specs.declared.labels.TheConstants.{NEXT_WAVE_LEFTS, NE
 use Rattle.player_memory.specs.declared.labels.TheConstants.{NEXT_FILTER_LEFTS}
 use Rattle.player_memory.specs.SongLists.{SongList, FrequencyLows, FrequencyHighs, Lefts, Rights, Periods, Instruments}
 use Rattle.player_memory.specs.SongLists.{OrderLows, OrderHighs, PatternLows, PatternHighs, OrderBytes, PatternBytes}
+use Rattle.player_memory.specs.SongLists.{first_listed, frequencies_listed}
 use Rattle.player_memory.specs.SongLists.{first_number, list_length, list_byte, list_label, IsSongList, HasNumber}
 use Rattle.player_memory.specs.WorkedForms.{sides}
 use Rattle.player_memory.specs.WorkedMemory.{at_1000}
@@ -48,7 +49,8 @@ second_subtune = record {
   three = 0xE1 ∷ 0x00 ∷ 0xD2 ∷ 0x01 ∷ 0xFF ∷ 0x00 ∷ [];
 }
 
--- a note and a keyoff with the first of them, and a note with the second; with this speed table
+-- A note and a keyoff with the first of them, and a note with the second; with this speed table. Let it ask for the
+-- numbers 5 to 97.
 abbrev pub song_with : List TableRow → PackedSong
 song_with speeds = record {
   subtunes = first_subtune ∷ second_subtune ∷ [];
@@ -61,6 +63,8 @@ song_with speeds = record {
   features = record { 0 = 0x40A183 };
   features_within = omega arith;
   facts = record no_facts { no_hard_restart = true; wave_delay = true; gate_note = true };
+  numbers = record { first = 5; count = 93 };
+  numbers_within = omega arith;
 }
 
 -- with a speed that is calculated, and with none
@@ -84,10 +88,10 @@ abbrev pub piece : SongList → ℕ → ℕ → ℕ → List ℕ → Piece
 piece list label place first bytes =
     record { list = list; label = label; place = place; first = first; bytes = bytes }
 
--- an octave a line; above B-7 there are two zeros
+-- from F-0 on, an octave a line; above B-7 there are two zeros
 abbrev pub low_bytes : List ℕ
 low_bytes =
-    0x16 ∷ 0x27 ∷ 0x38 ∷ 0x4B ∷ 0x5E ∷ 0x73 ∷ 0x89 ∷ 0xA1 ∷ 0xBA ∷ 0xD4 ∷ 0xF0 ∷ 0x0D
+    0x73 ∷ 0x89 ∷ 0xA1 ∷ 0xBA ∷ 0xD4 ∷ 0xF0 ∷ 0x0D
     ∷ 0x2D ∷ 0x4E ∷ 0x71 ∷ 0x96 ∷ 0xBD ∷ 0xE7 ∷ 0x13 ∷ 0x42 ∷ 0x74 ∷ 0xA8 ∷ 0xE0 ∷ 0x1B
     ∷ 0x5A ∷ 0x9C ∷ 0xE2 ∷ 0x2C ∷ 0x7B ∷ 0xCF ∷ 0x27 ∷ 0x85 ∷ 0xE8 ∷ 0x51 ∷ 0xC1 ∷ 0x37
     ∷ 0xB4 ∷ 0x38 ∷ 0xC4 ∷ 0x59 ∷ 0xF7 ∷ 0x9E ∷ 0x4F ∷ 0x0A ∷ 0xD0 ∷ 0xA3 ∷ 0x82 ∷ 0x6E
@@ -99,7 +103,7 @@ low_bytes =
 
 abbrev pub high_bytes : List ℕ
 high_bytes =
-    0x01 ∷ 0x01 ∷ 0x01 ∷ 0x01 ∷ 0x01 ∷ 0x01 ∷ 0x01 ∷ 0x01 ∷ 0x01 ∷ 0x01 ∷ 0x01 ∷ 0x02
+    0x01 ∷ 0x01 ∷ 0x01 ∷ 0x01 ∷ 0x01 ∷ 0x01 ∷ 0x02
     ∷ 0x02 ∷ 0x02 ∷ 0x02 ∷ 0x02 ∷ 0x02 ∷ 0x02 ∷ 0x03 ∷ 0x03 ∷ 0x03 ∷ 0x03 ∷ 0x03 ∷ 0x04
     ∷ 0x04 ∷ 0x04 ∷ 0x04 ∷ 0x05 ∷ 0x05 ∷ 0x05 ∷ 0x06 ∷ 0x06 ∷ 0x06 ∷ 0x07 ∷ 0x07 ∷ 0x08
     ∷ 0x08 ∷ 0x09 ∷ 0x09 ∷ 0x0A ∷ 0x0A ∷ 0x0B ∷ 0x0C ∷ 0x0D ∷ 0x0D ∷ 0x0E ∷ 0x0F ∷ 0x10
@@ -109,12 +113,12 @@ high_bytes =
     ∷ 0x8B ∷ 0x93 ∷ 0x9C ∷ 0xA5 ∷ 0xAF ∷ 0xB9 ∷ 0xC4 ∷ 0xD0 ∷ 0xDD ∷ 0xEA ∷ 0xF8 ∷ 0xFF
     ∷ 0x00 ∷ 0x00 ∷ []
 
--- The lists of tables and instruments begin at number 1, behind the place that has their label; that of the speed table
--- has a row 0 besides.
+-- The frequencies begin at the first number that is asked for, and the lists of tables and instruments at number 1,
+-- behind the place that has their label; that of the speed table has a row 0 besides.
 abbrev pub table_pieces : List Piece
 table_pieces =
-    piece FrequencyLows FREQUENCY_LOWS 0x1210 0 low_bytes
-    ∷ piece FrequencyHighs FREQUENCY_HIGHS 0x12A0 0 high_bytes
+    piece FrequencyLows FREQUENCY_LOWS 0x1210 5 low_bytes
+    ∷ piece FrequencyHighs FREQUENCY_HIGHS 0x12A0 5 high_bytes
     ∷ piece (Lefts Speed) SPEED_LEFTS 0x1108 0 (0x00 ∷ 0x04 ∷ 0x83 ∷ 0x10 ∷ [])
     ∷ piece (Rights Speed) SPEED_RIGHTS 0x110C 0 (0x00 ∷ 0x30 ∷ 0x02 ∷ 0x05 ∷ [])
     ∷ piece Periods PERIODS 0x1110 0 (0x00 ∷ 0x04 ∷ 0x03 ∷ 0x10 ∷ [])
@@ -186,12 +190,31 @@ plain_layout = record list_layout {
   holds = λ condition. false;
 }
 
+-- ---- where frequencies begin
+
+-- it asks for the numbers from this one on, with these
+abbrev pub asking : (first count : ℕ) → first + count ≤ 129 → PackedSong
+asking first count within = record worked_song {
+  numbers = record { first = first; count = count };
+  numbers_within = within;
+}
+
+-- the song has 90 bytes
+pub record FirstNumbersAreWorked : Type 0 where
+  -- where it asks for none
+  pub none : frequencies_listed (asking 0 0 (omega arith)) ≡ 0
+  -- with 92 bytes in front, and with one more that isn't there
+  pub last : first_listed (asking 92 3 (omega arith)) ≡ 92
+  pub last_count : frequencies_listed (asking 92 3 (omega arith)) ≡ 3
+  pub beyond : first_listed (asking 93 3 (omega arith)) ≡ 92
+  pub beyond_count : frequencies_listed (asking 93 3 (omega arith)) ≡ 4
+
 -- ---- as worked
 
 pub record IsAsWorked (layout : Layout) (packed : PackedSong) (p : Piece) : Type 0 where
   pub is_list : IsSongList layout packed p.list
   pub label_is : list_label p.list ≡ p.label
-  pub first_is : first_number p.list ≡ p.first
+  pub first_is : first_number packed p.list ≡ p.first
   pub bytes_are : map (list_byte layout packed p.list) (range_with_len p.first (list_length packed p.list)) ≡ p.bytes
 
 abbrev pub AreAsWorked : Layout → PackedSong → List Piece → Type 0
@@ -199,6 +222,7 @@ AreAsWorked layout packed [] = Unit {0}
 AreAsWorked layout packed (p ∷ pieces) = IsAsWorked layout packed p × AreAsWorked layout packed pieces
 
 pub record SongListsAreWorked : Type 0 where
+  pub first : FirstNumbersAreWorked
   pub tables : AreAsWorked list_layout worked_song table_pieces
   pub instruments : AreAsWorked list_layout worked_song instrument_pieces
   pub orders : AreAsWorked list_layout worked_song order_pieces
@@ -216,4 +240,5 @@ pub record SongListsAreWorked : Type 0 where
   pub no_row_none : ¬ HasNumber worked_song (Lefts Wave) 0
   pub no_wave_row : ¬ HasNumber worked_song (Lefts Wave) 5
   pub no_instrument : ¬ HasNumber worked_song (Instruments 8) 3
+  pub no_frequency_before : ¬ HasNumber worked_song FrequencyLows 4
   pub no_frequency : ¬ HasNumber worked_song FrequencyHighs 98

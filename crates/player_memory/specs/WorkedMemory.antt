@@ -5,8 +5,8 @@ use Rattle.code_runs.specs.Runs.{put}
 use Rattle.play_model.specs.State.{Voice, start_voice}
 use Rattle.scopes.specs.Desk.{Layout}
 use Rattle.player_memory.specs.declared.conditions.TheConstants.{NOTE_DEPENDENT}
-use Rattle.player_memory.specs.declared.labels.TheConstants.{VARIABLES, TICK, INSTRUMENT, GATE, VIB_DELAY, TEMPO}
-use Rattle.player_memory.specs.declared.labels.TheConstants.{FREQ_LOW, FREQ_HIGH}
+use Rattle.player_memory.specs.declared.labels.TheConstants.{VARIABLES, TICK, INSTRUMENT, NOTE, GATE, VIB_DELAY}
+use Rattle.player_memory.specs.declared.labels.TheConstants.{TEMPO, FREQ_LOW, FREQ_HIGH}
 use Rattle.player_memory.specs.declared.labels.TheConstants.{NEW_COMMAND, NEW_PARAM, PULSE_LOW, PULSE_HIGH, LENT}
 use Rattle.player_memory.specs.declared.labels.TheConstants.{KEPT_COMMAND, KEPT_PARAM}
 use Rattle.player_memory.specs.declared.labels.TheConstants.{SLIDES_LOW, SLIDES_HIGH}
@@ -50,20 +50,29 @@ pub record VariablesHaveRows : Type 0 where
 
 -- ---- a voice's bytes
 
--- a voice as it begins, but with a command, a frequency and a pulse width
+-- a voice as it begins, but with a note below C-0, a command, a frequency and a pulse width
 abbrev pub sounding : Voice
-sounding = record start_voice { new_command = 5; new_param = 0x4F; freq = 0x1234; pulse = 0xA5C; vib_delay = 3 }
+sounding = record start_voice {
+  note = 0xF1;
+  new_command = 5;
+  new_param = 0x4F;
+  freq = 0x1234;
+  pulse = 0xA5C;
+  vib_delay = 3;
+}
 
 abbrev pub its_bytes : ℕ → ℕ
 its_bytes =
-    put (put (put (put (put (put (put (put (put (put (put (λ label. 0) TICK 1) INSTRUMENT 1) GATE 0xFE) NEW_COMMAND 5)
-    NEW_PARAM 0x4F) FREQ_LOW 0x34) FREQ_HIGH 0x12) PULSE_LOW 0x5C) PULSE_HIGH 0x0A) VIB_DELAY 2) TEMPO 5
+    put (put (put (put (put (put (put (put (put (put (put (put (λ label. 0) TICK 1) INSTRUMENT 1) NOTE 0x71) GATE 0xFE)
+    NEW_COMMAND 5) NEW_PARAM 0x4F) FREQ_LOW 0x34) FREQ_HIGH 0x12) PULSE_LOW 0x5C) PULSE_HIGH 0x0A) VIB_DELAY 2) TEMPO 5
 
 pub record VoicesAreWorked : Type 0 where
   pub stands : VoiceBytesStand sounding 5 its_bytes
   -- the upper four bits of the width's high byte may be any
   pub high_bits : VoiceBytesStand sounding 5 (put its_bytes PULSE_HIGH 0xFA)
   pub low_bits : ¬ VoiceBytesStand sounding 5 (put its_bytes PULSE_HIGH 0x0B)
+  -- a note is kept mod 128
+  pub note : ¬ VoiceBytesStand sounding 5 (put its_bytes NOTE 0xF1)
   -- a parameter counts where there is a command
   pub param : ¬ VoiceBytesStand sounding 5 (put its_bytes NEW_PARAM 0x4E)
   pub no_command : VoiceBytesStand (record sounding { new_command = 0 }) 5

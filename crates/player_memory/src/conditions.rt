@@ -3,7 +3,7 @@
 //! Those from 0 to 23 are the features of a song, by their bits: each holds where the song uses the feature. A command
 //! is one of a pattern's row or of the wave table; where a pattern is named, one of a row alone. Behind them stand the
 //! options, and then what several features have in common: lines that are kept where the song uses any of them. Those
-//! from 34 to 41 are the song's facts, by their numbers, and the last ones what several facts or features have in common.
+//! from 34 to 49 are the song's facts, by their numbers, and the last ones what several facts or features have in common.
 
 /// An orderlist transposes.
 pub const TRANSPOSES: u8 = 0;
@@ -45,7 +45,7 @@ pub const SET_FILTER_CONTROL: u8 = 17;
 pub const SET_CUTOFF: u8 = 18;
 /// Command `$D` sets the volume.
 pub const SET_VOLUME: u8 = 19;
-/// Command `$E` of a pattern, or `$F` with 0 or 1, has a voice take turns between two tempos.
+/// Command `$E` of a pattern, or `$F` with 0 or 1, has the voices take turns between two tempos.
 pub const FUNK_TEMPO: u8 = 20;
 /// Command `$F` of a pattern sets a tempo.
 pub const SET_TEMPO: u8 = 21;
@@ -101,12 +101,21 @@ pub const NOTE_PULSE: u8 = 44;
 /// An instrument has a filter program, which its notes begin.
 pub const NOTE_FILTER: u8 = 45;
 
+/// A row of a pattern has command `$F` with `$80` up.
+pub const VOICE_TEMPO: u8 = 46;
+/// A row has it with 3 to `$7F`.
+pub const COMMON_TEMPO: u8 = 47;
+/// A row has it with 0 or 1.
+pub const FUNK_TURNS: u8 = 48;
+/// A row has command `$E`.
+pub const FUNK_CHOICE: u8 = 49;
+
 /// A row of a pattern has a command: one that runs, or one that is done once.
-pub const ROW_COMMAND: u8 = 46;
+pub const ROW_COMMAND: u8 = 50;
 /// A row of the wave table is a delay or a command.
-pub const SPECIAL_ROW: u8 = 47;
+pub const SPECIAL_ROW: u8 = 51;
 /// An instrument leaves something as it is before a note: the gate, or the envelope alone.
-pub const HELD_NOTE: u8 = 48;
+pub const HELD_NOTE: u8 = 52;
 
 /// How many conditions there are.
-pub const CONDITIONS: u8 = 49;
+pub const CONDITIONS: u8 = 53;

@@ -29,7 +29,7 @@ pub const TICK: u16 = 23;
 pub const GATE_TIMER: u16 = 24;
 /// The instrument.
 pub const INSTRUMENT: u16 = 25;
-/// The note that sounds.
+/// The note that sounds, mod 128.
 pub const NOTE: u16 = 26;
 /// The note that waits, 0 for none.
 pub const NEW_NOTE: u16 = 27;
@@ -107,13 +107,13 @@ pub const VARIABLES: u16 = 113;
 /// The first of them, where all are cleared.
 pub const FIRST_VARIABLE: u16 = 0;
 
-/// The low bytes of the frequencies.
+/// The low bytes of the frequencies, at the byte that number 0 has or would have.
 pub const FREQUENCY_LOWS: u16 = 128;
-/// The second of them.
+/// The byte behind that one.
 pub const NEXT_FREQUENCY_LOWS: u16 = 129;
-/// The high bytes of the frequencies.
+/// The high bytes of the frequencies, at the byte that number 0 has or would have.
 pub const FREQUENCY_HIGHS: u16 = 130;
-/// The second of them.
+/// The byte behind that one.
 pub const NEXT_FREQUENCY_HIGHS: u16 = 131;
 /// The right sides of the speed table, from row 0 on.
 pub const SPEED_RIGHTS: u16 = 132;

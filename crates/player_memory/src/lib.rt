@@ -11,4 +11,7 @@
 pub mod claims;
 pub mod conditions;
 pub mod labels;
+mod listed;
 pub mod variables;
+
+pub use listed::listed_numbers;

@@ -20,7 +20,7 @@ pub enum VoiceByte {
     GateTimer,
     /// The instrument.
     Instrument,
-    /// The note that sounds.
+    /// The note that sounds, mod 128.
     Note,
     /// The note that waits, 0 for none.
     NewNote,
