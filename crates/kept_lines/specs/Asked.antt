@@ -11,6 +11,7 @@ use Rattle.packed_form.specs.declared.packed_songs.PackedSong.{PackedSong}
 use Rattle.player_memory.specs.declared.conditions.TheConstants.{ROW_TONE, ROW_SLIDE, ROW_ONCE, FIRST_MASK, LEGATO}
 use Rattle.player_memory.specs.declared.conditions.TheConstants.{NO_HARD_RESTART, WAVE_DELAY, GATE_NOTE, ROW_COMMAND}
 use Rattle.player_memory.specs.declared.conditions.TheConstants.{NOTE_VIBRATO, VIBRATO_DELAY, NOTE_PULSE, NOTE_FILTER}
+use Rattle.player_memory.specs.declared.conditions.TheConstants.{VOICE_TEMPO, COMMON_TEMPO, FUNK_TURNS, FUNK_CHOICE}
 
 -- whether the bit of a condition is set
 abbrev pub is_in : ℕ → ℕ → Bool
@@ -35,6 +36,10 @@ asks_fact facts condition =
     else if condition == VIBRATO_DELAY then facts.vibrato_delay
     else if condition == NOTE_PULSE then facts.note_pulse
     else if condition == NOTE_FILTER then facts.note_filter
+    else if condition == VOICE_TEMPO then facts.voice_tempo
+    else if condition == COMMON_TEMPO then facts.common_tempo
+    else if condition == FUNK_TURNS then facts.funk_turns
+    else if condition == FUNK_CHOICE then facts.funk_choice
     else false
 
 -- those below 24 are the features, by their bits

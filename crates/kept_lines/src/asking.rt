@@ -5,8 +5,9 @@ ghost use Rattle.kept_lines.specs.Asked.{is_in, asks_fact, asks, asked, asked_by
 
 use packed_form::PackedSong;
 use player_memory::conditions::{
-    FIRST_MASK, GATE_NOTE, LEGATO, NO_HARD_RESTART, NOTE_FILTER, NOTE_PULSE, NOTE_VIBRATO,
-    ROW_COMMAND, ROW_ONCE, ROW_SLIDE, ROW_TONE, VIBRATO_DELAY, WAVE_DELAY,
+    COMMON_TEMPO, FIRST_MASK, FUNK_CHOICE, FUNK_TURNS, GATE_NOTE, LEGATO, NO_HARD_RESTART,
+    NOTE_FILTER, NOTE_PULSE, NOTE_VIBRATO, ROW_COMMAND, ROW_ONCE, ROW_SLIDE, ROW_TONE,
+    VIBRATO_DELAY, VOICE_TEMPO, WAVE_DELAY,
 };
 use scope_lines::Conditions;
 use song_facts::Facts;
@@ -37,6 +38,10 @@ fn asks_fact(facts: &Facts, condition: u8) -> bool
         VIBRATO_DELAY => facts.vibrato_delay,
         NOTE_PULSE => facts.note_pulse,
         NOTE_FILTER => facts.note_filter,
+        VOICE_TEMPO => facts.voice_tempo,
+        COMMON_TEMPO => facts.common_tempo,
+        FUNK_TURNS => facts.funk_turns,
+        FUNK_CHOICE => facts.funk_choice,
         _ => false,
     }
 }

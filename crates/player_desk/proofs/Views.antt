@@ -20,7 +20,7 @@ pub record Fields (v : Voice) (tempo : ℕ) (own : ℕ → ℕ) : Type 0 where
   pub tick : own TICK ≡ v.tick
   pub gate_timer : own GATE_TIMER ≡ v.gate_timer
   pub instrument : own INSTRUMENT ≡ v.instrument
-  pub note : own NOTE ≡ v.note
+  pub note : own NOTE ≡ v.note % 128
   pub new_note : own NEW_NOTE ≡ v.new_note
   pub new_command : own NEW_COMMAND ≡ v.new_command
   pub new_param : v.new_command ≢ 0 → own NEW_PARAM ≡ v.new_param

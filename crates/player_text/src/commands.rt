@@ -4,8 +4,9 @@
 //! A and Y there. The tick step has them all, the commands of the wave table some of them.
 
 use player_memory::conditions::{
-    FUNK_TEMPO, SET_AD, SET_CUTOFF, SET_FILTER_CONTROL, SET_FILTER_POINTER, SET_PULSE_POINTER,
-    SET_SR, SET_TEMPO, SET_VOLUME, SET_WAVE, SET_WAVE_POINTER,
+    COMMON_TEMPO, FUNK_CHOICE, FUNK_TURNS, SET_AD, SET_CUTOFF, SET_FILTER_CONTROL,
+    SET_FILTER_POINTER, SET_PULSE_POINTER, SET_SR, SET_TEMPO, SET_VOLUME, SET_WAVE,
+    SET_WAVE_POINTER, VOICE_TEMPO,
 };
 use player_memory::labels::{
     AD, CUTOFF, FILTER_CONTROL, FILTER_POINTER, FILTER_TIME, FUNK_ONE, FUNK_TWO, PULSE_POINTER,
@@ -20,6 +21,8 @@ pub const OTHER: u8 = 32;
 pub const ALL: u8 = 33;
 /// A is the tempo of all voices.
 pub const TURNS: u8 = 34;
+/// A sets no tempo, being below 3.
+pub const SHORT: u8 = 35;
 
 /// Command 5 sets attack and decay.
 pub const AD_SET: &[Line] = text! {
@@ -133,7 +136,7 @@ pub const VOLUME_SET: &[Line] = text! {
 
 /// Command `$F` with 0 or 1 has all voices take turns between two tempos.
 pub const FUNK_SET: &[Line] = text! {
-    when FUNK_TEMPO {
+    when FUNK_TURNS {
         scope OTHER {
             Cpy Number 15;
             leave OTHER off Zero;
@@ -152,22 +155,28 @@ pub const TEMPO_SET: &[Line] = text! {
         scope OTHER {
             Cpy Number 15;
             leave OTHER off Zero;
-            scope ALL {
-                Cmp Number 0x80;
-                leave ALL off Carry;
-                And Number 0x7F;
-                Cmp Number 3;
-                leave OTHER off Carry;
-                Sbc Number 1;
-                Sta Own TEMPO;
-                leave OTHER;
+            when VOICE_TEMPO { // Idle where A is below $80; keeps A and Y.
+                scope ALL {
+                    Cmp Number 0x80;
+                    leave ALL off Carry;
+                    And Number 0x7F;
+                    Cmp Number 3;
+                    leave OTHER off Carry;
+                    Sbc Number 1;
+                    Sta Own TEMPO;
+                    leave OTHER;
+                }
             }
-            Cmp Number 3;
-            leave OTHER off Carry;
-            Sbc Number 1;
-            Sta Var TEMPO;
-            Sta Var TEMPO_TWO;
-            Sta Var TEMPO_THREE;
+            when COMMON_TEMPO { // Idle where A is below 3; keeps A and Y.
+                scope SHORT {
+                    Cmp Number 3;
+                    leave SHORT off Carry;
+                    Sbc Number 1;
+                    Sta Var TEMPO;
+                    Sta Var TEMPO_TWO;
+                    Sta Var TEMPO_THREE;
+                }
+            }
         }
     }
 };
@@ -175,7 +184,7 @@ pub const TEMPO_SET: &[Line] = text! {
 /// Command `$E` has all voices take turns between two tempos, and sets these by a row of the speed table, but with 0.
 /// It keeps no register.
 pub const FUNK_CHOSEN: &[Line] = text! {
-    when FUNK_TEMPO {
+    when FUNK_CHOICE {
         scope OTHER {
             Cpy Number 14;
             leave OTHER off Zero;

@@ -7,19 +7,12 @@ use player_memory::labels::{
 };
 use scopes::{Line, text};
 
-/// A is the number, at most 96.
-pub const LOW: u8 = 0;
 /// The command that runs is the voice's own.
-const OWN: u8 = 1;
+const OWN: u8 = 0;
 
 /// Behind `PITCHED`: A is the number for the frequency, below 128. It keeps no register.
 pub const PITCH: &[Line] = text! {
     Sta Own LAST_NOTE;
-    scope LOW {
-        Cmp Number 96;
-        leave LOW off Carry;
-        Lda Number 96;
-    }
     Tay;
     Lda Number 0;
     Sta Own VIB_TIME;

@@ -15,22 +15,20 @@ use scopes::{Line, text};
 
 /// The row's speed isn't calculated, or has been; Y is the row, and the carry as before.
 pub const STORED: u8 = 0;
-/// Y is the number of the note for a frequency, at most 96.
-pub const LOW: u8 = 1;
 /// A is how often the half tone is halved, at most 16.
-pub const FEW: u8 = 2;
+pub const FEW: u8 = 1;
 /// The half tone has been halved.
-pub const WHOLE: u8 = 3;
+pub const WHOLE: u8 = 2;
 /// A is the command, and Y the row.
-pub const NAMED: u8 = 4;
+pub const NAMED: u8 = 3;
 /// A is another command; Y is the row.
-pub const SLIDES: u8 = 5;
+pub const SLIDES: u8 = 4;
 /// The time goes on; A is it less 2, and the carry is off. Y is the row.
-pub const ADDED: u8 = 6;
+pub const ADDED: u8 = 5;
 /// The time goes on, with the carry off; A is it less 2, Y the row.
-pub const CLEARED: u8 = 7;
+pub const CLEARED: u8 = 6;
 /// The frequency is above that of the note, or is it; A is the low byte of the distance, Y the row.
-pub const ABOVE: u8 = 8;
+pub const ABOVE: u8 = 7;
 
 /// Behind `RUNNING`: A is the command, 1 up, 2 down, 3 to the note, 4 for a vibrato. A is it behind this block too, and
 /// Y the row of the speed table, whose slide stands in the lists of slides.
@@ -41,11 +39,6 @@ pub const SPEED_STEP: &[Line] = text! {
             Lda Entry SPEED_LEFTS;
             leave STORED off Minus;
             Ldy Own LAST_NOTE;
-            scope LOW {
-                Cpy Number 96;
-                leave LOW off Carry;
-                Ldy Number 96;
-            }
             Lda Entry NEXT_FREQUENCY_LOWS;
             Sec;
             Sbc Entry FREQUENCY_LOWS;
@@ -135,11 +128,6 @@ pub const TONE_STEP: &[Line] = text! {
     }
     when TONE_PORTA { // Not come to in a song without it.
         Ldy Own NOTE;
-        scope LOW {
-            Cpy Number 96;
-            leave LOW off Carry;
-            Ldy Number 96;
-        }
         Lda Own FREQ_LOW;
         Sec;
         Sbc Entry FREQUENCY_LOWS;
@@ -216,7 +204,6 @@ pub const SINK_STEP: &[Line] = text! {
 pub const FOUND_STEP: &[Line] = text! {
     when FOUND_NOTE { // Not come to in a song without it.
         Lda Own NOTE;
-        And Number 0x7F;
     }
 };
 

@@ -82,6 +82,7 @@ pub const NOTE_TAKEN: &[Line] = text! {
     leave TAKEN on Zero;
     Sec;
     Sbc Number 0x60;
+    And Number 0x7F;
     Sta Own NOTE;
     when VIBRATO_DELAY { // Idle where the delay is stored as $FF, and VIB_DELAY is it; keeps Y.
         Lda Entry DELAYS;
