@@ -2,8 +2,8 @@
 
 -- lines of a tree, and those of a command
 pub use Rattle.command_code.proofs.Lines.{first_of, behind, past, under, body_for}
--- bytes that voices share are stored, and tempos
-pub use Rattle.command_code.proofs.Bytes.{shared_done, tempos_kept, own_tempo_set}
+-- bytes that voices share are stored, and tempos; a byte without bit 7
+pub use Rattle.command_code.proofs.Bytes.{shared_done, tempos_kept, own_tempo_set, low_seven}
 -- the desk between the lines of one command and those of the next
 pub use Rattle.command_code.proofs.Links.{Between, Before, Does, part_leads, passed, link}
 -- commands of a row alone: the row of the wave program is set, and tempos are

@@ -20,7 +20,7 @@ pub record Between (r : Reader) (c p : ℕ) (u t : Playing) (handed : Lent) (d :
   pub a : Keeps → m.a ≡ p
 
 -- the same, where registers alone have changed, of which A and Y haven't
-between_over : (r : Reader) (c p : ℕ) (u t : Playing) (handed : Lent) (d m n : VoiceDesk) (Was Waits Keeps : Type 0) →
+pub between_over : (r : Reader) (c p : ℕ) (u t : Playing) (handed : Lent) (d m n : VoiceDesk) (Was Waits Keeps : Type 0) →
     n.own ≡ m.own → n.shared ≡ m.shared → n.sid ≡ m.sid → n.y ≡ m.y → n.a ≡ m.a →
     Between r c p u t handed d Was Waits Keeps m → Between r c p u t handed d Was Waits Keeps n
 between_over r c p u t handed d m n Was Waits Keeps own shared sid y a at = record {

@@ -1,6 +1,6 @@
 -- Commands $E and $F of a row set tempos, for this voice or for all.
 use Rattle.std.specs.Prelude.{⊤}
-use Rattle.std.proofs.Common.{◌≡◌, ◌≢◌, ℕ, ◌+◌, ◌-◌, ◌%◌, ◌<◌, ◌≤◌, Bool, true, false}
+use Rattle.std.proofs.Common.{◌≡◌, ◌≢◌, ℕ, ◌+◌, ◌-◌, ◌%◌, ◌<◌, ◌≤◌, ◌⊎◌, Bool, true, false}
 use Rattle.std.proofs.Common.{nat_le, bit_and}
 use Rattle.std.proofs.Common.{Some, inl, inr, refl, sym, ap, subst, ◌∙◌, arith}
 use Rattle.std.proofs.lemmas.Bool.{not-true, not-false, leb-true, leb-false, eqb-true, eqb-false, cases_lt, both_ways}
@@ -12,16 +12,16 @@ use Rattle.scopes.specs.Trees.{Tree, ThenTree}
 use Rattle.play_model.specs.LookUps.{LookUps}
 use Rattle.play_model.specs.State.{Common, Playing}
 use Rattle.play_model.specs.TickStep.{tempo_of, with_tempo, with_all_tempos, funk_set, funk_tempo, tempo_set}
-use Rattle.player_memory.specs.declared.conditions.TheConstants.{FUNK_TEMPO, SET_TEMPO}
+use Rattle.player_memory.specs.declared.conditions.TheConstants.{SET_TEMPO, VOICE_TEMPO, COMMON_TEMPO, FUNK_TURNS}
 use Rattle.player_memory.specs.declared.labels.TheConstants.{FUNK_ONE, FUNK_TWO, SPEED_LEFTS, SPEED_RIGHTS}
-use Rattle.player_memory.specs.Commands.{condition_of_tempo, AreKept}
+use Rattle.player_memory.specs.Commands.{condition_of_tempo, AreKept, KeepsTempo}
 use Rattle.player_text.specs.declared.commands.TheConstants.{OTHER, TURNS, FUNK_SET, TEMPO_SET, FUNK_CHOSEN}
 use Rattle.player_desk.proofs.Laws.{VoiceDesk, Reader, Ways, Leads, done_as, in_scope, body_of, rest_of, joined}
 use Rattle.player_desk.proofs.Laws.{goes_on, Lent, Done, done_over, done_by, Reads, listed, place_at}
-use Rattle.command_code.proofs.Lines.{lines_for, lines_of}
+use Rattle.command_code.proofs.Lines.{behind, lines_for, lines_of}
 use Rattle.command_code.proofs.Rules.{tempo_chosen, tempo_all, tempo_own, tempo_none, funk_none, funk_some}
 use Rattle.command_code.proofs.Bytes.{shared_done, tempos_kept, own_tempo_set, all_tempos_set, low_seven}
-use Rattle.command_code.proofs.Links.{Between, part_leads}
+use Rattle.command_code.proofs.Links.{Between, between_over, part_leads}
 use Rattle.command_code.proofs.Commands.{shared_by}
 
 -- ---- $F with 0 and 1
@@ -72,60 +72,90 @@ unset r c p u t handed d m small low rule at =
           (sym (ap (λ q. shared_by q u) (tempo_none (r.voice + 1) p u.common long small low) ∙ rule)) (at.waits long)
     ]
 
+-- one that is no length for one voice
+common_leads : (r : Reader) (c p : ℕ) (u t : Playing) (handed : Lent) (d : VoiceDesk) (ways : Ways)
+    (Q : VoiceDesk → Type 0) (m : VoiceDesk) → r.voice < 3 → p < 128 →
+    (3 ≤ p → r.layout.holds COMMON_TEMPO ≡ true) → shared_by (tempo_set (r.voice + 1) p u.common) u ≡ t →
+    ((n : VoiceDesk) → n.y ≡ c → Done r.voice t handed d n → Q n) → AtLengths r c p u t handed d m →
+    Leads r (behind (lines_of TEMPO_SET)) (in_scope OTHER (done_as Q ways)) m
+common_leads r c p u t handed d ways Q m few under keeps rule ends at =
+    let a : m.a ≡ p = at.a tt in (
+      λ kept. (
+        λ less.
+            let low : p % 128 < 3 = (let z = leb-false 3 m.a (not-true _ less) in omega (arith, z, a, under)) in
+            ends _ at.y
+            (done_over r.voice t handed d m _ refl refl refl
+            (unset r c p u t handed d m (omega (arith, under)) low rule at)),
+        λ more.
+            let carry : nat_le 3 m.a ≡ true = not-false _ more in
+            let from : 3 ≤ p = (let z = leb-true 3 m.a carry in omega (arith, z, a)) in
+            let tempo = one_less_is m.a p (nat_le 3 m.a) a (omega (arith, from)) (omega (arith, under)) carry in
+            let done : Done r.voice u handed d m = at.waits (omega (arith, from)) in
+            ends _ at.y
+            (done_by r.voice _ t handed d _
+            (sym (ap (λ q. shared_by (with_all_tempos q u.common) u) tempo
+            ∙ (ap (λ q. shared_by q u) (tempo_all (r.voice + 1) p u.common from under) ∙ rule)))
+            (all_tempos_set r.voice u handed d _ ((m.a + 254 + one_if (nat_le 3 m.a)) % 256) few
+            (done_over r.voice u handed d m _ refl refl refl done))),
+      ),
+      λ out.
+          let low : p < 3 = no_common out (cases_lt p 3) in
+          ends m at.y (unset r c p u t handed d m (omega (arith, under)) (omega (arith, low)) rule at),
+    )
+  where
+    no_common : r.layout.holds COMMON_TEMPO ≡ false → (p < 3) ⊎ (3 ≤ p) → p < 3
+    no_common out (inl low) = low
+    no_common out (inr from) = absurd (both_ways (r.layout.holds COMMON_TEMPO) out (keeps from))
+
 length_leads : (r : Reader) (c p : ℕ) (u t : Playing) (handed : Lent) (d : VoiceDesk) (ways : Ways)
-    (Q : VoiceDesk → Type 0) (m : VoiceDesk) → r.voice < 3 → p < 256 →
+    (Q : VoiceDesk → Type 0) (m : VoiceDesk) → r.voice < 3 → p < 256 → c ≡ 0xF → KeepsTempo r.layout c p →
     shared_by (tempo_set (r.voice + 1) p u.common) u ≡ t →
     ((n : VoiceDesk) → n.y ≡ c → Done r.voice t handed d n → Q n) → AtLengths r c p u t handed d m →
     Leads r (lines_of TEMPO_SET) (in_scope OTHER (done_as Q ways)) m
-length_leads r c p u t handed d ways Q m few small rule ends at =
+length_leads r c p u t handed d ways Q m few small is keeps rule ends at =
     let a : m.a ≡ p = at.a tt in (
-      λ below.
-          let under : p < 128 = (let z = leb-false 128 m.a (not-true _ below) in omega (arith, z, a)) in (
-            λ less.
-                let low : p % 128 < 3 = (let z = leb-false 3 m.a (not-true _ less) in omega (arith, z, a, under)) in
-                ends _ at.y
-                (done_over r.voice t handed d m _ refl refl refl (unset r c p u t handed d m small low rule at)),
-            λ more.
-                let carry : nat_le 3 m.a ≡ true = not-false _ more in
-                let from : 3 ≤ p = (let z = leb-true 3 m.a carry in omega (arith, z, a)) in
-                let tempo = one_less_is m.a p (nat_le 3 m.a) a (omega (arith, from)) small carry in
-                let done : Done r.voice u handed d m = at.waits (omega (arith, from)) in
-                ends _ at.y
-                (done_by r.voice _ t handed d _
-                (sym (ap (λ q. shared_by (with_all_tempos q u.common) u) tempo
-                ∙ (ap (λ q. shared_by q u) (tempo_all (r.voice + 1) p u.common from under) ∙ rule)))
-                (all_tempos_set r.voice u handed d _ ((m.a + 254 + one_if (nat_le 3 m.a)) % 256) few
-                (done_over r.voice u handed d m _ refl refl refl done))),
-          ),
-      λ above.
-          let over : 128 ≤ p = (let z = leb-true 128 m.a (not-false _ above) in omega (arith, z, a)) in
-          let rest : bit_and m.a 0x7F ≡ p % 128 = ap (λ n. bit_and n 0x7F) a ∙ low_seven p small in (
-            λ less.
-                let low : p % 128 < 3 =
-                (let z = leb-false 3 (bit_and m.a 0x7F) (not-true _ less) in omega (arith, z, rest)) in
-                ends _ at.y
-                (done_over r.voice t handed d m _ refl refl refl (unset r c p u t handed d m small low rule at)),
-            λ more.
-                let carry : nat_le 3 (bit_and m.a 0x7F) ≡ true = not-false _ more in
-                let from : 3 ≤ p % 128 = (let z = leb-true 3 (bit_and m.a 0x7F) carry in omega (arith, z, rest)) in
-                let tempo = one_less_is (bit_and m.a 0x7F) (p % 128) (nat_le 3 (bit_and m.a 0x7F)) rest
-                (omega (arith, from)) (omega arith) carry in
-                let same : p % 128 - 1 ≡ p - 0x81 = omega (arith, small, over, from) in
-                let done : Done r.voice u handed d m = at.waits (omega (arith, over)) in
-                ends _ at.y
-                (done_by r.voice _ t handed d _
-                (sym (ap (λ q. shared_by (with_tempo (r.voice + 1) q u.common) u) (tempo ∙ same)
-                ∙ (ap (λ q. shared_by q u) (tempo_own (r.voice + 1) p u.common (omega (arith, small, over, from)))
-                ∙ rule)))
-                (done_over r.voice _ handed d _ _ refl refl refl
-                (own_tempo_set r.voice u handed d m
-                ((bit_and m.a 0x7F + 254 + one_if (nat_le 3 (bit_and m.a 0x7F))) % 256) few done))),
-          ),
+      λ kept. (
+        λ below.
+            let under : p < 128 = (let z = leb-false 128 m.a (not-true _ below) in omega (arith, z, a)) in
+            common_leads r c p u t handed d ways Q _ few under (λ from. keeps.common is from under) rule ends
+            (between_over r c p u t handed d m _ (p < 2) (2 ≤ p) ⊤ refl refl refl refl refl at),
+        λ above.
+            let over : 128 ≤ p = (let z = leb-true 128 m.a (not-false _ above) in omega (arith, z, a)) in
+            let rest : bit_and m.a 0x7F ≡ p % 128 = ap (λ n. bit_and n 0x7F) a ∙ low_seven p small in (
+              λ less.
+                  let low : p % 128 < 3 =
+                  (let z = leb-false 3 (bit_and m.a 0x7F) (not-true _ less) in omega (arith, z, rest)) in
+                  ends _ at.y
+                  (done_over r.voice t handed d m _ refl refl refl (unset r c p u t handed d m small low rule at)),
+              λ more.
+                  let carry : nat_le 3 (bit_and m.a 0x7F) ≡ true = not-false _ more in
+                  let from : 3 ≤ p % 128 = (let z = leb-true 3 (bit_and m.a 0x7F) carry in omega (arith, z, rest)) in
+                  let tempo = one_less_is (bit_and m.a 0x7F) (p % 128) (nat_le 3 (bit_and m.a 0x7F)) rest
+                  (omega (arith, from)) (omega arith) carry in
+                  let same : p % 128 - 1 ≡ p - 0x81 = omega (arith, small, over, from) in
+                  let done : Done r.voice u handed d m = at.waits (omega (arith, over)) in
+                  ends _ at.y
+                  (done_by r.voice _ t handed d _
+                  (sym (ap (λ q. shared_by (with_tempo (r.voice + 1) q u.common) u) (tempo ∙ same)
+                  ∙ (ap (λ q. shared_by q u) (tempo_own (r.voice + 1) p u.common (omega (arith, small, over, from)))
+                  ∙ rule)))
+                  (done_over r.voice _ handed d _ _ refl refl refl
+                  (own_tempo_set r.voice u handed d m
+                  ((bit_and m.a 0x7F + 254 + one_if (nat_le 3 (bit_and m.a 0x7F))) % 256) few done))),
+            ),
+      ),
+      λ out.
+          let under : p < 128 = no_voice out (cases_lt p 128) in
+          common_leads r c p u t handed d ways Q m few under (λ from. keeps.common is from under) rule ends at,
     )
+  where
+    no_voice : r.layout.holds VOICE_TEMPO ≡ false → (p < 128) ⊎ (128 ≤ p) → p < 128
+    no_voice out (inl low) = low
+    no_voice out (inr high) = absurd (both_ways (r.layout.holds VOICE_TEMPO) out (keeps.voice is high))
 
 -- ---- $F
 
-chosen_is : (p : ℕ) → p < 2 → condition_of_tempo p ≡ Some FUNK_TEMPO
+chosen_is : (p : ℕ) → p < 2 → condition_of_tempo p ≡ Some FUNK_TURNS
 chosen_is p short =
     let a : nat_le p 1 ≡ true = le-leb p 1 (omega (arith, short)) in
     rw a refl
@@ -140,18 +170,19 @@ abbrev length_lines : Tree → Tree
 length_lines rest = ThenTree (lines_for SET_TEMPO 0xF (lines_of TEMPO_SET)) rest
 
 abbrev pub tempo_lines : Tree → Tree
-tempo_lines rest = ThenTree (lines_for FUNK_TEMPO 0xF (lines_of FUNK_SET)) (length_lines rest)
+tempo_lines rest = ThenTree (lines_for FUNK_TURNS 0xF (lines_of FUNK_SET)) (length_lines rest)
 
 -- the command is done by two blocks, of which each may be left out where its condition isn't the command's
 pub tempo_lead : (r : Reader) (c p : ℕ) (u t : Playing) (handed : Lent) (d : VoiceDesk) (rest : Tree) (ways : Ways)
     (m : VoiceDesk) → r.voice < 3 → c ≡ 0xF → p < 256 → AreKept r.layout (condition_of_tempo p) →
+    KeepsTempo r.layout c p →
     shared_by (tempo_set (r.voice + 1) p u.common) u ≡ t →
     ((n : VoiceDesk) → Between r c p u t handed d ⊤ ⊥ ⊥ n → Leads r rest ways n) → m.y ≡ c → m.a ≡ p →
     Done r.voice u handed d m → Leads r (tempo_lines rest) ways m
-tempo_lead r c p u t handed d rest ways m voice e small kept rule on y a done =
-    goes_on true r (lines_for FUNK_TEMPO 0xF (lines_of FUNK_SET)) (length_lines rest) (AtLengths r c p u t handed d)
+tempo_lead r c p u t handed d rest ways m voice e small kept tempo rule on y a done =
+    goes_on true r (lines_for FUNK_TURNS 0xF (lines_of FUNK_SET)) (length_lines rest) (AtLengths r c p u t handed d)
     ways m
-    (part_leads r c p u t handed d ⊥ ⊤ ⊤ FUNK_TEMPO 0xF (lines_of FUNK_SET) ways (AtLengths r c p u t handed d) m few
+    (part_leads r c p u t handed d ⊥ ⊤ ⊤ FUNK_TURNS 0xF (lines_of FUNK_SET) ways (AtLengths r c p u t handed d) m few
     (omega arith) (λ n other at. absurd (other e)) (λ left same. not_chosen left)
     (λ n same at. chosen_leads r c p u t handed d ways n voice rule at.y (at.a tt) (at.waits tt))
     (record { y = y; was = λ was. absurd was; waits = λ waits. done; a = λ keeps. a }))
@@ -160,17 +191,18 @@ tempo_lead r c p u t handed d rest ways m voice e small kept rule on y a done =
     (part_leads r c p u t handed d (p < 2) (2 ≤ p) ⊤ SET_TEMPO 0xF (lines_of TEMPO_SET) ways
     (Between r c p u t handed d ⊤ ⊥ ⊥) n few (omega arith) (λ k other at. absurd (other e))
     (λ left same. no_length n left at)
-    (λ k same at. length_leads r c p u t handed d ways (Between r c p u t handed d ⊤ ⊥ ⊥) k voice small rule ended at)
+    (λ k same at. length_leads r c p u t handed d ways (Between r c p u t handed d ⊤ ⊥ ⊥) k voice small e tempo rule ended
+    at)
     at) on)
   where
     few : c < 256
     few = omega (arith, e)
 
-    not_chosen : r.layout.holds FUNK_TEMPO ≡ false → AtLengths r c p u t handed d m
+    not_chosen : r.layout.holds FUNK_TURNS ≡ false → AtLengths r c p u t handed d m
     not_chosen left = record {
       y = y;
       was = λ short.
-          absurd (both_ways (r.layout.holds FUNK_TEMPO) left (subst (AreKept r.layout) (chosen_is p short) kept));
+          absurd (both_ways (r.layout.holds FUNK_TURNS) left (subst (AreKept r.layout) (chosen_is p short) kept));
       waits = λ long. done;
       a = λ keeps. a;
     }

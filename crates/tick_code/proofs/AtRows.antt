@@ -13,6 +13,7 @@ use Rattle.player_desk.proofs.Laws.{VoiceDesk, Reader, Ways, Leads, done_as, in_
 use Rattle.player_desk.proofs.Laws.{goes_on, loaded, indexed, Lent, Done, own_done, done_over, done_by, listed}
 use Rattle.player_text.specs.declared.joints.TheConstants.{TICKED, TAKEN, DONE}
 use Rattle.player_text.specs.declared.tick.TheConstants.{AT_ROW}
+use Rattle.player_memory.specs.Commands.{KeepsTempo}
 use Rattle.player_memory.specs.FactLines.{KeepsShared}
 use Rattle.tick_code.specs.TickBlock.{tick_tree, KeepsCommand, KeepsRow, KeepsInstrument}
 use Rattle.tick_code.proofs.Pieces.{first_of, behind}
@@ -73,6 +74,7 @@ timer_leads r look number s handed d ways m ground at =
 pub row_leads : (r : Reader) (look : LookUps) (s : Playing) (handed : Lent) (d m : VoiceDesk) → r.voice < 3 →
     s.voice.new_command < 256 → s.voice.new_param < 256 → InstrumentAt r look s.voice.instrument →
     KeepsCommand r.layout s.voice.new_command s.voice.new_param → KeepsRow r.layout s.voice.new_command →
+    KeepsTempo r.layout s.voice.new_command s.voice.new_param →
     KeepsInstrument r.layout (look.instrument s.voice.instrument) s.voice.vib_delay → KeepsShared r.layout →
     (s.voice.new_command ≡ 0xE → s.voice.new_param ≢ 0 → SpeedAt r look s.voice.new_param) →
     Done r.voice s handed d m →
@@ -80,7 +82,7 @@ pub row_leads : (r : Reader) (look : LookUps) (s : Playing) (handed : Lent) (d m
     (in_scope TICKED
     (ways_of r.voice (at_row (r.voice + 1) look (look.instrument s.voice.instrument) s) handed d)) m
 unfolding at_row
-row_leads r look s handed d m voice few small ground keeps row instrument shared sides done =
+row_leads r look s handed d m voice few small ground keeps row tempo instrument shared sides done =
     goes_on true r (first_of timer_tree) (behind timer_tree) (AtTimer number r.voice i.gate_timer s handed d) goal
     (indexed (m.own INSTRUMENT) m)
     (timer_leads r look number s handed d goal (indexed (m.own INSTRUMENT) m) ground (record {
@@ -103,10 +105,8 @@ row_leads r look s handed d m voice few small ground keeps row instrument shared
     }))
     (λ k at.
     joined true r DONE (body_of DONE tick_tree) (rest_of DONE tick_tree) (Ended r look i c p at.u handed d) goal k
-    (command_leads r look number c p at.u handed d goal k voice few small ground keeps row instrument.vibrato shared
-    sides at.command_is
-    at.param_is
-    at.here)
+    (command_leads r look number c p at.u handed d goal k voice few small ground keeps row tempo instrument.vibrato
+    shared sides at.command_is at.param_is at.here)
     (λ l done.
     end_leads r (row_command (r.voice + 1) look i c p at.u) after handed d l
     (note_of at.u at.note)

@@ -1,13 +1,14 @@
 -- The cases of the rules at a row: what they leave of the row that waits, and how a note starts.
 use Rattle.std.proofs.Common.{◌≡◌, ◌≢◌, ℕ, ◌+◌, ◌-◌, ◌%◌, ◌<◌, ◌&&◌, Bool, true}
-use Rattle.std.proofs.Common.{false, not, nat_eq, nat_le, bit_xor}
-use Rattle.std.proofs.Common.{if◌then◌else◌, refl, sym, ap, arith}
+use Rattle.std.proofs.Common.{false, not, nat_eq, nat_le, bit_and, bit_xor}
+use Rattle.std.proofs.Common.{if◌then◌else◌, refl, sym, ap, ◌∙◌, arith}
 use Rattle.std.proofs.lemmas.Bool.{agree_below_at, ne_eqb, eq-eqb}
 use Rattle.song_model.specs.declared.instruments.Instrument.{Instrument}
 use Rattle.play_model.specs.LookUps.{LookUps}
 use Rattle.play_model.specs.State.{Voice, Playing}
 use Rattle.play_model.specs.TickStep.{note_taken, first_wave_set, sound_begun, note_started, row_command}
 use Rattle.play_model.specs.Helpers.{do_command}
+use Rattle.command_code.proofs.Laws.{low_seven}
 use Rattle.tick_code.proofs.TickDesks.{cleared}
 
 -- one of two
@@ -166,5 +167,9 @@ cleared_same s none = by_voice s.voice none
 pub is_slide : (n : ℕ) → n < 256 → nat_eq (bit_xor n 3) 0 ≡ nat_eq n 3
 is_slide n l = agree_below_at (λ n. nat_eq (bit_xor n 3) 0) (λ n. nat_eq n 3) 256 n refl l
 
-pub note_is : (n waits : ℕ) → n ≡ waits → (n + (255 - 0x60) + 1) % 256 ≡ (waits + 256 - 0x60) % 256
-note_is n waits e = rw e (omega arith)
+-- A is the note that waits, less $60, without bit 7
+pub note_is : (n waits : ℕ) → n ≡ waits →
+    bit_and ((n + (255 - 0x60) + 1) % 256) 0x7F ≡ (waits + 256 - 0x60) % 256 % 128
+note_is n waits e =
+    let less : (n + (255 - 0x60) + 1) % 256 ≡ (waits + 256 - 0x60) % 256 = rw e (omega arith) in
+    low_seven ((n + (255 - 0x60) + 1) % 256) (omega arith) ∙ ap (λ byte. byte % 128) less

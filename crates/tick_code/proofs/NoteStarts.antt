@@ -1,6 +1,6 @@
 -- At a row the note that waits starts.
 use Rattle.std.proofs.Common.{◌≡◌, ◌≢◌, ℕ, ◌+◌, ◌-◌, ◌%◌, ◌<◌, true, false, not, nat_eq}
-use Rattle.std.proofs.Common.{nat_le, bit_xor}
+use Rattle.std.proofs.Common.{nat_le, bit_and, bit_xor}
 use Rattle.std.proofs.Common.{refl, sym, ap, ◌∙◌}
 use Rattle.std.proofs.lemmas.Bool.{not-true, not-false, eqb-true, eqb-false, eq-eqb, ne_eqb, both_ways}
 use Rattle.code_runs.specs.Runs.{put}
@@ -16,7 +16,7 @@ use Rattle.player_desk.proofs.Laws.{goes_on, Lent, own_done, done_over, listed}
 use Rattle.player_text.specs.declared.joints.TheConstants.{TAKEN}
 use Rattle.player_text.specs.declared.tick.TheConstants.{STARTS}
 use Rattle.tick_code.specs.TickBlock.{tick_tree, KeepsRow, KeepsInstrument}
-use Rattle.tick_code.proofs.Pieces.{first_of, behind, sound_tree}
+use Rattle.tick_code.proofs.Pieces.{first_of, behind, past, sound_tree}
 use Rattle.tick_code.proofs.TickDesks.{Ticking, cleared, ticking_as, none_unkept}
 use Rattle.tick_code.proofs.TickGrounds.{InstrumentAt}
 use Rattle.tick_code.proofs.NoteRules.{note_row, starts, starts_none, starts_slide, starts_sound, none_started}
@@ -135,7 +135,7 @@ begins_leads r look number s handed d ways m some small at = (
 -- ---- the note
 
 abbrev delay_tree : Tree
-delay_tree = behind (behind (behind (behind (behind (body_of TAKEN tick_tree)))))
+delay_tree = past 6 (body_of TAKEN tick_tree)
 
 abbrev taken : Playing → Playing
 taken s = record s { voice = record s.voice { note = (s.voice.new_note + 256 - 0x60) % 256 } }
@@ -231,11 +231,14 @@ note_leads r look number s handed d ways m ground keeps row small at = (
     sum : ℕ
     sum = m.own NEW_NOTE + 159 + 1
 
+    rest : ℕ
+    rest = bit_and (sum % 256) 0x7F
+
     quiet : VoiceDesk
     quiet = record m {
-      own = put m.own NOTE (sum % 256);
-      a = sum % 256;
+      own = put m.own NOTE rest;
+      a = rest;
       c = nat_le 256 sum;
-      z = nat_eq (sum % 256) 0;
-      n = nat_le 128 (sum % 256);
+      z = nat_eq rest 0;
+      n = nat_le 128 rest;
     }

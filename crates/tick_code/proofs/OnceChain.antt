@@ -7,8 +7,8 @@ use Rattle.song_model.specs.declared.instruments.Instrument.{Instrument}
 use Rattle.play_model.specs.LookUps.{LookUps}
 use Rattle.play_model.specs.State.{Playing}
 use Rattle.play_model.specs.TickStep.{row_command}
-use Rattle.player_memory.specs.declared.conditions.TheConstants.{SET_WAVE_POINTER, FUNK_TEMPO, SET_TEMPO}
-use Rattle.player_memory.specs.Commands.{condition_of, condition_of_both, AreKept}
+use Rattle.player_memory.specs.declared.conditions.TheConstants.{SET_WAVE_POINTER, SET_TEMPO, FUNK_TURNS, FUNK_CHOICE}
+use Rattle.player_memory.specs.Commands.{condition_of, condition_of_both, AreKept, KeepsTempo}
 use Rattle.player_desk.proofs.Laws.{VoiceDesk, Reader, Ways, Leads, done_as, Lent, Done, done_by}
 use Rattle.command_code.proofs.Laws.{Between, Before, part_leads, passed, link, wave_pointer_does, tempo_lead, SpeedAt}
 use Rattle.command_code.proofs.Laws.{funk_leads, Ruled, early_lead, late_lead}
@@ -42,10 +42,10 @@ Ended r look i c p u handed d m = Done r.voice (left_by r look i c p u) handed d
 -- Y is the command, from 5 on, and A its parameter
 pub once_leads : (r : Reader) (look : LookUps) (i : Instrument) (c p : ℕ) (u : Playing) (handed : Lent)
     (d : VoiceDesk) (ways : Ways) (m : VoiceDesk) → r.voice < 3 → 5 ≤ c → c < 256 → p < 256 →
-    KeepsCommand r.layout c p → (c ≡ 0xE → p ≢ 0 → SpeedAt r look p) →
+    KeepsCommand r.layout c p → KeepsTempo r.layout c p → (c ≡ 0xE → p ≢ 0 → SpeedAt r look p) →
     Before 5 r c p u (left_by r look i c p u) handed d m →
     Leads r from_ad (done_as (Ended r look i c p u handed d) ways) m
-once_leads r look i c p u handed d ways m voice from few small keeps sides at =
+once_leads r look i c p u handed d ways m voice from few small keeps tempo sides at =
     early_lead r c p u t handed d from_wave_pointer goal m ruled at_wave_pointer at
   where
     goal : Ways
@@ -72,9 +72,9 @@ once_leads r look i c p u handed d ways m voice from few small keeps sides at =
 
     at_funk : (n : VoiceDesk) → Between r c p u t handed d (c ≢ 14) (c ≡ 14) (c ≡ 14) n → Leads r from_funk goal n
     at_funk n at =
-        part_leads r c p u t handed d (c ≢ 14) (c ≡ 14) (c ≡ 14) FUNK_TEMPO 14 (body_for (first_of from_funk)) goal
+        part_leads r c p u t handed d (c ≢ 14) (c ≡ 14) (c ≡ 14) FUNK_CHOICE 14 (body_for (first_of from_funk)) goal
         (Ended r look i c p u handed d) n few (omega arith) (λ k other at. at.was other)
-        (λ left same. absurd (both_ways (r.layout.holds FUNK_TEMPO) left (kept 14 same)))
+        (λ left same. absurd (both_ways (r.layout.holds FUNK_CHOICE) left (kept 14 same)))
         (λ k same at.
         funk_leads r look p u t handed d goal k voice (sides same) (row_funk (r.voice + 1) look i c p u same)
         (at.a same) (at.waits same)) at
@@ -102,7 +102,7 @@ once_leads r look i c p u handed d ways m voice from few small keeps sides at =
           | inl same ↦
               let e : c ≡ 15 = same.1 in
               let late : 14 ≤ c = omega (arith, e) in
-              tempo_lead r c p u t handed d from_funk goal n voice e small (kept 15 e)
+              tempo_lead r c p u t handed d from_funk goal n voice e small (kept 15 e) tempo
               (row_tempo (r.voice + 1) look i c p u e)
               (λ k at.
               at_funk k (record {
@@ -112,7 +112,7 @@ once_leads r look i c p u handed d ways m voice from few small keeps sides at =
                 a = λ last. absurd (omega (arith, e, last));
               })) at.y (at.a late) (at.waits late)
           | inr other ↦
-              passed r c p u t handed d (c < 14) (14 ≤ c) (14 ≤ c) FUNK_TEMPO 15 (body_for (first_of from_chosen))
+              passed r c p u t handed d (c < 14) (14 ≤ c) (14 ≤ c) FUNK_TURNS 15 (body_for (first_of from_chosen))
               from_length goal n few (omega arith) other.1
               (λ k at.
               passed r c p u t handed d (c < 14) (14 ≤ c) (14 ≤ c) SET_TEMPO 15 (body_for (first_of from_length))

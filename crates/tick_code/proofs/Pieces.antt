@@ -1,15 +1,14 @@
 -- Pieces of the block's tree.
-pub use Rattle.command_code.proofs.Laws.{first_of, behind, under, body_for}
+pub use Rattle.command_code.proofs.Laws.{first_of, behind, past, under, body_for}
 use Rattle.scopes.specs.Trees.{Tree}
 use Rattle.player_desk.proofs.Laws.{body_of, rest_of}
-use Rattle.command_code.proofs.Laws.{past}
 use Rattle.player_text.specs.declared.joints.TheConstants.{TAKEN}
 use Rattle.player_text.specs.declared.tick.TheConstants.{ONCE, BARE}
 use Rattle.tick_code.specs.TickBlock.{tick_tree}
 
 -- behind the test for a slide the sound of the note begins
 abbrev pub sound_tree : Tree
-sound_tree = past 7 (body_of TAKEN tick_tree)
+sound_tree = past 8 (body_of TAKEN tick_tree)
 
 -- a row's command, and one that runs
 abbrev pub row_tree : Tree

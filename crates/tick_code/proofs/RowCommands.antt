@@ -1,5 +1,5 @@
 -- The row's command is done: one from 0 to 4 runs from now on, another one is done once.
-use Rattle.std.proofs.Common.{◌≡◌, ◌≢◌, ℕ, ◌+◌, ◌<◌, ◌≤◌, ◌⊎◌, true, false, nat_eq}
+use Rattle.std.proofs.Common.{◌≡◌, ◌≢◌, ℕ, ◌+◌, ◌<◌, ◌≤◌, ◌⊎◌, true, false}
 use Rattle.std.proofs.Common.{inl, inr, refl, sym, ◌∙◌, arith}
 use Rattle.std.proofs.lemmas.Bool.{leb-true, leb-false, eqb-true, eqb-false, both_ways, cases_lt}
 use Rattle.std.proofs.lemmas.Bool.Decides.{eqb_tells}
@@ -11,6 +11,7 @@ use Rattle.play_model.specs.State.{Voice, Playing}
 use Rattle.play_model.specs.TickStep.{row_command}
 use Rattle.player_memory.specs.declared.conditions.TheConstants.{ROW_COMMAND, ROW_SLIDE, ROW_ONCE, NOTE_VIBRATO}
 use Rattle.player_memory.specs.declared.labels.TheConstants.{NEW_COMMAND, NEW_PARAM, COMMAND, PARAM, VIBRATOS}
+use Rattle.player_memory.specs.Commands.{KeepsTempo}
 use Rattle.player_memory.specs.FactLines.{KeepsShared}
 use Rattle.player_desk.proofs.Laws.{VoiceDesk, Reader, Ways, Leads, done_as, in_scope, body_of, rest_of, joined, loaded}
 use Rattle.player_desk.proofs.Laws.{indexed, Lent, Done, own_done, done_over, done_by, listed, kept_lead, unkept_lead}
@@ -188,13 +189,13 @@ settled_leads r look number c p u handed d ways m ground keeps vibrato shared co
 -- Y is the instrument
 pub command_leads : (r : Reader) (look : LookUps) (number c p : ℕ) (u : Playing) (handed : Lent) (d : VoiceDesk)
     (ways : Ways) (m : VoiceDesk) → r.voice < 3 → c < 256 → p < 256 → InstrumentAt r look number →
-    KeepsCommand r.layout c p → KeepsRow r.layout c → KeepsVibrato r look number → KeepsShared r.layout →
-    (c ≡ 0xE → p ≢ 0 → SpeedAt r look p) →
+    KeepsCommand r.layout c p → KeepsRow r.layout c → KeepsTempo r.layout c p → KeepsVibrato r look number →
+    KeepsShared r.layout → (c ≡ 0xE → p ≢ 0 → SpeedAt r look p) →
     u.voice.new_command ≡ c → u.voice.new_param ≡ p → Ticking number r.voice u handed d m →
     Leads r (body_of DONE tick_tree)
     (in_scope DONE (done_as (Ended r look (look.instrument number) c p u handed d) ways)) m
-command_leads r look number c p u handed d ways m voice few small ground keeps row vibrato shared sides command_is
-    param_is at =
+command_leads r look number c p u handed d ways m voice few small ground keeps row tempo vibrato shared sides
+    command_is param_is at =
     joined true r ONCE (body_of ONCE tick_tree) (rest_of ONCE tick_tree) (AtTaken r look i c p u handed d) goal m
     (joined true r SETTLED (body_of SETTLED tick_tree) (rest_of SETTLED tick_tree)
     (AtSettled r look i c p u handed d) runs m
@@ -226,7 +227,7 @@ command_leads r look number c p u handed d ways m voice few small ground keeps r
         let from : 5 ≤ c = once.from in
         kept_lead true r ROW_ONCE once_tree (behind (rest_of ONCE tick_tree)) goal n (row.once from)
         (once_leads r look i c p u handed d goal (loaded (n.own NEW_PARAM) (indexed n.a n)) voice from few small keeps
-        sides
+        tempo sides
         (record {
           y = once.a;
           was = λ was. absurd (omega (arith, was, from));

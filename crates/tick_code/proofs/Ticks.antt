@@ -105,7 +105,7 @@ tick_leads r look s handed d m few room ground keeps done =
     subst (λ t. Leads r (rest_of AT_ROW tick_tree) (in_scope TICKED (ways_of r.voice t handed d)) n)
     (row_is (r.voice + 1) look s row.now)
     (row_leads r look (less s) handed d n few ground.command_byte ground.param_byte (ground.instrument now)
-    (keeps.command now) (keeps.row now) (keeps.instrument now) keeps.shared (ground.speed now) row.done))
+    (keeps.command now) (keeps.row now) (keeps.tempo now) (keeps.instrument now) keeps.shared (ground.speed now) row.done))
   where
     goal : Ways
     goal = in_scope TICKED (tick_ways r look s handed d)

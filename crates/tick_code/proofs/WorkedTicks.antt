@@ -149,6 +149,12 @@ keeps = record {
     slide = λ from to. absurd (omega (arith, to));
     once = λ from. refl;
   };
+  tempo = λ now. record {
+    voice = λ is from. refl;
+    common = λ is from to. absurd (omega (arith, to));
+    turns = λ is low. absurd (omega (arith, low));
+    choice = λ is. absurd (omega (arith, is));
+  };
   instrument = λ now. record {
     mask = λ is. elim is [ inl none ↦ absurd (omega (arith, none)) | inr high ↦ absurd (omega (arith, high)) ];
     vibrato = λ some. absurd (some refl);
@@ -248,6 +254,7 @@ tick_is_worked = record {
     goes_on = record {
       command = λ now. absurd (omega (arith, now));
       row = λ now. absurd (omega (arith, now));
+      tempo = λ now. absurd (omega (arith, now));
       instrument = λ now. absurd (omega (arith, now));
       length = λ past short. absurd (omega (arith, past));
       shared = bare_shared;
@@ -255,6 +262,7 @@ tick_is_worked = record {
     two = record {
       command = λ now. absurd (omega (arith, now));
       row = λ now. absurd (omega (arith, now));
+      tempo = λ now. absurd (omega (arith, now));
       instrument = λ now. absurd (omega (arith, now));
       length = λ past short. absurd (omega (arith, short));
       shared = bare_shared;
@@ -262,6 +270,7 @@ tick_is_worked = record {
     one = record {
       command = λ now. absurd (omega (arith, now));
       row = λ now. absurd (omega (arith, now));
+      tempo = λ now. absurd (omega (arith, now));
       instrument = λ now. absurd (omega (arith, now));
       length = λ past short. refl;
       shared = none_shared FUNK_TEMPO (omega arith) (λ e. omega (arith, e));
@@ -284,6 +293,12 @@ tick_is_worked = record {
         slide = λ from to. absurd (omega (arith, from));
         once = λ from. absurd (omega (arith, from));
       };
+      tempo = λ now. record {
+        voice = λ is. absurd (omega (arith, is));
+        common = λ is. absurd (omega (arith, is));
+        turns = λ is. absurd (omega (arith, is));
+        choice = λ is. absurd (omega (arith, is));
+      };
       instrument = λ now. record {
         mask = λ is. elim is [ inl none ↦ absurd (omega (arith, none)) | inr high ↦ absurd (omega (arith, high)) ];
         vibrato = λ some. absurd (some refl);
@@ -302,6 +317,38 @@ tick_is_worked = record {
     waits = λ keeps. (let on = (keeps.instrument refl).waits (λ e. omega (arith, e)) in absurd cc);
     pulse = λ keeps. (let on = (keeps.instrument refl).pulse (λ e. omega (arith, e)) in absurd cc);
     filter = λ keeps. (let on = (keeps.instrument refl).filter (λ e. omega (arith, e)) in absurd cc);
+    tempo = λ keeps. (let on = (keeps.tempo refl).voice refl (omega arith) in absurd cc);
+    kept_tempo = record {
+      command = λ now. refl;
+      row = λ now. record {
+        tone = λ e. absurd (omega (arith, e));
+        slide = λ from to. absurd (omega (arith, to));
+        once = λ from. refl;
+      };
+      tempo = λ now. record {
+        voice = λ is from. refl;
+        common = λ is from to. absurd (omega (arith, to));
+        turns = λ is low. absurd (omega (arith, low));
+        choice = λ is. absurd (omega (arith, is));
+      };
+      instrument = λ now. record {
+        mask = λ is. elim is [ inl none ↦ absurd (omega (arith, none)) | inr high ↦ absurd (omega (arith, high)) ];
+        vibrato = λ some. absurd (some refl);
+        delay = λ some. absurd (some refl);
+        waits = λ some. absurd (some refl);
+        pulse = λ some. absurd (some refl);
+        filter = λ some. absurd (some refl);
+      };
+      length = λ past short. absurd (omega (arith, past));
+      shared = record {
+        slide = λ on. absurd cc;
+        once = λ on. refl;
+        delay = λ on. absurd cc;
+        command = λ on. absurd cc;
+        legato = λ on. absurd cc;
+        soft = λ on. absurd cc;
+      };
+    };
     shared = λ keeps. (let on = keeps.shared.once refl in absurd cc);
   };
   lists = record {

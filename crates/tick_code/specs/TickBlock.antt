@@ -17,7 +17,7 @@ use Rattle.player_memory.specs.declared.conditions.TheConstants.{FIRST_MASK, NOT
 use Rattle.player_memory.specs.declared.conditions.TheConstants.{NOTE_FILTER}
 use Rattle.player_memory.specs.declared.labels.TheConstants.{ADS, SRS, WAVES, PULSES, FILTERS, VIBRATOS, DELAYS}
 use Rattle.player_memory.specs.declared.labels.TheConstants.{GATE_TIMERS, FIRST_WAVES, SPEED_LEFTS, SPEED_RIGHTS}
-use Rattle.player_memory.specs.Commands.{condition_of, AreKept}
+use Rattle.player_memory.specs.Commands.{condition_of, AreKept, KeepsTempo}
 use Rattle.player_memory.specs.FactLines.{KeepsShared}
 use Rattle.player_memory.specs.Rooms.{IsRoom, MayUse}
 use Rattle.player_text.specs.declared.joints.TheConstants.{SOUNDS, TICKED}
@@ -30,12 +30,12 @@ use Rattle.player_memory.specs.Playing.{IsListed, IsTable, IsPlaying, IsAtVoice,
 abbrev pub tick_tree : Tree
 tick_tree = ThenTree (ScopeTree TICKED step_tree) NoneTree
 
--- In a scope that it leaves where a note has started it has lines; they take 379 bytes where all are kept, and 100
+-- In a scope that it leaves where a note has started it has lines; they take 381 bytes where all are kept, and 102
 -- where none are that stand under a condition.
 pub record TickBlockHasLines : Type 0 where
   pub has : has_lines nothing_around (ScopeTree SOUNDS tick_tree) ≡ true
-  pub all : size (λ condition. true) tick_tree ≡ 379
-  pub least : size (λ condition. false) tick_tree ≡ 100
+  pub all : size (λ condition. true) tick_tree ≡ 381
+  pub least : size (λ condition. false) tick_tree ≡ 102
 
 -- ---- what is kept
 
@@ -68,6 +68,7 @@ pub record KeepsInstrument (layout : Layout) (i : Instrument) (left : ℕ) : Typ
 pub record KeepsTick (layout : Layout) (channel : ℕ) (look : LookUps) (s : Playing) : Type 0 where
   pub command : IsRowDone s → KeepsCommand layout s.voice.new_command s.voice.new_param
   pub row : IsRowDone s → KeepsRow layout s.voice.new_command
+  pub tempo : IsRowDone s → KeepsTempo layout s.voice.new_command s.voice.new_param
   pub instrument : IsRowDone s → KeepsInstrument layout (look.instrument s.voice.instrument) s.voice.vib_delay
   pub length : 0x80 ≤ byte_minus s.voice.tick 1 → tempo_of channel s.common < 2 → layout.holds FUNK_TEMPO ≡ true
   pub shared : KeepsShared layout

@@ -12,6 +12,7 @@ use Rattle.scopes.specs.Meaning.{Outcome, Done, Left, Ran, each_one, ran}
 use Rattle.player_memory.specs.declared.conditions.TheConstants.{SET_AD, SET_SR, SET_WAVE, SET_WAVE_POINTER}
 use Rattle.player_memory.specs.declared.conditions.TheConstants.{SET_PULSE_POINTER, SET_FILTER_POINTER}
 use Rattle.player_memory.specs.declared.conditions.TheConstants.{SET_FILTER_CONTROL, SET_CUTOFF, SET_VOLUME, FUNK_TEMPO}
+use Rattle.player_memory.specs.declared.conditions.TheConstants.{VOICE_TEMPO, FUNK_TURNS, FUNK_CHOICE}
 use Rattle.player_memory.specs.declared.conditions.TheConstants.{SET_TEMPO, ROW_SLIDE, ROW_ONCE, ROW_COMMAND, VIBRATO_DELAY}
 use Rattle.player_memory.specs.declared.conditions.TheConstants.{NOTE_FILTER}
 use Rattle.player_memory.specs.declared.labels.TheConstants.{VARIABLES, TICK, GATE_TIMER, INSTRUMENT, NOTE, NEW_NOTE}
@@ -26,14 +27,14 @@ use Rattle.tick_code.specs.TickBlock.{KeepsTick, Ticks}
 
 -- ---- the memory
 
--- the variables from $1000 on, and the lists far behind them; of what a song may ask for, commands that set tempos
--- are kept, and an instrument's vibrato delay and filter program
+-- the variables from $1000 on, and the lists far behind them; of what a song may ask for, commands that set the
+-- tempo of a voice are kept, and an instrument's vibrato delay and filter program
 abbrev pub laid : Layout
 laid = record {
   address = λ label. if nat_lt label VARIABLES then 0x1000 + label else 0x2000 + 16 * label;
   pointer = 0xFC;
-  holds = λ condition. condition == SET_TEMPO || condition == ROW_ONCE || condition == ROW_COMMAND
-      || condition == VIBRATO_DELAY || condition == NOTE_FILTER;
+  holds = λ condition. condition == SET_TEMPO || condition == VOICE_TEMPO || condition == ROW_ONCE
+      || condition == ROW_COMMAND || condition == VIBRATO_DELAY || condition == NOTE_FILTER;
   may_read = λ place. true;
   may_write = λ place. true;
 }
@@ -157,8 +158,8 @@ pub record CommandsAreKept : Type 0 where
   pub filter_control : KeepsCommand (with_one SET_FILTER_CONTROL) 0xB 0
   pub cutoff : KeepsCommand (with_one SET_CUTOFF) 0xC 0
   pub volume : KeepsCommand (with_one SET_VOLUME) 0xD 0
-  pub funk : KeepsCommand (with_one FUNK_TEMPO) 0xE 0
-  pub funk_chosen : KeepsCommand (with_one FUNK_TEMPO) 0xF 1
+  pub funk : KeepsCommand (with_one FUNK_CHOICE) 0xE 0
+  pub funk_chosen : KeepsCommand (with_one FUNK_TURNS) 0xF 1
   pub length : KeepsCommand (with_one SET_TEMPO) 0xF 3
 
 -- Between rows no line is kept, but for the tempos 0 and 1 where a length is loaded: the tick is 0 there, and falls
@@ -178,6 +179,15 @@ pub record LengthsAreKept : Type 0 where
 abbrev pub at_end : Playing
 at_end = record { voice = record (with_command 0 0) { tick = 1 }; common = start_common 1 }
 
+-- one with a command $F for this voice alone, and a layout that keeps what is done once and sets a tempo, and one line
+abbrev pub at_tempo : Playing
+at_tempo = record { voice = record (with_command 0xF 0x84) { tick = 1 }; common = start_common 1 }
+
+abbrev pub with_setting : ℕ → Layout
+with_setting kept = record laid {
+  holds = λ condition. condition == SET_TEMPO || condition == ROW_ONCE || condition == ROW_COMMAND || condition == kept;
+}
+
 -- an instrument that asks for nothing, and a song of one instrument
 abbrev pub plain : Instrument
 plain = record sound { vibrato_delay = 0; filter = 0 }
@@ -186,7 +196,7 @@ abbrev pub with_instrument : Instrument → LookUps
 with_instrument i = record look { instrument = λ number. i }
 
 -- Of a row without a command no line is kept; a slide to the note, a command that runs and one that is done once ask
--- for theirs. So do, where the row is done, a first waveform that is a mask, a vibrato, its delay, also one that is left
+-- for theirs. So do, where the row is done, a tempo of this voice alone, a first waveform that is a mask, a vibrato, its delay, also one that is left
 -- from the note before, and the programs.
 pub record RowsAreKept : Type 0 where
   pub none : KeepsRow bare 0
@@ -202,6 +212,8 @@ pub record RowsAreKept : Type 0 where
   pub waits : ¬ KeepsTick bare 2 (with_instrument plain) (record at_end { voice = record at_end.voice { vib_delay = 1 } })
   pub pulse : ¬ KeepsTick bare 2 (with_instrument (record plain { pulse = 1 })) at_end
   pub filter : ¬ KeepsTick bare 2 (with_instrument (record plain { filter = 1 })) at_end
+  pub tempo : ¬ KeepsTick (with_setting ROW_COMMAND) 2 (with_instrument plain) at_tempo
+  pub kept_tempo : KeepsTick (with_setting VOICE_TEMPO) 2 (with_instrument plain) at_tempo
   pub shared : ¬ KeepsTick (with_one ROW_ONCE) 2 (with_instrument plain) at_end
 
 -- the last of 63 instruments; and command $E with the last of 255 rows, or with none where there is no row
