@@ -33,13 +33,14 @@ pub record PlaysFrames (e : Entrance) : Type 0 where
 
 -- ---- what a frame is ready for
 
--- how many rows the lists of a packed song have
+-- how many rows the lists of a packed song have, and of which numbers there are frequencies
 abbrev pub counts_of : PackedSong → Counts
 counts_of packed = record {
   instruments = length packed.instruments;
   waves = length (table_of (unpacked_song packed) Wave);
   pulses = length (table_of (unpacked_song packed) Pulse);
   speeds = length packed.speed;
+  numbers = packed.numbers;
 }
 
 -- a voice, counted from 0, as the frame after a state of subtune k comes to it

@@ -4,13 +4,14 @@ use Rattle.std.proofs.Common.{nat_lt, inl, inr, refl, ap}
 use Rattle.std.proofs.Common.{arith}
 use Rattle.std.proofs.lemmas.Bool.{true≢false, lt-ltb, le-ltb}
 use Rattle.play_model.specs.Freq.{freq}
+use Rattle.asked_numbers.specs.Range.{IsInRange}
 use Rattle.scopes.specs.Meaning.{Outcome, Stuck}
 use Rattle.player_memory.specs.Rooms.{IsRoom, MayUse, AreSlides, IsElsewhere}
 use Rattle.player_memory.specs.Playing.{IsAtVoice, place_in}
 use Rattle.player_memory.specs.declared.labels.TheConstants.{FREQUENCY_LOWS, FREQUENCY_HIGHS}
 use Rattle.player_memory.specs.Frequencies.{HasFrequencies}
-use Rattle.pitch_code.specs.WorkedPitches.{from_1000, with_lists, lending, NotesAreWorked, ReturnsAreWorked}
-use Rattle.pitch_code.specs.WorkedPitches.{OthersAreDenied}
+use Rattle.pitch_code.specs.WorkedPitches.{from_1000, its_range, with_lists, lending, NotesAreWorked}
+use Rattle.pitch_code.specs.WorkedPitches.{ReturnsAreWorked, OthersAreDenied}
 use Rattle.pitch_code.proofs.Giving.{given_back_block_gives}
 
 elsewhere : (place : ℕ) → 0x2000 ≤ place → place < 0x2300 → IsElsewhere from_1000 0 place
@@ -23,58 +24,69 @@ elsewhere place from to = record {
   registers = inl (omega (arith, to));
 }
 
-low_is : (note : ℕ) → note < 97 → with_lists (place_in from_1000 FREQUENCY_LOWS note) ≡ freq note % 256
-low_is note few =
-    let place : (0x2000 + note) % 65536 ≡ 0x2000 + note = omega (arith, few) in
-    let from : nat_lt (0x2000 + note) 0x2000 ≡ false = le-ltb (0x2000 + note) 0x2000 (omega arith) in
-    let to : nat_lt (0x2000 + note) 0x2061 ≡ true = lt-ltb (0x2000 + note) 0x2061 (omega (arith, few)) in
-    let number : 0x2000 + note - 0x2000 ≡ note = omega arith in
+low_is : (n : ℕ) → 57 ≤ n → n < 128 → with_lists (place_in from_1000 FREQUENCY_LOWS n) ≡ freq n % 256
+low_is n above few =
+    let place : (0x2000 + n) % 65536 ≡ 0x2000 + n = omega (arith, few) in
+    let from : nat_lt (0x2000 + n) 0x2039 ≡ false = le-ltb (0x2000 + n) 0x2039 (omega (arith, above)) in
+    let to : nat_lt (0x2000 + n) 0x2080 ≡ true = lt-ltb (0x2000 + n) 0x2080 (omega (arith, few)) in
+    let number : 0x2000 + n - 0x2000 ≡ n = omega arith in
     rw (place, from, to, number) refl
 
-high_is : (note : ℕ) → note < 97 → with_lists (place_in from_1000 FREQUENCY_HIGHS note) ≡ freq note / 256
-high_is note few =
-    let place : (0x2200 + note) % 65536 ≡ 0x2200 + note = omega (arith, few) in
-    let from : nat_lt (0x2200 + note) 0x2000 ≡ false = le-ltb (0x2200 + note) 0x2000 (omega arith) in
-    let behind : nat_lt (0x2200 + note) 0x2061 ≡ false = le-ltb (0x2200 + note) 0x2061 (omega arith) in
-    let there : nat_lt (0x2200 + note) 0x2200 ≡ false = le-ltb (0x2200 + note) 0x2200 (omega arith) in
-    let to : nat_lt (0x2200 + note) 0x2261 ≡ true = lt-ltb (0x2200 + note) 0x2261 (omega (arith, few)) in
-    let number : 0x2200 + note - 0x2200 ≡ note = omega arith in
+high_is : (n : ℕ) → 57 ≤ n → n < 128 → with_lists (place_in from_1000 FREQUENCY_HIGHS n) ≡ freq n / 256
+high_is n above few =
+    let place : (0x2200 + n) % 65536 ≡ 0x2200 + n = omega (arith, few) in
+    let from : nat_lt (0x2200 + n) 0x2039 ≡ false = le-ltb (0x2200 + n) 0x2039 (omega arith) in
+    let behind : nat_lt (0x2200 + n) 0x2080 ≡ false = le-ltb (0x2200 + n) 0x2080 (omega arith) in
+    let there : nat_lt (0x2200 + n) 0x2239 ≡ false = le-ltb (0x2200 + n) 0x2239 (omega (arith, above)) in
+    let to : nat_lt (0x2200 + n) 0x2280 ≡ true = lt-ltb (0x2200 + n) 0x2280 (omega (arith, few)) in
+    let number : 0x2200 + n - 0x2200 ≡ n = omega arith in
     rw (place, from, behind, there, to, number) refl
 
-lists : HasFrequencies from_1000 0 with_lists 97
+-- a number is one of a range
+in_range : (first count n : ℕ) → first ≤ n → n < first + count → IsInRange (record { first = first; count = count }) n
+in_range first count n from below = record { from = from; below = below }
+
+lists : HasFrequencies from_1000 0 with_lists its_range
 lists = record {
-  low = λ note few. record {
-    elsewhere = elsewhere (place_in from_1000 FREQUENCY_LOWS note) (omega (arith, few)) (omega (arith, few));
-    reads = refl;
-    is = low_is note few;
-  };
-  high = λ note few. record {
-    elsewhere = elsewhere (place_in from_1000 FREQUENCY_HIGHS note) (omega (arith, few)) (omega (arith, few));
-    reads = refl;
-    is = high_is note few;
-  };
+  low = λ n inside.
+      let from = inside.from in
+      let below = inside.below in record {
+        elsewhere = elsewhere (place_in from_1000 FREQUENCY_LOWS n) (omega (arith, below)) (omega (arith, below));
+        reads = refl;
+        is = low_is n from (omega (arith, below));
+      };
+  high = λ n inside.
+      let from = inside.from in
+      let below = inside.below in record {
+        elsewhere = elsewhere (place_in from_1000 FREQUENCY_HIGHS n) (omega (arith, below)) (omega (arith, below));
+        reads = refl;
+        is = high_is n from (omega (arith, below));
+      };
 }
 
 pub notes_are_worked : NotesAreWorked
 unfolding freq
 notes_are_worked = record {
   lists = lists;
-  more = λ has. (let byte = (has.low 97 (omega arith)).is in omega (arith, byte));
-  low_byte = λ has. (let byte = (has.low 96 (omega arith)).is in omega (arith, byte));
-  high_byte = λ has. (let byte = (has.high 96 (omega arith)).is in omega (arith, byte));
+  lower = λ has. (let byte = (has.low 56 (in_range 56 72 56 (omega arith) (omega arith))).is in omega (arith, byte));
+  higher = λ has. (let byte = (has.low 128 (in_range 57 72 128 (omega arith) (omega arith))).is in omega (arith, byte));
+  first_low = λ has. (let byte = (has.low 57 (in_range 57 71 57 (omega arith) (omega arith))).is in omega (arith, byte));
+  last_low = λ has. (let byte = (has.low 127 (in_range 57 71 127 (omega arith) (omega arith))).is in omega (arith, byte));
+  first_high = λ has. (let byte = (has.high 57 (in_range 57 71 57 (omega arith) (omega arith))).is in omega (arith, byte));
+  last_high = λ has.
+      (let byte = (has.high 127 (in_range 57 71 127 (omega arith) (omega arith))).is in omega (arith, byte));
   last_note = refl;
   vib_time = refl;
   low = refl;
   high = refl;
   cost = refl;
-  last_low = refl;
-  last_high = refl;
+  top_low = refl;
+  top_high = refl;
   none_low = refl;
   none_high = refl;
   far_last_note = refl;
   far_low = refl;
   far_high = refl;
-  far_cost = refl;
 }
 
 slides : AreSlides from_1000 0

@@ -3,6 +3,7 @@ use Rattle.std.specs.Prelude.{◌≡◌, ℕ, ◌+◌, ◌-◌, ◌*◌, ◌/◌
 use Rattle.std.specs.Prelude.{if◌then◌else◌}
 use Rattle.code_runs.specs.Runs.{put}
 use Rattle.play_model.specs.Freq.{freq}
+use Rattle.asked_numbers.specs.declared.range.NumberRange.{NumberRange}
 use Rattle.scopes.specs.Desk.{Desk, Layout}
 use Rattle.scopes.specs.Meaning.{Ran, Stuck, each_one, ran}
 use Rattle.player_memory.specs.declared.labels.TheConstants.{LAST_NOTE, VIB_TIME, FREQ_LOW, FREQ_HIGH}
@@ -44,13 +45,17 @@ second_voice a at = record {
 
 -- ---- notes
 
--- before the lists each place has the low byte of its number, and behind each list of 97 bytes stands 1
+-- the numbers from A-4 to 127
+abbrev pub its_range : NumberRange
+its_range = record { first = 57; count = 71 }
+
+-- before the lists each place has the low byte of its number, and behind each list of 71 bytes stands 1
 abbrev pub with_lists : ℕ → ℕ
 with_lists place =
-    if nat_lt place 0x2000 then place % 256
-    else if nat_lt place 0x2061 then freq (place - 0x2000) % 256
-    else if nat_lt place 0x2200 then 1
-    else if nat_lt place 0x2261 then freq (place - 0x2200) / 256
+    if nat_lt place 0x2039 then place % 256
+    else if nat_lt place 0x2080 then freq (place - 0x2000) % 256
+    else if nat_lt place 0x2239 then 1
+    else if nat_lt place 0x2280 then freq (place - 0x2200) / 256
     else 1
 
 abbrev pub sounded : ℕ → Ran
@@ -62,24 +67,26 @@ byte_behind run label = own_at from_1000 run.desk.at 1 label
 
 -- A-4, B-7, which is the last note, the one behind it, and the last number
 pub record NotesAreWorked : Type 0 where
-  pub lists : HasFrequencies from_1000 0 with_lists 97
-  -- there are no more of them, nor with another byte in their place, of either list
-  pub more : ¬ HasFrequencies from_1000 0 with_lists 98
-  pub low_byte : ¬ HasFrequencies from_1000 0 (put with_lists 0x2060 1) 97
-  pub high_byte : ¬ HasFrequencies from_1000 0 (put with_lists 0x2260 1) 97
+  pub lists : HasFrequencies from_1000 0 with_lists its_range
+  -- there are no more of them in front or behind, nor with another byte in their place, of either list
+  pub lower : ¬ HasFrequencies from_1000 0 with_lists (record { first = 56; count = 72 })
+  pub higher : ¬ HasFrequencies from_1000 0 with_lists (record { first = 57; count = 72 })
+  pub first_low : ¬ HasFrequencies from_1000 0 (put with_lists 0x2039 1) its_range
+  pub last_low : ¬ HasFrequencies from_1000 0 (put with_lists 0x207F 1) its_range
+  pub first_high : ¬ HasFrequencies from_1000 0 (put with_lists 0x2239 1) its_range
+  pub last_high : ¬ HasFrequencies from_1000 0 (put with_lists 0x227F 1) its_range
   pub last_note : byte_behind (sounded 57) LAST_NOTE ≡ 57
   pub vib_time : byte_behind (sounded 57) VIB_TIME ≡ 0
   pub low : byte_behind (sounded 57) FREQ_LOW ≡ 0x46
   pub high : byte_behind (sounded 57) FREQ_HIGH ≡ 0x1D
-  pub cost : (sounded 57).cost ≡ 10
-  pub last_low : byte_behind (sounded 95) FREQ_LOW ≡ 0xFF
-  pub last_high : byte_behind (sounded 95) FREQ_HIGH ≡ 0xFF
+  pub cost : (sounded 57).cost ≡ 8
+  pub top_low : byte_behind (sounded 95) FREQ_LOW ≡ 0xFF
+  pub top_high : byte_behind (sounded 95) FREQ_HIGH ≡ 0xFF
   pub none_low : byte_behind (sounded 96) FREQ_LOW ≡ 0
   pub none_high : byte_behind (sounded 96) FREQ_HIGH ≡ 0
   pub far_last_note : byte_behind (sounded 127) LAST_NOTE ≡ 127
   pub far_low : byte_behind (sounded 127) FREQ_LOW ≡ 0
   pub far_high : byte_behind (sounded 127) FREQ_HIGH ≡ 0
-  pub far_cost : (sounded 127).cost ≡ 11
 
 -- ---- commands
 

@@ -118,7 +118,7 @@ sums : (all filter voice init f v i : ℕ) → all ≡ 138 + f + v + i → f ≡
 sums all filter voice init f v i e one two three = omega (arith, e, one, two, three)
 
 bounds : (all f v i mf mv mi : ℕ) → all ≡ 138 + f + v + i → f ≤ mf → v ≤ mv → i ≤ mi → mf ≡ 102 →
-    mv ≡ 1350 → mi ≡ 90 → all ≤ 1680
+    mv ≡ 1332 → mi ≡ 90 → all ≤ 1662
 bounds all f v i mf mv mi e one two three four five six = omega (arith, e, one, two, three, four, five, six)
 
 pub code_is_measured : CodeIsMeasured

@@ -6,20 +6,21 @@ use Rattle.cpu6502.specs.Registers.{one_if}
 use Rattle.scopes.specs.Trees.{Tree}
 use Rattle.song_model.specs.declared.tables.TableName.TheVariants.{Speed}
 use Rattle.play_model.specs.Freq.{freq, half_tone}
+use Rattle.asked_numbers.specs.Range.{IsInRange}
 use Rattle.player_memory.specs.declared.labels.TheConstants.{PARAM, SPEED_RIGHTS}
 use Rattle.player_memory.specs.declared.labels.TheConstants.{FREQUENCY_LOWS, FREQUENCY_HIGHS}
 use Rattle.player_memory.specs.declared.labels.TheConstants.{NEXT_FREQUENCY_LOWS, NEXT_FREQUENCY_HIGHS}
 use Rattle.player_memory.specs.declared.conditions.TheConstants.{NOTE_DEPENDENT}
 use Rattle.player_desk.proofs.Laws.{VoiceDesk, Leads, body_of, rest_of, joined, loaded, indexed, listed, done_as}
 use Rattle.player_desk.proofs.Laws.{in_scope}
-use Rattle.player_text.specs.declared.slide.TheConstants.{LOW, FEW, WHOLE}
+use Rattle.player_text.specs.declared.slide.TheConstants.{STORED, FEW, WHOLE}
 use Rattle.slide_code.proofs.Words.{IsWord}
 use Rattle.slide_code.proofs.Distances.{difference}
 use Rattle.slide_code.proofs.SlideGrounds.{Running, Tells, Stands}
 use Rattle.slide_code.proofs.Moves.{tells_over}
 use Rattle.slide_code.proofs.Rules.{speed_of, calculated_speed}
 use Rattle.slide_code.proofs.Tones.{behind, from_speed, frequency_small}
-use Rattle.slide_code.proofs.Speeds.{half_tone_small, high_half_tone, few_halves, all_halves, AtNote, AtFew, AtWhole}
+use Rattle.slide_code.proofs.Speeds.{half_tone_small, few_halves, all_halves, AtNote, AtFew, AtWhole}
 use Rattle.slide_code.proofs.Speeds.{stored_ways, whole_leads, halves_lead}
 
 -- ---- how often
@@ -61,9 +62,12 @@ few_leads g m on high tells halves a = (
 
 -- ---- the half tone
 
--- from the high bytes on, and from the count on
+-- from where Y is the last note, from the high bytes on, and from the count on
+abbrev pub from_lows : Tree
+from_lows = behind (behind (behind (body_of STORED from_speed)))
+
 abbrev from_highs : Tree
-from_highs = behind (behind (behind (behind (rest_of LOW from_speed))))
+from_highs = behind (behind (behind (behind from_lows)))
 
 abbrev from_count : Tree
 from_count = behind (behind (behind from_highs))
@@ -107,17 +111,26 @@ high_is : (g : Running) (m : VoiceDesk) (first second : ℕ) → AtLowByte g m �
     IsWord m.low ((first + (255 - second) + one_if m.c) % 256) (half_tone g.s.voice.last_note)
 unfolding half_tone
 high_is g m first second at e f =
-    rw (sym at.note.same, at.low, at.carry)
+    rw (sym at.note.is, at.low, at.carry)
     (difference at.first first (freq (m.y + 1)) at.second second (freq m.y) (frequency_small (m.y + 1))
     (frequency_small m.y) (record { low_is = at.first_is; high_is = e }) at.second_is f)
+
+-- both ends of the half tone are listed
+from_in : (g : Running) (m : VoiceDesk) → Stands g → 128 ≤ (g.look.row Speed g.s.voice.param).left → AtNote g m →
+    IsInRange g.range m.y
+from_in g m on high at = rw at.is (on.looks.half_tone_from high)
+
+to_in : (g : Running) (m : VoiceDesk) → Stands g → 128 ≤ (g.look.row Speed g.s.voice.param).left → AtNote g m →
+    IsInRange g.range (m.y + 1)
+to_in g m on high at = rw at.is (on.looks.half_tone_to high)
 
 highs_lead : (g : Running) (m : VoiceDesk) → Stands g → g.r.layout.holds NOTE_DEPENDENT ≡ true →
     128 ≤ (g.look.row Speed g.s.voice.param).left → speed_of g.look g.s.voice < 65536 → AtLowByte g m →
     Leads g.r from_highs (stored_ways g) m
 highs_lead g m on kept high small at =
-    listed NEXT_FREQUENCY_HIGHS m.y (freq (m.y + 1) / 256) (on.notes.next_high m.y at.note.few) refl
+    listed NEXT_FREQUENCY_HIGHS m.y (freq (m.y + 1) / 256) (on.notes.next_high m.y (to_in g m on high at.note)) refl
     (λ first e.
-    listed FREQUENCY_HIGHS m.y (freq m.y / 256) (on.notes.high m.y at.note.few) refl
+    listed FREQUENCY_HIGHS m.y (freq m.y / 256) (on.notes.high m.y (from_in g m on high at.note)) refl
     (λ second f.
     count_leads g (with_high first second m) on kept high small
     (tells_over g g.s.voice m (with_high first second m) refl refl refl refl refl at.note.tells)
@@ -134,17 +147,16 @@ with_low first second m = record m {
 
 pub difference_leads : (g : Running) (m : VoiceDesk) → Stands g → g.r.layout.holds NOTE_DEPENDENT ≡ true →
     128 ≤ (g.look.row Speed g.s.voice.param).left → speed_of g.look g.s.voice < 65536 → AtNote g m →
-    Leads g.r (rest_of LOW from_speed) (stored_ways g) m
+    Leads g.r from_lows (stored_ways g) m
 difference_leads g m on kept high small at =
-    listed NEXT_FREQUENCY_LOWS m.y (freq (m.y + 1) % 256) (on.notes.next_low m.y at.few) refl
+    listed NEXT_FREQUENCY_LOWS m.y (freq (m.y + 1) % 256) (on.notes.next_low m.y (to_in g m on high at)) refl
     (λ first e.
-    listed FREQUENCY_LOWS m.y (freq m.y % 256) (on.notes.low m.y at.few) refl
+    listed FREQUENCY_LOWS m.y (freq m.y % 256) (on.notes.low m.y (from_in g m on high at)) refl
     (λ second f.
     highs_lead g (with_low first second m) on kept high small (record {
       note = record {
         tells = tells_over g g.s.voice m (with_low first second m) refl refl refl refl refl at.tells;
-        few = at.few;
-        same = at.same;
+        is = at.is;
       };
       first = first;
       second = second;
@@ -153,22 +165,3 @@ difference_leads g m on kept high small at =
       low = refl;
       carry = refl;
     })))
-
-pub note_leads : (g : Running) (m : VoiceDesk) → Tells g g.s.voice m → m.y ≡ g.s.voice.last_note →
-    Leads g.r (body_of LOW from_speed) (in_scope LOW (done_as (AtNote g) (stored_ways g))) m
-note_leads g m tells y = (
-  λ below.
-      let few : m.y < 96 = leb-false 96 m.y (not-true _ below) in
-      record {
-        tells = tells_over g g.s.voice m _ refl refl refl refl refl tells;
-        few = omega (arith, few);
-        same = ap half_tone y;
-      },
-  λ above.
-      let far : 96 ≤ m.y = leb-true 96 m.y (not-false _ above) in
-      record {
-        tells = tells_over g g.s.voice m _ refl refl refl refl refl tells;
-        few = omega arith;
-        same = high_half_tone g.s.voice.last_note (omega (arith, far, y));
-      },
-)

@@ -1,13 +1,13 @@
 -- What the code of a move leaves: up, down, and at the note.
 use Rattle.std.proofs.Common.{◌≡◌, ℕ, ◌+◌, ◌-◌, ◌*◌, ◌/◌, ◌%◌, ◌<◌, ◌≤◌, true}
-use Rattle.std.proofs.Common.{refl, sym, ap, ◌∙◌, arith, bit_and, nat_eq}
-use Rattle.std.proofs.lemmas.Bool.{agree_below_at, eqb-true, leb-true, leb-false, not-true, not-false, both_ways}
+use Rattle.std.proofs.Common.{refl, sym, ap, ◌∙◌, arith}
+use Rattle.std.proofs.lemmas.Bool.{leb-true, leb-false, not-true, not-false, both_ways}
 use Rattle.cpu6502.specs.Registers.{one_if}
 use Rattle.play_model.specs.State.{Voice}
 use Rattle.play_model.specs.TickStep.{tempo_of}
 use Rattle.play_model.specs.Wrap.{freq_plus, freq_minus}
 use Rattle.play_model.specs.Freq.{freq}
-use Rattle.player_memory.specs.declared.labels.TheConstants.{FREQ_LOW, FREQ_HIGH}
+use Rattle.player_memory.specs.declared.labels.TheConstants.{NOTE, FREQ_LOW, FREQ_HIGH}
 use Rattle.player_desk.proofs.Laws.{VoiceDesk, Leads, rest_of, Fields, SameSong, own_done, done_over}
 use Rattle.player_text.specs.declared.joints.TheConstants.{FOUND, FALLS, DOWN, RISES, UP}
 use Rattle.slide_code.specs.SlideBlock.{slide_tree}
@@ -54,18 +54,11 @@ word_of g v m tells =
 
 -- ---- at the note
 
-low_seven : (n : ℕ) → n < 256 → bit_and n 0x7F ≡ n % 128
-low_seven n l =
-    eqb-true _ _ (agree_below_at (λ n. nat_eq (bit_and n 0x7F) (n % 128)) (λ _. true) 256 n refl l)
-
-pub found_leads : (g : Running) (m : VoiceDesk) → g.s.voice.note < 256 →
-    freq (g.s.voice.note % 128) ≡ freq g.s.voice.note → AtFound g m →
+pub found_leads : (g : Running) (m : VoiceDesk) → freq (g.s.voice.note % 128) ≡ freq g.s.voice.note → AtFound g m →
     Leads g.r (rest_of FOUND slide_tree) (slide_ways g) m
-found_leads g m small same at = (
+found_leads g m same at = (
   λ kept.
-      let number : bit_and (m.own 26) 0x7F ≡ g.s.voice.note % 128 =
-      rw at.tells.done.fields.note (low_seven g.s.voice.note small) in
-      record {
+      let number : m.own NOTE ≡ g.s.voice.note % 128 = at.tells.done.fields.note in record {
         tells = tells_over g g.s.voice m _ refl refl refl refl refl at.tells;
         arrives = at.arrives;
         number = number;

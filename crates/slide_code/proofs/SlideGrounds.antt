@@ -8,6 +8,8 @@ use Rattle.play_model.specs.State.{Voice, Playing}
 use Rattle.play_model.specs.Wrap.{freq_plus, freq_minus}
 use Rattle.play_model.specs.Helpers.{at_target}
 use Rattle.play_model.specs.WaveStep.{with_note}
+use Rattle.asked_numbers.specs.declared.range.NumberRange.{NumberRange}
+use Rattle.asked_numbers.specs.Range.{IsInRange}
 use Rattle.player_memory.specs.declared.labels.TheConstants.{SLIDES_LOW, SLIDES_HIGH, PERIODS, SPEED_LEFTS}
 use Rattle.player_memory.specs.declared.labels.TheConstants.{SPEED_RIGHTS}
 use Rattle.player_memory.specs.declared.labels.TheConstants.{FREQUENCY_LOWS, FREQUENCY_HIGHS}
@@ -18,7 +20,7 @@ use Rattle.player_desk.proofs.Laws.{VoiceDesk, Reader, Ways, Lent, Done, Reads, 
 use Rattle.player_desk.proofs.Laws.{EntryLeads, LowSlide, HighSlide, done_as, in_scope}
 use Rattle.player_desk.proofs.VoiceDesks.{Either}
 use Rattle.player_text.specs.declared.joints.TheConstants.{EFFECTED, FOUND, FALLS, DOWN, RISES, UP}
-use Rattle.slide_code.specs.SlideBlock.{moved_by, arrives, NeedsSpeed, KeepsSlide, KeepsCommon}
+use Rattle.slide_code.specs.SlideBlock.{moved_by, arrives, NeedsSpeed, KeepsSlide, KeepsCommon, LooksUpWithin}
 use Rattle.player_memory.specs.Playing.{with_voice}
 
 -- ---- slides
@@ -58,12 +60,14 @@ high_read {r = r} {Q = Q} {d = d} p byte places is y follows = by_kept (r.layout
 
 -- ---- what the code stands on
 
--- the bytes of the frequencies, each beside that of the next half tone, up to the first note that has none
-pub record NotesAt (r : Reader) : Type 0 where
-  pub low : (note : ℕ) → note ≤ 96 → Reads r (place_at r FREQUENCY_LOWS note) (freq note % 256)
-  pub high : (note : ℕ) → note ≤ 96 → Reads r (place_at r FREQUENCY_HIGHS note) (freq note / 256)
-  pub next_low : (note : ℕ) → note ≤ 96 → Reads r (place_at r NEXT_FREQUENCY_LOWS note) (freq (note + 1) % 256)
-  pub next_high : (note : ℕ) → note ≤ 96 → Reads r (place_at r NEXT_FREQUENCY_HIGHS note) (freq (note + 1) / 256)
+-- the bytes of the frequencies of a range, and these beside the number before
+pub record NotesAt (r : Reader) (range : NumberRange) : Type 0 where
+  pub low : (n : ℕ) → IsInRange range n → Reads r (place_at r FREQUENCY_LOWS n) (freq n % 256)
+  pub high : (n : ℕ) → IsInRange range n → Reads r (place_at r FREQUENCY_HIGHS n) (freq n / 256)
+  pub next_low : (n : ℕ) → IsInRange range (n + 1) →
+      Reads r (place_at r NEXT_FREQUENCY_LOWS n) (freq (n + 1) % 256)
+  pub next_high : (n : ℕ) → IsInRange range (n + 1) →
+      Reads r (place_at r NEXT_FREQUENCY_HIGHS n) (freq (n + 1) / 256)
 
 -- A row of the speed table, and on a desk its slide, which is the row's sides, unless the left one says that the speed
 -- is calculated.
@@ -80,9 +84,11 @@ pub record SpeedAt (r : Reader) (look : LookUps) (p : ℕ) (m : VoiceDesk) : Typ
 
 -- ---- where its ways lead
 
--- a command that runs: the voice, what is lent, the desk before its frame, and the one on which the block begins
+-- a command that runs: the numbers that are listed, the voice, what is lent, the desk before its frame, and the one on
+-- which the block begins
 pub record Running : Type 1 where
   pub r : Reader
+  pub range : NumberRange
   pub look : LookUps
   pub s : Playing
   pub handed : Lent
@@ -222,7 +228,10 @@ pub record AtNamed (g : Running) (m : VoiceDesk) : Type 0 where
 
 -- what all of the code stands on
 pub record Stands (g : Running) : Type 0 where
-  pub notes : NotesAt g.r
+  pub notes : NotesAt g.r g.range
+  pub looks : LooksUpWithin g.range g.look g.command g.s.voice
+  -- the note's number has its frequency
+  pub sounds : freq (g.s.voice.note % 128) ≡ freq g.s.voice.note
   pub row : SpeedAt g.r g.look g.s.voice.param g.before
   pub keeps : KeepsSlide g.r.layout g.look g.command g.s.voice
   pub common : KeepsCommon g.r.layout

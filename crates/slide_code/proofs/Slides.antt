@@ -3,6 +3,7 @@ use Rattle.std.proofs.Common.{◌≡◌, ◌≢◌, ℕ, ◌+◌, ◌*◌, ◌/�
 use Rattle.std.proofs.Common.{◌⊎◌, Bool, true, false, inl, inr}
 use Rattle.std.proofs.Common.{refl, sym, ap, ◌∙◌, subst, arith, nat_lt, if◌then◌else◌}
 use Rattle.std.proofs.lemmas.Bool.{leb-true, leb-false, not-true, not-false, both_ways, eqb-true, eqb-false, cases_lt}
+use Rattle.std.proofs.lemmas.Bool.{le-ltb}
 use Rattle.std.proofs.lemmas.Nat.{shr_le}
 use Rattle.song_model.specs.declared.tables.TableName.TheVariants.{Speed}
 use Rattle.play_model.specs.LookUps.{LookUps}
@@ -13,17 +14,17 @@ use Rattle.player_memory.specs.declared.labels.TheConstants.{SLIDES_HIGH}
 use Rattle.player_memory.specs.declared.conditions.TheConstants.{NOTE_DEPENDENT}
 use Rattle.player_desk.proofs.Laws.{VoiceDesk, Leads, Done, body_of, rest_of, joined, loaded, indexed, listed}
 use Rattle.player_text.specs.declared.joints.TheConstants.{FOUND, FALLS, DOWN, RISES, UP}
-use Rattle.player_text.specs.declared.slide.TheConstants.{STORED, LOW}
-use Rattle.slide_code.specs.SlideBlock.{slide_tree, IsNote, IsOf}
+use Rattle.player_text.specs.declared.slide.TheConstants.{STORED}
+use Rattle.slide_code.specs.SlideBlock.{slide_tree, IsOf}
 use Rattle.slide_code.specs.SlideBlock.{NeedsSpeed}
 use Rattle.slide_code.proofs.SlideGrounds.{Running, Tells, IsSlide, HasSpeed, Stands}
 use Rattle.slide_code.proofs.SlideGrounds.{AtFound, AtFalls, AtDown, AtRises, AtUp}
 use Rattle.slide_code.proofs.SlideGrounds.{slide_ways, found_ways, falls_ways, down_ways, rises_ways, up_ways}
 use Rattle.slide_code.proofs.Moves.{tells_over, found_leads, sink_leads, drop_leads, rise_leads, climb_leads}
 use Rattle.slide_code.proofs.Rules.{speed_of, plain_speed, calculated_speed}
-use Rattle.slide_code.proofs.Tones.{none_beyond, from_speed}
-use Rattle.slide_code.proofs.Speeds.{half_tone_small, AtStored, AtNote, stored_ways, named_ways}
-use Rattle.slide_code.proofs.Calculated.{note_leads, difference_leads}
+use Rattle.slide_code.proofs.Tones.{from_speed}
+use Rattle.slide_code.proofs.Speeds.{half_tone_small, AtStored, stored_ways, named_ways}
+use Rattle.slide_code.proofs.Calculated.{difference_leads}
 use Rattle.slide_code.proofs.Swings.{swing_leads}
 
 -- ---- the speed
@@ -87,14 +88,12 @@ stored_leads g m on kept tells low high y =
       λ minus.
           let from : 128 ≤ (g.look.row Speed g.s.voice.param).left =
           (let l = leb-true 128 b (not-false _ minus) in omega (arith, l, e)) in
-          joined true g.r LOW (body_of LOW from_speed) (rest_of LOW from_speed) (AtNote g) (stored_ways g)
-          (indexed (m.own LAST_NOTE) (loaded b m))
-          (note_leads g (indexed (m.own LAST_NOTE) (loaded b m))
-          (tells_over g g.s.voice m (indexed (m.own LAST_NOTE) (loaded b m)) refl refl refl refl refl tells)
-          tells.done.fields.last_note)
-          (λ n note.
-          difference_leads g n on kept from
-          (speed_small g.look g.s.voice.param g.s.voice.last_note on.row.right_byte) note),
+          difference_leads g (indexed (m.own LAST_NOTE) (loaded b m)) on kept from
+          (speed_small g.look g.s.voice.param g.s.voice.last_note on.row.right_byte) (record {
+            tells =
+                tells_over g g.s.voice m (indexed (m.own LAST_NOTE) (loaded b m)) refl refl refl refl refl tells;
+            is = tells.done.fields.last_note;
+          }),
     ))
 
 named_leads : (g : Running) (m : VoiceDesk) → Stands g → IsOf g.command g.s.voice.command → AtStored g m →
@@ -151,8 +150,13 @@ speed_leads g m on its tells low high a y = (
 
 -- ---- the law
 
--- the note that is reached is set by its number without bit 7: it sounds as it, or as none
-note_sounds : (note : ℕ) → (note < 128) ⊎ (224 ≤ note) → note < 256 → freq (note % 128) ≡ freq note
+-- no note has a frequency from there on
+none_beyond : (note : ℕ) → 96 ≤ note → freq note ≡ 0
+unfolding freq
+none_beyond note far = (let e : nat_lt note 96 ≡ false = le-ltb note 96 far in rw e refl)
+
+-- a note's number is it without bit 7: it sounds as it, or as none
+pub note_sounds : (note : ℕ) → (note < 128) ⊎ (224 ≤ note) → note < 256 → freq (note % 128) ≡ freq note
 note_sounds note (inl low) byte = ap freq (omega (arith, low))
 note_sounds note (inr high) byte =
     none_beyond (note % 128) (omega (arith, high, byte)) ∙ sym (none_beyond note (omega (arith, high)))
@@ -160,10 +164,10 @@ note_sounds note (inr high) byte =
 -- On the desk of a voice with the command that runs in A, the code leaves what its rule says: it comes to its end with
 -- the number of a note in A that the rule sets, or leaves EFFECTED with the voice as the rule leaves it. Slides of rows
 -- whose left side is below $80 stay.
-pub slide_leads : (g : Running) → Stands g → IsNote g.s.voice.note → IsOf g.command g.s.voice.command →
+pub slide_leads : (g : Running) → Stands g → IsOf g.command g.s.voice.command →
     g.before.a ≡ g.command → Done g.r.voice g.s g.handed g.d g.before →
     Leads g.r slide_tree (slide_ways g) g.before
-slide_leads g on note its a done =
+slide_leads g on its a done =
     joined true g.r FOUND (body_of FOUND slide_tree) (rest_of FOUND slide_tree) (AtFound g) (slide_ways g) g.before
     (joined true g.r FALLS (body_of FALLS slide_tree) (rest_of FALLS slide_tree) (AtFalls g) (found_ways g) g.before
     (joined true g.r DOWN (body_of DOWN slide_tree) (rest_of DOWN slide_tree) (AtDown g) (falls_ways g) g.before
@@ -177,4 +181,4 @@ slide_leads g on note its a done =
     (λ n rises. rise_leads g n on.row.places rises))
     (λ n down. drop_leads g n on.row.places on.small down))
     (λ n falls. sink_leads g n on.row.places falls))
-    (λ n found. found_leads g n note.byte (note_sounds g.s.voice.note note.sounds note.byte) found)
+    (λ n found. found_leads g n on.sounds found)

@@ -23,23 +23,13 @@ use Rattle.slide_code.specs.SlideBlock.{NeedsSpeed}
 use Rattle.slide_code.proofs.SlideGrounds.{Running, Tells, HasSpeed, up_ways, Stands}
 use Rattle.slide_code.proofs.Moves.{tells_over}
 use Rattle.slide_code.proofs.Rules.{speed_of}
-use Rattle.slide_code.proofs.Tones.{first_of, behind, from_speed, from_swing, none_beyond}
+use Rattle.slide_code.proofs.Tones.{first_of, behind, from_speed, from_swing}
 
 -- ---- half tones
 
 pub half_tone_small : (n : ℕ) → half_tone n < 65536
 unfolding half_tone
 half_tone_small n = omega arith
-
--- notes from 96 on have none
-pub high_half_tone : (n : ℕ) → 96 ≤ n → half_tone 96 ≡ half_tone n
-unfolding half_tone
-high_half_tone n from =
-    let a = none_beyond n from in
-    let b = none_beyond (n + 1) (omega (arith, from)) in
-    let c = none_beyond 96 (omega arith) in
-    let d = none_beyond 97 (omega arith) in
-    rw (a, b, c, d) refl
 
 once_more : (word k : ℕ) → word / 2 / 2 ^ k ≡ word / 2 ^ suc k
 once_more word k =
@@ -98,8 +88,7 @@ stored_ways g =
 -- Y is the note whose half tone is taken
 pub record AtNote (g : Running) (m : VoiceDesk) : Type 0 where
   pub tells : Tells g g.s.voice m
-  pub few : m.y ≤ 96
-  pub same : half_tone m.y ≡ half_tone g.s.voice.last_note
+  pub is : m.y ≡ g.s.voice.last_note
 
 -- A is how often the half tone in the pointer is halved
 pub record AtFew (g : Running) (m : VoiceDesk) : Type 0 where

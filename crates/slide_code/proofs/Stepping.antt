@@ -8,6 +8,7 @@ use Rattle.play_model.specs.LookUps.{LookUps}
 use Rattle.play_model.specs.Freq.{freq}
 use Rattle.play_model.specs.State.{Playing}
 use Rattle.play_model.specs.WaveStep.{with_note}
+use Rattle.asked_numbers.specs.declared.range.NumberRange.{NumberRange}
 use Rattle.scopes.specs.Desk.{Desk, Layout}
 use Rattle.scopes.specs.Meaning.{Ran, each_one, ran}
 use Rattle.player_memory.specs.declared.conditions.TheConstants.{NOTE_DEPENDENT}
@@ -28,7 +29,7 @@ use Rattle.slide_code.specs.SlideBlock.{left_by}
 use Rattle.player_memory.specs.Playing.{there}
 use Rattle.slide_code.specs.SlideBlock.{Slides, SlideBlockSteps}
 use Rattle.slide_code.proofs.SlideGrounds.{NotesAt, SpeedAt, Stands, Running, SlidesLeft, Pitched, Effected, slide_ways}
-use Rattle.slide_code.proofs.Slides.{slide_leads}
+use Rattle.slide_code.proofs.Slides.{note_sounds, slide_leads}
 
 -- ---- the lists
 
@@ -36,21 +37,19 @@ next_place : (layout : Layout) (label next number : ℕ) → layout.address next
     place_in layout label (number + 1) ≡ place_in layout next number
 next_place layout label next number e = rw e (ap (λ n. n % 65536) (omega arith))
 
-pub notes_at : (layout : Layout) (rows voice : ℕ) (desk : Desk) → HasHalfTones layout rows desk.at →
-    NotesAt (reader_of layout rows voice desk)
-notes_at layout rows voice desk has = record {
-  low = λ note few. finds layout rows voice desk FREQUENCY_LOWS note _ (has.frequencies.low note (omega (arith, few)));
-  high = λ note few.
-      finds layout rows voice desk FREQUENCY_HIGHS note _ (has.frequencies.high note (omega (arith, few)));
-  next_low = λ note few.
-      subst (λ place. Reads (reader_of layout rows voice desk) place (freq (note + 1) % 256))
-      (next_place layout FREQUENCY_LOWS NEXT_FREQUENCY_LOWS note has.next_low)
-      (finds layout rows voice desk FREQUENCY_LOWS (note + 1) _ (has.frequencies.low (note + 1) (omega (arith, few))));
-  next_high = λ note few.
-      subst (λ place. Reads (reader_of layout rows voice desk) place (freq (note + 1) / 256))
-      (next_place layout FREQUENCY_HIGHS NEXT_FREQUENCY_HIGHS note has.next_high)
-      (finds layout rows voice desk FREQUENCY_HIGHS (note + 1) _
-      (has.frequencies.high (note + 1) (omega (arith, few))));
+pub notes_at : (layout : Layout) (rows voice : ℕ) (range : NumberRange) (desk : Desk) →
+    HasHalfTones layout rows desk.at range → NotesAt (reader_of layout rows voice desk) range
+notes_at layout rows voice range desk has = record {
+  low = λ n inside. finds layout rows voice desk FREQUENCY_LOWS n _ (has.frequencies.low n inside);
+  high = λ n inside. finds layout rows voice desk FREQUENCY_HIGHS n _ (has.frequencies.high n inside);
+  next_low = λ n inside.
+      subst (λ place. Reads (reader_of layout rows voice desk) place (freq (n + 1) % 256))
+      (next_place layout FREQUENCY_LOWS NEXT_FREQUENCY_LOWS n has.next_low)
+      (finds layout rows voice desk FREQUENCY_LOWS (n + 1) _ (has.frequencies.low (n + 1) inside));
+  next_high = λ n inside.
+      subst (λ place. Reads (reader_of layout rows voice desk) place (freq (n + 1) / 256))
+      (next_place layout FREQUENCY_HIGHS NEXT_FREQUENCY_HIGHS n has.next_high)
+      (finds layout rows voice desk FREQUENCY_HIGHS (n + 1) _ (has.frequencies.high (n + 1) inside));
 }
 
 -- a slide stands below the end of memory
@@ -87,9 +86,10 @@ speed_at layout rows voice count look desk p room has few =
 
 -- ---- both ways
 
-abbrev running : Layout → ℕ → ℕ → ℕ → LookUps → Playing → Desk → Running
-running layout rows voice command look s desk = record {
+abbrev running : Layout → ℕ → ℕ → ℕ → NumberRange → LookUps → Playing → Desk → Running
+running layout rows voice command range look s desk = record {
   r = reader_of layout rows voice desk;
+  range = range;
   look = look;
   s = s;
   handed = lent_of layout desk;
@@ -108,12 +108,12 @@ slides_stay layout rows voice look desk after m shows left kept row few plain = 
   high = shows.memory (SlideSpot High row) (kept, few) ∙ left.high row plain;
 }
 
-slides : (layout : Layout) (rows voice command : ℕ) (look : LookUps) (s : Playing) (desk : Desk) → IsRoom layout rows →
-    MayUse layout rows → voice < 3 → IsAtVoice voice desk →
-    Leads (reader_of layout rows voice desk) slide_tree (slide_ways (running layout rows voice command look s desk))
+slides : (layout : Layout) (rows voice command : ℕ) (range : NumberRange) (look : LookUps) (s : Playing)
+    (desk : Desk) → IsRoom layout rows → MayUse layout rows → voice < 3 → IsAtVoice voice desk →
+    Leads (reader_of layout rows voice desk) slide_tree (slide_ways (running layout rows voice command range look s desk))
     (voice_desk layout voice desk) → (b : Bool) → arrives command look s.voice ≡ b →
     Slides layout rows voice desk (ran each_one layout slide_tree desk) command look s
-slides layout rows voice command look s desk room uses few at leads true e =
+slides layout rows voice command range look s desk room uses few at leads true e =
     let went = ends_so layout rows voice slide_tree desk (Pitched g) room uses few at
     (leads_on true g.r slide_tree (slide_ways g) (ends (Pitched g)) g.d
     (record { done = λ m done. done; left = λ name m q. absurd (never name m q); again = λ m q. q }) leads) in
@@ -131,7 +131,7 @@ slides layout rows voice command look s desk room uses few at leads true e =
     }
   where
     g : Running
-    g = running layout rows voice command look s desk
+    g = running layout rows voice command range look s desk
 
     run : Ran
     run = ran each_one layout slide_tree desk
@@ -145,7 +145,7 @@ slides layout rows voice command look s desk room uses few at leads true e =
         by_name : (z : Bool) → Either z (Effected g m) ⊥ → ⊥
         by_name true effected = both_ways _ effected.passes e
         by_name false none = none
-slides layout rows voice command look s desk room uses few at leads false e =
+slides layout rows voice command range look s desk room uses few at leads false e =
     let went = leaves_so EFFECTED layout rows voice slide_tree desk (Effected g) room uses few at
     (leads_on true g.r slide_tree (slide_ways g) (leaves EFFECTED (Effected g)) g.d
     (record {
@@ -165,7 +165,7 @@ slides layout rows voice command look s desk room uses few at leads false e =
     }
   where
     g : Running
-    g = running layout rows voice command look s desk
+    g = running layout rows voice command range look s desk
 
     run : Ran
     run = ran each_one layout slide_tree desk
@@ -176,15 +176,18 @@ slides layout rows voice command look s desk room uses few at leads false e =
 -- ---- the clause
 
 pub slide_block_steps : SlideBlockSteps
-slide_block_steps layout rows voice count command look s desk room uses notes has few at playing on keeps common =
-    slides layout rows voice command look s desk room uses few at
-    (slide_leads (running layout rows voice command look s desk) stands on.note on.its on.a
+slide_block_steps layout rows voice count command range look s desk room uses notes has few at playing on looks keeps
+    common =
+    slides layout rows voice command range look s desk room uses few at
+    (slide_leads (running layout rows voice command range look s desk) stands on.its on.a
     (begins layout voice desk s playing))
     (arrives command look s.voice) refl
   where
-    stands : Stands (running layout rows voice command look s desk)
+    stands : Stands (running layout rows voice command range look s desk)
     stands = record {
-      notes = notes_at layout rows voice desk notes;
+      notes = notes_at layout rows voice range desk notes;
+      looks = looks;
+      sounds = note_sounds s.voice.note on.note.sounds on.note.byte;
       row = speed_at layout rows voice count look desk s.voice.param room has on.param;
       keeps = keeps;
       common = common;

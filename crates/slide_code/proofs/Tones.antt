@@ -3,17 +3,15 @@ use Rattle.std.proofs.Common.{◌≡◌, ◌≢◌, ℕ, ◌+◌, ◌-◌, ◌/�
 use Rattle.std.proofs.Common.{true, false, ◌||◌}
 use Rattle.std.proofs.Common.{refl, sym, ap, ◌∙◌, arith, nat_eq, nat_le, nat_lt, min}
 use Rattle.std.proofs.lemmas.Bool.{leb-true, leb-false, le-leb, not-true, not-false, both_ways, eqb-true, eqb-false}
-use Rattle.std.proofs.lemmas.Bool.{le-ltb}
 use Rattle.cpu6502.specs.Registers.{one_if}
-use Rattle.scopes.specs.Trees.{Tree, ThenTree, NeverTree}
+use Rattle.scopes.specs.Trees.{Tree, ThenTree, WhenTree, NeverTree}
 use Rattle.play_model.specs.Wrap.{freq_minus, distance}
 use Rattle.play_model.specs.Freq.{freq}
+use Rattle.asked_numbers.specs.Range.{IsInRange}
 use Rattle.player_memory.specs.declared.labels.TheConstants.{FREQ_LOW, FREQ_HIGH, NOTE, FREQUENCY_LOWS, FREQUENCY_HIGHS}
 use Rattle.player_memory.specs.declared.conditions.TheConstants.{TONE_PORTA}
-use Rattle.player_desk.proofs.Laws.{VoiceDesk, Ways, Leads, body_of, rest_of, joined, indexed, listed, done_as}
-use Rattle.player_desk.proofs.Laws.{in_scope}
+use Rattle.player_desk.proofs.Laws.{VoiceDesk, Ways, Leads, body_of, indexed, listed, done_as}
 use Rattle.player_text.specs.declared.joints.TheConstants.{UP}
-use Rattle.player_text.specs.declared.slide.TheConstants.{LOW}
 use Rattle.slide_code.specs.SlideBlock.{slide_tree}
 use Rattle.slide_code.proofs.Words.{IsWord}
 use Rattle.slide_code.proofs.Distances.{difference, is_above, is_below, reaches_up, passes_up, reaches_down}
@@ -34,6 +32,10 @@ abbrev pub first_of : Tree → Tree
 first_of (ThenTree first rest) = first
 first_of tree = NeverTree
 
+abbrev under : Tree → Tree
+under (WhenTree condition body) = body
+under tree = NeverTree
+
 -- from each test on
 abbrev pub from_speed : Tree
 from_speed = behind (body_of UP slide_tree)
@@ -52,6 +54,10 @@ from_tie = behind from_down
 
 abbrev pub from_tone : Tree
 from_tone = behind from_tie
+
+-- the slide to the note, behind the line that takes its number into Y
+abbrev tone_tree : Tree
+tone_tree = behind (under (first_of from_tone))
 
 -- ---- one of several conditions
 
@@ -93,49 +99,21 @@ frequency_small n = by_note (nat_lt n 96) refl
     by_note true e = rw e (capped _)
     by_note false e = rw e (omega arith)
 
--- no note has one from there on
-pub none_beyond : (note : ℕ) → 96 ≤ note → freq note ≡ 0
-unfolding freq
-none_beyond note far = (let e : nat_lt note 96 ≡ false = le-ltb note 96 far in rw e refl)
-
--- Y is the row of the lists in which the note's frequency stands
-record AtLow (g : Running) (m : VoiceDesk) : Type 0 where
+-- Y is the note's number
+record AtNumber (g : Running) (m : VoiceDesk) : Type 0 where
   tells : Tells g g.s.voice m
-  few : m.y ≤ 96
-  same : freq m.y ≡ freq g.s.voice.note
+  y : m.y ≡ g.s.voice.note % 128
   has : HasSpeed g (speed_of g.look g.s.voice) m
 
 abbrev tone_ways : Running → Ways
 tone_ways g = done_as (Leads g.r (behind from_tone) (up_ways g)) (up_ways g)
 
-low_leads : (g : Running) (m : VoiceDesk) → Tells g g.s.voice m → m.y ≡ g.s.voice.note →
-    HasSpeed g (speed_of g.look g.s.voice) m →
-    Leads g.r (body_of LOW from_tone) (in_scope LOW (done_as (AtLow g) (tone_ways g))) m
-low_leads g m tells y has = (
-  λ below.
-      let few : m.y < 96 = leb-false 96 m.y (not-true _ below) in
-      record {
-        tells = tells_over g g.s.voice m _ refl refl refl refl refl tells;
-        few = omega (arith, few);
-        same = ap freq y;
-        has = record { low = has.low; high = has.high; small = has.small };
-      },
-  λ above.
-      let far : 96 ≤ m.y = leb-true 96 m.y (not-false _ above) in
-      record {
-        tells = tells_over g g.s.voice m _ refl refl refl refl refl tells;
-        few = omega arith;
-        same = none_beyond 96 (omega arith) ∙ sym (none_beyond g.s.voice.note (omega (arith, far, y)));
-        has = record { low = has.low; high = has.high; small = has.small };
-      },
-)
-
 distance_leads : (g : Running) (m : VoiceDesk) → Stands g → g.command ≡ 3 → g.s.voice.param ≢ 0 →
-    g.r.layout.holds TONE_PORTA ≡ true → AtLow g m → Leads g.r (rest_of LOW from_tone) (tone_ways g) m
+    g.r.layout.holds TONE_PORTA ≡ true → AtNumber g m → Leads g.r tone_tree (tone_ways g) m
 distance_leads g m on is some kept at =
-    listed FREQUENCY_LOWS m.y (freq m.y % 256) (on.notes.low m.y at.few) refl
+    listed FREQUENCY_LOWS m.y (freq m.y % 256) (on.notes.low m.y inside) refl
     (λ b e.
-    listed FREQUENCY_HIGHS m.y (freq m.y / 256) (on.notes.high m.y at.few) refl
+    listed FREQUENCY_HIGHS m.y (freq m.y / 256) (on.notes.high m.y inside) refl
     (λ c f. (
       λ above.
           low_read g.s.voice.param (speed % 256) on.row.places at.has.low at.tells.done.fields.param
@@ -220,6 +198,12 @@ distance_leads g m on is some kept at =
     target : ℕ
     target = freq g.s.voice.note
 
+    inside : IsInRange g.range m.y
+    inside = rw at.y (on.looks.target is)
+
+    same : freq m.y ≡ freq g.s.voice.note
+    same = ap freq at.y ∙ on.sounds
+
     away_low : ℕ → ℕ
     away_low b = (m.own FREQ_LOW + (255 - b) + 1) % 256
 
@@ -236,17 +220,17 @@ distance_leads g m on is some kept at =
         IsWord (away_low b) (away_high b c) (freq_minus word target)
     away b c e f =
         difference (m.own FREQ_LOW) (m.own FREQ_HIGH) word b c target on.small (frequency_small g.s.voice.note) its
-        (e ∙ ap (λ n. n % 256) at.same) (f ∙ ap (λ n. n / 256) at.same)
+        (e ∙ ap (λ n. n % 256) same) (f ∙ ap (λ n. n / 256) same)
 
     from_above : (b c : ℕ) → b ≡ freq m.y % 256 → c ≡ freq m.y / 256 → borrow b c ≡ true → target ≤ word
     from_above b c e f carry =
         is_above (m.own FREQ_LOW) (m.own FREQ_HIGH) word b c target on.small (frequency_small g.s.voice.note) its
-        (e ∙ ap (λ n. n % 256) at.same) (f ∙ ap (λ n. n / 256) at.same) carry
+        (e ∙ ap (λ n. n % 256) same) (f ∙ ap (λ n. n / 256) same) carry
 
     from_below : (b c : ℕ) → b ≡ freq m.y % 256 → c ≡ freq m.y / 256 → borrow b c ≡ false → word < target
     from_below b c e f carry =
         is_below (m.own FREQ_LOW) (m.own FREQ_HIGH) word b c target on.small (frequency_small g.s.voice.note) its
-        (e ∙ ap (λ n. n % 256) at.same) (f ∙ ap (λ n. n / 256) at.same) carry
+        (e ∙ ap (λ n. n % 256) same) (f ∙ ap (λ n. n / 256) same) carry
 
     off : (z : Bool) → z ≡ false → one_if z ≡ 0
     off z e = rw e refl
@@ -265,12 +249,12 @@ pub tone_leads : (g : Running) (m : VoiceDesk) → Stands g → g.command ≡ 3 
     Leads g.r from_tone (up_ways g) m
 tone_leads g m on is some at = (
   λ kept.
-      joined true g.r LOW (body_of LOW from_tone) (rest_of LOW from_tone) (AtLow g) (tone_ways g)
-      (indexed (m.own NOTE) m)
-      (low_leads g (indexed (m.own NOTE) m) (tells_over g g.s.voice m _ refl refl refl refl refl at.tells)
-      at.tells.done.fields.note
-      (let has = at.has (λ e. some) in record { low = has.low; high = has.high; small = has.small }))
-      (λ n low. distance_leads g n on is some kept low),
+      let has = at.has (λ e. some) in
+      distance_leads g (indexed (m.own NOTE) m) on is some kept (record {
+        tells = tells_over g g.s.voice m _ refl refl refl refl refl at.tells;
+        y = at.tells.done.fields.note;
+        has = record { low = has.low; high = has.high; small = has.small };
+      }),
   λ out. both_ways _ out (on.keeps.tone is some),
 )
 

@@ -9,6 +9,7 @@ use Rattle.play_model.specs.Freq.{freq, slide}
 use Rattle.play_model.specs.Helpers.{porta_up}
 use Rattle.play_model.specs.State.{Voice, start_common}
 use Rattle.play_model.specs.TickStep.{tempo_of}
+use Rattle.asked_numbers.specs.Range.{IsInRange}
 use Rattle.scopes.specs.Meaning.{Outcome, Done}
 use Rattle.player_memory.specs.declared.labels.TheConstants.{FREQUENCY_LOWS, FREQUENCY_HIGHS, SPEED_LEFTS, SPEED_RIGHTS}
 use Rattle.player_memory.specs.declared.labels.TheConstants.{PERIODS}
@@ -17,8 +18,8 @@ use Rattle.player_memory.specs.Variables.{VoiceBytesStand}
 use Rattle.player_memory.specs.Playing.{own_at, place_in, IsListed}
 use Rattle.player_desk.proofs.Laws.{Fields, fields_of}
 use Rattle.slide_code.specs.SlideBlock.{HasHalfTones, HasSpeed, IsOf, left_by}
-use Rattle.slide_code.specs.WorkedSlides.{laid, lists, speeds, SlidesAreWorked, GroundsAreWorked, OthersAreDenied}
-use Rattle.slide_code.specs.WorkedSlides.{RunsAreDenied, looked_up, slid, voice_with}
+use Rattle.slide_code.specs.WorkedSlides.{laid, its_range, lists, speeds, SlidesAreWorked, GroundsAreWorked}
+use Rattle.slide_code.specs.WorkedSlides.{OthersAreDenied, RunsAreDenied, looked_up, slid, voice_with, LooksUp}
 
 pub slides_are_worked : SlidesAreWorked
 unfolding freq
@@ -78,34 +79,41 @@ listed : (label number place byte : ℕ) → place_in laid label number ≡ plac
 listed label number place byte is holds from to =
     record { elsewhere = rw is (elsewhere place from to); reads = refl; is = rw is holds }
 
-low_is : (note : ℕ) → note < 98 → lists (0x2000 + note) ≡ freq note % 256
-low_is note few =
-    let a : nat_lt (0x2000 + note) 0x1100 ≡ false = le-ltb (0x2000 + note) 0x1100 (omega arith) in
-    let b : nat_lt (0x2000 + note) 0x1104 ≡ false = le-ltb (0x2000 + note) 0x1104 (omega arith) in
-    let c : nat_lt (0x2000 + note) 0x2000 ≡ false = le-ltb (0x2000 + note) 0x2000 (omega arith) in
-    let d : nat_lt (0x2000 + note) 0x2100 ≡ true = lt-ltb (0x2000 + note) 0x2100 (omega (arith, few)) in
-    let number : 0x2000 + note - 0x2000 ≡ note = omega arith in
+low_is : (n : ℕ) → n < 128 → lists (0x2000 + n) ≡ freq n % 256
+low_is n few =
+    let a : nat_lt (0x2000 + n) 0x1100 ≡ false = le-ltb (0x2000 + n) 0x1100 (omega arith) in
+    let b : nat_lt (0x2000 + n) 0x1104 ≡ false = le-ltb (0x2000 + n) 0x1104 (omega arith) in
+    let c : nat_lt (0x2000 + n) 0x2000 ≡ false = le-ltb (0x2000 + n) 0x2000 (omega arith) in
+    let d : nat_lt (0x2000 + n) 0x2100 ≡ true = lt-ltb (0x2000 + n) 0x2100 (omega (arith, few)) in
+    let number : 0x2000 + n - 0x2000 ≡ n = omega arith in
     rw (a, b, c, d, number) refl
 
-high_is : (note : ℕ) → note < 98 → lists (0x2100 + note) ≡ freq note / 256
-high_is note few =
-    let a : nat_lt (0x2100 + note) 0x1100 ≡ false = le-ltb (0x2100 + note) 0x1100 (omega arith) in
-    let b : nat_lt (0x2100 + note) 0x1104 ≡ false = le-ltb (0x2100 + note) 0x1104 (omega arith) in
-    let c : nat_lt (0x2100 + note) 0x2000 ≡ false = le-ltb (0x2100 + note) 0x2000 (omega arith) in
-    let d : nat_lt (0x2100 + note) 0x2100 ≡ false = le-ltb (0x2100 + note) 0x2100 (omega arith) in
-    let e : nat_lt (0x2100 + note) 0x2200 ≡ true = lt-ltb (0x2100 + note) 0x2200 (omega (arith, few)) in
-    let number : 0x2100 + note - 0x2100 ≡ note = omega arith in
+high_is : (n : ℕ) → n < 128 → lists (0x2100 + n) ≡ freq n / 256
+high_is n few =
+    let a : nat_lt (0x2100 + n) 0x1100 ≡ false = le-ltb (0x2100 + n) 0x1100 (omega arith) in
+    let b : nat_lt (0x2100 + n) 0x1104 ≡ false = le-ltb (0x2100 + n) 0x1104 (omega arith) in
+    let c : nat_lt (0x2100 + n) 0x2000 ≡ false = le-ltb (0x2100 + n) 0x2000 (omega arith) in
+    let d : nat_lt (0x2100 + n) 0x2100 ≡ false = le-ltb (0x2100 + n) 0x2100 (omega arith) in
+    let e : nat_lt (0x2100 + n) 0x2200 ≡ true = lt-ltb (0x2100 + n) 0x2200 (omega (arith, few)) in
+    let number : 0x2100 + n - 0x2100 ≡ n = omega arith in
     rw (a, b, c, d, e, number) refl
 
-half_tones : HasHalfTones laid 4 lists
+in_range : (n : ℕ) → 57 ≤ n → n < 128 → IsInRange its_range n
+in_range n from below = record { from = from; below = omega (arith, below) }
+
+below_end : (n : ℕ) → IsInRange its_range n → n < 128
+below_end n inside = (let below = inside.below in omega (arith, below))
+
+half_tones : HasHalfTones laid 4 lists its_range
 half_tones = record {
   frequencies = record {
-    low = λ note few.
-        listed FREQUENCY_LOWS note (0x2000 + note) (freq note % 256) (omega (arith, few)) (low_is note few)
-        (omega arith) (omega (arith, few));
-    high = λ note few.
-        listed FREQUENCY_HIGHS note (0x2100 + note) (freq note / 256) (omega (arith, few)) (high_is note few)
-        (omega arith)
+    low = λ n inside.
+        let few = below_end n inside in
+        listed FREQUENCY_LOWS n (0x2000 + n) (freq n % 256) (omega (arith, few)) (low_is n few) (omega arith)
+        (omega (arith, few));
+    high = λ n inside.
+        let few = below_end n inside in
+        listed FREQUENCY_HIGHS n (0x2100 + n) (freq n / 256) (omega (arith, few)) (high_is n few) (omega arith)
         (omega (arith, few));
   };
   next_low = refl;
@@ -196,6 +204,14 @@ each (suc (suc (suc (suc more)))) few = absurd (omega (arith, few))
 
 -- ---- what is asked, and what is refused
 
+-- command 3 slides to a note in the range, by a speed that isn't calculated
+slides_to : (look : LookUps) (note : ℕ) → 57 ≤ note % 128 → LooksUp look 3 (voice_with 3 1 note)
+slides_to look note from = record {
+  target = λ is. in_range (note % 128) from (omega arith);
+  half_tone_from = λ high. absurd (omega (arith, high));
+  half_tone_to = λ high. absurd (omega (arith, high));
+}
+
 pub grounds_are_worked : (look : LookUps) → GroundsAreWorked look
 grounds_are_worked look = record {
   half_tones = half_tones;
@@ -226,6 +242,23 @@ grounds_are_worked look = record {
     param = omega arith;
     frequency = omega arith;
     note = record { byte = omega arith; sounds = inl (omega arith) };
+  };
+  slides_to = slides_to look 57 (omega arith);
+  slides_below = slides_to look 240 (omega arith);
+  half_tone = record {
+    target = λ is. absurd (omega (arith, is));
+    half_tone_from = λ high. in_range 57 (omega arith) (omega arith);
+    half_tone_to = λ high. in_range 58 (omega arith) (omega arith);
+  };
+  other_note = record {
+    target = λ is. absurd (omega (arith, is));
+    half_tone_from = λ high. absurd (omega (arith, high));
+    half_tone_to = λ high. absurd (omega (arith, high));
+  };
+  no_half_tone = record {
+    target = λ is. absurd (omega (arith, is));
+    half_tone_from = λ high. absurd (omega (arith, high));
+    half_tone_to = λ high. absurd (omega (arith, high));
   };
   keeps = record {
     up = λ is. refl;
@@ -268,8 +301,15 @@ not_a_note (inr e) = omega (arith, e)
 pub others_are_denied : (look : LookUps) → OthersAreDenied look
 unfolding freq
 others_are_denied look = record {
-  last_note = λ has. (let is = (has.frequencies.low 97 (omega arith)).is in omega (arith, is));
-  label = λ has. (let next = has.next_high in omega (arith, next));
+  first_number = λ has.
+      (let is = (has.frequencies.low 57 (in_range 57 (omega arith) (omega arith))).is in omega (arith, is));
+  last_number = λ has.
+      (let is = (has.frequencies.high 127 (in_range 127 (omega arith) (omega arith))).is in omega (arith, is));
+  low_label = λ has. (let next = has.next_low in omega (arith, next));
+  high_label = λ has. (let next = has.next_high in omega (arith, next));
+  target = λ looks. (let from = (looks.target refl).from in omega (arith, from));
+  half_tone_from = λ looks. (let from = (looks.half_tone_from (omega arith)).from in omega (arith, from));
+  half_tone_to = λ looks. (let below = (looks.half_tone_to (omega arith)).below in omega (arith, below));
   side = λ has. (let is = (has.each 1 (omega arith)).sides.right.is in omega (arith, is));
   row_0 = λ has. (let is = (has.each 0 (omega arith)).sides.left.is in omega (arith, is));
   period = λ has. (let is = ((has.each 2 (omega arith)).period (λ from. refl)).is in omega (arith, is));

@@ -12,6 +12,8 @@ use Rattle.play_model.specs.State.{Voice, Playing}
 use Rattle.play_model.specs.Helpers.{porta_up, porta_down, tone, vibrato}
 use Rattle.play_model.specs.WaveStep.{with_note, wave_command}
 use Rattle.play_model.specs.EffectStep.{effect_step}
+use Rattle.asked_numbers.specs.declared.range.NumberRange.{NumberRange}
+use Rattle.asked_numbers.specs.Range.{IsInRange}
 use Rattle.scopes.specs.Desk.{Desk, Layout}
 use Rattle.scopes.specs.Trees.{Tree, ScopeTree}
 use Rattle.scopes.specs.Meaning.{Outcome, Done, Left, Ran, each_one, ran}
@@ -33,11 +35,11 @@ use Rattle.player_text.specs.Steps.{effect_tree}
 abbrev pub slide_tree : Tree
 slide_tree = effect_tree
 
--- In a scope that it leaves where the effect is done it has lines; they take 243 bytes where all are kept, and 3 where
+-- In a scope that it leaves where the effect is done it has lines; they take 229 bytes where all are kept, and 3 where
 -- none are that stand under a condition.
 pub record SlideBlockHasLines : Type 0 where
   pub has : has_lines nothing_around (ScopeTree EFFECTED slide_tree) ≡ true
-  pub all : size (λ condition. true) slide_tree ≡ 243
+  pub all : size (λ condition. true) slide_tree ≡ 229
   pub least : size (λ condition. false) slide_tree ≡ 3
 
 -- ---- the rule
@@ -124,12 +126,19 @@ pub record KeepsCommon (layout : Layout) : Type 0 where
 
 -- ---- what is read
 
--- the frequencies of notes stand in their lists, up to the second note that has none, and each list also under the
--- label of its second byte
-pub record HasHalfTones (layout : Layout) (rows : ℕ) (at : ℕ → ℕ) : Type 0 where
-  pub frequencies : HasFrequencies layout rows at 98
+-- the frequencies of a range of numbers stand in their lists, and each list has another label for the byte behind the
+-- one at its own
+pub record HasHalfTones (layout : Layout) (rows : ℕ) (at : ℕ → ℕ) (range : NumberRange) : Type 0 where
+  pub frequencies : HasFrequencies layout rows at range
   pub next_low : layout.address NEXT_FREQUENCY_LOWS ≡ layout.address FREQUENCY_LOWS + 1
   pub next_high : layout.address NEXT_FREQUENCY_HIGHS ≡ layout.address FREQUENCY_HIGHS + 1
+
+-- The numbers whose frequencies the code looks up lie in the range: that of the note, where command 3 slides to it, and
+-- where the speed is calculated both ends of the half tone at the last note.
+pub record LooksUpWithin (range : NumberRange) (look : LookUps) (command : ℕ) (v : Voice) : Type 0 where
+  pub target : command ≡ 3 → IsInRange range (v.note % 128)
+  pub half_tone_from : 128 ≤ (look.row Speed v.param).left → IsInRange range v.last_note
+  pub half_tone_to : 128 ≤ (look.row Speed v.param).left → IsInRange range (v.last_note + 1)
 
 -- A row of the speed table stands in two lists. Its period is the left side without bit 7, and its slide has the right
 -- side as its low byte and the left one as its high byte, unless the left side has bit 7, which says that the speed is
@@ -178,8 +187,9 @@ pub record Slides (layout : Layout) (rows voice : ℕ) (before : Desk) (run : Ra
 -- In any memory that holds a voice that is playing, the code does a frame of the command that runs.
 abbrev pub SlideBlockSteps : Type 0
 SlideBlockSteps =
-    (layout : Layout) (rows voice count command : ℕ) (look : LookUps) (s : Playing) (desk : Desk) →
-    IsRoom layout rows → MayUse layout rows → HasHalfTones layout rows desk.at →
+    (layout : Layout) (rows voice count command : ℕ) (range : NumberRange) (look : LookUps) (s : Playing)
+    (desk : Desk) → IsRoom layout rows → MayUse layout rows → HasHalfTones layout rows desk.at range →
     HasSpeeds layout rows desk.at look count → voice < 3 → IsAtVoice voice desk → IsPlaying layout voice s desk.at →
-    Runs command count s.voice desk → KeepsSlide layout look command s.voice → KeepsCommon layout →
+    Runs command count s.voice desk → LooksUpWithin range look command s.voice →
+    KeepsSlide layout look command s.voice → KeepsCommon layout →
     Slides layout rows voice desk (ran each_one layout slide_tree desk) command look s

@@ -7,6 +7,7 @@ use Rattle.song_model.specs.declared.tables.TableRow.{TableRow}
 use Rattle.play_model.specs.LookUps.{LookUps}
 use Rattle.play_model.specs.Freq.{freq}
 use Rattle.play_model.specs.State.{Voice, Playing, start_voice, start_common}
+use Rattle.asked_numbers.specs.declared.range.NumberRange.{NumberRange}
 use Rattle.scopes.specs.Desk.{Desk, Layout}
 use Rattle.scopes.specs.Meaning.{Outcome, Ran, Done, Left, Stuck, each_one, ran}
 use Rattle.player_memory.specs.declared.conditions.TheConstants.{PORTA_UP, NOTE_DEPENDENT}
@@ -18,7 +19,8 @@ use Rattle.player_memory.specs.declared.labels.TheConstants.{SLIDES_LOW, SLIDES_
 use Rattle.player_memory.specs.WorkedMemory.{at_1000}
 use Rattle.player_memory.specs.WorkedPlays.{its_desk, with_variable}
 use Rattle.player_text.specs.declared.joints.TheConstants.{EFFECTED}
-use Rattle.slide_code.specs.SlideBlock.{slide_tree, HasHalfTones, HasSpeeds, Runs, KeepsSlide, KeepsCommon, Slides}
+use Rattle.slide_code.specs.SlideBlock.{slide_tree, HasHalfTones, HasSpeeds, LooksUpWithin, Runs, KeepsSlide}
+use Rattle.slide_code.specs.SlideBlock.{KeepsCommon, Slides}
 
 -- ---- the memory
 
@@ -84,7 +86,8 @@ lists place =
 
 -- ---- runs
 
--- the second voice with a command and its parameter, a note, the vibrato's time and a frequency; its last note is A-4
+-- the second voice with a command and its parameter, a note's number, the vibrato's time and a frequency; its last note
+-- is A-4
 abbrev pub with_bytes : ℕ → ℕ → ℕ → ℕ → ℕ → ℕ → ℕ → ℕ
 with_bytes command param note time low high =
     with_variable (COMMAND + 7) command (with_variable (PARAM + 7) param (with_variable (NOTE + 7) note
@@ -130,7 +133,7 @@ pub record SlidesAreWorked : Type 0 where
   pub below : IsSlid (slid laid 3 1 57 5 0xC5 0x1B) (Left EFFECTED) 5 0x45 0x1D
   -- it is at the note at once, also at one below 0
   pub tie : IsArrived (slid laid 3 0 57 5 0x34 0x12) 57 0x34 0x12
-  pub tie_below : IsArrived (slid laid 3 0 255 5 0x34 0x12) 127 0x34 0x12
+  pub tie_below : IsArrived (slid laid 3 0 127 5 0x34 0x12) 127 0x34 0x12
   -- by $80 up, and past the period back down
   pub swings : IsSlid (slid laid 4 1 57 0 0x34 0x12) (Left EFFECTED) 2 0xB4 0x12
   pub turns : IsSlid (slid laid 4 1 57 2 0x34 0x12) (Left EFFECTED) 255 0xB4 0x11
@@ -155,23 +158,42 @@ abbrev pub voice_with : ℕ → ℕ → ℕ → Voice
 voice_with command param note =
     record start_voice { command = command; param = param; note = note; last_note = 57; freq = 0x1234 }
 
+-- the numbers from A-4 to 127 are listed
+abbrev pub its_range : NumberRange
+its_range = record { first = 57; count = 71 }
+
+abbrev pub LooksUp : LookUps → ℕ → Voice → Type 0
+LooksUp look command v = LooksUpWithin its_range (looked_up look) command v
+
 abbrev pub RunsWith : ℕ → ℕ → Voice → Type 0
 RunsWith a command v = Runs command 3 v (desk_with a lists)
 
 pub record GroundsAreWorked (look : LookUps) : Type 0 where
-  pub half_tones : HasHalfTones laid 4 lists
+  pub half_tones : HasHalfTones laid 4 lists its_range
   pub speeds : HasSpeeds laid 4 lists (looked_up look) 3
   pub runs : RunsWith 3 3 (voice_with 3 1 57)
   pub below : RunsWith 3 3 (voice_with 3 1 240)
   pub instrument : RunsWith 4 4 (voice_with 0 2 57)
+  -- a note that is slid to, one below C-0, and a half tone; another note of another command, and no half tone
+  pub slides_to : LooksUp look 3 (voice_with 3 1 57)
+  pub slides_below : LooksUp look 3 (voice_with 3 1 240)
+  pub half_tone : LooksUp look 1 (voice_with 1 2 57)
+  pub other_note : LooksUp look 1 (voice_with 1 1 56)
+  pub no_half_tone : LooksUp look 1 (record (voice_with 1 1 57) { last_note = 0 })
   pub keeps : KeepsSlide laid (looked_up look) 1 (voice_with 1 2 57)
   pub keeps_plain : KeepsSlide plain (looked_up look) 3 (voice_with 3 1 57)
   pub common : KeepsCommon laid
 
 pub record OthersAreDenied (look : LookUps) : Type 0 where
-  -- the last half tone is that from the first note that has none; each list has its second label
-  pub last_note : ¬ HasHalfTones laid 4 (put lists 0x2061 1)
-  pub label : ¬ HasHalfTones (moved_to NEXT_FREQUENCY_HIGHS 0x2100 laid) 4 lists
+  -- each number's frequency is listed; each list has its second label
+  pub first_number : ¬ HasHalfTones laid 4 (put lists 0x2039 1) its_range
+  pub last_number : ¬ HasHalfTones laid 4 (put lists 0x217F 1) its_range
+  pub low_label : ¬ HasHalfTones (moved_to NEXT_FREQUENCY_LOWS 0x2002 laid) 4 lists its_range
+  pub high_label : ¬ HasHalfTones (moved_to NEXT_FREQUENCY_HIGHS 0x2100 laid) 4 lists its_range
+  -- what is looked up is: the note that is slid to, and each end of a half tone
+  pub target : ¬ LooksUp look 3 (voice_with 3 1 56)
+  pub half_tone_from : ¬ LooksUp look 1 (record (voice_with 1 2 57) { last_note = 56 })
+  pub half_tone_to : ¬ LooksUp look 1 (record (voice_with 1 2 57) { last_note = 127 })
   -- a row has its sides, also row 0, and its period and slide, which is in the room
   pub side : ¬ HasSpeeds laid 4 (put lists 0x2211 0x81) (looked_up look) 3
   pub row_0 : ¬ HasSpeeds laid 4 (put lists 0x2200 1) (looked_up look) 3

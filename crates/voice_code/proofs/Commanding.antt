@@ -217,6 +217,7 @@ waves layout rows voice look counts o s desk ground scene =
         (does.command way))
     by_way false false e c =
         (let way : way_of look s ≡ Left PITCHED = rw (e, c) refl in
-        noted layout rows voice look desk run.desk (begun look s) _ ground scene.tables.tones
+        noted layout rows voice counts.numbers look desk run.desk (begun look s) _ ground scene.tables.tones
+        (rw (does.note way).number (scene.wave.number way))
         (here layout wave_tree desk (Left PITCHED) (does.way ∙ way)) (behind (begun look s) (rw e refl)) none
         (effect_rests o look (wave_step look s) e ∙ (does.note way).sets))

@@ -1,11 +1,12 @@
 -- An effect runs: the block that moves the frequency, and the note where it arrives.
-use Rattle.std.proofs.Common.{◌≡◌, ℕ, ◌<◌, ◌≤◌, Bool, true, false, refl, sym, ◌∙◌, subst, arith}
+use Rattle.std.proofs.Common.{◌≡◌, ℕ, ◌<◌, ◌≤◌, Bool, true, false, refl, sym, ◌∙◌, subst}
+use Rattle.std.proofs.lemmas.Bool.{and_parts, eqb-true}
 use Rattle.play_model.specs.LookUps.{LookUps}
 use Rattle.play_model.specs.State.{Playing}
+use Rattle.asked_numbers.specs.Range.{IsInRange}
 use Rattle.scopes.specs.Desk.{Desk, Layout}
 use Rattle.scopes.specs.Trees.{Tree, ScopeTree}
 use Rattle.scopes.specs.Meaning.{Done, Left, Ran, each_one, ran}
-use Rattle.player_memory.specs.Frequencies.{HasFrequencies}
 use Rattle.player_memory.specs.Rooms.{IsRoom, MayUse}
 use Rattle.player_memory.specs.Playing.{IsPlaying, IsAtVoice, with_voice, there}
 use Rattle.player_text.specs.declared.joints.TheConstants.{EFFECTED, RUNNING}
@@ -47,14 +48,15 @@ pub record Runs (layout : Layout) (rows voice : ℕ) (look : LookUps) (counts : 
   pub moved : IsMoved layout look counts command s.voice
   pub at_voice : IsAtVoice voice mid
   pub plays : IsPlaying layout voice s mid.at
-  pub tones : HasHalfTones layout rows mid.at
+  pub tones : HasHalfTones layout rows mid.at counts.numbers
   pub speeds : HasSpeeds layout rows mid.at look counts.speeds
 
 slides : (layout : Layout) (rows voice : ℕ) (look : LookUps) (counts : Counts) (command : ℕ) (s : Playing)
     (mid : Desk) → Ground layout rows voice → Runs layout rows voice look counts command s mid →
     Slides layout rows voice mid (ran each_one layout slide_tree mid) command look s
 slides layout rows voice look counts command s mid ground runs =
-    slide_block_steps layout rows voice counts.speeds command look s mid ground.room ground.uses runs.tones runs.speeds
+    slide_block_steps layout rows voice counts.speeds command counts.numbers look s mid ground.room ground.uses
+    runs.tones runs.speeds
     ground.few runs.at_voice runs.plays (record {
       a = runs.a;
       least = runs.least;
@@ -63,14 +65,11 @@ slides layout rows voice look counts command s mid ground runs =
       param = runs.moved.param;
       frequency = runs.moved.frequency;
       note = runs.moved.note;
-    }) runs.moved.keeps ground.common
+    }) runs.moved.looks runs.moved.keeps ground.common
 
-pub frequencies : (layout : Layout) (rows : ℕ) (at : ℕ → ℕ) → HasHalfTones layout rows at →
-    HasFrequencies layout rows at 97
-frequencies layout rows at has = record {
-  low = λ note few. has.frequencies.low note (omega (arith, few));
-  high = λ note few. has.frequencies.high note (omega (arith, few));
-}
+-- command 3 alone arrives at a note
+arrives_by_three : (command : ℕ) (look : LookUps) (s : Playing) → arrives command look s.voice ≡ true → command ≡ 3
+arrives_by_three command look s e = eqb-true command 3 (and_parts _ _ e).0
 
 pub moves : (layout : Layout) (rows voice : ℕ) (look : LookUps) (counts : Counts) (command : ℕ) (s : Playing)
     (tree : Tree) (desk mid : Desk) → Ground layout rows voice → Comes layout tree desk (Left RUNNING) mid →
@@ -106,10 +105,12 @@ moves layout rows voice look counts command s tree desk mid ground comes runs =
         let set : SetsNote command look s.voice run.desk.cpu.a = does.note e in
         let there_stage : Stage layout rows voice look mid run.desk (with_voice s.voice s) =
         subst (λ v. Stage layout rows voice look mid run.desk (with_voice v s)) left plain in
-        let note = pitch_block_sets layout rows voice s run.desk ground.room ground.uses
-        (frequencies layout rows run.desk.at
-        (tones_stay layout rows look mid.at run.desk.at (lists_of layout rows voice look mid run.desk _ there_stage)
-        runs.tones)) ground.few there_stage.at_voice there_stage.plays in
+        let inside : IsInRange counts.numbers run.desk.cpu.a =
+        rw set.number (runs.moved.looks.target (arrives_by_three command look s e)) in
+        let tones = tones_stay layout rows look mid.at run.desk.at counts.numbers
+        (lists_of layout rows voice look mid run.desk _ there_stage) runs.tones in
+        let note = pitch_block_sets layout rows voice counts.numbers s run.desk ground.room ground.uses
+        tones.frequencies inside ground.few there_stage.at_voice there_stage.plays in
         let last = ran each_one layout pitch_tree run.desk in
         let final = stage_then layout rows voice look mid run.desk last.desk _ _ there_stage
         (stage_of layout rows voice look run.desk last _ note) in record {

@@ -3,6 +3,7 @@ use Rattle.std.proofs.Common.{◌≡◌, ℕ, ◌<◌, true, ◌∙◌, arith}
 use Rattle.song_model.specs.declared.tables.TableRow.{TableRow}
 use Rattle.song_model.specs.declared.tables.TableName.TheVariants.{Speed}
 use Rattle.play_model.specs.LookUps.{LookUps}
+use Rattle.asked_numbers.specs.declared.range.NumberRange.{NumberRange}
 use Rattle.scopes.specs.Desk.{Layout}
 use Rattle.player_memory.specs.declared.conditions.TheConstants.{NOTE_DEPENDENT}
 use Rattle.player_memory.specs.Rooms.{IsElsewhere}
@@ -61,12 +62,12 @@ pub pulses_stay : (layout : Layout) (rows : ℕ) (look : LookUps) (one two : ℕ
 pulses_stay layout rows look one two count stay has =
     record { table = table_stays layout rows look one two _ _ count _ stay has.table; next = has.next }
 
-pub tones_stay : (layout : Layout) (rows : ℕ) (look : LookUps) (one two : ℕ → ℕ) →
-    ListsStay layout rows look one two → HasHalfTones layout rows one → HasHalfTones layout rows two
-tones_stay layout rows look one two stay has = record {
+pub tones_stay : (layout : Layout) (rows : ℕ) (look : LookUps) (one two : ℕ → ℕ) (range : NumberRange) →
+    ListsStay layout rows look one two → HasHalfTones layout rows one range → HasHalfTones layout rows two range
+tones_stay layout rows look one two range stay has = record {
   frequencies = record {
-    low = λ note few. listed_stays layout rows look one two _ note _ stay (has.frequencies.low note few);
-    high = λ note few. listed_stays layout rows look one two _ note _ stay (has.frequencies.high note few);
+    low = λ n inside. listed_stays layout rows look one two _ n _ stay (has.frequencies.low n inside);
+    high = λ n inside. listed_stays layout rows look one two _ n _ stay (has.frequencies.high n inside);
   };
   next_low = has.next_low;
   next_high = has.next_high;

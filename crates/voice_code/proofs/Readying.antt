@@ -44,7 +44,7 @@ pub voice_lists_stay : (layout : Layout) (rows : ℕ) (look : LookUps) (one two 
 voice_lists_stay layout rows look one two counts stay has = record {
   ticks = ticks_stay layout rows look one two counts.instruments counts.speeds stay has.ticks;
   waves = waves_stay layout rows look one two counts.waves stay has.waves;
-  tones = tones_stay layout rows look one two stay has.tones;
+  tones = tones_stay layout rows look one two counts.numbers stay has.tones;
   speeds = speeds_stay layout rows look one two counts.speeds stay has.speeds;
   pulses = pulses_stay layout rows look one two counts.pulses stay has.pulses;
 }

@@ -8,6 +8,8 @@ use Rattle.play_model.specs.State.{Voice, Playing}
 use Rattle.play_model.specs.WaveStep.{Waved, with_note, wave_step}
 use Rattle.play_model.specs.EffectStep.{effect_step}
 use Rattle.play_model.specs.Frame.{effect_done as effect_rule}
+use Rattle.asked_numbers.specs.declared.range.NumberRange.{NumberRange}
+use Rattle.asked_numbers.specs.Range.{IsInRange}
 use Rattle.scopes.specs.Desk.{Desk, Layout}
 use Rattle.scopes.specs.Trees.{Tree, ScopeTree}
 use Rattle.scopes.specs.Meaning.{Done, Left, Ran, each_one, ran}
@@ -31,14 +33,14 @@ use Rattle.voice_code.proofs.Lists.{waves_stay, tones_stay, speeds_stay}
 use Rattle.voice_code.proofs.Stages.{Stage, NoneLent, OneLent, stage_of, stage_then, none_stays, lists_of}
 use Rattle.voice_code.proofs.Rules.{effect_left_out, effect_runs}
 use Rattle.voice_code.proofs.Running.{runs_as}
-use Rattle.voice_code.proofs.Effects.{Ground, moves, frequencies}
+use Rattle.voice_code.proofs.Effects.{Ground, moves}
 
 -- ---- what the code stands on behind the tick step
 
 -- the lists that the wave step and the effect step read
 pub record Tables (layout : Layout) (rows : ℕ) (at : ℕ → ℕ) (look : LookUps) (counts : Counts) : Type 0 where
   pub waves : HasWaveTable layout rows at look counts.waves
-  pub tones : HasHalfTones layout rows at
+  pub tones : HasHalfTones layout rows at counts.numbers
   pub speeds : HasSpeeds layout rows at look counts.speeds
 
 pub tables_stay : (layout : Layout) (rows voice : ℕ) (look : LookUps) (counts : Counts) (before after : Desk)
@@ -47,7 +49,7 @@ pub tables_stay : (layout : Layout) (rows voice : ℕ) (look : LookUps) (counts 
 tables_stay layout rows voice look counts before after s stage has =
     let stay = lists_of layout rows voice look before after s stage in record {
       waves = waves_stay layout rows look before.at after.at counts.waves stay has.waves;
-      tones = tones_stay layout rows look before.at after.at stay has.tones;
+      tones = tones_stay layout rows look before.at after.at counts.numbers stay has.tones;
       speeds = speeds_stay layout rows look before.at after.at counts.speeds stay has.speeds;
     }
 
@@ -86,15 +88,16 @@ pub record Effected (layout : Layout) (rows voice : ℕ) (look : LookUps) (befor
 
 -- ---- the wave step's note
 
-pub noted : (layout : Layout) (rows voice : ℕ) (look : LookUps) (desk mid : Desk) (s : Playing) (t : Playing) →
-    Ground layout rows voice → HasHalfTones layout rows desk.at → Comes layout wave_tree desk (Left PITCHED) mid →
+pub noted : (layout : Layout) (rows voice : ℕ) (range : NumberRange) (look : LookUps) (desk mid : Desk)
+    (s : Playing) (t : Playing) → Ground layout rows voice → HasHalfTones layout rows desk.at range →
+    IsInRange range mid.cpu.a → Comes layout wave_tree desk (Left PITCHED) mid →
     Stage layout rows voice look desk mid s → NoneLent layout mid →
     t ≡ record s { voice = with_note mid.cpu.a s.voice } → Effected layout rows voice look desk t
-noted layout rows voice look desk mid s t ground tones comes stage none is =
+noted layout rows voice range look desk mid s t ground tones inside comes stage none is =
     let stay = lists_of layout rows voice look desk mid s stage in
     let run = ran each_one layout pitch_tree mid in
-    let note = pitch_block_sets layout rows voice s mid ground.room ground.uses
-    (frequencies layout rows mid.at (tones_stay layout rows look desk.at mid.at stay tones)) ground.few stage.at_voice
+    let note = pitch_block_sets layout rows voice range s mid ground.room ground.uses
+    (tones_stay layout rows look desk.at mid.at range stay tones).frequencies inside ground.few stage.at_voice
     stage.plays in
     let final = stage_then layout rows voice look desk mid run.desk s _ stage
     (stage_of layout rows voice look mid run _ note) in record {

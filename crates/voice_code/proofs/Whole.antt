@@ -142,7 +142,7 @@ fetched layout rows voice label o look packed order counts s desk start tick_com
           none = none;
           tables = record {
             waves = waves_stay layout rows look desk.at mid.at counts.waves stay start.lists.waves;
-            tones = tones_stay layout rows look desk.at mid.at stay start.lists.tones;
+            tones = tones_stay layout rows look desk.at mid.at counts.numbers stay start.lists.tones;
             speeds = speeds_stay layout rows look desk.at mid.at counts.speeds stay start.lists.speeds;
           };
           options = start.options;

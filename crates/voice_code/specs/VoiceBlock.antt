@@ -7,8 +7,10 @@ use Rattle.play_model.specs.declared.options.Options.{Options}
 use Rattle.play_model.specs.LookUps.{LookUps}
 use Rattle.play_model.specs.State.{Voice, Playing}
 use Rattle.play_model.specs.TickStep.{tick_step}
-use Rattle.play_model.specs.WaveStep.{Waved, wave_step}
+use Rattle.play_model.specs.WaveStep.{Waved, wave_note, wave_step}
 use Rattle.play_model.specs.Frame.{effect_done, pulse_left_out, voice_step, voice_registers}
+use Rattle.asked_numbers.specs.declared.range.NumberRange.{NumberRange}
+use Rattle.asked_numbers.specs.Range.{IsInRange}
 use Rattle.scopes.specs.Desk.{Desk, Layout}
 use Rattle.scopes.specs.Meaning.{Done, Left, Ran, each_one, ran}
 use Rattle.player_memory.specs.declared.conditions.TheConstants.{NOTE_DEPENDENT, PULSE_TABLE}
@@ -17,7 +19,7 @@ use Rattle.player_memory.specs.declared.labels.TheConstants.{LENT, TEMPO}
 use Rattle.player_memory.specs.Labels.{is_own}
 use Rattle.player_memory.specs.Rooms.{IsRoom, IsElsewhere, MayUse}
 use Rattle.player_memory.specs.Playing.{own_at, shared_at, IsPlaying, IsAtVoice, SlidesStay}
-use Rattle.player_text.specs.declared.joints.TheConstants.{COMMANDED}
+use Rattle.player_text.specs.declared.joints.TheConstants.{PITCHED, COMMANDED}
 use Rattle.player_text.specs.Texts.{voice_tree}
 use Rattle.tick_code.specs.TickBlock.{HasTickLists, IsInLists, KeepsTick}
 use Rattle.wave_code.specs.WaveBlock.{HasWaveTable, IsOnWave, KeepsWave, its_row, begun, way_of}
@@ -25,35 +27,37 @@ use Rattle.wave_code.specs.CommandBlock.{KeepsOnce, IsOnce, lent_out}
 use Rattle.wave_code.specs.EffectBlock.{HasEffect, KeepsEffect, running, left_out}
 use Rattle.fetch_code.specs.FetchBlock.{HasOrderlist, HasRows}
 use Rattle.player_memory.specs.Fetching.{IsInSong}
-use Rattle.slide_code.specs.SlideBlock.{HasHalfTones, HasSpeeds, IsNote, KeepsSlide, KeepsCommon}
+use Rattle.slide_code.specs.SlideBlock.{HasHalfTones, HasSpeeds, IsNote, LooksUpWithin, KeepsSlide, KeepsCommon}
 use Rattle.pulse_code.specs.PulseBlock.{HasPulseTable, IsOnRow}
 use Rattle.register_code.specs.RegisterBlock.{registers_of}
 
 -- ---- what is read
 
--- how many instruments there are, and rows of the tables
+-- how many instruments there are, and rows of the tables; and of which numbers there are frequencies
 pub record Counts : Type 0 where
   pub instruments : ℕ
   pub waves : ℕ
   pub pulses : ℕ
   pub speeds : ℕ
+  pub numbers : NumberRange
 
 -- instruments, tables and frequencies stand in their lists
 pub record HasVoiceLists (layout : Layout) (rows : ℕ) (at : ℕ → ℕ) (look : LookUps) (counts : Counts) : Type 0 where
   pub ticks : HasTickLists layout rows at look counts.instruments counts.speeds
   pub waves : HasWaveTable layout rows at look counts.waves
-  pub tones : HasHalfTones layout rows at
+  pub tones : HasHalfTones layout rows at counts.numbers
   pub speeds : HasSpeeds layout rows at look counts.speeds
   pub pulses : HasPulseTable layout rows at look counts.pulses
 
 -- ---- what a step is ready for
 
--- a command moves the voice's frequency: its parameter is one of the rows of the speed table, or 0, and its lines are
--- kept
+-- a command moves the voice's frequency: its parameter is one of the rows of the speed table, or 0, there are the
+-- frequencies that it looks up, and its lines are kept
 pub record IsMoved (layout : Layout) (look : LookUps) (counts : Counts) (command : ℕ) (v : Voice) : Type 0 where
   pub param : v.param ≤ counts.speeds
   pub frequency : v.freq < 65536
   pub note : IsNote v.note
+  pub looks : LooksUpWithin counts.numbers look command v
   pub keeps : KeepsSlide layout look command v
 
 -- the command of the row of the wave program, and its parameter
@@ -67,10 +71,17 @@ its_param look v = (its_row look v).right
 abbrev pub MeetsCommand : LookUps → Playing → Type 0
 MeetsCommand look s = way_of look s ≡ Left COMMANDED
 
--- the wave step: where its row is a command, this is done once, or lent and moves the frequency
+-- the row of the wave program sets a number
+abbrev pub MeetsNumber : LookUps → Playing → Type 0
+MeetsNumber look s = way_of look s ≡ Left PITCHED
+
+-- the wave step: where its row sets a number, there is its frequency; where it is a command, this is done once, or lent
+-- and moves the frequency
 pub record WaveIsReady (layout : Layout) (look : LookUps) (counts : Counts) (s : Playing) : Type 0 where
   pub on : IsOnWave look counts.waves s.voice
   pub keeps : KeepsWave layout look s.voice
+  pub number : MeetsNumber look s →
+      IsInRange counts.numbers (wave_note (its_row look s.voice).right s.voice.note)
   pub once : MeetsCommand look s → IsOnce (its_command look s.voice) → KeepsOnce layout (its_command look s.voice)
   pub lent : MeetsCommand look s → 1 ≤ its_command look s.voice → its_command look s.voice ≤ 4 →
       IsMoved layout look counts (its_command look s.voice)

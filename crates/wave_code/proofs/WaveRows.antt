@@ -1,7 +1,7 @@
 -- The cases of the wave step, each by what the row's sides are.
 use Rattle.std.proofs.Common.{◌≡◌, ◌≢◌, ℕ, ◌+◌, ◌-◌, ◌%◌, ◌<◌, ◌≤◌, true, false}
 use Rattle.std.proofs.Common.{nat_eq, nat_le, nat_lt}
-use Rattle.std.proofs.Common.{inl, inr, refl, arith, eq-eqb}
+use Rattle.std.proofs.Common.{inl, inr, refl, ap, arith, eq-eqb}
 use Rattle.std.proofs.lemmas.Bool.{le-leb, lt-leb, lt-ltb, le-ltb, ne_eqb, cases_lt}
 use Rattle.song_model.specs.declared.tables.TableRow.{TableRow}
 use Rattle.song_model.specs.declared.tables.TableName.TheVariants.{Wave}
@@ -111,13 +111,6 @@ note_relative right note low = let a : nat_lt right 0x80 ≡ true = lt-ltb right
 pub note_own : (right note : ℕ) → 0x80 ≤ right → wave_note right note ≡ right % 128
 note_own right note high = let a : nat_lt right 0x80 ≡ false = le-ltb right 0x80 high in rw a refl
 
-pub note_small : (right note : ℕ) → wave_note right note < 128
-note_small right note =
-    elim (cases_lt right 0x80) [
-      | inl low ↦ (let e = note_relative right note low in omega (arith, e))
-      | inr high ↦ (let e = note_own right note high in omega (arith, e))
-    ]
-
 -- ---- which rows are commands
 
 pub is_no_command : (row : TableRow) → row.left < 0xF0 → is_wave_command row ≡ false
@@ -182,3 +175,18 @@ begun_low look s from to =
 pub begun_command : (look : LookUps) (s : Playing) → is_wave_command (its_row look s.voice) ≡ true →
     begun look s ≡ moved look s.voice.wave s
 begun_command look s is = rw is refl
+
+-- the note stays, of a row that is no command
+pub begun_note : (look : LookUps) (s : Playing) → (its_row look s.voice).left < 0xF0 →
+    (begun look s).voice.note ≡ s.voice.note
+begun_note look s low =
+    elim (cases_lt (its_row look s.voice).left 0x10) [
+      | inl delay ↦ ap note_of (begun_delay look s delay)
+      | inr from ↦ elim (cases_lt (its_row look s.voice).left 0xE0) [
+        | inl wave ↦ ap note_of (begun_wave look s from wave)
+        | inr high ↦ ap note_of (begun_low look s high low)
+      ]
+    ]
+  where
+    note_of : Playing → ℕ
+    note_of t = t.voice.note

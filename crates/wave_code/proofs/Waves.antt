@@ -1,6 +1,6 @@
 -- What the code of the wave step leaves.
 use Rattle.std.proofs.Common.{◌≡◌, ◌≢◌, ℕ, ◌+◌, ◌-◌, ◌%◌, ◌<◌, ◌≤◌, true, false, bit_and}
-use Rattle.std.proofs.Common.{inl, inr, refl, sym, ap, ◌∙◌, subst, arith}
+use Rattle.std.proofs.Common.{inl, inr, refl, sym, ap, ◌∙◌, arith}
 use Rattle.std.proofs.lemmas.Bool.{leb-true, leb-false, not-true, not-false, eqb-true, eqb-false, both_ways, lt-leb}
 use Rattle.std.proofs.lemmas.Bool.{cases_lt}
 use Rattle.std.proofs.lemmas.Bool.Decides.{eqb_tells}
@@ -24,7 +24,7 @@ use Rattle.command_code.proofs.Laws.{behind}
 use Rattle.wave_code.specs.WaveBlock.{wave_tree, its_row, begun, KeepsWave}
 use Rattle.player_memory.specs.Forms.{stored_left, stored_right}
 use Rattle.wave_code.proofs.WaveRows.{step_none, step_some, row_waits, row_over, row_wave, row_low, row_command}
-use Rattle.wave_code.proofs.WaveRows.{right_kept, right_note, note_relative, note_own, note_small, is_no_command}
+use Rattle.wave_code.proofs.WaveRows.{right_kept, right_note, note_relative, note_own, begun_note, is_no_command}
 use Rattle.wave_code.proofs.WaveRows.{is_a_command}
 use Rattle.wave_code.proofs.WaveRows.{jumps_to, steps_to, held, moved, begun_delay, begun_wave, begun_low}
 use Rattle.wave_code.proofs.WaveRows.{begun_command}
@@ -113,7 +113,7 @@ right_leads r look s handed d m at low here =
           rests = ap (λ (w : Waved). w.effect) w;
           none = is_no_command row low;
           note = record {
-            few = subst (λ x. x < 128) (sym note) (note_small row.right (begun look s).voice.note);
+            number = note ∙ ap (wave_note row.right) (begun_note look s low);
             sets = ap (λ (w : Waved). w.playing) w ∙ ap
                 (λ x. record (begun look s) { voice = with_note x (begun look s).voice }) (sym note);
           };

@@ -5,7 +5,7 @@ use Rattle.song_model.specs.declared.tables.TableRow.{TableRow}
 use Rattle.song_model.specs.declared.tables.TableName.TheVariants.{Wave}
 use Rattle.play_model.specs.LookUps.{LookUps}
 use Rattle.play_model.specs.State.{Voice, Playing}
-use Rattle.play_model.specs.WaveStep.{wave_step, left_done, program_moved, is_wave_command, with_note}
+use Rattle.play_model.specs.WaveStep.{wave_step, left_done, program_moved, is_wave_command, wave_note, with_note}
 use Rattle.scopes.specs.Desk.{Desk, Layout}
 use Rattle.scopes.specs.Trees.{Tree, tree_of}
 use Rattle.scopes.specs.Meaning.{Outcome, Done, Left, Ran, each_one, ran}
@@ -73,9 +73,9 @@ way_of look s =
 abbrev pub state_of : LookUps → Playing → Playing
 state_of look s = if (wave_step look s).effect then (wave_step look s).playing else begun look s
 
--- the note in A is the one that the wave step sets
+-- the note in A is that of the row's right side, which the wave step sets
 pub record HasNote (look : LookUps) (s : Playing) (a : ℕ) : Type 0 where
-  pub few : a < 128
+  pub number : a ≡ wave_note (its_row look s.voice).right s.voice.note
   pub sets : (wave_step look s).playing ≡ record (begun look s) { voice = with_note a (begun look s).voice }
 
 -- the command is in A, and its row in Y
