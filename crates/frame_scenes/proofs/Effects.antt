@@ -1,13 +1,16 @@
 -- The effect step is ready.
 use Rattle.std.proofs.Common.{◌≡◌, ◌≢◌, ℕ, ◌≤◌, ◌||◌, ◌==◌, not, Bool, true, false, nat_eq}
-use Rattle.std.proofs.Common.{if◌then◌else◌, inr, refl, sym, subst, arith}
+use Rattle.std.proofs.Common.{if◌then◌else◌, inr, refl, sym, ◌∙◌, subst, arith}
 use Rattle.std.proofs.lemmas.Bool.{eqb-true, eqb-false}
 use Rattle.song_model.specs.declared.features.Feature.TheVariants.{InstrumentVibrato}
 use Rattle.song_model.specs.declared.songs.Song.{Song}
+use Rattle.song_model.specs.declared.tables.TableName.TheVariants.{Speed}
 use Rattle.play_model.specs.declared.options.Options.{Options}
 use Rattle.play_model.specs.State.{Voice, FrameState, Playing}
 use Rattle.play_model.specs.WaveStep.{wave_step}
+use Rattle.play_model.specs.Reached.{IsPointer}
 use Rattle.play_model.specs.Uses.{GoesOn, DoesEffect, DoesRunning, MeetsVibrato}
+use Rattle.kept_notes.specs.NoteLaws.{LooksUpAsked}
 use Rattle.packed_form.specs.declared.packed_songs.PackedSong.{PackedSong}
 use Rattle.packed_form.specs.Unpacked.{unpacked_song}
 use Rattle.scopes.specs.Desk.{Layout}
@@ -19,6 +22,7 @@ use Rattle.voice_code.specs.VoiceBlock.{EffectIsReady}
 use Rattle.frame_code.specs.FrameBlock.{counts_of}
 use Rattle.frame_scenes.proofs.Turns.{AtTurn, IsFine, its_turn, in_turn}
 use Rattle.frame_scenes.proofs.Programs.{speed_stored, running_points, running_most}
+use Rattle.frame_scenes.proofs.LookedUp.{looks_up, looks_within}
 use Rattle.frame_scenes.proofs.Moves.{note_sounds, slides_kept, vibrato_kept}
 
 -- ---- what is done
@@ -80,6 +84,11 @@ runs v some = by_command (nat_eq v.command 0) refl some
     by_command true z some = by_delay (nat_eq v.param 0) (nat_eq v.vib_delay 1) refl refl (eqb-true v.command 0 z) some
     by_command false z some = Own (eqb-false v.command 0 z) refl
 
+-- command 3 is the voice's own
+of_three : (v : Voice) (command : ℕ) → Runs v command → command ≡ 3 → v.command ≡ 3
+of_three v command (Own some is) three = sym is ∙ three
+of_three v command (Begun none some one is) three = absurd (omega (arith, is, three))
+
 running_kept : (layout : Layout) (packed : PackedSong) (song : Song) (o : Options) (k voice : ℕ) (x : FrameState)
     (at : ℕ → ℕ) (v : Voice) (command : ℕ) → AtTurn layout packed song o k voice x at → v.command ≤ 4 →
     DoesEffect (its_turn packed o k voice x) v → Runs v command → KeepsSlide layout (look_of packed) command v
@@ -105,17 +114,24 @@ effect_ready layout packed song o k voice x at s turn goes effect fine = record 
       (in_turn packed o k voice x _ turn.few
       (v.param, v.vib_delay, meets_vibrato packed o k voice x v v.vib_delay (does stays) none some refl begun));
   moves = λ stays some. record {
-    param =
-        speed_stored packed song v.param turn.scene.stands
-        (running_points (unpacked_song packed) v.command v.param fine.safe.voice.running);
+    param = speed_stored packed song v.param turn.scene.stands points;
     frequency = fine.range.voice.freq;
     note = note_sounds v.note fine.safe.voice.note;
+    looks =
+        looks_within packed song (running v) v turn.scene.stands points
+        (λ three. asked.slide (of_three v (running v) (runs v some) three)) asked.half_tone_from asked.half_tone_to;
     keeps = running_kept layout packed song o k voice x at v (running v) turn most (does stays) (runs v some);
   };
 }
   where
     v : Voice
     v = (wave_step (look_of packed) s).playing.voice
+
+    points : v.param ≢ 0 → IsPointer (unpacked_song packed) Speed v.param
+    points = running_points (unpacked_song packed) v.command v.param fine.safe.voice.running
+
+    asked : LooksUpAsked (unpacked_song packed) v
+    asked = looks_up packed k voice (wave_step (look_of packed) s).playing fine
 
     most : v.command ≤ 4
     most = running_most (unpacked_song packed) v.command v.param fine.safe.voice.running

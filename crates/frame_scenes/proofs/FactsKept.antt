@@ -1,9 +1,10 @@
 -- The lines of the facts that a voice meets are kept.
-use Rattle.std.proofs.Common.{◌≡◌, ◌≢◌, ℕ, true, ◌∙◌, arith}
+use Rattle.std.proofs.Common.{◌≢◌, ℕ, ◌∙◌, arith}
 use Rattle.song_model.specs.declared.songs.Song.{Song}
 use Rattle.song_model.specs.LookUp.{instrument_at}
 use Rattle.song_facts.specs.declared.facts.Fact.TheVariants.{RowTone, RowSlide, RowOnce, FirstMask}
 use Rattle.song_facts.specs.declared.facts.Fact.TheVariants.{NoteVibrato, VibratoDelay, NotePulse, NoteFilter}
+use Rattle.song_facts.specs.declared.facts.Fact.TheVariants.{VoiceTempo, CommonTempo, FunkTurns, FunkChoice}
 use Rattle.play_model.specs.Used.{IsUsedInstrument}
 use Rattle.play_model.specs.Features.{HasInstrument}
 use Rattle.play_model.specs.Safe.{IsSafeWaiting, none, of_row}
@@ -11,6 +12,7 @@ use Rattle.packed_form.specs.declared.packed_songs.PackedSong.{PackedSong}
 use Rattle.packed_form.specs.Unpacked.{unpacked_song}
 use Rattle.packed_form.specs.StandsFor.{StandsFor}
 use Rattle.scopes.specs.Desk.{Layout}
+use Rattle.player_memory.specs.Commands.{KeepsTempo}
 use Rattle.player_memory.specs.FactLines.{KeepsMarked, KeepsFacts}
 use Rattle.tick_code.specs.TickBlock.{KeepsRow, KeepsInstrument}
 
@@ -36,6 +38,35 @@ row_kept layout song command param facts (of_row has) = record {
   once = λ from.
       let is = has.command_is in
       facts RowOnce (record { row = has.row; used = has.used; is_such = omega (arith, is, from) });
+}
+
+-- and of one that sets tempos
+pub tempo_kept : (layout : Layout) (song : Song) (command param : ℕ) → KeepsFacts layout song →
+    IsSafeWaiting song command param → KeepsTempo layout command param
+tempo_kept layout song command param facts none = record {
+  voice = λ e. absurd (omega (arith, e));
+  common = λ e. absurd (omega (arith, e));
+  turns = λ e. absurd (omega (arith, e));
+  choice = λ e. absurd (omega (arith, e));
+}
+tempo_kept layout song command param facts (of_row has) = record {
+  voice = λ e from.
+      let param_is = has.param_is in
+      facts VoiceTempo
+      (record { row = has.row; used = has.used; is_such = (has.command_is ∙ e, omega (arith, param_is, from)) });
+  common = λ e from to.
+      let param_is = has.param_is in
+      facts CommonTempo
+      (record {
+        row = has.row;
+        used = has.used;
+        is_such = (has.command_is ∙ e, (omega (arith, param_is, from), omega (arith, param_is, to)));
+      });
+  turns = λ e low.
+      let param_is = has.param_is in
+      facts FunkTurns
+      (record { row = has.row; used = has.used; is_such = (has.command_is ∙ e, omega (arith, param_is, low)) });
+  choice = λ e. facts FunkChoice (record { row = has.row; used = has.used; is_such = has.command_is ∙ e });
 }
 
 -- of a used instrument, and of a delay that is left from one

@@ -6,6 +6,7 @@ mod Speeds
 -- A voice at its turn: its state, and the rows that it is on.
 mod Turns
 mod Programs
+mod LookedUp
 mod Orders
 mod Patterns
 -- The lines of facts are kept.

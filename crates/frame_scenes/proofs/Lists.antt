@@ -1,5 +1,5 @@
 -- The lists of a packed song, as the steps read them: instruments, the tables of programs and the frequencies of notes.
-use Rattle.std.proofs.Common.{◌≡◌, ℕ, ◌+◌, ◌%◌, ◌<◌, ◌≤◌, Bool, true, false, length, nat_le}
+use Rattle.std.proofs.Common.{◌≡◌, ℕ, ◌+◌, ◌%◌, ◌<◌, ◌≤◌, Bool, true, false, length, min, nat_le}
 use Rattle.std.proofs.Common.{if◌then◌else◌, refl, arith}
 use Rattle.std.proofs.lemmas.Bool.Decides.{nat_tests}
 use Rattle.song_model.specs.declared.tables.TableName.TheVariants.{Wave, Pulse, Filter}
@@ -8,12 +8,14 @@ use Rattle.song_model.specs.Limits.{KeepsLimits}
 use Rattle.song_model.specs.LookUp.{IsNumbered}
 use Rattle.play_model.specs.Ranges.{AreLookUps}
 use Rattle.play_model.proofs.Laws.{song_look_ups}
+use Rattle.asked_numbers.specs.Range.{IsInRange}
 use Rattle.packed_form.specs.declared.packed_songs.PackedSong.{PackedSong}
 use Rattle.packed_form.specs.Unpacked.{unpacked_song}
 use Rattle.scopes.specs.Desk.{Layout}
 use Rattle.player_memory.specs.Forms.{stored_left, stored_right}
 use Rattle.player_memory.specs.SongLists.{SongList, FrequencyLows, FrequencyHighs, Lefts, Rights, Instruments}
-use Rattle.player_memory.specs.SongLists.{first_number, list_length, HasNumber, slide_rows, HasSongLists}
+use Rattle.player_memory.specs.SongLists.{first_listed, frequencies_listed, first_number, list_length, HasNumber}
+use Rattle.player_memory.specs.SongLists.{slide_rows, HasSongLists}
 use Rattle.player_memory.specs.Holds.{IsPlayerLayout, look_of}
 use Rattle.pulse_code.specs.PulseBlock.{HasPulseTable}
 use Rattle.filter_code.specs.FilterBlock.{HasFilterTable}
@@ -22,14 +24,26 @@ use Rattle.wave_code.specs.WaveBlock.{HasWaveTable}
 use Rattle.slide_code.specs.SlideBlock.{HasHalfTones}
 
 -- a number of a list whose first one is 1, or 0
-pub from_one : (packed : PackedSong) (list : SongList) (number : ℕ) → first_number list ≡ 1 → 1 ≤ number →
+pub from_one : (packed : PackedSong) (list : SongList) (number : ℕ) → first_number packed list ≡ 1 → 1 ≤ number →
     number ≤ list_length packed list → HasNumber packed list number
 from_one packed list number first least most =
     record { from = omega (arith, first, least); to = omega (arith, first, most) }
 
-pub from_none : (packed : PackedSong) (list : SongList) (number : ℕ) → first_number list ≡ 0 →
+pub from_none : (packed : PackedSong) (list : SongList) (number : ℕ) → first_number packed list ≡ 0 →
     number < list_length packed list → HasNumber packed list number
 from_none packed list number first below = record { from = omega (arith, first); to = omega (arith, first, below) }
+
+-- and one of the frequencies of the numbers that the song asks for
+least : (one two : ℕ) → min one two ≤ one
+least one two = grind arith
+
+pub listed_number : (packed : PackedSong) (list : SongList) (n : ℕ) → first_number packed list ≡ first_listed packed →
+    list_length packed list ≡ frequencies_listed packed → IsInRange packed.numbers n → HasNumber packed list n
+listed_number packed list n first count inside =
+    let from = inside.from in
+    let below = inside.below in
+    let l : first_listed packed ≤ packed.numbers.first = least _ _ in
+    record { from = omega (arith, first, from, l); to = omega (arith, first, count, below, l) }
 
 -- what is looked up are bytes
 pub looks : (packed : PackedSong) → KeepsLimits (unpacked_song packed) → AreLookUps (look_of packed)
@@ -104,11 +118,11 @@ waves_stand layout packed at laid has limits = record {
 -- ---- notes and instruments
 
 pub tones_stand : (layout : Layout) (packed : PackedSong) (at : ℕ → ℕ) → IsPlayerLayout layout packed →
-    HasSongLists layout packed at → HasHalfTones layout (slide_rows packed) at
+    HasSongLists layout packed at → HasHalfTones layout (slide_rows packed) at packed.numbers
 tones_stand layout packed at laid has = record {
   frequencies = record {
-    low = λ note few. has.lists FrequencyLows note tt (from_none packed FrequencyLows note refl few);
-    high = λ note few. has.lists FrequencyHighs note tt (from_none packed FrequencyHighs note refl few);
+    low = λ n inside. has.lists FrequencyLows n tt (listed_number packed FrequencyLows n refl refl inside);
+    high = λ n inside. has.lists FrequencyHighs n tt (listed_number packed FrequencyHighs n refl refl inside);
   };
   next_low = laid.next.frequency_lows;
   next_high = laid.next.frequency_highs;

@@ -7,6 +7,7 @@ use Rattle.play_model.specs.declared.options.Options.{Options}
 use Rattle.play_model.specs.Speeds.{IsSpeed}
 use Rattle.play_model.proofs.Laws.{song_ranges_lem}
 use Rattle.safe_states.proofs.Laws.{states_are_safe_lem}
+use Rattle.kept_notes.proofs.Laws.{states_keep_notes_lem}
 use Rattle.packed_form.specs.declared.packed_songs.PackedSong.{PackedSong}
 use Rattle.packed_form.specs.Unpacked.{unpacked_song, packed_state}
 use Rattle.packed_form.specs.StandsFor.{StandsFor}
@@ -41,6 +42,9 @@ packed_scene layout packed song o k i at stands short laid has kept facts shared
   below = below;
   safe =
       states_are_safe_lem o (unpacked_song packed) k i speed stands.packed_song.limits stands.complete.playable
+      (subtunes_play packed song k stands below);
+  notes =
+      states_keep_notes_lem o (unpacked_song packed) k i speed stands.packed_song.limits stands.complete.playable
       (subtunes_play packed song k stands below);
   range = (song_ranges_lem o (unpacked_song packed) speed stands.packed_song.limits).state k i;
 }

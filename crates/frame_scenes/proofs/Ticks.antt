@@ -27,7 +27,7 @@ use Rattle.frame_scenes.proofs.Speeds.{speeds_stand}
 use Rattle.frame_scenes.proofs.Turns.{AtTurn, IsFine, its_turn, in_turn, begins}
 use Rattle.frame_scenes.proofs.Programs.{speed_stored, waiting_points}
 use Rattle.frame_scenes.proofs.Patterns.{instrument_stored}
-use Rattle.frame_scenes.proofs.FactsKept.{row_kept, instrument_kept}
+use Rattle.frame_scenes.proofs.FactsKept.{row_kept, tempo_kept, instrument_kept}
 
 -- ---- what is read
 
@@ -106,6 +106,7 @@ tick_keeps layout packed song o k voice x at turn =
       length = λ d does long. turn.scene.used SetTempo (in_turn packed o k voice x _ turn.few (d, does, long));
     })
     (λ now. row_kept layout (unpacked_song packed) _ _ turn.scene.facts fine.safe.voice.waiting)
+    (λ now. tempo_kept layout (unpacked_song packed) _ _ turn.scene.facts fine.safe.voice.waiting)
     (λ now.
     instrument_kept layout (unpacked_song packed) _ _ turn.scene.facts fine.safe.voice.instrument fine.safe.voice.delay)
     turn.scene.shared

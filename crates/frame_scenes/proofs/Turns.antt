@@ -17,6 +17,9 @@ use Rattle.play_model.specs.Uses.{Turn, before_voice, turn_of, InATurn}
 use Rattle.play_model.proofs.Laws.{ranges_lem, frame_ranges_lem}
 use Rattle.safe_states.specs.SafeLaws.{IsSafePlaying, VoiceRulesKeepSafe}
 use Rattle.safe_states.proofs.Laws.{CanBePlayed, playing_safe, before_safe, safe_within_lem, is_played}
+use Rattle.kept_notes.specs.Voices.{KeepsNotes}
+use Rattle.kept_notes.specs.NoteLaws.{VoiceRulesKeepNotes}
+use Rattle.kept_notes.proofs.Laws.{playing_keeps, before_keeps, notes_within_lem}
 use Rattle.packed_form.specs.declared.packed_songs.PackedSong.{PackedSong}
 use Rattle.packed_form.specs.Unpacked.{unpacked_subtune, unpacked_song}
 use Rattle.packed_form.specs.StandsFor.{StandsFor}
@@ -84,10 +87,11 @@ playing_range (suc zero) x few range = record { voice = range.two; common = rang
 playing_range (suc (suc zero)) x few range = record { voice = range.three; common = range.common }
 playing_range (suc (suc (suc voice))) x few range = absurd (omega (arith, few))
 
--- a state that is in its ranges and safe
+-- a state that is in its ranges and safe, and has notes of the song
 pub record IsFine (packed : PackedSong) (k voice : ℕ) (s : Playing) : Type 0 where
   pub range : IsPlaying s
   pub safe : IsSafePlaying (unpacked_song packed) (order_in packed k voice) s
+  pub notes : KeepsNotes (unpacked_song packed) s.voice
 
 pub begins : (layout : Layout) (packed : PackedSong) (song : Song) (o : Options) (k voice : ℕ) (x : FrameState)
     (at : ℕ → ℕ) → AtTurn layout packed song o k voice x at →
@@ -100,6 +104,10 @@ begins layout packed song o k voice x at turn = record {
       playing_safe (unpacked_song packed) k (voice + 1) before
       (before_safe (unpacked_song packed) k (voice + 1) o x (playable packed song scene.stands)
       (subtunes_play packed song k scene.stands scene.below) scene.safe);
+  notes =
+      playing_keeps (unpacked_song packed) (voice + 1) before
+      (before_keeps (unpacked_song packed) k (voice + 1) o x (playable packed song scene.stands)
+      (subtunes_play packed song k scene.stands scene.below) scene.safe scene.notes);
 }
   where
     scene : Scene layout packed song o k x at
@@ -120,6 +128,13 @@ rules_safe packed song k voice stands below few =
     (order_in packed k voice)
     (is_played (unpacked_song packed) k (voice + 1) (subtunes_play packed song k stands below) (is_channel voice few))
 
+rules_keep : (packed : PackedSong) (song : Song) (k voice : ℕ) → StandsFor packed song → k < length packed.subtunes →
+    voice < 3 → VoiceRulesKeepNotes (unpacked_song packed) (order_in packed k voice)
+rules_keep packed song k voice stands below few =
+    (notes_within_lem (unpacked_song packed) stands.packed_song.limits stands.complete.playable).rules
+    (order_in packed k voice)
+    (is_played (unpacked_song packed) k (voice + 1) (subtunes_play packed song k stands below) (is_channel voice few))
+
 -- behind the tick step
 pub ticked_fine : (layout : Layout) (packed : PackedSong) (song : Song) (o : Options) (k voice : ℕ) (x : FrameState)
     (at : ℕ → ℕ) → AtTurn layout packed song o k voice x at →
@@ -130,6 +145,9 @@ ticked_fine layout packed song o k voice x at turn =
       safe =
           (rules_safe packed song k voice turn.scene.stands turn.scene.below turn.few).tick (voice + 1)
           (turn_in packed o k voice x) start.safe;
+      notes =
+          (rules_keep packed song k voice turn.scene.stands turn.scene.below turn.few).tick (voice + 1)
+          (turn_in packed o k voice x) start.safe.voice start.notes;
     }
 
 -- behind the wave step
@@ -139,6 +157,8 @@ pub waved_fine : (layout : Layout) (packed : PackedSong) (song : Song) (o : Opti
 waved_fine layout packed song o k voice x at s turn fine = record {
   range = (rules_range packed song turn.scene.stands).wave s fine.range;
   safe = (rules_safe packed song k voice turn.scene.stands turn.scene.below turn.few).wave s fine.safe;
+  notes =
+      (rules_keep packed song k voice turn.scene.stands turn.scene.below turn.few).wave s fine.safe.voice fine.notes;
 }
 
 -- what holds of both states holds of the one that a test chooses
@@ -163,6 +183,9 @@ effected_fine layout packed song o k voice x at w turn fine =
             fine.safe.voice;
         common = fine.safe.common;
       };
+      notes =
+          (rules_keep packed song k voice turn.scene.stands turn.scene.below turn.few).effect w.playing.voice
+          fine.safe.voice fine.notes;
     }) fine
   where
     done : Playing

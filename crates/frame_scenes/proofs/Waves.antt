@@ -1,18 +1,21 @@
 -- The wave step is ready.
-use Rattle.std.proofs.Common.{◌≡◌, ◌≢◌, ℕ, ◌+◌, ◌<◌, ◌≤◌, Bool, true, false, length}
-use Rattle.std.proofs.Common.{if◌then◌else◌, inl, inr, refl, sym, subst, arith}
-use Rattle.std.proofs.lemmas.Bool.{and_parts, eqb-false, leb-true}
+use Rattle.std.proofs.Common.{◌≡◌, ◌≢◌, ℕ, ◌+◌, ◌%◌, ◌<◌, ◌≤◌, ◌&&◌, not, Bool, true, false, length, nat_eq, nat_lt}
+use Rattle.std.proofs.Common.{if◌then◌else◌, inl, inr, refl, sym, ap, ◌∙◌, subst, arith}
+use Rattle.std.proofs.lemmas.Bool.{and_parts, both_ways, eqb-false, eq-eqb, ne_eqb, leb-true}
 use Rattle.song_model.specs.declared.features.Feature.TheVariants.{WaveTable, WaveCommand}
 use Rattle.song_model.specs.declared.songs.Song.{Song}
-use Rattle.song_model.specs.declared.tables.TableName.TheVariants.{Wave}
+use Rattle.song_model.specs.declared.tables.TableName.TheVariants.{Wave, Speed}
+use Rattle.song_model.specs.declared.tables.TableRow.{TableRow}
 use Rattle.song_facts.specs.declared.facts.Fact.TheVariants.{WaveDelay}
 use Rattle.play_model.specs.declared.options.Options.{Options}
 use Rattle.play_model.specs.LookUps.{LookUps}
 use Rattle.play_model.specs.State.{FrameState, Playing}
-use Rattle.play_model.specs.Reached.{IsStep}
-use Rattle.play_model.specs.WaveStep.{wave_step, is_wave_command}
+use Rattle.play_model.specs.Reached.{IsStep, IsPointer}
+use Rattle.play_model.specs.WaveStep.{wave_step, wave_note, is_wave_command}
 use Rattle.play_model.specs.Uses.{GoesOn, HasWaveProgram, MeetsWaveCommand, DoesWave}
 use Rattle.safe_states.proofs.Laws.{is_step}
+use Rattle.asked_numbers.specs.Numbers.{IsAskedNumber}
+use Rattle.kept_notes.specs.NoteLaws.{LooksUpAsked}
 use Rattle.packed_form.specs.declared.packed_songs.PackedSong.{PackedSong}
 use Rattle.packed_form.specs.Unpacked.{unpacked_song}
 use Rattle.scopes.specs.Desk.{Layout}
@@ -22,10 +25,11 @@ use Rattle.player_text.specs.declared.joints.TheConstants.{COMMANDED, PITCHED}
 use Rattle.wave_code.specs.WaveBlock.{IsOnWave, KeepsWave, its_row, begun}
 use Rattle.wave_code.specs.CommandBlock.{lent_out}
 use Rattle.slide_code.specs.SlideBlock.{IsNote}
-use Rattle.voice_code.specs.VoiceBlock.{IsMoved, MeetsCommand, WaveIsReady, its_command, its_param}
+use Rattle.voice_code.specs.VoiceBlock.{IsMoved, MeetsNumber, MeetsCommand, WaveIsReady, its_command, its_param}
 use Rattle.frame_code.specs.FrameBlock.{counts_of}
 use Rattle.frame_scenes.proofs.Turns.{AtTurn, IsFine, its_turn, in_turn}
 use Rattle.frame_scenes.proofs.Programs.{next_stored, speed_stored, wave_points}
+use Rattle.frame_scenes.proofs.LookedUp.{looks_up, asked_in, looks_within}
 use Rattle.frame_scenes.proofs.Ticks.{once_kept}
 use Rattle.frame_scenes.proofs.Moves.{note_sounds, slides_kept}
 
@@ -127,7 +131,8 @@ does_wave packed o k voice x s goes is = record {
 -- the program goes on in front of it, and nothing else
 begun_frequency : (look : LookUps) (s : Playing) → IsMet look s →
     ((begun look s).voice.freq ≡ s.voice.freq) × ((begun look s).voice.note ≡ s.voice.note)
-begun_frequency look s is = let e = is.command in (rw e refl, rw e refl)
+    × ((begun look s).voice.last_note ≡ s.voice.last_note)
+begun_frequency look s is = let e = is.command in (rw e refl, rw e refl, rw e refl)
 
 lent_moves : (layout : Layout) (packed : PackedSong) (song : Song) (o : Options) (k voice : ℕ) (x : FrameState)
     (at : ℕ → ℕ) (s : Playing) → AtTurn layout packed song o k voice x at →
@@ -138,13 +143,19 @@ lent_moves : (layout : Layout) (packed : PackedSong) (song : Song) (o : Options)
     (begun (look_of packed) s)).voice
 lent_moves layout packed song o k voice x at s turn goes fine is least most =
     let same = begun_frequency (look_of packed) s is in record {
-      param =
-          speed_stored packed song (its_param (look_of packed) s.voice) turn.scene.stands
-          (wave_points (unpacked_song packed) s.voice.wave_ptr command
-          (is_step (unpacked_song packed) Wave s.voice.wave_ptr fine.safe.voice.wave is.some).reached
-          (command_is (look_of packed) s is).is least most);
+      param = speed_stored packed song (its_param (look_of packed) s.voice) turn.scene.stands points;
       frequency = subst (λ n. n < 65536) (sym same.0) fine.range.voice.freq;
       note = subst (λ n. IsNote n) (sym same.1) (note_sounds s.voice.note fine.safe.voice.note);
+      looks =
+          looks_within packed song command
+          (lent_out command (its_param (look_of packed) s.voice) (begun (look_of packed) s)).voice turn.scene.stands
+          points
+          (λ three.
+          subst (λ n. IsAskedNumber (unpacked_song packed) (n % 128)) (sym same.1)
+          (asked.wave_slide is.some (left is ∙ ap (λ n. 0xF0 + n) three)))
+          (λ has. subst (IsAskedNumber (unpacked_song packed)) (sym same.2) (asked.half_tone_from has))
+          (λ has.
+          subst (λ n. IsAskedNumber (unpacked_song packed) (n + 1)) (sym same.2) (asked.half_tone_to has));
       keeps =
           slides_kept layout packed song o k voice x at command
           (lent_out command (its_param (look_of packed) s.voice) (begun (look_of packed) s)).voice turn least most
@@ -153,6 +164,67 @@ lent_moves layout packed song o k voice x at s turn goes fine is least most =
   where
     command : ℕ
     command = its_command (look_of packed) s.voice
+
+    left : IsMet (look_of packed) s → (its_row (look_of packed) s.voice).left ≡ 0xF0 + command
+    left is = (command_is (look_of packed) s is).is
+
+    points : its_param (look_of packed) s.voice ≢ 0 →
+        IsPointer (unpacked_song packed) Speed (its_param (look_of packed) s.voice)
+    points =
+        wave_points (unpacked_song packed) s.voice.wave_ptr command
+        (is_step (unpacked_song packed) Wave s.voice.wave_ptr fine.safe.voice.wave is.some).reached (left is) least most
+
+    asked : LooksUpAsked (unpacked_song packed) s.voice
+    asked = looks_up packed k voice s fine
+
+-- ---- a row that sets a number
+
+-- the program is on a row, which is no command, and keeps no number
+record IsSet (look : LookUps) (s : Playing) : Type 0 where
+  some : s.voice.wave_ptr ≢ 0
+  plain : is_wave_command (its_row look s.voice) ≡ false
+  sets : (its_row look s.voice).right ≢ 0x80
+
+noted : (effect command : Bool) →
+    (if effect then Done else if command then Left COMMANDED else Left PITCHED) ≡ Left PITCHED →
+    (effect ≡ false) × (command ≡ false)
+noted true command e = absurd (cc)
+noted false true e = let same : COMMANDED ≡ PITCHED = cc in absurd (omega (arith, same))
+noted false false e = (refl, refl)
+
+-- of a row that keeps the number the effect runs
+kept_runs : (look : LookUps) (s : Playing) → s.voice.wave_ptr ≢ 0 → is_wave_command (its_row look s.voice) ≡ false →
+    (its_row look s.voice).right ≡ 0x80 → (wave_step look s).effect ≡ true
+unfolding wave_step
+kept_runs look s some plain kept = by_wait (nat_lt row.left 0x10 && not (nat_eq s.voice.wave_time row.left)) refl
+  where
+    row : TableRow
+    row = its_row look s.voice
+
+    on : nat_eq s.voice.wave_ptr 0 ≡ false
+    on = ne_eqb s.voice.wave_ptr 0 some
+
+    same : nat_eq row.right 0x80 ≡ true
+    same = eq-eqb row.right 0x80 kept
+
+    by_wait : (z : Bool) → (nat_lt row.left 0x10 && not (nat_eq s.voice.wave_time row.left)) ≡ z →
+        (wave_step look s).effect ≡ true
+    by_wait true e = rw (on, e) refl
+    by_wait false e = rw (on, e, plain, same) refl
+
+is_set : (look : LookUps) (s : Playing) → MeetsNumber look s → IsSet look s
+unfolding wave_step
+is_set look s meets = record {
+  some = some;
+  plain = both.1;
+  sets = λ kept. both_ways (wave_step look s).effect both.0 (kept_runs look s some both.1 kept);
+}
+  where
+    both : ((wave_step look s).effect ≡ false) × (is_wave_command (its_row look s.voice) ≡ false)
+    both = noted (wave_step look s).effect (is_wave_command (its_row look s.voice)) meets
+
+    some : s.voice.wave_ptr ≢ 0
+    some at_zero = let way = rw at_zero at meets in absurd (cc)
 
 -- ---- the step
 
@@ -163,6 +235,10 @@ pub wave_ready : (layout : Layout) (packed : PackedSong) (song : Song) (o : Opti
 wave_ready layout packed song o k voice x at s turn goes fine = record {
   on = on_wave layout packed song o k voice x at s turn fine;
   keeps = keeps;
+  number = λ meets.
+      let is = is_set (look_of packed) s meets in
+      asked_in packed song (wave_note (its_row (look_of packed) s.voice).right s.voice.note) turn.scene.stands
+      ((looks_up packed k voice s fine).row is.some is.plain is.sets);
   once = λ meets once.
       let is = met (look_of packed) s meets in record {
         commands = keeps.command is.some is.command;

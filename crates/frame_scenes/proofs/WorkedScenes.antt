@@ -10,7 +10,7 @@ use Rattle.packed_form.specs.declared.packed_songs.PackedSong.{PackedSong}
 use Rattle.player_memory.specs.SongLists.{FrequencyLows}
 use Rattle.frame_scenes.specs.FrameScenes.{KeepsPatternLimits}
 use Rattle.frame_scenes.specs.WorkedScenes.{PatternLimitsAreWorked, NoneAreScenes}
-use Rattle.frame_scenes.proofs.Lists.{from_none}
+use Rattle.frame_scenes.proofs.Lists.{listed_number}
 
 -- the one item of a list
 only : (one item : List ℕ) → Contains (one ∷ []) item → item ≡ one
@@ -41,9 +41,9 @@ none_are_scenes layout packed song o k x at = record {
   stands = λ other scene. other scene.stands.subtunes;
   short = λ has scene. too_long packed scene.short has;
   laid = λ e scene. let least = scene.laid.room.pointer_low in omega (arith, e, least);
-  has = λ other scene.
-      let first = scene.has.lists FrequencyLows 0 tt (from_none packed FrequencyLows 0 refl (omega arith)) in
-      other first.is;
+  has = λ n inside other scene.
+      let frequency = scene.has.lists FrequencyLows n tt (listed_number packed FrequencyLows n refl refl inside) in
+      other frequency.is;
   used = λ some out scene. true≢false (sym (scene.used FilterTable some) ∙ out);
   facts = λ has out scene. true≢false (sym (scene.facts GateNote has) ∙ out);
   shared = λ on out scene. true≢false (sym (scene.shared.once on) ∙ out);
@@ -51,5 +51,6 @@ none_are_scenes layout packed song o k x at = record {
   common = λ on out scene. true≢false (sym (scene.common.rise (rw on refl)) ∙ out);
   below = λ past scene. let below = scene.below in omega (arith, past, below);
   safe = λ e scene. no_note x.one.note e scene.safe.one.note;
+  notes = λ no scene. no scene.notes.one.last;
   range = λ e scene. let word = scene.range.one.freq in omega (arith, e, word);
 }

@@ -8,6 +8,7 @@ use Rattle.play_model.specs.Speeds.{IsSpeed}
 use Rattle.play_model.specs.State.{FrameState}
 use Rattle.play_model.specs.Ranges.{IsFrameState}
 use Rattle.play_model.specs.Safe.{IsSafe}
+use Rattle.kept_notes.specs.Voices.{KeepAllNotes}
 use Rattle.packed_form.specs.declared.packed_patterns.TheConstants.{MOST_PACKED_BYTES}
 use Rattle.packed_form.specs.declared.packed_songs.PackedSong.{PackedSong}
 use Rattle.packed_form.specs.Unpacked.{unpacked_song, packed_state}
@@ -25,8 +26,8 @@ abbrev pub KeepsPatternLimits : PackedSong → Type 0
 KeepsPatternLimits packed = (pattern : List ℕ) → Contains packed.patterns pattern → length pattern ≤ MOST_PACKED_BYTES
 
 -- The packed song stands for a song, and its lists stand in memory. The state is one that a song may come to in this
--- subtune. The lines are kept of each feature that the frame uses, of each fact of the packed song, of what features and
--- facts have in common, and of each option that is on.
+-- subtune, and its voices have notes of the song. The lines are kept of each feature that the frame uses, of each fact
+-- of the packed song, of what features and facts have in common, and of each option that is on.
 pub record Scene (layout : Layout) (packed : PackedSong) (song : Song) (o : Options) (k : ℕ) (x : FrameState)
     (at : ℕ → ℕ) : Type 0 where
   pub stands : StandsFor packed song
@@ -40,6 +41,7 @@ pub record Scene (layout : Layout) (packed : PackedSong) (song : Song) (o : Opti
   pub common : KeepsCommon layout
   pub below : k < length packed.subtunes
   pub safe : IsSafe (unpacked_song packed) k x
+  pub notes : KeepAllNotes (unpacked_song packed) x
   pub range : IsFrameState x
 
 -- the frame has what its steps read, and is ready for them

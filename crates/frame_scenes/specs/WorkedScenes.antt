@@ -6,6 +6,8 @@ use Rattle.song_model.specs.LookUp.{playable_subtunes}
 use Rattle.play_model.specs.declared.options.Options.{Options}
 use Rattle.play_model.specs.Freq.{freq}
 use Rattle.play_model.specs.State.{FrameState}
+use Rattle.asked_numbers.specs.Numbers.{IsLastNumber}
+use Rattle.asked_numbers.specs.Range.{IsInRange}
 use Rattle.packed_form.specs.declared.packed_songs.PackedSong.{PackedSong}
 use Rattle.packed_form.specs.Unpacked.{unpacked_song}
 use Rattle.song_facts.specs.declared.facts.Fact.TheVariants.{GateNote}
@@ -23,15 +25,18 @@ pub record PatternLimitsAreWorked (packed : PackedSong) : Type 0 where
   pub longer : ¬ KeepsPatternLimits (record packed { patterns = replicate 257 0xBD ∷ [] })
 
 -- It is no scene where the song plays more subtunes than the packed song has, or fewer; where a packed pattern has 257
--- bytes; where the pointer stands at the processor's port; where the first frequency isn't in its list; where the
--- filter has a program, or the pulse step is to be left out, or a frequency is slid up, or an orderlist's pattern has a
--- keyoff, or rows have a command, and the lines for that aren't kept; behind the last subtune; where a note sounds that no song comes to; and where a frequency is no word.
+-- bytes; where the pointer stands at the processor's port; where the frequency of a number that the song asks for isn't
+-- in its list; where the filter has a program, or the pulse step is to be left out, or a frequency is slid up, or an
+-- orderlist's pattern has a keyoff, or rows have a command, and the lines for that aren't kept; behind the last subtune;
+-- where a note sounds that no song comes to, or a voice's last number is none of this song; and where a frequency is no
+-- word.
 pub record NoScenesAreWorked (layout : Layout) (packed : PackedSong) (song : Song) (o : Options) (k : ℕ)
     (x : FrameState) (at : ℕ → ℕ) : Type 0 where
   pub stands : length packed.subtunes ≢ length (playable_subtunes song) → ¬ Scene layout packed song o k x at
   pub short : Contains packed.patterns (replicate 257 0xBD) → ¬ Scene layout packed song o k x at
   pub laid : layout.pointer ≡ 1 → ¬ Scene layout packed song o k x at
-  pub has : at (place_in layout FREQUENCY_LOWS 0) ≢ freq 0 % 256 → ¬ Scene layout packed song o k x at
+  pub has : (n : ℕ) → IsInRange packed.numbers n → at (place_in layout FREQUENCY_LOWS n) ≢ freq n % 256 →
+      ¬ Scene layout packed song o k x at
   pub used : x.common.filter_ptr ≢ 0 → layout.holds FILTER_TABLE ≡ false → ¬ Scene layout packed song o k x at
   pub facts : HasFact (unpacked_song packed) GateNote → layout.holds GATE_NOTE ≡ false →
       ¬ Scene layout packed song o k x at
@@ -40,6 +45,7 @@ pub record NoScenesAreWorked (layout : Layout) (packed : PackedSong) (song : Son
   pub common : layout.holds PORTA_UP ≡ true → layout.holds RISE ≡ false → ¬ Scene layout packed song o k x at
   pub below : length packed.subtunes ≤ k → ¬ Scene layout packed song o k x at
   pub safe : x.one.note ≡ 200 → ¬ Scene layout packed song o k x at
+  pub notes : ¬ IsLastNumber (unpacked_song packed) x.one.last_note → ¬ Scene layout packed song o k x at
   pub range : x.one.freq ≡ 65536 → ¬ Scene layout packed song o k x at
 
 abbrev pub NoneAreScenes : Type 0

@@ -87,11 +87,11 @@ here : (any : PackedSong) (list : SongList) (first count : ℕ) → all_stand an
     IsListed note_layout 1 note_memory (list_label list) number (list_byte note_layout (note_packed any) list number)
 here any list first count test number from to = listed note_memory any list first count test number from to
 
-lows_stand : (any : PackedSong) → all_stand any FrequencyLows 0 98 ≡ true
+lows_stand : (any : PackedSong) → all_stand any FrequencyLows 44 5 ≡ true
 unfolding freq
 lows_stand any = refl
 
-highs_stand : (any : PackedSong) → all_stand any FrequencyHighs 0 98 ≡ true
+highs_stand : (any : PackedSong) → all_stand any FrequencyHighs 44 5 ≡ true
 unfolding freq
 highs_stand any = refl
 
@@ -127,8 +127,8 @@ order_few any (suc more) channel number one few has = absurd (omega (arith, one)
 
 lists_stand : (any : PackedSong) → ListsStand note_layout (note_packed any) note_memory
 unfolding table_row
-lists_stand any FrequencyLows number is has = here any FrequencyLows 0 98 (lows_stand any) number has.from has.to
-lists_stand any FrequencyHighs number is has = here any FrequencyHighs 0 98 (highs_stand any) number has.from has.to
+lists_stand any FrequencyLows number is has = here any FrequencyLows 44 5 (lows_stand any) number has.from has.to
+lists_stand any FrequencyHighs number is has = here any FrequencyHighs 44 5 (highs_stand any) number has.from has.to
 lists_stand any (Lefts Wave) number is has = here any (Lefts Wave) 1 2 refl number has.from has.to
 lists_stand any (Lefts Pulse) number is has = here any (Lefts Pulse) 1 2 refl number has.from has.to
 lists_stand any (Lefts Filter) number is has = here any (Lefts Filter) 1 0 refl number has.from has.to
@@ -260,10 +260,16 @@ no_wave any has =
     let is : 0x11 ≡ 0x41 = (has.lists (Lefts Wave) 1 tt (record { from = omega arith; to = omega arith })).is in
     omega (arith, is)
 
-no_frequency : (any : PackedSong) → ¬ HasSongLists note_layout (note_packed any) (put note_memory 0x2061 1)
+no_first : (any : PackedSong) → ¬ HasSongLists note_layout (note_packed any) (put note_memory 0x202C 1)
 unfolding freq
-no_frequency any has =
-    let is : 1 ≡ 0 = (has.lists FrequencyLows 97 tt (record { from = omega arith; to = omega arith })).is in
+no_first any has =
+    let is : 1 ≡ 0xD0 = (has.lists FrequencyLows 44 tt (record { from = omega arith; to = omega arith })).is in
+    omega (arith, is)
+
+no_last : (any : PackedSong) → ¬ HasSongLists note_layout (note_packed any) (put note_memory 0x2230 1)
+unfolding freq
+no_last any has =
+    let is : 1 ≡ 0x11 = (has.lists FrequencyHighs 48 tt (record { from = omega arith; to = omega arith })).is in
     omega (arith, is)
 
 no_order : (any : PackedSong) → ¬ HasSongLists note_layout (note_packed any) (put note_memory 0x4002 1)
@@ -289,7 +295,8 @@ laid any = record {
   off_timer = λ timed place reads. inl (let to = to_read place reads in omega (arith, to));
   lists = song_lists any;
   wave = no_wave any;
-  frequency = no_frequency any;
+  first_frequency = no_first any;
+  last_frequency = no_last any;
   order = no_order any;
   pattern = no_pattern any;
   slide = no_slide any;

@@ -3,6 +3,7 @@
 use Rattle.std.specs.Prelude.{◌≡◌, ℕ, ◌+◌, ◌-◌, ◌*◌, ◌/◌, ◌%◌, ◌&&◌, ◌||◌, Bool, true}
 use Rattle.std.specs.Prelude.{nat_eq, nat_le, nat_lt}
 use Rattle.std.specs.Prelude.{if◌then◌else◌, List, [], ◌∷◌, slice_index}
+use Rattle.std.proofs.Common.{arith}
 use Rattle.code_runs.specs.Runs.{put}
 use Rattle.play_model.specs.declared.options.Options.{Options}
 use Rattle.play_model.specs.Freq.{freq}
@@ -25,7 +26,7 @@ use Rattle.kept_lines.specs.Starts.{start_of}
 
 -- ---- the song
 
--- its lists, whatever features it is said to have
+-- its lists, whatever features it is said to have; it asks for the number of its note
 abbrev pub note_packed : PackedSong → PackedSong
 note_packed any = record any {
   subtunes = note_subtune ∷ [];
@@ -35,6 +36,8 @@ note_packed any = record any {
   pulse = sides 0x88 0 ∷ sides 0xFF 0 ∷ [];
   filter = [];
   speed = [];
+  numbers = record { first = 48; count = 1 };
+  numbers_within = omega arith;
 }
 
 -- ---- the layout
@@ -109,9 +112,10 @@ pub record NoteIsLaid (packed : PackedSong) : Type 0 where
   pub timer : MaySetTimer note_layout
   pub off_timer : ReadsOffTimer note_layout
   pub lists : HasSongLists note_layout packed note_memory
-  -- another byte in a list
+  -- another byte in a list; as it has 42 bytes, and two more stand in front of the frequencies, these begin at number 44
   pub wave : ¬ HasSongLists note_layout packed (put note_memory 0x2701 0x11)
-  pub frequency : ¬ HasSongLists note_layout packed (put note_memory 0x2061 1)
+  pub first_frequency : ¬ HasSongLists note_layout packed (put note_memory 0x202C 1)
+  pub last_frequency : ¬ HasSongLists note_layout packed (put note_memory 0x2230 1)
   pub order : ¬ HasSongLists note_layout packed (put note_memory 0x4002 1)
   pub pattern : ¬ HasSongLists note_layout packed (put note_memory 0x5101 1)
   pub slide : ¬ HasSongLists note_layout packed (put note_memory 0x1100 1)
@@ -128,10 +132,11 @@ pub record NoteBegins (packed : PackedSong) (any : Desk) (o : Options) : Type 0 
   pub begins : (e : Entrance) → BeginsSubtunes e (start_of o) →
       BeginsSubtune note_layout packed o 0 (note_desk any 0) (entrance_ran note_layout e (note_desk any 0))
 
--- It has one instrument, and two rows in two of its tables. The first voice of its first frame comes to its step as it
+-- It has one instrument, two rows in two of its tables, and one number. The first voice of its first frame comes to its step as it
 -- began, and the second one has the orderlist of pattern 1.
 pub record NoteTurns (packed : PackedSong) (o : Options) : Type 0 where
-  pub counts : counts_of packed ≡ record { instruments = 1; waves = 2; pulses = 2; speeds = 0 }
+  pub counts : counts_of packed
+      ≡ record { instruments = 1; waves = 2; pulses = 2; speeds = 0; numbers = record { first = 48; count = 1 } }
   pub first : turn_in packed o 0 0 (start_state o) ≡ record { voice = start_voice; common = start_common o.speed }
   pub order : order_in packed 0 1 ≡ record { entries = 1 ∷ []; restart = 0 }
 
