@@ -50,4 +50,8 @@ parts_are_these = record {
   special_row = refl;
   wave_delay = refl;
   gate_note = refl;
+  voice_tempo = refl;
+  common_tempo = refl;
+  turns = refl;
+  choice = refl;
 }

@@ -1,5 +1,5 @@
 -- Where the parts of the tick step do nothing.
-use Rattle.std.proofs.Common.{◌≡◌, ◌≢◌, ℕ, ◌+◌, ◌*◌, ◌-◌, ◌%◌, ◌<◌, ◌≤◌, ◌⊎◌, [], ◌∷◌, Bool, true, false, nat_eq, nat_le, refl}
+use Rattle.std.proofs.Common.{◌≡◌, ◌≢◌, ℕ, ◌+◌, ◌*◌, ◌-◌, ◌%◌, ◌<◌, ◌≤◌, [], ◌∷◌, Bool, true, false, nat_eq, nat_le, refl}
 use Rattle.std.proofs.Common.{◌∙◌, sym, inl, inr, lit<, lit≤, arith}
 use Rattle.std.proofs.lemmas.Bool.Decides.{eqb_tells}
 use Rattle.std.proofs.lemmas.Bool.{le-leb, lt-leb, ne_eqb, cases_lt}
@@ -13,6 +13,7 @@ use Rattle.scopes.specs.Trees.{Tree, WithTree, NoneTree, ThenTree, ScopeTree, Le
 use Rattle.player_text.specs.declared.commands.TheConstants.{OTHER}
 use Rattle.idle_parts.specs.Idle.{HoldsVoice, Idles, IdlesWhereMet, A, Y, part}
 use Rattle.player_memory.specs.declared.conditions.TheConstants.{SET_TEMPO, WAVE_COMMAND, FUNK_TEMPO}
+use Rattle.player_memory.specs.declared.conditions.TheConstants.{VOICE_TEMPO, COMMON_TEMPO}
 use Rattle.player_text.specs.declared.commands.TheConstants.{TEMPO_SET}
 use Rattle.player_text.specs.declared.wave.TheConstants.{WAVE_STEP}
 use Rattle.player_text.specs.declared.tick.TheConstants.{FRAME_COUNTED}
@@ -50,30 +51,59 @@ other_idles command some small layout desk byte other =
 low_seven : (n : ℕ) → bit_and n 127 ≡ n % 128
 low_seven n = and_numeral n 126 refl
 
--- a tempo that is too short, for all voices and for one
-short_idles : (layout : Layout) (desk : Desk) → nat_eq ((desk.cpu.y + 241) % 256) 0 ≡ true → desk.cpu.a < 256 →
-    desk.cpu.a % 128 < 3 → (desk.cpu.a < 128) ⊎ (128 ≤ desk.cpu.a) →
+-- a tempo that is too short, for all voices and for one, whichever of their lines are kept
+short_idles : (layout : Layout) (desk : Desk) → nat_eq ((desk.cpu.y + 241) % 256) 0 ≡ true → desk.cpu.a < 3 →
+    (voice common : Bool) → layout.holds VOICE_TEMPO ≡ voice → layout.holds COMMON_TEMPO ≡ common →
     Idles layout (part SET_TEMPO 0 TEMPO_SET.now) desk (Y ∷ [])
-short_idles layout desk z byte short (inl low) =
-    let m : nat_le 128 desk.cpu.a ≡ false = lt-leb 128 desk.cpu.a low in
-    let c : nat_le 3 desk.cpu.a ≡ false = lt-leb 3 desk.cpu.a (omega (arith, short, low)) in
+short_idles layout desk z short true true v k =
+    let m : nat_le 128 desk.cpu.a ≡ false = lt-leb 128 desk.cpu.a (omega (arith, short)) in
+    let c : nat_le 3 desk.cpu.a ≡ false = lt-leb 3 desk.cpu.a short in
     record {
-      ends = rw (z, m, c) refl;
-      stays = λ place. rw (z, m, c) refl;
-      x = rw (z, m, c) refl;
-      decimal = rw (z, m, c) refl;
-      kept_are = rw (z, m, c) (refl, tt);
+      ends = rw (z, v, m, k, c) refl;
+      stays = λ place. rw (z, v, m, k, c) refl;
+      x = rw (z, v, m, k, c) refl;
+      decimal = rw (z, v, m, k, c) refl;
+      kept_are = rw (z, v, m, k, c) (refl, tt);
     }
-short_idles layout desk z byte short (inr high) =
+short_idles layout desk z short true false v k =
+    let m : nat_le 128 desk.cpu.a ≡ false = lt-leb 128 desk.cpu.a (omega (arith, short)) in
+    record {
+      ends = rw (z, v, m, k) refl;
+      stays = λ place. rw (z, v, m, k) refl;
+      x = rw (z, v, m, k) refl;
+      decimal = rw (z, v, m, k) refl;
+      kept_are = rw (z, v, m, k) (refl, tt);
+    }
+short_idles layout desk z short false true v k =
+    let c : nat_le 3 desk.cpu.a ≡ false = lt-leb 3 desk.cpu.a short in
+    record {
+      ends = rw (z, v, k, c) refl;
+      stays = λ place. rw (z, v, k, c) refl;
+      x = rw (z, v, k, c) refl;
+      decimal = rw (z, v, k, c) refl;
+      kept_are = rw (z, v, k, c) (refl, tt);
+    }
+short_idles layout desk z short false false v k = record {
+  ends = rw (z, v, k) refl;
+  stays = λ place. rw (z, v, k) refl;
+  x = rw (z, v, k) refl;
+  decimal = rw (z, v, k) refl;
+  kept_are = rw (z, v, k) (refl, tt);
+}
+
+short_voice_idles : (layout : Layout) (desk : Desk) → nat_eq ((desk.cpu.y + 241) % 256) 0 ≡ true →
+    desk.cpu.a % 128 < 3 → 128 ≤ desk.cpu.a → layout.holds VOICE_TEMPO ≡ true →
+    Idles layout (part SET_TEMPO 0 TEMPO_SET.now) desk (Y ∷ [])
+short_voice_idles layout desk z short high v =
     let m : nat_le 128 desk.cpu.a ≡ true = le-leb 128 desk.cpu.a high in
     let seven = low_seven desk.cpu.a in
     let c : nat_le 3 (desk.cpu.a % 128) ≡ false = lt-leb 3 (desk.cpu.a % 128) short in
     record {
-      ends = rw (z, m, seven, c) refl;
-      stays = λ place. rw (z, m, seven, c) refl;
-      x = rw (z, m, seven, c) refl;
-      decimal = rw (z, m, seven, c) refl;
-      kept_are = rw (z, m, seven, c) (refl, tt);
+      ends = rw (z, v, m, seven, c) refl;
+      stays = λ place. rw (z, v, m, seven, c) refl;
+      x = rw (z, v, m, seven, c) refl;
+      decimal = rw (z, v, m, seven, c) refl;
+      kept_are = rw (z, v, m, seven, c) (refl, tt);
     }
 
 pub commands_idle : CommandsIdle
@@ -87,7 +117,7 @@ commands_idle = record {
   filter_control = other_idles 11 (lit≤ tt) (lit< tt);
   cutoff = other_idles 12 (lit≤ tt) (lit< tt);
   volume = other_idles 13 (lit≤ tt) (lit< tt);
-  funk = other_idles 14 (lit≤ tt) (lit< tt);
+  choice = other_idles 14 (lit≤ tt) (lit< tt);
   turns = other_idles 15 (lit≤ tt) (lit< tt);
   tempo = other_idles 15 (lit≤ tt) (lit< tt);
   long = λ layout desk byte long. elim (eqb_tells ((desk.cpu.y + 241) % 256) 0) [
@@ -111,8 +141,11 @@ commands_idle = record {
           kept_are = rw z (refl, (refl, tt));
         })
   ];
-  short = λ layout desk small byte short. elim (eqb_tells ((desk.cpu.y + 241) % 256) 0) [
-    | inl same ↦ short_idles layout desk same.0 byte short (cases_lt desk.cpu.a 128)
+  short = λ layout desk small byte short keeps. elim (eqb_tells ((desk.cpu.y + 241) % 256) 0) [
+    | inl same ↦ (elim (cases_lt desk.cpu.a 128) [
+      | inl low ↦ short_idles layout desk same.0 (omega (arith, short, low)) _ _ refl refl
+      | inr high ↦ short_voice_idles layout desk same.0 short high (keeps high)
+    ])
     | inr other ↦ (
         let z = other.0 in
         record {
@@ -123,6 +156,24 @@ commands_idle = record {
           kept_are = rw z (refl, tt);
         })
   ];
+  for_all = λ layout desk low. (
+      let m : nat_le 128 desk.cpu.a ≡ false = lt-leb 128 desk.cpu.a low in
+      record {
+        ends = rw m refl;
+        stays = λ place. rw m refl;
+        x = rw m refl;
+        decimal = rw m refl;
+        kept_are = rw m (refl, (refl, tt));
+      });
+  none = λ layout desk short. (
+      let c : nat_le 3 desk.cpu.a ≡ false = lt-leb 3 desk.cpu.a short in
+      record {
+        ends = rw c refl;
+        stays = λ place. rw c refl;
+        x = rw c refl;
+        decimal = rw c refl;
+        kept_are = rw c (refl, (refl, tt));
+      });
 }
 
 -- the voice's tempo is read where its tick falls below 0

@@ -1,7 +1,7 @@
 -- Where parts don't do nothing.
-use Rattle.std.proofs.Common.{◌≡◌, ◌≢◌, ℕ, ◌+◌, ◌*◌, ◌%◌, Bool, true, false, nat_eq, nat_le, eq-eqb, refl, sym, ap}
+use Rattle.std.proofs.Common.{◌≡◌, ◌≢◌, ℕ, ◌+◌, ◌%◌, Bool, true, false, nat_eq, nat_le, eq-eqb, refl, sym, ap}
 use Rattle.std.proofs.Common.{◌∙◌, lit<, arith, [], ◌∷◌}
-use Rattle.std.proofs.lemmas.Bool.{le-leb, ne_eqb}
+use Rattle.std.proofs.lemmas.Bool.{le-leb}
 use Rattle.play_model.specs.State.{Playing}
 use Rattle.scopes.specs.Desk.{Desk, Layout}
 use Rattle.player_memory.specs.declared.conditions.TheConstants.{SET_AD, GATE_NOTE, ROW_TONE}
@@ -12,10 +12,11 @@ use Rattle.player_text.specs.declared.tick.TheConstants.{NOTE_TAKEN}
 use Rattle.idle_parts.specs.Idle.{Carry, HoldsVoice, Idles, part}
 use Rattle.idle_parts.specs.WorkedParts.{PartsAreWorked}
 use Rattle.player_memory.specs.declared.labels.TheConstants.{AD, GATE, PULSE_POINTER, PULSE_TIME, NEW_COMMAND, VIB_DELAY}
+use Rattle.player_memory.specs.declared.labels.TheConstants.{TEMPO_THREE}
 use Rattle.player_memory.specs.declared.labels.TheConstants.{FILTER_POINTER, FILTER_TIME}
 use Rattle.player_memory.specs.declared.labels.TheConstants.{NEW_NOTE, INSTRUMENT, GATE_TIMERS}
 use Rattle.player_memory.specs.Playing.{IsListed}
-use Rattle.idle_parts.proofs.Reading.{own_place, own_sees, own_writes, own_is, own_bytes}
+use Rattle.idle_parts.proofs.Reading.{own_sees, own_writes, own_is, own_bytes}
 
 done_works : (layout : Layout) (desk : Desk) → desk.cpu.y ≡ 5 →
     desk.at ((layout.address AD + desk.cpu.x) % 65536) ≢ desk.cpu.a → (w : Bool) →
@@ -78,8 +79,12 @@ parts_are_worked = record {
       some (sym y));
   carry = λ layout desk one off i. (
       let c = rw (one, off) at i.kept_are.0 in absurd (cc));
-  bit = λ layout desk fifteen short i. (
-      let a = rw (fifteen, short) at i.kept_are.0 in absurd (omega (arith, a)));
+  bit = λ i. (let a = i.kept_are.0 in absurd (cc));
+  for_one = λ i. (let stays = i.stays TEMPO_THREE in absurd (cc));
+  voice_tempo = λ i. (let way = i.ends in absurd (cc));
+  common_tempo = λ i. (let a = i.kept_are.0 in absurd (cc));
+  turns = λ i. (let stays = i.stays TEMPO_THREE in absurd (cc));
+  choice = λ i. (let stays = i.stays TEMPO_THREE in absurd (cc));
   x = λ layout desk one i. (
       let down = rw one at i.x in absurd (omega (arith, down)));
   stuck = λ layout desk found. let bad = found.ends in absurd (cc);

@@ -15,6 +15,7 @@ use Rattle.player_memory.specs.declared.conditions.TheConstants.{INSTRUMENT_VIBR
 use Rattle.player_memory.specs.declared.conditions.TheConstants.{SKIP_EFFECTS, ROW_TONE, ROW_ONCE, FIRST_MASK, LEGATO}
 use Rattle.player_memory.specs.declared.conditions.TheConstants.{NO_HARD_RESTART, GATE_NOTE, SPECIAL_ROW, HELD_NOTE}
 use Rattle.player_memory.specs.declared.conditions.TheConstants.{NOTE_VIBRATO, VIBRATO_DELAY, NOTE_PULSE, NOTE_FILTER}
+use Rattle.player_memory.specs.declared.conditions.TheConstants.{VOICE_TEMPO, COMMON_TEMPO, FUNK_TURNS, FUNK_CHOICE}
 use Rattle.player_memory.specs.declared.conditions.TheConstants.{PORTA_DOWN, TONE_PORTA, TIE_NOTE, TRANSPOSES, REPEATS}
 use Rattle.player_memory.specs.declared.labels.TheConstants.{WAVE_LEFTS, SPEED_LEFTS, GATE_TIMERS, LENT}
 use Rattle.player_memory.specs.declared.labels.TheConstants.{TRANSPOSE, REPEAT, DELAYS, VIBRATOS, PULSES, FILTERS}
@@ -61,14 +62,21 @@ pub record CommandsIdle : Type 0 where
   pub filter_control : IsForCommand 0xB SET_FILTER_CONTROL FILTER_CONTROL_SET.now
   pub cutoff : IsForCommand 0xC SET_CUTOFF CUTOFF_SET.now
   pub volume : IsForCommand 0xD SET_VOLUME VOLUME_SET.now
-  pub funk : IsForCommand 0xE FUNK_TEMPO FUNK_CHOSEN.now
-  pub turns : IsForCommand 0xF FUNK_TEMPO FUNK_SET.now
+  pub choice : IsForCommand 0xE FUNK_CHOICE FUNK_CHOSEN.now
+  pub turns : IsForCommand 0xF FUNK_TURNS FUNK_SET.now
   pub tempo : IsForCommand 0xF SET_TEMPO TEMPO_SET.now
-  -- command $F chooses the funk tempos by 0 and 1 alone, and sets no tempo whose last seven bits are below 3
+  -- command $F chooses the funk tempos by 0 and 1 alone, and sets no tempo whose last seven bits are below 3, if the
+  -- lines for one voice are kept for those from $80 on
   pub long : (layout : Layout) (desk : Desk) → desk.cpu.y < 256 → 2 ≤ desk.cpu.a →
-      Idles layout (part FUNK_TEMPO 0 FUNK_SET.now) desk (A ∷ Y ∷ [])
+      Idles layout (part FUNK_TURNS 0 FUNK_SET.now) desk (A ∷ Y ∷ [])
   pub short : (layout : Layout) (desk : Desk) → desk.cpu.y < 256 → desk.cpu.a < 256 → desk.cpu.a % 128 < 3 →
+      (0x80 ≤ desk.cpu.a → layout.holds VOICE_TEMPO ≡ true) →
       Idles layout (part SET_TEMPO 0 TEMPO_SET.now) desk (Y ∷ [])
+  -- below $80 it is for all voices, and below 3 sets none of them
+  pub for_all : (layout : Layout) (desk : Desk) → desk.cpu.a < 0x80 →
+      Idles layout (part VOICE_TEMPO 0 TEMPO_SET.now) desk (A ∷ Y ∷ [])
+  pub none : (layout : Layout) (desk : Desk) → desk.cpu.a < 3 →
+      Idles layout (part COMMON_TEMPO 0 TEMPO_SET.now) desk (A ∷ Y ∷ [])
 
 -- ---- the wave step and the pulse step
 

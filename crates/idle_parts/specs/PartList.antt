@@ -10,6 +10,7 @@ use Rattle.player_memory.specs.declared.conditions.TheConstants.{CLIMB, DROP, RI
 use Rattle.player_memory.specs.declared.conditions.TheConstants.{ROW_TONE, ROW_SLIDE, ROW_ONCE, ROW_COMMAND, FIRST_MASK}
 use Rattle.player_memory.specs.declared.conditions.TheConstants.{HELD_NOTE, LEGATO, NO_HARD_RESTART, SPECIAL_ROW, WAVE_DELAY}
 use Rattle.player_memory.specs.declared.conditions.TheConstants.{GATE_NOTE, NOTE_VIBRATO, VIBRATO_DELAY, NOTE_PULSE, NOTE_FILTER}
+use Rattle.player_memory.specs.declared.conditions.TheConstants.{VOICE_TEMPO, COMMON_TEMPO, FUNK_TURNS, FUNK_CHOICE}
 use Rattle.player_text.specs.declared.commands.TheConstants.{AD_SET, CUTOFF_SET, FILTER_CONTROL_SET, FILTER_POINTER_SET, FUNK_CHOSEN}
 use Rattle.player_text.specs.declared.commands.TheConstants.{FUNK_SET, PULSE_POINTER_SET, SR_SET, TEMPO_SET, VOLUME_SET}
 use Rattle.player_text.specs.declared.commands.TheConstants.{WAVE_POINTER_SET, WAVE_SET}
@@ -56,8 +57,7 @@ pub record PartsAreThese : Type 0 where
       ≡ part SET_FILTER_CONTROL 0 FILTER_CONTROL_SET.now ∷ part SET_FILTER_CONTROL 0 FILTER_CONTROL_SET.now ∷ []
   pub cutoff : bodies SET_CUTOFF voice_tree ≡ part SET_CUTOFF 0 CUTOFF_SET.now ∷ part SET_CUTOFF 0 CUTOFF_SET.now ∷ []
   pub volume : bodies SET_VOLUME voice_tree ≡ part SET_VOLUME 0 VOLUME_SET.now ∷ part SET_VOLUME 0 VOLUME_SET.now ∷ []
-  pub funk : bodies FUNK_TEMPO voice_tree
-      ≡ part FUNK_TEMPO 0 FRAME_COUNTED.now ∷ part FUNK_TEMPO 0 FUNK_SET.now ∷ part FUNK_TEMPO 0 FUNK_CHOSEN.now ∷ []
+  pub funk : bodies FUNK_TEMPO voice_tree ≡ part FUNK_TEMPO 0 FRAME_COUNTED.now ∷ []
   pub tempo : bodies SET_TEMPO voice_tree ≡ part SET_TEMPO 0 TEMPO_SET.now ∷ []
   pub waves : bodies WAVE_TABLE voice_tree ≡ part WAVE_TABLE 0 WAVE_STEP.now ∷ []
   pub commands : bodies WAVE_COMMAND voice_tree
@@ -87,3 +87,7 @@ pub record PartsAreThese : Type 0 where
   pub special_row : bodies SPECIAL_ROW voice_tree ≡ part SPECIAL_ROW 0 WAVE_STEP.now ∷ []
   pub wave_delay : bodies WAVE_DELAY voice_tree ≡ part WAVE_DELAY 0 WAVE_STEP.now ∷ []
   pub gate_note : bodies GATE_NOTE voice_tree ≡ part GATE_NOTE 0 ENTRY_READ.now ∷ []
+  pub voice_tempo : bodies VOICE_TEMPO voice_tree ≡ part VOICE_TEMPO 0 TEMPO_SET.now ∷ []
+  pub common_tempo : bodies COMMON_TEMPO voice_tree ≡ part COMMON_TEMPO 0 TEMPO_SET.now ∷ []
+  pub turns : bodies FUNK_TURNS voice_tree ≡ part FUNK_TURNS 0 FUNK_SET.now ∷ []
+  pub choice : bodies FUNK_CHOICE voice_tree ≡ part FUNK_CHOICE 0 FUNK_CHOSEN.now ∷ []

@@ -1,5 +1,5 @@
 -- Where parts don't do nothing, worked by hand.
-use Rattle.std.specs.Prelude.{◌≡◌, ◌≢◌, ℕ, ◌+◌, ◌%◌, ◌≤◌, true, false, [], ◌∷◌}
+use Rattle.std.specs.Prelude.{◌≡◌, ◌≢◌, ℕ, ◌+◌, ◌%◌, ◌≤◌, ◌==◌, not, true, false, [], ◌∷◌}
 use Rattle.cpu6502.specs.declared.mnemonic.Mnemonic.TheVariants.{Dex}
 use Rattle.play_model.specs.State.{Playing}
 use Rattle.scopes.specs.Desk.{Desk, Layout}
@@ -9,10 +9,11 @@ use Rattle.player_memory.specs.declared.conditions.TheConstants.{SET_AD, SET_TEM
 use Rattle.player_memory.specs.declared.conditions.TheConstants.{FIRST_MASK, GATE_NOTE, LEGATO, NO_HARD_RESTART, ROW_ONCE}
 use Rattle.player_memory.specs.declared.conditions.TheConstants.{ROW_TONE, SPECIAL_ROW, WAVE_COMMAND}
 use Rattle.player_memory.specs.declared.conditions.TheConstants.{HELD_NOTE, NOTE_VIBRATO, VIBRATO_DELAY, NOTE_PULSE, NOTE_FILTER}
+use Rattle.player_memory.specs.declared.conditions.TheConstants.{VOICE_TEMPO, COMMON_TEMPO, FUNK_TURNS, FUNK_CHOICE}
 use Rattle.player_memory.specs.declared.labels.TheConstants.{AD, NEW_COMMAND, PULSE_TIME, FILTER_TIME, GATE_TIMERS}
 use Rattle.player_memory.specs.declared.labels.TheConstants.{DELAYS, VIBRATOS, PULSES, FILTERS}
 use Rattle.player_memory.specs.Playing.{IsListed, own_at, shared_at}
-use Rattle.player_text.specs.declared.commands.TheConstants.{AD_SET, TEMPO_SET}
+use Rattle.player_text.specs.declared.commands.TheConstants.{AD_SET, TEMPO_SET, FUNK_SET, FUNK_CHOSEN}
 use Rattle.player_text.specs.declared.slide.TheConstants.{PORTA_STEP, TONE_STEP}
 use Rattle.player_text.specs.declared.pulse.TheConstants.{PULSE}
 use Rattle.player_text.specs.declared.tick.TheConstants.{NOTE_TAKEN, NOTE_BEGUN, PROGRAMS_BEGUN, COMMAND_BEGUN}
@@ -28,6 +29,39 @@ small =
     ScopeTree 1
     (ThenTree (DoTree Dex) (ThenTree (WhenTree 5 (ThenTree (LeaveTree 1) NoneTree)) (ThenTree (LeaveTree 1) NoneTree)))
 
+-- a layout with each label at its own number, which keeps all
+abbrev pub flat : Layout
+flat = record {
+  address = λ label. label;
+  pointer = 0xFC;
+  holds = λ condition. true;
+  may_read = λ place. true;
+  may_write = λ place. true;
+}
+
+-- the same without the lines for the tempo of one voice
+abbrev pub without_voice : Layout
+without_voice = record flat { holds = λ condition. not (condition == VOICE_TEMPO) }
+
+-- a desk in it with these in A and Y, and 2 in each place
+abbrev pub desk_with : ℕ → ℕ → Desk
+desk_with a y = record {
+  cpu = record {
+    a = a;
+    x = 0;
+    y = y;
+    sp = 0;
+    pc = 0;
+    n = false;
+    v = false;
+    d = false;
+    i = false;
+    z = false;
+    c = false;
+  };
+  at = λ place. 2;
+}
+
 pub record PartsAreWorked : Type 0 where
   -- a command that is done changes a byte, and command 1 leaves the block
   pub done : (layout : Layout) (desk : Desk) → desk.cpu.y ≡ 5 →
@@ -41,8 +75,15 @@ pub record PartsAreWorked : Type 0 where
   -- the tie of a parameter sets the carry, and a short tempo of one voice loses its bit 7
   pub carry : (layout : Layout) (desk : Desk) → desk.cpu.y ≡ 1 → desk.cpu.c ≡ false →
       ¬ Idles layout (part TIE_NOTE 0 TONE_STEP.now) desk (Carry ∷ [])
-  pub bit : (layout : Layout) (desk : Desk) → desk.cpu.y ≡ 0xF → desk.cpu.a ≡ 0x81 →
-      ¬ Idles layout (part SET_TEMPO 0 TEMPO_SET.now) desk (A ∷ [])
+  pub bit : ¬ Idles flat (part SET_TEMPO 0 TEMPO_SET.now) (desk_with 0x81 0xF) (A ∷ [])
+  -- without the lines for one voice it is taken for one of all
+  pub for_one : ¬ Idles without_voice (part SET_TEMPO 0 TEMPO_SET.now) (desk_with 0x81 0xF) []
+  -- command $F with $83 leaves behind the tempo of its voice, with 3 it has 2 in A, which it stores for all voices, and
+  -- with 1 it stores that; and $E with 0 stores 0 for them
+  pub voice_tempo : ¬ Idles flat (part VOICE_TEMPO 0 TEMPO_SET.now) (desk_with 0x83 0xF) []
+  pub common_tempo : ¬ Idles flat (part COMMON_TEMPO 0 TEMPO_SET.now) (desk_with 3 0xF) (A ∷ [])
+  pub turns : ¬ Idles flat (part FUNK_TURNS 0 FUNK_SET.now) (desk_with 1 0xF) []
+  pub choice : ¬ Idles flat (part FUNK_CHOICE 0 FUNK_CHOSEN.now) (desk_with 0 0xE) []
   -- an instruction that counts X down isn't idle, and lines that aren't come to find nothing
   pub x : (layout : Layout) (desk : Desk) → desk.cpu.x ≡ 1 → ¬ Idles layout (DoTree Dex) desk []
   pub stuck : (layout : Layout) (desk : Desk) →

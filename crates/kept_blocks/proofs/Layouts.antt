@@ -16,6 +16,7 @@ use Rattle.song_model.specs.Feature.{bit_of}
 use Rattle.song_facts.specs.declared.facts.Fact.{Fact}
 use Rattle.song_facts.specs.declared.facts.Fact.TheVariants.{RowTone, RowSlide, RowOnce, FirstMask, Legato, NoHardRestart}
 use Rattle.song_facts.specs.declared.facts.Fact.TheVariants.{WaveDelay, GateNote, NoteVibrato, VibratoDelay, NotePulse, NoteFilter}
+use Rattle.song_facts.specs.declared.facts.Fact.TheVariants.{VoiceTempo, CommonTempo, FunkTurns, FunkChoice}
 use Rattle.song_facts.specs.declared.facts.Facts.{Facts}
 use Rattle.song_facts.specs.Facts.{is_among}
 use Rattle.play_model.specs.declared.options.Options.{Options}
@@ -25,6 +26,7 @@ use Rattle.player_memory.specs.FactLines.{fact_condition, KeepsShared}
 use Rattle.player_memory.specs.declared.conditions.TheConstants.{ROW_TONE, ROW_SLIDE, ROW_ONCE, FIRST_MASK, LEGATO}
 use Rattle.player_memory.specs.declared.conditions.TheConstants.{NO_HARD_RESTART, WAVE_DELAY, GATE_NOTE, ROW_COMMAND}
 use Rattle.player_memory.specs.declared.conditions.TheConstants.{NOTE_VIBRATO, VIBRATO_DELAY, NOTE_PULSE, NOTE_FILTER}
+use Rattle.player_memory.specs.declared.conditions.TheConstants.{VOICE_TEMPO, COMMON_TEMPO, FUNK_TURNS, FUNK_CHOICE}
 use Rattle.player_memory.specs.declared.conditions.TheConstants.{SPECIAL_ROW, HELD_NOTE, WAVE_COMMAND}
 use Rattle.kept_lines.specs.Asked.{is_in, asked}
 use Rattle.kept_lines.specs.KeptLines.{keeps}
@@ -84,6 +86,10 @@ had features facts options NoteVibrato is = asked_is_exact features facts NOTE_V
 had features facts options VibratoDelay is = asked_is_exact features facts VIBRATO_DELAY ∙ is
 had features facts options NotePulse is = asked_is_exact features facts NOTE_PULSE ∙ is
 had features facts options NoteFilter is = asked_is_exact features facts NOTE_FILTER ∙ is
+had features facts options VoiceTempo is = asked_is_exact features facts VOICE_TEMPO ∙ is
+had features facts options CommonTempo is = asked_is_exact features facts COMMON_TEMPO ∙ is
+had features facts options FunkTurns is = asked_is_exact features facts FUNK_TURNS ∙ is
+had features facts options FunkChoice is = asked_is_exact features facts FUNK_CHOICE ∙ is
 
 -- either of two
 or_first : (z y : Bool) → z ≡ true → (z || y) ≡ true
