@@ -10,15 +10,20 @@ use Rattle.song_lists.proofs.Pieces.{concat-append}
 use Rattle.song_lists.proofs.PlaceSteps.{take_read, more_subtunes}
 
 -- an item more
+pub more_from : {X : Type 0} (f : ℕ → X) (start before after : List X) (from n m : ℕ) (x : X) →
+    before ≡ start ++ map f (range_with_len from n) → after ≡ before ++ x ∷ [] → from + n ≡ m → x ≡ f m →
+    after ≡ start ++ map f (range_with_len from (n + 1))
+more_from {X} f start before after from n m x old new at is =
+    let more : map f (range_with_len from (n + 1)) ≡ map f (range_with_len from n) ++ f m ∷ [] =
+    map-range_with_len_more f from n m at in
+    new ∙ ap (λ (y : X). before ++ y ∷ []) is ∙ ap (λ (items : List X). items ++ f m ∷ []) old
+    ∙ append_assoc start (map f (range_with_len from n)) (f m ∷ [])
+    ∙ ap (λ (items : List X). start ++ items) (sym more)
+
 pub more_made : {X : Type 0} (f : ℕ → X) (start before after : List X) (n : ℕ) (x : X) →
     before ≡ start ++ map f (range_with_len 0 n) → after ≡ before ++ x ∷ [] → x ≡ f n →
     after ≡ start ++ map f (range_with_len 0 (n + 1))
-more_made {X} f start before after n x old new is =
-    let more : map f (range_with_len 0 (n + 1)) ≡ map f (range_with_len 0 n) ++ f n ∷ [] =
-    map-range_with_len_more f 0 n n (omega arith) in
-    new ∙ ap (λ (y : X). before ++ y ∷ []) is ∙ ap (λ (items : List X). items ++ f n ∷ []) old
-    ∙ append_assoc start (map f (range_with_len 0 n)) (f n ∷ [])
-    ∙ ap (λ (items : List X). start ++ items) (sym more)
+more_made {X} f start before after n x old new is = more_from f start before after 0 n n x old new (omega arith) is
 
 -- a list more
 one_more : (start before after x : List ℕ) (lists more : List (List ℕ)) → before ≡ start ++ concat lists →
@@ -67,22 +72,25 @@ more_order_bytes start before one two after subtunes i x inside is old first sec
     three_more lists a b c = simp append_assoc
 
 -- all lists
-pub all_lists : (a k b c d e f : List (List ℕ)) (first kept second third fourth fifth all addresses : List ℕ) →
+pub all_lists : (a k b c d e f g : List (List ℕ)) (first kept second third fourth fifth sixth all addresses : List ℕ) →
     first ≡ [] ++ concat a → kept ≡ first ++ concat k → second ≡ kept ++ concat b → third ≡ second ++ concat c →
-    addresses ≡ concat d → fourth ≡ third ++ addresses → fifth ≡ fourth ++ concat e → all ≡ fifth ++ concat f →
-    all ≡ concat (a ++ (k ++ (b ++ (c ++ (d ++ (e ++ f))))))
-all_lists a k b c d e f first kept second third fourth fifth all addresses one more two three is four five six =
-    six ∙ ap (λ (bytes : List ℕ). bytes ++ concat f)
+    addresses ≡ concat d → fourth ≡ third ++ addresses → fifth ≡ fourth ++ concat e → sixth ≡ fifth ++ concat f →
+    all ≡ sixth ++ concat g →
+    all ≡ concat (a ++ (k ++ (b ++ (c ++ (d ++ (e ++ (f ++ g)))))))
+all_lists a k b c d e f g first kept second third fourth fifth sixth all addresses one more two three is four five six
+    seven =
+    seven ∙ ap (λ (bytes : List ℕ). bytes ++ concat g)
+    (six ∙ ap (λ (bytes : List ℕ). bytes ++ concat f)
     (five ∙ ap (λ (bytes : List ℕ). bytes ++ concat e)
     (four ∙ ap (λ (bytes : List ℕ). third ++ bytes) is ∙ ap (λ (bytes : List ℕ). bytes ++ concat d)
     (three ∙ ap (λ (bytes : List ℕ). bytes ++ concat c) (two ∙ ap (λ (bytes : List ℕ). bytes ++ concat b)
-    (more ∙ ap (λ (bytes : List ℕ). bytes ++ concat k) one)))))
-    ∙ joined a k b c d e f
+    (more ∙ ap (λ (bytes : List ℕ). bytes ++ concat k) one))))))
+    ∙ joined a k b c d e f g
   where
-    joined : (a k b c d e f : List (List ℕ)) →
-        (((((concat a ++ concat k) ++ concat b) ++ concat c) ++ concat d) ++ concat e) ++ concat f
-        ≡ concat (a ++ (k ++ (b ++ (c ++ (d ++ (e ++ f))))))
-    joined a k b c d e f = simp (concat-append, append_assoc)
+    joined : (a k b c d e f g : List (List ℕ)) →
+        ((((((concat a ++ concat k) ++ concat b) ++ concat c) ++ concat d) ++ concat e) ++ concat f) ++ concat g
+        ≡ concat (a ++ (k ++ (b ++ (c ++ (d ++ (e ++ (f ++ g)))))))
+    joined a k b c d e f g = simp (concat-append, append_assoc)
 
 -- the addresses of these places
 pub four_address_lists : (start : ℕ) (orders orders' patterns patterns' : List ℕ) → orders ≡ orders' →

@@ -1,20 +1,20 @@
 -- The places of a packed song's lists: none behind the last byte.
-use Rattle.std.proofs.Common.{ℕ, ◌+◌, ◌<◌, ◌≤◌, Bool, true, false, List, ◌++◌, length, get_or, map}
+use Rattle.std.proofs.Common.{◌≡◌, ℕ, ◌+◌, ◌-◌, ◌*◌, ◌<◌, ◌≤◌, Bool, true, false, List, ◌++◌, length, get_or, map}
 use Rattle.std.proofs.Common.{All, arith}
 use Rattle.std.specs.List.{AllByRecursion, concat, range_with_len}
 use Rattle.std.proofs.lemmas.List.{get_or_default}
-use Rattle.std.proofs.lemmas.List.Elements.{All-weaker, All-from_recursion}
+use Rattle.std.proofs.lemmas.List.Elements.{All-weaker, All-append, All-from_recursion}
 use Rattle.packed_form.specs.declared.packed_songs.PackedSong.{PackedSong}
 use Rattle.player_memory.specs.declared.labels.TheConstants.{ORDERS, PATTERNS}
-use Rattle.player_memory.specs.SongLists.{Instruments}
+use Rattle.player_memory.specs.SongLists.{Instruments, frequencies_listed}
 use Rattle.song_lists.specs.declared.marks.Mark.{Mark}
 use Rattle.song_lists.specs.DataLists.{all_orders, slides_low_place, slides_high_place, periods_place, orders_place}
 use Rattle.song_lists.specs.DataLists.{patterns_place, places_from, order_places, pattern_places, data_bytes, own_mark}
-use Rattle.song_lists.specs.DataLists.{wave_marks, pulse_marks, filter_marks, instrument_marks}
+use Rattle.song_lists.specs.DataLists.{frequencies_place, bytes_back, frequency_marks, speed_marks, wave_marks, pulse_marks, filter_marks, instrument_marks}
 use Rattle.song_lists.specs.DataLists.{address_marks, slide_marks, list_marks, data_marks}
 use Rattle.song_lists.specs.ListLaws.{lists_size}
 use Rattle.song_lists.proofs.Pieces.{places_count, size_within, place_at}
-use Rattle.song_lists.proofs.Lists.{whole_length, texts_end}
+use Rattle.song_lists.proofs.Lists.{whole_length, texts_end, frequency_labels}
 use Rattle.song_lists.proofs.DataMarks.{marks_between, all_of_three}
 
 abbrev IsUpTo : ℕ → Mark → Type 0
@@ -49,9 +49,15 @@ behind_instruments dependent packed = address_marks dependent packed ++ slide_ma
 abbrev behind_tables : Bool → PackedSong → List Mark
 behind_tables dependent packed = instrument_marks dependent packed ++ behind_instruments dependent packed
 
-lists_within : (dependent : Bool) (packed : PackedSong) →
-    All (IsUpTo (orders_place dependent packed)) (list_marks dependent packed)
-lists_within dependent packed =
+-- all but those of the frequencies
+abbrev behind_frequencies : Bool → PackedSong → List Mark
+behind_frequencies dependent packed =
+    speed_marks dependent packed ++ (wave_marks dependent packed ++ (pulse_marks dependent packed
+    ++ (filter_marks dependent packed ++ behind_tables dependent packed)))
+
+others_within : (dependent : Bool) (packed : PackedSong) →
+    All (IsUpTo (orders_place dependent packed)) (behind_frequencies dependent packed)
+others_within dependent packed =
     let addresses : Each dependent packed (behind_instruments dependent packed) = (
       omega arith,
       (
@@ -80,25 +86,48 @@ lists_within dependent packed =
     let wave : Each dependent packed (wave_marks dependent packed ++ (pulse_marks dependent packed
     ++ (filter_marks dependent packed ++ behind_tables dependent packed))) =
     (omega arith, (omega arith, (omega arith, (omega arith, pulse)))) in
-    All-from_recursion (IsUpTo (orders_place dependent packed)) (list_marks dependent packed) (
-      omega arith,
-      (
-        omega arith,
-        (
-          omega arith,
-          (
-            omega arith,
-            (
-              omega arith,
-              (
-                omega arith,
-                (periods_within dependent packed, wave),
-              ),
-            ),
-          ),
-        ),
-      ),
-    )
+    All-from_recursion (IsUpTo (orders_place dependent packed)) (behind_frequencies dependent packed)
+    (omega arith, (omega arith, (periods_within dependent packed, wave)))
+
+-- the bytes of frequencies reach behind each of their labels
+one_before : (place back listed before whole : ℕ) → back ≤ place → 1 ≤ back + listed → before ≤ listed →
+    whole ≡ place + 2 * listed → place + before - back + 1 ≤ whole
+one_before place back listed before whole within some few e = omega (arith, within, some, few, e)
+
+frequencies_within : (dependent : Bool) (packed : PackedSong) (start : ℕ) →
+    All (IsUpTo (length (data_bytes dependent packed start))) (frequency_marks dependent packed)
+frequencies_within dependent packed start =
+    let labels = frequency_labels dependent packed in
+    let whole = whole_length dependent packed start in
+    let low = one_before (frequencies_place dependent packed) (bytes_back packed) (frequencies_listed packed) 0
+    (length (data_bytes dependent packed start)) labels.back labels.some (omega arith) whole in
+    let high = one_before (frequencies_place dependent packed) (bytes_back packed) (frequencies_listed packed)
+    (frequencies_listed packed) (length (data_bytes dependent packed start)) labels.back labels.some (omega arith)
+    whole in
+    let next_low = without _ _ _ low in
+    All-from_recursion (IsUpTo (length (data_bytes dependent packed start))) (frequency_marks dependent packed)
+    (a_byte_less _ _ next_low, (next_low, (a_byte_less _ _ high, (high, tt))))
+  where
+    without : (place back whole : ℕ) → place + 0 - back + 1 ≤ whole → place - back + 1 ≤ whole
+    without place back whole le = omega (arith, le)
+
+    a_byte_less : (place whole : ℕ) → place + 1 ≤ whole → place ≤ whole
+    a_byte_less place whole le = omega (arith, le)
+
+lists_within : (dependent : Bool) (packed : PackedSong) (start : ℕ) →
+    All (IsUpTo (length (data_bytes dependent packed start))) (list_marks dependent packed)
+lists_within dependent packed start =
+    All-append (IsUpTo (length (data_bytes dependent packed start))) (frequency_marks dependent packed)
+    (behind_frequencies dependent packed) (frequencies_within dependent packed start)
+    (All-weaker (IsUpTo (orders_place dependent packed)) (IsUpTo (length (data_bytes dependent packed start)))
+    (λ mark up_to. reaches mark.place (orders_place dependent packed) (length (concat (all_orders packed)))
+    (length (concat packed.patterns)) (frequencies_listed packed) (length (data_bytes dependent packed start))
+    (whole_length dependent packed start) up_to)
+    (behind_frequencies dependent packed) (others_within dependent packed))
+  where
+    reaches : (place from orders patterns listed whole : ℕ) → whole ≡ from + orders + patterns + 2 * listed →
+        place ≤ from → place ≤ whole
+    reaches place from orders patterns listed whole e le = omega (arith, e, le)
 
 -- lists one behind the other stand up to the last one's end
 places_up_to : (from : ℕ) (lists : List (List ℕ)) (k : ℕ) → k < length (places_from from lists) →
@@ -112,9 +141,7 @@ pub places_within : (dependent : Bool) (packed : PackedSong) (start : ℕ) →
 places_within dependent packed start =
     let whole = whole_length dependent packed start in
     all_of_three (IsUpTo (length (data_bytes dependent packed start))) dependent packed
-    (All-weaker (IsUpTo (orders_place dependent packed)) (IsUpTo (length (data_bytes dependent packed start)))
-    (λ mark up_to. omega arith)
-    (list_marks dependent packed) (lists_within dependent packed))
+    (lists_within dependent packed start)
     (marks_between (IsUpTo (length (data_bytes dependent packed start))) ORDERS (order_places dependent packed)
     (λ k inside. omega (arith, places_up_to (orders_place dependent packed) (all_orders packed) k inside)))
     (marks_between (IsUpTo (length (data_bytes dependent packed start))) PATTERNS (pattern_places dependent packed)

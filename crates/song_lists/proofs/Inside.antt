@@ -1,7 +1,7 @@
 -- The lists of a packed song in memory: each place among the bytes, beside the slides.
 use Rattle.std.proofs.Common.{◌≡◌, ℕ, ◌+◌, ◌-◌, ◌*◌, ◌%◌, ◌<◌, ◌≤◌, ◌⊎◌, inl, inr, Bool}
 use Rattle.std.proofs.Common.{true, false}
-use Rattle.std.proofs.Common.{List, ◌∷◌, length, get_or, map, refl, ap, ◌∙◌, arith}
+use Rattle.std.proofs.Common.{List, ◌∷◌, length, get_or, map, refl, ap, subst, ◌∙◌, arith}
 use Rattle.std.proofs.lemmas.List.{length-map}
 use Rattle.cpu6502.specs.declared.memory.TheConstants.{MEMORY_SIZE}
 use Rattle.song_model.specs.declared.tables.TableRow.{TableRow}
@@ -18,15 +18,15 @@ use Rattle.player_memory.specs.Fetching.{place_before}
 use Rattle.player_memory.specs.SongLists.{SongList, FrequencyLows, FrequencyHighs, Lefts, Rights, Periods, Instruments}
 use Rattle.player_memory.specs.SongLists.{OrderLows, OrderHighs, PatternLows, PatternHighs, OrderBytes, PatternBytes}
 use Rattle.player_memory.specs.SongLists.{IsSongList, HasNumber, SlidesStand, list_label, list_length, first_number}
-use Rattle.player_memory.specs.SongLists.{slide_rows}
+use Rattle.player_memory.specs.SongLists.{first_listed, frequencies_listed, slide_rows}
 use Rattle.player_memory.specs.Holds.{AreNext}
 use Rattle.song_lists.specs.DataLists.{speed_rights_place, speed_lefts_place, slides_low_place, slides_high_place}
 use Rattle.song_lists.specs.DataLists.{periods_place, orders_place, patterns_place, all_orders, order_places}
-use Rattle.song_lists.specs.DataLists.{pattern_places, data_bytes, label_place, list_marks}
+use Rattle.song_lists.specs.DataLists.{frequencies_place, bytes_back, pattern_places, data_bytes, label_place, list_marks}
 use Rattle.song_lists.specs.ListLaws.{lists_size, IsListLayout, IsInside, IsBesideSlides, DataStandsIn}
 use Rattle.song_lists.specs.ListLaws.{PatternStandsInside, SlidesStandInside}
 use Rattle.song_lists.proofs.Pieces.{StandsIn, size_within, place_at, orders_count}
-use Rattle.song_lists.proofs.Lists.{data_takes_size, texts_end}
+use Rattle.song_lists.proofs.Lists.{data_takes_size, texts_end, frequency_labels}
 use Rattle.song_lists.proofs.Stretches.{IsWritten, KeptStand, slides_stand, list_stands}
 use Rattle.song_lists.proofs.Standing.{no_mark, fixed_at, order_at_label, pattern_at_label, begins_at, has_length}
 use Rattle.song_lists.proofs.Standing.{has_bytes, speed_side_at}
@@ -51,18 +51,18 @@ is_written layout packed (PatternBytes pattern) is = is
 -- where a number of a list stands: so many bytes from the first one on
 record StandsAt (layout : Layout) (packed : PackedSong) (start : ℕ) (list : SongList) (number i : ℕ) : Type 0 where
   pub below : i < list_length packed list
-  pub number_is : number ≡ first_number list + i
-  pub within : label_place (layout.holds NOTE_DEPENDENT) packed list + first_number list + i
+  pub number_is : number ≡ first_number packed list + i
+  pub within : label_place (layout.holds NOTE_DEPENDENT) packed list + first_number packed list + i
       < lists_size (layout.holds NOTE_DEPENDENT) packed
   pub place : place_in layout (list_label list) number
-      ≡ start + (label_place (layout.holds NOTE_DEPENDENT) packed list + first_number list + i)
+      ≡ start + (label_place (layout.holds NOTE_DEPENDENT) packed list + first_number packed list + i)
 
 in_memory : (place : ℕ) → place < MEMORY_SIZE → place % MEMORY_SIZE ≡ place
 in_memory place below = omega arith
 
 stands_at : (layout : Layout) (packed : PackedSong) (start : ℕ) (list : SongList) (number : ℕ) →
     IsListLayout layout packed start → IsSongList layout packed list → HasNumber packed list number →
-    StandsAt layout packed start list number (number - first_number list)
+    StandsAt layout packed start list number (number - first_number packed list)
 stands_at layout packed start list number laid is has =
     let dependent = layout.holds NOTE_DEPENDENT in
     let there = list_stands dependent packed start list (is_written layout packed list is) in
@@ -84,7 +84,7 @@ stands_at layout packed start list number laid is has =
 -- a place in front of them, or behind them
 abbrev IsBeside : PackedSong → ℕ → Type 0
 IsBeside packed place =
-    (place < 196 + 2 * length packed.speed) ⊎ (196 + 2 * length packed.speed + 2 * slide_rows packed ≤ place)
+    (place < 2 + 2 * length packed.speed) ⊎ (2 + 2 * length packed.speed + 2 * slide_rows packed ≤ place)
 
 order_behind : (packed : PackedSong) (subtune channel : ℕ) → subtune < length packed.subtunes → channel < 3 →
     orders_place true packed ≤ get_or (order_places true packed) (3 * subtune + channel) 0
@@ -97,10 +97,30 @@ pattern_behind : (dependent : Bool) (packed : PackedSong) (pattern : ℕ) → pa
 pattern_behind dependent packed pattern inside =
     omega (arith, place_at (patterns_place dependent packed) packed.patterns pattern inside)
 
+-- the frequencies, where there are some, stand behind the patterns
+frequency_beside : (packed : PackedSong) (before i : ℕ) → i < frequencies_listed packed →
+    2 + 2 * length packed.speed + 2 * slide_rows packed
+    ≤ frequencies_place true packed + before - bytes_back packed + first_listed packed + i
+frequency_beside packed before i below =
+    let labels = frequency_labels true packed in
+    behind (frequencies_place true packed) (bytes_back packed) (first_listed packed) (frequencies_listed packed) before i
+    (2 + 2 * length packed.speed + 2 * slide_rows packed) labels.back labels.first below (omega arith)
+  where
+    behind : (place back first listed before i from : ℕ) → back ≤ place → (1 ≤ listed → back ≡ first) → i < listed →
+        from ≤ place → from ≤ place + before - back + first + i
+    behind place back first listed before i from within same some le =
+        let is = same (omega (arith, some)) in
+        omega (arith, within, is, le)
+
 list_beside : (packed : PackedSong) (list : SongList) (i : ℕ) → IsWritten true packed list →
-    i < list_length packed list → IsBeside packed (label_place true packed list + first_number list + i)
-list_beside packed FrequencyLows i is below = inl (omega arith)
-list_beside packed FrequencyHighs i is below = inl (omega arith)
+    i < list_length packed list → IsBeside packed (label_place true packed list + first_number packed list + i)
+list_beside packed FrequencyLows i is below =
+    inr (subst (λ (p : ℕ). 2 + 2 * length packed.speed + 2 * slide_rows packed ≤ p - bytes_back packed + first_listed packed + i)
+    (no_more (frequencies_place true packed)) (frequency_beside packed 0 i below))
+  where
+    no_more : (place : ℕ) → place + 0 ≡ place
+    no_more place = omega arith
+list_beside packed FrequencyHighs i is below = inr (frequency_beside packed (frequencies_listed packed) i below)
 list_beside packed (Lefts Speed) i is below = inl (omega arith)
 list_beside packed (Rights Speed) i is below = inl (omega arith)
 list_beside packed (Lefts Wave) i is below = inr (omega arith)
@@ -121,30 +141,30 @@ list_beside packed (PatternBytes pattern) i is below = inr (omega (arith, patter
 
 kept_beside : (dependent : Bool) (packed : PackedSong) (list : SongList) (i : ℕ) → dependent ≡ true →
     IsWritten dependent packed list → i < list_length packed list →
-    IsBeside packed (label_place dependent packed list + first_number list + i)
+    IsBeside packed (label_place dependent packed list + first_number packed list + i)
 kept_beside true packed list i e is below = list_beside packed list i is below
 kept_beside false packed list i e is below = absurd (cc)
 
 low_place_is : (dependent : Bool) (packed : PackedSong) → dependent ≡ true →
-    slides_low_place dependent packed ≡ 196 + 2 * length packed.speed
+    slides_low_place dependent packed ≡ 2 + 2 * length packed.speed
 low_place_is true packed e = refl
 low_place_is false packed e = absurd (cc)
 
 high_place_is : (dependent : Bool) (packed : PackedSong) → dependent ≡ true →
-    slides_high_place dependent packed ≡ 196 + 2 * length packed.speed + slide_rows packed
+    slides_high_place dependent packed ≡ 2 + 2 * length packed.speed + slide_rows packed
 high_place_is true packed e = refl
 high_place_is false packed e = absurd (cc)
 
 -- the slides' addresses, where they are kept
 low_address_is : (layout : Layout) (packed : PackedSong) (start : ℕ) → IsListLayout layout packed start →
-    layout.holds NOTE_DEPENDENT ≡ true → layout.address SLIDES_LOW ≡ start + (196 + 2 * length packed.speed)
+    layout.holds NOTE_DEPENDENT ≡ true → layout.address SLIDES_LOW ≡ start + (2 + 2 * length packed.speed)
 low_address_is layout packed start laid e =
     fixed_at layout (layout.holds NOTE_DEPENDENT) packed start 30 no_mark laid.laid (omega arith)
     ∙ ap (λ (n : ℕ). start + n) (low_place_is (layout.holds NOTE_DEPENDENT) packed e)
 
 high_address_is : (layout : Layout) (packed : PackedSong) (start : ℕ) → IsListLayout layout packed start →
     layout.holds NOTE_DEPENDENT ≡ true →
-    layout.address SLIDES_HIGH ≡ start + (196 + 2 * length packed.speed + slide_rows packed)
+    layout.address SLIDES_HIGH ≡ start + (2 + 2 * length packed.speed + slide_rows packed)
 high_address_is layout packed start laid e =
     fixed_at layout (layout.holds NOTE_DEPENDENT) packed start 31 no_mark laid.laid (omega arith)
     ∙ ap (λ (n : ℕ). start + n) (high_place_is (layout.holds NOTE_DEPENDENT) packed e)
@@ -170,13 +190,13 @@ pub lists_stand_inside : (layout : Layout) (packed : PackedSong) (start : ℕ) (
     × IsBesideSlides layout packed (place_in layout (list_label list) number)
 lists_stand_inside layout packed start list number laid is has =
     let dependent = layout.holds NOTE_DEPENDENT in
-    let i = number - first_number list in
+    let i = number - first_number packed list in
     let at = stands_at layout packed start list number laid is has in
     let within = at.within in
     let place = at.place in (
       record { from = omega arith; to = omega arith },
       beside_slides layout packed start (place_in layout (list_label list) number)
-          (label_place dependent packed list + first_number list + i) laid place
+          (label_place dependent packed list + first_number packed list + i) laid place
           (λ e. kept_beside dependent packed list i e (is_written layout packed list is) at.below),
     )
 
@@ -292,12 +312,12 @@ slides_stand_in : (layout : Layout) (packed : PackedSong) (start : ℕ) (at : �
     BytesStand at start (data_bytes (layout.holds NOTE_DEPENDENT) packed start) → SlidesStand layout packed at
 slides_stand_in layout packed start at laid bytes = record {
   low = λ e number inside small.
-      slide_byte packed start (196 + 2 * length packed.speed) number at
+      slide_byte packed start (2 + 2 * length packed.speed) number at
       (data_bytes (layout.holds NOTE_DEPENDENT) packed start) (λ row. row.right) (layout.address SLIDES_LOW) bytes
       (kept_stand (layout.holds NOTE_DEPENDENT) packed start e).low (low_address_is layout packed start laid e) refl
       inside;
   high = λ e number inside small.
-      slide_byte packed start (196 + 2 * length packed.speed + slide_rows packed) number at
+      slide_byte packed start (2 + 2 * length packed.speed + slide_rows packed) number at
       (data_bytes (layout.holds NOTE_DEPENDENT) packed start) (λ row. row.left) (layout.address SLIDES_HIGH) bytes
       (kept_stand (layout.holds NOTE_DEPENDENT) packed start e).high (high_address_is layout packed start laid e) refl
       inside;
@@ -329,7 +349,7 @@ pub data_stands : (layout : Layout) (packed : PackedSong) (start : ℕ) (at : �
 data_stands layout packed start at laid bytes = record {
   lists = λ list number is has.
       let dependent = layout.holds NOTE_DEPENDENT in
-      let i = number - first_number list in
+      let i = number - first_number packed list in
       let here = stands_at layout packed start list number laid is has in
       let there = list_stands dependent packed start list (is_written layout packed list is) in
       let count = has_length dependent packed start list (is_written layout packed list is) in
@@ -337,7 +357,7 @@ data_stands layout packed start at laid bytes = record {
       let within = here.within in
       let below = here.below in
       ap at here.place
-      ∙ bytes.byte (label_place dependent packed list + first_number list + i) (omega arith)
+      ∙ bytes.byte (label_place dependent packed list + first_number packed list + i) (omega arith)
       ∙ there.byte i (omega arith)
       ∙ has_bytes layout dependent packed start list i number laid.laid (is_written layout packed list is) here.below
       here.number_is;

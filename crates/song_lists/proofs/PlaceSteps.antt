@@ -1,5 +1,5 @@
 -- Places of lists one behind the other, a list more at a time.
-use Rattle.std.proofs.Common.{◌≡◌, ℕ, ◌+◌, ◌<◌, ◌≤◌, List, [], ◌∷◌, ◌++◌, length}
+use Rattle.std.proofs.Common.{◌≡◌, ℕ, ◌+◌, ◌-◌, ◌*◌, ◌<◌, ◌≤◌, List, [], ◌∷◌, ◌++◌, length}
 use Rattle.std.proofs.Common.{get_or, take, drop, sym, ap, ◌∙◌, arith, length-append}
 use Rattle.std.specs.List.{concat, flat_map}
 use Rattle.std.proofs.lemmas.List.{take_more, take-append-drop, append-nil}
@@ -118,3 +118,24 @@ more_order_places from subtunes i place one two x before after inside is e first
     ++ p ∷ (p + length x.one) ∷ (p + length x.one + length x.two) ∷ []) e
     ∙ sym (places_from-append from (flat_map orders_of (take i subtunes)) (orders_of x))
     ∙ ap (places_from from) (sym (more_subtunes subtunes i x inside is))
+
+-- ---- the labels of frequencies
+
+pub label_back : (a b place back : ℕ) → a ≡ place → b ≡ back → back ≤ place → b ≤ a
+label_back a b place back e f within = omega (arith, e, f, within)
+
+pub label_below : (a b place back listed size : ℕ) → a ≡ place → b ≡ back → back ≤ place → 1 ≤ back + listed →
+    place + 2 * listed ≡ size → size ≤ 65535 → a - b < 65535
+label_below a b place back listed size e f within some end most = omega (arith, e, f, within, some, end, most)
+
+pub end_below : (a n place listed size : ℕ) → a ≡ place → n ≡ listed → place + 2 * listed ≡ size → size ≤ 65535 →
+    a + n ≤ 65535
+end_below a n place listed size e f end most = omega (arith, e, f, end, most)
+
+pub end_back : (a n b place back : ℕ) → a ≡ place → b ≡ back → back ≤ place → b ≤ a + n
+end_back a n b place back e f within = omega (arith, e, f, within)
+
+pub end_label_below : (a n b place back listed size : ℕ) → a ≡ place → n ≡ listed → b ≡ back → back ≤ place →
+    1 ≤ back + listed → place + 2 * listed ≡ size → size ≤ 65535 → a + n - b < 65535
+end_label_below a n b place back listed size e g f within some end most =
+    omega (arith, e, g, f, within, some, end, most)

@@ -21,14 +21,14 @@ use Rattle.player_memory.specs.Forms.{stored}
 use Rattle.player_memory.specs.SongLists.{SongList, FrequencyLows, FrequencyHighs, Lefts, Rights, Periods, Instruments}
 use Rattle.player_memory.specs.SongLists.{OrderLows, OrderHighs, PatternLows, PatternHighs, OrderBytes, PatternBytes}
 use Rattle.player_memory.specs.SongLists.{list_label, list_length, list_byte, first_number, instrument_byte}
-use Rattle.player_memory.specs.SongLists.{order_bytes, pattern_bytes}
+use Rattle.player_memory.specs.SongLists.{order_bytes, pattern_bytes, first_listed, frequencies_listed}
 use Rattle.song_lists.specs.declared.marks.Mark.{Mark}
 use Rattle.song_lists.specs.Marks.{mark_at}
 use Rattle.song_lists.specs.DataLists.{frequency_lows, frequency_highs, lefts, rights, stored_rows}
 use Rattle.song_lists.specs.DataLists.{instrument_bytes, order_places, pattern_places, patterns_place}
 use Rattle.song_lists.specs.DataLists.{label_place, marks_from, list_marks, data_marks, IsDataLayout}
 use Rattle.song_lists.proofs.Pieces.{places_count}
-use Rattle.song_lists.proofs.Lists.{lengths, order_places_count}
+use Rattle.song_lists.proofs.Lists.{lengths, lows_count, highs_count, order_places_count}
 use Rattle.song_lists.proofs.Stretches.{written, IsWritten, below_9}
 
 -- ---- addresses
@@ -175,8 +175,8 @@ begins_at layout dependent packed start (PatternBytes pattern) laid is =
 
 pub has_length : (dependent : Bool) (packed : PackedSong) (start : ℕ) (list : SongList) →
     IsWritten dependent packed list → length (written dependent packed start list) ≡ list_length packed list
-has_length dependent packed start FrequencyLows is = (lengths dependent packed start).frequency_lows
-has_length dependent packed start FrequencyHighs is = (lengths dependent packed start).frequency_highs
+has_length dependent packed start FrequencyLows is = lows_count packed
+has_length dependent packed start FrequencyHighs is = highs_count packed
 has_length dependent packed start (Lefts Wave) is = (lengths dependent packed start).wave_lefts
 has_length dependent packed start (Rights Wave) is = (lengths dependent packed start).wave_rights
 has_length dependent packed start (Lefts Pulse) is = (lengths dependent packed start).pulse_lefts
@@ -196,13 +196,17 @@ has_length dependent packed start PatternHighs is = (lengths dependent packed st
 has_length dependent packed start (OrderBytes subtune channel) is = refl
 has_length dependent packed start (PatternBytes pattern) is = refl
 
-low_at : (i : ℕ) → i < 98 → get_or frequency_lows i 0 ≡ freq i % 256
+low_at : (packed : PackedSong) (i number : ℕ) → i < frequencies_listed packed → number ≡ first_listed packed + i →
+    get_or (frequency_lows packed) i 0 ≡ freq number % 256
 unfolding frequency_lows
-low_at i inside = get_or-map-range_with_len (λ note. freq note % 256) 0 98 i i 0 inside (omega arith)
+low_at packed i number inside e =
+    get_or-map-range_with_len (λ n. freq n % 256) (first_listed packed) (frequencies_listed packed) i number 0 inside (sym e)
 
-high_at : (i : ℕ) → i < 98 → get_or frequency_highs i 0 ≡ freq i / 256
+high_at : (packed : PackedSong) (i number : ℕ) → i < frequencies_listed packed → number ≡ first_listed packed + i →
+    get_or (frequency_highs packed) i 0 ≡ freq number / 256
 unfolding frequency_highs
-high_at i inside = get_or-map-range_with_len (λ note. freq note / 256) 0 98 i i 0 inside (omega arith)
+high_at packed i number inside e =
+    get_or-map-range_with_len (λ n. freq n / 256) (first_listed packed) (frequencies_listed packed) i number 0 inside (sym e)
 
 row_at : (song : Song) (name : TableName) (n i : ℕ) → n ≡ suc i →
     table_row song name n ≡ get_or (table_of song name) i zero_table_row
@@ -294,14 +298,10 @@ high_address_at start back places i n address inside same is =
 
 pub has_bytes : (layout : Layout) (dependent : Bool) (packed : PackedSong) (start : ℕ) (list : SongList)
     (i number : ℕ) → IsDataLayout layout dependent packed start → IsWritten dependent packed list →
-    i < list_length packed list → number ≡ first_number list + i →
+    i < list_length packed list → number ≡ first_number packed list + i →
     get_or (written dependent packed start list) i 0 ≡ list_byte layout packed list number
-has_bytes layout dependent packed start FrequencyLows i number laid is inside at =
-    let same : i ≡ number = omega arith in
-    low_at i inside ∙ ap (λ (n : ℕ). freq n % 256) same
-has_bytes layout dependent packed start FrequencyHighs i number laid is inside at =
-    let same : i ≡ number = omega arith in
-    high_at i inside ∙ ap (λ (n : ℕ). freq n / 256) same
+has_bytes layout dependent packed start FrequencyLows i number laid is inside at = low_at packed i number inside at
+has_bytes layout dependent packed start FrequencyHighs i number laid is inside at = high_at packed i number inside at
 has_bytes layout dependent packed start (Lefts Wave) i number laid is inside at =
     stored_left_at (unpacked_song packed) number i (omega arith) inside
 has_bytes layout dependent packed start (Rights Wave) i number laid is inside at =

@@ -1,29 +1,30 @@
 -- Where each list of a packed song stands in the bytes of all.
-use Rattle.std.proofs.Common.{◌≡◌, ℕ, zero, suc, ◌+◌, ◌*◌, ◌<◌, Bool, true, false, List, [], ◌∷◌}
-use Rattle.std.proofs.Common.{length}
-use Rattle.std.proofs.Common.{get_or, refl, sym, ap, ◌∙◌, subst, arith}
+use Rattle.std.proofs.Common.{◌≡◌, ℕ, zero, suc, ◌+◌, ◌-◌, ◌*◌, ◌<◌, ◌≤◌, inl, inr, Bool, true, false, List}
+use Rattle.std.proofs.Common.{[], ◌∷◌, ◌++◌, length}
+use Rattle.std.proofs.Common.{get_or, refl, sym, ◌∙◌, subst, arith}
 use Rattle.std.specs.List.{concat}
+use Rattle.std.proofs.lemmas.Bool.{cases_lt}
 use Rattle.song_model.specs.declared.tables.TableName.TheVariants.{Wave, Pulse, Filter, Speed}
-use Rattle.play_model.specs.Freq.{freq}
 use Rattle.packed_form.specs.declared.packed_songs.PackedSubtune.{PackedSubtune}
 use Rattle.packed_form.specs.declared.packed_songs.PackedSong.{PackedSong}
 use Rattle.player_memory.specs.SongLists.{SongList, FrequencyLows, FrequencyHighs, Lefts, Rights, Periods, Instruments}
 use Rattle.player_memory.specs.SongLists.{OrderLows, OrderHighs, PatternLows, PatternHighs, OrderBytes, PatternBytes}
 use Rattle.player_memory.specs.SongLists.{first_number, order_bytes, pattern_bytes, channel_bytes, no_subtune}
-use Rattle.player_memory.specs.SongLists.{slide_rows}
+use Rattle.player_memory.specs.SongLists.{first_listed, frequencies_listed, slide_rows}
 use Rattle.song_lists.specs.DataLists.{frequency_lows, frequency_highs, lefts, rights, stored_rows, periods}
 use Rattle.song_lists.specs.DataLists.{instrument_bytes, all_orders, orders_of, lows, highs, periods_place}
 use Rattle.song_lists.specs.DataLists.{orders_place, patterns_place, order_places, pattern_places, data_bytes}
-use Rattle.song_lists.specs.DataLists.{label_place}
+use Rattle.song_lists.specs.DataLists.{frequencies_place, bytes_back, frequency_lists, label_place}
 use Rattle.song_lists.proofs.Pieces.{StandsIn, size_before, piece_stands, stands_before, stands_after, place_at}
 use Rattle.song_lists.proofs.Pieces.{order_at, orders_count}
-use Rattle.song_lists.proofs.Lists.{fixed_lists, own_lists, lengths, fixed_size}
+use Rattle.song_lists.proofs.Lists.{fixed_lists, own_lists, lengths, fixed_size, lows_count, highs_count, whole_length}
+use Rattle.song_lists.proofs.Lists.{frequency_labels}
 
 -- ---- the bytes of a list as they are read: the speed table from its row 0 on
 
 abbrev pub written : Bool → PackedSong → ℕ → SongList → List ℕ
-written dependent packed start FrequencyLows = frequency_lows
-written dependent packed start FrequencyHighs = frequency_highs
+written dependent packed start FrequencyLows = frequency_lows packed
+written dependent packed start FrequencyHighs = frequency_highs packed
 written dependent packed start (Lefts Speed) = 0 ∷ lefts packed.speed
 written dependent packed start (Lefts Wave) = lefts (stored_rows packed.wave)
 written dependent packed start (Lefts Pulse) = lefts packed.pulse
@@ -62,31 +63,6 @@ fixed_stands dependent packed start k place inside e =
     (size_before k (fixed_lists dependent packed start))
     (get_or (fixed_lists dependent packed start) k []) (piece_stands (fixed_lists dependent packed start) k inside))
 
--- row 0 of the speed table is the last frequency
-zero_in_front : (whole : List ℕ) (p q : ℕ) (frequencies side : List ℕ) → StandsIn whole p frequencies →
-    StandsIn whole q side → q ≡ p + 98 → length frequencies ≡ 98 → get_or frequencies 97 0 ≡ 0 →
-    StandsIn whole (p + 97) (0 ∷ side)
-zero_in_front whole p q frequencies side there here next count zero_last = record {
-  inside = omega (arith, here.inside);
-  byte = byte;
-}
-  where
-    byte : (i : ℕ) → i < suc (length side) → get_or whole (p + 97 + i) 0 ≡ get_or (0 ∷ side) i 0
-    byte zero inside =
-        let e : p + 97 + 0 ≡ p + 97 = omega arith in
-        ap (λ (n : ℕ). get_or whole n 0) e ∙ there.byte 97 (omega arith) ∙ zero_last
-    byte (suc i) inside =
-        let e : p + 97 + suc i ≡ q + i = omega arith in
-        ap (λ (n : ℕ). get_or whole n 0) e ∙ here.byte i (omega arith)
-
-last_low : get_or frequency_lows 97 0 ≡ 0
-unfolding frequency_lows freq
-last_low = refl
-
-last_high : get_or frequency_highs 97 0 ≡ 0
-unfolding frequency_highs freq
-last_high = refl
-
 pub below_9 : (P : ℕ → Type 0) → P 0 → P 1 → P 2 → P 3 → P 4 → P 5 → P 6 → P 7 → P 8 → (n : ℕ) →
     n < 9 → P n
 below_9 P a b c d e f g h i zero inside = a
@@ -108,6 +84,8 @@ instruments_stand dependent packed start =
     below_9
     (λ field. StandsIn (data_bytes dependent packed start) (label_place dependent packed (Instruments field) + 1)
     (instrument_bytes packed field))
+    (fixed_stands dependent packed start 11 _ (omega arith) (omega arith))
+    (fixed_stands dependent packed start 12 _ (omega arith) (omega arith))
     (fixed_stands dependent packed start 13 _ (omega arith) (omega arith))
     (fixed_stands dependent packed start 14 _ (omega arith) (omega arith))
     (fixed_stands dependent packed start 15 _ (omega arith) (omega arith))
@@ -115,8 +93,6 @@ instruments_stand dependent packed start =
     (fixed_stands dependent packed start 17 _ (omega arith) (omega arith))
     (fixed_stands dependent packed start 18 _ (omega arith) (omega arith))
     (fixed_stands dependent packed start 19 _ (omega arith) (omega arith))
-    (fixed_stands dependent packed start 20 _ (omega arith) (omega arith))
-    (fixed_stands dependent packed start 21 _ (omega arith) (omega arith))
 
 -- ---- orderlists and patterns
 
@@ -160,7 +136,8 @@ orders_stand dependent packed start subtune channel inside below =
     (order_bytes packed subtune channel) (sym place) piece
     (own_stands dependent packed start (size_before (3 * subtune + channel) (all_orders packed))
     (get_or (all_orders packed) (3 * subtune + channel) [])
-    (stands_before (all_orders packed) packed.patterns (size_before (3 * subtune + channel) (all_orders packed))
+    (stands_before (all_orders packed) (packed.patterns ++ frequency_lists packed)
+    (size_before (3 * subtune + channel) (all_orders packed))
     (get_or (all_orders packed) (3 * subtune + channel) [])
     (piece_stands (all_orders packed) (3 * subtune + channel) there)))
 
@@ -178,90 +155,164 @@ patterns_stand dependent packed start pattern inside =
     (pattern_bytes packed pattern) place refl
     (own_stands dependent packed start (length (concat (all_orders packed)) + size_before pattern packed.patterns)
     (pattern_bytes packed pattern)
-    (stands_after (all_orders packed) packed.patterns (size_before pattern packed.patterns)
-    (pattern_bytes packed pattern) (piece_stands packed.patterns pattern inside)))
+    (stands_after (all_orders packed) (packed.patterns ++ frequency_lists packed) (size_before pattern packed.patterns)
+    (pattern_bytes packed pattern)
+    (stands_before packed.patterns (frequency_lists packed) (size_before pattern packed.patterns)
+    (pattern_bytes packed pattern) (piece_stands packed.patterns pattern inside))))
+
+-- ---- frequencies
+
+-- behind the patterns
+last_stands : (dependent : Bool) (packed : PackedSong) (start k place : ℕ) → k < 2 →
+    size_before k (frequency_lists packed) ≡ place →
+    StandsIn (data_bytes dependent packed start) (frequencies_place dependent packed + place)
+    (get_or (frequency_lists packed) k [])
+last_stands dependent packed start k place inside e =
+    moved (data_bytes dependent packed start)
+    (orders_place dependent packed + (length (concat (all_orders packed)) + (length (concat packed.patterns)
+    + size_before k (frequency_lists packed)))) (frequencies_place dependent packed + place)
+    (get_or (frequency_lists packed) k []) (get_or (frequency_lists packed) k [])
+    (sum (orders_place dependent packed) (length (concat (all_orders packed))) (length (concat packed.patterns))
+    (size_before k (frequency_lists packed)) place e) refl
+    (own_stands dependent packed start (length (concat (all_orders packed)) + (length (concat packed.patterns)
+    + size_before k (frequency_lists packed))) (get_or (frequency_lists packed) k [])
+    (stands_after (all_orders packed) (packed.patterns ++ frequency_lists packed)
+    (length (concat packed.patterns) + size_before k (frequency_lists packed)) (get_or (frequency_lists packed) k [])
+    (stands_after packed.patterns (frequency_lists packed) (size_before k (frequency_lists packed))
+    (get_or (frequency_lists packed) k []) (piece_stands (frequency_lists packed) k inside))))
+  where
+    sum : (orders texts patterns before place : ℕ) → before ≡ place →
+        orders + (texts + (patterns + before)) ≡ orders + texts + patterns + place
+    sum orders texts patterns before place e = omega (arith, e)
+
+-- a list of nothing stands wherever the bytes reach
+nothing_stands : (whole piece : List ℕ) (place : ℕ) → length piece ≡ 0 → place ≤ length whole →
+    StandsIn whole place piece
+nothing_stands whole piece place none reach = record {
+  inside = omega (arith, none, reach);
+  byte = λ i inside. absurd (omega (arith, none, inside));
+}
+
+-- the first one, or each of them where there are none, is as far behind its label as its first number says
+from_label : (place back first listed before : ℕ) → back ≤ place → (1 ≤ listed → back ≡ first) → 1 ≤ listed →
+    place + before - back + first ≡ place + before
+from_label place back first listed before within same some = omega (arith, within, same some)
+
+to_end : (place back first listed before whole : ℕ) → first ≤ back → back ≤ place → before ≤ listed →
+    whole ≡ place + 2 * listed → place + before - back + first ≤ whole
+to_end place back first listed before whole least within few e = omega (arith, least, within, few, e)
+
+frequencies_stand : (dependent : Bool) (packed : PackedSong) (start k before : ℕ) → k < 2 →
+    size_before k (frequency_lists packed) ≡ before → before ≤ frequencies_listed packed →
+    length (get_or (frequency_lists packed) k []) ≡ frequencies_listed packed →
+    StandsIn (data_bytes dependent packed start)
+    (frequencies_place dependent packed + before - bytes_back packed + first_listed packed)
+    (get_or (frequency_lists packed) k [])
+frequencies_stand dependent packed start k before inside e few count =
+    let labels = frequency_labels dependent packed in elim (cases_lt 0 (frequencies_listed packed)) [
+      | inl some ↦
+          subst
+          (λ (p : ℕ). StandsIn (data_bytes dependent packed start) p (get_or (frequency_lists packed) k []))
+          (sym (from_label (frequencies_place dependent packed) (bytes_back packed) (first_listed packed)
+          (frequencies_listed packed) before labels.back labels.first some))
+          (last_stands dependent packed start k before inside e)
+      | inr none ↦
+          nothing_stands (data_bytes dependent packed start) (get_or (frequency_lists packed) k [])
+          (frequencies_place dependent packed + before - bytes_back packed + first_listed packed)
+          (count ∙ none_left (frequencies_listed packed) none)
+          (to_end (frequencies_place dependent packed) (bytes_back packed) (first_listed packed)
+          (frequencies_listed packed) before (length (data_bytes dependent packed start)) labels.least labels.back few
+          (whole_length dependent packed start))
+    ]
+  where
+    none_left : (n : ℕ) → n ≤ 0 → n ≡ 0
+    none_left n le = omega (arith, le)
 
 -- ---- all of them
 
 -- the lists of calculated speeds, each with row 0 as its first byte
 pub record KeptStand (packed : PackedSong) (whole : List ℕ) : Type 0 where
-  pub low : StandsIn whole (196 + 2 * length packed.speed) (0 ∷ rights packed.speed)
-  pub high : StandsIn whole (196 + 2 * length packed.speed + slide_rows packed) (0 ∷ lefts packed.speed)
-  pub periods : StandsIn whole (196 + 2 * length packed.speed + 2 * slide_rows packed) (0 ∷ periods packed.speed)
+  pub low : StandsIn whole (2 + 2 * length packed.speed) (0 ∷ rights packed.speed)
+  pub high : StandsIn whole (2 + 2 * length packed.speed + slide_rows packed) (0 ∷ lefts packed.speed)
+  pub periods : StandsIn whole (2 + 2 * length packed.speed + 2 * slide_rows packed) (0 ∷ periods packed.speed)
 
 slides_begin : (packed : PackedSong) (start : ℕ) →
-    size_before 4 (fixed_lists true packed start) ≡ 196 + 2 * length packed.speed
+    size_before 2 (fixed_lists true packed start) ≡ 2 + 2 * length packed.speed
 slides_begin packed start = let each = lengths true packed start in omega arith
 
 pub slides_stand : (packed : PackedSong) (start : ℕ) → KeptStand packed (data_bytes true packed start)
 slides_stand packed start =
     let each = lengths true packed start in record {
-      low = fixed_stands true packed start 4 _ (omega arith) (slides_begin packed start);
-      high = fixed_stands true packed start 5 _ (omega arith) (omega arith);
-      periods = fixed_stands true packed start 6 _ (omega arith) (omega arith);
+      low = fixed_stands true packed start 2 _ (omega arith) (slides_begin packed start);
+      high = fixed_stands true packed start 3 _ (omega arith) (omega arith);
+      periods = fixed_stands true packed start 4 _ (omega arith) (omega arith);
     }
 
 periods_stand : (dependent : Bool) (packed : PackedSong) (start : ℕ) → dependent ≡ true →
     StandsIn (data_bytes dependent packed start) (periods_place dependent packed + 0) (0 ∷ periods packed.speed)
 periods_stand true packed start is =
-    let place : 196 + 2 * length packed.speed + 2 * slide_rows packed
-    ≡ 196 + 2 * length packed.speed + 2 * slide_rows packed + 0 = omega arith in
+    let place : 2 + 2 * length packed.speed + 2 * slide_rows packed
+    ≡ 2 + 2 * length packed.speed + 2 * slide_rows packed + 0 = omega arith in
     subst (λ (p : ℕ). StandsIn (data_bytes true packed start) p (0 ∷ periods packed.speed)) place
     (slides_stand packed start).periods
 periods_stand false packed start is = absurd (cc)
 
 pub list_stands : (dependent : Bool) (packed : PackedSong) (start : ℕ) (list : SongList) →
     IsWritten dependent packed list →
-    StandsIn (data_bytes dependent packed start) (label_place dependent packed list + first_number list)
+    StandsIn (data_bytes dependent packed start) (label_place dependent packed list + first_number packed list)
     (written dependent packed start list)
-list_stands dependent packed start FrequencyLows is = fixed_stands dependent packed start 0 _ (omega arith) refl
+list_stands dependent packed start FrequencyLows is =
+    subst
+    (λ (p : ℕ). StandsIn (data_bytes dependent packed start) (p - bytes_back packed + first_listed packed)
+    (frequency_lows packed)) (no_more (frequencies_place dependent packed))
+    (frequencies_stand dependent packed start 0 0 (omega arith) refl (omega arith) (lows_count packed))
+  where
+    no_more : (place : ℕ) → place + 0 ≡ place
+    no_more place = omega arith
 list_stands dependent packed start FrequencyHighs is =
-    let each = lengths dependent packed start in
-    fixed_stands dependent packed start 2 _ (omega arith) (omega arith)
+    frequencies_stand dependent packed start 1 (frequencies_listed packed) (omega arith)
+    (plus_none (length (frequency_lows packed)) (frequencies_listed packed) (lows_count packed)) (omega arith)
+    (highs_count packed)
+  where
+    plus_none : (count listed : ℕ) → count ≡ listed → count + 0 ≡ listed
+    plus_none count listed e = omega (arith, e)
 list_stands dependent packed start (Lefts Wave) is =
     let each = lengths dependent packed start in
-    fixed_stands dependent packed start 7 _ (omega arith) (omega arith)
+    fixed_stands dependent packed start 5 _ (omega arith) (omega arith)
 list_stands dependent packed start (Rights Wave) is =
     let each = lengths dependent packed start in
-    fixed_stands dependent packed start 8 _ (omega arith) (omega arith)
+    fixed_stands dependent packed start 6 _ (omega arith) (omega arith)
 list_stands dependent packed start (Lefts Pulse) is =
     let each = lengths dependent packed start in
-    fixed_stands dependent packed start 9 _ (omega arith) (omega arith)
+    fixed_stands dependent packed start 7 _ (omega arith) (omega arith)
 list_stands dependent packed start (Rights Pulse) is =
     let each = lengths dependent packed start in
-    fixed_stands dependent packed start 10 _ (omega arith) (omega arith)
+    fixed_stands dependent packed start 8 _ (omega arith) (omega arith)
 list_stands dependent packed start (Lefts Filter) is =
     let each = lengths dependent packed start in
-    fixed_stands dependent packed start 11 _ (omega arith) (omega arith)
+    fixed_stands dependent packed start 9 _ (omega arith) (omega arith)
 list_stands dependent packed start (Rights Filter) is =
     let each = lengths dependent packed start in
-    fixed_stands dependent packed start 12 _ (omega arith) (omega arith)
+    fixed_stands dependent packed start 10 _ (omega arith) (omega arith)
 list_stands dependent packed start (Lefts Speed) is =
     let each = lengths dependent packed start in
-    let place : 98 + length packed.speed + 97 ≡ 195 + length packed.speed + 0 = omega arith in
-    subst (λ (p : ℕ). StandsIn (data_bytes dependent packed start) p (0 ∷ lefts packed.speed)) place
-    (zero_in_front (data_bytes dependent packed start) (98 + length packed.speed) (98 + length packed.speed + 98)
-    frequency_highs (lefts packed.speed) (fixed_stands dependent packed start 2 _ (omega arith) (omega arith))
-    (fixed_stands dependent packed start 3 _ (omega arith) (omega arith)) refl each.frequency_highs last_high)
+    fixed_stands dependent packed start 1 _ (omega arith) (omega arith)
 list_stands dependent packed start (Rights Speed) is =
-    let each = lengths dependent packed start in
-    zero_in_front (data_bytes dependent packed start) 0 98 frequency_lows (rights packed.speed)
-    (fixed_stands dependent packed start 0 _ (omega arith) (omega arith))
-    (fixed_stands dependent packed start 1 _ (omega arith) (omega arith)) refl each.frequency_lows last_low
+    fixed_stands dependent packed start 0 _ (omega arith) refl
 list_stands dependent packed start Periods is = periods_stand dependent packed start is
 list_stands dependent packed start (Instruments field) is = instruments_stand dependent packed start field is
 list_stands dependent packed start OrderLows is =
     let each = lengths dependent packed start in
-    fixed_stands dependent packed start 22 _ (omega arith) (omega arith)
+    fixed_stands dependent packed start 20 _ (omega arith) (omega arith)
 list_stands dependent packed start OrderHighs is =
     let each = lengths dependent packed start in
-    fixed_stands dependent packed start 23 _ (omega arith) (omega arith)
+    fixed_stands dependent packed start 21 _ (omega arith) (omega arith)
 list_stands dependent packed start PatternLows is =
     let each = lengths dependent packed start in
-    fixed_stands dependent packed start 24 _ (omega arith) (omega arith)
+    fixed_stands dependent packed start 22 _ (omega arith) (omega arith)
 list_stands dependent packed start PatternHighs is =
     let each = lengths dependent packed start in
-    fixed_stands dependent packed start 25 _ (omega arith) (omega arith)
+    fixed_stands dependent packed start 23 _ (omega arith) (omega arith)
 list_stands dependent packed start (OrderBytes subtune channel) is =
     let place : label_place dependent packed (OrderBytes subtune channel)
     ≡ label_place dependent packed (OrderBytes subtune channel) + 0 = omega arith in

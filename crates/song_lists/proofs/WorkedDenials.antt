@@ -3,6 +3,7 @@ use Rattle.std.proofs.Common.{◌≡◌, ℕ, ◌-◌, inr, Bool, true, false, L
 use Rattle.std.proofs.Common.{get_or, take, drop, nat_eq, refl, ap, ◌∙◌, arith}
 use Rattle.std.proofs.lemmas.Bool.{eqb-false, eqb-true}
 use Rattle.std.proofs.lemmas.List.{take-append-drop, append-nil}
+use Rattle.play_model.specs.Freq.{freq}
 use Rattle.packed_form.specs.declared.packed_songs.PackedSong.{PackedSong}
 use Rattle.asm6502.specs.declared.lines.Item.{Item}
 use Rattle.asm6502.specs.declared.lines.Item.TheVariants.{Label, Code, Bytes}
@@ -14,7 +15,7 @@ use Rattle.song_lists.specs.Marks.{marked}
 use Rattle.song_lists.specs.DataLists.{frequency_lows, frequency_highs, data_bytes, HasLines}
 use Rattle.song_lists.specs.ListLaws.{lists_size, IsListLabel}
 use Rattle.song_lists.specs.WorkedLists.{IsSmallSong, plain_bytes, kept_bytes, plain_lines, kept_lines}
-use Rattle.song_lists.specs.WorkedLists.{plain_lines_with, kept_lines_with, last_lines, last_lines_with}
+use Rattle.song_lists.specs.WorkedLists.{plain_lines_with, kept_lines_with, last_lines, last_lines_with, frequency_bytes}
 use Rattle.song_lists.specs.WorkedLists.{OtherListingsAreNot}
 use Rattle.song_lists.proofs.Naming.{times_named, item_names, named_once}
 use Rattle.song_lists.proofs.DataLines.{lines_take_size, list_labels_are_named}
@@ -66,40 +67,46 @@ unnamed dependent packed start label lines is none has =
 
 -- ---- the song's sizes and bytes
 
-pub plain_size : (packed : PackedSong) → IsSmallSong packed → lists_size false packed ≡ 247
+pub plain_size : (packed : PackedSong) → IsSmallSong packed → lists_size false packed ≡ 59
 plain_size packed is =
-    rw (is.subtunes, is.patterns, is.instruments, is.wave, is.pulse, is.filter, is.speed) refl
+    rw (is.subtunes, is.patterns, is.instruments, is.wave, is.pulse, is.filter, is.speed, is.numbers) refl
 
-pub kept_size : (packed : PackedSong) → IsSmallSong packed → lists_size true packed ≡ 253
+pub kept_size : (packed : PackedSong) → IsSmallSong packed → lists_size true packed ≡ 65
 kept_size packed is =
-    rw (is.subtunes, is.patterns, is.instruments, is.wave, is.pulse, is.filter, is.speed) refl
+    rw (is.subtunes, is.patterns, is.instruments, is.wave, is.pulse, is.filter, is.speed, is.numbers) refl
 
-elsewhere_byte : (packed : PackedSong) → IsSmallSong packed → get_or (data_bytes false packed 0x1F0C) 226 0 ≡ 0xF6
-unfolding frequency_lows frequency_highs
+elsewhere_byte : (packed : PackedSong) → IsSmallSong packed → get_or (data_bytes false packed 0x1FCE) 32 0 ≡ 0xF6
+unfolding frequency_lows frequency_highs freq
 elsewhere_byte packed is =
     rw (is.subtunes, is.patterns, is.instruments, is.wave, is.pulse, is.filter, is.speed) refl
 
 plain_byte : (packed : PackedSong) (k : ℕ) → IsSmallSong packed →
-    get_or (data_bytes false packed 0x1F0B) k 0 ≡ get_or plain_bytes k 0
+    get_or (data_bytes false packed 0x1FCD) k 0 ≡ get_or plain_bytes k 0
 plain_byte packed k is = ap (λ (bytes : List ℕ). get_or bytes k 0) (plain_bytes_are packed is)
 
 kept_byte : (packed : PackedSong) (k : ℕ) → IsSmallSong packed →
-    get_or (data_bytes true packed 0x1F05) k 0 ≡ get_or kept_bytes k 0
+    get_or (data_bytes true packed 0x1FC7) k 0 ≡ get_or kept_bytes k 0
 kept_byte packed k is = ap (λ (bytes : List ℕ). get_or bytes k 0) (kept_bytes_are packed is)
 
 pub other_listings_are_not : (packed : PackedSong) → IsSmallSong packed → OtherListingsAreNot packed
-unfolding frequency_lows frequency_highs
 other_listings_are_not packed is = record {
-  without = other_size true packed 0x1F0B 253 plain_lines (kept_size packed is) refl;
-  with_speeds = other_size false packed 0x1F05 247 kept_lines (plain_size packed is) refl;
-  elsewhere = other_byte false packed 0x1F0C 226 0xF6 plain_lines (elsewhere_byte packed is) refl;
-  delay = other_byte false packed 0x1F0B 198 0xE2 (plain_lines_with SLIDES_LOW (last_lines_with 0x02 0xFF 0xFF))
-      (plain_byte packed 198 is) refl;
-  no_vibrato = other_byte false packed 0x1F0B 220 0xFF
-      (plain_lines_with SLIDES_LOW (last_lines_with 0xE2 0x00 0xFF)) (plain_byte packed 220 is) refl;
-  pattern = other_byte false packed 0x1F0B 232 0xFF (plain_lines_with SLIDES_LOW (last_lines_with 0xE2 0xFF 0x00))
-      (plain_byte packed 232 is) refl;
-  period = other_byte true packed 0x1F05 203 0x03 (kept_lines_with 0x83) (kept_byte packed 203 is) refl;
-  label = unnamed false packed 0x1F0B SLIDES_LOW (plain_lines_with SPEED_RIGHTS last_lines)
+  without = other_size true packed 0x1FCD 65 plain_lines (kept_size packed is) refl;
+  with_speeds = other_size false packed 0x1FC7 59 kept_lines (plain_size packed is) refl;
+  elsewhere = other_byte false packed 0x1FCE 32 0xF6 plain_lines (elsewhere_byte packed is) refl;
+  delay = other_byte false packed 0x1FCD 4 0xE2 (plain_lines_with SLIDES_LOW (last_lines_with 0x02 0xFF 0xFF frequency_bytes))
+      (plain_byte packed 4 is) refl;
+  no_vibrato = other_byte false packed 0x1FCD 26 0xFF
+      (plain_lines_with SLIDES_LOW (last_lines_with 0xE2 0x00 0xFF frequency_bytes)) (plain_byte packed 26 is) refl;
+  pattern = other_byte false packed 0x1FCD 38 0xFF (plain_lines_with SLIDES_LOW (last_lines_with 0xE2 0xFF 0x00 frequency_bytes))
+      (plain_byte packed 38 is) refl;
+  period = other_byte true packed 0x1FC7 9 0x03 (kept_lines_with 0x83) (kept_byte packed 9 is) refl;
+  late = other_byte false packed 0x1FCD 53 0xB4
+      (plain_lines_with SLIDES_LOW
+      (last_lines_with 0xE2 0xFF 0xFF (0x38 ∷ 0xC4 ∷ 0x59 ∷ 0x09 ∷ 0x09 ∷ 0x0A ∷ [])))
+      (plain_byte packed 53 is) refl;
+  short = other_size false packed 0x1FCD 59
+      (plain_lines_with SLIDES_LOW (last_lines_with 0xE2 0xFF 0xFF (0xB4 ∷ 0x38 ∷ 0x08 ∷ 0x09 ∷ [])))
+      (plain_size packed is) refl;
+  label = unnamed false packed 0x1FCD SLIDES_LOW (plain_lines_with SPEED_RIGHTS last_lines)
       (inr (omega arith, omega arith)) refl;
 }

@@ -1,17 +1,19 @@
 -- The layouts and memories of the small song's lists, computed, and such as they aren't in.
-use Rattle.std.proofs.Common.{◌≡◌, ℕ, zero, suc, ◌+◌, ◌-◌, ◌<◌, ◌≤◌, ◌&&◌, ◌⊎◌, inl, inr}
+use Rattle.std.proofs.Common.{◌/◌, ◌≡◌, ℕ, zero, suc, ◌+◌, ◌-◌, ◌<◌, ◌≤◌, ◌&&◌, ◌⊎◌, inl, inr}
 use Rattle.std.proofs.Common.{Bool, true, false}
 use Rattle.std.proofs.Common.{List, [], ◌∷◌, length, get_or, nat_eq, refl, sym, ap, subst, ◌∙◌, arith, Contains}
 use Rattle.std.proofs.lemmas.Bool.{eqb-true, eqb-false, and_parts}
 use Rattle.std.proofs.lemmas.List.Elements.{Contains-get_or}
 use Rattle.song_model.specs.LookUp.{table_row}
+use Rattle.play_model.specs.Freq.{freq}
 use Rattle.packed_form.specs.declared.packed_songs.PackedSong.{PackedSong}
 use Rattle.asm6502.specs.Standing.{BytesStand}
 use Rattle.scopes.specs.Desk.{Layout}
-use Rattle.player_memory.specs.declared.labels.TheConstants.{SLIDES_LOW, PATTERNS}
-use Rattle.player_memory.specs.SongLists.{FrequencyLows, Periods, PatternBytes, HasSongLists, list_byte}
+use Rattle.player_memory.specs.declared.labels.TheConstants.{FREQUENCY_LOWS, SLIDES_LOW, PATTERNS}
+use Rattle.player_memory.specs.SongLists.{FrequencyLows, FrequencyHighs, Periods, PatternBytes, HasSongLists, list_byte}
+use Rattle.player_memory.specs.SongLists.{first_listed, frequencies_listed}
 use Rattle.song_lists.specs.declared.marks.Mark.{Mark}
-use Rattle.song_lists.specs.DataLists.{frequency_lows, frequency_highs, data_bytes, data_marks, IsDataLayout}
+use Rattle.song_lists.specs.DataLists.{data_bytes, data_marks, IsDataLayout}
 use Rattle.song_lists.specs.ListLaws.{IsListRoom, IsDataLabel}
 use Rattle.song_lists.specs.WorkedLists.{IsSmallSong, plain_bytes, kept_bytes}
 use Rattle.song_lists.specs.WorkedLayouts.{plain_marks, kept_marks, laid_out, plain_layout, kept_layout, with_label}
@@ -80,10 +82,10 @@ bytes_standing start bytes whole are = record {
 
 -- ---- the small song's
 
-plain_room : (packed : PackedSong) → IsSmallSong packed → IsListRoom plain_layout packed 0x1F0B
+plain_room : (packed : PackedSong) → IsSmallSong packed → IsListRoom plain_layout packed 0x1FCD
 plain_room packed is =
     let size = plain_size packed is in record {
-      laid = data_laid plain_layout false packed 0x1F0B plain_marks (plain_marks_are packed is) refl;
+      laid = data_laid plain_layout false packed 0x1FCD plain_marks (plain_marks_are packed is) refl;
       from = omega arith;
       to = omega arith;
       variables = inl (omega arith);
@@ -91,10 +93,10 @@ plain_room packed is =
       reads = λ place inside. refl;
     }
 
-kept_room : (packed : PackedSong) → IsSmallSong packed → IsListRoom kept_layout packed 0x1F05
+kept_room : (packed : PackedSong) → IsSmallSong packed → IsListRoom kept_layout packed 0x1FC7
 kept_room packed is =
     let size = kept_size packed is in record {
-      laid = data_laid kept_layout true packed 0x1F05 kept_marks (kept_marks_are packed is) refl;
+      laid = data_laid kept_layout true packed 0x1FC7 kept_marks (kept_marks_are packed is) refl;
       from = omega arith;
       to = omega arith;
       variables = inl (omega arith);
@@ -108,12 +110,12 @@ small_layouts_are_worked packed is = record {
   kept_marks_are = kept_marks_are packed is;
   plain = plain_room packed is;
   kept = kept_room packed is;
-  plain_laid = lists_are_laid plain_layout packed 0x1F0B (plain_room packed is);
-  kept_laid = lists_are_laid kept_layout packed 0x1F05 (kept_room packed is);
-  plain_lists = song_lists_stand plain_layout packed 0x1F0B plain_memory (plain_room packed is)
-      (bytes_standing 0x1F0B plain_bytes (data_bytes false packed 0x1F0B) (plain_bytes_are packed is));
-  kept_lists = song_lists_stand kept_layout packed 0x1F05 kept_memory (kept_room packed is)
-      (bytes_standing 0x1F05 kept_bytes (data_bytes true packed 0x1F05) (kept_bytes_are packed is));
+  plain_laid = lists_are_laid plain_layout packed 0x1FCD (plain_room packed is);
+  kept_laid = lists_are_laid kept_layout packed 0x1FC7 (kept_room packed is);
+  plain_lists = song_lists_stand plain_layout packed 0x1FCD plain_memory (plain_room packed is)
+      (bytes_standing 0x1FCD plain_bytes (data_bytes false packed 0x1FCD) (plain_bytes_are packed is));
+  kept_lists = song_lists_stand kept_layout packed 0x1FC7 kept_memory (kept_room packed is)
+      (bytes_standing 0x1FC7 kept_bytes (data_bytes true packed 0x1FC7) (kept_bytes_are packed is));
 }
 
 -- ---- memories that don't have the lists
@@ -148,23 +150,43 @@ other_last packed at is other has =
     ((has.lists (PatternBytes 0) 1 (omega arith) (record { from = omega arith; to = omega arith })).is
     ∙ last_is packed is)
 
+frequencies_are : (packed : PackedSong) → IsSmallSong packed →
+    (first_listed packed ≡ 36) × (frequencies_listed packed ≡ 3)
+frequencies_are packed is = (
+  rw (is.subtunes, is.patterns, is.instruments, is.wave, is.pulse, is.filter, is.speed, is.numbers) refl,
+  rw (is.subtunes, is.patterns, is.instruments, is.wave, is.pulse, is.filter, is.speed, is.numbers) refl,
+)
+
+last_frequency : freq 38 / 256 ≡ 9
+unfolding freq
+last_frequency = refl
+
+other_frequency : (packed : PackedSong) (at : ℕ → ℕ) → IsSmallSong packed → nat_eq (at 0x2007) 9 ≡ false →
+    ¬ HasSongLists plain_layout packed at
+other_frequency packed at is other has =
+    let listed = frequencies_are packed is in
+    eqb-false (at 0x2007) 9 other
+    ((has.lists FrequencyHighs 38 tt (record { from = omega arith; to = omega arith })).is ∙ last_frequency)
+
 pub other_layouts_are_not : (packed : PackedSong) → IsSmallSong packed → OtherLayoutsAreNot packed
-unfolding frequency_lows frequency_highs
 other_layouts_are_not packed is =
     let plain = plain_marks_are packed is in
     let kept = kept_marks_are packed is in
     let size = plain_size packed is in record {
       label = λ room.
-          other_label (with_label SLIDES_LOW 0x2000 plain_layout) false packed 0x1F0B plain_marks 30 plain (omega arith)
+          other_label (with_label SLIDES_LOW 0x2000 plain_layout) false packed 0x1FCD plain_marks 30 plain (omega arith)
           refl room.laid;
       text = λ room.
-          other_label (with_label PATTERNS 0x2001 plain_layout) false packed 0x1F0B plain_marks 35 plain (omega arith)
+          other_label (with_label PATTERNS 0x2001 plain_layout) false packed 0x1FCD plain_marks 35 plain (omega arith)
+          refl room.laid;
+      frequencies = λ room.
+          other_label (with_label FREQUENCY_LOWS 0x2002 plain_layout) false packed 0x1FCD plain_marks 0 plain (omega arith)
           refl room.laid;
       lists = λ room.
-          other_label (laid_out true 0x1F0B plain_marks) true packed 0x1F0B kept_marks 30 kept (omega arith) refl
+          other_label (laid_out true 0x1FCD plain_marks) true packed 0x1FCD kept_marks 30 kept (omega arith) refl
           room.laid;
       place = λ room.
-          other_label plain_layout false packed 0x1F0C plain_marks 0 plain (omega arith) refl room.laid;
+          other_label plain_layout false packed 0x1FCE plain_marks 0 plain (omega arith) refl room.laid;
       low = λ room. (let from = room.from in omega arith);
       high = λ room. (let to = room.to in omega arith);
       variables = λ room. elim room.variables [
@@ -173,11 +195,12 @@ other_layouts_are_not packed is =
       ];
       pointer = λ room. (let at = room.pointer in omega arith);
       unread = λ room.
-          let may = room.reads 0x2001 (record { from = omega arith; to = omega arith }) in absurd (cc);
+          let may = room.reads 0x2007 (record { from = omega arith; to = omega arith }) in absurd (cc);
       period = other_period packed (with_byte 0x1FD0 0x83 kept_memory) is refl;
       slide = other_slide packed (with_byte 0x1FCB 0x01 kept_memory) refl;
       last = other_last packed (with_byte 0x2001 0x01 plain_memory) is refl;
-      shorter = other_period packed (standing 0x1F05 plain_bytes) is refl;
+      frequency = other_frequency packed (with_byte 0x2007 0x08 plain_memory) is refl;
+      shorter = other_period packed (standing 0x1FC7 plain_bytes) is refl;
     }
 
 -- ---- layouts that the lists don't decide so, and places
@@ -185,14 +208,15 @@ other_layouts_are_not packed is =
 pub others_are_not_laid : (packed : PackedSong) → IsSmallSong packed → OthersAreNotLaid packed
 others_are_not_laid packed is =
     let subtunes = ap length is.subtunes in
-    let patterns = ap length is.patterns in record {
+    let patterns = ap length is.patterns in
+    let listed = frequencies_are packed is in record {
       next = λ laid. absurd (eqb-false 0x2000 0x1FD1 refl laid.next.wave_lefts);
       slides = λ laid. elim ((laid.slides refl).apart) [
         | inl front ↦ omega arith
         | inr behind ↦ omega arith
       ];
       low = λ laid.
-          let from = laid.lists FrequencyLows 0 tt (record { from = omega arith; to = omega arith }) in omega arith;
+          let from = laid.lists FrequencyLows 36 tt (record { from = omega arith; to = omega arith }) in omega arith;
       order = λ laid. (let below = laid.orders 0 (omega arith) in omega arith);
       pattern = λ laid. (let from = (laid.patterns 0 (omega arith)).from in omega arith);
     }

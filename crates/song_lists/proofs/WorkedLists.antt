@@ -9,46 +9,93 @@ use Rattle.play_model.specs.Freq.{freq}
 use Rattle.song_lists.specs.declared.marks.Mark.{Mark}
 use Rattle.song_lists.specs.Marks.{mark_at, marked}
 use Rattle.song_lists.specs.DataLists.{frequency_lows, frequency_highs, data_bytes, data_marks, HasLines}
-use Rattle.song_lists.specs.WorkedLists.{FrequenciesAreWorked, IsSmallSong, plain_bytes, kept_bytes, plain_lines}
+use Rattle.song_lists.specs.WorkedLists.{FewAreInFront, NoneIsListed, LastAreListed, FrequenciesAreWorked, from}
+use Rattle.song_lists.specs.WorkedLists.{IsSmallSongWith, IsSmallSong, plain_bytes, kept_bytes, plain_lines}
 use Rattle.song_lists.specs.WorkedLists.{kept_lines, SmallListsAreWorked}
 use Rattle.song_lists.specs.WorkedLayouts.{plain_marks, kept_marks}
 
-pub frequencies_are_worked : FrequenciesAreWorked
+-- ---- frequencies
+
+few_are_in_front : (packed : PackedSong) → IsSmallSongWith (from 57 2) packed → FewAreInFront packed
 unfolding frequency_lows frequency_highs freq
-frequencies_are_worked = record { low = refl; high = refl; low_zeros = refl; high_zeros = refl }
+few_are_in_front packed is = record {
+  first =
+      rw (is.subtunes, is.patterns, is.instruments, is.wave, is.pulse, is.filter, is.speed, is.numbers) refl;
+  count =
+      rw (is.subtunes, is.patterns, is.instruments, is.wave, is.pulse, is.filter, is.speed, is.numbers) refl;
+  lows =
+      rw (is.subtunes, is.patterns, is.instruments, is.wave, is.pulse, is.filter, is.speed, is.numbers) refl;
+  highs =
+      rw (is.subtunes, is.patterns, is.instruments, is.wave, is.pulse, is.filter, is.speed, is.numbers) refl;
+  low_label =
+      rw (is.subtunes, is.patterns, is.instruments, is.wave, is.pulse, is.filter, is.speed, is.numbers) refl;
+  high_label =
+      rw (is.subtunes, is.patterns, is.instruments, is.wave, is.pulse, is.filter, is.speed, is.numbers) refl;
+  kept_label =
+      rw (is.subtunes, is.patterns, is.instruments, is.wave, is.pulse, is.filter, is.speed, is.numbers) refl;
+  size =
+      rw (is.subtunes, is.patterns, is.instruments, is.wave, is.pulse, is.filter, is.speed, is.numbers) refl;
+}
+
+none_is_listed : (packed : PackedSong) → IsSmallSongWith (from 0 0) packed → NoneIsListed packed
+unfolding frequency_lows
+none_is_listed packed is = record {
+  count =
+      rw (is.subtunes, is.patterns, is.instruments, is.wave, is.pulse, is.filter, is.speed, is.numbers) refl;
+  lows =
+      rw (is.subtunes, is.patterns, is.instruments, is.wave, is.pulse, is.filter, is.speed, is.numbers) refl;
+  low_label =
+      rw (is.subtunes, is.patterns, is.instruments, is.wave, is.pulse, is.filter, is.speed, is.numbers) refl;
+  high_label =
+      rw (is.subtunes, is.patterns, is.instruments, is.wave, is.pulse, is.filter, is.speed, is.numbers) refl;
+  size =
+      rw (is.subtunes, is.patterns, is.instruments, is.wave, is.pulse, is.filter, is.speed, is.numbers) refl;
+}
+
+last_are_listed : (packed : PackedSong) → IsSmallSongWith (from 95 3) packed → LastAreListed packed
+unfolding frequency_lows frequency_highs freq
+last_are_listed packed is = record {
+  lows =
+      rw (is.subtunes, is.patterns, is.instruments, is.wave, is.pulse, is.filter, is.speed, is.numbers) refl;
+  highs =
+      rw (is.subtunes, is.patterns, is.instruments, is.wave, is.pulse, is.filter, is.speed, is.numbers) refl;
+}
+
+pub frequencies_are_worked : FrequenciesAreWorked
+frequencies_are_worked = record { few = few_are_in_front; none = none_is_listed; last = last_are_listed }
 
 -- ---- their labels, by their places
 
 abbrev plain_sorted : List Mark
 plain_sorted =
-    mark_at 128 0 ∷ mark_at 129 1 ∷ mark_at 132 97 ∷ mark_at 160 97 ∷ mark_at 130 99 ∷ mark_at 131 100
-    ∷ mark_at 133 196 ∷ mark_at 134 196 ∷ mark_at 161 196 ∷ mark_at 135 197 ∷ mark_at 136 198 ∷ mark_at 137 201
-    ∷ mark_at 138 202 ∷ mark_at 139 205 ∷ mark_at 140 206 ∷ mark_at 141 206 ∷ mark_at 142 207 ∷ mark_at 144 207
-    ∷ mark_at 145 207 ∷ mark_at 143 208 ∷ mark_at 146 209 ∷ mark_at 147 211 ∷ mark_at 148 213 ∷ mark_at 149 215
-    ∷ mark_at 150 217 ∷ mark_at 151 219 ∷ mark_at 152 221 ∷ mark_at 153 223 ∷ mark_at 154 226 ∷ mark_at 155 229
-    ∷ mark_at 156 232 ∷ mark_at 157 233 ∷ mark_at 256 234 ∷ mark_at 257 237 ∷ mark_at 258 241 ∷ mark_at 512 245 ∷ []
+    mark_at 132 0 ∷ mark_at 160 0 ∷ mark_at 133 2 ∷ mark_at 134 2 ∷ mark_at 161 2 ∷ mark_at 135 3
+    ∷ mark_at 136 4 ∷ mark_at 137 7 ∷ mark_at 138 8 ∷ mark_at 139 11 ∷ mark_at 140 12 ∷ mark_at 141 12
+    ∷ mark_at 142 13 ∷ mark_at 144 13 ∷ mark_at 145 13 ∷ mark_at 143 14 ∷ mark_at 146 15 ∷ mark_at 128 17
+    ∷ mark_at 147 17 ∷ mark_at 129 18 ∷ mark_at 148 19 ∷ mark_at 130 20 ∷ mark_at 131 21 ∷ mark_at 149 21
+    ∷ mark_at 150 23 ∷ mark_at 151 25 ∷ mark_at 152 27 ∷ mark_at 153 29 ∷ mark_at 154 32 ∷ mark_at 155 35
+    ∷ mark_at 156 38 ∷ mark_at 157 39 ∷ mark_at 256 40 ∷ mark_at 257 43 ∷ mark_at 258 47 ∷ mark_at 512 51 ∷ []
 
 -- exchanges that bring them into the order of their numbers
 abbrev plain_exchanges : List (ℕ × ℕ)
 plain_exchanges =
-    (8, 31) ∷ (3, 30) ∷ (8, 29) ∷ (3, 28) ∷ (8, 27) ∷ (3, 26) ∷ (8, 25) ∷ (3, 24) ∷ (8, 23) ∷ (3, 22)
-    ∷ (8, 21) ∷ (3, 20) ∷ (8, 19) ∷ (3, 18) ∷ (3, 17) ∷ (3, 16) ∷ (8, 15) ∷ (3, 14) ∷ (8, 13) ∷ (3, 12)
-    ∷ (8, 11) ∷ (3, 10) ∷ (8, 9) ∷ (3, 8) ∷ (3, 7) ∷ (3, 6) ∷ (3, 5) ∷ (2, 4) ∷ []
+    (30, 31) ∷ (29, 30) ∷ (28, 31) ∷ (27, 30) ∷ (26, 31) ∷ (25, 30) ∷ (24, 31) ∷ (23, 30) ∷ (22, 31) ∷ (21, 30)
+    ∷ (19, 30) ∷ (18, 19) ∷ (17, 31) ∷ (16, 18) ∷ (14, 17) ∷ (13, 16) ∷ (12, 14) ∷ (11, 13) ∷ (10, 12) ∷ (9, 11)
+    ∷ (8, 10) ∷ (7, 9) ∷ (6, 8) ∷ (5, 7) ∷ (4, 31) ∷ (3, 6) ∷ (2, 5) ∷ (1, 30) ∷ (0, 4) ∷ []
 
 abbrev kept_sorted : List Mark
 kept_sorted =
-    mark_at 128 0 ∷ mark_at 129 1 ∷ mark_at 132 97 ∷ mark_at 130 99 ∷ mark_at 131 100 ∷ mark_at 133 196
-    ∷ mark_at 160 198 ∷ mark_at 161 200 ∷ mark_at 134 202 ∷ mark_at 135 203 ∷ mark_at 136 204 ∷ mark_at 137 207
-    ∷ mark_at 138 208 ∷ mark_at 139 211 ∷ mark_at 140 212 ∷ mark_at 141 212 ∷ mark_at 142 213 ∷ mark_at 144 213
-    ∷ mark_at 145 213 ∷ mark_at 143 214 ∷ mark_at 146 215 ∷ mark_at 147 217 ∷ mark_at 148 219 ∷ mark_at 149 221
-    ∷ mark_at 150 223 ∷ mark_at 151 225 ∷ mark_at 152 227 ∷ mark_at 153 229 ∷ mark_at 154 232 ∷ mark_at 155 235
-    ∷ mark_at 156 238 ∷ mark_at 157 239 ∷ mark_at 256 240 ∷ mark_at 257 243 ∷ mark_at 258 247 ∷ mark_at 512 251 ∷ []
+    mark_at 132 0 ∷ mark_at 133 2 ∷ mark_at 160 4 ∷ mark_at 161 6 ∷ mark_at 134 8 ∷ mark_at 135 9
+    ∷ mark_at 136 10 ∷ mark_at 137 13 ∷ mark_at 138 14 ∷ mark_at 139 17 ∷ mark_at 140 18 ∷ mark_at 141 18
+    ∷ mark_at 142 19 ∷ mark_at 144 19 ∷ mark_at 145 19 ∷ mark_at 143 20 ∷ mark_at 146 21 ∷ mark_at 128 23
+    ∷ mark_at 147 23 ∷ mark_at 129 24 ∷ mark_at 148 25 ∷ mark_at 130 26 ∷ mark_at 131 27 ∷ mark_at 149 27
+    ∷ mark_at 150 29 ∷ mark_at 151 31 ∷ mark_at 152 33 ∷ mark_at 153 35 ∷ mark_at 154 38 ∷ mark_at 155 41
+    ∷ mark_at 156 44 ∷ mark_at 157 45 ∷ mark_at 256 46 ∷ mark_at 257 49 ∷ mark_at 258 53 ∷ mark_at 512 57 ∷ []
 
 abbrev kept_exchanges : List (ℕ × ℕ)
 kept_exchanges =
-    (7, 31) ∷ (6, 30) ∷ (7, 29) ∷ (6, 28) ∷ (7, 27) ∷ (6, 26) ∷ (7, 25) ∷ (6, 24) ∷ (7, 23) ∷ (6, 22)
-    ∷ (7, 21) ∷ (6, 20) ∷ (7, 19) ∷ (6, 18) ∷ (6, 17) ∷ (6, 16) ∷ (7, 15) ∷ (6, 14) ∷ (7, 13) ∷ (6, 12)
-    ∷ (7, 11) ∷ (6, 10) ∷ (7, 9) ∷ (6, 8) ∷ (2, 4) ∷ (2, 3) ∷ []
+    (30, 31) ∷ (29, 30) ∷ (28, 31) ∷ (27, 30) ∷ (26, 31) ∷ (25, 30) ∷ (24, 31) ∷ (23, 30) ∷ (22, 31) ∷ (21, 30)
+    ∷ (18, 19) ∷ (16, 18) ∷ (14, 17) ∷ (13, 16) ∷ (12, 14) ∷ (11, 13) ∷ (10, 12) ∷ (9, 11) ∷ (8, 10) ∷ (7, 9)
+    ∷ (6, 8) ∷ (5, 7) ∷ (4, 6) ∷ (3, 31) ∷ (2, 30) ∷ (1, 5) ∷ (0, 4) ∷ []
 
 abbrev are_below : ℕ → List (ℕ × ℕ) → Bool
 are_below n [] = true
@@ -96,19 +143,19 @@ from_rises from (first ∷ marks) rise (suc i) (suc j) d le inside =
 
 -- ---- the song's bytes and marks
 
-pub plain_bytes_are : (packed : PackedSong) → IsSmallSong packed → data_bytes false packed 0x1F0B ≡ plain_bytes
+pub plain_bytes_are : (packed : PackedSong) → IsSmallSong packed → data_bytes false packed 0x1FCD ≡ plain_bytes
+unfolding frequency_lows frequency_highs freq
 plain_bytes_are packed is =
-    rw (is.subtunes, is.patterns, is.instruments, is.wave, is.pulse, is.filter, is.speed) refl
+    rw (is.subtunes, is.patterns, is.instruments, is.wave, is.pulse, is.filter, is.speed, is.numbers) refl
 
 pub plain_marks_are : (packed : PackedSong) → IsSmallSong packed → data_marks false packed ≡ plain_marks
 plain_marks_are packed is =
-    rw (is.subtunes, is.patterns, is.instruments, is.wave, is.pulse, is.filter, is.speed) refl
+    rw (is.subtunes, is.patterns, is.instruments, is.wave, is.pulse, is.filter, is.speed, is.numbers) refl
 
 plain_lines_are : plain_lines ≡ marked 0 plain_sorted plain_bytes
-unfolding frequency_lows frequency_highs
 plain_lines_are = refl
 
-plain_has_lines : (packed : PackedSong) → IsSmallSong packed → HasLines false packed 0x1F0B plain_lines
+plain_has_lines : (packed : PackedSong) → IsSmallSong packed → HasLines false packed 0x1FCD plain_lines
 plain_has_lines packed is = record {
   marks = plain_sorted;
   same = subst (λ (marks : List Mark). IsPermutation marks plain_sorted) (sym (plain_marks_are packed is))
@@ -118,19 +165,19 @@ plain_has_lines packed is = record {
       plain_lines_are;
 }
 
-pub kept_bytes_are : (packed : PackedSong) → IsSmallSong packed → data_bytes true packed 0x1F05 ≡ kept_bytes
+pub kept_bytes_are : (packed : PackedSong) → IsSmallSong packed → data_bytes true packed 0x1FC7 ≡ kept_bytes
+unfolding frequency_lows frequency_highs freq
 kept_bytes_are packed is =
-    rw (is.subtunes, is.patterns, is.instruments, is.wave, is.pulse, is.filter, is.speed) refl
+    rw (is.subtunes, is.patterns, is.instruments, is.wave, is.pulse, is.filter, is.speed, is.numbers) refl
 
 pub kept_marks_are : (packed : PackedSong) → IsSmallSong packed → data_marks true packed ≡ kept_marks
 kept_marks_are packed is =
-    rw (is.subtunes, is.patterns, is.instruments, is.wave, is.pulse, is.filter, is.speed) refl
+    rw (is.subtunes, is.patterns, is.instruments, is.wave, is.pulse, is.filter, is.speed, is.numbers) refl
 
 kept_lines_are : kept_lines ≡ marked 0 kept_sorted kept_bytes
-unfolding frequency_lows frequency_highs
 kept_lines_are = refl
 
-kept_has_lines : (packed : PackedSong) → IsSmallSong packed → HasLines true packed 0x1F05 kept_lines
+kept_has_lines : (packed : PackedSong) → IsSmallSong packed → HasLines true packed 0x1FC7 kept_lines
 kept_has_lines packed is = record {
   marks = kept_sorted;
   same = subst (λ (marks : List Mark). IsPermutation marks kept_sorted) (sym (kept_marks_are packed is))

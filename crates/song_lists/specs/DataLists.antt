@@ -1,9 +1,9 @@
--- The bytes behind the player's code, and the labels in them: the frequencies of notes and the lists of a packed song,
--- one behind the other. Where the player keeps calculated speeds (`dependent`), there are three lists more. This is the
--- project's own player.
+-- The bytes behind the player's code, and the labels in them: the lists of a packed song, one behind the other, and
+-- behind them the frequencies of the numbers that it asks for. Where the player keeps calculated speeds (`dependent`),
+-- there are three lists more. This is the project's own player.
 use Rattle.std.specs.Prelude.{◌≡◌, ℕ, ◌+◌, ◌-◌, ◌*◌, ◌/◌, ◌%◌, ◌<◌, Bool, List, []}
 use Rattle.std.specs.Prelude.{if◌then◌else◌, ◌∷◌, ◌++◌}
-use Rattle.std.specs.Prelude.{length, map, Contains, IsPermutation, slice_index}
+use Rattle.std.specs.Prelude.{length, map, max, Contains, IsPermutation, slice_index}
 use Rattle.std.specs.List.{concat, flat_map, range_with_len}
 use Rattle.std.specs.List.Sorted.{IsNonDecreasingBy}
 use Rattle.song_model.specs.declared.tables.TableRow.{TableRow}
@@ -21,18 +21,20 @@ use Rattle.player_memory.specs.declared.labels.TheConstants.{ORDERS, PATTERNS}
 use Rattle.player_memory.specs.Forms.{stored}
 use Rattle.player_memory.specs.SongLists.{SongList, FrequencyLows, FrequencyHighs, Lefts, Rights, Periods, Instruments}
 use Rattle.player_memory.specs.SongLists.{OrderLows, OrderHighs, PatternLows, PatternHighs, OrderBytes, PatternBytes}
-use Rattle.player_memory.specs.SongLists.{frequencies, slide_rows, instrument_byte, list_label}
+use Rattle.player_memory.specs.SongLists.{first_listed, frequencies_listed, slide_rows, instrument_byte, list_label}
 use Rattle.song_lists.specs.declared.marks.Mark.{Mark}
 use Rattle.song_lists.specs.Marks.{mark_at, marked}
 
 -- ---- lists of bytes
 
--- the low bytes and the high bytes of the frequencies of the notes 0 to 97
-unfoldable pub frequency_lows : List ℕ
-frequency_lows = map (λ note. freq note % 256) (range_with_len 0 frequencies)
+-- the low bytes and the high bytes of the frequencies of the numbers that are listed
+unfoldable pub frequency_lows : PackedSong → List ℕ
+frequency_lows packed =
+    map (λ n. freq n % 256) (range_with_len (first_listed packed) (frequencies_listed packed))
 
-unfoldable pub frequency_highs : List ℕ
-frequency_highs = map (λ note. freq note / 256) (range_with_len 0 frequencies)
+unfoldable pub frequency_highs : PackedSong → List ℕ
+frequency_highs packed =
+    map (λ n. freq n / 256) (range_with_len (first_listed packed) (frequencies_listed packed))
 
 -- the sides of a table's rows; the rows of the wave table are stored in a form of their own
 abbrev pub lefts : List TableRow → List ℕ
@@ -77,30 +79,30 @@ highs start back places = map (λ place. (start + place - back) / 256) places
 
 -- ---- places, counted from the first byte on
 
--- Row 0 of a side of the speed table is the byte before it, the last one of a list of frequencies, which is a 0.
+-- the sides of the speed table stand first, the right one before the left one, each with a 0 for row 0
 abbrev pub speed_rights_place : PackedSong → ℕ
-speed_rights_place packed = 97
+speed_rights_place packed = 0
 
 abbrev pub speed_lefts_place : PackedSong → ℕ
-speed_lefts_place packed = 195 + length packed.speed
+speed_lefts_place packed = 1 + length packed.speed
 
 -- The lists for calculated speeds stand behind the speed table where they are there. Where they aren't, their
 -- labels are those of its sides.
 abbrev pub slides_low_place : Bool → PackedSong → ℕ
-slides_low_place dependent packed = if dependent then 196 + 2 * length packed.speed else speed_rights_place packed
+slides_low_place dependent packed = if dependent then 2 + 2 * length packed.speed else speed_rights_place packed
 
 abbrev pub slides_high_place : Bool → PackedSong → ℕ
 slides_high_place dependent packed =
-    if dependent then 196 + 2 * length packed.speed + slide_rows packed else speed_lefts_place packed
+    if dependent then 2 + 2 * length packed.speed + slide_rows packed else speed_lefts_place packed
 
 abbrev pub periods_place : Bool → PackedSong → ℕ
 periods_place dependent packed =
-    if dependent then 196 + 2 * length packed.speed + 2 * slide_rows packed else speed_lefts_place packed
+    if dependent then 2 + 2 * length packed.speed + 2 * slide_rows packed else speed_lefts_place packed
 
 -- the sides of the wave, the pulse and the filter table stand behind these, the left ones before the right ones; their
 -- labels name the byte before
 abbrev pub wave_place : Bool → PackedSong → ℕ
-wave_place dependent packed = 195 + 2 * length packed.speed + 3 * kept_rows dependent packed
+wave_place dependent packed = 1 + 2 * length packed.speed + 3 * kept_rows dependent packed
 
 abbrev pub pulse_place : Bool → PackedSong → ℕ
 pulse_place dependent packed = wave_place dependent packed + 2 * length packed.wave
@@ -123,6 +125,14 @@ orders_place dependent packed =
 abbrev pub patterns_place : Bool → PackedSong → ℕ
 patterns_place dependent packed = orders_place dependent packed + length (concat (all_orders packed))
 
+-- The frequencies stand behind the patterns. Their labels name the byte that number 0 would have, as many bytes in front
+-- of the first one as there are numbers below it; and where there is none, some byte in front of them.
+abbrev pub frequencies_place : Bool → PackedSong → ℕ
+frequencies_place dependent packed = patterns_place dependent packed + length (concat packed.patterns)
+
+abbrev pub bytes_back : PackedSong → ℕ
+bytes_back packed = max (first_listed packed) (1 - frequencies_listed packed)
+
 -- where lists stand, one behind the other
 abbrev pub places_from : ℕ → List (List ℕ) → List ℕ
 places_from place [] = []
@@ -141,9 +151,9 @@ AreFirstOrders dependent packed start orders =
 
 -- ---- the bytes, where the first one is to stand at `start`
 
--- the frequencies, with the sides of the speed table behind the zeros at their ends
-abbrev pub frequency_lists : PackedSong → List (List ℕ)
-frequency_lists packed = frequency_lows ∷ rights packed.speed ∷ frequency_highs ∷ lefts packed.speed ∷ []
+-- the sides of the speed table from row 0 on
+abbrev pub speed_lists : PackedSong → List (List ℕ)
+speed_lists packed = (0 ∷ rights packed.speed) ∷ (0 ∷ lefts packed.speed) ∷ []
 
 -- the slides begin as the sides of the speed table
 abbrev pub kept_lists : Bool → PackedSong → List (List ℕ)
@@ -165,18 +175,22 @@ address_lists dependent packed start =
     lows start 0 (order_places dependent packed) ∷ highs start 0 (order_places dependent packed)
     ∷ lows start 1 (pattern_places dependent packed) ∷ highs start 1 (pattern_places dependent packed) ∷ []
 
+abbrev pub frequency_lists : PackedSong → List (List ℕ)
+frequency_lists packed = frequency_lows packed ∷ frequency_highs packed ∷ []
+
 abbrev pub data_bytes : Bool → PackedSong → ℕ → List ℕ
 data_bytes dependent packed start = concat
-    (frequency_lists packed ++ (kept_lists dependent packed ++ (table_lists packed ++ (instrument_lists packed
-    ++ (address_lists dependent packed start ++ (all_orders packed ++ packed.patterns))))))
+    (speed_lists packed ++ (kept_lists dependent packed ++ (table_lists packed ++ (instrument_lists packed
+    ++ (address_lists dependent packed start ++ (all_orders packed ++ (packed.patterns ++ frequency_lists packed)))))))
 
 -- ---- the labels
 
 -- where a list's label is: in front of the byte with number 0
 abbrev pub label_place : Bool → PackedSong → SongList → ℕ
-label_place dependent packed FrequencyLows = 0
+label_place dependent packed FrequencyLows = frequencies_place dependent packed - bytes_back packed
 label_place dependent packed (Rights Speed) = speed_rights_place packed
-label_place dependent packed FrequencyHighs = 98 + length packed.speed
+label_place dependent packed FrequencyHighs =
+    frequencies_place dependent packed + frequencies_listed packed - bytes_back packed
 label_place dependent packed (Lefts Speed) = speed_lefts_place packed
 label_place dependent packed Periods = periods_place dependent packed
 label_place dependent packed (Lefts Wave) = wave_place dependent packed
@@ -212,8 +226,11 @@ marks_from label (place ∷ places) = mark_at label place ∷ marks_from (label 
 abbrev pub frequency_marks : Bool → PackedSong → List Mark
 frequency_marks dependent packed =
     own_mark dependent packed FrequencyLows ∷ next_mark dependent packed NEXT_FREQUENCY_LOWS FrequencyLows
-    ∷ own_mark dependent packed FrequencyHighs ∷ next_mark dependent packed NEXT_FREQUENCY_HIGHS FrequencyHighs
-    ∷ own_mark dependent packed (Rights Speed) ∷ own_mark dependent packed (Lefts Speed)
+    ∷ own_mark dependent packed FrequencyHighs ∷ next_mark dependent packed NEXT_FREQUENCY_HIGHS FrequencyHighs ∷ []
+
+abbrev pub speed_marks : Bool → PackedSong → List Mark
+speed_marks dependent packed =
+    own_mark dependent packed (Rights Speed) ∷ own_mark dependent packed (Lefts Speed)
     ∷ own_mark dependent packed Periods ∷ []
 
 abbrev pub wave_marks : Bool → PackedSong → List Mark
@@ -247,9 +264,9 @@ slide_marks dependent packed =
 
 abbrev pub list_marks : Bool → PackedSong → List Mark
 list_marks dependent packed =
-    frequency_marks dependent packed ++ (wave_marks dependent packed ++ (pulse_marks dependent packed
-    ++ (filter_marks dependent packed ++ (instrument_marks dependent packed
-    ++ (address_marks dependent packed ++ slide_marks dependent packed)))))
+    frequency_marks dependent packed ++ (speed_marks dependent packed ++ (wave_marks dependent packed
+    ++ (pulse_marks dependent packed ++ (filter_marks dependent packed ++ (instrument_marks dependent packed
+    ++ (address_marks dependent packed ++ slide_marks dependent packed))))))
 
 -- and with those of its orderlists and patterns
 abbrev pub data_marks : Bool → PackedSong → List Mark

@@ -18,7 +18,7 @@ use Rattle.player_memory.specs.Rooms.{AreSlides}
 use Rattle.player_memory.specs.Playing.{place_in}
 use Rattle.player_memory.specs.Fetching.{place_before}
 use Rattle.player_memory.specs.SongLists.{SongList, IsSongList, HasNumber, SlidesStand, HasSongLists}
-use Rattle.player_memory.specs.SongLists.{list_label, list_byte, slide_rows}
+use Rattle.player_memory.specs.SongLists.{frequencies_listed, list_label, list_byte, slide_rows}
 use Rattle.player_memory.specs.Holds.{AreNext, PatternStands}
 use Rattle.song_lists.specs.declared.marks.Mark.{Mark}
 use Rattle.song_lists.specs.DataLists.{kept_rows, data_bytes, data_marks, HasLines, IsDataLayout}
@@ -30,9 +30,11 @@ pub record KeepsCounts (packed : PackedSong) : Type 0 where
 
 -- ---- sizes
 
--- 196 bytes of frequencies, those of the packed song, and three lists of slides and periods where they are kept
+-- two zeros, the bytes of the packed song, three lists of slides and periods where they are kept, and two bytes of each
+-- frequency that is listed
 abbrev pub lists_size : Bool → PackedSong → ℕ
-lists_size dependent packed = 196 + packed_song_size packed + 3 * kept_rows dependent packed
+lists_size dependent packed =
+    2 + packed_song_size packed + 3 * kept_rows dependent packed + 2 * frequencies_listed packed
 
 abbrev pub DataTakesSize : Type 0
 DataTakesSize =

@@ -32,28 +32,28 @@ use Rattle.song_lists.specs.WorkedLists.{IsSmallSong, small_subtune, plain_bytes
 -- without calculated speeds
 abbrev pub plain_marks : List Mark
 plain_marks =
-    mark_at FREQUENCY_LOWS 0 ∷ mark_at NEXT_FREQUENCY_LOWS 1 ∷ mark_at FREQUENCY_HIGHS 99
-    ∷ mark_at NEXT_FREQUENCY_HIGHS 100 ∷ mark_at SPEED_RIGHTS 97 ∷ mark_at SPEED_LEFTS 196 ∷ mark_at PERIODS 196
-    ∷ mark_at WAVE_LEFTS 197 ∷ mark_at NEXT_WAVE_LEFTS 198 ∷ mark_at WAVE_RIGHTS 201 ∷ mark_at NEXT_WAVE_RIGHTS 202
-    ∷ mark_at PULSE_LEFTS 205 ∷ mark_at NEXT_PULSE_LEFTS 206 ∷ mark_at PULSE_RIGHTS 206 ∷ mark_at FILTER_LEFTS 207
-    ∷ mark_at NEXT_FILTER_LEFTS 208 ∷ mark_at FILTER_RIGHTS 207 ∷ mark_at ADS 207 ∷ mark_at SRS 209
-    ∷ mark_at WAVES 211 ∷ mark_at PULSES 213 ∷ mark_at FILTERS 215 ∷ mark_at VIBRATOS 217 ∷ mark_at DELAYS 219
-    ∷ mark_at GATE_TIMERS 221 ∷ mark_at FIRST_WAVES 223 ∷ mark_at ORDERS_LOW 226 ∷ mark_at ORDERS_HIGH 229
-    ∷ mark_at PATTERNS_LOW 232 ∷ mark_at PATTERNS_HIGH 233 ∷ mark_at SLIDES_LOW 97 ∷ mark_at SLIDES_HIGH 196
-    ∷ mark_at ORDERS 234 ∷ mark_at (ORDERS + 1) 237 ∷ mark_at (ORDERS + 2) 241 ∷ mark_at PATTERNS 245 ∷ []
+    mark_at FREQUENCY_LOWS 17 ∷ mark_at NEXT_FREQUENCY_LOWS 18 ∷ mark_at FREQUENCY_HIGHS 20
+    ∷ mark_at NEXT_FREQUENCY_HIGHS 21 ∷ mark_at SPEED_RIGHTS 0 ∷ mark_at SPEED_LEFTS 2 ∷ mark_at PERIODS 2
+    ∷ mark_at WAVE_LEFTS 3 ∷ mark_at NEXT_WAVE_LEFTS 4 ∷ mark_at WAVE_RIGHTS 7 ∷ mark_at NEXT_WAVE_RIGHTS 8
+    ∷ mark_at PULSE_LEFTS 11 ∷ mark_at NEXT_PULSE_LEFTS 12 ∷ mark_at PULSE_RIGHTS 12 ∷ mark_at FILTER_LEFTS 13
+    ∷ mark_at NEXT_FILTER_LEFTS 14 ∷ mark_at FILTER_RIGHTS 13 ∷ mark_at ADS 13 ∷ mark_at SRS 15
+    ∷ mark_at WAVES 17 ∷ mark_at PULSES 19 ∷ mark_at FILTERS 21 ∷ mark_at VIBRATOS 23 ∷ mark_at DELAYS 25
+    ∷ mark_at GATE_TIMERS 27 ∷ mark_at FIRST_WAVES 29 ∷ mark_at ORDERS_LOW 32 ∷ mark_at ORDERS_HIGH 35
+    ∷ mark_at PATTERNS_LOW 38 ∷ mark_at PATTERNS_HIGH 39 ∷ mark_at SLIDES_LOW 0 ∷ mark_at SLIDES_HIGH 2
+    ∷ mark_at ORDERS 40 ∷ mark_at (ORDERS + 1) 43 ∷ mark_at (ORDERS + 2) 47 ∷ mark_at PATTERNS 51 ∷ []
 
 -- with them
 abbrev pub kept_marks : List Mark
 kept_marks =
-    mark_at FREQUENCY_LOWS 0 ∷ mark_at NEXT_FREQUENCY_LOWS 1 ∷ mark_at FREQUENCY_HIGHS 99
-    ∷ mark_at NEXT_FREQUENCY_HIGHS 100 ∷ mark_at SPEED_RIGHTS 97 ∷ mark_at SPEED_LEFTS 196 ∷ mark_at PERIODS 202
-    ∷ mark_at WAVE_LEFTS 203 ∷ mark_at NEXT_WAVE_LEFTS 204 ∷ mark_at WAVE_RIGHTS 207 ∷ mark_at NEXT_WAVE_RIGHTS 208
-    ∷ mark_at PULSE_LEFTS 211 ∷ mark_at NEXT_PULSE_LEFTS 212 ∷ mark_at PULSE_RIGHTS 212 ∷ mark_at FILTER_LEFTS 213
-    ∷ mark_at NEXT_FILTER_LEFTS 214 ∷ mark_at FILTER_RIGHTS 213 ∷ mark_at ADS 213 ∷ mark_at SRS 215
-    ∷ mark_at WAVES 217 ∷ mark_at PULSES 219 ∷ mark_at FILTERS 221 ∷ mark_at VIBRATOS 223 ∷ mark_at DELAYS 225
-    ∷ mark_at GATE_TIMERS 227 ∷ mark_at FIRST_WAVES 229 ∷ mark_at ORDERS_LOW 232 ∷ mark_at ORDERS_HIGH 235
-    ∷ mark_at PATTERNS_LOW 238 ∷ mark_at PATTERNS_HIGH 239 ∷ mark_at SLIDES_LOW 198 ∷ mark_at SLIDES_HIGH 200
-    ∷ mark_at ORDERS 240 ∷ mark_at (ORDERS + 1) 243 ∷ mark_at (ORDERS + 2) 247 ∷ mark_at PATTERNS 251 ∷ []
+    mark_at FREQUENCY_LOWS 23 ∷ mark_at NEXT_FREQUENCY_LOWS 24 ∷ mark_at FREQUENCY_HIGHS 26
+    ∷ mark_at NEXT_FREQUENCY_HIGHS 27 ∷ mark_at SPEED_RIGHTS 0 ∷ mark_at SPEED_LEFTS 2 ∷ mark_at PERIODS 8
+    ∷ mark_at WAVE_LEFTS 9 ∷ mark_at NEXT_WAVE_LEFTS 10 ∷ mark_at WAVE_RIGHTS 13 ∷ mark_at NEXT_WAVE_RIGHTS 14
+    ∷ mark_at PULSE_LEFTS 17 ∷ mark_at NEXT_PULSE_LEFTS 18 ∷ mark_at PULSE_RIGHTS 18 ∷ mark_at FILTER_LEFTS 19
+    ∷ mark_at NEXT_FILTER_LEFTS 20 ∷ mark_at FILTER_RIGHTS 19 ∷ mark_at ADS 19 ∷ mark_at SRS 21
+    ∷ mark_at WAVES 23 ∷ mark_at PULSES 25 ∷ mark_at FILTERS 27 ∷ mark_at VIBRATOS 29 ∷ mark_at DELAYS 31
+    ∷ mark_at GATE_TIMERS 33 ∷ mark_at FIRST_WAVES 35 ∷ mark_at ORDERS_LOW 38 ∷ mark_at ORDERS_HIGH 41
+    ∷ mark_at PATTERNS_LOW 44 ∷ mark_at PATTERNS_HIGH 45 ∷ mark_at SLIDES_LOW 4 ∷ mark_at SLIDES_HIGH 6
+    ∷ mark_at ORDERS 46 ∷ mark_at (ORDERS + 1) 49 ∷ mark_at (ORDERS + 2) 53 ∷ mark_at PATTERNS 57 ∷ []
 
 -- ---- layouts
 
@@ -72,10 +72,10 @@ laid_out dependent start marks = record {
 }
 
 abbrev pub plain_layout : Layout
-plain_layout = laid_out false 0x1F0B plain_marks
+plain_layout = laid_out false 0x1FCD plain_marks
 
 abbrev pub kept_layout : Layout
-kept_layout = laid_out true 0x1F05 kept_marks
+kept_layout = laid_out true 0x1FC7 kept_marks
 
 -- the same with a label elsewhere
 abbrev pub with_label : ℕ → ℕ → Layout → Layout
@@ -92,16 +92,16 @@ abbrev pub with_byte : ℕ → ℕ → (ℕ → ℕ) → ℕ → ℕ
 with_byte place byte at other = if other == place then byte else at other
 
 abbrev pub plain_memory : ℕ → ℕ
-plain_memory = standing 0x1F0B plain_bytes
+plain_memory = standing 0x1FCD plain_bytes
 
 abbrev pub kept_memory : ℕ → ℕ
-kept_memory = standing 0x1F05 kept_bytes
+kept_memory = standing 0x1FC7 kept_bytes
 
 pub record SmallLayoutsAreWorked (packed : PackedSong) : Type 0 where
   pub plain_marks_are : data_marks false packed ≡ plain_marks
   pub kept_marks_are : data_marks true packed ≡ kept_marks
-  pub plain : IsListRoom plain_layout packed 0x1F0B
-  pub kept : IsListRoom kept_layout packed 0x1F05
+  pub plain : IsListRoom plain_layout packed 0x1FCD
+  pub kept : IsListRoom kept_layout packed 0x1FC7
   pub plain_laid : AreLaid plain_layout packed
   pub kept_laid : AreLaid kept_layout packed
   pub plain_lists : HasSongLists plain_layout packed plain_memory
@@ -111,30 +111,33 @@ abbrev pub SmallLayoutsAre : Type 0
 SmallLayoutsAre = (packed : PackedSong) → IsSmallSong packed → SmallLayoutsAreWorked packed
 
 pub record OtherLayoutsAreNot (packed : PackedSong) : Type 0 where
-  -- a label elsewhere, other lists, another place
-  pub label : ¬ IsListRoom (with_label SLIDES_LOW 0x2000 plain_layout) packed 0x1F0B
-  pub text : ¬ IsListRoom (with_label PATTERNS 0x2001 plain_layout) packed 0x1F0B
-  pub lists : ¬ IsListRoom (laid_out true 0x1F0B plain_marks) packed 0x1F0B
-  pub place : ¬ IsListRoom plain_layout packed 0x1F0C
+  -- a label elsewhere, that of frequencies in front of their first byte; other lists, another place
+  pub label : ¬ IsListRoom (with_label SLIDES_LOW 0x2000 plain_layout) packed 0x1FCD
+  pub text : ¬ IsListRoom (with_label PATTERNS 0x2001 plain_layout) packed 0x1FCD
+  pub frequencies : ¬ IsListRoom (with_label FREQUENCY_LOWS 0x2002 plain_layout) packed 0x1FCD
+  pub lists : ¬ IsListRoom (laid_out true 0x1FCD plain_marks) packed 0x1FCD
+  pub place : ¬ IsListRoom plain_layout packed 0x1FCE
   -- too low, too high
   pub low : ¬ IsListRoom (laid_out false 0x07FF plain_marks) packed 0x07FF
-  pub high : ¬ IsListRoom (laid_out false 0xCF0A plain_marks) packed 0xCF0A
+  pub high : ¬ IsListRoom (laid_out false 0xCFC6 plain_marks) packed 0xCFC6
   -- variables among them, a pointer elsewhere, and a byte that may not be read
-  pub variables : ¬ IsListRoom (with_label 0 0x2001 plain_layout) packed 0x1F0B
-  pub pointer : ¬ IsListRoom (record plain_layout { pointer = 255 }) packed 0x1F0B
-  pub unread : ¬ IsListRoom (record plain_layout { may_read = λ place. not (place == 0x2001) }) packed 0x1F0B
-  -- a period with bit 7, a slide of row 0, the pattern's last byte, and no lists of calculated speeds
+  pub variables : ¬ IsListRoom (with_label 0 0x2001 plain_layout) packed 0x1FCD
+  pub pointer : ¬ IsListRoom (record plain_layout { pointer = 255 }) packed 0x1FCD
+  pub unread : ¬ IsListRoom (record plain_layout { may_read = λ place. not (place == 0x2007) }) packed 0x1FCD
+  -- a period with bit 7, a slide of row 0, the pattern's last byte, the last frequency's, and no lists of calculated
+  -- speeds
   pub period : ¬ HasSongLists kept_layout packed (with_byte 0x1FD0 0x83 kept_memory)
   pub slide : ¬ HasSongLists kept_layout packed (with_byte 0x1FCB 0x01 kept_memory)
   pub last : ¬ HasSongLists plain_layout packed (with_byte 0x2001 0x01 plain_memory)
-  pub shorter : ¬ HasSongLists kept_layout packed (standing 0x1F05 plain_bytes)
+  pub frequency : ¬ HasSongLists plain_layout packed (with_byte 0x2007 0x08 plain_memory)
+  pub shorter : ¬ HasSongLists kept_layout packed (standing 0x1FC7 plain_bytes)
 
 -- what lists decide of a layout: a byte that isn't the next one, slides in one place, a list too low, an orderlist
 -- behind the end of memory, and a pattern at place 0
 pub record OthersAreNotLaid (packed : PackedSong) : Type 0 where
   pub next : ¬ AreLaid (with_label NEXT_WAVE_LEFTS 0x2000 kept_layout) packed
   pub slides : ¬ AreLaid (with_label SLIDES_HIGH 0x1FCB kept_layout) packed
-  pub low : ¬ AreLaid (with_label FREQUENCY_LOWS 0x07FF kept_layout) packed
+  pub low : ¬ AreLaid (with_label FREQUENCY_LOWS 0x07DB kept_layout) packed
   pub order : ¬ AreLaid (with_label ORDERS 0x10000 kept_layout) packed
   pub pattern : ¬ AreLaid (with_label PATTERNS 0 kept_layout) packed
 
@@ -147,10 +150,10 @@ OtherLayoutsAre =
 
 -- places in front of the bytes and behind them, and those of slides
 pub record PlacesAreWorked (packed : PackedSong) : Type 0 where
-  pub first : IsInside kept_layout packed 0x1F05 0x1F05
-  pub last : IsInside kept_layout packed 0x1F05 0x2001
-  pub front : ¬ IsInside kept_layout packed 0x1F05 0x1F04
-  pub behind : ¬ IsInside kept_layout packed 0x1F05 0x2002
+  pub first : IsInside kept_layout packed 0x1FC7 0x1FC7
+  pub last : IsInside kept_layout packed 0x1FC7 0x2007
+  pub front : ¬ IsInside kept_layout packed 0x1FC7 0x1FC6
+  pub behind : ¬ IsInside kept_layout packed 0x1FC7 0x2008
   pub speed : IsBesideSlides kept_layout packed 0x1FCA
   pub period : IsBesideSlides kept_layout packed 0x1FCF
   pub slide_low : ¬ IsBesideSlides kept_layout packed 0x1FCB

@@ -1,6 +1,6 @@
 -- The listing of a small song's lists, worked out by hand, without calculated speeds and with them; and such as aren't.
-use Rattle.std.specs.Prelude.{◌≡◌, ℕ, ◌+◌, List, [], ◌∷◌, ◌++◌, take, drop, slice_index}
-use Rattle.std.specs.Prelude.{true, false}
+use Rattle.std.specs.Prelude.{◌≡◌, ℕ, ◌+◌, List, [], ◌∷◌, drop, true, false}
+use Rattle.asked_numbers.specs.declared.range.NumberRange.{NumberRange}
 use Rattle.packed_form.specs.declared.packed_songs.PackedSubtune.{PackedSubtune}
 use Rattle.packed_form.specs.declared.packed_songs.PackedInstrument.{PackedInstrument}
 use Rattle.packed_form.specs.declared.packed_songs.PackedSong.{PackedSong}
@@ -15,15 +15,10 @@ use Rattle.player_memory.specs.declared.labels.TheConstants.{NEXT_FILTER_LEFTS, 
 use Rattle.player_memory.specs.declared.labels.TheConstants.{FILTERS, VIBRATOS, DELAYS, GATE_TIMERS, FIRST_WAVES}
 use Rattle.player_memory.specs.declared.labels.TheConstants.{ORDERS_LOW, ORDERS_HIGH, PATTERNS_LOW, PATTERNS_HIGH}
 use Rattle.player_memory.specs.declared.labels.TheConstants.{ORDERS, PATTERNS}
+use Rattle.player_memory.specs.SongLists.{FrequencyLows, FrequencyHighs, first_listed, frequencies_listed}
 use Rattle.song_lists.specs.Marks.{label_line, bytes_line}
-use Rattle.song_lists.specs.DataLists.{frequency_lows, frequency_highs, data_bytes, AreFirstOrders, HasLines}
-
--- A-4 is 0x1D46; above B-7 there are two zeros
-pub record FrequenciesAreWorked : Type 0 where
-  pub low : slice_index frequency_lows 57 ≡ 0x46
-  pub high : slice_index frequency_highs 57 ≡ 0x1D
-  pub low_zeros : drop 96 frequency_lows ≡ 0 ∷ 0 ∷ []
-  pub high_zeros : drop 96 frequency_highs ≡ 0 ∷ 0 ∷ []
+use Rattle.song_lists.specs.DataLists.{frequency_lows, frequency_highs, label_place, data_bytes, AreFirstOrders, HasLines}
+use Rattle.song_lists.specs.ListLaws.{lists_size}
 
 -- ---- a small song
 
@@ -46,8 +41,8 @@ abbrev pub row : ℕ → ℕ → TableRow
 row left right = record { left = left; right = right }
 
 -- a wave program of a delay, a silent waveform, a command and a jump; a row of the pulse table; none of the filter
--- table; a speed that is calculated from notes
-pub record IsSmallSong (packed : PackedSong) : Type 0 where
+-- table; a speed that is calculated from notes; and it asks for these numbers
+pub record IsSmallSongWith (range : NumberRange) (packed : PackedSong) : Type 0 where
   pub subtunes : packed.subtunes ≡ small_subtune ∷ []
   pub patterns : packed.patterns ≡ (0xC0 ∷ 0x00 ∷ []) ∷ []
   pub instruments : packed.instruments ≡ plain_instrument ∷ vibrato_instrument ∷ []
@@ -55,12 +50,20 @@ pub record IsSmallSong (packed : PackedSong) : Type 0 where
   pub pulse : packed.pulse ≡ row 0x88 0x00 ∷ []
   pub filter : packed.filter ≡ []
   pub speed : packed.speed ≡ row 0x83 0x20 ∷ []
+  pub numbers : packed.numbers ≡ range
+
+abbrev pub from : ℕ → ℕ → NumberRange
+from first count = record { first = first; count = count }
+
+-- C-3, $08B4, and the two above it, $0938 and $09C4
+abbrev pub IsSmallSong : PackedSong → Type 0
+IsSmallSong packed = IsSmallSongWith (from 36 3) packed
 
 -- ---- its bytes
 
 -- behind the speed table, and what is kept there: the wave table in its form, the pulse table, the instruments with
 -- delays less one, the addresses of the orderlists, which stand at $1FF5, $1FF8 and $1FFC, and the place before the
--- pattern, which stands at $2000
+-- pattern, which stands at $2000; they themselves; and the frequencies
 abbrev pub last_bytes : List ℕ
 last_bytes =
     0xE2 ∷ 0x01 ∷ 0xF1 ∷ 0xFF
@@ -75,27 +78,34 @@ last_bytes =
     ∷ 0x00 ∷ 0xFF ∷ 0x00
     ∷ 0xF2 ∷ 0x00 ∷ 0xFF ∷ 0x01
     ∷ 0xD1 ∷ 0x00 ∷ 0xFF ∷ 0x00
-    ∷ 0xC0 ∷ 0x00 ∷ []
+    ∷ 0xC0 ∷ 0x00
+    ∷ 0xB4 ∷ 0x38 ∷ 0xC4
+    ∷ 0x08 ∷ 0x09 ∷ 0x09 ∷ []
 
--- without calculated speeds, from $1F0B on
+-- without calculated speeds, from $1FCD on
 abbrev pub plain_bytes : List ℕ
-plain_bytes = frequency_lows ++ (0x20 ∷ (frequency_highs ++ (0x83 ∷ last_bytes)))
+plain_bytes = 0x00 ∷ 0x20 ∷ 0x00 ∷ 0x83 ∷ last_bytes
 
--- with them, from $1F05 on, so that the orderlists and the pattern stand at the same addresses
+-- with them, from $1FC7 on, so that the orderlists and the pattern stand at the same addresses
 abbrev pub kept_bytes : List ℕ
 kept_bytes =
-    frequency_lows ++ (0x20 ∷ (frequency_highs ++ (0x83
+    0x00 ∷ 0x20 ∷ 0x00 ∷ 0x83
     ∷ 0x00 ∷ 0x20
     ∷ 0x00 ∷ 0x83
     ∷ 0x00 ∷ 0x03
-    ∷ last_bytes)))
+    ∷ last_bytes
 
 -- ---- its lines
 
+-- the frequencies' bytes
+abbrev pub frequency_bytes : List ℕ
+frequency_bytes = 0xB4 ∷ 0x38 ∷ 0xC4 ∷ 0x08 ∷ 0x09 ∷ 0x09 ∷ []
+
 -- from the first left side of the wave table on, where a delay of two frames stands as this byte, the delay of no
--- vibrato as this one, and this is the low byte for the pattern
-abbrev pub last_lines_with : ℕ → ℕ → ℕ → List Line
-last_lines_with delay no_vibrato low =
+-- vibrato as this one, this is the low byte for the pattern, and these are the frequencies' bytes; 36 bytes in front of
+-- their first ones stand the frequencies' labels
+abbrev pub last_lines_with : ℕ → ℕ → ℕ → List ℕ → List Line
+last_lines_with delay no_vibrato low frequencies =
     label_line NEXT_WAVE_LEFTS ∷ bytes_line (delay ∷ 0x01 ∷ 0xF1 ∷ [])
     ∷ label_line WAVE_RIGHTS ∷ bytes_line (0xFF ∷ [])
     ∷ label_line NEXT_WAVE_RIGHTS ∷ bytes_line (0x80 ∷ 0x0C ∷ 0x03 ∷ [])
@@ -107,8 +117,12 @@ last_lines_with delay no_vibrato low =
     ∷ label_line ADS ∷ bytes_line (0x00 ∷ [])
     ∷ label_line NEXT_FILTER_LEFTS ∷ bytes_line (0x09 ∷ [])
     ∷ label_line SRS ∷ bytes_line (0x0A ∷ 0xA0 ∷ [])
-    ∷ label_line WAVES ∷ bytes_line (0x90 ∷ 0x01 ∷ [])
-    ∷ label_line PULSES ∷ bytes_line (0x02 ∷ 0x00 ∷ [])
+    ∷ label_line FREQUENCY_LOWS ∷ bytes_line []
+    ∷ label_line WAVES ∷ bytes_line (0x90 ∷ [])
+    ∷ label_line NEXT_FREQUENCY_LOWS ∷ bytes_line (0x01 ∷ [])
+    ∷ label_line PULSES ∷ bytes_line (0x02 ∷ [])
+    ∷ label_line FREQUENCY_HIGHS ∷ bytes_line (0x00 ∷ [])
+    ∷ label_line NEXT_FREQUENCY_HIGHS ∷ bytes_line []
     ∷ label_line FILTERS ∷ bytes_line (0x00 ∷ 0x00 ∷ [])
     ∷ label_line VIBRATOS ∷ bytes_line (0x00 ∷ 0x00 ∷ [])
     ∷ label_line DELAYS ∷ bytes_line (0x01 ∷ no_vibrato ∷ [])
@@ -121,26 +135,22 @@ last_lines_with delay no_vibrato low =
     ∷ label_line ORDERS ∷ bytes_line (0x00 ∷ 0xFF ∷ 0x00 ∷ [])
     ∷ label_line (ORDERS + 1) ∷ bytes_line (0xF2 ∷ 0x00 ∷ 0xFF ∷ 0x01 ∷ [])
     ∷ label_line (ORDERS + 2) ∷ bytes_line (0xD1 ∷ 0x00 ∷ 0xFF ∷ 0x00 ∷ [])
-    ∷ label_line PATTERNS ∷ bytes_line (0xC0 ∷ 0x00 ∷ [])
+    ∷ label_line PATTERNS ∷ bytes_line (0xC0 ∷ 0x00 ∷ frequencies)
     ∷ []
 
 abbrev pub last_lines : List Line
-last_lines = last_lines_with 0xE2 0xFF 0xFF
+last_lines = last_lines_with 0xE2 0xFF 0xFF frequency_bytes
 
 -- Without calculated speeds the labels of the slides and of the periods are those of the speed table's sides: this is
 -- the first of them.
 abbrev pub plain_lines_with : ℕ → List Line → List Line
 plain_lines_with slides last =
     bytes_line []
-    ∷ label_line FREQUENCY_LOWS ∷ bytes_line (take 1 frequency_lows)
-    ∷ label_line NEXT_FREQUENCY_LOWS ∷ bytes_line (drop 1 (take 97 frequency_lows))
     ∷ label_line SPEED_RIGHTS ∷ bytes_line []
-    ∷ label_line slides ∷ bytes_line (drop 97 frequency_lows ++ 0x20 ∷ [])
-    ∷ label_line FREQUENCY_HIGHS ∷ bytes_line (take 1 frequency_highs)
-    ∷ label_line NEXT_FREQUENCY_HIGHS ∷ bytes_line (drop 1 (take 97 frequency_highs))
+    ∷ label_line slides ∷ bytes_line (0x00 ∷ 0x20 ∷ [])
     ∷ label_line SPEED_LEFTS ∷ bytes_line []
     ∷ label_line PERIODS ∷ bytes_line []
-    ∷ label_line SLIDES_HIGH ∷ bytes_line (drop 97 frequency_highs)
+    ∷ label_line SLIDES_HIGH ∷ bytes_line (0x00 ∷ [])
     ∷ label_line WAVE_LEFTS ∷ bytes_line (0x83 ∷ [])
     ∷ last
 
@@ -151,12 +161,8 @@ plain_lines = plain_lines_with SLIDES_LOW last_lines
 abbrev pub kept_lines_with : ℕ → List Line
 kept_lines_with period =
     bytes_line []
-    ∷ label_line FREQUENCY_LOWS ∷ bytes_line (take 1 frequency_lows)
-    ∷ label_line NEXT_FREQUENCY_LOWS ∷ bytes_line (drop 1 (take 97 frequency_lows))
-    ∷ label_line SPEED_RIGHTS ∷ bytes_line (drop 97 frequency_lows ++ 0x20 ∷ [])
-    ∷ label_line FREQUENCY_HIGHS ∷ bytes_line (take 1 frequency_highs)
-    ∷ label_line NEXT_FREQUENCY_HIGHS ∷ bytes_line (drop 1 (take 97 frequency_highs))
-    ∷ label_line SPEED_LEFTS ∷ bytes_line (drop 97 frequency_highs ++ 0x83 ∷ [])
+    ∷ label_line SPEED_RIGHTS ∷ bytes_line (0x00 ∷ 0x20 ∷ [])
+    ∷ label_line SPEED_LEFTS ∷ bytes_line (0x00 ∷ 0x83 ∷ [])
     ∷ label_line SLIDES_LOW ∷ bytes_line (0x00 ∷ 0x20 ∷ [])
     ∷ label_line SLIDES_HIGH ∷ bytes_line (0x00 ∷ 0x83 ∷ [])
     ∷ label_line PERIODS ∷ bytes_line (0x00 ∷ [])
@@ -167,27 +173,58 @@ abbrev pub kept_lines : List Line
 kept_lines = kept_lines_with 0x03
 
 pub record SmallListsAreWorked (packed : PackedSong) : Type 0 where
-  pub plain_bytes_are : data_bytes false packed 0x1F0B ≡ plain_bytes
-  pub kept_bytes_are : data_bytes true packed 0x1F05 ≡ kept_bytes
-  pub plain : HasLines false packed 0x1F0B plain_lines
-  pub kept : HasLines true packed 0x1F05 kept_lines
+  pub plain_bytes_are : data_bytes false packed 0x1FCD ≡ plain_bytes
+  pub kept_bytes_are : data_bytes true packed 0x1FC7 ≡ kept_bytes
+  pub plain : HasLines false packed 0x1FCD plain_lines
+  pub kept : HasLines true packed 0x1FC7 kept_lines
 
 abbrev pub SmallListsAre : Type 0
 SmallListsAre = (packed : PackedSong) → IsSmallSong packed → SmallListsAreWorked packed
+
+-- ---- its frequencies, where it asks for others
+
+-- A-4, which is $1D46, and the one above it: with 53 bytes in front of the frequencies these begin at number 53
+pub record FewAreInFront (packed : PackedSong) : Type 0 where
+  pub first : first_listed packed ≡ 53
+  pub count : frequencies_listed packed ≡ 6
+  pub lows : frequency_lows packed ≡ 0x3C ∷ 0x9E ∷ 0x14 ∷ 0xA1 ∷ 0x46 ∷ 0x04 ∷ []
+  pub highs : frequency_highs packed ≡ 0x17 ∷ 0x18 ∷ 0x1A ∷ 0x1B ∷ 0x1D ∷ 0x1F ∷ []
+  pub low_label : label_place false packed FrequencyLows ≡ 0
+  pub high_label : label_place false packed FrequencyHighs ≡ 6
+  pub kept_label : label_place true packed FrequencyLows ≡ 6
+  pub size : lists_size false packed ≡ 65
+
+-- none: the labels are in front of the last byte
+pub record NoneIsListed (packed : PackedSong) : Type 0 where
+  pub count : frequencies_listed packed ≡ 0
+  pub lows : frequency_lows packed ≡ []
+  pub low_label : label_place false packed FrequencyLows ≡ 52
+  pub high_label : label_place false packed FrequencyHighs ≡ 52
+  pub size : lists_size false packed ≡ 53
+
+-- B-7, and two above it, whose frequencies are zeros
+pub record LastAreListed (packed : PackedSong) : Type 0 where
+  pub lows : drop 42 (frequency_lows packed) ≡ 0xFF ∷ 0x00 ∷ 0x00 ∷ []
+  pub highs : drop 42 (frequency_highs packed) ≡ 0xFF ∷ 0x00 ∷ 0x00 ∷ []
+
+pub record FrequenciesAreWorked : Type 0 where
+  pub few : (packed : PackedSong) → IsSmallSongWith (from 57 2) packed → FewAreInFront packed
+  pub none : (packed : PackedSong) → IsSmallSongWith (from 0 0) packed → NoneIsListed packed
+  pub last : (packed : PackedSong) → IsSmallSongWith (from 95 3) packed → LastAreListed packed
 
 -- ---- where its orderlists are
 
 pub record FirstOrdersAreWorked (packed : PackedSong) : Type 0 where
   -- without calculated speeds and with them
-  pub plain : AreFirstOrders false packed 0x1F0B (0x1FF5 ∷ 0x1FF8 ∷ 0x1FFC ∷ [])
-  pub kept : AreFirstOrders true packed 0x1F05 (0x1FF5 ∷ 0x1FF8 ∷ 0x1FFC ∷ [])
+  pub plain : AreFirstOrders false packed 0x1FCD (0x1FF5 ∷ 0x1FF8 ∷ 0x1FFC ∷ [])
+  pub kept : AreFirstOrders true packed 0x1FC7 (0x1FF5 ∷ 0x1FF8 ∷ 0x1FFC ∷ [])
   -- one byte further on, each alone
-  pub one : ¬ AreFirstOrders false packed 0x1F0B (0x1FF6 ∷ 0x1FF8 ∷ 0x1FFC ∷ [])
-  pub two : ¬ AreFirstOrders false packed 0x1F0B (0x1FF5 ∷ 0x1FF9 ∷ 0x1FFC ∷ [])
-  pub three : ¬ AreFirstOrders false packed 0x1F0B (0x1FF5 ∷ 0x1FF8 ∷ 0x1FFD ∷ [])
+  pub one : ¬ AreFirstOrders false packed 0x1FCD (0x1FF6 ∷ 0x1FF8 ∷ 0x1FFC ∷ [])
+  pub two : ¬ AreFirstOrders false packed 0x1FCD (0x1FF5 ∷ 0x1FF9 ∷ 0x1FFC ∷ [])
+  pub three : ¬ AreFirstOrders false packed 0x1FCD (0x1FF5 ∷ 0x1FF8 ∷ 0x1FFD ∷ [])
   -- those of lists that are to stand elsewhere, and of the other flag
-  pub elsewhere : ¬ AreFirstOrders false packed 0x1F0C (0x1FF5 ∷ 0x1FF8 ∷ 0x1FFC ∷ [])
-  pub flag : ¬ AreFirstOrders true packed 0x1F0B (0x1FF5 ∷ 0x1FF8 ∷ 0x1FFC ∷ [])
+  pub elsewhere : ¬ AreFirstOrders false packed 0x1FCE (0x1FF5 ∷ 0x1FF8 ∷ 0x1FFC ∷ [])
+  pub flag : ¬ AreFirstOrders true packed 0x1FCD (0x1FF5 ∷ 0x1FF8 ∷ 0x1FFC ∷ [])
 
 abbrev pub FirstOrdersAre : Type 0
 FirstOrdersAre = (packed : PackedSong) → IsSmallSong packed → FirstOrdersAreWorked packed
@@ -196,16 +233,21 @@ FirstOrdersAre = (packed : PackedSong) → IsSmallSong packed → FirstOrdersAre
 
 pub record OtherListingsAreNot (packed : PackedSong) : Type 0 where
   -- those of the other flag, and those that are to stand elsewhere
-  pub without : ¬ HasLines true packed 0x1F0B plain_lines
-  pub with_speeds : ¬ HasLines false packed 0x1F05 kept_lines
-  pub elsewhere : ¬ HasLines false packed 0x1F0C plain_lines
+  pub without : ¬ HasLines true packed 0x1FCD plain_lines
+  pub with_speeds : ¬ HasLines false packed 0x1FC7 kept_lines
+  pub elsewhere : ¬ HasLines false packed 0x1FCE plain_lines
   -- a delay of the wave table, the delay of no vibrato and a period as the song has them, and the pattern's address
-  pub delay : ¬ HasLines false packed 0x1F0B (plain_lines_with SLIDES_LOW (last_lines_with 0x02 0xFF 0xFF))
-  pub no_vibrato : ¬ HasLines false packed 0x1F0B (plain_lines_with SLIDES_LOW (last_lines_with 0xE2 0x00 0xFF))
-  pub pattern : ¬ HasLines false packed 0x1F0B (plain_lines_with SLIDES_LOW (last_lines_with 0xE2 0xFF 0x00))
-  pub period : ¬ HasLines true packed 0x1F05 (kept_lines_with 0x83)
+  pub delay : ¬ HasLines false packed 0x1FCD (plain_lines_with SLIDES_LOW (last_lines_with 0x02 0xFF 0xFF frequency_bytes))
+  pub no_vibrato : ¬ HasLines false packed 0x1FCD (plain_lines_with SLIDES_LOW (last_lines_with 0xE2 0x00 0xFF frequency_bytes))
+  pub pattern : ¬ HasLines false packed 0x1FCD (plain_lines_with SLIDES_LOW (last_lines_with 0xE2 0xFF 0x00 frequency_bytes))
+  pub period : ¬ HasLines true packed 0x1FC7 (kept_lines_with 0x83)
+  -- frequencies that begin one number too late, and such without the last one
+  pub late : ¬ HasLines false packed 0x1FCD (plain_lines_with SLIDES_LOW
+      (last_lines_with 0xE2 0xFF 0xFF (0x38 ∷ 0xC4 ∷ 0x59 ∷ 0x09 ∷ 0x09 ∷ 0x0A ∷ [])))
+  pub short : ¬ HasLines false packed 0x1FCD (plain_lines_with SLIDES_LOW
+      (last_lines_with 0xE2 0xFF 0xFF (0xB4 ∷ 0x38 ∷ 0x08 ∷ 0x09 ∷ [])))
   -- the label of the slides left out
-  pub label : ¬ HasLines false packed 0x1F0B (plain_lines_with SPEED_RIGHTS last_lines)
+  pub label : ¬ HasLines false packed 0x1FCD (plain_lines_with SPEED_RIGHTS last_lines)
 
 abbrev pub OtherListingsAre : Type 0
 OtherListingsAre = (packed : PackedSong) → IsSmallSong packed → OtherListingsAreNot packed

@@ -1,45 +1,43 @@
 //! The bytes of the lists.
 
-ghost use Rattle.std.specs.Prelude.{◌≡◌, ◌<◌, ◌≤◌, ◌+◌, ◌++◌, map, true, All, IfOk, OnOk};
+ghost use Rattle.std.specs.Prelude.{◌≡◌, ◌<◌, ◌≤◌, ◌+◌, ◌∷◌, ◌++◌, map, true, All, IfOk, OnOk};
 ghost use Rattle.std.specs.List.{concat, flat_map};
 ghost use Rattle.packed_form.specs.Unpacked.{unpacked_instrument};
 ghost use Rattle.player_memory.specs.Forms.{stored_left, stored_right};
 ghost use Rattle.player_memory.specs.SongLists.{instrument_byte};
 ghost use Rattle.song_lists.specs.DataLists.{frequency_lows, frequency_highs, lefts, rights, stored_rows, periods};
 ghost use Rattle.song_lists.specs.DataLists.{kept_list, lows, highs, orders_of, instrument_bytes};
-ghost use Rattle.song_lists.specs.DataLists.{frequency_lists, kept_lists, table_lists, instrument_lists};
-ghost use Rattle.song_lists.specs.DataLists.{order_places, pattern_places, data_bytes};
+ghost use Rattle.song_lists.specs.DataLists.{speed_lists, kept_lists, table_lists, instrument_lists};
+ghost use Rattle.song_lists.specs.DataLists.{order_places, pattern_places, frequency_lists, data_bytes};
 
 use base::{ByteList, NoMemory};
 use packed_form::{PackedInstrument, PackedPattern, PackedSong, PackedSubtune};
 use play_model::freq;
+use player_memory::listed_numbers;
 use song_model::TableRow;
 use std::alloc::Global;
-
-/// How many notes have a frequency in the lists: two more than there are, whose frequency is 0.
-const FREQUENCIES: u8 = 98;
 
 /// The number of the byte of an instrument that is its vibrato's delay.
 const VIBRATO_DELAY: usize = 6;
 
-/// The low bytes of the frequencies, appended.
-#[tactic(auto, unfolding(crate::specs::DataLists::frequency_lows))]
-fn push_frequency_lows(bytes: &mut ByteList) -> Result<(), NoMemory>
-    ensures { OnOk result (bytes.new ≡ bytes.old ++ frequency_lows) }
+/// The low bytes of the frequencies that are listed, appended.
+fn push_frequency_lows(bytes: &mut ByteList, packed: &PackedSong) -> Result<(), NoMemory>
+    ensures { OnOk result (bytes.new ≡ bytes.old ++ frequency_lows packed.now) }
 {
-    for note in 0..FREQUENCIES {
-        bytes.push((freq(note) % 256) as u8)?;
+    let listed = listed_numbers(packed);
+    for n in listed.first..listed.first + listed.count {
+        bytes.push((freq(n) % 256) as u8)?;
     }
     Ok(())
 }
 
 /// Their high bytes.
-#[tactic(auto, unfolding(crate::specs::DataLists::frequency_highs))]
-fn push_frequency_highs(bytes: &mut ByteList) -> Result<(), NoMemory>
-    ensures { OnOk result (bytes.new ≡ bytes.old ++ frequency_highs) }
+fn push_frequency_highs(bytes: &mut ByteList, packed: &PackedSong) -> Result<(), NoMemory>
+    ensures { OnOk result (bytes.new ≡ bytes.old ++ frequency_highs packed.now) }
 {
-    for note in 0..FREQUENCIES {
-        bytes.push((freq(note) / 256) as u8)?;
+    let listed = listed_numbers(packed);
+    for n in listed.first..listed.first + listed.count {
+        bytes.push((freq(n) / 256) as u8)?;
     }
     Ok(())
 }
@@ -120,13 +118,13 @@ fn push_periods(bytes: &mut ByteList, rows: &[TableRow]) -> Result<(), NoMemory>
     Ok(())
 }
 
-/// The frequencies, with the sides of the speed table.
-fn push_frequency_lists(bytes: &mut ByteList, packed: &PackedSong) -> Result<(), NoMemory>
-    ensures { OnOk result (bytes.new ≡ bytes.old ++ concat (frequency_lists packed.now)) }
+/// The sides of the speed table, each with a byte for row 0.
+fn push_speed_lists(bytes: &mut ByteList, packed: &PackedSong) -> Result<(), NoMemory>
+    ensures { OnOk result (bytes.new ≡ bytes.old ++ concat (speed_lists packed.now)) }
 {
-    push_frequency_lows(bytes)?;
+    bytes.push(0)?;
     push_rights(bytes, packed.speed.as_slice())?;
-    push_frequency_highs(bytes)?;
+    bytes.push(0)?;
     push_lefts(bytes, packed.speed.as_slice())
 }
 
@@ -134,10 +132,7 @@ fn push_frequency_lists(bytes: &mut ByteList, packed: &PackedSong) -> Result<(),
 fn push_calculated_lists(bytes: &mut ByteList, packed: &PackedSong) -> Result<(), NoMemory>
     ensures { OnOk result (bytes.new ≡ bytes.old ++ concat (kept_lists true packed.now)) }
 {
-    bytes.push(0)?;
-    push_rights(bytes, packed.speed.as_slice())?;
-    bytes.push(0)?;
-    push_lefts(bytes, packed.speed.as_slice())?;
+    push_speed_lists(bytes, packed)?;
     bytes.push(0)?;
     push_periods(bytes, packed.speed.as_slice())
 }
@@ -255,6 +250,14 @@ fn push_patterns(bytes: &mut ByteList, patterns: &[PackedPattern]) -> Result<(),
     Ok(())
 }
 
+/// The frequencies.
+fn push_frequency_lists(bytes: &mut ByteList, packed: &PackedSong) -> Result<(), NoMemory>
+    ensures { OnOk result (bytes.new ≡ bytes.old ++ concat (frequency_lists packed.now)) }
+{
+    push_frequency_lows(bytes, packed)?;
+    push_frequency_highs(bytes, packed)
+}
+
 /// The addresses of the orderlists and the places before the patterns, which stand at these places.
 fn push_address_lists(
     bytes: &mut ByteList,
@@ -292,12 +295,13 @@ pub(crate) fn data_bytes(
     ensures { IfOk result (λ bytes. bytes ≡ data_bytes dependent packed.now start) }
 {
     let mut bytes = ByteList::new(alloc);
-    push_frequency_lists(&mut bytes, packed)?;
+    push_speed_lists(&mut bytes, packed)?;
     push_kept_lists(&mut bytes, packed, dependent)?;
     push_table_lists(&mut bytes, packed)?;
     push_instrument_lists(&mut bytes, packed)?;
     push_address_lists(&mut bytes, start, places.0, places.1)?;
     push_orders(&mut bytes, packed.subtunes.as_slice())?;
     push_patterns(&mut bytes, packed.patterns.as_slice())?;
+    push_frequency_lists(&mut bytes, packed)?;
     Ok(bytes)
 }

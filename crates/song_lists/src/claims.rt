@@ -8,8 +8,8 @@ ghost use Rattle.song_lists.specs.ListLaws.{SongListsStand, ListsAreLaid};
 ghost use Rattle.song_lists.specs.WorkedLists.{FrequenciesAreWorked, SmallListsAre, FirstOrdersAre, OtherListingsAre};
 ghost use Rattle.song_lists.specs.WorkedLayouts.{SmallLayoutsAre, OtherLayoutsAre, SmallPlacesAre, LabelsAreWorked};
 
-/// There are 196 bytes of frequencies, as many as the packed song has, and those of three lists where calculated speeds
-/// are kept. The lines take these, each byte as it is.
+/// There are two zeros, as many bytes as the packed song has, those of three lists where calculated speeds are kept, and
+/// two of each frequency that is listed. The lines take these, each byte as it is.
 pub fn data_takes_size()
     ensures bytes { DataTakesSize }
     ensures lines { LinesTakeSize }

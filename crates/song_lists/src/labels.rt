@@ -3,15 +3,16 @@
 ghost use Rattle.std.specs.Prelude.{◌≡◌, ◌≤◌, ◌+◌, [], ◌∷◌, ◌++◌, length, IfOk, OnOk};
 ghost use Rattle.player_memory.specs.declared.labels.TheConstants.{ORDERS, PATTERNS};
 ghost use Rattle.song_lists.specs.Marks.{mark_at};
-ghost use Rattle.song_lists.specs.DataLists.{frequency_marks, wave_marks, pulse_marks, filter_marks};
+ghost use Rattle.song_lists.specs.DataLists.{frequency_marks, speed_marks, wave_marks, pulse_marks, filter_marks};
 ghost use Rattle.song_lists.specs.DataLists.{instrument_marks, address_marks, slide_marks, list_marks, marks_from};
 ghost use Rattle.song_lists.specs.DataLists.{data_marks, order_places, pattern_places};
+ghost use Rattle.song_lists.specs.ListLaws.{lists_size};
 
 use crate::marks::{Mark, MarkList};
 use crate::places::{
-    addresses_place, filter_place, instruments, instruments_place, patterns, periods_place,
-    pulse_place, rows, slides_high_place, slides_low_place, speed_lefts_place, subtunes,
-    wave_place,
+    addresses_place, filter_place, highs_place, instruments, instruments_place, lows_place,
+    patterns, periods_place, pulse_place, rows, slides_high_place, slides_low_place,
+    speed_lefts_place, subtunes, wave_place,
 };
 use base::NoMemory;
 use packed_form::PackedSong;
@@ -30,21 +31,35 @@ fn mark_at(label: u16, place: u16) -> Mark
     Mark { label, place }
 }
 
-/// The labels of the frequencies and of the speed table, appended.
+/// The labels of the frequencies, appended.
 fn push_frequency_marks(
     marks: &mut MarkList,
     packed: &PackedSong,
     dependent: bool,
 ) -> Result<(), NoMemory>
+    requires { lists_size dependent packed.now ≤ 65535 }
     ensures { OnOk result (marks.new ≡ marks.old ++ frequency_marks dependent packed.now) }
 {
-    let speed = rows(&packed.speed);
+    let lows = lows_place(packed, dependent);
+    let highs = highs_place(packed, dependent);
     marks.extend(&[
-        mark_at(FREQUENCY_LOWS, 0),
-        mark_at(NEXT_FREQUENCY_LOWS, 1),
-        mark_at(FREQUENCY_HIGHS, 98 + speed),
-        mark_at(NEXT_FREQUENCY_HIGHS, 98 + speed + 1),
-        mark_at(SPEED_RIGHTS, 97),
+        mark_at(FREQUENCY_LOWS, lows),
+        mark_at(NEXT_FREQUENCY_LOWS, lows + 1),
+        mark_at(FREQUENCY_HIGHS, highs),
+        mark_at(NEXT_FREQUENCY_HIGHS, highs + 1),
+    ])
+}
+
+/// The labels of the speed table's sides and periods.
+fn push_speed_marks(
+    marks: &mut MarkList,
+    packed: &PackedSong,
+    dependent: bool,
+) -> Result<(), NoMemory>
+    ensures { OnOk result (marks.new ≡ marks.old ++ speed_marks dependent packed.now) }
+{
+    marks.extend(&[
+        mark_at(SPEED_RIGHTS, 0),
         mark_at(SPEED_LEFTS, speed_lefts_place(packed)),
         mark_at(PERIODS, periods_place(packed, dependent)),
     ])
@@ -150,10 +165,12 @@ fn push_slide_marks(
 
 /// The labels that each song's lists have.
 fn list_marks(alloc: Global, packed: &PackedSong, dependent: bool) -> Result<MarkList, NoMemory>
+    requires { lists_size dependent packed.now ≤ 65535 }
     ensures { IfOk result (λ marks. marks ≡ list_marks dependent packed.now) }
 {
     let mut marks = MarkList::new(alloc);
     push_frequency_marks(&mut marks, packed, dependent)?;
+    push_speed_marks(&mut marks, packed, dependent)?;
     push_wave_marks(&mut marks, packed, dependent)?;
     push_pulse_marks(&mut marks, packed, dependent)?;
     push_filter_marks(&mut marks, packed, dependent)?;
@@ -187,6 +204,7 @@ pub(crate) fn data_marks(
     requires patterns { places.1.now ≡ pattern_places dependent packed.now }
     requires order_labels { ORDERS + length places.0.now ≤ 65535 }
     requires pattern_labels { PATTERNS + length places.1.now ≤ 65535 }
+    requires size { lists_size dependent packed.now ≤ 65535 }
     ensures { IfOk result (λ marks. marks ≡ data_marks dependent packed.now) }
 {
     let mut marks = list_marks(alloc, packed, dependent)?;

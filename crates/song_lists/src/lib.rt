@@ -1,5 +1,5 @@
-//! The bytes behind the player's code in an image: the frequencies and the lists of a packed song, as lines of a
-//! listing with the labels that the player's blocks read them by.
+//! The bytes behind the player's code in an image: the lists of a packed song and the frequencies that it asks for, as
+//! lines of a listing with the labels that the player's blocks read them by.
 //!
 //! The layer's one contract: the lines of `data_listing` are the bytes of the lists, one list behind the other, with
 //! each label in front of its byte. Where these bytes stand in a memory, and the labels have their addresses, the

@@ -13,10 +13,10 @@ use base::NoMemory;
 use packed_form::PackedSong;
 use std::alloc::Global;
 
-/// The frequencies and the lists of a packed song as lines of a listing, with their labels, and with the lists of
+/// The lists of a packed song and its frequencies as lines of a listing, with their labels, and with the lists of
 /// calculated speeds where these are kept (`dependent`). The first byte is to stand at `start`, and all of them below
-/// `$D000`. The listing takes 196 bytes, those of the packed song, and where calculated speeds are kept three for each
-/// row of the speed table and row 0.
+/// `$D000`. The listing takes two bytes, those of the packed song, where calculated speeds are kept three for each row
+/// of the speed table and row 0, and two for each frequency that is listed.
 ///
 /// # Errors
 ///

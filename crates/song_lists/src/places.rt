@@ -1,15 +1,17 @@
 //! Where the lists of a packed song stand, counted from the first byte on.
 
-ghost use Rattle.std.specs.Prelude.{◌≡◌, ◌+◌, ◌≤◌, length, IfOk};
+ghost use Rattle.std.specs.Prelude.{◌≡◌, ◌+◌, ◌<◌, ◌≤◌, length, IfOk};
 ghost use Rattle.std.specs.List.{concat, flat_map};
+ghost use Rattle.player_memory.specs.SongLists.{FrequencyLows, FrequencyHighs};
 ghost use Rattle.song_lists.specs.DataLists.{kept_rows, speed_lefts_place, slides_low_place, slides_high_place};
 ghost use Rattle.song_lists.specs.DataLists.{periods_place, wave_place, pulse_place, filter_place, instruments_place};
 ghost use Rattle.song_lists.specs.DataLists.{addresses_place, orders_place, orders_of, places_from, order_places};
-ghost use Rattle.song_lists.specs.DataLists.{pattern_places};
+ghost use Rattle.song_lists.specs.DataLists.{pattern_places, frequencies_place, bytes_back, label_place};
 ghost use Rattle.song_lists.specs.ListLaws.{lists_size};
 
 use base::{Items, NoMemory};
 use packed_form::{PackedOrder, PackedPattern, PackedSong, PackedSubtune};
+use player_memory::listed_numbers;
 use song_model::Table;
 use std::alloc::Global;
 
@@ -63,9 +65,9 @@ fn kept_rows(packed: &PackedSong, dependent: bool) -> u16
 /// Where the label of the speed table's left sides is.
 pub(crate) fn speed_lefts_place(packed: &PackedSong) -> u16
     ensures place { result ≡ speed_lefts_place packed.now }
-    ensures most { result ≤ 450 }
+    ensures most { result ≤ 256 }
 {
-    195 + rows(&packed.speed)
+    1 + rows(&packed.speed)
 }
 
 /// Where that of the slides' low bytes is.
@@ -73,9 +75,9 @@ pub(crate) fn slides_low_place(packed: &PackedSong, dependent: bool) -> u16
     ensures { result ≡ slides_low_place dependent packed.now }
 {
     if dependent {
-        196 + 2 * rows(&packed.speed)
+        2 + 2 * rows(&packed.speed)
     } else {
-        97
+        0
     }
 }
 
@@ -84,7 +86,7 @@ pub(crate) fn slides_high_place(packed: &PackedSong, dependent: bool) -> u16
     ensures { result ≡ slides_high_place dependent packed.now }
 {
     if dependent {
-        197 + 3 * rows(&packed.speed)
+        3 + 3 * rows(&packed.speed)
     } else {
         speed_lefts_place(packed)
     }
@@ -95,7 +97,7 @@ pub(crate) fn periods_place(packed: &PackedSong, dependent: bool) -> u16
     ensures { result ≡ periods_place dependent packed.now }
 {
     if dependent {
-        198 + 4 * rows(&packed.speed)
+        4 + 4 * rows(&packed.speed)
     } else {
         speed_lefts_place(packed)
     }
@@ -104,15 +106,15 @@ pub(crate) fn periods_place(packed: &PackedSong, dependent: bool) -> u16
 /// Where those of the wave table's left sides are.
 pub(crate) fn wave_place(packed: &PackedSong, dependent: bool) -> u16
     ensures place { result ≡ wave_place dependent packed.now }
-    ensures most { result ≤ 1473 }
+    ensures most { result ≤ 1279 }
 {
-    195 + 2 * rows(&packed.speed) + 3 * kept_rows(packed, dependent)
+    1 + 2 * rows(&packed.speed) + 3 * kept_rows(packed, dependent)
 }
 
 /// Where those of the pulse table's are.
 pub(crate) fn pulse_place(packed: &PackedSong, dependent: bool) -> u16
     ensures place { result ≡ pulse_place dependent packed.now }
-    ensures most { result ≤ 1983 }
+    ensures most { result ≤ 1789 }
 {
     wave_place(packed, dependent) + 2 * rows(&packed.wave)
 }
@@ -120,7 +122,7 @@ pub(crate) fn pulse_place(packed: &PackedSong, dependent: bool) -> u16
 /// Where those of the filter table's are.
 pub(crate) fn filter_place(packed: &PackedSong, dependent: bool) -> u16
     ensures place { result ≡ filter_place dependent packed.now }
-    ensures most { result ≤ 2493 }
+    ensures most { result ≤ 2299 }
 {
     pulse_place(packed, dependent) + 2 * rows(&packed.pulse)
 }
@@ -128,7 +130,7 @@ pub(crate) fn filter_place(packed: &PackedSong, dependent: bool) -> u16
 /// Where the label of the instruments' first bytes is.
 pub(crate) fn instruments_place(packed: &PackedSong, dependent: bool) -> u16
     ensures place { result ≡ instruments_place dependent packed.now }
-    ensures most { result ≤ 3003 }
+    ensures most { result ≤ 2809 }
 {
     filter_place(packed, dependent) + 2 * rows(&packed.filter)
 }
@@ -136,7 +138,7 @@ pub(crate) fn instruments_place(packed: &PackedSong, dependent: bool) -> u16
 /// Where the addresses begin.
 pub(crate) fn addresses_place(packed: &PackedSong, dependent: bool) -> u16
     ensures place { result ≡ addresses_place dependent packed.now }
-    ensures most { result ≤ 3571 }
+    ensures most { result ≤ 3377 }
 {
     instruments_place(packed, dependent) + 9 * instruments(packed) + 1
 }
@@ -144,9 +146,48 @@ pub(crate) fn addresses_place(packed: &PackedSong, dependent: bool) -> u16
 /// Where the orderlists begin.
 fn orders_place(packed: &PackedSong, dependent: bool) -> u16
     ensures place { result ≡ orders_place dependent packed.now }
-    ensures most { result ≤ 4179 }
+    ensures most { result ≤ 3985 }
 {
     addresses_place(packed, dependent) + 6 * subtunes(packed) + 2 * patterns(packed)
+}
+
+/// Where the frequencies begin.
+fn frequencies_place(packed: &PackedSong, dependent: bool) -> u16
+    requires { lists_size dependent packed.now ≤ 65535 }
+    ensures { result ≡ frequencies_place dependent packed.now }
+{
+    2 + packed.size() as u16 + 3 * kept_rows(packed, dependent)
+}
+
+/// How many bytes in front of them the label of the first list is.
+fn bytes_back(packed: &PackedSong) -> u16
+    ensures { result ≡ bytes_back packed.now }
+{
+    let listed = listed_numbers(packed);
+    if listed.first == 0 && listed.count == 0 {
+        1
+    } else {
+        u16::from(listed.first)
+    }
+}
+
+/// Where the label of the frequencies' low bytes is.
+pub(crate) fn lows_place(packed: &PackedSong, dependent: bool) -> u16
+    requires { lists_size dependent packed.now ≤ 65535 }
+    ensures place { result ≡ label_place dependent packed.now FrequencyLows }
+    ensures most { result < 65535 }
+{
+    frequencies_place(packed, dependent) - bytes_back(packed)
+}
+
+/// Where that of their high bytes is.
+pub(crate) fn highs_place(packed: &PackedSong, dependent: bool) -> u16
+    requires { lists_size dependent packed.now ≤ 65535 }
+    ensures place { result ≡ label_place dependent packed.now FrequencyHighs }
+    ensures most { result < 65535 }
+{
+    let listed = listed_numbers(packed);
+    frequencies_place(packed, dependent) + u16::from(listed.count) - bytes_back(packed)
 }
 
 /// How many bytes an orderlist has.
