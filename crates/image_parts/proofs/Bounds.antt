@@ -1,10 +1,12 @@
 -- Bounds of the parts and of an image.
-use Rattle.std.proofs.Common.{◌≡◌, ℕ, ◌+◌, ◌*◌, ◌<◌, ◌≤◌, nat_le, Bool, true}
+use Rattle.std.proofs.Common.{◌≡◌, ℕ, ◌+◌, ◌-◌, ◌*◌, ◌<◌, ◌≤◌, min, nat_le, Bool, true}
 use Rattle.std.proofs.Common.{List, ◌++◌, replicate, refl, arith, inl, inr}
 use Rattle.std.proofs.lemmas.Bool.{cases_lt, cases_Bool, agree_below_at, leb-true, ne_eqb}
 use Rattle.std.proofs.lemmas.List.Folds.{sum_by-replicate}
 use Rattle.std.proofs.lemmas.List.Sums.{sum_by-append}
 use Rattle.play_model.specs.declared.options.Options.{Options}
+use Rattle.asked_numbers.specs.declared.range.NumberRange.{NumberRange}
+use Rattle.packed_form.specs.Sizes.{packed_song_size}
 use Rattle.packed_form.specs.CodeBounds.{kept_parts}
 use Rattle.scopes.specs.Trees.{Tree}
 use Rattle.scope_lines.specs.Readings.{holds_in}
@@ -21,7 +23,7 @@ use Rattle.kept_lines.specs.Asked.{is_in, asked_by}
 use Rattle.kept_lines.specs.KeptLines.{kept_set}
 use Rattle.kept_lines.proofs.Laws.{no_more}
 use Rattle.image_parts.specs.CodeParts.{always, code_parts}
-use Rattle.image_parts.specs.Lengths.{slide_bytes}
+use Rattle.image_parts.specs.Lengths.{slide_bytes, frequency_bytes}
 use Rattle.image_parts.specs.PartLaws.{RestIsSame, CodeIsShort, PartsAreShort, CodeIsBounded, ImagesAreBounded}
 use Rattle.image_parts.proofs.Counts.{one_if}
 use Rattle.image_parts.proofs.Sums.{around, code_takes_its_parts, unkept_parts_have_none}
@@ -85,14 +87,14 @@ around_whole holds filter voice init one two three =
     omega (arith, a, b, c, d, e, f, n, m, l, k, x, y, z)
 
 -- the numbers, computed
-few_of : (start : Start) (part : ℕ) → part < 49 →
+few_of : (start : Start) (part : ℕ) → part < 53 →
     most_around part filter_tree voice_tree (init_tree start) ≤ 320
 few_of start part low =
     leb-true _ 320
-    (agree_below_at (λ n. nat_le (most_around n filter_tree voice_tree (init_tree start)) 320) (λ n. true) 49 part refl low)
+    (agree_below_at (λ n. nat_le (most_around n filter_tree voice_tree (init_tree start)) 320) (λ n. true) 53 part refl low)
 
-rest_of : (start : Start) → most_around always filter_tree voice_tree (init_tree start) ≤ 2876
-rest_of start = leb-true _ 2876 refl
+rest_of : (start : Start) → most_around always filter_tree voice_tree (init_tree start) ≤ 3070
+rest_of start = leb-true _ 3070 refl
 
 code_most : (asked : ℕ) (o : Options) (part : ℕ) →
     bytes_of part (code_parts asked o) ≤ most_around part filter_tree voice_tree (init_tree (start_of o))
@@ -104,33 +106,33 @@ no_more_than n m a b = omega (arith, a, b)
 
 pub parts_are_short : PartsAreShort
 parts_are_short asked o = record {
-  parts = λ part other. elim (cases_lt part 49) [
+  parts = λ part other. elim (cases_lt part 53) [
     | inl low ↦
         rw (ne_eqb part always other) (no_more_than _ _ (code_most asked o part) (few_of (start_of o) part low))
     | inr high ↦ few _ (unkept_parts_have_none asked o part other (no_more asked o part high))
   ];
-  rest = with_frequencies _ _ (code_most asked o always) (rest_of (start_of o));
+  rest = with_zeros _ _ (code_most asked o always) (rest_of (start_of o));
 } where
   few : (n : ℕ) → n ≡ 0 → n ≤ 320
   few n e = omega (arith, e)
 
-  with_frequencies : (n m : ℕ) → n ≤ m → m ≤ 2876 → n + 196 ≤ 3072
-  with_frequencies n m a b = omega (arith, a, b)
+  with_zeros : (n m : ℕ) → n ≤ m → m ≤ 3070 → n + 2 ≤ 3072
+  with_zeros n m a b = omega (arith, a, b)
 
--- the blocks stay whole, and the most that they have of this part is 626 with what stands around them
+-- the blocks stay whole, and the most that they have of this part is 622 with what stands around them
 pub rest_is_same : RestIsSame
 rest_is_same asked o =
-    with_frequencies _ _
+    with_zeros _ _
     (around_whole (holds_in (kept_set asked o)) filter_tree voice_tree (init_tree (start_of o)) refl refl refl)
     (most_is (start_of o))
   where
-    with_frequencies : (n m : ℕ) → n ≡ m → m ≡ 626 → n + 196 ≡ 822
-    with_frequencies n m a b = omega (arith, a, b)
+    with_zeros : (n m : ℕ) → n ≡ m → m ≡ 622 → n + 2 ≡ 624
+    with_zeros n m a b = omega (arith, a, b)
 
-    most_is : (start : Start) → most_around always filter_tree voice_tree (init_tree start) ≡ 626
+    most_is : (start : Start) → most_around always filter_tree voice_tree (init_tree start) ≡ 622
     most_is start = refl
 
--- ---- the code, with the slides
+-- ---- the code, with the slides and the frequencies
 
 slides_most : (asked rows : ℕ) → rows ≤ 255 → slide_bytes asked rows ≤ 768
 slides_most asked rows few = elim (cases_Bool (is_in asked NOTE_DEPENDENT)) [
@@ -148,19 +150,30 @@ code_is_short asked o =
     measured.voice.takes_most (measured.init start).takes_most
   where
     bounds : (all f v i mf mv mi : ℕ) → all ≡ 138 + f + v + i → f ≤ mf → v ≤ mv → i ≤ mi → mf ≡ 102 →
-        mv ≡ 1350 → mi ≡ 90 → all + 196 ≤ 1876
+        mv ≡ 1332 → mi ≡ 90 → all + 2 ≤ 1664
     bounds all f v i mf mv mi e one two three four five six = omega (arith, e, one, two, three, four, five, six)
 
-pub code_is_bounded : CodeIsBounded
-code_is_bounded asked features rows o few =
-    within _ _ (kept_parts features o) (slides_most asked rows few) (code_is_short asked o)
+frequencies_most : (range : NumberRange) (size : ℕ) → range.first + range.count ≤ 129 → frequency_bytes range size ≤ 258
+frequencies_most range size few = most range.first range.count (2 + size) few
   where
-    within : (slides code kept : ℕ) → slides ≤ 768 → code ≤ 1876 → slides + code ≤ 3072 + 320 * kept
-    within slides code kept a b = omega (arith, a, b)
+    most : (first count front : ℕ) → first + count ≤ 129 → 2 * (first + count - min first front) ≤ 258
+    most first count front few = omega (arith, few)
+
+pub code_is_bounded : CodeIsBounded
+code_is_bounded asked features rows size range o few low =
+    within _ _ _ (kept_parts features o) (slides_most asked rows few) (frequencies_most range size low)
+    (code_is_short asked o)
+  where
+    within : (slides frequencies code kept : ℕ) → slides ≤ 768 → frequencies ≤ 258 → code ≤ 1664 →
+        slides + frequencies + code ≤ 3072 + 320 * kept
+    within slides frequencies code kept a b c = omega (arith, a, b, c)
 
 pub images_are_bounded : ImagesAreBounded
 images_are_bounded packed o few =
-    all _ _ _ _ (code_is_bounded (asked_by packed) packed.features.0 _ o few)
+    all _ _ _ _ _
+    (code_is_bounded (asked_by packed) packed.features.0 _ (packed_song_size packed) packed.numbers o few
+    packed.numbers_within)
   where
-    all : (packed slides code bound : ℕ) → slides + code ≤ bound → packed + slides + code ≤ packed + bound
-    all packed slides code bound h = omega (arith, h)
+    all : (packed slides frequencies code bound : ℕ) → slides + frequencies + code ≤ bound →
+        packed + slides + frequencies + code ≤ packed + bound
+    all packed slides frequencies code bound h = omega (arith, h)

@@ -1,18 +1,22 @@
 -- The parts of the code, and the images of two small songs.
-use Rattle.std.proofs.Common.{◌≡◌, ℕ, ◌+◌, ◌^◌, length, true, refl, ◌∙◌}
+use Rattle.std.proofs.Common.{◌≡◌, ℕ, ◌+◌, ◌^◌, length, true, refl, ap, ◌∙◌}
 use Rattle.play_model.specs.declared.options.Options.{Options}
 use Rattle.play_model.specs.State.{no_options}
 use Rattle.play_model.specs.WorkedRuns.{all_left_out}
 use Rattle.song_facts.specs.declared.facts.Facts.{Facts}
 use Rattle.song_facts.specs.Facts.{no_facts}
+use Rattle.asked_numbers.specs.declared.range.NumberRange.{NumberRange}
 use Rattle.packed_form.specs.declared.packed_songs.PackedSong.{PackedSong}
 use Rattle.packed_form.specs.Sizes.{packed_song_size}
 use Rattle.kept_lines.specs.Asked.{asked, asked_by}
 use Rattle.kept_lines.specs.KeptLines.{kept_set}
 use Rattle.image_parts.specs.CodeParts.{code_length}
-use Rattle.image_parts.specs.Lengths.{slide_bytes, image_length}
+use Rattle.image_parts.specs.Lengths.{slide_bytes, frequency_bytes, image_length}
 use Rattle.image_parts.specs.WorkedLengths.{IsPackedSilence, IsPlayedNote}
-use Rattle.image_parts.specs.WorkedLengths.{PartsAreMeasured, SilencesAreMeasured, NotesAreMeasured}
+use Rattle.image_parts.specs.WorkedLengths.{PartsAreMeasured, FrequenciesAreMeasured, SilencesAreMeasured, NotesAreMeasured}
+
+pub frequencies_are_measured : FrequenciesAreMeasured
+frequencies_are_measured = record { long = refl; just_long = refl; short = refl; all = refl; none = refl }
 
 pub parts_are_measured : PartsAreMeasured
 unfolding kept_set
@@ -40,6 +44,10 @@ parts_are_measured = record {
   soft_common = refl;
   effects = refl;
   at_rows = refl;
+  turns = refl;
+  choice = refl;
+  tempos = refl;
+  no_tempos = refl;
   delay = refl;
   delay_common = refl;
   no_slides = refl;
@@ -70,27 +78,28 @@ note_asks packed is =
     asked_same packed 0x402000 (record no_facts { gate_note = true; note_pulse = true }) is.features is.facts ∙ note_asked
 
 -- how long their code is
-silence_with_none : code_length (2 ^ 37) no_options ≡ 828
+silence_with_none : code_length (2 ^ 37) no_options ≡ 630
 unfolding kept_set
 silence_with_none = refl
 
-silence_with_all : code_length (2 ^ 37) (all_left_out 4) ≡ 888
+silence_with_all : code_length (2 ^ 37) (all_left_out 4) ≡ 690
 unfolding kept_set
 silence_with_all = refl
 
-note_with_none : code_length (0x402000 + 2 ^ 41 + 2 ^ 44) no_options ≡ 974
+note_with_none : code_length (0x402000 + 2 ^ 41 + 2 ^ 44) no_options ≡ 776
 unfolding kept_set
 note_with_none = refl
 
-note_with_all : code_length (0x402000 + 2 ^ 41 + 2 ^ 44) (all_left_out 4) ≡ 1034
+note_with_all : code_length (0x402000 + 2 ^ 41 + 2 ^ 44) (all_left_out 4) ≡ 836
 unfolding kept_set
 note_with_all = refl
 
--- an image has these bytes, those of the packed song, and those of its slides
-all_of : (packed : PackedSong) (o : Options) (set own slides code : ℕ) → asked_by packed ≡ set →
-    packed_song_size packed ≡ own → slide_bytes set (length packed.speed) ≡ slides → code_length set o ≡ code →
-    image_length packed o ≡ own + slides + code
-all_of packed o set own slides code asks owns slide is = rw (asks, owns, slide, is) refl
+-- an image has these bytes, those of the packed song, those of its slides, and those of its frequencies
+all_of : (packed : PackedSong) (o : Options) (set own slides frequencies code : ℕ) → asked_by packed ≡ set →
+    packed_song_size packed ≡ own → slide_bytes set (length packed.speed) ≡ slides →
+    frequency_bytes packed.numbers own ≡ frequencies → code_length set o ≡ code →
+    image_length packed o ≡ own + slides + frequencies + code
+all_of packed o set own slides frequencies code asks owns slide listed is = rw (asks, owns, slide, listed, is) refl
 
 silence_size : (packed : PackedSong) → IsPackedSilence packed → packed_song_size packed ≡ 28
 silence_size packed is = rw (is.subtunes, is.patterns, is.instruments, is.wave, is.pulse, is.filter, is.speed) refl
@@ -99,22 +108,28 @@ note_size : (packed : PackedSong) → IsPlayedNote packed → packed_song_size p
 note_size packed is =
     let l = is.lists in rw (l.subtunes, l.patterns, l.instruments, l.wave, l.pulse, l.filter, l.speed) refl
 
+silence_lists : (packed : PackedSong) → IsPackedSilence packed → frequency_bytes packed.numbers 28 ≡ 0
+silence_lists packed is = ap (λ (range : NumberRange). frequency_bytes range 28) is.numbers
+
+note_lists : (packed : PackedSong) → IsPlayedNote packed → frequency_bytes packed.numbers 42 ≡ 10
+note_lists packed is = ap (λ (range : NumberRange). frequency_bytes range 42) is.numbers
+
 pub silences_are_measured : SilencesAreMeasured
 silences_are_measured packed is = record {
   with_none =
-      all_of packed no_options (2 ^ 37) 28 0 828 (silence_asks packed is) (silence_size packed is) refl
-      silence_with_none;
+      all_of packed no_options (2 ^ 37) 28 0 0 630 (silence_asks packed is) (silence_size packed is) refl
+      (silence_lists packed is) silence_with_none;
   with_all =
-      all_of packed (all_left_out 4) (2 ^ 37) 28 0 888 (silence_asks packed is) (silence_size packed is) refl
-      silence_with_all;
+      all_of packed (all_left_out 4) (2 ^ 37) 28 0 0 690 (silence_asks packed is) (silence_size packed is) refl
+      (silence_lists packed is) silence_with_all;
 }
 
 pub notes_are_measured : NotesAreMeasured
 notes_are_measured packed is = record {
   with_none =
-      all_of packed no_options (0x402000 + 2 ^ 41 + 2 ^ 44) 42 0 974 (note_asks packed is) (note_size packed is) refl
-      note_with_none;
+      all_of packed no_options (0x402000 + 2 ^ 41 + 2 ^ 44) 42 0 10 776 (note_asks packed is) (note_size packed is) refl
+      (note_lists packed is) note_with_none;
   with_all =
-      all_of packed (all_left_out 4) (0x402000 + 2 ^ 41 + 2 ^ 44) 42 0 1034 (note_asks packed is) (note_size packed is) refl
-      note_with_all;
+      all_of packed (all_left_out 4) (0x402000 + 2 ^ 41 + 2 ^ 44) 42 0 10 836 (note_asks packed is) (note_size packed is) refl
+      (note_lists packed is) note_with_all;
 }

@@ -39,17 +39,17 @@ parts_around holds init =
 abbrev pub code_parts : ℕ → Options → List ℕ
 code_parts asked o = parts_around (holds_in (kept_set asked o)) (init_tree (start_of o))
 
--- the bytes of the frequencies of notes, which each image has among its lists
-abbrev pub frequency_bytes : ℕ
-frequency_bytes = 196
+-- the two zeros that each image has among its lists, for row 0 of the sides of the speed table
+abbrev pub zero_bytes : ℕ
+zero_bytes = 2
 
--- how many bytes a code with these parts takes, and how many of them a part; the frequencies are counted with the code,
--- and with the part that each image has
+-- how many bytes a code with these parts takes, and how many of them a part; the zeros are counted with the code, and
+-- with the part that each image has
 abbrev pub length_of : List ℕ → ℕ
-length_of code = length code + frequency_bytes
+length_of code = length code + zero_bytes
 
 abbrev pub length_of_part : List ℕ → ℕ → ℕ
-length_of_part code part = bytes_of part code + (if part == always then frequency_bytes else 0)
+length_of_part code part = bytes_of part code + (if part == always then zero_bytes else 0)
 
 -- for what a song asks for and options
 abbrev pub code_length : ℕ → Options → ℕ

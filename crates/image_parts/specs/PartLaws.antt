@@ -2,6 +2,7 @@
 use Rattle.std.specs.Prelude.{◌≡◌, ◌≢◌, ℕ, ◌+◌, ◌≤◌, false, length, sum_by}
 use Rattle.std.specs.List.{range_with_len}
 use Rattle.play_model.specs.declared.options.Options.{Options}
+use Rattle.asked_numbers.specs.declared.range.NumberRange.{NumberRange}
 use Rattle.packed_form.specs.declared.packed_songs.PackedSong.{PackedSong}
 use Rattle.packed_form.specs.Sizes.{packed_song_size}
 use Rattle.packed_form.specs.CodeBounds.{code_bound}
@@ -10,7 +11,7 @@ use Rattle.kept_lines.specs.Starts.{start_of}
 use Rattle.kept_lines.specs.KeptLines.{keeps, kept_set}
 use Rattle.player_code.specs.CodeLaws.{code_takes}
 use Rattle.image_parts.specs.CodeParts.{always, code_parts, part_length, code_length}
-use Rattle.image_parts.specs.Lengths.{slide_bytes, image_length}
+use Rattle.image_parts.specs.Lengths.{slide_bytes, frequency_bytes, image_length}
 
 -- there are as many as the code has bytes
 abbrev pub CodeTakesItsParts : Type 0
@@ -18,11 +19,11 @@ CodeTakesItsParts =
     (asked : ℕ) (o : Options) →
     length (code_parts asked o) ≡ code_takes (holds_in (kept_set asked o)) (start_of o)
 
--- the code is the part that each image has and the 49 others
+-- the code is the part that each image has and the 53 others
 abbrev pub PartsAddUp : Type 0
 PartsAddUp =
     (asked : ℕ) (o : Options) →
-    code_length asked o ≡ part_length asked o always + sum_by (part_length asked o) (range_with_len 0 49)
+    code_length asked o ≡ part_length asked o always + sum_by (part_length asked o) (range_with_len 0 53)
 
 -- a part whose condition doesn't hold has no bytes
 abbrev pub UnkeptPartsHaveNone : Type 0
@@ -40,18 +41,18 @@ PartsAreShort = (asked : ℕ) (o : Options) → AreShort asked o
 
 -- the part that each image has is as long in each
 abbrev pub RestIsSame : Type 0
-RestIsSame = (asked : ℕ) (o : Options) → part_length asked o always ≡ 822
+RestIsSame = (asked : ℕ) (o : Options) → part_length asked o always ≡ 624
 
--- the code with the frequencies takes at most what it does where all parts are kept
+-- the code with the zeros takes at most what it does where all parts are kept
 abbrev pub CodeIsShort : Type 0
-CodeIsShort = (asked : ℕ) (o : Options) → code_length asked o ≤ 1876
+CodeIsShort = (asked : ℕ) (o : Options) → code_length asked o ≤ 1664
 
--- an image is within the bound of a packed song and its player: the code with the slides, of 255 rows at most, is within
--- the player's, whichever features that is for
+-- an image is within the bound of a packed song and its player: the code with the slides, of 255 rows at most, and with
+-- the frequencies, up to that of number 128 at most, is within the player's, whichever features that is for
 abbrev pub CodeIsBounded : Type 0
 CodeIsBounded =
-    (asked features rows : ℕ) (o : Options) → rows ≤ 255 →
-    slide_bytes asked rows + code_length asked o ≤ code_bound features o
+    (asked features rows size : ℕ) (range : NumberRange) (o : Options) → rows ≤ 255 → range.first + range.count ≤ 129 →
+    slide_bytes asked rows + frequency_bytes range size + code_length asked o ≤ code_bound features o
 
 abbrev pub ImagesAreBounded : Type 0
 ImagesAreBounded =

@@ -1,4 +1,4 @@
--- How many bytes the parts of the code take, and the images of two small packed songs, worked by hand.
+-- How many bytes the parts of the code take, the frequencies, and the images of two small packed songs, worked by hand.
 use Rattle.std.specs.Prelude.{◌≡◌, ℕ, ◌+◌, ◌-◌, ◌^◌, true, [], ◌∷◌, length, map}
 use Rattle.std.specs.List.{range_with_len}
 use Rattle.play_model.specs.declared.options.System.TheVariants.{Ntsc}
@@ -10,16 +10,17 @@ use Rattle.packed_form.specs.declared.packed_songs.PackedSong.{PackedSong}
 use Rattle.packed_form.specs.WorkedUnpacked.{IsPackedNote}
 use Rattle.player_memory.specs.declared.conditions.TheConstants.{VIBRATO, WAVE_TABLE, SKIP_EFFECTS, SWINGS}
 use Rattle.player_memory.specs.declared.conditions.TheConstants.{ROW_SLIDE, ROW_ONCE, LEGATO, NO_HARD_RESTART, WAVE_DELAY}
-use Rattle.player_memory.specs.declared.conditions.TheConstants.{ROW_COMMAND, SPECIAL_ROW, HELD_NOTE}
+use Rattle.player_memory.specs.declared.conditions.TheConstants.{ROW_COMMAND, SPECIAL_ROW, HELD_NOTE, SET_TEMPO}
+use Rattle.player_memory.specs.declared.conditions.TheConstants.{VOICE_TEMPO, COMMON_TEMPO, FUNK_TURNS, FUNK_CHOICE}
 use Rattle.image_parts.specs.CodeParts.{always, part_length, code_length}
-use Rattle.image_parts.specs.Lengths.{slide_bytes, image_length}
+use Rattle.image_parts.specs.Lengths.{slide_bytes, frequency_bytes, image_length}
 
 -- all features, and all facts
 abbrev pub every_feature : ℕ
 every_feature = 2 ^ 24 - 1
 
 abbrev pub every_fact : ℕ
-every_fact = 2 ^ 46 - 2 ^ 34
+every_fact = 2 ^ 50 - 2 ^ 34
 
 -- how many bytes a part takes in a song that asks for all of them, with all options
 abbrev pub all_parts : ℕ → ℕ
@@ -36,34 +37,39 @@ alone_part condition = part_of condition condition
 abbrev pub part_of_both : ℕ → ℕ → ℕ → ℕ
 part_of_both one other = part_length (2 ^ one + 2 ^ other) no_options
 
+-- and in a song whose rows set tempos, of one voice and of all
+abbrev pub with_tempos : ℕ → ℕ
+with_tempos = part_length (2 ^ ROW_ONCE + 2 ^ SET_TEMPO + 2 ^ VOICE_TEMPO + 2 ^ COMMON_TEMPO) no_options
+
 -- Where all are kept the features come first, then the options, what features have in common, the facts, and what facts
 -- or features have in common. A command of the wave table has lines of its own. A vibrato has none but those that it has in common
 -- with others.
 pub record PartsAreMeasured : Type 0 where
   pub features : map all_parts (range_with_len 0 24)
-      ≡ 16 ∷ 21 ∷ 4 ∷ 4 ∷ 58 ∷ 4 ∷ 0 ∷ 20 ∷ 82 ∷ 14 ∷ 14 ∷ 14 ∷ 12 ∷ 82 ∷ 24 ∷ 76 ∷ 24 ∷ 28 ∷ 14 ∷ 22 ∷ 66 ∷ 37 ∷ 45
+      ≡ 16 ∷ 21 ∷ 4 ∷ 4 ∷ 52 ∷ 4 ∷ 0 ∷ 20 ∷ 76 ∷ 14 ∷ 14 ∷ 14 ∷ 12 ∷ 82 ∷ 24 ∷ 76 ∷ 24 ∷ 28 ∷ 14 ∷ 22 ∷ 13 ∷ 4 ∷ 45
       ∷ 80 ∷ []
   pub options : map all_parts (range_with_len 24 4) ≡ 13 ∷ 6 ∷ 10 ∷ 36 ∷ []
-  pub common : map all_parts (range_with_len 28 6) ≡ 29 ∷ 10 ∷ 10 ∷ 17 ∷ 17 ∷ 5 ∷ []
-  pub facts : map all_parts (range_with_len 34 12)
-      ≡ 19 ∷ 18 ∷ 11 ∷ 6 ∷ 2 ∷ 2 ∷ 19 ∷ 12 ∷ 6 ∷ 6 ∷ 13 ∷ 13 ∷ []
-  pub common_facts : map all_parts (range_with_len 46 3) ≡ 2 ∷ 4 ∷ 7 ∷ []
-  pub no_more : all_parts 49 ≡ 0
-  pub rest : all_parts always ≡ 822
-  pub whole : code_length (every_feature + every_fact) (all_left_out 4) ≡ 1876
+  pub common : map all_parts (range_with_len 28 6) ≡ 29 ∷ 10 ∷ 10 ∷ 17 ∷ 17 ∷ 3 ∷ []
+  pub facts : map all_parts (range_with_len 34 16)
+      ≡ 19 ∷ 18 ∷ 11 ∷ 6 ∷ 2 ∷ 2 ∷ 19 ∷ 12 ∷ 6 ∷ 6 ∷ 13 ∷ 13 ∷ 18 ∷ 15 ∷ 17 ∷ 36 ∷ []
+  pub common_facts : map all_parts (range_with_len 50 3) ≡ 2 ∷ 4 ∷ 7 ∷ []
+  pub no_more : all_parts 53 ≡ 0
+  pub rest : all_parts always ≡ 624
+  pub whole : code_length (every_feature + every_fact) (all_left_out 4) ≡ 1664
   -- the features without the facts, and these without the features
-  pub no_fact : code_length every_feature (all_left_out 4) ≡ 1561
-  pub no_feature : code_length every_fact no_options ≡ 939
+  pub no_fact : code_length every_feature (all_left_out 4) ≡ 1349
+  pub no_feature : code_length every_fact no_options ≡ 794
   -- none is kept, and nothing else can be asked for
-  pub bare : code_length 0 no_options ≡ 822
-  pub bare_rest : part_length 0 no_options always ≡ 822
-  pub ntsc : code_length 0 (record no_options { system = Ntsc }) ≡ 822
-  pub no_others : code_length (2 ^ 24 + 2 ^ 28 + 2 ^ 33 + 2 ^ 46 + 2 ^ 49) no_options ≡ 822
-  -- one is kept alone; commands that are done once take nothing where no row has one, nor delays without a wave program
+  pub bare : code_length 0 no_options ≡ 624
+  pub bare_rest : part_length 0 no_options always ≡ 624
+  pub ntsc : code_length 0 (record no_options { system = Ntsc }) ≡ 624
+  pub no_others : code_length (2 ^ 24 + 2 ^ 28 + 2 ^ 33 + 2 ^ 50 + 2 ^ 53) no_options ≡ 624
+  -- one is kept alone; commands that are done once take nothing where no row has one, nor their tempos, nor delays
+  -- without a wave program
   pub alone : map alone_part (range_with_len 0 24)
-      ≡ 16 ∷ 21 ∷ 4 ∷ 4 ∷ 58 ∷ 4 ∷ 0 ∷ 20 ∷ 73 ∷ 0 ∷ 0 ∷ 0 ∷ 0 ∷ 82 ∷ 0 ∷ 76 ∷ 0 ∷ 0 ∷ 0 ∷ 0 ∷ 13 ∷ 0 ∷ 45 ∷ 69 ∷ []
-  pub alone_facts : map alone_part (range_with_len 34 12)
-      ≡ 19 ∷ 18 ∷ 11 ∷ 6 ∷ 2 ∷ 2 ∷ 0 ∷ 12 ∷ 6 ∷ 6 ∷ 13 ∷ 13 ∷ []
+      ≡ 16 ∷ 21 ∷ 4 ∷ 4 ∷ 52 ∷ 4 ∷ 0 ∷ 20 ∷ 67 ∷ 0 ∷ 0 ∷ 0 ∷ 0 ∷ 82 ∷ 0 ∷ 76 ∷ 0 ∷ 0 ∷ 0 ∷ 0 ∷ 13 ∷ 0 ∷ 45 ∷ 69 ∷ []
+  pub alone_facts : map alone_part (range_with_len 34 16)
+      ≡ 19 ∷ 18 ∷ 11 ∷ 6 ∷ 2 ∷ 2 ∷ 0 ∷ 12 ∷ 6 ∷ 6 ∷ 13 ∷ 13 ∷ 0 ∷ 0 ∷ 0 ∷ 0 ∷ []
   pub swings : part_of VIBRATO SWINGS ≡ 29
   pub slide_common : part_of ROW_SLIDE ROW_COMMAND ≡ 2
   pub once_common : part_of ROW_ONCE ROW_COMMAND ≡ 2
@@ -72,17 +78,32 @@ pub record PartsAreMeasured : Type 0 where
   pub effects : part_length 0 (record no_options { skip_effects = true }) SKIP_EFFECTS ≡ 8
   -- with rows whose commands are done once, and with a wave program
   pub at_rows : map (λ feature. part_of_both ROW_ONCE feature feature) (range_with_len 9 13)
-      ≡ 7 ∷ 7 ∷ 7 ∷ 12 ∷ 82 ∷ 12 ∷ 76 ∷ 12 ∷ 14 ∷ 7 ∷ 11 ∷ 66 ∷ 37 ∷ []
+      ≡ 7 ∷ 7 ∷ 7 ∷ 12 ∷ 82 ∷ 12 ∷ 76 ∷ 12 ∷ 14 ∷ 7 ∷ 11 ∷ 13 ∷ 4 ∷ []
+  pub turns : part_of_both ROW_ONCE FUNK_TURNS FUNK_TURNS ≡ 17
+  pub choice : part_of_both ROW_ONCE FUNK_CHOICE FUNK_CHOICE ≡ 36
+  pub tempos : map with_tempos (VOICE_TEMPO ∷ COMMON_TEMPO ∷ []) ≡ 18 ∷ 15 ∷ []
+  pub no_tempos : part_of_both ROW_ONCE COMMON_TEMPO COMMON_TEMPO ≡ 0
   pub delay : part_of_both WAVE_TABLE WAVE_DELAY WAVE_DELAY ≡ 19
   pub delay_common : part_of_both WAVE_TABLE WAVE_DELAY SPECIAL_ROW ≡ 4
   -- where no speed is calculated there are no slides, and else three lists with row 0
   pub no_slides : slide_bytes (every_feature - 2 ^ 8 + every_fact) 5 ≡ 0
   pub slides : slide_bytes (2 ^ 8) 5 ≡ 18
 
+-- ---- frequencies
+
+-- a song of 100 bytes that asks for the numbers 48 to 50 lists these, and one of 40 the numbers 42 to 50; with 46 bytes
+-- and more in front, none but the own numbers are listed
+pub record FrequenciesAreMeasured : Type 0 where
+  pub long : frequency_bytes (record { first = 48; count = 3 }) 100 ≡ 6
+  pub just_long : frequency_bytes (record { first = 48; count = 3 }) 46 ≡ 6
+  pub short : frequency_bytes (record { first = 48; count = 3 }) 40 ≡ 18
+  pub all : frequency_bytes (record { first = 0; count = 129 }) 40 ≡ 258
+  pub none : frequency_bytes (record { first = 0; count = 0 }) 40 ≡ 0
+
 -- ---- a silence
 
 -- pattern 0 again and again in each channel, which is one rest, and instrument 1, which every song uses: it isn't
--- stored, so its first waveform is 0. No feature, and that one fact.
+-- stored, so its first waveform is 0. No feature, that one fact, and no number.
 abbrev pub silent_subtune : PackedSubtune
 silent_subtune = record { one = 0 ∷ 0xFF ∷ 0 ∷ []; two = 0 ∷ 0xFF ∷ 0 ∷ []; three = 0 ∷ 0xFF ∷ 0 ∷ [] }
 
@@ -96,28 +117,31 @@ pub record IsPackedSilence (packed : PackedSong) : Type 0 where
   pub speed : packed.speed ≡ []
   pub features : packed.features.0 ≡ 0
   pub facts : packed.facts ≡ record no_facts { first_mask = true }
+  pub numbers : packed.numbers ≡ record { first = 0; count = 0 }
 
--- 28 bytes of the packed song, 822 of each player, and 6 for the first waveform; 8, 6, 10 and 36 more where all four
+-- 28 bytes of the packed song, 624 of each player, and 6 for the first waveform; 8, 6, 10 and 36 more where all four
 -- options are on
 pub record SilenceIsMeasured (packed : PackedSong) : Type 0 where
-  pub with_none : image_length packed no_options ≡ 856
-  pub with_all : image_length packed (all_left_out 4) ≡ 916
+  pub with_none : image_length packed no_options ≡ 658
+  pub with_all : image_length packed (all_left_out 4) ≡ 718
 
 abbrev pub SilencesAreMeasured : Type 0
 SilencesAreMeasured = (packed : PackedSong) → IsPackedSilence packed → SilenceIsMeasured packed
 
 -- ---- a note
 
--- a song of one note, which has a wave and a pulse program, and of a keyoff: 42 bytes, the 822, and 45, 82, 12 and 13
--- of the parts for these and for the instrument's pulse program
+-- a song of one note, which has a wave and a pulse program, and of a keyoff: 42 bytes, the 624, and 45, 82, 12 and 13
+-- of the parts for these and for the instrument's pulse program; and 10 of the frequencies 44 to 48, with 44 bytes in
+-- front of them
 pub record IsPlayedNote (packed : PackedSong) : Type 0 where
   pub lists : IsPackedNote packed
   pub features : packed.features.0 ≡ 0x402000
   pub facts : packed.facts ≡ record no_facts { gate_note = true; note_pulse = true }
+  pub numbers : packed.numbers ≡ record { first = 48; count = 1 }
 
 pub record NoteIsMeasured (packed : PackedSong) : Type 0 where
-  pub with_none : image_length packed no_options ≡ 1016
-  pub with_all : image_length packed (all_left_out 4) ≡ 1076
+  pub with_none : image_length packed no_options ≡ 828
+  pub with_all : image_length packed (all_left_out 4) ≡ 888
 
 abbrev pub NotesAreMeasured : Type 0
 NotesAreMeasured = (packed : PackedSong) → IsPlayedNote packed → NoteIsMeasured packed

@@ -3,7 +3,8 @@
 ghost use Rattle.image_parts.specs.CodeLines.{LinesStandAround};
 ghost use Rattle.image_parts.specs.PartLaws.{CodeTakesItsParts, PartsAddUp, PartsAreShort, UnkeptPartsHaveNone};
 ghost use Rattle.image_parts.specs.PartLaws.{RestIsSame, CodeIsShort, CodeIsBounded, ImagesAreBounded};
-ghost use Rattle.image_parts.specs.WorkedLengths.{PartsAreMeasured, SilencesAreMeasured, NotesAreMeasured};
+ghost use Rattle.image_parts.specs.WorkedLengths.{PartsAreMeasured, FrequenciesAreMeasured, SilencesAreMeasured};
+ghost use Rattle.image_parts.specs.WorkedLengths.{NotesAreMeasured};
 
 /// There are as many parts as the code has bytes, and they add up to it; and the lines of the code are those of its
 /// blocks, with the bytes around them that are counted.
@@ -14,7 +15,7 @@ pub fn parts_add_up()
 {}
 
 /// A part that isn't kept has no bytes, no other one has more than 320, and the one that every image has no more than
-/// 3,072: it has 822, whichever others are kept. The code has at most 1,876 with the frequencies; and an image is within
+/// 3,072: it has 624, whichever others are kept. The code has at most 1,664 with the zeros; and an image is within
 /// the bound of its packed song and a player.
 pub fn parts_are_bounded()
     ensures none { UnkeptPartsHaveNone }
@@ -25,10 +26,11 @@ pub fn parts_are_bounded()
     ensures image { ImagesAreBounded }
 {}
 
-/// How many bytes each part takes where all are kept, and where one feature or fact is asked for alone; and how long
-/// the images of two small packed songs are.
+/// How many bytes each part takes where all are kept, and where one feature or fact is asked for alone; how many
+/// bytes the frequencies of some ranges take; and how long the images of two small packed songs are.
 pub fn worked_lengths()
     ensures parts { PartsAreMeasured }
+    ensures frequencies { FrequenciesAreMeasured }
     ensures silence { SilencesAreMeasured }
     ensures note { NotesAreMeasured }
 {}

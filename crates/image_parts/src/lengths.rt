@@ -3,22 +3,24 @@
 ghost use Rattle.std.specs.Prelude.{◌≡◌, ◌≤◌, length};
 ghost use Rattle.scope_parts.specs.Parts.{bytes_of};
 ghost use Rattle.image_parts.specs.CodeParts.{length_of, length_of_part};
-ghost use Rattle.image_parts.specs.Lengths.{slide_bytes, bytes_of_image};
+ghost use Rattle.packed_form.specs.Sizes.{packed_song_size};
+ghost use Rattle.image_parts.specs.Lengths.{slide_bytes, frequency_bytes, bytes_of_image};
 
 use crate::parts::ALWAYS;
 use kept_lines::{Conditions, asked_by};
 use packed_form::PackedSong;
 use player_memory::conditions::NOTE_DEPENDENT;
+use player_memory::listed_numbers;
 
-/// The bytes of the frequencies of notes, which every image has among its lists.
-const FREQUENCY_BYTES: u32 = 196;
+/// The two zeros that every image has among its lists, for row 0 of the sides of the speed table.
+const ZERO_BYTES: u32 = 2;
 
-/// The bytes of the code whose bytes have these parts, and of the frequencies.
+/// The bytes of the code whose bytes have these parts, and of the zeros.
 pub fn code_length(code: &[u8]) -> u32
     requires { length code.now ≤ 65535 }
     ensures { result ≡ length_of code.now }
 {
-    code.len() as u32 + FREQUENCY_BYTES
+    code.len() as u32 + ZERO_BYTES
 }
 
 /// How many bytes of a list are of a part.
@@ -37,14 +39,14 @@ fn bytes_of(part: u8, code: &[u8]) -> u32
 }
 
 /// The bytes of a part of the code whose bytes have these parts; the one that every image has is counted with the
-/// frequencies.
+/// zeros.
 pub fn part_length(code: &[u8], part: u8) -> u32
     requires { length code.now ≤ 65535 }
     ensures { result ≡ length_of_part code.now part }
 {
     let own = bytes_of(part, code);
     if part == ALWAYS {
-        own + FREQUENCY_BYTES
+        own + ZERO_BYTES
     } else {
         own
     }
@@ -63,12 +65,23 @@ pub fn slide_bytes(asked: Conditions, rows: u32) -> u32
     }
 }
 
-/// The bytes of the image of a packed song whose code has these parts: those of the packed song, those of its slides,
-/// and those of the code and the frequencies.
+/// The bytes of the frequencies that are listed for a packed song, two of each.
+pub fn frequency_bytes(packed: &PackedSong) -> u32
+    ensures bytes { result ≡ frequency_bytes packed.now.numbers (packed_song_size packed.now) }
+    ensures most { result ≤ 258 }
+{
+    2 * u32::from(listed_numbers(packed).count)
+}
+
+/// The bytes of the image of a packed song whose code has these parts: those of the packed song, those of its slides and
+/// of its frequencies, and those of the code and the zeros.
 pub fn image_length(packed: &PackedSong, code: &[u8]) -> u32
     requires { length code.now ≤ 65535 }
     ensures { result ≡ bytes_of_image packed.now code.now }
 {
     let rows = packed.speed.as_slice().len() as u32;
-    packed.size() + slide_bytes(asked_by(packed), rows) + code_length(code)
+    packed.size()
+        + slide_bytes(asked_by(packed), rows)
+        + frequency_bytes(packed)
+        + code_length(code)
 }

@@ -8,10 +8,10 @@ use Rattle.std.proofs.lemmas.List.{length-append, length-replicate, get_or-repli
 use Rattle.std.proofs.lemmas.List.Elements.{All-nil, All-cons, Contains-append_left, Contains-append_right}
 use Rattle.std.proofs.lemmas.List.Elements.{Contains-append_cases}
 use Rattle.play_model.specs.declared.options.Options.{Options}
-use Rattle.image_parts.specs.CodeParts.{always, code_parts, frequency_bytes}
+use Rattle.image_parts.specs.CodeParts.{always, code_parts, zero_bytes}
 use Rattle.player_build.specs.declared.image.PartSpan.{PartSpan}
-use Rattle.player_build.specs.Joined.{Follow, frequency_span}
-use Rattle.player_build.specs.Spans.{frequencies, parts_of_spans, IsNamed, IsNamedAs, spans_size}
+use Rattle.player_build.specs.Joined.{Follow, zero_span}
+use Rattle.player_build.specs.Spans.{zero_length, parts_of_spans, IsNamed, IsNamedAs, spans_size}
 use Rattle.player_build.proofs.Joining.{named_behind, follows_size}
 
 -- ---- in one of two lists
@@ -104,52 +104,52 @@ follow_bounds (span ∷ spans) from to byte f n =
     more : (from length byte : ℕ) → from + length ≤ byte → from ≤ byte
     more from length byte h = omega (arith, h)
 
--- ---- a byte in spans of code and frequencies isn't the packed song's
+-- ---- a byte in spans of code and zeros isn't the packed song's
 
-in_code : (byte code rows all : ℕ) → code + frequency_bytes ≡ all → byte < code →
-    ((all - frequencies ≤ byte) × (byte < all - frequencies + rows)) ⊎ (all + rows ≤ byte) → ⊥
+in_code : (byte code rows all : ℕ) → code + zero_bytes ≡ all → byte < code →
+    ((all - zero_length ≤ byte) × (byte < all - zero_length + rows)) ⊎ (all + rows ≤ byte) → ⊥
 in_code byte code rows all e h (inl p) = first _ _ _ e h p.0
   where
-    first : (byte code all : ℕ) → code + frequency_bytes ≡ all → byte < code → all - frequencies ≤ byte → ⊥
+    first : (byte code all : ℕ) → code + zero_bytes ≡ all → byte < code → all - zero_length ≤ byte → ⊥
     first byte code all e h l = omega (arith, e, h, l)
 in_code byte code rows all e h (inr p) = omega (arith, e, h, p)
 
-in_lows : (byte code rows all : ℕ) → code + frequency_bytes ≡ all → byte < code + frequencies →
-    ((all - frequencies ≤ byte) × (byte < all - frequencies + rows)) ⊎ (all + rows ≤ byte) → ⊥
-in_lows byte code rows all e h (inl p) = first _ _ _ e h p.0
+in_first_zero : (byte code rows all : ℕ) → code + zero_bytes ≡ all → byte < code + zero_length →
+    ((all - zero_length ≤ byte) × (byte < all - zero_length + rows)) ⊎ (all + rows ≤ byte) → ⊥
+in_first_zero byte code rows all e h (inl p) = first _ _ _ e h p.0
   where
-    first : (byte code all : ℕ) → code + frequency_bytes ≡ all → byte < code + frequencies →
-        all - frequencies ≤ byte → ⊥
+    first : (byte code all : ℕ) → code + zero_bytes ≡ all → byte < code + zero_length →
+        all - zero_length ≤ byte → ⊥
     first byte code all e h l = omega (arith, e, h, l)
-in_lows byte code rows all e h (inr p) = omega (arith, e, h, p)
+in_first_zero byte code rows all e h (inr p) = omega (arith, e, h, p)
 
-in_highs : (byte code speeds rows all : ℕ) → code + frequency_bytes ≡ all → speeds ≡ rows →
-    code + frequencies + speeds ≤ byte → byte < code + frequencies + speeds + frequencies →
-    ((all - frequencies ≤ byte) × (byte < all - frequencies + rows)) ⊎ (all + rows ≤ byte) → ⊥
-in_highs byte code speeds rows all e f l h (inl p) = first _ _ _ _ _ e f l p.1
+in_second_zero : (byte code speeds rows all : ℕ) → code + zero_bytes ≡ all → speeds ≡ rows →
+    code + zero_length + speeds ≤ byte → byte < code + zero_length + speeds + zero_length →
+    ((all - zero_length ≤ byte) × (byte < all - zero_length + rows)) ⊎ (all + rows ≤ byte) → ⊥
+in_second_zero byte code speeds rows all e f l h (inl p) = first _ _ _ _ _ e f l p.1
   where
-    first : (byte code speeds rows all : ℕ) → code + frequency_bytes ≡ all → speeds ≡ rows →
-        code + frequencies + speeds ≤ byte → byte < all - frequencies + rows → ⊥
+    first : (byte code speeds rows all : ℕ) → code + zero_bytes ≡ all → speeds ≡ rows →
+        code + zero_length + speeds ≤ byte → byte < all - zero_length + rows → ⊥
     first byte code speeds rows all e f l h = omega (arith, e, f, l, h)
-in_highs byte code speeds rows all e f l h (inr p) = omega (arith, e, f, h, p)
+in_second_zero byte code speeds rows all e f l h (inr p) = omega (arith, e, f, h, p)
 
-pub none_packed : (byte code speeds rows all : ℕ) → code + frequency_bytes ≡ all → speeds ≡ rows →
+pub none_packed : (byte code speeds rows all : ℕ) → code + zero_bytes ≡ all → speeds ≡ rows →
     (front : List PartSpan) → Follow 0 front code →
-    IsNamed (front ++ frequency_span code ∷ frequency_span (code + frequencies + speeds) ∷ []) byte →
-    ((all - frequencies ≤ byte) × (byte < all - frequencies + rows)) ⊎ (all + rows ≤ byte) → ⊥
+    IsNamed (front ++ zero_span code ∷ zero_span (code + zero_length + speeds) ∷ []) byte →
+    ((all - zero_length ≤ byte) × (byte < all - zero_length + rows)) ⊎ (all + rows ≤ byte) → ⊥
 none_packed byte code speeds rows all e f front follow n p =
-    let highs : List PartSpan = frequency_span (code + frequencies + speeds) ∷ [] in
-    elim (named_split front (frequency_span code ∷ highs) byte n) [
+    let behind : List PartSpan = zero_span (code + zero_length + speeds) ∷ [] in
+    elim (named_split front (zero_span code ∷ behind) byte n) [
       | inl a ↦
           let first = a in in_code byte code rows all e (follow_bounds front 0 code byte follow first).1 p
       | inr a ↦
           let rest = a in
-          elim (named_cases (frequency_span code) highs byte rest) [
-            | inl b ↦ let second = b in in_lows byte code rows all e second.1 p
+          elim (named_cases (zero_span code) behind byte rest) [
+            | inl b ↦ let second = b in in_first_zero byte code rows all e second.1 p
             | inr b ↦
                 let last = b in
-                elim (named_cases (frequency_span (code + frequencies + speeds)) [] byte last) [
-                  | inl c ↦ let third = c in in_highs byte code speeds rows all e f third.0 third.1 p
+                elim (named_cases (zero_span (code + zero_length + speeds)) [] byte last) [
+                  | inl c ↦ let third = c in in_second_zero byte code speeds rows all e f third.0 third.1 p
                   | inr c ↦ let none = c in absurd (named_none byte none)
                 ]
           ]
@@ -262,15 +262,14 @@ front_named spans asked o to follow parts byte few = begins_with spans to 120 by
     less : (byte : ℕ) → byte < 119 → byte < 120
     less byte h = omega (arith, h)
 
--- the frequencies behind the code
-frequency_named : (start note : ℕ) (back : List PartSpan) → note < frequencies →
-    IsNamedAs (frequency_span start ∷ back) (start + note) always
-frequency_named start note back few = record {
+-- a zero at a place
+zero_named : (start : ℕ) (back : List PartSpan) → IsNamedAs (zero_span start ∷ back) start always
+zero_named start back = record {
   named = record {
-    span = frequency_span start;
+    span = zero_span start;
     is_there = (0, some (length back), refl);
-    from = begin start note;
-    below = end start note few;
+    from = begin start;
+    below = end start;
   };
   part_is = refl;
 }
@@ -278,32 +277,31 @@ frequency_named start note back few = record {
     some : (n : ℕ) → 0 < suc n
     some n = omega arith
 
-    begin : (start note : ℕ) → start ≤ start + note
-    begin start note = omega arith
+    begin : (start : ℕ) → start ≤ start
+    begin start = omega arith
 
-    end : (start note : ℕ) → note < frequencies → start + note < start + frequencies
-    end start note h = omega (arith, h)
+    end : (start : ℕ) → start < start + zero_length
+    end start = omega arith
 
-pub lows_named : (front : List PartSpan) (code other all note : ℕ) → code + frequency_bytes ≡ all → note < frequencies →
-    IsNamedAs (front ++ frequency_span code ∷ frequency_span other ∷ []) (all - frequency_bytes + note) always
-lows_named front code other all note e few =
-    subst (λ n. IsNamedAs (front ++ frequency_span code ∷ frequency_span other ∷ []) n always) (there code all note e)
-    (named_as_right front _ (code + note) always (frequency_named code note (frequency_span other ∷ []) few))
+-- the one behind the code, and the one behind the speed table's right sides
+pub first_zero_named : (front : List PartSpan) (code other all : ℕ) → code + zero_bytes ≡ all →
+    IsNamedAs (front ++ zero_span code ∷ zero_span other ∷ []) (all - zero_bytes) always
+first_zero_named front code other all e =
+    subst (λ n. IsNamedAs (front ++ zero_span code ∷ zero_span other ∷ []) n always) (there code all e)
+    (named_as_right front _ code always (zero_named code (zero_span other ∷ [])))
   where
-    there : (code all note : ℕ) → code + frequency_bytes ≡ all → code + note ≡ all - frequency_bytes + note
-    there code all note e = omega (arith, e)
+    there : (code all : ℕ) → code + zero_bytes ≡ all → code ≡ all - zero_bytes
+    there code all e = omega (arith, e)
 
-pub highs_named : (front : List PartSpan) (code speeds rows all note : ℕ) → code + frequency_bytes ≡ all →
-    speeds ≡ rows → note < frequencies →
-    IsNamedAs (front ++ frequency_span code ∷ frequency_span (code + frequencies + speeds) ∷ [])
-    (all - frequencies + rows + note) always
-highs_named front code speeds rows all note e f few =
-    subst (λ n. IsNamedAs (front ++ frequency_span code ∷ frequency_span (code + frequencies + speeds) ∷ []) n always)
-    (there code speeds rows all note e f)
-    (named_as_right front _ (code + frequencies + speeds + note) always
-    (named_as_behind (frequency_span code) (frequency_span (code + frequencies + speeds) ∷ []) _ always
-    (frequency_named (code + frequencies + speeds) note [] few)))
+pub second_zero_named : (front : List PartSpan) (code speeds rows all : ℕ) → code + zero_bytes ≡ all → speeds ≡ rows →
+    IsNamedAs (front ++ zero_span code ∷ zero_span (code + zero_length + speeds) ∷ []) (all - zero_length + rows) always
+second_zero_named front code speeds rows all e f =
+    subst (λ n. IsNamedAs (front ++ zero_span code ∷ zero_span (code + zero_length + speeds) ∷ []) n always)
+    (there code speeds rows all e f)
+    (named_as_right front _ (code + zero_length + speeds) always
+    (named_as_behind (zero_span code) (zero_span (code + zero_length + speeds) ∷ []) _ always
+    (zero_named (code + zero_length + speeds) [])))
   where
-    there : (code speeds rows all note : ℕ) → code + frequency_bytes ≡ all → speeds ≡ rows →
-        code + frequencies + speeds + note ≡ all - frequencies + rows + note
-    there code speeds rows all note e f = omega (arith, e, f)
+    there : (code speeds rows all : ℕ) → code + zero_bytes ≡ all → speeds ≡ rows →
+        code + zero_length + speeds ≡ all - zero_length + rows
+    there code speeds rows all e f = omega (arith, e, f)

@@ -9,41 +9,41 @@ use Rattle.packed_form.specs.declared.packed_songs.PackedSong.{PackedSong}
 use Rattle.packed_form.specs.Sizes.{packed_song_size}
 use Rattle.scope_parts.specs.Parts.{bytes_of}
 use Rattle.kept_lines.specs.Asked.{asked_by}
-use Rattle.image_parts.specs.CodeParts.{always, code_parts, code_length, frequency_bytes}
-use Rattle.image_parts.specs.Lengths.{slide_bytes, image_length}
+use Rattle.image_parts.specs.CodeParts.{always, code_parts, code_length, zero_bytes}
+use Rattle.image_parts.specs.Lengths.{slide_bytes, frequency_bytes, image_length}
 use Rattle.player_build.specs.declared.image.PartSpan.{PartSpan}
-use Rattle.player_build.specs.Spans.{StandInOrder, spans_size, part_size, parts_of_spans, frequencies, IsNamed, NamesParts}
-use Rattle.player_build.specs.Joined.{Follow, frequency_span, AreSpansOf}
+use Rattle.player_build.specs.Spans.{StandInOrder, spans_size, part_size, parts_of_spans, zero_length, IsNamed, song_bytes, NamesParts}
+use Rattle.player_build.specs.Joined.{Follow, zero_span, AreSpansOf}
 use Rattle.player_build.proofs.Parted.{spans_split, spans_bytes}
 use Rattle.player_build.proofs.Joining.{follows_size, follows_named}
 use Rattle.player_build.proofs.Naming.{named_left, named_right, named_as_left, code_named, none_packed, follow_inside}
-use Rattle.player_build.proofs.Naming.{front_named, lows_named, highs_named}
+use Rattle.player_build.proofs.Naming.{front_named, first_zero_named, second_zero_named}
 
 -- ---- the spans of an image
 
-frequencies_sum : (code one two : ℕ) → code + (0 + one + two) ≡ code + one + two
-frequencies_sum code one two = omega arith
+zeros_sum : (code one two : ℕ) → code + (0 + one + two) ≡ code + one + two
+zeros_sum code one two = omega arith
 
 -- of one part
 pub spans_part : (part : ℕ) (code : List PartSpan) (a b : ℕ) →
-    part_size part (code ++ frequency_span a ∷ frequency_span b ∷ [])
-    ≡ part_size part code + (if always == part then frequencies else 0)
-    + (if always == part then frequencies else 0)
+    part_size part (code ++ zero_span a ∷ zero_span b ∷ [])
+    ≡ part_size part code + (if always == part then zero_length else 0)
+    + (if always == part then zero_length else 0)
 spans_part part code a b =
-    sum_by-append _ code (frequency_span a ∷ frequency_span b ∷ [])
-    ∙ frequencies_sum (part_size part code)
-    (if always == part then frequencies else 0) (if always == part then frequencies else 0)
+    sum_by-append _ code (zero_span a ∷ zero_span b ∷ [])
+    ∙ zeros_sum (part_size part code)
+    (if always == part then zero_length else 0) (if always == part then zero_length else 0)
 
 pub spans_all : (code : List PartSpan) (a b : ℕ) →
-    spans_size (code ++ frequency_span a ∷ frequency_span b ∷ []) ≡ spans_size code + frequencies + frequencies
+    spans_size (code ++ zero_span a ∷ zero_span b ∷ []) ≡ spans_size code + zero_length + zero_length
 spans_all code a b =
-    sum_by-append _ code (frequency_span a ∷ frequency_span b ∷ [])
-    ∙ frequencies_sum (spans_size code) frequencies frequencies
+    sum_by-append _ code (zero_span a ∷ zero_span b ∷ [])
+    ∙ zeros_sum (spans_size code) zero_length zero_length
 
 -- each part has its length
 part_is : (part : ℕ) (front : List PartSpan) (code : List ℕ) (a b : ℕ) → parts_of_spans front ≡ code →
-    part_size part (front ++ frequency_span a ∷ frequency_span b ∷ [])
-    ≡ bytes_of part code + (if part == always then frequency_bytes else 0)
+    part_size part (front ++ zero_span a ∷ zero_span b ∷ [])
+    ≡ bytes_of part code + (if part == always then zero_bytes else 0)
 part_is part front code a b parts =
     let all = spans_part part front a b in
     let own = spans_bytes part front ∙ ap (bytes_of part) parts in
@@ -61,16 +61,16 @@ part_is part front code a b parts =
     same_is part e = rw e refl
 
     by_both : (y z : Bool) → y ≡ true → z ≡ true → {spans own bytes : ℕ} →
-        spans ≡ own + (if y then frequencies else 0) + (if y then frequencies else 0) → own ≡ bytes →
-        spans ≡ bytes + (if z then frequency_bytes else 0)
+        spans ≡ own + (if y then zero_length else 0) + (if y then zero_length else 0) → own ≡ bytes →
+        spans ≡ bytes + (if z then zero_bytes else 0)
     by_both true true y z all own = omega (arith, all, own)
     by_both true false y z all own = absurd (cc)
     by_both false true y z all own = absurd (cc)
     by_both false false y z all own = absurd (cc)
 
     by_none : (y z : Bool) → y ≡ false → z ≡ false → {spans own bytes : ℕ} →
-        spans ≡ own + (if y then frequencies else 0) + (if y then frequencies else 0) → own ≡ bytes →
-        spans ≡ bytes + (if z then frequency_bytes else 0)
+        spans ≡ own + (if y then zero_length else 0) + (if y then zero_length else 0) → own ≡ bytes →
+        spans ≡ bytes + (if z then zero_bytes else 0)
     by_none false false y z all own = omega (arith, all, own)
     by_none true true y z all own = absurd (cc)
     by_none true false y z all own = absurd (cc)
@@ -78,20 +78,20 @@ part_is part front code a b parts =
 
 -- ---- the spans name the parts
 
-end_follows : (code speeds : ℕ) → code + frequencies + frequencies + speeds ≡ code + frequencies + speeds + frequencies
+end_follows : (code speeds : ℕ) → code + zero_length + zero_length + speeds ≡ code + zero_length + speeds + zero_length
 end_follows code speeds = omega arith
 
 code_end : (from code : ℕ) → from ≡ code → from ≤ code
 code_end from code e = omega (arith, e)
 
-rows_between : (code speeds : ℕ) → code + frequencies ≤ code + frequencies + speeds
+rows_between : (code speeds : ℕ) → code + zero_length ≤ code + zero_length + speeds
 rows_between code speeds = omega arith
 
 span_begin : (start from : ℕ) → start ≡ from → from ≤ start
 span_begin start from e = omega (arith, e)
 
 all_in_order : (front : List PartSpan) (from code speeds : ℕ) → Follow from front code →
-    StandInOrder from (front ++ frequency_span code ∷ frequency_span (code + frequencies + speeds) ∷ [])
+    StandInOrder from (front ++ zero_span code ∷ zero_span (code + zero_length + speeds) ∷ [])
 all_in_order [] from code speeds f = (code_end from code f, (rows_between code speeds, tt))
 all_in_order (span ∷ front) from code speeds f = (
   span_begin _ _ f.0,
@@ -108,51 +108,51 @@ one_few = omega arith
 nothing_low : (byte : ℕ) → 0 ≤ byte
 nothing_low byte = omega arith
 
-rows_low : (byte code all : ℕ) → code + frequency_bytes ≡ all → code + frequencies ≤ byte → all - frequencies ≤ byte
+rows_low : (byte code all : ℕ) → code + zero_bytes ≡ all → code + zero_length ≤ byte → all - zero_length ≤ byte
 rows_low byte code all e h = omega (arith, e, h)
 
-rows_high : (byte code speeds rows all : ℕ) → code + frequency_bytes ≡ all → speeds ≡ rows →
-    byte < code + frequencies + speeds → byte < all - frequencies + rows
+rows_high : (byte code speeds rows all : ℕ) → code + zero_bytes ≡ all → speeds ≡ rows →
+    byte < code + zero_length + speeds → byte < all - zero_length + rows
 rows_high byte code speeds rows all e f h = omega (arith, e, f, h)
 
-rest_low : (byte code speeds rows all : ℕ) → code + frequency_bytes ≡ all → speeds ≡ rows →
-    code + frequencies + speeds + frequencies ≤ byte → all + rows ≤ byte
+rest_low : (byte code speeds rows all : ℕ) → code + zero_bytes ≡ all → speeds ≡ rows →
+    code + zero_length + speeds + zero_length ≤ byte → all + rows ≤ byte
 rest_low byte code speeds rows all e f h = omega (arith, e, f, h)
 
-all_named : (byte code speeds rows all : ℕ) → code + frequency_bytes ≡ all → speeds ≡ rows → (front : List PartSpan) →
+all_named : (byte code speeds rows all : ℕ) → code + zero_bytes ≡ all → speeds ≡ rows → (front : List PartSpan) →
     Follow 0 front code →
-    IsNamed (front ++ frequency_span code ∷ frequency_span (code + frequencies + speeds) ∷ []) byte
-    ⊎ (((all - frequencies ≤ byte) × (byte < all - frequencies + rows)) ⊎ (all + rows ≤ byte))
+    IsNamed (front ++ zero_span code ∷ zero_span (code + zero_length + speeds) ∷ []) byte
+    ⊎ (((all - zero_length ≤ byte) × (byte < all - zero_length + rows)) ⊎ (all + rows ≤ byte))
 all_named byte code speeds rows all e f front follow =
-    let back : List PartSpan = frequency_span code ∷ frequency_span (code + frequencies + speeds) ∷ [] in
+    let back : List PartSpan = zero_span code ∷ zero_span (code + zero_length + speeds) ∷ [] in
     elim (cases_lt byte code) [
       | inl a ↦
           let low = a in
           inl (named_left front back byte (follows_named front 0 code byte follow (nothing_low byte) low))
       | inr a ↦
           let first = a in
-          elim (cases_lt byte (code + frequencies)) [
+          elim (cases_lt byte (code + zero_length)) [
             | inl b ↦
                 let in_first = b in
                 inl (named_right front back byte record {
-                  span = frequency_span code;
+                  span = zero_span code;
                   is_there = (0, zero_few, refl);
                   from = first;
                   below = in_first;
                 })
             | inr b ↦
                 let second = b in
-                elim (cases_lt byte (code + frequencies + speeds)) [
+                elim (cases_lt byte (code + zero_length + speeds)) [
                   | inl d ↦
                       let in_rows = d in
                       inr (inl (rows_low byte code all e second, rows_high byte code speeds rows all e f in_rows))
                   | inr d ↦
                       let third = d in
-                      elim (cases_lt byte (code + frequencies + speeds + frequencies)) [
+                      elim (cases_lt byte (code + zero_length + speeds + zero_length)) [
                         | inl g ↦
                             let in_second = g in
                             inl (named_right front back byte record {
-                              span = frequency_span (code + frequencies + speeds);
+                              span = zero_span (code + zero_length + speeds);
                               is_there = (1, one_few, refl);
                               from = third;
                               below = in_second;
@@ -165,55 +165,57 @@ all_named byte code speeds rows all e f front follow =
     ]
 
 -- so a byte that isn't the packed song's is named
-named_else : (byte code speeds rows all : ℕ) → code + frequency_bytes ≡ all → speeds ≡ rows → (front : List PartSpan) →
+named_else : (byte code speeds rows all : ℕ) → code + zero_bytes ≡ all → speeds ≡ rows → (front : List PartSpan) →
     Follow 0 front code →
-    ((((all - frequencies ≤ byte) × (byte < all - frequencies + rows)) ⊎ (all + rows ≤ byte)) → ⊥) →
-    IsNamed (front ++ frequency_span code ∷ frequency_span (code + frequencies + speeds) ∷ []) byte
+    ((((all - zero_length ≤ byte) × (byte < all - zero_length + rows)) ⊎ (all + rows ≤ byte)) → ⊥) →
+    IsNamed (front ++ zero_span code ∷ zero_span (code + zero_length + speeds) ∷ []) byte
 named_else byte code speeds rows all e f front follow other =
     elim (all_named byte code speeds rows all e f front follow) [
       | inl a ↦ let named = a in named
       | inr b ↦ let packed = b in absurd (other packed)
     ]
 
-added : (spans code packed all size : ℕ) → 0 + spans ≡ code → code + frequency_bytes ≡ all → size ≡ packed + all →
-    spans + frequencies + frequencies + packed ≡ size
+added : (spans code packed all size : ℕ) → 0 + spans ≡ code → code + zero_bytes ≡ all → size ≡ packed + all →
+    spans + zero_length + zero_length + packed ≡ size
 added spans code packed all size a b c = omega (arith, a, b, c)
 
 -- how its parts follow each other
-frequency_parts : (code : List PartSpan) (a b : ℕ) →
-    parts_of_spans (code ++ frequency_span a ∷ frequency_span b ∷ []) ≡ parts_of_spans code
-    ++ replicate frequency_bytes always
-frequency_parts code a b = spans_split code (frequency_span a ∷ frequency_span b ∷ [])
+zero_parts : (code : List PartSpan) (a b : ℕ) →
+    parts_of_spans (code ++ zero_span a ∷ zero_span b ∷ []) ≡ parts_of_spans code
+    ++ replicate zero_bytes always
+zero_parts code a b = spans_split code (zero_span a ∷ zero_span b ∷ [])
 
-rows_within : (packed : PackedSong) (slides : ℕ) → length packed.speed ≤ packed_song_size packed + slides
-rows_within packed slides = within _ (length packed.speed) slides
+rows_within : (packed : PackedSong) → length packed.speed ≤ song_bytes packed
+rows_within packed =
+    within _ (length packed.speed) (slide_bytes (asked_by packed) (length packed.speed))
+    (frequency_bytes packed.numbers (packed_song_size packed))
   where
-    within : (rest rows slides : ℕ) → rows ≤ rest + 2 * rows + slides
-    within rest rows slides = omega arith
+    within : (rest rows slides frequencies : ℕ) → rows ≤ rest + 2 * rows + slides + frequencies
+    within rest rows slides frequencies = omega arith
 
-code_ends : (code packed all size : ℕ) → code + frequency_bytes ≡ all → size ≡ packed + all → code ≤ size
+code_ends : (code packed all size : ℕ) → code + zero_bytes ≡ all → size ≡ packed + all → code ≤ size
 code_ends code packed all size a b = omega (arith, a, b)
 
-lows_end : (code packed all size : ℕ) → code + frequency_bytes ≡ all → size ≡ packed + all → code + frequencies ≤ size
-lows_end code packed all size a b = omega (arith, a, b)
+first_ends : (code packed all size : ℕ) → code + zero_bytes ≡ all → size ≡ packed + all → code + zero_length ≤ size
+first_ends code packed all size a b = omega (arith, a, b)
 
-highs_end : (code packed all size speeds rows : ℕ) → code + frequency_bytes ≡ all → size ≡ packed + all →
-    speeds ≡ rows → rows ≤ packed → code + frequencies + speeds + frequencies ≤ size
-highs_end code packed all size speeds rows a b c h = omega (arith, a, b, c, h)
+second_ends : (code packed all size speeds rows : ℕ) → code + zero_bytes ≡ all → size ≡ packed + all →
+    speeds ≡ rows → rows ≤ packed → code + zero_length + speeds + zero_length ≤ size
+second_ends code packed all size speeds rows a b c h = omega (arith, a, b, c, h)
 
 abbrev Ends : ℕ → PartSpan → Type 0
 Ends size span = span.start + span.length ≤ size
 
 all_inside : (front : List PartSpan) (code packed all size speeds rows : ℕ) → Follow 0 front code →
-    code + frequency_bytes ≡ all → size ≡ packed + all → speeds ≡ rows → rows ≤ packed →
-    All (Ends size) (front ++ frequency_span code ∷ frequency_span (code + frequencies + speeds) ∷ [])
+    code + zero_bytes ≡ all → size ≡ packed + all → speeds ≡ rows → rows ≤ packed →
+    All (Ends size) (front ++ zero_span code ∷ zero_span (code + zero_length + speeds) ∷ [])
 all_inside front code packed all size speeds rows follow a b c h =
-    All-append (Ends size) front (frequency_span code ∷ frequency_span (code + frequencies + speeds) ∷ [])
+    All-append (Ends size) front (zero_span code ∷ zero_span (code + zero_length + speeds) ∷ [])
     (follow_inside front 0 code size follow (code_ends code packed all size a b))
-    (All-cons (Ends size) (frequency_span code) (frequency_span (code + frequencies + speeds) ∷ [])
-    (lows_end code packed all size a b)
-    (All-cons (Ends size) (frequency_span (code + frequencies + speeds)) []
-    (highs_end code packed all size speeds rows a b c h) (All-nil (Ends size))))
+    (All-cons (Ends size) (zero_span code) (zero_span (code + zero_length + speeds) ∷ [])
+    (first_ends code packed all size a b)
+    (All-cons (Ends size) (zero_span (code + zero_length + speeds)) []
+    (second_ends code packed all size speeds rows a b c h) (All-nil (Ends size))))
 
 pub is_parts : (packed : PackedSong) (o : Options) (size speeds : ℕ) (code : List ℕ) (spans : List PartSpan) →
     code ≡ code_parts (asked_by packed) o → size ≡ image_length packed o → speeds ≡ length packed.speed →
@@ -222,23 +224,23 @@ is_parts packed o size speeds code spans code_is size_is speeds_are are =
     let long = length code in
     let all : ℕ = code_length (asked_by packed) o in
     let rows = length packed.speed in
-    let whole : long + frequency_bytes ≡ all = ap (λ (c : List ℕ). length c + frequency_bytes) code_is in
-    let lists : ℕ = packed_song_size packed + slide_bytes (asked_by packed) rows in
+    let whole : long + zero_bytes ≡ all = ap (λ (c : List ℕ). length c + zero_bytes) code_is in
+    let lists : ℕ = song_bytes packed in
     let parts_are = are.parts ∙ code_is in
     let here : NamesParts packed o size
-    (are.front ++ frequency_span long ∷ frequency_span (long + frequencies + speeds) ∷ []) =
+    (are.front ++ zero_span long ∷ zero_span (long + zero_length + speeds) ∷ []) =
     record {
       in_order = all_in_order are.front 0 long speeds are.follow;
       inside = all_inside are.front long lists all size speeds rows are.follow whole size_is speeds_are
-          (rows_within packed (slide_bytes (asked_by packed) rows));
+          (rows_within packed);
       named = λ byte below. (
         none_packed byte long speeds rows all whole speeds_are are.front are.follow,
         named_else byte long speeds rows all whole speeds_are are.front are.follow,
       );
-      add_up = ap (λ n. n + lists) (spans_all are.front long (long + frequencies + speeds))
+      add_up = ap (λ n. n + lists) (spans_all are.front long (long + zero_length + speeds))
           ∙ added _ _ _ _ _ (follows_size are.front 0 long are.follow) whole size_is;
-      in_parts = frequency_parts are.front long (long + frequencies + speeds)
-          ∙ ap (λ (ps : List ℕ). ps ++ replicate frequency_bytes always) parts_are;
+      in_parts = zero_parts are.front long (long + zero_length + speeds)
+          ∙ ap (λ (ps : List ℕ). ps ++ replicate zero_bytes always) parts_are;
       in_code = λ byte few.
           named_as_left are.front _ byte _
           (code_named are.front (code_parts (asked_by packed) o) byte
@@ -247,10 +249,10 @@ is_parts packed o size speeds code spans code_is size_is speeds_are are =
         front = λ byte few.
             named_as_left are.front _ byte always
             (front_named are.front (asked_by packed) o long are.follow parts_are byte few);
-        lows = λ note few. lows_named are.front long (long + frequencies + speeds) all note whole few;
-        highs = λ note few. highs_named are.front long speeds rows all note whole speeds_are few;
+        first_zero = first_zero_named are.front long (long + zero_length + speeds) all whole;
+        second_zero = second_zero_named are.front long speeds rows all whole speeds_are;
       };
       parts = λ part.
-          part_is part are.front (code_parts (asked_by packed) o) long (long + frequencies + speeds) parts_are;
+          part_is part are.front (code_parts (asked_by packed) o) long (long + zero_length + speeds) parts_are;
     } in
     subst (NamesParts packed o size) (sym are.are) here

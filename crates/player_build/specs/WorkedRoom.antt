@@ -4,13 +4,13 @@ use Rattle.packed_form.specs.declared.packed_songs.PackedSong.{PackedSong}
 use Rattle.image_parts.specs.WorkedLengths.{IsPlayedNote}
 use Rattle.player_build.specs.Room.{IsTooLarge}
 
--- $CC08 and 1,016 bytes are $D000; the last page from which the image has room is $CC00; and its length is told
+-- $CCC4 and 828 bytes are $D000; the last page from which the image has room is $CC00; and its length is told
 pub record NoteHasRoom (packed : PackedSong) : Type 0 where
-  pub just : IsTooLarge packed no_options 0xCC08 1016 → ⊥
-  pub past : IsTooLarge packed no_options 0xCC09 1016
-  pub last_page : IsTooLarge packed no_options 0xCC00 1016 → ⊥
-  pub next_page : IsTooLarge packed no_options 0xCD00 1016
-  pub other_length : IsTooLarge packed no_options 0xCD00 1017 → ⊥
+  pub just : IsTooLarge packed no_options 0xCCC4 828 → ⊥
+  pub past : IsTooLarge packed no_options 0xCCC5 828
+  pub last_page : IsTooLarge packed no_options 0xCC00 828 → ⊥
+  pub next_page : IsTooLarge packed no_options 0xCD00 828
+  pub other_length : IsTooLarge packed no_options 0xCD00 829 → ⊥
 
 abbrev pub NotesHaveRoom : Type 0
 NotesHaveRoom = (packed : PackedSong) → IsPlayedNote packed → NoteHasRoom packed

@@ -50,20 +50,20 @@ pub record SpansAreWorked : Type 0 where
 
 -- ---- the lists of an image
 
--- wave and pulse programs, two rows in the speed table, and no fact: the code takes 949 bytes with the frequencies
+-- wave and pulse programs, two rows in the speed table, and no fact: the code takes 751 bytes with the zeros
 pub record HasTwoSpeeds (packed : PackedSong) : Type 0 where
   pub features : packed.features.0 ≡ 0x402000
   pub facts : packed.facts ≡ no_facts
   pub speed : length packed.speed ≡ 2
 
--- behind the low bytes of the frequencies two bytes are of the lists, the 98 high bytes aren't, and all behind them are
+-- behind the first zero two bytes are of the lists, the second zero isn't, and all behind it are
 pub record ListsAreWorked (packed : PackedSong) : Type 0 where
-  pub last_low : ¬ IsOfLists packed no_options 850
-  pub first_speed : IsOfLists packed no_options 851
-  pub last_speed : IsOfLists packed no_options 852
-  pub first_high : ¬ IsOfLists packed no_options 853
-  pub last_high : ¬ IsOfLists packed no_options 950
-  pub behind : IsOfLists packed no_options 951
+  pub last_code : ¬ IsOfLists packed no_options 748
+  pub first_zero : ¬ IsOfLists packed no_options 749
+  pub first_speed : IsOfLists packed no_options 750
+  pub last_speed : IsOfLists packed no_options 751
+  pub second_zero : ¬ IsOfLists packed no_options 752
+  pub behind : IsOfLists packed no_options 753
   -- no spans name the parts of an image, and none that reach behind it
   pub no_spans : (size : ℕ) → 0 < size → ¬ NamesParts packed no_options size []
   pub too_long : (size : ℕ) (span : PartSpan) (rest : List PartSpan) → size < span.start + span.length →

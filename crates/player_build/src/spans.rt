@@ -1,7 +1,7 @@
 //! Which bytes of an image belong to which part.
 
 ghost use Rattle.std.specs.Prelude.{◌≡◌, ◌+◌, ◌≤◌, IfOk, length};
-ghost use Rattle.player_build.specs.Joined.{Follow, frequency_span, AreSpansOf};
+ghost use Rattle.player_build.specs.Joined.{Follow, zero_span, AreSpansOf};
 ghost use Rattle.player_build.specs.Spans.{parts_of_spans};
 
 use crate::image::{PartSpan, SpanList};
@@ -9,17 +9,14 @@ use base::{Items, NoMemory};
 use image_parts::ALWAYS;
 use std::alloc::Global;
 
-/// How many frequencies of notes stand one behind the other, once their low bytes and once their high bytes.
-const FREQUENCIES: u16 = 98;
-
-/// Frequencies that stand from a place on.
-fn frequency_span(start: u16) -> PartSpan
-    ensures { result ≡ frequency_span start }
+/// A zero at a place.
+fn zero_span(start: u16) -> PartSpan
+    ensures { result ≡ zero_span start }
 {
     PartSpan {
         part: ALWAYS,
         start,
-        length: FREQUENCIES,
+        length: 1,
     }
 }
 
@@ -51,8 +48,8 @@ fn code_spans(alloc: Global, code: &[u8]) -> Result<Items<PartSpan>, NoMemory>
     Ok(spans)
 }
 
-/// The spans of an image whose code has these parts: those of the code, and the frequencies among the lists, between which
-/// so many rows of the speed table stand.
+/// The spans of an image whose code has these parts: those of the code, and the two zeros among the lists, between which so
+/// many rows of the speed table stand.
 pub(crate) fn image_spans(alloc: Global, code: &[u8], speeds: u16) -> Result<SpanList, NoMemory>
     requires fits { length code.now ≤ 0xD000 }
     requires speeds { speeds ≤ 255 }
@@ -60,7 +57,7 @@ pub(crate) fn image_spans(alloc: Global, code: &[u8], speeds: u16) -> Result<Spa
 {
     let size = code.len() as u16;
     let mut spans = code_spans(alloc, code)?;
-    spans.push(frequency_span(size))?;
-    spans.push(frequency_span(size + FREQUENCIES + speeds))?;
+    spans.push(zero_span(size))?;
+    spans.push(zero_span(size + 1 + speeds))?;
     Ok(SpanList { spans })
 }
