@@ -21,8 +21,9 @@ use Rattle.packing_rules.specs.Renumbering.{pulse_programs, filter_programs}
 use Rattle.packing_rules.specs.SongSizes.{order_size, orders_size, rows_size}
 use Rattle.kept_lines.specs.Asked.{asked_by}
 use Rattle.image_parts.specs.CodeParts.{code_length}
-use Rattle.image_parts.specs.Lengths.{slide_bytes}
+use Rattle.image_parts.specs.Lengths.{slide_bytes, frequency_bytes}
 use Rattle.song_pack.specs.Packed.{order_byte, order_bytes, packed_subtune, passing_numbers, packed_instrument, IsPacked}
+use Rattle.song_pack.proofs.Laws.{size_is}
 use Rattle.song_costs.specs.declared.costs.Costs.{Costs}
 use Rattle.song_costs.specs.Kinds.{speed_bytes, costs_of}
 
@@ -70,10 +71,19 @@ rest_is : (orders patterns instruments wave pulse filters speed size : ℕ) →
     size - patterns - instruments - wave - pulse - filters - speed ≡ orders
 rest_is orders patterns instruments wave pulse filters speed size e = omega arith
 
-same_costs : {r r' o o' p p' i i' w w' u u' f f' s s' : ℕ} → r ≡ r' → o ≡ o' → p ≡ p' → i ≡ i' → w ≡ w' → u ≡ u' →
-    f ≡ f' →
-    s ≡ s' → ◌≡◌ {A = Costs}
-    (record { player = r; orders = o; patterns = p; instruments = i; wave = w; pulse = u; filter = f; speed = s })
+same_costs : {r r' o o' p p' i i' w w' u u' f f' s s' n n' : ℕ} → r ≡ r' → o ≡ o' → p ≡ p' → i ≡ i' → w ≡ w' →
+    u ≡ u' → f ≡ f' → s ≡ s' → n ≡ n' → ◌≡◌ {A = Costs}
+    (record {
+      player = r;
+      orders = o;
+      patterns = p;
+      instruments = i;
+      wave = w;
+      pulse = u;
+      filter = f;
+      speed = s;
+      frequencies = n;
+    })
     (record {
       player = r';
       orders = o';
@@ -83,15 +93,17 @@ same_costs : {r r' o o' p p' i i' w w' u u' f f' s s' : ℕ} → r ≡ r' → o 
       pulse = u';
       filter = f';
       speed = s';
+      frequencies = n';
     })
-same_costs a b c d e f g h = rw (a, b, c, d, e, f, g, h) refl
+same_costs a b c d e f g h i = rw (a, b, c, d, e, f, g, h, i) refl
 
 -- numbers that were taken from the packed song
 pub costs_are : (song : Song) (used : UsedSets) (packed : PackedSong) (options : Options) → IsPacked song used packed →
-    {player patterns count wave pulse filters speed slides size : ℕ} → player ≡ code_length (asked_by packed) options →
+    {player patterns count wave pulse filters speed slides size frequencies : ℕ} → player ≡ code_length (asked_by packed) options →
     patterns ≡ sum_by list_size packed.patterns → count ≡ length packed.instruments → wave ≡ 2 * length packed.wave →
     pulse ≡ 2 * length packed.pulse → filters ≡ 2 * length packed.filter → speed ≡ 2 * length packed.speed →
     slides ≡ slide_bytes (asked_by packed) (length packed.speed) → size ≡ packed_song_size packed →
+    frequencies ≡ frequency_bytes packed.numbers (packed_song_size packed) →
     ◌≡◌ {A = Costs}
     (record {
       player = player;
@@ -102,10 +114,11 @@ pub costs_are : (song : Song) (used : UsedSets) (packed : PackedSong) (options :
       pulse = pulse;
       filter = filters;
       speed = speed + slides;
+      frequencies = frequencies;
     })
-    (costs_of song used (asked_by packed) options)
+    (costs_of song used (asked_by packed) packed.numbers options)
 costs_are song used packed options is {player} {patterns} {count} {wave} {pulse} {filters} {speed} {slides} {size}
-    a b c d e f g s h =
+    {frequencies} a b c d e f g s h n =
     let orders : size - patterns - 9 * count - wave - pulse - filters - speed ≡ sum_by subtune_size packed.subtunes =
     rest_is (sum_by subtune_size packed.subtunes) patterns (9 * count) wave pulse filters speed size (omega arith) in
     same_costs a
@@ -116,6 +129,7 @@ costs_are song used packed options is {player} {patterns} {count} {wave} {pulse}
     (e ∙ rows_are (pulse_programs song used) packed.pulse is.pulse)
     (f ∙ rows_are (filter_programs song used) packed.filter is.filter)
     (both g s ∙ ap (λ (rows : List TableRow). speed_bytes (asked_by packed) (length rows)) is.speed.rows_are)
+    (n ∙ ap (frequency_bytes packed.numbers) (size_is song used packed is))
   where
     both : {a b c d : ℕ} → a ≡ c → b ≡ d → a + b ≡ c + d
     both x y = rw (x, y) refl

@@ -1,15 +1,21 @@
 -- The kinds add up to the image, and the parts to the player.
 use Rattle.std.proofs.Common.{◌≡◌, ℕ, ◌+◌, ◌*◌, ◌≤◌, List, length, refl, sym, ◌∙◌, ap, subst, arith}
-use Rattle.std.specs.List.{range_with_len}
+use Rattle.std.specs.List.{range_with_len, sum_by, count_by}
+use Rattle.std.specs.Str.{bytes_eq}
 use Rattle.song_model.specs.declared.tables.TableName.TheVariants.{Speed}
+use Rattle.song_model.specs.declared.instruments.TheConstants.{MOST_INSTRUMENTS}
 use Rattle.song_model.specs.declared.songs.Song.{Song}
+use Rattle.song_model.specs.LookUp.{playable_subtunes}
 use Rattle.play_model.specs.declared.options.Options.{Options}
+use Rattle.asked_numbers.specs.declared.range.NumberRange.{NumberRange}
+use Rattle.packed_form.specs.Sizes.{list_size}
 use Rattle.packing_rules.specs.UsedSets.{UsedSets}
-use Rattle.packing_rules.specs.Renumbering.{speed_rows}
-use Rattle.packing_rules.specs.SongSizes.{packed_size}
+use Rattle.packing_rules.specs.Segments.{numbers, keeps as stays}
+use Rattle.packing_rules.specs.Renumbering.{first_seen, speed_rows, filter_programs, pulse_programs, wave_programs, pattern_texts}
+use Rattle.packing_rules.specs.SongSizes.{orders_size, rows_size, packed_size}
 use Rattle.kept_lines.specs.KeptLines.{keeps}
 use Rattle.image_parts.specs.CodeParts.{always, code_parts, part_length, code_length}
-use Rattle.image_parts.specs.Lengths.{slide_bytes}
+use Rattle.image_parts.specs.Lengths.{slide_bytes, frequency_bytes}
 use Rattle.image_parts.proofs.Laws as image_parts
 use Rattle.song_costs.specs.Kinds.{costs_of, data_bytes}
 use Rattle.song_costs.specs.CostLaws.{song_size, CostsAddUp, PartsAddUp}
@@ -17,27 +23,37 @@ use Rattle.song_costs.proofs.ToldSums.{DropsNone, dropped_sum, all_below}
 
 -- ---- kinds
 
--- where the speed table has so many rows, and the slides so many bytes
-sizes_add_up : (orders patterns instruments wave pulse filters rows slides size : ℕ) →
+-- where the speed table has so many rows, and the slides and the frequencies so many bytes
+sizes_add_up : (orders patterns instruments wave pulse filters rows slides frequencies size : ℕ) →
     size ≡ orders + instruments + 2 * rows + patterns + (wave + pulse + filters) →
-    orders + patterns + instruments + wave + pulse + filters + (2 * rows + slides) ≡ size + slides
-sizes_add_up orders patterns instruments wave pulse filters rows slides size is = omega (arith, is)
+    orders + patterns + instruments + wave + pulse + filters + (2 * rows + slides) + frequencies
+    ≡ size + slides + frequencies
+sizes_add_up orders patterns instruments wave pulse filters rows slides frequencies size is = omega (arith, is)
 
-data_adds_up : (song : Song) (used : UsedSets) (asked : ℕ) (options : Options) →
-    data_bytes (costs_of song used asked options) ≡ song_size song used asked
+size_is : (song : Song) (used : UsedSets) → packed_size song used
+    ≡ sum_by orders_size (playable_subtunes song) + 9 * count_by used.instruments (numbers MOST_INSTRUMENTS)
+    + 2 * length (speed_rows song (used.pointers Speed))
+    + sum_by list_size (first_seen bytes_eq (pattern_texts song used))
+    + (rows_size stays (wave_programs song used) + rows_size stays (pulse_programs song used)
+    + rows_size stays (filter_programs song used))
 unfolding packed_size
-data_adds_up song used asked options =
+size_is song used = refl
+
+data_adds_up : (song : Song) (used : UsedSets) (asked : ℕ) (range : NumberRange) (options : Options) →
+    data_bytes (costs_of song used asked range options) ≡ song_size song used asked range
+data_adds_up song used asked range options =
     sizes_add_up _ _ _ _ _ _ (length (speed_rows song (used.pointers Speed)))
-    (slide_bytes asked (length (speed_rows song (used.pointers Speed)))) _ refl
+    (slide_bytes asked (length (speed_rows song (used.pointers Speed))))
+    (frequency_bytes range (packed_size song used)) (packed_size song used) (size_is song used)
 
 plus_player : (player bytes size : ℕ) → bytes ≡ size → player + bytes ≡ size + player
 plus_player player bytes size e = omega (arith, e)
 
 pub costs_add_up : CostsAddUp
-costs_add_up song used asked options = (
-  data_adds_up song used asked options,
-  plus_player (code_length asked options) (data_bytes (costs_of song used asked options))
-      (song_size song used asked) (data_adds_up song used asked options),
+costs_add_up song used asked range options = (
+  data_adds_up song used asked range options,
+  plus_player (code_length asked options) (data_bytes (costs_of song used asked range options))
+      (song_size song used asked range) (data_adds_up song used asked range options),
 )
 
 -- ---- parts
@@ -46,8 +62,8 @@ pub parts_add_up : PartsAddUp
 parts_add_up asked options =
     image_parts.parts_add_up asked options
     ∙ ap (λ (bytes : ℕ). part_length asked options always + bytes)
-    (sym (dropped_sum (keeps asked options) (part_length asked options) (range_with_len 0 49)
-    (all_below (DropsNone (keeps asked options) (part_length asked options)) 49
+    (sym (dropped_sum (keeps asked options) (part_length asked options) (range_with_len 0 53)
+    (all_below (DropsNone (keeps asked options) (part_length asked options)) 53
     (λ part high out. image_parts.unkept_parts_have_none asked options part
     (λ is. omega (arith, high, is)) out))))
 
@@ -59,5 +75,5 @@ few_bytes asked options code is =
     subst (λ (c : List ℕ). length c ≤ 65535) (sym is)
     (without (length (code_parts asked options)) (image_parts.code_is_short asked options))
   where
-    without : (n : ℕ) → n + 196 ≤ 1876 → n ≤ 65535
+    without : (n : ℕ) → n + 2 ≤ 1664 → n ≤ 65535
     without n few = omega (arith, few)

@@ -12,6 +12,7 @@ use Rattle.packed_form.specs.PackedText.{packed_text}
 use Rattle.packing_rules.specs.Segments.{first_row, is_closed, are_equal, first_equal, keeps, stand_in}
 use Rattle.packing_rules.specs.Renumbering.{speed_rows, speed_number, table_number, instrument_number, pattern_text}
 use Rattle.packing_rules.specs.Renumbering.{pattern_texts}
+use Rattle.packing_rules.specs.SongSizes.{packed_size}
 use Rattle.song_facts.specs.declared.facts.Fact.{Fact}
 use Rattle.song_facts.specs.declared.facts.Fact.TheVariants.{RowSlide, FirstMask, GateNote, NoteFilter}
 use Rattle.player_memory.specs.declared.conditions.TheConstants.{CLIMB, RISE, ROW_SLIDE, FIRST_MASK, GATE_NOTE}
@@ -34,26 +35,29 @@ use Rattle.song_places.proofs.Laws.{gate_notes_are_worked, facts_are_worked, wav
 
 pub note_is_worked : NoteIsWorked
 unfolding packed_text first_row is_closed are_equal first_equal keeps stand_in speed_rows speed_number table_number
-    instrument_number pattern_text pattern_texts table_row pattern_at asked kept_set
+    instrument_number pattern_text pattern_texts table_row pattern_at asked kept_set packed_size
 note_is_worked = record {
   each = refl;
   bytes = refl;
   all = refl;
   few = λ e. omega arith;
+  alone = λ e. omega arith;
   bare = refl;
   once = refl;
 }
 
 pub tables_are_counted : TablesAreCounted
 unfolding packed_text first_row is_closed are_equal first_equal keeps stand_in speed_rows speed_number table_number
-    instrument_number pattern_text pattern_texts table_row pattern_at asked kept_set
+    instrument_number pattern_text pattern_texts table_row pattern_at asked kept_set packed_size
 tables_are_counted = record {
   wave = refl;
   pulse = refl;
   filter = refl;
   speed = refl;
+  frequency = refl;
   bytes = refl;
   calculated = refl;
+  frequencies = refl;
   with_slides = refl;
 }
 

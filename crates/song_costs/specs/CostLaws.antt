@@ -4,27 +4,29 @@ use Rattle.std.specs.List.{range_with_len}
 use Rattle.song_model.specs.declared.tables.TableName.TheVariants.{Speed}
 use Rattle.song_model.specs.declared.songs.Song.{Song}
 use Rattle.play_model.specs.declared.options.Options.{Options}
+use Rattle.asked_numbers.specs.declared.range.NumberRange.{NumberRange}
 use Rattle.packing_rules.specs.UsedSets.{UsedSets}
 use Rattle.packing_rules.specs.Renumbering.{speed_rows}
 use Rattle.packing_rules.specs.SongSizes.{packed_size}
 use Rattle.kept_lines.specs.KeptLines.{keeps}
 use Rattle.image_parts.specs.CodeParts.{always, part_length, code_length}
-use Rattle.image_parts.specs.Lengths.{slide_bytes}
+use Rattle.image_parts.specs.Lengths.{slide_bytes, frequency_bytes}
 use Rattle.song_costs.specs.Kinds.{costs_of, data_bytes, all_bytes}
 use Rattle.song_costs.specs.declared.kept.TheConstants.{PARTS}
 use Rattle.song_costs.specs.declared.kept.PartCost.{PartCost}
 use Rattle.song_costs.specs.Kept.{AreKeptParts}
 
--- the packed data of a song and its slides
-abbrev pub song_size : Song → UsedSets → ℕ → ℕ
-song_size song used asked =
+-- the packed data of a song, its slides and its frequencies
+abbrev pub song_size : Song → UsedSets → ℕ → NumberRange → ℕ
+song_size song used asked range =
     packed_size song used + slide_bytes asked (length (speed_rows song (used.pointers Speed)))
+    + frequency_bytes range (packed_size song used)
 
--- the seven kinds of data add up to these, and with the player to the length of an image
+-- the eight kinds of data add up to these, and with the player to the length of an image
 abbrev pub CostsAddUp : Type 0
-CostsAddUp = (song : Song) (used : UsedSets) (asked : ℕ) (options : Options) →
-    (data_bytes (costs_of song used asked options) ≡ song_size song used asked)
-    × (all_bytes (costs_of song used asked options) ≡ song_size song used asked + code_length asked options)
+CostsAddUp = (song : Song) (used : UsedSets) (asked : ℕ) (range : NumberRange) (options : Options) →
+    (data_bytes (costs_of song used asked range options) ≡ song_size song used asked range)
+    × (all_bytes (costs_of song used asked range options) ≡ song_size song used asked range + code_length asked options)
 
 -- the player is the part that each image has and the others that are kept
 abbrev pub PartsAddUp : Type 0

@@ -1,6 +1,6 @@
 -- How many bytes a song takes in a packed file, kind by kind, by this project's own packed form. Orderlists and
--- patterns are counted with two bytes each for their addresses, the player with the frequencies of notes, and the speed
--- table with the lists of slides and periods that a song with calculated speeds has.
+-- patterns are counted with two bytes each for their addresses, the speed table with the lists of slides and periods that
+-- a song with calculated speeds has, and the player with the zeros in front of that table's sides.
 use Rattle.std.specs.Prelude.{ℕ, ◌+◌, ◌*◌, length, sum_by, count_by}
 use Rattle.std.specs.Str.{bytes_eq}
 use Rattle.song_model.specs.declared.instruments.TheConstants.{MOST_INSTRUMENTS}
@@ -8,22 +8,24 @@ use Rattle.song_model.specs.declared.tables.TableName.TheVariants.{Speed}
 use Rattle.song_model.specs.declared.songs.Song.{Song}
 use Rattle.song_model.specs.LookUp.{playable_subtunes}
 use Rattle.play_model.specs.declared.options.Options.{Options}
+use Rattle.asked_numbers.specs.declared.range.NumberRange.{NumberRange}
 use Rattle.packed_form.specs.Sizes.{list_size}
 use Rattle.packing_rules.specs.Segments.{numbers, keeps}
 use Rattle.packing_rules.specs.UsedSets.{UsedSets}
 use Rattle.packing_rules.specs.Renumbering.{first_seen, speed_rows, filter_programs, pulse_programs, wave_programs, pattern_texts}
-use Rattle.packing_rules.specs.SongSizes.{orders_size, rows_size}
+use Rattle.packing_rules.specs.SongSizes.{orders_size, rows_size, packed_size}
 use Rattle.image_parts.specs.CodeParts.{code_length}
-use Rattle.image_parts.specs.Lengths.{slide_bytes}
+use Rattle.image_parts.specs.Lengths.{slide_bytes, frequency_bytes}
 use Rattle.song_costs.specs.declared.costs.Costs.{Costs}
 
 -- two bytes for each row of the speed table, and the slides
 abbrev pub speed_bytes : ℕ → ℕ → ℕ
 speed_bytes asked rows = 2 * rows + slide_bytes asked rows
 
--- patterns with the same text are counted once, and so are programs that are equal
-abbrev pub costs_of : Song → UsedSets → ℕ → Options → Costs
-costs_of song used asked options = record {
+-- Patterns with the same text are counted once, and so are programs that are equal. The song asks for this range of
+-- frequencies.
+abbrev pub costs_of : Song → UsedSets → ℕ → NumberRange → Options → Costs
+costs_of song used asked range options = record {
   player = code_length asked options;
   orders = sum_by orders_size (playable_subtunes song);
   patterns = sum_by list_size (first_seen bytes_eq (pattern_texts song used));
@@ -32,12 +34,14 @@ costs_of song used asked options = record {
   pulse = rows_size keeps (pulse_programs song used);
   filter = rows_size keeps (filter_programs song used);
   speed = speed_bytes asked (length (speed_rows song (used.pointers Speed)));
+  frequencies = frequency_bytes range (packed_size song used);
 }
 
 -- those of the song's data
 abbrev pub data_bytes : Costs → ℕ
 data_bytes costs =
     costs.orders + costs.patterns + costs.instruments + costs.wave + costs.pulse + costs.filter + costs.speed
+    + costs.frequencies
 
 -- and all
 abbrev pub all_bytes : Costs → ℕ

@@ -11,6 +11,7 @@ use Rattle.play_model.specs.declared.options.Options.{Options}
 use Rattle.play_model.specs.State.{no_options}
 use Rattle.play_model.specs.WorkedRuns.{left_out, first_left_out, all_left_out}
 use Rattle.play_model.specs.WorkedSongs.{one_note, plucked, sides}
+use Rattle.asked_numbers.specs.declared.range.NumberRange.{NumberRange}
 use Rattle.packing_rules.specs.UsedSets.{UsedSets}
 use Rattle.packing_rules.specs.WorkedSizes.{among, note_sets, two_rests}
 use Rattle.song_facts.specs.declared.facts.Facts.{Facts}
@@ -36,15 +37,19 @@ note_features = 2 ^ bit_of PulseTable + 2 ^ bit_of WaveTable
 abbrev pub note_facts : Facts
 note_facts = record no_facts { gate_note = true; note_pulse = true }
 
+-- the note sounds as number 48
+abbrev pub note_range : NumberRange
+note_range = record { first = 48; count = 1 }
+
 abbrev pub note_costs : Costs
-note_costs = costs_of one_note (note_sets (0 ∷ 1 ∷ [])) (asked note_features note_facts) no_options
+note_costs = costs_of one_note (note_sets (0 ∷ 1 ∷ [])) (asked note_features note_facts) note_range no_options
 
 -- three orderlists of one entry, the patterns 01 90 BE 00 and C0 00, one instrument, two rows in each of two tables;
--- 822 bytes of the player that each image has, the frequencies among them, 82 and 45 for a pulse and a wave program,
--- 12 for a keyoff, and 13 for an instrument that begins a pulse program
+-- 624 bytes of the player that each image has, 82 and 45 for a pulse and a wave program, 12 for a keyoff, and 13 for an
+-- instrument that begins a pulse program; and the frequencies 44 to 48, with 44 bytes in front of them
 pub record NoteIsWorked : Type 0 where
   pub each : note_costs ≡ record {
-    player = 974;
+    player = 776;
     orders = 15;
     patterns = 10;
     instruments = 9;
@@ -52,15 +57,18 @@ pub record NoteIsWorked : Type 0 where
     pulse = 4;
     filter = 0;
     speed = 0;
+    frequencies = 10;
   }
-  pub bytes : data_bytes note_costs ≡ 42
-  pub all : all_bytes note_costs ≡ 1016
-  -- without the frequencies
-  pub few : note_costs.player ≢ 778
+  pub bytes : data_bytes note_costs ≡ 52
+  pub all : all_bytes note_costs ≡ 828
+  -- without the zeros, and with the frequency of the song's number alone
+  pub few : note_costs.player ≢ 774
+  pub alone : note_costs.frequencies ≢ 2
   -- without the facts
-  pub bare : (costs_of one_note (note_sets (0 ∷ 1 ∷ [])) note_features no_options).player ≡ 949
+  pub bare : (costs_of one_note (note_sets (0 ∷ 1 ∷ [])) note_features note_range no_options).player ≡ 751
   -- an equal pattern is stored once, and a note for each of three orderlists isn't
-  pub once : (costs_of two_rests (note_sets (0 ∷ 1 ∷ 2 ∷ [])) (asked note_features note_facts) no_options).patterns ≡ 10
+  pub once : (costs_of two_rests (note_sets (0 ∷ 1 ∷ 2 ∷ [])) (asked note_features note_facts) note_range no_options).patterns
+      ≡ 10
 
 -- a note of an instrument with two wave rows, three pulse rows, four filter rows and a vibrato
 abbrev pub rich_note : Song
@@ -86,24 +94,27 @@ abbrev pub rich_features : ℕ
 rich_features = note_features + 2 ^ bit_of FilterTable + 2 ^ bit_of InstrumentVibrato
 
 abbrev pub rich_costs : Costs
-rich_costs = costs_of rich_note rich_sets (asked rich_features note_facts) no_options
+rich_costs = costs_of rich_note rich_sets (asked rich_features note_facts) note_range no_options
 
 -- the same where the vibrato's speed is calculated from the note
 abbrev pub calculated_costs : Costs
 calculated_costs =
     costs_of (record rich_note { speed = sides 0x84 2 ∷ [] }) rich_sets
-    (asked (rich_features + 2 ^ bit_of NoteDependent) note_facts) no_options
+    (asked (rich_features + 2 ^ bit_of NoteDependent) note_facts) (record { first = 0; count = 50 }) no_options
 
--- two bytes for each row, in the kind of its own table; and where speeds are calculated three more for the row of the
--- speed table and for row 0, among those of the table and not in the player
+-- two bytes for each row, in the kind of its own table, and for the one frequency, since 56 bytes stand in front of it;
+-- and where speeds are calculated three more for the row of the speed table and for row 0, among those of the table and
+-- not in the player, and two for each frequency up to that of number 49
 pub record TablesAreCounted : Type 0 where
   pub wave : rich_costs.wave ≡ 4
   pub pulse : rich_costs.pulse ≡ 6
   pub filter : rich_costs.filter ≡ 8
   pub speed : rich_costs.speed ≡ 2
-  pub bytes : data_bytes rich_costs ≡ 54
+  pub frequency : rich_costs.frequencies ≡ 2
+  pub bytes : data_bytes rich_costs ≡ 56
   pub calculated : calculated_costs.speed ≡ 8
-  pub with_slides : data_bytes calculated_costs ≡ 60
+  pub frequencies : calculated_costs.frequencies ≡ 100
+  pub with_slides : data_bytes calculated_costs ≡ 160
 
 -- ---- parts
 

@@ -5,7 +5,7 @@ ghost use Rattle.song_costs.specs.Names.{NamesAreShort};
 ghost use Rattle.song_costs.specs.WorkedCosts.{NoteIsWorked, TablesAreCounted, PartsAreWorked, FactPartsAreWorked};
 ghost use Rattle.song_costs.specs.WorkedCosts.{ListIsWorked, OptionsAreWorked};
 
-/// The kinds of data add up to the packed size and the slides, and with the player to the length of an image; and the
+/// The kinds of data add up to the packed size, the slides and the frequencies, and with the player to the length of an image; and the
 /// parts that are kept to the player, as do those that are told.
 pub fn costs_add_up()
     ensures costs { CostsAddUp }

@@ -11,7 +11,7 @@ ghost use Rattle.image_parts.specs.Lengths.{bytes_of_image};
 ghost use Rattle.song_pack.specs.Packed.{IsPacked};
 ghost use Rattle.song_costs.specs.Kinds.{costs_of, all_bytes};
 
-use image_parts::{code_length, slide_bytes};
+use image_parts::{code_length, frequency_bytes, slide_bytes};
 use kept_lines::asked_by;
 use packed_form::{PackedPatternList, PackedSong};
 use song_model::Table;
@@ -19,7 +19,7 @@ use song_model::Table;
 /// How many bytes a song takes in a packed file, kind by kind.
 #[derive(Clone, Copy, Debug, PartialEq, Eq)]
 pub struct Costs {
-    /// The player's code with its variables and the 196 bytes of the frequencies of notes.
+    /// The player's code with its variables and two zeros.
     pub player: u32,
     /// The orderlists, with two bytes for the address of each.
     pub orders: u32,
@@ -35,6 +35,8 @@ pub struct Costs {
     pub filter: u32,
     /// Those of the speed table, and of the slides and periods of a song with calculated speeds.
     pub speed: u32,
+    /// The frequencies that are listed, two bytes each.
+    pub frequencies: u32,
 }
 
 impl Costs {
@@ -50,6 +52,7 @@ impl Costs {
             + u64::from(self.pulse)
             + u64::from(self.filter)
             + u64::from(self.speed)
+            + u64::from(self.frequencies)
     }
 }
 
@@ -80,7 +83,7 @@ pub fn costs_by_kind(packed: &PackedSong, code: &[u8]) -> Costs
     // Each number is the one that the packed form's definitions name.
     ensures exact { (song : AnySong) (used : UsedSets) (options : Options) → IsPacked song used packed.now →
         code.now ≡ code_parts (asked_by packed.now) options →
-        result ≡ costs_of song used (asked_by packed.now) options }
+        result ≡ costs_of song used (asked_by packed.now) packed.now.numbers options }
     // They add up to the image's length.
     ensures length { all_bytes result ≡ bytes_of_image packed.now code.now }
 {
@@ -100,5 +103,6 @@ pub fn costs_by_kind(packed: &PackedSong, code: &[u8]) -> Costs
         pulse,
         filter,
         speed: speed + slides,
+        frequencies: frequency_bytes(packed),
     }
 }

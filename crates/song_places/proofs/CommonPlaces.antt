@@ -21,6 +21,7 @@ use Rattle.play_model.specs.WorkedSongs.{subtune, row}
 use Rattle.song_facts.specs.declared.facts.Fact.{Fact}
 use Rattle.song_facts.specs.declared.facts.Fact.TheVariants.{RowTone, RowSlide, RowOnce, FirstMask, Legato, NoHardRestart}
 use Rattle.song_facts.specs.declared.facts.Fact.TheVariants.{WaveDelay, GateNote, NoteVibrato, VibratoDelay, NotePulse, NoteFilter}
+use Rattle.song_facts.specs.declared.facts.Fact.TheVariants.{VoiceTempo, CommonTempo, FunkTurns, FunkChoice}
 use Rattle.player_memory.specs.declared.conditions.TheConstants.{SKIP_EFFECTS, CLIMB, FOUND_NOTE}
 use Rattle.player_memory.specs.FactLines.{fact_condition}
 use Rattle.song_places.specs.declared.places.Place.{Place}
@@ -108,6 +109,10 @@ no_fact_rest NoteVibrato meant = meant
 no_fact_rest VibratoDelay meant = meant
 no_fact_rest NotePulse meant = meant
 no_fact_rest NoteFilter meant = meant
+no_fact_rest VoiceTempo meant = (let is = meant.0 in omega (arith, is))
+no_fact_rest CommonTempo meant = (let is = meant.0 in omega (arith, is))
+no_fact_rest FunkTurns meant = (let is = meant.0 in omega (arith, is))
+no_fact_rest FunkChoice meant = omega (arith, meant)
 no_fact_rest GateNote (inl off) = omega (arith, off)
 no_fact_rest GateNote (inr on) = omega (arith, on)
 
@@ -295,6 +300,10 @@ no_fact_reaches NoteVibrato = refl
 no_fact_reaches VibratoDelay = refl
 no_fact_reaches NotePulse = refl
 no_fact_reaches NoteFilter = refl
+no_fact_reaches VoiceTempo = refl
+no_fact_reaches CommonTempo = refl
+no_fact_reaches FunkTurns = refl
+no_fact_reaches FunkChoice = refl
 
 none_in_zero : (i : ℕ) → ¬ NeedsFor (sliding 1 3) FOUND_NOTE (InPattern 0 i)
 none_in_zero i (inl h) = no_note_in_zero h.feature i h.is_kept h.needs

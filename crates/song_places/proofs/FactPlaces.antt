@@ -6,8 +6,10 @@ use Rattle.song_model.specs.declared.songs.Song.{Song}
 use Rattle.song_facts.specs.declared.facts.Fact.{Fact}
 use Rattle.song_facts.specs.declared.facts.Fact.TheVariants.{RowTone, RowSlide, RowOnce, FirstMask, Legato, NoHardRestart}
 use Rattle.song_facts.specs.declared.facts.Fact.TheVariants.{WaveDelay, GateNote, NoteVibrato, VibratoDelay, NotePulse, NoteFilter}
+use Rattle.song_facts.specs.declared.facts.Fact.TheVariants.{VoiceTempo, CommonTempo, FunkTurns, FunkChoice}
 use Rattle.song_facts.specs.Facts.{IsTone, IsSlide, IsOnce, IsGateNote, IsMask, IsLegato, KeepsEnvelope, IsDelay}
 use Rattle.song_facts.specs.Facts.{HasVibrato, HasVibratoDelay, HasPulse, HasFilter}
+use Rattle.song_facts.specs.Facts.{IsVoiceTempo, IsCommonTempo, IsFunkTurns, IsFunkChoice}
 use Rattle.song_facts.specs.Facts.{HasSuchRow, HasSuchInstrument, HasSuchWaveRow, HasFact}
 use Rattle.song_places.specs.declared.places.Place.{Place}
 use Rattle.song_places.specs.declared.places.Place.TheVariants.{InOrder, InPattern, InInstrument, InWaveTable}
@@ -46,6 +48,10 @@ has_fact_place song NoteVibrato h = instrument_place song NoteVibrato h
 has_fact_place song VibratoDelay h = instrument_place song VibratoDelay h
 has_fact_place song NotePulse h = instrument_place song NotePulse h
 has_fact_place song NoteFilter h = instrument_place song NoteFilter h
+has_fact_place song VoiceTempo h = row_place song VoiceTempo h
+has_fact_place song CommonTempo h = row_place song CommonTempo h
+has_fact_place song FunkTurns h = row_place song FunkTurns h
+has_fact_place song FunkChoice h = row_place song FunkChoice h
 
 -- ---- and from a place to what is had
 
@@ -84,6 +90,10 @@ has_fact song NoteVibrato place at = instrument_had song HasVibrato place at
 has_fact song VibratoDelay place at = instrument_had song HasVibratoDelay place at
 has_fact song NotePulse place at = instrument_had song HasPulse place at
 has_fact song NoteFilter place at = instrument_had song HasFilter place at
+has_fact song VoiceTempo place at = row_had song IsVoiceTempo place at
+has_fact song CommonTempo place at = row_had song IsCommonTempo place at
+has_fact song FunkTurns place at = row_had song IsFunkTurns place at
+has_fact song FunkChoice place at = row_had song IsFunkChoice place at
 
 pub facts_are_needed : FactsAreNeeded
 facts_are_needed song fact =

@@ -13,4 +13,4 @@ returns-clause-exact c = λ song used options is code_is.
     (c.slide_bytes-slides.ensures
     ∙ ap (λ asked. slide_bytes asked (length c.as_slice-2.result.now)) c.asked_by.ensures
     ∙ ap (λ rows. slide_bytes (asked_by c.args.packed.now) (length rows)) c.as_slice-2.ensures.items)
-    c.size.ensures.size
+    c.size.ensures.size c.frequency_bytes.ensures.bytes
