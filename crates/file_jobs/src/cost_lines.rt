@@ -27,11 +27,12 @@ enum Kind {
     Pulse,
     Filter,
     Speed,
+    Frequencies,
     Image,
 }
 
 /// The kinds, in the order in which they are told.
-const KINDS: [Kind; 9] = [
+const KINDS: [Kind; 10] = [
     Kind::Player,
     Kind::Orders,
     Kind::Patterns,
@@ -40,6 +41,7 @@ const KINDS: [Kind; 9] = [
     Kind::Pulse,
     Kind::Filter,
     Kind::Speed,
+    Kind::Frequencies,
     Kind::Image,
 ];
 
@@ -58,6 +60,7 @@ impl Kind {
             Kind::Pulse => "pulse table",
             Kind::Filter => "filter table",
             Kind::Speed => "speed table",
+            Kind::Frequencies => "frequencies",
             Kind::Image => "image",
         }
     }
@@ -75,6 +78,7 @@ impl Kind {
             Kind::Pulse => u64::from(costs.pulse),
             Kind::Filter => u64::from(costs.filter),
             Kind::Speed => u64::from(costs.speed),
+            Kind::Frequencies => u64::from(costs.frequencies),
             Kind::Image => costs.sum(),
         }
     }

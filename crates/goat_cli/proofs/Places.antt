@@ -8,7 +8,7 @@ use Rattle.packed_form.specs.declared.packed_songs.PackedSong.{PackedSong}
 use Rattle.packing_rules.specs.SongSizes.{packed_size}
 use Rattle.kept_lines.specs.Asked.{asked_by}
 use Rattle.image_parts.specs.CodeParts.{code_length}
-use Rattle.image_parts.specs.Lengths.{slide_bytes, image_length}
+use Rattle.image_parts.specs.Lengths.{slide_bytes, frequency_bytes, image_length}
 use Rattle.faithful.proofs.Laws.{always_is_faithful}
 use Rattle.player_build.specs.declared.image.Image.{Image}
 use Rattle.player_build.specs.Room.{IsTooLarge}
@@ -36,11 +36,13 @@ module _ (packed : PackedSong) (song : Song) (o : Options) (packs : PacksSong pa
       are_facts = packs.stands.facts;
       is = refl;
     };
+    numbers = packed.numbers;
+    are_numbers = packs.stands.numbers;
     count_is = is
-        ∙ ap (λ size. size + slide_bytes (asked_by packed) (length packed.speed) + code_length (asked_by packed) o)
-        packs.size
+        ∙ ap (λ size. size + slide_bytes (asked_by packed) (length packed.speed) + frequency_bytes packed.numbers size
+        + code_length (asked_by packed) o) packs.size
         ∙ ap (λ rows. packed_size song packs.used + slide_bytes (asked_by packed) rows
-        + code_length (asked_by packed) o) packs.speeds;
+        + frequency_bytes packed.numbers (packed_size song packs.used) + code_length (asked_by packed) o) packs.speeds;
   }
 
   module _ (files : Files) (name : List ℕ) (address : ℕ) (holds : HoldsSong files name song) where

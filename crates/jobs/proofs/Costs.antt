@@ -2,6 +2,7 @@
 use Rattle.std.proofs.Common.{◌≡◌, List, ℕ, ◌++◌, map, sym, ap, ◌∙◌, subst}
 use Rattle.song_model.specs.declared.songs.Song.{Song}
 use Rattle.play_model.specs.declared.options.Options.{Options}
+use Rattle.asked_numbers.proofs.Laws.{songs_have_one_range}
 use Rattle.packing_rules.proofs.Laws.{same_sets}
 use Rattle.song_costs.specs.Kinds.{costs_of, all_bytes}
 use Rattle.song_costs.specs.Kept.{AreKeptParts}
@@ -17,19 +18,23 @@ pub one_cost_text : (song : Song) (o : Options) (lines others : List (List ℕ))
 one_cost_text song o lines others p q =
     let used = same_sets song p.used q.used p.are_used q.are_used in
     let asked = one_asked song p.asked q.asked p.asks q.asks in
+    let numbers = songs_have_one_range song p.numbers q.numbers p.are_numbers q.are_numbers in
     let mine = subst (λ set. AreKeptParts song set o p.parts) asked p.are_parts in
     let parts = kept_parts_are_one song q.asked o p.parts q.parts mine q.are_parts in
-    p.lines_are ∙ ap (λ u. kind_lines (costs_of song u p.asked o) ++ map part_line p.parts) used
-    ∙ ap (λ set. kind_lines (costs_of song q.used set o) ++ map part_line p.parts) asked
-    ∙ ap (λ l. kind_lines (costs_of song q.used q.asked o) ++ map part_line l) parts ∙ sym q.lines_are
+    p.lines_are ∙ ap (λ u. kind_lines (costs_of song u p.asked p.numbers o) ++ map part_line p.parts) used
+    ∙ ap (λ set. kind_lines (costs_of song q.used set p.numbers o) ++ map part_line p.parts) asked
+    ∙ ap (λ range. kind_lines (costs_of song q.used q.asked range o) ++ map part_line p.parts) numbers
+    ∙ ap (λ l. kind_lines (costs_of song q.used q.asked q.numbers o) ++ map part_line l) parts ∙ sym q.lines_are
 
 pub costs_are_the_images : CostsAreTheImages
 costs_are_the_images song o lines psid address zero_page chip file told written =
-    let mine : IsImageLength song o (all_bytes (costs_of song told.used told.asked o)) = record {
+    let mine : IsImageLength song o (all_bytes (costs_of song told.used told.asked told.numbers o)) = record {
       used = told.used;
       asked = told.asked;
+      numbers = told.numbers;
       are_used = told.are_used;
       asks = told.asks;
-      count_is = (costs_add_up song told.used told.asked o).1;
+      are_numbers = told.are_numbers;
+      count_is = (costs_add_up song told.used told.asked told.numbers o).1;
     } in
     one_length song o _ _ written.size mine

@@ -9,7 +9,6 @@ mod Costs
 mod Due
 mod Ends
 mod Fileless
-mod FoundFacts
 mod Joining
 mod Listed
 mod Measured

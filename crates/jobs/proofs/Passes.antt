@@ -26,6 +26,7 @@ use Rattle.play_model.proofs.Laws.{refused_or_playable_lem}
 use Rattle.usage.proofs.Laws.{one_refusal}
 use Rattle.packing_rules.specs.UsedSets.{UsedSets, AreUsedSets}
 use Rattle.packing_rules.specs.Renumbering.{pattern_text}
+use Rattle.asked_numbers.proofs.Laws.{songs_have_one_range}
 use Rattle.packing_rules.proofs.Laws.{same_sets}
 use Rattle.song_pack.specs.Answers.{AreShort, IsTooLong}
 use Rattle.image_parts.specs.CodeParts.{code_length}
@@ -107,8 +108,10 @@ pub one_length : (song : Song) (o : Options) (m n : ℕ) → IsImageLength song 
 one_length song o m n p q =
     let used = same_sets song p.used q.used p.are_used q.are_used in
     let asked = one_asked song p.asked q.asked p.asks q.asks in
-    p.count_is ∙ ap (λ u. song_size song u p.asked + code_length p.asked o) used
-    ∙ ap (λ set. song_size song q.used set + code_length set o) asked ∙ sym q.count_is
+    let numbers = songs_have_one_range song p.numbers q.numbers p.are_numbers q.are_numbers in
+    p.count_is ∙ ap (λ u. song_size song u p.asked p.numbers + code_length p.asked o) used
+    ∙ ap (λ set. song_size song q.used set p.numbers + code_length set o) asked
+    ∙ ap (λ range. song_size song q.used q.asked range + code_length q.asked o) numbers ∙ sym q.count_is
 
 too_large_or_not : (end address m n : ℕ) → m ≡ n → address + m ≤ end → end < address + n → ⊥
 too_large_or_not end address m n same fits passes = omega arith

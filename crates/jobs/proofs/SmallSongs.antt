@@ -1,5 +1,6 @@
 -- Which songs are packed, and that no other image is refused than a large one.
 use Rattle.std.proofs.Common.{◌≡◌, ℕ, ◌+◌, ◌≤◌, ◌<◌, Bool, List, [], ◌∷◌, length, map, refl, subst, arith}
+use Rattle.goat_io.specs.Files.{Files}
 use Rattle.std.specs.List.{filter}
 use Rattle.std.proofs.lemmas.List.{length-map}
 use Rattle.std.proofs.lemmas.List.FromFn.{length-range_with_len}
@@ -16,16 +17,16 @@ use Rattle.packed_form.specs.CodeBounds.{code_bound}
 use Rattle.packing_rules.specs.Segments.{numbers}
 use Rattle.packing_rules.specs.Renumbering.{same_row, speed_rows}
 use Rattle.packing_rules.specs.SongSizes.{data_size, packed_size}
-use Rattle.packing_rules.proofs.Laws.{packed_size_is_within, first_seen_length}
-use Rattle.kept_lines.specs.Asked.{asked, Asks}
+use Rattle.packing_rules.proofs.Laws.{packed_size_is_within, first_seen_length, same_sets}
+use Rattle.asked_numbers.proofs.Laws.{ranges_lie_in_the_table}
 use Rattle.image_parts.specs.CodeParts.{code_length}
-use Rattle.image_parts.specs.Lengths.{slide_bytes}
+use Rattle.image_parts.specs.Lengths.{slide_bytes, frequency_bytes}
 use Rattle.image_parts.proofs.Laws.{code_is_bounded}
 use Rattle.jobs.specs.Packed.{IsImageLength}
 use Rattle.jobs.specs.Stages.{IsThere, Fits, SpellsSong, CanBePlayed, HasShortPatterns, HasRoomForImage, input_limit}
-use Rattle.jobs.specs.Laws.{ImagesAreBounded, OnlyLargeImagesAreRefused, SmallSongsArePacked}
-use Rattle.jobs.proofs.FoundFacts.{found_facts}
-use Rattle.jobs.proofs.Passes.{one_song_held, one_length, met_passes}
+use Rattle.jobs.specs.Stages.{Passes}
+use Rattle.jobs.specs.Laws.{ImagesAreBounded, OnlyLargeImagesAreRefused, HoldsSmallSong, SmallSongsArePacked}
+use Rattle.jobs.proofs.Passes.{one_song_held, met_passes}
 
 -- a song that can be played has a subtune
 no_list : {A : Type 0} (xs : List A) → (xs ≡ [] → ⊥) → 1 ≤ length xs
@@ -36,19 +37,6 @@ pub has_subtune : (song : Song) → IsPlayable song → 1 ≤ length (playable_s
 has_subtune song playable = no_list (playable_subtunes song) (playable NoSubtune)
 
 -- ---- how long an image is
-
--- those of the slides
-slides_of : Song → UsedSets → ℕ → ℕ
-slides_of song used asked = slide_bytes asked (length (speed_rows song (used.pointers Speed)))
-
-length_of : Song → UsedSets → ℕ → Options → ℕ
-length_of song used asked o = packed_size song used + slides_of song used asked + code_length asked o
-
-length_is : (song : Song) (o : Options) (used : UsedSets) (asked : ℕ) → AreUsedSets song used → Asks song asked →
-    IsImageLength song o (length_of song used asked o)
-unfolding slides_of length_of
-length_is song o used asked are_used asks =
-    record { used = used; asked = asked; are_used = are_used; asks = asks; count_is = refl }
 
 -- a song has at most 255 speeds
 few_speeds : (song : Song) (used : ℕ → Bool) → length (speed_rows song used) ≤ 255
@@ -62,66 +50,55 @@ few_speeds song used =
     let all = length-range_with_len 1 MOST_TABLE_ROWS in
     omega (arith, seen, rows, counted, most, all)
 
-player_is_bounded : (song : Song) (used : UsedSets) (asked features : ℕ) (o : Options) →
-    slides_of song used asked + code_length asked o ≤ code_bound features o
-unfolding slides_of
-player_is_bounded song used asked features o =
-    code_is_bounded asked features (length (speed_rows song (used.pointers Speed))) o (few_speeds song (used.pointers Speed))
+-- so the slides, the frequencies and the code together are within the player's bound
+player_is_bounded : (song : Song) (o : Options) (features : ℕ) {count : ℕ} (is : IsImageLength song o count) →
+    slide_bytes is.asked (length (speed_rows song (is.used.pointers Speed)))
+    + frequency_bytes is.numbers (packed_size song is.used) + code_length is.asked o
+    ≤ code_bound features o
+player_is_bounded song o features is =
+    code_is_bounded is.asked features (length (speed_rows song (is.used.pointers Speed))) (packed_size song is.used)
+    is.numbers o (few_speeds song (is.used.pointers Speed)) (ranges_lie_in_the_table song is.numbers is.are_numbers)
 
--- with these bounds of its parts
-within : (address most bound size slides code count : ℕ) → size ≤ most → slides + code ≤ bound →
-    count ≡ size + slides + code → 0xD000 < address + count → 0xD000 < address + most + bound
-within address most bound size slides code count p q is passes = omega (arith, p, q, is, passes)
-
-fits_too : (address most bound size slides code : ℕ) → size ≤ most → slides + code ≤ bound →
-    address + most + bound ≤ 0xD000 → address + (size + slides + code) ≤ 0xD000
-fits_too address most bound size slides code p q room = omega (arith, p, q, room)
-
-adds : (most bound size slides code count : ℕ) → size ≤ most → slides + code ≤ bound → count ≡ size + slides + code →
-    count ≤ most + bound
-adds most bound size slides code count p q is = omega (arith, p, q, is)
-
--- the image of a song has this length
-its_length : (song : Song) (o : Options) (used : UsedSets) (asked count : ℕ) → IsImageLength song o count →
-    AreUsedSets song used → Asks song asked →
-    count ≡ packed_size song used + slides_of song used asked + code_length asked o
-unfolding length_of
-its_length song o used asked count is are_used asks =
-    one_length song o count _ is (length_is song o used asked are_used asks)
+adds : (most bound size slides frequencies code count : ℕ) → size ≤ most → slides + frequencies + code ≤ bound →
+    count ≡ size + slides + frequencies + code → count ≤ most + bound
+adds most bound size slides frequencies code count p q is = omega (arith, p, q, is)
 
 pub images_are_bounded : ImagesAreBounded
 images_are_bounded song o used features count is are_used are_features =
-    adds (data_size song used) (code_bound features o) (packed_size song used) (slides_of song used is.asked)
-    (code_length is.asked o) count (packed_size_is_within song used) (player_is_bounded song used is.asked features o)
-    (its_length song o used is.asked count is are_used is.asks)
+    subst (λ (u : UsedSets). count ≤ data_size song u + code_bound features o)
+    (same_sets song is.used used is.are_used are_used)
+    (adds (data_size song is.used) (code_bound features o) (packed_size song is.used) _ _ (code_length is.asked o) count
+    (packed_size_is_within song is.used) (player_is_bounded song o features is) is.count_is)
 
 pub only_large_images : OnlyLargeImagesAreRefused
 only_large_images files name address o lines song used features ends holds are_used are_features =
     let same = one_song_held files name ends.0 song ends.2 holds in
     let is = subst (λ s. IsImageLength s o ends.1) same ends.3 in
-    within address (data_size song used) (code_bound features o) (packed_size song used) (slides_of song used is.asked)
-    (code_length is.asked o) ends.1 (packed_size_is_within song used) (player_is_bounded song used is.asked features o)
-    (its_length song o used is.asked ends.1 is are_used is.asks) ends.4
+    past address (data_size song used) (code_bound features o) ends.1
+    (images_are_bounded song o used features ends.1 is are_used are_features) ends.4
+  where
+    past : (address most bound count : ℕ) → count ≤ most + bound → 0xD000 < address + count →
+        0xD000 < address + most + bound
+    past address most bound count within passes = omega (arith, within, passes)
+
+-- ---- small songs
+
+-- so the image of a small song isn't too large
+small_fits : (files : Files) (input : List ℕ) (address : ℕ) (o : Options) →
+    HoldsSmallSong files input address o → Passes files (HasRoomForImage input address o)
+small_fits files input address o small lines ends =
+    too_large (address + data_size small.song small.used + code_bound small.features o)
+    (only_large_images files input address o lines small.song small.used small.features ends small.holds
+    small.are_used small.are_features) small.room
+  where
+    too_large : (all : ℕ) → 0xD000 < all → all ≤ 0xD000 → ⊥
+    too_large all passes fits = omega (arith, passes, fits)
 
 pub small_songs : SmallSongsArePacked
-unfolding length_of
 small_songs files input output psid address zero_page o chip small =
     let song = small.song in
     let used = small.used in
-    let holds = small.holds in
-    let found = found_facts song used small.playable small.are_used in
-    let wanted = asked small.features found.0 in
-    let asks : Asks song wanted = record {
-      features = small.features;
-      facts = found.0;
-      are_features = small.are_features;
-      are_facts = found.1;
-      is = refl;
-    } in
-    let room =
-    fits_too address (data_size song used) (code_bound small.features o) (packed_size song used)
-    (slides_of song used wanted) (code_length wanted o) (packed_size_is_within song used)
-    (player_is_bounded song used wanted small.features o) small.room in (
+    let holds = small.holds in (
       met_passes files (IsThere input) (holds.bytes, holds.found),
       (
         met_passes files (Fits input input_limit) (holds.bytes, holds.found, small.fits),
@@ -131,16 +108,7 @@ small_songs files input output psid address zero_page o chip small =
             met_passes files (CanBePlayed input) (song, holds, small.playable),
             (
               met_passes files (HasShortPatterns input) (song, used, holds, small.are_used, small.short),
-              (
-                met_passes files (HasRoomForImage input address o) (
-                  song,
-                  length_of song used wanted o,
-                  holds,
-                  length_is song o used wanted small.are_used asks,
-                  room,
-                ),
-                tt,
-              ),
+              (small_fits files input address o small, tt),
             ),
           ),
         ),

@@ -2,6 +2,8 @@
 use Rattle.std.specs.Prelude.{◌≡◌, ℕ, List, [], ◌∷◌, ◌++◌, map, get_or, codes, decimal}
 use Rattle.song_model.specs.declared.songs.Song.{Song}
 use Rattle.play_model.specs.declared.options.Options.{Options}
+use Rattle.asked_numbers.specs.declared.range.NumberRange.{NumberRange}
+use Rattle.asked_numbers.specs.Range.{IsNumberRange}
 use Rattle.packing_rules.specs.UsedSets.{UsedSets, AreUsedSets}
 use Rattle.kept_lines.specs.Asked.{Asks}
 use Rattle.song_costs.specs.declared.costs.Costs.{Costs}
@@ -26,7 +28,7 @@ kind_lines costs = kind_line (codes "player") costs.player ∷ kind_line (codes 
     ∷ kind_line (codes "patterns") costs.patterns ∷ kind_line (codes "instruments") costs.instruments
     ∷ kind_line (codes "wave table") costs.wave ∷ kind_line (codes "pulse table") costs.pulse
     ∷ kind_line (codes "filter table") costs.filter ∷ kind_line (codes "speed table") costs.speed
-    ∷ kind_line (codes "image") (all_bytes costs) ∷ []
+    ∷ kind_line (codes "frequencies") costs.frequencies ∷ kind_line (codes "image") (all_bytes costs) ∷ []
 
 -- ---- parts of the player
 
@@ -63,6 +65,8 @@ pub record TellCosts (song : Song) (options : Options) (lines : List (List ℕ))
   pub are_used : AreUsedSets song used
   pub asked : ℕ
   pub asks : Asks song asked
+  pub numbers : NumberRange
+  pub are_numbers : IsNumberRange song numbers
   pub parts : List PartCost
   pub are_parts : AreKeptParts song asked options parts
-  pub lines_are : lines ≡ kind_lines (costs_of song used asked options) ++ map part_line parts
+  pub lines_are : lines ≡ kind_lines (costs_of song used asked numbers options) ++ map part_line parts

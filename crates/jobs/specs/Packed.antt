@@ -8,12 +8,14 @@ use Rattle.song_model.specs.LookUp.{playable_subtunes}
 use Rattle.play_model.specs.declared.options.Options.{Options}
 use Rattle.play_model.specs.declared.options.System.{System}
 use Rattle.play_model.specs.declared.options.System.TheVariants.{Pal, Ntsc}
+use Rattle.asked_numbers.specs.declared.range.NumberRange.{NumberRange}
+use Rattle.asked_numbers.specs.Range.{IsNumberRange}
 use Rattle.packing_rules.specs.UsedSets.{UsedSets, AreUsedSets}
 use Rattle.packing_rules.specs.Renumbering.{speed_rows}
 use Rattle.packing_rules.specs.SongSizes.{packed_size}
 use Rattle.kept_lines.specs.Asked.{Asks}
 use Rattle.image_parts.specs.CodeParts.{code_length}
-use Rattle.image_parts.specs.Lengths.{slide_bytes}
+use Rattle.image_parts.specs.Lengths.{slide_bytes, frequency_bytes}
 use Rattle.command_line.specs.declared.chip.Chip.{Chip}
 use Rattle.command_line.specs.declared.chip.Chip.TheVariants.{Mos6581, Mos8580}
 use Rattle.psid.specs.declared.header.Header.{Header}
@@ -78,15 +80,18 @@ pub record IsPackedFile (psid : Bool) (address zero_page : ℕ) (song : Song) (o
   pub faithful : IsFaithful image address zero_page song options
 
 -- how many bytes the image of a song has: those of its packed data, those of the slides and periods of calculated
--- speeds, and those of the player's parts that its features, its facts and the options want
+-- speeds, those of the frequencies of the numbers that it asks for, and those of the player's parts that its features, its
+-- facts and the options want
 pub record IsImageLength (song : Song) (options : Options) (count : ℕ) : Type 0 where
   pub used : UsedSets
   pub asked : ℕ
+  pub numbers : NumberRange
   pub are_used : AreUsedSets song used
   pub asks : Asks song asked
+  pub are_numbers : IsNumberRange song numbers
   pub count_is : count
       ≡ packed_size song used + slide_bytes asked (length (speed_rows song (used.pointers Speed)))
-      + code_length asked options
+      + frequency_bytes numbers (packed_size song used) + code_length asked options
 
 -- a file that `pack` writes: a packed file, of an image that is as long as that, and that plays the song after any calls,
 -- from the first init on each by the image's bytes alone

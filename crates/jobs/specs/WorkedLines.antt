@@ -83,7 +83,7 @@ pub record LinesAreWorked : Type 0 where
 -- another number of bytes of each kind
 abbrev pub some_costs : Costs
 some_costs = record {
-  player = 1575;
+  player = 1381;
   orders = 48;
   patterns = 327;
   instruments = 63;
@@ -91,6 +91,7 @@ some_costs = record {
   pulse = 12;
   filter = 6;
   speed = 8;
+  frequencies = 104;
 }
 
 -- a part, so many bytes, and what they are for
@@ -100,9 +101,10 @@ costly part bytes cause = record { part = part; bytes = bytes; cause = cause }
 -- the lines of the kinds, one of a part for each cause, and what each part is called
 pub record CostLinesAreWorked : Type 0 where
   pub kinds : kind_lines some_costs
-      ≡ codes "player 1575 bytes\n" ∷ codes "orderlists 48 bytes\n" ∷ codes "patterns 327 bytes\n"
+      ≡ codes "player 1381 bytes\n" ∷ codes "orderlists 48 bytes\n" ∷ codes "patterns 327 bytes\n"
       ∷ codes "instruments 63 bytes\n" ∷ codes "wave table 42 bytes\n" ∷ codes "pulse table 12 bytes\n"
-      ∷ codes "filter table 6 bytes\n" ∷ codes "speed table 8 bytes\n" ∷ codes "image 2081 bytes\n" ∷ []
+      ∷ codes "filter table 6 bytes\n" ∷ codes "speed table 8 bytes\n" ∷ codes "frequencies 104 bytes\n"
+      ∷ codes "image 1991 bytes\n" ∷ []
   pub in_order : part_line (costly 0 16 (InSong (InOrder 12 3 0x1F)))
       ≡ codes "transpose 16 bytes, subtune 12 channel 3 place 1F\n"
   pub in_pattern : part_line (costly 4 58 (InSong (InPattern 0x1A 3)))
@@ -116,7 +118,7 @@ pub record CostLinesAreWorked : Type 0 where
   pub by_skip : part_line (costly 25 6 SkipOption) ≡ codes "skip pulse 6 bytes, SKIP\n"
   pub by_first : part_line (costly 27 36 SkipOption) ≡ codes "skip between patterns 36 bytes, SKIP\n"
   pub by_speed : part_line (costly 26 10 SpeedOption) ≡ codes "play by timer 10 bytes, SPEED\n"
-  pub names : map part_name (range_with_len 0 49)
+  pub names : map part_name (range_with_len 0 53)
       ≡ codes "transpose"
       ∷ codes "repeat"
       ∷ codes "portamento up"
@@ -163,6 +165,10 @@ pub record CostLinesAreWorked : Type 0 where
       ∷ codes "vibrato delay"
       ∷ codes "pulse of instruments"
       ∷ codes "filter of instruments"
+      ∷ codes "tempo of one voice"
+      ∷ codes "tempo of all voices"
+      ∷ codes "funk tempo turns"
+      ∷ codes "funk tempo choice"
       ∷ codes "row commands"
       ∷ codes "special wave rows"
       ∷ codes "held gate or envelope" ∷ []

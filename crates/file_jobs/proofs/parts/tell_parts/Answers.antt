@@ -76,13 +76,15 @@ returns g c =
     let code = c.as_slice.ensures ∙ c.in_ok-code.ensures
     ∙ ap (λ set. code_parts set c.args.options) (c.asked.ensures ∙ sym same) in
     let costs = c.costs_by_kind-costs.ensures.exact song (sets_of parts) c.args.options packed code
-    ∙ ap (λ set. costs_of song (sets_of parts) set c.args.options) same in
+    ∙ ap (λ set. costs_of song (sets_of parts) set c.in_ok-packed.packed.numbers c.args.options) same in
     let told : TellCosts song c.args.options (kind_lines c.costs_by_kind-costs.result ++ map part_line c.in_ok-told.told.items) =
     record {
       used = sets_of parts;
       are_used = used;
       asked = asked parts.features.0 parts.facts;
       asks = asks;
+      numbers = c.in_ok-packed.packed.numbers;
+      are_numbers = packed.numbers;
       parts = c.in_ok-told.told.items;
       are_parts = c.in_ok-told.ensures.kept;
       lines_are = ap (λ k. kind_lines k ++ map part_line c.in_ok-told.told.items) costs;
