@@ -10,7 +10,7 @@ use Rattle.player_desk.proofs.Reading.{Reads}
 
 -- all but a voice's own bytes stands: what the voices share, the other tempos, that no command is lent, the registers
 pub record Around (r : Reader) (s : Playing) (d m : VoiceDesk) : Type 0 where
-  pub common : Shared s.common m.shared
+  pub common : Shared r.layout.holds s.common m.shared
   pub tempos : (its : ℕ) → its < 3 → its ≢ r.voice → m.shared (TEMPO + 7 * its) ≡ tempo_of (its + 1) s.common
   pub none_lent : m.shared LENT ≡ 0
   pub sid : m.sid ≡ d.sid

@@ -1,5 +1,5 @@
 -- The desk of a voice as it is read from memory; and what a block leaves there that leads to where a rule's code does.
-use Rattle.std.proofs.Common.{◌≡◌, ◌≢◌, ℕ, ◌+◌, ◌*◌, ◌%◌, ◌<◌, true, inl, inr, refl, sym, ap}
+use Rattle.std.proofs.Common.{◌≡◌, ◌≢◌, ℕ, ◌+◌, ◌*◌, ◌%◌, ◌<◌, Bool, true, inl, inr, refl, sym, ap}
 use Rattle.std.proofs.Common.{◌∙◌, subst}
 use Rattle.std.proofs.lemmas.Bool.Decides.{eqb_tells}
 use Rattle.play_model.specs.State.{Voice, Common, Playing}
@@ -118,10 +118,10 @@ finds layout rows voice desk label number byte listed =
 
 -- the voice that is playing stands on its desk
 pub begins : (layout : Layout) (voice : ℕ) (desk : Desk) (s : Playing) → IsPlaying layout voice s desk.at →
-    IsDone voice s (lent_of layout desk) (voice_desk layout voice desk) (voice_desk layout voice desk)
+    IsDone layout.holds voice s (lent_of layout desk) (voice_desk layout voice desk) (voice_desk layout voice desk)
 begins layout voice desk s plays = record {
-  fields = fields_of s.voice (tempo_of (voice + 1) s.common) (own_at layout desk.at voice) plays.own;
-  common = shared_of s.common (shared_at layout desk.at) plays.common;
+  fields = fields_of layout.holds s.voice (tempo_of (voice + 1) s.common) (own_at layout desk.at voice) plays.own;
+  common = shared_of layout.holds s.common (shared_at layout desk.at) plays.common;
   tempos = λ its three other. plays.tempos its three;
   lent = record { lent = refl; command = λ some. refl; param = λ some. refl };
   song = record {
@@ -141,48 +141,55 @@ begins layout voice desk s plays = record {
 -- ---- behind it
 
 -- the same bytes under another name
-pub fields_at : (v : Voice) (tempo : ℕ) (own other : ℕ → ℕ) →
+pub fields_at : (holds : ℕ → Bool) (v : Voice) (tempo : ℕ) (own other : ℕ → ℕ) →
     ((label : ℕ) → is_own label ≡ true → other label ≡ own label) →
-    Fields v tempo own → Fields v tempo other
-fields_at v tempo own other same f = record {
+    Fields holds v tempo own → Fields holds v tempo other
+fields_at holds v tempo own other same f = record {
   tick = same TICK refl ∙ f.tick;
   gate_timer = same GATE_TIMER refl ∙ f.gate_timer;
   instrument = same INSTRUMENT refl ∙ f.instrument;
   note = same NOTE refl ∙ f.note;
   new_note = same NEW_NOTE refl ∙ f.new_note;
-  new_command = same NEW_COMMAND refl ∙ f.new_command;
-  new_param = λ some. same NEW_PARAM refl ∙ f.new_param some;
-  command = same COMMAND refl ∙ f.command;
-  param = same PARAM refl ∙ f.param;
+  new_command = λ on. same NEW_COMMAND refl ∙ f.new_command on;
+  new_param = λ on some. same NEW_PARAM refl ∙ f.new_param on some;
+  command = λ on. same COMMAND refl ∙ f.command on;
+  param = λ on. same PARAM refl ∙ f.param on;
   ad = same AD refl ∙ f.ad;
   sr = same SR refl ∙ f.sr;
-  vib_time = same VIB_TIME refl ∙ f.vib_time;
-  vib_delay = same VIB_DELAY refl ∙ f.vib_delay;
+  vib_time = λ on. same VIB_TIME refl ∙ f.vib_time on;
+  vib_delay = λ on. same VIB_DELAY refl ∙ f.vib_delay on;
   wave = same WAVE refl ∙ f.wave;
   gate = same GATE refl ∙ f.gate;
   freq_low = same FREQ_LOW refl ∙ f.freq_low;
   freq_high = same FREQ_HIGH refl ∙ f.freq_high;
-  last_note = same LAST_NOTE refl ∙ f.last_note;
+  last_note = λ on. same LAST_NOTE refl ∙ f.last_note on;
   wave_ptr = same WAVE_POINTER refl ∙ f.wave_ptr;
-  wave_time = same WAVE_TIME refl ∙ f.wave_time;
+  wave_time = λ on. same WAVE_TIME refl ∙ f.wave_time on;
   pulse_ptr = same PULSE_POINTER refl ∙ f.pulse_ptr;
   pulse_time = same PULSE_TIME refl ∙ f.pulse_time;
-  pulse_low = same PULSE_LOW refl ∙ f.pulse_low;
-  pulse_high = ap (λ byte. byte % 16) (same PULSE_HIGH refl) ∙ f.pulse_high;
+  pulse_low = λ on. same PULSE_LOW refl ∙ f.pulse_low on;
+  no_pulse_low = f.no_pulse_low;
+  pulse_high = λ on. ap (λ byte. byte % 16) (same PULSE_HIGH refl) ∙ f.pulse_high on;
+  no_pulse_high = f.no_pulse_high;
   tempo_is = same TEMPO refl ∙ f.tempo_is;
 }
 
-pub shared_here : (c : Common) (shared other : ℕ → ℕ) →
-    ((label : ℕ) → is_shared label ≡ true → other label ≡ shared label) → Shared c shared → Shared c other
-shared_here c shared other same f = record {
+pub shared_here : (holds : ℕ → Bool) (c : Common) (shared other : ℕ → ℕ) →
+    ((label : ℕ) → is_shared label ≡ true → other label ≡ shared label) → Shared holds c shared →
+    Shared holds c other
+shared_here holds c shared other same f = record {
   filter_ptr = same FILTER_POINTER refl ∙ f.filter_ptr;
   filter_time = same FILTER_TIME refl ∙ f.filter_time;
-  filter_type = same FILTER_TYPE refl ∙ f.filter_type;
-  filter_control = same FILTER_CONTROL refl ∙ f.filter_control;
-  cutoff = same CUTOFF refl ∙ f.cutoff;
-  volume = same VOLUME refl ∙ f.volume;
-  funk_one = same FUNK_ONE refl ∙ f.funk_one;
-  funk_two = same FUNK_TWO refl ∙ f.funk_two;
+  filter_type = λ on. same FILTER_TYPE refl ∙ f.filter_type on;
+  no_filter_type = f.no_filter_type;
+  filter_control = λ on. same FILTER_CONTROL refl ∙ f.filter_control on;
+  no_filter_control = f.no_filter_control;
+  cutoff = λ on. same CUTOFF refl ∙ f.cutoff on;
+  no_cutoff = f.no_cutoff;
+  volume = λ on. same VOLUME refl ∙ f.volume on;
+  no_volume = f.no_volume;
+  funk_one = λ on. same FUNK_ONE refl ∙ f.funk_one on;
+  funk_two = λ on. same FUNK_TWO refl ∙ f.funk_two on;
 }
 
 song_at : (own other before : ℕ → ℕ) → ((label : ℕ) → is_own label ≡ true → other label ≡ own label) →
@@ -201,19 +208,21 @@ song_at own other before same s =
 
 -- what the desk tells of a state stands in the memory that shows it
 pub is_playing : (layout : Layout) (rows voice : ℕ) (before : Desk) (t : Playing) (after : Desk) (m : VoiceDesk) →
-    Shows true (reader_of layout rows voice before) after m → Fields t.voice (tempo_of (voice + 1) t.common) m.own →
-    Shared t.common m.shared →
+    Shows true (reader_of layout rows voice before) after m →
+    Fields layout.holds t.voice (tempo_of (voice + 1) t.common) m.own → Shared layout.holds t.common m.shared →
     ((its : ℕ) → its < 3 → its ≢ voice → m.shared (TEMPO + 7 * its) ≡ tempo_of (its + 1) t.common) →
     IsPlaying layout voice t after.at
 is_playing layout rows voice before t after m shows fields common others = record {
-  own = fields_stand t.voice (tempo_of (voice + 1) t.common) _ here;
-  common = shared_stand t.common _ (shared_here t.common m.shared _ (λ label is. shows.memory (SharedSpot label) is)
-      common);
+  own = fields_stand layout.holds t.voice (tempo_of (voice + 1) t.common) _ here;
+  common = shared_stand layout.holds t.common _
+      (shared_here layout.holds t.common m.shared _ (λ label is. shows.memory (SharedSpot label) is) common);
   tempos = tempos;
 }
   where
-    here : Fields t.voice (tempo_of (voice + 1) t.common) (own_at layout after.at voice)
-    here = fields_at t.voice (tempo_of (voice + 1) t.common) m.own _ (λ label is. shows.memory (Own label) is) fields
+    here : Fields layout.holds t.voice (tempo_of (voice + 1) t.common) (own_at layout after.at voice)
+    here =
+        fields_at layout.holds t.voice (tempo_of (voice + 1) t.common) m.own _
+        (λ label is. shows.memory (Own label) is) fields
 
     tempos : (its : ℕ) → its < 3 → own_at layout after.at its TEMPO ≡ tempo_of (its + 1) t.common
     tempos its few =
@@ -304,7 +313,7 @@ comes layout rows voice tree desk Q room uses three at leads =
 -- A block that has come to where a rule's code does leaves the state that the rule gives.
 pub but_slides_so : (layout : Layout) (rows voice : ℕ) (desk : Desk) (Q : VoiceDesk → Type 0) (run : Ran)
     (t : Playing) → Came layout rows voice desk Q run →
-    ((m : VoiceDesk) → Q m → IsDone voice t (lent_of layout desk) (voice_desk layout voice desk) m) →
+    ((m : VoiceDesk) → Q m → IsDone layout.holds voice t (lent_of layout desk) (voice_desk layout voice desk) m) →
     PlaysButSlides layout rows voice desk run t
 but_slides_so layout rows voice desk Q run t came does =
     let shows = came.shows in
@@ -334,7 +343,7 @@ still_ends r tree Q d leaves leads =
 
 pub plays_so : (layout : Layout) (rows voice : ℕ) (desk : Desk) (Q : VoiceDesk → Type 0) (run : Ran) (t : Playing) →
     Came layout rows voice desk (Still (voice_desk layout voice desk) Q) run →
-    ((m : VoiceDesk) → Q m → IsDone voice t (lent_of layout desk) (voice_desk layout voice desk) m) →
+    ((m : VoiceDesk) → Q m → IsDone layout.holds voice t (lent_of layout desk) (voice_desk layout voice desk) m) →
     Plays layout rows voice desk run t
 plays_so layout rows voice desk Q run t came does = record {
   but_slides = but_slides_so layout rows voice desk (Still (voice_desk layout voice desk) Q) run t came
@@ -345,7 +354,8 @@ plays_so layout rows voice desk Q run t came does = record {
 pub plays : (layout : Layout) (rows voice : ℕ) (tree : Tree) (desk : Desk) (t : Playing) →
     leaves_slides tree ≡ true → IsRoom layout rows → MayUse layout rows → voice < 3 → IsAtVoice voice desk →
     Leads (reader_of layout rows voice desk) tree
-    (ends (IsDone voice t (lent_of layout desk) (voice_desk layout voice desk))) (voice_desk layout voice desk) →
+    (ends (IsDone layout.holds voice t (lent_of layout desk) (voice_desk layout voice desk)))
+    (voice_desk layout voice desk) →
     Plays layout rows voice desk (ran each_one layout tree desk) t
 plays layout rows voice tree desk t leaves room uses three at leads =
     plays_so layout rows voice desk Q (ran each_one layout tree desk) t
@@ -353,4 +363,4 @@ plays layout rows voice tree desk t leaves room uses three at leads =
     (still_ends (reader_of layout rows voice desk) tree Q (voice_desk layout voice desk) leaves leads)) (λ m q. q)
   where
     Q : VoiceDesk → Type 0
-    Q = IsDone voice t (lent_of layout desk) (voice_desk layout voice desk)
+    Q = IsDone layout.holds voice t (lent_of layout desk) (voice_desk layout voice desk)

@@ -1,5 +1,5 @@
 -- The desk as code that no voice owns sees it, read from memory; and what a block of it leaves there.
-use Rattle.std.proofs.Common.{◌≡◌, ℕ, ◌+◌, ◌<◌, true, inl, inr, refl, sym, ap, ◌∙◌, subst}
+use Rattle.std.proofs.Common.{◌≡◌, ℕ, ◌+◌, ◌<◌, Bool, true, inl, inr, refl, sym, ap, ◌∙◌, subst}
 use Rattle.std.proofs.Common.{◌≢◌, zero, suc, ◌*◌, false, List, slice_index, arith}
 use Rattle.std.proofs.lemmas.Bool.Decides.{eqb_tells}
 use Rattle.play_model.specs.State.{Common}
@@ -31,24 +31,25 @@ pub record SameLent (one two : ℕ → ℕ) : Type 0 where
   pub tempo_three : one (TEMPO + 14) ≡ two (TEMPO + 14)
 
 -- the desk tells what the voices share, and all else but the registers stays
-pub record CommonDone (c : Common) (d m : VoiceDesk) : Type 0 where
-  pub common : Shared c m.shared
+pub record CommonDone (holds : ℕ → Bool) (c : Common) (d m : VoiceDesk) : Type 0 where
+  pub common : Shared holds c m.shared
   pub lent : SameLent m.shared d.shared
   pub own : m.own ≡ d.own
   pub slide_low : m.slide_low ≡ d.slide_low
   pub slide_high : m.slide_high ≡ d.slide_high
 
 -- and these bytes are in the registers from 21 on, and the others stay
-pub record SharedDone (c : Common) (bytes : List ℕ) (d m : VoiceDesk) : Type 0 where
-  pub done : CommonDone c d m
+pub record SharedDone (holds : ℕ → Bool) (c : Common) (bytes : List ℕ) (d m : VoiceDesk) : Type 0 where
+  pub done : CommonDone holds c d m
   pub last : (number : ℕ) → number < 4 → m.sid (21 + number) ≡ slice_index bytes number
   pub registers : (register : ℕ) → register < 21 → m.sid register ≡ d.sid register
 
 -- the common state stands on its desk
-pub begins_shared : (layout : Layout) (desk : Desk) (c : Common) → CommonBytesStand c (shared_at layout desk.at) →
-    CommonDone c (voice_desk layout 0 desk) (voice_desk layout 0 desk)
+pub begins_shared : (layout : Layout) (desk : Desk) (c : Common) →
+    CommonBytesStand layout.holds c (shared_at layout desk.at) →
+    CommonDone layout.holds c (voice_desk layout 0 desk) (voice_desk layout 0 desk)
 begins_shared layout desk c stand = record {
-  common = shared_of c (shared_at layout desk.at) stand;
+  common = shared_of layout.holds c (shared_at layout desk.at) stand;
   lent = record { lent = refl; command = refl; param = refl; tempo_two = refl; tempo_three = refl };
   own = refl;
   slide_low = refl;
@@ -58,15 +59,16 @@ begins_shared layout desk c stand = record {
 -- A block that leads from the desk to where a rule's code does leaves the state that the rule gives.
 pub plays_shared : (layout : Layout) (rows : ℕ) (tree : Tree) (desk : Desk) (c : Common) (bytes : List ℕ) →
     IsRoom layout rows → MayUse layout rows → desk.cpu.d ≡ false →
-    LeadsAlone (reader_of layout rows 0 desk) tree (ends (SharedDone c bytes (voice_desk layout 0 desk)))
-    (voice_desk layout 0 desk) →
+    LeadsAlone (reader_of layout rows 0 desk) tree
+    (ends (SharedDone layout.holds c bytes (voice_desk layout 0 desk))) (voice_desk layout 0 desk) →
     PlaysShared layout rows desk (ran each_one layout tree desk) c bytes
 plays_shared layout rows tree desk c bytes room uses decimal leads = record {
   ends = end.is;
   decimal = behind.shows.decimal;
   common =
-      shared_stand c _
-      (shared_here c m.shared _ (λ label is. behind.shows.memory (SharedSpot label) is) end.holds.done.common);
+      shared_stand layout.holds c _
+      (shared_here layout.holds c m.shared _ (λ label is. behind.shows.memory (SharedSpot label) is)
+      end.holds.done.common);
   last = λ number few.
       behind.shows.memory (Sid (21 + number)) (omega (arith, few)) ∙ end.holds.last number few;
   lent = assumption (
@@ -90,9 +92,10 @@ plays_shared layout rows tree desk c bytes room uses decimal leads = record {
     d : VoiceDesk
     d = voice_desk layout 0 desk
 
-    behind : Led false r (ends (SharedDone c bytes d)) (ran each_one layout tree desk)
+    behind : Led false r (ends (SharedDone layout.holds c bytes d)) (ran each_one layout tree desk)
     behind =
-        led (ground_of layout rows 0 desk room uses (omega arith)) tree (ends (SharedDone c bytes d)) desk d
+        led (ground_of layout rows 0 desk room uses (omega arith)) tree (ends (SharedDone layout.holds c bytes d))
+        desk d
         (record {
           memory = spots_are layout rows 0 desk;
           a = refl;
@@ -107,8 +110,8 @@ plays_shared layout rows tree desk c bytes room uses decimal leads = record {
     m : VoiceDesk
     m = behind.after
 
-    end : AtEnd (SharedDone c bytes d) (ran each_one layout tree desk).outcome m
-    end = at_end (SharedDone c bytes d) (ran each_one layout tree desk).outcome m behind.way
+    end : AtEnd (SharedDone layout.holds c bytes d) (ran each_one layout tree desk).outcome m
+    end = at_end (SharedDone layout.holds c bytes d) (ran each_one layout tree desk).outcome m behind.way
 
     after : ℕ → ℕ
     after = (ran each_one layout tree desk).desk.at

@@ -26,14 +26,14 @@ shared_below label is = ltb-true label VARIABLES (and_parts _ _ is).0
 pub playing_stays : (layout : Layout) (one two : ℕ → ℕ) (voice : ℕ) (s : Playing) → SameVariables layout one two →
     voice < 3 → IsPlaying layout voice s one → IsPlaying layout voice s two
 playing_stays layout one two voice s same few plays = record {
-  own = fields_stand s.voice tempo (own_at layout two voice)
-      (fields_at s.voice tempo (own_at layout one voice) (own_at layout two voice)
+  own = fields_stand layout.holds s.voice tempo (own_at layout two voice)
+      (fields_at layout.holds s.voice tempo (own_at layout one voice) (own_at layout two voice)
       (λ label is. own_same layout one two voice label same few is)
-      (fields_of s.voice tempo (own_at layout one voice) plays.own));
-  common = shared_stand s.common (shared_at layout two)
-      (shared_here s.common (shared_at layout one) (shared_at layout two)
+      (fields_of layout.holds s.voice tempo (own_at layout one voice) plays.own));
+  common = shared_stand layout.holds s.common (shared_at layout two)
+      (shared_here layout.holds s.common (shared_at layout one) (shared_at layout two)
       (λ label is. same label (shared_below label is))
-      (shared_of s.common (shared_at layout one) plays.common));
+      (shared_of layout.holds s.common (shared_at layout one) plays.common));
   tempos = λ its below. own_same layout one two its TEMPO same below refl ∙ plays.tempos its below;
 }
   where

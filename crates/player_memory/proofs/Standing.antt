@@ -1,11 +1,13 @@
 -- The bytes of a state, one by one, stand where a test says so, which is computed.
-use Rattle.std.proofs.Common.{◌≡◌, ℕ, ◌%◌, ◌/◌, ◌&&◌, ◌||◌, Bool, true, nat_eq, inl, inr}
+use Rattle.std.proofs.Common.{◌≡◌, ℕ, ◌%◌, ◌/◌, ◌&&◌, ◌||◌, Bool, true, false, nat_eq, inl, inr, if◌then◌else◌}
 use Rattle.std.proofs.Common.{zero, suc, ◌+◌, ◌<◌, List, [], ◌∷◌, arith}
 use Rattle.std.proofs.lemmas.Bool.{and_parts, or_cases, eqb-true}
 use Rattle.play_model.specs.State.{Voice, Common, Playing}
 use Rattle.play_model.specs.TickStep.{tempo_of}
 use Rattle.scopes.specs.Desk.{Layout}
 use Rattle.player_memory.specs.declared.labels.TheConstants.{TEMPO}
+use Rattle.player_memory.specs.declared.variables.Kept.{Kept}
+use Rattle.player_memory.specs.declared.variables.Kept.TheVariants.{Always, Where, Else}
 use Rattle.player_memory.specs.declared.variables.VoiceByte.{VoiceByte}
 use Rattle.player_memory.specs.declared.variables.VoiceByte.TheVariants.{Tick, GateTimer, Instrument, Note, NewNote}
 use Rattle.player_memory.specs.declared.variables.VoiceByte.TheVariants.{NewCommand, NewParam, Command, Param, Ad, Sr}
@@ -15,9 +17,36 @@ use Rattle.player_memory.specs.declared.variables.VoiceByte.TheVariants.{PulsePt
 use Rattle.player_memory.specs.declared.variables.VoiceByte.TheVariants.{Tempo}
 use Rattle.player_memory.specs.declared.variables.CommonByte.{CommonByte}
 use Rattle.player_memory.specs.declared.variables.TheConstants.{VOICE_BYTES, COMMON_BYTES}
-use Rattle.player_memory.specs.Variables.{voice_byte, IsVoiceByte, VoiceRowsStand, VoiceBytesStand}
+use Rattle.player_memory.specs.Variables.{HoldsWhere, voice_byte, IsVoiceByte, VoiceRowsStand, VoiceBytesStand}
 use Rattle.player_memory.specs.Variables.{common_byte, CommonRowsStand, CommonBytesStand}
 use Rattle.player_memory.specs.Playing.{own_at, shared_at, IsPlaying, AreSame}
+
+-- ---- where it is kept
+
+-- by a test of what it holds
+abbrev pub is_kept : (ℕ → Bool) → Kept → Bool → ℕ → Bool
+is_kept holds Always held part = held
+is_kept holds (Where condition) held part = if holds condition then held else true
+is_kept holds (Else condition number) held part = if holds condition then held else nat_eq part number
+
+holds_where : (holds : ℕ → Bool) (kept : Kept) (Held : Type 0) (held : Bool) (part : ℕ) → (held ≡ true → Held) →
+    is_kept holds kept held part ≡ true → HoldsWhere holds kept Held part
+holds_where holds Always Held held part is e = is e
+holds_where holds (Where condition) Held held part is e = λ on. is (by_value (holds condition) on e)
+  where
+    by_value : (b : Bool) → b ≡ true → (if b then held else true) ≡ true → held ≡ true
+    by_value true on e = e
+    by_value false never e = absurd cc
+holds_where holds (Else condition number) Held held part is e =
+    (λ on. is (kept_so (holds condition) on e), λ off. is_number (holds condition) off e)
+  where
+    kept_so : (b : Bool) → b ≡ true → (if b then held else nat_eq part number) ≡ true → held ≡ true
+    kept_so true on e = e
+    kept_so false never e = absurd cc
+
+    is_number : (b : Bool) → b ≡ false → (if b then held else nat_eq part number) ≡ true → part ≡ number
+    is_number true never e = absurd cc
+    is_number false off e = eqb-true part number e
 
 -- ---- by a test
 
@@ -26,9 +55,11 @@ is_held PulseHigh v tempo byte = nat_eq (byte % 16) (v.pulse / 256)
 is_held NewParam v tempo byte = nat_eq v.new_command 0 || nat_eq byte v.new_param
 is_held held v tempo byte = nat_eq byte (voice_byte held v tempo)
 
-abbrev pub are_held : List (ℕ × VoiceByte) → Voice → ℕ → (ℕ → ℕ) → Bool
-are_held [] v tempo own = true
-are_held (row ∷ rows) v tempo own = is_held row.1 v tempo (own row.0) && are_held rows v tempo own
+abbrev pub are_held : (ℕ → Bool) → List (ℕ × VoiceByte × Kept) → Voice → ℕ → (ℕ → ℕ) → Bool
+are_held holds [] v tempo own = true
+are_held holds (row ∷ rows) v tempo own =
+    is_kept holds row.2 (is_held row.1 v tempo (own row.0)) (voice_byte row.1 v tempo)
+    && are_held holds rows v tempo own
 
 held : (what : VoiceByte) (v : Voice) (tempo byte : ℕ) → is_held what v tempo byte ≡ true →
     IsVoiceByte what v tempo byte
@@ -62,33 +93,45 @@ held PulseLow v tempo byte e = eqb-true byte (v.pulse % 256) e
 held PulseHigh v tempo byte e = eqb-true (byte % 16) (v.pulse / 256) e
 held Tempo v tempo byte e = eqb-true byte tempo e
 
-pub rows_stand : (rows : List (ℕ × VoiceByte)) (v : Voice) (tempo : ℕ) (own : ℕ → ℕ) →
-    are_held rows v tempo own ≡ true → VoiceRowsStand rows v tempo own
-rows_stand [] v tempo own e = tt
-rows_stand (row ∷ rows) v tempo own e =
-    let both = and_parts (is_held row.1 v tempo (own row.0)) (are_held rows v tempo own) e in
-    (held row.1 v tempo (own row.0) both.0, rows_stand rows v tempo own both.1)
+pub rows_stand : (holds : ℕ → Bool) (rows : List (ℕ × VoiceByte × Kept)) (v : Voice) (tempo : ℕ) (own : ℕ → ℕ) →
+    are_held holds rows v tempo own ≡ true → VoiceRowsStand holds rows v tempo own
+rows_stand holds [] v tempo own e = tt
+rows_stand holds (row ∷ rows) v tempo own e =
+    let both = and_parts
+    (is_kept holds row.2 (is_held row.1 v tempo (own row.0)) (voice_byte row.1 v tempo))
+    (are_held holds rows v tempo own) e in (
+      holds_where holds row.2 (IsVoiceByte row.1 v tempo (own row.0)) (is_held row.1 v tempo (own row.0))
+          (voice_byte row.1 v tempo) (held row.1 v tempo (own row.0)) both.0,
+      rows_stand holds rows v tempo own both.1,
+    )
 
 -- a voice's bytes stand where the test says so
-pub bytes_stand : (v : Voice) (tempo : ℕ) (own : ℕ → ℕ) → are_held VOICE_BYTES v tempo own ≡ true →
-    VoiceBytesStand v tempo own
-bytes_stand v tempo own e = rows_stand VOICE_BYTES v tempo own e
+pub bytes_stand : (holds : ℕ → Bool) (v : Voice) (tempo : ℕ) (own : ℕ → ℕ) →
+    are_held holds VOICE_BYTES v tempo own ≡ true → VoiceBytesStand holds v tempo own
+bytes_stand holds v tempo own e = rows_stand holds VOICE_BYTES v tempo own e
 
-abbrev pub are_shared : List (ℕ × CommonByte) → Common → (ℕ → ℕ) → Bool
-are_shared [] c shared = true
-are_shared (row ∷ rows) c shared = nat_eq (shared row.0) (common_byte row.1 c) && are_shared rows c shared
+abbrev pub are_shared : (ℕ → Bool) → List (ℕ × CommonByte × Kept) → Common → (ℕ → ℕ) → Bool
+are_shared holds [] c shared = true
+are_shared holds (row ∷ rows) c shared =
+    is_kept holds row.2 (nat_eq (shared row.0) (common_byte row.1 c)) (common_byte row.1 c)
+    && are_shared holds rows c shared
 
-shared_rows_stand : (rows : List (ℕ × CommonByte)) (c : Common) (shared : ℕ → ℕ) →
-    are_shared rows c shared ≡ true → CommonRowsStand rows c shared
-shared_rows_stand [] c shared e = tt
-shared_rows_stand (row ∷ rows) c shared e =
-    let both = and_parts (nat_eq (shared row.0) (common_byte row.1 c)) (are_shared rows c shared) e in
-    (eqb-true (shared row.0) (common_byte row.1 c) both.0, shared_rows_stand rows c shared both.1)
+shared_rows_stand : (holds : ℕ → Bool) (rows : List (ℕ × CommonByte × Kept)) (c : Common) (shared : ℕ → ℕ) →
+    are_shared holds rows c shared ≡ true → CommonRowsStand holds rows c shared
+shared_rows_stand holds [] c shared e = tt
+shared_rows_stand holds (row ∷ rows) c shared e =
+    let both = and_parts
+    (is_kept holds row.2 (nat_eq (shared row.0) (common_byte row.1 c)) (common_byte row.1 c))
+    (are_shared holds rows c shared) e in (
+      holds_where holds row.2 (shared row.0 ≡ common_byte row.1 c) (nat_eq (shared row.0) (common_byte row.1 c))
+          (common_byte row.1 c) (eqb-true (shared row.0) (common_byte row.1 c)) both.0,
+      shared_rows_stand holds rows c shared both.1,
+    )
 
 -- and so do those that the voices share
-pub shared_bytes_stand : (c : Common) (shared : ℕ → ℕ) → are_shared COMMON_BYTES c shared ≡ true →
-    CommonBytesStand c shared
-shared_bytes_stand c shared e = shared_rows_stand COMMON_BYTES c shared e
+pub shared_bytes_stand : (holds : ℕ → Bool) (c : Common) (shared : ℕ → ℕ) →
+    are_shared holds COMMON_BYTES c shared ≡ true → CommonBytesStand holds c shared
+shared_bytes_stand holds c shared e = shared_rows_stand holds COMMON_BYTES c shared e
 
 -- and each voice's tempo
 abbrev pub are_tempos : Layout → (ℕ → ℕ) → Common → Bool
@@ -117,12 +160,13 @@ tempos_stand layout at c e its few = by_voice its few
 
 -- so a voice is playing in a memory where three tests say so
 pub playing_in : (layout : Layout) (voice : ℕ) (s : Playing) (at : ℕ → ℕ) →
-    are_held VOICE_BYTES s.voice (tempo_of (voice + 1) s.common) (own_at layout at voice) ≡ true →
-    are_shared COMMON_BYTES s.common (shared_at layout at) ≡ true → are_tempos layout at s.common ≡ true →
+    are_held layout.holds VOICE_BYTES s.voice (tempo_of (voice + 1) s.common) (own_at layout at voice) ≡ true →
+    are_shared layout.holds COMMON_BYTES s.common (shared_at layout at) ≡ true →
+    are_tempos layout at s.common ≡ true →
     IsPlaying layout voice s at
 playing_in layout voice s at own common tempos = record {
-  own = bytes_stand s.voice (tempo_of (voice + 1) s.common) (own_at layout at voice) own;
-  common = shared_bytes_stand s.common (shared_at layout at) common;
+  own = bytes_stand layout.holds s.voice (tempo_of (voice + 1) s.common) (own_at layout at voice) own;
+  common = shared_bytes_stand layout.holds s.common (shared_at layout at) common;
   tempos = tempos_stand layout at s.common tempos;
 }
 

@@ -3,13 +3,16 @@ use Rattle.std.proofs.Common.{◌≡◌, true, [], ◌∷◌, inl, refl, arith}
 use Rattle.song_model.specs.LookUp.{pattern_at}
 use Rattle.play_model.specs.WorkedSongs.{row, one_note}
 use Rattle.scopes.specs.Desk.{Layout}
-use Rattle.song_facts.specs.declared.facts.Fact.TheVariants.{RowTone, RowSlide, RowOnce, FirstMask, Legato, NoHardRestart}
-use Rattle.song_facts.specs.declared.facts.Fact.TheVariants.{WaveDelay, GateNote, NoteVibrato, VibratoDelay, NotePulse, NoteFilter}
+use Rattle.song_facts.specs.declared.facts.Fact.TheVariants.{RowTone, RowSlide, RowOnce, FirstMask, Legato}
+use Rattle.song_facts.specs.declared.facts.Fact.TheVariants.{NoHardRestart}
+use Rattle.song_facts.specs.declared.facts.Fact.TheVariants.{WaveDelay, GateNote, NoteVibrato, VibratoDelay, NotePulse}
+use Rattle.song_facts.specs.declared.facts.Fact.TheVariants.{NoteFilter}
 use Rattle.song_facts.specs.declared.facts.Fact.TheVariants.{VoiceTempo, CommonTempo, FunkTurns, FunkChoice}
 use Rattle.song_facts.specs.Facts.{HasFact, no_facts}
 use Rattle.player_memory.specs.declared.conditions.TheConstants.{GATE_NOTE}
 use Rattle.player_memory.specs.FactLines.{KeepsMarked}
-use Rattle.player_memory.specs.WorkedConditions.{ConditionsAreFeatures, ConditionsAreFacts, FactLinesAreWorked, with_holding}
+use Rattle.player_memory.specs.WorkedConditions.{ConditionsAreFeatures, ConditionsAreFacts, FactLinesAreWorked}
+use Rattle.player_memory.specs.WorkedConditions.{with_holding}
 
 pub conditions_are_features : ConditionsAreFeatures
 conditions_are_features = record {
@@ -75,7 +78,8 @@ none_kept layout CommonTempo on = absurd cc
 none_kept layout FunkTurns on = absurd cc
 none_kept layout FunkChoice on = absurd cc
 
-gate_kept : (layout : Layout) → layout.holds GATE_NOTE ≡ true → KeepsMarked layout (record no_facts { gate_note = true })
+gate_kept : (layout : Layout) → layout.holds GATE_NOTE ≡ true →
+    KeepsMarked layout (record no_facts { gate_note = true })
 gate_kept layout holds RowTone on = absurd cc
 gate_kept layout holds RowSlide on = absurd cc
 gate_kept layout holds RowOnce on = absurd cc
@@ -126,25 +130,49 @@ fact_lines_are_worked layout = record {
   other = λ keeps. (let on = keeps GateNote refl in absurd cc);
   song = λ keeps. (let on = keeps GateNote key_off in absurd cc);
   free = record {
+    tone = λ on. absurd cc;
     slide = λ on. absurd cc;
     once = λ on. absurd cc;
     delay = λ on. absurd cc;
     command = λ on. absurd cc;
     legato = λ on. absurd cc;
     soft = λ on. absurd cc;
+    filter = λ on. absurd cc;
+    control = λ on. absurd cc;
+    cutoff = λ on. absurd cc;
   };
+  tone = λ keeps. (let on = keeps.tone refl in absurd cc);
   slide = λ keeps. (let on = keeps.slide refl in absurd cc);
   once = λ keeps. (let on = keeps.once refl in absurd cc);
   rows = record {
+    tone = λ on. absurd cc;
     slide = λ on. refl;
     once = λ on. absurd cc;
     delay = λ on. absurd cc;
     command = λ on. absurd cc;
     legato = λ on. absurd cc;
     soft = λ on. absurd cc;
+    filter = λ on. absurd cc;
+    control = λ on. absurd cc;
+    cutoff = λ on. absurd cc;
   };
   delay = λ keeps. (let on = keeps.delay refl in absurd cc);
   command = λ keeps. (let on = keeps.command refl in absurd cc);
   legato = λ keeps. (let on = keeps.legato refl in absurd cc);
   soft = λ keeps. (let on = keeps.soft refl in absurd cc);
+  filter = λ keeps. (let on = keeps.filter refl in absurd cc);
+  control = λ keeps. (let on = keeps.control refl in absurd cc);
+  cutoff = λ keeps. (let on = keeps.cutoff refl in absurd cc);
+  filters = record {
+    tone = λ on. absurd cc;
+    slide = λ on. absurd cc;
+    once = λ on. absurd cc;
+    delay = λ on. absurd cc;
+    command = λ on. absurd cc;
+    legato = λ on. absurd cc;
+    soft = λ on. absurd cc;
+    filter = λ on. absurd cc;
+    control = λ on. absurd cc;
+    cutoff = λ on. refl;
+  };
 }

@@ -19,10 +19,11 @@ use Rattle.packed_form.specs.Unpacked.{unpacked_song, unpacked_pattern}
 use Rattle.player_memory.specs.declared.conditions.TheConstants.{FILTER_TABLE}
 use Rattle.player_memory.specs.declared.labels.TheConstants.{ORDERS, REST, PATTERN_LOW}
 use Rattle.player_memory.specs.Rooms.{IsElsewhere}
-use Rattle.player_memory.specs.Playing.{own_at, place_in, IsPlaying}
+use Rattle.player_memory.specs.declared.variables.TheConstants.{COMMON_BYTES}
+use Rattle.player_memory.specs.Playing.{own_at, shared_at, place_in, IsPlaying}
 use Rattle.player_memory.specs.Fetching.{SongStands, AtEntry, InRun, InLastRun, Walked, NotWalked, GoesOn}
 use Rattle.player_memory.specs.Fetching.{EntriesStand}
-use Rattle.player_memory.specs.Starting.{Begins, VoiceBegins}
+use Rattle.player_memory.specs.Starting.{Begins, VoiceBegins, common_with}
 use Rattle.player_memory.specs.SongLists.{SongList, FrequencyLows, FrequencyHighs, Lefts, Rights, Periods, Instruments}
 use Rattle.player_memory.specs.SongLists.{OrderLows, OrderHighs, PatternLows, PatternHighs, OrderBytes, PatternBytes}
 use Rattle.player_memory.specs.SongLists.{pattern_bytes, first_number, list_length, list_byte, list_label, IsSongList}
@@ -36,7 +37,7 @@ use Rattle.player_memory.specs.WorkedHolds.{KeptAreWorked, walked_memory, walked
 use Rattle.player_memory.proofs.Standing.{playing_in}
 use Rattle.player_memory.proofs.WorkedRooms.{IsLaid, IsOpen, room_in, uses_in, behind_slides}
 use Rattle.player_memory.proofs.WorkedMemory.{neither}
-use Rattle.player_memory.proofs.Starting.{beginnings_play}
+use Rattle.player_memory.proofs.Starting.{voice_begins, shared_rows_begin, beginnings_play}
 use Rattle.player_memory.proofs.SetLists.{all_are_set, lists_stand, behind}
 
 -- ---- lists
@@ -253,14 +254,23 @@ layouts_are_worked = record {
 
 -- ---- states
 
-each : (voice : ℕ) → voice < 3 → VoiceBegins 5 (its_orders voice) (own_at list_layout song_memory voice)
-each zero few = assumption
-each (suc zero) few = assumption
-each (suc (suc zero)) few = assumption
+each : (voice : ℕ) → voice < 3 →
+    VoiceBegins list_layout.holds 5 (its_orders voice) (own_at list_layout song_memory voice)
+each zero few =
+    voice_begins list_layout.holds 5 (its_orders 0) (own_at list_layout song_memory 0) refl assumption
+each (suc zero) few =
+    voice_begins list_layout.holds 5 (its_orders 1) (own_at list_layout song_memory 1) refl assumption
+each (suc (suc zero)) few =
+    voice_begins list_layout.holds 5 (its_orders 2) (own_at list_layout song_memory 2) refl assumption
 each (suc (suc (suc more))) few = absurd (omega (arith, few))
 
 begins : Begins list_layout 5 8 its_orders song_memory
-begins = record { voices = each; common = assumption; handed = assumption }
+begins = record {
+  voices = each;
+  common =
+      shared_rows_begin list_layout.holds COMMON_BYTES (common_with 5 8) (shared_at list_layout song_memory) refl;
+  handed = assumption;
+}
 
 address : (voice : ℕ) → voice < 3 → its_orders voice ≡ list_layout.address (order_label 1 voice)
 address zero few = refl

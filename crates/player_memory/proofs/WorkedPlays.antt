@@ -13,7 +13,7 @@ use Rattle.player_memory.specs.declared.variables.TheConstants.{VOICE_BYTES, COM
 use Rattle.player_memory.specs.Labels.{is_own}
 use Rattle.player_memory.specs.Rooms.{IsElsewhere}
 use Rattle.player_memory.specs.Playing.{own_at, shared_at, place_in, IsListed, IsRow, OthersStay}
-use Rattle.player_memory.specs.WorkedMemory.{at_1000}
+use Rattle.player_memory.specs.WorkedMemory.{at_1000, everywhere}
 use Rattle.player_memory.proofs.Standing.{are_held, are_shared, are_tempos, playing_in, have_same, are_same}
 use Rattle.player_memory.proofs.WorkedMemory.{neither, is_laid}
 use Rattle.player_memory.proofs.WorkedRooms.{behind_slides}
@@ -47,8 +47,8 @@ register_apart place register (inl low) few e = omega (arith, low, e)
 register_apart place register (inr high) few e = omega (arith, high, few, e)
 
 -- memory with the same bytes in it
-still : (at : ℕ → ℕ) → are_held VOICE_BYTES beginning.voice 5 (own_at at_1000 at 1) ≡ true →
-    are_shared COMMON_BYTES beginning.common (shared_at at_1000 at) ≡ true →
+still : (at : ℕ → ℕ) → are_held everywhere VOICE_BYTES beginning.voice 5 (own_at at_1000 at 1) ≡ true →
+    are_shared everywhere COMMON_BYTES beginning.common (shared_at at_1000 at) ≡ true →
     are_tempos at_1000 at beginning.common ≡ true →
     have_same SONG_BYTES (own_at at_1000 at 1) (own_at at_1000 its_memory 1) ≡ true →
     shared_at at_1000 at LENT ≡ 0 → shared_at at_1000 at KEPT_COMMAND ≡ 0 → shared_at at_1000 at KEPT_PARAM ≡ 0 →
@@ -68,7 +68,7 @@ plays_are_worked = record {
   fully = record { but_slides = same; slides = λ kept row few. record { low = refl; high = refl } };
   low_slide = λ plays. (let byte = (plays.slides refl 3 (omega arith)).low in omega (arith, byte));
   high_slide = λ plays. (let byte = (plays.slides refl 3 (omega arith)).high in omega (arith, byte));
-  not_fully = λ plays. (let byte = plays.but_slides.plays.common.1.1.1.1.1.0 in omega (arith, byte));
+  not_fully = λ plays. (let byte = plays.but_slides.plays.common.1.1.1.1.1.0.0 refl in omega (arith, byte));
   same = same;
   pointer = still (put its_memory 0xFC 1) refl refl refl refl refl
       refl refl (record {
@@ -91,10 +91,10 @@ plays_are_worked = record {
   other_x = λ plays. (let x = plays.at_voice.x in omega (arith, x));
   decimal = λ plays. both_ways true plays.at_voice.decimal refl;
   own = λ plays. (let byte = plays.plays.own.0 in omega (arith, byte));
-  common = λ plays. (let byte = plays.plays.common.1.1.1.1.1.0 in omega (arith, byte));
+  common = λ plays. (let byte = plays.plays.common.1.1.1.1.1.0.0 refl in omega (arith, byte));
   tempo = λ plays. (let byte = plays.plays.tempos 2 (omega arith) in omega (arith, byte));
   song = λ plays. (let byte = plays.song.0 in omega (arith, byte));
-  last_common = λ plays. (let byte = plays.plays.common.1.1.1.1.1.1.1.0 in omega (arith, byte));
+  last_common = λ plays. (let byte = plays.plays.common.1.1.1.1.1.1.1.0 refl in omega (arith, byte));
   last_song = λ plays. (let byte = plays.song.1.1.1.1.1.1.1.1.0 in omega (arith, byte));
   lent = λ plays. (let byte = plays.lent in omega (arith, byte));
   kept_command = λ plays. (let byte = (plays.kept (λ e. omega (arith, e))).0 in omega (arith, byte));

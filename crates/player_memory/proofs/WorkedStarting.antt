@@ -1,38 +1,66 @@
 -- Variables as a subtune begins, worked.
 use Rattle.std.proofs.Common.{ℕ, zero, suc, ◌+◌, ◌<◌, refl, arith}
-use Rattle.player_memory.specs.Playing.{own_at}
-use Rattle.player_memory.specs.Starting.{VoiceBegins}
+use Rattle.player_memory.specs.declared.variables.TheConstants.{COMMON_BYTES}
+use Rattle.player_memory.specs.Playing.{own_at, shared_at}
+use Rattle.player_memory.specs.Starting.{VoiceBegins, common_with}
 use Rattle.player_memory.specs.Fetching.{SongStands, AtEntry, InRun, InLastRun}
 use Rattle.player_memory.specs.WorkedPlays.{with_variable}
-use Rattle.player_memory.proofs.Starting.{tempo_byte, beginnings_play}
+use Rattle.player_memory.proofs.Starting.{tempo_byte, voice_begins, shared_rows_begin, beginnings_play}
 use Rattle.player_memory.specs.WorkedStarting.{BeginningsAreWorked, FirstPlaysAreWorked, BeginsSo, begun, its_orders}
 use Rattle.player_memory.specs.WorkedStarting.{with_orders}
+use Rattle.player_memory.specs.WorkedMemory.{everywhere, nowhere}
 use Rattle.player_memory.specs.WorkedFetching.{its_order, its_packed}
-use Rattle.player_memory.specs.declared.labels.TheConstants.{REST, ORDERS}
+use Rattle.player_memory.specs.declared.labels.TheConstants.{REST, ORDERS, VIB_DELAY}
 use Rattle.play_model.specs.LookUps.{LookUps}
 use Rattle.play_model.specs.State.{at_speed, start_voice}
 
-each : (voice : ℕ) → voice < 3 → VoiceBegins 5 (its_orders voice) (own_at with_orders begun voice)
-each zero few = assumption
-each (suc zero) few = assumption
-each (suc (suc zero)) few = assumption
+each : (voice : ℕ) → voice < 3 → VoiceBegins everywhere 5 (its_orders voice) (own_at with_orders begun voice)
+each zero few =
+    voice_begins everywhere 5 (its_orders 0) (own_at with_orders begun 0) refl assumption
+each (suc zero) few =
+    voice_begins everywhere 5 (its_orders 1) (own_at with_orders begun 1) refl assumption
+each (suc (suc zero)) few =
+    voice_begins everywhere 5 (its_orders 2) (own_at with_orders begun 2) refl assumption
 each (suc (suc (suc more))) few = absurd (omega (arith, few))
 
 begins : BeginsSo begun
-begins = record { voices = each; common = assumption; handed = assumption }
+begins = record {
+  voices = each;
+  common = shared_rows_begin everywhere COMMON_BYTES (common_with 5 8) (shared_at with_orders begun) refl;
+  handed = assumption;
+}
+
+-- the third voice's delay is 0
+abbrev undelayed : ℕ → ℕ
+undelayed = with_variable (VIB_DELAY + 14) 0 begun
+
+each_bare : (voice : ℕ) → voice < 3 → VoiceBegins nowhere 5 (its_orders voice) (own_at with_orders undelayed voice)
+each_bare zero few =
+    voice_begins nowhere 5 (its_orders 0) (own_at with_orders undelayed 0) refl assumption
+each_bare (suc zero) few =
+    voice_begins nowhere 5 (its_orders 1) (own_at with_orders undelayed 1) refl assumption
+each_bare (suc (suc zero)) few =
+    voice_begins nowhere 5 (its_orders 2) (own_at with_orders undelayed 2) refl assumption
+each_bare (suc (suc (suc more))) few = absurd (omega (arith, few))
 
 pub beginnings_are_worked : BeginningsAreWorked
 beginnings_are_worked = record {
   begins = begins;
-  tick = λ b. (let byte = (b.voices 0 (omega arith)).state.0 in omega (arith, byte));
-  instrument = λ b. (let byte = (b.voices 1 (omega arith)).state.1.1.0 in omega (arith, byte));
-  gate = λ b. (let byte = (b.voices 2 (omega arith)).state.1.1.1.1.1.1.1.1.1.1.1.1.1.1.0 in omega (arith, byte));
-  delay = λ b. (let byte = (b.voices 2 (omega arith)).state.1.1.1.1.1.1.1.1.1.1.1.1.0 in omega (arith, byte));
+  no_lines = record {
+    voices = each_bare;
+    common = shared_rows_begin nowhere COMMON_BYTES (common_with 5 8) (shared_at with_orders undelayed) refl;
+    handed = assumption;
+  };
+  always = λ b. (let byte = (b.voices 0 (omega arith)).state.0 refl in omega (arith, byte));
+  tick = λ b. (let byte = (b.voices 0 (omega arith)).state.0 refl in omega (arith, byte));
+  instrument = λ b. (let byte = (b.voices 1 (omega arith)).state.1.1.0 refl in omega (arith, byte));
+  gate = λ b. (let byte = (b.voices 2 (omega arith)).state.1.1.1.1.1.1.1.1.1.1.1.1.1.1.0 refl in omega (arith, byte));
+  delay = λ b. (let byte = (b.voices 2 (omega arith)).state.1.1.1.1.1.1.1.1.1.1.1.1.0 refl in omega (arith, byte));
   high_bits = λ b.
-      (let byte = (b.voices 1 (omega arith)).state.1.1.1.1.1.1.1.1.1.1.1.1.1.1.1.1.1.1.1.1.1.1.1.0 in
+      (let byte = (b.voices 1 (omega arith)).state.1.1.1.1.1.1.1.1.1.1.1.1.1.1.1.1.1.1.1.1.1.1.1.0 refl in
       omega (arith, byte));
-  param = λ b. (let byte = (b.voices 0 (omega arith)).state.1.1.1.1.1.1.0 in omega (arith, byte));
-  tempo = λ b. (let byte = tempo_byte _ _ _ (b.voices 2 (omega arith)) in omega (arith, byte));
+  param = λ b. (let byte = (b.voices 0 (omega arith)).state.1.1.1.1.1.1.0 refl in omega (arith, byte));
+  tempo = λ b. (let byte = tempo_byte everywhere _ _ _ (b.voices 2 (omega arith)) in omega (arith, byte));
   low = λ b. (let byte = (b.voices 0 (omega arith)).song.1.1.1.1.0 in omega (arith, byte));
   high = λ b. (let byte = (b.voices 2 (omega arith)).song.1.1.1.1.1.0 in omega (arith, byte));
   rest = λ b. (let byte = (b.voices 0 (omega arith)).song.0 in omega (arith, byte));
@@ -40,10 +68,10 @@ beginnings_are_worked = record {
   place = λ b. (let byte = (b.voices 2 (omega arith)).song.1.1.1.1.1.1.0 in omega (arith, byte));
   transpose = λ b. (let byte = (b.voices 0 (omega arith)).song.1.1.1.1.1.1.1.0 in omega (arith, byte));
   repeat = λ b. (let byte = (b.voices 1 (omega arith)).song.1.1.1.1.1.1.1.1.0 in omega (arith, byte));
-  filter = λ b. (let byte = b.common.0 in omega (arith, byte));
-  volume = λ b. (let byte = b.common.1.1.1.1.1.0 in omega (arith, byte));
-  funk_one = λ b. (let byte = b.common.1.1.1.1.1.1.0 in omega (arith, byte));
-  funk_two = λ b. (let byte = b.common.1.1.1.1.1.1.1.0 in omega (arith, byte));
+  filter = λ b. (let byte = b.common.0 refl in omega (arith, byte));
+  volume = λ b. (let byte = b.common.1.1.1.1.1.0 refl in omega (arith, byte));
+  funk_one = λ b. (let byte = b.common.1.1.1.1.1.1.0 refl in omega (arith, byte));
+  funk_two = λ b. (let byte = b.common.1.1.1.1.1.1.1.0 refl in omega (arith, byte));
   lent = λ b. (let byte = b.handed.0 in omega (arith, byte));
   kept_command = λ b. (let byte = b.handed.1.0 in omega (arith, byte));
   kept_param = λ b. (let byte = b.handed.1.1.0 in omega (arith, byte));

@@ -3,8 +3,10 @@
 use Rattle.std.specs.Prelude.{◌≡◌, ℕ, true}
 use Rattle.song_model.specs.declared.songs.Song.{Song}
 use Rattle.song_facts.specs.declared.facts.Fact.{Fact}
-use Rattle.song_facts.specs.declared.facts.Fact.TheVariants.{RowTone, RowSlide, RowOnce, FirstMask, Legato, NoHardRestart}
-use Rattle.song_facts.specs.declared.facts.Fact.TheVariants.{WaveDelay, GateNote, NoteVibrato, VibratoDelay, NotePulse, NoteFilter}
+use Rattle.song_facts.specs.declared.facts.Fact.TheVariants.{RowTone, RowSlide, RowOnce, FirstMask, Legato}
+use Rattle.song_facts.specs.declared.facts.Fact.TheVariants.{NoHardRestart}
+use Rattle.song_facts.specs.declared.facts.Fact.TheVariants.{WaveDelay, GateNote, NoteVibrato, VibratoDelay, NotePulse}
+use Rattle.song_facts.specs.declared.facts.Fact.TheVariants.{NoteFilter}
 use Rattle.song_facts.specs.declared.facts.Fact.TheVariants.{VoiceTempo, CommonTempo, FunkTurns, FunkChoice}
 use Rattle.song_facts.specs.declared.facts.Facts.{Facts}
 use Rattle.song_facts.specs.Facts.{HasFact, is_among}
@@ -14,6 +16,8 @@ use Rattle.player_memory.specs.declared.conditions.TheConstants.{NO_HARD_RESTART
 use Rattle.player_memory.specs.declared.conditions.TheConstants.{NOTE_VIBRATO, VIBRATO_DELAY, NOTE_PULSE, NOTE_FILTER}
 use Rattle.player_memory.specs.declared.conditions.TheConstants.{VOICE_TEMPO, COMMON_TEMPO, FUNK_TURNS, FUNK_CHOICE}
 use Rattle.player_memory.specs.declared.conditions.TheConstants.{SPECIAL_ROW, HELD_NOTE, WAVE_COMMAND}
+use Rattle.player_memory.specs.declared.conditions.TheConstants.{FILTER_TABLE, SET_FILTER_CONTROL, SET_CUTOFF}
+use Rattle.player_memory.specs.declared.conditions.TheConstants.{FILTER_USED}
 
 -- the condition of a fact
 abbrev pub fact_condition : Fact → ℕ
@@ -43,11 +47,15 @@ abbrev pub KeepsFacts : Layout → Song → Type 0
 KeepsFacts layout song = (fact : Fact) → HasFact song fact → layout.holds (fact_condition fact) ≡ true
 
 -- and the lines that facts or features have in common: of rows with a command, of delays and commands of the wave
--- table, and of instruments that leave something as it is before a note
+-- table, of instruments that leave something as it is before a note, and of what sets the filter
 pub record KeepsShared (layout : Layout) : Type 0 where
+  pub tone : layout.holds ROW_TONE ≡ true → layout.holds ROW_COMMAND ≡ true
   pub slide : layout.holds ROW_SLIDE ≡ true → layout.holds ROW_COMMAND ≡ true
   pub once : layout.holds ROW_ONCE ≡ true → layout.holds ROW_COMMAND ≡ true
   pub delay : layout.holds WAVE_DELAY ≡ true → layout.holds SPECIAL_ROW ≡ true
   pub command : layout.holds WAVE_COMMAND ≡ true → layout.holds SPECIAL_ROW ≡ true
   pub legato : layout.holds LEGATO ≡ true → layout.holds HELD_NOTE ≡ true
   pub soft : layout.holds NO_HARD_RESTART ≡ true → layout.holds HELD_NOTE ≡ true
+  pub filter : layout.holds FILTER_TABLE ≡ true → layout.holds FILTER_USED ≡ true
+  pub control : layout.holds SET_FILTER_CONTROL ≡ true → layout.holds FILTER_USED ≡ true
+  pub cutoff : layout.holds SET_CUTOFF ≡ true → layout.holds FILTER_USED ≡ true

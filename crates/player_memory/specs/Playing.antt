@@ -50,10 +50,10 @@ pub record IsTable (layout : Layout) (rows : ℕ) (at : ℕ → ℕ) (lefts righ
 
 -- ---- a voice
 
--- the bytes hold a voice's state, that which the voices share, and each voice's tempo
+-- the bytes hold a voice's state and that which the voices share, each under its row's condition; and each voice's tempo
 pub record IsPlaying (layout : Layout) (voice : ℕ) (s : Playing) (at : ℕ → ℕ) : Type 0 where
-  pub own : VoiceBytesStand s.voice (tempo_of (voice + 1) s.common) (own_at layout at voice)
-  pub common : CommonBytesStand s.common (shared_at layout at)
+  pub own : VoiceBytesStand layout.holds s.voice (tempo_of (voice + 1) s.common) (own_at layout at voice)
+  pub common : CommonBytesStand layout.holds s.common (shared_at layout at)
   pub tempos : (its : ℕ) → its < 3 → own_at layout at its TEMPO ≡ tempo_of (its + 1) s.common
 
 -- with this voice
@@ -117,7 +117,7 @@ pub record PlaysShared (layout : Layout) (rows : ℕ) (before : Desk) (run : Ran
     : Type 0 where
   pub ends : run.outcome ≡ Done
   pub decimal : run.desk.cpu.d ≡ false
-  pub common : CommonBytesStand c (shared_at layout run.desk.at)
+  pub common : CommonBytesStand layout.holds c (shared_at layout run.desk.at)
   pub last : (number : ℕ) → number < 4 → run.desk.at (0xD400 + (21 + number)) ≡ slice_index bytes number
   pub lent : AreSame (LENT ∷ KEPT_COMMAND ∷ KEPT_PARAM ∷ []) (shared_at layout run.desk.at) (shared_at layout before.at)
   pub voices : (voice label : ℕ) → voice < 3 → is_own label ≡ true →

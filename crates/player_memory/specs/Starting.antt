@@ -1,6 +1,6 @@
 -- What the variables begin with: the start state of each voice and of what the voices share; and of its song, that a
 -- voice is in front of its orderlist. This is the project's own player.
-use Rattle.std.specs.Prelude.{◌≡◌, ℕ, ◌+◌, ◌-◌, ◌*◌, ◌/◌, ◌%◌, ◌<◌, ◌==◌, if◌then◌else◌}
+use Rattle.std.specs.Prelude.{◌≡◌, ℕ, ◌+◌, ◌-◌, ◌*◌, ◌/◌, ◌%◌, ◌<◌, ◌==◌, Bool, true, if◌then◌else◌}
 use Rattle.std.specs.Prelude.{List, [], ◌∷◌, length}
 use Rattle.song_model.specs.declared.orders.Order.{Order}
 use Rattle.play_model.specs.declared.options.Options.{Options}
@@ -8,19 +8,22 @@ use Rattle.play_model.specs.LookUps.{LookUps}
 use Rattle.play_model.specs.State.{Common, start_voice, start_common, start_state, playing_of, voice_of}
 use Rattle.scopes.specs.Desk.{Layout}
 use Rattle.player_memory.specs.declared.labels.TheConstants.{ORDER_LOW, ORDER_HIGH, LENT, KEPT_COMMAND, KEPT_PARAM}
+use Rattle.player_memory.specs.declared.variables.Kept.{Kept}
 use Rattle.player_memory.specs.declared.variables.VoiceByte.{VoiceByte}
-use Rattle.player_memory.specs.declared.variables.TheConstants.{VOICE_BYTES, SONG_BYTES}
-use Rattle.player_memory.specs.Variables.{voice_byte, CommonBytesStand}
+use Rattle.player_memory.specs.declared.variables.CommonByte.{CommonByte}
+use Rattle.player_memory.specs.declared.variables.TheConstants.{VOICE_BYTES, COMMON_BYTES, SONG_BYTES}
+use Rattle.player_memory.specs.Variables.{stands, voice_byte, common_byte}
 use Rattle.player_memory.specs.Playing.{own_at, shared_at, IsPlaying}
 use Rattle.player_memory.specs.Fetching.{HasOrder, SongStands}
 
 -- ---- a voice
 
--- each byte of the table is what stands for that part of a voice at the start, with its tempo
-abbrev pub VoiceRowsBegin : List (ℕ × VoiceByte) → ℕ → (ℕ → ℕ) → Type 0
-VoiceRowsBegin [] tempo own = Unit {0}
-VoiceRowsBegin (row ∷ rows) tempo own =
-    (own row.0 ≡ voice_byte row.1 start_voice tempo) × VoiceRowsBegin rows tempo own
+-- each byte of the table that holds something is what stands for that part of a voice at the start, with its tempo
+abbrev pub VoiceRowsBegin : (ℕ → Bool) → List (ℕ × VoiceByte × Kept) → ℕ → (ℕ → ℕ) → Type 0
+VoiceRowsBegin holds [] tempo own = Unit {0}
+VoiceRowsBegin holds (row ∷ rows) tempo own =
+    (stands holds row.2 ≡ true → own row.0 ≡ voice_byte row.1 start_voice tempo)
+    × VoiceRowsBegin holds rows tempo own
 
 -- the bytes that say where it is in its song are 0, but for those of its orderlist's address
 abbrev pub song_byte : ℕ → ℕ → ℕ
@@ -32,8 +35,8 @@ SongRowsBegin [] address own = Unit {0}
 SongRowsBegin (label ∷ labels) address own =
     (own label ≡ song_byte address label) × SongRowsBegin labels address own
 
-pub record VoiceBegins (tempo address : ℕ) (own : ℕ → ℕ) : Type 0 where
-  pub state : VoiceRowsBegin VOICE_BYTES tempo own
+pub record VoiceBegins (holds : ℕ → Bool) (tempo address : ℕ) (own : ℕ → ℕ) : Type 0 where
+  pub state : VoiceRowsBegin holds VOICE_BYTES tempo own
   pub song : SongRowsBegin SONG_BYTES address own
 
 -- ---- what no voice owns
@@ -48,6 +51,12 @@ common_with tempo funk = record (start_common 1) {
   funk_two = tempo;
 }
 
+-- each byte of their table that holds something is what stands for that part of it
+abbrev pub CommonRowsBegin : (ℕ → Bool) → List (ℕ × CommonByte × Kept) → Common → (ℕ → ℕ) → Type 0
+CommonRowsBegin holds [] c shared = Unit {0}
+CommonRowsBegin holds (row ∷ rows) c shared =
+    (stands holds row.2 ≡ true → shared row.0 ≡ common_byte row.1 c) × CommonRowsBegin holds rows c shared
+
 abbrev pub AreZero : List ℕ → (ℕ → ℕ) → Type 0
 AreZero [] shared = Unit {0}
 AreZero (label ∷ labels) shared = (shared label ≡ 0) × AreZero labels shared
@@ -57,8 +66,9 @@ AreZero (label ∷ labels) shared = (shared label ≡ 0) × AreZero labels share
 -- They begin so, where the orderlists of the three voices have these addresses. No command is lent, and nothing is kept
 -- for it.
 pub record Begins (layout : Layout) (tempo funk : ℕ) (address : ℕ → ℕ) (at : ℕ → ℕ) : Type 0 where
-  pub voices : (voice : ℕ) → voice < 3 → VoiceBegins tempo (address voice) (own_at layout at voice)
-  pub common : CommonBytesStand (common_with tempo funk) (shared_at layout at)
+  pub voices : (voice : ℕ) → voice < 3 →
+      VoiceBegins layout.holds tempo (address voice) (own_at layout at voice)
+  pub common : CommonRowsBegin layout.holds COMMON_BYTES (common_with tempo funk) (shared_at layout at)
   pub handed : AreZero (LENT ∷ KEPT_COMMAND ∷ KEPT_PARAM ∷ []) (shared_at layout at)
 
 -- ---- what they hold then

@@ -1,5 +1,5 @@
--- Which condition keeps the lines of each feature: the one with the number of the feature's bit; and of each fact: the one
--- with the fact's number, from 34 on.
+-- Which condition keeps the lines of each feature: the one with the number of the feature's bit; and of each fact: the
+-- one with the fact's number, from 34 on.
 use Rattle.std.specs.Prelude.{◌≡◌, ℕ, ◌+◌, true, List, [], ◌∷◌, nat_eq}
 use Rattle.std.specs.List.{list_any}
 use Rattle.song_model.specs.declared.features.Feature.TheVariants.{Transpose, Repeat, PortaUp, PortaDown, TonePorta}
@@ -20,7 +20,9 @@ use Rattle.player_memory.specs.declared.conditions.TheConstants.{SET_WAVE_POINTE
 use Rattle.player_memory.specs.declared.conditions.TheConstants.{FILTER_TABLE, SET_FILTER_POINTER, SET_FILTER_CONTROL}
 use Rattle.player_memory.specs.declared.conditions.TheConstants.{SET_CUTOFF, SET_VOLUME, FUNK_TEMPO, SET_TEMPO}
 use Rattle.player_memory.specs.declared.conditions.TheConstants.{WAVE_TABLE, WAVE_COMMAND, ROW_SLIDE, ROW_ONCE}
-use Rattle.player_memory.specs.declared.conditions.TheConstants.{ROW_COMMAND, LEGATO, NO_HARD_RESTART, WAVE_DELAY, GATE_NOTE}
+use Rattle.player_memory.specs.declared.conditions.TheConstants.{ROW_COMMAND, LEGATO, NO_HARD_RESTART, WAVE_DELAY}
+use Rattle.player_memory.specs.declared.conditions.TheConstants.{GATE_NOTE}
+use Rattle.player_memory.specs.declared.conditions.TheConstants.{ROW_TONE, FILTER_USED}
 use Rattle.player_memory.specs.FactLines.{fact_condition, KeepsMarked, KeepsFacts, KeepsShared}
 
 pub record ConditionsAreFeatures : Type 0 where
@@ -64,6 +66,7 @@ pub record FactLinesAreWorked (layout : Layout) : Type 0 where
   pub other : ¬ KeepsMarked (with_holding layout (WAVE_DELAY ∷ [])) (record no_facts { gate_note = true })
   pub song : ¬ KeepsFacts (with_holding layout []) one_note
   pub free : KeepsShared (with_holding layout [])
+  pub tone : ¬ KeepsShared (with_holding layout (ROW_TONE ∷ []))
   pub slide : ¬ KeepsShared (with_holding layout (ROW_SLIDE ∷ []))
   pub once : ¬ KeepsShared (with_holding layout (ROW_ONCE ∷ []))
   pub rows : KeepsShared (with_holding layout (ROW_SLIDE ∷ ROW_COMMAND ∷ []))
@@ -71,3 +74,7 @@ pub record FactLinesAreWorked (layout : Layout) : Type 0 where
   pub command : ¬ KeepsShared (with_holding layout (WAVE_COMMAND ∷ []))
   pub legato : ¬ KeepsShared (with_holding layout (LEGATO ∷ []))
   pub soft : ¬ KeepsShared (with_holding layout (NO_HARD_RESTART ∷ []))
+  pub filter : ¬ KeepsShared (with_holding layout (FILTER_TABLE ∷ []))
+  pub control : ¬ KeepsShared (with_holding layout (SET_FILTER_CONTROL ∷ []))
+  pub cutoff : ¬ KeepsShared (with_holding layout (SET_CUTOFF ∷ []))
+  pub filters : KeepsShared (with_holding layout (SET_CUTOFF ∷ FILTER_USED ∷ []))

@@ -8,7 +8,7 @@ use Rattle.player_memory.specs.declared.labels.TheConstants.{REST, OFFSET, ORDER
 use Rattle.player_memory.specs.declared.labels.TheConstants.{TRANSPOSE, REPEAT, TICK, INSTRUMENT, NEW_PARAM, VIB_DELAY}
 use Rattle.player_memory.specs.declared.labels.TheConstants.{GATE, PULSE_HIGH, TEMPO, FILTER_POINTER, VOLUME, LENT}
 use Rattle.player_memory.specs.declared.labels.TheConstants.{KEPT_COMMAND, KEPT_PARAM, FUNK_ONE, FUNK_TWO, ORDERS}
-use Rattle.player_memory.specs.WorkedMemory.{at_1000}
+use Rattle.player_memory.specs.WorkedMemory.{at_1000, nowhere}
 use Rattle.player_memory.specs.WorkedPlays.{with_variable}
 use Rattle.player_memory.specs.WorkedFetching.{its_order, its_packed}
 use Rattle.player_memory.specs.Starting.{Begins, PlaysFromStart}
@@ -42,6 +42,9 @@ BeginsSo at = Begins with_orders 5 8 its_orders at
 
 pub record BeginningsAreWorked : Type 0 where
   pub begins : BeginsSo begun
+  -- where its lines aren't kept a byte may be any
+  pub no_lines : Begins (record with_orders { holds = nowhere }) 5 8 its_orders (with_variable (VIB_DELAY + 14) 0 begun)
+  pub always : ¬ Begins (record with_orders { holds = nowhere }) 5 8 its_orders (with_variable TICK 0 begun)
   -- a part of the state, of any voice, that begins with another number, with 0, or as none
   pub tick : ¬ BeginsSo (with_variable TICK 0 begun)
   pub instrument : ¬ BeginsSo (with_variable (INSTRUMENT + 7) 0 begun)

@@ -10,6 +10,7 @@ ghost use Rattle.player_memory.specs.WorkedForms.{FormsAreWorked};
 ghost use Rattle.player_memory.specs.WorkedHolds.{ListsAreInMemory, LayoutsAreWorked, StatesAreHeld, KeptAreWorked};
 ghost use Rattle.player_memory.specs.WorkedLists.{SongListsAreWorked};
 ghost use Rattle.player_memory.specs.WorkedMemory.{VariablesHaveRows, VoicesAreWorked, RoomsAreWorked};
+ghost use Rattle.player_memory.specs.WorkedMemory.{VoiceRowsAreWorked, CommonsAreWorked};
 ghost use Rattle.player_memory.specs.WorkedPlays.{PlaysAreWorked, ListsAreWorked};
 ghost use Rattle.player_memory.specs.WorkedStarting.{BeginningsAreWorked, FirstPlaysAreWorked};
 
@@ -18,11 +19,13 @@ pub fn variables_have_rows()
     ensures { VariablesHaveRows }
 {}
 
-/// A voice in its bytes, and bytes that don't hold it; a room in memory, and what is none, or isn't outside of it; a
-/// block that has left a voice's memory as it was, and what it may not have done; and lists of two rows and of 255:
-/// worked by hand.
+/// A voice in its bytes, and bytes that don't hold it, under each condition alone; what the voices share in its bytes; a
+/// room in memory, and what is none, or isn't outside of it; a block that has left a voice's memory as it was, and what
+/// it may not have done; and lists of two rows and of 255: worked by hand.
 pub fn worked_memory()
     ensures voices { VoicesAreWorked }
+    ensures voice_rows { VoiceRowsAreWorked }
+    ensures commons { CommonsAreWorked }
     ensures rooms { RoomsAreWorked }
     ensures plays { PlaysAreWorked }
     ensures lists { ListsAreWorked }

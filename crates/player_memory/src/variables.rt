@@ -1,8 +1,14 @@
-//! What the player's variables hold of the state of the playroutine: a table with a row for each of them.
+//! What the player's variables hold of the state of the playroutine: a table with a row for each of them, which says
+//! too under which condition it does. Where that doesn't hold no line reads the byte, and most that store it are left
+//! out.
 //!
 //! Of a voice's other variables each says where it is in its orderlist and in its pattern; those of all voices that
 //! have no row are what one part of the code leaves for a later one of the same frame.
 
+use crate::conditions::{
+    EFFECTS, FILTER_USED, FUNK_TEMPO, INSTRUMENT_VIBRATO, NOTE_DEPENDENT, PULSE_TABLE, ROW_COMMAND,
+    SET_VOLUME, SWINGS, WAVE_DELAY,
+};
 use crate::labels::{
     AD, COMMAND, CUTOFF, FILTER_CONTROL, FILTER_POINTER, FILTER_TIME, FILTER_TYPE, FREQ_HIGH,
     FREQ_LOW, FUNK_ONE, FUNK_TWO, GATE, GATE_TIMER, INSTRUMENT, LAST_NOTE, NEW_COMMAND, NEW_NOTE,
@@ -10,6 +16,17 @@ use crate::labels::{
     PULSE_HIGH, PULSE_LOW, PULSE_POINTER, PULSE_TIME, REPEAT, REST, SR, TEMPO, TICK, TRANSPOSE,
     VIB_DELAY, VIB_TIME, VOLUME, WAVE, WAVE_POINTER, WAVE_TIME,
 };
+
+/// Under which condition a byte holds what it holds.
+#[derive(Clone, Copy, Debug, PartialEq, Eq)]
+pub enum Kept {
+    /// Always.
+    Always,
+    /// Where the lines under this condition are kept. Where they aren't, no line of the player reads it.
+    Where(u8),
+    /// Where the lines under this condition are kept. Where they aren't, what it would hold is this number.
+    Else(u8, u8),
+}
 
 /// What of a voice's state a byte holds.
 #[derive(Clone, Copy, Debug, PartialEq, Eq)]
@@ -87,45 +104,57 @@ pub enum CommonByte {
     FunkTwo,
 }
 
-/// The labels of a voice's bytes, and what each of them holds.
-pub const VOICE_BYTES: [(u16, VoiceByte); 25] = [
-    (TICK, VoiceByte::Tick),
-    (GATE_TIMER, VoiceByte::GateTimer),
-    (INSTRUMENT, VoiceByte::Instrument),
-    (NOTE, VoiceByte::Note),
-    (NEW_NOTE, VoiceByte::NewNote),
-    (NEW_COMMAND, VoiceByte::NewCommand),
-    (NEW_PARAM, VoiceByte::NewParam),
-    (COMMAND, VoiceByte::Command),
-    (PARAM, VoiceByte::Param),
-    (AD, VoiceByte::Ad),
-    (SR, VoiceByte::Sr),
-    (VIB_TIME, VoiceByte::VibTime),
-    (VIB_DELAY, VoiceByte::VibDelay),
-    (WAVE, VoiceByte::Wave),
-    (GATE, VoiceByte::Gate),
-    (FREQ_LOW, VoiceByte::FreqLow),
-    (FREQ_HIGH, VoiceByte::FreqHigh),
-    (LAST_NOTE, VoiceByte::LastNote),
-    (WAVE_POINTER, VoiceByte::WavePtr),
-    (WAVE_TIME, VoiceByte::WaveTime),
-    (PULSE_POINTER, VoiceByte::PulsePtr),
-    (PULSE_TIME, VoiceByte::PulseTime),
-    (PULSE_LOW, VoiceByte::PulseLow),
-    (PULSE_HIGH, VoiceByte::PulseHigh),
-    (TEMPO, VoiceByte::Tempo),
+/// The labels of a voice's bytes, what each of them holds, and where it does.
+pub const VOICE_BYTES: [(u16, VoiceByte, Kept); 25] = [
+    (TICK, VoiceByte::Tick, Kept::Always),
+    (GATE_TIMER, VoiceByte::GateTimer, Kept::Always),
+    (INSTRUMENT, VoiceByte::Instrument, Kept::Always),
+    (NOTE, VoiceByte::Note, Kept::Always),
+    (NEW_NOTE, VoiceByte::NewNote, Kept::Always),
+    (NEW_COMMAND, VoiceByte::NewCommand, Kept::Where(ROW_COMMAND)),
+    (NEW_PARAM, VoiceByte::NewParam, Kept::Where(ROW_COMMAND)),
+    (COMMAND, VoiceByte::Command, Kept::Where(EFFECTS)),
+    (PARAM, VoiceByte::Param, Kept::Where(EFFECTS)),
+    (AD, VoiceByte::Ad, Kept::Always),
+    (SR, VoiceByte::Sr, Kept::Always),
+    (VIB_TIME, VoiceByte::VibTime, Kept::Where(SWINGS)),
+    (
+        VIB_DELAY,
+        VoiceByte::VibDelay,
+        Kept::Where(INSTRUMENT_VIBRATO),
+    ),
+    (WAVE, VoiceByte::Wave, Kept::Always),
+    (GATE, VoiceByte::Gate, Kept::Always),
+    (FREQ_LOW, VoiceByte::FreqLow, Kept::Always),
+    (FREQ_HIGH, VoiceByte::FreqHigh, Kept::Always),
+    (LAST_NOTE, VoiceByte::LastNote, Kept::Where(NOTE_DEPENDENT)),
+    (WAVE_POINTER, VoiceByte::WavePtr, Kept::Always),
+    (WAVE_TIME, VoiceByte::WaveTime, Kept::Where(WAVE_DELAY)),
+    (PULSE_POINTER, VoiceByte::PulsePtr, Kept::Always),
+    (PULSE_TIME, VoiceByte::PulseTime, Kept::Always),
+    (PULSE_LOW, VoiceByte::PulseLow, Kept::Else(PULSE_TABLE, 0)),
+    (PULSE_HIGH, VoiceByte::PulseHigh, Kept::Else(PULSE_TABLE, 0)),
+    (TEMPO, VoiceByte::Tempo, Kept::Always),
 ];
 
-/// The labels of the bytes of all voices, and what each of them holds.
-pub const COMMON_BYTES: [(u16, CommonByte); 8] = [
-    (FILTER_POINTER, CommonByte::FilterPtr),
-    (FILTER_TIME, CommonByte::FilterTime),
-    (FILTER_TYPE, CommonByte::FilterType),
-    (FILTER_CONTROL, CommonByte::FilterControl),
-    (CUTOFF, CommonByte::Cutoff),
-    (VOLUME, CommonByte::Volume),
-    (FUNK_ONE, CommonByte::FunkOne),
-    (FUNK_TWO, CommonByte::FunkTwo),
+/// The labels of the bytes of all voices, what each of them holds, and where it does.
+pub const COMMON_BYTES: [(u16, CommonByte, Kept); 8] = [
+    (FILTER_POINTER, CommonByte::FilterPtr, Kept::Always),
+    (FILTER_TIME, CommonByte::FilterTime, Kept::Always),
+    (
+        FILTER_TYPE,
+        CommonByte::FilterType,
+        Kept::Else(FILTER_USED, 0),
+    ),
+    (
+        FILTER_CONTROL,
+        CommonByte::FilterControl,
+        Kept::Else(FILTER_USED, 0),
+    ),
+    (CUTOFF, CommonByte::Cutoff, Kept::Else(FILTER_USED, 0)),
+    (VOLUME, CommonByte::Volume, Kept::Else(SET_VOLUME, 15)),
+    (FUNK_ONE, CommonByte::FunkOne, Kept::Where(FUNK_TEMPO)),
+    (FUNK_TWO, CommonByte::FunkTwo, Kept::Where(FUNK_TEMPO)),
 ];
 
 /// The labels of the bytes that say where a voice is in its orderlist and in its pattern.
