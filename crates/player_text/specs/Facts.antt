@@ -81,6 +81,6 @@ pub record Measures (lines : List Line) (count bare full heavy : ℕ) : Type 0 w
 
 -- of a voice the walk alone has 4,340 instructions, in 255 turns, and the halves of a half tone 64, in 16
 pub record AreMeasured : Type 0 where
-  pub filter : Measures filter_lines 56 26 102 40
-  pub voice : Measures voice_lines 922 378 1332 4929
-  pub init : (start : Start) → Measures (init_lines start) 49 80 90 487
+  pub filter : Measures filter_lines 66 16 102 40
+  pub voice : Measures voice_lines 958 324 1332 4929
+  pub init : (start : Start) → Measures (init_lines start) 57 64 90 487

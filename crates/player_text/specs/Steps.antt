@@ -3,7 +3,7 @@ use Rattle.std.specs.Prelude.{◌≡◌, ℕ, List, [], ◌∷◌}
 use Rattle.std.specs.List.{flat_map}
 use Rattle.scopes.specs.declared.line.Line.{Line}
 use Rattle.scopes.specs.Trees.{Tree, NoneTree, ThenTree, ScopeTree, LeaveTree, WhenTree, tree_of}
-use Rattle.player_memory.specs.declared.conditions.TheConstants.{WAVE_COMMAND, ROW_ONCE}
+use Rattle.player_memory.specs.declared.conditions.TheConstants.{WAVE_COMMAND, ROW_ONCE, EFFECTS}
 use Rattle.player_text.specs.declared.joints.TheConstants.{SOUNDS, TICKED, TAKEN, DONE, EFFECTED, PITCHED, RUNNING}
 use Rattle.player_text.specs.declared.joints.TheConstants.{COMMANDED, NOTHING, FOUND, FALLS, DOWN, RISES, UP, PULSED}
 use Rattle.player_text.specs.declared.joints.TheConstants.{FETCHES, FIRST, LATE, WALKS, BEGINS}
@@ -126,6 +126,6 @@ sounding_pieces =
 pub record AreMade : Type 0 where
   pub tick : tick_tree ≡ all_of tick_pieces
   pub command : command_tree ≡ ThenTree (WhenTree WAVE_COMMAND (all_of command_pieces)) NoneTree
-  pub effect : effect_tree ≡ all_of effect_pieces
+  pub effect : effect_tree ≡ ThenTree (WhenTree EFFECTS (all_of effect_pieces)) NoneTree
   pub fetch : fetch_tree ≡ all_of fetch_pieces
   pub voice : voice_tree ≡ all_of (in_scope SOUNDS sounding_pieces ∷ text REGISTERS ∷ [])

@@ -6,11 +6,11 @@ use Rattle.scopes.specs.declared.line.Line.{Line}
 use Rattle.scopes.specs.declared.line.Line.TheVariants.{With, When, Loop, End}
 use Rattle.scopes.specs.declared.line.Operand.TheVariants.{Number}
 use Rattle.scopes.specs.Trees.{Tree, tree_of}
-use Rattle.player_memory.specs.declared.conditions.TheConstants.{TIMED}
+use Rattle.player_memory.specs.declared.conditions.TheConstants.{TIMED, FUNK_TEMPO}
 use Rattle.player_text.specs.declared.filter.TheConstants.{FILTER}
 use Rattle.player_text.specs.declared.texts.Start.{Start}
 use Rattle.player_text.specs.declared.init.TheConstants.{SUBTUNE_TAKEN, TIMER_LOW_SET, TIMER_HIGH_SET, ALL_CLEARED}
-use Rattle.player_text.specs.declared.init.TheConstants.{FUNK_STARTED, VOICE_STARTED, TEMPO_STARTED}
+use Rattle.player_text.specs.declared.init.TheConstants.{FUNK_STARTED, VOICES_STARTED, VOICE_STARTED, TEMPO_STARTED}
 use Rattle.player_text.specs.declared.voice.TheConstants.{VOICE}
 
 -- ---- play: the filter, and each voice
@@ -32,18 +32,23 @@ voice_tree = tree_of voice_lines
 abbrev load : ℕ → Line
 load number = With Lda (Number number)
 
--- the timer, where there are several play calls in a picture; and the three voices
+-- the timer, where there are several play calls in a picture; the first funk tempo, where a command takes turns; and
+-- the three voices
 abbrev timer_lines : Start → List Line
 timer_lines start =
     When TIMED ∷ load start.timer_low ∷ (TIMER_LOW_SET.now ++ load start.timer_high ∷ (TIMER_HIGH_SET.now ++ End ∷ []))
 
+abbrev funk_lines : Start → List Line
+funk_lines start = When FUNK_TEMPO ∷ load start.funk ∷ (FUNK_STARTED.now ++ End ∷ [])
+
 abbrev start_lines : Start → List Line
-start_lines start = Loop 3 ∷ (VOICE_STARTED.now ++ load start.tempo ∷ (TEMPO_STARTED.now ++ End ∷ []))
+start_lines start =
+    VOICES_STARTED.now ++ Loop 3 ∷ (VOICE_STARTED.now ++ load start.tempo ∷ (TEMPO_STARTED.now ++ End ∷ []))
 
 abbrev pub init_lines : Start → List Line
 init_lines start =
     SUBTUNE_TAKEN.now
-    ++ (timer_lines start ++ (ALL_CLEARED.now ++ load start.funk ∷ (FUNK_STARTED.now ++ start_lines start)))
+    ++ (timer_lines start ++ (ALL_CLEARED.now ++ (funk_lines start ++ start_lines start)))
 
 abbrev pub init_tree : Start → Tree
 init_tree start = tree_of (init_lines start)

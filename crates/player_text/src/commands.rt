@@ -6,7 +6,7 @@
 use player_memory::conditions::{
     COMMON_TEMPO, FUNK_CHOICE, FUNK_TURNS, SET_AD, SET_CUTOFF, SET_FILTER_CONTROL,
     SET_FILTER_POINTER, SET_PULSE_POINTER, SET_SR, SET_TEMPO, SET_VOLUME, SET_WAVE,
-    SET_WAVE_POINTER, VOICE_TEMPO,
+    SET_WAVE_POINTER, VOICE_TEMPO, WAVE_DELAY,
 };
 use player_memory::labels::{
     AD, CUTOFF, FILTER_CONTROL, FILTER_POINTER, FILTER_TIME, FUNK_ONE, FUNK_TWO, PULSE_POINTER,
@@ -64,8 +64,10 @@ pub const WAVE_POINTER_SET: &[Line] = text! {
             Cpy Number 8;
             leave OTHER off Zero;
             Sta Own WAVE_POINTER;
-            Lda Number 0;
-            Sta Own WAVE_TIME;
+            when WAVE_DELAY { // Stores WAVE_TIME, which nothing reads without it; keeps Y.
+                Lda Number 0;
+                Sta Own WAVE_TIME;
+            }
         }
     }
 };

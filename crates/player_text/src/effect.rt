@@ -6,7 +6,7 @@ use crate::commands::{
 };
 use crate::joints::{EFFECTED, NOTHING, RUNNING};
 use crate::pieces::pieces;
-use player_memory::conditions::{INSTRUMENT_VIBRATO, SKIP_EFFECTS, WAVE_COMMAND};
+use player_memory::conditions::{EFFECTS, INSTRUMENT_VIBRATO, SKIP_EFFECTS, WAVE_COMMAND};
 use player_memory::labels::{
     COMMAND, KEPT_COMMAND, KEPT_PARAM, LENT, PARAM, TICK, VIB_DELAY, WAVE_RIGHTS,
 };
@@ -25,33 +25,37 @@ const ONCE: u8 = 4;
 
 /// Leaves `RUNNING` with the command that runs in A, or `EFFECTED` where none does.
 pub const EFFECT_BEGUN: &[Line] = text! {
-    scope GOES {
-        scope RUNS {
-            Lda Own COMMAND;
-            leave RUNS off Zero;
-            when INSTRUMENT_VIBRATO {
-                // Idle where the parameter is 0, the delay is 255, or the step is left out; keeps no register.
-                scope WAITS {
-                    scope DELAYED {
-                        Lda Own PARAM;
+    choose EFFECTS { // Both alike where no command runs, and no vibrato of an instrument runs or waits.
+        scope GOES {
+            scope RUNS {
+                Lda Own COMMAND;
+                leave RUNS off Zero;
+                when INSTRUMENT_VIBRATO {
+                    // Idle where the parameter is 0, the delay is 255, or the step is left out; keeps no register.
+                    scope WAITS {
+                        scope DELAYED {
+                            Lda Own PARAM;
+                            leave WAITS on Zero;
+                            when SKIP_EFFECTS { Lda Own TICK; leave WAITS on Zero; }
+                            Ldy Own VIB_DELAY;
+                            leave DELAYED off Zero;
+                            Lda Number 4;
+                            leave GOES off Zero;
+                            never;
+                        }
+                        Iny;
                         leave WAITS on Zero;
-                        when SKIP_EFFECTS { Lda Own TICK; leave WAITS on Zero; }
-                        Ldy Own VIB_DELAY;
-                        leave DELAYED off Zero;
-                        Lda Number 4;
-                        leave GOES off Zero;
-                        never;
+                        Dec Own VIB_DELAY;
                     }
-                    Iny;
-                    leave WAITS on Zero;
-                    Dec Own VIB_DELAY;
                 }
+                leave EFFECTED;
             }
-            leave EFFECTED;
+            when SKIP_EFFECTS { Ldy Own TICK; jump EFFECTED on Zero; }
         }
-        when SKIP_EFFECTS { Ldy Own TICK; jump EFFECTED on Zero; }
+        leave RUNNING;
+    } or {
+        leave EFFECTED;
     }
-    leave RUNNING;
 };
 
 /// The command of a row of the wave program: A is the row's left side, `$F0` up, Y the row. Leaves `RUNNING` with a

@@ -4,7 +4,8 @@ use crate::joints::{BEGINS, FETCHES, FIRST, LATE, PULSED, SOUNDS, WALKS};
 use crate::pieces::pieces;
 use crate::walk::{ORDER_WALKED, PATTERN_BEGUN, PATTERN_FOUND, PLAY_REPEATED};
 use player_memory::conditions::{
-    GATE_NOTE, HELD_NOTE, LEGATO, NO_HARD_RESTART, ROW_TONE, SKIP_FIRST, SKIP_PULSE, TRANSPOSES,
+    GATE_NOTE, HELD_NOTE, LEGATO, NO_HARD_RESTART, ROW_COMMAND, ROW_TONE, SKIP_FIRST, SKIP_PULSE,
+    TRANSPOSES,
 };
 use player_memory::labels::{
     AD, GATE, GATE_TIMER, GATE_TIMERS, INSTRUMENT, KEPT_PARAM, NEW_COMMAND, NEW_NOTE, NEW_PARAM,
@@ -87,8 +88,10 @@ pub const ENTRY_BEGUN: &[Line] = text! {
     scope RUNNING_ON {
         Cpy Number 1;
         leave RUNNING_ON off Zero;
-        Lda Number 0;
-        Sta Own NEW_COMMAND;
+        when ROW_COMMAND { // Stores NEW_COMMAND, which nothing reads without it; keeps Y.
+            Lda Number 0;
+            Sta Own NEW_COMMAND;
+        }
         when SKIP_FIRST { Lda Own TICK; Sta Var KEPT_PARAM; } // 0 exactly at tick 0 of the pattern's first row.
     }
     Lda Own PATTERN_LOW;
@@ -114,11 +117,13 @@ pub const ENTRY_READ: &[Line] = text! {
                 Cmp Number 0x60;
                 leave UNNAMED on Carry;
                 Cmp Number 0x50;
-                And Number 0x0F;
-                Sta Own NEW_COMMAND;
+                when ROW_COMMAND { // Stores NEW_COMMAND, which nothing reads without it; keeps Y and the carry.
+                    And Number 0x0F;
+                    Sta Own NEW_COMMAND;
+                }
                 Iny;
                 Lda Pointed;
-                Sta Own NEW_PARAM;
+                when ROW_COMMAND { Sta Own NEW_PARAM; } // Nothing reads it without it; keeps Y and the carry.
                 leave READ on Carry;
                 Iny;
                 Lda Pointed;

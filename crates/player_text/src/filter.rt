@@ -1,7 +1,7 @@
 //! The block of the filter.
 
 use crate::pieces::pieces;
-use player_memory::conditions::FILTER_TABLE;
+use player_memory::conditions::{FILTER_TABLE, FILTER_USED, SET_VOLUME};
 use player_memory::labels::{
     CUTOFF, FILTER_CONTROL, FILTER_LEFTS, FILTER_POINTER, FILTER_RIGHTS, FILTER_TIME, FILTER_TYPE,
     NEXT_FILTER_LEFTS, VOLUME,
@@ -78,12 +78,12 @@ pub const FILTER_STEP: &[Line] = text! {
 pub const FILTER_REGISTERS: &[Line] = text! {
     Lda Number 0;
     Sta Register 21;
-    Lda Var CUTOFF;
+    when FILTER_USED { Lda Var CUTOFF; } // Idle where it is 0, as A is; keeps A.
     Sta Register 22;
-    Lda Var FILTER_CONTROL;
+    when FILTER_USED { Lda Var FILTER_CONTROL; } // Idle where it is 0, as A is; keeps A.
     Sta Register 23;
-    Lda Var FILTER_TYPE;
-    Ora Var VOLUME;
+    when FILTER_USED { Lda Var FILTER_TYPE; } // Idle where it is 0, as A is; keeps A.
+    choose SET_VOLUME { Ora Var VOLUME; } or { Ora Number 15; } // Both alike where the volume is 15.
     Sta Register 24;
 };
 

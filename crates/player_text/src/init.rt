@@ -1,5 +1,6 @@
 //! The block that begins a subtune.
 
+use player_memory::conditions::{FUNK_TEMPO, INSTRUMENT_VIBRATO, SET_VOLUME};
 use player_memory::labels::{
     FIRST_VARIABLE, FUNK_ONE, FUNK_TWO, GATE, INSTRUMENT, ORDER_HIGH, ORDER_LOW, ORDERS_HIGH,
     ORDERS_LOW, TEMPO, TICK, VIB_DELAY, VOLUME,
@@ -24,7 +25,7 @@ pub const TIMER_HIGH_SET: &[Line] = text! {
     Sta Timer High;
 };
 
-/// All registers and variables are 0, and the volume is 15. It keeps Y.
+/// All registers and variables are 0, and the volume is 15, where a command sets it. It keeps Y.
 pub const ALL_CLEARED: &[Line] = text! {
     Lda Number 0;
     Ldx Number 24;
@@ -39,13 +40,19 @@ pub const ALL_CLEARED: &[Line] = text! {
         Dex;
         again off Minus;
     }
-    Lda Number 15;
-    Sta Var VOLUME;
+    when SET_VOLUME { // Stores VOLUME, which nothing reads without it; keeps X and Y.
+        Lda Number 15;
+        Sta Var VOLUME;
+    }
 };
 
-/// The first funk tempo is A, and the first voice is next. It keeps Y.
+/// The first funk tempo is A. It keeps Y.
 pub const FUNK_STARTED: &[Line] = text! {
     Sta Var FUNK_ONE;
+};
+
+/// The first voice is next. It keeps Y.
+pub const VOICES_STARTED: &[Line] = text! {
     Ldx Number 0;
 };
 
@@ -57,7 +64,7 @@ pub const VOICE_STARTED: &[Line] = text! {
     Sta Own ORDER_HIGH;
     Inc Own TICK;
     Inc Own INSTRUMENT;
-    Dec Own VIB_DELAY;
+    when INSTRUMENT_VIBRATO { Dec Own VIB_DELAY; } // Nothing reads it without it; keeps X and Y.
     Lda Number 0xFE;
     Sta Own GATE;
 };
@@ -65,7 +72,7 @@ pub const VOICE_STARTED: &[Line] = text! {
 /// The voice's tempo is A, and so is the second funk tempo; X and Y go on to the next voice, if there is one.
 pub const TEMPO_STARTED: &[Line] = text! {
     Sta Own TEMPO;
-    Sta Var FUNK_TWO;
+    when FUNK_TEMPO { Sta Var FUNK_TWO; } // Nothing reads it without it; keeps X and Y.
     Iny;
     Txa;
     Clc;

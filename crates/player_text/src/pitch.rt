@@ -1,6 +1,6 @@
 //! The block of the frequency by a number, and the one that gives back what was lent.
 
-use player_memory::conditions::WAVE_COMMAND;
+use player_memory::conditions::{NOTE_DEPENDENT, SWINGS, WAVE_COMMAND};
 use player_memory::labels::{
     COMMAND, FREQ_HIGH, FREQ_LOW, FREQUENCY_HIGHS, FREQUENCY_LOWS, KEPT_COMMAND, KEPT_PARAM,
     LAST_NOTE, LENT, PARAM, VIB_TIME,
@@ -12,10 +12,12 @@ const OWN: u8 = 0;
 
 /// Behind `PITCHED`: A is the number for the frequency, below 128. It keeps no register.
 pub const PITCH: &[Line] = text! {
-    Sta Own LAST_NOTE;
+    when NOTE_DEPENDENT { Sta Own LAST_NOTE; } // Stores LAST_NOTE, which nothing reads without it; keeps A.
     Tay;
-    Lda Number 0;
-    Sta Own VIB_TIME;
+    when SWINGS { // Stores VIB_TIME, which nothing reads without it; keeps Y.
+        Lda Number 0;
+        Sta Own VIB_TIME;
+    }
     Lda Entry FREQUENCY_LOWS;
     Sta Own FREQ_LOW;
     Lda Entry FREQUENCY_HIGHS;

@@ -1,5 +1,6 @@
 //! The block of a voice's registers.
 
+use player_memory::conditions::PULSE_TABLE;
 use player_memory::labels::{AD, FREQ_HIGH, FREQ_LOW, GATE, PULSE_HIGH, PULSE_LOW, SR, WAVE};
 use scopes::{Line, text};
 
@@ -9,10 +10,12 @@ pub const REGISTERS: &[Line] = text! {
     Sta OwnRegister 0;
     Lda Own FREQ_HIGH;
     Sta OwnRegister 1;
-    Lda Own PULSE_LOW;
+    choose PULSE_TABLE { Lda Own PULSE_LOW; } or { Lda Number 0; } // Both alike where the width is 0.
     Sta OwnRegister 2;
-    Lda Own PULSE_HIGH;
-    And Number 0x0F;
+    when PULSE_TABLE { // Idle where the width is 0, as A is; keeps A.
+        Lda Own PULSE_HIGH;
+        And Number 0x0F;
+    }
     Sta OwnRegister 3;
     Lda Own WAVE;
     And Own GATE;

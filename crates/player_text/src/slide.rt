@@ -3,8 +3,8 @@
 use crate::joints::{DOWN, EFFECTED, FALLS, FOUND, RISES, UP};
 use crate::pieces::pieces;
 use player_memory::conditions::{
-    CLIMB, DROP, FOUND_NOTE, NOTE_DEPENDENT, PORTA_DOWN, PORTA_UP, RISE, SINK, SWINGS, TIE_NOTE,
-    TONE_PORTA,
+    CLIMB, DROP, EFFECTS, FOUND_NOTE, NOTE_DEPENDENT, PORTA_DOWN, PORTA_UP, RISE, SINK, SWINGS,
+    TIE_NOTE, TONE_PORTA,
 };
 use player_memory::labels::{
     COMMAND, FREQ_HIGH, FREQ_LOW, FREQUENCY_HIGHS, FREQUENCY_LOWS, LAST_NOTE, NEXT_FREQUENCY_HIGHS,
@@ -210,23 +210,25 @@ pub const FOUND_STEP: &[Line] = text! {
 /// The effect step, behind `RUNNING`: A is the command, 1 up, 2 down, 3 to the note, 4 for a vibrato. Leaves
 /// `EFFECTED`, or ends with the number for the frequency in A.
 pub const EFFECT_STEP: &[&[Line]] = pieces! {
-    scope FOUND {
-        scope FALLS {
-            scope DOWN {
-                scope RISES {
-                    scope UP {
-                        put SPEED_STEP;
-                        put SWING_STEP;
-                        put PORTA_STEP;
-                        put TONE_STEP;
+    when EFFECTS { // Not come to in a song without it.
+        scope FOUND {
+            scope FALLS {
+                scope DOWN {
+                    scope RISES {
+                        scope UP {
+                            put SPEED_STEP;
+                            put SWING_STEP;
+                            put PORTA_STEP;
+                            put TONE_STEP;
+                        }
+                        put CLIMB_STEP;
                     }
-                    put CLIMB_STEP;
+                    put RISE_STEP;
                 }
-                put RISE_STEP;
+                put DROP_STEP;
             }
-            put DROP_STEP;
+            put SINK_STEP;
         }
-        put SINK_STEP;
+        put FOUND_STEP;
     }
-    put FOUND_STEP;
 };

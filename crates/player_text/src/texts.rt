@@ -9,12 +9,12 @@ ghost use Rattle.player_text.specs.Texts.{filter_lines, voice_lines, init_lines}
 use crate::filter::FILTER;
 use crate::init::{
     ALL_CLEARED, FUNK_STARTED, SUBTUNE_TAKEN, TEMPO_STARTED, TIMER_HIGH_SET, TIMER_LOW_SET,
-    VOICE_STARTED,
+    VOICE_STARTED, VOICES_STARTED,
 };
 use crate::pieces::{joined, pieces};
 use crate::voice::VOICE;
 use base::{Items, NoMemory};
-use player_memory::conditions::TIMED;
+use player_memory::conditions::{FUNK_TEMPO, TIMED};
 use scopes::{Line, Mnemonic, Operand};
 use std::alloc::Global;
 
@@ -83,8 +83,11 @@ pub fn init(alloc: Global, start: Start) -> Result<Items<Line>, NoMemory>
             put TIMER_HIGH_SET;
         }
         put ALL_CLEARED;
-        put funk;
-        put FUNK_STARTED;
+        when FUNK_TEMPO { // Stores FUNK_ONE, which nothing reads without it; keeps Y.
+            put funk;
+            put FUNK_STARTED;
+        }
+        put VOICES_STARTED;
         put each_voice;
         put VOICE_STARTED;
         put tempo;

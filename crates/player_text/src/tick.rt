@@ -7,8 +7,8 @@ use crate::commands::{
 use crate::joints::{DONE, SOUNDS, TAKEN, TICKED};
 use crate::pieces::pieces;
 use player_memory::conditions::{
-    FIRST_MASK, FUNK_TEMPO, NOTE_FILTER, NOTE_PULSE, NOTE_VIBRATO, ROW_COMMAND, ROW_ONCE,
-    ROW_SLIDE, ROW_TONE, VIBRATO_DELAY,
+    EFFECTS, FIRST_MASK, FUNK_TEMPO, NOTE_FILTER, NOTE_PULSE, NOTE_VIBRATO, ROW_COMMAND, ROW_ONCE,
+    ROW_SLIDE, ROW_TONE, SWINGS, VIBRATO_DELAY, WAVE_DELAY,
 };
 use player_memory::labels::{
     AD, ADS, COMMAND, DELAYS, FILTER_POINTER, FILTER_TIME, FILTERS, FIRST_WAVES, FUNK_ONE, GATE,
@@ -104,10 +104,12 @@ pub const NOTE_TAKEN: &[Line] = text! {
 /// The note begins: its vibrato, its first waveform and its mask. Y is the instrument, and stays it.
 pub const NOTE_BEGUN: &[Line] = text! {
     Lda Number 0;
-    Sta Own COMMAND;
-    Sta Own WAVE_TIME;
-    when NOTE_VIBRATO { Lda Entry VIBRATOS; } // Idle where the vibrato is 0, as A is; keeps A and Y.
-    Sta Own PARAM;
+    when WAVE_DELAY { Sta Own WAVE_TIME; } // Nothing reads it without it; keeps A and Y.
+    when EFFECTS { // Stores COMMAND and PARAM, which nothing reads without it; keeps Y.
+        Sta Own COMMAND;
+        when NOTE_VIBRATO { Lda Entry VIBRATOS; } // Idle where the vibrato is 0, as A is; keeps A and Y.
+        Sta Own PARAM;
+    }
     scope MASKED {
         scope MASK {
             Lda Entry FIRST_WAVES;
@@ -157,27 +159,33 @@ pub const COMMAND_BEGUN: &[Line] = text! {
     scope ONCE {
         scope SETTLED {
             scope BARE {
-                Lda Own NEW_COMMAND;
-                when ROW_COMMAND { // Leaves BARE where A is 0; keeps A and Y.
+                choose ROW_COMMAND { // Both alike where NEW_COMMAND is 0; keeps Y.
+                    Lda Own NEW_COMMAND;
                     leave BARE on Zero;
                     when ROW_ONCE { Cmp Number 5; leave ONCE on Carry; } // Idle where A is below 5; keeps A and Y.
                     when ROW_SLIDE { // Not come to in a song without it.
                         Sta Own COMMAND;
-                        scope TIMED {
-                            Cmp Number 3;
-                            leave TIMED on Carry;
-                            Lda Number 0;
-                            Sta Own VIB_TIME;
+                        when SWINGS { // Stores VIB_TIME, which nothing reads without it; keeps Y.
+                            scope TIMED {
+                                Cmp Number 3;
+                                leave TIMED on Carry;
+                                Lda Number 0;
+                                Sta Own VIB_TIME;
+                            }
                         }
                         Lda Own NEW_PARAM;
                         leave SETTLED;
                     }
+                } or {
+                    Lda Number 0;
                 }
             }
-            Sta Own COMMAND;
-            when NOTE_VIBRATO { Lda Entry VIBRATOS; } // Idle where the vibrato is 0, as A is; keeps A and Y.
+            when EFFECTS { // Stores COMMAND, which nothing reads without it; keeps Y.
+                Sta Own COMMAND;
+                when NOTE_VIBRATO { Lda Entry VIBRATOS; } // Idle where the vibrato is 0, as A is; keeps A and Y.
+            }
         }
-        Sta Own PARAM;
+        when EFFECTS { Sta Own PARAM; } // Nothing reads it without it; keeps Y.
         when ROW_ONCE { leave DONE; } // What follows is left out with it.
     }
 };
