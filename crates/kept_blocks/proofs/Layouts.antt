@@ -1,5 +1,5 @@
 -- A layout with the set of a song and of options keeps their lines.
-use Rattle.std.proofs.Common.{◌≡◌, ℕ, ◌<◌, Bool, true, false, ◌||◌, nat_lt, refl, sym, ◌∙◌, arith, IsBitSet}
+use Rattle.std.proofs.Common.{◌≡◌, ℕ, ◌<◌, Bool, true, false, ◌||◌, nat_lt, refl, sym, ap, ◌∙◌, arith, IsBitSet}
 use Rattle.std.specs.Int.{bit_at}
 use Rattle.std.proofs.Math.Bool.{or_assoc}
 use Rattle.std.proofs.lemmas.Bool.{eq-eqb, lt-ltb}
@@ -14,8 +14,10 @@ use Rattle.song_model.specs.declared.features.Feature.TheVariants.{FilterTable, 
 use Rattle.song_model.specs.declared.features.Feature.TheVariants.{Volume, FunkTempo, SetTempo, WaveTable, WaveCommand}
 use Rattle.song_model.specs.Feature.{bit_of}
 use Rattle.song_facts.specs.declared.facts.Fact.{Fact}
-use Rattle.song_facts.specs.declared.facts.Fact.TheVariants.{RowTone, RowSlide, RowOnce, FirstMask, Legato, NoHardRestart}
-use Rattle.song_facts.specs.declared.facts.Fact.TheVariants.{WaveDelay, GateNote, NoteVibrato, VibratoDelay, NotePulse, NoteFilter}
+use Rattle.song_facts.specs.declared.facts.Fact.TheVariants.{RowTone, RowSlide, RowOnce, FirstMask, Legato}
+use Rattle.song_facts.specs.declared.facts.Fact.TheVariants.{NoHardRestart}
+use Rattle.song_facts.specs.declared.facts.Fact.TheVariants.{WaveDelay, GateNote, NoteVibrato, VibratoDelay, NotePulse}
+use Rattle.song_facts.specs.declared.facts.Fact.TheVariants.{NoteFilter}
 use Rattle.song_facts.specs.declared.facts.Fact.TheVariants.{VoiceTempo, CommonTempo, FunkTurns, FunkChoice}
 use Rattle.song_facts.specs.declared.facts.Facts.{Facts}
 use Rattle.song_facts.specs.Facts.{is_among}
@@ -27,7 +29,9 @@ use Rattle.player_memory.specs.declared.conditions.TheConstants.{ROW_TONE, ROW_S
 use Rattle.player_memory.specs.declared.conditions.TheConstants.{NO_HARD_RESTART, WAVE_DELAY, GATE_NOTE, ROW_COMMAND}
 use Rattle.player_memory.specs.declared.conditions.TheConstants.{NOTE_VIBRATO, VIBRATO_DELAY, NOTE_PULSE, NOTE_FILTER}
 use Rattle.player_memory.specs.declared.conditions.TheConstants.{VOICE_TEMPO, COMMON_TEMPO, FUNK_TURNS, FUNK_CHOICE}
-use Rattle.player_memory.specs.declared.conditions.TheConstants.{SPECIAL_ROW, HELD_NOTE, WAVE_COMMAND}
+use Rattle.player_memory.specs.declared.conditions.TheConstants.{SPECIAL_ROW, HELD_NOTE, WAVE_COMMAND, EFFECTS}
+use Rattle.player_memory.specs.declared.conditions.TheConstants.{FILTER_USED}
+use Rattle.player_memory.specs.declared.conditions.TheConstants.{FILTER_TABLE, SET_FILTER_CONTROL, SET_CUTOFF}
 use Rattle.kept_lines.specs.Asked.{is_in, asked}
 use Rattle.kept_lines.specs.KeptLines.{keeps}
 use Rattle.kept_lines.proofs.Laws.{sets_are_exact, asked_is_exact}
@@ -102,13 +106,34 @@ or_second false y e = e
 shared_of : (set : ℕ) (options : Options) (layout : Layout) →
     ((condition : ℕ) → layout.holds condition ≡ keeps set options condition) → KeepsShared layout
 shared_of set options layout is = record {
-  slide = λ on. is ROW_COMMAND ∙ or_first (is_in set ROW_SLIDE) (is_in set ROW_ONCE) (sym (is ROW_SLIDE) ∙ on);
-  once = λ on. is ROW_COMMAND ∙ or_second (is_in set ROW_SLIDE) (is_in set ROW_ONCE) (sym (is ROW_ONCE) ∙ on);
+  tone = λ on.
+      is ROW_COMMAND
+      ∙ or_first (is_in set ROW_TONE || is_in set ROW_SLIDE) (is_in set ROW_ONCE)
+      (or_first (is_in set ROW_TONE) (is_in set ROW_SLIDE) (sym (is ROW_TONE) ∙ on));
+  slide = λ on.
+      is ROW_COMMAND
+      ∙ or_first (is_in set ROW_TONE || is_in set ROW_SLIDE) (is_in set ROW_ONCE)
+      (or_second (is_in set ROW_TONE) (is_in set ROW_SLIDE) (sym (is ROW_SLIDE) ∙ on));
+  once = λ on.
+      is ROW_COMMAND
+      ∙ or_second (is_in set ROW_TONE || is_in set ROW_SLIDE) (is_in set ROW_ONCE) (sym (is ROW_ONCE) ∙ on);
   delay = λ on. is SPECIAL_ROW ∙ or_first (is_in set WAVE_DELAY) (is_in set WAVE_COMMAND) (sym (is WAVE_DELAY) ∙ on);
   command = λ on.
       is SPECIAL_ROW ∙ or_second (is_in set WAVE_DELAY) (is_in set WAVE_COMMAND) (sym (is WAVE_COMMAND) ∙ on);
   legato = λ on. is HELD_NOTE ∙ or_first (is_in set LEGATO) (is_in set NO_HARD_RESTART) (sym (is LEGATO) ∙ on);
   soft = λ on. is HELD_NOTE ∙ or_second (is_in set LEGATO) (is_in set NO_HARD_RESTART) (sym (is NO_HARD_RESTART) ∙ on);
+  filter = λ on.
+      is FILTER_USED
+      ∙ or_first (is_in set FILTER_TABLE || is_in set SET_FILTER_CONTROL) (is_in set SET_CUTOFF)
+      (or_first (is_in set FILTER_TABLE) (is_in set SET_FILTER_CONTROL) (sym (is FILTER_TABLE) ∙ on));
+  control = λ on.
+      is FILTER_USED
+      ∙ or_first (is_in set FILTER_TABLE || is_in set SET_FILTER_CONTROL) (is_in set SET_CUTOFF)
+      (or_second (is_in set FILTER_TABLE) (is_in set SET_FILTER_CONTROL) (sym (is SET_FILTER_CONTROL) ∙ on));
+  cutoff = λ on.
+      is FILTER_USED
+      ∙ or_second (is_in set FILTER_TABLE || is_in set SET_FILTER_CONTROL) (is_in set SET_CUTOFF)
+      (sym (is SET_CUTOFF) ∙ on);
 }
 
 common_of : (set : ℕ) (options : Options) (layout : Layout) →
@@ -120,8 +145,23 @@ common_of set options layout is = record {
   rise = λ any. is 31 ∙ (sym (four (is 2) (is 4) (is 6) (is 7)) ∙ any);
   sink = λ any. is 32 ∙ (sym (four (is 3) (is 4) (is 6) (is 7)) ∙ any);
   found = λ any. is 33 ∙ (sym (two (is 4) (is 5)) ∙ any);
+  effects = λ any.
+      is EFFECTS
+      ∙ or_first (asks_running set) (is_in set ROW_SLIDE)
+      (sym (seven (is 2) (is 3) (is 4) (is 5) (is 6) (is 7) (is 23)) ∙ any);
 }
   where
+    -- what is asked for that may run, but for a row's command
+    asks_running : ℕ → Bool
+    asks_running s =
+        is_in s 2 || is_in s 3 || is_in s 4 || is_in s 5 || (is_in s 6 || is_in s 7) || is_in s 23
+
+    seven : {a b c d e f g x y z u v w t : Bool} → a ≡ x → b ≡ y → c ≡ z → d ≡ u → e ≡ v → f ≡ w → g ≡ t →
+        (a || b || c || d || e || f || g) ≡ (x || y || z || u || (v || w) || t)
+    seven {x = x} {y = y} {z = z} {u = u} {v = v} {w = w} {t = t} one two three four five six last =
+        rw (one, two, three, four, five, six, last)
+        (ap (λ (n : Bool). n || t) (or_assoc (x || y || z || u) v w))
+
     two : {a b x y : Bool} → a ≡ x → b ≡ y → (a || b) ≡ (x || y)
     two e f = rw (e, f) refl
 

@@ -1,13 +1,15 @@
 -- Which layouts keep a song's lines.
 use Rattle.std.proofs.Common.{◌^◌, refl, sym, ◌∙◌, arith}
 use Rattle.std.proofs.lemmas.Bool.{true≢false}
-use Rattle.song_model.specs.declared.features.Feature.TheVariants.{Transpose, PortaUp, TonePorta, WaveCommand}
+use Rattle.song_model.specs.declared.features.Feature.TheVariants.{Transpose, PortaUp, TonePorta, Cutoff}
+use Rattle.song_model.specs.declared.features.Feature.TheVariants.{WaveCommand}
 use Rattle.song_facts.specs.declared.facts.Fact.TheVariants.{RowOnce, GateNote}
 use Rattle.song_facts.specs.Facts.{no_facts}
 use Rattle.play_model.specs.declared.options.Options.{Options}
 use Rattle.play_model.specs.State.{no_options, at_speed}
 use Rattle.scopes.specs.Desk.{Layout}
 use Rattle.player_memory.specs.declared.conditions.TheConstants.{TONE_PORTA, VIBRATO}
+use Rattle.slide_code.proofs.Laws.{lent_keep}
 use Rattle.kept_lines.specs.Asked.{asked}
 use Rattle.kept_lines.specs.KeptLines.{kept_set}
 use Rattle.kept_lines.proofs.Laws.{sets_are_exact, asked_is_exact}
@@ -29,6 +31,9 @@ layouts_are_worked layout options = record {
   common = λ out keeps. true≢false (sym (keeps.common.rise (rw (keeps.features_are PortaUp (omega arith)) refl)) ∙ out);
   shared = λ out keeps. true≢false (sym (keeps.shared.once (keeps.facts_are RowOnce refl)) ∙ out);
   special = λ out keeps. true≢false (sym (keeps.shared.command (keeps.features_are WaveCommand (omega arith))) ∙ out);
+  runs = λ out keeps.
+      true≢false (sym (lent_keep layout keeps.common (keeps.features_are WaveCommand (omega arith))) ∙ out);
+  filter = λ out keeps. true≢false (sym (keeps.shared.cutoff (keeps.features_are Cutoff (omega arith))) ∙ out);
   effects = λ on keeps. true≢false (sym on ∙ keeps.options_are.effects);
   pulse = λ on keeps. true≢false (sym on ∙ keeps.options_are.pulse);
   first = λ on keeps. true≢false (sym on ∙ keeps.options_are.first);

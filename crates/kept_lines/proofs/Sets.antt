@@ -10,7 +10,7 @@ use Rattle.kept_lines.specs.KeptLaws.{SetsAreExact, AskedIsExact}
 use Rattle.kept_lines.proofs.Sums.{bits_are, none_above}
 
 -- behind the last condition none holds
-pub no_more : (set : ℕ) (options : Options) (condition : ℕ) → 53 ≤ condition →
+pub no_more : (set : ℕ) (options : Options) (condition : ℕ) → 55 ≤ condition →
     keeps set options condition ≡ false
 no_more set options condition behind =
     rw (
@@ -30,6 +30,8 @@ no_more set options condition behind =
       ne_eqb condition 50 (λ e. omega (arith, behind, e)),
       ne_eqb condition 51 (λ e. omega (arith, behind, e)),
       ne_eqb condition 52 (λ e. omega (arith, behind, e)),
+      ne_eqb condition 53 (λ e. omega (arith, behind, e)),
+      ne_eqb condition 54 (λ e. omega (arith, behind, e)),
     ) refl
 
 told : (z : Bool) → nat_eq (if z then 1 else 0) 1 ≡ z
@@ -42,12 +44,12 @@ no_bit false = refl
 
 pub sets_are_exact : SetsAreExact
 unfolding kept_set
-sets_are_exact set options condition = elim (cases_lt condition 53) [
+sets_are_exact set options condition = elim (cases_lt condition 55) [
   | inl low ↦
-      rw (lt-ltb condition 128 (omega (arith, low)), bits_are (keeps set options) 53 condition low)
+      rw (lt-ltb condition 128 (omega (arith, low)), bits_are (keeps set options) 55 condition low)
       (told (keeps set options condition))
   | inr high ↦
-      rw (none_above (keeps set options) 53 condition high, no_more set options condition high)
+      rw (none_above (keeps set options) 55 condition high, no_more set options condition high)
       (no_bit (nat_lt condition 128))
 ]
 

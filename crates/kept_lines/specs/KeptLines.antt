@@ -9,12 +9,20 @@ use Rattle.player_memory.specs.declared.conditions.TheConstants.{SKIP_EFFECTS, S
 use Rattle.player_memory.specs.declared.conditions.TheConstants.{SWINGS, CLIMB, DROP, RISE, SINK, FOUND_NOTE}
 use Rattle.player_memory.specs.declared.conditions.TheConstants.{ROW_TONE, ROW_SLIDE, ROW_ONCE, LEGATO, NO_HARD_RESTART}
 use Rattle.player_memory.specs.declared.conditions.TheConstants.{WAVE_DELAY, ROW_COMMAND, SPECIAL_ROW, HELD_NOTE}
-use Rattle.player_memory.specs.declared.conditions.TheConstants.{CONDITIONS}
+use Rattle.player_memory.specs.declared.conditions.TheConstants.{FILTER_TABLE, SET_FILTER_CONTROL, SET_CUTOFF}
+use Rattle.player_memory.specs.declared.conditions.TheConstants.{EFFECTS, FILTER_USED, CONDITIONS}
 use Rattle.kept_lines.specs.Asked.{is_in, bit_if}
 
 -- whether a vibrato is asked for
 abbrev pub asks_vibrato : ℕ → Bool
 asks_vibrato asked = is_in asked VIBRATO || is_in asked INSTRUMENT_VIBRATO
+
+-- whether anything is asked for that may run at a tick: a command of a row or of the wave table, or the vibrato of an
+-- instrument
+abbrev pub asks_effect : ℕ → Bool
+asks_effect asked =
+    is_in asked PORTA_UP || is_in asked PORTA_DOWN || is_in asked TONE_PORTA || is_in asked TIE_NOTE
+    || asks_vibrato asked || is_in asked WAVE_COMMAND || is_in asked ROW_SLIDE
 
 -- whether any of the features and facts is asked for that have the lines under a condition in common
 abbrev pub has_in_common : ℕ → ℕ → Bool
@@ -25,9 +33,12 @@ has_in_common asked condition =
     else if condition == RISE then is_in asked PORTA_UP || is_in asked TONE_PORTA || asks_vibrato asked
     else if condition == SINK then is_in asked PORTA_DOWN || is_in asked TONE_PORTA || asks_vibrato asked
     else if condition == FOUND_NOTE then is_in asked TONE_PORTA || is_in asked TIE_NOTE
-    else if condition == ROW_COMMAND then is_in asked ROW_SLIDE || is_in asked ROW_ONCE
+    else if condition == ROW_COMMAND then is_in asked ROW_TONE || is_in asked ROW_SLIDE || is_in asked ROW_ONCE
     else if condition == SPECIAL_ROW then is_in asked WAVE_DELAY || is_in asked WAVE_COMMAND
     else if condition == HELD_NOTE then is_in asked LEGATO || is_in asked NO_HARD_RESTART
+    else if condition == EFFECTS then asks_effect asked
+    else if condition == FILTER_USED
+    then is_in asked FILTER_TABLE || is_in asked SET_FILTER_CONTROL || is_in asked SET_CUTOFF
     else false
 
 -- the conditions of features and of facts

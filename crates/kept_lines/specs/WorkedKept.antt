@@ -5,7 +5,10 @@ use Rattle.play_model.specs.State.{no_options, at_speed}
 use Rattle.play_model.specs.WorkedRuns.{all_left_out}
 use Rattle.player_memory.specs.declared.conditions.TheConstants.{TRANSPOSES, PORTA_UP, PORTA_DOWN, TONE_PORTA, TIE_NOTE}
 use Rattle.player_memory.specs.declared.conditions.TheConstants.{VIBRATO, INSTRUMENT_VIBRATO, NOTE_DEPENDENT}
-use Rattle.player_memory.specs.declared.conditions.TheConstants.{WAVE_COMMAND, ROW_TONE, ROW_SLIDE, ROW_ONCE, FIRST_MASK}
+use Rattle.player_memory.specs.declared.conditions.TheConstants.{FILTER_TABLE, SET_FILTER_CONTROL, SET_CUTOFF}
+use Rattle.player_memory.specs.declared.conditions.TheConstants.{SET_VOLUME}
+use Rattle.player_memory.specs.declared.conditions.TheConstants.{WAVE_COMMAND, ROW_TONE, ROW_SLIDE, ROW_ONCE}
+use Rattle.player_memory.specs.declared.conditions.TheConstants.{FIRST_MASK}
 use Rattle.player_memory.specs.declared.conditions.TheConstants.{LEGATO, NO_HARD_RESTART, WAVE_DELAY, GATE_NOTE}
 use Rattle.player_memory.specs.declared.conditions.TheConstants.{NOTE_VIBRATO, VIBRATO_DELAY, NOTE_PULSE, NOTE_FILTER}
 use Rattle.player_memory.specs.declared.conditions.TheConstants.{VOICE_TEMPO, COMMON_TEMPO, FUNK_TURNS, FUNK_CHOICE}
@@ -20,20 +23,25 @@ alone condition = kept_set (2 ^ condition) no_options
 -- No line under a condition is kept for a song that asks for nothing, unless there are options. A slide, a note at once,
 -- a vibrato and a calculated speed keep what they have in common with others, bits 28 to 33, and each other feature its
 -- own lines alone. Of the facts, rows with commands, delays, and instruments that leave the gate or the envelope as it is
--- keep what they have in common, bits 50 to 52, and so do commands of the wave table.
+-- keep what they have in common, bits 50 to 52, and so do commands of the wave table. Bit 53 is kept with all that may
+-- run at a tick, and bit 54 with all that sets the filter.
 pub record SetsAreWorked : Type 0 where
   pub none : kept_set 0 no_options ≡ 0
   pub transposes : alone TRANSPOSES ≡ 2 ^ 0
-  pub up : alone PORTA_UP ≡ 2 ^ 2 + 2 ^ 29 + 2 ^ 31
-  pub down : alone PORTA_DOWN ≡ 2 ^ 3 + 2 ^ 30 + 2 ^ 32
-  pub tone : alone TONE_PORTA ≡ 2 ^ 4 + 2 ^ 29 + 2 ^ 30 + 2 ^ 31 + 2 ^ 32 + 2 ^ 33
-  pub tie : alone TIE_NOTE ≡ 2 ^ 5 + 2 ^ 33
-  pub vibrato : alone VIBRATO ≡ 2 ^ 6 + 2 ^ 28 + 2 ^ 31 + 2 ^ 32
-  pub instrument : alone INSTRUMENT_VIBRATO ≡ 2 ^ 7 + 2 ^ 28 + 2 ^ 31 + 2 ^ 32
+  pub up : alone PORTA_UP ≡ 2 ^ 2 + 2 ^ 29 + 2 ^ 31 + 2 ^ 53
+  pub down : alone PORTA_DOWN ≡ 2 ^ 3 + 2 ^ 30 + 2 ^ 32 + 2 ^ 53
+  pub tone : alone TONE_PORTA ≡ 2 ^ 4 + 2 ^ 29 + 2 ^ 30 + 2 ^ 31 + 2 ^ 32 + 2 ^ 33 + 2 ^ 53
+  pub tie : alone TIE_NOTE ≡ 2 ^ 5 + 2 ^ 33 + 2 ^ 53
+  pub vibrato : alone VIBRATO ≡ 2 ^ 6 + 2 ^ 28 + 2 ^ 31 + 2 ^ 32 + 2 ^ 53
+  pub instrument : alone INSTRUMENT_VIBRATO ≡ 2 ^ 7 + 2 ^ 28 + 2 ^ 31 + 2 ^ 32 + 2 ^ 53
   pub calculated : alone NOTE_DEPENDENT ≡ 2 ^ 8 + 2 ^ 29 + 2 ^ 30
-  pub commands : alone WAVE_COMMAND ≡ 2 ^ 23 + 2 ^ 51
-  pub row_tone : alone ROW_TONE ≡ 2 ^ 34
-  pub row_slide : alone ROW_SLIDE ≡ 2 ^ 35 + 2 ^ 50
+  pub filters : alone FILTER_TABLE ≡ 2 ^ 15 + 2 ^ 54
+  pub control : alone SET_FILTER_CONTROL ≡ 2 ^ 17 + 2 ^ 54
+  pub cutoff : alone SET_CUTOFF ≡ 2 ^ 18 + 2 ^ 54
+  pub volume : alone SET_VOLUME ≡ 2 ^ 19
+  pub commands : alone WAVE_COMMAND ≡ 2 ^ 23 + 2 ^ 51 + 2 ^ 53
+  pub row_tone : alone ROW_TONE ≡ 2 ^ 34 + 2 ^ 50
+  pub row_slide : alone ROW_SLIDE ≡ 2 ^ 35 + 2 ^ 50 + 2 ^ 53
   pub row_once : alone ROW_ONCE ≡ 2 ^ 36 + 2 ^ 50
   pub first_mask : alone FIRST_MASK ≡ 2 ^ 37
   pub legato : alone LEGATO ≡ 2 ^ 38 + 2 ^ 52
@@ -53,10 +61,10 @@ pub record SetsAreWorked : Type 0 where
   pub twice : kept_set 0 (at_speed 2) ≡ 2 ^ 26
   pub first : kept_set 0 (record no_options { skip_first = true }) ≡ 2 ^ 27
   pub ntsc : kept_set 0 (record no_options { system = Ntsc }) ≡ 0
-  pub features : kept_set (2 ^ 24 - 1) (all_left_out 4) ≡ 2 ^ 34 - 1 + 2 ^ 51
-  pub all : kept_set (2 ^ 24 - 1 + 2 ^ 50 - 2 ^ 34) (all_left_out 4) ≡ 2 ^ 53 - 1
+  pub features : kept_set (2 ^ 24 - 1) (all_left_out 4) ≡ 2 ^ 34 - 1 + 2 ^ 51 + 2 ^ 53 + 2 ^ 54
+  pub all : kept_set (2 ^ 24 - 1 + 2 ^ 50 - 2 ^ 34) (all_left_out 4) ≡ 2 ^ 55 - 1
   -- bits from 24 to 33 and from 50 on are neither features nor facts
-  pub no_others : kept_set (2 ^ 24 + 2 ^ 28 + 2 ^ 33 + 2 ^ 50 + 2 ^ 53) no_options ≡ 0
+  pub no_others : kept_set (2 ^ 24 + 2 ^ 28 + 2 ^ 33 + 2 ^ 50 + 2 ^ 53 + 2 ^ 55) no_options ≡ 0
 
 -- What a song asks for has the bits of its features, those below 24 alone, and those of its facts.
 pub record AskedIsWorked : Type 0 where

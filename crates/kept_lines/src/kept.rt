@@ -6,10 +6,11 @@ ghost use Rattle.kept_lines.specs.KeptLines.{has_in_common, keeps, kept_set};
 
 use play_model::Options;
 use player_memory::conditions::{
-    CLIMB, CONDITIONS, DROP, FOUND_NOTE, HELD_NOTE, INSTRUMENT_VIBRATO, LEGATO, NO_HARD_RESTART,
-    NOTE_DEPENDENT, PORTA_DOWN, PORTA_UP, RISE, ROW_COMMAND, ROW_ONCE, ROW_SLIDE, ROW_TONE, SINK,
-    SKIP_EFFECTS, SKIP_FIRST, SKIP_PULSE, SPECIAL_ROW, SWINGS, TIE_NOTE, TIMED, TONE_PORTA,
-    VIBRATO, WAVE_COMMAND, WAVE_DELAY,
+    CLIMB, CONDITIONS, DROP, EFFECTS, FILTER_TABLE, FILTER_USED, FOUND_NOTE, HELD_NOTE,
+    INSTRUMENT_VIBRATO, LEGATO, NO_HARD_RESTART, NOTE_DEPENDENT, PORTA_DOWN, PORTA_UP, RISE,
+    ROW_COMMAND, ROW_ONCE, ROW_SLIDE, ROW_TONE, SET_CUTOFF, SET_FILTER_CONTROL, SINK, SKIP_EFFECTS,
+    SKIP_FIRST, SKIP_PULSE, SPECIAL_ROW, SWINGS, TIE_NOTE, TIMED, TONE_PORTA, VIBRATO,
+    WAVE_COMMAND, WAVE_DELAY,
 };
 use scope_lines::Conditions;
 
@@ -30,16 +31,25 @@ fn has_in_common(asked: Conditions, condition: u8) -> bool
     let tone = is_in(asked, TONE_PORTA);
     let vibrato = is_in(asked, VIBRATO) || is_in(asked, INSTRUMENT_VIBRATO);
     let calculated = is_in(asked, NOTE_DEPENDENT);
+    let tie = is_in(asked, TIE_NOTE);
+    let row_slide = is_in(asked, ROW_SLIDE);
+    let wave_command = is_in(asked, WAVE_COMMAND);
     match condition {
         SWINGS => vibrato,
         CLIMB => up || tone || calculated,
         DROP => down || tone || calculated,
         RISE => up || tone || vibrato,
         SINK => down || tone || vibrato,
-        FOUND_NOTE => tone || is_in(asked, TIE_NOTE),
-        ROW_COMMAND => is_in(asked, ROW_SLIDE) || is_in(asked, ROW_ONCE),
-        SPECIAL_ROW => is_in(asked, WAVE_DELAY) || is_in(asked, WAVE_COMMAND),
+        FOUND_NOTE => tone || tie,
+        ROW_COMMAND => is_in(asked, ROW_TONE) || row_slide || is_in(asked, ROW_ONCE),
+        SPECIAL_ROW => is_in(asked, WAVE_DELAY) || wave_command,
         HELD_NOTE => is_in(asked, LEGATO) || is_in(asked, NO_HARD_RESTART),
+        EFFECTS => up || down || tone || tie || vibrato || wave_command || row_slide,
+        FILTER_USED => {
+            is_in(asked, FILTER_TABLE)
+                || is_in(asked, SET_FILTER_CONTROL)
+                || is_in(asked, SET_CUTOFF)
+        }
         _ => false,
     }
 }

@@ -2,4 +2,4 @@
 pub mod Laws
 -- How many parts a tree has, and which.
 mod Counted
-mod Whole
+mod There

@@ -1,5 +1,5 @@
 -- What holds of the parts of a block. This is the project's own language of player code.
-use Rattle.std.specs.Prelude.{◌≡◌, ℕ, ◌+◌, ◌≤◌, ◌⊎◌, ◌&&◌, ◌==◌, max, Bool, true, false, if◌then◌else◌}
+use Rattle.std.specs.Prelude.{◌≡◌, ℕ, ◌+◌, ◌≤◌, ◌⊎◌, ◌==◌, min, max, Bool, true, if◌then◌else◌}
 use Rattle.std.specs.Prelude.{length, All}
 use Rattle.scopes.specs.Trees.{Tree, ThenTree, ScopeTree, LoopTree}
 use Rattle.scopes.specs.Trees.{WhenTree, ChooseTree}
@@ -31,17 +31,17 @@ PartsAreBounded =
     (holds : ℕ → Bool) (part around : ℕ) (tree : Tree) →
     bytes_of part (parts holds around tree) ≤ most_of part around tree
 
--- no line of a tree that stands under a condition is of the part in which the tree stands, and there is no choice
-abbrev pub stays_whole : ℕ → Tree → Bool
-stays_whole part (ThenTree first rest) = stays_whole part first && stays_whole part rest
-stays_whole part (ScopeTree name body) = stays_whole part body
-stays_whole part (LoopTree count body) = stays_whole part body
-stays_whole part (WhenTree condition body) = most_of part condition body == 0
-stays_whole part (ChooseTree condition this other) = false
-stays_whole part tree = true
+-- the bytes of a part that no condition leaves out: of lines under one none, and of a choice the shorter side
+abbrev pub least_of : ℕ → ℕ → Tree → ℕ
+least_of part around (ThenTree first rest) = least_of part around first + least_of part around rest
+least_of part around (ScopeTree name body) = least_of part around body
+least_of part around (LoopTree count body) = least_of part around body
+least_of part around (WhenTree condition body) = 0
+least_of part around (ChooseTree condition this other) = min (least_of part condition this) (least_of part around other)
+least_of part around tree = if around == part then most tree else 0
 
--- then as many bytes are of that part whichever conditions hold
-abbrev pub PartsStayWhole : Type 0
-PartsStayWhole =
-    (holds : ℕ → Bool) (part : ℕ) (tree : Tree) → stays_whole part tree ≡ true →
-    bytes_of part (parts holds part tree) ≡ most_of part part tree
+-- whichever conditions hold, there are at least so many
+abbrev pub PartsAreThere : Type 0
+PartsAreThere =
+    (holds : ℕ → Bool) (part around : ℕ) (tree : Tree) →
+    least_of part around tree ≤ bytes_of part (parts holds around tree)

@@ -9,7 +9,7 @@ use Rattle.scopes.specs.declared.line.Line.TheVariants.{Do, With, Scope, Leave, 
 use Rattle.scopes.specs.declared.line.Line.TheVariants.{When, Choose, Or, End}
 use Rattle.scopes.specs.Trees.{tree_of}
 use Rattle.scope_parts.specs.Parts.{parts, bytes_of}
-use Rattle.scope_parts.specs.PartLaws.{most_of, stays_whole}
+use Rattle.scope_parts.specs.PartLaws.{most_of, least_of}
 
 -- two bytes under no condition; three under 3, and behind them, under 3 and then 5, two; a branch and a jump under
 -- none; and one byte under 7, or two where it doesn't hold
@@ -59,7 +59,9 @@ pub record PartsAreWorked : Type 0 where
   pub most_rest : most_of 255 255 (tree_of lines) ≡ 9
   pub most_seven : most_of 7 255 (tree_of lines) ≡ 1
   pub most_other : most_of 4 255 (tree_of lines) ≡ 0
-  -- the loop's bytes under none are always there; not where it stands in the part of its condition, and not of a choice
-  pub stays : stays_whole 255 (tree_of turning) ≡ true
-  pub goes : stays_whole 5 (tree_of turning) ≡ false
-  pub other_side : stays_whole 255 (tree_of lines) ≡ false
+  -- the loop's bytes under none are always there, but none under one; of a choice no byte is that stands on one side
+  pub turns_least : least_of 255 255 (tree_of turning) ≡ 4
+  pub turns_none : least_of 5 255 (tree_of turning) ≡ 0
+  pub turns_inside : least_of 5 5 (tree_of turning) ≡ 4
+  pub lines_least : least_of 255 255 (tree_of lines) ≡ 7
+  pub seven_least : least_of 7 7 (tree_of lines) ≡ 8

@@ -1,6 +1,6 @@
 -- The parts are counted.
 use Rattle.scope_parts.proofs.Counted.{parts_take_size, parts_are_kept, parts_are_bounded}
-use Rattle.scope_parts.proofs.Whole.{parts_stay_whole}
+use Rattle.scope_parts.proofs.There.{parts_are_there}
 use Rattle.scope_parts.proofs.claims.parts_are_counted.Goals as goal
 
 pub returns-clause-size : goal.returns-clause-size
@@ -12,5 +12,5 @@ returns-clause-kept c = parts_are_kept
 pub returns-clause-most : goal.returns-clause-most
 returns-clause-most c = parts_are_bounded
 
-pub returns-clause-whole : goal.returns-clause-whole
-returns-clause-whole c = parts_stay_whole
+pub returns-clause-least : goal.returns-clause-least
+returns-clause-least c = parts_are_there
