@@ -1,5 +1,5 @@
 -- Bytes that the voices share are stored, and tempos.
-use Rattle.std.proofs.Common.{◌≡◌, ◌≢◌, ℕ, zero, suc, ◌+◌, ◌*◌, ◌%◌, ◌<◌, true, false}
+use Rattle.std.proofs.Common.{◌≡◌, ◌≢◌, ℕ, zero, suc, ◌+◌, ◌*◌, ◌%◌, ◌<◌, Bool, true, false}
 use Rattle.std.proofs.Common.{nat_eq, bit_and, refl, ◌∙◌, arith}
 use Rattle.std.proofs.lemmas.Bool.{agree_below_at, eqb-true}
 use Rattle.code_runs.specs.Runs.{put}
@@ -11,11 +11,12 @@ use Rattle.player_desk.proofs.Laws.{VoiceDesk, Lent, LentStands, Shared, Done, w
 -- ---- bytes that the voices share
 
 -- they have changed, but for the tempos
-pub shared_done : (voice : ℕ) (s : Playing) (c : Common) (handed : Lent) (d m n : VoiceDesk) → n.own ≡ m.own →
-    n.sid ≡ m.sid → tempo_of (voice + 1) c ≡ tempo_of (voice + 1) s.common →
-    ((its : ℕ) → its < 3 → its ≢ voice → n.shared (TEMPO + 7 * its) ≡ tempo_of (its + 1) c) → Shared c n.shared →
-    LentStands handed n.shared → Done voice s handed d m → Done voice (record s { common = c }) handed d n
-shared_done voice s c handed d m n own sid tempo tempos common lent done = record {
+pub shared_done : (holds : ℕ → Bool) (voice : ℕ) (s : Playing) (c : Common) (handed : Lent) (d m n : VoiceDesk) →
+    n.own ≡ m.own → n.sid ≡ m.sid → tempo_of (voice + 1) c ≡ tempo_of (voice + 1) s.common →
+    ((its : ℕ) → its < 3 → its ≢ voice → n.shared (TEMPO + 7 * its) ≡ tempo_of (its + 1) c) →
+    Shared holds c n.shared → LentStands handed n.shared → Done holds voice s handed d m →
+    Done holds voice (record s { common = c }) handed d n
+shared_done holds voice s c handed d m n own sid tempo tempos common lent done = record {
   fields = rw (own, tempo) done.fields;
   common = common;
   tempos = tempos;
@@ -37,11 +38,11 @@ tempos_kept voice label byte shared tempo one two three kept (suc (suc (suc its)
 -- ---- tempos
 
 -- the voice's own tempo is stored
-pub own_tempo_set : (voice : ℕ) (s : Playing) (handed : Lent) (d m : VoiceDesk) (tempo : ℕ) → voice < 3 →
-    Done voice s handed d m →
-    Done voice (record s { common = with_tempo (voice + 1) tempo s.common }) handed d
+pub own_tempo_set : (holds : ℕ → Bool) (voice : ℕ) (s : Playing) (handed : Lent) (d m : VoiceDesk) (tempo : ℕ) →
+    voice < 3 → Done holds voice s handed d m →
+    Done holds voice (record s { common = with_tempo (voice + 1) tempo s.common }) handed d
     (record m { own = put m.own TEMPO tempo })
-own_tempo_set zero s handed d m tempo few at = record {
+own_tempo_set holds zero s handed d m tempo few at = record {
   fields = assumption at.fields;
   common = assumption at.common;
   tempos = tempos;
@@ -56,7 +57,7 @@ own_tempo_set zero s handed d m tempo few at = record {
     tempos (suc zero) l other = at.tempos 1 l other
     tempos (suc (suc zero)) l other = at.tempos 2 l other
     tempos (suc (suc (suc its))) l other = absurd (omega (arith, l))
-own_tempo_set (suc zero) s handed d m tempo few at = record {
+own_tempo_set holds (suc zero) s handed d m tempo few at = record {
   fields = assumption at.fields;
   common = assumption at.common;
   tempos = tempos;
@@ -71,7 +72,7 @@ own_tempo_set (suc zero) s handed d m tempo few at = record {
     tempos (suc zero) l other = absurd (other refl)
     tempos (suc (suc zero)) l other = at.tempos 2 l other
     tempos (suc (suc (suc its))) l other = absurd (omega (arith, l))
-own_tempo_set (suc (suc zero)) s handed d m tempo few at = record {
+own_tempo_set holds (suc (suc zero)) s handed d m tempo few at = record {
   fields = assumption at.fields;
   common = assumption at.common;
   tempos = tempos;
@@ -86,7 +87,7 @@ own_tempo_set (suc (suc zero)) s handed d m tempo few at = record {
     tempos (suc zero) l other = at.tempos 1 l other
     tempos (suc (suc zero)) l other = absurd (other refl)
     tempos (suc (suc (suc its))) l other = absurd (omega (arith, l))
-own_tempo_set (suc (suc (suc voice))) s handed d m tempo few at = absurd (omega (arith, few))
+own_tempo_set holds (suc (suc (suc voice))) s handed d m tempo few at = absurd (omega (arith, few))
 
 -- the three tempos are stored
 abbrev pub with_tempos : ℕ → ℕ → VoiceDesk → VoiceDesk
@@ -94,10 +95,10 @@ with_tempos voice tempo m =
     with_its_tempo voice (TEMPO + 14) tempo (with_its_tempo voice (TEMPO + 7) tempo
     (with_its_tempo voice TEMPO tempo m))
 
-pub all_tempos_set : (voice : ℕ) (s : Playing) (handed : Lent) (d m : VoiceDesk) (tempo : ℕ) → voice < 3 →
-    Done voice s handed d m →
-    Done voice (record s { common = with_all_tempos tempo s.common }) handed d (with_tempos voice tempo m)
-all_tempos_set zero s handed d m tempo few at = record {
+pub all_tempos_set : (holds : ℕ → Bool) (voice : ℕ) (s : Playing) (handed : Lent) (d m : VoiceDesk) (tempo : ℕ) →
+    voice < 3 → Done holds voice s handed d m →
+    Done holds voice (record s { common = with_all_tempos tempo s.common }) handed d (with_tempos voice tempo m)
+all_tempos_set holds zero s handed d m tempo few at = record {
   fields = assumption at.fields;
   common = assumption at.common;
   tempos = tempos;
@@ -112,7 +113,7 @@ all_tempos_set zero s handed d m tempo few at = record {
     tempos (suc zero) l other = refl
     tempos (suc (suc zero)) l other = refl
     tempos (suc (suc (suc its))) l other = absurd (omega (arith, l))
-all_tempos_set (suc zero) s handed d m tempo few at = record {
+all_tempos_set holds (suc zero) s handed d m tempo few at = record {
   fields = assumption at.fields;
   common = assumption at.common;
   tempos = tempos;
@@ -127,7 +128,7 @@ all_tempos_set (suc zero) s handed d m tempo few at = record {
     tempos (suc zero) l other = absurd (other refl)
     tempos (suc (suc zero)) l other = refl
     tempos (suc (suc (suc its))) l other = absurd (omega (arith, l))
-all_tempos_set (suc (suc zero)) s handed d m tempo few at = record {
+all_tempos_set holds (suc (suc zero)) s handed d m tempo few at = record {
   fields = assumption at.fields;
   common = assumption at.common;
   tempos = tempos;
@@ -142,7 +143,7 @@ all_tempos_set (suc (suc zero)) s handed d m tempo few at = record {
     tempos (suc zero) l other = refl
     tempos (suc (suc zero)) l other = absurd (other refl)
     tempos (suc (suc (suc its))) l other = absurd (omega (arith, l))
-all_tempos_set (suc (suc (suc voice))) s handed d m tempo few at = absurd (omega (arith, few))
+all_tempos_set holds (suc (suc (suc voice))) s handed d m tempo few at = absurd (omega (arith, few))
 
 -- ---- numbers
 

@@ -15,18 +15,18 @@ use Rattle.command_code.proofs.Lines.{lines_for}
 pub record Between (r : Reader) (c p : ℕ) (u t : Playing) (handed : Lent) (d : VoiceDesk) (Was Waits Keeps : Type 0)
     (m : VoiceDesk) : Type 0 where
   pub y : m.y ≡ c
-  pub was : Was → Done r.voice t handed d m
-  pub waits : Waits → Done r.voice u handed d m
+  pub was : Was → Done r.layout.holds r.voice t handed d m
+  pub waits : Waits → Done r.layout.holds r.voice u handed d m
   pub a : Keeps → m.a ≡ p
 
 -- the same, where registers alone have changed, of which A and Y haven't
-pub between_over : (r : Reader) (c p : ℕ) (u t : Playing) (handed : Lent) (d m n : VoiceDesk) (Was Waits Keeps : Type 0) →
-    n.own ≡ m.own → n.shared ≡ m.shared → n.sid ≡ m.sid → n.y ≡ m.y → n.a ≡ m.a →
+pub between_over : (r : Reader) (c p : ℕ) (u t : Playing) (handed : Lent) (d m n : VoiceDesk)
+    (Was Waits Keeps : Type 0) → n.own ≡ m.own → n.shared ≡ m.shared → n.sid ≡ m.sid → n.y ≡ m.y → n.a ≡ m.a →
     Between r c p u t handed d Was Waits Keeps m → Between r c p u t handed d Was Waits Keeps n
 between_over r c p u t handed d m n Was Waits Keeps own shared sid y a at = record {
   y = y ∙ at.y;
-  was = λ was. done_over r.voice t handed d m n own shared sid (at.was was);
-  waits = λ waits. done_over r.voice u handed d m n own shared sid (at.waits waits);
+  was = λ was. done_over r.layout.holds r.voice t handed d m n own shared sid (at.was was);
+  waits = λ waits. done_over r.layout.holds r.voice u handed d m n own shared sid (at.waits waits);
   a = λ keeps. a ∙ at.a keeps;
 }
 
@@ -77,8 +77,8 @@ Before k r c p u t handed d m = Between r c p u t handed d (c < k) (k ≤ c) (k 
 abbrev pub Does : Reader → ℕ → ℕ → Playing → Playing → Lent → VoiceDesk → Tree → Type 1
 Does r c p u t handed d body =
     (ways : Ways) (Q : VoiceDesk → Type 0) (m : VoiceDesk) →
-    ((n : VoiceDesk) → n.y ≡ c → Done r.voice t handed d n → Q n) → m.y ≡ c → m.a ≡ p →
-    Done r.voice u handed d m → Leads r body (in_scope OTHER (done_as Q ways)) m
+    ((n : VoiceDesk) → n.y ≡ c → Done r.layout.holds r.voice t handed d n → Q n) → m.y ≡ c → m.a ≡ p →
+    Done r.layout.holds r.voice u handed d m → Leads r body (in_scope OTHER (done_as Q ways)) m
 
 -- from before the lines for one command to before those for the next
 pub link : (r : Reader) (c p : ℕ) (u t : Playing) (handed : Lent) (d : VoiceDesk) (condition k : ℕ) (body rest : Tree)
@@ -104,7 +104,8 @@ link r c p u t handed d condition k body rest ways m few small kept does on at =
       a = λ keeps. at.a (omega (arith, keeps));
     }
 
-    did : (n : VoiceDesk) → c ≡ k → n.y ≡ c → Done r.voice t handed d n → Before (k + 1) r c p u t handed d n
+    did : (n : VoiceDesk) → c ≡ k → n.y ≡ c → Done r.layout.holds r.voice t handed d n →
+        Before (k + 1) r c p u t handed d n
     did n same y done = record {
       y = y;
       was = λ was. done;

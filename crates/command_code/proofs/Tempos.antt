@@ -32,24 +32,25 @@ AtLengths r c p u t handed d m = Between r c p u t handed d (p < 2) (2 ≤ p) �
 
 chosen_leads : (r : Reader) (c p : ℕ) (u t : Playing) (handed : Lent) (d : VoiceDesk) (ways : Ways) (m : VoiceDesk) →
     r.voice < 3 → shared_by (tempo_set (r.voice + 1) p u.common) u ≡ t → m.y ≡ c → m.a ≡ p →
-    Done r.voice u handed d m →
+    Done r.layout.holds r.voice u handed d m →
     Leads r (lines_of FUNK_SET) (in_scope OTHER (done_as (AtLengths r c p u t handed d) ways)) m
 chosen_leads r c p u t handed d ways m few rule y a done = (
   λ met.
       let long : 2 ≤ p = (let z = leb-true 2 m.a met in omega (arith, z, a)) in record {
         y = y;
         was = λ was. absurd (omega (arith, was, long));
-        waits = λ waits. done_over r.voice u handed d m _ refl refl refl done;
+        waits = λ waits. done_over r.layout.holds r.voice u handed d m _ refl refl refl done;
         a = λ keeps. a;
       },
   λ unmet.
       let short : p < 2 = (let z = leb-false 2 m.a unmet in omega (arith, z, a)) in record {
         y = y;
         was = λ was.
-            done_by r.voice _ t handed d _
+            done_by r.layout.holds r.voice _ t handed d _
             (sym (ap (λ q. shared_by (with_all_tempos q u.common) u) a
             ∙ (ap (λ q. shared_by q u) (tempo_chosen (r.voice + 1) p u.common short) ∙ rule)))
-            (all_tempos_set r.voice u handed d _ m.a few (done_over r.voice u handed d m _ refl refl refl done));
+            (all_tempos_set r.layout.holds r.voice u handed d _ m.a few
+            (done_over r.layout.holds r.voice u handed d m _ refl refl refl done));
         waits = λ waits. absurd (omega (arith, waits, short));
         a = λ keeps. a;
       },
@@ -63,12 +64,13 @@ one_less_is a n carry e least most c = rw (e, c) (omega (arith, least, most))
 
 -- a number that sets no length
 unset : (r : Reader) (c p : ℕ) (u t : Playing) (handed : Lent) (d m : VoiceDesk) → p < 256 → p % 128 < 3 →
-    shared_by (tempo_set (r.voice + 1) p u.common) u ≡ t → AtLengths r c p u t handed d m → Done r.voice t handed d m
+    shared_by (tempo_set (r.voice + 1) p u.common) u ≡ t → AtLengths r c p u t handed d m →
+    Done r.layout.holds r.voice t handed d m
 unset r c p u t handed d m small low rule at =
     elim (cases_lt p 2) [
       | inl short ↦ at.was short
       | inr long ↦
-          done_by r.voice u t handed d m
+          done_by r.layout.holds r.voice u t handed d m
           (sym (ap (λ q. shared_by q u) (tempo_none (r.voice + 1) p u.common long small low) ∙ rule)) (at.waits long)
     ]
 
@@ -76,7 +78,7 @@ unset r c p u t handed d m small low rule at =
 common_leads : (r : Reader) (c p : ℕ) (u t : Playing) (handed : Lent) (d : VoiceDesk) (ways : Ways)
     (Q : VoiceDesk → Type 0) (m : VoiceDesk) → r.voice < 3 → p < 128 →
     (3 ≤ p → r.layout.holds COMMON_TEMPO ≡ true) → shared_by (tempo_set (r.voice + 1) p u.common) u ≡ t →
-    ((n : VoiceDesk) → n.y ≡ c → Done r.voice t handed d n → Q n) → AtLengths r c p u t handed d m →
+    ((n : VoiceDesk) → n.y ≡ c → Done r.layout.holds r.voice t handed d n → Q n) → AtLengths r c p u t handed d m →
     Leads r (behind (lines_of TEMPO_SET)) (in_scope OTHER (done_as Q ways)) m
 common_leads r c p u t handed d ways Q m few under keeps rule ends at =
     let a : m.a ≡ p = at.a tt in (
@@ -84,19 +86,19 @@ common_leads r c p u t handed d ways Q m few under keeps rule ends at =
         λ less.
             let low : p % 128 < 3 = (let z = leb-false 3 m.a (not-true _ less) in omega (arith, z, a, under)) in
             ends _ at.y
-            (done_over r.voice t handed d m _ refl refl refl
+            (done_over r.layout.holds r.voice t handed d m _ refl refl refl
             (unset r c p u t handed d m (omega (arith, under)) low rule at)),
         λ more.
             let carry : nat_le 3 m.a ≡ true = not-false _ more in
             let from : 3 ≤ p = (let z = leb-true 3 m.a carry in omega (arith, z, a)) in
             let tempo = one_less_is m.a p (nat_le 3 m.a) a (omega (arith, from)) (omega (arith, under)) carry in
-            let done : Done r.voice u handed d m = at.waits (omega (arith, from)) in
+            let done : Done r.layout.holds r.voice u handed d m = at.waits (omega (arith, from)) in
             ends _ at.y
-            (done_by r.voice _ t handed d _
+            (done_by r.layout.holds r.voice _ t handed d _
             (sym (ap (λ q. shared_by (with_all_tempos q u.common) u) tempo
             ∙ (ap (λ q. shared_by q u) (tempo_all (r.voice + 1) p u.common from under) ∙ rule)))
-            (all_tempos_set r.voice u handed d _ ((m.a + 254 + one_if (nat_le 3 m.a)) % 256) few
-            (done_over r.voice u handed d m _ refl refl refl done))),
+            (all_tempos_set r.layout.holds r.voice u handed d _ ((m.a + 254 + one_if (nat_le 3 m.a)) % 256) few
+            (done_over r.layout.holds r.voice u handed d m _ refl refl refl done))),
       ),
       λ out.
           let low : p < 3 = no_common out (cases_lt p 3) in
@@ -110,7 +112,7 @@ common_leads r c p u t handed d ways Q m few under keeps rule ends at =
 length_leads : (r : Reader) (c p : ℕ) (u t : Playing) (handed : Lent) (d : VoiceDesk) (ways : Ways)
     (Q : VoiceDesk → Type 0) (m : VoiceDesk) → r.voice < 3 → p < 256 → c ≡ 0xF → KeepsTempo r.layout c p →
     shared_by (tempo_set (r.voice + 1) p u.common) u ≡ t →
-    ((n : VoiceDesk) → n.y ≡ c → Done r.voice t handed d n → Q n) → AtLengths r c p u t handed d m →
+    ((n : VoiceDesk) → n.y ≡ c → Done r.layout.holds r.voice t handed d n → Q n) → AtLengths r c p u t handed d m →
     Leads r (lines_of TEMPO_SET) (in_scope OTHER (done_as Q ways)) m
 length_leads r c p u t handed d ways Q m few small is keeps rule ends at =
     let a : m.a ≡ p = at.a tt in (
@@ -126,21 +128,22 @@ length_leads r c p u t handed d ways Q m few small is keeps rule ends at =
                   let low : p % 128 < 3 =
                   (let z = leb-false 3 (bit_and m.a 0x7F) (not-true _ less) in omega (arith, z, rest)) in
                   ends _ at.y
-                  (done_over r.voice t handed d m _ refl refl refl (unset r c p u t handed d m small low rule at)),
+                  (done_over r.layout.holds r.voice t handed d m _ refl refl refl
+                  (unset r c p u t handed d m small low rule at)),
               λ more.
                   let carry : nat_le 3 (bit_and m.a 0x7F) ≡ true = not-false _ more in
                   let from : 3 ≤ p % 128 = (let z = leb-true 3 (bit_and m.a 0x7F) carry in omega (arith, z, rest)) in
                   let tempo = one_less_is (bit_and m.a 0x7F) (p % 128) (nat_le 3 (bit_and m.a 0x7F)) rest
                   (omega (arith, from)) (omega arith) carry in
                   let same : p % 128 - 1 ≡ p - 0x81 = omega (arith, small, over, from) in
-                  let done : Done r.voice u handed d m = at.waits (omega (arith, over)) in
+                  let done : Done r.layout.holds r.voice u handed d m = at.waits (omega (arith, over)) in
                   ends _ at.y
-                  (done_by r.voice _ t handed d _
+                  (done_by r.layout.holds r.voice _ t handed d _
                   (sym (ap (λ q. shared_by (with_tempo (r.voice + 1) q u.common) u) (tempo ∙ same)
                   ∙ (ap (λ q. shared_by q u) (tempo_own (r.voice + 1) p u.common (omega (arith, small, over, from)))
                   ∙ rule)))
-                  (done_over r.voice _ handed d _ _ refl refl refl
-                  (own_tempo_set r.voice u handed d m
+                  (done_over r.layout.holds r.voice _ handed d _ _ refl refl refl
+                  (own_tempo_set r.layout.holds r.voice u handed d m
                   ((bit_and m.a 0x7F + 254 + one_if (nat_le 3 (bit_and m.a 0x7F))) % 256) few done))),
             ),
       ),
@@ -178,7 +181,7 @@ pub tempo_lead : (r : Reader) (c p : ℕ) (u t : Playing) (handed : Lent) (d : V
     KeepsTempo r.layout c p →
     shared_by (tempo_set (r.voice + 1) p u.common) u ≡ t →
     ((n : VoiceDesk) → Between r c p u t handed d ⊤ ⊥ ⊥ n → Leads r rest ways n) → m.y ≡ c → m.a ≡ p →
-    Done r.voice u handed d m → Leads r (tempo_lines rest) ways m
+    Done r.layout.holds r.voice u handed d m → Leads r (tempo_lines rest) ways m
 tempo_lead r c p u t handed d rest ways m voice e small kept tempo rule on y a done =
     goes_on true r (lines_for FUNK_TURNS 0xF (lines_of FUNK_SET)) (length_lines rest) (AtLengths r c p u t handed d)
     ways m
@@ -191,8 +194,8 @@ tempo_lead r c p u t handed d rest ways m voice e small kept tempo rule on y a d
     (part_leads r c p u t handed d (p < 2) (2 ≤ p) ⊤ SET_TEMPO 0xF (lines_of TEMPO_SET) ways
     (Between r c p u t handed d ⊤ ⊥ ⊥) n few (omega arith) (λ k other at. absurd (other e))
     (λ left same. no_length n left at)
-    (λ k same at. length_leads r c p u t handed d ways (Between r c p u t handed d ⊤ ⊥ ⊥) k voice small e tempo rule ended
-    at)
+    (λ k same at. length_leads r c p u t handed d ways (Between r c p u t handed d ⊤ ⊥ ⊥) k voice small e tempo rule
+    ended at)
     at) on)
   where
     few : c < 256
@@ -207,7 +210,7 @@ tempo_lead r c p u t handed d rest ways m voice e small kept tempo rule on y a d
       a = λ keeps. a;
     }
 
-    ended : (n : VoiceDesk) → n.y ≡ c → Done r.voice t handed d n → Between r c p u t handed d ⊤ ⊥ ⊥ n
+    ended : (n : VoiceDesk) → n.y ≡ c → Done r.layout.holds r.voice t handed d n → Between r c p u t handed d ⊤ ⊥ ⊥ n
     ended n y done =
         record { y = y; was = λ was. done; waits = λ waits. absurd waits; a = λ keeps. absurd keeps }
 
@@ -232,21 +235,21 @@ pub record SpeedAt (r : Reader) (look : LookUps) (p : ℕ) : Type 0 where
 record AtTurns (r : Reader) (look : LookUps) (p : ℕ) (u : Playing) (handed : Lent) (d m : VoiceDesk) : Type 0 where
   common : Common
   is : with_all_tempos 0 common ≡ funk_tempo look p u.common
-  done : Done r.voice (record u { common = common }) handed d m
+  done : Done r.layout.holds r.voice (record u { common = common }) handed d m
   a : m.a ≡ 0
 
 value_is : (byte side : ℕ) → byte ≡ side → (byte + 254 + 1) % 256 ≡ (side + 256 - 1) % 256
 value_is byte side e = rw e (omega arith)
 
 turns_leads : (r : Reader) (look : LookUps) (p : ℕ) (u : Playing) (handed : Lent) (d : VoiceDesk) (ways : Ways)
-    (m : VoiceDesk) → (p ≢ 0 → SpeedAt r look p) → m.a ≡ p → Done r.voice u handed d m →
+    (m : VoiceDesk) → (p ≢ 0 → SpeedAt r look p) → m.a ≡ p → Done r.layout.holds r.voice u handed d m →
     Leads r (body_of TURNS (lines_of FUNK_CHOSEN)) (in_scope TURNS (done_as (AtTurns r look p u handed d) ways)) m
 turns_leads r look p u handed d ways m sides a done = (
   λ zero.
       let none : m.a ≡ 0 = eqb-true m.a 0 zero in record {
         common = u.common;
         is = funk_none look p u.common (sym a ∙ none);
-        done = done_over r.voice u handed d m _ refl refl refl done;
+        done = done_over r.layout.holds r.voice u handed d m _ refl refl refl done;
         a = none;
       },
   λ not_zero.
@@ -263,7 +266,7 @@ turns_leads r look p u handed d ways m sides a done = (
         common = funk_set row u.common;
         is = funk_some look p u.common some;
         done =
-            shared_done r.voice u (funk_set row u.common) handed d m _ refl refl refl
+            shared_done r.layout.holds r.voice u (funk_set row u.common) handed d m _ refl refl refl
             (tempos_kept r.voice FUNK_TWO ((g + 254 + 1) % 256) (put m.shared FUNK_ONE ((b + 254 + 1) % 256)) tempo refl
             refl refl
             (tempos_kept r.voice FUNK_ONE ((b + 254 + 1) % 256) m.shared tempo refl refl refl done.tempos))
@@ -275,16 +278,16 @@ turns_leads r look p u handed d ways m sides a done = (
 -- what is done for command $E, which keeps no register
 pub funk_leads : (r : Reader) (look : LookUps) (p : ℕ) (u t : Playing) (handed : Lent) (d : VoiceDesk) (ways : Ways)
     (m : VoiceDesk) → r.voice < 3 → (p ≢ 0 → SpeedAt r look p) → shared_by (funk_tempo look p u.common) u ≡ t →
-    m.a ≡ p → Done r.voice u handed d m →
-    Leads r (lines_of FUNK_CHOSEN) (in_scope OTHER (done_as (Done r.voice t handed d) ways)) m
+    m.a ≡ p → Done r.layout.holds r.voice u handed d m →
+    Leads r (lines_of FUNK_CHOSEN) (in_scope OTHER (done_as (Done r.layout.holds r.voice t handed d) ways)) m
 funk_leads r look p u t handed d ways m few sides rule a done =
     joined true r TURNS (body_of TURNS (lines_of FUNK_CHOSEN)) (rest_of TURNS (lines_of FUNK_CHOSEN))
     (AtTurns r look p u handed d) goal m (turns_leads r look p u handed d goal m sides a done)
     (λ n turned.
-    done_by r.voice _ t handed d _
+    done_by r.layout.holds r.voice _ t handed d _
     (sym (ap (λ q. shared_by (with_all_tempos q turned.common) u) turned.a
     ∙ (ap (λ q. shared_by q u) turned.is ∙ rule)))
-    (all_tempos_set r.voice (shared_by turned.common u) handed d n n.a few turned.done))
+    (all_tempos_set r.layout.holds r.voice (shared_by turned.common u) handed d n n.a few turned.done))
   where
     goal : Ways
-    goal = in_scope OTHER (done_as (Done r.voice t handed d) ways)
+    goal = in_scope OTHER (done_as (Done r.layout.holds r.voice t handed d) ways)

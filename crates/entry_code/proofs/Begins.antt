@@ -1,7 +1,7 @@
 -- An entry is begun: the command that runs on, the pointer, the instrument.
 use Rattle.std.proofs.Common.{◌≡◌, ◌≢◌, ◌↔◌, ℕ, zero, suc, ◌+◌, ◌-◌, ◌*◌, ◌/◌}
 use Rattle.std.proofs.Common.{◌%◌, ◌<◌, ◌≤◌, ◌&&◌, Bool, true, false}
-use Rattle.std.proofs.Common.{nat_eq}
+use Rattle.std.proofs.Common.{nat_eq, nat_le}
 use Rattle.std.proofs.Common.{if◌then◌else◌, List, ◌∷◌, ◌++◌, drop, refl, sym, ap, ◌∙◌, subst, arith}
 use Rattle.std.proofs.lemmas.Bool.{leb-true, leb-false, not-true, not-false, both_ways, eq-eqb, ne_eqb}
 use Rattle.std.proofs.lemmas.List.Elements.{All-head, All-tail}
@@ -16,7 +16,7 @@ use Rattle.packed_form.specs.declared.entries.Entry.{Entry}
 use Rattle.packed_form.specs.Entries.{IsEntry, no_command}
 use Rattle.packed_form.specs.PackedSpells.{text_of}
 use Rattle.scopes.specs.Trees.{Tree, ThenTree, ScopeTree}
-use Rattle.player_memory.specs.declared.conditions.TheConstants.{SKIP_FIRST}
+use Rattle.player_memory.specs.declared.conditions.TheConstants.{SKIP_FIRST, ROW_COMMAND}
 use Rattle.player_memory.specs.declared.labels.TheConstants.{REST, OFFSET, PATTERN_LOW, PATTERN_HIGH}
 use Rattle.player_memory.specs.declared.labels.TheConstants.{TICK, NEW_COMMAND, NEW_PARAM, KEPT_PARAM, TEMPO}
 use Rattle.player_memory.specs.Fetching.{AreHalves, EntriesStand, last_command, running_command}
@@ -29,6 +29,7 @@ use Rattle.player_desk.proofs.Laws.{around_on, Around}
 use Rattle.entry_code.proofs.Takes.{take_tree, PatternAt, SamePlay, Taking, IsBefore, IsByte, takes}
 use Rattle.player_desk.proofs.Laws.{at_pointer}
 use Rattle.entry_code.proofs.Takes.{next_byte}
+use Rattle.entry_code.proofs.LastBytes.{behind}
 use Rattle.entry_code.proofs.Readings.{taken}
 
 -- ---- where it begins
@@ -36,7 +37,7 @@ use Rattle.entry_code.proofs.Readings.{taken}
 -- the voice's row is fetched: its entry is the one that Y names
 pub record AtFetch (r : Reader) (s : Playing) (place : ℕ) (bytes : List ℕ) (rows : List Row) (d : VoiceDesk)
     : Type 0 where
-  pub fields : Fields s.voice (tempo_of (r.voice + 1) s.common) d.own
+  pub fields : Fields r.layout.holds s.voice (tempo_of (r.voice + 1) s.common) d.own
   pub rest_is : d.own REST ≡ 0
   pub around : Around r s d d
   pub pattern : AreHalves (d.own PATTERN_LOW) (d.own PATTERN_HIGH) place
@@ -47,7 +48,8 @@ pub record AtFetch (r : Reader) (s : Playing) (place : ℕ) (bytes : List ℕ) (
 
 -- the command that runs on stands
 record AtRunning (r : Reader) (s : Playing) (d m : VoiceDesk) : Type 0 where
-  fields : Fields (taken 0 (running_command s.voice (d.own OFFSET)) s.voice) (tempo_of (r.voice + 1) s.common) m.own
+  fields : Fields r.layout.holds (taken 0 (running_command s.voice (d.own OFFSET)) s.voice)
+      (tempo_of (r.voice + 1) s.common) m.own
   rest_is : m.own REST ≡ 0
   play : SamePlay m.own d.own
   around : Around r s d m
@@ -77,7 +79,7 @@ tempos_kept voice label byte shared tempo one two three kept (suc (suc (suc its)
 marks : (r : Reader) (s : Playing) (d m : VoiceDesk) (byte : ℕ) (n : VoiceDesk) →
     n.shared ≡ put m.shared KEPT_PARAM byte → n.sid ≡ m.sid → Around r s d m → Around r s d n
 marks r s d m byte n shared sid at =
-    let common : Shared s.common (put m.shared KEPT_PARAM byte) = assumption at.common in record {
+    let common : Shared r.layout.holds s.common (put m.shared KEPT_PARAM byte) = assumption at.common in record {
       common = rw shared common;
       tempos = rw shared
           (tempos_kept r.voice KEPT_PARAM byte m.shared (λ its. tempo_of (its + 1) s.common) refl refl refl at.tempos);
@@ -104,6 +106,10 @@ at_other v row =
     let z : nat_eq v.row 0 ≡ false = ne_eqb v.row 0 row in
     rw z (sym (and_none (nat_eq v.tick 0)))
 
+-- behind the command that runs on
+abbrev mark_tree : Tree
+mark_tree = behind (behind (behind (body_of RUNNING_ON take_tree)))
+
 running_on_leads : (r : Reader) (s : Playing) (place : ℕ) (bytes : List ℕ) (rows : List Row) (ways : Ways)
     (d m : VoiceDesk) → AtFetch r s place bytes rows d → d.own OFFSET < 256 → m.own ≡ d.own → Around r s d m →
     m.y ≡ d.own OFFSET → (r.layout.holds SKIP_FIRST ≡ true → m.shared KEPT_PARAM ≡ d.own OFFSET) →
@@ -114,8 +120,8 @@ running_on_leads r s place bytes rows ways d m at few own around y marked = (
       let more : d.own OFFSET ≢ 1 = λ e. isnt (y ∙ e) in
       let test : nat_eq (d.own OFFSET) 1 ≡ false = ne_eqb (d.own OFFSET) 1 more in
       let running : running_command s.voice (d.own OFFSET) ≡ last_command s.voice = rw test refl in
-      let fields : Fields (taken 0 (last_command s.voice) s.voice) (tempo_of (r.voice + 1) s.common) d.own =
-      assumption at.fields in record {
+      let fields : Fields r.layout.holds (taken 0 (last_command s.voice) s.voice) (tempo_of (r.voice + 1) s.common)
+      d.own = assumption at.fields in record {
         fields = rw (running, own) fields;
         rest_is = ap (λ f. f REST) own ∙ at.rest_is;
         play = same own;
@@ -130,31 +136,52 @@ running_on_leads r s place bytes rows ways d m at few own around y marked = (
       let is : d.own OFFSET ≡ 1 = sym y ∙ compared_is m.y 1 (omega (arith, y, few)) (omega arith) (not-false _ one) in
       let test : nat_eq (d.own OFFSET) 1 ≡ true = eq-eqb (d.own OFFSET) 1 is in
       let running : running_command s.voice (d.own OFFSET) ≡ no_command = rw test refl in
-      let none : no_command.number ≢ 0 → m.own NEW_PARAM ≡ no_command.param = λ some. absurd (some refl) in
-      let before : Fields s.voice (tempo_of (r.voice + 1) s.common) m.own = rw own at.fields in
-      let fields : Fields (taken 0 no_command s.voice) (tempo_of (r.voice + 1) s.common) (put m.own NEW_COMMAND 0) =
-      assumption (none, before) in
-      let before_play : SamePlay m.own d.own = same own in
-      let play : SamePlay (put m.own NEW_COMMAND 0) d.own = assumption before_play in (
-        λ held. record {
-          fields = rw running fields;
-          rest_is = ap (λ f. f REST) own ∙ at.rest_is;
-          play = play;
-          around = marks r s d m (m.own TICK) _ refl refl around;
-          marked = λ again. ap (λ n. nat_eq n 0) before.tick ∙ at_first s.voice (at.first.1 is);
-          y = y;
-        },
-        λ out. record {
-          fields = rw running fields;
-          rest_is = ap (λ f. f REST) own ∙ at.rest_is;
-          play = play;
-          around = around_on refl refl around;
-          marked = λ held. absurd (both_ways (r.layout.holds SKIP_FIRST) out held);
-          y = y;
-        },
+      let none : r.layout.holds ROW_COMMAND ≡ true → no_command.number ≢ 0 → m.own NEW_PARAM ≡ no_command.param =
+      λ kept some. absurd (some refl) in
+      let before : Fields r.layout.holds s.voice (tempo_of (r.voice + 1) s.common) m.own = rw own at.fields in
+      let play : SamePlay m.own d.own = same own in
+      let rest_is = ap (λ f. f REST) own ∙ at.rest_is in (
+        λ kept.
+            mark_leads
+            (record m { own = put m.own NEW_COMMAND 0; a = 0; c = nat_le 1 m.y; z = true; n = false }) running
+            (assumption (none, before)) rest_is (assumption play) (around_on refl refl around) y is,
+        λ out.
+            let bare : r.layout.holds ROW_COMMAND ≡ true → m.own NEW_COMMAND ≡ no_command.number =
+            λ kept. absurd (both_ways (r.layout.holds ROW_COMMAND) out kept) in
+            mark_leads
+            (record m {
+              c = nat_le 1 m.y;
+              z = nat_eq ((m.y + (256 - 1)) % 256) 0;
+              n = nat_le 128 ((m.y + (256 - 1)) % 256);
+            }) running
+            (assumption (none, bare, before)) rest_is play (around_on refl refl around) y is,
       ),
 )
   where
+    -- no command runs on, and the mark is what is left
+    mark_leads : (n : VoiceDesk) → running_command s.voice (d.own OFFSET) ≡ no_command →
+        Fields r.layout.holds (taken 0 no_command s.voice) (tempo_of (r.voice + 1) s.common) n.own →
+        n.own REST ≡ 0 → SamePlay n.own d.own → Around r s d n → n.y ≡ d.own OFFSET → d.own OFFSET ≡ 1 →
+        Leads r mark_tree (in_scope RUNNING_ON (done_as (AtRunning r s d) ways)) n
+    mark_leads n running fields rest_is play around y is = (
+      λ held. record {
+        fields = rw running fields;
+        rest_is = rest_is;
+        play = play;
+        around = marks r s d n (n.own TICK) _ refl refl around;
+        marked = λ again. ap (λ t. nat_eq t 0) fields.tick ∙ at_first s.voice (at.first.1 is);
+        y = y;
+      },
+      λ out. record {
+        fields = rw running fields;
+        rest_is = rest_is;
+        play = play;
+        around = around_on refl refl around;
+        marked = λ held. absurd (both_ways (r.layout.holds SKIP_FIRST) out held);
+        y = y;
+      },
+    )
+
     same : {one two : ℕ → ℕ} → one ≡ two → SamePlay one two
     same e = rw e (record {
       pattern_low = refl;
@@ -209,7 +236,7 @@ old_leads r s place bytes ways d entry entries byte others first left m ground i
         let left_is : left ≡ kind_others entry.kind ++ text_of entries = rest_same _ _ _ _ whole in
         let from = kind_from entry.kind is_entry.kind in
         let acc : m.a ≡ kind_first entry.kind = is.a ∙ first_is in
-        let fields : Fields (taken entry.instrument (running_command s.voice (d.own OFFSET)) s.voice)
+        let fields : Fields r.layout.holds (taken entry.instrument (running_command s.voice (d.own OFFSET)) s.voice)
         (tempo_of (r.voice + 1) s.common) m.own = rw e at.fields in (
           λ old. record {
             taking = takes r s d place _ _ 0 0 m _ refl refl refl refl fields at.rest_is at.play at;

@@ -104,9 +104,9 @@ pub record AtRow (r : Reader) (s : Playing) (d : VoiceDesk) (place : ℕ) (bytes
 -- the own bytes alone have changed, and not the offset
 row_on : (r : Reader) (s : Playing) (d : VoiceDesk) (place : ℕ) (bytes : List ℕ) (entries : List Entry)
     (w u x : Voice) (rest : ℕ) (m n : VoiceDesk) → n.shared ≡ m.shared → n.sid ≡ m.sid → n.low ≡ m.low →
-    n.high ≡ m.high → n.own OFFSET ≡ m.own OFFSET → x ≡ u → Fields u (tempo_of (r.voice + 1) s.common) n.own →
-    n.own REST ≡ rest → SamePlay n.own d.own → AtRow r s d place bytes entries w rest m →
-    AtRow r s d place bytes entries x rest n
+    n.high ≡ m.high → n.own OFFSET ≡ m.own OFFSET → x ≡ u →
+    Fields r.layout.holds u (tempo_of (r.voice + 1) s.common) n.own → n.own REST ≡ rest → SamePlay n.own d.own →
+    AtRow r s d place bytes entries w rest m → AtRow r s d place bytes entries x rest n
 row_on r s d place bytes entries w u x rest m n shared sid low high offset is fields rest_is play at = record {
   taking = subst (λ v. Taking r s d place v rest n) (sym is)
       (takes r s d place w u rest rest m n shared sid low high fields rest_is play at.taking);
@@ -226,21 +226,21 @@ held_leads r look s d place bytes entries transpose v note rest ways m timer kee
       let row : AtRow r s d place bytes entries w rest m =
       record { taking = subst (λ u. Taking r s d place u rest m) same at.taking; next = at.next } in
       let is : after ≡ gate_shut (look.instrument v.instrument).gate_timer w =
-      waits ∙ ap (λ i. gate_shut (look.instrument i).gate_timer w) instrument in
-      let command : m.own NEW_COMMAND ≡ v.new_command = row.taking.fields.new_command ∙ number in (
-        λ kept. (
-          λ three.
-              let tie : m.own NEW_COMMAND ≡ 3 =
-              compared_is (m.own NEW_COMMAND) 3 (omega (arith, command, small)) (omega arith) three in
-              row_on r s d place bytes entries w w after rest m _ refl refl refl refl refl
-              (is ∙ shut_kept (look.instrument v.instrument).gate_timer w
-              (eq-eqb w.new_command 3 (sym row.taking.fields.new_command ∙ tie))) row.taking.fields row.taking.rest_is
-              row.taking.play row,
-          λ other.
-              let isnt : m.own NEW_COMMAND ≢ 3 = over_is (m.own NEW_COMMAND) 3 (omega arith) other in
-              by_timer (record m { a = m.own NEW_COMMAND; c = nat_le 3 (m.own NEW_COMMAND) }) refl refl refl refl refl
-              is (λ e. isnt (row.taking.fields.new_command ∙ e)) row,
-        ),
+      waits ∙ ap (λ i. gate_shut (look.instrument i).gate_timer w) instrument in (
+        λ kept.
+            let told : m.own NEW_COMMAND ≡ w.new_command = row.taking.fields.new_command (keeps.shared.tone kept) in
+            let command : m.own NEW_COMMAND ≡ v.new_command = told ∙ number in (
+              λ three.
+                  let tie : m.own NEW_COMMAND ≡ 3 =
+                  compared_is (m.own NEW_COMMAND) 3 (omega (arith, command, small)) (omega arith) three in
+                  row_on r s d place bytes entries w w after rest m _ refl refl refl refl refl
+                  (is ∙ shut_kept (look.instrument v.instrument).gate_timer w
+                  (eq-eqb w.new_command 3 (sym told ∙ tie))) row.taking.fields row.taking.rest_is row.taking.play row,
+              λ other.
+                  let isnt : m.own NEW_COMMAND ≢ 3 = over_is (m.own NEW_COMMAND) 3 (omega arith) other in
+                  by_timer (record m { a = m.own NEW_COMMAND; c = nat_le 3 (m.own NEW_COMMAND) }) refl refl refl refl
+                  refl is (λ e. isnt (told ∙ e)) row,
+            ),
         λ out.
             by_timer m refl refl refl refl refl is
             (λ e. both_ways (r.layout.holds ROW_TONE) out (keeps.tone (sym number ∙ e))) row,

@@ -130,8 +130,8 @@ note_leads r s d place bytes left transpose v note ways m t idle at = (
         n.low ≡ m.low → n.high ≡ m.high → n.y ≡ m.y → n.c ≡ false → byte ≡ transposed note transpose →
         AtRead r s d place bytes left transpose v note 0 n
     done byte n own shared sid low high y c is =
-        let fields : Fields (record v { new_note = transposed note transpose }) (tempo_of (r.voice + 1) s.common)
-        (put m.own NEW_NOTE byte) = assumption (is, at.taking.fields) in
+        let fields : Fields r.layout.holds (record v { new_note = transposed note transpose })
+        (tempo_of (r.voice + 1) s.common) (put m.own NEW_NOTE byte) = assumption (is, at.taking.fields) in
         let play : SamePlay (put m.own NEW_NOTE byte) d.own = assumption at.taking.play in
         let rest_is : put m.own NEW_NOTE byte REST ≡ 0 = at.taking.rest_is in record {
           taking =
@@ -199,7 +199,7 @@ last_note_leads r s d place bytes left transpose v note ways m from to gate at =
   where
     done : (w : Voice) (n : VoiceDesk) → n.shared ≡ m.shared → n.sid ≡ m.sid → n.low ≡ m.low → n.high ≡ m.high →
         n.y ≡ m.y → n.a ≡ n.a → n.c ≡ true → 0xBD ≤ note → w ≡ gate_keyed note v →
-        Fields w (tempo_of (r.voice + 1) s.common) n.own → n.own REST ≡ 0 → SamePlay n.own d.own →
+        Fields r.layout.holds w (tempo_of (r.voice + 1) s.common) n.own → n.own REST ≡ 0 → SamePlay n.own d.own →
         AtRead r s d place bytes left transpose v note 0 n
     done w n shared sid low high y a c key is fields rest_is play =
         let silent : noted note transpose (gate_keyed note v) ≡ w = (let k = keys note key in rw k (sym is)) in record {

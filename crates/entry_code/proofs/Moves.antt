@@ -245,8 +245,9 @@ stands_next layout look packed order v w rest entries own row plays inside few r
     (rw plays play) each (rw plays next) (rw (row, plays) left))
 
 -- the move changes no byte's field
-pub fields_moved : (count : ℕ) (w : Voice) (tempo : ℕ) (own : ℕ → ℕ) → Fields w tempo own →
-    Fields (row_moved count w) tempo own
-fields_moved count w tempo own fields =
+pub fields_moved : (holds : ℕ → Bool) (count : ℕ) (w : Voice) (tempo : ℕ) (own : ℕ → ℕ) → Fields holds w tempo own →
+    Fields holds (row_moved count w) tempo own
+fields_moved holds count w tempo own fields =
     cond_both (nat_eq ((w.row + 1) % 256) count) (record w { row = 0; plays = w.plays + 1 })
-    (record w { row = (w.row + 1) % 256 }) (λ u. Fields u tempo own) (λ z. assumption fields) (λ z. assumption fields)
+    (record w { row = (w.row + 1) % 256 }) (λ u. Fields holds u tempo own) (λ z. assumption fields)
+    (λ z. assumption fields)

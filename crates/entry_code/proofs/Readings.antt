@@ -1,26 +1,29 @@
 -- An entry is read: its command, and what follows it.
-use Rattle.std.proofs.Common.{◌≡◌, ◌≢◌, ℕ, ℤ, ◌+◌, ◌*◌}
+use Rattle.std.proofs.Common.{◌≡◌, ◌≢◌, ℕ, ℤ, ◌+◌, ◌-◌, ◌*◌}
 use Rattle.std.proofs.Common.{◌%◌, ◌≤◌}
-use Rattle.std.proofs.Common.{true, false, nat_eq, bit_and, if◌then◌else◌, List, ◌∷◌, ◌++◌}
+use Rattle.std.proofs.Common.{true, false, nat_eq, nat_le, bit_and, if◌then◌else◌, List, ◌∷◌, ◌++◌}
 use Rattle.std.proofs.Common.{refl, sym, ap, ◌∙◌, subst, arith}
 use Rattle.std.proofs.lemmas.Bool.{leb-true, leb-false}
-use Rattle.std.proofs.lemmas.Bool.{agree_below_at, eqb-true}
+use Rattle.std.proofs.lemmas.Bool.{agree_below_at, both_ways, eqb-true}
+use Rattle.code_runs.specs.Runs.{put}
 use Rattle.play_model.specs.State.{Voice, Playing}
+use Rattle.play_model.specs.TickStep.{tempo_of}
+use Rattle.scopes.specs.Trees.{Tree}
 use Rattle.packed_form.specs.declared.entries.Command.{Command}
 use Rattle.packed_form.specs.declared.entries.EntryKind.{EntryKind}
 use Rattle.packed_form.specs.declared.entries.EntryKind.TheVariants.{NamedNote, NamedRest, Note, Rests}
 use Rattle.packed_form.specs.Entries.{IsKind, entry_note, more_rests, command_behind}
-use Rattle.player_memory.specs.declared.conditions.TheConstants.{TRANSPOSES}
-use Rattle.player_memory.specs.declared.labels.TheConstants.{TRANSPOSE}
-use Rattle.player_memory.specs.Fetching.{transpose_byte}
+use Rattle.player_memory.specs.declared.conditions.TheConstants.{TRANSPOSES, ROW_COMMAND}
+use Rattle.player_memory.specs.declared.labels.TheConstants.{REST, TRANSPOSE, NEW_COMMAND, NEW_PARAM}
+use Rattle.player_memory.specs.Fetching.{AreHalves, transpose_byte}
 use Rattle.player_desk.proofs.Laws.{VoiceDesk, Reader, Ways, Leads, done_as, in_scope, body_of, rest_of}
-use Rattle.player_desk.proofs.Laws.{joined}
+use Rattle.player_desk.proofs.Laws.{joined, loaded, indexed, Fields}
 use Rattle.player_text.specs.declared.fetch.TheConstants.{READ, NOTES, UNNAMED}
 use Rattle.entry_code.proofs.Texts.{kind_first, kind_others}
-use Rattle.entry_code.proofs.Takes.{take_tree, PatternAt, Taking, IsBefore, IsByte, takes, next_byte}
+use Rattle.entry_code.proofs.Takes.{take_tree, PatternAt, SamePlay, Taking, IsBefore, IsByte, takes, IsNext, next_byte}
 use Rattle.player_desk.proofs.Laws.{at_pointer}
 use Rattle.entry_code.proofs.LastBytes.{AtRead, AtNote, AtLast, KeepsNote, note_leads, last_note_leads}
-use Rattle.entry_code.proofs.LastBytes.{last_rests_leads}
+use Rattle.entry_code.proofs.LastBytes.{last_rests_leads, behind}
 
 -- ---- the command
 
@@ -58,73 +61,142 @@ Read r s d place bytes left transpose instrument running kind =
     AtRead r s d place bytes left transpose (taken instrument (command_behind running kind) s.voice) (entry_note kind)
     (more_rests kind)
 
+-- behind the tests of a command's first byte, and behind its two bytes
+abbrev number_tree : Tree
+number_tree = behind (behind (behind (body_of UNNAMED take_tree)))
+
+abbrev param_tree : Tree
+param_tree = behind (behind (behind (behind number_tree)))
+
+-- the command stands, where it is kept, and Y is its second byte; the carry stays
+command_leads : (r : Reader) (s : Playing) (d : VoiceDesk) (place : ℕ) (bytes left : List ℕ) (instrument : ℕ)
+    (running command : Command) (other : ℕ) (ways : Ways) (m : VoiceDesk) → PatternAt r place bytes →
+    bit_and m.a 0x0F ≡ command.number → Taking r s d place (taken instrument running s.voice) 0 m →
+    IsBefore bytes (command.param ∷ other ∷ left) m.y →
+    ((n : VoiceDesk) → n.c ≡ m.c → Taking r s d place (taken instrument command s.voice) 0 n →
+    IsBefore bytes (other ∷ left) n.y → Leads r param_tree ways n) → Leads r number_tree ways m
+command_leads r s d place bytes left instrument running command other ways m ground number at before goes = (
+  λ kept.
+      let its : r.layout.holds ROW_COMMAND ≡ true → bit_and m.a 0x0F ≡ command.number = λ on. number in
+      let param : r.layout.holds ROW_COMMAND ≡ true → command.number ≢ 0 → command.param ≡ command.param =
+      λ on some. refl in
+      behind_number (record (loaded (bit_and m.a 0x0F) m) { own = put m.own NEW_COMMAND (bit_and m.a 0x0F) }) refl refl
+      refl refl refl refl (assumption (its, param, at.fields)) at.rest_is (assumption at.play),
+  λ out.
+      let none : r.layout.holds ROW_COMMAND ≡ true → m.own NEW_COMMAND ≡ command.number =
+      λ on. absurd (both_ways (r.layout.holds ROW_COMMAND) out on) in
+      let param : r.layout.holds ROW_COMMAND ≡ true → command.number ≢ 0 → command.param ≡ command.param =
+      λ on some. refl in
+      behind_number m refl refl refl refl refl refl (assumption (none, param, at.fields)) at.rest_is at.play,
+)
+  where
+    next : IsNext r bytes command.param (other ∷ left) place ((m.y + 1) % 256)
+    next = next_byte r place bytes ground command.param other left m.y before
+
+    -- the voice's bytes would be so with the second byte among them
+    behind_number : (n : VoiceDesk) → n.shared ≡ m.shared → n.sid ≡ m.sid → n.low ≡ m.low → n.high ≡ m.high →
+        n.y ≡ m.y → n.c ≡ m.c → Fields r.layout.holds (taken instrument command s.voice)
+        (tempo_of (r.voice + 1) s.common) (put n.own NEW_PARAM command.param) → n.own REST ≡ 0 → SamePlay n.own d.own →
+        Leads r (behind number_tree) ways n
+    behind_number n shared sid low high y c fields rest_is play =
+        let halves : AreHalves n.low n.high place =
+        record { low_is = low ∙ at.pointer.low_is; high_is = high ∙ at.pointer.high_is } in
+        let y_next : (n.y + 1) % 256 ≡ (m.y + 1) % 256 = ap (λ b. (b + 1) % 256) y in
+        let read = at_pointer r n.low n.high place ((n.y + 1) % 256) command.param halves (rw y_next next.reads) in
+        let there : VoiceDesk =
+        loaded (r.before ((n.low + 256 * n.high + (n.y + 1) % 256) % 65536)) (indexed ((n.y + 1) % 256) n) in
+        let is_before : IsBefore bytes (other ∷ left) there.y = rw y_next next.before in (
+          read.found,
+          (
+            λ kept.
+                let param : r.layout.holds ROW_COMMAND ≡ true → command.number ≢ 0 → there.a ≡ command.param =
+                λ on some. read.is in
+                goes (record there { own = put n.own NEW_PARAM there.a }) c
+                (takes r s d place _ _ 0 0 m _ shared sid low high (assumption (param, fields)) rest_is
+                (assumption play) at) is_before,
+            λ out.
+                let none : r.layout.holds ROW_COMMAND ≡ true → command.number ≢ 0 → n.own NEW_PARAM ≡ command.param =
+                λ on some. absurd (both_ways (r.layout.holds ROW_COMMAND) out on) in
+                goes there c
+                (takes r s d place _ _ 0 0 m _ shared sid low high (assumption (none, fields)) rest_is play at)
+                is_before,
+          ),
+        )
+
+-- where the scope's lines lead
+abbrev unnamed_ways : Reader → Playing → VoiceDesk → ℕ → List ℕ → List ℕ → ℤ → ℕ → Command → EntryKind →
+    (VoiceDesk → Type 0) → Ways → Ways
+unnamed_ways r s d place bytes left transpose instrument running kind goes ways =
+    in_scope UNNAMED (done_as (LastIs r s d place bytes left
+    (taken instrument (command_behind running kind) s.voice) kind)
+    (in_scope NOTES (done_as goes
+    (in_scope READ (done_as (Read r s d place bytes left transpose instrument running kind) ways)))))
+
+-- A has been compared
+abbrev compared : ℕ → VoiceDesk → VoiceDesk
+compared number m = record m {
+  c = nat_le number m.a;
+  z = nat_eq ((m.a + (256 - number)) % 256) 0;
+  n = nat_le 128 ((m.a + (256 - number)) % 256);
+}
+
 unnamed_leads : (r : Reader) (s : Playing) (d : VoiceDesk) (place : ℕ) (bytes left : List ℕ) (transpose : ℤ)
     (instrument : ℕ) (running : Command) (kind : EntryKind) (byte : ℕ) (others : List ℕ) (goes : VoiceDesk → Type 0)
     (ways : Ways) (m : VoiceDesk) → PatternAt r place bytes → left ≡ byte ∷ others → IsKind kind →
     Taking r s d place (taken instrument running s.voice) 0 m →
     IsByte bytes (kind_first kind) (kind_others kind ++ left) m →
     Leads r (body_of UNNAMED take_tree)
-    (in_scope UNNAMED (done_as (LastIs r s d place bytes left
-    (taken instrument (command_behind running kind) s.voice) kind)
-    (in_scope NOTES (done_as goes
-    (in_scope READ (done_as (Read r s d place bytes left transpose instrument running kind) ways)))))) m
+    (unnamed_ways r s d place bytes left transpose instrument running kind goes ways) m
 unnamed_leads r s d place bytes left transpose instrument running (NamedNote command note) byte others goes ways m
     ground begun kind at is =
     let acc = is.a in
-    let few = kind.0.number in
-    let one = next_byte r place bytes ground command.param note left m.y is.before in
-    let two = next_byte r place bytes ground note byte others ((m.y + 1) % 256)
-    (subst (λ xs. IsBefore bytes (note ∷ xs) ((m.y + 1) % 256)) begun one.before) in
-    let first = at_pointer r m.low m.high place ((m.y + 1) % 256) command.param at.pointer one.reads in
-    let second = at_pointer r m.low m.high place (((m.y + 1) % 256 + 1) % 256) note at.pointer two.reads in (
+    let few = kind.0.number in (
       λ high. (let above = leb-true 0x60 m.a high in absurd (omega (arith, above, acc, few))),
-      λ low. (
-        first.found,
-        (
-          λ rest. (let above = leb-true 0x50 m.a rest in absurd (omega (arith, above, acc, few))),
-          λ named. (
-            second.found,
-            (let number : bit_and m.a 0x0F ≡ command.number = ap (λ a. bit_and a 0x0F) acc ∙ number_is command.number
-                few in
-                let param : command.number ≢ 0 → r.before ((m.low + 256 * m.high + (m.y + 1) % 256) % 65536) ≡
-                command.param =
-                λ some. first.is in record {
-                  taking = takes r s d place _ _ 0 0 m _ refl refl refl refl (assumption (number, param, at.fields))
-                      at.rest_is (assumption at.play) at;
-                  is = record {
-                    a = second.is;
-                    before = subst (λ xs. IsBefore bytes xs (((m.y + 1) % 256 + 1) % 256)) (sym begun) two.before;
-                  };
-                }),
-          ),
-        ),
-      ),
+      λ low.
+          command_leads r s d place bytes left instrument running command note
+          (unnamed_ways r s d place bytes left transpose instrument running (NamedNote command note) goes ways)
+          (compared 0x50 m) ground
+          (ap (λ a. bit_and a 0x0F) acc ∙ number_is command.number few)
+          (takes r s d place _ _ 0 0 m _ refl refl refl refl at.fields at.rest_is at.play at) is.before
+          (λ n carry taking before.
+          let two = next_byte r place bytes ground note byte others n.y
+          (subst (λ xs. IsBefore bytes (note ∷ xs) n.y) begun before) in
+          let second = at_pointer r n.low n.high place ((n.y + 1) % 256) note taking.pointer two.reads in (
+            λ rest. (let above = leb-true 0x50 m.a (sym carry ∙ rest) in absurd (omega (arith, above, acc, few))),
+            λ named. (
+              second.found,
+              record {
+                taking = takes r s d place _ _ 0 0 n _ refl refl refl refl taking.fields taking.rest_is taking.play
+                    taking;
+                is = record {
+                  a = second.is;
+                  before = subst (λ xs. IsBefore bytes xs ((n.y + 1) % 256)) (sym begun) two.before;
+                };
+              },
+            ),
+          )),
     )
 unnamed_leads r s d place bytes left transpose instrument running (NamedRest command) byte others goes ways m ground
     begun kind at is =
     let acc = is.a in
-    let few = kind.number in
-    let one = next_byte r place bytes ground command.param byte others m.y
-    (subst (λ xs. IsBefore bytes (command.param ∷ xs) m.y) begun is.before) in
-    let first = at_pointer r m.low m.high place ((m.y + 1) % 256) command.param at.pointer one.reads in (
+    let few = kind.number in (
       λ high. (let above = leb-true 0x60 m.a high in absurd (omega (arith, above, acc, few))),
-      λ low. (
-        first.found,
-        (
-          λ rest.
-              let number : bit_and m.a 0x0F ≡ command.number = ap (λ a. bit_and a 0x0F) acc ∙ number_was
-              command.number few in
-              let param : command.number ≢ 0 → r.before ((m.low + 256 * m.high + (m.y + 1) % 256) % 65536) ≡
-              command.param =
-              λ some. first.is in record {
-                taking = takes r s d place _ _ 0 0 m _ refl refl refl refl (assumption (number, param, at.fields))
-                    at.rest_is (assumption at.play) at;
-                before = subst (λ xs. IsBefore bytes xs ((m.y + 1) % 256)) (sym begun) one.before;
-                carry = rest;
-              },
-          λ named. (let below = leb-false 0x50 m.a named in absurd (omega (arith, below, acc))),
-        ),
-      ),
+      λ low.
+          command_leads r s d place bytes others instrument running command byte
+          (unnamed_ways r s d place bytes left transpose instrument running (NamedRest command) goes ways)
+          (compared 0x50 m) ground
+          (ap (λ a. bit_and a 0x0F) acc ∙ number_was command.number few)
+          (takes r s d place _ _ 0 0 m _ refl refl refl refl at.fields at.rest_is at.play at)
+          (subst (λ xs. IsBefore bytes (command.param ∷ xs) m.y) begun is.before)
+          (λ n carry taking before. (
+            λ rest. record {
+              taking = takes r s d place _ _ 0 0 n _ refl refl refl refl taking.fields taking.rest_is taking.play
+                  taking;
+              before = subst (λ xs. IsBefore bytes xs n.y) (sym begun) before;
+              carry = rest;
+            },
+            λ named. (let below = leb-false 0x50 m.a (sym carry ∙ named) in absurd (omega (arith, below, acc))),
+          )),
     )
 unnamed_leads r s d place bytes left transpose instrument running (Note note) byte others goes ways m ground begun kind
     at is =

@@ -46,7 +46,7 @@ pub record SamePlay (one two : ℕ → ℕ) : Type 0 where
 -- pattern. Where an option asks for it, the voice is marked as between two patterns.
 pub record Taking (r : Reader) (s : Playing) (d : VoiceDesk) (place : ℕ) (v : Voice) (rest : ℕ) (m : VoiceDesk)
     : Type 0 where
-  pub fields : Fields v (tempo_of (r.voice + 1) s.common) m.own
+  pub fields : Fields r.layout.holds v (tempo_of (r.voice + 1) s.common) m.own
   pub rest_is : m.own REST ≡ rest
   pub play : SamePlay m.own d.own
   pub around : Around r s d m
@@ -67,7 +67,7 @@ pub record IsByte (bytes : List ℕ) (byte : ℕ) (left : List ℕ) (m : VoiceDe
 -- the own bytes alone have changed
 pub takes : (r : Reader) (s : Playing) (d : VoiceDesk) (place : ℕ) (v w : Voice) (rest after : ℕ) (m n : VoiceDesk) →
     n.shared ≡ m.shared → n.sid ≡ m.sid → n.low ≡ m.low → n.high ≡ m.high →
-    Fields w (tempo_of (r.voice + 1) s.common) n.own → n.own REST ≡ after → SamePlay n.own d.own →
+    Fields r.layout.holds w (tempo_of (r.voice + 1) s.common) n.own → n.own REST ≡ after → SamePlay n.own d.own →
     Taking r s d place v rest m → Taking r s d place w after n
 takes r s d place v w rest after m n shared sid low high fields rest_is play at = record {
   fields = fields;

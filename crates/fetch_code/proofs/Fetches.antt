@@ -249,7 +249,7 @@ next_play v own = if nat_eq (own REST) 0 then v.plays else v.plays + 1
 -- the orderlist has been walked from a desk on
 pub record AtBegun (r : Reader) (look : LookUps) (packed : ℕ → List ℕ) (order : Order) (s : Playing) (d b m : VoiceDesk)
     : Type 0 where
-  pub fields : Fields s.voice (tempo_of (r.voice + 1) s.common) m.own
+  pub fields : Fields r.layout.holds s.voice (tempo_of (r.voice + 1) s.common) m.own
   pub around : Around r s d m
   pub order_low : m.own ORDER_LOW ≡ d.own ORDER_LOW
   pub order_high : m.own ORDER_HIGH ≡ d.own ORDER_HIGH

@@ -17,7 +17,7 @@ use Rattle.player_desk.proofs.Laws.{Around}
 -- this voice stands, with its place in its song; it has the orderlist that it had
 pub record Fetched (r : Reader) (look : LookUps) (packed : ℕ → List ℕ) (order : Order) (s : Playing) (v : Voice)
     (d m : VoiceDesk) : Type 0 where
-  pub fields : Fields v (tempo_of (r.voice + 1) s.common) m.own
+  pub fields : Fields r.layout.holds v (tempo_of (r.voice + 1) s.common) m.own
   pub around : Around r s d m
   pub order_low : m.own ORDER_LOW ≡ d.own ORDER_LOW
   pub order_high : m.own ORDER_HIGH ≡ d.own ORDER_HIGH

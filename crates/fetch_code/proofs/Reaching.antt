@@ -372,13 +372,14 @@ awaited_leads r look packed order s d m ground at =
         (put n.own REST ((n.own REST + 255) % 256)) =
         stands_behind_rest r.layout look packed order s.voice n.own (put n.own REST ((n.own REST + 255) % 256)) few play
         refl some refl at.song in
-        let fields : Fields s.voice (tempo_of (r.voice + 1) s.common) (put n.own REST ((n.own REST + 255) % 256)) =
-        assumption at.fields in
-        let moved : Fields (fetch_row look order s.voice) (tempo_of (r.voice + 1) s.common)
+        let fields : Fields r.layout.holds s.voice (tempo_of (r.voice + 1) s.common)
+        (put n.own REST ((n.own REST + 255) % 256)) = assumption at.fields in
+        let moved : Fields r.layout.holds (fetch_row look order s.voice) (tempo_of (r.voice + 1) s.common)
         (put n.own REST ((n.own REST + 255) % 256)) =
-        subst (λ u. Fields u (tempo_of (r.voice + 1) s.common) (put n.own REST ((n.own REST + 255) % 256)))
+        subst
+        (λ u. Fields r.layout.holds u (tempo_of (r.voice + 1) s.common) (put n.own REST ((n.own REST + 255) % 256)))
         (sym (rest_moves r.layout look packed order s.voice n.own some at.song))
-        (fields_moved (length rows) s.voice (tempo_of (r.voice + 1) s.common)
+        (fields_moved r.layout.holds (length rows) s.voice (tempo_of (r.voice + 1) s.common)
         (put n.own REST ((n.own REST + 255) % 256)) fields) in record {
           fields = rw own moved;
           around = around_on shared sid at.around;

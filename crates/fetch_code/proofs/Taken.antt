@@ -174,8 +174,8 @@ take_leads r look packed order s d ground at play few timer keeps idle small due
         }) others_each held.next
         (subst (λ c. drop (s.voice.row + 1) rows ≡ replicate rest (row_with 0xBD 0 c) ++ rows_from c entries)
         (sym command_is) here.rest_is) in
-        let fields : Fields (row_moved (length rows) w) (tempo_of (r.voice + 1) s.common) h.own =
-        fields_moved (length rows) w (tempo_of (r.voice + 1) s.common) h.own held.taking.fields in
+        let fields : Fields r.layout.holds (row_moved (length rows) w) (tempo_of (r.voice + 1) s.common) h.own =
+        fields_moved r.layout.holds (length rows) w (tempo_of (r.voice + 1) s.common) h.own held.taking.fields in
         subst (λ u. Fetched r look packed order s u d n) (sym fetched_is) (record {
           fields = rw own fields;
           around = around_on shared sid held.taking.around;

@@ -38,10 +38,10 @@ next_at layout rows count look desk p has few = record {
 }
 
 pub filter_block_steps : FilterBlockSteps
-filter_block_steps layout rows count look c desk room uses has decimal stand on kept =
+filter_block_steps layout rows count look c desk room uses has decimal stand on kept common =
     plays_shared layout rows filter_tree desk (filter_step look c) (filter_registers (filter_step look c)) room uses
     decimal
-    (filter_leads (reader_of layout rows 0 desk) look c (voice_desk layout 0 desk) ground kept
+    (filter_leads (reader_of layout rows 0 desk) look c (voice_desk layout 0 desk) ground kept common
     (begins_shared layout desk c stand))
   where
     ground : FilterGround (reader_of layout rows 0 desk) look c.filter_ptr

@@ -1,8 +1,8 @@
 -- The frames that are worked by hand meet the clause; and runs that differ in one thing are refused.
 use Rattle.std.proofs.Common.{◌≡◌, ◌≢◌, ℕ, zero, suc, ◌+◌, ◌<◌, ◌≤◌, ◌⊎◌, inl, inr}
-use Rattle.std.proofs.Common.{Bool, true, false, List, [], ◌∷◌}
-use Rattle.std.proofs.Common.{refl, subst, arith}
-use Rattle.std.proofs.lemmas.Bool.{lt-ltb}
+use Rattle.std.proofs.Common.{◌&&◌, Bool, true, false, List, [], ◌∷◌}
+use Rattle.std.proofs.Common.{refl, sym, subst, arith}
+use Rattle.std.proofs.lemmas.Bool.{lt-ltb, true≢false}
 use Rattle.play_model.specs.State.{Common}
 use Rattle.play_model.specs.FilterStep.{filter_step}
 use Rattle.play_model.specs.Helpers.{next_row}
@@ -10,23 +10,25 @@ use Rattle.play_model.specs.Frame.{filter_registers}
 use Rattle.scopes.specs.Meaning.{each_one, ran, Done}
 use Rattle.player_memory.specs.declared.labels.TheConstants.{FILTER_LEFTS, FILTER_RIGHTS}
 use Rattle.player_memory.specs.declared.conditions.TheConstants.{FILTER_TABLE}
+use Rattle.player_memory.specs.FactLines.{KeepsShared}
 use Rattle.player_memory.specs.Rooms.{IsRoom, IsElsewhere, MayUse}
 use Rattle.player_memory.specs.Variables.{CommonBytesStand}
 use Rattle.player_memory.specs.Playing.{shared_at, IsListed, PlaysShared}
+use Rattle.player_desk.proofs.Laws.{shared_stand}
 use Rattle.filter_code.specs.FilterBlock.{filter_tree, IsOnFilterRow, HasFilterTable}
-use Rattle.filter_code.specs.WorkedFilters.{site, row_at, look, state, desk, IsWorked}
+use Rattle.filter_code.specs.WorkedFilters.{site_with, site, bare, row_at, look, state, others, desk, IsWorked}
 use Rattle.filter_code.specs.WorkedFilters.{FiltersAreWorked, RowsAreWorked, RunsAreRefused}
 use Rattle.filter_code.specs.WorkedFilters.{right, behind_with, Accepts}
 use Rattle.filter_code.proofs.Stepping.{filter_block_steps}
 
 -- ---- the site
 
-room : (kept : Bool) → IsRoom (site kept) 2
-room kept = record {
+room : (holds : ℕ → Bool) → IsRoom (site_with holds) 2
+room holds = record {
   begins = omega arith;
   ends = omega arith;
   variables = λ label few. (let e = lt-ltb label 113 few in rw e refl);
-  slides = λ holds. record {
+  slides = λ kept. record {
     low = record { from = omega arith; to = omega arith; outside = inr (omega arith) };
     high = record { from = omega arith; to = omega arith; outside = inr (omega arith) };
     apart = inl (omega arith);
@@ -35,49 +37,49 @@ room kept = record {
   pointer_high = omega arith;
 }
 
-uses : (kept : Bool) → MayUse (site kept) 2
-uses kept = record {
+uses : (holds : ℕ → Bool) → MayUse (site_with holds) 2
+uses holds = record {
   reads = λ label few. refl;
   writes = λ label few. refl;
   slides = λ holds row few. record { reads_low = refl; reads_high = refl; writes_low = refl; writes_high = refl };
   registers = λ register few. refl;
 }
 
-away : (kept : Bool) (place : ℕ) → 0x1300 ≤ place → place < 0xD000 → IsElsewhere (site kept) 2 place
-away kept place from to = record {
+away : (holds : ℕ → Bool) (place : ℕ) → 0x1300 ≤ place → place < 0xD000 → IsElsewhere (site_with holds) 2 place
+away holds place from to = record {
   variables = inr (omega (arith, from));
-  slides_low = λ holds. inr (omega (arith, from));
-  slides_high = λ holds. inr (omega (arith, from));
+  slides_low = λ kept. inr (omega (arith, from));
+  slides_high = λ kept. inr (omega (arith, from));
   low = λ e. omega (arith, from, e);
   high = λ e. omega (arith, from, e);
   registers = inl (omega (arith, to));
 }
 
-left_at : (kept : Bool) (c : Common) (number : ℕ) → 1 ≤ number → number ≤ 4 →
-    IsListed (site kept) 2 (desk c).at FILTER_LEFTS number (row_at number).left
-left_at kept c zero from to = absurd (omega (arith, from))
-left_at kept c (suc zero) from to =
-    record { elsewhere = away kept 0x1300 (omega arith) (omega arith); reads = refl; is = refl }
-left_at kept c (suc (suc zero)) from to =
-    record { elsewhere = away kept 0x1301 (omega arith) (omega arith); reads = refl; is = refl }
-left_at kept c (suc (suc (suc zero))) from to =
-    record { elsewhere = away kept 0x1302 (omega arith) (omega arith); reads = refl; is = refl }
-left_at kept c (suc (suc (suc (suc zero)))) from to =
-    record { elsewhere = away kept 0x1303 (omega arith) (omega arith); reads = refl; is = refl }
-left_at kept c (suc (suc (suc (suc (suc more))))) from to = absurd (omega (arith, to))
+left_at : (holds : ℕ → Bool) (c : Common) (number : ℕ) → 1 ≤ number → number ≤ 4 →
+    IsListed (site_with holds) 2 (desk c).at FILTER_LEFTS number (row_at number).left
+left_at holds c zero from to = absurd (omega (arith, from))
+left_at holds c (suc zero) from to =
+    record { elsewhere = away holds 0x1300 (omega arith) (omega arith); reads = refl; is = refl }
+left_at holds c (suc (suc zero)) from to =
+    record { elsewhere = away holds 0x1301 (omega arith) (omega arith); reads = refl; is = refl }
+left_at holds c (suc (suc (suc zero))) from to =
+    record { elsewhere = away holds 0x1302 (omega arith) (omega arith); reads = refl; is = refl }
+left_at holds c (suc (suc (suc (suc zero)))) from to =
+    record { elsewhere = away holds 0x1303 (omega arith) (omega arith); reads = refl; is = refl }
+left_at holds c (suc (suc (suc (suc (suc more))))) from to = absurd (omega (arith, to))
 
-right_at : (kept : Bool) (c : Common) (number : ℕ) → 1 ≤ number → number ≤ 4 →
-    IsListed (site kept) 2 (desk c).at FILTER_RIGHTS number (row_at number).right
-right_at kept c zero from to = absurd (omega (arith, from))
-right_at kept c (suc zero) from to =
-    record { elsewhere = away kept 0x1400 (omega arith) (omega arith); reads = refl; is = refl }
-right_at kept c (suc (suc zero)) from to =
-    record { elsewhere = away kept 0x1401 (omega arith) (omega arith); reads = refl; is = refl }
-right_at kept c (suc (suc (suc zero))) from to =
-    record { elsewhere = away kept 0x1402 (omega arith) (omega arith); reads = refl; is = refl }
-right_at kept c (suc (suc (suc (suc zero)))) from to =
-    record { elsewhere = away kept 0x1403 (omega arith) (omega arith); reads = refl; is = refl }
-right_at kept c (suc (suc (suc (suc (suc more))))) from to = absurd (omega (arith, to))
+right_at : (holds : ℕ → Bool) (c : Common) (number : ℕ) → 1 ≤ number → number ≤ 4 →
+    IsListed (site_with holds) 2 (desk c).at FILTER_RIGHTS number (row_at number).right
+right_at holds c zero from to = absurd (omega (arith, from))
+right_at holds c (suc zero) from to =
+    record { elsewhere = away holds 0x1400 (omega arith) (omega arith); reads = refl; is = refl }
+right_at holds c (suc (suc zero)) from to =
+    record { elsewhere = away holds 0x1401 (omega arith) (omega arith); reads = refl; is = refl }
+right_at holds c (suc (suc (suc zero))) from to =
+    record { elsewhere = away holds 0x1402 (omega arith) (omega arith); reads = refl; is = refl }
+right_at holds c (suc (suc (suc (suc zero)))) from to =
+    record { elsewhere = away holds 0x1403 (omega arith) (omega arith); reads = refl; is = refl }
+right_at holds c (suc (suc (suc (suc (suc more))))) from to = absurd (omega (arith, to))
 
 left_byte : (number : ℕ) → (row_at number).left < 256
 left_byte zero = omega arith
@@ -95,13 +97,13 @@ right_byte (suc (suc (suc zero))) = omega arith
 right_byte (suc (suc (suc (suc zero)))) = omega arith
 right_byte (suc (suc (suc (suc (suc more))))) = omega arith
 
-table : (kept : Bool) (c : Common) → HasFilterTable (site kept) 2 (desk c).at look 4
-table kept c = record {
+table : (holds : ℕ → Bool) (c : Common) → HasFilterTable (site_with holds) 2 (desk c).at look 4
+table holds c = record {
   table = record {
     few = omega arith;
     each = λ number from to. record {
-      left = left_at kept c number from to;
-      right = right_at kept c number from to;
+      left = left_at holds c number from to;
+      right = right_at holds c number from to;
       left_byte = left_byte number;
       right_byte = right_byte number;
     };
@@ -109,27 +111,98 @@ table kept c = record {
   next = refl;
 }
 
+-- what else is kept there
+shared : (kept : Bool) → KeepsShared (site kept)
+shared kept = record {
+  tone = λ on. absurd (never kept on);
+  slide = λ on. absurd (never kept on);
+  once = λ on. absurd (never kept on);
+  delay = λ on. absurd (never kept on);
+  command = λ on. absurd (never kept on);
+  legato = λ on. absurd (never kept on);
+  soft = λ on. absurd (never kept on);
+  filter = λ on. refl;
+  control = λ on. refl;
+  cutoff = λ on. refl;
+}
+  where
+    never : (kept : Bool) → (kept && false) ≡ true → ⊥
+    never true e = true≢false (sym e)
+    never false e = true≢false (sym e)
+
+none_shared : KeepsShared bare
+none_shared = record {
+  tone = λ on. absurd (true≢false (sym on));
+  slide = λ on. absurd (true≢false (sym on));
+  once = λ on. absurd (true≢false (sym on));
+  delay = λ on. absurd (true≢false (sym on));
+  command = λ on. absurd (true≢false (sym on));
+  legato = λ on. absurd (true≢false (sym on));
+  soft = λ on. absurd (true≢false (sym on));
+  filter = λ on. absurd (true≢false (sym on));
+  control = λ on. absurd (true≢false (sym on));
+  cutoff = λ on. absurd (true≢false (sym on));
+}
+
 -- ---- frames
 
-stands : (kept : Bool) (c : Common) → CommonBytesStand c (shared_at (site kept) (desk c).at)
-stands kept c = (refl, (refl, (refl, (refl, (refl, (refl, (refl, (refl, tt))))))))
+stands : (kept : Bool) (c : Common) → CommonBytesStand (site kept).holds c (shared_at (site kept) (desk c).at)
+stands kept c =
+    shared_stand (site kept).holds c (shared_at (site kept) (desk c).at) (record {
+      filter_ptr = refl;
+      filter_time = refl;
+      filter_type = λ on. refl;
+      no_filter_type = λ off. absurd (true≢false off);
+      filter_control = λ on. refl;
+      no_filter_control = λ off. absurd (true≢false off);
+      cutoff = λ on. refl;
+      no_cutoff = λ off. absurd (true≢false off);
+      volume = λ on. refl;
+      no_volume = λ off. absurd (true≢false off);
+      funk_one = λ on. refl;
+      funk_two = λ on. refl;
+    })
+
+none_stands : CommonBytesStand bare.holds (state 0 0 0 0 0) (shared_at bare (desk others).at)
+none_stands =
+    shared_stand bare.holds (state 0 0 0 0 0) (shared_at bare (desk others).at) (record {
+      filter_ptr = refl;
+      filter_time = refl;
+      filter_type = λ on. absurd (true≢false (sym on));
+      no_filter_type = λ off. refl;
+      filter_control = λ on. absurd (true≢false (sym on));
+      no_filter_control = λ off. refl;
+      cutoff = λ on. absurd (true≢false (sym on));
+      no_cutoff = λ off. refl;
+      volume = λ on. absurd (true≢false (sym on));
+      no_volume = λ off. refl;
+      funk_one = λ on. absurd (true≢false (sym on));
+      funk_two = λ on. absurd (true≢false (sym on));
+    })
 
 -- what the rule gives is what the code leaves
+plays : (holds : ℕ → Bool) (its c after : Common) (bytes : List ℕ) → filter_step look c ≡ after →
+    filter_registers after ≡ bytes → CommonBytesStand holds c (shared_at (site_with holds) (desk its).at) →
+    IsOnFilterRow look 4 c → (c.filter_ptr ≢ 0 → holds FILTER_TABLE ≡ true) → KeepsShared (site_with holds) →
+    PlaysShared (site_with holds) 2 (desk its) (ran each_one (site_with holds) filter_tree (desk its)) after bytes
+plays holds its c after bytes steps writes stand on keeps common =
+    subst (λ list. Plays after list) writes
+    (subst (λ x. Plays x (filter_registers x)) steps
+    (filter_block_steps (site_with holds) 2 4 look c (desk its) (room holds) (uses holds) (table holds its) refl stand
+    on keeps common))
+  where
+    Plays : Common → List ℕ → Type 0
+    Plays x list =
+        PlaysShared (site_with holds) 2 (desk its) (ran each_one (site_with holds) filter_tree (desk its)) x list
+
 worked : (kept : Bool) (c after : Common) (bytes : List ℕ) → filter_step look c ≡ after →
     filter_registers after ≡ bytes → IsOnFilterRow look 4 c →
     (c.filter_ptr ≢ 0 → (site kept).holds FILTER_TABLE ≡ true) → IsWorked kept c after bytes
 worked kept c after bytes steps writes on keeps = record {
   on = on;
   stands = stands kept c;
-  plays =
-      subst (λ list. Plays after list) writes
-      (subst (λ x. Plays x (filter_registers x)) steps
-      (filter_block_steps (site kept) 2 4 look c (desk c) (room kept) (uses kept) (table kept c) refl (stands kept c) on
-      keeps));
+  plays = plays (site kept).holds c c after bytes steps writes (stands kept c) on keeps (shared kept);
 }
-  where
-    Plays : Common → List ℕ → Type 0
-    Plays x list = PlaysShared (site kept) 2 (desk c) (ran each_one (site kept) filter_tree (desk c)) x list
 
 on_row : (count pointer time kind control cutoff : ℕ) → pointer < count →
     (0x80 ≤ (row_at pointer).left → (row_at (pointer + 1)).left ≡ 0 → pointer + 1 < count) →
@@ -148,9 +221,10 @@ stays = worked false _ _ _ refl refl (stopped 4 0 0x10 0xF1 0x40) (λ some. absu
 pub filters_are_worked : FiltersAreWorked
 unfolding filter_step next_row filter_registers
 filters_are_worked = record {
-  room = room;
-  uses = uses;
-  table = table;
+  room = λ kept. room (site kept).holds;
+  uses = λ kept. uses (site kept).holds;
+  table = λ kept. table (site kept).holds;
+  shared = shared;
   sets = worked true _ _ _ refl refl (on_row 4 1 0 0 0 0 (omega arith) (λ high zero. omega arith)) (λ some. refl);
   slides =
       worked true _ _ _ refl refl (on_row 4 3 0 0x10 0xF1 0x40 (omega arith) (λ high zero. omega (arith, high)))
@@ -162,6 +236,10 @@ filters_are_worked = record {
       worked true _ _ _ refl refl (on_row 4 2 0 0x20 0xF2 0x50 (omega arith) (λ high zero. omega (arith, high)))
       (λ some. refl);
   stays = stays;
+  none_stands = none_stands;
+  none =
+      plays bare.holds others (state 0 0 0 0 0) (state 0 0 0 0 0) (0 ∷ 0 ∷ 0 ∷ 0x0F ∷ []) refl refl none_stands
+      (stopped 4 0 0 0 0) (λ some. absurd (some refl)) none_shared;
 }
 
 -- ---- rows
@@ -208,7 +286,7 @@ runs_are_refused = record {
   accepted = stays_accepted;
   stuck = λ p. (let e = p.ends in absurd (cc));
   decimal = λ p. (let e = p.decimal in absurd (cc));
-  common = λ p. (let e = p.common.1.1.1.1.0 in omega (arith, e));
+  common = λ p. (let e = p.common.1.1.1.1.0.0 refl in omega (arith, e));
   cutoff = λ p. (let e = p.last 1 (omega arith) in omega (arith, e));
   first = λ p. (let e = p.last 0 (omega arith) in omega (arith, e));
   last = λ p. (let e = p.last 3 (omega arith) in omega (arith, e));

@@ -10,6 +10,7 @@ use Rattle.scopes.specs.Trees.{Tree, tree_of}
 use Rattle.scopes.specs.Meaning.{each_one, ran}
 use Rattle.player_memory.specs.declared.conditions.TheConstants.{FILTER_TABLE}
 use Rattle.player_memory.specs.declared.labels.TheConstants.{FILTER_LEFTS, NEXT_FILTER_LEFTS, FILTER_RIGHTS}
+use Rattle.player_memory.specs.FactLines.{KeepsShared}
 use Rattle.player_memory.specs.Rooms.{IsRoom, MayUse}
 use Rattle.player_memory.specs.Variables.{CommonBytesStand}
 use Rattle.player_memory.specs.Playing.{shared_at, IsTable, PlaysShared}
@@ -31,12 +32,13 @@ pub record HasFilterTable (layout : Layout) (rows : ℕ) (at : ℕ → ℕ) (loo
   pub next : layout.address NEXT_FILTER_LEFTS ≡ layout.address FILTER_LEFTS + 1
 
 -- In any memory that holds what the voices share, the code does the filter step, and writes the registers 21 to 24 of
--- the frame. Where the code of the filter table isn't kept, no program is on.
+-- the frame. Where the code of the filter table isn't kept, no program is on; and the lines that facts or features have
+-- in common are kept with each of them.
 abbrev pub FilterBlockSteps : Type 0
 FilterBlockSteps =
     (layout : Layout) (rows count : ℕ) (look : LookUps) (c : Common) (desk : Desk) → IsRoom layout rows →
     MayUse layout rows → HasFilterTable layout rows desk.at look count → desk.cpu.d ≡ false →
-    CommonBytesStand c (shared_at layout desk.at) → IsOnFilterRow look count c →
-    (c.filter_ptr ≢ 0 → layout.holds FILTER_TABLE ≡ true) →
+    CommonBytesStand layout.holds c (shared_at layout desk.at) → IsOnFilterRow look count c →
+    (c.filter_ptr ≢ 0 → layout.holds FILTER_TABLE ≡ true) → KeepsShared layout →
     PlaysShared layout rows desk (ran each_one layout filter_tree desk) (filter_step look c)
     (filter_registers (filter_step look c))

@@ -10,11 +10,14 @@ use Rattle.play_model.specs.LookUps.{LookUps}
 use Rattle.play_model.specs.State.{Common, start_common}
 use Rattle.scopes.specs.Desk.{Desk, Layout}
 use Rattle.scopes.specs.Meaning.{Outcome, Done, Stuck, each_one, ended, ran}
-use Rattle.player_memory.specs.declared.conditions.TheConstants.{FILTER_TABLE, NOTE_DEPENDENT}
+use Rattle.player_memory.specs.declared.conditions.TheConstants.{FILTER_TABLE, FILTER_USED, SET_VOLUME}
+use Rattle.player_memory.specs.declared.conditions.TheConstants.{NOTE_DEPENDENT}
 use Rattle.player_memory.specs.declared.labels.TheConstants.{VARIABLES, SLIDES_LOW, SLIDES_HIGH, FILTER_LEFTS}
 use Rattle.player_memory.specs.declared.labels.TheConstants.{NEXT_FILTER_LEFTS}
+use Rattle.player_memory.specs.declared.variables.Kept.{Kept}
 use Rattle.player_memory.specs.declared.variables.CommonByte.{CommonByte}
 use Rattle.player_memory.specs.declared.variables.TheConstants.{COMMON_BYTES}
+use Rattle.player_memory.specs.FactLines.{KeepsShared}
 use Rattle.player_memory.specs.Rooms.{IsRoom, MayUse}
 use Rattle.player_memory.specs.Variables.{common_byte, CommonBytesStand}
 use Rattle.player_memory.specs.Playing.{shared_at, PlaysShared}
@@ -32,15 +35,25 @@ address_of label =
     else if label == NEXT_FILTER_LEFTS then 0x1300
     else 0x13FF
 
--- where the code of the filter table is kept, and where it isn't
-abbrev pub site : Bool → Layout
-site kept = record {
+-- by the conditions under which code is kept
+abbrev pub site_with : (ℕ → Bool) → Layout
+site_with holds = record {
   address = address_of;
   pointer = 0xFB;
-  holds = λ condition. condition == NOTE_DEPENDENT || kept && condition == FILTER_TABLE;
+  holds = holds;
   may_read = λ place. true;
   may_write = λ place. true;
 }
+
+-- the filter is used, and the volume set: where the code of the filter table is kept, and where it isn't
+abbrev pub site : Bool → Layout
+site kept =
+    site_with (λ condition. condition == NOTE_DEPENDENT || condition == FILTER_USED || condition == SET_VOLUME
+    || kept && condition == FILTER_TABLE)
+
+-- neither is
+abbrev pub bare : Layout
+bare = site_with (λ condition. condition == NOTE_DEPENDENT)
 
 -- the program sets the kind $10, the control $F1 and the cutoff $40, raises it by $10 in two frames, and goes back
 abbrev pub lefts : List ℕ
@@ -65,7 +78,7 @@ state pointer time kind control cutoff = record (start_common 1) {
   cutoff = cutoff;
 }
 
-abbrev pub byte_in : List (ℕ × CommonByte) → Common → ℕ → ℕ
+abbrev pub byte_in : List (ℕ × CommonByte × Kept) → Common → ℕ → ℕ
 byte_in [] c label = 0
 byte_in (row ∷ rows) c label = if row.0 == label then common_byte row.1 c else byte_in rows c label
 
@@ -86,13 +99,18 @@ desk c = record {
 -- from one state the code comes to another, with the cutoff, the control, and the kind with the volume in the registers
 pub record IsWorked (kept : Bool) (c after : Common) (bytes : List ℕ) : Type 0 where
   pub on : IsOnFilterRow look 4 c
-  pub stands : CommonBytesStand c (shared_at (site kept) (desk c).at)
+  pub stands : CommonBytesStand (site kept).holds c (shared_at (site kept) (desk c).at)
   pub plays : PlaysShared (site kept) 2 (desk c) (ran each_one (site kept) filter_tree (desk c)) after bytes
+
+-- bytes that aren't the state's, where nothing sets the filter or the volume
+abbrev pub others : Common
+others = record (state 0 0 0x10 0xF1 0x40) { volume = 9 }
 
 pub record FiltersAreWorked : Type 0 where
   pub room : (kept : Bool) → IsRoom (site kept) 2
   pub uses : (kept : Bool) → MayUse (site kept) 2
   pub table : (kept : Bool) (c : Common) → HasFilterTable (site kept) 2 (desk c).at look 4
+  pub shared : (kept : Bool) → KeepsShared (site kept)
   -- two rows that belong together
   pub sets : IsWorked true (state 1 0 0 0 0) (state 3 0 0x10 0xF1 0x40) (0 ∷ 0x40 ∷ 0xF1 ∷ 0x1F ∷ [])
   -- a slide, and its last frame: behind it the program jumps
@@ -102,6 +120,10 @@ pub record FiltersAreWorked : Type 0 where
   pub cuts : IsWorked true (state 2 0 0x20 0xF2 0x50) (state 3 0 0x20 0xF2 0x40) (0 ∷ 0x40 ∷ 0xF2 ∷ 0x2F ∷ [])
   -- no program, and no code for one
   pub stays : IsWorked false (state 0 0 0x10 0xF1 0x40) (state 0 0 0x10 0xF1 0x40) (0 ∷ 0x40 ∷ 0xF1 ∷ 0x1F ∷ [])
+  -- no filter, and the volume 15, whatever the bytes are that no line reads
+  pub none_stands : CommonBytesStand bare.holds (state 0 0 0 0 0) (shared_at bare (desk others).at)
+  pub none : PlaysShared bare 2 (desk others) (ran each_one bare filter_tree (desk others)) (state 0 0 0 0 0)
+      (0 ∷ 0 ∷ 0 ∷ 0x0F ∷ [])
 
 -- ---- rows
 

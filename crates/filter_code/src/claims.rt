@@ -11,9 +11,9 @@ pub fn filter_block_steps()
 {}
 
 /// Frames worked by hand in a room at `$1000`, where all that the clause asks is met: two rows that belong together, a
-/// slide and its last frame with a jump behind it, a cutoff alone, and no program. On which rows of a table a program
-/// may be. And what the clause refuses: a run that changes one byte more than the step, that is stuck, or that sets the
-/// decimal flag.
+/// slide and its last frame with a jump behind it, a cutoff alone, no program, and no filter. On which rows of a table
+/// a program may be. And what the clause refuses: a run that changes one byte more than the step, that is stuck, or
+/// that sets the decimal flag.
 pub fn worked_filters()
     ensures frames { FiltersAreWorked }
     ensures rows { RowsAreWorked }

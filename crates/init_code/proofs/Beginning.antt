@@ -1,6 +1,6 @@
 -- The whole block, on the way: what it leaves in the variables, and elsewhere.
 use Rattle.std.proofs.Common.{◌≡◌, ◌≢◌, ◌⊎◌, ℕ, ◌+◌, ◌*◌, ◌/◌, ◌%◌, ◌<◌, ◌≤◌}
-use Rattle.std.proofs.Common.{true, false, if◌then◌else◌, inr}
+use Rattle.std.proofs.Common.{Bool, true, false, if◌then◌else◌, inr}
 use Rattle.std.proofs.Common.{refl, sym, ap, ◌∙◌, arith}
 use Rattle.cpu6502.specs.declared.memory.TheConstants.{MEMORY_SIZE}
 use Rattle.cpu6502.specs.declared.mnemonic.Mnemonic.TheVariants.{Lda, Ldx, Sta}
@@ -9,9 +9,9 @@ use Rattle.code_runs.specs.Runs.{put}
 use Rattle.scopes.specs.declared.line.Operand.TheVariants.{Number, Var, Own, OwnRegister}
 use Rattle.scopes.specs.Desk.{Desk, Layout}
 use Rattle.scopes.specs.Meaning.{Outcome, Done}
-use Rattle.scopes.specs.Trees.{Tree, WithTree, NoneTree, ThenTree, LoopTree}
-use Rattle.player_memory.specs.declared.conditions.TheConstants.{TIMED}
-use Rattle.player_memory.specs.declared.labels.TheConstants.{FIRST_VARIABLE, VOLUME, FUNK_ONE}
+use Rattle.scopes.specs.Trees.{Tree, WithTree, NoneTree, ThenTree, LoopTree, WhenTree}
+use Rattle.player_memory.specs.declared.conditions.TheConstants.{TIMED, SET_VOLUME, FUNK_TEMPO}
+use Rattle.player_memory.specs.declared.labels.TheConstants.{VARIABLES, FIRST_VARIABLE, VOLUME, FUNK_ONE}
 use Rattle.player_memory.specs.declared.labels.TheConstants.{ORDERS_LOW, ORDERS_HIGH}
 use Rattle.player_memory.specs.Rooms.{IsRoom, MayUse}
 use Rattle.player_memory.specs.Playing.{place_in}
@@ -21,7 +21,7 @@ use Rattle.init_code.specs.InitBlock.{MaySetTimer, IsOrderByte, HasOrders, IsAtS
 use Rattle.init_code.proofs.Going.{Goes, goes_on, then_goes, step, loaded, no_more}
 use Rattle.init_code.proofs.Clearing.{IsCleared, Stores, clear_tree, cleared}
 use Rattle.init_code.proofs.Taking.{IsTaken, takes, IsTimed, times}
-use Rattle.init_code.proofs.Variables.{IsHere, IsEntry, lda_number, ldx_number, sta_var}
+use Rattle.init_code.proofs.Variables.{IsHere, IsEntry, put_where, where_kept, lda_number, ldx_number, sta_var}
 use Rattle.init_code.proofs.Turns.{turned, turn_tree, HasAddress, voices}
 
 -- ---- all is cleared
@@ -113,42 +113,52 @@ entry_is layout rows start before past label number byte is found = record {
 
 -- ---- the block
 
-abbrev pub first_variables : Start → ℕ → ℕ
-first_variables start = put (put (λ label. 0) VOLUME 15) FUNK_ONE start.funk
+abbrev pub first_variables : (ℕ → Bool) → Start → ℕ → ℕ
+first_variables holds start =
+    put_where (holds FUNK_TEMPO) (put_where (holds SET_VOLUME) (λ label. 0) VOLUME 15) FUNK_ONE start.funk
 
-abbrev pub last_variables : Start → (ℕ → ℕ) → ℕ → ℕ
-last_variables start address =
-    turned 14 (address 2) start.tempo (turned 7 (address 1) start.tempo (turned 0 (address 0) start.tempo
-    (first_variables start)))
+abbrev pub last_variables : (ℕ → Bool) → Start → (ℕ → ℕ) → ℕ → ℕ
+last_variables holds start address =
+    turned holds 14 (address 2) start.tempo (turned holds 7 (address 1) start.tempo
+    (turned holds 0 (address 0) start.tempo (first_variables holds start)))
 
 -- what the desk is at the end
 pub record IsBegun (layout : Layout) (start : Start) (address : ℕ → ℕ) (before after : Desk) : Type 0 where
   pub past : ℕ → ℕ
   pub y : ℕ
-  pub here : IsHere layout past (last_variables start address) 21 21 y after
+  pub here : IsHere layout past (last_variables layout.holds start address) 21 21 y after
   pub is_past : IsPast layout start before.at past
+
+abbrev set_tree : ℕ → ℕ → Tree
+set_tree number label = ThenTree (WithTree Lda (Number number)) (ThenTree (WithTree Sta (Var label)) NoneTree)
 
 abbrev started_tree : Start → Tree
 started_tree start =
-    ThenTree (WithTree Lda (Number 15)) (ThenTree (WithTree Sta (Var VOLUME))
-    (ThenTree (WithTree Lda (Number start.funk)) (ThenTree (WithTree Sta (Var FUNK_ONE))
-    (ThenTree (WithTree Ldx (Number 0)) (ThenTree (LoopTree 3 (turn_tree start.tempo)) NoneTree)))))
+    ThenTree (WhenTree SET_VOLUME (set_tree 15 VOLUME)) (ThenTree (WhenTree FUNK_TEMPO (set_tree start.funk FUNK_ONE))
+    (ThenTree (WithTree Ldx (Number 0)) (ThenTree (LoopTree 3 (turn_tree start.tempo)) NoneTree)))
 
 module _ (layout : Layout) (rows : ℕ) (room : IsRoom layout rows) (may : MayUse layout rows) where
+  -- a number is put under a label
+  sets : {past vars : ℕ → ℕ} {a x y : ℕ} {d : Desk} (number label : ℕ) → label < VARIABLES →
+      IsHere layout past vars a x y d →
+      Goes layout (set_tree number label) Done (IsHere layout past (put vars label number) number x y) d
+  sets number label few here =
+      lda_number here
+      (λ one loaded. sta_var layout rows room may few loaded (λ two stored. no_more layout _ two stored))
+
   started : (start : Start) (address past : ℕ → ℕ) (a x y : ℕ) (P : Desk → Type 0) (d : Desk) → y + 3 < 256 →
       ((voice : ℕ) → voice < 3 → HasAddress layout past (y + voice) (address voice)) →
       IsHere layout past (λ label. 0) a x y d →
-      ((m : Desk) → IsHere layout past (last_variables start address) 21 21 (y + 1 + 1 + 1) m → P m) →
+      ((m : Desk) → IsHere layout past (last_variables layout.holds start address) 21 21 (y + 1 + 1 + 1) m → P m) →
       Goes layout (started_tree start) Done P d
   started start address past a x y P d few has here follows =
-      lda_number here
-      (λ one fifteen. sta_var layout rows room may (omega arith) fifteen
-      (λ two volume. lda_number volume
-      (λ three number. sta_var layout rows room may (omega arith) number
-      (λ four funk. ldx_number funk
-      (λ five first. then_goes layout (LoopTree 3 (turn_tree start.tempo)) NoneTree Done P five
-      (voices layout rows room may past (first_variables start) start.funk y start.tempo address _ five few has first
-      (λ m last. no_more layout P m (follows m last))))))))
+      where_kept SET_VOLUME VOLUME 15 _ here (sets 15 VOLUME (omega arith) here)
+      (λ its one volume. where_kept FUNK_TEMPO FUNK_ONE start.funk _ volume
+      (sets start.funk FUNK_ONE (omega arith) volume)
+      (λ same two funk. ldx_number funk
+      (λ three first. then_goes layout (LoopTree 3 (turn_tree start.tempo)) NoneTree Done P three
+      (voices layout rows room may past (first_variables layout.holds start) same y start.tempo address _ three few has
+      first (λ m last. no_more layout P m (follows m last))))))
 
   -- the variables are cleared
   here_is : (y : ℕ) (middle after : Desk) →

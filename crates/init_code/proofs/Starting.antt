@@ -1,11 +1,13 @@
 -- The whole block, in memory.
 use Rattle.std.proofs.Common.{◌≡◌, ◌⊎◌, ℕ, zero, suc, ◌+◌, ◌*◌, ◌<◌, ◌≤◌}
-use Rattle.std.proofs.Common.{◌&&◌, Bool, true, nat_lt, List, [], ◌∷◌}
+use Rattle.std.proofs.Common.{◌&&◌, Bool, true, nat_lt, List, [], ◌∷◌, if◌then◌else◌}
 use Rattle.std.proofs.Common.{inl, inr, refl, ◌∙◌, arith}
 use Rattle.std.proofs.lemmas.Bool.{and_parts, ltb-true}
 use Rattle.scopes.specs.Desk.{Desk, Layout}
 use Rattle.scopes.specs.Meaning.{Done, each_one, ran}
+use Rattle.player_memory.specs.declared.conditions.TheConstants.{INSTRUMENT_VIBRATO, SET_VOLUME, FUNK_TEMPO}
 use Rattle.player_memory.specs.declared.labels.TheConstants.{VARIABLES, SLIDES_LOW, SLIDES_HIGH}
+use Rattle.player_memory.specs.declared.variables.Kept.{Kept}
 use Rattle.player_memory.specs.declared.variables.VoiceByte.{VoiceByte}
 use Rattle.player_memory.specs.declared.variables.TheConstants.{VOICE_BYTES, SONG_BYTES}
 use Rattle.player_memory.specs.Rooms.{IsRoom, IsList}
@@ -20,7 +22,7 @@ use Rattle.init_code.proofs.Beginning.{IsBegun, last_variables, block_begins}
 
 -- ---- a voice's bytes, from the variables
 
-abbrev voice_below : List (ℕ × VoiceByte) → Bool
+abbrev voice_below : List (ℕ × VoiceByte × Kept) → Bool
 voice_below [] = true
 voice_below (row ∷ rows) = nat_lt row.0 99 && voice_below rows
 
@@ -28,14 +30,14 @@ abbrev song_below : List ℕ → Bool
 song_below [] = true
 song_below (label ∷ labels) = nat_lt label 99 && song_below labels
 
-rows_begin : (rows : List (ℕ × VoiceByte)) (tempo : ℕ) (own vars : ℕ → ℕ) →
+rows_begin : (holds : ℕ → Bool) (rows : List (ℕ × VoiceByte × Kept)) (tempo : ℕ) (own vars : ℕ → ℕ) →
     ((label : ℕ) → label < 99 → own label ≡ vars label) → voice_below rows ≡ true →
-    VoiceRowsBegin rows tempo vars → VoiceRowsBegin rows tempo own
-rows_begin [] tempo own vars same few begins = tt
-rows_begin (row ∷ rows) tempo own vars same few begins =
+    VoiceRowsBegin holds rows tempo vars → VoiceRowsBegin holds rows tempo own
+rows_begin holds [] tempo own vars same few begins = tt
+rows_begin holds (row ∷ rows) tempo own vars same few begins =
     let parts = and_parts (nat_lt row.0 99) (voice_below rows) few in (
-      same row.0 (ltb-true row.0 99 parts.0) ∙ begins.0,
-      rows_begin rows tempo own vars same parts.1 begins.1,
+      λ on. same row.0 (ltb-true row.0 99 parts.0) ∙ begins.0 on,
+      rows_begin holds rows tempo own vars same parts.1 begins.1,
     )
 
 song_begins : (labels : List ℕ) (address : ℕ) (own vars : ℕ → ℕ) →
@@ -48,39 +50,54 @@ song_begins (label ∷ labels) address own vars same few begins =
       song_begins labels address own vars same parts.1 begins.1,
     )
 
-voice_begins : (tempo address : ℕ) (own vars : ℕ → ℕ) → ((label : ℕ) → label < 99 → own label ≡ vars label) →
-    VoiceBegins tempo address vars → VoiceBegins tempo address own
-voice_begins tempo address own vars same begins = record {
-  state = rows_begin VOICE_BYTES tempo own vars same refl begins.state;
+voice_begins : (holds : ℕ → Bool) (tempo address : ℕ) (own vars : ℕ → ℕ) →
+    ((label : ℕ) → label < 99 → own label ≡ vars label) → VoiceBegins holds tempo address vars →
+    VoiceBegins holds tempo address own
+voice_begins holds tempo address own vars same begins = record {
+  state = rows_begin holds VOICE_BYTES tempo own vars same refl begins.state;
   song = song_begins SONG_BYTES address own vars same refl begins.song;
 }
 
-each_voice : (start : Start) (address : ℕ → ℕ) (voice : ℕ) → voice < 3 →
-    VoiceBegins start.tempo (address voice) (λ label. last_variables start address (label + 7 * voice))
-each_voice start address zero few = record { state = assumption; song = assumption }
-each_voice start address (suc zero) few = record { state = assumption; song = assumption }
-each_voice start address (suc (suc zero)) few = record { state = assumption; song = assumption }
-each_voice start address (suc (suc (suc more))) never = absurd (omega (arith, never))
+-- a number where a condition holds
+where_on : (holds : Bool) (number other : ℕ) → holds ≡ true → (if holds then number else other) ≡ number
+where_on holds number other on = rw on refl
+
+each_voice : (holds : ℕ → Bool) (start : Start) (address : ℕ → ℕ) (voice : ℕ) → voice < 3 →
+    VoiceBegins holds start.tempo (address voice) (λ label. last_variables holds start address (label + 7 * voice))
+each_voice holds start address zero few =
+    let delay = where_on (holds INSTRUMENT_VIBRATO) 255 0 in record { state = assumption delay; song = assumption }
+each_voice holds start address (suc zero) few =
+    let delay = where_on (holds INSTRUMENT_VIBRATO) 255 0 in record { state = assumption delay; song = assumption }
+each_voice holds start address (suc (suc zero)) few =
+    let delay = where_on (holds INSTRUMENT_VIBRATO) 255 0 in record { state = assumption delay; song = assumption }
+each_voice holds start address (suc (suc (suc more))) never = absurd (omega (arith, never))
 
 begins : (layout : Layout) (start : Start) (address at : ℕ → ℕ) →
-    ((label : ℕ) → label < VARIABLES → at (layout.address label) ≡ last_variables start address label) →
+    ((label : ℕ) → label < VARIABLES → at (layout.address label) ≡ last_variables layout.holds start address label) →
     Begins layout start.tempo start.funk address at
 begins layout start address at each = record {
   voices = λ voice few.
-      voice_begins start.tempo (address voice) (own_at layout at voice)
-      (λ label. last_variables start address (label + 7 * voice))
-      (λ label below. each (label + 7 * voice) (omega (arith, few, below))) (each_voice start address voice few);
+      voice_begins layout.holds start.tempo (address voice) (own_at layout at voice)
+      (λ label. last_variables layout.holds start address (label + 7 * voice))
+      (λ label below. each (label + 7 * voice) (omega (arith, few, below)))
+      (each_voice layout.holds start address voice few);
   common = (
-    each 90 (omega arith),
+    λ on. each 90 (omega arith),
     (
-      each 97 (omega arith),
+      λ on. each 97 (omega arith),
       (
-        each 104 (omega arith),
+        λ on. each 104 (omega arith),
         (
-          each 105 (omega arith),
+          λ on. each 105 (omega arith),
           (
-            each 106 (omega arith),
-            (each 107 (omega arith), (each 111 (omega arith), (each 112 (omega arith), tt))),
+            λ on. each 106 (omega arith),
+            (
+              λ on. each 107 (omega arith) ∙ where_on (layout.holds SET_VOLUME) 15 0 on,
+              (
+                λ on. each 111 (omega arith) ∙ where_on (layout.holds FUNK_TEMPO) start.funk 0 on,
+                (λ on. each 112 (omega arith) ∙ where_on (layout.holds FUNK_TEMPO) start.tempo _ on, tt),
+              ),
+            ),
           ),
         ),
       ),

@@ -1,5 +1,5 @@
 -- What the three turns of the voices leave in the variables.
-use Rattle.std.proofs.Common.{◌≡◌, ℕ, ◌+◌, ◌/◌, ◌%◌, ◌<◌, ◌≤◌, nat_eq, refl, subst, arith}
+use Rattle.std.proofs.Common.{◌≡◌, ℕ, ◌+◌, ◌/◌, ◌%◌, ◌<◌, ◌≤◌, Bool, nat_eq, refl, subst, arith}
 use Rattle.cpu6502.specs.declared.mnemonic.Mnemonic.TheVariants.{Lda, Sta, Inc, Dec, Iny}
 use Rattle.code_runs.specs.Runs.{put}
 use Rattle.scopes.specs.declared.line.Flag.TheVariants.{Zero}
@@ -7,29 +7,33 @@ use Rattle.scopes.specs.declared.line.Operand.TheVariants.{Number, Var, Own, Ent
 use Rattle.scopes.specs.declared.line.Test.TheVariants.{Off}
 use Rattle.scopes.specs.Desk.{Desk, Layout}
 use Rattle.scopes.specs.Meaning.{Outcome, Done, Again}
-use Rattle.scopes.specs.Trees.{Tree, DoTree, WithTree, NoneTree, ThenTree, LoopTree, AgainIfTree}
+use Rattle.scopes.specs.Trees.{Tree, DoTree, WithTree, NoneTree, ThenTree, LoopTree, AgainIfTree, WhenTree}
+use Rattle.player_memory.specs.declared.conditions.TheConstants.{INSTRUMENT_VIBRATO, FUNK_TEMPO}
 use Rattle.player_memory.specs.declared.labels.TheConstants.{ORDERS_LOW, ORDERS_HIGH, ORDER_LOW, ORDER_HIGH, TICK}
 use Rattle.player_memory.specs.declared.labels.TheConstants.{INSTRUMENT, VIB_DELAY, GATE, TEMPO, FUNK_TWO}
 use Rattle.player_memory.specs.Rooms.{IsRoom, MayUse}
-use Rattle.init_code.proofs.Going.{Goes, turn_more, turn_last, again, no_turn}
+use Rattle.init_code.proofs.Going.{Goes, no_more, turn_more, turn_last, again, no_turn}
 use Rattle.init_code.proofs.Variables.{IsHere, IsEntry, lda_number, iny, sta_var, sta_own, inc_own, dec_own, lda_entry}
-use Rattle.init_code.proofs.Variables.{next_tree, next_voice}
+use Rattle.init_code.proofs.Variables.{put_where, where_kept, next_tree, next_voice}
 
 -- ---- one turn
 
--- a byte that is counted up, and down
+-- a byte that is counted up; and down, where a condition holds
 abbrev risen : ℕ → (ℕ → ℕ) → ℕ → ℕ
 risen label vars = put vars label ((vars label + 1) % 256)
 
-abbrev fallen : ℕ → (ℕ → ℕ) → ℕ → ℕ
-fallen label vars = put vars label ((vars label + 255) % 256)
+abbrev fallen : Bool → ℕ → (ℕ → ℕ) → ℕ → ℕ
+fallen holds label vars = put_where holds vars label ((vars label + 255) % 256)
 
--- the voice at X has the orderlist at this address, and begins
-abbrev pub turned : ℕ → ℕ → ℕ → (ℕ → ℕ) → ℕ → ℕ
-turned x address tempo vars =
-    put (put (put (fallen (VIB_DELAY + x) (risen (INSTRUMENT + x) (risen (TICK + x)
-    (put (put vars (ORDER_LOW + x) (address % 256)) (ORDER_HIGH + x) (address / 256))))) (GATE + x) 0xFE)
-    (TEMPO + x) tempo) FUNK_TWO tempo
+-- a voice at X that has its orderlist begins; and it has that at this address
+abbrev ready : (ℕ → Bool) → ℕ → ℕ → (ℕ → ℕ) → ℕ → ℕ
+ready holds x tempo vars =
+    put_where (holds FUNK_TEMPO) (put (put (fallen (holds INSTRUMENT_VIBRATO) (VIB_DELAY + x)
+    (risen (INSTRUMENT + x) (risen (TICK + x) vars))) (GATE + x) 0xFE) (TEMPO + x) tempo) FUNK_TWO tempo
+
+abbrev pub turned : (ℕ → Bool) → ℕ → ℕ → ℕ → (ℕ → ℕ) → ℕ → ℕ
+turned holds x address tempo vars =
+    ready holds x tempo (put (put vars (ORDER_LOW + x) (address % 256)) (ORDER_HIGH + x) (address / 256))
 
 abbrev last_tree : Tree
 last_tree = ThenTree (AgainIfTree (Off Zero)) NoneTree
@@ -37,8 +41,10 @@ last_tree = ThenTree (AgainIfTree (Off Zero)) NoneTree
 abbrev begun_tree : ℕ → Tree
 begun_tree tempo =
     ThenTree (WithTree Inc (Own TICK)) (ThenTree (WithTree Inc (Own INSTRUMENT))
-    (ThenTree (WithTree Dec (Own VIB_DELAY)) (ThenTree (WithTree Lda (Number 0xFE)) (ThenTree (WithTree Sta (Own GATE))
-    (ThenTree (WithTree Lda (Number tempo)) (ThenTree (WithTree Sta (Own TEMPO)) (ThenTree (WithTree Sta (Var FUNK_TWO))
+    (ThenTree (WhenTree INSTRUMENT_VIBRATO (ThenTree (WithTree Dec (Own VIB_DELAY)) NoneTree))
+    (ThenTree (WithTree Lda (Number 0xFE)) (ThenTree (WithTree Sta (Own GATE))
+    (ThenTree (WithTree Lda (Number tempo)) (ThenTree (WithTree Sta (Own TEMPO))
+    (ThenTree (WhenTree FUNK_TEMPO (ThenTree (WithTree Sta (Var FUNK_TWO)) NoneTree))
     (ThenTree (DoTree Iny) (next_tree last_tree)))))))))
 
 abbrev pub turn_tree : ℕ → Tree
@@ -59,27 +65,28 @@ module _ (layout : Layout) (rows : ℕ) (room : IsRoom layout rows) (may : MayUs
   begun : (past vars : ℕ → ℕ) (a x y tempo : ℕ) (end : Outcome) (P : Desk → Type 0) (d : Desk) → x ≤ 14 →
       y + 1 < 256 → IsHere layout past vars a x y d →
       ((m : Desk) → m.cpu.z ≡ nat_eq ((x + 7 + 235) % 256) 0 →
-      IsHere layout past (put (put (put (fallen (VIB_DELAY + x) (risen (INSTRUMENT + x) (risen (TICK + x) vars)))
-      (GATE + x) 0xFE) (TEMPO + x) tempo) FUNK_TWO tempo) (x + 7) (x + 7) (y + 1) m →
+      IsHere layout past (ready layout.holds x tempo vars) (x + 7) (x + 7) (y + 1) m →
       Goes layout last_tree end P m) → Goes layout (begun_tree tempo) end P d
   begun past vars a x y tempo end P d few byte here follows =
       inc_own layout rows room may (omega (arith, few)) here
       (λ one tick. inc_own layout rows room may (omega (arith, few)) tick
-      (λ two instrument. dec_own layout rows room may (omega (arith, few)) instrument
-      (λ three delay. lda_number delay
+      (λ two instrument. where_kept INSTRUMENT_VIBRATO (VIB_DELAY + x) _ _ instrument
+      (dec_own layout rows room may (omega (arith, few)) instrument (λ m delay. no_more layout _ m delay))
+      (λ its three delay. lda_number delay
       (λ four mask. sta_own layout rows room may (omega (arith, few)) mask
       (λ five gate. lda_number gate
       (λ six number. sta_own layout rows room may (omega (arith, few)) number
-      (λ seven own. sta_var layout rows room may (omega arith) own
-      (λ eight funk. iny byte funk
+      (λ seven own. where_kept FUNK_TEMPO FUNK_TWO tempo _ own
+      (sta_var layout rows room may (omega arith) own (λ m funk. no_more layout _ m funk))
+      (λ same eight funk. iny byte funk
       (λ nine here_then. next_voice layout past _ _ x (y + 1) last_tree end P nine (omega (arith, few)) here_then
       follows)))))))))
 
   turn : (past vars : ℕ → ℕ) (a x y address tempo : ℕ) (end : Outcome) (P : Desk → Type 0) (d : Desk) → x ≤ 14 →
       y + 1 < 256 → HasAddress layout past y address → IsHere layout past vars a x y d →
       ((m : Desk) → m.cpu.z ≡ nat_eq ((x + 7 + 235) % 256) 0 →
-      IsHere layout past (turned x address tempo vars) (x + 7) (x + 7) (y + 1) m → Goes layout last_tree end P m) →
-      Goes layout (turn_tree tempo) end P d
+      IsHere layout past (turned layout.holds x address tempo vars) (x + 7) (x + 7) (y + 1) m →
+      Goes layout last_tree end P m) → Goes layout (turn_tree tempo) end P d
   turn past vars a x y address tempo end P d few byte has here follows =
       lda_entry has.low here
       (λ one low. sta_own layout rows room may (omega (arith, few)) low
@@ -93,8 +100,9 @@ module _ (layout : Layout) (rows : ℕ) (room : IsRoom layout rows) (may : MayUs
       y + 3 < 256 → ((voice : ℕ) → voice < 3 → HasAddress layout past (y + voice) (address voice)) →
       IsHere layout past vars a 0 y d →
       ((m : Desk) → IsHere layout past
-      (turned 14 (address 2) tempo (turned 7 (address 1) tempo (turned 0 (address 0) tempo vars))) 21 21
-      (y + 1 + 1 + 1) m → P m) → Goes layout (LoopTree 3 (turn_tree tempo)) Done P d
+      (turned layout.holds 14 (address 2) tempo (turned layout.holds 7 (address 1) tempo
+      (turned layout.holds 0 (address 0) tempo vars))) 21 21 (y + 1 + 1 + 1) m → P m) →
+      Goes layout (LoopTree 3 (turn_tree tempo)) Done P d
   voices past vars a y tempo address P d few has here follows =
       turn_more layout 2 (turn_tree tempo) P d
       (turn past vars a 0 y (address 0) tempo Again _ d (omega arith) (omega (arith, few))

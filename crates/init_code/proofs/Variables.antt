@@ -1,5 +1,5 @@
 -- The variables and the registers on the way, once all are cleared; instruction by instruction.
-use Rattle.std.proofs.Common.{◌≡◌, ◌≢◌, ℕ, ◌+◌, ◌%◌, ◌<◌, Bool, true, false, nat_eq, inl, inr}
+use Rattle.std.proofs.Common.{◌≡◌, ◌≢◌, ℕ, ◌+◌, ◌%◌, ◌<◌, Bool, true, false, nat_eq, inl, inr, if◌then◌else◌}
 use Rattle.std.proofs.Common.{refl, sym, ap, ◌∙◌, arith}
 use Rattle.std.proofs.lemmas.Bool.{eqb-true, eqb-false}
 use Rattle.cpu6502.specs.declared.memory.TheConstants.{MEMORY_SIZE}
@@ -12,12 +12,12 @@ use Rattle.code_runs.specs.Runs.{put}
 use Rattle.code_runs.proofs.Laws.{put_same, put_other}
 use Rattle.scopes.specs.declared.line.Operand.TheVariants.{Number, Var, Own, Entry}
 use Rattle.scopes.specs.Desk.{Desk, Layout}
-use Rattle.scopes.specs.Meaning.{Outcome}
-use Rattle.scopes.specs.Trees.{Tree, DoTree, WithTree, ThenTree}
+use Rattle.scopes.specs.Meaning.{Outcome, Done}
+use Rattle.scopes.specs.Trees.{Tree, DoTree, WithTree, ThenTree, WhenTree}
 use Rattle.player_memory.specs.declared.labels.TheConstants.{VARIABLES}
 use Rattle.player_memory.specs.Rooms.{IsRoom, MayUse}
 use Rattle.player_memory.specs.Playing.{place_in}
-use Rattle.init_code.proofs.Going.{Goes, loaded, stored, step, step_alone}
+use Rattle.init_code.proofs.Going.{Goes, goes_on, then_goes, loaded, stored, step, step_alone, kept, not_kept}
 use Rattle.init_code.proofs.Clearing.{IsOutOf}
 
 -- the registers, the variables by their labels, and what stands elsewhere
@@ -71,6 +71,56 @@ iny {layout = layout} {y = y} {rest = rest} {end = end} {P = P} {d = d} few here
     (follows _ (moved (with_y d.cpu ((d.cpu.y + 1) % 256)) here here.a_is here.x_is
     (let is = here.y_is in omega (arith, is, few)) here.decimal))
 
+-- ---- where a condition holds
+
+-- a byte is put under a label where it does, and else the one that it has
+abbrev pub put_where : Bool → (ℕ → ℕ) → ℕ → ℕ → ℕ → ℕ
+put_where holds vars label byte = put vars label (if holds then byte else vars label)
+
+same_put : (vars : ℕ → ℕ) (label other : ℕ) → put vars label (vars label) other ≡ vars other
+same_put vars label other = by_case (nat_eq other label) refl
+  where
+    by_case : (z : Bool) → nat_eq other label ≡ z → put vars label (vars label) other ≡ vars other
+    by_case true e =
+        let same = eqb-true other label e in rw same (put_same vars label (vars label))
+    by_case false e = put_other vars label (vars label) other (eqb-false other label e)
+
+put_here : {layout : Layout} {past : ℕ → ℕ} {a x y : ℕ} {d : Desk} (holds : Bool) (vars : ℕ → ℕ) (label byte : ℕ) →
+    holds ≡ true → IsHere layout past (put vars label byte) a x y d →
+    IsHere layout past (put_where holds vars label byte) a x y d
+put_here holds vars label byte on here = rw on here
+
+not_put : {layout : Layout} {past vars : ℕ → ℕ} {a x y : ℕ} {d : Desk} (holds : Bool) (label byte : ℕ) →
+    holds ≡ false → IsHere layout past vars a x y d → IsHere layout past (put_where holds vars label byte) a x y d
+not_put {vars = vars} holds label byte off here = record {
+  a_is = here.a_is;
+  x_is = here.x_is;
+  y_is = here.y_is;
+  decimal = here.decimal;
+  variables = λ other few. rw off (here.variables other few ∙ sym (same_put vars label other));
+  others = here.others;
+}
+
+-- Lines that put a byte under a label, and stand under a condition, put it where that holds. A may be another behind
+-- them.
+pub where_kept : {layout : Layout} {past vars : ℕ → ℕ} {a a_then x y : ℕ} {rest : Tree} {end : Outcome}
+    {P : Desk → Type 0} {d : Desk} (condition label byte : ℕ) (body : Tree) → IsHere layout past vars a x y d →
+    Goes layout body Done (IsHere layout past (put vars label byte) a_then x y) d →
+    ((its : ℕ) → Onward layout past (put_where (layout.holds condition) vars label byte) its x y rest end P) →
+    Goes layout (ThenTree (WhenTree condition body) rest) end P d
+where_kept {layout = layout} {vars = vars} {a = a} {a_then = a_then} {rest = rest} {end = end} {P = P} {d = d}
+    condition label byte body here goes follows =
+    then_goes layout (WhenTree condition body) rest end P d (by_case (layout.holds condition) refl)
+  where
+    by_case : (z : Bool) → layout.holds condition ≡ z →
+        Goes layout (WhenTree condition body) Done (Goes layout rest end P) d
+    by_case true on =
+        kept layout condition body Done _ d on
+        (goes_on layout body Done _ _ d
+        (λ m stored. follows a_then m (put_here (layout.holds condition) vars label byte on stored)) goes)
+    by_case false off =
+        not_kept layout condition body _ d off (follows a d (not_put (layout.holds condition) label byte off here))
+
 -- ---- variables
 
 -- behind a byte that is counted
@@ -108,11 +158,11 @@ module _ (layout : Layout) (rows : ℕ) (room : IsRoom layout rows) (may : MayUs
   written : {past vars : ℕ → ℕ} {a x y : ℕ} {d : Desk} (cpu : Cpu) (label byte its : ℕ) → label < VARIABLES →
       byte ≡ its → IsHere layout past vars a x y d → IsHere layout past vars a x y (record d { cpu = cpu }) →
       IsHere layout past (put vars label its) a x y (record { cpu = cpu; at = put d.at (layout.address label) byte })
-  written {vars = vars} {d = d} cpu label byte its few is here then = record {
-    a_is = then.a_is;
-    x_is = then.x_is;
-    y_is = then.y_is;
-    decimal = then.decimal;
+  written {vars = vars} {d = d} cpu label byte its few is here after = record {
+    a_is = after.a_is;
+    x_is = after.x_is;
+    y_is = after.y_is;
+    decimal = after.decimal;
     variables = put_variables d.at vars label byte its few is here.variables;
     others = λ place out.
         put_other d.at (layout.address label) byte place (out_of label place few out) ∙ here.others place out;

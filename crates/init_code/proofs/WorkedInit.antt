@@ -1,25 +1,43 @@
 -- The code that begins a subtune, run; what the law on it asks; and what it refuses.
-use Rattle.std.proofs.Common.{◌≡◌, ℕ, ◌+◌, ◌*◌, ◌/◌, ◌<◌, ◌≤◌}
+use Rattle.std.proofs.Common.{◌≡◌, ◌≢◌, ℕ, zero, suc, ◌+◌, ◌*◌, ◌/◌, ◌<◌, ◌≤◌}
 use Rattle.std.proofs.Common.{◌∙◌, ◌&&◌, Bool, true, false, nat_eq, nat_le, nat_lt}
 use Rattle.std.proofs.Common.{◌⊎◌, refl, ap, inl, inr, arith}
 use Rattle.std.proofs.lemmas.Bool.{le-leb, lt-ltb, leb-true, ltb-true, eqb-true, and_parts, agree_below, agree_below_at}
 use Rattle.std.proofs.lemmas.Bool.{both_ways}
-use Rattle.scopes.specs.Meaning.{Outcome, Again}
-use Rattle.player_memory.specs.declared.labels.TheConstants.{ORDERS_LOW, ORDERS_HIGH}
+use Rattle.code_runs.specs.Runs.{put}
+use Rattle.code_runs.proofs.Laws.{put_other}
+use Rattle.scopes.specs.Meaning.{Ran, Outcome, Again}
+use Rattle.player_memory.specs.declared.labels.TheConstants.{ORDERS_LOW, ORDERS_HIGH, VIB_DELAY, VOLUME}
 use Rattle.player_memory.specs.Rooms.{IsRoom, MayUse, IsElsewhere}
-use Rattle.player_memory.specs.Playing.{place_in}
+use Rattle.player_memory.specs.Playing.{place_in, own_at}
+use Rattle.player_memory.specs.WorkedMemory.{everywhere, nowhere}
+use Rattle.player_memory.specs.Starting.{VoiceBegins}
 use Rattle.init_code.specs.InitBlock.{IsOrderByte, HasOrders, IsUntouched}
 use Rattle.init_code.specs.WorkedInit.{RunsAreWorked, SiteIsWorked, StartsAreWorked, site, its_address, its_memory}
-use Rattle.init_code.specs.WorkedInit.{called, numbers, at_timer, StartsSo, began}
+use Rattle.init_code.specs.WorkedInit.{untimed, called, numbers, at_timer, StartsSo, began, leaving}
 use Rattle.init_code.proofs.Starting.{init_block_starts}
 
 pub runs_are_worked : RunsAreWorked
 runs_are_worked = record {
-  first = record { ends = refl; variables = refl; registers = refl; timer_is = refl; slides = refl; cost_is = refl };
-  second = record { ends = refl; variables = refl; registers = refl; timer_is = refl; slides = refl; cost_is = refl };
+  first = record {
+    ends = refl;
+    variables_are = refl;
+    registers = refl;
+    timer_is = refl;
+    slides = refl;
+    cost_is = refl;
+  };
+  second = record {
+    ends = refl;
+    variables_are = refl;
+    registers = refl;
+    timer_is = refl;
+    slides = refl;
+    cost_is = refl;
+  };
   first_timed = record {
     ends = refl;
-    variables = refl;
+    variables_are = refl;
     registers = refl;
     timer_is = refl;
     slides = refl;
@@ -27,7 +45,15 @@ runs_are_worked = record {
   };
   second_timed = record {
     ends = refl;
-    variables = refl;
+    variables_are = refl;
+    registers = refl;
+    timer_is = refl;
+    slides = refl;
+    cost_is = refl;
+  };
+  bare = record {
+    ends = refl;
+    variables_are = refl;
     registers = refl;
     timer_is = refl;
     slides = refl;
@@ -40,12 +66,12 @@ runs_are_worked = record {
 
 -- ---- what the law asks
 
-room_is : (timed : Bool) → IsRoom (site timed) 4
-room_is timed = record {
+room_is : (holds : ℕ → Bool) → IsRoom (site holds) 4
+room_is holds = record {
   begins = omega arith;
   ends = omega arith;
-  variables = λ label few. eqb-true ((site timed).address label) (0x1006 + label)
-      (agree_below_at (λ l. nat_eq ((site timed).address l) (0x1006 + l)) (λ _. true) 113 label refl few);
+  variables = λ label few. eqb-true ((site holds).address label) (0x1006 + label)
+      (agree_below_at (λ l. nat_eq ((site holds).address l) (0x1006 + l)) (λ _. true) 113 label refl few);
   slides = λ kept. record {
     low = record { from = omega arith; to = omega arith; outside = inr (omega arith) };
     high = record { from = omega arith; to = omega arith; outside = inr (omega arith) };
@@ -55,25 +81,25 @@ room_is timed = record {
   pointer_high = omega arith;
 }
 
-uses_are : (timed : Bool) → MayUse (site timed) 4
-uses_are timed = record {
+uses_are : (holds : ℕ → Bool) → MayUse (site holds) 4
+uses_are holds = record {
   reads = λ label few.
-      agree_below_at (λ l. (site timed).may_read ((site timed).address l)) (λ _. true) 113 label refl few;
+      agree_below_at (λ l. (site holds).may_read ((site holds).address l)) (λ _. true) 113 label refl few;
   writes = λ label few.
-      agree_below_at (λ l. (site timed).may_write ((site timed).address l)) (λ _. true) 113 label refl few;
+      agree_below_at (λ l. (site holds).may_write ((site holds).address l)) (λ _. true) 113 label refl few;
   slides = λ kept its few. record {
-    reads_low = agree_below_at (λ n. (site timed).may_read (0x1100 + n)) (λ _. true) 4 its refl few;
-    reads_high = agree_below_at (λ n. (site timed).may_read (0x1104 + n)) (λ _. true) 4 its refl few;
-    writes_low = agree_below_at (λ n. (site timed).may_write (0x1100 + n)) (λ _. true) 4 its refl few;
-    writes_high = agree_below_at (λ n. (site timed).may_write (0x1104 + n)) (λ _. true) 4 its refl few;
+    reads_low = agree_below_at (λ n. (site holds).may_read (0x1100 + n)) (λ _. true) 4 its refl few;
+    reads_high = agree_below_at (λ n. (site holds).may_read (0x1104 + n)) (λ _. true) 4 its refl few;
+    writes_low = agree_below_at (λ n. (site holds).may_write (0x1100 + n)) (λ _. true) 4 its refl few;
+    writes_high = agree_below_at (λ n. (site holds).may_write (0x1104 + n)) (λ _. true) 4 its refl few;
   };
   registers = λ register few.
-      agree_below_at (λ n. (site timed).may_write (0xD400 + n)) (λ _. true) 25 register refl (omega (arith, few));
+      agree_below_at (λ n. (site holds).may_write (0xD400 + n)) (λ _. true) 25 register refl (omega (arith, few));
 }
 
-elsewhere : (timed : Bool) (place : ℕ) → 0x1108 ≤ place → (place < 0xD400) ⊎ (0xD419 ≤ place) →
-    IsElsewhere (site timed) 4 place
-elsewhere timed place from registers = record {
+elsewhere : (holds : ℕ → Bool) (place : ℕ) → 0x1108 ≤ place → (place < 0xD400) ⊎ (0xD419 ≤ place) →
+    IsElsewhere (site holds) 4 place
+elsewhere holds place from registers = record {
   variables = inr (omega (arith, from));
   slides_low = λ kept. inr (omega (arith, from));
   slides_high = λ kept. inr (omega (arith, from));
@@ -85,12 +111,13 @@ elsewhere timed place from registers = record {
 -- the byte of a list by its number, and where it stands
 abbrev stands : ℕ → (ℕ → ℕ) → ℕ → Bool
 stands label byte number =
-    nat_eq (its_memory (place_in (site true) label number)) (byte number)
-    && (nat_le 0x1180 (place_in (site true) label number) && nat_lt (place_in (site true) label number) 0x1200)
+    nat_eq (its_memory (place_in (site everywhere) label number)) (byte number)
+    && (nat_le 0x1180 (place_in (site everywhere) label number)
+    && nat_lt (place_in (site everywhere) label number) 0x1200)
 
-found : (timed : Bool) (label : ℕ) (byte : ℕ → ℕ) → agree_below (stands label byte) (λ _. true) 6 ≡ true →
-    (number its : ℕ) → number < 6 → byte number ≡ its → IsOrderByte (site timed) 4 its_memory label number its
-found timed label byte all number its few is = record {
+found : (holds : ℕ → Bool) (label : ℕ) (byte : ℕ → ℕ) → agree_below (stands label byte) (λ _. true) 6 ≡ true →
+    (number its : ℕ) → number < 6 → byte number ≡ its → IsOrderByte (site holds) 4 its_memory label number its
+found holds label byte all number its few is = record {
   listed = record {
     elsewhere = away;
     reads = reads (le-leb 0x1000 place (omega (arith, from))) (lt-ltb place 0x1200 to);
@@ -100,7 +127,7 @@ found timed label byte all number its few is = record {
 }
   where
     place : ℕ
-    place = place_in (site timed) label number
+    place = place_in (site holds) label number
 
     parts : (nat_eq (its_memory place) (byte number) ≡ true)
         × ((nat_le 0x1180 place && nat_lt place 0x1200) ≡ true)
@@ -113,20 +140,20 @@ found timed label byte all number its few is = record {
     to : place < 0x1200
     to = ltb-true place 0x1200 (and_parts (nat_le 0x1180 place) (nat_lt place 0x1200) parts.1).1
 
-    away : IsElsewhere (site timed) 4 place
-    away = elsewhere timed place (omega (arith, from)) (inl (omega (arith, to)))
+    away : IsElsewhere (site holds) 4 place
+    away = elsewhere holds place (omega (arith, from)) (inl (omega (arith, to)))
 
-    reads : nat_le 0x1000 place ≡ true → nat_lt place 0x1200 ≡ true → (site timed).may_read place ≡ true
+    reads : nat_le 0x1000 place ≡ true → nat_lt place 0x1200 ≡ true → (site holds).may_read place ≡ true
     reads low high = rw (low, high) refl
 
-orders_are : (timed : Bool) (subtune : ℕ) → subtune < 2 →
-    HasOrders (site timed) 4 its_memory subtune (its_address subtune)
-orders_are timed subtune few = record {
+orders_are : (holds : ℕ → Bool) (subtune : ℕ) → subtune < 2 →
+    HasOrders (site holds) 4 its_memory subtune (its_address subtune)
+orders_are holds subtune few = record {
   low = λ voice less.
-      found timed ORDERS_LOW (λ number. 0x11 * number) refl (3 * subtune + voice) _ (omega (arith, few, less))
+      found holds ORDERS_LOW (λ number. 0x11 * number) refl (3 * subtune + voice) _ (omega (arith, few, less))
       (omega (arith, few, less));
   high = λ voice less.
-      found timed ORDERS_HIGH (λ number. 0x13 + number / 3) refl (3 * subtune + voice) _ (omega (arith, few, less))
+      found holds ORDERS_HIGH (λ number. 0x13 + number / 3) refl (3 * subtune + voice) _ (omega (arith, few, less))
       (omega (arith, few, less));
 }
 
@@ -135,13 +162,13 @@ between : {place low high : ℕ} → low ≤ place → place < high → ¬ ((pla
 between from to (inl below) = omega (arith, from, below)
 between from to (inr above) = omega (arith, to, above)
 
-timer_apart : (place : ℕ) → 0xD419 ≤ place → (place < 0xDC04) ⊎ (0xDC06 ≤ place) → IsUntouched (site true) 4 place
+timer_apart : (place : ℕ) → 0xD419 ≤ place → (place < 0xDC04) ⊎ (0xDC06 ≤ place) → IsUntouched (site everywhere) 4 place
 timer_apart place from out = record {
-  elsewhere = elsewhere true place (omega (arith, from)) (inr from);
+  elsewhere = elsewhere everywhere place (omega (arith, from)) (inr from);
   timer = λ set. out;
 }
 
-timer_elsewhere : IsElsewhere (at_timer false) 4 0xDC05
+timer_elsewhere : IsElsewhere (at_timer untimed) 4 0xDC05
 timer_elsewhere = record {
   variables = inr (omega arith);
   slides_low = λ kept. inr (omega arith);
@@ -155,7 +182,7 @@ pub site_is_worked : SiteIsWorked
 site_is_worked = record {
   room = room_is;
   uses = uses_are;
-  timer = λ timed. record { low = λ set. refl; high = λ set. refl };
+  timer = λ holds. record { low = λ set. refl; high = λ set. refl };
   orders = orders_are;
   at_subtune = record { a = refl; byte = omega arith; decimal = refl };
   low_alone = λ may. both_ways false refl (may.high refl);
@@ -187,23 +214,75 @@ abbrev is_again : Outcome → Bool
 is_again Again = true
 is_again _ = false
 
-started : (timed : Bool) → StartsSo timed (began timed 1)
-started timed =
-    init_block_starts (site timed) 4 1 numbers (its_address 1) (called 1 false) (room_is timed) (uses_are timed)
-    (record { low = λ set. refl; high = λ set. refl }) (orders_are timed 1 (omega arith))
+started : (holds : ℕ → Bool) → StartsSo holds (began holds 1)
+started holds =
+    init_block_starts (site holds) 4 1 numbers (its_address 1) (called 1 false) (room_is holds) (uses_are holds)
+    (record { low = λ set. refl; high = λ set. refl }) (orders_are holds 1 (omega arith))
     (record { a = refl; byte = omega arith; decimal = refl })
+
+-- the volume and a delay are other bytes
+abbrev two_others : Ran
+two_others = leaving (leaving (began nowhere 1) (0x1006 + VOLUME) 14) (0x1006 + VIB_DELAY + 7) 9
+
+apart_both : (at : ℕ → ℕ) (place : ℕ) → place ≢ 0x1006 + VOLUME → place ≢ 0x1006 + VIB_DELAY + 7 →
+    put (put at (0x1006 + VOLUME) 14) (0x1006 + VIB_DELAY + 7) 9 place ≡ at place
+apart_both at place volume delay =
+    put_other (put at (0x1006 + VOLUME) 14) (0x1006 + VIB_DELAY + 7) 9 place delay
+    ∙ put_other at (0x1006 + VOLUME) 14 place volume
+
+as_before : (place : ℕ) → (place < 0x1006) ⊎ (0x1077 ≤ place) →
+    two_others.desk.at place ≡ (began nowhere 1).desk.at place
+as_before place (inl below) =
+    apart_both (began nowhere 1).desk.at place (λ e. omega (arith, below, e)) (λ e. omega (arith, below, e))
+as_before place (inr above) =
+    apart_both (began nowhere 1).desk.at place (λ e. omega (arith, above, e)) (λ e. omega (arith, above, e))
+
+not_kept : (one two : ℕ) → false ≡ true → one ≡ two
+not_kept one two never = absurd (both_ways false refl never)
+
+bare_voice : (voice : ℕ) → voice < 3 →
+    VoiceBegins nowhere 5 (its_address 1 voice) (own_at (site nowhere) two_others.desk.at voice)
+bare_voice zero few = let none = not_kept 0 255 in record { state = assumption none; song = assumption }
+bare_voice (suc zero) few = let any = not_kept 9 255 in record { state = assumption any; song = assumption }
+bare_voice (suc (suc zero)) few = let none = not_kept 0 255 in record { state = assumption none; song = assumption }
+bare_voice (suc (suc (suc more))) never = absurd (omega (arith, never))
+
+bare_any : StartsSo nowhere two_others
+bare_any = record {
+  ends = refl;
+  decimal = refl;
+  begins = record {
+    voices = bare_voice;
+    common =
+        let volume = not_kept 14 15 in
+        let one = not_kept 0 8 in
+        let two = not_kept 0 5 in assumption (volume, one, two);
+    handed = assumption;
+  };
+  registers = λ register few.
+      as_before (0xD400 + register) (inr (omega arith)) ∙ (started nowhere).registers register few;
+  timer_low = refl;
+  timer_high = refl;
+  slides = λ kept. absurd (both_ways false refl kept);
+  others = λ place is. as_before place is.elsewhere.variables ∙ (started nowhere).others place is;
+}
 
 pub starts_are_worked : StartsAreWorked
 starts_are_worked = record {
-  timed = started true;
-  untimed = started false;
+  timed = started everywhere;
+  not_timed = started untimed;
   not_ended = λ starts. both_ways true (ap is_again starts.ends) refl;
   decimal = λ starts. both_ways true starts.decimal refl;
-  own = λ starts. (let byte = (starts.begins.voices 2 (omega arith)).state.0 in omega (arith, byte));
-  common = λ starts. (let byte = starts.begins.common.1.1.1.1.1.0 in omega (arith, byte));
+  own = λ starts. (let byte = (starts.begins.voices 2 (omega arith)).state.0 refl in omega (arith, byte));
+  common = λ starts. (let byte = starts.begins.common.1.1.1.1.1.0 refl in omega (arith, byte));
+  delay = λ starts.
+      (let byte = (starts.begins.voices 1 (omega arith)).state.1.1.1.1.1.1.1.1.1.1.1.1.0 refl in omega (arith, byte));
+  bare = started nowhere;
+  bare_any = bare_any;
+  bare_own = λ starts. (let byte = (starts.begins.voices 2 (omega arith)).state.0 refl in omega (arith, byte));
   other_subtune = λ starts. (let byte = (starts.begins.voices 0 (omega arith)).song.1.1.1.1.0 in omega (arith, byte));
-  other_tempo = λ starts. (let byte = starts.begins.common.1.1.1.1.1.1.1.0 in omega (arith, byte));
-  other_funk = λ starts. (let byte = starts.begins.common.1.1.1.1.1.1.0 in omega (arith, byte));
+  other_tempo = λ starts. (let byte = starts.begins.common.1.1.1.1.1.1.1.0 refl in omega (arith, byte));
+  other_funk = λ starts. (let byte = starts.begins.common.1.1.1.1.1.1.0 refl in omega (arith, byte));
   first_register = λ starts. (let byte = starts.registers 0 (omega arith) in omega (arith, byte));
   last_register = λ starts. (let byte = starts.registers 24 (omega arith) in omega (arith, byte));
   timer_low = λ starts. (let byte = starts.timer_low in omega (arith, byte));

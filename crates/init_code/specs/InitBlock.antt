@@ -43,9 +43,9 @@ pub record IsAtSubtune (subtune : ℕ) (desk : Desk) : Type 0 where
 
 -- ---- what it does
 
--- It has come to its end with all variables as the subtune begins, with these addresses of its three orderlists, and
--- with the registers 0. The timer has its two numbers where it is set, and what it had where it isn't. The slides, and
--- what the code leaves, are as before.
+-- It has come to its end with all variables as the subtune begins, those that hold something, with these addresses of
+-- its three orderlists, and with the registers 0. The timer has its two numbers where it is set, and what it had where
+-- it isn't. The slides, and what the code leaves, are as before.
 pub record Starts (layout : Layout) (rows : ℕ) (start : Start) (address : ℕ → ℕ) (before : Desk) (run : Ran)
     : Type 0 where
   pub ends : run.outcome ≡ Done

@@ -1,15 +1,15 @@
--- The code that begins a subtune, run by hand: the first subtune and the second, with the timer and without it; what
--- the law on it asks, met there; and what it refuses.
+-- The code that begins a subtune, run by hand: the first subtune and the second, with the timer and without it, and
+-- where no condition holds; what the law on it asks, met there; and what it refuses.
 use Rattle.std.specs.Prelude.{◌≡◌, ℕ, zero, suc, ◌+◌, ◌-◌, ◌*◌, ◌/◌, ◌<◌, ◌&&◌}
-use Rattle.std.specs.Prelude.{◌||◌, Bool, true, false, nat_eq}
+use Rattle.std.specs.Prelude.{◌||◌, Bool, true, false, not, nat_eq}
 use Rattle.std.specs.Prelude.{nat_le, nat_lt, if◌then◌else◌, List, [], ◌∷◌, ◌++◌, replicate}
 use Rattle.code_runs.specs.Runs.{put}
 use Rattle.scopes.specs.Desk.{Desk, Layout}
 use Rattle.scopes.specs.Meaning.{Outcome, Ran, Done, Again, Stuck, each_one, ran}
 use Rattle.player_memory.specs.declared.conditions.TheConstants.{TIMED}
-use Rattle.player_memory.specs.declared.labels.TheConstants.{ORDERS_LOW, ORDERS_HIGH, TICK, VOLUME}
+use Rattle.player_memory.specs.declared.labels.TheConstants.{ORDERS_LOW, ORDERS_HIGH, TICK, VIB_DELAY, VOLUME}
 use Rattle.player_memory.specs.Rooms.{IsRoom, MayUse}
-use Rattle.player_memory.specs.WorkedMemory.{at_1000}
+use Rattle.player_memory.specs.WorkedMemory.{at_1000, everywhere, nowhere}
 use Rattle.player_memory.specs.WorkedPlays.{its_desk}
 use Rattle.player_text.specs.declared.texts.Start.{Start}
 use Rattle.player_text.specs.Texts.{init_tree}
@@ -17,15 +17,19 @@ use Rattle.init_code.specs.InitBlock.{MaySetTimer, IsUntouched, IsOrderByte, Has
 
 -- ---- the site
 
--- the variables are at $1006, and the lists of two subtunes' orderlists at $1180 and $1190; the timer is set, or isn't
-abbrev pub site : Bool → Layout
-site timed = record at_1000 {
+-- the variables are at $1006, and the lists of two subtunes' orderlists at $1180 and $1190
+abbrev pub site : (ℕ → Bool) → Layout
+site holds = record at_1000 {
   address = λ label. if nat_eq label ORDERS_LOW then 0x1180
       else if nat_eq label ORDERS_HIGH then 0x1190
       else at_1000.address label;
-  holds = λ condition. at_1000.holds condition || timed && nat_eq condition TIMED;
+  holds = holds;
   may_write = λ place. at_1000.may_write place || nat_eq place 0xDC04 || nat_eq place 0xDC05;
 }
+
+-- all lines are kept but those that set the timer
+abbrev pub untimed : ℕ → Bool
+untimed condition = not (nat_eq condition TIMED)
 
 -- those of the first subtune are at $1300, $1311 and $1322, those of the second at $1433, $1444 and $1455
 abbrev pub its_address : ℕ → ℕ → ℕ
@@ -47,8 +51,8 @@ called subtune decimal = record {
 abbrev pub numbers : Start
 numbers = record { tempo = 5; funk = 8; timer_low = 0x25; timer_high = 0x40 }
 
-abbrev pub began : Bool → ℕ → Ran
-began timed subtune = ran each_one (site timed) (init_tree numbers) (called subtune false)
+abbrev pub began : (ℕ → Bool) → ℕ → Ran
+began holds subtune = ran each_one (site holds) (init_tree numbers) (called subtune false)
 
 -- ---- what it leaves
 
@@ -63,20 +67,27 @@ song low high = 0 ∷ 0 ∷ 0 ∷ 0 ∷ low ∷ high ∷ 0 ∷ []
 abbrev pub row : List ℕ
 row = 0 ∷ 0 ∷ 1 ∷ 0 ∷ 1 ∷ 0 ∷ 0 ∷ []
 
-abbrev pub sound : List ℕ
-sound = 255 ∷ 0 ∷ 0xFE ∷ 0 ∷ 0 ∷ 0 ∷ 0 ∷ []
+abbrev pub sound : ℕ → List ℕ
+sound delay = delay ∷ 0 ∷ 0xFE ∷ 0 ∷ 0 ∷ 0 ∷ 0 ∷ []
 
 abbrev pub tempo : List ℕ
 tempo = 0 ∷ 0 ∷ 0 ∷ 0 ∷ 0 ∷ 5 ∷ 0 ∷ []
 
-abbrev pub all_variables : List ℕ → List ℕ
-all_variables songs =
-    songs ++ (row ++ (row ++ (row ++ (replicate 21 0 ++ (sound ++ (sound ++ (sound ++ (tempo ++ (tempo ++ (tempo
-    ++ (0 ∷ 0 ∷ 15 ∷ 0 ∷ 0 ∷ 0 ∷ 8 ∷ 5 ∷ [])))))))))))
+abbrev pub variables_of : List ℕ → List ℕ → List ℕ → List ℕ
+variables_of sounds shared songs =
+    songs ++ (row ++ (row ++ (row ++ (replicate 21 0 ++ (sounds ++ (sounds ++ (sounds ++ (tempo ++ (tempo ++ (tempo
+    ++ shared))))))))))
 
-pub record IsBegun (run : Ran) (songs timer : List ℕ) (cost : ℕ) : Type 0 where
+-- where all lines are kept, and where none are: no delay is counted down, the volume isn't set, nor the funk tempos
+abbrev pub all_variables : List ℕ → List ℕ
+all_variables songs = variables_of (sound 255) (0 ∷ 0 ∷ 15 ∷ 0 ∷ 0 ∷ 0 ∷ 8 ∷ 5 ∷ []) songs
+
+abbrev pub bare_variables : List ℕ → List ℕ
+bare_variables songs = variables_of (sound 0) (replicate 8 0) songs
+
+pub record IsBegun (run : Ran) (variables timer : List ℕ) (cost : ℕ) : Type 0 where
   pub ends : run.outcome ≡ Done
-  pub variables : bytes run.desk.at 0x1006 113 ≡ all_variables songs
+  pub variables_are : bytes run.desk.at 0x1006 113 ≡ variables
   pub registers : bytes run.desk.at 0xD400 25 ≡ replicate 25 0
   pub timer_is : bytes run.desk.at 0xDC03 4 ≡ 0x77 ∷ (timer ++ (0x77 ∷ []))
   pub slides : bytes run.desk.at 0x1100 8 ≡ replicate 8 0x77
@@ -93,51 +104,52 @@ abbrev pub outcome_at : Layout → ℕ → Bool → Outcome
 outcome_at layout subtune decimal = (ran each_one layout (init_tree numbers) (called subtune decimal)).outcome
 
 pub record RunsAreWorked : Type 0 where
-  pub first : IsBegun (began false 0) first_songs (0x77 ∷ 0x77 ∷ []) 483
-  pub second : IsBegun (began false 1) second_songs (0x77 ∷ 0x77 ∷ []) 483
-  pub first_timed : IsBegun (began true 0) first_songs (0x25 ∷ 0x40 ∷ []) 487
-  pub second_timed : IsBegun (began true 1) second_songs (0x25 ∷ 0x40 ∷ []) 487
-  pub decimal : outcome_at (site false) 0 true ≡ Stuck
-  pub no_timer : outcome_at (record (site true) { may_write = at_1000.may_write }) 0 false ≡ Stuck
-  pub no_lists : outcome_at (record (site false) { may_read = λ place. nat_lt place 0x1180 }) 0 false ≡ Stuck
+  pub first : IsBegun (began untimed 0) (all_variables first_songs) (0x77 ∷ 0x77 ∷ []) 483
+  pub second : IsBegun (began untimed 1) (all_variables second_songs) (0x77 ∷ 0x77 ∷ []) 483
+  pub first_timed : IsBegun (began everywhere 0) (all_variables first_songs) (0x25 ∷ 0x40 ∷ []) 487
+  pub second_timed : IsBegun (began everywhere 1) (all_variables second_songs) (0x25 ∷ 0x40 ∷ []) 487
+  pub bare : IsBegun (began nowhere 1) (bare_variables second_songs) (0x77 ∷ 0x77 ∷ []) 473
+  pub decimal : outcome_at (site untimed) 0 true ≡ Stuck
+  pub no_timer : outcome_at (record (site everywhere) { may_write = at_1000.may_write }) 0 false ≡ Stuck
+  pub no_lists : outcome_at (record (site untimed) { may_read = λ place. nat_lt place 0x1180 }) 0 false ≡ Stuck
 
 -- ---- what the law asks is met there
 
 -- the lists of the low bytes stand at the timer
-abbrev pub at_timer : Bool → Layout
-at_timer timed = record (site timed) {
-  address = λ label. if nat_eq label ORDERS_LOW then 0xDC05 else (site timed).address label;
+abbrev pub at_timer : (ℕ → Bool) → Layout
+at_timer holds = record (site holds) {
+  address = λ label. if nat_eq label ORDERS_LOW then 0xDC05 else (site holds).address label;
   may_read = λ place. true;
 }
 
 abbrev pub timer_from : ℕ → Layout
-timer_from place = record (site true) { may_write = λ its. nat_eq its place }
+timer_from place = record (site everywhere) { may_write = λ its. nat_eq its place }
 
 pub record SiteIsWorked : Type 0 where
-  pub room : (timed : Bool) → IsRoom (site timed) 4
-  pub uses : (timed : Bool) → MayUse (site timed) 4
-  pub timer : (timed : Bool) → MaySetTimer (site timed)
-  pub orders : (timed : Bool) (subtune : ℕ) → subtune < 2 →
-      HasOrders (site timed) 4 its_memory subtune (its_address subtune)
+  pub room : (holds : ℕ → Bool) → IsRoom (site holds) 4
+  pub uses : (holds : ℕ → Bool) → MayUse (site holds) 4
+  pub timer : (holds : ℕ → Bool) → MaySetTimer (site holds)
+  pub orders : (holds : ℕ → Bool) (subtune : ℕ) → subtune < 2 →
+      HasOrders (site holds) 4 its_memory subtune (its_address subtune)
   pub at_subtune : IsAtSubtune 1 (called 1 false)
   -- one byte of the timer isn't enough; where it isn't set neither is needed
   pub low_alone : ¬ MaySetTimer (timer_from 0xDC04)
   pub high_alone : ¬ MaySetTimer (timer_from 0xDC05)
-  pub no_timer : MaySetTimer at_1000
+  pub no_timer : MaySetTimer (record at_1000 { holds = untimed })
   -- a subtune that isn't in the lists; another address; a byte that may not be read
-  pub third : ¬ HasOrders (site false) 4 its_memory 2 (its_address 2)
-  pub other_low : ¬ HasOrders (site false) 4 (put its_memory 0x1185 0x54) 1 (its_address 1)
-  pub other_high : ¬ HasOrders (site false) 4 (put its_memory 0x1193 0x13) 1 (its_address 1)
-  pub unread : ¬ HasOrders (record (site false) { may_read = λ place. nat_lt place 0x1190 }) 4 its_memory 0
+  pub third : ¬ HasOrders (site untimed) 4 its_memory 2 (its_address 2)
+  pub other_low : ¬ HasOrders (site untimed) 4 (put its_memory 0x1185 0x54) 1 (its_address 1)
+  pub other_high : ¬ HasOrders (site untimed) 4 (put its_memory 0x1193 0x13) 1 (its_address 1)
+  pub unread : ¬ HasOrders (record (site untimed) { may_read = λ place. nat_lt place 0x1190 }) 4 its_memory 0
       (its_address 0)
   -- a list at the timer, where that is set, and where it isn't
-  pub on_timer : ¬ IsOrderByte (at_timer true) 4 its_memory ORDERS_LOW 0 0x77
-  pub on_no_timer : IsOrderByte (at_timer false) 4 its_memory ORDERS_LOW 0 0x77
-  pub before_timer : IsUntouched (site true) 4 0xDC03
-  pub timer_low : ¬ IsUntouched (site true) 4 0xDC04
-  pub timer_high : ¬ IsUntouched (site true) 4 0xDC05
-  pub behind_timer : IsUntouched (site true) 4 0xDC06
-  pub variable : ¬ IsUntouched (site false) 4 0x1006
+  pub on_timer : ¬ IsOrderByte (at_timer everywhere) 4 its_memory ORDERS_LOW 0 0x77
+  pub on_no_timer : IsOrderByte (at_timer untimed) 4 its_memory ORDERS_LOW 0 0x77
+  pub before_timer : IsUntouched (site everywhere) 4 0xDC03
+  pub timer_low : ¬ IsUntouched (site everywhere) 4 0xDC04
+  pub timer_high : ¬ IsUntouched (site everywhere) 4 0xDC05
+  pub behind_timer : IsUntouched (site everywhere) 4 0xDC06
+  pub variable : ¬ IsUntouched (site untimed) 4 0x1006
   -- the number's byte, and the decimal flag
   pub other_a : ¬ IsAtSubtune 1 (called 0 false)
   pub last : IsAtSubtune 84 (called 84 false)
@@ -146,35 +158,40 @@ pub record SiteIsWorked : Type 0 where
 
 -- ---- what it may not leave
 
-abbrev pub StartsSo : Bool → Ran → Type 0
-StartsSo timed run = Starts (site timed) 4 numbers (its_address 1) (called 1 false) run
+abbrev pub StartsSo : (ℕ → Bool) → Ran → Type 0
+StartsSo holds run = Starts (site holds) 4 numbers (its_address 1) (called 1 false) run
 
 -- with another byte at a place
-abbrev pub leaving : Bool → ℕ → ℕ → Ran
-leaving timed place byte =
-    record (began timed 1) { desk = record (began timed 1).desk { at = put (began timed 1).desk.at place byte } }
+abbrev pub leaving : Ran → ℕ → ℕ → Ran
+leaving run place byte = record run { desk = record run.desk { at = put run.desk.at place byte } }
 
 abbrev pub in_decimal : Ran → Ran
 in_decimal run = record run { desk = record run.desk { cpu = record run.desk.cpu { d = true } } }
 
 pub record StartsAreWorked : Type 0 where
-  pub timed : StartsSo true (began true 1)
-  pub untimed : StartsSo false (began false 1)
-  pub not_ended : ¬ StartsSo true (record (began true 1) { outcome = Again })
-  pub decimal : ¬ StartsSo true (in_decimal (began true 1))
-  pub own : ¬ StartsSo true (leaving true (0x1006 + TICK + 14) 2)
-  pub common : ¬ StartsSo true (leaving true (0x1006 + VOLUME) 14)
-  pub other_subtune : ¬ StartsSo true (began true 0)
-  pub other_tempo : ¬ Starts (site true) 4 (record numbers { tempo = 6 }) (its_address 1) (called 1 false)
-      (began true 1)
-  pub other_funk : ¬ Starts (site true) 4 (record numbers { funk = 7 }) (its_address 1) (called 1 false) (began true 1)
-  pub first_register : ¬ StartsSo true (leaving true 0xD400 1)
-  pub last_register : ¬ StartsSo true (leaving true 0xD418 15)
+  pub timed : StartsSo everywhere (began everywhere 1)
+  pub not_timed : StartsSo untimed (began untimed 1)
+  pub not_ended : ¬ StartsSo everywhere (record (began everywhere 1) { outcome = Again })
+  pub decimal : ¬ StartsSo everywhere (in_decimal (began everywhere 1))
+  pub own : ¬ StartsSo everywhere (leaving (began everywhere 1) (0x1006 + TICK + 14) 2)
+  pub common : ¬ StartsSo everywhere (leaving (began everywhere 1) (0x1006 + VOLUME) 14)
+  pub delay : ¬ StartsSo everywhere (leaving (began everywhere 1) (0x1006 + VIB_DELAY + 7) 9)
+  -- where no lines are kept such bytes may be any, but not the others
+  pub bare : StartsSo nowhere (began nowhere 1)
+  pub bare_any : StartsSo nowhere (leaving (leaving (began nowhere 1) (0x1006 + VOLUME) 14) (0x1006 + VIB_DELAY + 7) 9)
+  pub bare_own : ¬ StartsSo nowhere (leaving (began nowhere 1) (0x1006 + TICK + 14) 2)
+  pub other_subtune : ¬ StartsSo everywhere (began everywhere 0)
+  pub other_tempo : ¬ Starts (site everywhere) 4 (record numbers { tempo = 6 }) (its_address 1) (called 1 false)
+      (began everywhere 1)
+  pub other_funk : ¬ Starts (site everywhere) 4 (record numbers { funk = 7 }) (its_address 1) (called 1 false)
+      (began everywhere 1)
+  pub first_register : ¬ StartsSo everywhere (leaving (began everywhere 1) 0xD400 1)
+  pub last_register : ¬ StartsSo everywhere (leaving (began everywhere 1) 0xD418 15)
   -- the timer, where it is set, and where it isn't
-  pub timer_low : ¬ StartsSo true (leaving true 0xDC04 0x77)
-  pub timer_high : ¬ StartsSo true (leaving true 0xDC05 0x77)
-  pub no_timer_low : ¬ StartsSo false (leaving false 0xDC04 0x25)
-  pub no_timer_high : ¬ StartsSo false (leaving false 0xDC05 0x40)
-  pub low_slide : ¬ StartsSo true (leaving true 0x1103 0)
-  pub high_slide : ¬ StartsSo true (leaving true 0x1107 0)
-  pub elsewhere : ¬ StartsSo true (leaving true 0x1005 0)
+  pub timer_low : ¬ StartsSo everywhere (leaving (began everywhere 1) 0xDC04 0x77)
+  pub timer_high : ¬ StartsSo everywhere (leaving (began everywhere 1) 0xDC05 0x77)
+  pub no_timer_low : ¬ StartsSo untimed (leaving (began untimed 1) 0xDC04 0x25)
+  pub no_timer_high : ¬ StartsSo untimed (leaving (began untimed 1) 0xDC05 0x40)
+  pub low_slide : ¬ StartsSo everywhere (leaving (began everywhere 1) 0x1103 0)
+  pub high_slide : ¬ StartsSo everywhere (leaving (began everywhere 1) 0x1107 0)
+  pub elsewhere : ¬ StartsSo everywhere (leaving (began everywhere 1) 0x1005 0)

@@ -124,17 +124,20 @@ plays_own layout rows voice s desk room uses three at playing lent keeps = recor
     m : VoiceDesk
     m = came.after
 
-    done : IsDone voice (with_own (lent_of layout desk) s) (none_lent (lent_of layout desk)) d m
-    done = back_done voice s (lent_of layout desk) d d m lent came.holds (begins layout voice desk s playing)
+    done : IsDone layout.holds voice (with_own (lent_of layout desk) s) (none_lent (lent_of layout desk)) d m
+    done =
+        back_done layout.holds voice s (lent_of layout desk) d d m lent came.holds (begins layout voice desk s playing)
 
 pub given_back_block_plays : GivenBackBlockPlays
 given_back_block_plays layout rows voice s desk room uses three at playing = record {
   lent = plays_own layout rows voice s desk room uses three at playing;
   none = λ none.
       plays layout rows voice given_back_tree desk s refl room uses three at
-      (leads_on true r given_back_tree (ends (Unchanged d)) (ends (IsDone voice s (lent_of layout desk) d)) d
+      (leads_on true r given_back_tree (ends (Unchanged d))
+      (ends (IsDone layout.holds voice s (lent_of layout desk) d)) d
       (record {
-        done = λ m left. none_done voice s (lent_of layout desk) d d m left (begins layout voice desk s playing);
+        done = λ m left. none_done layout.holds voice s (lent_of layout desk) d d m left
+            (begins layout voice desk s playing);
         left = λ name m never. never;
         again = λ m never. never;
       }) (none_leads r d none));

@@ -1,10 +1,10 @@
 -- What the code of a lent command leaves.
-use Rattle.std.proofs.Common.{◌≡◌, ◌≢◌, ℕ, ◌+◌, ◌*◌, true, refl, ap, ◌∙◌, arith}
+use Rattle.std.proofs.Common.{◌≡◌, ◌≢◌, ℕ, ◌+◌, ◌*◌, Bool, true, refl, ap, ◌∙◌, arith}
 use Rattle.std.proofs.lemmas.Bool.{eqb-true, eqb-false, both_ways}
 use Rattle.code_runs.specs.Runs.{put}
 use Rattle.code_runs.proofs.Laws.{put_other}
 use Rattle.play_model.specs.State.{Playing}
-use Rattle.player_memory.specs.declared.conditions.TheConstants.{WAVE_COMMAND}
+use Rattle.player_memory.specs.declared.conditions.TheConstants.{WAVE_COMMAND, EFFECTS}
 use Rattle.player_memory.specs.declared.labels.TheConstants.{COMMAND, PARAM, LENT, KEPT_COMMAND, KEPT_PARAM, TEMPO}
 use Rattle.player_desk.proofs.Laws.{VoiceDesk, Reader, Leads, ends, Lent, Done, done_over}
 use Rattle.pitch_code.specs.GivenBackBlock.{given_back_tree}
@@ -80,9 +80,10 @@ with_own handed s = record s { voice = record s.voice { command = handed.command
 abbrev pub none_lent : Lent → Lent
 none_lent handed = record handed { lent = 0 }
 
-pub back_done : (voice : ℕ) (s : Playing) (handed : Lent) (d m n : VoiceDesk) → handed.lent ≡ 1 → GivenBack m n →
-    Done voice s handed d m → Done voice (with_own handed s) (none_lent handed) d n
-back_done voice s handed d m n lent back done = record {
+pub back_done : (holds : ℕ → Bool) (voice : ℕ) (s : Playing) (handed : Lent) (d m n : VoiceDesk) →
+    handed.lent ≡ 1 → GivenBack m n → Done holds voice s handed d m →
+    Done holds voice (with_own handed s) (none_lent handed) d n
+back_done holds voice s handed d m n lent back done = record {
   fields = rw back.own_is (assumption (command, param, done.fields));
   common = rw back.shared_is (assumption done.common);
   tempos = λ its three other.
@@ -101,13 +102,14 @@ back_done voice s handed d m n lent back done = record {
     lends : handed.lent ≢ 0
     lends none = omega (arith, lent, none)
 
-    command : m.shared KEPT_COMMAND ≡ handed.command
-    command = done.lent.command lends
+    command : holds EFFECTS ≡ true → m.shared KEPT_COMMAND ≡ handed.command
+    command on = done.lent.command lends
 
-    param : m.shared KEPT_PARAM ≡ handed.param
-    param = done.lent.param lends
+    param : holds EFFECTS ≡ true → m.shared KEPT_PARAM ≡ handed.param
+    param on = done.lent.param lends
 
 -- where none is lent, the state stays
-pub none_done : (voice : ℕ) (s : Playing) (handed : Lent) (d m n : VoiceDesk) → Unchanged m n →
-    Done voice s handed d m → Done voice s handed d n
-none_done voice s handed d m n left done = done_over voice s handed d m n left.own_is left.shared_is left.sid done
+pub none_done : (holds : ℕ → Bool) (voice : ℕ) (s : Playing) (handed : Lent) (d m n : VoiceDesk) → Unchanged m n →
+    Done holds voice s handed d m → Done holds voice s handed d n
+none_done holds voice s handed d m n left done =
+    done_over holds voice s handed d m n left.own_is left.shared_is left.sid done

@@ -37,13 +37,14 @@ again lent =
 
 -- the voice's bytes by their names, with this command
 its_fields : (command param : ℕ) (at : ℕ → ℕ) → IsPlaying whole 1 (with_command command param beginning) at →
-    Fields (with_command command param beginning).voice 5 (own_at whole at 1)
+    Fields whole.holds (with_command command param beginning).voice 5 (own_at whole at 1)
 its_fields command param at plays =
-    fields_of (with_command command param beginning).voice 5 (own_at whole at 1) plays.own
+    fields_of whole.holds (with_command command param beginning).voice 5 (own_at whole at 1) plays.own
 
 -- those that it has behind the block, where one is lent
 its_own : (label byte : ℕ) → PlaysWith label byte →
-    Fields (with_command 3 7 beginning).voice 5 (own_at whole (left_with (0x1006 + label) byte (back_run 1)).desk.at 1)
+    Fields whole.holds (with_command 3 7 beginning).voice 5
+    (own_at whole (left_with (0x1006 + label) byte (back_run 1)).desk.at 1)
 its_own label byte p = its_fields 3 7 (left_with (0x1006 + label) byte (back_run 1)).desk.at (p.lent refl refl).plays
 
 pub voices_are_worked : VoicesAreWorked
@@ -59,15 +60,15 @@ voices_are_worked = record {
   kept = λ p.
       (let byte =
       (its_fields 1 9 (left_with (0x1006 + (COMMAND + 7)) 3 (back_run 0)).desk.at
-      (p.none refl).but_slides.plays).command in omega (arith, byte));
+      (p.none refl).but_slides.plays).command refl in omega (arith, byte));
   none_slide = λ p. (let byte = ((p.none refl).slides refl 3 (omega arith)).high in omega (arith, byte));
   stuck = λ p. true≢false (ap is_stuck (p.lent refl refl).ends);
   other_x = λ p. (let x = (p.lent refl refl).at_voice.x in omega (arith, x));
   decimal = λ p. true≢false (p.lent refl refl).at_voice.decimal;
-  command = λ p. (let byte = (its_own (COMMAND + 7) 1 p).command in omega (arith, byte));
-  param = λ p. (let byte = (its_own (PARAM + 7) 9 p).param in omega (arith, byte));
+  command = λ p. (let byte = (its_own (COMMAND + 7) 1 p).command refl in omega (arith, byte));
+  param = λ p. (let byte = (its_own (PARAM + 7) 9 p).param refl in omega (arith, byte));
   tick = λ p. (let byte = (its_own (TICK + 7) 2 p).tick in omega (arith, byte));
-  common = λ p. (let byte = (p.lent refl refl).plays.common.1.1.1.1.1.0 in omega (arith, byte));
+  common = λ p. (let byte = (p.lent refl refl).plays.common.1.1.1.1.1.0.0 refl in omega (arith, byte));
   lent = λ p. (let byte = (p.lent refl refl).lent in omega (arith, byte));
   song = λ p. (let byte = (p.lent refl refl).song.0 in omega (arith, byte));
   other = λ p.

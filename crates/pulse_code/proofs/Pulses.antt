@@ -1,8 +1,9 @@
 -- What the code of the pulse step leaves.
-use Rattle.std.proofs.Common.{◌≡◌, ◌≢◌, ℕ, ◌+◌, ◌*◌, ◌/◌, ◌%◌, ◌<◌, ◌≤◌, true}
+use Rattle.std.proofs.Common.{◌≡◌, ◌≢◌, ℕ, ◌+◌, ◌*◌, ◌/◌, ◌%◌, ◌<◌, ◌≤◌, Bool, true}
 use Rattle.std.proofs.Common.{false, nat_eq, inl, inr}
 use Rattle.std.proofs.Common.{refl, sym, ap, ◌∙◌, subst, arith}
-use Rattle.std.proofs.lemmas.Bool.{leb-true, leb-false, not-true, not-false, eqb-true, eqb-false, both_ways, eq-eqb, ne_eqb}
+use Rattle.std.proofs.lemmas.Bool.{leb-true, leb-false, not-true, not-false, eqb-true, eqb-false, both_ways, eq-eqb}
+use Rattle.std.proofs.lemmas.Bool.{ne_eqb}
 use Rattle.std.proofs.lemmas.Bool.Decides.{eqb_tells}
 use Rattle.code_runs.specs.Runs.{put}
 use Rattle.song_model.specs.declared.tables.TableRow.{TableRow}
@@ -16,7 +17,8 @@ use Rattle.play_model.specs.PulseStep.{pulse_step, pulse_row, pulse_slide, pulse
 use Rattle.player_memory.specs.declared.labels.TheConstants.{PULSE_POINTER, PULSE_TIME, PULSE_LOW, PULSE_HIGH}
 use Rattle.player_memory.specs.declared.labels.TheConstants.{PULSE_LEFTS, PULSE_RIGHTS, NEXT_PULSE_LEFTS}
 use Rattle.player_memory.specs.declared.conditions.TheConstants.{PULSE_TABLE}
-use Rattle.player_desk.proofs.Laws.{VoiceDesk, Reader, Ways, Leads, done_as, in_scope, body_of, rest_of, joined, indexed, ends}
+use Rattle.player_desk.proofs.Laws.{VoiceDesk, Reader, Ways, Leads, done_as, in_scope, body_of, rest_of, joined}
+use Rattle.player_desk.proofs.Laws.{indexed, ends}
 use Rattle.player_desk.proofs.Laws.{Fields, SameSong, Lent, Done, own_done, done_over, done_by, Reads, listed, place_at}
 use Rattle.player_text.specs.declared.pulse.TheConstants.{NEXT, MOVES, MOVED}
 use Rattle.pulse_code.specs.PulseBlock.{pulse_tree}
@@ -45,11 +47,30 @@ pub record PulseGround (r : Reader) (look : LookUps) (p time : ℕ) : Type 0 whe
   pub next : p ≢ 0 → (look.row Pulse p).left ≢ 0 → NextAt r look p
   pub runs : p ≢ 0 → time ≢ 0 → (look.row Pulse p).left ≢ 0
 
+-- ---- widths
+
+-- a width's bytes, and what it is where the code isn't kept
+record Wide (holds : ℕ → Bool) (low high width : ℕ) : Type 0 where
+  low_is : holds PULSE_TABLE ≡ true → low ≡ width % 256
+  none_low : holds PULSE_TABLE ≡ false → width % 256 ≡ 0
+  high_is : holds PULSE_TABLE ≡ true → high % 16 ≡ width / 256
+  none_high : holds PULSE_TABLE ≡ false → width / 256 ≡ 0
+
+-- where it is kept
+wide : {low high width : ℕ} (holds : ℕ → Bool) → holds PULSE_TABLE ≡ true → IsWidth low high width →
+    Wide holds low high width
+wide holds kept is = record {
+  low_is = λ on. is.low_is;
+  none_low = λ off. absurd (both_ways (holds PULSE_TABLE) off kept);
+  high_is = λ on. is.high_is;
+  none_high = λ off. absurd (both_ways (holds PULSE_TABLE) off kept);
+}
+
 -- ---- what holds on the way
 
 -- this voice stands, and Y is the row
 record Here (r : Reader) (s : Playing) (handed : Lent) (d : VoiceDesk) (v : Voice) (m : VoiceDesk) : Type 0 where
-  done : Done r.voice (with_voice v s) handed d m
+  done : Done r.layout.holds r.voice (with_voice v s) handed d m
   y : m.y ≡ s.voice.pulse_ptr
 
 -- a frame of the row, which has this time left
@@ -86,21 +107,21 @@ record AtNext (r : Reader) (look : LookUps) (s : Playing) (handed : Lent) (d m :
 -- ---- the block
 
 abbrev Ended : Reader → LookUps → Playing → Lent → VoiceDesk → VoiceDesk → Type 0
-Ended r look s handed d m = Done r.voice (with_voice (pulse_step look s.voice) s) handed d m
+Ended r look s handed d m = Done r.layout.holds r.voice (with_voice (pulse_step look s.voice) s) handed d m
 
 moves_leads : (r : Reader) (look : LookUps) (s : Playing) (handed : Lent) (d m : VoiceDesk) →
-    RowAt r look s.voice.pulse_ptr → s.voice.pulse_ptr ≢ 0 →
+    r.layout.holds PULSE_TABLE ≡ true → RowAt r look s.voice.pulse_ptr → s.voice.pulse_ptr ≢ 0 →
     (s.voice.pulse_time ≢ 0 → (look.row Pulse s.voice.pulse_ptr).left ≢ 0) → s.voice.pulse_time < 256 →
     Here r s handed d s.voice m →
     Leads r (body_of MOVES pulse_tree)
     (in_scope MOVES (done_as (AtMoves r look s handed d)
     (in_scope NEXT (done_as (AtNext r look s handed d) (in_scope 0 (ends (Ended r look s handed d))))))) m
-moves_leads r look s handed d m row some stays few here = (
+moves_leads r look s handed d m kept row some stays few here = (
   λ runs.
       let on : s.voice.pulse_time ≢ 0 =
       λ e. eqb-false (m.own PULSE_TIME) 0 (not-true _ runs) (here.done.fields.pulse_time ∙ e) in record {
         time = s.voice.pulse_time;
-        here = record { done = done_over r.voice s handed d m _ refl refl refl here.done; y = here.y };
+        here = record { done = done_over r.layout.holds r.voice s handed d m _ refl refl refl here.done; y = here.y };
         some = on;
         small = few;
         goes = stays on;
@@ -112,10 +133,10 @@ moves_leads r look s handed d m row some stays few here = (
       listed PULSE_LEFTS s.voice.pulse_ptr line.left row.left here.y
       (λ b e. (
         λ zero.
-            done_by r.voice s (with_voice (pulse_step look s.voice) s) handed d _
+            done_by r.layout.holds r.voice s (with_voice (pulse_step look s.voice) s) handed d _
             (ap (λ v. with_voice v s)
             (step_some look s.voice some ∙ row_stops look line s.voice none (sym e ∙ eqb-true b 0 zero)))
-            (done_over r.voice s handed d m _ refl refl refl here.done),
+            (done_over r.layout.holds r.voice s handed d m _ refl refl refl here.done),
         λ not_zero. (
           λ plus.
               let low : line.left < 0x80 = (let z = leb-false 128 b (not-true _ plus) in omega (arith, z, e)) in
@@ -123,7 +144,7 @@ moves_leads r look s handed d m row some stays few here = (
                 time = line.left;
                 here = record {
                   done =
-                      own_done r.voice s _ handed d m _ refl refl refl (assumption (e, here.done.fields))
+                      own_done r.layout.holds r.voice s _ handed d m _ refl refl refl (assumption (e, here.done.fields))
                       (assumption here.done.song) here.done;
                   y = here.y;
                 };
@@ -136,15 +157,15 @@ moves_leads r look s handed d m row some stays few here = (
               let high : 0x80 ≤ line.left = (let z = leb-true 128 b (not-false _ minus) in omega (arith, z, e)) in
               listed PULSE_RIGHTS s.voice.pulse_ptr line.right row.right here.y
               (λ c f.
-              let low_is : c ≡ (256 * (line.left % 16) + line.right) % 256 =
-              (let l = row.right_byte in omega (arith, f, l)) in
-              let high_is : b % 16 ≡ (256 * (line.left % 16) + line.right) / 256 =
-              (let l = row.right_byte in omega (arith, e, l)) in record {
+              let w : IsWidth c b (256 * (line.left % 16) + line.right) = record {
+                low_is = (let l = row.right_byte in omega (arith, f, l));
+                high_is = (let l = row.right_byte in omega (arith, e, l));
+              } in record {
                 v = record s.voice { pulse = 256 * (line.left % 16) + line.right };
                 here = record {
                   done =
-                      own_done r.voice s _ handed d m _ refl refl refl (assumption (low_is, high_is, here.done.fields))
-                      (assumption here.done.song) here.done;
+                      own_done r.layout.holds r.voice s _ handed d m _ refl refl refl
+                      (assumption (wide r.layout.holds kept w, here.done.fields)) (assumption here.done.song) here.done;
                   y = here.y;
                 };
                 goes = λ z. omega (arith, high, z);
@@ -158,9 +179,10 @@ moves_leads r look s handed d m row some stays few here = (
     line = look.row Pulse s.voice.pulse_ptr
 
 moved_leads : (r : Reader) (look : LookUps) (s : Playing) (handed : Lent) (d : VoiceDesk) (ways : Ways) →
-    RowAt r look s.voice.pulse_ptr → s.voice.pulse < 4096 → (m : VoiceDesk) → AtMoves r look s handed d m →
+    r.layout.holds PULSE_TABLE ≡ true → RowAt r look s.voice.pulse_ptr → s.voice.pulse < 4096 → (m : VoiceDesk) →
+    AtMoves r look s handed d m →
     Leads r (body_of MOVED pulse_tree) (in_scope MOVED (done_as (AtMoved r look s handed d) ways)) m
-moved_leads r look s handed d ways row small m at =
+moved_leads r look s handed d ways kept row small m at =
     listed PULSE_RIGHTS s.voice.pulse_ptr line.right row.right at.here.y
     (λ b e. (
       λ falls.
@@ -170,7 +192,7 @@ moved_leads r look s handed d ways row small m at =
                 let w : IsWidth ((b + low + 0) % 256) high after =
                 subst (λ a. IsWidth ((a + low + 0) % 256) high after) (sym e)
                 (fallen low high s.voice.pulse line.right small from row.right_byte (omega (arith, over, e)) before) in
-                on _ refl refl at.here.y (assumption (w.low_is, w.high_is, at.here.done.fields))
+                on _ refl refl at.here.y (assumption (wide r.layout.holds kept w, at.here.done.fields))
                 (assumption at.here.done.song),
             λ none.
                 let under : b + low + 0 < 256 = leb-false 256 (b + low + 0) none in
@@ -178,7 +200,7 @@ moved_leads r look s handed d ways row small m at =
                 subst (λ a. IsWidth ((a + low + 0) % 256) ((high + 255) % 256) after) (sym e)
                 (fallen_under low high s.voice.pulse line.right small from row.right_byte (omega (arith, under, e))
                 before) in
-                on _ refl refl at.here.y (assumption (w.low_is, w.high_is, at.here.done.fields))
+                on _ refl refl at.here.y (assumption (wide r.layout.holds kept w, at.here.done.fields))
                 (assumption at.here.done.song),
           ),
       λ rises.
@@ -188,7 +210,7 @@ moved_leads r look s handed d ways row small m at =
                 let w : IsWidth ((b + low + 0) % 256) high after =
                 subst (λ a. IsWidth ((a + low + 0) % 256) high after) (sym e)
                 (risen low high s.voice.pulse line.right small byte (omega (arith, under, e)) before) in
-                on _ refl refl at.here.y (assumption (w.low_is, w.high_is, at.here.done.fields))
+                on _ refl refl at.here.y (assumption (wide r.layout.holds kept w, at.here.done.fields))
                 (assumption at.here.done.song),
             λ carry.
                 let over : 256 ≤ b + low + 0 = leb-true 256 (b + low + 0) (not-false _ carry) in
@@ -196,7 +218,7 @@ moved_leads r look s handed d ways row small m at =
                 subst (λ a. IsWidth ((a + low + 0) % 256) ((high + 1) % 256) after) (sym e)
                 (risen_over low high s.voice.pulse line.right small byte (omega (arith, over, e)) before) in (
                   λ still.
-                      on _ refl refl at.here.y (assumption (w.low_is, w.high_is, at.here.done.fields))
+                      on _ refl refl at.here.y (assumption (wide r.layout.holds kept w, at.here.done.fields))
                       (assumption at.here.done.song),
                   λ lost. both_ways _ lost (not-false _ carry),
                 ),
@@ -216,18 +238,19 @@ moved_leads r look s handed d ways row small m at =
     after = pulse_moved s.voice.pulse line.right
 
     before : IsWidth low high s.voice.pulse
-    before = record { low_is = at.here.done.fields.pulse_low; high_is = at.here.done.fields.pulse_high }
+    before = record { low_is = at.here.done.fields.pulse_low kept; high_is = at.here.done.fields.pulse_high kept }
 
     v : Voice
     v = record s.voice { pulse_time = at.time; pulse = after }
 
     on : (n : VoiceDesk) → n.shared ≡ m.shared → n.sid ≡ m.sid → n.y ≡ s.voice.pulse_ptr →
-        Fields v (tempo_of (r.voice + 1) s.common) n.own → SameSong n.own d.own → AtMoved r look s handed d n
+        Fields r.layout.holds v (tempo_of (r.voice + 1) s.common) n.own → SameSong n.own d.own →
+        AtMoved r look s handed d n
     on n shared sid y fields song = record {
       time = at.time;
       here = record {
-        done = own_done r.voice (with_voice (record s.voice { pulse_time = at.time }) s) (with_voice v s) handed d m n
-            shared sid refl fields song at.here.done;
+        done = own_done r.layout.holds r.voice (with_voice (record s.voice { pulse_time = at.time }) s) (with_voice v s)
+            handed d m n shared sid refl fields song at.here.done;
         y = y;
       };
       some = at.some;
@@ -245,9 +268,9 @@ timed_leads r look s handed d m some at = (
   λ runs.
       let goes : nat_eq left 0 ≡ false = ne_eqb left 0
       (λ e. eqb-false ((m.own PULSE_TIME + 255) % 256) 0 (not-true _ runs) (one ∙ e)) in
-      done_by r.voice (with_voice (slid after at.time s.voice) s) _ handed d _
+      done_by r.layout.holds r.voice (with_voice (slid after at.time s.voice) s) _ handed d _
       (ap (λ v. with_voice v s) (step_some look s.voice some ∙ (at.is ∙ slide_stays look line at.time s.voice goes)))
-      (own_done r.voice _ (with_voice (slid after at.time s.voice) s) handed d m _ refl refl refl
+      (own_done r.layout.holds r.voice _ (with_voice (slid after at.time s.voice) s) handed d m _ refl refl refl
       (assumption (one, at.here.done.fields)) (assumption at.here.done.song) at.here.done),
   λ over.
       let ends : nat_eq left 0 ≡ true = eq-eqb left 0
@@ -255,7 +278,7 @@ timed_leads r look s handed d m some at = (
         v = slid after at.time s.voice;
         here = record {
           done =
-              own_done r.voice _ (with_voice (slid after at.time s.voice) s) handed d m _ refl refl refl
+              own_done r.layout.holds r.voice _ (with_voice (slid after at.time s.voice) s) handed d m _ refl refl refl
               (assumption (one, at.here.done.fields)) (assumption at.here.done.song) at.here.done;
           y = at.here.y;
         };
@@ -312,12 +335,13 @@ next_leads r look s handed d m some next at =
     on : (n : VoiceDesk) (p : ℕ) → n.shared ≡ m.shared → n.sid ≡ m.sid → n.own ≡ put m.own PULSE_POINTER p →
         p ≡ next_row look Pulse s.voice.pulse_ptr → Ended r look s handed d n
     on n p shared sid own is =
-        let fields : Fields (record at.v { pulse_ptr = next_row look Pulse s.voice.pulse_ptr })
+        let fields : Fields r.layout.holds (record at.v { pulse_ptr = next_row look Pulse s.voice.pulse_ptr })
         (tempo_of (r.voice + 1) s.common) (put m.own PULSE_POINTER p) = assumption (is, at.here.done.fields) in
         let song : SameSong (put m.own PULSE_POINTER p) d.own = assumption at.here.done.song in
-        done_by r.voice (with_voice (record at.v { pulse_ptr = next_row look Pulse s.voice.pulse_ptr }) s) _ handed d n
+        done_by r.layout.holds r.voice
+        (with_voice (record at.v { pulse_ptr = next_row look Pulse s.voice.pulse_ptr }) s) _ handed d n
         (ap (λ v. with_voice v s) (step_some look s.voice some ∙ at.is))
-        (own_done r.voice _ _ handed d m n shared sid refl (rw own fields) (rw own song) at.here.done)
+        (own_done r.layout.holds r.voice _ _ handed d m n shared sid refl (rw own fields) (rw own song) at.here.done)
 
 -- ---- the law
 
@@ -325,7 +349,7 @@ next_leads r look s handed d m some next at =
 -- the voice has no program.
 pub pulse_leads : (r : Reader) (look : LookUps) (s : Playing) (handed : Lent) (d m : VoiceDesk) →
     PulseGround r look s.voice.pulse_ptr s.voice.pulse_time → s.voice.pulse < 4096 → s.voice.pulse_time < 256 →
-    (s.voice.pulse_ptr ≢ 0 → r.layout.holds PULSE_TABLE ≡ true) → Done r.voice s handed d m →
+    (s.voice.pulse_ptr ≢ 0 → r.layout.holds PULSE_TABLE ≡ true) → Done r.layout.holds r.voice s handed d m →
     Leads r pulse_tree (ends (Ended r look s handed d)) m
 pulse_leads r look s handed d m ground small few keeps done = (
   λ kept. (
@@ -337,11 +361,15 @@ pulse_leads r look s handed d m ground small few keeps done = (
         (indexed (m.own PULSE_POINTER) m)
         (joined true r MOVES (body_of MOVES pulse_tree) (rest_of MOVES pulse_tree) (AtMoves r look s handed d) goes
         (indexed (m.own PULSE_POINTER) m)
-        (moves_leads r look s handed d (indexed (m.own PULSE_POINTER) m) (ground.row some) some (ground.runs some) few
-        (record { done = done_over r.voice s handed d m _ refl refl refl done; y = done.fields.pulse_ptr }))
+        (moves_leads r look s handed d (indexed (m.own PULSE_POINTER) m) kept (ground.row some) some (ground.runs some)
+        few
+        (record {
+          done = done_over r.layout.holds r.voice s handed d m _ refl refl refl done;
+          y = done.fields.pulse_ptr;
+        }))
         (λ n moves.
         joined true r MOVED (body_of MOVED pulse_tree) (rest_of MOVED pulse_tree) (AtMoved r look s handed d) goes n
-        (moved_leads r look s handed d goes (ground.row some) small n moves)
+        (moved_leads r look s handed d goes kept (ground.row some) small n moves)
         (λ k moved. timed_leads r look s handed d k some moved)))
         (λ n next. next_leads r look s handed d n some (ground.next some next.goes) next),
   ),
@@ -361,5 +389,5 @@ pulse_leads r look s handed d m ground small few keeps done = (
     idle : (n : VoiceDesk) → n.own ≡ m.own → n.shared ≡ m.shared → n.sid ≡ m.sid → s.voice.pulse_ptr ≡ 0 →
         Ended r look s handed d n
     idle n own shared sid none =
-        done_by r.voice s _ handed d n (ap (λ v. with_voice v s) (step_none look s.voice none))
-        (done_over r.voice s handed d m n own shared sid done)
+        done_by r.layout.holds r.voice s _ handed d n (ap (λ v. with_voice v s) (step_none look s.voice none))
+        (done_over r.layout.holds r.voice s handed d m n own shared sid done)

@@ -5,6 +5,7 @@ use Rattle.std.proofs.Common.{arith}
 use Rattle.play_model.specs.TickStep.{tempo_of}
 use Rattle.play_model.specs.Frame.{voice_registers}
 use Rattle.scopes.specs.Meaning.{each_one, ran}
+use Rattle.player_memory.specs.declared.conditions.TheConstants.{PULSE_TABLE}
 use Rattle.player_desk.proofs.Laws.{VoiceDesk, Reader, reader_of, voice_desk, fields_of, Came, comes}
 use Rattle.player_desk.proofs.Laws.{SidSpot, IsSameAt}
 use Rattle.register_code.specs.RegisterBlock.{register_tree, registers_of, RegisterBlockWrites}
@@ -38,20 +39,25 @@ register_block_writes layout rows voice s desk room uses three at playing = reco
       ap (ran each_one layout register_tree desk).desk.at (omega arith)
       ∙ (came.shows.memory (SidSpot (0 + register + 7 * voice)) (omega (arith, few, three))
       ∙ (ap (λ sid. sid (0 + register + 7 * voice)) came.holds.sid
-      ∙ (sid_byte voice 0 (own_registers d.own) d.sid register few
+      ∙ (sid_byte voice 0 its d.sid register few
       ∙ ap (λ bytes. slice_index bytes register) are)));
   leaves = λ place away.
       came.stays place
-      (others_stay (reader_of layout rows voice desk) (own_registers d.own) d came.after refl came.holds place away);
+      (others_stay (reader_of layout rows voice desk) its d came.after refl came.holds place away);
 }
   where
     d : VoiceDesk
     d = voice_desk layout voice desk
 
-    came : Came layout rows voice desk (Written voice (own_registers d.own) d) (ran each_one layout register_tree desk)
+    its : List ℕ
+    its = own_registers (layout.holds PULSE_TABLE) d.own
+
+    came : Came layout rows voice desk (Written voice its d) (ran each_one layout register_tree desk)
     came =
-        comes layout rows voice register_tree desk (Written voice (own_registers d.own) d) room uses three at
+        comes layout rows voice register_tree desk (Written voice its d) room uses three at
         (registers_lead (reader_of layout rows voice desk) d)
 
-    are : own_registers d.own ≡ voice_registers s.voice
-    are = registers_are s.voice (tempo_of (voice + 1) s.common) d.own (fields_of s.voice _ d.own playing.own)
+    are : its ≡ voice_registers s.voice
+    are =
+        registers_are layout.holds s.voice (tempo_of (voice + 1) s.common) d.own
+        (fields_of layout.holds s.voice _ d.own playing.own)

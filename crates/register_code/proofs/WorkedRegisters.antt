@@ -1,17 +1,32 @@
 -- The worked memory, computed by the checker.
-use Rattle.std.proofs.Common.{◌≡◌, ℕ, ◌+◌, ◌*◌, ◌<◌, zero, suc, Bool, true, false, inl, inr, refl}
+use Rattle.std.proofs.Common.{◌≡◌, Bool, true, false, inl, inr, refl}
 use Rattle.std.proofs.Common.{sym, ap, arith}
 use Rattle.std.proofs.lemmas.Bool.{true≢false}
-use Rattle.play_model.specs.TickStep.{tempo_of}
 use Rattle.scopes.specs.Meaning.{Outcome, Stuck}
 use Rattle.play_model.specs.Frame.{voice_registers}
 use Rattle.player_memory.specs.Rooms.{IsRoom, MayUse}
+use Rattle.player_memory.proofs.Laws.{playing_in}
 use Rattle.player_memory.specs.Playing.{IsPlaying, IsAtVoice}
-use Rattle.register_code.specs.WorkedRegisters.{from_1000, counting, counted, RegistersAreWorked, OthersAreDenied}
+use Rattle.register_code.specs.WorkedRegisters.{from_1000, bare, counting, counted, bare_counted}
+use Rattle.register_code.specs.WorkedRegisters.{RegistersAreWorked, OthersAreDenied}
 use Rattle.register_code.proofs.Sounding.{register_block_writes}
 
 room : IsRoom from_1000 0
 room = record {
+  begins = omega arith;
+  ends = omega arith;
+  variables = λ label few. refl;
+  slides = λ kept. record {
+    low = record { from = omega arith; to = omega arith; outside = inr (omega arith) };
+    high = record { from = omega arith; to = omega arith; outside = inr (omega arith) };
+    apart = inl (omega arith);
+  };
+  pointer_low = omega arith;
+  pointer_high = omega arith;
+}
+
+bare_room : IsRoom bare 0
+bare_room = record {
   begins = omega arith;
   ends = omega arith;
   variables = λ label few. refl;
@@ -28,14 +43,19 @@ uses = record {
   registers = λ register few. refl;
 }
 
-tempos : (its : ℕ) → its < 3 → counting.at (from_1000.address (89 + 7 * its)) ≡ tempo_of (its + 1) counted.common
-tempos zero few = refl
-tempos (suc zero) few = refl
-tempos (suc (suc zero)) few = refl
-tempos (suc (suc (suc more))) few = absurd (omega (arith, few))
+bare_uses : MayUse bare 0
+bare_uses = record {
+  reads = λ label few. refl;
+  writes = λ label few. refl;
+  slides = λ kept row few. absurd (omega (arith, few));
+  registers = λ register few. refl;
+}
 
 plays : IsPlaying from_1000 1 counted counting.at
-plays = record { own = assumption refl; common = assumption refl; tempos = tempos }
+plays = playing_in from_1000 1 counted counting.at refl refl refl
+
+bare_plays : IsPlaying bare 1 bare_counted counting.at
+bare_plays = playing_in bare 1 bare_counted counting.at refl refl refl
 
 at_voice : IsAtVoice 1 counting
 at_voice = record { x = refl; decimal = refl }
@@ -50,6 +70,13 @@ registers_are_worked = record {
   registers = refl;
   sounds = register_block_writes from_1000 0 1 counted counting room uses (omega arith) at_voice plays;
   cost = refl;
+  bare_room = bare_room;
+  bare_uses = bare_uses;
+  bare_plays = bare_plays;
+  bare_width = refl;
+  bare_sounds =
+      register_block_writes bare 0 1 bare_counted counting bare_room bare_uses (omega arith) at_voice bare_plays;
+  bare_cost = refl;
 }
 
 abbrev is_stuck : Outcome → Bool
@@ -62,6 +89,7 @@ others_are_denied = record {
   no_voice = λ s. (let e : 7 ≡ 0 = s.at_voice.x in omega (arith, e));
   first = λ s. (let e : 0 ≡ 73 = s.sounds 0 (omega arith) in omega (arith, e));
   last = λ s. (let e : 0 ≡ 54 = s.sounds 6 (omega arith) in omega (arith, e));
+  width = λ s. (let e : 0 ≡ 94 = s.sounds 2 (omega arith) in omega (arith, e));
   before = λ s. (let e : 0 ≡ 6 = s.leaves 0xD406 (inl (omega arith)) in omega (arith, e));
   behind = λ s. (let e : 0 ≡ 14 = s.leaves 0xD40E (inr (omega arith)) in omega (arith, e));
   variable = λ s. (let e : 0 ≡ 23 = s.leaves 0x1017 (inl (omega arith)) in omega (arith, e));

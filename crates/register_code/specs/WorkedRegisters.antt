@@ -10,15 +10,19 @@ use Rattle.player_memory.specs.Rooms.{IsRoom, MayUse}
 use Rattle.player_memory.specs.Playing.{IsPlaying, IsAtVoice}
 use Rattle.register_code.specs.RegisterBlock.{register_tree, Sounds}
 
--- the variables stand from $1000 on, and all places may be read and written
+-- the variables stand from $1000 on, all places may be read and written, and all code is kept
 abbrev pub from_1000 : Layout
 from_1000 = record {
   address = λ label. 0x1000 + label;
   pointer = 0xFC;
-  holds = λ condition. false;
+  holds = λ condition. true;
   may_read = λ place. true;
   may_write = λ place. true;
 }
+
+-- no code is kept that stands under a condition
+abbrev pub bare : Layout
+bare = record from_1000 { holds = λ condition. false }
 
 -- the code of the second voice begins, and each place of memory has the low byte of its number
 abbrev pub counting : Desk
@@ -83,14 +87,28 @@ counted = record {
   };
 }
 
+-- without that code the pulse width is 0, no filter is set, and the volume is 15
+abbrev pub bare_counted : Playing
+bare_counted = record {
+  voice = record counted.voice { pulse = 0 };
+  common = record counted.common { filter_type = 0; filter_control = 0; cutoff = 0; volume = 15 };
+}
+
 abbrev pub written : Ran
 written = ran each_one from_1000 register_tree counting
+
+abbrev pub bare_written : Ran
+bare_written = ran each_one bare register_tree counting
 
 -- of the pulse width's high byte, $5F, the low four bits count; the waveform $47 is under the mask $48
 abbrev pub worked_registers : List ℕ
 worked_registers = 73 ∷ 74 ∷ 94 ∷ 0x0F ∷ 0x40 ∷ 53 ∷ 54 ∷ []
 
--- all that the code asks for is there, and the registers are written
+abbrev pub bare_registers : List ℕ
+bare_registers = 73 ∷ 74 ∷ 0 ∷ 0 ∷ 0x40 ∷ 53 ∷ 54 ∷ []
+
+-- All that the code asks for is there, and the registers are written; with the width 0 where the code of the pulse
+-- table isn't kept.
 pub record RegistersAreWorked : Type 0 where
   pub room : IsRoom from_1000 0
   pub uses : MayUse from_1000 0
@@ -99,18 +117,25 @@ pub record RegistersAreWorked : Type 0 where
   pub registers : voice_registers counted.voice ≡ worked_registers
   pub sounds : Sounds 1 counting written worked_registers
   pub cost : written.cost ≡ 16
+  pub bare_room : IsRoom bare 0
+  pub bare_uses : MayUse bare 0
+  pub bare_plays : IsPlaying bare 1 bare_counted counting.at
+  pub bare_width : voice_registers bare_counted.voice ≡ bare_registers
+  pub bare_sounds : Sounds 1 counting bare_written bare_registers
+  pub bare_cost : bare_written.cost ≡ 14
 
 -- another byte behind it
 abbrev pub with_byte : ℕ → ℕ → Ran → Ran
 with_byte place byte run = record run { desk = record run.desk { at = put run.desk.at place byte } }
 
--- It isn't to be stuck, to lose X, to have another byte in the first or the last of the registers, to write one of the
--- voice before or of the voice behind, or to change a variable.
+-- It isn't to be stuck, to lose X, to have another byte in the first or the last of the registers or another width, to
+-- write one of the voice before or of the voice behind, or to change a variable.
 pub record OthersAreDenied : Type 0 where
   pub stuck : ¬ Sounds 1 counting (record written { outcome = Stuck }) worked_registers
   pub no_voice : ¬ Sounds 0 counting written worked_registers
   pub first : ¬ Sounds 1 counting (with_byte 0xD407 0 written) worked_registers
   pub last : ¬ Sounds 1 counting (with_byte 0xD40D 0 written) worked_registers
+  pub width : ¬ Sounds 1 counting bare_written worked_registers
   pub before : ¬ Sounds 1 counting (with_byte 0xD406 0 written) worked_registers
   pub behind : ¬ Sounds 1 counting (with_byte 0xD40E 0 written) worked_registers
   pub variable : ¬ Sounds 1 counting (with_byte (from_1000.address TICK) 0 written) worked_registers

@@ -76,7 +76,8 @@ count_leads : (g : Running) (m : VoiceDesk) → Stands g → g.r.layout.holds NO
     128 ≤ (g.look.row Speed g.s.voice.param).left → speed_of g.look g.s.voice < 65536 → Tells g g.s.voice m →
     IsWord m.low m.high (half_tone g.s.voice.last_note) → Leads g.r from_count (stored_ways g) m
 count_leads g m on kept high small tells halves =
-    listed SPEED_RIGHTS g.s.voice.param (g.look.row Speed g.s.voice.param).right on.row.right tells.done.fields.param
+    listed SPEED_RIGHTS g.s.voice.param (g.look.row Speed g.s.voice.param).right on.row.right
+    (tells.done.fields.param on.effects)
     (λ b e.
     joined true g.r FEW (body_of FEW from_speed) (rest_of FEW from_speed) (AtFew g) (stored_ways g)
     (loaded b (indexed (m.own PARAM) m))

@@ -5,6 +5,7 @@ mod Words
 mod Distances
 mod Rules
 mod Commands
+mod Kept
 -- What the code stands on, and what it leaves, from its end back.
 mod SlideGrounds
 mod Moves

@@ -1,5 +1,5 @@
 -- What the code of a move leaves: up, down, and at the note.
-use Rattle.std.proofs.Common.{◌≡◌, ℕ, ◌+◌, ◌-◌, ◌*◌, ◌/◌, ◌%◌, ◌<◌, ◌≤◌, true}
+use Rattle.std.proofs.Common.{◌≡◌, ◌+◌, ◌-◌, ◌*◌, ◌/◌, ◌%◌, ◌<◌, ◌≤◌}
 use Rattle.std.proofs.Common.{refl, sym, ap, ◌∙◌, arith}
 use Rattle.std.proofs.lemmas.Bool.{leb-true, leb-false, not-true, not-false, both_ways}
 use Rattle.cpu6502.specs.Registers.{one_if}
@@ -29,17 +29,18 @@ slides_over g m n low high left =
 pub tells_over : (g : Running) (v : Voice) (m n : VoiceDesk) → n.own ≡ m.own → n.shared ≡ m.shared → n.sid ≡ m.sid →
     n.slide_low ≡ m.slide_low → n.slide_high ≡ m.slide_high → Tells g v m → Tells g v n
 tells_over g v m n own shared sid low high tells = record {
-  done = done_over g.r.voice (with_voice v g.s) g.handed g.d m n own shared sid tells.done;
+  done = done_over g.r.layout.holds g.r.voice (with_voice v g.s) g.handed g.d m n own shared sid tells.done;
   slides = slides_over g m n low high tells.slides;
 }
 
 -- the voice's own bytes have
 pub own_tells : (g : Running) (v w : Voice) (m n : VoiceDesk) → n.shared ≡ m.shared → n.sid ≡ m.sid →
-    n.slide_low ≡ m.slide_low → n.slide_high ≡ m.slide_high → Fields w (tempo_of (g.r.voice + 1) g.s.common) n.own →
-    SameSong n.own g.d.own → Tells g v m → Tells g w n
+    n.slide_low ≡ m.slide_low → n.slide_high ≡ m.slide_high →
+    Fields g.r.layout.holds w (tempo_of (g.r.voice + 1) g.s.common) n.own → SameSong n.own g.d.own → Tells g v m →
+    Tells g w n
 own_tells g v w m n shared sid low high fields song tells = record {
-  done = own_done g.r.voice (with_voice v g.s) (with_voice w g.s) g.handed g.d m n shared sid refl fields song
-      tells.done;
+  done = own_done g.r.layout.holds g.r.voice (with_voice v g.s) (with_voice w g.s) g.handed g.d m n shared sid refl
+      fields song tells.done;
   slides = slides_over g m n low high tells.slides;
 }
 
@@ -99,7 +100,8 @@ rise_leads g m places at = (
 
     on : (n : VoiceDesk) → n.shared ≡ m.shared → n.sid ≡ m.sid → n.slide_low ≡ m.slide_low →
         n.slide_high ≡ m.slide_high →
-        Fields (set_at at.time (freq_plus at.word at.byte) g.s.voice) (tempo_of (g.r.voice + 1) g.s.common) n.own →
+        Fields g.r.layout.holds (set_at at.time (freq_plus at.word at.byte) g.s.voice)
+        (tempo_of (g.r.voice + 1) g.s.common) n.own →
         SameSong n.own g.d.own → Effected g n
     on n shared sid low high fields song = record {
       tells = tells_by g _ (moved g) n at.is
@@ -180,7 +182,8 @@ sink_leads g m places at = (
 
     on : (n : VoiceDesk) → n.shared ≡ m.shared → n.sid ≡ m.sid → n.slide_low ≡ m.slide_low →
         n.slide_high ≡ m.slide_high →
-        Fields (set_at at.time (freq_minus at.word at.byte) g.s.voice) (tempo_of (g.r.voice + 1) g.s.common) n.own →
+        Fields g.r.layout.holds (set_at at.time (freq_minus at.word at.byte) g.s.voice)
+        (tempo_of (g.r.voice + 1) g.s.common) n.own →
         SameSong n.own g.d.own → Effected g n
     on n shared sid low high fields song = record {
       tells = tells_by g _ (moved g) n at.is

@@ -14,7 +14,7 @@ use Rattle.player_memory.specs.declared.labels.TheConstants.{SLIDES_LOW, SLIDES_
 use Rattle.player_memory.specs.declared.labels.TheConstants.{SPEED_RIGHTS}
 use Rattle.player_memory.specs.declared.labels.TheConstants.{FREQUENCY_LOWS, FREQUENCY_HIGHS}
 use Rattle.player_memory.specs.declared.labels.TheConstants.{NEXT_FREQUENCY_LOWS, NEXT_FREQUENCY_HIGHS}
-use Rattle.player_memory.specs.declared.conditions.TheConstants.{NOTE_DEPENDENT}
+use Rattle.player_memory.specs.declared.conditions.TheConstants.{NOTE_DEPENDENT, EFFECTS}
 use Rattle.player_memory.specs.declared.conditions.TheConstants.{CLIMB, DROP, RISE, SINK, FOUND_NOTE}
 use Rattle.player_desk.proofs.Laws.{VoiceDesk, Reader, Ways, Lent, Done, Reads, place_at, listed}
 use Rattle.player_desk.proofs.Laws.{EntryLeads, LowSlide, HighSlide, done_as, in_scope}
@@ -107,7 +107,7 @@ pub record SlidesLeft (look : LookUps) (before m : VoiceDesk) : Type 0 where
 
 -- the desk tells this voice
 pub record Tells (g : Running) (v : Voice) (m : VoiceDesk) : Type 0 where
-  pub done : Done g.r.voice (with_voice v g.s) g.handed g.d m
+  pub done : Done g.r.layout.holds g.r.voice (with_voice v g.s) g.handed g.d m
   pub slides : SlidesLeft g.look g.before m
 
 -- the frequency arrives: A is a note's number, and the rule sets that note
@@ -235,6 +235,7 @@ pub record Stands (g : Running) : Type 0 where
   pub row : SpeedAt g.r g.look g.s.voice.param g.before
   pub keeps : KeepsSlide g.r.layout g.look g.command g.s.voice
   pub common : KeepsCommon g.r.layout
+  pub effects : g.r.layout.holds EFFECTS ≡ true
   pub small : g.s.voice.freq < 65536
   pub param : g.s.voice.param < 256
   pub least : 1 ≤ g.command

@@ -92,7 +92,7 @@ stored_leads g m on kept tells low high y =
           (speed_small g.look g.s.voice.param g.s.voice.last_note on.row.right_byte) (record {
             tells =
                 tells_over g g.s.voice m (indexed (m.own LAST_NOTE) (loaded b m)) refl refl refl refl refl tells;
-            is = tells.done.fields.last_note;
+            is = tells.done.fields.last_note kept;
           }),
     ))
 
@@ -116,12 +116,12 @@ named_leads g m on its at = (
 )
   where
     own : IsOf g.command g.s.voice.command → m.own COMMAND ≢ 0 → m.own COMMAND ≡ g.command
-    own (inl same) some = at.tells.done.fields.command ∙ same
-    own (inr none) some = absurd (some (at.tells.done.fields.command ∙ none.0))
+    own (inl same) some = at.tells.done.fields.command on.effects ∙ same
+    own (inr none) some = absurd (some (at.tells.done.fields.command on.effects ∙ none.0))
 
     four : IsOf g.command g.s.voice.command → m.own COMMAND ≡ 0 → 4 ≡ g.command
     four (inl same) none =
-        absurd (let c = at.tells.done.fields.command in let l = on.least in omega (arith, none, c, same, l))
+        absurd (let c = at.tells.done.fields.command on.effects in let l = on.least in omega (arith, none, c, same, l))
     four (inr is) none = sym is.1
 
 speed_leads : (g : Running) (m : VoiceDesk) → Stands g → IsOf g.command g.s.voice.command → Tells g g.s.voice m →
@@ -165,20 +165,23 @@ note_sounds note (inr high) byte =
 -- the number of a note in A that the rule sets, or leaves EFFECTED with the voice as the rule leaves it. Slides of rows
 -- whose left side is below $80 stay.
 pub slide_leads : (g : Running) → Stands g → IsOf g.command g.s.voice.command →
-    g.before.a ≡ g.command → Done g.r.voice g.s g.handed g.d g.before →
+    g.before.a ≡ g.command → Done g.r.layout.holds g.r.voice g.s g.handed g.d g.before →
     Leads g.r slide_tree (slide_ways g) g.before
-slide_leads g on its a done =
-    joined true g.r FOUND (body_of FOUND slide_tree) (rest_of FOUND slide_tree) (AtFound g) (slide_ways g) g.before
-    (joined true g.r FALLS (body_of FALLS slide_tree) (rest_of FALLS slide_tree) (AtFalls g) (found_ways g) g.before
-    (joined true g.r DOWN (body_of DOWN slide_tree) (rest_of DOWN slide_tree) (AtDown g) (falls_ways g) g.before
-    (joined true g.r RISES (body_of RISES slide_tree) (rest_of RISES slide_tree) (AtRises g) (down_ways g) g.before
-    (joined true g.r UP (body_of UP slide_tree) (rest_of UP slide_tree) (AtUp g) (rises_ways g) g.before
-    (speed_leads g (indexed (g.before.own PARAM) g.before) on its
-    (tells_over g g.s.voice g.before (indexed (g.before.own PARAM) g.before) refl refl refl refl refl
-    (record { done = done; slides = record { low = λ row plain. refl; high = λ row plain. refl } })) refl refl a
-    done.fields.param)
-    (λ n up. climb_leads g n on.row.places on.small up))
-    (λ n rises. rise_leads g n on.row.places rises))
-    (λ n down. drop_leads g n on.row.places on.small down))
-    (λ n falls. sink_leads g n on.row.places falls))
-    (λ n found. found_leads g n on.sounds found)
+slide_leads g on its a done = (
+  λ kept.
+      joined true g.r FOUND (body_of FOUND slide_tree) (rest_of FOUND slide_tree) (AtFound g) (slide_ways g) g.before
+      (joined true g.r FALLS (body_of FALLS slide_tree) (rest_of FALLS slide_tree) (AtFalls g) (found_ways g) g.before
+      (joined true g.r DOWN (body_of DOWN slide_tree) (rest_of DOWN slide_tree) (AtDown g) (falls_ways g) g.before
+      (joined true g.r RISES (body_of RISES slide_tree) (rest_of RISES slide_tree) (AtRises g) (down_ways g) g.before
+      (joined true g.r UP (body_of UP slide_tree) (rest_of UP slide_tree) (AtUp g) (rises_ways g) g.before
+      (speed_leads g (indexed (g.before.own PARAM) g.before) on its
+      (tells_over g g.s.voice g.before (indexed (g.before.own PARAM) g.before) refl refl refl refl refl
+      (record { done = done; slides = record { low = λ row plain. refl; high = λ row plain. refl } })) refl refl a
+      (done.fields.param on.effects))
+      (λ n up. climb_leads g n on.row.places on.small up))
+      (λ n rises. rise_leads g n on.row.places rises))
+      (λ n down. drop_leads g n on.row.places on.small down))
+      (λ n falls. sink_leads g n on.row.places falls))
+      (λ n found. found_leads g n on.sounds found),
+  λ out. absurd (both_ways _ out on.effects),
+)

@@ -122,7 +122,9 @@ whole_leads g m on kept high small at = (
     inside,
     record {
       tells = record {
-        done = done_over g.r.voice (with_voice g.s.voice g.s) g.handed g.d m _ refl refl refl at.tells.done;
+        done =
+            done_over g.r.layout.holds g.r.voice (with_voice g.s.voice g.s) g.handed g.d m _ refl refl refl
+            at.tells.done;
         slides = record {
           low = λ row low.
               put_other m.slide_low (m.own PARAM) row m.low (apart row low) ∙ at.tells.slides.low row low;
@@ -147,7 +149,7 @@ whole_leads g m on kept high small at = (
 )
   where
     param : m.own PARAM ≡ g.s.voice.param
-    param = at.tells.done.fields.param
+    param = at.tells.done.fields.param on.effects
 
     inside : m.own PARAM < g.r.rows
     inside = rw param (on.row.places.row kept)

@@ -29,6 +29,7 @@ use Rattle.slide_code.specs.SlideBlock.{left_by}
 use Rattle.player_memory.specs.Playing.{there}
 use Rattle.slide_code.specs.SlideBlock.{Slides, SlideBlockSteps}
 use Rattle.slide_code.proofs.SlideGrounds.{NotesAt, SpeedAt, Stands, Running, SlidesLeft, Pitched, Effected, slide_ways}
+use Rattle.slide_code.proofs.Kept.{commands_keep}
 use Rattle.slide_code.proofs.Slides.{note_sounds, slide_leads}
 
 -- ---- the lists
@@ -191,6 +192,7 @@ slide_block_steps layout rows voice count command range look s desk room uses no
       row = speed_at layout rows voice count look desk s.voice.param room has on.param;
       keeps = keeps;
       common = common;
+      effects = commands_keep layout look command s.voice common keeps on.least on.most;
       small = on.frequency;
       param = (let p = on.param in let f = has.few in omega (arith, p, f));
       least = on.least;

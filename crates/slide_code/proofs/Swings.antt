@@ -12,7 +12,8 @@ use Rattle.play_model.specs.TickStep.{tempo_of}
 use Rattle.play_model.specs.Helpers.{turned}
 use Rattle.player_memory.specs.declared.labels.TheConstants.{VIB_TIME, PERIODS, SPEED_LEFTS, SLIDES_LOW}
 use Rattle.player_memory.specs.declared.conditions.TheConstants.{VIBRATO, INSTRUMENT_VIBRATO, NOTE_DEPENDENT, PORTA_UP}
-use Rattle.player_memory.specs.declared.conditions.TheConstants.{PORTA_DOWN, TONE_PORTA, CLIMB, DROP, RISE, SINK}
+use Rattle.player_memory.specs.declared.conditions.TheConstants.{PORTA_DOWN, TONE_PORTA, SWINGS, CLIMB, DROP, RISE}
+use Rattle.player_memory.specs.declared.conditions.TheConstants.{SINK}
 use Rattle.player_desk.proofs.Laws.{VoiceDesk, Ways, Leads, body_of, rest_of, joined, listed, done_as, in_scope}
 use Rattle.player_desk.proofs.Laws.{compared_is, over_is}
 use Rattle.player_desk.proofs.Laws.{Fields, SameSong}
@@ -92,7 +93,7 @@ cleared_leads g m on is at = (
     period = period_of g.look g.s.voice
 
     time : m.own VIB_TIME ≡ g.s.voice.vib_time
-    time = at.tells.done.fields.vib_time
+    time = at.tells.done.fields.vib_time (on.common.swings (on.keeps.swings is))
 
     at_time : (n : VoiceDesk) → n.own ≡ m.own → n.shared ≡ m.shared → n.sid ≡ m.sid →
         n.slide_low ≡ m.slide_low →
@@ -223,8 +224,10 @@ added_leads g m on is at = (
         n.sid ≡ m.sid → n.slide_low ≡ m.slide_low → n.slide_high ≡ m.slide_high →
         Tells g (set_at time g.s.voice.freq g.s.voice) n
     swung n own shared sid low high =
-        let fields : Fields (set_at time g.s.voice.freq g.s.voice) (tempo_of (g.r.voice + 1) g.s.common)
-        (put m.own VIB_TIME ((m.a + 2 + one_if m.c) % 256)) = assumption (next, at.cleared.tells.done.fields) in
+        let swung_time : g.r.layout.holds SWINGS ≡ true → (m.a + 2 + one_if m.c) % 256 ≡ time = λ kept. next in
+        let fields : Fields g.r.layout.holds (set_at time g.s.voice.freq g.s.voice)
+        (tempo_of (g.r.voice + 1) g.s.common) (put m.own VIB_TIME ((m.a + 2 + one_if m.c) % 256)) =
+        assumption (swung_time, at.cleared.tells.done.fields) in
         let song : SameSong (put m.own VIB_TIME ((m.a + 2 + one_if m.c) % 256)) g.d.own =
         assumption at.cleared.tells.done.song in
         own_tells g g.s.voice (set_at time g.s.voice.freq g.s.voice) m n shared sid low high (rw own fields)

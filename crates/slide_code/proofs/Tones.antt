@@ -8,7 +8,8 @@ use Rattle.scopes.specs.Trees.{Tree, ThenTree, WhenTree, NeverTree}
 use Rattle.play_model.specs.Wrap.{freq_minus, distance}
 use Rattle.play_model.specs.Freq.{freq}
 use Rattle.asked_numbers.specs.Range.{IsInRange}
-use Rattle.player_memory.specs.declared.labels.TheConstants.{FREQ_LOW, FREQ_HIGH, NOTE, FREQUENCY_LOWS, FREQUENCY_HIGHS}
+use Rattle.player_memory.specs.declared.labels.TheConstants.{PARAM, FREQ_LOW, FREQ_HIGH, NOTE, FREQUENCY_LOWS}
+use Rattle.player_memory.specs.declared.labels.TheConstants.{FREQUENCY_HIGHS}
 use Rattle.player_memory.specs.declared.conditions.TheConstants.{TONE_PORTA}
 use Rattle.player_desk.proofs.Laws.{VoiceDesk, Ways, Leads, body_of, indexed, listed, done_as}
 use Rattle.player_text.specs.declared.joints.TheConstants.{UP}
@@ -116,9 +117,9 @@ distance_leads g m on is some kept at =
     listed FREQUENCY_HIGHS m.y (freq m.y / 256) (on.notes.high m.y inside) refl
     (λ c f. (
       λ above.
-          low_read g.s.voice.param (speed % 256) on.row.places at.has.low at.tells.done.fields.param
+          low_read g.s.voice.param (speed % 256) on.row.places at.has.low param
           (λ sl low.
-          high_read g.s.voice.param (speed / 256) on.row.places at.has.high at.tells.done.fields.param
+          high_read g.s.voice.param (speed / 256) on.row.places at.has.high param
           (λ sh high. (
             λ reached.
                 arrives _ refl refl refl refl refl
@@ -130,7 +131,7 @@ distance_leads g m on is some kept at =
                     time = g.s.voice.vib_time;
                     speed = speed;
                     tells = tells_over g g.s.voice m _ refl refl refl refl refl at.tells;
-                    y = at.tells.done.fields.param;
+                    y = param;
                     carry = down;
                     has = record { low = at.has.low; high = at.has.high; small = fast };
                     is =
@@ -149,9 +150,9 @@ distance_leads g m on is some kept at =
             ),
           ))),
       λ below.
-          low_read g.s.voice.param (speed % 256) on.row.places at.has.low at.tells.done.fields.param
+          low_read g.s.voice.param (speed % 256) on.row.places at.has.low param
           (λ sl low.
-          high_read g.s.voice.param (speed / 256) on.row.places at.has.high at.tells.done.fields.param
+          high_read g.s.voice.param (speed / 256) on.row.places at.has.high param
           (λ sh high. (
             λ reached.
                 arrives _ refl refl refl refl refl
@@ -164,7 +165,7 @@ distance_leads g m on is some kept at =
                     time = g.s.voice.vib_time;
                     speed = speed;
                     tells = tells_over g g.s.voice m _ refl refl refl refl refl at.tells;
-                    y = at.tells.done.fields.param;
+                    y = param;
                     carry = not_reached;
                     has = record { low = at.has.low; high = at.has.high; small = fast };
                     is =
@@ -186,6 +187,9 @@ distance_leads g m on is some kept at =
           ))),
     )))
   where
+    param : m.own PARAM ≡ g.s.voice.param
+    param = at.tells.done.fields.param on.effects
+
     speed : ℕ
     speed = speed_of g.look g.s.voice
 

@@ -58,7 +58,8 @@ slides_are_worked = record {
   instrument = record { way_is = refl; time_is = refl; low_is = refl; high_is = refl };
   plain_up = record { way_is = refl; time_is = refl; low_is = refl; high_is = refl };
   plain_swings = record { way_is = refl; time_is = refl; low_is = refl; high_is = refl };
-  bare_up = refl;
+  alone_up = refl;
+  bare_up = record { way_is = refl; time_is = refl; low_is = refl; high_is = refl };
 }
 
 -- ---- the lists
@@ -283,6 +284,7 @@ grounds_are_worked look = record {
     rise = λ any. refl;
     sink = λ any. refl;
     found = λ any. refl;
+    effects = λ any. refl;
   };
 }
 
@@ -332,6 +334,7 @@ others_are_denied look = record {
   swings = λ keeps. true≢false (sym (keeps.swings refl));
   calculates = λ keeps. true≢false (sym (keeps.calculates (λ e. absurd (omega (arith, e))) (omega arith)));
   common = λ keeps. true≢false (sym (keeps.climb refl));
+  effects = λ keeps. true≢false (sym (keeps.effects refl));
 }
 
 -- another way than to the end
@@ -354,6 +357,6 @@ runs_are_denied look = record {
     after : Voice
     after = left_by 1 (looked_up look) (voice_with 1 1 57)
 
-    its_fields : VoiceBytesStand after (tempo_of 2 (start_common 1)) still_at →
-        Fields after (tempo_of 2 (start_common 1)) still_at
-    its_fields stand = fields_of after (tempo_of 2 (start_common 1)) still_at stand
+    its_fields : VoiceBytesStand laid.holds after (tempo_of 2 (start_common 1)) still_at →
+        Fields laid.holds after (tempo_of 2 (start_common 1)) still_at
+    its_fields stand = fields_of laid.holds after (tempo_of 2 (start_common 1)) still_at stand

@@ -20,8 +20,9 @@ use Rattle.scopes.specs.Meaning.{Outcome, Done, Left, Ran, each_one, ran}
 use Rattle.scope_lines.specs.Reach.{nothing_around, has_lines}
 use Rattle.scope_lines.specs.Sizes.{size}
 use Rattle.player_memory.specs.declared.conditions.TheConstants.{PORTA_UP, PORTA_DOWN, TONE_PORTA, TIE_NOTE, VIBRATO}
-use Rattle.player_memory.specs.declared.conditions.TheConstants.{INSTRUMENT_VIBRATO, NOTE_DEPENDENT}
+use Rattle.player_memory.specs.declared.conditions.TheConstants.{INSTRUMENT_VIBRATO, NOTE_DEPENDENT, WAVE_COMMAND}
 use Rattle.player_memory.specs.declared.conditions.TheConstants.{SWINGS, CLIMB, DROP, RISE, SINK, FOUND_NOTE}
+use Rattle.player_memory.specs.declared.conditions.TheConstants.{EFFECTS}
 use Rattle.player_memory.specs.declared.labels.TheConstants.{FREQUENCY_LOWS, FREQUENCY_HIGHS, NEXT_FREQUENCY_LOWS}
 use Rattle.player_memory.specs.declared.labels.TheConstants.{NEXT_FREQUENCY_HIGHS, SPEED_LEFTS, SPEED_RIGHTS, PERIODS}
 use Rattle.player_memory.specs.declared.labels.TheConstants.{SLIDES_LOW, SLIDES_HIGH}
@@ -35,12 +36,12 @@ use Rattle.player_text.specs.Steps.{effect_tree}
 abbrev pub slide_tree : Tree
 slide_tree = effect_tree
 
--- In a scope that it leaves where the effect is done it has lines; they take 229 bytes where all are kept, and 3 where
--- none are that stand under a condition.
+-- In a scope that it leaves where the effect is done it has lines; they take 229 bytes where all are kept, and none
+-- where none are that stand under a condition.
 pub record SlideBlockHasLines : Type 0 where
   pub has : has_lines nothing_around (ScopeTree EFFECTED slide_tree) ≡ true
   pub all : size (λ condition. true) slide_tree ≡ 229
-  pub least : size (λ condition. false) slide_tree ≡ 3
+  pub least : size (λ condition. false) slide_tree ≡ 0
 
 -- ---- the rule
 
@@ -111,7 +112,7 @@ pub record KeepsSlide (layout : Layout) (look : LookUps) (command : ℕ) (v : Vo
   pub calculates : NeedsSpeed command v.param → 128 ≤ (look.row Speed v.param).left →
       layout.holds NOTE_DEPENDENT ≡ true
 
--- what several features have in common is kept with any of them
+-- what several features have in common is kept with any of them, and the effect step with each that may run in it
 pub record KeepsCommon (layout : Layout) : Type 0 where
   pub swings : (layout.holds VIBRATO || layout.holds INSTRUMENT_VIBRATO) ≡ true → layout.holds SWINGS ≡ true
   pub climb : (layout.holds PORTA_UP || layout.holds TONE_PORTA || layout.holds NOTE_DEPENDENT) ≡ true →
@@ -123,6 +124,9 @@ pub record KeepsCommon (layout : Layout) : Type 0 where
   pub sink : (layout.holds PORTA_DOWN || layout.holds TONE_PORTA || layout.holds VIBRATO
       || layout.holds INSTRUMENT_VIBRATO) ≡ true → layout.holds SINK ≡ true
   pub found : (layout.holds TONE_PORTA || layout.holds TIE_NOTE) ≡ true → layout.holds FOUND_NOTE ≡ true
+  pub effects : (layout.holds PORTA_UP || layout.holds PORTA_DOWN || layout.holds TONE_PORTA || layout.holds TIE_NOTE
+      || layout.holds VIBRATO || layout.holds INSTRUMENT_VIBRATO || layout.holds WAVE_COMMAND) ≡ true →
+      layout.holds EFFECTS ≡ true
 
 -- ---- what is read
 

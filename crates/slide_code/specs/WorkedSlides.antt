@@ -10,7 +10,7 @@ use Rattle.play_model.specs.State.{Voice, Playing, start_voice, start_common}
 use Rattle.asked_numbers.specs.declared.range.NumberRange.{NumberRange}
 use Rattle.scopes.specs.Desk.{Desk, Layout}
 use Rattle.scopes.specs.Meaning.{Outcome, Ran, Done, Left, Stuck, each_one, ran}
-use Rattle.player_memory.specs.declared.conditions.TheConstants.{PORTA_UP, NOTE_DEPENDENT}
+use Rattle.player_memory.specs.declared.conditions.TheConstants.{PORTA_UP, NOTE_DEPENDENT, EFFECTS}
 use Rattle.player_memory.specs.declared.labels.TheConstants.{COMMAND, PARAM, NOTE, LAST_NOTE, VIB_TIME, FREQ_LOW}
 use Rattle.player_memory.specs.declared.labels.TheConstants.{FREQ_HIGH}
 use Rattle.player_memory.specs.declared.labels.TheConstants.{FREQUENCY_LOWS, FREQUENCY_HIGHS, NEXT_FREQUENCY_LOWS}
@@ -59,6 +59,10 @@ bare = record laid { holds = λ condition. false }
 
 abbrev pub alone : ℕ → Layout
 alone its = record laid { holds = λ condition. nat_eq condition its }
+
+-- all are kept but those under this one
+abbrev pub without : ℕ → Layout
+without its = record laid { holds = λ condition. not (nat_eq condition its) }
 
 -- row 1 is the speed $180, and for a vibrato the period 1 and the depth $80; row 2 is the half tone over 4, and the
 -- period 3; row 3 is the speed $7F02
@@ -149,8 +153,9 @@ pub record SlidesAreWorked : Type 0 where
   -- without the code for calculated speeds
   pub plain_up : IsSlid (slid plain 1 1 57 5 0x34 0x12) (Left EFFECTED) 5 0xB4 0x13
   pub plain_swings : IsSlid (slid plain 4 1 57 0 0x34 0x12) (Left EFFECTED) 2 0xB4 0x12
-  -- where its lines aren't kept a command is stuck
-  pub bare_up : (slid bare 1 1 57 5 0x34 0x12).outcome ≡ Stuck
+  -- where the effect step is kept without its own lines a command is stuck, and where it isn't kept nothing is done
+  pub alone_up : (slid (alone EFFECTS) 1 1 57 5 0x34 0x12).outcome ≡ Stuck
+  pub bare_up : IsSlid (slid bare 1 1 57 5 0x34 0x12) Done 5 0x34 0x12
 
 -- ---- what the law asks is met there
 
@@ -219,6 +224,7 @@ pub record OthersAreDenied (look : LookUps) : Type 0 where
   pub swings : ¬ KeepsSlide bare (looked_up look) 4 (voice_with 4 1 57)
   pub calculates : ¬ KeepsSlide plain (looked_up look) 1 (voice_with 1 2 57)
   pub common : ¬ KeepsCommon (alone PORTA_UP)
+  pub effects : ¬ KeepsCommon (without EFFECTS)
 
 -- the second voice slides up from $1234, or is at A-4 at once
 abbrev pub playing_with : Voice → Playing

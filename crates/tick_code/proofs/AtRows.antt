@@ -28,22 +28,22 @@ use Rattle.tick_code.proofs.NoteStarts.{AtCommand, note_leads}
 
 -- from a state whose row has been done, where the note that waits tells whether it has started
 end_leads : (r : Reader) (x : Playing) (t : Ticked) (handed : Lent) (d m : VoiceDesk) →
-    nat_eq x.voice.new_note 0 ≡ not t.started → cleared x ≡ t.playing → Done r.voice x handed d m →
-    Leads r (rest_of DONE tick_tree) (in_scope TICKED (ways_of r.voice t handed d)) m
+    nat_eq x.voice.new_note 0 ≡ not t.started → cleared x ≡ t.playing → Done r.layout.holds r.voice x handed d m →
+    Leads r (rest_of DONE tick_tree) (in_scope TICKED (ways_of r t handed d)) m
 end_leads r x t handed d m note is done = (
   λ zero. record {
     is = not-true t.started (sym shown ∙ zero);
     done =
-        done_by r.voice x t.playing handed d _
+        done_by r.layout.holds r.voice x t.playing handed d _
         (sym is ∙ cleared_same x (sym done.fields.new_note ∙ eqb-true (m.own NEW_NOTE) 0 zero))
-        (done_over r.voice x handed d m _ refl refl refl done);
+        (done_over r.layout.holds r.voice x handed d m _ refl refl refl done);
   },
   λ not_zero. record {
     is = not-false t.started (sym shown ∙ not_zero);
     done =
-        done_by r.voice (cleared x) t.playing handed d _ (sym is)
-        (own_done r.voice x (cleared x) handed d m _ refl refl refl (assumption done.fields) (assumption done.song)
-        done);
+        done_by r.layout.holds r.voice (cleared x) t.playing handed d _ (sym is)
+        (own_done r.layout.holds r.voice x (cleared x) handed d m _ refl refl refl (assumption done.fields)
+        (assumption done.song) done);
   },
 )
   where
@@ -53,21 +53,21 @@ end_leads r x t handed d m note is done = (
 -- ---- the row
 
 -- A is the gateoff timer
-record AtTimer (number voice timer : ℕ) (s : Playing) (handed : Lent) (d m : VoiceDesk) : Type 0 where
-  at : Ticking number voice s handed d m
+record AtTimer (number : ℕ) (r : Reader) (timer : ℕ) (s : Playing) (handed : Lent) (d m : VoiceDesk) : Type 0 where
+  at : Ticking number r s handed d m
   a : m.a ≡ timer
 
 abbrev timer_tree : Tree
 timer_tree = behind (rest_of AT_ROW tick_tree)
 
 timer_leads : (r : Reader) (look : LookUps) (number : ℕ) (s : Playing) (handed : Lent) (d : VoiceDesk)
-    (ways : Ways) (m : VoiceDesk) → InstrumentAt r look number → Ticking number r.voice s handed d m →
+    (ways : Ways) (m : VoiceDesk) → InstrumentAt r look number → Ticking number r s handed d m →
     Leads r (first_of timer_tree)
-    (done_as (AtTimer number r.voice (look.instrument number).gate_timer s handed d) ways) m
+    (done_as (AtTimer number r (look.instrument number).gate_timer s handed d) ways) m
 timer_leads r look number s handed d ways m ground at =
     listed GATE_TIMERS number (look.instrument number).gate_timer ground.gate_timer at.y_is
     (λ b e. record {
-      at = record { done = done_over r.voice s handed d m _ refl refl refl at.done; y_is = at.y_is };
+      at = record { done = done_over r.layout.holds r.voice s handed d m _ refl refl refl at.done; y_is = at.y_is };
       a = e;
     })
 
@@ -77,16 +77,16 @@ pub row_leads : (r : Reader) (look : LookUps) (s : Playing) (handed : Lent) (d m
     KeepsTempo r.layout s.voice.new_command s.voice.new_param →
     KeepsInstrument r.layout (look.instrument s.voice.instrument) s.voice.vib_delay → KeepsShared r.layout →
     (s.voice.new_command ≡ 0xE → s.voice.new_param ≢ 0 → SpeedAt r look s.voice.new_param) →
-    Done r.voice s handed d m →
+    Done r.layout.holds r.voice s handed d m →
     Leads r (rest_of AT_ROW tick_tree)
     (in_scope TICKED
-    (ways_of r.voice (at_row (r.voice + 1) look (look.instrument s.voice.instrument) s) handed d)) m
+    (ways_of r (at_row (r.voice + 1) look (look.instrument s.voice.instrument) s) handed d)) m
 unfolding at_row
 row_leads r look s handed d m voice few small ground keeps row tempo instrument shared sides done =
-    goes_on true r (first_of timer_tree) (behind timer_tree) (AtTimer number r.voice i.gate_timer s handed d) goal
+    goes_on true r (first_of timer_tree) (behind timer_tree) (AtTimer number r i.gate_timer s handed d) goal
     (indexed (m.own INSTRUMENT) m)
     (timer_leads r look number s handed d goal (indexed (m.own INSTRUMENT) m) ground (record {
-      done = done_over r.voice s handed d m _ refl refl refl done;
+      done = done_over r.layout.holds r.voice s handed d m _ refl refl refl done;
       y_is = done.fields.instrument;
     }))
     (λ n timer.
@@ -97,9 +97,9 @@ row_leads r look s handed d m voice few small ground keeps row tempo instrument 
     record (loaded (bit_and n.a 0x3F) n) { own = put n.own GATE_TIMER (bit_and n.a 0x3F) } in
     joined true r TAKEN (body_of TAKEN tick_tree) (rest_of TAKEN tick_tree) (AtCommand r look number timed handed d)
     goal set
-    (note_leads r look number timed handed d goal set ground instrument row few (record {
+    (note_leads r look number timed handed d goal set ground instrument row shared few (record {
       done =
-          own_done r.voice s timed handed d n set refl refl refl (assumption (six, stands.fields))
+          own_done r.layout.holds r.voice s timed handed d n set refl refl refl (assumption (six, stands.fields))
           (assumption stands.song) stands;
       y_is = timer.at.y_is;
     }))
@@ -131,7 +131,7 @@ row_leads r look s handed d m voice few small ground keeps row tempo instrument 
     after = note_ended (row_command (r.voice + 1) look i c p (note_started i timed))
 
     goal : Ways
-    goal = in_scope TICKED (ways_of r.voice after handed d)
+    goal = in_scope TICKED (ways_of r after handed d)
 
     same : starts (row_command (r.voice + 1) look i c p (note_started i timed)) ≡ starts timed
     same =

@@ -50,7 +50,7 @@ counts_is channel s counts = rw counts refl
 record AtLength (r : Reader) (tempo : ℕ) (s : Playing) (handed : Lent) (d m : VoiceDesk) : Type 0 where
   common : Common
   tick : ℕ
-  done : Done r.voice (record s { common = common }) handed d m
+  done : Done r.layout.holds r.voice (record s { common = common }) handed d m
   a : m.a ≡ tick
   is : with_tick tick (record s { common = common }) ≡ reloaded (r.voice + 1) tempo s
 
@@ -68,7 +68,7 @@ funk_place r label number y room is few e =
 
 turn_leads : (r : Reader) (tempo : ℕ) (s : Playing) (handed : Lent) (d : VoiceDesk) (ways : Ways) (m : VoiceDesk) →
     r.voice < 3 → IsRoom r.layout r.rows → (tempo < 2 → r.layout.holds FUNK_TEMPO ≡ true) → m.a ≡ tempo →
-    Done r.voice s handed d m →
+    Done r.layout.holds r.voice s handed d m →
     Leads r (first_of length_tree) (done_as (AtLength r tempo s handed d) ways) m
 turn_leads r tempo s handed d ways m few room keeps a done = (
   λ kept. (
@@ -82,7 +82,7 @@ turn_leads r tempo s handed d ways m few room keeps a done = (
                 common = with_tempo (r.voice + 1) (bit_xor m.a 1) s.common;
                 tick = s.common.funk_one;
                 done = turned _ refl refl refl;
-                a = done.common.funk_one;
+                a = done.common.funk_one kept;
                 is =
                     first_is (r.voice + 1) tempo (bit_xor m.a 1) s none (ap (λ n. bit_xor n 1) (a ∙ none));
               })
@@ -92,7 +92,7 @@ turn_leads r tempo s handed d ways m few room keeps a done = (
                 common = with_tempo (r.voice + 1) (bit_xor m.a 1) s.common;
                 tick = s.common.funk_two;
                 done = turned _ refl refl refl;
-                a = done.common.funk_two;
+                a = done.common.funk_two kept;
                 is =
                     second_is (r.voice + 1) tempo (bit_xor m.a 1) s one (ap (λ n. bit_xor n 1) (a ∙ one));
               })
@@ -110,34 +110,36 @@ turn_leads r tempo s handed d ways m few room keeps a done = (
     stays n own shared sid same long = record {
       common = s.common;
       tick = tempo;
-      done = done_over r.voice s handed d m n own shared sid done;
+      done = done_over r.layout.holds r.voice s handed d m n own shared sid done;
       a = same ∙ a;
       is = length_is (r.voice + 1) tempo s long;
     }
 
     turned : (n : VoiceDesk) → n.own ≡ put m.own TEMPO (bit_xor m.a 1) → n.shared ≡ m.shared → n.sid ≡ m.sid →
-        Done r.voice (record s { common = with_tempo (r.voice + 1) (bit_xor m.a 1) s.common }) handed d n
+        Done r.layout.holds r.voice (record s { common = with_tempo (r.voice + 1) (bit_xor m.a 1) s.common }) handed d n
     turned n own shared sid =
-        done_over r.voice _ handed d (record m { own = put m.own TEMPO (bit_xor m.a 1) }) n own shared sid
-        (own_tempo_set r.voice s handed d m (bit_xor m.a 1) few done)
+        done_over r.layout.holds r.voice _ handed d (record m { own = put m.own TEMPO (bit_xor m.a 1) }) n own shared
+        sid
+        (own_tempo_set r.layout.holds r.voice s handed d m (bit_xor m.a 1) few done)
 
 -- A is the tempo
 pub reload_leads : (r : Reader) (s : Playing) (handed : Lent) (d : VoiceDesk) (ways : Ways) (Q : VoiceDesk → Type 0)
     (m : VoiceDesk) → r.voice < 3 → IsRoom r.layout r.rows →
     (tempo_of (r.voice + 1) s.common < 2 → r.layout.holds FUNK_TEMPO ≡ true) →
     m.a ≡ tempo_of (r.voice + 1) s.common →
-    ((n : VoiceDesk) → Done r.voice (reloaded (r.voice + 1) (tempo_of (r.voice + 1) s.common) s) handed d n → Q n) →
-    Done r.voice s handed d m → Leads r length_tree (done_as Q ways) m
+    ((n : VoiceDesk) →
+    Done r.layout.holds r.voice (reloaded (r.voice + 1) (tempo_of (r.voice + 1) s.common) s) handed d n → Q n) →
+    Done r.layout.holds r.voice s handed d m → Leads r length_tree (done_as Q ways) m
 reload_leads r s handed d ways Q m few room keeps a into done =
     goes_on true r (first_of length_tree) (behind length_tree) (AtLength r tempo s handed d) (done_as Q ways) m
     (turn_leads r tempo s handed d (done_as Q ways) m few room keeps a done)
     (λ n at.
     let tick : n.a ≡ at.tick = at.a in
     into _
-    (done_by r.voice _ _ handed d _ (sym at.is)
-    (own_done r.voice (record s { common = at.common }) (with_tick at.tick (record s { common = at.common })) handed d
-    n _
-    refl refl refl (assumption (tick, at.done.fields)) (assumption at.done.song) at.done)))
+    (done_by r.layout.holds r.voice _ _ handed d _ (sym at.is)
+    (own_done r.layout.holds r.voice (record s { common = at.common })
+    (with_tick at.tick (record s { common = at.common })) handed d n _ refl refl refl
+    (assumption (tick, at.done.fields)) (assumption at.done.song) at.done)))
   where
     tempo : ℕ
     tempo = tempo_of (r.voice + 1) s.common

@@ -5,7 +5,8 @@ use Rattle.std.proofs.lemmas.Bool.{eqb-true, leb-true}
 use Rattle.play_model.specs.LookUps.{LookUps}
 use Rattle.play_model.specs.Uses.{Turn, DoesRow, DoesOnce, AsksFunkTempo, by_length}
 use Rattle.scopes.specs.Desk.{Layout}
-use Rattle.player_memory.specs.declared.conditions.TheConstants.{SET_WAVE_POINTER, FUNK_TEMPO, SET_TEMPO, FUNK_TURNS, FUNK_CHOICE}
+use Rattle.player_memory.specs.declared.conditions.TheConstants.{SET_WAVE_POINTER, FUNK_TEMPO, SET_TEMPO, FUNK_TURNS}
+use Rattle.player_memory.specs.declared.conditions.TheConstants.{FUNK_CHOICE}
 use Rattle.player_memory.specs.FactLines.{KeepsShared}
 use Rattle.player_memory.specs.Commands.{condition_of_both, condition_of_tempo, AreKept, KeepsTempo}
 use Rattle.tick_code.specs.TickBlock.{IsRowDone, KeepsRow, KeepsInstrument, KeepsTick}

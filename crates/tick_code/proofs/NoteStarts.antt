@@ -9,8 +9,9 @@ use Rattle.play_model.specs.LookUps.{LookUps}
 use Rattle.play_model.specs.State.{Playing}
 use Rattle.play_model.specs.TickStep.{note_started, row_command}
 use Rattle.scopes.specs.Trees.{Tree}
-use Rattle.player_memory.specs.declared.conditions.TheConstants.{ROW_TONE, VIBRATO_DELAY}
+use Rattle.player_memory.specs.declared.conditions.TheConstants.{ROW_TONE, ROW_COMMAND, VIBRATO_DELAY}
 use Rattle.player_memory.specs.declared.labels.TheConstants.{NOTE, NEW_NOTE, NEW_COMMAND, DELAYS}
+use Rattle.player_memory.specs.FactLines.{KeepsShared}
 use Rattle.player_desk.proofs.Laws.{VoiceDesk, Reader, Ways, Leads, done_as, in_scope, body_of, rest_of, joined}
 use Rattle.player_desk.proofs.Laws.{goes_on, Lent, own_done, done_over, listed}
 use Rattle.player_text.specs.declared.joints.TheConstants.{TAKEN}
@@ -28,7 +29,7 @@ use Rattle.tick_code.proofs.SoundBegins.{sounding, sound_leads}
 pub record AtCommand (r : Reader) (look : LookUps) (number : ℕ) (s : Playing) (handed : Lent) (d m : VoiceDesk)
     : Type 0 where
   pub u : Playing
-  pub here : Ticking number r.voice u handed d m
+  pub here : Ticking number r u handed d m
   pub command_is : u.voice.new_command ≡ s.voice.new_command
   pub param_is : u.voice.new_param ≡ s.voice.new_param
   pub note : nat_eq u.voice.new_note 0 ≡ not (starts s)
@@ -48,7 +49,7 @@ does_start s n some e =
     rw (z, e) refl
 
 at_none : (r : Reader) (look : LookUps) (number : ℕ) (s : Playing) (handed : Lent) (d m : VoiceDesk) →
-    s.voice.new_note ≡ 0 → Ticking number r.voice s handed d m → AtCommand r look number s handed d m
+    s.voice.new_note ≡ 0 → Ticking number r s handed d m → AtCommand r look number s handed d m
 at_none r look number s handed d m none here = record {
   u = s;
   here = here;
@@ -63,7 +64,7 @@ at_none r look number s handed d m none here = record {
 
 at_slide : (r : Reader) (look : LookUps) (number : ℕ) (s : Playing) (handed : Lent) (d m : VoiceDesk) →
     s.voice.new_note ≢ 0 → s.voice.new_command ≡ 3 →
-    Ticking number r.voice (cleared (noted (look.instrument number) s)) handed d m →
+    Ticking number r (cleared (noted (look.instrument number) s)) handed d m →
     AtCommand r look number s handed d m
 at_slide r look number s handed d m some slides here = record {
   u = cleared (noted (look.instrument number) s);
@@ -80,11 +81,11 @@ at_slide r look number s handed d m some slides here = record {
 
 at_sound : (r : Reader) (look : LookUps) (number : ℕ) (s : Playing) (handed : Lent) (d m : VoiceDesk) →
     s.voice.new_note ≢ 0 → s.voice.new_command ≢ 3 →
-    Ticking number r.voice (sounding (look.instrument number) s) handed d m → AtCommand r look number s handed d m
+    Ticking number r (sounding (look.instrument number) s) handed d m → AtCommand r look number s handed d m
 at_sound r look number s handed d m some sounds here =
     let row = note_row (look.instrument number) s in record {
       u = note_started (look.instrument number) s;
-      here = ticking_as number r.voice _ _ handed d m (sound_started (look.instrument number) s some sounds) here;
+      here = ticking_as number r _ _ handed d m (sound_started (look.instrument number) s some sounds) here;
       command_is = row.new_command;
       param_is = row.new_param;
       note =
@@ -97,18 +98,18 @@ at_sound r look number s handed d m some sounds here =
 
 record AtBegins (r : Reader) (look : LookUps) (number : ℕ) (s : Playing) (handed : Lent) (d m : VoiceDesk)
     : Type 0 where
-  at : Ticking number r.voice (noted (look.instrument number) s) handed d m
+  at : Ticking number r (noted (look.instrument number) s) handed d m
   sounds : s.voice.new_command ≢ 3
 
 begins_leads : (r : Reader) (look : LookUps) (number : ℕ) (s : Playing) (handed : Lent) (d : VoiceDesk)
-    (ways : Ways) (m : VoiceDesk) → s.voice.new_note ≢ 0 → s.voice.new_command < 256 →
-    Ticking number r.voice (noted (look.instrument number) s) handed d m →
+    (ways : Ways) (m : VoiceDesk) → r.layout.holds ROW_COMMAND ≡ true → s.voice.new_note ≢ 0 →
+    s.voice.new_command < 256 → Ticking number r (noted (look.instrument number) s) handed d m →
     Leads r (body_of STARTS tick_tree)
     (in_scope STARTS (done_as (AtBegins r look number s handed d)
     (in_scope TAKEN (done_as (AtCommand r look number s handed d) ways)))) m
-begins_leads r look number s handed d ways m some small at = (
+begins_leads r look number s handed d ways m command some small at = (
   λ other. record {
-    at = record { done = done_over r.voice _ handed d m _ refl refl refl at.done; y_is = at.y_is };
+    at = record { done = done_over r.layout.holds r.voice _ handed d m _ refl refl refl at.done; y_is = at.y_is };
     sounds = λ e. both_ways _ (not-true _ other) (turned ∙ eq-eqb s.voice.new_command 3 e);
   },
   λ slides.
@@ -118,7 +119,7 @@ begins_leads r look number s handed d ways m some small at = (
             at_slide r look number s handed d _ some
             (eqb-true s.voice.new_command 3 (sym turned ∙ not-false _ slides)) (record {
               done =
-                  own_done r.voice (noted i s) (cleared (noted i s)) handed d m _ refl refl refl
+                  own_done r.layout.holds r.voice (noted i s) (cleared (noted i s)) handed d m _ refl refl refl
                   (assumption (none, at.done.fields)) (assumption at.done.song) at.done;
               y_is = at.y_is;
             }),
@@ -130,7 +131,7 @@ begins_leads r look number s handed d ways m some small at = (
     i = look.instrument number
 
     turned : nat_eq (bit_xor (m.own NEW_COMMAND) 3) 0 ≡ nat_eq s.voice.new_command 3
-    turned = ap (λ n. nat_eq (bit_xor n 3) 0) at.done.fields.new_command ∙ is_slide s.voice.new_command small
+    turned = ap (λ n. nat_eq (bit_xor n 3) 0) (at.done.fields.new_command command) ∙ is_slide s.voice.new_command small
 
 -- ---- the note
 
@@ -144,18 +145,18 @@ taken s = record s { voice = record s.voice { note = (s.voice.new_note + 256 - 0
 delay_leads : (r : Reader) (look : LookUps) (number : ℕ) (s : Playing) (handed : Lent) (d : VoiceDesk)
     (ways : Ways) (m : VoiceDesk) → InstrumentAt r look number →
     KeepsInstrument r.layout (look.instrument number) s.voice.vib_delay →
-    Ticking number r.voice (taken s) handed d m →
-    Leads r (first_of delay_tree) (done_as (Ticking number r.voice (noted (look.instrument number) s) handed d) ways) m
+    Ticking number r (taken s) handed d m →
+    Leads r (first_of delay_tree) (done_as (Ticking number r (noted (look.instrument number) s) handed d) ways) m
 delay_leads r look number s handed d ways m ground keeps at = (
   λ kept.
       listed DELAYS number ((i.vibrato_delay + 255) % 256) ground.delay at.y_is
       (λ b e. record {
         done =
-            own_done r.voice (taken s) (noted i s) handed d m _ refl refl refl (assumption (e, at.done.fields))
-            (assumption at.done.song) at.done;
+            own_done r.layout.holds r.voice (taken s) (noted i s) handed d m _ refl refl refl
+            (assumption (e, at.done.fields)) (assumption at.done.song) at.done;
         y_is = at.y_is;
       }),
-  λ out. ticking_as number r.voice (taken s) (noted i s) handed d m (same_delay (none out)) at,
+  λ out. ticking_as number r (taken s) (noted i s) handed d m (same_delay (none out)) at,
 )
   where
     i : Instrument
@@ -173,11 +174,11 @@ delay_leads r look number s handed d ways m ground keeps at = (
 taken_leads : (r : Reader) (look : LookUps) (number : ℕ) (s : Playing) (handed : Lent) (d : VoiceDesk)
     (ways : Ways) (m : VoiceDesk) → InstrumentAt r look number →
     KeepsInstrument r.layout (look.instrument number) s.voice.vib_delay →
-    KeepsRow r.layout s.voice.new_command → s.voice.new_note ≢ 0 → s.voice.new_command < 256 →
-    Ticking number r.voice (taken s) handed d m →
+    KeepsRow r.layout s.voice.new_command → KeepsShared r.layout → s.voice.new_note ≢ 0 →
+    s.voice.new_command < 256 → Ticking number r (taken s) handed d m →
     Leads r delay_tree (in_scope TAKEN (done_as (AtCommand r look number s handed d) ways)) m
-taken_leads r look number s handed d ways m ground keeps row some small at =
-    goes_on true r (first_of delay_tree) (behind delay_tree) (Ticking number r.voice (noted i s) handed d) goal m
+taken_leads r look number s handed d ways m ground keeps row shared some small at =
+    goes_on true r (first_of delay_tree) (behind delay_tree) (Ticking number r (noted i s) handed d) goal m
     (delay_leads r look number s handed d goal m ground keeps at) on
   where
     i : Instrument
@@ -186,41 +187,43 @@ taken_leads r look number s handed d ways m ground keeps row some small at =
     goal : Ways
     goal = in_scope TAKEN (done_as (AtCommand r look number s handed d) ways)
 
-    sounds : (k : VoiceDesk) → s.voice.new_command ≢ 3 → Ticking number r.voice (noted i s) handed d k →
+    sounds : (k : VoiceDesk) → s.voice.new_command ≢ 3 → Ticking number r (noted i s) handed d k →
         Leads r sound_tree goal k
     sounds k apart at =
         sound_leads r look number s.voice.vib_delay s handed d ways (AtCommand r look number s handed d) k
         (λ l sounds. at_sound r look number s handed d l some apart sounds) ground keeps at
 
     -- from behind the delay on
-    on : (k : VoiceDesk) → Ticking number r.voice (noted i s) handed d k → Leads r (behind delay_tree) goal k
+    on : (k : VoiceDesk) → Ticking number r (noted i s) handed d k → Leads r (behind delay_tree) goal k
     on k at = (
       λ kept.
           joined true r STARTS (body_of STARTS tick_tree) (rest_of STARTS tick_tree)
           (AtBegins r look number s handed d) (done_as (Leads r sound_tree goal) goal) k
-          (begins_leads r look number s handed d ways k some small at) (λ l begins. sounds l begins.sounds begins.at),
+          (begins_leads r look number s handed d ways k (shared.tone kept) some small at)
+          (λ l begins. sounds l begins.sounds begins.at),
       λ out. sounds k (λ slides. both_ways (r.layout.holds ROW_TONE) out (row.tone slides)) at,
     )
 
 pub note_leads : (r : Reader) (look : LookUps) (number : ℕ) (s : Playing) (handed : Lent) (d : VoiceDesk)
     (ways : Ways) (m : VoiceDesk) → InstrumentAt r look number →
     KeepsInstrument r.layout (look.instrument number) s.voice.vib_delay →
-    KeepsRow r.layout s.voice.new_command → s.voice.new_command < 256 → Ticking number r.voice s handed d m →
+    KeepsRow r.layout s.voice.new_command → KeepsShared r.layout → s.voice.new_command < 256 →
+    Ticking number r s handed d m →
     Leads r (body_of TAKEN tick_tree) (in_scope TAKEN (done_as (AtCommand r look number s handed d) ways)) m
-note_leads r look number s handed d ways m ground keeps row small at = (
+note_leads r look number s handed d ways m ground keeps row shared small at = (
   λ zero.
       at_none r look number s handed d _ (sym note ∙ eqb-true (m.own NEW_NOTE) 0 zero) (record {
-        done = done_over r.voice s handed d m _ refl refl refl at.done;
+        done = done_over r.layout.holds r.voice s handed d m _ refl refl refl at.done;
         y_is = at.y_is;
       }),
   λ not_zero.
       let note_taken_is = note_is (m.own NEW_NOTE) s.voice.new_note note in
-      taken_leads r look number s handed d ways quiet ground keeps row (λ e. eqb-false (m.own NEW_NOTE) 0 not_zero (note ∙ e))
-      small
+      taken_leads r look number s handed d ways quiet ground keeps row shared
+      (λ e. eqb-false (m.own NEW_NOTE) 0 not_zero (note ∙ e)) small
       (record {
         done =
-            own_done r.voice s (taken s) handed d m quiet refl refl refl (assumption (note_taken_is, at.done.fields))
-            (assumption at.done.song) at.done;
+            own_done r.layout.holds r.voice s (taken s) handed d m quiet refl refl refl
+            (assumption (note_taken_is, at.done.fields)) (assumption at.done.song) at.done;
         y_is = at.y_is;
       }),
 )

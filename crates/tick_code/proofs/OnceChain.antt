@@ -9,6 +9,7 @@ use Rattle.play_model.specs.State.{Playing}
 use Rattle.play_model.specs.TickStep.{row_command}
 use Rattle.player_memory.specs.declared.conditions.TheConstants.{SET_WAVE_POINTER, SET_TEMPO, FUNK_TURNS, FUNK_CHOICE}
 use Rattle.player_memory.specs.Commands.{condition_of, condition_of_both, AreKept, KeepsTempo}
+use Rattle.player_memory.specs.FactLines.{KeepsShared}
 use Rattle.player_desk.proofs.Laws.{VoiceDesk, Reader, Ways, Leads, done_as, Lent, Done, done_by}
 use Rattle.command_code.proofs.Laws.{Between, Before, part_leads, passed, link, wave_pointer_does, tempo_lead, SpeedAt}
 use Rattle.command_code.proofs.Laws.{funk_leads, Ruled, early_lead, late_lead}
@@ -37,15 +38,16 @@ abbrev left_by : Reader → LookUps → Instrument → ℕ → ℕ → Playing �
 left_by r look i c p u = row_command (r.voice + 1) look i c p u
 
 abbrev pub Ended : Reader → LookUps → Instrument → ℕ → ℕ → Playing → Lent → VoiceDesk → VoiceDesk → Type 0
-Ended r look i c p u handed d m = Done r.voice (left_by r look i c p u) handed d m
+Ended r look i c p u handed d m = Done r.layout.holds r.voice (left_by r look i c p u) handed d m
 
 -- Y is the command, from 5 on, and A its parameter
 pub once_leads : (r : Reader) (look : LookUps) (i : Instrument) (c p : ℕ) (u : Playing) (handed : Lent)
     (d : VoiceDesk) (ways : Ways) (m : VoiceDesk) → r.voice < 3 → 5 ≤ c → c < 256 → p < 256 →
-    KeepsCommand r.layout c p → KeepsTempo r.layout c p → (c ≡ 0xE → p ≢ 0 → SpeedAt r look p) →
+    KeepsCommand r.layout c p → KeepsTempo r.layout c p → KeepsShared r.layout →
+    (c ≡ 0xE → p ≢ 0 → SpeedAt r look p) →
     Before 5 r c p u (left_by r look i c p u) handed d m →
     Leads r from_ad (done_as (Ended r look i c p u handed d) ways) m
-once_leads r look i c p u handed d ways m voice from few small keeps tempo sides at =
+once_leads r look i c p u handed d ways m voice from few small keeps tempo shared sides at =
     early_lead r c p u t handed d from_wave_pointer goal m ruled at_wave_pointer at
   where
     goal : Ways
@@ -68,6 +70,7 @@ once_leads r look i c p u handed d ways m voice from few small keeps tempo sides
       rule = λ condition is.
           row_once (r.voice + 1) look i c p u from (other_than 8 c condition refl is)
           (other_than 14 c condition refl is) (other_than 15 c condition refl is);
+      shared = shared;
     }
 
     at_funk : (n : VoiceDesk) → Between r c p u t handed d (c ≢ 14) (c ≡ 14) (c ≡ 14) n → Leads r from_funk goal n
@@ -89,7 +92,7 @@ once_leads r look i c p u handed d ways m voice from few small keeps tempo sides
             | inl low ↦ at.was low
             | inr high ↦
                 let l : 14 ≤ c = high in
-                done_by r.voice u t handed d n
+                done_by r.layout.holds r.voice u t handed d n
                 (sym (row_same (r.voice + 1) look i c p u (omega (arith, l, other, apart)))) (at.waits high)
           ];
       waits = λ same. at.waits (omega (arith, same));

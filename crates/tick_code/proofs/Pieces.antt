@@ -1,6 +1,6 @@
 -- Pieces of the block's tree.
 pub use Rattle.command_code.proofs.Laws.{first_of, behind, past, under, body_for}
-use Rattle.scopes.specs.Trees.{Tree}
+use Rattle.scopes.specs.Trees.{Tree, ChooseTree, NeverTree}
 use Rattle.player_desk.proofs.Laws.{body_of, rest_of}
 use Rattle.player_text.specs.declared.joints.TheConstants.{TAKEN}
 use Rattle.player_text.specs.declared.tick.TheConstants.{ONCE, BARE}
@@ -10,12 +10,17 @@ use Rattle.tick_code.specs.TickBlock.{tick_tree}
 abbrev pub sound_tree : Tree
 sound_tree = past 8 (body_of TAKEN tick_tree)
 
+-- lines that are kept where a condition holds, in place of others
+abbrev pub chosen : Tree → Tree
+chosen (ChooseTree condition this other) = this
+chosen tree = NeverTree
+
 -- a row's command, and one that runs
 abbrev pub row_tree : Tree
-row_tree = under (first_of (behind (body_of BARE tick_tree)))
+row_tree = chosen (first_of (body_of BARE tick_tree))
 
 abbrev pub running_tree : Tree
-running_tree = past 2 row_tree
+running_tree = past 3 row_tree
 
 -- the commands that are done once: all of them, and from some of them on
 abbrev pub once_tree : Tree

@@ -9,8 +9,10 @@ use Rattle.play_model.specs.LookUps.{LookUps}
 use Rattle.play_model.specs.State.{Voice, Common, Playing}
 use Rattle.play_model.specs.TickStep.{tempo_of, note_taken, first_wave_set, sound_begun}
 use Rattle.player_memory.specs.declared.conditions.TheConstants.{FIRST_MASK, NOTE_VIBRATO, NOTE_PULSE, NOTE_FILTER}
-use Rattle.player_memory.specs.declared.labels.TheConstants.{WAVE, GATE, FILTER_POINTER, FILTER_TIME, WAVES, ADS, SRS, COMMAND}
-use Rattle.player_memory.specs.declared.labels.TheConstants.{WAVE_TIME, PARAM, VIBRATOS, FIRST_WAVES, PULSES, FILTERS}
+use Rattle.player_memory.specs.declared.conditions.TheConstants.{WAVE_DELAY, EFFECTS}
+use Rattle.player_memory.specs.declared.labels.TheConstants.{WAVE, GATE, FILTER_POINTER, FILTER_TIME, WAVES, ADS, SRS}
+use Rattle.player_memory.specs.declared.labels.TheConstants.{COMMAND, WAVE_TIME, PARAM, VIBRATOS, FIRST_WAVES, PULSES}
+use Rattle.player_memory.specs.declared.labels.TheConstants.{FILTERS}
 use Rattle.player_desk.proofs.Laws.{VoiceDesk, Reader, Ways, Leads, done_as, in_scope, body_of, rest_of, joined}
 use Rattle.player_desk.proofs.Laws.{goes_on, loaded, Lent, Done, own_done, done_over, listed}
 use Rattle.player_text.specs.declared.joints.TheConstants.{TAKEN}
@@ -19,7 +21,7 @@ use Rattle.scopes.specs.Trees.{Tree}
 use Rattle.tick_code.specs.TickBlock.{tick_tree, KeepsInstrument}
 use Rattle.command_code.proofs.Laws.{shared_done, tempos_kept}
 use Rattle.tick_code.proofs.Pieces.{first_of, behind, sound_tree}
-use Rattle.tick_code.proofs.TickDesks.{Ticking, ticking_as, done_as_is, none_unkept, if_so, if_not}
+use Rattle.tick_code.proofs.TickDesks.{Ticking, ticking_as, done_as_is, none_unkept, not_held, if_so, if_not}
 use Rattle.tick_code.proofs.TickGrounds.{InstrumentAt}
 use Rattle.tick_code.proofs.NoteRules.{noted, wave_same, wave_mask, wave_plain}
 
@@ -35,28 +37,28 @@ waved v s = record s { voice = record v { wave_time = 0 } }
 
 masked_leads : (r : Reader) (look : LookUps) (number : ℕ) (s : Playing) (v : Voice) (handed : Lent) (d : VoiceDesk)
     (ways : Ways) (m : VoiceDesk) → InstrumentAt r look number → KeepsMask r look number →
-    Ticking number r.voice (waved v s) handed d m →
+    Ticking number r (waved v s) handed d m →
     Leads r (body_of MASKED tick_tree)
     (in_scope MASKED (done_as
-    (Ticking number r.voice (waved (first_wave_set (look.instrument number).first_wave v) s) handed d) ways)) m
+    (Ticking number r (waved (first_wave_set (look.instrument number).first_wave v) s) handed d) ways)) m
 masked_leads r look number s v handed d ways m ground keeps at =
-    let done : Done r.voice (waved v s) handed d m = at.done in
+    let done : Done r.layout.holds r.voice (waved v s) handed d m = at.done in
     listed FIRST_WAVES number wave ground.first_wave at.y_is
     (λ b e. (
       λ kept. (
         λ zero. record {
           done =
-              done_as_is r.voice _ _ handed d _ (ap (λ x. waved x s) (wave_same wave v (sym e ∙ eqb-true b 0 zero)))
-              (done_over r.voice (waved v s) handed d m _ refl refl refl done);
+              done_as_is r _ _ handed d _ (ap (λ x. waved x s) (wave_same wave v (sym e ∙ eqb-true b 0 zero)))
+              (done_over r.layout.holds r.voice (waved v s) handed d m _ refl refl refl done);
           y_is = at.y_is;
         },
         λ some. (
           λ mask. record {
             done =
-                done_as_is r.voice _ _ handed d _
+                done_as_is r _ _ handed d _
                 (ap (λ x. waved x s) (wave_mask wave v (ap (λ n. nat_le 0xFE n) (sym e) ∙ mask)))
-                (own_done r.voice (waved v s) (waved (record v { gate = wave }) s) handed d m _ refl refl refl
-                (assumption (e, done.fields)) (assumption done.song) done);
+                (own_done r.layout.holds r.voice (waved v s) (waved (record v { gate = wave }) s) handed d m _ refl refl
+                refl (assumption (e, done.fields)) (assumption done.song) done);
             y_is = at.y_is;
           },
           λ low. record {
@@ -80,12 +82,12 @@ masked_leads r look number s v handed d ways m ground keeps at =
 
     plain : (n : VoiceDesk) (b : ℕ) → b ≡ wave → n.own ≡ put (put m.own WAVE b) GATE 0xFF → n.shared ≡ m.shared →
         n.sid ≡ m.sid → wave ≢ 0 → nat_le 0xFE wave ≡ false →
-        Done r.voice (waved (first_wave_set wave v) s) handed d n
+        Done r.layout.holds r.voice (waved (first_wave_set wave v) s) handed d n
     plain n b e own shared sid some low =
-        let done : Done r.voice (waved v s) handed d m = at.done in
-        done_as_is r.voice _ _ handed d n (ap (λ x. waved x s) (wave_plain wave v some low))
-        (own_done r.voice (waved v s) (waved (record v { wave = wave; gate = 0xFF }) s) handed d m n shared sid refl
-        (rw own (assumption (e, done.fields))) (rw own (assumption done.song)) done)
+        let done : Done r.layout.holds r.voice (waved v s) handed d m = at.done in
+        done_as_is r _ _ handed d n (ap (λ x. waved x s) (wave_plain wave v some low))
+        (own_done r.layout.holds r.voice (waved v s) (waved (record v { wave = wave; gate = 0xFF }) s) handed d m n
+        shared sid refl (rw own (assumption (e, done.fields))) (rw own (assumption done.song)) done)
 
     below : r.layout.holds FIRST_MASK ≡ false → (wave < 0xFE) ⊎ (0xFE ≤ wave) → nat_le 0xFE wave ≡ false
     below out (inl low) = lt-leb 0xFE wave low
@@ -111,11 +113,11 @@ abbrev wave_begun : Instrument → Playing → Playing
 wave_begun i s = record s { voice = record s.voice { wave_ptr = i.wave; ad = i.ad; sr = i.sr } }
 
 pulse_leads : (r : Reader) (look : LookUps) (number : ℕ) (s : Playing) (handed : Lent) (d : VoiceDesk)
-    (ways : Ways) (m : VoiceDesk) → InstrumentAt r look number → Ticking number r.voice s handed d m →
+    (ways : Ways) (m : VoiceDesk) → InstrumentAt r look number → Ticking number r s handed d m →
     Leads r (body_of NO_PULSE tick_tree)
-    (in_scope NO_PULSE (done_as (Ticking number r.voice (pulse_begun (look.instrument number) s) handed d) ways)) m
+    (in_scope NO_PULSE (done_as (Ticking number r (pulse_begun (look.instrument number) s) handed d) ways)) m
 pulse_leads r look number s handed d ways m ground at =
-    let done : Done r.voice s handed d m = at.done in
+    let done : Done r.layout.holds r.voice s handed d m = at.done in
     let pulse = (look.instrument number).pulse in
     listed PULSES number pulse ground.pulse at.y_is
     (λ b e. (
@@ -124,7 +126,7 @@ pulse_leads r look number s handed d ways m ground at =
           let ptr = if_so (nat_eq pulse 0) s.voice.pulse_ptr pulse _ test done.fields.pulse_ptr in
           let time = if_so (nat_eq pulse 0) s.voice.pulse_time 0 _ test done.fields.pulse_time in record {
             done =
-                own_done r.voice s (pulse_begun (look.instrument number) s) handed d m _ refl refl refl
+                own_done r.layout.holds r.voice s (pulse_begun (look.instrument number) s) handed d m _ refl refl refl
                 (assumption (ptr, time, done.fields)) (assumption done.song) done;
             y_is = at.y_is;
           },
@@ -133,19 +135,19 @@ pulse_leads r look number s handed d ways m ground at =
           let ptr = if_not (nat_eq pulse 0) s.voice.pulse_ptr pulse b test e in
           let time = if_not (nat_eq pulse 0) s.voice.pulse_time 0 0 test refl in record {
             done =
-                own_done r.voice s (pulse_begun (look.instrument number) s) handed d m _ refl refl refl
+                own_done r.layout.holds r.voice s (pulse_begun (look.instrument number) s) handed d m _ refl refl refl
                 (assumption (ptr, time, done.fields)) (assumption done.song) done;
             y_is = at.y_is;
           },
     ))
 
 filter_leads : (r : Reader) (look : LookUps) (number : ℕ) (s : Playing) (handed : Lent) (d : VoiceDesk)
-    (ways : Ways) (m : VoiceDesk) → InstrumentAt r look number → Ticking number r.voice s handed d m →
+    (ways : Ways) (m : VoiceDesk) → InstrumentAt r look number → Ticking number r s handed d m →
     Leads r (body_of NO_FILTER tick_tree)
     (in_scope NO_FILTER (done_as
-    (Ticking number r.voice (record s { common = filter_begun (look.instrument number) s.common }) handed d) ways)) m
+    (Ticking number r (record s { common = filter_begun (look.instrument number) s.common }) handed d) ways)) m
 filter_leads r look number s handed d ways m ground at =
-    let done : Done r.voice s handed d m = at.done in
+    let done : Done r.layout.holds r.voice s handed d m = at.done in
     let filter = (look.instrument number).filter in
     let common = filter_begun (look.instrument number) s.common in
     let tempo = λ (its : ℕ). tempo_of (its + 1) s.common in
@@ -156,7 +158,7 @@ filter_leads r look number s handed d ways m ground at =
           let ptr = if_so (nat_eq filter 0) s.common.filter_ptr filter _ test done.common.filter_ptr in
           let time = if_so (nat_eq filter 0) s.common.filter_time 0 _ test done.common.filter_time in record {
             done =
-                shared_done r.voice s common handed d m _ refl refl refl done.tempos
+                shared_done r.layout.holds r.voice s common handed d m _ refl refl refl done.tempos
                 (assumption (ptr, time, done.common))
                 done.lent done;
             y_is = at.y_is;
@@ -166,7 +168,7 @@ filter_leads r look number s handed d ways m ground at =
           let ptr = if_not (nat_eq filter 0) s.common.filter_ptr filter b test e in
           let time = if_not (nat_eq filter 0) s.common.filter_time 0 0 test refl in record {
             done =
-                shared_done r.voice s common handed d m _ refl refl refl
+                shared_done r.layout.holds r.voice s common handed d m _ refl refl refl
                 (tempos_kept r.voice FILTER_TIME 0 (put m.shared FILTER_POINTER b) tempo refl refl refl
                 (tempos_kept r.voice FILTER_POINTER b m.shared tempo refl refl refl done.tempos))
                 (assumption (ptr, time, done.common)) (assumption done.lent) done;
@@ -174,8 +176,12 @@ filter_leads r look number s handed d ways m ground at =
           },
     ))
 
-abbrev vibrato_tree : Tree
-vibrato_tree = behind (behind (behind sound_tree))
+-- the time of a delay, and the command and its parameter
+abbrev timed_tree : Tree
+timed_tree = behind sound_tree
+
+abbrev effect_tree : Tree
+effect_tree = behind timed_tree
 
 abbrev pulse_tree : Tree
 pulse_tree = rest_of MASKED tick_tree
@@ -186,11 +192,11 @@ filter_tree = behind pulse_tree
 -- the wave program and the envelope
 wave_leads : (r : Reader) (look : LookUps) (number : ℕ) (s : Playing) (handed : Lent) (d : VoiceDesk)
     (ways : Ways) (Q : VoiceDesk → Type 0) (m : VoiceDesk) →
-    ((n : VoiceDesk) → Ticking number r.voice (wave_begun (look.instrument number) s) handed d n → Q n) →
-    InstrumentAt r look number → Ticking number r.voice s handed d m →
+    ((n : VoiceDesk) → Ticking number r (wave_begun (look.instrument number) s) handed d n → Q n) →
+    InstrumentAt r look number → Ticking number r s handed d m →
     Leads r (behind filter_tree) (in_scope TAKEN (done_as Q ways)) m
 wave_leads r look number s handed d ways Q m into ground at =
-    let done : Done r.voice s handed d m = at.done in
+    let done : Done r.layout.holds r.voice s handed d m = at.done in
     listed WAVES number (look.instrument number).wave ground.wave at.y_is
     (λ a wave.
     listed ADS number (look.instrument number).ad ground.ad at.y_is
@@ -199,7 +205,7 @@ wave_leads r look number s handed d ways Q m into ground at =
     (λ c sr.
     into _ (record {
       done =
-          own_done r.voice s (wave_begun (look.instrument number) s) handed d m _ refl refl refl
+          own_done r.layout.holds r.voice s (wave_begun (look.instrument number) s) handed d m _ refl refl refl
           (assumption (wave, ad, sr, done.fields)) (assumption done.song) done;
       y_is = at.y_is;
     }))))
@@ -220,12 +226,12 @@ sounding i s = sound_begun i (record s { voice = note_taken i s.voice })
 -- from the first frame's waveform on
 begun_leads : (r : Reader) (look : LookUps) (number waits : ℕ) (s : Playing) (handed : Lent) (d : VoiceDesk)
     (ways : Ways) (Q : VoiceDesk → Type 0) (m : VoiceDesk) →
-    ((n : VoiceDesk) → Ticking number r.voice (sounding (look.instrument number) s) handed d n → Q n) →
+    ((n : VoiceDesk) → Ticking number r (sounding (look.instrument number) s) handed d n → Q n) →
     InstrumentAt r look number → KeepsInstrument r.layout (look.instrument number) waits →
-    Ticking number r.voice (waved (note_taken (look.instrument number) s.voice) s) handed d m →
-    Leads r (behind (behind vibrato_tree)) (in_scope TAKEN (done_as Q ways)) m
+    Ticking number r (waved (note_taken (look.instrument number) s.voice) s) handed d m →
+    Leads r (behind effect_tree) (in_scope TAKEN (done_as Q ways)) m
 begun_leads r look number waits s handed d ways Q m into ground keeps at =
-    joined true r MASKED (body_of MASKED tick_tree) pulse_tree (Ticking number r.voice first handed d) goal m
+    joined true r MASKED (body_of MASKED tick_tree) pulse_tree (Ticking number r first handed d) goal m
     (masked_leads r look number s (note_taken i s.voice) handed d goal m ground keeps.mask at) pulses
   where
     i : Instrument
@@ -240,91 +246,131 @@ begun_leads r look number waits s handed d ways Q m into ground keeps at =
     goal : Ways
     goal = in_scope TAKEN (done_as Q ways)
 
-    filters : (k : VoiceDesk) → Ticking number r.voice (pulse_begun i first) handed d k → Leads r filter_tree goal k
+    filters : (k : VoiceDesk) → Ticking number r (pulse_begun i first) handed d k → Leads r filter_tree goal k
     filters k at = (
       λ kept.
           joined true r NO_FILTER (body_of NO_FILTER tick_tree) (rest_of NO_FILTER tick_tree)
-          (Ticking number r.voice second handed d) (done_as (Leads r (behind filter_tree) goal) goal) k
-          (filter_leads r look number (pulse_begun i first) handed d (done_as (Leads r (behind filter_tree) goal) goal) k
-          ground at)
+          (Ticking number r second handed d) (done_as (Leads r (behind filter_tree) goal) goal) k
+          (filter_leads r look number (pulse_begun i first) handed d
+          (done_as (Leads r (behind filter_tree) goal) goal) k ground at)
           (λ l filtered. wave_leads r look number second handed d ways Q l into ground filtered),
       λ out.
           wave_leads r look number second handed d ways Q k into ground
-          (ticking_as number r.voice (pulse_begun i first) second handed d k
+          (ticking_as number r (pulse_begun i first) second handed d k
           (no_filter i (pulse_begun i first) (none_unkept r.layout NOTE_FILTER i.filter keeps.filter out)) at),
     )
 
-    pulses : (n : VoiceDesk) → Ticking number r.voice first handed d n → Leads r pulse_tree goal n
+    pulses : (n : VoiceDesk) → Ticking number r first handed d n → Leads r pulse_tree goal n
     pulses n at = (
       λ kept.
           joined true r NO_PULSE (body_of NO_PULSE tick_tree) (rest_of NO_PULSE tick_tree)
-          (Ticking number r.voice (pulse_begun i first) handed d) (done_as (Leads r filter_tree goal) goal) n
+          (Ticking number r (pulse_begun i first) handed d) (done_as (Leads r filter_tree goal) goal) n
           (pulse_leads r look number first handed d (done_as (Leads r filter_tree goal) goal) n ground at) filters,
       λ out.
-          filters n (ticking_as number r.voice first (pulse_begun i first) handed d n
+          filters n (ticking_as number r first (pulse_begun i first) handed d n
           (no_pulse i first (none_unkept r.layout NOTE_PULSE i.pulse keeps.pulse out)) at),
     )
 
--- A is the instrument's vibrato; the delay of its wave program begins anew
-record AtVibrato (number voice vibrato : ℕ) (s : Playing) (handed : Lent) (d m : VoiceDesk) : Type 0 where
-  at : Ticking number voice s handed d m
-  a : m.a ≡ vibrato
+-- A is 0, and a delay of the wave program begins anew
+record AtTimed (number : ℕ) (r : Reader) (s : Playing) (handed : Lent) (d m : VoiceDesk) : Type 0 where
+  at : Ticking number r (waved s.voice s) handed d m
+  a : m.a ≡ 0
 
-abbrev cut_off : Voice → Voice
-cut_off v = record v { command = 0; wave_time = 0 }
+timed_leads : (r : Reader) (number : ℕ) (s : Playing) (handed : Lent) (d : VoiceDesk) (ways : Ways) (m : VoiceDesk) →
+    m.a ≡ 0 → Ticking number r s handed d m →
+    Leads r (first_of timed_tree) (done_as (AtTimed number r s handed d) ways) m
+timed_leads r number s handed d ways m zero at =
+    let done : Done r.layout.holds r.voice s handed d m = at.done in (
+      λ on. record {
+        at = record {
+          done =
+              own_done r.layout.holds r.voice s (waved s.voice s) handed d m _ refl refl refl
+              (assumption (zero, done.fields)) (assumption done.song) done;
+          y_is = at.y_is;
+        };
+        a = zero;
+      },
+      λ off.
+          let untimed = not_held r WAVE_DELAY (m.own WAVE_TIME) 0 off in record {
+            at = record {
+              done =
+                  own_done r.layout.holds r.voice s (waved s.voice s) handed d m m refl refl refl
+                  (assumption (untimed, done.fields)) (assumption done.song) done;
+              y_is = at.y_is;
+            };
+            a = zero;
+          },
+    )
 
-vibrato_leads : (r : Reader) (look : LookUps) (number waits : ℕ) (s : Playing) (handed : Lent) (d : VoiceDesk)
+-- the note has no command, and for its parameter the instrument's vibrato
+effect_leads : (r : Reader) (look : LookUps) (number waits : ℕ) (s : Playing) (handed : Lent) (d : VoiceDesk)
     (ways : Ways) (m : VoiceDesk) → InstrumentAt r look number →
-    KeepsInstrument r.layout (look.instrument number) waits → m.a ≡ 0 → Ticking number r.voice s handed d m →
-    Leads r (first_of vibrato_tree)
-    (done_as (AtVibrato number r.voice (look.instrument number).vibrato s handed d) ways) m
-vibrato_leads r look number waits s handed d ways m ground keeps zero at = (
-  λ kept.
-      listed VIBRATOS number vibrato ground.vibrato at.y_is
-      (λ b e. record {
-        at = record { done = done_over r.voice s handed d m _ refl refl refl at.done; y_is = at.y_is };
-        a = e;
-      }),
-  λ out. record { at = at; a = zero ∙ sym (none_unkept r.layout NOTE_VIBRATO vibrato keeps.vibrato out) },
+    KeepsInstrument r.layout (look.instrument number) waits →
+    AtTimed number r (noted (look.instrument number) s) handed d m →
+    Leads r (first_of effect_tree)
+    (done_as (Ticking number r (waved (note_taken (look.instrument number) s.voice) s) handed d) ways) m
+effect_leads r look number waits s handed d ways m ground keeps timed = (
+  λ on. (
+    λ kept.
+        listed VIBRATOS number vibrato ground.vibrato timed.at.y_is
+        (λ b e. record { done = begun _ b e refl refl refl; y_is = timed.at.y_is }),
+    λ out. record {
+      done =
+          begun _ m.a (timed.a ∙ sym (none_unkept r.layout NOTE_VIBRATO vibrato keeps.vibrato out)) refl refl refl;
+      y_is = timed.at.y_is;
+    },
+  ),
+  λ off.
+      let no_command = not_held r EFFECTS (m.own COMMAND) 0 off in
+      let no_param = not_held r EFFECTS (m.own PARAM) vibrato off in
+      let done : Done r.layout.holds r.voice before handed d m = timed.at.done in record {
+        done =
+            own_done r.layout.holds r.voice before after handed d m m refl refl refl
+            (assumption (no_command, no_param, done.fields)) (assumption done.song) done;
+        y_is = timed.at.y_is;
+      },
 )
-  where
-    vibrato : ℕ
-    vibrato = (look.instrument number).vibrato
-
-pub sound_leads : (r : Reader) (look : LookUps) (number waits : ℕ) (s : Playing) (handed : Lent) (d : VoiceDesk)
-    (ways : Ways) (Q : VoiceDesk → Type 0) (m : VoiceDesk) →
-    ((n : VoiceDesk) → Ticking number r.voice (sounding (look.instrument number) s) handed d n → Q n) →
-    InstrumentAt r look number → KeepsInstrument r.layout (look.instrument number) waits →
-    Ticking number r.voice (noted (look.instrument number) s) handed d m →
-    Leads r sound_tree (in_scope TAKEN (done_as Q ways)) m
-sound_leads r look number waits s handed d ways Q m into ground keeps at =
-    goes_on true r (first_of vibrato_tree) (behind vibrato_tree) (AtVibrato number r.voice i.vibrato cut handed d)
-    goal quiet
-    (vibrato_leads r look number waits cut handed d goal quiet ground keeps refl (record {
-      done =
-          own_done r.voice (noted i s) cut handed d m quiet refl refl refl (assumption at.done.fields)
-          (assumption at.done.song) at.done;
-      y_is = at.y_is;
-    }))
-    (λ n vibrato.
-    let a : n.a ≡ i.vibrato = vibrato.a in
-    let done : Done r.voice cut handed d n = vibrato.at.done in
-    begun_leads r look number waits s handed d ways Q (record n { own = put n.own PARAM n.a }) into ground keeps (record {
-      done =
-          own_done r.voice cut (waved (note_taken i s.voice) s) handed d n _ refl refl refl
-          (assumption (a, done.fields))
-          (assumption done.song) done;
-      y_is = vibrato.at.y_is;
-    }))
   where
     i : Instrument
     i = look.instrument number
 
-    cut : Playing
-    cut = record s { voice = cut_off (noted i s).voice }
+    vibrato : ℕ
+    vibrato = i.vibrato
 
-    quiet : VoiceDesk
-    quiet = record (loaded 0 m) { own = put (put m.own COMMAND 0) WAVE_TIME 0 }
+    before : Playing
+    before = waved (noted i s).voice (noted i s)
+
+    after : Playing
+    after = waved (note_taken i s.voice) s
+
+    begun : (n : VoiceDesk) (b : ℕ) → b ≡ vibrato → n.own ≡ put (put m.own COMMAND m.a) PARAM b →
+        n.shared ≡ m.shared → n.sid ≡ m.sid → Done r.layout.holds r.voice after handed d n
+    begun n b e own shared sid =
+        let zero : m.a ≡ 0 = timed.a in
+        let done : Done r.layout.holds r.voice before handed d m = timed.at.done in
+        own_done r.layout.holds r.voice before after handed d m n shared sid refl
+        (rw own (assumption (zero, e, done.fields))) (rw own (assumption done.song)) done
+
+pub sound_leads : (r : Reader) (look : LookUps) (number waits : ℕ) (s : Playing) (handed : Lent) (d : VoiceDesk)
+    (ways : Ways) (Q : VoiceDesk → Type 0) (m : VoiceDesk) →
+    ((n : VoiceDesk) → Ticking number r (sounding (look.instrument number) s) handed d n → Q n) →
+    InstrumentAt r look number → KeepsInstrument r.layout (look.instrument number) waits →
+    Ticking number r (noted (look.instrument number) s) handed d m →
+    Leads r sound_tree (in_scope TAKEN (done_as Q ways)) m
+sound_leads r look number waits s handed d ways Q m into ground keeps at =
+    goes_on true r (first_of timed_tree) effect_tree (AtTimed number r (noted i s) handed d) goal (loaded 0 m)
+    (timed_leads r number (noted i s) handed d goal (loaded 0 m) refl (record {
+      done = done_over r.layout.holds r.voice (noted i s) handed d m _ refl refl refl at.done;
+      y_is = at.y_is;
+    }))
+    (λ n timed.
+    goes_on true r (first_of effect_tree) (behind effect_tree)
+    (Ticking number r (waved (note_taken i s.voice) s) handed d) goal n
+    (effect_leads r look number waits s handed d goal n ground keeps timed)
+    (λ k at. begun_leads r look number waits s handed d ways Q k into ground keeps at))
+  where
+    i : Instrument
+    i = look.instrument number
 
     goal : Ways
     goal = in_scope TAKEN (done_as Q ways)

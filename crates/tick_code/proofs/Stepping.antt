@@ -25,7 +25,8 @@ use Rattle.tick_code.proofs.Ticks.{tick_leads}
 ticks : (layout : Layout) (rows voice : ℕ) (tree : Tree) (desk : Desk) (t : Ticked) →
     leaves_slides tree ≡ true → IsRoom layout rows →
     MayUse layout rows → voice < 3 → IsAtVoice voice desk →
-    Leads (reader_of layout rows voice desk) tree (ways_of voice t (lent_of layout desk) (voice_desk layout voice desk))
+    Leads (reader_of layout rows voice desk) tree
+    (ways_of (reader_of layout rows voice desk) t (lent_of layout desk) (voice_desk layout voice desk))
     (voice_desk layout voice desk) → (b : Bool) → t.started ≡ b →
     Ticks layout rows voice desk (ran each_one layout tree desk) t
 ticks layout rows voice tree desk t stores room uses few at leads b e = by_way b e
@@ -40,17 +41,17 @@ ticks layout rows voice tree desk t stores room uses few at leads b e = by_way b
     run = ran each_one layout tree desk
 
     ways : Ways
-    ways = ways_of voice t (lent_of layout desk) d
+    ways = ways_of r t (lent_of layout desk) d
 
     Q : VoiceDesk → Type 0
-    Q = IsDone voice t.playing (lent_of layout desk) d
+    Q = IsDone layout.holds voice t.playing (lent_of layout desk) d
 
     ended : t.started ≡ false → (z : Bool) (m : VoiceDesk) →
-        Either z (TickDone voice t true (lent_of layout desk) d m) ⊥ → ⊥
+        Either z (TickDone r t true (lent_of layout desk) d m) ⊥ → ⊥
     ended e true m done = both_ways t.started e done.is
     ended e false m none = none
 
-    left : (z : Bool) (m : VoiceDesk) → Either z (TickDone voice t true (lent_of layout desk) d m) ⊥ → Either z (Q m) ⊥
+    left : (z : Bool) (m : VoiceDesk) → Either z (TickDone r t true (lent_of layout desk) d m) ⊥ → Either z (Q m) ⊥
     left true m done = done.done
     left false m none = none
 

@@ -7,11 +7,11 @@ use Rattle.std.proofs.lemmas.Bool.{agree_below_at, eqb-true, both_ways}
 use Rattle.std.proofs.lemmas.Bool.Decides.{eqb_tells}
 use Rattle.play_model.specs.State.{Playing}
 use Rattle.scopes.specs.Desk.{Layout}
-use Rattle.player_desk.proofs.Laws.{VoiceDesk, Lent, Done}
+use Rattle.player_desk.proofs.Laws.{VoiceDesk, Reader, Lent, Done}
 
 -- a desk on which a voice and what the voices share stand, with a number in Y
-pub record Ticking (y voice : ℕ) (s : Playing) (handed : Lent) (d m : VoiceDesk) : Type 0 where
-  pub done : Done voice s handed d m
+pub record Ticking (y : ℕ) (r : Reader) (s : Playing) (handed : Lent) (d m : VoiceDesk) : Type 0 where
+  pub done : Done r.layout.holds r.voice s handed d m
   pub y_is : m.y ≡ y
 
 -- the note that waits is used up
@@ -19,13 +19,13 @@ abbrev pub cleared : Playing → Playing
 cleared s = record s { voice = record s.voice { new_note = 0 } }
 
 -- the same said in another way
-pub ticking_as : (y voice : ℕ) (s u : Playing) (handed : Lent) (d m : VoiceDesk) → s ≡ u →
-    Ticking y voice s handed d m → Ticking y voice u handed d m
-ticking_as y voice s u handed d m e at = subst (λ x. Ticking y voice x handed d m) e at
+pub ticking_as : (y : ℕ) (r : Reader) (s u : Playing) (handed : Lent) (d m : VoiceDesk) → s ≡ u →
+    Ticking y r s handed d m → Ticking y r u handed d m
+ticking_as y r s u handed d m e at = subst (λ x. Ticking y r x handed d m) e at
 
-pub done_as_is : (voice : ℕ) (s u : Playing) (handed : Lent) (d m : VoiceDesk) → s ≡ u →
-    Done voice s handed d m → Done voice u handed d m
-done_as_is voice s u handed d m e at = subst (λ x. Done voice x handed d m) e at
+pub done_as_is : (r : Reader) (s u : Playing) (handed : Lent) (d m : VoiceDesk) → s ≡ u →
+    Done r.layout.holds r.voice s handed d m → Done r.layout.holds r.voice u handed d m
+done_as_is r s u handed d m e at = subst (λ x. Done r.layout.holds r.voice x handed d m) e at
 
 -- ---- numbers
 
@@ -40,6 +40,11 @@ none_unkept layout condition n keeps out = elim (eqb_tells n 0) [
   | inl none ↦ none.1
   | inr some ↦ absurd (both_ways (layout.holds condition) out (keeps some.1))
 ]
+
+-- of a byte that isn't kept nothing is said
+pub not_held : (r : Reader) (condition n k : ℕ) → r.layout.holds condition ≡ false →
+    r.layout.holds condition ≡ true → n ≡ k
+not_held r condition n k off on = absurd (both_ways (r.layout.holds condition) off on)
 
 -- a number that depends on a test
 pub if_so : (b : Bool) (x y n : ℕ) → b ≡ true → n ≡ x → n ≡ (if b then x else y)

@@ -36,17 +36,17 @@ pub record TickGround (r : Reader) (look : LookUps) (s : Playing) : Type 0 where
 -- ---- where its ways lead
 
 -- the desk tells what the tick step leaves, and whether a note has started
-pub record TickDone (voice : ℕ) (ticked : Ticked) (started : Bool) (handed : Lent) (d m : VoiceDesk) : Type 0 where
+pub record TickDone (r : Reader) (ticked : Ticked) (started : Bool) (handed : Lent) (d m : VoiceDesk) : Type 0 where
   pub is : ticked.started ≡ started
-  pub done : Done voice ticked.playing handed d m
+  pub done : Done r.layout.holds r.voice ticked.playing handed d m
 
 -- the block's end is come to where no note has started, and the voice's step is left where one has
-abbrev pub ways_of : ℕ → Ticked → Lent → VoiceDesk → Ways
-ways_of voice ticked handed d = record {
-  Done = TickDone voice ticked false handed d;
-  Left = λ name m. Either (nat_eq name SOUNDS) (TickDone voice ticked true handed d m) ⊥;
+abbrev pub ways_of : Reader → Ticked → Lent → VoiceDesk → Ways
+ways_of r ticked handed d = record {
+  Done = TickDone r ticked false handed d;
+  Left = λ name m. Either (nat_eq name SOUNDS) (TickDone r ticked true handed d m) ⊥;
   Again = λ m. ⊥;
 }
 
 abbrev pub tick_ways : Reader → LookUps → Playing → Lent → VoiceDesk → Ways
-tick_ways r look s handed d = ways_of r.voice (tick_step (r.voice + 1) look s) handed d
+tick_ways r look s handed d = ways_of r (tick_step (r.voice + 1) look s) handed d

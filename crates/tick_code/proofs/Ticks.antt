@@ -35,15 +35,16 @@ row_is channel look s now = rw now refl
 -- the row is done
 record AtRow (r : Reader) (s : Playing) (handed : Lent) (d m : VoiceDesk) : Type 0 where
   now : nat_eq (byte_minus s.voice.tick 1) 0 ≡ true
-  done : Done r.voice (less s) handed d m
+  done : Done r.layout.holds r.voice (less s) handed d m
 
 -- the tick has been counted
 record AtRuns (r : Reader) (s : Playing) (handed : Lent) (d m : VoiceDesk) : Type 0 where
   apart : nat_eq (byte_minus s.voice.tick 1) 0 ≡ false
-  done : Done r.voice (between_rows (r.voice + 1) (less s)) handed d m
+  done : Done r.layout.holds r.voice (between_rows (r.voice + 1) (less s)) handed d m
 
 runs_lead : (r : Reader) (look : LookUps) (s : Playing) (handed : Lent) (d : VoiceDesk) (ways : Ways) (m : VoiceDesk) →
-    r.voice < 3 → IsRoom r.layout r.rows → KeepsTick r.layout (r.voice + 1) look s → Done r.voice s handed d m →
+    r.voice < 3 → IsRoom r.layout r.rows → KeepsTick r.layout (r.voice + 1) look s →
+    Done r.layout.holds r.voice s handed d m →
     Leads r (body_of RUNS tick_tree)
     (in_scope RUNS (done_as (AtRuns r s handed d) (in_scope AT_ROW (done_as (AtRow r s handed d) ways)))) m
 runs_lead r look s handed d ways m few room keeps done = (
@@ -52,7 +53,7 @@ runs_lead r look s handed d ways m few room keeps done = (
     λ plus. record {
       apart = ap (λ n. nat_eq n 0) (sym tick) ∙ not_zero;
       done =
-          done_by r.voice (less s) _ handed d _
+          done_by r.layout.holds r.voice (less s) _ handed d _
           (sym (counts_is (r.voice + 1) (less s) (ap (λ n. nat_le 128 n) (sym tick) ∙ not-true _ plus)))
           (counted _ refl refl refl);
     },
@@ -63,7 +64,7 @@ runs_lead r look s handed d ways m few room keeps done = (
         (keeps.length (leb-true 128 (byte_minus s.voice.tick 1) past)) done.fields.tempo_is
         (λ n behind. record {
           apart = ap (λ n. nat_eq n 0) (sym tick) ∙ not_zero;
-          done = done_by r.voice _ _ handed d n (sym (past_is (r.voice + 1) (less s) past)) behind;
+          done = done_by r.layout.holds r.voice _ _ handed d n (sym (past_is (r.voice + 1) (less s) past)) behind;
         }) (counted _ refl refl refl),
   ),
 )
@@ -78,10 +79,10 @@ runs_lead r look s handed d ways m few room keeps done = (
     goal = in_scope RUNS (done_as (AtRuns r s handed d) (in_scope AT_ROW (done_as (AtRow r s handed d) ways)))
 
     counted : (n : VoiceDesk) → n.own ≡ put m.own TICK ((m.own TICK + 255) % 256) → n.shared ≡ m.shared →
-        n.sid ≡ m.sid → Done r.voice (less s) handed d n
+        n.sid ≡ m.sid → Done r.layout.holds r.voice (less s) handed d n
     counted n own shared sid =
-        done_over r.voice (less s) handed d down n own shared sid
-        (own_done r.voice s (less s) handed d m down refl refl refl (assumption (tick, done.fields))
+        done_over r.layout.holds r.voice (less s) handed d down n own shared sid
+        (own_done r.layout.holds r.voice s (less s) handed d m down refl refl refl (assumption (tick, done.fields))
         (assumption done.song) done)
 
 -- ---- the law
@@ -89,7 +90,8 @@ runs_lead r look s handed d ways m few room keeps done = (
 -- From the desk of a voice that is playing, the code leads to where the tick step leaves the voice and what the voices
 -- share: to the block's end where no note has started, and out of the voice's step where one has.
 pub tick_leads : (r : Reader) (look : LookUps) (s : Playing) (handed : Lent) (d m : VoiceDesk) → r.voice < 3 →
-    IsRoom r.layout r.rows → TickGround r look s → KeepsTick r.layout (r.voice + 1) look s → Done r.voice s handed d m →
+    IsRoom r.layout r.rows → TickGround r look s → KeepsTick r.layout (r.voice + 1) look s →
+    Done r.layout.holds r.voice s handed d m →
     Leads r tick_tree (tick_ways r look s handed d) m
 tick_leads r look s handed d m few room ground keeps done =
     joined true r AT_ROW (body_of AT_ROW tick_tree) (rest_of AT_ROW tick_tree) (AtRow r s handed d) goal m
@@ -98,14 +100,15 @@ tick_leads r look s handed d m few room ground keeps done =
     (λ n runs.
     let is = between_is (r.voice + 1) look s runs.apart in record {
       is = ap (λ (t : Ticked). t.started) (sym is);
-      done = done_by r.voice _ _ handed d n (ap (λ (t : Ticked). t.playing) (sym is)) runs.done;
+      done = done_by r.layout.holds r.voice _ _ handed d n (ap (λ (t : Ticked). t.playing) (sym is)) runs.done;
     }))
     (λ n row.
     let now : IsRowDone s = eqb-true (byte_minus s.voice.tick 1) 0 row.now in
-    subst (λ t. Leads r (rest_of AT_ROW tick_tree) (in_scope TICKED (ways_of r.voice t handed d)) n)
+    subst (λ t. Leads r (rest_of AT_ROW tick_tree) (in_scope TICKED (ways_of r t handed d)) n)
     (row_is (r.voice + 1) look s row.now)
     (row_leads r look (less s) handed d n few ground.command_byte ground.param_byte (ground.instrument now)
-    (keeps.command now) (keeps.row now) (keeps.tempo now) (keeps.instrument now) keeps.shared (ground.speed now) row.done))
+    (keeps.command now) (keeps.row now) (keeps.tempo now) (keeps.instrument now) keeps.shared (ground.speed now)
+    row.done))
   where
     goal : Ways
     goal = in_scope TICKED (tick_ways r look s handed d)

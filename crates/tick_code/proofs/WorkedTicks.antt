@@ -1,8 +1,8 @@
 -- The row that is worked by hand.
-use Rattle.std.proofs.Common.{◌≡◌, ◌≢◌, ℕ, zero, suc, ◌+◌, ◌<◌, ◌≤◌, Bool, true, false, nat_eq, nat_lt}
+use Rattle.std.proofs.Common.{◌≡◌, ℕ, zero, suc, ◌+◌, ◌<◌, ◌≤◌, Bool, true, false, nat_eq, nat_lt}
 use Rattle.std.proofs.Common.{inl, inr, refl, sym}
 use Rattle.std.proofs.Common.{ap, subst, arith}
-use Rattle.std.proofs.lemmas.Bool.{lt-ltb, true≢false, both_ways, eqb-true}
+use Rattle.std.proofs.lemmas.Bool.{lt-ltb, true≢false, both_ways}
 use Rattle.play_model.specs.TickStep.{tempo_of, tick_step, at_row as done_at_row, note_started, row_command}
 use Rattle.scopes.specs.Meaning.{Outcome, Left}
 use Rattle.player_memory.specs.declared.labels.TheConstants.{TEMPO, ADS, SRS, WAVES, PULSES, FILTERS, VIBRATOS, DELAYS}
@@ -13,8 +13,7 @@ use Rattle.player_text.specs.declared.joints.TheConstants.{SOUNDS, TICKED}
 use Rattle.player_desk.proofs.Laws.{fields_stand, shared_stand}
 use Rattle.tick_code.specs.TickBlock.{HasInstrument, HasTickLists, IsInLists, KeepsCommand, KeepsTick}
 use Rattle.player_memory.specs.FactLines.{KeepsShared}
-use Rattle.player_memory.specs.declared.conditions.TheConstants.{FUNK_TEMPO, ROW_SLIDE, ROW_ONCE, WAVE_DELAY, LEGATO}
-use Rattle.player_memory.specs.declared.conditions.TheConstants.{NO_HARD_RESTART}
+use Rattle.player_memory.specs.declared.conditions.TheConstants.{FUNK_TEMPO}
 use Rattle.tick_code.specs.WorkedTick.{laid, bare, with_one, look, waiting, memory, TickIsWorked}
 
 abbrev is_left : ℕ → Outcome → Bool
@@ -92,42 +91,48 @@ tempos (suc (suc (suc its))) few = absurd (omega (arith, few))
 
 playing : IsPlaying laid 1 waiting memory
 playing = record {
-  own = fields_stand waiting.voice 5 (own_at laid memory 1) (record {
+  own = fields_stand laid.holds waiting.voice 5 (own_at laid memory 1) (record {
     tick = refl;
     gate_timer = refl;
     instrument = refl;
     note = refl;
     new_note = refl;
-    new_command = refl;
-    new_param = λ some. refl;
-    command = refl;
-    param = refl;
+    new_command = λ on. refl;
+    new_param = λ on some. refl;
+    command = λ on. refl;
+    param = λ on. refl;
     ad = refl;
     sr = refl;
-    vib_time = refl;
-    vib_delay = refl;
+    vib_time = λ on. refl;
+    vib_delay = λ on. refl;
     wave = refl;
     gate = refl;
     freq_low = refl;
     freq_high = refl;
-    last_note = refl;
+    last_note = λ on. refl;
     wave_ptr = refl;
-    wave_time = refl;
+    wave_time = λ on. refl;
     pulse_ptr = refl;
     pulse_time = refl;
-    pulse_low = refl;
-    pulse_high = refl;
+    pulse_low = λ on. refl;
+    no_pulse_low = λ off. refl;
+    pulse_high = λ on. refl;
+    no_pulse_high = λ off. refl;
     tempo_is = refl;
   });
-  common = shared_stand waiting.common (shared_at laid memory) (record {
+  common = shared_stand laid.holds waiting.common (shared_at laid memory) (record {
     filter_ptr = refl;
     filter_time = refl;
-    filter_type = refl;
-    filter_control = refl;
-    cutoff = refl;
-    volume = refl;
-    funk_one = refl;
-    funk_two = refl;
+    filter_type = λ on. refl;
+    no_filter_type = λ off. refl;
+    filter_control = λ on. refl;
+    no_filter_control = λ off. refl;
+    cutoff = λ on. refl;
+    no_cutoff = λ off. refl;
+    volume = λ on. refl;
+    no_volume = λ off. refl;
+    funk_one = λ on. refl;
+    funk_two = λ on. refl;
   });
   tempos = tempos;
 }
@@ -165,37 +170,46 @@ keeps = record {
   };
   length = λ past short. absurd (omega (arith, past));
   shared = record {
+    tone = λ on. refl;
     slide = λ on. refl;
     once = λ on. refl;
     delay = λ on. absurd cc;
     command = λ on. absurd cc;
     legato = λ on. absurd cc;
     soft = λ on. absurd cc;
+    filter = λ on. absurd cc;
+    control = λ on. absurd cc;
+    cutoff = λ on. absurd cc;
   };
 }
 
--- where none of the facts' lines is kept
-none_shared : (kept : ℕ) → kept < 24 → kept ≢ 23 → KeepsShared (with_one kept)
-none_shared kept few other = record {
-  slide = λ on. absurd (is_other ROW_SLIDE (omega arith) on);
-  once = λ on. absurd (is_other ROW_ONCE (omega arith) on);
-  delay = λ on. absurd (is_other WAVE_DELAY (omega arith) on);
-  command = λ on. absurd (other (sym (eqb-true 23 kept on)));
-  legato = λ on. absurd (is_other LEGATO (omega arith) on);
-  soft = λ on. absurd (is_other NO_HARD_RESTART (omega arith) on);
-}
-  where
-    is_other : (condition : ℕ) → 24 ≤ condition → ¬ (nat_eq condition kept ≡ true)
-    is_other condition high on = (let same = eqb-true condition kept on in omega (arith, same, few, high))
-
+-- where no line is kept, and where one of a tempo is, there is nothing in common
 bare_shared : KeepsShared bare
 bare_shared = record {
+  tone = λ on. absurd cc;
   slide = λ on. absurd cc;
   once = λ on. absurd cc;
   delay = λ on. absurd cc;
   command = λ on. absurd cc;
   legato = λ on. absurd cc;
   soft = λ on. absurd cc;
+  filter = λ on. absurd cc;
+  control = λ on. absurd cc;
+  cutoff = λ on. absurd cc;
+}
+
+funk_shared : KeepsShared (with_one FUNK_TEMPO)
+funk_shared = record {
+  tone = λ on. absurd cc;
+  slide = λ on. absurd cc;
+  once = λ on. absurd cc;
+  delay = λ on. absurd cc;
+  command = λ on. absurd cc;
+  legato = λ on. absurd cc;
+  soft = λ on. absurd cc;
+  filter = λ on. absurd cc;
+  control = λ on. absurd cc;
+  cutoff = λ on. absurd cc;
 }
 
 runs : (command param : ℕ) → command ≤ 4 → KeepsCommand bare command param
@@ -273,7 +287,7 @@ tick_is_worked = record {
       tempo = λ now. absurd (omega (arith, now));
       instrument = λ now. absurd (omega (arith, now));
       length = λ past short. refl;
-      shared = none_shared FUNK_TEMPO (omega arith) (λ e. omega (arith, e));
+      shared = funk_shared;
     };
   };
   rows = record {
@@ -341,12 +355,16 @@ tick_is_worked = record {
       };
       length = λ past short. absurd (omega (arith, past));
       shared = record {
+        tone = λ on. refl;
         slide = λ on. absurd cc;
         once = λ on. refl;
         delay = λ on. absurd cc;
         command = λ on. absurd cc;
         legato = λ on. absurd cc;
         soft = λ on. absurd cc;
+        filter = λ on. absurd cc;
+        control = λ on. absurd cc;
+        cutoff = λ on. absurd cc;
       };
     };
     shared = λ keeps. (let on = keeps.shared.once refl in absurd cc);

@@ -13,8 +13,8 @@ use Rattle.player_memory.specs.declared.conditions.TheConstants.{SET_AD, SET_SR,
 use Rattle.player_memory.specs.declared.conditions.TheConstants.{SET_PULSE_POINTER, SET_FILTER_POINTER}
 use Rattle.player_memory.specs.declared.conditions.TheConstants.{SET_FILTER_CONTROL, SET_CUTOFF, SET_VOLUME, FUNK_TEMPO}
 use Rattle.player_memory.specs.declared.conditions.TheConstants.{VOICE_TEMPO, FUNK_TURNS, FUNK_CHOICE}
-use Rattle.player_memory.specs.declared.conditions.TheConstants.{SET_TEMPO, ROW_SLIDE, ROW_ONCE, ROW_COMMAND, VIBRATO_DELAY}
-use Rattle.player_memory.specs.declared.conditions.TheConstants.{NOTE_FILTER}
+use Rattle.player_memory.specs.declared.conditions.TheConstants.{SET_TEMPO, ROW_SLIDE, ROW_ONCE, ROW_COMMAND}
+use Rattle.player_memory.specs.declared.conditions.TheConstants.{VIBRATO_DELAY, NOTE_FILTER}
 use Rattle.player_memory.specs.declared.labels.TheConstants.{VARIABLES, TICK, GATE_TIMER, INSTRUMENT, NOTE, NEW_NOTE}
 use Rattle.player_memory.specs.declared.labels.TheConstants.{NEW_COMMAND, NEW_PARAM, AD, VIB_DELAY, WAVE, GATE, TEMPO}
 use Rattle.player_memory.specs.declared.labels.TheConstants.{FILTER_POINTER, VOLUME, FUNK_ONE, FUNK_TWO, ADS, SRS}
@@ -196,8 +196,8 @@ abbrev pub with_instrument : Instrument → LookUps
 with_instrument i = record look { instrument = λ number. i }
 
 -- Of a row without a command no line is kept; a slide to the note, a command that runs and one that is done once ask
--- for theirs. So do, where the row is done, a tempo of this voice alone, a first waveform that is a mask, a vibrato, its delay, also one that is left
--- from the note before, and the programs.
+-- for theirs. So do, where the row is done, a tempo of this voice alone, a first waveform that is a mask, a vibrato,
+-- its delay, also one that is left from the note before, and the programs.
 pub record RowsAreKept : Type 0 where
   pub none : KeepsRow bare 0
   pub tone : ¬ KeepsRow (with_one ROW_SLIDE) 3
@@ -209,7 +209,8 @@ pub record RowsAreKept : Type 0 where
   pub nothing : ¬ KeepsTick bare 2 (with_instrument (record plain { first_wave = 0 })) at_end
   pub vibrato : ¬ KeepsTick bare 2 (with_instrument (record plain { vibrato = 1 })) at_end
   pub delay : ¬ KeepsTick bare 2 (with_instrument (record plain { vibrato_delay = 1 })) at_end
-  pub waits : ¬ KeepsTick bare 2 (with_instrument plain) (record at_end { voice = record at_end.voice { vib_delay = 1 } })
+  pub waits :
+      ¬ KeepsTick bare 2 (with_instrument plain) (record at_end { voice = record at_end.voice { vib_delay = 1 } })
   pub pulse : ¬ KeepsTick bare 2 (with_instrument (record plain { pulse = 1 })) at_end
   pub filter : ¬ KeepsTick bare 2 (with_instrument (record plain { filter = 1 })) at_end
   pub tempo : ¬ KeepsTick (with_setting ROW_COMMAND) 2 (with_instrument plain) at_tempo

@@ -97,7 +97,7 @@ pub record WalkGround (r : Reader) (order : Order) (place : ℕ) (looks : ℕ �
 
 -- the voice stands as where the walk began, but for its place in the orderlist
 pub record Walking (r : Reader) (s : Playing) (d b m : VoiceDesk) : Type 0 where
-  pub fields : Fields s.voice (tempo_of (r.voice + 1) s.common) m.own
+  pub fields : Fields r.layout.holds s.voice (tempo_of (r.voice + 1) s.common) m.own
   pub around : Around r s d m
   pub order_low : m.own ORDER_LOW ≡ d.own ORDER_LOW
   pub order_high : m.own ORDER_HIGH ≡ d.own ORDER_HIGH

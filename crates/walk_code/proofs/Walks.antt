@@ -183,7 +183,7 @@ repeat_leads r s order place looks ground step after d b n m k p t rep inside fr
     let no_carry : nat_le 0xE0 m.a ≡ false = lt-leb 0xE0 m.a (omega (arith, acc, below)) in
     let sum : (m.a + 48 + one_if (nat_le 0xE0 m.a)) % 256 ≡ byte - 0xD0 =
     ap (λ c. (m.a + 48 + one_if c) % 256) no_carry ∙ omega (arith, acc, below, from) in
-    let fields : Fields s.voice (tempo_of (r.voice + 1) s.common)
+    let fields : Fields r.layout.holds s.voice (tempo_of (r.voice + 1) s.common)
     (put m.own REPEAT ((m.a + 48 + one_if (nat_le 0xE0 m.a)) % 256)) = assumption at.walking.fields in record {
       p = p + 1;
       t = t;

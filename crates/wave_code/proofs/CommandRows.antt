@@ -10,7 +10,7 @@ use Rattle.play_model.specs.State.{Voice, Playing}
 use Rattle.play_model.specs.TickStep.{tempo_of}
 use Rattle.play_model.specs.Helpers.{do_command}
 use Rattle.play_model.specs.WaveStep.{wave_command}
-use Rattle.player_memory.specs.declared.conditions.TheConstants.{WAVE_COMMAND}
+use Rattle.player_memory.specs.declared.conditions.TheConstants.{WAVE_COMMAND, EFFECTS}
 use Rattle.player_memory.specs.declared.labels.TheConstants.{COMMAND, PARAM, WAVE_RIGHTS, LENT, KEPT_COMMAND}
 use Rattle.player_memory.specs.declared.labels.TheConstants.{KEPT_PARAM}
 use Rattle.player_text.specs.declared.joints.TheConstants.{RUNNING, EFFECTED, NOTHING}
@@ -60,13 +60,13 @@ lent_handed v = record { lent = 1; command = v.command; param = v.param }
 -- the command is done; and it is lent, with A as the command
 pub record AtOnce (r : Reader) (look : LookUps) (c x : ℕ) (s : Playing) (handed : Lent) (d m : VoiceDesk) : Type 0 where
   pub which : (c ≡ 0) ⊎ (5 ≤ c)
-  pub done : Done r.voice (wave_command look c x s) handed d m
+  pub done : Done r.layout.holds r.voice (wave_command look c x s) handed d m
 
 pub record AtLent (r : Reader) (c x : ℕ) (s : Playing) (d m : VoiceDesk) : Type 0 where
   pub least : 1 ≤ c
   pub most : c ≤ 4
   pub a : m.a ≡ c
-  pub done : Done r.voice (lent_out c x s) (lent_handed s.voice) d m
+  pub done : Done r.layout.holds r.voice (lent_out c x s) (lent_handed s.voice) d m
 
 abbrev pub command_ways : Reader → LookUps → ℕ → ℕ → Playing → Lent → VoiceDesk → Ways
 command_ways r look c x s handed d = record {
@@ -88,13 +88,13 @@ record AtRow (r : Reader) (c p : ℕ) (s : Playing) (handed : Lent) (d m : Voice
   from : 5 ≤ c
   a : m.a ≡ c
   y : m.y ≡ p
-  done : Done r.voice s handed d m
+  done : Done r.layout.holds r.voice s handed d m
 
 -- A is its parameter, and the pointer's low byte the command
 record AtParam (r : Reader) (c x : ℕ) (s : Playing) (handed : Lent) (d m : VoiceDesk) : Type 0 where
   low : m.low ≡ c
   a : m.a ≡ x
-  done : Done r.voice s handed d m
+  done : Done r.layout.holds r.voice s handed d m
 
 index_leads : (r : Reader) (look : LookUps) (c x : ℕ) (s : Playing) (handed : Lent) (d m : VoiceDesk) → c < 15 →
     x < 256 → 5 ≤ c → KeepsOnce r.layout c → AtParam r c x s handed d m →
@@ -104,7 +104,7 @@ index_leads r look c x s handed d m few byte from keeps at =
     (record {
       done = λ n q. record {
         which = inr from;
-        done = done_by r.voice (do_command c x s) _ handed d n (sym (wave_once look c x s from)) q;
+        done = done_by r.layout.holds r.voice (do_command c x s) _ handed d n (sym (wave_once look c x s from)) q;
       };
       left = λ name n q. q;
       again = λ n q. q;
@@ -113,7 +113,7 @@ index_leads r look c x s handed d m few byte from keeps at =
     (record {
       y = at.low;
       was = λ was. absurd (omega (arith, was, from));
-      waits = λ waits. done_over r.voice s handed d m _ refl refl refl at.done;
+      waits = λ waits. done_over r.layout.holds r.voice s handed d m _ refl refl refl at.done;
       a = λ keeps. at.a;
     }))
   where
@@ -121,33 +121,34 @@ index_leads r look c x s handed d m few byte from keeps at =
     goal = in_nothing r look c x s handed d
 
 row_leads : (r : Reader) (look : LookUps) (c x p : ℕ) (s : Playing) (handed : Lent) (d m : VoiceDesk) → c < 15 →
-    x < 256 → Reads r (place_at r WAVE_RIGHTS p) x → KeepsOnce r.layout c → AtRow r c p s handed d m →
+    x < 256 → Reads r (place_at r WAVE_RIGHTS p) x → (5 ≤ c → KeepsOnce r.layout c) → AtRow r c p s handed d m →
     Leads r (rest_of ONCE command_row_tree) (in_nothing r look c x s handed d) m
 row_leads r look c x p s handed d m few byte reads keeps at =
     goes_on true r read_tree from_index (AtParam r c x s handed d) (in_nothing r look c x s handed d)
     (record m { low = m.a })
     (listed WAVE_RIGHTS p x reads at.y
-    (λ b e. record { low = at.a; a = e; done = done_over r.voice s handed d m _ refl refl refl at.done }))
-    (λ n param. index_leads r look c x s handed d n few byte at.from keeps param)
+    (λ b e.
+    record { low = at.a; a = e; done = done_over r.layout.holds r.voice s handed d m _ refl refl refl at.done }))
+    (λ n param. index_leads r look c x s handed d n few byte at.from (keeps at.from) param)
 
 -- ---- one that is lent
 
 once_or_lent : (r : Reader) (look : LookUps) (c x p : ℕ) (s : Playing) (handed : Lent) (d m : VoiceDesk) →
-    c < 15 → x < 256 → Reads r (place_at r WAVE_RIGHTS p) x → handed.lent ≡ 0 → 1 ≤ c → m.a ≡ c → m.y ≡ p →
-    Done r.voice s handed d m →
+    c < 15 → x < 256 → Reads r (place_at r WAVE_RIGHTS p) x → handed.lent ≡ 0 →
+    (c ≤ 4 → r.layout.holds EFFECTS ≡ true) → 1 ≤ c → m.a ≡ c → m.y ≡ p → Done r.layout.holds r.voice s handed d m →
     Leads r (body_of ONCE command_row_tree)
     (in_scope ONCE (done_as (AtRow r c p s handed d) (in_nothing r look c x s handed d))) m
-once_or_lent r look c x p s handed d m few byte reads free least is y done = (
+once_or_lent r look c x p s handed d m few byte reads free effects least is y done = (
   λ once. record {
     from = (let l = leb-true 5 m.a once in omega (arith, l, is));
     a = is;
     y = y;
-    done = done_over r.voice s handed d m _ refl refl refl done;
+    done = done_over r.layout.holds r.voice s handed d m _ refl refl refl done;
   },
   λ lends.
       let most : c ≤ 4 = (let l = leb-false 5 m.a lends in omega (arith, l, is)) in
       listed WAVE_RIGHTS p x reads y
-      (λ b e. record { least = least; most = most; a = is; done = lent b e _ refl refl refl }),
+      (λ b e. record { least = least; most = most; a = is; done = lent most b e _ refl refl refl }),
 )
   where
     -- the bytes that no voice owns
@@ -158,9 +159,9 @@ once_or_lent r look c x p s handed d m few byte reads free least is y done = (
     tempo : ℕ → ℕ
     tempo its = tempo_of (its + 1) s.common
 
-    lent : (b : ℕ) → b ≡ x → (n : VoiceDesk) → n.own ≡ put (put m.own PARAM b) COMMAND m.a →
-        n.shared ≡ after → n.sid ≡ m.sid → Done r.voice (lent_out c x s) (lent_handed s.voice) d n
-    lent b e n own shared sid = record {
+    lent : c ≤ 4 → (b : ℕ) → b ≡ x → (n : VoiceDesk) → n.own ≡ put (put m.own PARAM b) COMMAND m.a →
+        n.shared ≡ after → n.sid ≡ m.sid → Done r.layout.holds r.voice (lent_out c x s) (lent_handed s.voice) d n
+    lent most b e n own shared sid = record {
       fields = rw own (assumption (e, is, done.fields));
       common = rw shared (assumption done.common);
       tempos = rw shared
@@ -170,8 +171,8 @@ once_or_lent r look c x p s handed d m few byte reads free least is y done = (
           (tempos_kept r.voice KEPT_COMMAND (m.own COMMAND) m.shared tempo refl refl refl done.tempos)));
       lent = rw shared (record {
         lent = (let l = done.lent.lent in omega (arith, l, free));
-        command = λ some. done.fields.command;
-        param = λ some. done.fields.param;
+        command = λ some. done.fields.command (effects most);
+        param = λ some. done.fields.param (effects most);
       });
       song = rw own (assumption done.song);
       sid = sid ∙ done.sid;
@@ -180,29 +181,32 @@ once_or_lent r look c x p s handed d m few byte reads free least is y done = (
 -- ---- the law
 
 -- On the desk of a voice with a command of the wave table in A and its row in Y, the code leads to where the command is
--- done, or lent to the effect step.
+-- done, or lent to the effect step, whose code is kept.
 pub command_row_leads : (r : Reader) (look : LookUps) (c x p : ℕ) (s : Playing) (handed : Lent) (d m : VoiceDesk) →
-    c < 15 → x < 256 → Reads r (place_at r WAVE_RIGHTS p) x → handed.lent ≡ 0 → KeepsOnce r.layout c →
-    m.a ≡ 0xF0 + c → m.y ≡ p → Done r.voice s handed d m →
+    c < 15 → x < 256 → Reads r (place_at r WAVE_RIGHTS p) x → handed.lent ≡ 0 →
+    r.layout.holds WAVE_COMMAND ≡ true → (5 ≤ c → KeepsOnce r.layout c) →
+    (1 ≤ c → c ≤ 4 → r.layout.holds EFFECTS ≡ true) → m.a ≡ 0xF0 + c → m.y ≡ p →
+    Done r.layout.holds r.voice s handed d m →
     Leads r command_row_tree (command_ways r look c x s handed d) m
-command_row_leads r look c x p s handed d m few byte reads free keeps a y done = (
+command_row_leads r look c x p s handed d m few byte reads free commands keeps effects a y done = (
   λ kept. (
     λ zero.
         let none : c ≡ 0 = (let z = eqb-true (bit_and m.a 0x0F) 0 zero in omega (arith, z, is)) in record {
           which = inl none;
           done =
-              done_by r.voice s _ handed d _ (sym (wave_none look c x s none))
-              (done_over r.voice s handed d m _ refl refl refl done);
+              done_by r.layout.holds r.voice s _ handed d _ (sym (wave_none look c x s none))
+              (done_over r.layout.holds r.voice s handed d m _ refl refl refl done);
         },
     λ some.
         joined true r ONCE (body_of ONCE command_row_tree) (rest_of ONCE command_row_tree) (AtRow r c p s handed d)
         (in_nothing r look c x s handed d) (loaded (bit_and m.a 0x0F) m)
         (once_or_lent r look c x p s handed d (loaded (bit_and m.a 0x0F) m) few byte reads free
+        (effects (positive (λ e. eqb-false (bit_and m.a 0x0F) 0 some (is ∙ e))))
         (positive (λ e. eqb-false (bit_and m.a 0x0F) 0 some (is ∙ e))) is y
-        (done_over r.voice s handed d m _ refl refl refl done))
+        (done_over r.layout.holds r.voice s handed d m _ refl refl refl done))
         (λ n row. row_leads r look c x p s handed d n few byte reads keeps row),
   ),
-  λ out. absurd (both_ways (r.layout.holds WAVE_COMMAND) out keeps.commands),
+  λ out. absurd (both_ways (r.layout.holds WAVE_COMMAND) out commands),
 )
   where
     is : bit_and m.a 0x0F ≡ c

@@ -1,15 +1,13 @@
 -- The code of a command of the wave table, in memory.
-use Rattle.std.proofs.Common.{◌≡◌, ℕ, zero, suc, ◌≤◌, Bool, true, false, nat_eq, inl, inr, refl, sym, ap}
+use Rattle.std.proofs.Common.{◌≡◌, ℕ, ◌≤◌, Bool, true, false, nat_eq, inl, inr, refl, sym, ap}
 use Rattle.std.proofs.Common.{◌∙◌, arith}
 use Rattle.std.proofs.lemmas.Bool.{ne_eqb}
 use Rattle.std.proofs.lemmas.Bool.Decides.{eqb_tells}
 use Rattle.song_model.specs.Silence.{empty_song}
-use Rattle.scopes.specs.Desk.{Layout}
 use Rattle.play_model.specs.LookUps.{LookUps, look_ups_of}
 use Rattle.play_model.specs.State.{Playing}
 use Rattle.play_model.specs.Helpers.{do_command}
 use Rattle.play_model.specs.WaveStep.{program_moved, wave_command}
-use Rattle.player_memory.specs.declared.conditions.TheConstants.{WAVE_COMMAND}
 use Rattle.player_memory.specs.declared.labels.TheConstants.{WAVE_RIGHTS, LENT, KEPT_COMMAND, KEPT_PARAM}
 use Rattle.scopes.specs.Meaning.{each_one, ran}
 use Rattle.player_memory.specs.Playing.{there}
@@ -18,7 +16,7 @@ use Rattle.player_desk.proofs.Laws.{VoiceDesk, Reader, Ways, Lent, Leads, leaves
 use Rattle.player_desk.proofs.Laws.{is_playing, song_stays, others_stay, all_slides_stay}
 use Rattle.player_desk.proofs.Laws.{leaves_still, plays_so, reader_of, voice_desk, lent_of, begins, finds}
 use Rattle.player_desk.proofs.VoiceDesks.{Either}
-use Rattle.wave_code.specs.CommandBlock.{command_row_tree, CommandBlockDoes, CommandsLeaveTheProgram, KeepsOnce}
+use Rattle.wave_code.specs.CommandBlock.{command_row_tree, CommandBlockDoes, CommandsLeaveTheProgram}
 use Rattle.wave_code.specs.CommandBlock.{lent_out, CommandBlockLends}
 use Rattle.wave_code.proofs.CommandRows.{AtOnce, AtLent, command_ways, command_row_leads, wave_once, wave_none}
 
@@ -107,18 +105,19 @@ command_block_does layout rows voice number command param look s desk room uses 
     handed : Lent
     handed = lent_of layout desk
 
-    leads : Leads r command_row_tree (command_ways r look command param s handed d) d
-    leads =
-        command_row_leads r look command param number s handed d d here.few here.byte
-        (finds layout rows voice desk WAVE_RIGHTS number _ here.listed) here.lent keeps here.a here.y
-        (begins layout voice desk s playing)
-
     apart : 1 ≤ command → command ≤ 4 → ⊥
     apart least most =
         elim which [
           | inl none ↦ (let e = none in omega (arith, e, least))
           | inr from ↦ (let l = from in omega (arith, l, most))
         ]
+
+    leads : Leads r command_row_tree (command_ways r look command param s handed d) d
+    leads =
+        command_row_leads r look command param number s handed d d here.few here.byte
+        (finds layout rows voice desk WAVE_RIGHTS number _ here.listed) here.lent keeps.commands (λ from. keeps)
+        (λ least most. absurd (apart least most)) here.a here.y
+        (begins layout voice desk s playing)
 
     on : (x y : Bool) (m : VoiceDesk) →
         Either x (AtLent r command param s d m) (Either y (AtOnce r look command param s handed d m) ⊥) →
@@ -127,22 +126,13 @@ command_block_does layout rows voice number command param look s desk room uses 
     on false true m q = q
     on false false m q = q
 
--- of a command that is lent no code is kept but that of the wave table's commands
-keeps_lent : (layout : Layout) (command : ℕ) → command ≤ 4 → layout.holds WAVE_COMMAND ≡ true →
-    KeepsOnce layout command
-keeps_lent layout zero most kept = record { commands = kept; lines = tt }
-keeps_lent layout (suc zero) most kept = record { commands = kept; lines = tt }
-keeps_lent layout (suc (suc zero)) most kept = record { commands = kept; lines = tt }
-keeps_lent layout (suc (suc (suc zero))) most kept = record { commands = kept; lines = tt }
-keeps_lent layout (suc (suc (suc (suc zero)))) most kept = record { commands = kept; lines = tt }
-keeps_lent layout (suc (suc (suc (suc (suc command))))) most kept = absurd (omega (arith, most))
-
 -- it looks nothing up
 any_look : LookUps
 any_look = look_ups_of empty_song
 
 pub command_block_lends : CommandBlockLends
-command_block_lends layout rows voice number command param s desk room uses few at playing here least most kept =
+command_block_lends layout rows voice number command param s desk room uses few at playing here least most kept
+    effects =
     let Q = AtLent r command param s d in
     let went = leaves_still RUNNING layout rows voice command_row_tree desk Q refl room uses few at
     (leads_on true r command_row_tree ways (leaves RUNNING Q) d
@@ -181,7 +171,8 @@ command_block_lends layout rows voice number command param s desk room uses few 
     leads =
         command_row_leads r any_look command param number s (lent_of layout desk) d d here.few here.byte
         (finds layout rows voice desk WAVE_RIGHTS number _ here.listed) here.lent
-        (keeps_lent layout command most kept) here.a here.y (begins layout voice desk s playing)
+        kept (λ from. absurd (omega (arith, from, most))) (λ l m. effects) here.a here.y
+        (begins layout voice desk s playing)
 
     on : (x y : Bool) (m : VoiceDesk) →
         Either x (AtLent r command param s d m)

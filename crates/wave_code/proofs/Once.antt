@@ -11,7 +11,7 @@ use Rattle.wave_code.specs.CommandBlock.{KeepsOnce}
 use Rattle.wave_code.proofs.Pieces.{from_ad, from_pulse_pointer, from_end}
 
 abbrev pub OnceDone : Reader → ℕ → ℕ → Playing → Lent → VoiceDesk → VoiceDesk → Type 0
-OnceDone r c p u handed d m = Done r.voice (do_command c p u) handed d m
+OnceDone r c p u handed d m = Done r.layout.holds r.voice (do_command c p u) handed d m
 
 -- before the lines for command k
 abbrev pub BeforeOnce : ℕ → Reader → ℕ → ℕ → Playing → Lent → VoiceDesk → VoiceDesk → Type 0
@@ -27,7 +27,7 @@ past_eight r c p u handed d n at = record {
         | inl low ↦ at.was low
         | inr high ↦
             let same : c ≡ 8 = (let h = high in omega (arith, h, was)) in
-            done_by r.voice u _ handed d n (sym (do_eight c p u same)) (at.waits high)
+            done_by r.layout.holds r.voice u _ handed d n (sym (do_eight c p u same)) (at.waits high)
       ];
   waits = λ waits. at.waits (omega (arith, waits));
   a = λ keeps. at.a (omega (arith, keeps));
@@ -39,7 +39,7 @@ past_last : (r : Reader) (c p : ℕ) (u : Playing) (handed : Lent) (d n : VoiceD
 past_last r c p u handed d n at =
     elim (cases_lt c 14) [
       | inl low ↦ at.was low
-      | inr high ↦ done_by r.voice u _ handed d n (sym (do_over c p u high)) (at.waits high)
+      | inr high ↦ done_by r.layout.holds r.voice u _ handed d n (sym (do_over c p u high)) (at.waits high)
     ]
 
 -- Y is the command, and A its parameter
@@ -61,4 +61,5 @@ once_leads r c p u handed d ways m few small keeps at =
       small = small;
       kept = λ condition is. subst (AreKept r.layout) is keeps.lines;
       rule = λ condition is. refl;
+      shared = keeps.shared;
     }

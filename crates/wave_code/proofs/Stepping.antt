@@ -52,12 +52,13 @@ state_begun look s e = rw e refl
 ways_end : (layout : Layout) (rows voice : ℕ) (look : LookUps) (s : Playing) (desk : Desk) → IsRoom layout rows →
     MayUse layout rows → voice < 3 → IsAtVoice voice desk →
     Leads (reader_of layout rows voice desk) wave_tree
-    (wave_ways voice look s (lent_of layout desk) (voice_desk layout voice desk)) (voice_desk layout voice desk) →
+    (wave_ways (reader_of layout rows voice desk) look s (lent_of layout desk) (voice_desk layout voice desk))
+    (voice_desk layout voice desk) →
     (wave_step look s).effect ≡ true → Waves layout rows voice desk (ran each_one layout wave_tree desk) look s
 ways_end layout rows voice look s desk room uses few at leads runs =
-    let Q = AtEnd voice look s handed d in
+    let Q = AtEnd r look s handed d in
     let went = ends_still layout rows voice wave_tree desk Q refl room uses few at
-    (leads_on true r wave_tree (wave_ways voice look s handed d) (ends Q) d
+    (leads_on true r wave_tree (wave_ways r look s handed d) (ends Q) d
     (record {
       done = λ m q. q;
       left = λ name m q. none (nat_eq name PITCHED) (nat_eq name COMMANDED) m q;
@@ -83,7 +84,7 @@ ways_end layout rows voice look s desk room uses few at leads runs =
     handed = lent_of layout desk
 
     none : (x y : Bool) (m : VoiceDesk) →
-        Either x (AtPitch voice look s handed d m) (Either y (AtCommand voice look s handed d m) ⊥) → ⊥
+        Either x (AtPitch r look s handed d m) (Either y (AtCommand r look s handed d m) ⊥) → ⊥
     none true y m q = both_ways (wave_step look s).effect q.rests runs
     none false true m q = both_ways (wave_step look s).effect q.rests runs
     none false false m q = q
@@ -91,13 +92,14 @@ ways_end layout rows voice look s desk room uses few at leads runs =
 ways_pitch : (layout : Layout) (rows voice : ℕ) (look : LookUps) (s : Playing) (desk : Desk) → IsRoom layout rows →
     MayUse layout rows → voice < 3 → IsAtVoice voice desk →
     Leads (reader_of layout rows voice desk) wave_tree
-    (wave_ways voice look s (lent_of layout desk) (voice_desk layout voice desk)) (voice_desk layout voice desk) →
+    (wave_ways (reader_of layout rows voice desk) look s (lent_of layout desk) (voice_desk layout voice desk))
+    (voice_desk layout voice desk) →
     (wave_step look s).effect ≡ false → is_wave_command (its_row look s.voice) ≡ false →
     Waves layout rows voice desk (ran each_one layout wave_tree desk) look s
 ways_pitch layout rows voice look s desk room uses few at leads rests note_row =
-    let Q = AtPitch voice look s handed d in
+    let Q = AtPitch r look s handed d in
     let went = leaves_still PITCHED layout rows voice wave_tree desk Q refl room uses few at
-    (leads_on true r wave_tree (wave_ways voice look s handed d) (leaves PITCHED Q) d
+    (leads_on true r wave_tree (wave_ways r look s handed d) (leaves PITCHED Q) d
     (record {
       done = λ m q. both_ways (wave_step look s).effect rests q.runs;
       left = λ name m q. on (nat_eq name PITCHED) (nat_eq name COMMANDED) m q;
@@ -123,8 +125,8 @@ ways_pitch layout rows voice look s desk room uses few at leads rests note_row =
     handed = lent_of layout desk
 
     on : (x y : Bool) (m : VoiceDesk) →
-        Either x (AtPitch voice look s handed d m) (Either y (AtCommand voice look s handed d m) ⊥) →
-        Either x (AtPitch voice look s handed d m) ⊥
+        Either x (AtPitch r look s handed d m) (Either y (AtCommand r look s handed d m) ⊥) →
+        Either x (AtPitch r look s handed d m) ⊥
     on true y m q = q
     on false true m q = both_ways (is_wave_command (its_row look s.voice)) note_row q.is
     on false false m q = q
@@ -132,13 +134,14 @@ ways_pitch layout rows voice look s desk room uses few at leads rests note_row =
 ways_command : (layout : Layout) (rows voice : ℕ) (look : LookUps) (s : Playing) (desk : Desk) → IsRoom layout rows →
     MayUse layout rows → voice < 3 → IsAtVoice voice desk →
     Leads (reader_of layout rows voice desk) wave_tree
-    (wave_ways voice look s (lent_of layout desk) (voice_desk layout voice desk)) (voice_desk layout voice desk) →
+    (wave_ways (reader_of layout rows voice desk) look s (lent_of layout desk) (voice_desk layout voice desk))
+    (voice_desk layout voice desk) →
     (wave_step look s).effect ≡ false → is_wave_command (its_row look s.voice) ≡ true →
     Waves layout rows voice desk (ran each_one layout wave_tree desk) look s
 ways_command layout rows voice look s desk room uses few at leads rests is =
-    let Q = AtCommand voice look s handed d in
+    let Q = AtCommand r look s handed d in
     let went = leaves_still COMMANDED layout rows voice wave_tree desk Q refl room uses few at
-    (leads_on true r wave_tree (wave_ways voice look s handed d) (leaves COMMANDED Q) d
+    (leads_on true r wave_tree (wave_ways r look s handed d) (leaves COMMANDED Q) d
     (record {
       done = λ m q. both_ways (wave_step look s).effect rests q.runs;
       left = λ name m q. on (nat_eq name PITCHED) (nat_eq name COMMANDED) m q;
@@ -167,8 +170,8 @@ ways_command layout rows voice look s desk room uses few at leads rests is =
     handed = lent_of layout desk
 
     on : (x y : Bool) (m : VoiceDesk) →
-        Either x (AtPitch voice look s handed d m) (Either y (AtCommand voice look s handed d m) ⊥) →
-        Either y (AtCommand voice look s handed d m) ⊥
+        Either x (AtPitch r look s handed d m) (Either y (AtCommand r look s handed d m) ⊥) →
+        Either y (AtCommand r look s handed d m) ⊥
     on true y m q = absurd (both_ways (is_wave_command (its_row look s.voice)) q.none is)
     on false true m q = q
     on false false m q = q
@@ -225,7 +228,7 @@ wave_block_steps layout rows voice count look s desk room uses has few at playin
       fresh = on.time;
     }
 
-    leads : Leads r wave_tree (wave_ways voice look s (lent_of layout desk) d) d
+    leads : Leads r wave_tree (wave_ways r look s (lent_of layout desk) d) d
     leads = wave_leads r look s (lent_of layout desk) d d ground keeps (begins layout voice desk s playing)
 
     whichever : (x y : Bool) → (wave_step look s).effect ≡ x → is_wave_command (its_row look s.voice) ≡ y →

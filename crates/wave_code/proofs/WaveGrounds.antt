@@ -39,30 +39,30 @@ pub record WaveGround (r : Reader) (look : LookUps) (p time : ℕ) : Type 0 wher
 -- ---- where its ways lead
 
 -- the effect may run
-pub record AtEnd (voice : ℕ) (look : LookUps) (s : Playing) (handed : Lent) (d m : VoiceDesk) : Type 0 where
+pub record AtEnd (r : Reader) (look : LookUps) (s : Playing) (handed : Lent) (d m : VoiceDesk) : Type 0 where
   pub runs : (wave_step look s).effect ≡ true
-  pub done : Done voice (wave_step look s).playing handed d m
+  pub done : Done r.layout.holds r.voice (wave_step look s).playing handed d m
 
 -- a note is to be set
-pub record AtPitch (voice : ℕ) (look : LookUps) (s : Playing) (handed : Lent) (d m : VoiceDesk) : Type 0 where
+pub record AtPitch (r : Reader) (look : LookUps) (s : Playing) (handed : Lent) (d m : VoiceDesk) : Type 0 where
   pub rests : (wave_step look s).effect ≡ false
   pub none : is_wave_command (its_row look s.voice) ≡ false
   pub note : HasNote look s m.a
-  pub done : Done voice (begun look s) handed d m
+  pub done : Done r.layout.holds r.voice (begun look s) handed d m
 
 -- a command is to be done
-pub record AtCommand (voice : ℕ) (look : LookUps) (s : Playing) (handed : Lent) (d m : VoiceDesk) : Type 0 where
+pub record AtCommand (r : Reader) (look : LookUps) (s : Playing) (handed : Lent) (d m : VoiceDesk) : Type 0 where
   pub rests : (wave_step look s).effect ≡ false
   pub is : is_wave_command (its_row look s.voice) ≡ true
   pub command : HasCommand look s m.a m.y
-  pub done : Done voice (begun look s) handed d m
+  pub done : Done r.layout.holds r.voice (begun look s) handed d m
 
-abbrev pub wave_ways : ℕ → LookUps → Playing → Lent → VoiceDesk → Ways
-wave_ways voice look s handed d = record {
-  Done = AtEnd voice look s handed d;
+abbrev pub wave_ways : Reader → LookUps → Playing → Lent → VoiceDesk → Ways
+wave_ways r look s handed d = record {
+  Done = AtEnd r look s handed d;
   Left = λ name m.
-      Either (nat_eq name PITCHED) (AtPitch voice look s handed d m)
-      (Either (nat_eq name COMMANDED) (AtCommand voice look s handed d m) ⊥);
+      Either (nat_eq name PITCHED) (AtPitch r look s handed d m)
+      (Either (nat_eq name COMMANDED) (AtCommand r look s handed d m) ⊥);
   Again = λ m. ⊥;
 }
 
@@ -71,14 +71,14 @@ wave_ways voice look s handed d = record {
 -- the row's left side is done, but for a command
 pub record AtNext (r : Reader) (look : LookUps) (s : Playing) (handed : Lent) (d m : VoiceDesk) : Type 0 where
   pub wave : ℕ
-  pub done : Done r.voice (held wave s) handed d m
+  pub done : Done r.layout.holds r.voice (held wave s) handed d m
   pub y : m.y ≡ s.voice.wave_ptr
   pub is : begun look s ≡ moved look wave s
   pub row : (its_row look s.voice).left < 0xF0 → wave_step look s ≡ right_done (its_row look s.voice) (begun look s)
 
 -- and the program has gone on
 pub record AtMoved (r : Reader) (look : LookUps) (s : Playing) (handed : Lent) (d m : VoiceDesk) : Type 0 where
-  pub done : Done r.voice (begun look s) handed d m
+  pub done : Done r.layout.holds r.voice (begun look s) handed d m
   pub y : m.y ≡ s.voice.wave_ptr
   pub carry : m.c ≡ false
   pub row : (its_row look s.voice).left < 0xF0 → wave_step look s ≡ right_done (its_row look s.voice) (begun look s)

@@ -58,7 +58,7 @@ abbrev set_tree : Tree
 set_tree = behind (body_of NEXT wave_tree)
 
 abbrev its_ways : Reader → LookUps → Playing → Lent → VoiceDesk → Ways
-its_ways r look s handed d = in_scope IDLE (wave_ways r.voice look s handed d)
+its_ways r look s handed d = in_scope IDLE (wave_ways r look s handed d)
 
 -- ---- the right side
 
@@ -76,8 +76,8 @@ right_leads r look s handed d m at low here =
           let w = here.row low ∙ right_kept row (begun look s) low kept in record {
             runs = ap (λ (w : Waved). w.effect) w;
             done =
-                done_by r.voice (begun look s) _ handed d _ (ap (λ (w : Waved). w.playing) w)
-                (done_over r.voice (begun look s) handed d m _ refl refl refl here.done);
+                done_by r.layout.holds r.voice (begun look s) _ handed d _ (ap (λ (w : Waved). w.playing) w)
+                (done_over r.layout.holds r.voice (begun look s) handed d m _ refl refl refl here.done);
           },
       λ some.
           let other : row.right ≢ 0x80 = λ k. eqb-false b 0 some (omega (arith, k, is)) in (
@@ -107,7 +107,7 @@ right_leads r look s handed d m at low here =
     sum b one is none = (let n = here.done.fields.note in omega (arith, is, none, n))
 
     on : (n : VoiceDesk) → n.own ≡ m.own → n.shared ≡ m.shared → n.sid ≡ m.sid → row.right ≢ 0x80 →
-        n.a ≡ wave_note row.right (begun look s).voice.note → AtPitch r.voice look s handed d n
+        n.a ≡ wave_note row.right (begun look s).voice.note → AtPitch r look s handed d n
     on n own shared sid other note =
         let w = here.row low ∙ right_note row (begun look s) low other in record {
           rests = ap (λ (w : Waved). w.effect) w;
@@ -117,7 +117,7 @@ right_leads r look s handed d m at low here =
             sets = ap (λ (w : Waved). w.playing) w ∙ ap
                 (λ x. record (begun look s) { voice = with_note x (begun look s).voice }) (sym note);
           };
-          done = done_over r.voice (begun look s) handed d m n own shared sid here.done;
+          done = done_over r.layout.holds r.voice (begun look s) handed d m n own shared sid here.done;
         }
 
 -- ---- a command, which is left for the lines behind
@@ -139,12 +139,12 @@ command_leads r look s handed d m some at no_jump keeps here = (
                   (step_some look s some ∙ row_command look row s from (below row.left from (few b e as_is) no_jump));
               is = is;
               command = record { left = as_is; row = here.y };
-              done = done_over r.voice (begun look s) handed d m _ refl refl refl here.done;
+              done = done_over r.layout.holds r.voice (begun look s) handed d m _ refl refl refl here.done;
             },
         λ not_high.
             right_leads r look s handed d _ at (low_left row.left b e (leb-false 240 b not_high))
             (record {
-              done = done_over r.voice (begun look s) handed d m _ refl refl refl here.done;
+              done = done_over r.layout.holds r.voice (begun look s) handed d m _ refl refl refl here.done;
               y = here.y;
               carry = not_high;
               row = here.row;
@@ -207,12 +207,14 @@ moved_leads r look s handed d next m at =
         n.own ≡ put m.own WAVE_POINTER p → p ≡ next_row look Wave s.voice.wave_ptr → n.c ≡ false →
         AtMoved r look s handed d n
     on n p shared sid y own is carry =
-        let fields : Fields (moved look at.wave s).voice (tempo_of (r.voice + 1) s.common) (put m.own WAVE_POINTER p) =
+        let fields : Fields r.layout.holds (moved look at.wave s).voice (tempo_of (r.voice + 1) s.common)
+        (put m.own WAVE_POINTER p) =
         assumption (is, at.done.fields) in
         let song : SameSong (put m.own WAVE_POINTER p) d.own = assumption at.done.song in record {
           done =
-              done_by r.voice (moved look at.wave s) (begun look s) handed d n at.is
-              (own_done r.voice (held at.wave s) _ handed d m n shared sid refl (rw own fields) (rw own song) at.done);
+              done_by r.layout.holds r.voice (moved look at.wave s) (begun look s) handed d n at.is
+              (own_done r.layout.holds r.voice (held at.wave s) _ handed d m n shared sid refl (rw own fields)
+              (rw own song) at.done);
           y = y ∙ at.y;
           carry = carry;
           row = at.row;
@@ -225,14 +227,15 @@ next_ways r look s handed d = in_scope NEXT (done_as (AtNext r look s handed d) 
 
 -- this waveform stands there
 at_next : (r : Reader) (look : LookUps) (s : Playing) (handed : Lent) (d m n : VoiceDesk) (wave : ℕ) →
-    Done r.voice s handed d m → m.y ≡ s.voice.wave_ptr → n.shared ≡ m.shared → n.sid ≡ m.sid → n.y ≡ m.y →
-    Fields (held wave s).voice (tempo_of (r.voice + 1) s.common) n.own → SameSong n.own d.own →
+    Done r.layout.holds r.voice s handed d m → m.y ≡ s.voice.wave_ptr → n.shared ≡ m.shared → n.sid ≡ m.sid →
+    n.y ≡ m.y →
+    Fields r.layout.holds (held wave s).voice (tempo_of (r.voice + 1) s.common) n.own → SameSong n.own d.own →
     begun look s ≡ moved look wave s →
     ((its_row look s.voice).left < 0xF0 → wave_step look s ≡ right_done (its_row look s.voice) (begun look s)) →
     AtNext r look s handed d n
 at_next r look s handed d m n wave done y shared sid same fields song is row = record {
   wave = wave;
-  done = own_done r.voice s (held wave s) handed d m n shared sid refl fields song done;
+  done = own_done r.layout.holds r.voice s (held wave s) handed d m n shared sid refl fields song done;
   y = same ∙ y;
   is = is;
   row = row;
@@ -240,12 +243,13 @@ at_next r look s handed d m n wave done y shared sid same fields song is row = r
 
 -- a delay, of which A is the byte
 over_leads : (r : Reader) (look : LookUps) (s : Playing) (handed : Lent) (d m : VoiceDesk) →
-    s.voice.wave_ptr ≢ 0 → (its_row look s.voice).left < 0x10 → s.voice.wave_time ≤ (its_row look s.voice).left →
-    m.a ≡ 0xE0 + (its_row look s.voice).left → m.y ≡ s.voice.wave_ptr → Done r.voice s handed d m →
+    r.layout.holds WAVE_DELAY ≡ true → s.voice.wave_ptr ≢ 0 → (its_row look s.voice).left < 0x10 →
+    s.voice.wave_time ≤ (its_row look s.voice).left →
+    m.a ≡ 0xE0 + (its_row look s.voice).left → m.y ≡ s.voice.wave_ptr → Done r.layout.holds r.voice s handed d m →
     Leads r (ThenTree (ScopeTree OVER (body_of OVER wave_tree)) (rest_of OVER wave_tree))
     (in_scope SOUNDING
     (done_as (Leads r set_tree (next_ways r look s handed d)) (next_ways r look s handed d))) m
-over_leads r look s handed d m some low passed a y done = (
+over_leads r look s handed d m kept some low passed a y done = (
   λ same.
       let z = eqb-true ((bit_and m.a 0x0F + (256 - m.own WAVE_TIME)) % 256) 0 same in
       let over : s.voice.wave_time ≡ row.left = omega (arith, z, time, left, low, passed) in (
@@ -263,12 +267,13 @@ over_leads r look s handed d m some low passed a y done = (
       in (
         λ waits.
             let w = step_some look s some ∙ row_waits look row s low apart in
-            let more : (m.own WAVE_TIME + 1) % 256 ≡ byte_plus s.voice.wave_time 1 = omega (arith, time) in record {
+            let more = λ (on : r.layout.holds WAVE_DELAY ≡ true). next_time in record {
               runs = ap (λ (w : Waved). w.effect) w;
               done =
-                  done_by r.voice (record s { voice = record s.voice { wave_time = byte_plus s.voice.wave_time 1 } }) _
-                  handed d _ (ap (λ (w : Waved). w.playing) w)
-                  (own_done r.voice s _ handed d m _ refl refl refl (assumption (more, done.fields))
+                  done_by r.layout.holds r.voice
+                  (record s { voice = record s.voice { wave_time = byte_plus s.voice.wave_time 1 } }) _ handed d _
+                  (ap (λ (w : Waved). w.playing) w)
+                  (own_done r.layout.holds r.voice s _ handed d m _ refl refl refl (assumption (more, done.fields))
                   (assumption done.song) done);
             },
         λ round.
@@ -280,14 +285,24 @@ over_leads r look s handed d m some low passed a y done = (
     row = its_row look s.voice
 
     time : m.own WAVE_TIME ≡ s.voice.wave_time
-    time = done.fields.wave_time
+    time = done.fields.wave_time kept
+
+    next_time : (m.own WAVE_TIME + 1) % 256 ≡ byte_plus s.voice.wave_time 1
+    next_time = omega (arith, time)
 
     left : bit_and m.a 0x0F ≡ row.left
     left = low_four m.a (omega (arith, a, low)) ∙ omega (arith, a, low)
 
+-- of a row that is no delay no time has passed
+fresh : (r : Reader) (look : LookUps) (s : Playing) {handed : Lent} {d : VoiceDesk} (m : VoiceDesk) →
+    Done r.layout.holds r.voice s handed d m → WaveGround r look s.voice.wave_ptr s.voice.wave_time →
+    s.voice.wave_ptr ≢ 0 → 0x10 ≤ (its_row look s.voice).left → r.layout.holds WAVE_DELAY ≡ true →
+    m.own WAVE_TIME ≡ 0
+fresh r look s m done ground some from on = done.fields.wave_time on ∙ ground.fresh some from
+
 next_leads : (r : Reader) (look : LookUps) (s : Playing) (handed : Lent) (d m : VoiceDesk) →
     s.voice.wave_ptr ≢ 0 → WaveGround r look s.voice.wave_ptr s.voice.wave_time → KeepsWave r.layout look s.voice →
-    Kind (its_row look s.voice).left m.a → m.y ≡ s.voice.wave_ptr → Done r.voice s handed d m →
+    Kind (its_row look s.voice).left m.a → m.y ≡ s.voice.wave_ptr → Done r.layout.holds r.voice s handed d m →
     Leads r (body_of NEXT wave_tree) (next_ways r look s handed d) m
 next_leads r look s handed d m some ground keeps (Delay low is) y done = (
   λ special. (
@@ -297,13 +312,13 @@ next_leads r look s handed d m some ground keeps (Delay low is) y done = (
         λ high. (let l = leb-true 240 m.a high in absurd (omega (arith, l, is, low))),
         λ not_high. (
           λ kept_delay.
-              over_leads r look s handed d m some low (ground.delay some low) is y done,
+              over_leads r look s handed d m kept_delay some low (ground.delay some low) is y done,
           λ out. absurd (both_ways (r.layout.holds WAVE_DELAY) out (keeps.delay some low)),
         ),
       ),
       λ none. (
         λ kept_delay.
-            over_leads r look s handed d m some low (ground.delay some low) is y done,
+            over_leads r look s handed d m kept_delay some low (ground.delay some low) is y done,
         λ out. absurd (both_ways (r.layout.holds WAVE_DELAY) out (keeps.delay some low)),
       ),
     ),
@@ -324,7 +339,7 @@ next_leads r look s handed d m some ground keeps (Sound from to is) y done = (
     sounds : (n : VoiceDesk) → n.own ≡ put m.own WAVE m.a → n.shared ≡ m.shared → n.sid ≡ m.sid → n.y ≡ m.y →
         n.a ≡ m.a → AtNext r look s handed d n
     sounds n own shared sid same a =
-        let none = done.fields.wave_time ∙ ground.fresh some from in
+        let none = fresh r look s m done ground some from in
         at_next r look s handed d m n row.left done y shared sid same (rw own (assumption (is, none, done.fields)))
         (rw own (assumption done.song)) (begun_wave look s from to)
         (λ few.
@@ -343,7 +358,7 @@ next_leads r look s handed d m some ground keeps (LowSound from to is) y done = 
     sounds : (n : VoiceDesk) → n.own ≡ put m.own WAVE m.a → n.shared ≡ m.shared → n.sid ≡ m.sid → n.y ≡ m.y →
         n.a ≡ m.a → AtNext r look s handed d n
     sounds n own shared sid same a =
-        let none = done.fields.wave_time ∙ ground.fresh some (omega (arith, from)) in
+        let none = fresh r look s m done ground some (omega (arith, from)) in
         at_next r look s handed d m n (row.left - 0xE0) done y shared sid same
         (rw own (assumption (is, none, done.fields))) (rw own (assumption done.song)) (begun_low look s from to)
         (λ few.
@@ -354,7 +369,7 @@ next_leads r look s handed d m some ground keeps (Command from is) y done = (
     λ above. (
       λ kept. (
         λ high.
-            let none = done.fields.wave_time ∙ ground.fresh some (omega (arith, from)) in
+            let none = fresh r look s m done ground some (omega (arith, from)) in
             at_next r look s handed d m _ s.voice.wave done y refl refl refl (assumption (none, done.fields))
             (assumption done.song) (begun_command look s command)
             (λ few. absurd (omega (arith, few, from))),
@@ -383,7 +398,7 @@ next_leads r look s handed d m some ground keeps (Command from is) y done = (
 -- block's end where the effect may run, and else out, where a note is set or a command done.
 pub wave_leads : (r : Reader) (look : LookUps) (s : Playing) (handed : Lent) (d m : VoiceDesk) →
     WaveGround r look s.voice.wave_ptr s.voice.wave_time → KeepsWave r.layout look s.voice →
-    Done r.voice s handed d m → Leads r wave_tree (wave_ways r.voice look s handed d) m
+    Done r.layout.holds r.voice s handed d m → Leads r wave_tree (wave_ways r look s handed d) m
 wave_leads r look s handed d m ground keeps done = (
   λ kept. (
     λ zero. idle _ refl refl refl (sym done.fields.wave_ptr ∙ eqb-true (m.own WAVE_POINTER) 0 zero),
@@ -397,7 +412,7 @@ wave_leads r look s handed d m ground keeps done = (
         (its_ways r look s handed d) (loaded b (indexed (m.own WAVE_POINTER) m))
         (next_leads r look s handed d (loaded b (indexed (m.own WAVE_POINTER) m)) some ground keeps
         (kind_of (its_row look s.voice).left b e) done.fields.wave_ptr
-        (done_over r.voice s handed d m _ refl refl refl done))
+        (done_over r.layout.holds r.voice s handed d m _ refl refl refl done))
         (λ n next.
         joined true r MOVED (body_of MOVED wave_tree) (rest_of MOVED wave_tree) (AtMoved r look s handed d)
         (its_ways r look s handed d) n (moved_leads r look s handed d (ground.next some) n next)
@@ -411,11 +426,11 @@ wave_leads r look s handed d m ground keeps done = (
 )
   where
     idle : (n : VoiceDesk) → n.own ≡ m.own → n.shared ≡ m.shared → n.sid ≡ m.sid → s.voice.wave_ptr ≡ 0 →
-        AtEnd r.voice look s handed d n
+        AtEnd r look s handed d n
     idle n own shared sid none =
         let w = step_none look s none in record {
           runs = ap (λ (w : Waved). w.effect) w;
           done =
-              done_by r.voice s _ handed d n (ap (λ (w : Waved). w.playing) w)
-              (done_over r.voice s handed d m n own shared sid done);
+              done_by r.layout.holds r.voice s _ handed d n (ap (λ (w : Waved). w.playing) w)
+              (done_over r.layout.holds r.voice s handed d m n own shared sid done);
         }

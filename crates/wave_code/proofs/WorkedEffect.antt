@@ -3,7 +3,9 @@ use Rattle.std.proofs.Common.{ℕ, ◌+◌, Bool, true, false, nat_eq, refl, sym
 use Rattle.std.proofs.Common.{arith}
 use Rattle.std.proofs.lemmas.Bool.{both_ways}
 use Rattle.scopes.specs.Meaning.{Outcome, Left}
+use Rattle.player_memory.specs.declared.conditions.TheConstants.{WAVE_COMMAND}
 use Rattle.player_memory.specs.declared.labels.TheConstants.{TICK, COMMAND, PARAM, WAVE_RIGHTS}
+use Rattle.player_memory.specs.FactLines.{KeepsShared}
 use Rattle.player_memory.specs.Rooms.{IsRoom, MayUse}
 use Rattle.player_memory.specs.Playing.{own_at, IsListed, IsPlaying}
 use Rattle.player_memory.proofs.Laws.{IsLaid, room_in, uses_in, behind_slides, playing_in}
@@ -12,7 +14,7 @@ use Rattle.player_desk.proofs.Laws.{Fields, fields_of}
 use Rattle.wave_code.specs.CommandBlock.{IsAtCommand, lent_out}
 use Rattle.wave_code.specs.WorkedWave.{worked_layout}
 use Rattle.wave_code.specs.WorkedEffect.{EffectsAreWorked, RunningIsWorked, CommandsAreWorked, at_row, all_rests}
-use Rattle.wave_code.specs.WorkedEffect.{LendingIsWorked, with_other}
+use Rattle.wave_code.specs.WorkedEffect.{LendingIsWorked, with_other, commands_and}
 use Rattle.wave_code.proofs.Commanding.{command_block_lends}
 
 pub effects_are_worked : EffectsAreWorked
@@ -25,6 +27,7 @@ effects_are_worked = record {
   never = record { way_is = refl; a_is = refl; delay_is = refl; cost_is = refl };
   none = record { way_is = refl; a_is = refl; delay_is = refl; cost_is = refl };
   rests = record { way_is = refl; a_is = refl; delay_is = refl; cost_is = refl };
+  not_kept = record { way_is = refl; a_is = refl; delay_is = refl; cost_is = refl };
 }
 
 pub running_is_worked : RunningIsWorked
@@ -40,9 +43,40 @@ running_is_worked = record {
   has = record { command = omega arith; delay = omega arith };
   command = λ has. (let l = has.command in omega (arith, l));
   delay = λ has. (let l = has.delay in omega (arith, l));
-  keeps = λ goes none some long. refl;
+  keeps = record { instrument = λ goes none some long. refl; runs = λ goes some. refl; shared = λ on. refl };
   not_kept = λ keeps.
-      both_ways true (sym (keeps refl refl (λ e. omega (arith, e)) (λ e. omega (arith, e)))) refl;
+      both_ways true (sym (keeps.instrument refl refl (λ e. omega (arith, e)) (λ e. omega (arith, e)))) refl;
+  effects_not_kept = λ keeps. both_ways true (sym (keeps.runs refl (λ e. omega (arith, e)))) refl;
+  shared_not_kept = λ keeps. both_ways true (sym (keeps.shared refl)) refl;
+}
+
+-- what they have in common is kept with all code, and with that of commands of the wave table alone
+all_shared : KeepsShared (worked_layout true)
+all_shared = record {
+  tone = λ on. refl;
+  slide = λ on. refl;
+  once = λ on. refl;
+  delay = λ on. refl;
+  command = λ on. refl;
+  legato = λ on. refl;
+  soft = λ on. refl;
+  filter = λ on. refl;
+  control = λ on. refl;
+  cutoff = λ on. refl;
+}
+
+alone_shared : KeepsShared (commands_and WAVE_COMMAND)
+alone_shared = record {
+  tone = λ on. absurd (both_ways true (sym on) refl);
+  slide = λ on. absurd (both_ways true (sym on) refl);
+  once = λ on. absurd (both_ways true (sym on) refl);
+  delay = λ on. refl;
+  command = λ on. refl;
+  legato = λ on. absurd (both_ways true (sym on) refl);
+  soft = λ on. absurd (both_ways true (sym on) refl);
+  filter = λ on. absurd (both_ways true (sym on) refl);
+  control = λ on. absurd (both_ways true (sym on) refl);
+  cutoff = λ on. absurd (both_ways true (sym on) refl);
 }
 
 pub commands_are_worked : CommandsAreWorked
@@ -62,10 +96,11 @@ commands_are_worked = record {
       record { way_is = refl; command_is = refl; param_is = refl; ad_is = refl; lent_is = refl; cost_is = refl };
   lent_one = λ which.
       elim which [ inl none ↦ (let e = none in omega (arith, e)) | inr from ↦ (let l = from in omega (arith, l)) ];
-  kept = record { commands = refl; lines = refl };
-  kept_alone = record { commands = refl; lines = tt };
+  kept = record { commands = refl; lines = refl; shared = all_shared };
+  kept_alone = record { commands = refl; lines = tt; shared = alone_shared };
   not_kept = λ keeps. both_ways true (sym keeps.commands) refl;
   lines_not_kept = λ keeps. both_ways true (sym keeps.lines) refl;
+  shared_not_kept = λ keeps. both_ways true (sym (keeps.shared.control refl)) refl;
 }
 
 -- ---- a command that is lent
@@ -100,8 +135,10 @@ at_command = record { a = refl; y = refl; few = omega arith; listed = param; byt
 
 -- the rows of the lent voice by their names
 its_fields : (at : ℕ → ℕ) → IsPlaying (worked_layout true) 2 (lent_out 1 0xA7 all_rests) at →
-    Fields (lent_out 1 0xA7 all_rests).voice 0 (own_at (worked_layout true) at 2)
-its_fields at plays = fields_of (lent_out 1 0xA7 all_rests).voice 0 (own_at (worked_layout true) at 2) plays.own
+    Fields (worked_layout true).holds (lent_out 1 0xA7 all_rests).voice 0 (own_at (worked_layout true) at 2)
+its_fields at plays =
+    fields_of (worked_layout true).holds (lent_out 1 0xA7 all_rests).voice 0 (own_at (worked_layout true) at 2)
+    plays.own
 
 pub lending_is_worked : LendingIsWorked
 lending_is_worked = record {
@@ -112,15 +149,17 @@ lending_is_worked = record {
   at_command = at_command;
   lends =
       command_block_lends (worked_layout true) 4 2 4 1 0xA7 all_rests (at_row 0xF1) room uses (omega arith)
-      (record { x = refl; decimal = refl }) playing at_command (omega arith) (omega arith) refl;
+      (record { x = refl; decimal = refl }) playing at_command (omega arith) (omega arith) refl refl;
   row = λ at. (let y = at.y in omega (arith, y));
   number = λ at. (let a = at.a in omega (arith, a));
   already = λ at. (let lent = at.lent in omega (arith, lent));
   effected = λ l. both_ways true (ap (is_to EFFECTED) l.way) refl;
   other_a = λ l. (let a = l.a in omega (arith, a));
   other_x = λ l. (let x = l.at_voice.x in omega (arith, x));
-  own = λ l. (let byte = (its_fields (with_other (COMMAND + 14) 2).desk.at l.plays).command in omega (arith, byte));
-  param = λ l. (let byte = (its_fields (with_other (PARAM + 14) 9).desk.at l.plays).param in omega (arith, byte));
+  own = λ l. (let byte = (its_fields (with_other (COMMAND + 14) 2).desk.at l.plays).command refl in
+      omega (arith, byte));
+  param = λ l. (let byte = (its_fields (with_other (PARAM + 14) 9).desk.at l.plays).param refl in
+      omega (arith, byte));
   not_lent = λ l. (let byte = l.lent in omega (arith, byte));
   kept_command = λ l. (let byte = l.kept_command in omega (arith, byte));
   kept_param = λ l. (let byte = l.kept_param in omega (arith, byte));

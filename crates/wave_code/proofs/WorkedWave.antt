@@ -181,12 +181,16 @@ rows_are_worked look = record {
     command = λ some is. refl;
     delay = λ some low. refl;
     shared = record {
+      tone = λ on. refl;
       slide = λ on. refl;
       once = λ on. refl;
       delay = λ on. refl;
       command = λ on. refl;
       legato = λ on. refl;
       soft = λ on. refl;
+      filter = λ on. refl;
+      control = λ on. refl;
+      cutoff = λ on. refl;
     };
   };
   jump = λ on. on.no_jump (λ e. omega (arith, e)) refl;

@@ -7,10 +7,11 @@ use Rattle.play_model.specs.WaveStep.{program_moved, wave_command}
 use Rattle.scopes.specs.Desk.{Desk, Layout}
 use Rattle.scopes.specs.Trees.{Tree, tree_of}
 use Rattle.scopes.specs.Meaning.{Left, Ran, each_one, ran}
-use Rattle.player_memory.specs.declared.conditions.TheConstants.{WAVE_COMMAND}
+use Rattle.player_memory.specs.declared.conditions.TheConstants.{WAVE_COMMAND, EFFECTS}
 use Rattle.player_memory.specs.declared.labels.TheConstants.{WAVE_RIGHTS, LENT, KEPT_COMMAND, KEPT_PARAM}
 use Rattle.player_memory.specs.declared.variables.TheConstants.{SONG_BYTES}
 use Rattle.player_memory.specs.Commands.{condition_of_both, AreKept}
+use Rattle.player_memory.specs.FactLines.{KeepsShared}
 use Rattle.player_memory.specs.Rooms.{IsRoom, MayUse}
 use Rattle.player_memory.specs.Playing.{IsListed, IsPlaying, IsAtVoice, Plays, own_at, shared_at, AreSame}
 use Rattle.player_memory.specs.Playing.{OthersStay, AllSlidesStay}
@@ -21,10 +22,12 @@ use Rattle.player_memory.specs.Playing.{there}
 abbrev pub command_row_tree : Tree
 command_row_tree = tree_of (flat_map (λ piece. piece.now) COMMAND_ROW.now)
 
--- the code of commands of the wave table is kept, and of a command that is done once its lines
+-- the code of commands of the wave table is kept, and of a command that is done once its lines, with what they have in
+-- common with others
 pub record KeepsOnce (layout : Layout) (command : ℕ) : Type 0 where
   pub commands : layout.holds WAVE_COMMAND ≡ true
   pub lines : AreKept layout (condition_of_both command)
+  pub shared : KeepsShared layout
 
 -- a command is lent, with its parameter, in the place of the voice's own
 abbrev pub lent_out : ℕ → ℕ → Playing → Playing
@@ -79,11 +82,12 @@ pub record Lends (layout : Layout) (rows voice : ℕ) (before : Desk) (run : Ran
   pub stays : OthersStay layout rows voice before.at run.desk.at
   pub slides : AllSlidesStay layout rows run.desk.at before.at
 
--- In any memory that holds a voice that is playing, the code lends one of the commands 1 to 4 to the effect step.
+-- In any memory that holds a voice that is playing, the code lends one of the commands 1 to 4 to the effect step, whose
+-- code is kept.
 abbrev pub CommandBlockLends : Type 0
 CommandBlockLends =
     (layout : Layout) (rows voice number command param : ℕ) (s : Playing) (desk : Desk) →
     IsRoom layout rows → MayUse layout rows → voice < 3 → IsAtVoice voice desk → IsPlaying layout voice s desk.at →
     IsAtCommand layout rows desk number command param → 1 ≤ command → command ≤ 4 →
-    layout.holds WAVE_COMMAND ≡ true →
+    layout.holds WAVE_COMMAND ≡ true → layout.holds EFFECTS ≡ true →
     Lends layout rows voice desk (ran each_one layout command_row_tree desk) command param s

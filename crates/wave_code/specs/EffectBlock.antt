@@ -7,7 +7,7 @@ use Rattle.play_model.specs.EffectStep.{effect_step}
 use Rattle.scopes.specs.Desk.{Desk, Layout}
 use Rattle.scopes.specs.Trees.{Tree, tree_of}
 use Rattle.scopes.specs.Meaning.{Outcome, Left, Ran, each_one, ran}
-use Rattle.player_memory.specs.declared.conditions.TheConstants.{INSTRUMENT_VIBRATO, SKIP_EFFECTS}
+use Rattle.player_memory.specs.declared.conditions.TheConstants.{EFFECTS, INSTRUMENT_VIBRATO, SKIP_EFFECTS}
 use Rattle.player_memory.specs.Rooms.{IsRoom, MayUse}
 use Rattle.player_memory.specs.Playing.{IsPlaying, IsAtVoice, Plays}
 use Rattle.player_text.specs.declared.joints.TheConstants.{RUNNING, EFFECTED}
@@ -51,11 +51,13 @@ pub record HasEffect (v : Voice) : Type 0 where
   pub command : v.command ≤ 4
   pub delay : v.vib_delay < 256
 
--- the code for the instrument's vibrato is kept where that runs or waits, unless the effect is left out
-abbrev pub KeepsEffect : Layout → Voice → Type 0
-KeepsEffect layout v =
-    left_out (layout.holds SKIP_EFFECTS) v ≡ false → v.command ≡ 0 → v.param ≢ 0 → v.vib_delay ≢ 0 →
-    layout.holds INSTRUMENT_VIBRATO ≡ true
+-- The code for the instrument's vibrato is kept where that runs or waits, and that of the effects where a command runs,
+-- unless the effect is left out; and with the instrument's vibrato that of the effects.
+pub record KeepsEffect (layout : Layout) (v : Voice) : Type 0 where
+  pub instrument : left_out (layout.holds SKIP_EFFECTS) v ≡ false → v.command ≡ 0 → v.param ≢ 0 → v.vib_delay ≢ 0 →
+      layout.holds INSTRUMENT_VIBRATO ≡ true
+  pub runs : left_out (layout.holds SKIP_EFFECTS) v ≡ false → v.command ≢ 0 → layout.holds EFFECTS ≡ true
+  pub shared : layout.holds INSTRUMENT_VIBRATO ≡ true → layout.holds EFFECTS ≡ true
 
 -- it takes that way, and holds there what belongs there; where a command runs A is it
 pub record Begins (layout : Layout) (rows voice : ℕ) (before : Desk) (run : Ran) (look : LookUps) (s : Playing) : Type 0

@@ -1,10 +1,11 @@
 -- The code that tells which effect runs, and that of a command of the wave table, run by hand.
-use Rattle.std.specs.Prelude.{◌≡◌, ℕ, ◌+◌, Bool, true, false, nat_eq, not}
+use Rattle.std.specs.Prelude.{◌≡◌, ℕ, ◌+◌, ◌||◌, Bool, true, false, nat_eq, not}
 use Rattle.code_runs.specs.Runs.{put}
 use Rattle.play_model.specs.State.{Voice, Playing, start_voice, start_common}
 use Rattle.scopes.specs.Desk.{Desk, Layout}
 use Rattle.scopes.specs.Meaning.{Outcome, Left, Ran, each_one, ran}
-use Rattle.player_memory.specs.declared.conditions.TheConstants.{SKIP_EFFECTS, WAVE_COMMAND}
+use Rattle.player_memory.specs.declared.conditions.TheConstants.{SKIP_EFFECTS, INSTRUMENT_VIBRATO, WAVE_COMMAND}
+use Rattle.player_memory.specs.declared.conditions.TheConstants.{SPECIAL_ROW, SET_FILTER_CONTROL}
 use Rattle.player_memory.specs.declared.labels.TheConstants.{TICK, COMMAND, PARAM, VIB_DELAY, AD, LENT, KEPT_COMMAND}
 use Rattle.player_memory.specs.declared.labels.TheConstants.{KEPT_PARAM, REST}
 use Rattle.player_memory.specs.Rooms.{IsRoom, MayUse}
@@ -24,12 +25,15 @@ effect_layout true = record at_1000 { holds = λ condition. true }
 effect_layout false = record at_1000 { holds = λ condition. not (nat_eq condition SKIP_EFFECTS) }
 
 -- the third voice with this tick, command, parameter, and vibrato's delay, which stands there less one
-abbrev pub effected : Bool → ℕ → ℕ → ℕ → ℕ → Ran
-effected skips tick command param delay =
-    ran each_one (effect_layout skips) effect_begun_tree
+abbrev pub effected_in : Layout → ℕ → ℕ → ℕ → ℕ → Ran
+effected_in layout tick command param delay =
+    ran each_one layout effect_begun_tree
     (its_desk 14 false
     (with_variable (TICK + 14) tick (with_variable (COMMAND + 14) command (with_variable (PARAM + 14) param
     (with_variable (VIB_DELAY + 14) delay (λ place. 0))))))
+
+abbrev pub effected : Bool → ℕ → ℕ → ℕ → ℕ → Ran
+effected skips tick command param delay = effected_in (effect_layout skips) tick command param delay
 
 -- where it goes, with what in A, the delay that is left, and in how many instructions
 pub record IsEffected (run : Ran) (way : Outcome) (a delay cost : ℕ) : Type 0 where
@@ -49,6 +53,8 @@ pub record EffectsAreWorked : Type 0 where
   pub none : IsEffected (effected false 0 0 0 0) (Left EFFECTED) 0 0 5
   -- nor does it wait where effects are left out
   pub rests : IsEffected (effected true 0 0 7 2) (Left EFFECTED) 0 2 7
+  -- code that isn't kept has none run
+  pub not_kept : IsEffected (effected_in (record at_1000 { holds = λ condition. false }) 0 0 7 2) (Left EFFECTED) 0 2 1
 
 -- a voice with this command, parameter and delay
 abbrev pub voiced : ℕ → ℕ → ℕ → Voice
@@ -68,6 +74,10 @@ pub record RunningIsWorked : Type 0 where
   pub delay : ¬ HasEffect (voiced 0 7 256)
   pub keeps : KeepsEffect (effect_layout false) (voiced 0 7 2)
   pub not_kept : ¬ KeepsEffect (record at_1000 { holds = λ condition. false }) (voiced 0 7 2)
+  -- nor is the code of effects left out where a command runs, or where that of an instrument's vibrato is kept
+  pub effects_not_kept : ¬ KeepsEffect (record at_1000 { holds = λ condition. false }) (voiced 3 7 0)
+  pub shared_not_kept :
+      ¬ KeepsEffect (record at_1000 { holds = λ condition. nat_eq condition INSTRUMENT_VIBRATO }) (voiced 0 0 0)
 
 -- ---- a command of the wave table
 
@@ -91,6 +101,13 @@ pub record IsCommanded (run : Ran) (way : Outcome) (command param ad lent cost :
   pub lent_is : shared_left run LENT ≡ lent
   pub cost_is : run.cost ≡ cost
 
+-- the code of commands of the wave table is kept, with what they have in common with delays, and that of one condition
+-- more
+abbrev pub commands_and : ℕ → Layout
+commands_and other = record at_1000 {
+  holds = λ condition. nat_eq condition WAVE_COMMAND || nat_eq condition SPECIAL_ROW || nat_eq condition other;
+}
+
 pub record CommandsAreWorked : Type 0 where
   pub sets : IsCommanded (commanded true 0xF5) (Left EFFECTED) 2 9 0xA7 0 25
   pub lends : IsCommanded (commanded true 0xF1) (Left RUNNING) 1 0xA7 0 1 15
@@ -103,9 +120,11 @@ pub record CommandsAreWorked : Type 0 where
   pub last : IsCommanded (commanded true 0xFE) (Left EFFECTED) 2 9 0 0 24
   pub lent_one : ¬ IsOnce 4
   pub kept : KeepsOnce (worked_layout true) 5
-  pub kept_alone : KeepsOnce (record at_1000 { holds = λ condition. nat_eq condition WAVE_COMMAND }) 8
+  pub kept_alone : KeepsOnce (commands_and WAVE_COMMAND) 8
   pub not_kept : ¬ KeepsOnce (worked_layout false) 0
-  pub lines_not_kept : ¬ KeepsOnce (record at_1000 { holds = λ condition. nat_eq condition WAVE_COMMAND }) 5
+  pub lines_not_kept : ¬ KeepsOnce (commands_and WAVE_COMMAND) 5
+  -- nor is what all that sets the filter has in common left out
+  pub shared_not_kept : ¬ KeepsOnce (commands_and SET_FILTER_CONTROL) 0xB
 
 -- ---- what the law on a lent command asks is met there
 
