@@ -21,6 +21,7 @@ use Rattle.scopes.specs.Meaning.{Ran, Done, each_one, ran}
 use Rattle.scope_calls.specs.Meaning.{cleared, at_voice, returned, entrance_ran}
 use Rattle.player_memory.specs.declared.conditions.TheConstants.{FILTER_TABLE}
 use Rattle.player_memory.specs.declared.labels.TheConstants.{LENT}
+use Rattle.player_memory.specs.FactLines.{KeepsShared}
 use Rattle.player_memory.specs.Rooms.{IsRoom, MayUse}
 use Rattle.player_memory.specs.Variables.{CommonBytesStand}
 use Rattle.player_memory.specs.Fetching.{IsInSong}
@@ -47,8 +48,8 @@ abbrev FilterSteps : Tree → Type 0
 FilterSteps tree =
     (layout : Layout) (rows count : ℕ) (look : LookUps) (c : Common) (desk : Desk) → IsRoom layout rows →
     MayUse layout rows → HasFilterTable layout rows desk.at look count → desk.cpu.d ≡ false →
-    CommonBytesStand c (shared_at layout desk.at) → IsOnFilterRow look count c →
-    (c.filter_ptr ≢ 0 → layout.holds FILTER_TABLE ≡ true) →
+    CommonBytesStand layout.holds c (shared_at layout desk.at) → IsOnFilterRow look count c →
+    (c.filter_ptr ≢ 0 → layout.holds FILTER_TABLE ≡ true) → KeepsShared layout →
     PlaysShared layout rows desk (ran each_one layout tree desk) (filter_step look c)
     (filter_registers (filter_step look c))
 
@@ -177,7 +178,8 @@ filter_comes : (layout : Layout) (packed : PackedSong) (o : Options) (k : ℕ) (
 filter_comes layout packed o k x first desk steps start =
     let plays = steps layout (slide_rows packed) (length (table_of (unpacked_song packed) Filter)) (look_of packed)
     x.common (cleared desk) start.is_layout.room start.is_layout.uses start.ready.filter_table refl
-    (start.holds.voices 0 (omega arith)).plays.common start.ready.filter_row start.ready.filter_kept in record {
+    (start.holds.voices 0 (omega arith)).plays.common start.ready.filter_row start.ready.filter_kept
+    start.ready.shared in record {
       ends = plays.ends;
       behind = filtered layout packed k (sounds_of packed o k x) x (cleared desk)
           (ran each_one layout first (cleared desk))

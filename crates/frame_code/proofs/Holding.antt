@@ -52,33 +52,35 @@ songs_stay (label ∷ labels) one two same plain =
     let both = and_parts (is_plain label) (are_plain labels) plain in
     (plain_stays one two same label both.0, songs_stay labels one two same both.1)
 
-fields_stay : (v : Voice) (tempo now : ℕ) (one two : ℕ → ℕ) → OwnStay one two → two TEMPO ≡ now →
-    Fields v tempo one → Fields v now two
-fields_stay v tempo now one two same is f = record {
+fields_stay : (holds : ℕ → Bool) (v : Voice) (tempo now : ℕ) (one two : ℕ → ℕ) → OwnStay one two → two TEMPO ≡ now →
+    Fields holds v tempo one → Fields holds v now two
+fields_stay holds v tempo now one two same is f = record {
   tick = at TICK refl ∙ f.tick;
   gate_timer = at GATE_TIMER refl ∙ f.gate_timer;
   instrument = at INSTRUMENT refl ∙ f.instrument;
   note = at NOTE refl ∙ f.note;
   new_note = at NEW_NOTE refl ∙ f.new_note;
-  new_command = at NEW_COMMAND refl ∙ f.new_command;
-  new_param = λ some. at NEW_PARAM refl ∙ f.new_param some;
-  command = at COMMAND refl ∙ f.command;
-  param = at PARAM refl ∙ f.param;
+  new_command = λ on. at NEW_COMMAND refl ∙ f.new_command on;
+  new_param = λ on some. at NEW_PARAM refl ∙ f.new_param on some;
+  command = λ on. at COMMAND refl ∙ f.command on;
+  param = λ on. at PARAM refl ∙ f.param on;
   ad = at AD refl ∙ f.ad;
   sr = at SR refl ∙ f.sr;
-  vib_time = at VIB_TIME refl ∙ f.vib_time;
-  vib_delay = at VIB_DELAY refl ∙ f.vib_delay;
+  vib_time = λ on. at VIB_TIME refl ∙ f.vib_time on;
+  vib_delay = λ on. at VIB_DELAY refl ∙ f.vib_delay on;
   wave = at WAVE refl ∙ f.wave;
   gate = at GATE refl ∙ f.gate;
   freq_low = at FREQ_LOW refl ∙ f.freq_low;
   freq_high = at FREQ_HIGH refl ∙ f.freq_high;
-  last_note = at LAST_NOTE refl ∙ f.last_note;
+  last_note = λ on. at LAST_NOTE refl ∙ f.last_note on;
   wave_ptr = at WAVE_POINTER refl ∙ f.wave_ptr;
-  wave_time = at WAVE_TIME refl ∙ f.wave_time;
+  wave_time = λ on. at WAVE_TIME refl ∙ f.wave_time on;
   pulse_ptr = at PULSE_POINTER refl ∙ f.pulse_ptr;
   pulse_time = at PULSE_TIME refl ∙ f.pulse_time;
-  pulse_low = at PULSE_LOW refl ∙ f.pulse_low;
-  pulse_high = ap (λ byte. byte % 16) (at PULSE_HIGH refl) ∙ f.pulse_high;
+  pulse_low = λ on. at PULSE_LOW refl ∙ f.pulse_low on;
+  no_pulse_low = f.no_pulse_low;
+  pulse_high = λ on. ap (λ byte. byte % 16) (at PULSE_HIGH refl) ∙ f.pulse_high on;
+  no_pulse_high = f.no_pulse_high;
   tempo_is = is;
 }
   where
@@ -95,13 +97,14 @@ TemposStand layout c at = (its : ℕ) → its < 3 → own_at layout at its TEMPO
 pub other_holds : (layout : Layout) (packed : PackedSong) (k voice : ℕ) (x y : FrameState) (c : Common)
     (one two : ℕ → ℕ) → voice < 3 →
     playing_of (voice + 1) y ≡ record { voice = voice_of (voice + 1) x; common = c } →
-    OwnStay (own_at layout one voice) (own_at layout two voice) → CommonBytesStand c (shared_at layout two) →
-    TemposStand layout c two → VoiceHolds layout packed k voice x one → VoiceHolds layout packed k voice y two
+    OwnStay (own_at layout one voice) (own_at layout two voice) →
+    CommonBytesStand layout.holds c (shared_at layout two) → TemposStand layout c two →
+    VoiceHolds layout packed k voice x one → VoiceHolds layout packed k voice y two
 other_holds layout packed k voice x y c one two few is same common tempos holds = record {
   plays = rw is (record {
-    own = fields_stand v (tempo_of (voice + 1) c) (own_at layout two voice)
-        (fields_stay v _ (tempo_of (voice + 1) c) (own_at layout one voice) (own_at layout two voice) same
-        (tempos voice few) (fields_of v _ (own_at layout one voice) holds.plays.own));
+    own = fields_stand layout.holds v (tempo_of (voice + 1) c) (own_at layout two voice)
+        (fields_stay layout.holds v _ (tempo_of (voice + 1) c) (own_at layout one voice) (own_at layout two voice) same
+        (tempos voice few) (fields_of layout.holds v _ (own_at layout one voice) holds.plays.own));
     common = common;
     tempos = tempos;
   });

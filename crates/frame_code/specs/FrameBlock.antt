@@ -14,6 +14,7 @@ use Rattle.scopes.specs.Meaning.{Done, Ran}
 use Rattle.scope_calls.specs.Entrances.{Entrance}
 use Rattle.scope_calls.specs.Meaning.{entrance_ran}
 use Rattle.player_memory.specs.declared.conditions.TheConstants.{FILTER_TABLE}
+use Rattle.player_memory.specs.FactLines.{KeepsShared}
 use Rattle.player_memory.specs.Rooms.{IsElsewhere}
 use Rattle.player_memory.specs.SongLists.{pattern_bytes, slide_rows}
 use Rattle.player_memory.specs.Holds.{Holds, IsPlayerLayout, look_of, order_in, order_label}
@@ -56,10 +57,11 @@ pub record TurnIsReady (layout : Layout) (packed : PackedSong) (o : Options) (k 
   pub ready : VoiceIsReady layout (slide_rows packed) at (voice + 1) o (look_of packed) (pattern_bytes packed)
       (order_in packed k voice) (counts_of packed) (turn_in packed o k voice x)
 
--- so are the filter and all three of them
+-- so are the filter and all three of them, and what facts or features have in common is kept with each
 pub record FrameIsReady (layout : Layout) (packed : PackedSong) (o : Options) (k : ℕ) (x : FrameState) (at : ℕ → ℕ)
     : Type 0 where
   pub common : KeepsCommon layout
+  pub shared : KeepsShared layout
   pub options : KeepsOptions layout o
   pub filter_table : HasFilterTable layout (slide_rows packed) at (look_of packed)
       (length (table_of (unpacked_song packed) Filter))

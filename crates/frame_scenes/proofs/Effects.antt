@@ -18,6 +18,7 @@ use Rattle.player_memory.specs.declared.conditions.TheConstants.{SKIP_EFFECTS}
 use Rattle.player_memory.specs.Holds.{look_of}
 use Rattle.wave_code.specs.EffectBlock.{running, left_out}
 use Rattle.slide_code.specs.SlideBlock.{KeepsSlide}
+use Rattle.slide_code.proofs.Laws.{commands_keep, instruments_keep}
 use Rattle.voice_code.specs.VoiceBlock.{EffectIsReady}
 use Rattle.frame_code.specs.FrameBlock.{counts_of}
 use Rattle.frame_scenes.proofs.Turns.{AtTurn, IsFine, its_turn, in_turn}
@@ -109,10 +110,17 @@ pub effect_ready : (layout : Layout) (packed : PackedSong) (song : Song) (o : Op
     EffectIsReady layout (look_of packed) (counts_of packed) (wave_step (look_of packed) s).playing.voice
 effect_ready layout packed song o k voice x at s turn goes effect fine = record {
   has = record { command = most; delay = fine.range.voice.vib_delay };
-  keeps = λ stays none some begun.
-      turn.scene.used InstrumentVibrato
-      (in_turn packed o k voice x _ turn.few
-      (v.param, v.vib_delay, meets_vibrato packed o k voice x v v.vib_delay (does stays) none some refl begun));
+  keeps = record {
+    instrument = λ stays none some begun.
+        turn.scene.used InstrumentVibrato
+        (in_turn packed o k voice x _ turn.few
+        (v.param, v.vib_delay, meets_vibrato packed o k voice x v v.vib_delay (does stays) none some refl begun));
+    runs = λ stays some.
+        commands_keep layout (look_of packed) v.command v turn.scene.common
+        (running_kept layout packed song o k voice x at v v.command turn most (does stays) (Own some refl))
+        (omega (arith, some)) most;
+    shared = λ on. instruments_keep layout turn.scene.common on;
+  };
   moves = λ stays some. record {
     param = speed_stored packed song v.param turn.scene.stands points;
     frequency = fine.range.voice.freq;

@@ -79,6 +79,7 @@ turn_ready layout packed song o k voice x at turn = record {
 pub frames_are_ready : FramesAreReady
 frames_are_ready layout packed song o k x at scene = record {
   common = scene.common;
+  shared = scene.shared;
   options = scene.options;
   filter_table = filters_stand layout packed at scene.laid scene.has scene.stands.packed_song.limits;
   filter_row = on_filter_row layout packed song o k x at scene;

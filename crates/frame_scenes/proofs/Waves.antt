@@ -245,6 +245,7 @@ wave_ready layout packed song o k voice x at s turn goes fine = record {
         lines =
             once_kept layout packed song o k voice x at turn (its_command (look_of packed) s.voice)
             (its_param (look_of packed) s.voice) (inr (does_wave packed o k voice x s goes is));
+        shared = turn.scene.shared;
       };
   lent = λ meets least most.
       lent_moves layout packed song o k voice x at s turn goes fine (met (look_of packed) s meets) least most;

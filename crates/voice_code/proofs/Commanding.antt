@@ -21,7 +21,7 @@ use Rattle.wave_code.specs.EffectBlock.{effect_begun_tree}
 use Rattle.wave_code.specs.CommandBlock.{command_row_tree, lent_out, IsAtCommand, IsOnce, Commands, Lends}
 use Rattle.wave_code.proofs.Laws.{wave_block_steps, command_block_does, command_block_lends}
 use Rattle.slide_code.specs.SlideBlock.{slide_tree, moved_by}
-use Rattle.slide_code.proofs.Laws.{commands_move}
+use Rattle.slide_code.proofs.Laws.{commands_move, lent_keep}
 use Rattle.voice_code.specs.VoiceBlock.{Counts, its_command, its_param, MeetsCommand, WaveIsReady}
 use Rattle.voice_code.proofs.Joining.{Comes, here}
 use Rattle.voice_code.proofs.Ways.{command_leaves, effect_over}
@@ -176,7 +176,8 @@ commanded layout rows voice look counts o s desk mid ground scene meets command 
         lent layout rows voice look counts desk mid s _ ground scene.tables scene.wave meets comes stage least most
         (command_block_lends layout rows voice s.voice.wave_ptr (its_command look s.voice) (its_param look s.voice)
         (begun look s) mid ground.room ground.uses ground.few stage.at_voice stage.plays at_it least most
-        (scene.wave.keeps.command is.some command)) rule is.some command
+        (scene.wave.keeps.command is.some command)
+        (lent_keep layout ground.common (scene.wave.keeps.command is.some command))) rule is.some command
 
 -- ---- the wave step, and what follows it
 

@@ -19,6 +19,16 @@ voices_are_worked = record {
     sr_is = refl;
   };
   rests = record { ends = refl; tick_is = refl; rest_is = refl; cost_is = refl };
+  pulsing_waits = record { ends = refl; tick_is = refl; rest_is = refl; cost_is = refl };
+  pulsing_sounds = record {
+    low_is = refl;
+    high_is = refl;
+    pulse_low_is = refl;
+    pulse_high_is = refl;
+    wave_is = refl;
+    ad_is = refl;
+    sr_is = refl;
+  };
   first = refl;
 }
 

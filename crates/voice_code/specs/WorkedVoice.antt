@@ -1,12 +1,13 @@
--- The code of a voice in a frame, run by hand: a voice that waits, and one whose note slides; and what a voice in a frame
+-- The code of a voice in a frame, run by hand: a voice that waits, and one whose rest is due; and what a voice in a frame
 -- isn't.
-use Rattle.std.specs.Prelude.{◌≡◌, ℕ, ◌+◌, false, List}
+use Rattle.std.specs.Prelude.{◌≡◌, ℕ, ◌+◌, false, nat_eq, List}
 use Rattle.code_runs.specs.Runs.{put}
 use Rattle.song_model.specs.declared.orders.Order.{Order}
 use Rattle.play_model.specs.LookUps.{LookUps}
 use Rattle.play_model.specs.State.{Playing, start_voice, start_common}
 use Rattle.scopes.specs.Desk.{Layout}
 use Rattle.scopes.specs.Meaning.{Outcome, Done, Left, Ran, each_one, ended, ran}
+use Rattle.player_memory.specs.declared.conditions.TheConstants.{PULSE_TABLE}
 use Rattle.player_memory.specs.declared.labels.TheConstants.{TICK, WAVE, AD, SR, FREQ_LOW, FREQ_HIGH, PULSE_LOW}
 use Rattle.player_memory.specs.declared.labels.TheConstants.{PULSE_HIGH, GATE_TIMER, OFFSET, REST, LENT}
 use Rattle.player_memory.specs.WorkedMemory.{at_1000}
@@ -15,9 +16,12 @@ use Rattle.player_text.specs.declared.joints.TheConstants.{SOUNDS}
 use Rattle.player_text.specs.Texts.{voice_tree}
 use Rattle.voice_code.specs.VoiceBlock.{VoicePlays}
 
--- no condition holds
+-- no condition holds, or that of the pulse table alone
 abbrev pub bare : Layout
 bare = record at_1000 { holds = λ condition. false }
+
+abbrev pub pulsing : Layout
+pulsing = record at_1000 { holds = λ condition. nat_eq condition PULSE_TABLE }
 
 -- the second voice, in the middle of a row, with bytes for its registers
 abbrev pub waiting : ℕ → ℕ
@@ -27,8 +31,11 @@ waiting =
     (with_variable (FREQ_LOW + 7) 0x12 (with_variable (FREQ_HIGH + 7) 0x34
     (with_variable (PULSE_LOW + 7) 0x56 (with_variable (PULSE_HIGH + 7) 0x18 its_memory)))))))))
 
+abbrev pub voiced_in : Layout → (ℕ → ℕ) → Ran
+voiced_in layout at = ran each_one layout voice_tree (its_desk 7 false at)
+
 abbrev pub voiced : (ℕ → ℕ) → Ran
-voiced at = ran each_one bare voice_tree (its_desk 7 false at)
+voiced at = voiced_in bare at
 
 -- the registers of the second voice
 pub record HasSounds (run : Ran) (low high pulse_low pulse_high wave ad sr : ℕ) : Type 0 where
@@ -46,11 +53,14 @@ pub record IsVoiced (run : Ran) (tick rest cost : ℕ) : Type 0 where
   pub rest_is : run.desk.at (0x1006 + REST + 7) ≡ rest
   pub cost_is : run.cost ≡ cost
 
--- a voice that waits, and one whose rest is due
+-- a voice that waits, and one whose rest is due; its pulse width is that of its bytes where the code of the pulse table
+-- is kept, and else 0
 pub record VoicesAreWorked : Type 0 where
-  pub waits : IsVoiced (voiced waiting) 2 0 28
-  pub sounds : HasSounds (voiced waiting) 0x12 0x34 0x56 0x08 0x40 0x09 0xA0
-  pub rests : IsVoiced (voiced (with_variable (TICK + 7) 2 (with_variable (REST + 7) 4 waiting))) 1 3 30
+  pub waits : IsVoiced (voiced waiting) 2 0 24
+  pub sounds : HasSounds (voiced waiting) 0x12 0x34 0 0 0x40 0x09 0xA0
+  pub rests : IsVoiced (voiced (with_variable (TICK + 7) 2 (with_variable (REST + 7) 4 waiting))) 1 3 26
+  pub pulsing_waits : IsVoiced (voiced_in pulsing waiting) 2 0 28
+  pub pulsing_sounds : HasSounds (voiced_in pulsing waiting) 0x12 0x34 0x56 0x08 0x40 0x09 0xA0
   pub first : (voiced waiting).desk.at 0xD400 ≡ 0
 
 -- ---- what isn't left so

@@ -10,8 +10,8 @@ use Rattle.packed_form.specs.declared.packed_songs.PackedSong.{PackedSong}
 use Rattle.scopes.specs.Desk.{Desk, Layout}
 use Rattle.scopes.specs.Trees.{Tree}
 use Rattle.scopes.specs.Meaning.{Ran}
-use Rattle.player_memory.specs.declared.labels.TheConstants.{TICK, PULSE_POINTER, VOLUME, ORDER_LOW, LENT}
-use Rattle.player_memory.specs.declared.labels.TheConstants.{KEPT_COMMAND}
+use Rattle.player_memory.specs.declared.labels.TheConstants.{TICK, NEW_COMMAND, PULSE_POINTER, VOLUME, ORDER_LOW}
+use Rattle.player_memory.specs.declared.labels.TheConstants.{LENT, KEPT_COMMAND}
 use Rattle.player_memory.specs.Playing.{own_at, shared_at, place_in}
 use Rattle.player_memory.specs.SongLists.{list_label, list_byte}
 use Rattle.player_memory.specs.Holds.{order_label}
@@ -61,16 +61,28 @@ states layout packed k x at = record {
   tick = λ holds.
       let own = (holds.voices 0 (omega arith)).plays.own in
       not_put at (layout.address TICK) x.one.tick
-      (fields_of x.one _ (own_at layout (put at (layout.address TICK) (x.one.tick + 1)) 0) own).tick;
+      (fields_of layout.holds x.one _ (own_at layout (put at (layout.address TICK) (x.one.tick + 1)) 0) own).tick;
   third = λ holds.
       let own = (holds.voices 2 (omega arith)).plays.own in
       not_put at (layout.address (PULSE_POINTER + 14)) x.three.pulse_ptr
-      (fields_of x.three _ (own_at layout (put at (layout.address (PULSE_POINTER + 14)) (x.three.pulse_ptr + 1)) 2)
-      own).pulse_ptr;
-  volume = λ holds.
+      (fields_of layout.holds x.three _
+      (own_at layout (put at (layout.address (PULSE_POINTER + 14)) (x.three.pulse_ptr + 1)) 2) own).pulse_ptr;
+  command = λ kept holds.
+      let own = (holds.voices 0 (omega arith)).plays.own in
+      not_put at (layout.address NEW_COMMAND) x.one.new_command
+      ((fields_of layout.holds x.one _
+      (own_at layout (put at (layout.address NEW_COMMAND) (x.one.new_command + 1)) 0) own).new_command kept);
+  width = λ unkept other holds.
+      let fields = fields_of layout.holds x.one _ (own_at layout at 0) (holds.voices 0 (omega arith)).plays.own in
+      let low = fields.no_pulse_low unkept in let high = fields.no_pulse_high unkept in
+      other (omega (arith, low, high));
+  volume = λ kept holds.
       not_put at (layout.address VOLUME) x.common.volume
-      (shared_of x.common (shared_at layout (put at (layout.address VOLUME) (x.common.volume + 1)))
-      (holds.voices 0 (omega arith)).plays.common).volume;
+      ((shared_of layout.holds x.common (shared_at layout (put at (layout.address VOLUME) (x.common.volume + 1)))
+      (holds.voices 0 (omega arith)).plays.common).volume kept);
+  no_volume = λ unkept other holds.
+      other ((shared_of layout.holds x.common (shared_at layout at)
+      (holds.voices 0 (omega arith)).plays.common).no_volume unkept);
   order = λ holds.
       not_put at (layout.address (ORDER_LOW + 7)) (layout.address (order_label k 1) % 256)
       (holds.voices 1 (omega arith)).song.has.low_is;
@@ -110,6 +122,7 @@ ready : (layout : Layout) (packed : PackedSong) (o : Options) (k : ℕ) (x : Fra
     ReadyExactly layout packed o k x at desk
 ready layout packed o k x at desk = record {
   filter = λ on out ready. (let kept = ready.filter_kept on in cc);
+  shared = λ on out ready. (let kept = ready.shared.filter on in cc);
   a = λ called. (let is = called.a in omega (arith, is));
   stored = λ called. (let few = called.stored in omega (arith, few));
   byte = λ many called. (let few = called.byte in omega (arith, many, few));

@@ -250,12 +250,16 @@ rows look = record {
     legato = λ is. refl;
     soft = λ is. refl;
     shared = record {
+      tone = λ on. refl;
       slide = λ on. refl;
       once = λ on. refl;
       delay = λ on. refl;
       command = λ on. refl;
       legato = λ on. refl;
       soft = λ on. refl;
+      filter = λ on. refl;
+      control = λ on. refl;
+      cutoff = λ on. refl;
     };
   };
 }

@@ -66,12 +66,16 @@ others_are_denied look = record {
     legato = λ is. absurd (is refl);
     soft = λ is. absurd (is.1 refl);
     shared = record {
+      tone = λ on. absurd cc;
       slide = λ on. absurd cc;
       once = λ on. absurd cc;
       delay = λ on. absurd cc;
       command = λ on. absurd cc;
       legato = λ on. absurd cc;
       soft = λ on. absurd cc;
+      filter = λ on. absurd cc;
+      control = λ on. absurd cc;
+      cutoff = λ on. absurd cc;
     };
   };
   key_off = λ keeps. (let on = keeps.gate (inl refl) in absurd cc);
@@ -111,8 +115,9 @@ abbrev is_done : Outcome → Bool
 is_done Done = true
 is_done outcome = false
 
-its_fields : (at : ℕ → ℕ) → IsPlaying (laid false) 1 noted at → Fields noted.voice 5 (own_at (laid false) at 1)
-its_fields at plays = fields_of noted.voice 5 (own_at (laid false) at 1) plays.own
+its_fields : (at : ℕ → ℕ) → IsPlaying (laid false) 1 noted at →
+    Fields (laid false).holds noted.voice 5 (own_at (laid false) at 1)
+its_fields at plays = fields_of (laid false).holds noted.voice 5 (own_at (laid false) at 1) plays.own
 
 other_song : (look : LookUps) → ¬ SongStands (laid false) (looked_up look) its_packed its_order noted.voice
     (own_at (laid false) (with_other (OFFSET + 7) 2).desk.at 1)

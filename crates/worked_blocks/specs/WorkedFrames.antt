@@ -10,8 +10,10 @@ use Rattle.packed_form.specs.Unpacked.{unpacked_song}
 use Rattle.scopes.specs.Desk.{Desk, Layout}
 use Rattle.scopes.specs.Meaning.{Outcome, Done, Ran}
 use Rattle.scope_calls.specs.Entrances.{Entrance}
-use Rattle.player_memory.specs.declared.conditions.TheConstants.{FILTER_TABLE, TIMED}
-use Rattle.player_memory.specs.declared.labels.TheConstants.{TICK, PULSE_POINTER, VOLUME, ORDER_LOW, LENT, KEPT_COMMAND}
+use Rattle.player_memory.specs.declared.conditions.TheConstants.{FILTER_TABLE, FILTER_USED, TIMED, SET_VOLUME}
+use Rattle.player_memory.specs.declared.conditions.TheConstants.{ROW_COMMAND, PULSE_TABLE}
+use Rattle.player_memory.specs.declared.labels.TheConstants.{TICK, NEW_COMMAND, PULSE_POINTER, VOLUME, ORDER_LOW}
+use Rattle.player_memory.specs.declared.labels.TheConstants.{LENT, KEPT_COMMAND}
 use Rattle.player_memory.specs.Rooms.{IsElsewhere}
 use Rattle.player_memory.specs.Playing.{place_in}
 use Rattle.player_memory.specs.SongLists.{SongList, IsSongList, HasNumber, list_label, list_byte, slide_rows}
@@ -82,12 +84,18 @@ pub record PlacesAreTold (layout : Layout) : Type 0 where
 
 -- ---- states in memory
 
--- No memory holds a state with another byte of a voice, of what the voices share or of an orderlist's address, with a
--- command lent, or with another byte of a list.
+-- No memory holds a state with another byte of a voice or of what the voices share, where the byte's lines are kept,
+-- with another byte of an orderlist's address, with a command lent, or with another byte of a list. Where the lines of
+-- the volume or of the pulse width aren't kept, none holds a state in which the volume isn't 15 or the width isn't 0.
 pub record HoldsExactly (layout : Layout) (packed : PackedSong) (k : ℕ) (x : FrameState) (at : ℕ → ℕ) : Type 0 where
   pub tick : ¬ Holds layout packed k x (put at (layout.address TICK) (x.one.tick + 1))
   pub third : ¬ Holds layout packed k x (put at (layout.address (PULSE_POINTER + 14)) (x.three.pulse_ptr + 1))
-  pub volume : ¬ Holds layout packed k x (put at (layout.address VOLUME) (x.common.volume + 1))
+  pub command : layout.holds ROW_COMMAND ≡ true →
+      ¬ Holds layout packed k x (put at (layout.address NEW_COMMAND) (x.one.new_command + 1))
+  pub width : layout.holds PULSE_TABLE ≡ false → x.one.pulse ≢ 0 → ¬ Holds layout packed k x at
+  pub volume : layout.holds SET_VOLUME ≡ true →
+      ¬ Holds layout packed k x (put at (layout.address VOLUME) (x.common.volume + 1))
+  pub no_volume : layout.holds SET_VOLUME ≡ false → x.common.volume ≢ 15 → ¬ Holds layout packed k x at
   pub order : ¬ Holds layout packed k x
       (put at (layout.address (ORDER_LOW + 7)) (layout.address (order_label k 1) % 256 + 1))
   pub lent : ¬ Holds layout packed k x (put at (layout.address LENT) 1)
@@ -133,11 +141,14 @@ pub record BeginsExactly (layout : Layout) (packed : PackedSong) (o : Options) (
   pub elsewhere : (place : ℕ) → IsUntouched layout (slide_rows packed) place →
       ¬ BeginsSubtune layout packed o k before (leaving run place (before.at place + 1))
 
--- no frame is ready whose filter's program has no lines; and no call has the number of a subtune with another number in
--- A, with one that isn't stored, or with one whose third orderlist's number is no byte
+-- no frame is ready whose filter's program has no lines, nor any where the filter's table has lines and its bytes have
+-- none; and no call has the number of a subtune with another number in A, with one that isn't stored, or with one whose
+-- third orderlist's number is no byte
 pub record ReadyExactly (layout : Layout) (packed : PackedSong) (o : Options) (k : ℕ) (x : FrameState) (at : ℕ → ℕ)
     (desk : Desk) : Type 0 where
   pub filter : x.common.filter_ptr ≢ 0 → layout.holds FILTER_TABLE ≡ false → ¬ FrameIsReady layout packed o k x at
+  pub shared : layout.holds FILTER_TABLE ≡ true → layout.holds FILTER_USED ≡ false →
+      ¬ FrameIsReady layout packed o k x at
   pub a : ¬ IsCalledWith packed k (record desk { cpu = record desk.cpu { a = k + 1 } })
   pub stored : ¬ IsCalledWith packed (length packed.subtunes) desk
   pub byte : 85 ≤ k → ¬ IsCalledWith packed k desk
