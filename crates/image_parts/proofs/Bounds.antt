@@ -12,8 +12,8 @@ use Rattle.scopes.specs.Trees.{Tree}
 use Rattle.scope_lines.specs.Readings.{holds_in}
 use Rattle.scope_lines.proofs.Laws.{sizes_are_bounded}
 use Rattle.scope_parts.specs.Parts.{parts, bytes_of}
-use Rattle.scope_parts.specs.PartLaws.{most_of, stays_whole}
-use Rattle.scope_parts.proofs.Laws.{parts_are_bounded, parts_stay_whole}
+use Rattle.scope_parts.specs.PartLaws.{most_of, least_of}
+use Rattle.scope_parts.proofs.Laws.{parts_are_bounded, parts_are_there}
 use Rattle.player_memory.specs.declared.conditions.TheConstants.{NOTE_DEPENDENT}
 use Rattle.player_text.specs.Texts.{filter_tree, voice_tree, init_tree}
 use Rattle.player_text.specs.declared.texts.Start.{Start}
@@ -24,7 +24,7 @@ use Rattle.kept_lines.specs.KeptLines.{kept_set}
 use Rattle.kept_lines.proofs.Laws.{no_more}
 use Rattle.image_parts.specs.CodeParts.{always, code_parts}
 use Rattle.image_parts.specs.Lengths.{slide_bytes, frequency_bytes}
-use Rattle.image_parts.specs.PartLaws.{RestIsSame, CodeIsShort, PartsAreShort, CodeIsBounded, ImagesAreBounded}
+use Rattle.image_parts.specs.PartLaws.{RestIsBounded, CodeIsShort, PartsAreShort, CodeIsBounded, ImagesAreBounded}
 use Rattle.image_parts.proofs.Counts.{one_if}
 use Rattle.image_parts.proofs.Sums.{around, code_takes_its_parts, unkept_parts_have_none}
 
@@ -63,35 +63,40 @@ around_most holds part filter voice init =
     let z = parts_are_bounded holds part always init in
     omega (arith, a, b, c, d, e, f, n, m, l, k, x, y, z)
 
-around_whole : (holds : ℕ → Bool) (filter voice init : Tree) → stays_whole always filter ≡ true →
-    stays_whole always voice ≡ true → stays_whole always init ≡ true →
-    bytes_of always (around holds filter voice init) ≡ most_around always filter voice init
-around_whole holds filter voice init one two three =
+-- and the least
+abbrev least_around : ℕ → Tree → Tree → Tree → ℕ
+least_around part filter voice init =
+    138 * one_if part always + least_of part always filter + least_of part always voice + least_of part always init
+
+around_least : (holds : ℕ → Bool) (part : ℕ) (filter voice init : Tree) →
+    least_around part filter voice init ≤ bytes_of part (around holds filter voice init)
+around_least holds part filter voice init =
     let last = replicate 1 always in
     let after_voice = replicate 5 always ++ (parts holds always init ++ last) in
     let after_calls = parts holds always voice ++ after_voice in
     let after_filter = replicate 12 always ++ after_calls in
-    let a = both always (replicate 120 always) (parts holds always filter ++ after_filter) in
-    let b = both always (parts holds always filter) after_filter in
-    let c = both always (replicate 12 always) after_calls in
-    let d = both always (parts holds always voice) after_voice in
-    let e = both always (replicate 5 always) (parts holds always init ++ last) in
-    let f = both always (parts holds always init) last in
-    let n = plain_is always 120 in
-    let m = plain_is always 12 in
-    let l = plain_is always 5 in
-    let k = plain_is always 1 in
-    let x = parts_stay_whole holds always filter one in
-    let y = parts_stay_whole holds always voice two in
-    let z = parts_stay_whole holds always init three in
+    let a = both part (replicate 120 always) (parts holds always filter ++ after_filter) in
+    let b = both part (parts holds always filter) after_filter in
+    let c = both part (replicate 12 always) after_calls in
+    let d = both part (parts holds always voice) after_voice in
+    let e = both part (replicate 5 always) (parts holds always init ++ last) in
+    let f = both part (parts holds always init) last in
+    let n = plain_is part 120 in
+    let m = plain_is part 12 in
+    let l = plain_is part 5 in
+    let k = plain_is part 1 in
+    let x = parts_are_there holds part always filter in
+    let y = parts_are_there holds part always voice in
+    let z = parts_are_there holds part always init in
     omega (arith, a, b, c, d, e, f, n, m, l, k, x, y, z)
 
 -- the numbers, computed
-few_of : (start : Start) (part : ℕ) → part < 53 →
+few_of : (start : Start) (part : ℕ) → part < 55 →
     most_around part filter_tree voice_tree (init_tree start) ≤ 320
 few_of start part low =
     leb-true _ 320
-    (agree_below_at (λ n. nat_le (most_around n filter_tree voice_tree (init_tree start)) 320) (λ n. true) 53 part refl low)
+    (agree_below_at (λ n. nat_le (most_around n filter_tree voice_tree (init_tree start)) 320) (λ n. true) 55 part
+    refl low)
 
 rest_of : (start : Start) → most_around always filter_tree voice_tree (init_tree start) ≤ 3070
 rest_of start = leb-true _ 3070 refl
@@ -106,7 +111,7 @@ no_more_than n m a b = omega (arith, a, b)
 
 pub parts_are_short : PartsAreShort
 parts_are_short asked o = record {
-  parts = λ part other. elim (cases_lt part 53) [
+  parts = λ part other. elim (cases_lt part 55) [
     | inl low ↦
         rw (ne_eqb part always other) (no_more_than _ _ (code_most asked o part) (few_of (start_of o) part low))
     | inr high ↦ few _ (unkept_parts_have_none asked o part other (no_more asked o part high))
@@ -119,17 +124,24 @@ parts_are_short asked o = record {
   with_zeros : (n m : ℕ) → n ≤ m → m ≤ 3070 → n + 2 ≤ 3072
   with_zeros n m a b = omega (arith, a, b)
 
--- the blocks stay whole, and the most that they have of this part is 622 with what stands around them
-pub rest_is_same : RestIsSame
-rest_is_same asked o =
-    with_zeros _ _
-    (around_whole (holds_in (kept_set asked o)) filter_tree voice_tree (init_tree (start_of o)) refl refl refl)
-    (most_is (start_of o))
+-- of this part the blocks have 533 to 542 bytes, with what stands around them
+pub rest_is_bounded : RestIsBounded
+rest_is_bounded asked o = record {
+  from = at_least _ _ (least_is (start_of o))
+      (around_least (holds_in (kept_set asked o)) always filter_tree voice_tree (init_tree (start_of o)));
+  to = at_most _ _ (code_most asked o always) (most_is (start_of o));
+}
   where
-    with_zeros : (n m : ℕ) → n ≡ m → m ≡ 622 → n + 2 ≡ 624
-    with_zeros n m a b = omega (arith, a, b)
+    at_least : (n m : ℕ) → n ≡ 533 → n ≤ m → 535 ≤ m + 2
+    at_least n m a b = omega (arith, a, b)
 
-    most_is : (start : Start) → most_around always filter_tree voice_tree (init_tree start) ≡ 622
+    at_most : (n m : ℕ) → n ≤ m → m ≡ 542 → n + 2 ≤ 544
+    at_most n m a b = omega (arith, a, b)
+
+    least_is : (start : Start) → least_around always filter_tree voice_tree (init_tree start) ≡ 533
+    least_is start = refl
+
+    most_is : (start : Start) → most_around always filter_tree voice_tree (init_tree start) ≡ 542
     most_is start = refl
 
 -- ---- the code, with the slides and the frequencies

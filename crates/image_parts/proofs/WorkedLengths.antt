@@ -13,7 +13,8 @@ use Rattle.kept_lines.specs.KeptLines.{kept_set}
 use Rattle.image_parts.specs.CodeParts.{code_length}
 use Rattle.image_parts.specs.Lengths.{slide_bytes, frequency_bytes, image_length}
 use Rattle.image_parts.specs.WorkedLengths.{IsPackedSilence, IsPlayedNote}
-use Rattle.image_parts.specs.WorkedLengths.{PartsAreMeasured, FrequenciesAreMeasured, SilencesAreMeasured, NotesAreMeasured}
+use Rattle.image_parts.specs.WorkedLengths.{PartsAreMeasured, FrequenciesAreMeasured, SilencesAreMeasured}
+use Rattle.image_parts.specs.WorkedLengths.{NotesAreMeasured}
 
 pub frequencies_are_measured : FrequenciesAreMeasured
 frequencies_are_measured = record { long = refl; just_long = refl; short = refl; all = refl; none = refl }
@@ -42,7 +43,10 @@ parts_are_measured = record {
   once_common = refl;
   legato_common = refl;
   soft_common = refl;
+  filters = refl;
+  runs = refl;
   effects = refl;
+  slide_effects = refl;
   at_rows = refl;
   turns = refl;
   choice = refl;
@@ -75,22 +79,23 @@ silence_asks packed is =
 
 note_asks : (packed : PackedSong) → IsPlayedNote packed → asked_by packed ≡ 0x402000 + 2 ^ 41 + 2 ^ 44
 note_asks packed is =
-    asked_same packed 0x402000 (record no_facts { gate_note = true; note_pulse = true }) is.features is.facts ∙ note_asked
+    asked_same packed 0x402000 (record no_facts { gate_note = true; note_pulse = true }) is.features is.facts
+    ∙ note_asked
 
 -- how long their code is
-silence_with_none : code_length (2 ^ 37) no_options ≡ 630
+silence_with_none : code_length (2 ^ 37) no_options ≡ 550
 unfolding kept_set
 silence_with_none = refl
 
-silence_with_all : code_length (2 ^ 37) (all_left_out 4) ≡ 690
+silence_with_all : code_length (2 ^ 37) (all_left_out 4) ≡ 602
 unfolding kept_set
 silence_with_all = refl
 
-note_with_none : code_length (0x402000 + 2 ^ 41 + 2 ^ 44) no_options ≡ 776
+note_with_none : code_length (0x402000 + 2 ^ 41 + 2 ^ 44) no_options ≡ 702
 unfolding kept_set
 note_with_none = refl
 
-note_with_all : code_length (0x402000 + 2 ^ 41 + 2 ^ 44) (all_left_out 4) ≡ 836
+note_with_all : code_length (0x402000 + 2 ^ 41 + 2 ^ 44) (all_left_out 4) ≡ 754
 unfolding kept_set
 note_with_all = refl
 
@@ -117,19 +122,21 @@ note_lists packed is = ap (λ (range : NumberRange). frequency_bytes range 42) i
 pub silences_are_measured : SilencesAreMeasured
 silences_are_measured packed is = record {
   with_none =
-      all_of packed no_options (2 ^ 37) 28 0 0 630 (silence_asks packed is) (silence_size packed is) refl
+      all_of packed no_options (2 ^ 37) 28 0 0 550 (silence_asks packed is) (silence_size packed is) refl
       (silence_lists packed is) silence_with_none;
   with_all =
-      all_of packed (all_left_out 4) (2 ^ 37) 28 0 0 690 (silence_asks packed is) (silence_size packed is) refl
+      all_of packed (all_left_out 4) (2 ^ 37) 28 0 0 602 (silence_asks packed is) (silence_size packed is) refl
       (silence_lists packed is) silence_with_all;
 }
 
 pub notes_are_measured : NotesAreMeasured
 notes_are_measured packed is = record {
   with_none =
-      all_of packed no_options (0x402000 + 2 ^ 41 + 2 ^ 44) 42 0 10 776 (note_asks packed is) (note_size packed is) refl
+      all_of packed no_options (0x402000 + 2 ^ 41 + 2 ^ 44) 42 0 10 702 (note_asks packed is) (note_size packed is)
+      refl
       (note_lists packed is) note_with_none;
   with_all =
-      all_of packed (all_left_out 4) (0x402000 + 2 ^ 41 + 2 ^ 44) 42 0 10 836 (note_asks packed is) (note_size packed is) refl
+      all_of packed (all_left_out 4) (0x402000 + 2 ^ 41 + 2 ^ 44) 42 0 10 754 (note_asks packed is) (note_size packed is)
+      refl
       (note_lists packed is) note_with_all;
 }

@@ -19,11 +19,11 @@ CodeTakesItsParts =
     (asked : ℕ) (o : Options) →
     length (code_parts asked o) ≡ code_takes (holds_in (kept_set asked o)) (start_of o)
 
--- the code is the part that each image has and the 53 others
+-- the code is the part that each image has and the 55 others
 abbrev pub PartsAddUp : Type 0
 PartsAddUp =
     (asked : ℕ) (o : Options) →
-    code_length asked o ≡ part_length asked o always + sum_by (part_length asked o) (range_with_len 0 53)
+    code_length asked o ≡ part_length asked o always + sum_by (part_length asked o) (range_with_len 0 55)
 
 -- a part whose condition doesn't hold has no bytes
 abbrev pub UnkeptPartsHaveNone : Type 0
@@ -39,9 +39,13 @@ pub record AreShort (asked : ℕ) (o : Options) : Type 0 where
 abbrev pub PartsAreShort : Type 0
 PartsAreShort = (asked : ℕ) (o : Options) → AreShort asked o
 
--- the part that each image has is as long in each
-abbrev pub RestIsSame : Type 0
-RestIsSame = (asked : ℕ) (o : Options) → part_length asked o always ≡ 624
+-- the part that each image has is nearly as long in each: it has what stands in the place of lines that aren't kept
+pub record RestIsWithin (asked : ℕ) (o : Options) : Type 0 where
+  pub from : 535 ≤ part_length asked o always
+  pub to : part_length asked o always ≤ 544
+
+abbrev pub RestIsBounded : Type 0
+RestIsBounded = (asked : ℕ) (o : Options) → RestIsWithin asked o
 
 -- the code with the zeros takes at most what it does where all parts are kept
 abbrev pub CodeIsShort : Type 0

@@ -2,7 +2,7 @@
 
 ghost use Rattle.image_parts.specs.CodeLines.{LinesStandAround};
 ghost use Rattle.image_parts.specs.PartLaws.{CodeTakesItsParts, PartsAddUp, PartsAreShort, UnkeptPartsHaveNone};
-ghost use Rattle.image_parts.specs.PartLaws.{RestIsSame, CodeIsShort, CodeIsBounded, ImagesAreBounded};
+ghost use Rattle.image_parts.specs.PartLaws.{RestIsBounded, CodeIsShort, CodeIsBounded, ImagesAreBounded};
 ghost use Rattle.image_parts.specs.WorkedLengths.{PartsAreMeasured, FrequenciesAreMeasured, SilencesAreMeasured};
 ghost use Rattle.image_parts.specs.WorkedLengths.{NotesAreMeasured};
 
@@ -15,12 +15,12 @@ pub fn parts_add_up()
 {}
 
 /// A part that isn't kept has no bytes, no other one has more than 320, and the one that every image has no more than
-/// 3,072: it has 624, whichever others are kept. The code has at most 1,664 with the zeros; and an image is within
+/// 3,072: it has 535 to 544. The code has at most 1,664 with the zeros; and an image is within
 /// the bound of its packed song and a player.
 pub fn parts_are_bounded()
     ensures none { UnkeptPartsHaveNone }
     ensures short { PartsAreShort }
-    ensures rest { RestIsSame }
+    ensures rest { RestIsBounded }
     ensures whole { CodeIsShort }
     ensures code { CodeIsBounded }
     ensures image { ImagesAreBounded }

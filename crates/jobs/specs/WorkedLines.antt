@@ -26,7 +26,8 @@ use Rattle.command_line.specs.Lines.{usage_line, no_memory_line}
 use Rattle.command_line.specs.Words.{frame_limit, subtune_limit, song_number_limit}
 use Rattle.usage.specs.declared.parts.UsedParts.{UsedParts}
 use Rattle.faithful.specs.WorkedPlaces.{twice}
-use Rattle.jobs.specs.Lines.{missing_line, too_long_line, read_fault_line, write_fault_line, wrote_line, song_fault_line}
+use Rattle.jobs.specs.Lines.{missing_line, too_long_line, read_fault_line, write_fault_line, wrote_line}
+use Rattle.jobs.specs.Lines.{song_fault_line}
 use Rattle.jobs.specs.Lines.{psid_fault_line, no_subtune_line, stop_line, unplayable_line, too_large_line}
 use Rattle.jobs.specs.Lines.{image_too_large_line, script_too_large_line, check_line, script_line, listing_line}
 use Rattle.jobs.specs.Lines.{join_line, selftest_line}
@@ -118,7 +119,7 @@ pub record CostLinesAreWorked : Type 0 where
   pub by_skip : part_line (costly 25 6 SkipOption) ≡ codes "skip pulse 6 bytes, SKIP\n"
   pub by_first : part_line (costly 27 36 SkipOption) ≡ codes "skip between patterns 36 bytes, SKIP\n"
   pub by_speed : part_line (costly 26 10 SpeedOption) ≡ codes "play by timer 10 bytes, SPEED\n"
-  pub names : map part_name (range_with_len 0 53)
+  pub names : map part_name (range_with_len 0 55)
       ≡ codes "transpose"
       ∷ codes "repeat"
       ∷ codes "portamento up"
@@ -171,7 +172,9 @@ pub record CostLinesAreWorked : Type 0 where
       ∷ codes "funk tempo choice"
       ∷ codes "row commands"
       ∷ codes "special wave rows"
-      ∷ codes "held gate or envelope" ∷ []
+      ∷ codes "held gate or envelope"
+      ∷ codes "running effects"
+      ∷ codes "filter registers" ∷ []
 
 -- one for each way in which a file is no song, or no PSID file
 pub record FaultsAreWorked : Type 0 where

@@ -96,7 +96,7 @@ spans_are_worked = record {
 
 -- the numbers between which the lists stand
 record Ends (packed : PackedSong) : Type 0 where
-  code : code_length (asked_by packed) no_options ≡ 751
+  code : code_length (asked_by packed) no_options ≡ 677
   speeds : length packed.speed ≡ 2
 
 -- what the song asks for, and how long its code is
@@ -107,7 +107,7 @@ asked_alone : asked 0x402000 no_facts ≡ 0x402000
 unfolding asked
 asked_alone = refl
 
-code_is : code_length 0x402000 no_options ≡ 751
+code_is : code_length 0x402000 no_options ≡ 677
 unfolding kept_set
 code_is = refl
 
@@ -117,7 +117,7 @@ ends_of packed is = record {
   speeds = is.speed;
 }
 
-not_listed : (packed : PackedSong) → Ends packed → (byte : ℕ) → (byte < 750) ⊎ (752 ≤ byte) → byte < 753 →
+not_listed : (packed : PackedSong) → Ends packed → (byte : ℕ) → (byte < 676) ⊎ (678 ≤ byte) → byte < 679 →
     ¬ IsOfLists packed no_options byte
 not_listed packed ends byte outside below (inl speeds) =
     let code = ends.code in
@@ -132,7 +132,7 @@ not_listed packed ends byte outside below (inr behind) =
     let rows = ends.speeds in
     omega (arith, code, rows, behind, below)
 
-speed_listed : (packed : PackedSong) → Ends packed → (byte : ℕ) → 750 ≤ byte → byte < 752 →
+speed_listed : (packed : PackedSong) → Ends packed → (byte : ℕ) → 676 ≤ byte → byte < 678 →
     IsOfLists packed no_options byte
 speed_listed packed ends byte from to =
     let code = ends.code in
@@ -142,11 +142,11 @@ speed_listed packed ends byte from to =
 pub two_speeds_are_worked : TwoSpeedsAreWorked
 two_speeds_are_worked packed is =
     let ends = ends_of packed is in record {
-      last_code = not_listed packed ends 748 (inl (omega arith)) (omega arith);
-      first_zero = not_listed packed ends 749 (inl (omega arith)) (omega arith);
-      first_speed = speed_listed packed ends 750 (omega arith) (omega arith);
-      last_speed = speed_listed packed ends 751 (omega arith) (omega arith);
-      second_zero = not_listed packed ends 752 (inr (omega arith)) (omega arith);
+      last_code = not_listed packed ends 674 (inl (omega arith)) (omega arith);
+      first_zero = not_listed packed ends 675 (inl (omega arith)) (omega arith);
+      first_speed = speed_listed packed ends 676 (omega arith) (omega arith);
+      last_speed = speed_listed packed ends 677 (omega arith) (omega arith);
+      second_zero = not_listed packed ends 678 (inr (omega arith)) (omega arith);
       behind = (let code = ends.code in let rows = ends.speeds in inr (omega (arith, code, rows)));
       no_spans = λ size some names.
           none_there ((names.named 0 some).1 (not_listed packed ends 0 (inl (omega arith)) (omega arith)));

@@ -11,7 +11,8 @@ use Rattle.asked_numbers.specs.declared.range.NumberRange.{NumberRange}
 use Rattle.packed_form.specs.Sizes.{list_size}
 use Rattle.packing_rules.specs.UsedSets.{UsedSets}
 use Rattle.packing_rules.specs.Segments.{numbers, keeps as stays}
-use Rattle.packing_rules.specs.Renumbering.{first_seen, speed_rows, filter_programs, pulse_programs, wave_programs, pattern_texts}
+use Rattle.packing_rules.specs.Renumbering.{first_seen, speed_rows, filter_programs, pulse_programs, wave_programs}
+use Rattle.packing_rules.specs.Renumbering.{pattern_texts}
 use Rattle.packing_rules.specs.SongSizes.{orders_size, rows_size, packed_size}
 use Rattle.kept_lines.specs.KeptLines.{keeps}
 use Rattle.image_parts.specs.CodeParts.{always, code_parts, part_length, code_length}
@@ -62,8 +63,8 @@ pub parts_add_up : PartsAddUp
 parts_add_up asked options =
     image_parts.parts_add_up asked options
     ∙ ap (λ (bytes : ℕ). part_length asked options always + bytes)
-    (sym (dropped_sum (keeps asked options) (part_length asked options) (range_with_len 0 53)
-    (all_below (DropsNone (keeps asked options) (part_length asked options)) 53
+    (sym (dropped_sum (keeps asked options) (part_length asked options) (range_with_len 0 55)
+    (all_below (DropsNone (keeps asked options) (part_length asked options)) 55
     (λ part high out. image_parts.unkept_parts_have_none asked options part
     (λ is. omega (arith, high, is)) out))))
 

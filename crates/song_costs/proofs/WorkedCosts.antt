@@ -16,7 +16,8 @@ use Rattle.packing_rules.specs.SongSizes.{packed_size}
 use Rattle.song_facts.specs.declared.facts.Fact.{Fact}
 use Rattle.song_facts.specs.declared.facts.Fact.TheVariants.{RowSlide, FirstMask, GateNote, NoteFilter}
 use Rattle.player_memory.specs.declared.conditions.TheConstants.{CLIMB, RISE, ROW_SLIDE, FIRST_MASK, GATE_NOTE}
-use Rattle.player_memory.specs.declared.conditions.TheConstants.{NOTE_FILTER, ROW_COMMAND, SPECIAL_ROW}
+use Rattle.player_memory.specs.declared.conditions.TheConstants.{NOTE_FILTER, ROW_COMMAND, SPECIAL_ROW, EFFECTS}
+use Rattle.player_memory.specs.declared.conditions.TheConstants.{FILTER_USED}
 use Rattle.player_memory.specs.FactLines.{fact_condition}
 use Rattle.kept_lines.specs.Asked.{asked}
 use Rattle.kept_lines.specs.KeptLines.{kept_set}
@@ -32,6 +33,7 @@ use Rattle.song_costs.specs.WorkedCosts.{FactPartsAreWorked, ListIsWorked, Optio
 use Rattle.song_places.proofs.Laws.{own_places_are_first, fact_places_are_first}
 use Rattle.song_places.proofs.Laws.{transposes_are_worked, portamentos_are_worked, tables_are_worked, risen}
 use Rattle.song_places.proofs.Laws.{gate_notes_are_worked, facts_are_worked, wave_places_are_worked, crossing_first}
+use Rattle.song_places.proofs.Laws.{filter_places_are_worked}
 
 pub note_is_worked : NoteIsWorked
 unfolding packed_text first_row is_closed are_equal first_equal keeps stand_in speed_rows speed_number table_number
@@ -147,7 +149,7 @@ rise = record {
   cause = crossing_first RISE refl refl (slides RISE refl);
 }
 
-row_slides : IsToldOf no_options (part_cost ROW_SLIDE 18 (InSong (InPattern 1 1)))
+row_slides : IsToldOf no_options (part_cost ROW_SLIDE 9 (InSong (InPattern 1 1)))
 unfolding asked kept_set
 row_slides = record {
   kept = refl;
@@ -183,7 +185,7 @@ note_filters = record {
   cause = own_fact_first NoteFilter (InInstrument 3) facts_are_worked.filter;
 }
 
-row_commands : IsToldOf no_options (part_cost ROW_COMMAND 2 (InSong (InPattern 1 1)))
+row_commands : IsToldOf no_options (part_cost ROW_COMMAND 18 (InSong (InPattern 1 1)))
 unfolding asked kept_set
 row_commands = record {
   kept = refl;
@@ -202,6 +204,27 @@ special = record {
   cause = wave_places_are_worked.behind;
 }
 
+runs_at : NeedsFor crossing EFFECTS (InPattern 1 1)
+runs_at = inr (record { fact = RowSlide; is_kept = refl; needs = facts_are_worked.slide.is_such })
+
+effects : IsToldOf no_options (part_cost EFFECTS 26 (InSong (InPattern 1 1)))
+unfolding asked kept_set
+effects = record {
+  kept = refl;
+  bytes = refl;
+  some = λ e. absurd (omega arith);
+  cause = crossing_first EFFECTS refl refl runs_at;
+}
+
+filter_used : IsToldOf no_options (part_cost FILTER_USED 9 (InSong (InInstrument 3)))
+unfolding asked kept_set
+filter_used = record {
+  kept = refl;
+  bytes = refl;
+  some = λ e. absurd (omega arith);
+  cause = filter_places_are_worked.program;
+}
+
 pub fact_parts_are_worked : FactPartsAreWorked
 unfolding asked
 fact_parts_are_worked = record {
@@ -216,6 +239,9 @@ fact_parts_are_worked = record {
   no_pulse = λ bytes cause told. (let e = told.kept in absurd (cc));
   commands = row_commands;
   special = special;
+  effects = effects;
+  later_effect = λ told. (let e = told.cause.first (InPattern 1 1) runs_at in absurd (cc));
+  filter_used = filter_used;
   no_special = λ told. wave_places_are_worked.jump told.cause.is_such;
   no_legato = λ bytes cause told. (let e = told.kept in absurd (cc));
   no_held = λ bytes cause told. (let e = told.kept in absurd (cc));
@@ -252,11 +278,12 @@ list_is_worked = record {
     parts = refl;
     each = (more transposes (more portamentos (more filters (more waves (more wave_commands (more climb (more rise
         (more row_slides (more masks (more gate_notes (more note_filters (more row_commands
-        (more special nothing))))))))))))).each;
+        (more special (more effects (more filter_used nothing))))))))))))))).each;
   };
   other_order = λ rest kept. absurd
       (let e = same_head 15 0 (map (λ (cost : PartCost). cost.part) rest) (2 ∷ 15 ∷ 22 ∷ 23 ∷ CLIMB ∷ RISE ∷ ROW_SLIDE
-      ∷ FIRST_MASK ∷ GATE_NOTE ∷ NOTE_FILTER ∷ ROW_COMMAND ∷ SPECIAL_ROW ∷ []) kept.parts in omega arith);
+      ∷ FIRST_MASK ∷ GATE_NOTE ∷ NOTE_FILTER ∷ ROW_COMMAND ∷ SPECIAL_ROW ∷ EFFECTS ∷ FILTER_USED ∷ []) kept.parts in
+      omega arith);
 }
 
 pub options_are_worked : OptionsAreWorked

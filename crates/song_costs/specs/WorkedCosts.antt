@@ -17,7 +17,9 @@ use Rattle.packing_rules.specs.WorkedSizes.{among, note_sets, two_rests}
 use Rattle.song_facts.specs.declared.facts.Facts.{Facts}
 use Rattle.song_facts.specs.Facts.{no_facts}
 use Rattle.player_memory.specs.declared.conditions.TheConstants.{CLIMB, DROP, RISE, ROW_SLIDE, FIRST_MASK, LEGATO}
-use Rattle.player_memory.specs.declared.conditions.TheConstants.{GATE_NOTE, NOTE_PULSE, NOTE_FILTER, ROW_COMMAND, SPECIAL_ROW, HELD_NOTE}
+use Rattle.player_memory.specs.declared.conditions.TheConstants.{GATE_NOTE, NOTE_PULSE, NOTE_FILTER, ROW_COMMAND}
+use Rattle.player_memory.specs.declared.conditions.TheConstants.{SPECIAL_ROW, HELD_NOTE}
+use Rattle.player_memory.specs.declared.conditions.TheConstants.{EFFECTS, FILTER_USED}
 use Rattle.kept_lines.specs.Asked.{asked}
 use Rattle.song_costs.specs.declared.costs.Costs.{Costs}
 use Rattle.song_places.specs.declared.places.Place.TheVariants.{InOrder, InPattern, InInstrument, InWaveTable}
@@ -45,11 +47,11 @@ abbrev pub note_costs : Costs
 note_costs = costs_of one_note (note_sets (0 ∷ 1 ∷ [])) (asked note_features note_facts) note_range no_options
 
 -- three orderlists of one entry, the patterns 01 90 BE 00 and C0 00, one instrument, two rows in each of two tables;
--- 624 bytes of the player that each image has, 82 and 45 for a pulse and a wave program, 12 for a keyoff, and 13 for an
+-- 542 bytes of the player that each image has, 90 and 45 for a pulse and a wave program, 12 for a keyoff, and 13 for an
 -- instrument that begins a pulse program; and the frequencies 44 to 48, with 44 bytes in front of them
 pub record NoteIsWorked : Type 0 where
   pub each : note_costs ≡ record {
-    player = 776;
+    player = 702;
     orders = 15;
     patterns = 10;
     instruments = 9;
@@ -60,12 +62,12 @@ pub record NoteIsWorked : Type 0 where
     frequencies = 10;
   }
   pub bytes : data_bytes note_costs ≡ 52
-  pub all : all_bytes note_costs ≡ 828
+  pub all : all_bytes note_costs ≡ 754
   -- without the zeros, and with the frequency of the song's number alone
-  pub few : note_costs.player ≢ 774
+  pub few : note_costs.player ≢ 700
   pub alone : note_costs.frequencies ≢ 2
   -- without the facts
-  pub bare : (costs_of one_note (note_sets (0 ∷ 1 ∷ [])) note_features note_range no_options).player ≡ 751
+  pub bare : (costs_of one_note (note_sets (0 ∷ 1 ∷ [])) note_features note_range no_options).player ≡ 677
   -- an equal pattern is stored once, and a note for each of three orderlists isn't
   pub once : (costs_of two_rests (note_sets (0 ∷ 1 ∷ 2 ∷ [])) (asked note_features note_facts) note_range no_options).patterns
       ≡ 10
@@ -152,8 +154,8 @@ pub record PartsAreWorked : Type 0 where
 
 -- and so is one of a fact, and one that facts and features have in common
 pub record FactPartsAreWorked : Type 0 where
-  pub slides : IsToldOf no_options (part_cost ROW_SLIDE 18 (InSong (InPattern 1 1)))
-  pub later_slide : ¬ IsToldOf no_options (part_cost ROW_SLIDE 18 (InSong (InPattern 1 2)))
+  pub slides : IsToldOf no_options (part_cost ROW_SLIDE 9 (InSong (InPattern 1 1)))
+  pub later_slide : ¬ IsToldOf no_options (part_cost ROW_SLIDE 9 (InSong (InPattern 1 2)))
   pub masks : IsToldOf no_options (part_cost FIRST_MASK 6 (InSong (InInstrument 1)))
   pub later_mask : ¬ IsToldOf no_options (part_cost FIRST_MASK 6 (InSong (InInstrument 3)))
   pub gate_notes : IsToldOf no_options (part_cost GATE_NOTE 12 (InSong (InPattern 2 1)))
@@ -161,8 +163,11 @@ pub record FactPartsAreWorked : Type 0 where
   pub filters : IsToldOf no_options (part_cost NOTE_FILTER 13 (InSong (InInstrument 3)))
   pub unused_filter : ¬ IsToldOf no_options (part_cost NOTE_FILTER 13 (InSong (InInstrument 2)))
   pub no_pulse : (bytes : ℕ) (cause : Cause) → ¬ IsToldOf no_options (part_cost NOTE_PULSE bytes cause)
-  pub commands : IsToldOf no_options (part_cost ROW_COMMAND 2 (InSong (InPattern 1 1)))
+  pub commands : IsToldOf no_options (part_cost ROW_COMMAND 18 (InSong (InPattern 1 1)))
   pub special : IsToldOf no_options (part_cost SPECIAL_ROW 4 (InSong (InWaveTable 2)))
+  pub effects : IsToldOf no_options (part_cost EFFECTS 26 (InSong (InPattern 1 1)))
+  pub later_effect : ¬ IsToldOf no_options (part_cost EFFECTS 26 (InSong (InWaveTable 2)))
+  pub filter_used : IsToldOf no_options (part_cost FILTER_USED 9 (InSong (InInstrument 3)))
   pub no_special : ¬ IsToldOf no_options (part_cost SPECIAL_ROW 4 (InSong (InWaveTable 3)))
   pub no_legato : (bytes : ℕ) (cause : Cause) → ¬ IsToldOf no_options (part_cost LEGATO bytes cause)
   pub no_held : (bytes : ℕ) (cause : Cause) → ¬ IsToldOf no_options (part_cost HELD_NOTE bytes cause)
@@ -173,10 +178,11 @@ pub record ListIsWorked : Type 0 where
       (part_cost 0 16 (InSong (InOrder 2 2 1)) ∷ part_cost 2 4 (InSong (InPattern 1 1))
       ∷ part_cost 15 76 (InSong (InInstrument 3)) ∷ part_cost 22 45 (InSong (InInstrument 1))
       ∷ part_cost 23 80 (InSong (InWaveTable 2)) ∷ part_cost CLIMB 10 (InSong (InPattern 1 1))
-      ∷ part_cost RISE 17 (InSong (InPattern 1 1)) ∷ part_cost ROW_SLIDE 18 (InSong (InPattern 1 1))
+      ∷ part_cost RISE 17 (InSong (InPattern 1 1)) ∷ part_cost ROW_SLIDE 9 (InSong (InPattern 1 1))
       ∷ part_cost FIRST_MASK 6 (InSong (InInstrument 1)) ∷ part_cost GATE_NOTE 12 (InSong (InPattern 2 1))
       ∷ part_cost NOTE_FILTER 13 (InSong (InInstrument 3))
-      ∷ part_cost ROW_COMMAND 2 (InSong (InPattern 1 1)) ∷ part_cost SPECIAL_ROW 4 (InSong (InWaveTable 2)) ∷ [])
+      ∷ part_cost ROW_COMMAND 18 (InSong (InPattern 1 1)) ∷ part_cost SPECIAL_ROW 4 (InSong (InWaveTable 2))
+      ∷ part_cost EFFECTS 26 (InSong (InPattern 1 1)) ∷ part_cost FILTER_USED 9 (InSong (InInstrument 3)) ∷ [])
   pub other_order : (rest : List PartCost) → ¬ AreKeptParts crossing crossing_asked no_options
       (part_cost 15 76 (InSong (InInstrument 3)) ∷ rest)
 

@@ -18,7 +18,7 @@ use usage::UsedParts;
 /// How many parts there are beside the one that every image has: those of the features, behind them those of the
 /// options and what several features have in common, then those of the song's facts, and what several facts or features
 /// have in common.
-pub const PARTS: u8 = 53;
+pub const PARTS: u8 = 55;
 
 /// The names of the parts, each at its number, as musicians say them.
 pub const PART_NAMES: [&str; PARTS as usize] = [
@@ -75,6 +75,8 @@ pub const PART_NAMES: [&str; PARTS as usize] = [
     "row commands",
     "special wave rows",
     "held gate or envelope",
+    "running effects",
+    "filter registers",
 ];
 
 /// Why a part of the player is kept.
@@ -91,7 +93,7 @@ pub enum Cause {
 /// What a part of the player costs.
 #[derive(Clone, Copy, Debug, PartialEq, Eq)]
 pub struct PartCost {
-    /// The part, 0 to 52.
+    /// The part, 0 to 54.
     pub part: u8,
     /// Its bytes, from 1 on.
     pub bytes: u32,

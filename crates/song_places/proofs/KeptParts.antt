@@ -20,11 +20,13 @@ use Rattle.player_memory.specs.declared.conditions.TheConstants.{PORTA_UP, PORTA
 use Rattle.player_memory.specs.declared.conditions.TheConstants.{INSTRUMENT_VIBRATO, NOTE_DEPENDENT, WAVE_COMMAND}
 use Rattle.player_memory.specs.declared.conditions.TheConstants.{SKIP_EFFECTS, SKIP_PULSE, TIMED, SKIP_FIRST}
 use Rattle.player_memory.specs.declared.conditions.TheConstants.{SWINGS, CLIMB, DROP, RISE, SINK, FOUND_NOTE}
-use Rattle.player_memory.specs.declared.conditions.TheConstants.{ROW_SLIDE, ROW_ONCE, LEGATO, NO_HARD_RESTART, WAVE_DELAY}
-use Rattle.player_memory.specs.declared.conditions.TheConstants.{ROW_COMMAND, SPECIAL_ROW, HELD_NOTE}
+use Rattle.player_memory.specs.declared.conditions.TheConstants.{ROW_TONE, ROW_SLIDE, ROW_ONCE, LEGATO, NO_HARD_RESTART}
+use Rattle.player_memory.specs.declared.conditions.TheConstants.{WAVE_DELAY, ROW_COMMAND, SPECIAL_ROW, HELD_NOTE}
+use Rattle.player_memory.specs.declared.conditions.TheConstants.{EFFECTS, FILTER_USED}
+use Rattle.player_memory.specs.declared.conditions.TheConstants.{FILTER_TABLE, SET_FILTER_CONTROL, SET_CUTOFF}
 use Rattle.player_memory.specs.FactLines.{fact_condition}
 use Rattle.kept_lines.specs.Asked.{is_in, asked, Asks}
-use Rattle.kept_lines.specs.KeptLines.{has_in_common, is_asked_for, keeps}
+use Rattle.kept_lines.specs.KeptLines.{asks_effect, has_in_common, is_asked_for, keeps}
 use Rattle.kept_lines.proofs.Laws.{asked_is_exact}
 use Rattle.song_places.specs.declared.places.Place.{Place}
 use Rattle.song_places.specs.declared.part_places.TheConstants.{FEATURES, FACTS}
@@ -144,13 +146,21 @@ common_more one other part more =
     (if_more (part == RISE) (or_more (or_more (more PORTA_UP) (more TONE_PORTA)) swings)
     (if_more (part == SINK) (or_more (or_more (more PORTA_DOWN) (more TONE_PORTA)) swings)
     (if_more (part == FOUND_NOTE) (or_more (more TONE_PORTA) (more TIE_NOTE))
-    (if_more (part == ROW_COMMAND) (or_more (more ROW_SLIDE) (more ROW_ONCE))
+    (if_more (part == ROW_COMMAND) (or_more (or_more (more ROW_TONE) (more ROW_SLIDE)) (more ROW_ONCE))
     (if_more (part == SPECIAL_ROW) (or_more (more WAVE_DELAY) (more WAVE_COMMAND))
-    (if_more (part == HELD_NOTE) (or_more (more LEGATO) (more NO_HARD_RESTART)) (λ never. never)))))))))
+    (if_more (part == HELD_NOTE) (or_more (more LEGATO) (more NO_HARD_RESTART))
+    (if_more (part == EFFECTS) effects
+    (if_more (part == FILTER_USED)
+    (or_more (or_more (more FILTER_TABLE) (more SET_FILTER_CONTROL)) (more SET_CUTOFF)) (λ never. never)))))))))))
   where
     swings : (is_in one VIBRATO || is_in one INSTRUMENT_VIBRATO) ≡ true →
         (is_in other VIBRATO || is_in other INSTRUMENT_VIBRATO) ≡ true
     swings = or_more (more VIBRATO) (more INSTRUMENT_VIBRATO)
+
+    effects : asks_effect one ≡ true → asks_effect other ≡ true
+    effects =
+        or_more (or_more (or_more (or_more (or_more (or_more (more PORTA_UP) (more PORTA_DOWN)) (more TONE_PORTA))
+        (more TIE_NOTE)) swings) (more WAVE_COMMAND)) (more ROW_SLIDE)
 
 kept_by : (set : ℕ) (options : Options) (condition part : ℕ) → keeps_part condition part ≡ true →
     is_in set condition ≡ true → keeps set options part ≡ true
@@ -195,11 +205,17 @@ common_keeper set part =
     (at part SINK (either (either (given set SINK PORTA_DOWN refl refl) (given set SINK TONE_PORTA refl refl))
     (swings SINK refl refl))
     (at part FOUND_NOTE (either (given set FOUND_NOTE TONE_PORTA refl refl) (given set FOUND_NOTE TIE_NOTE refl refl))
-    (at part ROW_COMMAND (either (given set ROW_COMMAND ROW_SLIDE refl refl) (given set ROW_COMMAND ROW_ONCE refl refl))
+    (at part ROW_COMMAND
+    (either (either (given set ROW_COMMAND ROW_TONE refl refl) (given set ROW_COMMAND ROW_SLIDE refl refl))
+    (given set ROW_COMMAND ROW_ONCE refl refl))
     (at part SPECIAL_ROW
     (either (given set SPECIAL_ROW WAVE_DELAY refl refl) (given set SPECIAL_ROW WAVE_COMMAND refl refl))
     (at part HELD_NOTE (either (given set HELD_NOTE LEGATO refl refl) (given set HELD_NOTE NO_HARD_RESTART refl refl))
-    (λ never. absurd (true≢false (sym never)))))))))))
+    (at part EFFECTS effects
+    (at part FILTER_USED
+    (either (either (given set FILTER_USED FILTER_TABLE refl refl) (given set FILTER_USED SET_FILTER_CONTROL refl refl))
+    (given set FILTER_USED SET_CUTOFF refl refl))
+    (λ never. absurd (true≢false (sym never)))))))))))))
   where
     -- where the part is this one, and where it isn't
     at : (n m : ℕ) {a b : Bool} → (a ≡ true → IsKeeper set m) → (b ≡ true → IsKeeper set n) →
@@ -214,6 +230,16 @@ common_keeper set part =
     swings : (m : ℕ) → keeps_part VIBRATO m ≡ true → keeps_part INSTRUMENT_VIBRATO m ≡ true →
         (is_in set VIBRATO || is_in set INSTRUMENT_VIBRATO) ≡ true → IsKeeper set m
     swings m one other = either (given set m VIBRATO one refl) (given set m INSTRUMENT_VIBRATO other refl)
+
+    runs : (condition : ℕ) → keeps_part condition EFFECTS ≡ true → is_asked_for condition ≡ true →
+        is_in set condition ≡ true → IsKeeper set EFFECTS
+    runs condition alone asked = given set EFFECTS condition alone asked
+
+    effects : asks_effect set ≡ true → IsKeeper set EFFECTS
+    effects =
+        either (either (either (either (either (either (runs PORTA_UP refl refl) (runs PORTA_DOWN refl refl))
+        (runs TONE_PORTA refl refl)) (runs TIE_NOTE refl refl)) (swings EFFECTS refl refl))
+        (runs WAVE_COMMAND refl refl)) (runs ROW_SLIDE refl refl)
 
 keeper : (set : ℕ) (options : Options) (part : ℕ) → ¬ IsOfOptions part → keeps set options part ≡ true →
     IsKeeper set part

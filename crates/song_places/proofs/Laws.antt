@@ -14,3 +14,4 @@ pub use Rattle.song_places.proofs.WorkedPlaces.{transposes_are_worked, portament
 pub use Rattle.song_places.proofs.WorkedFactPlaces.{gate_notes_are_worked, facts_are_worked}
 pub use Rattle.song_places.proofs.CommonPlaces.{crossing_first}
 pub use Rattle.song_places.proofs.SharedPlaces.{wave_places_are_worked}
+pub use Rattle.song_places.proofs.FilterPlaces.{filter_places_are_worked}

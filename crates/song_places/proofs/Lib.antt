@@ -23,3 +23,4 @@ mod WorkedPlaces
 mod CommonPlaces
 mod WorkedFactPlaces
 mod SharedPlaces
+mod FilterPlaces

@@ -106,7 +106,7 @@ row_in_two (suc zero) r e = (let same = same_some _ r e in subst Fields same (fi
 row_in_two (suc (suc zero)) r e = (let same = same_some _ r e in subst Fields same (fields (inl refl) (inl refl)))
 row_in_two (suc (suc (suc k))) r e = absurd (cc)
 
-used_row : (p i : ℕ) (r : Row) → IsUsedPattern crossing p → slice_get (pattern_at crossing p) i ≡ Some r → Fields r
+pub used_row : (p i : ℕ) (r : Row) → IsUsedPattern crossing p → slice_get (pattern_at crossing p) i ≡ Some r → Fields r
 used_row p i r used there = (let w = used_pattern p used in elim w [
   | inl e ↦ row_in_one i r (subst (λ (q : ℕ). slice_get (pattern_at crossing q) i ≡ Some r) (sym e) there)
   | inr e ↦ row_in_two i r (subst (λ (q : ℕ). slice_get (pattern_at crossing q) i ≡ Some r) (sym e) there)

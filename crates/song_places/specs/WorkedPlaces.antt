@@ -9,7 +9,7 @@ use Rattle.song_model.specs.Silence.{empty_song, rest_row}
 use Rattle.play_model.specs.WorkedSongs.{subtune, row, sides, other_vibrato}
 use Rattle.song_facts.specs.declared.facts.Fact.TheVariants.{RowSlide, FirstMask, GateNote, NotePulse, NoteFilter}
 use Rattle.player_memory.specs.declared.conditions.TheConstants.{PORTA_UP, SKIP_EFFECTS, CLIMB, FOUND_NOTE, ROW_SLIDE}
-use Rattle.player_memory.specs.declared.conditions.TheConstants.{ROW_COMMAND, SPECIAL_ROW}
+use Rattle.player_memory.specs.declared.conditions.TheConstants.{ROW_COMMAND, SPECIAL_ROW, EFFECTS, FILTER_USED}
 use Rattle.song_places.specs.declared.places.Place.{Place}
 use Rattle.song_places.specs.declared.places.Place.TheVariants.{InOrder, InPattern, InInstrument, InWaveTable}
 use Rattle.song_places.specs.Places.{NeedsAt, NeedsFactAt, IsNotAfter, IsFirstPlace, IsFirstFactPlace}
@@ -142,6 +142,19 @@ pub record WavePlacesAreWorked : Type 0 where
   pub waveform : ¬ NeedsFor crossing SPECIAL_ROW (InWaveTable 1)
   pub behind : IsPartPlace crossing SPECIAL_ROW (InWaveTable 2)
   pub jump : ¬ NeedsFor crossing SPECIAL_ROW (InWaveTable 3)
+
+-- What sets the filter is a program, which an instrument or a command names, or one of two commands, so the place is
+-- the first of these; a volume doesn't set it. And an effect runs for a command from 1 to 4, but not for one that is
+-- done once.
+pub record FilterPlacesAreWorked : Type 0 where
+  pub program : IsPartPlace crossing FILTER_USED (InInstrument 3)
+  pub cutoff_first : IsPartPlace (sliding 0xC 0xB) FILTER_USED (InPattern 0 1)
+  pub control_later : NeedsFor (sliding 0xC 0xB) FILTER_USED (InPattern 1 0)
+  pub not_control : ¬ IsPartPlace (sliding 0xC 0xB) FILTER_USED (InPattern 1 0)
+  pub volume : ¬ NeedsFor (sliding 0xD 0xB) FILTER_USED (InPattern 0 1)
+  pub tone_first : IsPartPlace (sliding 3 1) EFFECTS (InPattern 0 1)
+  pub slide_later : NeedsFor (sliding 5 1) EFFECTS (InPattern 1 0)
+  pub not_once : ¬ NeedsFor (sliding 5 1) EFFECTS (InPattern 0 1)
 
 -- ---- the order
 

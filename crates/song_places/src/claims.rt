@@ -5,7 +5,7 @@ ghost use Rattle.song_places.specs.PlaceLaws.{OwnPlacesAreFirst, FactPlacesAreFi
 ghost use Rattle.song_places.specs.WorkedPlaces.{TransposesAreWorked, PortamentosAreWorked, TablesAreWorked};
 ghost use Rattle.song_places.specs.WorkedPlaces.{VibratosAreWorked, GateNotesAreWorked, FactsAreWorked};
 ghost use Rattle.song_places.specs.WorkedPlaces.{CommonPlacesAreWorked, RowPlacesAreWorked, WavePlacesAreWorked};
-ghost use Rattle.song_places.specs.WorkedPlaces.{PlacesInOrder};
+ghost use Rattle.song_places.specs.WorkedPlaces.{FilterPlacesAreWorked, PlacesInOrder};
 
 /// A song uses a feature exactly where some place needs it, has a fact exactly where some place gives it, and keeps a
 /// part of features and facts exactly where some place needs it; a part of one feature or fact has its first place; and
@@ -22,7 +22,7 @@ pub fn features_have_first_places()
 /// First places of small songs: in an orderlist, in a pattern, an instrument and in the wave table, of features and of
 /// facts, with others beside them that are later, or that aren't used; the place of a vibrato, which is that of its
 /// parameter; and the places of parts that several features or facts have in common.
-#[tactic(auto, using(crate::proofs::WorkedPlaces::transposes_are_worked, crate::proofs::WorkedPlaces::portamentos_are_worked, crate::proofs::WorkedPlaces::tables_are_worked, crate::proofs::WorkedPlaces::vibratos_are_worked, crate::proofs::WorkedFactPlaces::gate_notes_are_worked, crate::proofs::WorkedFactPlaces::facts_are_worked, crate::proofs::CommonPlaces::common_places_are_worked, crate::proofs::SharedPlaces::row_places_are_worked, crate::proofs::SharedPlaces::wave_places_are_worked))]
+#[tactic(auto, using(crate::proofs::WorkedPlaces::transposes_are_worked, crate::proofs::WorkedPlaces::portamentos_are_worked, crate::proofs::WorkedPlaces::tables_are_worked, crate::proofs::WorkedPlaces::vibratos_are_worked, crate::proofs::WorkedFactPlaces::gate_notes_are_worked, crate::proofs::WorkedFactPlaces::facts_are_worked, crate::proofs::CommonPlaces::common_places_are_worked, crate::proofs::SharedPlaces::row_places_are_worked, crate::proofs::SharedPlaces::wave_places_are_worked, crate::proofs::FilterPlaces::filter_places_are_worked))]
 pub fn worked_places()
     ensures orders { TransposesAreWorked }
     ensures patterns { PortamentosAreWorked }
@@ -33,6 +33,7 @@ pub fn worked_places()
     ensures common { CommonPlacesAreWorked }
     ensures rows { RowPlacesAreWorked }
     ensures wave { WavePlacesAreWorked }
+    ensures filter { FilterPlacesAreWorked }
 {}
 
 /// Which of two places comes first.

@@ -131,7 +131,7 @@ fn fact_place(song: &Song, parts: &UsedParts, part: u8) -> Option<Place>
     first
 }
 
-/// The first place of a song that needs a part of the player, 0 to 52: the earliest of the first places of the features
+/// The first place of a song that needs a part of the player, 0 to 54: the earliest of the first places of the features
 /// and facts that keep it. None where no place does, as with the parts of the options, 24 to 27.
 pub fn part_place(song: &Song, parts: &UsedParts, part: u8) -> Option<Place>
     requires { AreUsedParts song.now parts.now }
