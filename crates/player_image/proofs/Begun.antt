@@ -5,25 +5,35 @@ use Rattle.std.proofs.lemmas.Bool.{or_cases, and_parts, cases_lt, leb-true, eqb-
 use Rattle.std.proofs.lemmas.List.{ext_get_or}
 use Rattle.play_model.specs.State.{Common}
 use Rattle.player_memory.specs.declared.labels.TheConstants.{VARIABLES, LENT, KEPT_COMMAND, KEPT_PARAM}
+use Rattle.player_memory.specs.declared.variables.Kept.{Kept}
+use Rattle.player_memory.specs.declared.variables.Kept.TheVariants.{Always, Where, Else}
 use Rattle.player_memory.specs.declared.variables.VoiceByte.{VoiceByte}
 use Rattle.player_memory.specs.declared.variables.CommonByte.{CommonByte}
 use Rattle.player_memory.specs.declared.variables.TheConstants.{VOICE_BYTES, COMMON_BYTES, SONG_BYTES}
-use Rattle.player_memory.specs.Variables.{CommonRowsStand}
+use Rattle.player_memory.specs.Variables.{stands}
 use Rattle.player_memory.specs.Playing.{own_at, AreSame}
-use Rattle.player_memory.specs.Starting.{common_with, VoiceRowsBegin, SongRowsBegin, AreZero, Begins}
+use Rattle.player_memory.specs.Starting.{common_with, VoiceRowsBegin, SongRowsBegin, CommonRowsBegin, AreZero, Begins}
 use Rattle.player_image.specs.Images.{numbered}
 
 -- ---- what begins by the same rows is the same
 
-abbrev labels_of : {X : Type 0} → List (ℕ × X) → List ℕ
+abbrev labels_of : {X Y : Type 0} → List (ℕ × X × Y) → List ℕ
 labels_of [] = []
 labels_of (row ∷ rows) = row.0 ∷ labels_of rows
 
-voice_same : (rows : List (ℕ × VoiceByte)) (tempo : ℕ) (one two : ℕ → ℕ) → VoiceRowsBegin rows tempo one →
-    VoiceRowsBegin rows tempo two → AreSame (labels_of rows) one two
+-- where all lines are kept each byte holds something
+all_stand : (kept : Kept) → stands numbered.holds kept ≡ true
+all_stand Always = refl
+all_stand (Where condition) = refl
+all_stand (Else condition number) = refl
+
+voice_same : (rows : List (ℕ × VoiceByte × Kept)) (tempo : ℕ) (one two : ℕ → ℕ) →
+    VoiceRowsBegin numbered.holds rows tempo one → VoiceRowsBegin numbered.holds rows tempo two →
+    AreSame (labels_of rows) one two
 voice_same [] tempo one two here there = tt
 voice_same (row ∷ rows) tempo one two here there =
-    (here.0 ∙ sym there.0, voice_same rows tempo one two here.1 there.1)
+    let on = all_stand row.2 in
+    (here.0 on ∙ sym (there.0 on), voice_same rows tempo one two here.1 there.1)
 
 song_same : (labels : List ℕ) (address : ℕ) (one two : ℕ → ℕ) → SongRowsBegin labels address one →
     SongRowsBegin labels address two → AreSame labels one two
@@ -31,11 +41,13 @@ song_same [] address one two here there = tt
 song_same (label ∷ labels) address one two here there =
     (here.0 ∙ sym there.0, song_same labels address one two here.1 there.1)
 
-common_same : (rows : List (ℕ × CommonByte)) (c : Common) (one two : ℕ → ℕ) → CommonRowsStand rows c one →
-    CommonRowsStand rows c two → AreSame (labels_of rows) one two
+common_same : (rows : List (ℕ × CommonByte × Kept)) (c : Common) (one two : ℕ → ℕ) →
+    CommonRowsBegin numbered.holds rows c one → CommonRowsBegin numbered.holds rows c two →
+    AreSame (labels_of rows) one two
 common_same [] c one two here there = tt
 common_same (row ∷ rows) c one two here there =
-    (here.0 ∙ sym there.0, common_same rows c one two here.1 there.1)
+    let on = all_stand row.2 in
+    (here.0 on ∙ sym (there.0 on), common_same rows c one two here.1 there.1)
 
 zeros_same : (labels : List ℕ) (one two : ℕ → ℕ) → AreZero labels one → AreZero labels two → AreSame labels one two
 zeros_same [] one two here there = tt

@@ -11,16 +11,16 @@ use Rattle.asm6502.proofs.Laws.{kept-append}
 use Rattle.play_model.specs.declared.options.System.{System}
 use Rattle.play_model.specs.declared.options.System.TheVariants.{Pal, Ntsc}
 use Rattle.play_model.specs.Speeds.{IsSpeed, timer_value}
-use Rattle.scopes.specs.declared.line.Line.TheVariants.{With, Loop, End}
+use Rattle.scopes.specs.declared.line.Line.TheVariants.{With, When, Loop, End}
 use Rattle.scopes.specs.declared.line.Operand.TheVariants.{Number as Numeral}
 use Rattle.scopes.specs.Trees.{Tree, tree_of}
 use Rattle.scope_lines.specs.Instructions.{code}
 use Rattle.scope_lines.specs.Lines.{block_lines}
 use Rattle.scope_calls.specs.Entrances.{lead_lines, entrance_lines, entrance_size}
-use Rattle.player_memory.specs.declared.conditions.TheConstants.{TIMED}
+use Rattle.player_memory.specs.declared.conditions.TheConstants.{TIMED, FUNK_TEMPO}
 use Rattle.player_memory.specs.declared.labels.TheConstants.{LENT}
 use Rattle.player_text.specs.declared.init.TheConstants.{SUBTUNE_TAKEN, ALL_CLEARED}
-use Rattle.player_text.specs.declared.init.TheConstants.{FUNK_STARTED, VOICE_STARTED, TEMPO_STARTED}
+use Rattle.player_text.specs.declared.init.TheConstants.{FUNK_STARTED, VOICES_STARTED, VOICE_STARTED, TEMPO_STARTED}
 use Rattle.player_text.specs.declared.texts.Start.{Start}
 use Rattle.player_code.specs.declared.labels.TheConstants.{INIT_CODE}
 use Rattle.player_code.specs.CodeLines.{play_entrance, init_entrance, front_lines, middle_lines, code_lines}
@@ -47,8 +47,10 @@ taken_lines pointer holds = lead_lines (Some LENT) ++ block_lines INIT_CODE poin
 -- and behind them: the block's other lines, and the return
 abbrev started_tree : ℕ → ℕ → Tree
 started_tree tempo funk =
-    tree_of (ALL_CLEARED.now ++ With Lda (Numeral funk) ∷ (FUNK_STARTED.now ++ Loop 3 ∷ (VOICE_STARTED.now
-    ++ With Lda (Numeral tempo) ∷ (TEMPO_STARTED.now ++ End ∷ []))))
+    tree_of (ALL_CLEARED.now
+    ++ (When FUNK_TEMPO ∷ With Lda (Numeral funk) ∷ (FUNK_STARTED.now ++ End ∷ [])
+    ++ (VOICES_STARTED.now
+    ++ Loop 3 ∷ (VOICE_STARTED.now ++ With Lda (Numeral tempo) ∷ (TEMPO_STARTED.now ++ End ∷ [])))))
 
 abbrev started_block : ℕ → (ℕ → Bool) → ℕ → ℕ → List Line
 started_block pointer holds tempo funk =

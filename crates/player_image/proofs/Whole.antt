@@ -108,7 +108,7 @@ module _ (packed : PackedSong) (song : Song) (o : Options) (origin pointer : ℕ
       (start_of o).funk (first_order packed o origin pointer image.its.variables) _ at
       (λ voice few. sym (order_address voice few))
       (begins_moved numbered (plan_layout (plan_of packed o origin pointer image.its.variables image.its.lists))
-      (start_of o).tempo (start_of o).funk _ (slice_index image.its.variables) at
+      (start_of o).tempo (start_of o).funk _ (slice_index image.its.variables) at (λ condition on. refl)
       (λ label below. variables_stand packed o origin pointer image.its.variables image.its.lists laid at has label below)
       image.its.first)
 

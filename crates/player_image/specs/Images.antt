@@ -1,6 +1,7 @@
 -- What an image of a packed song is made of: the code of the lines that are kept for what it asks for and the options,
 -- with the variables as the first subtune begins, and the song's lists behind it. This is the project's own player.
-use Rattle.std.specs.Prelude.{◌≡◌, ℕ, ◌+◌, ◌&&◌, ◌||◌, nat_le, nat_lt, Bool, false, List, length, slice_index}
+use Rattle.std.specs.Prelude.{◌≡◌, ℕ, ◌+◌, ◌&&◌, ◌||◌, nat_le, nat_lt, Bool, true, false, List, length}
+use Rattle.std.specs.Prelude.{slice_index}
 use Rattle.play_model.specs.declared.options.Options.{Options}
 use Rattle.packed_form.specs.declared.packed_songs.PackedSong.{PackedSong}
 use Rattle.asm6502.specs.declared.lines.Line.{Line}
@@ -57,12 +58,12 @@ plan_of packed o origin pointer variables lists = record {
       (code_bytes packed o pointer variables + size_of lists);
 }
 
--- in a layout in which each label is its own place
+-- in a layout in which each label is its own place, and all lines are kept
 abbrev pub numbered : Layout
 numbered = record {
   address = λ label. label;
   pointer = 0;
-  holds = λ condition. false;
+  holds = λ condition. true;
   may_read = λ place. false;
   may_write = λ place. false;
 }
@@ -73,7 +74,8 @@ first_order packed o origin pointer variables voice =
     origin + code_bytes packed o pointer variables
     + slice_index (order_places (image_holds packed o NOTE_DEPENDENT) packed) voice
 
--- A listing of an image: the lists stand behind the code, and the variables begin as the first subtune does.
+-- A listing of an image: the lists stand behind the code, and the variables begin as the first subtune does where all
+-- lines are kept. So they are the same bytes whatever lines the code keeps, but for the addresses of the orderlists.
 pub record IsListingOf (packed : PackedSong) (o : Options) (origin pointer : ℕ) (listing : List Line) : Type 0 where
   pub variables : List ℕ
   pub lists : List Line

@@ -29,7 +29,8 @@ all_begun tempo funk orders =
     (with_voice 0 (slice_index orders 0) tempo (replicate VARIABLES 0))))
 
 each : (tempo funk : ℕ) (orders : List ℕ) (voice : ℕ) → voice < 3 →
-    VoiceBegins tempo (slice_index orders voice) (own_at numbered (slice_index (all_begun tempo funk orders)) voice)
+    VoiceBegins numbered.holds tempo (slice_index orders voice)
+    (own_at numbered (slice_index (all_begun tempo funk orders)) voice)
 each tempo funk orders zero few = assumption
 each tempo funk orders (suc zero) few = assumption
 each tempo funk orders (suc (suc zero)) few = assumption
