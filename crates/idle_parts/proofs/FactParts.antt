@@ -7,14 +7,15 @@ use Rattle.std.proofs.lemmas.Bool.Decides.{eqb_tells}
 use Rattle.play_model.specs.State.{Playing}
 use Rattle.scopes.specs.Desk.{Desk, Layout}
 use Rattle.scopes.specs.Trees.{Tree, NoneTree, ThenTree, WithTree, ScopeTree, LeaveTree, LeaveIfTree}
-use Rattle.scopes.specs.Trees.{WhenTree, NeverTree, tree_of}
+use Rattle.scopes.specs.Trees.{WhenTree, ChooseTree, NeverTree, tree_of}
 use Rattle.scopes.specs.declared.line.Operand.TheVariants.{Own, Number}
 use Rattle.scopes.specs.declared.line.Flag.TheVariants.{Zero, Carry as CarryFlag}
 use Rattle.scopes.specs.declared.line.Test.TheVariants.{On}
 use Rattle.cpu6502.specs.declared.mnemonic.Mnemonic.TheVariants.{Cmp, Lda, Sta}
 use Rattle.scopes.specs.Meaning.{Done, Left, each_one, ran}
 use Rattle.player_memory.specs.declared.conditions.TheConstants.{HELD_NOTE, LEGATO, NOTE_VIBRATO, VIBRATO_DELAY}
-use Rattle.player_memory.specs.declared.conditions.TheConstants.{ROW_ONCE, ROW_COMMAND, ROW_SLIDE}
+use Rattle.player_memory.specs.declared.conditions.TheConstants.{ROW_ONCE, ROW_COMMAND, ROW_SLIDE, EFFECTS, SWINGS}
+use Rattle.player_memory.specs.declared.conditions.TheConstants.{INSTRUMENT_VIBRATO}
 use Rattle.player_memory.specs.declared.labels.TheConstants.{INSTRUMENT, NEW_COMMAND, WAVE_POINTER}
 use Rattle.player_memory.specs.declared.labels.TheConstants.{GATE_TIMERS, VIBRATOS, DELAYS, COMMAND, PARAM}
 use Rattle.player_memory.specs.declared.labels.TheConstants.{VIB_TIME, VIB_DELAY, NEW_PARAM}
@@ -23,7 +24,7 @@ use Rattle.player_memory.specs.Playing.{IsListed}
 use Rattle.player_text.specs.declared.fetch.TheConstants.{GATE_CLOSED}
 use Rattle.player_text.specs.declared.tick.TheConstants.{NOTE_TAKEN, COMMAND_BEGUN, ONCE, BARE, SETTLED}
 use Rattle.player_text.specs.declared.joints.TheConstants.{DONE}
-use Rattle.idle_parts.specs.Idle.{Y, Carry, HoldsVoice, Idles, part}
+use Rattle.idle_parts.specs.Idle.{Y, HoldsVoice, Idles, part}
 use Rattle.idle_parts.specs.IdleParts.{FactsIdle}
 use Rattle.idle_parts.specs.Places.{RowsLeave, RowsEnd}
 use Rattle.idle_parts.proofs.Reading.{own_sees, own_writes, own_is, own_bytes}
@@ -98,13 +99,14 @@ put_same at here byte place is = elim (eqb_tells place here) [
 
 -- a delay of none, where none is left
 delay_idles : {layout : Layout} {rows voice : ℕ} {s : Playing} {desk : Desk} → HoldsVoice layout rows voice s desk →
-    IsListed layout rows desk.at DELAYS desk.cpu.y 255 → s.voice.vib_delay ≡ 0 →
+    layout.holds INSTRUMENT_VIBRATO ≡ true → IsListed layout rows desk.at DELAYS desk.cpu.y 255 →
+    s.voice.vib_delay ≡ 0 →
     Idles layout (part VIBRATO_DELAY 0 NOTE_TAKEN.now) desk (Y ∷ [])
-delay_idles {layout} {s = s} {desk} h listed none =
+delay_idles {layout} {s = s} {desk} h kept listed none =
     let sees = listed.reads in
     let is = listed.is in
     let writes = own_writes h VIB_DELAY (lit< tt) in
-    let its = own_is h VIB_DELAY 255 (lit< tt) ((own_bytes h).vib_delay ∙ ap (λ n. (n + 255) % 256) none) in
+    let its = own_is h VIB_DELAY 255 (lit< tt) ((own_bytes h).vib_delay kept ∙ ap (λ n. (n + 255) % 256) none) in
     let here : ℕ = (layout.address VIB_DELAY + desk.cpu.x) % 65536 in
     record {
       ends = rw (sees, is, writes) refl;
@@ -117,9 +119,9 @@ delay_idles {layout} {s = s} {desk} h listed none =
 pub facts_idle : {layout : Layout} {rows voice : ℕ} {s : Playing} {desk : Desk} →
     HoldsVoice layout rows voice s desk → FactsIdle layout rows voice s desk
 facts_idle {layout} {rows} {voice} {s} {desk} h = record {
-  tone = λ small other. (
+  tone = λ row small other. (
       let sees = own_sees h NEW_COMMAND (lit< tt) in
-      let is = own_is h NEW_COMMAND s.voice.new_command (lit< tt) (own_bytes h).new_command in
+      let is = own_is h NEW_COMMAND s.voice.new_command (lit< tt) ((own_bytes h).new_command row) in
       let z = other_turned s.voice.new_command small other in
       record {
         ends = rw (sees, is, z) refl;
@@ -128,9 +130,9 @@ facts_idle {layout} {rows} {voice} {s} {desk} h = record {
         decimal = rw (sees, is, z) refl;
         kept_are = rw (sees, is, z) (refl, tt);
       });
-  tone_next = λ small other. (
+  tone_next = λ row small other. (
       let sees = own_sees h NEW_COMMAND (lit< tt) in
-      let is = own_is h NEW_COMMAND s.voice.new_command (lit< tt) (own_bytes h).new_command in
+      let is = own_is h NEW_COMMAND s.voice.new_command (lit< tt) ((own_bytes h).new_command row) in
       let z = other_compared s.voice.new_command small other in
       record {
         ends = rw (sees, is, z) refl;
@@ -245,14 +247,17 @@ stored_command left high =
 pub rows_leave : {layout : Layout} {rows voice : ℕ} {s : Playing} {desk : Desk} →
     HoldsVoice layout rows voice s desk → RowsLeave layout rows voice s desk
 rows_leave {layout} {rows} {voice} {s} {desk} h = record {
-  bare = λ zero. rw zero refl;
-  none = λ none. (
+  bare = λ row none. (
       let sees = own_sees h NEW_COMMAND (lit< tt) in
-      let is = own_is h NEW_COMMAND 0 (lit< tt) ((own_bytes h).new_command ∙ none) in
+      let is = own_is h NEW_COMMAND 0 (lit< tt) ((own_bytes h).new_command row ∙ none) in
       rw (sees, is) refl);
-  once = λ kept high. (
+  none = λ row none. (
       let sees = own_sees h NEW_COMMAND (lit< tt) in
-      let is = own_is h NEW_COMMAND s.voice.new_command (lit< tt) (own_bytes h).new_command in
+      let is = own_is h NEW_COMMAND 0 (lit< tt) ((own_bytes h).new_command row ∙ none) in
+      rw (sees, is) refl);
+  once = λ row kept high. (
+      let sees = own_sees h NEW_COMMAND (lit< tt) in
+      let is = own_is h NEW_COMMAND s.voice.new_command (lit< tt) ((own_bytes h).new_command row) in
       let z = ne_eqb s.voice.new_command 0 (λ e. absurd (omega (arith, high, e))) in
       let c : nat_le 5 s.voice.new_command ≡ true = le-leb 5 s.voice.new_command high in
       rw (sees, is, z, kept, c) refl);
@@ -281,7 +286,7 @@ row_of first =
     ThenTree
     (ScopeTree ONCE
     (ThenTree first
-    (ThenTree (WithTree Sta (Own PARAM))
+    (ThenTree (WhenTree EFFECTS (ThenTree (WithTree Sta (Own PARAM)) NoneTree))
     (ThenTree (WhenTree ROW_ONCE (ThenTree (LeaveTree DONE) NoneTree)) NoneTree))))
     NoneTree
 
@@ -297,40 +302,49 @@ record Settles (layout : Layout) (first : Tree) (desk : Desk) : Type 0 where
   ends : (ran each_one layout first desk).outcome ≡ Done
   x : (ran each_one layout first desk).desk.cpu.x ≡ desk.cpu.x
 
--- where they do, the block leaves behind them
+-- where they do, the block leaves behind them, whether the parameter is kept
 row_ends : (layout : Layout) (first : Tree) (desk : Desk) → Settles layout first desk → layout.holds ROW_ONCE ≡ true →
-    layout.may_write ((layout.address PARAM + desk.cpu.x) % 65536) ≡ true →
+    layout.may_write ((layout.address PARAM + desk.cpu.x) % 65536) ≡ true → (k : Bool) → layout.holds EFFECTS ≡ k →
     (ran each_one layout (row_of first) desk).outcome ≡ Left DONE
-row_ends layout first desk s once writes =
+row_ends layout first desk s once writes true kept =
     let ends = s.ends in
     let x = s.x in
-    rw (ends, x, writes, once) refl
+    rw (ends, kept, x, writes, once) refl
+row_ends layout first desk s once writes false kept =
+    let ends = s.ends in
+    rw (ends, kept, once) refl
 
--- a row without a command, whether the lines that tell one are kept, and those that read a vibrato
+-- a row without a command, whether the lines that tell one are kept, and those that begin what it has instead, and
+-- those that read a vibrato
 bare_settles : {layout : Layout} {rows voice : ℕ} {s : Playing} {desk : Desk} → HoldsVoice layout rows voice s desk →
     s.voice.new_command ≡ 0 → layout.may_read ((layout.address VIBRATOS + desk.cpu.y) % 65536) ≡ true → (k : Bool) →
-    layout.holds ROW_COMMAND ≡ k → (v : Bool) → layout.holds NOTE_VIBRATO ≡ v → Settles layout settled desk
-bare_settles h none vibrato true told true reads =
+    layout.holds ROW_COMMAND ≡ k → (e : Bool) → layout.holds EFFECTS ≡ e → (v : Bool) → layout.holds NOTE_VIBRATO ≡ v →
+    Settles layout settled desk
+bare_settles h none vibrato true told true kept true reads =
     let sees = own_sees h NEW_COMMAND (lit< tt) in
-    let is = own_is h NEW_COMMAND 0 (lit< tt) ((own_bytes h).new_command ∙ none) in
+    let is = own_is h NEW_COMMAND 0 (lit< tt) ((own_bytes h).new_command told ∙ none) in
     let command = own_writes h COMMAND (lit< tt) in
     record {
-      ends = rw (sees, is, told, command, reads, vibrato) refl;
-      x = rw (sees, is, told, command, reads, vibrato) refl;
+      ends = rw (told, sees, is, kept, command, reads, vibrato) refl;
+      x = rw (told, sees, is, kept, command, reads, vibrato) refl;
     }
-bare_settles h none vibrato true told false reads =
+bare_settles h none vibrato true told true kept false reads =
     let sees = own_sees h NEW_COMMAND (lit< tt) in
-    let is = own_is h NEW_COMMAND 0 (lit< tt) ((own_bytes h).new_command ∙ none) in
+    let is = own_is h NEW_COMMAND 0 (lit< tt) ((own_bytes h).new_command told ∙ none) in
     let command = own_writes h COMMAND (lit< tt) in
-    record { ends = rw (sees, is, told, command, reads) refl; x = rw (sees, is, told, command, reads) refl }
-bare_settles h none vibrato false told true reads =
+    record { ends = rw (told, sees, is, kept, command, reads) refl; x = rw (told, sees, is, kept, command, reads) refl }
+bare_settles h none vibrato true told false kept v reads =
     let sees = own_sees h NEW_COMMAND (lit< tt) in
+    let is = own_is h NEW_COMMAND 0 (lit< tt) ((own_bytes h).new_command told ∙ none) in
+    record { ends = rw (told, sees, is, kept) refl; x = rw (told, sees, is, kept) refl }
+bare_settles h none vibrato false told true kept true reads =
     let command = own_writes h COMMAND (lit< tt) in
-    record { ends = rw (sees, told, command, reads, vibrato) refl; x = rw (sees, told, command, reads, vibrato) refl }
-bare_settles h none vibrato false told false reads =
-    let sees = own_sees h NEW_COMMAND (lit< tt) in
+    record { ends = rw (told, kept, command, reads, vibrato) refl; x = rw (told, kept, command, reads, vibrato) refl }
+bare_settles h none vibrato false told true kept false reads =
     let command = own_writes h COMMAND (lit< tt) in
-    record { ends = rw (sees, told, command, reads) refl; x = rw (sees, told, command, reads) refl }
+    record { ends = rw (told, kept, command, reads) refl; x = rw (told, kept, command, reads) refl }
+bare_settles h none vibrato false told false kept v reads =
+    record { ends = rw (told, kept) refl; x = rw (told, kept) refl }
 
 -- the lines in front of the parameter, by those of a command that runs, and those behind them
 abbrev settling : Tree → Tree → Tree
@@ -338,15 +352,16 @@ settling slide rest =
     ScopeTree SETTLED
     (ThenTree
     (ScopeTree BARE
-    (ThenTree (WithTree Lda (Own NEW_COMMAND))
     (ThenTree
-    (WhenTree ROW_COMMAND
+    (ChooseTree ROW_COMMAND
+    (ThenTree (WithTree Lda (Own NEW_COMMAND))
     (ThenTree (LeaveIfTree BARE (On Zero))
     (ThenTree
     (WhenTree ROW_ONCE
     (ThenTree (WithTree Cmp (Number 5)) (ThenTree (LeaveIfTree ONCE (On CarryFlag)) NoneTree)))
     (ThenTree (WhenTree ROW_SLIDE slide) NoneTree))))
-    NoneTree)))
+    (ThenTree (WithTree Lda (Number 0)) NoneTree))
+    NoneTree))
     rest)
 
 -- the desk where they are come to
@@ -360,16 +375,18 @@ record Slides (layout : Layout) (slide : Tree) (desk : Desk) : Type 0 where
   goes : (ran each_one layout slide desk).outcome ≡ Left SETTLED
   x : (ran each_one layout slide desk).desk.cpu.x ≡ desk.cpu.x
 
--- those of a command that runs do, from 3 up or not
+-- those of a command that runs do, whether a vibrato's time is kept, from 3 up or not
 row_slides : (layout : Layout) (desk : Desk) →
     layout.may_write ((layout.address COMMAND + desk.cpu.x) % 65536) ≡ true →
     layout.may_write ((layout.address VIB_TIME + desk.cpu.x) % 65536) ≡ true →
-    layout.may_read ((layout.address NEW_PARAM + desk.cpu.x) % 65536) ≡ true → (k : Bool) →
-    nat_le 3 desk.cpu.a ≡ k → Slides layout (part ROW_SLIDE 0 COMMAND_BEGUN.now) desk
-row_slides layout desk command time param true three =
-    record { goes = rw (command, three, param) refl; x = rw (command, three, param) refl }
-row_slides layout desk command time param false three =
-    record { goes = rw (command, three, time, param) refl; x = rw (command, three, time, param) refl }
+    layout.may_read ((layout.address NEW_PARAM + desk.cpu.x) % 65536) ≡ true → (w : Bool) → layout.holds SWINGS ≡ w →
+    (k : Bool) → nat_le 3 desk.cpu.a ≡ k → Slides layout (part ROW_SLIDE 0 COMMAND_BEGUN.now) desk
+row_slides layout desk command time param false swings k three =
+    record { goes = rw (command, swings, param) refl; x = rw (command, swings, param) refl }
+row_slides layout desk command time param true swings true three =
+    record { goes = rw (command, swings, three, param) refl; x = rw (command, swings, three, param) refl }
+row_slides layout desk command time param true swings false three =
+    record { goes = rw (command, swings, three, time, param) refl; x = rw (command, swings, three, time, param) refl }
 
 -- what a command from 1 to 4 finds kept
 record RunningKept (layout : Layout) (command : ℕ) : Type 0 where
@@ -389,15 +406,15 @@ running_settles layout slide desk command sees is c s =
     let goes = rw (row_told, sees, is, low) at s.goes in
     let x = rw (row_told, sees, is, low) at s.x in
     record {
-      ends = rw (sees, is, c.told, some, c.once, low, c.slide, goes) refl;
-      x = rw (sees, is, c.told, some, c.once, low, c.slide, goes) x;
+      ends = rw (c.told, sees, is, some, c.once, low, c.slide, goes) refl;
+      x = rw (c.told, sees, is, some, c.once, low, c.slide, goes) x;
     }
 
 running_ends : {layout : Layout} {rows voice : ℕ} {s : Playing} {desk : Desk} → HoldsVoice layout rows voice s desk →
     RunningKept layout s.voice.new_command → Settles layout settled desk
 running_ends {layout} {s = s} {desk} h c =
     let sees = own_sees h NEW_COMMAND (lit< tt) in
-    let is = own_is h NEW_COMMAND s.voice.new_command (lit< tt) (own_bytes h).new_command in
+    let is = own_is h NEW_COMMAND s.voice.new_command (lit< tt) ((own_bytes h).new_command c.told) in
     let told = row_told layout desk in
     let command : layout.may_write ((layout.address COMMAND + told.cpu.x) % 65536) ≡ true =
     rw (row_told, sees) (own_writes h COMMAND (lit< tt)) in
@@ -406,18 +423,19 @@ running_ends {layout} {s = s} {desk} h c =
     let param : layout.may_read ((layout.address NEW_PARAM + told.cpu.x) % 65536) ≡ true =
     rw (row_told, sees) (own_sees h NEW_PARAM (lit< tt)) in
     running_settles layout (part ROW_SLIDE 0 COMMAND_BEGUN.now) desk s.voice.new_command sees is c
-    (row_slides layout (row_told layout desk) command time param _ refl)
+    (row_slides layout (row_told layout desk) command time param _ refl _ refl)
 
 pub rows_end : {layout : Layout} {rows voice : ℕ} {s : Playing} {desk : Desk} →
     HoldsVoice layout rows voice s desk → RowsEnd layout rows voice s desk
 rows_end {layout} {s = s} {desk} h = record {
   bare = λ once none vibrato listed.
-      row_ends layout settled desk (bare_settles h none listed.reads _ refl _ refl) once (own_writes h PARAM (lit< tt));
+      row_ends layout settled desk (bare_settles h none listed.reads _ refl _ refl _ refl) once
+      (own_writes h PARAM (lit< tt)) _ refl;
   running = λ once told slide some low. row_ends layout settled desk (running_ends h (record {
     once = once;
     told = told;
     slide = slide;
     some = ne_eqb s.voice.new_command 0 (λ e. absurd (omega (arith, some, e)));
     low = lt-leb 5 s.voice.new_command low;
-  })) once (own_writes h PARAM (lit< tt));
+  })) once (own_writes h PARAM (lit< tt)) _ refl;
 }

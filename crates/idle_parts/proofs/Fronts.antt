@@ -25,9 +25,9 @@ fronts_end {layout} {rows} {voice} {s} {desk} h = record {
       let writes = own_writes h TICK (lit< tt) in
       let sees_tempo = own_sees h 89 (lit< tt) in
       rw (sees, is, writes, sees_tempo) refl);
-  vibrato = λ none. (
+  vibrato = λ kept none. (
       let sees = own_sees h COMMAND (lit< tt) in
-      let is = own_is h COMMAND 0 (lit< tt) ((own_bytes h).command ∙ none) in
+      let is = own_is h COMMAND 0 (lit< tt) ((own_bytes h).command kept ∙ none) in
       rw (sees, is) refl);
   command = λ left some listed high. (
       let sees = own_sees h WAVE_POINTER (lit< tt) in
@@ -53,9 +53,9 @@ pub commands_are_found : CommandsAreFound
 commands_are_found layout rows voice s desk h row kept high =
     let some : s.voice.new_command ≢ 0 = λ e. absurd (omega (arith, high, e)) in
     let sees = own_sees h NEW_COMMAND (lit< tt) in
-    let is = own_is h NEW_COMMAND s.voice.new_command (lit< tt) (own_bytes h).new_command in
+    let is = own_is h NEW_COMMAND s.voice.new_command (lit< tt) ((own_bytes h).new_command row) in
     let sees_param = own_sees h NEW_PARAM (lit< tt) in
-    let is_param = own_is h NEW_PARAM s.voice.new_param (lit< tt) ((own_bytes h).new_param some) in
+    let is_param = own_is h NEW_PARAM s.voice.new_param (lit< tt) ((own_bytes h).new_param row some) in
     let z = ne_eqb s.voice.new_command 0 some in
     let c : nat_le 5 s.voice.new_command ≡ true = le-leb 5 s.voice.new_command high in
     record {
@@ -68,9 +68,9 @@ commands_are_found layout rows voice s desk h row kept high =
     }
 
 pub effects_are_found : EffectsAreFound
-effects_are_found layout rows voice s desk h out =
+effects_are_found layout rows voice s desk h effects out =
     let sees = own_sees h PARAM (lit< tt) in
-    let is = own_is h PARAM s.voice.param (lit< tt) (own_bytes h).param in
+    let is = own_is h PARAM s.voice.param (lit< tt) ((own_bytes h).param effects) in
     record {
       ends = rw (sees, out) refl;
       a_is = rw (sees, out) refl;

@@ -5,7 +5,7 @@ use Rattle.std.proofs.lemmas.Bool.{le-leb, lt-leb, ne_eqb, eq-eqb}
 use Rattle.std.proofs.lemmas.Bool.Decides.{eqb_tells}
 use Rattle.play_model.specs.State.{Playing}
 use Rattle.scopes.specs.Desk.{Desk, Layout}
-use Rattle.player_memory.specs.declared.conditions.TheConstants.{INSTRUMENT_VIBRATO, SKIP_EFFECTS}
+use Rattle.player_memory.specs.declared.conditions.TheConstants.{INSTRUMENT_VIBRATO, SKIP_EFFECTS, EFFECTS}
 use Rattle.player_memory.specs.declared.labels.TheConstants.{TICK, COMMAND, PARAM, VIB_DELAY, TRANSPOSE, REPEAT, LENT}
 use Rattle.player_memory.specs.declared.labels.TheConstants.{FILTER_POINTER}
 use Rattle.player_text.specs.declared.effect.TheConstants.{EFFECT_BEGUN}
@@ -131,11 +131,12 @@ some_idles layout desk param tick delay c some (inr (inr out)) =
 
 -- the vibrato's parameter is 0, its delay 255, or the step is left out
 vibrato_idles : {layout : Layout} {rows voice : ℕ} {s : Playing} {desk : Desk} → HoldsVoice layout rows voice s desk →
+    layout.holds EFFECTS ≡ true → layout.holds INSTRUMENT_VIBRATO ≡ true →
     (s.voice.param ≡ 0) ⊎ (s.voice.vib_delay ≡ 0) ⊎ ((layout.holds SKIP_EFFECTS ≡ true) × (s.voice.tick ≡ 0)) →
     Idles layout (part INSTRUMENT_VIBRATO 0 EFFECT_BEGUN.now) desk []
-vibrato_idles {layout} {rows} {voice} {s} {desk} h clear =
+vibrato_idles {layout} {rows} {voice} {s} {desk} h effects kept clear =
     let sees = own_sees h PARAM (lit< tt) in
-    let is = own_is h PARAM s.voice.param (lit< tt) (own_bytes h).param in
+    let is = own_is h PARAM s.voice.param (lit< tt) ((own_bytes h).param effects) in
     elim (eqb_tells s.voice.param 0) [
       | inl bare ↦ (
           let z = bare.0 in
@@ -153,16 +154,16 @@ vibrato_idles {layout} {rows} {voice} {s} {desk} h clear =
         sees_tick = own_sees h TICK (lit< tt);
         is_tick = own_is h TICK s.voice.tick (lit< tt) (own_bytes h).tick;
         sees_delay = own_sees h VIB_DELAY (lit< tt);
-        is_delay = own_is h VIB_DELAY ((s.voice.vib_delay + 255) % 256) (lit< tt) (own_bytes h).vib_delay;
+        is_delay = own_is h VIB_DELAY ((s.voice.vib_delay + 255) % 256) (lit< tt) ((own_bytes h).vib_delay kept);
       }) some.1 clear
     ]
 
 pub effects_idle : {layout : Layout} {rows voice : ℕ} {s : Playing} {desk : Desk} →
     HoldsVoice layout rows voice s desk → EffectsIdle layout rows voice s desk
 effects_idle {layout} {rows} {voice} {s} {desk} h = record {
-  vibrato = λ none came. (
+  vibrato = λ effects kept none came. (
       let sees = own_sees h COMMAND (lit< tt) in
-      let is = own_is h COMMAND s.voice.command (lit< tt) (own_bytes h).command in
+      let is = own_is h COMMAND s.voice.command (lit< tt) ((own_bytes h).command effects) in
       elim (eqb_tells s.voice.command 0) [
         | inl runs ↦ (
             let z = runs.0 in
@@ -174,17 +175,17 @@ effects_idle {layout} {rows} {voice} {s} {desk} h = record {
               at_voice = record { x = rw (sees, is, z) h.at_voice.x; decimal = rw (sees, is, z) h.at_voice.decimal };
               plays = rw (sees, is, z) h.plays;
             } in
-            vibrato_idles there none)
+            vibrato_idles there effects kept none)
         | inr other ↦ (let z = other.0 in let bad = rw (sees, is, z) at came in absurd (cc))
       ]);
-  speed = λ command left listed low runs a came. (
+  speed = λ effects command left listed low runs a came. (
       let sees = own_sees h PARAM (lit< tt) in
-      let is = own_is h PARAM s.voice.param (lit< tt) (own_bytes h).param in
+      let is = own_is h PARAM s.voice.param (lit< tt) ((own_bytes h).param effects) in
       let sees_row = listed.reads in
       let is_row = listed.is in
       let n : nat_le 128 left ≡ false = lt-leb 128 left low in
       let sees_command = own_sees h COMMAND (lit< tt) in
-      let is_command = own_is h COMMAND s.voice.command (lit< tt) (own_bytes h).command in
+      let is_command = own_is h COMMAND s.voice.command (lit< tt) ((own_bytes h).command effects) in
       elim runs [
         | inl some ↦ (
             let z = ne_eqb s.voice.command 0 some.0 in

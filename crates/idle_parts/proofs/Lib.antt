@@ -9,5 +9,7 @@ mod PartList
 mod Fronts
 mod PartPlaces
 mod LeftOut
+-- The lines of the bytes that are kept under a condition.
+mod KeptBytes
 -- Where they do something.
 mod WorkedParts

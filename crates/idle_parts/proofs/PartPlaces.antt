@@ -15,6 +15,7 @@ parts_are_come_to = record {
   rises = refl;
   falls = refl;
   found = refl;
+  running = refl;
   commanded = refl;
   up_ends = refl;
   commanded_ends = refl;

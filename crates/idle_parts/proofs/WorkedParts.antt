@@ -4,6 +4,7 @@ use Rattle.std.proofs.Common.{◌∙◌, lit<, arith, [], ◌∷◌}
 use Rattle.std.proofs.lemmas.Bool.{le-leb}
 use Rattle.play_model.specs.State.{Playing}
 use Rattle.scopes.specs.Desk.{Desk, Layout}
+use Rattle.scopes.specs.Meaning.{Outcome, Left}
 use Rattle.player_memory.specs.declared.conditions.TheConstants.{SET_AD, GATE_NOTE, ROW_TONE}
 use Rattle.player_memory.specs.declared.conditions.TheConstants.{HELD_NOTE, LEGATO}
 use Rattle.player_text.specs.declared.commands.TheConstants.{AD_SET}
@@ -12,7 +13,7 @@ use Rattle.player_text.specs.declared.tick.TheConstants.{NOTE_TAKEN}
 use Rattle.idle_parts.specs.Idle.{Carry, HoldsVoice, Idles, part}
 use Rattle.idle_parts.specs.WorkedParts.{PartsAreWorked}
 use Rattle.player_memory.specs.declared.labels.TheConstants.{AD, GATE, PULSE_POINTER, PULSE_TIME, NEW_COMMAND, VIB_DELAY}
-use Rattle.player_memory.specs.declared.labels.TheConstants.{TEMPO_THREE}
+use Rattle.player_memory.specs.declared.labels.TheConstants.{TEMPO_THREE, WAVE_TIME}
 use Rattle.player_memory.specs.declared.labels.TheConstants.{FILTER_POINTER, FILTER_TIME}
 use Rattle.player_memory.specs.declared.labels.TheConstants.{NEW_NOTE, INSTRUMENT, GATE_TIMERS}
 use Rattle.player_memory.specs.Playing.{IsListed}
@@ -68,6 +69,11 @@ held_works {s = s} h off listed false kept i =
     let c = rw (sees, is, sees_timer, is_timer, kept, off) at i.kept_are.0 in
     absurd (cc)
 
+-- the scope that is left, 0 where none is
+abbrev name_of : Outcome → ℕ
+name_of (Left name) = name
+name_of outcome = 0
+
 pub parts_are_worked : PartsAreWorked
 parts_are_worked = record {
   done = λ layout desk five other. done_works layout desk five other _ refl;
@@ -113,11 +119,11 @@ parts_are_worked = record {
   mask_alone = λ layout desk some high i. (
       let c : nat_le 0xFE desk.cpu.a ≡ true = le-leb 0xFE desk.cpu.a high in
       let bad = rw (some, c) at i.ends in absurd (cc));
-  delay = λ layout rows voice s desk h none listed i. (
+  delay = λ layout rows voice s desk h kept none listed i. (
       let sees = listed.reads in
       let is = listed.is in
       let writes = own_writes h VIB_DELAY (lit< tt) in
-      let its = own_is h VIB_DELAY 255 (lit< tt) ((own_bytes h).vib_delay ∙ ap (λ n. (n + 255) % 256) none) in
+      let its = own_is h VIB_DELAY 255 (lit< tt) ((own_bytes h).vib_delay kept ∙ ap (λ n. (n + 255) % 256) none) in
       let here : ℕ = (layout.address VIB_DELAY + desk.cpu.x) % 65536 in
       let same : nat_eq here here ≡ true = eq-eqb here here refl in
       let stays = i.stays here in
@@ -154,4 +160,23 @@ parts_are_worked = record {
       let stays = i.stays here in
       let e = rw (sees, is, pointer, writes, same) at stays in
       absurd (omega (arith, e, time)));
+  cutoff = λ i. (let a = i.kept_are.0 in absurd (cc));
+  width_high = λ i. (let a = i.kept_are.0 in absurd (cc));
+  volume = λ alike. (let a = alike.a_is in absurd (cc));
+  width_low = λ alike. (let a = alike.a_is in absurd (cc));
+  bare = λ clears. (let way = clears.ends in absurd (cc));
+  runs = λ leaves. (let name : 134 ≡ 132 = ap name_of leaves.goes in absurd (omega (arith, name)));
+  stored = λ i. (let stays = i.stays WAVE_TIME tt in absurd (cc));
+  stored_by = λ i. (let a = i.kept_are.0 in absurd (cc));
+  read = refl;
+  read_under = refl;
+  read_else = refl;
+  stores = refl;
+  counts = refl;
+  no_tone = refl;
+  no_once = refl;
+  no_lent = refl;
+  no_filter = refl;
+  one_ends = refl;
+  none_ends = refl;
 }

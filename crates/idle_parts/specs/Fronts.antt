@@ -7,7 +7,7 @@ use Rattle.scopes.specs.Trees.{tree_of}
 use Rattle.scopes.specs.Meaning.{Ran, Done, each_one, ran}
 use Rattle.player_memory.specs.declared.conditions.TheConstants.{FUNK_TEMPO, WAVE_COMMAND, INSTRUMENT_VIBRATO}
 use Rattle.player_memory.specs.declared.conditions.TheConstants.{NOTE_DEPENDENT, TRANSPOSES, REPEATS, ROW_COMMAND}
-use Rattle.player_memory.specs.declared.conditions.TheConstants.{ROW_ONCE}
+use Rattle.player_memory.specs.declared.conditions.TheConstants.{ROW_ONCE, EFFECTS}
 use Rattle.player_memory.specs.declared.labels.TheConstants.{WAVE_LEFTS, WAVE_RIGHTS}
 use Rattle.player_memory.specs.declared.labels.TheConstants.{REPEAT}
 use Rattle.player_memory.specs.Forms.{stored_left}
@@ -22,11 +22,12 @@ use Rattle.idle_parts.specs.Idle.{HoldsVoice, met}
 
 -- ---- the laws aren't empty
 
--- a block comes to a part where its own rule is due: the tick falls below 0, no command runs, or the row of the wave
--- program isn't a waveform
+-- a block comes to a part where its own rule is due: the tick falls below 0, no command runs where one may, or the row
+-- of the wave program isn't a waveform
 pub record FrontsEnd (layout : Layout) (rows voice : ℕ) (s : Playing) (desk : Desk) : Type 0 where
   pub tempo : s.voice.tick ≡ 0 → (met layout FUNK_TEMPO FRAME_COUNTED.now desk).outcome ≡ Done
-  pub vibrato : s.voice.command ≡ 0 → (met layout INSTRUMENT_VIBRATO EFFECT_BEGUN.now desk).outcome ≡ Done
+  pub vibrato : layout.holds EFFECTS ≡ true → s.voice.command ≡ 0 →
+      (met layout INSTRUMENT_VIBRATO EFFECT_BEGUN.now desk).outcome ≡ Done
   pub command : (left : ℕ) → s.voice.wave_ptr ≢ 0 → IsListed layout rows desk.at WAVE_LEFTS s.voice.wave_ptr left →
       0xE0 ≤ left → (met layout WAVE_COMMAND WAVE_STEP.now desk).outcome ≡ Done
 
@@ -58,7 +59,7 @@ CommandsAreFound =
 abbrev pub EffectsAreFound : Type 0
 EffectsAreFound =
     (layout : Layout) (rows voice : ℕ) (s : Playing) (desk : Desk) → HoldsVoice layout rows voice s desk →
-    layout.holds NOTE_DEPENDENT ≡ false →
+    layout.holds EFFECTS ≡ true → layout.holds NOTE_DEPENDENT ≡ false →
     Finds desk.cpu.a s.voice.param (ran each_one layout (tree_of SPEED_STEP.now) desk) desk
 
 -- the transpose finds the note in A, and the carry off

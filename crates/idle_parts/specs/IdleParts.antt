@@ -1,5 +1,7 @@
 -- Where each of the player's parts does nothing: from any memory that holds a state which keeps clear of it. What a block
--- finds in registers is said with the block's own lines. This is the project's own player.
+-- finds in registers is said with the block's own lines. A law on lines that read a byte which is kept under a
+-- condition alone has that condition as a premise: it is about layouts that keep the byte. This is the project's own
+-- player.
 use Rattle.std.specs.Prelude.{◌≡◌, ◌≢◌, ℕ, ◌+◌, ◌%◌, ◌<◌, ◌≤◌, ◌⊎◌, true, false, List, [], ◌∷◌}
 use Rattle.play_model.specs.State.{Playing, Common}
 use Rattle.play_model.specs.TickStep.{tempo_of}
@@ -17,6 +19,7 @@ use Rattle.player_memory.specs.declared.conditions.TheConstants.{NO_HARD_RESTART
 use Rattle.player_memory.specs.declared.conditions.TheConstants.{NOTE_VIBRATO, VIBRATO_DELAY, NOTE_PULSE, NOTE_FILTER}
 use Rattle.player_memory.specs.declared.conditions.TheConstants.{VOICE_TEMPO, COMMON_TEMPO, FUNK_TURNS, FUNK_CHOICE}
 use Rattle.player_memory.specs.declared.conditions.TheConstants.{PORTA_DOWN, TONE_PORTA, TIE_NOTE, TRANSPOSES, REPEATS}
+use Rattle.player_memory.specs.declared.conditions.TheConstants.{EFFECTS, ROW_COMMAND}
 use Rattle.player_memory.specs.declared.labels.TheConstants.{WAVE_LEFTS, SPEED_LEFTS, GATE_TIMERS, LENT}
 use Rattle.player_memory.specs.declared.labels.TheConstants.{TRANSPOSE, REPEAT, DELAYS, VIBRATOS, PULSES, FILTERS}
 use Rattle.player_memory.specs.Rooms.{IsRoom, MayUse}
@@ -94,10 +97,12 @@ pub record ProgramsIdle (layout : Layout) (rows voice : ℕ) (s : Playing) (desk
 pub record EffectsIdle (layout : Layout) (rows voice : ℕ) (s : Playing) (desk : Desk) : Type 0 where
   -- the instrument's vibrato, where no command runs: it has no parameter, or a delay of 0, which never ends, or the step
   -- is left out
-  pub vibrato : (s.voice.param ≡ 0) ⊎ (s.voice.vib_delay ≡ 0) ⊎ ((layout.holds SKIP_EFFECTS ≡ true) × (s.voice.tick ≡ 0)) →
+  pub vibrato : layout.holds EFFECTS ≡ true → layout.holds INSTRUMENT_VIBRATO ≡ true →
+      (s.voice.param ≡ 0) ⊎ (s.voice.vib_delay ≡ 0) ⊎ ((layout.holds SKIP_EFFECTS ≡ true) × (s.voice.tick ≡ 0)) →
       IdlesWhereMet layout INSTRUMENT_VIBRATO EFFECT_BEGUN.now desk []
   -- the left side of the row of the speed table is below $80; A is the command that runs, 4 for the instrument's vibrato
-  pub speed : (command left : ℕ) → IsListed layout rows desk.at SPEED_LEFTS s.voice.param left → left < 0x80 →
+  pub speed : layout.holds EFFECTS ≡ true → (command left : ℕ) →
+      IsListed layout rows desk.at SPEED_LEFTS s.voice.param left → left < 0x80 →
       ((s.voice.command ≢ 0) × (command ≡ s.voice.command)) ⊎ ((s.voice.command ≡ 0) × (command ≡ 4)) →
       desk.cpu.a ≡ command →
       IdlesWhereMet layout NOTE_DEPENDENT SPEED_STEP.now desk (A ∷ Y ∷ [])
@@ -130,9 +135,9 @@ pub record FetchesIdle (layout : Layout) (voice : ℕ) (desk : Desk) : Type 0 wh
 
 pub record FactsIdle (layout : Layout) (rows voice : ℕ) (s : Playing) (desk : Desk) : Type 0 where
   -- the row's command isn't 3: where a note is taken, and where the gate is closed before one
-  pub tone : s.voice.new_command < 256 → s.voice.new_command ≢ 3 →
+  pub tone : layout.holds ROW_COMMAND ≡ true → s.voice.new_command < 256 → s.voice.new_command ≢ 3 →
       Idles layout (part ROW_TONE 0 NOTE_TAKEN.now) desk (Y ∷ [])
-  pub tone_next : s.voice.new_command < 256 → s.voice.new_command ≢ 3 →
+  pub tone_next : layout.holds ROW_COMMAND ≡ true → s.voice.new_command < 256 → s.voice.new_command ≢ 3 →
       Idles layout (part ROW_TONE 0 GATE_CLOSED.now) desk (Y ∷ [])
   -- A is the row's command; one below 5 isn't done once
   pub once : desk.cpu.a < 5 → Idles layout (part ROW_ONCE 0 COMMAND_BEGUN.now) desk (A ∷ Y ∷ [])
@@ -140,7 +145,8 @@ pub record FactsIdle (layout : Layout) (rows voice : ℕ) (s : Playing) (desk : 
   pub mask : desk.cpu.z ≡ false → desk.cpu.a < 0xFE → Idles layout (part FIRST_MASK 0 NOTE_BEGUN.now) desk (A ∷ Y ∷ [])
   -- Y is the instrument: its vibrato's delay is stored as 255, as is the voice's; its vibrato is 0, as is A, where a note
   -- begins and where a row has no command; and it has no pulse program and no filter program
-  pub delay : IsListed layout rows desk.at DELAYS desk.cpu.y 255 → s.voice.vib_delay ≡ 0 →
+  pub delay : layout.holds INSTRUMENT_VIBRATO ≡ true → IsListed layout rows desk.at DELAYS desk.cpu.y 255 →
+      s.voice.vib_delay ≡ 0 →
       Idles layout (part VIBRATO_DELAY 0 NOTE_TAKEN.now) desk (Y ∷ [])
   pub vibrato : IsListed layout rows desk.at VIBRATOS desk.cpu.y 0 → desk.cpu.a ≡ 0 →
       Idles layout (part NOTE_VIBRATO 0 NOTE_BEGUN.now) desk (A ∷ Y ∷ [])
@@ -170,5 +176,5 @@ pub record FactsIdle (layout : Layout) (rows voice : ℕ) (s : Playing) (desk : 
 abbrev pub FiltersIdle : Type 0
 FiltersIdle =
     (layout : Layout) (rows : ℕ) (c : Common) (desk : Desk) → IsRoom layout rows → MayUse layout rows →
-    CommonBytesStand c (shared_at layout desk.at) → c.filter_ptr ≡ 0 →
+    CommonBytesStand layout.holds c (shared_at layout desk.at) → c.filter_ptr ≡ 0 →
     Idles layout (part FILTER_TABLE 0 FILTER_STEP.now) desk []

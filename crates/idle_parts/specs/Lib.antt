@@ -5,5 +5,6 @@ pub mod PartList
 pub mod Fronts
 pub mod Places
 pub mod LeftOut
+pub mod KeptBytes
 -- Worked by hand.
 pub mod WorkedParts

@@ -1,12 +1,12 @@
 -- How the parts that no clear state comes to are come to. This is the project's own player.
-use Rattle.std.specs.Prelude.{◌≡◌, ◌≢◌, ℕ, ◌<◌, ◌≤◌, ◌==◌, if◌then◌else◌, Bool, true, false, ◌&&◌, List, [], ◌∷◌, ◌++◌, map}
+use Rattle.std.specs.Prelude.{◌≡◌, ◌≢◌, ℕ, ◌<◌, ◌≤◌, ◌==◌, if◌then◌else◌, Bool, true, false, ◌&&◌, ◌||◌, List, [], ◌∷◌, ◌++◌, map}
 use Rattle.scopes.specs.Desk.{Desk, Layout}
 use Rattle.scopes.specs.Trees.{Tree, ThenTree, ScopeTree, LeaveTree, LeaveIfTree, LoopTree, AgainTree, WhenTree}
 use Rattle.scopes.specs.Trees.{ChooseTree, NeverTree, tree_of}
 use Rattle.scopes.specs.Meaning.{Left, each_one, ran}
 use Rattle.player_memory.specs.declared.conditions.TheConstants.{PORTA_UP, PORTA_DOWN, TONE_PORTA, TIE_NOTE}
-use Rattle.player_memory.specs.declared.conditions.TheConstants.{NOTE_DEPENDENT, SWINGS, WAVE_TABLE, WAVE_COMMAND}
-use Rattle.player_text.specs.declared.joints.TheConstants.{UP, DOWN, RISES, FALLS, FOUND, COMMANDED}
+use Rattle.player_memory.specs.declared.conditions.TheConstants.{NOTE_DEPENDENT, SWINGS, WAVE_TABLE, WAVE_COMMAND, EFFECTS}
+use Rattle.player_text.specs.declared.joints.TheConstants.{UP, DOWN, RISES, FALLS, FOUND, RUNNING, COMMANDED}
 use Rattle.player_text.specs.declared.slide.TheConstants.{PORTA_STEP}
 use Rattle.player_text.specs.Texts.{voice_tree}
 use Rattle.player_text.specs.Steps.{effect_tree, tick_tree}
@@ -52,19 +52,22 @@ may_end (ThenTree first rest) = may_end first && may_end rest
 may_end (LeaveTree name) = false
 may_end AgainTree = false
 may_end NeverTree = false
+may_end (ChooseTree condition this other) = may_end this || may_end other
 may_end tree = true
 
 -- What moves the frequency up or down, and what finds the note, is left to from the lines of the features that ask for it
--- alone, and the commands of the wave table from theirs; and what stands in front of the first of each doesn't come to its
--- own end.
+-- alone, and the commands of the wave table from theirs; the effect step from where an effect may run, and from those
+-- commands. What stands in front of the first of each doesn't come to its own end.
 pub record PartsAreComeTo : Type 0 where
   pub up : leaves UP effect_tree
-      ≡ (SWINGS ∷ NOTE_DEPENDENT ∷ []) ∷ (PORTA_UP ∷ []) ∷ (TONE_PORTA ∷ []) ∷ []
+      ≡ (EFFECTS ∷ SWINGS ∷ NOTE_DEPENDENT ∷ []) ∷ (EFFECTS ∷ PORTA_UP ∷ []) ∷ (EFFECTS ∷ TONE_PORTA ∷ []) ∷ []
   pub down : leaves DOWN effect_tree
-      ≡ (SWINGS ∷ NOTE_DEPENDENT ∷ []) ∷ (PORTA_DOWN ∷ []) ∷ (TONE_PORTA ∷ []) ∷ []
-  pub rises : leaves RISES effect_tree ≡ (SWINGS ∷ []) ∷ []
-  pub falls : leaves FALLS effect_tree ≡ (SWINGS ∷ []) ∷ []
-  pub found : leaves FOUND effect_tree ≡ (TIE_NOTE ∷ []) ∷ (TONE_PORTA ∷ []) ∷ (TONE_PORTA ∷ []) ∷ []
+      ≡ (EFFECTS ∷ SWINGS ∷ NOTE_DEPENDENT ∷ []) ∷ (EFFECTS ∷ PORTA_DOWN ∷ []) ∷ (EFFECTS ∷ TONE_PORTA ∷ []) ∷ []
+  pub rises : leaves RISES effect_tree ≡ (EFFECTS ∷ SWINGS ∷ []) ∷ []
+  pub falls : leaves FALLS effect_tree ≡ (EFFECTS ∷ SWINGS ∷ []) ∷ []
+  pub found : leaves FOUND effect_tree
+      ≡ (EFFECTS ∷ TIE_NOTE ∷ []) ∷ (EFFECTS ∷ TONE_PORTA ∷ []) ∷ (EFFECTS ∷ TONE_PORTA ∷ []) ∷ []
+  pub running : leaves RUNNING voice_tree ≡ (EFFECTS ∷ []) ∷ (WAVE_COMMAND ∷ []) ∷ []
   pub commanded : leaves COMMANDED voice_tree ≡ (WAVE_TABLE ∷ WAVE_COMMAND ∷ []) ∷ []
   pub up_ends : map may_end (scopes_named UP effect_tree) ≡ false ∷ []
   pub commanded_ends : map may_end (scopes_named COMMANDED voice_tree) ≡ false ∷ []
@@ -86,9 +89,11 @@ NEXT = 1
 -- are kept. In the wave step a waveform leaves in front of a delay, and so does a command, which stands in the song
 -- from $F0 up, where the lines that tell it are kept: neither comes to the delay's lines.
 pub record RowsLeave (layout : Layout) (rows voice : ℕ) (s : Playing) (desk : Desk) : Type 0 where
-  pub bare : desk.cpu.z ≡ true → (ran each_one layout (part ROW_COMMAND 0 COMMAND_BEGUN.now) desk).outcome ≡ Left BARE
-  pub none : s.voice.new_command ≡ 0 → (met layout ROW_SLIDE COMMAND_BEGUN.now desk).outcome ≡ Left BARE
-  pub once : layout.holds ROW_ONCE ≡ true → 5 ≤ s.voice.new_command →
+  pub bare : layout.holds ROW_COMMAND ≡ true → s.voice.new_command ≡ 0 →
+      (ran each_one layout (part ROW_COMMAND 0 COMMAND_BEGUN.now) desk).outcome ≡ Left BARE
+  pub none : layout.holds ROW_COMMAND ≡ true → s.voice.new_command ≡ 0 →
+      (met layout ROW_SLIDE COMMAND_BEGUN.now desk).outcome ≡ Left BARE
+  pub once : layout.holds ROW_COMMAND ≡ true → layout.holds ROW_ONCE ≡ true → 5 ≤ s.voice.new_command →
       (met layout ROW_SLIDE COMMAND_BEGUN.now desk).outcome ≡ Left ONCE
   pub waveform : (left : ℕ) → s.voice.wave_ptr ≢ 0 → IsListed layout rows desk.at WAVE_LEFTS s.voice.wave_ptr left →
       left < 0xE0 → (met layout WAVE_DELAY WAVE_STEP.now desk).outcome ≡ Left SOUNDING

@@ -1,27 +1,37 @@
 -- Where parts don't do nothing, worked by hand.
 use Rattle.std.specs.Prelude.{◌≡◌, ◌≢◌, ℕ, ◌+◌, ◌%◌, ◌≤◌, ◌==◌, not, true, false, [], ◌∷◌}
-use Rattle.cpu6502.specs.declared.mnemonic.Mnemonic.TheVariants.{Dex}
+use Rattle.cpu6502.specs.declared.mnemonic.Mnemonic.TheVariants.{Dex, Inc, Lda, Sta}
+use Rattle.scopes.specs.declared.line.Operand.TheVariants.{Own}
 use Rattle.play_model.specs.State.{Playing}
 use Rattle.scopes.specs.Desk.{Desk, Layout}
-use Rattle.scopes.specs.Trees.{Tree, DoTree, NoneTree, ThenTree, ScopeTree, LeaveTree, WhenTree, NeverTree}
-use Rattle.scopes.specs.Meaning.{each_one, ran}
+use Rattle.scopes.specs.Trees.{Tree, DoTree, WithTree, NoneTree, ThenTree, ScopeTree, LeaveTree, WhenTree}
+use Rattle.scopes.specs.Trees.{ChooseTree, NeverTree}
+use Rattle.scopes.specs.Meaning.{Left, each_one, ran}
 use Rattle.player_memory.specs.declared.conditions.TheConstants.{SET_AD, SET_TEMPO, PULSE_TABLE, PORTA_UP, TIE_NOTE}
 use Rattle.player_memory.specs.declared.conditions.TheConstants.{FIRST_MASK, GATE_NOTE, LEGATO, NO_HARD_RESTART, ROW_ONCE}
-use Rattle.player_memory.specs.declared.conditions.TheConstants.{ROW_TONE, SPECIAL_ROW, WAVE_COMMAND}
+use Rattle.player_memory.specs.declared.conditions.TheConstants.{ROW_TONE, SPECIAL_ROW, WAVE_COMMAND, INSTRUMENT_VIBRATO}
+use Rattle.player_memory.specs.declared.conditions.TheConstants.{ROW_COMMAND, EFFECTS, FILTER_USED, SET_VOLUME, WAVE_DELAY, SWINGS}
 use Rattle.player_memory.specs.declared.conditions.TheConstants.{HELD_NOTE, NOTE_VIBRATO, VIBRATO_DELAY, NOTE_PULSE, NOTE_FILTER}
 use Rattle.player_memory.specs.declared.conditions.TheConstants.{VOICE_TEMPO, COMMON_TEMPO, FUNK_TURNS, FUNK_CHOICE}
 use Rattle.player_memory.specs.declared.labels.TheConstants.{AD, NEW_COMMAND, PULSE_TIME, FILTER_TIME, GATE_TIMERS}
-use Rattle.player_memory.specs.declared.labels.TheConstants.{DELAYS, VIBRATOS, PULSES, FILTERS}
+use Rattle.player_memory.specs.declared.labels.TheConstants.{DELAYS, VIBRATOS, PULSES, FILTERS, VIB_TIME, WAVE_TIME}
 use Rattle.player_memory.specs.Playing.{IsListed, own_at, shared_at}
 use Rattle.player_text.specs.declared.commands.TheConstants.{AD_SET, TEMPO_SET, FUNK_SET, FUNK_CHOSEN}
 use Rattle.player_text.specs.declared.slide.TheConstants.{PORTA_STEP, TONE_STEP}
 use Rattle.player_text.specs.declared.pulse.TheConstants.{PULSE}
-use Rattle.player_text.specs.declared.tick.TheConstants.{NOTE_TAKEN, NOTE_BEGUN, PROGRAMS_BEGUN, COMMAND_BEGUN}
+use Rattle.player_text.specs.declared.joints.TheConstants.{EFFECTED}
+use Rattle.player_text.specs.declared.effect.TheConstants.{EFFECT_BEGUN}
+use Rattle.player_text.specs.declared.pitch.TheConstants.{PITCH}
+use Rattle.player_text.specs.declared.filter.TheConstants.{FILTER_REGISTERS}
+use Rattle.player_text.specs.declared.register.TheConstants.{REGISTERS}
+use Rattle.player_text.specs.Texts.{voice_tree, filter_tree}
+use Rattle.player_text.specs.declared.tick.TheConstants.{NOTE_TAKEN, NOTE_BEGUN, PROGRAMS_BEGUN, COMMAND_BEGUN, BARE}
 use Rattle.player_text.specs.declared.wave.TheConstants.{WAVE_STEP}
 use Rattle.player_text.specs.declared.fetch.TheConstants.{ENTRY_READ, GATE_CLOSED}
 use Rattle.idle_parts.specs.Idle.{A, Y, Carry, Idles, HoldsVoice, bodies, front, part}
 use Rattle.idle_parts.specs.Fronts.{Finds}
-use Rattle.idle_parts.specs.Places.{leaves}
+use Rattle.idle_parts.specs.Places.{leaves, may_end}
+use Rattle.idle_parts.specs.KeptBytes.{Alike, Clears, LeavesAll, IdlesBut, KEEPING, reads_under}
 
 -- an instruction, a leave under condition 5, and another one
 abbrev pub small : Tree
@@ -127,7 +137,8 @@ pub record PartsAreWorked : Type 0 where
       ¬ Idles layout (part FIRST_MASK 0 NOTE_BEGUN.now) desk []
   -- a delay of one is stored as 0, and another vibrato than 0 changes A, where a note begins and where a row has no command
   pub delay : (layout : Layout) (rows voice : ℕ) (s : Playing) (desk : Desk) →
-      HoldsVoice layout rows voice s desk → s.voice.vib_delay ≡ 0 → IsListed layout rows desk.at DELAYS desk.cpu.y 0 →
+      HoldsVoice layout rows voice s desk → layout.holds INSTRUMENT_VIBRATO ≡ true → s.voice.vib_delay ≡ 0 →
+      IsListed layout rows desk.at DELAYS desk.cpu.y 0 →
       ¬ Idles layout (part VIBRATO_DELAY 0 NOTE_TAKEN.now) desk []
   pub vibrato : (layout : Layout) (rows : ℕ) (desk : Desk) → IsListed layout rows desk.at VIBRATOS desk.cpu.y 1 →
       desk.cpu.a ≡ 0 → ¬ Idles layout (part NOTE_VIBRATO 0 NOTE_BEGUN.now) desk (A ∷ [])
@@ -140,3 +151,30 @@ pub record PartsAreWorked : Type 0 where
   pub filter : (layout : Layout) (rows voice : ℕ) (s : Playing) (desk : Desk) →
       HoldsVoice layout rows voice s desk → IsListed layout rows desk.at FILTERS desk.cpu.y 1 →
       shared_at layout desk.at FILTER_TIME ≡ 1 → ¬ Idles layout (part NOTE_FILTER 0 PROGRAMS_BEGUN.now) desk []
+  -- a cutoff of 2 is no 0, and neither is a width's high byte; a volume of 2 isn't 15, and a width's low byte isn't 0
+  pub cutoff : ¬ Idles flat (part FILTER_USED 0 FILTER_REGISTERS.now) (desk_with 0 0) (A ∷ [])
+  pub width_high : ¬ Idles flat (part PULSE_TABLE 2 REGISTERS.now) (desk_with 0 0) (A ∷ [])
+  pub volume : ¬ Alike flat (part SET_VOLUME 0 FILTER_REGISTERS.now) (part SET_VOLUME 1 FILTER_REGISTERS.now)
+      (desk_with 0 0) []
+  pub width_low : ¬ Alike flat (part PULSE_TABLE 0 REGISTERS.now) (part PULSE_TABLE 1 REGISTERS.now) (desk_with 0 0) []
+  -- a row with command 2 doesn't leave as one without does
+  pub bare : ¬ Clears flat (part ROW_COMMAND 0 COMMAND_BEGUN.now) (desk_with 0 0) (Left BARE)
+  -- a voice with command 2 goes on to the effect step
+  pub runs : ¬ LeavesAll flat (part EFFECTS 0 EFFECT_BEGUN.now) (desk_with 0 0) EFFECTED
+  -- a store that isn't named changes a byte, and one that is may change A
+  pub stored : ¬ IdlesBut flat [] (part WAVE_DELAY 0 NOTE_BEGUN.now) (desk_with 0 0) []
+  pub stored_by : ¬ IdlesBut flat (Own VIB_TIME ∷ []) (part SWINGS 0 PITCH.now) (desk_with 1 0) (A ∷ [])
+  -- A row's command is read under a condition that keeps it: not under none, and not on the other side of a choice. A
+  -- store reads none, but what counts up does. Of the pairs each is needed.
+  pub read : reads_under KEEPING [] (WithTree Lda (Own NEW_COMMAND)) ≡ false
+  pub read_under : reads_under KEEPING (ROW_ONCE ∷ []) (WithTree Lda (Own NEW_COMMAND)) ≡ true
+  pub read_else : reads_under KEEPING [] (ChooseTree ROW_COMMAND NoneTree (WithTree Lda (Own NEW_COMMAND))) ≡ false
+  pub stores : reads_under KEEPING [] (WithTree Sta (Own WAVE_TIME)) ≡ true
+  pub counts : reads_under KEEPING [] (WithTree Inc (Own WAVE_TIME)) ≡ false
+  pub no_tone : reads_under ((ROW_ONCE, ROW_COMMAND) ∷ (WAVE_COMMAND, EFFECTS) ∷ []) [] voice_tree ≡ false
+  pub no_once : reads_under ((ROW_TONE, ROW_COMMAND) ∷ (WAVE_COMMAND, EFFECTS) ∷ []) [] voice_tree ≡ false
+  pub no_lent : reads_under ((ROW_TONE, ROW_COMMAND) ∷ (ROW_ONCE, ROW_COMMAND) ∷ []) [] voice_tree ≡ false
+  pub no_filter : reads_under [] [] filter_tree ≡ false
+  -- a choice may come to its end where one of its sides may
+  pub one_ends : may_end (ChooseTree 5 NoneTree NeverTree) ≡ true
+  pub none_ends : may_end (ChooseTree 5 NeverTree NeverTree) ≡ false
