@@ -1,7 +1,7 @@
 -- Where the lines that load or store a byte which is kept under a condition may be left out, and that none reads one
 -- but under its condition.
 use Rattle.std.proofs.Common.{◌≡◌, ℕ, ◌+◌, ◌%◌, Bool, true, false, [], ◌∷◌, nat_le, refl, sym, ◌∙◌, lit<}
-use Rattle.std.proofs.lemmas.Bool.{ne_eqb}
+use Rattle.std.proofs.lemmas.Bool.{ne_eqb, or_left, or_right}
 use Rattle.std.specs.Int.Bits.{bit_and}
 use Rattle.std.proofs.lemmas.Grind.{and_numeral}
 use Rattle.play_model.specs.State.{Playing}
@@ -16,7 +16,8 @@ use Rattle.player_text.specs.declared.tick.TheConstants.{NOTE_BEGUN, COMMAND_BEG
 use Rattle.player_text.specs.declared.joints.TheConstants.{EFFECTED}
 use Rattle.player_text.specs.declared.effect.TheConstants.{EFFECT_BEGUN}
 use Rattle.idle_parts.specs.Idle.{Y, Carry, HoldsVoice, part}
-use Rattle.idle_parts.specs.KeptBytes.{FilterLoads, VoiceLoads, LeavesAll, MayReach, IdlesBut, StoresIdle, ReadWhereKept}
+use Rattle.idle_parts.specs.KeptBytes.{FilterLoads, VoiceLoads, LeavesAll, MayReach, IdlesBut, StoresIdle}
+use Rattle.idle_parts.specs.KeptBytes.{ReadWhereKept, PairsAreKept}
 use Rattle.idle_parts.proofs.Reading.{CommonBytes, own_sees, own_is, own_bytes, common_bytes}
 
 -- ---- loads
@@ -394,3 +395,9 @@ read_where_kept = record {
   filter = refl;
   init = λ start. refl;
 }
+
+pub pairs_are_kept : PairsAreKept
+pairs_are_kept asked o = (
+  λ on. or_left _ _ (or_left _ _ on),
+  (λ on. or_right _ _ on, (λ on. or_left _ _ (or_right _ _ on), (λ on. or_left _ _ (or_left _ _ on), tt))),
+)

@@ -12,6 +12,8 @@ use Rattle.scopes.specs.Desk.{Desk, Layout, operand_place}
 use Rattle.scopes.specs.Steps.{is_store}
 use Rattle.scopes.specs.Trees.{Tree, WithTree, ThenTree, ScopeTree, LoopTree, WhenTree, ChooseTree, tree_of}
 use Rattle.scopes.specs.Meaning.{Outcome, Done, Left, each_one, ran}
+use Rattle.play_model.specs.declared.options.Options.{Options}
+use Rattle.kept_lines.specs.KeptLines.{keeps}
 use Rattle.player_memory.specs.declared.conditions.TheConstants.{FILTER_USED, SET_VOLUME, PULSE_TABLE, ROW_COMMAND}
 use Rattle.player_memory.specs.declared.conditions.TheConstants.{WAVE_DELAY, NOTE_DEPENDENT, SWINGS, INSTRUMENT_VIBRATO}
 use Rattle.player_memory.specs.declared.conditions.TheConstants.{FUNK_TEMPO, ROW_TONE, ROW_ONCE, WAVE_COMMAND}
@@ -162,14 +164,22 @@ pub record StoresIdle : Type 0 where
 
 -- ---- where they are read
 
--- pairs of conditions of which the first keeps the second: the sets of conditions that `kept_lines` makes have the
--- second where they have the first
+-- pairs of conditions of which the first keeps the second
 abbrev pub Pairs : Type 0
 Pairs = List (ℕ × ℕ)
 
 abbrev pub KEEPING : Pairs
 KEEPING =
     (ROW_TONE, ROW_COMMAND) ∷ (ROW_ONCE, ROW_COMMAND) ∷ (WAVE_COMMAND, EFFECTS) ∷ (FILTER_TABLE, FILTER_USED) ∷ []
+
+-- for what a song asks for and options the second condition of each holds where the first one does
+abbrev pub AreKeptWith : Pairs → ℕ → Options → Type 0
+AreKeptWith [] asked o = Unit {0}
+AreKeptWith (pair ∷ pairs) asked o =
+    (keeps asked o pair.0 ≡ true → keeps asked o pair.1 ≡ true) × AreKeptWith pairs asked o
+
+abbrev pub PairsAreKept : Type 0
+PairsAreKept = (asked : ℕ) (o : Options) → AreKeptWith KEEPING asked o
 
 -- whether one of these conditions is this one, or keeps it
 abbrev pub is_pair : Pairs → ℕ → ℕ → Bool

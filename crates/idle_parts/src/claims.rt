@@ -11,7 +11,7 @@ ghost use Rattle.idle_parts.specs.Fronts.{FrontsEnd, StoredIsLow, CommandsAreFou
 ghost use Rattle.idle_parts.specs.Fronts.{NotesAreFound, LentAreFound, PlaysAreFound};
 ghost use Rattle.idle_parts.specs.PartList.{PartsAreThese};
 ghost use Rattle.idle_parts.specs.Places.{PartsAreComeTo, OnceIsComeTo, RowsLeave, SlidesLeave, RowsEnd};
-ghost use Rattle.idle_parts.specs.KeptBytes.{FilterLoads, VoiceLoads, StoresIdle, ReadWhereKept};
+ghost use Rattle.idle_parts.specs.KeptBytes.{FilterLoads, VoiceLoads, StoresIdle, ReadWhereKept, PairsAreKept};
 ghost use Rattle.idle_parts.specs.WorkedParts.{PartsAreWorked};
 
 /// Where a memory holds a state that keeps clear of a part, the part's lines come to their own end, and leave each
@@ -64,14 +64,15 @@ pub fn parts_can_be_left_out()
 {}
 
 /// Of the bytes that are kept under a condition alone: the lines that load one are idle where it holds what it would
-/// stand for without them; those that store one change nothing else; and each that reads one stands under its
-/// condition.
-#[tactic(auto, using(crate::proofs::KeptBytes::filter_loads, crate::proofs::KeptBytes::stores_idle, crate::proofs::KeptBytes::read_where_kept))]
+/// stand for without them; those that store one change nothing else; each that reads one stands under its condition, or
+/// under another that keeps it; and whatever a song asks for, that one is held with the other.
+#[tactic(auto, using(crate::proofs::KeptBytes::filter_loads, crate::proofs::KeptBytes::stores_idle, crate::proofs::KeptBytes::read_where_kept, crate::proofs::KeptBytes::pairs_are_kept))]
 pub fn bytes_can_be_left_out()
     ensures filter { FilterLoads }
     ensures voice { VoiceLoads }
     ensures stores { StoresIdle }
     ensures reads { ReadWhereKept }
+    ensures pairs { PairsAreKept }
 {}
 
 /// Lines that do something, or change a register.
