@@ -9,8 +9,8 @@ those from its first instruction to its RTS; the JSR before it takes 6 more.
 
 After each call the SID's registers must be those of `goat trace`, and nothing may have been written but the image, the
 two bytes of page 0, the stack, the registers, and with a SPEED above 1 the timer; else the status is 1. SONG is a
-GoatTracker 2 song; without one the songs of demo/ are taken. PROGRAM is the script goat above this folder, which builds
-the program where it must, unless it is given.
+GoatTracker 2 song; without one those of demo/ are taken that can be played. PROGRAM is the script goat above this
+folder, which builds the program where it must, unless it is given.
 """
 import argparse
 import os
@@ -73,6 +73,13 @@ def measured(image, subtune, wanted, speed):
     return cycles[0], cycles[1:], "$%04X is written" % strange[0] if strange else None
 
 
+def demo_songs(program):
+    """The songs of demo/ that can be played: a song without a note is there to begin with."""
+    demo = os.path.join(TOP, "demo")
+    songs = [os.path.join(demo, name) for name in sorted(os.listdir(demo)) if name.endswith(".sng")]
+    return [song for song in songs if subprocess.run([program, "trace", song, "1", "0"], capture_output=True).returncode == 0]
+
+
 def main():
     parser = argparse.ArgumentParser(usage=__doc__.split("\n")[0].split(": ")[1])
     parser.add_argument("songs", nargs="*")
@@ -81,8 +88,7 @@ def main():
     parser.add_argument("--options", nargs=2, default=["none", "1"])
     words = parser.parse_args()
     program = os.path.abspath(words.program)
-    demo = os.path.join(TOP, "demo")
-    songs = words.songs or [os.path.join(demo, name) for name in sorted(os.listdir(demo)) if name.endswith(".sng")]
+    songs = words.songs or demo_songs(program)
     right = True
     for song in songs:
         image, subtunes = packed(program, song, words.options)
