@@ -1,12 +1,17 @@
 -- Where the lines that load or store a byte which is kept under a condition may be left out, and that none reads one
 -- but under its condition.
-use Rattle.std.proofs.Common.{◌≡◌, ℕ, ◌+◌, ◌%◌, Bool, true, false, [], ◌∷◌, nat_le, refl, sym, ◌∙◌, lit<}
+use Rattle.std.proofs.Common.{◌≡◌, ℕ, ◌+◌, ◌%◌, Bool, true, false, List, [], ◌∷◌, nat_eq, nat_le, if◌then◌else◌}
+use Rattle.std.proofs.Common.{refl, sym, ◌∙◌, lit<}
 use Rattle.std.proofs.lemmas.Bool.{ne_eqb, or_left, or_right}
 use Rattle.std.specs.Int.Bits.{bit_and}
 use Rattle.std.proofs.lemmas.Grind.{and_numeral}
+use Rattle.cpu6502.specs.declared.cpu.Cpu.{Cpu}
 use Rattle.play_model.specs.State.{Playing}
+use Rattle.scopes.specs.declared.line.Operand.{Operand}
 use Rattle.scopes.specs.declared.line.Operand.TheVariants.{Own}
-use Rattle.scopes.specs.Desk.{Desk, Layout}
+use Rattle.scopes.specs.Desk.{Desk, Layout, operand_place}
+use Rattle.scopes.specs.Trees.{Tree}
+use Rattle.scopes.specs.Meaning.{Done, each_one, ran}
 use Rattle.player_memory.specs.declared.conditions.TheConstants.{EFFECTS, SWINGS, NOTE_VIBRATO, INSTRUMENT_VIBRATO}
 use Rattle.player_memory.specs.declared.labels.TheConstants.{NEW_COMMAND, NEW_PARAM, COMMAND, PARAM, VIB_TIME, VIB_DELAY}
 use Rattle.player_memory.specs.declared.labels.TheConstants.{LAST_NOTE, WAVE_TIME, VOLUME, FUNK_ONE, FUNK_TWO, VIBRATOS}
@@ -15,7 +20,7 @@ use Rattle.player_memory.specs.Playing.{own_at, shared_at}
 use Rattle.player_text.specs.declared.tick.TheConstants.{NOTE_BEGUN, COMMAND_BEGUN}
 use Rattle.player_text.specs.declared.joints.TheConstants.{EFFECTED}
 use Rattle.player_text.specs.declared.effect.TheConstants.{EFFECT_BEGUN}
-use Rattle.idle_parts.specs.Idle.{Y, Carry, HoldsVoice, part}
+use Rattle.idle_parts.specs.Idle.{Kept, Y, Carry, AreKept, HoldsVoice, part}
 use Rattle.idle_parts.specs.KeptBytes.{FilterLoads, VoiceLoads, LeavesAll, MayReach, IdlesBut, StoresIdle}
 use Rattle.idle_parts.specs.KeptBytes.{ReadWhereKept, PairsAreKept}
 use Rattle.idle_parts.proofs.Reading.{CommonBytes, own_sees, own_is, own_bytes, common_bytes}
@@ -247,64 +252,51 @@ slide_time layout desk may false three =
       kept_are = rw (three, writes) (refl, tt);
     }
 
+-- the registers where A has been loaded with a number below 128
+abbrev loaded : ℕ → Cpu → Cpu
+loaded number cpu = record cpu { a = number; z = nat_eq number 0; n = false }
+
+-- lines that come to their end with one byte stored change nothing else
+stored_one : {layout : Layout} {one : Operand} {body : Tree} {desk : Desk} {kept : List Kept} (cpu : Cpu)
+    (byte steps : ℕ) →
+    ran each_one layout body desk
+    ≡ record {
+      outcome = Done;
+      desk = record {
+        cpu = cpu;
+        at = λ place. if nat_eq place (operand_place layout one desk) then byte else desk.at place;
+      };
+      cost = steps;
+    } → cpu.x ≡ desk.cpu.x → cpu.d ≡ desk.cpu.d → AreKept kept desk.cpu cpu →
+    IdlesBut layout (one ∷ []) body desk kept
+stored_one {layout = layout} {one = one} {desk = desk} cpu byte steps is x decimal kept_are = record {
+  ends = rw is refl;
+  stays = λ place away. (
+      let apart = ne_eqb place (operand_place layout one desk) away.0 in
+      rw (is, apart) refl);
+  x = rw is x;
+  decimal = rw is decimal;
+  kept_are = rw is kept_are;
+}
+
 pub stores_idle : StoresIdle
 stores_idle = record {
   note_time = λ layout desk may. (
       let writes : layout.may_write ((layout.address WAVE_TIME + desk.cpu.x) % 65536) ≡ true = may.0.1 in
-      record {
-        ends = rw writes refl;
-        stays = λ place away. (
-            let apart = ne_eqb place ((layout.address WAVE_TIME + desk.cpu.x) % 65536) away.0 in
-            rw (writes, apart) refl);
-        x = rw writes refl;
-        decimal = rw writes refl;
-        kept_are = rw writes (refl, (refl, (refl, tt)));
-      });
+      stored_one desk.cpu desk.cpu.a 1 (rw writes refl) refl refl (refl, (refl, (refl, tt))));
   note_command = λ layout desk may vibrato. note_command layout desk may vibrato _ refl;
   set_time = λ layout desk may. (
       let writes : layout.may_write ((layout.address WAVE_TIME + desk.cpu.x) % 65536) ≡ true = may.0.1 in
-      record {
-        ends = rw writes refl;
-        stays = λ place away. (
-            let apart = ne_eqb place ((layout.address WAVE_TIME + desk.cpu.x) % 65536) away.0 in
-            rw (writes, apart) refl);
-        x = rw writes refl;
-        decimal = rw writes refl;
-        kept_are = rw writes (refl, (refl, tt));
-      });
+      stored_one (loaded 0 desk.cpu) 0 2 (rw writes refl) refl refl (refl, (refl, tt)));
   last_note = λ layout desk may. (
       let writes : layout.may_write ((layout.address LAST_NOTE + desk.cpu.x) % 65536) ≡ true = may.0.1 in
-      record {
-        ends = rw writes refl;
-        stays = λ place away. (
-            let apart = ne_eqb place ((layout.address LAST_NOTE + desk.cpu.x) % 65536) away.0 in
-            rw (writes, apart) refl);
-        x = rw writes refl;
-        decimal = rw writes refl;
-        kept_are = rw writes (refl, (refl, (refl, tt)));
-      });
+      stored_one desk.cpu desk.cpu.a 1 (rw writes refl) refl refl (refl, (refl, (refl, tt))));
   swing = λ layout desk may. (
       let writes : layout.may_write ((layout.address VIB_TIME + desk.cpu.x) % 65536) ≡ true = may.0.1 in
-      record {
-        ends = rw writes refl;
-        stays = λ place away. (
-            let apart = ne_eqb place ((layout.address VIB_TIME + desk.cpu.x) % 65536) away.0 in
-            rw (writes, apart) refl);
-        x = rw writes refl;
-        decimal = rw writes refl;
-        kept_are = rw writes (refl, (refl, tt));
-      });
+      stored_one (loaded 0 desk.cpu) 0 2 (rw writes refl) refl refl (refl, (refl, tt)));
   no_command = λ layout desk may. (
       let writes : layout.may_write ((layout.address NEW_COMMAND + desk.cpu.x) % 65536) ≡ true = may.0.1 in
-      record {
-        ends = rw writes refl;
-        stays = λ place away. (
-            let apart = ne_eqb place ((layout.address NEW_COMMAND + desk.cpu.x) % 65536) away.0 in
-            rw (writes, apart) refl);
-        x = rw writes refl;
-        decimal = rw writes refl;
-        kept_are = rw writes (refl, (refl, tt));
-      });
+      stored_one (loaded 0 desk.cpu) 0 2 (rw writes refl) refl refl (refl, (refl, tt)));
   command = λ layout desk may. (
       let writes : layout.may_write ((layout.address NEW_COMMAND + desk.cpu.x) % 65536) ≡ true = may.0.1 in
       record {
@@ -318,39 +310,15 @@ stores_idle = record {
       });
   param = λ layout desk may. (
       let writes : layout.may_write ((layout.address NEW_PARAM + desk.cpu.x) % 65536) ≡ true = may.0.1 in
-      record {
-        ends = rw writes refl;
-        stays = λ place away. (
-            let apart = ne_eqb place ((layout.address NEW_PARAM + desk.cpu.x) % 65536) away.0 in
-            rw (writes, apart) refl);
-        x = rw writes refl;
-        decimal = rw writes refl;
-        kept_are = rw writes (refl, (refl, (refl, tt)));
-      });
+      stored_one desk.cpu desk.cpu.a 1 (rw writes refl) refl refl (refl, (refl, (refl, tt))));
   slide = λ layout desk may. slide_time layout desk may _ refl;
   row_command = λ layout desk may vibrato. row_command layout desk may vibrato _ refl;
   row_param = λ layout desk may. (
       let writes : layout.may_write ((layout.address PARAM + desk.cpu.x) % 65536) ≡ true = may.0.1 in
-      record {
-        ends = rw writes refl;
-        stays = λ place away. (
-            let apart = ne_eqb place ((layout.address PARAM + desk.cpu.x) % 65536) away.0 in
-            rw (writes, apart) refl);
-        x = rw writes refl;
-        decimal = rw writes refl;
-        kept_are = rw writes (refl, (refl, (refl, tt)));
-      });
+      stored_one desk.cpu desk.cpu.a 1 (rw writes refl) refl refl (refl, (refl, (refl, tt))));
   volume = λ layout desk may. (
       let writes : layout.may_write (layout.address VOLUME) ≡ true = may.0.1 in
-      record {
-        ends = rw writes refl;
-        stays = λ place away. (
-            let apart = ne_eqb place (layout.address VOLUME) away.0 in
-            rw (writes, apart) refl);
-        x = rw writes refl;
-        decimal = rw writes refl;
-        kept_are = rw writes (refl, (refl, tt));
-      });
+      stored_one (loaded 15 desk.cpu) 15 2 (rw writes refl) refl refl (refl, (refl, tt)));
   funk_one = λ number layout desk may. (
       let writes : layout.may_write (layout.address FUNK_ONE) ≡ true = may.0.1 in
       record {
@@ -376,15 +344,7 @@ stores_idle = record {
       });
   funk_two = λ layout desk may. (
       let writes : layout.may_write (layout.address FUNK_TWO) ≡ true = may.0.1 in
-      record {
-        ends = rw writes refl;
-        stays = λ place away. (
-            let apart = ne_eqb place (layout.address FUNK_TWO) away.0 in
-            rw (writes, apart) refl);
-        x = rw writes refl;
-        decimal = rw writes refl;
-        kept_are = rw writes (refl, (refl, (refl, tt)));
-      });
+      stored_one desk.cpu desk.cpu.a 1 (rw writes refl) refl refl (refl, (refl, (refl, tt))));
 }
 
 -- ---- where they are read
